@@ -1,0 +1,47 @@
+-- What is written for a value is read back as that value (`Complete`). By the parsers' forms: row, checked, chain, whole text.
+use Prim.Native.Nat.{ℕ, _+_, _^_, _≤_, _<_}
+use mathlib.Core.Path.{_≡_, refl, sym, ap, _∙_}
+use mathlib.Core.List.{List, [], _∷_, _++_, append-assoc}
+use mathlib.Core.Bool.{Bool, true}
+use native.Mathlib.Omega.{arith}
+use lib.ListN.{length}
+use lib.Seq.{drop-append-seam}
+use Rattle.lines.specs.Parser.{Parser, good, return, taken, rowAt, checked, chain, end as ends, accepted, finish, whole, readText}
+use Rattle.lines.specs.Text.{line, texts}
+use Rattle.lines.proofs.Reading.{field-good}
+use Rattle.lines.proofs.Parsing.{bind-good, checked-good, text-fits}
+use Rattle.lines.proofs.Back.{line-back}
+use Rattle.lines.proofs.Sound.{Chained}
+
+-- a value with P, written with anything behind it, is read, and what is behind it is left
+abbrev pub Complete : {A : Type 0} → Parser A → (A → List ℕ) → (A → Type 0) → Type 0
+Complete {A} p w P = (a : A) → P a → (s : List ℕ) (l : ℕ) → (l′ : ℕ) × (p (w a ++ s) l ≡ good a s l′)
+
+pub row-complete : (key : List ℕ) (lo hi : ℕ) → hi < 10 ^ 10 → Complete (rowAt key lo hi) (line key) (λ v. (lo ≤ v) × (v ≤ hi))
+unfolding rowAt taken
+row-complete key lo hi few v h s l = (
+  l + 1,
+  ap (taken (line key v ++ s) l) (sym (field-good key (line key v ++ s) lo hi (line-back key v s (omega arith)) (h .0) (h .1)))
+      ∙ ap (λ (r : List ℕ). good v r (l + 1)) (drop-append-seam (line key v) s),
+)
+
+pub checked-complete : (k : ℕ) (ok : ℕ → Bool) (p : Parser ℕ) (w : ℕ → List ℕ) (P : ℕ → Type 0) → Complete p w P → Complete (checked k ok p) w (λ v. P v × (ok v ≡ true))
+checked-complete k ok p w P c v h s l = let r = c v (h .0) s l in (r .0, checked-good k ok p (w v ++ s) l (r .1) (h .1))
+
+-- a chain: as many as there are
+pub chain-complete : {A : Type 0} (p : ℕ → Parser A) (next : A → ℕ) (w : A → List ℕ) (P : ℕ → A → Type 0) → ((prev : ℕ) → Complete (p prev) w (P prev))
+    → (prev : ℕ) (xs : List A) → Chained P next prev xs → (s : List ℕ) (l : ℕ) → (l′ : ℕ) × (chain p next (length xs) prev (texts w xs ++ s) l ≡ good xs s l′)
+unfolding chain return
+chain-complete p next w P c prev [] h s l = (l, refl)
+chain-complete p next w P c prev (x ∷ xs) h s l =
+    let a = c prev x (h .0) (texts w xs ++ s) l in
+    let b = chain-complete p next w P c (next x) xs (h .1) s (a .0) in (
+      b .0,
+      ap (λ (r : List ℕ). chain p next (length (x ∷ xs)) prev r l) (append-assoc (w x) (texts w xs) s)
+          ∙ bind-good (p prev) _ (a .1) ∙ bind-good (chain p next (length xs) (next x)) _ (b .1),
+    )
+
+-- a text whose lines are read to its end
+pub text-complete : {A : Type 0} (most : ℕ) (p : Parser A) (s : List ℕ) (a : A) (l : ℕ) → length s ≤ most → p s 1 ≡ good a [] l → readText most p s ≡ accepted a
+unfolding whole ends return
+text-complete most p s a l few e = sym (text-fits most p s few) ∙ ap finish (bind-good p _ e ∙ bind-good ends _ refl)

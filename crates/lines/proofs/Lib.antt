@@ -1,0 +1,11 @@
+-- The laws, in the order in which they rest on each other.
+pub mod Reading
+pub mod Parsing
+pub mod Breaks
+pub mod Written
+pub mod Back
+pub mod Sound
+pub mod Complete
+pub mod Numbered
+pub mod Writing
+pub mod Arrays

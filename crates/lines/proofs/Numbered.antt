@@ -1,0 +1,103 @@
+-- Which numbers and lines a fault can have: P holds of the number, and the line is one of the text's or the next, since each line that is read takes
+-- a byte at least. By the parsers' forms.
+use Prim.Native.Nat.{ℕ, zero, suc, _+_, _≤_}
+use mathlib.Core.Path.{_≡_, refl, sym, ap, _∙_, subst}
+use mathlib.Core.List.{List, [], _∷_}
+use mathlib.Core.Bool.{Bool, true, false}
+use mathlib.Core.Logic.{_⊎_, inl, inr}
+use native.Mathlib.Omega.{arith}
+use lib.Dec.{leb}
+use lib.ListN.{length, length-drop}
+use borrow.Author.Tests.{leb-true}
+use Rattle.lines.specs.Parser.{Parsed, good, fault, Parser, _>>=_, return, readField, taken, rowAt, checked, chain, times, end as ends, Outcome, accepted, refused, finish, whole, readText}
+use Rattle.lines.specs.declared.read.Field.{Field}
+use Rattle.lines.specs.declared.read.Field.the-variants.{Value, Fault}
+use Rattle.lines.proofs.Reading.{InField, field-in}
+use Rattle.lines.proofs.Parsing.{bind-good, bind-fault}
+
+-- from n bytes and line l on: a value leaves no more than it found, a fault is on a line that is there or is the next, and P holds of its number
+abbrev pub NumberIn : {A : Type 0} → (ℕ → Type 0) → ℕ → ℕ → Parsed A → Type 0
+NumberIn P n l (good a s m) = m + length s ≤ l + n
+NumberIn P n l (fault k m) = P k × (m ≤ l + n)
+
+abbrev pub Numbers : {A : Type 0} → (ℕ → Type 0) → Parser A → Type 0
+Numbers P p = (s : List ℕ) (l : ℕ) → NumberIn P (length s) l (p s l)
+
+module _ (P : ℕ → Type 0) where
+  pub row-numbers : P 2 → P 3 → (key : List ℕ) (lo hi : ℕ) → Numbers P (rowAt key lo hi)
+  unfolding rowAt taken
+  row-numbers two three key lo hi s l = go (readField key lo hi s) (field-in key s lo hi)
+    where
+      go : (f : Field) → InField lo hi (length s) f → NumberIn P (length s) l (taken s l f)
+      go (Value v n) h = omega (arith, length-drop n s)
+      go (Fault k) (inl e) = (subst P (sym e) two, omega arith)
+      go (Fault k) (inr e) = (subst P (sym e) three, omega arith)
+
+  pub checked-numbers : (k : ℕ) → P k → (ok : ℕ → Bool) (p : Parser ℕ) → Numbers P p → Numbers P (checked k ok p)
+  unfolding checked
+  checked-numbers k is ok p h s l = go (p s l) (h s l)
+    where
+      pick : (t : Bool) (v m : ℕ) (r : List ℕ) → NumberIn P (length s) l (good v r m) → NumberIn {A = ℕ} P (length s) l (elim t [ true ↦ good v r m | false ↦ fault k l ])
+      pick true v m r q = q
+      pick false v m r q = (is, omega arith)
+
+      go : (x : Parsed ℕ) → NumberIn P (length s) l x → NumberIn {A = ℕ} P (length s) l (elim x [ good v r m ↦ elim (ok v) [ true ↦ good v r m | false ↦ fault k l ] | fault n m ↦ fault n m ])
+      go (good v r m) q = pick (ok v) v m r q
+      go (fault n m) q = q
+
+  pub bind-numbers : {A B : Type 0} (p : Parser A) (f : A → Parser B) → Numbers P p → ((a : A) → Numbers P (f a)) → Numbers P (p >>= f)
+  unfolding _>>=_
+  bind-numbers {A} {B} p f h g s l = go (p s l) (h s l)
+    where
+      further : (x : Parsed B) (n m k j : ℕ) → NumberIn P n m x → m + n ≤ k + j → NumberIn P k j x
+      further (good b r i) n m k j q e = omega arith
+      further (fault i x) n m k j q e = (q .0, omega arith)
+
+      go : (x : Parsed A) → NumberIn P (length s) l x → NumberIn {A = B} P (length s) l (elim x [ good a r m ↦ f a r m | fault n m ↦ fault n m ])
+      go (good a r m) q = further (f a r m) (length r) m (length s) l (g a r m) (omega arith)
+      go (fault n m) q = q
+
+  pub return-numbers : {A : Type 0} (a : A) → Numbers P (return a)
+  unfolding return
+  return-numbers a s l = omega arith
+
+  pub chain-numbers : {A : Type 0} (p : ℕ → Parser A) (next : A → ℕ) → ((k : ℕ) → Numbers P (p k)) → (n before : ℕ) → Numbers P (chain p next n before)
+  unfolding chain
+  chain-numbers p next h zero before = return-numbers []
+  chain-numbers p next h (suc n) before =
+      bind-numbers (p before) _ (h before) (λ a. bind-numbers (chain p next n (next a)) _ (chain-numbers p next h n (next a)) (λ rest. return-numbers (a ∷ rest)))
+
+  pub times-numbers : {A : Type 0} (n : ℕ) (p : Parser A) → Numbers P p → Numbers P (times n p)
+  unfolding times
+  times-numbers n p h = chain-numbers (λ _. p) (λ _. 0) (λ _. h) n 0
+
+  end-numbers : P 2 → Numbers P ends
+  unfolding ends
+  end-numbers two [] l = omega arith
+  end-numbers two (b ∷ s) l = (two, omega arith)
+
+  -- the number and the line of a refused text's fault
+  pub refused-fault : {A : Type 0} (most : ℕ) (p : Parser A) → P 1 → P 2 → Numbers P p → (s : List ℕ) (n l : ℕ) → readText most p s ≡ refused n l → P n × (l ≤ most + 1)
+  unfolding readText whole
+  refused-fault {A} most p one two h s n l e = go (leb (length s) most) refl
+    where
+      differ : {X : Type 0} {a : A} → _≡_ {A = Outcome A} (accepted a) (refused n l) → X
+      differ d = let z : _≡_ {A = ℕ} 0 1 = cc in absurd (omega arith)
+
+      done : length s ≤ most → (x : Parsed A) → NumberIn P (length s) 1 x → finish x ≡ refused n l → P n × (l ≤ most + 1)
+      done few (good a r m) q f = differ f
+      done few (fault k m) q f =
+          let z : m ≡ l = cc in
+          let y : k ≡ n = cc in
+          (subst P y (q .0), omega (arith, q .1))
+
+      go : (t : Bool) → leb (length s) most ≡ t → P n × (l ≤ most + 1)
+      go true t =
+          done (leb-true _ _ t) (whole p s 1)
+          (bind-numbers p _ h (λ a. bind-numbers ends _ (end-numbers two) (λ _. return-numbers a)) s 1)
+          (rw (readText, t) at e)
+      go false t =
+          let r : _≡_ {A = Outcome A} (refused 1 0) (refused n l) = rw (readText, t) at e in
+          let z : 0 ≡ l = cc in
+          let y : 1 ≡ n = cc in
+          (subst P y one, omega arith)

@@ -1,0 +1,200 @@
+-- Laws of the parsers.
+use Prim.Native.Nat.{ℕ, zero, suc, _+_, _-_, _≤_, _<_}
+use mathlib.Core.Path.{_≡_, refl, sym, ap, _∙_, subst}
+use mathlib.Core.List.{List, [], _∷_, _++_, append-assoc, append-nil}
+use mathlib.Core.Bool.{Bool, true, false, _&&_}
+use native.Mathlib.Omega.{arith}
+use native.Mathlib.Decide.{decLt}
+use native.Mathlib.Nat.{sub-zero}
+use lib.Dec.{leb, ltb}
+use lib.ListN.{length, drop, length-drop, drop-of-length-le}
+use lib.Seq.{drop-drop}
+use borrow.Author.Tests.{le-leb, lt-leb, lt-ltb, le-ltb}
+use Rattle.lines.specs.Parser.{Parsed, good, fault, Parser, _>>=_, return, readField, taken, rowAt, checked, chain, end as ends, rising, upTo, Outcome, refused, finish, whole, readText}
+use Rattle.lines.specs.Cursor.{Answer, got, no-good, Stands, Stood, Reads, parsed, ended, closed, judged}
+use Rattle.lines.specs.declared.rows.End.{End}
+use Rattle.lines.specs.declared.rows.End.the-variants as end
+use Rattle.lines.specs.declared.read.Field.{Field}
+use Rattle.lines.specs.declared.read.Field.the-variants.{Value, Fault}
+use Rattle.lines.specs.declared.rows.Cursor.{Cursor}
+use Rattle.lines.proofs.Reading.{InField, field-in, drop-step}
+
+-- the first of two parsers decides
+pub bind-good : {A B : Type 0} (p : Parser A) (f : A → Parser B) {s s′ : List ℕ} {l l′ : ℕ} {a : A} → p s l ≡ good a s′ l′ → (p >>= f) s l ≡ f a s′ l′
+unfolding _>>=_
+bind-good p f e = rw (_>>=_, e)
+
+pub bind-fault : {A B : Type 0} (p : Parser A) (f : A → Parser B) {s : List ℕ} {l n m : ℕ} → p s l ≡ fault n m → (p >>= f) s l ≡ fault n m
+unfolding _>>=_
+bind-fault p f e = rw (_>>=_, e)
+
+-- a row at a place of the text, by its field
+module _ (key s : List ℕ) (lo hi at l : ℕ) where
+  pub row-good : {v n : ℕ} → readField key lo hi (drop at s) ≡ Value v n → good v (drop (at + n) s) (l + 1) ≡ rowAt key lo hi (drop at s) l
+  unfolding rowAt taken
+  row-good {v} {n} e = sym (ap (taken (drop at s) l) e ∙ ap (λ (r : List ℕ). good v r (l + 1)) (drop-drop n at s))
+
+  pub row-fault : {k : ℕ} → readField key lo hi (drop at s) ≡ Fault k → fault k l ≡ rowAt key lo hi (drop at s) l
+  unfolding rowAt taken
+  row-fault e = sym (ap (taken (drop at s) l) e)
+
+-- a row's value is in its range
+abbrev pub InRow : ℕ → ℕ → Parsed ℕ → Type 0
+InRow lo hi (good v s l) = (lo ≤ v) × (v ≤ hi)
+InRow lo hi (fault n l) = Unit {0}
+
+pub row-in : (key : List ℕ) (lo hi : ℕ) (s : List ℕ) (l : ℕ) → InRow lo hi (rowAt key lo hi s l)
+unfolding rowAt taken
+row-in key lo hi s l = go (readField key lo hi s) (field-in key s lo hi)
+  where
+    go : (f : Field) → InField lo hi (length s) f → InRow lo hi (taken s l f)
+    go (Value v n) h = (h .2, h .3)
+    go (Fault k) h = tt
+
+-- the place after a row of n bytes
+pub stands-after : (s : List ℕ) (p : Cursor) (n : ℕ) → Stands s p → 1 ≤ n → n ≤ length (drop (p .at) s) → Stands s (record { at = p .at + n; line = p .line + 1 })
+stands-after s p n h l m = record { inside = omega (arith, h, length-drop (p .at) s); lines = omega (arith, h) }
+
+-- a further rule
+module _ (k : ℕ) (ok : ℕ → Bool) (p : Parser ℕ) (s : List ℕ) (l : ℕ) where
+  pub checked-good : {v l′ : ℕ} {s′ : List ℕ} → p s l ≡ good v s′ l′ → ok v ≡ true → checked k ok p s l ≡ good v s′ l′
+  unfolding checked
+  checked-good e t = rw (checked, e, t)
+
+  pub checked-not : {v l′ : ℕ} {s′ : List ℕ} → p s l ≡ good v s′ l′ → ok v ≡ false → checked k ok p s l ≡ fault k l
+  unfolding checked
+  checked-not e t = rw (checked, e, t)
+
+  pub checked-fault : {n m : ℕ} → p s l ≡ fault n m → checked k ok p s l ≡ fault n m
+  unfolding checked
+  checked-fault e = rw (checked, e)
+
+pub rising-yes : (b h v : ℕ) → b < v → v ≤ h → rising b h v ≡ true
+rising-yes b h v l m = simp (lt-ltb b v l, le-leb v h m)
+
+pub rising-low : (b h v : ℕ) → v ≤ b → rising b h v ≡ false
+rising-low b h v l = simp (le-ltb b v l)
+
+pub rising-high : (b h v : ℕ) → b < v → h < v → rising b h v ≡ false
+rising-high b h v l m = simp (lt-ltb b v l, lt-leb v h m)
+
+pub upTo-yes : (m v : ℕ) → v ≤ m → upTo m v ≡ true
+upTo-yes m v h = le-leb v m h
+
+pub upTo-not : (m v : ℕ) → m < v → upTo m v ≡ false
+upTo-not m v h = lt-leb v m h
+
+-- what an answer of the code says once it is known
+module _ {A : Type 0} {s : List ℕ} {r : Answer A} {x : Parsed A} where
+  pub got-value : {v : A} {q : Cursor} → Reads s r x → r ≡ got v q → x ≡ good v (drop (q .at) s) (q .line)
+  got-value h e = sym (h .is) ∙ ap (parsed s) e
+
+  pub got-fault : {k l : ℕ} → Reads s r x → r ≡ no-good k l → x ≡ fault k l
+  got-fault h e = sym (h .is) ∙ ap (parsed s) e
+
+  pub got-place : {v : A} {q : Cursor} → Reads s r x → r ≡ got v q → Stands s q
+  got-place h e = subst (Stood s) e (h .stands)
+
+-- what was read before goes in front
+abbrev pub behind : {A : Type 0} → List A → Parsed (List A) → Parsed (List A)
+behind xs (good ys s l) = good (xs ++ ys) s l
+behind xs (fault n l) = fault n l
+
+-- a loop over a chain: one more, a fault, and the end. i of n are read, in xs
+module _ {A : Type 0} (p : ℕ → Parser A) (next : A → ℕ) (n i : ℕ) (xs : List A) (prev : ℕ) (s : List ℕ) (l : ℕ) where
+  later : i < n → n - i ≡ suc (n - (i + 1))
+  later h = omega arith
+
+  pub chain-more : {a : A} {s′ : List ℕ} {l′ : ℕ} {ys : List A} → i < n → p prev s l ≡ good a s′ l′ → ys ≡ xs ++ a ∷ []
+      → behind xs (chain p next (n - i) prev s l) ≡ behind ys (chain p next (n - (i + 1)) (next a) s′ l′)
+  unfolding chain return
+  chain-more {a} {s′} {l′} {ys} h e f =
+      ap (λ (k : ℕ). behind xs (chain p next k prev s l)) (later h)
+      ∙ ap (behind xs) (bind-good (p prev) _ e)
+      ∙ after-one (chain p next (n - (i + 1)) (next a) s′ l′) refl
+      ∙ ap (λ (zs : List A). behind zs (chain p next (n - (i + 1)) (next a) s′ l′)) (sym f)
+    where
+      after-one : (y : Parsed (List A)) → chain p next (n - (i + 1)) (next a) s′ l′ ≡ y
+          → behind xs ((chain p next (n - (i + 1)) (next a) >>= λ rest. return (a ∷ rest)) s′ l′) ≡ behind (xs ++ a ∷ []) y
+      after-one (good ys t m) q = ap (behind xs) (bind-good _ _ q) ∙ ap (λ (zs : List A). good zs t m) (sym (append-assoc xs (a ∷ []) ys))
+      after-one (fault k m) q = ap (behind xs) (bind-fault _ _ q)
+
+  pub chain-fault : {k m : ℕ} → i < n → p prev s l ≡ fault k m → behind xs (chain p next (n - i) prev s l) ≡ fault k m
+  unfolding chain
+  chain-fault h e = ap (λ (k : ℕ). behind xs (chain p next k prev s l)) (later h) ∙ ap (behind xs) (bind-fault (p prev) _ e)
+
+  pub chain-end : n ≤ i → behind xs (chain p next (n - i) prev s l) ≡ good xs s l
+  unfolding chain return
+  chain-end h =
+      let z : n - i ≡ 0 = omega arith in
+      ap (λ (k : ℕ). behind xs (chain p next k prev s l)) z
+      ∙ ap (λ (zs : List A). good zs s l) (append-nil xs)
+
+pub chain-start : {A : Type 0} (p : ℕ → Parser A) (next : A → ℕ) (n prev : ℕ) (s : List ℕ) (l : ℕ) → chain p next n prev s l ≡ behind [] (chain p next (n - 0) prev s l)
+chain-start {A} p next n prev s l = rw sub-zero (same (chain p next n prev s l))
+  where
+    same : (y : Parsed (List A)) → y ≡ behind [] y
+    same (good a t m) = refl
+    same (fault k m) = refl
+
+-- the same for a value that ends at a place
+module _ {A : Type 0} {s : List ℕ} {x : Parsed A} {e : End} (a : A) where
+  pub end-value : {q : Cursor} → Reads s (ended e a) x → e ≡ end.At q → x ≡ good a (drop (q .at) s) (q .line)
+  unfolding ended
+  end-value h m = got-value h (ap (λ (y : End). ended y a) m)
+
+  pub end-fault : {k l : ℕ} → Reads s (ended e a) x → e ≡ end.Fault k l → x ≡ fault k l
+  unfolding ended
+  end-fault h m = got-fault h (ap (λ (y : End). ended y a) m)
+
+  pub end-place : {q : Cursor} → Reads s (ended e a) x → e ≡ end.At q → Stands s q
+  unfolding ended
+  end-place h m = got-place h (ap (λ (y : End). ended y a) m)
+
+  -- a fault that is handed on
+  pub fault-read : {k l : ℕ} → e ≡ end.Fault k l → x ≡ fault k l → Reads s (ended e a) x
+  unfolding ended
+  fault-read m h = rw (m, h) (record { is = refl; stands = tt })
+
+-- a value that is put into another
+pub map-read : {A B : Type 0} {s t : List ℕ} {l : ℕ} (f : A → B) (p : Parser A) (e : End) (a : A) → Reads s (ended e a) (p t l) → Reads s (ended e (f a)) ((p >>= λ x. return (f x)) t l)
+unfolding return ended
+map-read f p (end.At q) a h = record { is = sym (bind-good p _ (sym (h .is))); stands = h .stands }
+map-read f p (end.Fault k m) a h = record { is = sym (bind-fault p _ (sym (h .is))); stands = tt }
+
+-- a row's value is at most its bound
+pub got-most : (key t : List ℕ) (lo hi l : ℕ) {s : List ℕ} {r : Answer ℕ} {v : ℕ} {q : Cursor} → Reads s r (rowAt key lo hi t l) → r ≡ got v q → v ≤ hi
+got-most key t lo hi l h e = subst (InRow lo hi) (got-value h e) (row-in key lo hi t l) .1
+
+-- whether anything follows
+pub end-more : (s : List ℕ) (at l : ℕ) → at < length s → ends (drop at s) l ≡ fault 2 l
+unfolding ends
+end-more s at l h = rw (drop-step s at h)
+
+pub end-none : (s : List ℕ) (at l : ℕ) → length s ≤ at → ends (drop at s) l ≡ good tt [] l
+unfolding ends
+end-none s at l h = rw (drop-of-length-le s h)
+
+-- a whole text: what its lines give, by where they end
+pub close-read : {A : Type 0} (p : Parser A) (s : List ℕ) (e : End) (a : A) → Reads s (ended e a) (p s 1) → judged (closed s e) a ≡ finish (whole p s 1)
+unfolding ended closed whole return
+close-read p s (end.At q) a h = go (decLt (q .at) (length s))
+  where
+    lines : p s 1 ≡ good a (drop (q .at) s) (q .line)
+    lines = sym (h .is)
+
+    go : Dec (q .at < length s) → judged (closed s (end.At q)) a ≡ finish (whole p s 1)
+    go (yes m) = rw (closed, lt-ltb (q .at) (length s) m) (ap finish (sym (bind-good p _ lines ∙ bind-fault ends _ (end-more s (q .at) (q .line) m))))
+    go (no m) =
+        let n : length s ≤ q .at = omega (arith, m) in
+        rw (closed, le-ltb (q .at) (length s) n) (ap finish (sym (bind-good p _ lines ∙ bind-good ends _ (end-none s (q .at) (q .line) n))))
+close-read p s (end.Fault k m) a h = ap finish (sym (bind-fault p _ (sym (h .is))))
+
+-- a text that is too long, and one that is not
+pub text-long : {A : Type 0} (most : ℕ) (p : Parser A) (s : List ℕ) → most < length s → refused 1 0 ≡ readText most p s
+unfolding readText
+text-long most p s h = rw (readText, lt-leb (length s) most h)
+
+pub text-fits : {A : Type 0} (most : ℕ) (p : Parser A) (s : List ℕ) → length s ≤ most → finish (whole p s 1) ≡ readText most p s
+unfolding readText
+text-fits most p s h = rw (readText, le-leb (length s) most h)

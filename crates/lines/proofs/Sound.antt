@@ -1,0 +1,157 @@
+-- What a parser accepts is what is written for its value (`Sound`), and what is known of that value (`Gives`). By the parsers' forms: row, checked, bind, chain, whole text.
+use Prim.Native.Nat.{ℕ, zero, suc, _+_, _≤_}
+use mathlib.Core.Path.{_≡_, refl, sym, ap, _∙_, subst}
+use mathlib.Core.List.{List, [], _∷_, _++_, append-assoc}
+use mathlib.Core.Bool.{Bool, true, false, _&&_}
+use native.Mathlib.Omega.{arith}
+use lib.Dec.{leb}
+use lib.ListN.{length, drop}
+use Rattle.lines.specs.Line.{readLine}
+use Rattle.lines.specs.Parser.{Parsed, good, fault, Parser, _>>=_, return, inRange, readField, taken, rowAt, checked, chain, end as ends, Outcome, accepted, refused, finish, whole, readText}
+use Rattle.lines.specs.Text.{line, texts}
+use Rattle.lines.specs.declared.read.Line.{Line}
+use Rattle.lines.specs.declared.read.Line.the-variants.{Value, Bad}
+use borrow.Author.Tests.{leb-true}
+use Rattle.lines.proofs.Parsing.{bind-good, bind-fault, InRow, row-in}
+use Rattle.lines.proofs.Written.{Stands, line-written}
+
+abbrev pub Sound : {A : Type 0} → Parser A → (A → List ℕ) → Type 0
+Sound {A} p w = (s s′ : List ℕ) (l l′ : ℕ) (a : A) → p s l ≡ good a s′ l′ → s ≡ w a ++ s′
+
+pub never : {A : Type 0} {X : Type 0} {n m l : ℕ} {a : A} {s : List ℕ} → _≡_ {A = Parsed A} (fault n m) (good a s l) → X
+never e = let z : _≡_ {A = ℕ} 0 1 = cc in absurd (omega arith)
+
+-- the two halves of a bind that succeeds
+pub record Halves {A B : Type 0} (p : Parser A) (f : A → Parser B) (s s′ : List ℕ) (l l′ : ℕ) (b : B) : Type 0 where
+  pub a : A
+  pub mid : List ℕ
+  pub at : ℕ
+  pub first : p s l ≡ good a mid at
+  pub second : f a mid at ≡ good b s′ l′
+
+pub bind-inv : {A B : Type 0} (p : Parser A) (f : A → Parser B) (s s′ : List ℕ) (l l′ : ℕ) (b : B) → (p >>= f) s l ≡ good b s′ l′ → Halves p f s s′ l l′ b
+bind-inv {A} p f s s′ l l′ b h = go (p s l) refl
+  where
+    go : (x : Parsed A) → p s l ≡ x → Halves p f s s′ l l′ b
+    go (good a t m) e = record { a = a; mid = t; at = m; first = e; second = sym (bind-good p f e) ∙ h }
+    go (fault n m) e = never (sym (bind-fault p f e) ∙ h)
+
+pub row-sound : (key : List ℕ) (lo hi : ℕ) → Sound (rowAt key lo hi) (line key)
+unfolding rowAt readField taken inRange
+row-sound key lo hi s s′ l l′ a h = go (readLine key s) (line-written key s) h
+  where
+    go : (x : Line) → Stands key s x → taken s l (inRange lo hi x) ≡ good a s′ l′ → s ≡ line key a ++ s′
+    go (Value v n) w q = pick (leb lo v && leb v hi) refl
+      where
+        pick : (t : Bool) → (leb lo v && leb v hi) ≡ t → s ≡ line key a ++ s′
+        pick true e =
+            let g : good v (drop n s) (l + 1) ≡ good a s′ l′ = rw (inRange, e) at q in
+            let x : v ≡ a = cc in
+            let y : drop n s ≡ s′ = cc in
+            w ∙ cc
+        pick false e = never (rw (inRange, e) at q)
+    go Bad w q = never q
+
+pub checked-sound : (k : ℕ) (ok : ℕ → Bool) (p : Parser ℕ) (w : ℕ → List ℕ) → Sound p w → Sound (checked k ok p) w
+unfolding checked
+checked-sound k ok p w so s s′ l l′ a h = go (p s l) refl
+  where
+    go : (x : Parsed ℕ) → p s l ≡ x → s ≡ w a ++ s′
+    go (good v t m) e = pick (ok v) refl
+      where
+        pick : (b : Bool) → ok v ≡ b → s ≡ w a ++ s′
+        pick true y =
+            let g : good v t m ≡ good a s′ l′ = rw (checked, e, y) at h in
+            so s s′ l l′ a (e ∙ g)
+        pick false y = never (rw (checked, e, y) at h)
+    go (fault n m) e = never (rw (checked, e) at h)
+
+-- a chain: each of its values in turn, as many as it says
+pub chain-sound : {A : Type 0} (p : ℕ → Parser A) (next : A → ℕ) (w : A → List ℕ) → ((prev : ℕ) → Sound (p prev) w) → (n prev : ℕ) → Sound (chain p next n prev) (texts w)
+unfolding chain return
+chain-sound p next w so zero prev s s′ l l′ xs h =
+    let x : [] ≡ xs = cc in
+    let y : s ≡ s′ = cc in
+    y ∙ ap (λ (zs : List _). texts w zs ++ s′) x
+chain-sound p next w so (suc n) prev s s′ l l′ xs h =
+    let b = bind-inv (p prev) _ s s′ l l′ xs h in
+    let d = bind-inv (chain p next n (next (b .a))) _ (b .mid) s′ (b .at) l′ xs (b .second) in
+    let x : (b .a ∷ d .a) ≡ xs = cc (d .second) in
+    let y : d .mid ≡ s′ = cc (d .second) in
+    so prev s (b .mid) l (b .at) (b .a) (b .first)
+    ∙ ap (λ (r : List ℕ). w (b .a) ++ r) (chain-sound p next w so n (next (b .a)) (b .mid) (d .mid) (b .at) (d .at) (d .a) (d .first) ∙ ap (λ (r : List ℕ). texts w (d .a) ++ r) y)
+    ∙ sym (append-assoc (w (b .a)) (texts w (d .a)) s′)
+    ∙ ap (λ (zs : List _). texts w zs ++ s′) x
+
+-- ---- what is known of an accepted value
+
+abbrev pub Gives : {A : Type 0} → Parser A → (A → Type 0) → Type 0
+Gives {A} p P = (s s′ : List ℕ) (l l′ : ℕ) (a : A) → p s l ≡ good a s′ l′ → P a
+
+pub row-gives : (key : List ℕ) (lo hi : ℕ) → Gives (rowAt key lo hi) (λ v. (lo ≤ v) × (v ≤ hi))
+row-gives key lo hi s s′ l l′ a e = subst (InRow lo hi) e (row-in key lo hi s l)
+
+pub checked-gives : (k : ℕ) (ok : ℕ → Bool) (p : Parser ℕ) (P : ℕ → Type 0) → Gives p P → Gives (checked k ok p) (λ v. P v × (ok v ≡ true))
+unfolding checked
+checked-gives k ok p P gives s s′ l l′ a h = go (p s l) refl
+  where
+    go : (x : Parsed ℕ) → p s l ≡ x → P a × (ok a ≡ true)
+    go (good v t m) e = pick (ok v) refl
+      where
+        pick : (b : Bool) → ok v ≡ b → P a × (ok a ≡ true)
+        pick true y =
+            let g : good v t m ≡ good a s′ l′ = rw (checked, e, y) at h in
+            let x : v ≡ a = cc in
+            (gives s s′ l l′ a (e ∙ g), sym (ap ok x) ∙ y)
+        pick false y = never (rw (checked, e, y) at h)
+    go (fault n m) e = never (rw (checked, e) at h)
+
+-- each of a chain's values, with the number that the one before left
+abbrev pub Chained : {A : Type 0} → (ℕ → A → Type 0) → (A → ℕ) → ℕ → List A → Type 0
+Chained P next prev [] = Unit {0}
+Chained P next prev (x ∷ xs) = P prev x × Chained P next (next x) xs
+
+pub chain-gives : {A : Type 0} (p : ℕ → Parser A) (next : A → ℕ) (P : ℕ → A → Type 0) → ((prev : ℕ) → Gives (p prev) (P prev)) → (n prev : ℕ)
+    → Gives (chain p next n prev) (λ xs. (length xs ≡ n) × Chained P next prev xs)
+unfolding chain return
+chain-gives {A} p next P gives zero prev s s′ l l′ xs h =
+    let x : [] ≡ xs = cc in
+    subst (λ (ys : List A). (length ys ≡ 0) × Chained P next prev ys) x (refl, tt)
+chain-gives {A} p next P gives (suc n) prev s s′ l l′ xs h =
+    let b = bind-inv (p prev) _ s s′ l l′ xs h in
+    let d = bind-inv (chain p next n (next (b .a))) _ (b .mid) s′ (b .at) l′ xs (b .second) in
+    let x : (b .a ∷ d .a) ≡ xs = cc (d .second) in
+    let r = chain-gives p next P gives n (next (b .a)) (b .mid) (d .mid) (b .at) (d .at) (d .a) (d .first) in
+    subst (λ (ys : List A). (length ys ≡ suc n) × Chained P next prev ys) x (ap suc (r .0), (gives prev s (b .mid) l (b .at) (b .a) (b .first), r .1))
+
+-- ---- a whole text
+
+pub record Accepted {A : Type 0} (most : ℕ) (p : Parser A) (s : List ℕ) (a : A) : Type 0 where
+  pub few : length s ≤ most
+  pub last : ℕ
+  pub lines : p s 1 ≡ good a [] last
+
+end-inv : (s s′ : List ℕ) (l l′ : ℕ) (u : Unit {0}) → ends s l ≡ good u s′ l′ → s ≡ []
+unfolding ends
+end-inv [] s′ l l′ u h = refl
+end-inv (b ∷ s) s′ l l′ u h = never h
+
+pub accepted-is : {A : Type 0} (most : ℕ) (p : Parser A) (s : List ℕ) (a : A) → readText most p s ≡ accepted a → Accepted most p s a
+unfolding readText whole return
+accepted-is {A} most p s a h = go (leb (length s) most) refl
+  where
+    refused-not : {X : Type 0} {n m : ℕ} → _≡_ {A = Outcome A} (refused n m) (accepted a) → X
+    refused-not e = let z : _≡_ {A = ℕ} 0 1 = cc in absurd (omega arith)
+
+    done : length s ≤ most → (x : Parsed A) → whole p s 1 ≡ x → finish x ≡ accepted a → Accepted most p s a
+    done few (good b t m) e f =
+        let x = bind-inv p _ s t 1 m b e in
+        let y = bind-inv ends _ (x .mid) t (x .at) m b (x .second) in
+        let same : x .a ≡ a = (let u : x .a ≡ b = cc (y .second) in let v : b ≡ a = cc in u ∙ v) in
+        let none = end-inv (x .mid) (y .mid) (x .at) (y .at) (y .a) (y .first) in
+        record { few = few; last = x .at; lines = x .first ∙ cc }
+    done few (fault n m) e f = refused-not f
+
+    go : (t : Bool) → leb (length s) most ≡ t → Accepted most p s a
+    go true e = done (leb-true _ _ e) (whole p s 1) refl (rw (readText, e) at h)
+    go false e = refused-not (rw (readText, e) at h)

@@ -1,0 +1,125 @@
+// One line at the front of a text.
+ghost use mathlib.Core.Path.{_≡_};
+ghost use Prim.Native.Nat.{_≤_};
+ghost use lib.ListN.{length};
+ghost use Rattle.lines.specs.Parser.{readField};
+ghost use Rattle.lines.specs.Line.{digits, numberFrom, startsWith, readLine, readValue};
+
+// A line that was read: its value and how many bytes it has; or a line that is not well formed.
+pub enum Line {
+    Value(u64, usize),
+    Bad,
+}
+
+// A line whose value is in range, or the result number of its fault.
+pub enum Field {
+    Value(u32, usize),
+    Fault(u32),
+}
+
+// How many digits s begins with.
+fn digit_run(s: &[u8]) -> usize
+    ensures { λ r. ⌜ r ≡ length (digits (now (s .entry))) ⌝ }
+{
+    let mut i = 0;
+    while i < s.len() {
+        let b = s[i];
+        if b < 48 {
+            return i;
+        }
+        if 57 < b {
+            return i;
+        }
+        i += 1;
+    }
+    i
+}
+
+// The number that the first n bytes of s write, which are digits.
+fn number(s: &[u8], n: usize) -> u64
+    requires { ⌜ (n ≤ 10) × (n ≡ length (digits (now s))) ⌝ }
+    ensures { λ r. ⌜ r ≡ numberFrom 0 (digits (now (s .entry))) ⌝ }
+{
+    let mut v: u64 = 0;
+    let mut i = 0;
+    while i < n {
+        v = v * 10 + ((s[i] - 48) as u64);
+        i += 1;
+    }
+    v
+}
+
+// Whether s begins with the key.
+fn starts_with(s: &[u8], key: &[u8]) -> bool
+    ensures { λ r. ⌜ r ≡ startsWith (now (key .entry)) (now (s .entry)) ⌝ }
+{
+    if s.len() < key.len() {
+        return false;
+    }
+    let mut i = 0;
+    while i < key.len() {
+        if key[i] != s[i] {
+            return false;
+        }
+        i += 1;
+    }
+    true
+}
+
+// A value and byte 10 at the front of s: 1 to 10 digits, no leading zero.
+fn read_value(s: &[u8]) -> Line
+    ensures { λ r. ⌜ r ≡ readValue (now (s .entry)) ⌝ }
+{
+    let n = digit_run(s);
+    if n < 1 {
+        return Line::Bad;
+    }
+    if 10 < n {
+        return Line::Bad;
+    }
+    if s.len() <= n {
+        return Line::Bad;
+    }
+    if s[n] != 10 {
+        return Line::Bad;
+    }
+    if 1 < n {
+        if s[0] == 48 {
+            return Line::Bad;
+        }
+    }
+    Line::Value(number(s, n), n + 1)
+}
+
+// The line `key=value` at the front of s, which is the part of a text from a cursor on.
+pub fn read_line(s: &[u8], key: &[u8]) -> Line
+    ensures { λ r. ⌜ r ≡ readLine (now (key .entry)) (now (s .entry)) ⌝ }
+{
+    if starts_with(s, key) {
+        let k = key.len();
+        match read_value(&s[k..]) {
+            Line::Value(v, n) => Line::Value(v, k + n),
+            Line::Bad => Line::Bad,
+        }
+    } else {
+        Line::Bad
+    }
+}
+
+// The line `key=value` with a value from lo to hi: fault 2 before fault 3.
+pub fn read_field(s: &[u8], key: &[u8], lo: u32, hi: u32) -> Field
+    ensures { λ r. ⌜ r ≡ readField (now (key .entry)) lo hi (now (s .entry)) ⌝ }
+{
+    match read_line(s, key) {
+        Line::Value(v, n) => {
+            if v < (lo as u64) {
+                return Field::Fault(3);
+            }
+            if (hi as u64) < v {
+                return Field::Fault(3);
+            }
+            Field::Value(v as u32, n)
+        }
+        Line::Bad => Field::Fault(2),
+    }
+}
