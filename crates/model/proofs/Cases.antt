@@ -1,0 +1,114 @@
+-- 01's "One job entire" and the cases of its alterations that are no text's fault, computed from the definitions.
+use mathlib.Core.Path.{_≡_, refl, subst}
+use mathlib.Core.Bool.{true, false}
+use mathlib.Core.List.{[], _∷_, map}
+use Prim.Native.Nat.{ℕ, _≤_}
+use lib.ListN.{replicate}
+use Rattle.branch.specs.Search.{limited}
+use Rattle.branch.specs.Label.{treeOf}
+use Rattle.model.specs.Model.{Job, Plan, clock, within, dueOf, select, sumAt, costOf, KeepsLives, HasPlan}
+use Rattle.model.specs.LowerBound.{leastOf, choiceOf, offers, stopCost, boundOf}
+use Rattle.model.specs.Promise.{no-plan, cut-none, cut, optimum, answerOf, Promise}
+use Rattle.model.specs.Verdict.{accepts, unkept, wrongCost, firstLate, verdictFrom, judgedOf}
+use Rattle.model.proofs.Promised.{promise}
+
+-- the worked job with the fee of each opening and part 1's left
+abbrev jobWith : ℕ → ℕ → Job
+jobWith fee left = record {
+  horizon = 6;
+  openings = map (λ (step : ℕ). record { step = step; fee = fee }) (2 ∷ 3 ∷ 4 ∷ 5 ∷ []);
+  parts = record { life = 3; left = left; prices = replicate 4 5 } ∷ record { life = 4; left = 4; prices = replicate 4 7 } ∷ [];
+}
+
+-- stop=2 part=1, stop=4 part=1 part=2
+abbrev printed : Plan
+printed = record {
+  stops = true ∷ false ∷ true ∷ false ∷ [];
+  changes = (true ∷ false ∷ true ∷ false ∷ []) ∷ (false ∷ false ∷ true ∷ false ∷ []) ∷ [];
+}
+
+-- both parts at 2 and 5
+abbrev twice : Plan
+twice = record {
+  stops = true ∷ false ∷ false ∷ true ∷ [];
+  changes = (true ∷ false ∷ false ∷ true ∷ []) ∷ (true ∷ false ∷ false ∷ true ∷ []) ∷ [];
+}
+
+walk-11 : answerOf (jobWith 10 2) 11 ≡ optimum 11 17 37 printed
+unfolding answerOf limited treeOf boundOf stopCost sumAt offers leastOf choiceOf within clock
+walk-11 = refl
+
+walk-10 : answerOf (jobWith 10 2) 10 ≡ cut 10 17 37 printed
+unfolding answerOf limited treeOf boundOf stopCost sumAt offers leastOf choiceOf within clock
+walk-10 = refl
+
+walk-8 : answerOf (jobWith 10 2) 8 ≡ cut 8 17 44 twice
+unfolding answerOf limited treeOf boundOf stopCost sumAt offers leastOf choiceOf within clock
+walk-8 = refl
+
+walk-6 : answerOf (jobWith 10 2) 6 ≡ cut-none 6 17
+unfolding answerOf limited treeOf boundOf stopCost sumAt offers leastOf choiceOf within clock
+walk-6 = refl
+
+walk-0 : answerOf (jobWith 10 2) 0 ≡ cut-none 0 17
+unfolding answerOf limited treeOf boundOf stopCost sumAt offers leastOf choiceOf within clock
+walk-0 = refl
+
+left-1 : answerOf (jobWith 10 1) 11 ≡ no-plan
+unfolding answerOf limited treeOf boundOf stopCost sumAt offers leastOf choiceOf within clock
+left-1 = refl
+
+fees-0 : answerOf (jobWith 0 2) 11 ≡ optimum 11 17 17 printed
+unfolding answerOf limited treeOf boundOf stopCost sumAt offers leastOf choiceOf within clock
+fees-0 = refl
+
+-- one part, T = 6, no openings
+abbrev bare : ℕ → Job
+bare life = record { horizon = 6; openings = []; parts = record { life = life; left = life; prices = [] } ∷ [] }
+
+bare-7 : answerOf (bare 7) 11 ≡ optimum 1 0 0 (record { stops = []; changes = [] ∷ [] })
+unfolding answerOf limited treeOf boundOf stopCost sumAt offers leastOf choiceOf within clock
+bare-7 = refl
+
+bare-6 : answerOf (bare 6) 11 ≡ no-plan
+unfolding answerOf limited treeOf boundOf stopCost sumAt offers leastOf choiceOf within clock
+bare-6 = refl
+
+-- the printed plan's true cost
+printed-costs : costOf (jobWith 10 2) printed ≡ 37
+unfolding sumAt
+printed-costs = refl
+
+-- what the promise says of it: there is a plan, none costs less than 37, and with `left=1` there is none
+promised : Promise (jobWith 10 2) 11 (optimum 11 17 37 printed)
+promised = subst (Promise (jobWith 10 2) 11) walk-11 (promise (jobWith 10 2) 11)
+
+has : HasPlan (jobWith 10 2)
+has = promised .says-0 .0 refl .0
+
+least-37 : (other : Plan) → KeepsLives (jobWith 10 2) other → 37 ≤ costOf (jobWith 10 2) other
+least-37 other k = promised .plan-for .least other k tt
+
+has-not : HasPlan (jobWith 10 1) → ⊥
+has-not = subst (Promise (jobWith 10 1) 11) left-1 (promise (jobWith 10 1) 11) .says-6 .0 refl
+
+-- ---- the judge
+
+-- part 1 at 2, parts 1 and 2 at 3
+abbrev early : Plan
+early = record {
+  stops = true ∷ true ∷ false ∷ false ∷ [];
+  changes = (true ∷ true ∷ false ∷ false ∷ []) ∷ (false ∷ true ∷ false ∷ false ∷ []) ∷ [];
+}
+
+judge-early : (cost : ℕ) → judgedOf (jobWith 10 2) cost early ≡ unkept 1 6
+unfolding judgedOf verdictFrom firstLate sumAt select within dueOf clock
+judge-early cost = refl
+
+judge-printed : judgedOf (jobWith 10 2) 37 printed ≡ accepts 37
+unfolding judgedOf verdictFrom firstLate sumAt select within dueOf clock
+judge-printed = refl
+
+judge-36 : judgedOf (jobWith 10 2) 36 printed ≡ wrongCost 37
+unfolding judgedOf verdictFrom firstLate sumAt select within dueOf clock
+judge-36 = refl
