@@ -1,0 +1,174 @@
+-- An accepted job text is the rendering of the job that was read (`text-is`), and that job is valid (`valid`). By the grammar's lines, one after the other.
+use Prim.Native.Nat.{ℕ, _≤_, _<_}
+use mathlib.Core.Path.{_≡_, refl, sym, ap, _∙_, subst}
+use mathlib.Core.List.{List, [], _∷_, _++_, append-assoc, append-nil}
+use mathlib.Core.Bool.{true, _&&_, and-eq-true-iff}
+use lib.Dec.{leb, ltb}
+use lib.ListN.{length}
+use borrow.Author.Tests.{ltb-true, leb-true}
+use Rattle.lines.specs.Text.{bytes, line, lineOf, texts}
+use Rattle.lines.specs.Parser.{Parser, good, accepted, return, rowAt, row, checked, chain, times, rising, upTo}
+use Rattle.lines.proofs.Sound.{Sound, Gives, Halves, bind-inv, row-sound, checked-sound, chain-sound, row-gives, checked-gives, Chained, chain-gives, Accepted, accepted-is}
+use Rattle.model.specs.Model.{Opening, Part, Job}
+use Rattle.job_text.specs.Grammar.{Given, opening, openings, part, body, jobLines, maxBytes, readJob}
+use Rattle.job_text.specs.Rendering.{openingText, partText, bodyText, jobText}
+use Rattle.job_text.specs.Valid.{All, Rising, ValidOpening, ValidPrice, ValidPart, ValidJob, Valid}
+
+-- what a parser gives: a value that is known, and the text is what is written for it
+pub record Told {A : Type 0} (P : A → Type 0) (w : A → List ℕ) (s s′ : List ℕ) (a : A) : Type 0 where
+  pub known : P a
+  pub text : s ≡ w a ++ s′
+
+abbrev pub Tells : {A : Type 0} → Parser A → (A → Type 0) → (A → List ℕ) → Type 0
+Tells {A} p P w = (s s′ : List ℕ) (l l′ : ℕ) (a : A) → p s l ≡ good a s′ l′ → Told P w s s′ a
+
+-- ---- openings
+
+abbrev KnownOpening : ℕ → ℕ → Opening → Type 0
+KnownOpening h before o = (before < o .step) × (o .step ≤ h) × ValidOpening o
+
+opening-tells : (h before : ℕ) → Tells (opening h before) (KnownOpening h before) openingText
+unfolding opening return openingText
+opening-tells h before s s′ l l′ o e =
+    let p₁ = row "opening=" 1 365 in
+    let b = bind-inv (checked 4 (rising before h) p₁) _ s s′ l l′ o e in
+    let d = bind-inv (row "fee=" 0 1000000) _ (b .mid) s′ (b .at) l′ o (b .second) in
+    let x : record { step = b .a; fee = d .a } ≡ o = cc (d .second) in
+    let y : d .mid ≡ s′ = cc (d .second) in
+    let k = checked-gives 4 (rising before h) p₁ _ (row-gives _ 1 365) s (b .mid) l (b .at) (b .a) (b .first) in
+    let f = row-gives _ 0 1000000 (b .mid) (d .mid) (b .at) (d .at) (d .a) (d .first) in
+    let r = and-eq-true-iff (ltb before (b .a)) (leb (b .a) h) .0 (k .1) in
+    subst (Told (KnownOpening h before) openingText s s′) x (record {
+      known = (ltb-true before (b .a) (r .0), leb-true (b .a) h (r .1), record { step-low = k .0 .0; step-high = k .0 .1; fee = f .1 });
+      text = simp append-assoc
+          (checked-sound 4 (rising before h) p₁ (lineOf "opening=") (row-sound _ 1 365) s (b .mid) l (b .at) (b .a) (b .first)
+          ∙ ap (λ (r : List ℕ). lineOf "opening=" (b .a) ++ r) (row-sound _ 0 1000000 (b .mid) (d .mid) (b .at) (d .at) (d .a) (d .first) ∙ ap (λ (r : List ℕ). lineOf "fee=" (d .a) ++ r) y));
+    })
+
+abbrev stepOf : Opening → ℕ
+stepOf o = o .step
+
+chained-rising : (h before : ℕ) (os : List Opening) → Chained (KnownOpening h) stepOf before os → All ValidOpening os × Rising h before os
+chained-rising h before [] c = (tt, tt)
+chained-rising h before (o ∷ os) c =
+    let r = chained-rising h (o .step) os (c .1) in
+    ((c .0 .2, r .0), (c .0 .0, c .0 .1, r .1))
+
+-- ---- parts
+
+-- a chain that hands nothing on
+each : {A : Type 0} (P : A → Type 0) (before : ℕ) (xs : List A) → Chained (λ (k : ℕ). P) (λ (x : A). 0) before xs → All P xs
+each P before [] c = tt
+each P before (x ∷ xs) c = (c .0, each P 0 xs (c .1))
+
+part-tells : (n : ℕ) → Tells (part n) (ValidPart n) partText
+unfolding part times return partText
+part-tells n s s′ l l′ p e =
+    let p₁ = row "life=" 1 1000 in
+    let p₂ = row "left=" 1 1000 in
+    let price = row "price=" 1 1000000 in
+    let b = bind-inv p₁ _ s s′ l l′ p e in
+    let d = bind-inv (checked 5 (upTo (b .a)) p₂) _ (b .mid) s′ (b .at) l′ p (b .second) in
+    let f = bind-inv (times n price) _ (d .mid) s′ (d .at) l′ p (d .second) in
+    let x : record { life = b .a; left = d .a; prices = f .a } ≡ p = cc (f .second) in
+    let y : f .mid ≡ s′ = cc (f .second) in
+    let k₁ = row-gives _ 1 1000 s (b .mid) l (b .at) (b .a) (b .first) in
+    let k₂ = checked-gives 5 (upTo (b .a)) p₂ _ (row-gives _ 1 1000) (b .mid) (d .mid) (b .at) (d .at) (d .a) (d .first) in
+    let k₃ = chain-gives (λ _. price) (λ _. 0) (λ _. ValidPrice) (λ _. row-gives _ 1 1000000) n 0 (d .mid) (f .mid) (d .at) (f .at) (f .a) (f .first) in
+    subst (Told (ValidPart n) partText s s′) x (record {
+      known = record {
+        life-low = k₁ .0;
+        life-high = k₁ .1;
+        left-low = k₂ .0 .0;
+        left-high = leb-true (d .a) (b .a) (k₂ .1);
+        priced = k₃ .0;
+        prices = each ValidPrice 0 (f .a) (k₃ .1);
+      };
+      text = simp append-assoc
+          (row-sound _ 1 1000 s (b .mid) l (b .at) (b .a) (b .first)
+          ∙ ap (λ (r : List ℕ). lineOf "life=" (b .a) ++ r)
+          (checked-sound 5 (upTo (b .a)) p₂ (lineOf "left=") (row-sound _ 1 1000) (b .mid) (d .mid) (b .at) (d .at) (d .a) (d .first)
+          ∙ ap (λ (r : List ℕ). lineOf "left=" (d .a) ++ r)
+          (chain-sound (λ _. price) (λ _. 0) (lineOf "price=") (λ _. row-sound _ 1 1000000) n 0 (d .mid) (f .mid) (d .at) (f .at) (f .a) (f .first)
+          ∙ ap (λ (r : List ℕ). texts (lineOf "price=") (f .a) ++ r) y)));
+    })
+
+-- ---- the whole
+
+abbrev KnownJob : ℕ → ℕ → ℕ → Given → Type 0
+KnownJob h w n g = (2 ≤ h → h ≤ 365 → n ≤ 64 → ValidJob (g .job)) × (g .walk ≡ w) × (g .job .horizon ≡ h) × (length (g .job .openings) ≡ n)
+
+body-tells : (h w n : ℕ) → Tells (body h w n) (KnownJob h w n) (λ g. bodyText (g .job))
+unfolding body openings times return bodyText
+body-tells h w n s s′ l l′ g e =
+    let b = bind-inv (openings h n) _ s s′ l l′ g e in
+    let d = bind-inv (row "parts=" 1 16) _ (b .mid) s′ (b .at) l′ g (b .second) in
+    let f = bind-inv (times (d .a) (part n)) _ (d .mid) s′ (d .at) l′ g (d .second) in
+    let x : record { walk = w; job = record { horizon = h; openings = b .a; parts = f .a } } ≡ g = cc (f .second) in
+    let y : f .mid ≡ s′ = cc (f .second) in
+    let k₁ = chain-gives (opening h) stepOf (KnownOpening h) (λ before s s′ l l′ o e. opening-tells h before s s′ l l′ o e .known) n 0 s (b .mid) l (b .at) (b .a) (b .first) in
+    let os = chained-rising h 0 (b .a) (k₁ .1) in
+    let k₂ = row-gives _ 1 16 (b .mid) (d .mid) (b .at) (d .at) (d .a) (d .first) in
+    let k₃ = chain-gives (λ _. part n) (λ _. 0) (λ _. ValidPart n) (λ _ s s′ l l′ p e. part-tells n s s′ l l′ p e .known) (d .a) 0 (d .mid) (f .mid) (d .at) (f .at) (f .a) (f .first) in
+    let count : d .a ≡ length (f .a) = sym (k₃ .0) in
+    let ps : All (ValidPart (length (b .a))) (f .a) = subst (λ (m : ℕ). All (ValidPart m) (f .a)) (sym (k₁ .0)) (each (ValidPart n) 0 (f .a) (k₃ .1)) in
+    subst (Told (KnownJob h w n) (λ g. bodyText (g .job)) s s′) x (record {
+      known = (
+        λ low high few. record {
+          horizon-low = low;
+          horizon-high = high;
+          few-openings = subst (λ (m : ℕ). m ≤ 64) (sym (k₁ .0)) few;
+          openings = os .0;
+          rising = os .1;
+          some-part = subst (λ (m : ℕ). 1 ≤ m) count (k₂ .0);
+          few-parts = subst (λ (m : ℕ). m ≤ 16) count (k₂ .1);
+          parts = ps;
+        },
+        refl,
+        refl,
+        k₁ .0,
+      );
+      text = simp append-assoc
+          (chain-sound (opening h) stepOf openingText (λ before s s′ l l′ o e. opening-tells h before s s′ l l′ o e .text) n 0 s (b .mid) l (b .at) (b .a) (b .first)
+          ∙ ap (λ (r : List ℕ). texts openingText (b .a) ++ r)
+          (row-sound _ 1 16 (b .mid) (d .mid) (b .at) (d .at) (d .a) (d .first)
+          ∙ ap (λ (m : ℕ). lineOf "parts=" m ++ d .mid) count
+          ∙ ap (λ (r : List ℕ). lineOf "parts=" (length (f .a)) ++ r)
+          (chain-sound (λ _. part n) (λ _. 0) partText (λ _ s s′ l l′ p e. part-tells n s s′ l l′ p e .text) (d .a) 0 (d .mid) (f .mid) (d .at) (f .at) (f .a) (f .first)
+          ∙ ap (λ (r : List ℕ). texts partText (f .a) ++ r) y)));
+    })
+
+pub lines-tell : Tells jobLines Valid jobText
+unfolding jobLines jobText
+lines-tell s s′ l l′ g e =
+    let b = bind-inv (row "horizon=" 2 365) _ s s′ l l′ g e in
+    let d = bind-inv (row "walk=" 0 4000000000) _ (b .mid) s′ (b .at) l′ g (b .second) in
+    let f = bind-inv (row "openings=" 0 64) _ (d .mid) s′ (d .at) l′ g (d .second) in
+    let k₁ = row-gives _ 2 365 s (b .mid) l (b .at) (b .a) (b .first) in
+    let k₂ = row-gives _ 0 4000000000 (b .mid) (d .mid) (b .at) (d .at) (d .a) (d .first) in
+    let k₃ = row-gives _ 0 64 (d .mid) (f .mid) (d .at) (f .at) (f .a) (f .first) in
+    let t = body-tells (b .a) (d .a) (f .a) (f .mid) s′ (f .at) l′ g (f .second) in
+    let h : b .a ≡ g .job .horizon = sym (t .known .2) in
+    let w : d .a ≡ g .walk = sym (t .known .1) in
+    let n : f .a ≡ length (g .job .openings) = sym (t .known .3) in
+    record {
+      known = record { walk = subst (λ (m : ℕ). m ≤ 4000000000) w (k₂ .1); job = t .known .0 (k₁ .0) (k₁ .1) (k₃ .1) };
+      text = simp append-assoc
+          (row-sound _ 2 365 s (b .mid) l (b .at) (b .a) (b .first)
+          ∙ ap (λ (m : ℕ). lineOf "horizon=" m ++ b .mid) h
+          ∙ ap (λ (r : List ℕ). lineOf "horizon=" (g .job .horizon) ++ r)
+          (row-sound _ 0 4000000000 (b .mid) (d .mid) (b .at) (d .at) (d .a) (d .first)
+          ∙ ap (λ (m : ℕ). lineOf "walk=" m ++ d .mid) w
+          ∙ ap (λ (r : List ℕ). lineOf "walk=" (g .walk) ++ r)
+          (row-sound _ 0 64 (d .mid) (f .mid) (d .at) (f .at) (f .a) (f .first)
+          ∙ ap (λ (m : ℕ). lineOf "openings=" m ++ f .mid) n
+          ∙ ap (λ (r : List ℕ). lineOf "openings=" (length (g .job .openings)) ++ r) (t .text))));
+    }
+
+-- ---- the text
+
+pub valid : (s : List ℕ) (g : Given) → readJob s ≡ accepted g → Valid g
+valid s g e = let a = accepted-is maxBytes jobLines s g e in lines-tell s [] 1 (a .last) g (a .lines) .known
+
+pub text-is : (s : List ℕ) (g : Given) → readJob s ≡ accepted g → s ≡ jobText g
+text-is s g e = let a = accepted-is maxBytes jobLines s g e in lines-tell s [] 1 (a .last) g (a .lines) .text ∙ append-nil (jobText g)

@@ -1,0 +1,48 @@
+use borrow.Author.Needs.{needs}
+use mathlib.Core.Path.{_≡_, refl, ap, sym, _∙_, subst}
+use Rattle.lines.specs.Text.{bytes}
+use Rattle.lines.specs.Cursor.{rowAnswer}
+use Rattle.lines.proofs.Parsing.{checked-good, checked-not, checked-fault, upTo-yes, upTo-not, got-value, got-fault, got-place}
+use Rattle.job_text.proofs.parts.read_left.Statement.{statement}
+use Rattle.job_text.proofs.parts.read_left.Tie as tie
+
+slice-aggregate-read-row : tie.Need-slice-aggregate-read-row
+slice-aggregate-read-row c = search needs
+
+read-row-requires : tie.Need-read-row-requires
+read-row-requires c κs = search needs
+
+enum-known-v : tie.Need-enum-known-v
+enum-known-v c = search needs
+
+returns : tie.Need-returns
+unfolding bytes
+returns c =
+    record { is = sym (checked-not _ _ _ _ _ (got-value (c .before .before .before .before .read-row .ensures) (ap rowAnswer (c .before .before .v .given .1))) (upTo-not _ _ (c .if1 .taken))); stands = tt }
+
+enum-known-k : tie.Need-enum-known-k
+enum-known-k c = search needs
+
+returns-2 : tie.Need-returns-2
+unfolding bytes
+returns-2 c =
+    let e = c .before .before .before .before .read-row .ensures in
+    let m = ap rowAnswer (c .before .before .v .given .1) in
+    record { is = sym (checked-good _ _ _ _ _ (got-value e m) (upTo-yes _ _ (c .if1 .left))); stands = got-place e m }
+
+returns-3 : tie.Need-returns-3
+unfolding bytes
+returns-3 c =
+    record { is = sym (checked-fault _ _ _ _ _ (got-fault (c .before .before .before .read-row .ensures) (ap rowAnswer (c .before .k .given .1)))); stands = tt }
+
+pub read-left-spec : {M : Type 1} → statement M
+read-left-spec =
+    tie.close
+    (tie.spec
+    slice-aggregate-read-row
+    read-row-requires
+    enum-known-v
+    returns
+    enum-known-k
+    returns-2
+    returns-3)

@@ -1,0 +1,90 @@
+use Prim.Native.Nat.{ℕ, _+_, _-_, _≤_, _<_}
+use native.Mathlib.Omega.{arith}
+use borrow.Author.Needs.{needs}
+use mathlib.Core.Path.{_≡_, refl, ap, sym, _∙_}
+use lib.ListN.{length, drop, take, length-set}
+use Rattle.lines.specs.Parser.{good, chain, times, row}
+use Rattle.lines.specs.Cursor.{ended}
+use Rattle.lines.specs.Cursor.{Stands, rowAnswer}
+use Rattle.lines.proofs.Arrays.{take-more}
+use Rattle.lines.proofs.Parsing.{got-value, got-fault, got-place, behind, chain-start, chain-more, chain-fault, chain-end}
+use Rattle.job_text.proofs.parts.read_prices.Statement.{statement}
+use Rattle.job_text.proofs.parts.read_prices.Tie as tie
+
+abbrev Inv-loop : tie.InvT-loop
+Inv-loop text n prices₀ q₀ i₀ prices q i =
+    (i ≤ n) × (length prices ≡ 64) × Stands text q
+    × (times n (row "price=" 1 1000000) (drop (q₀ .at) text) (q₀ .line)
+    ≡ behind (take i prices) (chain (λ (k : ℕ). row "price=" 1 1000000) (λ (v : ℕ). 0) (n - i) 0 (drop (q .at) text) (q .line)))
+
+abbrev μ-loop : tie.MeasureT-loop
+μ-loop text n prices₀ q₀ i₀ prices q i = n - i
+
+loop-holds : tie.Need-loop-holds Inv-loop μ-loop
+unfolding times
+loop-holds c = (omega arith, refl, c .before .pre .0, chain-start _ _ _ _ _ _)
+
+read-price-requires : tie.Need-read-price-requires Inv-loop μ-loop
+read-price-requires c κs = c .before .loop .inv .2
+
+enum-known-v : tie.Need-enum-known-v Inv-loop μ-loop
+enum-known-v c = search needs
+
+mul-prices : tie.Need-mul-prices Inv-loop μ-loop
+mul-prices c = search needs
+
+array-write-prices : tie.Need-array-write-prices Inv-loop μ-loop
+array-write-prices c = omega (arith, c .before .before .before .before .before .before .before .pre .1)
+
+add-i : tie.Need-add-i Inv-loop μ-loop
+add-i c = omega arith
+
+loop-less : tie.Need-loop-less Inv-loop μ-loop
+loop-less c = omega arith
+
+loop-again : tie.Need-loop-again Inv-loop μ-loop
+loop-again c =
+    let at = c .before .before .before .before .before in
+    let v = at .loop .inv in
+    let e = c .before .before .before .read-price .ensures in
+    let m = ap rowAnswer (c .before .v .given .1) in (
+      omega arith,
+      simp length-set (v .1),
+      got-place e m,
+      v .3 ∙ chain-more _ _ (at .before .before .args .n) (at .loop .i) _ _ _ _ (c .before .before .before .before .loop-test .taken) (got-value e m)
+          (take-more (at .loop .i) (at .loop .prices) _ (omega (arith, at .before .before .pre .1))),
+    )
+
+enum-known-k : tie.Need-enum-known-k Inv-loop μ-loop
+enum-known-k c = search needs
+
+returns : tie.Need-returns Inv-loop μ-loop
+unfolding ended
+returns c =
+    let at = c .before .before .before .before .before in
+    record { is = sym (at .loop .inv .3 ∙ chain-fault _ _ (at .before .before .args .n) (at .loop .i) _ _ _ _ (c .before .before .before .before .loop-test .taken) (got-fault (c .before .before .before .read-price .ensures) (ap rowAnswer (c .before .k .given .1)))); stands = tt }
+
+returns-2 : tie.Need-returns-2 Inv-loop μ-loop
+unfolding ended
+returns-2 c =
+    let v = c .before .loop .inv in
+    let same : c .before .loop .i ≡ c .before .before .before .args .n = omega arith in
+    record { is = sym (v .3 ∙ chain-end _ _ (c .before .before .before .args .n) (c .before .loop .i) _ _ _ _ (omega arith) ∙ ap (λ (k : ℕ). good (take k (c .before .loop .prices)) (drop (c .before .loop .q .at) (c .before .before .before .args .text .now)) (c .before .loop .q .line)) same); stands = v .2 }
+
+pub read-prices-spec : {M : Type 1} → statement M
+read-prices-spec =
+    tie.close
+    (tie.spec
+    Inv-loop
+    μ-loop
+    loop-holds
+    read-price-requires
+    enum-known-v
+    mul-prices
+    array-write-prices
+    add-i
+    loop-less
+    loop-again
+    enum-known-k
+    returns
+    returns-2)

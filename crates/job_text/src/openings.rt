@@ -1,0 +1,91 @@
+// The openings of a job text.
+use crate::Opening;
+use lines::rows::Cursor;
+use lines::rows::End;
+use lines::rows::Row;
+use lines::rows::read_row;
+ghost use mathlib.Core.List.{map};
+ghost use Prim.Native.Nat.{_≤_};
+ghost use lib.ListN.{drop, take};
+ghost use Rattle.lines.specs.Parser.{checked, row, rising};
+ghost use Rattle.lines.specs.Cursor.{Stands, Reads, rowAnswer, ended};
+ghost use Rattle.job_text.specs.Views.{openingAnswer, openingOf};
+ghost use Rattle.job_text.specs.Grammar.{opening, openings};
+
+// An opening and the cursor behind it, or a fault's result number and line.
+pub enum OpeningRow {
+    Value(Opening, Cursor),
+    Fault(u32, usize),
+}
+
+// Openings read, and where they end.
+pub struct Openings {
+    pub end: End,
+    pub openings: [Opening; 64],
+}
+
+// An opening's step, which is after the step before and within the horizon: else fault 4.
+fn read_step(text: &[u8], p: Cursor, horizon: u32, before: u32) -> Row
+    requires { ⌜ Stands (now text) p ⌝ }
+    ensures { λ r. ⌜ Reads (now (text .entry)) (rowAnswer r) (checked 4 (rising before horizon) (row "opening=" 1 365) (drop (p .at) (now (text .entry))) (p .line)) ⌝ }
+{
+    let line = p.line;
+    match read_row(text, p, b"opening=", Opening::MIN_STEP, Opening::MAX_STEP) {
+        Row::Value(v, q) => {
+            if v <= before {
+                return Row::Fault(4, line);
+            }
+            if horizon < v {
+                return Row::Fault(4, line);
+            }
+            Row::Value(v, q)
+        }
+        Row::Fault(k, l) => Row::Fault(k, l),
+    }
+}
+
+// An opening: its step and its fee.
+fn read_opening(text: &[u8], p: Cursor, horizon: u32, before: u32) -> OpeningRow
+    requires { ⌜ Stands (now text) p ⌝ }
+    ensures { λ r. ⌜ Reads (now (text .entry)) (openingAnswer r) (opening horizon before (drop (p .at) (now (text .entry))) (p .line)) ⌝ }
+{
+    match read_step(text, p, horizon, before) {
+        Row::Value(step, q) => match read_row(text, q, b"fee=", 0, Opening::MAX_FEE) {
+            Row::Value(fee, r) => OpeningRow::Value(Opening { step, fee }, r),
+            Row::Fault(k, l) => OpeningRow::Fault(k, l),
+        },
+        Row::Fault(k, l) => OpeningRow::Fault(k, l),
+    }
+}
+
+// The openings, n of them.
+pub fn read_openings(text: &[u8], p: Cursor, horizon: u32, n: usize) -> Openings
+    requires { ⌜ Stands (now text) p × (n ≤ 64) ⌝ }
+    ensures { λ r. ⌜ Reads (now (text .entry)) (ended (r .end) (map openingOf (take n (r .openings)))) (openings horizon n (drop (p .at) (now (text .entry))) (p .line)) ⌝ }
+{
+    let blank = Opening { step: 0, fee: 0 };
+    let mut openings = [blank; 64];
+    let mut q = p;
+    let mut before: u32 = 0;
+    let mut i: usize = 0;
+    while i < n {
+        match read_opening(text, q, horizon, before) {
+            OpeningRow::Value(o, r) => {
+                openings[i] = o;
+                before = o.step;
+                q = r;
+                i += 1;
+            }
+            OpeningRow::Fault(k, l) => {
+                return Openings {
+                    end: End::Fault(k, l),
+                    openings,
+                };
+            }
+        }
+    }
+    Openings {
+        end: End::At(q),
+        openings,
+    }
+}
