@@ -1,0 +1,82 @@
+// The lines of a plan from a cursor on, and the whole plan text.
+use crate::Plan;
+use crate::stops::read_visits;
+use job_text::Job;
+use lines::rows::Cursor;
+use lines::rows::End;
+use lines::rows::Row;
+use lines::rows::Verdict;
+use lines::rows::close_text;
+use lines::rows::read_row;
+ghost use mathlib.Core.Path.{_≡_};
+ghost use lib.ListN.{drop};
+ghost use Rattle.lines.specs.Cursor.{Stands, Reads, ended};
+ghost use Rattle.job_text.specs.Views.{jobOf, Sized};
+ghost use Rattle.plan_text.specs.Grammar.{planLines, readPlan};
+ghost use Rattle.plan_text.specs.Views.{statedFor, outcome};
+
+// The lines of a plan: where they end, the cost that they state, and the plan.
+pub struct PlanLines {
+    pub end: End,
+    pub cost: u32,
+    pub plan: Plan,
+}
+
+// A plan text: the verdict on it, the cost that it states, and the plan.
+pub struct PlanRead {
+    pub verdict: Verdict,
+    pub cost: u32,
+    pub plan: Plan,
+}
+
+// Lines with a fault.
+fn no_plan(k: u32, line: usize) -> PlanLines
+    ensures { λ r. ⌜ r .end ≡ End.Fault k line ⌝ }
+{
+    PlanLines {
+        end: End::Fault(k, line),
+        cost: 0,
+        plan: Plan::empty(),
+    }
+}
+
+// The lines of a plan, from a cursor on; they end at the cursor behind them.
+pub fn read_plan_lines(text: &[u8], p: Cursor, job: Job) -> PlanLines
+    requires { ⌜ Stands (now text) p × Sized job ⌝ }
+    ensures { λ r. ⌜ Reads (now (text .entry)) (ended (r .end) (statedFor job (r .cost) (r .plan))) (planLines (jobOf job) (drop (p .at) (now (text .entry))) (p .line)) ⌝ }
+{
+    match read_row(text, p, b"cost=", 0, Plan::MAX_COST) {
+        Row::Value(cost, q) => match read_row(text, q, b"stops=", 0, Plan::MAX_STOPS) {
+            Row::Value(n, r) => {
+                let read = read_visits(text, r, job, n as usize);
+                let end = read.end;
+                let plan = read.plan;
+                PlanLines { end, cost, plan }
+            }
+            Row::Fault(k, l) => no_plan(k, l),
+        },
+        Row::Fault(k, l) => no_plan(k, l),
+    }
+}
+
+// The whole plan text: a text over the limit is fault 1, bytes after the last line are fault 2.
+pub fn read_plan(text: &[u8], job: Job) -> PlanRead
+    requires { ⌜ Sized job ⌝ }
+    ensures { λ r. ⌜ outcome job r ≡ readPlan (jobOf job) (now (text .entry)) ⌝ }
+{
+    if Plan::MAX_BYTES < text.len() {
+        return PlanRead {
+            verdict: Verdict::Fault(1, 0),
+            cost: 0,
+            plan: Plan::empty(),
+        };
+    }
+    let read = read_plan_lines(text, Cursor { at: 0, line: 1 }, job);
+    let end = read.end;
+    let plan = read.plan;
+    PlanRead {
+        verdict: close_text(text, end),
+        cost: read.cost,
+        plan,
+    }
+}
