@@ -1,0 +1,43 @@
+-- `put_two`: one line behind the other.
+use Prim.Native.Nat.{_≤_, _<_}
+use native.Mathlib.Omega.{arith}
+use Rattle.lines.specs.Text.{bytes}
+use Rattle.lines.proofs.Writing.{then, kept, line-short}
+use borrow.Author.Needs.{needs}
+use Rattle.answers.proofs.put_two.Statement.{statement}
+use Rattle.answers.proofs.put_two.Tie as tie
+
+slice-aggregate-put-line : tie.Need-slice-aggregate-put-line
+slice-aggregate-put-line c = search needs
+
+put-line-requires : tie.Need-put-line-requires
+unfolding bytes
+put-line-requires c κs =
+    let s = c .before .before .before .before in
+    omega (arith, s .fits .number .fits, line-short (bytes "result=") 9 (s .args .number) (omega (arith, s .fits .number .fits)))
+
+put-line-requires-2 : tie.Need-put-line-requires-2
+unfolding bytes
+put-line-requires-2 c κs =
+    let s = c .before .before .before .before .before .before .before .before in
+    let w = c .before .before .before .put-line .ensures in
+    omega (
+      arith,
+      s .pre,
+      w .next,
+      kept w,
+      line-short (bytes "result=") 9 (s .args .number) (omega (arith, s .fits .number .fits)),
+      line-short (s .args .key .now) 9 (s .args .value) (s .pre .1 .1),
+    )
+
+same-length : tie.Need-same-length
+same-length c = search needs
+
+returns : tie.Need-returns
+unfolding bytes
+returns c = then (c .before .before .before .before .before .before .put-line .ensures) (c .before .before .put-line2 .ensures)
+
+pub put-two-spec : {M : Type 1} → statement M
+put-two-spec =
+    tie.close
+    (tie.spec slice-aggregate-put-line put-line-requires put-line-requires-2 same-length returns)

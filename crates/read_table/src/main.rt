@@ -1,0 +1,104 @@
+// Reads a table of job and plan texts and writes, for each pair, its first fault and the line at fault, or that there is none.
+// A pair stands in the input as `job=N`, N bytes, `plan=N`, N bytes.
+use answers::Outcome;
+use job_text::Job;
+use job_text::whole::read_job;
+use lines::fault::Span;
+use lines::fault::fault_line;
+use lines::fault::fault_span;
+use lines::read::Line;
+use lines::read::read_line;
+use lines::rows::Verdict;
+use plan_text::Plan;
+use plan_text::whole::read_plan;
+ghost use Prim.Native.Nat.{_+_, _≤_};
+ghost use lib.ListN.{length};
+
+// Writes a fault's lines, and the line at fault.
+fn report(text: &[u8], which: u32, number: u32, line: usize) {
+    if 4294967295 < line {
+        return;
+    }
+    let mut out = [0u8; 16384];
+    let fault = Outcome::Fault(number, which, line as u32, fault_span(text, line));
+    let a = answers::reply(fault, Job::empty(), Plan::empty(), &mut out);
+    let m = a.length;
+    io::write_all(libc::STDOUT_FILENO, &out[..m]);
+    io::write_all(libc::STDOUT_FILENO, fault_line(text, line));
+    io::write_all(libc::STDOUT_FILENO, b"\n");
+}
+
+// The first fault of a pair, the job text before the plan text.
+fn judge_pair(job: &[u8], plan: &[u8]) {
+    let read = read_job(job);
+    let verdict = read.verdict;
+    match verdict {
+        Verdict::Fault(number, line) => report(job, 1, number, line),
+        Verdict::Good => {
+            let stated = read_plan(plan, read.job);
+            let verdict = stated.verdict;
+            match verdict {
+                Verdict::Fault(number, line) => report(plan, 2, number, line),
+                Verdict::Good => {
+                    io::write_all(libc::STDOUT_FILENO, b"accepted\n");
+                }
+            }
+        }
+    }
+}
+
+// Where the bytes of the piece `key=N` at a place stand; nothing at the end where there is no such piece.
+fn piece(buf: &[u8], at: usize, key: &[u8]) -> Span
+    requires { ⌜ at ≤ length (now buf) ⌝ }
+    ensures { λ r. ⌜ r .start + r .length ≤ length (now (buf .entry)) ⌝ }
+{
+    match read_line(&buf[at..], key) {
+        Line::Value(n, k) => {
+            if k <= buf.len() - at {
+                let start = at + k;
+                let length = n as usize;
+                if length <= buf.len() - start {
+                    return Span { start, length };
+                }
+            }
+        }
+        Line::Bad => {}
+    }
+    Span {
+        start: buf.len(),
+        length: 0,
+    }
+}
+
+// The pair at a place, and the place behind it.
+fn pair_at(buf: &[u8], at: usize) -> usize
+    requires { ⌜ at ≤ length (now buf) ⌝ }
+    ensures { λ r. ⌜ r ≤ length (now (buf .entry)) ⌝ }
+{
+    let job = piece(buf, at, b"job=");
+    let job_start = job.start;
+    let job_end = job_start + job.length;
+    let plan = piece(buf, job_end, b"plan=");
+    let plan_start = plan.start;
+    let plan_end = plan_start + plan.length;
+    judge_pair(&buf[job_start..job_end], &buf[plan_start..plan_end]);
+    plan_end
+}
+
+// Every pair of the table.
+fn table(buf: &[u8]) {
+    let mut at = 0;
+    while at < buf.len() {
+        let next = pair_at(buf, at);
+        if next <= at {
+            return;
+        }
+        at = next;
+    }
+}
+
+fn main() {
+    let mut buf = [0u8; 524288];
+    let n = io::read_full(libc::STDIN_FILENO, &mut buf);
+    table(&buf[..n]);
+}
