@@ -1,0 +1,101 @@
+-- The job that a struct holds, place by place: as many openings and parts as it counts, each valid where the job is. By the laws of `map` and `take`, and the arrays' lengths, which a function's arguments tell.
+use Prim.Native.Nat.{ℕ, zero, suc, _≤_, _<_}
+use mathlib.Core.Path.{_≡_, refl, ap, subst, _∙_}
+use mathlib.Core.List.{List, [], _∷_, map}
+use native.Mathlib.Omega.{arith}
+use lib.ListN.{length, getD, take, length-map}
+use lib.Seq.{getD-take, length-take-le}
+use denote.Laws.{Is}
+use denote.Struct.Declared.{row}
+use denote.Struct.Laws.{val}
+use Rattle.job_text.proofs.Job.{the-type}
+use Rattle.job_text.proofs.Job.Laws.{the-laws}
+use Rattle.job_text.specs.Views.{openingOf, partOf, jobOf, Sized}
+use Rattle.job_text.specs.Valid.{All, ValidOpening, ValidPart, ValidJob}
+use Rattle.job_text.specs.declared.Opening.{Opening}
+use Rattle.job_text.specs.declared.Part.{Part}
+use Rattle.job_text.specs.declared.Job.{Job}
+use Rattle.model.specs.Model as model
+use Rattle.model.specs.Verdict.{noPart}
+
+-- ---- lists
+
+-- what holds of each holds at each place
+all-at : {A : Type 0} (P : A → Type 0) (l : List A) (d : A) (i : ℕ) → All P l → i < length l → P (getD l i d)
+all-at P [] d i h l = absurd (omega arith)
+all-at P (x ∷ xs) d zero h l = h .0
+all-at P (x ∷ xs) d (suc i) h l = all-at P xs d i (h .1) (omega arith)
+
+map-at : {A B : Type 0} (f : A → B) (l : List A) (i : ℕ) (d : A) (e : B) → i < length l → getD (map f l) i e ≡ f (getD l i d)
+map-at f [] i d e h = absurd (omega arith)
+map-at f (x ∷ xs) zero d e h = refl
+map-at f (x ∷ xs) (suc i) d e h = map-at f xs i d e (omega arith)
+
+module _ {A B : Type 0} (f : A → B) (l : List A) (n : ℕ) (h : n ≤ length l) where
+  -- the first n, seen through f
+  pub firsts-size : length (map f (take n l)) ≡ n
+  firsts-size = length-map (take n l) f ∙ length-take-le n l h
+
+  pub firsts-at : (i : ℕ) (d : A) (e : B) → i < n → getD (map f (take n l)) i e ≡ f (getD l i d)
+  firsts-at i d e g = map-at f (take n l) i d e (rw (length-take-le n l h) g) ∙ ap f (getD-take n l i d g)
+
+-- ---- the struct
+
+-- what stands past the end of the arrays
+abbrev pub blankOpening : Opening
+blankOpening = record { step = 0; fee = 0 }
+
+abbrev pub blankPart : Part
+blankPart = record { life = 0; left = 0; prices = [] }
+
+abbrev pub openingAt : Job → ℕ → Opening
+openingAt j i = getD (j .openings) i blankOpening
+
+abbrev pub partAt : Job → ℕ → Part
+partAt j k = getD (j .parts) k blankPart
+
+-- what is known of an argument that is a job
+abbrev pub Whole : Job → Type 0
+Whole j = Is (row the-type) j (val the-type the-laws j ∷ [])
+
+module _ (j : Job) (sized : Sized j) (whole : Whole j) where
+  abbrev n : ℕ
+  n = j .«opening_count»
+
+  abbrev m : ℕ
+  m = j .«part_count»
+
+  openings-long : n ≤ length (j .openings)
+  openings-long = omega (arith, sized .openings, rw length-map at (whole .1 .1 .1 .1 .0 .1 .0 .1))
+
+  parts-long : m ≤ length (j .parts)
+  parts-long = omega (arith, sized .parts, rw length-map at (whole .1 .1 .1 .1 .1 .1 .0 .1 .0 .1))
+
+  pub opening-count : length (jobOf j .openings) ≡ n
+  opening-count = firsts-size openingOf (j .openings) n openings-long
+
+  pub part-count : length (jobOf j .parts) ≡ m
+  part-count = firsts-size (partOf n) (j .parts) m parts-long
+
+  opening-at : (i : ℕ) → i < n → getD (jobOf j .openings) i (openingOf blankOpening) ≡ openingOf (openingAt j i)
+  opening-at i h = firsts-at openingOf (j .openings) n openings-long i blankOpening (openingOf blankOpening) h
+
+  pub part-at : (k : ℕ) → k < m → getD (jobOf j .parts) k noPart ≡ partOf n (partAt j k)
+  part-at k h = firsts-at (partOf n) (j .parts) m parts-long k blankPart noPart h
+
+  -- the openings, seen through g
+  pub seen-count : {B : Type 0} (g : model.Opening → B) → length (map g (jobOf j .openings)) ≡ n
+  seen-count g = length-map (jobOf j .openings) g ∙ opening-count
+
+  pub seen-at : {B : Type 0} (g : model.Opening → B) (e : B) (i : ℕ) → i < n → getD (map g (jobOf j .openings)) i e ≡ g (openingOf (openingAt j i))
+  seen-at g e i h = map-at g (jobOf j .openings) i (openingOf blankOpening) e (rw opening-count h) ∙ ap g (opening-at i h)
+
+  module _ (valid : ValidJob (jobOf j)) where
+    pub valid-opening : (i : ℕ) → i < n → ValidOpening (openingOf (openingAt j i))
+    valid-opening i h = subst ValidOpening (opening-at i h) (all-at ValidOpening (jobOf j .openings) (openingOf blankOpening) i (valid .openings) (rw opening-count h))
+
+    pub valid-parts : All (ValidPart n) (jobOf j .parts)
+    valid-parts = subst (λ (x : ℕ). All (ValidPart x) (jobOf j .parts)) opening-count (valid .parts)
+
+    pub valid-part : (k : ℕ) → k < m → ValidPart n (partOf n (partAt j k))
+    valid-part k h = subst (ValidPart n) (part-at k h) (all-at (ValidPart n) (jobOf j .parts) noPart k valid-parts (rw part-count h))

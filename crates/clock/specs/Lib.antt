@@ -1,0 +1,2 @@
+-- Positions as the code holds them.
+pub mod Placed

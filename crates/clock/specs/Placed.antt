@@ -1,0 +1,30 @@
+-- Positions as the code holds them, and where they can lie.
+use Prim.Native.Nat.{ℕ, _+_, _≤_, _<_}
+use mathlib.Core.Path.{_≡_}
+use lib.ListN.{length, getD, take}
+use lib.IntN.{ℤ, pos, _-ℤ_}
+use Rattle.model.specs.Model.{Job, positions, end}
+use Rattle.clock.specs.declared.Positions.{Positions}
+
+-- "T + 1", for the longest horizon
+abbrev pub lastPosition : ℕ
+lastPosition = 366
+
+-- "`life` 1..1000"
+abbrev pub longestLife : ℕ
+longestLife = 1000
+
+-- where a step of an accepted job, or the end of its lives, can lie
+abbrev pub Position : ℤ → Type 0
+Position z = (k : ℕ) × (z ≡ pos k) × (k ≤ lastPosition)
+
+-- a change at `prev`, which may be R − L or a position, begins a life that ends at a position a: not before 0, and at most the longest life after the last position
+abbrev pub Begins : ℕ → ℤ → Type 0
+Begins life prev = (a : ℕ) × (prev ≡ pos a -ℤ pos life) × (a ≤ lastPosition + longestLife)
+
+-- the struct holds the positions of the job's openings, and the end of its lives
+pub record Placed (job : Job) (p : Positions) : Type 0 where
+  pub openings : take (length (job .openings)) (p .at) ≡ positions job
+  pub end : p .end ≡ end job
+  pub ranges : (i : ℕ) → i < length (job .openings) → Position (getD (p .at) i (pos 0))
+  pub end-range : Position (p .end)

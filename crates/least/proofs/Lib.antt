@@ -1,0 +1,4 @@
+pub mod Diff
+pub mod Table
+pub mod Most
+pub mod Rows

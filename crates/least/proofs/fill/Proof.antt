@@ -1,0 +1,129 @@
+-- `fill` makes the suffix table, from the last row up. The invariant: rows j and up are right.
+use Prim.Native.Nat.{_-_, _≤_}
+use mathlib.Core.Path.{_≡_, refl, _∙_}
+use native.Mathlib.Omega.{arith}
+use borrow.Author.Needs.{needs}
+use lib.ListN.{length}
+use mir.Facts.{toZ-ofZ}
+use mir.Val.{toZ}
+use mir.Syntax.{w32}
+use denote.Ref.{now}
+use Rattle.least.specs.Suffix.{Suffixes}
+use Rattle.least.proofs.Diff.{small-back, marks-back}
+use Rattle.least.proofs.Rows.{suffix-end, suffix-more, suffix-pred, suffix-zero}
+use Rattle.least.proofs.fill.Statement.{statement}
+use Rattle.least.proofs.fill.Tie as tie
+
+abbrev Inv-loop : tie.InvT-loop
+Inv-loop life end first positions prices allowed tab₀ j₀ tab j = (j ≤ length positions) × (length tab ≡ length tab₀) × Suffixes (toZ w32 life) (toZ w32 end) (toZ w32 first) positions prices allowed tab j
+
+abbrev μ-loop : tie.MeasureT-loop
+μ-loop life end first positions prices allowed tab₀ j₀ tab j = j
+
+fill-end-requires : tie.Need-fill-end-requires Inv-loop μ-loop
+fill-end-requires c κs =
+    let b = c .before .before .before .before in
+    (b .pre .0, b .pre .2 .few, small-back (b .args .end) (b .pre .1), marks-back (b .args .first) (now (b .args .positions)) (b .fits .first) (b .pre .2 .small))
+
+loop-holds : tie.Need-loop-holds Inv-loop μ-loop
+loop-holds c =
+    let b = c .before .before .before .before .before .before .before in
+    let g = b .pre .2 in (
+      search needs,
+      refl,
+      suffix-end _ _ _ (now (b .args .positions)) (now (b .args .prices)) (now (b .args .allowed)) (g .few) (g .flags) (λ x. omega (arith, c .before .before .before .before .before .before .shared-slice-known .given x))
+          (now (b .args .tab)) _ (b .pre .0) (c .before .before .fill-end .ensures),
+    )
+
+sub-j : tie.Need-sub-j Inv-loop μ-loop
+sub-j c = search needs
+
+add-rest : tie.Need-add-rest Inv-loop μ-loop
+add-rest c = search needs
+
+mul-rest : tie.Need-mul-rest Inv-loop μ-loop
+mul-rest c = search needs
+
+add-rest-2 : tie.Need-add-rest-2 Inv-loop μ-loop
+add-rest-2 c = search needs
+
+add-rest-3 : tie.Need-add-rest-3 Inv-loop μ-loop
+add-rest-3 c = search needs
+
+mul-rest-2 : tie.Need-mul-rest-2 Inv-loop μ-loop
+mul-rest-2 c = search needs
+
+slice-read-rest : tie.Need-slice-read-rest Inv-loop μ-loop
+slice-read-rest c = omega (arith, c .before .before .loop .inv .2 .size)
+
+mul-dearer : tie.Need-mul-dearer Inv-loop μ-loop
+mul-dearer c = search needs
+
+shared-slice-read-dearer : tie.Need-shared-slice-read-dearer Inv-loop μ-loop
+shared-slice-read-dearer c = search needs
+
+dearer-requires : tie.Need-dearer-requires Inv-loop μ-loop
+dearer-requires c κs = search needs
+
+shared-slice-read-fill-row : tie.Need-shared-slice-read-fill-row Inv-loop μ-loop
+shared-slice-read-fill-row c = search needs
+
+fill-row-requires : tie.Need-fill-row-requires Inv-loop μ-loop
+fill-row-requires c κs =
+    let b = c .before .before .before .before .before .before .before .before .before .before .before .before .before .before in
+    let l = c .before .before .before .before .before .before .loop in
+    (l .inv .2 .size, omega arith, b .pre .2 .few, marks-back (b .args .first) (now (b .args .positions)) (b .fits .first) (b .pre .2 .small))
+
+loop-less : tie.Need-loop-less Inv-loop μ-loop
+loop-less c = search needs
+
+loop-again : tie.Need-loop-again Inv-loop μ-loop
+loop-again c =
+    let l = c .before .before .before .before .before .before .before .before .before .loop in
+    let b = c .before .before .before .before .before .before .before .before .before .before .before .before .before .before .before .before .before in
+    let g = b .pre .2 in
+    let s = now (b .args .positions) in
+    let p = now (b .args .prices) in
+    let f = now (b .args .allowed) in (
+      search needs,
+      c .before .before .fill-row .ensures .size ∙ l .inv .1,
+      suffix-more _ _ _ s p f (g .few) (g .flags) (λ x. omega (arith, c .before .before .before .before .before .before .shared-slice-known3 .given x)) (l .tab) _ (l .j - 1) (c .before .before .before .before .before .dearer .result) (omega arith)
+          (suffix-pred _ _ _ s p f (l .tab) (l .j) (omega arith) (l .inv .2))
+          (c .before .before .before .before .before .dearer .ensures)
+          (c .before .before .fill-row .ensures),
+    )
+
+same-length : tie.Need-same-length Inv-loop μ-loop
+same-length c = c .before .loop .inv .1 ∙ c .before .before .before .before .fill-end .kept .1 .1 .1 .1 .0
+
+returns : tie.Need-returns Inv-loop μ-loop
+returns c =
+    let l = c .before .loop in
+    let b = c .before .before .before .before .before .before .before .before .before in
+    rw (toZ-ofZ (b .fits .life), toZ-ofZ (b .fits .end), toZ-ofZ (b .fits .first))
+    at (suffix-zero _ _ _ (now (b .args .positions)) (now (b .args .prices)) (now (b .args .allowed)) (l .tab) (l .j) (c .loop-test .left) (l .inv .2))
+
+pub fill-spec : {M : Type 1} → statement M
+fill-spec =
+    tie.close
+    (tie.spec
+    Inv-loop
+    μ-loop
+    fill-end-requires
+    loop-holds
+    sub-j
+    add-rest
+    mul-rest
+    add-rest-2
+    add-rest-3
+    mul-rest-2
+    slice-read-rest
+    mul-dearer
+    shared-slice-read-dearer
+    dearer-requires
+    shared-slice-read-fill-row
+    fill-row-requires
+    loop-less
+    loop-again
+    same-length
+    returns)

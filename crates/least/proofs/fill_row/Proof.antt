@@ -1,0 +1,134 @@
+-- `fill_row` writes row j from row j + 1. The invariant: its first i entries are written, and the rows above are kept.
+use Prim.Native.Nat.{suc, _+_, _-_, _≤_}
+use mathlib.Core.Path.{_≡_, _∙_, ap}
+use native.Mathlib.Omega.{arith}
+use borrow.Author.Needs.{needs}
+use lib.IntN.{pos}
+use lib.ListN.{getD}
+use mir.Facts.{toZ-ofZ}
+use mir.Val.{toZ}
+use mir.Syntax.{w32}
+use denote.Ref.{now}
+use Rattle.least.specs.Marks.{Small}
+use Rattle.least.specs.Suffix.{cell, codeOf, rowOf, Rowed}
+use Rattle.least.proofs.Rows.{rowed-none, rowed-more}
+use Rattle.least.proofs.Diff.{back, small-back, mark-small}
+use Rattle.least.proofs.fill_row.Statement.{statement}
+use Rattle.least.proofs.fill_row.Tie as tie
+
+abbrev Inv-loop : tie.InvT-loop
+Inv-loop life first positions j allowed chg tab₀ position i₀ tab i = (i ≤ j + 1) × Rowed (rowOf (toZ w32 life) (toZ w32 first) positions j allowed chg tab₀) tab₀ tab j i
+
+abbrev μ-loop : tie.MeasureT-loop
+μ-loop life first positions j allowed chg tab₀ position i₀ tab i = j + 1 - i
+
+mul-position : tie.Need-mul-position Inv-loop μ-loop
+mul-position c = search needs
+
+shared-slice-copy-out-position : tie.Need-shared-slice-copy-out-position Inv-loop μ-loop
+shared-slice-copy-out-position c = search needs
+
+loop-holds : tie.Need-loop-holds Inv-loop μ-loop
+loop-holds c = (search needs, rowed-none _ _ _)
+
+mark-requires : tie.Need-mark-requires Inv-loop μ-loop
+mark-requires c κs = search needs
+
+add-bound : tie.Need-add-bound Inv-loop μ-loop
+add-bound c = search needs
+
+mul-bound : tie.Need-mul-bound Inv-loop μ-loop
+mul-bound c = search needs
+
+add-bound-2 : tie.Need-add-bound-2 Inv-loop μ-loop
+add-bound-2 c = search needs
+
+mul-bound-2 : tie.Need-mul-bound-2 Inv-loop μ-loop
+mul-bound-2 c = omega arith
+
+slice-read-bound : tie.Need-slice-read-bound Inv-loop μ-loop
+slice-read-bound c = omega (arith, c .before .before .before .loop .inv .1 .size)
+
+bound-requires : tie.Need-bound-requires Inv-loop μ-loop
+bound-requires c κs = search needs
+
+at-opening-requires : tie.Need-at-opening-requires Inv-loop μ-loop
+at-opening-requires c κs =
+    let b = c .before .before .before .before .before .before .before in
+    let m = c .before .before .mark in (
+      mark-small (m .result) (b .args .first) (now (b .args .positions)) (c .before .before .before .before .loop .i) (m .ensures) (b .fits .first) (b .pre .3),
+      small-back (getD (now (b .args .positions)) (b .args .j) (pos 0)) (b .pre .3 (suc (b .args .j))),
+    )
+
+code-requires : tie.Need-code-requires Inv-loop μ-loop
+code-requires c κs = search needs
+
+mul-tab : tie.Need-mul-tab Inv-loop μ-loop
+mul-tab c = search needs
+
+add-tab : tie.Need-add-tab Inv-loop μ-loop
+add-tab c = search needs
+
+mul-tab-2 : tie.Need-mul-tab-2 Inv-loop μ-loop
+mul-tab-2 c = omega arith
+
+slice-write-tab : tie.Need-slice-write-tab Inv-loop μ-loop
+slice-write-tab c = omega (arith, c .before .before .before .before .before .before .loop .inv .1 .size)
+
+add-i : tie.Need-add-i Inv-loop μ-loop
+add-i c = search needs
+
+loop-less : tie.Need-loop-less Inv-loop μ-loop
+loop-less c = search needs
+
+loop-again : tie.Need-loop-again Inv-loop μ-loop
+loop-again c =
+    let l = c .before .before .before .before .before .before .loop in
+    let b = c .before .before .before .before .before .before .before .before .before in
+    let m = c .before .before .before .before .mark in
+    let h : Small (getD (now (b .args .positions)) (b .args .j) (pos 0)) = b .pre .3 (suc (b .args .j)) in
+    let a = l .inv .1 .above (cell (b .args .j + 1) (l .i)) (omega arith) in (
+      search needs,
+      rowed-more _ _ (b .args .j) (l .tab) (l .i) (c .code .result) (omega arith) (omega (arith, l .inv .1 .size))
+          (c .code .ensures ∙ ap codeOf
+          (rw (back (m .result) (m .ok), m .ensures, back (getD (now (b .args .positions)) (b .args .j) (pos 0)) (omega arith), c .before .before .bound .ensures, a) at (c .before .at-opening .ensures)))
+          (l .inv .1),
+    )
+
+same-length : tie.Need-same-length Inv-loop μ-loop
+same-length c = c .before .loop .inv .1 .size
+
+returns : tie.Need-returns Inv-loop μ-loop
+returns c =
+    let l = c .before .loop in
+    let b = c .before .before .before .before in
+    let e : l .i ≡ b .args .j + 1 = omega arith in
+    simp (toZ-ofZ (b .fits .life), toZ-ofZ (b .fits .first), e) at (l .inv .1)
+
+pub fill-row-spec : {M : Type 1} → statement M
+fill-row-spec =
+    tie.close
+    (tie.spec
+    Inv-loop
+    μ-loop
+    mul-position
+    shared-slice-copy-out-position
+    loop-holds
+    mark-requires
+    add-bound
+    mul-bound
+    add-bound-2
+    mul-bound-2
+    slice-read-bound
+    bound-requires
+    at-opening-requires
+    code-requires
+    mul-tab
+    add-tab
+    mul-tab-2
+    slice-write-tab
+    add-i
+    loop-less
+    loop-again
+    same-length
+    returns)

@@ -1,0 +1,4 @@
+pub mod Prefix
+pub mod Sizes
+pub mod Taken
+pub mod Viewed

@@ -1,0 +1,2 @@
+-- The record at a place of a list of parts (Records).
+pub mod Records

@@ -1,0 +1,51 @@
+-- How large the values of a judgement on an accepted job can be: a cost has at most ten digits, a part at most two, a due step at most three. By the job's ranges and the promise's values.
+use Prim.Native.Nat.{ℕ, _≤_}
+use mathlib.Core.Path.{_≡_, sym, subst}
+use mathlib.Core.List.{List, [], _∷_, map}
+use native.Mathlib.Omega.{arith}
+use lib.ListN.{length, length-map}
+use Rattle.model.specs.Model.{Opening, Job, Plan, feeOf, costOf}
+use Rattle.model.specs.Windows as windows
+use Rattle.model.specs.Verdict.{Judgement, accepts, unkept, wrongCost, Values, judgedOf, partAt, changesAt}
+use Rattle.model.proofs.Verdicts.{judge}
+use Rattle.model.proofs.Dues.{due-in-horizon}
+use Rattle.job_text.specs.Valid.{Rising, ValidJob}
+use Rattle.verdict.proofs.Sums.{sum-most, cheap-fees}
+use Rattle.verdict.proofs.Parts.{prices-most}
+
+-- sixty-four fees and sixteen times sixty-four prices, each of a million
+abbrev pub dearestPlan : ℕ
+dearestPlan = 1088000000
+
+-- each value is within its range
+abbrev pub Limited : Judgement → Type 0
+Limited (accepts cost) = cost ≤ dearestPlan
+Limited (unkept part due) = (1 ≤ part) × (part ≤ 16) × (due ≤ 365)
+Limited (wrongCost cost) = cost ≤ dearestPlan
+
+rising-steps : (h before : ℕ) (os : List Opening) → Rising h before os → windows.Rising before h (windows.stepsOf os)
+rising-steps h before [] r = tt
+rising-steps h before (o ∷ os) r = (r .0, r .1, rising-steps h (o .step) os (r .2))
+
+module _ (job : Job) (valid : ValidJob job) (plan : Plan) where
+  pub cost-most : costOf job plan ≤ dearestPlan
+  cost-most =
+      omega (
+        arith,
+        valid .few-openings,
+        valid .few-parts,
+        length-map (job .openings) feeOf,
+        sum-most (map feeOf (job .openings)) (plan .stops) (cheap-fees (job .openings) (valid .openings)),
+        prices-most (length (job .openings)) (valid .few-openings) (job .parts) (plan .changes) (valid .parts),
+      )
+
+  limited : (j : Judgement) → Values job plan j → Limited j
+  limited (accepts cost) v = omega (arith, v, cost-most)
+  limited (wrongCost cost) v = omega (arith, v, cost-most)
+  limited (unkept part due) v =
+      let d = due-in-horizon job (partAt job (v .place)) (changesAt plan (v .place)) due (v .gap) (rising-steps (job .horizon) 0 (job .openings) (valid .rising)) in
+      (omega (arith, v .number), omega (arith, v .number, v .is-part, valid .few-parts), omega (arith, d, valid .horizon-high))
+
+  -- what the judge says is limited
+  pub judged-limited : (cost : ℕ) (j : Judgement) → j ≡ judgedOf job cost plan → Limited j
+  judged-limited cost j e = subst Limited (sym e) (limited (judgedOf job cost plan) (judge job plan cost .values))

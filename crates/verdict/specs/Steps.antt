@@ -1,0 +1,24 @@
+-- What one step of each loop adds: one gap to the gaps before it, one part to the parts before it, one number to a sum.
+use Prim.Native.Nat.{ℕ}
+use mathlib.Core.Bool.{cond}
+use lib.IntN.{ℤ}
+use Rattle.model.specs.Model.{Job, within, dueOf}
+use Rattle.model.specs.Verdict.{Gaps, in-time, too-long, Verdict, keeps, late}
+
+-- one gap, from the change before to the next change or the end
+abbrev pub gapOf : Job → ℤ → ℤ → ℤ → Gaps
+gapOf job life prev next = cond (within life prev next) in-time (too-long (dueOf job life prev))
+
+-- the first of two that is too long
+abbrev pub firstLong : Gaps → Gaps → Gaps
+firstLong in-time b = b
+firstLong (too-long due) b = too-long due
+
+-- the lower part of two that is late
+abbrev pub lowerPart : Verdict → Verdict → Verdict
+lowerPart keeps b = b
+lowerPart (late part due) b = late part due
+
+-- the most that sixty-four fees, or one part's prices at sixty-four openings, can sum up to, each a million at most
+abbrev pub dearestSum : ℕ
+dearestSum = 64000000

@@ -1,0 +1,86 @@
+// The true cost of a plan: the fees of its stops plus the prices of its changes.
+use job_text::Job;
+use job_text::Part;
+use part_records::part_of;
+use plan_text::Plan;
+ghost use mathlib.Core.Path.{_≡_};
+ghost use mathlib.Core.List.{map};
+ghost use Prim.Native.Nat.{_+_, _≤_};
+ghost use lib.ListN.{take};
+ghost use Rattle.model.specs.Model.{sumAt, feeOf, pricesOf, costOf};
+ghost use Rattle.job_text.specs.Views.{jobOf, partOf, Sized};
+ghost use Rattle.job_text.specs.Valid.{ValidPart, ValidJob};
+ghost use Rattle.plan_text.specs.Views.{changesFor, planFor};
+ghost use Rattle.verdict.specs.Steps.{dearestSum};
+
+// A fee or a price more.
+fn plus(sum: u64, price: u32) -> u64
+    requires { ⌜ sum ≤ dearestSum ⌝ }
+    ensures { λ r. ⌜ r ≡ price + sum ⌝ }
+{
+    sum + price as u64
+}
+
+// The fees of the stops.
+fn fees_of(job: Job, stops: [bool; 64]) -> u64
+    requires { ⌜ Sized job × ValidJob (jobOf job) ⌝ }
+    ensures { λ r. ⌜ r ≡ sumAt (map feeOf (jobOf job .openings)) (take (job .«opening_count») stops) ⌝ }
+{
+    let mut sum: u64 = 0;
+    let mut k = job.opening_count;
+    while 0 < k {
+        k -= 1;
+        if stops[k] {
+            let o = job.openings[k];
+            sum = plus(sum, o.fee);
+        }
+    }
+    sum
+}
+
+// The prices of one part's changes, at the first n openings.
+fn part_prices(n: usize, part: Part, changes: [bool; 64]) -> u64
+    requires { ⌜ (n ≤ 64) × ValidPart n (partOf n part) ⌝ }
+    ensures { λ r. ⌜ r ≡ sumAt (take n (part .prices)) (take n changes) ⌝ }
+{
+    let mut sum: u64 = 0;
+    let mut k = n;
+    while 0 < k {
+        k -= 1;
+        if changes[k] {
+            sum = plus(sum, part.prices[k]);
+        }
+    }
+    sum
+}
+
+// The prices of every part's changes.
+fn prices_of(job: Job, plan: Plan) -> u64
+    requires { ⌜ Sized job × ValidJob (jobOf job) ⌝ }
+    ensures { λ r. ⌜ r ≡ pricesOf (jobOf job .parts) (changesFor job (plan .changes)) ⌝ }
+{
+    let n = job.opening_count;
+    let m = job.part_count;
+    let parts = job.parts;
+    let mut sum: u64 = 0;
+    let mut k = m;
+    while 0 < k {
+        k -= 1;
+        let part = part_of(parts, m, k);
+        let changed = plan.changes[k];
+        let changes = changed.at;
+        sum += part_prices(n, part, changes);
+    }
+    sum
+}
+
+// The cost of a plan: the fees of its stops plus the prices of its changes.
+pub fn cost_of(job: Job, plan: Plan) -> u64
+    requires { ⌜ Sized job × ValidJob (jobOf job) ⌝ }
+    ensures { λ r. ⌜ r ≡ costOf (jobOf job) (planFor job plan) ⌝ }
+{
+    let stops = plan.stops;
+    let fees = fees_of(job, stops);
+    let prices = prices_of(job, plan);
+    fees + prices
+}
