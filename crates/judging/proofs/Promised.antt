@@ -1,0 +1,228 @@
+-- The judge's answer keeps its promise on every pair of texts and every room (`promised`). By what each text reads as, and then by the judgement.
+use Prim.Native.Nat.{ℕ, _≤_, _<_}
+use mathlib.Core.Path.{_≡_, refl, sym, ap, _∙_, subst}
+use mathlib.Core.List.{List, []}
+use mathlib.Core.Logic.{_⊎_, inl, inr, _↔_}
+use native.Mathlib.Omega.{arith}
+use native.Mathlib.Decide.{decLt}
+use borrow.Author.Tests.{lt-ltb, le-ltb}
+use Rattle.lines.specs.Parser.{Outcome, accepted, refused}
+use Rattle.model.specs.Model.{Job, Plan, KeepsLives, costOf}
+use Rattle.model.specs.Verdict as verdict
+use Rattle.model.specs.Verdict.{Judgement, accepts, unkept, wrongCost, numberOf, judgedOf, AllKept, LowestUnkept, Shaped}
+use Rattle.model.proofs.Verdicts.{judge, lives-kept, kept-lives}
+use Rattle.job_text.specs.Grammar.{Given, readJob}
+use Rattle.job_text.specs.Views.{emptyJob}
+use Rattle.job_text.proofs.Numbered as job
+use Rattle.plan_text.specs.Grammar.{Stated, readPlan}
+use Rattle.plan_text.proofs.Numbered as plan
+use Rattle.plan_text.proofs.Shapes.{shaped}
+use Rattle.answers.specs.Said.{Said, Refuses, noPlan, plainly, refusal, saidOf, lent, bytesOf, costLines, unkeptLines}
+use Rattle.answers.proofs.Replies.{refuses}
+use Rattle.judging.specs.Judge.{outcomeOf, onPlan, onJob, judgeOutcome, judgeSaid, judgeRoom}
+use Rattle.judging.specs.Promise.{Reading, Keeps, trueCost, States, JudgePromise}
+
+module _ (jobText planText : List ℕ) (room : ℕ) where
+  -- ---- no room
+
+  short : room < judgeRoom → JudgePromise jobText planText room (plainly 8 [])
+  short h = record {
+    says-8 = (λ e. h, λ e. refl);
+    says-0 = (λ e. absurd (omega arith), λ r. absurd (omega (arith, r .0)));
+    says-10 = (λ e. absurd (omega arith), λ r. absurd (omega (arith, r .0)));
+    says-11 = (λ e. absurd (omega arith), λ r. absurd (omega (arith, r .0)));
+    writes-0 = λ r e. absurd (omega arith);
+    writes-10 = λ r e. absurd (omega arith);
+    writes-11 = λ r e. absurd (omega arith);
+    job-fault = λ e. absurd (omega arith);
+    plan-fault = λ e. absurd (omega arith);
+  }
+
+  -- ---- a text's fault
+
+  -- two readings of one text are one
+  one-given : {g h : Given} → readJob jobText ≡ accepted g → readJob jobText ≡ accepted h → h ≡ g
+  one-given e f = let x : accepted _ ≡ accepted _ = sym f ∙ e in cc
+
+  never : {A X : Type 0} {a : A} {n l : ℕ} → _≡_ {A = Outcome A} (accepted a) (refused n l) → X
+  never e = let z : _≡_ {A = ℕ} 0 1 = cc in absurd (omega arith)
+
+  abbrev answer : Outcome Given → Said
+  answer x = saidOf emptyJob noPlan (onJob jobText planText x)
+
+  refused-job : judgeRoom ≤ room → (n l : ℕ) → readJob jobText ≡ refused n l → JudgePromise jobText planText room (answer (refused n l))
+  refused-job h n l e = record {
+    says-8 = (λ f. absurd (omega (arith, k)), λ f. absurd (omega arith));
+    says-0 = (λ f. absurd (omega (arith, k)), λ r. no (r .1 .0));
+    says-10 = (λ f. absurd (omega (arith, k)), λ r. no (r .1 .0));
+    says-11 = (λ f. absurd (omega (arith, k)), λ r. no (r .1 .0));
+    writes-0 = λ r f. no r;
+    writes-10 = λ r f. no r;
+    writes-11 = λ r f. no r;
+    job-fault = λ m i j f. same i j (sym e ∙ f);
+    plan-fault = λ m g f. never (sym f ∙ e);
+  }
+    where
+      k : (1 ≤ n) × (n ≤ 5)
+      k = job.fault jobText n l e .0
+
+      no : {X : Type 0} → Reading jobText planText → X
+      no r = never (sym (r .job-read) ∙ e)
+
+      same : (i j : ℕ) → _≡_ {A = Outcome Given} (refused n l) (refused i j) → Refuses 1 jobText i j (answer (refused n l))
+      same i j x = let p : n ≡ i = cc in let q : l ≡ j = cc in refuses emptyJob noPlan 1 jobText n l i j p q
+
+  abbrev further : Given → Outcome Stated → Said
+  further g x = saidOf emptyJob noPlan (onPlan planText (g .job) x)
+
+  refused-plan : judgeRoom ≤ room → (g : Given) → readJob jobText ≡ accepted g → (n l : ℕ) → readPlan (g .job) planText ≡ refused n l
+      → JudgePromise jobText planText room (further g (refused n l))
+  refused-plan h g eg n l e = record {
+    says-8 = (λ f. absurd (other 8 (omega arith) (omega arith) f), λ f. absurd (omega arith));
+    says-0 = (λ f. absurd (low f), λ r. no (r .1 .0));
+    says-10 = (λ f. absurd (other 10 (omega arith) (omega arith) f), λ r. no (r .1 .0));
+    says-11 = (λ f. absurd (other 11 (omega arith) (omega arith) f), λ r. no (r .1 .0));
+    writes-0 = λ r f. no r;
+    writes-10 = λ r f. no r;
+    writes-11 = λ r f. no r;
+    job-fault = λ m i j f. never (sym eg ∙ f);
+    plan-fault = λ m g′ f i j q. same i j (sym e ∙ ap (λ (x : Given). readPlan (x .job) planText) (sym (one-given eg f)) ∙ q);
+  }
+    where
+      k : plan.PlanFault n
+      k = plan.fault (g .job) planText n l e .0
+
+      cases : {X : Type 0} → ((1 ≤ n) × (n ≤ 3) → X) → (n ≡ 9 → X) → plan.PlanFault n → X
+      cases a b (inl x) = a x
+      cases a b (inr x) = b x
+
+      other : (i : ℕ) → 3 < i → (i ≡ 9 → ⊥) → n ≡ i → ⊥
+      other i a b f = cases (λ x. omega (arith, x)) (λ x. b (sym f ∙ x)) k
+
+      low : n ≡ 0 → ⊥
+      low f = cases (λ x. omega (arith, x)) (λ x. omega arith) k
+
+      no : {X : Type 0} → Reading jobText planText → X
+      no r = never (sym (r .plan-read) ∙ ap (λ (x : Given). readPlan (x .job) planText) (one-given eg (r .job-read)) ∙ e)
+
+      same : (i j : ℕ) → _≡_ {A = Outcome Stated} (refused n l) (refused i j) → Refuses 2 planText i j (further g (refused n l))
+      same i j x = let p : n ≡ i = cc in let q : l ≡ j = cc in refuses emptyJob noPlan 2 planText n l i j p q
+
+  -- ---- two texts that read
+
+  module _ (h : judgeRoom ≤ room) (g : Given) (eg : readJob jobText ≡ accepted g) (st : Stated) (es : readPlan (g .job) planText ≡ accepted st) where
+    abbrev here : Reading jobText planText
+    here = record { given = g; stated = st; job-read = eg; plan-read = es }
+
+    shape : Shaped (g .job) (st .plan)
+    shape = let x = shaped (g .job) planText st es in record { stops = x .stops; parts = x .parts; sizes = x .changes; at-stops = λ i k h e. x .at-stops k i e }
+
+    -- any reading is this one
+    given-is : (r : Reading jobText planText) → r .given ≡ g
+    given-is r = one-given eg (r .job-read)
+
+    stated-is : (r : Reading jobText planText) → r .stated ≡ st
+    stated-is r =
+        let x : accepted (r .stated) ≡ accepted st = sym (r .plan-read) ∙ ap (λ (y : Given). readPlan (y .job) planText) (given-is r) ∙ es in
+        cc
+
+    -- what holds of a reading holds of this one, and back
+    moved : (P : Given → Stated → Type 0) (r : Reading jobText planText) → P (r .given) (r .stated) → P g st
+    moved P r p = subst (λ (x : Given). P x st) (given-is r) (subst (P (r .given)) (stated-is r) p)
+
+    moved-back : (P : Given → Stated → Type 0) (r : Reading jobText planText) → P g st → P (r .given) (r .stated)
+    moved-back P r p = subst (P (r .given)) (sym (stated-is r)) (subst (λ (x : Given). P x st) (sym (given-is r)) p)
+
+    abbrev kept : Given → Stated → Type 0
+    kept x y = KeepsLives (x .job) (y .plan)
+
+    abbrev stating : Given → Stated → Type 0
+    stating x y = y .cost ≡ costOf (x .job) (y .plan)
+
+    judged : verdict.JudgePromise (g .job) (st .cost) (st .plan) (judgedOf (g .job) (st .cost) (st .plan))
+    judged = judge (g .job) (st .plan) (st .cost)
+
+    all-kept : KeepsLives (g .job) (st .plan) → AllKept (g .job) (st .plan)
+    all-kept k = lives-kept (g .job) (st .plan) k
+
+    keeps : AllKept (g .job) (st .plan) → KeepsLives (g .job) (st .plan)
+    keeps k = kept-lives (g .job) (st .plan) shape k
+
+    abbrev said : Judgement → Said
+    said j = saidOf emptyJob noPlan (outcomeOf j)
+
+    result-is : (j : Judgement) → said j .result ≡ numberOf j
+    result-is (accepts c) = refl
+    result-is (unkept p d) = refl
+    result-is (wrongCost c) = refl
+
+    abbrev Values : Judgement → Type 0
+    Values j = verdict.Values (g .job) (st .plan) j
+
+    writes-0 : (j : Judgement) → Values j → numberOf j ≡ 0 → said j .bytes ≡ costLines 0 (costOf (g .job) (st .plan))
+    unfolding bytesOf
+    writes-0 (accepts c) v e = ap (costLines 0) v
+    writes-0 (unkept p d) v e = absurd (omega arith)
+    writes-0 (wrongCost c) v e = absurd (omega arith)
+
+    writes-10 : (j : Judgement) → Values j → numberOf j ≡ 10
+        → (part : ℕ) × ((due : ℕ) × (LowestUnkept (g .job) (st .plan) part due × (said j .bytes ≡ unkeptLines part due)))
+    unfolding bytesOf
+    writes-10 (accepts c) v e = absurd (omega arith)
+    writes-10 (unkept p d) v e = (p, (d, (v, refl)))
+    writes-10 (wrongCost c) v e = absurd (omega arith)
+
+    writes-11 : (j : Judgement) → Values j → numberOf j ≡ 11 → said j .bytes ≡ costLines 11 (costOf (g .job) (st .plan))
+    unfolding bytesOf
+    writes-11 (accepts c) v e = absurd (omega arith)
+    writes-11 (unkept p d) v e = absurd (omega arith)
+    writes-11 (wrongCost c) v e = ap (costLines 11) v
+
+    not-8 : (j : Judgement) → numberOf j ≡ 8 → ⊥
+    not-8 (accepts c) e = omega arith
+    not-8 (unkept p d) e = omega arith
+    not-8 (wrongCost c) e = omega arith
+
+    read : (j : Judgement) → verdict.JudgePromise (g .job) (st .cost) (st .plan) j → JudgePromise jobText planText room (said j)
+    read j p = record {
+      says-8 = (λ e. absurd (not-8 j (number e)), λ e. absurd (omega arith));
+      says-0 = (
+        λ e. let x = p .says-0 .0 (number e) in (h, (here, (keeps (x .0), x .1))),
+        λ r. result-is j ∙ p .says-0 .1 (all-kept (moved kept (r .1 .0) (r .1 .1 .0)), moved stating (r .1 .0) (r .1 .1 .1)),
+      );
+      says-10 = (
+        λ e. (h, (here, λ k. p .says-10 .0 (number e) (all-kept k))),
+        λ r. result-is j ∙ p .says-10 .1 (λ k. r .1 .1 (moved-back kept (r .1 .0) (keeps k))),
+      );
+      says-11 = (
+        λ e. let x = p .says-11 .0 (number e) in (h, (here, (keeps (x .0), x .1))),
+        λ r. result-is j ∙ p .says-11 .1 (all-kept (moved kept (r .1 .0) (r .1 .1 .0)), λ c. r .1 .1 .1 (moved-back stating (r .1 .0) c)),
+      );
+      writes-0 = λ r e. moved-back (λ x y. said j .bytes ≡ costLines 0 (costOf (x .job) (y .plan))) r (writes-0 j (p .values) (number e));
+      writes-10 = λ r e. moved-back
+          (λ x y. (part : ℕ) × ((due : ℕ) × (LowestUnkept (x .job) (y .plan) part due × (said j .bytes ≡ unkeptLines part due)))) r (writes-10 j (p .values) (number e));
+      writes-11 = λ r e. moved-back (λ x y. said j .bytes ≡ costLines 11 (costOf (x .job) (y .plan))) r (writes-11 j (p .values) (number e));
+      job-fault = λ m n l e. never (sym eg ∙ e);
+      plan-fault = λ m g′ f n l e. never (sym es ∙ ap (λ (x : Given). readPlan (x .job) planText) (sym (one-given eg f)) ∙ e);
+    }
+      where
+        number : {n : ℕ} → said j .result ≡ n → numberOf j ≡ n
+        number e = sym (result-is j) ∙ e
+
+  -- ---- all together
+
+  on-plan : judgeRoom ≤ room → (g : Given) → readJob jobText ≡ accepted g → (x : Outcome Stated) → readPlan (g .job) planText ≡ x → JudgePromise jobText planText room (further g x)
+  on-plan h g eg (accepted st) es = read h g eg st es (judgedOf (g .job) (st .cost) (st .plan)) (judged h g eg st es)
+  on-plan h g eg (refused n l) e = refused-plan h g eg n l e
+
+  on-job : judgeRoom ≤ room → (x : Outcome Given) → readJob jobText ≡ x → JudgePromise jobText planText room (answer x)
+  on-job h (accepted g) e = on-plan h g e (readPlan (g .job) planText) refl
+  on-job h (refused n l) e = refused-job h n l e
+
+  pub promised : JudgePromise jobText planText room (lent judgeRoom room (judgeSaid jobText planText))
+  unfolding judgeOutcome
+  promised = go (decLt room judgeRoom)
+    where
+      go : Dec (room < judgeRoom) → JudgePromise jobText planText room (lent judgeRoom room (judgeSaid jobText planText))
+      go (yes h) = rw (lt-ltb room judgeRoom h) (short h)
+      go (no n) = let h : judgeRoom ≤ room = omega (arith, n) in rw (le-ltb room judgeRoom h) (on-job h (readJob jobText) refl)
