@@ -1,0 +1,129 @@
+// The search of an accepted job: its numbers laid out in arrays, and the counted search over them.
+use clock::positions_of;
+use job_text::Job;
+use job_text::Part;
+use part_records::part_of;
+use search::Outcome;
+use search::search;
+use search::tables::STRIDE;
+ghost use mathlib.Core.Path.{_≡_};
+ghost use mathlib.Core.List.{map};
+ghost use Prim.Native.Nat.{ℕ, _+_, _-_, _≤_};
+ghost use lib.ListN.{length, getD, take};
+ghost use Rattle.model.specs.Model.{feeOf};
+ghost use Rattle.job_text.specs.Views.{jobOf, Sized};
+ghost use Rattle.job_text.specs.Valid.{ValidJob};
+ghost use Rattle.search.specs.Fill.{Span};
+ghost use Rattle.search.specs.Outcome.{Answers};
+ghost use Rattle.job_search.specs.Laid.{lifeOf, leftOf, Laid};
+
+// The life of each part, and what is left of its first life.
+struct Lives {
+    lives: [u32; 16],
+    lefts: [u32; 16],
+}
+
+// The fees of the openings.
+fn fees_of(job: Job) -> [u32; 64]
+    requires { ⌜ Sized job ⌝ }
+    ensures { λ r. ⌜ take (job .«opening_count») r ≡ map feeOf (jobOf job .openings) ⌝ }
+{
+    let n = job.opening_count;
+    let mut fees = [0u32; 64];
+    let mut i: usize = 0;
+    while i < n {
+        let o = job.openings[i];
+        fees[i] = o.fee;
+        i += 1;
+    }
+    fees
+}
+
+// A part's life.
+fn life_of(part: Part) -> u32
+    ensures { λ r. ⌜ r ≡ part .life ⌝ }
+{
+    part.life
+}
+
+// What is left of a part's first life.
+fn left_of(part: Part) -> u32
+    ensures { λ r. ⌜ r ≡ part .left ⌝ }
+{
+    part.left
+}
+
+// The lives of the parts.
+fn lives_of(job: Job) -> Lives
+    requires { ⌜ Sized job ⌝ }
+    ensures { λ r. ⌜ (take (job .«part_count») (r .lives) ≡ map lifeOf (jobOf job .parts)) × (take (job .«part_count») (r .lefts) ≡ map leftOf (jobOf job .parts)) ⌝ }
+{
+    let parts = job.parts;
+    let count = job.part_count;
+    let mut lives = [0u32; 16];
+    let mut lefts = [0u32; 16];
+    let mut q: usize = 0;
+    while q < count {
+        let part = part_of(parts, count, q);
+        lives[q] = life_of(part);
+        lefts[q] = left_of(part);
+        q += 1;
+    }
+    Lives { lives, lefts }
+}
+
+// One part's prices, from `at` on.
+fn put_prices(prices: &[u32], at: usize, flat: &mut [u32])
+    requires { ⌜ at + length (now prices) ≤ length (now flat) ⌝ }
+    ensures { λ _. ⌜ Span (λ (x : ℕ). getD (now (prices .entry)) (x - at) 0) (now (flat .entry)) (now (flat .exit)) at (at + length (now (prices .entry))) ⌝ }
+{
+    let mut i = 0;
+    while i < prices.len() {
+        flat[at + i] = prices[i];
+        i += 1;
+    }
+}
+
+// The prices of the parts, one part after the other.
+fn prices_of(job: Job) -> [u32; 1024]
+    requires { ⌜ Sized job ⌝ }
+    ensures { λ r. ⌜ Laid (jobOf job .parts) r ⌝ }
+{
+    let n = job.opening_count;
+    let parts = job.parts;
+    let count = job.part_count;
+    let mut flat = [0u32; 1024];
+    let mut q: usize = 0;
+    while q < count {
+        let part = part_of(parts, count, q);
+        let prices = part.prices;
+        put_prices(&prices[..n], q * STRIDE, &mut flat);
+        q += 1;
+    }
+    flat
+}
+
+// The search of an accepted job, with a limit on its nodes.
+pub fn search_job(job: Job, limit: u32) -> Outcome
+    requires { ⌜ Sized job × ValidJob (jobOf job) ⌝ }
+    ensures { λ r. ⌜ Answers (jobOf job) limit r ⌝ }
+{
+    let n = job.opening_count;
+    let count = job.part_count;
+    let placed = positions_of(job);
+    let positions = placed.at;
+    let fees = fees_of(job);
+    let wear = lives_of(job);
+    let lives = wear.lives;
+    let lefts = wear.lefts;
+    let prices = prices_of(job);
+    search(
+        placed.end,
+        &positions[..n],
+        &fees[..n],
+        &lives[..count],
+        &lefts[..count],
+        &prices,
+        limit as u64,
+    )
+}

@@ -1,0 +1,9 @@
+-- Laws of filling the tables, of the job behind them, and of the plan.
+pub mod Writing
+pub mod Filling
+pub mod Sheets
+pub mod Stops
+pub mod Answered
+pub mod Ranges
+pub mod Laying
+pub mod Example

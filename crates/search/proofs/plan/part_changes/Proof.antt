@@ -1,0 +1,100 @@
+-- `part_changes` is the tie rule's choice of part q within the stops.
+use Prim.Native.Nat.{_+_, _-_}
+use mathlib.Core.Path.{ap, _∙_}
+use mathlib.Core.Bool.{false}
+use mathlib.Core.List.{_++_}
+use native.Mathlib.Omega.{arith}
+use borrow.Author.Needs.{needs}
+use lib.ListN.{length, replicate}
+use mir.Facts.{toZ-ofZ}
+use Rattle.model.specs.LowerBound.{offers, choiceOf}
+use Rattle.least.proofs.Diff.{small-back}
+use Rattle.search.proofs.Filling.{numbers, own-is, own-length}
+use Rattle.search.proofs.plan.part_changes.Statement.{statement}
+use Rattle.search.proofs.plan.part_changes.Tie as tie
+
+-- `part_changes` is the tie rule's choice of part q within the stops.
+
+lane-value-requires : tie.Need-lane-value-requires
+lane-value-requires c κs = search needs
+
+lane-value-requires-2 : tie.Need-lane-value-requires-2
+lane-value-requires-2 c κs = search needs
+
+signed-requires : tie.Need-signed-requires
+signed-requires c κs =
+    let b = c .before .before .before .before .before .before .before .before in
+    omega (arith, c .before .lane-value .ensures, b .pre .0 .brief (b .args .q))
+
+last-change-requires : tie.Need-last-change-requires
+last-change-requires c κs =
+    let b = c .before .before .before .before .before .before .before .before .before in
+    (omega (arith, c .before .before .lane-value .ensures, b .pre .0 .brief (b .args .q)), omega (arith, c .before .lane-value2 .ensures, b .pre .0 .begun (b .args .q)))
+
+mul-choice : tie.Need-mul-choice
+mul-choice c = search needs
+
+mul-choice-2 : tie.Need-mul-choice-2
+mul-choice-2 c = search needs
+
+add-choice : tie.Need-add-choice
+add-choice c = search needs
+
+mul-choice-3 : tie.Need-mul-choice-3
+mul-choice-3 c = search needs
+
+sub-choice : tie.Need-sub-choice
+sub-choice c = search needs
+
+part-choice-start : tie.Need-part-choice-start
+part-choice-start c = search needs
+
+part-choice-end : tie.Need-part-choice-end
+part-choice-end c = search needs
+
+choice-requires : tie.Need-choice-requires
+choice-requires c κs =
+    let b = c .before .before .before .before .before .before .before .before .before .before .before .before in
+    let a = b .args in
+    let r = b .pre .0 in
+    let n = length (a .positions .now) in
+    let ps = a .prices .now in
+    let x = numbers (a .end) (a .positions .now) (a .fees .now) (a .lives .now) (a .lefts .now) ps (a .q) _ _ _ _ r (c .before .before .before .before .before .lane-value .ensures) (c .before .before .before .before .lane-value2 .ensures) (c .before .before .before .signed .ensures) (c .before .before .last-change .ensures) in (
+      b .pre .1,
+      small-back (a .end) (omega (arith, r .late)),
+      record { few = r .few; prices = ap length (own-is ps (a .q) n (b .pre .2) (r .few) (r .prices)) ∙ own-length ps (a .q) n (b .pre .2) (r .few) (r .prices); flags = b .pre .3; small = x .small },
+    )
+
+same-length : tie.Need-same-length
+same-length c = search needs
+
+returns : tie.Need-returns
+returns c =
+    let b = c .before .before .before .before .before .before .before .before .before .before .before .before .before .before .before in
+    let a = b .args in
+    let r = b .pre .0 in
+    let n = length (a .positions .now) in
+    let ps = a .prices .now in
+    let x = numbers (a .end) (a .positions .now) (a .fees .now) (a .lives .now) (a .lefts .now) ps (a .q) _ _ _ _ r (c .before .before .before .before .before .before .before .before .lane-value .ensures) (c .before .before .before .before .before .before .before .lane-value2 .ensures) (c .before .before .before .before .before .before .signed .ensures) (c .before .before .before .before .before .last-change .ensures) in
+    let end = toZ-ofZ (b .fits .end) in
+    let own = own-is ps (a .q) n (b .pre .2) (r .few) (r .prices) in
+    c .before .before .choice .ensures ∙ (λ i. choiceOf (x .life i) (end i) (x .first i) (offers (a .positions .now) (own i) (a .stops .now)) ++ replicate (64 - n) false)
+
+pub part-changes-spec : {M : Type 1} → statement M
+part-changes-spec =
+    tie.close
+    (tie.spec
+    lane-value-requires
+    lane-value-requires-2
+    signed-requires
+    last-change-requires
+    mul-choice
+    mul-choice-2
+    add-choice
+    mul-choice-3
+    sub-choice
+    part-choice-start
+    part-choice-end
+    choice-requires
+    same-length
+    returns)

@@ -1,0 +1,68 @@
+-- `search` answers the job, for each job that the arrays hold: the walk, the mask's stops and the rows of changes.
+use mathlib.Core.Path.{sym, subst}
+use native.Mathlib.Omega.{arith}
+use borrow.Author.Needs.{needs}
+use lib.ListN.{length, take}
+use lib.IntN.{ℤ}
+use mir.Facts.{toZ-ofZ}
+use Rattle.search.specs.Arrays.{sheetOf, Arrays}
+use Rattle.search.specs.Plan.{Chooses}
+use Rattle.search.proofs.Answered.{stops-length, answers}
+use Rattle.search.proofs.search.Statement.{statement}
+use Rattle.walk.specs.State.{Solves}
+use Rattle.search.proofs.search.Tie as tie
+
+slice-aggregate-walked : tie.Need-slice-aggregate-walked
+slice-aggregate-walked c = search needs
+
+walked-requires : tie.Need-walked-requires
+walked-requires c κs = search needs
+
+stops-of-requires : tie.Need-stops-of-requires
+stops-of-requires c κs = search needs
+
+array-share-prefix-stops : tie.Need-array-share-prefix-stops
+array-share-prefix-stops c = search needs
+
+slice-aggregate-changes : tie.Need-slice-aggregate-changes
+slice-aggregate-changes c = sym (stops-length (length (c .before .before .before .before .before .before .before .before .before .before .args .positions .now)) (c .before .before .before .before .walked .result .state .mask) (c .before .stops-of .result) (c .before .stops-of .ensures))
+
+slice-aggregate-changes-2 : tie.Need-slice-aggregate-changes-2
+slice-aggregate-changes-2 c = search needs
+
+changes-requires : tie.Need-changes-requires
+changes-requires c κs =
+    let b = c .before .before .before .before .before .before .before .before .before .before .before in
+    let a = b .args in
+    let r = b .pre .1 .arrays in (
+      subst (λ (x : ℤ). Arrays x (a .positions .now) (a .fees .now) (a .lives .now) (a .lefts .now) (a .prices .now)) (sym (toZ-ofZ (b .fits .end))) r,
+      omega (arith, c .before .before .before .before .before .walked .kept .1 .1 .1 .1 .1 .1 .1 .0),
+      stops-length (length (a .positions .now)) (c .before .before .before .before .before .walked .result .state .mask) (c .before .before .stops-of .result) (c .before .before .stops-of .ensures),
+    )
+
+returns : tie.Need-returns
+returns c =
+    λ job h.
+    let b = c .before .before .before .before .before .before .before .before .before .before .before .before .before in
+    let a = b .args in
+    let n = length (a .positions .now) in
+    let e = toZ-ofZ (b .fits .end) in
+    let s = c .before .before .before .before .before .before .before .walked .result in
+    let t = c .before .before .before .before .stops-of .result in
+    answers job (a .end) (a .positions .now) (a .fees .now) (a .lives .now) (a .lefts .now) (a .prices .now) h (a .limit) s
+    (subst (λ (x : ℤ). Solves (sheetOf x (a .positions .now) (a .fees .now) (a .lives .now) (a .lefts .now) (a .prices .now)) (a .limit) s) e (c .before .before .before .before .before .before .before .walked .ensures))
+    t (c .before .before .before .before .stops-of .ensures) (c .before .changes .result)
+    (subst (λ (x : ℤ). Chooses x (a .positions .now) (a .lives .now) (a .lefts .now) (a .prices .now) (take n t) (c .before .changes .result) (length (a .lives .now))) e (c .before .changes .ensures))
+
+pub search-spec : {M : Type 1} → statement M
+search-spec =
+    tie.close
+    (tie.spec
+    slice-aggregate-walked
+    walked-requires
+    stops-of-requires
+    array-share-prefix-stops
+    slice-aggregate-changes
+    slice-aggregate-changes-2
+    changes-requires
+    returns)

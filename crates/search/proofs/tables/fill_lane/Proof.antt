@@ -1,0 +1,69 @@
+-- `fill_lane` makes a part's lane, from its suffix table with every opening allowed.
+use mathlib.Core.Path.{refl, sym, _∙_}
+use mathlib.Core.Bool.{true}
+use borrow.Author.Needs.{needs}
+use lib.ListN.{length, take, replicate}
+use mir.Syntax.{w32}
+use mir.Val.{toZ, ofZ}
+use mir.Facts.{toZ-ofZ}
+use Rattle.least.proofs.Diff.{small-back, marks-back}
+use Rattle.search.proofs.Filling.{all-true, all-length, lane-done, filled-as}
+use Rattle.search.proofs.tables.fill_lane.Statement.{statement}
+use Rattle.search.proofs.tables.fill_lane.Tie as tie
+
+array-share-prefix-all : tie.Need-array-share-prefix-all
+array-share-prefix-all c = search needs
+
+slice-aggregate-fill : tie.Need-slice-aggregate-fill
+slice-aggregate-fill c = let b = c .before .before .before .before in sym (all-length (length (b .args .positions .now)) 64 (b .pre .0 .1))
+
+fill-requires : tie.Need-fill-requires
+fill-requires c κs =
+    let b = c .before .before .before .before .before in (
+      b .pre .0 .0,
+      small-back (b .args .end) (b .pre .0 .3),
+      record { few = b .pre .0 .1; prices = b .pre .0 .2; flags = all-length (length (b .args .positions .now)) 64 (b .pre .0 .1); small = marks-back (b .args .first) (b .args .positions .now) (b .fits .first) (b .pre .0 .4) },
+    )
+
+put-suffixes-requires : tie.Need-put-suffixes-requires
+put-suffixes-requires c κs = search needs
+
+put-reach-requires : tie.Need-put-reach-requires
+put-reach-requires c κs =
+    let b = c .before .before .before .before .before .before .before .before .before .before .before .before .before .before in
+    (b .pre .0 .1, marks-back (b .args .first) (b .args .positions .now) (b .fits .first) (b .pre .0 .4), b .pre .1 .0, c .before .before .before .put-suffixes .ensures .size ∙ b .pre .1 .1)
+
+put-prices-requires : tie.Need-put-prices-requires
+put-prices-requires c κs = search needs
+
+same-length : tie.Need-same-length
+same-length c = search needs
+
+same-length-2 : tie.Need-same-length-2
+same-length-2 c = search needs
+
+returns : tie.Need-returns
+returns c =
+    let b = c .before .before .before .before .before .before .before .before .before .before .before .before .before .before .before .before .before .before .before .before .before in
+    let a = b .args in
+    let L = toZ w32 (ofZ w32 (a .life)) in
+    let E = toZ w32 (ofZ w32 (a .end)) in
+    let F = toZ w32 (ofZ w32 (a .first)) in
+    let n = length (a .positions .now) in
+    filled-as E L F (a .positions .now) (a .prices .now) (a .end) (a .life) (a .first) (a .prices .now) (a .t .now) (c .before .before .put-prices .last .1 .1 .0) (a .q) (toZ-ofZ (b .fits .end)) (toZ-ofZ (b .fits .life)) (toZ-ofZ (b .fits .first)) refl
+    (lane-done L E F (a .positions .now) (a .prices .now) (take n (replicate 64 true)) (c .before .before .before .before .before .before .before .before .before .before .before .before .before .before .before .fill .last .1 .1 .1 .1 .1 .1 .0) (a .t .now) (c .before .before .before .before .before .before .before .before .before .before .put-suffixes .last .1 .1 .0) (c .before .before .before .before .before .before .put-reach .last .1 .1 .1 .1 .0) (c .before .before .put-prices .last .1 .1 .0) (a .q)
+    (b .pre .0 .1) (all-true n 64) (b .pre .0 .2) (b .pre .1 .2) (c .before .before .before .before .before .before .before .before .before .before .before .before .before .before .before .fill .ensures) (c .before .before .before .before .before .before .before .before .before .before .put-suffixes .ensures) (c .before .before .before .before .before .before .put-reach .ensures) (c .before .before .put-prices .ensures))
+
+pub fill-lane-spec : {M : Type 1} → statement M
+fill-lane-spec =
+    tie.close
+    (tie.spec
+    array-share-prefix-all
+    slice-aggregate-fill
+    fill-requires
+    put-suffixes-requires
+    put-reach-requires
+    put-prices-requires
+    same-length
+    same-length-2
+    returns)

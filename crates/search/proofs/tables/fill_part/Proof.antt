@@ -1,0 +1,106 @@
+-- `fill_part` makes the lane of part q, or past the last part that of one that never needs a change.
+use Prim.Native.Nat.{ℕ, _≤_}
+use mathlib.Core.Path.{sym, ap, subst, _∙_}
+use mathlib.Core.List.{List}
+use native.Mathlib.Omega.{arith}
+use borrow.Author.Needs.{needs}
+use lib.ListN.{length, getD}
+use lib.IntN.{pos}
+use mir.Facts.{toZ-ofZ}
+use Rattle.model.specs.Model.{lastChange}
+use Rattle.least.proofs.Diff.{small-back}
+use Rattle.search.specs.Arrays.{partAt}
+use Rattle.search.proofs.Filling.{numbers, own-is, own-length, own-cheap, filled-as}
+use Rattle.search.proofs.tables.fill_part.Statement.{statement}
+use Rattle.walk.specs.Layout.{top}
+use Rattle.search.proofs.tables.fill_part.Tie as tie
+
+-- `fill_part` makes the lane of part q, or past the last part that of one that never needs a change.
+
+lane-value-requires : tie.Need-lane-value-requires
+lane-value-requires c κs = search needs
+
+lane-value-requires-2 : tie.Need-lane-value-requires-2
+lane-value-requires-2 c κs = search needs
+
+signed-requires : tie.Need-signed-requires
+signed-requires c κs =
+    let b = c .before .before .before .before .before .before .before .before in
+    omega (arith, c .before .lane-value .ensures, b .pre .0 .brief (b .args .q))
+
+last-change-requires : tie.Need-last-change-requires
+last-change-requires c κs =
+    let b = c .before .before .before .before .before .before .before .before .before in
+    (omega (arith, c .before .before .lane-value .ensures, b .pre .0 .brief (b .args .q)), omega (arith, c .before .lane-value2 .ensures, b .pre .0 .begun (b .args .q)))
+
+mul-fill-lane : tie.Need-mul-fill-lane
+mul-fill-lane c = search needs
+
+mul-fill-lane-2 : tie.Need-mul-fill-lane-2
+mul-fill-lane-2 c = search needs
+
+add-fill-lane : tie.Need-add-fill-lane
+add-fill-lane c = search needs
+
+mul-fill-lane-3 : tie.Need-mul-fill-lane-3
+mul-fill-lane-3 c = search needs
+
+sub-fill-lane : tie.Need-sub-fill-lane
+sub-fill-lane c = search needs
+
+part-fill-lane-start : tie.Need-part-fill-lane-start
+part-fill-lane-start c = search needs
+
+part-fill-lane-end : tie.Need-part-fill-lane-end
+part-fill-lane-end c = search needs
+
+fill-lane-requires : tie.Need-fill-lane-requires
+fill-lane-requires c κs =
+    let b = c .before .before .before .before .before .before .before .before .before .before .before .before .before in
+    let a = b .args in
+    let r = b .pre .0 in
+    let n = length (a .positions .now) in
+    let ps = a .prices .now in
+    let w = own-is ps (a .q) n (b .pre .3) (r .few) (r .prices) in
+    let x = numbers (a .end) (a .positions .now) (a .fees .now) (a .lives .now) (a .lefts .now) ps (a .q) _ _ _ _ r (c .before .before .before .before .before .before .lane-value .ensures) (c .before .before .before .before .before .lane-value2 .ensures) (c .before .before .before .before .signed .ensures) (c .before .before .before .last-change .ensures) in (
+      (b .pre .1, r .few, ap length w ∙ own-length ps (a .q) n (b .pre .3) (r .few) (r .prices), small-back (a .end) (omega (arith, r .late)), x .small),
+      (b .pre .3, b .pre .2, λ j. subst (λ (x : List ℕ). getD x j 0 ≤ top) (sym w) (own-cheap ps (a .q) n (b .pre .3) (r .few) (r .prices) (r .cheap) j)),
+    )
+
+same-length : tie.Need-same-length
+same-length c = search needs
+
+same-length-2 : tie.Need-same-length-2
+same-length-2 c = search needs
+
+returns : tie.Need-returns
+returns c =
+    let b = c .before .before .before .before .before .before .before .before .before .before .before .before .before .before .before .before .before .before in
+    let a = b .args in
+    let r = b .pre .0 in
+    let n = length (a .positions .now) in
+    let ps = a .prices .now in
+    let part = partAt n (a .lives .now) (a .lefts .now) ps (a .q) in
+    let x = numbers (a .end) (a .positions .now) (a .fees .now) (a .lives .now) (a .lefts .now) ps (a .q) _ _ _ _ r (c .before .before .before .before .before .before .before .before .before .before .before .lane-value .ensures) (c .before .before .before .before .before .before .before .before .before .before .lane-value2 .ensures) (c .before .before .before .before .before .before .before .before .before .signed .ensures) (c .before .before .before .before .before .before .before .before .last-change .ensures) in
+    filled-as _ _ _ (a .positions .now) _ (a .end) (pos (part .life)) (lastChange part) (part .prices) (a .t .now) (c .before .before .before .before .fill-lane .last .1 .1 .1 .1 .1 .1 .1 .0) (a .q)
+    (toZ-ofZ (b .fits .end)) (x .life) (x .first) (own-is ps (a .q) n (b .pre .3) (r .few) (r .prices)) (c .before .before .before .before .fill-lane .ensures)
+
+pub fill-part-spec : {M : Type 1} → statement M
+fill-part-spec =
+    tie.close
+    (tie.spec
+    lane-value-requires
+    lane-value-requires-2
+    signed-requires
+    last-change-requires
+    mul-fill-lane
+    mul-fill-lane-2
+    add-fill-lane
+    mul-fill-lane-3
+    sub-fill-lane
+    part-fill-lane-start
+    part-fill-lane-end
+    fill-lane-requires
+    same-length
+    same-length-2
+    returns)

@@ -1,0 +1,88 @@
+-- `put_prices` writes a lane's prices. The invariant: the first j are written.
+use Prim.Native.Nat.{ℕ, _+_, _*_, _-_, _≤_}
+use mathlib.Core.Path.{_≡_, ap, subst}
+use native.Mathlib.Omega.{arith}
+use borrow.Author.Needs.{needs}
+use lib.ListN.{length, getD, set}
+use Rattle.search.specs.Fill.{Wrote}
+use Rattle.search.proofs.Writing.{wrote-none, wrote-more}
+use Rattle.search.proofs.tables.put_prices.Statement.{statement}
+use Rattle.walk.specs.Layout.{laneCount, priceRow}
+use Rattle.search.proofs.tables.put_prices.Tie as tie
+
+abbrev Inv-loop : tie.InvT-loop
+Inv-loop prices q t₀ j₀ t j = (j ≤ length prices) × Wrote (λ (y : ℕ). getD prices (y - priceRow) 0) t₀ t q priceRow (priceRow + j)
+
+abbrev μ-loop : tie.MeasureT-loop
+μ-loop prices q t₀ j₀ t j = length prices - j
+
+loop-holds : tie.Need-loop-holds Inv-loop μ-loop
+loop-holds c = let a = c .args in (omega arith, wrote-none (λ (y : ℕ). getD (a .prices .now) (y - priceRow) 0) (a .t .now) (a .q) priceRow)
+
+mul-t : tie.Need-mul-t Inv-loop μ-loop
+mul-t c = search needs
+
+shared-slice-read-t : tie.Need-shared-slice-read-t Inv-loop μ-loop
+shared-slice-read-t c = search needs
+
+add-t : tie.Need-add-t Inv-loop μ-loop
+add-t c = search needs
+
+mul-t-2 : tie.Need-mul-t-2 Inv-loop μ-loop
+mul-t-2 c = search needs
+
+add-t-2 : tie.Need-add-t-2 Inv-loop μ-loop
+add-t-2 c = search needs
+
+mul-t-3 : tie.Need-mul-t-3 Inv-loop μ-loop
+mul-t-3 c = search needs
+
+slice-write-t : tie.Need-slice-write-t Inv-loop μ-loop
+slice-write-t c = search needs
+
+add-j : tie.Need-add-j Inv-loop μ-loop
+add-j c = search needs
+
+loop-less : tie.Need-loop-less Inv-loop μ-loop
+loop-less c = search needs
+
+loop-again : tie.Need-loop-again Inv-loop μ-loop
+loop-again c =
+    let a = c .before .before .before .args in
+    let l = c .before .before .loop in
+    let z : priceRow + l .j + 1 ≡ priceRow + (l .j + 1) = omega arith in
+    let y : l .j ≡ priceRow + l .j - priceRow = omega arith in (
+      omega arith,
+      subst (Wrote (λ (y : ℕ). getD (a .prices .now) (y - priceRow) 0) (a .t .now) (set (l .t) ((priceRow + l .j) * laneCount + a .q) (getD (a .prices .now) (l .j) 0)) (a .q) priceRow) z
+          (wrote-more (λ (y : ℕ). getD (a .prices .now) (y - priceRow) 0) (a .t .now) (a .q) priceRow (l .t) (priceRow + l .j) (getD (a .prices .now) (l .j) 0) (omega arith) (omega arith) (omega arith) (ap (λ (k : ℕ). getD (a .prices .now) k 0) y) (l .inv .1)),
+    )
+
+same-length : tie.Need-same-length Inv-loop μ-loop
+same-length c = search needs
+
+returns : tie.Need-returns Inv-loop μ-loop
+returns c =
+    let a = c .before .before .args in
+    let l = c .before .loop in
+    let z : priceRow + l .j ≡ priceRow + length (a .prices .now) = omega arith in
+    subst (Wrote (λ (y : ℕ). getD (a .prices .now) (y - priceRow) 0) (a .t .now) (l .t) (a .q) priceRow) z (l .inv .1)
+
+pub put-prices-spec : {M : Type 1} → statement M
+put-prices-spec =
+    tie.close
+    (tie.spec
+    Inv-loop
+    μ-loop
+    loop-holds
+    mul-t
+    shared-slice-read-t
+    add-t
+    mul-t-2
+    add-t-2
+    mul-t-3
+    slice-write-t
+    add-j
+    loop-less
+    loop-again
+    same-length
+    returns)

@@ -1,0 +1,83 @@
+-- `put_suffixes` copies a part's suffix table into its lane. The invariant: the first y rows are written.
+use Prim.Native.Nat.{ℕ, _-_, _≤_, min}
+use mathlib.Core.Path.{_≡_, subst}
+use native.Mathlib.Omega.{arith}
+use borrow.Author.Needs.{needs}
+use lib.ListN.{getD}
+use Rattle.search.specs.Fill.{Wrote}
+use Rattle.search.proofs.Writing.{wrote-none, wrote-more}
+use Rattle.search.proofs.tables.put_suffixes.Statement.{statement}
+use Rattle.walk.specs.Layout.{inf, blockRows}
+use Rattle.search.proofs.tables.put_suffixes.Tie as tie
+
+abbrev Inv-loop : tie.InvT-loop
+Inv-loop tab q t₀ y₀ t y = (y ≤ blockRows) × Wrote (λ (y : ℕ). min (getD tab y 0) inf) t₀ t q 0 y
+
+abbrev μ-loop : tie.MeasureT-loop
+μ-loop tab q t₀ y₀ t y = blockRows - y
+
+loop-holds : tie.Need-loop-holds Inv-loop μ-loop
+loop-holds c = let a = c .before .before .args in (omega arith, wrote-none (λ (y : ℕ). min (getD (a .tab .now) y 0) inf) (a .t .now) (a .q) 0)
+
+mul-capped : tie.Need-mul-capped Inv-loop μ-loop
+mul-capped c = search needs
+
+shared-slice-read-capped : tie.Need-shared-slice-read-capped Inv-loop μ-loop
+shared-slice-read-capped c = search needs
+
+capped-requires : tie.Need-capped-requires Inv-loop μ-loop
+capped-requires c κs = tt
+
+mul-t : tie.Need-mul-t Inv-loop μ-loop
+mul-t c = search needs
+
+add-t : tie.Need-add-t Inv-loop μ-loop
+add-t c = search needs
+
+mul-t-2 : tie.Need-mul-t-2 Inv-loop μ-loop
+mul-t-2 c = search needs
+
+slice-write-t : tie.Need-slice-write-t Inv-loop μ-loop
+slice-write-t c = search needs
+
+add-y : tie.Need-add-y Inv-loop μ-loop
+add-y c = search needs
+
+loop-less : tie.Need-loop-less Inv-loop μ-loop
+loop-less c = search needs
+
+loop-again : tie.Need-loop-again Inv-loop μ-loop
+loop-again c =
+    let a = c .before .before .before .before .before .before .args in
+    let l = c .before .before .before .loop in
+    (omega arith, wrote-more (λ (y : ℕ). min (getD (a .tab .now) y 0) inf) (a .t .now) (a .q) 0 (l .t) (l .y) (c .capped .result) (omega arith) (omega arith) (omega arith) (c .capped .ensures) (l .inv .1))
+
+same-length : tie.Need-same-length Inv-loop μ-loop
+same-length c = search needs
+
+returns : tie.Need-returns Inv-loop μ-loop
+returns c =
+    let a = c .before .before .before .before .args in
+    let l = c .before .loop in
+    let z : l .y ≡ blockRows = omega arith in
+    subst (Wrote (λ (y : ℕ). min (getD (a .tab .now) y 0) inf) (a .t .now) (l .t) (a .q) 0) z (l .inv .1)
+
+pub put-suffixes-spec : {M : Type 1} → statement M
+put-suffixes-spec =
+    tie.close
+    (tie.spec
+    Inv-loop
+    μ-loop
+    loop-holds
+    mul-capped
+    shared-slice-read-capped
+    capped-requires
+    mul-t
+    add-t
+    mul-t-2
+    slice-write-t
+    add-y
+    loop-less
+    loop-again
+    same-length
+    returns)

@@ -1,0 +1,50 @@
+-- `walked` is the search of the sheet: the tables, filled, and `solve` over them.
+use mathlib.Core.Path.{sym, subst}
+use borrow.Author.Needs.{needs}
+use lib.IntN.{ℤ}
+use mir.Syntax.{w32}
+use mir.Val.{toZ, ofZ}
+use mir.Facts.{toZ-ofZ}
+use Rattle.search.specs.Arrays.{Arrays, sheetOf}
+use Rattle.search.proofs.walked.Statement.{statement}
+use Rattle.search.proofs.walked.Tie as tie
+
+slice-aggregate-fill : tie.Need-slice-aggregate-fill
+slice-aggregate-fill c = search needs
+
+fill-requires : tie.Need-fill-requires
+fill-requires c κs =
+    let b = c .before .before .before .before .before .before .before in
+    let a = b .args in
+    (subst (λ (x : ℤ). Arrays x (a .positions .now) (a .fees .now) (a .lives .now) (a .lefts .now) (a .prices .now)) (sym (toZ-ofZ (b .fits .end))) (b .pre .0), b .pre .1, search needs)
+
+slice-aggregate-solve : tie.Need-slice-aggregate-solve
+slice-aggregate-solve c = search needs
+
+slice-aggregate-solve-2 : tie.Need-slice-aggregate-solve-2
+slice-aggregate-solve-2 c = search needs
+
+solve-requires : tie.Need-solve-requires
+solve-requires c κs = search needs
+
+same-length : tie.Need-same-length
+same-length c = search needs
+
+returns : tie.Need-returns
+returns c =
+    let b = c .before .before .before .before .before .before .before .before .before .before .before .before .before .before .before in
+    let a = b .args in
+    let sheet = sheetOf (toZ w32 (ofZ w32 (a .end))) (a .positions .now) (a .fees .now) (a .lives .now) (a .lefts .now) (a .prices .now) in
+    rw (toZ-ofZ (b .fits .end)) at (c .before .solve .ensures sheet (c .before .before .before .before .before .before .before .fill .ensures))
+
+pub walked-spec : {M : Type 1} → statement M
+walked-spec =
+    tie.close
+    (tie.spec
+    slice-aggregate-fill
+    fill-requires
+    slice-aggregate-solve
+    slice-aggregate-solve-2
+    solve-requires
+    same-length
+    returns)

@@ -1,0 +1,68 @@
+-- The arrays of a job as the search is handed them, and the sheet that they make: sixteen columns, where those past the last part never need a change.
+use Prim.Native.Nat.{ℕ, zero, suc, _*_, _<_, _≤_}
+use mathlib.Core.Path.{_≡_}
+use mathlib.Core.List.{List, [], _∷_, map}
+use lib.ListN.{length, getD, take, drop}
+use lib.IntN.{ℤ, pos}
+use lib.Signed.{mag}
+use Rattle.model.specs.Model.{Part, Job, positions, end, lastChange, feeOf}
+use Rattle.walk.specs.Layout.{laneCount, top}
+use Rattle.walk.specs.Sheet.{Column, Sheet}
+
+-- the prices of part q stand from q * 64 on
+abbrev pub priceStride : ℕ
+priceStride = 64
+
+abbrev pub priceSize : ℕ
+priceSize = 1024
+
+-- the longest life; also the life and first life of a lane past the last part, which so outlives every horizon
+abbrev pub longest : ℕ
+longest = 1000
+
+-- the last position, one past the longest horizon
+abbrev pub lastPosition : ℕ
+lastPosition = 366
+
+-- part q of the arrays: ls lives, rs first lives, ps prices at n openings
+abbrev pub partAt : ℕ → List ℕ → List ℕ → List ℕ → ℕ → Part
+partAt n ls rs ps q = record { life = getD ls q longest; left = getD rs q longest; prices = take n (drop (q * priceStride) ps) }
+
+-- a part that is none of the job's
+abbrev pub noPart : Part
+noPart = record { life = 0; left = 0; prices = [] }
+
+-- a part as its lane has it
+abbrev pub columnOf : Part → Column
+columnOf part = record { life = pos (part .life); first = lastChange part; prices = part .prices }
+
+-- k columns from q on
+unfoldable pub columnsFrom : ℕ → List ℕ → List ℕ → List ℕ → ℕ → ℕ → List Column
+columnsFrom n ls rs ps q zero = []
+columnsFrom n ls rs ps q (suc k) = columnOf (partAt n ls rs ps q) ∷ columnsFrom n ls rs ps (suc q) k
+
+abbrev pub sheetOf : ℤ → List ℤ → List ℕ → List ℕ → List ℕ → List ℕ → Sheet
+sheetOf e ss fs ls rs ps = record { end = e; positions = ss; fees = fs; columns = columnsFrom (length ss) ls rs ps 0 laneCount }
+
+-- the arrays' lengths and ranges: e the end, ss positions, fs fees, ls lives, rs first lives, ps prices
+pub record Arrays (e : ℤ) (ss : List ℤ) (fs ls rs ps : List ℕ) : Type 0 where
+  pub few : length ss ≤ 64
+  pub paid : length fs ≡ length ss
+  pub lanes : length ls ≤ laneCount
+  pub lefts : length rs ≡ length ls
+  pub prices : length ps ≡ priceSize
+  pub fair : (j : ℕ) → getD fs j 0 ≤ top
+  pub cheap : (j : ℕ) → getD ps j 0 ≤ top
+  pub brief : (q : ℕ) → getD ls q longest ≤ longest
+  pub begun : (q : ℕ) → getD rs q longest ≤ longest
+  pub near : (j : ℕ) → mag (getD ss j (pos 0)) ≤ lastPosition
+  pub late : mag e ≤ lastPosition
+
+-- the arrays hold the job
+pub record Holds (job : Job) (e : ℤ) (ss : List ℤ) (fs ls rs ps : List ℕ) : Type 0 where
+  pub arrays : Arrays e ss fs ls rs ps
+  pub ends : e ≡ end job
+  pub places : ss ≡ positions job
+  pub fees : fs ≡ map feeOf (job .openings)
+  pub parts : length (job .parts) ≡ length ls
+  pub part : (q : ℕ) → q < length ls → getD (job .parts) q noPart ≡ partAt (length ss) ls rs ps q

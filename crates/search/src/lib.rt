@@ -1,0 +1,97 @@
+// The planner's search: the tables of a job, the counted walk over them, and the plan of its incumbent.
+pub mod plan;
+pub mod tables;
+
+ghost use mathlib.Core.Path.{_≡_};
+ghost use Prim.Native.Nat.{ℕ, _≤_};
+ghost use lib.ListN.{length};
+ghost use Rattle.model.specs.Model.{Job};
+ghost use Rattle.least.specs.Suffix.{tableSize};
+ghost use Rattle.walk.specs.State.{Solves};
+ghost use Rattle.search.specs.Arrays.{sheetOf, Arrays, Holds};
+ghost use Rattle.search.specs.Outcome.{Answers};
+use branch::Bound;
+use least::TABLE;
+use plan::changes;
+use plan::stops_of;
+use tables::fill;
+use walk::Solved;
+use walk::rows::STACK;
+use walk::rows::TABLES;
+use walk::solve;
+
+// One part's changes: a flag for each opening.
+pub struct Row {
+    pub at: [bool; 64],
+}
+
+// The nodes walked, whether there are more, the incumbent and its cost, the floor, and the incumbent's plan.
+pub struct Outcome {
+    pub count: u64,
+    pub over: bool,
+    pub found: bool,
+    pub cost: u64,
+    pub floor: Bound,
+    pub stops: [bool; 64],
+    pub changes: [Row; 16],
+}
+
+// The floor and the walk's last state. The tables stand on the stack of this call.
+fn walked(
+    end: i32,
+    positions: &[i32],
+    fees: &[u32],
+    lives: &[u32],
+    lefts: &[u32],
+    prices: &[u32],
+    limit: u64,
+    tab: &mut [u64],
+) -> Solved
+    requires { ⌜ (Arrays end (now positions) (now fees) (now lives) (now lefts) (now prices)) × (tableSize ≤ length (now tab)) ⌝ }
+    ensures { λ r. ⌜ Solves (sheetOf end (now (positions .entry)) (now (fees .entry)) (now (lives .entry)) (now (lefts .entry)) (now (prices .entry))) limit r ⌝ }
+{
+    let mut t = [0; TABLES];
+    let mut w = [0; STACK];
+    fill(end, positions, fees, lives, lefts, prices, tab, &mut t);
+    solve(&t, &mut w, limit)
+}
+
+// The search of a job with a limit on its nodes: positions and fees of the openings, lives and first lives of the parts, 64 prices for each part.
+pub fn search(
+    end: i32,
+    positions: &[i32],
+    fees: &[u32],
+    lives: &[u32],
+    lefts: &[u32],
+    prices: &[u32],
+    limit: u64,
+) -> Outcome
+    requires { ⌜ ((job : Job) × Holds job end (now positions) (now fees) (now lives) (now lefts) (now prices)) ⌝ }
+    ensures { λ r. ⌜ ((job : Job) → Holds job end (now (positions .entry)) (now (fees .entry)) (now (lives .entry)) (now (lefts .entry)) (now (prices .entry)) → Answers job limit r) ⌝ }
+{
+    let mut tab = [0; TABLE];
+    let solved = walked(end, positions, fees, lives, lefts, prices, limit, &mut tab);
+    let state = solved.state;
+    let floor = solved.floor;
+    let n = positions.len();
+    let stops = stops_of(state.mask, n);
+    let rows = changes(
+        end,
+        positions,
+        fees,
+        lives,
+        lefts,
+        prices,
+        &stops[..n],
+        &mut tab,
+    );
+    Outcome {
+        count: state.count,
+        over: state.over,
+        found: state.found,
+        cost: state.cost,
+        floor,
+        stops,
+        changes: rows,
+    }
+}

@@ -1,0 +1,276 @@
+// Filling the tables of the walk, one lane after the other.
+ghost use mathlib.Core.Path.{_≡_};
+ghost use mathlib.Core.Bool.{true};
+ghost use Prim.Native.Nat.{ℕ, _+_, _-_, _*_, _<_, _≤_, min};
+ghost use lib.ListN.{length, getD};
+ghost use lib.IntN.{pos};
+ghost use Rattle.least.specs.Marks.{Small, markOf};
+ghost use Rattle.least.specs.Suffix.{tableSize};
+ghost use Rattle.walk.specs.Layout.{laneCount, markCount, top, inf, blockRows, blockSize, priceRow, feeBase, countPlace, suffixBase, reachBase, suffixCuts, reachCuts, tablesSize};
+ghost use Rattle.walk.specs.Tables.{Tables};
+ghost use Rattle.search.specs.Arrays.{longest, priceStride, priceSize, partAt, columnOf, sheetOf, Arrays};
+ghost use Rattle.search.specs.Fill.{Wrote, reachOf, reachAt, column, LaneFilled, Span, Lanes, Dead, Cuts};
+use least::MARKS;
+use walk::rows::COUNT;
+use walk::rows::FEES;
+use walk::rows::INF;
+use walk::rows::LANES;
+use walk::rows::REACH_CUTS;
+use walk::rows::REACHES;
+use walk::rows::SUFFIX_CUTS;
+use walk::rows::SUFFIXES;
+
+// The rows of a block, and the row where the prices start.
+const BLOCK_ROWS: usize = 4225;
+
+const PRICE_ROW: usize = 8450;
+
+// The prices of part q stand from q * 64 on.
+pub const STRIDE: usize = 64;
+
+// The longest life, and that of a lane past the last part.
+const LONGEST: u32 = 1000;
+
+// Part q's number; past the last part one that outlives every horizon.
+pub fn lane_value(values: &[u32], q: usize) -> u32
+    ensures { λ r. ⌜ r ≡ getD (now (values .entry)) q longest ⌝ }
+{
+    if q < values.len() { values[q] } else { LONGEST }
+}
+
+// Part q's prices are laid where the search reads them.
+pub fn lay_prices(row: [u32; 64], q: usize, flat: &mut [u32])
+    requires { ⌜ (q < laneCount) × (length (now flat) ≡ priceSize) ⌝ }
+    ensures { λ _. ⌜ Span (λ (x : ℕ). getD row (x - q * priceStride) 0) (now (flat .entry)) (now (flat .exit)) (q * priceStride) (q * priceStride + priceStride) ⌝ }
+{
+    let start = q * STRIDE;
+    let mut j = 0;
+    while j < STRIDE {
+        flat[start + j] = row[j];
+        j += 1;
+    }
+}
+
+// A life as a signed number.
+pub fn signed(x: u32) -> i32
+    requires { ⌜ x ≤ longest ⌝ }
+    ensures { λ r. ⌜ r ≡ pos x ⌝ }
+{
+    x as i32
+}
+
+// A number of a part's own table, as a lane has it.
+fn capped(v: u64) -> u32
+    ensures { λ r. ⌜ r ≡ min v inf ⌝ }
+{
+    if v < INF as u64 { v as u32 } else { INF }
+}
+
+// 0 where opening j is in reach of mark i.
+fn reach(life: i32, first: i32, positions: &[i32], j: usize, i: usize) -> u32
+    requires { ⌜ (j < length (now positions)) × ((k : ℕ) → Small (markOf first (now positions) k)) ⌝ }
+    ensures { λ r. ⌜ r ≡ reachOf life first (now (positions .entry)) j i ⌝ }
+{
+    if positions.len() < i {
+        return INF;
+    }
+    if least::in_reach(life, least::mark(first, positions, i), positions[j]) {
+        0
+    } else {
+        INF
+    }
+}
+
+// One lane of the suffix prices, from a part's own table.
+fn put_suffixes(tab: &[u64], q: usize, t: &mut [u32])
+    requires { ⌜ (blockRows ≤ length (now tab)) × (q < laneCount) × (length (now t) ≡ tablesSize) ⌝ }
+    ensures { λ _. ⌜ Wrote (λ (y : ℕ). min (getD (now (tab .entry)) y 0) inf) (now (t .entry)) (now (t .exit)) q 0 blockRows ⌝ }
+{
+    for y in 0..BLOCK_ROWS {
+        t[y * LANES + q] = capped(tab[y]);
+    }
+}
+
+// One lane of the reach.
+fn put_reach(life: i32, first: i32, positions: &[i32], q: usize, t: &mut [u32])
+    requires { ⌜ (length (now positions) ≤ 64) × ((k : ℕ) → Small (markOf first (now positions) k)) × (q < laneCount) × (length (now t) ≡ tablesSize) ⌝ }
+    ensures { λ _. ⌜ Wrote (reachAt life first (now (positions .entry))) (now (t .entry)) (now (t .exit)) q blockRows (blockRows + length (now (positions .entry)) * markCount) ⌝ }
+{
+    let n = positions.len() * MARKS;
+    let mut x = 0;
+    while x < n {
+        t[(BLOCK_ROWS + x) * LANES + q] = reach(life, first, positions, x / MARKS, x % MARKS);
+        x += 1;
+    }
+}
+
+// One lane of the prices.
+fn put_prices(prices: &[u32], q: usize, t: &mut [u32])
+    requires { ⌜ (length (now prices) ≤ 64) × (q < laneCount) × (length (now t) ≡ tablesSize) ⌝ }
+    ensures { λ _. ⌜ Wrote (λ (y : ℕ). getD (now (prices .entry)) (y - priceRow) 0) (now (t .entry)) (now (t .exit)) q priceRow (priceRow + length (now (prices .entry))) ⌝ }
+{
+    let mut j = 0;
+    while j < prices.len() {
+        t[(PRICE_ROW + j) * LANES + q] = prices[j];
+        j += 1;
+    }
+}
+
+// All of a part's lane.
+fn fill_lane(
+    life: i32,
+    end: i32,
+    first: i32,
+    positions: &[i32],
+    prices: &[u32],
+    q: usize,
+    tab: &mut [u64],
+    t: &mut [u32],
+)
+    requires { ⌜ (tableSize ≤ length (now tab)) × (length (now positions) ≤ 64) × (length (now prices) ≡ length (now positions)) × (Small end) × ((k : ℕ) → Small (markOf first (now positions) k)) ⌝ }
+    requires { ⌜ (q < laneCount) × (length (now t) ≡ tablesSize) × ((j : ℕ) → getD (now prices) j 0 ≤ top) ⌝ }
+    ensures { λ _. ⌜ LaneFilled end (now (positions .entry)) (column life first (now (prices .entry))) (now (t .entry)) (now (t .exit)) q ⌝ }
+{
+    let all = [true; 64];
+    let n = positions.len();
+    least::fill(life, end, first, positions, prices, &all[..n], tab);
+    put_suffixes(tab, q, t);
+    put_reach(life, first, positions, q, t);
+    put_prices(prices, q, t);
+}
+
+// Lane q: that of part q, or of none.
+fn fill_part(
+    end: i32,
+    positions: &[i32],
+    fees: &[u32],
+    lives: &[u32],
+    lefts: &[u32],
+    prices: &[u32],
+    q: usize,
+    tab: &mut [u64],
+    t: &mut [u32],
+)
+    requires { ⌜ (Arrays end (now positions) (now fees) (now lives) (now lefts) (now prices)) × (tableSize ≤ length (now tab)) × (length (now t) ≡ tablesSize) × (q < laneCount) ⌝ }
+    ensures { λ _. ⌜ LaneFilled end (now (positions .entry)) (columnOf (partAt (length (now (positions .entry))) (now (lives .entry)) (now (lefts .entry)) (now (prices .entry)) q)) (now (t .entry)) (now (t .exit)) q ⌝ }
+{
+    let n = positions.len();
+    let life = lane_value(lives, q);
+    let left = lane_value(lefts, q);
+    fill_lane(
+        signed(life),
+        end,
+        least::last_change(life, left),
+        positions,
+        &prices[q * STRIDE..q * STRIDE + n],
+        q,
+        tab,
+        t,
+    );
+}
+
+// All lanes.
+fn fill_lanes(
+    end: i32,
+    positions: &[i32],
+    fees: &[u32],
+    lives: &[u32],
+    lefts: &[u32],
+    prices: &[u32],
+    tab: &mut [u64],
+    t: &mut [u32],
+)
+    requires { ⌜ (Arrays end (now positions) (now fees) (now lives) (now lefts) (now prices)) × (tableSize ≤ length (now tab)) × (length (now t) ≡ tablesSize) ⌝ }
+    ensures { λ _. ⌜ Lanes end (now (positions .entry)) (now (lives .entry)) (now (lefts .entry)) (now (prices .entry)) (now (t .exit)) laneCount ⌝ }
+{
+    let mut q = 0;
+    while q < LANES {
+        fill_part(end, positions, fees, lives, lefts, prices, q, tab, t);
+        q += 1;
+    }
+}
+
+// The fees.
+fn put_fees(fees: &[u32], t: &mut [u32])
+    requires { ⌜ (length (now fees) ≤ 64) × (length (now t) ≡ tablesSize) ⌝ }
+    ensures { λ _. ⌜ Span (λ (x : ℕ). getD (now (fees .entry)) (x - feeBase) 0) (now (t .entry)) (now (t .exit)) feeBase (feeBase + length (now (fees .entry))) ⌝ }
+{
+    let mut j = 0;
+    while j < fees.len() {
+        t[FEES + j] = fees[j];
+        j += 1;
+    }
+}
+
+// The number of openings.
+fn put_count(n: u32, t: &mut [u32])
+    requires { ⌜ length (now t) ≡ tablesSize ⌝ }
+    ensures { λ _. ⌜ Span (λ (x : ℕ). n) (now (t .entry)) (now (t .exit)) countPlace (countPlace + 1) ⌝ }
+{
+    t[COUNT] = n;
+}
+
+// All lanes of a row are Missing.
+fn dead(row: &[u32]) -> bool
+    requires { ⌜ laneCount ≤ length (now row) ⌝ }
+    ensures { λ r. ⌜ (r ≡ true → (q : ℕ) → q < laneCount → getD (now (row .entry)) q 0 ≡ inf) ⌝ }
+{
+    let mut q = 0;
+    while q < LANES {
+        if row[q] != INF {
+            return false;
+        }
+        q += 1;
+    }
+    true
+}
+
+// How many marks add nothing at opening j.
+fn first_live(t: &[u32], base: usize, j: usize) -> u32
+    requires { ⌜ (base + blockSize ≤ length (now t)) × (j ≤ 64) ⌝ }
+    ensures { λ r. ⌜ (r ≤ j) × (Dead (now (t .entry)) base j r) ⌝ }
+{
+    let mut i = 0;
+    while i < j {
+        let at = base + (j * MARKS + i) * LANES;
+        if !dead(&t[at..at + LANES]) {
+            return i as u32;
+        }
+        i += 1;
+    }
+    i as u32
+}
+
+// The cuts of the first m openings, from `off` on.
+fn put_cuts(base: usize, off: usize, m: usize, t: &mut [u32])
+    requires { ⌜ (length (now t) ≡ tablesSize) × (m ≤ markCount) × (base + blockSize ≤ off) × (off + m ≤ tablesSize) ⌝ }
+    ensures { λ _. ⌜ Cuts (now (t .entry)) (now (t .exit)) base off m ⌝ }
+{
+    let mut j = 0;
+    while j < m {
+        let v = first_live(t, base, j);
+        t[off + j] = v;
+        j += 1;
+    }
+}
+
+// The tables of the job in the arrays.
+pub fn fill(
+    end: i32,
+    positions: &[i32],
+    fees: &[u32],
+    lives: &[u32],
+    lefts: &[u32],
+    prices: &[u32],
+    tab: &mut [u64],
+    t: &mut [u32],
+)
+    requires { ⌜ (Arrays end (now positions) (now fees) (now lives) (now lefts) (now prices)) × (tableSize ≤ length (now tab)) × (length (now t) ≡ tablesSize) ⌝ }
+    ensures { λ _. ⌜ Tables (sheetOf end (now (positions .entry)) (now (fees .entry)) (now (lives .entry)) (now (lefts .entry)) (now (prices .entry))) (now (t .exit)) ⌝ }
+{
+    fill_lanes(end, positions, fees, lives, lefts, prices, tab, t);
+    put_fees(fees, t);
+    put_count(fees.len() as u32, t);
+    put_cuts(SUFFIXES, SUFFIX_CUTS, positions.len() + 1, t);
+    put_cuts(REACHES, REACH_CUTS, positions.len(), t);
+}

@@ -1,0 +1,265 @@
+-- From a node to the nodes below it: what the walk is given at each, and how the code's numbers are the search's.
+use Prim.Native.Nat.{ℕ, zero, suc, _+_, _-_, _*_, _/_, _%_, _^_, _<_, _≤_}
+use mathlib.Core.Path.{_≡_, refl, sym, ap, ap₂, subst, _∙_}
+use mathlib.Core.Bool.{Bool, true, false, cond}
+use mathlib.Core.List.{List, [], _∷_}
+use native.Mathlib.Omega.{arith}
+use native.Mathlib.Numerals.{add-one}
+use native.Mathlib.Nat.{two-pow-succ, pow-le-pow-right}
+use borrow.Author.Tests.{ltb-true}
+use lib.Dec.{ltb}
+use lib.IntN.{ℤ}
+use lib.ListN.{length, getD, drop, length-append}
+use Rattle.branch.specs.declared.Bound.{Bound}
+use Rattle.branch.specs.declared.Bound.the-variants.{Missing, Sum}
+use Rattle.branch.specs.Lower.{add, total}
+use Rattle.branch.specs.Search.{none, plan, below, snoc, Limited, counted, kept}
+use Rattle.branch.specs.Label.{limitedFrom}
+use Rattle.branch.proofs.Steps.{fixed-both}
+use Rattle.model.specs.Model.{sumAt}
+use Rattle.model.specs.LowerBound.{Offer, pick, leastOf, offers}
+use Rattle.walk.specs.declared.Search.{Search}
+use Rattle.walk.specs.declared.Node.{Node}
+use Rattle.walk.specs.Layout.{top, inf, suffixBase, reachBase, pricePlace, feePlace, suffixCuts, reachCuts, cutPlace}
+use Rattle.walk.specs.Sheet.{Column, Sheet, columnBound, partSums, sheetBound}
+use Rattle.walk.specs.Tables.{valueOf, Tables}
+use Rattle.walk.specs.Rows.{lane, sumLanes, Rows, Stack, Put, Kept}
+use Rattle.walk.specs.State.{bits, decided, incumbent, view, viewed, countedS, keptS, noN, yesN, Pending, ready, owed, At, nextRow, Owing, Settled}
+use Rattle.walk.proofs.Lanes.{node-sum, node-rises, rows-no, rows-yes, rows-kept, kept-refl, stack-no, stack-yes, stack-at}
+
+-- ---- decisions in a number
+
+pub bits-length : (k m : ℕ) → length (bits k m) ≡ k
+unfolding bits
+bits-length zero m = refl
+bits-length (suc k) m = simp length-append (omega (arith, bits-length k (m / 2)))
+
+bits-no : (k m : ℕ) → bits (k + 1) (m * 2) ≡ snoc (bits k m) false
+unfolding bits
+bits-no k m =
+    let z : m * 2 / 2 ≡ m = omega arith in
+    let y : m * 2 % 2 ≡ 0 = omega arith in
+    rw (add-one, z, y)
+
+bits-yes : (k m : ℕ) → bits (k + 1) (m * 2 + 1) ≡ snoc (bits k m) true
+unfolding bits
+bits-yes k m =
+    let z : (m * 2 + 1) / 2 ≡ m = omega arith in
+    let y : (m * 2 + 1) % 2 ≡ 1 = omega arith in
+    rw (add-one, z, y)
+
+pub mask-fits : (k m : ℕ) → m < 2 ^ k → k < 64 → m * 2 + 1 < 2 ^ 64
+mask-fits k m h l =
+    let z : 2 ^ k ≤ 2 ^ 63 = pow-le-pow-right {n = 2} (omega arith) {i = k} {j = 63} (omega arith) in
+    omega arith
+
+mask-next : (k m : ℕ) → m < 2 ^ k → m * 2 + 1 < 2 ^ (k + 1)
+mask-next k m h =
+    let z : 2 ^ suc k ≡ 2 ^ k + 2 ^ k = two-pow-succ k in
+    rw (add-one k) (omega arith)
+
+-- ---- fees and sums
+
+fees-snoc : (fs : List ℕ) (p : List Bool) (b : Bool) → length p < length fs → sumAt fs (snoc p b) ≡ sumAt fs p + pick b (getD fs (length p) 0) 0
+unfolding sumAt
+fees-snoc [] p b h = absurd (omega arith)
+fees-snoc (f ∷ fs) [] true h = omega arith
+fees-snoc (f ∷ fs) [] false h = omega arith
+fees-snoc (f ∷ fs) (true ∷ p) b h = omega (arith, fees-snoc fs p b (omega arith))
+fees-snoc (f ∷ fs) (false ∷ p) b h = fees-snoc fs p b (omega arith)
+
+fees-none : (fs : List ℕ) → sumAt fs [] ≡ 0
+unfolding sumAt
+fees-none fs = refl
+
+total-same : (f : Column → List Bool → Bound) (xs : List Column) (p q : List Bool) → ((x : Column) → f x p ≡ f x q) → total f xs p ≡ total f xs q
+total-same f [] p q e = refl
+total-same f (x ∷ xs) p q e = ap₂ add (e x) (total-same f xs p q e)
+
+-- a yes and an undecided opening are the same to a part
+offers-yes : (ss : List ℤ) (ns : List ℕ) (p : List Bool) → offers ss ns p ≡ offers ss ns (snoc p true)
+unfolding offers
+offers-yes [] ns p = refl
+offers-yes (s ∷ ss) ns [] = refl
+offers-yes (s ∷ ss) ns (b ∷ p) = ap (λ (l : List Offer). record { position = s; price = getD ns 0 0; allowed = b } ∷ l) (offers-yes ss (drop 1 ns) p)
+
+-- so a yes child has its parent's part sums
+yes-sums : (sheet : Sheet) (p : List Bool) → partSums sheet p ≡ partSums sheet (snoc p true)
+unfolding columnBound
+yes-sums sheet p = total-same (columnBound sheet) (sheet .columns) p (snoc p true) (λ col. ap (leastOf (col .life) (sheet .end) (col .first)) (offers-yes (sheet .positions) (col .prices) p))
+
+pub value-sum : (s x : ℕ) → valueOf s ≡ Sum x → (s ≡ x) × (x < inf)
+value-sum s x e = go (ltb s inf) refl e
+  where
+    go : (t : Bool) → ltb s inf ≡ t → pick t (Sum s) Missing ≡ Sum x → (s ≡ x) × (x < inf)
+    go true f g = let z : s ≡ x = cc in (z, omega (arith, ltb-true s inf f))
+    go false f g = let z : _≡_ {A = ℕ} 0 1 = cc in absurd (omega arith)
+
+-- ---- a node
+
+module _ (sheet : Sheet) (t w : List ℕ) (p : Node) (stop : Bool) (e : Bound) (a : At sheet t w p stop e) where
+  pub bound-none : e ≡ Missing → sheetBound sheet (decided p) ≡ Missing
+  unfolding sheetBound
+  bound-none f = ap (add (Sum (sumAt (sheet .fees) (decided p)))) (sym (a .sums) ∙ f)
+
+  pub bound-some : (x : ℕ) → e ≡ Sum x → sheetBound sheet (decided p) ≡ Sum (p .spent + x)
+  unfolding sheetBound
+  bound-some x f = ap (add (Sum (sumAt (sheet .fees) (decided p)))) (sym (a .sums) ∙ f) ∙ ap (λ (y : ℕ). Sum (y + x)) (sym (a .spent))
+
+  pub owing : stop ≡ true → Owing t w (p .at) (p .rows)
+  owing s = go stop (a .rows) s
+    where
+      go : (b : Bool) → Pending sheet w (decided p) (p .rows) b → b ≡ true → Owing t w (p .at) (p .rows)
+      go false (ready r) f = let z : _≡_ {A = ℕ} 0 1 = cc in absurd (omega arith)
+      go true (owed q f r) g =
+          let l : length q + 1 ≡ p .at = sym (simp length-append at (ap length f)) ∙ bits-length (p .at) (p .mask) in
+          let z : length q ≡ p .at - 1 = omega arith in
+          let h : length q < length (sheet .positions) = omega (arith, a .inside) in
+          let ta = a .tables in
+          record {
+            some = omega arith;
+            stack = subst (λ (j : ℕ). Stack t w reachBase (getD t (cutPlace reachCuts j) 0) j (p .rows)) z (stack-yes sheet t w q (p .rows) ta r h);
+            size = ta .size;
+            near = omega (arith, ta .few, a .inside);
+            few = omega (arith, r .few, ta .few, a .inside);
+            cheap = λ i m. subst (λ (j : ℕ). getD t (pricePlace j i) 0 ≤ top) z (omega (arith, ta .lanes i m .price (length q) h, ta .lanes i m .cheap (length q)));
+          }
+
+  -- the node's rows after it is settled
+  pub settled : (w' : List ℕ) (r : ℕ) → Settled t w w' (p .at) (p .rows) r stop → Rows sheet w' (decided p) r × Kept w w' (p .rows) × (p .rows ≤ r)
+  settled w' r s = go stop (a .rows) s
+    where
+      go : (b : Bool) → Pending sheet w (decided p) (p .rows) b → Settled t w w' (p .at) (p .rows) r b → Rows sheet w' (decided p) r × Kept w w' (p .rows) × (p .rows ≤ r)
+      go false (ready ro) s =
+          let f = s .no refl in (
+            subst (λ (l : List ℕ). Rows sheet l (decided p) r) (sym (f .1)) (subst (Rows sheet w (decided p)) (sym (f .0)) ro),
+            subst (λ (l : List ℕ). Kept w l (p .rows)) (sym (f .1)) (kept-refl w (p .rows)),
+            omega (arith, f .0),
+          )
+      go true (owed q f ro) s =
+          let g = s .yes refl in
+          let l : length q + 1 ≡ p .at = sym (simp length-append at (ap length f)) ∙ bits-length (p .at) (p .mask) in
+          let z : p .at - 1 ≡ length q = omega arith in
+          let u : Put (nextRow t w (length q) (p .rows)) w w' (p .rows) (length q + 1) = subst (λ (j : ℕ). Put (nextRow t w j (p .rows)) w w' (p .rows) (j + 1)) z (g .1) in (
+            subst (λ (d : List Bool). Rows sheet w' d r) (sym f) (subst (Rows sheet w' (snoc q true)) (sym (g .0)) (rows-yes sheet t w q (p .rows) (a .tables) ro (omega (arith, a .inside)) w' u)),
+            u .kept,
+            omega (arith, g .0),
+          )
+
+-- ---- the two children. ro: the node's rows as they stand after it is settled
+
+module _ (sheet : Sheet) (t w w' : List ℕ) (p : Node) (stop : Bool) (e : Bound) (r x : ℕ) (a : At sheet t w p stop e) (f : e ≡ Sum x) (ro : Rows sheet w' (decided p) r) (h : p .at < length (sheet .positions)) where
+  size : length (decided p) ≡ p .at
+  size = bits-length (p .at) (p .mask)
+
+  less : length (decided p) < length (sheet .positions)
+  less = omega (arith, size)
+
+  abbrev lanes : ℕ → ℕ → ℕ
+  lanes j q = lane t w' suffixBase j q r
+
+  pub sums-asks : Stack t w' suffixBase (getD t (cutPlace suffixCuts (p .at + 1)) 0) (p .at + 1) r × ((x ≤ sumLanes (λ (q : ℕ). lane t w' suffixBase (p .at + 1) q r)) × (x < inf))
+  sums-asks =
+      let s = node-sum sheet t w' (decided p) r (a .tables) ro (omega (arith, less)) ∙ sym (a .sums) ∙ f in
+      let y = value-sum (sumLanes (λ (q : ℕ). lanes (length (decided p)) q)) x s in
+      let z : suffixCuts + (length (decided p) + 1) ≡ suffixCuts + (p .at + 1) = omega (arith, size) in (
+        subst (λ (n : ℕ). Stack t w' suffixBase (getD t (cutPlace suffixCuts (p .at + 1)) 0) (n + 1) r) size
+            (subst (λ (n : ℕ). Stack t w' suffixBase (getD t n 0) (length (decided p) + 1) r) z (stack-no sheet t w' (decided p) r (a .tables) ro less)),
+        (subst (λ (n : ℕ). x ≤ sumLanes (λ (q : ℕ). lane t w' suffixBase (n + 1) q r)) size (omega (arith, y .0, node-rises sheet t w' (decided p) r (a .tables) ro (omega (arith, less)) less)), y .1),
+      )
+
+  pub at-no : (b : Bound) → b ≡ valueOf (sumLanes (λ (q : ℕ). lane t w' suffixBase (p .at + 1) q r)) → At sheet t w' (noN p r) false b
+  at-no b g =
+      let d = bits-no (p .at) (p .mask) in
+      let rn = rows-no sheet t w' (decided p) r (a .tables) ro less in
+      let n : length (snoc (decided p) false) ≡ p .at + 1 = ap length (sym d) ∙ bits-length (p .at + 1) (p .mask * 2) in
+      let fee : length (sheet .fees) ≡ length (sheet .positions) = a .tables .paid in
+      record {
+        tables = a .tables;
+        inside = omega arith;
+        mask = omega (arith, mask-next (p .at) (p .mask) (a .mask));
+        spent = a .spent ∙ sym (ap (sumAt (sheet .fees)) d ∙ fees-snoc (sheet .fees) (decided p) false (omega (arith, less)) ∙ plus-none (sumAt (sheet .fees) (decided p)));
+        poor = omega (arith, a .poor);
+        sums = g ∙ ap (λ (j : ℕ). valueOf (sumLanes (λ (q : ℕ). lane t w' suffixBase j q r))) (sym n) ∙ node-sum sheet t w' (snoc (decided p) false) r (a .tables) rn (omega (arith, n)) ∙ ap (partSums sheet) (sym d);
+        low = λ y k. value-sum (sumLanes (λ (q : ℕ). lane t w' suffixBase (p .at + 1) q r)) y (sym g ∙ k) .1;
+        rows = ready (subst (λ (l : List Bool). Rows sheet w' l r) (sym d) rn);
+      }
+    where
+      plus-none : (k : ℕ) → k + 0 ≡ k
+      plus-none k = omega arith
+
+  pub at-yes : (w'' : List ℕ) (fee : ℕ) → Kept w' w'' r → fee ≡ getD t (feePlace (p .at)) 0 → At sheet t w'' (yesN p r fee) true (Sum x)
+  at-yes w'' fee k g =
+      let d = bits-yes (p .at) (p .mask) in
+      let paid : length (sheet .fees) ≡ length (sheet .positions) = a .tables .paid in
+      let cost : fee ≡ getD (sheet .fees) (length (decided p)) 0 = g ∙ a .tables .fees (p .at) h ∙ ap (λ (j : ℕ). getD (sheet .fees) j 0) (sym size) in
+      record {
+        tables = a .tables;
+        inside = omega arith;
+        mask = mask-next (p .at) (p .mask) (a .mask);
+        spent = ap₂ (λ (m n : ℕ). m + n) (a .spent) cost ∙ sym (ap (sumAt (sheet .fees)) d ∙ fees-snoc (sheet .fees) (decided p) true (omega (arith, less)));
+        poor = omega (arith, a .poor, cost, a .tables .fair (length (decided p)));
+        sums = sym f ∙ a .sums ∙ yes-sums sheet (decided p) ∙ ap (partSums sheet) (sym d);
+        low = λ y q. a .low y (f ∙ q);
+        rows = owed (decided p) d (rows-kept sheet w' w'' (decided p) r ro k);
+      }
+
+-- ---- the state
+
+improves-below : (n e : ℕ) (s : Search) → viewed e s ≡ below (Sum e) (incumbent n s)
+improves-below n e s = go (s .found)
+  where
+    go : (t : Bool) → cond t (ltb e (s .cost)) true ≡ below (Sum e) (cond t (plan (s .cost) (bits n (s .mask))) none)
+    go true = refl
+    go false = refl
+
+-- the code's test of a bound, on the state that has counted the node
+pub tested : (n e : ℕ) (x : Bound) (s k : Search) (r : Bool) → x ≡ Sum e → k ≡ countedS s → r ≡ viewed e k → below x (incumbent n s) ≡ r
+tested n e x s k r f g h = ap (λ (y : Bound). below y (incumbent n s)) f ∙ sym (improves-below n e s) ∙ sym (h ∙ ap (viewed e) g)
+
+-- a full node kept
+pub kept-view : (n at e m : ℕ) (x : Bound) (s k r : Search) → x ≡ Sum e → k ≡ countedS s → r ≡ keptS k e m → at ≡ n
+    → view n r ≡ kept x (bits at m) (counted (view n s))
+kept-view n at e m x s k r f g h q = ap (view n) (h ∙ ap (λ (k : Search). keptS k e m) g) ∙ rw (f, q)
+
+-- both children walked, from what the two calls say
+pub both-walked : (est : List Bool → Bound) (L n : ℕ) (p : Node) (r fee : ℕ) (s r₁ r₂ : Limited) → p .at < n → s .count < L → below (est (decided p)) (s .incumbent) ≡ true
+    → r₁ ≡ limitedFrom est L (n - (p .at + 1)) (decided (noN p r)) (counted s)
+    → r₂ ≡ limitedFrom est L (n - (p .at + 1)) (decided (yesN p r fee)) r₁
+    → r₂ ≡ limitedFrom est L (n - p .at) (decided p) s
+both-walked est L n p r fee s r₁ r₂ h c b f₁ f₂ =
+    f₂ ∙ ap (λ (d : List Bool). limitedFrom est L (n - (p .at + 1)) d r₁) (bits-yes (p .at) (p .mask))
+    ∙ ap (limitedFrom est L (n - (p .at + 1)) (snoc (decided p) true)) (f₁ ∙ ap (λ (d : List Bool). limitedFrom est L (n - (p .at + 1)) d (counted s)) (bits-no (p .at) (p .mask)))
+    ∙ sym (fixed-both est L (n - p .at) (n - (p .at + 1)) (decided p) s (omega arith) c b)
+
+-- ---- the first node
+
+module _ (sheet : Sheet) (t w : List ℕ) (ta : Tables sheet t) (ro : Rows sheet w [] 1) where
+  pub root-asks : Stack t w suffixBase (getD t suffixCuts 0) 0 1
+  root-asks = let z : suffixCuts + 0 ≡ suffixCuts = omega arith in subst (λ (k : ℕ). Stack t w suffixBase (getD t k 0) 0 1) z (stack-at sheet t w [] 1 0 ta ro (omega arith) (omega arith))
+
+  pub root-given : (b : Bound) → b ≡ valueOf (sumLanes (λ (q : ℕ). lane t w suffixBase 0 q 1)) → At sheet t w (record { at = 0; rows = 1; spent = 0; mask = 0 }) false b
+  unfolding bits
+  root-given b g =
+      record {
+        tables = ta;
+        inside = omega arith;
+        mask = omega arith;
+        spent = sym (fees-free (sheet .fees));
+        poor = omega arith;
+        sums = g ∙ node-sum sheet t w [] 1 ta ro (omega arith);
+        low = λ y k. value-sum (sumLanes (λ (q : ℕ). lane t w suffixBase 0 q 1)) y (sym g ∙ k) .1;
+        rows = ready ro;
+      }
+    where
+      fees-free : (fs : List ℕ) → sumAt fs [] ≡ 0
+      fees-free fs = fees-none fs
+
+nothing-more : (e : Bound) → add (Sum 0) e ≡ e
+nothing-more Missing = refl
+nothing-more (Sum x) = ap Sum (omega arith)
+
+-- at the first node no fee is paid
+pub root-bound : (sheet : Sheet) → sheetBound sheet [] ≡ partSums sheet []
+unfolding sheetBound sumAt
+root-bound sheet = nothing-more (partSums sheet [])

@@ -1,0 +1,5 @@
+pub mod Layout
+pub mod Sheet
+pub mod Tables
+pub mod Rows
+pub mod State

@@ -1,0 +1,67 @@
+-- A job as the tables have it: positions, fees, and a column for each lane. Its bound is that of the job.
+use Prim.Native.Nat.{ℕ}
+use mathlib.Core.Bool.{Bool}
+use mathlib.Core.List.{List, [], _∷_}
+use lib.ListN.{getD, drop}
+use lib.IntN.{ℤ, pos}
+use Rattle.branch.specs.declared.Bound.{Bound}
+use Rattle.branch.specs.declared.Bound.the-variants.{Missing, Sum}
+use Rattle.branch.specs.Lower.{add, total}
+use Rattle.model.specs.Model.{within, sumAt}
+use Rattle.model.specs.LowerBound.{Offer, pick, plus, lower, leastOf, offers}
+
+-- one part as its lane has it: its life, the position of the change before the first, its prices
+pub record Column : Type 0 where
+  pub life : ℤ
+  pub first : ℤ
+  pub prices : List ℕ
+
+pub record Sheet : Type 0 where
+  pub end : ℤ
+  pub positions : List ℤ
+  pub fees : List ℕ
+  pub columns : List Column
+
+-- one part's least price at the node p, over its yes openings and all undecided ones
+unfoldable pub columnBound : Sheet → Column → List Bool → Bound
+columnBound sheet col p = leastOf (col .life) (sheet .end) (col .first) (offers (sheet .positions) (col .prices) p)
+
+-- the parts' prices together
+abbrev pub partSums : Sheet → List Bool → Bound
+partSums sheet p = total (columnBound sheet) (sheet .columns) p
+
+unfoldable pub sheetBound : Sheet → List Bool → Bound
+sheetBound sheet p = add (Sum (sumAt (sheet .fees) p)) (partSums sheet p)
+
+-- ---- the front: where the last change so far may be, and the least price up to it
+
+pub record Mark : Type 0 where
+  pub at : ℤ
+  pub cost : Bound
+
+-- the least price so far of a mark from which a change at s is in reach
+abbrev pub reach : ℤ → List Mark → ℤ → Bound
+reach life [] s = Missing
+reach life (f ∷ fr) s = lower (reach life fr s) (pick (within life (f .at) s) (f .cost) Missing)
+
+-- a decided opening's mark joins the front where the decision is yes
+abbrev pub joined : ℤ → List Mark → Offer → List Mark
+joined life fr o = pick (o .allowed) (record { at = o .position; cost = plus (o .price) (reach life fr (o .position)) } ∷ fr) fr
+
+unfoldable pub frontFrom : ℤ → List Mark → List Offer → List Mark
+frontFrom life fr [] = fr
+frontFrom life fr (o ∷ os) = frontFrom life (joined life fr o) os
+
+-- the decided openings of the node p
+unfoldable pub decidedOffers : List ℤ → List ℕ → List Bool → List Offer
+decidedOffers [] ns p = []
+decidedOffers (s ∷ ss) ns [] = []
+decidedOffers (s ∷ ss) ns (b ∷ p) = record { position = s; price = getD ns 0 0; allowed = b } ∷ decidedOffers ss (drop 1 ns) p
+
+-- the front of a part at the node p
+abbrev pub front : List ℤ → Column → List Bool → List Mark
+front ss col p = frontFrom (col .life) (record { at = col .first; cost = Sum 0 } ∷ []) (decidedOffers ss (col .prices) p)
+
+-- a column that is none of the sheet's
+abbrev pub noColumn : Column
+noColumn = record { life = pos 0; first = pos 0; prices = [] }

@@ -1,0 +1,94 @@
+-- The code's state and node as the search's, and what the walk is given at a node.
+use Prim.Native.Nat.{ℕ, zero, suc, _+_, _-_, _*_, _/_, _%_, _^_, _<_, _≤_}
+use mathlib.Core.Path.{_≡_}
+use mathlib.Core.Bool.{Bool, true, false, cond}
+use mathlib.Core.List.{List, []}
+use lib.Dec.{ltb, eqb}
+use lib.ListN.{length, getD}
+use Rattle.branch.specs.declared.Bound.{Bound}
+use Rattle.branch.specs.declared.Bound.the-variants.{Sum}
+use Rattle.branch.specs.Search.{Incumbent, none, plan, snoc, Limited, atMost}
+use Rattle.branch.specs.Label.{treeOf}
+use Rattle.model.specs.Model.{sumAt}
+use Rattle.walk.specs.declared.Search.{Search}
+use Rattle.walk.specs.declared.Node.{Node}
+use Rattle.walk.specs.declared.Solved.{Solved}
+use Rattle.walk.specs.Layout.{laneCount, markCount, top, inf, reachBase, pricePlace, reachCuts, cutPlace, tablesSize}
+use Rattle.walk.specs.Sheet.{Sheet, partSums, sheetBound}
+use Rattle.walk.specs.Tables.{Tables}
+use Rattle.walk.specs.Rows.{lane, Rows, Stack, Put}
+
+-- k decisions in a number, the latest in its lowest bit
+unfoldable pub bits : ℕ → ℕ → List Bool
+bits zero m = []
+bits (suc k) m = snoc (bits k (m / 2)) (eqb (m % 2) 1)
+
+abbrev pub decided : Node → List Bool
+decided p = bits (p .at) (p .mask)
+
+-- the best full plan so far
+abbrev pub incumbent : ℕ → Search → Incumbent
+incumbent n s = cond (s .found) (plan (s .cost) (bits n (s .mask))) none
+
+-- the state as the search has it, where there are n openings
+abbrev pub view : ℕ → Search → Limited
+view n s = record { count = s .count; over = s .over; incumbent = incumbent n s }
+
+-- a bound e is less than the incumbent's cost
+abbrev pub viewed : ℕ → Search → Bool
+viewed e s = cond (s .found) (ltb e (s .cost)) true
+
+-- the three changes of the state
+abbrev pub countedS : Search → Search
+countedS s = record { count = s .count + 1; over = s .over; found = s .found; cost = s .cost; mask = s .mask }
+
+abbrev pub stoppedS : Search → Search
+stoppedS s = record { count = s .count; over = true; found = s .found; cost = s .cost; mask = s .mask }
+
+abbrev pub keptS : Search → ℕ → ℕ → Search
+keptS s c m = record { count = s .count; over = s .over; found = true; cost = c; mask = m }
+
+-- the two nodes below
+abbrev pub noN : Node → ℕ → Node
+noN p n = record { at = p .at + 1; rows = n; spent = p .spent; mask = p .mask * 2 }
+
+abbrev pub yesN : Node → ℕ → ℕ → Node
+yesN p n fee = record { at = p .at + 1; rows = n; spent = p .spent + fee; mask = p .mask * 2 + 1 }
+
+-- the stack holds the node's rows, or where the last decision is a yes all but its last
+pub data Pending (sheet : Sheet) (w : List ℕ) (q : List Bool) (n : ℕ) : Bool → Type 0 where
+  ready : Rows sheet w q n → Pending sheet w q n false
+  owed : (q₀ : List Bool) → q ≡ snoc q₀ true → Rows sheet w q₀ n → Pending sheet w q n true
+
+-- what the walk is given: the node p of the sheet, with its part sums e
+pub record At (sheet : Sheet) (t w : List ℕ) (p : Node) (stop : Bool) (e : Bound) : Type 0 where
+  pub tables : Tables sheet t
+  pub inside : p .at ≤ length (sheet .positions)
+  pub mask : p .mask < 2 ^ p .at
+  pub spent : p .spent ≡ sumAt (sheet .fees) (decided p)
+  pub poor : p .spent ≤ top * p .at
+  pub sums : e ≡ partSums sheet (decided p)
+  pub low : (x : ℕ) → e ≡ Sum x → x < inf
+  pub rows : Pending sheet w (decided p) (p .rows) stop
+
+-- the row of opening j, decided yes: the least price so far from which it is in reach, and its own price
+abbrev pub nextRow : List ℕ → List ℕ → ℕ → ℕ → ℕ → ℕ
+nextRow t w j n q = lane t w reachBase j q n + getD t (pricePlace j q) 0
+
+-- what settling a node asks, and what it does
+pub record Owing (t w : List ℕ) (at n : ℕ) : Type 0 where
+  pub some : 0 < at
+  pub stack : Stack t w reachBase (getD t (cutPlace reachCuts (at - 1)) 0) (at - 1) n
+  pub size : length t ≡ tablesSize
+  pub near : at ≤ 64
+  pub few : n < markCount
+  pub cheap : (q : ℕ) → q < laneCount → getD t (pricePlace (at - 1) q) 0 ≤ top
+
+pub record Settled (t w w' : List ℕ) (at n r : ℕ) (stop : Bool) : Type 0 where
+  pub no : stop ≡ false → (r ≡ n) × (w' ≡ w)
+  pub yes : stop ≡ true → (r ≡ n + 1) × Put (nextRow t w (at - 1) n) w w' n (at - 1 + 1)
+
+-- what the search of a sheet gives: the first node's bound, and the walk's last state
+pub record Solves (sheet : Sheet) (limit : ℕ) (r : Solved) : Type 0 where
+  pub floor : r .floor ≡ sheetBound sheet []
+  pub walked : view (length (sheet .positions)) (r .state) ≡ atMost limit (treeOf (sheetBound sheet) (length (sheet .positions)) [])

@@ -1,0 +1,188 @@
+// The counted walk over the tables of a job: a node, the state, and the recursion on both branches.
+pub mod rows;
+
+ghost use mathlib.Core.Path.{_≡_};
+ghost use mathlib.Core.Bool.{Bool, true, false};
+ghost use Prim.Native.Nat.{ℕ, _+_, _-_, _*_, _^_, _<_, _≤_};
+ghost use mathlib.Core.List.{[]};
+ghost use lib.ListN.{length, getD};
+ghost use Rattle.branch.specs.Search.{atMost};
+ghost use Rattle.branch.specs.Label.{treeOf, limitedFrom};
+ghost use Rattle.walk.specs.Layout.{stackSize};
+ghost use Rattle.walk.specs.Sheet.{Sheet, sheetBound};
+ghost use Rattle.walk.specs.Tables.{Tables};
+ghost use Rattle.walk.specs.Rows.{Kept};
+ghost use Rattle.walk.specs.State.{decided, view, viewed, countedS, stoppedS, keptS, noN, yesN, At, Solves};
+use branch::Bound;
+use rows::COUNT;
+use rows::FEES;
+use rows::SUFFIX_CUTS;
+use rows::base_row;
+use rows::part_sums;
+use rows::settle;
+
+// The state of the search, passed by value and handed back. The incumbent's decisions, the latest in the lowest bit.
+pub struct Search {
+    pub count: u64,
+    pub over: bool,
+    pub found: bool,
+    pub cost: u64,
+    pub mask: u64,
+}
+
+impl Search {
+    // One node more.
+    pub fn counted(self) -> Search
+        requires { ⌜ self .count + 1 < 2 ^ 64 ⌝ }
+        ensures { λ r. ⌜ r ≡ countedS self ⌝ }
+    {
+        Search {
+            count: self.count + 1,
+            over: self.over,
+            found: self.found,
+            cost: self.cost,
+            mask: self.mask,
+        }
+    }
+
+    // A node was reached beyond the limit.
+    pub fn stopped(self) -> Search
+        ensures { λ r. ⌜ r ≡ stoppedS self ⌝ }
+    {
+        Search {
+            count: self.count,
+            over: true,
+            found: self.found,
+            cost: self.cost,
+            mask: self.mask,
+        }
+    }
+
+    // A full node that is better takes the incumbent's place.
+    pub fn kept(self, cost: u64, mask: u64) -> Search
+        ensures { λ r. ⌜ r ≡ keptS self cost mask ⌝ }
+    {
+        Search {
+            count: self.count,
+            over: self.over,
+            found: true,
+            cost,
+            mask,
+        }
+    }
+
+    // A bound e is less than the incumbent's cost.
+    pub fn improves(self, e: u64) -> bool
+        ensures { λ r. ⌜ r ≡ viewed e self ⌝ }
+    {
+        if self.found {
+            return e < self.cost;
+        }
+        true
+    }
+}
+
+// A node: how many openings are decided, the rows on the stack, the fees, and the decisions, the latest in the lowest bit.
+pub struct Node {
+    pub at: usize,
+    pub rows: usize,
+    pub spent: u64,
+    pub mask: u64,
+}
+
+impl Node {
+    // The node below: no stop at the next opening.
+    pub fn no(self, rows: usize) -> Node
+        requires { ⌜ (self .at < 64) × (self .mask * 2 < 2 ^ 64) ⌝ }
+        ensures { λ r. ⌜ r ≡ noN self rows ⌝ }
+    {
+        Node {
+            at: self.at + 1,
+            rows,
+            spent: self.spent,
+            mask: self.mask * 2,
+        }
+    }
+
+    // The node below: stop at the next opening.
+    pub fn yes(self, rows: usize, fee: u64) -> Node
+        requires { ⌜ (self .at < 64) × (self .mask * 2 + 1 < 2 ^ 64) × (self .spent + fee < 2 ^ 64) ⌝ }
+        ensures { λ r. ⌜ r ≡ yesN self rows fee ⌝ }
+    {
+        Node {
+            at: self.at + 1,
+            rows,
+            spent: self.spent + fee,
+            mask: self.mask * 2 + 1,
+        }
+    }
+}
+
+// Walks the node p, whose part sums are e, and all below it. `stop`: its last decision is a yes, whose row is not yet on the stack.
+pub fn walk(
+    t: &[u32],
+    w: &mut [u32],
+    limit: u64,
+    p: Node,
+    stop: bool,
+    e: Bound,
+    s: Search,
+) -> Search
+    requires { ⌜ ((sheet : Sheet) × At sheet (now t) (now w) p stop e) ⌝ }
+    ensures walked { λ r. ⌜ ((sheet : Sheet) → At sheet (now (t .entry)) (now (w .entry)) p stop e → view (length (sheet .positions)) r
+        ≡ limitedFrom (sheetBound sheet) limit (length (sheet .positions) - p .at) (decided p) (view (length (sheet .positions)) s)) ⌝ }
+    ensures frame { λ r. ⌜ Kept (now (w .entry)) (now (w .exit)) (p .rows) ⌝ }
+{
+    if limit <= s.count {
+        return s.stopped();
+    }
+    let c = s.counted();
+    let Bound::Sum(x) = e else {
+        return c;
+    };
+    let cost = p.spent + x;
+    if !c.improves(cost) {
+        return c;
+    }
+    let at = p.at;
+    if at == t[COUNT] as usize {
+        return c.kept(cost, p.mask);
+    }
+    let rows = settle(t, w, at, p.rows, stop);
+    let lo = t[SUFFIX_CUTS + (at + 1)] as usize;
+    let b = part_sums(t, w, lo, at + 1, rows, x);
+    let a = walk(t, w, limit, p.no(rows), false, b, c);
+    let fee = t[FEES + at] as u64;
+    walk(t, w, limit, p.yes(rows, fee), true, Bound::Sum(x), a)
+}
+
+// The floor, and the state after the walk with a limit.
+pub struct Solved {
+    pub floor: Bound,
+    pub state: Search,
+}
+
+// The whole search with a limit, over the tables of a sheet.
+pub fn solve(t: &[u32], w: &mut [u32], limit: u64) -> Solved
+    requires { ⌜ ((sheet : Sheet) × Tables sheet (now t)) × (length (now w) ≡ stackSize) ⌝ }
+    ensures { λ r. ⌜ ((sheet : Sheet) → Tables sheet (now (t .entry)) → Solves sheet limit r) ⌝ }
+{
+    base_row(w);
+    let lo = t[SUFFIX_CUTS] as usize;
+    let floor = part_sums(t, w, lo, 0, 1, 0);
+    let root = Node {
+        at: 0,
+        rows: 1,
+        spent: 0,
+        mask: 0,
+    };
+    let begun = Search {
+        count: 0,
+        over: false,
+        found: false,
+        cost: 0,
+        mask: 0,
+    };
+    let state = walk(t, w, limit, root, false, floor, begun);
+    Solved { floor, state }
+}
