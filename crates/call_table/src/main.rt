@@ -1,0 +1,179 @@
+// Runs the planner and the judge on a table of texts and writes, for each case, what the call hands over: the bytes written, its numbers,
+// the line at fault, and whether the bytes past the written length kept their values.
+// A case stands in the input as `room=N`, `job=N`, N bytes, `plan=N`, N bytes; a case of the planner has `none=0` in place of the plan;
+// other bytes stand behind the last case.
+use answers::Answer;
+use lines::fault::Span;
+use lines::read::Line;
+use lines::read::read_line;
+ghost use Prim.Native.Nat.{_+_, _≤_};
+ghost use lib.ListN.{length};
+
+// What an output is filled with before a call.
+const FILL: u8 = 170;
+
+// Writes a number on a line of its own.
+fn write_number(key: &[u8], n: u64) {
+    io::write_all(libc::STDOUT_FILENO, key);
+    io::print_decimal(libc::STDOUT_FILENO, n);
+    io::write_all(libc::STDOUT_FILENO, b"\n");
+}
+
+// Whether every byte from a place on is the fill.
+fn kept(out: &[u8], from: usize) -> bool {
+    let mut i = from;
+    while i < out.len() {
+        if out[i] != FILL {
+            return false;
+        }
+        i += 1;
+    }
+    true
+}
+
+// Writes the line at fault of a text: the part that the answer's span cuts out.
+fn write_fault(text: &[u8], start: usize, size: usize) {
+    if start <= text.len() {
+        if size <= text.len() - start {
+            let end = start + size;
+            io::write_all(libc::STDOUT_FILENO, &text[start..end]);
+        }
+    }
+    io::write_all(libc::STDOUT_FILENO, b"\n");
+}
+
+// Writes what a call handed over.
+fn report(a: Answer, out: &[u8], job: &[u8], plan: &[u8]) {
+    let m = a.length;
+    if m <= out.len() {
+        io::write_all(libc::STDOUT_FILENO, &out[0..m]);
+    }
+    write_number(b"= result ", a.result as u64);
+    write_number(b"= line ", a.line as u64);
+    write_number(b"= length ", m as u64);
+    if a.text == 2 {
+        write_fault(plan, a.fault_start, a.fault_length);
+    } else {
+        write_fault(job, a.fault_start, a.fault_length);
+    }
+    if kept(out, m) {
+        io::write_all(libc::STDOUT_FILENO, b"kept\n");
+    } else {
+        io::write_all(libc::STDOUT_FILENO, b"changed\n");
+    }
+}
+
+// Fills an output before a call.
+fn fill(out: &mut [u8]) {
+    let mut i = 0;
+    while i < out.len() {
+        out[i] = FILL;
+        i += 1;
+    }
+}
+
+// One case of the planner.
+fn run_planner(job: &[u8], out: &mut [u8]) {
+    fill(out);
+    let a = planning::plan(job, out);
+    report(a, out, job, b"");
+}
+
+// One case of the judge.
+fn run_judge(job: &[u8], plan: &[u8], out: &mut [u8]) {
+    fill(out);
+    let a = judging::judge(job, plan, out);
+    report(a, out, job, plan);
+}
+
+// Where the piece `key=N` at a place ends, if it is there, and N.
+fn number_at(buf: &[u8], at: usize, key: &[u8]) -> Span
+    requires { ⌜ at ≤ length (now buf) ⌝ }
+    ensures { λ r. ⌜ r .start ≤ length (now (buf .entry)) ⌝ }
+{
+    match read_line(&buf[at..], key) {
+        Line::Value(n, k) => {
+            if k <= buf.len() - at {
+                return Span {
+                    start: at + k,
+                    length: n as usize,
+                };
+            }
+        }
+        Line::Bad => {}
+    }
+    Span {
+        start: buf.len(),
+        length: 0,
+    }
+}
+
+// The bytes of the piece `key=N` at a place; nothing at the end where there is no such piece.
+fn piece(buf: &[u8], at: usize, key: &[u8]) -> Span
+    requires { ⌜ at ≤ length (now buf) ⌝ }
+    ensures { λ r. ⌜ r .start + r .length ≤ length (now (buf .entry)) ⌝ }
+{
+    let p = number_at(buf, at, key);
+    let start = p.start;
+    let length = p.length;
+    if length <= buf.len() - start {
+        return Span { start, length };
+    }
+    Span {
+        start: buf.len(),
+        length: 0,
+    }
+}
+
+// The case at a place, and the place behind it.
+fn case_at(buf: &[u8], at: usize, space: &mut [u8]) -> usize
+    requires { ⌜ at ≤ length (now buf) ⌝ }
+    ensures { λ r. ⌜ r ≤ length (now (buf .entry)) ⌝ }
+{
+    let room = number_at(buf, at, b"room=");
+    let from = room.start;
+    if buf.len() <= from {
+        return from;
+    }
+    let job = piece(buf, from, b"job=");
+    let job_start = job.start;
+    let job_end = job_start + job.length;
+    let lent = room.length;
+    if space.len() < lent {
+        return buf.len();
+    }
+    let none = number_at(buf, job_end, b"none=");
+    let behind = none.start;
+    if behind < buf.len() {
+        run_planner(&buf[job_start..job_end], &mut space[0..lent]);
+        return behind;
+    }
+    let plan = piece(buf, job_end, b"plan=");
+    let plan_start = plan.start;
+    let plan_end = plan_start + plan.length;
+    run_judge(
+        &buf[job_start..job_end],
+        &buf[plan_start..plan_end],
+        &mut space[0..lent],
+    );
+    plan_end
+}
+
+// Every case of the table.
+fn table(buf: &[u8], space: &mut [u8]) {
+    let mut at = 0;
+    while at < buf.len() {
+        let next = case_at(buf, at, space);
+        if next <= at {
+            return;
+        }
+        at = next;
+    }
+}
+
+fn main() {
+    let mut buf = [0u8; 524288];
+    let n = io::read_full(libc::STDIN_FILENO, &mut buf);
+    let mut space = [0u8; 16400];
+    table(&buf[..n], &mut space);
+}

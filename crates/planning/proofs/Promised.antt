@@ -1,0 +1,127 @@
+-- The planner's answer keeps its promise on every text and every room (`promised`). By what the text reads as; of an accepted job by the model's promise.
+use Prim.Native.Nat.{ℕ, _≤_, _<_}
+use mathlib.Core.Path.{_≡_, refl, sym, ap, ap₂, _∙_, subst}
+use mathlib.Core.List.{List, []}
+use mathlib.Core.Logic.{_↔_}
+use native.Mathlib.Omega.{arith}
+use native.Mathlib.Decide.{decLt}
+use borrow.Author.Tests.{lt-ltb, le-ltb}
+use Rattle.lines.specs.Parser.{Outcome, accepted, refused}
+use Rattle.model.specs.Model.{Job, HasPlan}
+use Rattle.model.specs.Promise as model
+use Rattle.model.specs.Promise.{Answer, no-plan, cut-none, cut, optimum, resultOf, wholeCount, answerOf}
+use Rattle.model.proofs.Promised.{promise}
+use Rattle.job_text.specs.Grammar.{Given, readJob}
+use Rattle.job_text.specs.Views.{emptyJob}
+use Rattle.job_text.proofs.Numbered.{fault}
+use Rattle.answers.specs.Said.{Said, Refuses, noPlan, plainly, refusal, saidOf, lent}
+use Rattle.answers.proofs.Replies.{refuses}
+use Rattle.planning.specs.Plan.{saidFor, onJob, planSaid, planRoom}
+use Rattle.planning.specs.Promise.{Reading, jobIn, walkIn, Answers, PlanPromise}
+
+never : {A X : Type 0} {a : A} {n l : ℕ} → _≡_ {A = Outcome A} (accepted a) (refused n l) → X
+never e = let z : _≡_ {A = ℕ} 0 1 = cc in absurd (omega arith)
+
+-- the result number that is handed over is the answer's
+pub result-is : (job : Job) (a : Answer) → saidFor job a .result ≡ resultOf a
+result-is job no-plan = refl
+result-is job (cut-none n f) = refl
+result-is job (cut n f c p) = refl
+result-is job (optimum n f c p) = refl
+
+not-8 : (a : Answer) → resultOf a ≡ 8 → ⊥
+not-8 no-plan e = omega arith
+not-8 (cut-none n f) e = omega arith
+not-8 (cut n f c p) e = omega arith
+not-8 (optimum n f c p) e = omega arith
+
+module _ (text : List ℕ) (room : ℕ) where
+  short : room < planRoom → PlanPromise text room (plainly 8 [])
+  short h = record {
+    says-8 = (λ e. h, λ e. refl);
+    says-6 = (λ e. absurd (omega arith), λ r. absurd (omega (arith, r .0)));
+    says-7 = (λ e. absurd (omega arith), λ r. absurd (omega (arith, r .0)));
+    says-0 = (λ e. absurd (omega arith), λ r. absurd (omega (arith, r .0)));
+    answers = λ e. absurd (omega arith);
+    job-fault = λ e. absurd (omega arith);
+    any-walk = λ e. absurd (omega arith);
+  }
+
+  refused-job : planRoom ≤ room → (n l : ℕ) → readJob text ≡ refused n l → PlanPromise text room (onJob text (refused n l))
+  refused-job h n l e = record {
+    says-8 = (λ f. absurd (omega (arith, k)), λ f. absurd (omega arith));
+    says-6 = (λ f. absurd (omega (arith, k)), λ r. no (r .1 .0));
+    says-7 = (λ f. absurd (omega (arith, k)), λ r. no (r .1 .0));
+    says-0 = (λ f. absurd (omega (arith, k)), λ r. no (r .1 .0));
+    answers = λ m r. no r;
+    job-fault = λ m i j f. same i j (sym e ∙ f);
+    any-walk = λ f r. no r;
+  }
+    where
+      k : (1 ≤ n) × (n ≤ 5)
+      k = fault text n l e .0
+
+      no : {X : Type 0} → Reading text → X
+      no r = never (sym (r .is) ∙ e)
+
+      same : (i j : ℕ) → _≡_ {A = Outcome Given} (refused n l) (refused i j) → Refuses 1 text i j (onJob text (refused n l))
+      same i j x = let p : n ≡ i = cc in let q : l ≡ j = cc in refuses emptyJob noPlan 1 text n l i j p q
+
+  module _ (h : planRoom ≤ room) (g : Given) (eg : readJob text ≡ accepted g) where
+    abbrev here : Reading text
+    here = record { given = g; is = eg }
+
+    -- any reading is this one
+    given-is : (r : Reading text) → r .given ≡ g
+    given-is r = let x : accepted (r .given) ≡ accepted g = sym (r .is) ∙ eg in cc
+
+    abbrev answer : Answer
+    answer = answerOf (g .job) (g .walk)
+
+    promises : model.Promise (g .job) (g .walk) answer
+    promises = promise (g .job) (g .walk)
+
+    number : {n : ℕ} → saidFor (g .job) answer .result ≡ n → resultOf answer ≡ n
+    number e = sym (result-is (g .job) answer) ∙ e
+
+    moved : (P : Given → Type 0) (r : Reading text) → P (r .given) → P g
+    moved P r p = subst P (given-is r) p
+
+    -- another text of the same job with a larger walk number
+    alike : resultOf answer ≡ 0 → (r : Reading text) (other : List ℕ) (q : Reading other) → jobIn q ≡ jobIn r → walkIn r ≤ walkIn q → onJob other (readJob other) ≡ saidFor (g .job) answer
+    alike e r other q j w =
+        let job : jobIn q ≡ g .job = j ∙ ap (λ (x : Given). x .job) (given-is r) in
+        let walk : g .walk ≤ walkIn q = subst (λ (x : Given). x .walk ≤ walkIn q) (given-is r) w in
+        ap (onJob other) (q .is)
+        ∙ ap (λ (x : Job). saidFor x (answerOf x (walkIn q))) job
+        ∙ ap (saidFor (g .job)) (promises .any-walk e (walkIn q) walk)
+
+    read : ((other : List ℕ) → lent planRoom room (planSaid other) ≡ onJob other (readJob other)) → PlanPromise text room (saidFor (g .job) answer)
+    read room-is = record {
+      says-8 = (λ e. absurd (not-8 answer (number e)), λ e. absurd (omega arith));
+      says-6 = (λ e. (h, (here, promises .says-6 .0 (number e))), λ r. result-is (g .job) answer ∙ promises .says-6 .1 (moved (λ x. HasPlan (x .job) → ⊥) (r .1 .0) (r .1 .1)));
+      says-7 = (
+        λ e. (h, (here, promises .says-7 .0 (number e))),
+        λ r. result-is (g .job) answer ∙ promises .says-7 .1 (moved (λ x. HasPlan (x .job) × (x .walk < wholeCount (x .job))) (r .1 .0) (r .1 .1)),
+      );
+      says-0 = (
+        λ e. (h, (here, promises .says-0 .0 (number e))),
+        λ r. result-is (g .job) answer ∙ promises .says-0 .1 (moved (λ x. HasPlan (x .job) × (wholeCount (x .job) ≤ x .walk)) (r .1 .0) (r .1 .1)),
+      );
+      answers = λ m r. subst (λ (x : Given). Answers (x .job) (x .walk) (saidFor (g .job) answer)) (sym (given-is r)) (record { answer = answer; promise = promises; says = refl });
+      job-fault = λ m n l e. never (sym eg ∙ e);
+      any-walk = λ e r other q j w. room-is other ∙ alike (number e) r other q j w;
+    }
+
+  on-job : planRoom ≤ room → (x : Outcome Given) → readJob text ≡ x → PlanPromise text room (onJob text x)
+  unfolding planSaid
+  on-job h (accepted g) e = read h g e (λ other. rw (le-ltb room planRoom h))
+  on-job h (refused n l) e = refused-job h n l e
+
+  pub promised : PlanPromise text room (lent planRoom room (planSaid text))
+  unfolding planSaid
+  promised = go (decLt room planRoom)
+    where
+      go : Dec (room < planRoom) → PlanPromise text room (lent planRoom room (planSaid text))
+      go (yes h) = rw (lt-ltb room planRoom h) (short h)
+      go (no n) = let h : planRoom ≤ room = omega (arith, n) in rw (le-ltb room planRoom h) (on-job h (readJob text) refl)

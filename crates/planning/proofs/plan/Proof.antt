@@ -1,0 +1,85 @@
+-- `plan`: a fault of the job text is refused; else the job is planned. The promise holds of the defined answer.
+use Prim.Native.Nat.{_<_}
+use mathlib.Core.Path.{_≡_, sym, ap, _∙_, subst}
+use native.Mathlib.Omega.{arith}
+use lib.ListN.{length}
+use Rattle.lines.specs.Parser.{Outcome, accepted, refused}
+use Rattle.lines.specs.Cursor.{judged}
+use Rattle.lines.specs.declared.rows.Verdict.{Verdict}
+use Rattle.job_text.specs.Grammar.{Given, readJob}
+use Rattle.job_text.specs.Views.{jobOf}
+use Rattle.job_text.proofs.Accepted.{valid}
+use Rattle.job_text.proofs.Numbered.{fault}
+use Rattle.answers.specs.Said.{Replied}
+use Rattle.planning.specs.Plan.{onJob, planSaid, planRoom}
+use Rattle.planning.proofs.Promised.{promised}
+use borrow.Author.Needs.{needs}
+use Rattle.planning.proofs.plan.Statement.{statement}
+use Rattle.planning.proofs.plan.Tie as tie
+
+-- what the job text reads as, by the verdict on it
+refused-job : (c : tie.After-verdict) → readJob (c .before .before .before .before .before .args .job .now) ≡ refused (c .verdict .given .0 .0) (c .verdict .given .0 .1 .0)
+refused-job c =
+    let r = c .before .before .read-job in
+    sym (r .ensures .is) ∙ ap (λ (v : Verdict). judged v (record { walk = r .result .walk; job = jobOf (r .result .job) })) (c .verdict .given .1)
+
+accepted-job : (c : tie.After-enum-told) → let r = c .before .before .read-job .result in
+    readJob (c .before .before .before .before .before .args .job .now) ≡ accepted (record { walk = r .walk; job = jobOf (r .job) })
+accepted-job c =
+    let r = c .before .before .read-job in
+    sym (r .ensures .is) ∙ ap (λ (v : Verdict). judged v (record { walk = r .result .walk; job = jobOf (r .result .job) })) (c .enum-told .given .1)
+
+read-job-requires : tie.Need-read-job-requires
+read-job-requires c κs = search needs
+
+enum-known-verdict : tie.Need-enum-known-verdict
+enum-known-verdict c = search needs
+
+refuse-requires : tie.Need-refuse-requires
+refuse-requires c κs = omega (arith, fault _ _ _ (refused-job (c .before .before)) .1)
+
+enum-told : tie.Need-enum-told
+enum-told c = search needs
+
+plan-job-requires : tie.Need-plan-job-requires
+plan-job-requires c κs =
+    let v = valid _ _ (accepted-job (c .before .before)) in
+    (c .before .before .before .before .read-job .ensures .sized, (v .job, v .walk))
+
+same-length : tie.Need-same-length
+same-length c = search needs
+
+returns : tie.Need-returns
+unfolding planSaid
+returns c =
+    let a = c .before .before .before .before .before .before .before .before .before .before .args in
+    let r = c .before .before .refuse in (
+      subst (λ (x : Outcome Given). Replied planRoom (onJob (a .job .now) x) (a .out .now) (r .last .1 .1 .1 .1 .0) (r .result)) (sym (refused-job (c .before .before .before .before .before))) (r .ensures),
+      promised (a .job .now) (length (a .out .now)),
+    )
+
+same-length-2 : tie.Need-same-length-2
+same-length-2 c = search needs
+
+returns-2 : tie.Need-returns-2
+unfolding planSaid
+returns-2 c =
+    let a = c .before .before .before .before .before .before .before .before .before .before .args in
+    let r = c .before .before .plan-job in (
+      subst (λ (x : Outcome Given). Replied planRoom (onJob (a .job .now) x) (a .out .now) (r .last .1 .1 .0) (r .result)) (sym (accepted-job (c .before .before .before .before .before))) (r .ensures),
+      promised (a .job .now) (length (a .out .now)),
+    )
+
+pub plan-spec : {M : Type 1} → statement M
+plan-spec =
+    tie.close
+    (tie.spec
+    read-job-requires
+    enum-known-verdict
+    refuse-requires
+    enum-told
+    plan-job-requires
+    same-length
+    returns
+    same-length-2
+    returns-2)

@@ -1,0 +1,209 @@
+-- "Of the cases, the starred ones and the job above form one table of definitions with one proof": each a call on literal texts, and all that it hands over.
+use Prim.Native.Nat.{ℕ}
+use mathlib.Core.Path.{_≡_}
+use mathlib.Core.List.{List, [], _∷_}
+use mathlib.Core.Bool.{cond}
+use lib.Dec.{eqb}
+use lib.ListN.{take, drop}
+use Rattle.lines.specs.Text.{bytes}
+use Rattle.answers.specs.Said.{Said, lent, numbers}
+use Rattle.planning.specs.Plan.{planSaid, planRoom}
+use Rattle.judging.specs.Judge.{judgeSaid, judgeRoom}
+
+pub data Call : Type 0 where
+  planner : Call
+  judge : Call
+
+-- a case: the call and its texts; the bytes written, the numbers handed over, and the line at fault
+pub record Case : Type 0 where
+  pub call : Call
+  pub job : List ℕ
+  pub plan : List ℕ
+  pub written : List ℕ
+  pub result : ℕ
+  pub text : ℕ
+  pub line : ℕ
+  pub length : ℕ
+  pub fault : List ℕ
+
+-- what the public contracts say of the call, with just the room that it needs
+abbrev pub saidBy : Call → List ℕ → List ℕ → Said
+saidBy planner job plan = lent planRoom planRoom (planSaid job)
+saidBy judge job plan = lent judgeRoom judgeRoom (judgeSaid job plan)
+
+-- the text at fault: 1 the job, 2 the plan
+abbrev pub textAt : ℕ → List ℕ → List ℕ → List ℕ
+textAt which job plan = cond (eqb which 1) job plan
+
+abbrev pub Holds : Case → Type 0
+Holds c =
+    let said = saidBy (c .call) (c .job) (c .plan) in
+    (said .bytes ≡ c .written)
+    × (numbers said .result ≡ c .result)
+    × (numbers said .text ≡ c .text)
+    × (numbers said .line ≡ c .line)
+    × (numbers said .length ≡ c .length)
+    × (take (numbers said .«fault_length») (drop (numbers said .«fault_start») (textAt (c .text) (c .job) (c .plan))) ≡ c .fault)
+
+abbrev pub All : List Case → Type 0
+All [] = Unit {0}
+All (c ∷ cs) = Holds c × All cs
+
+unfoldable pub table : List Case
+table =
+    -- 01's job
+    record {
+      call = planner;
+      job = bytes "horizon=6\nwalk=11\nopenings=4\nopening=2\nfee=10\nopening=3\nfee=10\nopening=4\nfee=10\nopening=5\nfee=10\nparts=2\nlife=3\nleft=2\nprice=5\nprice=5\nprice=5\nprice=5\nlife=4\nleft=4\nprice=7\nprice=7\nprice=7\nprice=7\n";
+      plan = bytes "";
+      written = bytes "result=0\nnodes=11\nfloor=17\ncost=37\nstops=2\nstop=2\ncount=1\npart=1\nstop=4\ncount=2\npart=1\npart=2\n";
+      result = 0;
+      text = 0;
+      line = 0;
+      length = 94;
+      fault = bytes "";
+    }
+    ∷
+    -- `walk=10`: 7, nodes 10, floor 17, the same plan
+    record {
+      call = planner;
+      job = bytes "horizon=6\nwalk=10\nopenings=4\nopening=2\nfee=10\nopening=3\nfee=10\nopening=4\nfee=10\nopening=5\nfee=10\nparts=2\nlife=3\nleft=2\nprice=5\nprice=5\nprice=5\nprice=5\nlife=4\nleft=4\nprice=7\nprice=7\nprice=7\nprice=7\n";
+      plan = bytes "";
+      written = bytes "result=7\nnodes=10\nfloor=17\ncost=37\nstops=2\nstop=2\ncount=1\npart=1\nstop=4\ncount=2\npart=1\npart=2\n";
+      result = 7;
+      text = 0;
+      line = 0;
+      length = 94;
+      fault = bytes "";
+    }
+    ∷
+    -- `walk=8`: 7, cost 44, both parts at 2 and 5
+    record {
+      call = planner;
+      job = bytes "horizon=6\nwalk=8\nopenings=4\nopening=2\nfee=10\nopening=3\nfee=10\nopening=4\nfee=10\nopening=5\nfee=10\nparts=2\nlife=3\nleft=2\nprice=5\nprice=5\nprice=5\nprice=5\nlife=4\nleft=4\nprice=7\nprice=7\nprice=7\nprice=7\n";
+      plan = bytes "";
+      written = bytes "result=7\nnodes=8\nfloor=17\ncost=44\nstops=2\nstop=2\ncount=2\npart=1\npart=2\nstop=5\ncount=2\npart=1\npart=2\n";
+      result = 7;
+      text = 0;
+      line = 0;
+      length = 100;
+      fault = bytes "";
+    }
+    ∷
+    -- `walk=6`: 7, no plan
+    record {
+      call = planner;
+      job = bytes "horizon=6\nwalk=6\nopenings=4\nopening=2\nfee=10\nopening=3\nfee=10\nopening=4\nfee=10\nopening=5\nfee=10\nparts=2\nlife=3\nleft=2\nprice=5\nprice=5\nprice=5\nprice=5\nlife=4\nleft=4\nprice=7\nprice=7\nprice=7\nprice=7\n";
+      plan = bytes "";
+      written = bytes "result=7\nnodes=6\nfloor=17\n";
+      result = 7;
+      text = 0;
+      line = 0;
+      length = 26;
+      fault = bytes "";
+    }
+    ∷
+    -- `left=1` for part 1: 6
+    record {
+      call = planner;
+      job = bytes "horizon=6\nwalk=11\nopenings=4\nopening=2\nfee=10\nopening=3\nfee=10\nopening=4\nfee=10\nopening=5\nfee=10\nparts=2\nlife=3\nleft=1\nprice=5\nprice=5\nprice=5\nprice=5\nlife=4\nleft=4\nprice=7\nprice=7\nprice=7\nprice=7\n";
+      plan = bytes "";
+      written = bytes "result=6\n";
+      result = 6;
+      text = 0;
+      line = 0;
+      length = 9;
+      fault = bytes "";
+    }
+    ∷
+    -- all fees 0: cost 17, the same changes
+    record {
+      call = planner;
+      job = bytes "horizon=6\nwalk=11\nopenings=4\nopening=2\nfee=0\nopening=3\nfee=0\nopening=4\nfee=0\nopening=5\nfee=0\nparts=2\nlife=3\nleft=2\nprice=5\nprice=5\nprice=5\nprice=5\nlife=4\nleft=4\nprice=7\nprice=7\nprice=7\nprice=7\n";
+      plan = bytes "";
+      written = bytes "result=0\nnodes=11\nfloor=17\ncost=17\nstops=2\nstop=2\ncount=1\npart=1\nstop=4\ncount=2\npart=1\npart=2\n";
+      result = 0;
+      text = 0;
+      line = 0;
+      length = 94;
+      fault = bytes "";
+    }
+    ∷
+    -- `left=4` for part 1: 5, line 14
+    record {
+      call = planner;
+      job = bytes "horizon=6\nwalk=11\nopenings=4\nopening=2\nfee=10\nopening=3\nfee=10\nopening=4\nfee=10\nopening=5\nfee=10\nparts=2\nlife=3\nleft=4\nprice=5\nprice=5\nprice=5\nprice=5\nlife=4\nleft=4\nprice=7\nprice=7\nprice=7\nprice=7\n";
+      plan = bytes "";
+      written = bytes "result=5\ntext=1\nline=14\n";
+      result = 5;
+      text = 1;
+      line = 14;
+      length = 24;
+      fault = bytes "left=4";
+    }
+    ∷
+    -- second opening 2: 4, line 6
+    record {
+      call = planner;
+      job = bytes "horizon=6\nwalk=11\nopenings=4\nopening=2\nfee=10\nopening=2\nfee=10\nopening=4\nfee=10\nopening=5\nfee=10\nparts=2\nlife=3\nleft=2\nprice=5\nprice=5\nprice=5\nprice=5\nlife=4\nleft=4\nprice=7\nprice=7\nprice=7\nprice=7\n";
+      plan = bytes "";
+      written = bytes "result=4\ntext=1\nline=6\n";
+      result = 4;
+      text = 1;
+      line = 6;
+      length = 23;
+      fault = bytes "opening=2";
+    }
+    ∷
+    -- judge, part 1 at 2, parts 1 and 2 at 3: 10, part 1, due 6
+    record {
+      call = judge;
+      job = bytes "horizon=6\nwalk=11\nopenings=4\nopening=2\nfee=10\nopening=3\nfee=10\nopening=4\nfee=10\nopening=5\nfee=10\nparts=2\nlife=3\nleft=2\nprice=5\nprice=5\nprice=5\nprice=5\nlife=4\nleft=4\nprice=7\nprice=7\nprice=7\nprice=7\n";
+      plan = bytes "cost=0\nstops=2\nstop=2\ncount=1\npart=1\nstop=3\ncount=2\npart=1\npart=2\n";
+      written = bytes "result=10\npart=1\ndue=6\n";
+      result = 10;
+      text = 0;
+      line = 0;
+      length = 23;
+      fault = bytes "";
+    }
+    ∷
+    -- judge, the printed plan with cost 36: 11, cost 37
+    record {
+      call = judge;
+      job = bytes "horizon=6\nwalk=11\nopenings=4\nopening=2\nfee=10\nopening=3\nfee=10\nopening=4\nfee=10\nopening=5\nfee=10\nparts=2\nlife=3\nleft=2\nprice=5\nprice=5\nprice=5\nprice=5\nlife=4\nleft=4\nprice=7\nprice=7\nprice=7\nprice=7\n";
+      plan = bytes "cost=36\nstops=2\nstop=2\ncount=1\npart=1\nstop=4\ncount=2\npart=1\npart=2\n";
+      written = bytes "result=11\ncost=37\n";
+      result = 11;
+      text = 0;
+      line = 0;
+      length = 18;
+      fault = bytes "";
+    }
+    ∷
+    -- one part, T = 6, no openings, life and left 7: cost 0, nodes 1, stops 0
+    record {
+      call = planner;
+      job = bytes "horizon=6\nwalk=11\nopenings=0\nparts=1\nlife=7\nleft=7\n";
+      plan = bytes "";
+      written = bytes "result=0\nnodes=1\nfloor=0\ncost=0\nstops=0\n";
+      result = 0;
+      text = 0;
+      line = 0;
+      length = 40;
+      fault = bytes "";
+    }
+    ∷
+    -- the same with life and left 6: 6
+    record {
+      call = planner;
+      job = bytes "horizon=6\nwalk=11\nopenings=0\nparts=1\nlife=6\nleft=6\n";
+      plan = bytes "";
+      written = bytes "result=6\n";
+      result = 6;
+      text = 0;
+      line = 0;
+      length = 9;
+      fault = bytes "";
+    }
+    ∷ []
