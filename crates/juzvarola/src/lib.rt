@@ -1,0 +1,27 @@
+// The library for hosts in C, Rust and other languages: include/juzvarola.h declares these functions.
+use answers::Answer;
+ghost use lib.ListN.{length};
+ghost use Rattle.answers.specs.Said.{lent, Replied};
+ghost use Rattle.judging.specs.Judge.{judgeSaid, judgeRoom};
+ghost use Rattle.judging.specs.Promise.{JudgePromise};
+ghost use Rattle.planning.specs.Plan.{planSaid, planRoom};
+ghost use Rattle.planning.specs.Promise.{PlanPromise};
+
+// Plans a job text.
+#[no_mangle]
+pub extern "C" fn juzvarola_plan(job: &[u8], out: &mut [u8]) -> Answer
+    ensures { λ r. ⌜ Replied planRoom (planSaid (now (job .entry))) (now (out .entry)) (now (out .exit)) r ⌝ }
+    ensures { λ _. ⌜ PlanPromise (now (job .entry)) (length (now (out .entry))) (lent planRoom (length (now (out .entry))) (planSaid (now (job .entry)))) ⌝ }
+{
+    planning::plan(job, out)
+}
+
+// Weighs a plan text against a job text.
+#[no_mangle]
+pub extern "C" fn juzvarola_judge(job: &[u8], plan: &[u8], out: &mut [u8]) -> Answer
+    ensures { λ r. ⌜ Replied judgeRoom (judgeSaid (now (job .entry)) (now (plan .entry))) (now (out .entry)) (now (out .exit)) r ⌝ }
+    ensures { λ _. ⌜ JudgePromise (now (job .entry)) (now (plan .entry)) (length (now (out .entry)))
+        (lent judgeRoom (length (now (out .entry))) (judgeSaid (now (job .entry)) (now (plan .entry)))) ⌝ }
+{
+    judging::judge(job, plan, out)
+}

@@ -1,0 +1,163 @@
+//! Nodes a second of the library and of the walk in Rust, on the jobs of `jobs/`, in one run.
+//! `bench [--walk N] [NAME ..]`: N nodes at most in place of each job's own walk number; NAME picks the jobs whose names begin with it.
+
+use juzvarola_host::fast::{self, Unit};
+use std::path::{Path, PathBuf};
+use std::{env, fs, process, thread};
+
+/// A job is repeated until it took this long, three times at least; one that takes longer by itself is run once.
+const SECONDS: f64 = 1.0;
+
+/// What a solver says of a job, as far as TABLE.md has it.
+#[derive(Debug, Clone, Copy, PartialEq, Eq)]
+struct Outcome {
+    nodes: u64,
+    floor: u64,
+    cost: Option<u64>,
+}
+
+type Solver = (String, fn(&[u8]) -> Outcome);
+
+#[cfg(feature = "library")]
+fn library(job: &[u8]) -> Outcome {
+    let mut out = [0; 16_384];
+    let answer = juzvarola_host::plan(job, &mut out);
+    assert!(matches!(answer.result, 0 | 7), "result {}", answer.result);
+    let lines = std::str::from_utf8(&out[..answer.length]).expect("answers are ASCII");
+    let value = |key: &str| {
+        let mut values = lines.lines().filter_map(|line| line.strip_prefix(key)?.strip_prefix('='));
+        values.next().map(|value| value.parse::<u64>().expect("a number"))
+    };
+    Outcome { nodes: value("nodes").expect("nodes"), floor: value("floor").expect("a floor"), cost: value("cost") }
+}
+
+fn rust(job: &[u8], unit: Unit) -> Outcome {
+    let found = fast::Job::read(job).solve(unit).expect("the job has a plan");
+    Outcome { nodes: found.nodes, floor: found.floor, cost: found.best.map(|best| best.0) }
+}
+
+fn solvers() -> Vec<Solver> {
+    let mut solvers: Vec<Solver> = Vec::new();
+    #[cfg(feature = "library")]
+    solvers.push(("library".into(), library));
+    for unit in Unit::all() {
+        let solve: fn(&[u8]) -> Outcome = match unit {
+            Unit::Plain => |job| rust(job, Unit::Plain),
+            Unit::Sse2 => |job| rust(job, Unit::Sse2),
+            Unit::Avx2 => |job| rust(job, Unit::Avx2),
+        };
+        solvers.push((format!("Rust {unit:?}"), solve));
+    }
+    solvers
+}
+
+/// The CPU time of this thread in seconds: other programs on the machine count little.
+fn cpu_seconds() -> f64 {
+    #[repr(C)]
+    struct Time {
+        seconds: i64,
+        nanoseconds: i64,
+    }
+    extern "C" {
+        fn clock_gettime(clock: i32, time: *mut Time) -> i32;
+    }
+    const THREAD_CPU_TIME: i32 = 3;
+    let mut time = Time { seconds: 0, nanoseconds: 0 };
+    // SAFETY: the C library's function fills the struct, which is `struct timespec` of 64-bit Linux.
+    let status = unsafe { clock_gettime(THREAD_CPU_TIME, &mut time) };
+    assert_eq!(status, 0, "clock_gettime");
+    time.seconds as f64 + time.nanoseconds as f64 * 1e-9
+}
+
+/// The row of TABLE.md: nodes, floor and cost of the whole walk.
+fn expected(table: &str, name: &str) -> Option<Outcome> {
+    let row = table.lines().find(|line| line.starts_with(&format!("| {name} |")))?;
+    let cells: Vec<u64> = row.split('|').skip(2).filter_map(|cell| cell.trim().parse().ok()).collect();
+    Some(Outcome { nodes: cells[0], floor: cells[1], cost: Some(cells[2]) })
+}
+
+/// The text with another walk number, where that is less than its own.
+fn with_walk(text: &str, walk: Option<u64>) -> String {
+    let line = |line: &str| match (line.strip_prefix("walk="), walk) {
+        (Some(own), Some(walk)) => format!("walk={}\n", walk.min(own.parse().expect("a number"))),
+        _ => format!("{line}\n"),
+    };
+    text.lines().map(line).collect()
+}
+
+/// Runs the solvers in turn; the least time of each, and its outcome.
+fn measure(solvers: &[Solver], job: &[u8]) -> Vec<(f64, Outcome)> {
+    let once = |solve: fn(&[u8]) -> Outcome| {
+        let start = cpu_seconds();
+        let outcome = solve(job);
+        (cpu_seconds() - start, outcome)
+    };
+    let mut least: Vec<(f64, Outcome)> = solvers.iter().map(|(_, solve)| once(*solve)).collect();
+    let longest = least.iter().map(|(time, _)| *time).fold(1e-7, f64::max);
+    let runs = if longest > SECONDS { 0 } else { ((SECONDS / longest) as u64).clamp(2, 1000) };
+    for _ in 0..runs {
+        for (least, (_, solve)) in least.iter_mut().zip(solvers) {
+            let (time, outcome) = once(*solve);
+            assert_eq!(outcome, least.1, "two runs differ");
+            least.0 = least.0.min(time);
+        }
+    }
+    least
+}
+
+fn stem(file: &Path) -> String {
+    file.file_stem().expect("a name").to_string_lossy().into_owned()
+}
+
+fn jobs(folder: &Path, names: &[String]) -> Vec<PathBuf> {
+    let entries = fs::read_dir(folder).unwrap_or_else(|error| panic!("{}: {error}", folder.display()));
+    let mut files: Vec<PathBuf> = entries.map(|entry| entry.expect("an entry").path()).collect();
+    files.retain(|file| file.extension().is_some_and(|extension| extension == "txt"));
+    files.retain(|file| names.is_empty() || names.iter().any(|name| stem(file).starts_with(name)));
+    files.sort();
+    files
+}
+
+fn run() {
+    let mut names: Vec<String> = env::args().skip(1).collect();
+    let mut walk = None;
+    if let Some(at) = names.iter().position(|name| name == "--walk") {
+        walk = Some(names.get(at + 1).and_then(|number| number.parse().ok()).expect("--walk N"));
+        names.drain(at..at + 2);
+    }
+    let folder = Path::new(env!("CARGO_MANIFEST_DIR")).join("../jobs");
+    let table = fs::read_to_string(folder.join("TABLE.md")).expect("TABLE.md");
+    let solvers = solvers();
+    let heads: String = solvers.iter().map(|(name, _)| format!(" {name}: Mnodes/s | ns/node |")).collect();
+    println!("| job | nodes |{heads}\n|---|---|{}", "---|---|".repeat(solvers.len()));
+    let mut wrong = 0;
+    for file in jobs(&folder, &names) {
+        let name = stem(&file);
+        let job = with_walk(&fs::read_to_string(&file).expect("a job"), walk);
+        let measured = measure(&solvers, job.as_bytes());
+        let wanted = expected(&table, &name).expect("a row of TABLE.md");
+        let whole = walk.is_none_or(|walk| walk >= wanted.nodes);
+        let reference = if whole { wanted } else { measured[0].1 };
+        for ((solver, _), (_, outcome)) in solvers.iter().zip(&measured) {
+            if *outcome != reference {
+                eprintln!("{name}: {solver} says {outcome:?}, not {reference:?}");
+                wrong += 1;
+            }
+        }
+        let nodes = reference.nodes;
+        let cells: String =
+            measured.iter().map(|(time, _)| format!(" {:.1} | {:.2} |", nodes as f64 / time / 1e6, time / nodes as f64 * 1e9)).collect();
+        println!("| {name} | {nodes} |{cells}");
+    }
+    if wrong > 0 {
+        eprintln!("{wrong} outcomes differ");
+        process::exit(1);
+    }
+}
+
+fn main() {
+    let thread = thread::Builder::new().stack_size(32 << 20).spawn(run).expect("a thread starts");
+    if thread.join().is_err() {
+        process::exit(1);
+    }
+}

@@ -1,0 +1,91 @@
+//! How much stack the library's calls need: the least stack of a thread on which each call returns, found by trying.
+
+use std::process::{exit, Command, Stdio};
+use std::{env, thread};
+
+const KILOBYTE: usize = 1024;
+const MOST: usize = 64 * 1024;
+const STEP: usize = 4;
+
+/// The largest job: 64 openings and 16 parts with the longest numbers. The life says how far the walk goes down.
+fn job(life: u32) -> String {
+    let mut text = String::from("horizon=365\nwalk=4000000000\nopenings=64\n");
+    for step in 301..365 {
+        text += &format!("opening={step}\nfee=1000000\n");
+    }
+    text += "parts=16\n";
+    for _ in 0..16 {
+        text += &format!("life={life}\nleft={life}\n{}", "price=1000000\n".repeat(64));
+    }
+    text
+}
+
+/// A plan of that job: all parts at all openings.
+fn plan() -> String {
+    let parts: String = (1..=16).map(|part| format!("part={part}\n")).collect();
+    let stops: String = (301..365).map(|step| format!("stop={step}\ncount=16\n{parts}")).collect();
+    format!("cost=1088000000\nstops=64\n{stops}")
+}
+
+/// The calls to try; each is made on a thread of its own.
+fn call(name: &str) -> u32 {
+    let mut out = vec![0; 16_384];
+    match name {
+        "plan, no stop" => juzvarola_host::plan(job(1000).as_bytes(), &mut out).result,
+        "plan, one stop" => juzvarola_host::plan(job(364).as_bytes(), &mut out).result,
+        "plan, no plan" => juzvarola_host::plan(job(1).as_bytes(), &mut out).result,
+        "plan, a fault" => juzvarola_host::plan(b"horizon=1\n", &mut out).result,
+        "judge, the longest plan" => juzvarola_host::judge(job(1000).as_bytes(), plan().as_bytes(), &mut out).result,
+        "judge, a fault" => juzvarola_host::judge(job(1000).as_bytes(), b"cost=1\nstops=65\n", &mut out).result,
+        _ => unreachable!("no such call"),
+    }
+}
+
+const CALLS: &[(&str, u32)] = &[
+    ("plan, no stop", 0),
+    ("plan, one stop", 0),
+    ("plan, no plan", 6),
+    ("plan, a fault", 3),
+    ("judge, the longest plan", 0),
+    ("judge, a fault", 3),
+];
+
+/// Makes the call in a process of its own, on a thread with this stack; says whether it returned.
+fn returns(name: &str, kilobytes: usize) -> bool {
+    let program = env::current_exe().expect("this program");
+    let mut command = Command::new(program);
+    command.args([name, &kilobytes.to_string()]).stderr(Stdio::null());
+    command.status().expect("a process starts").success()
+}
+
+/// The least stack, in steps, on which the call returns.
+fn least(name: &str) -> usize {
+    let (mut too_few, mut enough) = (0, MOST);
+    while enough - too_few > STEP {
+        let middle = (too_few + enough) / 2 / STEP * STEP;
+        if returns(name, middle) {
+            enough = middle;
+        } else {
+            too_few = middle;
+        }
+    }
+    enough
+}
+
+fn main() {
+    let arguments: Vec<String> = env::args().skip(1).collect();
+    if let [name, kilobytes] = &arguments[..] {
+        let name = name.clone();
+        let stack = kilobytes.parse::<usize>().expect("kilobytes") * KILOBYTE;
+        let wanted = CALLS.iter().find(|(call, _)| *call == name).expect("a call").1;
+        let thread = thread::Builder::new().stack_size(stack).spawn(move || call(&name)).expect("a thread starts");
+        exit(if thread.join().is_ok_and(|result| result == wanted) { 0 } else { 1 });
+    }
+    for (name, _) in CALLS {
+        if returns(name, MOST) {
+            println!("{name}: {} KB", least(name));
+        } else {
+            println!("{name}: fails with {MOST} KB");
+        }
+    }
+}

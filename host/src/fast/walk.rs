@@ -1,0 +1,219 @@
+//! The tables and the walk. Mark 0 is the first life, mark k + 1 a change at opening k.
+
+use super::lanes::Lanes;
+use super::{Found, Job};
+
+/// Stands for a missing price. A price that is not missing is at most 64,000,000, and sixteen of them sum to less than this; four of
+/// this still fit a lane.
+const INF: u32 = 1_030_000_000;
+
+const MAX_OPENINGS: usize = 64;
+
+/// A price for each part.
+type Row<V, const Q: usize> = [V; Q];
+
+/// The tables of a job.
+pub struct Tables<V, const Q: usize> {
+    count: usize,
+    fees: Vec<u64>,
+    prices: Vec<Row<V, Q>>,
+    /// `ends[triangle(j) + mark]`: the least price of changes at opening j and later that keep the part after the mark.
+    ends: Vec<Row<V, Q>>,
+    /// `reach[triangle(j) + mark]`: 0 where opening j is within the life after the mark, else INF.
+    reach: Vec<Row<V, Q>>,
+    /// For each opening, the marks below this one are missing for every part, in `ends` and in `reach`.
+    ends_from: Vec<u32>,
+    reach_from: Vec<u32>,
+}
+
+/// Where the marks 0 to j of opening j begin in a table.
+#[inline(always)]
+fn triangle(j: usize) -> usize {
+    j * (j + 1) / 2
+}
+
+/// The least mark of opening j that is not missing for some part.
+fn first_live(table: &[u32], lanes: usize, parts: usize, j: usize) -> u32 {
+    let live = |mark: &usize| table[(triangle(j) + mark) * lanes..][..parts].iter().any(|price| *price < INF);
+    (0..=j).find(live).unwrap_or(j) as u32
+}
+
+impl<V: Lanes, const Q: usize> Tables<V, Q> {
+    const LANES: usize = Q * V::COUNT;
+
+    /// Fills the tables. Lanes without a part hold 0, so they add nothing.
+    pub fn new(job: &Job) -> Tables<V, Q> {
+        let (count, parts, lanes) = (job.steps.len(), job.parts.len(), Self::LANES);
+        let mut prices = vec![0; count * lanes];
+        let mut ends = vec![0; triangle(count + 1) * lanes];
+        let mut reach = vec![0; triangle(count) * lanes];
+        for (p, part) in job.parts.iter().enumerate() {
+            let step = |mark: usize| if mark == 0 { part.left - part.life } else { job.steps[mark - 1] };
+            let at = |j: usize, mark: usize| (triangle(j) + mark) * lanes + p;
+            for mark in 0..=count {
+                ends[at(count, mark)] = if step(mark) + part.life > job.horizon { 0 } else { INF };
+            }
+            for j in (0..count).rev() {
+                prices[j * lanes + p] = part.prices[j];
+                let changed = (ends[at(j + 1, j + 1)] + part.prices[j]).min(INF);
+                for mark in 0..=j {
+                    let within = job.steps[j] - step(mark) <= part.life;
+                    reach[at(j, mark)] = if within { 0 } else { INF };
+                    let with = if within { changed } else { INF };
+                    ends[at(j, mark)] = with.min(ends[at(j + 1, mark)]);
+                }
+            }
+        }
+        Tables {
+            count,
+            fees: job.fees.iter().map(|fee| u64::from(*fee)).collect(),
+            ends_from: (0..=count).map(|j| first_live(&ends, lanes, parts, j)).collect(),
+            reach_from: (0..count).map(|j| first_live(&reach, lanes, parts, j)).collect(),
+            prices: Self::rows(&prices),
+            ends: Self::rows(&ends),
+            reach: Self::rows(&reach),
+        }
+    }
+
+    fn rows(table: &[u32]) -> Vec<Row<V, Q>> {
+        let row = |row: &[u32]| std::array::from_fn(|q| V::load(&row[q * V::COUNT..]));
+        table.chunks_exact(Self::LANES).map(row).collect()
+    }
+}
+
+/// Each part's least of the row and a sum of two rows.
+#[inline(always)]
+fn take_least<V: Lanes, const Q: usize>(least: &mut Row<V, Q>, a: &Row<V, Q>, b: &Row<V, Q>) {
+    for q in 0..Q {
+        least[q] = a[q].plus(b[q]).least(least[q]);
+    }
+}
+
+#[inline(always)]
+fn same<V: Lanes, const Q: usize>(a: &Row<V, Q>, b: &Row<V, Q>) -> bool {
+    let mut same = a[0].equal(b[0]);
+    for q in 1..Q {
+        same = same.and(a[q].equal(b[q]));
+    }
+    same.all_set()
+}
+
+/// The sum of the parts, or INF where one is missing.
+#[inline(always)]
+fn total<V: Lanes, const Q: usize>(row: &Row<V, Q>) -> u32 {
+    let mut sum = row[0];
+    for lanes in &row[1..] {
+        sum = sum.plus(*lanes);
+    }
+    sum.sum().min(u64::from(INF)) as u32
+}
+
+/// The rows of the stops decided, each with its mark: the least price of changes up to one at that mark.
+struct Front<V, const Q: usize> {
+    rows: [Row<V, Q>; MAX_OPENINGS + 1],
+    marks: [u32; MAX_OPENINGS + 1],
+}
+
+/// A node whose yes is still to be walked: its parts' least prices and their sum, the rows of its front, the fees of its stops.
+#[derive(Clone, Copy)]
+struct Above<V, const Q: usize> {
+    least: Row<V, Q>,
+    sum: u32,
+    rows: u32,
+    spent: u64,
+}
+
+impl<V: Lanes, const Q: usize> Tables<V, Q> {
+    /// The parts' least prices over the stops of the front and openings j and later, with their sum. They are nowhere less than `least`,
+    /// so where they reach it the rows below need no look.
+    #[inline(always)]
+    fn bound(&self, front: &Front<V, Q>, rows: usize, j: usize, least: &Row<V, Q>, sum: u32) -> (Row<V, Q>, u32) {
+        let from = self.ends_from[j];
+        let ends = &self.ends[triangle(j)..triangle(j + 1)];
+        let mut found = [V::splat(INF); Q];
+        for n in (0..rows).rev() {
+            let mark = front.marks[n];
+            if mark < from {
+                break;
+            }
+            take_least(&mut found, &front.rows[n], &ends[mark as usize]);
+            if same(&found, least) {
+                return (found, sum);
+            }
+        }
+        (found, total(&found))
+    }
+
+    /// Adds the row of a stop at opening j.
+    #[inline(always)]
+    fn push(&self, front: &mut Front<V, Q>, rows: usize, j: usize) {
+        let from = self.reach_from[j];
+        let reach = &self.reach[triangle(j)..triangle(j + 1)];
+        let mut found = [V::splat(INF); Q];
+        for n in (0..rows).rev() {
+            let mark = front.marks[n];
+            if mark < from {
+                break;
+            }
+            take_least(&mut found, &front.rows[n], &reach[mark as usize]);
+        }
+        front.rows[rows] = std::array::from_fn(|q| found[q].plus(self.prices[j][q]));
+        front.marks[rows] = j as u32 + 1;
+    }
+
+    /// The walk of at most `limit` nodes, or none where the job has no plan.
+    #[inline(always)]
+    pub fn walk(&self, limit: u64) -> Option<Found> {
+        let count = self.count;
+        let none = [V::splat(0); Q];
+        let mut front = Front { rows: [none; MAX_OPENINGS + 1], marks: [0; MAX_OPENINGS + 1] };
+        let mut above = [Above { least: none, sum: 0, rows: 0, spent: 0 }; MAX_OPENINGS];
+        let (mut least, floor) = self.bound(&front, 1, 0, &none, 0);
+        if floor == INF {
+            return None;
+        }
+        let (mut nodes, mut more, mut best, mut best_mask) = (0, false, u64::MAX, 0);
+        // The node: openings decided, decisions (the latest in the lowest bit), fees, part sums, rows, whether a stop's row is owed.
+        let (mut at, mut mask, mut spent, mut sum, mut rows, mut owes) = (0, 0u64, 0, floor, 1, false);
+        loop {
+            if nodes == limit {
+                more = true;
+                break;
+            }
+            nodes += 1;
+            let cost = spent + u64::from(sum);
+            if sum < INF && cost < best {
+                if at < count {
+                    // On to the no below.
+                    if owes {
+                        self.push(&mut front, rows, at - 1);
+                        rows += 1;
+                        least = above[at - 1].least;
+                        owes = false;
+                    }
+                    above[at] = Above { least, sum, rows: rows as u32, spent };
+                    at += 1;
+                    mask *= 2;
+                    (least, sum) = self.bound(&front, rows, at, &least, sum);
+                    continue;
+                }
+                best = cost;
+                best_mask = mask;
+            }
+            // Back to the latest no: its yes comes next, with the same part sums.
+            let yes = mask.trailing_ones() as usize;
+            if yes >= at {
+                break;
+            }
+            at -= yes;
+            mask = mask >> yes | 1;
+            let node = &above[at - 1];
+            rows = node.rows as usize;
+            sum = node.sum;
+            spent = node.spent + self.fees[at - 1];
+            owes = true;
+        }
+        let stops = || (0..count).fold(0, |stops, k| stops | (best_mask >> (count - 1 - k) & 1) << k);
+        Some(Found { nodes, more, floor: floor.into(), best: (best < u64::MAX).then(|| (best, stops())) })
+    }
+}

@@ -1,0 +1,27 @@
+//! The host side of Juzvarola: safe wrappers of the proved library, an independent reference implementation, and a fast walk in Rust
+//! to compare speeds with.
+
+pub mod fast;
+#[cfg(feature = "library")]
+mod library;
+pub mod reference;
+
+#[cfg(feature = "library")]
+pub use library::{judge, plan};
+
+/// What a call answers. `'t` is the life of the caller's texts.
+#[derive(Debug, Clone, Copy, PartialEq, Eq)]
+pub struct Answer<'t> {
+    /// The result number, 0 to 11.
+    pub result: u32,
+    /// The text at fault: 1 the job, 2 the plan, 0 neither.
+    pub text: u32,
+    /// The line at fault, counted from 1; 0 if there is none.
+    pub line: u32,
+    /// The bytes written to the lent output.
+    pub length: usize,
+    /// Where the line at fault starts in its text; 0 if there is none.
+    pub fault_start: usize,
+    /// The line at fault, a part of the caller's own text, without its byte 10; empty if there is none.
+    pub fault: &'t [u8],
+}

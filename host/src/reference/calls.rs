@@ -1,0 +1,82 @@
+//! The planner's and the judge's answers, in the order of the result numbers.
+
+use super::lines::Fault;
+use super::texts::{plan_lines, read_job, read_plan};
+
+/// "The lent output has at least 16,384."
+pub const LEAST_OUTPUT: usize = 16_384;
+
+/// All that a call hands over: its numbers, the written bytes and the place of the line at fault in its text.
+#[derive(Debug, Clone, PartialEq, Eq, Default)]
+pub struct Reply {
+    pub result: u32,
+    pub text: u32,
+    pub line: u32,
+    pub bytes: Vec<u8>,
+    pub fault_start: usize,
+    pub fault_length: usize,
+}
+
+impl Reply {
+    /// The reply with this result and the lines after `result`.
+    fn new(result: u32, more: &str) -> Reply {
+        Reply { result, bytes: format!("result={result}\n{more}").into_bytes(), ..Reply::default() }
+    }
+
+    /// "Numbers 1 to 5 and 9: `result`, `text` (1 job, 2 plan), `line` (from 1; 0 for number 1)."
+    fn fault(text: u32, fault: Fault) -> Reply {
+        let Fault { result, line, start, length } = fault;
+        let reply = Reply::new(result, &format!("text={text}\nline={line}\n"));
+        Reply { text, line, fault_start: start, fault_length: length, ..reply }
+    }
+
+    /// "8: the output is shorter than 16,384 bytes. Nothing is written, length 0."
+    fn short_output() -> Reply {
+        Reply { result: 8, ..Reply::default() }
+    }
+}
+
+/// The planner, with an output of this length.
+pub fn plan(job_text: &[u8], output: usize) -> Reply {
+    if output < LEAST_OUTPUT {
+        return Reply::short_output();
+    }
+    let job = match read_job(job_text) {
+        Ok(job) => job,
+        Err(fault) => return Reply::fault(1, fault),
+    };
+    // "6: no plan keeps the lives. Planner only, and independent of `walk`."
+    let Some(floor) = job.floor() else {
+        return Reply::new(6, "");
+    };
+    // "7: the walk has more points than `walk`." "Planner 0 and 7: `result`, `nodes` (points walked), `floor`, then the plan lines; with
+    // 7 and no plan it ends after `floor`."
+    let walk = job.walk(job.walk);
+    let plan = walk.best.and_then(|(_, stops)| job.plan_at(&stops));
+    let lines = plan.map_or(String::new(), |plan| plan_lines(&job, &plan));
+    Reply::new(if walk.more { 7 } else { 0 }, &format!("nodes={}\nfloor={floor}\n{lines}", walk.nodes))
+}
+
+/// The judge, with an output of this length.
+pub fn judge(job_text: &[u8], plan_text: &[u8], output: usize) -> Reply {
+    if output < LEAST_OUTPUT {
+        return Reply::short_output();
+    }
+    let job = match read_job(job_text) {
+        Ok(job) => job,
+        Err(fault) => return Reply::fault(1, fault),
+    };
+    let (plan, stated) = match read_plan(&job, plan_text) {
+        Ok(read) => read,
+        Err(fault) => return Reply::fault(2, fault),
+    };
+    // "10: a part is not kept. Lowest such part, and its due step."
+    for (part, changes) in plan.changes.iter().enumerate() {
+        if let Some(due) = job.due(&job.parts[part], changes) {
+            return Reply::new(10, &format!("part={}\ndue={due}\n", part + 1));
+        }
+    }
+    // "11: all kept, but `cost` is not the plan's cost." Both print the true cost.
+    let cost = job.cost(&plan);
+    Reply::new(if cost == stated { 0 } else { 11 }, &format!("cost={cost}\n"))
+}

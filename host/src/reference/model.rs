@@ -1,0 +1,128 @@
+//! The model: jobs, plans, lives and costs.
+
+/// "Stops may be made only at named steps, the openings. A stop costs that opening's fee, once."
+#[derive(Debug, Clone, PartialEq, Eq)]
+pub struct Opening {
+    pub step: i64,
+    pub fee: u64,
+}
+
+/// "A part has a life L and a first life R ("left")." Its price at each opening.
+#[derive(Debug, Clone, PartialEq, Eq)]
+pub struct Part {
+    pub life: i64,
+    pub left: i64,
+    pub prices: Vec<u64>,
+}
+
+#[derive(Debug, Clone, PartialEq, Eq)]
+pub struct Job {
+    pub horizon: i64,
+    pub walk: u64,
+    pub openings: Vec<Opening>,
+    pub parts: Vec<Part>,
+}
+
+/// A set of openings: a yes or no for each.
+pub type Set = Vec<bool>;
+
+/// "A plan is a set of openings, its stops, and for each part a set of openings at which it is changed."
+#[derive(Debug, Clone, PartialEq, Eq)]
+pub struct Plan {
+    pub stops: Set,
+    pub changes: Vec<Set>,
+}
+
+impl Part {
+    /// "Think of it as last changed at step R − L, which is zero or negative."
+    pub fn first_change(&self) -> i64 {
+        self.left - self.life
+    }
+}
+
+impl Job {
+    /// The due step of a part with these changes, or none where they keep it.
+    /// "A set of changes keeps the part if each change comes at most L steps after the one before, and the last (or R − L if there is
+    /// none) plus L is at least T + 1." "Its due step: at its first gap that is too long, the last step at which a change would still
+    /// have kept it (the change before, or R − L, plus L)."
+    pub fn due(&self, part: &Part, changes: &Set) -> Option<i64> {
+        let mut before = part.first_change();
+        for (opening, changed) in self.openings.iter().zip(changes) {
+            if *changed {
+                if opening.step - before > part.life {
+                    return Some(before + part.life);
+                }
+                before = opening.step;
+            }
+        }
+        if before + part.life > self.horizon {
+            None
+        } else {
+            Some(before + part.life)
+        }
+    }
+
+    /// "A plan keeps the lives if each part is kept and every change is at a stop."
+    pub fn keeps(&self, plan: &Plan) -> bool {
+        let kept = |(part, changes)| self.due(part, changes).is_none();
+        let at_stops = |changes: &Set| changes.iter().zip(&plan.stops).all(|(changed, stop)| *stop || !changed);
+        self.parts.iter().zip(&plan.changes).all(kept) && plan.changes.iter().all(at_stops)
+    }
+
+    /// "The fees of its stops".
+    pub fn fees(&self, stops: &[bool]) -> u64 {
+        self.openings.iter().zip(stops).filter(|(_, stop)| **stop).map(|(opening, _)| opening.fee).sum()
+    }
+
+    /// "Its cost is the fees of its stops plus the prices of its changes."
+    pub fn cost(&self, plan: &Plan) -> u64 {
+        let prices = |(part, changes): (&Part, &Set)| part.price(changes);
+        self.fees(&plan.stops) + self.parts.iter().zip(&plan.changes).map(prices).sum::<u64>()
+    }
+
+    /// The least-price change set that keeps the part over the allowed openings, with its price, or none.
+    /// Of two of equal price, "the one that makes no stop at the earliest opening where they differ is taken"; "each part's least-price
+    /// change set is chosen the same way".
+    pub fn least(&self, part: &Part, allowed: &Set) -> Option<(u64, Set)> {
+        let count = self.openings.len();
+        // The last change: 0 is the first life, k + 1 is opening k.
+        let step = |last: usize| if last == 0 { part.first_change() } else { self.openings[last - 1].step };
+        let kept = |last: usize| step(last) + part.life > self.horizon;
+
+        // left[k][last]: the least price of changes at opening k and later that keep the part after `last`; changed[k][last]: whether the
+        // one to take changes at opening k.
+        let mut left = vec![vec![None; count + 1]; count + 1];
+        let mut changed = vec![vec![false; count + 1]; count];
+        left[count] = (0..=count).map(|last| kept(last).then_some(0)).collect();
+        for k in (0..count).rev() {
+            for last in 0..=k {
+                let without = left[k + 1][last];
+                let in_time = self.openings[k].step - step(last) <= part.life;
+                let with = left[k + 1][k + 1].filter(|_| allowed[k] && in_time).map(|later: u64| later + part.prices[k]);
+                changed[k][last] = match (without, with) {
+                    (Some(without), Some(with)) => with < without,
+                    (None, Some(_)) => true,
+                    _ => false,
+                };
+                left[k][last] = if changed[k][last] { with } else { without };
+            }
+        }
+
+        let price = left[0][0]?;
+        let mut changes = vec![false; count];
+        let mut last = 0;
+        for k in 0..count {
+            if changed[k][last] {
+                changes[k] = true;
+                last = k + 1;
+            }
+        }
+        Some((price, changes))
+    }
+}
+
+impl Part {
+    pub fn price(&self, changes: &Set) -> u64 {
+        self.prices.iter().zip(changes).filter(|(_, changed)| **changed).map(|(price, _)| price).sum()
+    }
+}

@@ -1,0 +1,91 @@
+//! "The texts": the job's lines, the plan's lines, and how a plan is printed.
+
+use super::lines::{Fault, Lines};
+use super::model::{Job, Opening, Part, Plan};
+
+/// "Job: `horizon` 2..365; `walk` 0..4000000000; `openings` 0..64; for each, `opening` 1..365 and `fee` 0..1000000; `parts` 1..16; for
+/// each, `life` 1..1000, `left` 1..1000, then one `price` 1..1000000 per opening."
+pub fn read_job(text: &[u8]) -> Result<Job, Fault> {
+    let mut lines = Lines::new(text)?;
+    let horizon = lines.value("horizon", 2, 365)? as i64;
+    let walk = lines.value("walk", 0, 4_000_000_000)?;
+
+    let count = lines.value("openings", 0, 64)?;
+    let mut openings: Vec<Opening> = Vec::new();
+    for _ in 0..count {
+        let step = lines.value("opening", 1, 365)? as i64;
+        // "4: an opening not after the one before, or past the horizon."
+        if step > horizon || openings.last().is_some_and(|before| step <= before.step) {
+            return Err(lines.fault(4));
+        }
+        let fee = lines.value("fee", 0, 1_000_000)?;
+        openings.push(Opening { step, fee });
+    }
+
+    let mut parts = Vec::new();
+    for _ in 0..lines.value("parts", 1, 16)? {
+        let life = lines.value("life", 1, 1000)? as i64;
+        let left = lines.value("left", 1, 1000)? as i64;
+        // "5: `left` greater than `life`, on the `left` line."
+        if left > life {
+            return Err(lines.fault(5));
+        }
+        let mut prices = Vec::new();
+        for _ in 0..count {
+            prices.push(lines.value("price", 1, 1_000_000)?);
+        }
+        parts.push(Part { life, left, prices });
+    }
+
+    lines.end()?;
+    Ok(Job { horizon, walk, openings, parts })
+}
+
+/// "Plan: `cost` 0..2000000000; `stops` 0..64; for each, `stop` 1..365 and `count` 0..16, then that many `part` 1..16." The plan and the
+/// cost that it states.
+pub fn read_plan(job: &Job, text: &[u8]) -> Result<(Plan, u64), Fault> {
+    let mut lines = Lines::new(text)?;
+    let cost = lines.value("cost", 0, 2_000_000_000)?;
+    let openings = job.openings.len();
+    let mut plan = Plan { stops: vec![false; openings], changes: vec![vec![false; openings]; job.parts.len()] };
+
+    let mut step_before = 0;
+    for _ in 0..lines.value("stops", 0, 64)? {
+        let step = lines.value("stop", 1, 365)? as i64;
+        // "9: a stop that is no opening or doesn't rise".
+        let opening = job.openings.iter().position(|opening| opening.step == step);
+        let Some(opening) = opening.filter(|_| step > step_before) else {
+            return Err(lines.fault(9));
+        };
+        step_before = step;
+        plan.stops[opening] = true;
+
+        let mut part_before = 0;
+        for _ in 0..lines.value("count", 0, 16)? {
+            let part = lines.value("part", 1, 16)? as usize;
+            // "a part that is above `parts` or doesn't rise".
+            if part > job.parts.len() || part <= part_before {
+                return Err(lines.fault(9));
+            }
+            part_before = part;
+            plan.changes[part - 1][opening] = true;
+        }
+    }
+
+    lines.end()?;
+    Ok((plan, cost))
+}
+
+/// The plan lines of a plan, with its cost.
+pub fn plan_lines(job: &Job, plan: &Plan) -> String {
+    let stops = || (0..job.openings.len()).filter(|opening| plan.stops[*opening]);
+    let mut text = format!("cost={}\nstops={}\n", job.cost(plan), stops().count());
+    for opening in stops() {
+        let parts: Vec<usize> = (0..job.parts.len()).filter(|part| plan.changes[*part][opening]).collect();
+        text += &format!("stop={}\ncount={}\n", job.openings[opening].step, parts.len());
+        for part in parts {
+            text += &format!("part={}\n", part + 1);
+        }
+    }
+    text
+}

@@ -1,0 +1,80 @@
+//! "The walk is counted, so it is fixed."
+
+use super::model::{Job, Plan, Set};
+
+/// "A point is a yes or no for the first j openings."
+pub type Point = [bool];
+
+impl Job {
+    /// "Its estimate is the fees of its yes openings, plus, for each part, the least price of a change set that keeps it over the yes
+    /// openings and all undecided ones. If some part has none, the estimate is missing."
+    pub fn estimate(&self, point: &Point) -> Option<u64> {
+        let allowed: Set = (0..self.openings.len()).map(|k| point.get(k).copied().unwrap_or(true)).collect();
+        let mut sum = self.fees(point);
+        for part in &self.parts {
+            sum += self.least(part, &allowed)?.0;
+        }
+        Some(sum)
+    }
+
+    /// The plan of these stops in which each part has its least-price change set.
+    pub fn plan_at(&self, stops: &Set) -> Option<Plan> {
+        let changes: Option<Vec<Set>> = self.parts.iter().map(|part| Some(self.least(part, stops)?.1)).collect();
+        Some(Plan { stops: stops.clone(), changes: changes? })
+    }
+
+    /// "The floor is the first point's estimate, at any walk number, 0 included." Missing exactly where the job has no plan.
+    pub fn floor(&self) -> Option<u64> {
+        self.estimate(&[])
+    }
+
+    /// "The walk begins at the point with nothing decided."
+    pub fn walk(&self, limit: u64) -> Walk {
+        let mut walk = Walk { limit, nodes: 0, more: false, best: None };
+        walk.reach(self, &mut Vec::new());
+        walk
+    }
+}
+
+/// A walk of at most `limit` points.
+pub struct Walk {
+    limit: u64,
+    /// The points walked.
+    pub nodes: u64,
+    /// Whether the whole walk has more.
+    pub more: bool,
+    /// The best full plan so far: its cost and its stops.
+    pub best: Option<(u64, Set)>,
+}
+
+impl Walk {
+    fn reach(&mut self, job: &Job, point: &mut Set) {
+        // "If the whole walk, the one without a limit, has more, exactly that many are walked."
+        if self.nodes == self.limit {
+            self.more = true;
+            return;
+        }
+        // "Each point reached counts one."
+        self.nodes += 1;
+        // "It is dropped if its estimate is missing or is not less than the best full plan so far."
+        let Some(estimate) = job.estimate(point) else {
+            return;
+        };
+        if let Some((best, _)) = &self.best {
+            if estimate >= *best {
+                return;
+            }
+        }
+        // "A full point not dropped becomes the best."
+        if point.len() == job.openings.len() {
+            self.best = Some((estimate, point.clone()));
+            return;
+        }
+        // "Otherwise both points below are walked, the no-stop one first."
+        for stop in [false, true] {
+            point.push(stop);
+            self.reach(job, point);
+            point.pop();
+        }
+    }
+}

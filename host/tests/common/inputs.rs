@@ -1,0 +1,390 @@
+//! Random jobs, plans and damaged texts, long and short.
+
+use super::rng::Rng;
+use super::Call;
+use juzvarola_host::reference;
+
+pub const MOST_WALK: u64 = 4_000_000_000;
+const OUTPUT: usize = 16_384;
+
+/// The facts of a job, and the text that states them.
+#[derive(Debug, Clone)]
+pub struct Facts {
+    pub horizon: u64,
+    pub walk: u64,
+    /// Step and fee.
+    pub openings: Vec<(u64, u64)>,
+    pub parts: Vec<PartFacts>,
+}
+
+#[derive(Debug, Clone)]
+pub struct PartFacts {
+    pub life: u64,
+    pub left: u64,
+    pub prices: Vec<u64>,
+}
+
+impl Facts {
+    pub fn text(&self) -> Vec<u8> {
+        let mut text = format!("horizon={}\nwalk={}\nopenings={}\n", self.horizon, self.walk, self.openings.len());
+        for (step, fee) in &self.openings {
+            text += &format!("opening={step}\nfee={fee}\n");
+        }
+        text += &format!("parts={}\n", self.parts.len());
+        for part in &self.parts {
+            text += &format!("life={}\nleft={}\n", part.life, part.left);
+            for price in &part.prices {
+                text += &format!("price={price}\n");
+            }
+        }
+        text.into_bytes()
+    }
+
+    /// The longest stretch of steps between neighbours among step 0, the openings and step T + 1.
+    fn longest_gap(&self) -> u64 {
+        let steps: Vec<u64> = [0].into_iter().chain(self.openings.iter().map(|o| o.0)).chain([self.horizon + 1]).collect();
+        steps.windows(2).map(|pair| pair[1] - pair[0]).max().unwrap_or(1)
+    }
+}
+
+/// The most of each that a random job has.
+#[derive(Clone, Copy)]
+pub struct Size {
+    pub horizon: u64,
+    pub openings: u64,
+    pub parts: u64,
+}
+
+pub const TINY: Size = Size { horizon: 8, openings: 5, parts: 2 };
+pub const SMALL: Size = Size { horizon: 14, openings: 7, parts: 4 };
+pub const MIDDLE: Size = Size { horizon: 60, openings: 16, parts: 8 };
+pub const LARGE: Size = Size { horizon: 365, openings: 64, parts: 16 };
+
+/// Amounts from `least` on in one of several manners: equal, few (so that ties are common), many, the ends of the range, rising, falling.
+fn amounts(rng: &mut Rng, count: usize, least: u64) -> Vec<u64> {
+    let most = 1_000_000;
+    let manner = rng.below(7);
+    let equal = rng.within(least, 30);
+    let mut amounts: Vec<u64> = (0..count)
+        .map(|_| match manner {
+            0 => equal,
+            1 => rng.within(least, least + 2),
+            2 | 3 => rng.within(least, 20),
+            4 => rng.within(least, most),
+            5 => rng.pick(&[least, most]),
+            _ => rng.within(least, 50),
+        })
+        .collect();
+    if manner == 6 {
+        amounts.sort();
+        if rng.once_in(2) {
+            amounts.reverse();
+        }
+    }
+    amounts
+}
+
+/// A job without faults; most have a plan. Its walk number is the largest.
+pub fn facts(rng: &mut Rng, size: Size) -> Facts {
+    let horizon = rng.within(2, size.horizon);
+    let mut steps: Vec<u64> = (1..=horizon).collect();
+    let count = rng.within(0, size.openings.min(horizon)) as usize;
+    while steps.len() > count {
+        let at = rng.below(steps.len() as u64) as usize;
+        steps.remove(at);
+    }
+    let fees = amounts(rng, count, 0);
+    let openings: Vec<(u64, u64)> = steps.into_iter().zip(fees).collect();
+    let mut facts = Facts { horizon, walk: MOST_WALK, openings, parts: Vec::new() };
+    let gap = facts.longest_gap();
+    for _ in 0..rng.within(1, size.parts) {
+        let life = match rng.below(12) {
+            0 => rng.within(1, 1000),
+            1 => rng.within(1, horizon),
+            2 => rng.within(horizon, horizon + 2),
+            _ => rng.within(gap, (gap + horizon / 2).max(gap)),
+        };
+        let left = match rng.below(8) {
+            0 => rng.within(1, life),
+            1 => life,
+            _ => rng.within(gap.min(life), life),
+        };
+        facts.parts.push(PartFacts { life, left, prices: amounts(rng, count, 1) });
+    }
+    facts
+}
+
+/// The same job with a walk number: any up to `most`, the number of points of the whole walk (where that is small) or one beside it.
+fn with_walk(rng: &mut Rng, mut facts: Facts, most: u64, whole: bool) -> Facts {
+    if whole && rng.once_in(3) {
+        return facts;
+    }
+    if whole && rng.once_in(2) {
+        let points = reference::texts::read_job(&facts.text()).expect("a job without faults").walk(MOST_WALK).nodes;
+        facts.walk = rng.within(points - 1, points + 1);
+    } else {
+        facts.walk = rng.within(0, most);
+    }
+    facts
+}
+
+/// A job that the reference walks in a short time.
+pub fn job(rng: &mut Rng) -> Facts {
+    match rng.below(100) {
+        0 => {
+            let facts = facts(rng, LARGE);
+            with_walk(rng, facts, 80, false)
+        }
+        1..=9 => {
+            let facts = facts(rng, MIDDLE);
+            with_walk(rng, facts, 200, false)
+        }
+        _ => {
+            let facts = facts(rng, SMALL);
+            with_walk(rng, facts, 60, true)
+        }
+    }
+}
+
+/// The plan lines that the planner prints for the job, if there are any.
+pub fn printed_plan(job: &[u8]) -> Option<Vec<u8>> {
+    let bytes = reference::plan(job, OUTPUT).bytes;
+    let at = bytes.windows(5).position(|window| window == b"cost=")?;
+    Some(bytes[at..].to_vec())
+}
+
+/// A plan without faults of the text; `often` of 10 openings are stops, and of 10 parts are changed there. Its cost is true.
+fn random_plan(rng: &mut Rng, facts: &Facts, often: u64) -> Vec<u8> {
+    let mut cost = 0;
+    let mut stops = 0;
+    let mut lines = String::new();
+    for (opening, (step, fee)) in facts.openings.iter().enumerate() {
+        if rng.below(10) < often {
+            let parts: Vec<usize> = (0..facts.parts.len()).filter(|_| rng.below(10) < often).collect();
+            stops += 1;
+            cost += fee;
+            lines += &format!("stop={step}\ncount={}\n", parts.len());
+            for part in parts {
+                cost += facts.parts[part].prices[opening];
+                lines += &format!("part={}\n", part + 1);
+            }
+        }
+    }
+    format!("cost={cost}\nstops={stops}\n{lines}").into_bytes()
+}
+
+/// A plan text for the job: printed by the planner or random, its cost at times not the true one.
+pub fn plan(rng: &mut Rng, facts: &Facts) -> Vec<u8> {
+    let printed = if rng.once_in(3) { printed_plan(&facts.text()) } else { None };
+    let plan = printed.unwrap_or_else(|| {
+        let often = rng.pick(&[5, 8, 9, 10, 10]);
+        random_plan(rng, facts, often)
+    });
+    if !rng.once_in(4) {
+        return plan;
+    }
+    let cost = [rng.below(100), rng.below(2_000_000_001), 0, 2_000_000_000][rng.below(4) as usize];
+    let rest = plan.iter().position(|byte| *byte == b'\n').expect("a plan has lines");
+    [format!("cost={cost}").as_bytes(), &plan[rest..]].concat()
+}
+
+const BYTES: &[u8] = b"0123456789==\n\n\r \t-+.,xaeEfo\0\x0b\x7f\x80\xff";
+
+/// Values at the ends of the ranges and of machine numbers.
+const VALUES: &[u64] = &[
+    0,
+    1,
+    2,
+    15,
+    16,
+    17,
+    63,
+    64,
+    65,
+    364,
+    365,
+    366,
+    999,
+    1000,
+    1001,
+    999999,
+    1000000,
+    1000001,
+    1999999999,
+    2000000000,
+    2000000001,
+    3999999999,
+    4000000000,
+    4000000001,
+    2147483648,
+    4294967295,
+    4294967296,
+    4294967297,
+    9999999999,
+    10000000000,
+    42949672960,
+    18446744073709551615,
+];
+
+const NO_VALUES: &[&str] = &[
+    "",
+    "00",
+    "01",
+    "05",
+    "000",
+    "0000000001",
+    "00000000001",
+    "18446744073709551617",
+    "-1",
+    "+1",
+    " 1",
+    "1 ",
+    "1\r",
+    "0x1",
+    "1e1",
+    "1.0",
+    "=1",
+    "1=",
+    "a",
+];
+
+const KEYS: &[&str] = &[
+    "horizon", "walk", "openings", "opening", "fee", "parts", "life", "left", "price", "cost", "stops", "stop", "count", "part", "", "Fee",
+    " fee", "fee ", "pric", "prices", "result",
+];
+
+/// The bounds of the lines of a text, each with its byte 10.
+fn bounds(text: &[u8]) -> Vec<(usize, usize)> {
+    let mut bounds = Vec::new();
+    let mut start = 0;
+    for line in text.split_inclusive(|byte| *byte == b'\n') {
+        bounds.push((start, start + line.len()));
+        start += line.len();
+    }
+    bounds
+}
+
+fn splice(text: &mut Vec<u8>, from: usize, to: usize, with: &[u8]) {
+    text.splice(from..to, with.iter().copied());
+}
+
+/// One damage to the text.
+pub fn damage(rng: &mut Rng, text: &mut Vec<u8>) {
+    let place = rng.below(text.len() as u64 + 1) as usize;
+    let byte = rng.pick(BYTES);
+    let lines = bounds(text);
+    if lines.is_empty() {
+        text.push(byte);
+        return;
+    }
+    // Half of the time a line with a count, a step or a life, which rules other than its range bind.
+    let bound = |line: &&(usize, usize)| !text[line.0..].starts_with(b"price") && !text[line.0..].starts_with(b"fee");
+    let bounded: Vec<(usize, usize)> = lines.iter().filter(bound).copied().collect();
+    let any = bounded.is_empty() || rng.once_in(2);
+    let (start, end) = rng.pick(if any { &lines } else { &bounded });
+    // The end of the line's content, without its byte 10.
+    let stop = if text[end - 1] == b'\n' { end - 1 } else { end };
+    let equals = text[start..stop].iter().position(|byte| *byte == b'=').map(|at| start + at);
+    match rng.below(24) {
+        // bytes
+        0 => splice(text, place, (place + 1).min(text.len()), &[byte]),
+        1 => splice(text, place, place, &[byte]),
+        2 => splice(text, place, (place + 1).min(text.len()), &[]),
+        // ends
+        3 => text.truncate(place),
+        4 => text.truncate(start),
+        5 => text.truncate(stop),
+        6 => text.truncate(text.len() - 1),
+        7 => text.extend_from_slice(rng.pick(&[&b"\n"[..], b"x", b" ", b"\n\n", b"price=1\n", b"price=1", b"part=1\n", b"=\n", b"\0"])),
+        8 => text.extend((0..rng.within(1, 40)).map(|_| rng.pick(BYTES))),
+        // lines
+        9 => splice(text, start, end, &[]),
+        10 => {
+            let line = text[start..end].to_vec();
+            splice(text, start, start, &line);
+        }
+        11 => {
+            let (other, other_end) = rng.pick(&lines);
+            let line = text[other..other_end].to_vec();
+            splice(text, start, end, &line);
+        }
+        12 => splice(text, start, start, b"\n"),
+        // keys and values
+        13 => {
+            if let Some(equals) = equals {
+                splice(text, start, equals, rng.pick(KEYS).as_bytes());
+            }
+        }
+        14 => {
+            if let Some(equals) = equals {
+                splice(text, equals + 1, stop, rng.pick(NO_VALUES).as_bytes());
+            }
+        }
+        15..=17 => {
+            if let Some(equals) = equals {
+                splice(text, equals + 1, stop, rng.pick(VALUES).to_string().as_bytes());
+            }
+        }
+        _ => nudge(rng, text, equals, stop),
+    }
+}
+
+/// A value a little larger or smaller.
+fn nudge(rng: &mut Rng, text: &mut Vec<u8>, equals: Option<usize>, stop: usize) {
+    let Some(equals) = equals else { return };
+    let Some(value) = std::str::from_utf8(&text[equals + 1..stop]).ok().and_then(|digits| digits.parse::<u64>().ok()) else { return };
+    let by = rng.within(1, 3);
+    let nudged = if rng.once_in(2) { value.saturating_sub(by) } else { value.saturating_add(by) };
+    splice(text, equals + 1, stop, nudged.to_string().as_bytes());
+}
+
+/// The text made long, to about the most bytes a text may have.
+fn lengthened(rng: &mut Rng, mut text: Vec<u8>) -> Vec<u8> {
+    let length = rng.pick(&[32_767, 32_768, 32_769, 32_770, 40_000, 65_536, 70_000]);
+    let at = rng.pick(&bounds(&text)).0;
+    let missing = length - text.len().min(length);
+    let fill: Vec<u8> = match rng.below(4) {
+        0 => vec![b'0'; missing],
+        1 => vec![b'\n'; missing],
+        2 => b"price=1\n".iter().copied().cycle().take(missing).collect(),
+        _ => (0..missing).map(|_| rng.pick(BYTES)).collect(),
+    };
+    let at = if rng.once_in(2) { text.len() } else { at };
+    splice(&mut text, at, at, &fill);
+    text
+}
+
+/// A text with one to three damages, at times made long or emptied.
+fn damaged(rng: &mut Rng, mut text: Vec<u8>) -> Vec<u8> {
+    match rng.below(60) {
+        0 => return Vec::new(),
+        1 => return lengthened(rng, text),
+        _ => {}
+    }
+    for _ in 0..rng.pick(&[1, 1, 1, 1, 2, 3]) {
+        damage(rng, &mut text);
+    }
+    text
+}
+
+/// A call: the planner or the judge, on texts with or without faults, now and then with a short or a long output.
+pub fn call(rng: &mut Rng) -> Call {
+    let facts = job(rng);
+    let output = if rng.once_in(40) { rng.pick(&[0, 1, 100, 16_383, 16_385, 20_000, 40_000]) } else { OUTPUT };
+    let text = facts.text();
+    let (job, plan) = match rng.below(10) {
+        0..=2 => (text, None),
+        3 => (damaged(rng, text), None),
+        4 => (damaged(rng, text), Some(plan(rng, &facts))),
+        5..=6 => (text, Some(plan(rng, &facts))),
+        7..=8 => {
+            let plan = plan(rng, &facts);
+            (text, Some(damaged(rng, plan)))
+        }
+        _ => {
+            let plan = plan(rng, &facts);
+            (damaged(rng, text), Some(damaged(rng, plan)))
+        }
+    };
+    Call { job, plan, output }
+}

@@ -1,0 +1,105 @@
+//! Lent buffers with canaries on both sides, and the library's calls on them.
+
+use super::rng::Rng;
+use super::Call;
+use juzvarola_host::reference::Reply;
+
+/// Bytes on each side of a lent buffer.
+const MARGIN: usize = 64;
+
+/// A buffer inside a larger one. All bytes are remembered, to see which a call changed.
+pub struct Lent {
+    now: Vec<u8>,
+    before: Vec<u8>,
+    start: usize,
+    length: usize,
+}
+
+impl Lent {
+    fn around(rng: &mut Rng, inside: &[u8], canary: impl Fn(u64) -> u8) -> Lent {
+        // A start that varies, so that no alignment is relied on.
+        let start = MARGIN + rng.below(16) as usize;
+        let mut side = |length: usize| -> Vec<u8> { (0..length).map(|_| canary(rng.next())).collect() };
+        let now = [side(start), inside.to_vec(), side(MARGIN)].concat();
+        Lent { before: now.clone(), now, start, length: inside.len() }
+    }
+
+    /// A text between digits and line ends: a reader that goes past its end reads on.
+    pub fn text(rng: &mut Rng, text: &[u8]) -> Lent {
+        Lent::around(rng, text, |random| b"0123456789\n"[random as usize % 11])
+    }
+
+    /// An output of random bytes between random bytes.
+    pub fn output(rng: &mut Rng, length: usize) -> Lent {
+        let mut inside: Vec<u8> = Vec::with_capacity(length + 8);
+        while inside.len() < length {
+            inside.extend(rng.next().to_le_bytes());
+        }
+        Lent::around(rng, &inside[..length], |random| random as u8)
+    }
+
+    pub fn part(&self) -> &[u8] {
+        &self.now[self.start..][..self.length]
+    }
+
+    pub fn part_mut(&mut self) -> &mut [u8] {
+        &mut self.now[self.start..][..self.length]
+    }
+
+    /// Exactly these bytes were written, at the start, and nothing else was changed.
+    pub fn has(&self, written: &[u8]) -> bool {
+        let end = self.start + written.len();
+        written.len() <= self.length
+            && self.now[..self.start] == self.before[..self.start]
+            && self.now[self.start..end] == *written
+            && self.now[end..] == self.before[end..]
+    }
+}
+
+/// Makes the call by the library and compares everything it hands over with the reply.
+pub fn compare(rng: &mut Rng, call: &Call, reply: &Reply) -> Result<(), String> {
+    let job = Lent::text(rng, &call.job);
+    let plan = Lent::text(rng, call.plan.as_deref().unwrap_or_default());
+    let mut out = Lent::output(rng, call.output);
+    let answer = match call.plan {
+        None => juzvarola_host::plan(job.part(), out.part_mut()),
+        Some(_) => juzvarola_host::judge(job.part(), plan.part(), out.part_mut()),
+    };
+    let at_fault = if reply.text == 2 { plan.part() } else { job.part() };
+    let wanted = juzvarola_host::Answer {
+        result: reply.result,
+        text: reply.text,
+        line: reply.line,
+        length: reply.bytes.len(),
+        fault_start: reply.fault_start,
+        fault: &at_fault[reply.fault_start..][..reply.fault_length],
+    };
+    if answer != wanted {
+        return Err(format!("{answer:?}\nnot {wanted:?}\n{call:?}"));
+    }
+    if !answer.fault.is_empty() && answer.fault.as_ptr() != wanted.fault.as_ptr() {
+        return Err(format!("the line at fault is no part of the caller's text\n{call:?}"));
+    }
+    if !out.has(&reply.bytes) {
+        let written = out.part()[..answer.length].escape_ascii();
+        return Err(format!("written: {written}\nnot:     {}\nor a byte outside was changed\n{call:?}", reply.bytes.escape_ascii()));
+    }
+    if !job.has(&[]) || !plan.has(&[]) {
+        return Err(format!("a text was changed\n{call:?}"));
+    }
+    Ok(())
+}
+
+/// What the library's planner writes.
+pub fn planned(job: &[u8]) -> String {
+    let mut out = vec![0xAA; 16_384];
+    let answer = juzvarola_host::plan(job, &mut out);
+    String::from_utf8(out[..answer.length].to_vec()).expect("answers are ASCII")
+}
+
+/// What the library's judge writes.
+pub fn judged(job: &[u8], plan: &[u8]) -> String {
+    let mut out = vec![0xAA; 16_384];
+    let answer = juzvarola_host::judge(job, plan, &mut out);
+    String::from_utf8(out[..answer.length].to_vec()).expect("answers are ASCII")
+}

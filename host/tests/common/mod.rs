@@ -1,0 +1,56 @@
+//! What the tests share: vectors, random inputs, lent buffers with canaries.
+#![allow(dead_code)]
+
+pub mod inputs;
+pub mod jobs;
+#[cfg(feature = "library")]
+pub mod lent;
+pub mod paper;
+pub mod rng;
+pub mod vectors;
+
+use std::thread;
+
+/// Stack for a test that calls the library or walks deep: more than a call needs.
+const STACK: usize = 32 << 20;
+
+/// Runs a test on a thread with enough stack (a test's own thread has 2 MB).
+pub fn with_stack(test: impl FnOnce() + Send + 'static) {
+    let thread = thread::Builder::new().stack_size(STACK).spawn(test).expect("a thread starts");
+    if let Err(panic) = thread.join() {
+        std::panic::resume_unwind(panic);
+    }
+}
+
+/// A number from the environment, such as JUZVAROLA_CASES=1000000, or the default.
+pub fn setting(name: &str, default: u64) -> u64 {
+    std::env::var(name).map_or(default, |value| value.parse().unwrap_or_else(|_| panic!("{name} is no number: {value}")))
+}
+
+/// A call, as the tests make it: the planner where there is no plan text.
+#[derive(Clone)]
+pub struct Call {
+    pub job: Vec<u8>,
+    pub plan: Option<Vec<u8>>,
+    pub output: usize,
+}
+
+impl std::fmt::Debug for Call {
+    fn fmt(&self, f: &mut std::fmt::Formatter<'_>) -> std::fmt::Result {
+        writeln!(f, "{} with an output of {} bytes", if self.plan.is_some() { "judge" } else { "plan" }, self.output)?;
+        writeln!(f, "--- job ({} bytes)\n{}", self.job.len(), self.job.escape_ascii().to_string().replace("\\n", "\n"))?;
+        let plan = self.plan.as_deref().unwrap_or_default();
+        writeln!(f, "--- plan ({} bytes)\n{}", plan.len(), plan.escape_ascii().to_string().replace("\\n", "\n"))
+    }
+}
+
+impl Call {
+    /// The reference's reply.
+    pub fn expected(&self) -> juzvarola_host::reference::Reply {
+        use juzvarola_host::reference;
+        match &self.plan {
+            None => reference::plan(&self.job, self.output),
+            Some(plan) => reference::judge(&self.job, plan, self.output),
+        }
+    }
+}

@@ -1,0 +1,55 @@
+//! The vectors of `vectors/base.txt`; `vectors/README.md` has the format.
+
+use super::Call;
+use std::path::Path;
+
+pub struct Vector {
+    pub call: Call,
+    pub result: u32,
+    pub line: u32,
+    pub bytes: Vec<u8>,
+    pub fault: Vec<u8>,
+}
+
+impl Vector {
+    /// The number of the text at fault, from the line `text` of the expected bytes; 0 if there is none.
+    pub fn text(&self) -> u32 {
+        let lines = std::str::from_utf8(&self.bytes).expect("answers are ASCII").lines();
+        lines.filter_map(|line| line.strip_prefix("text=")).map(|value| value.parse().expect("a number")).next().unwrap_or(0)
+    }
+}
+
+fn hex(field: &str) -> Vec<u8> {
+    if field == "-" {
+        return Vec::new();
+    }
+    assert!(field.len().is_multiple_of(2), "half a byte");
+    (0..field.len()).step_by(2).map(|at| u8::from_str_radix(&field[at..at + 2], 16).expect("hex")).collect()
+}
+
+fn vector(line: &str) -> Vector {
+    let fields: Vec<&str> = line.split(' ').collect();
+    assert_eq!(fields.len(), 8, "fields of a vector");
+    let plan = match fields[0] {
+        "plan" => None,
+        "judge" => Some(hex(fields[5])),
+        other => panic!("no call: {other}"),
+    };
+    let number = |at: usize| fields[at].parse::<u32>().expect("a number");
+    Vector {
+        call: Call { job: hex(fields[4]), plan, output: number(1) as usize },
+        result: number(2),
+        line: number(3),
+        bytes: hex(fields[6]),
+        fault: hex(fields[7]),
+    }
+}
+
+/// The vectors of every file in `vectors/` that ends in `.txt`.
+pub fn all() -> Vec<Vector> {
+    let folder = Path::new(env!("CARGO_MANIFEST_DIR")).join("vectors");
+    let mut files: Vec<_> = std::fs::read_dir(folder).expect("the vectors").map(|entry| entry.expect("an entry").path()).collect();
+    files.retain(|file| file.extension().is_some_and(|extension| extension == "txt"));
+    files.sort();
+    files.iter().flat_map(|file| std::fs::read_to_string(file).expect("a file").lines().map(vector).collect::<Vec<_>>()).collect()
+}

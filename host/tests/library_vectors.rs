@@ -1,0 +1,63 @@
+//! The library gives what every vector and every case of the specification expects.
+#![cfg(feature = "library")]
+
+mod common;
+use common::vectors::{self, Vector};
+use common::{lent, paper, rng::Rng};
+use juzvarola_host::reference::Reply;
+
+/// Where the line with this number starts; 0 if it is missing.
+fn start_of(text: &[u8], line: u32) -> usize {
+    let before = text.split_inclusive(|byte| *byte == 10).take(line as usize - 1).map(<[u8]>::len).sum();
+    if before < text.len() {
+        before
+    } else {
+        0
+    }
+}
+
+/// What the vector expects, as a reply.
+fn reply(vector: &Vector) -> Reply {
+    let text: &[u8] = if vector.text() == 2 { vector.call.plan.as_deref().unwrap_or_default() } else { &vector.call.job };
+    Reply {
+        result: vector.result,
+        text: vector.text(),
+        line: vector.line,
+        bytes: vector.bytes.clone(),
+        fault_start: if vector.line == 0 { 0 } else { start_of(text, vector.line) },
+        fault_length: vector.fault.len(),
+    }
+}
+
+#[test]
+fn library_gives_every_vector() {
+    common::with_stack(|| {
+        let mut rng = Rng::new(4);
+        let vectors = vectors::all();
+        assert!(vectors.len() >= 1200, "only {} vectors", vectors.len());
+        let mut differ = 0;
+        for (number, vector) in vectors.iter().enumerate() {
+            if let Err(difference) = lent::compare(&mut rng, &vector.call, &reply(vector)) {
+                println!("vector {}: {difference}", number + 1);
+                differ += 1;
+            }
+        }
+        println!("{} vectors, {differ} differ", vectors.len());
+        assert_eq!(differ, 0);
+    });
+}
+
+#[test]
+fn library_gives_the_papers_cases() {
+    common::with_stack(|| {
+        for case in paper::cases() {
+            let mut out = vec![0xAA; case.call.output];
+            let answer = match &case.call.plan {
+                None => juzvarola_host::plan(&case.call.job, &mut out),
+                Some(plan) => juzvarola_host::judge(&case.call.job, plan, &mut out),
+            };
+            let written = &out[..answer.length];
+            assert!(case.is(answer.line, written), "{}: {}", case.name, written.escape_ascii());
+        }
+    });
+}

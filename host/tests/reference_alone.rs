@@ -1,0 +1,63 @@
+//! The reference by itself: the specification's cases, and what must hold of its replies on random calls.
+
+mod common;
+use common::{inputs, paper, rng::Rng, setting};
+use juzvarola_host::reference::{self, Reply};
+
+const CASES: u64 = 30_000;
+
+#[test]
+fn reference_gives_the_papers_cases() {
+    for case in paper::cases() {
+        let reply = case.call.expected();
+        assert!(case.is(reply.line, &reply.bytes), "{}: {}", case.name, reply.bytes.escape_ascii());
+    }
+}
+
+/// The line with this number (from 1), cut out by splitting the text; a missing one is empty.
+fn line_of(text: &[u8], number: u32) -> &[u8] {
+    text.split(|byte| *byte == 10).nth(number as usize - 1).unwrap_or_default()
+}
+
+fn check(call: &common::Call, reply: &Reply) {
+    assert!(reply.bytes.len() <= 16_384, "{call:?}");
+    let text = match reply.text {
+        1 => &call.job,
+        2 => call.plan.as_ref().expect("only the judge has a second text"),
+        _ => &Vec::new(),
+    };
+    let fault = &text[reply.fault_start..][..reply.fault_length];
+    assert_eq!(reply.text != 0, matches!(reply.result, 1..=5 | 9), "{call:?}");
+    assert_eq!(reply.line != 0, matches!(reply.result, 2..=5 | 9), "{call:?}");
+    if reply.line != 0 {
+        assert_eq!(fault, line_of(text, reply.line), "{call:?}");
+    } else {
+        assert_eq!((reply.fault_start, reply.fault_length), (0, 0), "{call:?}");
+    }
+    if call.plan.is_none() && reply.result == 0 {
+        let plan = inputs::printed_plan(&call.job).expect("a plan is printed");
+        let judged = reference::judge(&call.job, &plan, 16_384).bytes;
+        let cost = line_of(&plan, 1);
+        assert_eq!(judged, [b"result=0\n", cost, b"\n"].concat(), "{call:?}");
+    }
+}
+
+#[test]
+fn replies_are_consistent_and_every_result_occurs() {
+    common::with_stack(|| {
+        let mut rng = Rng::new(setting("JUZVAROLA_SEED", 1));
+        let mut results = [[0u64; 12]; 2];
+        let cases = setting("JUZVAROLA_CASES", CASES);
+        for _ in 0..cases {
+            let call = inputs::call(&mut rng);
+            let reply = call.expected();
+            check(&call, &reply);
+            results[call.plan.is_some() as usize][reply.result as usize] += 1;
+        }
+        println!("results of the planner: {:?}\nresults of the judge:   {:?}", results[0], results[1]);
+        if cases >= CASES {
+            assert!(results[0][..9].iter().all(|times| *times >= 5));
+            assert!([0, 1, 2, 3, 4, 5, 8, 9, 10, 11].iter().all(|result| results[1][*result] >= 5));
+        }
+    });
+}

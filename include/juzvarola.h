@@ -1,0 +1,47 @@
+/* Juzvarola: plans the stops and part changes of a filling line, and judges such plans. */
+#ifndef JUZVAROLA_H
+#define JUZVAROLA_H
+
+#include <stddef.h>
+#include <stdint.h>
+
+#ifdef __cplusplus
+extern "C" {
+#endif
+
+/* The answer of a call. The lines that go with it are the first `length` bytes of the lent output.
+ *
+ * result        0 to 11, as in the specification.
+ * text          the text at fault for results 1, 2, 3, 4, 5 and 9: 1 the job, 2 the plan. 0 for every other result.
+ * line          the line at fault, counted from 1. 0 if there is none, and for result 1.
+ * length        the bytes written. Bytes past them keep their values. 0 for result 8.
+ * fault_start   where the line at fault starts in the text at fault.
+ * fault_length  its length, without its byte 10. An empty line that stands in the text has its own start and length 0.
+ *               A line that is missing, result 1 and every result with `text` 0 have start 0 and length 0.
+ */
+typedef struct {
+    uint32_t result, text, line;
+    size_t length, fault_start, fault_length;
+} juzvarola_answer;
+
+/* For both calls:
+ *
+ * - A pointer is never null. With length 0 it may be any non-null pointer; nothing is read or written through it.
+ * - `out` must not overlap a text. The texts may be the same memory, and are only read.
+ * - `out` should have 16,384 bytes or more: with fewer the result is 8 and nothing is written.
+ * - Nothing is kept between calls and no memory is allocated. Calls on several threads at once are allowed where no `out` overlaps
+ *   another call's `out` or text.
+ * - Stack that a call needs: at most 8 MB.
+ */
+
+/* Plans a job: results 0 to 8. */
+juzvarola_answer juzvarola_plan(const uint8_t *job, size_t job_len, uint8_t *out, size_t out_len);
+
+/* Judges a plan of a job: results 0 to 5 and 8 to 11. */
+juzvarola_answer juzvarola_judge(const uint8_t *job, size_t job_len, const uint8_t *plan, size_t plan_len, uint8_t *out, size_t out_len);
+
+#ifdef __cplusplus
+}
+#endif
+
+#endif
