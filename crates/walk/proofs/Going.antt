@@ -61,16 +61,15 @@ module _ (t w : List ℕ) (base j rows : ℕ) where
       lane-zero q = lane-nil t w base j q
 
   -- the lanes have fallen to a sum that all rows reach at least
-  pub going-early : (acc : List ℕ) (n ms s : ℕ) → Going t w base j rows acc n → s ≡ sumLanes (λ (q : ℕ). getD acc q 0) → s ≡ ms → ms ≤ sumLanes (λ (q : ℕ). lane t w base j q rows) → ms < inf
-      → Sum ms ≡ valueOf (sumLanes (λ (q : ℕ). lane t w base j q rows))
-  going-early acc n ms s g e f l h =
+  pub going-early : (acc : List ℕ) (n ms s : ℕ) → Going t w base j rows acc n → s ≡ sumLanes (λ (q : ℕ). getD acc q 0) → s ≡ ms → ms ≤ sumLanes (λ (q : ℕ). lane t w base j q rows)
+      → ms ≡ sumLanes (λ (q : ℕ). lane t w base j q rows)
+  going-early acc n ms s g e f l =
       let r = sum-rises (λ (q : ℕ). lane t w base j q rows) (λ (q : ℕ). getD acc q 0) laneCount 0 (omega arith) (λ q l. omega (arith, g .left q l)) in
-      let z : sumLanes (λ (q : ℕ). lane t w base j q rows) ≡ ms = omega (arith, r, e, f, l) in
-      sym (ap valueOf z ∙ value-some ms h)
+      omega (arith, r, e, f, l)
 
-  pub going-sum : (acc : List ℕ) (s : ℕ) (r : Bound) → ((q : ℕ) → q < laneCount → getD acc q 0 ≡ lane t w base j q rows) → s ≡ sumLanes (λ (q : ℕ). getD acc q 0) → r ≡ valueOf s
-      → r ≡ valueOf (sumLanes (λ (q : ℕ). lane t w base j q rows))
-  going-sum acc s r f e g = g ∙ ap valueOf (e ∙ sum-same (λ (q : ℕ). getD acc q 0) (λ (q : ℕ). lane t w base j q rows) f)
+  pub going-sum : (acc : List ℕ) (s : ℕ) → ((q : ℕ) → q < laneCount → getD acc q 0 ≡ lane t w base j q rows) → s ≡ sumLanes (λ (q : ℕ). getD acc q 0)
+      → s ≡ sumLanes (λ (q : ℕ). lane t w base j q rows)
+  going-sum acc s f e = e ∙ sum-same (λ (q : ℕ). getD acc q 0) (λ (q : ℕ). lane t w base j q rows) f
 
 -- what taking in a row asks
 module _ (t w : List ℕ) (base lo j rows : ℕ) (acc : List ℕ) (n : ℕ) (s : Stack t w base lo j rows) (g : Going t w base j rows acc n) (h : 0 < n) where

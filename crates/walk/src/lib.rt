@@ -138,11 +138,11 @@ pub fn walk(
     }
     let c = s.counted();
     let Bound::Sum(x) = e else {
-        return c;
+        return s.counted();
     };
     let cost = p.spent + x;
     if !c.improves(cost) {
-        return c;
+        return s.counted();
     }
     let at = p.at;
     if at == t[COUNT] as usize {

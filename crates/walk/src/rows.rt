@@ -61,6 +61,19 @@ fn min_row(acc: [u32; LANES], d: &[u32], e: &[u32]) -> [u32; LANES]
     r
 }
 
+// Each lane with its price in a row of prices.
+fn plus_row(acc: [u32; LANES], prices: &[u32]) -> [u32; LANES]
+    requires { ⌜ laneCount ≤ length (now prices) ⌝ }
+    requires { ⌜ ((q : ℕ) → q < laneCount → getD acc q 0 + getD (now prices) q 0 < 2 ^ 31) ⌝ }
+    ensures { λ r. ⌜ ((q : ℕ) → q < laneCount → getD r q 0 ≡ getD acc q 0 + getD (now (prices .entry)) q 0) ⌝ }
+{
+    let mut r = acc;
+    for p in 0..LANES {
+        r[p] = r[p] + prices[p];
+    }
+    r
+}
+
 // The sum of all lanes.
 fn total(acc: [u32; LANES]) -> u64
     requires { ⌜ ((q : ℕ) → q < laneCount → getD acc q 0 ≤ inf) ⌝ }
@@ -121,11 +134,11 @@ fn least_rows(t: &[u32], w: &[u32], base: usize, lo: usize, j: usize, rows: usiz
     acc
 }
 
-// The part sums where opening j is the first undecided one, given that they are at least `ms`.
-pub fn part_sums(t: &[u32], w: &[u32], lo: usize, j: usize, rows: usize, ms: u64) -> Bound
+// The sum of all lanes where opening j is the first undecided one, given that it is at least `ms`.
+fn lane_sum(t: &[u32], w: &[u32], lo: usize, j: usize, rows: usize, ms: u64) -> u64
     requires { ⌜ Stack (now t) (now w) suffixBase lo j rows ⌝ }
-    requires { ⌜ (ms ≤ sumLanes (λ (q : ℕ). lane (now t) (now w) suffixBase j q rows)) × (ms < inf) ⌝ }
-    ensures { λ r. ⌜ r ≡ valueOf (sumLanes (λ (q : ℕ). lane (now (t .entry)) (now (w .entry)) suffixBase j q rows)) ⌝ }
+    requires { ⌜ ms ≤ sumLanes (λ (q : ℕ). lane (now t) (now w) suffixBase j q rows) ⌝ }
+    ensures { λ r. ⌜ r ≡ sumLanes (λ (q : ℕ). lane (now (t .entry)) (now (w .entry)) suffixBase j q rows) ⌝ }
 {
     let mut acc = [INF; LANES];
     let mut n = rows;
@@ -133,15 +146,24 @@ pub fn part_sums(t: &[u32], w: &[u32], lo: usize, j: usize, rows: usize, ms: u64
         n -= 1;
         let i = w[ROW_MARKS + n] as usize;
         if i < lo {
-            return value(total(acc));
+            return total(acc);
         }
         let next = add_row(t, w, SUFFIXES, j, i, n, acc);
         acc = next;
         if total(acc) == ms {
-            return Bound::Sum(ms);
+            return ms;
         }
     }
-    value(total(acc))
+    total(acc)
+}
+
+// The part sums where opening j is the first undecided one, given that they are at least `ms`.
+pub fn part_sums(t: &[u32], w: &[u32], lo: usize, j: usize, rows: usize, ms: u64) -> Bound
+    requires { ⌜ Stack (now t) (now w) suffixBase lo j rows ⌝ }
+    requires { ⌜ (ms ≤ sumLanes (λ (q : ℕ). lane (now t) (now w) suffixBase j q rows)) × (ms < inf) ⌝ }
+    ensures { λ r. ⌜ r ≡ valueOf (sumLanes (λ (q : ℕ). lane (now (t .entry)) (now (w .entry)) suffixBase j q rows)) ⌝ }
+{
+    value(lane_sum(t, w, lo, j, rows, ms))
 }
 
 // The row of opening j, decided yes, above the `rows` that are there.
@@ -152,8 +174,10 @@ fn put_row(t: &[u32], w: &mut [u32], j: usize, rows: usize)
 {
     let lo = t[REACH_CUTS + j] as usize;
     let acc = least_rows(t, w, REACHES, lo, j, rows);
+    let at = PRICES + j * LANES;
+    let sums = plus_row(acc, &t[at..at + LANES]);
     for p in 0..LANES {
-        w[rows * LANES + p] = acc[p] + t[PRICES + j * LANES + p];
+        w[rows * LANES + p] = sums[p];
     }
     w[ROW_MARKS + rows] = (j + 1) as u32;
 }

@@ -85,15 +85,18 @@ walk-enum-known-e t c = search needs
 walk-enum-told : (t : ℕ) → walk-lts.Need-enum-told (claims t) (walk-at t) walk.Post
 walk-enum-told t c = search needs
 
+walk-counted-requires-2 : (t : ℕ) → walk-lts.Need-counted-requires-2 (claims t) (walk-at t) walk.Post
+walk-counted-requires-2 t c κs = search needs
+
 walk-returns-2 : (t : ℕ) → walk-lts.Need-returns-2 (claims t) (walk-at t) walk.Post
 walk-returns-2 t c =
-    let k = c .before .before in
-    let a = c .before .before .before .before .before .before .before .args in (
+    let k = c .before .before .before in
+    let a = c .before .before .before .before .before .before .before .before .args in (
       λ sheet h.
           let n = length (sheet .positions) in
-          ap (view n) (k .counted .ensures)
+          ap (view n) (c .counted2 .ensures)
           ∙ sym (fixed-drop (sheetBound sheet) (a .limit) (n - a .p .at) (decided (a .p)) (view n (a .s)) (k .before .if1 .left)
-          (ap (λ (x : Bound). below x (incumbent n (a .s))) (bound-none sheet (a .t .now) (a .w .now) (a .p) (a .stop) (a .e) h (c .enum-told .given .1)))),
+          (ap (λ (x : Bound). below x (incumbent n (a .s))) (bound-none sheet (a .t .now) (a .w .now) (a .p) (a .stop) (a .e) h (c .before .enum-told .given .1)))),
       kept-refl (a .w .now) (a .p .rows),
     )
 
@@ -132,13 +135,16 @@ knows t c sheet h =
       test = tested n (a .p .spent + x) (sheetBound sheet (decided (a .p))) (a .s) (k .counted .result) (c .improves .result) f (k .counted .ensures) (c .improves .ensures);
     }
 
+walk-counted-requires-3 : (t : ℕ) → walk-lts.Need-counted-requires-3 (claims t) (walk-at t) walk.Post
+walk-counted-requires-3 t c κs = search needs
+
 walk-returns-3 : (t : ℕ) → walk-lts.Need-returns-3 (claims t) (walk-at t) walk.Post
 walk-returns-3 t c =
-    let a = c .before .before .before .before .before .before .before .before .before .before .before .args in (
+    let a = c .before .before .before .before .before .before .before .before .before .before .before .before .args in (
       λ sheet h.
           let n = length (sheet .positions) in
-          let k = knows t (c .before) sheet h in
-          k .counted ∙ sym (fixed-drop (sheetBound sheet) (a .limit) (n - a .p .at) (decided (a .p)) (view n (a .s)) (k .under) (k .test ∙ not-true (c .before .improves .result) (c .if2 .taken))),
+          let k = knows t (c .before .before) sheet h in
+          ap (view n) (c .counted3 .ensures) ∙ sym (fixed-drop (sheetBound sheet) (a .limit) (n - a .p .at) (decided (a .p)) (view n (a .s)) (k .under) (k .test ∙ not-true (c .before .before .improves .result) (c .before .if2 .taken))),
       kept-refl (a .w .now) (a .p .rows),
     )
 
@@ -330,9 +336,11 @@ pub +walk-spec : {M : Type 1} → statement M
     (walk-counted-requires t)
     (walk-enum-known-e t)
     (walk-enum-told t)
+    (walk-counted-requires-2 t)
     (walk-returns-2 t)
     (walk-add-cost t)
     (walk-improves-requires t)
+    (walk-counted-requires-3 t)
     (walk-returns-3 t)
     (walk-shared-slice-read-if3 t)
     (walk-cast-if3 t)
