@@ -18,8 +18,10 @@ use rows::COUNT;
 use rows::FEES;
 use rows::SUFFIX_CUTS;
 use rows::base_row;
+use rows::lane_sum;
 use rows::part_sums;
 use rows::settle;
+use rows::value;
 
 // The state of the search, passed by value and handed back. The incumbent's decisions, the latest in the lowest bit.
 pub struct Search {
@@ -150,7 +152,7 @@ pub fn walk(
     }
     let rows = settle(t, w, at, p.rows, stop);
     let lo = t[SUFFIX_CUTS + (at + 1)] as usize;
-    let b = part_sums(t, w, lo, at + 1, rows, x);
+    let b = value(lane_sum(t, w, lo, at + 1, rows, x));
     let a = walk(t, w, limit, p.no(rows), false, b, c);
     let fee = t[FEES + at] as u64;
     walk(t, w, limit, p.yes(rows, fee), true, Bound::Sum(x), a)

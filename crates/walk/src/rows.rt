@@ -87,7 +87,7 @@ fn total(acc: [u32; LANES]) -> u64
 }
 
 // The price that a sum of lanes stands for.
-fn value(s: u64) -> Bound
+pub fn value(s: u64) -> Bound
     ensures { λ r. ⌜ r ≡ valueOf s ⌝ }
 {
     if s < INF as u64 {
@@ -135,7 +135,7 @@ fn least_rows(t: &[u32], w: &[u32], base: usize, lo: usize, j: usize, rows: usiz
 }
 
 // The sum of all lanes where opening j is the first undecided one, given that it is at least `ms`.
-fn lane_sum(t: &[u32], w: &[u32], lo: usize, j: usize, rows: usize, ms: u64) -> u64
+pub fn lane_sum(t: &[u32], w: &[u32], lo: usize, j: usize, rows: usize, ms: u64) -> u64
     requires { ⌜ Stack (now t) (now w) suffixBase lo j rows ⌝ }
     requires { ⌜ ms ≤ sumLanes (λ (q : ℕ). lane (now t) (now w) suffixBase j q rows) ⌝ }
     ensures { λ r. ⌜ r ≡ sumLanes (λ (q : ℕ). lane (now (t .entry)) (now (w .entry)) suffixBase j q rows) ⌝ }

@@ -13,6 +13,7 @@ use Rattle.branch.specs.Label.{limitedFrom}
 use Rattle.branch.specs.declared.Bound.{Bound}
 use Rattle.branch.specs.declared.Bound.the-variants.{Sum}
 use Rattle.branch.proofs.Steps.{fixed-stop, fixed-drop, fixed-full}
+use Rattle.walk.specs.Tables.{valueOf}
 use Rattle.walk.specs.declared.Search.{Search}
 use Rattle.walk.specs.declared.Node.{Node}
 use Rattle.walk.specs.Layout.{inf, suffixCuts, cutPlace, countPlace, feePlace}
@@ -29,7 +30,8 @@ use Rattle.walk.proofs.Search.counted.Reads as counted-reads
 use Rattle.walk.proofs.Search.improves.Reads as improves-reads
 use Rattle.walk.proofs.Search.kept.Reads as kept-reads
 use Rattle.walk.proofs.Search.stopped.Reads as stopped-reads
-use Rattle.walk.proofs.rows.part_sums.Reads as part-sums-reads
+use Rattle.walk.proofs.rows.lane_sum.Reads as lane-sum-reads
+use Rattle.walk.proofs.rows.value.Reads as value-reads
 use Rattle.walk.proofs.rows.settle.Reads as settle-reads
 use Rattle.walk.proofs.walk.Reads as walk
 use Rattle.walk.proofs.walk.Kinds as walk-kinds
@@ -56,8 +58,10 @@ claims t = (
   kept-reads.Learnt,
   settle-reads.Asked,
   settle-reads.Learnt,
-  part-sums-reads.Asked,
-  part-sums-reads.Learnt,
+  lane-sum-reads.Asked,
+  lane-sum-reads.Learnt,
+  value-reads.Asked,
+  value-reads.Learnt,
   no-reads.Asked,
   no-reads.Learnt,
   walk-below t,
@@ -206,103 +210,107 @@ walk-shared-slice-read-lo t c = let h = c .before .before .before .before .befor
 walk-cast-lo : (t : ℕ) → walk-lts.Need-cast-lo (claims t) (walk-at t) walk.Post
 walk-cast-lo t c = omega (arith, c .shared-slice-known3 .given (cutPlace suffixCuts (c .before .before .before .before .before .before .before .before .before .before .before .before .before .before .before .before .before .before .args .p .at + 1)))
 
-walk-add-part-sums : (t : ℕ) → walk-lts.Need-add-part-sums (claims t) (walk-at t) walk.Post
-walk-add-part-sums t c = let h = c .before .before .before .before .before .before .before .before .before .before .before .before .before .before .before .before .before .before .before .pre .1 .1 in omega (arith, h .inside, h .tables .few)
+walk-add-lane-sum : (t : ℕ) → walk-lts.Need-add-lane-sum (claims t) (walk-at t) walk.Post
+walk-add-lane-sum t c = let h = c .before .before .before .before .before .before .before .before .before .before .before .before .before .before .before .before .before .before .before .pre .1 .1 in omega (arith, h .inside, h .tables .few)
 
-walk-part-sums-requires : (t : ℕ) → walk-lts.Need-part-sums-requires (claims t) (walk-at t) walk.Post
-walk-part-sums-requires t c κs =
+walk-lane-sum-requires : (t : ℕ) → walk-lts.Need-lane-sum-requires (claims t) (walk-at t) walk.Post
+walk-lane-sum-requires t c κs =
     let start = c .before .before .before .before .before .before .before .before .before .before .before .before .before .before .before .before .before .before .before in
     let a = start .args in
     let sheet = start .pre .1 .0 in
     let h = start .pre .1 .1 in
     let o = c .before .before .before .before in
-    sums-asks sheet (a .t .now) (a .w .now) (o .settle .last .1 .0) (a .p) (a .stop) (a .e) (o .settle .result) (c .before .before .before .before .before .before .before .before .before .before .before .before .e .given .0 .0) h (c .before .before .before .before .before .before .before .before .before .before .before .before .e .given .1) (stands t o sheet h .0) (under t (c .before .before .before .before .before .before) sheet h)
+    let r = sums-asks sheet (a .t .now) (a .w .now) (o .settle .last .1 .0) (a .p) (a .stop) (a .e) (o .settle .result) (c .before .before .before .before .before .before .before .before .before .before .before .before .e .given .0 .0) h (c .before .before .before .before .before .before .before .before .before .before .before .before .e .given .1) (stands t o sheet h .0) (under t (c .before .before .before .before .before .before) sheet h) in
+    (r .0, r .1 .0)
+
+walk-value-requires : (t : ℕ) → walk-lts.Need-value-requires (claims t) (walk-at t) walk.Post
+walk-value-requires t c κs = search needs
 
 walk-no-requires : (t : ℕ) → walk-lts.Need-no-requires (claims t) (walk-at t) walk.Post
 walk-no-requires t c κs =
-    let start = c .before .before .before .before .before .before .before .before .before .before .before .before .before .before .before .before .before .before .before .before .before in
+    let start = c .before .before .before .before .before .before .before .before .before .before .before .before .before .before .before .before .before .before .before .before .before .before in
     let h = start .pre .1 .1 in
-    let l = under t (c .before .before .before .before .before .before .before .before) (start .pre .1 .0) h in
+    let l = under t (c .before .before .before .before .before .before .before .before .before) (start .pre .1 .0) h in
     (omega (arith, l, h .tables .few), omega (arith, mask-fits (start .args .p .at) (start .args .p .mask) (h .mask) (omega (arith, l, h .tables .few))))
 
 -- the no child
 no-given : (t : ℕ) (c : walk-lts.After-no (claims t) (walk-at t) walk.Post) (sheet : Sheet)
-    → let a = c .before .before .before .before .before .before .before .before .before .before .before .before .before .before .before .before .before .before .before .before .before .before .args in
+    → let a = c .before .before .before .before .before .before .before .before .before .before .before .before .before .before .before .before .before .before .before .before .before .before .before .args in
     At sheet (a .t .now) (a .w .now) (a .p) (a .stop) (a .e)
-    → At sheet (a .t .now) (c .before .before .before .before .before .before .before .settle .last .1 .0) (c .no .result) false (c .before .before .part-sums .result)
+    → At sheet (a .t .now) (c .before .before .before .before .before .before .before .before .settle .last .1 .0) (c .no .result) false (c .before .before .value .result)
 no-given t c sheet h =
-    let a = c .before .before .before .before .before .before .before .before .before .before .before .before .before .before .before .before .before .before .before .before .before .before .args in
-    let o = c .before .before .before .before .before .before .before in
-    subst (λ (q : Node). At sheet (a .t .now) (o .settle .last .1 .0) q false (c .before .before .part-sums .result)) (sym (c .no .ensures))
-    (at-no sheet (a .t .now) (a .w .now) (o .settle .last .1 .0) (a .p) (a .stop) (a .e) (o .settle .result) (c .before .before .before .before .before .before .before .before .before .before .before .before .before .before .before .e .given .0 .0) h (c .before .before .before .before .before .before .before .before .before .before .before .before .before .before .before .e .given .1) (stands t o sheet h .0) (under t (c .before .before .before .before .before .before .before .before .before) sheet h)
-    (c .before .before .part-sums .result) (c .before .before .part-sums .ensures))
+    let a = c .before .before .before .before .before .before .before .before .before .before .before .before .before .before .before .before .before .before .before .before .before .before .before .args in
+    let o = c .before .before .before .before .before .before .before .before in
+    subst (λ (q : Node). At sheet (a .t .now) (o .settle .last .1 .0) q false (c .before .before .value .result)) (sym (c .no .ensures))
+    (at-no sheet (a .t .now) (a .w .now) (o .settle .last .1 .0) (a .p) (a .stop) (a .e) (o .settle .result) (c .before .before .before .before .before .before .before .before .before .before .before .before .before .before .before .before .e .given .0 .0) h (c .before .before .before .before .before .before .before .before .before .before .before .before .before .before .before .before .e .given .1) (stands t o sheet h .0) (under t (c .before .before .before .before .before .before .before .before .before .before) sheet h)
+    (c .before .before .value .result) (c .before .before .value .ensures ∙ ap valueOf (c .before .before .before .lane-sum .ensures)))
 
 walk-walk-requires : (t : ℕ) → walk-lts.Need-walk-requires (claims t) (walk-at t) walk.Post
 walk-walk-requires t c κs =
-    let start = c .before .before .before .before .before .before .before .before .before .before .before .before .before .before .before .before .before .before .before .before .before .before in
+    let start = c .before .before .before .before .before .before .before .before .before .before .before .before .before .before .before .before .before .before .before .before .before .before .before in
     let a = start .args in
     let sheet = start .pre .1 .0 in
     let h = start .pre .1 .1 in
-    let o = c .before .before .before .before .before .before .before in
-    let l = under t (c .before .before .before .before .before .before .before .before .before) sheet h in
+    let o = c .before .before .before .before .before .before .before .before in
+    let l = under t (c .before .before .before .before .before .before .before .before .before .before) sheet h in
     let z : c .no .result .at ≡ a .p .at + 1 = ap (λ (q : Node). q .at) (c .no .ensures) in
     (omega (arith, start .pre .0, z, l, h .tables .few), (sheet, no-given t c sheet h))
 
 walk-add-fee : (t : ℕ) → walk-lts.Need-add-fee (claims t) (walk-at t) walk.Post
-walk-add-fee t c = let h = c .before .before .before .before .before .before .before .before .before .before .before .before .before .before .before .before .before .before .before .before .before .before .before .before .before .pre .1 .1 in omega (arith, h .inside, h .tables .few)
+walk-add-fee t c = let h = c .before .before .before .before .before .before .before .before .before .before .before .before .before .before .before .before .before .before .before .before .before .before .before .before .before .before .pre .1 .1 in omega (arith, h .inside, h .tables .few)
 
 walk-mul-fee : (t : ℕ) → walk-lts.Need-mul-fee (claims t) (walk-at t) walk.Post
-walk-mul-fee t c = let h = c .before .before .before .before .before .before .before .before .before .before .before .before .before .before .before .before .before .before .before .before .before .before .before .before .before .pre .1 .1 in omega (arith, h .inside, h .tables .few)
+walk-mul-fee t c = let h = c .before .before .before .before .before .before .before .before .before .before .before .before .before .before .before .before .before .before .before .before .before .before .before .before .before .before .pre .1 .1 in omega (arith, h .inside, h .tables .few)
 
 walk-shared-slice-read-fee : (t : ℕ) → walk-lts.Need-shared-slice-read-fee (claims t) (walk-at t) walk.Post
-walk-shared-slice-read-fee t c = let h = c .before .before .before .before .before .before .before .before .before .before .before .before .before .before .before .before .before .before .before .before .before .before .before .before .before .before .pre .1 .1 in omega (arith, h .inside, h .tables .few, h .tables .size)
+walk-shared-slice-read-fee t c = let h = c .before .before .before .before .before .before .before .before .before .before .before .before .before .before .before .before .before .before .before .before .before .before .before .before .before .before .before .pre .1 .1 in omega (arith, h .inside, h .tables .few, h .tables .size)
 
 walk-cast-fee : (t : ℕ) → walk-lts.Need-cast-fee (claims t) (walk-at t) walk.Post
-walk-cast-fee t c = omega (arith, c .shared-slice-known4 .given (feePlace (c .before .before .before .before .before .before .before .before .before .before .before .before .before .before .before .before .before .before .before .before .before .before .before .before .before .before .args .p .at)))
+walk-cast-fee t c = omega (arith, c .shared-slice-known4 .given (feePlace (c .before .before .before .before .before .before .before .before .before .before .before .before .before .before .before .before .before .before .before .before .before .before .before .before .before .before .before .args .p .at)))
 
 walk-yes-requires : (t : ℕ) → walk-lts.Need-yes-requires (claims t) (walk-at t) walk.Post
 walk-yes-requires t c κs =
-    let start = c .before .before .before .before .before .before .before .before .before .before .before .before .before .before .before .before .before .before .before .before .before .before .before .before .before .before .before in
+    let start = c .before .before .before .before .before .before .before .before .before .before .before .before .before .before .before .before .before .before .before .before .before .before .before .before .before .before .before .before in
     let h = start .pre .1 .1 in
-    let l = under t (c .before .before .before .before .before .before .before .before .before .before .before .before .before .before) (start .pre .1 .0) h in (
+    let l = under t (c .before .before .before .before .before .before .before .before .before .before .before .before .before .before .before) (start .pre .1 .0) h in (
       omega (arith, l, h .tables .few),
       mask-fits (start .args .p .at) (start .args .p .mask) (h .mask) (omega (arith, l, h .tables .few)),
       omega (arith, h .poor, l, h .tables .few, h .tables .fees (start .args .p .at) l, h .tables .fair (start .args .p .at)),
     )
 
 -- the rows that the first call kept
-first-kept : (t : ℕ) (c : walk-lts.After-walk (claims t) (walk-at t) walk.Post) → Kept (c .before .before .before .before .before .before .before .before .settle .last .1 .0) (c .walk .last .1 .0) (c .before .before .before .before .before .before .before .before .settle .result)
-first-kept t c = subst (λ (q : Node). Kept (c .before .before .before .before .before .before .before .before .settle .last .1 .0) (c .walk .last .1 .0) (q .rows)) (c .before .no .ensures) (c .walk .ensures .1)
+first-kept : (t : ℕ) (c : walk-lts.After-walk (claims t) (walk-at t) walk.Post) → Kept (c .before .before .before .before .before .before .before .before .before .settle .last .1 .0) (c .walk .last .1 .0) (c .before .before .before .before .before .before .before .before .before .settle .result)
+first-kept t c = subst (λ (q : Node). Kept (c .before .before .before .before .before .before .before .before .before .settle .last .1 .0) (c .walk .last .1 .0) (q .rows)) (c .before .no .ensures) (c .walk .ensures .1)
 
 -- the yes child
 yes-given : (t : ℕ) (c : walk-lts.After-yes (claims t) (walk-at t) walk.Post) (sheet : Sheet)
-    → let a = c .before .before .before .before .before .before .before .before .before .before .before .before .before .before .before .before .before .before .before .before .before .before .before .before .before .before .before .before .args in
+    → let a = c .before .before .before .before .before .before .before .before .before .before .before .before .before .before .before .before .before .before .before .before .before .before .before .before .before .before .before .before .before .args in
     At sheet (a .t .now) (a .w .now) (a .p) (a .stop) (a .e)
-    → At sheet (a .t .now) (c .before .before .before .before .before .walk .last .1 .0) (c .yes .result) true (Sum (c .before .before .before .before .before .before .before .before .before .before .before .before .before .before .before .before .before .before .before .before .before .e .given .0 .0))
+    → At sheet (a .t .now) (c .before .before .before .before .before .walk .last .1 .0) (c .yes .result) true (Sum (c .before .before .before .before .before .before .before .before .before .before .before .before .before .before .before .before .before .before .before .before .before .before .e .given .0 .0))
 yes-given t c sheet h =
-    let a = c .before .before .before .before .before .before .before .before .before .before .before .before .before .before .before .before .before .before .before .before .before .before .before .before .before .before .before .before .args in
-    let o = c .before .before .before .before .before .before .before .before .before .before .before .before .before in
-    subst (λ (q : Node). At sheet (a .t .now) (c .before .before .before .before .before .walk .last .1 .0) q true (Sum (c .before .before .before .before .before .before .before .before .before .before .before .before .before .before .before .before .before .before .before .before .before .e .given .0 .0))) (sym (c .yes .ensures))
-    (at-yes sheet (a .t .now) (a .w .now) (o .settle .last .1 .0) (a .p) (a .stop) (a .e) (o .settle .result) (c .before .before .before .before .before .before .before .before .before .before .before .before .before .before .before .before .before .before .before .before .before .e .given .0 .0) h (c .before .before .before .before .before .before .before .before .before .before .before .before .before .before .before .before .before .before .before .before .before .e .given .1) (stands t o sheet h .0) (under t (c .before .before .before .before .before .before .before .before .before .before .before .before .before .before .before) sheet h)
+    let a = c .before .before .before .before .before .before .before .before .before .before .before .before .before .before .before .before .before .before .before .before .before .before .before .before .before .before .before .before .before .args in
+    let o = c .before .before .before .before .before .before .before .before .before .before .before .before .before .before in
+    subst (λ (q : Node). At sheet (a .t .now) (c .before .before .before .before .before .walk .last .1 .0) q true (Sum (c .before .before .before .before .before .before .before .before .before .before .before .before .before .before .before .before .before .before .before .before .before .before .e .given .0 .0))) (sym (c .yes .ensures))
+    (at-yes sheet (a .t .now) (a .w .now) (o .settle .last .1 .0) (a .p) (a .stop) (a .e) (o .settle .result) (c .before .before .before .before .before .before .before .before .before .before .before .before .before .before .before .before .before .before .before .before .before .before .e .given .0 .0) h (c .before .before .before .before .before .before .before .before .before .before .before .before .before .before .before .before .before .before .before .before .before .before .e .given .1) (stands t o sheet h .0) (under t (c .before .before .before .before .before .before .before .before .before .before .before .before .before .before .before .before) sheet h)
     (c .before .before .before .before .before .walk .last .1 .0) (getD (a .t .now) (feePlace (a .p .at)) 0) (first-kept t (c .before .before .before .before .before)) refl)
 
 walk-walk-requires-2 : (t : ℕ) → walk-lts.Need-walk-requires-2 (claims t) (walk-at t) walk.Post
 walk-walk-requires-2 t c κs =
-    let start = c .before .before .before .before .before .before .before .before .before .before .before .before .before .before .before .before .before .before .before .before .before .before .before .before .before .before .before .before in
+    let start = c .before .before .before .before .before .before .before .before .before .before .before .before .before .before .before .before .before .before .before .before .before .before .before .before .before .before .before .before .before in
     let sheet = start .pre .1 .0 in
     let h = start .pre .1 .1 in
-    let l = under t (c .before .before .before .before .before .before .before .before .before .before .before .before .before .before .before) sheet h in
+    let l = under t (c .before .before .before .before .before .before .before .before .before .before .before .before .before .before .before .before) sheet h in
     let z : c .yes .result .at ≡ start .args .p .at + 1 = ap (λ (q : Node). q .at) (c .yes .ensures) in
     (omega (arith, start .pre .0, z, l, h .tables .few), (sheet, yes-given t c sheet h))
 
 -- the rows that all of it kept
 all-kept : (t : ℕ) (c : walk-lts.After-walk2 (claims t) (walk-at t) walk.Post)
-    → let a = c .before .before .before .before .before .before .before .before .before .before .before .before .before .before .before .before .before .before .before .before .before .before .before .before .before .before .before .before .before .args in
+    → let a = c .before .before .before .before .before .before .before .before .before .before .before .before .before .before .before .before .before .before .before .before .before .before .before .before .before .before .before .before .before .before .args in
     Kept (a .w .now) (c .walk2 .last .1 .0) (a .p .rows)
 all-kept t c =
-    let a = c .before .before .before .before .before .before .before .before .before .before .before .before .before .before .before .before .before .before .before .before .before .before .before .before .before .before .before .before .before .args in
-    let o = c .before .before .before .before .before .before .before .before .before .before .before .before .before .before in
-    let r = stands t o (c .before .before .before .before .before .before .before .before .before .before .before .before .before .before .before .before .before .before .before .before .before .before .before .before .before .before .before .before .before .pre .1 .0) (c .before .before .before .before .before .before .before .before .before .before .before .before .before .before .before .before .before .before .before .before .before .before .before .before .before .before .before .before .before .pre .1 .1) in
+    let a = c .before .before .before .before .before .before .before .before .before .before .before .before .before .before .before .before .before .before .before .before .before .before .before .before .before .before .before .before .before .before .args in
+    let o = c .before .before .before .before .before .before .before .before .before .before .before .before .before .before .before in
+    let r = stands t o (c .before .before .before .before .before .before .before .before .before .before .before .before .before .before .before .before .before .before .before .before .before .before .before .before .before .before .before .before .before .before .pre .1 .0) (c .before .before .before .before .before .before .before .before .before .before .before .before .before .before .before .before .before .before .before .before .before .before .before .before .before .before .before .before .before .before .pre .1 .1) in
     let k = subst (λ (q : Node). Kept (c .before .before .before .before .before .before .walk .last .1 .0) (c .walk2 .last .1 .0) (q .rows)) (c .before .yes .ensures) (c .walk2 .ensures .1) in
     kept-then (a .w .now) (o .settle .last .1 .0) (c .walk2 .last .1 .0) (a .p .rows) (o .settle .result) (r .2) (r .1)
     (kept-then (o .settle .last .1 .0) (c .before .before .before .before .before .before .walk .last .1 .0) (c .walk2 .last .1 .0) (o .settle .result) (o .settle .result) (omega arith) (first-kept t (c .before .before .before .before .before .before)) k)
@@ -313,15 +321,15 @@ walk-same-length t c = all-kept t (c .before .before) .size
 walk-returns-5 : (t : ℕ) → walk-lts.Need-returns-5 (claims t) (walk-at t) walk.Post
 walk-returns-5 t c =
     let d = c .before .before in
-    let a = c .before .before .before .before .before .before .before .before .before .before .before .before .before .before .before .before .before .before .before .before .before .before .before .before .before .before .before .before .before .before .before .args in (
+    let a = c .before .before .before .before .before .before .before .before .before .before .before .before .before .before .before .before .before .before .before .before .before .before .before .before .before .before .before .before .before .before .before .before .args in (
       λ sheet h.
           let n = length (sheet .positions) in
-          let k = knows t (c .before .before .before .before .before .before .before .before .before .before .before .before .before .before .before .before .before .before .before .before .before) sheet h in
-          both-walked (sheetBound sheet) (a .limit) n (a .p) (c .before .before .before .before .before .before .before .before .before .before .before .before .before .before .before .before .settle .result) (getD (a .t .now) (feePlace (a .p .at)) 0) (view n (a .s)) (view n (c .before .before .before .before .before .before .before .before .walk .result)) (view n (d .walk2 .result))
-          (under t (c .before .before .before .before .before .before .before .before .before .before .before .before .before .before .before .before .before .before) sheet h) (k .under) (k .test ∙ not-false (c .before .before .before .before .before .before .before .before .before .before .before .before .before .before .before .before .before .before .before .before .before .improves .result) (c .before .before .before .before .before .before .before .before .before .before .before .before .before .before .before .before .before .before .before .before .if2 .left))
+          let k = knows t (c .before .before .before .before .before .before .before .before .before .before .before .before .before .before .before .before .before .before .before .before .before .before) sheet h in
+          both-walked (sheetBound sheet) (a .limit) n (a .p) (c .before .before .before .before .before .before .before .before .before .before .before .before .before .before .before .before .before .settle .result) (getD (a .t .now) (feePlace (a .p .at)) 0) (view n (a .s)) (view n (c .before .before .before .before .before .before .before .before .walk .result)) (view n (d .walk2 .result))
+          (under t (c .before .before .before .before .before .before .before .before .before .before .before .before .before .before .before .before .before .before .before) sheet h) (k .under) (k .test ∙ not-false (c .before .before .before .before .before .before .before .before .before .before .before .before .before .before .before .before .before .before .before .before .before .before .improves .result) (c .before .before .before .before .before .before .before .before .before .before .before .before .before .before .before .before .before .before .before .before .before .if2 .left))
           (c .before .before .before .before .before .before .before .before .walk .ensures .0 sheet (no-given t (c .before .before .before .before .before .before .before .before .before) sheet h)
-          ∙ ap (λ (q : Node). limitedFrom (sheetBound sheet) (a .limit) (n - q .at) (decided q) (view n (c .before .before .before .before .before .before .before .before .before .before .before .before .before .before .before .before .before .before .before .before .before .before .before .before .before .before .counted .result))) (c .before .before .before .before .before .before .before .before .before .no .ensures)
-          ∙ ap (limitedFrom (sheetBound sheet) (a .limit) (n - (a .p .at + 1)) (decided (noN (a .p) (c .before .before .before .before .before .before .before .before .before .before .before .before .before .before .before .before .settle .result)))) (k .counted))
+          ∙ ap (λ (q : Node). limitedFrom (sheetBound sheet) (a .limit) (n - q .at) (decided q) (view n (c .before .before .before .before .before .before .before .before .before .before .before .before .before .before .before .before .before .before .before .before .before .before .before .before .before .before .before .counted .result))) (c .before .before .before .before .before .before .before .before .before .no .ensures)
+          ∙ ap (limitedFrom (sheetBound sheet) (a .limit) (n - (a .p .at + 1)) (decided (noN (a .p) (c .before .before .before .before .before .before .before .before .before .before .before .before .before .before .before .before .before .settle .result)))) (k .counted))
           (d .walk2 .ensures .0 sheet (yes-given t (d .before) sheet h)
           ∙ ap (λ (q : Node). limitedFrom (sheetBound sheet) (a .limit) (n - q .at) (decided q) (view n (c .before .before .before .before .before .before .before .before .walk .result))) (d .before .yes .ensures)),
       all-kept t d,
@@ -352,8 +360,9 @@ pub +walk-spec : {M : Type 1} → statement M
     (walk-mul-lo t)
     (walk-shared-slice-read-lo t)
     (walk-cast-lo t)
-    (walk-add-part-sums t)
-    (walk-part-sums-requires t)
+    (walk-add-lane-sum t)
+    (walk-lane-sum-requires t)
+    (walk-value-requires t)
     (walk-no-requires t)
     (walk-walk-requires t)
     (walk-add-fee t)
