@@ -33,12 +33,12 @@ number-snoc u (x ∷ ds) d = number-snoc (u * 10 + (x - 48)) ds d
 
 -- what holds of the digits of v, where it has at most suc k
 pub record Plain (k v : ℕ) (ds : List ℕ) : Type 0 where
-  all : AllDigits ds
-  some : 1 ≤ length ds
-  few : length ds ≤ k
-  value : numberFrom 0 ds ≡ v
-  head : 1 ≤ v → 48 < getD ds 0 0
-  short : v < 10 → length ds ≡ 1
+  pub all : AllDigits ds
+  pub some : 1 ≤ length ds
+  pub few : length ds ≤ k
+  pub value : numberFrom 0 ds ≡ v
+  pub head : 1 ≤ v → 48 < getD ds 0 0
+  pub short : v < 10 → length ds ≡ 1
 
 is-one : (k v : ℕ) → v < 10 → Plain (suc k) v (decimalIn (suc k) v)
 unfolding numberFrom
@@ -64,7 +64,7 @@ is-more k v ds h p = record {
     n : length (ds ++ (48 + v % 10) ∷ []) ≡ length ds + 1
     n = length-append ds ((48 + v % 10) ∷ [])
 
-decimal-is : (k v : ℕ) → v < 10 ^ suc k → Plain (suc k) v (decimalIn (suc k) v)
+pub decimal-is : (k v : ℕ) → v < 10 ^ suc k → Plain (suc k) v (decimalIn (suc k) v)
 decimal-is zero v h = is-one zero v (omega arith)
 decimal-is (suc k) v h = go (decLt v 10) (decimal-is k (v / 10))
   where

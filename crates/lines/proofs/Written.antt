@@ -61,7 +61,7 @@ decimal-more k v (d ∷ ds) h a =
     ∙ append-assoc (decimalIn k v) (d ∷ []) ds
 
 -- the number of plain digits is written with those digits
-decimal-plain : (ds : List ℕ) → AllDigits ds → plain ds ≡ true → decimalIn 10 (numberFrom 0 ds) ≡ ds
+pub decimal-plain : (ds : List ℕ) → AllDigits ds → plain ds ≡ true → decimalIn 10 (numberFrom 0 ds) ≡ ds
 unfolding numberFrom
 decimal-plain [] a p = absurd (false≢true p)
 decimal-plain (d ∷ []) a p =
