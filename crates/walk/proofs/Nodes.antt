@@ -6,16 +6,16 @@ use mathlib.Core.List.{List, [], _∷_}
 use native.Mathlib.Omega.{arith}
 use native.Mathlib.Numerals.{add-one}
 use native.Mathlib.Nat.{two-pow-succ, pow-le-pow-right}
-use borrow.Author.Tests.{ltb-true}
-use lib.Dec.{ltb}
+use borrow.Author.Tests.{ltb-true, leb-true, leb-false}
+use lib.Dec.{ltb, leb}
 use lib.IntN.{ℤ}
 use lib.ListN.{length, getD, drop, length-append}
 use Rattle.branch.specs.declared.Bound.{Bound}
 use Rattle.branch.specs.declared.Bound.the-variants.{Missing, Sum}
 use Rattle.branch.specs.Lower.{add, total}
-use Rattle.branch.specs.Search.{none, plan, below, snoc, Limited, counted, kept}
-use Rattle.branch.specs.Label.{limitedFrom}
-use Rattle.branch.proofs.Steps.{fixed-both}
+use Rattle.branch.specs.Search.{none, plan, below, snoc, Limited, kept}
+use Rattle.branch.specs.Label.{limitedFrom, openFrom}
+use Rattle.branch.proofs.Steps.{fixed-stop, fixed-drop, fixed-open, open-full, open-both}
 use Rattle.model.specs.Model.{sumAt}
 use Rattle.model.specs.LowerBound.{Offer, pick, leastOf, offers}
 use Rattle.walk.specs.declared.Search.{Search}
@@ -24,7 +24,7 @@ use Rattle.walk.specs.Layout.{top, inf, suffixBase, reachBase, pricePlac
 use Rattle.walk.specs.Sheet.{Column, Sheet, columnBound, partSums, sheetBound}
 use Rattle.walk.specs.Tables.{valueOf, Tables}
 use Rattle.walk.specs.Rows.{lane, sumLanes, Rows, Stack, Put, Kept}
-use Rattle.walk.specs.State.{bits, decided, incumbent, view, viewed, countedS, keptS, noN, yesN, Pending, ready, owed, At, nextRow, Owing, Settled}
+use Rattle.walk.specs.State.{bits, decided, incumbent, view, viewed, countedS, stoppedS, keptS, reachedS, undropped, openS, noN, yesN, Pending, ready, owed, At, nextRow, Owing, Settled}
 use Rattle.walk.proofs.Lanes.{node-sum, node-rises, rows-no, rows-yes, rows-kept, kept-refl, stack-no, stack-yes, stack-at}
 
 -- ---- decisions in a number
@@ -213,24 +213,70 @@ improves-below n e s = go (s .found)
     go true = refl
     go false = refl
 
--- the code's test of a bound, on the state that has counted the node
-pub tested : (n e : ℕ) (x : Bound) (s k : Search) (r : Bool) → x ≡ Sum e → k ≡ countedS s → r ≡ viewed e k → below x (incumbent n s) ≡ r
-tested n e x s k r f g h = ap (λ (y : Bound). below y (incumbent n s)) f ∙ sym (improves-below n e s) ∙ sym (h ∙ ap (viewed e) g)
-
 -- a full node kept
-pub kept-view : (n at e m : ℕ) (x : Bound) (s k r : Search) → x ≡ Sum e → k ≡ countedS s → r ≡ keptS k e m → at ≡ n
-    → view n r ≡ kept x (bits at m) (counted (view n s))
-kept-view n at e m x s k r f g h q = ap (view n) (h ∙ ap (λ (k : Search). keptS k e m) g) ∙ rw (f, q)
+pub full-walked : (est : List Bool → Bound) (L n e : ℕ) (p : Node) (s : Search) → est (decided p) ≡ Sum e → p .at ≡ n
+    → view n (keptS s e (p .mask)) ≡ openFrom est L (n - p .at) (decided p) (view n s)
+full-walked est L n e p s f q =
+    rw (sym q) (sym (open-full est L (p .at - p .at) (decided p) (view (p .at) s) (omega arith) ∙ ap (λ (b : Bound). kept b (decided p) (view (p .at) s)) f))
 
 -- both children walked, from what the two calls say
-pub both-walked : (est : List Bool → Bound) (L n : ℕ) (p : Node) (r fee : ℕ) (s r₁ r₂ : Limited) → p .at < n → s .count < L → below (est (decided p)) (s .incumbent) ≡ true
-    → r₁ ≡ limitedFrom est L (n - (p .at + 1)) (decided (noN p r)) (counted s)
+pub both-walked : (est : List Bool → Bound) (L n : ℕ) (p : Node) (r fee : ℕ) (s r₁ r₂ : Limited) → p .at < n
+    → r₁ ≡ limitedFrom est L (n - (p .at + 1)) (decided (noN p r)) s
     → r₂ ≡ limitedFrom est L (n - (p .at + 1)) (decided (yesN p r fee)) r₁
-    → r₂ ≡ limitedFrom est L (n - p .at) (decided p) s
-both-walked est L n p r fee s r₁ r₂ h c b f₁ f₂ =
+    → r₂ ≡ openFrom est L (n - p .at) (decided p) s
+both-walked est L n p r fee s r₁ r₂ h f₁ f₂ =
     f₂ ∙ ap (λ (d : List Bool). limitedFrom est L (n - (p .at + 1)) d r₁) (bits-yes (p .at) (p .mask))
-    ∙ ap (limitedFrom est L (n - (p .at + 1)) (snoc (decided p) true)) (f₁ ∙ ap (λ (d : List Bool). limitedFrom est L (n - (p .at + 1)) d (counted s)) (bits-no (p .at) (p .mask)))
-    ∙ sym (fixed-both est L (n - p .at) (n - (p .at + 1)) (decided p) s (omega arith) c b)
+    ∙ ap (limitedFrom est L (n - (p .at + 1)) (snoc (decided p) true)) (f₁ ∙ ap (λ (d : List Bool). limitedFrom est L (n - (p .at + 1)) d s) (bits-no (p .at) (p .mask)))
+    ∙ sym (open-both est L (n - p .at) (n - (p .at + 1)) (decided p) s (omega arith))
+
+-- ---- a node that is reached, with what `open` says of it
+
+module _ (sheet : Sheet) (t w : List ℕ) (p : Node) (stop : Bool) (e : Bound) (a : At sheet t w p stop e) (L n k : ℕ) (s : Search) where
+  abbrev walked : Limited
+  walked = limitedFrom (sheetBound sheet) L k (decided p) (view n s)
+
+  tested : (x : ℕ) → e ≡ Sum x → below (sheetBound sheet (decided p)) (incumbent n s) ≡ viewed (p .spent + x) s
+  tested x f = ap (λ (b : Bound). below b (incumbent n s)) (bound-some sheet t w p stop e a x f) ∙ sym (improves-below n (p .spent + x) s)
+
+  -- it is not walked on
+  pub closed-walked : openS L (p .spent) e s ≡ Missing → view n (reachedS L s) ≡ walked
+  closed-walked f = go (leb L (s .count)) refl f
+    where
+      drop : (e' : Bound) → e ≡ e' → undropped (p .spent) e' s ≡ Missing → below (sheetBound sheet (decided p)) (incumbent n s) ≡ false
+      drop Missing g h = ap (λ (b : Bound). below b (incumbent n s)) (bound-none sheet t w p stop e a g)
+      drop (Sum x) g h = tested x g ∙ no (viewed (p .spent + x) s) h
+        where
+          no : (b : Bool) → cond b (Sum x) Missing ≡ Missing → b ≡ false
+          no true u = let z : _≡_ {A = ℕ} 0 1 = cc in absurd (omega arith)
+          no false u = refl
+
+      go : (b : Bool) → leb L (s .count) ≡ b → cond b Missing (undropped (p .spent) e s) ≡ Missing → view n (cond b (stoppedS s) (countedS s)) ≡ walked
+      go true h u = sym (fixed-stop (sheetBound sheet) L k (decided p) (view n s) (leb-true L (s .count) h))
+      go false h u = sym (fixed-drop (sheetBound sheet) L k (decided p) (view n s) (leb-false L (s .count) h) (drop e refl u))
+
+  -- it is walked on
+  pub record Opened (y : ℕ) : Type 0 where
+    pub sums : e ≡ Sum y
+    pub within : s .count < L
+    pub on : openFrom (sheetBound sheet) L k (decided p) (view n (countedS s)) ≡ walked
+
+  pub open-walked : (y : ℕ) → openS L (p .spent) e s ≡ Sum y → Opened y
+  open-walked y f = go (leb L (s .count)) refl f
+    where
+      kept-on : (e' : Bound) → e ≡ e' → undropped (p .spent) e' s ≡ Sum y → (e ≡ Sum y) × (below (sheetBound sheet (decided p)) (incumbent n s) ≡ true)
+      kept-on Missing g h = let z : _≡_ {A = ℕ} 0 1 = cc in absurd (omega arith)
+      kept-on (Sum x) g h = let r = yes (viewed (p .spent + x) s) h in (g ∙ r .0, tested x g ∙ r .1)
+        where
+          yes : (b : Bool) → cond b (Sum x) Missing ≡ Sum y → (Sum x ≡ Sum y) × (b ≡ true)
+          yes true u = (u, refl)
+          yes false u = let z : _≡_ {A = ℕ} 0 1 = cc in absurd (omega arith)
+
+      go : (b : Bool) → leb L (s .count) ≡ b → cond b Missing (undropped (p .spent) e s) ≡ Sum y → Opened y
+      go true h u = let z : _≡_ {A = ℕ} 0 1 = cc in absurd (omega arith)
+      go false h u =
+          let r = kept-on e refl u in
+          let l = leb-false L (s .count) h in
+          record { sums = r .0; within = l; on = sym (fixed-open (sheetBound sheet) L k (decided p) (view n s) l (r .1)) }
 
 -- ---- the first node
 

@@ -3,10 +3,10 @@ use Prim.Native.Nat.{ℕ, zero, suc, _+_, _-_, _*_, _/_, _%_, _^_, _<_, _≤_}
 use mathlib.Core.Path.{_≡_}
 use mathlib.Core.Bool.{Bool, true, false, cond}
 use mathlib.Core.List.{List, []}
-use lib.Dec.{ltb, eqb}
+use lib.Dec.{ltb, leb, eqb}
 use lib.ListN.{length, getD}
 use Rattle.branch.specs.declared.Bound.{Bound}
-use Rattle.branch.specs.declared.Bound.the-variants.{Sum}
+use Rattle.branch.specs.declared.Bound.the-variants.{Missing, Sum}
 use Rattle.branch.specs.Search.{Incumbent, none, plan, snoc, Limited, atMost}
 use Rattle.branch.specs.Label.{treeOf}
 use Rattle.model.specs.Model.{sumAt}
@@ -47,6 +47,18 @@ stoppedS s = record { count = s .count; over = true; found = s .found; cost = s 
 
 abbrev pub keptS : Search → ℕ → ℕ → Search
 keptS s c m = record { count = s .count; over = s .over; found = true; cost = c; mask = m }
+
+-- a node is reached: one more, or one beyond the limit
+abbrev pub reachedS : ℕ → Search → Search
+reachedS limit s = cond (leb limit (s .count)) (stoppedS s) (countedS s)
+
+-- the part sums of a node that is walked on, with its fees and its part sums: its bound is less than the incumbent's cost, and it is within the limit
+abbrev pub undropped : ℕ → Bound → Search → Bound
+undropped spent Missing s = Missing
+undropped spent (Sum x) s = cond (viewed (spent + x) s) (Sum x) Missing
+
+abbrev pub openS : ℕ → ℕ → Bound → Search → Bound
+openS limit spent e s = cond (leb limit (s .count)) Missing (undropped spent e s)
 
 -- the two nodes below
 abbrev pub noN : Node → ℕ → Node

@@ -7,19 +7,21 @@ ghost use Prim.Native.Nat.{ℕ, _+_, _-_, _*_, _^_, _<_, _≤_};
 ghost use mathlib.Core.List.{[]};
 ghost use lib.ListN.{length, getD};
 ghost use Rattle.branch.specs.Search.{atMost};
-ghost use Rattle.branch.specs.Label.{treeOf, limitedFrom};
+ghost use Rattle.branch.specs.Label.{openFrom};
+ghost use Rattle.branch.specs.declared.Bound.{Bound};
+ghost use Rattle.branch.specs.declared.Bound.the-variants.{Sum};
 ghost use Rattle.walk.specs.Layout.{stackSize};
 ghost use Rattle.walk.specs.Sheet.{Sheet, sheetBound};
 ghost use Rattle.walk.specs.Tables.{Tables};
 ghost use Rattle.walk.specs.Rows.{Kept};
-ghost use Rattle.walk.specs.State.{decided, view, viewed, countedS, stoppedS, keptS, noN, yesN, At, Solves};
+ghost use Rattle.walk.specs.State.{decided, view, viewed, countedS, stoppedS, keptS, reachedS, openS, noN, yesN, At, Solves};
 use branch::Bound;
 use rows::COUNT;
 use rows::FEES;
 use rows::SUFFIX_CUTS;
 use rows::base_row;
+use rows::cell;
 use rows::lane_sum;
-use rows::part_sums;
 use rows::settle;
 use rows::value;
 
@@ -82,6 +84,33 @@ impl Search {
         }
         true
     }
+
+    // A node is reached: one more, or one beyond the limit.
+    pub fn reached(self, limit: u64) -> Search
+        ensures { λ r. ⌜ r ≡ reachedS limit self ⌝ }
+    {
+        if limit <= self.count {
+            return self.stopped();
+        }
+        self.counted()
+    }
+
+    // The part sums of a node that is walked on: it is within the limit and not dropped. `spent` are its fees, e its part sums.
+    pub fn open(self, limit: u64, spent: u64, e: Bound) -> Bound
+        requires { ⌜ ((x : ℕ) → e ≡ Sum x → spent + x < 2 ^ 64) ⌝ }
+        ensures { λ r. ⌜ r ≡ openS limit spent e self ⌝ }
+    {
+        if limit <= self.count {
+            return Bound::Missing;
+        }
+        let Bound::Sum(x) = e else {
+            return Bound::Missing;
+        };
+        if self.improves(spent + x) {
+            return Bound::Sum(x);
+        }
+        Bound::Missing
+    }
 }
 
 // A node: how many openings are decided, the rows on the stack, the fees, and the decisions, the latest in the lowest bit.
@@ -120,42 +149,27 @@ impl Node {
     }
 }
 
-// Walks the node p, whose part sums are e, and all below it. `stop`: its last decision is a yes, whose row is not yet on the stack.
-pub fn walk(
-    t: &[u32],
-    w: &mut [u32],
-    limit: u64,
-    p: Node,
-    stop: bool,
-    e: Bound,
-    s: Search,
-) -> Search
-    requires { ⌜ ((sheet : Sheet) × At sheet (now t) (now w) p stop e) ⌝ }
-    ensures walked { λ r. ⌜ ((sheet : Sheet) → At sheet (now (t .entry)) (now (w .entry)) p stop e → view (length (sheet .positions)) r
-        ≡ limitedFrom (sheetBound sheet) limit (length (sheet .positions) - p .at) (decided p) (view (length (sheet .positions)) s)) ⌝ }
+// Walks on from the node p, which is counted and not dropped, with part sums x. `stop`: its last decision is a yes, whose row is not yet on the stack.
+pub fn walk(t: &[u32], w: &mut [u32], limit: u64, p: Node, stop: bool, x: u64, s: Search) -> Search
+    requires { ⌜ ((sheet : Sheet) × At sheet (now t) (now w) p stop (Sum x)) ⌝ }
+    ensures walked { λ r. ⌜ ((sheet : Sheet) → At sheet (now (t .entry)) (now (w .entry)) p stop (Sum x) → view (length (sheet .positions)) r
+        ≡ openFrom (sheetBound sheet) limit (length (sheet .positions) - p .at) (decided p) (view (length (sheet .positions)) s)) ⌝ }
     ensures frame { λ r. ⌜ Kept (now (w .entry)) (now (w .exit)) (p .rows) ⌝ }
 {
-    if limit <= s.count {
-        return s.stopped();
+    if p.at == cell(t, COUNT, 0) {
+        return s.kept(p.spent + x, p.mask);
     }
-    let c = s.counted();
-    let Bound::Sum(x) = e else {
-        return s.counted();
+    let rows = settle(t, w, p.at, p.rows, stop);
+    let b = value(lane_sum(t, w, cell(t, SUFFIX_CUTS, p.at + 1), p.at + 1, rows, x));
+    let a = match s.open(limit, p.spent, b) {
+        Bound::Sum(y) => walk(t, w, limit, p.no(rows), false, y, s.counted()),
+        Bound::Missing => s.reached(limit),
     };
-    let cost = p.spent + x;
-    if !c.improves(cost) {
-        return s.counted();
-    }
-    let at = p.at;
-    if at == t[COUNT] as usize {
-        return c.kept(cost, p.mask);
-    }
-    let rows = settle(t, w, at, p.rows, stop);
-    let lo = t[SUFFIX_CUTS + (at + 1)] as usize;
-    let b = value(lane_sum(t, w, lo, at + 1, rows, x));
-    let a = walk(t, w, limit, p.no(rows), false, b, c);
-    let fee = t[FEES + at] as u64;
-    walk(t, w, limit, p.yes(rows, fee), true, Bound::Sum(x), a)
+    let q = p.yes(rows, cell(t, FEES, p.at) as u64);
+    let Bound::Sum(y) = a.open(limit, q.spent, Bound::Sum(x)) else {
+        return a.reached(limit);
+    };
+    walk(t, w, limit, q, true, y, a.counted())
 }
 
 // The floor, and the state after the walk with a limit.
@@ -170,14 +184,7 @@ pub fn solve(t: &[u32], w: &mut [u32], limit: u64) -> Solved
     ensures { λ r. ⌜ ((sheet : Sheet) → Tables sheet (now (t .entry)) → Solves sheet limit r) ⌝ }
 {
     base_row(w);
-    let lo = t[SUFFIX_CUTS] as usize;
-    let floor = part_sums(t, w, lo, 0, 1, 0);
-    let root = Node {
-        at: 0,
-        rows: 1,
-        spent: 0,
-        mask: 0,
-    };
+    let floor = value(lane_sum(t, w, cell(t, SUFFIX_CUTS, 0), 0, 1, 0));
     let begun = Search {
         count: 0,
         over: false,
@@ -185,6 +192,18 @@ pub fn solve(t: &[u32], w: &mut [u32], limit: u64) -> Solved
         cost: 0,
         mask: 0,
     };
-    let state = walk(t, w, limit, root, false, floor, begun);
+    let Bound::Sum(x) = begun.open(limit, 0, floor) else {
+        return Solved {
+            floor,
+            state: begun.reached(limit),
+        };
+    };
+    let root = Node {
+        at: 0,
+        rows: 1,
+        spent: 0,
+        mask: 0,
+    };
+    let state = walk(t, w, limit, root, false, x, begun.counted());
     Solved { floor, state }
 }

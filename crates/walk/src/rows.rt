@@ -39,6 +39,14 @@ pub const ROW_MARKS: usize = 1040;
 
 pub const STACK: usize = 1105;
 
+// The number that stands j past the start of a region.
+pub fn cell(t: &[u32], start: usize, j: usize) -> usize
+    requires { ⌜ (start + j < length (now t)) × (length (now t) ≡ tablesSize) ⌝ }
+    ensures { λ r. ⌜ r ≡ getD (now (t .entry)) (start + j) 0 ⌝ }
+{
+    t[start + j] as usize
+}
+
 // The lesser of two numbers below 2 ^ 31, by a signed comparison.
 fn lesser(x: u32, y: u32) -> u32
     requires { ⌜ (x < 2 ^ 31) × (y < 2 ^ 31) ⌝ }
@@ -155,15 +163,6 @@ pub fn lane_sum(t: &[u32], w: &[u32], lo: usize, j: usize, rows: usize, ms: u64)
         }
     }
     total(acc)
-}
-
-// The part sums where opening j is the first undecided one, given that they are at least `ms`.
-pub fn part_sums(t: &[u32], w: &[u32], lo: usize, j: usize, rows: usize, ms: u64) -> Bound
-    requires { ⌜ Stack (now t) (now w) suffixBase lo j rows ⌝ }
-    requires { ⌜ (ms ≤ sumLanes (λ (q : ℕ). lane (now t) (now w) suffixBase j q rows)) × (ms < inf) ⌝ }
-    ensures { λ r. ⌜ r ≡ valueOf (sumLanes (λ (q : ℕ). lane (now (t .entry)) (now (w .entry)) suffixBase j q rows)) ⌝ }
-{
-    value(lane_sum(t, w, lo, j, rows, ms))
 }
 
 // The row of opening j, decided yes, above the `rows` that are there.

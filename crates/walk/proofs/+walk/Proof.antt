@@ -1,35 +1,36 @@
--- `walk` is the limited walk of the node, and keeps the rows that were there: by recursion on the undecided openings, for each sheet whose tables it may be given.
-use Prim.Native.Nat.{ℕ, _<_, _≤_, _-_, _+_}
+-- `walk` walks on from its node, and keeps the rows that were there: by recursion on the undecided openings, for each sheet whose tables it may be given.
+use Prim.Native.Nat.{ℕ, _<_, _≤_, _-_, _+_, _^_}
 use mathlib.Core.Path.{_≡_, refl, sym, ap, subst, _∙_}
 use mathlib.Core.Bool.{Bool, true, false}
+use mathlib.Core.List.{List}
+use mathlib.Core.Logic.{⊎-elim}
 use native.Mathlib.Omega.{arith}
 use borrow.Author.Needs.{needs}
-use borrow.Author.Tests.{not-true, not-false}
 use borrow.Fn.Kinds.{In}
 use borrow.Fn.PlainCycle.{Measures, is, falls, and}
 use lib.ListN.{length, getD}
-use Rattle.branch.specs.Search.{below, counted, kept}
-use Rattle.branch.specs.Label.{limitedFrom}
+use Rattle.branch.specs.Search.{counted}
+use Rattle.branch.specs.Label.{limitedFrom, openFrom}
 use Rattle.branch.specs.declared.Bound.{Bound}
 use Rattle.branch.specs.declared.Bound.the-variants.{Sum}
-use Rattle.branch.proofs.Steps.{fixed-stop, fixed-drop, fixed-full}
 use Rattle.walk.specs.Tables.{valueOf}
 use Rattle.walk.specs.declared.Search.{Search}
 use Rattle.walk.specs.declared.Node.{Node}
-use Rattle.walk.specs.Layout.{inf, suffixCuts, cutPlace, countPlace, feePlace}
+use Rattle.walk.specs.Layout.{inf, suffixBase}
 use Rattle.walk.specs.Sheet.{Sheet, sheetBound}
-use Rattle.walk.specs.Rows.{Kept, Rows}
-use Rattle.walk.specs.State.{decided, incumbent, view, noN, At}
+use Rattle.walk.specs.Rows.{Kept, Rows, Stack}
+use Rattle.walk.specs.State.{decided, view, noN, yesN, At}
 use Rattle.walk.proofs.Lanes.{kept-refl, kept-then}
-use Rattle.walk.proofs.Nodes.{bound-none, bound-some, owing, settled, sums-asks, at-no, at-yes, mask-fits, tested, kept-view, both-walked}
+use Rattle.walk.proofs.Nodes.{bound-some, owing, settled, sums-asks, at-no, at-yes, mask-fits, full-walked, both-walked, Opened, closed-walked, open-walked}
 use Rattle.walk.proofs.+walk.{statement}
 use Rattle.walk.proofs.+walk.Tie.{close}
 use Rattle.walk.proofs.Node.no.Reads as no-reads
 use Rattle.walk.proofs.Node.yes.Reads as yes-reads
 use Rattle.walk.proofs.Search.counted.Reads as counted-reads
-use Rattle.walk.proofs.Search.improves.Reads as improves-reads
 use Rattle.walk.proofs.Search.kept.Reads as kept-reads
-use Rattle.walk.proofs.Search.stopped.Reads as stopped-reads
+use Rattle.walk.proofs.Search.open.Reads as open-reads
+use Rattle.walk.proofs.Search.reached.Reads as reached-reads
+use Rattle.walk.proofs.rows.cell.Reads as cell-reads
 use Rattle.walk.proofs.rows.lane_sum.Reads as lane-sum-reads
 use Rattle.walk.proofs.rows.value.Reads as value-reads
 use Rattle.walk.proofs.rows.settle.Reads as settle-reads
@@ -48,12 +49,8 @@ walk-below t = and 2 walk-kinds.ps (falls 2 walk-kinds.ps _<_ μ-walk t) walk.Pr
 
 abbrev claims : ℕ → walk-lts.Claims
 claims t = (
-  stopped-reads.Asked,
-  stopped-reads.Learnt,
-  counted-reads.Asked,
-  counted-reads.Learnt,
-  improves-reads.Asked,
-  improves-reads.Learnt,
+  cell-reads.Asked,
+  cell-reads.Learnt,
   kept-reads.Asked,
   kept-reads.Learnt,
   settle-reads.Asked,
@@ -62,314 +59,419 @@ claims t = (
   lane-sum-reads.Learnt,
   value-reads.Asked,
   value-reads.Learnt,
+  open-reads.Asked,
+  open-reads.Learnt,
   no-reads.Asked,
   no-reads.Learnt,
+  counted-reads.Asked,
+  counted-reads.Learnt,
   walk-below t,
   walk.Post,
+  reached-reads.Asked,
+  reached-reads.Learnt,
   yes-reads.Asked,
   yes-reads.Learnt,
 )
 
-walk-stopped-requires : (t : ℕ) → walk-lts.Need-stopped-requires (claims t) (walk-at t) walk.Post
-walk-stopped-requires t c κs = search needs
+-- ---- places of the code. `Begun`: its start; `Undecided`: there is an undecided opening; `Placed`: the node is settled; `Tested`: the no child is tested; `First`: the first branch is walked
 
-walk-returns : (t : ℕ) → walk-lts.Need-returns (claims t) (walk-at t) walk.Post
-walk-returns t c =
-    let a = c .before .before .before .before .before .args in (
-      λ sheet h. ap (view (length (sheet .positions))) (c .stopped .ensures) ∙ sym (fixed-stop (sheetBound sheet) (a .limit) (length (sheet .positions) - a .p .at) (decided (a .p)) (view (length (sheet .positions)) (a .s)) (c .before .if1 .taken)),
-      kept-refl (a .w .now) (a .p .rows),
-    )
+abbrev Begun : ℕ → Type 0
+Begun t = walk-lts.Start (claims t) (walk-at t) walk.Post
 
-walk-counted-requires : (t : ℕ) → walk-lts.Need-counted-requires (claims t) (walk-at t) walk.Post
-walk-counted-requires t c κs = search needs
+abbrev Undecided : ℕ → Type 0
+Undecided t = walk-lts.Else1 (claims t) (walk-at t) walk.Post
 
-walk-enum-known-e : (t : ℕ) → walk-lts.Need-enum-known-e (claims t) (walk-at t) walk.Post
-walk-enum-known-e t c = search needs
+abbrev Placed : ℕ → Type 0
+Placed t = walk-lts.After-settle (claims t) (walk-at t) walk.Post
 
-walk-enum-told : (t : ℕ) → walk-lts.Need-enum-told (claims t) (walk-at t) walk.Post
-walk-enum-told t c = search needs
+abbrev Tested : ℕ → Type 0
+Tested t = walk-lts.After-open (claims t) (walk-at t) walk.Post
 
-walk-counted-requires-2 : (t : ℕ) → walk-lts.Need-counted-requires-2 (claims t) (walk-at t) walk.Post
-walk-counted-requires-2 t c κs = search needs
+abbrev First : ℕ → Type 0
+First t = walk-lts.At-match-came (claims t) (walk-at t) walk.Post
 
-walk-returns-2 : (t : ℕ) → walk-lts.Need-returns-2 (claims t) (walk-at t) walk.Post
-walk-returns-2 t c =
-    let k = c .before .before .before in
-    let a = c .before .before .before .before .before .before .before .before .args in (
-      λ sheet h.
-          let n = length (sheet .positions) in
-          ap (view n) (c .counted2 .ensures)
-          ∙ sym (fixed-drop (sheetBound sheet) (a .limit) (n - a .p .at) (decided (a .p)) (view n (a .s)) (k .before .if1 .left)
-          (ap (λ (x : Bound). below x (incumbent n (a .s))) (bound-none sheet (a .t .now) (a .w .now) (a .p) (a .stop) (a .e) h (c .before .enum-told .given .1)))),
-      kept-refl (a .w .now) (a .p .rows),
-    )
+abbrev begun : (t : ℕ) → Undecided t → Begun t
+begun t c = c .before .before .before .before .before
 
-walk-add-cost : (t : ℕ) → walk-lts.Need-add-cost (claims t) (walk-at t) walk.Post
-walk-add-cost t c =
-    let start = c .before .before .before .before .before .before .before .before .before in
-    let h = start .pre .1 .1 in
-    let x = c .before .before .e .given .0 .0 in
-    let l : x < inf = h .low x (c .before .before .e .given .1) in
-    omega (arith, h .poor, h .inside, h .tables .few)
+abbrev undecided : (t : ℕ) → Placed t → Undecided t
+undecided t c = c .before .before
 
-walk-improves-requires : (t : ℕ) → walk-lts.Need-improves-requires (claims t) (walk-at t) walk.Post
-walk-improves-requires t c κs = search needs
+abbrev placed : (t : ℕ) → Tested t → Placed t
+placed t c = c .before .before .before .before .before .before .before .before .before
 
--- what is known once the bound has been tested, for each sheet that the node may be of
-record Known (limit : ℕ) (p : Node) (s k : Search) (cost : ℕ) (r : Bool) (sheet : Sheet) : Type 0 where
-  counted : view (length (sheet .positions)) k ≡ counted (view (length (sheet .positions)) s)
-  under : s .count < limit
-  sum : sheetBound sheet (decided p) ≡ Sum cost
-  test : below (sheetBound sheet (decided p)) (incumbent (length (sheet .positions)) s) ≡ r
+abbrev start : (t : ℕ) → Tested t → Begun t
+start t c = begun t (undecided t (placed t c))
 
-knows : (t : ℕ) (c : walk-lts.After-improves (claims t) (walk-at t) walk.Post) (sheet : Sheet)
-    → let a = c .before .before .before .before .before .before .before .before .before .before .args in
-    At sheet (a .t .now) (a .w .now) (a .p) (a .stop) (a .e)
-    → Known (a .limit) (a .p) (a .s) (c .before .before .before .before .before .counted .result) (a .p .spent + c .before .before .before .e .given .0 .0) (c .improves .result) sheet
-knows t c sheet h =
-    let a = c .before .before .before .before .before .before .before .before .before .before .args in
-    let n = length (sheet .positions) in
-    let k = c .before .before .before .before .before in
-    let x = c .before .before .before .e .given .0 .0 in
-    let f = bound-some sheet (a .t .now) (a .w .now) (a .p) (a .stop) (a .e) h x (c .before .before .before .e .given .1) in
-    record {
-      counted = ap (view n) (k .counted .ensures);
-      under = k .before .if1 .left;
-      sum = f;
-      test = tested n (a .p .spent + x) (sheetBound sheet (decided (a .p))) (a .s) (k .counted .result) (c .improves .result) f (k .counted .ensures) (c .improves .ensures);
-    }
+-- the sheet that is asked for, and what is given of it
+abbrev sheet-of : (t : ℕ) → Begun t → Sheet
+sheet-of t c = c .pre .1 .0
 
-walk-counted-requires-3 : (t : ℕ) → walk-lts.Need-counted-requires-3 (claims t) (walk-at t) walk.Post
-walk-counted-requires-3 t c κs = search needs
+abbrev Given : (t : ℕ) → Begun t → Sheet → Type 0
+Given t c sheet = let a = c .args in At sheet (a .t .now) (a .w .now) (a .p) (a .stop) (Sum (a .x))
 
-walk-returns-3 : (t : ℕ) → walk-lts.Need-returns-3 (claims t) (walk-at t) walk.Post
-walk-returns-3 t c =
-    let a = c .before .before .before .before .before .before .before .before .before .before .before .before .args in (
-      λ sheet h.
-          let n = length (sheet .positions) in
-          let k = knows t (c .before .before) sheet h in
-          ap (view n) (c .counted3 .ensures) ∙ sym (fixed-drop (sheetBound sheet) (a .limit) (n - a .p .at) (decided (a .p)) (view n (a .s)) (k .under) (k .test ∙ not-true (c .before .before .improves .result) (c .before .if2 .taken))),
-      kept-refl (a .w .now) (a .p .rows),
-    )
+abbrev given : (t : ℕ) (c : Begun t) → Given t c (sheet-of t c)
+given t c = c .pre .1 .1
 
-walk-shared-slice-read-if3 : (t : ℕ) → walk-lts.Need-shared-slice-read-if3 (claims t) (walk-at t) walk.Post
-walk-shared-slice-read-if3 t c = omega (arith, c .before .before .before .before .before .before .before .before .before .before .before .before .pre .1 .1 .tables .size)
+walk-cell-requires : (t : ℕ) → walk-lts.Need-cell-requires (claims t) (walk-at t) walk.Post
+walk-cell-requires t c κs = let h = given t (c .before .before) in (omega (arith, h .tables .size), h .tables .size)
 
-walk-cast-if3 : (t : ℕ) → walk-lts.Need-cast-if3 (claims t) (walk-at t) walk.Post
-walk-cast-if3 t c = omega (arith, c .shared-slice-known2 .given countPlace)
+walk-add-kept : (t : ℕ) → walk-lts.Need-add-kept (claims t) (walk-at t) walk.Post
+walk-add-kept t c =
+    let h = given t (c .before .before .before .before .before .before) in
+    omega (arith, h .low (c .before .before .before .before .before .before .args .x) refl, h .poor, h .inside, h .tables .few)
 
 walk-kept-requires : (t : ℕ) → walk-lts.Need-kept-requires (claims t) (walk-at t) walk.Post
 walk-kept-requires t c κs = search needs
 
-walk-returns-4 : (t : ℕ) → walk-lts.Need-returns-4 (claims t) (walk-at t) walk.Post
-walk-returns-4 t c =
-    let i = c .before .before .before .before in
-    let start = c .before .before .before .before .before .before .before .before .before .before .before .before .before .before in
-    let a = start .args in (
+walk-returns : (t : ℕ) → walk-lts.Need-returns (claims t) (walk-at t) walk.Post
+walk-returns t c =
+    let a = c .before .before .before .before .before .before .before .args in (
       λ sheet h.
           let n = length (sheet .positions) in
-          let k = knows t i sheet h in
-          let e : a .p .at ≡ n = c .before .if3 .taken ∙ h .tables .count in
-          kept-view n (a .p .at) (a .p .spent + c .before .before .before .before .before .before .before .e .given .0 .0) (a .p .mask) (sheetBound sheet (decided (a .p))) (a .s) (c .before .before .before .before .before .before .before .before .before .counted .result) (c .kept .result) (k .sum) (c .before .before .before .before .before .before .before .before .before .counted .ensures) (c .kept .ensures) e
-          ∙ sym (fixed-full (sheetBound sheet) (a .limit) (n - a .p .at) (decided (a .p)) (view n (a .s)) (omega (arith, e)) (k .under) (k .test ∙ not-false (i .improves .result) (c .before .before .before .if2 .left))),
+          ap (view n) (c .kept .ensures)
+          ∙ full-walked (sheetBound sheet) (a .limit) n (a .p .spent + a .x) (a .p) (a .s) (bound-some sheet (a .t .now) (a .w .now) (a .p) (a .stop) (Sum (a .x)) h (a .x) refl) (c .before .before .if1 .taken ∙ c .before .before .before .before .cell .ensures ∙ h .tables .count),
       kept-refl (a .w .now) (a .p .rows),
     )
 
 walk-settle-requires : (t : ℕ) → walk-lts.Need-settle-requires (claims t) (walk-at t) walk.Post
 walk-settle-requires t c κs =
-    let start = c .before .before .before .before .before .before .before .before .before .before .before .before .before .before in
-    let a = start .args in
-    owing (start .pre .1 .0) (a .t .now) (a .w .now) (a .p) (a .stop) (a .e) (start .pre .1 .1)
+    let b = begun t (c .before) in
+    let a = b .args in
+    owing (sheet-of t b) (a .t .now) (a .w .now) (a .p) (a .stop) (Sum (a .x)) (given t b)
 
 -- the node's rows once it is settled, and that it has an undecided opening
-stands : (t : ℕ) (c : walk-lts.After-settle (claims t) (walk-at t) walk.Post) (sheet : Sheet)
-    → let a = c .before .before .before .before .before .before .before .before .before .before .before .before .before .before .before .args in
-    At sheet (a .t .now) (a .w .now) (a .p) (a .stop) (a .e)
+stands : (t : ℕ) (c : Placed t) (sheet : Sheet)
+    → let a = begun t (undecided t c) .args in
+    Given t (begun t (undecided t c)) sheet
     → Rows sheet (c .settle .last .1 .0) (decided (a .p)) (c .settle .result) × Kept (a .w .now) (c .settle .last .1 .0) (a .p .rows) × (a .p .rows ≤ c .settle .result)
 stands t c sheet h =
-    let a = c .before .before .before .before .before .before .before .before .before .before .before .before .before .before .before .args in
-    settled sheet (a .t .now) (a .w .now) (a .p) (a .stop) (a .e) h (c .settle .last .1 .0) (c .settle .result) (c .settle .ensures)
+    let a = begun t (undecided t c) .args in
+    settled sheet (a .t .now) (a .w .now) (a .p) (a .stop) (Sum (a .x)) h (c .settle .last .1 .0) (c .settle .result) (c .settle .ensures)
 
-under : (t : ℕ) (c : walk-lts.Else3 (claims t) (walk-at t) walk.Post) (sheet : Sheet)
-    → let a = c .before .before .before .before .before .before .before .before .before .before .before .before .before .args in
-    At sheet (a .t .now) (a .w .now) (a .p) (a .stop) (a .e) → a .p .at < length (sheet .positions)
-under t c sheet h = omega (arith, h .inside, h .tables .count, c .if3 .left)
+under : (t : ℕ) (c : Undecided t) (sheet : Sheet) → Given t (begun t c) sheet → begun t c .args .p .at < length (sheet .positions)
+under t c sheet h = omega (arith, h .inside, h .tables .count, c .before .before .cell .ensures, c .if1 .left)
 
-walk-add-lo : (t : ℕ) → walk-lts.Need-add-lo (claims t) (walk-at t) walk.Post
-walk-add-lo t c = let h = c .before .before .before .before .before .before .before .before .before .before .before .before .before .before .before .before .before .pre .1 .1 in omega (arith, h .inside, h .tables .few)
+-- at most 63 openings are decided
+near : (t : ℕ) (c : Undecided t) → begun t c .args .p .at < 64
+near t c = let h = given t (begun t c) in omega (arith, under t c (sheet-of t (begun t c)) h, h .tables .few)
 
-walk-add-lo-2 : (t : ℕ) → walk-lts.Need-add-lo-2 (claims t) (walk-at t) walk.Post
-walk-add-lo-2 t c = let h = c .before .before .before .before .before .before .before .before .before .before .before .before .before .before .before .before .before .pre .1 .1 in omega (arith, h .inside, h .tables .few)
+walk-add-cell : (t : ℕ) → walk-lts.Need-add-cell (claims t) (walk-at t) walk.Post
+walk-add-cell t c = omega (arith, near t (undecided t (c .before .before .before .before)))
 
-walk-mul-lo : (t : ℕ) → walk-lts.Need-mul-lo (claims t) (walk-at t) walk.Post
-walk-mul-lo t c = let h = c .before .before .before .before .before .before .before .before .before .before .before .before .before .before .before .before .before .pre .1 .1 in omega (arith, h .inside, h .tables .few)
-
-walk-shared-slice-read-lo : (t : ℕ) → walk-lts.Need-shared-slice-read-lo (claims t) (walk-at t) walk.Post
-walk-shared-slice-read-lo t c = let h = c .before .before .before .before .before .before .before .before .before .before .before .before .before .before .before .before .before .before .pre .1 .1 in omega (arith, h .inside, h .tables .few, h .tables .size)
-
-walk-cast-lo : (t : ℕ) → walk-lts.Need-cast-lo (claims t) (walk-at t) walk.Post
-walk-cast-lo t c = omega (arith, c .shared-slice-known3 .given (cutPlace suffixCuts (c .before .before .before .before .before .before .before .before .before .before .before .before .before .before .before .before .before .before .args .p .at + 1)))
+walk-cell-requires-2 : (t : ℕ) → walk-lts.Need-cell-requires-2 (claims t) (walk-at t) walk.Post
+walk-cell-requires-2 t c κs =
+    let u = undecided t (c .before .before .before .before) in
+    let size = given t (begun t u) .tables .size in
+    (omega (arith, near t u, size), size)
 
 walk-add-lane-sum : (t : ℕ) → walk-lts.Need-add-lane-sum (claims t) (walk-at t) walk.Post
-walk-add-lane-sum t c = let h = c .before .before .before .before .before .before .before .before .before .before .before .before .before .before .before .before .before .before .before .pre .1 .1 in omega (arith, h .inside, h .tables .few)
+walk-add-lane-sum t c = omega (arith, near t (undecided t (c .before .before .before .before .before .before)))
 
 walk-lane-sum-requires : (t : ℕ) → walk-lts.Need-lane-sum-requires (claims t) (walk-at t) walk.Post
 walk-lane-sum-requires t c κs =
-    let start = c .before .before .before .before .before .before .before .before .before .before .before .before .before .before .before .before .before .before .before in
-    let a = start .args in
-    let sheet = start .pre .1 .0 in
-    let h = start .pre .1 .1 in
-    let o = c .before .before .before .before in
-    let r = sums-asks sheet (a .t .now) (a .w .now) (o .settle .last .1 .0) (a .p) (a .stop) (a .e) (o .settle .result) (c .before .before .before .before .before .before .before .before .before .before .before .before .e .given .0 .0) h (c .before .before .before .before .before .before .before .before .before .before .before .before .e .given .1) (stands t o sheet h .0) (under t (c .before .before .before .before .before .before) sheet h) in
-    (r .0, r .1 .0)
+    let o = c .before .before .before .before .before .before in
+    let b = begun t (undecided t o) in
+    let a = b .args in
+    let sheet = sheet-of t b in
+    let h = given t b in
+    let r = sums-asks sheet (a .t .now) (a .w .now) (o .settle .last .1 .0) (a .p) (a .stop) (Sum (a .x)) (o .settle .result) (a .x) h refl (stands t o sheet h .0) (under t (undecided t o) sheet h) in
+    (subst (λ (lo : ℕ). Stack (a .t .now) (o .settle .last .1 .0) suffixBase lo (a .p .at + 1) (o .settle .result)) (sym (c .before .cell2 .ensures)) (r .0), r .1 .0)
 
 walk-value-requires : (t : ℕ) → walk-lts.Need-value-requires (claims t) (walk-at t) walk.Post
 walk-value-requires t c κs = search needs
 
+-- the no child
+no-given : (t : ℕ) (c : walk-lts.After-value (claims t) (walk-at t) walk.Post) (sheet : Sheet)
+    → let o = c .before .before .before .before .before .before .before .before in
+    let b = begun t (undecided t o) in
+    Given t b sheet → At sheet (b .args .t .now) (o .settle .last .1 .0) (noN (b .args .p) (o .settle .result)) false (c .value .result)
+no-given t c sheet h =
+    let o = c .before .before .before .before .before .before .before .before in
+    let a = begun t (undecided t o) .args in
+    at-no sheet (a .t .now) (a .w .now) (o .settle .last .1 .0) (a .p) (a .stop) (Sum (a .x)) (o .settle .result) (a .x) h refl (stands t o sheet h .0) (under t (undecided t o) sheet h)
+    (c .value .result) (c .value .ensures ∙ ap valueOf (c .before .lane-sum .ensures))
+
+-- a node's fees and part sums fit
+fits : (sheet : Sheet) (t w : List ℕ) (p : Node) (stop : Bool) (e : Bound) → At sheet t w p stop e → (x : ℕ) → e ≡ Sum x → p .spent + x < 2 ^ 64
+fits sheet t w p stop e h x f = omega (arith, h .low x f, h .poor, h .inside, h .tables .few)
+
+walk-open-requires : (t : ℕ) → walk-lts.Need-open-requires (claims t) (walk-at t) walk.Post
+walk-open-requires t c κs =
+    let o = c .before .before .before .before .before .before .before .before in
+    let b = begun t (undecided t o) in
+    fits (sheet-of t b) (b .args .t .now) (o .settle .last .1 .0) (noN (b .args .p) (o .settle .result)) false (c .value .result) (no-given t c (sheet-of t b) (given t b))
+
+walk-enum-known-y : (t : ℕ) → walk-lts.Need-enum-known-y (claims t) (walk-at t) walk.Post
+walk-enum-known-y t c = search needs
+
 walk-no-requires : (t : ℕ) → walk-lts.Need-no-requires (claims t) (walk-at t) walk.Post
 walk-no-requires t c κs =
-    let start = c .before .before .before .before .before .before .before .before .before .before .before .before .before .before .before .before .before .before .before .before .before .before in
-    let h = start .pre .1 .1 in
-    let l = under t (c .before .before .before .before .before .before .before .before .before) (start .pre .1 .0) h in
-    (omega (arith, l, h .tables .few), omega (arith, mask-fits (start .args .p .at) (start .args .p .mask) (h .mask) (omega (arith, l, h .tables .few))))
+    let u = undecided t (placed t (c .before .before .before .before)) in
+    let p = begun t u .args .p in
+    (near t u, omega (arith, mask-fits (p .at) (p .mask) (given t (begun t u) .mask) (near t u)))
 
--- the no child
-no-given : (t : ℕ) (c : walk-lts.After-no (claims t) (walk-at t) walk.Post) (sheet : Sheet)
-    → let a = c .before .before .before .before .before .before .before .before .before .before .before .before .before .before .before .before .before .before .before .before .before .before .before .args in
-    At sheet (a .t .now) (a .w .now) (a .p) (a .stop) (a .e)
-    → At sheet (a .t .now) (c .before .before .before .before .before .before .before .before .settle .last .1 .0) (c .no .result) false (c .before .before .value .result)
-no-given t c sheet h =
-    let a = c .before .before .before .before .before .before .before .before .before .before .before .before .before .before .before .before .before .before .before .before .before .before .before .args in
-    let o = c .before .before .before .before .before .before .before .before in
-    subst (λ (q : Node). At sheet (a .t .now) (o .settle .last .1 .0) q false (c .before .before .value .result)) (sym (c .no .ensures))
-    (at-no sheet (a .t .now) (a .w .now) (o .settle .last .1 .0) (a .p) (a .stop) (a .e) (o .settle .result) (c .before .before .before .before .before .before .before .before .before .before .before .before .before .before .before .before .e .given .0 .0) h (c .before .before .before .before .before .before .before .before .before .before .before .before .before .before .before .before .e .given .1) (stands t o sheet h .0) (under t (c .before .before .before .before .before .before .before .before .before .before) sheet h)
-    (c .before .before .value .result) (c .before .before .value .ensures ∙ ap valueOf (c .before .before .before .lane-sum .ensures)))
+-- the no child is walked on, with the part sums y
+opened : (t : ℕ) (c : walk-lts.After-y (claims t) (walk-at t) walk.Post) (sheet : Sheet)
+    → let o = placed t (c .before .before) in
+    let a = start t (c .before .before) .args in
+    let n = length (sheet .positions) in
+    (h : Given t (start t (c .before .before)) sheet)
+    → Opened sheet (a .t .now) (o .settle .last .1 .0) (noN (a .p) (o .settle .result)) false (c .before .before .before .value .result) (no-given t (c .before .before .before) sheet h) (a .limit) n (n - (a .p .at + 1)) (a .s) (c .y .given .0 .0)
+opened t c sheet h =
+    let o = placed t (c .before .before) in
+    let a = start t (c .before .before) .args in
+    let n = length (sheet .positions) in
+    open-walked sheet (a .t .now) (o .settle .last .1 .0) (noN (a .p) (o .settle .result)) false (c .before .before .before .value .result) (no-given t (c .before .before .before) sheet h) (a .limit) n (n - (a .p .at + 1)) (a .s) (c .y .given .0 .0)
+    (sym (c .before .before .open .ensures) ∙ c .y .given .1)
+
+walk-counted-requires : (t : ℕ) → walk-lts.Need-counted-requires (claims t) (walk-at t) walk.Post
+walk-counted-requires t c κs =
+    let b = start t (c .before .before .before .before .before) in
+    let l = opened t (c .before .before .before) (sheet-of t b) (given t b) .within in
+    omega (arith, l, b .fits .limit)
+
+-- so it is what the call is given
+no-child : (t : ℕ) (c : walk-lts.After-no (claims t) (walk-at t) walk.Post) (sheet : Sheet)
+    → Given t (start t (c .before .before .before .before .before)) sheet
+    → At sheet (start t (c .before .before .before .before .before) .args .t .now) (placed t (c .before .before .before .before .before) .settle .last .1 .0) (c .no .result) false (Sum (c .before .before .before .y .given .0 .0))
+no-child t c sheet h =
+    let o = placed t (c .before .before .before .before .before) in
+    let a = start t (c .before .before .before .before .before) .args in
+    subst (λ (q : Node). At sheet (a .t .now) (o .settle .last .1 .0) q false (Sum (c .before .before .before .y .given .0 .0))) (sym (c .no .ensures))
+    (subst (At sheet (a .t .now) (o .settle .last .1 .0) (noN (a .p) (o .settle .result)) false) (opened t (c .before .before .before) sheet h .sums) (no-given t (c .before .before .before .before .before .before) sheet h))
 
 walk-walk-requires : (t : ℕ) → walk-lts.Need-walk-requires (claims t) (walk-at t) walk.Post
 walk-walk-requires t c κs =
-    let start = c .before .before .before .before .before .before .before .before .before .before .before .before .before .before .before .before .before .before .before .before .before .before .before in
-    let a = start .args in
-    let sheet = start .pre .1 .0 in
-    let h = start .pre .1 .1 in
-    let o = c .before .before .before .before .before .before .before .before in
-    let l = under t (c .before .before .before .before .before .before .before .before .before .before) sheet h in
-    let z : c .no .result .at ≡ a .p .at + 1 = ap (λ (q : Node). q .at) (c .no .ensures) in
-    (omega (arith, start .pre .0, z, l, h .tables .few), (sheet, no-given t c sheet h))
+    let b = start t (c .before .before .before .before .before .before) in
+    let z : c .before .no .result .at ≡ b .args .p .at + 1 = ap (λ (q : Node). q .at) (c .before .no .ensures) in
+    (omega (arith, b .pre .0, z, near t (undecided t (placed t (c .before .before .before .before .before .before)))), (sheet-of t b, no-child t (c .before) (sheet-of t b) (given t b)))
 
-walk-add-fee : (t : ℕ) → walk-lts.Need-add-fee (claims t) (walk-at t) walk.Post
-walk-add-fee t c = let h = c .before .before .before .before .before .before .before .before .before .before .before .before .before .before .before .before .before .before .before .before .before .before .before .before .before .before .pre .1 .1 in omega (arith, h .inside, h .tables .few)
+-- what the first call does
+walked-on : (t : ℕ) (c : walk-lts.After-walk (claims t) (walk-at t) walk.Post) (sheet : Sheet)
+    → Given t (start t (c .before .before .before .before .before .before .before)) sheet
+    → let n = length (sheet .positions) in
+    let a = start t (c .before .before .before .before .before .before .before) .args in
+    view n (c .walk .result) ≡ limitedFrom (sheetBound sheet) (a .limit) (n - (a .p .at + 1)) (decided (noN (a .p) (placed t (c .before .before .before .before .before .before .before) .settle .result))) (view n (a .s))
+walked-on t c sheet h =
+    let n = length (sheet .positions) in
+    let a = start t (c .before .before .before .before .before .before .before) .args in
+    c .walk .ensures .0 sheet (no-child t (c .before .before) sheet h)
+    ∙ ap (λ (q : Node). openFrom (sheetBound sheet) (a .limit) (n - q .at) (decided q) (view n (c .before .counted .result))) (c .before .before .no .ensures)
+    ∙ ap (λ (k : Search). openFrom (sheetBound sheet) (a .limit) (n - (a .p .at + 1)) (decided (noN (a .p) (placed t (c .before .before .before .before .before .before .before) .settle .result))) (view n k)) (c .before .counted .ensures)
+    ∙ opened t (c .before .before .before .before .before) sheet h .on
 
-walk-mul-fee : (t : ℕ) → walk-lts.Need-mul-fee (claims t) (walk-at t) walk.Post
-walk-mul-fee t c = let h = c .before .before .before .before .before .before .before .before .before .before .before .before .before .before .before .before .before .before .before .before .before .before .before .before .before .before .pre .1 .1 in omega (arith, h .inside, h .tables .few)
+walked-keeps : (t : ℕ) (c : walk-lts.After-walk (claims t) (walk-at t) walk.Post) → let o = placed t (c .before .before .before .before .before .before .before) in Kept (o .settle .last .1 .0) (c .walk .last .1 .0) (o .settle .result)
+walked-keeps t c =
+    let o = placed t (c .before .before .before .before .before .before .before) in
+    subst (λ (q : Node). Kept (o .settle .last .1 .0) (c .walk .last .1 .0) (q .rows)) (c .before .before .no .ensures) (c .walk .ensures .1)
 
-walk-shared-slice-read-fee : (t : ℕ) → walk-lts.Need-shared-slice-read-fee (claims t) (walk-at t) walk.Post
-walk-shared-slice-read-fee t c = let h = c .before .before .before .before .before .before .before .before .before .before .before .before .before .before .before .before .before .before .before .before .before .before .before .before .before .before .before .pre .1 .1 in omega (arith, h .inside, h .tables .few, h .tables .size)
+-- what stands where the no child is not walked on
+passed-by : (t : ℕ) (c : walk-lts.After-reached (claims t) (walk-at t) walk.Post) (sheet : Sheet)
+    → Given t (start t (c .before .before .before)) sheet
+    → let n = length (sheet .positions) in
+    let a = start t (c .before .before .before) .args in
+    view n (c .reached .result) ≡ limitedFrom (sheetBound sheet) (a .limit) (n - (a .p .at + 1)) (decided (noN (a .p) (placed t (c .before .before .before) .settle .result))) (view n (a .s))
+passed-by t c sheet h =
+    let o = placed t (c .before .before .before) in
+    let a = start t (c .before .before .before) .args in
+    let n = length (sheet .positions) in
+    ap (view n) (c .reached .ensures)
+    ∙ closed-walked sheet (a .t .now) (o .settle .last .1 .0) (noN (a .p) (o .settle .result)) false (c .before .before .before .before .value .result) (no-given t (c .before .before .before .before) sheet h) (a .limit) n (n - (a .p .at + 1)) (a .s)
+    (sym (c .before .before .before .open .ensures) ∙ c .before .enum-told .given .1)
 
-walk-cast-fee : (t : ℕ) → walk-lts.Need-cast-fee (claims t) (walk-at t) walk.Post
-walk-cast-fee t c = omega (arith, c .shared-slice-known4 .given (feePlace (c .before .before .before .before .before .before .before .before .before .before .before .before .before .before .before .before .before .before .before .before .before .before .before .before .before .before .before .args .p .at)))
+-- the first branch, either way
+first-walked : (t : ℕ) (c : First t) (sheet : Sheet)
+    → Given t (start t (c .before)) sheet
+    → let n = length (sheet .positions) in
+    let a = start t (c .before) .args in
+    view n (c .match .a) ≡ limitedFrom (sheetBound sheet) (a .limit) (n - (a .p .at + 1)) (decided (noN (a .p) (placed t (c .before) .settle .result))) (view n (a .s))
+first-walked t c sheet h =
+    let n = length (sheet .positions) in
+    ⊎-elim
+    (λ v. ap (view n) (v .10) ∙ walked-on t (record { before = record { before = record { before = record { before = record { before = record { before = record { before = c .before; match = v .0 }; y = v .1 }; known-told = v .2 }; walk-arg = v .3 }; no = v .4 }; counted = v .5 }; walk = v .6 }) sheet h)
+    (λ v. ap (view n) (v .4) ∙ passed-by t (record { before = record { before = record { before = c .before; match = v .0 }; enum-told = v .1 }; reached = v .2 }) sheet h)
+    (c .match .came)
+
+first-keeps : (t : ℕ) (c : First t) → let o = placed t (c .before) in Kept (o .settle .last .1 .0) (c .match .w) (o .settle .result)
+first-keeps t c =
+    let o = placed t (c .before) in
+    ⊎-elim
+    (λ v. subst (λ (l : List ℕ). Kept (o .settle .last .1 .0) l (o .settle .result)) (sym (v .9)) (walked-keeps t (record { before = record { before = record { before = record { before = record { before = record { before = record { before = c .before; match = v .0 }; y = v .1 }; known-told = v .2 }; walk-arg = v .3 }; no = v .4 }; counted = v .5 }; walk = v .6 })))
+    (λ v. subst (λ (l : List ℕ). Kept (o .settle .last .1 .0) l (o .settle .result)) (sym (v .3)) (kept-refl (o .settle .last .1 .0) (o .settle .result)))
+    (c .match .came)
+
+-- the rows that stand after it
+all-kept : (t : ℕ) (c : First t) → let a = start t (c .before) .args in Kept (a .w .now) (c .match .w) (a .p .rows)
+all-kept t c =
+    let b = start t (c .before) in
+    let o = placed t (c .before) in
+    let r = stands t o (sheet-of t b) (given t b) in
+    kept-then (b .args .w .now) (o .settle .last .1 .0) (c .match .w) (b .args .p .rows) (o .settle .result) (r .2) (r .1) (first-keeps t c)
+
+walk-enum-told : (t : ℕ) → walk-lts.Need-enum-told (claims t) (walk-at t) walk.Post
+walk-enum-told t c = search needs
+
+walk-reached-requires : (t : ℕ) → walk-lts.Need-reached-requires (claims t) (walk-at t) walk.Post
+walk-reached-requires t c κs = search needs
+
+walk-cell-requires-3 : (t : ℕ) → walk-lts.Need-cell-requires-3 (claims t) (walk-at t) walk.Post
+walk-cell-requires-3 t c κs =
+    let u = undecided t (placed t (c .before)) in
+    let size = given t (begun t u) .tables .size in
+    (omega (arith, near t u, size), size)
 
 walk-yes-requires : (t : ℕ) → walk-lts.Need-yes-requires (claims t) (walk-at t) walk.Post
 walk-yes-requires t c κs =
-    let start = c .before .before .before .before .before .before .before .before .before .before .before .before .before .before .before .before .before .before .before .before .before .before .before .before .before .before .before .before in
-    let h = start .pre .1 .1 in
-    let l = under t (c .before .before .before .before .before .before .before .before .before .before .before .before .before .before .before) (start .pre .1 .0) h in (
-      omega (arith, l, h .tables .few),
-      mask-fits (start .args .p .at) (start .args .p .mask) (h .mask) (omega (arith, l, h .tables .few)),
-      omega (arith, h .poor, l, h .tables .few, h .tables .fees (start .args .p .at) l, h .tables .fair (start .args .p .at)),
+    let u = undecided t (placed t (c .before .before)) in
+    let h = given t (begun t u) in
+    let p = begun t u .args .p in (
+      near t u,
+      mask-fits (p .at) (p .mask) (h .mask) (near t u),
+      omega (arith, h .poor, near t u, c .cell3 .ensures, h .tables .fees (p .at) (under t u (sheet-of t (begun t u)) h), h .tables .fair (p .at)),
     )
-
--- the rows that the first call kept
-first-kept : (t : ℕ) (c : walk-lts.After-walk (claims t) (walk-at t) walk.Post) → Kept (c .before .before .before .before .before .before .before .before .before .settle .last .1 .0) (c .walk .last .1 .0) (c .before .before .before .before .before .before .before .before .before .settle .result)
-first-kept t c = subst (λ (q : Node). Kept (c .before .before .before .before .before .before .before .before .before .settle .last .1 .0) (c .walk .last .1 .0) (q .rows)) (c .before .no .ensures) (c .walk .ensures .1)
 
 -- the yes child
 yes-given : (t : ℕ) (c : walk-lts.After-yes (claims t) (walk-at t) walk.Post) (sheet : Sheet)
-    → let a = c .before .before .before .before .before .before .before .before .before .before .before .before .before .before .before .before .before .before .before .before .before .before .before .before .before .before .before .before .before .args in
-    At sheet (a .t .now) (a .w .now) (a .p) (a .stop) (a .e)
-    → At sheet (a .t .now) (c .before .before .before .before .before .walk .last .1 .0) (c .yes .result) true (Sum (c .before .before .before .before .before .before .before .before .before .before .before .before .before .before .before .before .before .before .before .before .before .before .e .given .0 .0))
+    → Given t (start t (c .before .before .before)) sheet
+    → let a = start t (c .before .before .before) .args in
+    At sheet (a .t .now) (c .before .before .match .w) (c .yes .result) true (Sum (a .x))
 yes-given t c sheet h =
-    let a = c .before .before .before .before .before .before .before .before .before .before .before .before .before .before .before .before .before .before .before .before .before .before .before .before .before .before .before .before .before .args in
-    let o = c .before .before .before .before .before .before .before .before .before .before .before .before .before .before in
-    subst (λ (q : Node). At sheet (a .t .now) (c .before .before .before .before .before .walk .last .1 .0) q true (Sum (c .before .before .before .before .before .before .before .before .before .before .before .before .before .before .before .before .before .before .before .before .before .before .e .given .0 .0))) (sym (c .yes .ensures))
-    (at-yes sheet (a .t .now) (a .w .now) (o .settle .last .1 .0) (a .p) (a .stop) (a .e) (o .settle .result) (c .before .before .before .before .before .before .before .before .before .before .before .before .before .before .before .before .before .before .before .before .before .before .e .given .0 .0) h (c .before .before .before .before .before .before .before .before .before .before .before .before .before .before .before .before .before .before .before .before .before .before .e .given .1) (stands t o sheet h .0) (under t (c .before .before .before .before .before .before .before .before .before .before .before .before .before .before .before .before) sheet h)
-    (c .before .before .before .before .before .walk .last .1 .0) (getD (a .t .now) (feePlace (a .p .at)) 0) (first-kept t (c .before .before .before .before .before)) refl)
+    let o = placed t (c .before .before .before) in
+    let a = start t (c .before .before .before) .args in
+    subst (λ (q : Node). At sheet (a .t .now) (c .before .before .match .w) q true (Sum (a .x))) (sym (c .yes .ensures))
+    (at-yes sheet (a .t .now) (a .w .now) (o .settle .last .1 .0) (a .p) (a .stop) (Sum (a .x)) (o .settle .result) (a .x) h refl (stands t o sheet h .0) (under t (undecided t o) sheet h)
+    (c .before .before .match .w) (c .before .cell3 .result) (first-keeps t (c .before .before)) (c .before .cell3 .ensures))
+
+walk-open-requires-2 : (t : ℕ) → walk-lts.Need-open-requires-2 (claims t) (walk-at t) walk.Post
+walk-open-requires-2 t c κs =
+    let b = start t (c .before .before .before) in
+    fits (sheet-of t b) (b .args .t .now) (c .before .before .match .w) (c .yes .result) true (Sum (b .args .x)) (yes-given t c (sheet-of t b) (given t b))
+
+walk-enum-known-y-2 : (t : ℕ) → walk-lts.Need-enum-known-y-2 (claims t) (walk-at t) walk.Post
+walk-enum-known-y-2 t c = search needs
+
+walk-enum-told-2 : (t : ℕ) → walk-lts.Need-enum-told-2 (claims t) (walk-at t) walk.Post
+walk-enum-told-2 t c = search needs
+
+walk-reached-requires-2 : (t : ℕ) → walk-lts.Need-reached-requires-2 (claims t) (walk-at t) walk.Post
+walk-reached-requires-2 t c κs = search needs
+
+walk-same-length : (t : ℕ) → walk-lts.Need-same-length (claims t) (walk-at t) walk.Post
+walk-same-length t c = all-kept t (c .before .before .before .before .before .before) .size
+
+walk-returns-2 : (t : ℕ) → walk-lts.Need-returns-2 (claims t) (walk-at t) walk.Post
+walk-returns-2 t c =
+    let y = c .before .before .before .before in
+    let a = start t (y .before .before .before) .args in (
+      λ sheet h.
+          let n = length (sheet .positions) in
+          both-walked (sheetBound sheet) (a .limit) n (a .p) (placed t (y .before .before .before) .settle .result) (y .before .cell3 .result) (view n (a .s)) (view n (y .before .before .match .a)) (view n (c .reached2 .result))
+          (under t (undecided t (placed t (y .before .before .before))) sheet h)
+          (first-walked t (y .before .before) sheet h)
+          (ap (view n) (c .reached2 .ensures)
+          ∙ closed-walked sheet (a .t .now) (y .before .before .match .w) (y .yes .result) true (Sum (a .x)) (yes-given t y sheet h) (a .limit) n (n - (a .p .at + 1)) (y .before .before .match .a) (sym (c .before .before .before .open2 .ensures) ∙ c .before .enum-told2 .given .1)
+          ∙ ap (λ (q : Node). limitedFrom (sheetBound sheet) (a .limit) (n - (a .p .at + 1)) (decided q) (view n (y .before .before .match .a))) (y .yes .ensures)),
+      all-kept t (y .before .before),
+    )
+
+-- the yes child is walked on, with the part sums y
+yes-opened : (t : ℕ) (c : walk-lts.After-y2 (claims t) (walk-at t) walk.Post) (sheet : Sheet)
+    → let q = c .before .before .before in
+    let a = start t (q .before .before .before) .args in
+    let n = length (sheet .positions) in
+    (h : Given t (start t (q .before .before .before)) sheet)
+    → Opened sheet (a .t .now) (q .before .before .match .w) (q .yes .result) true (Sum (a .x)) (yes-given t q sheet h) (a .limit) n (n - (a .p .at + 1)) (q .before .before .match .a) (c .y2 .given .0 .0)
+yes-opened t c sheet h =
+    let q = c .before .before .before in
+    let a = start t (q .before .before .before) .args in
+    let n = length (sheet .positions) in
+    open-walked sheet (a .t .now) (q .before .before .match .w) (q .yes .result) true (Sum (a .x)) (yes-given t q sheet h) (a .limit) n (n - (a .p .at + 1)) (q .before .before .match .a) (c .y2 .given .0 .0)
+    (sym (c .before .before .open2 .ensures) ∙ c .y2 .given .1)
+
+walk-counted-requires-2 : (t : ℕ) → walk-lts.Need-counted-requires-2 (claims t) (walk-at t) walk.Post
+walk-counted-requires-2 t c κs =
+    let b = start t (c .before .before .before .before .before .before .before .before) in
+    omega (arith, yes-opened t (c .before .before) (sheet-of t b) (given t b) .within, b .fits .limit)
+
+-- so it is what the call is given
+yes-child : (t : ℕ) (c : walk-lts.After-y2 (claims t) (walk-at t) walk.Post) (sheet : Sheet)
+    → let q = c .before .before .before in
+    let a = start t (q .before .before .before) .args in
+    Given t (start t (q .before .before .before)) sheet → At sheet (a .t .now) (q .before .before .match .w) (q .yes .result) true (Sum (c .y2 .given .0 .0))
+yes-child t c sheet h =
+    let q = c .before .before .before in
+    let a = start t (q .before .before .before) .args in
+    subst (At sheet (a .t .now) (q .before .before .match .w) (q .yes .result) true) (yes-opened t c sheet h .sums) (yes-given t q sheet h)
 
 walk-walk-requires-2 : (t : ℕ) → walk-lts.Need-walk-requires-2 (claims t) (walk-at t) walk.Post
 walk-walk-requires-2 t c κs =
-    let start = c .before .before .before .before .before .before .before .before .before .before .before .before .before .before .before .before .before .before .before .before .before .before .before .before .before .before .before .before .before in
-    let sheet = start .pre .1 .0 in
-    let h = start .pre .1 .1 in
-    let l = under t (c .before .before .before .before .before .before .before .before .before .before .before .before .before .before .before .before) sheet h in
-    let z : c .yes .result .at ≡ start .args .p .at + 1 = ap (λ (q : Node). q .at) (c .yes .ensures) in
-    (omega (arith, start .pre .0, z, l, h .tables .few), (sheet, yes-given t c sheet h))
+    let b = start t (c .before .before .before .before .before .before .before .before .before) in
+    let z : c .before .before .before .before .before .before .yes .result .at ≡ b .args .p .at + 1 = ap (λ (q : Node). q .at) (c .before .before .before .before .before .before .yes .ensures) in
+    (omega (arith, b .pre .0, z, near t (undecided t (placed t (c .before .before .before .before .before .before .before .before .before)))), (sheet-of t b, yes-child t (c .before .before .before) (sheet-of t b) (given t b)))
 
 -- the rows that all of it kept
-all-kept : (t : ℕ) (c : walk-lts.After-walk2 (claims t) (walk-at t) walk.Post)
-    → let a = c .before .before .before .before .before .before .before .before .before .before .before .before .before .before .before .before .before .before .before .before .before .before .before .before .before .before .before .before .before .before .args in
-    Kept (a .w .now) (c .walk2 .last .1 .0) (a .p .rows)
-all-kept t c =
-    let a = c .before .before .before .before .before .before .before .before .before .before .before .before .before .before .before .before .before .before .before .before .before .before .before .before .before .before .before .before .before .before .args in
-    let o = c .before .before .before .before .before .before .before .before .before .before .before .before .before .before .before in
-    let r = stands t o (c .before .before .before .before .before .before .before .before .before .before .before .before .before .before .before .before .before .before .before .before .before .before .before .before .before .before .before .before .before .before .pre .1 .0) (c .before .before .before .before .before .before .before .before .before .before .before .before .before .before .before .before .before .before .before .before .before .before .before .before .before .before .before .before .before .before .pre .1 .1) in
-    let k = subst (λ (q : Node). Kept (c .before .before .before .before .before .before .walk .last .1 .0) (c .walk2 .last .1 .0) (q .rows)) (c .before .yes .ensures) (c .walk2 .ensures .1) in
-    kept-then (a .w .now) (o .settle .last .1 .0) (c .walk2 .last .1 .0) (a .p .rows) (o .settle .result) (r .2) (r .1)
-    (kept-then (o .settle .last .1 .0) (c .before .before .before .before .before .before .walk .last .1 .0) (c .walk2 .last .1 .0) (o .settle .result) (o .settle .result) (omega arith) (first-kept t (c .before .before .before .before .before .before)) k)
+both-kept : (t : ℕ) (c : walk-lts.After-walk2 (claims t) (walk-at t) walk.Post) → let a = start t (c .before .before .before .before .before .before .before .before .before .before) .args in Kept (a .w .now) (c .walk2 .last .1 .0) (a .p .rows)
+both-kept t c =
+    let b = start t (c .before .before .before .before .before .before .before .before .before .before) in
+    let o = placed t (c .before .before .before .before .before .before .before .before .before .before) in
+    let f = c .before .before .before .before .before .before .before .before .before in
+    let r = stands t o (sheet-of t b) (given t b) in
+    let k = subst (λ (q : Node). Kept (f .match .w) (c .walk2 .last .1 .0) (q .rows)) (c .before .before .before .before .before .before .before .yes .ensures) (c .walk2 .ensures .1) in
+    kept-then (b .args .w .now) (o .settle .last .1 .0) (c .walk2 .last .1 .0) (b .args .p .rows) (o .settle .result) (r .2) (r .1)
+    (kept-then (o .settle .last .1 .0) (f .match .w) (c .walk2 .last .1 .0) (o .settle .result) (o .settle .result) (omega arith) (first-keeps t f) k)
 
-walk-same-length : (t : ℕ) → walk-lts.Need-same-length (claims t) (walk-at t) walk.Post
-walk-same-length t c = all-kept t (c .before .before) .size
+walk-same-length-2 : (t : ℕ) → walk-lts.Need-same-length-2 (claims t) (walk-at t) walk.Post
+walk-same-length-2 t c = both-kept t (c .before .before) .size
 
-walk-returns-5 : (t : ℕ) → walk-lts.Need-returns-5 (claims t) (walk-at t) walk.Post
-walk-returns-5 t c =
+walk-returns-3 : (t : ℕ) → walk-lts.Need-returns-3 (claims t) (walk-at t) walk.Post
+walk-returns-3 t c =
     let d = c .before .before in
-    let a = c .before .before .before .before .before .before .before .before .before .before .before .before .before .before .before .before .before .before .before .before .before .before .before .before .before .before .before .before .before .before .before .before .args in (
+    let y = d .before .before .before .before .before .before .before in
+    let a = start t (y .before .before .before) .args in (
       λ sheet h.
           let n = length (sheet .positions) in
-          let k = knows t (c .before .before .before .before .before .before .before .before .before .before .before .before .before .before .before .before .before .before .before .before .before .before) sheet h in
-          both-walked (sheetBound sheet) (a .limit) n (a .p) (c .before .before .before .before .before .before .before .before .before .before .before .before .before .before .before .before .before .settle .result) (getD (a .t .now) (feePlace (a .p .at)) 0) (view n (a .s)) (view n (c .before .before .before .before .before .before .before .before .walk .result)) (view n (d .walk2 .result))
-          (under t (c .before .before .before .before .before .before .before .before .before .before .before .before .before .before .before .before .before .before .before) sheet h) (k .under) (k .test ∙ not-false (c .before .before .before .before .before .before .before .before .before .before .before .before .before .before .before .before .before .before .before .before .before .before .improves .result) (c .before .before .before .before .before .before .before .before .before .before .before .before .before .before .before .before .before .before .before .before .before .if2 .left))
-          (c .before .before .before .before .before .before .before .before .walk .ensures .0 sheet (no-given t (c .before .before .before .before .before .before .before .before .before) sheet h)
-          ∙ ap (λ (q : Node). limitedFrom (sheetBound sheet) (a .limit) (n - q .at) (decided q) (view n (c .before .before .before .before .before .before .before .before .before .before .before .before .before .before .before .before .before .before .before .before .before .before .before .before .before .before .before .counted .result))) (c .before .before .before .before .before .before .before .before .before .no .ensures)
-          ∙ ap (limitedFrom (sheetBound sheet) (a .limit) (n - (a .p .at + 1)) (decided (noN (a .p) (c .before .before .before .before .before .before .before .before .before .before .before .before .before .before .before .before .before .settle .result)))) (k .counted))
-          (d .walk2 .ensures .0 sheet (yes-given t (d .before) sheet h)
-          ∙ ap (λ (q : Node). limitedFrom (sheetBound sheet) (a .limit) (n - q .at) (decided q) (view n (c .before .before .before .before .before .before .before .before .walk .result))) (d .before .yes .ensures)),
-      all-kept t d,
+          let m = view n (y .before .before .match .a) in
+          both-walked (sheetBound sheet) (a .limit) n (a .p) (placed t (y .before .before .before) .settle .result) (y .before .cell3 .result) (view n (a .s)) m (view n (d .walk2 .result))
+          (under t (undecided t (placed t (y .before .before .before))) sheet h)
+          (first-walked t (y .before .before) sheet h)
+          (d .walk2 .ensures .0 sheet (yes-child t (d .before .before .before .before) sheet h)
+          ∙ ap (λ (k : Search). openFrom (sheetBound sheet) (a .limit) (n - y .yes .result .at) (decided (y .yes .result)) (view n k)) (d .before .counted2 .ensures)
+          ∙ ap (λ (j : ℕ). openFrom (sheetBound sheet) (a .limit) (n - j) (decided (y .yes .result)) (counted m)) (ap (λ (q : Node). q .at) (y .yes .ensures))
+          ∙ yes-opened t (d .before .before .before .before) sheet h .on
+          ∙ ap (λ (q : Node). limitedFrom (sheetBound sheet) (a .limit) (n - (a .p .at + 1)) (decided q) m) (y .yes .ensures)),
+      both-kept t d,
     )
 
 pub +walk-spec : {M : Type 1} → statement M
 +walk-spec = close μ-walk λ t. walk-lts.spec (claims t)
     (walk-at t)
     walk.Post
-    (walk-stopped-requires t)
-    (walk-returns t)
-    (walk-counted-requires t)
-    (walk-enum-known-e t)
-    (walk-enum-told t)
-    (walk-counted-requires-2 t)
-    (walk-returns-2 t)
-    (walk-add-cost t)
-    (walk-improves-requires t)
-    (walk-counted-requires-3 t)
-    (walk-returns-3 t)
-    (walk-shared-slice-read-if3 t)
-    (walk-cast-if3 t)
+    (walk-cell-requires t)
+    (walk-add-kept t)
     (walk-kept-requires t)
-    (walk-returns-4 t)
+    (walk-returns t)
     (walk-settle-requires t)
-    (walk-add-lo t)
-    (walk-add-lo-2 t)
-    (walk-mul-lo t)
-    (walk-shared-slice-read-lo t)
-    (walk-cast-lo t)
+    (walk-add-cell t)
+    (walk-cell-requires-2 t)
     (walk-add-lane-sum t)
     (walk-lane-sum-requires t)
     (walk-value-requires t)
+    (walk-open-requires t)
+    (walk-enum-known-y t)
     (walk-no-requires t)
+    (walk-counted-requires t)
     (walk-walk-requires t)
-    (walk-add-fee t)
-    (walk-mul-fee t)
-    (walk-shared-slice-read-fee t)
-    (walk-cast-fee t)
+    (walk-enum-told t)
+    (walk-reached-requires t)
+    (walk-cell-requires-3 t)
     (walk-yes-requires t)
-    (walk-walk-requires-2 t)
+    (walk-open-requires-2 t)
+    (walk-enum-known-y-2 t)
+    (walk-enum-told-2 t)
+    (walk-reached-requires-2 t)
     (walk-same-length t)
-    (walk-returns-5 t)
+    (walk-returns-2 t)
+    (walk-counted-requires-2 t)
+    (walk-walk-requires-2 t)
+    (walk-same-length-2 t)
+    (walk-returns-3 t)
