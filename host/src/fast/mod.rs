@@ -41,8 +41,10 @@ pub struct Found {
 /// How the parts are computed side by side.
 #[derive(Debug, Clone, Copy, PartialEq, Eq)]
 pub enum Unit {
-    /// Arrays, which the compiler turns into vectors of the machine it builds for.
+    /// Arrays, which the compiler turns into vectors of the machine it builds for; as many fours as the parts need, a walk compiled for each.
     Plain,
+    /// The same with sixteen lanes for any number of parts, as the library has them.
+    Sixteen,
     /// Vectors of four, which every x86-64 machine has.
     Sse2,
     /// Vectors of eight.
@@ -52,7 +54,7 @@ pub enum Unit {
 impl Unit {
     /// The units that this machine has.
     pub fn all() -> Vec<Unit> {
-        let mut units = vec![Unit::Plain];
+        let mut units = vec![Unit::Sixteen, Unit::Plain];
         #[cfg(target_arch = "x86_64")]
         {
             units.push(Unit::Sse2);
@@ -89,6 +91,7 @@ impl Job {
     pub fn solve(&self, unit: Unit) -> Option<Found> {
         assert!(Unit::all().contains(&unit), "this machine has no {unit:?}");
         match unit {
+            Unit::Sixteen => Tables::<Plain, 4>::new(self).walk(self.walk),
             Unit::Plain => match self.parts.len() {
                 0..=4 => Tables::<Plain, 1>::new(self).walk(self.walk),
                 5..=8 => Tables::<Plain, 2>::new(self).walk(self.walk),
