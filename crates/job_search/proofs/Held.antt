@@ -15,10 +15,11 @@ use Rattle.model.specs.Verdict.{noPart}
 use Rattle.job_text.specs.Views.{openingOf, jobOf, Sized}
 use Rattle.job_text.specs.Valid.{All, ValidOpening, ValidPrice, ValidPart, ValidJob}
 use Rattle.job_text.specs.declared.Job.{Job}
-use Rattle.clock.specs.Placed.{lastPosition, Position, Placed}
+use Rattle.clock.specs.Placed.{lastPosition, Placed}
 use Rattle.clock.specs.declared.Positions.{Positions}
 use Rattle.clock.proofs.Jobs.{Whole, blankOpening, opening-count, part-count, part-at, seen-count, valid-part, valid-parts}
 use Rattle.clock.proofs.Places.{position-count}
+use Rattle.clock.proofs.Ranges.{position-small}
 use Rattle.least.proofs.Table.{there}
 use Rattle.walk.specs.Layout.{top}
 use Rattle.search.specs.Arrays.{priceStride, longest, partAt, Arrays, Holds}
@@ -61,9 +62,6 @@ module _ (n : ℕ) (parts : List model.Part) (valid : All (ValidPart n) parts) w
       subst (λ (y : ℕ). getD ps y 0 ≤ top) (div-add-mod' x priceStride)
       (subst (λ (v : ℕ). v ≤ top) (sym (laid .price (x / priceStride) (x % priceStride) (mod-lt x (omega arith)))) (price-range (x / priceStride) (x % priceStride)))
 
-position-range : (z : ℤ) → Position z → mag z ≤ lastPosition
-position-range z (k, e, l) = subst (λ (x : ℤ). mag x ≤ lastPosition) (sym e) l
-
 -- ---- counts
 
 -- as many as are taken are there
@@ -104,7 +102,7 @@ module _ (j : Job) (sized : Sized j) (whole : Whole j) where
         go : Dec (i < n) → mag (getD (take n (p .at)) i (pos 0)) ≤ lastPosition
         go (yes h) =
             subst (λ (z : ℤ). mag z ≤ lastPosition) (sym (getD-take n (p .at) i (pos 0) h))
-            (position-range (getD (p .at) i (pos 0)) (placed .ranges i (rw (opening-count j sized whole) h)))
+            (position-small (getD (p .at) i (pos 0)) (placed .ranges i (rw (opening-count j sized whole) h)))
         go (no h) =
             subst (λ (z : ℤ). mag z ≤ lastPosition) (sym (List·getD-eq-default (take n (p .at)) (pos 0) {n = i} (omega (arith, h, place-count p placed)))) (omega arith)
 
@@ -121,7 +119,7 @@ module _ (j : Job) (sized : Sized j) (whole : Whole j) where
           brief = λ q. subst (λ (l : List ℕ). getD l q longest ≤ longest) (sym lives) (life-range n (jobOf j .parts) (valid-parts j sized whole valid) q);
           begun = λ q. subst (λ (l : List ℕ). getD l q longest ≤ longest) (sym lefts) (left-range n (jobOf j .parts) (valid-parts j sized whole valid) q);
           near = near;
-          late = position-range (p .end) (placed .end-range);
+          late = position-small (p .end) (placed .end-range);
         }
 
     -- a part's prices, cut out of all of them

@@ -1,21 +1,18 @@
 -- What the search of an accepted job says, and how large its numbers can be: no more nodes than the limit, and floor and cost at most what a plan can cost.
 -- By the promise of the answer: the cost is that of a plan, and the floor is no more than the cost of any.
 use Prim.Native.Nat.{ℕ, _≤_}
-use mathlib.Core.Path.{_≡_, refl, sym, ap, ap₂, subst, _∙_}
-use mathlib.Core.Bool.{Bool, true, cond}
+use mathlib.Core.Path.{_≡_, refl, sym, ap₂, subst, _∙_}
 use mathlib.Core.List.{[]}
 use native.Mathlib.Omega.{arith}
 use Rattle.branch.specs.declared.Bound.the-variants.{Sum}
-use Rattle.branch.specs.Search.{NoMore, none, plan, Limited, atMost}
+use Rattle.branch.specs.Search.{NoMore}
 use Rattle.branch.proofs.Bounds.{sum-inj, there-is}
-use Rattle.branch.proofs.Limit.{cut as limits}
-use Rattle.branch.proofs.Among.{limited-best}
 use Rattle.model.specs.Model as model
 use Rattle.model.specs.Model.{HasPlan}
-use Rattle.model.specs.LowerBound.{boundOf, planAt}
-use Rattle.model.specs.Promise.{Answer, no-plan, cut-none, cut, optimum, decisions, searched, answerOf, nodesOf, Promise}
+use Rattle.model.specs.LowerBound.{boundOf}
+use Rattle.model.specs.Promise.{Answer, no-plan, cut-none, cut, optimum, answerOf, nodesOf, Promise}
 use Rattle.model.proofs.Bounded.{bounds}
-use Rattle.model.proofs.Plans.{stops-bound, rooted, node-plan}
+use Rattle.model.proofs.Plans.{stops-bound, rooted}
 use Rattle.model.proofs.Promised.{promise}
 use Rattle.job_text.specs.Views.{jobOf, Sized}
 use Rattle.job_text.specs.Valid.{ValidJob}
@@ -23,7 +20,7 @@ use Rattle.job_text.specs.declared.Job.{Job}
 use Rattle.clock.proofs.Jobs.{Whole, opening-count, part-count}
 use Rattle.verdict.proofs.Limits.{dearestPlan, cost-most}
 use Rattle.search.specs.declared.Outcome.{Outcome}
-use Rattle.search.specs.Outcome.{stopsIn, Answers, saidIn}
+use Rattle.search.specs.Outcome.{Answers, saidIn}
 use Rattle.search.proofs.Answered.{said}
 
 -- ---- the answer
@@ -64,18 +61,3 @@ module _ (job : model.Job) (valid : ValidJob job) where
 
     pub answer-ranged : Ranged limit (answerOf job limit)
     answer-ranged = ranged (answerOf job limit) (promise job limit)
-
-    -- the same of what the search hands back, field by field
-    module _ (r : Outcome) (a : Answers job limit r) where
-      pub count-range : r .count ≤ limit
-      count-range = omega (arith, ap (λ (l : Limited). l .count) (a .walked), limits (searched job) limit .count)
-
-      pub floor-range : (f : ℕ) → r .floor ≡ Sum f → f ≤ dearestPlan
-      floor-range f e = floor-most f (sym (a .floor) ∙ e)
-
-      pub cost-range : r .found ≡ true → r .cost ≤ dearestPlan
-      cost-range e =
-          let s = stopsIn (decisions job) r in
-          let is : atMost limit (searched job) .incumbent ≡ plan (r .cost) s =
-          sym (ap (λ (l : Limited). l .incumbent) (a .walked)) ∙ ap (λ (t : Bool). cond t (plan (r .cost) s) none) e in
-          omega (arith, node-plan job s (r .cost) (limited-best (searched job) limit .costs (r .cost) s is) .states, cost-most job valid (planAt job s))

@@ -4,7 +4,7 @@ use mathlib.Core.Path.{_≡_, refl, sym, ap, ap₂, subst, _∙_}
 use mathlib.Core.Bool.{Bool, true, false, cond}
 use mathlib.Core.List.{List, [], _∷_, _++_, map}
 use native.Mathlib.Omega.{arith}
-use lib.ListN.{length, getD, take, replicate, List·getD-map}
+use lib.ListN.{length, getD, take, replicate, length-map, List·getD-map}
 use lib.Seq.{take-at, getD-take, length-take-le, ext-getD}
 use lib.IntN.{ℤ, pos}
 use Rattle.branch.specs.declared.Bound.{Bound}
@@ -13,21 +13,18 @@ use Rattle.branch.specs.Search.{none, plan, atMost}
 use Rattle.branch.specs.Label.{treeOf}
 use Rattle.model.specs.Model.{Opening, Part, Job, clock, lastChange}
 use Rattle.model.specs.LowerBound.{Offer, pick, lowerThan, changeAt, leastOf, offers, choiceOf, partChoice, boundOf, planAt}
+use Rattle.model.specs.Verdict.{noPart}
 use Rattle.model.specs.Promise.{cut, optimum, answered, answeredAt, answerOf, decisions}
 use Rattle.least.proofs.Table.{there, offers-length}
 use Rattle.search.specs.declared.Row.{Row}
 use Rattle.search.specs.declared.Outcome.{Outcome}
-use Rattle.search.specs.Arrays.{partAt, noPart, sheetOf, Holds}
+use Rattle.search.specs.Arrays.{partAt, sheetOf, Holds}
 use Rattle.search.specs.Plan.{choiceAt, noRow, Chooses}
 use Rattle.search.specs.Outcome.{stopsIn, rowIn, changesIn, limitedIn, Answers, planIn, saidBy, saidAt, saidIn}
 use Rattle.search.proofs.Sheets.{sheet-bound}
 use Rattle.walk.specs.State.{bits, Solves}
 use Rattle.walk.proofs.Nodes.{bits-length}
 use Rattle.walk.specs.declared.Solved.{Solved}
-
-map-length : {A B : Type 0} (f : A → B) (l : List A) → length (map f l) ≡ length l
-map-length f [] = refl
-map-length f (x ∷ l) = ap suc (map-length f l)
 
 choice-size : (life end prev : ℤ) (os : List Offer) → length (choiceOf life end prev os) ≡ length os
 unfolding choiceOf
@@ -57,7 +54,7 @@ outcome s stops rows =
 module _ (job : Job) (e : ℤ) (ss : List ℤ) (fs ls rs ps : List ℕ) (h : Holds job e ss fs ls rs ps) (limit : ℕ) (s : Solved) (g : Solves (sheetOf e ss fs ls rs ps) limit s)
     (stops : List Bool) (f : stops ≡ bits (length ss) (s .state .mask) ++ replicate (64 - length ss) false) (rows : List Row) (c : Chooses e ss ls rs ps (take (length ss) stops) rows (length ls)) where
   size : length ss ≡ decisions job
-  size = ap length (h .places) ∙ map-length (λ (o : Opening). clock job (o .step)) (job .openings)
+  size = ap length (h .places) ∙ length-map (job .openings) (λ (o : Opening). clock job (o .step))
 
   walked : limitedIn (length ss) (outcome s stops rows) ≡ atMost limit (treeOf (boundOf job) (length ss) [])
   walked =
@@ -79,13 +76,13 @@ module _ (job : Job) (e : ℤ) (ss : List ℤ) (fs ls rs ps : List ℕ) (h : Hol
 
   changes : changesIn (length ss) (length (job .parts)) (outcome s stops rows) ≡ map chosen (job .parts)
   changes =
-      ext-getD (rowIn (length ss) noRow) (map (rowIn (length ss)) (take m rows)) (map chosen (job .parts)) (long ∙ sym (map-length chosen (job .parts))) at
+      ext-getD (rowIn (length ss) noRow) (map (rowIn (length ss)) (take m rows)) (map chosen (job .parts)) (long ∙ sym (length-map (job .parts) chosen)) at
     where
       m : ℕ
       m = length (job .parts)
 
       long : length (map (rowIn (length ss)) (take m rows)) ≡ m
-      long = map-length (rowIn (length ss)) (take m rows) ∙ length-take-le m rows (omega (arith, c .size, h .parts, h .arrays .lanes))
+      long = length-map (take m rows) (rowIn (length ss)) ∙ length-take-le m rows (omega (arith, c .size, h .parts, h .arrays .lanes))
 
       at : (q : ℕ) → q < length (map (rowIn (length ss)) (take m rows)) → getD (map (rowIn (length ss)) (take m rows)) q (rowIn (length ss) noRow) ≡ getD (map chosen (job .parts)) q (rowIn (length ss) noRow)
       at q l =
@@ -93,7 +90,7 @@ module _ (job : Job) (e : ℤ) (ss : List ℤ) (fs ls rs ps : List ℕ) (h : Hol
           ∙ ap (rowIn (length ss)) (getD-take m rows q noRow (omega (arith, long)))
           ∙ row-is q (omega (arith, long, h .parts))
           ∙ sym (List·getD-map chosen (job .parts) q noPart)
-          ∙ there (map chosen (job .parts)) q (chosen noPart) (rowIn (length ss) noRow) (omega (arith, long, map-length chosen (job .parts)))
+          ∙ there (map chosen (job .parts)) q (chosen noPart) (rowIn (length ss) noRow) (omega (arith, long, length-map (job .parts) chosen))
 
   pub answers : Answers job limit (outcome s stops rows)
   answers =

@@ -10,7 +10,8 @@ use lib.ListN.{getD, replicate}
 use lib.IntN.{ℤ, pos}
 use lib.Signed.{mag}
 use Rattle.model.specs.Model.{Job, clock}
-use Rattle.search.specs.Arrays.{longest, lastPosition, partAt, noPart, Holds}
+use Rattle.model.specs.Verdict.{noPart}
+use Rattle.search.specs.Arrays.{longest, lastPosition, partAt, Holds}
 use Rattle.search.proofs.Ranges.{up-to}
 use Rattle.walk.specs.Layout.{top}
 

@@ -5,5 +5,4 @@ pub mod Sheets
 pub mod Stops
 pub mod Answered
 pub mod Ranges
-pub mod Laying
 pub mod Example

@@ -4,8 +4,6 @@ use mathlib.Core.List.{List}
 use native.Mathlib.Omega.{arith}
 use native.Mathlib.Decide.{decLt}
 use lib.ListN.{length, getD, List·getD-eq-default}
-use lib.IntN.{ℤ, pos}
-use lib.Signed.{mag}
 use Rattle.least.proofs.Table.{there}
 
 pub up-to : (l : List ℕ) (d b : ℕ) → d ≤ b → ((q : ℕ) → q < length l → getD l q 0 ≤ b) → (q : ℕ) → getD l q d ≤ b
@@ -14,10 +12,3 @@ up-to l d b h f q = go (decLt q (length l))
     go : Dec (q < length l) → getD l q d ≤ b
     go (yes g) = rw (there l q d 0 g) (f q g)
     go (no g) = rw (List·getD-eq-default l d {n = q} (omega (arith, g))) h
-
-pub near-to : (l : List ℤ) (b : ℕ) → ((q : ℕ) → q < length l → mag (getD l q (pos 0)) ≤ b) → (q : ℕ) → mag (getD l q (pos 0)) ≤ b
-near-to l b f q = go (decLt q (length l))
-  where
-    go : Dec (q < length l) → mag (getD l q (pos 0)) ≤ b
-    go (yes g) = f q g
-    go (no g) = rw (List·getD-eq-default l (pos 0) {n = q} (omega (arith, g))) (omega arith)

@@ -12,8 +12,9 @@ use Rattle.branch.specs.declared.Bound.{Bound}
 use Rattle.branch.specs.declared.Bound.the-variants.{Missing, Sum}
 use Rattle.branch.specs.Lower.{add, total}
 use Rattle.model.specs.Model.{Part, Job, within, sumAt, lastChange}
+use Rattle.model.specs.Verdict.{noPart}
 use Rattle.model.specs.LowerBound.{Offer, lower, changeAt, leastOf, offers, partBound, stopCost, boundOf}
-use Rattle.search.specs.Arrays.{longest, lastPosition, partAt, noPart, columnOf, columnsFrom, sheetOf, Holds}
+use Rattle.search.specs.Arrays.{longest, lastPosition, partAt, columnOf, columnsFrom, sheetOf, Holds}
 use Rattle.walk.specs.Layout.{laneCount}
 use Rattle.walk.specs.Sheet.{columnBound, sheetBound}
 

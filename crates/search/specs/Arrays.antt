@@ -6,6 +6,7 @@ use lib.ListN.{length, getD, take, drop}
 use lib.IntN.{ℤ, pos}
 use lib.Signed.{mag}
 use Rattle.model.specs.Model.{Part, Job, positions, end, lastChange, feeOf}
+use Rattle.model.specs.Verdict.{noPart}
 use Rattle.walk.specs.Layout.{laneCount, top}
 use Rattle.walk.specs.Sheet.{Column, Sheet}
 
@@ -27,10 +28,6 @@ lastPosition = 366
 -- part q of the arrays: ls lives, rs first lives, ps prices at n openings
 abbrev pub partAt : ℕ → List ℕ → List ℕ → List ℕ → ℕ → Part
 partAt n ls rs ps q = record { life = getD ls q longest; left = getD rs q longest; prices = take n (drop (q * priceStride) ps) }
-
--- a part that is none of the job's
-abbrev pub noPart : Part
-noPart = record { life = 0; left = 0; prices = [] }
 
 -- a part as its lane has it
 abbrev pub columnOf : Part → Column

@@ -2,8 +2,7 @@
 pub mod plan;
 pub mod tables;
 
-ghost use mathlib.Core.Path.{_≡_};
-ghost use Prim.Native.Nat.{ℕ, _≤_};
+ghost use Prim.Native.Nat.{_≤_};
 ghost use lib.ListN.{length};
 ghost use Rattle.model.specs.Model.{Job};
 ghost use Rattle.least.specs.Suffix.{tableSize};

@@ -1,9 +1,9 @@
 // The plan of the incumbent: its stops from the mask, and each part's changes within them.
 ghost use mathlib.Core.Path.{_≡_};
-ghost use mathlib.Core.Bool.{Bool, false};
+ghost use mathlib.Core.Bool.{false};
 ghost use mathlib.Core.List.{_++_};
-ghost use Prim.Native.Nat.{ℕ, _-_, _*_, _<_, _≤_};
-ghost use lib.ListN.{length, getD, replicate};
+ghost use Prim.Native.Nat.{_-_, _<_, _≤_};
+ghost use lib.ListN.{length, replicate};
 ghost use Rattle.least.specs.Suffix.{tableSize};
 ghost use Rattle.walk.specs.Layout.{laneCount};
 ghost use Rattle.walk.specs.State.{bits};

@@ -6,9 +6,9 @@ ghost use lib.ListN.{length, getD};
 ghost use lib.IntN.{pos};
 ghost use Rattle.least.specs.Marks.{Small, markOf};
 ghost use Rattle.least.specs.Suffix.{tableSize};
-ghost use Rattle.walk.specs.Layout.{laneCount, markCount, top, inf, blockRows, blockSize, priceRow, feeBase, countPlace, suffixBase, reachBase, suffixCuts, reachCuts, tablesSize};
+ghost use Rattle.walk.specs.Layout.{laneCount, markCount, top, inf, blockRows, blockSize, priceRow, feeBase, countPlace, tablesSize};
 ghost use Rattle.walk.specs.Tables.{Tables};
-ghost use Rattle.search.specs.Arrays.{longest, priceStride, priceSize, partAt, columnOf, sheetOf, Arrays};
+ghost use Rattle.search.specs.Arrays.{longest, partAt, columnOf, sheetOf, Arrays};
 ghost use Rattle.search.specs.Fill.{Wrote, reachOf, reachAt, column, LaneFilled, Span, Lanes, Dead, Cuts};
 use least::MARKS;
 use walk::rows::COUNT;
@@ -36,19 +36,6 @@ pub fn lane_value(values: &[u32], q: usize) -> u32
     ensures { λ r. ⌜ r ≡ getD (now (values .entry)) q longest ⌝ }
 {
     if q < values.len() { values[q] } else { LONGEST }
-}
-
-// Part q's prices are laid where the search reads them.
-pub fn lay_prices(row: [u32; 64], q: usize, flat: &mut [u32])
-    requires { ⌜ (q < laneCount) × (length (now flat) ≡ priceSize) ⌝ }
-    ensures { λ _. ⌜ Span (λ (x : ℕ). getD row (x - q * priceStride) 0) (now (flat .entry)) (now (flat .exit)) (q * priceStride) (q * priceStride + priceStride) ⌝ }
-{
-    let start = q * STRIDE;
-    let mut j = 0;
-    while j < STRIDE {
-        flat[start + j] = row[j];
-        j += 1;
-    }
 }
 
 // A life as a signed number.

@@ -1,5 +1,5 @@
 -- `part_changes` is the tie rule's choice of part q within the stops.
-use Prim.Native.Nat.{_+_, _-_}
+use Prim.Native.Nat.{_-_}
 use mathlib.Core.Path.{ap, _∙_}
 use mathlib.Core.Bool.{false}
 use mathlib.Core.List.{_++_}
@@ -12,8 +12,6 @@ use Rattle.least.proofs.Diff.{small-back}
 use Rattle.search.proofs.Filling.{numbers, own-is, own-length}
 use Rattle.search.proofs.plan.part_changes.Statement.{statement}
 use Rattle.search.proofs.plan.part_changes.Tie as tie
-
--- `part_changes` is the tie rule's choice of part q within the stops.
 
 lane-value-requires : tie.Need-lane-value-requires
 lane-value-requires c κs = search needs

@@ -15,8 +15,6 @@ use Rattle.search.proofs.tables.fill_part.Statement.{statement}
 use Rattle.walk.specs.Layout.{top}
 use Rattle.search.proofs.tables.fill_part.Tie as tie
 
--- `fill_part` makes the lane of part q, or past the last part that of one that never needs a change.
-
 lane-value-requires : tie.Need-lane-value-requires
 lane-value-requires c κs = search needs
 
