@@ -22,7 +22,7 @@ use Rattle.clock.proofs.Places.{position-count}
 use Rattle.clock.proofs.Ranges.{position-small}
 use Rattle.least.proofs.Table.{there}
 use Rattle.walk.specs.Layout.{top}
-use Rattle.search.specs.Arrays.{priceStride, longest, partAt, Arrays, Holds}
+use Rattle.search.specs.Arrays.{priceStride, longestLife, laneValue, partAt, Arrays, Holds}
 use Rattle.job_search.specs.Laid.{lifeOf, leftOf, Laid}
 
 -- ---- ranges at every place, past the end too
@@ -32,35 +32,39 @@ every P Q d q f [] h i = q
 every P Q d q f (x ∷ l) h zero = f x (h .0)
 every P Q d q f (x ∷ l) h (suc i) = every P Q d q f l (h .1) i
 
--- a lane past the last part
-abbrev lasting : model.Part
-lasting = record { life = longest; left = longest; prices = [] }
-
 fee-range : (os : List model.Opening) → All ValidOpening os → (i : ℕ) → getD (map feeOf os) i 0 ≤ top
 fee-range os h i =
     subst (λ (x : ℕ). x ≤ top) (sym (List·getD-map feeOf os i (openingOf blankOpening)))
     (every ValidOpening (λ (o : model.Opening). o .fee ≤ top) (openingOf blankOpening) (omega arith) (λ o v. v .fee) os h i)
 
 module _ (n : ℕ) (parts : List model.Part) (valid : All (ValidPart n) parts) where
-  life-range : (q : ℕ) → getD (map lifeOf parts) q longest ≤ longest
+  life-range : (q : ℕ) → getD (map lifeOf parts) q 0 ≤ longestLife
   life-range q =
-      subst (λ (x : ℕ). x ≤ longest) (sym (List·getD-map lifeOf parts q lasting))
-      (every (ValidPart n) (λ (p : model.Part). p .life ≤ longest) lasting (omega arith) (λ p v. v .life-high) parts valid q)
+      subst (λ (x : ℕ). x ≤ longestLife) (sym (List·getD-map lifeOf parts q noPart))
+      (every (ValidPart n) (λ (p : model.Part). p .life ≤ longestLife) noPart (omega arith) (λ p v. v .life-high) parts valid q)
 
-  left-range : (q : ℕ) → getD (map leftOf parts) q longest ≤ longest
+  left-range : (q : ℕ) → getD (map leftOf parts) q 0 ≤ longestLife
   left-range q =
-      subst (λ (x : ℕ). x ≤ longest) (sym (List·getD-map leftOf parts q lasting))
-      (every (ValidPart n) (λ (p : model.Part). p .left ≤ longest) lasting (omega arith) (λ p v. omega (arith, v .left-high, v .life-high)) parts valid q)
+      subst (λ (x : ℕ). x ≤ longestLife) (sym (List·getD-map leftOf parts q noPart))
+      (every (ValidPart n) (λ (p : model.Part). p .left ≤ longestLife) noPart (omega arith) (λ p v. omega (arith, v .left-high, v .life-high)) parts valid q)
 
   price-range : (q i : ℕ) → getD (getD parts q noPart .prices) i 0 ≤ top
   price-range =
       every (ValidPart n) (λ (p : model.Part). (i : ℕ) → getD (p .prices) i 0 ≤ top) noPart (λ i. omega arith)
       (λ p v. every ValidPrice (λ (x : ℕ). x ≤ top) 0 (omega arith) (λ x h. h .1) (p .prices) (v .prices)) parts valid
 
-  laid-range : (ps : List ℕ) → Laid parts ps → (x : ℕ) → getD ps x 0 ≤ top
-  laid-range ps laid x =
-      subst (λ (y : ℕ). getD ps y 0 ≤ top) (div-add-mod' x priceStride)
-      (subst (λ (v : ℕ). v ≤ top) (sym (laid .price (x / priceStride) (x % priceStride) (mod-lt x (omega arith)))) (price-range (x / priceStride) (x % priceStride)))
+-- ---- prices, by their place
+
+module _ (parts : List model.Part) (ps : List ℕ) (laid : Laid parts ps) where
+  price-at : (x : ℕ) → getD ps x 0 ≡ getD (getD parts (x / priceStride) noPart .prices) (x % priceStride) 0
+  price-at x = ap (λ (y : ℕ). getD ps y 0) (sym (div-add-mod' x priceStride)) ∙ laid .price (x / priceStride) (x % priceStride) (mod-lt x (omega arith))
+
+  laid-range : (n : ℕ) → All (ValidPart n) parts → (x : ℕ) → getD ps x 0 ≤ top
+  laid-range n valid x = rw (price-at x) (price-range n parts valid (x / priceStride) (x % priceStride))
+
+  -- past the last part's they are 0
+  laid-free : (x : ℕ) → length parts * priceStride ≤ x → getD ps x 0 ≡ 0
+  laid-free x h = price-at x ∙ ap (λ (p : model.Part). getD (p .prices) (x % priceStride) 0) (List·getD-eq-default parts noPart {n = x / priceStride} (omega arith))
 
 -- ---- counts
 
@@ -88,10 +92,10 @@ module _ (j : Job) (sized : Sized j) (whole : Whole j) where
   lane-count f l e = ap length e ∙ length-map (jobOf j .parts) f ∙ part-count j sized whole
 
   -- a part's number in its lane
-  lane-at : (f : model.Part → ℕ) (l : List ℕ) (e : take m l ≡ map f (jobOf j .parts)) (q : ℕ) → q < m → getD (take m l) q longest ≡ f (getD (jobOf j .parts) q noPart)
+  lane-at : (f : model.Part → ℕ) (l : List ℕ) (e : take m l ≡ map f (jobOf j .parts)) (q : ℕ) → q < m → laneValue (take m l) q ≡ f (getD (jobOf j .parts) q noPart)
   lane-at f l e q h =
-      ap (λ (x : List ℕ). getD x q longest) e
-      ∙ there (map f (jobOf j .parts)) q longest (f noPart) (omega (arith, length-map (jobOf j .parts) f, part-count j sized whole))
+      ap (λ (x : List ℕ). laneValue x q) e
+      ∙ there (map f (jobOf j .parts)) q (getD (map f (jobOf j .parts)) 0 0) (f noPart) (omega (arith, length-map (jobOf j .parts) f, part-count j sized whole))
       ∙ List·getD-map f (jobOf j .parts) q noPart
 
   module _ (valid : ValidJob (jobOf j)) (p : Positions) (placed : Placed (jobOf j) p) (fs ls rs ps : List ℕ) (fees : take n fs ≡ map feeOf (jobOf j .openings))
@@ -111,13 +115,15 @@ module _ (j : Job) (sized : Sized j) (whole : Whole j) where
         record {
           few = omega (arith, place-count p placed, sized .openings);
           paid = fee-count fs fees ∙ sym (place-count p placed);
+          some = omega (arith, lane-count lifeOf ls lives, part-count j sized whole, valid .some-part);
           lanes = omega (arith, lane-count lifeOf ls lives, sized .parts);
           lefts = lane-count leftOf rs lefts ∙ sym (lane-count lifeOf ls lives);
           prices = laid .size;
           fair = λ i. subst (λ (l : List ℕ). getD l i 0 ≤ top) (sym fees) (fee-range (jobOf j .openings) (valid .openings) i);
-          cheap = laid-range n (jobOf j .parts) (valid-parts j sized whole valid) ps laid;
-          brief = λ q. subst (λ (l : List ℕ). getD l q longest ≤ longest) (sym lives) (life-range n (jobOf j .parts) (valid-parts j sized whole valid) q);
-          begun = λ q. subst (λ (l : List ℕ). getD l q longest ≤ longest) (sym lefts) (left-range n (jobOf j .parts) (valid-parts j sized whole valid) q);
+          cheap = laid-range (jobOf j .parts) ps laid n (valid-parts j sized whole valid);
+          free = λ x h. laid-free (jobOf j .parts) ps laid x (omega (arith, h, lane-count lifeOf ls lives, part-count j sized whole));
+          brief = λ q. subst (λ (l : List ℕ). getD l q 0 ≤ longestLife) (sym lives) (life-range n (jobOf j .parts) (valid-parts j sized whole valid) q);
+          begun = λ q. subst (λ (l : List ℕ). getD l q 0 ≤ longestLife) (sym lefts) (left-range n (jobOf j .parts) (valid-parts j sized whole valid) q);
           near = near;
           late = position-small (p .end) (placed .end-range);
         }

@@ -1,18 +1,18 @@
 -- What the search asks of its caller can be met: the arrays of 01's one job entire hold it. By computation.
-use Prim.Native.Nat.{ℕ, zero, suc, _≤_, _<_}
-use mathlib.Core.Path.{_≡_, refl}
+use Prim.Native.Nat.{ℕ, zero, suc, _+_, _-_, _*_, _≤_, _<_}
+use mathlib.Core.Path.{_≡_, refl, ap, _∙_}
 use mathlib.Core.Bool.{Bool, true, false, _&&_}
 use mathlib.Core.List.{List, [], _∷_, _++_}
 use native.Mathlib.Omega.{arith}
 use borrow.Author.Tests.{leb-true}
 use lib.Dec.{leb}
-use lib.ListN.{getD, replicate}
+use lib.ListN.{length, getD, drop, replicate}
+use lib.Seq.{getD-drop}
 use lib.IntN.{ℤ, pos}
 use lib.Signed.{mag}
 use Rattle.model.specs.Model.{Job, clock}
 use Rattle.model.specs.Verdict.{noPart}
-use Rattle.search.specs.Arrays.{longest, lastPosition, partAt, Holds}
-use Rattle.search.proofs.Ranges.{up-to}
+use Rattle.search.specs.Arrays.{longestLife, lastPosition, priceStride, partAt, Holds}
 use Rattle.walk.specs.Layout.{top}
 
 -- every number of the list is at most b
@@ -59,6 +59,12 @@ near (suc (suc zero)) = omega arith
 near (suc (suc (suc zero))) = omega arith
 near (suc (suc (suc (suc j)))) = omega arith
 
+free : (j : ℕ) → length lives * priceStride ≤ j → getD flat j 0 ≡ 0
+free j h =
+    let n = length lives * priceStride in
+    let z : n + (j - n) ≡ j = omega arith in
+    omega (arith, all-up-to 0 (drop n flat) refl (j - n), getD-drop n flat (j - n) 0 ∙ ap (λ (k : ℕ). getD flat k 0) z)
+
 own : (q : ℕ) → q < 2 → getD (job .parts) q noPart ≡ partAt 4 lives lefts flat q
 own zero h = refl
 own (suc zero) h = refl
@@ -71,13 +77,15 @@ held =
       arrays = record {
         few = omega arith;
         paid = refl;
+        some = omega arith;
         lanes = omega arith;
         lefts = refl;
         prices = refl;
         fair = all-up-to top fees refl;
         cheap = all-up-to top flat refl;
-        brief = up-to lives longest longest (omega arith) (λ q h. all-up-to longest lives refl q);
-        begun = up-to lefts longest longest (omega arith) (λ q h. all-up-to longest lefts refl q);
+        free = free;
+        brief = all-up-to longestLife lives refl;
+        begun = all-up-to longestLife lefts refl;
         near = near;
         late = omega arith;
       };

@@ -19,9 +19,9 @@ use Rattle.model.specs.LowerBound.{Offer, pick, leastOf, offers}
 use Rattle.least.specs.Marks.{markOf, Small}
 use Rattle.least.specs.Suffix.{codeOf, Suffixes}
 use Rattle.least.proofs.Diff.{mag-sub, back, small-back}
-use Rattle.least.proofs.Table.{after-one}
+use Rattle.least.proofs.Table.{after-one, there}
 use Rattle.least.proofs.Most.{AtMost, most-least}
-use Rattle.search.specs.Arrays.{longest, lastPosition, priceStride, priceSize, partAt, columnOf, columnsFrom, sheetOf, Arrays}
+use Rattle.search.specs.Arrays.{longestLife, lastPosition, priceStride, priceSize, laneValue, partAt, columnOf, columnsFrom, sheetOf, Arrays}
 use Rattle.search.specs.Fill.{Wrote, reachOf, reachAt, column, LaneFilled, Span, Lanes, Cuts}
 use Rattle.walk.specs.Layout.{laneCount, markCount, top, laneLimit, inf, blockRows, priceRow, laneRows, suffixBase, reachBase, place, rowPlace, pricePlace, feeBase, feePlace, countPlace, suffixCuts, reachCuts, cutPlace, tablesSize}
 use Rattle.walk.specs.Sheet.{Column, noColumn}
@@ -171,7 +171,18 @@ tables-filled e ss fs ls rs ps t u v w′ w ar la a b c d =
     under : (x : ℕ) → x < feeBase → getD w x 0 ≡ getD t x 0
     under x h = d .under x (omega arith) ∙ c .under x (omega arith) ∙ b .under x (omega arith) ∙ a .under x h
 
--- ---- a part's own prices
+-- ---- a lane's own prices
+
+-- what holds of 0, and of all prices from its own place on, holds of each of them
+pub own-each : (P : ℕ → Type 0) (ps : List ℕ) (q n : ℕ) → P 0 → ((j : ℕ) → P (getD ps (q * priceStride + j) 0)) → (j : ℕ) → P (getD (take n (drop (q * priceStride) ps)) j 0)
+own-each P ps q n z f j = go (decLt j n)
+  where
+    own : List ℕ
+    own = take n (drop (q * priceStride) ps)
+
+    go : Dec (j < n) → P (getD own j 0)
+    go (yes g) = subst P (sym (getD-take n (drop (q * priceStride) ps) j 0 g ∙ getD-drop (q * priceStride) ps j 0)) (f j)
+    go (no g) = subst P (sym (List·getD-eq-default own 0 {n = j} (omega (arith, length-take n (drop (q * priceStride) ps), g)))) z
 
 module _ (ps : List ℕ) (q n : ℕ) (h : q < laneCount) (l : n ≤ 64) (s : length ps ≡ priceSize) where
   pub own-is : take (q * priceStride + n - q * priceStride) (drop (q * priceStride) ps) ≡ take n (drop (q * priceStride) ps)
@@ -180,38 +191,40 @@ module _ (ps : List ℕ) (q n : ℕ) (h : q < laneCount) (l : n ≤ 64) (s : len
   pub own-length : length (take n (drop (q * priceStride) ps)) ≡ n
   own-length = simp (length-take, length-drop) (omega arith)
 
-  pub own-cheap : ((j : ℕ) → getD ps j 0 ≤ top) → (j : ℕ) → getD (take n (drop (q * priceStride) ps)) j 0 ≤ top
-  own-cheap c j = go (decLt j n)
-    where
-      go : Dec (j < n) → getD (take n (drop (q * priceStride) ps)) j 0 ≤ top
-      go (yes g) = rw (getD-take n (drop (q * priceStride) ps) j 0 g, getD-drop (q * priceStride) ps j 0) (c (q * priceStride + j))
-      go (no g) = rw (List·getD-eq-default (take n (drop (q * priceStride) ps)) 0 {n = j} (omega (arith, own-length, g))) (omega arith)
+-- ---- a lane's life and last change, as the code has them
 
--- ---- the numbers of a lane's part, as the code has them
+-- a range of the parts' numbers is one of the lanes'
+pub lane-range : (l : List ℕ) (b : ℕ) → ((q : ℕ) → getD l q 0 ≤ b) → (q : ℕ) → laneValue l q ≤ b
+lane-range l b f q = go (decLt q (length l))
+  where
+    go : Dec (q < length l) → laneValue l q ≤ b
+    go (yes g) = rw (there l q (getD l 0 0) 0 g) (f q)
+    go (no g) = rw (List·getD-eq-default l (getD l 0 0) {n = q} (omega (arith, g))) (f 0)
 
-first-small : (r l : ℕ) → r ≤ longest → l ≤ longest → Small (pos r -ℤ pos l)
-first-small r l h g = omega (arith, mag-sub (pos r) (pos l))
+change-small : (life left : ℕ) (f : ℤ) → life ≤ longestLife → left ≤ longestLife → f ≡ pos left -ℤ pos life → Small f
+change-small life left f h g e = subst Small (sym e) (omega (arith, mag-sub (pos left) (pos life)))
 
-marks-small : (first : ℤ) (ss : List ℤ) → Small first → ((j : ℕ) → mag (getD ss j (pos 0)) ≤ lastPosition) → (k : ℕ) → Small (markOf first ss k)
-marks-small first ss h n zero = h
-marks-small first ss h n (suc k) = omega (arith, n k)
+-- the marks after a last change f, read back from the bits of a signed number
+pub marks-small : (ss : List ℤ) (life left : ℕ) (f : ℤ) → life ≤ longestLife → left ≤ longestLife → f ≡ pos left -ℤ pos life → ((j : ℕ) → mag (getD ss j (pos 0)) ≤ lastPosition)
+    → (k : ℕ) → Small (markOf (toZ w32 (ofZ w32 f)) ss k)
+marks-small ss life left f h g e n zero = small-back f (change-small life left f h g e)
+marks-small ss life left f h g e n (suc k) = omega (arith, n k)
 
--- v its life and f its last change, read back from the bits of a signed number
-pub record Numbers (ss : List ℤ) (part : Part) (v f : ℤ) : Type 0 where
+-- v is the part's life and f its last change, both read back from the bits of a signed number
+pub record Numbers (part : Part) (v f : ℤ) : Type 0 where
   pub life : toZ w32 (ofZ w32 v) ≡ pos (part .life)
   pub first : toZ w32 (ofZ w32 f) ≡ lastChange part
-  pub small : (k : ℕ) → Small (markOf (toZ w32 (ofZ w32 f)) ss k)
 
-pub numbers : (e : ℤ) (ss : List ℤ) (fs ls rs ps : List ℕ) (q life left : ℕ) (v f : ℤ) → Arrays e ss fs ls rs ps → life ≡ getD ls q longest → left ≡ getD rs q longest → v ≡ pos life → f ≡ pos left -ℤ pos life
-    → Numbers ss (partAt (length ss) ls rs ps q) v f
+pub numbers : (e : ℤ) (ss : List ℤ) (fs ls rs ps : List ℕ) (q life left : ℕ) (v f : ℤ) → Arrays e ss fs ls rs ps → life ≡ laneValue ls q → left ≡ laneValue rs q → v ≡ pos life → f ≡ pos left -ℤ pos life
+    → Numbers (partAt (length ss) ls rs ps q) v f
 numbers e ss fs ls rs ps q life left v f ar a b c d =
-    let l = getD ls q longest in
-    let r = getD rs q longest in
+    let l = laneValue ls q in
+    let r = laneValue rs q in
     let w : v ≡ pos l = c ∙ ap pos a in
     let g : f ≡ pos r -ℤ pos l = d ∙ ap₂ (λ (x y : ℕ). pos x -ℤ pos y) b a in
-    let m : Small v = subst Small (sym w) (omega (arith, ar .brief q)) in
-    let h : Small f = subst Small (sym g) (first-small r l (ar .begun q) (ar .brief q)) in
-    record { life = back v (omega arith) ∙ w; first = back f (omega arith) ∙ g; small = marks-small (toZ w32 (ofZ w32 f)) ss (small-back f h) (ar .near) }
+    let m : Small v = subst Small (sym w) (omega (arith, lane-range ls longestLife (ar .brief) q)) in
+    let h : Small f = change-small l r f (lane-range ls longestLife (ar .brief) q) (lane-range rs longestLife (ar .begun) q) g in
+    record { life = back v (omega arith) ∙ w; first = back f (omega arith) ∙ g }
 
 -- a lane filled for these numbers is filled for those
 pub filled-as : (e life first : ℤ) (ss : List ℤ) (ps : List ℕ) (e' life' first' : ℤ) (ps' t t' : List ℕ) (q : ℕ) → e ≡ e' → life ≡ life' → first ≡ first' → ps ≡ ps' → LaneFilled e ss (column life first ps) t t' q → LaneFilled e' ss (column life' first' ps') t t' q

@@ -4,5 +4,4 @@ pub mod Filling
 pub mod Sheets
 pub mod Stops
 pub mod Answered
-pub mod Ranges
 pub mod Example

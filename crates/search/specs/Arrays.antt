@@ -1,4 +1,4 @@
--- The arrays of a job as the search is handed them, and the sheet that they make: sixteen columns, where those past the last part never need a change.
+-- The arrays of a job as the search is handed them, and the sheet that they make: sixteen columns, where those past the last part go with the first part's and cost nothing.
 use Prim.Native.Nat.{ℕ, zero, suc, _*_, _<_, _≤_}
 use mathlib.Core.Path.{_≡_}
 use mathlib.Core.List.{List, [], _∷_, map}
@@ -17,17 +17,21 @@ priceStride = 64
 abbrev pub priceSize : ℕ
 priceSize = 1024
 
--- the longest life; also the life and first life of a lane past the last part, which so outlives every horizon
-abbrev pub longest : ℕ
-longest = 1000
+-- the longest life
+abbrev pub longestLife : ℕ
+longestLife = 1000
 
 -- the last position, one past the longest horizon
 abbrev pub lastPosition : ℕ
 lastPosition = 366
 
--- part q of the arrays: ls lives, rs first lives, ps prices at n openings
+-- lane q's number, of the parts' numbers: past the last part it is the first part's
+abbrev pub laneValue : List ℕ → ℕ → ℕ
+laneValue l q = getD l q (getD l 0 0)
+
+-- the part of lane q: ls lives, rs first lives, ps prices at n openings
 abbrev pub partAt : ℕ → List ℕ → List ℕ → List ℕ → ℕ → Part
-partAt n ls rs ps q = record { life = getD ls q longest; left = getD rs q longest; prices = take n (drop (q * priceStride) ps) }
+partAt n ls rs ps q = record { life = laneValue ls q; left = laneValue rs q; prices = take n (drop (q * priceStride) ps) }
 
 -- a part as its lane has it
 abbrev pub columnOf : Part → Column
@@ -41,17 +45,19 @@ columnsFrom n ls rs ps q (suc k) = columnOf (partAt n ls rs ps q) ∷ columnsFro
 abbrev pub sheetOf : ℤ → List ℤ → List ℕ → List ℕ → List ℕ → List ℕ → Sheet
 sheetOf e ss fs ls rs ps = record { end = e; positions = ss; fees = fs; columns = columnsFrom (length ss) ls rs ps 0 laneCount }
 
--- the arrays' lengths and ranges: e the end, ss positions, fs fees, ls lives, rs first lives, ps prices
+-- the arrays' lengths and ranges: e the end, ss positions, fs fees, ls lives, rs first lives, ps prices, which are 0 past the last part's
 pub record Arrays (e : ℤ) (ss : List ℤ) (fs ls rs ps : List ℕ) : Type 0 where
   pub few : length ss ≤ 64
   pub paid : length fs ≡ length ss
+  pub some : 0 < length ls
   pub lanes : length ls ≤ laneCount
   pub lefts : length rs ≡ length ls
   pub prices : length ps ≡ priceSize
   pub fair : (j : ℕ) → getD fs j 0 ≤ top
   pub cheap : (j : ℕ) → getD ps j 0 ≤ top
-  pub brief : (q : ℕ) → getD ls q longest ≤ longest
-  pub begun : (q : ℕ) → getD rs q longest ≤ longest
+  pub free : (j : ℕ) → length ls * priceStride ≤ j → getD ps j 0 ≡ 0
+  pub brief : (q : ℕ) → getD ls q 0 ≤ longestLife
+  pub begun : (q : ℕ) → getD rs q 0 ≤ longestLife
   pub near : (j : ℕ) → mag (getD ss j (pos 0)) ≤ lastPosition
   pub late : mag e ≤ lastPosition
 

@@ -8,7 +8,7 @@ ghost use Rattle.least.specs.Marks.{Small, markOf};
 ghost use Rattle.least.specs.Suffix.{tableSize};
 ghost use Rattle.walk.specs.Layout.{laneCount, markCount, top, inf, blockRows, blockSize, priceRow, feeBase, countPlace, tablesSize};
 ghost use Rattle.walk.specs.Tables.{Tables};
-ghost use Rattle.search.specs.Arrays.{longest, partAt, columnOf, sheetOf, Arrays};
+ghost use Rattle.search.specs.Arrays.{longestLife, laneValue, partAt, columnOf, sheetOf, Arrays};
 ghost use Rattle.search.specs.Fill.{Wrote, reachOf, reachAt, column, LaneFilled, Span, Lanes, Dead, Cuts};
 use least::MARKS;
 use walk::rows::COUNT;
@@ -28,19 +28,21 @@ const PRICE_ROW: usize = 8450;
 // The prices of part q stand from q * 64 on.
 pub const STRIDE: usize = 64;
 
-// The longest life, and that of a lane past the last part.
-const LONGEST: u32 = 1000;
-
-// Part q's number; past the last part one that outlives every horizon.
+// Lane q's number: part q's, and past the last part the first part's.
 pub fn lane_value(values: &[u32], q: usize) -> u32
-    ensures { λ r. ⌜ r ≡ getD (now (values .entry)) q longest ⌝ }
+    requires { ⌜ 0 < length (now values) ⌝ }
+    ensures { λ r. ⌜ r ≡ laneValue (now (values .entry)) q ⌝ }
 {
-    if q < values.len() { values[q] } else { LONGEST }
+    if q < values.len() {
+        values[q]
+    } else {
+        values[0]
+    }
 }
 
 // A life as a signed number.
 pub fn signed(x: u32) -> i32
-    requires { ⌜ x ≤ longest ⌝ }
+    requires { ⌜ x ≤ longestLife ⌝ }
     ensures { λ r. ⌜ r ≡ pos x ⌝ }
 {
     x as i32
@@ -126,7 +128,7 @@ fn fill_lane(
     put_prices(prices, q, t);
 }
 
-// Lane q: that of part q, or of none.
+// Lane q: that of part q; past the last part it goes with the first part's, and its prices are 0.
 fn fill_part(
     end: i32,
     positions: &[i32],

@@ -16,7 +16,10 @@ slice-aggregate-walked : tie.Need-slice-aggregate-walked
 slice-aggregate-walked c = search needs
 
 walked-requires : tie.Need-walked-requires
-walked-requires c κs = search needs
+walked-requires c κs =
+    let b = c .before .before .before .before .before in
+    let a = b .args in
+    (subst (λ (x : ℤ). Arrays x (a .positions .now) (a .fees .now) (a .lives .now) (a .lefts .now) (a .prices .now)) (sym (toZ-ofZ (b .fits .end))) (b .pre .1 .arrays), search needs)
 
 stops-of-requires : tie.Need-stops-of-requires
 stops-of-requires c κs = search needs
@@ -25,7 +28,7 @@ array-share-prefix-stops : tie.Need-array-share-prefix-stops
 array-share-prefix-stops c = search needs
 
 slice-aggregate-changes : tie.Need-slice-aggregate-changes
-slice-aggregate-changes c = sym (stops-length (length (c .before .before .before .before .before .before .before .before .before .before .args .positions .now)) (c .before .before .before .before .walked .result .state .mask) (c .before .stops-of .result) (c .before .stops-of .ensures))
+slice-aggregate-changes c = sym (stops-length (length (c .before .before .before .before .before .before .before .before .before .before .args .positions .now)) _ (c .before .stops-of .result) (c .before .stops-of .ensures))
 
 slice-aggregate-changes-2 : tie.Need-slice-aggregate-changes-2
 slice-aggregate-changes-2 c = search needs
@@ -37,7 +40,7 @@ changes-requires c κs =
     let r = b .pre .1 .arrays in (
       subst (λ (x : ℤ). Arrays x (a .positions .now) (a .fees .now) (a .lives .now) (a .lefts .now) (a .prices .now)) (sym (toZ-ofZ (b .fits .end))) r,
       omega (arith, c .before .before .before .before .before .walked .kept .1 .1 .1 .1 .1 .1 .1 .0),
-      stops-length (length (a .positions .now)) (c .before .before .before .before .before .walked .result .state .mask) (c .before .before .stops-of .result) (c .before .before .stops-of .ensures),
+      stops-length (length (a .positions .now)) _ (c .before .before .stops-of .result) (c .before .before .stops-of .ensures),
     )
 
 returns : tie.Need-returns

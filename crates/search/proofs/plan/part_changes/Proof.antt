@@ -1,5 +1,5 @@
 -- `part_changes` is the tie rule's choice of part q within the stops.
-use Prim.Native.Nat.{_-_}
+use Prim.Native.Nat.{_-_, _≤_}
 use mathlib.Core.Path.{ap, _∙_}
 use mathlib.Core.Bool.{false}
 use mathlib.Core.List.{_++_}
@@ -9,25 +9,35 @@ use lib.ListN.{length, replicate}
 use mir.Facts.{toZ-ofZ}
 use Rattle.model.specs.LowerBound.{offers, choiceOf}
 use Rattle.least.proofs.Diff.{small-back}
-use Rattle.search.proofs.Filling.{numbers, own-is, own-length}
+use Rattle.search.specs.Arrays.{longestLife}
+use Rattle.search.proofs.Filling.{own-is, own-length, lane-range, marks-small, numbers}
 use Rattle.search.proofs.plan.part_changes.Statement.{statement}
 use Rattle.search.proofs.plan.part_changes.Tie as tie
 
+-- ---- what is known of the lane's life and first life
+
+module _ (c : tie.After-lane-value2) where
+  abbrev start : tie.Start
+  start = c .before .before .before .before .before .before .before .before
+
+  life-range : c .before .lane-value .result ≤ longestLife
+  life-range = omega (arith, c .before .lane-value .ensures, lane-range (start .args .lives .now) longestLife (start .pre .0 .brief) (start .args .q))
+
+  left-range : c .lane-value2 .result ≤ longestLife
+  left-range =
+      omega (arith, c .lane-value2 .ensures, lane-range (start .args .lives .now) longestLife (start .pre .0 .brief) (start .args .q), lane-range (start .args .lefts .now) longestLife (start .pre .0 .begun) (start .args .q))
+
 lane-value-requires : tie.Need-lane-value-requires
-lane-value-requires c κs = search needs
+lane-value-requires c κs = c .before .before .before .before .before .before .pre .0 .some
 
 lane-value-requires-2 : tie.Need-lane-value-requires-2
-lane-value-requires-2 c κs = search needs
+lane-value-requires-2 c κs = let r = c .before .before .before .before .before .before .before .pre .0 in omega (arith, r .some, r .lefts)
 
 signed-requires : tie.Need-signed-requires
-signed-requires c κs =
-    let b = c .before .before .before .before .before .before .before .before in
-    omega (arith, c .before .lane-value .ensures, b .pre .0 .brief (b .args .q))
+signed-requires c κs = life-range c
 
 last-change-requires : tie.Need-last-change-requires
-last-change-requires c κs =
-    let b = c .before .before .before .before .before .before .before .before .before in
-    (omega (arith, c .before .before .lane-value .ensures, b .pre .0 .brief (b .args .q)), omega (arith, c .before .lane-value2 .ensures, b .pre .0 .begun (b .args .q)))
+last-change-requires c κs = (life-range (c .before), left-range (c .before))
 
 mul-choice : tie.Need-mul-choice
 mul-choice c = search needs
@@ -52,15 +62,19 @@ part-choice-end c = search needs
 
 choice-requires : tie.Need-choice-requires
 choice-requires c κs =
-    let b = c .before .before .before .before .before .before .before .before .before .before .before .before in
-    let a = b .args in
-    let r = b .pre .0 in
+    let v = c .before .before .before .before in
+    let a = start v .args in
+    let (r, room, lane, flags) = start v .pre in
     let n = length (a .positions .now) in
-    let ps = a .prices .now in
-    let x = numbers (a .end) (a .positions .now) (a .fees .now) (a .lives .now) (a .lefts .now) ps (a .q) _ _ _ _ r (c .before .before .before .before .before .lane-value .ensures) (c .before .before .before .before .lane-value2 .ensures) (c .before .before .before .signed .ensures) (c .before .before .last-change .ensures) in (
-      b .pre .1,
+    let ps = a .prices .now in (
+      room,
       small-back (a .end) (omega (arith, r .late)),
-      record { few = r .few; prices = ap length (own-is ps (a .q) n (b .pre .2) (r .few) (r .prices)) ∙ own-length ps (a .q) n (b .pre .2) (r .few) (r .prices); flags = b .pre .3; small = x .small },
+      record {
+        few = r .few;
+        prices = ap length (own-is ps (a .q) n lane (r .few) (r .prices)) ∙ own-length ps (a .q) n lane (r .few) (r .prices);
+        flags = flags;
+        small = marks-small (a .positions .now) _ _ _ (life-range v) (left-range v) (c .before .before .last-change .ensures) (r .near);
+      },
     )
 
 same-length : tie.Need-same-length
@@ -68,14 +82,15 @@ same-length c = search needs
 
 returns : tie.Need-returns
 returns c =
-    let b = c .before .before .before .before .before .before .before .before .before .before .before .before .before .before .before in
-    let a = b .args in
-    let r = b .pre .0 in
+    let v = c .before .before .before .before .before .before .before in
+    let s = start v in
+    let a = s .args in
+    let r = s .pre .0 in
     let n = length (a .positions .now) in
     let ps = a .prices .now in
-    let x = numbers (a .end) (a .positions .now) (a .fees .now) (a .lives .now) (a .lefts .now) ps (a .q) _ _ _ _ r (c .before .before .before .before .before .before .before .before .lane-value .ensures) (c .before .before .before .before .before .before .before .lane-value2 .ensures) (c .before .before .before .before .before .before .signed .ensures) (c .before .before .before .before .before .last-change .ensures) in
-    let end = toZ-ofZ (b .fits .end) in
-    let own = own-is ps (a .q) n (b .pre .2) (r .few) (r .prices) in
+    let x = numbers (a .end) (a .positions .now) (a .fees .now) (a .lives .now) (a .lefts .now) ps (a .q) _ _ _ _ r (v .before .lane-value .ensures) (v .lane-value2 .ensures) (c .before .before .before .before .before .before .signed .ensures) (c .before .before .before .before .before .last-change .ensures) in
+    let end = toZ-ofZ (s .fits .end) in
+    let own = own-is ps (a .q) n (s .pre .2) (r .few) (r .prices) in
     c .before .before .choice .ensures ∙ (λ i. choiceOf (x .life i) (end i) (x .first i) (offers (a .positions .now) (own i) (a .stops .now)) ++ replicate (64 - n) false)
 
 pub part-changes-spec : {M : Type 1} → statement M

@@ -1,5 +1,5 @@
--- `fill_part` makes the lane of part q, or past the last part that of one that never needs a change.
-use Prim.Native.Nat.{ℕ, _≤_}
+-- `fill_part` makes the lane of part q, or past the last part one that goes with the first part's and costs nothing.
+use Prim.Native.Nat.{ℕ, _+_, _*_, _≤_}
 use mathlib.Core.Path.{sym, ap, subst, _∙_}
 use mathlib.Core.List.{List}
 use native.Mathlib.Omega.{arith}
@@ -9,27 +9,36 @@ use lib.IntN.{pos}
 use mir.Facts.{toZ-ofZ}
 use Rattle.model.specs.Model.{lastChange}
 use Rattle.least.proofs.Diff.{small-back}
-use Rattle.search.specs.Arrays.{partAt}
-use Rattle.search.proofs.Filling.{numbers, own-is, own-length, own-cheap, filled-as}
+use Rattle.search.specs.Arrays.{longestLife, priceStride, partAt}
+use Rattle.search.proofs.Filling.{own-each, own-is, own-length, lane-range, marks-small, numbers, filled-as}
 use Rattle.search.proofs.tables.fill_part.Statement.{statement}
 use Rattle.walk.specs.Layout.{top}
 use Rattle.search.proofs.tables.fill_part.Tie as tie
 
+-- ---- what is known of the lane's life and first life
+
+module _ (c : tie.After-lane-value2) where
+  abbrev start : tie.Start
+  start = c .before .before .before .before .before .before .before .before
+
+  life-range : c .before .lane-value .result ≤ longestLife
+  life-range = omega (arith, c .before .lane-value .ensures, lane-range (start .args .lives .now) longestLife (start .pre .0 .brief) (start .args .q))
+
+  left-range : c .lane-value2 .result ≤ longestLife
+  left-range =
+      omega (arith, c .lane-value2 .ensures, lane-range (start .args .lives .now) longestLife (start .pre .0 .brief) (start .args .q), lane-range (start .args .lefts .now) longestLife (start .pre .0 .begun) (start .args .q))
+
 lane-value-requires : tie.Need-lane-value-requires
-lane-value-requires c κs = search needs
+lane-value-requires c κs = c .before .before .before .before .before .before .pre .0 .some
 
 lane-value-requires-2 : tie.Need-lane-value-requires-2
-lane-value-requires-2 c κs = search needs
+lane-value-requires-2 c κs = let r = c .before .before .before .before .before .before .before .pre .0 in omega (arith, r .some, r .lefts)
 
 signed-requires : tie.Need-signed-requires
-signed-requires c κs =
-    let b = c .before .before .before .before .before .before .before .before in
-    omega (arith, c .before .lane-value .ensures, b .pre .0 .brief (b .args .q))
+signed-requires c κs = life-range c
 
 last-change-requires : tie.Need-last-change-requires
-last-change-requires c κs =
-    let b = c .before .before .before .before .before .before .before .before .before in
-    (omega (arith, c .before .before .lane-value .ensures, b .pre .0 .brief (b .args .q)), omega (arith, c .before .lane-value2 .ensures, b .pre .0 .begun (b .args .q)))
+last-change-requires c κs = (life-range (c .before), left-range (c .before))
 
 mul-fill-lane : tie.Need-mul-fill-lane
 mul-fill-lane c = search needs
@@ -54,15 +63,14 @@ part-fill-lane-end c = search needs
 
 fill-lane-requires : tie.Need-fill-lane-requires
 fill-lane-requires c κs =
-    let b = c .before .before .before .before .before .before .before .before .before .before .before .before .before in
-    let a = b .args in
-    let r = b .pre .0 in
+    let v = c .before .before .before .before .before in
+    let a = start v .args in
+    let (r, room, size, lane) = start v .pre in
     let n = length (a .positions .now) in
     let ps = a .prices .now in
-    let w = own-is ps (a .q) n (b .pre .3) (r .few) (r .prices) in
-    let x = numbers (a .end) (a .positions .now) (a .fees .now) (a .lives .now) (a .lefts .now) ps (a .q) _ _ _ _ r (c .before .before .before .before .before .before .lane-value .ensures) (c .before .before .before .before .before .lane-value2 .ensures) (c .before .before .before .before .signed .ensures) (c .before .before .before .last-change .ensures) in (
-      (b .pre .1, r .few, ap length w ∙ own-length ps (a .q) n (b .pre .3) (r .few) (r .prices), small-back (a .end) (omega (arith, r .late)), x .small),
-      (b .pre .3, b .pre .2, λ j. subst (λ (x : List ℕ). getD x j 0 ≤ top) (sym w) (own-cheap ps (a .q) n (b .pre .3) (r .few) (r .prices) (r .cheap) j)),
+    let w = own-is ps (a .q) n lane (r .few) (r .prices) in (
+      (room, r .few, ap length w ∙ own-length ps (a .q) n lane (r .few) (r .prices), small-back (a .end) (omega (arith, r .late)), marks-small (a .positions .now) _ _ _ (life-range v) (left-range v) (c .before .before .before .last-change .ensures) (r .near)),
+      (lane, size, λ j. subst (λ (x : List ℕ). getD x j 0 ≤ top) (sym w) (own-each (λ (x : ℕ). x ≤ top) ps (a .q) n (omega arith) (λ j. r .cheap (a .q * priceStride + j)) j)),
     )
 
 same-length : tie.Need-same-length
@@ -73,15 +81,16 @@ same-length-2 c = search needs
 
 returns : tie.Need-returns
 returns c =
-    let b = c .before .before .before .before .before .before .before .before .before .before .before .before .before .before .before .before .before .before in
-    let a = b .args in
-    let r = b .pre .0 in
+    let v = c .before .before .before .before .before .before .before .before .before .before in
+    let s = start v in
+    let a = s .args in
+    let r = s .pre .0 in
     let n = length (a .positions .now) in
     let ps = a .prices .now in
     let part = partAt n (a .lives .now) (a .lefts .now) ps (a .q) in
-    let x = numbers (a .end) (a .positions .now) (a .fees .now) (a .lives .now) (a .lefts .now) ps (a .q) _ _ _ _ r (c .before .before .before .before .before .before .before .before .before .before .before .lane-value .ensures) (c .before .before .before .before .before .before .before .before .before .before .lane-value2 .ensures) (c .before .before .before .before .before .before .before .before .before .signed .ensures) (c .before .before .before .before .before .before .before .before .last-change .ensures) in
+    let x = numbers (a .end) (a .positions .now) (a .fees .now) (a .lives .now) (a .lefts .now) ps (a .q) _ _ _ _ r (v .before .lane-value .ensures) (v .lane-value2 .ensures) (c .before .before .before .before .before .before .before .before .before .signed .ensures) (c .before .before .before .before .before .before .before .before .last-change .ensures) in
     filled-as _ _ _ (a .positions .now) _ (a .end) (pos (part .life)) (lastChange part) (part .prices) (a .t .now) (c .before .before .before .before .fill-lane .last .1 .1 .1 .1 .1 .1 .1 .0) (a .q)
-    (toZ-ofZ (b .fits .end)) (x .life) (x .first) (own-is ps (a .q) n (b .pre .3) (r .few) (r .prices)) (c .before .before .before .before .fill-lane .ensures)
+    (toZ-ofZ (s .fits .end)) (x .life) (x .first) (own-is ps (a .q) n (s .pre .3) (r .few) (r .prices)) (c .before .before .before .before .fill-lane .ensures)
 
 pub fill-part-spec : {M : Type 1} → statement M
 fill-part-spec =
