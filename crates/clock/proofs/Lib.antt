@@ -1,4 +1,3 @@
--- Ranges of signed numbers (Ranges), the job that a struct holds, place by place (Jobs), and its positions (Places).
+-- Ranges of signed numbers (Ranges), and the positions of a job (Places).
 pub mod Ranges
-pub mod Jobs
 pub mod Places

@@ -16,7 +16,7 @@ use Rattle.job_text.specs.declared.Job.{Job}
 use Rattle.clock.specs.Placed.{Position, Placed}
 use Rattle.clock.specs.declared.Positions.{Positions}
 use Rattle.clock.proofs.Ranges.{clocked}
-use Rattle.clock.proofs.Jobs.{openingAt, Whole, opening-count, seen-count, seen-at, valid-opening}
+use Rattle.job_text.proofs.Jobs.{openingAt, Whole, opening-count, seen-count, seen-at, valid-opening}
 
 -- one more stored: the first i + 1 agree
 pub take-next : {A : Type 0} (k l : List A) (i : ℕ) (x d : A) → i < length k → i < length l → take i k ≡ take i l → x ≡ getD l i d → take (i + 1) (set k i x) ≡ take (i + 1) l

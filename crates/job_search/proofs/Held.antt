@@ -17,7 +17,7 @@ use Rattle.job_text.specs.Valid.{All, ValidOpening, ValidPrice, ValidPart, Vali
 use Rattle.job_text.specs.declared.Job.{Job}
 use Rattle.clock.specs.Placed.{lastPosition, Placed}
 use Rattle.clock.specs.declared.Positions.{Positions}
-use Rattle.clock.proofs.Jobs.{Whole, blankOpening, opening-count, part-count, part-at, seen-count, valid-part, valid-parts}
+use Rattle.job_text.proofs.Jobs.{Whole, blankOpening, opening-count, part-count, part-at, seen-count, valid-part, valid-parts}
 use Rattle.clock.proofs.Places.{position-count}
 use Rattle.clock.proofs.Ranges.{position-small}
 use Rattle.least.proofs.Table.{there}

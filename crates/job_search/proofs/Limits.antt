@@ -17,7 +17,7 @@ use Rattle.model.proofs.Promised.{promise}
 use Rattle.job_text.specs.Views.{jobOf, Sized}
 use Rattle.job_text.specs.Valid.{ValidJob}
 use Rattle.job_text.specs.declared.Job.{Job}
-use Rattle.clock.proofs.Jobs.{Whole, opening-count, part-count}
+use Rattle.job_text.proofs.Jobs.{Whole, opening-count, part-count}
 use Rattle.verdict.proofs.Limits.{dearestPlan, cost-most}
 use Rattle.search.specs.declared.Outcome.{Outcome}
 use Rattle.search.specs.Outcome.{Answers, saidIn}

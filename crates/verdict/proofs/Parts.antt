@@ -22,7 +22,7 @@ use Rattle.plan_text.proofs.Plan.Laws.{the-laws}
 use Rattle.plan_text.specs.Views.{changesFor}
 use Rattle.plan_text.specs.declared.Changes.{Changes}
 use Rattle.plan_text.specs.declared.Plan.{Plan}
-use Rattle.clock.proofs.Jobs.{firsts-size, firsts-at}
+use Rattle.job_text.proofs.Jobs.{firsts-size, firsts-at}
 use Rattle.verdict.specs.Steps.{lowerPart, dearestSum}
 use Rattle.verdict.proofs.Sums.{all-drop, sum-most, cheap-prices}
 

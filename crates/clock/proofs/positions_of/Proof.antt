@@ -8,7 +8,7 @@ use Rattle.model.specs.Model.{positions}
 use Rattle.job_text.specs.Views.{jobOf}
 use Rattle.clock.specs.Placed.{Position}
 use Rattle.clock.proofs.Ranges.{position-bits}
-use Rattle.clock.proofs.Jobs.{valid-opening}
+use Rattle.job_text.proofs.Jobs.{valid-opening}
 use Rattle.clock.proofs.Places.{take-next, position-count, position-at, here-range, end-range, placed}
 use Rattle.clock.proofs.positions_of.Statement.{statement}
 use Rattle.clock.proofs.positions_of.Tie as tie

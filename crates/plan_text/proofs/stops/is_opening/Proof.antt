@@ -4,13 +4,13 @@ use mathlib.Core.Path.{_≡_, sym}
 use native.Mathlib.Omega.{arith}
 use borrow.Author.Count.{below-more}
 use borrow.Author.Needs.{needs}
-use lib.ListN.{getD}
-use Rattle.plan_text.proofs.Jobs.{blank, opening-yes, opening-no}
+use Rattle.job_text.proofs.Jobs.{openingAt}
+use Rattle.plan_text.proofs.Jobs.{opening-yes, opening-no}
 use Rattle.plan_text.proofs.stops.is_opening.Statement.{statement}
 use Rattle.plan_text.proofs.stops.is_opening.Tie as tie
 
 abbrev Inv-loop : tie.InvT-loop
-Inv-loop step job n i₀ i = (i ≤ n) × ((j : ℕ) → j < i → getD (job .openings) j blank .step ≡ step → ⊥)
+Inv-loop step job n i₀ i = (i ≤ n) × ((j : ℕ) → j < i → openingAt job j .step ≡ step → ⊥)
 
 abbrev μ-loop : tie.MeasureT-loop
 μ-loop step job n i₀ i = n - i

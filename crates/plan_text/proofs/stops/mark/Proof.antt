@@ -16,7 +16,8 @@ use Rattle.job_text.specs.Views.{jobOf}
 use Rattle.plan_text.specs.Grammar.{tabulate}
 use Rattle.plan_text.specs.Rendering.{stepAt}
 use Rattle.plan_text.specs.Marks.{withStep}
-use Rattle.plan_text.proofs.Jobs.{opening-count, step-at}
+use Rattle.job_text.proofs.Jobs.{opening-count}
+use Rattle.plan_text.proofs.Jobs.{step-at}
 use Rattle.plan_text.proofs.stops.mark.Statement.{statement}
 use Rattle.plan_text.proofs.stops.mark.Tie as tie
 

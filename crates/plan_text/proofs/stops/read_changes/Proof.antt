@@ -15,7 +15,7 @@ use Rattle.plan_text.specs.Grammar.{part, parts}
 use Rattle.plan_text.specs.Views.{changesFor}
 use Rattle.plan_text.specs.Marks.{withParts}
 use Rattle.plan_text.specs.declared.Changes.{Changes}
-use Rattle.plan_text.proofs.Jobs.{part-count}
+use Rattle.job_text.proofs.Jobs.{part-count}
 use Rattle.plan_text.proofs.Valid.{part-gives}
 use Rattle.plan_text.proofs.Marks.{parts-none, changes-length, changes-more}
 use Rattle.plan_text.proofs.stops.read_changes.Statement.{statement}

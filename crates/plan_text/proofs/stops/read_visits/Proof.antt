@@ -15,7 +15,7 @@ use Rattle.plan_text.specs.Grammar.{Visit, visit, visits, planOf}
 use Rattle.plan_text.specs.Views.{planFor}
 use Rattle.plan_text.specs.Marks.{withVisit}
 use Rattle.plan_text.specs.declared.Plan.{Plan}
-use Rattle.plan_text.proofs.Jobs.{opening-count, part-count}
+use Rattle.job_text.proofs.Jobs.{opening-count, part-count}
 use Rattle.plan_text.proofs.Marks.{visit-none, visit-more}
 use Rattle.plan_text.proofs.stops.read_visits.Statement.{statement}
 use Rattle.plan_text.proofs.stops.read_visits.Tie as tie

@@ -10,7 +10,7 @@ use Rattle.job_text.specs.Views.{jobOf}
 use Rattle.plan_text.specs.Rendering.{chosen, visitAt}
 use Rattle.plan_text.specs.Views.{planFor}
 use Rattle.plan_text.specs.declared.Plan.{Plan}
-use Rattle.plan_text.proofs.Jobs.{opening-count}
+use Rattle.job_text.proofs.Jobs.{opening-count}
 use Rattle.plan_text.proofs.Chosen.{chosen-count, chosen-few, chosen-length, stops-are}
 use Rattle.plan_text.proofs.write.count_stops.Statement.{statement}
 use Rattle.plan_text.proofs.write.count_stops.Tie as tie

@@ -4,20 +4,21 @@ use mathlib.Core.Path.{_≡_, refl, sym, ap, ap₂}
 use mathlib.Core.List.{List, _++_}
 use native.Mathlib.Omega.{arith}
 use borrow.Author.Needs.{needs}
-use lib.ListN.{length, getD, length-append, length-map}
+use lib.ListN.{length, length-append, length-map}
 use Rattle.lines.specs.Text.{bytes, lineOf, texts}
 use Rattle.lines.proofs.Writing.{then, kept, same}
 use Rattle.job_text.specs.Views.{jobOf}
+use Rattle.job_text.proofs.Jobs.{openingAt}
 use Rattle.plan_text.specs.Rendering.{visitAt, visitText}
 use Rattle.plan_text.specs.Views.{changedIn, numbersAt, planFor}
-use Rattle.plan_text.proofs.Jobs.{blank, step-at}
+use Rattle.plan_text.proofs.Jobs.{step-at}
 use Rattle.plan_text.proofs.Chosen.{chosen-few, numbers-are}
 use Rattle.plan_text.proofs.write.put_visit.Statement.{statement}
 use Rattle.plan_text.proofs.write.put_visit.Tie as tie
 
 -- the step of the opening, and the parts changed there, as the code finds them
 abbrev step : tie.Start → ℕ
-step s = getD (s .args .t3 .openings) (s .args .i) blank .step
+step s = openingAt (s .args .t3) (s .args .i) .step
 
 abbrev numbers : tie.Start → List ℕ
 numbers s = numbersAt (s .args .plan) (s .args .t3 .«part_count») (s .args .i)

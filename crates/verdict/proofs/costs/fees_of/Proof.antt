@@ -8,7 +8,7 @@ use lib.ListN.{length, getD, take}
 use lib.Seq.{getD-take}
 use Rattle.model.specs.Model.{feeOf}
 use Rattle.job_text.specs.Views.{jobOf}
-use Rattle.clock.proofs.Jobs.{seen-count, seen-at}
+use Rattle.job_text.proofs.Jobs.{seen-count, seen-at}
 use Rattle.verdict.proofs.Sums.{Summed, summed-none, summed-skip, summed-take, summed-most, cheap-fees}
 use Rattle.verdict.proofs.costs.fees_of.Statement.{statement}
 use Rattle.verdict.proofs.costs.fees_of.Tie as tie

@@ -11,7 +11,7 @@ use Rattle.job_text.specs.Views.{jobOf, partOf}
 use Rattle.job_text.specs.Valid.{ValidPart}
 use Rattle.job_text.specs.declared.Job.{Job}
 use Rattle.plan_text.specs.Views.{changesFor, changesOf}
-use Rattle.clock.proofs.Jobs.{partAt, part-count, part-at, valid-part, valid-parts}
+use Rattle.job_text.proofs.Jobs.{partAt, part-count, part-at, valid-part, valid-parts}
 use Rattle.verdict.proofs.Parts.{blankChanges, changes-count, changes-at, Priced, priced-none, priced-more, priced-most, part-most}
 use Rattle.verdict.proofs.costs.prices_of.Statement.{statement}
 use Rattle.verdict.proofs.costs.prices_of.Tie as tie

@@ -15,7 +15,7 @@ use Rattle.model.specs.Verdict.{firstLate}
 use Rattle.job_text.specs.Views.{jobOf}
 use Rattle.clock.specs.Placed.{Begins, Position}
 use Rattle.clock.proofs.Ranges.{position-bits, before-bits, begins-first, begins-later}
-use Rattle.clock.proofs.Jobs.{opening-count}
+use Rattle.job_text.proofs.Jobs.{opening-count}
 use Rattle.clock.proofs.Places.{position-count, place-is}
 use Rattle.verdict.specs.Views.{modelGaps}
 use Rattle.verdict.specs.Steps.{gapOf, firstLong}

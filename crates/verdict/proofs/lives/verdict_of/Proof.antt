@@ -7,7 +7,7 @@ use Rattle.model.specs.Model as model
 use Rattle.model.specs.Verdict.{Gaps, keeps, ruled, lateOf}
 use Rattle.job_text.specs.Views.{jobOf, partOf}
 use Rattle.plan_text.specs.Views.{changesFor}
-use Rattle.clock.proofs.Jobs.{part-count, part-at, valid-part}
+use Rattle.job_text.proofs.Jobs.{part-count, part-at, valid-part}
 use Rattle.verdict.specs.Views.{modelVerdict}
 use Rattle.verdict.specs.Steps.{lowerPart}
 use Rattle.verdict.proofs.Parts.{changes-at, Ruled, ruled-more, ruled-all}

@@ -77,7 +77,7 @@ module _ (j : Job) (sized : Sized j) (whole : Whole j) where
   pub part-count : length (jobOf j .parts) ≡ m
   part-count = firsts-size (partOf n) (j .parts) m parts-long
 
-  opening-at : (i : ℕ) → i < n → getD (jobOf j .openings) i (openingOf blankOpening) ≡ openingOf (openingAt j i)
+  pub opening-at : (i : ℕ) → i < n → getD (jobOf j .openings) i (openingOf blankOpening) ≡ openingOf (openingAt j i)
   opening-at i h = firsts-at openingOf (j .openings) n openings-long i blankOpening (openingOf blankOpening) h
 
   pub part-at : (k : ℕ) → k < m → getD (jobOf j .parts) k noPart ≡ partOf n (partAt j k)
