@@ -2,14 +2,14 @@
 use Prim.Native.Nat.{ℕ, _≤_, _<_}
 use mathlib.Core.Path.{_≡_, refl, sym, ap, _∙_, subst}
 use mathlib.Core.List.{List, []}
-use mathlib.Core.Logic.{_⊎_, inl, inr, _↔_}
+use mathlib.Core.Logic.{inl, inr}
 use native.Mathlib.Omega.{arith}
 use native.Mathlib.Decide.{decLt}
 use borrow.Author.Tests.{lt-ltb, le-ltb}
 use Rattle.lines.specs.Parser.{Outcome, accepted, refused}
-use Rattle.model.specs.Model.{Job, Plan, KeepsLives, costOf}
+use Rattle.model.specs.Model.{KeepsLives, costOf}
 use Rattle.model.specs.Verdict as verdict
-use Rattle.model.specs.Verdict.{Judgement, accepts, unkept, wrongCost, numberOf, judgedOf, AllKept, LowestUnkept, Shaped}
+use Rattle.model.specs.Verdict.{Judgement, accepts, unkept, wrongCost, numberOf, judgedOf, AllKept, LowestUnkept}
 use Rattle.model.proofs.Verdicts.{judge, lives-kept, kept-lives}
 use Rattle.job_text.specs.Grammar.{Given, readJob}
 use Rattle.job_text.specs.Views.{emptyJob}
@@ -17,10 +17,10 @@ use Rattle.job_text.proofs.Numbered as job
 use Rattle.plan_text.specs.Grammar.{Stated, readPlan}
 use Rattle.plan_text.proofs.Numbered as plan
 use Rattle.plan_text.proofs.Shapes.{shaped}
-use Rattle.answers.specs.Said.{Said, Refuses, noPlan, plainly, refusal, saidOf, lent, bytesOf, costLines, unkeptLines}
+use Rattle.answers.specs.Said.{Said, Refuses, noPlan, plainly, saidOf, lent, bytesOf, costLines, unkeptLines}
 use Rattle.answers.proofs.Replies.{refuses}
 use Rattle.judging.specs.Judge.{outcomeOf, onPlan, onJob, judgeOutcome, judgeSaid, judgeRoom}
-use Rattle.judging.specs.Promise.{Reading, Keeps, trueCost, States, JudgePromise}
+use Rattle.judging.specs.Promise.{Reading, JudgePromise}
 
 module _ (jobText planText : List ℕ) (room : ℕ) where
   -- ---- no room
@@ -114,9 +114,6 @@ module _ (jobText planText : List ℕ) (room : ℕ) where
     abbrev here : Reading jobText planText
     here = record { given = g; stated = st; job-read = eg; plan-read = es }
 
-    shape : Shaped (g .job) (st .plan)
-    shape = let x = shaped (g .job) planText st es in record { stops = x .stops; parts = x .parts; sizes = x .changes; at-stops = λ i k h e. x .at-stops k i e }
-
     -- any reading is this one
     given-is : (r : Reading jobText planText) → r .given ≡ g
     given-is r = one-given eg (r .job-read)
@@ -146,7 +143,7 @@ module _ (jobText planText : List ℕ) (room : ℕ) where
     all-kept k = lives-kept (g .job) (st .plan) k
 
     keeps : AllKept (g .job) (st .plan) → KeepsLives (g .job) (st .plan)
-    keeps k = kept-lives (g .job) (st .plan) shape k
+    keeps k = kept-lives (g .job) (st .plan) (shaped (g .job) planText st es) k
 
     abbrev said : Judgement → Said
     said j = saidOf emptyJob noPlan (outcomeOf j)

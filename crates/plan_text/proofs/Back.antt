@@ -14,13 +14,14 @@ use lib.ListN.{length, getD}
 use Rattle.lines.specs.Text.{joined}
 use Rattle.lines.proofs.Sound.{Chained}
 use Rattle.model.specs.Model.{Opening, Job, Plan}
+use Rattle.model.specs.Verdict.{Shaped}
 use Rattle.job_text.specs.Valid.{All, ValidJob}
 use Rattle.plan_text.specs.Grammar.{Visit, any, among, isOpening, visited, changed, tabulate, openingsAt, planOf}
 use Rattle.plan_text.specs.Rendering.{chosen, changesAt, partsAt, stepAt, visitAt, visitsOf}
 use Rattle.plan_text.proofs.Chosen.{chosen-front}
 use Rattle.plan_text.proofs.Lists.{any-append, any-index, table-at, table-is}
 use Rattle.plan_text.proofs.Marks.{openings-table}
-use Rattle.plan_text.proofs.Valid.{ValidPart, ValidParts, ValidVisit, ValidVisits, Shaped, stepOf}
+use Rattle.plan_text.proofs.Valid.{ValidPart, ValidParts, ValidVisit, ValidVisits, stepOf}
 use Rattle.plan_text.proofs.Shapes.{openings-at, made-shaped}
 use Rattle.plan_text.proofs.Steps.{noOpening, step-is, step-rises}
 
@@ -212,9 +213,9 @@ module _ (job : Job) (ok : ValidJob job) (plan : Plan) (shape : Shaped job plan)
       ∙ and-true (changesAt plan i k)
 
   -- a change is at a stop
-  at-stop : (i k : ℕ) (b : Bool) → changesAt plan i k ≡ b → (getD (plan .stops) i false && b) ≡ b
-  at-stop i k true e = and-true (getD (plan .stops) i false) ∙ shape .at-stops i k e
-  at-stop i k false e = and-false (getD (plan .stops) i false)
+  at-stop : (i k : ℕ) → k < length (job .parts) → (b : Bool) → changesAt plan i k ≡ b → (getD (plan .stops) i false && b) ≡ b
+  at-stop i k h true e = and-true (getD (plan .stops) i false) ∙ shape .at-stops k i h e
+  at-stop i k h false e = and-false (getD (plan .stops) i false)
 
   change-back : (i k : ℕ) → i < length (job .openings) → k < length (job .parts) → changed (visitsOf job plan) (k + 1) (stepAt job i) ≡ changesAt plan i k
   unfolding visitsOf
@@ -222,7 +223,7 @@ module _ (job : Job) (ok : ValidJob job) (plan : Plan) (shape : Shaped job plan)
       any-one (λ (v : Visit). eqb (v .step) (stepAt job i) && among (v .parts) (k + 1)) (λ j. getD (plan .stops) j false) (visitAt job plan) (length (job .openings)) i h
       (λ j m d. ap (λ (b : Bool). b && among (partsAt plan j) (k + 1)) (step-differs i j h m d))
       ∙ ap (λ (b : Bool). getD (plan .stops) i false && b) (ap (λ (b : Bool). b && among (partsAt plan i) (k + 1)) (eq-eqb (stepAt job i) (stepAt job i) refl) ∙ part-back i k l)
-      ∙ at-stop i k (changesAt plan i k) refl
+      ∙ at-stop i k l (changesAt plan i k) refl
 
   pub plan-back : planOf job (visitsOf job plan) ≡ plan
   unfolding planOf
@@ -235,7 +236,7 @@ module _ (job : Job) (ok : ValidJob job) (plan : Plan) (shape : Shaped job plan)
       stops = openings-table job (visited (visitsOf job plan)) ∙ sym (table-is (plan .stops) false _ n (shape .stops) (λ i h. sym (stop-back i h)))
 
       row : (k : ℕ) → k < length (job .parts) → openingsAt job (changed (visitsOf job plan) (k + 1)) ≡ getD (plan .changes) k []
-      row k l = openings-table job (changed (visitsOf job plan) (k + 1)) ∙ sym (table-is (getD (plan .changes) k []) false _ n (shape .changes k l) (λ i h. sym (change-back i k h l)))
+      row k l = openings-table job (changed (visitsOf job plan) (k + 1)) ∙ sym (table-is (getD (plan .changes) k []) false _ n (shape .sizes k l) (λ i h. sym (change-back i k h l)))
 
       changes : tabulate (λ k. openingsAt job (changed (visitsOf job plan) (k + 1))) (length (job .parts)) ≡ plan .changes
       changes = sym (table-is (plan .changes) [] _ (length (job .parts)) (shape .parts) (λ k l. sym (row k l)))

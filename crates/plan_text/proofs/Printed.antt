@@ -13,12 +13,13 @@ use Rattle.lines.proofs.Parsing.{bind-good, rising-yes}
 use Rattle.lines.proofs.Sound.{Chained}
 use Rattle.lines.proofs.Complete.{Complete, row-complete, checked-complete, chain-complete, text-complete}
 use Rattle.model.specs.Model.{Opening, Job, Plan}
+use Rattle.model.specs.Verdict.{Shaped}
 use Rattle.job_text.specs.Valid.{ValidJob}
 use Rattle.plan_text.specs.Grammar.{Visit, isOpening, mayStop, part, parts, visit, visits, planOf, planLines, maxBytes, readPlan}
 use Rattle.plan_text.specs.Rendering.{visitText, planText, chosen, changesAt, partsAt, stepAt, visitAt, visitsOf, planLinesOf}
 use Rattle.plan_text.proofs.Lists.{any-at}
 use Rattle.plan_text.proofs.Chosen.{chosen-few, chosen-front}
-use Rattle.plan_text.proofs.Valid.{ValidPart, ValidParts, ValidVisit, ValidVisits, Shaped, stepOf}
+use Rattle.plan_text.proofs.Valid.{ValidPart, ValidParts, ValidVisit, ValidVisits, stepOf}
 use Rattle.plan_text.proofs.Steps.{noOpening, step-is, step-low, step-high, step-rises}
 use Rattle.plan_text.proofs.Lengths.{valid-short}
 use Rattle.plan_text.proofs.Back.{plan-back}

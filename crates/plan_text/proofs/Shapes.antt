@@ -1,5 +1,5 @@
--- The plan that visits make is a plan of the job (`made-shaped`), and so is one that keeps the lives (`kept-shaped`). By index.
-use Prim.Native.Nat.{ℕ, zero, suc, _+_, _<_}
+-- The plan that visits make is a plan of the job (`made-shaped`), and so is the one that an accepted text states (`shaped`). By index.
+use Prim.Native.Nat.{ℕ, _+_, _<_}
 use mathlib.Core.Path.{_≡_, refl, sym, ap, _∙_, subst}
 use mathlib.Core.List.{List, [], _∷_}
 use mathlib.Core.Bool.{Bool, true, false, _&&_, _||_, or-true}
@@ -7,13 +7,13 @@ use native.Mathlib.Omega.{arith}
 use lib.Dec.{eqb}
 use lib.ListN.{length, getD, length-map}
 use Rattle.lines.specs.Parser.{accepted}
-use Rattle.model.specs.Model.{Opening, Part, Job, Plan, KeepsPart, KeepsLives, Each}
-use Rattle.model.proofs.Bools.{no-true, and-split, inside}
+use Rattle.model.specs.Model.{Opening, Job}
+use Rattle.model.specs.Verdict.{Shaped}
+use Rattle.model.proofs.Bools.{and-split, inside}
 use Rattle.plan_text.specs.Grammar.{Visit, Stated, any, among, visited, changed, tabulate, openingsAt, planOf, readPlan}
 use Rattle.plan_text.specs.Rendering.{stepAt}
 use Rattle.plan_text.proofs.Lists.{table-length, table-at}
 use Rattle.plan_text.proofs.Marks.{openings-table}
-use Rattle.plan_text.proofs.Valid.{Shaped}
 use Rattle.plan_text.proofs.Accepted.{valid}
 
 -- a test that implies another
@@ -26,15 +26,6 @@ any-weaker p q h (x ∷ xs) e = go (p x) refl (any-weaker p q h xs)
     go true f rest = rw (h x f)
     go false f rest = rw (rest (rw (any, f) at e)) (or-true (q x))
 
--- a change lies inside the lists
-row-inside : (rows : List (List Bool)) (k i : ℕ) → getD (getD rows k []) i false ≡ true → k < length rows
-row-inside [] zero zero e = no-true e
-row-inside [] zero (suc i) e = no-true e
-row-inside [] (suc k) zero e = no-true e
-row-inside [] (suc k) (suc i) e = no-true e
-row-inside (r ∷ rows) zero i e = omega arith
-row-inside (r ∷ rows) (suc k) i e = omega (arith, row-inside rows k i e)
-
 pub openings-at : (job : Job) (test : ℕ → Bool) (i : ℕ) → i < length (job .openings) → getD (openingsAt job test) i false ≡ test (stepAt job i)
 openings-at job test i h =
     ap (λ (xs : List Bool). getD xs i false) (openings-table job test)
@@ -45,7 +36,7 @@ unfolding planOf
 made-shaped job vs = record {
   stops = length-map (job .openings) (λ (o : Opening). visited vs (o .step));
   parts = table-length row m;
-  changes = λ k h. ap length (table-at row m k [] h) ∙ length-map (job .openings) (λ (o : Opening). changed vs (k + 1) (o .step));
+  sizes = λ k h. ap length (table-at row m k [] h) ∙ length-map (job .openings) (λ (o : Opening). changed vs (k + 1) (o .step));
   at-stops = at-stops;
 }
   where
@@ -55,9 +46,8 @@ made-shaped job vs = record {
     row : ℕ → List Bool
     row k = openingsAt job (changed vs (k + 1))
 
-    at-stops : (i k : ℕ) → getD (getD (tabulate row m) k []) i false ≡ true → getD (openingsAt job (visited vs)) i false ≡ true
-    at-stops i k e =
-        let k< : k < m = omega (arith, row-inside (tabulate row m) k i e, table-length row m) in
+    at-stops : (k i : ℕ) → k < m → getD (getD (tabulate row m) k []) i false ≡ true → getD (openingsAt job (visited vs)) i false ≡ true
+    at-stops k i k< e =
         let f : getD (row k) i false ≡ true = sym (ap (λ (r : List Bool). getD r i false) (table-at row m k [] k<)) ∙ e in
         let i< : i < length (job .openings) = omega (arith, inside (row k) i f, length-map (job .openings) (λ (o : Opening). changed vs (k + 1) (o .step))) in
         openings-at job (visited vs) i i<
@@ -66,29 +56,3 @@ made-shaped job vs = record {
 
 pub shaped : (job : Job) (s : List ℕ) (stated : Stated) → readPlan job s ≡ accepted stated → Shaped job (stated .plan)
 shaped job s stated e = let v = valid job s stated e in subst (Shaped job) (v .makes) (made-shaped job (v .vs))
-
--- ---- plans that keep the lives
-
-each-length : {A B : Type 0} (R : A → B → Type 0) (xs : List A) (ys : List B) → Each R xs ys → length ys ≡ length xs
-each-length R [] [] e = refl
-each-length R [] (y ∷ ys) e = absurd e
-each-length R (x ∷ xs) [] e = absurd e
-each-length R (x ∷ xs) (y ∷ ys) e = ap suc (each-length R xs ys (e .1))
-
-each-at : (job : Job) (stops : List Bool) (ps : List Part) (cs : List (List Bool)) → Each (KeepsPart job stops) ps cs → (k : ℕ) → k < length cs
-    → (length (getD cs k []) ≡ length (job .openings)) × ((i : ℕ) → getD (getD cs k []) i false ≡ true → getD stops i false ≡ true)
-each-at job stops [] [] e k h = absurd (omega arith)
-each-at job stops [] (c ∷ cs) e k h = absurd e
-each-at job stops (p ∷ ps) [] e k h = absurd e
-each-at job stops (p ∷ ps) (c ∷ cs) e zero h = (e .0 .size, e .0 .at-stops)
-each-at job stops (p ∷ ps) (c ∷ cs) e (suc k) h = each-at job stops ps cs (e .1) k (omega arith)
-
-pub kept-shaped : (job : Job) (plan : Plan) → KeepsLives job plan → Shaped job plan
-kept-shaped job plan keeps =
-    let n = each-length (KeepsPart job (plan .stops)) (job .parts) (plan .changes) (keeps .parts) in
-    record {
-      stops = keeps .size;
-      parts = n;
-      changes = λ k h. each-at job (plan .stops) (job .parts) (plan .changes) (keeps .parts) k (omega arith) .0;
-      at-stops = λ i k e. each-at job (plan .stops) (job .parts) (plan .changes) (keeps .parts) k (row-inside (plan .changes) k i e) .1 i e;
-    }

@@ -1,16 +1,15 @@
 -- What is known of the lines of a plan that were accepted, by their ranges and rules.
 use Prim.Native.Nat.{ℕ, _≤_, _<_}
 use mathlib.Core.Path.{_≡_}
-use mathlib.Core.List.{List, []}
-use mathlib.Core.Bool.{true, false, and-eq-true-iff}
+use mathlib.Core.List.{List}
+use mathlib.Core.Bool.{true, and-eq-true-iff}
 use lib.Dec.{leb, ltb}
-use lib.ListN.{length, getD}
+use lib.ListN.{length}
 use borrow.Author.Tests.{ltb-true, leb-true}
 use Rattle.lines.specs.Parser.{row, checked, rising}
 use Rattle.lines.proofs.Sound.{Gives, row-gives, checked-gives, Chained}
-use Rattle.model.specs.Model.{Job, Plan}
+use Rattle.model.specs.Model.{Job}
 use Rattle.plan_text.specs.Grammar.{Visit, Stated, isOpening, mayStop, part, planOf}
-use Rattle.plan_text.specs.Rendering.{changesAt}
 
 -- "parts within a stop rise and exist": a part of m after the one before
 abbrev pub ValidPart : ℕ → ℕ → ℕ → Type 0
@@ -40,13 +39,6 @@ pub record Valid (job : Job) (stated : Stated) : Type 0 where
   pub vs : List Visit
   pub visits : ValidVisits job vs
   pub makes : planOf job vs ≡ stated .plan
-
--- a plan of a job: a Bool for each opening, a list of changes for each part, and "every change is at a stop"
-pub record Shaped (job : Job) (plan : Plan) : Type 0 where
-  pub stops : length (plan .stops) ≡ length (job .openings)
-  pub parts : length (plan .changes) ≡ length (job .parts)
-  pub changes : (k : ℕ) → k < length (job .parts) → length (getD (plan .changes) k []) ≡ length (job .openings)
-  pub at-stops : (i k : ℕ) → changesAt plan i k ≡ true → getD (plan .stops) i false ≡ true
 
 -- ---- lines
 

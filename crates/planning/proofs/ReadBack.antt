@@ -1,25 +1,22 @@
 -- What the planner prints, read back: the lines behind `floor` are, by the plan grammar and against the same job, the promised plan and its cost (`reads-back`);
 -- so the judge, given the same job text and those lines, says 0 with the same cost (`judge-accepts`). By the printed lines' read-back and the best plan's acceptance.
-use Prim.Native.Nat.{ℕ, _≤_}
-use mathlib.Core.Path.{_≡_, refl, sym, ap, _∙_}
+use Prim.Native.Nat.{ℕ}
+use mathlib.Core.Path.{_≡_, refl}
 use mathlib.Core.List.{List, _++_}
 use mathlib.Core.Bool.{Bool}
 use native.Mathlib.Omega.{arith}
 use Rattle.lines.specs.Parser.{accepted}
 use Rattle.model.specs.Model.{Job, Plan, BestPlan}
-use Rattle.model.specs.Promise.{Answer, cut, optimum, Any, Walked, Promise}
-use Rattle.model.proofs.Verdicts.{best-accepted}
+use Rattle.model.specs.Promise.{cut, optimum}
+use Rattle.model.proofs.Verdicts.{lives-shaped, best-accepted}
 use Rattle.job_text.specs.Grammar.{Given, readJob}
 use Rattle.job_text.specs.Valid.{ValidJob}
-use Rattle.job_text.specs.Views.{emptyJob}
 use Rattle.job_text.proofs.Accepted.{valid}
-use Rattle.plan_text.specs.Grammar.{Stated, readPlan}
+use Rattle.plan_text.specs.Grammar.{readPlan}
 use Rattle.plan_text.specs.Rendering.{planLinesOf}
-use Rattle.plan_text.proofs.Shapes.{kept-shaped}
 use Rattle.plan_text.proofs.Printed.{read-back}
 use Rattle.verdict.proofs.Limits.{cost-most}
-use Rattle.answers.specs.Said.{Said, searchLines, plannedLines, bytesOf, costLines, plainly}
-use Rattle.judging.specs.Judge as judge
+use Rattle.answers.specs.Said.{searchLines, plannedLines, bytesOf, costLines, plainly}
 use Rattle.judging.specs.Judge.{judgeOutcome, judgeSaid}
 use Rattle.planning.specs.Plan.{saidFor}
 
@@ -46,7 +43,7 @@ module _ (text : List ℕ) (given : Given) (is : readJob text ≡ accepted given
   ok = valid text given is .job
 
   pub reads-back : readPlan job lines ≡ accepted (record { cost = cost; plan = plan })
-  reads-back = read-back job ok cost plan (omega (arith, best .states, cost-most job ok plan)) (kept-shaped job plan (best .keeps))
+  reads-back = read-back job ok cost plan (omega (arith, best .states, cost-most job ok plan)) (lives-shaped job plan (best .keeps))
 
   pub judge-accepts : judgeSaid text lines ≡ plainly 0 (costLines 0 cost)
   unfolding judgeOutcome bytesOf
