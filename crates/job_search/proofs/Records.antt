@@ -11,9 +11,9 @@ use Rattle.lines.proofs.Arrays.{take-more}
 use Rattle.model.specs.Model as model
 use Rattle.model.specs.Verdict.{noPart}
 use Rattle.job_text.specs.declared.Part.{Part}
-use Rattle.job_text.specs.Views.{partOf}
-use Rattle.part_records.specs.Records.{noRecord, recordAt}
-use Rattle.part_records.proofs.Viewed.{viewed, part-viewed}
+use Rattle.job_text.specs.Views.{blankPart as noRecord, partOf}
+use Rattle.job_text.proofs.Jobs.{viewed, part-viewed}
+use Rattle.part_records.specs.Records.{recordAt}
 use Rattle.search.specs.Arrays.{priceStride, priceSize}
 use Rattle.search.specs.Fill.{Span}
 use Rattle.job_search.specs.Laid.{Laid}

@@ -1,16 +1,16 @@
 -- The job that a struct holds, place by place: as many openings and parts as it counts, each valid where the job is. By the laws of `map` and `take`, and the arrays' lengths, which a function's arguments tell.
 use Prim.Native.Nat.{ℕ, zero, suc, _≤_, _<_}
-use mathlib.Core.Path.{_≡_, refl, ap, subst, _∙_}
+use mathlib.Core.Path.{_≡_, refl, sym, ap, subst, _∙_}
 use mathlib.Core.List.{List, [], _∷_, map}
 use native.Mathlib.Omega.{arith}
-use lib.ListN.{length, getD, take, length-map}
-use lib.Seq.{getD-take, length-take-le}
+use lib.ListN.{length, getD, take, length-map, List·getD-map}
+use lib.Seq.{getD-take, length-take-le, take-nil}
 use denote.Laws.{Is}
 use denote.Struct.Declared.{row}
 use denote.Struct.Laws.{val}
 use Rattle.job_text.proofs.Job.{the-type}
 use Rattle.job_text.proofs.Job.Laws.{the-laws}
-use Rattle.job_text.specs.Views.{openingOf, partOf, jobOf, Sized}
+use Rattle.job_text.specs.Views.{blankPart, openingOf, partOf, jobOf, Sized}
 use Rattle.job_text.specs.Valid.{All, ValidOpening, ValidPart, ValidJob}
 use Rattle.job_text.specs.declared.Opening.{Opening}
 use Rattle.job_text.specs.declared.Part.{Part}
@@ -41,12 +41,9 @@ module _ {A B : Type 0} (f : A → B) (l : List A) (n : ℕ) (h : n ≤ length l
 
 -- ---- the struct
 
--- what stands past the end of the arrays
+-- what stands past the end of an array of openings
 abbrev pub blankOpening : Opening
 blankOpening = record { step = 0; fee = 0 }
-
-abbrev pub blankPart : Part
-blankPart = record { life = 0; left = 0; prices = [] }
 
 abbrev pub openingAt : Job → ℕ → Opening
 openingAt j i = getD (j .openings) i blankOpening
@@ -57,6 +54,16 @@ partAt j k = getD (j .parts) k blankPart
 -- what is known of an argument that is a job
 abbrev pub Whole : Job → Type 0
 Whole j = Is (row the-type) j (val the-type the-laws j ∷ [])
+
+-- the first m records, as parts with n prices
+abbrev pub viewed : ℕ → ℕ → List Part → List model.Part
+viewed n m parts = map (partOf n) (take m parts)
+
+pub part-viewed : (n m : ℕ) (parts : List Part) (k : ℕ) → k < m → getD (viewed n m parts) k noPart ≡ partOf n (getD parts k blankPart)
+part-viewed n m parts k h =
+    ap (λ (prices : List ℕ). getD (viewed n m parts) k (record { life = 0; left = 0; prices = prices })) (sym (take-nil n))
+    ∙ List·getD-map (partOf n) (take m parts) k blankPart
+    ∙ ap (partOf n) (getD-take m parts k blankPart h)
 
 module _ (j : Job) (sized : Sized j) (whole : Whole j) where
   abbrev n : ℕ
@@ -81,7 +88,7 @@ module _ (j : Job) (sized : Sized j) (whole : Whole j) where
   opening-at i h = firsts-at openingOf (j .openings) n openings-long i blankOpening (openingOf blankOpening) h
 
   pub part-at : (k : ℕ) → k < m → getD (jobOf j .parts) k noPart ≡ partOf n (partAt j k)
-  part-at k h = firsts-at (partOf n) (j .parts) m parts-long k blankPart noPart h
+  part-at k h = part-viewed n m (j .parts) k h
 
   -- the openings, seen through g
   pub seen-count : {B : Type 0} (g : model.Opening → B) → length (map g (jobOf j .openings)) ≡ n

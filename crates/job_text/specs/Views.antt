@@ -15,6 +15,10 @@ use Rattle.job_text.specs.declared.openings.OpeningRow.the-variants.{Val
 use Rattle.job_text.specs.declared.whole.JobLines.{JobLines}
 use Rattle.job_text.specs.declared.whole.JobRead.{JobRead}
 
+-- what stands past the end of an array of parts
+abbrev pub blankPart : Part
+blankPart = record { life = 0; left = 0; prices = [] }
+
 abbrev pub openingOf : Opening → model.Opening
 openingOf o = record { step = o .step; fee = o .fee }
 

@@ -1,4 +1,3 @@
 pub mod Prefix
 pub mod Sizes
 pub mod Taken
-pub mod Viewed

@@ -1,13 +1,10 @@
 -- The record at a place of a list of parts. "A part has a life L and a first life R": the record holds both, and the part's prices.
 use Prim.Native.Nat.{ℕ}
-use mathlib.Core.List.{List, []}
+use mathlib.Core.List.{List}
 use lib.ListN.{getD}
 use Rattle.job_text.specs.declared.Part.{Part}
-
--- what stands at a place past the end, where no part is
-abbrev pub noRecord : Part
-noRecord = record { life = 0; left = 0; prices = [] }
+use Rattle.job_text.specs.Views.{blankPart}
 
 -- the record of part number i + 1
 abbrev pub recordAt : List Part → ℕ → Part
-recordAt parts i = getD parts i noRecord
+recordAt parts i = getD parts i blankPart

@@ -40,7 +40,8 @@ use denote.Exit.{yes}
 use Rattle.job_text.specs.declared.Part.{Part}
 use Rattle.job_text.proofs.Part as part
 use Rattle.job_text.proofs.Part.Laws as part-laws
-use Rattle.part_records.specs.Records.{noRecord, recordAt}
+use Rattle.job_text.specs.Views.{blankPart}
+use Rattle.part_records.specs.Records.{recordAt}
 use Rattle.part_records.proofs.Taken.{rec-out, rec-back}
 use Rattle.part_records.proofs.part_at.Key.{name as #part-records·part-at}
 use Rattle.part_records.proofs.part_at as part-at
@@ -106,12 +107,12 @@ module _ {M : Type 1} (𝓤 : URA M) (H : Heap 𝓤) (A : Atoms 𝓤) (W : Given
         rewrite ! 2 (λ (p : ℕ). ‵ (fat fullShare tyPtr l₄ 0 (vptr b p))) (sym (place-is size o i)) refl $
         -- the token and what the slice owns come to the front, and the record is looked at
         move ! (13 ∷ []) $ fsplit ! $ move ! (14 ∷ []) $ split ! $ move ! (0 ∷ 2 ∷ []) $
-        rec-out part.the-type part-laws.the-laws κ q γ ys i noRecord b o ! tt part-laws.the-copy l (λ q′ g.
+        rec-out part.the-type part-laws.the-laws κ q γ ys i blankPart b o ! tt part-laws.the-copy l (λ q′ g.
         let wt : Holds (hasTy part-laws.mir mach) × WT mach = LL.lawful part.the-type part-laws.the-laws 𝓤 H A W .typed taken _ g .0 in
         -- [the record; what is held; true; what i owns; _5; …; _4; …; _3; …; _2; …; _1; …; _0; …]: _5 = *_4; _0 = _5
         assigns ! (of-opd ! (load ! (from ! (hop ! (look ! 6 refl) (stop !))) (look-raw ! 0 refl))) (from ! (stop !)) (init ! 4 refl wt) $
         assigns ! (of-opd ! (load ! (from ! (stop !)) (look ! 4 refl))) (from ! (stop !)) (init ! 14 refl wt) $
-        rec-back part.the-type part-laws.the-laws κ q γ ys i noRecord b o ! tt q′ l $ move ! (1 ∷ 3 ∷ []) $ fjoin ! $ move ! (1 ∷ 2 ∷ []) $ join ! $
+        rec-back part.the-type part-laws.the-laws κ q γ ys i blankPart b o ! tt q′ l $ move ! (1 ∷ 3 ∷ []) $ fjoin ! $ move ! (1 ∷ 2 ∷ []) $ join ! $
         -- [the token; what the parameters own; _5; …; _4; …; _3; …; _2; …; _1; …; _0; …]
         returns ! (look ! 12 refl) $ forget ! 2 refl $ forget ! 4 refl $ forget ! 6 refl $ forget ! 8 refl $ forget ! 10 refl $ forget ! 12 refl $
         move ! (12 ∷ 13 ∷ []) $ free1 ! $ move ! (10 ∷ 11 ∷ []) $ free1 ! $ move ! (8 ∷ 9 ∷ []) $ free1 ! $ move ! (6 ∷ 7 ∷ []) $ free1 ! $ move ! (4 ∷ 5 ∷ []) $ free1 ! $ move ! (2 ∷ 3 ∷ []) $ free1 ! $ free0 ! $

@@ -45,7 +45,8 @@ use denote.Exit.{yes}
 use Rattle.job_text.specs.declared.Part.{Part}
 use Rattle.job_text.proofs.Part as part
 use Rattle.job_text.proofs.Part.Laws as part-laws
-use Rattle.part_records.specs.Records.{noRecord, recordAt}
+use Rattle.job_text.specs.Views.{blankPart}
+use Rattle.part_records.specs.Records.{recordAt}
 use Rattle.part_records.proofs.Prefix.{array-in, Lends, lends-prefix, prefix-back}
 use Rattle.part_records.proofs.part_at as part-at
 use Rattle.part_records.proofs.part_at.Symbol as part-at-def
@@ -164,7 +165,7 @@ module _ {M : Type 1} (𝓤 : URA M) (H : Heap 𝓤) (A : Atoms 𝓤) (W : Given
         move ! (1 ∷ []) $ split ! $ lft-end ! tt $ move ! (0 ∷ 3 ∷ []) $ use2 W (later (‵ (froom (tyArray part-laws.mir most) l₄ 0))) (prefix-back 𝓤 H A W R most (α ∷ []) k xs l₄ long) $ await ! tt $
         returns ! (look ! 14 refl) $ forget ! 3 refl $ forget ! 5 refl $ forget ! 8 refl $ forget ! 10 refl $ forget ! 12 refl $ forget ! 14 refl $
         move ! (14 ∷ 15 ∷ []) $ free1 ! $ move ! (12 ∷ 13 ∷ []) $ free1 ! $ move ! (10 ∷ 11 ∷ []) $ free1 ! $ move ! (8 ∷ 9 ∷ []) $ free1 ! $ move ! (0 ∷ 7 ∷ []) $ free1 ! $ move ! (4 ∷ 5 ∷ []) $ free1 ! $ move ! (2 ∷ 3 ∷ []) $ free1 ! $ free0 ! $
-        keep ! (1 ∷ 2 ∷ 3 ∷ []) $ by ! (exits r u (e ∙ getD-take k xs i noRecord ik)))))))))))))))
+        keep ! (1 ∷ 2 ∷ 3 ∷ []) $ by ! (exits r u (e ∙ getD-take k xs i blankPart ik)))))))))))))))
 
 module _ {M : Type 1} (𝓤 : URA M) (H : Heap 𝓤) (A : Atoms 𝓤) (W : Given 𝓤 H A) (mem : Memory → SProp 𝓤) (run : Routine → Fun 𝓤) where
   part-of-walks : (C : Calls 𝓤 H) (Λ : Loops 𝓤 H) → FmC 𝓤 H (W .laws) C → Triple 𝓤 (C #part-records·part-at) (PartAt 𝓤 H A mem run)
