@@ -1,15 +1,18 @@
 -- One law for every call: an answer that was written whole (`replied`), or refused for want of room (`no-room`), is the one that `lent` says.
 use Prim.Native.Nat.{ℕ, _≤_, _<_}
-use mathlib.Core.Path.{_≡_, refl, sym, ap, _∙_}
+use mathlib.Core.Path.{_≡_, refl, ap, _∙_}
 use mathlib.Core.List.{List, []}
 use native.Mathlib.Omega.{arith}
 use borrow.Author.Tests.{lt-ltb, le-ltb}
 use lib.ListN.{length}
+use Rattle.lines.specs.Parser as parser
+use Rattle.lines.specs.Parser.{refused}
 use Rattle.lines.specs.Wrote.{Wrote}
+use Rattle.lines.proofs.Outcomes.{one-fault}
 use Rattle.lines.proofs.Breaks.{span-cuts}
 use Rattle.lines.proofs.Writing.{written, kept, counted}
-use Rattle.model.specs.Model.{Job, Plan}
-use Rattle.answers.specs.Said.{Said, Refuses, plainly, bytesOf, refusal, saidWith, saidOf, lent, handed, Replied}
+use Rattle.job_text.specs.Views.{emptyJob}
+use Rattle.answers.specs.Said.{Said, Refuses, plainly, bytesOf, noPlan, refusal, saidWith, saidOf, handed, Replied}
 use Rattle.answers.specs.declared.Answer.{Answer}
 use Rattle.answers.specs.declared.Outcome.{Outcome}
 use Rattle.answers.specs.declared.Outcome.the-variants.{Fault, NoPlan, Optimum, Cut, CutBare, Accepted, Unkept, WrongCost}
@@ -56,7 +59,9 @@ same-bytes bytes (Accepted c) = refl
 same-bytes bytes (Unkept p d) = refl
 same-bytes bytes (WrongCost c) = refl
 
--- the answer to a fault, asked by equal numbers
-pub refuses : (job : Job) (plan : Plan) (which : ℕ) (text : List ℕ) (n l i j : ℕ) → n ≡ i → l ≡ j → Refuses which text i j (saidOf job plan (refusal which text n l))
+-- the answer to a text's fault is the one to any fault that the text reads as
+pub refuses : {A : Type 0} {x : parser.Outcome A} (which : ℕ) (text : List ℕ) {n l i j : ℕ} → x ≡ refused n l → x ≡ refused i j → Refuses which text i j (saidOf emptyJob noPlan (refusal which text n l))
 unfolding bytesOf
-refuses job plan which text n l i j x y = rw (← x, ← y) (record { result = refl; text-number = refl; line-number = refl; span = refl; cuts = span-cuts text l; bytes = refl })
+refuses which text {n} {l} e f =
+    let same = one-fault e f in
+    rw (← same .0, ← same .1) (record { result = refl; text-number = refl; line-number = refl; span = refl; cuts = span-cuts text l; bytes = refl })

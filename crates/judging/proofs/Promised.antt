@@ -7,6 +7,7 @@ use native.Mathlib.Omega.{arith}
 use native.Mathlib.Decide.{decLt}
 use borrow.Author.Tests.{lt-ltb, le-ltb}
 use Rattle.lines.specs.Parser.{Outcome, accepted, refused}
+use Rattle.lines.proofs.Outcomes.{one-value, not-both}
 use Rattle.model.specs.Model.{KeepsLives, costOf}
 use Rattle.model.specs.Verdict as verdict
 use Rattle.model.specs.Verdict.{Judgement, accepts, unkept, wrongCost, numberOf, judgedOf, AllKept, LowestUnkept}
@@ -17,7 +18,7 @@ use Rattle.job_text.proofs.Numbered as job
 use Rattle.plan_text.specs.Grammar.{Stated, readPlan}
 use Rattle.plan_text.proofs.Numbered as plan
 use Rattle.plan_text.proofs.Shapes.{shaped}
-use Rattle.answers.specs.Said.{Said, Refuses, noPlan, plainly, saidOf, lent, bytesOf, costLines, unkeptLines}
+use Rattle.answers.specs.Said.{Said, noPlan, plainly, saidOf, lent, bytesOf, costLines, unkeptLines}
 use Rattle.answers.proofs.Replies.{refuses}
 use Rattle.judging.specs.Judge.{outcomeOf, onPlan, onJob, judgeOutcome, judgeSaid, judgeRoom}
 use Rattle.judging.specs.Promise.{Reading, JudgePromise}
@@ -40,12 +41,9 @@ module _ (jobText planText : List ℕ) (room : ℕ) where
 
   -- ---- a text's fault
 
-  -- two readings of one text are one
-  one-given : {g h : Given} → readJob jobText ≡ accepted g → readJob jobText ≡ accepted h → h ≡ g
-  one-given e f = let x : accepted _ ≡ accepted _ = sym f ∙ e in cc
-
-  never : {A X : Type 0} {a : A} {n l : ℕ} → _≡_ {A = Outcome A} (accepted a) (refused n l) → X
-  never e = let z : _≡_ {A = ℕ} 0 1 = cc in absurd (omega arith)
+  -- the plan text reads the same against any job that the job text reads as
+  other-plan : {g h : Given} → readJob jobText ≡ accepted g → readJob jobText ≡ accepted h → readPlan (g .job) planText ≡ readPlan (h .job) planText
+  other-plan e f = ap (λ (x : Given). readPlan (x .job) planText) (one-value f e)
 
   abbrev answer : Outcome Given → Said
   answer x = saidOf emptyJob noPlan (onJob jobText planText x)
@@ -59,18 +57,15 @@ module _ (jobText planText : List ℕ) (room : ℕ) where
     writes-0 = λ r f. no r;
     writes-10 = λ r f. no r;
     writes-11 = λ r f. no r;
-    job-fault = λ m i j f. same i j (sym e ∙ f);
-    plan-fault = λ m g f. never (sym f ∙ e);
+    job-fault = λ m i j f. refuses 1 jobText e f;
+    plan-fault = λ m g f. not-both f e;
   }
     where
       k : (1 ≤ n) × (n ≤ 5)
       k = job.fault jobText n l e .0
 
       no : {X : Type 0} → Reading jobText planText → X
-      no r = never (sym (r .job-read) ∙ e)
-
-      same : (i j : ℕ) → _≡_ {A = Outcome Given} (refused n l) (refused i j) → Refuses 1 jobText i j (answer (refused n l))
-      same i j x = let p : n ≡ i = cc in let q : l ≡ j = cc in refuses emptyJob noPlan 1 jobText n l i j p q
+      no r = not-both (r .job-read) e
 
   abbrev further : Given → Outcome Stated → Said
   further g x = saidOf emptyJob noPlan (onPlan planText (g .job) x)
@@ -85,8 +80,8 @@ module _ (jobText planText : List ℕ) (room : ℕ) where
     writes-0 = λ r f. no r;
     writes-10 = λ r f. no r;
     writes-11 = λ r f. no r;
-    job-fault = λ m i j f. never (sym eg ∙ f);
-    plan-fault = λ m g′ f i j q. same i j (sym e ∙ ap (λ (x : Given). readPlan (x .job) planText) (sym (one-given eg f)) ∙ q);
+    job-fault = λ m i j f. not-both eg f;
+    plan-fault = λ m g′ f i j q. refuses 2 planText e (other-plan eg f ∙ q);
   }
     where
       k : plan.PlanFault n
@@ -103,10 +98,7 @@ module _ (jobText planText : List ℕ) (room : ℕ) where
       low f = cases (λ x. omega (arith, x)) (λ x. omega arith) k
 
       no : {X : Type 0} → Reading jobText planText → X
-      no r = never (sym (r .plan-read) ∙ ap (λ (x : Given). readPlan (x .job) planText) (one-given eg (r .job-read)) ∙ e)
-
-      same : (i j : ℕ) → _≡_ {A = Outcome Stated} (refused n l) (refused i j) → Refuses 2 planText i j (further g (refused n l))
-      same i j x = let p : n ≡ i = cc in let q : l ≡ j = cc in refuses emptyJob noPlan 2 planText n l i j p q
+      no r = not-both (r .plan-read) (sym (other-plan eg (r .job-read)) ∙ e)
 
   -- ---- two texts that read
 
@@ -116,12 +108,10 @@ module _ (jobText planText : List ℕ) (room : ℕ) where
 
     -- any reading is this one
     given-is : (r : Reading jobText planText) → r .given ≡ g
-    given-is r = one-given eg (r .job-read)
+    given-is r = one-value eg (r .job-read)
 
     stated-is : (r : Reading jobText planText) → r .stated ≡ st
-    stated-is r =
-        let x : accepted (r .stated) ≡ accepted st = sym (r .plan-read) ∙ ap (λ (y : Given). readPlan (y .job) planText) (given-is r) ∙ es in
-        cc
+    stated-is r = one-value es (other-plan eg (r .job-read) ∙ r .plan-read)
 
     -- what holds of a reading holds of this one, and back
     moved : (P : Given → Stated → Type 0) (r : Reading jobText planText) → P (r .given) (r .stated) → P g st
@@ -199,8 +189,8 @@ module _ (jobText planText : List ℕ) (room : ℕ) where
       writes-10 = λ r e. moved-back
           (λ x y. (part : ℕ) × ((due : ℕ) × (LowestUnkept (x .job) (y .plan) part due × (said j .bytes ≡ unkeptLines part due)))) r (writes-10 j (p .values) (number e));
       writes-11 = λ r e. moved-back (λ x y. said j .bytes ≡ costLines 11 (costOf (x .job) (y .plan))) r (writes-11 j (p .values) (number e));
-      job-fault = λ m n l e. never (sym eg ∙ e);
-      plan-fault = λ m g′ f n l e. never (sym es ∙ ap (λ (x : Given). readPlan (x .job) planText) (sym (one-given eg f)) ∙ e);
+      job-fault = λ m n l e. not-both eg e;
+      plan-fault = λ m g′ f n l e. not-both es (other-plan eg f ∙ e);
     }
       where
         number : {n : ℕ} → said j .result ≡ n → numberOf j ≡ n

@@ -1,19 +1,19 @@
 -- Which numbers and lines a fault can have: P holds of the number, and the line is one of the text's or the next, since each line that is read takes
 -- a byte at least. By the parsers' forms.
 use Prim.Native.Nat.{ℕ, zero, suc, _+_, _≤_}
-use mathlib.Core.Path.{_≡_, refl, sym, ap, _∙_, subst}
+use mathlib.Core.Path.{_≡_, refl, sym, subst}
 use mathlib.Core.List.{List, [], _∷_}
 use mathlib.Core.Bool.{Bool, true, false}
-use mathlib.Core.Logic.{_⊎_, inl, inr}
+use mathlib.Core.Logic.{inl, inr}
 use native.Mathlib.Omega.{arith}
 use lib.Dec.{leb}
 use lib.ListN.{length, length-drop}
 use borrow.Author.Tests.{leb-true}
-use Rattle.lines.specs.Parser.{Parsed, good, fault, Parser, _>>=_, return, readField, taken, rowAt, checked, chain, times, end as ends, Outcome, accepted, refused, finish, whole, readText}
+use Rattle.lines.specs.Parser.{Parsed, good, fault, Parser, _>>=_, return, readField, taken, rowAt, checked, chain, times, end as ends, refused, finish, whole, readText}
 use Rattle.lines.specs.declared.read.Field.{Field}
 use Rattle.lines.specs.declared.read.Field.the-variants.{Value, Fault}
 use Rattle.lines.proofs.Reading.{InField, field-in}
-use Rattle.lines.proofs.Parsing.{bind-good, bind-fault}
+use Rattle.lines.proofs.Outcomes.{one-fault, not-both}
 
 -- from n bytes and line l on: a value leaves no more than it found, a fault is on a line that is there or is the next, and P holds of its number
 abbrev pub NumberIn : {A : Type 0} → (ℕ → Type 0) → ℕ → ℕ → Parsed A → Type 0
@@ -81,15 +81,11 @@ module _ (P : ℕ → Type 0) where
   unfolding readText whole
   refused-fault {A} most p one two h s n l e = go (leb (length s) most) refl
     where
-      differ : {X : Type 0} {a : A} → _≡_ {A = Outcome A} (accepted a) (refused n l) → X
-      differ d = let z : _≡_ {A = ℕ} 0 1 = cc in absurd (omega arith)
-
       done : length s ≤ most → (x : Parsed A) → NumberIn P (length s) 1 x → finish x ≡ refused n l → P n × (l ≤ most + 1)
-      done few (good a r m) q f = differ f
+      done few (good a r m) q f = not-both refl f
       done few (fault k m) q f =
-          let z : m ≡ l = cc in
-          let y : k ≡ n = cc in
-          (subst P y (q .0), omega (arith, q .1))
+          let y = one-fault refl f in
+          (subst P (y .0) (q .0), omega (arith, q .1, y .1))
 
       go : (t : Bool) → leb (length s) most ≡ t → P n × (l ≤ most + 1)
       go true t =
@@ -97,7 +93,5 @@ module _ (P : ℕ → Type 0) where
           (bind-numbers p _ h (λ a. bind-numbers ends _ (end-numbers two) (λ _. return-numbers a)) s 1)
           (rw (readText, t) at e)
       go false t =
-          let r : _≡_ {A = Outcome A} (refused 1 0) (refused n l) = rw (readText, t) at e in
-          let z : 0 ≡ l = cc in
-          let y : 1 ≡ n = cc in
-          (subst P y one, omega arith)
+          let y = one-fault {n = 1} {l = 0} (rw (readText, t)) e in
+          (subst P (y .0) one, omega (arith, y .1))

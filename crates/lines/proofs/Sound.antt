@@ -7,12 +7,13 @@ use native.Mathlib.Omega.{arith}
 use lib.Dec.{leb}
 use lib.ListN.{length, drop}
 use Rattle.lines.specs.Line.{readLine}
-use Rattle.lines.specs.Parser.{Parsed, good, fault, Parser, _>>=_, return, inRange, readField, taken, rowAt, checked, chain, end as ends, Outcome, accepted, refused, finish, whole, readText}
+use Rattle.lines.specs.Parser.{Parsed, good, fault, Parser, _>>=_, return, inRange, readField, taken, rowAt, checked, chain, end as ends, accepted, finish, whole, readText}
 use Rattle.lines.specs.Text.{line, texts}
 use Rattle.lines.specs.declared.read.Line.{Line}
 use Rattle.lines.specs.declared.read.Line.the-variants.{Value, Bad}
 use borrow.Author.Tests.{leb-true}
 use Rattle.lines.proofs.Parsing.{bind-good, bind-fault, InRow, row-in}
+use Rattle.lines.proofs.Outcomes.{not-both}
 use Rattle.lines.proofs.Written.{Stands, line-written}
 
 abbrev pub Sound : {A : Type 0} → Parser A → (A → List ℕ) → Type 0
@@ -140,9 +141,6 @@ pub accepted-is : {A : Type 0} (most : ℕ) (p : Parser A) (s : List ℕ) (a : A
 unfolding readText whole return
 accepted-is {A} most p s a h = go (leb (length s) most) refl
   where
-    refused-not : {X : Type 0} {n m : ℕ} → _≡_ {A = Outcome A} (refused n m) (accepted a) → X
-    refused-not e = let z : _≡_ {A = ℕ} 0 1 = cc in absurd (omega arith)
-
     done : length s ≤ most → (x : Parsed A) → whole p s 1 ≡ x → finish x ≡ accepted a → Accepted most p s a
     done few (good b t m) e f =
         let x = bind-inv p _ s t 1 m b e in
@@ -150,8 +148,8 @@ accepted-is {A} most p s a h = go (leb (length s) most) refl
         let same : x .a ≡ a = (let u : x .a ≡ b = cc (y .second) in let v : b ≡ a = cc in u ∙ v) in
         let none = end-inv (x .mid) (y .mid) (x .at) (y .at) (y .a) (y .first) in
         record { few = few; last = x .at; lines = x .first ∙ cc }
-    done few (fault n m) e f = refused-not f
+    done few (fault n m) e f = not-both f refl
 
     go : (t : Bool) → leb (length s) most ≡ t → Accepted most p s a
     go true e = done (leb-true _ _ e) (whole p s 1) refl (rw (readText, e) at h)
-    go false e = refused-not (rw (readText, e) at h)
+    go false e = not-both {n = 1} {l = 0} h (rw (readText, e))

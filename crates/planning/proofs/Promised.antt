@@ -1,26 +1,22 @@
 -- The planner's answer keeps its promise on every text and every room (`promised`). By what the text reads as; of an accepted job by the model's promise.
 use Prim.Native.Nat.{ℕ, _≤_, _<_}
-use mathlib.Core.Path.{_≡_, refl, sym, ap, ap₂, _∙_, subst}
+use mathlib.Core.Path.{_≡_, refl, sym, ap, _∙_, subst}
 use mathlib.Core.List.{List, []}
-use mathlib.Core.Logic.{_↔_}
 use native.Mathlib.Omega.{arith}
 use native.Mathlib.Decide.{decLt}
 use borrow.Author.Tests.{lt-ltb, le-ltb}
 use Rattle.lines.specs.Parser.{Outcome, accepted, refused}
+use Rattle.lines.proofs.Outcomes.{one-value, not-both}
 use Rattle.model.specs.Model.{Job, HasPlan}
 use Rattle.model.specs.Promise as model
 use Rattle.model.specs.Promise.{Answer, no-plan, cut-none, cut, optimum, resultOf, wholeCount, answerOf}
 use Rattle.model.proofs.Promised.{promise}
 use Rattle.job_text.specs.Grammar.{Given, readJob}
-use Rattle.job_text.specs.Views.{emptyJob}
 use Rattle.job_text.proofs.Numbered.{fault}
-use Rattle.answers.specs.Said.{Said, Refuses, noPlan, plainly, refusal, saidOf, lent}
+use Rattle.answers.specs.Said.{plainly, lent}
 use Rattle.answers.proofs.Replies.{refuses}
 use Rattle.planning.specs.Plan.{saidFor, onJob, planSaid, planRoom}
 use Rattle.planning.specs.Promise.{Reading, jobIn, walkIn, Answers, PlanPromise}
-
-never : {A X : Type 0} {a : A} {n l : ℕ} → _≡_ {A = Outcome A} (accepted a) (refused n l) → X
-never e = let z : _≡_ {A = ℕ} 0 1 = cc in absurd (omega arith)
 
 -- the result number that is handed over is the answer's
 pub result-is : (job : Job) (a : Answer) → saidFor job a .result ≡ resultOf a
@@ -54,7 +50,7 @@ module _ (text : List ℕ) (room : ℕ) where
     says-7 = (λ f. absurd (omega (arith, k)), λ r. no (r .1 .0));
     says-0 = (λ f. absurd (omega (arith, k)), λ r. no (r .1 .0));
     answers = λ m r. no r;
-    job-fault = λ m i j f. same i j (sym e ∙ f);
+    job-fault = λ m i j f. refuses 1 text e f;
     any-walk = λ f r. no r;
   }
     where
@@ -62,10 +58,7 @@ module _ (text : List ℕ) (room : ℕ) where
       k = fault text n l e .0
 
       no : {X : Type 0} → Reading text → X
-      no r = never (sym (r .is) ∙ e)
-
-      same : (i j : ℕ) → _≡_ {A = Outcome Given} (refused n l) (refused i j) → Refuses 1 text i j (onJob text (refused n l))
-      same i j x = let p : n ≡ i = cc in let q : l ≡ j = cc in refuses emptyJob noPlan 1 text n l i j p q
+      no r = not-both (r .is) e
 
   module _ (h : planRoom ≤ room) (g : Given) (eg : readJob text ≡ accepted g) where
     abbrev here : Reading text
@@ -73,7 +66,7 @@ module _ (text : List ℕ) (room : ℕ) where
 
     -- any reading is this one
     given-is : (r : Reading text) → r .given ≡ g
-    given-is r = let x : accepted (r .given) ≡ accepted g = sym (r .is) ∙ eg in cc
+    given-is r = one-value eg (r .is)
 
     abbrev answer : Answer
     answer = answerOf (g .job) (g .walk)
@@ -109,7 +102,7 @@ module _ (text : List ℕ) (room : ℕ) where
         λ r. result-is (g .job) answer ∙ promises .says-0 .1 (moved (λ x. HasPlan (x .job) × (wholeCount (x .job) ≤ x .walk)) (r .1 .0) (r .1 .1)),
       );
       answers = λ m r. subst (λ (x : Given). Answers (x .job) (x .walk) (saidFor (g .job) answer)) (sym (given-is r)) (record { answer = answer; promise = promises; says = refl });
-      job-fault = λ m n l e. never (sym eg ∙ e);
+      job-fault = λ m n l e. not-both eg e;
       any-walk = λ e r other q j w. room-is other ∙ alike (number e) r other q j w;
     }
 

@@ -1,17 +1,14 @@
 -- `judge`: a fault of the job text is refused; else the plan text is judged against the job. The promise holds of the defined answer.
-use Prim.Native.Nat.{_<_}
-use mathlib.Core.Path.{_≡_, sym, ap, _∙_, subst}
+use mathlib.Core.Path.{_≡_}
 use native.Mathlib.Omega.{arith}
 use lib.ListN.{length}
-use Rattle.lines.specs.Parser.{Outcome, accepted, refused}
-use Rattle.lines.specs.Cursor.{judged}
-use Rattle.lines.specs.declared.rows.Verdict.{Verdict}
-use Rattle.job_text.specs.Grammar.{Given, readJob}
-use Rattle.job_text.specs.Views.{jobOf, emptyJob}
+use Rattle.lines.specs.Parser.{accepted, refused}
+use Rattle.lines.proofs.Outcomes.{told}
+use Rattle.job_text.specs.Grammar.{readJob}
+use Rattle.job_text.specs.Views.{jobOf}
 use Rattle.job_text.proofs.Accepted.{valid}
 use Rattle.job_text.proofs.Numbered.{fault}
-use Rattle.answers.specs.Said.{saidOf, noPlan, Replied}
-use Rattle.judging.specs.Judge.{onJob, judgeOutcome, judgeRoom}
+use Rattle.judging.specs.Judge.{judgeOutcome}
 use Rattle.judging.proofs.Promised.{promised}
 use borrow.Author.Needs.{needs}
 use Rattle.judging.proofs.judge.Statement.{statement}
@@ -19,15 +16,11 @@ use Rattle.judging.proofs.judge.Tie as tie
 
 -- what the job text reads as, by the verdict on it
 refused-job : (c : tie.After-verdict) → readJob (c .before .before .before .before .before .before .args .job .now) ≡ refused (c .verdict .given .0 .0) (c .verdict .given .0 .1 .0)
-refused-job c =
-    let r = c .before .before .read-job in
-    sym (r .ensures .is) ∙ ap (λ (v : Verdict). judged v (record { walk = r .result .walk; job = jobOf (r .result .job) })) (c .verdict .given .1)
+refused-job c = told _ (c .before .before .read-job .ensures .is) (c .verdict .given .1)
 
 accepted-job : (c : tie.After-enum-told) → let r = c .before .before .read-job .result in
     readJob (c .before .before .before .before .before .before .args .job .now) ≡ accepted (record { walk = r .walk; job = jobOf (r .job) })
-accepted-job c =
-    let r = c .before .before .read-job in
-    sym (r .ensures .is) ∙ ap (λ (v : Verdict). judged v (record { walk = r .result .walk; job = jobOf (r .result .job) })) (c .enum-told .given .1)
+accepted-job c = told _ (c .before .before .read-job .ensures .is) (c .enum-told .given .1)
 
 read-job-requires : tie.Need-read-job-requires
 read-job-requires c κs = search needs
@@ -51,11 +44,7 @@ returns : tie.Need-returns
 unfolding judgeOutcome
 returns c =
     let a = c .before .before .before .before .before .before .before .before .before .before .before .args in
-    let r = c .before .before .refuse in (
-      subst (λ (x : Outcome Given). Replied judgeRoom (saidOf emptyJob noPlan (onJob (a .job .now) (a .plan .now) x)) (a .out .now) (r .last .1 .1 .1 .1 .0) (r .result))
-          (sym (refused-job (c .before .before .before .before .before))) (r .ensures),
-      promised (a .job .now) (a .plan .now) (length (a .out .now)),
-    )
+    (rw (refused-job (c .before .before .before .before .before)) (c .before .before .refuse .ensures), promised (a .job .now) (a .plan .now) (length (a .out .now)))
 
 same-length-2 : tie.Need-same-length-2
 same-length-2 c = search needs
@@ -64,11 +53,7 @@ returns-2 : tie.Need-returns-2
 unfolding judgeOutcome
 returns-2 c =
     let a = c .before .before .before .before .before .before .before .before .before .before .before .args in
-    let r = c .before .before .judge-plan in (
-      subst (λ (x : Outcome Given). Replied judgeRoom (saidOf emptyJob noPlan (onJob (a .job .now) (a .plan .now) x)) (a .out .now) (r .last .1 .1 .0) (r .result))
-          (sym (accepted-job (c .before .before .before .before .before))) (r .ensures),
-      promised (a .job .now) (a .plan .now) (length (a .out .now)),
-    )
+    (rw (accepted-job (c .before .before .before .before .before)) (c .before .before .judge-plan .ensures), promised (a .job .now) (a .plan .now) (length (a .out .now)))
 
 pub judge-spec : {M : Type 1} → statement M
 judge-spec =

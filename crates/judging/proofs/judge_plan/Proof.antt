@@ -1,20 +1,18 @@
 -- `judge_plan`: a fault of the plan text is refused; else the judgement is the model's, and its outcome is written.
-use Prim.Native.Nat.{_<_}
 use mathlib.Core.Path.{_≡_, refl, sym, ap, _∙_, subst}
 use native.Mathlib.Omega.{arith}
 use Rattle.lines.specs.Parser.{accepted, refused}
-use Rattle.lines.specs.Cursor.{judged}
-use Rattle.lines.specs.declared.rows.Verdict.{Verdict}
-use Rattle.model.specs.Verdict.{Judgement, judgedOf}
-use Rattle.job_text.specs.Views.{jobOf, emptyJob}
+use Rattle.lines.proofs.Outcomes.{told}
+use Rattle.model.specs.Verdict.{judgedOf}
+use Rattle.job_text.specs.Views.{jobOf}
 use Rattle.plan_text.specs.Grammar.{readPlan}
 use Rattle.plan_text.specs.Views.{planFor, statedFor}
 use Rattle.plan_text.proofs.Numbered.{fault}
 use Rattle.verdict.proofs.Limits.{judged-limited}
-use Rattle.answers.specs.Said.{Said, saidOf, noPlan, Replied}
+use Rattle.answers.specs.Said.{Said, saidOf, Replied}
 use Rattle.answers.specs.Fits.{Fits}
 use Rattle.answers.specs.declared.Outcome.{Outcome}
-use Rattle.judging.specs.Judge.{outcomeOf, onPlan, judgeRoom}
+use Rattle.judging.specs.Judge.{outcomeOf, judgeRoom}
 use Rattle.judging.proofs.Outcomes.{fits, bare}
 use borrow.Author.Needs.{needs}
 use Rattle.judging.proofs.judge_plan.Statement.{statement}
@@ -22,17 +20,11 @@ use Rattle.judging.proofs.judge_plan.Tie as tie
 
 -- what the plan text reads as, by the verdict on it
 refused-plan : (c : tie.After-verdict) → let a = c .before .before .before .before .before .args in readPlan (jobOf (a .job)) (a .plan .now) ≡ refused (c .verdict .given .0 .0) (c .verdict .given .0 .1 .0)
-refused-plan c =
-    let a = c .before .before .before .before .before .args in
-    let r = c .before .before .read-plan in
-    sym (r .ensures) ∙ ap (λ (v : Verdict). judged v (statedFor (a .job) (r .result .cost) (r .result .plan))) (c .verdict .given .1)
+refused-plan c = told _ (c .before .before .read-plan .ensures) (c .verdict .given .1)
 
 accepted-plan : (c : tie.After-enum-told) → let a = c .before .before .before .before .before .args in let r = c .before .before .read-plan .result in
     readPlan (jobOf (a .job)) (a .plan .now) ≡ accepted (statedFor (a .job) (r .cost) (r .plan))
-accepted-plan c =
-    let a = c .before .before .before .before .before .args in
-    let r = c .before .before .read-plan in
-    sym (r .ensures) ∙ ap (λ (v : Verdict). judged v (statedFor (a .job) (r .result .cost) (r .result .plan))) (c .enum-told .given .1)
+accepted-plan c = told _ (c .before .before .read-plan .ensures) (c .enum-told .given .1)
 
 -- the outcome is the judgement's
 found : (c : tie.After-outcome-of) → let a = c .before .before .before .before .before .before .before .before .args in let r = c .before .before .before .before .before .read-plan .result in
