@@ -53,7 +53,7 @@ offers-all (s ∷ ss) ps fs h =
 
 module _ (life end first : ℤ) (ss : List ℤ) (ps : List ℕ) (fs : List Bool) (tab t₀ t₁ t₂ t₃ : List ℕ) (q : ℕ) (few : length ss ≤ 64) (all : (k : ℕ) → getD fs k true ≡ true) (p : length ps ≡ length ss) (cheap : (j : ℕ) → getD ps j 0 ≤ top)
     (s : Suffixes life end first ss ps fs tab 0)
-    (w₁ : Wrote (λ (y : ℕ). min (getD tab y 0) inf) t₀ t₁ q 0 blockRows)
+    (w₁ : Wrote (λ (y : ℕ). min (getD tab y 0) inf) t₀ t₁ q 0 ((length ss + 1) * markCount))
     (w₂ : Wrote (reachAt life first ss) t₁ t₂ q blockRows (blockRows + length ss * markCount))
     (w₃ : Wrote (λ (y : ℕ). getD ps (y - priceRow) 0) t₂ t₃ q priceRow (priceRow + length ps)) where
   suffix : (j i : ℕ) → i ≤ j → j ≤ length ss → Coded (top * (length ss - j)) (getD t₃ (place suffixBase j i q) 0) (leastOf life end (markOf first ss i) (drop j (offers ss ps [])))

@@ -70,12 +70,12 @@ fn reach(life: i32, first: i32, positions: &[i32], j: usize, i: usize) -> u32
     }
 }
 
-// One lane of the suffix prices, from a part's own table.
-fn put_suffixes(tab: &[u64], q: usize, t: &mut [u32])
-    requires { ⌜ (blockRows ≤ length (now tab)) × (q < laneCount) × (length (now t) ≡ tablesSize) ⌝ }
-    ensures { λ _. ⌜ Wrote (λ (y : ℕ). min (getD (now (tab .entry)) y 0) inf) (now (t .entry)) (now (t .exit)) q 0 blockRows ⌝ }
+// One lane of the first m rows of the suffix prices, from a part's own table.
+fn put_suffixes(tab: &[u64], m: usize, q: usize, t: &mut [u32])
+    requires { ⌜ (m ≤ blockRows) × (blockRows ≤ length (now tab)) × (q < laneCount) × (length (now t) ≡ tablesSize) ⌝ }
+    ensures { λ _. ⌜ Wrote (λ (y : ℕ). min (getD (now (tab .entry)) y 0) inf) (now (t .entry)) (now (t .exit)) q 0 m ⌝ }
 {
-    for y in 0..BLOCK_ROWS {
+    for y in 0..m {
         t[y * LANES + q] = capped(tab[y]);
     }
 }
@@ -123,7 +123,7 @@ fn fill_lane(
     let all = [true; 64];
     let n = positions.len();
     least::fill(life, end, first, positions, prices, &all[..n], tab);
-    put_suffixes(tab, q, t);
+    put_suffixes(tab, (n + 1) * MARKS, q, t);
     put_reach(life, first, positions, q, t);
     put_prices(prices, q, t);
 }

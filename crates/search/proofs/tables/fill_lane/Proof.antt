@@ -25,6 +25,12 @@ fill-requires c κs =
       record { few = b .pre .0 .1; prices = b .pre .0 .2; flags = all-length (length (b .args .positions .now)) 64 (b .pre .0 .1); small = marks-back (b .args .first) (b .args .positions .now) (b .fits .first) (b .pre .0 .4) },
     )
 
+add-put-suffixes : tie.Need-add-put-suffixes
+add-put-suffixes c = search needs
+
+mul-put-suffixes : tie.Need-mul-put-suffixes
+mul-put-suffixes c = search needs
+
 put-suffixes-requires : tie.Need-put-suffixes-requires
 put-suffixes-requires c κs = search needs
 
@@ -51,7 +57,7 @@ returns c =
     let F = toZ w32 (ofZ w32 (a .first)) in
     let n = length (a .positions .now) in
     filled-as E L F (a .positions .now) (a .prices .now) (a .end) (a .life) (a .first) (a .prices .now) (a .t .now) (c .before .before .put-prices .last .1 .1 .0) (a .q) (toZ-ofZ (b .fits .end)) (toZ-ofZ (b .fits .life)) (toZ-ofZ (b .fits .first)) refl
-    (lane-done L E F (a .positions .now) (a .prices .now) (take n (replicate 64 true)) (c .before .before .before .before .before .before .before .before .before .before .before .before .before .before .before .fill .last .1 .1 .1 .1 .1 .1 .0) (a .t .now) (c .before .before .before .before .before .before .before .before .before .before .put-suffixes .last .1 .1 .0) (c .before .before .before .before .before .before .put-reach .last .1 .1 .1 .1 .0) (c .before .before .put-prices .last .1 .1 .0) (a .q)
+    (lane-done L E F (a .positions .now) (a .prices .now) (take n (replicate 64 true)) (c .before .before .before .before .before .before .before .before .before .before .before .before .before .before .before .fill .last .1 .1 .1 .1 .1 .1 .0) (a .t .now) (c .before .before .before .before .before .before .before .before .before .before .put-suffixes .last .1 .1 .1 .0) (c .before .before .before .before .before .before .put-reach .last .1 .1 .1 .1 .0) (c .before .before .put-prices .last .1 .1 .0) (a .q)
     (b .pre .0 .1) (all-true n 64) (b .pre .0 .2) (b .pre .1 .2) (c .before .before .before .before .before .before .before .before .before .before .before .before .before .before .before .fill .ensures) (c .before .before .before .before .before .before .before .before .before .before .put-suffixes .ensures) (c .before .before .before .before .before .before .put-reach .ensures) (c .before .before .put-prices .ensures))
 
 pub fill-lane-spec : {M : Type 1} → statement M
@@ -61,6 +67,8 @@ fill-lane-spec =
     array-share-prefix-all
     slice-aggregate-fill
     fill-requires
+    add-put-suffixes
+    mul-put-suffixes
     put-suffixes-requires
     put-reach-requires
     put-prices-requires

@@ -7,14 +7,14 @@ use lib.ListN.{getD}
 use Rattle.search.specs.Fill.{Wrote}
 use Rattle.search.proofs.Writing.{wrote-none, wrote-more}
 use Rattle.search.proofs.tables.put_suffixes.Statement.{statement}
-use Rattle.walk.specs.Layout.{inf, blockRows}
+use Rattle.walk.specs.Layout.{inf}
 use Rattle.search.proofs.tables.put_suffixes.Tie as tie
 
 abbrev Inv-loop : tie.InvT-loop
-Inv-loop tab q t₀ y₀ t y = (y ≤ blockRows) × Wrote (λ (y : ℕ). min (getD tab y 0) inf) t₀ t q 0 y
+Inv-loop tab m q t₀ y₀ t y = (y ≤ m) × Wrote (λ (y : ℕ). min (getD tab y 0) inf) t₀ t q 0 y
 
 abbrev μ-loop : tie.MeasureT-loop
-μ-loop tab q t₀ y₀ t y = blockRows - y
+μ-loop tab m q t₀ y₀ t y = m - y
 
 loop-holds : tie.Need-loop-holds Inv-loop μ-loop
 loop-holds c = let a = c .before .before .args in (omega arith, wrote-none (λ (y : ℕ). min (getD (a .tab .now) y 0) inf) (a .t .now) (a .q) 0)
@@ -59,7 +59,7 @@ returns : tie.Need-returns Inv-loop μ-loop
 returns c =
     let a = c .before .before .before .before .args in
     let l = c .before .loop in
-    let z : l .y ≡ blockRows = omega arith in
+    let z : l .y ≡ a .m = omega arith in
     subst (Wrote (λ (y : ℕ). min (getD (a .tab .now) y 0) inf) (a .t .now) (l .t) (a .q) 0) z (l .inv .1)
 
 pub put-suffixes-spec : {M : Type 1} → statement M
