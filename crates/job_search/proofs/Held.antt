@@ -20,7 +20,7 @@ use Rattle.clock.specs.declared.Positions.{Positions}
 use Rattle.job_text.proofs.Jobs.{Whole, blankOpening, opening-count, part-count, part-at, seen-count, valid-part, valid-parts}
 use Rattle.clock.proofs.Places.{position-count}
 use Rattle.clock.proofs.Ranges.{position-small}
-use Rattle.least.proofs.Table.{there}
+use Rattle.model.proofs.Bools.{there}
 use Rattle.walk.specs.Layout.{top}
 use Rattle.search.specs.Arrays.{priceStride, longestLife, laneValue, partAt, Arrays, Holds}
 use Rattle.job_search.specs.Laid.{lifeOf, leftOf, Laid}

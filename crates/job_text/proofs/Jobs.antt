@@ -1,6 +1,6 @@
 -- The job that a struct holds, place by place: as many openings and parts as it counts, each valid where the job is. By the laws of `map` and `take`, and the arrays' lengths, which a function's arguments tell.
 use Prim.Native.Nat.{ℕ, zero, suc, _≤_, _<_}
-use mathlib.Core.Path.{_≡_, refl, sym, ap, subst, _∙_}
+use mathlib.Core.Path.{_≡_, sym, ap, subst, _∙_}
 use mathlib.Core.List.{List, [], _∷_, map}
 use native.Mathlib.Omega.{arith}
 use lib.ListN.{length, getD, take, length-map, List·getD-map}
@@ -17,19 +17,18 @@ use Rattle.job_text.specs.declared.Part.{Part}
 use Rattle.job_text.specs.declared.Job.{Job}
 use Rattle.model.specs.Model as model
 use Rattle.model.specs.Verdict.{noPart}
+use Rattle.model.proofs.Bools.{there}
 
 -- ---- lists
 
 -- what holds of each holds at each place
-all-at : {A : Type 0} (P : A → Type 0) (l : List A) (d : A) (i : ℕ) → All P l → i < length l → P (getD l i d)
+pub all-at : {A : Type 0} (P : A → Type 0) (l : List A) (d : A) (i : ℕ) → All P l → i < length l → P (getD l i d)
 all-at P [] d i h l = absurd (omega arith)
 all-at P (x ∷ xs) d zero h l = h .0
 all-at P (x ∷ xs) d (suc i) h l = all-at P xs d i (h .1) (omega arith)
 
 map-at : {A B : Type 0} (f : A → B) (l : List A) (i : ℕ) (d : A) (e : B) → i < length l → getD (map f l) i e ≡ f (getD l i d)
-map-at f [] i d e h = absurd (omega arith)
-map-at f (x ∷ xs) zero d e h = refl
-map-at f (x ∷ xs) (suc i) d e h = map-at f xs i d e (omega arith)
+map-at f l i d e h = there (map f l) i e (f d) (rw length-map h) ∙ List·getD-map f l i d
 
 module _ {A B : Type 0} (f : A → B) (l : List A) (n : ℕ) (h : n ≤ length l) where
   -- the first n, seen through f

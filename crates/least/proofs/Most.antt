@@ -11,7 +11,8 @@ use Rattle.branch.specs.declared.Bound.{Bound}
 use Rattle.branch.specs.declared.Bound.the-variants.{Missing, Sum}
 use Rattle.model.specs.Model.{within}
 use Rattle.model.specs.LowerBound.{Offer, pick, plus, lowerThan, changeAt, leastOf, offers}
-use Rattle.least.proofs.Table.{after-one, offers-length}
+use Rattle.model.proofs.Offers.{offers-length}
+use Rattle.model.proofs.Bools.{after-one}
 
 -- a price, where there is one, is at most b
 abbrev pub AtMost : ℕ → Bound → Type 0

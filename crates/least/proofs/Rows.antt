@@ -16,7 +16,9 @@ use Rattle.model.specs.Model.{within}
 use Rattle.model.specs.LowerBound.{Offer, pick, plus, lower, lowerThan, leastOf, offers}
 use Rattle.least.specs.Marks.{markOf}
 use Rattle.least.specs.Suffix.{tableSize, cell, missing, ofCode, codeOf, rowOf, endOf, Rowed, Suffixes, changesIn}
-use Rattle.least.proofs.Table.{offerAt, offers-drop, there, offers-length, least-cons, least-nil, changesAt}
+use Rattle.model.proofs.Bools.{there}
+use Rattle.model.proofs.Offers.{offers-length}
+use Rattle.least.proofs.Table.{offerAt, offers-drop, least-cons, least-nil, changesAt}
 use Rattle.least.proofs.Most.{AtMost, most-least}
 
 module _ (f : ℕ → ℕ) (tab₀ : List ℕ) (j : ℕ) where

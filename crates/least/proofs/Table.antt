@@ -11,16 +11,12 @@ use lib.IntN.{ℤ, pos}
 use Rattle.branch.specs.declared.Bound.the-variants.{Missing, Sum}
 use Rattle.model.specs.Model.{within}
 use Rattle.model.specs.LowerBound.{Offer, pick, lower, lowerThan, changeAt, leastOf, choiceOf, offers}
+use Rattle.model.proofs.Bools.{after-one}
 use Rattle.least.specs.Marks.{markOf}
 
 -- opening k of the three lists
 abbrev pub offerAt : List ℤ → List ℕ → List Bool → ℕ → Offer
 offerAt ss ps fs k = record { position = getD ss k (pos 0); price = getD ps k 0; allowed = getD fs k true }
-
--- the lists of the openings after the first
-pub after-one : {A : Type 0} (l : List A) (k : ℕ) (d : A) → getD (drop 1 l) k d ≡ getD l (suc k) d
-after-one [] k d = refl
-after-one (x ∷ l) k d = refl
 
 pub offers-drop : (ss : List ℤ) (ps : List ℕ) (fs : List Bool) (k : ℕ) → k < length ss → drop k (offers ss ps fs) ≡ offerAt ss ps fs k ∷ drop (suc k) (offers ss ps fs)
 unfolding offers
@@ -29,17 +25,6 @@ offers-drop (s ∷ ss) ps fs zero h = refl
 offers-drop (s ∷ ss) ps fs (suc k) h =
     offers-drop ss (drop 1 ps) (drop 1 fs) k (omega arith)
     ∙ ap₂ (λ (x : ℕ) (y : Bool). record { position = getD ss k (pos 0); price = x; allowed = y } ∷ drop (suc k) (offers ss (drop 1 ps) (drop 1 fs))) (after-one ps k 0) (after-one fs k true)
-
-pub offers-length : (ss : List ℤ) (ps : List ℕ) (fs : List Bool) → length (offers ss ps fs) ≡ length ss
-unfolding offers
-offers-length [] ps fs = refl
-offers-length (s ∷ ss) ps fs = ap suc (offers-length ss (drop 1 ps) (drop 1 fs))
-
--- an element that is there, whatever stands for one that is not
-pub there : {A : Type 0} (l : List A) (k : ℕ) (d e : A) → k < length l → getD l k d ≡ getD l k e
-there [] k d e h = absurd (omega arith)
-there (x ∷ l) zero d e h = refl
-there (x ∷ l) (suc k) d e h = there l k d e (omega arith)
 
 -- ---- the table's step
 

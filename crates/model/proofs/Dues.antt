@@ -1,7 +1,7 @@
 -- The due step of a part that is not kept: of the steps of the horizon it is the last at which a change would still have kept the part. Its changes' positions are not negative, and
 -- none is past the end, by recursion over the openings.
 use mathlib.Core.Path.{_≡_, refl, sym, subst, _∙_}
-use mathlib.Core.Bool.{Bool, true, false}
+use mathlib.Core.Bool.{Bool, true, false, false≢true}
 use mathlib.Core.List.{List, [], _∷_, _++_, map}
 use mathlib.Core.Logic.{_↔_}
 use Prim.Native.Nat.{ℕ, _+_, _≤_}
@@ -10,7 +10,6 @@ use lib.IntN.{ℤ, pos}
 use Rattle.model.specs.Model.{Opening, Part, Job, clock, positions, end, lastChange, within, select}
 use Rattle.model.specs.Windows.{Rising, stepsOf}
 use Rattle.model.specs.Verdict.{lastOf, nextOf, PartGap}
-use Rattle.model.proofs.Bools.{no-true}
 use Rattle.model.proofs.Integers.{AtMostℤ, difference}
 use Rattle.model.proofs.Positions.{never-falls, in-range, within-earlier, Dues, due-last, due-most}
 
@@ -86,5 +85,5 @@ module _ (job : Job) (part : Part) (changes : List Bool) (due : ℕ) (gap : Part
       where
         past : (t : Bool) → within (pos (part .life)) before-gap (end job) ≡ t → t ≡ false
         past true e =
-            no-true (sym (gap .over-life) ∙ within-earlier (pos (part .life)) before-gap (nextOf (end job) (gap .after)) (end job) next-by-end e)
+            absurd (false≢true (sym (gap .over-life) ∙ within-earlier (pos (part .life)) before-gap (nextOf (end job) (gap .after)) (end job) next-by-end e))
         past false e = refl

@@ -1,13 +1,12 @@
 -- Order and differences of integers as facts of natural numbers, where omega reads them: z is `up z` less `down z`. By cases on the signs.
 use mathlib.Core.Path.{_≡_, refl}
-use mathlib.Core.Bool.{Bool, true, false, cond}
+use mathlib.Core.Bool.{Bool, true, false, cond, false≢true}
 use Prim.Native.Nat.{ℕ, zero, suc, _+_, _-_, _≤_}
 use native.Mathlib.Omega.{arith}
 use lib.Dec.{ltb}
 use borrow.Author.Tests.{ltb-true, ltb-false, leb-true, le-leb}
 use lib.IntN.{ℤ, pos, negsuc, natAbs, subℕ, _+ℤ_, _-ℤ_}
 use lib.Signed.{leZ}
-use Rattle.model.proofs.Bools.{no-true}
 
 abbrev pub up : ℤ → ℕ
 up (pos n) = n
@@ -23,7 +22,7 @@ AtMostℤ x y = up x + down y ≤ up y + down x
 
 pub at-most : (x y : ℤ) → leZ x y ≡ true → AtMostℤ x y
 at-most (pos a) (pos b) e = omega (arith, leb-true a b e)
-at-most (pos a) (negsuc b) e = no-true e
+at-most (pos a) (negsuc b) e = absurd (false≢true e)
 at-most (negsuc a) (pos b) e = omega arith
 at-most (negsuc a) (negsuc b) e = omega (arith, leb-true b a e)
 

@@ -1,6 +1,6 @@
 -- One part over its offers: `leastOf` is the least price over all change sets that keep it, and `choiceOf` is the one that the tie rule takes. By recursion over the offers.
 use mathlib.Core.Path.{_≡_, refl, ap, _∙_}
-use mathlib.Core.Bool.{Bool, true, false, _&&_}
+use mathlib.Core.Bool.{Bool, true, false, _&&_, and-eq-true-iff}
 use mathlib.Core.List.{List, [], _∷_}
 use mathlib.Core.Logic.{_⊎_, inl, inr, ⊎-elim}
 use Prim.Native.Nat.{ℕ, suc, _+_}
@@ -15,7 +15,6 @@ use Rattle.branch.specs.Search.{NoMore, Before, here, there}
 use Rattle.branch.proofs.Bounds.{no-sum}
 use Rattle.model.specs.Model.{within, kept}
 use Rattle.model.specs.LowerBound.{Offer, pick, plus, lowerThan, lower, changeAt, leastOf, choiceOf}
-use Rattle.model.proofs.Bools.{and-split, and-join}
 
 -- ---- change sets over offers: their positions, whether each change is allowed, their price
 
@@ -87,15 +86,15 @@ module _ (life end prev : ℤ) (o : Offer) (os : List Offer) (cs : List Bool) wh
   change-off : Keeps life end prev (o ∷ os) (true ∷ cs) → ((o .allowed && within life prev (o .position)) ≡ true) × Keeps life end (o .position) os cs
   unfolding positionsOf allAllowed kept
   change-off k =
-      let a = and-split (o .allowed) (allAllowed os cs) (k .only) in
-      let w = and-split (within life prev (o .position)) (kept life end (o .position) (positionsOf os cs)) (k .lives) in
-      (and-join (o .allowed) (within life prev (o .position)) (a .0) (w .0), record { size = omega (arith, k .size); only = a .1; lives = w .1 })
+      let a = and-eq-true-iff (o .allowed) (allAllowed os cs) .0 (k .only) in
+      let w = and-eq-true-iff (within life prev (o .position)) (kept life end (o .position) (positionsOf os cs)) .0 (k .lives) in
+      (and-eq-true-iff (o .allowed) (within life prev (o .position)) .1 (a .0, w .0), record { size = omega (arith, k .size); only = a .1; lives = w .1 })
 
   change-on : (o .allowed && within life prev (o .position)) ≡ true → Keeps life end (o .position) os cs → Keeps life end prev (o ∷ os) (true ∷ cs)
   unfolding positionsOf allAllowed kept
   change-on t k =
-      let a = and-split (o .allowed) (within life prev (o .position)) t in
-      record { size = ap suc (k .size); only = and-join (o .allowed) (allAllowed os cs) (a .0) (k .only); lives = and-join (within life prev (o .position)) (kept life end (o .position) (positionsOf os cs)) (a .1) (k .lives) }
+      let a = and-eq-true-iff (o .allowed) (within life prev (o .position)) .0 t in
+      record { size = ap suc (k .size); only = and-eq-true-iff (o .allowed) (allAllowed os cs) .1 (a .0, k .only); lives = and-eq-true-iff (within life prev (o .position)) (kept life end (o .position) (positionsOf os cs)) .1 (a .1, k .lives) }
 
 -- ---- no keeping change set costs less
 

@@ -1,6 +1,6 @@
 -- The model's change sets against the offers that the bound looks at: same positions, same prices, and allowed means at a stop. By recursion over the positions.
 use mathlib.Core.Path.{_≡_, refl, sym, ap, subst, _∙_}
-use mathlib.Core.Bool.{Bool, true, false}
+use mathlib.Core.Bool.{Bool, true, false, and-eq-true-iff, false≢true}
 use mathlib.Core.List.{List, [], _∷_}
 use mathlib.Core.Logic.{_⊎_}
 use Prim.Native.Nat.{ℕ, zero, suc, _+_, _≤_}
@@ -15,7 +15,7 @@ use Rattle.model.specs.Model.{Part, Job, positions, lastChange, end, kep
 use Rattle.model.specs.LowerBound.{offers, partOffers, partBound, partChoice}
 use Rattle.model.proofs.Least.{positionsOf, allAllowed, priceOf, Keeps, AtMost, optimal, sound, tie}
 use Rattle.model.proofs.Positions.{positions-size}
-use Rattle.model.proofs.Bools.{no-true, next, inside, yes-open, open-yes, and-split, and-join}
+use Rattle.model.proofs.Bools.{after-one, inside, yes-open, open-yes}
 
 -- ---- positions, prices, allowed
 
@@ -26,7 +26,7 @@ positions-same (s ∷ ss) ns p [] = refl
 positions-same (s ∷ ss) ns p (false ∷ cs) = positions-same ss (drop 1 ns) (drop 1 p) cs
 positions-same (s ∷ ss) ns p (true ∷ cs) = ap (λ (l : List ℤ). s ∷ l) (positions-same ss (drop 1 ns) (drop 1 p) cs)
 
-sum-none : (cs : List Bool) → sumAt [] cs ≡ 0
+pub sum-none : (cs : List Bool) → sumAt [] cs ≡ 0
 unfolding sumAt
 sum-none [] = refl
 sum-none (c ∷ cs) = refl
@@ -50,29 +50,29 @@ prices-same (s ∷ ss) ns p [] h = absurd (omega arith)
 prices-same (s ∷ ss) ns p (false ∷ cs) h = prices-same ss (drop 1 ns) (drop 1 p) cs (suc-inj h) ∙ sym (sum-false ns cs)
 prices-same (s ∷ ss) ns p (true ∷ cs) h = ap (λ (n : ℕ). getD ns 0 0 + n) (prices-same ss (drop 1 ns) (drop 1 p) cs (suc-inj h)) ∙ sym (sum-true ns cs)
 
-pub length-offers : (ss : List ℤ) (ns : List ℕ) (p : List Bool) → length (offers ss ns p) ≡ length ss
+pub offers-length : (ss : List ℤ) (ns : List ℕ) (p : List Bool) → length (offers ss ns p) ≡ length ss
 unfolding offers
-length-offers [] ns p = refl
-length-offers (s ∷ ss) ns p = ap suc (length-offers ss (drop 1 ns) (drop 1 p))
+offers-length [] ns p = refl
+offers-length (s ∷ ss) ns p = ap suc (offers-length ss (drop 1 ns) (drop 1 p))
 
 allowed-open : (ss : List ℤ) (ns : List ℕ) (p cs : List Bool) → length cs ≡ length ss → allAllowed (offers ss ns p) cs ≡ true → (i : ℕ) → getD cs i false ≡ true → getD p i true ≡ true
 unfolding allAllowed offers
-allowed-open ss ns p [] h e zero t = no-true t
-allowed-open ss ns p [] h e (suc i) t = no-true t
+allowed-open ss ns p [] h e zero t = absurd (false≢true t)
+allowed-open ss ns p [] h e (suc i) t = absurd (false≢true t)
 allowed-open [] ns p (c ∷ cs) h e i t = absurd (omega arith)
-allowed-open (s ∷ ss) ns p (false ∷ cs) h e zero t = no-true t
-allowed-open (s ∷ ss) ns p (false ∷ cs) h e (suc i) t = sym (next p true i) ∙ allowed-open ss (drop 1 ns) (drop 1 p) cs (suc-inj h) e i t
-allowed-open (s ∷ ss) ns p (true ∷ cs) h e zero t = and-split (getD p 0 true) (allAllowed (offers ss (drop 1 ns) (drop 1 p)) cs) e .0
+allowed-open (s ∷ ss) ns p (false ∷ cs) h e zero t = absurd (false≢true t)
+allowed-open (s ∷ ss) ns p (false ∷ cs) h e (suc i) t = sym (after-one p i true) ∙ allowed-open ss (drop 1 ns) (drop 1 p) cs (suc-inj h) e i t
+allowed-open (s ∷ ss) ns p (true ∷ cs) h e zero t = and-eq-true-iff (getD p 0 true) (allAllowed (offers ss (drop 1 ns) (drop 1 p)) cs) .0 e .0
 allowed-open (s ∷ ss) ns p (true ∷ cs) h e (suc i) t =
-    sym (next p true i) ∙ allowed-open ss (drop 1 ns) (drop 1 p) cs (suc-inj h) (and-split (getD p 0 true) (allAllowed (offers ss (drop 1 ns) (drop 1 p)) cs) e .1) i t
+    sym (after-one p i true) ∙ allowed-open ss (drop 1 ns) (drop 1 p) cs (suc-inj h) (and-eq-true-iff (getD p 0 true) (allAllowed (offers ss (drop 1 ns) (drop 1 p)) cs) .0 e .1) i t
 
 open-allowed : (ss : List ℤ) (ns : List ℕ) (p cs : List Bool) → ((i : ℕ) → getD cs i false ≡ true → getD p i true ≡ true) → allAllowed (offers ss ns p) cs ≡ true
 unfolding allAllowed offers
 open-allowed [] ns p cs f = refl
 open-allowed (s ∷ ss) ns p [] f = refl
-open-allowed (s ∷ ss) ns p (false ∷ cs) f = open-allowed ss (drop 1 ns) (drop 1 p) cs (λ i t. next p true i ∙ f (suc i) t)
+open-allowed (s ∷ ss) ns p (false ∷ cs) f = open-allowed ss (drop 1 ns) (drop 1 p) cs (λ i t. after-one p i true ∙ f (suc i) t)
 open-allowed (s ∷ ss) ns p (true ∷ cs) f =
-    and-join (getD p 0 true) (allAllowed (offers ss (drop 1 ns) (drop 1 p)) cs) (f 0 refl) (open-allowed ss (drop 1 ns) (drop 1 p) cs (λ i t. next p true i ∙ f (suc i) t))
+    and-eq-true-iff (getD p 0 true) (allAllowed (offers ss (drop 1 ns) (drop 1 p)) cs) .1 (f 0 refl, open-allowed ss (drop 1 ns) (drop 1 p) cs (λ i t. after-one p i true ∙ f (suc i) t))
 
 -- ---- a part of a job
 
@@ -109,14 +109,14 @@ module _ (job : Job) (part : Part) where
 
     pub under : KeepsOver job part p cs → Kept
     under k = record {
-      size = k .size ∙ sym (positions-size job) ∙ sym (length-offers (positions job) (part .prices) p);
+      size = k .size ∙ sym (positions-size job) ∙ sym (offers-length (positions job) (part .prices) p);
       only = open-allowed (positions job) (part .prices) p cs (k .at-open);
       lives = ap (kept (pos (part .life)) (end job) (lastChange part)) (positions-same (positions job) (part .prices) p cs) ∙ k .lives;
     }
 
     pub over : Kept → KeepsOver job part p cs
     over k =
-        let size : length cs ≡ length (positions job) = k .size ∙ length-offers (positions job) (part .prices) p in
+        let size : length cs ≡ length (positions job) = k .size ∙ offers-length (positions job) (part .prices) p in
         record {
           size = size ∙ (positions-size job);
           at-open = allowed-open (positions job) (part .prices) p cs size (k .only);

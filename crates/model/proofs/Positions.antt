@@ -1,7 +1,7 @@
 -- The laws of positions: all that proofs use of `clock`, `within` and `dueOf`. By the definitions, read in natural numbers.
 use mathlib.Core.Path.{_≡_, refl, sym, _∙_}
 use mathlib.Core.Logic.{_↔_}
-use mathlib.Core.Bool.{true, false}
+use mathlib.Core.Bool.{true, false, false≢true}
 use mathlib.Core.List.{List, [], _∷_, map}
 use Prim.Native.Nat.{ℕ, zero, suc, _+_, _≤_, _<_}
 use native.Mathlib.Omega.{arith}
@@ -12,7 +12,6 @@ use lib.Signed.{leZ}
 use Rattle.model.specs.Model.{Opening, Job, clock, positions, end, within, dueOf}
 use Rattle.model.specs.Windows.{Rising, stepsOf}
 use Rattle.model.proofs.Integers.{up, down, AtMostℤ, at-most, at-most-test, sum, difference, absolute}
-use Rattle.model.proofs.Bools.{no-true}
 
 -- ---- the clock
 
@@ -112,5 +111,5 @@ module _ (job : Job) (life prev : ℤ) (h : Dues life prev) where
   due-most e = go (decLe (job .horizon + 1) (dueOf job life prev))
     where
       go : Dec (job .horizon + 1 ≤ dueOf job life prev) → dueOf job life prev ≤ job .horizon
-      go (yes l) = no-true (sym e ∙ near-within life prev (pos (job .horizon + 1)) (omega (arith, sum prev life, due-is)))
+      go (yes l) = absurd (false≢true (sym e ∙ near-within life prev (pos (job .horizon + 1)) (omega (arith, sum prev life, due-is))))
       go (no l) = omega arith

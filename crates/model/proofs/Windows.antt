@@ -1,16 +1,15 @@
 -- A set of changes keeps a part exactly if it changes it in each of the windows of 001 that end by step T. By recursion over the steps: the change before at `prev` and the step
 -- `due`, by which the next one must come, stand for the first window.
 use mathlib.Core.Path.{_≡_, refl, sym, ap, subst}
-use mathlib.Core.Bool.{Bool, true, false}
+use mathlib.Core.Bool.{Bool, true, false, and-eq-true-iff}
 use mathlib.Core.List.{List, [], _∷_, map}
-use mathlib.Core.Logic.{_⊎_, inl, inr, ⊎-elim, _↔_}
+use mathlib.Core.Logic.{inl, inr, ⊎-elim, _↔_}
 use Prim.Native.Nat.{ℕ, _+_, _≤_, _<_}
 use native.Mathlib.Omega.{arith}
 use native.Mathlib.Decide.{decLe}
 use lib.IntN.{ℤ, pos, _-ℤ_}
 use Rattle.model.specs.Model.{Opening, Part, Job, clock, lastChange, within, kept, keptBy, select}
 use Rattle.model.specs.Windows.{Rising, stepsOf, In, Changed, Windows}
-use Rattle.model.proofs.Bools.{and-split, and-join}
 use Rattle.model.proofs.Integers.{up, down, difference}
 use Rattle.model.proofs.Positions.{near, near-within}
 
@@ -54,7 +53,7 @@ module _ (T L : ℕ) (one : 1 ≤ L) where
       let e = due-near prev due (T + 1) d k in
       record { first = λ q. absurd (omega arith); later = λ n p q. absurd (omega arith) }
   to-windows (s ∷ ss) prev from due d l h r k =
-      let w = and-split (within (pos L) prev (pos s)) (kept (pos L) (pos (T + 1)) (pos s) (map pos ss)) k in
+      let w = and-eq-true-iff (within (pos L) prev (pos s)) (kept (pos L) (pos (T + 1)) (pos s) (map pos ss)) .0 k in
       let e = due-near prev due s d (w .0) in
       go e (to-windows ss (pos s) s (s + L) (omega arith) (omega arith) (omega arith) (r .2) (w .1))
     where
@@ -79,11 +78,13 @@ module _ (T L : ℕ) (one : 1 ≤ L) where
       go (yes x) = x
       go (no x) = absurd (f .first (omega arith) .1)
   from-windows (s ∷ ss) prev from due d l h r f =
-      and-join (within (pos L) prev (pos s)) (kept (pos L) (pos (T + 1)) (pos s) (map pos ss)) (near-due prev due s d (go (decLe s due)))
-      (from-windows ss (pos s) s (s + L) (omega arith) (omega arith) (omega arith) (r .2) (record {
-        first = λ q. drop-first s (s + 1) (s + L) ss (omega arith) (f .later s (r .0) q);
-        later = λ n p q. drop-first s (n + 1) (n + L) ss (omega arith) (f .later n (omega (arith, r .0)) q);
-      }))
+      and-eq-true-iff (within (pos L) prev (pos s)) (kept (pos L) (pos (T + 1)) (pos s) (map pos ss)) .1 (
+        near-due prev due s d (go (decLe s due)),
+        from-windows ss (pos s) s (s + L) (omega arith) (omega arith) (omega arith) (r .2) (record {
+          first = λ q. drop-first s (s + 1) (s + L) ss (omega arith) (f .later s (r .0) q);
+          later = λ n p q. drop-first s (n + 1) (n + L) ss (omega arith) (f .later n (omega (arith, r .0)) q);
+        }),
+      )
     where
       -- the first window is changed in at s or later
       go : Dec (s ≤ due) → s ≤ due

@@ -1,8 +1,8 @@
 -- Laws of tests of lists and of tables, by recursion over the list and by index.
-use Prim.Native.Nat.{ℕ, zero, suc, _+_, _≤_, _<_}
+use Prim.Native.Nat.{ℕ, zero, suc, _≤_, _<_}
 use mathlib.Core.Path.{_≡_, refl, sym, ap, ap₂, _∙_}
 use mathlib.Core.List.{List, [], _∷_, _++_, map}
-use mathlib.Core.Bool.{Bool, true, false, _||_, or-assoc, or-true, or-false}
+use mathlib.Core.Bool.{Bool, true, false, _||_, or-assoc, or-true, or-false, false≢true}
 use mathlib.Core.Logic.{⊎-elim}
 use native.Mathlib.Nat.{eq-or-lt-of-le, le-of-suc-le-suc}
 use native.Mathlib.Omega.{arith}
@@ -11,7 +11,6 @@ use lib.Dec.{eqb}
 use lib.ListN.{length, getD, take, set, replicate, length-append, length-set, length-map, List·getD-append, List·getD-map}
 use lib.Seq.{getD-at, getD-set-same, getD-set-other, ext-getD}
 use Rattle.lines.specs.Text.{joined}
-use Rattle.model.proofs.Bools.{no-true}
 use Rattle.plan_text.specs.Grammar.{any, tabulate}
 
 -- ---- some element passes, or none does
@@ -31,7 +30,7 @@ module _ {A : Type 0} (test : A → Bool) where
   -- where the first that passes stands
   pub any-index : (xs : List A) (d : A) → any test xs ≡ true → (i : ℕ) × (i < length xs) × (test (getD xs i d) ≡ true)
   unfolding any
-  any-index [] d e = no-true e
+  any-index [] d e = absurd (false≢true e)
   any-index (x ∷ xs) d e = go (test x) refl (any-index xs d)
     where
       go : (b : Bool) → test x ≡ b → (any test xs ≡ true → (i : ℕ) × (i < length xs) × (test (getD xs i d) ≡ true)) → (i : ℕ) × (i < length (x ∷ xs)) × (test (getD (x ∷ xs) i d) ≡ true)
@@ -86,12 +85,6 @@ module _ {A : Type 0} where
               let p = eqb-true i j q in
               ap (λ (k : ℕ). getD (set (tabulate f n) j x) k x) p ∙ getD-set-same (tabulate f n) j x x (omega (arith, table-length f n)) ∙ e ∙ ap g (sym p)
           go false q = let p = eqb-false i j q in getD-set-other (tabulate f n) j i x x p ∙ table-at f n i x l ∙ o i l p
-
--- inside a list the default does not matter
-pub getD-any : {A : Type 0} (xs : List A) (i : ℕ) (c d : A) → i < length xs → getD xs i c ≡ getD xs i d
-getD-any [] i c d h = absurd (omega arith)
-getD-any (x ∷ xs) zero c d h = refl
-getD-any (x ∷ xs) (suc i) c d h = getD-any xs i c d (omega arith)
 
 module _ {A B : Type 0} (f : A → B) where
   pub map-table : (xs : List A) (d : A) → map f xs ≡ tabulate (λ i. f (getD xs i d)) (length xs)

@@ -11,13 +11,14 @@ use lib.Seq.{take-set-lt, getD-take, length-take-le}
 use Rattle.lines.specs.declared.rows.Cursor.{Cursor}
 use Rattle.lines.specs.declared.rows.End.the-variants as end
 use Rattle.model.specs.Model.{Opening, Job}
+use Rattle.model.proofs.Bools.{there}
 use Rattle.plan_text.specs.Grammar.{Visit, any, among, visited, changed, tabulate, openingsAt, planOf}
 use Rattle.plan_text.specs.Rendering.{stepAt}
 use Rattle.plan_text.specs.Views.{changesOf, emptyPlan}
 use Rattle.plan_text.specs.Marks.{withStep, withParts, withVisit}
 use Rattle.plan_text.specs.declared.Changes.{Changes}
 use Rattle.plan_text.proofs.Steps.{noOpening, step-is}
-use Rattle.plan_text.proofs.Lists.{any-snoc, table-at, table-same, table-is, table-set, map-table, map-set, map-constant, getD-any}
+use Rattle.plan_text.proofs.Lists.{any-snoc, table-at, table-same, table-is, table-set, map-table, map-set, map-constant}
 
 -- ---- a set of openings
 
@@ -133,7 +134,7 @@ changes-length n m cs h = simp length-map (length-take-le m cs h)
 
 pub changes-at : (n m : ℕ) (cs : List Changes) (j : ℕ) (d : Changes) → m ≤ length cs → j < m → getD (changesOf n m cs) j [] ≡ take n (getD cs j d .at)
 changes-at n m cs j d l h =
-    getD-any (changesOf n m cs) j [] (take n (d .at)) (omega (arith, changes-length n m cs l))
+    there (changesOf n m cs) j [] (take n (d .at)) (omega (arith, changes-length n m cs l))
     ∙ List·getD-map (λ (x : Changes). take n (x .at)) (take m cs) j d
     ∙ ap (λ (x : Changes). take n (x .at)) (getD-take m cs j d h)
 

@@ -2,14 +2,14 @@
 use Prim.Native.Nat.{ℕ, _+_, _<_}
 use mathlib.Core.Path.{_≡_, refl, sym, ap, _∙_, subst}
 use mathlib.Core.List.{List, [], _∷_}
-use mathlib.Core.Bool.{Bool, true, false, _&&_, _||_, or-true}
+use mathlib.Core.Bool.{Bool, true, false, _&&_, _||_, or-true, and-eq-true-iff}
 use native.Mathlib.Omega.{arith}
 use lib.Dec.{eqb}
 use lib.ListN.{length, getD, length-map}
 use Rattle.lines.specs.Parser.{accepted}
 use Rattle.model.specs.Model.{Opening, Job}
 use Rattle.model.specs.Verdict.{Shaped}
-use Rattle.model.proofs.Bools.{and-split, inside}
+use Rattle.model.proofs.Bools.{inside}
 use Rattle.plan_text.specs.Grammar.{Visit, Stated, any, among, visited, changed, tabulate, openingsAt, planOf, readPlan}
 use Rattle.plan_text.specs.Rendering.{stepAt}
 use Rattle.plan_text.proofs.Lists.{table-length, table-at}
@@ -51,7 +51,7 @@ made-shaped job vs = record {
         let f : getD (row k) i false ≡ true = sym (ap (λ (r : List Bool). getD r i false) (table-at row m k [] k<)) ∙ e in
         let i< : i < length (job .openings) = omega (arith, inside (row k) i f, length-map (job .openings) (λ (o : Opening). changed vs (k + 1) (o .step))) in
         openings-at job (visited vs) i i<
-        ∙ any-weaker (λ (v : Visit). eqb (v .step) (stepAt job i) && among (v .parts) (k + 1)) (λ (v : Visit). eqb (v .step) (stepAt job i)) (λ v g. and-split (eqb (v .step) (stepAt job i)) (among (v .parts) (k + 1)) g .0) vs
+        ∙ any-weaker (λ (v : Visit). eqb (v .step) (stepAt job i) && among (v .parts) (k + 1)) (λ (v : Visit). eqb (v .step) (stepAt job i)) (λ v g. and-eq-true-iff (eqb (v .step) (stepAt job i)) (among (v .parts) (k + 1)) .0 g .0) vs
         (sym (openings-at job (changed vs (k + 1)) i i<) ∙ f)
 
 pub shaped : (job : Job) (s : List ℕ) (stated : Stated) → readPlan job s ≡ accepted stated → Shaped job (stated .plan)

@@ -6,7 +6,8 @@ use native.Mathlib.Decide.{decLt}
 use native.Mathlib.Omega.{arith}
 use lib.ListN.{length, getD, length-map, List·getD-eq-default, List·getD-map}
 use Rattle.model.specs.Model.{Opening, Job}
-use Rattle.job_text.specs.Valid.{All, Rising, ValidOpening, ValidJob}
+use Rattle.job_text.specs.Valid.{Rising, ValidOpening, ValidJob}
+use Rattle.job_text.proofs.Jobs.{all-at}
 use Rattle.plan_text.specs.Rendering.{stepAt}
 
 -- what stands past the end of the openings
@@ -19,11 +20,6 @@ step-is job i = List·getD-map (λ (o : Opening). o .step) (job .openings) i noO
 -- the steps of openings
 abbrev stepsOf : List Opening → List ℕ
 stepsOf os = map (λ (o : Opening). o .step) os
-
-high : (os : List Opening) → All ValidOpening os → (i : ℕ) → i < length os → getD (stepsOf os) i 0 ≤ 365
-high [] v i h = absurd (omega arith)
-high (o ∷ os) v zero h = v .0 .step-high
-high (o ∷ os) v (suc i) h = high os (v .1) i (omega arith)
 
 later : (h before : ℕ) (os : List Opening) → Rising h before os → (i : ℕ) → i < length os → before < getD (stepsOf os) i 0
 later h before [] r i l = absurd (omega arith)
@@ -38,7 +34,7 @@ rising h before (o ∷ os) r (suc i) (suc j) k l = rising h (o .step) os (r .2) 
 
 module _ (job : Job) (v : ValidJob job) where
   pub step-high : (i : ℕ) → i < length (job .openings) → stepAt job i ≤ 365
-  step-high i h = high (job .openings) (v .openings) i h
+  step-high i h = omega (arith, step-is job i, all-at ValidOpening (job .openings) noOpening i (v .openings) h .step-high)
 
   pub step-low : (i : ℕ) → i < length (job .openings) → 0 < stepAt job i
   step-low i h = later (job .horizon) 0 (job .openings) (v .rising) i h

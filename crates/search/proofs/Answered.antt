@@ -15,7 +15,8 @@ use Rattle.model.specs.Model.{Opening, Part, Job, clock, lastChange}
 use Rattle.model.specs.LowerBound.{Offer, pick, lowerThan, changeAt, leastOf, offers, choiceOf, partChoice, boundOf, planAt}
 use Rattle.model.specs.Verdict.{noPart}
 use Rattle.model.specs.Promise.{cut, optimum, answered, answeredAt, answerOf, decisions}
-use Rattle.least.proofs.Table.{there, offers-length}
+use Rattle.model.proofs.Bools.{there}
+use Rattle.model.proofs.Offers.{offers-length}
 use Rattle.search.specs.declared.Row.{Row}
 use Rattle.search.specs.declared.Outcome.{Outcome}
 use Rattle.search.specs.Arrays.{partAt, sheetOf, Holds}

@@ -19,7 +19,7 @@ use Rattle.model.specs.LowerBound.{Offer, pick, leastOf, offers}
 use Rattle.least.specs.Marks.{markOf, Small}
 use Rattle.least.specs.Suffix.{codeOf, Suffixes}
 use Rattle.least.proofs.Diff.{mag-sub, back, small-back}
-use Rattle.least.proofs.Table.{after-one, there}
+use Rattle.model.proofs.Bools.{after-one, there}
 use Rattle.least.proofs.Most.{AtMost, most-least}
 use Rattle.search.specs.Arrays.{longestLife, lastPosition, priceStride, priceSize, laneValue, partAt, columnOf, columnsFrom, sheetOf, Arrays}
 use Rattle.search.specs.Fill.{Wrote, reachOf, reachAt, column, LaneFilled, Span, Lanes, Cuts}

@@ -14,7 +14,7 @@ use Rattle.branch.specs.Lower.{add, total}
 use Rattle.model.specs.Model.{Part, Job, within, sumAt, lastChange}
 use Rattle.model.specs.Verdict.{noPart}
 use Rattle.model.specs.LowerBound.{pick, plus, lower, leastOf, offers, partBound, stopCost, boundOf}
-use Rattle.least.proofs.Table.{after-one, there}
+use Rattle.model.proofs.Bools.{after-one, there}
 use Rattle.search.specs.Arrays.{priceStride, laneValue, partAt, columnOf, columnsFrom, sheetOf, Holds}
 use Rattle.search.proofs.Filling.{own-each}
 use Rattle.walk.specs.Layout.{laneCount}

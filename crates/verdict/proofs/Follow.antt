@@ -1,7 +1,7 @@
 -- Following one part's changes over the openings: after i openings, the first gap so far and what the rest gives are what the whole gives. By one unfolding of the first long gap.
 use Prim.Native.Nat.{ℕ, zero, suc, _+_, _≤_, _<_}
 use mathlib.Core.Path.{_≡_, refl, sym, ap, _∙_}
-use mathlib.Core.Bool.{Bool, true, false, cond}
+use mathlib.Core.Bool.{Bool, true, false, cond, false≢true}
 use mathlib.Core.List.{List, [], _∷_}
 use native.Mathlib.Omega.{arith}
 use native.Mathlib.Numerals.{add-one}
@@ -10,7 +10,6 @@ use lib.Seq.{drop-nil}
 use lib.IntN.{ℤ, pos}
 use Rattle.model.specs.Model.{Job, positions, end, within, dueOf, select}
 use Rattle.model.specs.Verdict.{Gaps, in-time, too-long, firstLate}
-use Rattle.model.proofs.Bools.{no-true}
 use Rattle.verdict.specs.Steps.{gapOf, firstLong}
 
 -- ---- a set of openings, from opening i on
@@ -25,17 +24,17 @@ module _ {A : Type 0} where
   unfolding select
   select-skip [] cs i e = rw (drop-nil i)
   select-skip (x ∷ l) [] i e = rw (drop-nil i) (select-none (drop i (x ∷ l)) ∙ sym (select-none (drop i l)))
-  select-skip (x ∷ l) (true ∷ cs) zero e = no-true (sym e)
+  select-skip (x ∷ l) (true ∷ cs) zero e = absurd (false≢true (sym e))
   select-skip (x ∷ l) (false ∷ cs) zero e = refl
   select-skip (x ∷ l) (c ∷ cs) (suc i) e = select-skip l cs i e
 
   pub select-take : (l : List A) (cs : List Bool) (i : ℕ) (d : A) → i < length l → getD cs i false ≡ true → select (drop i l) (drop i cs) ≡ getD l i d ∷ select (drop (suc i) l) (drop (suc i) cs)
   unfolding select
   select-take [] cs i d h e = absurd (omega arith)
-  select-take (x ∷ l) [] zero d h e = no-true e
-  select-take (x ∷ l) [] (suc i) d h e = no-true e
+  select-take (x ∷ l) [] zero d h e = absurd (false≢true e)
+  select-take (x ∷ l) [] (suc i) d h e = absurd (false≢true e)
   select-take (x ∷ l) (true ∷ cs) zero d h e = refl
-  select-take (x ∷ l) (false ∷ cs) zero d h e = no-true e
+  select-take (x ∷ l) (false ∷ cs) zero d h e = absurd (false≢true e)
   select-take (x ∷ l) (c ∷ cs) (suc i) d h e = select-take l cs i d (omega arith) e
 
 -- ---- gaps

@@ -1,14 +1,14 @@
 -- Sums over a set of openings, taken from the last opening to the first: by one unfolding of the sum. And how large they can be.
 use Prim.Native.Nat.{ℕ, zero, suc, _+_, _-_, _*_, _≤_, _<_}
 use mathlib.Core.Path.{_≡_, refl, sym, ap, subst, _∙_}
-use mathlib.Core.Bool.{Bool, true, false}
+use mathlib.Core.Bool.{Bool, true, false, false≢true}
 use mathlib.Core.List.{List, [], _∷_, map}
 use native.Mathlib.Omega.{arith}
 use native.Mathlib.Nat.{mul-suc}
 use lib.ListN.{length, getD, drop, length-drop, drop-of-length-le}
 use lib.Seq.{drop-nil}
 use Rattle.model.specs.Model.{Opening, sumAt, feeOf}
-use Rattle.model.proofs.Bools.{no-true}
+use Rattle.model.proofs.Offers.{sum-none}
 use Rattle.job_text.specs.Valid.{All, ValidOpening, ValidPrice}
 use Rattle.verdict.specs.Steps.{dearestSum}
 
@@ -36,26 +36,21 @@ pub cheap-prices : (ns : List ℕ) → All ValidPrice ns → Cheap ns
 cheap-prices [] h = tt
 cheap-prices (n ∷ ns) h = (h .0 .1, cheap-prices ns (h .1))
 
-sum-empty : (cs : List Bool) → sumAt [] cs ≡ 0
-unfolding sumAt
-sum-empty [] = refl
-sum-empty (c ∷ cs) = refl
-
 sum-skip : (ns : List ℕ) (cs : List Bool) (i : ℕ) → getD cs i false ≡ false → sumAt (drop i ns) (drop i cs) ≡ sumAt (drop (suc i) ns) (drop (suc i) cs)
 unfolding sumAt
-sum-skip [] cs i e = rw (drop-nil i) (sum-empty (drop i cs) ∙ sym (sum-empty (drop (suc i) cs)))
+sum-skip [] cs i e = rw (drop-nil i) (sum-none (drop i cs) ∙ sym (sum-none (drop (suc i) cs)))
 sum-skip (n ∷ ns) [] i e = rw (drop-nil i)
-sum-skip (n ∷ ns) (true ∷ cs) zero e = no-true (sym e)
+sum-skip (n ∷ ns) (true ∷ cs) zero e = absurd (false≢true (sym e))
 sum-skip (n ∷ ns) (false ∷ cs) zero e = refl
 sum-skip (n ∷ ns) (c ∷ cs) (suc i) e = sum-skip ns cs i e
 
 sum-take : (ns : List ℕ) (cs : List Bool) (i : ℕ) → i < length ns → getD cs i false ≡ true → sumAt (drop i ns) (drop i cs) ≡ getD ns i 0 + sumAt (drop (suc i) ns) (drop (suc i) cs)
 unfolding sumAt
 sum-take [] cs i h e = absurd (omega arith)
-sum-take (n ∷ ns) [] zero h e = no-true e
-sum-take (n ∷ ns) [] (suc i) h e = no-true e
+sum-take (n ∷ ns) [] zero h e = absurd (false≢true e)
+sum-take (n ∷ ns) [] (suc i) h e = absurd (false≢true e)
 sum-take (n ∷ ns) (true ∷ cs) zero h e = refl
-sum-take (n ∷ ns) (false ∷ cs) zero h e = no-true e
+sum-take (n ∷ ns) (false ∷ cs) zero h e = absurd (false≢true e)
 sum-take (n ∷ ns) (c ∷ cs) (suc i) h e = sum-take ns cs i (omega arith) e
 
 pub sum-most : (ns : List ℕ) (cs : List Bool) → Cheap ns → sumAt ns cs ≤ dearest * length ns
@@ -71,7 +66,7 @@ module _ (ns : List ℕ) (cs : List Bool) where
   Summed k sum = sum ≡ sumAt (drop k ns) (drop k cs)
 
   pub summed-none : (k : ℕ) → length ns ≤ k → Summed k 0
-  summed-none k h = rw (drop-of-length-le ns {i = k} h) (sym (sum-empty (drop k cs)))
+  summed-none k h = rw (drop-of-length-le ns {i = k} h) (sym (sum-none (drop k cs)))
 
   module _ (k sum : ℕ) (s : Summed k sum) where
     pub summed-skip : 0 < k → getD cs (k - 1) false ≡ false → Summed (k - 1) sum

@@ -14,7 +14,7 @@ use Rattle.branch.specs.declared.Bound.the-variants.{Missing, Sum}
 use Rattle.branch.specs.Lower.{add}
 use Rattle.model.specs.Model.{within}
 use Rattle.model.specs.LowerBound.{Offer, pick, plus, lower, leastOf, offers}
-use Rattle.least.proofs.Table.{after-one}
+use Rattle.model.proofs.Bools.{after-one}
 use Rattle.walk.specs.Sheet.{Column, Sheet, columnBound, Mark, reach, joined, frontFrom, decidedOffers, front}
 
 -- ---- the lower of two is a minimum

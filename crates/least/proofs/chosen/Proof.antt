@@ -1,5 +1,5 @@
 -- `chosen` walks forward over the suffix table. The invariant, for whatever end the table was made: the choice is what stands in front, and the choice from k on after the last change.
-use Prim.Native.Nat.{_+_, _-_, _≤_}
+use Prim.Native.Nat.{_-_, _≤_}
 use mathlib.Core.List.{_++_}
 use mathlib.Core.Bool.{false}
 use mathlib.Core.Path.{_≡_, refl, _∙_}
@@ -15,7 +15,8 @@ use Rattle.model.specs.LowerBound.{choiceOf, offers}
 use Rattle.least.specs.Marks.{markOf}
 use Rattle.least.specs.Suffix.{Suffixes}
 use Rattle.least.proofs.Diff.{given-back}
-use Rattle.least.proofs.Table.{mark-below, offerAt, Chosen, chosen-none, chosen-next, chosen-all, offers-drop, offers-length, mark-next}
+use Rattle.model.proofs.Offers.{offers-length}
+use Rattle.least.proofs.Table.{mark-below, offerAt, Chosen, chosen-none, chosen-next, chosen-all, offers-drop, mark-next}
 use Rattle.least.proofs.Rows.{changes-read}
 use Rattle.least.proofs.chosen.Statement.{statement}
 use Rattle.least.proofs.chosen.Tie as tie

@@ -2,7 +2,7 @@
 use mathlib.Core.Path.{sym}
 use borrow.Author.Needs.{needs}
 use lib.ListN.{getD, List·getD-eq-default}
-use Rattle.least.proofs.Table.{there}
+use Rattle.model.proofs.Bools.{there}
 use Rattle.search.proofs.tables.lane_value.Statement.{statement}
 use Rattle.search.proofs.tables.lane_value.Tie as tie
 
