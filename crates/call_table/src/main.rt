@@ -3,10 +3,10 @@
 // A case stands in the input as `room=N`, `job=N`, N bytes, `plan=N`, N bytes; a case of the planner has `none=0` in place of the plan;
 // other bytes stand behind the last case.
 use answers::Answer;
-use lines::fault::Span;
-use lines::read::Line;
-use lines::read::read_line;
-ghost use Prim.Native.Nat.{_+_, _≤_};
+use table_text::head_at;
+use table_text::onward;
+use table_text::piece_at;
+ghost use Prim.Native.Nat.{_≤_};
 ghost use lib.ListN.{length};
 
 // What an output is filled with before a call.
@@ -86,69 +86,30 @@ fn run_judge(job: &[u8], plan: &[u8], out: &mut [u8]) {
     report(a, out, job, plan);
 }
 
-// Where the piece `key=N` at a place ends, if it is there, and N.
-fn number_at(buf: &[u8], at: usize, key: &[u8]) -> Span
-    requires { ⌜ at ≤ length (now buf) ⌝ }
-    ensures { λ r. ⌜ r .start ≤ length (now (buf .entry)) ⌝ }
-{
-    match read_line(&buf[at..], key) {
-        Line::Value(n, k) => {
-            if k <= buf.len() - at {
-                return Span {
-                    start: at + k,
-                    length: n as usize,
-                };
-            }
-        }
-        Line::Bad => {}
-    }
-    Span {
-        start: buf.len(),
-        length: 0,
-    }
-}
-
-// The bytes of the piece `key=N` at a place; nothing at the end where there is no such piece.
-fn piece(buf: &[u8], at: usize, key: &[u8]) -> Span
-    requires { ⌜ at ≤ length (now buf) ⌝ }
-    ensures { λ r. ⌜ r .start + r .length ≤ length (now (buf .entry)) ⌝ }
-{
-    let p = number_at(buf, at, key);
-    let start = p.start;
-    let length = p.length;
-    if length <= buf.len() - start {
-        return Span { start, length };
-    }
-    Span {
-        start: buf.len(),
-        length: 0,
-    }
-}
-
 // The case at a place, and the place behind it.
 fn case_at(buf: &[u8], at: usize, space: &mut [u8]) -> usize
     requires { ⌜ at ≤ length (now buf) ⌝ }
     ensures { λ r. ⌜ r ≤ length (now (buf .entry)) ⌝ }
 {
-    let room = number_at(buf, at, b"room=");
-    let from = room.start;
+    let room = head_at(buf, at, b"room=");
+    let from = room.behind;
     if buf.len() <= from {
         return from;
     }
-    let job = piece(buf, from, b"job=");
+    let job = piece_at(buf, from, b"job=");
     let job_start = job.start;
     let job_end = job_start + job.length;
-    let lent = room.length;
+    let lent = room.number;
     if space.len() < lent {
         return buf.len();
     }
-    let none = number_at(buf, job_end, b"none=");
-    let behind = none.start;
+    let none = head_at(buf, job_end, b"none=");
+    let behind = none.behind;
     if behind < buf.len() {
         run_planner(&buf[job_start..job_end], &mut space[0..lent]);
         return behind;
     }
-    let plan = piece(buf, job_end, b"plan=");
+    let plan = piece_at(buf, job_end, b"plan=");
     let plan_start = plan.start;
     let plan_end = plan_start + plan.length;
     run_judge(
@@ -164,10 +125,7 @@ fn table(buf: &[u8], space: &mut [u8]) {
     let mut at = 0;
     while at < buf.len() {
         let next = case_at(buf, at, space);
-        if next <= at {
-            return;
-        }
-        at = next;
+        at = onward(buf.len(), at, next);
     }
 }
 

@@ -3,15 +3,14 @@
 use answers::Outcome;
 use job_text::Job;
 use job_text::whole::read_job;
-use lines::fault::Span;
 use lines::fault::fault_line;
 use lines::fault::fault_span;
-use lines::read::Line;
-use lines::read::read_line;
 use lines::rows::Verdict;
 use plan_text::Plan;
 use plan_text::whole::read_plan;
-ghost use Prim.Native.Nat.{_+_, _≤_};
+use table_text::onward;
+use table_text::piece_at;
+ghost use Prim.Native.Nat.{_≤_};
 ghost use lib.ListN.{length};
 
 // Writes a fault's lines, and the line at fault.
@@ -47,38 +46,15 @@ fn judge_pair(job: &[u8], plan: &[u8]) {
     }
 }
 
-// Where the bytes of the piece `key=N` at a place stand; nothing at the end where there is no such piece.
-fn piece(buf: &[u8], at: usize, key: &[u8]) -> Span
-    requires { ⌜ at ≤ length (now buf) ⌝ }
-    ensures { λ r. ⌜ r .start + r .length ≤ length (now (buf .entry)) ⌝ }
-{
-    match read_line(&buf[at..], key) {
-        Line::Value(n, k) => {
-            if k <= buf.len() - at {
-                let start = at + k;
-                let length = n as usize;
-                if length <= buf.len() - start {
-                    return Span { start, length };
-                }
-            }
-        }
-        Line::Bad => {}
-    }
-    Span {
-        start: buf.len(),
-        length: 0,
-    }
-}
-
 // The pair at a place, and the place behind it.
 fn pair_at(buf: &[u8], at: usize) -> usize
     requires { ⌜ at ≤ length (now buf) ⌝ }
     ensures { λ r. ⌜ r ≤ length (now (buf .entry)) ⌝ }
 {
-    let job = piece(buf, at, b"job=");
+    let job = piece_at(buf, at, b"job=");
     let job_start = job.start;
     let job_end = job_start + job.length;
-    let plan = piece(buf, job_end, b"plan=");
+    let plan = piece_at(buf, job_end, b"plan=");
     let plan_start = plan.start;
     let plan_end = plan_start + plan.length;
     judge_pair(&buf[job_start..job_end], &buf[plan_start..plan_end]);
@@ -89,11 +65,7 @@ fn pair_at(buf: &[u8], at: usize) -> usize
 fn table(buf: &[u8]) {
     let mut at = 0;
     while at < buf.len() {
-        let next = pair_at(buf, at);
-        if next <= at {
-            return;
-        }
-        at = next;
+        at = onward(buf.len(), at, pair_at(buf, at));
     }
 }
 

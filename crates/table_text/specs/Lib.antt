@@ -1,0 +1,2 @@
+-- The lines and pieces of a table's text (Pieces).
+pub mod Pieces
