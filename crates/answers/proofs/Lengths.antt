@@ -2,7 +2,7 @@
 use Prim.Native.Nat.{ℕ, _≤_}
 use native.Mathlib.Omega.{arith}
 use lib.ListN.{length, take, length-append, length-map, length-take}
-use Rattle.lines.specs.Text.{bytes, line, lineOf}
+use Rattle.lines.specs.Text.{bytes}
 use Rattle.lines.proofs.Writing.{line-most}
 use Rattle.job_text.specs.declared.Job.{Job}
 use Rattle.job_text.specs.Views.{jobOf}

@@ -2,14 +2,14 @@
 use Prim.Native.Nat.{ℕ, _≤_, _<_}
 use mathlib.Core.Path.{_≡_, refl, sym, ap, _∙_, subst}
 use mathlib.Core.List.{List, [], _∷_, _++_, append-assoc, append-nil}
-use mathlib.Core.Bool.{true, _&&_, and-eq-true-iff}
+use mathlib.Core.Bool.{and-eq-true-iff}
 use lib.Dec.{leb, ltb}
 use lib.ListN.{length}
 use borrow.Author.Tests.{ltb-true, leb-true}
-use Rattle.lines.specs.Text.{bytes, line, lineOf, texts}
-use Rattle.lines.specs.Parser.{Parser, good, accepted, return, rowAt, row, checked, chain, times, rising, upTo}
-use Rattle.lines.proofs.Sound.{Sound, Gives, Halves, bind-inv, row-sound, checked-sound, chain-sound, row-gives, checked-gives, Chained, chain-gives, Accepted, accepted-is}
-use Rattle.model.specs.Model.{Opening, Part, Job}
+use Rattle.lines.specs.Text.{lineOf, texts}
+use Rattle.lines.specs.Parser.{Parser, good, accepted, return, row, checked, times, rising, upTo}
+use Rattle.lines.proofs.Sound.{bind-inv, row-sound, checked-sound, chain-sound, row-gives, checked-gives, Chained, chain-gives, accepted-is}
+use Rattle.model.specs.Model.{Opening}
 use Rattle.job_text.specs.Grammar.{Given, opening, openings, part, body, jobLines, maxBytes, readJob}
 use Rattle.job_text.specs.Rendering.{openingText, partText, bodyText, jobText}
 use Rattle.job_text.specs.Valid.{All, Rising, ValidOpening, ValidPrice, ValidPart, ValidJob, Valid}

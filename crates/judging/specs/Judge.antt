@@ -1,9 +1,9 @@
 -- What the judge says of a job text and a plan text.
 -- "Order: 8; then the job text (1, then line by line, ..); then the plan text the same way with 9 last; then [..] 10 before 11."
 use Prim.Native.Nat.{ℕ}
-use mathlib.Core.List.{List, []}
+use mathlib.Core.List.{List}
 use Rattle.lines.specs.Parser as parser
-use Rattle.model.specs.Model.{Job, Plan}
+use Rattle.model.specs.Model.{Job}
 use Rattle.model.specs.Verdict.{Judgement, accepts, unkept, wrongCost, judgedOf}
 use Rattle.job_text.specs.Grammar.{Given, readJob}
 use Rattle.job_text.specs.Views.{emptyJob}

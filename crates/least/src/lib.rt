@@ -3,9 +3,9 @@
 ghost use mathlib.Core.Path.{_≡_};
 ghost use mathlib.Core.Bool.{false, _&&_};
 ghost use mathlib.Core.List.{_++_};
-ghost use Prim.Native.Nat.{ℕ, suc, _+_, _-_, _<_, _≤_};
+ghost use Prim.Native.Nat.{ℕ, _+_, _-_, _<_, _≤_};
 ghost use lib.IntN.{ℤ, pos, _-ℤ_};
-ghost use lib.ListN.{length, getD, replicate};
+ghost use lib.ListN.{length, replicate};
 ghost use mir.Syntax.{w32};
 ghost use mir.Val.{SFits};
 ghost use Rattle.model.specs.Model.{within};

@@ -1,18 +1,17 @@
 -- A line that is written is read back.
 use Prim.Native.Nat.{ℕ, zero, suc, _+_, _-_, _*_, _/_, _%_, _^_, _≤_, _<_}
-use mathlib.Core.Path.{_≡_, refl, sym, ap, ap₂, _∙_, subst}
+use mathlib.Core.Path.{_≡_, refl, sym, ap, _∙_}
 use mathlib.Core.List.{List, [], _∷_, _++_, append-assoc}
-use mathlib.Core.Bool.{Bool, true, false, _&&_, _||_, not}
+use mathlib.Core.Bool.{true, false}
 use native.Mathlib.Omega.{arith}
 use native.Mathlib.Nat.{pow-suc}
 use native.Mathlib.Decide.{decLt}
-use lib.Dec.{leb, ltb, eqb}
-use lib.ListN.{length, getD, drop, length-append, List·getD-append}
+use lib.ListN.{length, getD, length-append, List·getD-append}
 use lib.Seq.{drop-append-seam, getD-append-seam}
-use borrow.Author.Tests.{le-ltb, lt-ltb, le-leb, eq-eqb, ne-eqb}
-use Rattle.lines.specs.Line.{isDigit, digits, numberFrom, plain, startsWith, readValue, readLine, after}
+use borrow.Author.Tests.{eq-eqb}
+use Rattle.lines.specs.Line.{isDigit, digits, numberFrom, startsWith, readValue, readLine, after}
 use Rattle.lines.specs.Text.{decimal, decimalIn, line}
-use Rattle.lines.specs.declared.read.Line.the-variants.{Value, Bad}
+use Rattle.lines.specs.declared.read.Line.the-variants.{Value}
 use Rattle.lines.proofs.Reading.{digit-yes, line-is, value-good}
 use Rattle.lines.proofs.Written.{AllDigits, decimal-one, decimal-two}
 

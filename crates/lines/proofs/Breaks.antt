@@ -10,7 +10,6 @@ use lib.ListN.{length, getD, take, drop, length-drop, drop-of-length-le}
 use lib.Seq.{drop-drop, drop-length}
 use borrow.Author.Tests.{eq-eqb, ne-eqb}
 use Rattle.lines.specs.Fault.{beforeBreak, afterBreak, skipped, faultLine, nowhere, spanIn, faultSpan, Cuts}
-use Rattle.lines.specs.declared.fault.Span.{Span}
 use Rattle.lines.proofs.Reading.{drop-step}
 
 pub break-more : (s : List ℕ) (i : ℕ) → i < length s → (getD s i 0 ≡ 10 → ⊥) → length (beforeBreak (drop i s)) ≡ suc (length (beforeBreak (drop (i + 1) s)))
@@ -68,12 +67,6 @@ skipped-end s at n k i h e l =
 pub skipped-zero : (s : List ℕ) (k i : ℕ) → k ≤ i → skipped (k - i) s ≡ s
 unfolding skipped
 skipped-zero s k i h = let z : k - i ≡ 0 = omega arith in ap (λ (j : ℕ). skipped j s) z
-
--- a line's number is from 1
-pub fault-line-is : (s : List ℕ) (n : ℕ) → (n ≡ 0 → ⊥) → faultLine n s ≡ beforeBreak (skipped (n - 1) s)
-unfolding faultLine
-fault-line-is s zero h = absurd (h refl)
-fault-line-is s (suc n) h = let z : n ≡ suc n - 1 = omega arith in ap (λ (j : ℕ). beforeBreak (skipped j s)) z
 
 -- where a line stands, by where it begins
 pub span-zero : (s : List ℕ) (n : ℕ) → n ≡ 0 → nowhere ≡ faultSpan n s

@@ -1,16 +1,15 @@
 -- Laws of the parsers.
-use Prim.Native.Nat.{ℕ, zero, suc, _+_, _-_, _≤_, _<_}
+use Prim.Native.Nat.{ℕ, suc, _+_, _-_, _≤_, _<_}
 use mathlib.Core.Path.{_≡_, refl, sym, ap, _∙_, subst}
 use mathlib.Core.List.{List, [], _∷_, _++_, append-assoc, append-nil}
-use mathlib.Core.Bool.{Bool, true, false, _&&_}
+use mathlib.Core.Bool.{Bool, true, false}
 use native.Mathlib.Omega.{arith}
 use native.Mathlib.Decide.{decLt}
 use native.Mathlib.Nat.{sub-zero}
-use lib.Dec.{leb, ltb}
 use lib.ListN.{length, drop, length-drop, drop-of-length-le}
 use lib.Seq.{drop-drop}
 use borrow.Author.Tests.{le-leb, lt-leb, lt-ltb, le-ltb}
-use Rattle.lines.specs.Parser.{Parsed, good, fault, Parser, _>>=_, return, readField, taken, rowAt, checked, chain, end as ends, rising, upTo, Outcome, refused, finish, whole, readText}
+use Rattle.lines.specs.Parser.{Parsed, good, fault, Parser, _>>=_, return, readField, taken, rowAt, checked, chain, end as ends, rising, upTo, refused, finish, whole, readText}
 use Rattle.lines.specs.Cursor.{Answer, got, no-good, Stands, Stood, Reads, parsed, ended, closed, judged}
 use Rattle.lines.specs.declared.rows.End.{End}
 use Rattle.lines.specs.declared.rows.End.the-variants as end

@@ -1,17 +1,16 @@
 -- Laws of the definitions of a line that the proofs cite.
-use Prim.Native.Nat.{ℕ, zero, suc, _+_, _-_, _*_, _^_, _≤_, _<_}
-use mathlib.Core.Path.{_≡_, refl, sym, ap, _∙_}
+use Prim.Native.Nat.{ℕ, _+_, _-_, _*_, _^_, _≤_, _<_}
+use mathlib.Core.Path.{_≡_, refl, ap}
 use mathlib.Core.List.{List, [], _∷_}
 use mathlib.Core.Bool.{Bool, true, false, _&&_}
-use native.Mathlib.Nat.{pow-suc, pow-le-pow-right, le-refl, le-of-suc-le-suc, not-suc-le-zero}
+use native.Mathlib.Nat.{pow-suc, pow-le-pow-right}
 use native.Mathlib.Numerals.{add-one}
 use native.Mathlib.Omega.{arith}
 use native.Mathlib.Decide.{decLt}
-use mathlib.Core.Bool.{and-eq-true-iff, _||_, not, and-false, true≢false, false≢true}
+use mathlib.Core.Bool.{and-eq-true-iff, _||_, not, and-false, false≢true}
 use mathlib.Core.Logic.{_⊎_, inl, inr}
 use lib.Dec.{leb, eqb}
 use lib.ListN.{length, getD, drop, take, length-drop, List·getD-eq-default}
-use borrow.Author.Needs.{zero≤}
 use lib.Seq.{drop-cons, take-all}
 use borrow.Author.Tests.{le-leb, lt-leb, leb-true, eqb-true, eq-eqb, ne-eqb}
 use Rattle.lines.specs.Line.{isDigit, digits, numberFrom, plain, startsWith, readValue, readLine, after}

@@ -1,17 +1,16 @@
 -- Laws of writing: one write behind another is one write (`then`), how long digits, lines and joined pieces are. By recursion over what is written.
 use Prim.Native.Nat.{ℕ, zero, suc, _+_, _*_, _/_, _%_, _^_, _≤_, _<_, zero-le}
 use mathlib.Core.Path.{_≡_, refl, sym, ap, _∙_, subst}
-use mathlib.Core.Bool.{cond, true, false, Bool}
+use mathlib.Core.Bool.{true, false, Bool}
 use mathlib.Core.Logic.{⊎-elim}
-use mathlib.Core.List.{List, [], _∷_, _++_, append-assoc, append-nil}
+use mathlib.Core.List.{List, [], _∷_, _++_}
 use native.Mathlib.Nat.{add-zero, zero-add, add-suc, suc-add, div-lt-iff-lt-mul, pow-suc, suc-mul, eq-or-lt-of-le, le-of-suc-le-suc, not-suc-le-zero}
 use native.Mathlib.Numerals.{add-one}
 use native.Mathlib.Omega.{arith}
 use lib.Dec.{ltb}
-use borrow.Author.Tests.{lt-ltb, le-ltb, ltb-true, ltb-false}
-use lib.ListN.{length, take, drop, set, length-append, length-set}
+use lib.ListN.{length, drop, set, length-append}
 use lib.Seq.{sets, length-sets, sets-eq, length-take-le}
-use Rattle.lines.specs.Text.{decimalIn, decimal, line, texts, joined}
+use Rattle.lines.specs.Text.{decimalIn, decimal, line, joined}
 use Rattle.lines.specs.Wrote.{Wrote, Counted}
 use Rattle.lines.proofs.Written.{decimal-one, decimal-two}
 

@@ -1,13 +1,12 @@
 -- An accepted line is the line that is written for its value.
-use Prim.Native.Nat.{ℕ, zero, suc, _+_, _-_, _*_, _/_, _%_, _≤_, _<_}
-use mathlib.Core.Path.{_≡_, refl, sym, ap, ap₂, _∙_, subst}
+use Prim.Native.Nat.{ℕ, suc, _+_, _-_, _*_, _/_, _%_, _≤_, _<_}
+use mathlib.Core.Path.{_≡_, refl, sym, ap, ap₂, _∙_}
 use mathlib.Core.List.{List, [], _∷_, _++_, append-assoc, append-nil}
 use mathlib.Core.Bool.{Bool, true, false, _&&_, and-eq-true-iff, false≢true, _||_, not}
 use native.Mathlib.Omega.{arith}
-use native.Mathlib.Numerals.{add-one}
 use native.Mathlib.Nat.{zero-add}
-use lib.Dec.{leb, ltb, eqb}
-use lib.ListN.{length, getD, drop, take}
+use lib.Dec.{leb, eqb}
+use lib.ListN.{length, getD, drop}
 use borrow.Author.Tests.{le-ltb, lt-ltb, leb-true, eq-eqb, eqb-true, ne-eqb}
 use Rattle.lines.specs.Line.{isDigit, digits, numberFrom, plain, startsWith, readValue, readLine, after}
 use Rattle.lines.specs.Text.{decimal, decimalIn, line}

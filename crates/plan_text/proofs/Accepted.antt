@@ -1,4 +1,4 @@
--- An accepted plan text states what valid visits make (`valid`), and it is the rendering of those visits (`text-of`). By the grammar's lines, one after the other.
+-- An accepted plan text states what valid visits make (`valid`), and it is the rendering of those visits (`lines-of`). By the grammar's lines, one after the other.
 use Prim.Native.Nat.{ℕ, _≤_}
 use mathlib.Core.Path.{_≡_, refl, sym, ap, _∙_, subst}
 use mathlib.Core.List.{List, [], _++_, append-assoc}

@@ -1,6 +1,6 @@
 -- What the planner says of a job text. "Order: 8; then the job text [..]; then 6 before 7".
 use Prim.Native.Nat.{ℕ}
-use mathlib.Core.List.{List, []}
+use mathlib.Core.List.{List}
 use Rattle.lines.specs.Parser as parser
 use Rattle.model.specs.Model.{Job, Plan}
 use Rattle.model.specs.Promise.{Answer, no-plan, cut-none, cut, optimum, answerOf}

@@ -1,10 +1,10 @@
 -- What the planner promises, over the job text, the room lent and the answer: the second and the third demand.
 use Prim.Native.Nat.{ℕ, _≤_, _<_}
 use mathlib.Core.Path.{_≡_}
-use mathlib.Core.List.{List, _++_}
+use mathlib.Core.List.{List}
 use mathlib.Core.Logic.{_↔_}
 use Rattle.lines.specs.Parser.{accepted, refused}
-use Rattle.model.specs.Model.{Job, Plan, HasPlan}
+use Rattle.model.specs.Model.{Job, HasPlan}
 use Rattle.model.specs.Promise.{Answer, wholeCount}
 use Rattle.model.specs.Promise as model
 use Rattle.job_text.specs.Grammar.{Given, readJob}

@@ -16,7 +16,7 @@ use Rattle.plan_text.specs.Rendering.{visitText, planText, chosen, visitsOf, pl
 use Rattle.answers.specs.Said.{faultLines, searchLines, plannedLines, costLines, unkeptLines, bytesOf}
 use Rattle.judging.specs.Judge.{judgeOutcome}
 use Rattle.planning.specs.Plan.{planSaid}
-use Rattle.starred.specs.Table.{Holds, All, table}
+use Rattle.starred.specs.Table.{All, table}
 
 pub proved : All table
 unfolding table bytes decimalIn line joined digits numberFrom startsWith readValue readLine _>>=_ return inRange readField taken rowAt checked chain times end whole readText beforeBreak afterBreak skipped faultLine faultSpan walk limited treeOf clock within kept dueOf select sumAt leastOf choiceOf offers stopCost boundOf answerOf firstLate verdictFrom judgedOf job.opening job.openings job.part job.body job.jobLines plan.any plan.part plan.parts plan.visit plan.visits plan.planOf plan.planLines visitText planText chosen visitsOf planLinesOf faultLines searchLines plannedLines costLines unkeptLines bytesOf judgeOutcome planSaid

@@ -1,8 +1,4 @@
 -- `numbers_of`: case by case.
-use mathlib.Core.Path.{_≡_, ap, sym, _∙_}
-use mathlib.Core.List.{[]}
-use Rattle.answers.specs.Said.{saidWith, handed}
-use Rattle.answers.specs.declared.Outcome.{Outcome}
 use borrow.Author.Needs.{needs}
 use Rattle.answers.proofs.numbers_of.Statement.{statement}
 use Rattle.answers.proofs.numbers_of.Tie as tie

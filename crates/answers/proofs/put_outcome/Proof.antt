@@ -1,6 +1,5 @@
 -- `put_outcome`: case by case, each with the writer of its lines.
-use Prim.Native.Nat.{_≤_, _<_}
-use mathlib.Core.Path.{_≡_, subst}
+use mathlib.Core.Path.{subst}
 use native.Mathlib.Omega.{arith}
 use Rattle.lines.specs.Text.{bytes}
 use Rattle.lines.proofs.Writing.{line-short}

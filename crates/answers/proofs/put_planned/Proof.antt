@@ -1,5 +1,4 @@
 -- `put_planned`: the lines of the search, and behind them those of the plan.
-use Prim.Native.Nat.{_≤_, _<_}
 use native.Mathlib.Omega.{arith}
 use Rattle.lines.specs.Text.{bytes}
 use Rattle.lines.proofs.Writing.{then, kept}

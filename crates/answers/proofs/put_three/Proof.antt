@@ -1,5 +1,4 @@
 -- `put_three`: one line behind two.
-use Prim.Native.Nat.{_≤_, _<_}
 use native.Mathlib.Omega.{arith}
 use lib.ListN.{length-append}
 use Rattle.lines.specs.Text.{bytes}

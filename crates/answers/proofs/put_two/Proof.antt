@@ -1,5 +1,4 @@
 -- `put_two`: one line behind the other.
-use Prim.Native.Nat.{_≤_, _<_}
 use native.Mathlib.Omega.{arith}
 use Rattle.lines.specs.Text.{bytes}
 use Rattle.lines.proofs.Writing.{then, kept, line-short}

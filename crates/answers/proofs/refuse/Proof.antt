@@ -1,5 +1,5 @@
 -- `refuse`: the lines of a fault are the same beside any job and plan, and the span is where the line stands.
-use mathlib.Core.Path.{_≡_, subst}
+use mathlib.Core.Path.{subst}
 use Rattle.lines.specs.declared.fault.Span.{Span}
 use Rattle.job_text.specs.Views.{emptyJob}
 use Rattle.answers.specs.Said.{bytesOf, saidOf, noPlan, Replied}

@@ -1,5 +1,5 @@
 -- `reply`: an output that is too short stays; else the outcome's lines are written, and its numbers handed over.
-use mathlib.Core.Path.{_≡_, sym, ap, _∙_, subst}
+use mathlib.Core.Path.{sym, _∙_, subst}
 use mathlib.Core.List.{List}
 use Prim.Native.Nat.{ℕ, _≤_}
 use lib.ListN.{length}

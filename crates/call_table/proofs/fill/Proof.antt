@@ -1,8 +1,7 @@
 -- `fill`: a store at each place; the length stays.
 use Prim.Native.Nat.{_-_}
-use mathlib.Core.Path.{_≡_, refl, _∙_}
+use mathlib.Core.Path.{_≡_, refl}
 use native.Mathlib.Omega.{arith}
-use borrow.Author.Needs.{needs}
 use lib.ListN.{length, length-set}
 use Rattle.call_table.proofs.fill.Statement.{statement}
 use Rattle.call_table.proofs.fill.Tie as tie

@@ -1,15 +1,12 @@
 -- `changes_of`: the rows copied so far make the same changes.
-use Prim.Native.Nat.{ℕ, _+_, _-_, _≤_, _<_}
+use Prim.Native.Nat.{ℕ, _-_, _≤_}
 use mathlib.Core.Path.{_≡_, refl}
-use mathlib.Core.Bool.{false}
-use mathlib.Core.List.{List, [], map}
+use mathlib.Core.List.{[], map}
 use native.Mathlib.Omega.{arith}
-use borrow.Author.Needs.{needs}
-use lib.ListN.{length, take, length-set, replicate}
+use lib.ListN.{length, take, length-set}
 use Rattle.plan_text.specs.Views.{changesOf}
 use Rattle.plan_text.specs.declared.Changes.{Changes}
 use Rattle.search.specs.Outcome.{rowIn}
-use Rattle.search.specs.declared.Row.{Row}
 use Rattle.planning.proofs.Copies.{copied-more}
 use Rattle.planning.proofs.changes_of.Statement.{statement}
 use Rattle.planning.proofs.changes_of.Tie as tie

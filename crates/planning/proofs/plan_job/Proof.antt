@@ -1,8 +1,7 @@
 -- `plan_job`: the search says the model's answer, and its plan is the one that is printed.
-use Prim.Native.Nat.{ℕ}
-use mathlib.Core.Path.{_≡_, refl, sym, ap, ap₂, _∙_, subst}
+use mathlib.Core.Path.{_≡_, sym, ap, ap₂, _∙_, subst}
 use Rattle.model.specs.Model as model
-use Rattle.model.specs.Promise.{Answer, answerOf}
+use Rattle.model.specs.Promise.{answerOf}
 use Rattle.job_text.specs.Views.{jobOf}
 use Rattle.plan_text.specs.Views.{planFor}
 use Rattle.search.specs.Outcome.{planIn, saidIn}

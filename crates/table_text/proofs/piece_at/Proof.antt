@@ -1,11 +1,9 @@
 -- `piece_at`: the bytes behind the line are there, or they are not, by the test of their end.
 use Prim.Native.Nat.{_+_}
-use mathlib.Core.Path.{ap, _∙_}
 use native.Mathlib.Omega.{arith}
 use borrow.Author.Needs.{needs}
 use borrow.Author.Tests.{le-leb, lt-leb}
 use lib.ListN.{length}
-use Rattle.table_text.specs.Pieces.{pieceOf}
 use Rattle.table_text.proofs.piece_at.Statement.{statement}
 use Rattle.table_text.proofs.piece_at.Tie as tie
 

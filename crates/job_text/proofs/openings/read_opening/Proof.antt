@@ -1,5 +1,6 @@
+-- `read_opening`: the line of the step and then the line of the fee; the first fault is the whole's.
 use borrow.Author.Needs.{needs}
-use mathlib.Core.Path.{_≡_, refl, ap, sym, _∙_}
+use mathlib.Core.Path.{ap, sym, _∙_}
 use Rattle.lines.specs.Text.{bytes}
 use Rattle.lines.specs.Parser.{return}
 use Rattle.job_text.specs.Grammar.{opening}

@@ -1,5 +1,5 @@
 -- `read_openings`: what is read so far stands before what the chain of openings still gives.
-use Prim.Native.Nat.{ℕ, _+_, _-_, _≤_, _<_}
+use Prim.Native.Nat.{ℕ, _-_, _≤_}
 use mathlib.Core.Path.{_≡_, refl, ap, sym, _∙_}
 use mathlib.Core.List.{map}
 use native.Mathlib.Omega.{arith}

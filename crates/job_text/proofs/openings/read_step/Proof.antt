@@ -1,6 +1,6 @@
+-- `read_step`: the line's row, and then the rule that openings rise and stay within the horizon.
 use borrow.Author.Needs.{needs}
-use native.Mathlib.Omega.{arith}
-use mathlib.Core.Path.{_≡_, refl, ap, sym, _∙_, subst}
+use mathlib.Core.Path.{ap, sym}
 use Rattle.lines.specs.Text.{bytes}
 use Rattle.lines.specs.Cursor.{rowAnswer}
 use Rattle.lines.proofs.Parsing.{checked-good, checked-not, checked-fault, rising-yes, rising-low, rising-high, got-value, got-fault, got-place}

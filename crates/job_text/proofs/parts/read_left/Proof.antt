@@ -1,5 +1,6 @@
+-- `read_left`: the line's row, and then the rule that `left` is at most `life`.
 use borrow.Author.Needs.{needs}
-use mathlib.Core.Path.{_≡_, refl, ap, sym, _∙_, subst}
+use mathlib.Core.Path.{ap, sym}
 use Rattle.lines.specs.Text.{bytes}
 use Rattle.lines.specs.Cursor.{rowAnswer}
 use Rattle.lines.proofs.Parsing.{checked-good, checked-not, checked-fault, upTo-yes, upTo-not, got-value, got-fault, got-place}

@@ -1,7 +1,8 @@
+-- `read_part`: the lines of the life, of what is left and of the prices, each where the one before ends; the first fault is the whole's.
 use borrow.Author.Needs.{needs}
 use Prim.Native.Nat.{ℕ}
 use mathlib.Core.List.{List}
-use mathlib.Core.Path.{_≡_, refl, ap, sym, _∙_}
+use mathlib.Core.Path.{ap, sym, _∙_}
 use Rattle.lines.specs.Text.{bytes}
 use Rattle.lines.specs.Parser.{times, row}
 use Rattle.job_text.specs.Grammar.{part}

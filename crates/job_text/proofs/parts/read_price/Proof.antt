@@ -1,3 +1,4 @@
+-- `read_price`: the line's row.
 use borrow.Author.Needs.{needs}
 use Rattle.lines.specs.Text.{bytes}
 use Rattle.job_text.proofs.parts.read_price.Statement.{statement}

@@ -1,6 +1,5 @@
 -- `read_body`: the openings, the number of parts and the parts, each where the one before ends; the first fault is the whole's.
-use Prim.Native.Nat.{ℕ}
-use mathlib.Core.Path.{_≡_, ap, sym, _∙_}
+use mathlib.Core.Path.{ap, sym, _∙_}
 use mathlib.Core.List.{List, map}
 use lib.ListN.{take}
 use Rattle.lines.specs.Text.{bytes}

@@ -1,5 +1,5 @@
 -- `read_job`: a text over the limit is refused; else its lines decide, and what stands behind them.
-use mathlib.Core.Path.{_≡_, refl, ap, sym, _∙_}
+use mathlib.Core.Path.{ap, _∙_}
 use Rattle.lines.specs.Cursor.{judged}
 use Rattle.lines.proofs.Parsing.{close-read, text-long, text-fits}
 use Rattle.job_text.specs.Grammar.{Given, maxBytes, jobLines}

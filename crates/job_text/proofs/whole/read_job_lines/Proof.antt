@@ -1,5 +1,5 @@
 -- `read_job_lines`: three numbers and the body, each where the one before ends; the first fault is the whole's.
-use mathlib.Core.Path.{_≡_, ap, sym, _∙_}
+use mathlib.Core.Path.{ap, sym, _∙_}
 use Rattle.lines.specs.Text.{bytes}
 use Rattle.lines.specs.Cursor.{rowAnswer}
 use Rattle.lines.proofs.Parsing.{bind-good, bind-fault, got-value, got-fault, got-place, got-most}

@@ -1,14 +1,13 @@
 -- `lines::put_number`, which calls itself on n / 10, meets its contract.
 use Prim.Native.Nat.{ℕ, _+_, _/_, _≤_, _<_}
-use mathlib.Core.Path.{_≡_, refl, sym, ap, _∙_}
+use mathlib.Core.Path.{_≡_, refl, sym}
 use borrow.Author.Needs.{needs}
 use native.Mathlib.Omega.{arith}
-use lib.ListN.{length, length-append, length-set}
+use lib.ListN.{length, length-set}
 use borrow.Fn.Kinds.{In}
 use borrow.Fn.PlainCycle.{Measures, is, falls, and}
 use Rattle.lines.specs.Text.{decimal}
-use Rattle.lines.specs.Wrote.{Wrote}
-use Rattle.lines.proofs.Writing.{none, one, then, kept, same, decimal-few, decimal-more, one-digit, decimal-longer}
+use Rattle.lines.proofs.Writing.{one, then, kept, same, decimal-few, decimal-more, one-digit, decimal-longer}
 use Rattle.lines.proofs.digits.put_number.Reads as put-number
 use Rattle.lines.proofs.digits.put_number.Kinds as put-number-kinds
 use Rattle.lines.proofs.digits.+put_number.Lts-put_number as put-number-lts

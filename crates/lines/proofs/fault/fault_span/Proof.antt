@@ -1,30 +1,21 @@
 -- `fault_span`: where the lines before the asked one end is known of `skip_lines`; the line's length of `line_length`.
 use borrow.Author.Needs.{needs}
-use Prim.Native.Nat.{ℕ, _-_}
-use mathlib.Core.Path.{_≡_, ap, sym, _∙_}
+use mathlib.Core.Path.{ap, sym, _∙_}
 use Rattle.lines.specs.Fault.{spanIn}
 use Rattle.lines.proofs.Reading.{rest-of}
 use Rattle.lines.proofs.Breaks.{span-zero, span-is, span-missing, span-there}
 use Rattle.lines.proofs.fault.fault_span.Statement.{statement}
 use Rattle.lines.proofs.fault.fault_span.Tie as tie
-use Rattle.lines.proofs.fault.fault_span.Reads as reads
-use Rattle.lines.proofs.fault.fault_span.Lts as lts
-use Rattle.lines.proofs.fault.line_length.Reads as line-length-reads
-use Rattle.lines.proofs.fault.skip_lines.Reads as skip-lines-reads
 
--- src/fault.rt:49:9
 returns : tie.Need-returns
 returns c = span-zero _ _ (c .if1 .taken)
 
--- src/fault.rt:54:31
 sub-skip-lines : tie.Need-sub-skip-lines
 sub-skip-lines c = search needs
 
--- src/fault.rt:54:9
 skip-lines-requires : tie.Need-skip-lines-requires
 skip-lines-requires c κs = search needs
 
--- src/fault.rt:56:9
 returns-2 : tie.Need-returns-2
 returns-2 c =
     let s = c .before .before .before .before .args .text .now in
@@ -32,23 +23,18 @@ returns-2 c =
     ∙ ap (spanIn s) (c .before .skip-lines .ensures .1)
     ∙ sym (span-is s _ (c .before .before .if1 .left))
 
--- src/fault.rt:61:25
 sub-line-length : tie.Need-sub-line-length
 sub-line-length c = search needs
 
--- src/fault.rt:61:25
 part-line-length-start : tie.Need-part-line-length-start
 part-line-length-start c = search needs
 
--- src/fault.rt:61:25
 part-line-length-end : tie.Need-part-line-length-end
 part-line-length-end c = search needs
 
--- src/fault.rt:61:9
 line-length-requires : tie.Need-line-length-requires
 line-length-requires c κs = search needs
 
--- src/fault.rt:45:1
 returns-3 : tie.Need-returns-3
 returns-3 c =
     let s = c .before .before .before .before .before .before .args .text .now in

@@ -1,3 +1,4 @@
+-- `line_length`: none of the bytes so far ends the line.
 use Prim.Native.Nat.{_+_, _-_, _≤_}
 use mathlib.Core.Path.{_≡_}
 use native.Mathlib.Omega.{arith}

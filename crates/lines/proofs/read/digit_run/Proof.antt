@@ -1,7 +1,7 @@
+-- `digit_run`: the i bytes so far are digits, and the run goes on with that of the rest.
 use Prim.Native.Nat.{_+_, _-_, _≤_}
-use mathlib.Core.Path.{_≡_, refl, ap}
+use mathlib.Core.Path.{_≡_, ap}
 use native.Mathlib.Omega.{arith}
-use borrow.Author.Needs.{needs}
 use lib.ListN.{length, drop}
 use Rattle.lines.specs.Line.{digits}
 use Rattle.lines.proofs.Reading.{digit-low, digit-high, digit-yes, digits-more, digits-stop, digits-end}

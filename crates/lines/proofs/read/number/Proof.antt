@@ -1,7 +1,7 @@
+-- `number`: the number of the first i digits, which the rest of the digits carry on.
 use Prim.Native.Nat.{_+_, _-_, _≤_, _<_, _^_}
 use mathlib.Core.Path.{_≡_, refl, ap, sym, _∙_}
 use native.Mathlib.Omega.{arith}
-use borrow.Author.Needs.{needs}
 use lib.ListN.{length, drop}
 use Rattle.lines.specs.Line.{digits, numberFrom}
 use Rattle.lines.proofs.Reading.{Digit, digit-at, pow-step, pow-nine, number-next, number-end}

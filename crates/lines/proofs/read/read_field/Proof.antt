@@ -1,6 +1,7 @@
+-- `read_field`: by the line that was read, and then by its range.
 use borrow.Author.Needs.{needs}
 use native.Mathlib.Omega.{arith}
-use mathlib.Core.Path.{_≡_, refl, ap, sym, _∙_}
+use mathlib.Core.Path.{sym, _∙_}
 use Rattle.lines.proofs.Reading.{field-none, field-low, field-high, field-good}
 use Rattle.lines.proofs.read.read_field.Statement.{statement}
 use Rattle.lines.proofs.read.read_field.Tie as tie

@@ -1,10 +1,10 @@
+-- `read_line`: by the key, and then by the value behind it.
 use borrow.Author.Needs.{needs}
 use native.Mathlib.Omega.{arith}
-use mathlib.Core.Path.{_≡_, refl, ap, sym, _∙_, subst}
-use Prim.Native.Nat.{ℕ}
-use lib.ListN.{length, getD, drop, length-drop}
+use mathlib.Core.Path.{_≡_, ap, sym, _∙_, subst}
+use lib.ListN.{length, drop, length-drop}
 use Rattle.lines.specs.Line.{readValue, after}
-use Rattle.lines.specs.declared.read.Line.the-variants.{Value, Bad}
+use Rattle.lines.specs.declared.read.Line.the-variants.{Value}
 use Rattle.lines.proofs.Reading.{starts-le, value-within, Within, line-not, line-is, rest-of}
 use Rattle.lines.proofs.read.read_line.Statement.{statement}
 use Rattle.lines.proofs.read.read_line.Tie as tie

@@ -1,9 +1,8 @@
+-- `read_value`: by the tests of the digits one after the other; what passes them all is a value.
 use borrow.Author.Needs.{needs}
 use native.Mathlib.Omega.{arith}
-use mathlib.Core.Path.{_≡_, refl, ap, sym, _∙_}
-use Prim.Native.Nat.{ℕ}
 use mathlib.Core.Logic.{⊎-elim}
-use lib.ListN.{length, getD, List·getD-eq-default}
+use lib.ListN.{List·getD-eq-default}
 use Rattle.lines.proofs.Reading.{none-bad, long-bad, mark-bad, zero-bad, value-good}
 use Rattle.lines.proofs.read.read_value.Statement.{statement}
 use Rattle.lines.proofs.read.read_value.Tie as tie

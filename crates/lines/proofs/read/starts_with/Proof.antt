@@ -1,7 +1,7 @@
-use Prim.Native.Nat.{_+_, _-_, _≤_, _<_, _^_}
-use mathlib.Core.Path.{_≡_, refl, ap, sym, _∙_}
+-- `starts_with`: the first i bytes agree, so the rest decides.
+use Prim.Native.Nat.{_-_, _≤_}
+use mathlib.Core.Path.{_≡_, refl, sym, _∙_}
 use native.Mathlib.Omega.{arith}
-use borrow.Author.Needs.{needs}
 use lib.ListN.{length, drop}
 use Rattle.lines.specs.Line.{startsWith}
 use Rattle.lines.proofs.Reading.{starts-more, starts-not, starts-end, starts-short}

@@ -1,9 +1,10 @@
+-- `read_row`: the field of the rest of the text, and the cursor behind its line.
 use borrow.Author.Needs.{needs}
 use native.Mathlib.Omega.{arith}
-use mathlib.Core.Path.{_≡_, refl, ap, sym, _∙_, subst}
+use mathlib.Core.Path.{_≡_, sym, _∙_, subst}
 use lib.ListN.{length, drop, length-drop}
 use Rattle.lines.specs.Parser.{readField}
-use Rattle.lines.specs.declared.read.Field.the-variants.{Value, Fault}
+use Rattle.lines.specs.declared.read.Field.the-variants.{Value}
 use Rattle.lines.proofs.Reading.{rest-of, InField, field-in}
 use Rattle.lines.proofs.Parsing.{row-good, row-fault, stands-after}
 use Rattle.lines.proofs.rows.read_row.Statement.{statement}

@@ -1,6 +1,6 @@
 -- `lines::put_bytes` meets its contract. The invariant: the first i bytes of src are written.
 use Prim.Native.Nat.{ℕ, _≤_, _+_, _-_}
-use mathlib.Core.Path.{_≡_, refl, sym, ap, _∙_}
+use mathlib.Core.Path.{_≡_, refl, ap, _∙_}
 use borrow.Author.Needs.{needs}
 use native.Mathlib.Omega.{arith}
 use native.Mathlib.Numerals.{add-one}

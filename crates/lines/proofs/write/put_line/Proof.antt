@@ -1,9 +1,7 @@
 -- `lines::put_line` meets its contract.
-use mathlib.Core.Path.{_≡_, refl}
-use borrow.Author.Needs.{needs}
 use native.Mathlib.Omega.{arith}
 use mathlib.Core.List.{_++_}
-use lib.ListN.{length, length-append}
+use lib.ListN.{length-append}
 use Rattle.lines.specs.Text.{line, decimal}
 use Rattle.lines.specs.Wrote.{Wrote}
 use Rattle.lines.proofs.Writing.{one, then, kept, line-length}

@@ -3,7 +3,6 @@ use Prim.Native.Nat.{_+_, _-_, _≤_}
 use mathlib.Core.Path.{refl, sym, ap, ap₂, _∙_}
 use native.Mathlib.Omega.{arith}
 use borrow.Author.Needs.{needs}
-use Rattle.model.specs.Model as model
 use Rattle.model.specs.Verdict.{Gaps, keeps, ruled, lateOf}
 use Rattle.job_text.specs.Views.{jobOf, partOf}
 use Rattle.plan_text.specs.Views.{changesFor}
