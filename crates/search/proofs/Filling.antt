@@ -8,20 +8,19 @@ use native.Mathlib.Decide.{ℕ-discrete, decLt}
 use borrow.Author.Tests.{le-ltb}
 use lib.ListN.{length, getD, take, drop, replicate, length-replicate, length-drop, length-take, List·getD-eq-default}
 use lib.Seq.{getD-take, getD-drop, length-take-le}
-use lib.IntN.{ℤ, pos, _-ℤ_}
-use lib.Signed.{mag}
+use lib.IntN.{ℤ, pos}
 use mir.Syntax.{w32}
 use mir.Val.{toZ, ofZ}
 use Rattle.branch.specs.declared.Bound.{Bound}
 use Rattle.branch.specs.declared.Bound.the-variants.{Missing, Sum}
-use Rattle.model.specs.Model.{Part, within, lastChange}
+use Rattle.model.specs.Model.{within}
 use Rattle.model.specs.LowerBound.{Offer, pick, leastOf, offers}
 use Rattle.least.specs.Marks.{markOf, Small}
 use Rattle.least.specs.Suffix.{codeOf, Suffixes}
-use Rattle.least.proofs.Diff.{mag-sub, back, small-back}
+use Rattle.least.proofs.Diff.{mag-sub, back}
 use Rattle.model.proofs.Bools.{after-one, there}
 use Rattle.least.proofs.Most.{AtMost, most-least}
-use Rattle.search.specs.Arrays.{longestLife, lastPosition, priceStride, priceSize, laneValue, partAt, columnOf, columnsFrom, sheetOf, Arrays}
+use Rattle.search.specs.Arrays.{longestLife, priceStride, priceSize, laneValue, partAt, columnOf, columnsFrom, sheetOf, Lived, Arrays}
 use Rattle.search.specs.Fill.{Wrote, reachOf, reachAt, column, LaneFilled, Span, Lanes, Cuts}
 use Rattle.walk.specs.Layout.{laneCount, markCount, top, laneLimit, inf, blockRows, priceRow, laneRows, suffixBase, reachBase, place, rowPlace, pricePlace, feeBase, feePlace, countPlace, suffixCuts, reachCuts, cutPlace, tablesSize}
 use Rattle.walk.specs.Sheet.{Column, noColumn}
@@ -191,7 +190,7 @@ module _ (ps : List ℕ) (q n : ℕ) (h : q < laneCount) (l : n ≤ 64) (s : len
   pub own-length : length (take n (drop (q * priceStride) ps)) ≡ n
   own-length = simp (length-take, length-drop) (omega arith)
 
--- ---- a lane's life and last change, as the code has them
+-- ---- a lane's life and last change
 
 -- a range of the parts' numbers is one of the lanes'
 pub lane-range : (l : List ℕ) (b : ℕ) → ((q : ℕ) → getD l q 0 ≤ b) → (q : ℕ) → laneValue l q ≤ b
@@ -201,30 +200,20 @@ lane-range l b f q = go (decLt q (length l))
     go (yes g) = rw (there l q (getD l 0 0) 0 g) (f q)
     go (no g) = rw (List·getD-eq-default l (getD l 0 0) {n = q} (omega (arith, g))) (f 0)
 
-change-small : (life left : ℕ) (f : ℤ) → life ≤ longestLife → left ≤ longestLife → f ≡ pos left -ℤ pos life → Small f
-change-small life left f h g e = subst Small (sym e) (omega (arith, mag-sub (pos left) (pos life)))
+module _ {ls rs : List ℕ} {q : ℕ} {v f : ℤ} (brief : (p : ℕ) → getD ls p 0 ≤ longestLife) (begun : (p : ℕ) → getD rs p 0 ≤ longestLife) (l : Lived ls rs q v f) where
+  pub change-small : Small f
+  change-small = rw (l .begins) (omega (arith, mag-sub (pos (laneValue rs q)) (pos (laneValue ls q)), lane-range ls longestLife brief q, lane-range rs longestLife begun q))
 
--- the marks after a last change f, read back from the bits of a signed number
-pub marks-small : (ss : List ℤ) (life left : ℕ) (f : ℤ) → life ≤ longestLife → left ≤ longestLife → f ≡ pos left -ℤ pos life → ((j : ℕ) → mag (getD ss j (pos 0)) ≤ lastPosition)
-    → (k : ℕ) → Small (markOf (toZ w32 (ofZ w32 f)) ss k)
-marks-small ss life left f h g e n zero = small-back f (change-small life left f h g e)
-marks-small ss life left f h g e n (suc k) = omega (arith, n k)
+  -- both, read back from the bits of signed numbers
+  pub lived-back : Lived ls rs q (toZ w32 (ofZ w32 v)) (toZ w32 (ofZ w32 f))
+  lived-back =
+      let life-small : Small v = rw (l .lives) (omega (arith, lane-range ls longestLife brief q)) in
+      record { lives = back v (omega arith) ∙ l .lives; begins = back f (omega (arith, change-small)) ∙ l .begins }
 
--- v is the part's life and f its last change, both read back from the bits of a signed number
-pub record Numbers (part : Part) (v f : ℤ) : Type 0 where
-  pub life : toZ w32 (ofZ w32 v) ≡ pos (part .life)
-  pub first : toZ w32 (ofZ w32 f) ≡ lastChange part
-
-pub numbers : (e : ℤ) (ss : List ℤ) (fs ls rs ps : List ℕ) (q life left : ℕ) (v f : ℤ) → Arrays e ss fs ls rs ps → life ≡ laneValue ls q → left ≡ laneValue rs q → v ≡ pos life → f ≡ pos left -ℤ pos life
-    → Numbers (partAt (length ss) ls rs ps q) v f
-numbers e ss fs ls rs ps q life left v f ar a b c d =
-    let l = laneValue ls q in
-    let r = laneValue rs q in
-    let w : v ≡ pos l = c ∙ ap pos a in
-    let g : f ≡ pos r -ℤ pos l = d ∙ ap₂ (λ (x y : ℕ). pos x -ℤ pos y) b a in
-    let m : Small v = subst Small (sym w) (omega (arith, lane-range ls longestLife (ar .brief) q)) in
-    let h : Small f = change-small l r f (lane-range ls longestLife (ar .brief) q) (lane-range rs longestLife (ar .begun) q) g in
-    record { life = back v (omega arith) ∙ w; first = back f (omega arith) ∙ g }
+-- the marks after a lane's last change are small
+pub marks-small : {e : ℤ} {ss : List ℤ} {fs ls rs ps : List ℕ} {q : ℕ} {v f : ℤ} → Arrays e ss fs ls rs ps → Lived ls rs q v f → (k : ℕ) → Small (markOf f ss k)
+marks-small ar l zero = change-small (ar .brief) (ar .begun) l
+marks-small ar l (suc k) = omega (arith, ar .near k)
 
 -- a lane filled for these numbers is filled for those
 pub filled-as : (e life first : ℤ) (ss : List ℤ) (ps : List ℕ) (e' life' first' : ℤ) (ps' t t' : List ℕ) (q : ℕ) → e ≡ e' → life ≡ life' → first ≡ first' → ps ≡ ps' → LaneFilled e ss (column life first ps) t t' q → LaneFilled e' ss (column life' first' ps') t t' q

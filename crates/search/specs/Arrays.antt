@@ -3,7 +3,7 @@ use Prim.Native.Nat.{ℕ, zero, suc, _*_, _<_, _≤_}
 use mathlib.Core.Path.{_≡_}
 use mathlib.Core.List.{List, [], _∷_, map}
 use lib.ListN.{length, getD, take, drop}
-use lib.IntN.{ℤ, pos}
+use lib.IntN.{ℤ, pos, _-ℤ_}
 use lib.Signed.{mag}
 use Rattle.model.specs.Model.{Part, Job, positions, end, lastChange, feeOf}
 use Rattle.model.specs.Verdict.{noPart}
@@ -32,6 +32,11 @@ laneValue l q = getD l q (getD l 0 0)
 -- the part of lane q: ls lives, rs first lives, ps prices at n openings
 abbrev pub partAt : ℕ → List ℕ → List ℕ → List ℕ → ℕ → Part
 partAt n ls rs ps q = record { life = laneValue ls q; left = laneValue rs q; prices = take n (drop (q * priceStride) ps) }
+
+-- lane q's life, and the position of the change before the first: ls lives, rs first lives
+pub record Lived (ls rs : List ℕ) (q : ℕ) (life first : ℤ) : Type 0 where
+  pub lives : life ≡ pos (laneValue ls q)
+  pub begins : first ≡ pos (laneValue rs q) -ℤ pos (laneValue ls q)
 
 -- a part as its lane has it
 abbrev pub columnOf : Part → Column

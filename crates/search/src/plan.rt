@@ -11,8 +11,7 @@ ghost use Rattle.search.specs.Arrays.{partAt, Arrays};
 ghost use Rattle.search.specs.Plan.{choiceAt, Chooses};
 use crate::Row;
 use crate::tables::STRIDE;
-use crate::tables::lane_value;
-use crate::tables::signed;
+use crate::tables::lane_life;
 
 // The decisions of a mask, the latest in its lowest bit; no stop past the last opening.
 pub fn stops_of(mask: u64, n: usize) -> [bool; 64]
@@ -46,12 +45,11 @@ fn part_changes(
     ensures { λ r. ⌜ r ≡ choiceAt end (now (positions .entry)) (partAt (length (now (positions .entry))) (now (lives .entry)) (now (lefts .entry)) (now (prices .entry)) q) (now (stops .entry)) ++ replicate (64 - length (now (positions .entry))) false ⌝ }
 {
     let n = positions.len();
-    let life = lane_value(lives, q);
-    let left = lane_value(lefts, q);
+    let lane = lane_life(lives, lefts, q);
     least::choice(
-        signed(life),
+        lane.life,
         end,
-        least::last_change(life, left),
+        lane.first,
         positions,
         &prices[q * STRIDE..q * STRIDE + n],
         stops,

@@ -8,7 +8,7 @@ ghost use Rattle.least.specs.Marks.{Small, markOf};
 ghost use Rattle.least.specs.Suffix.{tableSize};
 ghost use Rattle.walk.specs.Layout.{laneCount, markCount, top, inf, blockRows, blockSize, priceRow, feeBase, countPlace, tablesSize};
 ghost use Rattle.walk.specs.Tables.{Tables};
-ghost use Rattle.search.specs.Arrays.{longestLife, laneValue, partAt, columnOf, sheetOf, Arrays};
+ghost use Rattle.search.specs.Arrays.{longestLife, laneValue, partAt, columnOf, sheetOf, Lived, Arrays};
 ghost use Rattle.search.specs.Fill.{Wrote, reachOf, reachAt, column, LaneFilled, Span, Lanes, Dead, Cuts};
 use least::MARKS;
 use walk::rows::COUNT;
@@ -29,7 +29,7 @@ const PRICE_ROW: usize = 8450;
 pub const STRIDE: usize = 64;
 
 // Lane q's number: part q's, and past the last part the first part's.
-pub fn lane_value(values: &[u32], q: usize) -> u32
+fn lane_value(values: &[u32], q: usize) -> u32
     requires { ⌜ 0 < length (now values) ⌝ }
     ensures { λ r. ⌜ r ≡ laneValue (now (values .entry)) q ⌝ }
 {
@@ -41,11 +41,30 @@ pub fn lane_value(values: &[u32], q: usize) -> u32
 }
 
 // A life as a signed number.
-pub fn signed(x: u32) -> i32
+fn signed(x: u32) -> i32
     requires { ⌜ x ≤ longestLife ⌝ }
     ensures { λ r. ⌜ r ≡ pos x ⌝ }
 {
     x as i32
+}
+
+// A lane's life, and the position of the change before the first.
+pub struct LaneLife {
+    pub life: i32,
+    pub first: i32,
+}
+
+// Lane q's life and last change: part q's, and past the last part the first part's.
+pub fn lane_life(lives: &[u32], lefts: &[u32], q: usize) -> LaneLife
+    requires { ⌜ (0 < length (now lives)) × (0 < length (now lefts)) × ((p : ℕ) → getD (now lives) p 0 ≤ longestLife) × ((p : ℕ) → getD (now lefts) p 0 ≤ longestLife) ⌝ }
+    ensures { λ r. ⌜ Lived (now (lives .entry)) (now (lefts .entry)) q (r .life) (r .first) ⌝ }
+{
+    let life = lane_value(lives, q);
+    let left = lane_value(lefts, q);
+    LaneLife {
+        life: signed(life),
+        first: least::last_change(life, left),
+    }
 }
 
 // A number of a part's own table, as a lane has it.
@@ -144,12 +163,11 @@ fn fill_part(
     ensures { λ _. ⌜ LaneFilled end (now (positions .entry)) (columnOf (partAt (length (now (positions .entry))) (now (lives .entry)) (now (lefts .entry)) (now (prices .entry)) q)) (now (t .entry)) (now (t .exit)) q ⌝ }
 {
     let n = positions.len();
-    let life = lane_value(lives, q);
-    let left = lane_value(lefts, q);
+    let lane = lane_life(lives, lefts, q);
     fill_lane(
-        signed(life),
+        lane.life,
         end,
-        least::last_change(life, left),
+        lane.first,
         positions,
         &prices[q * STRIDE..q * STRIDE + n],
         q,

@@ -1,5 +1,5 @@
 -- `part_changes` is the tie rule's choice of part q within the stops.
-use Prim.Native.Nat.{_-_, _≤_}
+use Prim.Native.Nat.{_-_}
 use mathlib.Core.Path.{ap, _∙_}
 use mathlib.Core.Bool.{false}
 use mathlib.Core.List.{_++_}
@@ -9,35 +9,15 @@ use lib.ListN.{length, replicate}
 use mir.Facts.{toZ-ofZ}
 use Rattle.model.specs.LowerBound.{offers, choiceOf}
 use Rattle.least.proofs.Diff.{small-back}
-use Rattle.search.specs.Arrays.{longestLife}
-use Rattle.search.proofs.Filling.{own-is, own-length, lane-range, marks-small, numbers}
+use Rattle.search.proofs.Filling.{own-is, own-length, marks-small, lived-back}
 use Rattle.search.proofs.plan.part_changes.Statement.{statement}
 use Rattle.search.proofs.plan.part_changes.Tie as tie
 
--- ---- what is known of the lane's life and first life
+abbrev start : tie.After-lane-life → tie.Start
+start c = c .before .before .before .before .before .before .before
 
-module _ (c : tie.After-lane-value2) where
-  abbrev start : tie.Start
-  start = c .before .before .before .before .before .before .before .before
-
-  life-range : c .before .lane-value .result ≤ longestLife
-  life-range = omega (arith, c .before .lane-value .ensures, lane-range (start .args .lives .now) longestLife (start .pre .0 .brief) (start .args .q))
-
-  left-range : c .lane-value2 .result ≤ longestLife
-  left-range =
-      omega (arith, c .lane-value2 .ensures, lane-range (start .args .lives .now) longestLife (start .pre .0 .brief) (start .args .q), lane-range (start .args .lefts .now) longestLife (start .pre .0 .begun) (start .args .q))
-
-lane-value-requires : tie.Need-lane-value-requires
-lane-value-requires c κs = c .before .before .before .before .before .before .pre .0 .some
-
-lane-value-requires-2 : tie.Need-lane-value-requires-2
-lane-value-requires-2 c κs = let r = c .before .before .before .before .before .before .before .pre .0 in omega (arith, r .some, r .lefts)
-
-signed-requires : tie.Need-signed-requires
-signed-requires c κs = life-range c
-
-last-change-requires : tie.Need-last-change-requires
-last-change-requires c κs = (life-range (c .before), left-range (c .before))
+lane-life-requires : tie.Need-lane-life-requires
+lane-life-requires c κs = search needs
 
 mul-choice : tie.Need-mul-choice
 mul-choice c = search needs
@@ -73,7 +53,7 @@ choice-requires c κs =
         few = r .few;
         prices = ap length (own-is ps (a .q) n lane (r .few) (r .prices)) ∙ own-length ps (a .q) n lane (r .few) (r .prices);
         flags = flags;
-        small = marks-small (a .positions .now) _ _ _ (life-range v) (left-range v) (c .before .before .last-change .ensures) (r .near);
+        small = marks-small r (lived-back (r .brief) (r .begun) (v .lane-life .ensures));
       },
     )
 
@@ -88,19 +68,16 @@ returns c =
     let r = s .pre .0 in
     let n = length (a .positions .now) in
     let ps = a .prices .now in
-    let x = numbers (a .end) (a .positions .now) (a .fees .now) (a .lives .now) (a .lefts .now) ps (a .q) _ _ _ _ r (v .before .lane-value .ensures) (v .lane-value2 .ensures) (c .before .before .before .before .before .before .signed .ensures) (c .before .before .before .before .before .last-change .ensures) in
+    let x = lived-back (r .brief) (r .begun) (v .lane-life .ensures) in
     let end = toZ-ofZ (s .fits .end) in
     let own = own-is ps (a .q) n (s .pre .2) (r .few) (r .prices) in
-    c .before .before .choice .ensures ∙ (λ i. choiceOf (x .life i) (end i) (x .first i) (offers (a .positions .now) (own i) (a .stops .now)) ++ replicate (64 - n) false)
+    c .before .before .choice .ensures ∙ (λ i. choiceOf (x .lives i) (end i) (x .begins i) (offers (a .positions .now) (own i) (a .stops .now)) ++ replicate (64 - n) false)
 
 pub part-changes-spec : {M : Type 1} → statement M
 part-changes-spec =
     tie.close
     (tie.spec
-    lane-value-requires
-    lane-value-requires-2
-    signed-requires
-    last-change-requires
+    lane-life-requires
     mul-choice
     mul-choice-2
     add-choice

@@ -9,36 +9,17 @@ use lib.IntN.{pos}
 use mir.Facts.{toZ-ofZ}
 use Rattle.model.specs.Model.{lastChange}
 use Rattle.least.proofs.Diff.{small-back}
-use Rattle.search.specs.Arrays.{longestLife, priceStride, partAt}
-use Rattle.search.proofs.Filling.{own-each, own-is, own-length, lane-range, marks-small, numbers, filled-as}
+use Rattle.search.specs.Arrays.{priceStride, partAt}
+use Rattle.search.proofs.Filling.{own-each, own-is, own-length, marks-small, lived-back, filled-as}
 use Rattle.search.proofs.tables.fill_part.Statement.{statement}
 use Rattle.walk.specs.Layout.{top}
 use Rattle.search.proofs.tables.fill_part.Tie as tie
 
--- ---- what is known of the lane's life and first life
+abbrev start : tie.After-lane-life → tie.Start
+start c = c .before .before .before .before .before .before .before
 
-module _ (c : tie.After-lane-value2) where
-  abbrev start : tie.Start
-  start = c .before .before .before .before .before .before .before .before
-
-  life-range : c .before .lane-value .result ≤ longestLife
-  life-range = omega (arith, c .before .lane-value .ensures, lane-range (start .args .lives .now) longestLife (start .pre .0 .brief) (start .args .q))
-
-  left-range : c .lane-value2 .result ≤ longestLife
-  left-range =
-      omega (arith, c .lane-value2 .ensures, lane-range (start .args .lives .now) longestLife (start .pre .0 .brief) (start .args .q), lane-range (start .args .lefts .now) longestLife (start .pre .0 .begun) (start .args .q))
-
-lane-value-requires : tie.Need-lane-value-requires
-lane-value-requires c κs = c .before .before .before .before .before .before .pre .0 .some
-
-lane-value-requires-2 : tie.Need-lane-value-requires-2
-lane-value-requires-2 c κs = let r = c .before .before .before .before .before .before .before .pre .0 in omega (arith, r .some, r .lefts)
-
-signed-requires : tie.Need-signed-requires
-signed-requires c κs = life-range c
-
-last-change-requires : tie.Need-last-change-requires
-last-change-requires c κs = (life-range (c .before), left-range (c .before))
+lane-life-requires : tie.Need-lane-life-requires
+lane-life-requires c κs = search needs
 
 mul-fill-lane : tie.Need-mul-fill-lane
 mul-fill-lane c = search needs
@@ -69,7 +50,7 @@ fill-lane-requires c κs =
     let n = length (a .positions .now) in
     let ps = a .prices .now in
     let w = own-is ps (a .q) n lane (r .few) (r .prices) in (
-      (room, r .few, ap length w ∙ own-length ps (a .q) n lane (r .few) (r .prices), small-back (a .end) (omega (arith, r .late)), marks-small (a .positions .now) _ _ _ (life-range v) (left-range v) (c .before .before .before .last-change .ensures) (r .near)),
+      (room, r .few, ap length w ∙ own-length ps (a .q) n lane (r .few) (r .prices), small-back (a .end) (omega (arith, r .late)), marks-small r (lived-back (r .brief) (r .begun) (v .lane-life .ensures))),
       (lane, size, λ j. subst (λ (x : List ℕ). getD x j 0 ≤ top) (sym w) (own-each (λ (x : ℕ). x ≤ top) ps (a .q) n (omega arith) (λ j. r .cheap (a .q * priceStride + j)) j)),
     )
 
@@ -88,18 +69,15 @@ returns c =
     let n = length (a .positions .now) in
     let ps = a .prices .now in
     let part = partAt n (a .lives .now) (a .lefts .now) ps (a .q) in
-    let x = numbers (a .end) (a .positions .now) (a .fees .now) (a .lives .now) (a .lefts .now) ps (a .q) _ _ _ _ r (v .before .lane-value .ensures) (v .lane-value2 .ensures) (c .before .before .before .before .before .before .before .before .before .signed .ensures) (c .before .before .before .before .before .before .before .before .last-change .ensures) in
+    let x = lived-back (r .brief) (r .begun) (v .lane-life .ensures) in
     filled-as _ _ _ (a .positions .now) _ (a .end) (pos (part .life)) (lastChange part) (part .prices) (a .t .now) (c .before .before .before .before .fill-lane .last .1 .1 .1 .1 .1 .1 .1 .0) (a .q)
-    (toZ-ofZ (s .fits .end)) (x .life) (x .first) (own-is ps (a .q) n (s .pre .3) (r .few) (r .prices)) (c .before .before .before .before .fill-lane .ensures)
+    (toZ-ofZ (s .fits .end)) (x .lives) (x .begins) (own-is ps (a .q) n (s .pre .3) (r .few) (r .prices)) (c .before .before .before .before .fill-lane .ensures)
 
 pub fill-part-spec : {M : Type 1} → statement M
 fill-part-spec =
     tie.close
     (tie.spec
-    lane-value-requires
-    lane-value-requires-2
-    signed-requires
-    last-change-requires
+    lane-life-requires
     mul-fill-lane
     mul-fill-lane-2
     add-fill-lane
