@@ -1,16 +1,13 @@
 -- A loop over the stack's rows from the top down: what the lanes hold, with the rows still to come, is the lane of all rows.
 use Prim.Native.Nat.{_^_, ℕ, zero, suc, _+_, _-_, _≤_, _<_, min}
-use mathlib.Core.Path.{_≡_, refl, sym, ap, _∙_}
+use mathlib.Core.Path.{_≡_, refl, ap, _∙_}
 use mathlib.Core.List.{List}
 use native.Mathlib.Omega.{arith}
 use lib.ListN.{length, getD, replicate, getD-replicate}
-use Rattle.branch.specs.declared.Bound.{Bound}
-use Rattle.branch.specs.declared.Bound.the-variants.{Sum}
 use Rattle.walk.specs.Layout.{laneCount, inf, blockSize, place, rowPlace, markPlace, stackSize}
 use Rattle.walk.specs.Sheet.{reach}
-use Rattle.walk.specs.Tables.{valueOf}
 use Rattle.walk.specs.Rows.{lane, sumLanes, Stack}
-use Rattle.walk.proofs.Lanes.{lane-most, lane-cut, sum-rises, sum-same, value-some}
+use Rattle.walk.proofs.Lanes.{lane-most, lane-cut, sum-rises, sum-same}
 
 pub record Going (t w : List ℕ) (base j rows : ℕ) (acc : List ℕ) (n : ℕ) : Type 0 where
   pub inside : n ≤ rows

@@ -5,7 +5,7 @@ use mathlib.Core.Bool.{Bool, true, false, cond}
 use mathlib.Core.List.{List, [], _∷_}
 use native.Mathlib.Omega.{arith}
 use native.Mathlib.Numerals.{add-one}
-use native.Mathlib.Nat.{two-pow-succ, pow-le-pow-right}
+use native.Mathlib.Nat.{add-zero, two-pow-succ, pow-le-pow-right}
 use borrow.Author.Tests.{ltb-true, leb-true, leb-false}
 use lib.Dec.{ltb, leb}
 use lib.IntN.{ℤ}
@@ -178,15 +178,12 @@ module _ (sheet : Sheet) (t w w' : List ℕ) (p : Node) (stop : Bool) (e : Bound
         tables = a .tables;
         inside = omega arith;
         mask = omega (arith, mask-next (p .at) (p .mask) (a .mask));
-        spent = a .spent ∙ sym (ap (sumAt (sheet .fees)) d ∙ fees-snoc (sheet .fees) (decided p) false (omega (arith, less)) ∙ plus-none (sumAt (sheet .fees) (decided p)));
+        spent = a .spent ∙ sym (ap (sumAt (sheet .fees)) d ∙ fees-snoc (sheet .fees) (decided p) false (omega (arith, less)) ∙ add-zero (sumAt (sheet .fees) (decided p)));
         poor = omega (arith, a .poor);
         sums = g ∙ ap (λ (j : ℕ). valueOf (sumLanes (λ (q : ℕ). lane t w' suffixBase j q r))) (sym n) ∙ node-sum sheet t w' (snoc (decided p) false) r (a .tables) rn (omega (arith, n)) ∙ ap (partSums sheet) (sym d);
         low = λ y k. value-sum (sumLanes (λ (q : ℕ). lane t w' suffixBase (p .at + 1) q r)) y (sym g ∙ k) .1;
         rows = ready (subst (λ (l : List Bool). Rows sheet w' l r) (sym d) rn);
       }
-    where
-      plus-none : (k : ℕ) → k + 0 ≡ k
-      plus-none k = omega arith
 
   pub at-yes : (w'' : List ℕ) (fee : ℕ) → Kept w' w'' r → fee ≡ getD t (feePlace (p .at)) 0 → At sheet t w'' (yesN p r fee) true (Sum x)
   at-yes w'' fee k g =

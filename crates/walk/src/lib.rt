@@ -2,11 +2,9 @@
 pub mod rows;
 
 ghost use mathlib.Core.Path.{_≡_};
-ghost use mathlib.Core.Bool.{Bool, true, false};
-ghost use Prim.Native.Nat.{ℕ, _+_, _-_, _*_, _^_, _<_, _≤_};
-ghost use mathlib.Core.List.{[]};
-ghost use lib.ListN.{length, getD};
-ghost use Rattle.branch.specs.Search.{atMost};
+ghost use mathlib.Core.Bool.{true, false};
+ghost use Prim.Native.Nat.{ℕ, _+_, _-_, _*_, _^_, _<_};
+ghost use lib.ListN.{length};
 ghost use Rattle.branch.specs.Label.{openFrom};
 ghost use Rattle.branch.specs.declared.Bound.{Bound};
 ghost use Rattle.branch.specs.declared.Bound.the-variants.{Sum};

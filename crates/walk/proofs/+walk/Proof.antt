@@ -8,7 +8,7 @@ use native.Mathlib.Omega.{arith}
 use borrow.Author.Needs.{needs}
 use borrow.Fn.Kinds.{In}
 use borrow.Fn.PlainCycle.{Measures, is, falls, and}
-use lib.ListN.{length, getD}
+use lib.ListN.{length}
 use Rattle.branch.specs.Search.{counted}
 use Rattle.branch.specs.Label.{limitedFrom, openFrom}
 use Rattle.branch.specs.declared.Bound.{Bound}
@@ -16,10 +16,10 @@ use Rattle.branch.specs.declared.Bound.the-variants.{Sum}
 use Rattle.walk.specs.Tables.{valueOf}
 use Rattle.walk.specs.declared.Search.{Search}
 use Rattle.walk.specs.declared.Node.{Node}
-use Rattle.walk.specs.Layout.{inf, suffixBase}
+use Rattle.walk.specs.Layout.{suffixBase}
 use Rattle.walk.specs.Sheet.{Sheet, sheetBound}
 use Rattle.walk.specs.Rows.{Kept, Rows, Stack}
-use Rattle.walk.specs.State.{decided, view, noN, yesN, At}
+use Rattle.walk.specs.State.{decided, view, noN, At}
 use Rattle.walk.proofs.Lanes.{kept-refl, kept-then}
 use Rattle.walk.proofs.Nodes.{bound-some, owing, settled, sums-asks, at-no, at-yes, mask-fits, full-walked, both-walked, Opened, closed-walked, open-walked}
 use Rattle.walk.proofs.+walk.{statement}

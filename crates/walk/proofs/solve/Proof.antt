@@ -1,17 +1,16 @@
 -- `solve` is the limited walk from the first node, and its bound is the floor: the base row, its part sums, and `walk`.
-use Prim.Native.Nat.{ℕ, _+_, _-_}
-use mathlib.Core.Path.{_≡_, refl, sym, ap, subst, _∙_}
+use Prim.Native.Nat.{ℕ, _-_}
+use mathlib.Core.Path.{_≡_, sym, ap, subst, _∙_}
 use mathlib.Core.Bool.{false}
 use mathlib.Core.List.{[]}
 use native.Mathlib.Omega.{arith}
 use borrow.Author.Needs.{needs}
-use lib.ListN.{length, getD}
-use Rattle.branch.specs.Search.{none}
-use Rattle.branch.specs.Label.{limitedFrom, openFrom}
+use lib.ListN.{length}
+use Rattle.branch.specs.Label.{openFrom}
 use Rattle.branch.specs.declared.Bound.the-variants.{Sum}
 use Rattle.walk.specs.declared.Node.{Node}
 use Rattle.walk.specs.declared.Search.{Search}
-use Rattle.walk.specs.Layout.{suffixBase, suffixCuts}
+use Rattle.walk.specs.Layout.{suffixBase}
 use Rattle.walk.specs.Rows.{Stack}
 use Rattle.walk.specs.Sheet.{Sheet, sheetBound}
 use Rattle.walk.specs.Tables.{valueOf, Tables}

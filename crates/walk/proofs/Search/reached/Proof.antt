@@ -1,5 +1,4 @@
 -- `reached` counts the node, or says that it lies beyond the limit.
-use mathlib.Core.Path.{_∙_}
 use borrow.Author.Needs.{needs}
 use borrow.Author.Tests.{le-leb, lt-leb}
 use Rattle.walk.proofs.Search.reached.Statement.{statement}

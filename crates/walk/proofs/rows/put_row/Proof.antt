@@ -3,7 +3,7 @@ use Prim.Native.Nat.{ℕ, _+_, _-_, _*_, _≤_}
 use mathlib.Core.Path.{_≡_, refl, ap₂, subst, _∙_}
 use native.Mathlib.Omega.{arith}
 use borrow.Author.Needs.{needs}
-use lib.ListN.{getD, take, drop}
+use lib.ListN.{getD}
 use Rattle.walk.specs.Layout.{laneCount, reachBase, priceBase, pricePlace, reachCuts, cutPlace}
 use Rattle.walk.specs.Rows.{lane}
 use Rattle.walk.proofs.Filled.{window-at, window-length}
