@@ -11,7 +11,7 @@ use Rattle.lines.proofs.Arrays.{take-more}
 use Rattle.model.specs.Model as model
 use Rattle.model.specs.Verdict.{noPart}
 use Rattle.job_text.specs.declared.Part.{Part}
-use Rattle.job_text.specs.Views.{blankPart as noRecord, partOf}
+use Rattle.job_text.specs.Views.{blankPart, partOf}
 use Rattle.job_text.proofs.Jobs.{viewed, part-viewed}
 use Rattle.part_records.specs.Records.{recordAt}
 use Rattle.search.specs.Arrays.{priceStride, priceSize}
@@ -25,7 +25,7 @@ module _ (f : Part → ℕ) where
       → take (q + 1) (set l q x) ≡ map f (take (q + 1) parts)
   taken-more parts l q x g h e t =
       take-more q l x g ∙ ap₂ (λ (a : List ℕ) (y : ℕ). a ++ y ∷ []) t e
-      ∙ sym (rw (add-one, take-suc parts q noRecord h) (map-append f (take q parts) (recordAt parts q ∷ [])))
+      ∙ sym (rw (add-one, take-suc parts q blankPart h) (map-append f (take q parts) (recordAt parts q ∷ [])))
 
 -- ---- their prices
 

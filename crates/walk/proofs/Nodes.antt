@@ -1,7 +1,7 @@
 -- From a node to the nodes below it: what the walk is given at each, and how the code's numbers are the search's.
 use Prim.Native.Nat.{ℕ, zero, suc, _+_, _-_, _*_, _/_, _%_, _^_, _<_, _≤_}
 use mathlib.Core.Path.{_≡_, refl, sym, ap, ap₂, subst, _∙_}
-use mathlib.Core.Bool.{Bool, true, false, cond}
+use mathlib.Core.Bool.{Bool, true, false, cond, false≢true}
 use mathlib.Core.List.{List, [], _∷_}
 use native.Mathlib.Omega.{arith}
 use native.Mathlib.Numerals.{add-one}
@@ -15,6 +15,7 @@ use Rattle.branch.specs.declared.Bound.the-variants.{Missing, Sum}
 use Rattle.branch.specs.Lower.{add, total}
 use Rattle.branch.specs.Search.{none, plan, below, snoc, Limited, kept}
 use Rattle.branch.specs.Label.{limitedFrom, openFrom}
+use Rattle.branch.proofs.Bounds.{no-sum}
 use Rattle.branch.proofs.Steps.{fixed-stop, fixed-drop, fixed-open, open-full, open-both}
 use Rattle.model.specs.Model.{sumAt}
 use Rattle.model.specs.LowerBound.{Offer, pick, leastOf, offers}
@@ -93,7 +94,7 @@ value-sum s x e = go (ltb s inf) refl e
   where
     go : (t : Bool) → ltb s inf ≡ t → pick t (Sum s) Missing ≡ Sum x → (s ≡ x) × (x < inf)
     go true f g = let z : s ≡ x = cc in (z, omega (arith, ltb-true s inf f))
-    go false f g = let z : _≡_ {A = ℕ} 0 1 = cc in absurd (omega arith)
+    go false f g = absurd (no-sum Missing x refl g)
 
 -- ---- a node
 
@@ -110,7 +111,7 @@ module _ (sheet : Sheet) (t w : List ℕ) (p : Node) (stop : Bool) (e : Bound) (
   owing s = go stop (a .rows) s
     where
       go : (b : Bool) → Pending sheet w (decided p) (p .rows) b → b ≡ true → Owing t w (p .at) (p .rows)
-      go false (ready r) f = let z : _≡_ {A = ℕ} 0 1 = cc in absurd (omega arith)
+      go false (ready r) f = absurd (false≢true f)
       go true (owed q f r) g =
           let l : length q + 1 ≡ p .at = sym (simp length-append at (ap length f)) ∙ bits-length (p .at) (p .mask) in
           let z : length q ≡ p .at - 1 = omega arith in
@@ -244,7 +245,7 @@ module _ (sheet : Sheet) (t w : List ℕ) (p : Node) (stop : Bool) (e : Bound) (
       drop (Sum x) g h = tested x g ∙ no (viewed (p .spent + x) s) h
         where
           no : (b : Bool) → cond b (Sum x) Missing ≡ Missing → b ≡ false
-          no true u = let z : _≡_ {A = ℕ} 0 1 = cc in absurd (omega arith)
+          no true u = absurd (no-sum (Sum x) x u refl)
           no false u = refl
 
       go : (b : Bool) → leb L (s .count) ≡ b → cond b Missing (undropped (p .spent) e s) ≡ Missing → view n (cond b (stoppedS s) (countedS s)) ≡ walked
@@ -261,15 +262,15 @@ module _ (sheet : Sheet) (t w : List ℕ) (p : Node) (stop : Bool) (e : Bound) (
   open-walked y f = go (leb L (s .count)) refl f
     where
       kept-on : (e' : Bound) → e ≡ e' → undropped (p .spent) e' s ≡ Sum y → (e ≡ Sum y) × (below (sheetBound sheet (decided p)) (incumbent n s) ≡ true)
-      kept-on Missing g h = let z : _≡_ {A = ℕ} 0 1 = cc in absurd (omega arith)
+      kept-on Missing g h = absurd (no-sum Missing y refl h)
       kept-on (Sum x) g h = let r = yes (viewed (p .spent + x) s) h in (g ∙ r .0, tested x g ∙ r .1)
         where
           yes : (b : Bool) → cond b (Sum x) Missing ≡ Sum y → (Sum x ≡ Sum y) × (b ≡ true)
           yes true u = (u, refl)
-          yes false u = let z : _≡_ {A = ℕ} 0 1 = cc in absurd (omega arith)
+          yes false u = absurd (no-sum Missing y refl u)
 
       go : (b : Bool) → leb L (s .count) ≡ b → cond b Missing (undropped (p .spent) e s) ≡ Sum y → Opened y
-      go true h u = let z : _≡_ {A = ℕ} 0 1 = cc in absurd (omega arith)
+      go true h u = absurd (no-sum Missing y refl u)
       go false h u =
           let r = kept-on e refl u in
           let l = leb-false L (s .count) h in

@@ -1,7 +1,6 @@
 -- `settle` writes the row that a yes owes: by the two cases.
-use Prim.Native.Nat.{ℕ}
-use mathlib.Core.Bool.{Bool, true, false}
-use mathlib.Core.Path.{_≡_, refl, sym, _∙_}
+use mathlib.Core.Bool.{false≢true}
+use mathlib.Core.Path.{refl, sym, _∙_}
 use native.Mathlib.Omega.{arith}
 use borrow.Author.Needs.{needs}
 use Rattle.walk.proofs.rows.settle.Statement.{statement}
@@ -24,7 +23,7 @@ same-length c = search needs
 returns : tie.Need-returns
 returns c =
     record {
-      no = λ f. let z : _≡_ {A = Bool} true false = sym (c .before .before .before .before .if1 .taken) ∙ f in let y : _≡_ {A = ℕ} 0 1 = cc in absurd (omega arith);
+      no = λ f. absurd (false≢true (sym f ∙ c .before .before .before .before .if1 .taken));
       yes = λ f. (refl, c .before .before .put-row .ensures);
     }
 
@@ -32,7 +31,7 @@ returns-2 : tie.Need-returns-2
 returns-2 c =
     record {
       no = λ f. (refl, refl);
-      yes = λ f. let z : _≡_ {A = Bool} false true = sym (c .if1 .left) ∙ f in let y : _≡_ {A = ℕ} 0 1 = cc in absurd (omega arith);
+      yes = λ f. absurd (false≢true (sym (c .if1 .left) ∙ f));
     }
 
 pub settle-spec : {M : Type 1} → statement M
