@@ -21,7 +21,7 @@ use Rattle.job_text.proofs.Jobs.{Whole, blankOpening, opening-count, part-count
 use Rattle.clock.proofs.Places.{position-count}
 use Rattle.clock.proofs.Ranges.{position-small}
 use Rattle.model.proofs.Bools.{there}
-use Rattle.walk.specs.Layout.{top}
+use Rattle.lane_rows.specs.Layout.{top}
 use Rattle.search.specs.Arrays.{priceStride, longestLife, laneValue, partAt, Arrays, Holds}
 use Rattle.job_search.specs.Laid.{lifeOf, leftOf, Laid}
 

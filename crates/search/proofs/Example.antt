@@ -13,7 +13,7 @@ use lib.Signed.{mag}
 use Rattle.model.specs.Model.{Job, clock}
 use Rattle.model.specs.Verdict.{noPart}
 use Rattle.search.specs.Arrays.{longestLife, lastPosition, priceStride, partAt, Holds}
-use Rattle.walk.specs.Layout.{top}
+use Rattle.lane_rows.specs.Layout.{top}
 
 -- every number of the list is at most b
 abbrev allUpTo : ℕ → List ℕ → Bool

@@ -22,9 +22,9 @@ use Rattle.model.proofs.Bools.{after-one, there}
 use Rattle.least.proofs.Most.{AtMost, most-least}
 use Rattle.search.specs.Arrays.{longestLife, priceStride, priceSize, laneValue, partAt, columnOf, columnsFrom, sheetOf, Lived, Arrays}
 use Rattle.search.specs.Fill.{Wrote, reachOf, reachAt, column, LaneFilled, Span, Lanes, Cuts}
-use Rattle.walk.specs.Layout.{laneCount, markCount, top, laneLimit, inf, blockRows, priceRow, laneRows, suffixBase, reachBase, place, rowPlace, pricePlace, feeBase, feePlace, countPlace, suffixCuts, reachCuts, cutPlace, tablesSize}
-use Rattle.walk.specs.Sheet.{Column, noColumn}
-use Rattle.walk.specs.Tables.{Coded, Lane, Tables}
+use Rattle.lane_rows.specs.Layout.{laneCount, markCount, top, laneLimit, inf, blockRows, priceRow, laneRows, suffixBase, reachBase, place, rowPlace, pricePlace, feeBase, feePlace, countPlace, suffixCuts, reachCuts, cutPlace, tablesSize}
+use Rattle.lane_rows.specs.Sheet.{Column, noColumn}
+use Rattle.lane_rows.specs.Tables.{Coded, Lane, Tables}
 
 coded : (b : ℕ) (e : Bound) (v : ℕ) → b ≤ laneLimit → AtMost b e → v ≡ min (codeOf e) inf → Coded b v e
 coded b Missing v h l f = omega arith

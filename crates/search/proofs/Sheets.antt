@@ -17,8 +17,8 @@ use Rattle.model.specs.LowerBound.{pick, plus, lower, leastOf, offers, partBoun
 use Rattle.model.proofs.Bools.{after-one, there}
 use Rattle.search.specs.Arrays.{priceStride, laneValue, partAt, columnOf, columnsFrom, sheetOf, Holds}
 use Rattle.search.proofs.Filling.{own-each}
-use Rattle.walk.specs.Layout.{laneCount}
-use Rattle.walk.specs.Sheet.{columnBound, sheetBound}
+use Rattle.lane_rows.specs.Layout.{laneCount}
+use Rattle.lane_rows.specs.Sheet.{columnBound, sheetBound}
 
 -- ---- a part with nothing to pay
 

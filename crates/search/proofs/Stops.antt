@@ -12,7 +12,7 @@ use lib.IntN.{ℤ}
 use Rattle.search.specs.declared.Row.{Row}
 use Rattle.search.specs.Arrays.{partAt}
 use Rattle.search.specs.Plan.{choiceAt, noRow, Chooses}
-use Rattle.walk.specs.Layout.{laneCount}
+use Rattle.lane_rows.specs.Layout.{laneCount}
 use Rattle.walk.specs.State.{bits}
 
 drop-same : (n m : ℕ) → drop n (replicate m false) ≡ replicate (m - n) false

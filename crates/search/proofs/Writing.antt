@@ -7,7 +7,7 @@ use native.Mathlib.Decide.{ℕ-discrete, decLt}
 use lib.ListN.{length, getD, set, length-set}
 use lib.Seq.{getD-set-same, getD-set-other}
 use Rattle.search.specs.Fill.{Wrote, Span, Dead, Cuts}
-use Rattle.walk.specs.Layout.{laneCount, inf, blockSize, rowPlace, place}
+use Rattle.lane_rows.specs.Layout.{laneCount, inf, blockSize, rowPlace, place}
 
 module _ (f : ℕ → ℕ) (t : List ℕ) (q a : ℕ) where
   pub wrote-none : Wrote f t t q a a

@@ -7,8 +7,8 @@ use lib.IntN.{ℤ, pos, _-ℤ_}
 use lib.Signed.{mag}
 use Rattle.model.specs.Model.{Part, Job, positions, end, lastChange, feeOf}
 use Rattle.model.specs.Verdict.{noPart}
-use Rattle.walk.specs.Layout.{laneCount, top}
-use Rattle.walk.specs.Sheet.{Column, Sheet}
+use Rattle.lane_rows.specs.Layout.{laneCount, top}
+use Rattle.lane_rows.specs.Sheet.{Column, Sheet}
 
 -- the prices of part q stand from q * 64 on
 abbrev pub priceStride : ℕ

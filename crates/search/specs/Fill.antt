@@ -9,9 +9,9 @@ use Rattle.model.specs.Model.{within}
 use Rattle.model.specs.LowerBound.{pick}
 use Rattle.least.specs.Marks.{markOf}
 use Rattle.search.specs.Arrays.{partAt, columnOf}
-use Rattle.walk.specs.Layout.{laneCount, markCount, inf, blockRows, laneRows, tablesSize, rowPlace, place}
-use Rattle.walk.specs.Sheet.{Column}
-use Rattle.walk.specs.Tables.{Lane}
+use Rattle.lane_rows.specs.Layout.{laneCount, markCount, inf, blockRows, laneRows, tablesSize, rowPlace, place}
+use Rattle.lane_rows.specs.Sheet.{Column}
+use Rattle.lane_rows.specs.Tables.{Lane}
 
 -- lane q of rows a up to b is now what f says, and nothing else moved
 pub record Wrote (f : ℕ → ℕ) (t t' : List ℕ) (q a b : ℕ) : Type 0 where

@@ -9,7 +9,7 @@ use Rattle.model.specs.Model.{Part, lastChange}
 use Rattle.model.specs.LowerBound.{offers, choiceOf}
 use Rattle.search.specs.declared.Row.{Row}
 use Rattle.search.specs.Arrays.{partAt}
-use Rattle.walk.specs.Layout.{laneCount}
+use Rattle.lane_rows.specs.Layout.{laneCount}
 
 -- the tie rule's changes of a part within the stops
 abbrev pub choiceAt : ℤ → List ℤ → Part → List Bool → List Bool

@@ -10,13 +10,13 @@ ghost use Rattle.walk.specs.State.{Solves};
 ghost use Rattle.search.specs.Arrays.{sheetOf, Arrays, Holds};
 ghost use Rattle.search.specs.Outcome.{Answers};
 use branch::Bound;
+use lane_rows::STACK;
+use lane_rows::TABLES;
 use least::TABLE;
 use plan::changes;
 use plan::stops_of;
 use tables::fill;
 use walk::Solved;
-use walk::rows::STACK;
-use walk::rows::TABLES;
 use walk::solve;
 
 // One part's changes: a flag for each opening.

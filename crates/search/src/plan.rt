@@ -5,7 +5,7 @@ ghost use mathlib.Core.List.{_++_};
 ghost use Prim.Native.Nat.{_-_, _<_, _≤_};
 ghost use lib.ListN.{length, replicate};
 ghost use Rattle.least.specs.Suffix.{tableSize};
-ghost use Rattle.walk.specs.Layout.{laneCount};
+ghost use Rattle.lane_rows.specs.Layout.{laneCount};
 ghost use Rattle.walk.specs.State.{bits};
 ghost use Rattle.search.specs.Arrays.{partAt, Arrays};
 ghost use Rattle.search.specs.Plan.{choiceAt, Chooses};

@@ -1,7 +1,2 @@
--- Laws of the tables, the stack of rows and the walk.
-pub mod Filled
-pub mod Putting
-pub mod Front
-pub mod Lanes
-pub mod Going
+-- Laws of the nodes and of the walk's state.
 pub mod Nodes

@@ -21,12 +21,12 @@ use Rattle.model.specs.Model.{sumAt}
 use Rattle.model.specs.LowerBound.{Offer, pick, leastOf, offers}
 use Rattle.walk.specs.declared.Search.{Search}
 use Rattle.walk.specs.declared.Node.{Node}
-use Rattle.walk.specs.Layout.{top, inf, suffixBase, reachBase, pricePlace, feePlace, suffixCuts, reachCuts, cutPlace}
-use Rattle.walk.specs.Sheet.{Column, Sheet, columnBound, partSums, sheetBound}
-use Rattle.walk.specs.Tables.{valueOf, Tables}
-use Rattle.walk.specs.Rows.{lane, sumLanes, Rows, Stack, Put, Kept}
-use Rattle.walk.specs.State.{bits, decided, incumbent, view, viewed, countedS, stoppedS, keptS, reachedS, undropped, openS, noN, yesN, Pending, ready, owed, At, nextRow, Owing, Settled}
-use Rattle.walk.proofs.Lanes.{node-sum, node-rises, rows-no, rows-yes, rows-kept, kept-refl, stack-no, stack-yes, stack-at}
+use Rattle.lane_rows.specs.Layout.{top, inf, suffixBase, reachBase, pricePlace, feePlace, suffixCuts, reachCuts, cutPlace}
+use Rattle.lane_rows.specs.Sheet.{Column, Sheet, columnBound, partSums, sheetBound}
+use Rattle.lane_rows.specs.Tables.{valueOf, Tables}
+use Rattle.lane_rows.specs.Rows.{lane, sumLanes, Rows, Stack, Put, Kept, nextRow, Owing, Settled}
+use Rattle.walk.specs.State.{bits, decided, incumbent, view, viewed, countedS, stoppedS, keptS, reachedS, undropped, openS, noN, yesN, Pending, ready, owed, At}
+use Rattle.lane_rows.proofs.Lanes.{node-sum, node-rises, rows-no, rows-yes, rows-kept, kept-refl, stack-no, stack-yes, stack-at}
 
 -- ---- decisions in a number
 

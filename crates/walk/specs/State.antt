@@ -4,7 +4,7 @@ use mathlib.Core.Path.{_≡_}
 use mathlib.Core.Bool.{Bool, true, false, cond}
 use mathlib.Core.List.{List, []}
 use lib.Dec.{ltb, leb, eqb}
-use lib.ListN.{length, getD}
+use lib.ListN.{length}
 use Rattle.branch.specs.declared.Bound.{Bound}
 use Rattle.branch.specs.declared.Bound.the-variants.{Missing, Sum}
 use Rattle.branch.specs.Search.{Incumbent, none, plan, snoc, Limited, atMost}
@@ -13,10 +13,10 @@ use Rattle.model.specs.Model.{sumAt}
 use Rattle.walk.specs.declared.Search.{Search}
 use Rattle.walk.specs.declared.Node.{Node}
 use Rattle.walk.specs.declared.Solved.{Solved}
-use Rattle.walk.specs.Layout.{laneCount, markCount, top, inf, reachBase, pricePlace, reachCuts, cutPlace, tablesSize}
-use Rattle.walk.specs.Sheet.{Sheet, partSums, sheetBound}
-use Rattle.walk.specs.Tables.{Tables}
-use Rattle.walk.specs.Rows.{lane, Rows, Stack, Put}
+use Rattle.lane_rows.specs.Layout.{top, inf}
+use Rattle.lane_rows.specs.Sheet.{Sheet, partSums, sheetBound}
+use Rattle.lane_rows.specs.Tables.{Tables}
+use Rattle.lane_rows.specs.Rows.{Rows}
 
 -- k decisions in a number, the latest in its lowest bit
 unfoldable pub bits : ℕ → ℕ → List Bool
@@ -82,23 +82,6 @@ pub record At (sheet : Sheet) (t w : List ℕ) (p : Node) (stop : Bool) (e : Bou
   pub sums : e ≡ partSums sheet (decided p)
   pub low : (x : ℕ) → e ≡ Sum x → x < inf
   pub rows : Pending sheet w (decided p) (p .rows) stop
-
--- the row of opening j, decided yes: the least price so far from which it is in reach, and its own price
-abbrev pub nextRow : List ℕ → List ℕ → ℕ → ℕ → ℕ → ℕ
-nextRow t w j n q = lane t w reachBase j q n + getD t (pricePlace j q) 0
-
--- what settling a node asks, and what it does
-pub record Owing (t w : List ℕ) (at n : ℕ) : Type 0 where
-  pub some : 0 < at
-  pub stack : Stack t w reachBase (getD t (cutPlace reachCuts (at - 1)) 0) (at - 1) n
-  pub size : length t ≡ tablesSize
-  pub near : at ≤ 64
-  pub few : n < markCount
-  pub cheap : (q : ℕ) → q < laneCount → getD t (pricePlace (at - 1) q) 0 ≤ top
-
-pub record Settled (t w w' : List ℕ) (at n r : ℕ) (stop : Bool) : Type 0 where
-  pub no : stop ≡ false → (r ≡ n) × (w' ≡ w)
-  pub yes : stop ≡ true → (r ≡ n + 1) × Put (nextRow t w (at - 1) n) w w' n (at - 1 + 1)
 
 -- what the search of a sheet gives: the first node's bound, and the walk's last state
 pub record Solves (sheet : Sheet) (limit : ℕ) (r : Solved) : Type 0 where

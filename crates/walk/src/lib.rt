@@ -1,6 +1,4 @@
 // The counted walk over the tables of a job: a node, the state, and the recursion on both branches.
-pub mod rows;
-
 ghost use mathlib.Core.Path.{_≡_};
 ghost use mathlib.Core.Bool.{true, false};
 ghost use Prim.Native.Nat.{ℕ, _+_, _-_, _*_, _^_, _<_};
@@ -8,20 +6,20 @@ ghost use lib.ListN.{length};
 ghost use Rattle.branch.specs.Label.{openFrom};
 ghost use Rattle.branch.specs.declared.Bound.{Bound};
 ghost use Rattle.branch.specs.declared.Bound.the-variants.{Sum};
-ghost use Rattle.walk.specs.Layout.{stackSize};
-ghost use Rattle.walk.specs.Sheet.{Sheet, sheetBound};
-ghost use Rattle.walk.specs.Tables.{Tables};
-ghost use Rattle.walk.specs.Rows.{Kept};
+ghost use Rattle.lane_rows.specs.Layout.{stackSize};
+ghost use Rattle.lane_rows.specs.Sheet.{Sheet, sheetBound};
+ghost use Rattle.lane_rows.specs.Tables.{Tables};
+ghost use Rattle.lane_rows.specs.Rows.{Kept};
 ghost use Rattle.walk.specs.State.{decided, view, viewed, countedS, stoppedS, keptS, reachedS, openS, noN, yesN, At, Solves};
 use branch::Bound;
-use rows::COUNT;
-use rows::FEES;
-use rows::SUFFIX_CUTS;
-use rows::base_row;
-use rows::cell;
-use rows::lane_sum;
-use rows::settle;
-use rows::value;
+use lane_rows::COUNT;
+use lane_rows::FEES;
+use lane_rows::SUFFIX_CUTS;
+use lane_rows::base_row;
+use lane_rows::cell;
+use lane_rows::lane_sum;
+use lane_rows::settle;
+use lane_rows::value;
 
 // The state of the search, passed by value and handed back. The incumbent's decisions, the latest in the lowest bit.
 pub struct Search {

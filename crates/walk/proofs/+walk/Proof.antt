@@ -13,14 +13,14 @@ use Rattle.branch.specs.Search.{counted}
 use Rattle.branch.specs.Label.{limitedFrom, openFrom}
 use Rattle.branch.specs.declared.Bound.{Bound}
 use Rattle.branch.specs.declared.Bound.the-variants.{Sum}
-use Rattle.walk.specs.Tables.{valueOf}
+use Rattle.lane_rows.specs.Tables.{valueOf}
 use Rattle.walk.specs.declared.Search.{Search}
 use Rattle.walk.specs.declared.Node.{Node}
-use Rattle.walk.specs.Layout.{suffixBase}
-use Rattle.walk.specs.Sheet.{Sheet, sheetBound}
-use Rattle.walk.specs.Rows.{Kept, Rows, Stack}
+use Rattle.lane_rows.specs.Layout.{suffixBase}
+use Rattle.lane_rows.specs.Sheet.{Sheet, sheetBound}
+use Rattle.lane_rows.specs.Rows.{Kept, Rows, Stack}
 use Rattle.walk.specs.State.{decided, view, noN, At}
-use Rattle.walk.proofs.Lanes.{kept-refl, kept-then}
+use Rattle.lane_rows.proofs.Lanes.{kept-refl, kept-then}
 use Rattle.walk.proofs.Nodes.{bound-some, owing, settled, sums-asks, at-no, at-yes, mask-fits, full-walked, both-walked, Opened, closed-walked, open-walked}
 use Rattle.walk.proofs.+walk.{statement}
 use Rattle.walk.proofs.+walk.Tie.{close}
@@ -30,10 +30,10 @@ use Rattle.walk.proofs.Search.counted.Reads as counted-reads
 use Rattle.walk.proofs.Search.kept.Reads as kept-reads
 use Rattle.walk.proofs.Search.open.Reads as open-reads
 use Rattle.walk.proofs.Search.reached.Reads as reached-reads
-use Rattle.walk.proofs.rows.cell.Reads as cell-reads
-use Rattle.walk.proofs.rows.lane_sum.Reads as lane-sum-reads
-use Rattle.walk.proofs.rows.value.Reads as value-reads
-use Rattle.walk.proofs.rows.settle.Reads as settle-reads
+use Rattle.lane_rows.proofs.cell.Reads as cell-reads
+use Rattle.lane_rows.proofs.lane_sum.Reads as lane-sum-reads
+use Rattle.lane_rows.proofs.value.Reads as value-reads
+use Rattle.lane_rows.proofs.settle.Reads as settle-reads
 use Rattle.walk.proofs.walk.Reads as walk
 use Rattle.walk.proofs.walk.Kinds as walk-kinds
 use Rattle.walk.proofs.+walk.Lts-walk as walk-lts

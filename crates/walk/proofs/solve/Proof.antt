@@ -10,12 +10,12 @@ use Rattle.branch.specs.Label.{openFrom}
 use Rattle.branch.specs.declared.Bound.the-variants.{Sum}
 use Rattle.walk.specs.declared.Node.{Node}
 use Rattle.walk.specs.declared.Search.{Search}
-use Rattle.walk.specs.Layout.{suffixBase}
-use Rattle.walk.specs.Rows.{Stack}
-use Rattle.walk.specs.Sheet.{Sheet, sheetBound}
-use Rattle.walk.specs.Tables.{valueOf, Tables}
+use Rattle.lane_rows.specs.Layout.{suffixBase}
+use Rattle.lane_rows.specs.Rows.{Stack}
+use Rattle.lane_rows.specs.Sheet.{Sheet, sheetBound}
+use Rattle.lane_rows.specs.Tables.{valueOf, Tables}
 use Rattle.walk.specs.State.{bits, view, At}
-use Rattle.walk.proofs.Lanes.{rows-root}
+use Rattle.lane_rows.proofs.Lanes.{rows-root}
 use Rattle.walk.proofs.Nodes.{root-asks, root-given, root-bound, Opened, closed-walked, open-walked}
 use Rattle.walk.proofs.solve.Statement.{statement}
 use Rattle.walk.proofs.solve.Tie as tie

@@ -6,7 +6,7 @@ use borrow.Author.Needs.{needs}
 use borrow.Author.Count.{below-more}
 use lib.ListN.{getD}
 use Rattle.search.proofs.tables.dead.Statement.{statement}
-use Rattle.walk.specs.Layout.{laneCount, inf}
+use Rattle.lane_rows.specs.Layout.{laneCount, inf}
 use Rattle.search.proofs.tables.dead.Tie as tie
 
 abbrev Inv-loop : tie.InvT-loop

@@ -7,7 +7,7 @@ use Rattle.search.specs.Arrays.{Arrays}
 use Rattle.search.specs.Fill.{Lanes}
 use Rattle.search.proofs.Filling.{tables-filled}
 use Rattle.search.proofs.tables.fill.Statement.{statement}
-use Rattle.walk.specs.Layout.{laneCount}
+use Rattle.lane_rows.specs.Layout.{laneCount}
 use Rattle.search.proofs.tables.fill.Tie as tie
 
 fill-lanes-requires : tie.Need-fill-lanes-requires

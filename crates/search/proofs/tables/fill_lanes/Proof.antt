@@ -12,7 +12,7 @@ use Rattle.search.specs.Arrays.{Arrays}
 use Rattle.search.specs.Fill.{Lanes}
 use Rattle.search.proofs.Filling.{lanes-none, lanes-more}
 use Rattle.search.proofs.tables.fill_lanes.Statement.{statement}
-use Rattle.walk.specs.Layout.{laneCount}
+use Rattle.lane_rows.specs.Layout.{laneCount}
 use Rattle.search.proofs.tables.fill_lanes.Tie as tie
 
 abbrev Inv-loop : tie.InvT-loop

@@ -12,7 +12,7 @@ use Rattle.least.proofs.Diff.{small-back}
 use Rattle.search.specs.Arrays.{priceStride, partAt}
 use Rattle.search.proofs.Filling.{own-each, own-is, own-length, marks-small, lived-back, filled-as}
 use Rattle.search.proofs.tables.fill_part.Statement.{statement}
-use Rattle.walk.specs.Layout.{top}
+use Rattle.lane_rows.specs.Layout.{top}
 use Rattle.search.proofs.tables.fill_part.Tie as tie
 
 abbrev start : tie.After-lane-life → tie.Start

@@ -7,8 +7,8 @@ use borrow.Author.Tests.{not-false}
 use Rattle.search.specs.Fill.{Dead}
 use Rattle.search.proofs.Writing.{dead-more}
 use Rattle.search.proofs.tables.first_live.Statement.{statement}
-use Rattle.walk.specs.Layout.{laneCount, markCount}
-use Rattle.walk.proofs.Filled.{window-at, window-length}
+use Rattle.lane_rows.specs.Layout.{laneCount, markCount}
+use Rattle.lane_rows.proofs.Filled.{window-at, window-length}
 use Rattle.search.proofs.tables.first_live.Tie as tie
 
 abbrev Inv-loop : tie.InvT-loop

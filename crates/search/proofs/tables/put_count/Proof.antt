@@ -5,7 +5,7 @@ use native.Mathlib.Omega.{arith}
 use borrow.Author.Needs.{needs}
 use Rattle.search.proofs.Writing.{span-none, span-more}
 use Rattle.search.proofs.tables.put_count.Statement.{statement}
-use Rattle.walk.specs.Layout.{countPlace}
+use Rattle.lane_rows.specs.Layout.{countPlace}
 use Rattle.search.proofs.tables.put_count.Tie as tie
 
 slice-write-t : tie.Need-slice-write-t

@@ -7,7 +7,7 @@ use lib.ListN.{length, getD, set}
 use Rattle.search.specs.Fill.{Span}
 use Rattle.search.proofs.Writing.{span-none, span-more}
 use Rattle.search.proofs.tables.put_fees.Statement.{statement}
-use Rattle.walk.specs.Layout.{feeBase, feePlace}
+use Rattle.lane_rows.specs.Layout.{feeBase, feePlace}
 use Rattle.search.proofs.tables.put_fees.Tie as tie
 
 abbrev Inv-loop : tie.InvT-loop

@@ -7,7 +7,7 @@ use lib.ListN.{length, getD, set}
 use Rattle.search.specs.Fill.{Wrote}
 use Rattle.search.proofs.Writing.{wrote-none, wrote-more}
 use Rattle.search.proofs.tables.put_prices.Statement.{statement}
-use Rattle.walk.specs.Layout.{laneCount, priceRow}
+use Rattle.lane_rows.specs.Layout.{laneCount, priceRow}
 use Rattle.search.proofs.tables.put_prices.Tie as tie
 
 abbrev Inv-loop : tie.InvT-loop

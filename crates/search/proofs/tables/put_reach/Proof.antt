@@ -10,7 +10,7 @@ use mir.Syntax.{w32}
 use Rattle.search.specs.Fill.{Wrote, reachOf, reachAt}
 use Rattle.search.proofs.Writing.{wrote-none, wrote-more}
 use Rattle.search.proofs.tables.put_reach.Statement.{statement}
-use Rattle.walk.specs.Layout.{laneCount, markCount, blockRows}
+use Rattle.lane_rows.specs.Layout.{laneCount, markCount, blockRows}
 use Rattle.search.proofs.tables.put_reach.Tie as tie
 
 abbrev Inv-loop : tie.InvT-loop

@@ -7,7 +7,7 @@ use lib.ListN.{getD}
 use Rattle.search.specs.Fill.{Wrote}
 use Rattle.search.proofs.Writing.{wrote-none, wrote-more}
 use Rattle.search.proofs.tables.put_suffixes.Statement.{statement}
-use Rattle.walk.specs.Layout.{inf}
+use Rattle.lane_rows.specs.Layout.{inf}
 use Rattle.search.proofs.tables.put_suffixes.Tie as tie
 
 abbrev Inv-loop : tie.InvT-loop

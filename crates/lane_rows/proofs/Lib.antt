@@ -1,0 +1,6 @@
+-- Laws of the tables and of the stack of rows.
+pub mod Filled
+pub mod Putting
+pub mod Front
+pub mod Lanes
+pub mod Going

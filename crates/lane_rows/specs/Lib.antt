@@ -1,0 +1,4 @@
+pub mod Layout
+pub mod Sheet
+pub mod Tables
+pub mod Rows

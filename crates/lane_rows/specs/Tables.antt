@@ -1,0 +1,44 @@
+-- What the tables of a sheet hold.
+use Prim.Native.Nat.{ℕ, _-_, _*_, _<_, _≤_}
+use mathlib.Core.Path.{_≡_}
+use mathlib.Core.List.{List, []}
+use lib.Dec.{ltb}
+use lib.ListN.{length, getD, drop}
+use lib.IntN.{ℤ, pos}
+use Rattle.branch.specs.declared.Bound.{Bound}
+use Rattle.branch.specs.declared.Bound.the-variants.{Missing, Sum}
+use Rattle.model.specs.Model.{within}
+use Rattle.model.specs.LowerBound.{pick, leastOf, offers}
+use Rattle.least.specs.Marks.{markOf}
+use Rattle.lane_rows.specs.Layout.{laneCount, top, inf, suffixBase, reachBase, place, pricePlace, feePlace, countPlace, suffixCuts, reachCuts, cutPlace, tablesSize}
+use Rattle.lane_rows.specs.Sheet.{Column, Sheet, noColumn}
+
+-- the price that a number stands for
+abbrev pub valueOf : ℕ → Bound
+valueOf n = pick (ltb n inf) (Sum n) Missing
+
+-- n stands for e, and a price is at most b
+abbrev pub Coded : ℕ → ℕ → Bound → Type 0
+Coded b n Missing = n ≡ inf
+Coded b n (Sum x) = (n ≡ x) × (x ≤ b)
+
+-- lane q of the tables t is right for a column: the least prices from an opening on after a mark, which openings are in reach of a mark, the prices
+pub record Lane (end : ℤ) (ss : List ℤ) (col : Column) (t : List ℕ) (q : ℕ) : Type 0 where
+  pub suffix : (j i : ℕ) → i ≤ j → j ≤ length ss
+      → Coded (top * (length ss - j)) (getD t (place suffixBase j i q) 0) (leastOf (col .life) end (markOf (col .first) ss i) (drop j (offers ss (col .prices) [])))
+  pub reach : (j i : ℕ) → i ≤ j → j < length ss → getD t (place reachBase j i q) 0 ≡ pick (within (col .life) (markOf (col .first) ss i) (getD ss j (pos 0))) 0 inf
+  pub price : (j : ℕ) → j < length ss → getD t (pricePlace j q) 0 ≡ getD (col .prices) j 0
+  pub cheap : (j : ℕ) → getD (col .prices) j 0 ≤ top
+
+-- the tables of a sheet: a lane for each column, the fees, the number of openings, and the cuts
+pub record Tables (sheet : Sheet) (t : List ℕ) : Type 0 where
+  pub size : length t ≡ tablesSize
+  pub few : length (sheet .positions) ≤ 64
+  pub sixteen : length (sheet .columns) ≡ laneCount
+  pub paid : length (sheet .fees) ≡ length (sheet .positions)
+  pub lanes : (q : ℕ) → q < laneCount → Lane (sheet .end) (sheet .positions) (getD (sheet .columns) q noColumn) t q
+  pub fees : (j : ℕ) → j < length (sheet .positions) → getD t (feePlace j) 0 ≡ getD (sheet .fees) j 0
+  pub fair : (j : ℕ) → getD (sheet .fees) j 0 ≤ top
+  pub count : getD t countPlace 0 ≡ length (sheet .positions)
+  pub suffix-cut : (j i q : ℕ) → j ≤ length (sheet .positions) → i < getD t (cutPlace suffixCuts j) 0 → q < laneCount → getD t (place suffixBase j i q) 0 ≡ inf
+  pub reach-cut : (j i q : ℕ) → j < length (sheet .positions) → i < getD t (cutPlace reachCuts j) 0 → q < laneCount → getD t (place reachBase j i q) 0 ≡ inf
