@@ -5,9 +5,9 @@
 mod lanes;
 mod walk;
 
-use lanes::Plain;
 #[cfg(target_arch = "x86_64")]
 use lanes::{Avx2, Sse2};
+use lanes::{Lanes, Plain};
 use walk::Tables;
 
 /// The facts of a job, for the walk.
@@ -92,19 +92,9 @@ impl Job {
         assert!(Unit::all().contains(&unit), "this machine has no {unit:?}");
         match unit {
             Unit::Sixteen => Tables::<Plain, 4>::new(self).walk(self.walk),
-            Unit::Plain => match self.parts.len() {
-                0..=4 => Tables::<Plain, 1>::new(self).walk(self.walk),
-                5..=8 => Tables::<Plain, 2>::new(self).walk(self.walk),
-                9..=12 => Tables::<Plain, 3>::new(self).walk(self.walk),
-                _ => Tables::<Plain, 4>::new(self).walk(self.walk),
-            },
+            Unit::Plain => self.by_width::<Plain>(),
             #[cfg(target_arch = "x86_64")]
-            Unit::Sse2 => match self.parts.len() {
-                0..=4 => Tables::<Sse2, 1>::new(self).walk(self.walk),
-                5..=8 => Tables::<Sse2, 2>::new(self).walk(self.walk),
-                9..=12 => Tables::<Sse2, 3>::new(self).walk(self.walk),
-                _ => Tables::<Sse2, 4>::new(self).walk(self.walk),
-            },
+            Unit::Sse2 => self.by_width::<Sse2>(),
             // SAFETY: the machine has AVX2, as asserted.
             #[cfg(target_arch = "x86_64")]
             Unit::Avx2 => match self.parts.len() {
@@ -113,6 +103,16 @@ impl Job {
             },
             #[cfg(not(target_arch = "x86_64"))]
             _ => unreachable!("no such machine"),
+        }
+    }
+
+    /// With as many fours of lanes as the parts need.
+    fn by_width<V: Lanes>(&self) -> Option<Found> {
+        match self.parts.len() {
+            0..=4 => Tables::<V, 1>::new(self).walk(self.walk),
+            5..=8 => Tables::<V, 2>::new(self).walk(self.walk),
+            9..=12 => Tables::<V, 3>::new(self).walk(self.walk),
+            _ => Tables::<V, 4>::new(self).walk(self.walk),
         }
     }
 }

@@ -124,39 +124,37 @@ struct Above<V, const Q: usize> {
 }
 
 impl<V: Lanes, const Q: usize> Tables<V, Q> {
-    /// The parts' least prices over the stops of the front and openings j and later, with their sum. They are nowhere less than `least`,
-    /// so where they reach it the rows below need no look.
+    /// The parts' least sums of the front's rows, the latest first, with the table's rows of their marks, down to mark `from`; `done` may end it.
     #[inline(always)]
-    fn bound(&self, front: &Front<V, Q>, rows: usize, j: usize, least: &Row<V, Q>, sum: u32) -> (Row<V, Q>, u32) {
-        let from = self.ends_from[j];
-        let ends = &self.ends[triangle(j)..triangle(j + 1)];
+    fn over(front: &Front<V, Q>, rows: usize, from: u32, table: &[Row<V, Q>], done: impl Fn(&Row<V, Q>) -> bool) -> (Row<V, Q>, bool) {
         let mut found = [V::splat(INF); Q];
         for n in (0..rows).rev() {
             let mark = front.marks[n];
             if mark < from {
                 break;
             }
-            take_least(&mut found, &front.rows[n], &ends[mark as usize]);
-            if same(&found, least) {
-                return (found, sum);
+            take_least(&mut found, &front.rows[n], &table[mark as usize]);
+            if done(&found) {
+                return (found, true);
             }
         }
-        (found, total(&found))
+        (found, false)
+    }
+
+    /// The parts' least prices over the stops of the front and openings j and later, with their sum. They are nowhere less than `least`,
+    /// so where they reach it the rows below need no look.
+    #[inline(always)]
+    fn bound(&self, front: &Front<V, Q>, rows: usize, j: usize, least: &Row<V, Q>, sum: u32) -> (Row<V, Q>, u32) {
+        let ends = &self.ends[triangle(j)..triangle(j + 1)];
+        let (found, reached) = Self::over(front, rows, self.ends_from[j], ends, |found| same(found, least));
+        (found, if reached { sum } else { total(&found) })
     }
 
     /// Adds the row of a stop at opening j.
     #[inline(always)]
     fn push(&self, front: &mut Front<V, Q>, rows: usize, j: usize) {
-        let from = self.reach_from[j];
         let reach = &self.reach[triangle(j)..triangle(j + 1)];
-        let mut found = [V::splat(INF); Q];
-        for n in (0..rows).rev() {
-            let mark = front.marks[n];
-            if mark < from {
-                break;
-            }
-            take_least(&mut found, &front.rows[n], &reach[mark as usize]);
-        }
+        let (found, _) = Self::over(front, rows, self.reach_from[j], reach, |_| false);
         front.rows[rows] = std::array::from_fn(|q| found[q].plus(self.prices[j][q]));
         front.marks[rows] = j as u32 + 1;
     }
