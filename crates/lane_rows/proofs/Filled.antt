@@ -1,4 +1,4 @@
--- Arrays of sixteen: filled from the front by a loop, a window in a list, their sum.
+-- Lanes filled from the front by a loop, and a window in a list.
 use Prim.Native.Nat.{ℕ, _+_, _-_, _*_, _≤_, _<_}
 use mathlib.Core.Path.{_≡_, refl, _∙_}
 use mathlib.Core.List.{List}
@@ -6,18 +6,19 @@ use native.Mathlib.Omega.{arith}
 use native.Mathlib.Decide.{ℕ-discrete, decLt}
 use lib.ListN.{length, getD, set, take, drop, length-set, length-take, length-drop}
 use lib.Seq.{getD-take, getD-drop, getD-set-same, getD-set-other}
-use Rattle.lane_rows.specs.Layout.{laneCount, inf}
+use Rattle.lane_rows.specs.Layout.{laneCount}
+use Rattle.lane_rows.specs.Rows.{Turned}
 
 pub record Filled (f : ℕ → ℕ) (r₀ r : List ℕ) (p : ℕ) : Type 0 where
-  pub size : length r ≡ laneCount
+  pub size : length r ≡ length r₀
   pub done : (q : ℕ) → q < p → getD r q 0 ≡ f q
   pub rest : (q : ℕ) → p ≤ q → getD r q 0 ≡ getD r₀ q 0
 
 module _ (f : ℕ → ℕ) (r₀ : List ℕ) where
-  pub filled-none : length r₀ ≡ laneCount → Filled f r₀ r₀ 0
-  filled-none h = record { size = h; done = λ q l. absurd (omega arith); rest = λ q l. refl }
+  pub filled-none : Filled f r₀ r₀ 0
+  filled-none = record { size = refl; done = λ q l. absurd (omega arith); rest = λ q l. refl }
 
-  pub filled-more : (r : List ℕ) (p v : ℕ) → p < laneCount → v ≡ f p → Filled f r₀ r p → Filled f r₀ (set r p v) (p + 1)
+  pub filled-more : (r : List ℕ) (p v : ℕ) → p < length r₀ → v ≡ f p → Filled f r₀ r p → Filled f r₀ (set r p v) (p + 1)
   filled-more r p v h e d =
       record {
         size = length-set r p v ∙ d .size;
@@ -33,6 +34,9 @@ module _ (f : ℕ → ℕ) (r₀ : List ℕ) where
           below (yes h) = h
           below (no h) = absurd (g (omega (arith, h)))
 
+  pub filled-turned : (r : List ℕ) (wide p : ℕ) → wide ≤ p → Filled f r₀ r p → Turned wide f r₀ r
+  filled-turned r wide p h d = record { size = d .size; lanes = λ q l. d .done q (omega arith) }
+
 -- ---- a window of sixteen in a list
 
 module _ (s : List ℕ) (a : ℕ) (h : a + laneCount ≤ length s) where
@@ -41,8 +45,3 @@ module _ (s : List ℕ) (a : ℕ) (h : a + laneCount ≤ length s) where
 
   pub window-length : laneCount ≤ length (take (a + laneCount - a) (drop a s))
   window-length = simp (length-take, length-drop) (omega arith)
-
--- ---- sixteen numbers, in four sums
-
-pub four : (acc : List ℕ) → ((q : ℕ) → q < laneCount → getD acc q 0 ≤ inf) → (k : ℕ) → k < 4 → getD acc k 0 + getD acc (k + 4) 0 + getD acc (k + 8) 0 + getD acc (k + 12) 0 ≤ 4 * inf
-four acc m k h = omega (arith, m k (omega arith), m (k + 4) (omega arith), m (k + 8) (omega arith), m (k + 12) (omega arith))

@@ -1,30 +1,30 @@
 -- A loop over the stack's rows from the top down: what the lanes hold, with the rows still to come, is the lane of all rows.
-use Prim.Native.Nat.{_^_, ℕ, zero, suc, _+_, _-_, _≤_, _<_, min}
+use Prim.Native.Nat.{_^_, ℕ, zero, suc, _+_, _-_, _*_, _≤_, _<_, min}
 use mathlib.Core.Path.{_≡_, refl, ap, _∙_}
 use mathlib.Core.List.{List}
 use native.Mathlib.Omega.{arith}
-use lib.ListN.{length, getD, replicate, getD-replicate}
+use lib.ListN.{length, getD}
 use Rattle.lane_rows.specs.Layout.{laneCount, inf, blockSize, place, rowPlace, markPlace, stackSize}
 use Rattle.lane_rows.specs.Sheet.{reach}
 use Rattle.lane_rows.specs.Rows.{lane, sumLanes, Stack}
 use Rattle.lane_rows.proofs.Lanes.{lane-most, lane-cut, sum-rises, sum-same}
 
-pub record Going (t w : List ℕ) (base j rows : ℕ) (acc : List ℕ) (n : ℕ) : Type 0 where
+pub record Going (wide : ℕ) (t w : List ℕ) (base j rows : ℕ) (acc : List ℕ) (n : ℕ) : Type 0 where
   pub inside : n ≤ rows
-  pub most : (q : ℕ) → q < laneCount → getD acc q 0 ≤ inf
-  pub left : (q : ℕ) → q < laneCount → min (getD acc q 0) (lane t w base j q n) ≡ lane t w base j q rows
+  pub most : (q : ℕ) → q < wide → getD acc q 0 ≤ inf
+  pub left : (q : ℕ) → q < wide → min (getD acc q 0) (lane t w base j q n) ≡ lane t w base j q rows
 
 lane-nil : (t w : List ℕ) (base j q : ℕ) → lane t w base j q zero ≡ inf
 unfolding lane
 lane-nil t w base j q = refl
 
-module _ (t w : List ℕ) (base j rows : ℕ) where
-  pub going-none : Going t w base j rows (replicate laneCount inf) rows
-  going-none =
+module _ (wide : ℕ) (t w : List ℕ) (base j rows : ℕ) where
+  pub going-none : (acc : List ℕ) → ((q : ℕ) → q < wide → getD acc q 0 ≡ inf) → Going wide t w base j rows acc rows
+  going-none acc f =
       record {
         inside = omega arith;
-        most = λ q h. omega (arith, getD-replicate {A = ℕ} laneCount q inf 0 h);
-        left = λ q h. omega (arith, getD-replicate {A = ℕ} laneCount q inf 0 h, lane-most t w base j q rows);
+        most = λ q h. omega (arith, f q h);
+        left = λ q h. omega (arith, f q h, lane-most t w base j q rows);
       }
 
   lane-suc : (q k : ℕ) → lane t w base j q (suc k) ≡ min (lane t w base j q k) (getD w (rowPlace k q) 0 + getD t (place base j (getD w (markPlace k) 0) q) 0)
@@ -33,8 +33,8 @@ module _ (t w : List ℕ) (base j rows : ℕ) where
 
   -- row n - 1 is taken in
   pub going-more : (acc next : List ℕ) (n : ℕ) → 0 < n
-      → ((q : ℕ) → q < laneCount → getD next q 0 ≡ min (getD acc q 0) (getD w (rowPlace (n - 1) q) 0 + getD t (place base j (getD w (markPlace (n - 1)) 0) q) 0))
-      → Going t w base j rows acc n → Going t w base j rows next (n - 1)
+      → ((q : ℕ) → q < wide → getD next q 0 ≡ min (getD acc q 0) (getD w (rowPlace (n - 1) q) 0 + getD t (place base j (getD w (markPlace (n - 1)) 0) q) 0))
+      → Going wide t w base j rows acc n → Going wide t w base j rows next (n - 1)
   going-more acc next n h f g =
       let z : n ≡ suc (n - 1) = omega arith in
       record {
@@ -43,13 +43,13 @@ module _ (t w : List ℕ) (base j rows : ℕ) where
         left = λ q l. omega (arith, f q l, lane-suc q (n - 1), ap (lane t w base j q) z, g .left q l);
       }
 
-  pub going-cut : (acc : List ℕ) (n lo : ℕ) → 0 < n → Stack t w base lo j rows → getD w (markPlace (n - 1)) 0 < lo → Going t w base j rows acc n
-      → (q : ℕ) → q < laneCount → getD acc q 0 ≡ lane t w base j q rows
+  pub going-cut : (acc : List ℕ) (n lo : ℕ) → 0 < n → Stack wide t w base lo j rows → getD w (markPlace (n - 1)) 0 < lo → Going wide t w base j rows acc n
+      → (q : ℕ) → q < wide → getD acc q 0 ≡ lane t w base j q rows
   going-cut acc n lo h s c g q l =
       let z : n ≡ n - 1 + 1 = omega arith in
-      omega (arith, lane-cut t w base lo j q rows (n - 1) s l (omega (arith, g .inside)) c, ap (lane t w base j q) z, g .left q l, g .most q l)
+      omega (arith, lane-cut wide t w base lo j q rows (n - 1) s l (omega (arith, g .inside)) c, ap (lane t w base j q) z, g .left q l, g .most q l)
 
-  pub going-end : (acc : List ℕ) (n : ℕ) → n ≤ 0 → Going t w base j rows acc n → (q : ℕ) → q < laneCount → getD acc q 0 ≡ lane t w base j q rows
+  pub going-end : (acc : List ℕ) (n : ℕ) → n ≤ 0 → Going wide t w base j rows acc n → (q : ℕ) → q < wide → getD acc q 0 ≡ lane t w base j q rows
   going-end acc n h g q l =
       let z : n ≡ zero = omega arith in
       omega (arith, ap (lane t w base j q) z, lane-zero q, g .left q l, g .most q l)
@@ -58,21 +58,23 @@ module _ (t w : List ℕ) (base j rows : ℕ) where
       lane-zero q = lane-nil t w base j q
 
   -- the lanes have fallen to a sum that all rows reach at least
-  pub going-early : (acc : List ℕ) (n ms s : ℕ) → Going t w base j rows acc n → s ≡ sumLanes (λ (q : ℕ). getD acc q 0) → s ≡ ms → ms ≤ sumLanes (λ (q : ℕ). lane t w base j q rows)
-      → ms ≡ sumLanes (λ (q : ℕ). lane t w base j q rows)
+  pub going-early : (acc : List ℕ) (n ms s : ℕ) → Going wide t w base j rows acc n → s ≡ sumLanes wide (λ (q : ℕ). getD acc q 0) → s ≡ ms → ms ≤ sumLanes wide (λ (q : ℕ). lane t w base j q rows)
+      → ms ≡ sumLanes wide (λ (q : ℕ). lane t w base j q rows)
   going-early acc n ms s g e f l =
-      let r = sum-rises (λ (q : ℕ). lane t w base j q rows) (λ (q : ℕ). getD acc q 0) laneCount 0 (omega arith) (λ q l. omega (arith, g .left q l)) in
+      let r = sum-rises wide (λ (q : ℕ). lane t w base j q rows) (λ (q : ℕ). getD acc q 0) (λ q l. omega (arith, g .left q l)) in
       omega (arith, r, e, f, l)
 
-  pub going-sum : (acc : List ℕ) (s : ℕ) → ((q : ℕ) → q < laneCount → getD acc q 0 ≡ lane t w base j q rows) → s ≡ sumLanes (λ (q : ℕ). getD acc q 0)
-      → s ≡ sumLanes (λ (q : ℕ). lane t w base j q rows)
-  going-sum acc s f e = e ∙ sum-same (λ (q : ℕ). getD acc q 0) (λ (q : ℕ). lane t w base j q rows) f
+  pub going-sum : (acc : List ℕ) (s : ℕ) → ((q : ℕ) → q < wide → getD acc q 0 ≡ lane t w base j q rows) → s ≡ sumLanes wide (λ (q : ℕ). getD acc q 0)
+      → s ≡ sumLanes wide (λ (q : ℕ). lane t w base j q rows)
+  going-sum acc s f e = e ∙ sum-same wide (λ (q : ℕ). getD acc q 0) (λ (q : ℕ). lane t w base j q rows) f
 
 -- what taking in a row asks
-module _ (t w : List ℕ) (base lo j rows : ℕ) (acc : List ℕ) (n : ℕ) (s : Stack t w base lo j rows) (g : Going t w base j rows acc n) (h : 0 < n) where
-  pub row-asks : ((base + blockSize ≤ length t) × (length w ≡ stackSize) × (j ≤ 64) × (getD w (markPlace (n - 1)) 0 ≤ 64) × (n - 1 ≤ 64))
-      × ((q : ℕ) → q < laneCount → (getD acc q 0 ≤ inf) × (getD w (rowPlace (n - 1) q) 0 + getD t (place base j (getD w (markPlace (n - 1)) 0) q) 0 < 2 ^ 31))
+module _ (fours : ℕ) (t w : List ℕ) (base lo j rows : ℕ) (acc : List ℕ) (n : ℕ) (long : laneCount ≤ length acc) (s : Stack (fours * 4) t w base lo j rows) (g : Going (fours * 4) t w base j rows acc n) (h : 0 < n) where
+  pub row-asks : ((fours ≤ 4) × (laneCount ≤ length acc) × (base + blockSize ≤ length t) × (length w ≡ stackSize) × (j ≤ 64) × (getD w (markPlace (n - 1)) 0 ≤ 64) × (n - 1 ≤ 64))
+      × ((q : ℕ) → q < fours * 4 → (getD acc q 0 ≤ inf) × (getD w (rowPlace (n - 1) q) 0 + getD t (place base j (getD w (markPlace (n - 1)) 0) q) 0 < 2 ^ 31))
   row-asks =
       let i = g .inside in
-      let f = s .few in
-      ((s .table, s .size, s .near, omega (arith, s .marks (n - 1) (omega arith), s .near), omega arith), λ q l. (g .most q l, s .sums (n - 1) q (omega arith) l))
+      let f = s .few in (
+        (omega (arith, s .narrow), long, s .table, s .size, s .near, omega (arith, s .marks (n - 1) (omega arith), s .near), omega arith),
+        λ q l. (g .most q l, s .sums (n - 1) q (omega arith) l),
+      )

@@ -18,7 +18,7 @@ use Rattle.model.specs.Model.{within}
 use Rattle.model.specs.LowerBound.{Offer, pick, plus, lower, leastOf, offers, changeAt}
 use Rattle.least.specs.Marks.{markOf}
 use Rattle.least.proofs.Table.{least-cons, offerAt, offers-drop}
-use Rattle.lane_rows.specs.Layout.{laneCount, top, laneLimit, inf, suffixBase, reachBase, place, rowPlace, pricePlace, suffixCuts, reachCuts, cutPlace, markBase, markPlace, stackSize}
+use Rattle.lane_rows.specs.Layout.{laneCount, top, laneLimit, inf, suffixBase, reachBase, place, rowPlace, pricePlace, suffixCuts, reachCuts, cutPlace, markBase, markPlace, lanesIn, stackSize}
 use Rattle.lane_rows.specs.Sheet.{Column, Sheet, partSums, Mark, reach, frontFrom, front, noColumn, columnBound}
 use Rattle.lane_rows.specs.Tables.{valueOf, Coded, Lane, Tables}
 use Rattle.lane_rows.specs.Rows.{lane, sumFrom, sumLanes, marksIn, Level, Rows, Kept, Put, Stack}
@@ -152,16 +152,42 @@ module _ (end : ℤ) (ss : List ℤ) (col : Column) (t : List ℕ) (q : ℕ) (la
 
 -- ---- the parts together
 
-pub sum-rises : (u v : ℕ → ℕ) (k q : ℕ) → q + k ≤ laneCount → ((q : ℕ) → q < laneCount → u q ≤ v q) → sumFrom u q k ≤ sumFrom v q k
-unfolding sumFrom
-sum-rises u v zero q l f = omega arith
-sum-rises u v (suc k) q l f = omega (arith, f q (omega arith), sum-rises u v k (suc q) (omega arith) f)
+module _ (wide : ℕ) where
+  rises-from : (u v : ℕ → ℕ) (k q : ℕ) → q + k ≤ wide → ((q : ℕ) → q < wide → u q ≤ v q) → sumFrom u q k ≤ sumFrom v q k
+  unfolding sumFrom
+  rises-from u v zero q l f = omega arith
+  rises-from u v (suc k) q l f = omega (arith, f q (omega arith), rises-from u v k (suc q) (omega arith) f)
 
-pub sum-same : (u v : ℕ → ℕ) → ((q : ℕ) → q < laneCount → u q ≡ v q) → sumLanes u ≡ sumLanes v
-sum-same u v f =
-    let a = sum-rises u v laneCount 0 (omega arith) (λ q l. omega (arith, f q l)) in
-    let b = sum-rises v u laneCount 0 (omega arith) (λ q l. omega (arith, f q l)) in
-    omega arith
+  pub sum-rises : (u v : ℕ → ℕ) → ((q : ℕ) → q < wide → u q ≤ v q) → sumLanes wide u ≤ sumLanes wide v
+  sum-rises u v f = rises-from u v wide 0 (omega arith) f
+
+  pub sum-same : (u v : ℕ → ℕ) → ((q : ℕ) → q < wide → u q ≡ v q) → sumLanes wide u ≡ sumLanes wide v
+  sum-same u v f =
+      let a = sum-rises u v (λ q l. omega (arith, f q l)) in
+      let b = sum-rises v u (λ q l. omega (arith, f q l)) in
+      omega arith
+
+-- one lane more, at the end
+sum-snoc : (f : ℕ → ℕ) (q k : ℕ) → sumFrom f q (suc k) ≡ sumFrom f q k + f (q + k)
+unfolding sumFrom
+sum-snoc f q zero = let z : q + 0 ≡ q = omega arith in rw z (omega arith)
+sum-snoc f q (suc k) = let z : q + suc k ≡ suc q + k = omega arith in rw z (omega (arith, sum-snoc f (suc q) k))
+
+-- four lanes more
+pub sum-four : (f : ℕ → ℕ) (k : ℕ) → sumLanes (k * 4 + 4) f ≡ sumLanes (k * 4) f + f (k * 4) + f (k * 4 + 1) + f (k * 4 + 2) + f (k * 4 + 3)
+sum-four f k = omega (arith, next (k * 4), next (k * 4 + 1), next (k * 4 + 2), next (k * 4 + 3), same 1, same 2, same 3)
+  where
+    next : (n : ℕ) → sumLanes (n + 1) f ≡ sumLanes n f + f n
+    next n = let z : 0 + n ≡ n = omega arith in ap (λ (x : ℕ). sumLanes x f) (add-one n) ∙ sum-snoc f 0 n ∙ ap (λ (x : ℕ). sumLanes n f + f x) z
+
+    same : (i : ℕ) → sumLanes (k * 4 + i + 1) f ≡ sumLanes (k * 4 + (i + 1)) f
+    same i = let z : k * 4 + i + 1 ≡ k * 4 + (i + 1) = omega arith in ap (λ (x : ℕ). sumLanes x f) z
+
+-- as many lanes, each of the same number
+pub sum-inf : (k q : ℕ) → sumFrom (λ (x : ℕ). inf) q k ≡ k * inf
+unfolding sumFrom
+sum-inf zero q = omega arith
+sum-inf (suc k) q = omega (arith, sum-inf k (suc q))
 
 pub parts-sum : (xs : List Column) (q : ℕ) (v : ℕ → ℕ) (g : Column → List Bool → Bound) (p : List Bool) → length xs ≤ laneCount
     → ((i : ℕ) → i < length xs → (valueOf (v (q + i)) ≡ g (getD xs i noColumn) p) × (v (q + i) < inf → v (q + i) ≤ laneLimit))
@@ -177,14 +203,14 @@ parts-sum (x ∷ xs) q v g p h f =
 
 module _ (sheet : Sheet) (t w : List ℕ) (p : List Bool) (n : ℕ) (ta : Tables sheet t) (ro : Rows sheet w p n) (h : length p ≤ length (sheet .positions)) where
   -- the part sums of a node
-  pub node-sum : valueOf (sumLanes (λ (q : ℕ). lane t w suffixBase (length p) q n)) ≡ partSums sheet p
+  pub node-sum : valueOf (sumLanes (lanesIn t) (λ (q : ℕ). lane t w suffixBase (length p) q n)) ≡ partSums sheet p
   node-sum =
-      subst (λ (k : ℕ). valueOf (sumFrom (λ (q : ℕ). lane t w suffixBase (length p) q n) 0 k) ≡ partSums sheet p) (ta .sixteen)
-      (parts-sum (sheet .columns) 0 (λ (q : ℕ). lane t w suffixBase (length p) q n) (columnBound sheet) p (omega (arith, ta .sixteen)) (λ i l. one i (omega (arith, ta .sixteen))) .0)
+      subst (λ (k : ℕ). valueOf (sumFrom (λ (q : ℕ). lane t w suffixBase (length p) q n) 0 k) ≡ partSums sheet p) (ta .wide)
+      (parts-sum (sheet .columns) 0 (λ (q : ℕ). lane t w suffixBase (length p) q n) (columnBound sheet) p (ro .narrow) (λ i l. one i l) .0)
     where
-      one : (i : ℕ) → i < laneCount → (valueOf (lane t w suffixBase (length p) (0 + i) n) ≡ columnBound sheet (getD (sheet .columns) i noColumn) p) × (lane t w suffixBase (length p) (0 + i) n < inf → lane t w suffixBase (length p) (0 + i) n ≤ laneLimit)
+      one : (i : ℕ) → i < length (sheet .columns) → (valueOf (lane t w suffixBase (length p) (0 + i) n) ≡ columnBound sheet (getD (sheet .columns) i noColumn) p) × (lane t w suffixBase (length p) (0 + i) n < inf → lane t w suffixBase (length p) (0 + i) n ≤ laneLimit)
       one i l =
-          let la = ta .lanes i l in
+          let la = ta .lanes i (omega (arith, ta .wide)) in
           let z : 0 + i ≡ i = omega arith in
           let v = lane-over (sheet .end) (sheet .positions) (getD (sheet .columns) i noColumn) t i la w (length p) n h (ta .few) (ro .marks) (λ k g. ro .level k i g l) in
           rw z (
@@ -194,9 +220,9 @@ module _ (sheet : Sheet) (t w : List ℕ) (p : List Bool) (n : ℕ) (ta : Tables
           )
 
   -- the no child's part sums are no lower
-  pub node-rises : length p < length (sheet .positions) → sumLanes (λ (q : ℕ). lane t w suffixBase (length p) q n) ≤ sumLanes (λ (q : ℕ). lane t w suffixBase (length p + 1) q n)
+  pub node-rises : length p < length (sheet .positions) → sumLanes (lanesIn t) (λ (q : ℕ). lane t w suffixBase (length p) q n) ≤ sumLanes (lanesIn t) (λ (q : ℕ). lane t w suffixBase (length p + 1) q n)
   node-rises l =
-      sum-rises (λ (q : ℕ). lane t w suffixBase (length p) q n) (λ (q : ℕ). lane t w suffixBase (length p + 1) q n) laneCount 0 (omega arith)
+      sum-rises (lanesIn t) (λ (q : ℕ). lane t w suffixBase (length p) q n) (λ (q : ℕ). lane t w suffixBase (length p + 1) q n)
       (λ q g. lane-rises (sheet .end) (sheet .positions) (getD (sheet .columns) q noColumn) t q (ta .lanes q g) w (length p) n l (ta .few) (ro .marks))
 
 -- ---- the stack: what is kept, one row more, a no
@@ -239,8 +265,9 @@ rows-kept sheet w w' p n r k =
       few = r .few;
       marks = λ i l. subst (λ (x : ℕ). x ≤ length p) (sym (k .marks i l)) (r .marks i l);
       rising = λ i m l g. let z = k .marks i (omega arith) in let y = k .marks m g in omega (arith, z, y, r .rising i m l g);
-      level = λ i q l g. subst (Level (top * length p)) (sym (k .rows (rowPlace i q) (omega arith))) (r .level i q l g);
-      fronts = λ q l. marks-kept (getD (sheet .columns) q noColumn .first) (sheet .positions) w w' q n n l (omega arith) k ∙ r .fronts q l;
+      narrow = r .narrow;
+      level = λ i q l g. subst (Level (top * length p)) (sym (k .rows (rowPlace i q) (omega (arith, r .narrow)))) (r .level i q l g);
+      fronts = λ q l. marks-kept (getD (sheet .columns) q noColumn .first) (sheet .positions) w w' q n n (omega (arith, r .narrow)) (omega arith) k ∙ r .fronts q l;
     }
 
 snoc-length : (p : List Bool) (b : Bool) → length (snoc p b) ≡ length p + 1
@@ -255,6 +282,7 @@ module _ (sheet : Sheet) (t w : List ℕ) (p : List Bool) (n : ℕ) (ta : Tables
         few = omega (arith, ro .few, e);
         marks = λ k l. omega (arith, ro .marks k l, e);
         rising = ro .rising;
+        narrow = ro .narrow;
         level = λ k q l g. level-more (top * length p) (top * length (snoc p false)) (getD w (rowPlace k q) 0) (omega (arith, e)) (ro .level k q l g);
         fronts = λ q l. ro .fronts q l ∙ sym (front-snoc (sheet .positions) (getD (sheet .columns) q noColumn) p false h);
       }
@@ -266,10 +294,10 @@ module _ (sheet : Sheet) (t w : List ℕ) (p : List Bool) (n : ℕ) (ta : Tables
   plus-sum Missing x = refl
   plus-sum (Sum y) x = ap Sum (omega arith)
 
-  next-cost : (q : ℕ) (l : q < laneCount) → (valueOf (nextRow q) ≡ plus (getD (getD (sheet .columns) q noColumn .prices) (length p) 0) (reach (getD (sheet .columns) q noColumn .life) (front (sheet .positions) (getD (sheet .columns) q noColumn) p) (getD (sheet .positions) (length p) (pos 0)))) × Level (top * (length p + 1)) (nextRow q)
+  next-cost : (q : ℕ) (l : q < length (sheet .columns)) → (valueOf (nextRow q) ≡ plus (getD (getD (sheet .columns) q noColumn .prices) (length p) 0) (reach (getD (sheet .columns) q noColumn .life) (front (sheet .positions) (getD (sheet .columns) q noColumn) p) (getD (sheet .positions) (length p) (pos 0)))) × Level (top * (length p + 1)) (nextRow q)
   next-cost q l =
       let col = getD (sheet .columns) q noColumn in
-      let la = ta .lanes q l in
+      let la = ta .lanes q (omega (arith, ta .wide)) in
       let x = lane t w reachBase (length p) q n in
       let y = getD t (pricePlace (length p) q) 0 in
       let c = la .cheap (length p) in
@@ -281,7 +309,7 @@ module _ (sheet : Sheet) (t w : List ℕ) (p : List Bool) (n : ℕ) (ta : Tables
         record { some = λ g. omega (arith, v .1 g); most = omega (arith, lane-most t w reachBase (length p) q n, c, pr) },
       )
 
-  pub rows-yes : (w' : List ℕ) → Put nextRow w w' n (length p + 1) → Rows sheet w' (snoc p true) (n + 1)
+  pub rows-yes : (w' : List ℕ) → Put (lanesIn t) nextRow w w' n (length p + 1) → Rows sheet w' (snoc p true) (n + 1)
   rows-yes w' u =
       let e = snoc-length p true in
       record {
@@ -289,6 +317,7 @@ module _ (sheet : Sheet) (t w : List ℕ) (p : List Bool) (n : ℕ) (ta : Tables
         few = omega (arith, ro .few, e);
         marks = λ k l. mark-at k (omega arith) (ℕ-discrete k n);
         rising = λ k m l g. rise-at k m l (omega arith) (ℕ-discrete m n) (ℕ-discrete k n);
+        narrow = ro .narrow;
         level = λ k q l g. level-at k q (omega arith) g (ℕ-discrete k n);
         fronts = λ q l. front-at q l;
       }
@@ -305,29 +334,34 @@ module _ (sheet : Sheet) (t w : List ℕ) (p : List Bool) (n : ℕ) (ta : Tables
           omega (arith, x, u .kept .marks k z, ro .marks k z)
       rise-at k m l g (no a) d = let z : m < n = ≠-lt m n a g in omega (arith, u .kept .marks k (omega arith), u .kept .marks m z, ro .rising k m l z)
 
-      level-at : (k q : ℕ) → k ≤ n → q < laneCount → Dec (k ≡ n) → Level (top * length (snoc p true)) (getD w' (rowPlace k q) 0)
+      row-at : (q : ℕ) → q < length (sheet .columns) → getD w' (rowPlace n q) 0 ≡ nextRow q
+      row-at q l = u .row q (omega (arith, ta .wide))
+
+      level-at : (k q : ℕ) → k ≤ n → q < length (sheet .columns) → Dec (k ≡ n) → Level (top * length (snoc p true)) (getD w' (rowPlace k q) 0)
       level-at k q l m (yes g) =
-          rw (g, u .row q m) (level-more (top * (length p + 1)) (top * length (snoc p true)) (nextRow q) (omega (arith, snoc-length p true)) (next-cost q m .1))
+          rw (g, row-at q m) (level-more (top * (length p + 1)) (top * length (snoc p true)) (nextRow q) (omega (arith, snoc-length p true)) (next-cost q m .1))
       level-at k q l m (no g) =
           let z : k < n = ≠-lt k n g l in
-          rw (u .kept .rows (rowPlace k q) (omega arith)) (level-more (top * length p) (top * length (snoc p true)) (getD w (rowPlace k q) 0) (omega (arith, snoc-length p true)) (ro .level k q z m))
+          rw (u .kept .rows (rowPlace k q) (omega (arith, ro .narrow))) (level-more (top * length p) (top * length (snoc p true)) (getD w (rowPlace k q) 0) (omega (arith, snoc-length p true)) (ro .level k q z m))
 
-      front-at : (q : ℕ) → q < laneCount → marksIn (getD (sheet .columns) q noColumn .first) (sheet .positions) w' q (n + 1) ≡ front (sheet .positions) (getD (sheet .columns) q noColumn) (snoc p true)
+      front-at : (q : ℕ) → q < length (sheet .columns) → marksIn (getD (sheet .columns) q noColumn .first) (sheet .positions) w' q (n + 1) ≡ front (sheet .positions) (getD (sheet .columns) q noColumn) (snoc p true)
       front-at q l =
           let col = getD (sheet .columns) q noColumn in
           ap (marksIn (col .first) (sheet .positions) w' q) (add-one n)
           ∙ marks-suc (col .first) (sheet .positions) w' q n (getD (sheet .positions) (length p) (pos 0)) (plus (getD (col .prices) (length p) 0) (reach (col .life) (front (sheet .positions) col p) (getD (sheet .positions) (length p) (pos 0)))) (front (sheet .positions) col p)
           (ap (markOf (col .first) (sheet .positions)) (u .mark ∙ add-one (length p)))
-          (ap valueOf (u .row q l) ∙ next-cost q l .0)
-          (marks-kept (col .first) (sheet .positions) w w' q n n l (omega arith) (u .kept) ∙ ro .fronts q l)
+          (ap valueOf (row-at q l) ∙ next-cost q l .0)
+          (marks-kept (col .first) (sheet .positions) w w' q n n (omega (arith, ro .narrow)) (omega arith) (u .kept) ∙ ro .fronts q l)
           ∙ sym (front-snoc (sheet .positions) col p true h)
 
 -- ---- the loops
 
 -- at any opening j from the first undecided one on
-pub stack-at : (sheet : Sheet) (t w : List ℕ) (p : List Bool) (n j : ℕ) → Tables sheet t → Rows sheet w p n → length p ≤ j → j ≤ length (sheet .positions) → Stack t w suffixBase (getD t (cutPlace suffixCuts j) 0) j n
+pub stack-at : (sheet : Sheet) (t w : List ℕ) (p : List Bool) (n j : ℕ) → Tables sheet t → Rows sheet w p n → length p ≤ j → j ≤ length (sheet .positions) → Stack (lanesIn t) t w suffixBase (getD t (cutPlace suffixCuts j) 0) j n
 stack-at sheet t w p n j ta ro h g =
     record {
+      some = ta .some;
+      narrow = ta .narrow;
       table = omega (arith, ta .size);
       size = ro .size;
       near = omega (arith, ta .few);
@@ -340,7 +374,7 @@ stack-at sheet t w p n j ta ro h g =
           let la = ta .lanes q m in
           omega (
             arith,
-            ro .level k q l m .most,
+            ro .level k q l (omega (arith, ta .wide)) .most,
             coded-most (top * (length (sheet .positions) - j)) (omega (arith, ta .few)) (getD t (place suffixBase j i q) 0)
                 (leastOf (getD (sheet .columns) q noColumn .life) (sheet .end) (markOf (getD (sheet .columns) q noColumn .first) (sheet .positions) i) (drop j (offers (sheet .positions) (getD (sheet .columns) q noColumn .prices) [])))
                 (la .suffix j i (omega arith) g),
@@ -349,12 +383,14 @@ stack-at sheet t w p n j ta ro h g =
     }
 
 module _ (sheet : Sheet) (t w : List ℕ) (p : List Bool) (n : ℕ) (ta : Tables sheet t) (ro : Rows sheet w p n) (h : length p < length (sheet .positions)) where
-  pub stack-no : Stack t w suffixBase (getD t (cutPlace suffixCuts (length p + 1)) 0) (length p + 1) n
+  pub stack-no : Stack (lanesIn t) t w suffixBase (getD t (cutPlace suffixCuts (length p + 1)) 0) (length p + 1) n
   stack-no = stack-at sheet t w p n (length p + 1) ta ro (omega arith) (omega arith)
 
-  pub stack-yes : Stack t w reachBase (getD t (cutPlace reachCuts (length p)) 0) (length p) n
+  pub stack-yes : Stack (lanesIn t) t w reachBase (getD t (cutPlace reachCuts (length p)) 0) (length p) n
   stack-yes =
       record {
+        some = ta .some;
+        narrow = ta .narrow;
         table = omega (arith, ta .size);
         size = ro .size;
         near = omega (arith, ta .few);
@@ -364,7 +400,7 @@ module _ (sheet : Sheet) (t w : List ℕ) (p : List Bool) (n : ℕ) (ta : Tables
         sums = λ k q l g.
             omega (
               arith,
-              ro .level k q l g .most,
+              ro .level k q l (omega (arith, ta .wide)) .most,
               pick-most (within (getD (sheet .columns) q noColumn .life) (markOf (getD (sheet .columns) q noColumn .first) (sheet .positions) (getD w (markPlace k) 0)) (getD (sheet .positions) (length p) (pos 0))),
               ta .lanes q g .reach (length p) (getD w (markPlace k) 0) (ro .marks k l) h,
             );
@@ -376,9 +412,9 @@ module _ (sheet : Sheet) (t w : List ℕ) (p : List Bool) (n : ℕ) (ta : Tables
       pick-most false = omega arith
 
 -- what the rows up to k add to a lane
-pub lane-cut : (t w : List ℕ) (base lo j q n k : ℕ) → Stack t w base lo j n → q < laneCount → k < n → getD w (markPlace k) 0 < lo → lane t w base j q (k + 1) ≡ inf
+pub lane-cut : (wide : ℕ) (t w : List ℕ) (base lo j q n k : ℕ) → Stack wide t w base lo j n → q < wide → k < n → getD w (markPlace k) 0 < lo → lane t w base j q (k + 1) ≡ inf
 unfolding lane
-lane-cut t w base lo j q n k s l h c = rw add-one (go k (omega arith) c)
+lane-cut wide t w base lo j q n k s l h c = rw add-one (go k (omega arith) c)
   where
     go : (i : ℕ) → i < n → getD w (markPlace i) 0 < lo → lane t w base j q (suc i) ≡ inf
     go zero h c = omega (arith, s .cut (getD w (markPlace zero) 0) q c l)
@@ -386,19 +422,41 @@ lane-cut t w base lo j q n k s l h c = rw add-one (go k (omega arith) c)
 
 -- ---- the first node
 
-pub rows-root : (sheet : Sheet) (w : List ℕ) → length w ≡ stackSize → ((q : ℕ) → q < laneCount → getD w q 0 ≡ 0) → getD w markBase 0 ≡ 0 → Rows sheet w [] 1
+pub rows-root : (sheet : Sheet) (w : List ℕ) → length (sheet .columns) ≤ laneCount → length w ≡ stackSize → ((q : ℕ) → q < laneCount → getD w q 0 ≡ 0) → getD w markBase 0 ≡ 0 → Rows sheet w [] 1
 unfolding marksIn frontFrom
-rows-root sheet w s r m =
+rows-root sheet w h s r m =
     record {
       size = s;
       few = omega arith;
       marks = λ k l. let z : markBase + k ≡ markBase = omega arith in let y : getD w (markPlace k) 0 ≡ 0 = ap (λ (x : ℕ). getD w x 0) z ∙ m in omega arith;
       rising = λ k l a b. let z : markBase + k ≡ markBase + l = omega arith in let y : getD w (markPlace k) 0 ≡ getD w (markPlace l) 0 = ap (λ (x : ℕ). getD w x 0) z in omega arith;
-      level = λ k q l g. let z : k * laneCount + q ≡ q = omega arith in let y : getD w (rowPlace k q) 0 ≡ 0 = ap (λ (x : ℕ). getD w x 0) z ∙ r q g in record { some = λ a. omega arith; most = omega arith };
+      narrow = h;
+      level = λ k q l g. let z : k * laneCount + q ≡ q = omega arith in let y : getD w (rowPlace k q) 0 ≡ 0 = ap (λ (x : ℕ). getD w x 0) z ∙ r q (omega arith) in record { some = λ a. omega arith; most = omega arith };
       fronts = λ q l.
           let col = getD (sheet .columns) q noColumn in
           let z : 0 * laneCount + q ≡ q = omega arith in
-          let y : getD w (rowPlace 0 q) 0 ≡ 0 = ap (λ (x : ℕ). getD w x 0) z ∙ r q l in
+          let y : getD w (rowPlace 0 q) 0 ≡ 0 = ap (λ (x : ℕ). getD w x 0) z ∙ r q (omega arith) in
           (λ i. record { at = markOf (col .first) (sheet .positions) (m i); cost = valueOf (y i) } ∷ [])
           ∙ sym (ap (frontFrom (col .life) (record { at = col .first; cost = Sum 0 } ∷ [])) (decided-nil (sheet .positions) (col .prices)));
     }
+
+-- where nothing is decided, a lane is the tables' first number for it
+module _ (sheet : Sheet) (t : List ℕ) (ta : Tables sheet t) where
+  pub first-most : (q : ℕ) → q < lanesIn t → getD t q 0 ≤ inf
+  first-most q l =
+      let col = getD (sheet .columns) q noColumn in
+      let n = length (sheet .positions) in
+      let z : place suffixBase 0 0 q ≡ q = omega arith in
+      subst (λ (k : ℕ). getD t k 0 ≤ inf) z
+      (coded-most (top * (n - 0)) (omega (arith, ta .few)) (getD t (place suffixBase 0 0 q) 0) (leastOf (col .life) (sheet .end) (markOf (col .first) (sheet .positions) 0) (drop 0 (offers (sheet .positions) (col .prices) [])))
+      (ta .lanes q l .suffix 0 0 (omega arith) (omega arith)))
+
+  first-lane : (w : List ℕ) (q : ℕ) → q < lanesIn t → getD w q 0 ≡ 0 → getD w markBase 0 ≡ 0 → getD t q 0 ≡ lane t w suffixBase 0 q 1
+  unfolding lane
+  first-lane w q l e m =
+      let x : 0 * laneCount + q ≡ q = omega arith in
+      let y : place suffixBase 0 (getD w markBase 0) q ≡ q = omega (arith, m) in
+      omega (arith, e, ap (λ (k : ℕ). getD w k 0) x, ap (λ (k : ℕ). getD t k 0) y, first-most q l)
+
+  pub first-sums : (w : List ℕ) → ((q : ℕ) → q < laneCount → getD w q 0 ≡ 0) → getD w markBase 0 ≡ 0 → sumLanes (lanesIn t) (λ (q : ℕ). getD t q 0) ≡ sumLanes (lanesIn t) (λ (q : ℕ). lane t w suffixBase 0 q 1)
+  first-sums w e m = sum-same (lanesIn t) (λ (q : ℕ). getD t q 0) (λ (q : ℕ). lane t w suffixBase 0 q 1) (λ q l. first-lane w q l (e q (omega (arith, ta .narrow))) m)

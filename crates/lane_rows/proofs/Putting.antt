@@ -36,8 +36,8 @@ module _ (f : ℕ → ℕ) (w₀ : List ℕ) (n : ℕ) where
           below (yes h) = h
           below (no h) = absurd (g (omega (arith, h)))
 
-  pub put-mark : (w : List ℕ) (g : ℕ → ℕ) (m : ℕ) → n < markCount → length w₀ ≡ stackSize → ((q : ℕ) → q < laneCount → f q ≡ g q) → Putting f w₀ w n laneCount → Put g w₀ (set w (markPlace n) m) n m
-  put-mark w g m h s e d =
+  pub put-mark : (wide : ℕ) (w : List ℕ) (g : ℕ → ℕ) (m : ℕ) → n < markCount → length w₀ ≡ stackSize → wide ≤ laneCount → ((q : ℕ) → q < wide → f q ≡ g q) → Putting f w₀ w n wide → Put wide g w₀ (set w (markPlace n) m) n m
+  put-mark wide w g m h s v e d =
       record {
         kept = record {
           size = length-set w (markPlace n) m ∙ d .size;

@@ -1,5 +1,7 @@
--- Where the numbers of the tables and of the stack of rows stand, and which numbers are prices. A row has sixteen lanes, one for each part.
+-- Where the numbers of the tables and of the stack of rows stand, and which numbers are prices. A row has room for sixteen lanes; a job has as many fours of them as its parts fill.
 use Prim.Native.Nat.{ℕ, _+_, _*_}
+use mathlib.Core.List.{List}
+use lib.ListN.{getD}
 
 abbrev pub laneCount : ℕ
 laneCount = 16
@@ -79,8 +81,15 @@ reachCuts = 136354
 abbrev pub cutPlace : ℕ → ℕ → ℕ
 cutPlace cuts j = cuts + j
 
+-- how many fours of lanes the job has, and how many lanes
+abbrev pub foursPlace : ℕ
+foursPlace = 136419
+
+abbrev pub lanesIn : List ℕ → ℕ
+lanesIn t = getD t foursPlace 0 * 4
+
 abbrev pub tablesSize : ℕ
-tablesSize = 136419
+tablesSize = 136420
 
 -- ---- the stack: 65 rows, and the mark of each
 

@@ -10,7 +10,7 @@ use Rattle.branch.specs.declared.Bound.the-variants.{Missing, Sum}
 use Rattle.model.specs.Model.{within}
 use Rattle.model.specs.LowerBound.{pick, leastOf, offers}
 use Rattle.least.specs.Marks.{markOf}
-use Rattle.lane_rows.specs.Layout.{laneCount, top, inf, suffixBase, reachBase, place, pricePlace, feePlace, countPlace, suffixCuts, reachCuts, cutPlace, tablesSize}
+use Rattle.lane_rows.specs.Layout.{laneCount, top, inf, suffixBase, reachBase, place, pricePlace, feePlace, countPlace, suffixCuts, reachCuts, cutPlace, lanesIn, tablesSize}
 use Rattle.lane_rows.specs.Sheet.{Column, Sheet, noColumn}
 
 -- the price that a number stands for
@@ -34,11 +34,13 @@ pub record Lane (end : ℤ) (ss : List ℤ) (col : Column) (t : List ℕ) (q : �
 pub record Tables (sheet : Sheet) (t : List ℕ) : Type 0 where
   pub size : length t ≡ tablesSize
   pub few : length (sheet .positions) ≤ 64
-  pub sixteen : length (sheet .columns) ≡ laneCount
+  pub wide : length (sheet .columns) ≡ lanesIn t
+  pub some : 0 < lanesIn t
+  pub narrow : lanesIn t ≤ laneCount
   pub paid : length (sheet .fees) ≡ length (sheet .positions)
-  pub lanes : (q : ℕ) → q < laneCount → Lane (sheet .end) (sheet .positions) (getD (sheet .columns) q noColumn) t q
+  pub lanes : (q : ℕ) → q < lanesIn t → Lane (sheet .end) (sheet .positions) (getD (sheet .columns) q noColumn) t q
   pub fees : (j : ℕ) → j < length (sheet .positions) → getD t (feePlace j) 0 ≡ getD (sheet .fees) j 0
   pub fair : (j : ℕ) → getD (sheet .fees) j 0 ≤ top
   pub count : getD t countPlace 0 ≡ length (sheet .positions)
-  pub suffix-cut : (j i q : ℕ) → j ≤ length (sheet .positions) → i < getD t (cutPlace suffixCuts j) 0 → q < laneCount → getD t (place suffixBase j i q) 0 ≡ inf
-  pub reach-cut : (j i q : ℕ) → j < length (sheet .positions) → i < getD t (cutPlace reachCuts j) 0 → q < laneCount → getD t (place reachBase j i q) 0 ≡ inf
+  pub suffix-cut : (j i q : ℕ) → j ≤ length (sheet .positions) → i < getD t (cutPlace suffixCuts j) 0 → q < lanesIn t → getD t (place suffixBase j i q) 0 ≡ inf
+  pub reach-cut : (j i q : ℕ) → j < length (sheet .positions) → i < getD t (cutPlace reachCuts j) 0 → q < lanesIn t → getD t (place reachBase j i q) 0 ≡ inf

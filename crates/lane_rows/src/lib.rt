@@ -1,15 +1,15 @@
-// Rows of sixteen lanes, one for each part: the tables, and a stack of rows in a lent buffer.
+// Rows of lanes, one for each part, in fours: the tables, and a stack of rows in a lent buffer. A row function stands for any number of fours; its caller names the number, which makes each loop one without a count.
 ghost use mathlib.Core.Path.{_≡_};
 ghost use mathlib.Core.Bool.{true};
 ghost use Prim.Native.Nat.{ℕ, _+_, _-_, _*_, _^_, _<_, _≤_, min};
 ghost use lib.ListN.{length, getD};
-ghost use Rattle.lane_rows.specs.Layout.{laneCount, markCount, inf, top, blockSize, tablesSize, stackSize, suffixBase, reachBase, reachCuts, place, rowPlace, pricePlace, markPlace, cutPlace};
+ghost use Rattle.lane_rows.specs.Layout.{laneCount, markCount, inf, top, blockSize, tablesSize, lanesIn, stackSize, suffixBase, reachBase, reachCuts, place, rowPlace, pricePlace, markPlace, cutPlace};
 ghost use Rattle.lane_rows.specs.Tables.{valueOf};
-ghost use Rattle.lane_rows.specs.Rows.{lane, sumLanes, Stack, Put, nextRow, Owing, Settled};
+ghost use Rattle.lane_rows.specs.Rows.{lane, sumLanes, Turned, Stack, Put, nextRow, Owing, Settled};
 use branch::Bound;
 use least::MARKS;
 
-// A row has a lane for each part.
+// A row has room for a lane for each part.
 pub const LANES: usize = 16;
 
 // The number for a missing price.
@@ -31,7 +31,10 @@ pub const SUFFIX_CUTS: usize = 136289;
 
 pub const REACH_CUTS: usize = 136354;
 
-pub const TABLES: usize = 136419;
+// How many fours of lanes the job has.
+pub const FOURS: usize = 136419;
+
+pub const TABLES: usize = 136420;
 
 // The stack: 65 rows, then the mark of each.
 pub const ROW_MARKS: usize = 1040;
@@ -55,41 +58,42 @@ fn lesser(x: u32, y: u32) -> u32
 }
 
 // Each lane's least of what it holds and a row's sum.
-fn min_row(acc: [u32; LANES], d: &[u32], e: &[u32]) -> [u32; LANES]
-    requires { ⌜ (laneCount ≤ length (now d)) × (laneCount ≤ length (now e)) ⌝ }
-    requires { ⌜ ((q : ℕ) → q < laneCount → (getD acc q 0 ≤ inf) × (getD (now d) q 0 + getD (now e) q 0 < 2 ^ 31)) ⌝ }
-    ensures { λ r. ⌜ ((q : ℕ) → q < laneCount → getD r q 0 ≡ min (getD acc q 0) (getD (now (d .entry)) q 0 + getD (now (e .entry)) q 0)) ⌝ }
+fn min_row(fours: usize, d: &[u32], e: &[u32], acc: &mut [u32])
+    requires { ⌜ (fours ≤ 4) × (laneCount ≤ length (now d)) × (laneCount ≤ length (now e)) × (laneCount ≤ length (now acc)) ⌝ }
+    requires { ⌜ ((q : ℕ) → q < fours * 4 → (getD (now acc) q 0 ≤ inf) × (getD (now d) q 0 + getD (now e) q 0 < 2 ^ 31)) ⌝ }
+    ensures { λ _. ⌜ Turned (fours * 4) (λ (q : ℕ). min (getD (now (acc .entry)) q 0) (getD (now (d .entry)) q 0 + getD (now (e .entry)) q 0)) (now (acc .entry)) (now (acc .exit)) ⌝ }
 {
-    let mut r = acc;
-    for p in 0..LANES {
-        let x = d[p] + e[p];
-        r[p] = lesser(x, r[p]);
+    for p in 0..fours * 4 {
+        acc[p] = lesser(d[p] + e[p], acc[p]);
     }
-    r
 }
 
 // Each lane with its price in a row of prices.
-fn plus_row(acc: [u32; LANES], prices: &[u32]) -> [u32; LANES]
-    requires { ⌜ laneCount ≤ length (now prices) ⌝ }
-    requires { ⌜ ((q : ℕ) → q < laneCount → getD acc q 0 + getD (now prices) q 0 < 2 ^ 31) ⌝ }
-    ensures { λ r. ⌜ ((q : ℕ) → q < laneCount → getD r q 0 ≡ getD acc q 0 + getD (now (prices .entry)) q 0) ⌝ }
+fn plus_row(fours: usize, prices: &[u32], acc: &mut [u32])
+    requires { ⌜ (fours ≤ 4) × (laneCount ≤ length (now prices)) × (laneCount ≤ length (now acc)) ⌝ }
+    requires { ⌜ ((q : ℕ) → q < fours * 4 → getD (now acc) q 0 + getD (now prices) q 0 < 2 ^ 31) ⌝ }
+    ensures { λ _. ⌜ Turned (fours * 4) (λ (q : ℕ). getD (now (acc .entry)) q 0 + getD (now (prices .entry)) q 0) (now (acc .entry)) (now (acc .exit)) ⌝ }
 {
-    let mut r = acc;
-    for p in 0..LANES {
-        r[p] = r[p] + prices[p];
+    for p in 0..fours * 4 {
+        acc[p] = acc[p] + prices[p];
     }
-    r
 }
 
-// The sum of all lanes.
-fn total(acc: [u32; LANES]) -> u64
-    requires { ⌜ ((q : ℕ) → q < laneCount → getD acc q 0 ≤ inf) ⌝ }
-    ensures { λ r. ⌜ r ≡ sumLanes (λ (q : ℕ). getD acc q 0) ⌝ }
+// The sum of all lanes, in four sums that stay within 32 bits.
+fn total(fours: usize, acc: &[u32]) -> u64
+    requires { ⌜ (fours ≤ 4) × (laneCount ≤ length (now acc)) × ((q : ℕ) → q < fours * 4 → getD (now acc) q 0 ≤ inf) ⌝ }
+    ensures { λ r. ⌜ r ≡ sumLanes (fours * 4) (λ (q : ℕ). getD (now (acc .entry)) q 0) ⌝ }
 {
-    let a = acc[0] + acc[4] + acc[8] + acc[12];
-    let b = acc[1] + acc[5] + acc[9] + acc[13];
-    let c = acc[2] + acc[6] + acc[10] + acc[14];
-    let d = acc[3] + acc[7] + acc[11] + acc[15];
+    let mut a: u32 = 0;
+    let mut b: u32 = 0;
+    let mut c: u32 = 0;
+    let mut d: u32 = 0;
+    for k in 0..fours {
+        a = a + acc[k * 4];
+        b = b + acc[k * 4 + 1];
+        c = c + acc[k * 4 + 2];
+        d = d + acc[k * 4 + 3];
+    }
     a as u64 + b as u64 + c as u64 + d as u64
 }
 
@@ -106,78 +110,141 @@ pub fn value(s: u64) -> Bound
 
 // Row n, whose mark is i, is taken into the lanes, with the block from `base` on, at opening j.
 fn add_row(
+    fours: usize,
     t: &[u32],
     w: &[u32],
     base: usize,
     j: usize,
     i: usize,
     n: usize,
-    acc: [u32; LANES],
-) -> [u32; LANES]
-    requires { ⌜ (base + blockSize ≤ length (now t)) × (length (now w) ≡ stackSize) × (j ≤ 64) × (i ≤ 64) × (n ≤ 64) ⌝ }
-    requires { ⌜ ((q : ℕ) → q < laneCount → (getD acc q 0 ≤ inf) × (getD (now w) (rowPlace n q) 0 + getD (now t) (place base j i q) 0 < 2 ^ 31)) ⌝ }
-    ensures { λ r. ⌜ ((q : ℕ) → q < laneCount → getD r q 0 ≡ min (getD acc q 0) (getD (now (w .entry)) (rowPlace n q) 0 + getD (now (t .entry)) (place base j i q) 0)) ⌝ }
+    acc: &mut [u32],
+)
+    requires { ⌜ (fours ≤ 4) × (laneCount ≤ length (now acc)) × (base + blockSize ≤ length (now t)) × (length (now w) ≡ stackSize) × (j ≤ 64) × (i ≤ 64) × (n ≤ 64) ⌝ }
+    requires { ⌜ ((q : ℕ) → q < fours * 4 → (getD (now acc) q 0 ≤ inf) × (getD (now w) (rowPlace n q) 0 + getD (now t) (place base j i q) 0 < 2 ^ 31)) ⌝ }
+    ensures { λ _. ⌜ Turned (fours * 4) (λ (q : ℕ). min (getD (now (acc .entry)) q 0) (getD (now (w .entry)) (rowPlace n q) 0 + getD (now (t .entry)) (place base j i q) 0)) (now (acc .entry)) (now (acc .exit)) ⌝ }
 {
     let at = base + (j * MARKS + i) * LANES;
-    min_row(acc, &w[n * LANES..n * LANES + LANES], &t[at..at + LANES])
+    min_row(
+        fours,
+        &w[n * LANES..n * LANES + LANES],
+        &t[at..at + LANES],
+        acc,
+    );
 }
 
-// Each lane over the first `rows` rows; those with a mark below `lo` add nothing.
-fn least_rows(t: &[u32], w: &[u32], base: usize, lo: usize, j: usize, rows: usize) -> [u32; LANES]
-    requires { ⌜ Stack (now t) (now w) base lo j rows ⌝ }
-    ensures { λ r. ⌜ ((q : ℕ) → q < laneCount → getD r q 0 ≡ lane (now (t .entry)) (now (w .entry)) base j q rows) ⌝ }
+// Each lane over the first `rows` rows, from lanes that hold nothing; the rows with a mark below `lo` add nothing.
+fn least_rows(
+    fours: usize,
+    t: &[u32],
+    w: &[u32],
+    base: usize,
+    lo: usize,
+    j: usize,
+    rows: usize,
+    acc: &mut [u32],
+)
+    requires { ⌜ (Stack (fours * 4) (now t) (now w) base lo j rows) × (laneCount ≤ length (now acc)) × ((q : ℕ) → q < fours * 4 → getD (now acc) q 0 ≡ inf) ⌝ }
+    ensures { λ _. ⌜ Turned (fours * 4) (λ (q : ℕ). lane (now (t .entry)) (now (w .entry)) base j q rows) (now (acc .entry)) (now (acc .exit)) ⌝ }
 {
-    let mut acc = [INF; LANES];
     let mut n = rows;
     while 0 < n {
         n -= 1;
         let i = w[ROW_MARKS + n] as usize;
         if i < lo {
-            return acc;
+            return;
         }
-        let next = add_row(t, w, base, j, i, n, acc);
-        acc = next;
+        add_row(fours, t, w, base, j, i, n, acc);
     }
-    acc
+}
+
+// The sum of so many lanes where opening j is the first undecided one, given that it is at least `ms`.
+fn sum_rows(fours: usize, t: &[u32], w: &[u32], lo: usize, j: usize, rows: usize, ms: u64) -> u64
+    requires { ⌜ Stack (fours * 4) (now t) (now w) suffixBase lo j rows ⌝ }
+    requires { ⌜ ms ≤ sumLanes (fours * 4) (λ (q : ℕ). lane (now t) (now w) suffixBase j q rows) ⌝ }
+    ensures { λ r. ⌜ r ≡ sumLanes (fours * 4) (λ (q : ℕ). lane (now (t .entry)) (now (w .entry)) suffixBase j q rows) ⌝ }
+{
+    let mut acc = [INF; LANES];
+    let mut s = fours as u64 * 4 * INF as u64;
+    let mut n = rows;
+    while 0 < n {
+        n -= 1;
+        let i = w[ROW_MARKS + n] as usize;
+        if i < lo {
+            return s;
+        }
+        add_row(fours, t, w, SUFFIXES, j, i, n, &mut acc);
+        s = total(fours, &acc);
+        if s == ms {
+            return s;
+        }
+    }
+    s
 }
 
 // The sum of all lanes where opening j is the first undecided one, given that it is at least `ms`.
 pub fn lane_sum(t: &[u32], w: &[u32], lo: usize, j: usize, rows: usize, ms: u64) -> u64
-    requires { ⌜ Stack (now t) (now w) suffixBase lo j rows ⌝ }
-    requires { ⌜ ms ≤ sumLanes (λ (q : ℕ). lane (now t) (now w) suffixBase j q rows) ⌝ }
-    ensures { λ r. ⌜ r ≡ sumLanes (λ (q : ℕ). lane (now (t .entry)) (now (w .entry)) suffixBase j q rows) ⌝ }
+    requires { ⌜ (length (now t) ≡ tablesSize) × Stack (lanesIn (now t)) (now t) (now w) suffixBase lo j rows ⌝ }
+    requires { ⌜ ms ≤ sumLanes (lanesIn (now t)) (λ (q : ℕ). lane (now t) (now w) suffixBase j q rows) ⌝ }
+    ensures { λ r. ⌜ r ≡ sumLanes (lanesIn (now (t .entry))) (λ (q : ℕ). lane (now (t .entry)) (now (w .entry)) suffixBase j q rows) ⌝ }
 {
-    let mut acc = [INF; LANES];
-    let mut n = rows;
-    while 0 < n {
-        n -= 1;
-        let i = w[ROW_MARKS + n] as usize;
-        if i < lo {
-            return total(acc);
-        }
-        let next = add_row(t, w, SUFFIXES, j, i, n, acc);
-        acc = next;
-        if total(acc) == ms {
-            return ms;
-        }
+    let fours = t[FOURS];
+    if fours == 1 {
+        return sum_rows(1, t, w, lo, j, rows, ms);
     }
-    total(acc)
+    if fours == 2 {
+        return sum_rows(2, t, w, lo, j, rows, ms);
+    }
+    if fours == 3 {
+        return sum_rows(3, t, w, lo, j, rows, ms);
+    }
+    sum_rows(4, t, w, lo, j, rows, ms)
+}
+
+// The sum of all lanes where nothing is decided: the tables' first row.
+pub fn first_sum(t: &[u32]) -> u64
+    requires { ⌜ (length (now t) ≡ tablesSize) × (lanesIn (now t) ≤ laneCount) × ((q : ℕ) → q < lanesIn (now t) → getD (now t) q 0 ≤ inf) ⌝ }
+    ensures { λ r. ⌜ r ≡ sumLanes (lanesIn (now (t .entry))) (λ (q : ℕ). getD (now (t .entry)) q 0) ⌝ }
+{
+    total(t[FOURS] as usize, t)
+}
+
+// The row of opening j, decided yes, above the `rows` that are there: so many lanes of it.
+fn put_lanes(fours: usize, t: &[u32], w: &mut [u32], j: usize, rows: usize)
+    requires { ⌜ (Stack (fours * 4) (now t) (now w) reachBase (getD (now t) (cutPlace reachCuts j) 0) j rows) × (length (now t) ≡ tablesSize) × (j < 64) × (rows < markCount) ⌝ }
+    requires { ⌜ ((q : ℕ) → q < fours * 4 → getD (now t) (pricePlace j q) 0 ≤ top) ⌝ }
+    ensures { λ _. ⌜ Put (fours * 4) (nextRow (now (t .entry)) (now (w .entry)) j rows) (now (w .entry)) (now (w .exit)) rows (j + 1) ⌝ }
+{
+    let lo = t[REACH_CUTS + j] as usize;
+    let mut acc = [INF; LANES];
+    least_rows(fours, t, w, REACHES, lo, j, rows, &mut acc);
+    let at = PRICES + j * LANES;
+    plus_row(fours, &t[at..at + LANES], &mut acc);
+    for p in 0..fours * 4 {
+        w[rows * LANES + p] = acc[p];
+    }
+    w[ROW_MARKS + rows] = (j + 1) as u32;
 }
 
 // The row of opening j, decided yes, above the `rows` that are there.
 fn put_row(t: &[u32], w: &mut [u32], j: usize, rows: usize)
-    requires { ⌜ (Stack (now t) (now w) reachBase (getD (now t) (cutPlace reachCuts j) 0) j rows) × (length (now t) ≡ tablesSize) × (j < 64) × (rows < markCount) ⌝ }
-    requires { ⌜ ((q : ℕ) → q < laneCount → getD (now t) (pricePlace j q) 0 ≤ top) ⌝ }
-    ensures { λ _. ⌜ Put (nextRow (now (t .entry)) (now (w .entry)) j rows) (now (w .entry)) (now (w .exit)) rows (j + 1) ⌝ }
+    requires { ⌜ (Stack (lanesIn (now t)) (now t) (now w) reachBase (getD (now t) (cutPlace reachCuts j) 0) j rows) × (length (now t) ≡ tablesSize) × (j < 64) × (rows < markCount) ⌝ }
+    requires { ⌜ ((q : ℕ) → q < lanesIn (now t) → getD (now t) (pricePlace j q) 0 ≤ top) ⌝ }
+    ensures { λ _. ⌜ Put (lanesIn (now (t .entry))) (nextRow (now (t .entry)) (now (w .entry)) j rows) (now (w .entry)) (now (w .exit)) rows (j + 1) ⌝ }
 {
-    let lo = t[REACH_CUTS + j] as usize;
-    let acc = least_rows(t, w, REACHES, lo, j, rows);
-    let at = PRICES + j * LANES;
-    let sums = plus_row(acc, &t[at..at + LANES]);
-    for p in 0..LANES {
-        w[rows * LANES + p] = sums[p];
+    let fours = t[FOURS];
+    if fours == 1 {
+        put_lanes(1, t, w, j, rows);
+        return;
     }
-    w[ROW_MARKS + rows] = (j + 1) as u32;
+    if fours == 2 {
+        put_lanes(2, t, w, j, rows);
+        return;
+    }
+    if fours == 3 {
+        put_lanes(3, t, w, j, rows);
+        return;
+    }
+    put_lanes(4, t, w, j, rows);
 }
 
 // Writes the row that a yes owes.

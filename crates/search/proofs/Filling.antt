@@ -20,9 +20,9 @@ use Rattle.least.specs.Suffix.{codeOf, Suffixes}
 use Rattle.least.proofs.Diff.{mag-sub, back}
 use Rattle.model.proofs.Bools.{after-one, there}
 use Rattle.least.proofs.Most.{AtMost, most-least}
-use Rattle.search.specs.Arrays.{longestLife, priceStride, priceSize, laneValue, partAt, columnOf, columnsFrom, sheetOf, Lived, Arrays}
+use Rattle.search.specs.Arrays.{longestLife, priceStride, priceSize, laneValue, partAt, columnOf, columnsFrom, foursOf, sheetOf, Lived, Arrays}
 use Rattle.search.specs.Fill.{Wrote, reachOf, reachAt, column, LaneFilled, Span, Lanes, Cuts}
-use Rattle.lane_rows.specs.Layout.{laneCount, markCount, top, laneLimit, inf, blockRows, priceRow, laneRows, suffixBase, reachBase, place, rowPlace, pricePlace, feeBase, feePlace, countPlace, suffixCuts, reachCuts, cutPlace, tablesSize}
+use Rattle.lane_rows.specs.Layout.{laneCount, markCount, top, laneLimit, inf, blockRows, priceRow, laneRows, suffixBase, reachBase, place, rowPlace, pricePlace, feeBase, feePlace, countPlace, suffixCuts, reachCuts, cutPlace, foursPlace, lanesIn, tablesSize}
 use Rattle.lane_rows.specs.Sheet.{Column, noColumn}
 use Rattle.lane_rows.specs.Tables.{Coded, Lane, Tables}
 
@@ -135,40 +135,54 @@ columns-at n ls rs ps q zero i h = absurd (omega arith)
 columns-at n ls rs ps q (suc k) zero h = let z : q ≡ q + 0 = omega arith in ap (λ (x : ℕ). columnOf (partAt n ls rs ps x)) z
 columns-at n ls rs ps q (suc k) (suc i) h = let z : suc q + i ≡ q + suc i = omega arith in columns-at n ls rs ps (suc q) k i (omega arith) ∙ ap (λ (x : ℕ). columnOf (partAt n ls rs ps x)) z
 
--- all lanes, the fees, the number of openings, and the cuts
-pub tables-filled : (e : ℤ) (ss : List ℤ) (fs ls rs ps t u v w′ w : List ℕ) → Arrays e ss fs ls rs ps → Lanes e ss ls rs ps t laneCount
-    → Span (λ (x : ℕ). getD fs (x - feeBase) 0) t u feeBase (feeBase + length fs) → Span (λ (x : ℕ). length fs) u v countPlace (countPlace + 1) → Cuts v w′ suffixBase suffixCuts (length ss + 1) → Cuts w′ w reachBase reachCuts (length ss)
-    → Tables (sheetOf e ss fs ls rs ps) w
-tables-filled e ss fs ls rs ps t u v w′ w ar la a b c d =
+-- as many lanes as the parts fill, the fees, the number of openings, the cuts, and how many fours there are
+pub tables-filled : (e : ℤ) (ss : List ℤ) (fs ls rs ps t u v w′ w z : List ℕ) (fours : ℕ) → fours ≡ foursOf (length ls) → Arrays e ss fs ls rs ps → Lanes e ss ls rs ps t (fours * 4)
+    → Span (λ (x : ℕ). getD fs (x - feeBase) 0) t u feeBase (feeBase + length fs) → Span (λ (x : ℕ). length fs) u v countPlace (countPlace + 1)
+    → Cuts (fours * 4) v w′ suffixBase suffixCuts (length ss + 1) → Cuts (fours * 4) w′ w reachBase reachCuts (length ss) → Span (λ (x : ℕ). fours) w z foursPlace (foursPlace + 1)
+    → Tables (sheetOf e ss fs ls rs ps) z
+tables-filled e ss fs ls rs ps t u v w′ w z fours is ar la a b c d f =
     record {
-      size = d .size ∙ c .size ∙ b .size ∙ a .size ∙ la .size;
+      size = f .size ∙ d .size ∙ c .size ∙ b .size ∙ a .size ∙ la .size;
       few = ar .few;
-      sixteen = columns-length (length ss) ls rs ps 0 laneCount;
+      wide = columns-length (length ss) ls rs ps 0 (foursOf (length ls) * 4) ∙ sym (wide ∙ ap (λ (k : ℕ). k * 4) is);
+      some = omega (arith, wide, is, ar .some);
+      narrow = omega (arith, wide, is, ar .lanes);
       paid = ar .paid;
       lanes = λ q h.
-          let z : 0 + q ≡ q = omega arith in
-          let f : getD (columnsFrom (length ss) ls rs ps 0 laneCount) q noColumn ≡ columnIn ss ls rs ps q = columns-at (length ss) ls rs ps 0 laneCount q h ∙ ap (columnIn ss ls rs ps) z in
-          subst (λ (col : Column). Lane e ss col w q) (sym f)
-          (lane-kept e ss (columnIn ss ls rs ps q) t w q (ar .few) (λ y k. under (rowPlace y q) (omega arith)) (la .right q h));
+          let l : q < foursOf (length ls) * 4 = omega (arith, wide, is) in
+          let y : 0 + q ≡ q = omega arith in
+          let k : getD (columnsFrom (length ss) ls rs ps 0 (foursOf (length ls) * 4)) q noColumn ≡ columnIn ss ls rs ps q = columns-at (length ss) ls rs ps 0 (foursOf (length ls) * 4) q l ∙ ap (columnIn ss ls rs ps) y in
+          subst (λ (col : Column). Lane e ss col z q) (sym k)
+          (lane-kept e ss (columnIn ss ls rs ps q) t z q (ar .few) (λ y m. under (rowPlace y q) (omega (arith, ar .lanes))) (la .right q (omega (arith, wide))));
       fees = λ j h.
           let few = ar .few in
-          let z : feePlace j - feeBase ≡ j = omega arith in
-          d .under (feePlace j) (omega arith) ∙ c .under (feePlace j) (omega arith) ∙ b .under (feePlace j) (omega arith) ∙ a .done (feePlace j) (omega arith) (omega (arith, ar .paid)) ∙ ap (λ (k : ℕ). getD fs k 0) z;
+          let y : feePlace j - feeBase ≡ j = omega arith in
+          cuts (feePlace j) (omega arith) ∙ b .under (feePlace j) (omega arith) ∙ a .done (feePlace j) (omega arith) (omega (arith, ar .paid)) ∙ ap (λ (k : ℕ). getD fs k 0) y;
       fair = ar .fair;
-      count = d .under countPlace (omega arith) ∙ c .under countPlace (omega arith) ∙ b .done countPlace (omega arith) (omega arith) ∙ ar .paid;
+      count = cuts countPlace (omega arith) ∙ b .done countPlace (omega arith) (omega arith) ∙ ar .paid;
       suffix-cut = λ j i q h g l.
           let few = ar .few in
-          let r : i < getD w′ (cutPlace suffixCuts j) 0 = subst (λ (x : ℕ). i < x) (d .under (cutPlace suffixCuts j) (omega arith)) g in
+          let x : q < fours * 4 = omega (arith, wide) in
+          let r : i < getD w′ (cutPlace suffixCuts j) 0 = subst (λ (x : ℕ). i < x) (f .under (cutPlace suffixCuts j) (omega arith) ∙ d .under (cutPlace suffixCuts j) (omega arith)) g in
           let m = c .most j (omega arith) in
-          d .under (place suffixBase j i q) (omega arith) ∙ c .under (place suffixBase j i q) (omega arith) ∙ c .dead j (omega arith) i q r l;
+          cuts (place suffixBase j i q) (omega (arith, is, ar .lanes)) ∙ c .dead j (omega arith) i q r x;
       reach-cut = λ j i q h g l.
           let few = ar .few in
+          let x : q < fours * 4 = omega (arith, wide) in
+          let r : i < getD w (cutPlace reachCuts j) 0 = subst (λ (x : ℕ). i < x) (f .under (cutPlace reachCuts j) (omega arith)) g in
           let m = d .most j h in
-          d .under (place reachBase j i q) (omega arith) ∙ d .dead j h i q g l;
+          f .under (place reachBase j i q) (omega (arith, is, ar .lanes)) ∙ d .under (place reachBase j i q) (omega (arith, is, ar .lanes)) ∙ d .dead j h i q r x;
     }
   where
-    under : (x : ℕ) → x < feeBase → getD w x 0 ≡ getD t x 0
-    under x h = d .under x (omega arith) ∙ c .under x (omega arith) ∙ b .under x (omega arith) ∙ a .under x h
+    wide : lanesIn z ≡ fours * 4
+    wide = ap (λ (k : ℕ). k * 4) (f .done foursPlace (omega arith) (omega arith))
+
+    -- what stands before the cuts
+    cuts : (x : ℕ) → x < suffixCuts → getD z x 0 ≡ getD v x 0
+    cuts x h = f .under x (omega arith) ∙ d .under x (omega arith) ∙ c .under x h
+
+    under : (x : ℕ) → x < feeBase → getD z x 0 ≡ getD t x 0
+    under x h = cuts x (omega arith) ∙ b .under x (omega arith) ∙ a .under x h
 
 -- ---- a lane's own prices
 

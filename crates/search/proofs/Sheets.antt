@@ -15,9 +15,8 @@ use Rattle.model.specs.Model.{Part, Job, within, sumAt, lastChange}
 use Rattle.model.specs.Verdict.{noPart}
 use Rattle.model.specs.LowerBound.{pick, plus, lower, leastOf, offers, partBound, stopCost, boundOf}
 use Rattle.model.proofs.Bools.{after-one, there}
-use Rattle.search.specs.Arrays.{priceStride, laneValue, partAt, columnOf, columnsFrom, sheetOf, Holds}
+use Rattle.search.specs.Arrays.{priceStride, laneValue, partAt, columnOf, columnsFrom, foursOf, sheetOf, Holds}
 use Rattle.search.proofs.Filling.{own-each}
-use Rattle.lane_rows.specs.Layout.{laneCount}
 use Rattle.lane_rows.specs.Sheet.{columnBound, sheetBound}
 
 -- ---- a part with nothing to pay
@@ -110,13 +109,14 @@ module _ (job : Job) (e : ℤ) (ss : List ℤ) (fs ls rs ps : List ℕ) (h : Hol
   missing-total [] g b = absurd (omega arith)
   missing-total (x ∷ xs) g b = ap (λ (y : Bound). add y (total (partBound job) xs p)) b
 
-  all-total : (b : Bound) → begin ≡ b → total (columnBound (sheetOf e ss fs ls rs ps)) (columnsFrom (length ss) ls rs ps 0 laneCount) p ≡ total (partBound job) (job .parts) p
+  all-total : (k : ℕ) → length ls ≤ k → (b : Bound) → begin ≡ b → total (columnBound (sheetOf e ss fs ls rs ps)) (columnsFrom (length ss) ls rs ps 0 k) p ≡ total (partBound job) (job .parts) p
   unfolding columnsFrom
-  all-total (Sum x) b = columns-total x b (job .parts) 0 laneCount (omega (arith, h .parts, h .arrays .lanes)) (omega (arith, h .parts)) (λ i l. let z : i ≡ 0 + i = omega arith in ap (λ (j : ℕ). getD (job .parts) j noPart) z)
-  all-total Missing b =
-      ap (λ (y : Bound). add y (total (columnBound (sheetOf e ss fs ls rs ps)) (columnsFrom (length ss) ls rs ps 1 15) p)) (own 0 (h .arrays .some) ∙ b)
+  all-total k l (Sum x) b = columns-total x b (job .parts) 0 k (omega (arith, h .parts)) (omega (arith, h .parts)) (λ i l. let z : i ≡ 0 + i = omega arith in ap (λ (j : ℕ). getD (job .parts) j noPart) z)
+  all-total zero l Missing b = absurd (omega (arith, h .arrays .some))
+  all-total (suc k) l Missing b =
+      ap (λ (y : Bound). add y (total (columnBound (sheetOf e ss fs ls rs ps)) (columnsFrom (length ss) ls rs ps 1 k) p)) (own 0 (h .arrays .some) ∙ b)
       ∙ sym (missing-total (job .parts) (omega (arith, h .parts, h .arrays .some)) b)
 
   pub sheet-bound : sheetBound (sheetOf e ss fs ls rs ps) p ≡ boundOf job p
   unfolding sheetBound boundOf stopCost
-  sheet-bound = ap₂ add (ap (λ (l : List ℕ). Sum (sumAt l p)) (h .fees)) (all-total begin refl)
+  sheet-bound = ap₂ add (ap (λ (l : List ℕ). Sum (sumAt l p)) (h .fees)) (all-total (foursOf (length ls) * 4) (omega arith) begin refl)

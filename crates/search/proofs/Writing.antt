@@ -52,15 +52,15 @@ module _ (f : ℕ → ℕ) (t : List ℕ) (a : ℕ) where
           less (yes h) = h
           less (no h) = absurd (n (omega (arith, h)))
 
-pub cuts-none : (t : List ℕ) (base off : ℕ) → Cuts t t base off 0
-cuts-none t base off = record { size = refl; dead = λ j l. absurd (omega arith); most = λ j l. absurd (omega arith); under = λ x l. refl }
+pub cuts-none : (lanes : ℕ) (t : List ℕ) (base off : ℕ) → Cuts lanes t t base off 0
+cuts-none lanes t base off = record { size = refl; dead = λ j l. absurd (omega arith); most = λ j l. absurd (omega arith); under = λ x l. refl }
 
 -- a reading of the table is that of the table before, where the cuts stand above it
-pub dead-back : (t u : List ℕ) (base off k j v : ℕ) → base + blockSize ≤ off → j ≤ 64 → v ≤ j → Cuts t u base off k → Dead u base j v → Dead t base j v
-dead-back t u base off k j v h g l c d i q a b = sym (c .under (place base j i q) (omega arith)) ∙ d i q a b
+pub dead-back : (lanes : ℕ) (t u : List ℕ) (base off k j v : ℕ) → base + blockSize ≤ off → lanes ≤ laneCount → j ≤ 64 → v ≤ j → Cuts lanes t u base off k → Dead lanes u base j v → Dead lanes t base j v
+dead-back lanes t u base off k j v h g n l c d i q a b = sym (c .under (place base j i q) (omega arith)) ∙ d i q a b
 
-pub cuts-more : (t u : List ℕ) (base off k v : ℕ) → off + k < length t → v ≤ k → Dead t base k v → Cuts t u base off k → Cuts t (set u (off + k) v) base off (k + 1)
-cuts-more t u base off k v s m d c =
+pub cuts-more : (lanes : ℕ) (t u : List ℕ) (base off k v : ℕ) → off + k < length t → v ≤ k → Dead lanes t base k v → Cuts lanes t u base off k → Cuts lanes t (set u (off + k) v) base off (k + 1)
+cuts-more lanes t u base off k v s m d c =
     record {
       size = length-set u (off + k) v ∙ c .size;
       dead = λ j l. go j l (ℕ-discrete j k);
@@ -76,7 +76,7 @@ cuts-more t u base off k v s m d c =
         less (yes h) = h
         less (no h) = absurd (n (omega (arith, h)))
 
-    go : (j : ℕ) → j < k + 1 → Dec (j ≡ k) → Dead t base j (getD (set u (off + k) v) (off + j) 0)
+    go : (j : ℕ) → j < k + 1 → Dec (j ≡ k) → Dead lanes t base j (getD (set u (off + k) v) (off + j) 0)
     go j l (yes e) = λ i q a b. rw e (d i q (subst (λ (x : ℕ). i < x) (ap (λ (y : ℕ). getD (set u (off + k) v) (off + y) 0) e ∙ getD-set-same u (off + k) v 0 (omega (arith, c .size))) a) b)
     go j l (no n) = λ i q a b. c .dead j (less (decLt j k)) i q (subst (λ (x : ℕ). i < x) (getD-set-other u (off + k) (off + j) v 0 (λ z. n (omega (arith, z)))) a) b
       where
@@ -84,8 +84,8 @@ cuts-more t u base off k v s m d c =
         less (yes h) = h
         less (no h) = absurd (n (omega (arith, h)))
 
-pub dead-more : (t : List ℕ) (base j i : ℕ) → base + blockSize ≤ length t → j ≤ 64 → i < j → ((q : ℕ) → q < laneCount → getD t (place base j i q) 0 ≡ inf) → Dead t base j i → Dead t base j (i + 1)
-dead-more t base j i s h l e d k q a b = go (ℕ-discrete k i)
+pub dead-more : (lanes : ℕ) (t : List ℕ) (base j i : ℕ) → base + blockSize ≤ length t → j ≤ 64 → i < j → ((q : ℕ) → q < lanes → getD t (place base j i q) 0 ≡ inf) → Dead lanes t base j i → Dead lanes t base j (i + 1)
+dead-more lanes t base j i s h l e d k q a b = go (ℕ-discrete k i)
   where
     go : Dec (k ≡ i) → getD t (place base j k q) 0 ≡ inf
     go (yes z) = rw z (e q b)

@@ -1,5 +1,5 @@
--- The arrays of a job as the search is handed them, and the sheet that they make: sixteen columns, where those past the last part go with the first part's and cost nothing.
-use Prim.Native.Nat.{ℕ, zero, suc, _*_, _<_, _≤_}
+-- The arrays of a job as the search is handed them, and the sheet that they make: columns in fours, where those past the last part go with the first part's and cost nothing.
+use Prim.Native.Nat.{ℕ, zero, suc, _+_, _*_, _/_, _<_, _≤_}
 use mathlib.Core.Path.{_≡_}
 use mathlib.Core.List.{List, [], _∷_, map}
 use lib.ListN.{length, getD, take, drop}
@@ -47,8 +47,12 @@ unfoldable pub columnsFrom : ℕ → List ℕ → List ℕ → List ℕ → ℕ 
 columnsFrom n ls rs ps q zero = []
 columnsFrom n ls rs ps q (suc k) = columnOf (partAt n ls rs ps q) ∷ columnsFrom n ls rs ps (suc q) k
 
+-- as many fours of lanes as so many parts fill
+abbrev pub foursOf : ℕ → ℕ
+foursOf n = (n + 3) / 4
+
 abbrev pub sheetOf : ℤ → List ℤ → List ℕ → List ℕ → List ℕ → List ℕ → Sheet
-sheetOf e ss fs ls rs ps = record { end = e; positions = ss; fees = fs; columns = columnsFrom (length ss) ls rs ps 0 laneCount }
+sheetOf e ss fs ls rs ps = record { end = e; positions = ss; fees = fs; columns = columnsFrom (length ss) ls rs ps 0 (foursOf (length ls) * 4) }
 
 -- the arrays' lengths and ranges: e the end, ss positions, fs fees, ls lives, rs first lives, ps prices, which are 0 past the last part's
 pub record Arrays (e : ℤ) (ss : List ℤ) (fs ls rs ps : List ℕ) : Type 0 where

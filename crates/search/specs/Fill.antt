@@ -51,13 +51,13 @@ pub record Lanes (e : ℤ) (ss : List ℤ) (ls rs ps t : List ℕ) (q : ℕ) : T
   pub size : length t ≡ tablesSize
   pub right : (r : ℕ) → r < q → Lane e ss (columnOf (partAt (length ss) ls rs ps r)) t r
 
--- the rows of marks below v add nothing at opening j, in the table from `base` on
-abbrev pub Dead : List ℕ → ℕ → ℕ → ℕ → Type 0
-Dead t base j v = (i q : ℕ) → i < v → q < laneCount → getD t (place base j i q) 0 ≡ inf
+-- the rows of marks below v add nothing to the first `lanes` lanes at opening j, in the table from `base` on
+abbrev pub Dead : ℕ → List ℕ → ℕ → ℕ → ℕ → Type 0
+Dead lanes t base j v = (i q : ℕ) → i < v → q < lanes → getD t (place base j i q) 0 ≡ inf
 
 -- the cuts of the first k openings, from `off` on
-pub record Cuts (t t' : List ℕ) (base off k : ℕ) : Type 0 where
+pub record Cuts (lanes : ℕ) (t t' : List ℕ) (base off k : ℕ) : Type 0 where
   pub size : length t' ≡ length t
-  pub dead : (j : ℕ) → j < k → Dead t base j (getD t' (off + j) 0)
+  pub dead : (j : ℕ) → j < k → Dead lanes t base j (getD t' (off + j) 0)
   pub most : (j : ℕ) → j < k → getD t' (off + j) 0 ≤ j
   pub under : (x : ℕ) → x < off → getD t' x 0 ≡ getD t x 0

@@ -6,12 +6,13 @@ ghost use lib.ListN.{length, getD};
 ghost use lib.IntN.{pos};
 ghost use Rattle.least.specs.Marks.{Small, markOf};
 ghost use Rattle.least.specs.Suffix.{tableSize};
-ghost use Rattle.lane_rows.specs.Layout.{laneCount, markCount, top, inf, blockRows, blockSize, priceRow, feeBase, countPlace, tablesSize};
+ghost use Rattle.lane_rows.specs.Layout.{laneCount, markCount, top, inf, blockRows, blockSize, priceRow, feeBase, tablesSize};
 ghost use Rattle.lane_rows.specs.Tables.{Tables};
-ghost use Rattle.search.specs.Arrays.{longestLife, laneValue, partAt, columnOf, sheetOf, Lived, Arrays};
+ghost use Rattle.search.specs.Arrays.{longestLife, laneValue, partAt, foursOf, columnOf, sheetOf, Lived, Arrays};
 ghost use Rattle.search.specs.Fill.{Wrote, reachOf, reachAt, column, LaneFilled, Span, Lanes, Dead, Cuts};
 use lane_rows::COUNT;
 use lane_rows::FEES;
+use lane_rows::FOURS;
 use lane_rows::INF;
 use lane_rows::LANES;
 use lane_rows::REACH_CUTS;
@@ -176,8 +177,9 @@ fn fill_part(
     );
 }
 
-// All lanes.
+// The first `lanes` lanes.
 fn fill_lanes(
+    lanes: usize,
     end: i32,
     positions: &[i32],
     fees: &[u32],
@@ -187,11 +189,11 @@ fn fill_lanes(
     tab: &mut [u64],
     t: &mut [u32],
 )
-    requires { ⌜ (Arrays end (now positions) (now fees) (now lives) (now lefts) (now prices)) × (tableSize ≤ length (now tab)) × (length (now t) ≡ tablesSize) ⌝ }
-    ensures { λ _. ⌜ Lanes end (now (positions .entry)) (now (lives .entry)) (now (lefts .entry)) (now (prices .entry)) (now (t .exit)) laneCount ⌝ }
+    requires { ⌜ (Arrays end (now positions) (now fees) (now lives) (now lefts) (now prices)) × (tableSize ≤ length (now tab)) × (length (now t) ≡ tablesSize) × (lanes ≤ laneCount) ⌝ }
+    ensures { λ _. ⌜ Lanes end (now (positions .entry)) (now (lives .entry)) (now (lefts .entry)) (now (prices .entry)) (now (t .exit)) lanes ⌝ }
 {
     let mut q = 0;
-    while q < LANES {
+    while q < lanes {
         fill_part(end, positions, fees, lives, lefts, prices, q, tab, t);
         q += 1;
     }
@@ -209,21 +211,21 @@ fn put_fees(fees: &[u32], t: &mut [u32])
     }
 }
 
-// The number of openings.
-fn put_count(n: u32, t: &mut [u32])
-    requires { ⌜ length (now t) ≡ tablesSize ⌝ }
-    ensures { λ _. ⌜ Span (λ (x : ℕ). n) (now (t .entry)) (now (t .exit)) countPlace (countPlace + 1) ⌝ }
+// One number of the tables.
+fn put_number(at: usize, n: u32, t: &mut [u32])
+    requires { ⌜ (length (now t) ≡ tablesSize) × (at < tablesSize) ⌝ }
+    ensures { λ _. ⌜ Span (λ (x : ℕ). n) (now (t .entry)) (now (t .exit)) at (at + 1) ⌝ }
 {
-    t[COUNT] = n;
+    t[at] = n;
 }
 
-// All lanes of a row are Missing.
-fn dead(row: &[u32]) -> bool
-    requires { ⌜ laneCount ≤ length (now row) ⌝ }
-    ensures { λ r. ⌜ (r ≡ true → (q : ℕ) → q < laneCount → getD (now (row .entry)) q 0 ≡ inf) ⌝ }
+// The first `lanes` lanes of a row are Missing.
+fn dead(lanes: usize, row: &[u32]) -> bool
+    requires { ⌜ (lanes ≤ laneCount) × (laneCount ≤ length (now row)) ⌝ }
+    ensures { λ r. ⌜ (r ≡ true → (q : ℕ) → q < lanes → getD (now (row .entry)) q 0 ≡ inf) ⌝ }
 {
     let mut q = 0;
-    while q < LANES {
+    while q < lanes {
         if row[q] != INF {
             return false;
         }
@@ -233,14 +235,14 @@ fn dead(row: &[u32]) -> bool
 }
 
 // How many marks add nothing at opening j.
-fn first_live(t: &[u32], base: usize, j: usize) -> u32
-    requires { ⌜ (base + blockSize ≤ length (now t)) × (j ≤ 64) ⌝ }
-    ensures { λ r. ⌜ (r ≤ j) × (Dead (now (t .entry)) base j r) ⌝ }
+fn first_live(lanes: usize, t: &[u32], base: usize, j: usize) -> u32
+    requires { ⌜ (lanes ≤ laneCount) × (base + blockSize ≤ length (now t)) × (j ≤ 64) ⌝ }
+    ensures { λ r. ⌜ (r ≤ j) × (Dead lanes (now (t .entry)) base j r) ⌝ }
 {
     let mut i = 0;
     while i < j {
         let at = base + (j * MARKS + i) * LANES;
-        if !dead(&t[at..at + LANES]) {
+        if !dead(lanes, &t[at..at + LANES]) {
             return i as u32;
         }
         i += 1;
@@ -249,16 +251,24 @@ fn first_live(t: &[u32], base: usize, j: usize) -> u32
 }
 
 // The cuts of the first m openings, from `off` on.
-fn put_cuts(base: usize, off: usize, m: usize, t: &mut [u32])
-    requires { ⌜ (length (now t) ≡ tablesSize) × (m ≤ markCount) × (base + blockSize ≤ off) × (off + m ≤ tablesSize) ⌝ }
-    ensures { λ _. ⌜ Cuts (now (t .entry)) (now (t .exit)) base off m ⌝ }
+fn put_cuts(lanes: usize, base: usize, off: usize, m: usize, t: &mut [u32])
+    requires { ⌜ (lanes ≤ laneCount) × (length (now t) ≡ tablesSize) × (m ≤ markCount) × (base + blockSize ≤ off) × (off + m ≤ tablesSize) ⌝ }
+    ensures { λ _. ⌜ Cuts lanes (now (t .entry)) (now (t .exit)) base off m ⌝ }
 {
     let mut j = 0;
     while j < m {
-        let v = first_live(t, base, j);
+        let v = first_live(lanes, t, base, j);
         t[off + j] = v;
         j += 1;
     }
+}
+
+// As many fours of lanes as the parts fill.
+fn fours_of(parts: usize) -> usize
+    requires { ⌜ parts ≤ laneCount ⌝ }
+    ensures { λ r. ⌜ r ≡ foursOf parts ⌝ }
+{
+    (parts + 3) / 4
 }
 
 // The tables of the job in the arrays.
@@ -275,9 +285,12 @@ pub fn fill(
     requires { ⌜ (Arrays end (now positions) (now fees) (now lives) (now lefts) (now prices)) × (tableSize ≤ length (now tab)) × (length (now t) ≡ tablesSize) ⌝ }
     ensures { λ _. ⌜ Tables (sheetOf end (now (positions .entry)) (now (fees .entry)) (now (lives .entry)) (now (lefts .entry)) (now (prices .entry))) (now (t .exit)) ⌝ }
 {
-    fill_lanes(end, positions, fees, lives, lefts, prices, tab, t);
+    let fours = fours_of(lives.len());
+    let lanes = fours * 4;
+    fill_lanes(lanes, end, positions, fees, lives, lefts, prices, tab, t);
     put_fees(fees, t);
-    put_count(fees.len() as u32, t);
-    put_cuts(SUFFIXES, SUFFIX_CUTS, positions.len() + 1, t);
-    put_cuts(REACHES, REACH_CUTS, positions.len(), t);
+    put_number(COUNT, fees.len() as u32, t);
+    put_cuts(lanes, SUFFIXES, SUFFIX_CUTS, positions.len() + 1, t);
+    put_cuts(lanes, REACHES, REACH_CUTS, positions.len(), t);
+    put_number(FOURS, fours as u32, t);
 }

@@ -21,12 +21,12 @@ use Rattle.model.specs.Model.{sumAt}
 use Rattle.model.specs.LowerBound.{Offer, pick, leastOf, offers}
 use Rattle.walk.specs.declared.Search.{Search}
 use Rattle.walk.specs.declared.Node.{Node}
-use Rattle.lane_rows.specs.Layout.{top, inf, suffixBase, reachBase, pricePlace, feePlace, suffixCuts, reachCuts, cutPlace}
+use Rattle.lane_rows.specs.Layout.{top, inf, suffixBase, reachBase, pricePlace, feePlace, suffixCuts, reachCuts, cutPlace, lanesIn}
 use Rattle.lane_rows.specs.Sheet.{Column, Sheet, columnBound, partSums, sheetBound}
 use Rattle.lane_rows.specs.Tables.{valueOf, Tables}
 use Rattle.lane_rows.specs.Rows.{lane, sumLanes, Rows, Stack, Put, Kept, nextRow, Owing, Settled}
 use Rattle.walk.specs.State.{bits, decided, incumbent, view, viewed, countedS, stoppedS, keptS, reachedS, undropped, openS, noN, yesN, Pending, ready, owed, At}
-use Rattle.lane_rows.proofs.Lanes.{node-sum, node-rises, rows-no, rows-yes, rows-kept, kept-refl, stack-no, stack-yes, stack-at}
+use Rattle.lane_rows.proofs.Lanes.{node-sum, node-rises, rows-no, rows-yes, rows-kept, kept-refl, stack-no, stack-yes}
 
 -- ---- decisions in a number
 
@@ -119,7 +119,7 @@ module _ (sheet : Sheet) (t w : List ℕ) (p : Node) (stop : Bool) (e : Bound) (
           let ta = a .tables in
           record {
             some = omega arith;
-            stack = subst (λ (j : ℕ). Stack t w reachBase (getD t (cutPlace reachCuts j) 0) j (p .rows)) z (stack-yes sheet t w q (p .rows) ta r h);
+            stack = subst (λ (j : ℕ). Stack (lanesIn t) t w reachBase (getD t (cutPlace reachCuts j) 0) j (p .rows)) z (stack-yes sheet t w q (p .rows) ta r h);
             size = ta .size;
             near = omega (arith, ta .few, a .inside);
             few = omega (arith, r .few, ta .few, a .inside);
@@ -141,7 +141,7 @@ module _ (sheet : Sheet) (t w : List ℕ) (p : Node) (stop : Bool) (e : Bound) (
           let g = s .yes refl in
           let l : length q + 1 ≡ p .at = sym (simp length-append at (ap length f)) ∙ bits-length (p .at) (p .mask) in
           let z : p .at - 1 ≡ length q = omega arith in
-          let u : Put (nextRow t w (length q) (p .rows)) w w' (p .rows) (length q + 1) = subst (λ (j : ℕ). Put (nextRow t w j (p .rows)) w w' (p .rows) (j + 1)) z (g .1) in (
+          let u : Put (lanesIn t) (nextRow t w (length q) (p .rows)) w w' (p .rows) (length q + 1) = subst (λ (j : ℕ). Put (lanesIn t) (nextRow t w j (p .rows)) w w' (p .rows) (j + 1)) z (g .1) in (
             subst (λ (d : List Bool). Rows sheet w' d r) (sym f) (subst (Rows sheet w' (snoc q true)) (sym (g .0)) (rows-yes sheet t w q (p .rows) (a .tables) ro (omega (arith, a .inside)) w' u)),
             u .kept,
             omega (arith, g .0),
@@ -159,17 +159,17 @@ module _ (sheet : Sheet) (t w w' : List ℕ) (p : Node) (stop : Bool) (e : Bound
   abbrev lanes : ℕ → ℕ → ℕ
   lanes j q = lane t w' suffixBase j q r
 
-  pub sums-asks : Stack t w' suffixBase (getD t (cutPlace suffixCuts (p .at + 1)) 0) (p .at + 1) r × ((x ≤ sumLanes (λ (q : ℕ). lane t w' suffixBase (p .at + 1) q r)) × (x < inf))
+  pub sums-asks : Stack (lanesIn t) t w' suffixBase (getD t (cutPlace suffixCuts (p .at + 1)) 0) (p .at + 1) r × ((x ≤ sumLanes (lanesIn t) (λ (q : ℕ). lane t w' suffixBase (p .at + 1) q r)) × (x < inf))
   sums-asks =
       let s = node-sum sheet t w' (decided p) r (a .tables) ro (omega (arith, less)) ∙ sym (a .sums) ∙ f in
-      let y = value-sum (sumLanes (λ (q : ℕ). lanes (length (decided p)) q)) x s in
+      let y = value-sum (sumLanes (lanesIn t) (λ (q : ℕ). lanes (length (decided p)) q)) x s in
       let z : suffixCuts + (length (decided p) + 1) ≡ suffixCuts + (p .at + 1) = omega (arith, size) in (
-        subst (λ (n : ℕ). Stack t w' suffixBase (getD t (cutPlace suffixCuts (p .at + 1)) 0) (n + 1) r) size
-            (subst (λ (n : ℕ). Stack t w' suffixBase (getD t n 0) (length (decided p) + 1) r) z (stack-no sheet t w' (decided p) r (a .tables) ro less)),
-        (subst (λ (n : ℕ). x ≤ sumLanes (λ (q : ℕ). lane t w' suffixBase (n + 1) q r)) size (omega (arith, y .0, node-rises sheet t w' (decided p) r (a .tables) ro (omega (arith, less)) less)), y .1),
+        subst (λ (n : ℕ). Stack (lanesIn t) t w' suffixBase (getD t (cutPlace suffixCuts (p .at + 1)) 0) (n + 1) r) size
+            (subst (λ (n : ℕ). Stack (lanesIn t) t w' suffixBase (getD t n 0) (length (decided p) + 1) r) z (stack-no sheet t w' (decided p) r (a .tables) ro less)),
+        (subst (λ (n : ℕ). x ≤ sumLanes (lanesIn t) (λ (q : ℕ). lane t w' suffixBase (n + 1) q r)) size (omega (arith, y .0, node-rises sheet t w' (decided p) r (a .tables) ro (omega (arith, less)) less)), y .1),
       )
 
-  pub at-no : (b : Bound) → b ≡ valueOf (sumLanes (λ (q : ℕ). lane t w' suffixBase (p .at + 1) q r)) → At sheet t w' (noN p r) false b
+  pub at-no : (b : Bound) → b ≡ valueOf (sumLanes (lanesIn t) (λ (q : ℕ). lane t w' suffixBase (p .at + 1) q r)) → At sheet t w' (noN p r) false b
   at-no b g =
       let d = bits-no (p .at) (p .mask) in
       let rn = rows-no sheet t w' (decided p) r (a .tables) ro less in
@@ -181,8 +181,8 @@ module _ (sheet : Sheet) (t w w' : List ℕ) (p : Node) (stop : Bool) (e : Bound
         mask = omega (arith, mask-next (p .at) (p .mask) (a .mask));
         spent = a .spent ∙ sym (ap (sumAt (sheet .fees)) d ∙ fees-snoc (sheet .fees) (decided p) false (omega (arith, less)) ∙ add-zero (sumAt (sheet .fees) (decided p)));
         poor = omega (arith, a .poor);
-        sums = g ∙ ap (λ (j : ℕ). valueOf (sumLanes (λ (q : ℕ). lane t w' suffixBase j q r))) (sym n) ∙ node-sum sheet t w' (snoc (decided p) false) r (a .tables) rn (omega (arith, n)) ∙ ap (partSums sheet) (sym d);
-        low = λ y k. value-sum (sumLanes (λ (q : ℕ). lane t w' suffixBase (p .at + 1) q r)) y (sym g ∙ k) .1;
+        sums = g ∙ ap (λ (j : ℕ). valueOf (sumLanes (lanesIn t) (λ (q : ℕ). lane t w' suffixBase j q r))) (sym n) ∙ node-sum sheet t w' (snoc (decided p) false) r (a .tables) rn (omega (arith, n)) ∙ ap (partSums sheet) (sym d);
+        low = λ y k. value-sum (sumLanes (lanesIn t) (λ (q : ℕ). lane t w' suffixBase (p .at + 1) q r)) y (sym g ∙ k) .1;
         rows = ready (subst (λ (l : List Bool). Rows sheet w' l r) (sym d) rn);
       }
 
@@ -279,10 +279,7 @@ module _ (sheet : Sheet) (t w : List ℕ) (p : Node) (stop : Bool) (e : Bound) (
 -- ---- the first node
 
 module _ (sheet : Sheet) (t w : List ℕ) (ta : Tables sheet t) (ro : Rows sheet w [] 1) where
-  pub root-asks : Stack t w suffixBase (getD t suffixCuts 0) 0 1
-  root-asks = let z : suffixCuts + 0 ≡ suffixCuts = omega arith in subst (λ (k : ℕ). Stack t w suffixBase (getD t k 0) 0 1) z (stack-at sheet t w [] 1 0 ta ro (omega arith) (omega arith))
-
-  pub root-given : (b : Bound) → b ≡ valueOf (sumLanes (λ (q : ℕ). lane t w suffixBase 0 q 1)) → At sheet t w (record { at = 0; rows = 1; spent = 0; mask = 0 }) false b
+  pub root-given : (b : Bound) → b ≡ valueOf (sumLanes (lanesIn t) (λ (q : ℕ). lane t w suffixBase 0 q 1)) → At sheet t w (record { at = 0; rows = 1; spent = 0; mask = 0 }) false b
   unfolding bits
   root-given b g =
       record {
@@ -292,7 +289,7 @@ module _ (sheet : Sheet) (t w : List ℕ) (ta : Tables sheet t) (ro : Rows sheet
         spent = sym (fees-free (sheet .fees));
         poor = omega arith;
         sums = g ∙ node-sum sheet t w [] 1 ta ro (omega arith);
-        low = λ y k. value-sum (sumLanes (λ (q : ℕ). lane t w suffixBase 0 q 1)) y (sym g ∙ k) .1;
+        low = λ y k. value-sum (sumLanes (lanesIn t) (λ (q : ℕ). lane t w suffixBase 0 q 1)) y (sym g ∙ k) .1;
         rows = ready ro;
       }
     where

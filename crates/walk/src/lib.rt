@@ -17,6 +17,7 @@ use lane_rows::FEES;
 use lane_rows::SUFFIX_CUTS;
 use lane_rows::base_row;
 use lane_rows::cell;
+use lane_rows::first_sum;
 use lane_rows::lane_sum;
 use lane_rows::settle;
 use lane_rows::value;
@@ -180,7 +181,7 @@ pub fn solve(t: &[u32], w: &mut [u32], limit: u64) -> Solved
     ensures { λ r. ⌜ ((sheet : Sheet) → Tables sheet (now (t .entry)) → Solves sheet limit r) ⌝ }
 {
     base_row(w);
-    let floor = value(lane_sum(t, w, cell(t, SUFFIX_CUTS, 0), 0, 1, 0));
+    let floor = value(first_sum(t));
     let begun = Search {
         count: 0,
         over: false,

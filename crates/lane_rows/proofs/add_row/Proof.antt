@@ -59,19 +59,28 @@ part-min-row-end-2 c = search needs
 
 min-row-requires : tie.Need-min-row-requires
 min-row-requires c κs =
-    let s = c .before .before .before .before in
+    let s = c .before .before .before .before .before .before in
     let a = s .args in
     let d = a .base + (a .j * markCount + a .i) * laneCount in (
-      (window-length (a .w .now) (a .n * laneCount) (omega arith), window-length (a .t .now) d (omega arith)),
-      λ q l. (s .pre .1 q l .0, omega (arith, s .pre .1 q l .1, window-at (a .w .now) (a .n * laneCount) (omega arith) q l, window-at (a .t .now) d (omega arith) q l)),
+      (s .pre .0 .0, window-length (a .w .now) (a .n * laneCount) (omega arith), window-length (a .t .now) d (omega arith), s .pre .0 .1),
+      λ q l. (s .pre .1 q l .0, omega (arith, s .pre .0, s .pre .1 q l .1, window-at (a .w .now) (a .n * laneCount) (omega arith) q (omega (arith, s .pre .0)), window-at (a .t .now) d (omega arith) q (omega (arith, s .pre .0)))),
     )
 
+same-length : tie.Need-same-length
+same-length c = search needs
+
 returns : tie.Need-returns
-returns c q l =
-    let a = c .before .before .before .before .before .args in
+returns c =
+    let s = c .before .before .before .before .before .before .before .before .before in
+    let a = s .args in
     let d = a .base + (a .j * markCount + a .i) * laneCount in
-    c .min-row .ensures q l
-    ∙ ap₂ (λ (x y : ℕ). min (getD (a .acc) q 0) (x + y)) (window-at (a .w .now) (a .n * laneCount) (omega arith) q l) (window-at (a .t .now) d (omega arith) q l)
+    let e = c .before .before .min-row .ensures in
+    record {
+      size = e .size;
+      lanes = λ q l.
+          e .lanes q l
+          ∙ ap₂ (λ (x y : ℕ). min (getD (a .acc .now) q 0) (x + y)) (window-at (a .w .now) (a .n * laneCount) (omega arith) q (omega (arith, s .pre .0))) (window-at (a .t .now) d (omega arith) q (omega (arith, s .pre .0)));
+    }
 
 pub add-row-spec : {M : Type 1} → statement M
 add-row-spec =
@@ -94,4 +103,5 @@ add-row-spec =
     part-min-row-start-2
     part-min-row-end-2
     min-row-requires
+    same-length
     returns)

@@ -51,8 +51,8 @@ returns c =
     let l = c .before .loop in
     let w = c .before .before .args .w .now in
     let z : l .p ≡ laneCount = omega arith in
-    let u : Put (λ (q : ℕ). 0) w (set (l .w) (markPlace 0) 0) 0 0 =
-    put-mark (λ (q : ℕ). 0) w 0 (l .w) (λ (q : ℕ). 0) 0 (omega arith) (c .before .before .pre) (λ q h. refl) (subst (Putting (λ (q : ℕ). 0) w (l .w) 0) z (l .inv .1)) in
+    let u : Put laneCount (λ (q : ℕ). 0) w (set (l .w) (markPlace 0) 0) 0 0 =
+    put-mark (λ (q : ℕ). 0) w 0 laneCount (l .w) (λ (q : ℕ). 0) 0 (omega arith) (c .before .before .pre) (omega arith) (λ q h. refl) (subst (Putting (λ (q : ℕ). 0) w (l .w) 0) z (l .inv .1)) in
     (u .kept .size ∙ c .before .before .pre, λ q h. (let y : q ≡ 0 * laneCount + q = omega arith in ap (λ (k : ℕ). getD (set (l .w) markBase 0) k 0) y ∙ u .row q h), u .mark)
 
 pub base-row-spec : {M : Type 1} → statement M

@@ -1,103 +1,65 @@
--- `lane_sum` is all lanes' sum. The invariant is that of `least_rows`; it ends early where the sum has fallen to what it must be at least.
-use Prim.Native.Nat.{_-_}
+-- `lane_sum` is the sum of the job's lanes: by how many fours there are.
+use Prim.Native.Nat.{ℕ, _≤_}
+use mathlib.Core.Path.{_≡_, sym, ap, subst, _∙_}
 use native.Mathlib.Omega.{arith}
 use borrow.Author.Needs.{needs}
-use Rattle.lane_rows.specs.Layout.{markPlace}
-use Rattle.lane_rows.proofs.Going.{Going, going-none, going-more, going-cut, going-end, going-early, going-sum, row-asks}
+use Rattle.lane_rows.specs.Layout.{suffixBase, lanesIn}
+use Rattle.lane_rows.specs.Rows.{lane, sumLanes, Stack}
 use Rattle.lane_rows.proofs.lane_sum.Statement.{statement}
 use Rattle.lane_rows.proofs.lane_sum.Tie as tie
 
-abbrev Inv-loop : tie.InvT-loop
-Inv-loop t w lo j rows ms acc₀ n₀ acc n = Going t w 0 j rows acc n
+shared-slice-read-fours : tie.Need-shared-slice-read-fours
+shared-slice-read-fours c = search needs
 
-abbrev μ-loop : tie.MeasureT-loop
-μ-loop t w lo j rows ms acc₀ n₀ acc n = n
-
-loop-holds : tie.Need-loop-holds Inv-loop μ-loop
-loop-holds c = let a = c .before .before .args in going-none (a .t .now) (a .w .now) 0 (a .j) (a .rows)
-
-sub-n : tie.Need-sub-n Inv-loop μ-loop
-sub-n c = search needs
-
-add-i : tie.Need-add-i Inv-loop μ-loop
-add-i c = search needs
-
-mul-i : tie.Need-mul-i Inv-loop μ-loop
-mul-i c = search needs
-
-shared-slice-read-i : tie.Need-shared-slice-read-i Inv-loop μ-loop
-shared-slice-read-i c = search needs
-
-cast-i : tie.Need-cast-i Inv-loop μ-loop
-cast-i c = omega (arith, c .shared-slice-known3 .given (markPlace (c .before .before .loop .n - 1)))
-
-total-requires : tie.Need-total-requires Inv-loop μ-loop
-total-requires c κs = c .before .before .before .loop .inv .most
-
-returns : tie.Need-returns Inv-loop μ-loop
-returns c =
-    let l = c .before .before .before .before .loop in
-    let s = c .before .before .before .before .before .before .before in
+-- what so many lanes ask, where the job has so many
+asks : (s : tie.Start) (k : ℕ) → lanesIn (s .args .t .now) ≡ k
+    → let a = s .args in (Stack k (a .t .now) (a .w .now) suffixBase (a .lo) (a .j) (a .rows)) × (a .ms ≤ sumLanes k (λ (q : ℕ). lane (a .t .now) (a .w .now) suffixBase (a .j) q (a .rows)))
+asks s k z =
     let a = s .args in
-    going-sum (a .t .now) (a .w .now) 0 (a .j) (a .rows) (l .acc) (c .total .result)
-    (going-cut (a .t .now) (a .w .now) 0 (a .j) (a .rows) (l .acc) (l .n) (a .lo) (c .before .before .before .loop-test .taken) (s .pre .0) (c .before .if1 .taken) (l .inv)) (c .total .ensures)
+    subst (λ (wide : ℕ). (Stack wide (a .t .now) (a .w .now) suffixBase (a .lo) (a .j) (a .rows)) × (a .ms ≤ sumLanes wide (λ (q : ℕ). lane (a .t .now) (a .w .now) suffixBase (a .j) q (a .rows)))) z (s .pre .0 .1, s .pre .1)
 
-add-row-requires : tie.Need-add-row-requires Inv-loop μ-loop
-add-row-requires c κs =
-    let l = c .before .before .before .loop in
-    let a = c .before .before .before .before .before .before .args in
-    row-asks (a .t .now) (a .w .now) 0 (a .lo) (a .j) (a .rows) (l .acc) (l .n) (c .before .before .before .before .before .before .pre .0) (l .inv) (c .before .before .loop-test .taken)
+-- what they sum to
+sums : (s : tie.Start) (k r : ℕ) → lanesIn (s .args .t .now) ≡ k → let a = s .args in let f : ℕ → ℕ = λ q. lane (a .t .now) (a .w .now) suffixBase (a .j) q (a .rows) in r ≡ sumLanes k f → r ≡ sumLanes (lanesIn (a .t .now)) f
+sums s k r z e = let a = s .args in e ∙ ap (λ (wide : ℕ). sumLanes wide (λ (q : ℕ). lane (a .t .now) (a .w .now) suffixBase (a .j) q (a .rows))) (sym z)
 
--- the lanes after a row more
-more : (c : tie.After-add-row Inv-loop μ-loop) → Going (c .before .before .before .before .before .before .before .args .t .now) (c .before .before .before .before .before .before .before .args .w .now) 0 (c .before .before .before .before .before .before .before .args .j) (c .before .before .before .before .before .before .before .args .rows) (c .add-row .result) (c .before .before .before .before .loop .n - 1)
-more c =
-    let l = c .before .before .before .before .loop in
-    let a = c .before .before .before .before .before .before .before .args in
-    going-more (a .t .now) (a .w .now) 0 (a .j) (a .rows) (l .acc) (c .add-row .result) (l .n) (c .before .before .before .loop-test .taken) (c .add-row .ensures) (l .inv)
+-- not one, two or three fours
+four : (c : tie.Else3) → lanesIn (c .before .before .before .before .before .before .args .t .now) ≡ 16
+four c = omega (arith, c .if3 .left, c .before .if2 .left, c .before .before .if1 .left, c .before .before .before .before .before .before .pre .0 .1 .some, c .before .before .before .before .before .before .pre .0 .1 .narrow)
 
-total-requires-2 : tie.Need-total-requires-2 Inv-loop μ-loop
-total-requires-2 c κs = more c .most
+sum-rows-requires : tie.Need-sum-rows-requires
+sum-rows-requires c κs = asks (c .before .before .before .before) 4 (omega (arith, c .if1 .taken))
 
-returns-2 : tie.Need-returns-2 Inv-loop μ-loop
-returns-2 c =
-    let a = c .before .before .before .before .before .before .before .before .before .args in
-    let p = c .before .before .before .before .before .before .before .before .before .pre in
-    going-early (a .t .now) (a .w .now) 0 (a .j) (a .rows) (c .before .before .add-row .result) (c .before .before .before .before .before .before .loop .n - 1) (a .ms) (c .before .total2 .result) (more (c .before .before)) (c .before .total2 .ensures) (c .if2 .taken) (p .1)
+returns : tie.Need-returns
+returns c = sums (c .before .before .before .before .before) 4 (c .sum-rows .result) (omega (arith, c .before .if1 .taken)) (c .sum-rows .ensures)
 
-loop-less : tie.Need-loop-less Inv-loop μ-loop
-loop-less c = search needs
+sum-rows-requires-2 : tie.Need-sum-rows-requires-2
+sum-rows-requires-2 c κs = asks (c .before .before .before .before .before) 8 (omega (arith, c .if2 .taken))
 
-loop-again : tie.Need-loop-again Inv-loop μ-loop
-loop-again c = more (c .before .before)
+returns-2 : tie.Need-returns-2
+returns-2 c = sums (c .before .before .before .before .before .before) 8 (c .sum-rows2 .result) (omega (arith, c .before .if2 .taken)) (c .sum-rows2 .ensures)
 
-total-requires-3 : tie.Need-total-requires-3 Inv-loop μ-loop
-total-requires-3 c κs = c .before .loop .inv .most
+sum-rows-requires-3 : tie.Need-sum-rows-requires-3
+sum-rows-requires-3 c κs = asks (c .before .before .before .before .before .before) 12 (omega (arith, c .if3 .taken))
 
-returns-3 : tie.Need-returns-3 Inv-loop μ-loop
-returns-3 c =
-    let l = c .before .before .loop in
-    let a = c .before .before .before .before .before .args in
-    going-sum (a .t .now) (a .w .now) 0 (a .j) (a .rows) (l .acc) (c .total3 .result)
-    (going-end (a .t .now) (a .w .now) 0 (a .j) (a .rows) (l .acc) (l .n) (c .before .loop-test .left) (l .inv)) (c .total3 .ensures)
+returns-3 : tie.Need-returns-3
+returns-3 c = sums (c .before .before .before .before .before .before .before) 12 (c .sum-rows3 .result) (omega (arith, c .before .if3 .taken)) (c .sum-rows3 .ensures)
+
+sum-rows-requires-4 : tie.Need-sum-rows-requires-4
+sum-rows-requires-4 c κs = asks (c .before .before .before .before .before .before) 16 (four c)
+
+returns-4 : tie.Need-returns-4
+returns-4 c = sums (c .before .before .before .before .before .before .before) 16 (c .sum-rows4 .result) (four (c .before)) (c .sum-rows4 .ensures)
 
 pub lane-sum-spec : {M : Type 1} → statement M
 lane-sum-spec =
     tie.close
     (tie.spec
-    Inv-loop
-    μ-loop
-    loop-holds
-    sub-n
-    add-i
-    mul-i
-    shared-slice-read-i
-    cast-i
-    total-requires
+    shared-slice-read-fours
+    sum-rows-requires
     returns
-    add-row-requires
-    total-requires-2
+    sum-rows-requires-2
     returns-2
-    loop-less
-    loop-again
-    total-requires-3
-    returns-3)
+    sum-rows-requires-3
+    returns-3
+    sum-rows-requires-4
+    returns-4)

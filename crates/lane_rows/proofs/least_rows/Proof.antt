@@ -1,20 +1,22 @@
 -- `least_rows` is each lane over the rows, from the top down. The invariant: what the lanes hold with the rows still to come is the lane of all rows.
-use Prim.Native.Nat.{_-_}
+use Prim.Native.Nat.{_-_, _*_, _≤_}
+use mathlib.Core.Path.{_≡_, refl, _∙_}
 use native.Mathlib.Omega.{arith}
 use borrow.Author.Needs.{needs}
-use Rattle.lane_rows.specs.Layout.{markPlace}
+use lib.ListN.{length}
+use Rattle.lane_rows.specs.Layout.{laneCount, markPlace}
 use Rattle.lane_rows.proofs.Going.{Going, going-none, going-more, going-cut, going-end, row-asks}
 use Rattle.lane_rows.proofs.least_rows.Statement.{statement}
 use Rattle.lane_rows.proofs.least_rows.Tie as tie
 
 abbrev Inv-loop : tie.InvT-loop
-Inv-loop t w base lo j rows acc₀ n₀ acc n = Going t w base j rows acc n
+Inv-loop fours t w base lo j rows acc₀ n₀ acc n = (length acc ≡ length acc₀) × Going (fours * 4) t w base j rows acc n
 
 abbrev μ-loop : tie.MeasureT-loop
-μ-loop t w base lo j rows acc₀ n₀ acc n = n
+μ-loop fours t w base lo j rows acc₀ n₀ acc n = n
 
 loop-holds : tie.Need-loop-holds Inv-loop μ-loop
-loop-holds c = let a = c .before .before .args in going-none (a .t .now) (a .w .now) (a .base) (a .j) (a .rows)
+loop-holds c = let s = c .before .before .before in let a = s .args in (refl, going-none (a .fours * 4) (a .t .now) (a .w .now) (a .base) (a .j) (a .rows) (a .acc .now) (s .pre .2))
 
 sub-n : tie.Need-sub-n Inv-loop μ-loop
 sub-n c = search needs
@@ -31,31 +33,47 @@ shared-slice-read-i c = search needs
 cast-i : tie.Need-cast-i Inv-loop μ-loop
 cast-i c = omega (arith, c .shared-slice-known3 .given (markPlace (c .before .before .loop .n - 1)))
 
+same-length : tie.Need-same-length Inv-loop μ-loop
+same-length c = search needs
+
 returns : tie.Need-returns Inv-loop μ-loop
-returns c q h =
+returns c =
     let l = c .before .before .before .loop in
-    let a = c .before .before .before .before .before .before .args in
-    going-cut (a .t .now) (a .w .now) (a .base) (a .j) (a .rows) (l .acc) (l .n) (a .lo) (c .before .before .loop-test .taken) (c .before .before .before .before .before .before .pre) (c .if1 .taken) (l .inv) q h
+    let s = c .before .before .before .before .before .before .before in
+    let a = s .args in
+    record {
+      size = l .inv .0;
+      lanes = going-cut (a .fours * 4) (a .t .now) (a .w .now) (a .base) (a .j) (a .rows) (l .acc) (l .n) (a .lo) (c .before .before .loop-test .taken) (s .pre .0) (c .if1 .taken) (l .inv .1);
+    }
 
 add-row-requires : tie.Need-add-row-requires Inv-loop μ-loop
 add-row-requires c κs =
-    let l = c .before .before .before .loop in
-    let a = c .before .before .before .before .before .before .args in
-    row-asks (a .t .now) (a .w .now) (a .base) (a .lo) (a .j) (a .rows) (l .acc) (l .n) (c .before .before .before .before .before .before .pre) (l .inv) (c .before .before .loop-test .taken)
+    let l = c .before .before .before .before .loop in
+    let s = c .before .before .before .before .before .before .before .before in
+    let a = s .args in
+    row-asks (a .fours) (a .t .now) (a .w .now) (a .base) (a .lo) (a .j) (a .rows) (l .acc) (l .n) (omega (arith, s .pre .1, l .inv .0)) (s .pre .0) (l .inv .1) (c .before .before .before .loop-test .taken)
 
 loop-less : tie.Need-loop-less Inv-loop μ-loop
 loop-less c = search needs
 
 loop-again : tie.Need-loop-again Inv-loop μ-loop
 loop-again c =
-    let l = c .before .before .before .before .loop in
-    let a = c .before .before .before .before .before .before .before .args in
-    going-more (a .t .now) (a .w .now) (a .base) (a .j) (a .rows) (l .acc) (c .add-row .result) (l .n) (c .before .before .before .loop-test .taken) (c .add-row .ensures) (l .inv)
+    let l = c .before .before .before .before .before .before .before .loop in
+    let a = c .before .before .before .before .before .before .before .before .before .before .before .args in
+    let e = c .before .before .add-row .ensures in
+    (e .size ∙ l .inv .0, going-more (a .fours * 4) (a .t .now) (a .w .now) (a .base) (a .j) (a .rows) (l .acc) _ (l .n) (c .before .before .before .before .before .before .loop-test .taken) (e .lanes) (l .inv .1))
+
+same-length-2 : tie.Need-same-length-2 Inv-loop μ-loop
+same-length-2 c = search needs
 
 returns-2 : tie.Need-returns-2 Inv-loop μ-loop
-returns-2 c q h =
-    let a = c .before .before .before .before .args in
-    going-end (a .t .now) (a .w .now) (a .base) (a .j) (a .rows) (c .before .loop .acc) (c .before .loop .n) (c .loop-test .left) (c .before .loop .inv) q h
+returns-2 c =
+    let l = c .before .loop in
+    let a = c .before .before .before .before .before .args in
+    record {
+      size = l .inv .0;
+      lanes = going-end (a .fours * 4) (a .t .now) (a .w .now) (a .base) (a .j) (a .rows) (l .acc) (l .n) (c .loop-test .left) (l .inv .1);
+    }
 
 pub least-rows-spec : {M : Type 1} → statement M
 least-rows-spec =
@@ -69,8 +87,10 @@ least-rows-spec =
     mul-i
     shared-slice-read-i
     cast-i
+    same-length
     returns
     add-row-requires
     loop-less
     loop-again
+    same-length-2
     returns-2)

@@ -1,58 +1,64 @@
 -- `min_row` is each lane's minimum. The invariant: the first lanes are done.
-use Prim.Native.Nat.{ℕ, _+_, _-_, _≤_, min}
+use Prim.Native.Nat.{ℕ, _+_, _-_, _*_, _≤_, min}
 use mathlib.Core.Path.{_≡_, ap, _∙_}
 use native.Mathlib.Omega.{arith}
 use borrow.Author.Needs.{needs}
 use lib.ListN.{length, getD}
-use Rattle.lane_rows.specs.Layout.{laneCount}
-use Rattle.lane_rows.proofs.Filled.{Filled, filled-none, filled-more}
+use Rattle.lane_rows.proofs.Filled.{Filled, filled-none, filled-more, filled-turned}
 use Rattle.lane_rows.proofs.min_row.Statement.{statement}
 use Rattle.lane_rows.proofs.min_row.Tie as tie
 
 abbrev Inv-loop : tie.InvT-loop
-Inv-loop d e r₀ p₀ r p = (p ≤ laneCount) × Filled (λ (q : ℕ). min (getD r₀ q 0) (getD d q 0 + getD e q 0)) r₀ r p
+Inv-loop fours d e acc₀ p₀ p-end acc p = (p ≤ p-end) × Filled (λ (q : ℕ). min (getD acc₀ q 0) (getD d q 0 + getD e q 0)) acc₀ acc p
 
 abbrev μ-loop : tie.MeasureT-loop
-μ-loop d e r₀ p₀ r p = laneCount - p
+μ-loop fours d e acc₀ p₀ p-end acc p = p-end - p
+
+mul-p-end : tie.Need-mul-p-end Inv-loop μ-loop
+mul-p-end c = search needs
+
+-- what each lane becomes
+abbrev least : tie.Start Inv-loop μ-loop → ℕ → ℕ
+least s q = min (getD (s .args .acc .now) q 0) (getD (s .args .d .now) q 0 + getD (s .args .e .now) q 0)
 
 loop-holds : tie.Need-loop-holds Inv-loop μ-loop
-loop-holds c = let long : length (c .before .before .args .acc) ≡ laneCount = search needs in (omega arith, filled-none (λ (q : ℕ). min (getD (c .before .before .args .acc) q 0) (getD (c .before .before .args .d .now) q 0 + getD (c .before .before .args .e .now) q 0)) (c .before .before .args .acc) long)
-
-mul-x : tie.Need-mul-x Inv-loop μ-loop
-mul-x c = search needs
-
-shared-slice-read-x : tie.Need-shared-slice-read-x Inv-loop μ-loop
-shared-slice-read-x c = search needs
-
-mul-x-2 : tie.Need-mul-x-2 Inv-loop μ-loop
-mul-x-2 c = search needs
-
-shared-slice-read-x-2 : tie.Need-shared-slice-read-x-2 Inv-loop μ-loop
-shared-slice-read-x-2 c = search needs
-
-add-x : tie.Need-add-x Inv-loop μ-loop
-add-x c =
-    let a = c .before .before .before .before .before .before in
-    omega (arith, a .pre .1 (c .before .before .before .loop .p) (omega arith))
+loop-holds c = let s = c .before .before .before in (omega arith, filled-none (least s) (s .args .acc .now))
 
 mul-lesser : tie.Need-mul-lesser Inv-loop μ-loop
 mul-lesser c = search needs
 
-array-read-lesser : tie.Need-array-read-lesser Inv-loop μ-loop
-array-read-lesser c = search needs
+shared-slice-read-lesser : tie.Need-shared-slice-read-lesser Inv-loop μ-loop
+shared-slice-read-lesser c = search needs
+
+mul-lesser-2 : tie.Need-mul-lesser-2 Inv-loop μ-loop
+mul-lesser-2 c = search needs
+
+shared-slice-read-lesser-2 : tie.Need-shared-slice-read-lesser-2 Inv-loop μ-loop
+shared-slice-read-lesser-2 c = search needs
+
+add-lesser : tie.Need-add-lesser Inv-loop μ-loop
+add-lesser c =
+    let s = c .before .before .before .before .before .before .before in
+    omega (arith, s .pre .1 (c .before .before .before .loop .p) (omega arith))
+
+mul-lesser-3 : tie.Need-mul-lesser-3 Inv-loop μ-loop
+mul-lesser-3 c = search needs
+
+slice-read-lesser : tie.Need-slice-read-lesser Inv-loop μ-loop
+slice-read-lesser c = search needs
 
 lesser-requires : tie.Need-lesser-requires Inv-loop μ-loop
 lesser-requires c κs =
-    let a = c .before .before .before .before .before .before in
-    let l = c .before .before .before .loop in
-    let b = a .pre .1 (l .p) (omega arith) in
+    let s = c .before .before .before .before .before .before .before .before in
+    let l = c .before .before .before .before .loop in
+    let b = s .pre .1 (l .p) (omega arith) in
     (b .1, omega (arith, b .0, l .inv .1 .rest (l .p) (omega arith)))
 
-mul-r : tie.Need-mul-r Inv-loop μ-loop
-mul-r c = search needs
+mul-acc : tie.Need-mul-acc Inv-loop μ-loop
+mul-acc c = search needs
 
-array-write-r : tie.Need-array-write-r Inv-loop μ-loop
-array-write-r c = search needs
+slice-write-acc : tie.Need-slice-write-acc Inv-loop μ-loop
+slice-write-acc c = search needs
 
 add-p : tie.Need-add-p Inv-loop μ-loop
 add-p c = search needs
@@ -62,15 +68,20 @@ loop-less c = search needs
 
 loop-again : tie.Need-loop-again Inv-loop μ-loop
 loop-again c =
-    let a = c .before .before .before .before .before .before .before .args in
-    let l = c .before .before .before .before .loop in (
+    let s = c .before .before .before .before .before .before .before .before .before in
+    let l = c .before .before .before .before .before .loop in (
       omega arith,
-      filled-more (λ (q : ℕ). min (getD (a .acc) q 0) (getD (a .d .now) q 0 + getD (a .e .now) q 0)) (a .acc) (l .r) (l .p) (c .lesser .result) (omega arith)
-          (c .lesser .ensures ∙ ap (λ (x : ℕ). min x (getD (a .d .now) (l .p) 0 + getD (a .e .now) (l .p) 0)) (l .inv .1 .rest (l .p) (omega arith))) (l .inv .1),
+      filled-more (least s) (s .args .acc .now) (l .acc) (l .p) (c .lesser .result) (omega (arith, s .pre .0))
+          (c .lesser .ensures ∙ ap (λ (x : ℕ). min x (getD (s .args .d .now) (l .p) 0 + getD (s .args .e .now) (l .p) 0)) (l .inv .1 .rest (l .p) (omega arith))) (l .inv .1),
     )
 
+same-length : tie.Need-same-length Inv-loop μ-loop
+same-length c = search needs
+
 returns : tie.Need-returns Inv-loop μ-loop
-returns c q h = c .before .loop .inv .1 .done q (omega arith)
+returns c =
+    let s = c .before .before .before .before .before in
+    filled-turned (least s) (s .args .acc .now) (c .before .loop .acc) (s .args .fours * 4) (c .before .loop .p) (omega arith) (c .before .loop .inv .1)
 
 pub min-row-spec : {M : Type 1} → statement M
 min-row-spec =
@@ -78,18 +89,20 @@ min-row-spec =
     (tie.spec
     Inv-loop
     μ-loop
+    mul-p-end
     loop-holds
-    mul-x
-    shared-slice-read-x
-    mul-x-2
-    shared-slice-read-x-2
-    add-x
     mul-lesser
-    array-read-lesser
+    shared-slice-read-lesser
+    mul-lesser-2
+    shared-slice-read-lesser-2
+    add-lesser
+    mul-lesser-3
+    slice-read-lesser
     lesser-requires
-    mul-r
-    array-write-r
+    mul-acc
+    slice-write-acc
     add-p
     loop-less
     loop-again
+    same-length
     returns)

@@ -1,170 +1,85 @@
--- `put_row` writes the row of a yes: the least price from which the opening is in reach, and its own. The invariant: its first lanes are written.
-use Prim.Native.Nat.{ℕ, _+_, _-_, _*_, _≤_}
-use mathlib.Core.Path.{_≡_, refl, ap₂, subst, _∙_}
+-- `put_row` writes the row of a yes: by how many fours of lanes there are.
+use Prim.Native.Nat.{ℕ, _+_, _<_, _≤_}
+use mathlib.Core.Path.{_≡_, sym, subst}
+use mathlib.Core.List.{List}
 use native.Mathlib.Omega.{arith}
 use borrow.Author.Needs.{needs}
-use lib.ListN.{getD}
-use Rattle.lane_rows.specs.Layout.{laneCount, reachBase, priceBase, pricePlace, reachCuts, cutPlace}
-use Rattle.lane_rows.specs.Rows.{lane}
-use Rattle.lane_rows.proofs.Filled.{window-at, window-length}
-use Rattle.lane_rows.proofs.Lanes.{lane-most}
-use Rattle.lane_rows.proofs.Putting.{Putting, putting-none, putting-more, put-mark}
+use lib.ListN.{length, getD}
+use Rattle.lane_rows.specs.Layout.{markCount, top, reachBase, reachCuts, cutPlace, pricePlace, lanesIn, tablesSize}
+use Rattle.lane_rows.specs.Rows.{Stack, Put, nextRow}
 use Rattle.lane_rows.proofs.put_row.Statement.{statement}
 use Rattle.lane_rows.proofs.put_row.Tie as tie
 
-abbrev Inv-loop : tie.InvT-loop
-Inv-loop t w₀ j rows lo at sums p₀ w p = (p ≤ laneCount) × Putting (λ (q : ℕ). getD sums q 0) w₀ w rows p
+shared-slice-read-fours : tie.Need-shared-slice-read-fours
+shared-slice-read-fours c = search needs
 
-abbrev μ-loop : tie.MeasureT-loop
-μ-loop t w₀ j rows lo at sums p₀ w p = laneCount - p
+-- what so many lanes ask, where the job has so many
+asks : (s : tie.Start) (k : ℕ) → lanesIn (s .args .t .now) ≡ k
+    → let a = s .args in ((Stack k (a .t .now) (a .w .now) reachBase (getD (a .t .now) (cutPlace reachCuts (a .j)) 0) (a .j) (a .rows)) × (length (a .t .now) ≡ tablesSize) × (a .j < 64) × (a .rows < markCount)) × ((q : ℕ) → q < k → getD (a .t .now) (pricePlace (a .j) q) 0 ≤ top)
+asks s k z =
+    let a = s .args in
+    let p = s .pre .0 in
+    ((subst (λ (wide : ℕ). Stack wide (a .t .now) (a .w .now) reachBase (getD (a .t .now) (cutPlace reachCuts (a .j)) 0) (a .j) (a .rows)) z (p .0), p .1, p .2, p .3), λ q l. s .pre .1 q (omega (arith, z)))
 
-add-lo : tie.Need-add-lo Inv-loop μ-loop
-add-lo c = search needs
+-- what they put
+puts : (s : tie.Start) (k : ℕ) (w : List ℕ) → lanesIn (s .args .t .now) ≡ k → let a = s .args in Put k (nextRow (a .t .now) (a .w .now) (a .j) (a .rows)) (a .w .now) w (a .rows) (a .j + 1)
+    → Put (lanesIn (a .t .now)) (nextRow (a .t .now) (a .w .now) (a .j) (a .rows)) (a .w .now) w (a .rows) (a .j + 1)
+puts s k w z u = let a = s .args in subst (λ (wide : ℕ). Put wide (nextRow (a .t .now) (a .w .now) (a .j) (a .rows)) (a .w .now) w (a .rows) (a .j + 1)) (sym z) u
 
-mul-lo : tie.Need-mul-lo Inv-loop μ-loop
-mul-lo c = search needs
+-- not one, two or three fours
+four : (c : tie.Else3) → lanesIn (c .before .before .before .before .before .before .args .t .now) ≡ 16
+four c = omega (arith, c .if3 .left, c .before .if2 .left, c .before .before .if1 .left, c .before .before .before .before .before .before .pre .0 .0 .some, c .before .before .before .before .before .before .pre .0 .0 .narrow)
 
-shared-slice-read-lo : tie.Need-shared-slice-read-lo Inv-loop μ-loop
-shared-slice-read-lo c = search needs
+put-lanes-requires : tie.Need-put-lanes-requires
+put-lanes-requires c κs = asks (c .before .before .before .before .before) 4 (omega (arith, c .before .if1 .taken))
 
-cast-lo : tie.Need-cast-lo Inv-loop μ-loop
-cast-lo c = omega (arith, c .shared-slice-known2 .given (cutPlace reachCuts (c .before .before .before .args .j)))
-
-least-rows-requires : tie.Need-least-rows-requires Inv-loop μ-loop
-least-rows-requires c κs = c .before .before .before .before .pre .0 .0
-
-mul-at : tie.Need-mul-at Inv-loop μ-loop
-mul-at c = search needs
-
-add-at : tie.Need-add-at Inv-loop μ-loop
-add-at c = search needs
-
-add-plus-row : tie.Need-add-plus-row Inv-loop μ-loop
-add-plus-row c = search needs
-
-mul-plus-row : tie.Need-mul-plus-row Inv-loop μ-loop
-mul-plus-row c = search needs
-
-sub-plus-row : tie.Need-sub-plus-row Inv-loop μ-loop
-sub-plus-row c = search needs
-
-part-plus-row-start : tie.Need-part-plus-row-start Inv-loop μ-loop
-part-plus-row-start c = search needs
-
-part-plus-row-end : tie.Need-part-plus-row-end Inv-loop μ-loop
-part-plus-row-end c = search needs
-
--- the prices of the opening, lane by lane
-abbrev from : tie.Start Inv-loop μ-loop → ℕ
-from s = priceBase + s .args .j * laneCount
-
-plus-row-requires : tie.Need-plus-row-requires Inv-loop μ-loop
-plus-row-requires c κs =
-    let s = c .before .before .before .before .before .before in
-    let t = s .args .t .now in
-    let least = c .before .least-rows in (
-      window-length t (from s) (omega (arith, s .pre .0)),
-      λ q l. omega (arith, s .pre .1 q l, least .ensures q l, lane-most t (s .args .w .now) reachBase (s .args .j) q (s .args .rows), window-at t (from s) (omega (arith, s .pre .0)) q l),
-    )
-
-loop-holds : tie.Need-loop-holds Inv-loop μ-loop
-loop-holds c = let a = c .before .before .before .before .before .before .before .args in (omega arith, putting-none (λ (q : ℕ). getD (c .plus-row .result) q 0) (a .w .now) (a .rows))
-
-mul-w : tie.Need-mul-w Inv-loop μ-loop
-mul-w c = search needs
-
-array-read-w : tie.Need-array-read-w Inv-loop μ-loop
-array-read-w c = search needs
-
-mul-w-2 : tie.Need-mul-w-2 Inv-loop μ-loop
-mul-w-2 c = search needs
-
-add-w : tie.Need-add-w Inv-loop μ-loop
-add-w c = search needs
-
-mul-w-3 : tie.Need-mul-w-3 Inv-loop μ-loop
-mul-w-3 c = search needs
-
-slice-write-w : tie.Need-slice-write-w Inv-loop μ-loop
-slice-write-w c = search needs
-
-add-p : tie.Need-add-p Inv-loop μ-loop
-add-p c = search needs
-
-loop-less : tie.Need-loop-less Inv-loop μ-loop
-loop-less c = search needs
-
-loop-again : tie.Need-loop-again Inv-loop μ-loop
-loop-again c =
-    let a = c .before .before .before .before .before .before .before .before .before .args in
-    let l = c .before .loop in
-    let sums = c .before .before .plus-row .result in
-    (omega arith, putting-more (λ (q : ℕ). getD sums q 0) (a .w .now) (a .rows) (l .w) (l .p) (getD sums (l .p) 0) (omega arith) (omega arith) refl (l .inv .1))
-
-add-w-2 : tie.Need-add-w-2 Inv-loop μ-loop
-add-w-2 c = search needs
-
-cast-w : tie.Need-cast-w Inv-loop μ-loop
-cast-w c = search needs
-
-add-w-3 : tie.Need-add-w-3 Inv-loop μ-loop
-add-w-3 c = search needs
-
-mul-w-4 : tie.Need-mul-w-4 Inv-loop μ-loop
-mul-w-4 c = search needs
-
-slice-write-w-2 : tie.Need-slice-write-w-2 Inv-loop μ-loop
-slice-write-w-2 c = search needs
-
-same-length : tie.Need-same-length Inv-loop μ-loop
+same-length : tie.Need-same-length
 same-length c = search needs
 
-returns : tie.Need-returns Inv-loop μ-loop
-returns c =
-    let s = c .before .before .before .before .before .before .before .before .before in
-    let a = s .args in
-    let t = a .t .now in
-    let l = c .before .loop in
-    let plus = c .before .before .plus-row in
-    let z : l .p ≡ laneCount = omega arith in
-    put-mark (λ (q : ℕ). getD (plus .result) q 0) (a .w .now) (a .rows) (l .w)
-    (λ (q : ℕ). lane t (a .w .now) reachBase (a .j) q (a .rows) + getD t (pricePlace (a .j) q) 0) (a .j + 1) (s .pre .0 .3) (s .pre .0 .0 .size)
-    (λ q h. plus .ensures q h ∙ ap₂ (λ (x y : ℕ). x + y) (c .before .before .before .before .least-rows .ensures q h) (window-at t (from s) (omega (arith, s .pre .0)) q h))
-    (subst (Putting (λ (q : ℕ). getD (plus .result) q 0) (a .w .now) (l .w) (a .rows)) z (l .inv .1))
+returns : tie.Need-returns
+returns c = puts (c .before .before .before .before .before .before .before .before) 4 (c .before .before .put-lanes .last .1 .1 .0) (omega (arith, c .before .before .before .before .if1 .taken)) (c .before .before .put-lanes .ensures)
+
+put-lanes-requires-2 : tie.Need-put-lanes-requires-2
+put-lanes-requires-2 c κs = asks (c .before .before .before .before .before .before) 8 (omega (arith, c .before .if2 .taken))
+
+same-length-2 : tie.Need-same-length-2
+same-length-2 c = search needs
+
+returns-2 : tie.Need-returns-2
+returns-2 c = puts (c .before .before .before .before .before .before .before .before .before) 8 (c .before .before .put-lanes2 .last .1 .1 .0) (omega (arith, c .before .before .before .before .if2 .taken)) (c .before .before .put-lanes2 .ensures)
+
+put-lanes-requires-3 : tie.Need-put-lanes-requires-3
+put-lanes-requires-3 c κs = asks (c .before .before .before .before .before .before .before) 12 (omega (arith, c .before .if3 .taken))
+
+same-length-3 : tie.Need-same-length-3
+same-length-3 c = search needs
+
+returns-3 : tie.Need-returns-3
+returns-3 c = puts (c .before .before .before .before .before .before .before .before .before .before) 12 (c .before .before .put-lanes3 .last .1 .1 .0) (omega (arith, c .before .before .before .before .if3 .taken)) (c .before .before .put-lanes3 .ensures)
+
+put-lanes-requires-4 : tie.Need-put-lanes-requires-4
+put-lanes-requires-4 c κs = asks (c .before .before .before .before .before .before .before) 16 (four (c .before))
+
+same-length-4 : tie.Need-same-length-4
+same-length-4 c = search needs
+
+returns-4 : tie.Need-returns-4
+returns-4 c = puts (c .before .before .before .before .before .before .before .before .before .before) 16 (c .before .before .put-lanes4 .last .1 .1 .0) (four (c .before .before .before .before)) (c .before .before .put-lanes4 .ensures)
 
 pub put-row-spec : {M : Type 1} → statement M
 put-row-spec =
     tie.close
     (tie.spec
-    Inv-loop
-    μ-loop
-    add-lo
-    mul-lo
-    shared-slice-read-lo
-    cast-lo
-    least-rows-requires
-    mul-at
-    add-at
-    add-plus-row
-    mul-plus-row
-    sub-plus-row
-    part-plus-row-start
-    part-plus-row-end
-    plus-row-requires
-    loop-holds
-    mul-w
-    array-read-w
-    mul-w-2
-    add-w
-    mul-w-3
-    slice-write-w
-    add-p
-    loop-less
-    loop-again
-    add-w-2
-    cast-w
-    add-w-3
-    mul-w-4
-    slice-write-w-2
+    shared-slice-read-fours
+    put-lanes-requires
     same-length
-    returns)
+    returns
+    put-lanes-requires-2
+    same-length-2
+    returns-2
+    put-lanes-requires-3
+    same-length-3
+    returns-3
+    put-lanes-requires-4
+    same-length-4
+    returns-4)

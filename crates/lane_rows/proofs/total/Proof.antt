@@ -1,30 +1,174 @@
--- `total` is the sum of the lanes: four sums of four stay within 32 bits.
-use Prim.Native.Nat.{ℕ, _+_, _*_, _≤_}
+-- `total` is the sum of the lanes: four sums, of every fourth lane, stay within 32 bits. The invariant: the first fours are in them.
+use Prim.Native.Nat.{ℕ, _+_, _-_, _*_, _≤_, _<_}
+use mathlib.Core.Path.{_≡_, refl, ap, subst}
+use mathlib.Core.List.{List}
 use native.Mathlib.Omega.{arith}
 use borrow.Author.Needs.{needs}
-use lib.ListN.{getD}
-use Rattle.lane_rows.specs.Layout.{inf}
-use Rattle.lane_rows.specs.Rows.{sumFrom}
-use Rattle.lane_rows.proofs.Filled.{four}
+use lib.ListN.{length, getD}
+use Rattle.lane_rows.specs.Layout.{laneCount, inf}
+use Rattle.lane_rows.specs.Rows.{sumFrom, sumLanes}
+use Rattle.lane_rows.proofs.Lanes.{sum-four}
 use Rattle.lane_rows.proofs.total.Statement.{statement}
 use Rattle.lane_rows.proofs.total.Tie as tie
 
--- the four sums of four lanes
-sums : (c : tie.Start) → let x : ℕ → ℕ = λ k. getD (c .args .t1) k 0 in (x 0 + x 4 + x 8 + x 12 ≤ 4 * inf) × (x 1 + x 5 + x 9 + x 13 ≤ 4 * inf) × (x 2 + x 6 + x 10 + x 14 ≤ 4 * inf) × (x 3 + x 7 + x 11 + x 15 ≤ 4 * inf)
-sums c = let f = four (c .args .t1) (c .pre) in (f 0 (omega arith), f 1 (omega arith), f 2 (omega arith), f 3 (omega arith))
+record Four (acc : List ℕ) (fours a b c d k : ℕ) : Type 0 where
+  inside : k ≤ fours
+  first : a ≤ k * inf
+  second : b ≤ k * inf
+  third : c ≤ k * inf
+  fourth : d ≤ k * inf
+  all : a + b + c + d ≡ sumLanes (k * 4) (λ (q : ℕ). getD acc q 0)
 
-returns : tie.Need-returns
+abbrev Inv-loop : tie.InvT-loop
+Inv-loop fours acc a₀ b₀ c₀ d₀ k₀ a b c d k = Four acc fours a b c d k
+
+abbrev μ-loop : tie.MeasureT-loop
+μ-loop fours acc a₀ b₀ c₀ d₀ k₀ a b c d k = fours - k
+
+loop-holds : tie.Need-loop-holds Inv-loop μ-loop
 unfolding sumFrom
-returns c = omega arith
+loop-holds c = record { inside = omega arith; first = omega arith; second = omega arith; third = omega arith; fourth = omega arith; all = refl }
 
--- for each of the four, lanes are read and added; then each is widened, and they are added
+mul-a : tie.Need-mul-a Inv-loop μ-loop
+mul-a c = search needs
+
+mul-a-2 : tie.Need-mul-a-2 Inv-loop μ-loop
+mul-a-2 c = search needs
+
+shared-slice-read-a : tie.Need-shared-slice-read-a Inv-loop μ-loop
+shared-slice-read-a c = search needs
+
+add-a : tie.Need-add-a Inv-loop μ-loop
+add-a c = omega (arith, c .before .before .loop .inv .first, c .before .before .loop .inv .inside, c .before .before .before .pre .2 (c .before .before .loop .k * 4) (omega arith), c .before .before .before .pre .0)
+
+mul-b : tie.Need-mul-b Inv-loop μ-loop
+mul-b c = search needs
+
+add-b : tie.Need-add-b Inv-loop μ-loop
+add-b c = search needs
+
+mul-b-2 : tie.Need-mul-b-2 Inv-loop μ-loop
+mul-b-2 c = search needs
+
+shared-slice-read-b : tie.Need-shared-slice-read-b Inv-loop μ-loop
+shared-slice-read-b c = search needs
+
+add-b-2 : tie.Need-add-b-2 Inv-loop μ-loop
+add-b-2 c = omega (arith, c .before .before .before .loop .inv .second, c .before .before .before .loop .inv .inside, c .before .before .before .before .pre .2 (c .before .before .before .loop .k * 4 + 1) (omega arith), c .before .before .before .before .pre .0)
+
+mul-c : tie.Need-mul-c Inv-loop μ-loop
+mul-c c = search needs
+
+add-c : tie.Need-add-c Inv-loop μ-loop
+add-c c = search needs
+
+mul-c-2 : tie.Need-mul-c-2 Inv-loop μ-loop
+mul-c-2 c = search needs
+
+shared-slice-read-c : tie.Need-shared-slice-read-c Inv-loop μ-loop
+shared-slice-read-c c = search needs
+
+add-c-2 : tie.Need-add-c-2 Inv-loop μ-loop
+add-c-2 c = omega (arith, c .before .before .before .before .loop .inv .third, c .before .before .before .before .loop .inv .inside, c .before .before .before .before .before .pre .2 (c .before .before .before .before .loop .k * 4 + 2) (omega arith), c .before .before .before .before .before .pre .0)
+
+mul-d : tie.Need-mul-d Inv-loop μ-loop
+mul-d c = search needs
+
+add-d : tie.Need-add-d Inv-loop μ-loop
+add-d c = search needs
+
+mul-d-2 : tie.Need-mul-d-2 Inv-loop μ-loop
+mul-d-2 c = search needs
+
+shared-slice-read-d : tie.Need-shared-slice-read-d Inv-loop μ-loop
+shared-slice-read-d c = search needs
+
+add-d-2 : tie.Need-add-d-2 Inv-loop μ-loop
+add-d-2 c = omega (arith, c .before .before .before .before .before .loop .inv .fourth, c .before .before .before .before .before .loop .inv .inside, c .before .before .before .before .before .before .pre .2 (c .before .before .before .before .before .loop .k * 4 + 3) (omega arith), c .before .before .before .before .before .before .pre .0)
+
+add-k : tie.Need-add-k Inv-loop μ-loop
+add-k c = search needs
+
+loop-less : tie.Need-loop-less Inv-loop μ-loop
+loop-less c = search needs
+
+loop-again : tie.Need-loop-again Inv-loop μ-loop
+loop-again c =
+    let s = c .before .before .before .before .before .before in
+    let l = c .before .before .before .before .before .loop in
+    let f : ℕ → ℕ = λ q. getD (s .args .acc .now) q 0 in
+    let z : l .k * 4 + 4 ≡ (l .k + 1) * 4 = omega arith in
+    record {
+      inside = omega arith;
+      first = omega (arith, l .inv .first, s .pre .2 (l .k * 4) (omega arith));
+      second = omega (arith, l .inv .second, s .pre .2 (l .k * 4 + 1) (omega arith));
+      third = omega (arith, l .inv .third, s .pre .2 (l .k * 4 + 2) (omega arith));
+      fourth = omega (arith, l .inv .fourth, s .pre .2 (l .k * 4 + 3) (omega arith));
+      all = omega (arith, l .inv .all, sum-four f (l .k), ap (λ (x : ℕ). sumLanes x f) z);
+    }
+
+cast-result : tie.Need-cast-result Inv-loop μ-loop
+cast-result c = search needs
+
+cast-result-2 : tie.Need-cast-result-2 Inv-loop μ-loop
+cast-result-2 c = search needs
+
+add-result : tie.Need-add-result Inv-loop μ-loop
+add-result c = search needs
+
+cast-result-3 : tie.Need-cast-result-3 Inv-loop μ-loop
+cast-result-3 c = search needs
+
+add-result-2 : tie.Need-add-result-2 Inv-loop μ-loop
+add-result-2 c = search needs
+
+cast-result-4 : tie.Need-cast-result-4 Inv-loop μ-loop
+cast-result-4 c = search needs
+
+add-result-3 : tie.Need-add-result-3 Inv-loop μ-loop
+add-result-3 c = search needs
+
+returns : tie.Need-returns Inv-loop μ-loop
+returns c =
+    let l = c .before .loop in
+    let a = c .before .before .args in
+    let z : l .k ≡ a .fours = omega (arith, l .inv .inside) in
+    subst (λ (k : ℕ). l .a + l .b + l .c + l .d ≡ sumLanes (k * 4) (λ (q : ℕ). getD (a .acc .now) q 0)) z (l .inv .all)
+
 pub total-spec : {M : Type 1} → statement M
 total-spec =
     tie.close
     (tie.spec
-    (λ c. search needs) (λ c. search needs) (λ c. omega (arith, sums c)) (λ c. search needs) (λ c. omega (arith, sums c)) (λ c. search needs) (λ c. omega (arith, sums c))
-    (λ c. search needs) (λ c. search needs) (λ c. omega (arith, sums c)) (λ c. search needs) (λ c. omega (arith, sums c)) (λ c. search needs) (λ c. omega (arith, sums c))
-    (λ c. search needs) (λ c. search needs) (λ c. omega (arith, sums c)) (λ c. search needs) (λ c. omega (arith, sums c)) (λ c. search needs) (λ c. omega (arith, sums c))
-    (λ c. search needs) (λ c. search needs) (λ c. omega (arith, sums c)) (λ c. search needs) (λ c. omega (arith, sums c)) (λ c. search needs) (λ c. omega (arith, sums c))
-    (λ c. omega (arith, sums c)) (λ c. omega (arith, sums c)) (λ c. omega (arith, sums c)) (λ c. omega (arith, sums c)) (λ c. omega (arith, sums c)) (λ c. omega (arith, sums c)) (λ c. omega (arith, sums c))
+    Inv-loop
+    μ-loop
+    loop-holds
+    mul-a
+    mul-a-2
+    shared-slice-read-a
+    add-a
+    mul-b
+    add-b
+    mul-b-2
+    shared-slice-read-b
+    add-b-2
+    mul-c
+    add-c
+    mul-c-2
+    shared-slice-read-c
+    add-c-2
+    mul-d
+    add-d
+    mul-d-2
+    shared-slice-read-d
+    add-d-2
+    add-k
+    loop-less
+    loop-again
+    cast-result
+    cast-result-2
+    add-result
+    cast-result-3
+    add-result-2
+    cast-result-4
+    add-result-3
     returns)

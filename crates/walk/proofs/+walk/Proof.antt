@@ -16,7 +16,7 @@ use Rattle.branch.specs.declared.Bound.the-variants.{Sum}
 use Rattle.lane_rows.specs.Tables.{valueOf}
 use Rattle.walk.specs.declared.Search.{Search}
 use Rattle.walk.specs.declared.Node.{Node}
-use Rattle.lane_rows.specs.Layout.{suffixBase}
+use Rattle.lane_rows.specs.Layout.{suffixBase, lanesIn}
 use Rattle.lane_rows.specs.Sheet.{Sheet, sheetBound}
 use Rattle.lane_rows.specs.Rows.{Kept, Rows, Stack}
 use Rattle.walk.specs.State.{decided, view, noN, At}
@@ -175,7 +175,7 @@ walk-lane-sum-requires t c κs =
     let sheet = sheet-of t b in
     let h = given t b in
     let r = sums-asks sheet (a .t .now) (a .w .now) (o .settle .last .1 .0) (a .p) (a .stop) (Sum (a .x)) (o .settle .result) (a .x) h refl (stands t o sheet h .0) (under t (undecided t o) sheet h) in
-    (subst (λ (lo : ℕ). Stack (a .t .now) (o .settle .last .1 .0) suffixBase lo (a .p .at + 1) (o .settle .result)) (sym (c .before .cell2 .ensures)) (r .0), r .1 .0)
+    ((h .tables .size, subst (λ (lo : ℕ). Stack (lanesIn (a .t .now)) (a .t .now) (o .settle .last .1 .0) suffixBase lo (a .p .at + 1) (o .settle .result)) (sym (c .before .cell2 .ensures)) (r .0)), r .1 .0)
 
 walk-value-requires : (t : ℕ) → walk-lts.Need-value-requires (claims t) (walk-at t) walk.Post
 walk-value-requires t c κs = search needs

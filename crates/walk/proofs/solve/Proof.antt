@@ -10,13 +10,11 @@ use Rattle.branch.specs.Label.{openFrom}
 use Rattle.branch.specs.declared.Bound.the-variants.{Sum}
 use Rattle.walk.specs.declared.Node.{Node}
 use Rattle.walk.specs.declared.Search.{Search}
-use Rattle.lane_rows.specs.Layout.{suffixBase}
-use Rattle.lane_rows.specs.Rows.{Stack}
 use Rattle.lane_rows.specs.Sheet.{Sheet, sheetBound}
 use Rattle.lane_rows.specs.Tables.{valueOf, Tables}
 use Rattle.walk.specs.State.{bits, view, At}
-use Rattle.lane_rows.proofs.Lanes.{rows-root}
-use Rattle.walk.proofs.Nodes.{root-asks, root-given, root-bound, Opened, closed-walked, open-walked}
+use Rattle.lane_rows.proofs.Lanes.{rows-root, first-most, first-sums}
+use Rattle.walk.proofs.Nodes.{root-given, root-bound, Opened, closed-walked, open-walked}
 use Rattle.walk.proofs.solve.Statement.{statement}
 use Rattle.walk.proofs.solve.Tie as tie
 
@@ -29,31 +27,26 @@ fresh = record { count = 0; over = false; found = false; cost = 0; mask = 0 }
 base-row-requires : tie.Need-base-row-requires
 base-row-requires c κs = search needs
 
-cell-requires : tie.Need-cell-requires
-cell-requires c κs = search needs
-
-lane-sum-requires : tie.Need-lane-sum-requires
-lane-sum-requires c κs =
-    let start = c .before .before .before .before .before .before .before .before in
-    let sheet = start .pre .0 .0 in
-    let e = c .before .before .before .before .base-row .ensures in
-    let w = c .before .before .before .before .base-row .last .0 in
-    (subst (λ (lo : ℕ). Stack (start .args .t .now) w suffixBase lo 0 1) (sym (c .cell .ensures)) (root-asks sheet (start .args .t .now) w (start .pre .0 .1) (rows-root sheet w (e .0) (e .1) (e .2))), omega arith)
+first-sum-requires : tie.Need-first-sum-requires
+first-sum-requires c κs =
+    let start = c .before .before .before .before .before .before in
+    let ta = start .pre .0 .1 in
+    (ta .size, ta .narrow, first-most (start .pre .0 .0) (start .args .t .now) ta)
 
 value-requires : tie.Need-value-requires
 value-requires c κs = search needs
 
 -- the first node
 root-stands : (c : tie.After-value) (sheet : Sheet)
-    → let a = c .before .before .before .before .before .before .before .before .before .before .args in
-    Tables sheet (a .t .now) → At sheet (a .t .now) (c .before .before .before .before .before .before .base-row .last .0) root false (c .value .result)
+    → let a = c .before .before .before .before .before .before .before .before .args in
+    Tables sheet (a .t .now) → At sheet (a .t .now) (c .before .before .before .before .base-row .last .0) root false (c .value .result)
 root-stands c sheet ta =
-    let e = c .before .before .before .before .before .before .base-row .ensures in
-    let w = c .before .before .before .before .before .before .base-row .last .0 in
-    root-given sheet (c .before .before .before .before .before .before .before .before .before .before .args .t .now) w ta (rows-root sheet w (e .0) (e .1) (e .2)) (c .value .result) (c .value .ensures ∙ ap valueOf (c .before .lane-sum .ensures))
+    let e = c .before .before .before .before .base-row .ensures in
+    let w = c .before .before .before .before .base-row .last .0 in
+    root-given sheet (c .before .before .before .before .before .before .before .before .args .t .now) w ta (rows-root sheet w (omega (arith, ta .wide, ta .narrow)) (e .0) (e .1) (e .2)) (c .value .result) (c .value .ensures ∙ ap valueOf (c .before .first-sum .ensures ∙ first-sums sheet (c .before .before .before .before .before .before .before .before .args .t .now) ta w (e .1) (e .2)))
 
 open-requires : tie.Need-open-requires
-open-requires c κs = λ x f. let start = c .before .before .before .before .before .before .before .before .before .before in omega (arith, root-stands c (start .pre .0 .0) (start .pre .0 .1) .low x f)
+open-requires c κs = λ x f. let start = c .before .before .before .before .before .before .before .before in omega (arith, root-stands c (start .pre .0 .0) (start .pre .0 .1) .low x f)
 
 enum-known-x : tie.Need-enum-known-x
 enum-known-x c = search needs
@@ -76,41 +69,41 @@ unfolding bits
 returns c =
     λ sheet ta.
     let v = c .before .before .before .before in
-    let a = v .before .before .before .before .before .before .before .before .before .before .args in
+    let a = v .before .before .before .before .before .before .before .before .args in
     let n = length (sheet .positions) in
     let g = root-stands v sheet ta in
     record {
       floor = g .sums ∙ sym (root-bound sheet);
-      walked = ap (view n) (c .reached .ensures) ∙ closed-walked sheet (a .t .now) (v .before .before .before .before .before .before .base-row .last .0) root false (v .value .result) g (a .limit) n n fresh (sym (c .before .before .before .open .ensures) ∙ c .before .enum-told .given .1);
+      walked = ap (view n) (c .reached .ensures) ∙ closed-walked sheet (a .t .now) (v .before .before .before .before .base-row .last .0) root false (v .value .result) g (a .limit) n n fresh (sym (c .before .before .before .open .ensures) ∙ c .before .enum-told .given .1);
     }
 
 -- the first node is walked on, with the part sums x
 opened : (c : tie.After-x) (sheet : Sheet)
     → let v = c .before .before .before in
-    let a = v .before .before .before .before .before .before .before .before .before .before .args in
+    let a = v .before .before .before .before .before .before .before .before .args in
     let n = length (sheet .positions) in
     (ta : Tables sheet (a .t .now))
-    → Opened sheet (a .t .now) (v .before .before .before .before .before .before .base-row .last .0) root false (v .value .result) (root-stands v sheet ta) (a .limit) n n fresh (c .x .given .0 .0)
+    → Opened sheet (a .t .now) (v .before .before .before .before .base-row .last .0) root false (v .value .result) (root-stands v sheet ta) (a .limit) n n fresh (c .x .given .0 .0)
 opened c sheet ta =
     let v = c .before .before .before in
-    let a = v .before .before .before .before .before .before .before .before .before .before .args in
+    let a = v .before .before .before .before .before .before .before .before .args in
     let n = length (sheet .positions) in
-    open-walked sheet (a .t .now) (v .before .before .before .before .before .before .base-row .last .0) root false (v .value .result) (root-stands v sheet ta) (a .limit) n n fresh (c .x .given .0 .0) (sym (c .before .before .open .ensures) ∙ c .x .given .1)
+    open-walked sheet (a .t .now) (v .before .before .before .before .base-row .last .0) root false (v .value .result) (root-stands v sheet ta) (a .limit) n n fresh (c .x .given .0 .0) (sym (c .before .before .open .ensures) ∙ c .x .given .1)
 
 counted-requires : tie.Need-counted-requires
 counted-requires c κs = search needs
 
 root-child : (c : tie.After-x) (sheet : Sheet)
     → let v = c .before .before .before in
-    let a = v .before .before .before .before .before .before .before .before .before .before .args in
-    Tables sheet (a .t .now) → At sheet (a .t .now) (v .before .before .before .before .before .before .base-row .last .0) root false (Sum (c .x .given .0 .0))
+    let a = v .before .before .before .before .before .before .before .before .args in
+    Tables sheet (a .t .now) → At sheet (a .t .now) (v .before .before .before .before .base-row .last .0) root false (Sum (c .x .given .0 .0))
 root-child c sheet ta =
     let v = c .before .before .before in
-    let a = v .before .before .before .before .before .before .before .before .before .before .args in
-    subst (At sheet (a .t .now) (v .before .before .before .before .before .before .base-row .last .0) root false) (opened c sheet ta .sums) (root-stands v sheet ta)
+    let a = v .before .before .before .before .before .before .before .before .args in
+    subst (At sheet (a .t .now) (v .before .before .before .before .base-row .last .0) root false) (opened c sheet ta .sums) (root-stands v sheet ta)
 
 walk-requires : tie.Need-walk-requires
-walk-requires c κs = let start = c .before .before .before .before .before .before .before .before .before .before .before .before .before .before .before .before in (start .pre .0 .0, root-child (c .before .before .before) (start .pre .0 .0) (start .pre .0 .1))
+walk-requires c κs = let start = c .before .before .before .before .before .before .before .before .before .before .before .before .before .before in (start .pre .0 .0, root-child (c .before .before .before) (start .pre .0 .0) (start .pre .0 .1))
 
 same-length-2 : tie.Need-same-length-2
 same-length-2 c = search needs
@@ -121,7 +114,7 @@ returns-2 c =
     λ sheet ta.
     let x = c .before .before .before .before .before .before in
     let v = x .before .before .before in
-    let a = v .before .before .before .before .before .before .before .before .before .before .args in
+    let a = v .before .before .before .before .before .before .before .before .args in
     let n = length (sheet .positions) in
     let g = root-stands v sheet ta in
     record {
@@ -138,8 +131,7 @@ solve-spec =
     tie.close
     (tie.spec
     base-row-requires
-    cell-requires
-    lane-sum-requires
+    first-sum-requires
     value-requires
     open-requires
     enum-known-x

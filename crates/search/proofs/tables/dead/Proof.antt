@@ -6,14 +6,14 @@ use borrow.Author.Needs.{needs}
 use borrow.Author.Count.{below-more}
 use lib.ListN.{getD}
 use Rattle.search.proofs.tables.dead.Statement.{statement}
-use Rattle.lane_rows.specs.Layout.{laneCount, inf}
+use Rattle.lane_rows.specs.Layout.{inf}
 use Rattle.search.proofs.tables.dead.Tie as tie
 
 abbrev Inv-loop : tie.InvT-loop
-Inv-loop row q₀ q = (q ≤ laneCount) × ((k : ℕ) → k < q → getD row k 0 ≡ inf)
+Inv-loop lanes row q₀ q = (q ≤ lanes) × ((k : ℕ) → k < q → getD row k 0 ≡ inf)
 
 abbrev μ-loop : tie.MeasureT-loop
-μ-loop row q₀ q = laneCount - q
+μ-loop lanes row q₀ q = lanes - q
 
 loop-holds : tie.Need-loop-holds Inv-loop μ-loop
 loop-holds c = (omega arith, λ k h. absurd (omega arith))

@@ -1,5 +1,7 @@
--- `fill` makes the tables of the sheet: all lanes, then the fees, the number of openings and the cuts, which keep them.
+-- `fill` makes the tables of the sheet: as many lanes as the parts fill, then the fees, the number of openings, the cuts and the number of fours, which keep them.
+use Prim.Native.Nat.{_*_}
 use mathlib.Core.Path.{sym, subst}
+use native.Mathlib.Omega.{arith}
 use borrow.Author.Needs.{needs}
 use lib.IntN.{ℤ}
 use mir.Facts.{toZ-ofZ}
@@ -7,23 +9,28 @@ use Rattle.search.specs.Arrays.{Arrays}
 use Rattle.search.specs.Fill.{Lanes}
 use Rattle.search.proofs.Filling.{tables-filled}
 use Rattle.search.proofs.tables.fill.Statement.{statement}
-use Rattle.lane_rows.specs.Layout.{laneCount}
 use Rattle.search.proofs.tables.fill.Tie as tie
+
+fours-of-requires : tie.Need-fours-of-requires
+fours-of-requires c κs = search needs
+
+mul-lanes : tie.Need-mul-lanes
+mul-lanes c = search needs
 
 fill-lanes-requires : tie.Need-fill-lanes-requires
 fill-lanes-requires c κs =
-    let b = c .before .before .before .before .before .before .before .before in
+    let b = c .before .before .before .before .before .before .before .before .before in
     let a = b .args in
-    (subst (λ (x : ℤ). Arrays x (a .positions .now) (a .fees .now) (a .lives .now) (a .lefts .now) (a .prices .now)) (sym (toZ-ofZ (b .fits .end))) (b .pre .0), b .pre .1, b .pre .2)
+    (subst (λ (x : ℤ). Arrays x (a .positions .now) (a .fees .now) (a .lives .now) (a .lefts .now) (a .prices .now)) (sym (toZ-ofZ (b .fits .end))) (b .pre .0), b .pre .1, b .pre .2, omega (arith, c .before .before .fours-of .ensures, b .pre .0 .lanes))
 
 put-fees-requires : tie.Need-put-fees-requires
 put-fees-requires c κs = search needs
 
-cast-put-count : tie.Need-cast-put-count
-cast-put-count c = search needs
+cast-put-number : tie.Need-cast-put-number
+cast-put-number c = search needs
 
-put-count-requires : tie.Need-put-count-requires
-put-count-requires c κs = search needs
+put-number-requires : tie.Need-put-number-requires
+put-number-requires c κs = search needs
 
 add-put-cuts : tie.Need-add-put-cuts
 add-put-cuts c = search needs
@@ -34,32 +41,54 @@ put-cuts-requires c κs = search needs
 put-cuts-requires-2 : tie.Need-put-cuts-requires-2
 put-cuts-requires-2 c κs = search needs
 
+cast-put-number-2 : tie.Need-cast-put-number-2
+cast-put-number-2 c = let f = c .before .before .before .before .before .before .before .before .before .before .before .before .before .before .before .before .before .before .before .before .before .before .before in omega (arith, f .fours-of .ensures, f .before .before .before .before .before .before .before .pre .0 .lanes)
+
+put-number-requires-2 : tie.Need-put-number-requires-2
+put-number-requires-2 c κs = search needs
+
 same-length : tie.Need-same-length
 same-length c = search needs
 
 same-length-2 : tie.Need-same-length-2
 same-length-2 c = search needs
 
+-- where the lanes are filled
+abbrev lanes : tie.After-slice-known9 → tie.After-fill-lanes
+lanes c = c .before .before .before .before .before .before .before .before .before .before .before .before .before .before .before .before .before .before .before .before .before .before .before .before
+
 returns : tie.Need-returns
 returns c =
-    let b = c .before .before .before .before .before .before .before .before .before .before .before .before .before .before .before .before .before .before .before .before .before .before .before .before .before .before .before .before .before in
+    let l = lanes c in
+    let f = l .before .before .before .fours-of in
+    let b = l .before .before .before .before .before .before .before .before .before .before in
     let a = b .args in
-    let t = c .before .before .before .before .before .before .before .before .before .before .before .before .before .before .before .before .before .before .before .before .fill-lanes .last .1 .1 .1 .1 .1 .1 .1 .0 in
-    let l = subst (λ (x : ℤ). Lanes x (a .positions .now) (a .lives .now) (a .lefts .now) (a .prices .now) t laneCount) (toZ-ofZ (b .fits .end)) (c .before .before .before .before .before .before .before .before .before .before .before .before .before .before .before .before .before .before .before .before .fill-lanes .ensures) in
-    tables-filled (a .end) (a .positions .now) (a .fees .now) (a .lives .now) (a .lefts .now) (a .prices .now) t (c .before .before .before .before .before .before .before .before .before .before .before .before .before .before .put-fees .last .1 .0) (c .before .before .before .before .before .before .before .before .before .before .put-count .last .1 .0) (c .before .before .before .before .before .before .put-cuts .last .1 .1 .1 .0) (c .before .before .put-cuts2 .last .1 .1 .1 .0)
-    (b .pre .0) l (c .before .before .before .before .before .before .before .before .before .before .before .before .before .before .put-fees .ensures) (c .before .before .before .before .before .before .before .before .before .before .put-count .ensures) (c .before .before .before .before .before .before .put-cuts .ensures) (c .before .before .put-cuts2 .ensures)
+    let t = l .fill-lanes .last .1 .1 .1 .1 .1 .1 .1 .1 .0 in
+    let u = c .before .before .before .before .before .before .before .before .before .before .before .before .before .before .before .before .before .before .put-fees in
+    let v = c .before .before .before .before .before .before .before .before .before .before .before .before .before .before .put-number in
+    let x = c .before .before .before .before .before .before .before .before .before .before .put-cuts in
+    let y = c .before .before .before .before .before .before .put-cuts2 in
+    let z = c .before .before .put-number2 in
+    tables-filled (a .end) (a .positions .now) (a .fees .now) (a .lives .now) (a .lefts .now) (a .prices .now) t (u .last .1 .0) (v .last .1 .1 .0) (x .last .1 .1 .1 .1 .0) (y .last .1 .1 .1 .1 .0) (z .last .1 .1 .0)
+    (f .result) (f .ensures) (b .pre .0)
+    (subst (λ (x : ℤ). Lanes x (a .positions .now) (a .lives .now) (a .lefts .now) (a .prices .now) t (f .result * 4)) (toZ-ofZ (b .fits .end)) (l .fill-lanes .ensures))
+    (u .ensures) (v .ensures) (x .ensures) (y .ensures) (z .ensures)
 
 pub fill-spec : {M : Type 1} → statement M
 fill-spec =
     tie.close
     (tie.spec
+    fours-of-requires
+    mul-lanes
     fill-lanes-requires
     put-fees-requires
-    cast-put-count
-    put-count-requires
+    cast-put-number
+    put-number-requires
     add-put-cuts
     put-cuts-requires
     put-cuts-requires-2
+    cast-put-number-2
+    put-number-requires-2
     same-length
     same-length-2
     returns)

@@ -12,14 +12,13 @@ use Rattle.search.specs.Arrays.{Arrays}
 use Rattle.search.specs.Fill.{Lanes}
 use Rattle.search.proofs.Filling.{lanes-none, lanes-more}
 use Rattle.search.proofs.tables.fill_lanes.Statement.{statement}
-use Rattle.lane_rows.specs.Layout.{laneCount}
 use Rattle.search.proofs.tables.fill_lanes.Tie as tie
 
 abbrev Inv-loop : tie.InvT-loop
-Inv-loop end positions fees lives lefts prices tab₀ t₀ q₀ tab t q = (q ≤ laneCount) × (length tab ≡ length tab₀) × Lanes (toZ w32 end) positions lives lefts prices t q
+Inv-loop lanes end positions fees lives lefts prices tab₀ t₀ q₀ tab t q = (q ≤ lanes) × (length tab ≡ length tab₀) × Lanes (toZ w32 end) positions lives lefts prices t q
 
 abbrev μ-loop : tie.MeasureT-loop
-μ-loop end positions fees lives lefts prices tab₀ t₀ q₀ tab t q = laneCount - q
+μ-loop lanes end positions fees lives lefts prices tab₀ t₀ q₀ tab t q = lanes - q
 
 loop-holds : tie.Need-loop-holds Inv-loop μ-loop
 loop-holds c = let b = c .before .before .before .before .before .before in let a = b .args in (omega arith, refl, lanes-none (toZ w32 (ofZ w32 (a .end))) (a .positions .now) (a .lives .now) (a .lefts .now) (a .prices .now) (a .t .now) (b .pre .2))
@@ -29,7 +28,7 @@ fill-part-requires c κs =
     let b = c .before .before .before .before .before .before .before .before .before .before in
     let a = b .args in
     let l = c .before .before .before .loop in
-    (subst (λ (x : ℤ). Arrays x (a .positions .now) (a .fees .now) (a .lives .now) (a .lefts .now) (a .prices .now)) (sym (toZ-ofZ (b .fits .end))) (b .pre .0), omega (arith, b .pre .1, l .inv .1), l .inv .2 .size, c .before .before .loop-test .taken)
+    (subst (λ (x : ℤ). Arrays x (a .positions .now) (a .fees .now) (a .lives .now) (a .lefts .now) (a .prices .now)) (sym (toZ-ofZ (b .fits .end))) (b .pre .0), omega (arith, b .pre .1, l .inv .1), l .inv .2 .size, omega (arith, b .pre .3, c .before .before .loop-test .taken))
 
 add-q : tie.Need-add-q Inv-loop μ-loop
 add-q c = search needs
@@ -44,7 +43,7 @@ loop-again c =
     let l = c .before .before .before .before .before .before .before .before .loop in (
       omega arith,
       c .before .before .before .before .fill-part .kept .1 .1 .1 .1 .1 .1 .1 .0 ∙ l .inv .1,
-      lanes-more (toZ w32 (ofZ w32 (a .end))) (a .positions .now) (a .lives .now) (a .lefts .now) (a .prices .now) (l .t) (c .before .before .before .before .fill-part .last .1 .1 .1 .1 .1 .1 .1 .1 .0) (l .q) (b .pre .0 .few) (c .before .before .before .before .before .before .before .loop-test .taken) (c .before .before .before .before .fill-part .ensures) (l .inv .2),
+      lanes-more (toZ w32 (ofZ w32 (a .end))) (a .positions .now) (a .lives .now) (a .lefts .now) (a .prices .now) (l .t) (c .before .before .before .before .fill-part .last .1 .1 .1 .1 .1 .1 .1 .1 .0) (l .q) (b .pre .0 .few) (omega (arith, b .pre .3, c .before .before .before .before .before .before .before .loop-test .taken)) (c .before .before .before .before .fill-part .ensures) (l .inv .2),
     )
 
 same-length : tie.Need-same-length Inv-loop μ-loop
@@ -58,8 +57,8 @@ returns c =
     let b = c .before .before .before .before .before .before .before .before in
     let a = b .args in
     let l = c .before .loop in
-    let z : l .q ≡ laneCount = omega arith in
-    subst (λ (x : ℤ). Lanes x (a .positions .now) (a .lives .now) (a .lefts .now) (a .prices .now) (l .t) laneCount) (toZ-ofZ (b .fits .end))
+    let z : l .q ≡ a .lanes = omega arith in
+    subst (λ (x : ℤ). Lanes x (a .positions .now) (a .lives .now) (a .lefts .now) (a .prices .now) (l .t) (a .lanes)) (toZ-ofZ (b .fits .end))
     (subst (Lanes (toZ w32 (ofZ w32 (a .end))) (a .positions .now) (a .lives .now) (a .lefts .now) (a .prices .now) (l .t)) z (l .inv .2))
 
 pub fill-lanes-spec : {M : Type 1} → statement M

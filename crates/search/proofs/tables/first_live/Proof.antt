@@ -12,10 +12,10 @@ use Rattle.lane_rows.proofs.Filled.{window-at, window-length}
 use Rattle.search.proofs.tables.first_live.Tie as tie
 
 abbrev Inv-loop : tie.InvT-loop
-Inv-loop t base j i₀ i = (i ≤ j) × Dead t base j i
+Inv-loop lanes t base j i₀ i = (i ≤ j) × Dead lanes t base j i
 
 abbrev μ-loop : tie.MeasureT-loop
-μ-loop t base j i₀ i = j - i
+μ-loop lanes t base j i₀ i = j - i
 
 loop-holds : tie.Need-loop-holds Inv-loop μ-loop
 loop-holds c = (omega arith, λ k q h l. absurd (omega arith))
@@ -48,7 +48,7 @@ part-dead-end : tie.Need-part-dead-end Inv-loop μ-loop
 part-dead-end c = search needs
 
 dead-requires : tie.Need-dead-requires Inv-loop μ-loop
-dead-requires c κs = let a = c .before .before .before .before .args in window-length (a .t .now) (a .base + (a .j * markCount + c .before .before .loop .i) * laneCount) (omega arith)
+dead-requires c κs = let a = c .before .before .before .before .args in (c .before .before .before .before .pre .0, window-length (a .t .now) (a .base + (a .j * markCount + c .before .before .loop .i) * laneCount) (omega arith))
 
 cast-result : tie.Need-cast-result Inv-loop μ-loop
 cast-result c = search needs
@@ -68,8 +68,8 @@ loop-again c =
     let l = c .before .before .before .before .loop in
     let d = a .base + (a .j * markCount + l .i) * laneCount in (
       omega arith,
-      dead-more (a .t .now) (a .base) (a .j) (l .i) (omega arith) (omega arith) (omega arith)
-          (λ q h. sym (window-at (a .t .now) d (omega arith) q h) ∙ c .before .dead .ensures (not-false (c .before .dead .result) (c .if1 .left)) q h) (l .inv .1),
+      dead-more (a .lanes) (a .t .now) (a .base) (a .j) (l .i) (omega arith) (omega arith) (omega arith)
+          (λ q h. sym (window-at (a .t .now) d (omega arith) q (omega (arith, c .before .before .before .before .before .before .pre .0))) ∙ c .before .dead .ensures (not-false (c .before .dead .result) (c .if1 .left)) q h) (l .inv .1),
     )
 
 cast-result-2 : tie.Need-cast-result-2 Inv-loop μ-loop

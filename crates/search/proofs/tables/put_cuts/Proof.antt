@@ -9,16 +9,16 @@ use Rattle.search.proofs.tables.put_cuts.Statement.{statement}
 use Rattle.search.proofs.tables.put_cuts.Tie as tie
 
 abbrev Inv-loop : tie.InvT-loop
-Inv-loop base off m t₀ j₀ t j = (j ≤ m) × Cuts t₀ t base off j
+Inv-loop lanes base off m t₀ j₀ t j = (j ≤ m) × Cuts lanes t₀ t base off j
 
 abbrev μ-loop : tie.MeasureT-loop
-μ-loop base off m t₀ j₀ t j = m - j
+μ-loop lanes base off m t₀ j₀ t j = m - j
 
 loop-holds : tie.Need-loop-holds Inv-loop μ-loop
-loop-holds c = (omega arith, cuts-none (c .before .args .t .now) (c .before .args .base) (c .before .args .off))
+loop-holds c = (omega arith, cuts-none (c .before .args .lanes) (c .before .args .t .now) (c .before .args .base) (c .before .args .off))
 
 first-live-requires : tie.Need-first-live-requires Inv-loop μ-loop
-first-live-requires c κs = (omega (arith, c .before .before .loop .inv .1 .size), omega arith)
+first-live-requires c κs = (c .before .before .before .before .pre .0, omega (arith, c .before .before .loop .inv .1 .size), omega arith)
 
 add-t : tie.Need-add-t Inv-loop μ-loop
 add-t c = search needs
@@ -41,8 +41,8 @@ loop-again c =
     let l = c .before .before .before .loop in
     let e = c .first-live .ensures in (
       omega arith,
-      cuts-more (a .t .now) (l .t) (a .base) (a .off) (l .j) (c .first-live .result) (omega arith) (e .0)
-          (dead-back (a .t .now) (l .t) (a .base) (a .off) (l .j) (l .j) (c .first-live .result) (omega arith) (omega arith) (e .0) (l .inv .1) (e .1)) (l .inv .1),
+      cuts-more (a .lanes) (a .t .now) (l .t) (a .base) (a .off) (l .j) (c .first-live .result) (omega arith) (e .0)
+          (dead-back (a .lanes) (a .t .now) (l .t) (a .base) (a .off) (l .j) (l .j) (c .first-live .result) (omega arith) (c .before .before .before .before .before .pre .0) (omega arith) (e .0) (l .inv .1) (e .1)) (l .inv .1),
     )
 
 same-length : tie.Need-same-length Inv-loop μ-loop
@@ -53,7 +53,7 @@ returns c =
     let a = c .before .before .before .args in
     let l = c .before .loop in
     let z : l .j ≡ a .m = omega arith in
-    subst (Cuts (a .t .now) (l .t) (a .base) (a .off)) z (l .inv .1)
+    subst (Cuts (a .lanes) (a .t .now) (l .t) (a .base) (a .off)) z (l .inv .1)
 
 pub put-cuts-spec : {M : Type 1} → statement M
 put-cuts-spec =
