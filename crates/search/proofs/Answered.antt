@@ -50,16 +50,16 @@ stops-length n mask stops f = ap length (stops-are n mask stops f) ∙ bits-leng
 
 abbrev pub outcome : Solved → List Bool → List Row → Outcome
 outcome s stops rows =
-    record { count = s .state .count; over = s .state .over; found = s .state .found; cost = s .state .cost; floor = s .floor; stops = stops; changes = rows }
+    record { count = s .count; over = s .over; found = s .found; cost = s .cost; floor = s .floor; stops = stops; changes = rows }
 
 module _ (job : Job) (e : ℤ) (ss : List ℤ) (fs ls rs ps : List ℕ) (h : Holds job e ss fs ls rs ps) (limit : ℕ) (s : Solved) (g : Solves (sheetOf e ss fs ls rs ps) limit s)
-    (stops : List Bool) (f : stops ≡ bits (length ss) (s .state .mask) ++ replicate (64 - length ss) false) (rows : List Row) (c : Chooses e ss ls rs ps (take (length ss) stops) rows (length ls)) where
+    (stops : List Bool) (f : stops ≡ bits (length ss) (s .mask) ++ replicate (64 - length ss) false) (rows : List Row) (c : Chooses e ss ls rs ps (take (length ss) stops) rows (length ls)) where
   size : length ss ≡ decisions job
   size = ap length (h .places) ∙ length-map (job .openings) (λ (o : Opening). clock job (o .step))
 
   walked : limitedIn (length ss) (outcome s stops rows) ≡ atMost limit (treeOf (boundOf job) (length ss) [])
   walked =
-      (λ i. record { count = s .state .count; over = s .state .over; incumbent = cond (s .state .found) (plan (s .state .cost) (stops-are (length ss) (s .state .mask) stops f i)) none })
+      (λ i. record { count = s .count; over = s .over; incumbent = cond (s .found) (plan (s .cost) (stops-are (length ss) (s .mask) stops f i)) none })
       ∙ g .walked
       ∙ (λ i. atMost limit (treeOf (λ p. sheet-bound job e ss fs ls rs ps h p i) (length ss) []))
 

@@ -2,7 +2,7 @@
 pub mod plan;
 pub mod tables;
 
-ghost use Prim.Native.Nat.{_≤_};
+ghost use Prim.Native.Nat.{_+_, _^_, _<_, _≤_};
 ghost use lib.ListN.{length};
 ghost use Rattle.model.specs.Model.{Job};
 ghost use Rattle.least.specs.Suffix.{tableSize};
@@ -46,7 +46,7 @@ fn walked(
     limit: u64,
     tab: &mut [u64],
 ) -> Solved
-    requires { ⌜ (Arrays end (now positions) (now fees) (now lives) (now lefts) (now prices)) × (tableSize ≤ length (now tab)) ⌝ }
+    requires { ⌜ (Arrays end (now positions) (now fees) (now lives) (now lefts) (now prices)) × (tableSize ≤ length (now tab)) × (limit + 1 < 2 ^ 64) ⌝ }
     ensures { λ r. ⌜ Solves (sheetOf end (now (positions .entry)) (now (fees .entry)) (now (lives .entry)) (now (lefts .entry)) (now (prices .entry))) limit r ⌝ }
 {
     let mut t = [0; TABLES];
@@ -65,15 +65,14 @@ pub fn search(
     prices: &[u32],
     limit: u64,
 ) -> Outcome
-    requires { ⌜ ((job : Job) × Holds job end (now positions) (now fees) (now lives) (now lefts) (now prices)) ⌝ }
+    requires { ⌜ ((job : Job) × Holds job end (now positions) (now fees) (now lives) (now lefts) (now prices)) × (limit + 1 < 2 ^ 64) ⌝ }
     ensures { λ r. ⌜ ((job : Job) → Holds job end (now (positions .entry)) (now (fees .entry)) (now (lives .entry)) (now (lefts .entry)) (now (prices .entry)) → Answers job limit r) ⌝ }
 {
     let mut tab = [0; TABLE];
     let solved = walked(end, positions, fees, lives, lefts, prices, limit, &mut tab);
-    let state = solved.state;
     let floor = solved.floor;
     let n = positions.len();
-    let stops = stops_of(state.mask, n);
+    let stops = stops_of(solved.mask, n);
     let rows = changes(
         end,
         positions,
@@ -85,10 +84,10 @@ pub fn search(
         &mut tab,
     );
     Outcome {
-        count: state.count,
-        over: state.over,
-        found: state.found,
-        cost: state.cost,
+        count: solved.count,
+        over: solved.over,
+        found: solved.found,
+        cost: solved.cost,
         floor,
         stops,
         changes: rows,

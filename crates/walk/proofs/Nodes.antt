@@ -1,19 +1,19 @@
 -- From a node to the nodes below it: what the walk is given at each, and how the code's numbers are the search's.
-use Prim.Native.Nat.{ℕ, zero, suc, _+_, _-_, _*_, _/_, _%_, _^_, _<_, _≤_}
+use Prim.Native.Nat.{ℕ, zero, suc, _+_, _-_, _*_, _/_, _%_, _^_, _<_, _≤_, min}
 use mathlib.Core.Path.{_≡_, refl, sym, ap, ap₂, subst, _∙_}
 use mathlib.Core.Bool.{Bool, true, false, cond, false≢true}
 use mathlib.Core.List.{List, [], _∷_}
 use native.Mathlib.Omega.{arith}
 use native.Mathlib.Numerals.{add-one}
 use native.Mathlib.Nat.{add-zero, two-pow-succ, pow-le-pow-right}
-use borrow.Author.Tests.{ltb-true, leb-true, leb-false}
+use borrow.Author.Tests.{ltb-true, ltb-false, lt-ltb, le-ltb, leb-true, leb-false}
 use lib.Dec.{ltb, leb}
 use lib.IntN.{ℤ}
 use lib.ListN.{length, getD, drop, length-append}
 use Rattle.branch.specs.declared.Bound.{Bound}
 use Rattle.branch.specs.declared.Bound.the-variants.{Missing, Sum}
 use Rattle.branch.specs.Lower.{add, total}
-use Rattle.branch.specs.Search.{none, plan, below, snoc, Limited, kept}
+use Rattle.branch.specs.Search.{none, plan, below, snoc, Limited, kept, counted, stopped}
 use Rattle.branch.specs.Label.{limitedFrom, openFrom}
 use Rattle.branch.proofs.Bounds.{no-sum}
 use Rattle.branch.proofs.Steps.{fixed-stop, fixed-drop, fixed-open, open-full, open-both}
@@ -25,7 +25,7 @@ use Rattle.lane_rows.specs.Layout.{top, inf, suffixBase, reachBase, pricePlace,
 use Rattle.lane_rows.specs.Sheet.{Column, Sheet, columnBound, partSums, sheetBound}
 use Rattle.lane_rows.specs.Tables.{valueOf, Tables}
 use Rattle.lane_rows.specs.Rows.{lane, sumLanes, Rows, Stack, Put, Kept, nextRow, Owing, Settled}
-use Rattle.walk.specs.State.{bits, decided, incumbent, view, viewed, countedS, stoppedS, keptS, reachedS, undropped, openS, noN, yesN, Pending, ready, owed, At}
+use Rattle.walk.specs.State.{bits, decided, incumbent, view, viewed, noCost, countedS, keptS, reachedS, undropped, openS, noN, yesN, Pending, ready, owed, At}
 use Rattle.lane_rows.proofs.Lanes.{node-sum, node-rises, rows-no, rows-yes, rows-kept, kept-refl, stack-no, stack-yes}
 
 -- ---- decisions in a number
@@ -202,20 +202,43 @@ module _ (sheet : Sheet) (t w w' : List ℕ) (p : Node) (stop : Bool) (e : Bound
         rows = owed (decided p) d (rows-kept sheet w' w'' (decided p) r ro k);
       }
 
+-- a node's fees and part sums are less than no plan's cost
+pub fits : (sheet : Sheet) (t w : List ℕ) (p : Node) (stop : Bool) (e : Bound) → At sheet t w p stop e → (x : ℕ) → e ≡ Sum x → p .spent + x < noCost
+fits sheet t w p stop e h x f = omega (arith, h .low x f, h .poor, h .inside, h .tables .few)
+
 -- ---- the state
 
-improves-below : (n e : ℕ) (s : Search) → viewed e s ≡ below (Sum e) (incumbent n s)
-improves-below n e s = go (s .found)
+improves-below : (n e : ℕ) (s : Search) → e < noCost → viewed e s ≡ below (Sum e) (incumbent n s)
+improves-below n e s h = go (ltb (s .cost) noCost) refl
   where
-    go : (t : Bool) → cond t (ltb e (s .cost)) true ≡ below (Sum e) (cond t (plan (s .cost) (bits n (s .mask))) none)
-    go true = refl
-    go false = refl
+    go : (t : Bool) → ltb (s .cost) noCost ≡ t → ltb e (s .cost) ≡ below (Sum e) (cond t (plan (s .cost) (bits n (s .mask))) none)
+    go true f = refl
+    go false f = lt-ltb e (s .cost) (omega (arith, ltb-false (s .cost) noCost f))
 
 -- a full node kept
-pub full-walked : (est : List Bool → Bound) (L n e : ℕ) (p : Node) (s : Search) → est (decided p) ≡ Sum e → p .at ≡ n
-    → view n (keptS s e (p .mask)) ≡ openFrom est L (n - p .at) (decided p) (view n s)
-full-walked est L n e p s f q =
-    rw (sym q) (sym (open-full est L (p .at - p .at) (decided p) (view (p .at) s) (omega arith) ∙ ap (λ (b : Bound). kept b (decided p) (view (p .at) s)) f))
+pub full-walked : (est : List Bool → Bound) (L n e : ℕ) (p : Node) (s : Search) → est (decided p) ≡ Sum e → e < noCost → p .at ≡ n
+    → view L n (keptS s e (p .mask)) ≡ openFrom est L (n - p .at) (decided p) (view L n s)
+full-walked est L n e p s f h q =
+    rw (sym q, lt-ltb e noCost h) (sym (open-full est L (p .at - p .at) (decided p) (view L (p .at) s) (omega arith) ∙ ap (λ (b : Bound). kept b (decided p) (view L (p .at) s)) f))
+
+-- a node more within the limit, and one beyond it
+counted-view : (L n : ℕ) (s : Search) → s .count < L → view L n (countedS s) ≡ counted (view L n s)
+counted-view L n s h =
+    let z : min (s .count + 1) L ≡ min (s .count) L + 1 = omega arith in
+    let y : ltb L (s .count + 1) ≡ ltb L (s .count) = le-ltb L (s .count + 1) (omega arith) ∙ sym (le-ltb L (s .count) (omega arith)) in
+    λ i. record { count = z i; over = y i; incumbent = incumbent n s }
+
+passed-view : (L n : ℕ) (s : Search) → s .count < L → view L n (reachedS L s) ≡ counted (view L n s)
+passed-view L n s h = ap (λ (b : Bool). view L n (cond b s (countedS s))) (le-ltb L (s .count) (omega arith)) ∙ counted-view L n s h
+
+stopped-view : (L n : ℕ) (s : Search) → L ≤ s .count → view L n (reachedS L s) ≡ stopped (view L n s)
+stopped-view L n s h = go (ltb L (s .count)) refl
+  where
+    go : (b : Bool) → ltb L (s .count) ≡ b → view L n (cond b s (countedS s)) ≡ stopped (view L n s)
+    go true f = λ i. record { count = min (s .count) L; over = f i; incumbent = incumbent n s }
+    go false f =
+        let z : min (s .count + 1) L ≡ min (s .count) L = omega (arith, ltb-false L (s .count) f) in
+        λ i. record { count = z i; over = lt-ltb L (s .count + 1) (omega arith) i; incumbent = incumbent n s }
 
 -- both children walked, from what the two calls say
 pub both-walked : (est : List Bool → Bound) (L n : ℕ) (p : Node) (r fee : ℕ) (s r₁ r₂ : Limited) → p .at < n
@@ -231,13 +254,13 @@ both-walked est L n p r fee s r₁ r₂ h f₁ f₂ =
 
 module _ (sheet : Sheet) (t w : List ℕ) (p : Node) (stop : Bool) (e : Bound) (a : At sheet t w p stop e) (L n k : ℕ) (s : Search) where
   abbrev walked : Limited
-  walked = limitedFrom (sheetBound sheet) L k (decided p) (view n s)
+  walked = limitedFrom (sheetBound sheet) L k (decided p) (view L n s)
 
   tested : (x : ℕ) → e ≡ Sum x → below (sheetBound sheet (decided p)) (incumbent n s) ≡ viewed (p .spent + x) s
-  tested x f = ap (λ (b : Bound). below b (incumbent n s)) (bound-some sheet t w p stop e a x f) ∙ sym (improves-below n (p .spent + x) s)
+  tested x f = ap (λ (b : Bound). below b (incumbent n s)) (bound-some sheet t w p stop e a x f) ∙ sym (improves-below n (p .spent + x) s (fits sheet t w p stop e a x f))
 
   -- it is not walked on
-  pub closed-walked : openS L (p .spent) e s ≡ Missing → view n (reachedS L s) ≡ walked
+  pub closed-walked : openS L (p .spent) e s ≡ Missing → view L n (reachedS L s) ≡ walked
   closed-walked f = go (leb L (s .count)) refl f
     where
       drop : (e' : Bound) → e ≡ e' → undropped (p .spent) e' s ≡ Missing → below (sheetBound sheet (decided p)) (incumbent n s) ≡ false
@@ -248,15 +271,15 @@ module _ (sheet : Sheet) (t w : List ℕ) (p : Node) (stop : Bool) (e : Bound) (
           no true u = absurd (no-sum (Sum x) x u refl)
           no false u = refl
 
-      go : (b : Bool) → leb L (s .count) ≡ b → cond b Missing (undropped (p .spent) e s) ≡ Missing → view n (cond b (stoppedS s) (countedS s)) ≡ walked
-      go true h u = sym (fixed-stop (sheetBound sheet) L k (decided p) (view n s) (leb-true L (s .count) h))
-      go false h u = sym (fixed-drop (sheetBound sheet) L k (decided p) (view n s) (leb-false L (s .count) h) (drop e refl u))
+      go : (b : Bool) → leb L (s .count) ≡ b → cond b Missing (undropped (p .spent) e s) ≡ Missing → view L n (reachedS L s) ≡ walked
+      go true h u = let l = leb-true L (s .count) h in stopped-view L n s l ∙ sym (fixed-stop (sheetBound sheet) L k (decided p) (view L n s) (omega (arith, l)))
+      go false h u = let l = leb-false L (s .count) h in passed-view L n s l ∙ sym (fixed-drop (sheetBound sheet) L k (decided p) (view L n s) (omega (arith, l)) (drop e refl u))
 
   -- it is walked on
   pub record Opened (y : ℕ) : Type 0 where
     pub sums : e ≡ Sum y
     pub within : s .count < L
-    pub on : openFrom (sheetBound sheet) L k (decided p) (view n (countedS s)) ≡ walked
+    pub on : openFrom (sheetBound sheet) L k (decided p) (view L n (countedS s)) ≡ walked
 
   pub open-walked : (y : ℕ) → openS L (p .spent) e s ≡ Sum y → Opened y
   open-walked y f = go (leb L (s .count)) refl f
@@ -274,7 +297,11 @@ module _ (sheet : Sheet) (t w : List ℕ) (p : Node) (stop : Bool) (e : Bound) (
       go false h u =
           let r = kept-on e refl u in
           let l = leb-false L (s .count) h in
-          record { sums = r .0; within = l; on = sym (fixed-open (sheetBound sheet) L k (decided p) (view n s) l (r .1)) }
+          record {
+            sums = r .0;
+            within = l;
+            on = ap (openFrom (sheetBound sheet) L k (decided p)) (counted-view L n s l) ∙ sym (fixed-open (sheetBound sheet) L k (decided p) (view L n s) (omega (arith, l)) (r .1));
+          }
 
 -- ---- the first node
 

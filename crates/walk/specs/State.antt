@@ -1,5 +1,5 @@
 -- The code's state and node as the search's, and what the walk is given at a node.
-use Prim.Native.Nat.{ℕ, zero, suc, _+_, _-_, _*_, _/_, _%_, _^_, _<_, _≤_}
+use Prim.Native.Nat.{ℕ, zero, suc, _+_, _-_, _*_, _/_, _%_, _^_, _<_, _≤_, min}
 use mathlib.Core.Path.{_≡_}
 use mathlib.Core.Bool.{Bool, true, false, cond}
 use mathlib.Core.List.{List, []}
@@ -26,31 +26,36 @@ bits (suc k) m = snoc (bits k (m / 2)) (eqb (m % 2) 1)
 abbrev pub decided : Node → List Bool
 decided p = bits (p .at) (p .mask)
 
+-- the cost where no full plan is found yet
+abbrev pub noCost : ℕ
+noCost = 18446744073709551615
+
 -- the best full plan so far
 abbrev pub incumbent : ℕ → Search → Incumbent
-incumbent n s = cond (s .found) (plan (s .cost) (bits n (s .mask))) none
+incumbent n s = cond (ltb (s .cost) noCost) (plan (s .cost) (bits n (s .mask))) none
 
--- the state as the search has it, where there are n openings
-abbrev pub view : ℕ → Search → Limited
-view n s = record { count = s .count; over = s .over; incumbent = incumbent n s }
+-- a node was reached beyond the limit
+abbrev pub overS : ℕ → Search → Bool
+overS limit s = ltb limit (s .count)
+
+-- the state as the search has it, with a limit and where there are n openings
+abbrev pub view : ℕ → ℕ → Search → Limited
+view limit n s = record { count = min (s .count) limit; over = overS limit s; incumbent = incumbent n s }
 
 -- a bound e is less than the incumbent's cost
 abbrev pub viewed : ℕ → Search → Bool
-viewed e s = cond (s .found) (ltb e (s .cost)) true
+viewed e s = ltb e (s .cost)
 
--- the three changes of the state
+-- the changes of the state
 abbrev pub countedS : Search → Search
-countedS s = record { count = s .count + 1; over = s .over; found = s .found; cost = s .cost; mask = s .mask }
-
-abbrev pub stoppedS : Search → Search
-stoppedS s = record { count = s .count; over = true; found = s .found; cost = s .cost; mask = s .mask }
+countedS s = record { count = s .count + 1; cost = s .cost; mask = s .mask }
 
 abbrev pub keptS : Search → ℕ → ℕ → Search
-keptS s c m = record { count = s .count; over = s .over; found = true; cost = c; mask = m }
+keptS s c m = record { count = s .count; cost = c; mask = m }
 
--- a node is reached: one more, or one beyond the limit
+-- a node is reached: one more, and at most one beyond the limit
 abbrev pub reachedS : ℕ → Search → Search
-reachedS limit s = cond (leb limit (s .count)) (stoppedS s) (countedS s)
+reachedS limit s = cond (overS limit s) s (countedS s)
 
 -- the part sums of a node that is walked on, with its fees and its part sums: its bound is less than the incumbent's cost, and it is within the limit
 abbrev pub undropped : ℕ → Bound → Search → Bound
@@ -83,7 +88,15 @@ pub record At (sheet : Sheet) (t w : List ℕ) (p : Node) (stop : Bool) (e : Bou
   pub low : (x : ℕ) → e ≡ Sum x → x < inf
   pub rows : Pending sheet w (decided p) (p .rows) stop
 
+-- the state at the end, with the floor
+abbrev pub solvedS : Bound → ℕ → Search → Solved
+solvedS floor limit s = record { floor = floor; count = min (s .count) limit; over = overS limit s; found = ltb (s .cost) noCost; cost = s .cost; mask = s .mask }
+
+-- what is handed over, as the search has it
+abbrev pub limitedS : ℕ → Solved → Limited
+limitedS n r = record { count = r .count; over = r .over; incumbent = cond (r .found) (plan (r .cost) (bits n (r .mask))) none }
+
 -- what the search of a sheet gives: the first node's bound, and the walk's last state
 pub record Solves (sheet : Sheet) (limit : ℕ) (r : Solved) : Type 0 where
   pub floor : r .floor ≡ sheetBound sheet []
-  pub walked : view (length (sheet .positions)) (r .state) ≡ atMost limit (treeOf (sheetBound sheet) (length (sheet .positions)) [])
+  pub walked : limitedS (length (sheet .positions)) r ≡ atMost limit (treeOf (sheetBound sheet) (length (sheet .positions)) [])

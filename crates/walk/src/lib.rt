@@ -1,7 +1,7 @@
 // The counted walk over the tables of a job: a node, the state, and the recursion on both branches.
 ghost use mathlib.Core.Path.{_≡_};
 ghost use mathlib.Core.Bool.{true, false};
-ghost use Prim.Native.Nat.{ℕ, _+_, _-_, _*_, _^_, _<_};
+ghost use Prim.Native.Nat.{ℕ, _+_, _-_, _*_, _^_, _<_, min};
 ghost use lib.ListN.{length};
 ghost use Rattle.branch.specs.Label.{openFrom};
 ghost use Rattle.branch.specs.declared.Bound.{Bound};
@@ -10,11 +10,13 @@ ghost use Rattle.lane_rows.specs.Layout.{stackSize};
 ghost use Rattle.lane_rows.specs.Sheet.{Sheet, sheetBound};
 ghost use Rattle.lane_rows.specs.Tables.{Tables};
 ghost use Rattle.lane_rows.specs.Rows.{Kept};
-ghost use Rattle.walk.specs.State.{decided, view, viewed, countedS, stoppedS, keptS, reachedS, openS, noN, yesN, At, Solves};
+ghost use Rattle.walk.specs.State.{decided, view, viewed, countedS, keptS, overS, reachedS, openS, solvedS, noN, yesN, At, Solves};
 use branch::Bound;
 use lane_rows::COUNT;
 use lane_rows::FEES;
+use lane_rows::STACK;
 use lane_rows::SUFFIX_CUTS;
+use lane_rows::TABLES;
 use lane_rows::base_row;
 use lane_rows::cell;
 use lane_rows::first_sum;
@@ -22,11 +24,12 @@ use lane_rows::lane_sum;
 use lane_rows::settle;
 use lane_rows::value;
 
-// The state of the search, passed by value and handed back. The incumbent's decisions, the latest in the lowest bit.
+// The cost where no full plan is found yet: more than any plan's.
+pub const NO_COST: u64 = 18446744073709551615;
+
+// The state of the search, passed by value and handed back: the nodes reached, one more than the limit where one was reached beyond it; the incumbent's cost; and its decisions, the latest in the lowest bit.
 pub struct Search {
     pub count: u64,
-    pub over: bool,
-    pub found: bool,
     pub cost: u64,
     pub mask: u64,
 }
@@ -39,21 +42,6 @@ impl Search {
     {
         Search {
             count: self.count + 1,
-            over: self.over,
-            found: self.found,
-            cost: self.cost,
-            mask: self.mask,
-        }
-    }
-
-    // A node was reached beyond the limit.
-    pub fn stopped(self) -> Search
-        ensures { λ r. ⌜ r ≡ stoppedS self ⌝ }
-    {
-        Search {
-            count: self.count,
-            over: true,
-            found: self.found,
             cost: self.cost,
             mask: self.mask,
         }
@@ -65,8 +53,6 @@ impl Search {
     {
         Search {
             count: self.count,
-            over: self.over,
-            found: true,
             cost,
             mask,
         }
@@ -76,18 +62,23 @@ impl Search {
     pub fn improves(self, e: u64) -> bool
         ensures { λ r. ⌜ r ≡ viewed e self ⌝ }
     {
-        if self.found {
-            return e < self.cost;
-        }
-        true
+        e < self.cost
     }
 
-    // A node is reached: one more, or one beyond the limit.
+    // A node was reached beyond the limit.
+    pub fn over(self, limit: u64) -> bool
+        ensures { λ r. ⌜ r ≡ overS limit self ⌝ }
+    {
+        limit < self.count
+    }
+
+    // A node is reached: one more, and at most one beyond the limit.
     pub fn reached(self, limit: u64) -> Search
+        requires { ⌜ limit + 1 < 2 ^ 64 ⌝ }
         ensures { λ r. ⌜ r ≡ reachedS limit self ⌝ }
     {
-        if limit <= self.count {
-            return self.stopped();
+        if self.over(limit) {
+            return self;
         }
         self.counted()
     }
@@ -147,10 +138,18 @@ impl Node {
 }
 
 // Walks on from the node p, which is counted and not dropped, with part sums x. `stop`: its last decision is a yes, whose row is not yet on the stack.
-pub fn walk(t: &[u32], w: &mut [u32], limit: u64, p: Node, stop: bool, x: u64, s: Search) -> Search
-    requires { ⌜ ((sheet : Sheet) × At sheet (now t) (now w) p stop (Sum x)) ⌝ }
-    ensures walked { λ r. ⌜ ((sheet : Sheet) → At sheet (now (t .entry)) (now (w .entry)) p stop (Sum x) → view (length (sheet .positions)) r
-        ≡ openFrom (sheetBound sheet) limit (length (sheet .positions) - p .at) (decided p) (view (length (sheet .positions)) s)) ⌝ }
+pub fn walk(
+    t: &[u32; TABLES],
+    w: &mut [u32; STACK],
+    limit: u64,
+    p: Node,
+    stop: bool,
+    x: u64,
+    s: Search,
+) -> Search
+    requires { ⌜ ((sheet : Sheet) × At sheet (now t) (now w) p stop (Sum x)) × (limit + 1 < 2 ^ 64) ⌝ }
+    ensures walked { λ r. ⌜ ((sheet : Sheet) → At sheet (now (t .entry)) (now (w .entry)) p stop (Sum x) → view limit (length (sheet .positions)) r
+        ≡ openFrom (sheetBound sheet) limit (length (sheet .positions) - p .at) (decided p) (view limit (length (sheet .positions)) s)) ⌝ }
     ensures frame { λ r. ⌜ Kept (now (w .entry)) (now (w .exit)) (p .rows) ⌝ }
 {
     if p.at == cell(t, COUNT, 0) {
@@ -162,38 +161,63 @@ pub fn walk(t: &[u32], w: &mut [u32], limit: u64, p: Node, stop: bool, x: u64, s
         Bound::Sum(y) => walk(t, w, limit, p.no(rows), false, y, s.counted()),
         Bound::Missing => s.reached(limit),
     };
-    let q = p.yes(rows, cell(t, FEES, p.at) as u64);
-    let Bound::Sum(y) = a.open(limit, q.spent, Bound::Sum(x)) else {
+    let fee = cell(t, FEES, p.at) as u64;
+    let Bound::Sum(y) = a.open(limit, p.spent + fee, Bound::Sum(x)) else {
         return a.reached(limit);
     };
-    walk(t, w, limit, q, true, y, a.counted())
+    walk(t, w, limit, p.yes(rows, fee), true, y, a.counted())
 }
 
-// The floor, and the state after the walk with a limit.
+// What the whole search gives: the floor; the nodes walked, and whether there are more; whether there is an incumbent, its cost and its decisions.
 pub struct Solved {
     pub floor: Bound,
-    pub state: Search,
+    pub count: u64,
+    pub over: bool,
+    pub found: bool,
+    pub cost: u64,
+    pub mask: u64,
+}
+
+impl Search {
+    // The nodes within the limit.
+    fn within(self, limit: u64) -> u64
+        ensures { λ r. ⌜ r ≡ min (self .count) limit ⌝ }
+    {
+        if self.over(limit) {
+            return limit;
+        }
+        self.count
+    }
+
+    // The state at the end.
+    fn solved(self, floor: Bound, limit: u64) -> Solved
+        ensures { λ r. ⌜ r ≡ solvedS floor limit self ⌝ }
+    {
+        Solved {
+            floor,
+            count: self.within(limit),
+            over: self.over(limit),
+            found: self.cost < NO_COST,
+            cost: self.cost,
+            mask: self.mask,
+        }
+    }
 }
 
 // The whole search with a limit, over the tables of a sheet.
-pub fn solve(t: &[u32], w: &mut [u32], limit: u64) -> Solved
-    requires { ⌜ ((sheet : Sheet) × Tables sheet (now t)) × (length (now w) ≡ stackSize) ⌝ }
+pub fn solve(t: &[u32; TABLES], w: &mut [u32; STACK], limit: u64) -> Solved
+    requires { ⌜ ((sheet : Sheet) × Tables sheet (now t)) × (limit + 1 < 2 ^ 64) ⌝ }
     ensures { λ r. ⌜ ((sheet : Sheet) → Tables sheet (now (t .entry)) → Solves sheet limit r) ⌝ }
 {
     base_row(w);
     let floor = value(first_sum(t));
     let begun = Search {
         count: 0,
-        over: false,
-        found: false,
-        cost: 0,
+        cost: NO_COST,
         mask: 0,
     };
     let Bound::Sum(x) = begun.open(limit, 0, floor) else {
-        return Solved {
-            floor,
-            state: begun.reached(limit),
-        };
+        return begun.reached(limit).solved(floor, limit);
     };
     let root = Node {
         at: 0,
@@ -201,6 +225,5 @@ pub fn solve(t: &[u32], w: &mut [u32], limit: u64) -> Solved
         spent: 0,
         mask: 0,
     };
-    let state = walk(t, w, limit, root, false, x, begun.counted());
-    Solved { floor, state }
+    walk(t, w, limit, root, false, x, begun.counted()).solved(floor, limit)
 }

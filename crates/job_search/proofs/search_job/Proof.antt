@@ -1,5 +1,6 @@
 -- `search_job`: the arrays hold the job, so what the search answers for every job that they hold it answers for this one.
 use mathlib.Core.Path.{_≡_, sym}
+use native.Mathlib.Omega.{arith}
 use borrow.Author.Needs.{needs}
 use lib.ListN.{length, take}
 use mir.Syntax.{w32}
@@ -83,7 +84,7 @@ slice-aggregate-search-5 : tie.Need-slice-aggregate-search-5
 slice-aggregate-search-5 c = search needs
 
 search-requires : tie.Need-search-requires
-search-requires c κs = let b = c .before .before .before .before .before .before in (jobOf (s b .args .job), holds b)
+search-requires c κs = let b = c .before .before .before .before .before .before in ((jobOf (s b .args .job), holds b), omega (arith, s b .fits .limit))
 
 returns : tie.Need-returns
 returns c = let b = c .before .before .before .before .before .before .before in c .search .ensures (jobOf (s b .args .job)) (holds b)

@@ -19,7 +19,7 @@ walked-requires : tie.Need-walked-requires
 walked-requires c κs =
     let b = c .before .before .before .before .before in
     let a = b .args in
-    (subst (λ (x : ℤ). Arrays x (a .positions .now) (a .fees .now) (a .lives .now) (a .lefts .now) (a .prices .now)) (sym (toZ-ofZ (b .fits .end))) (b .pre .1 .arrays), search needs)
+    (subst (λ (x : ℤ). Arrays x (a .positions .now) (a .fees .now) (a .lives .now) (a .lefts .now) (a .prices .now)) (sym (toZ-ofZ (b .fits .end))) (b .pre .0 .1 .arrays), search needs, b .pre .1)
 
 stops-of-requires : tie.Need-stops-of-requires
 stops-of-requires c κs = search needs
@@ -28,32 +28,32 @@ array-share-prefix-stops : tie.Need-array-share-prefix-stops
 array-share-prefix-stops c = search needs
 
 slice-aggregate-changes : tie.Need-slice-aggregate-changes
-slice-aggregate-changes c = sym (stops-length (length (c .before .before .before .before .before .before .before .before .before .before .args .positions .now)) _ (c .before .stops-of .result) (c .before .stops-of .ensures))
+slice-aggregate-changes c = sym (stops-length (length (c .before .before .before .before .before .before .before .before .before .args .positions .now)) _ (c .before .stops-of .result) (c .before .stops-of .ensures))
 
 slice-aggregate-changes-2 : tie.Need-slice-aggregate-changes-2
 slice-aggregate-changes-2 c = search needs
 
 changes-requires : tie.Need-changes-requires
 changes-requires c κs =
-    let b = c .before .before .before .before .before .before .before .before .before .before .before in
+    let b = c .before .before .before .before .before .before .before .before .before .before in
     let a = b .args in
-    let r = b .pre .1 .arrays in (
+    let r = b .pre .0 .1 .arrays in (
       subst (λ (x : ℤ). Arrays x (a .positions .now) (a .fees .now) (a .lives .now) (a .lefts .now) (a .prices .now)) (sym (toZ-ofZ (b .fits .end))) r,
-      omega (arith, c .before .before .before .before .before .walked .kept .1 .1 .1 .1 .1 .1 .1 .0),
+      omega (arith, c .before .before .before .before .walked .kept .1 .1 .1 .1 .1 .1 .1 .0),
       stops-length (length (a .positions .now)) _ (c .before .before .stops-of .result) (c .before .before .stops-of .ensures),
     )
 
 returns : tie.Need-returns
 returns c =
     λ job h.
-    let b = c .before .before .before .before .before .before .before .before .before .before .before .before .before in
+    let b = c .before .before .before .before .before .before .before .before .before .before .before .before in
     let a = b .args in
     let n = length (a .positions .now) in
     let e = toZ-ofZ (b .fits .end) in
-    let s = c .before .before .before .before .before .before .before .walked .result in
+    let s = c .before .before .before .before .before .before .walked .result in
     let t = c .before .before .before .before .stops-of .result in
     answers job (a .end) (a .positions .now) (a .fees .now) (a .lives .now) (a .lefts .now) (a .prices .now) h (a .limit) s
-    (subst (λ (x : ℤ). Solves (sheetOf x (a .positions .now) (a .fees .now) (a .lives .now) (a .lefts .now) (a .prices .now)) (a .limit) s) e (c .before .before .before .before .before .before .before .walked .ensures))
+    (subst (λ (x : ℤ). Solves (sheetOf x (a .positions .now) (a .fees .now) (a .lives .now) (a .lefts .now) (a .prices .now)) (a .limit) s) e (c .before .before .before .before .before .before .walked .ensures))
     t (c .before .before .before .before .stops-of .ensures) (c .before .changes .result)
     (subst (λ (x : ℤ). Chooses x (a .positions .now) (a .lives .now) (a .lefts .now) (a .prices .now) (take n t) (c .before .changes .result) (length (a .lives .now))) e (c .before .changes .ensures))
 

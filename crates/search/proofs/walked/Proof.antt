@@ -18,12 +18,6 @@ fill-requires c κs =
     let a = b .args in
     (subst (λ (x : ℤ). Arrays x (a .positions .now) (a .fees .now) (a .lives .now) (a .lefts .now) (a .prices .now)) (sym (toZ-ofZ (b .fits .end))) (b .pre .0), b .pre .1, search needs)
 
-slice-aggregate-solve : tie.Need-slice-aggregate-solve
-slice-aggregate-solve c = search needs
-
-slice-aggregate-solve-2 : tie.Need-slice-aggregate-solve-2
-slice-aggregate-solve-2 c = search needs
-
 solve-requires : tie.Need-solve-requires
 solve-requires c κs = search needs
 
@@ -32,10 +26,10 @@ same-length c = search needs
 
 returns : tie.Need-returns
 returns c =
-    let b = c .before .before .before .before .before .before .before .before .before .before .before .before .before .before .before in
+    let b = c .before .before .before .before .before .before .before .before .before .before .before .before .before .before in
     let a = b .args in
     let sheet = sheetOf (toZ w32 (ofZ w32 (a .end))) (a .positions .now) (a .fees .now) (a .lives .now) (a .lefts .now) (a .prices .now) in
-    rw (toZ-ofZ (b .fits .end)) at (c .before .solve .ensures sheet (c .before .before .before .before .before .before .before .fill .ensures))
+    rw (toZ-ofZ (b .fits .end)) at (c .solve .ensures sheet (c .before .before .before .before .before .before .fill .ensures))
 
 pub walked-spec : {M : Type 1} → statement M
 walked-spec =
@@ -43,8 +37,6 @@ walked-spec =
     (tie.spec
     slice-aggregate-fill
     fill-requires
-    slice-aggregate-solve
-    slice-aggregate-solve-2
     solve-requires
     same-length
     returns)

@@ -9,7 +9,6 @@ use borrow.Author.Needs.{needs}
 use borrow.Fn.Kinds.{In}
 use borrow.Fn.PlainCycle.{Measures, is, falls, and}
 use lib.ListN.{length}
-use Rattle.branch.specs.Search.{counted}
 use Rattle.branch.specs.Label.{limitedFrom, openFrom}
 use Rattle.branch.specs.declared.Bound.{Bound}
 use Rattle.branch.specs.declared.Bound.the-variants.{Sum}
@@ -19,9 +18,9 @@ use Rattle.walk.specs.declared.Node.{Node}
 use Rattle.lane_rows.specs.Layout.{suffixBase, lanesIn}
 use Rattle.lane_rows.specs.Sheet.{Sheet, sheetBound}
 use Rattle.lane_rows.specs.Rows.{Kept, Rows, Stack}
-use Rattle.walk.specs.State.{decided, view, noN, At}
+use Rattle.walk.specs.State.{decided, view, noN, yesN, At}
 use Rattle.lane_rows.proofs.Lanes.{kept-refl, kept-then}
-use Rattle.walk.proofs.Nodes.{bound-some, owing, settled, sums-asks, at-no, at-yes, mask-fits, full-walked, both-walked, Opened, closed-walked, open-walked}
+use Rattle.walk.proofs.Nodes.{bound-some, owing, settled, sums-asks, at-no, at-yes, mask-fits, fits, full-walked, both-walked, Opened, closed-walked, open-walked}
 use Rattle.walk.proofs.+walk.{statement}
 use Rattle.walk.proofs.+walk.Tie.{close}
 use Rattle.walk.proofs.Node.no.Reads as no-reads
@@ -91,51 +90,56 @@ abbrev First : ℕ → Type 0
 First t = walk-lts.At-match-came (claims t) (walk-at t) walk.Post
 
 abbrev begun : (t : ℕ) → Undecided t → Begun t
-begun t c = c .before .before .before .before .before
+begun t c = c .before .before .before .before
 
 abbrev undecided : (t : ℕ) → Placed t → Undecided t
-undecided t c = c .before .before
+undecided t c = c .before .before .before
 
 abbrev placed : (t : ℕ) → Tested t → Placed t
-placed t c = c .before .before .before .before .before .before .before .before .before
+placed t c = c .before .before .before .before .before .before .before .before .before .before
 
 abbrev start : (t : ℕ) → Tested t → Begun t
 start t c = begun t (undecided t (placed t c))
 
 -- the sheet that is asked for, and what is given of it
 abbrev sheet-of : (t : ℕ) → Begun t → Sheet
-sheet-of t c = c .pre .1 .0
+sheet-of t c = c .pre .1 .0 .0
 
 abbrev Given : (t : ℕ) → Begun t → Sheet → Type 0
 Given t c sheet = let a = c .args in At sheet (a .t .now) (a .w .now) (a .p) (a .stop) (Sum (a .x))
 
 abbrev given : (t : ℕ) (c : Begun t) → Given t c (sheet-of t c)
-given t c = c .pre .1 .1
+given t c = c .pre .1 .0 .1
+
+-- one node more than the limit can be counted
+limits : (t : ℕ) (c : Begun t) → c .args .limit + 1 < 2 ^ 64
+limits t c = c .pre .1 .1
 
 walk-cell-requires : (t : ℕ) → walk-lts.Need-cell-requires (claims t) (walk-at t) walk.Post
-walk-cell-requires t c κs = let h = given t (c .before .before) in (omega (arith, h .tables .size), h .tables .size)
+walk-cell-requires t c κs = let h = given t (c .before) in (omega (arith, h .tables .size), h .tables .size)
 
 walk-add-kept : (t : ℕ) → walk-lts.Need-add-kept (claims t) (walk-at t) walk.Post
 walk-add-kept t c =
-    let h = given t (c .before .before .before .before .before .before) in
-    omega (arith, h .low (c .before .before .before .before .before .before .args .x) refl, h .poor, h .inside, h .tables .few)
+    let b = c .before .before .before .before .before in
+    let a = b .args in
+    omega (arith, fits (sheet-of t b) (a .t .now) (a .w .now) (a .p) (a .stop) (Sum (a .x)) (given t b) (a .x) refl)
 
 walk-kept-requires : (t : ℕ) → walk-lts.Need-kept-requires (claims t) (walk-at t) walk.Post
 walk-kept-requires t c κs = search needs
 
 walk-returns : (t : ℕ) → walk-lts.Need-returns (claims t) (walk-at t) walk.Post
 walk-returns t c =
-    let a = c .before .before .before .before .before .before .before .args in (
+    let a = c .before .before .before .before .before .before .args in (
       λ sheet h.
           let n = length (sheet .positions) in
-          ap (view n) (c .kept .ensures)
-          ∙ full-walked (sheetBound sheet) (a .limit) n (a .p .spent + a .x) (a .p) (a .s) (bound-some sheet (a .t .now) (a .w .now) (a .p) (a .stop) (Sum (a .x)) h (a .x) refl) (c .before .before .if1 .taken ∙ c .before .before .before .before .cell .ensures ∙ h .tables .count),
+          ap (view (a .limit) n) (c .kept .ensures)
+          ∙ full-walked (sheetBound sheet) (a .limit) n (a .p .spent + a .x) (a .p) (a .s) (bound-some sheet (a .t .now) (a .w .now) (a .p) (a .stop) (Sum (a .x)) h (a .x) refl) (fits sheet (a .t .now) (a .w .now) (a .p) (a .stop) (Sum (a .x)) h (a .x) refl) (c .before .before .if1 .taken ∙ c .before .before .before .before .cell .ensures ∙ h .tables .count),
       kept-refl (a .w .now) (a .p .rows),
     )
 
 walk-settle-requires : (t : ℕ) → walk-lts.Need-settle-requires (claims t) (walk-at t) walk.Post
 walk-settle-requires t c κs =
-    let b = begun t (c .before) in
+    let b = begun t (c .before .before) in
     let a = b .args in
     owing (sheet-of t b) (a .t .now) (a .w .now) (a .p) (a .stop) (Sum (a .x)) (given t b)
 
@@ -156,20 +160,20 @@ near : (t : ℕ) (c : Undecided t) → begun t c .args .p .at < 64
 near t c = let h = given t (begun t c) in omega (arith, under t c (sheet-of t (begun t c)) h, h .tables .few)
 
 walk-add-cell : (t : ℕ) → walk-lts.Need-add-cell (claims t) (walk-at t) walk.Post
-walk-add-cell t c = omega (arith, near t (undecided t (c .before .before .before .before)))
+walk-add-cell t c = omega (arith, near t (undecided t (c .before .before .before .before .before)))
 
 walk-cell-requires-2 : (t : ℕ) → walk-lts.Need-cell-requires-2 (claims t) (walk-at t) walk.Post
 walk-cell-requires-2 t c κs =
-    let u = undecided t (c .before .before .before .before) in
+    let u = undecided t (c .before .before .before .before .before) in
     let size = given t (begun t u) .tables .size in
     (omega (arith, near t u, size), size)
 
 walk-add-lane-sum : (t : ℕ) → walk-lts.Need-add-lane-sum (claims t) (walk-at t) walk.Post
-walk-add-lane-sum t c = omega (arith, near t (undecided t (c .before .before .before .before .before .before)))
+walk-add-lane-sum t c = omega (arith, near t (undecided t (c .before .before .before .before .before .before .before)))
 
 walk-lane-sum-requires : (t : ℕ) → walk-lts.Need-lane-sum-requires (claims t) (walk-at t) walk.Post
 walk-lane-sum-requires t c κs =
-    let o = c .before .before .before .before .before .before in
+    let o = c .before .before .before .before .before .before .before in
     let b = begun t (undecided t o) in
     let a = b .args in
     let sheet = sheet-of t b in
@@ -182,24 +186,20 @@ walk-value-requires t c κs = search needs
 
 -- the no child
 no-given : (t : ℕ) (c : walk-lts.After-value (claims t) (walk-at t) walk.Post) (sheet : Sheet)
-    → let o = c .before .before .before .before .before .before .before .before in
+    → let o = c .before .before .before .before .before .before .before .before .before in
     let b = begun t (undecided t o) in
     Given t b sheet → At sheet (b .args .t .now) (o .settle .last .1 .0) (noN (b .args .p) (o .settle .result)) false (c .value .result)
 no-given t c sheet h =
-    let o = c .before .before .before .before .before .before .before .before in
+    let o = c .before .before .before .before .before .before .before .before .before in
     let a = begun t (undecided t o) .args in
     at-no sheet (a .t .now) (a .w .now) (o .settle .last .1 .0) (a .p) (a .stop) (Sum (a .x)) (o .settle .result) (a .x) h refl (stands t o sheet h .0) (under t (undecided t o) sheet h)
     (c .value .result) (c .value .ensures ∙ ap valueOf (c .before .lane-sum .ensures))
 
--- a node's fees and part sums fit
-fits : (sheet : Sheet) (t w : List ℕ) (p : Node) (stop : Bool) (e : Bound) → At sheet t w p stop e → (x : ℕ) → e ≡ Sum x → p .spent + x < 2 ^ 64
-fits sheet t w p stop e h x f = omega (arith, h .low x f, h .poor, h .inside, h .tables .few)
-
 walk-open-requires : (t : ℕ) → walk-lts.Need-open-requires (claims t) (walk-at t) walk.Post
 walk-open-requires t c κs =
-    let o = c .before .before .before .before .before .before .before .before in
+    let o = c .before .before .before .before .before .before .before .before .before in
     let b = begun t (undecided t o) in
-    fits (sheet-of t b) (b .args .t .now) (o .settle .last .1 .0) (noN (b .args .p) (o .settle .result)) false (c .value .result) (no-given t c (sheet-of t b) (given t b))
+    λ x f. omega (arith, fits (sheet-of t b) (b .args .t .now) (o .settle .last .1 .0) (noN (b .args .p) (o .settle .result)) false (c .value .result) (no-given t c (sheet-of t b) (given t b)) x f)
 
 walk-enum-known-y : (t : ℕ) → walk-lts.Need-enum-known-y (claims t) (walk-at t) walk.Post
 walk-enum-known-y t c = search needs
@@ -244,20 +244,20 @@ walk-walk-requires : (t : ℕ) → walk-lts.Need-walk-requires (claims t) (walk-
 walk-walk-requires t c κs =
     let b = start t (c .before .before .before .before .before .before) in
     let z : c .before .no .result .at ≡ b .args .p .at + 1 = ap (λ (q : Node). q .at) (c .before .no .ensures) in
-    (omega (arith, b .pre .0, z, near t (undecided t (placed t (c .before .before .before .before .before .before)))), (sheet-of t b, no-child t (c .before) (sheet-of t b) (given t b)))
+    (omega (arith, b .pre .0, z, near t (undecided t (placed t (c .before .before .before .before .before .before)))), ((sheet-of t b, no-child t (c .before) (sheet-of t b) (given t b)), limits t b))
 
 -- what the first call does
 walked-on : (t : ℕ) (c : walk-lts.After-walk (claims t) (walk-at t) walk.Post) (sheet : Sheet)
     → Given t (start t (c .before .before .before .before .before .before .before)) sheet
     → let n = length (sheet .positions) in
     let a = start t (c .before .before .before .before .before .before .before) .args in
-    view n (c .walk .result) ≡ limitedFrom (sheetBound sheet) (a .limit) (n - (a .p .at + 1)) (decided (noN (a .p) (placed t (c .before .before .before .before .before .before .before) .settle .result))) (view n (a .s))
+    view (a .limit) n (c .walk .result) ≡ limitedFrom (sheetBound sheet) (a .limit) (n - (a .p .at + 1)) (decided (noN (a .p) (placed t (c .before .before .before .before .before .before .before) .settle .result))) (view (a .limit) n (a .s))
 walked-on t c sheet h =
     let n = length (sheet .positions) in
     let a = start t (c .before .before .before .before .before .before .before) .args in
     c .walk .ensures .0 sheet (no-child t (c .before .before) sheet h)
-    ∙ ap (λ (q : Node). openFrom (sheetBound sheet) (a .limit) (n - q .at) (decided q) (view n (c .before .counted .result))) (c .before .before .no .ensures)
-    ∙ ap (λ (k : Search). openFrom (sheetBound sheet) (a .limit) (n - (a .p .at + 1)) (decided (noN (a .p) (placed t (c .before .before .before .before .before .before .before) .settle .result))) (view n k)) (c .before .counted .ensures)
+    ∙ ap (λ (q : Node). openFrom (sheetBound sheet) (a .limit) (n - q .at) (decided q) (view (a .limit) n (c .before .counted .result))) (c .before .before .no .ensures)
+    ∙ ap (λ (k : Search). openFrom (sheetBound sheet) (a .limit) (n - (a .p .at + 1)) (decided (noN (a .p) (placed t (c .before .before .before .before .before .before .before) .settle .result))) (view (a .limit) n k)) (c .before .counted .ensures)
     ∙ opened t (c .before .before .before .before .before) sheet h .on
 
 walked-keeps : (t : ℕ) (c : walk-lts.After-walk (claims t) (walk-at t) walk.Post) → let o = placed t (c .before .before .before .before .before .before .before) in Kept (o .settle .last .1 .0) (c .walk .last .1 .0) (o .settle .result)
@@ -270,12 +270,12 @@ passed-by : (t : ℕ) (c : walk-lts.After-reached (claims t) (walk-at t) walk.Po
     → Given t (start t (c .before .before .before)) sheet
     → let n = length (sheet .positions) in
     let a = start t (c .before .before .before) .args in
-    view n (c .reached .result) ≡ limitedFrom (sheetBound sheet) (a .limit) (n - (a .p .at + 1)) (decided (noN (a .p) (placed t (c .before .before .before) .settle .result))) (view n (a .s))
+    view (a .limit) n (c .reached .result) ≡ limitedFrom (sheetBound sheet) (a .limit) (n - (a .p .at + 1)) (decided (noN (a .p) (placed t (c .before .before .before) .settle .result))) (view (a .limit) n (a .s))
 passed-by t c sheet h =
     let o = placed t (c .before .before .before) in
     let a = start t (c .before .before .before) .args in
     let n = length (sheet .positions) in
-    ap (view n) (c .reached .ensures)
+    ap (view (a .limit) n) (c .reached .ensures)
     ∙ closed-walked sheet (a .t .now) (o .settle .last .1 .0) (noN (a .p) (o .settle .result)) false (c .before .before .before .before .value .result) (no-given t (c .before .before .before .before) sheet h) (a .limit) n (n - (a .p .at + 1)) (a .s)
     (sym (c .before .before .before .open .ensures) ∙ c .before .enum-told .given .1)
 
@@ -284,19 +284,20 @@ first-walked : (t : ℕ) (c : First t) (sheet : Sheet)
     → Given t (start t (c .before)) sheet
     → let n = length (sheet .positions) in
     let a = start t (c .before) .args in
-    view n (c .match .a) ≡ limitedFrom (sheetBound sheet) (a .limit) (n - (a .p .at + 1)) (decided (noN (a .p) (placed t (c .before) .settle .result))) (view n (a .s))
+    view (a .limit) n (c .match .a) ≡ limitedFrom (sheetBound sheet) (a .limit) (n - (a .p .at + 1)) (decided (noN (a .p) (placed t (c .before) .settle .result))) (view (a .limit) n (a .s))
 first-walked t c sheet h =
     let n = length (sheet .positions) in
+    let a = start t (c .before) .args in
     ⊎-elim
-    (λ v. ap (view n) (v .10) ∙ walked-on t (record { before = record { before = record { before = record { before = record { before = record { before = record { before = c .before; match = v .0 }; y = v .1 }; known-told = v .2 }; walk-arg = v .3 }; no = v .4 }; counted = v .5 }; walk = v .6 }) sheet h)
-    (λ v. ap (view n) (v .4) ∙ passed-by t (record { before = record { before = record { before = c .before; match = v .0 }; enum-told = v .1 }; reached = v .2 }) sheet h)
+    (λ v. ap (view (a .limit) n) (v .8) ∙ walked-on t (record { before = record { before = record { before = record { before = record { before = record { before = record { before = c .before; match = v .0 }; y = v .1 }; known-told = v .2 }; walk-arg = v .3 }; no = v .4 }; counted = v .5 }; walk = v .6 }) sheet h)
+    (λ v. ap (view (a .limit) n) (v .4) ∙ passed-by t (record { before = record { before = record { before = c .before; match = v .0 }; enum-told = v .1 }; reached = v .2 }) sheet h)
     (c .match .came)
 
 first-keeps : (t : ℕ) (c : First t) → let o = placed t (c .before) in Kept (o .settle .last .1 .0) (c .match .w) (o .settle .result)
 first-keeps t c =
     let o = placed t (c .before) in
     ⊎-elim
-    (λ v. subst (λ (l : List ℕ). Kept (o .settle .last .1 .0) l (o .settle .result)) (sym (v .9)) (walked-keeps t (record { before = record { before = record { before = record { before = record { before = record { before = record { before = c .before; match = v .0 }; y = v .1 }; known-told = v .2 }; walk-arg = v .3 }; no = v .4 }; counted = v .5 }; walk = v .6 })))
+    (λ v. subst (λ (l : List ℕ). Kept (o .settle .last .1 .0) l (o .settle .result)) (sym (v .7)) (walked-keeps t (record { before = record { before = record { before = record { before = record { before = record { before = record { before = c .before; match = v .0 }; y = v .1 }; known-told = v .2 }; walk-arg = v .3 }; no = v .4 }; counted = v .5 }; walk = v .6 })))
     (λ v. subst (λ (l : List ℕ). Kept (o .settle .last .1 .0) l (o .settle .result)) (sym (v .3)) (kept-refl (o .settle .last .1 .0) (o .settle .result)))
     (c .match .came)
 
@@ -312,40 +313,54 @@ walk-enum-told : (t : ℕ) → walk-lts.Need-enum-told (claims t) (walk-at t) wa
 walk-enum-told t c = search needs
 
 walk-reached-requires : (t : ℕ) → walk-lts.Need-reached-requires (claims t) (walk-at t) walk.Post
-walk-reached-requires t c κs = search needs
+walk-reached-requires t c κs = limits t (start t (c .before .before))
 
 walk-cell-requires-3 : (t : ℕ) → walk-lts.Need-cell-requires-3 (claims t) (walk-at t) walk.Post
 walk-cell-requires-3 t c κs =
-    let u = undecided t (placed t (c .before)) in
+    let u = undecided t (placed t (c .before .before)) in
     let size = given t (begun t u) .tables .size in
     (omega (arith, near t u, size), size)
 
-walk-yes-requires : (t : ℕ) → walk-lts.Need-yes-requires (claims t) (walk-at t) walk.Post
-walk-yes-requires t c κs =
-    let u = undecided t (placed t (c .before .before)) in
-    let h = given t (begun t u) in
-    let p = begun t u .args .p in (
-      near t u,
-      mask-fits (p .at) (p .mask) (h .mask) (near t u),
-      omega (arith, h .poor, near t u, c .cell3 .ensures, h .tables .fees (p .at) (under t u (sheet-of t (begun t u)) h), h .tables .fair (p .at)),
-    )
+-- ---- the second branch. `Paid`: its fee is read
 
--- the yes child
-yes-given : (t : ℕ) (c : walk-lts.After-yes (claims t) (walk-at t) walk.Post) (sheet : Sheet)
-    → Given t (start t (c .before .before .before)) sheet
-    → let a = start t (c .before .before .before) .args in
-    At sheet (a .t .now) (c .before .before .match .w) (c .yes .result) true (Sum (a .x))
+abbrev Paid : ℕ → Type 0
+Paid t = walk-lts.After-struct-known5 (claims t) (walk-at t) walk.Post
+
+abbrev first : (t : ℕ) → Paid t → First t
+first t c = c .before .before .before
+
+-- its node
+abbrev yes-node : (t : ℕ) → Paid t → Node
+yes-node t c = yesN (start t (first t c .before) .args .p) (placed t (first t c .before) .settle .result) (c .before .cell3 .result)
+
+-- its fees fit
+paid : (t : ℕ) (c : Paid t) → yes-node t c .spent < 2 ^ 64
+paid t c =
+    let u = undecided t (placed t (first t c .before)) in
+    let h = given t (begun t u) in
+    let p = begun t u .args .p in
+    omega (arith, h .poor, near t u, c .before .cell3 .ensures, h .tables .fees (p .at) (under t u (sheet-of t (begun t u)) h), h .tables .fair (p .at))
+
+walk-add-open : (t : ℕ) → walk-lts.Need-add-open (claims t) (walk-at t) walk.Post
+walk-add-open t c = omega (arith, paid t c)
+
+-- what is given of it
+yes-given : (t : ℕ) (c : Paid t) (sheet : Sheet)
+    → Given t (start t (first t c .before)) sheet
+    → let a = start t (first t c .before) .args in
+    At sheet (a .t .now) (first t c .match .w) (yes-node t c) true (Sum (a .x))
 yes-given t c sheet h =
-    let o = placed t (c .before .before .before) in
-    let a = start t (c .before .before .before) .args in
-    subst (λ (q : Node). At sheet (a .t .now) (c .before .before .match .w) q true (Sum (a .x))) (sym (c .yes .ensures))
-    (at-yes sheet (a .t .now) (a .w .now) (o .settle .last .1 .0) (a .p) (a .stop) (Sum (a .x)) (o .settle .result) (a .x) h refl (stands t o sheet h .0) (under t (undecided t o) sheet h)
-    (c .before .before .match .w) (c .before .cell3 .result) (first-keeps t (c .before .before)) (c .before .cell3 .ensures))
+    let f = first t c in
+    let o = placed t (f .before) in
+    let a = start t (f .before) .args in
+    at-yes sheet (a .t .now) (a .w .now) (o .settle .last .1 .0) (a .p) (a .stop) (Sum (a .x)) (o .settle .result) (a .x) h refl (stands t o sheet h .0) (under t (undecided t o) sheet h)
+    (f .match .w) (c .before .cell3 .result) (first-keeps t f) (c .before .cell3 .ensures)
 
 walk-open-requires-2 : (t : ℕ) → walk-lts.Need-open-requires-2 (claims t) (walk-at t) walk.Post
 walk-open-requires-2 t c κs =
-    let b = start t (c .before .before .before) in
-    fits (sheet-of t b) (b .args .t .now) (c .before .before .match .w) (c .yes .result) true (Sum (b .args .x)) (yes-given t c (sheet-of t b) (given t b))
+    let f = first t c in
+    let b = start t (f .before) in
+    λ x e. omega (arith, fits (sheet-of t b) (b .args .t .now) (f .match .w) (yes-node t c) true (Sum (b .args .x)) (yes-given t c (sheet-of t b) (given t b)) x e)
 
 walk-enum-known-y-2 : (t : ℕ) → walk-lts.Need-enum-known-y-2 (claims t) (walk-at t) walk.Post
 walk-enum-known-y-2 t c = search needs
@@ -354,92 +369,110 @@ walk-enum-told-2 : (t : ℕ) → walk-lts.Need-enum-told-2 (claims t) (walk-at t
 walk-enum-told-2 t c = search needs
 
 walk-reached-requires-2 : (t : ℕ) → walk-lts.Need-reached-requires-2 (claims t) (walk-at t) walk.Post
-walk-reached-requires-2 t c κs = search needs
+walk-reached-requires-2 t c κs = limits t (start t (first t (c .before .before .before) .before))
 
-walk-same-length : (t : ℕ) → walk-lts.Need-same-length (claims t) (walk-at t) walk.Post
-walk-same-length t c = all-kept t (c .before .before .before .before .before .before) .size
+-- both branches, from what is walked of the second
+both : (t : ℕ) (c : Paid t) (sheet : Sheet) (r : Search)
+    → Given t (start t (first t c .before)) sheet
+    → let a = start t (first t c .before) .args in
+    let n = length (sheet .positions) in
+    view (a .limit) n r ≡ limitedFrom (sheetBound sheet) (a .limit) (n - (a .p .at + 1)) (decided (yes-node t c)) (view (a .limit) n (first t c .match .a))
+    → view (a .limit) n r ≡ openFrom (sheetBound sheet) (a .limit) (n - a .p .at) (decided (a .p)) (view (a .limit) n (a .s))
+both t c sheet r h e =
+    let f = first t c in
+    let o = placed t (f .before) in
+    let a = start t (f .before) .args in
+    let n = length (sheet .positions) in
+    both-walked (sheetBound sheet) (a .limit) n (a .p) (o .settle .result) (c .before .cell3 .result) (view (a .limit) n (a .s)) (view (a .limit) n (f .match .a)) (view (a .limit) n r)
+    (under t (undecided t o) sheet h) (first-walked t f sheet h) e
 
 walk-returns-2 : (t : ℕ) → walk-lts.Need-returns-2 (claims t) (walk-at t) walk.Post
 walk-returns-2 t c =
     let y = c .before .before .before .before in
-    let a = start t (y .before .before .before) .args in (
+    let f = first t y in
+    let a = start t (f .before) .args in (
       λ sheet h.
           let n = length (sheet .positions) in
-          both-walked (sheetBound sheet) (a .limit) n (a .p) (placed t (y .before .before .before) .settle .result) (y .before .cell3 .result) (view n (a .s)) (view n (y .before .before .match .a)) (view n (c .reached2 .result))
-          (under t (undecided t (placed t (y .before .before .before))) sheet h)
-          (first-walked t (y .before .before) sheet h)
-          (ap (view n) (c .reached2 .ensures)
-          ∙ closed-walked sheet (a .t .now) (y .before .before .match .w) (y .yes .result) true (Sum (a .x)) (yes-given t y sheet h) (a .limit) n (n - (a .p .at + 1)) (y .before .before .match .a) (sym (c .before .before .before .open2 .ensures) ∙ c .before .enum-told2 .given .1)
-          ∙ ap (λ (q : Node). limitedFrom (sheetBound sheet) (a .limit) (n - (a .p .at + 1)) (decided q) (view n (y .before .before .match .a))) (y .yes .ensures)),
-      all-kept t (y .before .before),
+          both t y sheet (c .reached2 .result) h
+          (ap (view (a .limit) n) (c .reached2 .ensures)
+          ∙ closed-walked sheet (a .t .now) (f .match .w) (yes-node t y) true (Sum (a .x)) (yes-given t y sheet h) (a .limit) n (n - (a .p .at + 1)) (f .match .a) (sym (c .before .before .before .open2 .ensures) ∙ c .before .enum-told2 .given .1)),
+      all-kept t f,
     )
 
--- the yes child is walked on, with the part sums y
+-- it is walked on, with the part sums y
 yes-opened : (t : ℕ) (c : walk-lts.After-y2 (claims t) (walk-at t) walk.Post) (sheet : Sheet)
     → let q = c .before .before .before in
-    let a = start t (q .before .before .before) .args in
+    let f = first t q in
+    let a = start t (f .before) .args in
     let n = length (sheet .positions) in
-    (h : Given t (start t (q .before .before .before)) sheet)
-    → Opened sheet (a .t .now) (q .before .before .match .w) (q .yes .result) true (Sum (a .x)) (yes-given t q sheet h) (a .limit) n (n - (a .p .at + 1)) (q .before .before .match .a) (c .y2 .given .0 .0)
+    (h : Given t (start t (f .before)) sheet)
+    → Opened sheet (a .t .now) (f .match .w) (yes-node t q) true (Sum (a .x)) (yes-given t q sheet h) (a .limit) n (n - (a .p .at + 1)) (f .match .a) (c .y2 .given .0 .0)
 yes-opened t c sheet h =
     let q = c .before .before .before in
-    let a = start t (q .before .before .before) .args in
+    let f = first t q in
+    let a = start t (f .before) .args in
     let n = length (sheet .positions) in
-    open-walked sheet (a .t .now) (q .before .before .match .w) (q .yes .result) true (Sum (a .x)) (yes-given t q sheet h) (a .limit) n (n - (a .p .at + 1)) (q .before .before .match .a) (c .y2 .given .0 .0)
+    open-walked sheet (a .t .now) (f .match .w) (yes-node t q) true (Sum (a .x)) (yes-given t q sheet h) (a .limit) n (n - (a .p .at + 1)) (f .match .a) (c .y2 .given .0 .0)
     (sym (c .before .before .open2 .ensures) ∙ c .y2 .given .1)
+
+walk-yes-requires : (t : ℕ) → walk-lts.Need-yes-requires (claims t) (walk-at t) walk.Post
+walk-yes-requires t c κs =
+    let q = c .before .before .before .before .before in
+    let u = undecided t (placed t (first t q .before)) in
+    let p = begun t u .args .p in
+    (near t u, mask-fits (p .at) (p .mask) (given t (begun t u) .mask) (near t u), paid t q)
+
+-- where the call's node is made
+abbrev Second : ℕ → Type 0
+Second t = walk-lts.After-yes (claims t) (walk-at t) walk.Post
+
+abbrev from : (t : ℕ) → Second t → Paid t
+from t c = c .before .before .before .before .before .before
 
 walk-counted-requires-2 : (t : ℕ) → walk-lts.Need-counted-requires-2 (claims t) (walk-at t) walk.Post
 walk-counted-requires-2 t c κs =
-    let b = start t (c .before .before .before .before .before .before .before .before) in
-    omega (arith, yes-opened t (c .before .before) (sheet-of t b) (given t b) .within, b .fits .limit)
+    let b = start t (first t (from t c) .before) in
+    omega (arith, yes-opened t (c .before .before .before) (sheet-of t b) (given t b) .within, b .fits .limit)
 
 -- so it is what the call is given
-yes-child : (t : ℕ) (c : walk-lts.After-y2 (claims t) (walk-at t) walk.Post) (sheet : Sheet)
-    → let q = c .before .before .before in
-    let a = start t (q .before .before .before) .args in
-    Given t (start t (q .before .before .before)) sheet → At sheet (a .t .now) (q .before .before .match .w) (q .yes .result) true (Sum (c .y2 .given .0 .0))
+yes-child : (t : ℕ) (c : Second t) (sheet : Sheet)
+    → let f = first t (from t c) in
+    let a = start t (f .before) .args in
+    Given t (start t (f .before)) sheet → At sheet (a .t .now) (f .match .w) (c .yes .result) true (Sum (c .before .before .before .y2 .given .0 .0))
 yes-child t c sheet h =
-    let q = c .before .before .before in
-    let a = start t (q .before .before .before) .args in
-    subst (At sheet (a .t .now) (q .before .before .match .w) (q .yes .result) true) (yes-opened t c sheet h .sums) (yes-given t q sheet h)
+    let q = from t c in
+    let f = first t q in
+    let a = start t (f .before) .args in
+    subst (λ (p : Node). At sheet (a .t .now) (f .match .w) p true (Sum (c .before .before .before .y2 .given .0 .0))) (sym (c .yes .ensures))
+    (subst (At sheet (a .t .now) (f .match .w) (yes-node t q) true) (yes-opened t (c .before .before .before) sheet h .sums) (yes-given t q sheet h))
 
 walk-walk-requires-2 : (t : ℕ) → walk-lts.Need-walk-requires-2 (claims t) (walk-at t) walk.Post
 walk-walk-requires-2 t c κs =
-    let b = start t (c .before .before .before .before .before .before .before .before .before) in
-    let z : c .before .before .before .before .before .before .yes .result .at ≡ b .args .p .at + 1 = ap (λ (q : Node). q .at) (c .before .before .before .before .before .before .yes .ensures) in
-    (omega (arith, b .pre .0, z, near t (undecided t (placed t (c .before .before .before .before .before .before .before .before .before)))), (sheet-of t b, yes-child t (c .before .before .before) (sheet-of t b) (given t b)))
-
--- the rows that all of it kept
-both-kept : (t : ℕ) (c : walk-lts.After-walk2 (claims t) (walk-at t) walk.Post) → let a = start t (c .before .before .before .before .before .before .before .before .before .before) .args in Kept (a .w .now) (c .walk2 .last .1 .0) (a .p .rows)
-both-kept t c =
-    let b = start t (c .before .before .before .before .before .before .before .before .before .before) in
-    let o = placed t (c .before .before .before .before .before .before .before .before .before .before) in
-    let f = c .before .before .before .before .before .before .before .before .before in
-    let r = stands t o (sheet-of t b) (given t b) in
-    let k = subst (λ (q : Node). Kept (f .match .w) (c .walk2 .last .1 .0) (q .rows)) (c .before .before .before .before .before .before .before .yes .ensures) (c .walk2 .ensures .1) in
-    kept-then (b .args .w .now) (o .settle .last .1 .0) (c .walk2 .last .1 .0) (b .args .p .rows) (o .settle .result) (r .2) (r .1)
-    (kept-then (o .settle .last .1 .0) (f .match .w) (c .walk2 .last .1 .0) (o .settle .result) (o .settle .result) (omega arith) (first-keeps t f) k)
-
-walk-same-length-2 : (t : ℕ) → walk-lts.Need-same-length-2 (claims t) (walk-at t) walk.Post
-walk-same-length-2 t c = both-kept t (c .before .before) .size
+    let y = c .before in
+    let f = first t (from t y) in
+    let b = start t (f .before) in
+    let z : y .yes .result .at ≡ b .args .p .at + 1 = ap (λ (q : Node). q .at) (y .yes .ensures) in
+    (omega (arith, b .pre .0, z, near t (undecided t (placed t (f .before)))), ((sheet-of t b, yes-child t y (sheet-of t b) (given t b)), limits t b))
 
 walk-returns-3 : (t : ℕ) → walk-lts.Need-returns-3 (claims t) (walk-at t) walk.Post
 walk-returns-3 t c =
-    let d = c .before .before in
-    let y = d .before .before .before .before .before .before .before in
-    let a = start t (y .before .before .before) .args in (
+    let y = c .before .before in
+    let q = from t y in
+    let f = first t q in
+    let b = start t (f .before) in
+    let a = b .args in
+    let o = placed t (f .before) in
+    let r = stands t o (sheet-of t b) (given t b) in
+    let k = subst (λ (p : Node). Kept (f .match .w) (c .walk2 .last .1 .0) (p .rows)) (y .yes .ensures) (c .walk2 .ensures .1) in (
       λ sheet h.
           let n = length (sheet .positions) in
-          let m = view n (y .before .before .match .a) in
-          both-walked (sheetBound sheet) (a .limit) n (a .p) (placed t (y .before .before .before) .settle .result) (y .before .cell3 .result) (view n (a .s)) m (view n (d .walk2 .result))
-          (under t (undecided t (placed t (y .before .before .before))) sheet h)
-          (first-walked t (y .before .before) sheet h)
-          (d .walk2 .ensures .0 sheet (yes-child t (d .before .before .before .before) sheet h)
-          ∙ ap (λ (k : Search). openFrom (sheetBound sheet) (a .limit) (n - y .yes .result .at) (decided (y .yes .result)) (view n k)) (d .before .counted2 .ensures)
-          ∙ ap (λ (j : ℕ). openFrom (sheetBound sheet) (a .limit) (n - j) (decided (y .yes .result)) (counted m)) (ap (λ (q : Node). q .at) (y .yes .ensures))
-          ∙ yes-opened t (d .before .before .before .before) sheet h .on
-          ∙ ap (λ (q : Node). limitedFrom (sheetBound sheet) (a .limit) (n - (a .p .at + 1)) (decided q) m) (y .yes .ensures)),
-      both-kept t d,
+          both t q sheet (c .walk2 .result) h
+          (c .walk2 .ensures .0 sheet (yes-child t y sheet h)
+          ∙ ap (λ (p : Node). openFrom (sheetBound sheet) (a .limit) (n - p .at) (decided p) (view (a .limit) n (c .before .counted2 .result))) (y .yes .ensures)
+          ∙ ap (λ (k : Search). openFrom (sheetBound sheet) (a .limit) (n - (a .p .at + 1)) (decided (yes-node t q)) (view (a .limit) n k)) (c .before .counted2 .ensures)
+          ∙ yes-opened t (y .before .before .before) sheet h .on),
+      kept-then (a .w .now) (o .settle .last .1 .0) (c .walk2 .last .1 .0) (a .p .rows) (o .settle .result) (r .2) (r .1)
+          (kept-then (o .settle .last .1 .0) (f .match .w) (c .walk2 .last .1 .0) (o .settle .result) (o .settle .result) (omega arith) (first-keeps t f) k),
     )
 
 pub +walk-spec : {M : Type 1} → statement M
@@ -464,14 +497,13 @@ pub +walk-spec : {M : Type 1} → statement M
     (walk-enum-told t)
     (walk-reached-requires t)
     (walk-cell-requires-3 t)
-    (walk-yes-requires t)
+    (walk-add-open t)
     (walk-open-requires-2 t)
     (walk-enum-known-y-2 t)
     (walk-enum-told-2 t)
     (walk-reached-requires-2 t)
-    (walk-same-length t)
     (walk-returns-2 t)
+    (walk-yes-requires t)
     (walk-counted-requires-2 t)
     (walk-walk-requires-2 t)
-    (walk-same-length-2 t)
     (walk-returns-3 t)

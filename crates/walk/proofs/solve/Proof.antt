@@ -1,52 +1,61 @@
--- `solve` is the limited walk from the first node, and its bound is the floor: the base row, its part sums, and `walk`.
-use Prim.Native.Nat.{ℕ, _-_}
+-- `solve` is the limited walk from the first node, and its bound is the floor: the base row, the tables' first row, and `walk`.
+use Prim.Native.Nat.{ℕ, _-_, min}
 use mathlib.Core.Path.{_≡_, sym, ap, subst, _∙_}
 use mathlib.Core.Bool.{false}
-use mathlib.Core.List.{[]}
+use mathlib.Core.List.{List, []}
 use native.Mathlib.Omega.{arith}
 use borrow.Author.Needs.{needs}
+use borrow.Author.Tests.{le-ltb}
 use lib.ListN.{length}
-use Rattle.branch.specs.Label.{openFrom}
+use Rattle.branch.specs.Search.{none}
+use Rattle.branch.specs.Label.{limitedFrom, openFrom}
 use Rattle.branch.specs.declared.Bound.the-variants.{Sum}
 use Rattle.walk.specs.declared.Node.{Node}
 use Rattle.walk.specs.declared.Search.{Search}
 use Rattle.lane_rows.specs.Sheet.{Sheet, sheetBound}
 use Rattle.lane_rows.specs.Tables.{valueOf, Tables}
-use Rattle.walk.specs.State.{bits, view, At}
+use Rattle.walk.specs.State.{bits, noCost, view, solvedS, At, Solves}
 use Rattle.lane_rows.proofs.Lanes.{rows-root, first-most, first-sums}
-use Rattle.walk.proofs.Nodes.{root-given, root-bound, Opened, closed-walked, open-walked}
+use Rattle.walk.proofs.Nodes.{fits, root-given, root-bound, Opened, closed-walked, open-walked}
 use Rattle.walk.proofs.solve.Statement.{statement}
 use Rattle.walk.proofs.solve.Tie as tie
+
+base-row-requires : tie.Need-base-row-requires
+base-row-requires c κs = search needs
 
 abbrev root : Node
 root = record { at = 0; rows = 1; spent = 0; mask = 0 }
 
 abbrev fresh : Search
-fresh = record { count = 0; over = false; found = false; cost = 0; mask = 0 }
+fresh = record { count = 0; cost = noCost; mask = 0 }
 
-base-row-requires : tie.Need-base-row-requires
-base-row-requires c κs = search needs
+-- the start, and the rows where the first node's bound is known
+abbrev begun : tie.After-value → tie.Start
+begun c = c .before .before .before .before .before
+
+abbrev rows : (c : tie.After-value) → List ℕ
+rows c = c .before .before .before .base-row .last .0
 
 first-sum-requires : tie.Need-first-sum-requires
 first-sum-requires c κs =
-    let start = c .before .before .before .before .before .before in
-    let ta = start .pre .0 .1 in
-    (ta .size, ta .narrow, first-most (start .pre .0 .0) (start .args .t .now) ta)
+    let b = c .before .before .before in
+    let ta = b .pre .0 .1 in
+    (ta .size, ta .narrow, first-most (b .pre .0 .0) (b .args .t .now) ta)
 
 value-requires : tie.Need-value-requires
 value-requires c κs = search needs
 
 -- the first node
-root-stands : (c : tie.After-value) (sheet : Sheet)
-    → let a = c .before .before .before .before .before .before .before .before .args in
-    Tables sheet (a .t .now) → At sheet (a .t .now) (c .before .before .before .before .base-row .last .0) root false (c .value .result)
+root-stands : (c : tie.After-value) (sheet : Sheet) → Tables sheet (begun c .args .t .now) → At sheet (begun c .args .t .now) (rows c) root false (c .value .result)
 root-stands c sheet ta =
-    let e = c .before .before .before .before .base-row .ensures in
-    let w = c .before .before .before .before .base-row .last .0 in
-    root-given sheet (c .before .before .before .before .before .before .before .before .args .t .now) w ta (rows-root sheet w (omega (arith, ta .wide, ta .narrow)) (e .0) (e .1) (e .2)) (c .value .result) (c .value .ensures ∙ ap valueOf (c .before .first-sum .ensures ∙ first-sums sheet (c .before .before .before .before .before .before .before .before .args .t .now) ta w (e .1) (e .2)))
+    let e = c .before .before .before .base-row .ensures in
+    root-given sheet (begun c .args .t .now) (rows c) ta (rows-root sheet (rows c) (omega (arith, ta .wide, ta .narrow)) (e .0) (e .1) (e .2))
+    (c .value .result) (c .value .ensures ∙ ap valueOf (c .before .first-sum .ensures ∙ first-sums sheet (begun c .args .t .now) ta (rows c) (e .1) (e .2)))
 
 open-requires : tie.Need-open-requires
-open-requires c κs = λ x f. let start = c .before .before .before .before .before .before .before .before in omega (arith, root-stands c (start .pre .0 .0) (start .pre .0 .1) .low x f)
+open-requires c κs =
+    let b = begun c in
+    λ x f. omega (arith, fits (b .pre .0 .0) (b .args .t .now) (rows c) root false (c .value .result) (root-stands c (b .pre .0 .0) (b .pre .0 .1)) x f)
 
 enum-known-x : tie.Need-enum-known-x
 enum-known-x c = search needs
@@ -57,74 +66,88 @@ enum-told c = search needs
 reached-requires : tie.Need-reached-requires
 reached-requires c κs = search needs
 
-same-length : tie.Need-same-length
-same-length c = search needs
+solved-requires : tie.Need-solved-requires
+solved-requires c κs = search needs
 
 -- all decisions are left
 all-left : (n : ℕ) → n - 0 ≡ n
 all-left n = omega arith
 
+-- nothing is counted and nothing found
+fresh-view : (limit n : ℕ) → view limit n fresh ≡ record { count = 0; over = false; incumbent = none }
+fresh-view limit n =
+    let z : min 0 limit ≡ 0 = omega arith in
+    λ i. record { count = z i; over = le-ltb limit 0 (omega arith) i; incumbent = none }
+
+-- what is handed over of a last state
+ends : (c : tie.After-value) (sheet : Sheet) (s : Search) → Tables sheet (begun c .args .t .now)
+    → let limit = begun c .args .limit in let n = length (sheet .positions) in
+    view limit n s ≡ limitedFrom (sheetBound sheet) limit n [] (view limit n fresh) → Solves sheet limit (solvedS (c .value .result) limit s)
+unfolding bits
+ends c sheet s ta e =
+    record {
+      floor = root-stands c sheet ta .sums ∙ sym (root-bound sheet);
+      walked = e ∙ ap (limitedFrom (sheetBound sheet) (begun c .args .limit) (length (sheet .positions)) []) (fresh-view (begun c .args .limit) (length (sheet .positions)));
+    }
+
 returns : tie.Need-returns
 unfolding bits
 returns c =
     λ sheet ta.
-    let v = c .before .before .before .before in
-    let a = v .before .before .before .before .before .before .before .before .args in
+    let v = c .before .before .before .before .before in
+    let a = begun v .args in
     let n = length (sheet .positions) in
     let g = root-stands v sheet ta in
-    record {
-      floor = g .sums ∙ sym (root-bound sheet);
-      walked = ap (view n) (c .reached .ensures) ∙ closed-walked sheet (a .t .now) (v .before .before .before .before .base-row .last .0) root false (v .value .result) g (a .limit) n n fresh (sym (c .before .before .before .open .ensures) ∙ c .before .enum-told .given .1);
-    }
+    subst (Solves sheet (a .limit)) (sym (c .solved .ensures))
+    (ends v sheet (c .before .reached .result) ta
+    (ap (view (a .limit) n) (c .before .reached .ensures) ∙ closed-walked sheet (a .t .now) (rows v) root false (v .value .result) g (a .limit) n n fresh (sym (c .before .before .before .before .open .ensures) ∙ c .before .before .enum-told .given .1)))
 
 -- the first node is walked on, with the part sums x
 opened : (c : tie.After-x) (sheet : Sheet)
     → let v = c .before .before .before in
-    let a = v .before .before .before .before .before .before .before .before .args in
+    let a = begun v .args in
     let n = length (sheet .positions) in
-    (ta : Tables sheet (a .t .now))
-    → Opened sheet (a .t .now) (v .before .before .before .before .base-row .last .0) root false (v .value .result) (root-stands v sheet ta) (a .limit) n n fresh (c .x .given .0 .0)
+    (ta : Tables sheet (a .t .now)) → Opened sheet (a .t .now) (rows v) root false (v .value .result) (root-stands v sheet ta) (a .limit) n n fresh (c .x .given .0 .0)
 opened c sheet ta =
     let v = c .before .before .before in
-    let a = v .before .before .before .before .before .before .before .before .args in
+    let a = begun v .args in
     let n = length (sheet .positions) in
-    open-walked sheet (a .t .now) (v .before .before .before .before .base-row .last .0) root false (v .value .result) (root-stands v sheet ta) (a .limit) n n fresh (c .x .given .0 .0) (sym (c .before .before .open .ensures) ∙ c .x .given .1)
+    open-walked sheet (a .t .now) (rows v) root false (v .value .result) (root-stands v sheet ta) (a .limit) n n fresh (c .x .given .0 .0) (sym (c .before .before .open .ensures) ∙ c .x .given .1)
+
+root-child : (c : tie.After-x) (sheet : Sheet)
+    → let v = c .before .before .before in
+    Tables sheet (begun v .args .t .now) → At sheet (begun v .args .t .now) (rows v) root false (Sum (c .x .given .0 .0))
+root-child c sheet ta =
+    let v = c .before .before .before in
+    subst (At sheet (begun v .args .t .now) (rows v) root false) (opened c sheet ta .sums) (root-stands v sheet ta)
 
 counted-requires : tie.Need-counted-requires
 counted-requires c κs = search needs
 
-root-child : (c : tie.After-x) (sheet : Sheet)
-    → let v = c .before .before .before in
-    let a = v .before .before .before .before .before .before .before .before .args in
-    Tables sheet (a .t .now) → At sheet (a .t .now) (v .before .before .before .before .base-row .last .0) root false (Sum (c .x .given .0 .0))
-root-child c sheet ta =
-    let v = c .before .before .before in
-    let a = v .before .before .before .before .before .before .before .before .args in
-    subst (At sheet (a .t .now) (v .before .before .before .before .base-row .last .0) root false) (opened c sheet ta .sums) (root-stands v sheet ta)
-
 walk-requires : tie.Need-walk-requires
-walk-requires c κs = let start = c .before .before .before .before .before .before .before .before .before .before .before .before .before .before in (start .pre .0 .0, root-child (c .before .before .before) (start .pre .0 .0) (start .pre .0 .1))
+walk-requires c κs =
+    let x = c .before .before .before in
+    let b = begun (x .before .before .before) in
+    ((b .pre .0 .0, root-child x (b .pre .0 .0) (b .pre .0 .1)), b .pre .1)
 
-same-length-2 : tie.Need-same-length-2
-same-length-2 c = search needs
+solved-requires-2 : tie.Need-solved-requires-2
+solved-requires-2 c κs = search needs
 
 returns-2 : tie.Need-returns-2
 unfolding bits
 returns-2 c =
     λ sheet ta.
-    let x = c .before .before .before .before .before .before in
+    let x = c .before .before .before .before .before in
     let v = x .before .before .before in
-    let a = v .before .before .before .before .before .before .before .before .args in
+    let a = begun v .args in
     let n = length (sheet .positions) in
-    let g = root-stands v sheet ta in
-    record {
-      floor = g .sums ∙ sym (root-bound sheet);
-      walked =
-          c .before .before .walk .ensures .0 sheet (root-child x sheet ta)
-          ∙ ap (λ (k : ℕ). openFrom (sheetBound sheet) (a .limit) k [] (view n (c .before .before .before .counted .result))) (all-left n)
-          ∙ ap (λ (k : Search). openFrom (sheetBound sheet) (a .limit) n [] (view n k)) (c .before .before .before .counted .ensures)
-          ∙ opened x sheet ta .on;
-    }
+    let r = c .before .before .counted in
+    subst (Solves sheet (a .limit)) (sym (c .solved2 .ensures))
+    (ends v sheet (c .before .walk .result) ta
+    (c .before .walk .ensures .0 sheet (root-child x sheet ta)
+    ∙ ap (λ (k : ℕ). openFrom (sheetBound sheet) (a .limit) k [] (view (a .limit) n (r .result))) (all-left n)
+    ∙ ap (λ (k : Search). openFrom (sheetBound sheet) (a .limit) n [] (view (a .limit) n k)) (r .ensures)
+    ∙ opened x sheet ta .on))
 
 pub solve-spec : {M : Type 1} → statement M
 solve-spec =
@@ -137,9 +160,9 @@ solve-spec =
     enum-known-x
     enum-told
     reached-requires
-    same-length
+    solved-requires
     returns
     counted-requires
     walk-requires
-    same-length-2
+    solved-requires-2
     returns-2)
