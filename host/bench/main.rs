@@ -43,7 +43,7 @@ fn solvers() -> Vec<Solver> {
     for unit in Unit::all() {
         let solve: fn(&[u8]) -> Outcome = match unit {
             Unit::Plain => |job| rust(job, Unit::Plain),
-            Unit::Sixteen => |job| rust(job, Unit::Sixteen),
+            Unit::Recursive => |job| rust(job, Unit::Recursive),
             Unit::Sse2 => |job| rust(job, Unit::Sse2),
             Unit::Avx2 => |job| rust(job, Unit::Avx2),
         };

@@ -3,12 +3,14 @@
 //! Its reader trusts the text, and it shares no code with the reference.
 
 mod lanes;
+mod recursive;
 mod walk;
 
 #[cfg(target_arch = "x86_64")]
 use lanes::{Avx2, Sse2};
 use lanes::{Lanes, Plain};
-use walk::Tables;
+use recursive::Recursion;
+use walk::{Form, Loop, Tables};
 
 /// The facts of a job, for the walk.
 #[derive(Debug, Clone, Default)]
@@ -43,8 +45,8 @@ pub struct Found {
 pub enum Unit {
     /// Arrays, which the compiler turns into vectors of the machine it builds for; as many fours as the parts need, a walk compiled for each.
     Plain,
-    /// The same with sixteen lanes for any number of parts, as the library has them.
-    Sixteen,
+    /// The same, the walk a function that calls itself, as the library's does.
+    Recursive,
     /// Vectors of four, which every x86-64 machine has.
     Sse2,
     /// Vectors of eight.
@@ -54,7 +56,7 @@ pub enum Unit {
 impl Unit {
     /// The units that this machine has.
     pub fn all() -> Vec<Unit> {
-        let mut units = vec![Unit::Sixteen, Unit::Plain];
+        let mut units = vec![Unit::Plain, Unit::Recursive];
         #[cfg(target_arch = "x86_64")]
         {
             units.push(Unit::Sse2);
@@ -91,10 +93,10 @@ impl Job {
     pub fn solve(&self, unit: Unit) -> Option<Found> {
         assert!(Unit::all().contains(&unit), "this machine has no {unit:?}");
         match unit {
-            Unit::Sixteen => Tables::<Plain, 4>::new(self).walk(self.walk),
-            Unit::Plain => self.by_width::<Plain>(),
+            Unit::Plain => self.by_width::<Plain, Loop>(),
+            Unit::Recursive => self.by_width::<Plain, Recursion>(),
             #[cfg(target_arch = "x86_64")]
-            Unit::Sse2 => self.by_width::<Sse2>(),
+            Unit::Sse2 => self.by_width::<Sse2, Loop>(),
             // SAFETY: the machine has AVX2, as asserted.
             #[cfg(target_arch = "x86_64")]
             Unit::Avx2 => match self.parts.len() {
@@ -107,19 +109,25 @@ impl Job {
     }
 
     /// With as many fours of lanes as the parts need.
-    fn by_width<V: Lanes>(&self) -> Option<Found> {
+    fn by_width<V: Lanes, F: Form>(&self) -> Option<Found> {
         match self.parts.len() {
-            0..=4 => Tables::<V, 1>::new(self).walk(self.walk),
-            5..=8 => Tables::<V, 2>::new(self).walk(self.walk),
-            9..=12 => Tables::<V, 3>::new(self).walk(self.walk),
-            _ => Tables::<V, 4>::new(self).walk(self.walk),
+            0..=4 => walk_wide::<V, F, 1>(self),
+            5..=8 => walk_wide::<V, F, 2>(self),
+            9..=12 => walk_wide::<V, F, 3>(self),
+            _ => walk_wide::<V, F, 4>(self),
         }
     }
+}
+
+/// The walk with this many fours, in a function of its own: no other changes how it is compiled.
+#[inline(never)]
+fn walk_wide<V: Lanes, F: Form, const Q: usize>(job: &Job) -> Option<Found> {
+    Tables::<V, Q>::new(job).walk::<F>(job.walk)
 }
 
 /// The walk built for machines with AVX2.
 #[cfg(target_arch = "x86_64")]
 #[target_feature(enable = "avx2,bmi1,bmi2")]
 fn walk_avx2<const Q: usize>(job: &Job) -> Option<Found> {
-    Tables::<Avx2, Q>::new(job).walk(job.walk)
+    Tables::<Avx2, Q>::new(job).walk::<Loop>(job.walk)
 }

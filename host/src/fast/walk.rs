@@ -1,21 +1,21 @@
-//! The tables and the walk. Mark 0 is the first life, mark k + 1 a change at opening k.
+//! The tables and the walk as a loop. Mark 0 is the first life, mark k + 1 a change at opening k.
 
 use super::lanes::Lanes;
 use super::{Found, Job};
 
 /// Stands for a missing price. A price that is not missing is at most 64,000,000, and sixteen of them sum to less than this; four of
 /// this still fit a lane.
-const INF: u32 = 1_030_000_000;
+pub const INF: u32 = 1_030_000_000;
 
 const MAX_OPENINGS: usize = 64;
 
 /// A price for each part.
-type Row<V, const Q: usize> = [V; Q];
+pub type Row<V, const Q: usize> = [V; Q];
 
 /// The tables of a job.
 pub struct Tables<V, const Q: usize> {
-    count: usize,
-    fees: Vec<u64>,
+    pub count: usize,
+    pub fees: Vec<u64>,
     prices: Vec<Row<V, Q>>,
     /// `ends[triangle(j) + mark]`: the least price of changes at opening j and later that keep the part after the mark.
     ends: Vec<Row<V, Q>>,
@@ -100,7 +100,7 @@ fn same<V: Lanes, const Q: usize>(a: &Row<V, Q>, b: &Row<V, Q>) -> bool {
 
 /// The sum of the parts, or INF where one is missing.
 #[inline(always)]
-fn total<V: Lanes, const Q: usize>(row: &Row<V, Q>) -> u32 {
+pub fn total<V: Lanes, const Q: usize>(row: &Row<V, Q>) -> u32 {
     let mut sum = row[0];
     for lanes in &row[1..] {
         sum = sum.plus(*lanes);
@@ -109,9 +109,21 @@ fn total<V: Lanes, const Q: usize>(row: &Row<V, Q>) -> u32 {
 }
 
 /// The rows of the stops decided, each with its mark: the least price of changes up to one at that mark.
-struct Front<V, const Q: usize> {
+pub struct Front<V, const Q: usize> {
     rows: [Row<V, Q>; MAX_OPENINGS + 1],
     marks: [u32; MAX_OPENINGS + 1],
+}
+
+/// The state of a search.
+#[derive(Clone, Copy)]
+pub struct Search {
+    pub count: u64,
+    /// A node was reached beyond the limit.
+    pub over: bool,
+    /// Whether a plan was found, the best one's cost and its decisions, the latest in the lowest bit.
+    pub found: bool,
+    pub cost: u64,
+    pub mask: u64,
 }
 
 /// A node whose yes is still to be walked: its parts' least prices and their sum, the rows of its front, the fees of its stops.
@@ -141,18 +153,18 @@ impl<V: Lanes, const Q: usize> Tables<V, Q> {
         (found, false)
     }
 
-    /// The parts' least prices over the stops of the front and openings j and later, with their sum. They are nowhere less than `least`,
-    /// so where they reach it the rows below need no look.
+    /// The parts' least prices over the stops of the front and openings j and later, with their sum. They are nowhere less than those of the
+    /// node above, whose sum is `sum`: where `reached` says that they are the same, the rows below need no look.
     #[inline(always)]
-    fn bound(&self, front: &Front<V, Q>, rows: usize, j: usize, least: &Row<V, Q>, sum: u32) -> (Row<V, Q>, u32) {
+    pub fn bound(&self, front: &Front<V, Q>, rows: usize, j: usize, sum: u32, reached: impl Fn(&Row<V, Q>) -> bool) -> (Row<V, Q>, u32) {
         let ends = &self.ends[triangle(j)..triangle(j + 1)];
-        let (found, reached) = Self::over(front, rows, self.ends_from[j], ends, |found| same(found, least));
+        let (found, reached) = Self::over(front, rows, self.ends_from[j], ends, reached);
         (found, if reached { sum } else { total(&found) })
     }
 
     /// Adds the row of a stop at opening j.
     #[inline(always)]
-    fn push(&self, front: &mut Front<V, Q>, rows: usize, j: usize) {
+    pub fn push(&self, front: &mut Front<V, Q>, rows: usize, j: usize) {
         let reach = &self.reach[triangle(j)..triangle(j + 1)];
         let (found, _) = Self::over(front, rows, self.reach_from[j], reach, |_| false);
         front.rows[rows] = std::array::from_fn(|q| found[q].plus(self.prices[j][q]));
@@ -161,57 +173,66 @@ impl<V: Lanes, const Q: usize> Tables<V, Q> {
 
     /// The walk of at most `limit` nodes, or none where the job has no plan.
     #[inline(always)]
-    pub fn walk(&self, limit: u64) -> Option<Found> {
-        let count = self.count;
+    pub fn walk<F: Form>(&self, limit: u64) -> Option<Found> {
         let none = [V::splat(0); Q];
         let mut front = Front { rows: [none; MAX_OPENINGS + 1], marks: [0; MAX_OPENINGS + 1] };
-        let mut above = [Above { least: none, sum: 0, rows: 0, spent: 0 }; MAX_OPENINGS];
-        let (mut least, floor) = self.bound(&front, 1, 0, &none, 0);
+        let (least, floor) = self.bound(&front, 1, 0, 0, |found| same(found, &none));
         if floor == INF {
             return None;
         }
-        let (mut nodes, mut more, mut best, mut best_mask) = (0, false, u64::MAX, 0);
-        // The node: openings decided, decisions (the latest in the lowest bit), fees, part sums, rows, whether a stop's row is owed.
-        let (mut at, mut mask, mut spent, mut sum, mut rows, mut owes) = (0, 0u64, 0, floor, 1, false);
-        loop {
+        let Search { count, over, found, cost, mask } = F::search(self, &mut front, limit, (least, floor));
+        let stops = || (0..self.count).fold(0, |stops, k| stops | (mask >> (self.count - 1 - k) & 1) << k);
+        Some(Found { nodes: count, more: over, floor: floor.into(), best: found.then(|| (cost, stops())) })
+    }
+}
+
+/// How a walk goes on from the root, whose parts have these least prices with this sum.
+pub trait Form {
+    fn search<V: Lanes, const Q: usize>(t: &Tables<V, Q>, front: &mut Front<V, Q>, limit: u64, root: (Row<V, Q>, u32)) -> Search;
+}
+
+/// With a stack of its own.
+pub struct Loop;
+
+impl Form for Loop {
+    #[inline(always)]
+    fn search<V: Lanes, const Q: usize>(t: &Tables<V, Q>, front: &mut Front<V, Q>, limit: u64, root: (Row<V, Q>, u32)) -> Search {
+        let mut above = [Above { least: [V::splat(0); Q], sum: 0, rows: 0, spent: 0 }; MAX_OPENINGS];
+        let (mut nodes, mut best, mut best_mask) = (0, u64::MAX, 0);
+        // The node: part sums, openings decided, decisions (the latest in the lowest bit), fees, rows, whether a stop's row is owed.
+        let (mut least, mut sum) = root;
+        let (mut at, mut mask, mut spent, mut rows, mut owes) = (0, 0u64, 0, 1, false);
+        let over = loop {
             if nodes == limit {
-                more = true;
-                break;
+                break true;
             }
             nodes += 1;
             let cost = spent + u64::from(sum);
             if sum < INF && cost < best {
-                if at < count {
+                if at < t.count {
                     // On to the no below.
                     if owes {
-                        self.push(&mut front, rows, at - 1);
-                        rows += 1;
-                        least = above[at - 1].least;
-                        owes = false;
+                        t.push(front, rows, at - 1);
+                        (rows, least, owes) = (rows + 1, above[at - 1].least, false);
                     }
                     above[at] = Above { least, sum, rows: rows as u32, spent };
                     at += 1;
                     mask *= 2;
-                    (least, sum) = self.bound(&front, rows, at, &least, sum);
+                    (least, sum) = t.bound(front, rows, at, sum, |found| same(found, &least));
                     continue;
                 }
-                best = cost;
-                best_mask = mask;
+                (best, best_mask) = (cost, mask);
             }
             // Back to the latest no: its yes comes next, with the same part sums.
             let yes = mask.trailing_ones() as usize;
             if yes >= at {
-                break;
+                break false;
             }
             at -= yes;
             mask = mask >> yes | 1;
             let node = &above[at - 1];
-            rows = node.rows as usize;
-            sum = node.sum;
-            spent = node.spent + self.fees[at - 1];
-            owes = true;
-        }
-        let stops = || (0..count).fold(0, |stops, k| stops | (best_mask >> (count - 1 - k) & 1) << k);
-        Some(Found { nodes, more, floor: floor.into(), best: (best < u64::MAX).then(|| (best, stops())) })
+            (rows, sum, spent, owes) = (node.rows as usize, node.sum, node.spent + t.fees[at - 1], true);
+        };
+        Search { count: nodes, over, found: best < u64::MAX, cost: best, mask: best_mask }
     }
 }
