@@ -1,12 +1,17 @@
-//! Nodes a second of the library and of the walk in Rust, on the jobs of `jobs/`, in one run.
+//! Time a node of the library and of the walk in Rust, on the jobs of `jobs/`, in one run: the microseconds of a call with walk number 1
+//! (reading, tables, one node), and the nanoseconds of each node after the first, which are the whole call's less those.
 //! `bench [--walk N] [NAME ..]`: N nodes at most in place of each job's own walk number; NAME picks the jobs whose names begin with it.
 
 use juzvarola_host::fast::{self, Unit};
+use std::hint::black_box;
 use std::path::{Path, PathBuf};
 use std::{env, fs, process, thread};
 
 /// A job is repeated until it took this long, three times at least; one that takes longer by itself is run once.
 const SECONDS: f64 = 1.0;
+
+/// The call with walk number 1 is repeated as often as the job, and this often at least.
+const FIRST_RUNS: u64 = 200;
 
 /// What a solver says of a job, as far as TABLE.md has it.
 #[derive(Debug, Clone, Copy, PartialEq, Eq)]
@@ -16,24 +21,27 @@ struct Outcome {
     cost: Option<u64>,
 }
 
-type Solver = (String, fn(&[u8]) -> Outcome);
+/// The CPU seconds of a call, and what it says.
+type Timed = (f64, Outcome);
+
+type Solver = (String, fn(&[u8]) -> Timed);
 
 #[cfg(feature = "library")]
-fn library(job: &[u8]) -> Outcome {
+fn library(job: &[u8]) -> Timed {
     let mut out = [0; 16_384];
-    let answer = juzvarola_host::plan(job, &mut out);
+    let (time, answer) = timed(|| juzvarola_host::plan(job, &mut out));
     assert!(matches!(answer.result, 0 | 7), "result {}", answer.result);
     let lines = std::str::from_utf8(&out[..answer.length]).expect("answers are ASCII");
     let value = |key: &str| {
         let mut values = lines.lines().filter_map(|line| line.strip_prefix(key)?.strip_prefix('='));
         values.next().map(|value| value.parse::<u64>().expect("a number"))
     };
-    Outcome { nodes: value("nodes").expect("nodes"), floor: value("floor").expect("a floor"), cost: value("cost") }
+    (time, Outcome { nodes: value("nodes").expect("nodes"), floor: value("floor").expect("a floor"), cost: value("cost") })
 }
 
-fn rust(job: &[u8], unit: Unit) -> Outcome {
-    let found = fast::Job::read(job).solve(unit).expect("the job has a plan");
-    Outcome { nodes: found.nodes, floor: found.floor, cost: found.best.map(|best| best.0) }
+fn rust(job: &[u8], unit: Unit) -> Timed {
+    let (time, found) = timed(|| fast::Job::read(job).solve(unit).expect("the job has a plan"));
+    (time, Outcome { nodes: found.nodes, floor: found.floor, cost: found.best.map(|best| best.0) })
 }
 
 fn solvers() -> Vec<Solver> {
@@ -41,15 +49,21 @@ fn solvers() -> Vec<Solver> {
     #[cfg(feature = "library")]
     solvers.push(("library".into(), library));
     for unit in Unit::all() {
-        let solve: fn(&[u8]) -> Outcome = match unit {
+        let solve: fn(&[u8]) -> Timed = match unit {
             Unit::Plain => |job| rust(job, Unit::Plain),
             Unit::Recursive => |job| rust(job, Unit::Recursive),
             Unit::Sse2 => |job| rust(job, Unit::Sse2),
             Unit::Avx2 => |job| rust(job, Unit::Avx2),
         };
-        solvers.push((format!("Rust {unit:?}"), solve));
+        solvers.push((format!("{unit:?}"), solve));
     }
     solvers
+}
+
+/// The places of the solvers that the library, which is the first, is compared with.
+fn beside(solvers: &[Solver]) -> Vec<usize> {
+    let there = solvers[0].0 == "library";
+    (1..solvers.len()).filter(|at| there && ["Plain", "Recursive"].contains(&solvers[*at].0.as_str())).collect()
 }
 
 /// The CPU time of this thread in seconds: other programs on the machine count little.
@@ -70,6 +84,12 @@ fn cpu_seconds() -> f64 {
     time.seconds as f64 + time.nanoseconds as f64 * 1e-9
 }
 
+fn timed<T>(call: impl FnOnce() -> T) -> (f64, T) {
+    let start = cpu_seconds();
+    let value = call();
+    (cpu_seconds() - start, value)
+}
+
 /// The row of TABLE.md: nodes, floor and cost of the whole walk.
 fn expected(table: &str, name: &str) -> Option<Outcome> {
     let row = table.lines().find(|line| line.starts_with(&format!("| {name} |")))?;
@@ -86,24 +106,50 @@ fn with_walk(text: &str, walk: Option<u64>) -> String {
     text.lines().map(line).collect()
 }
 
-/// Runs the solvers in turn; the least time of each, and its outcome.
-fn measure(solvers: &[Solver], job: &[u8]) -> Vec<(f64, Outcome)> {
-    let once = |solve: fn(&[u8]) -> Outcome| {
-        let start = cpu_seconds();
-        let outcome = solve(job);
-        (cpu_seconds() - start, outcome)
-    };
-    let mut least: Vec<(f64, Outcome)> = solvers.iter().map(|(_, solve)| once(*solve)).collect();
-    let longest = least.iter().map(|(time, _)| *time).fold(1e-7, f64::max);
+/// Runs the solvers in turn with walk number 1 and in turn with the whole walk, so that each has the same one before it both times.
+/// The least times of each, and the outcomes.
+fn measure(solvers: &[Solver], first: &str, whole: &str) -> [Vec<Timed>; 2] {
+    let jobs = [first.as_bytes(), whole.as_bytes()];
+    let mut least = jobs.map(|job| solvers.iter().map(|(_, solve)| solve(job)).collect::<Vec<Timed>>());
+    let longest = least[1].iter().map(|(time, _)| *time).fold(1e-7, f64::max);
     let runs = if longest > SECONDS { 0 } else { ((SECONDS / longest) as u64).clamp(2, 1000) };
-    for _ in 0..runs {
-        for (least, (_, solve)) in least.iter_mut().zip(solvers) {
-            let (time, outcome) = once(*solve);
-            assert_eq!(outcome, least.1, "two runs differ");
-            least.0 = least.0.min(time);
+    for run in 0..runs.max(FIRST_RUNS) {
+        let repeated = if run < runs { &jobs[..] } else { &jobs[..1] };
+        for (least, job) in least.iter_mut().zip(repeated) {
+            for (least, (_, solve)) in least.iter_mut().zip(solvers) {
+                let (time, outcome) = solve(job);
+                assert_eq!(outcome, least.1, "two runs differ");
+                least.0 = least.0.min(time);
+            }
         }
     }
     least
+}
+
+/// How many solvers say something else; each is named.
+fn differing(name: &str, solvers: &[Solver], measured: &[Timed], reference: Outcome) -> usize {
+    let mut wrong = 0;
+    for ((solver, _), (_, outcome)) in solvers.iter().zip(measured) {
+        if *outcome != reference {
+            eprintln!("{name}: {solver} says {outcome:?}, not {reference:?}");
+            wrong += 1;
+        }
+    }
+    wrong
+}
+
+fn print_heads(solvers: &[Solver]) {
+    let heads: String = solvers.iter().map(|(name, _)| format!(" {name}: walk=1, µs | ns/node |")).collect();
+    let ratios: String = beside(solvers).iter().map(|at| format!(" library / {} |", solvers[*at].0)).collect();
+    println!("| job | nodes |{heads}{ratios}\n|---|---|{}", "---|".repeat(2 * solvers.len() + beside(solvers).len()));
+}
+
+/// The row of a job: `first` are the calls with walk number 1, `whole` those with all nodes.
+fn print_row(name: &str, nodes: u64, solvers: &[Solver], first: &[Timed], whole: &[Timed]) {
+    let times: Vec<f64> = first.iter().zip(whole).map(|(first, whole)| (whole.0 - first.0) / (nodes - 1) as f64).collect();
+    let cells: String = first.iter().zip(&times).map(|(first, time)| format!(" {:.1} | {:.2} |", first.0 * 1e6, time * 1e9)).collect();
+    let ratios: String = beside(solvers).iter().map(|at| format!(" {:.2} |", times[0] / times[*at])).collect();
+    println!("| {name} | {nodes} |{cells}{ratios}");
 }
 
 fn stem(file: &Path) -> String {
@@ -129,26 +175,19 @@ fn run() {
     let folder = Path::new(env!("CARGO_MANIFEST_DIR")).join("../jobs");
     let table = fs::read_to_string(folder.join("TABLE.md")).expect("TABLE.md");
     let solvers = solvers();
-    let heads: String = solvers.iter().map(|(name, _)| format!(" {name}: Mnodes/s | ns/node |")).collect();
-    println!("| job | nodes |{heads}\n|---|---|{}", "---|---|".repeat(solvers.len()));
+    // Once so much was freed at one time, the C library keeps what is freed: else some calls would pay for fresh pages, and some not.
+    drop(black_box(vec![0u8; 16 << 20]));
+    print_heads(&solvers);
     let mut wrong = 0;
     for file in jobs(&folder, &names) {
         let name = stem(&file);
-        let job = with_walk(&fs::read_to_string(&file).expect("a job"), walk);
-        let measured = measure(&solvers, job.as_bytes());
+        let job = fs::read_to_string(&file).expect("a job");
+        let [first, measured] = measure(&solvers, &with_walk(&job, Some(1)), &with_walk(&job, walk));
         let wanted = expected(&table, &name).expect("a row of TABLE.md");
         let whole = walk.is_none_or(|walk| walk >= wanted.nodes);
         let reference = if whole { wanted } else { measured[0].1 };
-        for ((solver, _), (_, outcome)) in solvers.iter().zip(&measured) {
-            if *outcome != reference {
-                eprintln!("{name}: {solver} says {outcome:?}, not {reference:?}");
-                wrong += 1;
-            }
-        }
-        let nodes = reference.nodes;
-        let cells: String =
-            measured.iter().map(|(time, _)| format!(" {:.1} | {:.2} |", nodes as f64 / time / 1e6, time / nodes as f64 * 1e9)).collect();
-        println!("| {name} | {nodes} |{cells}");
+        wrong += differing(&name, &solvers, &first, first[0].1) + differing(&name, &solvers, &measured, reference);
+        print_row(&name, reference.nodes, &solvers, &first, &measured);
     }
     if wrong > 0 {
         eprintln!("{wrong} outcomes differ");
