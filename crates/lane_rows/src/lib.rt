@@ -188,13 +188,13 @@ pub fn lane_sum(t: &[u32], w: &[u32], lo: usize, j: usize, rows: usize, ms: u64)
     ensures { λ r. ⌜ r ≡ sumLanes (lanesIn (now (t .entry))) (λ (q : ℕ). lane (now (t .entry)) (now (w .entry)) suffixBase j q rows) ⌝ }
 {
     let fours = t[FOURS];
-    if fours == 1 {
+    if fours < 2 {
         return sum_rows(1, t, w, lo, j, rows, ms);
     }
-    if fours == 2 {
+    if fours < 3 {
         return sum_rows(2, t, w, lo, j, rows, ms);
     }
-    if fours == 3 {
+    if fours < 4 {
         return sum_rows(3, t, w, lo, j, rows, ms);
     }
     sum_rows(4, t, w, lo, j, rows, ms)
@@ -232,15 +232,15 @@ fn put_row(t: &[u32], w: &mut [u32], j: usize, rows: usize)
     ensures { λ _. ⌜ Put (lanesIn (now (t .entry))) (nextRow (now (t .entry)) (now (w .entry)) j rows) (now (w .entry)) (now (w .exit)) rows (j + 1) ⌝ }
 {
     let fours = t[FOURS];
-    if fours == 1 {
+    if fours < 2 {
         put_lanes(1, t, w, j, rows);
         return;
     }
-    if fours == 2 {
+    if fours < 3 {
         put_lanes(2, t, w, j, rows);
         return;
     }
-    if fours == 3 {
+    if fours < 4 {
         put_lanes(3, t, w, j, rows);
         return;
     }

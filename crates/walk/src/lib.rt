@@ -165,7 +165,9 @@ pub fn walk(
     let Bound::Sum(y) = a.open(limit, p.spent + fee, Bound::Sum(x)) else {
         return a.reached(limit);
     };
-    walk(t, w, limit, p.yes(rows, fee), true, y, a.counted())
+    // By way of a variable, so that the state of a node whose yes is dropped stays in registers.
+    let b = walk(t, w, limit, p.yes(rows, fee), true, y, a.counted());
+    b
 }
 
 // What the whole search gives: the floor; the nodes walked, and whether there are more; whether there is an incumbent, its cost and its decisions.
