@@ -1,13 +1,16 @@
-// Positions: how far a step is along the lives. Only here do steps become positions, and positions due steps.
+// Positions: how far a step is along the lives, in running steps. Only here do steps become positions, and positions due steps.
 use job_text::Job;
+use least::in_reach;
 ghost use mathlib.Core.Path.{_≡_};
 ghost use Prim.Native.Nat.{_≤_};
 ghost use lib.IntN.{pos};
-ghost use Rattle.model.specs.Model as model;
 ghost use Rattle.model.specs.Model.{dueOf};
 ghost use Rattle.job_text.specs.Views.{jobOf, Sized};
 ghost use Rattle.job_text.specs.Valid.{ValidJob};
-ghost use Rattle.clock.specs.Placed.{lastPosition, longestLife, Begins, Placed};
+ghost use Rattle.clock.specs.Placed.{longestLife, Begins, Flags, Clocks, Placed};
+
+// The steps from 0 to the one after the longest horizon.
+const STEPS: usize = 367;
 
 // The positions of a job's openings, and of the end of its lives, the step after the horizon.
 pub struct Positions {
@@ -15,12 +18,39 @@ pub struct Positions {
     pub end: i32,
 }
 
-// The position of a step, which is the step itself.
-fn position(step: u32) -> i32
-    requires { ⌜ step ≤ lastPosition ⌝ }
-    ensures { λ r. ⌜ ((job : model.Job) → r ≡ model.clock job step) ⌝ }
+// Which steps are idle.
+fn idle_steps(job: Job) -> [bool; STEPS]
+    requires { ⌜ Sized job × ValidJob (jobOf job) ⌝ }
+    ensures { λ r. ⌜ Flags (jobOf job .idles) r ⌝ }
 {
-    step as i32
+    let n = job.idle_count;
+    let mut flags = [false; STEPS];
+    let mut k: usize = 0;
+    while k < n {
+        let step = job.idles[k];
+        flags[step as usize] = true;
+        k += 1;
+    }
+    flags
+}
+
+// The running steps up to each step.
+fn running_steps(job: Job) -> [i32; STEPS]
+    requires { ⌜ Sized job × ValidJob (jobOf job) ⌝ }
+    ensures { λ r. ⌜ Clocks (jobOf job) r ⌝ }
+{
+    let idle = idle_steps(job);
+    let mut clock = [0i32; STEPS];
+    let mut run: u32 = 0;
+    let mut s: usize = 1;
+    while s < STEPS {
+        if !idle[s] {
+            run += 1;
+        }
+        clock[s] = run as i32;
+        s += 1;
+    }
+    clock
 }
 
 // The positions of an accepted job.
@@ -29,21 +59,31 @@ pub fn positions_of(job: Job) -> Positions
     ensures { λ r. ⌜ Placed (jobOf job) r ⌝ }
 {
     let n = job.opening_count;
+    let clock = running_steps(job);
     let mut at = [0i32; 64];
     let mut i: usize = 0;
     while i < n {
         let o = job.openings[i];
-        at[i] = position(o.step);
+        at[i] = clock[o.step as usize];
         i += 1;
     }
-    let end = position(job.horizon + 1);
+    let end = clock[job.horizon as usize + 1];
     Positions { at, end }
 }
 
 // The last step at which a change would still have kept a part whose change before is at `prev`.
 pub fn due_of(job: Job, life: u32, prev: i32) -> u32
-    requires { ⌜ (life ≤ longestLife) × Begins life prev ⌝ }
+    requires { ⌜ Sized job × ValidJob (jobOf job) × (life ≤ longestLife) × Begins life prev ⌝ }
     ensures { λ r. ⌜ r ≡ dueOf (jobOf job) (pos life) prev ⌝ }
 {
-    (prev + life as i32) as u32
+    let clock = running_steps(job);
+    let mut due: u32 = 0;
+    let mut s: u32 = 0;
+    while s < job.horizon {
+        s += 1;
+        if in_reach(life as i32, prev, clock[s as usize]) {
+            due = s;
+        }
+    }
+    due
 }

@@ -3,16 +3,17 @@ use Prim.Native.Nat.{ℕ, _≤_, _<_}
 use mathlib.Core.Path.{_≡_, refl, sym, ap, _∙_, subst}
 use mathlib.Core.List.{List, [], _∷_, _++_, append-assoc, append-nil}
 use mathlib.Core.Bool.{and-eq-true-iff}
+use native.Mathlib.Omega.{arith}
 use lib.Dec.{leb, ltb}
 use lib.ListN.{length}
 use borrow.Author.Tests.{ltb-true, leb-true}
-use Rattle.lines.specs.Text.{lineOf, texts}
-use Rattle.lines.specs.Parser.{Parser, good, accepted, return, row, checked, times, rising, upTo}
-use Rattle.lines.proofs.Sound.{bind-inv, row-sound, checked-sound, chain-sound, row-gives, checked-gives, Chained, chain-gives, accepted-is}
+use Rattle.lines.specs.Text.{bytes, line, lineOf, texts}
+use Rattle.lines.specs.Parser.{Parser, good, accepted, return, row, rowAt, optional, checked, times, rising, upTo}
+use Rattle.lines.proofs.Sound.{bind-inv, lineIf, row-sound, optional-sound, checked-sound, chain-sound, row-gives, optional-most, checked-gives, Chained, chain-gives, accepted-is}
 use Rattle.model.specs.Model.{Opening}
-use Rattle.job_text.specs.Grammar.{Given, opening, openings, part, body, jobLines, maxBytes, readJob}
-use Rattle.job_text.specs.Rendering.{openingText, partText, bodyText, jobText}
-use Rattle.job_text.specs.Valid.{All, Rising, ValidOpening, ValidPrice, ValidPart, ValidJob, Valid}
+use Rattle.job_text.specs.Grammar.{Given, idle, idleSteps, idles, opening, openings, part, body, jobLines, maxBytes, readJob}
+use Rattle.job_text.specs.Rendering.{idlesText, openingText, partText, bodyText, jobText}
+use Rattle.job_text.specs.Valid.{All, RisingSteps, Rising, ValidOpening, ValidPrice, ValidPart, ValidJob, Valid}
 
 -- what a parser gives: a value that is known, and the text is what is written for it
 pub record Told {A : Type 0} (P : A → Type 0) (w : A → List ℕ) (s s′ : List ℕ) (a : A) : Type 0 where
@@ -22,26 +23,76 @@ pub record Told {A : Type 0} (P : A → Type 0) (w : A → List ℕ) (s s′ : L
 abbrev pub Tells : {A : Type 0} → Parser A → (A → Type 0) → (A → List ℕ) → Type 0
 Tells {A} p P w = (s s′ : List ℕ) (l l′ : ℕ) (a : A) → p s l ≡ good a s′ l′ → Told P w s s′ a
 
+-- ---- steps that rise
+
+-- a step after step `before` and within the horizon h
+pub record KnownStep (h before v : ℕ) : Type 0 where
+  pub low : 1 ≤ v
+  pub high : v ≤ 365
+  pub after : before < v
+  pub within : v ≤ h
+
+step-tells : (key : List ℕ) (h before : ℕ) → Tells (checked 4 (rising before h) (rowAt key 1 365)) (KnownStep h before) (line key)
+step-tells key h before s s′ l l′ v e =
+    let k = checked-gives 4 (rising before h) (rowAt key 1 365) _ (row-gives key 1 365) s s′ l l′ v e in
+    let r = and-eq-true-iff (ltb before v) (leb v h) .0 (k .1) in
+    record {
+      known = record { low = k .0 .0; high = k .0 .1; after = ltb-true before v (r .0); within = leb-true v h (r .1) };
+      text = checked-sound 4 (rising before h) (rowAt key 1 365) (line key) (row-sound key 1 365) s s′ l l′ v e;
+    }
+
+-- ---- idle steps
+
+-- at most 365, which rise and stay within the horizon h
+abbrev KnownIdles : ℕ → List ℕ → Type 0
+KnownIdles h is = (length is ≤ 365) × RisingSteps h 0 is
+
+-- the number that an idle step hands on
+abbrev itself : ℕ → ℕ
+itself i = i
+
+steps-rise : (h before : ℕ) (is : List ℕ) → Chained (KnownStep h) itself before is → RisingSteps h before is
+steps-rise h before [] c = tt
+steps-rise h before (i ∷ is) c = (c .0 .after, c .0 .within, steps-rise h i is (c .1))
+
+-- their text, the number's line first
+idles-text : (is : List ℕ) (rest : List ℕ) → lineIf (bytes "idles=") (length is) ++ (texts (lineOf "idle=") is ++ rest) ≡ idlesText is ++ rest
+unfolding idlesText
+idles-text [] rest = refl
+idles-text (i ∷ is) rest = sym (append-assoc (lineOf "idles=" (length (i ∷ is))) (texts (lineOf "idle=") (i ∷ is)) rest)
+
+idles-tell : (h : ℕ) → Tells (idles h) (KnownIdles h) idlesText
+unfolding idles idleSteps idle
+idles-tell h s s′ l l′ is e =
+    let b = bind-inv (optional "idles=" 1 365) _ s s′ l l′ is e in
+    let few = optional-most _ 1 365 s (b .mid) l (b .at) (b .a) (b .first) in
+    let c = chain-gives (idle h) itself (KnownStep h) (λ before s s′ l l′ i e. step-tells _ h before s s′ l l′ i e .known) (b .a) 0 (b .mid) s′ (b .at) l′ is (b .second) in
+    record {
+      known = (subst (λ (m : ℕ). m ≤ 365) (sym (c .0)) few, steps-rise h 0 is (c .1));
+      text = optional-sound _ 1 365 (omega arith) s (b .mid) l (b .at) (b .a) (b .first)
+          ∙ ap (λ (m : ℕ). lineIf (bytes "idles=") m ++ b .mid) (sym (c .0))
+          ∙ ap (λ (r : List ℕ). lineIf (bytes "idles=") (length is) ++ r) (chain-sound (idle h) itself (lineOf "idle=") (λ before s s′ l l′ i e. step-tells _ h before s s′ l l′ i e .text) (b .a) 0 (b .mid) s′ (b .at) l′ is (b .second))
+          ∙ idles-text is s′;
+    }
+
 -- ---- openings
 
 abbrev KnownOpening : ℕ → ℕ → Opening → Type 0
-KnownOpening h before o = (before < o .step) × (o .step ≤ h) × ValidOpening o
+KnownOpening h before o = KnownStep h before (o .step) × (o .fee ≤ 1000000)
 
 opening-tells : (h before : ℕ) → Tells (opening h before) (KnownOpening h before) openingText
 unfolding opening return openingText
 opening-tells h before s s′ l l′ o e =
-    let p₁ = row "opening=" 1 365 in
-    let b = bind-inv (checked 4 (rising before h) p₁) _ s s′ l l′ o e in
+    let b = bind-inv (checked 4 (rising before h) (row "opening=" 1 365)) _ s s′ l l′ o e in
     let d = bind-inv (row "fee=" 0 1000000) _ (b .mid) s′ (b .at) l′ o (b .second) in
     let x : record { step = b .a; fee = d .a } ≡ o = cc (d .second) in
     let y : d .mid ≡ s′ = cc (d .second) in
-    let k = checked-gives 4 (rising before h) p₁ _ (row-gives _ 1 365) s (b .mid) l (b .at) (b .a) (b .first) in
+    let k = step-tells _ h before s (b .mid) l (b .at) (b .a) (b .first) in
     let f = row-gives _ 0 1000000 (b .mid) (d .mid) (b .at) (d .at) (d .a) (d .first) in
-    let r = and-eq-true-iff (ltb before (b .a)) (leb (b .a) h) .0 (k .1) in
     subst (Told (KnownOpening h before) openingText s s′) x (record {
-      known = (ltb-true before (b .a) (r .0), leb-true (b .a) h (r .1), record { step-low = k .0 .0; step-high = k .0 .1; fee = f .1 });
+      known = (k .known, f .1);
       text = simp append-assoc
-          (checked-sound 4 (rising before h) p₁ (lineOf "opening=") (row-sound _ 1 365) s (b .mid) l (b .at) (b .a) (b .first)
+          (k .text
           ∙ ap (λ (r : List ℕ). lineOf "opening=" (b .a) ++ r) (row-sound _ 0 1000000 (b .mid) (d .mid) (b .at) (d .at) (d .a) (d .first) ∙ ap (λ (r : List ℕ). lineOf "fee=" (d .a) ++ r) y));
     })
 
@@ -52,7 +103,8 @@ chained-rising : (h before : ℕ) (os : List Opening) → Chained (KnownOpening 
 chained-rising h before [] c = (tt, tt)
 chained-rising h before (o ∷ os) c =
     let r = chained-rising h (o .step) os (c .1) in
-    ((c .0 .2, r .0), (c .0 .0, c .0 .1, r .1))
+    let k = c .0 .0 in
+    ((record { step-low = k .low; step-high = k .high; fee = c .0 .1 }, r .0), (k .after, k .within, r .1))
 
 -- ---- parts
 
@@ -95,16 +147,17 @@ part-tells n s s′ l l′ p e =
 
 -- ---- the whole
 
-abbrev KnownJob : ℕ → ℕ → ℕ → Given → Type 0
-KnownJob h w n g = (2 ≤ h → h ≤ 365 → n ≤ 64 → ValidJob (g .job)) × (g .walk ≡ w) × (g .job .horizon ≡ h) × (length (g .job .openings) ≡ n)
+abbrev KnownJob : ℕ → List ℕ → ℕ → ℕ → Given → Type 0
+KnownJob h is w n g =
+    (2 ≤ h → h ≤ 365 → KnownIdles h is → n ≤ 64 → ValidJob (g .job)) × (g .walk ≡ w) × (g .job .horizon ≡ h) × (g .job .idles ≡ is) × (length (g .job .openings) ≡ n)
 
-body-tells : (h w n : ℕ) → Tells (body h w n) (KnownJob h w n) (λ g. bodyText (g .job))
+body-tells : (h : ℕ) (is : List ℕ) (w n : ℕ) → Tells (body h is w n) (KnownJob h is w n) (λ g. bodyText (g .job))
 unfolding body openings times return bodyText
-body-tells h w n s s′ l l′ g e =
+body-tells h is w n s s′ l l′ g e =
     let b = bind-inv (openings h n) _ s s′ l l′ g e in
     let d = bind-inv (row "parts=" 1 16) _ (b .mid) s′ (b .at) l′ g (b .second) in
     let f = bind-inv (times (d .a) (part n)) _ (d .mid) s′ (d .at) l′ g (d .second) in
-    let x : record { walk = w; job = record { horizon = h; openings = b .a; parts = f .a } } ≡ g = cc (f .second) in
+    let x : record { walk = w; job = record { horizon = h; idles = is; openings = b .a; parts = f .a } } ≡ g = cc (f .second) in
     let y : f .mid ≡ s′ = cc (f .second) in
     let k₁ = chain-gives (opening h) stepOf (KnownOpening h) (λ before s s′ l l′ o e. opening-tells h before s s′ l l′ o e .known) n 0 s (b .mid) l (b .at) (b .a) (b .first) in
     let os = chained-rising h 0 (b .a) (k₁ .1) in
@@ -112,11 +165,13 @@ body-tells h w n s s′ l l′ g e =
     let k₃ = chain-gives (λ _. part n) (λ _. 0) (λ _. ValidPart n) (λ _ s s′ l l′ p e. part-tells n s s′ l l′ p e .known) (d .a) 0 (d .mid) (f .mid) (d .at) (f .at) (f .a) (f .first) in
     let count : d .a ≡ length (f .a) = sym (k₃ .0) in
     let ps : All (ValidPart (length (b .a))) (f .a) = subst (λ (m : ℕ). All (ValidPart m) (f .a)) (sym (k₁ .0)) (each (ValidPart n) 0 (f .a) (k₃ .1)) in
-    subst (Told (KnownJob h w n) (λ g. bodyText (g .job)) s s′) x (record {
+    subst (Told (KnownJob h is w n) (λ g. bodyText (g .job)) s s′) x (record {
       known = (
-        λ low high few. record {
+        λ low high steps few. record {
           horizon-low = low;
           horizon-high = high;
+          few-idles = steps .0;
+          idles = steps .1;
           few-openings = subst (λ (m : ℕ). m ≤ 64) (sym (k₁ .0)) few;
           openings = os .0;
           rising = os .1;
@@ -124,6 +179,7 @@ body-tells h w n s s′ l l′ g e =
           few-parts = subst (λ (m : ℕ). m ≤ 16) count (k₂ .1);
           parts = ps;
         },
+        refl,
         refl,
         refl,
         k₁ .0,
@@ -142,27 +198,33 @@ pub lines-tell : Tells jobLines Valid jobText
 unfolding jobLines jobText
 lines-tell s s′ l l′ g e =
     let b = bind-inv (row "horizon=" 2 365) _ s s′ l l′ g e in
-    let d = bind-inv (row "walk=" 0 4000000000) _ (b .mid) s′ (b .at) l′ g (b .second) in
+    let c = bind-inv (idles (b .a)) _ (b .mid) s′ (b .at) l′ g (b .second) in
+    let d = bind-inv (row "walk=" 0 4000000000) _ (c .mid) s′ (c .at) l′ g (c .second) in
     let f = bind-inv (row "openings=" 0 64) _ (d .mid) s′ (d .at) l′ g (d .second) in
     let k₁ = row-gives _ 2 365 s (b .mid) l (b .at) (b .a) (b .first) in
-    let k₂ = row-gives _ 0 4000000000 (b .mid) (d .mid) (b .at) (d .at) (d .a) (d .first) in
+    let steps = idles-tell (b .a) (b .mid) (c .mid) (b .at) (c .at) (c .a) (c .first) in
+    let k₂ = row-gives _ 0 4000000000 (c .mid) (d .mid) (c .at) (d .at) (d .a) (d .first) in
     let k₃ = row-gives _ 0 64 (d .mid) (f .mid) (d .at) (f .at) (f .a) (f .first) in
-    let t = body-tells (b .a) (d .a) (f .a) (f .mid) s′ (f .at) l′ g (f .second) in
+    let t = body-tells (b .a) (c .a) (d .a) (f .a) (f .mid) s′ (f .at) l′ g (f .second) in
     let h : b .a ≡ g .job .horizon = sym (t .known .2) in
     let w : d .a ≡ g .walk = sym (t .known .1) in
-    let n : f .a ≡ length (g .job .openings) = sym (t .known .3) in
+    let is : c .a ≡ g .job .idles = sym (t .known .3) in
+    let n : f .a ≡ length (g .job .openings) = sym (t .known .4) in
     record {
-      known = record { walk = subst (λ (m : ℕ). m ≤ 4000000000) w (k₂ .1); job = t .known .0 (k₁ .0) (k₁ .1) (k₃ .1) };
+      known = record { walk = subst (λ (m : ℕ). m ≤ 4000000000) w (k₂ .1); job = t .known .0 (k₁ .0) (k₁ .1) (steps .known) (k₃ .1) };
       text = simp append-assoc
           (row-sound _ 2 365 s (b .mid) l (b .at) (b .a) (b .first)
           ∙ ap (λ (m : ℕ). lineOf "horizon=" m ++ b .mid) h
           ∙ ap (λ (r : List ℕ). lineOf "horizon=" (g .job .horizon) ++ r)
-          (row-sound _ 0 4000000000 (b .mid) (d .mid) (b .at) (d .at) (d .a) (d .first)
+          (steps .text
+          ∙ ap (λ (xs : List ℕ). idlesText xs ++ c .mid) is
+          ∙ ap (λ (r : List ℕ). idlesText (g .job .idles) ++ r)
+          (row-sound _ 0 4000000000 (c .mid) (d .mid) (c .at) (d .at) (d .a) (d .first)
           ∙ ap (λ (m : ℕ). lineOf "walk=" m ++ d .mid) w
           ∙ ap (λ (r : List ℕ). lineOf "walk=" (g .walk) ++ r)
           (row-sound _ 0 64 (d .mid) (f .mid) (d .at) (f .at) (f .a) (f .first)
           ∙ ap (λ (m : ℕ). lineOf "openings=" m ++ f .mid) n
-          ∙ ap (λ (r : List ℕ). lineOf "openings=" (length (g .job .openings)) ++ r) (t .text))));
+          ∙ ap (λ (r : List ℕ). lineOf "openings=" (length (g .job .openings)) ++ r) (t .text)))));
     }
 
 -- ---- the text

@@ -71,11 +71,14 @@ module _ (j : Job) (sized : Sized j) (whole : Whole j) where
   abbrev m : ℕ
   m = j .«part_count»
 
+  pub idles-long : j .«idle_count» ≤ length (j .idles)
+  idles-long = omega (arith, sized .idles, rw length-map at (whole .1 .1 .1 .1 .0 .1 .0 .1))
+
   openings-long : n ≤ length (j .openings)
-  openings-long = omega (arith, sized .openings, rw length-map at (whole .1 .1 .1 .1 .0 .1 .0 .1))
+  openings-long = omega (arith, sized .openings, rw length-map at (whole .1 .1 .1 .1 .1 .1 .0 .1 .0 .1))
 
   parts-long : m ≤ length (j .parts)
-  parts-long = omega (arith, sized .parts, rw length-map at (whole .1 .1 .1 .1 .1 .1 .0 .1 .0 .1))
+  parts-long = omega (arith, sized .parts, rw length-map at (whole .1 .1 .1 .1 .1 .1 .1 .1 .0 .1 .0 .1))
 
   pub opening-count : length (jobOf j .openings) ≡ n
   opening-count = firsts-size openingOf (j .openings) n openings-long

@@ -3,9 +3,9 @@ use Prim.Native.Nat.{ℕ, _≤_}
 use mathlib.Core.Path.{_≡_}
 use mathlib.Core.List.{List}
 use native.Mathlib.Omega.{arith}
-use Rattle.lines.specs.Parser.{rowAt, refused}
-use Rattle.lines.proofs.Numbered.{Numbers, row-numbers, checked-numbers, bind-numbers, return-numbers, chain-numbers, times-numbers, refused-fault}
-use Rattle.job_text.specs.Grammar.{opening, openings, part, body, jobLines, maxBytes, readJob}
+use Rattle.lines.specs.Parser.{rowAt, checked, rising, refused}
+use Rattle.lines.proofs.Numbered.{Numbers, row-numbers, optional-numbers, checked-numbers, bind-numbers, return-numbers, chain-numbers, times-numbers, refused-fault}
+use Rattle.job_text.specs.Grammar.{idle, idleSteps, idles, opening, openings, part, body, jobLines, maxBytes, readJob}
 
 abbrev pub JobFault : ℕ → Type 0
 JobFault n = (1 ≤ n) × (n ≤ 5)
@@ -13,10 +13,19 @@ JobFault n = (1 ≤ n) × (n ≤ 5)
 line-numbers : (key : List ℕ) (lo hi : ℕ) → Numbers JobFault (rowAt key lo hi)
 line-numbers = row-numbers JobFault (omega arith, omega arith) (omega arith, omega arith)
 
+step-numbers : (key : List ℕ) (h before : ℕ) → Numbers JobFault (checked 4 (rising before h) (rowAt key 1 365))
+step-numbers key h before = checked-numbers JobFault 4 (omega arith, omega arith) _ _ (line-numbers key 1 365)
+
+idles-numbers : (h : ℕ) → Numbers JobFault (idles h)
+unfolding idles idleSteps idle
+idles-numbers h =
+    bind-numbers JobFault _ _ (optional-numbers JobFault (omega arith, omega arith) (omega arith, omega arith) _ 1 365)
+    (λ n. chain-numbers JobFault (idle h) _ (step-numbers _ h) n 0)
+
 opening-numbers : (h before : ℕ) → Numbers JobFault (opening h before)
 unfolding opening
 opening-numbers h before =
-    bind-numbers JobFault _ _ (checked-numbers JobFault 4 (omega arith, omega arith) _ _ (line-numbers _ 1 365)) (λ o. bind-numbers JobFault _ _ (line-numbers _ 0 1000000) (λ f. return-numbers JobFault _))
+    bind-numbers JobFault _ _ (step-numbers _ h before) (λ o. bind-numbers JobFault _ _ (line-numbers _ 0 1000000) (λ f. return-numbers JobFault _))
 
 part-numbers : (n : ℕ) → Numbers JobFault (part n)
 unfolding part
@@ -25,9 +34,9 @@ part-numbers n =
     (λ l. bind-numbers JobFault _ _ (checked-numbers JobFault 5 (omega arith, omega arith) _ _ (line-numbers _ 1 1000))
     (λ r. bind-numbers JobFault _ _ (times-numbers JobFault n _ (line-numbers _ 1 1000000)) (λ ps. return-numbers JobFault _)))
 
-body-numbers : (h w n : ℕ) → Numbers JobFault (body h w n)
+body-numbers : (h : ℕ) (is : List ℕ) (w n : ℕ) → Numbers JobFault (body h is w n)
 unfolding body openings
-body-numbers h w n =
+body-numbers h is w n =
     bind-numbers JobFault _ _ (chain-numbers JobFault (opening h) _ (opening-numbers h) n 0)
     (λ os. bind-numbers JobFault _ _ (line-numbers _ 1 16)
     (λ m. bind-numbers JobFault _ _ (times-numbers JobFault m (part n) (part-numbers n)) (λ ps. return-numbers JobFault _)))
@@ -36,8 +45,9 @@ pub lines-numbers : Numbers JobFault jobLines
 unfolding jobLines
 lines-numbers =
     bind-numbers JobFault _ _ (line-numbers _ 2 365)
-    (λ h. bind-numbers JobFault _ _ (line-numbers _ 0 4000000000)
-    (λ w. bind-numbers JobFault _ _ (line-numbers _ 0 64) (λ n. body-numbers h w n)))
+    (λ h. bind-numbers JobFault _ _ (idles-numbers h)
+    (λ is. bind-numbers JobFault _ _ (line-numbers _ 0 4000000000)
+    (λ w. bind-numbers JobFault _ _ (line-numbers _ 0 64) (λ n. body-numbers h is w n))))
 
 pub fault : (s : List ℕ) (n l : ℕ) → readJob s ≡ refused n l → JobFault n × (l ≤ 32769)
 fault s n l e = refused-fault JobFault maxBytes jobLines (omega arith, omega arith) (omega arith, omega arith) lines-numbers s n l e

@@ -1,10 +1,15 @@
 -- The text of a job.
 use Prim.Native.Nat.{ℕ}
-use mathlib.Core.List.{List, _++_}
+use mathlib.Core.List.{List, [], _∷_, _++_}
 use lib.ListN.{length}
 use Rattle.lines.specs.Text.{lineOf, texts}
 use Rattle.model.specs.Model.{Opening, Part, Job}
 use Rattle.job_text.specs.Grammar.{Given}
+
+-- the number of idle steps and the steps; nothing where there are none
+unfoldable pub idlesText : List ℕ → List ℕ
+idlesText [] = []
+idlesText (i ∷ is) = lineOf "idles=" (length (i ∷ is)) ++ texts (lineOf "idle=") (i ∷ is)
 
 unfoldable pub openingText : Opening → List ℕ
 openingText o = lineOf "opening=" (o .step) ++ lineOf "fee=" (o .fee)
@@ -18,4 +23,4 @@ bodyText j = texts openingText (j .openings) ++ lineOf "parts=" (length (j .part
 
 -- the lines of a job in the text's order; the counts are the lists' lengths
 unfoldable pub jobText : Given → List ℕ
-jobText g = lineOf "horizon=" (g .job .horizon) ++ lineOf "walk=" (g .walk) ++ lineOf "openings=" (length (g .job .openings)) ++ bodyText (g .job)
+jobText g = lineOf "horizon=" (g .job .horizon) ++ idlesText (g .job .idles) ++ lineOf "walk=" (g .walk) ++ lineOf "openings=" (length (g .job .openings)) ++ bodyText (g .job)

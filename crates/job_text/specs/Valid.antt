@@ -1,7 +1,7 @@
 -- What is known of an accepted job.
 use Prim.Native.Nat.{ℕ, _≤_, _<_}
 use mathlib.Core.Path.{_≡_}
-use mathlib.Core.List.{List, [], _∷_}
+use mathlib.Core.List.{List, [], _∷_, map}
 use lib.ListN.{length}
 use Rattle.model.specs.Model.{Opening, Part, Job}
 use Rattle.job_text.specs.Grammar.{Given}
@@ -11,10 +11,14 @@ abbrev pub All : {A : Type 0} → (A → Type 0) → List A → Type 0
 All P [] = Unit {0}
 All P (x ∷ xs) = P x × All P xs
 
--- "Openings rise and stay within the horizon": each is after `before`
+-- steps that rise and stay within the horizon h: each is after `before`
+abbrev pub RisingSteps : ℕ → ℕ → List ℕ → Type 0
+RisingSteps h before [] = Unit {0}
+RisingSteps h before (i ∷ is) = (before < i) × (i ≤ h) × RisingSteps h i is
+
+-- "Openings rise and stay within the horizon"
 abbrev pub Rising : ℕ → ℕ → List Opening → Type 0
-Rising h before [] = Unit {0}
-Rising h before (o ∷ os) = (before < o .step) × (o .step ≤ h) × Rising h (o .step) os
+Rising h before os = RisingSteps h before (map (λ (o : Opening). o .step) os)
 
 pub record ValidOpening (o : Opening) : Type 0 where
   pub step-low : 1 ≤ o .step
@@ -36,6 +40,8 @@ pub record ValidPart (n : ℕ) (p : Part) : Type 0 where
 pub record ValidJob (j : Job) : Type 0 where
   pub horizon-low : 2 ≤ j .horizon
   pub horizon-high : j .horizon ≤ 365
+  pub few-idles : length (j .idles) ≤ 365
+  pub idles : RisingSteps (j .horizon) 0 (j .idles)
   pub few-openings : length (j .openings) ≤ 64
   pub openings : All ValidOpening (j .openings)
   pub rising : Rising (j .horizon) 0 (j .openings)

@@ -1,6 +1,8 @@
-// The job text: its types and limits (here), its openings, its parts, and the whole text.
+// The job text: its types and limits (here), steps that rise, its idle steps, its openings, its parts, and the whole text.
+pub mod idles;
 pub mod openings;
 pub mod parts;
+pub mod steps;
 pub mod whole;
 
 ghost use mathlib.Core.Path.{_≡_};
@@ -19,9 +21,11 @@ pub struct Part {
     pub prices: [u32; 64],
 }
 
-// A job. The first opening_count openings and prices and the first part_count parts count.
+// A job. The first idle_count idles, the first opening_count openings and prices and the first part_count parts count.
 pub struct Job {
     pub horizon: u32,
+    pub idle_count: usize,
+    pub idles: [u32; 365],
     pub opening_count: usize,
     pub openings: [Opening; 64],
     pub part_count: usize,
@@ -57,6 +61,10 @@ impl Job {
 
     pub const MAX_HORIZON: u32 = 365;
 
+    pub const MIN_IDLES: u32 = 1;
+
+    pub const MAX_IDLES: u32 = 365;
+
     pub const MAX_WALK: u32 = 4000000000;
 
     pub const MAX_OPENINGS: u32 = 64;
@@ -65,7 +73,7 @@ impl Job {
 
     pub const MAX_PARTS: u32 = 16;
 
-    // The job of no openings and no parts, which stands where a text is refused.
+    // The job of no idle steps, no openings and no parts, which stands where a text is refused.
     pub fn empty() -> Job
         ensures { λ r. ⌜ (jobOf r ≡ emptyJob) × Sized r ⌝ }
     {
@@ -77,6 +85,8 @@ impl Job {
         };
         Job {
             horizon: 0,
+            idle_count: 0,
+            idles: [0u32; 365],
             opening_count: 0,
             openings: [opening; 64],
             part_count: 0,

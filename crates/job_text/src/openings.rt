@@ -1,5 +1,6 @@
 // The openings of a job text.
 use crate::Opening;
+use crate::steps::read_rising;
 use lines::rows::Cursor;
 use lines::rows::End;
 use lines::rows::Row;
@@ -7,8 +8,7 @@ use lines::rows::read_row;
 ghost use mathlib.Core.List.{map};
 ghost use Prim.Native.Nat.{_≤_};
 ghost use lib.ListN.{drop, take};
-ghost use Rattle.lines.specs.Parser.{checked, row, rising};
-ghost use Rattle.lines.specs.Cursor.{Stands, Reads, rowAnswer, ended};
+ghost use Rattle.lines.specs.Cursor.{Stands, Reads, ended};
 ghost use Rattle.job_text.specs.Views.{openingAnswer, openingOf};
 ghost use Rattle.job_text.specs.Grammar.{opening, openings};
 
@@ -24,32 +24,12 @@ pub struct Openings {
     pub openings: [Opening; 64],
 }
 
-// An opening's step, which is after the step before and within the horizon: else fault 4.
-fn read_step(text: &[u8], p: Cursor, horizon: u32, before: u32) -> Row
-    requires { ⌜ Stands (now text) p ⌝ }
-    ensures { λ r. ⌜ Reads (now (text .entry)) (rowAnswer r) (checked 4 (rising before horizon) (row "opening=" 1 365) (drop (p .at) (now (text .entry))) (p .line)) ⌝ }
-{
-    let line = p.line;
-    match read_row(text, p, b"opening=", Opening::MIN_STEP, Opening::MAX_STEP) {
-        Row::Value(v, q) => {
-            if v <= before {
-                return Row::Fault(4, line);
-            }
-            if horizon < v {
-                return Row::Fault(4, line);
-            }
-            Row::Value(v, q)
-        }
-        Row::Fault(k, l) => Row::Fault(k, l),
-    }
-}
-
 // An opening: its step and its fee.
 fn read_opening(text: &[u8], p: Cursor, horizon: u32, before: u32) -> OpeningRow
     requires { ⌜ Stands (now text) p ⌝ }
     ensures { λ r. ⌜ Reads (now (text .entry)) (openingAnswer r) (opening horizon before (drop (p .at) (now (text .entry))) (p .line)) ⌝ }
 {
-    match read_step(text, p, horizon, before) {
+    match read_rising(text, p, b"opening=", horizon, before) {
         Row::Value(step, q) => match read_row(text, q, b"fee=", 0, Opening::MAX_FEE) {
             Row::Value(fee, r) => OpeningRow::Value(Opening { step, fee }, r),
             Row::Fault(k, l) => OpeningRow::Fault(k, l),

@@ -1,5 +1,7 @@
 // The lines of a job from a cursor on, and the whole job text.
 use crate::Job;
+use crate::idles::Idles;
+use crate::idles::read_idles;
 use crate::openings::read_openings;
 use crate::parts::read_parts;
 use lines::rows::Cursor;
@@ -12,7 +14,7 @@ ghost use mathlib.Core.Path.{_≡_};
 ghost use Prim.Native.Nat.{_≤_};
 ghost use lib.ListN.{drop};
 ghost use Rattle.lines.specs.Cursor.{Stands};
-ghost use Rattle.job_text.specs.Views.{Sized, LinesRead, TextRead};
+ghost use Rattle.job_text.specs.Views.{idlesOf, Sized, LinesRead, TextRead};
 ghost use Rattle.job_text.specs.Grammar.{body, jobLines, readJob};
 
 // The lines of a job: where they end, the walk number, and the job.
@@ -41,9 +43,9 @@ fn no_job(k: u32, line: usize) -> JobLines
 }
 
 // What follows the number n of openings.
-fn read_body(text: &[u8], p: Cursor, horizon: u32, walk: u32, n: usize) -> JobLines
-    requires { ⌜ Stands (now text) p × (n ≤ 64) ⌝ }
-    ensures { λ r. ⌜ LinesRead (now (text .entry)) r (body horizon walk n (drop (p .at) (now (text .entry))) (p .line)) ⌝ }
+fn read_body(text: &[u8], p: Cursor, horizon: u32, steps: Idles, walk: u32, n: usize) -> JobLines
+    requires { ⌜ Stands (now text) p × (steps .count ≤ 365) × (n ≤ 64) ⌝ }
+    ensures { λ r. ⌜ LinesRead (now (text .entry)) r (body horizon (idlesOf steps) walk n (drop (p .at) (now (text .entry))) (p .line)) ⌝ }
 {
     let os = read_openings(text, p, horizon, n);
     let os_end = os.end;
@@ -53,6 +55,8 @@ fn read_body(text: &[u8], p: Cursor, horizon: u32, walk: u32, n: usize) -> JobLi
                 let part_count = m as usize;
                 let ps = read_parts(text, r, part_count, n);
                 let end = ps.end;
+                let idle_count = steps.count;
+                let idles = steps.idles;
                 let openings = os.openings;
                 let parts = ps.parts;
                 JobLines {
@@ -60,6 +64,8 @@ fn read_body(text: &[u8], p: Cursor, horizon: u32, walk: u32, n: usize) -> JobLi
                     walk,
                     job: Job {
                         horizon,
+                        idle_count,
+                        idles,
                         opening_count: n,
                         openings,
                         part_count,
@@ -79,13 +85,26 @@ pub fn read_job_lines(text: &[u8], p: Cursor) -> JobLines
     ensures { λ r. ⌜ LinesRead (now (text .entry)) r (jobLines (drop (p .at) (now (text .entry))) (p .line)) ⌝ }
 {
     match read_row(text, p, b"horizon=", Job::MIN_HORIZON, Job::MAX_HORIZON) {
-        Row::Value(horizon, q) => match read_row(text, q, b"walk=", 0, Job::MAX_WALK) {
-            Row::Value(walk, r) => match read_row(text, r, b"openings=", 0, Job::MAX_OPENINGS) {
-                Row::Value(n, s) => read_body(text, s, horizon, walk, n as usize),
-                Row::Fault(k, l) => no_job(k, l),
-            },
-            Row::Fault(k, l) => no_job(k, l),
-        },
+        Row::Value(horizon, q) => {
+            let steps = read_idles(text, q, horizon);
+            let steps_end = steps.end;
+            match steps_end {
+                End::At(r) => match read_row(text, r, b"walk=", 0, Job::MAX_WALK) {
+                    Row::Value(walk, s) => match read_row(
+                        text,
+                        s,
+                        b"openings=",
+                        0,
+                        Job::MAX_OPENINGS,
+                    ) {
+                        Row::Value(n, t) => read_body(text, t, horizon, steps, walk, n as usize),
+                        Row::Fault(k, l) => no_job(k, l),
+                    },
+                    Row::Fault(k, l) => no_job(k, l),
+                },
+                End::Fault(k, l) => no_job(k, l),
+            }
+        }
         Row::Fault(k, l) => no_job(k, l),
     }
 }

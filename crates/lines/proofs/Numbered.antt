@@ -8,8 +8,9 @@ use mathlib.Core.Logic.{inl, inr}
 use native.Mathlib.Omega.{arith}
 use lib.Dec.{leb}
 use lib.ListN.{length, length-drop}
+use Rattle.lines.specs.Line.{startsWith}
 use borrow.Author.Tests.{leb-true}
-use Rattle.lines.specs.Parser.{Parsed, good, fault, Parser, _>>=_, return, readField, taken, rowAt, checked, chain, times, end as ends, refused, finish, whole, readText}
+use Rattle.lines.specs.Parser.{Parsed, good, fault, Parser, _>>=_, return, readField, taken, rowAt, optionalAt, checked, chain, times, end as ends, refused, finish, whole, readText}
 use Rattle.lines.specs.declared.read.Field.{Field}
 use Rattle.lines.specs.declared.read.Field.the-variants.{Value, Fault}
 use Rattle.lines.proofs.Reading.{InField, field-in}
@@ -32,6 +33,14 @@ module _ (P : ℕ → Type 0) where
       go (Value v n) h = omega (arith, length-drop n s)
       go (Fault k) (inl e) = (subst P (sym e) two, omega arith)
       go (Fault k) (inr e) = (subst P (sym e) three, omega arith)
+
+  pub optional-numbers : P 2 → P 3 → (key : List ℕ) (lo hi : ℕ) → Numbers P (optionalAt key lo hi)
+  unfolding optionalAt
+  optional-numbers two three key lo hi s l = go (startsWith key s)
+    where
+      go : (t : Bool) → NumberIn {A = ℕ} P (length s) l (elim t [ true ↦ rowAt key lo hi s l | false ↦ good 0 s l ])
+      go true = row-numbers two three key lo hi s l
+      go false = omega arith
 
   pub checked-numbers : (k : ℕ) → P k → (ok : ℕ → Bool) (p : Parser ℕ) → Numbers P p → Numbers P (checked k ok p)
   unfolding checked

@@ -9,7 +9,8 @@ use native.Mathlib.Nat.{sub-zero}
 use lib.ListN.{length, drop, length-drop, drop-of-length-le}
 use lib.Seq.{drop-drop}
 use borrow.Author.Tests.{le-leb, lt-leb, lt-ltb, le-ltb}
-use Rattle.lines.specs.Parser.{Parsed, good, fault, Parser, _>>=_, return, readField, taken, rowAt, checked, chain, end as ends, rising, upTo, refused, finish, whole, readText}
+use Rattle.lines.specs.Parser.{Parsed, good, fault, Parser, _>>=_, return, readField, taken, rowAt, optionalAt, checked, chain, end as ends, rising, upTo, refused, finish, whole, readText}
+use Rattle.lines.specs.Line.{startsWith}
 use Rattle.lines.specs.Cursor.{Answer, got, no-good, Stands, Stood, Reads, parsed, ended, closed, judged}
 use Rattle.lines.specs.declared.rows.End.{End}
 use Rattle.lines.specs.declared.rows.End.the-variants as end
@@ -49,6 +50,16 @@ row-in key lo hi s l = go (readField key lo hi s) (field-in key s lo hi)
     go : (f : Field) → InField lo hi (length s) f → InRow lo hi (taken s l f)
     go (Value v n) h = (h .2, h .3)
     go (Fault k) h = tt
+
+-- a line that may be missing, by whether its key stands there
+module _ (key : List ℕ) (lo hi : ℕ) (s : List ℕ) (l : ℕ) where
+  pub optional-there : startsWith key s ≡ true → optionalAt key lo hi s l ≡ rowAt key lo hi s l
+  unfolding optionalAt
+  optional-there e = rw (optionalAt, e)
+
+  pub optional-missing : startsWith key s ≡ false → optionalAt key lo hi s l ≡ good 0 s l
+  unfolding optionalAt
+  optional-missing e = rw (optionalAt, e)
 
 -- the place after a row of n bytes
 pub stands-after : (s : List ℕ) (p : Cursor) (n : ℕ) → Stands s p → 1 ≤ n → n ≤ length (drop (p .at) s) → Stands s (record { at = p .at + n; line = p .line + 1 })

@@ -10,7 +10,7 @@ use Rattle.lines.specs.declared.read.Line.{Line}
 use Rattle.lines.specs.declared.read.Line.the-variants as line
 use Rattle.lines.specs.declared.read.Field.{Field}
 use Rattle.lines.specs.declared.read.Field.the-variants.{Value, Fault}
-use Rattle.lines.specs.Line.{readLine}
+use Rattle.lines.specs.Line.{startsWith, readLine}
 use Rattle.lines.specs.Text.{bytes}
 
 pub data Parsed (A : Type 0) : Type 0 where
@@ -47,6 +47,13 @@ rowAt key lo hi s l = taken s l (readField key lo hi s)
 
 abbrev pub row : String → ℕ → ℕ → Parser ℕ
 row key lo hi = rowAt (bytes key) lo hi
+
+-- a line `key=value` that may be missing: 0 stands for it where the text does not begin with the key, so lo is at least 1
+unfoldable pub optionalAt : List ℕ → ℕ → ℕ → Parser ℕ
+optionalAt key lo hi s l = elim (startsWith key s) [ true ↦ rowAt key lo hi s l | false ↦ good 0 s l ]
+
+abbrev pub optional : String → ℕ → ℕ → Parser ℕ
+optional key lo hi = optionalAt (bytes key) lo hi
 
 -- p, and a further rule of its value whose fault k is on p's own line
 unfoldable pub checked : ℕ → (ℕ → Bool) → Parser ℕ → Parser ℕ

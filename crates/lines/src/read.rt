@@ -50,7 +50,7 @@ fn number(s: &[u8], n: usize) -> u64
 }
 
 // Whether s begins with the key.
-fn starts_with(s: &[u8], key: &[u8]) -> bool
+pub fn starts_with(s: &[u8], key: &[u8]) -> bool
     ensures { λ r. ⌜ r ≡ startsWith (now (key .entry)) (now (s .entry)) ⌝ }
 {
     if s.len() < key.len() {

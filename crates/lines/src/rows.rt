@@ -1,9 +1,10 @@
 // Lines of a text, read at a cursor.
 use crate::read::Field;
 use crate::read::read_field;
+use crate::read::starts_with;
 ghost use mathlib.Core.Path.{_≡_};
 ghost use lib.ListN.{drop};
-ghost use Rattle.lines.specs.Parser.{rowAt};
+ghost use Rattle.lines.specs.Parser.{rowAt, optionalAt};
 ghost use Rattle.lines.specs.Cursor.{Stands, Reads, rowAnswer, closed};
 
 // The start of a line in a text, and the line's number, from 1.
@@ -63,4 +64,16 @@ pub fn read_row(text: &[u8], p: Cursor, key: &[u8], lo: u32, hi: u32) -> Row
         ),
         Field::Fault(k) => Row::Fault(k, line),
     }
+}
+
+// The line at a cursor, which may be missing: 0 where the text there does not begin with the key.
+pub fn read_optional(text: &[u8], p: Cursor, key: &[u8], lo: u32, hi: u32) -> Row
+    requires { ⌜ Stands (now text) p ⌝ }
+    ensures { λ r. ⌜ Reads (now (text .entry)) (rowAnswer r) (optionalAt (now (key .entry)) lo hi (drop (p .at) (now (text .entry))) (p .line)) ⌝ }
+{
+    let at = p.at;
+    if starts_with(&text[at..], key) {
+        return read_row(text, p, key, lo, hi);
+    }
+    Row::Value(0, p)
 }

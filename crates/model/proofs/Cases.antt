@@ -6,7 +6,7 @@ use Prim.Native.Nat.{ℕ, _≤_}
 use lib.ListN.{replicate}
 use Rattle.branch.specs.Search.{limited}
 use Rattle.branch.specs.Label.{treeOf}
-use Rattle.model.specs.Model.{Job, Plan, clock, within, dueOf, select, sumAt, costOf, KeepsLives, HasPlan}
+use Rattle.model.specs.Model.{Job, Plan, idle, running, clock, within, lastWithin, dueOf, select, sumAt, costOf, KeepsLives, HasPlan}
 use Rattle.model.specs.LowerBound.{leastOf, choiceOf, offers, stopCost, boundOf}
 use Rattle.model.specs.Promise.{no-plan, cut-none, cut, optimum, answerOf, Promise}
 use Rattle.model.specs.Verdict.{accepts, unkept, wrongCost, firstLate, verdictFrom, judgedOf}
@@ -16,6 +16,7 @@ use Rattle.model.proofs.Promised.{promise}
 abbrev jobWith : ℕ → ℕ → Job
 jobWith fee left = record {
   horizon = 6;
+  idles = [];
   openings = map (λ (step : ℕ). record { step = step; fee = fee }) (2 ∷ 3 ∷ 4 ∷ 5 ∷ []);
   parts = record { life = 3; left = left; prices = replicate 4 5 } ∷ record { life = 4; left = 4; prices = replicate 4 7 } ∷ [];
 }
@@ -35,43 +36,43 @@ twice = record {
 }
 
 walk-11 : answerOf (jobWith 10 2) 11 ≡ optimum 11 17 37 printed
-unfolding answerOf limited treeOf boundOf stopCost sumAt offers leastOf choiceOf within clock
+unfolding answerOf limited treeOf boundOf stopCost sumAt offers leastOf choiceOf within clock running idle
 walk-11 = refl
 
 walk-10 : answerOf (jobWith 10 2) 10 ≡ cut 10 17 37 printed
-unfolding answerOf limited treeOf boundOf stopCost sumAt offers leastOf choiceOf within clock
+unfolding answerOf limited treeOf boundOf stopCost sumAt offers leastOf choiceOf within clock running idle
 walk-10 = refl
 
 walk-8 : answerOf (jobWith 10 2) 8 ≡ cut 8 17 44 twice
-unfolding answerOf limited treeOf boundOf stopCost sumAt offers leastOf choiceOf within clock
+unfolding answerOf limited treeOf boundOf stopCost sumAt offers leastOf choiceOf within clock running idle
 walk-8 = refl
 
 walk-6 : answerOf (jobWith 10 2) 6 ≡ cut-none 6 17
-unfolding answerOf limited treeOf boundOf stopCost sumAt offers leastOf choiceOf within clock
+unfolding answerOf limited treeOf boundOf stopCost sumAt offers leastOf choiceOf within clock running idle
 walk-6 = refl
 
 walk-0 : answerOf (jobWith 10 2) 0 ≡ cut-none 0 17
-unfolding answerOf limited treeOf boundOf stopCost sumAt offers leastOf choiceOf within clock
+unfolding answerOf limited treeOf boundOf stopCost sumAt offers leastOf choiceOf within clock running idle
 walk-0 = refl
 
 left-1 : answerOf (jobWith 10 1) 11 ≡ no-plan
-unfolding answerOf limited treeOf boundOf stopCost sumAt offers leastOf choiceOf within clock
+unfolding answerOf limited treeOf boundOf stopCost sumAt offers leastOf choiceOf within clock running idle
 left-1 = refl
 
 fees-0 : answerOf (jobWith 0 2) 11 ≡ optimum 11 17 17 printed
-unfolding answerOf limited treeOf boundOf stopCost sumAt offers leastOf choiceOf within clock
+unfolding answerOf limited treeOf boundOf stopCost sumAt offers leastOf choiceOf within clock running idle
 fees-0 = refl
 
 -- one part, T = 6, no openings
 abbrev bare : ℕ → Job
-bare life = record { horizon = 6; openings = []; parts = record { life = life; left = life; prices = [] } ∷ [] }
+bare life = record { horizon = 6; idles = []; openings = []; parts = record { life = life; left = life; prices = [] } ∷ [] }
 
 bare-7 : answerOf (bare 7) 11 ≡ optimum 1 0 0 (record { stops = []; changes = [] ∷ [] })
-unfolding answerOf limited treeOf boundOf stopCost sumAt offers leastOf choiceOf within clock
+unfolding answerOf limited treeOf boundOf stopCost sumAt offers leastOf choiceOf within clock running idle
 bare-7 = refl
 
 bare-6 : answerOf (bare 6) 11 ≡ no-plan
-unfolding answerOf limited treeOf boundOf stopCost sumAt offers leastOf choiceOf within clock
+unfolding answerOf limited treeOf boundOf stopCost sumAt offers leastOf choiceOf within clock running idle
 bare-6 = refl
 
 -- the printed plan's true cost
@@ -92,6 +93,22 @@ least-37 other k = promised .plan-for .least other k tt
 has-not : HasPlan (jobWith 10 1) → ⊥
 has-not = subst (Promise (jobWith 10 1) 11) left-1 (promise (jobWith 10 1) 11) .says-6 .0 refl
 
+-- ---- idle steps: the same job, with step 3 idle. Part 1's first life then ends with step 3, and a change at 3 is as good as one at 2
+
+abbrev idleJob : Job
+idleJob = record { horizon = 6; idles = 3 ∷ []; openings = jobWith 10 2 .openings; parts = jobWith 10 2 .parts }
+
+-- stop=3 part=1, stop=5 part=1 part=2
+abbrev rested : Plan
+rested = record {
+  stops = false ∷ true ∷ false ∷ true ∷ [];
+  changes = (false ∷ true ∷ false ∷ true ∷ []) ∷ (false ∷ false ∷ false ∷ true ∷ []) ∷ [];
+}
+
+idle-3 : answerOf idleJob 100 ≡ optimum 15 17 37 rested
+unfolding answerOf limited treeOf boundOf stopCost sumAt offers leastOf choiceOf within clock running idle
+idle-3 = refl
+
 -- ---- the judge
 
 -- part 1 at 2, parts 1 and 2 at 3
@@ -102,13 +119,25 @@ early = record {
 }
 
 judge-early : (cost : ℕ) → judgedOf (jobWith 10 2) cost early ≡ unkept 1 6
-unfolding judgedOf verdictFrom firstLate sumAt select within dueOf clock
+unfolding judgedOf verdictFrom firstLate sumAt select within dueOf lastWithin clock running idle
 judge-early cost = refl
 
 judge-printed : judgedOf (jobWith 10 2) 37 printed ≡ accepts 37
-unfolding judgedOf verdictFrom firstLate sumAt select within dueOf clock
+unfolding judgedOf verdictFrom firstLate sumAt select within dueOf lastWithin clock running idle
 judge-printed = refl
 
 judge-36 : judgedOf (jobWith 10 2) 36 printed ≡ wrongCost 37
-unfolding judgedOf verdictFrom firstLate sumAt select within dueOf clock
+unfolding judgedOf verdictFrom firstLate sumAt select within dueOf lastWithin clock running idle
 judge-36 = refl
+
+-- with step 3 idle, the plan of doing nothing loses part 1 after step 3
+abbrev still : Plan
+still = record { stops = replicate 4 false; changes = replicate 4 false ∷ replicate 4 false ∷ [] }
+
+judge-idle : (cost : ℕ) → judgedOf idleJob cost still ≡ unkept 1 3
+unfolding judgedOf verdictFrom firstLate sumAt select within dueOf lastWithin clock running idle
+judge-idle cost = refl
+
+judge-rested : judgedOf idleJob 37 rested ≡ accepts 37
+unfolding judgedOf verdictFrom firstLate sumAt select within dueOf lastWithin clock running idle
+judge-rested = refl

@@ -1,29 +1,53 @@
 -- The laws of positions: all that proofs use of `clock`, `within` and `dueOf`. By the definitions, read in natural numbers.
-use mathlib.Core.Path.{_≡_, refl, sym, _∙_}
+use mathlib.Core.Path.{_≡_, refl, sym, subst, _∙_}
 use mathlib.Core.Logic.{_↔_}
-use mathlib.Core.Bool.{true, false, false≢true}
+use mathlib.Core.Bool.{Bool, true, false, cond, false≢true}
 use mathlib.Core.List.{List, [], _∷_, map}
-use Prim.Native.Nat.{ℕ, zero, suc, _+_, _≤_, _<_}
+use Prim.Native.Nat.{ℕ, zero, suc, _+_, _-_, _≤_, _<_}
 use native.Mathlib.Omega.{arith}
 use native.Mathlib.Decide.{decLe}
 use lib.ListN.{length, length-map, getD}
-use lib.IntN.{ℤ, pos, _+ℤ_, _-ℤ_}
+use lib.IntN.{ℤ, pos, _-ℤ_}
 use lib.Signed.{leZ}
-use Rattle.model.specs.Model.{Opening, Job, clock, positions, end, within, dueOf}
+use Rattle.model.specs.Model.{Opening, Job, idle, running, clock, positions, within, lastWithin, dueOf}
 use Rattle.model.specs.Windows.{Rising, stepsOf}
-use Rattle.model.proofs.Integers.{up, down, AtMostℤ, at-most, at-most-test, sum, difference, absolute}
+use Rattle.model.proofs.Integers.{up, down, AtMostℤ, at-most, at-most-test, difference}
 
 -- ---- the clock
+
+-- one step more: one running step more, or none
+pub running-step : (is : List ℕ) (s : ℕ) → (running is s ≤ running is (suc s)) × (running is (suc s) ≤ running is s + 1)
+unfolding running
+running-step is s = go (idle is (suc s))
+  where
+    go : (b : Bool) → (running is s ≤ running is s + cond b 0 1) × (running is s + cond b 0 1 ≤ running is s + 1)
+    go true = (omega arith, omega arith)
+    go false = (omega arith, omega arith)
+
+pub running-rises : (is : List ℕ) (s t : ℕ) → s ≤ t → running is s ≤ running is t
+running-rises is s t h = go (t - s) (omega arith)
+  where
+    go : (d : ℕ) → t ≡ s + d → running is s ≤ running is t
+    go d e = rw e (by d)
+      where
+        by : (d : ℕ) → running is s ≤ running is (s + d)
+        by zero = let z : s + 0 ≡ s = omega arith in rw z (omega arith)
+        by (suc d) = let z : s + suc d ≡ suc (s + d) = omega arith in rw z (omega (arith, by d, running-step is (s + d) .0))
+
+running-most : (is : List ℕ) (s : ℕ) → running is s ≤ s
+unfolding running
+running-most is zero = omega arith
+running-most is (suc s) = omega (arith, running-most is s, running-step is s .1)
 
 -- positions never fall as steps rise (nothing says that they rise strictly)
 pub never-falls : (job : Job) (s t : ℕ) → s ≤ t → AtMostℤ (clock job s) (clock job t)
 unfolding clock
-never-falls job s t h = omega arith
+never-falls job s t h = omega (arith, running-rises (job .idles) s t h)
 
 -- a position is not negative, and no more than its step
 pub in-range : (job : Job) (s : ℕ) → AtMostℤ (pos 0) (clock job s) × AtMostℤ (clock job s) (pos s)
 unfolding clock
-in-range job s = (omega arith, omega arith)
+in-range job s = (omega arith, omega (arith, running-most (job .idles) s))
 
 -- ---- the openings' positions
 
@@ -93,23 +117,43 @@ abbrev pub Dues : ℤ → ℤ → Type 0
 Dues life prev = down prev + down life ≤ up prev + up life
 
 module _ (job : Job) (life prev : ℤ) (h : Dues life prev) where
-  due-is : (up (prev +ℤ life) ≡ dueOf job life prev) × (down (prev +ℤ life) ≡ 0)
-  unfolding dueOf
-  due-is = absolute (prev +ℤ life) (omega (arith, sum prev life))
+  last-most : (t : ℕ) → lastWithin job life prev t ≤ t
+  unfolding lastWithin
+  last-most zero = omega arith
+  last-most (suc t) = go (within life prev (clock job (suc t))) (last-most t)
+    where
+      go : (b : Bool) → lastWithin job life prev t ≤ t → cond b (suc t) (lastWithin job life prev t) ≤ suc t
+      go true l = omega arith
+      go false l = omega arith
+
+  -- before the first step nothing is late
+  at-0 : within life prev (clock job 0) ≡ true
+  unfolding clock running
+  at-0 = near-within life prev (pos 0) (omega arith)
+
+  last-within : (t s : ℕ) → s ≤ t → (within life prev (clock job s) ≡ true) ↔ (s ≤ lastWithin job life prev t)
+  unfolding lastWithin
+  last-within zero zero q = ((λ e. omega arith), (λ l. at-0))
+  last-within zero (suc s) q = absurd (omega arith)
+  last-within (suc t) s q = go (λ l. last-within t s l) (within life prev (clock job (suc t))) refl
+    where
+      go : (s ≤ t → (within life prev (clock job s) ≡ true) ↔ (s ≤ lastWithin job life prev t)) → (b : Bool) → within life prev (clock job (suc t)) ≡ b
+          → (within life prev (clock job s) ≡ true) ↔ (s ≤ cond b (suc t) (lastWithin job life prev t))
+      go r true e = ((λ f. q), (λ l. within-earlier life prev (clock job s) (clock job (suc t)) (never-falls job s (suc t) q) e))
+      go r false e = by (decLe s t)
+        where
+          by : Dec (s ≤ t) → (within life prev (clock job s) ≡ true) ↔ (s ≤ lastWithin job life prev t)
+          by (yes l) = r l
+          by (no l) =
+              let z : s ≡ suc t = omega (arith, l) in
+              ((λ f. absurd (false≢true (sym e ∙ subst (λ (k : ℕ). within life prev (clock job k) ≡ true) z f))), (λ m. absurd (omega (arith, last-most t))))
 
   -- of the steps of the horizon, the due step is the last at which a change is within the life
   pub due-last : (s : ℕ) → s ≤ job .horizon → (within life prev (clock job s) ≡ true) ↔ (s ≤ dueOf job life prev)
-  unfolding clock
-  due-last s q = (
-    (λ e. omega (arith, near life prev (pos s) e, sum prev life, due-is)),
-    (λ l. near-within life prev (pos s) (omega (arith, sum prev life, due-is))),
-  )
+  unfolding dueOf
+  due-last s q = last-within (job .horizon) s q
 
-  -- where the end is not within the life it is a step of the horizon
-  pub due-most : within life prev (end job) ≡ false → dueOf job life prev ≤ job .horizon
-  unfolding clock
-  due-most e = go (decLe (job .horizon + 1) (dueOf job life prev))
-    where
-      go : Dec (job .horizon + 1 ≤ dueOf job life prev) → dueOf job life prev ≤ job .horizon
-      go (yes l) = absurd (false≢true (sym e ∙ near-within life prev (pos (job .horizon + 1)) (omega (arith, sum prev life, due-is))))
-      go (no l) = omega arith
+  -- it is a step of the horizon, or 0
+  pub due-most : dueOf job life prev ≤ job .horizon
+  unfolding dueOf
+  due-most = last-most (job .horizon)

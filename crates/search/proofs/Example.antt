@@ -10,7 +10,7 @@ use lib.ListN.{length, getD, drop, replicate}
 use lib.Seq.{getD-drop}
 use lib.IntN.{ℤ, pos}
 use lib.Signed.{mag}
-use Rattle.model.specs.Model.{Job, clock}
+use Rattle.model.specs.Model.{Job, idle, running, clock}
 use Rattle.model.specs.Verdict.{noPart}
 use Rattle.search.specs.Arrays.{longestLife, lastPosition, priceStride, partAt, Holds}
 use Rattle.lane_rows.specs.Layout.{top}
@@ -33,6 +33,7 @@ abbrev pub job : Job
 job =
     record {
       horizon = 6;
+      idles = [];
       openings = record { step = 2; fee = 10 } ∷ record { step = 3; fee = 10 } ∷ record { step = 4; fee = 10 } ∷ record { step = 5; fee = 10 } ∷ [];
       parts = record { life = 3; left = 2; prices = 5 ∷ 5 ∷ 5 ∷ 5 ∷ [] } ∷ record { life = 4; left = 4; prices = 7 ∷ 7 ∷ 7 ∷ 7 ∷ [] } ∷ [];
     }
@@ -71,7 +72,7 @@ own (suc zero) h = refl
 own (suc (suc q)) h = absurd (omega arith)
 
 pub held : Holds job (pos 7) places fees lives lefts flat
-unfolding clock
+unfolding clock running idle
 held =
     record {
       arrays = record {

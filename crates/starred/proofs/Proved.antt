@@ -2,11 +2,11 @@
 use mathlib.Core.Path.{refl}
 use Rattle.lines.specs.Text.{bytes, decimalIn, line, joined}
 use Rattle.lines.specs.Line.{digits, numberFrom, startsWith, readValue, readLine}
-use Rattle.lines.specs.Parser.{_>>=_, return, inRange, readField, taken, rowAt, checked, chain, times, end, whole, readText}
+use Rattle.lines.specs.Parser.{_>>=_, return, inRange, readField, taken, rowAt, optionalAt, checked, chain, times, end, whole, readText}
 use Rattle.lines.specs.Fault.{beforeBreak, afterBreak, skipped, faultLine, faultSpan}
 use Rattle.branch.specs.Search.{walk, limited}
 use Rattle.branch.specs.Label.{treeOf}
-use Rattle.model.specs.Model.{clock, within, kept, dueOf, select, sumAt}
+use Rattle.model.specs.Model.{idle, running, clock, within, kept, lastWithin, dueOf, select, sumAt}
 use Rattle.model.specs.LowerBound.{leastOf, choiceOf, offers, stopCost, boundOf}
 use Rattle.model.specs.Promise.{answerOf}
 use Rattle.model.specs.Verdict.{firstLate, verdictFrom, judgedOf}
@@ -19,5 +19,5 @@ use Rattle.planning.specs.Plan.{planSaid}
 use Rattle.starred.specs.Table.{All, table}
 
 pub proved : All table
-unfolding table bytes decimalIn line joined digits numberFrom startsWith readValue readLine _>>=_ return inRange readField taken rowAt checked chain times end whole readText beforeBreak afterBreak skipped faultLine faultSpan walk limited treeOf clock within kept dueOf select sumAt leastOf choiceOf offers stopCost boundOf answerOf firstLate verdictFrom judgedOf job.opening job.openings job.part job.body job.jobLines plan.any plan.part plan.parts plan.visit plan.visits plan.planOf plan.planLines visitText planText chosen visitsOf planLinesOf faultLines searchLines plannedLines costLines unkeptLines bytesOf judgeOutcome planSaid
-proved = ((refl, refl, refl, refl, refl, refl), ((refl, refl, refl, refl, refl, refl), ((refl, refl, refl, refl, refl, refl), ((refl, refl, refl, refl, refl, refl), ((refl, refl, refl, refl, refl, refl), ((refl, refl, refl, refl, refl, refl), ((refl, refl, refl, refl, refl, refl), ((refl, refl, refl, refl, refl, refl), ((refl, refl, refl, refl, refl, refl), ((refl, refl, refl, refl, refl, refl), ((refl, refl, refl, refl, refl, refl), ((refl, refl, refl, refl, refl, refl), tt))))))))))))
+unfolding table bytes decimalIn line joined digits numberFrom startsWith readValue readLine _>>=_ return inRange readField taken rowAt optionalAt checked chain times end whole readText beforeBreak afterBreak skipped faultLine faultSpan walk limited treeOf idle running clock within kept lastWithin dueOf select sumAt leastOf choiceOf offers stopCost boundOf answerOf firstLate verdictFrom judgedOf job.idle job.idleSteps job.idles job.opening job.openings job.part job.body job.jobLines plan.any plan.part plan.parts plan.visit plan.visits plan.planOf plan.planLines visitText planText chosen visitsOf planLinesOf faultLines searchLines plannedLines costLines unkeptLines bytesOf judgeOutcome planSaid
+proved = ((refl, refl, refl, refl, refl, refl), ((refl, refl, refl, refl, refl, refl), ((refl, refl, refl, refl, refl, refl), ((refl, refl, refl, refl, refl, refl), ((refl, refl, refl, refl, refl, refl), ((refl, refl, refl, refl, refl, refl), ((refl, refl, refl, refl, refl, refl), ((refl, refl, refl, refl, refl, refl), ((refl, refl, refl, refl, refl, refl), ((refl, refl, refl, refl, refl, refl), ((refl, refl, refl, refl, refl, refl), ((refl, refl, refl, refl, refl, refl), ((refl, refl, refl, refl, refl, refl), ((refl, refl, refl, refl, refl, refl), ((refl, refl, refl, refl, refl, refl), tt)))))))))))))))

@@ -206,4 +206,43 @@ table =
       length = 9;
       fault = bytes "";
     }
+    ∷
+    -- E1: 01's job with step 3 idle: the tie rule's stops are 3 and 5
+    record {
+      call = planner;
+      job = bytes "horizon=6\nidles=1\nidle=3\nwalk=15\nopenings=4\nopening=2\nfee=10\nopening=3\nfee=10\nopening=4\nfee=10\nopening=5\nfee=10\nparts=2\nlife=3\nleft=2\nprice=5\nprice=5\nprice=5\nprice=5\nlife=4\nleft=4\nprice=7\nprice=7\nprice=7\nprice=7\n";
+      plan = bytes "";
+      written = bytes "result=0\nnodes=15\nfloor=17\ncost=37\nstops=2\nstop=3\ncount=1\npart=1\nstop=5\ncount=2\npart=1\npart=2\n";
+      result = 0;
+      text = 0;
+      line = 0;
+      length = 94;
+      fault = bytes "";
+    }
+    ∷
+    -- the plan of doing nothing: part 1 is due at the idle step
+    record {
+      call = judge;
+      job = bytes "horizon=6\nidles=1\nidle=3\nwalk=15\nopenings=4\nopening=2\nfee=10\nopening=3\nfee=10\nopening=4\nfee=10\nopening=5\nfee=10\nparts=2\nlife=3\nleft=2\nprice=5\nprice=5\nprice=5\nprice=5\nlife=4\nleft=4\nprice=7\nprice=7\nprice=7\nprice=7\n";
+      plan = bytes "cost=0\nstops=0\n";
+      written = bytes "result=10\npart=1\ndue=3\n";
+      result = 10;
+      text = 0;
+      line = 0;
+      length = 23;
+      fault = bytes "";
+    }
+    ∷
+    -- an idle line past the horizon is number 4, on its line
+    record {
+      call = planner;
+      job = bytes "horizon=6\nidles=1\nidle=7\nwalk=15\nopenings=0\nparts=1\nlife=7\nleft=7\n";
+      plan = bytes "";
+      written = bytes "result=4\ntext=1\nline=3\n";
+      result = 4;
+      text = 1;
+      line = 3;
+      length = 23;
+      fault = bytes "idle=7";
+    }
     ∷ []

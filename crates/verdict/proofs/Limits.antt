@@ -5,7 +5,6 @@ use mathlib.Core.List.{List, [], _∷_, map}
 use native.Mathlib.Omega.{arith}
 use lib.ListN.{length, length-map}
 use Rattle.model.specs.Model.{Opening, Job, Plan, feeOf, costOf}
-use Rattle.model.specs.Windows as windows
 use Rattle.model.specs.Verdict.{Judgement, accepts, unkept, wrongCost, Values, judgedOf, partAt, changesAt}
 use Rattle.model.proofs.Verdicts.{judge}
 use Rattle.model.proofs.Dues.{due-in-horizon}
@@ -23,10 +22,6 @@ Limited (accepts cost) = cost ≤ dearestPlan
 Limited (unkept part due) = (1 ≤ part) × (part ≤ 16) × (due ≤ 365)
 Limited (wrongCost cost) = cost ≤ dearestPlan
 
-rising-steps : (h before : ℕ) (os : List Opening) → Rising h before os → windows.Rising before h (windows.stepsOf os)
-rising-steps h before [] r = tt
-rising-steps h before (o ∷ os) r = (r .0, r .1, rising-steps h (o .step) os (r .2))
-
 module _ (job : Job) (valid : ValidJob job) (plan : Plan) where
   pub cost-most : costOf job plan ≤ dearestPlan
   cost-most =
@@ -43,7 +38,7 @@ module _ (job : Job) (valid : ValidJob job) (plan : Plan) where
   limited (accepts cost) v = omega (arith, v, cost-most)
   limited (wrongCost cost) v = omega (arith, v, cost-most)
   limited (unkept part due) v =
-      let d = due-in-horizon job (partAt job (v .place)) (changesAt plan (v .place)) due (v .gap) (rising-steps (job .horizon) 0 (job .openings) (valid .rising)) in
+      let d = due-in-horizon job (partAt job (v .place)) (changesAt plan (v .place)) due (v .gap) in
       (omega (arith, v .number), omega (arith, v .number, v .is-part, valid .few-parts), omega (arith, d, valid .horizon-high))
 
   -- what the judge says is limited

@@ -35,7 +35,7 @@ pub enum Verdict {
 
 // One gap, from the change before, at `prev`, to the next change or the end, at `next`.
 fn gap(job: Job, life: u32, prev: i32, next: i32) -> Gaps
-    requires { ⌜ (life ≤ longestLife) × Begins life prev × Position next ⌝ }
+    requires { ⌜ Sized job × ValidJob (jobOf job) × (life ≤ longestLife) × Begins life prev × Position next ⌝ }
     ensures { λ r. ⌜ modelGaps r ≡ gapOf (jobOf job) (pos life) prev next ⌝ }
 {
     if in_reach(life as i32, prev, next) {
@@ -57,7 +57,7 @@ fn first_long(a: Gaps, b: Gaps) -> Gaps
 
 // A part's first gap that is too long. The change before begins at or below zero.
 pub fn late_of(job: Job, positions: Positions, part: Part, changes: [bool; 64]) -> Gaps
-    requires { ⌜ Sized job × Placed (jobOf job) positions × ValidPart (job .«opening_count») (partOf (job .«opening_count») part) ⌝ }
+    requires { ⌜ Sized job × ValidJob (jobOf job) × Placed (jobOf job) positions × ValidPart (job .«opening_count») (partOf (job .«opening_count») part) ⌝ }
     ensures { λ r. ⌜ modelGaps r ≡ lateOf (jobOf job) (partOf (job .«opening_count») part) (take (job .«opening_count») changes) ⌝ }
 {
     let n = job.opening_count;

@@ -8,7 +8,7 @@ use Rattle.lines.specs.Cursor.{rowAnswer}
 use Rattle.lines.proofs.Parsing.{bind-good, bind-fault, got-value, got-fault, got-place, got-most, end-value, end-fault, end-place, map-read}
 use Rattle.model.specs.Model.{Part}
 use Rattle.job_text.specs.Grammar.{Given, part, body}
-use Rattle.job_text.specs.Views.{openingOf}
+use Rattle.job_text.specs.Views.{openingOf, idlesOf}
 use Rattle.job_text.proofs.Refusals.{refuse}
 use borrow.Author.Needs.{needs}
 use Rattle.job_text.proofs.whole.read_body.Statement.{statement}
@@ -36,7 +36,7 @@ read-parts-requires : tie.Need-read-parts-requires
 read-parts-requires c κs =
     let e = c .before .before .before .read-row .ensures in
     let m = ap rowAnswer (c .before .m .given .1) in
-    (got-place e m, (got-most _ _ 1 16 _ e m, c .before .before .before .before .before .before .before .before .before .before .pre .1))
+    (got-place e m, (got-most _ _ 1 16 _ e m, c .before .before .before .before .before .before .before .before .before .before .pre .2))
 
 enum-known-k : tie.Need-enum-known-k
 enum-known-k c = search needs
@@ -53,17 +53,22 @@ no-job-requires-2 c κs = search needs
 returns : tie.Need-returns
 unfolding body bytes
 returns c =
-    let a = c .before .before .before .before .before .before .before .before .before .before .before .before .before .args in
-    let os = c .before .before .before .before .before .before .before .before .before .before .before .read-openings in
-    let make : List Part → Given = λ ps. record { walk = a .walk; job = record { horizon = a .horizon; openings = map openingOf (take (a .n) (os .result .openings)); parts = ps } } in
-    let r = map-read make (times (c .before .before .before .before .m .given .0 .0) (part (a .n))) _ _ (c .before .before .read-parts .ensures) in
-    let m = ap rowAnswer (c .before .before .before .before .m .given .1) in
+    let row = c .before .before .before .before .before .before .before in
+    let os = row .before .before .before .before .before .read-openings in
+    let start = row .before .before .before .before .before .before .before in
+    let a = start .args in
+    let make : List Part → Given = λ ps. record {
+      walk = a .walk;
+      job = record { horizon = a .horizon; idles = idlesOf (a .steps); openings = map openingOf (take (a .n) (os .result .openings)); parts = ps };
+    } in
+    let r = map-read make (times (c .before .before .before .before .before .m .given .0 .0) (part (a .n))) _ _ (c .before .before .before .read-parts .ensures) in
+    let m = ap rowAnswer (c .before .before .before .before .before .m .given .1) in
     record {
       reads = record {
-        is = r .is ∙ sym (bind-good _ _ (end-value _ (os .ensures) (c .before .before .before .before .before .before .before .before .before .os-end .given .1)) ∙ bind-good _ _ (got-value (c .before .before .before .before .before .before .read-row .ensures) m));
+        is = r .is ∙ sym (bind-good _ _ (end-value _ (os .ensures) (row .before .before .before .os-end .given .1)) ∙ bind-good _ _ (got-value (row .read-row .ensures) m));
         stands = r .stands;
       };
-      sized = record { openings = c .before .before .before .before .before .before .before .before .before .before .before .before .before .pre .1; parts = got-most _ _ 1 16 _ (c .before .before .before .before .before .before .read-row .ensures) m };
+      sized = record { idles = start .pre .1; openings = start .pre .2; parts = got-most _ _ 1 16 _ (row .read-row .ensures) m };
     }
 
 returns-2 : tie.Need-returns-2

@@ -43,7 +43,7 @@ late-of-requires c κs =
     let p = c .before .before in
     let b = p .before in
     let s = start b in
-    (s .pre .0, b .before .before .before .positions-of .ensures, rw (p .part-of .ensures .0) (valid-part (s .args .job) (s .pre .0) (s .good .0) (s .pre .1) (b .before .loop .k) (b .loop-test .taken)))
+    (s .pre .0, s .pre .1, b .before .before .before .positions-of .ensures, rw (p .part-of .ensures .0) (valid-part (s .args .job) (s .pre .0) (s .good .0) (s .pre .1) (b .before .loop .k) (b .loop-test .taken)))
 
 cast-late-at : tie.Need-cast-late-at Inv-loop μ-loop
 cast-late-at c = omega (arith, start (c .before .before .before .before) .pre .0)

@@ -1,0 +1,75 @@
+// The idle steps of a job text.
+use crate::Job;
+use crate::steps::read_rising;
+use lines::rows::Cursor;
+use lines::rows::End;
+use lines::rows::Row;
+use lines::rows::read_optional;
+ghost use Prim.Native.Nat.{_≤_};
+ghost use lib.ListN.{drop};
+ghost use Rattle.lines.specs.Cursor.{Stands, Reads, rowAnswer};
+ghost use Rattle.job_text.specs.Views.{IdlesRead};
+ghost use Rattle.job_text.specs.Grammar.{idle, idleSteps, idles};
+
+// Idle steps read, of which the first `count` count, and where they end.
+pub struct Idles {
+    pub end: End,
+    pub count: usize,
+    pub idles: [u32; 365],
+}
+
+// An idle step, after the step before and within the horizon.
+fn read_idle(text: &[u8], p: Cursor, horizon: u32, before: u32) -> Row
+    requires { ⌜ Stands (now text) p ⌝ }
+    ensures { λ r. ⌜ Reads (now (text .entry)) (rowAnswer r) (idle horizon before (drop (p .at) (now (text .entry))) (p .line)) ⌝ }
+{
+    read_rising(text, p, b"idle=", horizon, before)
+}
+
+// The idle steps, n of them.
+fn read_idle_steps(text: &[u8], p: Cursor, horizon: u32, n: usize) -> Idles
+    requires { ⌜ Stands (now text) p × (n ≤ 365) ⌝ }
+    ensures { λ r. ⌜ IdlesRead (now (text .entry)) r (idleSteps horizon n (drop (p .at) (now (text .entry))) (p .line)) ⌝ }
+{
+    let mut idles = [0u32; 365];
+    let mut q = p;
+    let mut before: u32 = 0;
+    let mut i: usize = 0;
+    while i < n {
+        match read_idle(text, q, horizon, before) {
+            Row::Value(v, r) => {
+                idles[i] = v;
+                before = v;
+                q = r;
+                i += 1;
+            }
+            Row::Fault(k, l) => {
+                return Idles {
+                    end: End::Fault(k, l),
+                    count: 0,
+                    idles,
+                };
+            }
+        }
+    }
+    Idles {
+        end: End::At(q),
+        count: i,
+        idles,
+    }
+}
+
+// The number of idle steps and the steps: none where the number's line is missing.
+pub fn read_idles(text: &[u8], p: Cursor, horizon: u32) -> Idles
+    requires { ⌜ Stands (now text) p ⌝ }
+    ensures { λ r. ⌜ IdlesRead (now (text .entry)) r (idles horizon (drop (p .at) (now (text .entry))) (p .line)) ⌝ }
+{
+    match read_optional(text, p, b"idles=", Job::MIN_IDLES, Job::MAX_IDLES) {
+        Row::Value(n, q) => read_idle_steps(text, q, horizon, n as usize),
+        Row::Fault(k, l) => Idles {
+            end: End::Fault(k, l),
+            count: 0,
+            idles: [0u32; 365],
+        },
+    }
+}
