@@ -21,15 +21,17 @@ JOBS = os.path.join(os.path.dirname(os.path.abspath(__file__)), "..", "..", "job
 
 
 def read_job(text):
-    """The facts of a job text without faults: horizon, openings (step, fee), parts (life, left, prices)."""
-    horizon, openings, parts = None, [], []
+    """The facts of a job text without faults: running steps, openings (running steps up to it, fee), parts (life, left, prices)."""
+    horizon, idles, openings, parts = None, [], [], []
     for line in text.split():
         key, value = line.split("=")
         value = int(value)
         if key == "horizon":
             horizon = value
+        elif key == "idle":
+            idles.append(value)
         elif key == "opening":
-            openings.append([value])
+            openings.append([value - sum(idle <= value for idle in idles)])
         elif key == "fee":
             openings[-1].append(value)
         elif key == "life":
@@ -38,13 +40,13 @@ def read_job(text):
             parts[-1] += [value, []]
         elif key == "price":
             parts[-1][2].append(value)
-    return horizon, openings, parts
+    return horizon - len(idles), openings, parts
 
 
 def windows(horizon, openings, life, left):
-    """The sets of openings of which at least one changes the part: steps 1 to R, and steps k + 1 to k + L for k of 1 or more, where they
-    end by step T. Each set once, and none that contains another."""
-    ends = [(1, left)] + [(k + 1, k + life) for k in range(1, horizon)]
+    """The sets of openings of which at least one changes the part: running steps 1 to R, with the idle ones before (0), and running steps
+    k + 1 to k + L, where they end by the last. Each set once, and none that contains another."""
+    ends = [(0, left)] + [(k + 1, k + life) for k in range(horizon)]
     sets = {
         tuple(j for j, (step, _) in enumerate(openings) if first <= step <= last)
         for first, last in ends

@@ -28,7 +28,7 @@ fn fast_walk_is_the_references() {
 #[test]
 fn fast_walk_gives_the_table() {
     let jobs = jobs::up_to(4_000_000);
-    assert!(jobs.len() >= 14, "only {} jobs", jobs.len());
+    assert!(jobs.len() >= 15, "only {} jobs", jobs.len());
     for job in jobs {
         let plain = fast::Job::read(&job.text).solve(Unit::Plain).expect("a plan");
         assert_eq!((plain.nodes, plain.floor), (job.nodes, job.floor), "{}", job.name);

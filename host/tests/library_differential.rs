@@ -37,8 +37,9 @@ fn library_is_the_reference() {
 fn library_is_the_reference_on_every_cut_and_every_byte() {
     common::with_stack(|| {
         let mut rng = Rng::new(6);
-        let job =
-            common::paper::text("horizon=6 walk=11 openings=2 opening=2 fee=10 opening=4 fee=0 parts=1 life=3 left=2 price=5 price=10");
+        let idles = if inputs::idles_on() { "idles=2 idle=3 idle=6" } else { "" };
+        let lines = "walk=11 openings=2 opening=2 fee=10 opening=4 fee=0 parts=1 life=3 left=2 price=5 price=10";
+        let job = common::paper::text(&format!("horizon=6 {idles} {lines}"));
         let plan = common::paper::text("cost=25 stops=2 stop=2 count=1 part=1 stop=4 count=1 part=1");
         let mut check = |job: &[u8], plan: Option<&[u8]>| {
             let call = Call { job: job.to_vec(), plan: plan.map(<[u8]>::to_vec), output: 16_384 };

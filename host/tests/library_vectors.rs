@@ -2,8 +2,9 @@
 #![cfg(feature = "library")]
 
 mod common;
+use common::paper::{self, Case};
 use common::vectors::{self, Vector};
-use common::{lent, paper, rng::Rng};
+use common::{idle_cases, lent, rng::Rng};
 use juzvarola_host::reference::Reply;
 
 /// Where the line with this number starts; 0 if it is missing.
@@ -34,7 +35,7 @@ fn library_gives_every_vector() {
     common::with_stack(|| {
         let mut rng = Rng::new(4);
         let vectors = vectors::all();
-        assert!(vectors.len() >= 1200, "only {} vectors", vectors.len());
+        assert!(vectors.len() >= 1260, "only {} vectors", vectors.len());
         let mut differ = 0;
         for (number, vector) in vectors.iter().enumerate() {
             if let Err(difference) = lent::compare(&mut rng, &vector.call, &reply(vector)) {
@@ -49,8 +50,17 @@ fn library_gives_every_vector() {
 
 #[test]
 fn library_gives_the_papers_cases() {
-    common::with_stack(|| {
-        for case in paper::cases() {
+    gives(paper::cases());
+}
+
+#[test]
+fn library_gives_the_idle_cases() {
+    gives(idle_cases::cases());
+}
+
+fn gives(cases: Vec<Case>) {
+    common::with_stack(move || {
+        for case in cases {
             let mut out = vec![0xAA; case.call.output];
             let answer = match &case.call.plan {
                 None => juzvarola_host::plan(&case.call.job, &mut out),

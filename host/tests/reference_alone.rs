@@ -1,14 +1,14 @@
 //! The reference by itself: the specification's cases, and what must hold of its replies on random calls.
 
 mod common;
-use common::{inputs, paper, rng::Rng, setting};
+use common::{idle_cases, inputs, paper, rng::Rng, setting};
 use juzvarola_host::reference::{self, Reply};
 
 const CASES: u64 = 30_000;
 
 #[test]
-fn reference_gives_the_papers_cases() {
-    for case in paper::cases() {
+fn reference_gives_the_papers_cases_and_the_idle_ones() {
+    for case in paper::cases().into_iter().chain(idle_cases::cases()) {
         let reply = case.call.expected();
         assert!(case.is(reply.line, &reply.bytes), "{}: {}", case.name, reply.bytes.escape_ascii());
     }

@@ -39,13 +39,15 @@ fn planner_prints_the_least_plan_of_all() {
     assert!(with + without < 3000 || without >= 50);
 }
 
-/// The least price and its choice over every set of allowed openings, and the lives against the windows of source document 001.
+/// The least price and its choice over every set of allowed openings, the lives against the windows of source document 001, and the due
+/// step against a part worn step by step.
 #[test]
 fn least_price_is_least_of_all_change_sets() {
     for job in small_jobs(300) {
         for (number, part) in job.parts.iter().enumerate() {
             let kept: Vec<_> = brute::all_sets(job.openings.len()).filter(|changes| job.due(part, changes).is_none()).collect();
             for changes in brute::all_sets(job.openings.len()) {
+                assert_eq!(job.due(part, &changes), brute::due_by_wear(&job, number, &changes), "{job:?} {changes:?}");
                 assert_eq!(kept.contains(&changes), brute::windows_hold(&job, number, &changes), "{job:?} {changes:?}");
             }
             for allowed in brute::all_sets(job.openings.len()) {

@@ -16,6 +16,8 @@ use walk::{Form, Loop, Tables};
 #[derive(Debug, Clone, Default)]
 pub struct Job {
     pub horizon: i32,
+    /// The steps that don't run, rising.
+    pub idles: Vec<i32>,
     pub walk: u64,
     pub steps: Vec<i32>,
     pub fees: Vec<u32>,
@@ -77,6 +79,7 @@ impl Job {
             let value = line[equals + 1..].iter().fold(0u64, |value, digit| value * 10 + u64::from(digit - b'0'));
             match &line[..equals] {
                 b"horizon" => job.horizon = value as i32,
+                b"idle" => job.idles.push(value as i32),
                 b"walk" => job.walk = value,
                 b"opening" => job.steps.push(value as i32),
                 b"fee" => job.fees.push(value as u32),
@@ -87,6 +90,11 @@ impl Job {
             }
         }
         job
+    }
+
+    /// The running steps up to this one: lives are counted in them.
+    fn running(&self, step: i32) -> i32 {
+        step - self.idles.partition_point(|idle| *idle <= step) as i32
     }
 
     /// The walk with the job's own limit, or none where the job has no plan. The machine must have the unit.

@@ -47,17 +47,19 @@ impl<V: Lanes, const Q: usize> Tables<V, Q> {
         let mut prices = vec![0; count * lanes];
         let mut ends = vec![0; triangle(count + 1) * lanes];
         let mut reach = vec![0; triangle(count) * lanes];
+        let positions: Vec<i32> = job.steps.iter().map(|step| job.running(*step)).collect();
+        let last = job.running(job.horizon);
         for (p, part) in job.parts.iter().enumerate() {
-            let step = |mark: usize| if mark == 0 { part.left - part.life } else { job.steps[mark - 1] };
+            let position = |mark: usize| if mark == 0 { part.left - part.life } else { positions[mark - 1] };
             let at = |j: usize, mark: usize| (triangle(j) + mark) * lanes + p;
             for mark in 0..=count {
-                ends[at(count, mark)] = if step(mark) + part.life > job.horizon { 0 } else { INF };
+                ends[at(count, mark)] = if position(mark) + part.life > last { 0 } else { INF };
             }
             for j in (0..count).rev() {
                 prices[j * lanes + p] = part.prices[j];
                 let changed = (ends[at(j + 1, j + 1)] + part.prices[j]).min(INF);
                 for mark in 0..=j {
-                    let within = job.steps[j] - step(mark) <= part.life;
+                    let within = positions[j] - position(mark) <= part.life;
                     reach[at(j, mark)] = if within { 0 } else { INF };
                     let with = if within { changed } else { INF };
                     ends[at(j, mark)] = with.min(ends[at(j + 1, mark)]);

@@ -42,11 +42,35 @@ pub fn best_plan(job: &Job) -> Option<(u64, Plan)> {
     Some((least, Plan { stops: stops.clone(), changes: changes? }))
 }
 
-/// Whether each window of source document 001 that ends by step T has a change: constraint (2), steps 1 to R, and constraint (3), steps
-/// k + 1 to k + L for each k of 1 or more.
+/// Whether the part is changed at this step.
+fn changed_at(job: &Job, changes: &Set, step: i64) -> bool {
+    job.openings.iter().zip(changes).any(|(opening, changed)| *changed && opening.step == step)
+}
+
+/// Whether each window of source document 001 that ends by step T has a change: constraint (2), from step 1 on R running steps, and
+/// constraint (3), from step k + 1 on L running steps for each k of 1 or more. The idle steps after the last of them belong to it.
 pub fn windows_hold(job: &Job, part: usize, changes: &Set) -> bool {
     let part = &job.parts[part];
-    let changed = |step: i64| job.openings.iter().zip(changes).any(|(opening, changed)| *changed && opening.step == step);
-    let window = |first: i64, last: i64| last > job.horizon || (first..=last).any(changed);
-    window(1, part.left) && (1..=job.horizon).all(|k| window(k + 1, k + part.life))
+    let running = |first: i64, last: i64| (first..=last).filter(|step| !job.idles.contains(step)).count() as i64;
+    let window = |first: i64, life: i64| {
+        let mut steps = (first..=job.horizon + 1).take_while(|step| running(first, *step) <= life);
+        steps.any(|step| step > job.horizon || changed_at(job, changes, step))
+    };
+    window(1, part.left) && (1..=job.horizon).all(|k| window(k + 1, part.life))
+}
+
+/// The due step of a part, found by wearing it step by step: the one before the first running step that is too many.
+pub fn due_by_wear(job: &Job, part: usize, changes: &Set) -> Option<i64> {
+    let part = &job.parts[part];
+    let mut worn = part.life - part.left;
+    for step in 1..=job.horizon + 1 {
+        worn += i64::from(!job.idles.contains(&step));
+        if worn > part.life {
+            return Some(step - 1);
+        }
+        if changed_at(job, changes, step) {
+            worn = 0;
+        }
+    }
+    None
 }

@@ -60,6 +60,11 @@ impl<'t> Lines<'t> {
         }
     }
 
+    /// Whether the next line begins with these bytes.
+    pub fn begins(&self, bytes: &str) -> bool {
+        self.text[self.next..].starts_with(bytes.as_bytes())
+    }
+
     /// The value of the next line, which has this key and this range.
     /// "2: wrong key, bad digits, text ends early"; "3: a value outside its range above".
     pub fn value(&mut self, key: &str, least: u64, most: u64) -> Result<u64, Fault> {

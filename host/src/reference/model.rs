@@ -18,6 +18,8 @@ pub struct Part {
 #[derive(Debug, Clone, PartialEq, Eq)]
 pub struct Job {
     pub horizon: i64,
+    /// The steps that don't run, rising.
+    pub idles: Vec<i64>,
     pub walk: u64,
     pub openings: Vec<Opening>,
     pub parts: Vec<Part>,
@@ -41,25 +43,31 @@ impl Part {
 }
 
 impl Job {
+    /// How many steps up to this one run, less those before step 1, which all count as running: "for a first life, running steps from 1
+    /// on are counted"; "step T + 1 runs".
+    pub fn running(&self, step: i64) -> i64 {
+        step - self.idles.partition_point(|idle| *idle <= step) as i64
+    }
+
+    /// "The distance from one change to the next is the number of running steps after the first up to and including the second."
+    pub fn distance(&self, first: i64, second: i64) -> i64 {
+        self.running(second) - self.running(first)
+    }
+
     /// The due step of a part with these changes, or none where they keep it.
     /// "A set of changes keeps the part if each change comes at most L steps after the one before, and the last (or R − L if there is
-    /// none) plus L is at least T + 1." "Its due step: at its first gap that is too long, the last step at which a change would still
-    /// have kept it (the change before, or R − L, plus L)."
+    /// none) plus L is at least T + 1", all in running steps. "Its due step: at its first gap that is too long, the last step at which a
+    /// change would still have kept it"; an idle step may be that.
     pub fn due(&self, part: &Part, changes: &Set) -> Option<i64> {
         let mut before = part.first_change();
-        for (opening, changed) in self.openings.iter().zip(changes) {
-            if *changed {
-                if opening.step - before > part.life {
-                    return Some(before + part.life);
-                }
-                before = opening.step;
+        let changed = self.openings.iter().zip(changes).filter(|(_, changed)| **changed).map(|(opening, _)| opening.step);
+        for next in changed.chain([self.horizon + 1]) {
+            if self.distance(before, next) > part.life {
+                return (0..=self.horizon).rev().find(|step| self.distance(before, *step) <= part.life);
             }
+            before = next;
         }
-        if before + part.life > self.horizon {
-            None
-        } else {
-            Some(before + part.life)
-        }
+        None
     }
 
     /// "A plan keeps the lives if each part is kept and every change is at a stop."
@@ -86,8 +94,9 @@ impl Job {
     pub fn least(&self, part: &Part, allowed: &Set) -> Option<(u64, Set)> {
         let count = self.openings.len();
         // The last change: 0 is the first life, k + 1 is opening k.
-        let step = |last: usize| if last == 0 { part.first_change() } else { self.openings[last - 1].step };
-        let kept = |last: usize| step(last) + part.life > self.horizon;
+        let steps = [part.first_change()].into_iter().chain(self.openings.iter().map(|opening| opening.step));
+        let running: Vec<i64> = steps.map(|step| self.running(step)).collect();
+        let kept = |last: usize| self.running(self.horizon + 1) - running[last] <= part.life;
 
         // left[k][last]: the least price of changes at opening k and later that keep the part after `last`; changed[k][last]: whether the
         // one to take changes at opening k.
@@ -97,7 +106,7 @@ impl Job {
         for k in (0..count).rev() {
             for last in 0..=k {
                 let without = left[k + 1][last];
-                let in_time = self.openings[k].step - step(last) <= part.life;
+                let in_time = running[k + 1] - running[last] <= part.life;
                 let with = left[k + 1][k + 1].filter(|_| allowed[k] && in_time).map(|later: u64| later + part.prices[k]);
                 changed[k][last] = match (without, with) {
                     (Some(without), Some(with)) => with < without,

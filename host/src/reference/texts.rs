@@ -1,4 +1,4 @@
-//! "The texts": the job's lines, the plan's lines, and how a plan is printed.
+//! "The texts": the job's lines with its idle lines, the plan's lines, and how a plan is printed.
 
 use super::lines::{Fault, Lines};
 use super::model::{Job, Opening, Part, Plan};
@@ -8,6 +8,7 @@ use super::model::{Job, Opening, Part, Plan};
 pub fn read_job(text: &[u8]) -> Result<Job, Fault> {
     let mut lines = Lines::new(text)?;
     let horizon = lines.value("horizon", 2, 365)? as i64;
+    let idles = read_idles(&mut lines, horizon)?;
     let walk = lines.value("walk", 0, 4_000_000_000)?;
 
     let count = lines.value("openings", 0, 64)?;
@@ -38,7 +39,25 @@ pub fn read_job(text: &[u8]) -> Result<Job, Fault> {
     }
 
     lines.end()?;
-    Ok(Job { horizon, walk, openings, parts })
+    Ok(Job { horizon, idles, walk, openings, parts })
+}
+
+/// "After `horizon` a job may have `idles` 1..365 and that many `idle` lines, 1..365, rising and within the horizon; without the line no
+/// step is idle." The line is there exactly if the next one begins with `idles=`.
+fn read_idles(lines: &mut Lines, horizon: i64) -> Result<Vec<i64>, Fault> {
+    let mut idles: Vec<i64> = Vec::new();
+    if !lines.begins("idles=") {
+        return Ok(idles);
+    }
+    for _ in 0..lines.value("idles", 1, 365)? {
+        let step = lines.value("idle", 1, 365)? as i64;
+        // "Result 4 also serves an idle line that doesn't rise or is past the horizon."
+        if step > horizon || idles.last().is_some_and(|before| step <= *before) {
+            return Err(lines.fault(4));
+        }
+        idles.push(step);
+    }
+    Ok(idles)
 }
 
 /// "Plan: `cost` 0..2000000000; `stops` 0..64; for each, `stop` 1..365 and `count` 0..16, then that many `part` 1..16." The plan and the

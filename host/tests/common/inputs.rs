@@ -1,8 +1,9 @@
 //! Random jobs, plans and damaged texts, long and short.
 
 use super::rng::Rng;
-use super::Call;
+use super::{setting, Call};
 use juzvarola_host::reference;
+use std::collections::BTreeSet;
 
 pub const MOST_WALK: u64 = 4_000_000_000;
 const OUTPUT: usize = 16_384;
@@ -11,6 +12,8 @@ const OUTPUT: usize = 16_384;
 #[derive(Debug, Clone)]
 pub struct Facts {
     pub horizon: u64,
+    /// The idle steps, rising.
+    pub idles: Vec<u64>,
     pub walk: u64,
     /// Step and fee.
     pub openings: Vec<(u64, u64)>,
@@ -26,7 +29,22 @@ pub struct PartFacts {
 
 impl Facts {
     pub fn text(&self) -> Vec<u8> {
-        let mut text = format!("horizon={}\nwalk={}\nopenings={}\n", self.horizon, self.walk, self.openings.len());
+        self.text_with(&self.idle_lines(), "")
+    }
+
+    /// The idle lines, or none where no step is idle.
+    fn idle_lines(&self) -> String {
+        if self.idles.is_empty() {
+            return String::new();
+        }
+        let lines: String = self.idles.iter().map(|step| format!("idle={step}\n")).collect();
+        format!("idles={}\n{lines}", self.idles.len())
+    }
+
+    /// The text with these lines after `horizon` and after `walk`.
+    fn text_with(&self, after_horizon: &str, after_walk: &str) -> Vec<u8> {
+        let mut text = format!("horizon={}\n{after_horizon}walk={}\n{after_walk}", self.horizon, self.walk);
+        text += &format!("openings={}\n", self.openings.len());
         for (step, fee) in &self.openings {
             text += &format!("opening={step}\nfee={fee}\n");
         }
@@ -40,10 +58,11 @@ impl Facts {
         text.into_bytes()
     }
 
-    /// The longest stretch of steps between neighbours among step 0, the openings and step T + 1.
+    /// The most running steps between neighbours among step 0, the openings and step T + 1.
     fn longest_gap(&self) -> u64 {
-        let steps: Vec<u64> = [0].into_iter().chain(self.openings.iter().map(|o| o.0)).chain([self.horizon + 1]).collect();
-        steps.windows(2).map(|pair| pair[1] - pair[0]).max().unwrap_or(1)
+        let steps = [0].into_iter().chain(self.openings.iter().map(|o| o.0)).chain([self.horizon + 1]);
+        let running: Vec<u64> = steps.map(|step| step - self.idles.iter().filter(|idle| **idle <= step).count() as u64).collect();
+        running.windows(2).map(|pair| pair[1] - pair[0]).max().unwrap_or(1)
     }
 }
 
@@ -84,6 +103,39 @@ fn amounts(rng: &mut Rng, count: usize, least: u64) -> Vec<u64> {
     amounts
 }
 
+/// Whether jobs have idle steps: JUZVAROLA_IDLES=0 gives the same random inputs without them.
+pub fn idles_on() -> bool {
+    setting("JUZVAROLA_IDLES", 1) != 0
+}
+
+/// Idle steps of about half of the jobs: all steps, openings, runs, many or few; at times the first and the last.
+fn idle_steps(rng: &mut Rng, horizon: u64, openings: &[u64]) -> Vec<u64> {
+    if !idles_on() || rng.once_in(2) {
+        return Vec::new();
+    }
+    let mut idles = BTreeSet::new();
+    match rng.below(10) {
+        0 => idles.extend(1..=horizon),
+        1 | 2 => idles.extend(openings.iter().filter(|_| !rng.once_in(3))),
+        3..=5 => {
+            for _ in 0..rng.within(1, 3) {
+                let first = rng.within(1, horizon);
+                idles.extend(first..=(first + rng.below(horizon / 3 + 1)).min(horizon));
+            }
+        }
+        6 => idles.extend((1..=horizon).filter(|_| !rng.once_in(3))),
+        7 => idles.extend((1..=horizon).filter(|_| rng.once_in(3))),
+        _ => idles.extend((0..rng.within(1, 3)).map(|_| rng.within(1, horizon))),
+    }
+    if rng.once_in(4) {
+        idles.extend(1..=rng.within(1, 2));
+    }
+    if rng.once_in(4) {
+        idles.insert(horizon);
+    }
+    idles.into_iter().collect()
+}
+
 /// A job without faults; most have a plan. Its walk number is the largest.
 pub fn facts(rng: &mut Rng, size: Size) -> Facts {
     let horizon = rng.within(2, size.horizon);
@@ -93,9 +145,10 @@ pub fn facts(rng: &mut Rng, size: Size) -> Facts {
         let at = rng.below(steps.len() as u64) as usize;
         steps.remove(at);
     }
+    let idles = idle_steps(rng, horizon, &steps);
     let fees = amounts(rng, count, 0);
     let openings: Vec<(u64, u64)> = steps.into_iter().zip(fees).collect();
-    let mut facts = Facts { horizon, walk: MOST_WALK, openings, parts: Vec::new() };
+    let mut facts = Facts { horizon, idles, walk: MOST_WALK, openings, parts: Vec::new() };
     let gap = facts.longest_gap();
     for _ in 0..rng.within(1, size.parts) {
         let life = match rng.below(12) {
@@ -250,8 +303,11 @@ const NO_VALUES: &[&str] = &[
 
 const KEYS: &[&str] = &[
     "horizon", "walk", "openings", "opening", "fee", "parts", "life", "left", "price", "cost", "stops", "stop", "count", "part", "", "Fee",
-    " fee", "fee ", "pric", "prices", "result",
+    " fee", "fee ", "pric", "prices", "result", "idles", "idle",
 ];
+
+/// How many of the keys at the end are for idle lines.
+const IDLE_KEYS: usize = 2;
 
 /// The bounds of the lines of a text, each with its byte 10.
 fn bounds(text: &[u8]) -> Vec<(usize, usize)> {
@@ -268,6 +324,14 @@ fn splice(text: &mut Vec<u8>, from: usize, to: usize, with: &[u8]) {
     text.splice(from..to, with.iter().copied());
 }
 
+/// A line: half of the time one with a count, a step or a life, which rules other than its range bind.
+fn some_line(rng: &mut Rng, text: &[u8], lines: &[(usize, usize)]) -> (usize, usize) {
+    let bound = |line: &&(usize, usize)| !text[line.0..].starts_with(b"price") && !text[line.0..].starts_with(b"fee");
+    let bounded: Vec<(usize, usize)> = lines.iter().filter(bound).copied().collect();
+    let any = bounded.is_empty() || rng.once_in(2);
+    rng.pick(if any { lines } else { &bounded })
+}
+
 /// One damage to the text.
 pub fn damage(rng: &mut Rng, text: &mut Vec<u8>) {
     let place = rng.below(text.len() as u64 + 1) as usize;
@@ -277,11 +341,7 @@ pub fn damage(rng: &mut Rng, text: &mut Vec<u8>) {
         text.push(byte);
         return;
     }
-    // Half of the time a line with a count, a step or a life, which rules other than its range bind.
-    let bound = |line: &&(usize, usize)| !text[line.0..].starts_with(b"price") && !text[line.0..].starts_with(b"fee");
-    let bounded: Vec<(usize, usize)> = lines.iter().filter(bound).copied().collect();
-    let any = bounded.is_empty() || rng.once_in(2);
-    let (start, end) = rng.pick(if any { &lines } else { &bounded });
+    let (start, end) = some_line(rng, text, &lines);
     // The end of the line's content, without its byte 10.
     let stop = if text[end - 1] == b'\n' { end - 1 } else { end };
     let equals = text[start..stop].iter().position(|byte| *byte == b'=').map(|at| start + at);
@@ -309,29 +369,26 @@ pub fn damage(rng: &mut Rng, text: &mut Vec<u8>) {
             splice(text, start, end, &line);
         }
         12 => splice(text, start, start, b"\n"),
-        // keys and values
+        manner => damage_value(rng, text, manner, (start, equals, stop)),
+    }
+}
+
+/// A damage to the key or the value of a line with these places of its start, its `=` and its end.
+fn damage_value(rng: &mut Rng, text: &mut Vec<u8>, manner: u64, (start, equals, stop): (usize, Option<usize>, usize)) {
+    let Some(equals) = equals else { return };
+    match manner {
         13 => {
-            if let Some(equals) = equals {
-                splice(text, start, equals, rng.pick(KEYS).as_bytes());
-            }
+            let keys = if idles_on() { KEYS } else { &KEYS[..KEYS.len() - IDLE_KEYS] };
+            splice(text, start, equals, rng.pick(keys).as_bytes());
         }
-        14 => {
-            if let Some(equals) = equals {
-                splice(text, equals + 1, stop, rng.pick(NO_VALUES).as_bytes());
-            }
-        }
-        15..=17 => {
-            if let Some(equals) = equals {
-                splice(text, equals + 1, stop, rng.pick(VALUES).to_string().as_bytes());
-            }
-        }
+        14 => splice(text, equals + 1, stop, rng.pick(NO_VALUES).as_bytes()),
+        15..=17 => splice(text, equals + 1, stop, rng.pick(VALUES).to_string().as_bytes()),
         _ => nudge(rng, text, equals, stop),
     }
 }
 
 /// A value a little larger or smaller.
-fn nudge(rng: &mut Rng, text: &mut Vec<u8>, equals: Option<usize>, stop: usize) {
-    let Some(equals) = equals else { return };
+fn nudge(rng: &mut Rng, text: &mut Vec<u8>, equals: usize, stop: usize) {
     let Some(value) = std::str::from_utf8(&text[equals + 1..stop]).ok().and_then(|digits| digits.parse::<u64>().ok()) else { return };
     let by = rng.within(1, 3);
     let nudged = if rng.once_in(2) { value.saturating_sub(by) } else { value.saturating_add(by) };
@@ -367,6 +424,48 @@ fn damaged(rng: &mut Rng, mut text: Vec<u8>) -> Vec<u8> {
     text
 }
 
+/// The job's text with a damage to its idle lines.
+fn with_damaged_idles(rng: &mut Rng, facts: &Facts) -> Vec<u8> {
+    let mut facts = facts.clone();
+    if facts.idles.is_empty() {
+        facts.idles = (1..=rng.within(1, facts.horizon)).collect();
+    }
+    let section = facts.idle_lines();
+    let mut lines: Vec<String> = section.lines().map(str::to_string).collect();
+    let count = facts.idles.len();
+    let at = rng.within(1, count as u64) as usize;
+    match rng.below(12) {
+        0 => lines[0] = "idles=0".to_string(),
+        1 => lines[0] = "idles=366".to_string(),
+        2 => lines[0] = format!("idles={}", count + 1),
+        3 => lines[0] = format!("idles={}", count - 1),
+        // An idle line that doesn't rise, or is past the horizon.
+        4 => lines[at] = format!("idle={}", rng.below(facts.idles[at - 1] + 1)),
+        5 => lines[1..].reverse(),
+        6 => lines[at] = format!("idle={}", rng.within(facts.horizon + 1, 367)),
+        7 => {
+            lines.push(format!("idle={}", rng.within(facts.horizon, 366)));
+            lines[0] = format!("idles={}", count + 1);
+        }
+        // A line missing, or doubled.
+        8 => drop(lines.remove(at)),
+        9 => lines.insert(at, lines[at].clone()),
+        // After `walk`, or twice.
+        10 => return facts.text_with("", &section),
+        _ => return facts.text_with(&format!("{section}{section}"), ""),
+    }
+    facts.text_with(&lines.iter().map(|line| format!("{line}\n")).collect::<String>(), "")
+}
+
+/// The job's text, damaged; its idle lines once in three.
+fn damaged_job(rng: &mut Rng, facts: &Facts) -> Vec<u8> {
+    if idles_on() && rng.once_in(3) {
+        with_damaged_idles(rng, facts)
+    } else {
+        damaged(rng, facts.text())
+    }
+}
+
 /// A call: the planner or the judge, on texts with or without faults, now and then with a short or a long output.
 pub fn call(rng: &mut Rng) -> Call {
     let facts = job(rng);
@@ -374,8 +473,8 @@ pub fn call(rng: &mut Rng) -> Call {
     let text = facts.text();
     let (job, plan) = match rng.below(10) {
         0..=2 => (text, None),
-        3 => (damaged(rng, text), None),
-        4 => (damaged(rng, text), Some(plan(rng, &facts))),
+        3 => (damaged_job(rng, &facts), None),
+        4 => (damaged_job(rng, &facts), Some(plan(rng, &facts))),
         5..=6 => (text, Some(plan(rng, &facts))),
         7..=8 => {
             let plan = plan(rng, &facts);
@@ -383,7 +482,7 @@ pub fn call(rng: &mut Rng) -> Call {
         }
         _ => {
             let plan = plan(rng, &facts);
-            (damaged(rng, text), Some(damaged(rng, plan)))
+            (damaged_job(rng, &facts), Some(damaged(rng, plan)))
         }
     };
     Call { job, plan, output }

@@ -2,6 +2,7 @@
 
 use super::Call;
 
+#[derive(Clone)]
 pub struct Case {
     pub name: &'static str,
     pub call: Call,

@@ -1,6 +1,7 @@
-//! The vectors of `vectors/base.txt`; `vectors/README.md` has the format.
+//! The vectors of `vectors/`; its `README.md` has the format.
 
 use super::Call;
+use juzvarola_host::reference::Reply;
 use std::path::Path;
 
 pub struct Vector {
@@ -43,6 +44,23 @@ fn vector(line: &str) -> Vector {
         bytes: hex(fields[6]),
         fault: hex(fields[7]),
     }
+}
+
+fn hex_of(bytes: &[u8]) -> String {
+    if bytes.is_empty() {
+        return "-".to_string();
+    }
+    bytes.iter().map(|byte| format!("{byte:02x}")).collect()
+}
+
+/// The line of a call with the reference's reply.
+pub fn line(call: &Call, reply: &Reply) -> String {
+    let plan = call.plan.as_deref().unwrap_or_default();
+    let at_fault = if reply.text == 2 { plan } else { &call.job };
+    let fault = &at_fault[reply.fault_start..][..reply.fault_length];
+    let texts = [&call.job, plan, &reply.bytes, fault].map(hex_of).join(" ");
+    let name = if call.plan.is_some() { "judge" } else { "plan" };
+    format!("{name} {} {} {} {texts}\n", call.output, reply.result, reply.line)
 }
 
 /// The vectors of every file in `vectors/` that ends in `.txt`.
