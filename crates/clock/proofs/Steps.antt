@@ -12,7 +12,6 @@ use lib.ListN.{length, getD, take, set, replicate, length-replicate, length-set}
 use lib.Seq.{take-suc, getD-set-same, getD-set-other}
 use lib.IntN.{ℤ, pos}
 use Rattle.model.specs.Model.{Job, idle, running, clock, within, lastWithin}
-use Rattle.job_text.specs.Valid.{RisingSteps}
 use Rattle.clock.specs.Placed.{lastPosition, Flags}
 
 -- ---- idle steps
@@ -58,12 +57,6 @@ flags-more l flags k h g f s m =
     go : Dec (i ≡ s) → getD (set flags i true) s false ≡ (idle (take k l) s || eqb i s)
     go (yes e) = ap (λ (x : ℕ). getD (set flags i true) x false) (sym e) ∙ getD-set-same flags i true false g ∙ sym (ap (λ (b : Bool). idle (take k l) s || b) (eq-eqb i s e) ∙ or-true (idle (take k l) s))
     go (no n) = getD-set-other flags i s true false (λ e. n (sym e)) ∙ f s m ∙ sym (ap (λ (b : Bool). idle (take k l) s || b) (ne-eqb i s n) ∙ or-false (idle (take k l) s))
-
--- the idle steps are steps of the horizon
-pub rising-most : (h before : ℕ) (is : List ℕ) (k : ℕ) → RisingSteps h before is → k < length is → getD is k 0 ≤ h
-rising-most h before [] k r l = absurd (omega arith)
-rising-most h before (i ∷ is) zero r l = r .1
-rising-most h before (i ∷ is) (suc k) r l = rising-most h i is k (r .2) (omega arith)
 
 -- ---- running steps
 

@@ -11,9 +11,10 @@ use Rattle.lines.specs.Text.{bytes, line, lineOf, texts}
 use Rattle.lines.specs.Parser.{Parser, good, accepted, return, row, rowAt, optional, checked, times, rising, upTo}
 use Rattle.lines.proofs.Sound.{bind-inv, lineIf, row-sound, optional-sound, checked-sound, chain-sound, row-gives, optional-most, checked-gives, Chained, chain-gives, accepted-is}
 use Rattle.model.specs.Model.{Opening}
+use Rattle.model.specs.Windows.{Rising, stepsOf}
 use Rattle.job_text.specs.Grammar.{Given, idle, idleSteps, idles, opening, openings, part, body, jobLines, maxBytes, readJob}
 use Rattle.job_text.specs.Rendering.{idlesText, openingText, partText, bodyText, jobText}
-use Rattle.job_text.specs.Valid.{All, RisingSteps, Rising, ValidOpening, ValidPrice, ValidPart, ValidJob, Valid}
+use Rattle.job_text.specs.Valid.{All, ValidOpening, ValidPrice, ValidPart, ValidJob, Valid}
 
 -- what a parser gives: a value that is known, and the text is what is written for it
 pub record Told {A : Type 0} (P : A → Type 0) (w : A → List ℕ) (s s′ : List ℕ) (a : A) : Type 0 where
@@ -45,13 +46,13 @@ step-tells key h before s s′ l l′ v e =
 
 -- at most 365, which rise and stay within the horizon h
 abbrev KnownIdles : ℕ → List ℕ → Type 0
-KnownIdles h is = (length is ≤ 365) × RisingSteps h 0 is
+KnownIdles h is = (length is ≤ 365) × Rising 0 h is
 
 -- the number that an idle step hands on
 abbrev itself : ℕ → ℕ
 itself i = i
 
-steps-rise : (h before : ℕ) (is : List ℕ) → Chained (KnownStep h) itself before is → RisingSteps h before is
+steps-rise : (h before : ℕ) (is : List ℕ) → Chained (KnownStep h) itself before is → Rising before h is
 steps-rise h before [] c = tt
 steps-rise h before (i ∷ is) c = (c .0 .after, c .0 .within, steps-rise h i is (c .1))
 
@@ -99,7 +100,7 @@ opening-tells h before s s′ l l′ o e =
 abbrev stepOf : Opening → ℕ
 stepOf o = o .step
 
-chained-rising : (h before : ℕ) (os : List Opening) → Chained (KnownOpening h) stepOf before os → All ValidOpening os × Rising h before os
+chained-rising : (h before : ℕ) (os : List Opening) → Chained (KnownOpening h) stepOf before os → All ValidOpening os × Rising before h (stepsOf os)
 chained-rising h before [] c = (tt, tt)
 chained-rising h before (o ∷ os) c =
     let r = chained-rising h (o .step) os (c .1) in

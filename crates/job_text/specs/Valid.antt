@@ -1,24 +1,16 @@
 -- What is known of an accepted job.
-use Prim.Native.Nat.{ℕ, _≤_, _<_}
+use Prim.Native.Nat.{ℕ, _≤_}
 use mathlib.Core.Path.{_≡_}
-use mathlib.Core.List.{List, [], _∷_, map}
+use mathlib.Core.List.{List, [], _∷_}
 use lib.ListN.{length}
 use Rattle.model.specs.Model.{Opening, Part, Job}
+use Rattle.model.specs.Windows.{Rising, stepsOf}
 use Rattle.job_text.specs.Grammar.{Given}
 
 -- P holds of each
 abbrev pub All : {A : Type 0} → (A → Type 0) → List A → Type 0
 All P [] = Unit {0}
 All P (x ∷ xs) = P x × All P xs
-
--- steps that rise and stay within the horizon h: each is after `before`
-abbrev pub RisingSteps : ℕ → ℕ → List ℕ → Type 0
-RisingSteps h before [] = Unit {0}
-RisingSteps h before (i ∷ is) = (before < i) × (i ≤ h) × RisingSteps h i is
-
--- "Openings rise and stay within the horizon"
-abbrev pub Rising : ℕ → ℕ → List Opening → Type 0
-Rising h before os = RisingSteps h before (map (λ (o : Opening). o .step) os)
 
 pub record ValidOpening (o : Opening) : Type 0 where
   pub step-low : 1 ≤ o .step
@@ -41,10 +33,10 @@ pub record ValidJob (j : Job) : Type 0 where
   pub horizon-low : 2 ≤ j .horizon
   pub horizon-high : j .horizon ≤ 365
   pub few-idles : length (j .idles) ≤ 365
-  pub idles : RisingSteps (j .horizon) 0 (j .idles)
+  pub idles : Rising 0 (j .horizon) (j .idles)
   pub few-openings : length (j .openings) ≤ 64
   pub openings : All ValidOpening (j .openings)
-  pub rising : Rising (j .horizon) 0 (j .openings)
+  pub rising : Rising 0 (j .horizon) (stepsOf (j .openings))
   pub some-part : 1 ≤ length (j .parts)
   pub few-parts : length (j .parts) ≤ 16
   pub parts : All (ValidPart (length (j .openings))) (j .parts)

@@ -8,7 +8,7 @@ use Rattle.model.specs.Model.{Opening, Job, Plan, feeOf, costOf}
 use Rattle.model.specs.Verdict.{Judgement, accepts, unkept, wrongCost, Values, judgedOf, partAt, changesAt}
 use Rattle.model.proofs.Verdicts.{judge}
 use Rattle.model.proofs.Dues.{due-in-horizon}
-use Rattle.job_text.specs.Valid.{Rising, ValidJob}
+use Rattle.job_text.specs.Valid.{ValidJob}
 use Rattle.verdict.proofs.Sums.{sum-most, cheap-fees}
 use Rattle.verdict.proofs.Parts.{prices-most}
 

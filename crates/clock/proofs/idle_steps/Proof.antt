@@ -5,9 +5,10 @@ use native.Mathlib.Omega.{arith}
 use borrow.Author.Needs.{needs}
 use lib.ListN.{length, getD, take, length-set}
 use lib.Seq.{getD-take, length-take-le}
+use Rattle.model.proofs.Positions.{rising-within}
 use Rattle.job_text.proofs.Jobs.{idles-long}
 use Rattle.clock.specs.Placed.{lastPosition, Flags}
-use Rattle.clock.proofs.Steps.{flags-none, flags-more, rising-most}
+use Rattle.clock.proofs.Steps.{flags-none, flags-more}
 use Rattle.clock.proofs.idle_steps.Statement.{statement}
 use Rattle.clock.proofs.idle_steps.Tie as tie
 
@@ -35,7 +36,7 @@ small c =
     let long = idles-long j (s .pre .0) (s .good .0) in
     omega (
       arith,
-      rising-most (j .horizon) 0 (take (j .«idle_count») (j .idles)) k (s .pre .1 .idles) (omega (arith, length-take-le (j .«idle_count») (j .idles) long)),
+      rising-within (j .horizon) 0 (take (j .«idle_count») (j .idles)) (s .pre .1 .idles) k (omega (arith, length-take-le (j .«idle_count») (j .idles) long)),
       getD-take (j .«idle_count») (j .idles) k 0 (c .before .loop-test .taken),
       s .pre .1 .horizon-high,
     )
