@@ -9,4 +9,5 @@ pub mod Sound
 pub mod Complete
 pub mod Numbered
 pub mod Writing
+pub mod Powers
 pub mod Arrays

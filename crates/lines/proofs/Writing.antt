@@ -12,7 +12,7 @@ use lib.ListN.{length, drop, set, length-append}
 use lib.Seq.{sets, length-sets, sets-eq, length-take-le}
 use Rattle.lines.specs.Text.{decimalIn, decimal, line, joined}
 use Rattle.lines.specs.Wrote.{Wrote, Counted}
-use Rattle.lines.proofs.Written.{decimal-one, decimal-two}
+use Rattle.lines.proofs.Written.{decimal-one}
 
 pub sets-sets : (d : List ℕ) (at : ℕ) (xs ys : List ℕ) → sets (sets d at xs) (at + length xs) ys ≡ sets d at (xs ++ ys)
 sets-sets d at [] ys = rw add-zero
@@ -42,7 +42,7 @@ pub tenth : (k n : ℕ) → n < 10 ^ suc (suc k) → n / 10 < 10 ^ suc k
 tenth k n h = div-lt-iff-lt-mul {k = 10} (omega arith) .1 (subst (λ (m : ℕ). n < m) (pow-suc 10 (suc k)) h)
 
 -- a place more changes nothing where the digits fit
-digits-more : (k n : ℕ) → n < 10 ^ suc k → decimalIn (suc (suc k)) n ≡ decimalIn (suc k) n
+pub digits-more : (k n : ℕ) → n < 10 ^ suc k → decimalIn (suc (suc k)) n ≡ decimalIn (suc k) n
 unfolding decimalIn
 digits-more zero n h = decimal-one 1 n h ∙ sym (decimal-one 0 n h)
 digits-more (suc k) n h = ap (λ (l : List ℕ). elim (ltb n 10) [ true ↦ (48 + n) ∷ [] | false ↦ l ++ (48 + n % 10) ∷ [] ]) (digits-more k (n / 10) (tenth k n h))
@@ -69,21 +69,9 @@ unfolding decimalIn
 digits-most zero n = omega arith
 digits-most (suc k) n = elim-short (ltb n 10) _ _ (suc k) (omega arith) (rw length-append (omega (arith, digits-most k (n / 10))))
 
-pub decimal-few : (n : ℕ) → n < 10 → decimal n ≡ (48 + n) ∷ []
-decimal-few n h = decimal-one 9 n h
-
-pub decimal-more : (n : ℕ) → 10 ≤ n → n < 10000000000 → decimal n ≡ decimal (n / 10) ++ ((48 + n % 10) ∷ [])
-decimal-more n ten h = decimal-two 9 n ten ∙ ap (λ (l : List ℕ). l ++ ((48 + n % 10) ∷ [])) (sym (digits-more 8 (n / 10) (omega arith)))
-
 -- the same write, said of equal bytes and an equal place
 pub same : {d : List ℕ} {at : ℕ} {xs ys e : List ℕ} {r s : ℕ} → Wrote d at xs e r → xs ≡ ys → r ≡ s → Wrote d at ys e s
 same {d} {at} w p q = record { bytes = w .bytes ∙ ap (sets d at) p; next = sym q ∙ w .next ∙ ap (λ (l : List ℕ). at + length l) p }
-
-pub one-digit : (n : ℕ) → n < 10 → length (decimal n) ≡ 1
-one-digit n h = ap length (decimal-few n h)
-
-pub decimal-longer : (n : ℕ) → 10 ≤ n → n < 10000000000 → length (decimal n) ≡ length (decimal (n / 10)) + 1
-decimal-longer n ten h = ap length (decimal-more n ten h) ∙ simp length-append
 
 pub line-length : (key : List ℕ) (n : ℕ) → length (line key n) ≡ length key + length (decimal n) + 1
 unfolding line
