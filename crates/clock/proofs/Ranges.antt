@@ -2,7 +2,7 @@
 use Prim.Native.Nat.{ℕ, _+_, _≤_}
 use mathlib.Core.Path.{_≡_, refl, sym, ap, _∙_}
 use native.Mathlib.Omega.{arith}
-use lib.IntN.{ℤ, pos, negsuc, _+ℤ_, _-ℤ_, -ℤ-+ℤ-cancel, +ℤ-negℤ-cancel, pos-+ℤ-pos}
+use lib.IntN.{ℤ, pos, negsuc, _-ℤ_, +ℤ-negℤ-cancel, pos-+ℤ-pos}
 use lib.Signed.{mag}
 use mir.Syntax.{w32}
 use mir.Val.{toZ, ofZ}
@@ -51,10 +51,6 @@ module _ (life : ℕ) (prev : ℤ) (h : life ≤ longestLife) (b : Begins life p
 
   pub before-bits : toZ w32 (ofZ w32 prev) ≡ prev
   before-bits = toZ-ofZ (record { sfits = omega (arith, before-small) })
-
-  -- the end of the life
-  pub life-ends : prev +ℤ pos life ≡ pos (b .0)
-  life-ends = ap (λ (z : ℤ). z +ℤ pos life) (b .1) ∙ -ℤ-+ℤ-cancel (pos (b .0)) (pos life)
 
 -- a life as a signed number
 pub life-bits : (life : ℕ) → life ≤ longestLife → toZ w32 life ≡ pos life

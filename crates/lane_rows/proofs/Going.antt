@@ -5,7 +5,6 @@ use mathlib.Core.List.{List}
 use native.Mathlib.Omega.{arith}
 use lib.ListN.{length, getD}
 use Rattle.lane_rows.specs.Layout.{laneCount, inf, blockSize, place, rowPlace, markPlace, stackSize}
-use Rattle.lane_rows.specs.Sheet.{reach}
 use Rattle.lane_rows.specs.Rows.{lane, sumLanes, Stack}
 use Rattle.lane_rows.proofs.Lanes.{lane-most, lane-cut, sum-rises, sum-same}
 

@@ -1,10 +1,10 @@
 -- How large the values of a judgement on an accepted job can be: a cost has at most ten digits, a part at most two, a due step at most three. By the job's ranges and the promise's values.
 use Prim.Native.Nat.{ℕ, _≤_}
 use mathlib.Core.Path.{_≡_, sym, subst}
-use mathlib.Core.List.{List, [], _∷_, map}
+use mathlib.Core.List.{map}
 use native.Mathlib.Omega.{arith}
 use lib.ListN.{length, length-map}
-use Rattle.model.specs.Model.{Opening, Job, Plan, feeOf, costOf}
+use Rattle.model.specs.Model.{Job, Plan, feeOf, costOf}
 use Rattle.model.specs.Verdict.{Judgement, accepts, unkept, wrongCost, Values, judgedOf, partAt, changesAt}
 use Rattle.model.proofs.Verdicts.{judge}
 use Rattle.model.proofs.Dues.{due-in-horizon}

@@ -6,7 +6,6 @@ ghost use lib.ListN.{length};
 ghost use Rattle.branch.specs.Label.{openFrom};
 ghost use Rattle.branch.specs.declared.Bound.{Bound};
 ghost use Rattle.branch.specs.declared.Bound.the-variants.{Sum};
-ghost use Rattle.lane_rows.specs.Layout.{stackSize};
 ghost use Rattle.lane_rows.specs.Sheet.{Sheet, sheetBound};
 ghost use Rattle.lane_rows.specs.Tables.{Tables};
 ghost use Rattle.lane_rows.specs.Rows.{Kept};

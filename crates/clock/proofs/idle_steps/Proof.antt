@@ -1,8 +1,7 @@
 -- `idle_steps`: the flags of the first k idle steps are set.
-use Prim.Native.Nat.{ℕ, _+_, _-_, _≤_, _<_}
-use mathlib.Core.Path.{_≡_, refl, sym, subst, _∙_}
+use Prim.Native.Nat.{ℕ, _+_, _-_, _≤_}
+use mathlib.Core.Path.{_≡_, refl, subst}
 use native.Mathlib.Omega.{arith}
-use borrow.Author.Needs.{needs}
 use lib.ListN.{length, getD, take, length-set}
 use lib.Seq.{getD-take, length-take-le}
 use Rattle.model.proofs.Positions.{rising-within}

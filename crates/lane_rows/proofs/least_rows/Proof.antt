@@ -1,10 +1,10 @@
 -- `least_rows` is each lane over the rows, from the top down. The invariant: what the lanes hold with the rows still to come is the lane of all rows.
-use Prim.Native.Nat.{_-_, _*_, _≤_}
+use Prim.Native.Nat.{_-_, _*_}
 use mathlib.Core.Path.{_≡_, refl, _∙_}
 use native.Mathlib.Omega.{arith}
 use borrow.Author.Needs.{needs}
 use lib.ListN.{length}
-use Rattle.lane_rows.specs.Layout.{laneCount, markPlace}
+use Rattle.lane_rows.specs.Layout.{markPlace}
 use Rattle.lane_rows.proofs.Going.{Going, going-none, going-more, going-cut, going-end, row-asks}
 use Rattle.lane_rows.proofs.least_rows.Statement.{statement}
 use Rattle.lane_rows.proofs.least_rows.Tie as tie

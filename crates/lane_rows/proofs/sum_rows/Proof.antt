@@ -1,5 +1,5 @@
 -- `sum_rows` is the lanes' sum. The invariant is that of `least_rows`, with the sum of the lanes; it ends early where the sum has fallen to what it must be at least.
-use Prim.Native.Nat.{ℕ, _-_, _*_, _<_, _≤_}
+use Prim.Native.Nat.{ℕ, _-_, _*_, _<_}
 use mathlib.Core.Path.{_≡_, refl, sym, _∙_}
 use native.Mathlib.Omega.{arith}
 use borrow.Author.Needs.{needs}

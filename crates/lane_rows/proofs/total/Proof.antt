@@ -1,11 +1,11 @@
 -- `total` is the sum of the lanes: four sums, of every fourth lane, stay within 32 bits. The invariant: the first fours are in them.
-use Prim.Native.Nat.{ℕ, _+_, _-_, _*_, _≤_, _<_}
+use Prim.Native.Nat.{ℕ, _+_, _-_, _*_, _≤_}
 use mathlib.Core.Path.{_≡_, refl, ap, subst}
 use mathlib.Core.List.{List}
 use native.Mathlib.Omega.{arith}
 use borrow.Author.Needs.{needs}
-use lib.ListN.{length, getD}
-use Rattle.lane_rows.specs.Layout.{laneCount, inf}
+use lib.ListN.{getD}
+use Rattle.lane_rows.specs.Layout.{inf}
 use Rattle.lane_rows.specs.Rows.{sumFrom, sumLanes}
 use Rattle.lane_rows.proofs.Lanes.{sum-four}
 use Rattle.lane_rows.proofs.total.Statement.{statement}

@@ -1,7 +1,7 @@
 -- `walk` walks on from its node, and keeps the rows that were there: by recursion on the undecided openings, for each sheet whose tables it may be given.
 use Prim.Native.Nat.{ℕ, _<_, _≤_, _-_, _+_, _^_}
 use mathlib.Core.Path.{_≡_, refl, sym, ap, subst, _∙_}
-use mathlib.Core.Bool.{Bool, true, false}
+use mathlib.Core.Bool.{true, false}
 use mathlib.Core.List.{List}
 use mathlib.Core.Logic.{⊎-elim}
 use native.Mathlib.Omega.{arith}

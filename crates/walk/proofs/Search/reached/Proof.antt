@@ -4,7 +4,6 @@ use mathlib.Core.Bool.{Bool, true, false, cond}
 use native.Mathlib.Omega.{arith}
 use borrow.Author.Needs.{needs}
 use borrow.Author.Tests.{ltb-false}
-use Rattle.walk.specs.declared.Search.{Search}
 use Rattle.walk.specs.State.{countedS, overS}
 use Rattle.walk.proofs.Search.reached.Statement.{statement}
 use Rattle.walk.proofs.Search.reached.Tie as tie

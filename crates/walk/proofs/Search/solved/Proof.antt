@@ -1,5 +1,4 @@
 -- `solved` reads the state.
-use mathlib.Core.Bool.{Bool}
 use borrow.Author.Needs.{needs}
 use lib.Dec.{ltb}
 use Rattle.walk.specs.State.{noCost}
