@@ -5,17 +5,13 @@ use mathlib.Core.List.{List, []}
 use native.Mathlib.Omega.{arith}
 use borrow.Author.Tests.{lt-ltb, le-ltb}
 use lib.ListN.{length}
-use Rattle.lines.specs.Parser as parser
-use Rattle.lines.specs.Parser.{refused}
+use Rattle.lines.specs.Parser.{Outcome, refused}
 use Rattle.lines.specs.Wrote.{Wrote}
 use Rattle.lines.proofs.Outcomes.{one-fault}
 use Rattle.lines.proofs.Breaks.{span-cuts}
 use Rattle.lines.proofs.Writing.{written, kept, counted}
-use Rattle.job_text.specs.Views.{emptyJob}
-use Rattle.answers.specs.Said.{Said, Refuses, plainly, bytesOf, noPlan, refusal, saidWith, saidOf, handed, Replied}
+use Rattle.answers.specs.Said.{Said, Refuses, plainly, refusal, handed, Replied}
 use Rattle.answers.specs.declared.Answer.{Answer}
-use Rattle.answers.specs.declared.Outcome.{Outcome}
-use Rattle.answers.specs.declared.Outcome.the-variants.{Fault, NoPlan, Optimum, Cut, CutBare, Accepted, Unkept, WrongCost}
 
 pub replied : (need : ℕ) (s : Said) {d e : List ℕ} {n : ℕ} {r : Answer} → need ≤ length d → length (s .bytes) ≤ need → Wrote d 0 (s .bytes) e n → r ≡ handed s n → Replied need s d e r
 replied need s {d} {e} {n} {r} room short w h =
@@ -37,31 +33,8 @@ no-room need s d {r} h e =
       counted = counted (r .length) d (omega arith);
     }
 
--- the numbers of an outcome do not look at its bytes
-pub same-numbers : (bytes : List ℕ) (o : Outcome) (n : ℕ) → handed (saidWith [] o) n ≡ handed (saidWith bytes o) n
-same-numbers bytes (Fault k t l s) n = refl
-same-numbers bytes NoPlan n = refl
-same-numbers bytes (Optimum a b c) n = refl
-same-numbers bytes (Cut a b c) n = refl
-same-numbers bytes (CutBare a b) n = refl
-same-numbers bytes (Accepted c) n = refl
-same-numbers bytes (Unkept p d) n = refl
-same-numbers bytes (WrongCost c) n = refl
-
--- the bytes of an answer are its outcome's
-pub same-bytes : (bytes : List ℕ) (o : Outcome) → saidWith bytes o .bytes ≡ bytes
-same-bytes bytes (Fault k t l s) = refl
-same-bytes bytes NoPlan = refl
-same-bytes bytes (Optimum a b c) = refl
-same-bytes bytes (Cut a b c) = refl
-same-bytes bytes (CutBare a b) = refl
-same-bytes bytes (Accepted c) = refl
-same-bytes bytes (Unkept p d) = refl
-same-bytes bytes (WrongCost c) = refl
-
 -- the answer to a text's fault is the one to any fault that the text reads as
-pub refuses : {A : Type 0} {x : parser.Outcome A} (which : ℕ) (text : List ℕ) {n l i j : ℕ} → x ≡ refused n l → x ≡ refused i j → Refuses which text i j (saidOf emptyJob noPlan (refusal which text n l))
-unfolding bytesOf
+pub refuses : {A : Type 0} {x : Outcome A} (which : ℕ) (text : List ℕ) {n l i j : ℕ} → x ≡ refused n l → x ≡ refused i j → Refuses which text i j (refusal which text n l)
 refuses which text {n} {l} e f =
     let same = one-fault e f in
     rw (← same .0, ← same .1) (record { result = refl; text-number = refl; line-number = refl; span = refl; cuts = span-cuts text l; bytes = refl })

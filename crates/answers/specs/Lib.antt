@@ -1,3 +1,2 @@
--- What a call hands over (Said), and what the writer asks of it (Fits).
+-- What any call hands over, and what it writes where a text is refused (Said).
 pub mod Said
-pub mod Fits

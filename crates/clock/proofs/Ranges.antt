@@ -10,7 +10,8 @@ use mir.Facts.{toZ-ofZ, toZ-pos}
 use Rattle.model.specs.Model.{Job, clock}
 use Rattle.model.proofs.Integers.{up, down, AtMostℤ, difference}
 use Rattle.model.proofs.Positions.{in-range}
-use Rattle.clock.specs.Placed.{lastPosition, longestLife, Position, Begins}
+use Rattle.clock.specs.Placed.{Position, Begins}
+use Rattle.model.specs.Limits.{lastPosition, longestLife}
 
 -- ---- positions
 

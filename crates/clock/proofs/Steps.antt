@@ -12,7 +12,8 @@ use lib.ListN.{length, getD, take, set, replicate, length-replicate, length-set}
 use lib.Seq.{take-suc, getD-set-same, getD-set-other}
 use lib.IntN.{ℤ, pos}
 use Rattle.model.specs.Model.{Job, idle, running, clock, within, lastWithin}
-use Rattle.clock.specs.Placed.{lastPosition, Flags}
+use Rattle.clock.specs.Placed.{Flags}
+use Rattle.model.specs.Limits.{lastPosition}
 
 -- ---- idle steps
 

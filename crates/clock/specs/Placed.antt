@@ -7,14 +7,7 @@ use lib.ListN.{length, getD, take}
 use lib.IntN.{ℤ, pos, _-ℤ_}
 use Rattle.model.specs.Model.{Job, idle, clock, positions, end}
 use Rattle.clock.specs.declared.Positions.{Positions}
-
--- "T + 1", for the longest horizon
-abbrev pub lastPosition : ℕ
-lastPosition = 366
-
--- "`life` 1..1000"
-abbrev pub longestLife : ℕ
-longestLife = 1000
+use Rattle.model.specs.Limits.{lastPosition, longestLife}
 
 -- where a step of an accepted job, or the end of its lives, can lie
 abbrev pub Position : ℤ → Type 0

@@ -1,13 +1,14 @@
 // Positions: how far a step is along the lives, in running steps. Only here do steps become positions, and positions due steps.
-use job_text::Job;
+use jobs::Job;
 use least::in_reach;
 ghost use mathlib.Core.Path.{_≡_};
 ghost use Prim.Native.Nat.{_≤_};
 ghost use lib.IntN.{pos};
 ghost use Rattle.model.specs.Model.{dueOf};
-ghost use Rattle.job_text.specs.Views.{jobOf, Sized};
-ghost use Rattle.job_text.specs.Valid.{ValidJob};
-ghost use Rattle.clock.specs.Placed.{longestLife, Begins, Flags, Clocks, Placed};
+ghost use Rattle.jobs.specs.Views.{jobOf};
+ghost use Rattle.jobs.specs.Valid.{Sound};
+ghost use Rattle.clock.specs.Placed.{Begins, Flags, Clocks, Placed};
+ghost use Rattle.model.specs.Limits.{longestLife};
 
 // The steps from 0 to the one after the longest horizon.
 const STEPS: usize = 367;
@@ -20,7 +21,7 @@ pub struct Positions {
 
 // Which steps are idle.
 fn idle_steps(job: Job) -> [bool; STEPS]
-    requires { ⌜ Sized job × ValidJob (jobOf job) ⌝ }
+    requires { ⌜ Sound job ⌝ }
     ensures { λ r. ⌜ Flags (jobOf job .idles) r ⌝ }
 {
     let n = job.idle_count;
@@ -36,7 +37,7 @@ fn idle_steps(job: Job) -> [bool; STEPS]
 
 // The running steps up to each step.
 fn running_steps(job: Job) -> [i32; STEPS]
-    requires { ⌜ Sized job × ValidJob (jobOf job) ⌝ }
+    requires { ⌜ Sound job ⌝ }
     ensures { λ r. ⌜ Clocks (jobOf job) r ⌝ }
 {
     let idle = idle_steps(job);
@@ -55,7 +56,7 @@ fn running_steps(job: Job) -> [i32; STEPS]
 
 // The positions of an accepted job.
 pub fn positions_of(job: Job) -> Positions
-    requires { ⌜ Sized job × ValidJob (jobOf job) ⌝ }
+    requires { ⌜ Sound job ⌝ }
     ensures { λ r. ⌜ Placed (jobOf job) r ⌝ }
 {
     let n = job.opening_count;
@@ -73,7 +74,7 @@ pub fn positions_of(job: Job) -> Positions
 
 // The last step at which a change would still have kept a part whose change before is at `prev`.
 pub fn due_of(job: Job, life: u32, prev: i32) -> u32
-    requires { ⌜ Sized job × ValidJob (jobOf job) × (life ≤ longestLife) × Begins life prev ⌝ }
+    requires { ⌜ Sound job × (life ≤ longestLife) × Begins life prev ⌝ }
     ensures { λ r. ⌜ r ≡ dueOf (jobOf job) (pos life) prev ⌝ }
 {
     let clock = running_steps(job);

@@ -12,18 +12,19 @@ use lib.Signed.{mag}
 use Rattle.model.specs.Model as model
 use Rattle.model.specs.Model.{feeOf, positions}
 use Rattle.model.specs.Verdict.{noPart}
-use Rattle.job_text.specs.Views.{openingOf, jobOf, Sized}
-use Rattle.job_text.specs.Valid.{All, ValidOpening, ValidPrice, ValidPart, ValidJob}
-use Rattle.job_text.specs.declared.Job.{Job}
-use Rattle.clock.specs.Placed.{lastPosition, Placed}
+use Rattle.jobs.specs.Views.{openingOf, jobOf, Sized}
+use Rattle.jobs.specs.Valid.{All, ValidOpening, ValidPrice, ValidPart, ValidJob}
+use Rattle.jobs.specs.declared.Job.{Job}
+use Rattle.clock.specs.Placed.{Placed}
 use Rattle.clock.specs.declared.Positions.{Positions}
-use Rattle.job_text.proofs.Jobs.{Whole, blankOpening, opening-count, part-count, part-at, seen-count, valid-part, valid-parts}
+use Rattle.jobs.proofs.Jobs.{Whole, blankOpening, opening-count, part-count, part-at, seen-count, valid-part, valid-parts}
 use Rattle.clock.proofs.Places.{position-count}
 use Rattle.clock.proofs.Ranges.{position-small}
 use Rattle.model.proofs.Bools.{there}
 use Rattle.lane_rows.specs.Layout.{top}
-use Rattle.search.specs.Arrays.{priceStride, longestLife, laneValue, partAt, Arrays, Holds}
+use Rattle.search.specs.Arrays.{priceStride, laneValue, lanePart, Arrays, Holds}
 use Rattle.job_search.specs.Laid.{lifeOf, leftOf, Laid}
+use Rattle.model.specs.Limits.{lastPosition, longestLife}
 
 -- ---- ranges at every place, past the end too
 
@@ -115,15 +116,17 @@ module _ (j : Job) (sized : Sized j) (whole : Whole j) where
         record {
           few = omega (arith, place-count p placed, sized .openings);
           paid = fee-count fs fees ∙ sym (place-count p placed);
-          some = omega (arith, lane-count lifeOf ls lives, part-count j sized whole, valid .some-part);
+          lives = record {
+            some = omega (arith, lane-count lifeOf ls lives, part-count j sized whole, valid .some-part);
+            lefts = lane-count leftOf rs lefts ∙ sym (lane-count lifeOf ls lives);
+            brief = λ q. subst (λ (l : List ℕ). getD l q 0 ≤ longestLife) (sym lives) (life-range n (jobOf j .parts) (valid-parts j sized whole valid) q);
+            begun = λ q. subst (λ (l : List ℕ). getD l q 0 ≤ longestLife) (sym lefts) (left-range n (jobOf j .parts) (valid-parts j sized whole valid) q);
+          };
           lanes = omega (arith, lane-count lifeOf ls lives, sized .parts);
-          lefts = lane-count leftOf rs lefts ∙ sym (lane-count lifeOf ls lives);
           prices = laid .size;
           fair = λ i. subst (λ (l : List ℕ). getD l i 0 ≤ top) (sym fees) (fee-range (jobOf j .openings) (valid .openings) i);
           cheap = laid-range (jobOf j .parts) ps laid n (valid-parts j sized whole valid);
           free = λ x h. laid-free (jobOf j .parts) ps laid x (omega (arith, h, lane-count lifeOf ls lives, part-count j sized whole));
-          brief = λ q. subst (λ (l : List ℕ). getD l q 0 ≤ longestLife) (sym lives) (life-range n (jobOf j .parts) (valid-parts j sized whole valid) q);
-          begun = λ q. subst (λ (l : List ℕ). getD l q 0 ≤ longestLife) (sym lefts) (left-range n (jobOf j .parts) (valid-parts j sized whole valid) q);
           near = near;
           late = position-small (p .end) (placed .end-range);
         }
@@ -138,7 +141,7 @@ module _ (j : Job) (sized : Sized j) (whole : Whole j) where
         long : length (take n (drop (q * priceStride) ps)) ≡ n
         long = length-take-le n (drop (q * priceStride) ps) (omega (arith, length-drop (q * priceStride) ps, laid .size, sized))
 
-    part : (q : ℕ) → q < length (take m ls) → getD (jobOf j .parts) q noPart ≡ partAt (length (take n (p .at))) (take m ls) (take m rs) ps q
+    part : (q : ℕ) → q < length (take m ls) → getD (jobOf j .parts) q noPart ≡ lanePart (length (take n (p .at))) (take m ls) (take m rs) ps q
     part q l =
         let h : q < m = omega (arith, l, lane-count lifeOf ls lives) in
         let prices = ap (λ (k : ℕ). take k (drop (q * priceStride) ps)) (place-count p placed) ∙ prices-at q h in

@@ -10,30 +10,31 @@ use Rattle.branch.proofs.Bounds.{sum-inj, there-is}
 use Rattle.model.specs.Model as model
 use Rattle.model.specs.Model.{HasPlan}
 use Rattle.model.specs.LowerBound.{boundOf}
-use Rattle.model.specs.Promise.{Answer, no-plan, cut-none, cut, optimum, answerOf, nodesOf, Promise}
+use Rattle.model.specs.Promise.{PlannerAnswer, no-plan, cut-none, cut, optimum, answerOf, nodesOf, Promise}
 use Rattle.model.proofs.Bounded.{bounds}
 use Rattle.model.proofs.Plans.{stops-bound, rooted}
 use Rattle.model.proofs.Promised.{promise}
-use Rattle.job_text.specs.Views.{jobOf, Sized}
-use Rattle.job_text.specs.Valid.{ValidJob}
-use Rattle.job_text.specs.declared.Job.{Job}
-use Rattle.job_text.proofs.Jobs.{Whole, opening-count, part-count}
-use Rattle.verdict.proofs.Limits.{dearestPlan, cost-most}
-use Rattle.search.specs.declared.Outcome.{Outcome}
-use Rattle.search.specs.Outcome.{Answers, saidIn}
+use Rattle.jobs.specs.Views.{jobOf, Sized}
+use Rattle.jobs.specs.Valid.{ValidJob}
+use Rattle.jobs.specs.declared.Job.{Job}
+use Rattle.jobs.proofs.Jobs.{Whole, opening-count, part-count}
+use Rattle.verdict.specs.Ranges.{dearestPlan}
+use Rattle.verdict.proofs.Limits.{cost-most}
+use Rattle.search.specs.declared.Found.{Found}
+use Rattle.search.specs.Found.{Finds, saidIn}
 use Rattle.search.proofs.Answered.{said}
 
 -- ---- the answer
 
 -- what the search hands back, read with the struct's counts, is the model's answer
-pub job-said : (j : Job) → Sized j → Whole j → (limit : ℕ) (r : Outcome) → Answers (jobOf j) limit r → saidIn (j .«opening_count») (j .«part_count») r ≡ answerOf (jobOf j) limit
+pub job-said : (j : Job) → Sized j → Whole j → (limit : ℕ) (r : Found) → Finds (jobOf j) limit r → saidIn (j .«opening_count») (j .«part_count») r ≡ answerOf (jobOf j) limit
 job-said j sized whole limit r a =
     ap₂ (λ (n m : ℕ). saidIn n m r) (sym (opening-count j sized whole)) (sym (part-count j sized whole)) ∙ said (jobOf j) limit r a
 
 -- ---- its ranges
 
 -- the values that are printed
-abbrev pub Ranged : ℕ → Answer → Type 0
+abbrev pub Ranged : ℕ → PlannerAnswer → Type 0
 Ranged limit no-plan = Unit {0}
 Ranged limit (cut-none nodes floor) = (nodes ≤ limit) × (floor ≤ dearestPlan)
 Ranged limit (cut nodes floor cost p) = (nodes ≤ limit) × (floor ≤ dearestPlan) × (cost ≤ dearestPlan)
@@ -50,10 +51,10 @@ module _ (job : model.Job) (valid : ValidJob job) where
 
   module _ (limit : ℕ) where
     -- the values of an answer that keeps the promise
-    nodes-most : (a : Answer) → Promise job limit a → HasPlan job → nodesOf a ≤ limit
+    nodes-most : (a : PlannerAnswer) → Promise job limit a → HasPlan job → nodesOf a ≤ limit
     nodes-most a p h = omega (arith, p .nodes h)
 
-    ranged : (a : Answer) → Promise job limit a → Ranged limit a
+    ranged : (a : PlannerAnswer) → Promise job limit a → Ranged limit a
     ranged no-plan p = tt
     ranged (cut-none n f) p = let h = p .says-7 .0 refl .0 in (nodes-most (cut-none n f) p h, floor-most f (p .floor h))
     ranged (cut n f c q) p = let h = p .says-7 .0 refl .0 in (nodes-most (cut n f c q) p h, floor-most f (p .floor h), omega (arith, p .plan-for .states, cost-most job valid q))

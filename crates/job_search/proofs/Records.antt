@@ -1,5 +1,5 @@
 -- The numbers of the parts' records, laid out one record after the other: by one record more.
-use Prim.Native.Nat.{ℕ, _+_, _-_, _*_, _≤_, _<_}
+use Prim.Native.Nat.{ℕ, _+_, _*_, _≤_, _<_}
 use mathlib.Core.Path.{_≡_, refl, sym, ap, ap₂, _∙_}
 use mathlib.Core.List.{List, [], _∷_, _++_, map, map-append}
 use native.Mathlib.Omega.{arith}
@@ -10,12 +10,12 @@ use lib.Seq.{take-suc}
 use Rattle.lines.proofs.Arrays.{take-more}
 use Rattle.model.specs.Model as model
 use Rattle.model.specs.Verdict.{noPart}
-use Rattle.job_text.specs.declared.Part.{Part}
-use Rattle.job_text.specs.Views.{blankPart, partOf}
-use Rattle.job_text.proofs.Jobs.{viewed, part-viewed}
+use Rattle.jobs.specs.declared.Part.{Part}
+use Rattle.jobs.specs.Views.{blankPart, partOf}
+use Rattle.jobs.proofs.Jobs.{viewed, part-viewed}
 use Rattle.part_records.specs.Records.{recordAt}
 use Rattle.search.specs.Arrays.{priceStride, priceSize}
-use Rattle.search.specs.Fill.{Span}
+use Rattle.least.specs.Filled.{FilledBy}
 use Rattle.job_search.specs.Laid.{Laid}
 
 -- ---- one number of each record
@@ -52,21 +52,21 @@ module _ (n : ℕ) (parts : List Part) where
     base = q * priceStride
 
     -- the prices of the record at place q are written behind those before it
-    pub laid-more : length prices ≡ n → Span (λ (x : ℕ). getD prices (x - base) 0) flat next base (base + length prices) → Laid (viewed n (q + 1) parts) next
-    laid-more long span = record { size = span .size ∙ laid .size; price = λ r i h. go r i h (decLt r q) (decLt q r) }
+    pub laid-more : length prices ≡ n → FilledBy (λ (i : ℕ). base + i) (λ (i : ℕ). getD prices i 0) (length prices) flat next → Laid (viewed n (q + 1) parts) next
+    laid-more long new = record { size = new .size ∙ laid .size; price = λ r i h. go r i h (decLt r q) (decLt q r) }
       where
         here : (i : ℕ) → i < priceStride → Dec (i < n) → getD next (base + i) 0 ≡ getD prices i 0
-        here i h (yes l) = let z : base + i - base ≡ i = omega arith in span .done (base + i) (omega arith) (omega (arith, long)) ∙ ap (λ (k : ℕ). getD prices k 0) z
+        here i h (yes l) = new .done i (omega (arith, long))
         here i h (no l) =
-            span .over (base + i) (omega (arith, l, long)) ∙ laid .price q i h ∙ ap (λ (p : model.Part). getD (p .prices) i 0) (none-viewed q q (omega arith))
+            new .rest (base + i) (λ y s e. omega (arith, l, long, e)) ∙ laid .price q i h ∙ ap (λ (p : model.Part). getD (p .prices) i 0) (none-viewed q q (omega arith))
             ∙ sym (List·getD-eq-default prices 0 {n = i} (omega (arith, l, long)))
 
         go : (r i : ℕ) → i < priceStride → Dec (r < q) → Dec (q < r) → getD next (r * priceStride + i) 0 ≡ getD (getD (viewed n (q + 1) parts) r noPart .prices) i 0
         go r i h (yes l) g =
-            span .under (r * priceStride + i) (omega arith) ∙ laid .price r i h
+            new .rest (r * priceStride + i) (λ y s e. omega (arith, e)) ∙ laid .price r i h
             ∙ ap (λ (p : model.Part). getD (p .prices) i 0) (part-viewed n q parts r l ∙ sym (part-viewed n (q + 1) parts r (omega arith)))
         go r i h (no l) (yes g) =
-            span .over (r * priceStride + i) (omega (arith, long)) ∙ laid .price r i h
+            new .rest (r * priceStride + i) (λ y s e. omega (arith, long, e)) ∙ laid .price r i h
             ∙ ap (λ (p : model.Part). getD (p .prices) i 0) (none-viewed q r (omega arith) ∙ sym (none-viewed (q + 1) r (omega arith)))
         go r i h (no l) (no g) =
             let z : r ≡ q = omega (arith, l, g) in

@@ -1,20 +1,20 @@
 // The search of an accepted job: its numbers laid out in arrays, and the counted search over them.
 use clock::positions_of;
-use job_text::Job;
-use job_text::Part;
+use jobs::Job;
+use jobs::Part;
 use part_records::part_of;
-use search::Outcome;
+use search::Found;
 use search::search;
 use search::tables::STRIDE;
 ghost use mathlib.Core.Path.{_≡_};
 ghost use mathlib.Core.List.{map};
-ghost use Prim.Native.Nat.{ℕ, _+_, _-_, _≤_};
+ghost use Prim.Native.Nat.{ℕ, _+_, _≤_};
 ghost use lib.ListN.{length, getD, take};
 ghost use Rattle.model.specs.Model.{feeOf};
-ghost use Rattle.job_text.specs.Views.{jobOf, Sized};
-ghost use Rattle.job_text.specs.Valid.{ValidJob};
-ghost use Rattle.search.specs.Fill.{Span};
-ghost use Rattle.search.specs.Outcome.{Answers};
+ghost use Rattle.jobs.specs.Views.{jobOf, Sized};
+ghost use Rattle.jobs.specs.Valid.{Sound};
+ghost use Rattle.least.specs.Filled.{FilledBy};
+ghost use Rattle.search.specs.Found.{Finds};
 ghost use Rattle.job_search.specs.Laid.{lifeOf, leftOf, Laid};
 
 // The life of each part, and what is left of its first life.
@@ -75,7 +75,7 @@ fn lives_of(job: Job) -> Lives
 // One part's prices, from `at` on.
 fn put_prices(prices: &[u32], at: usize, flat: &mut [u32])
     requires { ⌜ at + length (now prices) ≤ length (now flat) ⌝ }
-    ensures { λ _. ⌜ Span (λ (x : ℕ). getD (now (prices .entry)) (x - at) 0) (now (flat .entry)) (now (flat .exit)) at (at + length (now (prices .entry))) ⌝ }
+    ensures { λ _. ⌜ FilledBy (λ (i : ℕ). at + i) (λ (i : ℕ). getD (now (prices .entry)) i 0) (length (now (prices .entry))) (now (flat .entry)) (now (flat .exit)) ⌝ }
 {
     let mut i = 0;
     while i < prices.len() {
@@ -104,9 +104,9 @@ fn prices_of(job: Job) -> [u32; 1024]
 }
 
 // The search of an accepted job, with a limit on its nodes.
-pub fn search_job(job: Job, limit: u32) -> Outcome
-    requires { ⌜ Sized job × ValidJob (jobOf job) ⌝ }
-    ensures { λ r. ⌜ Answers (jobOf job) limit r ⌝ }
+pub fn search_job(job: Job, limit: u32) -> Found
+    requires { ⌜ Sound job ⌝ }
+    ensures { λ r. ⌜ Finds (jobOf job) limit r ⌝ }
 {
     let n = job.opening_count;
     let count = job.part_count;

@@ -1,4 +1,4 @@
--- An accepted job text is the rendering of the job that was read (`text-is`), and that job is valid (`valid`). By the grammar's lines, one after the other.
+-- An accepted job text is the rendering of what it says (`text-is`), and that is valid (`valid-text`, and `valid` of what it means). By the grammar's lines, one after the other.
 use Prim.Native.Nat.{ℕ, _≤_, _<_}
 use mathlib.Core.Path.{_≡_, refl, sym, ap, _∙_, subst}
 use mathlib.Core.List.{List, [], _∷_, _++_, append-assoc, append-nil}
@@ -7,14 +7,16 @@ use native.Mathlib.Omega.{arith}
 use lib.Dec.{leb, ltb}
 use lib.ListN.{length}
 use borrow.Author.Tests.{ltb-true, leb-true}
-use Rattle.lines.specs.Text.{bytes, line, lineOf, texts}
-use Rattle.lines.specs.Parser.{Parser, good, accepted, return, row, rowAt, optional, checked, times, rising, upTo}
-use Rattle.lines.proofs.Sound.{bind-inv, lineIf, row-sound, optional-sound, checked-sound, chain-sound, row-gives, optional-most, checked-gives, Chained, chain-gives, accepted-is}
+use Rattle.lines.specs.Text.{bytes, line, lineOf, texts, Optional, missing, present, optionalText}
+use Rattle.lines.specs.Parser.{Parser, good, Outcome, accepted, refused, return, row, rowAt, optional, ifPresent, checked, times, rising, upTo}
+use Rattle.lines.proofs.Outcomes.{one-value, not-both}
+use Rattle.lines.proofs.Sound.{bind-inv, Optionally, optional-inv, row-sound, checked-sound, chain-sound, row-gives, checked-gives, Chained, chain-gives, accepted-is}
 use Rattle.model.specs.Model.{Opening}
 use Rattle.model.specs.Windows.{Rising, stepsOf}
-use Rattle.job_text.specs.Grammar.{Given, idle, idleSteps, idles, opening, openings, part, body, jobLines, maxBytes, readJob}
+use Rattle.job_text.specs.Grammar.{JobText, Given, idleIn, meant, idle, idleSteps, idles, opening, openings, part, body, jobLines, maxBytes, readJobText, meaning, readJob}
 use Rattle.job_text.specs.Rendering.{idlesText, openingText, partText, bodyText, jobText}
-use Rattle.job_text.specs.Valid.{All, ValidOpening, ValidPrice, ValidPart, ValidJob, Valid}
+use Rattle.jobs.specs.Valid.{All, ValidOpening, ValidPrice, ValidPart, ValidJob}
+use Rattle.job_text.specs.Valid.{Valid, Some, ValidText}
 
 -- what a parser gives: a value that is known, and the text is what is written for it
 pub record Told {A : Type 0} (P : A → Type 0) (w : A → List ℕ) (s s′ : List ℕ) (a : A) : Type 0 where
@@ -44,9 +46,9 @@ step-tells key h before s s′ l l′ v e =
 
 -- ---- idle steps
 
--- at most 365, which rise and stay within the horizon h
-abbrev KnownIdles : ℕ → List ℕ → Type 0
-KnownIdles h is = (length is ≤ 365) × Rising 0 h is
+-- at most 365, which rise and stay within the horizon h; and some where they are written
+abbrev KnownIdles : ℕ → Optional (List ℕ) → Type 0
+KnownIdles h is = (length (idleIn is) ≤ 365) × Rising 0 h (idleIn is) × Some is
 
 -- the number that an idle step hands on
 abbrev itself : ℕ → ℕ
@@ -56,25 +58,33 @@ steps-rise : (h before : ℕ) (is : List ℕ) → Chained (KnownStep h) itself b
 steps-rise h before [] c = tt
 steps-rise h before (i ∷ is) c = (c .0 .after, c .0 .within, steps-rise h i is (c .1))
 
--- their text, the number's line first
-idles-text : (is : List ℕ) (rest : List ℕ) → lineIf (bytes "idles=") (length is) ++ (texts (lineOf "idle=") is ++ rest) ≡ idlesText is ++ rest
-unfolding idlesText
-idles-text [] rest = refl
-idles-text (i ∷ is) rest = sym (append-assoc (lineOf "idles=" (length (i ∷ is))) (texts (lineOf "idle=") (i ∷ is)) rest)
-
-idles-tell : (h : ℕ) → Tells (idles h) (KnownIdles h) idlesText
-unfolding idles idleSteps idle
+idles-tell : (h : ℕ) → Tells (idles h) (KnownIdles h) (optionalText idlesText)
+unfolding idles idleSteps idle ifPresent return idlesText
 idles-tell h s s′ l l′ is e =
     let b = bind-inv (optional "idles=" 1 365) _ s s′ l l′ is e in
-    let few = optional-most _ 1 365 s (b .mid) l (b .at) (b .a) (b .first) in
-    let c = chain-gives (idle h) itself (KnownStep h) (λ before s s′ l l′ i e. step-tells _ h before s s′ l l′ i e .known) (b .a) 0 (b .mid) s′ (b .at) l′ is (b .second) in
-    record {
-      known = (subst (λ (m : ℕ). m ≤ 365) (sym (c .0)) few, steps-rise h 0 is (c .1));
-      text = optional-sound _ 1 365 (omega arith) s (b .mid) l (b .at) (b .a) (b .first)
-          ∙ ap (λ (m : ℕ). lineIf (bytes "idles=") m ++ b .mid) (sym (c .0))
-          ∙ ap (λ (r : List ℕ). lineIf (bytes "idles=") (length is) ++ r) (chain-sound (idle h) itself (lineOf "idle=") (λ before s s′ l l′ i e. step-tells _ h before s s′ l l′ i e .text) (b .a) 0 (b .mid) s′ (b .at) l′ is (b .second))
-          ∙ idles-text is s′;
-    }
+    go (b .a) (b .mid) (b .at) (optional-inv _ 1 365 s (b .mid) l (b .at) (b .a) (b .first)) (b .second)
+  where
+    go : (n : Optional ℕ) (mid : List ℕ) (at : ℕ) → Optionally (bytes "idles=") 1 365 s mid l at n → ifPresent (idleSteps h) n mid at ≡ good is s′ l′ → Told (KnownIdles h) (optionalText idlesText) s s′ is
+    go missing mid at none e =
+        let x : missing ≡ is = cc in
+        let y : mid ≡ s′ = cc in
+        subst (Told (KnownIdles h) (optionalText idlesText) s s′) x (record { known = (omega arith, tt, tt); text = none ∙ y })
+    go (present n) mid at some e =
+        let d = bind-inv (idleSteps h n) _ mid s′ at l′ is e in
+        let x : present (d .a) ≡ is = cc (d .second) in
+        let y : d .mid ≡ s′ = cc (d .second) in
+        let k = row-gives _ 1 365 s mid l at n some in
+        let c = chain-gives (idle h) itself (KnownStep h) (λ before s s′ l l′ i e. step-tells _ h before s s′ l l′ i e .known) n 0 mid (d .mid) at (d .at) (d .a) (d .first) in
+        let count : n ≡ length (d .a) = sym (c .0) in
+        subst (Told (KnownIdles h) (optionalText idlesText) s s′) x (record {
+          known = (subst (λ (m : ℕ). m ≤ 365) count (k .1), steps-rise h 0 (d .a) (c .1), subst (λ (m : ℕ). 1 ≤ m) count (k .0));
+          text = simp append-assoc
+              (row-sound _ 1 365 s mid l at n some
+              ∙ ap (λ (m : ℕ). lineOf "idles=" m ++ mid) count
+              ∙ ap (λ (r : List ℕ). lineOf "idles=" (length (d .a)) ++ r)
+              (chain-sound (idle h) itself (lineOf "idle=") (λ before s s′ l l′ i e. step-tells _ h before s s′ l l′ i e .text) n 0 mid (d .mid) at (d .at) (d .a) (d .first)
+              ∙ ap (λ (r : List ℕ). texts (lineOf "idle=") (d .a) ++ r) y));
+        })
 
 -- ---- openings
 
@@ -148,17 +158,17 @@ part-tells n s s′ l l′ p e =
 
 -- ---- the whole
 
-abbrev KnownJob : ℕ → List ℕ → ℕ → ℕ → Given → Type 0
-KnownJob h is w n g =
-    (2 ≤ h → h ≤ 365 → KnownIdles h is → n ≤ 64 → ValidJob (g .job)) × (g .walk ≡ w) × (g .job .horizon ≡ h) × (g .job .idles ≡ is) × (length (g .job .openings) ≡ n)
+abbrev KnownJob : ℕ → Optional (List ℕ) → ℕ → ℕ → JobText → Type 0
+KnownJob h is w n t =
+    (2 ≤ h → h ≤ 365 → KnownIdles h is → n ≤ 64 → ValidJob (meant t .job)) × (t .walk ≡ w) × (t .horizon ≡ h) × (t .idles ≡ is) × (length (t .openings) ≡ n)
 
-body-tells : (h : ℕ) (is : List ℕ) (w n : ℕ) → Tells (body h is w n) (KnownJob h is w n) (λ g. bodyText (g .job))
+body-tells : (h : ℕ) (is : Optional (List ℕ)) (w n : ℕ) → Tells (body h is w n) (KnownJob h is w n) bodyText
 unfolding body openings times return bodyText
 body-tells h is w n s s′ l l′ g e =
     let b = bind-inv (openings h n) _ s s′ l l′ g e in
     let d = bind-inv (row "parts=" 1 16) _ (b .mid) s′ (b .at) l′ g (b .second) in
     let f = bind-inv (times (d .a) (part n)) _ (d .mid) s′ (d .at) l′ g (d .second) in
-    let x : record { walk = w; job = record { horizon = h; idles = is; openings = b .a; parts = f .a } } ≡ g = cc (f .second) in
+    let x : record { horizon = h; idles = is; walk = w; openings = b .a; parts = f .a } ≡ g = cc (f .second) in
     let y : f .mid ≡ s′ = cc (f .second) in
     let k₁ = chain-gives (opening h) stepOf (KnownOpening h) (λ before s s′ l l′ o e. opening-tells h before s s′ l l′ o e .known) n 0 s (b .mid) l (b .at) (b .a) (b .first) in
     let os = chained-rising h 0 (b .a) (k₁ .1) in
@@ -166,7 +176,7 @@ body-tells h is w n s s′ l l′ g e =
     let k₃ = chain-gives (λ _. part n) (λ _. 0) (λ _. ValidPart n) (λ _ s s′ l l′ p e. part-tells n s s′ l l′ p e .known) (d .a) 0 (d .mid) (f .mid) (d .at) (f .at) (f .a) (f .first) in
     let count : d .a ≡ length (f .a) = sym (k₃ .0) in
     let ps : All (ValidPart (length (b .a))) (f .a) = subst (λ (m : ℕ). All (ValidPart m) (f .a)) (sym (k₁ .0)) (each (ValidPart n) 0 (f .a) (k₃ .1)) in
-    subst (Told (KnownJob h is w n) (λ g. bodyText (g .job)) s s′) x (record {
+    subst (Told (KnownJob h is w n) bodyText s s′) x (record {
       known = (
         λ low high steps few. record {
           horizon-low = low;
@@ -195,7 +205,7 @@ body-tells h is w n s s′ l l′ g e =
           ∙ ap (λ (r : List ℕ). texts partText (f .a) ++ r) y)));
     })
 
-pub lines-tell : Tells jobLines Valid jobText
+pub lines-tell : Tells jobLines ValidText jobText
 unfolding jobLines jobText
 lines-tell s s′ l l′ g e =
     let b = bind-inv (row "horizon=" 2 365) _ s s′ l l′ g e in
@@ -207,31 +217,43 @@ lines-tell s s′ l l′ g e =
     let k₂ = row-gives _ 0 4000000000 (c .mid) (d .mid) (c .at) (d .at) (d .a) (d .first) in
     let k₃ = row-gives _ 0 64 (d .mid) (f .mid) (d .at) (f .at) (f .a) (f .first) in
     let t = body-tells (b .a) (c .a) (d .a) (f .a) (f .mid) s′ (f .at) l′ g (f .second) in
-    let h : b .a ≡ g .job .horizon = sym (t .known .2) in
+    let h : b .a ≡ g .horizon = sym (t .known .2) in
     let w : d .a ≡ g .walk = sym (t .known .1) in
-    let is : c .a ≡ g .job .idles = sym (t .known .3) in
-    let n : f .a ≡ length (g .job .openings) = sym (t .known .4) in
+    let is : c .a ≡ g .idles = sym (t .known .3) in
+    let n : f .a ≡ length (g .openings) = sym (t .known .4) in
     record {
-      known = record { walk = subst (λ (m : ℕ). m ≤ 4000000000) w (k₂ .1); job = t .known .0 (k₁ .0) (k₁ .1) (steps .known) (k₃ .1) };
+      known = record {
+        means = record { walk = subst (λ (m : ℕ). m ≤ 4000000000) w (k₂ .1); job = t .known .0 (k₁ .0) (k₁ .1) (steps .known) (k₃ .1) };
+        idles = subst Some is (steps .known .2);
+      };
       text = simp append-assoc
           (row-sound _ 2 365 s (b .mid) l (b .at) (b .a) (b .first)
           ∙ ap (λ (m : ℕ). lineOf "horizon=" m ++ b .mid) h
-          ∙ ap (λ (r : List ℕ). lineOf "horizon=" (g .job .horizon) ++ r)
+          ∙ ap (λ (r : List ℕ). lineOf "horizon=" (g .horizon) ++ r)
           (steps .text
-          ∙ ap (λ (xs : List ℕ). idlesText xs ++ c .mid) is
-          ∙ ap (λ (r : List ℕ). idlesText (g .job .idles) ++ r)
+          ∙ ap (λ (xs : Optional (List ℕ)). optionalText idlesText xs ++ c .mid) is
+          ∙ ap (λ (r : List ℕ). optionalText idlesText (g .idles) ++ r)
           (row-sound _ 0 4000000000 (c .mid) (d .mid) (c .at) (d .at) (d .a) (d .first)
           ∙ ap (λ (m : ℕ). lineOf "walk=" m ++ d .mid) w
           ∙ ap (λ (r : List ℕ). lineOf "walk=" (g .walk) ++ r)
           (row-sound _ 0 64 (d .mid) (f .mid) (d .at) (f .at) (f .a) (f .first)
           ∙ ap (λ (m : ℕ). lineOf "openings=" m ++ f .mid) n
-          ∙ ap (λ (r : List ℕ). lineOf "openings=" (length (g .job .openings)) ++ r) (t .text)))));
+          ∙ ap (λ (r : List ℕ). lineOf "openings=" (length (g .openings)) ++ r) (t .text)))));
     }
 
 -- ---- the text
 
-pub valid : (s : List ℕ) (g : Given) → readJob s ≡ accepted g → Valid g
-valid s g e = let a = accepted-is maxBytes jobLines s g e in lines-tell s [] 1 (a .last) g (a .lines) .known
+pub valid-text : (s : List ℕ) (t : JobText) → readJobText s ≡ accepted t → ValidText t
+valid-text s t e = let a = accepted-is maxBytes jobLines s t e in lines-tell s [] 1 (a .last) t (a .lines) .known
 
-pub text-is : (s : List ℕ) (g : Given) → readJob s ≡ accepted g → s ≡ jobText g
-text-is s g e = let a = accepted-is maxBytes jobLines s g e in lines-tell s [] 1 (a .last) g (a .lines) .text ∙ append-nil (jobText g)
+pub text-is : (s : List ℕ) (t : JobText) → readJobText s ≡ accepted t → s ≡ jobText t
+text-is s t e = let a = accepted-is maxBytes jobLines s t e in lines-tell s [] 1 (a .last) t (a .lines) .text ∙ append-nil (jobText t)
+
+-- ---- what it means
+
+pub valid : (s : List ℕ) (g : Given) → readJob s ≡ accepted g → Valid g
+valid s g e = go (readJobText s) refl
+  where
+    go : (x : Outcome JobText) → readJobText s ≡ x → Valid g
+    go (accepted t) f = subst Valid (one-value e (ap meaning f)) (valid-text s t f .means)
+    go (refused n l) f = not-both e (ap meaning f)

@@ -1,5 +1,4 @@
--- The laws: what a refused and an accepted text give (Refusals, Accepted, Numbered), and the job that a struct holds, place by place (Jobs).
-pub mod Refusals
+-- The laws: the code's answers in the grammar's terms (Views), and what an accepted and a refused text give (Accepted, Numbered).
+pub mod Views
 pub mod Accepted
 pub mod Numbered
-pub mod Jobs

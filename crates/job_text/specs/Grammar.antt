@@ -1,68 +1,94 @@
--- 01's "The texts", the job: "`horizon` 2..365; `walk` 0..4000000000; `openings` 0..64; for each, `opening` 1..365 and `fee` 0..1000000;
+-- X3. The job's lines: "`horizon` 2..365; `walk` 0..4000000000; `openings` 0..64; for each, `opening` 1..365 and `fee` 0..1000000;
 -- `parts` 1..16; for each, `life` 1..1000, `left` 1..1000, then one `price` 1..1000000 per opening."
--- "After `horizon` a job may have `idles` 1..365 and that many `idle` lines, 1..365, rising and within the horizon; without the line no step is idle."
+-- E1.2. "After `horizon` a job may have `idles` 1..365 and that many `idle` lines, 1..365, rising and within the horizon; without the line no step is idle."
 use Prim.Native.Nat.{ℕ}
-use mathlib.Core.List.{List}
-use Rattle.lines.specs.Parser.{Outcome, Parser, _>>=_, return, row, optional, checked, chain, times, rising, upTo, readText}
+use mathlib.Core.List.{List, []}
+use Rattle.lines.specs.Text.{Optional, missing, present}
+use Rattle.lines.specs.Parser.{Outcome, accepted, refused, Parser, _>>=_, return, row, optional, ifPresent, checked, chain, times, rising, upTo, readText}
 use Rattle.model.specs.Model.{Opening, Part, Job}
+use Rattle.model.specs.Limits.{lastStep, longestLife, dearest, mostOpenings, mostParts, mostWalk}
 
--- what a job text says: the job, and beside it the walk number
+-- what a job text says: its lines in their order, those that may be missing present or not
+pub record JobText : Type 0 where
+  pub horizon : ℕ
+  pub idles : Optional (List ℕ)
+  pub walk : ℕ
+  pub openings : List Opening
+  pub parts : List Part
+
+-- what a job text means: the job, and beside it the walk number
 pub record Given : Type 0 where
   pub walk : ℕ
   pub job : Job
 
--- an idle step after step `before` and within the horizon h, else number 4
+-- E1.2. "without the line no step is idle"
+abbrev pub idleIn : Optional (List ℕ) → List ℕ
+idleIn missing = []
+idleIn (present is) = is
+
+abbrev pub meant : JobText → Given
+meant t = record { walk = t .walk; job = record { horizon = t .horizon; idles = idleIn (t .idles); openings = t .openings; parts = t .parts } }
+
+-- E1.2, E1.3. an idle step after step `before` and within the horizon h, else number 4
 unfoldable pub idle : ℕ → ℕ → Parser ℕ
-idle h before = checked 4 (rising before h) (row "idle=" 1 365)
+idle h before = checked 4 (rising before h) (row "idle=" 1 lastStep)
 
 unfoldable pub idleSteps : ℕ → ℕ → Parser (List ℕ)
 idleSteps h n = chain (idle h) (λ i. i) n 0
 
--- the number of idle steps and the steps; where its line is missing there are none
-unfoldable pub idles : ℕ → Parser (List ℕ)
+-- the number of idle steps and the steps, which may be missing
+unfoldable pub idles : ℕ → Parser (Optional (List ℕ))
 idles h = do
-  n ← optional "idles=" 1 365
-  idleSteps h n
+  n ← optional "idles=" 1 lastStep
+  ifPresent (idleSteps h) n
 
--- an opening after step `before` and within the horizon h, and its fee: "Openings rise and stay within the horizon", else number 4
+-- an opening after step `before` and within the horizon h, and its fee: X5. "Openings rise and stay within the horizon", else number 4
 unfoldable pub opening : ℕ → ℕ → Parser Opening
 opening h before = do
-  o ← checked 4 (rising before h) (row "opening=" 1 365)
-  f ← row "fee=" 0 1000000
+  o ← checked 4 (rising before h) (row "opening=" 1 lastStep)
+  f ← row "fee=" 0 dearest
   return (record { step = o; fee = f })
 
 unfoldable pub openings : ℕ → ℕ → Parser (List Opening)
 openings h n = chain (opening h) (λ o. o .step) n 0
 
--- a part, with a price for each of n openings; number 5 is "`left` greater than `life`, on the `left` line"
+-- a part, with a price for each of n openings; R5: number 5 is "`left` greater than `life`, on the `left` line"
 unfoldable pub part : ℕ → Parser Part
 part n = do
-  l ← row "life=" 1 1000
-  r ← checked 5 (upTo l) (row "left=" 1 1000)
-  ps ← times n (row "price=" 1 1000000)
+  l ← row "life=" 1 longestLife
+  r ← checked 5 (upTo l) (row "left=" 1 longestLife)
+  ps ← times n (row "price=" 1 dearest)
   return (record { life = l; left = r; prices = ps })
 
 -- what follows the number n of openings
-unfoldable pub body : ℕ → List ℕ → ℕ → ℕ → Parser Given
+unfoldable pub body : ℕ → Optional (List ℕ) → ℕ → ℕ → Parser JobText
 body h is w n = do
   os ← openings h n
-  m ← row "parts=" 1 16
+  m ← row "parts=" 1 mostParts
   ps ← times m (part n)
-  return (record { walk = w; job = record { horizon = h; idles = is; openings = os; parts = ps } })
+  return (record { horizon = h; idles = is; walk = w; openings = os; parts = ps })
 
 -- the lines of a job
-unfoldable pub jobLines : Parser Given
+unfoldable pub jobLines : Parser JobText
 jobLines = do
-  h ← row "horizon=" 2 365
+  h ← row "horizon=" 2 lastStep
   is ← idles h
-  w ← row "walk=" 0 4000000000
-  n ← row "openings=" 0 64
+  w ← row "walk=" 0 mostWalk
+  n ← row "openings=" 0 mostOpenings
   body h is w n
 
--- "A text has at most 32,768 bytes"
+-- X7. "A text has at most 32,768 bytes"
 abbrev pub maxBytes : ℕ
 maxBytes = 32768
 
--- the whole text: the job that it says, or its first fault's number and line
+-- the whole text: what it says, or its first fault's number and line
+abbrev pub readJobText : List ℕ → Outcome JobText
+readJobText s = readText maxBytes jobLines s
+
+abbrev pub meaning : Outcome JobText → Outcome Given
+meaning (accepted t) = accepted (meant t)
+meaning (refused n l) = refused n l
+
+-- the job and the walk number that a whole text means, or its first fault's number and line
 abbrev pub readJob : List ℕ → Outcome Given
-readJob s = readText maxBytes jobLines s
+readJob s = meaning (readJobText s)

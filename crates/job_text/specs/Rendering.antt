@@ -1,15 +1,14 @@
--- The text of a job.
+-- The text that says what a job text's record holds.
 use Prim.Native.Nat.{ℕ}
-use mathlib.Core.List.{List, [], _∷_, _++_}
+use mathlib.Core.List.{List, _++_}
 use lib.ListN.{length}
-use Rattle.lines.specs.Text.{lineOf, texts}
-use Rattle.model.specs.Model.{Opening, Part, Job}
-use Rattle.job_text.specs.Grammar.{Given}
+use Rattle.lines.specs.Text.{lineOf, texts, optionalText}
+use Rattle.model.specs.Model.{Opening, Part}
+use Rattle.job_text.specs.Grammar.{JobText}
 
--- the number of idle steps and the steps; nothing where there are none
+-- the number of idle steps and the steps
 unfoldable pub idlesText : List ℕ → List ℕ
-idlesText [] = []
-idlesText (i ∷ is) = lineOf "idles=" (length (i ∷ is)) ++ texts (lineOf "idle=") (i ∷ is)
+idlesText is = lineOf "idles=" (length is) ++ texts (lineOf "idle=") is
 
 unfoldable pub openingText : Opening → List ℕ
 openingText o = lineOf "opening=" (o .step) ++ lineOf "fee=" (o .fee)
@@ -18,9 +17,9 @@ unfoldable pub partText : Part → List ℕ
 partText p = lineOf "life=" (p .life) ++ lineOf "left=" (p .left) ++ texts (lineOf "price=") (p .prices)
 
 -- what follows the number of openings
-unfoldable pub bodyText : Job → List ℕ
-bodyText j = texts openingText (j .openings) ++ lineOf "parts=" (length (j .parts)) ++ texts partText (j .parts)
+unfoldable pub bodyText : JobText → List ℕ
+bodyText t = texts openingText (t .openings) ++ lineOf "parts=" (length (t .parts)) ++ texts partText (t .parts)
 
 -- the lines of a job in the text's order; the counts are the lists' lengths
-unfoldable pub jobText : Given → List ℕ
-jobText g = lineOf "horizon=" (g .job .horizon) ++ idlesText (g .job .idles) ++ lineOf "walk=" (g .walk) ++ lineOf "openings=" (length (g .job .openings)) ++ bodyText (g .job)
+unfoldable pub jobText : JobText → List ℕ
+jobText t = lineOf "horizon=" (t .horizon) ++ optionalText idlesText (t .idles) ++ lineOf "walk=" (t .walk) ++ lineOf "openings=" (length (t .openings)) ++ bodyText t

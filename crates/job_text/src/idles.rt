@@ -1,14 +1,17 @@
 // The idle steps of a job text.
-use crate::Job;
 use crate::steps::read_rising;
+use jobs::Job;
+use lines::read::OptionalField;
+use lines::read::read_optional;
 use lines::rows::Cursor;
 use lines::rows::End;
 use lines::rows::Row;
-use lines::rows::read_optional;
+use lines::rows::onward;
+ghost use mathlib.Core.Path.{_≡_};
 ghost use Prim.Native.Nat.{_≤_};
 ghost use lib.ListN.{drop};
 ghost use Rattle.lines.specs.Cursor.{Stands, Reads, rowAnswer};
-ghost use Rattle.job_text.specs.Views.{IdlesRead};
+ghost use Rattle.job_text.specs.Views.{IdlesRead, idleLines};
 ghost use Rattle.job_text.specs.Grammar.{idle, idleSteps, idles};
 
 // Idle steps read, of which the first `count` count, and where they end.
@@ -29,7 +32,7 @@ fn read_idle(text: &[u8], p: Cursor, horizon: u32, before: u32) -> Row
 // The idle steps, n of them.
 fn read_idle_steps(text: &[u8], p: Cursor, horizon: u32, n: usize) -> Idles
     requires { ⌜ Stands (now text) p × (n ≤ 365) ⌝ }
-    ensures { λ r. ⌜ IdlesRead (now (text .entry)) r (idleSteps horizon n (drop (p .at) (now (text .entry))) (p .line)) ⌝ }
+    ensures { λ r. ⌜ IdlesRead (λ is. is) (now (text .entry)) r (idleSteps horizon n (drop (p .at) (now (text .entry))) (p .line)) ⌝ }
 {
     let mut idles = [0u32; 365];
     let mut q = p;
@@ -43,9 +46,9 @@ fn read_idle_steps(text: &[u8], p: Cursor, horizon: u32, n: usize) -> Idles
                 q = r;
                 i += 1;
             }
-            Row::Fault(k, l) => {
+            Row::Fault { number: k, line: l } => {
                 return Idles {
-                    end: End::Fault(k, l),
+                    end: End::Fault { number: k, line: l },
                     count: 0,
                     idles,
                 };
@@ -59,17 +62,28 @@ fn read_idle_steps(text: &[u8], p: Cursor, horizon: u32, n: usize) -> Idles
     }
 }
 
+// No idle steps, and where they end.
+fn no_idles(end: End) -> Idles
+    ensures { λ r. ⌜ (r .end ≡ end) × (r .count ≡ 0) ⌝ }
+{
+    Idles {
+        end,
+        count: 0,
+        idles: [0u32; 365],
+    }
+}
+
 // The number of idle steps and the steps: none where the number's line is missing.
 pub fn read_idles(text: &[u8], p: Cursor, horizon: u32) -> Idles
     requires { ⌜ Stands (now text) p ⌝ }
-    ensures { λ r. ⌜ IdlesRead (now (text .entry)) r (idles horizon (drop (p .at) (now (text .entry))) (p .line)) ⌝ }
+    ensures { λ r. ⌜ IdlesRead idleLines (now (text .entry)) r (idles horizon (drop (p .at) (now (text .entry))) (p .line)) ⌝ }
 {
-    match read_optional(text, p, b"idles=", Job::MIN_IDLES, Job::MAX_IDLES) {
-        Row::Value(n, q) => read_idle_steps(text, q, horizon, n as usize),
-        Row::Fault(k, l) => Idles {
-            end: End::Fault(k, l),
-            count: 0,
-            idles: [0u32; 365],
+    let at = p.at;
+    match read_optional(&text[at..], b"idles=", Job::MIN_IDLES, Job::MAX_IDLES) {
+        OptionalField::There(field) => match onward(text, p, field) {
+            Row::Value(n, q) => read_idle_steps(text, q, horizon, n as usize),
+            Row::Fault { number: k, line: l } => no_idles(End::Fault { number: k, line: l }),
         },
+        OptionalField::Missing => no_idles(End::At(p)),
     }
 }

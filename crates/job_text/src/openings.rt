@@ -1,6 +1,6 @@
 // The openings of a job text.
-use crate::Opening;
 use crate::steps::read_rising;
+use jobs::Opening;
 use lines::rows::Cursor;
 use lines::rows::End;
 use lines::rows::Row;
@@ -9,13 +9,14 @@ ghost use mathlib.Core.List.{map};
 ghost use Prim.Native.Nat.{_≤_};
 ghost use lib.ListN.{drop, take};
 ghost use Rattle.lines.specs.Cursor.{Stands, Reads, ended};
-ghost use Rattle.job_text.specs.Views.{openingAnswer, openingOf};
+ghost use Rattle.jobs.specs.Views.{openingOf};
+ghost use Rattle.job_text.specs.Views.{openingAnswer};
 ghost use Rattle.job_text.specs.Grammar.{opening, openings};
 
 // An opening and the cursor behind it, or a fault's result number and line.
 pub enum OpeningRow {
     Value(Opening, Cursor),
-    Fault(u32, usize),
+    Fault { number: u32, line: usize },
 }
 
 // Openings read, and where they end.
@@ -32,9 +33,9 @@ fn read_opening(text: &[u8], p: Cursor, horizon: u32, before: u32) -> OpeningRow
     match read_rising(text, p, b"opening=", horizon, before) {
         Row::Value(step, q) => match read_row(text, q, b"fee=", 0, Opening::MAX_FEE) {
             Row::Value(fee, r) => OpeningRow::Value(Opening { step, fee }, r),
-            Row::Fault(k, l) => OpeningRow::Fault(k, l),
+            Row::Fault { number: k, line: l } => OpeningRow::Fault { number: k, line: l },
         },
-        Row::Fault(k, l) => OpeningRow::Fault(k, l),
+        Row::Fault { number: k, line: l } => OpeningRow::Fault { number: k, line: l },
     }
 }
 
@@ -56,9 +57,9 @@ pub fn read_openings(text: &[u8], p: Cursor, horizon: u32, n: usize) -> Openings
                 q = r;
                 i += 1;
             }
-            OpeningRow::Fault(k, l) => {
+            OpeningRow::Fault { number: k, line: l } => {
                 return Openings {
-                    end: End::Fault(k, l),
+                    end: End::Fault { number: k, line: l },
                     openings,
                 };
             }

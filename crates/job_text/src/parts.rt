@@ -1,5 +1,5 @@
 // The parts of a job text.
-use crate::Part;
+use jobs::Part;
 use lines::rows::Cursor;
 use lines::rows::End;
 use lines::rows::Row;
@@ -10,7 +10,7 @@ ghost use Prim.Native.Nat.{_≤_};
 ghost use lib.ListN.{drop, take};
 ghost use Rattle.lines.specs.Parser.{times, row, checked, upTo};
 ghost use Rattle.lines.specs.Cursor.{Stands, Reads, rowAnswer, ended};
-ghost use Rattle.job_text.specs.Views.{partOf};
+ghost use Rattle.jobs.specs.Views.{partOf};
 ghost use Rattle.job_text.specs.Grammar.{part};
 
 // Prices read, and where they end.
@@ -40,11 +40,11 @@ fn read_left(text: &[u8], p: Cursor, life: u32) -> Row
     match read_row(text, p, b"left=", Part::MIN_LEFT, Part::MAX_LEFT) {
         Row::Value(v, q) => {
             if life < v {
-                return Row::Fault(5, line);
+                return Row::Fault { number: 5, line };
             }
             Row::Value(v, q)
         }
-        Row::Fault(k, l) => Row::Fault(k, l),
+        Row::Fault { number: k, line: l } => Row::Fault { number: k, line: l },
     }
 }
 
@@ -71,9 +71,9 @@ fn read_prices(text: &[u8], p: Cursor, n: usize) -> Prices
                 q = r;
                 i += 1;
             }
-            Row::Fault(k, l) => {
+            Row::Fault { number: k, line: l } => {
                 return Prices {
-                    end: End::Fault(k, l),
+                    end: End::Fault { number: k, line: l },
                     prices,
                 };
             }
@@ -90,7 +90,7 @@ fn no_part(k: u32, line: usize) -> PartRead
     ensures { λ r. ⌜ r .end ≡ End.Fault k line ⌝ }
 {
     PartRead {
-        end: End::Fault(k, line),
+        end: End::Fault { number: k, line },
         part: Part {
             life: 0,
             left: 0,
@@ -115,9 +115,9 @@ fn read_part(text: &[u8], p: Cursor, n: usize) -> PartRead
                     part: Part { life, left, prices },
                 }
             }
-            Row::Fault(k, l) => no_part(k, l),
+            Row::Fault { number: k, line: l } => no_part(k, l),
         },
-        Row::Fault(k, l) => no_part(k, l),
+        Row::Fault { number: k, line: l } => no_part(k, l),
     }
 }
 
@@ -144,9 +144,9 @@ pub fn read_parts(text: &[u8], p: Cursor, m: usize, n: usize) -> Parts
                 q = r;
                 i += 1;
             }
-            End::Fault(k, l) => {
+            End::Fault { number: k, line: l } => {
                 return Parts {
-                    end: End::Fault(k, l),
+                    end: End::Fault { number: k, line: l },
                     parts,
                 };
             }

@@ -1,5 +1,5 @@
 // Steps that rise and stay within the horizon.
-use crate::Opening;
+use jobs::Opening;
 use lines::rows::Cursor;
 use lines::rows::Row;
 use lines::rows::read_row;
@@ -16,13 +16,13 @@ pub fn read_rising(text: &[u8], p: Cursor, key: &[u8], horizon: u32, before: u32
     match read_row(text, p, key, Opening::MIN_STEP, Opening::MAX_STEP) {
         Row::Value(v, q) => {
             if v <= before {
-                return Row::Fault(4, line);
+                return Row::Fault { number: 4, line };
             }
             if horizon < v {
-                return Row::Fault(4, line);
+                return Row::Fault { number: 4, line };
             }
             Row::Value(v, q)
         }
-        Row::Fault(k, l) => Row::Fault(k, l),
+        Row::Fault { number: k, line: l } => Row::Fault { number: k, line: l },
     }
 }

@@ -1,51 +1,65 @@
 // The lines of a job from a cursor on, and the whole job text.
-use crate::Job;
 use crate::idles::Idles;
 use crate::idles::read_idles;
 use crate::openings::read_openings;
 use crate::parts::read_parts;
+use jobs::Job;
 use lines::rows::Cursor;
 use lines::rows::End;
 use lines::rows::Row;
-use lines::rows::Verdict;
+use lines::rows::WholeText;
 use lines::rows::close_text;
 use lines::rows::read_row;
 ghost use mathlib.Core.Path.{_≡_};
 ghost use Prim.Native.Nat.{_≤_};
 ghost use lib.ListN.{drop};
 ghost use Rattle.lines.specs.Cursor.{Stands};
-ghost use Rattle.job_text.specs.Views.{idlesOf, Sized, LinesRead, TextRead};
-ghost use Rattle.job_text.specs.Grammar.{body, jobLines, readJob};
+ghost use Rattle.jobs.specs.Views.{Sized};
+ghost use Rattle.job_text.specs.Views.{idlesOf, idleLines, LinesRead, TextRead};
+ghost use Rattle.job_text.specs.Grammar.{body, jobLines, readJobText};
 
-// The lines of a job: where they end, the walk number, and the job.
-pub struct JobLines {
-    pub end: End,
+// What a job text says: the job, and beside it what its text has besides.
+pub struct JobText {
     pub walk: u32,
     pub job: Job,
 }
 
-// A job text: the verdict on it, the walk number, and the job.
+// The lines of a job: where they end, and what they say.
+pub struct JobLines {
+    pub end: End,
+    pub text: JobText,
+}
+
+// A job text: the verdict on it, and what it says.
 pub struct JobRead {
-    pub verdict: Verdict,
-    pub walk: u32,
-    pub job: Job,
+    pub verdict: WholeText,
+    pub text: JobText,
+}
+
+// What stands where a text is refused.
+fn no_text() -> JobText
+    ensures { λ r. ⌜ Sized (r .job) ⌝ }
+{
+    JobText {
+        walk: 0,
+        job: Job::empty(),
+    }
 }
 
 // Lines with a fault.
 fn no_job(k: u32, line: usize) -> JobLines
-    ensures { λ r. ⌜ (r .end ≡ End.Fault k line) × Sized (r .job) ⌝ }
+    ensures { λ r. ⌜ (r .end ≡ End.Fault k line) × Sized (r .text .job) ⌝ }
 {
     JobLines {
-        end: End::Fault(k, line),
-        walk: 0,
-        job: Job::empty(),
+        end: End::Fault { number: k, line },
+        text: no_text(),
     }
 }
 
 // What follows the number n of openings.
 fn read_body(text: &[u8], p: Cursor, horizon: u32, steps: Idles, walk: u32, n: usize) -> JobLines
     requires { ⌜ Stands (now text) p × (steps .count ≤ 365) × (n ≤ 64) ⌝ }
-    ensures { λ r. ⌜ LinesRead (now (text .entry)) r (body horizon (idlesOf steps) walk n (drop (p .at) (now (text .entry))) (p .line)) ⌝ }
+    ensures { λ r. ⌜ LinesRead (now (text .entry)) r (body horizon (idleLines (idlesOf steps)) walk n (drop (p .at) (now (text .entry))) (p .line)) ⌝ }
 {
     let os = read_openings(text, p, horizon, n);
     let os_end = os.end;
@@ -59,23 +73,23 @@ fn read_body(text: &[u8], p: Cursor, horizon: u32, steps: Idles, walk: u32, n: u
                 let idles = steps.idles;
                 let openings = os.openings;
                 let parts = ps.parts;
+                let job = Job {
+                    horizon,
+                    idle_count,
+                    idles,
+                    opening_count: n,
+                    openings,
+                    part_count,
+                    parts,
+                };
                 JobLines {
                     end,
-                    walk,
-                    job: Job {
-                        horizon,
-                        idle_count,
-                        idles,
-                        opening_count: n,
-                        openings,
-                        part_count,
-                        parts,
-                    },
+                    text: JobText { walk, job },
                 }
             }
-            Row::Fault(k, l) => no_job(k, l),
+            Row::Fault { number: k, line: l } => no_job(k, l),
         },
-        End::Fault(k, l) => no_job(k, l),
+        End::Fault { number: k, line: l } => no_job(k, l),
     }
 }
 
@@ -98,34 +112,32 @@ pub fn read_job_lines(text: &[u8], p: Cursor) -> JobLines
                         Job::MAX_OPENINGS,
                     ) {
                         Row::Value(n, t) => read_body(text, t, horizon, steps, walk, n as usize),
-                        Row::Fault(k, l) => no_job(k, l),
+                        Row::Fault { number: k, line: l } => no_job(k, l),
                     },
-                    Row::Fault(k, l) => no_job(k, l),
+                    Row::Fault { number: k, line: l } => no_job(k, l),
                 },
-                End::Fault(k, l) => no_job(k, l),
+                End::Fault { number: k, line: l } => no_job(k, l),
             }
         }
-        Row::Fault(k, l) => no_job(k, l),
+        Row::Fault { number: k, line: l } => no_job(k, l),
     }
 }
 
 // The whole job text: a text over the limit is fault 1, bytes after the last line are fault 2.
 pub fn read_job(text: &[u8]) -> JobRead
-    ensures { λ r. ⌜ TextRead r (readJob (now (text .entry))) ⌝ }
+    ensures { λ r. ⌜ TextRead r (readJobText (now (text .entry))) ⌝ }
 {
     if Job::MAX_BYTES < text.len() {
         return JobRead {
-            verdict: Verdict::Fault(1, 0),
-            walk: 0,
-            job: Job::empty(),
+            verdict: WholeText::Fault { number: 1, line: 0 },
+            text: no_text(),
         };
     }
     let read = read_job_lines(text, Cursor { at: 0, line: 1 });
     let end = read.end;
-    let job = read.job;
+    let said = read.text;
     JobRead {
         verdict: close_text(text, end),
-        walk: read.walk,
-        job,
+        text: said,
     }
 }

@@ -1,6 +1,6 @@
 // The judge: the files job.txt and plan.txt of the current folder, the answer on standard output.
-use job_text::Job;
-use plan_text::Plan;
+use jobs::Job;
+use jobs::Plan;
 ghost use Rattle.io.specs.Counts.{Counts};
 
 // Reads a file to its end or until buf is full. A file that can't be opened counts as an empty text.

@@ -1,3 +1,3 @@
--- The promise of the answer (Promised), and laws for the code (Outcomes).
+-- The lines of a judgement fit the room (Lengths); the judge keeps its promise (Promised).
+pub mod Lengths
 pub mod Promised
-pub mod Outcomes

@@ -13,14 +13,13 @@ use Rattle.model.specs.Verdict as verdict
 use Rattle.model.specs.Verdict.{Judgement, accepts, unkept, wrongCost, numberOf, judgedOf, AllKept, LowestUnkept}
 use Rattle.model.proofs.Verdicts.{judge, lives-kept, kept-lives}
 use Rattle.job_text.specs.Grammar.{Given, readJob}
-use Rattle.job_text.specs.Views.{emptyJob}
 use Rattle.job_text.proofs.Numbered as job
 use Rattle.plan_text.specs.Grammar.{Stated, readPlan}
 use Rattle.plan_text.proofs.Numbered as plan
 use Rattle.plan_text.proofs.Shapes.{shaped}
-use Rattle.answers.specs.Said.{Said, noPlan, plainly, saidOf, lent, bytesOf, costLines, unkeptLines}
+use Rattle.answers.specs.Said.{Said, plainly, lent}
 use Rattle.answers.proofs.Replies.{refuses}
-use Rattle.judging.specs.Judge.{outcomeOf, onPlan, onJob, judgeOutcome, judgeSaid, judgeRoom}
+use Rattle.judging.specs.Judge.{costLines, unkeptLines, saidOf, onPlan, onJob, judgeSaid, judgeRoom}
 use Rattle.judging.specs.Promise.{Reading, JudgePromise}
 
 module _ (jobText planText : List ℕ) (room : ℕ) where
@@ -45,10 +44,7 @@ module _ (jobText planText : List ℕ) (room : ℕ) where
   other-plan : {g h : Given} → readJob jobText ≡ accepted g → readJob jobText ≡ accepted h → readPlan (g .job) planText ≡ readPlan (h .job) planText
   other-plan e f = ap (λ (x : Given). readPlan (x .job) planText) (one-value f e)
 
-  abbrev answer : Outcome Given → Said
-  answer x = saidOf emptyJob noPlan (onJob jobText planText x)
-
-  refused-job : judgeRoom ≤ room → (n l : ℕ) → readJob jobText ≡ refused n l → JudgePromise jobText planText room (answer (refused n l))
+  refused-job : judgeRoom ≤ room → (n l : ℕ) → readJob jobText ≡ refused n l → JudgePromise jobText planText room (onJob jobText planText (refused n l))
   refused-job h n l e = record {
     says-8 = (λ f. absurd (omega (arith, k)), λ f. absurd (omega arith));
     says-0 = (λ f. absurd (omega (arith, k)), λ r. no (r .1 .0));
@@ -67,11 +63,8 @@ module _ (jobText planText : List ℕ) (room : ℕ) where
       no : {X : Type 0} → Reading jobText planText → X
       no r = not-both (r .job-read) e
 
-  abbrev further : Given → Outcome Stated → Said
-  further g x = saidOf emptyJob noPlan (onPlan planText (g .job) x)
-
   refused-plan : judgeRoom ≤ room → (g : Given) → readJob jobText ≡ accepted g → (n l : ℕ) → readPlan (g .job) planText ≡ refused n l
-      → JudgePromise jobText planText room (further g (refused n l))
+      → JudgePromise jobText planText room (onPlan planText (g .job) (refused n l))
   refused-plan h g eg n l e = record {
     says-8 = (λ f. absurd (other 8 (omega arith) (omega arith) f), λ f. absurd (omega arith));
     says-0 = (λ f. absurd (low f), λ r. no (r .1 .0));
@@ -135,32 +128,21 @@ module _ (jobText planText : List ℕ) (room : ℕ) where
     keeps : AllKept (g .job) (st .plan) → KeepsLives (g .job) (st .plan)
     keeps k = kept-lives (g .job) (st .plan) (shaped (g .job) planText st es) k
 
-    abbrev said : Judgement → Said
-    said j = saidOf emptyJob noPlan (outcomeOf j)
-
-    result-is : (j : Judgement) → said j .result ≡ numberOf j
-    result-is (accepts c) = refl
-    result-is (unkept p d) = refl
-    result-is (wrongCost c) = refl
-
     abbrev Values : Judgement → Type 0
     Values j = verdict.Values (g .job) (st .plan) j
 
-    writes-0 : (j : Judgement) → Values j → numberOf j ≡ 0 → said j .bytes ≡ costLines 0 (costOf (g .job) (st .plan))
-    unfolding bytesOf
+    writes-0 : (j : Judgement) → Values j → numberOf j ≡ 0 → saidOf j .bytes ≡ costLines 0 (costOf (g .job) (st .plan))
     writes-0 (accepts c) v e = ap (costLines 0) v
     writes-0 (unkept p d) v e = absurd (omega arith)
     writes-0 (wrongCost c) v e = absurd (omega arith)
 
     writes-10 : (j : Judgement) → Values j → numberOf j ≡ 10
-        → (part : ℕ) × ((due : ℕ) × (LowestUnkept (g .job) (st .plan) part due × (said j .bytes ≡ unkeptLines part due)))
-    unfolding bytesOf
+        → (part : ℕ) × ((due : ℕ) × (LowestUnkept (g .job) (st .plan) part due × (saidOf j .bytes ≡ unkeptLines part due)))
     writes-10 (accepts c) v e = absurd (omega arith)
     writes-10 (unkept p d) v e = (p, (d, (v, refl)))
     writes-10 (wrongCost c) v e = absurd (omega arith)
 
-    writes-11 : (j : Judgement) → Values j → numberOf j ≡ 11 → said j .bytes ≡ costLines 11 (costOf (g .job) (st .plan))
-    unfolding bytesOf
+    writes-11 : (j : Judgement) → Values j → numberOf j ≡ 11 → saidOf j .bytes ≡ costLines 11 (costOf (g .job) (st .plan))
     writes-11 (accepts c) v e = absurd (omega arith)
     writes-11 (unkept p d) v e = absurd (omega arith)
     writes-11 (wrongCost c) v e = ap (costLines 11) v
@@ -170,44 +152,41 @@ module _ (jobText planText : List ℕ) (room : ℕ) where
     not-8 (unkept p d) e = omega arith
     not-8 (wrongCost c) e = omega arith
 
-    read : (j : Judgement) → verdict.JudgePromise (g .job) (st .cost) (st .plan) j → JudgePromise jobText planText room (said j)
+    read : (j : Judgement) → verdict.JudgePromise (g .job) (st .cost) (st .plan) j → JudgePromise jobText planText room (saidOf j)
     read j p = record {
-      says-8 = (λ e. absurd (not-8 j (number e)), λ e. absurd (omega arith));
+      says-8 = (λ e. absurd (not-8 j e), λ e. absurd (omega arith));
       says-0 = (
-        λ e. let x = p .says-0 .0 (number e) in (h, (here, (keeps (x .0), x .1))),
-        λ r. result-is j ∙ p .says-0 .1 (all-kept (moved kept (r .1 .0) (r .1 .1 .0)), moved stating (r .1 .0) (r .1 .1 .1)),
+        λ e. let x = p .says-0 .0 e in (h, (here, (keeps (x .0), x .1))),
+        λ r. p .says-0 .1 (all-kept (moved kept (r .1 .0) (r .1 .1 .0)), moved stating (r .1 .0) (r .1 .1 .1)),
       );
       says-10 = (
-        λ e. (h, (here, λ k. p .says-10 .0 (number e) (all-kept k))),
-        λ r. result-is j ∙ p .says-10 .1 (λ k. r .1 .1 (moved-back kept (r .1 .0) (keeps k))),
+        λ e. (h, (here, λ k. p .says-10 .0 e (all-kept k))),
+        λ r. p .says-10 .1 (λ k. r .1 .1 (moved-back kept (r .1 .0) (keeps k))),
       );
       says-11 = (
-        λ e. let x = p .says-11 .0 (number e) in (h, (here, (keeps (x .0), x .1))),
-        λ r. result-is j ∙ p .says-11 .1 (all-kept (moved kept (r .1 .0) (r .1 .1 .0)), λ c. r .1 .1 .1 (moved-back stating (r .1 .0) c)),
+        λ e. let x = p .says-11 .0 e in (h, (here, (keeps (x .0), x .1))),
+        λ r. p .says-11 .1 (all-kept (moved kept (r .1 .0) (r .1 .1 .0)), λ c. r .1 .1 .1 (moved-back stating (r .1 .0) c)),
       );
-      writes-0 = λ r e. moved-back (λ x y. said j .bytes ≡ costLines 0 (costOf (x .job) (y .plan))) r (writes-0 j (p .values) (number e));
+      writes-0 = λ r e. moved-back (λ x y. saidOf j .bytes ≡ costLines 0 (costOf (x .job) (y .plan))) r (writes-0 j (p .values) e);
       writes-10 = λ r e. moved-back
-          (λ x y. (part : ℕ) × ((due : ℕ) × (LowestUnkept (x .job) (y .plan) part due × (said j .bytes ≡ unkeptLines part due)))) r (writes-10 j (p .values) (number e));
-      writes-11 = λ r e. moved-back (λ x y. said j .bytes ≡ costLines 11 (costOf (x .job) (y .plan))) r (writes-11 j (p .values) (number e));
+          (λ x y. (part : ℕ) × ((due : ℕ) × (LowestUnkept (x .job) (y .plan) part due × (saidOf j .bytes ≡ unkeptLines part due)))) r (writes-10 j (p .values) e);
+      writes-11 = λ r e. moved-back (λ x y. saidOf j .bytes ≡ costLines 11 (costOf (x .job) (y .plan))) r (writes-11 j (p .values) e);
       job-fault = λ m n l e. not-both eg e;
       plan-fault = λ m g′ f n l e. not-both es (other-plan eg f ∙ e);
     }
-      where
-        number : {n : ℕ} → said j .result ≡ n → numberOf j ≡ n
-        number e = sym (result-is j) ∙ e
 
   -- ---- all together
 
-  on-plan : judgeRoom ≤ room → (g : Given) → readJob jobText ≡ accepted g → (x : Outcome Stated) → readPlan (g .job) planText ≡ x → JudgePromise jobText planText room (further g x)
+  on-plan : judgeRoom ≤ room → (g : Given) → readJob jobText ≡ accepted g → (x : Outcome Stated) → readPlan (g .job) planText ≡ x → JudgePromise jobText planText room (onPlan planText (g .job) x)
   on-plan h g eg (accepted st) es = read h g eg st es (judgedOf (g .job) (st .cost) (st .plan)) (judged h g eg st es)
   on-plan h g eg (refused n l) e = refused-plan h g eg n l e
 
-  on-job : judgeRoom ≤ room → (x : Outcome Given) → readJob jobText ≡ x → JudgePromise jobText planText room (answer x)
+  on-job : judgeRoom ≤ room → (x : Outcome Given) → readJob jobText ≡ x → JudgePromise jobText planText room (onJob jobText planText x)
   on-job h (accepted g) e = on-plan h g e (readPlan (g .job) planText) refl
   on-job h (refused n l) e = refused-job h n l e
 
   pub promised : JudgePromise jobText planText room (lent judgeRoom room (judgeSaid jobText planText))
-  unfolding judgeOutcome
+  unfolding judgeSaid
   promised = go (decLt room judgeRoom)
     where
       go : Dec (room < judgeRoom) → JudgePromise jobText planText room (lent judgeRoom room (judgeSaid jobText planText))

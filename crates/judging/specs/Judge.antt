@@ -1,38 +1,45 @@
--- What the judge says of a job text and a plan text.
--- "Order: 8; then the job text (1, then line by line, ..); then the plan text the same way with 9 last; then [..] 10 before 11."
+-- What the judge says of two texts. R20. "Order: 8; then the job text [..]; then the plan text the same way with 9 last; then [..] 10 before 11."
 use Prim.Native.Nat.{ℕ}
-use mathlib.Core.List.{List}
-use Rattle.lines.specs.Parser as parser
+use mathlib.Core.List.{List, _++_}
+use Rattle.lines.specs.Text.{lineOf}
+use Rattle.lines.specs.Parser.{Outcome, accepted, refused}
 use Rattle.model.specs.Model.{Job}
-use Rattle.model.specs.Verdict.{Judgement, accepts, unkept, wrongCost, judgedOf}
+use Rattle.model.specs.Verdict.{Judgement, accepts, unkept, wrongCost, numberOf, judgedOf}
 use Rattle.job_text.specs.Grammar.{Given, readJob}
-use Rattle.job_text.specs.Views.{emptyJob}
 use Rattle.plan_text.specs.Grammar.{Stated, readPlan}
-use Rattle.answers.specs.declared.Outcome.{Outcome}
-use Rattle.answers.specs.declared.Outcome.the-variants.{Accepted, Unkept, WrongCost}
-use Rattle.answers.specs.Said.{Said, noPlan, refusal, saidOf}
+use Rattle.answers.specs.Said.{Said, plainly, refusal}
 
-abbrev pub outcomeOf : Judgement → Outcome
-outcomeOf (accepts cost) = Accepted cost
-outcomeOf (unkept part due) = Unkept part due
-outcomeOf (wrongCost cost) = WrongCost cost
+-- O4. "Judge 0: `result`, `cost`." O6. "Number 11: `result`, `cost` (the true one)."
+unfoldable pub costLines : ℕ → ℕ → List ℕ
+costLines number cost = lineOf "result=" number ++ lineOf "cost=" cost
+
+-- O5. "Number 10: `result`, `part`, `due`."
+unfoldable pub unkeptLines : ℕ → ℕ → List ℕ
+unkeptLines part due = lineOf "result=" 10 ++ lineOf "part=" part ++ lineOf "due=" due
+
+-- the lines of a judgement
+abbrev pub linesOf : Judgement → List ℕ
+linesOf (accepts cost) = costLines 0 cost
+linesOf (unkept part due) = unkeptLines part due
+linesOf (wrongCost cost) = costLines 11 cost
+
+-- the answer that a judgement is: its number, and its lines
+abbrev pub saidOf : Judgement → Said
+saidOf j = plainly (numberOf j) (linesOf j)
 
 -- once the job is read: the plan text against it
-abbrev pub onPlan : List ℕ → Job → parser.Outcome Stated → Outcome
-onPlan plan job (parser.accepted stated) = outcomeOf (judgedOf job (stated .cost) (stated .plan))
-onPlan plan job (parser.refused number line) = refusal 2 plan number line
+abbrev pub onPlan : List ℕ → Job → Outcome Stated → Said
+onPlan plan job (accepted stated) = saidOf (judgedOf job (stated .cost) (stated .plan))
+onPlan plan job (refused number line) = refusal 2 plan number line
 
-abbrev pub onJob : List ℕ → List ℕ → parser.Outcome Given → Outcome
-onJob job plan (parser.accepted given) = onPlan plan (given .job) (readPlan (given .job) plan)
-onJob job plan (parser.refused number line) = refusal 1 job number line
-
-unfoldable pub judgeOutcome : List ℕ → List ℕ → Outcome
-judgeOutcome job plan = onJob job plan (readJob job)
+abbrev pub onJob : List ℕ → List ℕ → Outcome Given → Said
+onJob job plan (accepted given) = onPlan plan (given .job) (readPlan (given .job) plan)
+onJob job plan (refused number line) = refusal 1 job number line
 
 -- the judge's answer where there is room for it
-abbrev pub judgeSaid : List ℕ → List ℕ → Said
-judgeSaid job plan = saidOf emptyJob noPlan (judgeOutcome job plan)
+unfoldable pub judgeSaid : List ℕ → List ℕ → Said
+judgeSaid job plan = onJob job plan (readJob job)
 
--- "The lent output has at least 16,384."
+-- X8. "The lent output has at least 16,384."
 abbrev pub judgeRoom : ℕ
 judgeRoom = 16384

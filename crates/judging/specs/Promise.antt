@@ -1,4 +1,4 @@
--- What the judge promises, over the two texts, the room lent and the answer: the second demand.
+-- What the judge promises, over the two texts, the room lent and the answer: the second demand, D5.
 use Prim.Native.Nat.{ℕ, _≤_, _<_}
 use mathlib.Core.Path.{_≡_}
 use mathlib.Core.List.{List}
@@ -8,10 +8,10 @@ use Rattle.model.specs.Model.{KeepsLives, costOf}
 use Rattle.model.specs.Verdict.{LowestUnkept}
 use Rattle.job_text.specs.Grammar.{Given, readJob}
 use Rattle.plan_text.specs.Grammar.{Stated, readPlan}
-use Rattle.answers.specs.Said.{Said, Refuses, costLines, unkeptLines}
-use Rattle.judging.specs.Judge.{judgeRoom}
+use Rattle.answers.specs.Said.{Said, Refuses}
+use Rattle.judging.specs.Judge.{costLines, unkeptLines, judgeRoom}
 
--- "the job is accepted, the plan text has no fault": what the two texts say
+-- X9. "the job is accepted, the plan text has no fault": what the two texts say
 pub record Reading (job plan : List ℕ) : Type 0 where
   pub given : Given
   pub stated : Stated
@@ -19,32 +19,32 @@ pub record Reading (job plan : List ℕ) : Type 0 where
   pub plan-read : readPlan (given .job) plan ≡ accepted stated
 
 module _ {job plan : List ℕ} where
-  -- "the plan keeps every life"
+  -- D5. "the plan keeps every life"
   abbrev pub Keeps : Reading job plan → Type 0
   Keeps r = KeepsLives (r .given .job) (r .stated .plan)
 
   abbrev pub trueCost : Reading job plan → ℕ
   trueCost r = costOf (r .given .job) (r .stated .plan)
 
-  -- "and states its true cost"
+  -- D5. "and states its true cost"
   abbrev pub States : Reading job plan → Type 0
   States r = r .stated .cost ≡ trueCost r
 
 pub record JudgePromise (job plan : List ℕ) (room : ℕ) (s : Said) : Type 0 where
-  -- "8: the output is shorter than 16,384 bytes."
+  -- R8. "8: the output is shorter than 16,384 bytes."
   pub says-8 : (s .result ≡ 8) ↔ (room < judgeRoom)
-  -- "The judge accepts exactly if the job is accepted, the plan text has no fault, and the plan keeps every life and states its true cost."
+  -- D5. "The judge accepts exactly if the job is accepted, the plan text has no fault, and the plan keeps every life and states its true cost."
   pub says-0 : (s .result ≡ 0) ↔ ((judgeRoom ≤ room) × ((r : Reading job plan) × (Keeps r × States r)))
-  -- "10: a part is not kept."
+  -- R10. "10: a part is not kept."
   pub says-10 : (s .result ≡ 10) ↔ ((judgeRoom ≤ room) × ((r : Reading job plan) × (Keeps r → ⊥)))
-  -- "11: all kept, but `cost` is not the plan's cost."
+  -- R11. "11: all kept, but `cost` is not the plan's cost."
   pub says-11 : (s .result ≡ 11) ↔ ((judgeRoom ≤ room) × ((r : Reading job plan) × (Keeps r × (States r → ⊥))))
   -- what is written with them
   pub writes-0 : (r : Reading job plan) → s .result ≡ 0 → s .bytes ≡ costLines 0 (trueCost r)
   pub writes-10 : (r : Reading job plan) → s .result ≡ 10
       → (part : ℕ) × ((due : ℕ) × (LowestUnkept (r .given .job) (r .stated .plan) part due × (s .bytes ≡ unkeptLines part due)))
   pub writes-11 : (r : Reading job plan) → s .result ≡ 11 → s .bytes ≡ costLines 11 (trueCost r)
-  -- the faults of the two texts, the job's first
+  -- D4. the faults of the two texts, the job's first
   pub job-fault : judgeRoom ≤ room → (number line : ℕ) → readJob job ≡ refused number line → Refuses 1 job number line s
   pub plan-fault : judgeRoom ≤ room → (given : Given) → readJob job ≡ accepted given → (number line : ℕ) → readPlan (given .job) plan ≡ refused number line
       → Refuses 2 plan number line s

@@ -1,48 +1,85 @@
 // The judge: weighs a plan text against a job text.
 use answers::Answer;
-use answers::Outcome;
+use answers::put_three;
+use answers::put_two;
 use answers::refuse;
-use answers::reply;
-use job_text::Job;
 use job_text::whole::read_job;
-use lines::rows::Verdict;
+use jobs::Job;
+use lines::rows::WholeText;
 use plan_text::whole::read_plan;
 use verdict::Judgement;
 use verdict::judgement_of;
 ghost use mathlib.Core.Path.{_≡_};
+ghost use Prim.Native.Nat.{_≤_};
 ghost use lib.ListN.{length};
-ghost use Rattle.job_text.specs.Views.{jobOf, emptyJob, Sized};
-ghost use Rattle.job_text.specs.Valid.{ValidJob};
+ghost use Rattle.lines.specs.Wrote.{Wrote};
+ghost use Rattle.model.specs.Verdict.{numberOf};
+ghost use Rattle.jobs.specs.Views.{jobOf};
+ghost use Rattle.jobs.specs.Valid.{Sound};
 ghost use Rattle.plan_text.specs.Grammar.{readPlan};
 ghost use Rattle.verdict.specs.Views.{modelJudgement};
-ghost use Rattle.answers.specs.Said.{saidOf, noPlan, lent, Replied};
-ghost use Rattle.judging.specs.Judge.{outcomeOf, onPlan, judgeSaid, judgeRoom};
+ghost use Rattle.verdict.specs.Ranges.{Limited};
+ghost use Rattle.answers.specs.Said.{lent, Replied};
+ghost use Rattle.judging.specs.Judge.{linesOf, saidOf, onPlan, judgeSaid, judgeRoom};
 ghost use Rattle.judging.specs.Promise.{JudgePromise};
 
-// The outcome of a judgement.
-fn outcome_of(j: Judgement) -> Outcome
-    ensures { λ r. ⌜ r ≡ outcomeOf (modelJudgement j) ⌝ }
+// The room that the judge's output must have.
+pub const ROOM: usize = 16384;
+
+// The result number of a judgement.
+fn number_of(j: Judgement) -> u32
+    ensures { λ r. ⌜ r ≡ numberOf (modelJudgement j) ⌝ }
 {
     match j {
-        Judgement::Accepts(cost) => Outcome::Accepted(cost),
-        Judgement::Unkept(part, due) => Outcome::Unkept(part, due),
-        Judgement::WrongCost(cost) => Outcome::WrongCost(cost),
+        Judgement::Accepts(_) => 0,
+        Judgement::Unkept { .. } => 10,
+        Judgement::WrongCost(_) => 11,
     }
+}
+
+// The lines of a judgement.
+fn put_judgement(out: &mut [u8], j: Judgement) -> usize
+    requires { ⌜ Limited (modelJudgement j) × (judgeRoom ≤ length (now out)) ⌝ }
+    ensures { λ r. ⌜ Wrote (now (out .entry)) 0 (linesOf (modelJudgement j)) (now (out .exit)) r ⌝ }
+{
+    match j {
+        Judgement::Accepts(cost) => put_two(out, 0, b"cost=", cost),
+        Judgement::Unkept { part, due } => put_three(
+            out,
+            10,
+            b"part=",
+            part as u64,
+            b"due=",
+            due as u64,
+        ),
+        Judgement::WrongCost(cost) => put_two(out, 11, b"cost=", cost),
+    }
+}
+
+// The answer that a judgement is.
+fn answer(j: Judgement, out: &mut [u8]) -> Answer
+    requires { ⌜ Limited (modelJudgement j) ⌝ }
+    ensures { λ r. ⌜ Replied judgeRoom (saidOf (modelJudgement j)) (now (out .entry)) (now (out .exit)) r ⌝ }
+{
+    if out.len() < ROOM {
+        return Answer::no_room();
+    }
+    let n = put_judgement(out, j);
+    Answer::plain(number_of(j), n)
 }
 
 // The plan text against an accepted job.
 fn judge_plan(job: Job, plan: &[u8], out: &mut [u8]) -> Answer
-    requires { ⌜ Sized job × ValidJob (jobOf job) ⌝ }
-    ensures { λ r. ⌜ Replied judgeRoom (saidOf emptyJob noPlan (onPlan (now (plan .entry)) (jobOf job) (readPlan (jobOf job) (now (plan .entry))))) (now (out .entry)) (now (out .exit)) r ⌝ }
+    requires { ⌜ Sound job ⌝ }
+    ensures { λ r. ⌜ Replied judgeRoom (onPlan (now (plan .entry)) (jobOf job) (readPlan (jobOf job) (now (plan .entry)))) (now (out .entry)) (now (out .exit)) r ⌝ }
 {
     let stated = read_plan(plan, job);
     let verdict = stated.verdict;
     match verdict {
-        Verdict::Fault(number, line) => refuse(plan, 2, number, line, out),
-        Verdict::Good => {
+        WholeText::Fault { number, line } => refuse(plan, 2, number, line, ROOM, out),
+        WholeText::Good => {
             let p = stated.plan;
-            let judgement = judgement_of(job, stated.cost, p);
-            reply(outcome_of(judgement), job, p, out)
+            answer(judgement_of(job, stated.cost, p), out)
         }
     }
 }
@@ -57,9 +94,9 @@ pub fn judge(job: &[u8], plan: &[u8], out: &mut [u8]) -> Answer
     let read = read_job(job);
     let verdict = read.verdict;
     match verdict {
-        Verdict::Fault(number, line) => refuse(job, 1, number, line, out),
-        Verdict::Good => {
-            let accepted = read.job;
+        WholeText::Fault { number, line } => refuse(job, 1, number, line, ROOM, out),
+        WholeText::Good => {
+            let accepted = read.text.job;
             judge_plan(accepted, plan, out)
         }
     }

@@ -2,7 +2,7 @@
 -- By deciding one opening after the other: its mark joins the front, and nothing else changes.
 use Prim.Native.Nat.{ℕ, _+_, _<_, min}
 use mathlib.Core.Path.{_≡_, refl, sym, ap, ap₂, _∙_}
-use mathlib.Core.Bool.{Bool, true, false, _&&_}
+use mathlib.Core.Bool.{Bool, true, false, _&&_, cond}
 use mathlib.Core.List.{List, [], _∷_, _++_}
 use native.Mathlib.Omega.{arith}
 use borrow.Author.Tests.{ltb-true, ltb-false}
@@ -13,7 +13,7 @@ use Rattle.branch.specs.declared.Bound.{Bound}
 use Rattle.branch.specs.declared.Bound.the-variants.{Missing, Sum}
 use Rattle.branch.specs.Lower.{add}
 use Rattle.model.specs.Model.{within}
-use Rattle.model.specs.LowerBound.{Offer, pick, plus, lower, leastOf, offers}
+use Rattle.model.specs.LowerBound.{Offer, plus, lower, leastOf, offers}
 use Rattle.model.proofs.Bools.{after-one}
 use Rattle.lane_rows.specs.Sheet.{Column, Sheet, columnBound, Mark, reach, joined, frontFrom, decidedOffers, front}
 
@@ -22,7 +22,7 @@ use Rattle.lane_rows.specs.Sheet.{Column, Sheet, columnBound, Mark, reac
 lower-min : (a b : ℕ) → lower (Sum a) (Sum b) ≡ Sum (min a b)
 lower-min a b = go (ltb b a) refl
   where
-    go : (t : Bool) → ltb b a ≡ t → pick t (Sum b) (Sum a) ≡ Sum (min a b)
+    go : (t : Bool) → ltb b a ≡ t → cond t (Sum b) (Sum a) ≡ Sum (min a b)
     go true e = ap Sum (omega (arith, ltb-true b a e))
     go false e = ap Sum (omega (arith, ltb-false b a e))
 
@@ -37,7 +37,7 @@ lower-assoc a b Missing = refl
 lower-assoc a Missing (Sum c) = refl
 lower-assoc Missing (Sum b) (Sum c) = go (ltb c b)
   where
-    go : (t : Bool) → pick t (Sum c) (Sum b) ≡ lower Missing (pick t (Sum c) (Sum b))
+    go : (t : Bool) → cond t (Sum c) (Sum b) ≡ lower Missing (cond t (Sum c) (Sum b))
     go true = refl
     go false = refl
 lower-assoc (Sum a) (Sum b) (Sum c) =
@@ -84,11 +84,11 @@ over life end (f ∷ fr) os = lower (over life end fr os) (add (f .cost) (leastO
 
 -- its mark, Missing where the decision is no
 abbrev markAt : ℤ → List Mark → Offer → Mark
-markAt life fr o = record { at = o .position; cost = pick (o .allowed) (plus (o .price) (reach life fr (o .position))) Missing }
+markAt life fr o = record { at = o .position; cost = cond (o .allowed) (plus (o .price) (reach life fr (o .position))) Missing }
 
 one-mark : (A C X R : Bound) (p : ℕ) (r : Bound) (a w : Bool)
-    → lower (lower A (add (pick a (plus p r) Missing) R)) (add C (lower X (pick (a && w) (plus p R) Missing)))
-    ≡ lower (lower A (add C X)) (add (pick a (plus p (lower r (pick w C Missing))) Missing) R)
+    → lower (lower A (add (cond a (plus p r) Missing) R)) (add C (lower X (cond (a && w) (plus p R) Missing)))
+    ≡ lower (lower A (add C X)) (add (cond a (plus p (lower r (cond w C Missing))) Missing) R)
 one-mark A C X R p r false w = refl
 one-mark A C X R p r true false =
     lower-assoc A (add (plus p r) R) (add C X) ∙ ap (lower A) (lower-comm (add (plus p r) R) (add C X)) ∙ sym (lower-assoc A (add C X) (add (plus p r) R))
@@ -107,7 +107,7 @@ pub front-step : (life end : ℤ) (fr : List Mark) (o : Offer) (os : List Offer)
 unfolding leastOf
 front-step life end [] o os = go (o .allowed)
   where
-    go : (t : Bool) → Missing ≡ lower Missing (add (pick t (plus (o .price) Missing) Missing) (leastOf life end (o .position) os))
+    go : (t : Bool) → Missing ≡ lower Missing (add (cond t (plus (o .price) Missing) Missing) (leastOf life end (o .position) os))
     go true = refl
     go false = refl
 front-step life end (f ∷ fr) o os =
@@ -117,8 +117,8 @@ front-step life end (f ∷ fr) o os =
 over-joined : (life end : ℤ) (fr : List Mark) (o : Offer) (os : List Offer) → over life end (markAt life fr o ∷ fr) os ≡ over life end (joined life fr o) os
 over-joined life end fr o os = go (o .allowed)
   where
-    go : (b : Bool) → lower (over life end fr os) (add (pick b (plus (o .price) (reach life fr (o .position))) Missing) (leastOf life end (o .position) os))
-        ≡ over life end (pick b (record { at = o .position; cost = plus (o .price) (reach life fr (o .position)) } ∷ fr) fr) os
+    go : (b : Bool) → lower (over life end fr os) (add (cond b (plus (o .price) (reach life fr (o .position))) Missing) (leastOf life end (o .position) os))
+        ≡ over life end (cond b (record { at = o .position; cost = plus (o .price) (reach life fr (o .position)) } ∷ fr) fr) os
     go true = refl
     go false = refl
 

@@ -1,11 +1,11 @@
 -- A loop over the stack's rows from the top down: what the lanes hold, with the rows still to come, is the lane of all rows.
-use Prim.Native.Nat.{_^_, ℕ, zero, suc, _+_, _-_, _*_, _≤_, _<_, min}
+use Prim.Native.Nat.{ℕ, zero, suc, _+_, _-_, _*_, _≤_, _<_, min}
 use mathlib.Core.Path.{_≡_, refl, ap, _∙_}
 use mathlib.Core.List.{List}
 use native.Mathlib.Omega.{arith}
 use lib.ListN.{length, getD}
-use Rattle.lane_rows.specs.Layout.{laneCount, inf, blockSize, place, rowPlace, markPlace, stackSize}
-use Rattle.lane_rows.specs.Rows.{lane, sumLanes, Stack}
+use Rattle.lane_rows.specs.Layout.{laneCount, inf, place, rowPlace, markPlace}
+use Rattle.lane_rows.specs.Rows.{lane, sumLanes, AddAsks, Stack}
 use Rattle.lane_rows.proofs.Lanes.{lane-most, lane-cut, sum-rises, sum-same}
 
 pub record Going (wide : ℕ) (t w : List ℕ) (base j rows : ℕ) (acc : List ℕ) (n : ℕ) : Type 0 where
@@ -51,10 +51,7 @@ module _ (wide : ℕ) (t w : List ℕ) (base j rows : ℕ) where
   pub going-end : (acc : List ℕ) (n : ℕ) → n ≤ 0 → Going wide t w base j rows acc n → (q : ℕ) → q < wide → getD acc q 0 ≡ lane t w base j q rows
   going-end acc n h g q l =
       let z : n ≡ zero = omega arith in
-      omega (arith, ap (lane t w base j q) z, lane-zero q, g .left q l, g .most q l)
-    where
-      lane-zero : (q : ℕ) → lane t w base j q zero ≡ inf
-      lane-zero q = lane-nil t w base j q
+      omega (arith, ap (lane t w base j q) z, lane-nil t w base j q, g .left q l, g .most q l)
 
   -- the lanes have fallen to a sum that all rows reach at least
   pub going-early : (acc : List ℕ) (n ms s : ℕ) → Going wide t w base j rows acc n → s ≡ sumLanes wide (λ (q : ℕ). getD acc q 0) → s ≡ ms → ms ≤ sumLanes wide (λ (q : ℕ). lane t w base j q rows)
@@ -69,11 +66,18 @@ module _ (wide : ℕ) (t w : List ℕ) (base j rows : ℕ) where
 
 -- what taking in a row asks
 module _ (fours : ℕ) (t w : List ℕ) (base lo j rows : ℕ) (acc : List ℕ) (n : ℕ) (long : laneCount ≤ length acc) (s : Stack (fours * 4) t w base lo j rows) (g : Going (fours * 4) t w base j rows acc n) (h : 0 < n) where
-  pub row-asks : ((fours ≤ 4) × (laneCount ≤ length acc) × (base + blockSize ≤ length t) × (length w ≡ stackSize) × (j ≤ 64) × (getD w (markPlace (n - 1)) 0 ≤ 64) × (n - 1 ≤ 64))
-      × ((q : ℕ) → q < fours * 4 → (getD acc q 0 ≤ inf) × (getD w (rowPlace (n - 1) q) 0 + getD t (place base j (getD w (markPlace (n - 1)) 0) q) 0 < 2 ^ 31))
+  pub row-asks : AddAsks fours t w base j (getD w (markPlace (n - 1)) 0) (n - 1) acc
   row-asks =
       let i = g .inside in
-      let f = s .few in (
-        (omega (arith, s .narrow), long, s .table, s .size, s .near, omega (arith, s .marks (n - 1) (omega arith), s .near), omega arith),
-        λ q l. (g .most q l, s .sums (n - 1) q (omega arith) l),
-      )
+      let f = s .few in
+      record {
+        few = omega (arith, s .narrow);
+        lanes = long;
+        table = s .table;
+        size = s .size;
+        near = s .near;
+        mark = omega (arith, s .marks (n - 1) (omega arith), s .near);
+        row = omega arith;
+        most = g .most;
+        sums = λ q l. s .sums (n - 1) q (omega arith) l;
+      }

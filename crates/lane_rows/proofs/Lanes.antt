@@ -1,7 +1,7 @@
 -- The code's lanes of numbers are the parts' least prices: a lane over the suffix prices is the least over the front, a lane over the reach table is the least cost from which opening j is in reach.
 use Prim.Native.Nat.{ℕ, zero, suc, _+_, _-_, _*_, _<_, _≤_, min}
 use mathlib.Core.Path.{_≡_, refl, sym, ap, ap₂, subst, _∙_}
-use mathlib.Core.Bool.{Bool, true, false}
+use mathlib.Core.Bool.{Bool, true, false, cond}
 use mathlib.Core.List.{List, [], _∷_}
 use native.Mathlib.Omega.{arith}
 use native.Mathlib.Numerals.{add-one}
@@ -15,13 +15,13 @@ use Rattle.branch.specs.declared.Bound.the-variants.{Missing, Sum}
 use Rattle.branch.specs.Lower.{add, total}
 use Rattle.branch.specs.Search.{snoc}
 use Rattle.model.specs.Model.{within}
-use Rattle.model.specs.LowerBound.{Offer, pick, plus, lower, leastOf, offers, changeAt}
+use Rattle.model.specs.LowerBound.{Offer, plus, lower, leastOf, offers, changeAt}
 use Rattle.least.specs.Marks.{markOf}
 use Rattle.least.proofs.Table.{least-cons, offerAt, offers-drop}
-use Rattle.lane_rows.specs.Layout.{laneCount, top, laneLimit, inf, suffixBase, reachBase, place, rowPlace, pricePlace, suffixCuts, reachCuts, cutPlace, markBase, markPlace, lanesIn, stackSize}
+use Rattle.lane_rows.specs.Layout.{laneCount, top, laneLimit, inf, suffixBase, reachBase, place, rowPlace, pricePlace, suffixCuts, reachCuts, cutPlace, markBase, markPlace, lanesIn}
 use Rattle.lane_rows.specs.Sheet.{Column, Sheet, partSums, Mark, reach, frontFrom, front, noColumn, columnBound}
 use Rattle.lane_rows.specs.Tables.{valueOf, Coded, Lane, Tables}
-use Rattle.lane_rows.specs.Rows.{lane, sumFrom, sumLanes, marksIn, Level, Rows, Kept, Put, Stack}
+use Rattle.lane_rows.specs.Rows.{lane, sumFrom, sumLanes, marksIn, Level, Rows, Kept, Put, Stack, FirstRow}
 use Rattle.lane_rows.proofs.Front.{over, front-snoc, decided-nil, column-front}
 
 -- ---- numbers for prices
@@ -35,11 +35,11 @@ value-none n h = rw (le-ltb n inf h)
 value-min : (a b : ℕ) → valueOf (min a b) ≡ lower (valueOf a) (valueOf b)
 value-min a b = go (ltb a inf) (ltb b inf) refl refl
   where
-    both : (t : Bool) → ltb b a ≡ t → Sum (min a b) ≡ pick t (Sum b) (Sum a)
+    both : (t : Bool) → ltb b a ≡ t → Sum (min a b) ≡ cond t (Sum b) (Sum a)
     both true e = ap Sum (omega (arith, ltb-true b a e))
     both false e = ap Sum (omega (arith, ltb-false b a e))
 
-    go : (s t : Bool) → ltb a inf ≡ s → ltb b inf ≡ t → valueOf (min a b) ≡ lower (pick s (Sum a) Missing) (pick t (Sum b) Missing)
+    go : (s t : Bool) → ltb a inf ≡ s → ltb b inf ≡ t → valueOf (min a b) ≡ lower (cond s (Sum a) Missing) (cond t (Sum b) Missing)
     go true true e f = value-some (min a b) (omega (arith, ltb-true a inf e)) ∙ both (ltb b a) refl
     go true false e f = let z : min a b ≡ a = omega (arith, ltb-true a inf e, ltb-false b inf f) in ap valueOf z ∙ value-some a (ltb-true a inf e)
     go false true e f = let z : min a b ≡ b = omega (arith, ltb-false a inf e, ltb-true b inf f) in ap valueOf z ∙ value-some b (ltb-true b inf f)
@@ -49,7 +49,7 @@ value-plus : (a b A B : ℕ) → A + B < inf → (a < inf → a ≤ A) → (b < 
     → (valueOf (a + b) ≡ add (valueOf a) (valueOf b)) × (a + b < inf → a + b ≤ A + B)
 value-plus a b A B s l m = (go (ltb a inf) (ltb b inf) refl refl, λ g. omega (arith, l (omega arith), m (omega arith)))
   where
-    go : (s t : Bool) → ltb a inf ≡ s → ltb b inf ≡ t → valueOf (a + b) ≡ add (pick s (Sum a) Missing) (pick t (Sum b) Missing)
+    go : (s t : Bool) → ltb a inf ≡ s → ltb b inf ≡ t → valueOf (a + b) ≡ add (cond s (Sum a) Missing) (cond t (Sum b) Missing)
     go true true e f = value-some (a + b) (omega (arith, l (ltb-true a inf e), m (ltb-true b inf f)))
     go true false e f = value-none (a + b) (omega (arith, ltb-false b inf f))
     go false t e f = value-none (a + b) (omega (arith, ltb-false a inf e))
@@ -81,7 +81,7 @@ coded-more a b m n d Missing s c f = omega (arith, coded-most m s a (lower Missi
 coded-more a b m n Missing (Sum y) s c f = omega arith
 coded-more a b m n (Sum x) (Sum y) s c f = go (ltb x y) refl c
   where
-    go : (t : Bool) → ltb x y ≡ t → Coded m a (pick t (Sum x) (Sum y)) → a ≤ b
+    go : (t : Bool) → ltb x y ≡ t → Coded m a (cond t (Sum x) (Sum y)) → a ≤ b
     go true e c = omega (arith, ltb-true x y e)
     go false e c = omega arith
 
@@ -124,7 +124,7 @@ module _ (end : ℤ) (ss : List ℤ) (col : Column) (t : List ℕ) (q : ℕ) (la
       let v = one d e (within (col .life) (markOf (col .first) ss (getD w (markPlace k) 0)) (getD ss j (pos 0))) (la .reach j (getD w (markPlace k) 0) (m k (omega arith)) h) (l k (omega arith)) in
       (value-min (lane t w reachBase j q k) (d + e) ∙ ap₂ lower (i .0) (v .0), least b (lane t w reachBase j q k) (d + e) (i .1) (v .1))
     where
-      one : (d e : ℕ) (a : Bool) → e ≡ pick a 0 inf → Level b d → (valueOf (d + e) ≡ pick a (valueOf d) Missing) × (d + e < inf → d + e ≤ b)
+      one : (d e : ℕ) (a : Bool) → e ≡ cond a 0 inf → Level b d → (valueOf (d + e) ≡ cond a (valueOf d) Missing) × (d + e < inf → d + e ≤ b)
       one d e true f l = let z : d + e ≡ d = omega (arith, f) in (ap valueOf z, λ g. omega (arith, l .some (omega (arith, f))))
       one d e false f l = (value-none (d + e) (omega (arith, f)), λ g. absurd (omega (arith, f)))
 
@@ -401,15 +401,15 @@ module _ (sheet : Sheet) (t w : List ℕ) (p : List Bool) (n : ℕ) (ta : Tables
             omega (
               arith,
               ro .level k q l (omega (arith, ta .wide)) .most,
-              pick-most (within (getD (sheet .columns) q noColumn .life) (markOf (getD (sheet .columns) q noColumn .first) (sheet .positions) (getD w (markPlace k) 0)) (getD (sheet .positions) (length p) (pos 0))),
+              cond-most (within (getD (sheet .columns) q noColumn .life) (markOf (getD (sheet .columns) q noColumn .first) (sheet .positions) (getD w (markPlace k) 0)) (getD (sheet .positions) (length p) (pos 0))),
               ta .lanes q g .reach (length p) (getD w (markPlace k) 0) (ro .marks k l) h,
             );
         cut = λ i q l g. omega (arith, ta .reach-cut (length p) i q h l g);
       }
     where
-      pick-most : (b : Bool) → pick b 0 inf ≤ inf
-      pick-most true = omega arith
-      pick-most false = omega arith
+      cond-most : (b : Bool) → cond b 0 inf ≤ inf
+      cond-most true = omega arith
+      cond-most false = omega arith
 
 -- what the rows up to k add to a lane
 pub lane-cut : (wide : ℕ) (t w : List ℕ) (base lo j q n k : ℕ) → Stack wide t w base lo j n → q < wide → k < n → getD w (markPlace k) 0 < lo → lane t w base j q (k + 1) ≡ inf
@@ -422,21 +422,21 @@ lane-cut wide t w base lo j q n k s l h c = rw add-one (go k (omega arith) c)
 
 -- ---- the first node
 
-pub rows-root : (sheet : Sheet) (w : List ℕ) → length (sheet .columns) ≤ laneCount → length w ≡ stackSize → ((q : ℕ) → q < laneCount → getD w q 0 ≡ 0) → getD w markBase 0 ≡ 0 → Rows sheet w [] 1
+pub rows-root : (sheet : Sheet) (w : List ℕ) → length (sheet .columns) ≤ laneCount → FirstRow w → Rows sheet w [] 1
 unfolding marksIn frontFrom
-rows-root sheet w h s r m =
+rows-root sheet w h r =
     record {
-      size = s;
+      size = r .size;
       few = omega arith;
-      marks = λ k l. let z : markBase + k ≡ markBase = omega arith in let y : getD w (markPlace k) 0 ≡ 0 = ap (λ (x : ℕ). getD w x 0) z ∙ m in omega arith;
+      marks = λ k l. let z : markBase + k ≡ markBase = omega arith in let y : getD w (markPlace k) 0 ≡ 0 = ap (λ (x : ℕ). getD w x 0) z ∙ r .mark in omega arith;
       rising = λ k l a b. let z : markBase + k ≡ markBase + l = omega arith in let y : getD w (markPlace k) 0 ≡ getD w (markPlace l) 0 = ap (λ (x : ℕ). getD w x 0) z in omega arith;
       narrow = h;
-      level = λ k q l g. let z : k * laneCount + q ≡ q = omega arith in let y : getD w (rowPlace k q) 0 ≡ 0 = ap (λ (x : ℕ). getD w x 0) z ∙ r q (omega arith) in record { some = λ a. omega arith; most = omega arith };
+      level = λ k q l g. let z : k * laneCount + q ≡ q = omega arith in let y : getD w (rowPlace k q) 0 ≡ 0 = ap (λ (x : ℕ). getD w x 0) z ∙ r .lanes q (omega arith) in record { some = λ a. omega arith; most = omega arith };
       fronts = λ q l.
           let col = getD (sheet .columns) q noColumn in
           let z : 0 * laneCount + q ≡ q = omega arith in
-          let y : getD w (rowPlace 0 q) 0 ≡ 0 = ap (λ (x : ℕ). getD w x 0) z ∙ r q (omega arith) in
-          (λ i. record { at = markOf (col .first) (sheet .positions) (m i); cost = valueOf (y i) } ∷ [])
+          let y : getD w (rowPlace 0 q) 0 ≡ 0 = ap (λ (x : ℕ). getD w x 0) z ∙ r .lanes q (omega arith) in
+          (λ i. record { at = markOf (col .first) (sheet .positions) (r .mark i); cost = valueOf (y i) } ∷ [])
           ∙ sym (ap (frontFrom (col .life) (record { at = col .first; cost = Sum 0 } ∷ [])) (decided-nil (sheet .positions) (col .prices)));
     }
 
@@ -451,12 +451,12 @@ module _ (sheet : Sheet) (t : List ℕ) (ta : Tables sheet t) where
       (coded-most (top * (n - 0)) (omega (arith, ta .few)) (getD t (place suffixBase 0 0 q) 0) (leastOf (col .life) (sheet .end) (markOf (col .first) (sheet .positions) 0) (drop 0 (offers (sheet .positions) (col .prices) [])))
       (ta .lanes q l .suffix 0 0 (omega arith) (omega arith)))
 
-  first-lane : (w : List ℕ) (q : ℕ) → q < lanesIn t → getD w q 0 ≡ 0 → getD w markBase 0 ≡ 0 → getD t q 0 ≡ lane t w suffixBase 0 q 1
+  first-lane : (w : List ℕ) (q : ℕ) → q < lanesIn t → FirstRow w → getD t q 0 ≡ lane t w suffixBase 0 q 1
   unfolding lane
-  first-lane w q l e m =
+  first-lane w q l r =
       let x : 0 * laneCount + q ≡ q = omega arith in
-      let y : place suffixBase 0 (getD w markBase 0) q ≡ q = omega (arith, m) in
-      omega (arith, e, ap (λ (k : ℕ). getD w k 0) x, ap (λ (k : ℕ). getD t k 0) y, first-most q l)
+      let y : place suffixBase 0 (getD w markBase 0) q ≡ q = omega (arith, r .mark) in
+      omega (arith, r .lanes q (omega (arith, ta .narrow)), ap (λ (k : ℕ). getD w k 0) x, ap (λ (k : ℕ). getD t k 0) y, first-most q l)
 
-  pub first-sums : (w : List ℕ) → ((q : ℕ) → q < laneCount → getD w q 0 ≡ 0) → getD w markBase 0 ≡ 0 → sumLanes (lanesIn t) (λ (q : ℕ). getD t q 0) ≡ sumLanes (lanesIn t) (λ (q : ℕ). lane t w suffixBase 0 q 1)
-  first-sums w e m = sum-same (lanesIn t) (λ (q : ℕ). getD t q 0) (λ (q : ℕ). lane t w suffixBase 0 q 1) (λ q l. first-lane w q l (e q (omega (arith, ta .narrow))) m)
+  pub first-sums : (w : List ℕ) → FirstRow w → sumLanes (lanesIn t) (λ (q : ℕ). getD t q 0) ≡ sumLanes (lanesIn t) (λ (q : ℕ). lane t w suffixBase 0 q 1)
+  first-sums w r = sum-same (lanesIn t) (λ (q : ℕ). getD t q 0) (λ (q : ℕ). lane t w suffixBase 0 q 1) (λ q l. first-lane w q l r)

@@ -1,5 +1,5 @@
 -- Laws of the tables and of the stack of rows.
-pub mod Filled
+pub mod Window
 pub mod Putting
 pub mod Front
 pub mod Lanes

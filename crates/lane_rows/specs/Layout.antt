@@ -2,13 +2,14 @@
 use Prim.Native.Nat.{ℕ, _+_, _*_}
 use mathlib.Core.List.{List}
 use lib.ListN.{getD}
+use Rattle.model.specs.Limits.{dearest, mostOpenings, mostParts}
 
 abbrev pub laneCount : ℕ
-laneCount = 16
+laneCount = mostParts
 
 -- a mark for the first life and one for each opening
 abbrev pub markCount : ℕ
-markCount = 65
+markCount = mostOpenings + 1
 
 -- lane q of row y
 abbrev pub rowPlace : ℕ → ℕ → ℕ
@@ -18,7 +19,7 @@ rowPlace y q = y * laneCount + q
 
 -- the highest price or fee
 abbrev pub top : ℕ
-top = 1000000
+top = dearest
 
 -- the most that a part's changes cost, one at each opening
 abbrev pub laneLimit : ℕ

@@ -6,9 +6,10 @@ use mathlib.Core.List.{List, [], _∷_}
 use lib.ListN.{length, getD}
 use lib.IntN.{ℤ}
 use Rattle.least.specs.Marks.{markOf}
-use Rattle.lane_rows.specs.Layout.{laneCount, markCount, top, inf, place, rowPlace, markPlace, stackSize, blockSize, reachBase, pricePlace, reachCuts, cutPlace, lanesIn, tablesSize}
+use Rattle.lane_rows.specs.Layout.{laneCount, markCount, top, inf, place, rowPlace, markBase, markPlace, stackSize, blockSize, reachBase, pricePlace, reachCuts, cutPlace, lanesIn, tablesSize}
 use Rattle.lane_rows.specs.Sheet.{Sheet, Mark, front, noColumn}
 use Rattle.lane_rows.specs.Tables.{valueOf}
+use Rattle.model.specs.Limits.{mostOpenings}
 
 -- lane q over the first n rows of the stack w: the least of a row's number and the table's, where the table starts at `base` and is read at opening j.
 unfoldable pub lane : List ℕ → List ℕ → ℕ → ℕ → ℕ → ℕ → ℕ
@@ -28,6 +29,34 @@ sumLanes wide f = sumFrom f 0 wide
 pub record Turned (wide : ℕ) (f : ℕ → ℕ) (acc acc' : List ℕ) : Type 0 where
   pub size : length acc' ≡ length acc
   pub lanes : (q : ℕ) → q < wide → getD acc' q 0 ≡ f q
+
+-- what taking the sums of two rows into the lanes asks
+pub record MinAsks (fours : ℕ) (d e acc : List ℕ) : Type 0 where
+  pub few : fours ≤ 4
+  pub row : laneCount ≤ length d
+  pub table : laneCount ≤ length e
+  pub lanes : laneCount ≤ length acc
+  pub most : (q : ℕ) → q < fours * 4 → getD acc q 0 ≤ inf
+  pub sums : (q : ℕ) → q < fours * 4 → getD d q 0 + getD e q 0 < 2 ^ 31
+
+-- what adding a row of prices to the lanes asks
+pub record PlusAsks (fours : ℕ) (prices acc : List ℕ) : Type 0 where
+  pub few : fours ≤ 4
+  pub row : laneCount ≤ length prices
+  pub lanes : laneCount ≤ length acc
+  pub sums : (q : ℕ) → q < fours * 4 → getD acc q 0 + getD prices q 0 < 2 ^ 31
+
+-- what taking row n, whose mark is i, into the lanes asks
+pub record AddAsks (fours : ℕ) (t w : List ℕ) (base j i n : ℕ) (acc : List ℕ) : Type 0 where
+  pub few : fours ≤ 4
+  pub lanes : laneCount ≤ length acc
+  pub table : base + blockSize ≤ length t
+  pub size : length w ≡ stackSize
+  pub near : j ≤ mostOpenings
+  pub mark : i ≤ mostOpenings
+  pub row : n ≤ mostOpenings
+  pub most : (q : ℕ) → q < fours * 4 → getD acc q 0 ≤ inf
+  pub sums : (q : ℕ) → q < fours * 4 → getD w (rowPlace n q) 0 + getD t (place base j i q) 0 < 2 ^ 31
 
 -- the marks of the first n rows as lane q has them, the latest first
 unfoldable pub marksIn : ℤ → List ℤ → List ℕ → ℕ → ℕ → List Mark
@@ -49,6 +78,12 @@ pub record Rows (sheet : Sheet) (w : List ℕ) (p : List Bool) (n : ℕ) : Type 
   pub level : (k q : ℕ) → k < n → q < length (sheet .columns) → Level (top * length p) (getD w (rowPlace k q) 0)
   pub fronts : (q : ℕ) → q < length (sheet .columns) → marksIn (getD (sheet .columns) q noColumn .first) (sheet .positions) w q n ≡ front (sheet .positions) (getD (sheet .columns) q noColumn) p
 
+-- the stack's first row is that of the first life: nothing is paid
+pub record FirstRow (w : List ℕ) : Type 0 where
+  pub size : length w ≡ stackSize
+  pub lanes : (q : ℕ) → q < laneCount → getD w q 0 ≡ 0
+  pub mark : getD w markBase 0 ≡ 0
+
 -- the first n rows of w' are those of w
 pub record Kept (w w' : List ℕ) (n : ℕ) : Type 0 where
   pub size : length w' ≡ length w
@@ -67,7 +102,7 @@ pub record Stack (wide : ℕ) (t w : List ℕ) (base lo j n : ℕ) : Type 0 wher
   pub narrow : wide ≤ laneCount
   pub table : base + blockSize ≤ length t
   pub size : length w ≡ stackSize
-  pub near : j ≤ 64
+  pub near : j ≤ mostOpenings
   pub few : n ≤ markCount
   pub marks : (k : ℕ) → k < n → getD w (markPlace k) 0 ≤ j
   pub rising : (k l : ℕ) → k ≤ l → l < n → getD w (markPlace k) 0 ≤ getD w (markPlace l) 0
@@ -78,15 +113,15 @@ pub record Stack (wide : ℕ) (t w : List ℕ) (base lo j n : ℕ) : Type 0 wher
 abbrev pub nextRow : List ℕ → List ℕ → ℕ → ℕ → ℕ → ℕ
 nextRow t w j n q = lane t w reachBase j q n + getD t (pricePlace j q) 0
 
--- what settling a node asks, and what it does
-pub record Owing (t w : List ℕ) (at n : ℕ) : Type 0 where
-  pub some : 0 < at
-  pub stack : Stack (lanesIn t) t w reachBase (getD t (cutPlace reachCuts (at - 1)) 0) (at - 1) n
+-- what writing the row of opening j asks, in its first `wide` lanes
+pub record Owing (wide : ℕ) (t w : List ℕ) (j n : ℕ) : Type 0 where
+  pub stack : Stack wide t w reachBase (getD t (cutPlace reachCuts j) 0) j n
   pub size : length t ≡ tablesSize
-  pub near : at ≤ 64
+  pub near : j < 64
   pub few : n < markCount
-  pub cheap : (q : ℕ) → q < lanesIn t → getD t (pricePlace (at - 1) q) 0 ≤ top
+  pub cheap : (q : ℕ) → q < wide → getD t (pricePlace j q) 0 ≤ top
 
+-- a node is settled: after a no the stack stays, after a yes it has the row of the last opening
 pub record Settled (t w w' : List ℕ) (at n r : ℕ) (stop : Bool) : Type 0 where
   pub no : stop ≡ false → (r ≡ n) × (w' ≡ w)
   pub yes : stop ≡ true → (r ≡ n + 1) × Put (lanesIn t) (nextRow t w (at - 1) n) w w' n (at - 1 + 1)

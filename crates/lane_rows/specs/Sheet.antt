@@ -1,6 +1,6 @@
 -- A job as the tables have it: positions, fees, and a column for each lane. Its bound is that of the job.
 use Prim.Native.Nat.{ℕ}
-use mathlib.Core.Bool.{Bool}
+use mathlib.Core.Bool.{Bool, cond}
 use mathlib.Core.List.{List, [], _∷_}
 use lib.ListN.{getD, drop}
 use lib.IntN.{ℤ, pos}
@@ -8,7 +8,7 @@ use Rattle.branch.specs.declared.Bound.{Bound}
 use Rattle.branch.specs.declared.Bound.the-variants.{Missing, Sum}
 use Rattle.branch.specs.Lower.{add, total}
 use Rattle.model.specs.Model.{within, sumAt}
-use Rattle.model.specs.LowerBound.{Offer, pick, plus, lower, leastOf, offers}
+use Rattle.model.specs.LowerBound.{Offer, plus, lower, leastOf, offers}
 
 -- one part as its lane has it: its life, the position of the change before the first, its prices
 pub record Column : Type 0 where
@@ -42,11 +42,11 @@ pub record Mark : Type 0 where
 -- the least price so far of a mark from which a change at s is in reach
 abbrev pub reach : ℤ → List Mark → ℤ → Bound
 reach life [] s = Missing
-reach life (f ∷ fr) s = lower (reach life fr s) (pick (within life (f .at) s) (f .cost) Missing)
+reach life (f ∷ fr) s = lower (reach life fr s) (cond (within life (f .at) s) (f .cost) Missing)
 
 -- a decided opening's mark joins the front where the decision is yes
 abbrev pub joined : ℤ → List Mark → Offer → List Mark
-joined life fr o = pick (o .allowed) (record { at = o .position; cost = plus (o .price) (reach life fr (o .position)) } ∷ fr) fr
+joined life fr o = cond (o .allowed) (record { at = o .position; cost = plus (o .price) (reach life fr (o .position)) } ∷ fr) fr
 
 unfoldable pub frontFrom : ℤ → List Mark → List Offer → List Mark
 frontFrom life fr [] = fr

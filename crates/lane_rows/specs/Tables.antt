@@ -1,6 +1,7 @@
 -- What the tables of a sheet hold.
 use Prim.Native.Nat.{ℕ, _-_, _*_, _<_, _≤_}
 use mathlib.Core.Path.{_≡_}
+use mathlib.Core.Bool.{cond}
 use mathlib.Core.List.{List, []}
 use lib.Dec.{ltb}
 use lib.ListN.{length, getD, drop}
@@ -8,14 +9,15 @@ use lib.IntN.{ℤ, pos}
 use Rattle.branch.specs.declared.Bound.{Bound}
 use Rattle.branch.specs.declared.Bound.the-variants.{Missing, Sum}
 use Rattle.model.specs.Model.{within}
-use Rattle.model.specs.LowerBound.{pick, leastOf, offers}
+use Rattle.model.specs.LowerBound.{leastOf, offers}
 use Rattle.least.specs.Marks.{markOf}
 use Rattle.lane_rows.specs.Layout.{laneCount, top, inf, suffixBase, reachBase, place, pricePlace, feePlace, countPlace, suffixCuts, reachCuts, cutPlace, lanesIn, tablesSize}
 use Rattle.lane_rows.specs.Sheet.{Column, Sheet, noColumn}
+use Rattle.model.specs.Limits.{mostOpenings}
 
 -- the price that a number stands for
 abbrev pub valueOf : ℕ → Bound
-valueOf n = pick (ltb n inf) (Sum n) Missing
+valueOf n = cond (ltb n inf) (Sum n) Missing
 
 -- n stands for e, and a price is at most b
 abbrev pub Coded : ℕ → ℕ → Bound → Type 0
@@ -26,14 +28,14 @@ Coded b n (Sum x) = (n ≡ x) × (x ≤ b)
 pub record Lane (end : ℤ) (ss : List ℤ) (col : Column) (t : List ℕ) (q : ℕ) : Type 0 where
   pub suffix : (j i : ℕ) → i ≤ j → j ≤ length ss
       → Coded (top * (length ss - j)) (getD t (place suffixBase j i q) 0) (leastOf (col .life) end (markOf (col .first) ss i) (drop j (offers ss (col .prices) [])))
-  pub reach : (j i : ℕ) → i ≤ j → j < length ss → getD t (place reachBase j i q) 0 ≡ pick (within (col .life) (markOf (col .first) ss i) (getD ss j (pos 0))) 0 inf
+  pub reach : (j i : ℕ) → i ≤ j → j < length ss → getD t (place reachBase j i q) 0 ≡ cond (within (col .life) (markOf (col .first) ss i) (getD ss j (pos 0))) 0 inf
   pub price : (j : ℕ) → j < length ss → getD t (pricePlace j q) 0 ≡ getD (col .prices) j 0
   pub cheap : (j : ℕ) → getD (col .prices) j 0 ≤ top
 
 -- the tables of a sheet: a lane for each column, the fees, the number of openings, and the cuts
 pub record Tables (sheet : Sheet) (t : List ℕ) : Type 0 where
   pub size : length t ≡ tablesSize
-  pub few : length (sheet .positions) ≤ 64
+  pub few : length (sheet .positions) ≤ mostOpenings
   pub wide : length (sheet .columns) ≡ lanesIn t
   pub some : 0 < lanesIn t
   pub narrow : lanesIn t ≤ laneCount

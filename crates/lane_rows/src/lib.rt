@@ -3,9 +3,9 @@ ghost use mathlib.Core.Path.{_≡_};
 ghost use mathlib.Core.Bool.{true};
 ghost use Prim.Native.Nat.{ℕ, _+_, _-_, _*_, _^_, _<_, _≤_, min};
 ghost use lib.ListN.{length, getD};
-ghost use Rattle.lane_rows.specs.Layout.{laneCount, markCount, inf, top, blockSize, tablesSize, lanesIn, stackSize, suffixBase, reachBase, reachCuts, place, rowPlace, pricePlace, markPlace, cutPlace};
+ghost use Rattle.lane_rows.specs.Layout.{laneCount, inf, tablesSize, lanesIn, stackSize, suffixBase, place, rowPlace};
 ghost use Rattle.lane_rows.specs.Tables.{valueOf};
-ghost use Rattle.lane_rows.specs.Rows.{lane, sumLanes, Turned, Stack, Put, nextRow, Owing, Settled};
+ghost use Rattle.lane_rows.specs.Rows.{lane, sumLanes, Turned, MinAsks, PlusAsks, AddAsks, FirstRow, Stack, Put, nextRow, Owing, Settled};
 use branch::Bound;
 use least::MARKS;
 
@@ -59,8 +59,7 @@ fn lesser(x: u32, y: u32) -> u32
 
 // Each lane's least of what it holds and a row's sum.
 fn min_row(fours: usize, d: &[u32], e: &[u32], acc: &mut [u32])
-    requires { ⌜ (fours ≤ 4) × (laneCount ≤ length (now d)) × (laneCount ≤ length (now e)) × (laneCount ≤ length (now acc)) ⌝ }
-    requires { ⌜ ((q : ℕ) → q < fours * 4 → (getD (now acc) q 0 ≤ inf) × (getD (now d) q 0 + getD (now e) q 0 < 2 ^ 31)) ⌝ }
+    requires { ⌜ MinAsks fours (now d) (now e) (now acc) ⌝ }
     ensures { λ _. ⌜ Turned (fours * 4) (λ (q : ℕ). min (getD (now (acc .entry)) q 0) (getD (now (d .entry)) q 0 + getD (now (e .entry)) q 0)) (now (acc .entry)) (now (acc .exit)) ⌝ }
 {
     for p in 0..fours * 4 {
@@ -70,8 +69,7 @@ fn min_row(fours: usize, d: &[u32], e: &[u32], acc: &mut [u32])
 
 // Each lane with its price in a row of prices.
 fn plus_row(fours: usize, prices: &[u32], acc: &mut [u32])
-    requires { ⌜ (fours ≤ 4) × (laneCount ≤ length (now prices)) × (laneCount ≤ length (now acc)) ⌝ }
-    requires { ⌜ ((q : ℕ) → q < fours * 4 → getD (now acc) q 0 + getD (now prices) q 0 < 2 ^ 31) ⌝ }
+    requires { ⌜ PlusAsks fours (now prices) (now acc) ⌝ }
     ensures { λ _. ⌜ Turned (fours * 4) (λ (q : ℕ). getD (now (acc .entry)) q 0 + getD (now (prices .entry)) q 0) (now (acc .entry)) (now (acc .exit)) ⌝ }
 {
     for p in 0..fours * 4 {
@@ -119,8 +117,7 @@ fn add_row(
     n: usize,
     acc: &mut [u32],
 )
-    requires { ⌜ (fours ≤ 4) × (laneCount ≤ length (now acc)) × (base + blockSize ≤ length (now t)) × (length (now w) ≡ stackSize) × (j ≤ 64) × (i ≤ 64) × (n ≤ 64) ⌝ }
-    requires { ⌜ ((q : ℕ) → q < fours * 4 → (getD (now acc) q 0 ≤ inf) × (getD (now w) (rowPlace n q) 0 + getD (now t) (place base j i q) 0 < 2 ^ 31)) ⌝ }
+    requires { ⌜ AddAsks fours (now t) (now w) base j i n (now acc) ⌝ }
     ensures { λ _. ⌜ Turned (fours * 4) (λ (q : ℕ). min (getD (now (acc .entry)) q 0) (getD (now (w .entry)) (rowPlace n q) 0 + getD (now (t .entry)) (place base j i q) 0)) (now (acc .entry)) (now (acc .exit)) ⌝ }
 {
     let at = base + (j * MARKS + i) * LANES;
@@ -210,8 +207,7 @@ pub fn first_sum(t: &[u32]) -> u64
 
 // The row of opening j, decided yes, above the `rows` that are there: so many lanes of it.
 fn put_lanes(fours: usize, t: &[u32], w: &mut [u32], j: usize, rows: usize)
-    requires { ⌜ (Stack (fours * 4) (now t) (now w) reachBase (getD (now t) (cutPlace reachCuts j) 0) j rows) × (length (now t) ≡ tablesSize) × (j < 64) × (rows < markCount) ⌝ }
-    requires { ⌜ ((q : ℕ) → q < fours * 4 → getD (now t) (pricePlace j q) 0 ≤ top) ⌝ }
+    requires { ⌜ Owing (fours * 4) (now t) (now w) j rows ⌝ }
     ensures { λ _. ⌜ Put (fours * 4) (nextRow (now (t .entry)) (now (w .entry)) j rows) (now (w .entry)) (now (w .exit)) rows (j + 1) ⌝ }
 {
     let lo = t[REACH_CUTS + j] as usize;
@@ -227,8 +223,7 @@ fn put_lanes(fours: usize, t: &[u32], w: &mut [u32], j: usize, rows: usize)
 
 // The row of opening j, decided yes, above the `rows` that are there.
 fn put_row(t: &[u32], w: &mut [u32], j: usize, rows: usize)
-    requires { ⌜ (Stack (lanesIn (now t)) (now t) (now w) reachBase (getD (now t) (cutPlace reachCuts j) 0) j rows) × (length (now t) ≡ tablesSize) × (j < 64) × (rows < markCount) ⌝ }
-    requires { ⌜ ((q : ℕ) → q < lanesIn (now t) → getD (now t) (pricePlace j q) 0 ≤ top) ⌝ }
+    requires { ⌜ Owing (lanesIn (now t)) (now t) (now w) j rows ⌝ }
     ensures { λ _. ⌜ Put (lanesIn (now (t .entry))) (nextRow (now (t .entry)) (now (w .entry)) j rows) (now (w .entry)) (now (w .exit)) rows (j + 1) ⌝ }
 {
     let fours = t[FOURS];
@@ -249,7 +244,7 @@ fn put_row(t: &[u32], w: &mut [u32], j: usize, rows: usize)
 
 // Writes the row that a yes owes.
 pub fn settle(t: &[u32], w: &mut [u32], at: usize, rows: usize, stop: bool) -> usize
-    requires { ⌜ (stop ≡ true → Owing (now t) (now w) at rows) ⌝ }
+    requires { ⌜ (stop ≡ true → (0 < at) × Owing (lanesIn (now t)) (now t) (now w) (at - 1) rows) ⌝ }
     ensures { λ r. ⌜ Settled (now (t .entry)) (now (w .entry)) (now (w .exit)) at rows r stop ⌝ }
 {
     if stop {
@@ -262,7 +257,7 @@ pub fn settle(t: &[u32], w: &mut [u32], at: usize, rows: usize, stop: bool) -> u
 // The row before the first opening: nothing is paid.
 pub fn base_row(w: &mut [u32])
     requires { ⌜ length (now w) ≡ stackSize ⌝ }
-    ensures { λ _. ⌜ (length (now (w .exit)) ≡ stackSize) × ((q : ℕ) → q < laneCount → getD (now (w .exit)) q 0 ≡ 0) × (getD (now (w .exit)) (markPlace 0) 0 ≡ 0) ⌝ }
+    ensures { λ _. ⌜ FirstRow (now (w .exit)) ⌝ }
 {
     for p in 0..LANES {
         w[p] = 0;

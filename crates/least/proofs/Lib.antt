@@ -1,4 +1,5 @@
 pub mod Diff
+pub mod Filled
 pub mod Table
 pub mod Most
 pub mod Rows

@@ -1,7 +1,7 @@
 -- How large a least price can be: no more than the highest price at each opening that is left. By induction over the openings.
 use Prim.Native.Nat.{ℕ, zero, suc, _+_, _-_, _*_, _≤_}
 use mathlib.Core.Path.{_≡_, ap, subst, _∙_}
-use mathlib.Core.Bool.{Bool, true, false, _&&_}
+use mathlib.Core.Bool.{Bool, true, false, _&&_, cond}
 use mathlib.Core.List.{List, [], _∷_}
 use native.Mathlib.Omega.{arith}
 use native.Mathlib.Nat.{mul-suc}
@@ -10,7 +10,7 @@ use lib.IntN.{ℤ}
 use Rattle.branch.specs.declared.Bound.{Bound}
 use Rattle.branch.specs.declared.Bound.the-variants.{Missing, Sum}
 use Rattle.model.specs.Model.{within}
-use Rattle.model.specs.LowerBound.{Offer, pick, plus, lowerThan, changeAt, leastOf, offers}
+use Rattle.model.specs.LowerBound.{Offer, plus, lowerThan, changeAt, leastOf, offers}
 use Rattle.model.proofs.Offers.{offers-length}
 use Rattle.model.proofs.Bools.{after-one}
 
@@ -19,9 +19,9 @@ abbrev pub AtMost : ℕ → Bound → Type 0
 AtMost b Missing = Unit {0}
 AtMost b (Sum x) = x ≤ b
 
-most-pick : (t : Bool) (d e : Bound) (b : ℕ) → AtMost b d → AtMost b e → AtMost b (pick t d e)
-most-pick true d e b h g = h
-most-pick false d e b h g = g
+most-cond : (t : Bool) (d e : Bound) (b : ℕ) → AtMost b d → AtMost b e → AtMost b (cond t d e)
+most-cond true d e b h g = h
+most-cond false d e b h g = g
 
 most-more : (e : Bound) (a b : ℕ) → a ≤ b → AtMost a e → AtMost b e
 most-more Missing a b h l = tt
@@ -38,13 +38,13 @@ module _ (top : ℕ) where
 
   most-of : (life end : ℤ) (os : List Offer) (prev : ℤ) → Cheap os → AtMost (top * length os) (leastOf life end prev os)
   unfolding leastOf
-  most-of life end [] prev h = most-pick (within life prev end) (Sum 0) Missing (top * 0) (omega arith) tt
+  most-of life end [] prev h = most-cond (within life prev end) (Sum 0) Missing (top * 0) (omega arith) tt
   most-of life end (o ∷ os) prev h =
       let rest = leastOf life end (o .position) os in
       let skip = leastOf life end prev os in
       let m = mul-suc top (length os) in
-      most-pick (lowerThan skip (changeAt life prev o rest)) (changeAt life prev o rest) skip (top * suc (length os))
-      (most-pick (o .allowed && within life prev (o .position)) (plus (o .price) rest) Missing (top * suc (length os))
+      most-cond (lowerThan skip (changeAt life prev o rest)) (changeAt life prev o rest) skip (top * suc (length os))
+      (most-cond (o .allowed && within life prev (o .position)) (plus (o .price) rest) Missing (top * suc (length os))
       (most-more (plus (o .price) rest) (top * length os + top) (top * suc (length os)) (omega (arith, m)) (most-plus (o .price) rest (top * length os) (h .0) (most-of life end os (o .position) (h .1)))) tt)
       (most-more skip (top * length os) (top * suc (length os)) (omega (arith, m)) (most-of life end os prev (h .1)))
 

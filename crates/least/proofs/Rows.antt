@@ -1,41 +1,25 @@
--- The suffix table: writing a row from the front, and each row from the one below it, by one unfolding of the least price.
+-- The suffix table: each row from the one below it, by one unfolding of the least price.
 use Prim.Native.Nat.{ℕ, suc, _+_, _-_, _*_, _^_, _<_, _≤_}
 use mathlib.Core.Path.{_≡_, refl, sym, ap, ap₂, subst, _∙_}
 use mathlib.Core.List.{List}
-use mathlib.Core.Bool.{Bool, true, false, _&&_}
+use mathlib.Core.Bool.{Bool, true, false, _&&_, cond}
 use native.Mathlib.Omega.{arith}
 use native.Mathlib.Decide.{ℕ-discrete}
 use native.Mathlib.Numerals.{add-one}
 use borrow.Author.Tests.{lt-ltb}
-use lib.ListN.{length, getD, set, drop, length-set, drop-of-length-le}
+use lib.ListN.{length, getD, drop, drop-of-length-le}
 use lib.IntN.{ℤ, pos}
-use lib.Seq.{getD-set-same, getD-set-other}
 use Rattle.branch.specs.declared.Bound.{Bound}
 use Rattle.branch.specs.declared.Bound.the-variants.{Missing, Sum}
 use Rattle.model.specs.Model.{within}
-use Rattle.model.specs.LowerBound.{Offer, pick, plus, lower, lowerThan, leastOf, offers}
+use Rattle.model.specs.LowerBound.{Offer, plus, lower, lowerThan, leastOf, offers}
 use Rattle.least.specs.Marks.{markOf}
-use Rattle.least.specs.Suffix.{tableSize, cell, missing, ofCode, codeOf, rowOf, endOf, Rowed, Suffixes, changesIn}
+use Rattle.least.specs.Filled.{FilledBy}
+use Rattle.least.specs.Suffix.{tableSize, cell, missing, ofCode, codeOf, rowOf, endOf, Suffixes, changesByTable}
 use Rattle.model.proofs.Bools.{there}
 use Rattle.model.proofs.Offers.{offers-length}
 use Rattle.least.proofs.Table.{offerAt, offers-drop, least-cons, least-nil, changesAt}
 use Rattle.least.proofs.Most.{AtMost, most-least}
-
-module _ (f : ℕ → ℕ) (tab₀ : List ℕ) (j : ℕ) where
-  pub rowed-none : Rowed f tab₀ tab₀ j 0
-  rowed-none = record { size = refl; done = λ x h. absurd (omega arith); above = λ x h. refl }
-
-  pub rowed-more : (tab : List ℕ) (i v : ℕ) → i < 65 → cell j i < length tab → v ≡ f i → Rowed f tab₀ tab j i → Rowed f tab₀ (set tab (cell j i) v) j (i + 1)
-  rowed-more tab i v s h e r =
-      record {
-        size = length-set tab (cell j i) v ∙ r .size;
-        done = λ x p. go x p (ℕ-discrete x i);
-        above = λ x p. getD-set-other tab (cell j i) x v 0 (omega arith) ∙ r .above x p;
-      }
-    where
-      go : (x : ℕ) → x < i + 1 → Dec (x ≡ i) → getD (set tab (cell j i) v) (cell j x) 0 ≡ f x
-      go x p (yes q) = rw q (getD-set-same tab (cell j i) v 0 h ∙ e)
-      go x p (no n) = getD-set-other tab (cell j i) (cell j x) v 0 (λ q. n (omega (arith, q))) ∙ r .done x (omega arith)
 
 -- ---- numbers for prices
 
@@ -55,7 +39,7 @@ module _ (life end first : ℤ) (ss : List ℤ) (ps : List ℕ) (fs : List Bool)
   row-read tab k j i g h l s =
       ap ofCode (s .rows j i g h l) ∙ code-read (2 ^ 32 * (length ss - j)) (leastOf life end (markOf first ss i) (rest j)) (omega arith) (most-least (2 ^ 32) life end (markOf first ss i) ss ps fs j (λ k. omega (arith, cheap k)))
 
-  pub suffix-end : (tab₀ tab : List ℕ) → tableSize ≤ length tab₀ → Rowed (endOf life end first ss) tab₀ tab (length ss) (length ss + 1) → Suffixes life end first ss ps fs tab (length ss)
+  pub suffix-end : (tab₀ tab : List ℕ) → tableSize ≤ length tab₀ → FilledBy (cell (length ss)) (endOf life end first ss) (length ss + 1) tab₀ tab → Suffixes life end first ss ps fs tab (length ss)
   suffix-end tab₀ tab h r =
       record {
         size = omega (arith, r .size);
@@ -67,7 +51,7 @@ module _ (life end first : ℤ) (ss : List ℤ) (ps : List ℕ) (fs : List Bool)
       }
 
   pub suffix-more : (tab₀ tab : List ℕ) (k : ℕ) (chg : Bound) → k < length ss → Suffixes life end first ss ps fs tab₀ (suc k)
-      → chg ≡ plus (getD ps k 0) (ofCode (getD tab₀ (cell (k + 1) (k + 1)) 0)) → Rowed (rowOf life first ss k (getD fs k false) chg tab₀) tab₀ tab k (k + 1)
+      → chg ≡ plus (getD ps k 0) (ofCode (getD tab₀ (cell (k + 1) (k + 1)) 0)) → FilledBy (cell k) (rowOf life first ss k (getD fs k false) chg tab₀) (k + 1) tab₀ tab
       → Suffixes life end first ss ps fs tab k
   suffix-more tab₀ tab k chg h s ec r =
       record { size = omega (arith, r .size, s .size); rows = λ j i a b c. go j i a b c (ℕ-discrete j k) }
@@ -81,21 +65,21 @@ module _ (life end first : ℤ) (ss : List ℤ) (ps : List ℕ) (fs : List Bool)
       skipped i l = row-read tab₀ (suc k) (k + 1) i (omega arith) (omega arith) (omega arith) s ∙ ap (λ (n : ℕ). leastOf life end (markOf first ss i) (rest n)) (add-one k)
 
       go : (j i : ℕ) → k ≤ j → j ≤ length ss → i ≤ j → Dec (j ≡ k) → getD tab (cell j i) 0 ≡ codeOf (leastOf life end (markOf first ss i) (drop j (offers ss ps fs)))
-      go j i a b c (no n) = r .above (cell j i) (omega arith) ∙ s .rows j i (omega arith) b c
+      go j i a b c (no n) = r .rest (cell j i) (λ y l e. omega (arith, e)) ∙ s .rows j i (omega arith) b c
       go j i a b c (yes e) =
           rw e
           (r .done i (omega arith)
           ∙ ap codeOf
-          (ap₂ (λ (x y : Bound). lower x (pick (getD fs k false && within life (markOf first ss i) (getD ss k (pos 0))) y Missing)) (skipped i (omega arith)) ec′
-          ∙ ap (λ (t : Bool). lower (leastOf life end (markOf first ss i) (rest (suc k))) (pick (t && within life (markOf first ss i) (getD ss k (pos 0))) (plus (getD ps k 0) (leastOf life end (getD ss k (pos 0)) (rest (suc k)))) Missing)) (there fs k false true (omega arith))
+          (ap₂ (λ (x y : Bound). lower x (cond (getD fs k false && within life (markOf first ss i) (getD ss k (pos 0))) y Missing)) (skipped i (omega arith)) ec′
+          ∙ ap (λ (t : Bool). lower (leastOf life end (markOf first ss i) (rest (suc k))) (cond (t && within life (markOf first ss i) (getD ss k (pos 0))) (plus (getD ps k 0) (leastOf life end (getD ss k (pos 0)) (rest (suc k)))) Missing)) (there fs k false true (omega arith))
           ∙ sym (least-cons life end (markOf first ss i) (rest k) (offerAt ss ps fs k) (rest (suc k)) (offers-drop ss ps fs k h))))
 
   -- what the table says of a change at opening k
   pub changes-read : (tab : List ℕ) (i k : ℕ) → i ≤ k → k < length ss → Suffixes life end first ss ps fs tab 0
-      → changesIn life first ss ps fs tab i k ≡ changesAt life end (markOf first ss i) (offerAt ss ps fs k) (drop (suc k) (offers ss ps fs))
+      → changesByTable life first ss ps fs tab i k ≡ changesAt life end (markOf first ss i) (offerAt ss ps fs k) (drop (suc k) (offers ss ps fs))
   changes-read tab i k l h s =
-      ap (λ (t : Bool). lowerThan (ofCode (getD tab (cell (k + 1) i) 0)) (pick (t && within life (markOf first ss i) (getD ss k (pos 0))) (plus (getD ps k 0) (ofCode (getD tab (cell (k + 1) (k + 1)) 0))) Missing)) (there fs k false true (omega arith)) ∙
-      ap₂ (λ (x y : Bound). lowerThan x (pick (getD fs k true && within life (markOf first ss i) (getD ss k (pos 0))) (plus (getD ps k 0) y) Missing)) (read i (omega arith)) (read (k + 1) (omega arith) ∙ ap (λ (n : ℕ). leastOf life end (markOf first ss n) (rest (suc k))) (add-one k))
+      ap (λ (t : Bool). lowerThan (ofCode (getD tab (cell (k + 1) i) 0)) (cond (t && within life (markOf first ss i) (getD ss k (pos 0))) (plus (getD ps k 0) (ofCode (getD tab (cell (k + 1) (k + 1)) 0))) Missing)) (there fs k false true (omega arith)) ∙
+      ap₂ (λ (x y : Bound). lowerThan x (cond (getD fs k true && within life (markOf first ss i) (getD ss k (pos 0))) (plus (getD ps k 0) y) Missing)) (read i (omega arith)) (read (k + 1) (omega arith) ∙ ap (λ (n : ℕ). leastOf life end (markOf first ss n) (rest (suc k))) (add-one k))
     where
       read : (x : ℕ) → x ≤ k + 1 → ofCode (getD tab (cell (k + 1) x) 0) ≡ leastOf life end (markOf first ss x) (rest (suc k))
       read x g = row-read tab 0 (k + 1) x (omega arith) (omega arith) g s ∙ ap (λ (n : ℕ). leastOf life end (markOf first ss x) (rest n)) (add-one k)

@@ -1,7 +1,7 @@
 -- The least price and the choice over the openings from k on, from those over the openings from k + 1 on: by unfolding one opening.
 use Prim.Native.Nat.{ℕ, zero, suc, _+_, _-_, _<_, _≤_}
 use mathlib.Core.Path.{_≡_, refl, sym, ap, ap₂, _∙_}
-use mathlib.Core.Bool.{Bool, true, false}
+use mathlib.Core.Bool.{Bool, true, false, cond}
 use mathlib.Core.List.{List, [], _∷_, _++_, append-nil}
 use native.Mathlib.Omega.{arith}
 use native.Mathlib.Numerals.{add-one}
@@ -10,7 +10,7 @@ use lib.Seq.{append-snoc, take-suc-set, drop-set-lt, drop-drop}
 use lib.IntN.{ℤ, pos}
 use Rattle.branch.specs.declared.Bound.the-variants.{Missing, Sum}
 use Rattle.model.specs.Model.{within}
-use Rattle.model.specs.LowerBound.{Offer, pick, lower, lowerThan, changeAt, leastOf, choiceOf, offers}
+use Rattle.model.specs.LowerBound.{Offer, lower, lowerThan, changeAt, leastOf, choiceOf, offers}
 use Rattle.model.proofs.Bools.{after-one}
 use Rattle.least.specs.Marks.{markOf}
 
@@ -33,16 +33,16 @@ pub least-cons : (life end prev : ℤ) (l : List Offer) (o : Offer) (os : List O
 unfolding leastOf
 least-cons life end prev l o os e = ap (leastOf life end prev) e
 
-pub least-nil : (life end prev : ℤ) (l : List Offer) → l ≡ [] → leastOf life end prev l ≡ pick (within life prev end) (Sum 0) Missing
+pub least-nil : (life end prev : ℤ) (l : List Offer) → l ≡ [] → leastOf life end prev l ≡ cond (within life prev end) (Sum 0) Missing
 unfolding leastOf
 least-nil life end prev l e = ap (leastOf life end prev) e
 
 -- the mark after opening k: its own where the part is changed
-pub mark-next : (first : ℤ) (ss : List ℤ) (b : Bool) (k i m : ℕ) → m ≡ pick b (k + 1) i → markOf first ss m ≡ pick b (getD ss k (pos 0)) (markOf first ss i)
+pub mark-next : (first : ℤ) (ss : List ℤ) (b : Bool) (k i m : ℕ) → m ≡ cond b (k + 1) i → markOf first ss m ≡ cond b (getD ss k (pos 0)) (markOf first ss i)
 mark-next first ss true k i m e = ap (markOf first ss) (e ∙ add-one k)
 mark-next first ss false k i m e = ap (markOf first ss) e
 
-pub mark-below : (b : Bool) (k i m : ℕ) → i ≤ k → m ≡ pick b (k + 1) i → m ≤ k + 1
+pub mark-below : (b : Bool) (k i m : ℕ) → i ≤ k → m ≡ cond b (k + 1) i → m ≤ k + 1
 mark-below true k i m h e = omega arith
 mark-below false k i m h e = omega arith
 
@@ -52,15 +52,15 @@ mark-below false k i m h e = omega arith
 abbrev pub changesAt : ℤ → ℤ → ℤ → Offer → List Offer → Bool
 changesAt life end prev o os = lowerThan (leastOf life end prev os) (changeAt life prev o (leastOf life end (o .position) os))
 
-choice-pick : (life end prev : ℤ) (o : Offer) (os : List Offer) (t : Bool)
-    → pick t (true ∷ choiceOf life end (o .position) os) (false ∷ choiceOf life end prev os) ≡ t ∷ choiceOf life end (pick t (o .position) prev) os
-choice-pick life end prev o os true = refl
-choice-pick life end prev o os false = refl
+choice-cond : (life end prev : ℤ) (o : Offer) (os : List Offer) (t : Bool)
+    → cond t (true ∷ choiceOf life end (o .position) os) (false ∷ choiceOf life end prev os) ≡ t ∷ choiceOf life end (cond t (o .position) prev) os
+choice-cond life end prev o os true = refl
+choice-cond life end prev o os false = refl
 
 pub choice-cons : (life end prev : ℤ) (l : List Offer) (o : Offer) (os : List Offer) → l ≡ o ∷ os
-    → choiceOf life end prev l ≡ changesAt life end prev o os ∷ choiceOf life end (pick (changesAt life end prev o os) (o .position) prev) os
+    → choiceOf life end prev l ≡ changesAt life end prev o os ∷ choiceOf life end (cond (changesAt life end prev o os) (o .position) prev) os
 unfolding choiceOf
-choice-cons life end prev l o os e = ap (choiceOf life end prev) e ∙ choice-pick life end prev o os (changesAt life end prev o os)
+choice-cons life end prev l o os e = ap (choiceOf life end prev) e ∙ choice-cond life end prev o os (changesAt life end prev o os)
 
 -- the choice so far is the front of out, and what follows is the choice from k on, after prev; past k out has no change
 pub record Chosen (life end first : ℤ) (os : List Offer) (prev : ℤ) (out : List Bool) (k : ℕ) : Type 0 where
@@ -78,10 +78,10 @@ drop-one n l e h =
 
 pub chosen-more : (life end first : ℤ) (os : List Offer) (prev : ℤ) (out : List Bool) (k : ℕ) (o : Offer) → k < 64
     → drop k os ≡ o ∷ drop (suc k) os → Chosen life end first os prev out k
-    → let b = changesAt life end prev o (drop (suc k) os) in Chosen life end first os (pick b (o .position) prev) (set out k b) (k + 1)
+    → let b = changesAt life end prev o (drop (suc k) os) in Chosen life end first os (cond b (o .position) prev) (set out k b) (k + 1)
 chosen-more life end first os prev out k o h e c =
     let b = changesAt life end prev o (drop (suc k) os) in
-    let next = choiceOf life end (pick b (o .position) prev) (drop (suc k) os) in
+    let next = choiceOf life end (cond b (o .position) prev) (drop (suc k) os) in
     record {
       size = length-set out k b ∙ c .size;
       front =
@@ -89,7 +89,7 @@ chosen-more life end first os prev out k o h e c =
           ∙ ap (λ (l : List Bool). take k out ++ l) (choice-cons life end prev (drop k os) o (drop (suc k) os) e)
           ∙ sym (append-snoc (take k out) b next)
           ∙ ap (λ (l : List Bool). l ++ next) (sym (take-suc-set out k b (omega (arith, c .size))))
-          ∙ ap (λ (n : ℕ). take n (set out k b) ++ choiceOf life end (pick b (o .position) prev) (drop n os)) (sym (add-one k));
+          ∙ ap (λ (n : ℕ). take n (set out k b) ++ choiceOf life end (cond b (o .position) prev) (drop n os)) (sym (add-one k));
       back =
           drop-set-lt (k + 1) out k b (omega arith)
           ∙ sym (drop-drop 1 k out)
@@ -99,7 +99,7 @@ chosen-more life end first os prev out k o h e c =
 
 -- the same, with what the code holds
 pub chosen-next : (life end first : ℤ) (os : List Offer) (prev : ℤ) (out : List Bool) (k : ℕ) (o : Offer) (b : Bool) (q : ℤ) → k < 64
-    → drop k os ≡ o ∷ drop (suc k) os → b ≡ changesAt life end prev o (drop (suc k) os) → q ≡ pick b (o .position) prev
+    → drop k os ≡ o ∷ drop (suc k) os → b ≡ changesAt life end prev o (drop (suc k) os) → q ≡ cond b (o .position) prev
     → Chosen life end first os prev out k → Chosen life end first os q (set out k b) (k + 1)
 chosen-next life end first os prev out k o b q h e eb eq c = rw (eq, eb) (chosen-more life end first os prev out k o h e c)
 

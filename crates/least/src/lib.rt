@@ -1,17 +1,18 @@
 // One part over the openings that are allowed to it: its least price and the change set that the tie rule takes.
 // Positions are signed; the change before the first opening stands at or below zero.
 ghost use mathlib.Core.Path.{_≡_};
-ghost use mathlib.Core.Bool.{false, _&&_};
+ghost use mathlib.Core.Bool.{false, _&&_, cond};
 ghost use mathlib.Core.List.{_++_};
-ghost use Prim.Native.Nat.{ℕ, _+_, _-_, _<_, _≤_};
+ghost use Prim.Native.Nat.{_+_, _-_, _<_, _≤_};
 ghost use lib.IntN.{ℤ, pos, _-ℤ_};
 ghost use lib.ListN.{length, replicate};
 ghost use mir.Syntax.{w32};
 ghost use mir.Val.{SFits};
 ghost use Rattle.model.specs.Model.{within};
-ghost use Rattle.model.specs.LowerBound.{pick, plus, lower, lowerThan, leastOf, choiceOf, offers};
-ghost use Rattle.least.specs.Marks.{markOf, Small, Given};
-ghost use Rattle.least.specs.Suffix.{tableSize, codeOf, ofCode, changesIn, rowOf, endOf, Rowed, Suffixes};
+ghost use Rattle.model.specs.LowerBound.{plus, lower, lowerThan, leastOf, choiceOf, offers};
+ghost use Rattle.least.specs.Marks.{markOf, Bits31};
+ghost use Rattle.least.specs.Filled.{FilledBy};
+ghost use Rattle.least.specs.Suffix.{cell, codeOf, ofCode, changesByTable, rowOf, endOf, Room, OnePart, PartUntil, Suffixes};
 use branch::Bound;
 
 // A row of the suffix table has an entry for the first life and one for each opening.
@@ -61,8 +62,8 @@ fn lesser(a: Bound, b: Bound) -> Bound
 
 // The price with a change at an opening, where a change there with what follows costs `chg`.
 pub fn change_at(life: i32, prev: i32, position: i32, allowed: bool, chg: Bound) -> Bound
-    requires { ⌜ (Small prev) × (Small position) ⌝ }
-    ensures { λ r. ⌜ r ≡ pick (allowed && within life prev position) chg Bound.Missing ⌝ }
+    requires { ⌜ SFits w32 (position -ℤ prev) ⌝ }
+    ensures { λ r. ⌜ r ≡ cond (allowed && within life prev position) chg Bound.Missing ⌝ }
 {
     if allowed {
         if in_reach(life, prev, position) {
@@ -77,16 +78,16 @@ pub fn change_at(life: i32, prev: i32, position: i32, allowed: bool, chg: Bound)
 
 // What an opening leaves of the least price: without a change `skip`, with one `chg`.
 fn at_opening(life: i32, prev: i32, position: i32, allowed: bool, skip: Bound, chg: Bound) -> Bound
-    requires { ⌜ (Small prev) × (Small position) ⌝ }
-    ensures { λ r. ⌜ r ≡ lower skip (pick (allowed && within life prev position) chg Bound.Missing) ⌝ }
+    requires { ⌜ SFits w32 (position -ℤ prev) ⌝ }
+    ensures { λ r. ⌜ r ≡ lower skip (cond (allowed && within life prev position) chg Bound.Missing) ⌝ }
 {
     lesser(skip, change_at(life, prev, position, allowed, chg))
 }
 
 // What is left to pay with no opening left: nothing, or there is no way.
 fn at_end(life: i32, end: i32, prev: i32) -> Bound
-    requires { ⌜ (Small prev) × (Small end) ⌝ }
-    ensures { λ r. ⌜ r ≡ pick (within life prev end) (Bound.Sum 0) Bound.Missing ⌝ }
+    requires { ⌜ SFits w32 (end -ℤ prev) ⌝ }
+    ensures { λ r. ⌜ r ≡ cond (within life prev end) (Bound.Sum 0) Bound.Missing ⌝ }
 {
     if in_reach(life, prev, end) {
         Bound::Sum(0)
@@ -137,8 +138,8 @@ fn dearer(price: u32, a: u64) -> Bound
 
 // The table's row past the last opening.
 fn fill_end(life: i32, end: i32, first: i32, positions: &[i32], tab: &mut [u64])
-    requires { ⌜ (tableSize ≤ length (now tab)) × (length (now positions) ≤ 64) × (Small end) × ((i : ℕ) → Small (markOf first (now positions) i)) ⌝ }
-    ensures { λ _. ⌜ Rowed (endOf life end first (now (positions .entry))) (now (tab .entry)) (now (tab .exit)) (length (now (positions .entry))) (length (now (positions .entry)) + 1) ⌝ }
+    requires { ⌜ (Room first (now positions) (now tab)) × (Bits31 end) ⌝ }
+    ensures { λ _. ⌜ FilledBy (cell (length (now (positions .entry)))) (endOf life end first (now (positions .entry))) (length (now (positions .entry)) + 1) (now (tab .entry)) (now (tab .exit)) ⌝ }
 {
     let n = positions.len();
     let mut i = 0;
@@ -159,8 +160,8 @@ fn fill_row(
     chg: Bound,
     tab: &mut [u64],
 )
-    requires { ⌜ (tableSize ≤ length (now tab)) × (j < length (now positions)) × (length (now positions) ≤ 64) × ((i : ℕ) → Small (markOf first (now positions) i)) ⌝ }
-    ensures { λ _. ⌜ Rowed (rowOf life first (now (positions .entry)) j allowed chg (now (tab .entry))) (now (tab .entry)) (now (tab .exit)) j (j + 1) ⌝ }
+    requires { ⌜ (Room first (now positions) (now tab)) × (j < length (now positions)) ⌝ }
+    ensures { λ _. ⌜ FilledBy (cell j) (rowOf life first (now (positions .entry)) j allowed chg (now (tab .entry))) (j + 1) (now (tab .entry)) (now (tab .exit)) ⌝ }
 {
     let position = positions[j];
     let mut i = 0;
@@ -182,7 +183,7 @@ pub fn fill(
     allowed: &[bool],
     tab: &mut [u64],
 )
-    requires { ⌜ (tableSize ≤ length (now tab)) × (Small end) × (Given first (now positions) (now prices) (now allowed)) ⌝ }
+    requires { ⌜ PartUntil end first (now positions) (now prices) (now allowed) (now tab) ⌝ }
     ensures { λ _. ⌜ Suffixes life end first (now (positions .entry)) (now (prices .entry)) (now (allowed .entry)) (now (tab .exit)) 0 ⌝ }
 {
     fill_end(life, end, first, positions, tab);
@@ -205,7 +206,7 @@ pub fn least(
     allowed: &[bool],
     tab: &mut [u64],
 ) -> Bound
-    requires { ⌜ (tableSize ≤ length (now tab)) × (Small end) × (Given first (now positions) (now prices) (now allowed)) ⌝ }
+    requires { ⌜ PartUntil end first (now positions) (now prices) (now allowed) (now tab) ⌝ }
     ensures { λ r. ⌜ r ≡ leastOf life end first (offers (now (positions .entry)) (now (prices .entry)) (now (allowed .entry))) ⌝ }
 {
     fill(life, end, first, positions, prices, allowed, tab);
@@ -223,8 +224,8 @@ fn changes(
     i: usize,
     k: usize,
 ) -> bool
-    requires { ⌜ (tableSize ≤ length (now tab)) × (i ≤ k) × (k < length (now positions)) × (Given first (now positions) (now prices) (now allowed)) ⌝ }
-    ensures { λ r. ⌜ r ≡ changesIn life first (now (positions .entry)) (now (prices .entry)) (now (allowed .entry)) (now (tab .entry)) i k ⌝ }
+    requires { ⌜ (OnePart first (now positions) (now prices) (now allowed) (now tab)) × (i ≤ k) × (k < length (now positions)) ⌝ }
+    ensures { λ r. ⌜ r ≡ changesByTable life first (now (positions .entry)) (now (prices .entry)) (now (allowed .entry)) (now (tab .entry)) i k ⌝ }
 {
     let skip = bound(tab[(k + 1) * MARKS + i]);
     let rest = tab[(k + 1) * MARKS + (k + 1)];
@@ -244,7 +245,7 @@ fn changes(
 // The last change after opening k: its own mark where the part is changed.
 fn next_mark(changed: bool, k: usize, i: usize) -> usize
     requires { ⌜ k < 64 ⌝ }
-    ensures { λ r. ⌜ r ≡ pick changed (k + 1) i ⌝ }
+    ensures { λ r. ⌜ r ≡ cond changed (k + 1) i ⌝ }
 {
     if changed { k + 1 } else { i }
 }
@@ -258,7 +259,7 @@ fn chosen(
     allowed: &[bool],
     tab: &[u64],
 ) -> [bool; 64]
-    requires { ⌜ (tableSize ≤ length (now tab)) × (Given first (now positions) (now prices) (now allowed)) ⌝ }
+    requires { ⌜ OnePart first (now positions) (now prices) (now allowed) (now tab) ⌝ }
     ensures { λ r. ⌜ ((end : ℤ) → Suffixes life end first (now (positions .entry)) (now (prices .entry)) (now (allowed .entry)) (now (tab .entry)) 0
         → r ≡ choiceOf life end first (offers (now (positions .entry)) (now (prices .entry)) (now (allowed .entry))) ++ replicate (64 - length (now (positions .entry))) false) ⌝ }
 {
@@ -284,7 +285,7 @@ pub fn choice(
     allowed: &[bool],
     tab: &mut [u64],
 ) -> [bool; 64]
-    requires { ⌜ (tableSize ≤ length (now tab)) × (Small end) × (Given first (now positions) (now prices) (now allowed)) ⌝ }
+    requires { ⌜ PartUntil end first (now positions) (now prices) (now allowed) (now tab) ⌝ }
     ensures { λ r. ⌜ r ≡ choiceOf life end first (offers (now (positions .entry)) (now (prices .entry)) (now (allowed .entry))) ++ replicate (64 - length (now (positions .entry))) false ⌝ }
 {
     fill(life, end, first, positions, prices, allowed, tab);

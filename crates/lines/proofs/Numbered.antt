@@ -10,7 +10,8 @@ use lib.Dec.{leb}
 use lib.ListN.{length, length-drop}
 use Rattle.lines.specs.Line.{startsWith}
 use borrow.Author.Tests.{leb-true}
-use Rattle.lines.specs.Parser.{Parsed, good, fault, Parser, _>>=_, return, readField, taken, rowAt, optionalAt, checked, chain, times, end as ends, refused, finish, whole, readText}
+use Rattle.lines.specs.Parser.{Parsed, good, fault, Parser, _>>=_, return, readField, taken, rowAt, optionalAt, ifPresent, checked, chain, times, end as ends, refused, finish, whole, readText}
+use Rattle.lines.specs.Text.{Optional, missing, present}
 use Rattle.lines.specs.declared.read.Field.{Field}
 use Rattle.lines.specs.declared.read.Field.the-variants.{Value, Fault}
 use Rattle.lines.proofs.Reading.{InField, field-in}
@@ -33,14 +34,6 @@ module _ (P : ℕ → Type 0) where
       go (Value v n) h = omega (arith, length-drop n s)
       go (Fault k) (inl e) = (subst P (sym e) two, omega arith)
       go (Fault k) (inr e) = (subst P (sym e) three, omega arith)
-
-  pub optional-numbers : P 2 → P 3 → (key : List ℕ) (lo hi : ℕ) → Numbers P (optionalAt key lo hi)
-  unfolding optionalAt
-  optional-numbers two three key lo hi s l = go (startsWith key s)
-    where
-      go : (t : Bool) → NumberIn {A = ℕ} P (length s) l (elim t [ true ↦ rowAt key lo hi s l | false ↦ good 0 s l ])
-      go true = row-numbers two three key lo hi s l
-      go false = omega arith
 
   pub checked-numbers : (k : ℕ) → P k → (ok : ℕ → Bool) (p : Parser ℕ) → Numbers P p → Numbers P (checked k ok p)
   unfolding checked
@@ -69,6 +62,19 @@ module _ (P : ℕ → Type 0) where
   pub return-numbers : {A : Type 0} (a : A) → Numbers P (return a)
   unfolding return
   return-numbers a s l = omega arith
+
+  pub optional-numbers : P 2 → P 3 → (key : List ℕ) (lo hi : ℕ) → Numbers P (optionalAt key lo hi)
+  unfolding optionalAt
+  optional-numbers two three key lo hi s l = go (startsWith key s)
+    where
+      go : (t : Bool) → NumberIn {A = Optional ℕ} P (length s) l (elim t [ true ↦ (rowAt key lo hi >>= λ v. return (present v)) s l | false ↦ good missing s l ])
+      go true = bind-numbers (rowAt key lo hi) _ (row-numbers two three key lo hi) (λ v. return-numbers (present v)) s l
+      go false = omega arith
+
+  pub present-numbers : {A B : Type 0} (f : A → Parser B) → ((a : A) → Numbers P (f a)) → (o : Optional A) → Numbers P (ifPresent f o)
+  unfolding ifPresent
+  present-numbers f h missing = return-numbers missing
+  present-numbers f h (present a) = bind-numbers (f a) _ (h a) (λ b. return-numbers (present b))
 
   pub chain-numbers : {A : Type 0} (p : ℕ → Parser A) (next : A → ℕ) → ((k : ℕ) → Numbers P (p k)) → (n before : ℕ) → Numbers P (chain p next n before)
   unfolding chain

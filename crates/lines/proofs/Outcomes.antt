@@ -4,11 +4,11 @@ use mathlib.Core.Path.{_≡_, sym, ap, _∙_}
 use native.Mathlib.Omega.{arith}
 use Rattle.lines.specs.Parser.{Outcome, accepted, refused}
 use Rattle.lines.specs.Cursor.{judged}
-use Rattle.lines.specs.declared.rows.Verdict.{Verdict}
+use Rattle.lines.specs.declared.rows.WholeText.{WholeText}
 
 module _ {A : Type 0} {x : Outcome A} where
-  pub told : (a : A) {v w : Verdict} → judged v a ≡ x → v ≡ w → x ≡ judged w a
-  told a e h = sym e ∙ ap (λ (v : Verdict). judged v a) h
+  pub told : (a : A) {v w : WholeText} → judged v a ≡ x → v ≡ w → x ≡ judged w a
+  told a e h = sym e ∙ ap (λ (v : WholeText). judged v a) h
 
   pub one-value : {a b : A} → x ≡ accepted a → x ≡ accepted b → b ≡ a
   one-value {a} {b} e f = let y : accepted b ≡ accepted a = sym f ∙ e in cc

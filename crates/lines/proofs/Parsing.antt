@@ -6,18 +6,21 @@ use mathlib.Core.Bool.{Bool, true, false}
 use native.Mathlib.Omega.{arith}
 use native.Mathlib.Decide.{decLt}
 use native.Mathlib.Nat.{sub-zero}
-use lib.ListN.{length, drop, length-drop, drop-of-length-le}
+use lib.ListN.{length, take, drop, length-drop, drop-of-length-le}
 use lib.Seq.{drop-drop}
 use borrow.Author.Tests.{le-leb, lt-leb, lt-ltb, le-ltb}
-use Rattle.lines.specs.Parser.{Parsed, good, fault, Parser, _>>=_, return, readField, taken, rowAt, optionalAt, checked, chain, end as ends, rising, upTo, refused, finish, whole, readText}
+use Rattle.lines.specs.Parser.{Parsed, good, fault, Parser, _>>=_, return, readField, taken, rowAt, optionalField, optionalAt, checked, chain, end as ends, rising, upTo, refused, finish, whole, readText}
 use Rattle.lines.specs.Line.{startsWith}
-use Rattle.lines.specs.Cursor.{Answer, got, no-good, Stands, Stood, Reads, parsed, ended, closed, judged}
+use Rattle.lines.specs.Text.{missing, present}
+use Rattle.lines.specs.Cursor.{ReadAt, got, no-good, Stands, Inside, Stood, Reads, parsed, ended, closed, judged}
 use Rattle.lines.specs.declared.rows.End.{End}
 use Rattle.lines.specs.declared.rows.End.the-variants as end
 use Rattle.lines.specs.declared.read.Field.{Field}
 use Rattle.lines.specs.declared.read.Field.the-variants.{Value, Fault}
+use Rattle.lines.specs.declared.read.OptionalField.{OptionalField}
+use Rattle.lines.specs.declared.read.OptionalField.the-variants.{There, Missing}
 use Rattle.lines.specs.declared.rows.Cursor.{Cursor}
-use Rattle.lines.proofs.Reading.{InField, field-in, drop-step}
+use Rattle.lines.proofs.Reading.{InField, field-in, rest-of, drop-step}
 
 -- the first of two parsers decides
 pub bind-good : {A B : Type 0} (p : Parser A) (f : A → Parser B) {s s′ : List ℕ} {l l′ : ℕ} {a : A} → p s l ≡ good a s′ l′ → (p >>= f) s l ≡ f a s′ l′
@@ -28,15 +31,31 @@ pub bind-fault : {A B : Type 0} (p : Parser A) (f : A → Parser B) {s : List �
 unfolding _>>=_
 bind-fault p f e = rw (_>>=_, e)
 
--- a row at a place of the text, by its field
-module _ (key s : List ℕ) (lo hi at l : ℕ) where
-  pub row-good : {v n : ℕ} → readField key lo hi (drop at s) ≡ Value v n → good v (drop (at + n) s) (l + 1) ≡ rowAt key lo hi (drop at s) l
-  unfolding rowAt taken
-  row-good {v} {n} e = sym (ap (taken (drop at s) l) e ∙ ap (λ (r : List ℕ). good v r (l + 1)) (drop-drop n at s))
+-- a line at a place of the text, by its field
+module _ (s : List ℕ) (at l : ℕ) where
+  pub taken-good : (v n : ℕ) → good v (drop (at + n) s) (l + 1) ≡ taken (drop at s) l (Value v n)
+  unfolding taken
+  taken-good v n = ap (λ (r : List ℕ). good v r (l + 1)) (sym (drop-drop n at s))
 
-  pub row-fault : {k : ℕ} → readField key lo hi (drop at s) ≡ Fault k → fault k l ≡ rowAt key lo hi (drop at s) l
-  unfolding rowAt taken
-  row-fault e = sym (ap (taken (drop at s) l) e)
+  pub taken-fault : (k : ℕ) → fault k l ≡ taken (drop at s) l (Fault k)
+  unfolding taken
+  taken-fault k = refl
+
+-- a line read from the part of the text that begins at a cursor: it ends in the text, and the cursor set behind it reads on in the whole text
+module _ (key : List ℕ) (lo hi : ℕ) (s : List ℕ) (p : Cursor) {f : Field} (stands : Stands s p) (e : f ≡ readField key lo hi (take (length s - p .at) (drop (p .at) s))) where
+  field-is : f ≡ readField key lo hi (drop (p .at) s)
+  field-is = e ∙ ap (readField key lo hi) (rest-of s (p .at))
+
+  pub row-inside : Inside s p f
+  row-inside = subst (Inside s p) (sym field-is) (go (readField key lo hi (drop (p .at) s)) (field-in key (drop (p .at) s) lo hi))
+    where
+      go : (g : Field) → InField lo hi (length (drop (p .at) s)) g → Inside s p g
+      go (Value v n) h = (h .0, omega (arith, h, stands, length-drop (p .at) s))
+      go (Fault k) h = tt
+
+  pub row-reads : {r : ReadAt ℕ} → Reads s r (taken (drop (p .at) s) (p .line) f) → Reads s r (rowAt key lo hi (drop (p .at) s) (p .line))
+  unfolding rowAt
+  row-reads {r} h = subst (λ (g : Field). Reads s r (taken (drop (p .at) s) (p .line) g)) field-is h
 
 -- a row's value is in its range
 abbrev pub InRow : ℕ → ℕ → Parsed ℕ → Type 0
@@ -53,17 +72,52 @@ row-in key lo hi s l = go (readField key lo hi s) (field-in key s lo hi)
 
 -- a line that may be missing, by whether its key stands there
 module _ (key : List ℕ) (lo hi : ℕ) (s : List ℕ) (l : ℕ) where
-  pub optional-there : startsWith key s ≡ true → optionalAt key lo hi s l ≡ rowAt key lo hi s l
+  pub optional-there : startsWith key s ≡ true → optionalAt key lo hi s l ≡ (rowAt key lo hi >>= λ v. return (present v)) s l
   unfolding optionalAt
   optional-there e = rw (optionalAt, e)
 
-  pub optional-missing : startsWith key s ≡ false → optionalAt key lo hi s l ≡ good 0 s l
+  pub optional-missing : startsWith key s ≡ false → optionalAt key lo hi s l ≡ good missing s l
   unfolding optionalAt
   optional-missing e = rw (optionalAt, e)
 
+  -- and by the code's answer
+  pub field-missing : optionalField key lo hi s ≡ Missing → optionalAt key lo hi s l ≡ good missing s l
+  unfolding optionalField
+  field-missing f = go (startsWith key s) refl
+    where
+      go : (t : Bool) → startsWith key s ≡ t → optionalAt key lo hi s l ≡ good missing s l
+      go true e =
+          let y : There (readField key lo hi s) ≡ Missing = rw (optionalField, e) at f in
+          let z : _≡_ {A = ℕ} 0 1 = cc in
+          absurd (omega arith)
+      go false e = optional-missing e
+
+  pub field-there : {g : Field} → optionalField key lo hi s ≡ There g → (g ≡ readField key lo hi s) × (optionalAt key lo hi s l ≡ (rowAt key lo hi >>= λ v. return (present v)) s l)
+  unfolding optionalField
+  field-there {g} f = go (startsWith key s) refl
+    where
+      go : (t : Bool) → startsWith key s ≡ t → (g ≡ readField key lo hi s) × (optionalAt key lo hi s l ≡ (rowAt key lo hi >>= λ v. return (present v)) s l)
+      go true e = let y : There (readField key lo hi s) ≡ There g = rw (optionalField, e) at f in (cc, optional-there e)
+      go false e =
+          let y : Missing ≡ There g = rw (optionalField, e) at f in
+          let z : _≡_ {A = ℕ} 0 1 = cc in
+          absurd (omega arith)
+
+-- read from the part of the text that begins at a cursor
+module _ (key : List ℕ) (lo hi : ℕ) (s : List ℕ) (p : Cursor) {o : OptionalField} (e : o ≡ optionalField key lo hi (take (length s - p .at) (drop (p .at) s))) where
+  pub optional-row : {f : Field} → o ≡ There f
+      → (f ≡ readField key lo hi (take (length s - p .at) (drop (p .at) s)))
+      × (optionalAt key lo hi (drop (p .at) s) (p .line) ≡ (rowAt key lo hi >>= λ v. return (present v)) (drop (p .at) s) (p .line))
+  optional-row h =
+      let r = field-there key lo hi _ (p .line) (sym e ∙ h) in
+      (r .0, rw rest-of at (r .1))
+
+  pub optional-none : o ≡ Missing → optionalAt key lo hi (drop (p .at) s) (p .line) ≡ good missing (drop (p .at) s) (p .line)
+  optional-none h = rw rest-of at (field-missing key lo hi _ (p .line) (sym e ∙ h))
+
 -- the place after a row of n bytes
-pub stands-after : (s : List ℕ) (p : Cursor) (n : ℕ) → Stands s p → 1 ≤ n → n ≤ length (drop (p .at) s) → Stands s (record { at = p .at + n; line = p .line + 1 })
-stands-after s p n h l m = record { inside = omega (arith, h, length-drop (p .at) s); lines = omega (arith, h) }
+pub stands-after : (s : List ℕ) (p : Cursor) (n : ℕ) → Stands s p → 1 ≤ n → p .at + n ≤ length s → Stands s (record { at = p .at + n; line = p .line + 1 })
+stands-after s p n h l m = record { inside = m; lines = omega (arith, h) }
 
 -- a further rule
 module _ (k : ℕ) (ok : ℕ → Bool) (p : Parser ℕ) (s : List ℕ) (l : ℕ) where
@@ -95,7 +149,7 @@ pub upTo-not : (m v : ℕ) → m < v → upTo m v ≡ false
 upTo-not m v h = lt-leb v m h
 
 -- what an answer of the code says once it is known
-module _ {A : Type 0} {s : List ℕ} {r : Answer A} {x : Parsed A} where
+module _ {A : Type 0} {s : List ℕ} {r : ReadAt A} {x : Parsed A} where
   pub got-value : {v : A} {q : Cursor} → Reads s r x → r ≡ got v q → x ≡ good v (drop (q .at) s) (q .line)
   got-value h e = sym (h .is) ∙ ap (parsed s) e
 
@@ -173,7 +227,7 @@ map-read f p (end.At q) a h = record { is = sym (bind-good p _ (sym (h .is))); s
 map-read f p (end.Fault k m) a h = record { is = sym (bind-fault p _ (sym (h .is))); stands = tt }
 
 -- a row's value is at most its bound
-pub got-most : (key t : List ℕ) (lo hi l : ℕ) {s : List ℕ} {r : Answer ℕ} {v : ℕ} {q : Cursor} → Reads s r (rowAt key lo hi t l) → r ≡ got v q → v ≤ hi
+pub got-most : (key t : List ℕ) (lo hi l : ℕ) {s : List ℕ} {r : ReadAt ℕ} {v : ℕ} {q : Cursor} → Reads s r (rowAt key lo hi t l) → r ≡ got v q → v ≤ hi
 got-most key t lo hi l h e = subst (InRow lo hi) (got-value h e) (row-in key lo hi t l) .1
 
 -- whether anything follows

@@ -3,13 +3,12 @@ use Prim.Native.Nat.{ℕ, zero, suc, _+_, _≤_}
 use mathlib.Core.Path.{_≡_, refl, sym, ap, _∙_, subst}
 use mathlib.Core.List.{List, [], _∷_, _++_, append-assoc}
 use mathlib.Core.Bool.{Bool, true, false, _&&_}
-use mathlib.Core.Logic.{_⊎_, inl, inr}
 use native.Mathlib.Omega.{arith}
 use lib.Dec.{leb}
 use lib.ListN.{length, drop}
 use Rattle.lines.specs.Line.{startsWith, readLine}
-use Rattle.lines.specs.Parser.{Parsed, good, fault, Parser, _>>=_, return, inRange, readField, taken, rowAt, optionalAt, checked, chain, end as ends, accepted, finish, whole, readText}
-use Rattle.lines.specs.Text.{line, texts}
+use Rattle.lines.specs.Parser.{Parsed, good, fault, Parser, _>>=_, return, inRange, readField, taken, rowAt, optionalAt, ifPresent, checked, chain, end as ends, accepted, finish, whole, readText}
+use Rattle.lines.specs.Text.{line, texts, Optional, missing, present, optionalText}
 use Rattle.lines.specs.declared.read.Line.{Line}
 use Rattle.lines.specs.declared.read.Line.the-variants.{Value, Bad}
 use borrow.Author.Tests.{leb-true}
@@ -54,27 +53,33 @@ row-sound key lo hi s s′ l l′ a h = go (readLine key s) (line-written key s)
         pick false e = never (rw (inRange, e) at q)
     go Bad w q = never q
 
--- a line that may be missing: nothing is written for 0
-abbrev pub lineIf : List ℕ → ℕ → List ℕ
-lineIf key zero = []
-lineIf key (suc v) = line key (suc v)
+-- a line that may be missing: it is, or its row was read
+abbrev pub Optionally : List ℕ → ℕ → ℕ → List ℕ → List ℕ → ℕ → ℕ → Optional ℕ → Type 0
+Optionally key lo hi s s′ l l′ missing = s ≡ s′
+Optionally key lo hi s s′ l l′ (present v) = rowAt key lo hi s l ≡ good v s′ l′
 
-pub optional-sound : (key : List ℕ) (lo hi : ℕ) → 1 ≤ lo → Sound (optionalAt key lo hi) (lineIf key)
-optional-sound key lo hi low s s′ l l′ a h = go (startsWith key s) refl
+pub optional-inv : (key : List ℕ) (lo hi : ℕ) (s s′ : List ℕ) (l l′ : ℕ) (o : Optional ℕ) → optionalAt key lo hi s l ≡ good o s′ l′ → Optionally key lo hi s s′ l l′ o
+unfolding return
+optional-inv key lo hi s s′ l l′ o h = go (startsWith key s) refl
   where
-    written : (v : ℕ) → 1 ≤ v → s ≡ line key v ++ s′ → s ≡ lineIf key v ++ s′
-    written zero some e = absurd (omega arith)
-    written (suc v) some e = e
-
-    go : (t : Bool) → startsWith key s ≡ t → s ≡ lineIf key a ++ s′
+    go : (t : Bool) → startsWith key s ≡ t → Optionally key lo hi s s′ l l′ o
     go true e =
-        let r : rowAt key lo hi s l ≡ good a s′ l′ = sym (optional-there key lo hi s l e) ∙ h in
-        written a (omega (arith, subst (InRow lo hi) r (row-in key lo hi s l))) (row-sound key lo hi s s′ l l′ a r)
+        let b = bind-inv (rowAt key lo hi) _ s s′ l l′ o (sym (optional-there key lo hi s l e) ∙ h) in
+        let x : present (b .a) ≡ o = cc (b .second) in
+        let y : good (b .a) (b .mid) (b .at) ≡ good (b .a) s′ l′ = cc (b .second) in
+        subst (Optionally key lo hi s s′ l l′) x (b .first ∙ y)
     go false e =
-        let g : good 0 s l ≡ good a s′ l′ = sym (optional-missing key lo hi s l e) ∙ h in
-        let x : 0 ≡ a = cc in
+        let g : good missing s l ≡ good o s′ l′ = sym (optional-missing key lo hi s l e) ∙ h in
+        let x : missing ≡ o = cc in
         let y : s ≡ s′ = cc in
-        y ∙ ap (λ (v : ℕ). lineIf key v ++ s′) x
+        subst (Optionally key lo hi s s′ l l′) x y
+
+pub optional-sound : (key : List ℕ) (lo hi : ℕ) → Sound (optionalAt key lo hi) (optionalText (line key))
+optional-sound key lo hi s s′ l l′ o h = go o (optional-inv key lo hi s s′ l l′ o h)
+  where
+    go : (o : Optional ℕ) → Optionally key lo hi s s′ l l′ o → s ≡ optionalText (line key) o ++ s′
+    go missing e = e
+    go (present v) e = row-sound key lo hi s s′ l l′ v e
 
 pub checked-sound : (k : ℕ) (ok : ℕ → Bool) (p : Parser ℕ) (w : ℕ → List ℕ) → Sound p w → Sound (checked k ok p) w
 unfolding checked
@@ -114,23 +119,6 @@ Gives {A} p P = (s s′ : List ℕ) (l l′ : ℕ) (a : A) → p s l ≡ good a 
 
 pub row-gives : (key : List ℕ) (lo hi : ℕ) → Gives (rowAt key lo hi) (λ v. (lo ≤ v) × (v ≤ hi))
 row-gives key lo hi s s′ l l′ a e = subst (InRow lo hi) e (row-in key lo hi s l)
-
--- 0 for a missing line, or a value in its range
-pub optional-gives : (key : List ℕ) (lo hi : ℕ) → Gives (optionalAt key lo hi) (λ v. (v ≡ 0) ⊎ ((lo ≤ v) × (v ≤ hi)))
-optional-gives key lo hi s s′ l l′ a h = go (startsWith key s) refl
-  where
-    go : (t : Bool) → startsWith key s ≡ t → (a ≡ 0) ⊎ ((lo ≤ a) × (a ≤ hi))
-    go true e = inr (row-gives key lo hi s s′ l l′ a (sym (optional-there key lo hi s l e) ∙ h))
-    go false e =
-        let g : good 0 s l ≡ good a s′ l′ = sym (optional-missing key lo hi s l e) ∙ h in
-        inl cc
-
-pub optional-most : (key : List ℕ) (lo hi : ℕ) → Gives (optionalAt key lo hi) (λ v. v ≤ hi)
-optional-most key lo hi s s′ l l′ a h = go (optional-gives key lo hi s s′ l l′ a h)
-  where
-    go : (a ≡ 0) ⊎ ((lo ≤ a) × (a ≤ hi)) → a ≤ hi
-    go (inl e) = omega arith
-    go (inr r) = r .1
 
 pub checked-gives : (k : ℕ) (ok : ℕ → Bool) (p : Parser ℕ) (P : ℕ → Type 0) → Gives p P → Gives (checked k ok p) (λ v. P v × (ok v ≡ true))
 unfolding checked

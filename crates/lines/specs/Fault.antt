@@ -1,4 +1,4 @@
--- "The host also gets the line at fault, as it stands in its own text, up to its byte 10 or the text's end; empty for number 1, for a missing line".
+-- O8. "The host also gets the line at fault, as it stands in its own text, up to its byte 10 or the text's end; empty for number 1, for a missing line".
 use Prim.Native.Nat.{ℕ, zero, suc, _+_, _-_, _≤_}
 use mathlib.Core.Path.{_≡_}
 use mathlib.Core.List.{List, [], _∷_}

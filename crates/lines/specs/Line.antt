@@ -1,4 +1,4 @@
--- One line of a text, `key=value` and byte 10: what reading it at the front of a list of bytes gives.
+-- X1. One line of a text, `key=value` and byte 10: what reading it at the front of a list of bytes gives.
 use Prim.Native.Nat.{ℕ, _+_, _-_, _*_}
 use mathlib.Core.List.{List, [], _∷_}
 use mathlib.Core.Bool.{Bool, true, false, not, _&&_, _||_}
@@ -20,7 +20,7 @@ unfoldable pub numberFrom : ℕ → List ℕ → ℕ
 numberFrom v [] = v
 numberFrom v (d ∷ ds) = numberFrom (v * 10 + (d - 48)) ds
 
--- 1 to 10 digits, no leading zero, "0" itself allowed
+-- X2. 1 to 10 digits, no leading zero, "0" itself allowed
 abbrev pub plain : List ℕ → Bool
 plain ds = leb 1 (length ds) && leb (length ds) 10 && (eqb (length ds) 1 || not (eqb (getD ds 0 0) 48))
 

@@ -1,4 +1,4 @@
--- A number's last digits, zeros in front: what is left to write where some digits are written.
+-- E3.2. A number's last digits, zeros in front: what is left to write where some digits are written.
 use Prim.Native.Nat.{ℕ, zero, suc, _+_, _/_, _%_}
 use mathlib.Core.List.{List, [], _∷_, _++_}
 

@@ -10,8 +10,10 @@ use Rattle.lines.specs.declared.read.Line.{Line}
 use Rattle.lines.specs.declared.read.Line.the-variants as line
 use Rattle.lines.specs.declared.read.Field.{Field}
 use Rattle.lines.specs.declared.read.Field.the-variants.{Value, Fault}
+use Rattle.lines.specs.declared.read.OptionalField.{OptionalField}
+use Rattle.lines.specs.declared.read.OptionalField.the-variants.{Missing, There}
 use Rattle.lines.specs.Line.{startsWith, readLine}
-use Rattle.lines.specs.Text.{bytes}
+use Rattle.lines.specs.Text.{bytes, Optional, missing, present}
 
 pub data Parsed (A : Type 0) : Type 0 where
   good : A → List ℕ → ℕ → Parsed A
@@ -28,7 +30,7 @@ _>>=_ p f s l = elim (p s l) [ good a s′ l′ ↦ f a s′ l′ | fault n m �
 unfoldable pub return : {A : Type 0} → A → Parser A
 return a s l = good a s l
 
--- the range of a line's value: 2 before 3
+-- R2, R3, R20. the range of a line's value: 2 before 3
 unfoldable pub inRange : ℕ → ℕ → Line → Field
 inRange lo hi (line.Value v n) = elim (leb lo v && leb v hi) [ true ↦ Value v n | false ↦ Fault 3 ]
 inRange lo hi line.Bad = Fault 2
@@ -48,14 +50,25 @@ rowAt key lo hi s l = taken s l (readField key lo hi s)
 abbrev pub row : String → ℕ → ℕ → Parser ℕ
 row key lo hi = rowAt (bytes key) lo hi
 
--- a line `key=value` that may be missing: 0 stands for it where the text does not begin with the key, so lo is at least 1
-unfoldable pub optionalAt : List ℕ → ℕ → ℕ → Parser ℕ
-optionalAt key lo hi s l = elim (startsWith key s) [ true ↦ rowAt key lo hi s l | false ↦ good 0 s l ]
+-- the field at the front of the text if it begins with the key
+unfoldable pub optionalField : List ℕ → ℕ → ℕ → List ℕ → OptionalField
+optionalField key lo hi s = elim (startsWith key s) [ true ↦ There (readField key lo hi s) | false ↦ Missing ]
 
-abbrev pub optional : String → ℕ → ℕ → Parser ℕ
+-- E1.2. a line `key=value` that may be missing: it is where the text does not begin with the key
+unfoldable pub optionalAt : List ℕ → ℕ → ℕ → Parser (Optional ℕ)
+optionalAt key lo hi s l = elim (startsWith key s) [ true ↦ (rowAt key lo hi >>= λ v. return (present v)) s l | false ↦ good missing s l ]
+
+abbrev pub optional : String → ℕ → ℕ → Parser (Optional ℕ)
 optional key lo hi = optionalAt (bytes key) lo hi
 
--- p, and a further rule of its value whose fault k is on p's own line
+-- where a line is present, what follows it
+unfoldable pub ifPresent : {A B : Type 0} → (A → Parser B) → Optional A → Parser (Optional B)
+ifPresent f missing = return missing
+ifPresent f (present a) = do
+  b ← f a
+  return (present b)
+
+-- R20. p, and a further rule of its value whose fault k is on p's own line
 unfoldable pub checked : ℕ → (ℕ → Bool) → Parser ℕ → Parser ℕ
 checked k ok p s l = elim (p s l) [ good v s′ l′ ↦ elim (ok v) [ true ↦ good v s′ l′ | false ↦ fault k l ] | fault n m ↦ fault n m ]
 
@@ -84,18 +97,18 @@ abbrev pub finish : {A : Type 0} → Parsed A → Outcome A
 finish (good a s l) = accepted a
 finish (fault n l) = refused n l
 
--- these lines and nothing behind them: "bytes after the last line are the line after it"
+-- R2, R21. these lines and nothing behind them: "bytes after the last line are the line after it"
 unfoldable pub whole : {A : Type 0} → Parser A → Parser A
 whole p = do
   a ← p
   _ ← end
   return a
 
--- a text of at most so many bytes; a longer one is fault 1 with no line ("0 for number 1")
+-- R1, X7. a text of at most so many bytes; a longer one is fault 1 with no line ("0 for number 1")
 unfoldable pub readText : {A : Type 0} → ℕ → Parser A → List ℕ → Outcome A
 readText most p s = elim (leb (length s) most) [ true ↦ finish (whole p s 1) | false ↦ refused 1 0 ]
 
--- rules of values: after the one before and within a limit; at most a number
+-- X5, X6. rules of values: after the one before and within a limit; at most a number
 abbrev pub rising : ℕ → ℕ → ℕ → Bool
 rising before most v = ltb before v && leb v most
 

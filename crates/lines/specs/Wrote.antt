@@ -1,4 +1,4 @@
--- What a function that writes into a lent slice promises: "Bytes past the written length keep their values."
+-- What a function that writes into a lent slice promises: O11. "Bytes past the written length keep their values."
 use Prim.Native.Nat.{ℕ, _+_, _≤_}
 use mathlib.Core.Path.{_≡_}
 use mathlib.Core.List.{List}

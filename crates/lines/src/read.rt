@@ -2,19 +2,25 @@
 ghost use mathlib.Core.Path.{_≡_};
 ghost use Prim.Native.Nat.{_≤_};
 ghost use lib.ListN.{length};
-ghost use Rattle.lines.specs.Parser.{readField};
+ghost use Rattle.lines.specs.Parser.{readField, optionalField};
 ghost use Rattle.lines.specs.Line.{digits, numberFrom, startsWith, readLine, readValue};
 
 // A line that was read: its value and how many bytes it has; or a line that is not well formed.
 pub enum Line {
-    Value(u64, usize),
+    Value { value: u64, length: usize },
     Bad,
 }
 
 // A line whose value is in range, or the result number of its fault.
 pub enum Field {
-    Value(u32, usize),
+    Value { value: u32, length: usize },
     Fault(u32),
+}
+
+// A line that may be missing.
+pub enum OptionalField {
+    There(Field),
+    Missing,
 }
 
 // How many digits s begins with.
@@ -88,7 +94,10 @@ fn read_value(s: &[u8]) -> Line
             return Line::Bad;
         }
     }
-    Line::Value(number(s, n), n + 1)
+    Line::Value {
+        value: number(s, n),
+        length: n + 1,
+    }
 }
 
 // The line `key=value` at the front of s, which is the part of a text from a cursor on.
@@ -98,7 +107,13 @@ pub fn read_line(s: &[u8], key: &[u8]) -> Line
     if starts_with(s, key) {
         let k = key.len();
         match read_value(&s[k..]) {
-            Line::Value(v, n) => Line::Value(v, k + n),
+            Line::Value {
+                value: v,
+                length: n,
+            } => Line::Value {
+                value: v,
+                length: k + n,
+            },
             Line::Bad => Line::Bad,
         }
     } else {
@@ -111,15 +126,31 @@ pub fn read_field(s: &[u8], key: &[u8], lo: u32, hi: u32) -> Field
     ensures { λ r. ⌜ r ≡ readField (now (key .entry)) lo hi (now (s .entry)) ⌝ }
 {
     match read_line(s, key) {
-        Line::Value(v, n) => {
+        Line::Value {
+            value: v,
+            length: n,
+        } => {
             if v < (lo as u64) {
                 return Field::Fault(3);
             }
             if (hi as u64) < v {
                 return Field::Fault(3);
             }
-            Field::Value(v as u32, n)
+            Field::Value {
+                value: v as u32,
+                length: n,
+            }
         }
         Line::Bad => Field::Fault(2),
     }
+}
+
+// The line `key=value` that may be missing: it is where s does not begin with the key.
+pub fn read_optional(s: &[u8], key: &[u8], lo: u32, hi: u32) -> OptionalField
+    ensures { λ r. ⌜ r ≡ optionalField (now (key .entry)) lo hi (now (s .entry)) ⌝ }
+{
+    if starts_with(s, key) {
+        return OptionalField::There(read_field(s, key, lo, hi));
+    }
+    OptionalField::Missing
 }

@@ -1,5 +1,5 @@
--- 01's estimate of a point: the lower bound of a node of the search. And the plan of a full node.
-use mathlib.Core.Bool.{Bool, true, false, _&&_}
+-- W2. The estimate of a point: the lower bound of a node of the search. And the plan of a full node.
+use mathlib.Core.Bool.{Bool, true, false, _&&_, cond}
 use mathlib.Core.List.{List, [], _∷_, map}
 use Prim.Native.Nat.{ℕ, _+_}
 use lib.Dec.{ltb}
@@ -18,11 +18,6 @@ pub record Offer : Type 0 where
   pub price : ℕ
   pub allowed : Bool
 
--- a choice between two values
-abbrev pub pick : {A : Type 0} → Bool → A → A → A
-pick true a b = a
-pick false a b = b
-
 -- a price more
 abbrev pub plus : ℕ → Bound → Bound
 plus p Missing = Missing
@@ -36,28 +31,28 @@ lowerThan (Sum a) (Sum b) = ltb b a
 
 -- the lower of the two, and a where they are equal
 abbrev pub lower : Bound → Bound → Bound
-lower a b = pick (lowerThan a b) b a
+lower a b = cond (lowerThan a b) b a
 
 -- the price with a change at o, where the rest costs e
 abbrev pub changeAt : ℤ → ℤ → Offer → Bound → Bound
-changeAt life prev o e = pick (o .allowed && within life prev (o .position)) (plus (o .price) e) Missing
+changeAt life prev o e = cond (o .allowed && within life prev (o .position)) (plus (o .price) e) Missing
 
--- "the least price of a change set that keeps it": at each opening the lower of no change and a change
+-- W2. "the least price of a change set that keeps it": at each opening the lower of no change and a change
 unfoldable pub leastOf : ℤ → ℤ → ℤ → List Offer → Bound
-leastOf life end prev [] = pick (within life prev end) (Sum 0) Missing
+leastOf life end prev [] = cond (within life prev end) (Sum 0) Missing
 leastOf life end prev (o ∷ os) = lower (leastOf life end prev os) (changeAt life prev o (leastOf life end (o .position) os))
 
--- the change set of that price which the tie rule takes: a change only where it is strictly lower
+-- T2. the change set of that price which the tie rule takes: a change only where it is strictly lower
 unfoldable pub choiceOf : ℤ → ℤ → ℤ → List Offer → List Bool
 choiceOf life end prev [] = []
 choiceOf life end prev (o ∷ os) =
-    pick (lowerThan (leastOf life end prev os) (changeAt life prev o (leastOf life end (o .position) os)))
+    cond (lowerThan (leastOf life end prev os) (changeAt life prev o (leastOf life end (o .position) os)))
     (true ∷ choiceOf life end (o .position) os)
     (false ∷ choiceOf life end prev os)
 
--- ---- the node: "A point is a yes or no for the first j openings."
+-- ---- W1. the node: "A point is a yes or no for the first j openings."
 
--- openings at these positions, as a part with these prices sees them at the node p; "the yes openings and all undecided ones" are allowed
+-- W2. openings at these positions, as a part with these prices sees them at the node p; "the yes openings and all undecided ones" are allowed
 unfoldable pub offers : List ℤ → List ℕ → List Bool → List Offer
 offers [] ns p = []
 offers (s ∷ ss) ns p = record { position = s; price = getD ns 0 0; allowed = getD p 0 true } ∷ offers ss (drop 1 ns) (drop 1 p)
@@ -74,16 +69,16 @@ partBound job part p = leastOf (pos (part .life)) (end job) (lastChange part) (p
 abbrev pub partChoice : Job → Part → List Bool → List Bool
 partChoice job part p = choiceOf (pos (part .life)) (end job) (lastChange part) (partOffers job part p)
 
--- "the fees of its yes openings"
+-- W2. "the fees of its yes openings"
 abbrev pub feesAt : Job → List Bool → Bound
 feesAt job p = Sum (sumAt (map feeOf (job .openings)) p)
 
--- "the fees of its yes openings, plus, for each part, the least price of a change set that keeps it over the yes openings and all undecided ones.
+-- W2, W3. "the fees of its yes openings, plus, for each part, the least price of a change set that keeps it over the yes openings and all undecided ones.
 -- If some part has none, the estimate is missing." Of a full node this is the least cost of its stop set
 unfoldable pub stopCost : Job → List Bool → Bound
 stopCost job p = add (feesAt job p) (total (partBound job) (job .parts) p)
 
--- "Its estimate": the lower bound that the search prunes by. A sharper one would change this line and its laws (`bounds`, `rooted`), and nothing else
+-- W2. "Its estimate": the lower bound that the search prunes by. A sharper one would change this line and its laws (`bounds`, `rooted`), and nothing else
 unfoldable pub boundOf : Job → List Bool → Bound
 boundOf job p = stopCost job p
 

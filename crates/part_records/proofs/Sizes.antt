@@ -3,9 +3,9 @@ use mathlib.Core.Path.{_≡_, sym, _∙_}
 use lib.ListN.{length, length-map}
 use denote.Laws.{Is}
 use denote.Struct.Laws as LL
-use Rattle.job_text.specs.declared.Part.{Part}
-use Rattle.job_text.proofs.Part as part
-use Rattle.job_text.proofs.Part.Laws as part-laws
+use Rattle.jobs.specs.declared.Part.{Part}
+use Rattle.jobs.proofs.Part as part
+use Rattle.jobs.proofs.Part.Laws as part-laws
 
 pub priced : (r : Part) → Is part.the-row r (LL.vals part.the-type part-laws.the-laws r) → length (r .prices) ≡ 64
 priced r is = sym (length-map (r .prices) _) ∙ is .1 .1 .1 .1 .0 .1 .0 .1

@@ -2,8 +2,8 @@
 use Prim.Native.Nat.{ℕ}
 use mathlib.Core.List.{List}
 use lib.ListN.{getD}
-use Rattle.job_text.specs.declared.Part.{Part}
-use Rattle.job_text.specs.Views.{blankPart}
+use Rattle.jobs.specs.declared.Part.{Part}
+use Rattle.jobs.specs.Views.{blankPart}
 
 -- the record of part number i + 1
 abbrev pub recordAt : List Part → ℕ → Part

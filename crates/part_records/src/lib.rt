@@ -1,10 +1,11 @@
 // "A part has a life L and a first life R": the parts as a lent slice of records, from which one is taken out by value.
 // Place i holds part number i + 1.
-use job_text::Part;
+use jobs::Part;
 ghost use mathlib.Core.Path.{_≡_};
 ghost use Prim.Native.Nat.{_<_, _≤_};
 ghost use lib.ListN.{length};
 ghost use Rattle.part_records.specs.Records.{recordAt};
+ghost use Rattle.model.specs.Limits.{mostParts};
 
 // The record at place i of the parts lent.
 pub fn part_at(parts: &[Part], i: usize) -> Part
@@ -16,7 +17,7 @@ pub fn part_at(parts: &[Part], i: usize) -> Part
 
 // The record at place i of the first count parts, which are lent to take it out. That there is one saves callers a proof of the length.
 pub fn part_of(parts: [Part; 16], count: usize, i: usize) -> Part
-    requires { ⌜ (i < count) × (count ≤ 16) ⌝ }
+    requires { ⌜ (i < count) × (count ≤ mostParts) ⌝ }
     ensures { λ r. ⌜ (r ≡ recordAt parts i) × (i < length parts) ⌝ }
 {
     part_at(&parts[..count], i)

@@ -15,7 +15,7 @@ use Rattle.lines.specs.Text.{joined}
 use Rattle.lines.proofs.Sound.{Chained}
 use Rattle.model.specs.Model.{Opening, Job, Plan}
 use Rattle.model.specs.Verdict.{Shaped}
-use Rattle.job_text.specs.Valid.{All, ValidJob}
+use Rattle.jobs.specs.Valid.{All, ValidJob}
 use Rattle.plan_text.specs.Grammar.{Visit, any, among, isOpening, visited, changed, tabulate, openingsAt, planOf}
 use Rattle.plan_text.specs.Rendering.{chosen, changesAt, partsAt, stepAt, visitAt, visitsOf}
 use Rattle.plan_text.proofs.Chosen.{chosen-front}

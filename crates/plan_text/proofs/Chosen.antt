@@ -10,8 +10,9 @@ use Rattle.lines.specs.Text.{texts, joined}
 use Rattle.lines.proofs.Writing.{joined-more}
 use Rattle.model.specs.Model.{Job}
 use Rattle.plan_text.specs.Rendering.{chosen, changesAt, partsAt, visitAt, visitsOf}
-use Rattle.plan_text.specs.Views.{modelPlan, numbersAt}
-use Rattle.plan_text.specs.declared.Plan.{Plan}
+use Rattle.jobs.specs.Views.{modelPlan}
+use Rattle.plan_text.specs.Views.{numbersAt}
+use Rattle.jobs.specs.declared.Plan.{Plan}
 use Rattle.plan_text.proofs.Marks.{none, changes-length, changes-at}
 
 -- ---- growth

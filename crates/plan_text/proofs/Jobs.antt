@@ -5,9 +5,9 @@ use mathlib.Core.Bool.{true, false}
 use native.Mathlib.Omega.{arith}
 use borrow.Author.Tests.{eq-eqb, ne-eqb}
 use Rattle.model.specs.Model as model
-use Rattle.job_text.specs.declared.Job.{Job}
-use Rattle.job_text.specs.Views.{openingOf, jobOf, Sized}
-use Rattle.job_text.proofs.Jobs.{blankOpening, openingAt, Whole, opening-count, opening-at}
+use Rattle.jobs.specs.declared.Job.{Job}
+use Rattle.jobs.specs.Views.{openingOf, jobOf, Sized}
+use Rattle.jobs.proofs.Jobs.{blankOpening, openingAt, Whole, opening-count, opening-at}
 use Rattle.plan_text.specs.Grammar.{isOpening}
 use Rattle.plan_text.specs.Rendering.{stepAt}
 use Rattle.plan_text.proofs.Steps.{step-is}

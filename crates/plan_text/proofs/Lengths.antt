@@ -11,7 +11,7 @@ use Rattle.lines.specs.Text.{bytes, decimalIn, line, lineOf, texts, joined}
 use Rattle.lines.proofs.Writing.{line-short, joined-room, joined-short}
 use Rattle.model.specs.Model.{Job, Plan}
 use Rattle.plan_text.specs.Rendering.{visitText, planText, chosen, changesAt, partsAt, stepAt, visitAt, visitsOf, planLinesOf}
-use Rattle.job_text.specs.Valid.{ValidJob}
+use Rattle.jobs.specs.Valid.{ValidJob}
 use Rattle.plan_text.proofs.Chosen.{chosen-few, chosen-texts}
 use Rattle.plan_text.proofs.Steps.{step-small}
 

@@ -95,15 +95,6 @@ module _ {A B : Type 0} (f : A → B) where
   map-set (y ∷ xs) zero x = refl
   map-set (y ∷ xs) (suc i) x = ap (λ (zs : List B). f y ∷ zs) (map-set xs i x)
 
-  pub map-replicate : (n : ℕ) (a : A) → map f (replicate n a) ≡ replicate n (f a)
-  map-replicate zero a = refl
-  map-replicate (suc n) a = ap (λ (xs : List B). f a ∷ xs) (map-replicate n a)
-
 pub map-constant : {A B : Type 0} (xs : List A) (b : B) → map (λ (x : A). b) xs ≡ replicate (length xs) b
 map-constant [] b = refl
 map-constant (x ∷ xs) b = ap (λ (ys : List _). b ∷ ys) (map-constant xs b)
-
-pub take-replicate : {A : Type 0} (n k : ℕ) (a : A) → n ≤ k → take n (replicate k a) ≡ replicate n a
-take-replicate zero k a h = refl
-take-replicate (suc n) zero a h = absurd (omega arith)
-take-replicate (suc n) (suc k) a h = ap (λ (xs : List _). a ∷ xs) (take-replicate n k a (omega arith))

@@ -14,9 +14,9 @@ use Rattle.model.specs.Model.{Opening, Job}
 use Rattle.model.proofs.Bools.{there}
 use Rattle.plan_text.specs.Grammar.{Visit, any, among, visited, changed, tabulate, openingsAt, planOf}
 use Rattle.plan_text.specs.Rendering.{stepAt}
-use Rattle.plan_text.specs.Views.{changesOf, emptyPlan}
+use Rattle.jobs.specs.Views.{changesOf, emptyPlan}
 use Rattle.plan_text.specs.Marks.{withStep, withParts, withVisit}
-use Rattle.plan_text.specs.declared.Changes.{Changes}
+use Rattle.jobs.specs.declared.Changes.{Changes}
 use Rattle.plan_text.proofs.Steps.{noOpening, step-is}
 use Rattle.plan_text.proofs.Lists.{any-snoc, table-at, table-same, table-is, table-set, map-table, map-set, map-constant}
 

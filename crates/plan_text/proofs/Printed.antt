@@ -14,7 +14,7 @@ use Rattle.lines.proofs.Sound.{Chained}
 use Rattle.lines.proofs.Complete.{Complete, row-complete, checked-complete, chain-complete, text-complete}
 use Rattle.model.specs.Model.{Opening, Job, Plan}
 use Rattle.model.specs.Verdict.{Shaped}
-use Rattle.job_text.specs.Valid.{ValidJob}
+use Rattle.jobs.specs.Valid.{ValidJob}
 use Rattle.plan_text.specs.Grammar.{Visit, isOpening, mayStop, part, parts, visit, visits, planOf, planLines, maxBytes, readPlan}
 use Rattle.plan_text.specs.Rendering.{visitText, planText, chosen, changesAt, partsAt, stepAt, visitAt, visitsOf, planLinesOf}
 use Rattle.plan_text.proofs.Lists.{any-at}

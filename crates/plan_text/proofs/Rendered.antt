@@ -4,7 +4,7 @@ use mathlib.Core.Path.{_≡_, sym, ap, _∙_}
 use mathlib.Core.List.{List, _++_, append-nil}
 use Rattle.lines.specs.Parser.{good, accepted}
 use Rattle.model.specs.Model.{Job}
-use Rattle.job_text.specs.Valid.{ValidJob}
+use Rattle.jobs.specs.Valid.{ValidJob}
 use Rattle.plan_text.specs.Grammar.{Stated, planLines, readPlan}
 use Rattle.plan_text.specs.Rendering.{visitsOf, planText, planLinesOf}
 use Rattle.plan_text.proofs.Valid.{Valid}

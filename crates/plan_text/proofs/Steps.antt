@@ -7,8 +7,8 @@ use lib.ListN.{length, getD, length-map, List·getD-eq-default, List·getD-map}
 use Rattle.model.specs.Model.{Opening, Job}
 use Rattle.model.specs.Windows.{stepsOf}
 use Rattle.model.proofs.Positions.{rising-above, rising-rises}
-use Rattle.job_text.specs.Valid.{ValidOpening, ValidJob}
-use Rattle.job_text.proofs.Jobs.{all-at}
+use Rattle.jobs.specs.Valid.{ValidOpening, ValidJob}
+use Rattle.jobs.proofs.Lists.{all-at}
 use Rattle.plan_text.specs.Rendering.{stepAt}
 
 -- what stands past the end of the openings

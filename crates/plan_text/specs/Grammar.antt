@@ -1,4 +1,4 @@
--- 01's "The texts", the plan, read against a job: "`cost` 0..2000000000; `stops` 0..64; for each, `stop` 1..365 and `count` 0..16, then that many `part` 1..16."
+-- X4. The plan's lines, read against a job: "`cost` 0..2000000000; `stops` 0..64; for each, `stop` 1..365 and `count` 0..16, then that many `part` 1..16."
 use Prim.Native.Nat.{ℕ, _+_}
 use mathlib.Core.List.{List, [], _∷_, map}
 use mathlib.Core.Bool.{Bool, false, _&&_, _||_}
@@ -7,6 +7,7 @@ use lib.Dec.{ltb, eqb}
 use Rattle.lines.specs.Text.{joined}
 use Rattle.lines.specs.Parser.{Parser, _>>=_, return, row, checked, chain, rising, Outcome, readText}
 use Rattle.model.specs.Model.{Opening, Job, Plan}
+use Rattle.model.specs.Limits.{lastStep, mostOpenings, mostParts}
 
 -- a stop as the text has it: its step, and the numbers of the parts changed there
 pub record Visit : Type 0 where
@@ -29,16 +30,16 @@ among ks k = any (λ (j : ℕ). eqb j k) ks
 
 -- ---- lines
 
--- "Stops rise and are openings", else number 9
+-- X6, R9. "Stops rise and are openings", else number 9
 abbrev pub isOpening : Job → ℕ → Bool
 isOpening job step = any (λ (o : Opening). eqb (o .step) step) (job .openings)
 
 abbrev pub mayStop : Job → ℕ → ℕ → Bool
 mayStop job before step = ltb before step && isOpening job step
 
--- "parts within a stop rise and exist", else number 9: a part of m after the one before
+-- X6, R9. "parts within a stop rise and exist", else number 9: a part of m after the one before
 unfoldable pub part : ℕ → ℕ → Parser ℕ
-part m before = checked 9 (rising before m) (row "part=" 1 16)
+part m before = checked 9 (rising before m) (row "part=" 1 mostParts)
 
 unfoldable pub parts : ℕ → ℕ → Parser (List ℕ)
 parts m n = chain (part m) (λ k. k) n 0
@@ -46,8 +47,8 @@ parts m n = chain (part m) (λ k. k) n 0
 -- a stop after the step before it, and its parts
 unfoldable pub visit : Job → ℕ → Parser Visit
 visit job before = do
-  step ← checked 9 (mayStop job before) (row "stop=" 1 365)
-  n ← row "count=" 0 16
+  step ← checked 9 (mayStop job before) (row "stop=" 1 lastStep)
+  n ← row "count=" 0 mostParts
   ks ← parts (length (job .parts)) n
   return (record { step = step; parts = ks })
 
@@ -72,7 +73,7 @@ tabulate f n = joined (λ i. f i ∷ []) n
 abbrev pub openingsAt : Job → (ℕ → Bool) → List Bool
 openingsAt job test = map (λ (o : Opening). test (o .step)) (job .openings)
 
--- "a set of openings, its stops, and for each part a set of openings at which it is changed"; parts are numbered from 1
+-- M10. "a set of openings, its stops, and for each part a set of openings at which it is changed"; parts are numbered from 1
 unfoldable pub planOf : Job → List Visit → Plan
 planOf job vs = record {
   stops = openingsAt job (visited vs);
@@ -85,11 +86,11 @@ planOf job vs = record {
 unfoldable pub planLines : Job → Parser Stated
 planLines job = do
   cost ← row "cost=" 0 2000000000
-  n ← row "stops=" 0 64
+  n ← row "stops=" 0 mostOpenings
   vs ← visits job n
   return (record { cost = cost; plan = planOf job vs })
 
--- "A text has at most 32,768 bytes"
+-- X7. "A text has at most 32,768 bytes"
 abbrev pub maxBytes : ℕ
 maxBytes = 32768
 

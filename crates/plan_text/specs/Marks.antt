@@ -11,13 +11,12 @@ use Rattle.lines.specs.declared.rows.Cursor.{Cursor}
 use Rattle.lines.specs.declared.rows.End.the-variants as end
 use Rattle.model.specs.Model.{Plan}
 use Rattle.model.specs.Model as model
-use Rattle.job_text.specs.declared.Job.{Job}
-use Rattle.job_text.specs.Views.{jobOf}
+use Rattle.jobs.specs.declared.Job.{Job}
+use Rattle.jobs.specs.Views.{jobOf, changesFor, planFor}
 use Rattle.plan_text.specs.Grammar.{Visit, among, tabulate, planOf}
 use Rattle.plan_text.specs.Rendering.{stepAt}
-use Rattle.plan_text.specs.Views.{changesFor, planFor}
-use Rattle.plan_text.specs.declared.Changes.{Changes}
-use Rattle.plan_text.specs.declared.Plan as code
+use Rattle.jobs.specs.declared.Changes.{Changes}
+use Rattle.jobs.specs.declared.Plan as code
 use Rattle.plan_text.specs.declared.stops.ChangesRead.{ChangesRead}
 use Rattle.plan_text.specs.declared.stops.VisitRead.{VisitRead}
 use Rattle.plan_text.specs.declared.stops.VisitsRead.{VisitsRead}

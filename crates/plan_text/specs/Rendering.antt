@@ -1,4 +1,4 @@
--- The text of a plan: "the plan lines" that the planner prints.
+-- O3. The text of a plan: "the plan lines" that the planner prints.
 use Prim.Native.Nat.{ℕ, _+_}
 use mathlib.Core.List.{List, [], _∷_, _++_, map}
 use mathlib.Core.Bool.{Bool, false, cond}

@@ -1,8 +1,8 @@
 // The stops of a plan text.
-use crate::Changes;
-use crate::Plan;
-use job_text::Job;
-use job_text::Opening;
+use jobs::Changes;
+use jobs::Job;
+use jobs::Opening;
+use jobs::Plan;
 use lines::rows::Cursor;
 use lines::rows::End;
 use lines::rows::Row;
@@ -13,7 +13,7 @@ ghost use lib.Dec.{eqb};
 ghost use lib.ListN.{take, drop};
 ghost use Rattle.lines.specs.Parser.{checked, row};
 ghost use Rattle.lines.specs.Cursor.{Stands, Reads, rowAnswer};
-ghost use Rattle.job_text.specs.Views.{jobOf, Sized};
+ghost use Rattle.jobs.specs.Views.{jobOf, Sized};
 ghost use Rattle.plan_text.specs.Grammar.{isOpening, mayStop, part, parts, visit, visits};
 ghost use Rattle.plan_text.specs.Marks.{withStep, PartsRead, StopRead, StopsRead};
 
@@ -62,14 +62,14 @@ fn read_step(text: &[u8], p: Cursor, job: Job, before: u32) -> Row
     match read_row(text, p, b"stop=", Opening::MIN_STEP, Opening::MAX_STEP) {
         Row::Value(step, q) => {
             if step <= before {
-                return Row::Fault(9, line);
+                return Row::Fault { number: 9, line };
             }
             if is_opening(job, step) {
                 return Row::Value(step, q);
             }
-            Row::Fault(9, line)
+            Row::Fault { number: 9, line }
         }
-        Row::Fault(k, l) => Row::Fault(k, l),
+        Row::Fault { number: k, line: l } => Row::Fault { number: k, line: l },
     }
 }
 
@@ -82,14 +82,14 @@ fn read_number(text: &[u8], p: Cursor, m: usize, before: u32) -> Row
     match read_row(text, p, b"part=", Plan::MIN_PART, Plan::MAX_PART) {
         Row::Value(part, q) => {
             if part <= before {
-                return Row::Fault(9, line);
+                return Row::Fault { number: 9, line };
             }
             if m < part as usize {
-                return Row::Fault(9, line);
+                return Row::Fault { number: 9, line };
             }
             Row::Value(part, q)
         }
-        Row::Fault(k, l) => Row::Fault(k, l),
+        Row::Fault { number: k, line: l } => Row::Fault { number: k, line: l },
     }
 }
 
@@ -148,9 +148,9 @@ fn read_changes(
                 q = r;
                 i += 1;
             }
-            Row::Fault(k, l) => {
+            Row::Fault { number: k, line: l } => {
                 return ChangesRead {
-                    end: End::Fault(k, l),
+                    end: End::Fault { number: k, line: l },
                     changes: marks,
                 };
             }
@@ -184,14 +184,14 @@ fn read_visit(text: &[u8], p: Cursor, job: Job, before: u32, plan: Plan) -> Visi
                     },
                 }
             }
-            Row::Fault(k, l) => VisitRead {
-                end: End::Fault(k, l),
+            Row::Fault { number: k, line: l } => VisitRead {
+                end: End::Fault { number: k, line: l },
                 step,
                 plan,
             },
         },
-        Row::Fault(k, l) => VisitRead {
-            end: End::Fault(k, l),
+        Row::Fault { number: k, line: l } => VisitRead {
+            end: End::Fault { number: k, line: l },
             step: before,
             plan,
         },
@@ -218,9 +218,9 @@ pub fn read_visits(text: &[u8], p: Cursor, job: Job, n: usize) -> VisitsRead
                 q = r;
                 i += 1;
             }
-            End::Fault(k, l) => {
+            End::Fault { number: k, line: l } => {
                 return VisitsRead {
-                    end: End::Fault(k, l),
+                    end: End::Fault { number: k, line: l },
                     plan,
                 };
             }

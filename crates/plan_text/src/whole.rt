@@ -1,17 +1,17 @@
 // The lines of a plan from a cursor on, and the whole plan text.
-use crate::Plan;
 use crate::stops::read_visits;
-use job_text::Job;
+use jobs::Job;
+use jobs::Plan;
 use lines::rows::Cursor;
 use lines::rows::End;
 use lines::rows::Row;
-use lines::rows::Verdict;
+use lines::rows::WholeText;
 use lines::rows::close_text;
 use lines::rows::read_row;
 ghost use mathlib.Core.Path.{_≡_};
 ghost use lib.ListN.{drop};
 ghost use Rattle.lines.specs.Cursor.{Stands, Reads, ended};
-ghost use Rattle.job_text.specs.Views.{jobOf, Sized};
+ghost use Rattle.jobs.specs.Views.{jobOf, Sized};
 ghost use Rattle.plan_text.specs.Grammar.{planLines, readPlan};
 ghost use Rattle.plan_text.specs.Views.{statedFor, outcome};
 
@@ -24,7 +24,7 @@ pub struct PlanLines {
 
 // A plan text: the verdict on it, the cost that it states, and the plan.
 pub struct PlanRead {
-    pub verdict: Verdict,
+    pub verdict: WholeText,
     pub cost: u32,
     pub plan: Plan,
 }
@@ -34,7 +34,7 @@ fn no_plan(k: u32, line: usize) -> PlanLines
     ensures { λ r. ⌜ r .end ≡ End.Fault k line ⌝ }
 {
     PlanLines {
-        end: End::Fault(k, line),
+        end: End::Fault { number: k, line },
         cost: 0,
         plan: Plan::empty(),
     }
@@ -53,9 +53,9 @@ pub fn read_plan_lines(text: &[u8], p: Cursor, job: Job) -> PlanLines
                 let plan = read.plan;
                 PlanLines { end, cost, plan }
             }
-            Row::Fault(k, l) => no_plan(k, l),
+            Row::Fault { number: k, line: l } => no_plan(k, l),
         },
-        Row::Fault(k, l) => no_plan(k, l),
+        Row::Fault { number: k, line: l } => no_plan(k, l),
     }
 }
 
@@ -66,7 +66,7 @@ pub fn read_plan(text: &[u8], job: Job) -> PlanRead
 {
     if Plan::MAX_BYTES < text.len() {
         return PlanRead {
-            verdict: Verdict::Fault(1, 0),
+            verdict: WholeText::Fault { number: 1, line: 0 },
             cost: 0,
             plan: Plan::empty(),
         };

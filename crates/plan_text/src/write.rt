@@ -1,6 +1,6 @@
 // The lines of a plan, written into a lent slice.
-use crate::Plan;
-use job_text::Job;
+use jobs::Job;
+use jobs::Plan;
 use lines::write::put_line;
 ghost use mathlib.Core.Path.{_≡_};
 ghost use mathlib.Core.Bool.{cond, false};
@@ -9,13 +9,14 @@ ghost use Prim.Native.Nat.{_+_, _≤_, _<_};
 ghost use lib.ListN.{length, getD};
 ghost use Rattle.lines.specs.Text.{lineOf, texts};
 ghost use Rattle.lines.specs.Wrote.{Wrote};
-ghost use Rattle.job_text.specs.Views.{jobOf, Sized};
-ghost use Rattle.plan_text.specs.Views.{changedIn, numbersAt, planFor};
+ghost use Rattle.jobs.specs.Views.{jobOf, Sized, changedIn, planFor};
+ghost use Rattle.plan_text.specs.Views.{numbersAt};
 ghost use Rattle.plan_text.specs.Rendering.{visitAt, visitText, visitsOf, planLinesOf};
+ghost use Rattle.model.specs.Limits.{mostOpenings, mostParts};
 
 // Whether part k + 1 is changed at opening i.
 fn is_changed(plan: Plan, i: usize, k: usize) -> bool
-    requires { ⌜ (i < 64) × (k < 16) ⌝ }
+    requires { ⌜ (i < mostOpenings) × (k < mostParts) ⌝ }
     ensures { λ r. ⌜ r ≡ changedIn plan i k ⌝ }
 {
     let row = plan.changes[k];
@@ -35,7 +36,7 @@ fn counted(n: u64, more: bool) -> u64
 
 // How many of the first m parts are changed at opening i.
 fn count_parts(plan: Plan, m: usize, i: usize) -> u64
-    requires { ⌜ (m ≤ 16) × (i < 64) ⌝ }
+    requires { ⌜ (m ≤ mostParts) × (i < mostOpenings) ⌝ }
     ensures { λ r. ⌜ r ≡ length (numbersAt plan m i) ⌝ }
 {
     let mut n: u64 = 0;
@@ -50,7 +51,7 @@ fn count_parts(plan: Plan, m: usize, i: usize) -> u64
 
 // Puts the line of part k + 1 if it is changed.
 fn put_part(out: &mut [u8], at: usize, changed: bool, k: usize) -> usize
-    requires { ⌜ k < 16 ⌝ }
+    requires { ⌜ k < mostParts ⌝ }
     requires { ⌜ at + length (cond changed (lineOf "part=" (k + 1)) []) ≤ length (now out) ⌝ }
     ensures { λ r. ⌜ Wrote (now (out .entry)) at (cond changed (lineOf "part=" (k + 1)) []) (now (out .exit)) r ⌝ }
 {
@@ -62,7 +63,7 @@ fn put_part(out: &mut [u8], at: usize, changed: bool, k: usize) -> usize
 
 // Puts the lines of those of the first m parts that are changed at opening i.
 fn put_parts(out: &mut [u8], at: usize, plan: Plan, m: usize, i: usize) -> usize
-    requires { ⌜ (m ≤ 16) × (i < 64) ⌝ }
+    requires { ⌜ (m ≤ mostParts) × (i < mostOpenings) ⌝ }
     requires { ⌜ at + length (texts (lineOf "part=") (numbersAt plan m i)) ≤ length (now out) ⌝ }
     ensures { λ r. ⌜ Wrote (now (out .entry)) at (texts (lineOf "part=") (numbersAt plan m i)) (now (out .exit)) r ⌝ }
 {

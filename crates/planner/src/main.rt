@@ -1,5 +1,5 @@
 // The planner: the job on standard input, the answer on standard output.
-use job_text::Job;
+use jobs::Job;
 
 fn main() {
     // One byte more than a text may have, so that a longer one is told.

@@ -1,5 +1,5 @@
--- The promise of the answer (Promised), what is printed reads back (ReadBack), and laws for the code (Copies, Outcomes).
+-- What is found can be printed (Findings), its lines fit the room (Lengths), the planner keeps its promise (Promised), and what it prints reads back (ReadBack).
+pub mod Findings
+pub mod Lengths
 pub mod Promised
 pub mod ReadBack
-pub mod Copies
-pub mod Outcomes

@@ -9,23 +9,16 @@ use Rattle.lines.specs.Parser.{Outcome, accepted, refused}
 use Rattle.lines.proofs.Outcomes.{one-value, not-both}
 use Rattle.model.specs.Model.{Job, HasPlan}
 use Rattle.model.specs.Promise as model
-use Rattle.model.specs.Promise.{Answer, no-plan, cut-none, cut, optimum, resultOf, wholeCount, answerOf}
+use Rattle.model.specs.Promise.{PlannerAnswer, no-plan, cut-none, cut, optimum, resultOf, wholeCount, answerOf}
 use Rattle.model.proofs.Promised.{promise}
 use Rattle.job_text.specs.Grammar.{Given, readJob}
 use Rattle.job_text.proofs.Numbered.{fault}
 use Rattle.answers.specs.Said.{plainly, lent}
 use Rattle.answers.proofs.Replies.{refuses}
 use Rattle.planning.specs.Plan.{saidFor, onJob, planSaid, planRoom}
-use Rattle.planning.specs.Promise.{Reading, jobIn, walkIn, Answers, PlanPromise}
+use Rattle.planning.specs.Promise.{Reading, jobIn, walkIn, Reports, PlanPromise}
 
--- the result number that is handed over is the answer's
-pub result-is : (job : Job) (a : Answer) → saidFor job a .result ≡ resultOf a
-result-is job no-plan = refl
-result-is job (cut-none n f) = refl
-result-is job (cut n f c p) = refl
-result-is job (optimum n f c p) = refl
-
-not-8 : (a : Answer) → resultOf a ≡ 8 → ⊥
+not-8 : (a : PlannerAnswer) → resultOf a ≡ 8 → ⊥
 not-8 no-plan e = omega arith
 not-8 (cut-none n f) e = omega arith
 not-8 (cut n f c p) e = omega arith
@@ -68,14 +61,11 @@ module _ (text : List ℕ) (room : ℕ) where
     given-is : (r : Reading text) → r .given ≡ g
     given-is r = one-value eg (r .is)
 
-    abbrev answer : Answer
+    abbrev answer : PlannerAnswer
     answer = answerOf (g .job) (g .walk)
 
     promises : model.Promise (g .job) (g .walk) answer
     promises = promise (g .job) (g .walk)
-
-    number : {n : ℕ} → saidFor (g .job) answer .result ≡ n → resultOf answer ≡ n
-    number e = sym (result-is (g .job) answer) ∙ e
 
     moved : (P : Given → Type 0) (r : Reading text) → P (r .given) → P g
     moved P r p = subst P (given-is r) p
@@ -91,19 +81,19 @@ module _ (text : List ℕ) (room : ℕ) where
 
     read : ((other : List ℕ) → lent planRoom room (planSaid other) ≡ onJob other (readJob other)) → PlanPromise text room (saidFor (g .job) answer)
     read room-is = record {
-      says-8 = (λ e. absurd (not-8 answer (number e)), λ e. absurd (omega arith));
-      says-6 = (λ e. (h, (here, promises .says-6 .0 (number e))), λ r. result-is (g .job) answer ∙ promises .says-6 .1 (moved (λ x. HasPlan (x .job) → ⊥) (r .1 .0) (r .1 .1)));
+      says-8 = (λ e. absurd (not-8 answer e), λ e. absurd (omega arith));
+      says-6 = (λ e. (h, (here, promises .says-6 .0 e)), λ r. promises .says-6 .1 (moved (λ x. HasPlan (x .job) → ⊥) (r .1 .0) (r .1 .1)));
       says-7 = (
-        λ e. (h, (here, promises .says-7 .0 (number e))),
-        λ r. result-is (g .job) answer ∙ promises .says-7 .1 (moved (λ x. HasPlan (x .job) × (x .walk < wholeCount (x .job))) (r .1 .0) (r .1 .1)),
+        λ e. (h, (here, promises .says-7 .0 e)),
+        λ r. promises .says-7 .1 (moved (λ x. HasPlan (x .job) × (x .walk < wholeCount (x .job))) (r .1 .0) (r .1 .1)),
       );
       says-0 = (
-        λ e. (h, (here, promises .says-0 .0 (number e))),
-        λ r. result-is (g .job) answer ∙ promises .says-0 .1 (moved (λ x. HasPlan (x .job) × (wholeCount (x .job) ≤ x .walk)) (r .1 .0) (r .1 .1)),
+        λ e. (h, (here, promises .says-0 .0 e)),
+        λ r. promises .says-0 .1 (moved (λ x. HasPlan (x .job) × (wholeCount (x .job) ≤ x .walk)) (r .1 .0) (r .1 .1)),
       );
-      answers = λ m r. subst (λ (x : Given). Answers (x .job) (x .walk) (saidFor (g .job) answer)) (sym (given-is r)) (record { answer = answer; promise = promises; says = refl });
+      answers = λ m r. subst (λ (x : Given). Reports (x .job) (x .walk) (saidFor (g .job) answer)) (sym (given-is r)) (record { answer = answer; promise = promises; says = refl });
       job-fault = λ m n l e. not-both eg e;
-      any-walk = λ e r other q j w. room-is other ∙ alike (number e) r other q j w;
+      any-walk = λ e r other q j w. room-is other ∙ alike e r other q j w;
     }
 
   on-job : planRoom ≤ room → (x : Outcome Given) → readJob text ≡ x → PlanPromise text room (onJob text x)

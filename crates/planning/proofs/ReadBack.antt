@@ -2,35 +2,23 @@
 -- so the judge, given the same job text and those lines, says 0 with the same cost (`judge-accepts`). By the printed lines' read-back and the best plan's acceptance.
 use Prim.Native.Nat.{ℕ}
 use mathlib.Core.Path.{_≡_, refl}
-use mathlib.Core.List.{List, _++_}
+use mathlib.Core.List.{List}
 use mathlib.Core.Bool.{Bool}
 use native.Mathlib.Omega.{arith}
 use Rattle.lines.specs.Parser.{accepted}
 use Rattle.model.specs.Model.{Job, Plan, BestPlan}
-use Rattle.model.specs.Promise.{cut, optimum}
 use Rattle.model.proofs.Verdicts.{lives-shaped, best-accepted}
 use Rattle.job_text.specs.Grammar.{Given, readJob}
-use Rattle.job_text.specs.Valid.{ValidJob}
+use Rattle.jobs.specs.Valid.{ValidJob}
 use Rattle.job_text.proofs.Accepted.{valid}
 use Rattle.plan_text.specs.Grammar.{readPlan}
 use Rattle.plan_text.specs.Rendering.{planLinesOf}
 use Rattle.plan_text.proofs.Printed.{read-back}
 use Rattle.verdict.proofs.Limits.{cost-most}
-use Rattle.answers.specs.Said.{searchLines, plannedLines, bytesOf, costLines, plainly}
-use Rattle.judging.specs.Judge.{judgeOutcome, judgeSaid}
-use Rattle.planning.specs.Plan.{saidFor}
+use Rattle.answers.specs.Said.{plainly}
+use Rattle.judging.specs.Judge.{costLines, judgeSaid}
 
--- ---- the lines that are written are those of the search, and then the plan's
-
-pub optimum-lines : (job : Job) (n f c : ℕ) (p : Plan) → saidFor job (optimum n f c p) .bytes ≡ searchLines 0 n f ++ planLinesOf job c p
-unfolding bytesOf plannedLines
-optimum-lines job n f c p = refl
-
-pub cut-lines : (job : Job) (n f c : ℕ) (p : Plan) → saidFor job (cut n f c p) .bytes ≡ searchLines 7 n f ++ planLinesOf job c p
-unfolding bytesOf plannedLines
-cut-lines job n f c p = refl
-
--- ---- and those read back, for 0 (`Any`) and for 7 with a plan (`Walked`)
+-- for 0 (`Any`) and for 7 with a plan (`Walked`)
 
 module _ (text : List ℕ) (given : Given) (is : readJob text ≡ accepted given) (Among : List Bool → Type 0) (cost : ℕ) (plan : Plan) (best : BestPlan (given .job) Among cost plan) where
   abbrev job : Job
@@ -46,6 +34,6 @@ module _ (text : List ℕ) (given : Given) (is : readJob text ≡ accepted given
   reads-back = read-back job ok cost plan (omega (arith, best .states, cost-most job ok plan)) (lives-shaped job plan (best .keeps))
 
   pub judge-accepts : judgeSaid text lines ≡ plainly 0 (costLines 0 cost)
-  unfolding judgeOutcome bytesOf
+  unfolding judgeSaid
   judge-accepts =
       rw (is) (rw (reads-back) (rw (best-accepted job Among cost plan best) refl))

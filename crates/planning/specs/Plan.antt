@@ -1,40 +1,40 @@
--- What the planner says of a job text. "Order: 8; then the job text [..]; then 6 before 7".
+-- What the planner says of a job text. R20. "Order: 8; then the job text [..]; then 6 before 7".
 use Prim.Native.Nat.{ℕ}
-use mathlib.Core.List.{List}
-use Rattle.lines.specs.Parser as parser
+use mathlib.Core.List.{List, _++_}
+use Rattle.lines.specs.Text.{lineOf}
+use Rattle.lines.specs.Parser.{Outcome, accepted, refused}
 use Rattle.model.specs.Model.{Job, Plan}
-use Rattle.model.specs.Promise.{Answer, no-plan, cut-none, cut, optimum, answerOf}
+use Rattle.model.specs.Promise.{PlannerAnswer, no-plan, cut-none, cut, optimum, resultOf, answerOf}
 use Rattle.job_text.specs.Grammar.{Given, readJob}
-use Rattle.job_text.specs.Views.{emptyJob}
-use Rattle.answers.specs.declared.Outcome.{Outcome}
-use Rattle.answers.specs.declared.Outcome.the-variants.{NoPlan, Optimum, Cut, CutBare}
-use Rattle.answers.specs.Said.{Said, noPlan, refusal, saidOf}
+use Rattle.plan_text.specs.Rendering.{planLinesOf}
+use Rattle.answers.specs.Said.{Said, plainly, refusal}
 
--- the outcome of an answer to an accepted job, and the plan that is printed with it
-abbrev pub outcomeOf : Answer → Outcome
-outcomeOf no-plan = NoPlan
-outcomeOf (cut-none nodes floor) = CutBare nodes floor
-outcomeOf (cut nodes floor cost plan) = Cut nodes floor cost
-outcomeOf (optimum nodes floor cost plan) = Optimum nodes floor cost
+-- O3. "Planner 0 and 7: `result`, `nodes` (points walked), `floor`, then the plan lines; with 7 and no plan it ends after `floor`."
+unfoldable pub searchLines : ℕ → ℕ → ℕ → List ℕ
+searchLines number nodes floor = lineOf "result=" number ++ lineOf "nodes=" nodes ++ lineOf "floor=" floor
 
-abbrev pub planIn : Answer → Plan
-planIn no-plan = noPlan
-planIn (cut-none nodes floor) = noPlan
-planIn (cut nodes floor cost plan) = plan
-planIn (optimum nodes floor cost plan) = plan
+unfoldable pub plannedLines : ℕ → ℕ → ℕ → Job → ℕ → Plan → List ℕ
+plannedLines number nodes floor job cost plan = searchLines number nodes floor ++ planLinesOf job cost plan
 
--- what is handed over and written for an answer to a job
-abbrev pub saidFor : Job → Answer → Said
-saidFor job a = saidOf job (planIn a) (outcomeOf a)
+-- the lines of an answer to a job; O2. "Number 6: `result`."
+abbrev pub linesOf : Job → PlannerAnswer → List ℕ
+linesOf job no-plan = lineOf "result=" 6
+linesOf job (cut-none nodes floor) = searchLines 7 nodes floor
+linesOf job (cut nodes floor cost plan) = plannedLines 7 nodes floor job cost plan
+linesOf job (optimum nodes floor cost plan) = plannedLines 0 nodes floor job cost plan
 
-abbrev pub onJob : List ℕ → parser.Outcome Given → Said
-onJob text (parser.accepted given) = saidFor (given .job) (answerOf (given .job) (given .walk))
-onJob text (parser.refused number line) = saidOf emptyJob noPlan (refusal 1 text number line)
+-- what is handed over and written for an answer to a job: its number, and its lines
+abbrev pub saidFor : Job → PlannerAnswer → Said
+saidFor job a = plainly (resultOf a) (linesOf job a)
+
+abbrev pub onJob : List ℕ → Outcome Given → Said
+onJob text (accepted given) = saidFor (given .job) (answerOf (given .job) (given .walk))
+onJob text (refused number line) = refusal 1 text number line
 
 -- the planner's answer where there is room for it
 unfoldable pub planSaid : List ℕ → Said
 planSaid text = onJob text (readJob text)
 
--- "The lent output has at least 16,384."
+-- X8. "The lent output has at least 16,384."
 abbrev pub planRoom : ℕ
 planRoom = 16384

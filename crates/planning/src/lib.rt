@@ -1,77 +1,136 @@
 // The planner: the cheapest plan of a job text that keeps every part's life.
 use answers::Answer;
-use answers::Outcome;
+use answers::put_three;
 use answers::refuse;
-use answers::reply;
 use branch::Bound;
 use job_search::search_job;
-use job_text::Job;
 use job_text::whole::read_job;
-use lines::rows::Verdict;
-use plan_text::Changes;
-use plan_text::Plan;
-use search::Row;
+use jobs::Job;
+use jobs::Plan;
+use lines::rows::WholeText;
+use lines::write::put_line;
+use plan_text::write::put_plan;
+use search::Found;
 ghost use mathlib.Core.Path.{_≡_};
-ghost use mathlib.Core.List.{map};
 ghost use Prim.Native.Nat.{ℕ, _≤_};
-ghost use lib.ListN.{length, take};
-ghost use Rattle.model.specs.Promise.{answerOf};
-ghost use Rattle.job_text.specs.Views.{jobOf, Sized};
-ghost use Rattle.job_text.specs.Valid.{ValidJob};
-ghost use Rattle.plan_text.specs.Views.{changesOf};
-ghost use Rattle.search.specs.Outcome.{rowIn, saidIn};
-ghost use Rattle.answers.specs.Said.{lent, Replied};
-ghost use Rattle.planning.specs.Plan.{outcomeOf, saidFor, planSaid, planRoom};
+ghost use lib.ListN.{length};
+ghost use Rattle.lines.specs.Wrote.{Wrote};
+ghost use Rattle.model.specs.Limits.{mostWalk};
+ghost use Rattle.model.specs.Model as model;
+ghost use Rattle.model.specs.Promise.{resultOf, answerOf};
+ghost use Rattle.jobs.specs.Views.{jobOf, planFor};
+ghost use Rattle.jobs.specs.Valid.{Sound};
+ghost use Rattle.search.specs.Found.{planFound, saidIn};
+ghost use Rattle.answers.specs.Said.{Printable, lent, Replied};
+ghost use Rattle.planning.specs.Plan.{plannedLines, linesOf, saidFor, planSaid, planRoom};
+ghost use Rattle.planning.specs.Finding.{answerIn, Fits};
 ghost use Rattle.planning.specs.Promise.{PlanPromise};
 
-// The outcome of a search: no floor or no plan in the whole walk is 6, a walk cut short is 7.
-fn outcome_of(found: search::Outcome) -> Outcome
-    ensures { λ r. ⌜ ((n m : ℕ) → r ≡ outcomeOf (saidIn n m found)) ⌝ }
+// The room that the planner's output must have.
+pub const ROOM: usize = 16384;
+
+// What the planner finds of an accepted job; the plan stands beside it.
+pub enum Finding {
+    // 6: no plan keeps the lives.
+    NoPlan,
+    // 0: the cheapest plan.
+    Optimum { nodes: u64, floor: u64, cost: u64 },
+    // 7: the cheapest plan of the nodes walked.
+    Cut { nodes: u64, floor: u64, cost: u64 },
+    // 7, and none of the nodes walked is a full plan.
+    CutBare { nodes: u64, floor: u64 },
+}
+
+// What a search found: no floor or no plan in the whole walk is 6, a walk cut short is 7.
+fn finding_of(found: Found) -> Finding
+    ensures { λ r. ⌜ ((n m : ℕ) → answerIn (planFound n m found) r ≡ saidIn n m found) ⌝ }
 {
-    let floor = found.floor;
-    match floor {
-        Bound::Missing => Outcome::NoPlan,
-        Bound::Sum(least) => {
+    let nodes = found.count;
+    let cost = found.cost;
+    let bound = found.floor;
+    match bound {
+        Bound::Missing => Finding::NoPlan,
+        Bound::Sum(floor) => {
             if found.over {
                 if found.found {
-                    return Outcome::Cut(found.count, least, found.cost);
+                    return Finding::Cut { nodes, floor, cost };
                 }
-                return Outcome::CutBare(found.count, least);
+                return Finding::CutBare { nodes, floor };
             }
             if found.found {
-                return Outcome::Optimum(found.count, least, found.cost);
+                return Finding::Optimum { nodes, floor, cost };
             }
-            Outcome::NoPlan
+            Finding::NoPlan
         }
     }
 }
 
-// The changes of a plan, from the rows of a search.
-fn changes_of(rows: [Row; 16]) -> [Changes; 16]
-    ensures { λ r. ⌜ ((n m : ℕ) → m ≤ 16 → changesOf n m r ≡ map (rowIn n) (take m rows)) ⌝ }
+// The result number of a finding.
+fn number_of(f: Finding) -> u32
+    ensures { λ r. ⌜ ((plan : model.Plan) → r ≡ resultOf (answerIn plan f)) ⌝ }
 {
-    let none = Changes { at: [false; 64] };
-    let mut changes = [none; 16];
-    let mut k: usize = 0;
-    while k < 16 {
-        let row = rows[k];
-        let at = row.at;
-        changes[k] = Changes { at };
-        k += 1;
+    match f {
+        Finding::NoPlan => 6,
+        Finding::Optimum { .. } => 0,
+        Finding::Cut { .. } => 7,
+        Finding::CutBare { .. } => 7,
     }
-    changes
+}
+
+// The lines of a search and of its plan.
+fn put_planned(
+    out: &mut [u8],
+    number: u32,
+    nodes: u64,
+    floor: u64,
+    job: Job,
+    cost: u64,
+    plan: Plan,
+) -> usize
+    requires { ⌜ Printable nodes × Printable floor × Printable cost ⌝ }
+    requires { ⌜ Sound job × (planRoom ≤ length (now out)) ⌝ }
+    ensures { λ r. ⌜ Wrote (now (out .entry)) 0 (plannedLines number nodes floor (jobOf job) cost (planFor job plan)) (now (out .exit)) r ⌝ }
+{
+    let a = put_three(out, number, b"nodes=", nodes, b"floor=", floor);
+    put_plan(out, a, job, cost, plan)
+}
+
+// The lines of a finding and of its plan.
+fn put_finding(out: &mut [u8], f: Finding, job: Job, plan: Plan) -> usize
+    requires { ⌜ Fits f × Sound job × (planRoom ≤ length (now out)) ⌝ }
+    ensures { λ r. ⌜ Wrote (now (out .entry)) 0 (linesOf (jobOf job) (answerIn (planFor job plan) f)) (now (out .exit)) r ⌝ }
+{
+    match f {
+        Finding::NoPlan => put_line(out, 0, b"result=", 6),
+        Finding::Optimum { nodes, floor, cost } => {
+            put_planned(out, 0, nodes, floor, job, cost, plan)
+        }
+        Finding::Cut { nodes, floor, cost } => put_planned(out, 7, nodes, floor, job, cost, plan),
+        Finding::CutBare { nodes, floor } => put_three(out, 7, b"nodes=", nodes, b"floor=", floor),
+    }
+}
+
+// The answer that a finding is, with its plan.
+fn answer(f: Finding, job: Job, plan: Plan, out: &mut [u8]) -> Answer
+    requires { ⌜ Fits f × Sound job ⌝ }
+    ensures { λ r. ⌜ Replied planRoom (saidFor (jobOf job) (answerIn (planFor job plan) f)) (now (out .entry)) (now (out .exit)) r ⌝ }
+{
+    if out.len() < ROOM {
+        return Answer::no_room();
+    }
+    let n = put_finding(out, f, job, plan);
+    Answer::plain(number_of(f), n)
 }
 
 // The plan of an accepted job.
 fn plan_job(job: Job, walk: u32, out: &mut [u8]) -> Answer
-    requires { ⌜ Sized job × (ValidJob (jobOf job) × (walk ≤ 4000000000)) ⌝ }
+    requires { ⌜ Sound job × (walk ≤ mostWalk) ⌝ }
     ensures { λ r. ⌜ Replied planRoom (saidFor (jobOf job) (answerOf (jobOf job) walk)) (now (out .entry)) (now (out .exit)) r ⌝ }
 {
     let found = search_job(job, walk);
     let stops = found.stops;
-    let rows = found.changes;
-    let changes = changes_of(rows);
-    reply(outcome_of(found), job, Plan { stops, changes }, out)
+    let changes = found.changes;
+    answer(finding_of(found), job, Plan { stops, changes }, out)
 }
 
 // The plan of a job text: every number that is handed over and every byte of the output are the defined ones (`Replied`). The answer is 6 exactly if
@@ -84,10 +143,10 @@ pub fn plan(job: &[u8], out: &mut [u8]) -> Answer
     let read = read_job(job);
     let verdict = read.verdict;
     match verdict {
-        Verdict::Fault(number, line) => refuse(job, 1, number, line, out),
-        Verdict::Good => {
-            let accepted = read.job;
-            plan_job(accepted, read.walk, out)
+        WholeText::Fault { number, line } => refuse(job, 1, number, line, ROOM, out),
+        WholeText::Good => {
+            let accepted = read.text.job;
+            plan_job(accepted, read.text.walk, out)
         }
     }
 }

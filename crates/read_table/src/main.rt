@@ -1,12 +1,8 @@
 // Reads a table of job and plan texts and writes, for each pair, its first fault and the line at fault, or that there is none.
 // A pair stands in the input as `job=N`, N bytes, `plan=N`, N bytes.
-use answers::Outcome;
-use job_text::Job;
 use job_text::whole::read_job;
 use lines::fault::fault_line;
-use lines::fault::fault_span;
-use lines::rows::Verdict;
-use plan_text::Plan;
+use lines::rows::WholeText;
 use plan_text::whole::read_plan;
 use table_text::onward;
 use table_text::piece_at;
@@ -19,8 +15,7 @@ fn report(text: &[u8], which: u32, number: u32, line: usize) {
         return;
     }
     let mut out = [0u8; 16384];
-    let fault = Outcome::Fault(number, which, line as u32, fault_span(text, line));
-    let a = answers::reply(fault, Job::empty(), Plan::empty(), &mut out);
+    let a = answers::refuse(text, which, number, line, 16384, &mut out);
     let m = a.length;
     io::write_all(libc::STDOUT_FILENO, &out[..m]);
     io::write_all(libc::STDOUT_FILENO, fault_line(text, line));
@@ -32,13 +27,13 @@ fn judge_pair(job: &[u8], plan: &[u8]) {
     let read = read_job(job);
     let verdict = read.verdict;
     match verdict {
-        Verdict::Fault(number, line) => report(job, 1, number, line),
-        Verdict::Good => {
-            let stated = read_plan(plan, read.job);
+        WholeText::Fault { number, line } => report(job, 1, number, line),
+        WholeText::Good => {
+            let stated = read_plan(plan, read.text.job);
             let verdict = stated.verdict;
             match verdict {
-                Verdict::Fault(number, line) => report(plan, 2, number, line),
-                Verdict::Good => {
+                WholeText::Fault { number, line } => report(plan, 2, number, line),
+                WholeText::Good => {
                     io::write_all(libc::STDOUT_FILENO, b"accepted\n");
                 }
             }

@@ -12,16 +12,16 @@ use Rattle.branch.specs.declared.Bound.the-variants.{Missing, Sum}
 use Rattle.branch.specs.Search.{none, plan, atMost}
 use Rattle.branch.specs.Label.{treeOf}
 use Rattle.model.specs.Model.{Opening, Part, Job, clock, lastChange}
-use Rattle.model.specs.LowerBound.{Offer, pick, lowerThan, changeAt, leastOf, offers, choiceOf, partChoice, boundOf, planAt}
+use Rattle.model.specs.LowerBound.{Offer, lowerThan, changeAt, leastOf, offers, choiceOf, partChoice, boundOf, planAt}
 use Rattle.model.specs.Verdict.{noPart}
 use Rattle.model.specs.Promise.{cut, optimum, answered, answeredAt, answerOf, decisions}
 use Rattle.model.proofs.Bools.{there}
 use Rattle.model.proofs.Offers.{offers-length}
-use Rattle.search.specs.declared.Row.{Row}
-use Rattle.search.specs.declared.Outcome.{Outcome}
-use Rattle.search.specs.Arrays.{partAt, sheetOf, Holds}
+use Rattle.jobs.specs.declared.Changes.{Changes}
+use Rattle.search.specs.declared.Found.{Found}
+use Rattle.search.specs.Arrays.{lanePart, sheetOf, Holds}
 use Rattle.search.specs.Plan.{choiceAt, noRow, Chooses}
-use Rattle.search.specs.Outcome.{stopsIn, rowIn, changesIn, limitedIn, Answers, planIn, saidBy, saidAt, saidIn}
+use Rattle.search.specs.Found.{stopsIn, rowIn, changesIn, limitedIn, Finds, planFound, saidBy, saidAt, saidIn}
 use Rattle.search.proofs.Sheets.{sheet-bound}
 use Rattle.walk.specs.State.{bits, Solves}
 use Rattle.walk.proofs.Nodes.{bits-length}
@@ -34,7 +34,7 @@ choice-size life end prev (o ∷ os) =
     go (lowerThan (leastOf life end prev os) (changeAt life prev o (leastOf life end (o .position) os))) (choice-size life end (o .position) os) (choice-size life end prev os)
   where
     go : (t : Bool) → length (choiceOf life end (o .position) os) ≡ length os → length (choiceOf life end prev os) ≡ length os
-        → length (pick t (true ∷ choiceOf life end (o .position) os) (false ∷ choiceOf life end prev os)) ≡ suc (length os)
+        → length (cond t (true ∷ choiceOf life end (o .position) os) (false ∷ choiceOf life end prev os)) ≡ suc (length os)
     go true a b = ap suc a
     go false a b = ap suc b
 
@@ -46,18 +46,18 @@ stops-are n mask stops f = ap (take n) f ∙ take-at (bits n mask) (replicate (6
 pub stops-length : (n mask : ℕ) (stops : List Bool) → stops ≡ bits n mask ++ replicate (64 - n) false → length (take n stops) ≡ n
 stops-length n mask stops f = ap length (stops-are n mask stops f) ∙ bits-length n mask
 
--- ---- what the code holds, as an outcome
+-- ---- what the code holds, as it is handed back
 
-abbrev pub outcome : Solved → List Bool → List Row → Outcome
-outcome s stops rows =
+abbrev pub handed : Solved → List Bool → List Changes → Found
+handed s stops rows =
     record { count = s .count; over = s .over; found = s .found; cost = s .cost; floor = s .floor; stops = stops; changes = rows }
 
 module _ (job : Job) (e : ℤ) (ss : List ℤ) (fs ls rs ps : List ℕ) (h : Holds job e ss fs ls rs ps) (limit : ℕ) (s : Solved) (g : Solves (sheetOf e ss fs ls rs ps) limit s)
-    (stops : List Bool) (f : stops ≡ bits (length ss) (s .mask) ++ replicate (64 - length ss) false) (rows : List Row) (c : Chooses e ss ls rs ps (take (length ss) stops) rows (length ls)) where
+    (stops : List Bool) (f : stops ≡ bits (length ss) (s .mask) ++ replicate (64 - length ss) false) (rows : List Changes) (c : Chooses e ss ls rs ps (take (length ss) stops) rows (length ls)) where
   size : length ss ≡ decisions job
   size = ap length (h .places) ∙ length-map (job .openings) (λ (o : Opening). clock job (o .step))
 
-  walked : limitedIn (length ss) (outcome s stops rows) ≡ atMost limit (treeOf (boundOf job) (length ss) [])
+  walked : limitedIn (length ss) (handed s stops rows) ≡ atMost limit (treeOf (boundOf job) (length ss) [])
   walked =
       (λ i. record { count = s .count; over = s .over; incumbent = cond (s .found) (plan (s .cost) (stops-are (length ss) (s .mask) stops f i)) none })
       ∙ g .walked
@@ -69,13 +69,13 @@ module _ (job : Job) (e : ℤ) (ss : List ℤ) (fs ls rs ps : List ℕ) (h : Hol
   row-is : (q : ℕ) → q < length ls → rowIn (length ss) (getD rows q noRow) ≡ chosen (getD (job .parts) q noPart)
   row-is q l =
       let z = sym (h .part q l) in
-      let part = partAt (length ss) ls rs ps q in
+      let part = lanePart (length ss) ls rs ps q in
       let x = choiceAt e ss part (take (length ss) stops) in
       ap (take (length ss)) (c .row q l)
       ∙ take-at x (replicate (64 - length ss) false) (length ss) (choice-size (pos (part .life)) e (lastChange part) (offers ss (part .prices) (take (length ss) stops)) ∙ offers-length ss (part .prices) (take (length ss) stops))
       ∙ (λ i. choiceOf (pos (z i .life)) (h .ends i) (lastChange (z i)) (offers (h .places i) (z i .prices) (take (length ss) stops)))
 
-  changes : changesIn (length ss) (length (job .parts)) (outcome s stops rows) ≡ map chosen (job .parts)
+  changes : changesIn (length ss) (length (job .parts)) (handed s stops rows) ≡ map chosen (job .parts)
   changes =
       ext-getD (rowIn (length ss) noRow) (map (rowIn (length ss)) (take m rows)) (map chosen (job .parts)) (long ∙ sym (length-map (job .parts) chosen)) at
     where
@@ -93,18 +93,18 @@ module _ (job : Job) (e : ℤ) (ss : List ℤ) (fs ls rs ps : List ℕ) (h : Hol
           ∙ sym (List·getD-map chosen (job .parts) q noPart)
           ∙ there (map chosen (job .parts)) q (chosen noPart) (rowIn (length ss) noRow) (omega (arith, long, length-map (job .parts) chosen))
 
-  pub answers : Answers job limit (outcome s stops rows)
-  answers =
+  pub finds : Finds job limit (handed s stops rows)
+  finds =
       record {
-        walked = subst (λ (k : ℕ). limitedIn k (outcome s stops rows) ≡ atMost limit (treeOf (boundOf job) k [])) size walked;
+        walked = subst (λ (k : ℕ). limitedIn k (handed s stops rows) ≡ atMost limit (treeOf (boundOf job) k [])) size walked;
         floor = g .floor ∙ sheet-bound job e ss fs ls rs ps h [];
-        changes = subst (λ (k : ℕ). changesIn k (length (job .parts)) (outcome s stops rows) ≡ map (λ (part : Part). partChoice job part (take k stops)) (job .parts)) size changes;
+        changes = subst (λ (k : ℕ). changesIn k (length (job .parts)) (handed s stops rows) ≡ map (λ (part : Part). partChoice job part (take k stops)) (job .parts)) size changes;
       }
 
 -- ---- so it is the model's answer
 
-module _ (job : Job) (limit : ℕ) (r : Outcome) (a : Answers job limit r) where
-  plan-is : planIn (decisions job) (length (job .parts)) r ≡ planAt job (stopsIn (decisions job) r)
+module _ (job : Job) (limit : ℕ) (r : Found) (a : Finds job limit r) where
+  plan-is : planFound (decisions job) (length (job .parts)) r ≡ planAt job (stopsIn (decisions job) r)
   plan-is = λ i. record { stops = stopsIn (decisions job) r; changes = a .changes i }
 
   by : (floor : ℕ) (o t : Bool) → saidBy (decisions job) (length (job .parts)) floor r o t ≡ answered job floor (r .count) o (cond t (plan (r .cost) (stopsIn (decisions job) r)) none)

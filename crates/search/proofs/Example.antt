@@ -12,8 +12,9 @@ use lib.IntN.{ℤ, pos}
 use lib.Signed.{mag}
 use Rattle.model.specs.Model.{Job, idle, running, clock}
 use Rattle.model.specs.Verdict.{noPart}
-use Rattle.search.specs.Arrays.{longestLife, lastPosition, priceStride, partAt, Holds}
+use Rattle.search.specs.Arrays.{priceStride, lanePart, Holds}
 use Rattle.lane_rows.specs.Layout.{top}
+use Rattle.model.specs.Limits.{lastPosition, longestLife}
 
 -- every number of the list is at most b
 abbrev allUpTo : ℕ → List ℕ → Bool
@@ -66,7 +67,7 @@ free j h =
     let z : n + (j - n) ≡ j = omega arith in
     omega (arith, all-up-to 0 (drop n flat) refl (j - n), getD-drop n flat (j - n) 0 ∙ ap (λ (k : ℕ). getD flat k 0) z)
 
-own : (q : ℕ) → q < 2 → getD (job .parts) q noPart ≡ partAt 4 lives lefts flat q
+own : (q : ℕ) → q < 2 → getD (job .parts) q noPart ≡ lanePart 4 lives lefts flat q
 own zero h = refl
 own (suc zero) h = refl
 own (suc (suc q)) h = absurd (omega arith)
@@ -78,15 +79,12 @@ held =
       arrays = record {
         few = omega arith;
         paid = refl;
-        some = omega arith;
+        lives = record { some = omega arith; lefts = refl; brief = all-up-to longestLife lives refl; begun = all-up-to longestLife lefts refl };
         lanes = omega arith;
-        lefts = refl;
         prices = refl;
         fair = all-up-to top fees refl;
         cheap = all-up-to top flat refl;
         free = free;
-        brief = all-up-to longestLife lives refl;
-        begun = all-up-to longestLife lefts refl;
         near = near;
         late = omega arith;
       };

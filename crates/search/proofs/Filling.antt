@@ -1,30 +1,34 @@
 -- The tables, filled, are those of the sheet: a lane is right after its three loops, each lane keeps the others, and what follows keeps the lanes.
 use Prim.Native.Nat.{ℕ, zero, suc, _+_, _-_, _*_, _/_, _%_, _<_, _≤_, min}
 use mathlib.Core.Path.{_≡_, refl, sym, ap, ap₂, subst, _∙_}
-use mathlib.Core.Bool.{Bool, true}
+use mathlib.Core.Bool.{Bool, true, cond}
 use mathlib.Core.List.{List, [], _∷_}
 use native.Mathlib.Omega.{arith}
-use native.Mathlib.Decide.{ℕ-discrete, decLt}
+use native.Mathlib.Decide.{decLt}
+use borrow.Author.Count.{below-more}
 use borrow.Author.Tests.{le-ltb}
-use lib.ListN.{length, getD, take, drop, replicate, length-replicate, length-drop, length-take, List·getD-eq-default}
-use lib.Seq.{getD-take, getD-drop, length-take-le}
+use lib.ListN.{length, getD, set, take, drop, replicate, length-set, length-replicate, length-drop, length-take, List·getD-eq-default}
+use lib.Seq.{getD-take, getD-drop, getD-set-same, getD-set-other, length-take-le}
 use lib.IntN.{ℤ, pos}
 use mir.Syntax.{w32}
-use mir.Val.{toZ, ofZ}
+use mir.Val.{SFits, toZ, ofZ}
+use mir.Facts.{toZ-ofZ}
 use Rattle.branch.specs.declared.Bound.{Bound}
 use Rattle.branch.specs.declared.Bound.the-variants.{Missing, Sum}
 use Rattle.model.specs.Model.{within}
-use Rattle.model.specs.LowerBound.{Offer, pick, leastOf, offers}
-use Rattle.least.specs.Marks.{markOf, Small}
-use Rattle.least.specs.Suffix.{codeOf, Suffixes}
+use Rattle.model.specs.LowerBound.{Offer, leastOf, offers}
+use Rattle.least.specs.Marks.{markOf, Bits31}
+use Rattle.least.specs.Filled.{Filled, FilledBy}
+use Rattle.least.specs.Suffix.{tableSize, codeOf, Suffixes}
 use Rattle.least.proofs.Diff.{mag-sub, back}
 use Rattle.model.proofs.Bools.{after-one, there}
 use Rattle.least.proofs.Most.{AtMost, most-least}
-use Rattle.search.specs.Arrays.{longestLife, priceStride, priceSize, laneValue, partAt, columnOf, columnsFrom, foursOf, sheetOf, Lived, Arrays}
-use Rattle.search.specs.Fill.{Wrote, reachOf, reachAt, column, LaneFilled, Span, Lanes, Cuts}
+use Rattle.search.specs.Arrays.{priceStride, priceSize, laneValue, lanePart, columnOf, columnsFrom, foursOf, sheetOf, Lived, Lifespans, Arrays, Ready}
+use Rattle.search.specs.Fill.{reachOf, reachAt, column, LaneFilled, Lanes, DeadBelow}
 use Rattle.lane_rows.specs.Layout.{laneCount, markCount, top, laneLimit, inf, blockRows, priceRow, laneRows, suffixBase, reachBase, place, rowPlace, pricePlace, feeBase, feePlace, countPlace, suffixCuts, reachCuts, cutPlace, foursPlace, lanesIn, tablesSize}
 use Rattle.lane_rows.specs.Sheet.{Column, noColumn}
 use Rattle.lane_rows.specs.Tables.{Coded, Lane, Tables}
+use Rattle.model.specs.Limits.{longestLife}
 
 coded : (b : ℕ) (e : Bound) (v : ℕ) → b ≤ laneLimit → AtMost b e → v ≡ min (codeOf e) inf → Coded b v e
 coded b Missing v h l f = omega arith
@@ -52,40 +56,38 @@ offers-all (s ∷ ss) ps fs h =
 
 module _ (life end first : ℤ) (ss : List ℤ) (ps : List ℕ) (fs : List Bool) (tab t₀ t₁ t₂ t₃ : List ℕ) (q : ℕ) (few : length ss ≤ 64) (all : (k : ℕ) → getD fs k true ≡ true) (p : length ps ≡ length ss) (cheap : (j : ℕ) → getD ps j 0 ≤ top)
     (s : Suffixes life end first ss ps fs tab 0)
-    (w₁ : Wrote (λ (y : ℕ). min (getD tab y 0) inf) t₀ t₁ q 0 ((length ss + 1) * markCount))
-    (w₂ : Wrote (reachAt life first ss) t₁ t₂ q blockRows (blockRows + length ss * markCount))
-    (w₃ : Wrote (λ (y : ℕ). getD ps (y - priceRow) 0) t₂ t₃ q priceRow (priceRow + length ps)) where
+    (w₁ : FilledBy (λ (y : ℕ). rowPlace y q) (λ (y : ℕ). min (getD tab y 0) inf) ((length ss + 1) * markCount) t₀ t₁)
+    (w₂ : FilledBy (λ (x : ℕ). rowPlace (blockRows + x) q) (reachAt life first ss) (length ss * markCount) t₁ t₂)
+    (w₃ : FilledBy (λ (j : ℕ). rowPlace (priceRow + j) q) (λ (j : ℕ). getD ps j 0) (length ps) t₂ t₃) where
   suffix : (j i : ℕ) → i ≤ j → j ≤ length ss → Coded (top * (length ss - j)) (getD t₃ (place suffixBase j i q) 0) (leastOf life end (markOf first ss i) (drop j (offers ss ps [])))
   suffix j i h g =
       let y = j * markCount + i in
       let z : place suffixBase j i q ≡ rowPlace y q = omega arith in
       coded (top * (length ss - j)) (leastOf life end (markOf first ss i) (drop j (offers ss ps []))) (getD t₃ (place suffixBase j i q) 0) (omega arith)
       (most-least top life end (markOf first ss i) ss ps [] j cheap)
-      (ap (λ (k : ℕ). getD t₃ k 0) z ∙ w₃ .under y (omega arith) ∙ w₂ .under y (omega arith) ∙ w₁ .done y (omega arith) (omega arith)
+      (ap (λ (k : ℕ). getD t₃ k 0) z ∙ w₃ .rest (rowPlace y q) (λ x l e. omega (arith, e)) ∙ w₂ .rest (rowPlace y q) (λ x l e. omega (arith, e)) ∙ w₁ .done y (omega arith)
       ∙ ap (λ (k : ℕ). min k inf) (s .rows j i (omega arith) g h ∙ ap (λ (os : List Offer). codeOf (leastOf life end (markOf first ss i) (drop j os))) (offers-all ss ps fs all)))
 
-  reaches : (j i : ℕ) → i ≤ j → j < length ss → getD t₃ (place reachBase j i q) 0 ≡ pick (within life (markOf first ss i) (getD ss j (pos 0))) 0 inf
+  reaches : (j i : ℕ) → i ≤ j → j < length ss → getD t₃ (place reachBase j i q) 0 ≡ cond (within life (markOf first ss i) (getD ss j (pos 0))) 0 inf
   reaches j i h g =
-      let y = blockRows + (j * markCount + i) in
-      let z : place reachBase j i q ≡ rowPlace y q = omega arith in
-      let a : (y - blockRows) / markCount ≡ j = omega arith in
-      let b : (y - blockRows) % markCount ≡ i = omega arith in
-      ap (λ (k : ℕ). getD t₃ k 0) z ∙ w₃ .under y (omega arith) ∙ w₂ .done y (omega arith) (omega arith)
+      let x = j * markCount + i in
+      let z : place reachBase j i q ≡ rowPlace (blockRows + x) q = omega arith in
+      let a : x / markCount ≡ j = omega arith in
+      let b : x % markCount ≡ i = omega arith in
+      ap (λ (k : ℕ). getD t₃ k 0) z ∙ w₃ .rest (rowPlace (blockRows + x) q) (λ y l e. omega (arith, e)) ∙ w₂ .done x (omega arith)
       ∙ ap₂ (reachOf life first ss) a b ∙ rw (le-ltb (length ss) i (omega arith))
 
   price : (j : ℕ) → j < length ss → getD t₃ (pricePlace j q) 0 ≡ getD ps j 0
   price j h =
       let z : pricePlace j q ≡ rowPlace (priceRow + j) q = omega arith in
-      let y : priceRow + j - priceRow ≡ j = omega arith in
-      ap (λ (k : ℕ). getD t₃ k 0) z ∙ w₃ .done (priceRow + j) (omega arith) (omega arith) ∙ ap (λ (k : ℕ). getD ps k 0) y
+      ap (λ (k : ℕ). getD t₃ k 0) z ∙ w₃ .done j (omega arith)
 
   pub lane-done : LaneFilled end ss (column life first ps) t₀ t₃ q
   lane-done =
       record {
         lane = record { suffix = suffix; reach = reaches; price = price; cheap = cheap };
         size = w₃ .size ∙ w₂ .size ∙ w₁ .size;
-        over = λ y h. w₃ .over y (omega arith) ∙ w₂ .over y (omega arith) ∙ w₁ .over y (omega arith);
-        other = λ y r h n. w₃ .other y r h n ∙ w₂ .other y r h n ∙ w₁ .other y r h n;
+        rest = λ x n. w₃ .rest x (λ j l. n (priceRow + j) (omega arith)) ∙ w₂ .rest x (λ k l. n (blockRows + k) (omega arith)) ∙ w₁ .rest x (λ y l. n y (omega arith));
       }
 
 -- a lane that nobody wrote to stays right
@@ -106,7 +108,7 @@ lane-kept end ss col t t' q few k l =
 -- ---- all lanes, one after the other
 
 abbrev columnIn : List ℤ → List ℕ → List ℕ → List ℕ → ℕ → Column
-columnIn ss ls rs ps q = columnOf (partAt (length ss) ls rs ps q)
+columnIn ss ls rs ps q = columnOf (lanePart (length ss) ls rs ps q)
 
 module _ (e : ℤ) (ss : List ℤ) (ls rs ps : List ℕ) where
   pub lanes-none : (t : List ℕ) → length t ≡ tablesSize → Lanes e ss ls rs ps t 0
@@ -114,38 +116,35 @@ module _ (e : ℤ) (ss : List ℤ) (ls rs ps : List ℕ) where
 
   pub lanes-more : (t t' : List ℕ) (q : ℕ) → length ss ≤ 64 → q < laneCount → LaneFilled e ss (columnIn ss ls rs ps q) t t' q → Lanes e ss ls rs ps t q → Lanes e ss ls rs ps t' (q + 1)
   lanes-more t t' q few h f l =
-      record { size = f .size ∙ l .size; right = λ r g. go r g (ℕ-discrete r q) }
-    where
-      go : (r : ℕ) → r < q + 1 → Dec (r ≡ q) → Lane e ss (columnIn ss ls rs ps r) t' r
-      go r g (yes z) = rw z (f .lane)
-      go r g (no n) = lane-kept e ss (columnIn ss ls rs ps r) t t' r few (λ y k. f .other y r (omega arith) n) (l .right r (less (decLt r q)))
-        where
-          less : Dec (r < q) → r < q
-          less (yes h) = h
-          less (no h) = absurd (n (omega (arith, h)))
+      record {
+        size = f .size ∙ l .size;
+        right = below-more (λ (r : ℕ). Lane e ss (columnIn ss ls rs ps r) t' r) q
+            (λ r g. lane-kept e ss (columnIn ss ls rs ps r) t t' r few (λ y k. f .rest (rowPlace y r) (λ x m z. omega (arith, z))) (l .right r g))
+            (f .lane);
+      }
 
 columns-length : (n : ℕ) (ls rs ps : List ℕ) (q k : ℕ) → length (columnsFrom n ls rs ps q k) ≡ k
 unfolding columnsFrom
 columns-length n ls rs ps q zero = refl
 columns-length n ls rs ps q (suc k) = ap suc (columns-length n ls rs ps (suc q) k)
 
-columns-at : (n : ℕ) (ls rs ps : List ℕ) (q k i : ℕ) → i < k → getD (columnsFrom n ls rs ps q k) i noColumn ≡ columnOf (partAt n ls rs ps (q + i))
+columns-at : (n : ℕ) (ls rs ps : List ℕ) (q k i : ℕ) → i < k → getD (columnsFrom n ls rs ps q k) i noColumn ≡ columnOf (lanePart n ls rs ps (q + i))
 unfolding columnsFrom
 columns-at n ls rs ps q zero i h = absurd (omega arith)
-columns-at n ls rs ps q (suc k) zero h = let z : q ≡ q + 0 = omega arith in ap (λ (x : ℕ). columnOf (partAt n ls rs ps x)) z
-columns-at n ls rs ps q (suc k) (suc i) h = let z : suc q + i ≡ q + suc i = omega arith in columns-at n ls rs ps (suc q) k i (omega arith) ∙ ap (λ (x : ℕ). columnOf (partAt n ls rs ps x)) z
+columns-at n ls rs ps q (suc k) zero h = let z : q ≡ q + 0 = omega arith in ap (λ (x : ℕ). columnOf (lanePart n ls rs ps x)) z
+columns-at n ls rs ps q (suc k) (suc i) h = let z : suc q + i ≡ q + suc i = omega arith in columns-at n ls rs ps (suc q) k i (omega arith) ∙ ap (λ (x : ℕ). columnOf (lanePart n ls rs ps x)) z
 
 -- as many lanes as the parts fill, the fees, the number of openings, the cuts, and how many fours there are
 pub tables-filled : (e : ℤ) (ss : List ℤ) (fs ls rs ps t u v w′ w z : List ℕ) (fours : ℕ) → fours ≡ foursOf (length ls) → Arrays e ss fs ls rs ps → Lanes e ss ls rs ps t (fours * 4)
-    → Span (λ (x : ℕ). getD fs (x - feeBase) 0) t u feeBase (feeBase + length fs) → Span (λ (x : ℕ). length fs) u v countPlace (countPlace + 1)
-    → Cuts (fours * 4) v w′ suffixBase suffixCuts (length ss + 1) → Cuts (fours * 4) w′ w reachBase reachCuts (length ss) → Span (λ (x : ℕ). fours) w z foursPlace (foursPlace + 1)
+    → FilledBy feePlace (λ (j : ℕ). getD fs j 0) (length fs) t u → v ≡ set u countPlace (length fs)
+    → Filled (cutPlace suffixCuts) (DeadBelow (fours * 4) v suffixBase) (length ss + 1) v w′ → Filled (cutPlace reachCuts) (DeadBelow (fours * 4) w′ reachBase) (length ss) w′ w → z ≡ set w foursPlace fours
     → Tables (sheetOf e ss fs ls rs ps) z
 tables-filled e ss fs ls rs ps t u v w′ w z fours is ar la a b c d f =
     record {
-      size = f .size ∙ d .size ∙ c .size ∙ b .size ∙ a .size ∙ la .size;
+      size = long;
       few = ar .few;
       wide = columns-length (length ss) ls rs ps 0 (foursOf (length ls) * 4) ∙ sym (wide ∙ ap (λ (k : ℕ). k * 4) is);
-      some = omega (arith, wide, is, ar .some);
+      some = omega (arith, wide, is, ar .lives .some);
       narrow = omega (arith, wide, is, ar .lanes);
       paid = ar .paid;
       lanes = λ q h.
@@ -154,35 +153,45 @@ tables-filled e ss fs ls rs ps t u v w′ w z fours is ar la a b c d f =
           let k : getD (columnsFrom (length ss) ls rs ps 0 (foursOf (length ls) * 4)) q noColumn ≡ columnIn ss ls rs ps q = columns-at (length ss) ls rs ps 0 (foursOf (length ls) * 4) q l ∙ ap (columnIn ss ls rs ps) y in
           subst (λ (col : Column). Lane e ss col z q) (sym k)
           (lane-kept e ss (columnIn ss ls rs ps q) t z q (ar .few) (λ y m. under (rowPlace y q) (omega (arith, ar .lanes))) (la .right q (omega (arith, wide))));
-      fees = λ j h.
-          let few = ar .few in
-          let y : feePlace j - feeBase ≡ j = omega arith in
-          cuts (feePlace j) (omega arith) ∙ b .under (feePlace j) (omega arith) ∙ a .done (feePlace j) (omega arith) (omega (arith, ar .paid)) ∙ ap (λ (k : ℕ). getD fs k 0) y;
+      fees = λ j h. let few = ar .few in cuts (feePlace j) (omega arith) ∙ counted (feePlace j) (omega arith) ∙ a .done j (omega (arith, ar .paid));
       fair = ar .fair;
-      count = cuts countPlace (omega arith) ∙ b .done countPlace (omega arith) (omega arith) ∙ ar .paid;
+      count = cuts countPlace (omega arith) ∙ ap (λ (l : List ℕ). getD l countPlace 0) b ∙ getD-set-same u countPlace (length fs) 0 (omega (arith, a .size, la .size)) ∙ ar .paid;
       suffix-cut = λ j i q h g l.
           let few = ar .few in
-          let x : q < fours * 4 = omega (arith, wide) in
-          let r : i < getD w′ (cutPlace suffixCuts j) 0 = subst (λ (x : ℕ). i < x) (f .under (cutPlace suffixCuts j) (omega arith) ∙ d .under (cutPlace suffixCuts j) (omega arith)) g in
-          let m = c .most j (omega arith) in
-          cuts (place suffixBase j i q) (omega (arith, is, ar .lanes)) ∙ c .dead j (omega arith) i q r x;
+          let r : i < getD w′ (cutPlace suffixCuts j) 0 = subst (λ (x : ℕ). i < x) (last (cutPlace suffixCuts j) (omega arith) ∙ d .rest (cutPlace suffixCuts j) (λ y l e. omega (arith, e))) g in
+          let m = c .done j (omega arith) in
+          let k = m .most in
+          cuts (place suffixBase j i q) (omega (arith, wide, is, ar .lanes)) ∙ m .dead i r q (omega (arith, wide));
       reach-cut = λ j i q h g l.
           let few = ar .few in
-          let x : q < fours * 4 = omega (arith, wide) in
-          let r : i < getD w (cutPlace reachCuts j) 0 = subst (λ (x : ℕ). i < x) (f .under (cutPlace reachCuts j) (omega arith)) g in
-          let m = d .most j h in
-          f .under (place reachBase j i q) (omega (arith, is, ar .lanes)) ∙ d .under (place reachBase j i q) (omega (arith, is, ar .lanes)) ∙ d .dead j h i q r x;
+          let r : i < getD w (cutPlace reachCuts j) 0 = subst (λ (x : ℕ). i < x) (last (cutPlace reachCuts j) (omega arith)) g in
+          let m = d .done j h in
+          let k = m .most in
+          let x : q < laneCount = omega (arith, wide, is, ar .lanes) in
+          last (place reachBase j i q) (omega arith) ∙ d .rest (place reachBase j i q) (λ y l e. omega (arith, e)) ∙ m .dead i r q (omega (arith, wide));
     }
   where
-    wide : lanesIn z ≡ fours * 4
-    wide = ap (λ (k : ℕ). k * 4) (f .done foursPlace (omega arith) (omega arith))
+    long′ : length w ≡ tablesSize
+    long′ = d .size ∙ c .size ∙ ap length b ∙ length-set u countPlace (length fs) ∙ a .size ∙ la .size
 
-    -- what stands before the cuts
+    long : length z ≡ tablesSize
+    long = ap length f ∙ length-set w foursPlace fours ∙ long′
+
+    wide : lanesIn z ≡ fours * 4
+    wide = ap (λ (l : List ℕ). getD l foursPlace 0 * 4) f ∙ ap (λ (k : ℕ). k * 4) (getD-set-same w foursPlace fours 0 (omega (arith, long′)))
+
+    -- what stands before the number of fours, before the cuts, and before the number of openings
+    last : (x : ℕ) → x < foursPlace → getD z x 0 ≡ getD w x 0
+    last x h = ap (λ (l : List ℕ). getD l x 0) f ∙ getD-set-other w foursPlace x fours 0 (λ e. omega (arith, e))
+
     cuts : (x : ℕ) → x < suffixCuts → getD z x 0 ≡ getD v x 0
-    cuts x h = f .under x (omega arith) ∙ d .under x (omega arith) ∙ c .under x h
+    cuts x h = last x (omega arith) ∙ d .rest x (λ y l e. omega (arith, e)) ∙ c .rest x (λ y l e. omega (arith, e))
+
+    counted : (x : ℕ) → x < countPlace → getD v x 0 ≡ getD u x 0
+    counted x h = ap (λ (l : List ℕ). getD l x 0) b ∙ getD-set-other u countPlace x (length fs) 0 (λ e. omega (arith, e))
 
     under : (x : ℕ) → x < feeBase → getD z x 0 ≡ getD t x 0
-    under x h = cuts x (omega arith) ∙ b .under x (omega arith) ∙ a .under x h
+    under x h = cuts x (omega arith) ∙ counted x (omega arith) ∙ a .rest x (λ y l e. omega (arith, e))
 
 -- ---- a lane's own prices
 
@@ -214,19 +223,23 @@ lane-range l b f q = go (decLt q (length l))
     go (yes g) = rw (there l q (getD l 0 0) 0 g) (f q)
     go (no g) = rw (List·getD-eq-default l (getD l 0 0) {n = q} (omega (arith, g))) (f 0)
 
-module _ {ls rs : List ℕ} {q : ℕ} {v f : ℤ} (brief : (p : ℕ) → getD ls p 0 ≤ longestLife) (begun : (p : ℕ) → getD rs p 0 ≤ longestLife) (l : Lived ls rs q v f) where
-  pub change-small : Small f
-  change-small = rw (l .begins) (omega (arith, mag-sub (pos (laneValue rs q)) (pos (laneValue ls q)), lane-range ls longestLife brief q, lane-range rs longestLife begun q))
+module _ {ls rs : List ℕ} {q : ℕ} {v f : ℤ} (r : Lifespans ls rs) (l : Lived ls rs q v f) where
+  pub change-small : Bits31 f
+  change-small = rw (l .begins) (omega (arith, mag-sub (pos (laneValue rs q)) (pos (laneValue ls q)), lane-range ls longestLife (r .brief) q, lane-range rs longestLife (r .begun) q))
 
   -- both, read back from the bits of signed numbers
   pub lived-back : Lived ls rs q (toZ w32 (ofZ w32 v)) (toZ w32 (ofZ w32 f))
   lived-back =
-      let life-small : Small v = rw (l .lives) (omega (arith, lane-range ls longestLife brief q)) in
+      let life-small : Bits31 v = rw (l .lives) (omega (arith, lane-range ls longestLife (r .brief) q)) in
       record { lives = back v (omega arith) ∙ l .lives; begins = back f (omega (arith, change-small)) ∙ l .begins }
 
+-- the arrays with their end read back, and room for a table
+pub ready-back : {e : ℤ} {ss : List ℤ} {fs ls rs ps tab : List ℕ} → SFits w32 e → Arrays e ss fs ls rs ps → tableSize ≤ length tab → Ready (toZ w32 (ofZ w32 e)) ss fs ls rs ps tab
+ready-back {e} {ss} {fs} {ls} {rs} {ps} h r s = record { arrays = subst (λ (x : ℤ). Arrays x ss fs ls rs ps) (sym (toZ-ofZ h)) r; room = s }
+
 -- the marks after a lane's last change are small
-pub marks-small : {e : ℤ} {ss : List ℤ} {fs ls rs ps : List ℕ} {q : ℕ} {v f : ℤ} → Arrays e ss fs ls rs ps → Lived ls rs q v f → (k : ℕ) → Small (markOf f ss k)
-marks-small ar l zero = change-small (ar .brief) (ar .begun) l
+pub marks-small : {e : ℤ} {ss : List ℤ} {fs ls rs ps : List ℕ} {q : ℕ} {v f : ℤ} → Arrays e ss fs ls rs ps → Lived ls rs q v f → (k : ℕ) → Bits31 (markOf f ss k)
+marks-small ar l zero = change-small (ar .lives) l
 marks-small ar l (suc k) = omega (arith, ar .near k)
 
 -- a lane filled for these numbers is filled for those

@@ -1,5 +1,5 @@
 -- Laws of filling the tables, of the job behind them, and of the plan.
-pub mod Writing
+pub mod Cuts
 pub mod Filling
 pub mod Sheets
 pub mod Stops

@@ -2,7 +2,7 @@
 -- it is Missing where the first part's is, and else adds 0.
 use Prim.Native.Nat.{ℕ, zero, suc, _+_, _*_, _≤_, _<_}
 use mathlib.Core.Path.{_≡_, refl, sym, ap, ap₂, _∙_}
-use mathlib.Core.Bool.{Bool, true, false, _&&_}
+use mathlib.Core.Bool.{Bool, true, false, _&&_, cond}
 use mathlib.Core.List.{List, [], _∷_}
 use native.Mathlib.Omega.{arith}
 use lib.Dec.{ltb}
@@ -13,9 +13,9 @@ use Rattle.branch.specs.declared.Bound.the-variants.{Missing, Sum}
 use Rattle.branch.specs.Lower.{add, total}
 use Rattle.model.specs.Model.{Part, Job, within, sumAt, lastChange}
 use Rattle.model.specs.Verdict.{noPart}
-use Rattle.model.specs.LowerBound.{pick, plus, lower, leastOf, offers, partBound, stopCost, boundOf}
+use Rattle.model.specs.LowerBound.{plus, lower, leastOf, offers, partBound, stopCost, boundOf}
 use Rattle.model.proofs.Bools.{after-one, there}
-use Rattle.search.specs.Arrays.{priceStride, laneValue, partAt, columnOf, columnsFrom, foursOf, sheetOf, Holds}
+use Rattle.search.specs.Arrays.{priceStride, laneValue, lanePart, columnOf, columnsFrom, foursOf, sheetOf, Holds}
 use Rattle.search.proofs.Filling.{own-each}
 use Rattle.lane_rows.specs.Sheet.{columnBound, sheetBound}
 
@@ -31,11 +31,11 @@ unpaid-lower Missing (Sum b) = refl
 unpaid-lower (Sum a) Missing = refl
 unpaid-lower (Sum a) (Sum b) = go (ltb b a)
   where
-    go : (t : Bool) → Sum 0 ≡ unpaid (pick t (Sum b) (Sum a))
+    go : (t : Bool) → Sum 0 ≡ unpaid (cond t (Sum b) (Sum a))
     go true = refl
     go false = refl
 
-unpaid-change : (t : Bool) (n : ℕ) (e : Bound) → pick t (plus 0 (unpaid e)) Missing ≡ unpaid (pick t (plus n e) Missing)
+unpaid-change : (t : Bool) (n : ℕ) (e : Bound) → cond t (plus 0 (unpaid e)) Missing ≡ unpaid (cond t (plus n e) Missing)
 unpaid-change false n e = refl
 unpaid-change true n Missing = refl
 unpaid-change true n (Sum x) = refl
@@ -46,7 +46,7 @@ unpaid-least : (life end prev : ℤ) (ss : List ℤ) (zs ns : List ℕ) (p : Lis
 unfolding leastOf offers
 unpaid-least life end prev [] zs ns p h = go (within life prev end)
   where
-    go : (t : Bool) → pick t (Sum 0) Missing ≡ unpaid (pick t (Sum 0) Missing)
+    go : (t : Bool) → cond t (Sum 0) Missing ≡ unpaid (cond t (Sum 0) Missing)
     go true = refl
     go false = refl
 unpaid-least life end prev (s ∷ ss) zs ns p h =
@@ -55,8 +55,8 @@ unpaid-least life end prev (s ∷ ss) zs ns p h =
     let t = getD p 0 true && within life prev s in
     let a = leastOf life end prev (offers ss (drop 1 ns) (drop 1 p)) in
     let b = leastOf life end s (offers ss (drop 1 ns) (drop 1 p)) in
-    (λ i. lower (rest prev i) (pick t (plus (h 0 i) (rest s i)) Missing))
-    ∙ ap (lower (unpaid a)) (unpaid-change t (getD ns 0 0) b) ∙ unpaid-lower a (pick t (plus (getD ns 0 0) b) Missing)
+    (λ i. lower (rest prev i) (cond t (plus (h 0 i) (rest s i)) Missing))
+    ∙ ap (lower (unpaid a)) (unpaid-change t (getD ns 0 0) b) ∙ unpaid-lower a (cond t (plus (getD ns 0 0) b) Missing)
 
 -- ---- the columns
 
@@ -65,7 +65,7 @@ module _ (job : Job) (e : ℤ) (ss : List ℤ) (fs ls rs ps : List ℕ) (h : Hol
   abbrev begin : Bound
   begin = partBound job (getD (job .parts) 0 noPart) p
 
-  own : (q : ℕ) → q < length ls → columnBound (sheetOf e ss fs ls rs ps) (columnOf (partAt (length ss) ls rs ps q)) p ≡ partBound job (getD (job .parts) q noPart) p
+  own : (q : ℕ) → q < length ls → columnBound (sheetOf e ss fs ls rs ps) (columnOf (lanePart (length ss) ls rs ps q)) p ≡ partBound job (getD (job .parts) q noPart) p
   unfolding columnBound
   own q l =
       let z = sym (h .part q l) in
@@ -75,18 +75,18 @@ module _ (job : Job) (e : ℤ) (ss : List ℤ) (fs ls rs ps : List ℕ) (h : Hol
   past : (l : List ℕ) (q : ℕ) → 0 < length l → length l ≤ q → laneValue l q ≡ laneValue l 0
   past l q g k = List·getD-eq-default l (getD l 0 0) {n = q} k ∙ there l 0 0 (getD l 0 0) g
 
-  idle : (q : ℕ) → length ls ≤ q → columnBound (sheetOf e ss fs ls rs ps) (columnOf (partAt (length ss) ls rs ps q)) p ≡ unpaid begin
+  idle : (q : ℕ) → length ls ≤ q → columnBound (sheetOf e ss fs ls rs ps) (columnOf (lanePart (length ss) ls rs ps q)) p ≡ unpaid begin
   unfolding columnBound
   idle q l =
       let ar = h .arrays in
       let n = length ss in
-      let a = past ls q (ar .some) l in
-      let b = past rs q (omega (arith, ar .some, ar .lefts)) (omega (arith, ar .lefts)) in
+      let a = past ls q (ar .lives .some) l in
+      let b = past rs q (omega (arith, ar .lives .some, ar .lives .lefts)) (omega (arith, ar .lives .lefts)) in
       let zs = take n (drop (q * priceStride) ps) in
-      let first = partAt n ls rs ps 0 in
+      let first = lanePart n ls rs ps 0 in
       (λ i. leastOf (pos (a i)) e (pos (b i) -ℤ pos (a i)) (offers ss zs p))
       ∙ unpaid-least (pos (first .life)) e (lastChange first) ss zs (first .prices) p (own-each (λ (x : ℕ). x ≡ 0) ps q n refl (λ j. ar .free (q * priceStride + j) (omega arith)))
-      ∙ ap unpaid (own 0 (ar .some))
+      ∙ ap unpaid (own 0 (ar .lives .some))
 
   -- k columns from q on, of which the first are those of xs, where the first part can be kept
   columns-total : (x₀ : ℕ) → begin ≡ Sum x₀ → (xs : List Part) (q k : ℕ) → length xs ≤ k → q + length xs ≡ length ls → ((i : ℕ) → i < length xs → getD xs i noPart ≡ getD (job .parts) (q + i) noPart)
@@ -112,10 +112,10 @@ module _ (job : Job) (e : ℤ) (ss : List ℤ) (fs ls rs ps : List ℕ) (h : Hol
   all-total : (k : ℕ) → length ls ≤ k → (b : Bound) → begin ≡ b → total (columnBound (sheetOf e ss fs ls rs ps)) (columnsFrom (length ss) ls rs ps 0 k) p ≡ total (partBound job) (job .parts) p
   unfolding columnsFrom
   all-total k l (Sum x) b = columns-total x b (job .parts) 0 k (omega (arith, h .parts)) (omega (arith, h .parts)) (λ i l. let z : i ≡ 0 + i = omega arith in ap (λ (j : ℕ). getD (job .parts) j noPart) z)
-  all-total zero l Missing b = absurd (omega (arith, h .arrays .some))
+  all-total zero l Missing b = absurd (omega (arith, h .arrays .lives .some))
   all-total (suc k) l Missing b =
-      ap (λ (y : Bound). add y (total (columnBound (sheetOf e ss fs ls rs ps)) (columnsFrom (length ss) ls rs ps 1 k) p)) (own 0 (h .arrays .some) ∙ b)
-      ∙ sym (missing-total (job .parts) (omega (arith, h .parts, h .arrays .some)) b)
+      ap (λ (y : Bound). add y (total (columnBound (sheetOf e ss fs ls rs ps)) (columnsFrom (length ss) ls rs ps 1 k) p)) (own 0 (h .arrays .lives .some) ∙ b)
+      ∙ sym (missing-total (job .parts) (omega (arith, h .parts, h .arrays .lives .some)) b)
 
   pub sheet-bound : sheetBound (sheetOf e ss fs ls rs ps) p ≡ boundOf job p
   unfolding sheetBound boundOf stopCost

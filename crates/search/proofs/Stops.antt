@@ -4,13 +4,13 @@ use mathlib.Core.Path.{_≡_, sym, ap, _∙_}
 use mathlib.Core.Bool.{Bool, false}
 use mathlib.Core.List.{List, _∷_, _++_}
 use native.Mathlib.Omega.{arith}
-use native.Mathlib.Decide.{ℕ-discrete, decLt}
+use borrow.Author.Count.{below-more}
 use lib.Dec.{eqb}
 use lib.ListN.{length, getD, drop, set, replicate, length-set}
 use lib.Seq.{append-snoc, drop-cons, drop-set-lt, getD-set-same, getD-set-other}
 use lib.IntN.{ℤ}
-use Rattle.search.specs.declared.Row.{Row}
-use Rattle.search.specs.Arrays.{partAt}
+use Rattle.jobs.specs.declared.Changes.{Changes}
+use Rattle.search.specs.Arrays.{lanePart}
 use Rattle.search.specs.Plan.{choiceAt, noRow, Chooses}
 use Rattle.lane_rows.specs.Layout.{laneCount}
 use Rattle.walk.specs.State.{bits}
@@ -48,21 +48,15 @@ stops-all out (suc k) m all h e = absurd (omega arith)
 -- ---- the rows of changes
 
 module _ (e : ℤ) (ss : List ℤ) (ls rs ps : List ℕ) (stops : List Bool) where
-  pub chooses-none : (rows : List Row) → length rows ≡ laneCount → Chooses e ss ls rs ps stops rows 0
+  pub chooses-none : (rows : List Changes) → length rows ≡ laneCount → Chooses e ss ls rs ps stops rows 0
   chooses-none rows h = record { size = h; row = λ q l. absurd (omega arith) }
 
-  pub chooses-more : (rows : List Row) (q : ℕ) (v : List Bool) → q < laneCount → v ≡ choiceAt e ss (partAt (length ss) ls rs ps q) stops ++ replicate (64 - length ss) false
+  pub chooses-more : (rows : List Changes) (q : ℕ) (v : List Bool) → q < laneCount → v ≡ choiceAt e ss (lanePart (length ss) ls rs ps q) stops ++ replicate (64 - length ss) false
       → Chooses e ss ls rs ps stops rows q → Chooses e ss ls rs ps stops (set rows q (record { at = v })) (q + 1)
   chooses-more rows q v h f c =
-      record { size = length-set rows q (record { at = v }) ∙ c .size; row = λ r l. go r l (ℕ-discrete r q) }
-    where
-      row : Row
-      row = record { at = v }
-
-      go : (r : ℕ) → r < q + 1 → Dec (r ≡ q) → getD (set rows q row) r noRow .at ≡ choiceAt e ss (partAt (length ss) ls rs ps r) stops ++ replicate (64 - length ss) false
-      go r l (yes z) = rw z (ap (λ (x : Row). x .at) (getD-set-same rows q row noRow (omega (arith, c .size))) ∙ f)
-      go r l (no n) = ap (λ (x : Row). x .at) (getD-set-other rows q r row noRow n) ∙ c .row r (less (decLt r q))
-        where
-          less : Dec (r < q) → r < q
-          less (yes h) = h
-          less (no h) = absurd (n (omega (arith, h)))
+      record {
+        size = length-set rows q (record { at = v }) ∙ c .size;
+        row = below-more (λ (r : ℕ). getD (set rows q (record { at = v })) r noRow .at ≡ choiceAt e ss (lanePart (length ss) ls rs ps r) stops ++ replicate (64 - length ss) false) q
+            (λ r l. ap (λ (x : Changes). x .at) (getD-set-other rows q r (record { at = v }) noRow (λ z. omega (arith, z))) ∙ c .row r l)
+            (ap (λ (x : Changes). x .at) (getD-set-same rows q (record { at = v }) noRow (omega (arith, c .size))) ∙ f);
+      }

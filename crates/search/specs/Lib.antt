@@ -1,4 +1,4 @@
 pub mod Arrays
 pub mod Fill
 pub mod Plan
-pub mod Outcome
+pub mod Found

@@ -7,18 +7,18 @@ use lib.ListN.{length, getD, replicate}
 use lib.IntN.{ℤ, pos}
 use Rattle.model.specs.Model.{Part, lastChange}
 use Rattle.model.specs.LowerBound.{offers, choiceOf}
-use Rattle.search.specs.declared.Row.{Row}
-use Rattle.search.specs.Arrays.{partAt}
+use Rattle.jobs.specs.declared.Changes.{Changes}
+use Rattle.search.specs.Arrays.{lanePart}
 use Rattle.lane_rows.specs.Layout.{laneCount}
 
 -- the tie rule's changes of a part within the stops
 abbrev pub choiceAt : ℤ → List ℤ → Part → List Bool → List Bool
 choiceAt e ss part stops = choiceOf (pos (part .life)) e (lastChange part) (offers ss (part .prices) stops)
 
-abbrev pub noRow : Row
+abbrev pub noRow : Changes
 noRow = record { at = replicate 64 false }
 
 -- the first m rows are those of the first m parts; no change past the last opening
-pub record Chooses (e : ℤ) (ss : List ℤ) (ls rs ps : List ℕ) (stops : List Bool) (rows : List Row) (m : ℕ) : Type 0 where
+pub record Chooses (e : ℤ) (ss : List ℤ) (ls rs ps : List ℕ) (stops : List Bool) (rows : List Changes) (m : ℕ) : Type 0 where
   pub size : length rows ≡ laneCount
-  pub row : (q : ℕ) → q < m → getD rows q noRow .at ≡ choiceAt e ss (partAt (length ss) ls rs ps q) stops ++ replicate (64 - length ss) false
+  pub row : (q : ℕ) → q < m → getD rows q noRow .at ≡ choiceAt e ss (lanePart (length ss) ls rs ps q) stops ++ replicate (64 - length ss) false

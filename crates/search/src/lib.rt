@@ -2,14 +2,13 @@
 pub mod plan;
 pub mod tables;
 
-ghost use Prim.Native.Nat.{_+_, _^_, _<_, _≤_};
-ghost use lib.ListN.{length};
+ghost use Prim.Native.Nat.{_+_, _^_, _<_};
 ghost use Rattle.model.specs.Model.{Job};
-ghost use Rattle.least.specs.Suffix.{tableSize};
 ghost use Rattle.walk.specs.State.{Solves};
-ghost use Rattle.search.specs.Arrays.{sheetOf, Arrays, Holds};
-ghost use Rattle.search.specs.Outcome.{Answers};
+ghost use Rattle.search.specs.Arrays.{sheetOf, Ready, Holds};
+ghost use Rattle.search.specs.Found.{Finds};
 use branch::Bound;
+use jobs::Changes;
 use lane_rows::STACK;
 use lane_rows::TABLES;
 use least::TABLE;
@@ -19,20 +18,15 @@ use tables::fill;
 use walk::Solved;
 use walk::solve;
 
-// One part's changes: a flag for each opening.
-pub struct Row {
-    pub at: [bool; 64],
-}
-
 // The nodes walked, whether there are more, the incumbent and its cost, the floor, and the incumbent's plan.
-pub struct Outcome {
+pub struct Found {
     pub count: u64,
     pub over: bool,
     pub found: bool,
     pub cost: u64,
     pub floor: Bound,
     pub stops: [bool; 64],
-    pub changes: [Row; 16],
+    pub changes: [Changes; 16],
 }
 
 // The floor and the walk's last state. The tables stand on the stack of this call.
@@ -46,7 +40,7 @@ fn walked(
     limit: u64,
     tab: &mut [u64],
 ) -> Solved
-    requires { ⌜ (Arrays end (now positions) (now fees) (now lives) (now lefts) (now prices)) × (tableSize ≤ length (now tab)) × (limit + 1 < 2 ^ 64) ⌝ }
+    requires { ⌜ (Ready end (now positions) (now fees) (now lives) (now lefts) (now prices) (now tab)) × (limit + 1 < 2 ^ 64) ⌝ }
     ensures { λ r. ⌜ Solves (sheetOf end (now (positions .entry)) (now (fees .entry)) (now (lives .entry)) (now (lefts .entry)) (now (prices .entry))) limit r ⌝ }
 {
     let mut t = [0; TABLES];
@@ -64,9 +58,9 @@ pub fn search(
     lefts: &[u32],
     prices: &[u32],
     limit: u64,
-) -> Outcome
+) -> Found
     requires { ⌜ ((job : Job) × Holds job end (now positions) (now fees) (now lives) (now lefts) (now prices)) × (limit + 1 < 2 ^ 64) ⌝ }
-    ensures { λ r. ⌜ ((job : Job) → Holds job end (now (positions .entry)) (now (fees .entry)) (now (lives .entry)) (now (lefts .entry)) (now (prices .entry)) → Answers job limit r) ⌝ }
+    ensures { λ r. ⌜ ((job : Job) → Holds job end (now (positions .entry)) (now (fees .entry)) (now (lives .entry)) (now (lefts .entry)) (now (prices .entry)) → Finds job limit r) ⌝ }
 {
     let mut tab = [0; TABLE];
     let solved = walked(end, positions, fees, lives, lefts, prices, limit, &mut tab);
@@ -83,7 +77,7 @@ pub fn search(
         &stops[..n],
         &mut tab,
     );
-    Outcome {
+    Found {
         count: solved.count,
         over: solved.over,
         found: solved.found,

@@ -4,18 +4,18 @@ ghost use mathlib.Core.Bool.{false};
 ghost use mathlib.Core.List.{_++_};
 ghost use Prim.Native.Nat.{_-_, _<_, _≤_};
 ghost use lib.ListN.{length, replicate};
-ghost use Rattle.least.specs.Suffix.{tableSize};
 ghost use Rattle.lane_rows.specs.Layout.{laneCount};
 ghost use Rattle.walk.specs.State.{bits};
-ghost use Rattle.search.specs.Arrays.{partAt, Arrays};
+ghost use Rattle.search.specs.Arrays.{lanePart, Ready};
 ghost use Rattle.search.specs.Plan.{choiceAt, Chooses};
-use crate::Row;
 use crate::tables::STRIDE;
 use crate::tables::lane_life;
+use jobs::Changes;
+ghost use Rattle.model.specs.Limits.{mostOpenings};
 
 // The decisions of a mask, the latest in its lowest bit; no stop past the last opening.
 pub fn stops_of(mask: u64, n: usize) -> [bool; 64]
-    requires { ⌜ n ≤ 64 ⌝ }
+    requires { ⌜ n ≤ mostOpenings ⌝ }
     ensures { λ r. ⌜ r ≡ bits n mask ++ replicate (64 - n) false ⌝ }
 {
     let mut out = [false; 64];
@@ -41,8 +41,8 @@ fn part_changes(
     stops: &[bool],
     tab: &mut [u64],
 ) -> [bool; 64]
-    requires { ⌜ (Arrays end (now positions) (now fees) (now lives) (now lefts) (now prices)) × (tableSize ≤ length (now tab)) × (q < laneCount) × (length (now stops) ≡ length (now positions)) ⌝ }
-    ensures { λ r. ⌜ r ≡ choiceAt end (now (positions .entry)) (partAt (length (now (positions .entry))) (now (lives .entry)) (now (lefts .entry)) (now (prices .entry)) q) (now (stops .entry)) ++ replicate (64 - length (now (positions .entry))) false ⌝ }
+    requires { ⌜ (Ready end (now positions) (now fees) (now lives) (now lefts) (now prices) (now tab)) × (q < laneCount) × (length (now stops) ≡ length (now positions)) ⌝ }
+    ensures { λ r. ⌜ r ≡ choiceAt end (now (positions .entry)) (lanePart (length (now (positions .entry))) (now (lives .entry)) (now (lefts .entry)) (now (prices .entry)) q) (now (stops .entry)) ++ replicate (64 - length (now (positions .entry))) false ⌝ }
 {
     let n = positions.len();
     let lane = lane_life(lives, lefts, q);
@@ -67,15 +67,15 @@ pub fn changes(
     prices: &[u32],
     stops: &[bool],
     tab: &mut [u64],
-) -> [Row; 16]
-    requires { ⌜ (Arrays end (now positions) (now fees) (now lives) (now lefts) (now prices)) × (tableSize ≤ length (now tab)) × (length (now stops) ≡ length (now positions)) ⌝ }
+) -> [Changes; 16]
+    requires { ⌜ (Ready end (now positions) (now fees) (now lives) (now lefts) (now prices) (now tab)) × (length (now stops) ≡ length (now positions)) ⌝ }
     ensures { λ r. ⌜ Chooses end (now (positions .entry)) (now (lives .entry)) (now (lefts .entry)) (now (prices .entry)) (now (stops .entry)) r (length (now (lives .entry))) ⌝ }
 {
-    let mut rows = [Row { at: [false; 64] }; 16];
+    let mut rows = [Changes { at: [false; 64] }; 16];
     let mut q = 0;
     while q < lives.len() {
         let at = part_changes(end, positions, fees, lives, lefts, prices, q, stops, tab);
-        rows[q] = Row { at };
+        rows[q] = Changes { at };
         q += 1;
     }
     rows

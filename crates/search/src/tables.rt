@@ -1,15 +1,15 @@
 // Filling the tables of the walk, one lane after the other.
 ghost use mathlib.Core.Path.{_≡_};
 ghost use mathlib.Core.Bool.{true};
-ghost use Prim.Native.Nat.{ℕ, _+_, _-_, _*_, _<_, _≤_, min};
-ghost use lib.ListN.{length, getD};
+ghost use Prim.Native.Nat.{ℕ, _+_, _*_, _<_, _≤_, min};
+ghost use lib.ListN.{length, getD, set};
 ghost use lib.IntN.{pos};
-ghost use Rattle.least.specs.Marks.{Small, markOf};
-ghost use Rattle.least.specs.Suffix.{tableSize};
-ghost use Rattle.lane_rows.specs.Layout.{laneCount, markCount, top, inf, blockRows, blockSize, priceRow, feeBase, tablesSize};
+ghost use Rattle.least.specs.Marks.{Bits31, markOf};
+ghost use Rattle.least.specs.Filled.{Filled, FilledBy};
+ghost use Rattle.lane_rows.specs.Layout.{laneCount, markCount, inf, blockRows, blockSize, rowPlace, priceRow, feePlace, cutPlace, tablesSize};
 ghost use Rattle.lane_rows.specs.Tables.{Tables};
-ghost use Rattle.search.specs.Arrays.{longestLife, laneValue, partAt, foursOf, columnOf, sheetOf, Lived, Arrays};
-ghost use Rattle.search.specs.Fill.{Wrote, reachOf, reachAt, column, LaneFilled, Span, Lanes, Dead, Cuts};
+ghost use Rattle.search.specs.Arrays.{laneValue, lanePart, foursOf, columnOf, sheetOf, Lived, Lifespans, Ready};
+ghost use Rattle.search.specs.Fill.{reachOf, reachAt, column, InLane, LaneAsks, LaneFilled, Lanes, DeadBelow, CutsAsk};
 use lane_rows::COUNT;
 use lane_rows::FEES;
 use lane_rows::FOURS;
@@ -20,6 +20,7 @@ use lane_rows::REACHES;
 use lane_rows::SUFFIX_CUTS;
 use lane_rows::SUFFIXES;
 use least::MARKS;
+ghost use Rattle.model.specs.Limits.{longestLife, mostOpenings};
 
 // The rows of a block, and the row where the prices start.
 const BLOCK_ROWS: usize = 4225;
@@ -57,7 +58,7 @@ pub struct LaneLife {
 
 // Lane q's life and last change: part q's, and past the last part the first part's.
 pub fn lane_life(lives: &[u32], lefts: &[u32], q: usize) -> LaneLife
-    requires { ⌜ (0 < length (now lives)) × (0 < length (now lefts)) × ((p : ℕ) → getD (now lives) p 0 ≤ longestLife) × ((p : ℕ) → getD (now lefts) p 0 ≤ longestLife) ⌝ }
+    requires { ⌜ Lifespans (now lives) (now lefts) ⌝ }
     ensures { λ r. ⌜ Lived (now (lives .entry)) (now (lefts .entry)) q (r .life) (r .first) ⌝ }
 {
     let life = lane_value(lives, q);
@@ -77,7 +78,7 @@ fn capped(v: u64) -> u32
 
 // 0 where opening j is in reach of mark i.
 fn reach(life: i32, first: i32, positions: &[i32], j: usize, i: usize) -> u32
-    requires { ⌜ (j < length (now positions)) × ((k : ℕ) → Small (markOf first (now positions) k)) ⌝ }
+    requires { ⌜ (j < length (now positions)) × ((k : ℕ) → Bits31 (markOf first (now positions) k)) ⌝ }
     ensures { λ r. ⌜ r ≡ reachOf life first (now (positions .entry)) j i ⌝ }
 {
     if positions.len() < i {
@@ -92,8 +93,8 @@ fn reach(life: i32, first: i32, positions: &[i32], j: usize, i: usize) -> u32
 
 // One lane of the first m rows of the suffix prices, from a part's own table.
 fn put_suffixes(tab: &[u64], m: usize, q: usize, t: &mut [u32])
-    requires { ⌜ (m ≤ blockRows) × (blockRows ≤ length (now tab)) × (q < laneCount) × (length (now t) ≡ tablesSize) ⌝ }
-    ensures { λ _. ⌜ Wrote (λ (y : ℕ). min (getD (now (tab .entry)) y 0) inf) (now (t .entry)) (now (t .exit)) q 0 m ⌝ }
+    requires { ⌜ (m ≤ blockRows) × (blockRows ≤ length (now tab)) × (InLane q (now t)) ⌝ }
+    ensures { λ _. ⌜ FilledBy (λ (y : ℕ). rowPlace y q) (λ (y : ℕ). min (getD (now (tab .entry)) y 0) inf) m (now (t .entry)) (now (t .exit)) ⌝ }
 {
     for y in 0..m {
         t[y * LANES + q] = capped(tab[y]);
@@ -102,8 +103,8 @@ fn put_suffixes(tab: &[u64], m: usize, q: usize, t: &mut [u32])
 
 // One lane of the reach.
 fn put_reach(life: i32, first: i32, positions: &[i32], q: usize, t: &mut [u32])
-    requires { ⌜ (length (now positions) ≤ 64) × ((k : ℕ) → Small (markOf first (now positions) k)) × (q < laneCount) × (length (now t) ≡ tablesSize) ⌝ }
-    ensures { λ _. ⌜ Wrote (reachAt life first (now (positions .entry))) (now (t .entry)) (now (t .exit)) q blockRows (blockRows + length (now (positions .entry)) * markCount) ⌝ }
+    requires { ⌜ (length (now positions) ≤ mostOpenings) × ((k : ℕ) → Bits31 (markOf first (now positions) k)) × (InLane q (now t)) ⌝ }
+    ensures { λ _. ⌜ FilledBy (λ (x : ℕ). rowPlace (blockRows + x) q) (reachAt life first (now (positions .entry))) (length (now (positions .entry)) * markCount) (now (t .entry)) (now (t .exit)) ⌝ }
 {
     let n = positions.len() * MARKS;
     let mut x = 0;
@@ -115,8 +116,8 @@ fn put_reach(life: i32, first: i32, positions: &[i32], q: usize, t: &mut [u32])
 
 // One lane of the prices.
 fn put_prices(prices: &[u32], q: usize, t: &mut [u32])
-    requires { ⌜ (length (now prices) ≤ 64) × (q < laneCount) × (length (now t) ≡ tablesSize) ⌝ }
-    ensures { λ _. ⌜ Wrote (λ (y : ℕ). getD (now (prices .entry)) (y - priceRow) 0) (now (t .entry)) (now (t .exit)) q priceRow (priceRow + length (now (prices .entry))) ⌝ }
+    requires { ⌜ (length (now prices) ≤ mostOpenings) × (InLane q (now t)) ⌝ }
+    ensures { λ _. ⌜ FilledBy (λ (j : ℕ). rowPlace (priceRow + j) q) (λ (j : ℕ). getD (now (prices .entry)) j 0) (length (now (prices .entry))) (now (t .entry)) (now (t .exit)) ⌝ }
 {
     let mut j = 0;
     while j < prices.len() {
@@ -136,8 +137,7 @@ fn fill_lane(
     tab: &mut [u64],
     t: &mut [u32],
 )
-    requires { ⌜ (tableSize ≤ length (now tab)) × (length (now positions) ≤ 64) × (length (now prices) ≡ length (now positions)) × (Small end) × ((k : ℕ) → Small (markOf first (now positions) k)) ⌝ }
-    requires { ⌜ (q < laneCount) × (length (now t) ≡ tablesSize) × ((j : ℕ) → getD (now prices) j 0 ≤ top) ⌝ }
+    requires { ⌜ LaneAsks end first (now positions) (now prices) q (now tab) (now t) ⌝ }
     ensures { λ _. ⌜ LaneFilled end (now (positions .entry)) (column life first (now (prices .entry))) (now (t .entry)) (now (t .exit)) q ⌝ }
 {
     let all = [true; 64];
@@ -160,8 +160,8 @@ fn fill_part(
     tab: &mut [u64],
     t: &mut [u32],
 )
-    requires { ⌜ (Arrays end (now positions) (now fees) (now lives) (now lefts) (now prices)) × (tableSize ≤ length (now tab)) × (length (now t) ≡ tablesSize) × (q < laneCount) ⌝ }
-    ensures { λ _. ⌜ LaneFilled end (now (positions .entry)) (columnOf (partAt (length (now (positions .entry))) (now (lives .entry)) (now (lefts .entry)) (now (prices .entry)) q)) (now (t .entry)) (now (t .exit)) q ⌝ }
+    requires { ⌜ (Ready end (now positions) (now fees) (now lives) (now lefts) (now prices) (now tab)) × (InLane q (now t)) ⌝ }
+    ensures { λ _. ⌜ LaneFilled end (now (positions .entry)) (columnOf (lanePart (length (now (positions .entry))) (now (lives .entry)) (now (lefts .entry)) (now (prices .entry)) q)) (now (t .entry)) (now (t .exit)) q ⌝ }
 {
     let n = positions.len();
     let lane = lane_life(lives, lefts, q);
@@ -189,7 +189,7 @@ fn fill_lanes(
     tab: &mut [u64],
     t: &mut [u32],
 )
-    requires { ⌜ (Arrays end (now positions) (now fees) (now lives) (now lefts) (now prices)) × (tableSize ≤ length (now tab)) × (length (now t) ≡ tablesSize) × (lanes ≤ laneCount) ⌝ }
+    requires { ⌜ (Ready end (now positions) (now fees) (now lives) (now lefts) (now prices) (now tab)) × (length (now t) ≡ tablesSize) × (lanes ≤ laneCount) ⌝ }
     ensures { λ _. ⌜ Lanes end (now (positions .entry)) (now (lives .entry)) (now (lefts .entry)) (now (prices .entry)) (now (t .exit)) lanes ⌝ }
 {
     let mut q = 0;
@@ -201,8 +201,8 @@ fn fill_lanes(
 
 // The fees.
 fn put_fees(fees: &[u32], t: &mut [u32])
-    requires { ⌜ (length (now fees) ≤ 64) × (length (now t) ≡ tablesSize) ⌝ }
-    ensures { λ _. ⌜ Span (λ (x : ℕ). getD (now (fees .entry)) (x - feeBase) 0) (now (t .entry)) (now (t .exit)) feeBase (feeBase + length (now (fees .entry))) ⌝ }
+    requires { ⌜ (length (now fees) ≤ mostOpenings) × (length (now t) ≡ tablesSize) ⌝ }
+    ensures { λ _. ⌜ FilledBy feePlace (λ (j : ℕ). getD (now (fees .entry)) j 0) (length (now (fees .entry))) (now (t .entry)) (now (t .exit)) ⌝ }
 {
     let mut j = 0;
     while j < fees.len() {
@@ -214,7 +214,7 @@ fn put_fees(fees: &[u32], t: &mut [u32])
 // One number of the tables.
 fn put_number(at: usize, n: u32, t: &mut [u32])
     requires { ⌜ (length (now t) ≡ tablesSize) × (at < tablesSize) ⌝ }
-    ensures { λ _. ⌜ Span (λ (x : ℕ). n) (now (t .entry)) (now (t .exit)) at (at + 1) ⌝ }
+    ensures { λ _. ⌜ now (t .exit) ≡ set (now (t .entry)) at n ⌝ }
 {
     t[at] = n;
 }
@@ -236,8 +236,8 @@ fn dead(lanes: usize, row: &[u32]) -> bool
 
 // How many marks add nothing at opening j.
 fn first_live(lanes: usize, t: &[u32], base: usize, j: usize) -> u32
-    requires { ⌜ (lanes ≤ laneCount) × (base + blockSize ≤ length (now t)) × (j ≤ 64) ⌝ }
-    ensures { λ r. ⌜ (r ≤ j) × (Dead lanes (now (t .entry)) base j r) ⌝ }
+    requires { ⌜ (lanes ≤ laneCount) × (base + blockSize ≤ length (now t)) × (j ≤ mostOpenings) ⌝ }
+    ensures { λ r. ⌜ DeadBelow lanes (now (t .entry)) base j r ⌝ }
 {
     let mut i = 0;
     while i < j {
@@ -252,8 +252,8 @@ fn first_live(lanes: usize, t: &[u32], base: usize, j: usize) -> u32
 
 // The cuts of the first m openings, from `off` on.
 fn put_cuts(lanes: usize, base: usize, off: usize, m: usize, t: &mut [u32])
-    requires { ⌜ (lanes ≤ laneCount) × (length (now t) ≡ tablesSize) × (m ≤ markCount) × (base + blockSize ≤ off) × (off + m ≤ tablesSize) ⌝ }
-    ensures { λ _. ⌜ Cuts lanes (now (t .entry)) (now (t .exit)) base off m ⌝ }
+    requires { ⌜ CutsAsk lanes base off m (now t) ⌝ }
+    ensures { λ _. ⌜ Filled (cutPlace off) (DeadBelow lanes (now (t .entry)) base) m (now (t .entry)) (now (t .exit)) ⌝ }
 {
     let mut j = 0;
     while j < m {
@@ -282,7 +282,7 @@ pub fn fill(
     tab: &mut [u64],
     t: &mut [u32],
 )
-    requires { ⌜ (Arrays end (now positions) (now fees) (now lives) (now lefts) (now prices)) × (tableSize ≤ length (now tab)) × (length (now t) ≡ tablesSize) ⌝ }
+    requires { ⌜ (Ready end (now positions) (now fees) (now lives) (now lefts) (now prices) (now tab)) × (length (now t) ≡ tablesSize) ⌝ }
     ensures { λ _. ⌜ Tables (sheetOf end (now (positions .entry)) (now (fees .entry)) (now (lives .entry)) (now (lefts .entry)) (now (prices .entry))) (now (t .exit)) ⌝ }
 {
     let fours = fours_of(lives.len());

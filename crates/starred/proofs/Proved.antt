@@ -2,7 +2,7 @@
 use mathlib.Core.Path.{refl}
 use Rattle.lines.specs.Text.{bytes, decimalIn, line, joined}
 use Rattle.lines.specs.Line.{digits, numberFrom, startsWith, readValue, readLine}
-use Rattle.lines.specs.Parser.{_>>=_, return, inRange, readField, taken, rowAt, optionalAt, checked, chain, times, end, whole, readText}
+use Rattle.lines.specs.Parser.{_>>=_, return, inRange, readField, taken, rowAt, optionalAt, ifPresent, checked, chain, times, end, whole, readText}
 use Rattle.lines.specs.Fault.{beforeBreak, afterBreak, skipped, faultLine, faultSpan}
 use Rattle.branch.specs.Search.{walk, limited}
 use Rattle.branch.specs.Label.{treeOf}
@@ -13,11 +13,11 @@ use Rattle.model.specs.Verdict.{firstLate, verdictFrom, judgedOf}
 use Rattle.job_text.specs.Grammar as job
 use Rattle.plan_text.specs.Grammar as plan
 use Rattle.plan_text.specs.Rendering.{visitText, planText, chosen, visitsOf, planLinesOf}
-use Rattle.answers.specs.Said.{faultLines, searchLines, plannedLines, costLines, unkeptLines, bytesOf}
-use Rattle.judging.specs.Judge.{judgeOutcome}
-use Rattle.planning.specs.Plan.{planSaid}
+use Rattle.answers.specs.Said.{faultLines}
+use Rattle.judging.specs.Judge.{costLines, unkeptLines, judgeSaid}
+use Rattle.planning.specs.Plan.{searchLines, plannedLines, planSaid}
 use Rattle.starred.specs.Table.{All, table}
 
 pub proved : All table
-unfolding table bytes decimalIn line joined digits numberFrom startsWith readValue readLine _>>=_ return inRange readField taken rowAt optionalAt checked chain times end whole readText beforeBreak afterBreak skipped faultLine faultSpan walk limited treeOf idle running clock within kept lastWithin dueOf select sumAt leastOf choiceOf offers stopCost boundOf answerOf firstLate verdictFrom judgedOf job.idle job.idleSteps job.idles job.opening job.openings job.part job.body job.jobLines plan.any plan.part plan.parts plan.visit plan.visits plan.planOf plan.planLines visitText planText chosen visitsOf planLinesOf faultLines searchLines plannedLines costLines unkeptLines bytesOf judgeOutcome planSaid
+unfolding table bytes decimalIn line joined digits numberFrom startsWith readValue readLine _>>=_ return inRange readField taken rowAt optionalAt ifPresent checked chain times end whole readText beforeBreak afterBreak skipped faultLine faultSpan walk limited treeOf idle running clock within kept lastWithin dueOf select sumAt leastOf choiceOf offers stopCost boundOf answerOf firstLate verdictFrom judgedOf job.idle job.idleSteps job.idles job.opening job.openings job.part job.body job.jobLines plan.any plan.part plan.parts plan.visit plan.visits plan.planOf plan.planLines visitText planText chosen visitsOf planLinesOf faultLines searchLines plannedLines costLines unkeptLines judgeSaid planSaid
 proved = ((refl, refl, refl, refl, refl, refl), ((refl, refl, refl, refl, refl, refl), ((refl, refl, refl, refl, refl, refl), ((refl, refl, refl, refl, refl, refl), ((refl, refl, refl, refl, refl, refl), ((refl, refl, refl, refl, refl, refl), ((refl, refl, refl, refl, refl, refl), ((refl, refl, refl, refl, refl, refl), ((refl, refl, refl, refl, refl, refl), ((refl, refl, refl, refl, refl, refl), ((refl, refl, refl, refl, refl, refl), ((refl, refl, refl, refl, refl, refl), ((refl, refl, refl, refl, refl, refl), ((refl, refl, refl, refl, refl, refl), ((refl, refl, refl, refl, refl, refl), tt)))))))))))))))

@@ -19,7 +19,10 @@ pub fn head_at(table: &[u8], at: usize, key: &[u8]) -> Head
     ensures { λ r. ⌜ (r ≡ headAt (now (table .entry)) at (now (key .entry))) × (r .behind ≤ length (now (table .entry))) ⌝ }
 {
     match read_line(&table[at..], key) {
-        Line::Value(n, k) => Head {
+        Line::Value {
+            value: n,
+            length: k,
+        } => Head {
             number: n as usize,
             behind: at + k,
         },

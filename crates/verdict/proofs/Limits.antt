@@ -8,19 +8,10 @@ use Rattle.model.specs.Model.{Job, Plan, feeOf, costOf}
 use Rattle.model.specs.Verdict.{Judgement, accepts, unkept, wrongCost, Values, judgedOf, partAt, changesAt}
 use Rattle.model.proofs.Verdicts.{judge}
 use Rattle.model.proofs.Dues.{due-in-horizon}
-use Rattle.job_text.specs.Valid.{ValidJob}
+use Rattle.jobs.specs.Valid.{ValidJob}
+use Rattle.verdict.specs.Ranges.{dearestPlan, Limited}
 use Rattle.verdict.proofs.Sums.{sum-most, cheap-fees}
 use Rattle.verdict.proofs.Parts.{prices-most}
-
--- sixty-four fees and sixteen times sixty-four prices, each of a million
-abbrev pub dearestPlan : ℕ
-dearestPlan = 1088000000
-
--- each value is within its range
-abbrev pub Limited : Judgement → Type 0
-Limited (accepts cost) = cost ≤ dearestPlan
-Limited (unkept part due) = (1 ≤ part) × (part ≤ 16) × (due ≤ 365)
-Limited (wrongCost cost) = cost ≤ dearestPlan
 
 module _ (job : Job) (valid : ValidJob job) (plan : Plan) where
   pub cost-most : costOf job plan ≤ dearestPlan

@@ -14,15 +14,14 @@ use denote.Struct.Laws.{val}
 use Rattle.model.specs.Model as model
 use Rattle.model.specs.Model.{sumAt, pricesOf}
 use Rattle.model.specs.Verdict.{Gaps, in-time, too-long, lateOf, Verdict, keeps, late, ruled, verdictFrom, noPart}
-use Rattle.job_text.specs.Views.{Sized}
-use Rattle.job_text.specs.Valid.{All, ValidPart}
-use Rattle.job_text.specs.declared.Job.{Job}
-use Rattle.plan_text.proofs.Plan.{the-type}
-use Rattle.plan_text.proofs.Plan.Laws.{the-laws}
-use Rattle.plan_text.specs.Views.{changesFor}
-use Rattle.plan_text.specs.declared.Changes.{Changes}
-use Rattle.plan_text.specs.declared.Plan.{Plan}
-use Rattle.job_text.proofs.Jobs.{firsts-size, firsts-at}
+use Rattle.jobs.specs.Views.{Sized, changesFor}
+use Rattle.jobs.specs.Valid.{All, ValidPart}
+use Rattle.jobs.specs.declared.Job.{Job}
+use Rattle.jobs.proofs.Plan.{the-type}
+use Rattle.jobs.proofs.Plan.Laws.{the-laws}
+use Rattle.jobs.specs.declared.Changes.{Changes}
+use Rattle.jobs.specs.declared.Plan.{Plan}
+use Rattle.jobs.proofs.Lists.{firsts-size, firsts-at}
 use Rattle.verdict.specs.Steps.{lowerPart, dearestSum}
 use Rattle.verdict.proofs.Sums.{all-drop, sum-most, cheap-prices}
 

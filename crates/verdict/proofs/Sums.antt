@@ -9,7 +9,7 @@ use lib.ListN.{length, getD, drop, length-drop, drop-of-length-le}
 use lib.Seq.{drop-nil}
 use Rattle.model.specs.Model.{Opening, sumAt, feeOf}
 use Rattle.model.proofs.Offers.{sum-none}
-use Rattle.job_text.specs.Valid.{All, ValidOpening, ValidPrice}
+use Rattle.jobs.specs.Valid.{All, ValidOpening, ValidPrice}
 use Rattle.verdict.specs.Steps.{dearestSum}
 
 -- the highest fee and the highest price

@@ -1,17 +1,17 @@
 // The true cost of a plan: the fees of its stops plus the prices of its changes.
-use job_text::Job;
-use job_text::Part;
+use jobs::Job;
+use jobs::Part;
+use jobs::Plan;
 use part_records::part_of;
-use plan_text::Plan;
 ghost use mathlib.Core.Path.{_≡_};
 ghost use mathlib.Core.List.{map};
 ghost use Prim.Native.Nat.{_+_, _≤_};
 ghost use lib.ListN.{take};
 ghost use Rattle.model.specs.Model.{sumAt, feeOf, pricesOf, costOf};
-ghost use Rattle.job_text.specs.Views.{jobOf, partOf, Sized};
-ghost use Rattle.job_text.specs.Valid.{ValidPart, ValidJob};
-ghost use Rattle.plan_text.specs.Views.{changesFor, planFor};
+ghost use Rattle.jobs.specs.Views.{jobOf, partOf, changesFor, planFor};
+ghost use Rattle.jobs.specs.Valid.{ValidPart, Sound};
 ghost use Rattle.verdict.specs.Steps.{dearestSum};
+ghost use Rattle.model.specs.Limits.{mostOpenings};
 
 // A fee or a price more.
 fn plus(sum: u64, price: u32) -> u64
@@ -23,7 +23,7 @@ fn plus(sum: u64, price: u32) -> u64
 
 // The fees of the stops.
 fn fees_of(job: Job, stops: [bool; 64]) -> u64
-    requires { ⌜ Sized job × ValidJob (jobOf job) ⌝ }
+    requires { ⌜ Sound job ⌝ }
     ensures { λ r. ⌜ r ≡ sumAt (map feeOf (jobOf job .openings)) (take (job .«opening_count») stops) ⌝ }
 {
     let mut sum: u64 = 0;
@@ -40,7 +40,7 @@ fn fees_of(job: Job, stops: [bool; 64]) -> u64
 
 // The prices of one part's changes, at the first n openings.
 fn part_prices(n: usize, part: Part, changes: [bool; 64]) -> u64
-    requires { ⌜ (n ≤ 64) × ValidPart n (partOf n part) ⌝ }
+    requires { ⌜ (n ≤ mostOpenings) × ValidPart n (partOf n part) ⌝ }
     ensures { λ r. ⌜ r ≡ sumAt (take n (part .prices)) (take n changes) ⌝ }
 {
     let mut sum: u64 = 0;
@@ -56,7 +56,7 @@ fn part_prices(n: usize, part: Part, changes: [bool; 64]) -> u64
 
 // The prices of every part's changes.
 fn prices_of(job: Job, plan: Plan) -> u64
-    requires { ⌜ Sized job × ValidJob (jobOf job) ⌝ }
+    requires { ⌜ Sound job ⌝ }
     ensures { λ r. ⌜ r ≡ pricesOf (jobOf job .parts) (changesFor job (plan .changes)) ⌝ }
 {
     let n = job.opening_count;
@@ -76,7 +76,7 @@ fn prices_of(job: Job, plan: Plan) -> u64
 
 // The cost of a plan: the fees of its stops plus the prices of its changes.
 pub fn cost_of(job: Job, plan: Plan) -> u64
-    requires { ⌜ Sized job × ValidJob (jobOf job) ⌝ }
+    requires { ⌜ Sound job ⌝ }
     ensures { λ r. ⌜ r ≡ costOf (jobOf job) (planFor job plan) ⌝ }
 {
     let stops = plan.stops;

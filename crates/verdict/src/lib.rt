@@ -3,22 +3,21 @@ pub mod costs;
 pub mod lives;
 
 use costs::cost_of;
-use job_text::Job;
+use jobs::Job;
+use jobs::Plan;
 use lives::Verdict;
 use lives::verdict_of;
-use plan_text::Plan;
 ghost use mathlib.Core.Path.{_≡_};
 ghost use Rattle.model.specs.Verdict as model;
 ghost use Rattle.model.specs.Verdict.{judgedOf};
-ghost use Rattle.job_text.specs.Views.{jobOf, Sized};
-ghost use Rattle.job_text.specs.Valid.{ValidJob};
-ghost use Rattle.plan_text.specs.Views.{planFor};
+ghost use Rattle.jobs.specs.Views.{jobOf, planFor};
+ghost use Rattle.jobs.specs.Valid.{Sound};
 ghost use Rattle.verdict.specs.Views.{modelVerdict, modelJudgement};
 
 // What the judge says of a plan: its true cost, the lowest part that is not kept with its due step, or the true cost where another is stated.
 pub enum Judgement {
     Accepts(u64),
-    Unkept(u32, u32),
+    Unkept { part: u32, due: u32 },
     WrongCost(u64),
 }
 
@@ -34,13 +33,13 @@ fn judged(stated: u64, cost: u64, verdict: Verdict) -> Judgement
                 Judgement::WrongCost(cost)
             }
         }
-        Verdict::Late(part, due) => Judgement::Unkept(part, due),
+        Verdict::Late { part, due } => Judgement::Unkept { part, due },
     }
 }
 
 // The judgement on a plan of an accepted job, and on the cost stated with it.
 pub fn judgement_of(job: Job, stated: u32, plan: Plan) -> Judgement
-    requires { ⌜ Sized job × ValidJob (jobOf job) ⌝ }
+    requires { ⌜ Sound job ⌝ }
     ensures { λ r. ⌜ modelJudgement r ≡ judgedOf (jobOf job) stated (planFor job plan) ⌝ }
 {
     let verdict = verdict_of(job, plan);

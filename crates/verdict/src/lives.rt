@@ -2,24 +2,22 @@
 use clock::Positions;
 use clock::due_of;
 use clock::positions_of;
-use job_text::Job;
-use job_text::Part;
+use jobs::Job;
+use jobs::Part;
+use jobs::Plan;
 use least::in_reach;
 use least::last_change;
 use part_records::part_of;
-use plan_text::Plan;
 ghost use mathlib.Core.Path.{_≡_};
-ghost use Prim.Native.Nat.{_≤_};
 ghost use lib.ListN.{take};
 ghost use lib.IntN.{pos};
 ghost use Rattle.model.specs.Verdict.{lateOf, ruled, verdictOf};
 ghost use Rattle.model.specs.Verdict as model;
-ghost use Rattle.job_text.specs.Views.{jobOf, partOf, Sized};
-ghost use Rattle.job_text.specs.Valid.{ValidPart, ValidJob};
-ghost use Rattle.plan_text.specs.Views.{planFor};
-ghost use Rattle.clock.specs.Placed.{longestLife, Position, Begins, Placed};
+ghost use Rattle.jobs.specs.Views.{jobOf, partOf, planFor};
+ghost use Rattle.jobs.specs.Valid.{ValidPart, Sound};
+ghost use Rattle.clock.specs.Placed.{Placed};
 ghost use Rattle.verdict.specs.Views.{modelGaps, modelVerdict};
-ghost use Rattle.verdict.specs.Steps.{gapOf, firstLong, lowerPart};
+ghost use Rattle.verdict.specs.Steps.{GapGiven, gapOf, firstLong, lowerPart};
 
 // Every gap of a part's changes is within its life, or the due step at the first that is too long.
 pub enum Gaps {
@@ -30,12 +28,12 @@ pub enum Gaps {
 // Every part is kept, or the lowest part that is not, and its due step.
 pub enum Verdict {
     Keeps,
-    Late(u32, u32),
+    Late { part: u32, due: u32 },
 }
 
 // One gap, from the change before, at `prev`, to the next change or the end, at `next`.
 fn gap(job: Job, life: u32, prev: i32, next: i32) -> Gaps
-    requires { ⌜ Sized job × ValidJob (jobOf job) × (life ≤ longestLife) × Begins life prev × Position next ⌝ }
+    requires { ⌜ GapGiven job life prev next ⌝ }
     ensures { λ r. ⌜ modelGaps r ≡ gapOf (jobOf job) (pos life) prev next ⌝ }
 {
     if in_reach(life as i32, prev, next) {
@@ -57,7 +55,7 @@ fn first_long(a: Gaps, b: Gaps) -> Gaps
 
 // A part's first gap that is too long. The change before begins at or below zero.
 pub fn late_of(job: Job, positions: Positions, part: Part, changes: [bool; 64]) -> Gaps
-    requires { ⌜ Sized job × ValidJob (jobOf job) × Placed (jobOf job) positions × ValidPart (job .«opening_count») (partOf (job .«opening_count») part) ⌝ }
+    requires { ⌜ Sound job × Placed (jobOf job) positions × ValidPart (job .«opening_count») (partOf (job .«opening_count») part) ⌝ }
     ensures { λ r. ⌜ modelGaps r ≡ lateOf (jobOf job) (partOf (job .«opening_count») part) (take (job .«opening_count») changes) ⌝ }
 {
     let n = job.opening_count;
@@ -82,7 +80,7 @@ fn late_at(part: u32, gaps: Gaps) -> Verdict
 {
     match gaps {
         Gaps::InTime => Verdict::Keeps,
-        Gaps::TooLong(due) => Verdict::Late(part, due),
+        Gaps::TooLong(due) => Verdict::Late { part, due },
     }
 }
 
@@ -92,13 +90,13 @@ fn lower_part(a: Verdict, b: Verdict) -> Verdict
 {
     match a {
         Verdict::Keeps => b,
-        Verdict::Late(part, due) => Verdict::Late(part, due),
+        Verdict::Late { part, due } => Verdict::Late { part, due },
     }
 }
 
 // The lowest part that is late, and its due step.
 pub fn verdict_of(job: Job, plan: Plan) -> Verdict
-    requires { ⌜ Sized job × ValidJob (jobOf job) ⌝ }
+    requires { ⌜ Sound job ⌝ }
     ensures { λ r. ⌜ modelVerdict r ≡ verdictOf (jobOf job) (planFor job plan) ⌝ }
 {
     let positions = positions_of(job);

@@ -18,7 +18,7 @@ use Rattle.branch.specs.Label.{limitedFrom, openFrom}
 use Rattle.branch.proofs.Bounds.{no-sum}
 use Rattle.branch.proofs.Steps.{fixed-stop, fixed-drop, fixed-open, open-full, open-both}
 use Rattle.model.specs.Model.{sumAt}
-use Rattle.model.specs.LowerBound.{Offer, pick, leastOf, offers}
+use Rattle.model.specs.LowerBound.{Offer, leastOf, offers}
 use Rattle.walk.specs.declared.Search.{Search}
 use Rattle.walk.specs.declared.Node.{Node}
 use Rattle.lane_rows.specs.Layout.{top, inf, suffixBase, reachBase, pricePlace, feePlace, suffixCuts, reachCuts, cutPlace, lanesIn}
@@ -61,7 +61,7 @@ mask-next k m h =
 
 -- ---- fees and sums
 
-fees-snoc : (fs : List ℕ) (p : List Bool) (b : Bool) → length p < length fs → sumAt fs (snoc p b) ≡ sumAt fs p + pick b (getD fs (length p) 0) 0
+fees-snoc : (fs : List ℕ) (p : List Bool) (b : Bool) → length p < length fs → sumAt fs (snoc p b) ≡ sumAt fs p + cond b (getD fs (length p) 0) 0
 unfolding sumAt
 fees-snoc [] p b h = absurd (omega arith)
 fees-snoc (f ∷ fs) [] true h = omega arith
@@ -92,7 +92,7 @@ yes-sums sheet p = total-same (columnBound sheet) (sheet .columns) p (snoc p tru
 pub value-sum : (s x : ℕ) → valueOf s ≡ Sum x → (s ≡ x) × (x < inf)
 value-sum s x e = go (ltb s inf) refl e
   where
-    go : (t : Bool) → ltb s inf ≡ t → pick t (Sum s) Missing ≡ Sum x → (s ≡ x) × (x < inf)
+    go : (t : Bool) → ltb s inf ≡ t → cond t (Sum s) Missing ≡ Sum x → (s ≡ x) × (x < inf)
     go true f g = let z : s ≡ x = cc in (z, omega (arith, ltb-true s inf f))
     go false f g = absurd (no-sum Missing x refl g)
 
@@ -107,24 +107,25 @@ module _ (sheet : Sheet) (t w : List ℕ) (p : Node) (stop : Bool) (e : Bound) (
   unfolding sheetBound
   bound-some x f = ap (add (Sum (sumAt (sheet .fees) (decided p)))) (sym (a .sums) ∙ f) ∙ ap (λ (y : ℕ). Sum (y + x)) (sym (a .spent))
 
-  pub owing : stop ≡ true → Owing t w (p .at) (p .rows)
+  pub owing : stop ≡ true → (0 < p .at) × Owing (lanesIn t) t w (p .at - 1) (p .rows)
   owing s = go stop (a .rows) s
     where
-      go : (b : Bool) → Pending sheet w (decided p) (p .rows) b → b ≡ true → Owing t w (p .at) (p .rows)
+      go : (b : Bool) → Pending sheet w (decided p) (p .rows) b → b ≡ true → (0 < p .at) × Owing (lanesIn t) t w (p .at - 1) (p .rows)
       go false (ready r) f = absurd (false≢true f)
       go true (owed q f r) g =
           let l : length q + 1 ≡ p .at = sym (simp length-append at (ap length f)) ∙ bits-length (p .at) (p .mask) in
           let z : length q ≡ p .at - 1 = omega arith in
           let h : length q < length (sheet .positions) = omega (arith, a .inside) in
-          let ta = a .tables in
-          record {
-            some = omega arith;
-            stack = subst (λ (j : ℕ). Stack (lanesIn t) t w reachBase (getD t (cutPlace reachCuts j) 0) j (p .rows)) z (stack-yes sheet t w q (p .rows) ta r h);
-            size = ta .size;
-            near = omega (arith, ta .few, a .inside);
-            few = omega (arith, r .few, ta .few, a .inside);
-            cheap = λ i m. subst (λ (j : ℕ). getD t (pricePlace j i) 0 ≤ top) z (omega (arith, ta .lanes i m .price (length q) h, ta .lanes i m .cheap (length q)));
-          }
+          let ta = a .tables in (
+            omega arith,
+            record {
+              stack = subst (λ (j : ℕ). Stack (lanesIn t) t w reachBase (getD t (cutPlace reachCuts j) 0) j (p .rows)) z (stack-yes sheet t w q (p .rows) ta r h);
+              size = ta .size;
+              near = omega (arith, ta .few, a .inside);
+              few = omega (arith, r .few, ta .few, a .inside);
+              cheap = λ i m. subst (λ (j : ℕ). getD t (pricePlace j i) 0 ≤ top) z (omega (arith, ta .lanes i m .price (length q) h, ta .lanes i m .cheap (length q)));
+            },
+          )
 
   -- the node's rows after it is settled
   pub settled : (w' : List ℕ) (r : ℕ) → Settled t w w' (p .at) (p .rows) r stop → Rows sheet w' (decided p) r × Kept w w' (p .rows) × (p .rows ≤ r)

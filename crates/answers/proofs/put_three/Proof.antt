@@ -1,29 +1,19 @@
 -- `put_three`: one line behind two.
 use native.Mathlib.Omega.{arith}
 use lib.ListN.{length-append}
-use Rattle.lines.specs.Text.{bytes}
-use Rattle.lines.proofs.Writing.{then, kept, line-short}
+use Rattle.lines.proofs.Writing.{then, kept}
 use borrow.Author.Needs.{needs}
 use Rattle.answers.proofs.put_three.Statement.{statement}
 use Rattle.answers.proofs.put_three.Tie as tie
 
 put-two-requires : tie.Need-put-two-requires
-put-two-requires c κs = search needs
+put-two-requires c κs = let s = c .before .before .before .before in (s .pre .0, omega (arith, rw length-append at (s .pre .2)))
 
 put-line-requires : tie.Need-put-line-requires
-unfolding bytes
 put-line-requires c κs =
     let s = c .before .before .before .before .before .before .before .before in
     let w = c .before .before .before .put-two .ensures in
-    omega (
-      arith,
-      s .pre,
-      simp length-append at (w .next),
-      kept w,
-      line-short (bytes "result=") 9 (s .args .number) (omega (arith, s .fits .number .fits)),
-      line-short (s .args .key .now) 9 (s .args .value) (s .pre .1 .1 .0),
-      line-short (s .args .next .now) 9 (s .args .more) (s .pre .1 .1 .1 .1),
-    )
+    (s .pre .1, omega (arith, rw length-append at (s .pre .2), w .next, kept w))
 
 same-length : tie.Need-same-length
 same-length c = search needs

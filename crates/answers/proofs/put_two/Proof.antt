@@ -1,7 +1,8 @@
 -- `put_two`: one line behind the other.
 use native.Mathlib.Omega.{arith}
+use lib.ListN.{length-append}
 use Rattle.lines.specs.Text.{bytes}
-use Rattle.lines.proofs.Writing.{then, kept, line-short}
+use Rattle.lines.proofs.Writing.{then, kept}
 use borrow.Author.Needs.{needs}
 use Rattle.answers.proofs.put_two.Statement.{statement}
 use Rattle.answers.proofs.put_two.Tie as tie
@@ -13,21 +14,14 @@ put-line-requires : tie.Need-put-line-requires
 unfolding bytes
 put-line-requires c κs =
     let s = c .before .before .before .before in
-    omega (arith, s .fits .number .fits, line-short (bytes "result=") 9 (s .args .number) (omega (arith, s .fits .number .fits)))
+    (omega (arith, s .fits .number .fits), omega (arith, rw length-append at (s .pre .1)))
 
 put-line-requires-2 : tie.Need-put-line-requires-2
 unfolding bytes
 put-line-requires-2 c κs =
     let s = c .before .before .before .before .before .before .before .before in
     let w = c .before .before .before .put-line .ensures in
-    omega (
-      arith,
-      s .pre,
-      w .next,
-      kept w,
-      line-short (bytes "result=") 9 (s .args .number) (omega (arith, s .fits .number .fits)),
-      line-short (s .args .key .now) 9 (s .args .value) (s .pre .1 .1),
-    )
+    (s .pre .0, omega (arith, rw length-append at (s .pre .1), w .next, kept w))
 
 same-length : tie.Need-same-length
 same-length c = search needs

@@ -1,9 +1,11 @@
--- `refuse`: the lines of a fault are the same beside any job and plan, and the span is where the line stands.
-use mathlib.Core.Path.{subst}
+-- `refuse`: an output that is too short stays; else the lines of the fault are written, and the span is where its line stands.
+use mathlib.Core.Path.{ap}
+use native.Mathlib.Omega.{arith}
 use Rattle.lines.specs.declared.fault.Span.{Span}
-use Rattle.job_text.specs.Views.{emptyJob}
-use Rattle.answers.specs.Said.{bytesOf, saidOf, noPlan, Replied}
-use Rattle.answers.specs.declared.Outcome.the-variants.{Fault}
+use Rattle.answers.specs.declared.Answer.{Answer}
+use Rattle.answers.specs.Said.{refusal}
+use Rattle.answers.proofs.Lengths.{fault-short}
+use Rattle.answers.proofs.Replies.{replied, no-room}
 use borrow.Author.Needs.{needs}
 use Rattle.answers.proofs.refuse.Statement.{statement}
 use Rattle.answers.proofs.refuse.Tie as tie
@@ -11,37 +13,45 @@ use Rattle.answers.proofs.refuse.Tie as tie
 fault-span-requires : tie.Need-fault-span-requires
 fault-span-requires c κs = search needs
 
-cast-t7 : tie.Need-cast-t7
-cast-t7 c = search needs
+no-room-requires : tie.Need-no-room-requires
+no-room-requires c κs = search needs
 
-empty-requires : tie.Need-empty-requires
-empty-requires c κs = search needs
+returns : tie.Need-returns
+returns c = no-room _ _ _ (c .before .if1 .taken) (c .no-room .ensures)
 
-empty-requires-2 : tie.Need-empty-requires-2
-empty-requires-2 c κs = search needs
+cast-put-fault : tie.Need-cast-put-fault
+cast-put-fault c = search needs
 
-reply-requires : tie.Need-reply-requires
-reply-requires c κs = search needs
+put-fault-requires : tie.Need-put-fault-requires
+put-fault-requires c κs = search needs
+
+cast-t13 : tie.Need-cast-t13
+cast-t13 c = search needs
 
 same-length : tie.Need-same-length
 same-length c = search needs
 
-returns : tie.Need-returns
-unfolding bytesOf
-returns c =
-    let a = c .before .before .before .before .before .before .before .before .before .args in
-    let r = c .before .before .reply in
-    subst (λ (x : Span). Replied 16384 (saidOf emptyJob noPlan (Fault (a .number) (a .which) (a .line) x)) (a .out .now) (r .last .1 .1 .1 .0) (r .result))
-    (c .before .before .before .before .before .before .fault-span .ensures) (r .ensures)
+returns-2 : tie.Need-returns-2
+returns-2 c =
+    let b = c .before .before .before .before .before .before .before .before in
+    let a = b .args in
+    let put = c .before .before .put-fault in
+    replied (a .need) (refusal (a .which) (a .text .now) (a .number) (a .line)) (c .before .before .before .before .if1 .left)
+    (omega (arith, b .pre .1, fault-short (a .number) (a .which) (a .line)))
+    (put .ensures)
+    (ap
+    (λ (x : Span). record { result = a .number; text = a .which; line = a .line; length = put .result; «fault_start» = x .start; «fault_length» = x .length })
+    (c .before .before .before .before .before .fault-span .ensures))
 
 pub refuse-spec : {M : Type 1} → statement M
 refuse-spec =
     tie.close
     (tie.spec
     fault-span-requires
-    cast-t7
-    empty-requires
-    empty-requires-2
-    reply-requires
+    no-room-requires
+    returns
+    cast-put-fault
+    put-fault-requires
+    cast-t13
     same-length
-    returns)
+    returns-2)

@@ -9,7 +9,7 @@ use mir.Syntax.{w32}
 use mir.Val.{toZ, ofZ}
 use mir.Facts.{toZ-ofZ}
 use Rattle.model.specs.Model.{clock, within, lastWithin, dueOf}
-use Rattle.job_text.specs.Views.{jobOf}
+use Rattle.jobs.specs.Views.{jobOf}
 use Rattle.least.proofs.Diff.{diff-fits}
 use Rattle.clock.specs.Placed.{Position}
 use Rattle.clock.proofs.Ranges.{clocked, position-small, position-bits, before-small, life-bits}
@@ -30,28 +30,28 @@ loop-holds : tie.Need-loop-holds Inv-loop μ-loop
 loop-holds c = let a = c .before .args in (omega arith, last-none (jobOf (a .job)) (pos (a .life)) (toZ w32 (ofZ w32 (a .prev))))
 
 add-s : tie.Need-add-s Inv-loop μ-loop
-add-s c = omega (arith, c .before .before .before .before .pre .1 .horizon-high)
+add-s c = omega (arith, c .before .before .before .before .pre .0 .valid .horizon-high)
 
 cast-in-reach : tie.Need-cast-in-reach Inv-loop μ-loop
 cast-in-reach c = search needs
 
 cast-in-reach-2 : tie.Need-cast-in-reach-2 Inv-loop μ-loop
-cast-in-reach-2 c = omega (arith, c .before .before .before .before .pre .1 .horizon-high)
+cast-in-reach-2 c = omega (arith, c .before .before .before .before .pre .0 .valid .horizon-high)
 
 mul-in-reach : tie.Need-mul-in-reach Inv-loop μ-loop
-mul-in-reach c = omega (arith, c .before .before .before .before .pre .1 .horizon-high)
+mul-in-reach c = omega (arith, c .before .before .before .before .pre .0 .valid .horizon-high)
 
 array-copy-out-in-reach : tie.Need-array-copy-out-in-reach Inv-loop μ-loop
-array-copy-out-in-reach c = omega (arith, c .before .before .before .before .pre .1 .horizon-high)
+array-copy-out-in-reach c = omega (arith, c .before .before .before .before .pre .0 .valid .horizon-high)
 
 -- the position of the next step
 place : (c : tie.After-in-reach-arg Inv-loop μ-loop) → Position (clock (jobOf (c .before .before .before .before .before .args .job)) (c .before .before .before .loop .s + 1))
-place c = clocked (jobOf (c .before .before .before .before .before .args .job)) (c .before .before .before .loop .s + 1) (omega (arith, c .before .before .before .before .before .pre .1 .horizon-high))
+place c = clocked (jobOf (c .before .before .before .before .before .args .job)) (c .before .before .before .loop .s + 1) (omega (arith, c .before .before .before .before .before .pre .0 .valid .horizon-high))
 
 here : (c : tie.After-in-reach-arg Inv-loop μ-loop)
     → toZ w32 (ofZ w32 (getD (c .before .before .before .before .running-steps .result) (c .before .before .before .loop .s + 1) (pos 0))) ≡ clock (jobOf (c .before .before .before .before .before .args .job)) (c .before .before .before .loop .s + 1)
 here c =
-    let e = c .before .before .before .before .running-steps .ensures (c .before .before .before .loop .s + 1) (omega (arith, c .before .before .before .before .before .pre .1 .horizon-high)) in
+    let e = c .before .before .before .before .running-steps .ensures (c .before .before .before .loop .s + 1) (omega (arith, c .before .before .before .before .before .pre .0 .valid .horizon-high)) in
     position-bits (getD (c .before .before .before .before .running-steps .result) (c .before .before .before .loop .s + 1) (pos 0)) (subst Position (sym e) (place c)) ∙ e
 
 in-reach-requires : tie.Need-in-reach-requires Inv-loop μ-loop
@@ -59,12 +59,12 @@ in-reach-requires c κs =
     let s = c .before .before .before .before .before in
     let a = s .args in
     rw (toZ-ofZ (s .fits .prev), here c)
-    (diff-fits (clock (jobOf (a .job)) (c .before .before .before .loop .s + 1)) (a .prev) (omega (arith, position-small (clock (jobOf (a .job)) (c .before .before .before .loop .s + 1)) (place c))) (omega (arith, before-small (a .life) (a .prev) (s .pre .2) (s .pre .3))))
+    (diff-fits (clock (jobOf (a .job)) (c .before .before .before .loop .s + 1)) (a .prev) (omega (arith, position-small (clock (jobOf (a .job)) (c .before .before .before .loop .s + 1)) (place c))) (omega (arith, before-small (a .life) (a .prev) (s .pre .1) (s .pre .2))))
 
 -- the test
 tested : (c : tie.After-in-reach Inv-loop μ-loop)
     → let s = c .before .before .before .before .before .before in c .in-reach .result ≡ within (pos (s .args .life)) (toZ w32 (ofZ w32 (s .args .prev))) (clock (jobOf (s .args .job)) (c .before .before .before .before .loop .s + 1))
-tested c = let s = c .before .before .before .before .before .before in rw (life-bits (s .args .life) (s .pre .2), here (c .before)) at (c .in-reach .ensures)
+tested c = let s = c .before .before .before .before .before .before in rw (life-bits (s .args .life) (s .pre .1), here (c .before)) at (c .in-reach .ensures)
 
 loop-less : tie.Need-loop-less Inv-loop μ-loop
 loop-less c = omega arith

@@ -5,11 +5,12 @@ use native.Mathlib.Omega.{arith}
 use lib.ListN.{length, getD, take, length-set}
 use lib.Seq.{getD-take, length-take-le}
 use Rattle.model.proofs.Positions.{rising-within}
-use Rattle.job_text.proofs.Jobs.{idles-long}
-use Rattle.clock.specs.Placed.{lastPosition, Flags}
+use Rattle.jobs.proofs.Jobs.{idles-long}
+use Rattle.clock.specs.Placed.{Flags}
 use Rattle.clock.proofs.Steps.{flags-none, flags-more}
 use Rattle.clock.proofs.idle_steps.Statement.{statement}
 use Rattle.clock.proofs.idle_steps.Tie as tie
+use Rattle.model.specs.Limits.{lastPosition}
 
 abbrev Inv-loop : tie.InvT-loop
 Inv-loop job n flags₀ k₀ flags k = (k ≤ n) × (length flags ≡ lastPosition + 1) × Flags (take k (job .idles)) flags
@@ -21,10 +22,10 @@ loop-holds : tie.Need-loop-holds Inv-loop μ-loop
 loop-holds c = (omega arith, refl, flags-none 367)
 
 mul-step : tie.Need-mul-step Inv-loop μ-loop
-mul-step c = omega (arith, c .before .before .pre .0 .idles)
+mul-step c = omega (arith, c .before .before .pre .sized .idles)
 
 element-copy-out-step : tie.Need-element-copy-out-step Inv-loop μ-loop
-element-copy-out-step c = omega (arith, c .before .before .pre .0 .idles)
+element-copy-out-step c = omega (arith, c .before .before .pre .sized .idles)
 
 -- an idle step is one of the horizon's
 small : (c : tie.After-step Inv-loop μ-loop) → getD (c .before .before .before .args .t1 .idles) (c .before .before .loop .k) 0 ≤ 365
@@ -32,12 +33,12 @@ small c =
     let s = c .before .before .before in
     let j = s .args .t1 in
     let k = c .before .before .loop .k in
-    let long = idles-long j (s .pre .0) (s .good .0) in
+    let long = idles-long j (s .pre .sized) (s .good .0) in
     omega (
       arith,
-      rising-within (j .horizon) 0 (take (j .«idle_count») (j .idles)) (s .pre .1 .idles) k (omega (arith, length-take-le (j .«idle_count») (j .idles) long)),
+      rising-within (j .horizon) 0 (take (j .«idle_count») (j .idles)) (s .pre .valid .idles) k (omega (arith, length-take-le (j .«idle_count») (j .idles) long)),
       getD-take (j .«idle_count») (j .idles) k 0 (c .before .loop-test .taken),
-      s .pre .1 .horizon-high,
+      s .pre .valid .horizon-high,
     )
 
 cast-flags : tie.Need-cast-flags Inv-loop μ-loop
@@ -47,7 +48,7 @@ array-write-flags : tie.Need-array-write-flags Inv-loop μ-loop
 array-write-flags c = omega (arith, small c)
 
 add-k : tie.Need-add-k Inv-loop μ-loop
-add-k c = omega (arith, c .before .before .before .pre .0 .idles)
+add-k c = omega (arith, c .before .before .before .pre .sized .idles)
 
 loop-less : tie.Need-loop-less Inv-loop μ-loop
 loop-less c = omega arith
@@ -59,7 +60,7 @@ loop-again c =
     let j = s .args .t1 in (
       omega arith,
       simp length-set (l .inv .1),
-      flags-more (j .idles) (l .flags) (l .k) (omega (arith, idles-long j (s .pre .0) (s .good .0))) (omega (arith, small c, l .inv .1)) (l .inv .2),
+      flags-more (j .idles) (l .flags) (l .k) (omega (arith, idles-long j (s .pre .sized) (s .good .0))) (omega (arith, small c, l .inv .1)) (l .inv .2),
     )
 
 returns : tie.Need-returns Inv-loop μ-loop

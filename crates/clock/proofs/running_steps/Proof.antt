@@ -11,11 +11,12 @@ use lib.IntN.{ℤ, pos}
 use mir.Syntax.{w32}
 use mir.Facts.{toZ-pos}
 use Rattle.model.specs.Model.{Job}
-use Rattle.job_text.specs.Views.{jobOf}
-use Rattle.clock.specs.Placed.{lastPosition, Flags}
+use Rattle.jobs.specs.Views.{jobOf}
+use Rattle.clock.specs.Placed.{Flags}
 use Rattle.clock.proofs.Steps.{Timed, timed-none, timed-more}
 use Rattle.clock.proofs.running_steps.Statement.{statement}
 use Rattle.clock.proofs.running_steps.Tie as tie
+use Rattle.model.specs.Limits.{lastPosition}
 
 abbrev Inv-loop : tie.InvT-loop
 Inv-loop idle clock₀ run₀ s₀ clock run s = (0 < s) × (s ≤ lastPosition + 1) × (run < s) × ((job : Job) → Flags (job .idles) idle → Timed job clock run s)

@@ -6,8 +6,8 @@ use native.Mathlib.Omega.{arith}
 use lib.ListN.{length, take, length-set}
 use lib.Seq.{take-all}
 use Rattle.model.specs.Model.{feeOf}
-use Rattle.job_text.specs.Views.{jobOf}
-use Rattle.job_text.proofs.Jobs.{seen-count, seen-at}
+use Rattle.jobs.specs.Views.{jobOf}
+use Rattle.jobs.proofs.Jobs.{seen-count, seen-at}
 use Rattle.clock.proofs.Places.{take-next}
 use Rattle.job_search.proofs.fees_of.Statement.{statement}
 use Rattle.job_search.proofs.fees_of.Tie as tie

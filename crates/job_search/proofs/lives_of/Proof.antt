@@ -5,8 +5,8 @@ use mathlib.Core.List.{map, map-map}
 use native.Mathlib.Omega.{arith}
 use borrow.Author.Needs.{needs}
 use lib.ListN.{length, take, length-set}
-use Rattle.job_text.specs.declared.Part.{Part}
-use Rattle.job_text.specs.Views.{partOf}
+use Rattle.jobs.specs.declared.Part.{Part}
+use Rattle.jobs.specs.Views.{partOf}
 use Rattle.job_search.specs.Laid.{lifeOf, leftOf}
 use Rattle.job_search.proofs.Records.{taken-more}
 use Rattle.job_search.proofs.lives_of.Statement.{statement}

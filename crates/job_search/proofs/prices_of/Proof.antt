@@ -5,7 +5,7 @@ use native.Mathlib.Omega.{arith}
 use lib.ListN.{length, take}
 use lib.Seq.{length-take-le}
 use Rattle.part_records.proofs.Sizes.{priced}
-use Rattle.job_text.proofs.Jobs.{viewed}
+use Rattle.jobs.proofs.Jobs.{viewed}
 use Rattle.job_search.specs.Laid.{Laid}
 use Rattle.job_search.proofs.Records.{laid-none, laid-more}
 use Rattle.job_search.proofs.prices_of.Statement.{statement}

@@ -1,30 +1,22 @@
 -- `put_prices`: the first i prices are written.
 use Prim.Native.Nat.{ℕ, _+_, _-_, _≤_}
-use mathlib.Core.Path.{_≡_, ap, subst}
-use mathlib.Core.List.{List}
+use mathlib.Core.Path.{_≡_, refl, subst}
 use native.Mathlib.Omega.{arith}
 use borrow.Author.Needs.{needs}
-use lib.ListN.{length, getD, set}
-use Rattle.search.specs.Fill.{Span}
-use Rattle.search.proofs.Writing.{span-none, span-more}
+use lib.ListN.{length, getD}
+use Rattle.least.specs.Filled.{FilledBy}
+use Rattle.least.proofs.Filled.{filled-none, filled-more}
 use Rattle.job_search.proofs.put_prices.Statement.{statement}
 use Rattle.job_search.proofs.put_prices.Tie as tie
 
--- what stands where prices are written from `at` on
-abbrev from : List ℕ → ℕ → ℕ → ℕ
-from prices at x = getD prices (x - at) 0
-
 abbrev Inv-loop : tie.InvT-loop
-Inv-loop prices at flat₀ i₀ flat i = (i ≤ length prices) × Span (from prices at) flat₀ flat at (at + i)
+Inv-loop prices at flat₀ i₀ flat i = (i ≤ length prices) × FilledBy (λ (i : ℕ). at + i) (λ (i : ℕ). getD prices i 0) i flat₀ flat
 
 abbrev μ-loop : tie.MeasureT-loop
 μ-loop prices at flat₀ i₀ flat i = length prices - i
 
 loop-holds : tie.Need-loop-holds Inv-loop μ-loop
-loop-holds c =
-    let a = c .args in
-    let z : a .at ≡ a .at + 0 = omega arith in
-    (omega arith, subst (Span (from (a .prices .now) (a .at)) (a .flat .now) (a .flat .now) (a .at)) z (span-none (from (a .prices .now) (a .at)) (a .flat .now) (a .at)))
+loop-holds c = (omega arith, filled-none)
 
 mul-flat : tie.Need-mul-flat Inv-loop μ-loop
 mul-flat c = search needs
@@ -48,16 +40,7 @@ loop-less : tie.Need-loop-less Inv-loop μ-loop
 loop-less c = search needs
 
 loop-again : tie.Need-loop-again Inv-loop μ-loop
-loop-again c =
-    let a = c .before .before .before .args in
-    let l = c .before .before .loop in
-    let v = getD (a .prices .now) (l .i) 0 in
-    let z : a .at + l .i + 1 ≡ a .at + (l .i + 1) = omega arith in
-    let y : l .i ≡ a .at + l .i - a .at = omega arith in (
-      omega arith,
-      subst (Span (from (a .prices .now) (a .at)) (a .flat .now) (set (l .flat) (a .at + l .i) v) (a .at)) z
-          (span-more (from (a .prices .now) (a .at)) (a .flat .now) (a .at) (l .flat) (a .at + l .i) v (omega arith) (omega arith) (ap (λ (k : ℕ). getD (a .prices .now) k 0) y) (l .inv .1)),
-    )
+loop-again c = (omega arith, filled-more _ (omega arith) (λ y h e. omega (arith, e)) refl (c .before .before .loop .inv .1))
 
 same-length : tie.Need-same-length Inv-loop μ-loop
 same-length c = search needs
@@ -67,7 +50,7 @@ returns c =
     let a = c .before .before .args in
     let l = c .before .loop in
     let z : l .i ≡ length (a .prices .now) = omega arith in
-    subst (λ (i : ℕ). Span (from (a .prices .now) (a .at)) (a .flat .now) (l .flat) (a .at) (a .at + i)) z (l .inv .1)
+    subst (λ (n : ℕ). FilledBy (λ (i : ℕ). a .at + i) (λ (i : ℕ). getD (a .prices .now) i 0) n (a .flat .now) (l .flat)) z (l .inv .1)
 
 pub put-prices-spec : {M : Type 1} → statement M
 put-prices-spec =

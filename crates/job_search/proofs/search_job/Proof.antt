@@ -5,7 +5,7 @@ use borrow.Author.Needs.{needs}
 use lib.ListN.{length, take}
 use mir.Syntax.{w32}
 use mir.Val.{toZ, ofZ}
-use Rattle.job_text.specs.Views.{jobOf}
+use Rattle.jobs.specs.Views.{jobOf}
 use Rattle.clock.proofs.Ranges.{position-bits}
 use Rattle.search.specs.Arrays.{Holds}
 use Rattle.job_search.specs.Laid.{lifeOf, leftOf}
@@ -29,19 +29,19 @@ module _ (c : tie.After-prices-of) where
   lives = c .before .before .before
 
   places-long : length (take (s .args .job .«opening_count») (places .positions-of .result .at)) ≡ s .args .job .«opening_count»
-  places-long = place-count (s .args .job) (s .pre .0) (s .good .0) (places .positions-of .result) (places .positions-of .ensures)
+  places-long = place-count (s .args .job) (s .pre .sized) (s .good .0) (places .positions-of .result) (places .positions-of .ensures)
 
   lives-long : length (take (s .args .job .«part_count») (lives .lives-of .result .lives)) ≡ s .args .job .«part_count»
-  lives-long = lane-count (s .args .job) (s .pre .0) (s .good .0) lifeOf (lives .lives-of .result .lives) (lives .lives-of .ensures .0)
+  lives-long = lane-count (s .args .job) (s .pre .sized) (s .good .0) lifeOf (lives .lives-of .result .lives) (lives .lives-of .ensures .0)
 
   lefts-long : length (take (s .args .job .«part_count») (lives .lives-of .result .lefts)) ≡ s .args .job .«part_count»
-  lefts-long = lane-count (s .args .job) (s .pre .0) (s .good .0) leftOf (lives .lives-of .result .lefts) (lives .lives-of .ensures .1)
+  lefts-long = lane-count (s .args .job) (s .pre .sized) (s .good .0) leftOf (lives .lives-of .result .lefts) (lives .lives-of .ensures .1)
 
   holds : Holds (jobOf (s .args .job)) (toZ w32 (ofZ w32 (places .positions-of .result .end))) (take (s .args .job .«opening_count») (places .positions-of .result .at))
       (take (s .args .job .«opening_count») (fees .fees-of .result)) (take (s .args .job .«part_count») (lives .lives-of .result .lives)) (take (s .args .job .«part_count») (lives .lives-of .result .lefts)) (c .prices-of .result)
   holds =
       rw (position-bits (places .positions-of .result .end) (places .positions-of .ensures .end-range))
-      (held (s .args .job) (s .pre .0) (s .good .0) (s .pre .1) (places .positions-of .result) (places .positions-of .ensures) (fees .fees-of .result) (lives .lives-of .result .lives)
+      (held (s .args .job) (s .pre .sized) (s .good .0) (s .pre .valid) (places .positions-of .result) (places .positions-of .ensures) (fees .fees-of .result) (lives .lives-of .result .lives)
       (lives .lives-of .result .lefts) (c .prices-of .result) (fees .fees-of .ensures) (lives .lives-of .ensures .0) (lives .lives-of .ensures .1) (c .prices-of .ensures))
 
 positions-of-requires : tie.Need-positions-of-requires
@@ -66,7 +66,7 @@ array-share-prefix-fees : tie.Need-array-share-prefix-fees
 array-share-prefix-fees c = search needs
 
 slice-aggregate-search-2 : tie.Need-slice-aggregate-search-2
-slice-aggregate-search-2 c = let b = c .before .before in sym (fee-count (s b .args .job) (s b .pre .0) (s b .good .0) (fees b .fees-of .result) (fees b .fees-of .ensures))
+slice-aggregate-search-2 c = let b = c .before .before in sym (fee-count (s b .args .job) (s b .pre .sized) (s b .good .0) (fees b .fees-of .result) (fees b .fees-of .ensures))
 
 array-share-prefix-lives : tie.Need-array-share-prefix-lives
 array-share-prefix-lives c = let b = c .before .before in long-enough (s b .args .job .«part_count») (lives b .lives-of .result .lives) (lives-long b)

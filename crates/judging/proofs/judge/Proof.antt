@@ -5,10 +5,11 @@ use lib.ListN.{length}
 use Rattle.lines.specs.Parser.{accepted, refused}
 use Rattle.lines.proofs.Outcomes.{told}
 use Rattle.job_text.specs.Grammar.{readJob}
-use Rattle.job_text.specs.Views.{jobOf}
+use Rattle.job_text.specs.Views.{givenOf}
+use Rattle.job_text.proofs.Views.{means}
 use Rattle.job_text.proofs.Accepted.{valid}
 use Rattle.job_text.proofs.Numbered.{fault}
-use Rattle.judging.specs.Judge.{judgeOutcome}
+use Rattle.judging.specs.Judge.{judgeSaid}
 use Rattle.judging.proofs.Promised.{promised}
 use borrow.Author.Needs.{needs}
 use Rattle.judging.proofs.judge.Statement.{statement}
@@ -16,11 +17,11 @@ use Rattle.judging.proofs.judge.Tie as tie
 
 -- what the job text reads as, by the verdict on it
 refused-job : (c : tie.After-verdict) → readJob (c .before .before .before .before .before .before .args .job .now) ≡ refused (c .verdict .given .0 .0) (c .verdict .given .0 .1 .0)
-refused-job c = told _ (c .before .before .read-job .ensures .is) (c .verdict .given .1)
+refused-job c = told _ (means _ (c .before .before .read-job .ensures)) (c .verdict .given .1)
 
 accepted-job : (c : tie.After-enum-told) → let r = c .before .before .read-job .result in
-    readJob (c .before .before .before .before .before .before .args .job .now) ≡ accepted (record { walk = r .walk; job = jobOf (r .job) })
-accepted-job c = told _ (c .before .before .read-job .ensures .is) (c .enum-told .given .1)
+    readJob (c .before .before .before .before .before .before .args .job .now) ≡ accepted (givenOf (r .text))
+accepted-job c = told _ (means _ (c .before .before .read-job .ensures)) (c .enum-told .given .1)
 
 read-job-requires : tie.Need-read-job-requires
 read-job-requires c κs = search needs
@@ -29,19 +30,19 @@ enum-known-verdict : tie.Need-enum-known-verdict
 enum-known-verdict c = search needs
 
 refuse-requires : tie.Need-refuse-requires
-refuse-requires c κs = omega (arith, fault _ _ _ (refused-job (c .before .before)) .1)
+refuse-requires c κs = (omega (arith, fault _ _ _ (refused-job (c .before .before)) .1), omega arith)
 
 enum-told : tie.Need-enum-told
 enum-told c = search needs
 
 judge-plan-requires : tie.Need-judge-plan-requires
-judge-plan-requires c κs = (c .before .before .before .before .read-job .ensures .sized, valid _ _ (accepted-job (c .before .before)) .job)
+judge-plan-requires c κs = record { sized = c .before .before .before .before .read-job .ensures .sized; valid = valid _ _ (accepted-job (c .before .before)) .job }
 
 same-length : tie.Need-same-length
 same-length c = search needs
 
 returns : tie.Need-returns
-unfolding judgeOutcome
+unfolding judgeSaid
 returns c =
     let a = c .before .before .before .before .before .before .before .before .before .before .before .args in
     (rw (refused-job (c .before .before .before .before .before)) (c .before .before .refuse .ensures), promised (a .job .now) (a .plan .now) (length (a .out .now)))
@@ -50,7 +51,7 @@ same-length-2 : tie.Need-same-length-2
 same-length-2 c = search needs
 
 returns-2 : tie.Need-returns-2
-unfolding judgeOutcome
+unfolding judgeSaid
 returns-2 c =
     let a = c .before .before .before .before .before .before .before .before .before .before .before .args in
     (rw (accepted-job (c .before .before .before .before .before)) (c .before .before .judge-plan .ensures), promised (a .job .now) (a .plan .now) (length (a .out .now)))

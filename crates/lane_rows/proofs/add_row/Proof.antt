@@ -5,7 +5,7 @@ use native.Mathlib.Omega.{arith}
 use borrow.Author.Needs.{needs}
 use lib.ListN.{getD}
 use Rattle.lane_rows.specs.Layout.{laneCount, markCount}
-use Rattle.lane_rows.proofs.Filled.{window-at, window-length}
+use Rattle.lane_rows.proofs.Window.{window-at, window-length}
 use Rattle.lane_rows.proofs.add_row.Statement.{statement}
 use Rattle.lane_rows.proofs.add_row.Tie as tie
 
@@ -61,10 +61,15 @@ min-row-requires : tie.Need-min-row-requires
 min-row-requires c κs =
     let s = c .before .before .before .before .before .before in
     let a = s .args in
-    let d = a .base + (a .j * markCount + a .i) * laneCount in (
-      (s .pre .0 .0, window-length (a .w .now) (a .n * laneCount) (omega arith), window-length (a .t .now) d (omega arith), s .pre .0 .1),
-      λ q l. (s .pre .1 q l .0, omega (arith, s .pre .0, s .pre .1 q l .1, window-at (a .w .now) (a .n * laneCount) (omega arith) q (omega (arith, s .pre .0)), window-at (a .t .now) d (omega arith) q (omega (arith, s .pre .0)))),
-    )
+    let d = a .base + (a .j * markCount + a .i) * laneCount in
+    record {
+      few = s .pre .few;
+      row = window-length (a .w .now) (a .n * laneCount) (omega arith);
+      table = window-length (a .t .now) d (omega arith);
+      lanes = s .pre .lanes;
+      most = s .pre .most;
+      sums = λ q l. omega (arith, s .pre .sums q l, window-at (a .w .now) (a .n * laneCount) (omega arith) q (omega (arith, s .pre .few)), window-at (a .t .now) d (omega arith) q (omega (arith, s .pre .few)));
+    }
 
 same-length : tie.Need-same-length
 same-length c = search needs
@@ -79,7 +84,7 @@ returns c =
       size = e .size;
       lanes = λ q l.
           e .lanes q l
-          ∙ ap₂ (λ (x y : ℕ). min (getD (a .acc .now) q 0) (x + y)) (window-at (a .w .now) (a .n * laneCount) (omega arith) q (omega (arith, s .pre .0))) (window-at (a .t .now) d (omega arith) q (omega (arith, s .pre .0)));
+          ∙ ap₂ (λ (x y : ℕ). min (getD (a .acc .now) q 0) (x + y)) (window-at (a .w .now) (a .n * laneCount) (omega arith) q (omega (arith, s .pre .few))) (window-at (a .t .now) d (omega arith) q (omega (arith, s .pre .few)));
     }
 
 pub add-row-spec : {M : Type 1} → statement M

@@ -1,15 +1,16 @@
 -- `min_row` is each lane's minimum. The invariant: the first lanes are done.
-use Prim.Native.Nat.{ℕ, _+_, _-_, _*_, _≤_, min}
+use Prim.Native.Nat.{ℕ, _+_, _-_, _≤_, min}
 use mathlib.Core.Path.{ap, _∙_}
 use native.Mathlib.Omega.{arith}
 use borrow.Author.Needs.{needs}
-use lib.ListN.{length, getD}
-use Rattle.lane_rows.proofs.Filled.{Filled, filled-none, filled-more, filled-turned}
+use lib.ListN.{getD}
+use Rattle.least.specs.Filled.{FilledBy}
+use Rattle.least.proofs.Filled.{filled-none, filled-more}
 use Rattle.lane_rows.proofs.min_row.Statement.{statement}
 use Rattle.lane_rows.proofs.min_row.Tie as tie
 
 abbrev Inv-loop : tie.InvT-loop
-Inv-loop fours d e acc₀ p₀ p-end acc p = (p ≤ p-end) × Filled (λ (q : ℕ). min (getD acc₀ q 0) (getD d q 0 + getD e q 0)) acc₀ acc p
+Inv-loop fours d e acc₀ p₀ p-end acc p = (p ≤ p-end) × FilledBy (λ (q : ℕ). q) (λ (q : ℕ). min (getD acc₀ q 0) (getD d q 0 + getD e q 0)) p acc₀ acc
 
 abbrev μ-loop : tie.MeasureT-loop
 μ-loop fours d e acc₀ p₀ p-end acc p = p-end - p
@@ -17,12 +18,8 @@ abbrev μ-loop : tie.MeasureT-loop
 mul-p-end : tie.Need-mul-p-end Inv-loop μ-loop
 mul-p-end c = search needs
 
--- what each lane becomes
-abbrev least : tie.Start Inv-loop μ-loop → ℕ → ℕ
-least s q = min (getD (s .args .acc .now) q 0) (getD (s .args .d .now) q 0 + getD (s .args .e .now) q 0)
-
 loop-holds : tie.Need-loop-holds Inv-loop μ-loop
-loop-holds c = let s = c .before .before .before in (omega arith, filled-none (least s) (s .args .acc .now))
+loop-holds c = (omega arith, filled-none)
 
 mul-lesser : tie.Need-mul-lesser Inv-loop μ-loop
 mul-lesser c = search needs
@@ -39,7 +36,7 @@ shared-slice-read-lesser-2 c = search needs
 add-lesser : tie.Need-add-lesser Inv-loop μ-loop
 add-lesser c =
     let s = c .before .before .before .before .before .before .before in
-    omega (arith, s .pre .1 (c .before .before .before .loop .p) (omega arith))
+    omega (arith, s .pre .sums (c .before .before .before .loop .p) (omega arith))
 
 mul-lesser-3 : tie.Need-mul-lesser-3 Inv-loop μ-loop
 mul-lesser-3 c = search needs
@@ -51,8 +48,7 @@ lesser-requires : tie.Need-lesser-requires Inv-loop μ-loop
 lesser-requires c κs =
     let s = c .before .before .before .before .before .before .before .before in
     let l = c .before .before .before .before .loop in
-    let b = s .pre .1 (l .p) (omega arith) in
-    (b .1, omega (arith, b .0, l .inv .1 .rest (l .p) (omega arith)))
+    (s .pre .sums (l .p) (omega arith), omega (arith, s .pre .most (l .p) (omega arith), l .inv .1 .rest (l .p) (λ q h z. omega (arith, z))))
 
 mul-acc : tie.Need-mul-acc Inv-loop μ-loop
 mul-acc c = search needs
@@ -71,8 +67,8 @@ loop-again c =
     let s = c .before .before .before .before .before .before .before .before .before in
     let l = c .before .before .before .before .before .loop in (
       omega arith,
-      filled-more (least s) (s .args .acc .now) (l .acc) (l .p) (c .lesser .result) (omega (arith, s .pre .0))
-          (c .lesser .ensures ∙ ap (λ (x : ℕ). min x (getD (s .args .d .now) (l .p) 0 + getD (s .args .e .now) (l .p) 0)) (l .inv .1 .rest (l .p) (omega arith))) (l .inv .1),
+      filled-more (c .lesser .result) (omega (arith, s .pre .few, s .pre .lanes)) (λ q h z. omega (arith, z))
+          (c .lesser .ensures ∙ ap (λ (x : ℕ). min x (getD (s .args .d .now) (l .p) 0 + getD (s .args .e .now) (l .p) 0)) (l .inv .1 .rest (l .p) (λ q h z. omega (arith, z)))) (l .inv .1),
     )
 
 same-length : tie.Need-same-length Inv-loop μ-loop
@@ -80,8 +76,8 @@ same-length c = search needs
 
 returns : tie.Need-returns Inv-loop μ-loop
 returns c =
-    let s = c .before .before .before .before .before in
-    filled-turned (least s) (s .args .acc .now) (c .before .loop .acc) (s .args .fours * 4) (c .before .loop .p) (omega arith) (c .before .loop .inv .1)
+    let d = c .before .loop .inv .1 in
+    record { size = d .size; lanes = λ q h. d .done q (omega arith) }
 
 pub min-row-spec : {M : Type 1} → statement M
 min-row-spec =

@@ -1,15 +1,16 @@
 -- `plus_row` is each lane's sum. The invariant: the first lanes are done.
-use Prim.Native.Nat.{ℕ, _+_, _-_, _*_, _≤_}
+use Prim.Native.Nat.{ℕ, _+_, _-_, _≤_}
 use mathlib.Core.Path.{ap}
 use native.Mathlib.Omega.{arith}
 use borrow.Author.Needs.{needs}
-use lib.ListN.{length, getD}
-use Rattle.lane_rows.proofs.Filled.{Filled, filled-none, filled-more, filled-turned}
+use lib.ListN.{getD}
+use Rattle.least.specs.Filled.{FilledBy}
+use Rattle.least.proofs.Filled.{filled-none, filled-more}
 use Rattle.lane_rows.proofs.plus_row.Statement.{statement}
 use Rattle.lane_rows.proofs.plus_row.Tie as tie
 
 abbrev Inv-loop : tie.InvT-loop
-Inv-loop fours prices acc₀ p₀ p-end acc p = (p ≤ p-end) × Filled (λ (q : ℕ). getD acc₀ q 0 + getD prices q 0) acc₀ acc p
+Inv-loop fours prices acc₀ p₀ p-end acc p = (p ≤ p-end) × FilledBy (λ (q : ℕ). q) (λ (q : ℕ). getD acc₀ q 0 + getD prices q 0) p acc₀ acc
 
 abbrev μ-loop : tie.MeasureT-loop
 μ-loop fours prices acc₀ p₀ p-end acc p = p-end - p
@@ -17,12 +18,8 @@ abbrev μ-loop : tie.MeasureT-loop
 mul-p-end : tie.Need-mul-p-end Inv-loop μ-loop
 mul-p-end c = search needs
 
--- what each lane becomes
-abbrev sum : tie.Start Inv-loop μ-loop → ℕ → ℕ
-sum s q = getD (s .args .acc .now) q 0 + getD (s .args .prices .now) q 0
-
 loop-holds : tie.Need-loop-holds Inv-loop μ-loop
-loop-holds c = (omega arith, filled-none (sum c) (c .args .acc .now))
+loop-holds c = (omega arith, filled-none)
 
 mul-acc : tie.Need-mul-acc Inv-loop μ-loop
 mul-acc c = search needs
@@ -40,7 +37,7 @@ add-acc : tie.Need-add-acc Inv-loop μ-loop
 add-acc c =
     let s = c .before .before .before .before in
     let l = c .before .before .before .loop in
-    omega (arith, s .pre .1 (l .p) (omega arith), l .inv .1 .rest (l .p) (omega arith))
+    omega (arith, s .pre .sums (l .p) (omega arith), l .inv .1 .rest (l .p) (λ q h z. omega (arith, z)))
 
 mul-acc-3 : tie.Need-mul-acc-3 Inv-loop μ-loop
 mul-acc-3 c = search needs
@@ -59,8 +56,8 @@ loop-again c =
     let s = c .before .before .before .before in
     let l = c .before .before .before .loop in (
       omega arith,
-      filled-more (sum s) (s .args .acc .now) (l .acc) (l .p) _ (omega (arith, s .pre .0))
-          (ap (λ (x : ℕ). x + getD (s .args .prices .now) (l .p) 0) (l .inv .1 .rest (l .p) (omega arith))) (l .inv .1),
+      filled-more _ (omega (arith, s .pre .few, s .pre .lanes)) (λ q h z. omega (arith, z))
+          (ap (λ (x : ℕ). x + getD (s .args .prices .now) (l .p) 0) (l .inv .1 .rest (l .p) (λ q h z. omega (arith, z)))) (l .inv .1),
     )
 
 same-length : tie.Need-same-length Inv-loop μ-loop
@@ -68,8 +65,8 @@ same-length c = search needs
 
 returns : tie.Need-returns Inv-loop μ-loop
 returns c =
-    let s = c .before .before in
-    filled-turned (sum s) (s .args .acc .now) (c .before .loop .acc) (s .args .fours * 4) (c .before .loop .p) (omega arith) (c .before .loop .inv .1)
+    let d = c .before .loop .inv .1 in
+    record { size = d .size; lanes = λ q h. d .done q (omega arith) }
 
 pub plus-row-spec : {M : Type 1} → statement M
 plus-row-spec =

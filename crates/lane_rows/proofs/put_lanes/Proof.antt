@@ -3,17 +3,19 @@ use Prim.Native.Nat.{ℕ, _+_, _-_, _*_, _≤_}
 use mathlib.Core.Path.{_≡_, refl, ap₂, subst, _∙_}
 use native.Mathlib.Omega.{arith}
 use borrow.Author.Needs.{needs}
-use lib.ListN.{length, getD, getD-replicate}
-use Rattle.lane_rows.specs.Layout.{laneCount, inf, reachBase, priceBase, pricePlace, reachCuts, cutPlace}
+use lib.ListN.{getD, getD-replicate}
+use Rattle.lane_rows.specs.Layout.{laneCount, rowPlace, inf, reachBase, priceBase, pricePlace, reachCuts, cutPlace}
 use Rattle.lane_rows.specs.Rows.{lane}
-use Rattle.lane_rows.proofs.Filled.{window-at, window-length}
+use Rattle.lane_rows.proofs.Window.{window-at, window-length}
 use Rattle.lane_rows.proofs.Lanes.{lane-most}
-use Rattle.lane_rows.proofs.Putting.{Putting, putting-none, putting-more, put-mark}
+use Rattle.least.specs.Filled.{FilledBy}
+use Rattle.least.proofs.Filled.{filled-none, filled-more}
+use Rattle.lane_rows.proofs.Putting.{put-mark}
 use Rattle.lane_rows.proofs.put_lanes.Statement.{statement}
 use Rattle.lane_rows.proofs.put_lanes.Tie as tie
 
 abbrev Inv-loop : tie.InvT-loop
-Inv-loop fours t w₀ j rows lo acc at p₀ p-end w p = (p ≤ p-end) × Putting (λ (q : ℕ). getD acc q 0) w₀ w rows p
+Inv-loop fours t w₀ j rows lo acc at p₀ p-end w p = (p ≤ p-end) × FilledBy (rowPlace rows) (λ (q : ℕ). getD acc q 0) p w₀ w
 
 abbrev μ-loop : tie.MeasureT-loop
 μ-loop fours t w₀ j rows lo acc at p₀ p-end w p = p-end - p
@@ -34,7 +36,7 @@ slice-aggregate-least-rows : tie.Need-slice-aggregate-least-rows Inv-loop μ-loo
 slice-aggregate-least-rows c = search needs
 
 least-rows-requires : tie.Need-least-rows-requires Inv-loop μ-loop
-least-rows-requires c κs = let s = c .before .before .before .before .before in (s .pre .0 .0, omega arith, λ q l. getD-replicate {A = ℕ} laneCount q inf 0 (omega (arith, s .pre .0 .0 .narrow)))
+least-rows-requires c κs = let s = c .before .before .before .before .before in (s .pre .stack, omega arith, λ q l. getD-replicate {A = ℕ} laneCount q inf 0 (omega (arith, s .pre .stack .narrow)))
 
 mul-at : tie.Need-mul-at Inv-loop μ-loop
 mul-at c = search needs
@@ -68,22 +70,25 @@ plus-row-requires : tie.Need-plus-row-requires Inv-loop μ-loop
 plus-row-requires c κs =
     let s = c .before .before .before .before .before .before .before .before .before in
     let t = s .args .t .now in
-    let least = c .before .before .before .least-rows .ensures in (
-      (omega (arith, s .pre .0 .0 .narrow), window-length t (from s) (omega (arith, s .pre .0)), omega (arith, least .size)),
-      λ q l. omega (arith, s .pre .1 q l, least .lanes q l, lane-most t (s .args .w .now) reachBase (s .args .j) q (s .args .rows), window-at t (from s) (omega (arith, s .pre .0)) q (omega (arith, s .pre .0 .0 .narrow))),
-    )
+    let least = c .before .before .before .least-rows .ensures in
+    record {
+      few = omega (arith, s .pre .stack .narrow);
+      row = window-length t (from s) (omega (arith, s .pre .size, s .pre .near));
+      lanes = omega (arith, least .size);
+      sums = λ q l. omega (arith, s .pre .cheap q l, least .lanes q l, lane-most t (s .args .w .now) reachBase (s .args .j) q (s .args .rows), window-at t (from s) (omega (arith, s .pre .size, s .pre .near)) q (omega (arith, s .pre .stack .narrow)));
+    }
 
 mul-p-end : tie.Need-mul-p-end Inv-loop μ-loop
-mul-p-end c = omega (arith, c .before .before .before .before .before .before .before .before .before .before .before .pre .0 .0 .narrow)
+mul-p-end c = omega (arith, c .before .before .before .before .before .before .before .before .before .before .before .pre .stack .narrow)
 
 loop-holds : tie.Need-loop-holds Inv-loop μ-loop
-loop-holds c = let a = c .before .before .before .before .before .before .before .before .before .before .before .args in (omega arith, putting-none (λ (q : ℕ). getD (c .before .plus-row .last .1 .1 .0) q 0) (a .w .now) (a .rows))
+loop-holds c = (omega arith, filled-none)
 
 mul-w : tie.Need-mul-w Inv-loop μ-loop
 mul-w c = search needs
 
 array-read-w : tie.Need-array-read-w Inv-loop μ-loop
-array-read-w c = omega (arith, c .before .before .before .before .before .before .before .before .before .before .before .before .before .pre .0 .0 .narrow)
+array-read-w c = omega (arith, c .before .before .before .before .before .before .before .before .before .before .before .before .before .pre .stack .narrow)
 
 mul-w-2 : tie.Need-mul-w-2 Inv-loop μ-loop
 mul-w-2 c = search needs
@@ -95,7 +100,7 @@ mul-w-3 : tie.Need-mul-w-3 Inv-loop μ-loop
 mul-w-3 c = search needs
 
 slice-write-w : tie.Need-slice-write-w Inv-loop μ-loop
-slice-write-w c = omega (arith, c .before .before .before .before .before .before .before .before .before .before .before .before .before .pre .0 .0 .narrow, c .before .before .before .before .before .before .before .before .before .before .before .before .before .pre .0, c .before .before .before .before .before .before .before .before .before .before .before .before .before .pre .0 .0 .size, c .before .loop .inv .1 .size)
+slice-write-w c = let o = c .before .before .before .before .before .before .before .before .before .before .before .before .before .pre in omega (arith, o .stack .narrow, o .few, o .stack .size, c .before .loop .inv .1 .size)
 
 add-p : tie.Need-add-p Inv-loop μ-loop
 add-p c = search needs
@@ -107,8 +112,7 @@ loop-again : tie.Need-loop-again Inv-loop μ-loop
 loop-again c =
     let s = c .before .before .before .before .before .before .before .before .before .before .before .before .before in
     let l = c .before .loop in
-    let sums = c .before .before .before .plus-row .last .1 .1 .0 in
-    (omega arith, putting-more (λ (q : ℕ). getD sums q 0) (s .args .w .now) (s .args .rows) (l .w) (l .p) (getD sums (l .p) 0) (omega (arith, s .pre .0 .0 .narrow)) (omega (arith, s .pre .0, s .pre .0 .0 .size)) refl (l .inv .1))
+    (omega arith, filled-more _ (omega (arith, s .pre .few, s .pre .stack .size, s .pre .stack .narrow)) (λ q h z. omega (arith, z)) refl (l .inv .1))
 
 add-w-2 : tie.Need-add-w-2 Inv-loop μ-loop
 add-w-2 c = search needs
@@ -137,9 +141,9 @@ returns c =
     let plus = c .before .before .before .plus-row in
     let z : l .p ≡ a .fours * 4 = omega arith in
     put-mark (λ (q : ℕ). getD (plus .last .1 .1 .0) q 0) (a .w .now) (a .rows) (a .fours * 4) (l .w)
-    (λ (q : ℕ). lane t (a .w .now) reachBase (a .j) q (a .rows) + getD t (pricePlace (a .j) q) 0) (a .j + 1) (s .pre .0 .3) (s .pre .0 .0 .size) (s .pre .0 .0 .narrow)
-    (λ q h. plus .ensures .lanes q h ∙ ap₂ (λ (x y : ℕ). x + y) (c .before .before .before .before .before .before .before .least-rows .ensures .lanes q h) (window-at t (from s) (omega (arith, s .pre .0)) q (omega (arith, s .pre .0 .0 .narrow))))
-    (subst (Putting (λ (q : ℕ). getD (plus .last .1 .1 .0) q 0) (a .w .now) (l .w) (a .rows)) z (l .inv .1))
+    (λ (q : ℕ). lane t (a .w .now) reachBase (a .j) q (a .rows) + getD t (pricePlace (a .j) q) 0) (a .j + 1) (s .pre .few) (s .pre .stack .size) (s .pre .stack .narrow)
+    (λ q h. plus .ensures .lanes q h ∙ ap₂ (λ (x y : ℕ). x + y) (c .before .before .before .before .before .before .before .least-rows .ensures .lanes q h) (window-at t (from s) (omega (arith, s .pre .size, s .pre .near)) q (omega (arith, s .pre .stack .narrow))))
+    (subst (λ (p : ℕ). FilledBy (rowPlace (a .rows)) (λ (q : ℕ). getD (plus .last .1 .1 .0) q 0) p (a .w .now) (l .w)) z (l .inv .1))
 
 pub put-lanes-spec : {M : Type 1} → statement M
 put-lanes-spec =

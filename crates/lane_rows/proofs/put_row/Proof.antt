@@ -1,12 +1,11 @@
 -- `put_row` writes the row of a yes: by how many fours of lanes there are.
-use Prim.Native.Nat.{ℕ, _+_, _<_, _≤_}
+use Prim.Native.Nat.{ℕ, _+_}
 use mathlib.Core.Path.{_≡_, sym, subst}
 use mathlib.Core.List.{List}
 use native.Mathlib.Omega.{arith}
 use borrow.Author.Needs.{needs}
-use lib.ListN.{length, getD}
-use Rattle.lane_rows.specs.Layout.{markCount, top, reachBase, reachCuts, cutPlace, pricePlace, lanesIn, tablesSize}
-use Rattle.lane_rows.specs.Rows.{Stack, Put, nextRow}
+use Rattle.lane_rows.specs.Layout.{lanesIn}
+use Rattle.lane_rows.specs.Rows.{Owing, Put, nextRow}
 use Rattle.lane_rows.proofs.put_row.Statement.{statement}
 use Rattle.lane_rows.proofs.put_row.Tie as tie
 
@@ -14,12 +13,8 @@ shared-slice-read-fours : tie.Need-shared-slice-read-fours
 shared-slice-read-fours c = search needs
 
 -- what so many lanes ask, where the job has so many
-asks : (s : tie.Start) (k : ℕ) → lanesIn (s .args .t .now) ≡ k
-    → let a = s .args in ((Stack k (a .t .now) (a .w .now) reachBase (getD (a .t .now) (cutPlace reachCuts (a .j)) 0) (a .j) (a .rows)) × (length (a .t .now) ≡ tablesSize) × (a .j < 64) × (a .rows < markCount)) × ((q : ℕ) → q < k → getD (a .t .now) (pricePlace (a .j) q) 0 ≤ top)
-asks s k z =
-    let a = s .args in
-    let p = s .pre .0 in
-    ((subst (λ (wide : ℕ). Stack wide (a .t .now) (a .w .now) reachBase (getD (a .t .now) (cutPlace reachCuts (a .j)) 0) (a .j) (a .rows)) z (p .0), p .1, p .2, p .3), λ q l. s .pre .1 q (omega (arith, z)))
+asks : (s : tie.Start) (k : ℕ) → lanesIn (s .args .t .now) ≡ k → Owing k (s .args .t .now) (s .args .w .now) (s .args .j) (s .args .rows)
+asks s k z = subst (λ (wide : ℕ). Owing wide (s .args .t .now) (s .args .w .now) (s .args .j) (s .args .rows)) z (s .pre)
 
 -- what they put
 puts : (s : tie.Start) (k : ℕ) (w : List ℕ) → lanesIn (s .args .t .now) ≡ k → let a = s .args in Put k (nextRow (a .t .now) (a .w .now) (a .j) (a .rows)) (a .w .now) w (a .rows) (a .j + 1)
@@ -28,7 +23,7 @@ puts s k w z u = let a = s .args in subst (λ (wide : ℕ). Put wide (nextRow (a
 
 -- not one, two or three fours
 four : (c : tie.Else3) → lanesIn (c .before .before .before .before .before .before .args .t .now) ≡ 16
-four c = omega (arith, c .if3 .left, c .before .if2 .left, c .before .before .if1 .left, c .before .before .before .before .before .before .pre .0 .0 .some, c .before .before .before .before .before .before .pre .0 .0 .narrow)
+four c = omega (arith, c .if3 .left, c .before .if2 .left, c .before .before .if1 .left, c .before .before .before .before .before .before .pre .stack .some, c .before .before .before .before .before .before .pre .stack .narrow)
 
 put-lanes-requires : tie.Need-put-lanes-requires
 put-lanes-requires c κs = asks (c .before .before .before .before .before) 4 (omega (arith, c .before .if1 .taken))

@@ -7,15 +7,13 @@ use Rattle.lane_rows.proofs.settle.Statement.{statement}
 use Rattle.lane_rows.proofs.settle.Tie as tie
 
 sub-put-row : tie.Need-sub-put-row
-sub-put-row c = let o = c .before .before .before .before .pre (c .before .if1 .taken) in omega (arith, o .some)
+sub-put-row c = let o = c .before .before .before .before .pre (c .before .if1 .taken) in omega (arith, o .0)
 
 put-row-requires : tie.Need-put-row-requires
-put-row-requires c κs =
-    let o = c .before .before .before .before .pre (c .before .if1 .taken) in
-    ((o .stack, o .size, omega (arith, o .near, o .some), o .few), o .cheap)
+put-row-requires c κs = c .before .before .before .before .pre (c .before .if1 .taken) .1
 
 add-result : tie.Need-add-result
-add-result c = let o = c .before .before .before .before .before .before .before .pre (c .before .before .before .before .if1 .taken) in omega (arith, o .few)
+add-result c = let o = c .before .before .before .before .before .before .before .pre (c .before .before .before .before .if1 .taken) in omega (arith, o .1 .few)
 
 same-length : tie.Need-same-length
 same-length c = search needs

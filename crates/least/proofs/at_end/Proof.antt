@@ -2,12 +2,11 @@
 use mathlib.Core.Path.{_≡_, sym, _∙_}
 use mir.Facts.{toZ-ofZ}
 use Rattle.model.specs.Model.{within}
-use Rattle.least.proofs.Diff.{diff-fits}
 use Rattle.least.proofs.at_end.Statement.{statement}
 use Rattle.least.proofs.at_end.Tie as tie
 
 in-reach-requires : tie.Need-in-reach-requires
-in-reach-requires c κs = rw (toZ-ofZ (c .fits .end), toZ-ofZ (c .fits .prev)) (diff-fits (c .args .end) (c .args .prev) (c .pre .1) (c .pre .0))
+in-reach-requires c κs = rw (toZ-ofZ (c .fits .end), toZ-ofZ (c .fits .prev)) (c .pre)
 
 returns : tie.Need-returns
 returns c =

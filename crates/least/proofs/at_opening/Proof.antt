@@ -7,7 +7,7 @@ use Rattle.least.proofs.at_opening.Statement.{statement}
 use Rattle.least.proofs.at_opening.Tie as tie
 
 change-at-requires : tie.Need-change-at-requires
-change-at-requires c κs = search needs
+change-at-requires c κs = rw (toZ-ofZ (c .fits .position), toZ-ofZ (c .fits .prev)) (c .pre)
 
 lesser-requires : tie.Need-lesser-requires
 lesser-requires c κs = search needs

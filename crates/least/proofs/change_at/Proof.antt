@@ -3,12 +3,11 @@ use mathlib.Core.Path.{_≡_, sym, _∙_}
 use borrow.Author.Needs.{needs}
 use mir.Facts.{toZ-ofZ}
 use Rattle.model.specs.Model.{within}
-use Rattle.least.proofs.Diff.{diff-fits}
 use Rattle.least.proofs.change_at.Statement.{statement}
 use Rattle.least.proofs.change_at.Tie as tie
 
 in-reach-requires : tie.Need-in-reach-requires
-in-reach-requires c κs = rw (toZ-ofZ (c .before .fits .position), toZ-ofZ (c .before .fits .prev)) (diff-fits (c .before .args .position) (c .before .args .prev) (c .before .pre .1) (c .before .pre .0))
+in-reach-requires c κs = rw (toZ-ofZ (c .before .fits .position), toZ-ofZ (c .before .fits .prev)) (c .before .pre)
 
 returns : tie.Need-returns
 returns c =

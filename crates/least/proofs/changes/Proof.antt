@@ -8,8 +8,8 @@ use lib.IntN.{ℤ, pos}
 use mir.Facts.{toZ-ofZ}
 use denote.Ref.{now}
 use Rattle.model.specs.LowerBound.{lowerThan}
-use Rattle.least.specs.Marks.{Small, markOf}
-use Rattle.least.proofs.Diff.{back, small-back, mark-small}
+use Rattle.least.specs.Marks.{Bits31, markOf}
+use Rattle.least.proofs.Diff.{back, gap-fits}
 use Rattle.least.proofs.changes.Statement.{statement}
 use Rattle.least.proofs.changes.Tie as tie
 
@@ -73,10 +73,9 @@ dearer-requires c κs = search needs
 change-at-requires : tie.Need-change-at-requires
 change-at-requires c κs =
     let b = c .before .before .before .before .before .before .before .before .before .before .before in
-    let m = c .before .before .before .before .mark in (
-      mark-small (m .result) (b .args .first) (now (b .args .positions)) (b .args .i) (m .ensures) (b .fits .first) (b .pre .3 .small),
-      small-back (getD (now (b .args .positions)) (b .args .k) (pos 0)) (b .pre .3 .small (suc (b .args .k))),
-    )
+    let m = c .before .before .before .before .mark in
+    let g = b .pre .0 .room .small in
+    gap-fits (getD (now (b .args .positions)) (b .args .k) (pos 0)) (m .result) (b .args .first) (now (b .args .positions)) (b .args .i) (g (suc (b .args .k))) (m .ensures) (b .fits .first) g
 
 is-lower-requires : tie.Need-is-lower-requires
 is-lower-requires c κs = search needs
@@ -86,7 +85,7 @@ returns c =
     let b = c .before .before .before .before .before .before .before .before .before .before .before .before .before in
     let m = c .before .before .before .before .before .before .mark in
     let s = getD (now (b .args .positions)) (b .args .k) (pos 0) in
-    let h : Small s = b .pre .3 .small (suc (b .args .k)) in
+    let h : Bits31 s = b .pre .0 .room .small (suc (b .args .k)) in
     let e : m .result ≡ markOf (b .args .first) (now (b .args .positions)) (b .args .i) = m .ensures ∙ ap (λ (x : ℤ). markOf x (now (b .args .positions)) (b .args .i)) (toZ-ofZ (b .fits .first)) in
     c .is-lower .ensures
     ∙ ap₂ lowerThan (c .before .before .before .before .before .before .before .before .bound .ensures)

@@ -1,18 +1,18 @@
 -- `choice` is the tie rule's change set: the suffix table, and `chosen` over it.
 use mir.Facts.{toZ-ofZ}
-use Rattle.least.proofs.Diff.{small-back, given-back}
+use Rattle.least.proofs.Diff.{part-back, until-back}
 use Rattle.least.proofs.choice.Statement.{statement}
 use Rattle.least.proofs.choice.Tie as tie
 
 fill-requires : tie.Need-fill-requires
 fill-requires c κs =
     let b = c .before .before .before .before in
-    (b .pre .0, small-back (b .args .end) (b .pre .1), given-back (b .args .first) _ _ _ (b .fits .first) (b .pre .2))
+    until-back (b .args .end) (b .args .first) _ _ _ _ (b .fits .first) (b .pre)
 
 chosen-requires : tie.Need-chosen-requires
 chosen-requires c κs =
     let b = c .before .before .before .before .before .before .before .before in
-    (c .before .before .before .fill .ensures .size, given-back (b .args .first) _ _ _ (b .fits .first) (b .pre .2))
+    part-back (b .args .first) _ _ _ _ _ (b .fits .first) (c .before .before .before .fill .ensures .size) (b .pre .part)
 
 same-length : tie.Need-same-length
 same-length c = c .before .before .before .before .fill .kept .1 .1 .1 .1 .1 .1 .0

@@ -14,7 +14,7 @@ use denote.Ref.{now}
 use Rattle.model.specs.LowerBound.{choiceOf, offers}
 use Rattle.least.specs.Marks.{markOf}
 use Rattle.least.specs.Suffix.{Suffixes}
-use Rattle.least.proofs.Diff.{given-back}
+use Rattle.least.proofs.Diff.{part-back}
 use Rattle.model.proofs.Offers.{offers-length}
 use Rattle.least.proofs.Table.{mark-below, offerAt, Chosen, chosen-none, chosen-next, chosen-all, offers-drop, mark-next}
 use Rattle.least.proofs.Rows.{changes-read}
@@ -36,13 +36,13 @@ loop-holds c = (search needs, search needs, λ end s. chosen-none _ _ _ _ _ refl
 changes-requires : tie.Need-changes-requires Inv-loop μ-loop
 changes-requires c κs =
     let b = c .before .before .before .before .before in
-    (b .pre .0, search needs, omega arith, given-back (b .args .first) _ _ _ (b .fits .first) (b .pre .1))
+    (part-back (b .args .first) _ _ _ _ _ (b .fits .first) (b .pre .room .size) (b .pre), search needs, omega arith)
 
 array-write-out : tie.Need-array-write-out Inv-loop μ-loop
 array-write-out c = search needs
 
 next-mark-requires : tie.Need-next-mark-requires Inv-loop μ-loop
-next-mark-requires c κs = omega (arith, c .before .before .before .before .before .before .pre .1 .few)
+next-mark-requires c κs = omega (arith, c .before .before .before .before .before .before .pre .room .few)
 
 add-k : tie.Need-add-k Inv-loop μ-loop
 add-k c = search needs
@@ -57,15 +57,15 @@ loop-again c =
     let s = now (b .args .positions) in
     let p = now (b .args .prices) in
     let f = now (b .args .allowed) in
-    let g = b .pre .1 in
+    let g = b .pre in
     let r = c .before .changes in
     let n = c .next-mark in (
       search needs,
       mark-below (r .result) (l .k) (l .i) (n .result) (l .inv .1) (n .ensures),
       λ end t.
-          chosen-next _ end _ (offers s p f) _ (l .out) (l .k) (offerAt s p f (l .k)) (r .result) _ (omega (arith, g .few))
+          chosen-next _ end _ (offers s p f) _ (l .out) (l .k) (offerAt s p f (l .k)) (r .result) _ (omega (arith, g .room .few))
           (offers-drop s p f (l .k) (omega arith))
-          (r .ensures ∙ changes-read _ end _ s p f (g .few) (g .flags) (λ x. omega (arith, c .before .before .before .before .before .before .shared-slice-known .given x)) (now (b .args .tab)) (l .i) (l .k) (l .inv .1) (omega arith) t)
+          (r .ensures ∙ changes-read _ end _ s p f (g .room .few) (g .flags) (λ x. omega (arith, c .before .before .before .before .before .before .shared-slice-known .given x)) (now (b .args .tab)) (l .i) (l .k) (l .inv .1) (omega arith) t)
           (mark-next _ s (r .result) (l .k) (l .i) (n .result) (n .ensures))
           (l .inv .2 end t),
     )

@@ -9,7 +9,7 @@ use mir.Val.{toZ}
 use mir.Syntax.{w32}
 use denote.Ref.{now}
 use Rattle.least.specs.Suffix.{Suffixes}
-use Rattle.least.proofs.Diff.{small-back, marks-back}
+use Rattle.least.proofs.Diff.{small-back, room-back}
 use Rattle.least.proofs.Rows.{suffix-end, suffix-more, suffix-pred, suffix-zero}
 use Rattle.least.proofs.fill.Statement.{statement}
 use Rattle.least.proofs.fill.Tie as tie
@@ -23,16 +23,16 @@ abbrev μ-loop : tie.MeasureT-loop
 fill-end-requires : tie.Need-fill-end-requires Inv-loop μ-loop
 fill-end-requires c κs =
     let b = c .before .before .before .before in
-    (b .pre .0, b .pre .2 .few, small-back (b .args .end) (b .pre .1), marks-back (b .args .first) (now (b .args .positions)) (b .fits .first) (b .pre .2 .small))
+    (room-back (b .args .first) _ _ _ (b .fits .first) (b .pre .part .room .size) (b .pre .part .room), small-back (b .args .end) (b .pre .late))
 
 loop-holds : tie.Need-loop-holds Inv-loop μ-loop
 loop-holds c =
     let b = c .before .before .before .before .before .before .before in
-    let g = b .pre .2 in (
+    let g = b .pre .part in (
       search needs,
       refl,
-      suffix-end _ _ _ (now (b .args .positions)) (now (b .args .prices)) (now (b .args .allowed)) (g .few) (g .flags) (λ x. omega (arith, c .before .before .before .before .before .before .shared-slice-known .given x))
-          (now (b .args .tab)) _ (b .pre .0) (c .before .before .fill-end .ensures),
+      suffix-end _ _ _ (now (b .args .positions)) (now (b .args .prices)) (now (b .args .allowed)) (g .room .few) (g .flags) (λ x. omega (arith, c .before .before .before .before .before .before .shared-slice-known .given x))
+          (now (b .args .tab)) _ (g .room .size) (c .before .before .fill-end .ensures),
     )
 
 sub-j : tie.Need-sub-j Inv-loop μ-loop
@@ -72,7 +72,7 @@ fill-row-requires : tie.Need-fill-row-requires Inv-loop μ-loop
 fill-row-requires c κs =
     let b = c .before .before .before .before .before .before .before .before .before .before .before .before .before .before in
     let l = c .before .before .before .before .before .before .loop in
-    (l .inv .2 .size, omega arith, b .pre .2 .few, marks-back (b .args .first) (now (b .args .positions)) (b .fits .first) (b .pre .2 .small))
+    (room-back (b .args .first) _ _ _ (b .fits .first) (l .inv .2 .size) (b .pre .part .room), omega arith)
 
 loop-less : tie.Need-loop-less Inv-loop μ-loop
 loop-less c = search needs
@@ -81,13 +81,13 @@ loop-again : tie.Need-loop-again Inv-loop μ-loop
 loop-again c =
     let l = c .before .before .before .before .before .before .before .before .before .loop in
     let b = c .before .before .before .before .before .before .before .before .before .before .before .before .before .before .before .before .before in
-    let g = b .pre .2 in
+    let g = b .pre .part in
     let s = now (b .args .positions) in
     let p = now (b .args .prices) in
     let f = now (b .args .allowed) in (
       search needs,
       c .before .before .fill-row .ensures .size ∙ l .inv .1,
-      suffix-more _ _ _ s p f (g .few) (g .flags) (λ x. omega (arith, c .before .before .before .before .before .before .shared-slice-known3 .given x)) (l .tab) _ (l .j - 1) (c .before .before .before .before .before .dearer .result) (omega arith)
+      suffix-more _ _ _ s p f (g .room .few) (g .flags) (λ x. omega (arith, c .before .before .before .before .before .before .shared-slice-known3 .given x)) (l .tab) _ (l .j - 1) (c .before .before .before .before .before .dearer .result) (omega arith)
           (suffix-pred _ _ _ s p f (l .tab) (l .j) (omega arith) (l .inv .2))
           (c .before .before .before .before .before .dearer .ensures)
           (c .before .before .fill-row .ensures),

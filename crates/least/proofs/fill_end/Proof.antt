@@ -8,20 +8,21 @@ use mir.Facts.{toZ-ofZ}
 use mir.Val.{toZ}
 use mir.Syntax.{w32}
 use denote.Ref.{now}
-use Rattle.least.specs.Suffix.{codeOf, endOf, Rowed}
-use Rattle.least.proofs.Rows.{rowed-none, rowed-more}
-use Rattle.least.proofs.Diff.{back, small-back, mark-small}
+use Rattle.least.specs.Suffix.{cell, codeOf, endOf}
+use Rattle.least.specs.Filled.{FilledBy}
+use Rattle.least.proofs.Filled.{filled-none, filled-more}
+use Rattle.least.proofs.Diff.{back, gap-fits}
 use Rattle.least.proofs.fill_end.Statement.{statement}
 use Rattle.least.proofs.fill_end.Tie as tie
 
 abbrev Inv-loop : tie.InvT-loop
-Inv-loop life end first positions tab₀ m i₀ tab i = (i ≤ m + 1) × Rowed (endOf (toZ w32 life) (toZ w32 end) (toZ w32 first) positions) tab₀ tab m i
+Inv-loop life end first positions tab₀ m i₀ tab i = (i ≤ m + 1) × FilledBy (cell m) (endOf (toZ w32 life) (toZ w32 end) (toZ w32 first) positions) i tab₀ tab
 
 abbrev μ-loop : tie.MeasureT-loop
 μ-loop life end first positions tab₀ m i₀ tab i = m + 1 - i
 
 loop-holds : tie.Need-loop-holds Inv-loop μ-loop
-loop-holds c = (search needs, rowed-none _ _ _)
+loop-holds c = (search needs, filled-none)
 
 mark-requires : tie.Need-mark-requires Inv-loop μ-loop
 mark-requires c κs = search needs
@@ -29,7 +30,7 @@ mark-requires c κs = search needs
 at-end-requires : tie.Need-at-end-requires Inv-loop μ-loop
 at-end-requires c κs =
     let b = c .before .before .before .before in
-    (mark-small (c .mark .result) (b .args .first) (now (b .args .positions)) (c .before .before .loop .i) (c .mark .ensures) (b .fits .first) (b .pre .3), small-back (b .args .end) (b .pre .2))
+    gap-fits (b .args .end) (c .mark .result) (b .args .first) (now (b .args .positions)) (c .before .before .loop .i) (b .pre .1) (c .mark .ensures) (b .fits .first) (b .pre .0 .small)
 
 code-requires : tie.Need-code-requires Inv-loop μ-loop
 code-requires c κs = search needs
@@ -58,7 +59,7 @@ loop-again c =
     let b = c .before .before .before .before .before .before in
     let m = c .before .before .mark in (
       search needs,
-      rowed-more _ _ (length (now (b .args .positions))) (l .tab) (l .i) (c .code .result) (omega arith) (omega (arith, l .inv .1 .size))
+      filled-more (c .code .result) (omega arith) (λ y l e. omega (arith, e))
           (c .code .ensures ∙ ap codeOf (rw (back (m .result) (m .ok), m .ensures) at (c .before .at-end .ensures)))
           (l .inv .1),
     )

@@ -9,15 +9,16 @@ use mir.Facts.{toZ-ofZ}
 use mir.Val.{toZ}
 use mir.Syntax.{w32}
 use denote.Ref.{now}
-use Rattle.least.specs.Marks.{Small}
-use Rattle.least.specs.Suffix.{cell, codeOf, rowOf, Rowed}
-use Rattle.least.proofs.Rows.{rowed-none, rowed-more}
-use Rattle.least.proofs.Diff.{back, small-back, mark-small}
+use Rattle.least.specs.Marks.{Bits31}
+use Rattle.least.specs.Suffix.{cell, codeOf, rowOf}
+use Rattle.least.specs.Filled.{FilledBy}
+use Rattle.least.proofs.Filled.{filled-none, filled-more}
+use Rattle.least.proofs.Diff.{back, gap-fits}
 use Rattle.least.proofs.fill_row.Statement.{statement}
 use Rattle.least.proofs.fill_row.Tie as tie
 
 abbrev Inv-loop : tie.InvT-loop
-Inv-loop life first positions j allowed chg tab₀ position i₀ tab i = (i ≤ j + 1) × Rowed (rowOf (toZ w32 life) (toZ w32 first) positions j allowed chg tab₀) tab₀ tab j i
+Inv-loop life first positions j allowed chg tab₀ position i₀ tab i = (i ≤ j + 1) × FilledBy (cell j) (rowOf (toZ w32 life) (toZ w32 first) positions j allowed chg tab₀) i tab₀ tab
 
 abbrev μ-loop : tie.MeasureT-loop
 μ-loop life first positions j allowed chg tab₀ position i₀ tab i = j + 1 - i
@@ -29,7 +30,7 @@ shared-slice-copy-out-position : tie.Need-shared-slice-copy-out-position Inv-loo
 shared-slice-copy-out-position c = search needs
 
 loop-holds : tie.Need-loop-holds Inv-loop μ-loop
-loop-holds c = (search needs, rowed-none _ _ _)
+loop-holds c = (search needs, filled-none)
 
 mark-requires : tie.Need-mark-requires Inv-loop μ-loop
 mark-requires c κs = search needs
@@ -55,10 +56,9 @@ bound-requires c κs = search needs
 at-opening-requires : tie.Need-at-opening-requires Inv-loop μ-loop
 at-opening-requires c κs =
     let b = c .before .before .before .before .before .before .before in
-    let m = c .before .before .mark in (
-      mark-small (m .result) (b .args .first) (now (b .args .positions)) (c .before .before .before .before .loop .i) (m .ensures) (b .fits .first) (b .pre .3),
-      small-back (getD (now (b .args .positions)) (b .args .j) (pos 0)) (b .pre .3 (suc (b .args .j))),
-    )
+    let m = c .before .before .mark in
+    let g = b .pre .0 .small in
+    gap-fits (getD (now (b .args .positions)) (b .args .j) (pos 0)) (m .result) (b .args .first) (now (b .args .positions)) (c .before .before .before .before .loop .i) (g (suc (b .args .j))) (m .ensures) (b .fits .first) g
 
 code-requires : tie.Need-code-requires Inv-loop μ-loop
 code-requires c κs = search needs
@@ -86,10 +86,10 @@ loop-again c =
     let l = c .before .before .before .before .before .before .loop in
     let b = c .before .before .before .before .before .before .before .before .before in
     let m = c .before .before .before .before .mark in
-    let h : Small (getD (now (b .args .positions)) (b .args .j) (pos 0)) = b .pre .3 (suc (b .args .j)) in
-    let a = l .inv .1 .above (cell (b .args .j + 1) (l .i)) (omega arith) in (
+    let h : Bits31 (getD (now (b .args .positions)) (b .args .j) (pos 0)) = b .pre .0 .small (suc (b .args .j)) in
+    let a = l .inv .1 .rest (cell (b .args .j + 1) (l .i)) (λ y h e. omega (arith, e)) in (
       search needs,
-      rowed-more _ _ (b .args .j) (l .tab) (l .i) (c .code .result) (omega arith) (omega (arith, l .inv .1 .size))
+      filled-more (c .code .result) (omega arith) (λ y l e. omega (arith, e))
           (c .code .ensures ∙ ap codeOf
           (rw (back (m .result) (m .ok), m .ensures, back (getD (now (b .args .positions)) (b .args .j) (pos 0)) (omega arith), c .before .before .bound .ensures, a) at (c .before .at-opening .ensures)))
           (l .inv .1),

@@ -4,7 +4,7 @@ use native.Mathlib.Omega.{arith}
 use borrow.Author.Needs.{needs}
 use mir.Facts.{toZ-ofZ}
 use denote.Ref.{now}
-use Rattle.least.proofs.Diff.{small-back, given-back}
+use Rattle.least.proofs.Diff.{until-back}
 use Rattle.least.proofs.Rows.{row-read}
 use Rattle.least.proofs.least.Statement.{statement}
 use Rattle.least.proofs.least.Tie as tie
@@ -12,7 +12,7 @@ use Rattle.least.proofs.least.Tie as tie
 fill-requires : tie.Need-fill-requires
 fill-requires c κs =
     let b = c .before .before .before .before in
-    (b .pre .0, small-back (b .args .end) (b .pre .1), given-back (b .args .first) _ _ _ (b .fits .first) (b .pre .2))
+    until-back (b .args .end) (b .args .first) _ _ _ _ (b .fits .first) (b .pre)
 
 slice-read-bound : tie.Need-slice-read-bound
 slice-read-bound c = omega (arith, c .before .before .before .fill .ensures .size)
@@ -26,10 +26,10 @@ same-length c = c .before .before .before .before .fill .kept .1 .1 .1 .1 .1 .1 
 returns : tie.Need-returns
 returns c =
     let b = c .before .before .before .before .before .before .before .before .before in
-    let g = b .pre .2 in
+    let g = b .pre .part in
     rw (toZ-ofZ (b .fits .life), toZ-ofZ (b .fits .end), toZ-ofZ (b .fits .first))
     at (c .bound .ensures
-    ∙ row-read _ _ _ (now (b .args .positions)) (now (b .args .prices)) (now (b .args .allowed)) (g .few) (g .flags) (λ x. omega (arith, c .before .before .before .before .before .before .before .before .shared-slice-known .given x)) _ 0 0 0 (omega arith) (omega arith) (omega arith) (c .before .before .before .before .fill .ensures))
+    ∙ row-read _ _ _ (now (b .args .positions)) (now (b .args .prices)) (now (b .args .allowed)) (g .room .few) (g .flags) (λ x. omega (arith, c .before .before .before .before .before .before .before .before .shared-slice-known .given x)) _ 0 0 0 (omega arith) (omega arith) (omega arith) (c .before .before .before .before .fill .ensures))
 
 pub least-spec : {M : Type 1} → statement M
 least-spec = tie.close (tie.spec fill-requires slice-read-bound bound-requires same-length returns)

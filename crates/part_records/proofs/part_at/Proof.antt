@@ -37,10 +37,10 @@ use denote.Triple.Spec.{Meets, tripleOf}
 use denote.Triple.Table.{entered}
 use denote.Triple.Walked.{says, needs, Stays, stay-none, stay-none-slice, walkOf, goes-none, goes-none-slice, Walks, ends-at, walked, walk-meets}
 use denote.Exit.{yes}
-use Rattle.job_text.specs.declared.Part.{Part}
-use Rattle.job_text.proofs.Part as part
-use Rattle.job_text.proofs.Part.Laws as part-laws
-use Rattle.job_text.specs.Views.{blankPart}
+use Rattle.jobs.specs.declared.Part.{Part}
+use Rattle.jobs.proofs.Part as part
+use Rattle.jobs.proofs.Part.Laws as part-laws
+use Rattle.jobs.specs.Views.{blankPart}
 use Rattle.part_records.specs.Records.{recordAt}
 use Rattle.part_records.proofs.Taken.{rec-out, rec-back}
 use Rattle.part_records.proofs.part_at.Key.{name as #part-records·part-at}

@@ -5,7 +5,8 @@ use lib.ListN.{length}
 use Rattle.lines.specs.Parser.{accepted, refused}
 use Rattle.lines.proofs.Outcomes.{told}
 use Rattle.job_text.specs.Grammar.{readJob}
-use Rattle.job_text.specs.Views.{jobOf}
+use Rattle.job_text.specs.Views.{givenOf}
+use Rattle.job_text.proofs.Views.{means}
 use Rattle.job_text.proofs.Accepted.{valid}
 use Rattle.job_text.proofs.Numbered.{fault}
 use Rattle.planning.specs.Plan.{planSaid}
@@ -16,11 +17,11 @@ use Rattle.planning.proofs.plan.Tie as tie
 
 -- what the job text reads as, by the verdict on it
 refused-job : (c : tie.After-verdict) → readJob (c .before .before .before .before .before .args .job .now) ≡ refused (c .verdict .given .0 .0) (c .verdict .given .0 .1 .0)
-refused-job c = told _ (c .before .before .read-job .ensures .is) (c .verdict .given .1)
+refused-job c = told _ (means _ (c .before .before .read-job .ensures)) (c .verdict .given .1)
 
 accepted-job : (c : tie.After-enum-told) → let r = c .before .before .read-job .result in
-    readJob (c .before .before .before .before .before .args .job .now) ≡ accepted (record { walk = r .walk; job = jobOf (r .job) })
-accepted-job c = told _ (c .before .before .read-job .ensures .is) (c .enum-told .given .1)
+    readJob (c .before .before .before .before .before .args .job .now) ≡ accepted (givenOf (r .text))
+accepted-job c = told _ (means _ (c .before .before .read-job .ensures)) (c .enum-told .given .1)
 
 read-job-requires : tie.Need-read-job-requires
 read-job-requires c κs = search needs
@@ -29,7 +30,7 @@ enum-known-verdict : tie.Need-enum-known-verdict
 enum-known-verdict c = search needs
 
 refuse-requires : tie.Need-refuse-requires
-refuse-requires c κs = omega (arith, fault _ _ _ (refused-job (c .before .before)) .1)
+refuse-requires c κs = (omega (arith, fault _ _ _ (refused-job (c .before .before)) .1), omega arith)
 
 enum-told : tie.Need-enum-told
 enum-told c = search needs
@@ -37,7 +38,7 @@ enum-told c = search needs
 plan-job-requires : tie.Need-plan-job-requires
 plan-job-requires c κs =
     let v = valid _ _ (accepted-job (c .before .before)) in
-    (c .before .before .before .before .read-job .ensures .sized, (v .job, v .walk))
+    (record { sized = c .before .before .before .before .read-job .ensures .sized; valid = v .job }, v .walk)
 
 same-length : tie.Need-same-length
 same-length c = search needs

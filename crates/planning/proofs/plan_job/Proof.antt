@@ -1,48 +1,46 @@
--- `plan_job`: the search says the model's answer, and its plan is the one that is printed.
-use mathlib.Core.Path.{_≡_, sym, ap, ap₂, _∙_, subst}
-use Rattle.model.specs.Model as model
-use Rattle.model.specs.Promise.{answerOf}
-use Rattle.job_text.specs.Views.{jobOf}
-use Rattle.plan_text.specs.Views.{planFor}
-use Rattle.search.specs.Outcome.{planIn, saidIn}
-use Rattle.job_search.proofs.Limits.{job-said, answer-ranged}
-use Rattle.answers.specs.Said.{Said, saidOf, Replied}
-use Rattle.answers.specs.Fits.{Fits}
-use Rattle.answers.specs.declared.Outcome.{Outcome}
-use Rattle.planning.specs.Plan.{outcomeOf, saidFor, planRoom}
-use Rattle.planning.proofs.Outcomes.{fits, printed}
+-- `plan_job`: what the search found is the model's answer, with the plan that it holds.
+use mathlib.Core.Path.{_≡_, sym, _∙_, subst}
+use Rattle.model.specs.Promise.{PlannerAnswer, answerOf}
+use Rattle.jobs.specs.Views.{jobOf}
+use Rattle.search.specs.declared.Found.{Found}
+use Rattle.search.specs.Found.{planFound}
+use Rattle.job_search.proofs.Limits.{Ranged, job-said, answer-ranged}
+use Rattle.answers.specs.Said.{Replied}
+use Rattle.planning.specs.Plan.{saidFor, planRoom}
+use Rattle.planning.specs.Finding.{answerIn}
+use Rattle.planning.proofs.Findings.{fits}
 use borrow.Author.Needs.{needs}
 use Rattle.planning.proofs.plan_job.Statement.{statement}
 use Rattle.planning.proofs.plan_job.Tie as tie
 
-abbrev start : tie.After-outcome-of → tie.Start
-start c = c .before .before .before .before .before .before
+abbrev start : tie.After-finding-of → tie.Start
+start c = c .before .before .before .before .before
 
--- what the search says is the model's answer
-said : (c : tie.After-outcome-of) → let j = start c .args .job in
-    saidIn (j .«opening_count») (j .«part_count») (c .before .before .before .before .search-job .result) ≡ answerOf (jobOf j) (start c .args .walk)
+abbrev searched : tie.After-finding-of → Found
+searched c = c .before .before .before .search-job .result
+
+-- what is found is the model's answer, with the plan that the search holds
+said : (c : tie.After-finding-of) → let j = start c .args .job in
+    answerIn (planFound (j .«opening_count») (j .«part_count») (searched c)) (c .finding-of .result) ≡ answerOf (jobOf j) (start c .args .walk)
 said c =
     let s = start c in
-    job-said (s .args .job) (s .pre .0) (s .good .0) (s .args .walk) (c .before .before .before .before .search-job .result) (c .before .before .before .before .search-job .ensures)
-
-found : (c : tie.After-outcome-of) → c .outcome-of .result ≡ outcomeOf (answerOf (jobOf (start c .args .job)) (start c .args .walk))
-found c = c .outcome-of .ensures _ _ ∙ ap outcomeOf (said c)
+    c .finding-of .ensures _ _ ∙ job-said (s .args .job) (s .pre .0 .sized) (s .good .0) (s .args .walk) (searched c) (c .before .before .before .search-job .ensures)
 
 search-job-requires : tie.Need-search-job-requires
 search-job-requires c κs = search needs
 
-changes-of-requires : tie.Need-changes-of-requires
-changes-of-requires c κs = search needs
+finding-of-requires : tie.Need-finding-of-requires
+finding-of-requires c κs = search needs
 
-outcome-of-requires : tie.Need-outcome-of-requires
-outcome-of-requires c κs = search needs
-
-reply-requires : tie.Need-reply-requires
-reply-requires c κs =
-    let s = start (c .before) in
-    let j = s .args .job in
-    subst (λ (o : Outcome). Fits o j) (sym (found (c .before)))
-    (fits j (s .pre .0) (s .pre .1 .0) (s .args .walk) (s .pre .1 .1) (answerOf (jobOf j) (s .args .walk)) (answer-ranged (jobOf j) (s .pre .1 .0) (s .args .walk)))
+answer-requires : tie.Need-answer-requires
+answer-requires c κs =
+    let o = c .before in
+    let s = start o in
+    let j = s .args .job in (
+      fits (planFound (j .«opening_count») (j .«part_count») (searched o)) (s .args .walk) (s .pre .1) (o .finding-of .result)
+          (subst (Ranged (s .args .walk)) (sym (said o)) (answer-ranged (jobOf j) (s .pre .0 .valid) (s .args .walk))),
+      s .pre .0,
+    )
 
 same-length : tie.Need-same-length
 same-length c = search needs
@@ -51,25 +49,10 @@ returns : tie.Need-returns
 returns c =
     let o = c .before .before .before .before in
     let s = start o in
-    let j = s .args .job in
-    let n = j .«opening_count» in
-    let m = j .«part_count» in
-    let r = c .before .before .before .before .before .before .before .before .search-job .result in
-    let plan : planFor j (record { stops = r .stops; changes = o .before .changes-of .result }) ≡ planIn n m r =
-    λ i. record { stops = planIn n m r .stops; changes = o .before .changes-of .ensures n m (s .pre .0 .parts) i } in
-    let reply = c .before .before .reply in
-    subst (λ (x : Said). Replied planRoom x (s .args .out .now) (reply .last .1 .1 .1 .0) (reply .result))
-    (ap₂ (λ (p : model.Plan) (x : Outcome). saidOf (jobOf j) p x) plan (o .outcome-of .ensures n m)
-    ∙ printed (jobOf j) n m r ∙ ap (saidFor (jobOf j)) (said o))
-    (reply .ensures)
+    let answer = c .before .before .answer in
+    subst (λ (x : PlannerAnswer). Replied planRoom (saidFor (jobOf (s .args .job)) x) (s .args .out .now) (answer .last .1 .1 .1 .0) (answer .result)) (said o) (answer .ensures)
 
 pub plan-job-spec : {M : Type 1} → statement M
 plan-job-spec =
     tie.close
-    (tie.spec
-    search-job-requires
-    changes-of-requires
-    outcome-of-requires
-    reply-requires
-    same-length
-    returns)
+    (tie.spec search-job-requires finding-of-requires answer-requires same-length returns)

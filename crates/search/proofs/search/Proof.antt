@@ -5,9 +5,10 @@ use borrow.Author.Needs.{needs}
 use lib.ListN.{length, take}
 use lib.IntN.{ℤ}
 use mir.Facts.{toZ-ofZ}
-use Rattle.search.specs.Arrays.{sheetOf, Arrays}
+use Rattle.search.specs.Arrays.{sheetOf}
 use Rattle.search.specs.Plan.{Chooses}
-use Rattle.search.proofs.Answered.{stops-length, answers}
+use Rattle.search.proofs.Filling.{ready-back}
+use Rattle.search.proofs.Answered.{stops-length, finds}
 use Rattle.search.proofs.search.Statement.{statement}
 use Rattle.walk.specs.State.{Solves}
 use Rattle.search.proofs.search.Tie as tie
@@ -18,8 +19,7 @@ slice-aggregate-walked c = search needs
 walked-requires : tie.Need-walked-requires
 walked-requires c κs =
     let b = c .before .before .before .before .before in
-    let a = b .args in
-    (subst (λ (x : ℤ). Arrays x (a .positions .now) (a .fees .now) (a .lives .now) (a .lefts .now) (a .prices .now)) (sym (toZ-ofZ (b .fits .end))) (b .pre .0 .1 .arrays), search needs, b .pre .1)
+    (ready-back (b .fits .end) (b .pre .0 .1 .arrays) (search needs), b .pre .1)
 
 stops-of-requires : tie.Need-stops-of-requires
 stops-of-requires c κs = search needs
@@ -36,10 +36,8 @@ slice-aggregate-changes-2 c = search needs
 changes-requires : tie.Need-changes-requires
 changes-requires c κs =
     let b = c .before .before .before .before .before .before .before .before .before .before in
-    let a = b .args in
-    let r = b .pre .0 .1 .arrays in (
-      subst (λ (x : ℤ). Arrays x (a .positions .now) (a .fees .now) (a .lives .now) (a .lefts .now) (a .prices .now)) (sym (toZ-ofZ (b .fits .end))) r,
-      omega (arith, c .before .before .before .before .walked .kept .1 .1 .1 .1 .1 .1 .1 .0),
+    let a = b .args in (
+      ready-back (b .fits .end) (b .pre .0 .1 .arrays) (omega (arith, c .before .before .before .before .walked .kept .1 .1 .1 .1 .1 .1 .1 .0)),
       stops-length (length (a .positions .now)) _ (c .before .before .stops-of .result) (c .before .before .stops-of .ensures),
     )
 
@@ -52,7 +50,7 @@ returns c =
     let e = toZ-ofZ (b .fits .end) in
     let s = c .before .before .before .before .before .before .walked .result in
     let t = c .before .before .before .before .stops-of .result in
-    answers job (a .end) (a .positions .now) (a .fees .now) (a .lives .now) (a .lefts .now) (a .prices .now) h (a .limit) s
+    finds job (a .end) (a .positions .now) (a .fees .now) (a .lives .now) (a .lefts .now) (a .prices .now) h (a .limit) s
     (subst (λ (x : ℤ). Solves (sheetOf x (a .positions .now) (a .fees .now) (a .lives .now) (a .lefts .now) (a .prices .now)) (a .limit) s) e (c .before .before .before .before .before .before .walked .ensures))
     t (c .before .before .before .before .stops-of .ensures) (c .before .changes .result)
     (subst (λ (x : ℤ). Chooses x (a .positions .now) (a .lives .now) (a .lefts .now) (a .prices .now) (take n t) (c .before .changes .result) (length (a .lives .now))) e (c .before .changes .ensures))

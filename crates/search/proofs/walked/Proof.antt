@@ -1,11 +1,10 @@
 -- `walked` is the search of the sheet: the tables, filled, and `solve` over them.
-use mathlib.Core.Path.{sym, subst}
 use borrow.Author.Needs.{needs}
-use lib.IntN.{ℤ}
 use mir.Syntax.{w32}
 use mir.Val.{toZ, ofZ}
 use mir.Facts.{toZ-ofZ}
-use Rattle.search.specs.Arrays.{Arrays, sheetOf}
+use Rattle.search.specs.Arrays.{sheetOf}
+use Rattle.search.proofs.Filling.{ready-back}
 use Rattle.search.proofs.walked.Statement.{statement}
 use Rattle.search.proofs.walked.Tie as tie
 
@@ -16,7 +15,7 @@ fill-requires : tie.Need-fill-requires
 fill-requires c κs =
     let b = c .before .before .before .before .before .before .before in
     let a = b .args in
-    (subst (λ (x : ℤ). Arrays x (a .positions .now) (a .fees .now) (a .lives .now) (a .lefts .now) (a .prices .now)) (sym (toZ-ofZ (b .fits .end))) (b .pre .0), b .pre .1, search needs)
+    (ready-back (b .fits .end) (b .pre .0 .arrays) (b .pre .0 .room), search needs)
 
 solve-requires : tie.Need-solve-requires
 solve-requires c κs = search needs

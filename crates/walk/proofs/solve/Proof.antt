@@ -1,9 +1,10 @@
 -- `solve` is the limited walk from the first node, and its bound is the floor: the base row, the tables' first row, and `walk`.
-use Prim.Native.Nat.{ℕ, _-_, min}
+use Prim.Native.Nat.{ℕ, min}
 use mathlib.Core.Path.{_≡_, sym, ap, subst, _∙_}
 use mathlib.Core.Bool.{false}
 use mathlib.Core.List.{List, []}
 use native.Mathlib.Omega.{arith}
+use native.Mathlib.Nat.{sub-zero}
 use borrow.Author.Needs.{needs}
 use borrow.Author.Tests.{le-ltb}
 use lib.ListN.{length}
@@ -49,8 +50,8 @@ value-requires c κs = search needs
 root-stands : (c : tie.After-value) (sheet : Sheet) → Tables sheet (begun c .args .t .now) → At sheet (begun c .args .t .now) (rows c) root false (c .value .result)
 root-stands c sheet ta =
     let e = c .before .before .before .base-row .ensures in
-    root-given sheet (begun c .args .t .now) (rows c) ta (rows-root sheet (rows c) (omega (arith, ta .wide, ta .narrow)) (e .0) (e .1) (e .2))
-    (c .value .result) (c .value .ensures ∙ ap valueOf (c .before .first-sum .ensures ∙ first-sums sheet (begun c .args .t .now) ta (rows c) (e .1) (e .2)))
+    root-given sheet (begun c .args .t .now) (rows c) ta (rows-root sheet (rows c) (omega (arith, ta .wide, ta .narrow)) e)
+    (c .value .result) (c .value .ensures ∙ ap valueOf (c .before .first-sum .ensures ∙ first-sums sheet (begun c .args .t .now) ta (rows c) e))
 
 open-requires : tie.Need-open-requires
 open-requires c κs =
@@ -68,10 +69,6 @@ reached-requires c κs = search needs
 
 solved-requires : tie.Need-solved-requires
 solved-requires c κs = search needs
-
--- all decisions are left
-all-left : (n : ℕ) → n - 0 ≡ n
-all-left n = omega arith
 
 -- nothing is counted and nothing found
 fresh-view : (limit n : ℕ) → view limit n fresh ≡ record { count = 0; over = false; incumbent = none }
@@ -145,7 +142,7 @@ returns-2 c =
     subst (Solves sheet (a .limit)) (sym (c .solved2 .ensures))
     (ends v sheet (c .before .walk .result) ta
     (c .before .walk .ensures .0 sheet (root-child x sheet ta)
-    ∙ ap (λ (k : ℕ). openFrom (sheetBound sheet) (a .limit) k [] (view (a .limit) n (r .result))) (all-left n)
+    ∙ ap (λ (k : ℕ). openFrom (sheetBound sheet) (a .limit) k [] (view (a .limit) n (r .result))) (sub-zero n)
     ∙ ap (λ (k : Search). openFrom (sheetBound sheet) (a .limit) n [] (view (a .limit) n k)) (r .ensures)
     ∙ opened x sheet ta .on))
 

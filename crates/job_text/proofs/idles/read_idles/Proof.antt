@@ -1,20 +1,56 @@
 -- `read_idles`: the number's line, if it is there, and so many steps; the first fault is the whole's.
-use mathlib.Core.Path.{refl, ap, sym, _∙_}
+use mathlib.Core.Path.{_≡_, refl, ap, sym, _∙_}
 use native.Mathlib.Omega.{arith}
-use Rattle.lines.specs.Text.{bytes}
-use Rattle.lines.specs.Cursor.{rowAnswer}
-use Rattle.lines.proofs.Parsing.{bind-good, bind-fault, got-value, got-fault, got-place, fault-read}
-use Rattle.lines.proofs.Sound.{optional-most}
+use lib.ListN.{length, take, drop}
+use Prim.Native.Nat.{_-_}
+use Rattle.lines.specs.Text.{bytes, present}
+use Rattle.lines.specs.Parser.{_>>=_, return, readField, rowAt, optionalAt, ifPresent}
+use Rattle.lines.specs.Cursor.{Reads, rowAnswer}
+use Rattle.lines.proofs.Parsing.{bind-good, bind-fault, got-value, got-fault, got-place, row-inside, row-reads, optional-row, optional-none, fault-read}
+use Rattle.lines.proofs.Sound.{row-gives}
 use Rattle.job_text.specs.Grammar.{idles}
+use Rattle.job_text.specs.Views.{idleLines, idlesOf}
+use Rattle.job_text.proofs.Views.{idles-read, none-read}
 use borrow.Author.Needs.{needs}
 use Rattle.job_text.proofs.idles.read_idles.Statement.{statement}
 use Rattle.job_text.proofs.idles.read_idles.Tie as tie
+
+sub-read-optional : tie.Need-sub-read-optional
+sub-read-optional c = search needs
+
+part-read-optional-start : tie.Need-part-read-optional-start
+part-read-optional-start c = search needs
+
+part-read-optional-end : tie.Need-part-read-optional-end
+part-read-optional-end c = search needs
 
 slice-aggregate-read-optional : tie.Need-slice-aggregate-read-optional
 slice-aggregate-read-optional c = search needs
 
 read-optional-requires : tie.Need-read-optional-requires
 read-optional-requires c κs = search needs
+
+enum-known-field : tie.Need-enum-known-field
+enum-known-field c = search needs
+
+-- where the line is there: the row's field, and the optional line as a row
+found : (c : tie.After-field) → let a = c .before .before .before .before .before .before .args in
+    (c .field .given .0 .0 ≡ readField (bytes "idles=") 1 365 (take (length (a .text .now) - a .p .at) (drop (a .p .at) (a .text .now))))
+    × (optionalAt (bytes "idles=") 1 365 (drop (a .p .at) (a .text .now)) (a .p .line) ≡ (rowAt (bytes "idles=") 1 365 >>= λ v. return (present v)) (drop (a .p .at) (a .text .now)) (a .p .line))
+unfolding bytes
+found c = optional-row _ 1 365 _ (c .before .before .before .before .before .before .args .p) (c .before .before .read-optional .ensures) (c .field .given .1)
+
+onward-requires : tie.Need-onward-requires
+onward-requires c κs =
+    let st = c .before .before .before .before .before .before .before in
+    (st .pre, row-inside _ 1 365 _ (st .args .p) (st .pre) (found (c .before) .0))
+
+-- that row, read in the whole text
+row : (c : tie.After-onward) → let a = c .before .before .before .before .before .before .before .before .args in
+    Reads (a .text .now) (rowAnswer (c .onward .result)) (rowAt (bytes "idles=") 1 365 (drop (a .p .at) (a .text .now)) (a .p .line))
+row c =
+    let st = c .before .before .before .before .before .before .before .before in
+    row-reads _ 1 365 _ (st .args .p) (st .pre) (found (c .before .before) .0) (c .onward .ensures)
 
 enum-known-n : tie.Need-enum-known-n
 enum-known-n c = search needs
@@ -24,38 +60,71 @@ cast-read-idle-steps c = search needs
 
 read-idle-steps-requires : tie.Need-read-idle-steps-requires
 read-idle-steps-requires c κs =
-    let e = c .before .before .before .read-optional .ensures in
+    let e = row (c .before .before .before) in
     let m = ap rowAnswer (c .before .n .given .1) in
-    (got-place e m, optional-most _ 1 365 _ _ _ _ _ (got-value e m))
+    (got-place e m, row-gives _ 1 365 _ _ _ _ _ (got-value e m) .1)
 
 enum-known-k : tie.Need-enum-known-k
 enum-known-k c = search needs
 
+no-idles-requires : tie.Need-no-idles-requires
+no-idles-requires c κs = search needs
+
+enum-told : tie.Need-enum-told
+enum-told c = search needs
+
+no-idles-requires-2 : tie.Need-no-idles-requires-2
+no-idles-requires-2 c κs = search needs
+
 returns : tie.Need-returns
-unfolding idles bytes
+unfolding idles return
 returns c =
     let e = c .read-idle-steps .ensures in
+    let at = c .before .before .before .before in
+    let n = got-value (row at) (ap rowAnswer (c .before .before .n .given .1)) in
+    let r = idles-read _ _ _ _ (c .read-idle-steps .result .end) (idlesOf (c .read-idle-steps .result)) (row-gives _ 1 365 _ _ _ _ _ n .0) (e .reads) in
     record {
-      reads = record {
-        is = e .reads .is ∙ sym (bind-good _ _ (got-value (c .before .before .before .before .read-optional .ensures) (ap rowAnswer (c .before .before .n .given .1))));
-        stands = e .reads .stands;
-      };
+      reads = record { is = r .is ∙ sym (bind-good _ _ (found (at .before .before) .1 ∙ bind-good _ _ n)); stands = r .stands };
       sized = e .sized;
     }
 
 returns-2 : tie.Need-returns-2
+unfolding idles
+returns-2 c =
+    let at = c .before .before .before .before in
+    record {
+      reads = fault-read _ (c .no-idles .ensures .0) (bind-fault _ _ (found (at .before .before) .1 ∙ bind-fault _ _ (got-fault (row at) (ap rowAnswer (c .before .before .k .given .1)))));
+      sized = omega (arith, c .no-idles .ensures .1);
+    }
+
+returns-3 : tie.Need-returns-3
 unfolding idles bytes
-returns-2 c = record { reads = fault-read _ refl (bind-fault _ _ (got-fault (c .before .before .before .read-optional .ensures) (ap rowAnswer (c .before .k .given .1)))); sized = omega arith }
+returns-3 c =
+    let st = c .before .before .before .before .before .before .before in
+    let r = none-read _ _ (c .no-idles2 .ensures) (st .pre) in
+    record {
+      reads = record { is = r .is ∙ sym (bind-good _ _ (optional-none _ 1 365 _ (st .args .p) (c .before .before .before .read-optional .ensures) (c .before .enum-told .given .1))); stands = r .stands };
+      sized = omega (arith, c .no-idles2 .ensures .1);
+    }
 
 pub read-idles-spec : {M : Type 1} → statement M
 read-idles-spec =
     tie.close
     (tie.spec
+    sub-read-optional
+    part-read-optional-start
+    part-read-optional-end
     slice-aggregate-read-optional
     read-optional-requires
+    enum-known-field
+    onward-requires
     enum-known-n
     cast-read-idle-steps
     read-idle-steps-requires
     enum-known-k
+    no-idles-requires
+    enum-told
+    no-idles-requires-2
     returns
-    returns-2)
+    returns-2
+    returns-3)

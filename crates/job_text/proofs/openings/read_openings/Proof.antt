@@ -12,7 +12,8 @@ use Rattle.lines.proofs.Parsing.{got-value, got-fault, got-place, behind, chain
 use Rattle.model.specs.Model.{Opening}
 use Rattle.job_text.specs.Grammar as grammar
 use Rattle.job_text.specs.Grammar.{opening}
-use Rattle.job_text.specs.Views.{openingOf, openingAnswer}
+use Rattle.jobs.specs.Views.{openingOf}
+use Rattle.job_text.specs.Views.{openingAnswer}
 use Rattle.job_text.proofs.openings.read_openings.Statement.{statement}
 use Rattle.job_text.proofs.openings.read_openings.Tie as tie
 

@@ -10,7 +10,7 @@ use Rattle.job_text.specs.Grammar.{part}
 use Rattle.model.specs.Model.{Part}
 use Rattle.lines.specs.Cursor.{ended}
 use Rattle.lines.specs.Cursor.{Stands}
-use Rattle.job_text.specs.Views.{partOf}
+use Rattle.jobs.specs.Views.{partOf}
 use Rattle.lines.proofs.Arrays.{map-take-more}
 use Rattle.lines.proofs.Parsing.{end-value, end-fault, end-place, behind, chain-start, chain-more, chain-fault, chain-end}
 use Rattle.job_text.proofs.parts.read_parts.Statement.{statement}

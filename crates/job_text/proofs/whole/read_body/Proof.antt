@@ -7,9 +7,10 @@ use Rattle.lines.specs.Parser.{times}
 use Rattle.lines.specs.Cursor.{rowAnswer}
 use Rattle.lines.proofs.Parsing.{bind-good, bind-fault, got-value, got-fault, got-place, got-most, end-value, end-fault, end-place, map-read}
 use Rattle.model.specs.Model.{Part}
-use Rattle.job_text.specs.Grammar.{Given, part, body}
-use Rattle.job_text.specs.Views.{openingOf, idlesOf}
-use Rattle.job_text.proofs.Refusals.{refuse}
+use Rattle.job_text.specs.Grammar.{JobText, part, body}
+use Rattle.jobs.specs.Views.{openingOf}
+use Rattle.job_text.specs.Views.{idlesOf, idleLines}
+use Rattle.job_text.proofs.Views.{refuse}
 use borrow.Author.Needs.{needs}
 use Rattle.job_text.proofs.whole.read_body.Statement.{statement}
 use Rattle.job_text.proofs.whole.read_body.Tie as tie
@@ -57,9 +58,12 @@ returns c =
     let os = row .before .before .before .before .before .read-openings in
     let start = row .before .before .before .before .before .before .before in
     let a = start .args in
-    let make : List Part → Given = λ ps. record {
+    let make : List Part → JobText = λ ps. record {
+      horizon = a .horizon;
+      idles = idleLines (idlesOf (a .steps));
       walk = a .walk;
-      job = record { horizon = a .horizon; idles = idlesOf (a .steps); openings = map openingOf (take (a .n) (os .result .openings)); parts = ps };
+      openings = map openingOf (take (a .n) (os .result .openings));
+      parts = ps;
     } in
     let r = map-read make (times (c .before .before .before .before .before .m .given .0 .0) (part (a .n))) _ _ (c .before .before .before .read-parts .ensures) in
     let m = ap rowAnswer (c .before .before .before .before .before .m .given .1) in

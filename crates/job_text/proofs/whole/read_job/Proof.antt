@@ -2,18 +2,18 @@
 use mathlib.Core.Path.{ap, _∙_}
 use Rattle.lines.specs.Cursor.{judged}
 use Rattle.lines.proofs.Parsing.{close-read, text-long, text-fits}
-use Rattle.job_text.specs.Grammar.{Given, maxBytes, jobLines}
-use Rattle.job_text.specs.Views.{jobOf}
-use Rattle.lines.specs.declared.rows.Verdict.{Verdict}
+use Rattle.job_text.specs.Grammar.{JobText, maxBytes, jobLines}
+use Rattle.job_text.specs.Views.{textOf}
+use Rattle.lines.specs.declared.rows.WholeText.{WholeText}
 use borrow.Author.Needs.{needs}
 use Rattle.job_text.proofs.whole.read_job.Statement.{statement}
 use Rattle.job_text.proofs.whole.read_job.Tie as tie
 
-empty-requires : tie.Need-empty-requires
-empty-requires c κs = search needs
+no-text-requires : tie.Need-no-text-requires
+no-text-requires c κs = search needs
 
 returns : tie.Need-returns
-returns c = record { is = text-long maxBytes jobLines _ (c .before .if1 .taken); sized = c .empty .ensures .1 }
+returns c = record { is = text-long maxBytes jobLines _ (c .before .if1 .taken); sized = c .no-text .ensures }
 
 read-job-lines-requires : tie.Need-read-job-lines-requires
 read-job-lines-requires c κs = search needs
@@ -24,13 +24,13 @@ close-text-requires c κs = search needs
 returns-2 : tie.Need-returns-2
 returns-2 c =
     let r = c .before .before .read-job-lines in
-    let g : Given = record { walk = r .result .walk; job = jobOf (r .result .job) } in
+    let t : JobText = textOf (r .result .text) in
     record {
-      is = ap (λ (v : Verdict). judged v g) (c .close-text .ensures) ∙ close-read jobLines _ (r .result .end) g (r .ensures .reads) ∙ text-fits maxBytes jobLines _ (c .before .before .before .if1 .left);
+      is = ap (λ (v : WholeText). judged v t) (c .close-text .ensures) ∙ close-read jobLines _ (r .result .end) t (r .ensures .reads) ∙ text-fits maxBytes jobLines _ (c .before .before .before .if1 .left);
       sized = r .ensures .sized;
     }
 
 pub read-job-spec : {M : Type 1} → statement M
 read-job-spec =
     tie.close
-    (tie.spec empty-requires returns read-job-lines-requires close-text-requires returns-2)
+    (tie.spec no-text-requires returns read-job-lines-requires close-text-requires returns-2)

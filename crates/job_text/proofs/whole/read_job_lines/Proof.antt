@@ -4,7 +4,7 @@ use Rattle.lines.specs.Text.{bytes}
 use Rattle.lines.specs.Cursor.{rowAnswer}
 use Rattle.lines.proofs.Parsing.{bind-good, bind-fault, got-value, got-fault, got-place, got-most, end-value, end-fault, end-place}
 use Rattle.job_text.specs.Grammar.{jobLines}
-use Rattle.job_text.proofs.Refusals.{refuse}
+use Rattle.job_text.proofs.Views.{refuse}
 use borrow.Author.Needs.{needs}
 use Rattle.job_text.proofs.whole.read_job_lines.Statement.{statement}
 use Rattle.job_text.proofs.whole.read_job_lines.Tie as tie

@@ -4,7 +4,7 @@ use mathlib.Core.Path.{_≡_, sym}
 use native.Mathlib.Omega.{arith}
 use borrow.Author.Count.{below-more}
 use borrow.Author.Needs.{needs}
-use Rattle.job_text.proofs.Jobs.{openingAt}
+use Rattle.jobs.proofs.Jobs.{openingAt}
 use Rattle.plan_text.proofs.Jobs.{opening-yes, opening-no}
 use Rattle.plan_text.proofs.stops.is_opening.Statement.{statement}
 use Rattle.plan_text.proofs.stops.is_opening.Tie as tie

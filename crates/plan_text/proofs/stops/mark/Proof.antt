@@ -12,11 +12,11 @@ use Rattle.lines.specs.Text.{joined}
 use Rattle.lines.proofs.Arrays.{take-more}
 use Rattle.lines.proofs.Writing.{joined-more}
 use Rattle.model.specs.Model as model
-use Rattle.job_text.specs.Views.{jobOf}
+use Rattle.jobs.specs.Views.{jobOf}
 use Rattle.plan_text.specs.Grammar.{tabulate}
 use Rattle.plan_text.specs.Rendering.{stepAt}
 use Rattle.plan_text.specs.Marks.{withStep}
-use Rattle.job_text.proofs.Jobs.{opening-count}
+use Rattle.jobs.proofs.Jobs.{opening-count}
 use Rattle.plan_text.proofs.Jobs.{step-at}
 use Rattle.plan_text.proofs.stops.mark.Statement.{statement}
 use Rattle.plan_text.proofs.stops.mark.Tie as tie

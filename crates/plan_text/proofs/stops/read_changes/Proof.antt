@@ -9,13 +9,12 @@ use Rattle.lines.specs.Parser.{good, chain}
 use Rattle.lines.specs.Cursor.{Stands, rowAnswer, ended}
 use Rattle.lines.specs.declared.rows.Cursor.{Cursor}
 use Rattle.lines.proofs.Parsing.{got-value, got-fault, got-place, behind, chain-start, chain-more, chain-fault, chain-end}
-use Rattle.job_text.specs.declared.Job.{Job}
-use Rattle.job_text.specs.Views.{jobOf}
+use Rattle.jobs.specs.declared.Job.{Job}
+use Rattle.jobs.specs.Views.{jobOf, changesFor}
 use Rattle.plan_text.specs.Grammar.{part, parts}
-use Rattle.plan_text.specs.Views.{changesFor}
 use Rattle.plan_text.specs.Marks.{withParts}
-use Rattle.plan_text.specs.declared.Changes.{Changes}
-use Rattle.job_text.proofs.Jobs.{part-count}
+use Rattle.jobs.specs.declared.Changes.{Changes}
+use Rattle.jobs.proofs.Jobs.{part-count}
 use Rattle.plan_text.proofs.Valid.{part-gives}
 use Rattle.plan_text.proofs.Marks.{parts-none, changes-length, changes-more}
 use Rattle.plan_text.proofs.stops.read_changes.Statement.{statement}

@@ -7,7 +7,7 @@ use borrow.Author.Tests.{le-ltb, lt-ltb}
 use Rattle.lines.specs.Text.{bytes}
 use Rattle.lines.specs.Cursor.{rowAnswer}
 use Rattle.lines.proofs.Parsing.{checked-good, checked-not, checked-fault, got-value, got-fault, got-place}
-use Rattle.job_text.specs.Views.{jobOf}
+use Rattle.jobs.specs.Views.{jobOf}
 use Rattle.plan_text.specs.Grammar.{isOpening}
 use Rattle.plan_text.proofs.stops.read_step.Statement.{statement}
 use Rattle.plan_text.proofs.stops.read_step.Tie as tie

@@ -10,7 +10,7 @@ use Rattle.lines.specs.Cursor.{rowAnswer, ended}
 use Rattle.lines.proofs.Parsing.{bind-good, bind-fault, got-value, got-fault, got-place, map-read}
 use Rattle.plan_text.specs.Grammar.{Visit, parts, visit}
 use Rattle.plan_text.specs.Marks.{withVisit}
-use Rattle.job_text.proofs.Jobs.{part-count}
+use Rattle.jobs.proofs.Jobs.{part-count}
 use Rattle.plan_text.proofs.Marks.{not-at}
 use Rattle.plan_text.proofs.stops.read_visit.Statement.{statement}
 use Rattle.plan_text.proofs.stops.read_visit.Tie as tie

@@ -9,13 +9,12 @@ use Rattle.lines.specs.Parser.{chain}
 use Rattle.lines.specs.Cursor.{Stands, ended}
 use Rattle.lines.specs.declared.rows.Cursor.{Cursor}
 use Rattle.lines.proofs.Parsing.{end-value, end-fault, end-place, behind, chain-start, chain-more, chain-fault, chain-end}
-use Rattle.job_text.specs.declared.Job.{Job}
-use Rattle.job_text.specs.Views.{jobOf}
+use Rattle.jobs.specs.declared.Job.{Job}
+use Rattle.jobs.specs.Views.{jobOf, planFor}
 use Rattle.plan_text.specs.Grammar.{Visit, visit, visits, planOf}
-use Rattle.plan_text.specs.Views.{planFor}
 use Rattle.plan_text.specs.Marks.{withVisit}
-use Rattle.plan_text.specs.declared.Plan.{Plan}
-use Rattle.job_text.proofs.Jobs.{opening-count, part-count}
+use Rattle.jobs.specs.declared.Plan.{Plan}
+use Rattle.jobs.proofs.Jobs.{opening-count, part-count}
 use Rattle.plan_text.proofs.Marks.{visit-none, visit-more}
 use Rattle.plan_text.proofs.stops.read_visits.Statement.{statement}
 use Rattle.plan_text.proofs.stops.read_visits.Tie as tie

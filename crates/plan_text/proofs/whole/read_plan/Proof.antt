@@ -2,9 +2,9 @@
 use mathlib.Core.Path.{ap, _∙_}
 use borrow.Author.Needs.{needs}
 use Rattle.lines.specs.Cursor.{judged}
-use Rattle.lines.specs.declared.rows.Verdict.{Verdict}
+use Rattle.lines.specs.declared.rows.WholeText.{WholeText}
 use Rattle.lines.proofs.Parsing.{close-read, text-long, text-fits}
-use Rattle.job_text.specs.Views.{jobOf}
+use Rattle.jobs.specs.Views.{jobOf}
 use Rattle.plan_text.specs.Grammar.{Stated, maxBytes, planLines}
 use Rattle.plan_text.specs.Views.{statedFor}
 use Rattle.plan_text.proofs.whole.read_plan.Statement.{statement}
@@ -28,7 +28,7 @@ returns-2 c =
     let r = c .before .before .read-plan-lines in
     let lines = planLines (jobOf (a .job)) in
     let stated : Stated = statedFor (a .job) (r .result .cost) (r .result .plan) in
-    ap (λ (v : Verdict). judged v stated) (c .close-text .ensures) ∙ close-read lines _ (r .result .end) stated (r .ensures) ∙ text-fits maxBytes lines _ (c .before .before .before .if1 .left)
+    ap (λ (v : WholeText). judged v stated) (c .close-text .ensures) ∙ close-read lines _ (r .result .end) stated (r .ensures) ∙ text-fits maxBytes lines _ (c .before .before .before .if1 .left)
 
 pub read-plan-spec : {M : Type 1} → statement M
 read-plan-spec =

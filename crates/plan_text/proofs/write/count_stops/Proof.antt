@@ -6,11 +6,10 @@ use native.Mathlib.Omega.{arith}
 use borrow.Author.Needs.{needs}
 use lib.ListN.{length, getD}
 use Rattle.lines.specs.Text.{joined}
-use Rattle.job_text.specs.Views.{jobOf}
+use Rattle.jobs.specs.Views.{jobOf, planFor}
 use Rattle.plan_text.specs.Rendering.{chosen, visitAt}
-use Rattle.plan_text.specs.Views.{planFor}
-use Rattle.plan_text.specs.declared.Plan.{Plan}
-use Rattle.job_text.proofs.Jobs.{opening-count}
+use Rattle.jobs.specs.declared.Plan.{Plan}
+use Rattle.jobs.proofs.Jobs.{opening-count}
 use Rattle.plan_text.proofs.Chosen.{chosen-count, chosen-few, chosen-length, stops-are}
 use Rattle.plan_text.proofs.write.count_stops.Statement.{statement}
 use Rattle.plan_text.proofs.write.count_stops.Tie as tie

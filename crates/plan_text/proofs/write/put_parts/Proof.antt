@@ -8,8 +8,8 @@ use lib.ListN.{length}
 use Rattle.lines.specs.Text.{lineOf, texts, joined}
 use Rattle.lines.specs.Wrote.{Wrote}
 use Rattle.lines.proofs.Writing.{none, then, kept, same, joined-more, joined-room}
-use Rattle.plan_text.specs.Views.{changedIn}
-use Rattle.plan_text.specs.declared.Plan.{Plan}
+use Rattle.jobs.specs.Views.{changedIn}
+use Rattle.jobs.specs.declared.Plan.{Plan}
 use Rattle.plan_text.proofs.Chosen.{chosen-texts}
 use Rattle.plan_text.proofs.write.put_parts.Statement.{statement}
 use Rattle.plan_text.proofs.write.put_parts.Tie as tie

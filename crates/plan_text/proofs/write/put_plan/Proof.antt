@@ -8,11 +8,10 @@ use borrow.Author.Needs.{needs}
 use lib.ListN.{length, getD, length-append}
 use Rattle.lines.specs.Text.{bytes, lineOf, texts}
 use Rattle.lines.proofs.Writing.{then, kept, same}
-use Rattle.job_text.specs.Views.{jobOf}
+use Rattle.jobs.specs.Views.{jobOf, planFor}
 use Rattle.plan_text.specs.Grammar.{Visit}
 use Rattle.plan_text.specs.Rendering.{visitAt, visitText, visitsOf, planText, planLinesOf}
-use Rattle.plan_text.specs.Views.{planFor}
-use Rattle.job_text.proofs.Jobs.{opening-count}
+use Rattle.jobs.proofs.Jobs.{opening-count}
 use Rattle.plan_text.proofs.Chosen.{chosen-few}
 use Rattle.plan_text.proofs.write.put_plan.Statement.{statement}
 use Rattle.plan_text.proofs.write.put_plan.Tie as tie

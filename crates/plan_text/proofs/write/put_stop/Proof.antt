@@ -7,9 +7,8 @@ use native.Mathlib.Omega.{arith}
 use borrow.Author.Needs.{needs}
 use lib.ListN.{length}
 use Rattle.lines.proofs.Writing.{none, same}
-use Rattle.job_text.specs.Views.{jobOf}
+use Rattle.jobs.specs.Views.{jobOf, planFor}
 use Rattle.plan_text.specs.Rendering.{visitAt, visitText}
-use Rattle.plan_text.specs.Views.{planFor}
 use Rattle.plan_text.proofs.write.put_stop.Statement.{statement}
 use Rattle.plan_text.proofs.write.put_stop.Tie as tie
 

@@ -8,12 +8,11 @@ use lib.ListN.{length, getD}
 use Rattle.lines.specs.Text.{texts, joined}
 use Rattle.lines.specs.Wrote.{Wrote}
 use Rattle.lines.proofs.Writing.{none, then, kept, same, joined-more, joined-room}
-use Rattle.job_text.specs.declared.Job.{Job}
-use Rattle.job_text.specs.Views.{jobOf}
+use Rattle.jobs.specs.declared.Job.{Job}
+use Rattle.jobs.specs.Views.{jobOf, planFor}
 use Rattle.plan_text.specs.Rendering.{visitAt, visitText, visitsOf}
-use Rattle.plan_text.specs.Views.{planFor}
-use Rattle.plan_text.specs.declared.Plan.{Plan}
-use Rattle.job_text.proofs.Jobs.{opening-count}
+use Rattle.jobs.specs.declared.Plan.{Plan}
+use Rattle.jobs.proofs.Jobs.{opening-count}
 use Rattle.plan_text.proofs.Chosen.{chosen-texts, stops-are}
 use Rattle.plan_text.proofs.write.put_stops.Statement.{statement}
 use Rattle.plan_text.proofs.write.put_stops.Tie as tie

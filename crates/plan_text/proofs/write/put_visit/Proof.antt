@@ -7,10 +7,10 @@ use borrow.Author.Needs.{needs}
 use lib.ListN.{length, length-append, length-map}
 use Rattle.lines.specs.Text.{bytes, lineOf, texts}
 use Rattle.lines.proofs.Writing.{then, kept, same}
-use Rattle.job_text.specs.Views.{jobOf}
-use Rattle.job_text.proofs.Jobs.{openingAt}
+use Rattle.jobs.specs.Views.{jobOf, changedIn, planFor}
+use Rattle.jobs.proofs.Jobs.{openingAt}
 use Rattle.plan_text.specs.Rendering.{visitAt, visitText}
-use Rattle.plan_text.specs.Views.{changedIn, numbersAt, planFor}
+use Rattle.plan_text.specs.Views.{numbersAt}
 use Rattle.plan_text.proofs.Jobs.{step-at}
 use Rattle.plan_text.proofs.Chosen.{chosen-few, numbers-are}
 use Rattle.plan_text.proofs.write.put_visit.Statement.{statement}

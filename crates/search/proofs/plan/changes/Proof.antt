@@ -1,6 +1,6 @@
 -- `changes` has a row for each part. The invariant: the first q rows are right.
 use Prim.Native.Nat.{_-_, _≤_}
-use mathlib.Core.Path.{_≡_, refl, sym, subst, _∙_}
+use mathlib.Core.Path.{_≡_, refl, subst, _∙_}
 use native.Mathlib.Omega.{arith}
 use borrow.Author.Needs.{needs}
 use lib.ListN.{length}
@@ -8,8 +8,8 @@ use lib.IntN.{ℤ}
 use mir.Syntax.{w32}
 use mir.Val.{toZ, ofZ}
 use mir.Facts.{toZ-ofZ}
-use Rattle.search.specs.Arrays.{Arrays}
 use Rattle.search.specs.Plan.{Chooses}
+use Rattle.search.proofs.Filling.{ready-back}
 use Rattle.search.proofs.Stops.{chooses-none, chooses-more}
 use Rattle.search.proofs.plan.changes.Statement.{statement}
 use Rattle.search.proofs.plan.changes.Tie as tie
@@ -26,15 +26,14 @@ loop-holds c = let a = c .before .before .before .before .before .before .args i
 part-changes-requires : tie.Need-part-changes-requires Inv-loop μ-loop
 part-changes-requires c κs =
     let b = c .before .before .before .before .before .before .before .before .before in
-    let a = b .args in
     let l = c .before .before .loop in
-    (subst (λ (x : ℤ). Arrays x (a .positions .now) (a .fees .now) (a .lives .now) (a .lefts .now) (a .prices .now)) (sym (toZ-ofZ (b .fits .end))) (b .pre .0), omega (arith, b .pre .1, l .inv .1), omega (arith, c .before .loop-test .taken, b .pre .0 .lanes), b .pre .2)
+    (ready-back (b .fits .end) (b .pre .0 .arrays) (omega (arith, b .pre .0 .room, l .inv .1)), omega (arith, c .before .loop-test .taken, b .pre .0 .arrays .lanes), b .pre .1)
 
 mul-rows : tie.Need-mul-rows Inv-loop μ-loop
 mul-rows c = search needs
 
 array-set-from-rows : tie.Need-array-set-from-rows Inv-loop μ-loop
-array-set-from-rows c = let b = c .before .before .before .before .before .before .before .before .before .before .before .before in omega (arith, c .before .before .before .before .loop-test .taken, b .pre .0 .lanes)
+array-set-from-rows c = let b = c .before .before .before .before .before .before .before .before .before .before .before .before in omega (arith, c .before .before .before .before .loop-test .taken, b .pre .0 .arrays .lanes)
 
 add-q : tie.Need-add-q Inv-loop μ-loop
 add-q c = search needs
@@ -49,7 +48,7 @@ loop-again c =
     let l = c .before .before .before .before .before .loop in (
       omega arith,
       c .before .before .part-changes .kept .1 .1 .1 .1 .1 .1 .1 .1 .0 ∙ l .inv .1,
-      chooses-more (toZ w32 (ofZ w32 (a .end))) (a .positions .now) (a .lives .now) (a .lefts .now) (a .prices .now) (a .stops .now) (l .rows) (l .q) (c .before .before .part-changes .result) (omega (arith, c .before .before .before .before .loop-test .taken, b .pre .0 .lanes)) (c .before .before .part-changes .ensures) (l .inv .2),
+      chooses-more (toZ w32 (ofZ w32 (a .end))) (a .positions .now) (a .lives .now) (a .lefts .now) (a .prices .now) (a .stops .now) (l .rows) (l .q) (c .before .before .part-changes .result) (omega (arith, c .before .before .before .before .loop-test .taken, b .pre .0 .arrays .lanes)) (c .before .before .part-changes .ensures) (l .inv .2),
     )
 
 same-length : tie.Need-same-length Inv-loop μ-loop

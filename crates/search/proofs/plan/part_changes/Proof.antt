@@ -44,18 +44,18 @@ choice-requires : tie.Need-choice-requires
 choice-requires c κs =
     let v = c .before .before .before .before in
     let a = start v .args in
-    let (r, room, lane, flags) = start v .pre in
+    let (p, lane, flags) = start v .pre in
+    let r = p .arrays in
     let n = length (a .positions .now) in
-    let ps = a .prices .now in (
-      room,
-      small-back (a .end) (omega (arith, r .late)),
-      record {
-        few = r .few;
+    let ps = a .prices .now in
+    record {
+      part = record {
+        room = record { size = p .room; few = r .few; small = marks-small r (lived-back (r .lives) (v .lane-life .ensures)) };
         prices = ap length (own-is ps (a .q) n lane (r .few) (r .prices)) ∙ own-length ps (a .q) n lane (r .few) (r .prices);
         flags = flags;
-        small = marks-small r (lived-back (r .brief) (r .begun) (v .lane-life .ensures));
-      },
-    )
+      };
+      late = small-back (a .end) (omega (arith, r .late));
+    }
 
 same-length : tie.Need-same-length
 same-length c = search needs
@@ -65,12 +65,12 @@ returns c =
     let v = c .before .before .before .before .before .before .before in
     let s = start v in
     let a = s .args in
-    let r = s .pre .0 in
+    let r = s .pre .0 .arrays in
     let n = length (a .positions .now) in
     let ps = a .prices .now in
-    let x = lived-back (r .brief) (r .begun) (v .lane-life .ensures) in
+    let x = lived-back (r .lives) (v .lane-life .ensures) in
     let end = toZ-ofZ (s .fits .end) in
-    let own = own-is ps (a .q) n (s .pre .2) (r .few) (r .prices) in
+    let own = own-is ps (a .q) n (s .pre .1) (r .few) (r .prices) in
     c .before .before .choice .ensures ∙ (λ i. choiceOf (x .lives i) (end i) (x .begins i) (offers (a .positions .now) (own i) (a .stops .now)) ++ replicate (64 - n) false)
 
 pub part-changes-spec : {M : Type 1} → statement M

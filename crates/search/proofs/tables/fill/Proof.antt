@@ -1,13 +1,14 @@
 -- `fill` makes the tables of the sheet: as many lanes as the parts fill, then the fees, the number of openings, the cuts and the number of fours, which keep them.
 use Prim.Native.Nat.{_*_}
-use mathlib.Core.Path.{sym, subst}
+use mathlib.Core.Path.{ap, subst, _∙_}
 use native.Mathlib.Omega.{arith}
 use borrow.Author.Needs.{needs}
+use lib.ListN.{length, length-set}
 use lib.IntN.{ℤ}
 use mir.Facts.{toZ-ofZ}
-use Rattle.search.specs.Arrays.{Arrays}
+use Rattle.lane_rows.specs.Layout.{countPlace}
 use Rattle.search.specs.Fill.{Lanes}
-use Rattle.search.proofs.Filling.{tables-filled}
+use Rattle.search.proofs.Filling.{tables-filled, ready-back}
 use Rattle.search.proofs.tables.fill.Statement.{statement}
 use Rattle.search.proofs.tables.fill.Tie as tie
 
@@ -21,7 +22,7 @@ fill-lanes-requires : tie.Need-fill-lanes-requires
 fill-lanes-requires c κs =
     let b = c .before .before .before .before .before .before .before .before .before in
     let a = b .args in
-    (subst (λ (x : ℤ). Arrays x (a .positions .now) (a .fees .now) (a .lives .now) (a .lefts .now) (a .prices .now)) (sym (toZ-ofZ (b .fits .end))) (b .pre .0), b .pre .1, b .pre .2, omega (arith, c .before .before .fours-of .ensures, b .pre .0 .lanes))
+    (ready-back (b .fits .end) (b .pre .0 .arrays) (b .pre .0 .room), b .pre .1, omega (arith, c .before .before .fours-of .ensures, b .pre .0 .arrays .lanes))
 
 put-fees-requires : tie.Need-put-fees-requires
 put-fees-requires c κs = search needs
@@ -39,10 +40,21 @@ put-cuts-requires : tie.Need-put-cuts-requires
 put-cuts-requires c κs = search needs
 
 put-cuts-requires-2 : tie.Need-put-cuts-requires-2
-put-cuts-requires-2 c κs = search needs
+put-cuts-requires-2 c κs =
+    let l = c .before .before .before .before .before .before .before .before .before .before .before .before .before .before .before .before .before in
+    let s = l .before .before .before .before .before .before .before .before .before .before in
+    let u = c .before .before .before .before .before .before .before .before .before .before .before .put-fees in
+    let r = s .pre .0 .arrays in
+    record {
+      narrow = omega (arith, l .before .before .before .fours-of .ensures, r .lanes);
+      size = c .before .before .before .put-cuts .ensures .size ∙ ap length (c .before .before .before .before .before .before .before .put-number .ensures) ∙ length-set (u .last .1 .0) countPlace (length (s .args .fees .now)) ∙ u .ensures .size ∙ l .fill-lanes .ensures .size;
+      few = omega (arith, r .few);
+      above = omega arith;
+      room = omega (arith, r .few);
+    }
 
 cast-put-number-2 : tie.Need-cast-put-number-2
-cast-put-number-2 c = let f = c .before .before .before .before .before .before .before .before .before .before .before .before .before .before .before .before .before .before .before .before .before .before .before in omega (arith, f .fours-of .ensures, f .before .before .before .before .before .before .before .pre .0 .lanes)
+cast-put-number-2 c = let f = c .before .before .before .before .before .before .before .before .before .before .before .before .before .before .before .before .before .before .before .before .before .before .before in omega (arith, f .fours-of .ensures, f .before .before .before .before .before .before .before .pre .0 .arrays .lanes)
 
 put-number-requires-2 : tie.Need-put-number-requires-2
 put-number-requires-2 c κs = search needs
@@ -70,7 +82,7 @@ returns c =
     let y = c .before .before .before .before .before .before .put-cuts2 in
     let z = c .before .before .put-number2 in
     tables-filled (a .end) (a .positions .now) (a .fees .now) (a .lives .now) (a .lefts .now) (a .prices .now) t (u .last .1 .0) (v .last .1 .1 .0) (x .last .1 .1 .1 .1 .0) (y .last .1 .1 .1 .1 .0) (z .last .1 .1 .0)
-    (f .result) (f .ensures) (b .pre .0)
+    (f .result) (f .ensures) (b .pre .0 .arrays)
     (subst (λ (x : ℤ). Lanes x (a .positions .now) (a .lives .now) (a .lefts .now) (a .prices .now) t (f .result * 4)) (toZ-ofZ (b .fits .end)) (l .fill-lanes .ensures))
     (u .ensures) (v .ensures) (x .ensures) (y .ensures) (z .ensures)
 

@@ -6,7 +6,7 @@ use lib.ListN.{length, take, replicate}
 use mir.Syntax.{w32}
 use mir.Val.{toZ, ofZ}
 use mir.Facts.{toZ-ofZ}
-use Rattle.least.proofs.Diff.{small-back, marks-back}
+use Rattle.least.proofs.Diff.{small-back, marks-back, room-back}
 use Rattle.search.proofs.Filling.{all-true, all-length, lane-done, filled-as}
 use Rattle.search.proofs.tables.fill_lane.Statement.{statement}
 use Rattle.search.proofs.tables.fill_lane.Tie as tie
@@ -15,15 +15,16 @@ array-share-prefix-all : tie.Need-array-share-prefix-all
 array-share-prefix-all c = search needs
 
 slice-aggregate-fill : tie.Need-slice-aggregate-fill
-slice-aggregate-fill c = let b = c .before .before .before .before in sym (all-length (length (b .args .positions .now)) 64 (b .pre .0 .1))
+slice-aggregate-fill c = let b = c .before .before .before .before in sym (all-length (length (b .args .positions .now)) 64 (b .pre .room .few))
 
 fill-requires : tie.Need-fill-requires
 fill-requires c κs =
-    let b = c .before .before .before .before .before in (
-      b .pre .0 .0,
-      small-back (b .args .end) (b .pre .0 .3),
-      record { few = b .pre .0 .1; prices = b .pre .0 .2; flags = all-length (length (b .args .positions .now)) 64 (b .pre .0 .1); small = marks-back (b .args .first) (b .args .positions .now) (b .fits .first) (b .pre .0 .4) },
-    )
+    let b = c .before .before .before .before .before in
+    let n = length (b .args .positions .now) in
+    record {
+      part = record { room = room-back (b .args .first) _ _ _ (b .fits .first) (b .pre .room .size) (b .pre .room); prices = b .pre .priced; flags = all-length n 64 (b .pre .room .few) };
+      late = small-back (b .args .end) (b .pre .late);
+    }
 
 add-put-suffixes : tie.Need-add-put-suffixes
 add-put-suffixes c = search needs
@@ -37,7 +38,7 @@ put-suffixes-requires c κs = search needs
 put-reach-requires : tie.Need-put-reach-requires
 put-reach-requires c κs =
     let b = c .before .before .before .before .before .before .before .before .before .before .before .before .before .before in
-    (b .pre .0 .1, marks-back (b .args .first) (b .args .positions .now) (b .fits .first) (b .pre .0 .4), b .pre .1 .0, c .before .before .before .put-suffixes .ensures .size ∙ b .pre .1 .1)
+    (b .pre .room .few, marks-back (b .args .first) (b .args .positions .now) (b .fits .first) (b .pre .room .small), record { lane = b .pre .lane .lane; size = c .before .before .before .put-suffixes .ensures .size ∙ b .pre .lane .size })
 
 put-prices-requires : tie.Need-put-prices-requires
 put-prices-requires c κs = search needs
@@ -58,7 +59,7 @@ returns c =
     let n = length (a .positions .now) in
     filled-as E L F (a .positions .now) (a .prices .now) (a .end) (a .life) (a .first) (a .prices .now) (a .t .now) (c .before .before .put-prices .last .1 .1 .0) (a .q) (toZ-ofZ (b .fits .end)) (toZ-ofZ (b .fits .life)) (toZ-ofZ (b .fits .first)) refl
     (lane-done L E F (a .positions .now) (a .prices .now) (take n (replicate 64 true)) (c .before .before .before .before .before .before .before .before .before .before .before .before .before .before .before .fill .last .1 .1 .1 .1 .1 .1 .0) (a .t .now) (c .before .before .before .before .before .before .before .before .before .before .put-suffixes .last .1 .1 .1 .0) (c .before .before .before .before .before .before .put-reach .last .1 .1 .1 .1 .0) (c .before .before .put-prices .last .1 .1 .0) (a .q)
-    (b .pre .0 .1) (all-true n 64) (b .pre .0 .2) (b .pre .1 .2) (c .before .before .before .before .before .before .before .before .before .before .before .before .before .before .before .fill .ensures) (c .before .before .before .before .before .before .before .before .before .before .put-suffixes .ensures) (c .before .before .before .before .before .before .put-reach .ensures) (c .before .before .put-prices .ensures))
+    (b .pre .room .few) (all-true n 64) (b .pre .priced) (b .pre .cheap) (c .before .before .before .before .before .before .before .before .before .before .before .before .before .before .before .fill .ensures) (c .before .before .before .before .before .before .before .before .before .before .put-suffixes .ensures) (c .before .before .before .before .before .before .put-reach .ensures) (c .before .before .put-prices .ensures))
 
 pub fill-lane-spec : {M : Type 1} → statement M
 fill-lane-spec =

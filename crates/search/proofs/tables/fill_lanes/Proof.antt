@@ -1,6 +1,6 @@
 -- `fill_lanes` makes all lanes. The invariant: the first q are right.
 use Prim.Native.Nat.{_-_, _≤_}
-use mathlib.Core.Path.{_≡_, refl, sym, subst, _∙_}
+use mathlib.Core.Path.{_≡_, refl, subst, _∙_}
 use native.Mathlib.Omega.{arith}
 use borrow.Author.Needs.{needs}
 use lib.ListN.{length}
@@ -8,9 +8,8 @@ use lib.IntN.{ℤ}
 use mir.Syntax.{w32}
 use mir.Val.{toZ, ofZ}
 use mir.Facts.{toZ-ofZ}
-use Rattle.search.specs.Arrays.{Arrays}
 use Rattle.search.specs.Fill.{Lanes}
-use Rattle.search.proofs.Filling.{lanes-none, lanes-more}
+use Rattle.search.proofs.Filling.{lanes-none, lanes-more, ready-back}
 use Rattle.search.proofs.tables.fill_lanes.Statement.{statement}
 use Rattle.search.proofs.tables.fill_lanes.Tie as tie
 
@@ -21,14 +20,14 @@ abbrev μ-loop : tie.MeasureT-loop
 μ-loop lanes end positions fees lives lefts prices tab₀ t₀ q₀ tab t q = lanes - q
 
 loop-holds : tie.Need-loop-holds Inv-loop μ-loop
-loop-holds c = let b = c .before .before .before .before .before .before in let a = b .args in (omega arith, refl, lanes-none (toZ w32 (ofZ w32 (a .end))) (a .positions .now) (a .lives .now) (a .lefts .now) (a .prices .now) (a .t .now) (b .pre .2))
+loop-holds c = let b = c .before .before .before .before .before .before in let a = b .args in (omega arith, refl, lanes-none (toZ w32 (ofZ w32 (a .end))) (a .positions .now) (a .lives .now) (a .lefts .now) (a .prices .now) (a .t .now) (b .pre .1))
 
 fill-part-requires : tie.Need-fill-part-requires Inv-loop μ-loop
 fill-part-requires c κs =
     let b = c .before .before .before .before .before .before .before .before .before .before in
     let a = b .args in
     let l = c .before .before .before .loop in
-    (subst (λ (x : ℤ). Arrays x (a .positions .now) (a .fees .now) (a .lives .now) (a .lefts .now) (a .prices .now)) (sym (toZ-ofZ (b .fits .end))) (b .pre .0), omega (arith, b .pre .1, l .inv .1), l .inv .2 .size, omega (arith, b .pre .3, c .before .before .loop-test .taken))
+    (ready-back (b .fits .end) (b .pre .0 .arrays) (omega (arith, b .pre .0 .room, l .inv .1)), record { lane = omega (arith, b .pre .2, c .before .before .loop-test .taken); size = l .inv .2 .size })
 
 add-q : tie.Need-add-q Inv-loop μ-loop
 add-q c = search needs
@@ -43,7 +42,7 @@ loop-again c =
     let l = c .before .before .before .before .before .before .before .before .loop in (
       omega arith,
       c .before .before .before .before .fill-part .kept .1 .1 .1 .1 .1 .1 .1 .0 ∙ l .inv .1,
-      lanes-more (toZ w32 (ofZ w32 (a .end))) (a .positions .now) (a .lives .now) (a .lefts .now) (a .prices .now) (l .t) (c .before .before .before .before .fill-part .last .1 .1 .1 .1 .1 .1 .1 .1 .0) (l .q) (b .pre .0 .few) (omega (arith, b .pre .3, c .before .before .before .before .before .before .before .loop-test .taken)) (c .before .before .before .before .fill-part .ensures) (l .inv .2),
+      lanes-more (toZ w32 (ofZ w32 (a .end))) (a .positions .now) (a .lives .now) (a .lefts .now) (a .prices .now) (l .t) (c .before .before .before .before .fill-part .last .1 .1 .1 .1 .1 .1 .1 .1 .0) (l .q) (b .pre .0 .arrays .few) (omega (arith, b .pre .2, c .before .before .before .before .before .before .before .loop-test .taken)) (c .before .before .before .before .fill-part .ensures) (l .inv .2),
     )
 
 same-length : tie.Need-same-length Inv-loop μ-loop

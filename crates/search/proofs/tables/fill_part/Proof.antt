@@ -9,7 +9,7 @@ use lib.IntN.{pos}
 use mir.Facts.{toZ-ofZ}
 use Rattle.model.specs.Model.{lastChange}
 use Rattle.least.proofs.Diff.{small-back}
-use Rattle.search.specs.Arrays.{priceStride, partAt}
+use Rattle.search.specs.Arrays.{priceStride, lanePart}
 use Rattle.search.proofs.Filling.{own-each, own-is, own-length, marks-small, lived-back, filled-as}
 use Rattle.search.proofs.tables.fill_part.Statement.{statement}
 use Rattle.lane_rows.specs.Layout.{top}
@@ -46,13 +46,18 @@ fill-lane-requires : tie.Need-fill-lane-requires
 fill-lane-requires c κs =
     let v = c .before .before .before .before .before in
     let a = start v .args in
-    let (r, room, size, lane) = start v .pre in
+    let (p, lane) = start v .pre in
+    let r = p .arrays in
     let n = length (a .positions .now) in
     let ps = a .prices .now in
-    let w = own-is ps (a .q) n lane (r .few) (r .prices) in (
-      (room, r .few, ap length w ∙ own-length ps (a .q) n lane (r .few) (r .prices), small-back (a .end) (omega (arith, r .late)), marks-small r (lived-back (r .brief) (r .begun) (v .lane-life .ensures))),
-      (lane, size, λ j. subst (λ (x : List ℕ). getD x j 0 ≤ top) (sym w) (own-each (λ (x : ℕ). x ≤ top) ps (a .q) n (omega arith) (λ j. r .cheap (a .q * priceStride + j)) j)),
-    )
+    let w = own-is ps (a .q) n (lane .lane) (r .few) (r .prices) in
+    record {
+      room = record { size = p .room; few = r .few; small = marks-small r (lived-back (r .lives) (v .lane-life .ensures)) };
+      late = small-back (a .end) (omega (arith, r .late));
+      priced = ap length w ∙ own-length ps (a .q) n (lane .lane) (r .few) (r .prices);
+      cheap = λ j. subst (λ (x : List ℕ). getD x j 0 ≤ top) (sym w) (own-each (λ (x : ℕ). x ≤ top) ps (a .q) n (omega arith) (λ j. r .cheap (a .q * priceStride + j)) j);
+      lane = lane;
+    }
 
 same-length : tie.Need-same-length
 same-length c = search needs
@@ -65,13 +70,13 @@ returns c =
     let v = c .before .before .before .before .before .before .before .before .before .before in
     let s = start v in
     let a = s .args in
-    let r = s .pre .0 in
+    let r = s .pre .0 .arrays in
     let n = length (a .positions .now) in
     let ps = a .prices .now in
-    let part = partAt n (a .lives .now) (a .lefts .now) ps (a .q) in
-    let x = lived-back (r .brief) (r .begun) (v .lane-life .ensures) in
+    let part = lanePart n (a .lives .now) (a .lefts .now) ps (a .q) in
+    let x = lived-back (r .lives) (v .lane-life .ensures) in
     filled-as _ _ _ (a .positions .now) _ (a .end) (pos (part .life)) (lastChange part) (part .prices) (a .t .now) (c .before .before .before .before .fill-lane .last .1 .1 .1 .1 .1 .1 .1 .0) (a .q)
-    (toZ-ofZ (s .fits .end)) (x .lives) (x .begins) (own-is ps (a .q) n (s .pre .3) (r .few) (r .prices)) (c .before .before .before .before .fill-lane .ensures)
+    (toZ-ofZ (s .fits .end)) (x .lives) (x .begins) (own-is ps (a .q) n (s .pre .1 .lane) (r .few) (r .prices)) (c .before .before .before .before .fill-lane .ensures)
 
 pub fill-part-spec : {M : Type 1} → statement M
 fill-part-spec =

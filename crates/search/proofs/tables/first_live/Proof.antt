@@ -1,24 +1,24 @@
 -- `first_live` counts the marks that add nothing. The invariant: the first i do not.
-use Prim.Native.Nat.{_+_, _*_, _-_, _≤_}
+use Prim.Native.Nat.{_+_, _*_, _-_}
 use mathlib.Core.Path.{sym, _∙_}
 use native.Mathlib.Omega.{arith}
 use borrow.Author.Needs.{needs}
 use borrow.Author.Tests.{not-false}
-use Rattle.search.specs.Fill.{Dead}
-use Rattle.search.proofs.Writing.{dead-more}
+use Rattle.search.specs.Fill.{DeadBelow}
+use Rattle.search.proofs.Cuts.{dead-none, dead-more}
 use Rattle.search.proofs.tables.first_live.Statement.{statement}
 use Rattle.lane_rows.specs.Layout.{laneCount, markCount}
-use Rattle.lane_rows.proofs.Filled.{window-at, window-length}
+use Rattle.lane_rows.proofs.Window.{window-at, window-length}
 use Rattle.search.proofs.tables.first_live.Tie as tie
 
 abbrev Inv-loop : tie.InvT-loop
-Inv-loop lanes t base j i₀ i = (i ≤ j) × Dead lanes t base j i
+Inv-loop lanes t base j i₀ i = DeadBelow lanes t base j i
 
 abbrev μ-loop : tie.MeasureT-loop
 μ-loop lanes t base j i₀ i = j - i
 
 loop-holds : tie.Need-loop-holds Inv-loop μ-loop
-loop-holds c = (omega arith, λ k q h l. absurd (omega arith))
+loop-holds c = dead-none (c .before .args .lanes) (c .before .args .t .now) (c .before .args .base) (c .before .args .j)
 
 mul-at : tie.Need-mul-at Inv-loop μ-loop
 mul-at c = search needs
@@ -54,7 +54,7 @@ cast-result : tie.Need-cast-result Inv-loop μ-loop
 cast-result c = search needs
 
 returns : tie.Need-returns Inv-loop μ-loop
-returns c = (omega arith, c .before .before .before .before .loop .inv .1)
+returns c = c .before .before .before .before .loop .inv
 
 add-i : tie.Need-add-i Inv-loop μ-loop
 add-i c = search needs
@@ -66,17 +66,15 @@ loop-again : tie.Need-loop-again Inv-loop μ-loop
 loop-again c =
     let a = c .before .before .before .before .before .before .args in
     let l = c .before .before .before .before .loop in
-    let d = a .base + (a .j * markCount + l .i) * laneCount in (
-      omega arith,
-      dead-more (a .lanes) (a .t .now) (a .base) (a .j) (l .i) (omega arith) (omega arith) (omega arith)
-          (λ q h. sym (window-at (a .t .now) d (omega arith) q (omega (arith, c .before .before .before .before .before .before .pre .0))) ∙ c .before .dead .ensures (not-false (c .before .dead .result) (c .if1 .left)) q h) (l .inv .1),
-    )
+    let d = a .base + (a .j * markCount + l .i) * laneCount in
+    dead-more (a .lanes) (a .t .now) (a .base) (a .j) (l .i) (omega arith)
+    (λ q h. sym (window-at (a .t .now) d (omega arith) q (omega (arith, c .before .before .before .before .before .before .pre .0))) ∙ c .before .dead .ensures (not-false (c .before .dead .result) (c .if1 .left)) q h) (l .inv)
 
 cast-result-2 : tie.Need-cast-result-2 Inv-loop μ-loop
 cast-result-2 c = search needs
 
 returns-2 : tie.Need-returns-2 Inv-loop μ-loop
-returns-2 c = (omega arith, c .before .loop .inv .1)
+returns-2 c = c .before .loop .inv
 
 pub first-live-spec : {M : Type 1} → statement M
 first-live-spec =

@@ -1,24 +1,27 @@
 -- `put_cuts` writes the cuts of a block. The invariant: those of the first j openings.
-use Prim.Native.Nat.{_-_, _≤_}
+use Prim.Native.Nat.{ℕ, _-_, _≤_}
 use mathlib.Core.Path.{_≡_, subst}
 use native.Mathlib.Omega.{arith}
 use borrow.Author.Needs.{needs}
-use Rattle.search.specs.Fill.{Cuts}
-use Rattle.search.proofs.Writing.{cuts-none, cuts-more, dead-back}
+use Rattle.least.specs.Filled.{Filled}
+use Rattle.least.proofs.Filled.{filled-none, filled-more}
+use Rattle.lane_rows.specs.Layout.{cutPlace}
+use Rattle.search.specs.Fill.{DeadBelow}
+use Rattle.search.proofs.Cuts.{dead-back}
 use Rattle.search.proofs.tables.put_cuts.Statement.{statement}
 use Rattle.search.proofs.tables.put_cuts.Tie as tie
 
 abbrev Inv-loop : tie.InvT-loop
-Inv-loop lanes base off m t₀ j₀ t j = (j ≤ m) × Cuts lanes t₀ t base off j
+Inv-loop lanes base off m t₀ j₀ t j = (j ≤ m) × Filled (cutPlace off) (DeadBelow lanes t₀ base) j t₀ t
 
 abbrev μ-loop : tie.MeasureT-loop
 μ-loop lanes base off m t₀ j₀ t j = m - j
 
 loop-holds : tie.Need-loop-holds Inv-loop μ-loop
-loop-holds c = (omega arith, cuts-none (c .before .args .lanes) (c .before .args .t .now) (c .before .args .base) (c .before .args .off))
+loop-holds c = (omega arith, filled-none)
 
 first-live-requires : tie.Need-first-live-requires Inv-loop μ-loop
-first-live-requires c κs = (c .before .before .before .before .pre .0, omega (arith, c .before .before .loop .inv .1 .size), omega arith)
+first-live-requires c κs = (c .before .before .before .before .pre .narrow, omega (arith, c .before .before .loop .inv .1 .size), omega arith)
 
 add-t : tie.Need-add-t Inv-loop μ-loop
 add-t c = search needs
@@ -37,12 +40,12 @@ loop-less c = search needs
 
 loop-again : tie.Need-loop-again Inv-loop μ-loop
 loop-again c =
-    let a = c .before .before .before .before .before .args in
-    let l = c .before .before .before .loop in
-    let e = c .first-live .ensures in (
+    let s = c .before .before .before .before .before in
+    let a = s .args in
+    let l = c .before .before .before .loop in (
       omega arith,
-      cuts-more (a .lanes) (a .t .now) (l .t) (a .base) (a .off) (l .j) (c .first-live .result) (omega arith) (e .0)
-          (dead-back (a .lanes) (a .t .now) (l .t) (a .base) (a .off) (l .j) (l .j) (c .first-live .result) (omega arith) (c .before .before .before .before .before .pre .0) (omega arith) (e .0) (l .inv .1) (e .1)) (l .inv .1),
+      filled-more (c .first-live .result) (omega arith) (λ y h e. omega (arith, e))
+          (dead-back (a .lanes) (a .t .now) (l .t) (a .base) (a .off) (l .j) (l .j) (c .first-live .result) (omega arith) (s .pre .narrow) (omega arith) (l .inv .1) (c .first-live .ensures)) (l .inv .1),
     )
 
 same-length : tie.Need-same-length Inv-loop μ-loop
@@ -53,7 +56,7 @@ returns c =
     let a = c .before .before .before .args in
     let l = c .before .loop in
     let z : l .j ≡ a .m = omega arith in
-    subst (Cuts (a .lanes) (a .t .now) (l .t) (a .base) (a .off)) z (l .inv .1)
+    subst (λ (n : ℕ). Filled (cutPlace (a .off)) (DeadBelow (a .lanes) (a .t .now) (a .base)) n (a .t .now) (l .t)) z (l .inv .1)
 
 pub put-cuts-spec : {M : Type 1} → statement M
 put-cuts-spec =

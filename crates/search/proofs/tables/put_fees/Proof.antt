@@ -1,23 +1,23 @@
 -- `put_fees` writes the fees. The invariant: the first j are written.
-use Prim.Native.Nat.{ℕ, _+_, _-_, _≤_}
-use mathlib.Core.Path.{_≡_, ap, subst}
+use Prim.Native.Nat.{ℕ, _-_, _≤_}
+use mathlib.Core.Path.{_≡_, refl, subst}
 use native.Mathlib.Omega.{arith}
 use borrow.Author.Needs.{needs}
-use lib.ListN.{length, getD, set}
-use Rattle.search.specs.Fill.{Span}
-use Rattle.search.proofs.Writing.{span-none, span-more}
+use lib.ListN.{length, getD}
+use Rattle.least.specs.Filled.{FilledBy}
+use Rattle.least.proofs.Filled.{filled-none, filled-more}
 use Rattle.search.proofs.tables.put_fees.Statement.{statement}
-use Rattle.lane_rows.specs.Layout.{feeBase, feePlace}
+use Rattle.lane_rows.specs.Layout.{feePlace}
 use Rattle.search.proofs.tables.put_fees.Tie as tie
 
 abbrev Inv-loop : tie.InvT-loop
-Inv-loop fees t₀ j₀ t j = (j ≤ length fees) × Span (λ (x : ℕ). getD fees (x - feeBase) 0) t₀ t feeBase (feePlace j)
+Inv-loop fees t₀ j₀ t j = (j ≤ length fees) × FilledBy feePlace (λ (j : ℕ). getD fees j 0) j t₀ t
 
 abbrev μ-loop : tie.MeasureT-loop
 μ-loop fees t₀ j₀ t j = length fees - j
 
 loop-holds : tie.Need-loop-holds Inv-loop μ-loop
-loop-holds c = let a = c .args in (omega arith, span-none (λ (x : ℕ). getD (a .fees .now) (x - feeBase) 0) (a .t .now) feeBase)
+loop-holds c = (omega arith, filled-none)
 
 mul-t : tie.Need-mul-t Inv-loop μ-loop
 mul-t c = search needs
@@ -41,15 +41,7 @@ loop-less : tie.Need-loop-less Inv-loop μ-loop
 loop-less c = search needs
 
 loop-again : tie.Need-loop-again Inv-loop μ-loop
-loop-again c =
-    let a = c .before .before .before .args in
-    let l = c .before .before .loop in
-    let z : feeBase + l .j + 1 ≡ feeBase + (l .j + 1) = omega arith in
-    let y : l .j ≡ feeBase + l .j - feeBase = omega arith in (
-      omega arith,
-      subst (Span (λ (x : ℕ). getD (a .fees .now) (x - feeBase) 0) (a .t .now) (set (l .t) (feePlace (l .j)) (getD (a .fees .now) (l .j) 0)) feeBase) z
-          (span-more (λ (x : ℕ). getD (a .fees .now) (x - feeBase) 0) (a .t .now) feeBase (l .t) (feePlace (l .j)) (getD (a .fees .now) (l .j) 0) (omega arith) (omega arith) (ap (λ (k : ℕ). getD (a .fees .now) k 0) y) (l .inv .1)),
-    )
+loop-again c = (omega arith, filled-more _ (omega arith) (λ y h e. omega (arith, e)) refl (c .before .before .loop .inv .1))
 
 same-length : tie.Need-same-length Inv-loop μ-loop
 same-length c = search needs
@@ -58,8 +50,8 @@ returns : tie.Need-returns Inv-loop μ-loop
 returns c =
     let a = c .before .before .args in
     let l = c .before .loop in
-    let z : feeBase + l .j ≡ feeBase + length (a .fees .now) = omega arith in
-    subst (Span (λ (x : ℕ). getD (a .fees .now) (x - feeBase) 0) (a .t .now) (l .t) feeBase) z (l .inv .1)
+    let z : l .j ≡ length (a .fees .now) = omega arith in
+    subst (λ (n : ℕ). FilledBy feePlace (λ (j : ℕ). getD (a .fees .now) j 0) n (a .t .now) (l .t)) z (l .inv .1)
 
 pub put-fees-spec : {M : Type 1} → statement M
 put-fees-spec =

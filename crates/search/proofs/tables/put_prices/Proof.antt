@@ -1,23 +1,23 @@
 -- `put_prices` writes a lane's prices. The invariant: the first j are written.
-use Prim.Native.Nat.{ℕ, _+_, _*_, _-_, _≤_}
-use mathlib.Core.Path.{_≡_, ap, subst}
+use Prim.Native.Nat.{ℕ, _+_, _-_, _≤_}
+use mathlib.Core.Path.{_≡_, refl, subst}
 use native.Mathlib.Omega.{arith}
 use borrow.Author.Needs.{needs}
-use lib.ListN.{length, getD, set}
-use Rattle.search.specs.Fill.{Wrote}
-use Rattle.search.proofs.Writing.{wrote-none, wrote-more}
+use lib.ListN.{length, getD}
+use Rattle.least.specs.Filled.{FilledBy}
+use Rattle.least.proofs.Filled.{filled-none, filled-more}
 use Rattle.search.proofs.tables.put_prices.Statement.{statement}
-use Rattle.lane_rows.specs.Layout.{laneCount, priceRow}
+use Rattle.lane_rows.specs.Layout.{rowPlace, priceRow}
 use Rattle.search.proofs.tables.put_prices.Tie as tie
 
 abbrev Inv-loop : tie.InvT-loop
-Inv-loop prices q t₀ j₀ t j = (j ≤ length prices) × Wrote (λ (y : ℕ). getD prices (y - priceRow) 0) t₀ t q priceRow (priceRow + j)
+Inv-loop prices q t₀ j₀ t j = (j ≤ length prices) × FilledBy (λ (j : ℕ). rowPlace (priceRow + j) q) (λ (j : ℕ). getD prices j 0) j t₀ t
 
 abbrev μ-loop : tie.MeasureT-loop
 μ-loop prices q t₀ j₀ t j = length prices - j
 
 loop-holds : tie.Need-loop-holds Inv-loop μ-loop
-loop-holds c = let a = c .args in (omega arith, wrote-none (λ (y : ℕ). getD (a .prices .now) (y - priceRow) 0) (a .t .now) (a .q) priceRow)
+loop-holds c = (omega arith, filled-none)
 
 mul-t : tie.Need-mul-t Inv-loop μ-loop
 mul-t c = search needs
@@ -47,15 +47,7 @@ loop-less : tie.Need-loop-less Inv-loop μ-loop
 loop-less c = search needs
 
 loop-again : tie.Need-loop-again Inv-loop μ-loop
-loop-again c =
-    let a = c .before .before .before .args in
-    let l = c .before .before .loop in
-    let z : priceRow + l .j + 1 ≡ priceRow + (l .j + 1) = omega arith in
-    let y : l .j ≡ priceRow + l .j - priceRow = omega arith in (
-      omega arith,
-      subst (Wrote (λ (y : ℕ). getD (a .prices .now) (y - priceRow) 0) (a .t .now) (set (l .t) ((priceRow + l .j) * laneCount + a .q) (getD (a .prices .now) (l .j) 0)) (a .q) priceRow) z
-          (wrote-more (λ (y : ℕ). getD (a .prices .now) (y - priceRow) 0) (a .t .now) (a .q) priceRow (l .t) (priceRow + l .j) (getD (a .prices .now) (l .j) 0) (omega arith) (omega arith) (omega arith) (ap (λ (k : ℕ). getD (a .prices .now) k 0) y) (l .inv .1)),
-    )
+loop-again c = (omega arith, filled-more _ (omega arith) (λ y h e. omega (arith, e)) refl (c .before .before .loop .inv .1))
 
 same-length : tie.Need-same-length Inv-loop μ-loop
 same-length c = search needs
@@ -64,8 +56,8 @@ returns : tie.Need-returns Inv-loop μ-loop
 returns c =
     let a = c .before .before .args in
     let l = c .before .loop in
-    let z : priceRow + l .j ≡ priceRow + length (a .prices .now) = omega arith in
-    subst (Wrote (λ (y : ℕ). getD (a .prices .now) (y - priceRow) 0) (a .t .now) (l .t) (a .q) priceRow) z (l .inv .1)
+    let z : l .j ≡ length (a .prices .now) = omega arith in
+    subst (λ (n : ℕ). FilledBy (λ (j : ℕ). rowPlace (priceRow + j) (a .q)) (λ (j : ℕ). getD (a .prices .now) j 0) n (a .t .now) (l .t)) z (l .inv .1)
 
 pub put-prices-spec : {M : Type 1} → statement M
 put-prices-spec =

@@ -1,20 +1,21 @@
 -- `put_reach` writes a lane's reach, row by row. The invariant: the first x rows are written.
-use Prim.Native.Nat.{ℕ, _+_, _*_, _-_, _/_, _%_, _≤_}
-use mathlib.Core.Path.{_≡_, refl, ap, subst, _∙_}
+use Prim.Native.Nat.{ℕ, _+_, _*_, _-_, _≤_}
+use mathlib.Core.Path.{_≡_, refl}
 use native.Mathlib.Omega.{arith}
 use borrow.Author.Needs.{needs}
-use lib.ListN.{length, set}
+use lib.ListN.{length}
 use mir.Facts.{toZ-ofZ}
-use mir.Val.{toZ, ofZ}
+use mir.Val.{toZ}
 use mir.Syntax.{w32}
-use Rattle.search.specs.Fill.{Wrote, reachOf, reachAt}
-use Rattle.search.proofs.Writing.{wrote-none, wrote-more}
+use Rattle.least.specs.Filled.{FilledBy}
+use Rattle.least.proofs.Filled.{filled-none, filled-more}
+use Rattle.search.specs.Fill.{reachAt}
 use Rattle.search.proofs.tables.put_reach.Statement.{statement}
-use Rattle.lane_rows.specs.Layout.{laneCount, markCount, blockRows}
+use Rattle.lane_rows.specs.Layout.{markCount, rowPlace, blockRows}
 use Rattle.search.proofs.tables.put_reach.Tie as tie
 
 abbrev Inv-loop : tie.InvT-loop
-Inv-loop life first positions q t₀ n x₀ t x = (n ≡ length positions * markCount) × (x ≤ n) × Wrote (reachAt (toZ w32 life) (toZ w32 first) positions) t₀ t q blockRows (blockRows + x)
+Inv-loop life first positions q t₀ n x₀ t x = (n ≡ length positions * markCount) × (x ≤ n) × FilledBy (λ (x : ℕ). rowPlace (blockRows + x) q) (reachAt (toZ w32 life) (toZ w32 first) positions) x t₀ t
 
 abbrev μ-loop : tie.MeasureT-loop
 μ-loop life first positions q t₀ n x₀ t x = n - x
@@ -23,7 +24,7 @@ mul-n : tie.Need-mul-n Inv-loop μ-loop
 mul-n c = search needs
 
 loop-holds : tie.Need-loop-holds Inv-loop μ-loop
-loop-holds c = let a = c .before .args in (refl, omega arith, wrote-none (reachAt (toZ w32 (ofZ w32 (a .life))) (toZ w32 (ofZ w32 (a .first))) (a .positions .now)) (a .t .now) (a .q) blockRows)
+loop-holds c = (refl, omega arith, filled-none)
 
 reach-requires : tie.Need-reach-requires Inv-loop μ-loop
 reach-requires c κs = (omega arith, rw (toZ-ofZ (c .before .before .before .fits .first)) (c .before .before .before .pre .1))
@@ -50,17 +51,7 @@ loop-less : tie.Need-loop-less Inv-loop μ-loop
 loop-less c = search needs
 
 loop-again : tie.Need-loop-again Inv-loop μ-loop
-loop-again c =
-    let a = c .before .before .before .before .args in
-    let l = c .before .before .loop in
-    let z : blockRows + l .x + 1 ≡ blockRows + (l .x + 1) = omega arith in
-    let y : l .x ≡ blockRows + l .x - blockRows = omega arith in (
-      refl,
-      omega arith,
-      subst (Wrote (reachAt (toZ w32 (ofZ w32 (a .life))) (toZ w32 (ofZ w32 (a .first))) (a .positions .now)) (a .t .now) (set (l .t) ((blockRows + l .x) * laneCount + a .q) (c .reach .result)) (a .q) blockRows) z
-          (wrote-more (reachAt (toZ w32 (ofZ w32 (a .life))) (toZ w32 (ofZ w32 (a .first))) (a .positions .now)) (a .t .now) (a .q) blockRows (l .t) (blockRows + l .x) (c .reach .result) (omega arith) (omega arith) (omega arith)
-          (c .reach .ensures ∙ ap (λ (k : ℕ). reachOf (toZ w32 (ofZ w32 (a .life))) (toZ w32 (ofZ w32 (a .first))) (a .positions .now) (k / markCount) (k % markCount)) y) (l .inv .2)),
-    )
+loop-again c = (refl, omega arith, filled-more (c .reach .result) (omega arith) (λ y h e. omega (arith, e)) (c .reach .ensures) (c .before .before .loop .inv .2))
 
 same-length : tie.Need-same-length Inv-loop μ-loop
 same-length c = search needs

@@ -4,20 +4,20 @@ use mathlib.Core.Path.{_≡_, subst}
 use native.Mathlib.Omega.{arith}
 use borrow.Author.Needs.{needs}
 use lib.ListN.{getD}
-use Rattle.search.specs.Fill.{Wrote}
-use Rattle.search.proofs.Writing.{wrote-none, wrote-more}
+use Rattle.least.specs.Filled.{FilledBy}
+use Rattle.least.proofs.Filled.{filled-none, filled-more}
 use Rattle.search.proofs.tables.put_suffixes.Statement.{statement}
-use Rattle.lane_rows.specs.Layout.{inf}
+use Rattle.lane_rows.specs.Layout.{inf, rowPlace}
 use Rattle.search.proofs.tables.put_suffixes.Tie as tie
 
 abbrev Inv-loop : tie.InvT-loop
-Inv-loop tab m q t₀ y₀ t y = (y ≤ m) × Wrote (λ (y : ℕ). min (getD tab y 0) inf) t₀ t q 0 y
+Inv-loop tab m q t₀ y₀ t y = (y ≤ m) × FilledBy (λ (y : ℕ). rowPlace y q) (λ (y : ℕ). min (getD tab y 0) inf) y t₀ t
 
 abbrev μ-loop : tie.MeasureT-loop
 μ-loop tab m q t₀ y₀ t y = m - y
 
 loop-holds : tie.Need-loop-holds Inv-loop μ-loop
-loop-holds c = let a = c .before .before .args in (omega arith, wrote-none (λ (y : ℕ). min (getD (a .tab .now) y 0) inf) (a .t .now) (a .q) 0)
+loop-holds c = (omega arith, filled-none)
 
 mul-capped : tie.Need-mul-capped Inv-loop μ-loop
 mul-capped c = search needs
@@ -47,10 +47,7 @@ loop-less : tie.Need-loop-less Inv-loop μ-loop
 loop-less c = search needs
 
 loop-again : tie.Need-loop-again Inv-loop μ-loop
-loop-again c =
-    let a = c .before .before .before .before .before .before .args in
-    let l = c .before .before .before .loop in
-    (omega arith, wrote-more (λ (y : ℕ). min (getD (a .tab .now) y 0) inf) (a .t .now) (a .q) 0 (l .t) (l .y) (c .capped .result) (omega arith) (omega arith) (omega arith) (c .capped .ensures) (l .inv .1))
+loop-again c = (omega arith, filled-more (c .capped .result) (omega arith) (λ y h e. omega (arith, e)) (c .capped .ensures) (c .before .before .before .loop .inv .1))
 
 same-length : tie.Need-same-length Inv-loop μ-loop
 same-length c = search needs
@@ -60,7 +57,7 @@ returns c =
     let a = c .before .before .before .before .args in
     let l = c .before .loop in
     let z : l .y ≡ a .m = omega arith in
-    subst (Wrote (λ (y : ℕ). min (getD (a .tab .now) y 0) inf) (a .t .now) (l .t) (a .q) 0) z (l .inv .1)
+    subst (λ (n : ℕ). FilledBy (λ (y : ℕ). rowPlace y (a .q)) (λ (y : ℕ). min (getD (a .tab .now) y 0) inf) n (a .t .now) (l .t)) z (l .inv .1)
 
 pub put-suffixes-spec : {M : Type 1} → statement M
 put-suffixes-spec =

@@ -6,12 +6,10 @@ use borrow.Author.Tests.{lt-ltb, le-ltb}
 use borrow.Author.Needs.{needs}
 use lib.ListN.{length, getD}
 use lib.IntN.{ℤ, pos}
-use mir.Syntax.{w32}
-use mir.Val.{toZ, ofZ}
 use mir.Facts.{toZ-ofZ}
 use Rattle.model.specs.Model.{within}
 use Rattle.least.specs.Marks.{markOf}
-use Rattle.least.proofs.Diff.{back, diff-fits, small-back, mark-small}
+use Rattle.least.proofs.Diff.{back, gap-fits}
 use Rattle.search.proofs.tables.reach.Statement.{statement}
 use Rattle.search.proofs.tables.reach.Tie as tie
 
@@ -32,7 +30,7 @@ in-reach-requires c κs =
     let b = c .before .before .before in
     let m = c .before .mark in
     let s = getD (b .args .positions .now) (b .args .j) (pos 0) in
-    diff-fits (toZ w32 (ofZ w32 s)) (toZ w32 (ofZ w32 (m .result))) (small-back s (b .pre .1 (suc (b .args .j)))) (mark-small (m .result) (b .args .first) (b .args .positions .now) (b .args .i) (m .ensures) (b .fits .first) (b .pre .1))
+    gap-fits s (m .result) (b .args .first) (b .args .positions .now) (b .args .i) (b .pre .1 (suc (b .args .j))) (m .ensures) (b .fits .first) (b .pre .1)
 
 -- what the test says, in the model's terms
 near : (c : tie.After-in-reach) → c .in-reach .result ≡ within (c .before .before .before .before .args .life) (markOf (c .before .before .before .before .args .first) (c .before .before .before .before .args .positions .now) (c .before .before .before .before .args .i)) (getD (c .before .before .before .before .args .positions .now) (c .before .before .before .before .args .j) (pos 0))

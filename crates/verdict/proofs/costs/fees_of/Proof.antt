@@ -7,8 +7,8 @@ use native.Mathlib.Omega.{arith}
 use lib.ListN.{length, getD, take}
 use lib.Seq.{getD-take}
 use Rattle.model.specs.Model.{feeOf}
-use Rattle.job_text.specs.Views.{jobOf}
-use Rattle.job_text.proofs.Jobs.{seen-count, seen-at}
+use Rattle.jobs.specs.Views.{jobOf}
+use Rattle.jobs.proofs.Jobs.{seen-count, seen-at}
 use Rattle.verdict.proofs.Sums.{Summed, summed-none, summed-skip, summed-take, summed-most, cheap-fees}
 use Rattle.verdict.proofs.costs.fees_of.Statement.{statement}
 use Rattle.verdict.proofs.costs.fees_of.Tie as tie
@@ -27,7 +27,7 @@ abbrev stops : tie.Start Inv-loop μ-loop → List Bool
 stops s = take (s .args .t1 .«opening_count») (s .args .t2)
 
 size : (s : tie.Start Inv-loop μ-loop) → length (fees s) ≡ s .args .t1 .«opening_count»
-size s = seen-count (s .args .t1) (s .pre .0) (s .good .0) feeOf
+size s = seen-count (s .args .t1) (s .pre .sized) (s .good .0) feeOf
 
 -- is a stop made at the opening at hand
 marked : (c : tie.In-loop Inv-loop μ-loop) → getD (stops (c .before .before)) (c .before .loop .k - 1) false ≡ getD (c .before .before .args .t2) (c .before .loop .k - 1) false
@@ -40,19 +40,19 @@ sub-k : tie.Need-sub-k Inv-loop μ-loop
 sub-k c = omega arith
 
 array-read-if1 : tie.Need-array-read-if1 Inv-loop μ-loop
-array-read-if1 c = omega (arith, c .before .before .pre .0)
+array-read-if1 c = omega (arith, c .before .before .pre .sized)
 
 mul-o : tie.Need-mul-o Inv-loop μ-loop
-mul-o c = omega (arith, c .before .before .before .pre .0)
+mul-o c = omega (arith, c .before .before .before .pre .sized)
 
 element-copy-out-o : tie.Need-element-copy-out-o Inv-loop μ-loop
-element-copy-out-o c = omega (arith, c .before .before .before .pre .0)
+element-copy-out-o c = omega (arith, c .before .before .before .pre .sized)
 
 plus-requires : tie.Need-plus-requires Inv-loop μ-loop
 plus-requires c κs =
     let l = c .before .before .before in
     let s = l .before in
-    summed-most (fees s) (stops s) (l .loop .k) (l .loop .sum) (l .loop .inv .1) (omega (arith, s .pre .0, size s)) (cheap-fees (jobOf (s .args .t1) .openings) (s .pre .1 .openings))
+    summed-most (fees s) (stops s) (l .loop .k) (l .loop .sum) (l .loop .inv .1) (omega (arith, s .pre .sized, size s)) (cheap-fees (jobOf (s .args .t1) .openings) (s .pre .valid .openings))
 
 loop-less : tie.Need-loop-less Inv-loop μ-loop
 loop-less c = omega arith
@@ -64,7 +64,7 @@ loop-again c =
     let s = b .before .before in (
       omega arith,
       summed-take (fees s) (stops s) (l .k) (l .sum) (l .inv .1) (c .plus .result) (b .loop-test .taken) (omega (arith, size s)) (marked b ∙ c .before .before .if1 .taken)
-          (c .plus .ensures ∙ ap (λ (x : ℕ). x + l .sum) (sym (seen-at (s .args .t1) (s .pre .0) (s .good .0) feeOf 0 (l .k - 1) (omega arith)))),
+          (c .plus .ensures ∙ ap (λ (x : ℕ). x + l .sum) (sym (seen-at (s .args .t1) (s .pre .sized) (s .good .0) feeOf 0 (l .k - 1) (omega arith)))),
     )
 
 loop-less-2 : tie.Need-loop-less-2 Inv-loop μ-loop

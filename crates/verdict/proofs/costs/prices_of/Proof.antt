@@ -7,11 +7,10 @@ use native.Mathlib.Omega.{arith}
 use lib.ListN.{length, getD, take}
 use Rattle.model.specs.Model as model
 use Rattle.model.specs.Model.{sumAt}
-use Rattle.job_text.specs.Views.{jobOf, partOf}
-use Rattle.job_text.specs.Valid.{ValidPart}
-use Rattle.job_text.specs.declared.Job.{Job}
-use Rattle.plan_text.specs.Views.{changesFor, changesOf}
-use Rattle.job_text.proofs.Jobs.{partAt, part-count, part-at, valid-part, valid-parts}
+use Rattle.jobs.specs.Views.{jobOf, partOf, changesFor, changesOf}
+use Rattle.jobs.specs.Valid.{ValidPart}
+use Rattle.jobs.specs.declared.Job.{Job}
+use Rattle.jobs.proofs.Jobs.{partAt, part-count, part-at, valid-part, valid-parts}
 use Rattle.verdict.proofs.Parts.{blankChanges, changes-count, changes-at, Priced, priced-none, priced-more, priced-most, part-most}
 use Rattle.verdict.proofs.costs.prices_of.Statement.{statement}
 use Rattle.verdict.proofs.costs.prices_of.Tie as tie
@@ -31,7 +30,7 @@ abbrev changes : tie.Start Inv-loop μ-loop → List (List Bool)
 changes s = changesFor (s .args .job) (s .args .t2 .changes)
 
 count : (s : tie.Start Inv-loop μ-loop) → length (parts s) ≡ s .args .job .«part_count»
-count s = part-count (s .args .job) (s .pre .0) (s .good .0)
+count s = part-count (s .args .job) (s .pre .sized) (s .good .0)
 
 module _ (c : tie.In-loop Inv-loop μ-loop) where
   abbrev s : tie.Start Inv-loop μ-loop
@@ -55,7 +54,7 @@ module _ (c : tie.After-part-of Inv-loop μ-loop) where
   record-is = ap (partOf n) (c .part-of .ensures .0)
 
   valid : ValidPart n (partOf n (c .part-of .result))
-  valid = rw record-is (valid-part j (s (c .before) .pre .0) (s (c .before) .good .0) (s (c .before) .pre .1) (k (c .before)) (inside (c .before)))
+  valid = rw record-is (valid-part j (s (c .before) .pre .sized) (s (c .before) .good .0) (s (c .before) .pre .valid) (k (c .before)) (inside (c .before)))
 
 loop-holds : tie.Need-loop-holds Inv-loop μ-loop
 loop-holds c =
@@ -66,16 +65,16 @@ sub-k : tie.Need-sub-k Inv-loop μ-loop
 sub-k c = omega arith
 
 part-of-requires : tie.Need-part-of-requires Inv-loop μ-loop
-part-of-requires c κs = (inside c, s c .pre .0 .parts)
+part-of-requires c κs = (inside c, s c .pre .sized .parts)
 
 mul-changed : tie.Need-mul-changed Inv-loop μ-loop
-mul-changed c = omega (arith, s (c .before) .pre .0)
+mul-changed c = omega (arith, s (c .before) .pre .sized)
 
 element-copy-out-changed : tie.Need-element-copy-out-changed Inv-loop μ-loop
-element-copy-out-changed c = omega (arith, s (c .before) .pre .0)
+element-copy-out-changed c = omega (arith, s (c .before) .pre .sized)
 
 part-prices-requires : tie.Need-part-prices-requires Inv-loop μ-loop
-part-prices-requires c κs = let p = c .before .before in (s (p .before) .pre .0 .openings, valid p)
+part-prices-requires c κs = let p = c .before .before in (s (p .before) .pre .sized .openings, valid p)
 
 add-sum : tie.Need-add-sum Inv-loop μ-loop
 add-sum c =
@@ -85,8 +84,8 @@ add-sum c =
     omega (
       arith,
       c .part-prices .ensures,
-      part-most (n p) (s b .pre .0 .openings) (partOf (n p) (p .part-of .result)) (take (n p) (getD (s b .args .t2 .changes) (k b) blankChanges .at)) (valid p),
-      priced-most (parts (s b)) (changes (s b)) (l .k) (l .sum) (l .inv .1) (n p) (s b .pre .0 .openings) (valid-parts (j p) (s b .pre .0) (s b .good .0) (s b .pre .1)) (s b .pre .1 .few-parts),
+      part-most (n p) (s b .pre .sized .openings) (partOf (n p) (p .part-of .result)) (take (n p) (getD (s b .args .t2 .changes) (k b) blankChanges .at)) (valid p),
+      priced-most (parts (s b)) (changes (s b)) (l .k) (l .sum) (l .inv .1) (n p) (s b .pre .sized .openings) (valid-parts (j p) (s b .pre .sized) (s b .good .0) (s b .pre .valid)) (s b .pre .valid .few-parts),
     )
 
 loop-less : tie.Need-loop-less Inv-loop μ-loop
@@ -98,9 +97,9 @@ loop-again c =
     let b = p .before in
     let l = b .before .loop in
     let a = s b .args in
-    let here = ap₂ (λ (x : model.Part) (y : List Bool). sumAt (x .prices) y) (record-is p ∙ sym (part-at (a .job) (s b .pre .0) (s b .good .0) (k b) (inside b))) (sym (changes-at (a .job) (s b .pre .0) (a .t2) (s b .good .1 .0) (k b) (inside b))) in (
+    let here = ap₂ (λ (x : model.Part) (y : List Bool). sumAt (x .prices) y) (record-is p ∙ sym (part-at (a .job) (s b .pre .sized) (s b .good .0) (k b) (inside b))) (sym (changes-at (a .job) (s b .pre .sized) (a .t2) (s b .good .1 .0) (k b) (inside b))) in (
       omega arith,
-      priced-more (parts (s b)) (changes (s b)) (l .k) (l .sum) (l .inv .1) _ (b .loop-test .taken) (omega (arith, count (s b))) (omega (arith, changes-count (a .job) (s b .pre .0) (a .t2) (s b .good .1 .0)))
+      priced-more (parts (s b)) (changes (s b)) (l .k) (l .sum) (l .inv .1) _ (b .loop-test .taken) (omega (arith, count (s b))) (omega (arith, changes-count (a .job) (s b .pre .sized) (a .t2) (s b .good .1 .0)))
           (ap (λ (x : ℕ). l .sum + x) (c .part-prices .ensures ∙ here)),
     )
 

@@ -15,7 +15,7 @@ use Rattle.verdict.proofs.lives.gap.Tie as tie
 tested : (c : tie.After-in-reach) → c .in-reach .result ≡ within (pos (c .before .args .life)) (c .before .args .prev) (c .before .args .next)
 tested c =
     let s = c .before in
-    rw (toZ-ofZ (s .fits .prev), toZ-ofZ (s .fits .next), life-bits (s .args .life) (s .pre .2)) at (c .in-reach .ensures)
+    rw (toZ-ofZ (s .fits .prev), toZ-ofZ (s .fits .next), life-bits (s .args .life) (s .pre .life-high)) at (c .in-reach .ensures)
 
 cast-in-reach : tie.Need-cast-in-reach
 cast-in-reach c = search needs
@@ -23,7 +23,7 @@ cast-in-reach c = search needs
 in-reach-requires : tie.Need-in-reach-requires
 in-reach-requires c κs =
     rw (toZ-ofZ (c .fits .prev), toZ-ofZ (c .fits .next))
-    (diff-fits (c .args .next) (c .args .prev) (omega (arith, position-small (c .args .next) (c .pre .4))) (omega (arith, before-small (c .args .life) (c .args .prev) (c .pre .2) (c .pre .3))))
+    (diff-fits (c .args .next) (c .args .prev) (omega (arith, position-small (c .args .next) (c .pre .ends))) (omega (arith, before-small (c .args .life) (c .args .prev) (c .pre .life-high) (c .pre .begins))))
 
 due-of-requires : tie.Need-due-of-requires
 due-of-requires c κs = search needs

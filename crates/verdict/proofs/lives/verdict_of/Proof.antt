@@ -4,9 +4,8 @@ use mathlib.Core.Path.{refl, sym, ap, ap₂, _∙_}
 use native.Mathlib.Omega.{arith}
 use borrow.Author.Needs.{needs}
 use Rattle.model.specs.Verdict.{Gaps, keeps, ruled, lateOf}
-use Rattle.job_text.specs.Views.{jobOf, partOf}
-use Rattle.plan_text.specs.Views.{changesFor}
-use Rattle.job_text.proofs.Jobs.{part-count, part-at, valid-part}
+use Rattle.jobs.specs.Views.{jobOf, partOf, changesFor}
+use Rattle.jobs.proofs.Jobs.{part-count, part-at, valid-part}
 use Rattle.verdict.specs.Views.{modelVerdict}
 use Rattle.verdict.specs.Steps.{lowerPart}
 use Rattle.verdict.proofs.Parts.{changes-at, Ruled, ruled-more, ruled-all}
@@ -30,26 +29,26 @@ loop-holds : tie.Need-loop-holds Inv-loop μ-loop
 loop-holds c = (omega arith, refl)
 
 part-of-requires : tie.Need-part-of-requires Inv-loop μ-loop
-part-of-requires c κs = (c .loop-test .taken, start c .pre .0 .parts)
+part-of-requires c κs = (c .loop-test .taken, start c .pre .sized .parts)
 
 mul-changed : tie.Need-mul-changed Inv-loop μ-loop
-mul-changed c = omega (arith, start (c .before) .pre .0)
+mul-changed c = omega (arith, start (c .before) .pre .sized)
 
 element-copy-out-changed : tie.Need-element-copy-out-changed Inv-loop μ-loop
-element-copy-out-changed c = omega (arith, start (c .before) .pre .0)
+element-copy-out-changed c = omega (arith, start (c .before) .pre .sized)
 
 late-of-requires : tie.Need-late-of-requires Inv-loop μ-loop
 late-of-requires c κs =
     let p = c .before .before in
     let b = p .before in
     let s = start b in
-    (s .pre .0, s .pre .1, b .before .before .before .positions-of .ensures, rw (p .part-of .ensures .0) (valid-part (s .args .job) (s .pre .0) (s .good .0) (s .pre .1) (b .before .loop .k) (b .loop-test .taken)))
+    (s .pre, b .before .before .before .positions-of .ensures, rw (p .part-of .ensures .0) (valid-part (s .args .job) (s .pre .sized) (s .good .0) (s .pre .valid) (b .before .loop .k) (b .loop-test .taken)))
 
 cast-late-at : tie.Need-cast-late-at Inv-loop μ-loop
-cast-late-at c = omega (arith, start (c .before .before .before .before) .pre .0)
+cast-late-at c = omega (arith, start (c .before .before .before .before) .pre .sized)
 
 add-late-at : tie.Need-add-late-at Inv-loop μ-loop
-add-late-at c = omega (arith, start (c .before .before .before .before) .pre .0)
+add-late-at c = omega (arith, start (c .before .before .before .before) .pre .sized)
 
 late-at-requires : tie.Need-late-at-requires Inv-loop μ-loop
 late-at-requires c κs = search needs
@@ -58,7 +57,7 @@ lower-part-requires : tie.Need-lower-part-requires Inv-loop μ-loop
 lower-part-requires c κs = search needs
 
 add-k : tie.Need-add-k Inv-loop μ-loop
-add-k c = omega (arith, start (c .before .before .before .before .before .before) .pre .0)
+add-k c = omega (arith, start (c .before .before .before .before .before .before) .pre .sized)
 
 loop-less : tie.Need-loop-less Inv-loop μ-loop
 loop-less c = omega arith
@@ -74,9 +73,9 @@ loop-again c =
     let j = s .args .job in
     let job = jobOf j in
     let t = b .loop-test .taken in
-    let here = ap₂ (lateOf job) (ap (partOf (j .«opening_count»)) (p .part-of .ensures .0) ∙ sym (part-at j (s .pre .0) (s .good .0) (l .k) t)) (sym (changes-at j (s .pre .0) (s .args .t2) (s .good .1 .0) (l .k) t)) in (
+    let here = ap₂ (lateOf job) (ap (partOf (j .«opening_count»)) (p .part-of .ensures .0) ∙ sym (part-at j (s .pre .sized) (s .good .0) (l .k) t)) (sym (changes-at j (s .pre .sized) (s .args .t2) (s .good .1 .0) (l .k) t)) in (
       omega arith,
-      ruled-more job (job .parts) (changesFor j (s .args .t2 .changes)) (l .k) (modelVerdict (l .lowest)) (modelVerdict (c .lower-part .result)) (rw (part-count j (s .pre .0) (s .good .0)) t)
+      ruled-more job (job .parts) (changesFor j (s .args .t2 .changes)) (l .k) (modelVerdict (l .lowest)) (modelVerdict (c .lower-part .result)) (rw (part-count j (s .pre .sized) (s .good .0)) t)
           (c .lower-part .ensures
           ∙ ap (lowerPart (modelVerdict (l .lowest))) (late-at .late-at .ensures ∙ ap (λ (g : Gaps). ruled (l .k + 1) g keeps) (late-of .late-of .ensures ∙ here)))
           (l .inv .1),
@@ -86,7 +85,7 @@ returns : tie.Need-returns Inv-loop μ-loop
 returns c =
     let s = c .before .before .before .before in
     let j = s .args .job in
-    ruled-all (jobOf j) (jobOf j .parts) (changesFor j (s .args .t2 .changes)) (c .before .loop .k) (modelVerdict (c .before .loop .lowest)) (omega (arith, part-count j (s .pre .0) (s .good .0))) (c .before .loop .inv .1)
+    ruled-all (jobOf j) (jobOf j .parts) (changesFor j (s .args .t2 .changes)) (c .before .loop .k) (modelVerdict (c .before .loop .lowest)) (omega (arith, part-count j (s .pre .sized) (s .good .0))) (c .before .loop .inv .1)
 
 pub verdict-of-spec : {M : Type 1} → statement M
 verdict-of-spec =

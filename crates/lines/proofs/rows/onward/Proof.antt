@@ -1,0 +1,40 @@
+-- `onward`: by the field, which ends in the text.
+use borrow.Author.Needs.{needs}
+use native.Mathlib.Omega.{arith}
+use mathlib.Core.Path.{sym, ap, _∙_, subst}
+use Rattle.lines.specs.Parser.{taken}
+use Rattle.lines.specs.Cursor.{Inside}
+use Rattle.lines.specs.declared.read.Field.the-variants.{Value}
+use Rattle.lines.proofs.Parsing.{taken-good, taken-fault, stands-after}
+use Rattle.lines.proofs.rows.onward.Statement.{statement}
+use Rattle.lines.proofs.rows.onward.Tie as tie
+
+enum-known-field : tie.Need-enum-known-field
+enum-known-field c = search needs
+
+-- the field's line ends in the text
+within : (c : tie.After-field) → let a = c .before .before .args in Inside (a .text .now) (a .p) (Value (c .field .given .0 .0) (c .field .given .0 .1 .0))
+within c = subst (Inside _ _) (c .field .given .1) (c .before .before .pre .1)
+
+add-t10 : tie.Need-add-t10
+add-t10 c = omega (arith, within (c .before))
+
+add-t11 : tie.Need-add-t11
+add-t11 c = search needs
+
+enum-known-field-2 : tie.Need-enum-known-field-2
+enum-known-field-2 c = search needs
+
+returns : tie.Need-returns
+returns c =
+    let st = c .before .before .before in
+    let w = within (c .before) in
+    record { is = taken-good (st .args .text .now) (st .args .p .at) (st .args .p .line) _ _ ∙ ap (taken _ _) (sym (c .before .field .given .1)); stands = stands-after _ (st .args .p) _ (st .pre .0) (w .0) (w .1) }
+
+returns-2 : tie.Need-returns-2
+returns-2 c =
+    let a = c .before .before .before .args in
+    record { is = taken-fault (a .text .now) (a .p .at) (a .p .line) _ ∙ ap (taken _ _) (sym (c .before .field2 .given .1)); stands = tt }
+
+pub onward-spec : {M : Type 1} → statement M
+onward-spec = tie.close (tie.spec enum-known-field add-t10 add-t11 enum-known-field-2 returns returns-2)

@@ -1,0 +1,30 @@
+-- X3. The limits that the texts set to a job's numbers; the tables and sums of the code rest on them.
+use Prim.Native.Nat.{ℕ, _+_}
+
+-- "`horizon` 2..365", "`opening` 1..365", "`idle` lines, 1..365": the last step that there can be
+abbrev pub lastStep : ℕ
+lastStep = 365
+
+-- "T + 1", for the longest horizon
+abbrev pub lastPosition : ℕ
+lastPosition = lastStep + 1
+
+-- "`life` 1..1000, `left` 1..1000"
+abbrev pub longestLife : ℕ
+longestLife = 1000
+
+-- "`fee` 0..1000000", "`price` 1..1000000"
+abbrev pub dearest : ℕ
+dearest = 1000000
+
+-- "`openings` 0..64"
+abbrev pub mostOpenings : ℕ
+mostOpenings = 64
+
+-- "`parts` 1..16"
+abbrev pub mostParts : ℕ
+mostParts = 16
+
+-- "`walk` 0..4000000000"
+abbrev pub mostWalk : ℕ
+mostWalk = 4000000000

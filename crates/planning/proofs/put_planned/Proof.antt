@@ -1,0 +1,50 @@
+-- `put_planned`: the lines of the search, and behind them those of the plan.
+use native.Mathlib.Omega.{arith}
+use Rattle.lines.specs.Text.{bytes}
+use Rattle.lines.proofs.Writing.{then, kept}
+use Rattle.planning.specs.Plan.{searchLines, plannedLines}
+use Rattle.planning.proofs.Lengths.{search-short, plan-short}
+use borrow.Author.Needs.{needs}
+use Rattle.planning.proofs.put_planned.Statement.{statement}
+use Rattle.planning.proofs.put_planned.Tie as tie
+
+slice-aggregate-put-three : tie.Need-slice-aggregate-put-three
+slice-aggregate-put-three c = search needs
+
+slice-aggregate-put-three-2 : tie.Need-slice-aggregate-put-three-2
+slice-aggregate-put-three-2 c = search needs
+
+put-three-requires : tie.Need-put-three-requires
+unfolding searchLines bytes
+put-three-requires c κs =
+    let s = c .before .before .before .before in
+    let a = s .args in
+    (s .pre .0 .0, s .pre .0 .1, omega (arith, s .pre .1 .1, search-short (a .number) (a .nodes) (a .floor)))
+
+put-plan-requires : tie.Need-put-plan-requires
+unfolding searchLines bytes
+put-plan-requires c κs =
+    let s = c .before .before .before .before .before .before .before .before in
+    let w = c .before .before .before .put-three .ensures in
+    let a = s .args in (
+      (s .pre .1 .0 .sized, s .pre .0 .2),
+      omega (arith, s .pre .1 .1, w .next, kept w, search-short (a .number) (a .nodes) (a .floor), plan-short (a .job) (a .cost) (a .plan) (s .pre .1 .0) (s .pre .0 .2)),
+    )
+
+same-length : tie.Need-same-length
+same-length c = search needs
+
+returns : tie.Need-returns
+unfolding plannedLines searchLines bytes
+returns c = then (c .before .before .before .before .before .before .put-three .ensures) (c .before .before .put-plan .ensures)
+
+pub put-planned-spec : {M : Type 1} → statement M
+put-planned-spec =
+    tie.close
+    (tie.spec
+    slice-aggregate-put-three
+    slice-aggregate-put-three-2
+    put-three-requires
+    put-plan-requires
+    same-length
+    returns)
