@@ -22,14 +22,14 @@ pub struct Answer {
 
 impl Answer {
     // An answer that is no text's fault, of which so many bytes were written.
-    pub fn plain(result: u32, length: usize) -> Answer
-        ensures { λ r. ⌜ r ≡ handed (plainly result []) length ⌝ }
+    pub fn plain(result: u32, written: usize) -> Answer
+        ensures { λ r. ⌜ r ≡ handed (plainly result []) written ⌝ }
     {
         Answer {
             result,
             text: 0,
             line: 0,
-            length,
+            length: written,
             fault_start: 0,
             fault_length: 0,
         }

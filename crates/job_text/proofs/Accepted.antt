@@ -13,7 +13,7 @@ use Rattle.lines.proofs.Outcomes.{one-value, not-both}
 use Rattle.lines.proofs.Sound.{bind-inv, Optionally, optional-inv, row-sound, checked-sound, chain-sound, row-gives, checked-gives, Chained, chain-gives, accepted-is}
 use Rattle.model.specs.Model.{Opening}
 use Rattle.model.specs.Windows.{Rising, stepsOf}
-use Rattle.job_text.specs.Grammar.{JobText, Given, idleIn, meant, idle, idleSteps, idles, opening, openings, part, body, jobLines, maxBytes, readJobText, meaning, readJob}
+use Rattle.job_text.specs.Grammar.{JobText, Given, idleIn, meant, idle, idleSteps, idles, opening, openings, part, body, rest, jobLines, maxBytes, readJobText, meaning, readJob}
 use Rattle.job_text.specs.Rendering.{idlesText, openingText, partText, bodyText, jobText}
 use Rattle.jobs.specs.Valid.{All, ValidOpening, ValidPrice, ValidPart, ValidJob}
 use Rattle.job_text.specs.Valid.{Valid, Some, ValidText}
@@ -51,7 +51,7 @@ abbrev KnownIdles : ℕ → Optional (List ℕ) → Type 0
 KnownIdles h is = (length (idleIn is) ≤ 365) × Rising 0 h (idleIn is) × Some is
 
 -- the number that an idle step hands on
-abbrev itself : ℕ → ℕ
+abbrev pub itself : ℕ → ℕ
 itself i = i
 
 steps-rise : (h before : ℕ) (is : List ℕ) → Chained (KnownStep h) itself before is → Rising before h is
@@ -88,7 +88,7 @@ idles-tell h s s′ l l′ is e =
 
 -- ---- openings
 
-abbrev KnownOpening : ℕ → ℕ → Opening → Type 0
+abbrev pub KnownOpening : ℕ → ℕ → Opening → Type 0
 KnownOpening h before o = KnownStep h before (o .step) × (o .fee ≤ 1000000)
 
 opening-tells : (h before : ℕ) → Tells (opening h before) (KnownOpening h before) openingText
@@ -107,7 +107,7 @@ opening-tells h before s s′ l l′ o e =
           ∙ ap (λ (r : List ℕ). lineOf "opening=" (b .a) ++ r) (row-sound _ 0 1000000 (b .mid) (d .mid) (b .at) (d .at) (d .a) (d .first) ∙ ap (λ (r : List ℕ). lineOf "fee=" (d .a) ++ r) y));
     })
 
-abbrev stepOf : Opening → ℕ
+abbrev pub stepOf : Opening → ℕ
 stepOf o = o .step
 
 chained-rising : (h before : ℕ) (os : List Opening) → Chained (KnownOpening h) stepOf before os → All ValidOpening os × Rising before h (stepsOf os)
@@ -206,7 +206,7 @@ body-tells h is w n s s′ l l′ g e =
     })
 
 pub lines-tell : Tells jobLines ValidText jobText
-unfolding jobLines jobText
+unfolding jobLines rest jobText
 lines-tell s s′ l l′ g e =
     let b = bind-inv (row "horizon=" 2 365) _ s s′ l l′ g e in
     let c = bind-inv (idles (b .a)) _ (b .mid) s′ (b .at) l′ g (b .second) in

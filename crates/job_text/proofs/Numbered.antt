@@ -1,5 +1,5 @@
 -- A job text's fault is number 1 to 5, and its line is one of the text's lines or the next (so it fits any counter). By the grammar's forms.
-use Prim.Native.Nat.{ℕ, _≤_}
+use Prim.Native.Nat.{ℕ, _+_, _≤_}
 use mathlib.Core.Path.{_≡_, refl, ap, ap₂, _∙_}
 use mathlib.Core.List.{List}
 use native.Mathlib.Omega.{arith}
@@ -7,7 +7,7 @@ use Rattle.lines.specs.Parser.{rowAt, checked, rising, Outcome, accepted, refus
 use Rattle.lines.specs.Text.{Optional}
 use Rattle.lines.proofs.Outcomes.{one-fault, not-both}
 use Rattle.lines.proofs.Numbered.{Numbers, row-numbers, optional-numbers, present-numbers, checked-numbers, bind-numbers, return-numbers, chain-numbers, times-numbers, refused-fault}
-use Rattle.job_text.specs.Grammar.{JobText, idle, idleSteps, idles, opening, openings, part, body, jobLines, maxBytes, readJobText, meaning, readJob}
+use Rattle.job_text.specs.Grammar.{JobText, idle, idleSteps, idles, opening, openings, part, body, rest, jobLines, maxBytes, readJobText, meaning, readJob}
 
 abbrev pub JobFault : ℕ → Type 0
 JobFault n = (1 ≤ n) × (n ≤ 5)
@@ -44,17 +44,17 @@ body-numbers h is w n =
     (λ m. bind-numbers JobFault _ _ (times-numbers JobFault m (part n) (part-numbers n)) (λ ps. return-numbers JobFault _)))
 
 pub lines-numbers : Numbers JobFault jobLines
-unfolding jobLines
+unfolding jobLines rest
 lines-numbers =
     bind-numbers JobFault _ _ (line-numbers _ 2 365)
     (λ h. bind-numbers JobFault _ _ (idles-numbers h)
     (λ is. bind-numbers JobFault _ _ (line-numbers _ 0 4000000000)
     (λ w. bind-numbers JobFault _ _ (line-numbers _ 0 64) (λ n. body-numbers h is w n))))
 
-pub fault : (s : List ℕ) (n l : ℕ) → readJob s ≡ refused n l → JobFault n × (l ≤ 32769)
+pub fault : (s : List ℕ) (n l : ℕ) → readJob s ≡ refused n l → JobFault n × (l ≤ maxBytes + 1)
 fault s n l e = go (readJobText s) refl
   where
-    go : (x : Outcome JobText) → readJobText s ≡ x → JobFault n × (l ≤ 32769)
+    go : (x : Outcome JobText) → readJobText s ≡ x → JobFault n × (l ≤ maxBytes + 1)
     go (accepted t) f = not-both (ap meaning f) e
     go (refused i j) f = refused-fault JobFault maxBytes jobLines (omega arith, omega arith) (omega arith, omega arith) lines-numbers s n l (f ∙ same (one-fault (ap meaning f) e))
       where

@@ -68,14 +68,19 @@ body h is w n = do
   ps ← times m (part n)
   return (record { horizon = h; idles = is; walk = w; openings = os; parts = ps })
 
+-- what follows the idle steps
+unfoldable pub rest : ℕ → Optional (List ℕ) → Parser JobText
+rest h is = do
+  w ← row "walk=" 0 mostWalk
+  n ← row "openings=" 0 mostOpenings
+  body h is w n
+
 -- the lines of a job
 unfoldable pub jobLines : Parser JobText
 jobLines = do
   h ← row "horizon=" 2 lastStep
   is ← idles h
-  w ← row "walk=" 0 mostWalk
-  n ← row "openings=" 0 mostOpenings
-  body h is w n
+  rest h is
 
 -- X7. "A text has at most 32,768 bytes"
 abbrev pub maxBytes : ℕ

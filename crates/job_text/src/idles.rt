@@ -1,18 +1,20 @@
 // The idle steps of a job text.
 use crate::steps::read_rising;
 use jobs::Job;
+use lines::read::Field;
 use lines::read::OptionalField;
 use lines::read::read_optional;
 use lines::rows::Cursor;
 use lines::rows::End;
 use lines::rows::Row;
-use lines::rows::onward;
+use lines::rows::advance;
 ghost use mathlib.Core.Path.{_≡_};
 ghost use Prim.Native.Nat.{_≤_};
 ghost use lib.ListN.{drop};
-ghost use Rattle.lines.specs.Cursor.{Stands, Reads, rowAnswer};
+ghost use Rattle.lines.specs.Cursor.{Stands, LineRead};
 ghost use Rattle.job_text.specs.Views.{IdlesRead, idleLines};
 ghost use Rattle.job_text.specs.Grammar.{idle, idleSteps, idles};
+ghost use Rattle.model.specs.Limits.{lastStep};
 
 // Idle steps read, of which the first `count` count, and where they end.
 pub struct Idles {
@@ -22,16 +24,15 @@ pub struct Idles {
 }
 
 // An idle step, after the step before and within the horizon.
-fn read_idle(text: &[u8], p: Cursor, horizon: u32, before: u32) -> Row
-    requires { ⌜ Stands (now text) p ⌝ }
-    ensures { λ r. ⌜ Reads (now (text .entry)) (rowAnswer r) (idle horizon before (drop (p .at) (now (text .entry))) (p .line)) ⌝ }
+fn read_idle(s: &[u8], horizon: u32, before: u32) -> Field
+    ensures { λ r. ⌜ LineRead (idle horizon before) (now (s .entry)) r ⌝ }
 {
-    read_rising(text, p, b"idle=", horizon, before)
+    read_rising(s, b"idle=", horizon, before)
 }
 
 // The idle steps, n of them.
 fn read_idle_steps(text: &[u8], p: Cursor, horizon: u32, n: usize) -> Idles
-    requires { ⌜ Stands (now text) p × (n ≤ 365) ⌝ }
+    requires { ⌜ Stands (now text) p × (n ≤ lastStep) ⌝ }
     ensures { λ r. ⌜ IdlesRead (λ is. is) (now (text .entry)) r (idleSteps horizon n (drop (p .at) (now (text .entry))) (p .line)) ⌝ }
 {
     let mut idles = [0u32; 365];
@@ -39,7 +40,9 @@ fn read_idle_steps(text: &[u8], p: Cursor, horizon: u32, n: usize) -> Idles
     let mut before: u32 = 0;
     let mut i: usize = 0;
     while i < n {
-        match read_idle(text, q, horizon, before) {
+        let at = q.at;
+        let field = read_idle(&text[at..], horizon, before);
+        match advance(text, q, field) {
             Row::Value(v, r) => {
                 idles[i] = v;
                 before = v;
@@ -80,7 +83,7 @@ pub fn read_idles(text: &[u8], p: Cursor, horizon: u32) -> Idles
 {
     let at = p.at;
     match read_optional(&text[at..], b"idles=", Job::MIN_IDLES, Job::MAX_IDLES) {
-        OptionalField::There(field) => match onward(text, p, field) {
+        OptionalField::There(field) => match advance(text, p, field) {
             Row::Value(n, q) => read_idle_steps(text, q, horizon, n as usize),
             Row::Fault { number: k, line: l } => no_idles(End::Fault { number: k, line: l }),
         },

@@ -1,10 +1,11 @@
 // The openings of a job text.
 use crate::steps::read_rising;
 use jobs::Opening;
+use lines::read::read_field;
 use lines::rows::Cursor;
 use lines::rows::End;
 use lines::rows::Row;
-use lines::rows::read_row;
+use lines::rows::advance;
 ghost use mathlib.Core.List.{map};
 ghost use Prim.Native.Nat.{_≤_};
 ghost use lib.ListN.{drop, take};
@@ -12,6 +13,7 @@ ghost use Rattle.lines.specs.Cursor.{Stands, Reads, ended};
 ghost use Rattle.jobs.specs.Views.{openingOf};
 ghost use Rattle.job_text.specs.Views.{openingAnswer};
 ghost use Rattle.job_text.specs.Grammar.{opening, openings};
+ghost use Rattle.model.specs.Limits.{mostOpenings};
 
 // An opening and the cursor behind it, or a fault's result number and line.
 pub enum OpeningRow {
@@ -30,18 +32,24 @@ fn read_opening(text: &[u8], p: Cursor, horizon: u32, before: u32) -> OpeningRow
     requires { ⌜ Stands (now text) p ⌝ }
     ensures { λ r. ⌜ Reads (now (text .entry)) (openingAnswer r) (opening horizon before (drop (p .at) (now (text .entry))) (p .line)) ⌝ }
 {
-    match read_rising(text, p, b"opening=", horizon, before) {
-        Row::Value(step, q) => match read_row(text, q, b"fee=", 0, Opening::MAX_FEE) {
-            Row::Value(fee, r) => OpeningRow::Value(Opening { step, fee }, r),
-            Row::Fault { number: k, line: l } => OpeningRow::Fault { number: k, line: l },
-        },
+    let at = p.at;
+    let field = read_rising(&text[at..], b"opening=", horizon, before);
+    match advance(text, p, field) {
+        Row::Value(step, q) => {
+            let at = q.at;
+            let field = read_field(&text[at..], b"fee=", 0, Opening::MAX_FEE);
+            match advance(text, q, field) {
+                Row::Value(fee, r) => OpeningRow::Value(Opening { step, fee }, r),
+                Row::Fault { number: k, line: l } => OpeningRow::Fault { number: k, line: l },
+            }
+        }
         Row::Fault { number: k, line: l } => OpeningRow::Fault { number: k, line: l },
     }
 }
 
 // The openings, n of them.
 pub fn read_openings(text: &[u8], p: Cursor, horizon: u32, n: usize) -> Openings
-    requires { ⌜ Stands (now text) p × (n ≤ 64) ⌝ }
+    requires { ⌜ Stands (now text) p × (n ≤ mostOpenings) ⌝ }
     ensures { λ r. ⌜ Reads (now (text .entry)) (ended (r .end) (map openingOf (take n (r .openings)))) (openings horizon n (drop (p .at) (now (text .entry))) (p .line)) ⌝ }
 {
     let blank = Opening { step: 0, fee: 0 };

@@ -1,28 +1,31 @@
 // Steps that rise and stay within the horizon.
 use jobs::Opening;
-use lines::rows::Cursor;
-use lines::rows::Row;
-use lines::rows::read_row;
-ghost use lib.ListN.{drop};
+use lines::read::Field;
+use lines::read::read_field;
 ghost use Rattle.lines.specs.Parser.{checked, rowAt, rising};
-ghost use Rattle.lines.specs.Cursor.{Stands, Reads, rowAnswer};
+ghost use Rattle.lines.specs.Cursor.{LineRead};
+ghost use Rattle.model.specs.Limits.{lastStep};
 
 // The line of a step, which is after the step before and within the horizon: else fault 4.
-pub fn read_rising(text: &[u8], p: Cursor, key: &[u8], horizon: u32, before: u32) -> Row
-    requires { ⌜ Stands (now text) p ⌝ }
-    ensures { λ r. ⌜ Reads (now (text .entry)) (rowAnswer r) (checked 4 (rising before horizon) (rowAt (now (key .entry)) 1 365) (drop (p .at) (now (text .entry))) (p .line)) ⌝ }
+pub fn read_rising(s: &[u8], key: &[u8], horizon: u32, before: u32) -> Field
+    ensures { λ r. ⌜ LineRead (checked 4 (rising before horizon) (rowAt (now (key .entry)) 1 lastStep)) (now (s .entry)) r ⌝ }
 {
-    let line = p.line;
-    match read_row(text, p, key, Opening::MIN_STEP, Opening::MAX_STEP) {
-        Row::Value(v, q) => {
+    match read_field(s, key, Opening::MIN_STEP, Opening::MAX_STEP) {
+        Field::Value {
+            value: v,
+            length: n,
+        } => {
             if v <= before {
-                return Row::Fault { number: 4, line };
+                return Field::Fault(4);
             }
             if horizon < v {
-                return Row::Fault { number: 4, line };
+                return Field::Fault(4);
             }
-            Row::Value(v, q)
+            Field::Value {
+                value: v,
+                length: n,
+            }
         }
-        Row::Fault { number: k, line: l } => Row::Fault { number: k, line: l },
+        Field::Fault(k) => Field::Fault(k),
     }
 }

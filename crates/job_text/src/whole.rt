@@ -4,19 +4,21 @@ use crate::idles::read_idles;
 use crate::openings::read_openings;
 use crate::parts::read_parts;
 use jobs::Job;
+use lines::read::read_field;
 use lines::rows::Cursor;
 use lines::rows::End;
 use lines::rows::Row;
 use lines::rows::WholeText;
+use lines::rows::advance;
 use lines::rows::close_text;
-use lines::rows::read_row;
 ghost use mathlib.Core.Path.{_≡_};
 ghost use Prim.Native.Nat.{_≤_};
 ghost use lib.ListN.{drop};
 ghost use Rattle.lines.specs.Cursor.{Stands};
 ghost use Rattle.jobs.specs.Views.{Sized};
 ghost use Rattle.job_text.specs.Views.{idlesOf, idleLines, LinesRead, TextRead};
-ghost use Rattle.job_text.specs.Grammar.{body, jobLines, readJobText};
+ghost use Rattle.job_text.specs.Grammar.{body, rest, jobLines, readJobText};
+ghost use Rattle.model.specs.Limits.{lastStep, mostOpenings};
 
 // What a job text says: the job, and beside it what its text has besides.
 pub struct JobText {
@@ -58,38 +60,62 @@ fn no_job(k: u32, line: usize) -> JobLines
 
 // What follows the number n of openings.
 fn read_body(text: &[u8], p: Cursor, horizon: u32, steps: Idles, walk: u32, n: usize) -> JobLines
-    requires { ⌜ Stands (now text) p × (steps .count ≤ 365) × (n ≤ 64) ⌝ }
+    requires { ⌜ Stands (now text) p × (steps .count ≤ lastStep) × (n ≤ mostOpenings) ⌝ }
     ensures { λ r. ⌜ LinesRead (now (text .entry)) r (body horizon (idleLines (idlesOf steps)) walk n (drop (p .at) (now (text .entry))) (p .line)) ⌝ }
 {
     let os = read_openings(text, p, horizon, n);
     let os_end = os.end;
     match os_end {
-        End::At(q) => match read_row(text, q, b"parts=", Job::MIN_PARTS, Job::MAX_PARTS) {
-            Row::Value(m, r) => {
-                let part_count = m as usize;
-                let ps = read_parts(text, r, part_count, n);
-                let end = ps.end;
-                let idle_count = steps.count;
-                let idles = steps.idles;
-                let openings = os.openings;
-                let parts = ps.parts;
-                let job = Job {
-                    horizon,
-                    idle_count,
-                    idles,
-                    opening_count: n,
-                    openings,
-                    part_count,
-                    parts,
-                };
-                JobLines {
-                    end,
-                    text: JobText { walk, job },
+        End::At(q) => {
+            let at = q.at;
+            let field = read_field(&text[at..], b"parts=", Job::MIN_PARTS, Job::MAX_PARTS);
+            match advance(text, q, field) {
+                Row::Value(m, r) => {
+                    let part_count = m as usize;
+                    let ps = read_parts(text, r, part_count, n);
+                    let end = ps.end;
+                    let idle_count = steps.count;
+                    let idles = steps.idles;
+                    let openings = os.openings;
+                    let parts = ps.parts;
+                    let job = Job {
+                        horizon,
+                        idle_count,
+                        idles,
+                        opening_count: n,
+                        openings,
+                        part_count,
+                        parts,
+                    };
+                    JobLines {
+                        end,
+                        text: JobText { walk, job },
+                    }
                 }
+                Row::Fault { number: k, line: l } => no_job(k, l),
             }
-            Row::Fault { number: k, line: l } => no_job(k, l),
-        },
+        }
         End::Fault { number: k, line: l } => no_job(k, l),
+    }
+}
+
+// What follows the idle steps.
+fn read_rest(text: &[u8], p: Cursor, horizon: u32, steps: Idles) -> JobLines
+    requires { ⌜ Stands (now text) p × (steps .count ≤ lastStep) ⌝ }
+    ensures { λ r. ⌜ LinesRead (now (text .entry)) r (rest horizon (idleLines (idlesOf steps)) (drop (p .at) (now (text .entry))) (p .line)) ⌝ }
+{
+    let at = p.at;
+    let field = read_field(&text[at..], b"walk=", 0, Job::MAX_WALK);
+    match advance(text, p, field) {
+        Row::Value(walk, q) => {
+            let at = q.at;
+            let field = read_field(&text[at..], b"openings=", 0, Job::MAX_OPENINGS);
+            match advance(text, q, field) {
+                Row::Value(n, r) => read_body(text, r, horizon, steps, walk, n as usize),
+                Row::Fault { number: k, line: l } => no_job(k, l),
+            }
+        }
+        Row::Fault { number: k, line: l } => no_job(k, l),
     }
 }
 
@@ -98,24 +124,14 @@ pub fn read_job_lines(text: &[u8], p: Cursor) -> JobLines
     requires { ⌜ Stands (now text) p ⌝ }
     ensures { λ r. ⌜ LinesRead (now (text .entry)) r (jobLines (drop (p .at) (now (text .entry))) (p .line)) ⌝ }
 {
-    match read_row(text, p, b"horizon=", Job::MIN_HORIZON, Job::MAX_HORIZON) {
+    let at = p.at;
+    let field = read_field(&text[at..], b"horizon=", Job::MIN_HORIZON, Job::MAX_HORIZON);
+    match advance(text, p, field) {
         Row::Value(horizon, q) => {
             let steps = read_idles(text, q, horizon);
             let steps_end = steps.end;
             match steps_end {
-                End::At(r) => match read_row(text, r, b"walk=", 0, Job::MAX_WALK) {
-                    Row::Value(walk, s) => match read_row(
-                        text,
-                        s,
-                        b"openings=",
-                        0,
-                        Job::MAX_OPENINGS,
-                    ) {
-                        Row::Value(n, t) => read_body(text, t, horizon, steps, walk, n as usize),
-                        Row::Fault { number: k, line: l } => no_job(k, l),
-                    },
-                    Row::Fault { number: k, line: l } => no_job(k, l),
-                },
+                End::At(r) => read_rest(text, r, horizon, steps),
                 End::Fault { number: k, line: l } => no_job(k, l),
             }
         }

@@ -101,7 +101,7 @@ value-back v rest h =
         big (yes q) = omega (arith, p .short q)
         big (no q) = omega (arith, p .head (omega (arith, q)), List·getD-append ds (10 ∷ rest) 0 0 (p .some))
 
-starts-own : (key s : List ℕ) → startsWith key (key ++ s) ≡ true
+pub starts-own : (key s : List ℕ) → startsWith key (key ++ s) ≡ true
 unfolding startsWith
 starts-own [] s = refl
 starts-own (k ∷ ks) s = rw (startsWith, eq-eqb k k refl) (starts-own ks s)

@@ -1,4 +1,4 @@
--- What is written for a value is read back as that value (`Complete`). By the parsers' forms: row, checked, chain, whole text.
+-- What is written for a value is read back as that value (`Complete`). By the parsers' forms: row, optional, checked, chain, whole text.
 use Prim.Native.Nat.{ℕ, _+_, _^_, _≤_, _<_}
 use mathlib.Core.Path.{_≡_, refl, sym, ap, _∙_}
 use mathlib.Core.List.{List, [], _∷_, _++_, append-assoc}
@@ -6,11 +6,12 @@ use mathlib.Core.Bool.{Bool, true}
 use native.Mathlib.Omega.{arith}
 use lib.ListN.{length}
 use lib.Seq.{drop-append-seam}
-use Rattle.lines.specs.Parser.{Parser, good, return, taken, rowAt, checked, chain, end as ends, accepted, finish, whole, readText}
-use Rattle.lines.specs.Text.{line, texts}
+use Rattle.lines.specs.Parser.{Parser, good, return, taken, rowAt, optionalAt, checked, chain, end as ends, accepted, finish, whole, readText}
+use Rattle.lines.specs.Line.{startsWith}
+use Rattle.lines.specs.Text.{decimal, line, texts, present}
 use Rattle.lines.proofs.Reading.{field-good}
-use Rattle.lines.proofs.Parsing.{bind-good, checked-good, text-fits}
-use Rattle.lines.proofs.Back.{line-back}
+use Rattle.lines.proofs.Parsing.{bind-good, checked-good, optional-there, text-fits}
+use Rattle.lines.proofs.Back.{starts-own, line-back}
 use Rattle.lines.proofs.Sound.{Chained}
 
 -- a value with P, written with anything behind it, is read, and what is behind it is left
@@ -24,6 +25,14 @@ row-complete key lo hi few v h s l = (
   ap (taken (line key v ++ s) l) (sym (field-good key (line key v ++ s) lo hi (line-back key v s (omega arith)) (h .0) (h .1)))
       ∙ ap (λ (r : List ℕ). good v r (l + 1)) (drop-append-seam (line key v) s),
 )
+
+-- a line that may be missing: present
+pub optional-present : (key : List ℕ) (lo hi : ℕ) → hi < 10 ^ 10 → (v : ℕ) → (lo ≤ v) × (v ≤ hi) → (s : List ℕ) (l : ℕ) → (l′ : ℕ) × (optionalAt key lo hi (line key v ++ s) l ≡ good (present v) s l′)
+unfolding return line
+optional-present key lo hi few v h s l =
+    let r = row-complete key lo hi few v h s l in
+    let e : startsWith key (line key v ++ s) ≡ true = ap (startsWith key) (append-assoc key (decimal v ++ 10 ∷ []) s) ∙ starts-own key ((decimal v ++ 10 ∷ []) ++ s) in
+    (r .0, optional-there key lo hi (line key v ++ s) l e ∙ bind-good (rowAt key lo hi) _ (r .1))
 
 pub checked-complete : (k : ℕ) (ok : ℕ → Bool) (p : Parser ℕ) (w : ℕ → List ℕ) (P : ℕ → Type 0) → Complete p w P → Complete (checked k ok p) w (λ v. P v × (ok v ≡ true))
 checked-complete k ok p w P c v h s l = let r = c v (h .0) s l in (r .0, checked-good k ok p (w v ++ s) l (r .1) (h .1))

@@ -12,7 +12,7 @@ use borrow.Author.Tests.{le-leb, lt-leb, lt-ltb, le-ltb}
 use Rattle.lines.specs.Parser.{Parsed, good, fault, Parser, _>>=_, return, readField, taken, rowAt, optionalField, optionalAt, checked, chain, end as ends, rising, upTo, refused, finish, whole, readText}
 use Rattle.lines.specs.Line.{startsWith}
 use Rattle.lines.specs.Text.{missing, present}
-use Rattle.lines.specs.Cursor.{ReadAt, got, no-good, Stands, Inside, Stood, Reads, parsed, ended, closed, judged}
+use Rattle.lines.specs.Cursor.{ReadAt, got, no-good, Stands, Inside, LineRead, Stood, Reads, parsed, ended, closed, judged}
 use Rattle.lines.specs.declared.rows.End.{End}
 use Rattle.lines.specs.declared.rows.End.the-variants as end
 use Rattle.lines.specs.declared.read.Field.{Field}
@@ -41,21 +41,17 @@ module _ (s : List ℕ) (at l : ℕ) where
   unfolding taken
   taken-fault k = refl
 
--- a line read from the part of the text that begins at a cursor: it ends in the text, and the cursor set behind it reads on in the whole text
-module _ (key : List ℕ) (lo hi : ℕ) (s : List ℕ) (p : Cursor) {f : Field} (stands : Stands s p) (e : f ≡ readField key lo hi (take (length s - p .at) (drop (p .at) s))) where
-  field-is : f ≡ readField key lo hi (drop (p .at) s)
-  field-is = e ∙ ap (readField key lo hi) (rest-of s (p .at))
-
-  pub row-inside : Inside s p f
-  row-inside = subst (Inside s p) (sym field-is) (go (readField key lo hi (drop (p .at) s)) (field-in key (drop (p .at) s) lo hi))
+-- the part of a text from a cursor on, where a line was read: the line ends in the text, and the cursor set behind it reads on in the whole text
+module _ {q : Parser ℕ} (s : List ℕ) (p : Cursor) {f : Field} (h : LineRead q (take (length s - p .at) (drop (p .at) s)) f) where
+  pub line-inside : Stands s p → Inside s (p .at) f
+  line-inside stands = go f (h .inside)
     where
-      go : (g : Field) → InField lo hi (length (drop (p .at) s)) g → Inside s p g
-      go (Value v n) h = (h .0, omega (arith, h, stands, length-drop (p .at) s))
-      go (Fault k) h = tt
+      go : (g : Field) → Inside (take (length s - p .at) (drop (p .at) s)) 0 g → Inside s (p .at) g
+      go (Value v n) w = (w .0, omega (arith, w .1, stands, ap length (rest-of s (p .at)), length-drop (p .at) s))
+      go (Fault k) w = tt
 
-  pub row-reads : {r : ReadAt ℕ} → Reads s r (taken (drop (p .at) s) (p .line) f) → Reads s r (rowAt key lo hi (drop (p .at) s) (p .line))
-  unfolding rowAt
-  row-reads {r} h = subst (λ (g : Field). Reads s r (taken (drop (p .at) s) (p .line) g)) field-is h
+  pub line-reads : {r : ReadAt ℕ} → Reads s r (taken (drop (p .at) s) (p .line) f) → Reads s r (q (drop (p .at) s) (p .line))
+  line-reads e = record { is = e .is ∙ rw rest-of at (h .is (p .line)); stands = e .stands }
 
 -- a row's value is in its range
 abbrev pub InRow : ℕ → ℕ → Parsed ℕ → Type 0
@@ -132,6 +128,28 @@ module _ (k : ℕ) (ok : ℕ → Bool) (p : Parser ℕ) (s : List ℕ) (l : ℕ)
   pub checked-fault : {n m : ℕ} → p s l ≡ fault n m → checked k ok p s l ≡ fault n m
   unfolding checked
   checked-fault e = rw (checked, e)
+
+-- one line: a row's field, and a further rule of it
+pub row-line : (key : List ℕ) (lo hi : ℕ) (s : List ℕ) {f : Field} → f ≡ readField key lo hi s → LineRead (rowAt key lo hi) s f
+unfolding rowAt
+row-line key lo hi s {f} e = record { is = λ l. ap (taken s l) e; inside = subst (Inside s 0) (sym e) (go (readField key lo hi s) (field-in key s lo hi)) }
+  where
+    go : (g : Field) → InField lo hi (length s) g → Inside s 0 g
+    go (Value v n) h = (h .0, omega (arith, h .1))
+    go (Fault k) h = tt
+
+module _ (k : ℕ) (ok : ℕ → Bool) (q : Parser ℕ) (s : List ℕ) where
+  pub line-ruled : {v n : ℕ} → LineRead q s (Value v n) → ok v ≡ true → LineRead (checked k ok q) s (Value v n)
+  unfolding taken
+  line-ruled h t = record { is = λ l. sym (checked-good k ok q s l (sym (h .is l)) t); inside = h .inside }
+
+  pub line-broken : {v n : ℕ} → LineRead q s (Value v n) → ok v ≡ false → LineRead (checked k ok q) s (Fault k)
+  unfolding taken
+  line-broken h t = record { is = λ l. sym (checked-not k ok q s l (sym (h .is l)) t); inside = tt }
+
+  pub line-fault : {j : ℕ} → LineRead q s (Fault j) → LineRead (checked k ok q) s (Fault j)
+  unfolding taken
+  line-fault h = record { is = λ l. sym (checked-fault k ok q s l (sym (h .is l))); inside = tt }
 
 pub rising-yes : (b h v : ℕ) → b < v → v ≤ h → rising b h v ≡ true
 rising-yes b h v l m = simp (lt-ltb b v l, le-leb v h m)

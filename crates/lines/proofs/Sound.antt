@@ -7,8 +7,8 @@ use native.Mathlib.Omega.{arith}
 use lib.Dec.{leb}
 use lib.ListN.{length, drop}
 use Rattle.lines.specs.Line.{startsWith, readLine}
-use Rattle.lines.specs.Parser.{Parsed, good, fault, Parser, _>>=_, return, inRange, readField, taken, rowAt, optionalAt, ifPresent, checked, chain, end as ends, accepted, finish, whole, readText}
-use Rattle.lines.specs.Text.{line, texts, Optional, missing, present, optionalText}
+use Rattle.lines.specs.Parser.{Parsed, good, fault, Parser, _>>=_, return, inRange, readField, taken, rowAt, optionalAt, checked, chain, end as ends, accepted, finish, whole, readText}
+use Rattle.lines.specs.Text.{line, texts, Optional, missing, present}
 use Rattle.lines.specs.declared.read.Line.{Line}
 use Rattle.lines.specs.declared.read.Line.the-variants.{Value, Bad}
 use borrow.Author.Tests.{leb-true}
@@ -73,13 +73,6 @@ optional-inv key lo hi s s′ l l′ o h = go (startsWith key s) refl
         let x : missing ≡ o = cc in
         let y : s ≡ s′ = cc in
         subst (Optionally key lo hi s s′ l l′) x y
-
-pub optional-sound : (key : List ℕ) (lo hi : ℕ) → Sound (optionalAt key lo hi) (optionalText (line key))
-optional-sound key lo hi s s′ l l′ o h = go o (optional-inv key lo hi s s′ l l′ o h)
-  where
-    go : (o : Optional ℕ) → Optionally key lo hi s s′ l l′ o → s ≡ optionalText (line key) o ++ s′
-    go missing e = e
-    go (present v) e = row-sound key lo hi s s′ l l′ v e
 
 pub checked-sound : (k : ℕ) (ok : ℕ → Bool) (p : Parser ℕ) (w : ℕ → List ℕ) → Sound p w → Sound (checked k ok p) w
 unfolding checked

@@ -97,6 +97,9 @@ joined-room f i (suc n) h =
     (λ (l : i < n). rw length-append (omega (arith, joined-room f i n l)))
     (eq-or-lt-of-le (le-of-suc-le-suc h))
 
+pub joined-grows : (f : ℕ → List ℕ) (n m : ℕ) → n ≤ m → length (joined f n) ≤ length (joined f m)
+joined-grows f n m h = ⊎-elim (λ (e : n ≡ m). rw e (omega arith)) (λ (l : n < m). omega (arith, joined-room f n m l)) (eq-or-lt-of-le h)
+
 -- n pieces of at most m bytes each
 pub joined-short : (f : ℕ → List ℕ) (m n : ℕ) → ((i : ℕ) → i < n → length (f i) ≤ m) → length (joined f n) ≤ n * m
 unfolding joined

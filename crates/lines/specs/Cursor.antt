@@ -5,7 +5,7 @@ use mathlib.Core.Bool.{true, false}
 use mathlib.Core.List.{List}
 use lib.ListN.{length, drop}
 use lib.Dec.{ltb}
-use Rattle.lines.specs.Parser.{Parsed, good, fault, Outcome, accepted, refused}
+use Rattle.lines.specs.Parser.{Parsed, good, fault, Parser, taken, Outcome, accepted, refused}
 use Rattle.lines.specs.declared.read.Field.{Field}
 use Rattle.lines.specs.declared.read.Field.the-variants as field
 use Rattle.lines.specs.declared.rows.Cursor.{Cursor}
@@ -26,10 +26,15 @@ pub record Stands (s : List ℕ) (p : Cursor) : Type 0 where
   pub inside : p .at ≤ length s
   pub lines : p .line ≤ p .at + 1
 
--- a line that was read at a cursor has a byte at least, and ends in the text
-abbrev pub Inside : List ℕ → Cursor → Field → Type 0
-Inside s p (field.Value v n) = (1 ≤ n) × (p .at + n ≤ length s)
-Inside s p (field.Fault k) = Unit {0}
+-- a line that was read at a place of a text has a byte at least, and ends in the text
+abbrev pub Inside : List ℕ → ℕ → Field → Type 0
+Inside s at (field.Value v n) = (1 ≤ n) × (at + n ≤ length s)
+Inside s at (field.Fault k) = Unit {0}
+
+-- the field f is what the parser gives at the front of s, which is the part of a text from a cursor on; whatever line it is
+pub record LineRead (p : Parser ℕ) (s : List ℕ) (f : Field) : Type 0 where
+  pub is : (l : ℕ) → taken s l f ≡ p s l
+  pub inside : Inside s 0 f
 
 module _ {A : Type 0} where
   -- an answer as a parser's: what is left of the text stands behind the cursor

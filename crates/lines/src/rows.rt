@@ -1,9 +1,8 @@
-// Lines of a text, read at a cursor.
+// A cursor in a text, which moves behind each line that is read, and the verdict at the end.
 use crate::read::Field;
-use crate::read::read_field;
 ghost use mathlib.Core.Path.{_≡_};
 ghost use lib.ListN.{drop};
-ghost use Rattle.lines.specs.Parser.{taken, rowAt};
+ghost use Rattle.lines.specs.Parser.{taken};
 ghost use Rattle.lines.specs.Cursor.{Stands, Inside, Reads, rowAnswer, closed};
 
 // The start of a line in a text, and the line's number, from 1.
@@ -50,8 +49,8 @@ pub fn close_text(text: &[u8], end: End) -> WholeText
 }
 
 // The cursor set behind the line that was read at it.
-pub fn onward(text: &[u8], p: Cursor, field: Field) -> Row
-    requires { ⌜ Stands (now text) p × Inside (now text) p field ⌝ }
+pub fn advance(text: &[u8], p: Cursor, field: Field) -> Row
+    requires { ⌜ Stands (now text) p × Inside (now text) (p .at) field ⌝ }
     ensures { λ r. ⌜ Reads (now (text .entry)) (rowAnswer r) (taken (drop (p .at) (now (text .entry))) (p .line) field) ⌝ }
 {
     let at = p.at;
@@ -69,13 +68,4 @@ pub fn onward(text: &[u8], p: Cursor, field: Field) -> Row
         ),
         Field::Fault(k) => Row::Fault { number: k, line },
     }
-}
-
-// The line at a cursor.
-pub fn read_row(text: &[u8], p: Cursor, key: &[u8], lo: u32, hi: u32) -> Row
-    requires { ⌜ Stands (now text) p ⌝ }
-    ensures { λ r. ⌜ Reads (now (text .entry)) (rowAnswer r) (rowAt (now (key .entry)) lo hi (drop (p .at) (now (text .entry))) (p .line)) ⌝ }
-{
-    let at = p.at;
-    onward(text, p, read_field(&text[at..], key, lo, hi))
 }

@@ -10,6 +10,7 @@ use Rattle.model.specs.Model.{Job, Plan, idle, running, clock, within, l
 use Rattle.model.specs.LowerBound.{leastOf, choiceOf, offers, stopCost, boundOf}
 use Rattle.model.specs.Promise.{no-plan, cut-none, cut, optimum, answerOf, Promise}
 use Rattle.model.specs.Verdict.{accepts, unkept, wrongCost, firstLate, verdictFrom, judgedOf}
+use Rattle.model.specs.Published.{sum, atStep, objective}
 use Rattle.model.proofs.Promised.{promise}
 
 -- the worked job with the fee of each opening and part 1's left
@@ -79,6 +80,11 @@ bare-6 = refl
 printed-costs : costOf (jobWith 10 2) printed ≡ 37
 unfolding sumAt
 printed-costs = refl
+
+-- and the published objective at it
+printed-objective : objective (jobWith 10 2) printed ≡ 37
+unfolding objective sum atStep
+printed-objective = refl
 
 -- what the promise says of it: there is a plan, none costs less than 37, and with `left=1` there is none
 promised : Promise (jobWith 10 2) 11 (optimum 11 17 37 printed)

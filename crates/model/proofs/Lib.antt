@@ -12,5 +12,7 @@ pub mod Promised
 pub mod Unique
 pub mod Verdicts
 pub mod Dues
+pub mod Sums
+pub mod Published
 pub mod Refused
 pub mod Cases

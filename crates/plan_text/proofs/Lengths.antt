@@ -3,12 +3,11 @@ use Prim.Native.Nat.{ℕ, zero, suc, _+_, _*_, _≤_, _<_}
 use mathlib.Core.Path.{_≡_, refl, ap}
 use mathlib.Core.List.{List, [], _++_}
 use mathlib.Core.Bool.{Bool, true, false, cond}
-use mathlib.Core.Logic.{⊎-elim}
-use native.Mathlib.Nat.{eq-or-lt-of-le, mul-le-mul-right}
+use native.Mathlib.Nat.{mul-le-mul-right}
 use native.Mathlib.Omega.{arith}
 use lib.ListN.{length, getD, length-append}
 use Rattle.lines.specs.Text.{bytes, decimalIn, line, lineOf, texts, joined}
-use Rattle.lines.proofs.Writing.{line-short, joined-room, joined-short}
+use Rattle.lines.proofs.Writing.{line-short, joined-grows, joined-short}
 use Rattle.model.specs.Model.{Job, Plan}
 use Rattle.plan_text.specs.Rendering.{visitText, planText, chosen, changesAt, partsAt, stepAt, visitAt, visitsOf, planLinesOf}
 use Rattle.jobs.specs.Valid.{ValidJob}
@@ -25,9 +24,6 @@ joined-less : (f g : ℕ → List ℕ) (n : ℕ) → ((i : ℕ) → length (f i)
 unfolding joined
 joined-less f g zero h = omega arith
 joined-less f g (suc n) h = rw (length-append (joined f n), length-append (joined g n)) (omega (arith, joined-less f g n h, h n))
-
-joined-grows : (f : ℕ → List ℕ) (n m : ℕ) → n ≤ m → length (joined f n) ≤ length (joined f m)
-joined-grows f n m h = ⊎-elim (λ (e : n ≡ m). rw e (omega arith)) (λ (l : n < m). omega (arith, joined-room f n m l)) (eq-or-lt-of-le h)
 
 cond-less : (b : Bool) (xs : List ℕ) → length (cond b xs []) ≤ length xs
 cond-less true xs = omega arith

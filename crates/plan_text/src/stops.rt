@@ -3,19 +3,22 @@ use jobs::Changes;
 use jobs::Job;
 use jobs::Opening;
 use jobs::Plan;
+use lines::read::Field;
+use lines::read::read_field;
 use lines::rows::Cursor;
 use lines::rows::End;
 use lines::rows::Row;
-use lines::rows::read_row;
+use lines::rows::advance;
 ghost use mathlib.Core.Path.{_≡_};
 ghost use mathlib.Core.Bool.{_||_};
 ghost use lib.Dec.{eqb};
 ghost use lib.ListN.{take, drop};
 ghost use Rattle.lines.specs.Parser.{checked, row};
-ghost use Rattle.lines.specs.Cursor.{Stands, Reads, rowAnswer};
+ghost use Rattle.lines.specs.Cursor.{Stands, LineRead};
 ghost use Rattle.jobs.specs.Views.{jobOf, Sized};
 ghost use Rattle.plan_text.specs.Grammar.{isOpening, mayStop, part, parts, visit, visits};
 ghost use Rattle.plan_text.specs.Marks.{withStep, PartsRead, StopRead, StopsRead};
+ghost use Rattle.model.specs.Limits.{lastStep};
 
 // The changes so far, and where the lines of a stop's parts end.
 pub struct ChangesRead {
@@ -54,42 +57,51 @@ fn is_opening(job: Job, step: u32) -> bool
 }
 
 // A stop's step, which is after the step before and an opening: else fault 9.
-fn read_step(text: &[u8], p: Cursor, job: Job, before: u32) -> Row
-    requires { ⌜ Stands (now text) p × Sized job ⌝ }
-    ensures { λ r. ⌜ Reads (now (text .entry)) (rowAnswer r) (checked 9 (mayStop (jobOf job) before) (row "stop=" 1 365) (drop (p .at) (now (text .entry))) (p .line)) ⌝ }
+fn read_step(s: &[u8], job: Job, before: u32) -> Field
+    requires { ⌜ Sized job ⌝ }
+    ensures { λ r. ⌜ LineRead (checked 9 (mayStop (jobOf job) before) (row "stop=" 1 lastStep)) (now (s .entry)) r ⌝ }
 {
-    let line = p.line;
-    match read_row(text, p, b"stop=", Opening::MIN_STEP, Opening::MAX_STEP) {
-        Row::Value(step, q) => {
+    match read_field(s, b"stop=", Opening::MIN_STEP, Opening::MAX_STEP) {
+        Field::Value {
+            value: step,
+            length: n,
+        } => {
             if step <= before {
-                return Row::Fault { number: 9, line };
+                return Field::Fault(9);
             }
             if is_opening(job, step) {
-                return Row::Value(step, q);
+                return Field::Value {
+                    value: step,
+                    length: n,
+                };
             }
-            Row::Fault { number: 9, line }
+            Field::Fault(9)
         }
-        Row::Fault { number: k, line: l } => Row::Fault { number: k, line: l },
+        Field::Fault(k) => Field::Fault(k),
     }
 }
 
 // A part's number, which is after the one before and at most m: else fault 9.
-fn read_number(text: &[u8], p: Cursor, m: usize, before: u32) -> Row
-    requires { ⌜ Stands (now text) p ⌝ }
-    ensures { λ r. ⌜ Reads (now (text .entry)) (rowAnswer r) (part m before (drop (p .at) (now (text .entry))) (p .line)) ⌝ }
+fn read_number(s: &[u8], m: usize, before: u32) -> Field
+    ensures { λ r. ⌜ LineRead (part m before) (now (s .entry)) r ⌝ }
 {
-    let line = p.line;
-    match read_row(text, p, b"part=", Plan::MIN_PART, Plan::MAX_PART) {
-        Row::Value(part, q) => {
+    match read_field(s, b"part=", Plan::MIN_PART, Plan::MAX_PART) {
+        Field::Value {
+            value: part,
+            length: n,
+        } => {
             if part <= before {
-                return Row::Fault { number: 9, line };
+                return Field::Fault(9);
             }
             if m < part as usize {
-                return Row::Fault { number: 9, line };
+                return Field::Fault(9);
             }
-            Row::Value(part, q)
+            Field::Value {
+                value: part,
+                length: n,
+            }
         }
-        Row::Fault { number: k, line: l } => Row::Fault { number: k, line: l },
+        Field::Fault(k) => Field::Fault(k),
     }
 }
 
@@ -137,12 +149,14 @@ fn read_changes(
     let mut before: u32 = 0;
     let mut i: usize = 0;
     while i < n {
-        match read_number(text, q, m, before) {
+        let at = q.at;
+        let field = read_number(&text[at..], m, before);
+        match advance(text, q, field) {
             Row::Value(k, r) => {
                 let j = (k - 1) as usize;
                 let row = marks[j];
-                let at = row.at;
-                let next = mark(at, job, step);
+                let were = row.at;
+                let next = mark(were, job, step);
                 marks[j] = Changes { at: next };
                 before = k;
                 q = r;
@@ -167,29 +181,35 @@ fn read_visit(text: &[u8], p: Cursor, job: Job, before: u32, plan: Plan) -> Visi
     requires { ⌜ Stands (now text) p × Sized job ⌝ }
     ensures { λ r. ⌜ StopRead job (now (text .entry)) plan r (visit (jobOf job) before (drop (p .at) (now (text .entry))) (p .line)) ⌝ }
 {
-    match read_step(text, p, job, before) {
-        Row::Value(step, q) => match read_row(text, q, b"count=", 0, Plan::MAX_COUNT) {
-            Row::Value(n, r) => {
-                let was = plan.stops;
-                let changes = plan.changes;
-                let read = read_changes(text, r, job, n as usize, step, changes);
-                let end = read.end;
-                let marks = read.changes;
-                VisitRead {
-                    end,
-                    step,
-                    plan: Plan {
-                        stops: mark(was, job, step),
-                        changes: marks,
-                    },
+    let at = p.at;
+    let field = read_step(&text[at..], job, before);
+    match advance(text, p, field) {
+        Row::Value(step, q) => {
+            let at = q.at;
+            let field = read_field(&text[at..], b"count=", 0, Plan::MAX_COUNT);
+            match advance(text, q, field) {
+                Row::Value(n, r) => {
+                    let was = plan.stops;
+                    let changes = plan.changes;
+                    let read = read_changes(text, r, job, n as usize, step, changes);
+                    let end = read.end;
+                    let marks = read.changes;
+                    VisitRead {
+                        end,
+                        step,
+                        plan: Plan {
+                            stops: mark(was, job, step),
+                            changes: marks,
+                        },
+                    }
                 }
+                Row::Fault { number: k, line: l } => VisitRead {
+                    end: End::Fault { number: k, line: l },
+                    step,
+                    plan,
+                },
             }
-            Row::Fault { number: k, line: l } => VisitRead {
-                end: End::Fault { number: k, line: l },
-                step,
-                plan,
-            },
-        },
+        }
         Row::Fault { number: k, line: l } => VisitRead {
             end: End::Fault { number: k, line: l },
             step: before,

@@ -2,12 +2,13 @@
 use crate::stops::read_visits;
 use jobs::Job;
 use jobs::Plan;
+use lines::read::read_field;
 use lines::rows::Cursor;
 use lines::rows::End;
 use lines::rows::Row;
 use lines::rows::WholeText;
+use lines::rows::advance;
 use lines::rows::close_text;
-use lines::rows::read_row;
 ghost use mathlib.Core.Path.{_≡_};
 ghost use lib.ListN.{drop};
 ghost use Rattle.lines.specs.Cursor.{Stands, Reads, ended};
@@ -45,16 +46,22 @@ pub fn read_plan_lines(text: &[u8], p: Cursor, job: Job) -> PlanLines
     requires { ⌜ Stands (now text) p × Sized job ⌝ }
     ensures { λ r. ⌜ Reads (now (text .entry)) (ended (r .end) (statedFor job (r .cost) (r .plan))) (planLines (jobOf job) (drop (p .at) (now (text .entry))) (p .line)) ⌝ }
 {
-    match read_row(text, p, b"cost=", 0, Plan::MAX_COST) {
-        Row::Value(cost, q) => match read_row(text, q, b"stops=", 0, Plan::MAX_STOPS) {
-            Row::Value(n, r) => {
-                let read = read_visits(text, r, job, n as usize);
-                let end = read.end;
-                let plan = read.plan;
-                PlanLines { end, cost, plan }
+    let at = p.at;
+    let field = read_field(&text[at..], b"cost=", 0, Plan::MAX_COST);
+    match advance(text, p, field) {
+        Row::Value(cost, q) => {
+            let at = q.at;
+            let field = read_field(&text[at..], b"stops=", 0, Plan::MAX_STOPS);
+            match advance(text, q, field) {
+                Row::Value(n, r) => {
+                    let read = read_visits(text, r, job, n as usize);
+                    let end = read.end;
+                    let plan = read.plan;
+                    PlanLines { end, cost, plan }
+                }
+                Row::Fault { number: k, line: l } => no_plan(k, l),
             }
-            Row::Fault { number: k, line: l } => no_plan(k, l),
-        },
+        }
         Row::Fault { number: k, line: l } => no_plan(k, l),
     }
 }

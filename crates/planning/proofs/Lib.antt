@@ -1,5 +1,5 @@
--- What is found can be printed (Findings), its lines fit the room (Lengths), the planner keeps its promise (Promised), and what it prints reads back (ReadBack).
+-- What is found can be printed (Findings), its lines fit the room (Lengths), what is printed reads back (ReadBack), and the planner keeps its promise (Promised).
 pub mod Findings
 pub mod Lengths
-pub mod Promised
 pub mod ReadBack
+pub mod Promised

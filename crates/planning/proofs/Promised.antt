@@ -16,6 +16,7 @@ use Rattle.job_text.proofs.Numbered.{fault}
 use Rattle.answers.specs.Said.{plainly, lent}
 use Rattle.answers.proofs.Replies.{refuses}
 use Rattle.planning.specs.Plan.{saidFor, onJob, planSaid, planRoom}
+use Rattle.planning.proofs.ReadBack.{prints}
 use Rattle.planning.specs.Promise.{Reading, jobIn, walkIn, Reports, PlanPromise}
 
 not-8 : (a : PlannerAnswer) → resultOf a ≡ 8 → ⊥
@@ -91,7 +92,7 @@ module _ (text : List ℕ) (room : ℕ) where
         λ e. (h, (here, promises .says-0 .0 e)),
         λ r. promises .says-0 .1 (moved (λ x. HasPlan (x .job) × (wholeCount (x .job) ≤ x .walk)) (r .1 .0) (r .1 .1)),
       );
-      answers = λ m r. subst (λ (x : Given). Reports (x .job) (x .walk) (saidFor (g .job) answer)) (sym (given-is r)) (record { answer = answer; promise = promises; says = refl });
+      answers = λ m r. subst (λ (x : Given). Reports text x (saidFor (g .job) answer)) (sym (given-is r)) (record { answer = answer; promise = promises; says = refl; prints = prints text g eg answer promises });
       job-fault = λ m n l e. not-both eg e;
       any-walk = λ e r other q j w. room-is other ∙ alike e r other q j w;
     }

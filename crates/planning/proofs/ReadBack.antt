@@ -7,6 +7,7 @@ use mathlib.Core.Bool.{Bool}
 use native.Mathlib.Omega.{arith}
 use Rattle.lines.specs.Parser.{accepted}
 use Rattle.model.specs.Model.{Job, Plan, BestPlan}
+use Rattle.model.specs.Promise.{PlannerAnswer, no-plan, cut-none, cut, optimum, Any, Walked, Promise}
 use Rattle.model.proofs.Verdicts.{lives-shaped, best-accepted}
 use Rattle.job_text.specs.Grammar.{Given, readJob}
 use Rattle.jobs.specs.Valid.{ValidJob}
@@ -17,6 +18,8 @@ use Rattle.plan_text.proofs.Printed.{read-back}
 use Rattle.verdict.proofs.Limits.{cost-most}
 use Rattle.answers.specs.Said.{plainly}
 use Rattle.judging.specs.Judge.{costLines, judgeSaid}
+use Rattle.planning.specs.Plan.{plannedLines, saidFor}
+use Rattle.planning.specs.Promise.{Prints}
 
 -- for 0 (`Any`) and for 7 with a plan (`Walked`)
 
@@ -37,3 +40,22 @@ module _ (text : List ℕ) (given : Given) (is : readJob text ≡ accepted given
   unfolding judgeSaid
   judge-accepts =
       rw (is) (rw (reads-back) (rw (best-accepted job Among cost plan best) refl))
+
+-- what is written for an answer that keeps the promise: behind `floor` its plan
+module _ (text : List ℕ) (given : Given) (is : readJob text ≡ accepted given) where
+  pub prints : (a : PlannerAnswer) → Promise (given .job) (given .walk) a → Prints text (given .job) (saidFor (given .job) a) a
+  unfolding plannedLines
+  prints no-plan p = tt
+  prints (cut-none n f) p = refl
+  prints (cut n f c q) p = record {
+    lines = planLinesOf (given .job) c q;
+    written = refl;
+    reads-back = reads-back text given is (Walked (given .job) (given .walk)) c q (p .plan-for);
+    judged = judge-accepts text given is (Walked (given .job) (given .walk)) c q (p .plan-for);
+  }
+  prints (optimum n f c q) p = record {
+    lines = planLinesOf (given .job) c q;
+    written = refl;
+    reads-back = reads-back text given is Any c q (p .plan-for);
+    judged = judge-accepts text given is Any c q (p .plan-for);
+  }

@@ -1,15 +1,17 @@
 -- What the planner promises, over the job text, the room lent and the answer: the second and the third demand, D5 and D6.
 use Prim.Native.Nat.{ℕ, _≤_, _<_}
 use mathlib.Core.Path.{_≡_}
-use mathlib.Core.List.{List}
+use mathlib.Core.List.{List, _++_}
 use mathlib.Core.Logic.{_↔_}
 use Rattle.lines.specs.Parser.{accepted, refused}
-use Rattle.model.specs.Model.{Job, HasPlan}
-use Rattle.model.specs.Promise.{PlannerAnswer, wholeCount}
+use Rattle.model.specs.Model.{Job, Plan, HasPlan}
+use Rattle.model.specs.Promise.{PlannerAnswer, no-plan, cut-none, cut, optimum, wholeCount}
 use Rattle.model.specs.Promise as model
 use Rattle.job_text.specs.Grammar.{Given, readJob}
-use Rattle.answers.specs.Said.{Said, Refuses, lent}
-use Rattle.planning.specs.Plan.{saidFor, planSaid, planRoom}
+use Rattle.plan_text.specs.Grammar.{readPlan}
+use Rattle.answers.specs.Said.{Said, Refuses, plainly, lent}
+use Rattle.judging.specs.Judge.{costLines, judgeSaid}
+use Rattle.planning.specs.Plan.{searchLines, saidFor, planSaid, planRoom}
 
 -- the job text says a job and a walk number
 pub record Reading (text : List ℕ) : Type 0 where
@@ -23,13 +25,28 @@ module _ {text : List ℕ} where
   abbrev pub walkIn : Reading text → ℕ
   walkIn r = r .given .walk
 
+-- O3, D6. what is written behind `floor` is a plan text, which read against the job says this plan and this cost, and which the judge accepts with it
+pub record PrintsPlan (text : List ℕ) (job : Job) (s : Said) (nodes floor cost : ℕ) (plan : Plan) : Type 0 where
+  pub lines : List ℕ
+  pub written : s .bytes ≡ searchLines (s .result) nodes floor ++ lines
+  pub reads-back : readPlan job lines ≡ accepted (record { cost = cost; plan = plan })
+  pub judged : judgeSaid text lines ≡ plainly 0 (costLines 0 cost)
+
+-- of an answer with a plan; without one nothing stands behind `floor`
+abbrev pub Prints : List ℕ → Job → Said → PlannerAnswer → Type 0
+Prints text job s no-plan = Unit {0}
+Prints text job s (cut-none nodes floor) = s .bytes ≡ searchLines 7 nodes floor
+Prints text job s (cut nodes floor cost plan) = PrintsPlan text job s nodes floor cost plan
+Prints text job s (optimum nodes floor cost plan) = PrintsPlan text job s nodes floor cost plan
+
 -- D6. the answer s is written and handed over for an answer of the model that keeps every clause of the model's promise:
 -- 6, 7 and 0 exactly when they are due, nodes, floor, and of a plan that it keeps every life, states its true cost, is least over all plans
--- (with 7: over the nodes walked), is the tie rule's choice and has no stop without a change
-pub record Reports (job : Job) (walk : ℕ) (s : Said) : Type 0 where
+-- (with 7: over the nodes walked), is the tie rule's choice and has no stop without a change; and the plan printed is that plan
+pub record Reports (text : List ℕ) (given : Given) (s : Said) : Type 0 where
   pub answer : PlannerAnswer
-  pub promise : model.Promise job walk answer
-  pub says : s ≡ saidFor job answer
+  pub promise : model.Promise (given .job) (given .walk) answer
+  pub says : s ≡ saidFor (given .job) answer
+  pub prints : Prints text (given .job) s answer
 
 pub record PlanPromise (text : List ℕ) (room : ℕ) (s : Said) : Type 0 where
   -- R8. "8: the output is shorter than 16,384 bytes."
@@ -41,7 +58,7 @@ pub record PlanPromise (text : List ℕ) (room : ℕ) (s : Said) : Type 0 where
   -- D6. "Otherwise result 0"
   pub says-0 : (s .result ≡ 0) ↔ ((planRoom ≤ room) × ((r : Reading text) × (HasPlan (jobIn r) × (wholeCount (jobIn r) ≤ walkIn r))))
   -- what is written with them
-  pub answers : planRoom ≤ room → (r : Reading text) → Reports (jobIn r) (walkIn r) s
+  pub answers : planRoom ≤ room → (r : Reading text) → Reports text (r .given) s
   -- D4. a fault of the job text
   pub job-fault : planRoom ≤ room → (number line : ℕ) → readJob text ≡ refused number line → Refuses 1 text number line s
   -- D6. "any larger allowed walk number gives the same bytes": a text of the same job with a larger walk number is answered alike

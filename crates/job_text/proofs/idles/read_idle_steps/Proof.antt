@@ -5,9 +5,9 @@ use native.Mathlib.Omega.{arith}
 use borrow.Author.Needs.{needs}
 use lib.ListN.{length, take, drop, length-set}
 use Rattle.lines.specs.Parser.{chain}
-use Rattle.lines.specs.Cursor.{Stands, ended, rowAnswer}
+use Rattle.lines.specs.Cursor.{Stands, Reads, rowAnswer, ended}
 use Rattle.lines.proofs.Arrays.{take-more}
-use Rattle.lines.proofs.Parsing.{got-value, got-fault, got-place, behind, chain-start, chain-more, chain-fault, chain-end}
+use Rattle.lines.proofs.Parsing.{line-inside, line-reads, got-value, got-fault, got-place, behind, chain-start, chain-more, chain-fault, chain-end}
 use Rattle.job_text.specs.Grammar.{idle, idleSteps}
 use Rattle.job_text.proofs.idles.read_idle_steps.Statement.{statement}
 use Rattle.job_text.proofs.idles.read_idle_steps.Tie as tie
@@ -25,8 +25,25 @@ loop-holds : tie.Need-loop-holds Inv-loop μ-loop
 unfolding idleSteps
 loop-holds c = (omega arith, refl, c .before .pre .0, chain-start _ _ _ _ _ _)
 
+sub-read-idle : tie.Need-sub-read-idle Inv-loop μ-loop
+sub-read-idle c = c .before .loop .inv .2 .inside
+
+part-read-idle-start : tie.Need-part-read-idle-start Inv-loop μ-loop
+part-read-idle-start c = c .before .loop .inv .2 .inside
+
+part-read-idle-end : tie.Need-part-read-idle-end Inv-loop μ-loop
+part-read-idle-end c = search needs
+
 read-idle-requires : tie.Need-read-idle-requires Inv-loop μ-loop
-read-idle-requires c κs = c .before .loop .inv .2
+read-idle-requires c κs = search needs
+
+advance-requires : tie.Need-advance-requires Inv-loop μ-loop
+advance-requires c κs = let l = c .before .before .before .loop in (l .inv .2, line-inside _ (l .q) (c .read-idle .ensures) (l .inv .2))
+
+-- the step's line, read in the whole text
+step : (c : tie.After-advance Inv-loop μ-loop) → let l = c .before .before .before .before .loop in let a = c .before .before .before .before .before .before .args in
+    Reads (a .text .now) (rowAnswer (c .advance .result)) (idle (a .horizon) (l .before) (drop (l .q .at) (a .text .now)) (l .q .line))
+step c = line-reads _ (c .before .before .before .before .loop .q) (c .before .read-idle .ensures) (c .advance .ensures)
 
 enum-known-v : tie.Need-enum-known-v Inv-loop μ-loop
 enum-known-v c = search needs
@@ -35,7 +52,7 @@ mul-idles : tie.Need-mul-idles Inv-loop μ-loop
 mul-idles c = search needs
 
 array-write-idles : tie.Need-array-write-idles Inv-loop μ-loop
-array-write-idles c = omega (arith, c .before .before .before .before .before .before .before .pre .1)
+array-write-idles c = omega (arith, c .before .before .before .before .before .before .before .before .before .pre .1)
 
 add-i : tie.Need-add-i Inv-loop μ-loop
 add-i c = omega arith
@@ -45,14 +62,14 @@ loop-less c = omega arith
 
 loop-again : tie.Need-loop-again Inv-loop μ-loop
 loop-again c =
-    let at = c .before .before .before .before .before in
+    let at = c .before .before .before .before .before .before .before in
     let v = at .loop .inv in
-    let e = c .before .before .before .read-idle .ensures in
+    let e = step (c .before .before .before) in
     let m = ap rowAnswer (c .before .v .given .1) in (
       omega arith,
       simp length-set (v .1),
       got-place e m,
-      v .3 ∙ chain-more _ _ (at .before .before .args .n) (at .loop .i) _ _ _ _ (c .before .before .before .before .loop-test .taken) (got-value e m)
+      v .3 ∙ chain-more _ _ (at .before .before .args .n) (at .loop .i) _ _ _ _ (c .before .before .before .before .before .before .loop-test .taken) (got-value e m)
           (take-more (at .loop .i) (at .loop .idles) _ (omega (arith, at .before .before .pre .1))),
     )
 
@@ -62,11 +79,11 @@ enum-known-k c = search needs
 returns : tie.Need-returns Inv-loop μ-loop
 unfolding ended
 returns c =
-    let at = c .before .before .before .before .before in
+    let at = c .before .before .before .before .before .before .before in
     record {
       reads = record {
-        is = sym (at .loop .inv .3 ∙ chain-fault _ _ (at .before .before .args .n) (at .loop .i) _ _ _ _ (c .before .before .before .before .loop-test .taken)
-            (got-fault (c .before .before .before .read-idle .ensures) (ap rowAnswer (c .before .k .given .1))));
+        is = sym (at .loop .inv .3 ∙ chain-fault _ _ (at .before .before .args .n) (at .loop .i) _ _ _ _ (c .before .before .before .before .before .before .loop-test .taken)
+            (got-fault (step (c .before .before .before)) (ap rowAnswer (c .before .k .given .1))));
         stands = tt;
       };
       sized = omega arith;
@@ -88,7 +105,11 @@ read-idle-steps-spec =
     Inv-loop
     μ-loop
     loop-holds
+    sub-read-idle
+    part-read-idle-start
+    part-read-idle-end
     read-idle-requires
+    advance-requires
     enum-known-v
     mul-idles
     array-write-idles

@@ -1,15 +1,15 @@
 -- `read_idles`: the number's line, if it is there, and so many steps; the first fault is the whole's.
-use mathlib.Core.Path.{_≡_, refl, ap, sym, _∙_}
+use mathlib.Core.Path.{_≡_, ap, sym, _∙_}
 use native.Mathlib.Omega.{arith}
 use lib.ListN.{length, take, drop}
 use Prim.Native.Nat.{_-_}
 use Rattle.lines.specs.Text.{bytes, present}
-use Rattle.lines.specs.Parser.{_>>=_, return, readField, rowAt, optionalAt, ifPresent}
+use Rattle.lines.specs.Parser.{_>>=_, return, readField, rowAt, optionalAt}
 use Rattle.lines.specs.Cursor.{Reads, rowAnswer}
-use Rattle.lines.proofs.Parsing.{bind-good, bind-fault, got-value, got-fault, got-place, row-inside, row-reads, optional-row, optional-none, fault-read}
+use Rattle.lines.proofs.Parsing.{bind-good, bind-fault, got-value, got-fault, got-place, row-line, line-inside, line-reads, optional-row, optional-none, fault-read}
 use Rattle.lines.proofs.Sound.{row-gives}
 use Rattle.job_text.specs.Grammar.{idles}
-use Rattle.job_text.specs.Views.{idleLines, idlesOf}
+use Rattle.job_text.specs.Views.{idlesOf}
 use Rattle.job_text.proofs.Views.{idles-read, none-read}
 use borrow.Author.Needs.{needs}
 use Rattle.job_text.proofs.idles.read_idles.Statement.{statement}
@@ -40,17 +40,17 @@ found : (c : tie.After-field) → let a = c .before .before .before .before .bef
 unfolding bytes
 found c = optional-row _ 1 365 _ (c .before .before .before .before .before .before .args .p) (c .before .before .read-optional .ensures) (c .field .given .1)
 
-onward-requires : tie.Need-onward-requires
-onward-requires c κs =
+advance-requires : tie.Need-advance-requires
+advance-requires c κs =
     let st = c .before .before .before .before .before .before .before in
-    (st .pre, row-inside _ 1 365 _ (st .args .p) (st .pre) (found (c .before) .0))
+    (st .pre, line-inside _ (st .args .p) (row-line _ 1 365 _ (found (c .before) .0)) (st .pre))
 
 -- that row, read in the whole text
-row : (c : tie.After-onward) → let a = c .before .before .before .before .before .before .before .before .args in
-    Reads (a .text .now) (rowAnswer (c .onward .result)) (rowAt (bytes "idles=") 1 365 (drop (a .p .at) (a .text .now)) (a .p .line))
+row : (c : tie.After-advance) → let a = c .before .before .before .before .before .before .before .before .args in
+    Reads (a .text .now) (rowAnswer (c .advance .result)) (rowAt (bytes "idles=") 1 365 (drop (a .p .at) (a .text .now)) (a .p .line))
 row c =
     let st = c .before .before .before .before .before .before .before .before in
-    row-reads _ 1 365 _ (st .args .p) (st .pre) (found (c .before .before) .0) (c .onward .ensures)
+    line-reads _ (st .args .p) (row-line _ 1 365 _ (found (c .before .before) .0)) (c .advance .ensures)
 
 enum-known-n : tie.Need-enum-known-n
 enum-known-n c = search needs
@@ -117,7 +117,7 @@ read-idles-spec =
     slice-aggregate-read-optional
     read-optional-requires
     enum-known-field
-    onward-requires
+    advance-requires
     enum-known-n
     cast-read-idle-steps
     read-idle-steps-requires

@@ -1,13 +1,23 @@
 -- `read_opening`: the line of the step and then the line of the fee; the first fault is the whole's.
 use borrow.Author.Needs.{needs}
 use mathlib.Core.Path.{ap, sym, _∙_}
+use lib.ListN.{drop}
 use Rattle.lines.specs.Text.{bytes}
-use Rattle.lines.specs.Parser.{return}
+use Rattle.lines.specs.Parser.{return, row, checked, rising}
+use Rattle.lines.specs.Cursor.{Stands, Reads, rowAnswer}
+use Rattle.lines.proofs.Parsing.{bind-good, bind-fault, row-line, line-inside, line-reads, got-value, got-fault, got-place}
 use Rattle.job_text.specs.Grammar.{opening}
-use Rattle.lines.specs.Cursor.{rowAnswer}
-use Rattle.lines.proofs.Parsing.{bind-good, bind-fault, got-value, got-fault, got-place}
 use Rattle.job_text.proofs.openings.read_opening.Statement.{statement}
 use Rattle.job_text.proofs.openings.read_opening.Tie as tie
+
+sub-read-rising : tie.Need-sub-read-rising
+sub-read-rising c = search needs
+
+part-read-rising-start : tie.Need-part-read-rising-start
+part-read-rising-start c = search needs
+
+part-read-rising-end : tie.Need-part-read-rising-end
+part-read-rising-end c = search needs
 
 slice-aggregate-read-rising : tie.Need-slice-aggregate-read-rising
 slice-aggregate-read-rising c = search needs
@@ -15,17 +25,52 @@ slice-aggregate-read-rising c = search needs
 read-rising-requires : tie.Need-read-rising-requires
 read-rising-requires c κs = search needs
 
+advance-requires : tie.Need-advance-requires
+advance-requires c κs =
+    let st = c .before .before .before .before in
+    (st .pre, line-inside _ (st .args .p) (c .read-rising .ensures) (st .pre))
+
 enum-known-step : tie.Need-enum-known-step
 enum-known-step c = search needs
 
-slice-aggregate-read-row : tie.Need-slice-aggregate-read-row
-slice-aggregate-read-row c = search needs
+-- the step's line, read in the whole text
+step : (c : tie.After-advance) → let a = c .before .before .before .before .before .args in
+    Reads (a .text .now) (rowAnswer (c .advance .result)) (checked 4 (rising (a .before) (a .horizon)) (row "opening=" 1 365) (drop (a .p .at) (a .text .now)) (a .p .line))
+unfolding bytes
+step c = line-reads _ (c .before .before .before .before .before .args .p) (c .before .read-rising .ensures) (c .advance .ensures)
 
-read-row-requires : tie.Need-read-row-requires
-read-row-requires c κs = got-place (c .before .before .before .before .read-rising .ensures) (ap rowAnswer (c .before .before .step .given .1))
+stood : (c : tie.After-step) → Stands (c .before .before .before .before .before .before .before .args .text .now) (c .step .given .0 .1 .0)
+stood c = got-place (step (c .before .before)) (ap rowAnswer (c .step .given .1))
+
+sub-read-field : tie.Need-sub-read-field
+sub-read-field c = stood (c .before) .inside
+
+part-read-field-start : tie.Need-part-read-field-start
+part-read-field-start c = stood (c .before) .inside
+
+part-read-field-end : tie.Need-part-read-field-end
+part-read-field-end c = search needs
+
+slice-aggregate-read-field : tie.Need-slice-aggregate-read-field
+slice-aggregate-read-field c = search needs
+
+read-field-requires : tie.Need-read-field-requires
+read-field-requires c κs = search needs
+
+advance-requires-2 : tie.Need-advance-requires-2
+advance-requires-2 c κs =
+    let s = stood (c .before .before .before .before) in
+    (s, line-inside _ (c .before .before .before .before .step .given .0 .1 .0) (row-line _ 0 1000000 _ (c .read-field .ensures)) s)
 
 enum-known-fee : tie.Need-enum-known-fee
 enum-known-fee c = search needs
+
+-- the fee's line, read in the whole text
+fee : (c : tie.After-advance2) → let q = c .before .before .before .before .before .step .given .0 .1 .0 in
+    let text = c .before .before .before .before .before .before .before .before .before .before .before .before .args .text .now in
+    Reads text (rowAnswer (c .advance2 .result)) (row "fee=" 0 1000000 (drop (q .at) text) (q .line))
+unfolding bytes
+fee c = line-reads _ (c .before .before .before .before .before .step .given .0 .1 .0) (row-line _ 0 1000000 _ (c .before .read-field .ensures)) (c .advance2 .ensures)
 
 enum-known-k : tie.Need-enum-known-k
 enum-known-k c = search needs
@@ -34,31 +79,40 @@ enum-known-k-2 : tie.Need-enum-known-k-2
 enum-known-k-2 c = search needs
 
 returns : tie.Need-returns
-unfolding opening return bytes
+unfolding opening return
 returns c =
-    let e = c .before .before .before .read-row .ensures in
+    let e = fee (c .before .before .before) in
     let m = ap rowAnswer (c .before .fee .given .1) in
-    record { is = sym (bind-good _ _ (got-value (c .before .before .before .before .before .before .before .before .read-rising .ensures) (ap rowAnswer (c .before .before .before .before .before .before .step .given .1))) ∙ bind-good _ _ (got-value e m)); stands = got-place e m }
+    let at = c .before .before .before .before .before .before .before .before in
+    record { is = sym (bind-good _ _ (got-value (step (at .before .before)) (ap rowAnswer (at .step .given .1))) ∙ bind-good _ _ (got-value e m)); stands = got-place e m }
 
 returns-2 : tie.Need-returns-2
-unfolding opening bytes
+unfolding opening
 returns-2 c =
-    record { is = sym (bind-good _ _ (got-value (c .before .before .before .before .before .before .before .before .read-rising .ensures) (ap rowAnswer (c .before .before .before .before .before .before .step .given .1))) ∙ bind-fault _ _ (got-fault (c .before .before .before .read-row .ensures) (ap rowAnswer (c .before .k .given .1)))); stands = tt }
+    let at = c .before .before .before .before .before .before .before .before in
+    record { is = sym (bind-good _ _ (got-value (step (at .before .before)) (ap rowAnswer (at .step .given .1))) ∙ bind-fault _ _ (got-fault (fee (c .before .before .before)) (ap rowAnswer (c .before .k .given .1)))); stands = tt }
 
 returns-3 : tie.Need-returns-3
-unfolding opening bytes
-returns-3 c =
-    record { is = sym (bind-fault _ _ (got-fault (c .before .before .before .read-rising .ensures) (ap rowAnswer (c .before .k2 .given .1)))); stands = tt }
+unfolding opening
+returns-3 c = record { is = sym (bind-fault _ _ (got-fault (step (c .before .before .before)) (ap rowAnswer (c .before .k2 .given .1)))); stands = tt }
 
 pub read-opening-spec : {M : Type 1} → statement M
 read-opening-spec =
     tie.close
     (tie.spec
+    sub-read-rising
+    part-read-rising-start
+    part-read-rising-end
     slice-aggregate-read-rising
     read-rising-requires
+    advance-requires
     enum-known-step
-    slice-aggregate-read-row
-    read-row-requires
+    sub-read-field
+    part-read-field-start
+    part-read-field-end
+    slice-aggregate-read-field
+    read-field-requires
+    advance-requires-2
     enum-known-fee
     enum-known-k
     enum-known-k-2

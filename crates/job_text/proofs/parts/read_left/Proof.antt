@@ -1,47 +1,47 @@
 -- `read_left`: the line's row, and then the rule that `left` is at most `life`.
 use borrow.Author.Needs.{needs}
-use mathlib.Core.Path.{ap, sym}
+use mathlib.Core.Path.{sym, _∙_}
 use Rattle.lines.specs.Text.{bytes}
-use Rattle.lines.specs.Cursor.{rowAnswer}
-use Rattle.lines.proofs.Parsing.{checked-good, checked-not, checked-fault, upTo-yes, upTo-not, got-value, got-fault, got-place}
+use Rattle.lines.specs.Parser.{row}
+use Rattle.lines.specs.Cursor.{LineRead}
+use Rattle.lines.specs.declared.read.Field.the-variants.{Value}
+use Rattle.lines.proofs.Parsing.{row-line, line-ruled, line-broken, line-fault, upTo-yes, upTo-not}
 use Rattle.job_text.proofs.parts.read_left.Statement.{statement}
 use Rattle.job_text.proofs.parts.read_left.Tie as tie
 
-slice-aggregate-read-row : tie.Need-slice-aggregate-read-row
-slice-aggregate-read-row c = search needs
+slice-aggregate-read-field : tie.Need-slice-aggregate-read-field
+slice-aggregate-read-field c = search needs
 
-read-row-requires : tie.Need-read-row-requires
-read-row-requires c κs = search needs
+read-field-requires : tie.Need-read-field-requires
+read-field-requires c κs = search needs
 
 enum-known-v : tie.Need-enum-known-v
 enum-known-v c = search needs
 
-returns : tie.Need-returns
+-- the row that was read
+found : (c : tie.After-v) → let a = c .before .before .before .before .before .args in LineRead (row "left=" 1 1000) (a .s .now) (Value (c .v .given .0 .0) (c .v .given .0 .1 .0))
 unfolding bytes
-returns c =
-    record { is = sym (checked-not _ _ _ _ _ (got-value (c .before .before .before .before .read-row .ensures) (ap rowAnswer (c .before .before .v .given .1))) (upTo-not _ _ (c .if1 .taken))); stands = tt }
+found c = row-line _ 1 1000 _ (sym (c .v .given .1) ∙ c .before .before .read-field .ensures)
+
+returns : tie.Need-returns
+returns c = line-broken _ _ _ _ (found (c .before .before)) (upTo-not _ _ (c .if1 .taken))
 
 enum-known-k : tie.Need-enum-known-k
 enum-known-k c = search needs
 
 returns-2 : tie.Need-returns-2
-unfolding bytes
-returns-2 c =
-    let e = c .before .before .before .before .read-row .ensures in
-    let m = ap rowAnswer (c .before .before .v .given .1) in
-    record { is = sym (checked-good _ _ _ _ _ (got-value e m) (upTo-yes _ _ (c .if1 .left))); stands = got-place e m }
+returns-2 c = line-ruled _ _ _ _ (found (c .before .before)) (upTo-yes _ _ (c .if1 .left))
 
 returns-3 : tie.Need-returns-3
 unfolding bytes
-returns-3 c =
-    record { is = sym (checked-fault _ _ _ _ _ (got-fault (c .before .before .before .read-row .ensures) (ap rowAnswer (c .before .k .given .1)))); stands = tt }
+returns-3 c = line-fault _ _ _ _ (row-line _ 1 1000 _ (sym (c .before .k .given .1) ∙ c .before .before .before .read-field .ensures))
 
 pub read-left-spec : {M : Type 1} → statement M
 read-left-spec =
     tie.close
     (tie.spec
-    slice-aggregate-read-row
-    read-row-requires
+    slice-aggregate-read-field
+    read-field-requires
     enum-known-v
     returns
     enum-known-k

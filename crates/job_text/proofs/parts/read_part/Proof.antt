@@ -3,32 +3,72 @@ use borrow.Author.Needs.{needs}
 use Prim.Native.Nat.{ℕ}
 use mathlib.Core.List.{List}
 use mathlib.Core.Path.{ap, sym, _∙_}
+use lib.ListN.{drop}
 use Rattle.lines.specs.Text.{bytes}
-use Rattle.lines.specs.Parser.{times, row}
+use Rattle.lines.specs.Parser.{times, row, checked, upTo}
+use Rattle.lines.specs.Cursor.{Stands, Reads, rowAnswer}
+use Rattle.lines.proofs.Parsing.{bind-good, bind-fault, row-line, line-inside, line-reads, got-value, got-fault, got-place, map-read, fault-read}
 use Rattle.job_text.specs.Grammar.{part}
 use Rattle.model.specs.Model.{Part}
-use Rattle.lines.specs.Cursor.{rowAnswer}
-use Rattle.lines.proofs.Parsing.{bind-good, bind-fault, got-value, got-fault, got-place, map-read, fault-read}
 use Rattle.job_text.proofs.parts.read_part.Statement.{statement}
 use Rattle.job_text.proofs.parts.read_part.Tie as tie
 
-slice-aggregate-read-row : tie.Need-slice-aggregate-read-row
-slice-aggregate-read-row c = search needs
+sub-read-field : tie.Need-sub-read-field
+sub-read-field c = search needs
 
-read-row-requires : tie.Need-read-row-requires
-read-row-requires c κs = search needs
+part-read-field-start : tie.Need-part-read-field-start
+part-read-field-start c = search needs
+
+part-read-field-end : tie.Need-part-read-field-end
+part-read-field-end c = search needs
+
+slice-aggregate-read-field : tie.Need-slice-aggregate-read-field
+slice-aggregate-read-field c = search needs
+
+read-field-requires : tie.Need-read-field-requires
+read-field-requires c κs = search needs
+
+advance-requires : tie.Need-advance-requires
+advance-requires c κs =
+    let st = c .before .before .before .before in
+    (st .pre .0, line-inside _ (st .args .p) (row-line _ 1 1000 _ (c .read-field .ensures)) (st .pre .0))
 
 enum-known-life : tie.Need-enum-known-life
 enum-known-life c = search needs
 
+-- the life's line, read in the whole text
+life : (c : tie.After-advance) → let a = c .before .before .before .before .before .args in Reads (a .text .now) (rowAnswer (c .advance .result)) (row "life=" 1 1000 (drop (a .p .at) (a .text .now)) (a .p .line))
+unfolding bytes
+life c = line-reads _ (c .before .before .before .before .before .args .p) (row-line _ 1 1000 _ (c .before .read-field .ensures)) (c .advance .ensures)
+
+stood : (c : tie.After-life) → Stands (c .before .before .before .before .before .before .before .args .text .now) (c .life .given .0 .1 .0)
+stood c = got-place (life (c .before .before)) (ap rowAnswer (c .life .given .1))
+
+sub-read-left : tie.Need-sub-read-left
+sub-read-left c = stood (c .before) .inside
+
+part-read-left-start : tie.Need-part-read-left-start
+part-read-left-start c = stood (c .before) .inside
+
+part-read-left-end : tie.Need-part-read-left-end
+part-read-left-end c = search needs
+
 read-left-requires : tie.Need-read-left-requires
-read-left-requires c κs = got-place (c .before .before .before .read-row .ensures) (ap rowAnswer (c .before .life .given .1))
+read-left-requires c κs = search needs
+
+advance-requires-2 : tie.Need-advance-requires-2
+advance-requires-2 c κs = let s = stood (c .before .before .before) in (s, line-inside _ (c .before .before .before .life .given .0 .1 .0) (c .read-left .ensures) s)
 
 enum-known-left : tie.Need-enum-known-left
 enum-known-left c = search needs
 
+-- the line of what is left, read in the whole text
+left : (c : tie.After-advance2) → let q = c .before .before .before .before .life .given .0 .1 .0 in let text = c .before .before .before .before .before .before .before .before .before .before .before .args .text .now in
+    Reads text (rowAnswer (c .advance2 .result)) (checked 5 (upTo (c .before .before .before .before .life .given .0 .0)) (row "left=" 1 1000) (drop (q .at) text) (q .line))
+left c = line-reads _ (c .before .before .before .before .life .given .0 .1 .0) (c .before .read-left .ensures) (c .advance2 .ensures)
+
 read-prices-requires : tie.Need-read-prices-requires
-read-prices-requires c κs = (got-place (c .before .before .before .read-left .ensures) (ap rowAnswer (c .before .left .given .1)), c .before .before .before .before .before .before .before .before .before .before .pre .1)
+read-prices-requires c κs = (got-place (left (c .before .before .before)) (ap rowAnswer (c .before .left .given .1)), c .before .before .before .before .before .before .before .before .before .before .before .before .before .before .pre .1)
 
 enum-known-k : tie.Need-enum-known-k
 enum-known-k c = search needs
@@ -43,33 +83,43 @@ no-part-requires-2 : tie.Need-no-part-requires-2
 no-part-requires-2 c κs = search needs
 
 returns : tie.Need-returns
-unfolding part bytes
+unfolding part
 returns c =
     let d = c .before .before .before in
-    let make : List ℕ → Part = λ ps. record { life = c .before .before .before .before .before .before .before .life .given .0 .0; left = d .left .given .0 .0; prices = ps } in
-    let r = map-read make (times (c .before .before .before .before .before .before .before .before .before .before .before .before .args .n) (row "price=" 1 1000000)) _ _ (c .before .read-prices .ensures) in
+    let f = c .before .before .before .before .before .before .before .before .before in
+    let make : List ℕ → Part = λ ps. record { life = f .life .given .0 .0; left = d .left .given .0 .0; prices = ps } in
+    let r = map-read make (times (c .before .before .before .before .before .before .before .before .before .before .before .before .before .before .before .before .args .n) (row "price=" 1 1000000)) _ _ (c .before .read-prices .ensures) in
     record {
-      is = r .is ∙ sym (bind-good _ _ (got-value (c .before .before .before .before .before .before .before .before .before .read-row .ensures) (ap rowAnswer (c .before .before .before .before .before .before .before .life .given .1)))
-          ∙ bind-good _ _ (got-value (c .before .before .before .before .before .read-left .ensures) (ap rowAnswer (d .left .given .1))));
+      is = r .is ∙ sym (bind-good _ _ (got-value (life (f .before .before)) (ap rowAnswer (f .life .given .1))) ∙ bind-good _ _ (got-value (left (d .before .before)) (ap rowAnswer (d .left .given .1))));
       stands = r .stands;
     }
 
 returns-2 : tie.Need-returns-2
-unfolding part bytes
-returns-2 c = fault-read _ (c .no-part .ensures) (bind-good _ _ (got-value (c .before .before .before .before .before .before .before .before .read-row .ensures) (ap rowAnswer (c .before .before .before .before .before .before .life .given .1))) ∙ bind-fault _ _ (got-fault (c .before .before .before .before .read-left .ensures) (ap rowAnswer (c .before .before .k .given .1))))
+unfolding part
+returns-2 c =
+    let f = c .before .before .before .before .before .before .before .before in
+    fault-read _ (c .no-part .ensures) (bind-good _ _ (got-value (life (f .before .before)) (ap rowAnswer (f .life .given .1))) ∙ bind-fault _ _ (got-fault (left (c .before .before .before .before)) (ap rowAnswer (c .before .before .k .given .1))))
 
 returns-3 : tie.Need-returns-3
-unfolding part bytes
-returns-3 c = fault-read _ (c .no-part2 .ensures) (bind-fault _ _ (got-fault (c .before .before .before .before .read-row .ensures) (ap rowAnswer (c .before .before .k2 .given .1))))
+unfolding part
+returns-3 c = fault-read _ (c .no-part2 .ensures) (bind-fault _ _ (got-fault (life (c .before .before .before .before)) (ap rowAnswer (c .before .before .k2 .given .1))))
 
 pub read-part-spec : {M : Type 1} → statement M
 read-part-spec =
     tie.close
     (tie.spec
-    slice-aggregate-read-row
-    read-row-requires
+    sub-read-field
+    part-read-field-start
+    part-read-field-end
+    slice-aggregate-read-field
+    read-field-requires
+    advance-requires
     enum-known-life
+    sub-read-left
+    part-read-left-start
+    part-read-left-end
     read-left-requires
+    advance-requires-2
     enum-known-left
     read-prices-requires
     enum-known-k

@@ -1,18 +1,19 @@
 -- `read_price`: the line's row.
 use borrow.Author.Needs.{needs}
 use Rattle.lines.specs.Text.{bytes}
+use Rattle.lines.proofs.Parsing.{row-line}
 use Rattle.job_text.proofs.parts.read_price.Statement.{statement}
 use Rattle.job_text.proofs.parts.read_price.Tie as tie
 
-slice-aggregate-read-row : tie.Need-slice-aggregate-read-row
-slice-aggregate-read-row c = search needs
+slice-aggregate-read-field : tie.Need-slice-aggregate-read-field
+slice-aggregate-read-field c = search needs
 
-read-row-requires : tie.Need-read-row-requires
-read-row-requires c κs = search needs
+read-field-requires : tie.Need-read-field-requires
+read-field-requires c κs = search needs
 
 returns : tie.Need-returns
 unfolding bytes
-returns c = c .read-row .ensures
+returns c = row-line _ 1 1000000 _ (c .read-field .ensures)
 
 pub read-price-spec : {M : Type 1} → statement M
-read-price-spec = tie.close (tie.spec slice-aggregate-read-row read-row-requires returns)
+read-price-spec = tie.close (tie.spec slice-aggregate-read-field read-field-requires returns)

@@ -5,10 +5,9 @@ use borrow.Author.Needs.{needs}
 use mathlib.Core.Path.{_≡_, refl, ap, sym, _∙_}
 use lib.ListN.{length, drop, take, length-set}
 use Rattle.lines.specs.Parser.{good, chain, times, row}
-use Rattle.lines.specs.Cursor.{ended}
-use Rattle.lines.specs.Cursor.{Stands, rowAnswer}
+use Rattle.lines.specs.Cursor.{Stands, Reads, rowAnswer, ended}
 use Rattle.lines.proofs.Arrays.{take-more}
-use Rattle.lines.proofs.Parsing.{got-value, got-fault, got-place, behind, chain-start, chain-more, chain-fault, chain-end}
+use Rattle.lines.proofs.Parsing.{line-inside, line-reads, got-value, got-fault, got-place, behind, chain-start, chain-more, chain-fault, chain-end}
 use Rattle.job_text.proofs.parts.read_prices.Statement.{statement}
 use Rattle.job_text.proofs.parts.read_prices.Tie as tie
 
@@ -25,8 +24,25 @@ loop-holds : tie.Need-loop-holds Inv-loop μ-loop
 unfolding times
 loop-holds c = (omega arith, refl, c .before .pre .0, chain-start _ _ _ _ _ _)
 
+sub-read-price : tie.Need-sub-read-price Inv-loop μ-loop
+sub-read-price c = c .before .loop .inv .2 .inside
+
+part-read-price-start : tie.Need-part-read-price-start Inv-loop μ-loop
+part-read-price-start c = c .before .loop .inv .2 .inside
+
+part-read-price-end : tie.Need-part-read-price-end Inv-loop μ-loop
+part-read-price-end c = search needs
+
 read-price-requires : tie.Need-read-price-requires Inv-loop μ-loop
-read-price-requires c κs = c .before .loop .inv .2
+read-price-requires c κs = search needs
+
+advance-requires : tie.Need-advance-requires Inv-loop μ-loop
+advance-requires c κs = let l = c .before .before .before .loop in (l .inv .2, line-inside _ (l .q) (c .read-price .ensures) (l .inv .2))
+
+-- the price's line, read in the whole text
+price : (c : tie.After-advance Inv-loop μ-loop) → let q = c .before .before .before .before .loop .q in let text = c .before .before .before .before .before .before .args .text .now in
+    Reads text (rowAnswer (c .advance .result)) (row "price=" 1 1000000 (drop (q .at) text) (q .line))
+price c = line-reads _ (c .before .before .before .before .loop .q) (c .before .read-price .ensures) (c .advance .ensures)
 
 enum-known-v : tie.Need-enum-known-v Inv-loop μ-loop
 enum-known-v c = search needs
@@ -35,7 +51,7 @@ mul-prices : tie.Need-mul-prices Inv-loop μ-loop
 mul-prices c = search needs
 
 array-write-prices : tie.Need-array-write-prices Inv-loop μ-loop
-array-write-prices c = omega (arith, c .before .before .before .before .before .before .before .pre .1)
+array-write-prices c = omega (arith, c .before .before .before .before .before .before .before .before .before .pre .1)
 
 add-i : tie.Need-add-i Inv-loop μ-loop
 add-i c = omega arith
@@ -45,14 +61,14 @@ loop-less c = omega arith
 
 loop-again : tie.Need-loop-again Inv-loop μ-loop
 loop-again c =
-    let at = c .before .before .before .before .before in
+    let at = c .before .before .before .before .before .before .before in
     let v = at .loop .inv in
-    let e = c .before .before .before .read-price .ensures in
+    let e = price (c .before .before .before) in
     let m = ap rowAnswer (c .before .v .given .1) in (
       omega arith,
       simp length-set (v .1),
       got-place e m,
-      v .3 ∙ chain-more _ _ (at .before .before .args .n) (at .loop .i) _ _ _ _ (c .before .before .before .before .loop-test .taken) (got-value e m)
+      v .3 ∙ chain-more _ _ (at .before .before .args .n) (at .loop .i) _ _ _ _ (c .before .before .before .before .before .before .loop-test .taken) (got-value e m)
           (take-more (at .loop .i) (at .loop .prices) _ (omega (arith, at .before .before .pre .1))),
     )
 
@@ -62,8 +78,8 @@ enum-known-k c = search needs
 returns : tie.Need-returns Inv-loop μ-loop
 unfolding ended
 returns c =
-    let at = c .before .before .before .before .before in
-    record { is = sym (at .loop .inv .3 ∙ chain-fault _ _ (at .before .before .args .n) (at .loop .i) _ _ _ _ (c .before .before .before .before .loop-test .taken) (got-fault (c .before .before .before .read-price .ensures) (ap rowAnswer (c .before .k .given .1)))); stands = tt }
+    let at = c .before .before .before .before .before .before .before in
+    record { is = sym (at .loop .inv .3 ∙ chain-fault _ _ (at .before .before .args .n) (at .loop .i) _ _ _ _ (c .before .before .before .before .before .before .loop-test .taken) (got-fault (price (c .before .before .before)) (ap rowAnswer (c .before .k .given .1)))); stands = tt }
 
 returns-2 : tie.Need-returns-2 Inv-loop μ-loop
 unfolding ended
@@ -79,7 +95,11 @@ read-prices-spec =
     Inv-loop
     μ-loop
     loop-holds
+    sub-read-price
+    part-read-price-start
+    part-read-price-end
     read-price-requires
+    advance-requires
     enum-known-v
     mul-prices
     array-write-prices

@@ -1,46 +1,39 @@
 -- `read_rising`: the line's row, and then the rule that steps rise and stay within the horizon.
 use borrow.Author.Needs.{needs}
-use mathlib.Core.Path.{ap, sym}
-use Rattle.lines.specs.Cursor.{rowAnswer}
-use Rattle.lines.proofs.Parsing.{checked-good, checked-not, checked-fault, rising-yes, rising-low, rising-high, got-value, got-fault, got-place}
+use mathlib.Core.Path.{sym, _∙_}
+use Rattle.lines.specs.Parser.{rowAt}
+use Rattle.lines.specs.Cursor.{LineRead}
+use Rattle.lines.specs.declared.read.Field.the-variants.{Value}
+use Rattle.lines.proofs.Parsing.{row-line, line-ruled, line-broken, line-fault, rising-yes, rising-low, rising-high}
 use Rattle.job_text.proofs.steps.read_rising.Statement.{statement}
 use Rattle.job_text.proofs.steps.read_rising.Tie as tie
 
-read-row-requires : tie.Need-read-row-requires
-read-row-requires c κs = search needs
+read-field-requires : tie.Need-read-field-requires
+read-field-requires c κs = search needs
 
 enum-known-v : tie.Need-enum-known-v
 enum-known-v c = search needs
 
+-- the row that was read
+found : (c : tie.After-v) → let a = c .before .before .before .before .before .args in LineRead (rowAt (a .key .now) 1 365) (a .s .now) (Value (c .v .given .0 .0) (c .v .given .0 .1 .0))
+found c = row-line _ 1 365 _ (sym (c .v .given .1) ∙ c .before .before .read-field .ensures)
+
 returns : tie.Need-returns
-returns c =
-    record { is = sym (checked-not _ _ _ _ _ (got-value (c .before .before .before .before .read-row .ensures) (ap rowAnswer (c .before .before .v .given .1))) (rising-low _ _ _ (c .if1 .taken))); stands = tt }
+returns c = line-broken _ _ _ _ (found (c .before .before)) (rising-low _ _ _ (c .if1 .taken))
 
 returns-2 : tie.Need-returns-2
-returns-2 c =
-    record { is = sym (checked-not _ _ _ _ _ (got-value (c .before .before .before .before .before .read-row .ensures) (ap rowAnswer (c .before .before .before .v .given .1))) (rising-high _ _ _ (c .before .if1 .left) (c .if2 .taken))); stands = tt }
+returns-2 c = line-broken _ _ _ _ (found (c .before .before .before)) (rising-high _ _ _ (c .before .if1 .left) (c .if2 .taken))
 
 enum-known-k : tie.Need-enum-known-k
 enum-known-k c = search needs
 
 returns-3 : tie.Need-returns-3
-returns-3 c =
-    let e = c .before .before .before .before .before .read-row .ensures in
-    let m = ap rowAnswer (c .before .before .before .v .given .1) in
-    record { is = sym (checked-good _ _ _ _ _ (got-value e m) (rising-yes _ _ _ (c .before .if1 .left) (c .if2 .left))); stands = got-place e m }
+returns-3 c = line-ruled _ _ _ _ (found (c .before .before .before)) (rising-yes _ _ _ (c .before .if1 .left) (c .if2 .left))
 
 returns-4 : tie.Need-returns-4
-returns-4 c =
-    record { is = sym (checked-fault _ _ _ _ _ (got-fault (c .before .before .before .read-row .ensures) (ap rowAnswer (c .before .k .given .1)))); stands = tt }
+returns-4 c = line-fault _ _ _ _ (row-line _ 1 365 _ (sym (c .before .k .given .1) ∙ c .before .before .before .read-field .ensures))
 
 pub read-rising-spec : {M : Type 1} → statement M
 read-rising-spec =
     tie.close
-    (tie.spec
-    read-row-requires
-    enum-known-v
-    returns
-    returns-2
-    enum-known-k
-    returns-3
-    returns-4)
+    (tie.spec read-field-requires enum-known-v returns returns-2 enum-known-k returns-3 returns-4)

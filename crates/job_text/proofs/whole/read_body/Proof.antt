@@ -1,11 +1,11 @@
 -- `read_body`: the openings, the number of parts and the parts, each where the one before ends; the first fault is the whole's.
 use mathlib.Core.Path.{ap, sym, _∙_}
 use mathlib.Core.List.{List, map}
-use lib.ListN.{take}
+use lib.ListN.{take, drop}
 use Rattle.lines.specs.Text.{bytes}
-use Rattle.lines.specs.Parser.{times}
-use Rattle.lines.specs.Cursor.{rowAnswer}
-use Rattle.lines.proofs.Parsing.{bind-good, bind-fault, got-value, got-fault, got-place, got-most, end-value, end-fault, end-place, map-read}
+use Rattle.lines.specs.Parser.{times, row}
+use Rattle.lines.specs.Cursor.{Stands, Reads, rowAnswer}
+use Rattle.lines.proofs.Parsing.{bind-good, bind-fault, row-line, line-inside, line-reads, got-value, got-fault, got-place, got-most, end-value, end-fault, end-place, map-read}
 use Rattle.model.specs.Model.{Part}
 use Rattle.job_text.specs.Grammar.{JobText, part, body}
 use Rattle.jobs.specs.Views.{openingOf}
@@ -21,11 +21,26 @@ read-openings-requires c κs = search needs
 enum-known-os-end : tie.Need-enum-known-os-end
 enum-known-os-end c = search needs
 
-slice-aggregate-read-row : tie.Need-slice-aggregate-read-row
-slice-aggregate-read-row c = search needs
+stood : (c : tie.After-os-end) → Stands (c .before .before .before .before .args .text .now) (c .os-end .given .0 .0)
+stood c = end-place _ (c .before .before .read-openings .ensures) (c .os-end .given .1)
 
-read-row-requires : tie.Need-read-row-requires
-read-row-requires c κs = end-place _ (c .before .before .before .before .read-openings .ensures) (c .before .before .os-end .given .1)
+sub-read-field : tie.Need-sub-read-field
+sub-read-field c = stood (c .before) .inside
+
+part-read-field-start : tie.Need-part-read-field-start
+part-read-field-start c = stood (c .before) .inside
+
+part-read-field-end : tie.Need-part-read-field-end
+part-read-field-end c = search needs
+
+slice-aggregate-read-field : tie.Need-slice-aggregate-read-field
+slice-aggregate-read-field c = search needs
+
+read-field-requires : tie.Need-read-field-requires
+read-field-requires c κs = search needs
+
+advance-requires : tie.Need-advance-requires
+advance-requires c κs = let s = stood (c .before .before .before .before) in (s, line-inside _ (c .before .before .before .before .os-end .given .0 .0) (row-line _ 1 16 _ (c .read-field .ensures)) s)
 
 enum-known-m : tie.Need-enum-known-m
 enum-known-m c = search needs
@@ -33,11 +48,16 @@ enum-known-m c = search needs
 cast-part-count : tie.Need-cast-part-count
 cast-part-count c = search needs
 
+-- the line of the number of parts, read in the whole text
+count : (c : tie.After-advance) → let q = c .before .before .before .before .before .os-end .given .0 .0 in let text = c .before .before .before .before .before .before .before .before .before .args .text .now in Reads text (rowAnswer (c .advance .result)) (row "parts=" 1 16 (drop (q .at) text) (q .line))
+unfolding bytes
+count c = line-reads _ (c .before .before .before .before .before .os-end .given .0 .0) (row-line _ 1 16 _ (c .before .read-field .ensures)) (c .advance .ensures)
+
 read-parts-requires : tie.Need-read-parts-requires
 read-parts-requires c κs =
-    let e = c .before .before .before .read-row .ensures in
+    let e = count (c .before .before .before) in
     let m = ap rowAnswer (c .before .m .given .1) in
-    (got-place e m, (got-most _ _ 1 16 _ e m, c .before .before .before .before .before .before .before .before .before .before .pre .2))
+    (got-place e m, (got-most _ _ 1 16 _ e m, c .before .before .before .before .before .before .before .before .before .before .before .before .pre .2))
 
 enum-known-k : tie.Need-enum-known-k
 enum-known-k c = search needs
@@ -52,35 +72,36 @@ no-job-requires-2 : tie.Need-no-job-requires-2
 no-job-requires-2 c κs = search needs
 
 returns : tie.Need-returns
-unfolding body bytes
+unfolding body
 returns c =
     let row = c .before .before .before .before .before .before .before in
-    let os = row .before .before .before .before .before .read-openings in
-    let start = row .before .before .before .before .before .before .before in
+    let os = row .before .before .before .before .before in
+    let start = row .before .before .before .before .before .before .before .before .before in
     let a = start .args in
     let make : List Part → JobText = λ ps. record {
       horizon = a .horizon;
       idles = idleLines (idlesOf (a .steps));
       walk = a .walk;
-      openings = map openingOf (take (a .n) (os .result .openings));
+      openings = map openingOf (take (a .n) (os .before .before .read-openings .result .openings));
       parts = ps;
     } in
     let r = map-read make (times (c .before .before .before .before .before .m .given .0 .0) (part (a .n))) _ _ (c .before .before .before .read-parts .ensures) in
     let m = ap rowAnswer (c .before .before .before .before .before .m .given .1) in
     record {
       reads = record {
-        is = r .is ∙ sym (bind-good _ _ (end-value _ (os .ensures) (row .before .before .before .os-end .given .1)) ∙ bind-good _ _ (got-value (row .read-row .ensures) m));
+        is = r .is ∙ sym (bind-good _ _ (end-value _ (os .before .before .read-openings .ensures) (os .os-end .given .1)) ∙ bind-good _ _ (got-value (count row) m));
         stands = r .stands;
       };
-      sized = record { idles = start .pre .1; openings = start .pre .2; parts = got-most _ _ 1 16 _ (row .read-row .ensures) m };
+      sized = record { idles = start .pre .1; openings = start .pre .2; parts = got-most _ _ 1 16 _ (count row) m };
     }
 
 returns-2 : tie.Need-returns-2
-unfolding body bytes
+unfolding body
 returns-2 c =
+    let os = c .before .before .before .before .before .before .before .before .before in
     refuse _ (c .no-job .ensures)
-    (bind-good _ _ (end-value _ (c .before .before .before .before .before .before .before .before .before .read-openings .ensures) (c .before .before .before .before .before .before .before .os-end .given .1))
-    ∙ bind-fault _ _ (got-fault (c .before .before .before .before .read-row .ensures) (ap rowAnswer (c .before .before .k .given .1))))
+    (bind-good _ _ (end-value _ (os .before .before .read-openings .ensures) (os .os-end .given .1))
+    ∙ bind-fault _ _ (got-fault (count (c .before .before .before .before)) (ap rowAnswer (c .before .before .k .given .1))))
 
 returns-3 : tie.Need-returns-3
 unfolding body
@@ -92,8 +113,12 @@ read-body-spec =
     (tie.spec
     read-openings-requires
     enum-known-os-end
-    slice-aggregate-read-row
-    read-row-requires
+    sub-read-field
+    part-read-field-start
+    part-read-field-end
+    slice-aggregate-read-field
+    read-field-requires
+    advance-requires
     enum-known-m
     cast-part-count
     read-parts-requires

@@ -6,9 +6,9 @@ use native.Mathlib.Omega.{arith}
 use borrow.Author.Needs.{needs}
 use lib.ListN.{length, drop, length-set}
 use Rattle.lines.specs.Parser.{good, chain}
-use Rattle.lines.specs.Cursor.{Stands, rowAnswer, ended}
+use Rattle.lines.specs.Cursor.{Stands, Reads, rowAnswer, ended}
 use Rattle.lines.specs.declared.rows.Cursor.{Cursor}
-use Rattle.lines.proofs.Parsing.{got-value, got-fault, got-place, behind, chain-start, chain-more, chain-fault, chain-end}
+use Rattle.lines.proofs.Parsing.{line-inside, line-reads, got-value, got-fault, got-place, behind, chain-start, chain-more, chain-fault, chain-end}
 use Rattle.jobs.specs.declared.Job.{Job}
 use Rattle.jobs.specs.Views.{jobOf, changesFor}
 use Rattle.plan_text.specs.Grammar.{part, parts}
@@ -54,16 +54,33 @@ loop-holds c =
           (changes-length (s .args .job .«opening_count») _ (s .args .changes) (omega (arith, s .pre .1)) ∙ sym (count s));
     }
 
+sub-read-number : tie.Need-sub-read-number Inv-loop μ-loop
+sub-read-number c = c .before .loop .inv .stands .inside
+
+part-read-number-start : tie.Need-part-read-number-start Inv-loop μ-loop
+part-read-number-start c = c .before .loop .inv .stands .inside
+
+part-read-number-end : tie.Need-part-read-number-end Inv-loop μ-loop
+part-read-number-end c = search needs
+
 read-number-requires : tie.Need-read-number-requires Inv-loop μ-loop
-read-number-requires c κs = c .before .loop .inv .stands
+read-number-requires c κs = search needs
+
+advance-requires : tie.Need-advance-requires Inv-loop μ-loop
+advance-requires c κs = let l = c .before .before .before .loop in (l .inv .stands, line-inside _ (l .q) (c .read-number .ensures) (l .inv .stands))
+
+-- the part's line, read in the whole text
+number : (c : tie.After-advance Inv-loop μ-loop) → let l = c .before .before .before .before .loop in let a = c .before .before .before .before .before .before .args in
+    Reads (a .text .now) (rowAnswer (c .advance .result)) (part (a .job .«part_count») (l .before) (drop (l .q .at) (a .text .now)) (l .q .line))
+number c = line-reads _ (c .before .before .before .before .loop .q) (c .before .read-number .ensures) (c .advance .ensures)
 
 enum-known-k : tie.Need-enum-known-k Inv-loop μ-loop
 enum-known-k c = search needs
 
 -- the number read is that of a part
-known : (c : tie.After-k Inv-loop μ-loop) → let l = c .before .before .before .before .loop in
-    (l .before < c .k .given .0 .0) × (c .k .given .0 .0 ≤ c .before .before .before .before .before .before .args .job .«part_count»)
-known c = part-gives _ _ _ _ _ _ _ (got-value (c .before .before .read-number .ensures) (ap rowAnswer (c .k .given .1)))
+known : (c : tie.After-k Inv-loop μ-loop) → let l = c .before .before .before .before .before .before .loop in
+    (l .before < c .k .given .0 .0) × (c .k .given .0 .0 ≤ c .before .before .before .before .before .before .before .before .args .job .«part_count»)
+known c = part-gives _ _ _ _ _ _ _ (got-value (number (c .before .before)) (ap rowAnswer (c .k .given .1)))
 
 sub-j : tie.Need-sub-j Inv-loop μ-loop
 sub-j c = omega (arith, known (c .before))
@@ -72,45 +89,45 @@ cast-j : tie.Need-cast-j Inv-loop μ-loop
 cast-j c = search needs
 
 mul-row : tie.Need-mul-row Inv-loop μ-loop
-mul-row c = omega (arith, known (c .before), c .before .before .before .before .before .before .before .pre .1)
+mul-row c = omega (arith, known (c .before), c .before .before .before .before .before .before .before .before .before .pre .1)
 
 array-copy-out-row : tie.Need-array-copy-out-row Inv-loop μ-loop
-array-copy-out-row c = omega (arith, known (c .before), c .before .before .before .before .before .before .before .pre .1)
+array-copy-out-row c = omega (arith, known (c .before), c .before .before .before .before .before .before .before .before .before .pre .1)
 
 mark-requires : tie.Need-mark-requires Inv-loop μ-loop
-mark-requires c κs = c .before .before .before .before .before .before .before .before .before .pre .1
+mark-requires c κs = c .before .before .before .before .before .before .before .before .before .before .before .pre .1
 
 mul-marks : tie.Need-mul-marks Inv-loop μ-loop
-mul-marks c = omega (arith, known (c .before .before .before .before), c .before .before .before .before .before .before .before .before .before .before .pre .1)
+mul-marks c = omega (arith, known (c .before .before .before .before), c .before .before .before .before .before .before .before .before .before .before .before .before .pre .1)
 
 array-set-from-marks : tie.Need-array-set-from-marks Inv-loop μ-loop
-array-set-from-marks c = omega (arith, known (c .before .before .before .before), c .before .before .before .before .before .before .before .before .before .before .pre .1)
+array-set-from-marks c = omega (arith, known (c .before .before .before .before), c .before .before .before .before .before .before .before .before .before .before .before .before .pre .1)
 
 add-i : tie.Need-add-i Inv-loop μ-loop
-add-i c = omega (arith, c .before .before .before .before .before .before .before .before)
+add-i c = omega (arith, c .before .before .before .before .before .before .before .before .before .before)
 
 loop-less : tie.Need-loop-less Inv-loop μ-loop
-loop-less c = omega (arith, c .before .before .before .before .before .before .before)
+loop-less c = omega (arith, c .before .before .before .before .before .before .before .before .before)
 
 loop-again : tie.Need-loop-again Inv-loop μ-loop
 loop-again c =
-    let at = c .before .before .before .before .before .before .before .before in
+    let at = c .before .before .before .before .before .before .before .before .before .before in
     let s = at .before .before in
     let job = s .args .job in
     let m = job .«part_count» in
     let l = at .loop in
     let v = l .inv in
     let k = c .before .before .before .before .k .given .0 .0 in
-    let e = c .before .before .before .before .before .before .read-number .ensures in
+    let e = number (c .before .before .before .before .before .before) in
     let r = ap rowAnswer (c .before .before .before .before .k .given .1) in
     let low : 1 ≤ k = omega (arith, known (c .before .before .before .before)) in
     let high : k ≤ m = known (c .before .before .before .before) .1 in
     record {
-      few = omega (arith, c .before .before .before .before .before .before .before);
+      few = omega (arith, c .before .before .before .before .before .before .before .before .before);
       long = simp length-set (v .long);
       stands = got-place e r;
       ks = v .ks ++ k ∷ [];
-      read = v .read ∙ chain-more _ _ (s .args .n) (l .i) _ _ _ _ (c .before .before .before .before .before .before .before .loop-test .taken) (got-value e r) refl;
+      read = v .read ∙ chain-more _ _ (s .args .n) (l .i) _ _ _ _ (c .before .before .before .before .before .before .before .before .before .loop-test .taken) (got-value e r) refl;
       marked = changes-more (jobOf job) (job .«opening_count») m (s .args .step) (changesFor job (s .args .changes)) (l .marks) (v .ks) k (c .mark .result)
           (count s) (omega (arith, s .pre .1)) low high (v .marked) (c .mark .ensures);
     }
@@ -121,12 +138,12 @@ enum-known-k-2 c = search needs
 returns : tie.Need-returns Inv-loop μ-loop
 unfolding ended
 returns c =
-    let at = c .before .before .before .before .before in
+    let at = c .before .before .before .before .before .before .before in
     let v = at .loop .inv in
     record {
       ks = v .ks;
       reads = record {
-        is = sym (v .read ∙ chain-fault _ _ (at .before .before .args .n) (at .loop .i) _ _ _ _ (c .before .before .before .before .loop-test .taken) (got-fault (c .before .before .before .read-number .ensures) (ap rowAnswer (c .before .k2 .given .1))));
+        is = sym (v .read ∙ chain-fault _ _ (at .before .before .args .n) (at .loop .i) _ _ _ _ (c .before .before .before .before .before .before .loop-test .taken) (got-fault (number (c .before .before .before)) (ap rowAnswer (c .before .k2 .given .1))));
         stands = tt;
       };
       marks = v .marked;
@@ -150,7 +167,11 @@ read-changes-spec =
     Inv-loop
     μ-loop
     loop-holds
+    sub-read-number
+    part-read-number-start
+    part-read-number-end
     read-number-requires
+    advance-requires
     enum-known-k
     sub-j
     cast-j

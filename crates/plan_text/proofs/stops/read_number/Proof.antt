@@ -1,56 +1,57 @@
 -- `stops::read_number` meets its contract, by the laws of a checked line.
 use borrow.Author.Needs.{needs}
-use mathlib.Core.Path.{ap, sym}
+use mathlib.Core.Path.{sym, _∙_}
 use Rattle.lines.specs.Text.{bytes}
-use Rattle.lines.specs.Cursor.{rowAnswer}
-use Rattle.lines.proofs.Parsing.{checked-good, checked-not, checked-fault, rising-yes, rising-low, rising-high, got-value, got-fault, got-place}
+use Rattle.lines.specs.Parser.{row}
+use Rattle.lines.specs.Cursor.{LineRead}
+use Rattle.lines.specs.declared.read.Field.the-variants.{Value}
+use Rattle.lines.proofs.Parsing.{row-line, line-ruled, line-broken, line-fault, rising-yes, rising-low, rising-high}
 use Rattle.plan_text.specs.Grammar.{part}
 use Rattle.plan_text.proofs.stops.read_number.Statement.{statement}
 use Rattle.plan_text.proofs.stops.read_number.Tie as tie
 
-slice-aggregate-read-row : tie.Need-slice-aggregate-read-row
-slice-aggregate-read-row c = search needs
+slice-aggregate-read-field : tie.Need-slice-aggregate-read-field
+slice-aggregate-read-field c = search needs
 
-read-row-requires : tie.Need-read-row-requires
-read-row-requires c κs = search needs
+read-field-requires : tie.Need-read-field-requires
+read-field-requires c κs = search needs
 
 enum-known-part : tie.Need-enum-known-part
 enum-known-part c = search needs
 
+-- the row that was read
+found : (c : tie.After-part) → let a = c .before .before .before .before .before .args in LineRead (row "part=" 1 16) (a .s .now) (Value (c .part .given .0 .0) (c .part .given .0 .1 .0))
+unfolding bytes
+found c = row-line _ 1 16 _ (sym (c .part .given .1) ∙ c .before .before .read-field .ensures)
+
 returns : tie.Need-returns
-unfolding part bytes
-returns c =
-    record { is = sym (checked-not _ _ _ _ _ (got-value (c .before .before .before .before .read-row .ensures) (ap rowAnswer (c .before .before .part .given .1))) (rising-low _ _ _ (c .if1 .taken))); stands = tt }
+unfolding part
+returns c = line-broken _ _ _ _ (found (c .before .before)) (rising-low _ _ _ (c .if1 .taken))
 
 cast-if2 : tie.Need-cast-if2
 cast-if2 c = search needs
 
 returns-2 : tie.Need-returns-2
-unfolding part bytes
-returns-2 c =
-    record { is = sym (checked-not _ _ _ _ _ (got-value (c .before .before .before .before .before .read-row .ensures) (ap rowAnswer (c .before .before .before .part .given .1))) (rising-high _ _ _ (c .before .if1 .left) (c .if2 .taken))); stands = tt }
+unfolding part
+returns-2 c = line-broken _ _ _ _ (found (c .before .before .before)) (rising-high _ _ _ (c .before .if1 .left) (c .if2 .taken))
 
 enum-known-k : tie.Need-enum-known-k
 enum-known-k c = search needs
 
 returns-3 : tie.Need-returns-3
-unfolding part bytes
-returns-3 c =
-    let e = c .before .before .before .before .before .read-row .ensures in
-    let m = ap rowAnswer (c .before .before .before .part .given .1) in
-    record { is = sym (checked-good _ _ _ _ _ (got-value e m) (rising-yes _ _ _ (c .before .if1 .left) (c .if2 .left))); stands = got-place e m }
+unfolding part
+returns-3 c = line-ruled _ _ _ _ (found (c .before .before .before)) (rising-yes _ _ _ (c .before .if1 .left) (c .if2 .left))
 
 returns-4 : tie.Need-returns-4
 unfolding part bytes
-returns-4 c =
-    record { is = sym (checked-fault _ _ _ _ _ (got-fault (c .before .before .before .read-row .ensures) (ap rowAnswer (c .before .k .given .1)))); stands = tt }
+returns-4 c = line-fault _ _ _ _ (row-line _ 1 16 _ (sym (c .before .k .given .1) ∙ c .before .before .before .read-field .ensures))
 
 pub read-number-spec : {M : Type 1} → statement M
 read-number-spec =
     tie.close
     (tie.spec
-    slice-aggregate-read-row
-    read-row-requires
+    slice-aggregate-read-field
+    read-field-requires
     enum-known-part
     returns
     cast-if2

@@ -1,30 +1,35 @@
 -- `stops::read_step` meets its contract, by the laws of a checked line.
 use borrow.Author.Needs.{needs}
-use mathlib.Core.Path.{_≡_, ap, sym, _∙_}
+use mathlib.Core.Path.{_≡_, sym, _∙_}
 use mathlib.Core.Bool.{_&&_}
 use lib.Dec.{ltb}
 use borrow.Author.Tests.{le-ltb, lt-ltb}
 use Rattle.lines.specs.Text.{bytes}
-use Rattle.lines.specs.Cursor.{rowAnswer}
-use Rattle.lines.proofs.Parsing.{checked-good, checked-not, checked-fault, got-value, got-fault, got-place}
+use Rattle.lines.specs.Parser.{row}
+use Rattle.lines.specs.Cursor.{LineRead}
+use Rattle.lines.specs.declared.read.Field.the-variants.{Value}
+use Rattle.lines.proofs.Parsing.{row-line, line-ruled, line-broken, line-fault}
 use Rattle.jobs.specs.Views.{jobOf}
 use Rattle.plan_text.specs.Grammar.{isOpening}
 use Rattle.plan_text.proofs.stops.read_step.Statement.{statement}
 use Rattle.plan_text.proofs.stops.read_step.Tie as tie
 
-slice-aggregate-read-row : tie.Need-slice-aggregate-read-row
-slice-aggregate-read-row c = search needs
+slice-aggregate-read-field : tie.Need-slice-aggregate-read-field
+slice-aggregate-read-field c = search needs
 
-read-row-requires : tie.Need-read-row-requires
-read-row-requires c κs = search needs
+read-field-requires : tie.Need-read-field-requires
+read-field-requires c κs = search needs
 
 enum-known-step : tie.Need-enum-known-step
 enum-known-step c = search needs
 
-returns : tie.Need-returns
+-- the row that was read
+found : (c : tie.After-step) → let a = c .before .before .before .before .before .args in LineRead (row "stop=" 1 365) (a .s .now) (Value (c .step .given .0 .0) (c .step .given .0 .1 .0))
 unfolding bytes
-returns c =
-    record { is = sym (checked-not _ _ _ _ _ (got-value (c .before .before .before .before .read-row .ensures) (ap rowAnswer (c .before .before .step .given .1))) (rw (le-ltb _ _ (c .if1 .taken)))); stands = tt }
+found c = row-line _ 1 365 _ (sym (c .step .given .1) ∙ c .before .before .read-field .ensures)
+
+returns : tie.Need-returns
+returns c = line-broken _ _ _ _ (found (c .before .before)) (rw (le-ltb _ _ (c .if1 .taken)))
 
 is-opening-requires : tie.Need-is-opening-requires
 is-opening-requires c κs = search needs
@@ -35,31 +40,24 @@ tested : (c : tie.After-is-opening) → let a = c .before .before .before .befor
 tested c = rw (lt-ltb _ _ (c .before .if1 .left)) (sym (c .is-opening .ensures))
 
 returns-2 : tie.Need-returns-2
-unfolding bytes
-returns-2 c =
-    let e = c .before .before .before .before .before .before .read-row .ensures in
-    let m = ap rowAnswer (c .before .before .before .before .step .given .1) in
-    record { is = sym (checked-good _ _ _ _ _ (got-value e m) (tested (c .before) ∙ c .if2 .taken)); stands = got-place e m }
+returns-2 c = line-ruled _ _ _ _ (found (c .before .before .before .before)) (tested (c .before) ∙ c .if2 .taken)
 
 enum-known-k : tie.Need-enum-known-k
 enum-known-k c = search needs
 
 returns-3 : tie.Need-returns-3
-unfolding bytes
-returns-3 c =
-    record { is = sym (checked-not _ _ _ _ _ (got-value (c .before .before .before .before .before .before .read-row .ensures) (ap rowAnswer (c .before .before .before .before .step .given .1))) (tested (c .before) ∙ c .if2 .left)); stands = tt }
+returns-3 c = line-broken _ _ _ _ (found (c .before .before .before .before)) (tested (c .before) ∙ c .if2 .left)
 
 returns-4 : tie.Need-returns-4
 unfolding bytes
-returns-4 c =
-    record { is = sym (checked-fault _ _ _ _ _ (got-fault (c .before .before .before .read-row .ensures) (ap rowAnswer (c .before .k .given .1)))); stands = tt }
+returns-4 c = line-fault _ _ _ _ (row-line _ 1 365 _ (sym (c .before .k .given .1) ∙ c .before .before .before .read-field .ensures))
 
 pub read-step-spec : {M : Type 1} → statement M
 read-step-spec =
     tie.close
     (tie.spec
-    slice-aggregate-read-row
-    read-row-requires
+    slice-aggregate-read-field
+    read-field-requires
     enum-known-step
     returns
     is-opening-requires

@@ -4,29 +4,63 @@ use mathlib.Core.List.{List}
 use borrow.Author.Needs.{needs}
 use lib.ListN.{drop}
 use Rattle.lines.specs.Text.{bytes}
-use Rattle.lines.specs.Parser.{return}
-use Rattle.lines.specs.Cursor.{Reads, rowAnswer, ended}
-use Rattle.lines.proofs.Parsing.{bind-good, bind-fault, got-value, got-fault, got-place, map-read, fault-read}
+use Rattle.lines.specs.Parser.{return, row}
+use Rattle.lines.specs.Cursor.{Stands, Reads, rowAnswer, ended}
+use Rattle.lines.proofs.Parsing.{bind-good, bind-fault, row-line, line-inside, line-reads, got-value, got-fault, got-place, map-read, fault-read}
 use Rattle.model.specs.Model as model
 use Rattle.jobs.specs.Views.{jobOf}
 use Rattle.plan_text.specs.Grammar.{Visit, Stated, visits, planOf, planLines}
 use Rattle.plan_text.proofs.whole.read_plan_lines.Statement.{statement}
 use Rattle.plan_text.proofs.whole.read_plan_lines.Tie as tie
 
-slice-aggregate-read-row : tie.Need-slice-aggregate-read-row
-slice-aggregate-read-row c = search needs
+sub-read-field : tie.Need-sub-read-field
+sub-read-field c = search needs
 
-read-row-requires : tie.Need-read-row-requires
-read-row-requires c κs = search needs
+part-read-field-start : tie.Need-part-read-field-start
+part-read-field-start c = search needs
+
+part-read-field-end : tie.Need-part-read-field-end
+part-read-field-end c = search needs
+
+slice-aggregate-read-field : tie.Need-slice-aggregate-read-field
+slice-aggregate-read-field c = search needs
+
+read-field-requires : tie.Need-read-field-requires
+read-field-requires c κs = search needs
+
+advance-requires : tie.Need-advance-requires
+advance-requires c κs =
+    let st = c .before .before .before .before in
+    (st .pre .0, line-inside _ (st .args .p) (row-line _ 0 2000000000 _ (c .read-field .ensures)) (st .pre .0))
 
 enum-known-cost : tie.Need-enum-known-cost
 enum-known-cost c = search needs
 
-slice-aggregate-read-row-2 : tie.Need-slice-aggregate-read-row-2
-slice-aggregate-read-row-2 c = search needs
+-- the cost's line, read in the whole text
+cost : (c : tie.After-advance) → let a = c .before .before .before .before .before .args in Reads (a .text .now) (rowAnswer (c .advance .result)) (row "cost=" 0 2000000000 (drop (a .p .at) (a .text .now)) (a .p .line))
+unfolding bytes
+cost c = line-reads _ (c .before .before .before .before .before .args .p) (row-line _ 0 2000000000 _ (c .before .read-field .ensures)) (c .advance .ensures)
 
-read-row-requires-2 : tie.Need-read-row-requires-2
-read-row-requires-2 c κs = got-place (c .before .before .before .before .read-row .ensures) (ap rowAnswer (c .before .before .cost .given .1))
+stood : (c : tie.After-cost) → Stands (c .before .before .before .before .before .before .before .args .text .now) (c .cost .given .0 .1 .0)
+stood c = got-place (cost (c .before .before)) (ap rowAnswer (c .cost .given .1))
+
+sub-read-field-2 : tie.Need-sub-read-field-2
+sub-read-field-2 c = stood (c .before) .inside
+
+part-read-field-start-2 : tie.Need-part-read-field-start-2
+part-read-field-start-2 c = stood (c .before) .inside
+
+part-read-field-end-2 : tie.Need-part-read-field-end-2
+part-read-field-end-2 c = search needs
+
+slice-aggregate-read-field-2 : tie.Need-slice-aggregate-read-field-2
+slice-aggregate-read-field-2 c = search needs
+
+read-field-requires-2 : tie.Need-read-field-requires-2
+read-field-requires-2 c κs = search needs
+
+advance-requires-2 : tie.Need-advance-requires-2
+advance-requires-2 c κs = let s = stood (c .before .before .before .before) in (s, line-inside _ (c .before .before .before .before .cost .given .0 .1 .0) (row-line _ 0 64 _ (c .read-field2 .ensures)) s)
 
 enum-known-n : tie.Need-enum-known-n
 enum-known-n c = search needs
@@ -34,8 +68,13 @@ enum-known-n c = search needs
 cast-read-visits : tie.Need-cast-read-visits
 cast-read-visits c = search needs
 
+-- the line of the number of stops, read in the whole text
+count : (c : tie.After-advance2) → let q = c .before .before .before .before .before .cost .given .0 .1 .0 in let text = c .before .before .before .before .before .before .before .before .before .before .before .before .args .text .now in Reads text (rowAnswer (c .advance2 .result)) (row "stops=" 0 64 (drop (q .at) text) (q .line))
+unfolding bytes
+count c = line-reads _ (c .before .before .before .before .before .cost .given .0 .1 .0) (row-line _ 0 64 _ (c .before .read-field2 .ensures)) (c .advance2 .ensures)
+
 read-visits-requires : tie.Need-read-visits-requires
-read-visits-requires c κs = (got-place (c .before .before .before .read-row2 .ensures) (ap rowAnswer (c .before .n .given .1)), c .before .before .before .before .before .before .before .before .before .before .before .pre .1)
+read-visits-requires c κs = (got-place (count (c .before .before .before)) (ap rowAnswer (c .before .n .given .1)), c .before .before .before .before .before .before .before .before .before .before .before .before .before .before .before .pre .1)
 
 enum-known-k : tie.Need-enum-known-k
 enum-known-k c = search needs
@@ -50,38 +89,48 @@ no-plan-requires-2 : tie.Need-no-plan-requires-2
 no-plan-requires-2 c κs = search needs
 
 returns : tie.Need-returns
-unfolding planLines return bytes
+unfolding planLines return
 returns c =
-    let a = c .before .before .before .before .before .before .before .before .before .before .before .before .before .args in
-    let cost = c .before .before .before .before .before .before .before .before .cost .given in
+    let a = c .before .before .before .before .before .before .before .before .before .before .before .before .before .before .before .before .before .args in
+    let s = c .before .before .before .before .before .before .before .before .before .before in
     let n = c .before .before .before .n .given in
     let read = c .before .read-visits .ensures in
-    let make : List Visit → Stated = λ vs. record { cost = cost .0 .0; plan = planOf (jobOf (a .job)) vs } in
+    let make : List Visit → Stated = λ vs. record { cost = s .cost .given .0 .0; plan = planOf (jobOf (a .job)) vs } in
     let r = map-read make (visits (jobOf (a .job)) (n .0 .0)) _ _ (read .reads) in
-    subst (λ (plan : model.Plan). Reads (a .text .now) (ended (c .before .read-visits .result .end) (record { cost = cost .0 .0; plan = plan })) (planLines (jobOf (a .job)) (drop (a .p .at) (a .text .now)) (a .p .line)))
+    subst (λ (plan : model.Plan). Reads (a .text .now) (ended (c .before .read-visits .result .end) (record { cost = s .cost .given .0 .0; plan = plan })) (planLines (jobOf (a .job)) (drop (a .p .at) (a .text .now)) (a .p .line)))
     (sym (read .makes))
     (record {
-      is = r .is ∙ sym (bind-good _ _ (got-value (c .before .before .before .before .before .before .before .before .before .before .read-row .ensures) (ap rowAnswer (cost .1))) ∙ bind-good _ _ (got-value (c .before .before .before .before .before .read-row2 .ensures) (ap rowAnswer (n .1))));
+      is = r .is ∙ sym (bind-good _ _ (got-value (cost (s .before .before)) (ap rowAnswer (s .cost .given .1))) ∙ bind-good _ _ (got-value (count (c .before .before .before .before .before)) (ap rowAnswer (n .1))));
       stands = r .stands;
     })
 
 returns-2 : tie.Need-returns-2
-unfolding planLines bytes
-returns-2 c = fault-read _ (c .no-plan .ensures) (bind-good _ _ (got-value (c .before .before .before .before .before .before .before .before .before .read-row .ensures) (ap rowAnswer (c .before .before .before .before .before .before .before .cost .given .1))) ∙ bind-fault _ _ (got-fault (c .before .before .before .before .read-row2 .ensures) (ap rowAnswer (c .before .before .k .given .1))))
+unfolding planLines
+returns-2 c =
+    let s = c .before .before .before .before .before .before .before .before .before in
+    fault-read _ (c .no-plan .ensures) (bind-good _ _ (got-value (cost (s .before .before)) (ap rowAnswer (s .cost .given .1))) ∙ bind-fault _ _ (got-fault (count (c .before .before .before .before)) (ap rowAnswer (c .before .before .k .given .1))))
 
 returns-3 : tie.Need-returns-3
-unfolding planLines bytes
-returns-3 c = fault-read _ (c .no-plan2 .ensures) (bind-fault _ _ (got-fault (c .before .before .before .before .read-row .ensures) (ap rowAnswer (c .before .before .k2 .given .1))))
+unfolding planLines
+returns-3 c = fault-read _ (c .no-plan2 .ensures) (bind-fault _ _ (got-fault (cost (c .before .before .before .before)) (ap rowAnswer (c .before .before .k2 .given .1))))
 
 pub read-plan-lines-spec : {M : Type 1} → statement M
 read-plan-lines-spec =
     tie.close
     (tie.spec
-    slice-aggregate-read-row
-    read-row-requires
+    sub-read-field
+    part-read-field-start
+    part-read-field-end
+    slice-aggregate-read-field
+    read-field-requires
+    advance-requires
     enum-known-cost
-    slice-aggregate-read-row-2
-    read-row-requires-2
+    sub-read-field-2
+    part-read-field-start-2
+    part-read-field-end-2
+    slice-aggregate-read-field-2
+    read-field-requires-2
+    advance-requires-2
     enum-known-n
     cast-read-visits
     read-visits-requires

@@ -1,4 +1,4 @@
--- `onward`: by the field, which ends in the text.
+-- `advance`: by the field, which ends in the text.
 use borrow.Author.Needs.{needs}
 use native.Mathlib.Omega.{arith}
 use mathlib.Core.Path.{sym, ap, _∙_, subst}
@@ -6,14 +6,14 @@ use Rattle.lines.specs.Parser.{taken}
 use Rattle.lines.specs.Cursor.{Inside}
 use Rattle.lines.specs.declared.read.Field.the-variants.{Value}
 use Rattle.lines.proofs.Parsing.{taken-good, taken-fault, stands-after}
-use Rattle.lines.proofs.rows.onward.Statement.{statement}
-use Rattle.lines.proofs.rows.onward.Tie as tie
+use Rattle.lines.proofs.rows.advance.Statement.{statement}
+use Rattle.lines.proofs.rows.advance.Tie as tie
 
 enum-known-field : tie.Need-enum-known-field
 enum-known-field c = search needs
 
 -- the field's line ends in the text
-within : (c : tie.After-field) → let a = c .before .before .args in Inside (a .text .now) (a .p) (Value (c .field .given .0 .0) (c .field .given .0 .1 .0))
+within : (c : tie.After-field) → let a = c .before .before .args in Inside (a .text .now) (a .p .at) (Value (c .field .given .0 .0) (c .field .given .0 .1 .0))
 within c = subst (Inside _ _) (c .field .given .1) (c .before .before .pre .1)
 
 add-t10 : tie.Need-add-t10
@@ -36,5 +36,5 @@ returns-2 c =
     let a = c .before .before .before .args in
     record { is = taken-fault (a .text .now) (a .p .at) (a .p .line) _ ∙ ap (taken _ _) (sym (c .before .field2 .given .1)); stands = tt }
 
-pub onward-spec : {M : Type 1} → statement M
-onward-spec = tie.close (tie.spec enum-known-field add-t10 add-t11 enum-known-field-2 returns returns-2)
+pub advance-spec : {M : Type 1} → statement M
+advance-spec = tie.close (tie.spec enum-known-field add-t10 add-t11 enum-known-field-2 returns returns-2)

@@ -1,0 +1,143 @@
+-- `read_rest`: two numbers and the body, each where the one before ends; the first fault is the whole's.
+use mathlib.Core.Path.{ap, sym, _∙_}
+use lib.ListN.{drop}
+use Rattle.lines.specs.Text.{bytes}
+use Rattle.lines.specs.Parser.{row}
+use Rattle.lines.specs.Cursor.{Stands, Reads, rowAnswer}
+use Rattle.lines.proofs.Parsing.{bind-good, bind-fault, row-line, line-inside, line-reads, got-value, got-fault, got-place, got-most}
+use Rattle.job_text.specs.Grammar.{rest}
+use Rattle.job_text.proofs.Views.{refuse}
+use borrow.Author.Needs.{needs}
+use Rattle.job_text.proofs.whole.read_rest.Statement.{statement}
+use Rattle.job_text.proofs.whole.read_rest.Tie as tie
+
+sub-read-field : tie.Need-sub-read-field
+sub-read-field c = search needs
+
+part-read-field-start : tie.Need-part-read-field-start
+part-read-field-start c = search needs
+
+part-read-field-end : tie.Need-part-read-field-end
+part-read-field-end c = search needs
+
+slice-aggregate-read-field : tie.Need-slice-aggregate-read-field
+slice-aggregate-read-field c = search needs
+
+read-field-requires : tie.Need-read-field-requires
+read-field-requires c κs = search needs
+
+advance-requires : tie.Need-advance-requires
+advance-requires c κs =
+    let st = c .before .before .before .before in
+    (st .pre .0, line-inside _ (st .args .p) (row-line _ 0 4000000000 _ (c .read-field .ensures)) (st .pre .0))
+
+enum-known-walk : tie.Need-enum-known-walk
+enum-known-walk c = search needs
+
+-- the walk's line, read in the whole text
+walk : (c : tie.After-advance) → let a = c .before .before .before .before .before .args in Reads (a .text .now) (rowAnswer (c .advance .result)) (row "walk=" 0 4000000000 (drop (a .p .at) (a .text .now)) (a .p .line))
+unfolding bytes
+walk c = line-reads _ (c .before .before .before .before .before .args .p) (row-line _ 0 4000000000 _ (c .before .read-field .ensures)) (c .advance .ensures)
+
+stood : (c : tie.After-walk) → Stands (c .before .before .before .before .before .before .before .args .text .now) (c .walk .given .0 .1 .0)
+stood c = got-place (walk (c .before .before)) (ap rowAnswer (c .walk .given .1))
+
+sub-read-field-2 : tie.Need-sub-read-field-2
+sub-read-field-2 c = stood (c .before) .inside
+
+part-read-field-start-2 : tie.Need-part-read-field-start-2
+part-read-field-start-2 c = stood (c .before) .inside
+
+part-read-field-end-2 : tie.Need-part-read-field-end-2
+part-read-field-end-2 c = search needs
+
+slice-aggregate-read-field-2 : tie.Need-slice-aggregate-read-field-2
+slice-aggregate-read-field-2 c = search needs
+
+read-field-requires-2 : tie.Need-read-field-requires-2
+read-field-requires-2 c κs = search needs
+
+advance-requires-2 : tie.Need-advance-requires-2
+advance-requires-2 c κs = let s = stood (c .before .before .before .before) in (s, line-inside _ (c .before .before .before .before .walk .given .0 .1 .0) (row-line _ 0 64 _ (c .read-field2 .ensures)) s)
+
+enum-known-n : tie.Need-enum-known-n
+enum-known-n c = search needs
+
+cast-read-body : tie.Need-cast-read-body
+cast-read-body c = search needs
+
+-- the line of the number of openings, read in the whole text
+count : (c : tie.After-advance2) → let q = c .before .before .before .before .before .walk .given .0 .1 .0 in let text = c .before .before .before .before .before .before .before .before .before .before .before .before .args .text .now in Reads text (rowAnswer (c .advance2 .result)) (row "openings=" 0 64 (drop (q .at) text) (q .line))
+unfolding bytes
+count c = line-reads _ (c .before .before .before .before .before .walk .given .0 .1 .0) (row-line _ 0 64 _ (c .before .read-field2 .ensures)) (c .advance2 .ensures)
+
+read-body-requires : tie.Need-read-body-requires
+read-body-requires c κs =
+    let e = count (c .before .before .before) in
+    let m = ap rowAnswer (c .before .n .given .1) in
+    (got-place e m, c .before .before .before .before .before .before .before .before .before .before .before .before .before .before .before .pre .1, got-most _ _ 0 64 _ e m)
+
+enum-known-k : tie.Need-enum-known-k
+enum-known-k c = search needs
+
+no-job-requires : tie.Need-no-job-requires
+no-job-requires c κs = search needs
+
+enum-known-k-2 : tie.Need-enum-known-k-2
+enum-known-k-2 c = search needs
+
+no-job-requires-2 : tie.Need-no-job-requires-2
+no-job-requires-2 c κs = search needs
+
+returns : tie.Need-returns
+unfolding rest
+returns c =
+    let e = c .read-body .ensures in
+    let w = c .before .before .before .before .before .before .before .before .before in
+    record {
+      reads = record {
+        is = e .reads .is ∙ sym (bind-good _ _ (got-value (walk (w .before .before)) (ap rowAnswer (w .walk .given .1))) ∙ bind-good _ _ (got-value (count (c .before .before .before .before)) (ap rowAnswer (c .before .before .n .given .1))));
+        stands = e .reads .stands;
+      };
+      sized = e .sized;
+    }
+
+returns-2 : tie.Need-returns-2
+unfolding rest
+returns-2 c =
+    let w = c .before .before .before .before .before .before .before .before .before in
+    refuse _ (c .no-job .ensures)
+    (bind-good _ _ (got-value (walk (w .before .before)) (ap rowAnswer (w .walk .given .1)))
+    ∙ bind-fault _ _ (got-fault (count (c .before .before .before .before)) (ap rowAnswer (c .before .before .k .given .1))))
+
+returns-3 : tie.Need-returns-3
+unfolding rest
+returns-3 c = refuse _ (c .no-job2 .ensures) (bind-fault _ _ (got-fault (walk (c .before .before .before .before)) (ap rowAnswer (c .before .before .k2 .given .1))))
+
+pub read-rest-spec : {M : Type 1} → statement M
+read-rest-spec =
+    tie.close
+    (tie.spec
+    sub-read-field
+    part-read-field-start
+    part-read-field-end
+    slice-aggregate-read-field
+    read-field-requires
+    advance-requires
+    enum-known-walk
+    sub-read-field-2
+    part-read-field-start-2
+    part-read-field-end-2
+    slice-aggregate-read-field-2
+    read-field-requires-2
+    advance-requires-2
+    enum-known-n
+    cast-read-body
+    read-body-requires
+    enum-known-k
+    no-job-requires
+    enum-known-k-2
+    no-job-requires-2
+    returns
+    returns-2
+    returns-3)

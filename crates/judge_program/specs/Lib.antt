@@ -1,0 +1,2 @@
+-- What the judge's program prints (Printed).
+pub mod Printed

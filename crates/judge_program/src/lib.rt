@@ -1,0 +1,23 @@
+// The judge's program: a job and a plan are read from files, the plan is weighed, and the answer printed.
+use answers::Answer;
+use jobs::Job;
+use jobs::Plan;
+use whole_input::Text;
+use whole_input::read_file;
+ghost use Rattle.judge_program.specs.Printed.{Printed};
+
+// Reads a job text and a plan text from the files of these names, and prints the answer on standard output and hands it back (`Printed`).
+pub fn judge_files(job_path: &[u8], plan_path: &[u8]) -> Answer
+    ensures { λ r. ⌜ Printed r ⌝ }
+{
+    // One byte more than a text may have, so that a longer one is told.
+    let mut job = [0u8; Job::MAX_BYTES + 1];
+    let n = read_file(job_path, Text::Job, &mut job);
+    let mut plan = [0u8; Plan::MAX_BYTES + 1];
+    let k = read_file(plan_path, Text::Plan, &mut plan);
+    let mut out = [0u8; judging::ROOM];
+    let a = judging::judge(&job[..n], &plan[..k], &mut out);
+    let m = a.length;
+    io::write_all(libc::STDOUT_FILENO, &out[..m]);
+    a
+}

@@ -1,0 +1,20 @@
+// The planner's program: a job is read, planned, and the answer printed.
+use answers::Answer;
+use jobs::Job;
+use whole_input::Text;
+use whole_input::read_whole;
+ghost use Rattle.planner_program.specs.Printed.{Printed};
+
+// Reads a job text from a descriptor, and prints its answer on standard output and hands it back (`Printed`).
+pub fn plan_input(fd: i32) -> Answer
+    ensures { λ r. ⌜ Printed r ⌝ }
+{
+    // One byte more than a text may have, so that a longer one is told.
+    let mut job = [0u8; Job::MAX_BYTES + 1];
+    let n = read_whole(fd, Text::Job, &mut job);
+    let mut out = [0u8; planning::ROOM];
+    let a = planning::plan(&job[..n], &mut out);
+    let m = a.length;
+    io::write_all(libc::STDOUT_FILENO, &out[..m]);
+    a
+}
