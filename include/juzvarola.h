@@ -31,7 +31,7 @@ typedef struct {
  * - `out` should have 16,384 bytes or more: with fewer the result is 8 and nothing is written.
  * - Nothing is kept between calls and no memory is allocated. Calls on several threads at once are allowed where no `out` overlaps
  *   another call's `out` or text.
- * - Stack that a call needs: less than 1 MB (juzvarola_plan was measured at some 620 KB, juzvarola_judge at 64 KB).
+ * - Stack that a call needs: less than 1 MB (juzvarola_plan was measured at some 640 KB, juzvarola_judge at 64 KB).
  */
 
 /* Plans a job: results 0 to 8. */

@@ -39,6 +39,30 @@ fn planner_prints_the_least_plan_of_all() {
     assert!(with + without < 3000 || without >= 50);
 }
 
+/// E4's term at every point of small jobs: "For each part, take the least total fee of undecided openings in any change set that keeps it
+/// over the yes and undecided openings. The largest of these over the parts is added to a point's estimate."
+#[test]
+fn term_is_the_largest_least_fee() {
+    for job in small_jobs(300) {
+        let count = job.openings.len();
+        let fee =
+            |changes: &Vec<bool>, decided: usize| -> u64 { (decided..count).filter(|k| changes[*k]).map(|k| job.openings[k].fee).sum() };
+        for decided in 0..=count {
+            for point in brute::all_sets(decided) {
+                let open = |changes: &Vec<bool>| (0..decided).all(|k| point[k] || !changes[k]);
+                let least = |part| {
+                    let kept = brute::all_sets(count).filter(|changes| open(changes) && job.due(part, changes).is_none());
+                    kept.map(|changes| fee(&changes, decided)).min()
+                };
+                let terms: Option<Vec<u64>> = job.parts.iter().map(least).collect();
+                let wanted = terms.map(|terms| job.old_estimate(&point).expect("an estimate") + terms.into_iter().max().expect("a part"));
+                assert_eq!(job.estimate(&point), wanted, "{job:?} {point:?}");
+                assert_eq!(job.estimate(&point).is_none(), job.old_estimate(&point).is_none(), "{job:?} {point:?}");
+            }
+        }
+    }
+}
+
 /// The least price and its choice over every set of allowed openings, the lives against the windows of source document 001, and the due
 /// step against a part worn step by step.
 #[test]

@@ -9,7 +9,7 @@ use std::{fs, path::Path};
 fn reference_gives_every_vector() {
     common::with_stack(|| {
         let vectors = vectors::all();
-        assert!(vectors.len() >= 1260, "only {} vectors", vectors.len());
+        assert!(vectors.len() >= 1570, "only {} vectors", vectors.len());
         let mut differ = 0;
         for (number, vector) in vectors.iter().enumerate() {
             let reply = vector.call.expected();

@@ -11,7 +11,9 @@ use lib.IntN.{ℤ, pos}
 use lib.Signed.{mag}
 use Rattle.model.specs.Model as model
 use Rattle.model.specs.Model.{feeOf, positions}
+use Rattle.model.specs.LastYes.{Climbs}
 use Rattle.model.specs.Verdict.{noPart}
+use Rattle.model.proofs.LastYes.{job-climbs}
 use Rattle.jobs.specs.Views.{openingOf, jobOf, Sized}
 use Rattle.jobs.specs.Valid.{All, ValidOpening, ValidPrice, ValidPart, ValidJob}
 use Rattle.jobs.specs.declared.Job.{Job}
@@ -48,6 +50,12 @@ module _ (n : ℕ) (parts : List model.Part) (valid : All (ValidPart n) parts) w
   left-range q =
       subst (λ (x : ℕ). x ≤ longestLife) (sym (List·getD-map leftOf parts q noPart))
       (every (ValidPart n) (λ (p : model.Part). p .left ≤ longestLife) noPart (omega arith) (λ p v. omega (arith, v .left-high, v .life-high)) parts valid q)
+
+  -- "R at most L"
+  left-life : (q : ℕ) → getD (map leftOf parts) q 0 ≤ getD (map lifeOf parts) q 0
+  left-life q =
+      rw (List·getD-map leftOf parts q noPart, List·getD-map lifeOf parts q noPart)
+      (every (ValidPart n) (λ (p : model.Part). p .left ≤ p .life) noPart (omega arith) (λ p v. v .left-high) parts valid q)
 
   price-range : (q i : ℕ) → getD (getD parts q noPart .prices) i 0 ≤ top
   price-range =
@@ -121,6 +129,7 @@ module _ (j : Job) (sized : Sized j) (whole : Whole j) where
             lefts = lane-count leftOf rs lefts ∙ sym (lane-count lifeOf ls lives);
             brief = λ q. subst (λ (l : List ℕ). getD l q 0 ≤ longestLife) (sym lives) (life-range n (jobOf j .parts) (valid-parts j sized whole valid) q);
             begun = λ q. subst (λ (l : List ℕ). getD l q 0 ≤ longestLife) (sym lefts) (left-range n (jobOf j .parts) (valid-parts j sized whole valid) q);
+            first = λ q. subst (λ (l : List ℕ). getD l q 0 ≤ getD (take m ls) q 0) (sym lefts) (subst (λ (l : List ℕ). getD (map leftOf (jobOf j .parts)) q 0 ≤ getD l q 0) (sym lives) (left-life n (jobOf j .parts) (valid-parts j sized whole valid) q));
           };
           lanes = omega (arith, lane-count lifeOf ls lives, sized .parts);
           prices = laid .size;
@@ -129,6 +138,7 @@ module _ (j : Job) (sized : Sized j) (whole : Whole j) where
           free = λ x h. laid-free (jobOf j .parts) ps laid x (omega (arith, h, lane-count lifeOf ls lives, part-count j sized whole));
           near = near;
           late = position-small (p .end) (placed .end-range);
+          climbs = subst (λ (ss : List ℤ). Climbs (p .end) (pos 0) ss) (sym (places-are p placed)) (subst (λ (e : ℤ). Climbs e (pos 0) (positions (jobOf j))) (sym (placed .end)) (job-climbs (jobOf j) (valid .rising)));
         }
 
     -- a part's prices, cut out of all of them

@@ -16,6 +16,8 @@ use Rattle.branch.specs.Lower.{add, total}
 use Rattle.branch.specs.Search.{snoc}
 use Rattle.model.specs.Model.{within}
 use Rattle.model.specs.LowerBound.{Offer, plus, lower, leastOf, offers, changeAt}
+use Rattle.model.specs.LastYes.{lastYes}
+use Rattle.model.proofs.LastYes.{last-no, last-yes}
 use Rattle.least.specs.Marks.{markOf}
 use Rattle.least.proofs.Table.{least-cons, offerAt, offers-drop}
 use Rattle.lane_rows.specs.Layout.{laneCount, top, laneLimit, inf, suffixBase, reachBase, place, rowPlace, pricePlace, suffixCuts, reachCuts, cutPlace, markBase, markPlace, lanesIn}
@@ -262,7 +264,9 @@ pub rows-kept : (sheet : Sheet) (w w' : List ℕ) (p : List Bool) (n : ℕ) → 
 rows-kept sheet w w' p n r k =
     record {
       size = k .size ∙ r .size;
+      some = r .some;
       few = r .few;
+      last = let h = r .some in k .marks (n - 1) (omega arith) ∙ r .last;
       marks = λ i l. subst (λ (x : ℕ). x ≤ length p) (sym (k .marks i l)) (r .marks i l);
       rising = λ i m l g. let z = k .marks i (omega arith) in let y = k .marks m g in omega (arith, z, y, r .rising i m l g);
       narrow = r .narrow;
@@ -279,7 +283,9 @@ module _ (sheet : Sheet) (t w : List ℕ) (p : List Bool) (n : ℕ) (ta : Tables
       let e = snoc-length p false in
       record {
         size = ro .size;
+        some = ro .some;
         few = omega (arith, ro .few, e);
+        last = ro .last ∙ sym (last-no p);
         marks = λ k l. omega (arith, ro .marks k l, e);
         rising = ro .rising;
         narrow = ro .narrow;
@@ -314,7 +320,9 @@ module _ (sheet : Sheet) (t w : List ℕ) (p : List Bool) (n : ℕ) (ta : Tables
       let e = snoc-length p true in
       record {
         size = u .kept .size ∙ ro .size;
+        some = omega arith;
         few = omega (arith, ro .few, e);
+        last = let z : n + 1 - 1 ≡ n = omega arith in ap (λ (k : ℕ). getD w' (markPlace k) 0) z ∙ u .mark ∙ add-one (length p) ∙ sym (last-yes p);
         marks = λ k l. mark-at k (omega arith) (ℕ-discrete k n);
         rising = λ k m l g. rise-at k m l (omega arith) (ℕ-discrete m n) (ℕ-discrete k n);
         narrow = ro .narrow;
@@ -423,11 +431,13 @@ lane-cut wide t w base lo j q n k s l h c = rw add-one (go k (omega arith) c)
 -- ---- the first node
 
 pub rows-root : (sheet : Sheet) (w : List ℕ) → length (sheet .columns) ≤ laneCount → FirstRow w → Rows sheet w [] 1
-unfolding marksIn frontFrom
+unfolding marksIn frontFrom lastYes
 rows-root sheet w h r =
     record {
       size = r .size;
+      some = omega arith;
       few = omega arith;
+      last = r .mark;
       marks = λ k l. let z : markBase + k ≡ markBase = omega arith in let y : getD w (markPlace k) 0 ≡ 0 = ap (λ (x : ℕ). getD w x 0) z ∙ r .mark in omega arith;
       rising = λ k l a b. let z : markBase + k ≡ markBase + l = omega arith in let y : getD w (markPlace k) 0 ≡ getD w (markPlace l) 0 = ap (λ (x : ℕ). getD w x 0) z in omega arith;
       narrow = h;

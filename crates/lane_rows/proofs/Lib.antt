@@ -4,3 +4,4 @@ pub mod Putting
 pub mod Front
 pub mod Lanes
 pub mod Going
+pub mod Terms

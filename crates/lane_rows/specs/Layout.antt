@@ -29,7 +29,7 @@ laneLimit = 64000000
 abbrev pub inf : ℕ
 inf = 1030000000
 
--- ---- the tables: two blocks (suffix prices, then reach), the prices, the fees, the number of openings, the cuts of each block
+-- ---- the tables: two blocks (suffix prices, then reach), the prices, the fees, the number of openings, the cuts of each block, the terms
 
 -- a block has a row for each opening and mark
 abbrev pub blockRows : ℕ
@@ -89,8 +89,15 @@ foursPlace = 136419
 abbrev pub lanesIn : List ℕ → ℕ
 lanesIn t = getD t foursPlace 0 * 4
 
+-- E4's terms: a number for each number of decided openings and each mark of the last yes
+abbrev pub termBase : ℕ
+termBase = foursPlace + 1
+
+abbrev pub termPlace : ℕ → ℕ → ℕ
+termPlace j i = termBase + (j * markCount + i)
+
 abbrev pub tablesSize : ℕ
-tablesSize = 136420
+tablesSize = termBase + blockRows
 
 -- ---- the stack: 65 rows, and the mark of each
 

@@ -5,6 +5,7 @@ use mathlib.Core.Bool.{Bool, true, false}
 use mathlib.Core.List.{List, [], _∷_}
 use lib.ListN.{length, getD}
 use lib.IntN.{ℤ}
+use Rattle.model.specs.LastYes.{lastYes}
 use Rattle.least.specs.Marks.{markOf}
 use Rattle.lane_rows.specs.Layout.{laneCount, markCount, top, inf, place, rowPlace, markBase, markPlace, stackSize, blockSize, reachBase, pricePlace, reachCuts, cutPlace, lanesIn, tablesSize}
 use Rattle.lane_rows.specs.Sheet.{Sheet, Mark, front, noColumn}
@@ -71,7 +72,9 @@ pub record Level (b v : ℕ) : Type 0 where
 -- the stack's first n rows are those of the node p
 pub record Rows (sheet : Sheet) (w : List ℕ) (p : List Bool) (n : ℕ) : Type 0 where
   pub size : length w ≡ stackSize
+  pub some : 0 < n
   pub few : n ≤ length p + 1
+  pub last : getD w (markPlace (n - 1)) 0 ≡ lastYes p
   pub marks : (k : ℕ) → k < n → getD w (markPlace k) 0 ≤ length p
   pub rising : (k l : ℕ) → k ≤ l → l < n → getD w (markPlace k) 0 ≤ getD w (markPlace l) 0
   pub narrow : length (sheet .columns) ≤ laneCount

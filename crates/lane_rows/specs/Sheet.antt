@@ -2,13 +2,13 @@
 use Prim.Native.Nat.{ℕ}
 use mathlib.Core.Bool.{Bool, cond}
 use mathlib.Core.List.{List, [], _∷_}
-use lib.ListN.{getD, drop}
+use lib.ListN.{getD, take, drop}
 use lib.IntN.{ℤ, pos}
 use Rattle.branch.specs.declared.Bound.{Bound}
 use Rattle.branch.specs.declared.Bound.the-variants.{Missing, Sum}
-use Rattle.branch.specs.Lower.{add, total}
+use Rattle.branch.specs.Lower.{add, total, largest}
 use Rattle.model.specs.Model.{within, sumAt}
-use Rattle.model.specs.LowerBound.{Offer, plus, lower, leastOf, offers}
+use Rattle.model.specs.LowerBound.{Offer, plus, lower, leastOf, offers, undecidedFees}
 
 -- one part as its lane has it: its life, the position of the change before the first, its prices
 pub record Column : Type 0 where
@@ -16,10 +16,12 @@ pub record Column : Type 0 where
   pub first : ℤ
   pub prices : List ℕ
 
+-- the first `parts` columns are those of the parts; the others fill up a four
 pub record Sheet : Type 0 where
   pub end : ℤ
   pub positions : List ℤ
   pub fees : List ℕ
+  pub parts : ℕ
   pub columns : List Column
 
 -- one part's least price at the node p, over its yes openings and all undecided ones
@@ -30,8 +32,19 @@ columnBound sheet col p = leastOf (col .life) (sheet .end) (col .first) (offers 
 abbrev pub partSums : Sheet → List Bool → Bound
 partSums sheet p = total (columnBound sheet) (sheet .columns) p
 
+-- one part's least fee of undecided openings at the node p
+unfoldable pub columnFee : Sheet → Column → List Bool → Bound
+columnFee sheet col p = leastOf (col .life) (sheet .end) (col .first) (offers (sheet .positions) (undecidedFees (sheet .fees) p) p)
+
+abbrev pub partColumns : Sheet → List Column
+partColumns sheet = take (sheet .parts) (sheet .columns)
+
+-- E4's term: the largest of these over the parts
+abbrev pub feeTerm : Sheet → List Bool → Bound
+feeTerm sheet p = largest (columnFee sheet) (partColumns sheet) p
+
 unfoldable pub sheetBound : Sheet → List Bool → Bound
-sheetBound sheet p = add (Sum (sumAt (sheet .fees) p)) (partSums sheet p)
+sheetBound sheet p = add (add (Sum (sumAt (sheet .fees) p)) (partSums sheet p)) (feeTerm sheet p)
 
 -- ---- the front: where the last change so far may be, and the least price up to it
 

@@ -1,18 +1,20 @@
 -- What the tables of a sheet hold.
 use Prim.Native.Nat.{ℕ, _-_, _*_, _<_, _≤_}
 use mathlib.Core.Path.{_≡_}
-use mathlib.Core.Bool.{cond}
+use mathlib.Core.Bool.{Bool, cond}
 use mathlib.Core.List.{List, []}
 use lib.Dec.{ltb}
 use lib.ListN.{length, getD, drop}
 use lib.IntN.{ℤ, pos}
 use Rattle.branch.specs.declared.Bound.{Bound}
 use Rattle.branch.specs.declared.Bound.the-variants.{Missing, Sum}
+use Rattle.branch.specs.Lower.{largest}
 use Rattle.model.specs.Model.{within}
 use Rattle.model.specs.LowerBound.{leastOf, offers}
+use Rattle.model.specs.LastYes.{Climbs}
 use Rattle.least.specs.Marks.{markOf}
-use Rattle.lane_rows.specs.Layout.{laneCount, top, inf, suffixBase, reachBase, place, pricePlace, feePlace, countPlace, suffixCuts, reachCuts, cutPlace, lanesIn, tablesSize}
-use Rattle.lane_rows.specs.Sheet.{Column, Sheet, noColumn}
+use Rattle.lane_rows.specs.Layout.{laneCount, top, inf, suffixBase, reachBase, place, pricePlace, feePlace, countPlace, suffixCuts, reachCuts, cutPlace, lanesIn, termPlace, tablesSize}
+use Rattle.lane_rows.specs.Sheet.{Column, Sheet, partColumns, noColumn}
 use Rattle.model.specs.Limits.{mostOpenings}
 
 -- the price that a number stands for
@@ -32,7 +34,11 @@ pub record Lane (end : ℤ) (ss : List ℤ) (col : Column) (t : List ℕ) (q : �
   pub price : (j : ℕ) → j < length ss → getD t (pricePlace j q) 0 ≡ getD (col .prices) j 0
   pub cheap : (j : ℕ) → getD (col .prices) j 0 ≤ top
 
--- the tables of a sheet: a lane for each column, the fees, the number of openings, and the cuts
+-- one part's least fee of openings j and later that keeps it after mark i, at any node
+abbrev pub feeFrom : Sheet → ℕ → ℕ → Column → List Bool → Bound
+feeFrom sheet j i col p = leastOf (col .life) (sheet .end) (markOf (col .first) (sheet .positions) i) (drop j (offers (sheet .positions) (sheet .fees) []))
+
+-- the tables of a sheet: a lane for each column, the fees, the number of openings, the cuts, and the terms
 pub record Tables (sheet : Sheet) (t : List ℕ) : Type 0 where
   pub size : length t ≡ tablesSize
   pub few : length (sheet .positions) ≤ mostOpenings
@@ -46,3 +52,6 @@ pub record Tables (sheet : Sheet) (t : List ℕ) : Type 0 where
   pub count : getD t countPlace 0 ≡ length (sheet .positions)
   pub suffix-cut : (j i q : ℕ) → j ≤ length (sheet .positions) → i < getD t (cutPlace suffixCuts j) 0 → q < lanesIn t → getD t (place suffixBase j i q) 0 ≡ inf
   pub reach-cut : (j i q : ℕ) → j < length (sheet .positions) → i < getD t (cutPlace reachCuts j) 0 → q < lanesIn t → getD t (place reachBase j i q) 0 ≡ inf
+  pub real : sheet .parts ≤ lanesIn t
+  pub climbs : (q : ℕ) → q < lanesIn t → Climbs (sheet .end) (getD (sheet .columns) q noColumn .first) (sheet .positions)
+  pub terms : (j i : ℕ) → i ≤ j → j ≤ length (sheet .positions) → Coded (top * (length (sheet .positions) - j)) (getD t (termPlace j i) 0) (largest (feeFrom sheet j i) (partColumns sheet) [])

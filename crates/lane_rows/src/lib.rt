@@ -3,11 +3,12 @@ ghost use mathlib.Core.Path.{_≡_};
 ghost use mathlib.Core.Bool.{true};
 ghost use Prim.Native.Nat.{ℕ, _+_, _-_, _*_, _^_, _<_, _≤_, min};
 ghost use lib.ListN.{length, getD};
-ghost use Rattle.lane_rows.specs.Layout.{laneCount, inf, tablesSize, lanesIn, stackSize, suffixBase, place, rowPlace};
+ghost use Rattle.lane_rows.specs.Layout.{laneCount, markCount, inf, tablesSize, lanesIn, stackSize, suffixBase, place, rowPlace, markPlace, termPlace};
 ghost use Rattle.lane_rows.specs.Tables.{valueOf};
 ghost use Rattle.lane_rows.specs.Rows.{lane, sumLanes, Turned, MinAsks, PlusAsks, AddAsks, FirstRow, Stack, Put, nextRow, Owing, Settled};
 use branch::Bound;
 use least::MARKS;
+use least::TABLE;
 
 // A row has room for a lane for each part.
 pub const LANES: usize = 16;
@@ -34,7 +35,10 @@ pub const REACH_CUTS: usize = 136354;
 // How many fours of lanes the job has.
 pub const FOURS: usize = 136419;
 
-pub const TABLES: usize = 136420;
+// E4's terms.
+pub const TERMS: usize = FOURS + 1;
+
+pub const TABLES: usize = TERMS + TABLE;
 
 // The stack: 65 rows, then the mark of each.
 pub const ROW_MARKS: usize = 1040;
@@ -47,6 +51,22 @@ pub fn cell(t: &[u32], start: usize, j: usize) -> usize
     ensures { λ r. ⌜ r ≡ getD (now (t .entry)) (start + j) 0 ⌝ }
 {
     t[start + j] as usize
+}
+
+// E4's term where j openings are decided and mark i is that of the last yes.
+pub fn term(t: &[u32], j: usize, i: usize) -> u64
+    requires { ⌜ (length (now t) ≡ tablesSize) × (j ≤ 64) × (i ≤ 64) ⌝ }
+    ensures { λ r. ⌜ r ≡ getD (now (t .entry)) (termPlace j i) 0 ⌝ }
+{
+    t[TERMS + (j * MARKS + i)] as u64
+}
+
+// The mark of the last yes, of the `rows` that are there.
+pub fn last_mark(w: &[u32], rows: usize) -> usize
+    requires { ⌜ (0 < rows) × (rows ≤ markCount) × (length (now w) ≡ stackSize) ⌝ }
+    ensures { λ r. ⌜ r ≡ getD (now (w .entry)) (markPlace (rows - 1)) 0 ⌝ }
+{
+    w[ROW_MARKS + (rows - 1)] as usize
 }
 
 // The lesser of two numbers below 2 ^ 31, by a signed comparison.

@@ -7,7 +7,7 @@ use lib.ListN.{replicate}
 use Rattle.branch.specs.Search.{limited}
 use Rattle.branch.specs.Label.{treeOf}
 use Rattle.model.specs.Model.{Job, Plan, idle, running, clock, within, lastWithin, dueOf, select, sumAt, costOf, KeepsLives, HasPlan}
-use Rattle.model.specs.LowerBound.{leastOf, choiceOf, offers, stopCost, boundOf}
+use Rattle.model.specs.LowerBound.{leastOf, choiceOf, offers, stopCost, undecidedFees, boundOf}
 use Rattle.model.specs.Promise.{no-plan, cut-none, cut, optimum, answerOf, Promise}
 use Rattle.model.specs.Verdict.{accepts, unkept, wrongCost, firstLate, verdictFrom, judgedOf}
 use Rattle.model.specs.Published.{sum, atStep, objective}
@@ -36,32 +36,32 @@ twice = record {
   changes = (true ∷ false ∷ false ∷ true ∷ []) ∷ (true ∷ false ∷ false ∷ true ∷ []) ∷ [];
 }
 
-walk-11 : answerOf (jobWith 10 2) 11 ≡ optimum 11 17 37 printed
-unfolding answerOf limited treeOf boundOf stopCost sumAt offers leastOf choiceOf within clock running idle
+walk-11 : answerOf (jobWith 10 2) 11 ≡ optimum 11 37 37 printed
+unfolding answerOf limited treeOf boundOf stopCost undecidedFees sumAt offers leastOf choiceOf within clock running idle
 walk-11 = refl
 
-walk-10 : answerOf (jobWith 10 2) 10 ≡ cut 10 17 37 printed
-unfolding answerOf limited treeOf boundOf stopCost sumAt offers leastOf choiceOf within clock running idle
+walk-10 : answerOf (jobWith 10 2) 10 ≡ cut 10 37 37 printed
+unfolding answerOf limited treeOf boundOf stopCost undecidedFees sumAt offers leastOf choiceOf within clock running idle
 walk-10 = refl
 
-walk-8 : answerOf (jobWith 10 2) 8 ≡ cut 8 17 44 twice
-unfolding answerOf limited treeOf boundOf stopCost sumAt offers leastOf choiceOf within clock running idle
+walk-8 : answerOf (jobWith 10 2) 8 ≡ cut 8 37 44 twice
+unfolding answerOf limited treeOf boundOf stopCost undecidedFees sumAt offers leastOf choiceOf within clock running idle
 walk-8 = refl
 
-walk-6 : answerOf (jobWith 10 2) 6 ≡ cut-none 6 17
-unfolding answerOf limited treeOf boundOf stopCost sumAt offers leastOf choiceOf within clock running idle
+walk-6 : answerOf (jobWith 10 2) 6 ≡ cut-none 6 37
+unfolding answerOf limited treeOf boundOf stopCost undecidedFees sumAt offers leastOf choiceOf within clock running idle
 walk-6 = refl
 
-walk-0 : answerOf (jobWith 10 2) 0 ≡ cut-none 0 17
-unfolding answerOf limited treeOf boundOf stopCost sumAt offers leastOf choiceOf within clock running idle
+walk-0 : answerOf (jobWith 10 2) 0 ≡ cut-none 0 37
+unfolding answerOf limited treeOf boundOf stopCost undecidedFees sumAt offers leastOf choiceOf within clock running idle
 walk-0 = refl
 
 left-1 : answerOf (jobWith 10 1) 11 ≡ no-plan
-unfolding answerOf limited treeOf boundOf stopCost sumAt offers leastOf choiceOf within clock running idle
+unfolding answerOf limited treeOf boundOf stopCost undecidedFees sumAt offers leastOf choiceOf within clock running idle
 left-1 = refl
 
 fees-0 : answerOf (jobWith 0 2) 11 ≡ optimum 11 17 17 printed
-unfolding answerOf limited treeOf boundOf stopCost sumAt offers leastOf choiceOf within clock running idle
+unfolding answerOf limited treeOf boundOf stopCost undecidedFees sumAt offers leastOf choiceOf within clock running idle
 fees-0 = refl
 
 -- one part, T = 6, no openings
@@ -69,11 +69,11 @@ abbrev bare : ℕ → Job
 bare life = record { horizon = 6; idles = []; openings = []; parts = record { life = life; left = life; prices = [] } ∷ [] }
 
 bare-7 : answerOf (bare 7) 11 ≡ optimum 1 0 0 (record { stops = []; changes = [] ∷ [] })
-unfolding answerOf limited treeOf boundOf stopCost sumAt offers leastOf choiceOf within clock running idle
+unfolding answerOf limited treeOf boundOf stopCost undecidedFees sumAt offers leastOf choiceOf within clock running idle
 bare-7 = refl
 
 bare-6 : answerOf (bare 6) 11 ≡ no-plan
-unfolding answerOf limited treeOf boundOf stopCost sumAt offers leastOf choiceOf within clock running idle
+unfolding answerOf limited treeOf boundOf stopCost undecidedFees sumAt offers leastOf choiceOf within clock running idle
 bare-6 = refl
 
 -- the printed plan's true cost
@@ -87,7 +87,7 @@ unfolding objective sum atStep
 printed-objective = refl
 
 -- what the promise says of it: there is a plan, none costs less than 37, and with `left=1` there is none
-promised : Promise (jobWith 10 2) 11 (optimum 11 17 37 printed)
+promised : Promise (jobWith 10 2) 11 (optimum 11 37 37 printed)
 promised = subst (Promise (jobWith 10 2) 11) walk-11 (promise (jobWith 10 2) 11)
 
 has : HasPlan (jobWith 10 2)
@@ -111,8 +111,8 @@ rested = record {
   changes = (false ∷ true ∷ false ∷ true ∷ []) ∷ (false ∷ false ∷ false ∷ true ∷ []) ∷ [];
 }
 
-idle-3 : answerOf idleJob 100 ≡ optimum 15 17 37 rested
-unfolding answerOf limited treeOf boundOf stopCost sumAt offers leastOf choiceOf within clock running idle
+idle-3 : answerOf idleJob 100 ≡ optimum 9 37 37 rested
+unfolding answerOf limited treeOf boundOf stopCost undecidedFees sumAt offers leastOf choiceOf within clock running idle
 idle-3 = refl
 
 -- ---- the judge

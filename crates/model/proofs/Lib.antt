@@ -5,10 +5,14 @@ pub mod Positions
 pub mod Windows
 pub mod Least
 pub mod Offers
+pub mod Fees
+pub mod Unpaid
+pub mod LastYes
 pub mod Bounded
 pub mod Plans
 pub mod BestPlans
 pub mod Promised
+pub mod Sharper
 pub mod Unique
 pub mod Verdicts
 pub mod Dues

@@ -7,7 +7,7 @@ use lib.ListN.{getD, drop}
 use lib.IntN.{ℤ, pos}
 use Rattle.branch.specs.declared.Bound.{Bound}
 use Rattle.branch.specs.declared.Bound.the-variants.{Missing, Sum}
-use Rattle.branch.specs.Lower.{add, total}
+use Rattle.branch.specs.Lower.{add, total, largest}
 use Rattle.model.specs.Model.{Part, Job, Plan, positions, lastChange, end, within, sumAt, feeOf}
 
 -- ---- one part over the openings that are allowed to it
@@ -57,17 +57,21 @@ unfoldable pub offers : List ℤ → List ℕ → List Bool → List Offer
 offers [] ns p = []
 offers (s ∷ ss) ns p = record { position = s; price = getD ns 0 0; allowed = getD p 0 true } ∷ offers ss (drop 1 ns) (drop 1 p)
 
--- the openings as the part sees them at the node p
-abbrev pub partOffers : Job → Part → List Bool → List Offer
-partOffers job part p = offers (positions job) (part .prices) p
+-- the least sum of these prices over the change sets that keep the part at openings which p allows
+abbrev pub leastOver : Job → Part → List ℕ → List Bool → Bound
+leastOver job part ns p = leastOf (pos (part .life)) (end job) (lastChange part) (offers (positions job) ns p)
+
+-- and the change set of that sum which the tie rule takes
+abbrev pub choiceOver : Job → Part → List ℕ → List Bool → List Bool
+choiceOver job part ns p = choiceOf (pos (part .life)) (end job) (lastChange part) (offers (positions job) ns p)
 
 -- the least price of a change set that keeps the part at the node p
 abbrev pub partBound : Job → Part → List Bool → Bound
-partBound job part p = leastOf (pos (part .life)) (end job) (lastChange part) (partOffers job part p)
+partBound job part p = leastOver job part (part .prices) p
 
 -- and the change set of that price which the tie rule takes
 abbrev pub partChoice : Job → Part → List Bool → List Bool
-partChoice job part p = choiceOf (pos (part .life)) (end job) (lastChange part) (partOffers job part p)
+partChoice job part p = choiceOver job part (part .prices) p
 
 -- W2. "the fees of its yes openings"
 abbrev pub feesAt : Job → List Bool → Bound
@@ -78,9 +82,21 @@ feesAt job p = Sum (sumAt (map feeOf (job .openings)) p)
 unfoldable pub stopCost : Job → List Bool → Bound
 stopCost job p = add (feesAt job p) (total (partBound job) (job .parts) p)
 
--- W2. "Its estimate": the lower bound that the search prunes by. A sharper one would change this line and its laws (`bounds`, `rooted`), and nothing else
+-- ---- E4.1, E4.2: "A floor that knows about stops."
+
+-- the fees of the "undecided openings"; a decided opening has its fee paid, or is shut, and counts 0
+unfoldable pub undecidedFees : List ℕ → List Bool → List ℕ
+undecidedFees fees [] = fees
+undecidedFees [] (x ∷ p) = []
+undecidedFees (fee ∷ fees) (x ∷ p) = 0 ∷ undecidedFees fees p
+
+-- E4.1. "For each part, take the least total fee of undecided openings in any change set that keeps it over the yes and undecided openings."
+abbrev pub partFee : Job → Part → List Bool → Bound
+partFee job part p = leastOver job part (undecidedFees (map feeOf (job .openings)) p) p
+
+-- E4.2. "The largest of these over the parts is added to a point's estimate.": the lower bound that the search prunes by
 unfoldable pub boundOf : Job → List Bool → Bound
-boundOf job p = stopCost job p
+boundOf job p = add (stopCost job p) (largest (partFee job) (job .parts) p)
 
 -- the plan of a full node: its yes openings are the stops, and each part is changed by its choice
 abbrev pub planAt : Job → List Bool → Plan

@@ -67,6 +67,11 @@ free j h =
     let z : n + (j - n) ≡ j = omega arith in
     omega (arith, all-up-to 0 (drop n flat) refl (j - n), getD-drop n flat (j - n) 0 ∙ ap (λ (k : ℕ). getD flat k 0) z)
 
+first : (q : ℕ) → getD lefts q 0 ≤ getD lives q 0
+first zero = omega arith
+first (suc zero) = omega arith
+first (suc (suc q)) = omega arith
+
 own : (q : ℕ) → q < 2 → getD (job .parts) q noPart ≡ lanePart 4 lives lefts flat q
 own zero h = refl
 own (suc zero) h = refl
@@ -79,7 +84,7 @@ held =
       arrays = record {
         few = omega arith;
         paid = refl;
-        lives = record { some = omega arith; lefts = refl; brief = all-up-to longestLife lives refl; begun = all-up-to longestLife lefts refl };
+        lives = record { some = omega arith; lefts = refl; brief = all-up-to longestLife lives refl; begun = all-up-to longestLife lefts refl; first = first };
         lanes = omega arith;
         prices = refl;
         fair = all-up-to top fees refl;
@@ -87,6 +92,7 @@ held =
         free = free;
         near = near;
         late = omega arith;
+        climbs = (refl, (refl, (refl, (refl, refl))));
       };
       ends = refl;
       places = refl;

@@ -1,15 +1,14 @@
 -- The tables, filled, are those of the sheet: a lane is right after its three loops, each lane keeps the others, and what follows keeps the lanes.
-use Prim.Native.Nat.{ℕ, zero, suc, _+_, _-_, _*_, _/_, _%_, _<_, _≤_, min}
+use Prim.Native.Nat.{ℕ, zero, suc, _+_, _-_, _*_, _<_, _≤_, min}
 use mathlib.Core.Path.{_≡_, refl, sym, ap, ap₂, subst, _∙_}
 use mathlib.Core.Bool.{Bool, true, cond}
 use mathlib.Core.List.{List, [], _∷_}
 use native.Mathlib.Omega.{arith}
 use native.Mathlib.Decide.{decLt}
 use borrow.Author.Count.{below-more}
-use borrow.Author.Tests.{le-ltb}
 use lib.ListN.{length, getD, set, take, drop, replicate, length-set, length-replicate, length-drop, length-take, List·getD-eq-default}
 use lib.Seq.{getD-take, getD-drop, getD-set-same, getD-set-other, length-take-le}
-use lib.IntN.{ℤ, pos}
+use lib.IntN.{ℤ, pos, _-ℤ_}
 use mir.Syntax.{w32}
 use mir.Val.{SFits, toZ, ofZ}
 use mir.Facts.{toZ-ofZ}
@@ -17,6 +16,8 @@ use Rattle.branch.specs.declared.Bound.{Bound}
 use Rattle.branch.specs.declared.Bound.the-variants.{Missing, Sum}
 use Rattle.model.specs.Model.{within}
 use Rattle.model.specs.LowerBound.{Offer, leastOf, offers}
+use Rattle.model.specs.LastYes.{Climbs}
+use Rattle.model.proofs.LastYes.{first-climbs}
 use Rattle.least.specs.Marks.{markOf, Bits31}
 use Rattle.least.specs.Filled.{Filled, FilledBy}
 use Rattle.least.specs.Suffix.{tableSize, codeOf, Suffixes}
@@ -24,13 +25,13 @@ use Rattle.least.proofs.Diff.{mag-sub, back}
 use Rattle.model.proofs.Bools.{after-one, there}
 use Rattle.least.proofs.Most.{AtMost, most-least}
 use Rattle.search.specs.Arrays.{priceStride, priceSize, laneValue, lanePart, columnOf, columnsFrom, foursOf, sheetOf, Lived, Lifespans, Arrays, Ready}
-use Rattle.search.specs.Fill.{reachOf, reachAt, column, LaneFilled, Lanes, DeadBelow}
+use Rattle.search.specs.Fill.{Triangle, ownOf, reachOf, column, LaneFilled, Lanes, DeadBelow, Terms}
 use Rattle.lane_rows.specs.Layout.{laneCount, markCount, top, laneLimit, inf, blockRows, priceRow, laneRows, suffixBase, reachBase, place, rowPlace, pricePlace, feeBase, feePlace, countPlace, suffixCuts, reachCuts, cutPlace, foursPlace, lanesIn, tablesSize}
 use Rattle.lane_rows.specs.Sheet.{Column, noColumn}
 use Rattle.lane_rows.specs.Tables.{Coded, Lane, Tables}
 use Rattle.model.specs.Limits.{longestLife}
 
-coded : (b : ℕ) (e : Bound) (v : ℕ) → b ≤ laneLimit → AtMost b e → v ≡ min (codeOf e) inf → Coded b v e
+pub coded : (b : ℕ) (e : Bound) (v : ℕ) → b ≤ laneLimit → AtMost b e → v ≡ min (codeOf e) inf → Coded b v e
 coded b Missing v h l f = omega arith
 coded b (Sum x) v h l f = (omega arith, l)
 
@@ -56,26 +57,19 @@ offers-all (s ∷ ss) ps fs h =
 
 module _ (life end first : ℤ) (ss : List ℤ) (ps : List ℕ) (fs : List Bool) (tab t₀ t₁ t₂ t₃ : List ℕ) (q : ℕ) (few : length ss ≤ 64) (all : (k : ℕ) → getD fs k true ≡ true) (p : length ps ≡ length ss) (cheap : (j : ℕ) → getD ps j 0 ≤ top)
     (s : Suffixes life end first ss ps fs tab 0)
-    (w₁ : FilledBy (λ (y : ℕ). rowPlace y q) (λ (y : ℕ). min (getD tab y 0) inf) ((length ss + 1) * markCount) t₀ t₁)
-    (w₂ : FilledBy (λ (x : ℕ). rowPlace (blockRows + x) q) (reachAt life first ss) (length ss * markCount) t₁ t₂)
-    (w₃ : FilledBy (λ (j : ℕ). rowPlace (priceRow + j) q) (λ (j : ℕ). getD ps j 0) (length ps) t₂ t₃) where
+    (w₁ : Triangle (λ (j i : ℕ). place suffixBase j i q) (ownOf tab) (length ss + 1) t₀ t₁)
+    (w₂ : Triangle (λ (j i : ℕ). place reachBase j i q) (reachOf life first ss) (length ss) t₁ t₂)
+    (w₃ : FilledBy (λ (j : ℕ). rowPlace (priceRow + j) q) (λ (j : ℕ). getD ps j 0) (length ps) t₂ t₃)
+    (in-lane : q < laneCount) where
   suffix : (j i : ℕ) → i ≤ j → j ≤ length ss → Coded (top * (length ss - j)) (getD t₃ (place suffixBase j i q) 0) (leastOf life end (markOf first ss i) (drop j (offers ss ps [])))
   suffix j i h g =
-      let y = j * markCount + i in
-      let z : place suffixBase j i q ≡ rowPlace y q = omega arith in
       coded (top * (length ss - j)) (leastOf life end (markOf first ss i) (drop j (offers ss ps []))) (getD t₃ (place suffixBase j i q) 0) (omega arith)
       (most-least top life end (markOf first ss i) ss ps [] j cheap)
-      (ap (λ (k : ℕ). getD t₃ k 0) z ∙ w₃ .rest (rowPlace y q) (λ x l e. omega (arith, e)) ∙ w₂ .rest (rowPlace y q) (λ x l e. omega (arith, e)) ∙ w₁ .done y (omega arith)
+      (w₃ .rest (place suffixBase j i q) (λ x l e. omega (arith, e)) ∙ w₂ .rest (place suffixBase j i q) (λ x y l m e. omega (arith, e)) ∙ w₁ .done j i h (omega arith)
       ∙ ap (λ (k : ℕ). min k inf) (s .rows j i (omega arith) g h ∙ ap (λ (os : List Offer). codeOf (leastOf life end (markOf first ss i) (drop j os))) (offers-all ss ps fs all)))
 
   reaches : (j i : ℕ) → i ≤ j → j < length ss → getD t₃ (place reachBase j i q) 0 ≡ cond (within life (markOf first ss i) (getD ss j (pos 0))) 0 inf
-  reaches j i h g =
-      let x = j * markCount + i in
-      let z : place reachBase j i q ≡ rowPlace (blockRows + x) q = omega arith in
-      let a : x / markCount ≡ j = omega arith in
-      let b : x % markCount ≡ i = omega arith in
-      ap (λ (k : ℕ). getD t₃ k 0) z ∙ w₃ .rest (rowPlace (blockRows + x) q) (λ y l e. omega (arith, e)) ∙ w₂ .done x (omega arith)
-      ∙ ap₂ (reachOf life first ss) a b ∙ rw (le-ltb (length ss) i (omega arith))
+  reaches j i h g = w₃ .rest (place reachBase j i q) (λ y l e. omega (arith, e)) ∙ w₂ .done j i h g
 
   price : (j : ℕ) → j < length ss → getD t₃ (pricePlace j q) 0 ≡ getD ps j 0
   price j h =
@@ -87,7 +81,9 @@ module _ (life end first : ℤ) (ss : List ℤ) (ps : List ℕ) (fs : List Bool)
       record {
         lane = record { suffix = suffix; reach = reaches; price = price; cheap = cheap };
         size = w₃ .size ∙ w₂ .size ∙ w₁ .size;
-        rest = λ x n. w₃ .rest x (λ j l. n (priceRow + j) (omega arith)) ∙ w₂ .rest x (λ k l. n (blockRows + k) (omega arith)) ∙ w₁ .rest x (λ y l. n y (omega arith));
+        rest = λ x n.
+            w₃ .rest x (λ j l. n (priceRow + j) (omega arith)) ∙ w₂ .rest x (λ j i l h e. n (blockRows + (j * markCount + i)) (omega arith) (omega (arith, e)))
+            ∙ w₁ .rest x (λ j i l h e. n (j * markCount + i) (omega arith) (omega (arith, e)));
       }
 
 -- a lane that nobody wrote to stays right
@@ -123,23 +119,31 @@ module _ (e : ℤ) (ss : List ℤ) (ls rs ps : List ℕ) where
             (f .lane);
       }
 
-columns-length : (n : ℕ) (ls rs ps : List ℕ) (q k : ℕ) → length (columnsFrom n ls rs ps q k) ≡ k
+pub columns-length : (n : ℕ) (ls rs ps : List ℕ) (q k : ℕ) → length (columnsFrom n ls rs ps q k) ≡ k
 unfolding columnsFrom
 columns-length n ls rs ps q zero = refl
 columns-length n ls rs ps q (suc k) = ap suc (columns-length n ls rs ps (suc q) k)
 
-columns-at : (n : ℕ) (ls rs ps : List ℕ) (q k i : ℕ) → i < k → getD (columnsFrom n ls rs ps q k) i noColumn ≡ columnOf (lanePart n ls rs ps (q + i))
+pub columns-at : (n : ℕ) (ls rs ps : List ℕ) (q k i : ℕ) → i < k → getD (columnsFrom n ls rs ps q k) i noColumn ≡ columnOf (lanePart n ls rs ps (q + i))
 unfolding columnsFrom
 columns-at n ls rs ps q zero i h = absurd (omega arith)
 columns-at n ls rs ps q (suc k) zero h = let z : q ≡ q + 0 = omega arith in ap (λ (x : ℕ). columnOf (lanePart n ls rs ps x)) z
 columns-at n ls rs ps q (suc k) (suc i) h = let z : suc q + i ≡ q + suc i = omega arith in columns-at n ls rs ps (suc q) k i (omega arith) ∙ ap (λ (x : ℕ). columnOf (lanePart n ls rs ps x)) z
 
--- as many lanes as the parts fill, the fees, the number of openings, the cuts, and how many fours there are
-pub tables-filled : (e : ℤ) (ss : List ℤ) (fs ls rs ps t u v w′ w z : List ℕ) (fours : ℕ) → fours ≡ foursOf (length ls) → Arrays e ss fs ls rs ps → Lanes e ss ls rs ps t (fours * 4)
+-- what holds of two parts' numbers holds of two lanes'
+lane-both : (P : ℕ → ℕ → Type 0) (l m : List ℕ) → length l ≡ length m → ((q : ℕ) → P (getD l q 0) (getD m q 0)) → (q : ℕ) → P (laneValue l q) (laneValue m q)
+lane-both P l m e f q = go (decLt q (length l))
+  where
+    go : Dec (q < length l) → P (laneValue l q) (laneValue m q)
+    go (yes g) = rw (there l q (getD l 0 0) 0 g, there m q (getD m 0 0) 0 (omega arith)) (f q)
+    go (no g) = rw (List·getD-eq-default l (getD l 0 0) {n = q} (omega (arith, g)), List·getD-eq-default m (getD m 0 0) {n = q} (omega (arith, g))) (f 0)
+
+-- as many lanes as the parts fill, the fees, the number of openings, the cuts, how many fours there are, and the terms
+pub tables-filled : (e : ℤ) (ss : List ℤ) (fs ls rs ps t u v w′ w z′ z : List ℕ) (fours : ℕ) → fours ≡ foursOf (length ls) → Arrays e ss fs ls rs ps → Lanes e ss ls rs ps t (fours * 4)
     → FilledBy feePlace (λ (j : ℕ). getD fs j 0) (length fs) t u → v ≡ set u countPlace (length fs)
-    → Filled (cutPlace suffixCuts) (DeadBelow (fours * 4) v suffixBase) (length ss + 1) v w′ → Filled (cutPlace reachCuts) (DeadBelow (fours * 4) w′ reachBase) (length ss) w′ w → z ≡ set w foursPlace fours
-    → Tables (sheetOf e ss fs ls rs ps) z
-tables-filled e ss fs ls rs ps t u v w′ w z fours is ar la a b c d f =
+    → Filled (cutPlace suffixCuts) (DeadBelow (fours * 4) v suffixBase) (length ss + 1) v w′ → Filled (cutPlace reachCuts) (DeadBelow (fours * 4) w′ reachBase) (length ss) w′ w → z′ ≡ set w foursPlace fours
+    → Terms (sheetOf e ss fs ls rs ps) z′ z (length ls) → Tables (sheetOf e ss fs ls rs ps) z
+tables-filled e ss fs ls rs ps t u v w′ w z′ z fours is ar la a b c d f g =
     record {
       size = long;
       few = ar .few;
@@ -148,11 +152,8 @@ tables-filled e ss fs ls rs ps t u v w′ w z fours is ar la a b c d f =
       narrow = omega (arith, wide, is, ar .lanes);
       paid = ar .paid;
       lanes = λ q h.
-          let l : q < foursOf (length ls) * 4 = omega (arith, wide, is) in
-          let y : 0 + q ≡ q = omega arith in
-          let k : getD (columnsFrom (length ss) ls rs ps 0 (foursOf (length ls) * 4)) q noColumn ≡ columnIn ss ls rs ps q = columns-at (length ss) ls rs ps 0 (foursOf (length ls) * 4) q l ∙ ap (columnIn ss ls rs ps) y in
-          subst (λ (col : Column). Lane e ss col z q) (sym k)
-          (lane-kept e ss (columnIn ss ls rs ps q) t z q (ar .few) (λ y m. under (rowPlace y q) (omega (arith, ar .lanes))) (la .right q (omega (arith, wide))));
+          subst (λ (col : Column). Lane e ss col z q) (sym (column-is q h))
+          (lane-kept e ss (columnIn ss ls rs ps q) t z q (ar .few) (λ y m. under (rowPlace y q) (omega (arith, wide, is, ar .lanes))) (la .right q (omega (arith, wide))));
       fees = λ j h. let few = ar .few in cuts (feePlace j) (omega arith) ∙ counted (feePlace j) (omega arith) ∙ a .done j (omega (arith, ar .paid));
       fair = ar .fair;
       count = cuts countPlace (omega arith) ∙ ap (λ (l : List ℕ). getD l countPlace 0) b ∙ getD-set-same u countPlace (length fs) 0 (omega (arith, a .size, la .size)) ∙ ar .paid;
@@ -169,20 +170,29 @@ tables-filled e ss fs ls rs ps t u v w′ w z fours is ar la a b c d f =
           let k = m .most in
           let x : q < laneCount = omega (arith, wide, is, ar .lanes) in
           last (place reachBase j i q) (omega arith) ∙ d .rest (place reachBase j i q) (λ y l e. omega (arith, e)) ∙ m .dead i r q (omega (arith, wide));
+      real = omega (arith, wide, is);
+      climbs = λ q h. subst (λ (col : Column). Climbs e (col .first) ss) (sym (column-is q h)) (lane-climbs q);
+      terms = g .right;
     }
   where
+    lane-climbs : (q : ℕ) → Climbs e (pos (laneValue rs q) -ℤ pos (laneValue ls q)) ss
+    lane-climbs q = first-climbs e ss (laneValue rs q) (laneValue ls q) (lane-both (λ (x y : ℕ). x ≤ y) rs ls (ar .lives .lefts) (ar .lives .first) q) (ar .climbs)
+
     long′ : length w ≡ tablesSize
     long′ = d .size ∙ c .size ∙ ap length b ∙ length-set u countPlace (length fs) ∙ a .size ∙ la .size
 
     long : length z ≡ tablesSize
-    long = ap length f ∙ length-set w foursPlace fours ∙ long′
+    long = g .size ∙ ap length f ∙ length-set w foursPlace fours ∙ long′
 
     wide : lanesIn z ≡ fours * 4
-    wide = ap (λ (l : List ℕ). getD l foursPlace 0 * 4) f ∙ ap (λ (k : ℕ). k * 4) (getD-set-same w foursPlace fours 0 (omega (arith, long′)))
+    wide = ap (λ (k : ℕ). k * 4) (g .rest foursPlace (omega arith)) ∙ ap (λ (l : List ℕ). getD l foursPlace 0 * 4) f ∙ ap (λ (k : ℕ). k * 4) (getD-set-same w foursPlace fours 0 (omega (arith, long′)))
+
+    column-is : (q : ℕ) → q < lanesIn z → getD (columnsFrom (length ss) ls rs ps 0 (foursOf (length ls) * 4)) q noColumn ≡ columnIn ss ls rs ps q
+    column-is q h = let y : 0 + q ≡ q = omega arith in columns-at (length ss) ls rs ps 0 (foursOf (length ls) * 4) q (omega (arith, wide, is)) ∙ ap (columnIn ss ls rs ps) y
 
     -- what stands before the number of fours, before the cuts, and before the number of openings
     last : (x : ℕ) → x < foursPlace → getD z x 0 ≡ getD w x 0
-    last x h = ap (λ (l : List ℕ). getD l x 0) f ∙ getD-set-other w foursPlace x fours 0 (λ e. omega (arith, e))
+    last x h = g .rest x (omega arith) ∙ ap (λ (l : List ℕ). getD l x 0) f ∙ getD-set-other w foursPlace x fours 0 (λ e. omega (arith, e))
 
     cuts : (x : ℕ) → x < suffixCuts → getD z x 0 ≡ getD v x 0
     cuts x h = last x (omega arith) ∙ d .rest x (λ y l e. omega (arith, e)) ∙ c .rest x (λ y l e. omega (arith, e))

@@ -6,6 +6,7 @@ use lib.ListN.{length, getD, take, drop}
 use lib.IntN.{ℤ, pos, _-ℤ_}
 use lib.Signed.{mag}
 use Rattle.model.specs.Model.{Part, Job, positions, end, lastChange, feeOf}
+use Rattle.model.specs.LastYes.{Climbs}
 use Rattle.model.specs.Verdict.{noPart}
 use Rattle.least.specs.Suffix.{tableSize}
 use Rattle.lane_rows.specs.Layout.{laneCount, top}
@@ -46,16 +47,17 @@ abbrev pub foursOf : ℕ → ℕ
 foursOf n = (n + 3) / 4
 
 abbrev pub sheetOf : ℤ → List ℤ → List ℕ → List ℕ → List ℕ → List ℕ → Sheet
-sheetOf e ss fs ls rs ps = record { end = e; positions = ss; fees = fs; columns = columnsFrom (length ss) ls rs ps 0 (foursOf (length ls) * 4) }
+sheetOf e ss fs ls rs ps = record { end = e; positions = ss; fees = fs; parts = length ls; columns = columnsFrom (length ss) ls rs ps 0 (foursOf (length ls) * 4) }
 
--- the parts' lives and first lives
+-- the parts' lives and first lives, at most the lives
 pub record Lifespans (ls rs : List ℕ) : Type 0 where
   pub some : 0 < length ls
   pub lefts : length rs ≡ length ls
   pub brief : (q : ℕ) → getD ls q 0 ≤ longestLife
   pub begun : (q : ℕ) → getD rs q 0 ≤ longestLife
+  pub first : (q : ℕ) → getD rs q 0 ≤ getD ls q 0
 
--- the arrays' lengths and ranges: e the end, ss positions, fs fees, ls lives, rs first lives, ps prices, which are 0 past the last part's
+-- the arrays' lengths and ranges: e the end, ss positions, which never fall, fs fees, ls lives, rs first lives, ps prices, which are 0 past the last part's
 pub record Arrays (e : ℤ) (ss : List ℤ) (fs ls rs ps : List ℕ) : Type 0 where
   pub few : length ss ≤ mostOpenings
   pub paid : length fs ≡ length ss
@@ -67,6 +69,7 @@ pub record Arrays (e : ℤ) (ss : List ℤ) (fs ls rs ps : List ℕ) : Type 0 wh
   pub free : (j : ℕ) → length ls * priceStride ≤ j → getD ps j 0 ≡ 0
   pub near : (j : ℕ) → mag (getD ss j (pos 0)) ≤ lastPosition
   pub late : mag e ≤ lastPosition
+  pub climbs : Climbs e (pos 0) ss
 
 -- the arrays, and room for one part's own table
 pub record Ready (e : ℤ) (ss : List ℤ) (fs ls rs ps tab : List ℕ) : Type 0 where

@@ -1,33 +1,38 @@
--- Filling the tables: lane by lane, then the fees, the number of openings and the cuts. What is not named stays as it was.
-use Prim.Native.Nat.{ℕ, _+_, _/_, _%_, _<_, _≤_}
+-- Filling the tables: lane by lane, then the fees, the number of openings, the cuts and, part by part, the terms. What is not named stays as it was.
+use Prim.Native.Nat.{ℕ, _+_, _-_, _*_, _<_, _≤_, min, max}
 use mathlib.Core.Path.{_≡_}
 use mathlib.Core.Bool.{cond}
-use mathlib.Core.List.{List}
-use lib.Dec.{ltb}
-use lib.ListN.{length, getD}
+use mathlib.Core.List.{List, []}
+use lib.ListN.{length, getD, take}
 use lib.IntN.{ℤ, pos}
+use Rattle.branch.specs.Lower.{largest}
 use Rattle.model.specs.Model.{within}
 use Rattle.least.specs.Marks.{markOf, Bits31}
-use Rattle.least.specs.Suffix.{Room}
+use Rattle.least.specs.Suffix.{cell, codeOf, Room}
 use Rattle.search.specs.Arrays.{lanePart, columnOf}
-use Rattle.lane_rows.specs.Layout.{laneCount, markCount, top, inf, blockSize, laneRows, tablesSize, rowPlace, place}
-use Rattle.lane_rows.specs.Sheet.{Column}
-use Rattle.lane_rows.specs.Tables.{Lane}
+use Rattle.lane_rows.specs.Layout.{laneCount, markCount, top, inf, blockSize, laneRows, tablesSize, rowPlace, place, termBase, termPlace}
+use Rattle.lane_rows.specs.Sheet.{Column, Sheet}
+use Rattle.lane_rows.specs.Tables.{Coded, Lane, feeFrom}
 
 -- lane q of the tables
 pub record InLane (q : ℕ) (t : List ℕ) : Type 0 where
   pub lane : q < laneCount
   pub size : length t ≡ tablesSize
 
--- is opening j in reach of mark i; past the last mark nothing is
+-- the places (j, i), i at most j and j below n, hold what f says, and every other place keeps its number
+pub record Triangle (at : ℕ → ℕ → ℕ) (f : ℕ → ℕ → ℕ) (n : ℕ) (before after : List ℕ) : Type 0 where
+  pub size : length after ≡ length before
+  pub done : (j i : ℕ) → i ≤ j → j < n → getD after (at j i) 0 ≡ f j i
+  pub rest : (x : ℕ) → ((j i : ℕ) → i ≤ j → j < n → x ≡ at j i → ⊥) → getD after x 0 ≡ getD before x 0
+
+-- a number of a part's own table, as the tables have it
+abbrev pub ownOf : List ℕ → ℕ → ℕ → ℕ
+ownOf tab j i = min (getD tab (cell j i) 0) inf
+
+-- is opening j in reach of mark i
 abbrev pub reachOf : ℤ → ℤ → List ℤ → ℕ → ℕ → ℕ
-reachOf life first ss j i = cond (ltb (length ss) i) inf (cond (within life (markOf first ss i) (getD ss j (pos 0))) 0 inf)
+reachOf life first ss j i = cond (within life (markOf first ss i) (getD ss j (pos 0))) 0 inf
 
--- the same by the block's row
-abbrev pub reachAt : ℤ → ℤ → List ℤ → ℕ → ℕ
-reachAt life first ss x = reachOf life first ss (x / markCount) (x % markCount)
-
--- a lane's column, from its life, its last change and its prices
 abbrev pub column : ℤ → ℤ → List ℕ → Column
 column life first ps = record { life = life; first = first; prices = ps }
 
@@ -62,3 +67,15 @@ pub record CutsAsk (lanes base off m : ℕ) (t : List ℕ) : Type 0 where
   pub few : m ≤ markCount
   pub above : base + blockSize ≤ off
   pub room : off + m ≤ tablesSize
+
+-- each term is now the larger of what it was and a part's, and nothing before the terms moved
+pub record Raised (sheet : Sheet) (col : Column) (t t' : List ℕ) : Type 0 where
+  pub size : length t' ≡ length t
+  pub raised : (j i : ℕ) → i ≤ j → j ≤ length (sheet .positions) → getD t' (termPlace j i) 0 ≡ max (getD t (termPlace j i) 0) (min (codeOf (feeFrom sheet j i col [])) inf)
+  pub rest : (x : ℕ) → x < termBase → getD t' x 0 ≡ getD t x 0
+
+-- the terms are now the largest over the first q parts, and nothing before them moved
+pub record Terms (sheet : Sheet) (t t' : List ℕ) (q : ℕ) : Type 0 where
+  pub size : length t' ≡ length t
+  pub right : (j i : ℕ) → i ≤ j → j ≤ length (sheet .positions) → Coded (top * (length (sheet .positions) - j)) (getD t' (termPlace j i) 0) (largest (feeFrom sheet j i) (take q (sheet .columns)) [])
+  pub rest : (x : ℕ) → x < termBase → getD t' x 0 ≡ getD t x 0

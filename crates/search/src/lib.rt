@@ -1,6 +1,7 @@
 // The planner's search: the tables of a job, the counted walk over them, and the plan of its incumbent.
 pub mod plan;
 pub mod tables;
+pub mod terms;
 
 ghost use Prim.Native.Nat.{_+_, _^_, _<_};
 ghost use Rattle.model.specs.Model.{Job};

@@ -6,10 +6,11 @@ ghost use lib.ListN.{length, getD, set};
 ghost use lib.IntN.{pos};
 ghost use Rattle.least.specs.Marks.{Bits31, markOf};
 ghost use Rattle.least.specs.Filled.{Filled, FilledBy};
-ghost use Rattle.lane_rows.specs.Layout.{laneCount, markCount, inf, blockRows, blockSize, rowPlace, priceRow, feePlace, cutPlace, tablesSize};
+ghost use Rattle.lane_rows.specs.Layout.{laneCount, markCount, inf, blockRows, blockSize, suffixBase, reachBase, place, rowPlace, priceRow, feePlace, cutPlace, tablesSize};
 ghost use Rattle.lane_rows.specs.Tables.{Tables};
 ghost use Rattle.search.specs.Arrays.{laneValue, lanePart, foursOf, columnOf, sheetOf, Lived, Lifespans, Ready};
-ghost use Rattle.search.specs.Fill.{reachOf, reachAt, column, InLane, LaneAsks, LaneFilled, Lanes, DeadBelow, CutsAsk};
+ghost use Rattle.search.specs.Fill.{Triangle, ownOf, reachOf, column, InLane, LaneAsks, LaneFilled, Lanes, DeadBelow, CutsAsk};
+use crate::terms::put_terms;
 use lane_rows::COUNT;
 use lane_rows::FEES;
 use lane_rows::FOURS;
@@ -22,9 +23,7 @@ use lane_rows::SUFFIXES;
 use least::MARKS;
 ghost use Rattle.model.specs.Limits.{longestLife, mostOpenings};
 
-// The rows of a block, and the row where the prices start.
-const BLOCK_ROWS: usize = 4225;
-
+// The row where the prices start.
 const PRICE_ROW: usize = 8450;
 
 // The prices of part q stand from q * 64 on.
@@ -70,7 +69,7 @@ pub fn lane_life(lives: &[u32], lefts: &[u32], q: usize) -> LaneLife
 }
 
 // A number of a part's own table, as a lane has it.
-fn capped(v: u64) -> u32
+pub fn capped(v: u64) -> u32
     ensures { λ r. ⌜ r ≡ min v inf ⌝ }
 {
     if v < INF as u64 { v as u32 } else { INF }
@@ -78,12 +77,9 @@ fn capped(v: u64) -> u32
 
 // 0 where opening j is in reach of mark i.
 fn reach(life: i32, first: i32, positions: &[i32], j: usize, i: usize) -> u32
-    requires { ⌜ (j < length (now positions)) × ((k : ℕ) → Bits31 (markOf first (now positions) k)) ⌝ }
+    requires { ⌜ (i ≤ j) × (j < length (now positions)) × ((k : ℕ) → Bits31 (markOf first (now positions) k)) ⌝ }
     ensures { λ r. ⌜ r ≡ reachOf life first (now (positions .entry)) j i ⌝ }
 {
-    if positions.len() < i {
-        return INF;
-    }
     if least::in_reach(life, least::mark(first, positions, i), positions[j]) {
         0
     } else {
@@ -91,26 +87,45 @@ fn reach(life: i32, first: i32, positions: &[i32], j: usize, i: usize) -> u32
     }
 }
 
-// One lane of the first m rows of the suffix prices, from a part's own table.
-fn put_suffixes(tab: &[u64], m: usize, q: usize, t: &mut [u32])
-    requires { ⌜ (m ≤ blockRows) × (blockRows ≤ length (now tab)) × (InLane q (now t)) ⌝ }
-    ensures { λ _. ⌜ FilledBy (λ (y : ℕ). rowPlace y q) (λ (y : ℕ). min (getD (now (tab .entry)) y 0) inf) m (now (t .entry)) (now (t .exit)) ⌝ }
+// One lane of the suffix prices from opening j on, from a part's own table.
+fn put_suffix(tab: &[u64], j: usize, q: usize, t: &mut [u32])
+    requires { ⌜ (j < markCount) × (blockRows ≤ length (now tab)) × (InLane q (now t)) ⌝ }
+    ensures { λ _. ⌜ FilledBy (λ (i : ℕ). place suffixBase j i q) (λ (i : ℕ). ownOf (now (tab .entry)) j i) (j + 1) (now (t .entry)) (now (t .exit)) ⌝ }
 {
-    for y in 0..m {
-        t[y * LANES + q] = capped(tab[y]);
+    for i in 0..j + 1 {
+        t[SUFFIXES + (j * MARKS + i) * LANES + q] = capped(tab[j * MARKS + i]);
     }
 }
 
-// One lane of the reach.
-fn put_reach(life: i32, first: i32, positions: &[i32], q: usize, t: &mut [u32])
-    requires { ⌜ (length (now positions) ≤ mostOpenings) × ((k : ℕ) → Bits31 (markOf first (now positions) k)) × (InLane q (now t)) ⌝ }
-    ensures { λ _. ⌜ FilledBy (λ (x : ℕ). rowPlace (blockRows + x) q) (reachAt life first (now (positions .entry))) (length (now (positions .entry)) * markCount) (now (t .entry)) (now (t .exit)) ⌝ }
+// One lane of the suffix prices from each of the first m openings on.
+fn put_suffixes(tab: &[u64], m: usize, q: usize, t: &mut [u32])
+    requires { ⌜ (m ≤ markCount) × (blockRows ≤ length (now tab)) × (InLane q (now t)) ⌝ }
+    ensures { λ _. ⌜ Triangle (λ (j i : ℕ). place suffixBase j i q) (ownOf (now (tab .entry))) m (now (t .entry)) (now (t .exit)) ⌝ }
 {
-    let n = positions.len() * MARKS;
-    let mut x = 0;
-    while x < n {
-        t[(BLOCK_ROWS + x) * LANES + q] = reach(life, first, positions, x / MARKS, x % MARKS);
-        x += 1;
+    for j in 0..m {
+        put_suffix(tab, j, q, t);
+    }
+}
+
+// One lane of the reach of opening j.
+fn put_reach(life: i32, first: i32, positions: &[i32], j: usize, q: usize, t: &mut [u32])
+    requires { ⌜ (j < length (now positions)) × (length (now positions) ≤ mostOpenings) × ((k : ℕ) → Bits31 (markOf first (now positions) k)) × (InLane q (now t)) ⌝ }
+    ensures { λ _. ⌜ FilledBy (λ (i : ℕ). place reachBase j i q) (λ (i : ℕ). reachOf life first (now (positions .entry)) j i) (j + 1) (now (t .entry)) (now (t .exit)) ⌝ }
+{
+    for i in 0..j + 1 {
+        t[REACHES + (j * MARKS + i) * LANES + q] = reach(life, first, positions, j, i);
+    }
+}
+
+// One lane of the reach of each opening.
+fn put_reaches(life: i32, first: i32, positions: &[i32], q: usize, t: &mut [u32])
+    requires { ⌜ (length (now positions) ≤ mostOpenings) × ((k : ℕ) → Bits31 (markOf first (now positions) k)) × (InLane q (now t)) ⌝ }
+    ensures { λ _. ⌜ Triangle (λ (j i : ℕ). place reachBase j i q) (reachOf life first (now (positions .entry))) (length (now (positions .entry))) (now (t .entry)) (now (t .exit)) ⌝ }
+{
+    let mut j = 0;
+    while j < positions.len() {
+        put_reach(life, first, positions, j, q, t);
+        j += 1;
     }
 }
 
@@ -143,8 +158,8 @@ fn fill_lane(
     let all = [true; 64];
     let n = positions.len();
     least::fill(life, end, first, positions, prices, &all[..n], tab);
-    put_suffixes(tab, (n + 1) * MARKS, q, t);
-    put_reach(life, first, positions, q, t);
+    put_suffixes(tab, n + 1, q, t);
+    put_reaches(life, first, positions, q, t);
     put_prices(prices, q, t);
 }
 
@@ -293,4 +308,5 @@ pub fn fill(
     put_cuts(lanes, SUFFIXES, SUFFIX_CUTS, positions.len() + 1, t);
     put_cuts(lanes, REACHES, REACH_CUTS, positions.len(), t);
     put_number(FOURS, fours as u32, t);
+    put_terms(end, positions, fees, lives, lefts, prices, tab, t);
 }

@@ -7,7 +7,7 @@ use Rattle.lines.specs.Fault.{beforeBreak, afterBreak, skipped, faultLine, faul
 use Rattle.branch.specs.Search.{walk, limited}
 use Rattle.branch.specs.Label.{treeOf}
 use Rattle.model.specs.Model.{idle, running, clock, within, kept, lastWithin, dueOf, select, sumAt}
-use Rattle.model.specs.LowerBound.{leastOf, choiceOf, offers, stopCost, boundOf}
+use Rattle.model.specs.LowerBound.{leastOf, choiceOf, offers, stopCost, undecidedFees, boundOf}
 use Rattle.model.specs.Promise.{answerOf}
 use Rattle.model.specs.Verdict.{firstLate, verdictFrom, judgedOf}
 use Rattle.job_text.specs.Grammar as job
@@ -19,5 +19,5 @@ use Rattle.planning.specs.Plan.{searchLines, plannedLines, planSaid}
 use Rattle.starred.specs.Table.{All, table}
 
 pub proved : All table
-unfolding table bytes decimalIn line joined digits numberFrom startsWith readValue readLine _>>=_ return inRange readField taken rowAt optionalAt ifPresent checked chain times end whole readText beforeBreak afterBreak skipped faultLine faultSpan walk limited treeOf idle running clock within kept lastWithin dueOf select sumAt leastOf choiceOf offers stopCost boundOf answerOf firstLate verdictFrom judgedOf job.idle job.idleSteps job.idles job.opening job.openings job.part job.body job.rest job.jobLines plan.any plan.part plan.parts plan.visit plan.visits plan.planOf plan.planLines visitText planText chosen visitsOf planLinesOf faultLines searchLines plannedLines costLines unkeptLines judgeSaid planSaid
+unfolding table bytes decimalIn line joined digits numberFrom startsWith readValue readLine _>>=_ return inRange readField taken rowAt optionalAt ifPresent checked chain times end whole readText beforeBreak afterBreak skipped faultLine faultSpan walk limited treeOf idle running clock within kept lastWithin dueOf select sumAt leastOf choiceOf offers stopCost undecidedFees boundOf answerOf firstLate verdictFrom judgedOf job.idle job.idleSteps job.idles job.opening job.openings job.part job.body job.rest job.jobLines plan.any plan.part plan.parts plan.visit plan.visits plan.planOf plan.planLines visitText planText chosen visitsOf planLinesOf faultLines searchLines plannedLines costLines unkeptLines judgeSaid planSaid
 proved = ((refl, refl, refl, refl, refl, refl), ((refl, refl, refl, refl, refl, refl), ((refl, refl, refl, refl, refl, refl), ((refl, refl, refl, refl, refl, refl), ((refl, refl, refl, refl, refl, refl), ((refl, refl, refl, refl, refl, refl), ((refl, refl, refl, refl, refl, refl), ((refl, refl, refl, refl, refl, refl), ((refl, refl, refl, refl, refl, refl), ((refl, refl, refl, refl, refl, refl), ((refl, refl, refl, refl, refl, refl), ((refl, refl, refl, refl, refl, refl), ((refl, refl, refl, refl, refl, refl), ((refl, refl, refl, refl, refl, refl), ((refl, refl, refl, refl, refl, refl), tt)))))))))))))))

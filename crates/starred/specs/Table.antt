@@ -56,7 +56,7 @@ table =
       call = planner;
       job = bytes "horizon=6\nwalk=11\nopenings=4\nopening=2\nfee=10\nopening=3\nfee=10\nopening=4\nfee=10\nopening=5\nfee=10\nparts=2\nlife=3\nleft=2\nprice=5\nprice=5\nprice=5\nprice=5\nlife=4\nleft=4\nprice=7\nprice=7\nprice=7\nprice=7\n";
       plan = bytes "";
-      written = bytes "result=0\nnodes=11\nfloor=17\ncost=37\nstops=2\nstop=2\ncount=1\npart=1\nstop=4\ncount=2\npart=1\npart=2\n";
+      written = bytes "result=0\nnodes=11\nfloor=37\ncost=37\nstops=2\nstop=2\ncount=1\npart=1\nstop=4\ncount=2\npart=1\npart=2\n";
       result = 0;
       text = 0;
       line = 0;
@@ -64,12 +64,12 @@ table =
       fault = bytes "";
     }
     ∷
-    -- `walk=10`: 7, nodes 10, floor 17, the same plan
+    -- `walk=10`: 7, nodes 10, floor 17 (37 by E4), the same plan
     record {
       call = planner;
       job = bytes "horizon=6\nwalk=10\nopenings=4\nopening=2\nfee=10\nopening=3\nfee=10\nopening=4\nfee=10\nopening=5\nfee=10\nparts=2\nlife=3\nleft=2\nprice=5\nprice=5\nprice=5\nprice=5\nlife=4\nleft=4\nprice=7\nprice=7\nprice=7\nprice=7\n";
       plan = bytes "";
-      written = bytes "result=7\nnodes=10\nfloor=17\ncost=37\nstops=2\nstop=2\ncount=1\npart=1\nstop=4\ncount=2\npart=1\npart=2\n";
+      written = bytes "result=7\nnodes=10\nfloor=37\ncost=37\nstops=2\nstop=2\ncount=1\npart=1\nstop=4\ncount=2\npart=1\npart=2\n";
       result = 7;
       text = 0;
       line = 0;
@@ -82,7 +82,7 @@ table =
       call = planner;
       job = bytes "horizon=6\nwalk=8\nopenings=4\nopening=2\nfee=10\nopening=3\nfee=10\nopening=4\nfee=10\nopening=5\nfee=10\nparts=2\nlife=3\nleft=2\nprice=5\nprice=5\nprice=5\nprice=5\nlife=4\nleft=4\nprice=7\nprice=7\nprice=7\nprice=7\n";
       plan = bytes "";
-      written = bytes "result=7\nnodes=8\nfloor=17\ncost=44\nstops=2\nstop=2\ncount=2\npart=1\npart=2\nstop=5\ncount=2\npart=1\npart=2\n";
+      written = bytes "result=7\nnodes=8\nfloor=37\ncost=44\nstops=2\nstop=2\ncount=2\npart=1\npart=2\nstop=5\ncount=2\npart=1\npart=2\n";
       result = 7;
       text = 0;
       line = 0;
@@ -95,7 +95,7 @@ table =
       call = planner;
       job = bytes "horizon=6\nwalk=6\nopenings=4\nopening=2\nfee=10\nopening=3\nfee=10\nopening=4\nfee=10\nopening=5\nfee=10\nparts=2\nlife=3\nleft=2\nprice=5\nprice=5\nprice=5\nprice=5\nlife=4\nleft=4\nprice=7\nprice=7\nprice=7\nprice=7\n";
       plan = bytes "";
-      written = bytes "result=7\nnodes=6\nfloor=17\n";
+      written = bytes "result=7\nnodes=6\nfloor=37\n";
       result = 7;
       text = 0;
       line = 0;
@@ -212,11 +212,11 @@ table =
       call = planner;
       job = bytes "horizon=6\nidles=1\nidle=3\nwalk=15\nopenings=4\nopening=2\nfee=10\nopening=3\nfee=10\nopening=4\nfee=10\nopening=5\nfee=10\nparts=2\nlife=3\nleft=2\nprice=5\nprice=5\nprice=5\nprice=5\nlife=4\nleft=4\nprice=7\nprice=7\nprice=7\nprice=7\n";
       plan = bytes "";
-      written = bytes "result=0\nnodes=15\nfloor=17\ncost=37\nstops=2\nstop=3\ncount=1\npart=1\nstop=5\ncount=2\npart=1\npart=2\n";
+      written = bytes "result=0\nnodes=9\nfloor=37\ncost=37\nstops=2\nstop=3\ncount=1\npart=1\nstop=5\ncount=2\npart=1\npart=2\n";
       result = 0;
       text = 0;
       line = 0;
-      length = 94;
+      length = 93;
       fault = bytes "";
     }
     ∷

@@ -19,13 +19,16 @@ use Rattle.branch.proofs.Bounds.{no-sum}
 use Rattle.branch.proofs.Steps.{fixed-stop, fixed-drop, fixed-open, open-full, open-both}
 use Rattle.model.specs.Model.{sumAt}
 use Rattle.model.specs.LowerBound.{Offer, leastOf, offers}
+use Rattle.model.specs.LastYes.{lastYes}
+use Rattle.model.proofs.LastYes.{last-no, last-yes}
 use Rattle.walk.specs.declared.Search.{Search}
 use Rattle.walk.specs.declared.Node.{Node}
-use Rattle.lane_rows.specs.Layout.{top, inf, suffixBase, reachBase, pricePlace, feePlace, suffixCuts, reachCuts, cutPlace, lanesIn}
-use Rattle.lane_rows.specs.Sheet.{Column, Sheet, columnBound, partSums, sheetBound}
+use Rattle.lane_rows.specs.Layout.{top, inf, suffixBase, reachBase, pricePlace, markPlace, feePlace, suffixCuts, reachCuts, cutPlace, lanesIn, termPlace}
+use Rattle.lane_rows.specs.Sheet.{Column, Sheet, columnBound, partSums, feeTerm, sheetBound}
 use Rattle.lane_rows.specs.Tables.{valueOf, Tables}
 use Rattle.lane_rows.specs.Rows.{lane, sumLanes, Rows, Stack, Put, Kept, nextRow, Owing, Settled}
 use Rattle.walk.specs.State.{bits, decided, incumbent, view, viewed, noCost, countedS, keptS, reachedS, undropped, openS, noN, yesN, Pending, ready, owed, At}
+use Rattle.lane_rows.proofs.Terms.{node-term}
 use Rattle.lane_rows.proofs.Lanes.{node-sum, node-rises, rows-no, rows-yes, rows-kept, kept-refl, stack-no, stack-yes}
 
 -- ---- decisions in a number
@@ -98,14 +101,48 @@ value-sum s x e = go (ltb s inf) refl e
 
 -- ---- a node
 
-module _ (sheet : Sheet) (t w : List ℕ) (p : Node) (stop : Bool) (e : Bound) (a : At sheet t w p stop e) where
-  pub bound-none : e ≡ Missing → sheetBound sheet (decided p) ≡ Missing
-  unfolding sheetBound
-  bound-none f = ap (add (Sum (sumAt (sheet .fees) (decided p)))) (sym (a .sums) ∙ f)
+-- its fees and its term, with which its part sums e make its bound
+pub record Due (sheet : Sheet) (p : Node) (e : Bound) (due : ℕ) : Type 0 where
+  pub none : e ≡ Missing → sheetBound sheet (decided p) ≡ Missing
+  pub some : (x : ℕ) → e ≡ Sum x → sheetBound sheet (decided p) ≡ Sum (due + x)
+  pub fits : (x : ℕ) → e ≡ Sum x → due + x < noCost
 
-  pub bound-some : (x : ℕ) → e ≡ Sum x → sheetBound sheet (decided p) ≡ Sum (p .spent + x)
+module _ (sheet : Sheet) (t w : List ℕ) (p : Node) (stop : Bool) (e : Bound) (a : At sheet t w p stop e) where
+  -- the node's bound, by its part sums and its term
+  bound-is : (b : Bound) → e ≡ b → sheetBound sheet (decided p) ≡ add (add (Sum (p .spent)) b) (feeTerm sheet (decided p))
   unfolding sheetBound
-  bound-some x f = ap (add (Sum (sumAt (sheet .fees) (decided p)))) (sym (a .sums) ∙ f) ∙ ap (λ (y : ℕ). Sum (y + x)) (sym (a .spent))
+  bound-is b f = ap₂ (λ (n : ℕ) (y : Bound). add (add (Sum n) y) (feeTerm sheet (decided p))) (sym (a .spent)) (sym (a .sums) ∙ f)
+
+  -- its term: the table's number for the last yes, m
+  termed : (m x : ℕ) → lastYes (decided p) ≡ m → e ≡ Sum x → (feeTerm sheet (decided p) ≡ Sum (getD t (termPlace (p .at) m) 0)) × (getD t (termPlace (p .at) m) 0 ≤ top * (length (sheet .positions) - p .at))
+  termed m x f g =
+      let z = bits-length (p .at) (p .mask) in
+      subst (λ (i : ℕ). (feeTerm sheet (decided p) ≡ Sum (getD t (termPlace (p .at) i) 0)) × (getD t (termPlace (p .at) i) 0 ≤ top * (length (sheet .positions) - p .at))) f
+      (subst (λ (j : ℕ). (feeTerm sheet (decided p) ≡ Sum (getD t (termPlace j (lastYes (decided p))) 0)) × (getD t (termPlace j (lastYes (decided p))) 0 ≤ top * (length (sheet .positions) - j))) z
+      (node-term sheet (decided p) (omega (arith, z, a .inside)) t (a .tables) x (sym (a .sums) ∙ g)))
+
+  -- a full node has no term
+  pub bound-full : (x : ℕ) → e ≡ Sum x → p .at ≡ length (sheet .positions) → sheetBound sheet (decided p) ≡ Sum (p .spent + x)
+  bound-full x f h =
+      let d = termed (lastYes (decided p)) x refl f in
+      bound-is (Sum x) f ∙ ap (add (Sum (p .spent + x))) (d .0) ∙ ap Sum (omega (arith, d .1))
+
+  -- a node's fees and its term
+  pub due-at : (m : ℕ) → lastYes (decided p) ≡ m → Due sheet p e (p .spent + getD t (termPlace (p .at) m) 0)
+  due-at m f =
+      record {
+        none = λ g. bound-is Missing g;
+        some = λ x g. bound-is (Sum x) g ∙ ap (add (Sum (p .spent + x))) (termed m x f g .0) ∙ ap Sum (omega arith);
+        fits = λ x g. omega (arith, termed m x f g .1, a .low x g, a .poor, a .inside, a .tables .few);
+      }
+
+  -- its first life's row is there
+  pub some-rows : 0 < p .rows
+  some-rows = go stop (a .rows)
+    where
+      go : (b : Bool) → Pending sheet w (decided p) (p .rows) b → 0 < p .rows
+      go false (ready r) = r .some
+      go true (owed q f r) = r .some
 
   pub owing : stop ≡ true → (0 < p .at) × Owing (lanesIn t) t w (p .at - 1) (p .rows)
   owing s = go stop (a .rows) s
@@ -170,6 +207,13 @@ module _ (sheet : Sheet) (t w w' : List ℕ) (p : Node) (stop : Bool) (e : Bound
         (subst (λ (n : ℕ). x ≤ sumLanes (lanesIn t) (λ (q : ℕ). lane t w' suffixBase (n + 1) q r)) size (omega (arith, y .0, node-rises sheet t w' (decided p) r (a .tables) ro (omega (arith, less)) less)), y .1),
       )
 
+  -- the last yes of each
+  pub last-no-is : lastYes (decided (noN p r)) ≡ getD w' (markPlace (r - 1)) 0
+  last-no-is = ap lastYes (bits-no (p .at) (p .mask)) ∙ last-no (decided p) ∙ sym (ro .last)
+
+  pub last-yes-is : (fee : ℕ) → lastYes (decided (yesN p r fee)) ≡ p .at + 1
+  last-yes-is fee = ap lastYes (bits-yes (p .at) (p .mask)) ∙ last-yes (decided p) ∙ omega (arith, size)
+
   pub at-no : (b : Bound) → b ≡ valueOf (sumLanes (lanesIn t) (λ (q : ℕ). lane t w' suffixBase (p .at + 1) q r)) → At sheet t w' (noN p r) false b
   at-no b g =
       let d = bits-no (p .at) (p .mask) in
@@ -203,9 +247,14 @@ module _ (sheet : Sheet) (t w w' : List ℕ) (p : Node) (stop : Bool) (e : Bound
         rows = owed (decided p) d (rows-kept sheet w' w'' (decided p) r ro k);
       }
 
+-- they make its bound
+pub due-bound : (sheet : Sheet) (p : Node) (e : Bound) (due : ℕ) → Due sheet p e due → add (Sum due) e ≡ sheetBound sheet (decided p)
+due-bound sheet p Missing due d = sym (d .none refl)
+due-bound sheet p (Sum x) due d = sym (d .some x refl)
+
 -- a node's fees and part sums are less than no plan's cost
-pub fits : (sheet : Sheet) (t w : List ℕ) (p : Node) (stop : Bool) (e : Bound) → At sheet t w p stop e → (x : ℕ) → e ≡ Sum x → p .spent + x < noCost
-fits sheet t w p stop e h x f = omega (arith, h .low x f, h .poor, h .inside, h .tables .few)
+pub fits : (sheet : Sheet) (t w : List ℕ) (p : Node) (stop : Bool) (x : ℕ) → At sheet t w p stop (Sum x) → p .spent + x < noCost
+fits sheet t w p stop x h = omega (arith, h .low x refl, h .poor, h .inside, h .tables .few)
 
 -- ---- the state
 
@@ -253,26 +302,26 @@ both-walked est L n p r fee s r₁ r₂ h f₁ f₂ =
 
 -- ---- a node that is reached, with what `open` says of it
 
-module _ (sheet : Sheet) (t w : List ℕ) (p : Node) (stop : Bool) (e : Bound) (a : At sheet t w p stop e) (L n k : ℕ) (s : Search) where
+module _ (sheet : Sheet) (p : Node) (e : Bound) (due : ℕ) (d : Due sheet p e due) (L n k : ℕ) (s : Search) where
   abbrev walked : Limited
   walked = limitedFrom (sheetBound sheet) L k (decided p) (view L n s)
 
-  tested : (x : ℕ) → e ≡ Sum x → below (sheetBound sheet (decided p)) (incumbent n s) ≡ viewed (p .spent + x) s
-  tested x f = ap (λ (b : Bound). below b (incumbent n s)) (bound-some sheet t w p stop e a x f) ∙ sym (improves-below n (p .spent + x) s (fits sheet t w p stop e a x f))
+  tested : (x : ℕ) → e ≡ Sum x → below (sheetBound sheet (decided p)) (incumbent n s) ≡ viewed (due + x) s
+  tested x f = ap (λ (b : Bound). below b (incumbent n s)) (d .some x f) ∙ sym (improves-below n (due + x) s (d .fits x f))
 
   -- it is not walked on
-  pub closed-walked : openS L (p .spent) e s ≡ Missing → view L n (reachedS L s) ≡ walked
+  pub closed-walked : openS L due e s ≡ Missing → view L n (reachedS L s) ≡ walked
   closed-walked f = go (leb L (s .count)) refl f
     where
-      drop : (e' : Bound) → e ≡ e' → undropped (p .spent) e' s ≡ Missing → below (sheetBound sheet (decided p)) (incumbent n s) ≡ false
-      drop Missing g h = ap (λ (b : Bound). below b (incumbent n s)) (bound-none sheet t w p stop e a g)
-      drop (Sum x) g h = tested x g ∙ no (viewed (p .spent + x) s) h
+      drop : (e' : Bound) → e ≡ e' → undropped due e' s ≡ Missing → below (sheetBound sheet (decided p)) (incumbent n s) ≡ false
+      drop Missing g h = ap (λ (b : Bound). below b (incumbent n s)) (d .none g)
+      drop (Sum x) g h = tested x g ∙ no (viewed (due + x) s) h
         where
           no : (b : Bool) → cond b (Sum x) Missing ≡ Missing → b ≡ false
           no true u = absurd (no-sum (Sum x) x u refl)
           no false u = refl
 
-      go : (b : Bool) → leb L (s .count) ≡ b → cond b Missing (undropped (p .spent) e s) ≡ Missing → view L n (reachedS L s) ≡ walked
+      go : (b : Bool) → leb L (s .count) ≡ b → cond b Missing (undropped due e s) ≡ Missing → view L n (reachedS L s) ≡ walked
       go true h u = let l = leb-true L (s .count) h in stopped-view L n s l ∙ sym (fixed-stop (sheetBound sheet) L k (decided p) (view L n s) (omega (arith, l)))
       go false h u = let l = leb-false L (s .count) h in passed-view L n s l ∙ sym (fixed-drop (sheetBound sheet) L k (decided p) (view L n s) (omega (arith, l)) (drop e refl u))
 
@@ -282,18 +331,18 @@ module _ (sheet : Sheet) (t w : List ℕ) (p : Node) (stop : Bool) (e : Bound) (
     pub within : s .count < L
     pub on : openFrom (sheetBound sheet) L k (decided p) (view L n (countedS s)) ≡ walked
 
-  pub open-walked : (y : ℕ) → openS L (p .spent) e s ≡ Sum y → Opened y
+  pub open-walked : (y : ℕ) → openS L due e s ≡ Sum y → Opened y
   open-walked y f = go (leb L (s .count)) refl f
     where
-      kept-on : (e' : Bound) → e ≡ e' → undropped (p .spent) e' s ≡ Sum y → (e ≡ Sum y) × (below (sheetBound sheet (decided p)) (incumbent n s) ≡ true)
+      kept-on : (e' : Bound) → e ≡ e' → undropped due e' s ≡ Sum y → (e ≡ Sum y) × (below (sheetBound sheet (decided p)) (incumbent n s) ≡ true)
       kept-on Missing g h = absurd (no-sum Missing y refl h)
-      kept-on (Sum x) g h = let r = yes (viewed (p .spent + x) s) h in (g ∙ r .0, tested x g ∙ r .1)
+      kept-on (Sum x) g h = let r = yes (viewed (due + x) s) h in (g ∙ r .0, tested x g ∙ r .1)
         where
           yes : (b : Bool) → cond b (Sum x) Missing ≡ Sum y → (Sum x ≡ Sum y) × (b ≡ true)
           yes true u = (u, refl)
           yes false u = absurd (no-sum Missing y refl u)
 
-      go : (b : Bool) → leb L (s .count) ≡ b → cond b Missing (undropped (p .spent) e s) ≡ Sum y → Opened y
+      go : (b : Bool) → leb L (s .count) ≡ b → cond b Missing (undropped due e s) ≡ Sum y → Opened y
       go true h u = absurd (no-sum Missing y refl u)
       go false h u =
           let r = kept-on e refl u in
@@ -323,12 +372,3 @@ module _ (sheet : Sheet) (t w : List ℕ) (ta : Tables sheet t) (ro : Rows sheet
     where
       fees-free : (fs : List ℕ) → sumAt fs [] ≡ 0
       fees-free fs = fees-none fs
-
-nothing-more : (e : Bound) → add (Sum 0) e ≡ e
-nothing-more Missing = refl
-nothing-more (Sum x) = ap Sum (omega arith)
-
--- at the first node no fee is paid
-pub root-bound : (sheet : Sheet) → sheetBound sheet [] ≡ partSums sheet []
-unfolding sheetBound sumAt
-root-bound sheet = nothing-more (partSums sheet [])

@@ -1,14 +1,16 @@
 // The counted walk over the tables of a job: a node, the state, and the recursion on both branches.
 ghost use mathlib.Core.Path.{_≡_};
 ghost use mathlib.Core.Bool.{true, false};
-ghost use Prim.Native.Nat.{ℕ, _+_, _-_, _*_, _^_, _<_, min};
-ghost use lib.ListN.{length};
+ghost use Prim.Native.Nat.{ℕ, _+_, _-_, _*_, _^_, _<_, _≤_, min};
+ghost use lib.ListN.{length, getD};
 ghost use Rattle.branch.specs.Label.{openFrom};
+ghost use Rattle.branch.specs.Lower.{add};
 ghost use Rattle.branch.specs.declared.Bound.{Bound};
 ghost use Rattle.branch.specs.declared.Bound.the-variants.{Sum};
+ghost use Rattle.lane_rows.specs.Layout.{inf, suffixBase, suffixCuts, cutPlace, lanesIn, tablesSize};
 ghost use Rattle.lane_rows.specs.Sheet.{Sheet, sheetBound};
-ghost use Rattle.lane_rows.specs.Tables.{Tables};
-ghost use Rattle.lane_rows.specs.Rows.{Kept};
+ghost use Rattle.lane_rows.specs.Tables.{valueOf, Tables};
+ghost use Rattle.lane_rows.specs.Rows.{lane, sumLanes, Stack, Kept};
 ghost use Rattle.walk.specs.State.{decided, view, viewed, countedS, keptS, overS, reachedS, openS, solvedS, noN, yesN, At, Solves};
 use branch::Bound;
 use lane_rows::COUNT;
@@ -20,7 +22,9 @@ use lane_rows::base_row;
 use lane_rows::cell;
 use lane_rows::first_sum;
 use lane_rows::lane_sum;
+use lane_rows::last_mark;
 use lane_rows::settle;
+use lane_rows::term;
 use lane_rows::value;
 
 // The cost where no full plan is found yet: more than any plan's.
@@ -98,6 +102,28 @@ impl Search {
         }
         Bound::Missing
     }
+
+    // The part sums of a node that is walked on, j openings decided, over the rows that are there; `spent` are its fees and its term. They are at least x, so before any row is summed the node is tested with x.
+    pub fn open_rows(
+        self,
+        t: &[u32],
+        w: &[u32],
+        limit: u64,
+        spent: u64,
+        j: usize,
+        rows: usize,
+        x: u64,
+    ) -> Bound
+        requires { ⌜ (length (now t) ≡ tablesSize) × Stack (lanesIn (now t)) (now t) (now w) suffixBase (getD (now t) (cutPlace suffixCuts j) 0) j rows ⌝ }
+        requires { ⌜ (x ≤ sumLanes (lanesIn (now t)) (λ (q : ℕ). lane (now t) (now w) suffixBase j q rows)) × (x < inf) × (spent + inf < 2 ^ 64) ⌝ }
+        ensures { λ r. ⌜ r ≡ openS limit spent (valueOf (sumLanes (lanesIn (now (t .entry))) (λ (q : ℕ). lane (now (t .entry)) (now (w .entry)) suffixBase j q rows))) self ⌝ }
+    {
+        let Bound::Sum(y) = self.open(limit, spent, Bound::Sum(x)) else {
+            return Bound::Missing;
+        };
+        let lo = cell(t, SUFFIX_CUTS, j);
+        self.open(limit, spent, value(lane_sum(t, w, lo, j, rows, y)))
+    }
 }
 
 // A node: how many openings are decided, the rows on the stack, the fees, and the decisions, the latest in the lowest bit.
@@ -155,13 +181,14 @@ pub fn walk(
         return s.kept(p.spent + x, p.mask);
     }
     let rows = settle(t, w, p.at, p.rows, stop);
-    let b = value(lane_sum(t, w, cell(t, SUFFIX_CUTS, p.at + 1), p.at + 1, rows, x));
-    let a = match s.open(limit, p.spent, b) {
+    let j = p.at + 1;
+    let due = p.spent + term(t, j, last_mark(w, rows));
+    let a = match s.open_rows(t, w, limit, due, j, rows, x) {
         Bound::Sum(y) => walk(t, w, limit, p.no(rows), false, y, s.counted()),
         Bound::Missing => s.reached(limit),
     };
     let fee = cell(t, FEES, p.at) as u64;
-    let Bound::Sum(y) = a.open(limit, p.spent + fee, Bound::Sum(x)) else {
+    let Bound::Sum(y) = a.open(limit, p.spent + fee + term(t, j, j), Bound::Sum(x)) else {
         return a.reached(limit);
     };
     // By way of a variable, so that the state of a node whose yes is dropped stays in registers.
@@ -205,19 +232,32 @@ impl Search {
     }
 }
 
+// A number more than a bound.
+fn plus(n: u64, e: Bound) -> Bound
+    requires { ⌜ ((x : ℕ) → e ≡ Sum x → n + x < 2 ^ 64) ⌝ }
+    ensures { λ r. ⌜ r ≡ add (Sum n) e ⌝ }
+{
+    let Bound::Sum(x) = e else {
+        return Bound::Missing;
+    };
+    Bound::Sum(n + x)
+}
+
 // The whole search with a limit, over the tables of a sheet.
 pub fn solve(t: &[u32; TABLES], w: &mut [u32; STACK], limit: u64) -> Solved
     requires { ⌜ ((sheet : Sheet) × Tables sheet (now t)) × (limit + 1 < 2 ^ 64) ⌝ }
     ensures { λ r. ⌜ ((sheet : Sheet) → Tables sheet (now (t .entry)) → Solves sheet limit r) ⌝ }
 {
     base_row(w);
-    let floor = value(first_sum(t));
+    let sums = value(first_sum(t));
+    let due = term(t, 0, 0);
+    let floor = plus(due, sums);
     let begun = Search {
         count: 0,
         cost: NO_COST,
         mask: 0,
     };
-    let Bound::Sum(x) = begun.open(limit, 0, floor) else {
+    let Bound::Sum(x) = begun.open(limit, due, sums) else {
         return begun.reached(limit).solved(floor, limit);
     };
     let root = Node {

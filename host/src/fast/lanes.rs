@@ -10,11 +10,6 @@ pub trait Lanes: Copy {
     fn splat(value: u32) -> Self;
     fn plus(self, other: Self) -> Self;
     fn least(self, other: Self) -> Self;
-    /// All bits of a lane where it is the same in both, else none.
-    fn equal(self, other: Self) -> Self;
-    fn and(self, other: Self) -> Self;
-    /// All bits of all lanes are set.
-    fn all_set(self) -> bool;
     /// The sum of the lanes.
     fn sum(self) -> u64;
 }
@@ -54,21 +49,6 @@ impl Lanes for Plain {
     }
 
     #[inline(always)]
-    fn equal(self, other: Plain) -> Plain {
-        self.each(other, |a, b| if a == b { u32::MAX } else { 0 })
-    }
-
-    #[inline(always)]
-    fn and(self, other: Plain) -> Plain {
-        self.each(other, |a, b| a & b)
-    }
-
-    #[inline(always)]
-    fn all_set(self) -> bool {
-        self.0[0] & self.0[1] & self.0[2] & self.0[3] == u32::MAX
-    }
-
-    #[inline(always)]
     fn sum(self) -> u64 {
         self.0.iter().map(|lane| u64::from(*lane)).sum()
     }
@@ -102,21 +82,6 @@ impl Lanes for Sse2 {
     #[inline(always)]
     fn least(self, other: Sse2) -> Sse2 {
         unsafe { Sse2(_mm_castps_si128(_mm_min_ps(_mm_castsi128_ps(self.0), _mm_castsi128_ps(other.0)))) }
-    }
-
-    #[inline(always)]
-    fn equal(self, other: Sse2) -> Sse2 {
-        unsafe { Sse2(_mm_cmpeq_epi32(self.0, other.0)) }
-    }
-
-    #[inline(always)]
-    fn and(self, other: Sse2) -> Sse2 {
-        unsafe { Sse2(_mm_and_si128(self.0, other.0)) }
-    }
-
-    #[inline(always)]
-    fn all_set(self) -> bool {
-        unsafe { _mm_movemask_epi8(self.0) == 0xFFFF }
     }
 
     #[inline(always)]
@@ -156,21 +121,6 @@ impl Lanes for Avx2 {
     #[inline(always)]
     fn least(self, other: Avx2) -> Avx2 {
         unsafe { Avx2(_mm256_min_epi32(self.0, other.0)) }
-    }
-
-    #[inline(always)]
-    fn equal(self, other: Avx2) -> Avx2 {
-        unsafe { Avx2(_mm256_cmpeq_epi32(self.0, other.0)) }
-    }
-
-    #[inline(always)]
-    fn and(self, other: Avx2) -> Avx2 {
-        unsafe { Avx2(_mm256_and_si256(self.0, other.0)) }
-    }
-
-    #[inline(always)]
-    fn all_set(self) -> bool {
-        unsafe { _mm256_movemask_epi8(self.0) == -1 }
     }
 
     #[inline(always)]

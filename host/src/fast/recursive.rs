@@ -1,7 +1,7 @@
 //! The walk in the library's form: a function that calls itself for both branches, no stop first. Node and state are passed by value.
 
 use super::lanes::Lanes;
-use super::walk::{total, Form, Front, Row, Search, Tables, INF};
+use super::walk::{Form, Front, Search, Tables, INF};
 
 impl Search {
     /// A node of this cost is walked on: it is within the limit and costs less than the best plan.
@@ -40,9 +40,9 @@ struct Node {
 pub struct Recursion;
 
 impl Form for Recursion {
-    fn search<V: Lanes, const Q: usize>(t: &Tables<V, Q>, front: &mut Front<V, Q>, limit: u64, (_, sum): (Row<V, Q>, u32)) -> Search {
+    fn search<V: Lanes, const Q: usize>(t: &Tables<V, Q>, front: &mut Front<V, Q>, limit: u64, sum: u32) -> Search {
         let begun = Search { count: 0, over: false, found: false, cost: 0, mask: 0 };
-        if !begun.opens(limit, sum.into()) {
+        if !begun.opens(limit, t.top(0) + u64::from(sum)) {
             return begun.reached(limit);
         }
         let root = Node { at: 0, rows: 1, spent: 0, mask: 0 };
@@ -51,6 +51,17 @@ impl Form for Recursion {
 }
 
 impl<V: Lanes, const Q: usize> Tables<V, Q> {
+    /// The part sums of the no where it is walked on. No part costs less than at the node above, so it is tested with that one's sum before
+    /// any row is summed; and where the sums are the same, the parts are.
+    #[inline(always)]
+    fn below(&self, front: &Front<V, Q>, limit: u64, rows: usize, at: usize, due: u64, sum: u32, state: Search) -> Option<u32> {
+        if !state.opens(limit, due + u64::from(sum)) {
+            return None;
+        }
+        let below = self.bound(front, rows, at, sum);
+        (below < INF && state.opens(limit, due + u64::from(below))).then_some(below)
+    }
+
     /// Walks on from a node that is counted and not dropped. `stop`: its last decision is a yes, whose row is owed.
     fn on(&self, front: &mut Front<V, Q>, limit: u64, node: Node, stop: bool, sum: u32, state: Search) -> Search {
         if node.at == self.count {
@@ -62,15 +73,13 @@ impl<V: Lanes, const Q: usize> Tables<V, Q> {
             rows += 1;
         }
         let no = Node { at: node.at + 1, rows, mask: node.mask * 2, ..node };
-        // No part costs less than at this node: where the sums are the same, the parts are.
-        let (_, below) = self.bound(front, rows, no.at, sum, |found| total(found) == sum);
-        let state = if below < INF && state.opens(limit, no.spent + u64::from(below)) {
-            self.on(front, limit, no, false, below, state.counted())
-        } else {
-            state.reached(limit)
+        let due = no.spent + self.term(front, rows, no.at);
+        let state = match self.below(front, limit, rows, no.at, due, sum, state) {
+            Some(below) => self.on(front, limit, no, false, below, state.counted()),
+            None => state.reached(limit),
         };
         let yes = Node { spent: node.spent + self.fees[node.at], mask: no.mask + 1, ..no };
-        if !state.opens(limit, yes.spent + u64::from(sum)) {
+        if !state.opens(limit, yes.spent + self.top(yes.at) + u64::from(sum)) {
             return state.reached(limit);
         }
         self.on(front, limit, yes, true, sum, state.counted())

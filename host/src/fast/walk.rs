@@ -1,7 +1,7 @@
 //! The tables and the walk as a loop. Mark 0 is the first life, mark k + 1 a change at opening k.
 
 use super::lanes::Lanes;
-use super::{Found, Job};
+use super::{Found, Job, Part};
 
 /// Stands for a missing price. A price that is not missing is at most 64,000,000, and sixteen of them sum to less than this; four of
 /// this still fit a lane.
@@ -24,6 +24,9 @@ pub struct Tables<V, const Q: usize> {
     /// For each opening, the marks below this one are missing for every part, in `ends` and in `reach`.
     ends_from: Vec<u32>,
     reach_from: Vec<u32>,
+    /// `terms[triangle(j) + mark]`: where j openings are decided and the mark is that of the last yes, the largest over the parts of the
+    /// least fee of openings that keep the part; INF where one has none.
+    terms: Vec<u32>,
 }
 
 /// Where the marks 0 to j of opening j begin in a table.
@@ -38,6 +41,27 @@ fn first_live(table: &[u32], lanes: usize, parts: usize, j: usize) -> u32 {
     (0..=j).find(live).unwrap_or(j) as u32
 }
 
+/// Raises the terms to those of a part.
+fn raise(terms: &mut [u32], part: &Part, positions: &[i32], fees: &[u32], last: i32) {
+    let count = positions.len();
+    let position = |mark: usize| if mark == 0 { part.left - part.life } else { positions[mark - 1] };
+    let mut least: [u32; MAX_OPENINGS + 1] =
+        std::array::from_fn(|mark| if mark <= count && position(mark) + part.life > last { 0 } else { INF });
+    for j in (0..=count).rev() {
+        if j < count {
+            let stopped = (least[j + 1] + fees[j]).min(INF);
+            for (mark, least) in least[..=j].iter_mut().enumerate() {
+                if positions[j] - position(mark) <= part.life {
+                    *least = stopped.min(*least);
+                }
+            }
+        }
+        for (term, least) in terms[triangle(j)..].iter_mut().zip(&least[..=j]) {
+            *term = *least.max(term);
+        }
+    }
+}
+
 impl<V: Lanes, const Q: usize> Tables<V, Q> {
     const LANES: usize = Q * V::COUNT;
 
@@ -49,6 +73,7 @@ impl<V: Lanes, const Q: usize> Tables<V, Q> {
         let mut reach = vec![0; triangle(count) * lanes];
         let positions: Vec<i32> = job.steps.iter().map(|step| job.running(*step)).collect();
         let last = job.running(job.horizon);
+        let mut terms = vec![0; triangle(count + 1)];
         for (p, part) in job.parts.iter().enumerate() {
             let position = |mark: usize| if mark == 0 { part.left - part.life } else { positions[mark - 1] };
             let at = |j: usize, mark: usize| (triangle(j) + mark) * lanes + p;
@@ -65,12 +90,14 @@ impl<V: Lanes, const Q: usize> Tables<V, Q> {
                     ends[at(j, mark)] = with.min(ends[at(j + 1, mark)]);
                 }
             }
+            raise(&mut terms, part, &positions, &job.fees, last);
         }
         Tables {
             count,
             fees: job.fees.iter().map(|fee| u64::from(*fee)).collect(),
             ends_from: (0..=count).map(|j| first_live(&ends, lanes, parts, j)).collect(),
             reach_from: (0..count).map(|j| first_live(&reach, lanes, parts, j)).collect(),
+            terms,
             prices: Self::rows(&prices),
             ends: Self::rows(&ends),
             reach: Self::rows(&reach),
@@ -89,15 +116,6 @@ fn take_least<V: Lanes, const Q: usize>(least: &mut Row<V, Q>, a: &Row<V, Q>, b:
     for q in 0..Q {
         least[q] = a[q].plus(b[q]).least(least[q]);
     }
-}
-
-#[inline(always)]
-fn same<V: Lanes, const Q: usize>(a: &Row<V, Q>, b: &Row<V, Q>) -> bool {
-    let mut same = a[0].equal(b[0]);
-    for q in 1..Q {
-        same = same.and(a[q].equal(b[q]));
-    }
-    same.all_set()
 }
 
 /// The sum of the parts, or INF where one is missing.
@@ -128,10 +146,9 @@ pub struct Search {
     pub mask: u64,
 }
 
-/// A node whose yes is still to be walked: its parts' least prices and their sum, the rows of its front, the fees of its stops.
+/// A node whose yes is still to be walked: its part sums, the rows of its front, the fees of its stops.
 #[derive(Clone, Copy)]
-struct Above<V, const Q: usize> {
-    least: Row<V, Q>,
+struct Above {
     sum: u32,
     rows: u32,
     spent: u64,
@@ -155,13 +172,29 @@ impl<V: Lanes, const Q: usize> Tables<V, Q> {
         (found, false)
     }
 
-    /// The parts' least prices over the stops of the front and openings j and later, with their sum. They are nowhere less than those of the
-    /// node above, whose sum is `sum`: where `reached` says that they are the same, the rows below need no look.
+    /// The sum of the parts' least prices over the stops of the front and openings j and later. None is less than at the node above, whose
+    /// sum is `sum`: where the sums are the same, the rows below need no look.
     #[inline(always)]
-    pub fn bound(&self, front: &Front<V, Q>, rows: usize, j: usize, sum: u32, reached: impl Fn(&Row<V, Q>) -> bool) -> (Row<V, Q>, u32) {
+    pub fn bound(&self, front: &Front<V, Q>, rows: usize, j: usize, sum: u32) -> u32 {
         let ends = &self.ends[triangle(j)..triangle(j + 1)];
-        let (found, reached) = Self::over(front, rows, self.ends_from[j], ends, reached);
-        (found, if reached { sum } else { total(&found) })
+        let (found, reached) = Self::over(front, rows, self.ends_from[j], ends, |found| total(found) == sum);
+        if reached {
+            sum
+        } else {
+            total(&found)
+        }
+    }
+
+    /// What is due at least for stops at openings j and later, where the front's last row is that of the last yes.
+    #[inline(always)]
+    pub fn term(&self, front: &Front<V, Q>, rows: usize, j: usize) -> u64 {
+        self.terms[triangle(j) + front.marks[rows - 1] as usize].into()
+    }
+
+    /// The same, where the last yes is at the opening before.
+    #[inline(always)]
+    pub fn top(&self, j: usize) -> u64 {
+        self.terms[triangle(j) + j].into()
     }
 
     /// Adds the row of a stop at opening j.
@@ -178,19 +211,20 @@ impl<V: Lanes, const Q: usize> Tables<V, Q> {
     pub fn walk<F: Form>(&self, limit: u64) -> Option<Found> {
         let none = [V::splat(0); Q];
         let mut front = Front { rows: [none; MAX_OPENINGS + 1], marks: [0; MAX_OPENINGS + 1] };
-        let (least, floor) = self.bound(&front, 1, 0, 0, |found| same(found, &none));
-        if floor == INF {
+        let sum = self.bound(&front, 1, 0, 0);
+        if sum == INF {
             return None;
         }
-        let Search { count, over, found, cost, mask } = F::search(self, &mut front, limit, (least, floor));
+        let floor = u64::from(sum) + self.top(0);
+        let Search { count, over, found, cost, mask } = F::search(self, &mut front, limit, sum);
         let stops = || (0..self.count).fold(0, |stops, k| stops | (mask >> (self.count - 1 - k) & 1) << k);
-        Some(Found { nodes: count, more: over, floor: floor.into(), best: found.then(|| (cost, stops())) })
+        Some(Found { nodes: count, more: over, floor, best: found.then(|| (cost, stops())) })
     }
 }
 
-/// How a walk goes on from the root, whose parts have these least prices with this sum.
+/// How a walk goes on from the root, with these part sums.
 pub trait Form {
-    fn search<V: Lanes, const Q: usize>(t: &Tables<V, Q>, front: &mut Front<V, Q>, limit: u64, root: (Row<V, Q>, u32)) -> Search;
+    fn search<V: Lanes, const Q: usize>(t: &Tables<V, Q>, front: &mut Front<V, Q>, limit: u64, root: u32) -> Search;
 }
 
 /// With a stack of its own.
@@ -198,32 +232,41 @@ pub struct Loop;
 
 impl Form for Loop {
     #[inline(always)]
-    fn search<V: Lanes, const Q: usize>(t: &Tables<V, Q>, front: &mut Front<V, Q>, limit: u64, root: (Row<V, Q>, u32)) -> Search {
-        let mut above = [Above { least: [V::splat(0); Q], sum: 0, rows: 0, spent: 0 }; MAX_OPENINGS];
+    fn search<V: Lanes, const Q: usize>(t: &Tables<V, Q>, front: &mut Front<V, Q>, limit: u64, root: u32) -> Search {
+        let mut above = [Above { sum: 0, rows: 0, spent: 0 }; MAX_OPENINGS];
         let (mut nodes, mut best, mut best_mask) = (0, u64::MAX, 0);
-        // The node: part sums, openings decided, decisions (the latest in the lowest bit), fees, rows, whether a stop's row is owed.
-        let (mut least, mut sum) = root;
-        let (mut at, mut mask, mut spent, mut rows, mut owes) = (0, 0u64, 0, 1, false);
+        // The node: part sums, openings decided, decisions (the latest in the lowest bit), fees, term, rows, whether a stop's row is owed.
+        let mut sum = root;
+        let (mut at, mut mask, mut spent, mut term, mut rows, mut owes) = (0, 0u64, 0, t.top(0), 1, false);
         let over = loop {
             if nodes == limit {
                 break true;
             }
             nodes += 1;
-            let cost = spent + u64::from(sum);
+            let cost = spent + term + u64::from(sum);
             if sum < INF && cost < best {
                 if at < t.count {
                     // On to the no below.
                     if owes {
                         t.push(front, rows, at - 1);
-                        (rows, least, owes) = (rows + 1, above[at - 1].least, false);
+                        (rows, owes) = (rows + 1, false);
                     }
-                    above[at] = Above { least, sum, rows: rows as u32, spent };
+                    above[at] = Above { sum, rows: rows as u32, spent };
                     at += 1;
                     mask *= 2;
-                    (least, sum) = t.bound(front, rows, at, sum, |found| same(found, &least));
-                    continue;
+                    term = t.term(front, rows, at);
+                    // It costs no less with its own part sums: no row needs a look where this drops it.
+                    if spent + term + u64::from(sum) < best {
+                        sum = t.bound(front, rows, at, sum);
+                        continue;
+                    }
+                    if nodes == limit {
+                        break true;
+                    }
+                    nodes += 1;
+                } else {
+                    (best, best_mask) = (cost, mask);
                 }
-                (best, best_mask) = (cost, mask);
             }
             // Back to the latest no: its yes comes next, with the same part sums.
             let yes = mask.trailing_ones() as usize;
@@ -233,7 +276,7 @@ impl Form for Loop {
             at -= yes;
             mask = mask >> yes | 1;
             let node = &above[at - 1];
-            (rows, sum, spent, owes) = (node.rows as usize, node.sum, node.spent + t.fees[at - 1], true);
+            (rows, sum, spent, term, owes) = (node.rows as usize, node.sum, node.spent + t.fees[at - 1], t.top(at), true);
         };
         Search { count: nodes, over, found: best < u64::MAX, cost: best, mask: best_mask }
     }

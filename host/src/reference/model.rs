@@ -92,6 +92,11 @@ impl Job {
     /// Of two of equal price, "the one that makes no stop at the earliest opening where they differ is taken"; "each part's least-price
     /// change set is chosen the same way".
     pub fn least(&self, part: &Part, allowed: &Set) -> Option<(u64, Set)> {
+        self.least_of(part, &part.prices, allowed)
+    }
+
+    /// The same of these prices.
+    pub fn least_of(&self, part: &Part, prices: &[u64], allowed: &Set) -> Option<(u64, Set)> {
         let count = self.openings.len();
         // The last change: 0 is the first life, k + 1 is opening k.
         let steps = [part.first_change()].into_iter().chain(self.openings.iter().map(|opening| opening.step));
@@ -107,7 +112,7 @@ impl Job {
             for last in 0..=k {
                 let without = left[k + 1][last];
                 let in_time = running[k + 1] - running[last] <= part.life;
-                let with = left[k + 1][k + 1].filter(|_| allowed[k] && in_time).map(|later: u64| later + part.prices[k]);
+                let with = left[k + 1][k + 1].filter(|_| allowed[k] && in_time).map(|later: u64| later + prices[k]);
                 changed[k][last] = match (without, with) {
                     (Some(without), Some(with)) => with < without,
                     (None, Some(_)) => true,

@@ -6,15 +6,33 @@ use super::model::{Job, Plan, Set};
 pub type Point = [bool];
 
 impl Job {
+    /// "The yes and undecided openings."
+    fn allowed(&self, point: &Point) -> Set {
+        (0..self.openings.len()).map(|k| point.get(k).copied().unwrap_or(true)).collect()
+    }
+
     /// "Its estimate is the fees of its yes openings, plus, for each part, the least price of a change set that keeps it over the yes
-    /// openings and all undecided ones. If some part has none, the estimate is missing."
-    pub fn estimate(&self, point: &Point) -> Option<u64> {
-        let allowed: Set = (0..self.openings.len()).map(|k| point.get(k).copied().unwrap_or(true)).collect();
+    /// openings and all undecided ones. If some part has none, the estimate is missing." This is the estimate before E4.
+    pub fn old_estimate(&self, point: &Point) -> Option<u64> {
+        let allowed = self.allowed(point);
         let mut sum = self.fees(point);
         for part in &self.parts {
             sum += self.least(part, &allowed)?.0;
         }
         Some(sum)
+    }
+
+    /// "For each part, take the least total fee of undecided openings in any change set that keeps it over the yes and undecided
+    /// openings. The largest of these over the parts is added to a point's estimate."
+    pub fn estimate(&self, point: &Point) -> Option<u64> {
+        let allowed = self.allowed(point);
+        let undecided: Vec<u64> =
+            self.openings.iter().enumerate().map(|(k, opening)| if k < point.len() { 0 } else { opening.fee }).collect();
+        let mut largest = 0;
+        for part in &self.parts {
+            largest = largest.max(self.least_of(part, &undecided, &allowed)?.0);
+        }
+        Some(self.old_estimate(point)? + largest)
     }
 
     /// The plan of these stops in which each part has its least-price change set.
@@ -30,11 +48,19 @@ impl Job {
 
     /// "The walk begins at the point with nothing decided."
     pub fn walk(&self, limit: u64) -> Walk {
+        self.walk_by(limit, Job::estimate)
+    }
+
+    /// The same walk by any estimate.
+    pub fn walk_by(&self, limit: u64, estimate: Estimate) -> Walk {
         let mut walk = Walk { limit, nodes: 0, more: false, best: None };
-        walk.reach(self, &mut Vec::new());
+        walk.reach(self, estimate, &mut Vec::new());
         walk
     }
 }
+
+/// A point's estimate.
+pub type Estimate = fn(&Job, &Point) -> Option<u64>;
 
 /// A walk of at most `limit` points.
 pub struct Walk {
@@ -48,7 +74,7 @@ pub struct Walk {
 }
 
 impl Walk {
-    fn reach(&mut self, job: &Job, point: &mut Set) {
+    fn reach(&mut self, job: &Job, estimate: Estimate, point: &mut Set) {
         // "If the whole walk, the one without a limit, has more, exactly that many are walked."
         if self.nodes == self.limit {
             self.more = true;
@@ -57,23 +83,23 @@ impl Walk {
         // "Each point reached counts one."
         self.nodes += 1;
         // "It is dropped if its estimate is missing or is not less than the best full plan so far."
-        let Some(estimate) = job.estimate(point) else {
+        let Some(found) = estimate(job, point) else {
             return;
         };
         if let Some((best, _)) = &self.best {
-            if estimate >= *best {
+            if found >= *best {
                 return;
             }
         }
         // "A full point not dropped becomes the best."
         if point.len() == job.openings.len() {
-            self.best = Some((estimate, point.clone()));
+            self.best = Some((found, point.clone()));
             return;
         }
         // "Otherwise both points below are walked, the no-stop one first."
         for stop in [false, true] {
             point.push(stop);
-            self.reach(job, point);
+            self.reach(job, estimate, point);
             point.pop();
         }
     }

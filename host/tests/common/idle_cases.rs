@@ -31,12 +31,12 @@ fn planned() -> Vec<Case> {
     let plan = |name, job: &str, answer| case(name, job, None, 0, answer);
     let first = "horizon=6 idles=3 idle=1 idle=2 idle=3 walk=9 openings=1 opening=4 fee=10 parts=1 life=3 left=1 price=5";
     vec![
-        plan("an idle opening is the stop", JOB, "result=0 nodes=9 floor=12 cost=22 stops=1 stop=4 count=2 part=1 part=2"),
-        plan("walk 8", &altered(JOB, "walk=9", "walk=8"), "result=7 nodes=8 floor=12 cost=22 stops=1 stop=4 count=2 part=1 part=2"),
-        plan("walk 5", &altered(JOB, "walk=9", "walk=5"), "result=7 nodes=5 floor=12"),
-        plan("a first life over idle steps", first, "result=0 nodes=3 floor=5 cost=15 stops=1 stop=4 count=1 part=1"),
+        plan("an idle opening is the stop", JOB, "result=0 nodes=9 floor=22 cost=22 stops=1 stop=4 count=2 part=1 part=2"),
+        plan("walk 8", &altered(JOB, "walk=9", "walk=8"), "result=7 nodes=8 floor=22 cost=22 stops=1 stop=4 count=2 part=1 part=2"),
+        plan("walk 5", &altered(JOB, "walk=9", "walk=5"), "result=7 nodes=5 floor=22"),
+        plan("a first life over idle steps", first, "result=0 nodes=3 floor=15 cost=15 stops=1 stop=4 count=1 part=1"),
         plan("one idle step fewer", &altered(first, "idles=3 idle=1", "idles=2"), "result=6"),
-        plan("an opening before the first running step", EARLY, "result=0 nodes=3 floor=4 cost=7 stops=1 stop=2 count=1 part=1"),
+        plan("an opening before the first running step", EARLY, "result=0 nodes=3 floor=7 cost=7 stops=1 stop=2 count=1 part=1"),
         plan("all steps idle", STILL, "result=0 nodes=3 floor=0 cost=0 stops=0"),
         plan("step T + 1 runs", "horizon=5 idles=2 idle=4 idle=5 walk=9 openings=0 parts=1 life=3 left=3", "result=6"),
         plan(

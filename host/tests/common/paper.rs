@@ -26,7 +26,7 @@ impl Case {
 const JOB: &str = "horizon=6 walk=11 openings=4 opening=2 fee=10 opening=3 fee=10 opening=4 fee=10 opening=5 fee=10 parts=2 \
     life=3 left=2 price=5 price=5 price=5 price=5 life=4 left=4 price=7 price=7 price=7 price=7";
 
-const PLANNED: &str = "result=0 nodes=11 floor=17 cost=37 stops=2 stop=2 count=1 part=1 stop=4 count=2 part=1 part=2";
+const PLANNED: &str = "result=0 nodes=11 floor=37 cost=37 stops=2 stop=2 count=1 part=1 stop=4 count=2 part=1 part=2";
 
 /// The text of these lines.
 pub fn text(lines: &str) -> Vec<u8> {
@@ -51,15 +51,15 @@ pub fn cases() -> Vec<Case> {
             "walk 10",
             &altered("walk=11", "walk=10"),
             0,
-            "result=7 nodes=10 floor=17 cost=37 stops=2 stop=2 count=1 part=1 stop=4 count=2 part=1 part=2",
+            "result=7 nodes=10 floor=37 cost=37 stops=2 stop=2 count=1 part=1 stop=4 count=2 part=1 part=2",
         ),
         plan(
             "walk 8",
             &altered("walk=11", "walk=8"),
             0,
-            "result=7 nodes=8 floor=17 cost=44 stops=2 stop=2 count=2 part=1 part=2 stop=5 count=2 part=1 part=2",
+            "result=7 nodes=8 floor=37 cost=44 stops=2 stop=2 count=2 part=1 part=2 stop=5 count=2 part=1 part=2",
         ),
-        plan("walk 6", &altered("walk=11", "walk=6"), 0, "result=7 nodes=6 floor=17"),
+        plan("walk 6", &altered("walk=11", "walk=6"), 0, "result=7 nodes=6 floor=37"),
         plan("left 1 for part 1", &altered("left=2", "left=1"), 0, "result=6"),
         plan(
             "all fees 0",

@@ -10,17 +10,18 @@ use borrow.Fn.Kinds.{In}
 use borrow.Fn.PlainCycle.{Measures, is, falls, and}
 use lib.ListN.{length}
 use Rattle.branch.specs.Label.{limitedFrom, openFrom}
-use Rattle.branch.specs.declared.Bound.{Bound}
 use Rattle.branch.specs.declared.Bound.the-variants.{Sum}
+use Rattle.branch.proofs.Bounds.{sum-inj}
 use Rattle.lane_rows.specs.Tables.{valueOf}
 use Rattle.walk.specs.declared.Search.{Search}
 use Rattle.walk.specs.declared.Node.{Node}
-use Rattle.lane_rows.specs.Layout.{suffixBase, lanesIn}
+use Rattle.lane_rows.specs.Layout.{inf, suffixBase, lanesIn}
 use Rattle.lane_rows.specs.Sheet.{Sheet, sheetBound}
-use Rattle.lane_rows.specs.Rows.{Kept, Rows, Stack}
-use Rattle.walk.specs.State.{decided, view, noN, yesN, At}
+use Rattle.lane_rows.specs.Rows.{lane, sumLanes, Kept, Rows}
+use Rattle.walk.specs.State.{decided, view, noCost, noN, yesN, At}
 use Rattle.lane_rows.proofs.Lanes.{kept-refl, kept-then}
-use Rattle.walk.proofs.Nodes.{bound-some, owing, settled, sums-asks, at-no, at-yes, mask-fits, fits, full-walked, both-walked, Opened, closed-walked, open-walked}
+use Rattle.lane_rows.proofs.Terms.{term-most}
+use Rattle.walk.proofs.Nodes.{bits-length, Due, due-at, bound-full, some-rows, owing, settled, sums-asks, last-no-is, last-yes-is, at-no, at-yes, mask-fits, fits, full-walked, both-walked, Opened, closed-walked, open-walked}
 use Rattle.walk.proofs.+walk.{statement}
 use Rattle.walk.proofs.+walk.Tie.{close}
 use Rattle.walk.proofs.Node.no.Reads as no-reads
@@ -28,11 +29,12 @@ use Rattle.walk.proofs.Node.yes.Reads as yes-reads
 use Rattle.walk.proofs.Search.counted.Reads as counted-reads
 use Rattle.walk.proofs.Search.kept.Reads as kept-reads
 use Rattle.walk.proofs.Search.open.Reads as open-reads
+use Rattle.walk.proofs.Search.open_rows.Reads as open-rows-reads
 use Rattle.walk.proofs.Search.reached.Reads as reached-reads
 use Rattle.lane_rows.proofs.cell.Reads as cell-reads
-use Rattle.lane_rows.proofs.lane_sum.Reads as lane-sum-reads
-use Rattle.lane_rows.proofs.value.Reads as value-reads
+use Rattle.lane_rows.proofs.last_mark.Reads as last-mark-reads
 use Rattle.lane_rows.proofs.settle.Reads as settle-reads
+use Rattle.lane_rows.proofs.term.Reads as term-reads
 use Rattle.walk.proofs.walk.Reads as walk
 use Rattle.walk.proofs.walk.Kinds as walk-kinds
 use Rattle.walk.proofs.+walk.Lts-walk as walk-lts
@@ -54,12 +56,12 @@ claims t = (
   kept-reads.Learnt,
   settle-reads.Asked,
   settle-reads.Learnt,
-  lane-sum-reads.Asked,
-  lane-sum-reads.Learnt,
-  value-reads.Asked,
-  value-reads.Learnt,
-  open-reads.Asked,
-  open-reads.Learnt,
+  last-mark-reads.Asked,
+  last-mark-reads.Learnt,
+  term-reads.Asked,
+  term-reads.Learnt,
+  open-rows-reads.Asked,
+  open-rows-reads.Learnt,
   no-reads.Asked,
   no-reads.Learnt,
   counted-reads.Asked,
@@ -68,6 +70,8 @@ claims t = (
   walk.Post,
   reached-reads.Asked,
   reached-reads.Learnt,
+  open-reads.Asked,
+  open-reads.Learnt,
   yes-reads.Asked,
   yes-reads.Learnt,
 )
@@ -84,7 +88,7 @@ abbrev Placed : ℕ → Type 0
 Placed t = walk-lts.After-settle (claims t) (walk-at t) walk.Post
 
 abbrev Tested : ℕ → Type 0
-Tested t = walk-lts.After-open (claims t) (walk-at t) walk.Post
+Tested t = walk-lts.After-open-rows (claims t) (walk-at t) walk.Post
 
 abbrev First : ℕ → Type 0
 First t = walk-lts.At-match-came (claims t) (walk-at t) walk.Post
@@ -96,7 +100,7 @@ abbrev undecided : (t : ℕ) → Placed t → Undecided t
 undecided t c = c .before .before .before
 
 abbrev placed : (t : ℕ) → Tested t → Placed t
-placed t c = c .before .before .before .before .before .before .before .before .before .before
+placed t c = c .before .before .before .before .before .before .before .before .before .before .before
 
 abbrev start : (t : ℕ) → Tested t → Begun t
 start t c = begun t (undecided t (placed t c))
@@ -122,7 +126,7 @@ walk-add-kept : (t : ℕ) → walk-lts.Need-add-kept (claims t) (walk-at t) walk
 walk-add-kept t c =
     let b = c .before .before .before .before .before in
     let a = b .args in
-    omega (arith, fits (sheet-of t b) (a .t .now) (a .w .now) (a .p) (a .stop) (Sum (a .x)) (given t b) (a .x) refl)
+    omega (arith, fits (sheet-of t b) (a .t .now) (a .w .now) (a .p) (a .stop) (a .x) (given t b))
 
 walk-kept-requires : (t : ℕ) → walk-lts.Need-kept-requires (claims t) (walk-at t) walk.Post
 walk-kept-requires t c κs = search needs
@@ -132,8 +136,9 @@ walk-returns t c =
     let a = c .before .before .before .before .before .before .args in (
       λ sheet h.
           let n = length (sheet .positions) in
+          let all = c .before .before .if1 .taken ∙ c .before .before .before .before .cell .ensures ∙ h .tables .count in
           ap (view (a .limit) n) (c .kept .ensures)
-          ∙ full-walked (sheetBound sheet) (a .limit) n (a .p .spent + a .x) (a .p) (a .s) (bound-some sheet (a .t .now) (a .w .now) (a .p) (a .stop) (Sum (a .x)) h (a .x) refl) (fits sheet (a .t .now) (a .w .now) (a .p) (a .stop) (Sum (a .x)) h (a .x) refl) (c .before .before .if1 .taken ∙ c .before .before .before .before .cell .ensures ∙ h .tables .count),
+          ∙ full-walked (sheetBound sheet) (a .limit) n (a .p .spent + a .x) (a .p) (a .s) (bound-full sheet (a .t .now) (a .w .now) (a .p) (a .stop) (Sum (a .x)) h (a .x) refl all) (fits sheet (a .t .now) (a .w .now) (a .p) (a .stop) (a .x) h) all,
       kept-refl (a .w .now) (a .p .rows),
     )
 
@@ -159,47 +164,99 @@ under t c sheet h = omega (arith, h .inside, h .tables .count, c .before .before
 near : (t : ℕ) (c : Undecided t) → begun t c .args .p .at < 64
 near t c = let h = given t (begun t c) in omega (arith, under t c (sheet-of t (begun t c)) h, h .tables .few)
 
-walk-add-cell : (t : ℕ) → walk-lts.Need-add-cell (claims t) (walk-at t) walk.Post
-walk-add-cell t c = omega (arith, near t (undecided t (c .before .before .before .before .before)))
+walk-add-j : (t : ℕ) → walk-lts.Need-add-j (claims t) (walk-at t) walk.Post
+walk-add-j t c = omega (arith, near t (undecided t (c .before)))
 
-walk-cell-requires-2 : (t : ℕ) → walk-lts.Need-cell-requires-2 (claims t) (walk-at t) walk.Post
-walk-cell-requires-2 t c κs =
-    let u = undecided t (c .before .before .before .before .before) in
-    let size = given t (begun t u) .tables .size in
-    (omega (arith, near t u, size), size)
+-- ---- the no child. `Last`: its last yes is read; `Noted`: its term is read
 
-walk-add-lane-sum : (t : ℕ) → walk-lts.Need-add-lane-sum (claims t) (walk-at t) walk.Post
-walk-add-lane-sum t c = omega (arith, near t (undecided t (c .before .before .before .before .before .before .before)))
+abbrev Last : ℕ → Type 0
+Last t = walk-lts.After-last-mark (claims t) (walk-at t) walk.Post
 
-walk-lane-sum-requires : (t : ℕ) → walk-lts.Need-lane-sum-requires (claims t) (walk-at t) walk.Post
-walk-lane-sum-requires t c κs =
-    let o = c .before .before .before .before .before .before .before in
+abbrev Noted : ℕ → Type 0
+Noted t = walk-lts.After-term (claims t) (walk-at t) walk.Post
+
+abbrev laid : (t : ℕ) → Last t → Placed t
+laid t c = c .before .before .before .before .before
+
+abbrev noted : (t : ℕ) → Tested t → Noted t
+noted t c = c .before .before .before .before .before
+
+walk-last-mark-requires : (t : ℕ) → walk-lts.Need-last-mark-requires (claims t) (walk-at t) walk.Post
+walk-last-mark-requires t c κs =
+    let o = c .before .before .before .before in
+    let b = begun t (undecided t o) in
+    let a = b .args in
+    let r = stands t o (sheet-of t b) (given t b) in (
+      omega (arith, r .2, some-rows (sheet-of t b) (a .t .now) (a .w .now) (a .p) (a .stop) (Sum (a .x)) (given t b)),
+      omega (arith, r .2, r .0 .few, bits-length (a .p .at) (a .p .mask), near t (undecided t o)),
+      r .0 .size,
+    )
+
+-- the last yes is a decided opening
+decided-mark : (t : ℕ) (c : Last t) → c .last-mark .result ≤ begun t (undecided t (laid t c)) .args .p .at
+decided-mark t c =
+    let o = laid t c in
+    let b = begun t (undecided t o) in
+    let r = stands t o (sheet-of t b) (given t b) .0 in
+    let h = r .some in
+    omega (arith, c .last-mark .ensures, r .marks (o .settle .result - 1) (omega arith), bits-length (b .args .p .at) (b .args .p .mask))
+
+walk-term-requires : (t : ℕ) → walk-lts.Need-term-requires (claims t) (walk-at t) walk.Post
+walk-term-requires t c κs = let u = undecided t (laid t c) in (given t (begun t u) .tables .size, omega (arith, near t u), omega (arith, near t u, decided-mark t c))
+
+-- its part sums
+abbrev sums : (t : ℕ) → Placed t → ℕ
+sums t c = let a = begun t (undecided t c) .args in sumLanes (lanesIn (a .t .now)) (λ (q : ℕ). lane (a .t .now) (c .settle .last .1 .0) suffixBase (a .p .at + 1) q (c .settle .result))
+
+no-given : (t : ℕ) (c : Placed t) (sheet : Sheet)
+    → let b = begun t (undecided t c) in
+    Given t b sheet → At sheet (b .args .t .now) (c .settle .last .1 .0) (noN (b .args .p) (c .settle .result)) false (valueOf (sums t c))
+no-given t c sheet h =
+    let a = begun t (undecided t c) .args in
+    at-no sheet (a .t .now) (a .w .now) (c .settle .last .1 .0) (a .p) (a .stop) (Sum (a .x)) (c .settle .result) (a .x) h refl (stands t c sheet h .0) (under t (undecided t c) sheet h)
+    (valueOf (sums t c)) refl
+
+-- its fees and its term
+abbrev no-owes : (t : ℕ) → Noted t → ℕ
+no-owes t c = begun t (undecided t (laid t (c .before))) .args .p .spent + c .term .result
+
+no-due : (t : ℕ) (c : Noted t) (sheet : Sheet)
+    → let o = laid t (c .before) in
+    let b = begun t (undecided t o) in
+    Given t b sheet → Due sheet (noN (b .args .p) (o .settle .result)) (valueOf (sums t o)) (no-owes t c)
+no-due t c sheet h =
+    let o = laid t (c .before) in
+    let a = begun t (undecided t o) .args in
+    subst (λ (g : ℕ). Due sheet (noN (a .p) (o .settle .result)) (valueOf (sums t o)) (a .p .spent + g)) (sym (c .term .ensures))
+    (due-at sheet (a .t .now) (o .settle .last .1 .0) (noN (a .p) (o .settle .result)) false (valueOf (sums t o)) (no-given t o sheet h) (c .before .last-mark .result)
+    (last-no-is sheet (a .t .now) (a .w .now) (o .settle .last .1 .0) (a .p) (a .stop) (Sum (a .x)) (o .settle .result) (a .x) h refl (stands t o sheet h .0) (under t (undecided t o) sheet h) ∙ sym (c .before .last-mark .ensures)))
+
+no-low : (t : ℕ) (c : Noted t) → no-owes t c + inf < 2 ^ 64
+no-low t c =
+    let u = undecided t (laid t (c .before)) in
+    let h = given t (begun t u) in
+    let a = begun t u .args in
+    omega (
+      arith,
+      h .poor,
+      near t u,
+      c .term .ensures,
+      term-most (sheet-of t (begun t u)) (a .t .now) (h .tables) (a .p .at + 1) (c .before .last-mark .result) (omega (arith, decided-mark t (c .before))) (omega (arith, under t u (sheet-of t (begun t u)) h)),
+    )
+
+walk-add-due : (t : ℕ) → walk-lts.Need-add-due (claims t) (walk-at t) walk.Post
+walk-add-due t c = omega (arith, no-low t (c .before))
+
+walk-open-rows-requires : (t : ℕ) → walk-lts.Need-open-rows-requires (claims t) (walk-at t) walk.Post
+walk-open-rows-requires t c κs =
+    let g = c .before .before .before .before in
+    let o = laid t (g .before) in
     let b = begun t (undecided t o) in
     let a = b .args in
     let sheet = sheet-of t b in
     let h = given t b in
     let r = sums-asks sheet (a .t .now) (a .w .now) (o .settle .last .1 .0) (a .p) (a .stop) (Sum (a .x)) (o .settle .result) (a .x) h refl (stands t o sheet h .0) (under t (undecided t o) sheet h) in
-    ((h .tables .size, subst (λ (lo : ℕ). Stack (lanesIn (a .t .now)) (a .t .now) (o .settle .last .1 .0) suffixBase lo (a .p .at + 1) (o .settle .result)) (sym (c .before .cell2 .ensures)) (r .0)), r .1 .0)
-
-walk-value-requires : (t : ℕ) → walk-lts.Need-value-requires (claims t) (walk-at t) walk.Post
-walk-value-requires t c κs = search needs
-
--- the no child
-no-given : (t : ℕ) (c : walk-lts.After-value (claims t) (walk-at t) walk.Post) (sheet : Sheet)
-    → let o = c .before .before .before .before .before .before .before .before .before in
-    let b = begun t (undecided t o) in
-    Given t b sheet → At sheet (b .args .t .now) (o .settle .last .1 .0) (noN (b .args .p) (o .settle .result)) false (c .value .result)
-no-given t c sheet h =
-    let o = c .before .before .before .before .before .before .before .before .before in
-    let a = begun t (undecided t o) .args in
-    at-no sheet (a .t .now) (a .w .now) (o .settle .last .1 .0) (a .p) (a .stop) (Sum (a .x)) (o .settle .result) (a .x) h refl (stands t o sheet h .0) (under t (undecided t o) sheet h)
-    (c .value .result) (c .value .ensures ∙ ap valueOf (c .before .lane-sum .ensures))
-
-walk-open-requires : (t : ℕ) → walk-lts.Need-open-requires (claims t) (walk-at t) walk.Post
-walk-open-requires t c κs =
-    let o = c .before .before .before .before .before .before .before .before .before in
-    let b = begun t (undecided t o) in
-    λ x f. omega (arith, fits (sheet-of t b) (b .args .t .now) (o .settle .last .1 .0) (noN (b .args .p) (o .settle .result)) false (c .value .result) (no-given t c (sheet-of t b) (given t b)) x f)
+    ((h .tables .size, r .0), (r .1 .0, r .1 .1, no-low t g))
 
 walk-enum-known-y : (t : ℕ) → walk-lts.Need-enum-known-y (claims t) (walk-at t) walk.Post
 walk-enum-known-y t c = search needs
@@ -216,13 +273,13 @@ opened : (t : ℕ) (c : walk-lts.After-y (claims t) (walk-at t) walk.Post) (shee
     let a = start t (c .before .before) .args in
     let n = length (sheet .positions) in
     (h : Given t (start t (c .before .before)) sheet)
-    → Opened sheet (a .t .now) (o .settle .last .1 .0) (noN (a .p) (o .settle .result)) false (c .before .before .before .value .result) (no-given t (c .before .before .before) sheet h) (a .limit) n (n - (a .p .at + 1)) (a .s) (c .y .given .0 .0)
+    → Opened sheet (noN (a .p) (o .settle .result)) (valueOf (sums t o)) (no-owes t (noted t (c .before .before))) (no-due t (noted t (c .before .before)) sheet h) (a .limit) n (n - (a .p .at + 1)) (a .s) (c .y .given .0 .0)
 opened t c sheet h =
     let o = placed t (c .before .before) in
     let a = start t (c .before .before) .args in
     let n = length (sheet .positions) in
-    open-walked sheet (a .t .now) (o .settle .last .1 .0) (noN (a .p) (o .settle .result)) false (c .before .before .before .value .result) (no-given t (c .before .before .before) sheet h) (a .limit) n (n - (a .p .at + 1)) (a .s) (c .y .given .0 .0)
-    (sym (c .before .before .open .ensures) ∙ c .y .given .1)
+    open-walked sheet (noN (a .p) (o .settle .result)) (valueOf (sums t o)) (no-owes t (noted t (c .before .before))) (no-due t (noted t (c .before .before)) sheet h) (a .limit) n (n - (a .p .at + 1)) (a .s) (c .y .given .0 .0)
+    (sym (c .before .before .open-rows .ensures) ∙ c .y .given .1)
 
 walk-counted-requires : (t : ℕ) → walk-lts.Need-counted-requires (claims t) (walk-at t) walk.Post
 walk-counted-requires t c κs =
@@ -238,7 +295,7 @@ no-child t c sheet h =
     let o = placed t (c .before .before .before .before .before) in
     let a = start t (c .before .before .before .before .before) .args in
     subst (λ (q : Node). At sheet (a .t .now) (o .settle .last .1 .0) q false (Sum (c .before .before .before .y .given .0 .0))) (sym (c .no .ensures))
-    (subst (At sheet (a .t .now) (o .settle .last .1 .0) (noN (a .p) (o .settle .result)) false) (opened t (c .before .before .before) sheet h .sums) (no-given t (c .before .before .before .before .before .before) sheet h))
+    (subst (At sheet (a .t .now) (o .settle .last .1 .0) (noN (a .p) (o .settle .result)) false) (opened t (c .before .before .before) sheet h .sums) (no-given t o sheet h))
 
 walk-walk-requires : (t : ℕ) → walk-lts.Need-walk-requires (claims t) (walk-at t) walk.Post
 walk-walk-requires t c κs =
@@ -276,8 +333,8 @@ passed-by t c sheet h =
     let a = start t (c .before .before .before) .args in
     let n = length (sheet .positions) in
     ap (view (a .limit) n) (c .reached .ensures)
-    ∙ closed-walked sheet (a .t .now) (o .settle .last .1 .0) (noN (a .p) (o .settle .result)) false (c .before .before .before .before .value .result) (no-given t (c .before .before .before .before) sheet h) (a .limit) n (n - (a .p .at + 1)) (a .s)
-    (sym (c .before .before .before .open .ensures) ∙ c .before .enum-told .given .1)
+    ∙ closed-walked sheet (noN (a .p) (o .settle .result)) (valueOf (sums t o)) (no-owes t (noted t (c .before .before .before))) (no-due t (noted t (c .before .before .before)) sheet h) (a .limit) n (n - (a .p .at + 1)) (a .s)
+    (sym (c .before .before .before .open-rows .ensures) ∙ c .before .enum-told .given .1)
 
 -- the first branch, either way
 first-walked : (t : ℕ) (c : First t) (sheet : Sheet)
@@ -315,13 +372,13 @@ walk-enum-told t c = search needs
 walk-reached-requires : (t : ℕ) → walk-lts.Need-reached-requires (claims t) (walk-at t) walk.Post
 walk-reached-requires t c κs = limits t (start t (c .before .before))
 
-walk-cell-requires-3 : (t : ℕ) → walk-lts.Need-cell-requires-3 (claims t) (walk-at t) walk.Post
-walk-cell-requires-3 t c κs =
+walk-cell-requires-2 : (t : ℕ) → walk-lts.Need-cell-requires-2 (claims t) (walk-at t) walk.Post
+walk-cell-requires-2 t c κs =
     let u = undecided t (placed t (c .before .before)) in
     let size = given t (begun t u) .tables .size in
     (omega (arith, near t u, size), size)
 
--- ---- the second branch. `Paid`: its fee is read
+-- ---- the second branch. `Paid`: its fee is read; `Owed`: its term too
 
 abbrev Paid : ℕ → Type 0
 Paid t = walk-lts.After-struct-known5 (claims t) (walk-at t) walk.Post
@@ -331,7 +388,7 @@ first t c = c .before .before .before
 
 -- its node
 abbrev yes-node : (t : ℕ) → Paid t → Node
-yes-node t c = yesN (start t (first t c .before) .args .p) (placed t (first t c .before) .settle .result) (c .before .cell3 .result)
+yes-node t c = yesN (start t (first t c .before) .args .p) (placed t (first t c .before) .settle .result) (c .before .cell2 .result)
 
 -- its fees fit
 paid : (t : ℕ) (c : Paid t) → yes-node t c .spent < 2 ^ 64
@@ -339,7 +396,7 @@ paid t c =
     let u = undecided t (placed t (first t c .before)) in
     let h = given t (begun t u) in
     let p = begun t u .args .p in
-    omega (arith, h .poor, near t u, c .before .cell3 .ensures, h .tables .fees (p .at) (under t u (sheet-of t (begun t u)) h), h .tables .fair (p .at))
+    omega (arith, h .poor, near t u, c .before .cell2 .ensures, h .tables .fees (p .at) (under t u (sheet-of t (begun t u)) h), h .tables .fair (p .at))
 
 walk-add-open : (t : ℕ) → walk-lts.Need-add-open (claims t) (walk-at t) walk.Post
 walk-add-open t c = omega (arith, paid t c)
@@ -354,13 +411,45 @@ yes-given t c sheet h =
     let o = placed t (f .before) in
     let a = start t (f .before) .args in
     at-yes sheet (a .t .now) (a .w .now) (o .settle .last .1 .0) (a .p) (a .stop) (Sum (a .x)) (o .settle .result) (a .x) h refl (stands t o sheet h .0) (under t (undecided t o) sheet h)
-    (f .match .w) (c .before .cell3 .result) (first-keeps t f) (c .before .cell3 .ensures)
+    (f .match .w) (c .before .cell2 .result) (first-keeps t f) (c .before .cell2 .ensures)
 
-walk-open-requires-2 : (t : ℕ) → walk-lts.Need-open-requires-2 (claims t) (walk-at t) walk.Post
-walk-open-requires-2 t c κs =
-    let f = first t c in
-    let b = start t (f .before) in
-    λ x e. omega (arith, fits (sheet-of t b) (b .args .t .now) (f .match .w) (yes-node t c) true (Sum (b .args .x)) (yes-given t c (sheet-of t b) (given t b)) x e)
+abbrev Owed : ℕ → Type 0
+Owed t = walk-lts.After-term2 (claims t) (walk-at t) walk.Post
+
+abbrev paying : (t : ℕ) → Owed t → Paid t
+paying t c = c .before .before
+
+walk-term-requires-2 : (t : ℕ) → walk-lts.Need-term-requires-2 (claims t) (walk-at t) walk.Post
+walk-term-requires-2 t c κs =
+    let u = undecided t (placed t (first t (c .before) .before)) in
+    (given t (begun t u) .tables .size, omega (arith, near t u), omega (arith, near t u))
+
+-- its fees and its term
+abbrev yes-owes : (t : ℕ) → Owed t → ℕ
+yes-owes t c = yes-node t (paying t c) .spent + c .term2 .result
+
+yes-due : (t : ℕ) (c : Owed t) (sheet : Sheet)
+    → let q = paying t c in
+    let a = start t (first t q .before) .args in
+    Given t (start t (first t q .before)) sheet → Due sheet (yes-node t q) (Sum (a .x)) (yes-owes t c)
+yes-due t c sheet h =
+    let q = paying t c in
+    let f = first t q in
+    let o = placed t (f .before) in
+    let a = start t (f .before) .args in
+    subst (λ (g : ℕ). Due sheet (yes-node t q) (Sum (a .x)) (yes-node t q .spent + g)) (sym (c .term2 .ensures))
+    (due-at sheet (a .t .now) (f .match .w) (yes-node t q) true (Sum (a .x)) (yes-given t q sheet h) (a .p .at + 1)
+    (last-yes-is sheet (a .t .now) (a .w .now) (o .settle .last .1 .0) (a .p) (a .stop) (Sum (a .x)) (o .settle .result) (a .x) h refl (stands t o sheet h .0) (under t (undecided t o) sheet h) (q .before .cell2 .result)))
+
+-- they fit with its part sums
+yes-fits : (t : ℕ) (c : Owed t) → let a = start t (first t (paying t c) .before) .args in yes-owes t c + a .x < noCost
+yes-fits t c = let b = start t (first t (paying t c) .before) in yes-due t c (sheet-of t b) (given t b) .fits (b .args .x) refl
+
+walk-add-open-2 : (t : ℕ) → walk-lts.Need-add-open-2 (claims t) (walk-at t) walk.Post
+walk-add-open-2 t c = omega (arith, yes-fits t c)
+
+walk-open-requires : (t : ℕ) → walk-lts.Need-open-requires (claims t) (walk-at t) walk.Post
+walk-open-requires t c κs = λ x e. let z = sum-inj (Sum (start t (first t (paying t c) .before) .args .x)) (start t (first t (paying t c) .before) .args .x) x refl e in omega (arith, yes-fits t c)
 
 walk-enum-known-y-2 : (t : ℕ) → walk-lts.Need-enum-known-y-2 (claims t) (walk-at t) walk.Post
 walk-enum-known-y-2 t c = search needs
@@ -369,7 +458,7 @@ walk-enum-told-2 : (t : ℕ) → walk-lts.Need-enum-told-2 (claims t) (walk-at t
 walk-enum-told-2 t c = search needs
 
 walk-reached-requires-2 : (t : ℕ) → walk-lts.Need-reached-requires-2 (claims t) (walk-at t) walk.Post
-walk-reached-requires-2 t c κs = limits t (start t (first t (c .before .before .before) .before))
+walk-reached-requires-2 t c κs = limits t (start t (first t (paying t (c .before .before .before)) .before))
 
 -- both branches, from what is walked of the second
 both : (t : ℕ) (c : Paid t) (sheet : Sheet) (r : Search)
@@ -383,41 +472,44 @@ both t c sheet r h e =
     let o = placed t (f .before) in
     let a = start t (f .before) .args in
     let n = length (sheet .positions) in
-    both-walked (sheetBound sheet) (a .limit) n (a .p) (o .settle .result) (c .before .cell3 .result) (view (a .limit) n (a .s)) (view (a .limit) n (f .match .a)) (view (a .limit) n r)
+    both-walked (sheetBound sheet) (a .limit) n (a .p) (o .settle .result) (c .before .cell2 .result) (view (a .limit) n (a .s)) (view (a .limit) n (f .match .a)) (view (a .limit) n r)
     (under t (undecided t o) sheet h) (first-walked t f sheet h) e
 
 walk-returns-2 : (t : ℕ) → walk-lts.Need-returns-2 (claims t) (walk-at t) walk.Post
 walk-returns-2 t c =
-    let y = c .before .before .before .before in
+    let g = c .before .before .before .before in
+    let y = paying t g in
     let f = first t y in
     let a = start t (f .before) .args in (
       λ sheet h.
           let n = length (sheet .positions) in
           both t y sheet (c .reached2 .result) h
           (ap (view (a .limit) n) (c .reached2 .ensures)
-          ∙ closed-walked sheet (a .t .now) (f .match .w) (yes-node t y) true (Sum (a .x)) (yes-given t y sheet h) (a .limit) n (n - (a .p .at + 1)) (f .match .a) (sym (c .before .before .before .open2 .ensures) ∙ c .before .enum-told2 .given .1)),
+          ∙ closed-walked sheet (yes-node t y) (Sum (a .x)) (yes-owes t g) (yes-due t g sheet h) (a .limit) n (n - (a .p .at + 1)) (f .match .a) (sym (c .before .before .before .«open» .ensures) ∙ c .before .enum-told2 .given .1)),
       all-kept t f,
     )
 
 -- it is walked on, with the part sums y
 yes-opened : (t : ℕ) (c : walk-lts.After-y2 (claims t) (walk-at t) walk.Post) (sheet : Sheet)
-    → let q = c .before .before .before in
+    → let g = c .before .before .before in
+    let q = paying t g in
     let f = first t q in
     let a = start t (f .before) .args in
     let n = length (sheet .positions) in
     (h : Given t (start t (f .before)) sheet)
-    → Opened sheet (a .t .now) (f .match .w) (yes-node t q) true (Sum (a .x)) (yes-given t q sheet h) (a .limit) n (n - (a .p .at + 1)) (f .match .a) (c .y2 .given .0 .0)
+    → Opened sheet (yes-node t q) (Sum (a .x)) (yes-owes t g) (yes-due t g sheet h) (a .limit) n (n - (a .p .at + 1)) (f .match .a) (c .y2 .given .0 .0)
 yes-opened t c sheet h =
-    let q = c .before .before .before in
+    let g = c .before .before .before in
+    let q = paying t g in
     let f = first t q in
     let a = start t (f .before) .args in
     let n = length (sheet .positions) in
-    open-walked sheet (a .t .now) (f .match .w) (yes-node t q) true (Sum (a .x)) (yes-given t q sheet h) (a .limit) n (n - (a .p .at + 1)) (f .match .a) (c .y2 .given .0 .0)
-    (sym (c .before .before .open2 .ensures) ∙ c .y2 .given .1)
+    open-walked sheet (yes-node t q) (Sum (a .x)) (yes-owes t g) (yes-due t g sheet h) (a .limit) n (n - (a .p .at + 1)) (f .match .a) (c .y2 .given .0 .0)
+    (sym (c .before .before .«open» .ensures) ∙ c .y2 .given .1)
 
 walk-yes-requires : (t : ℕ) → walk-lts.Need-yes-requires (claims t) (walk-at t) walk.Post
 walk-yes-requires t c κs =
-    let q = c .before .before .before .before .before in
+    let q = paying t (c .before .before .before .before .before) in
     let u = undecided t (placed t (first t q .before)) in
     let p = begun t u .args .p in
     (near t u, mask-fits (p .at) (p .mask) (given t (begun t u) .mask) (near t u), paid t q)
@@ -427,7 +519,7 @@ abbrev Second : ℕ → Type 0
 Second t = walk-lts.After-yes (claims t) (walk-at t) walk.Post
 
 abbrev from : (t : ℕ) → Second t → Paid t
-from t c = c .before .before .before .before .before .before
+from t c = paying t (c .before .before .before .before .before .before)
 
 walk-counted-requires-2 : (t : ℕ) → walk-lts.Need-counted-requires-2 (claims t) (walk-at t) walk.Post
 walk-counted-requires-2 t c κs =
@@ -484,21 +576,22 @@ pub +walk-spec : {M : Type 1} → statement M
     (walk-kept-requires t)
     (walk-returns t)
     (walk-settle-requires t)
-    (walk-add-cell t)
-    (walk-cell-requires-2 t)
-    (walk-add-lane-sum t)
-    (walk-lane-sum-requires t)
-    (walk-value-requires t)
-    (walk-open-requires t)
+    (walk-add-j t)
+    (walk-last-mark-requires t)
+    (walk-term-requires t)
+    (walk-add-due t)
+    (walk-open-rows-requires t)
     (walk-enum-known-y t)
     (walk-no-requires t)
     (walk-counted-requires t)
     (walk-walk-requires t)
     (walk-enum-told t)
     (walk-reached-requires t)
-    (walk-cell-requires-3 t)
+    (walk-cell-requires-2 t)
     (walk-add-open t)
-    (walk-open-requires-2 t)
+    (walk-term-requires-2 t)
+    (walk-add-open-2 t)
+    (walk-open-requires t)
     (walk-enum-known-y-2 t)
     (walk-enum-told-2 t)
     (walk-reached-requires-2 t)

@@ -1,4 +1,4 @@
--- `fill` makes the tables of the sheet: as many lanes as the parts fill, then the fees, the number of openings, the cuts and the number of fours, which keep them.
+-- `fill` makes the tables of the sheet: as many lanes as the parts fill, then the fees, the number of openings, the cuts, the number of fours and the terms, which keep them.
 use Prim.Native.Nat.{_*_}
 use mathlib.Core.Path.{ap, subst, _∙_}
 use native.Mathlib.Omega.{arith}
@@ -7,10 +7,22 @@ use lib.ListN.{length, length-set}
 use lib.IntN.{ℤ}
 use mir.Facts.{toZ-ofZ}
 use Rattle.lane_rows.specs.Layout.{countPlace}
-use Rattle.search.specs.Fill.{Lanes}
+use Rattle.search.specs.Arrays.{sheetOf}
+use Rattle.search.specs.Fill.{Lanes, Terms}
 use Rattle.search.proofs.Filling.{tables-filled, ready-back}
 use Rattle.search.proofs.tables.fill.Statement.{statement}
 use Rattle.search.proofs.tables.fill.Tie as tie
+
+-- where the lanes are filled
+abbrev lanes : tie.After-slice-known9 → tie.After-fill-lanes
+lanes c = c .before .before .before .before .before .before .before .before .before .before .before .before .before .before .before .before .before .before .before .before .before .before .before .before
+
+abbrev start : tie.After-fill-lanes → tie.Start
+start c = c .before .before .before .before .before .before .before .before .before .before
+
+-- before the terms
+abbrev numbered : tie.After-slice-known11 → tie.After-slice-known9
+numbered c = c .before .before .before .before .before .before .before
 
 fours-of-requires : tie.Need-fours-of-requires
 fours-of-requires c κs = search needs
@@ -59,32 +71,46 @@ cast-put-number-2 c = let f = c .before .before .before .before .before .before 
 put-number-requires-2 : tie.Need-put-number-requires-2
 put-number-requires-2 c κs = search needs
 
+put-terms-requires : tie.Need-put-terms-requires
+put-terms-requires c κs =
+    let k = c .before .before in
+    let l = lanes k in
+    let b = start l in
+    let a = b .args in
+    let u = k .before .before .before .before .before .before .before .before .before .before .before .before .before .before .before .before .before .before .put-fees in
+    let v = k .before .before .before .before .before .before .before .before .before .before .before .before .before .before .put-number in
+    let x = k .before .before .before .before .before .before .before .before .before .before .put-cuts in
+    let y = k .before .before .before .before .before .before .put-cuts2 in
+    let z = k .before .before .put-number2 in (
+      ready-back (b .fits .end) (b .pre .0 .arrays) (omega (arith, b .pre .0 .room, l .fill-lanes .kept .1 .1 .1 .1 .1 .1 .1 .0)),
+      z .kept .1 .1 .0 ∙ y .kept .1 .1 .1 .1 .0 ∙ x .kept .1 .1 .1 .1 .0 ∙ v .kept .1 .1 .0 ∙ u .kept .1 .0 ∙ l .fill-lanes .ensures .size,
+    )
+
 same-length : tie.Need-same-length
-same-length c = search needs
+same-length c = c .before .before .before .before .put-terms .kept .1 .1 .1 .1 .1 .1 .0 ∙ lanes (numbered c) .fill-lanes .kept .1 .1 .1 .1 .1 .1 .1 .0
 
 same-length-2 : tie.Need-same-length-2
 same-length-2 c = search needs
 
--- where the lanes are filled
-abbrev lanes : tie.After-slice-known9 → tie.After-fill-lanes
-lanes c = c .before .before .before .before .before .before .before .before .before .before .before .before .before .before .before .before .before .before .before .before .before .before .before .before
-
 returns : tie.Need-returns
 returns c =
-    let l = lanes c in
+    let k = numbered c in
+    let l = lanes k in
     let f = l .before .before .before .fours-of in
-    let b = l .before .before .before .before .before .before .before .before .before .before in
+    let b = start l in
     let a = b .args in
     let t = l .fill-lanes .last .1 .1 .1 .1 .1 .1 .1 .1 .0 in
-    let u = c .before .before .before .before .before .before .before .before .before .before .before .before .before .before .before .before .before .before .put-fees in
-    let v = c .before .before .before .before .before .before .before .before .before .before .before .before .before .before .put-number in
-    let x = c .before .before .before .before .before .before .before .before .before .before .put-cuts in
-    let y = c .before .before .before .before .before .before .put-cuts2 in
-    let z = c .before .before .put-number2 in
-    tables-filled (a .end) (a .positions .now) (a .fees .now) (a .lives .now) (a .lefts .now) (a .prices .now) t (u .last .1 .0) (v .last .1 .1 .0) (x .last .1 .1 .1 .1 .0) (y .last .1 .1 .1 .1 .0) (z .last .1 .1 .0)
+    let u = k .before .before .before .before .before .before .before .before .before .before .before .before .before .before .before .before .before .before .put-fees in
+    let v = k .before .before .before .before .before .before .before .before .before .before .before .before .before .before .put-number in
+    let x = k .before .before .before .before .before .before .before .before .before .before .put-cuts in
+    let y = k .before .before .before .before .before .before .put-cuts2 in
+    let z = k .before .before .put-number2 in
+    let g = c .before .before .before .before .put-terms in
+    tables-filled (a .end) (a .positions .now) (a .fees .now) (a .lives .now) (a .lefts .now) (a .prices .now) t (u .last .1 .0) (v .last .1 .1 .0) (x .last .1 .1 .1 .1 .0) (y .last .1 .1 .1 .1 .0) (z .last .1 .1 .0) (g .last .1 .1 .1 .1 .1 .1 .1 .0)
     (f .result) (f .ensures) (b .pre .0 .arrays)
     (subst (λ (x : ℤ). Lanes x (a .positions .now) (a .lives .now) (a .lefts .now) (a .prices .now) t (f .result * 4)) (toZ-ofZ (b .fits .end)) (l .fill-lanes .ensures))
     (u .ensures) (v .ensures) (x .ensures) (y .ensures) (z .ensures)
+    (subst (λ (x : ℤ). Terms (sheetOf x (a .positions .now) (a .fees .now) (a .lives .now) (a .lefts .now) (a .prices .now)) (z .last .1 .1 .0) (g .last .1 .1 .1 .1 .1 .1 .1 .0) (length (a .lives .now))) (toZ-ofZ (b .fits .end)) (g .ensures))
 
 pub fill-spec : {M : Type 1} → statement M
 fill-spec =
@@ -101,6 +127,7 @@ fill-spec =
     put-cuts-requires-2
     cast-put-number-2
     put-number-requires-2
+    put-terms-requires
     same-length
     same-length-2
     returns)

@@ -29,14 +29,11 @@ fill-requires c κs =
 add-put-suffixes : tie.Need-add-put-suffixes
 add-put-suffixes c = search needs
 
-mul-put-suffixes : tie.Need-mul-put-suffixes
-mul-put-suffixes c = search needs
-
 put-suffixes-requires : tie.Need-put-suffixes-requires
 put-suffixes-requires c κs = search needs
 
-put-reach-requires : tie.Need-put-reach-requires
-put-reach-requires c κs =
+put-reaches-requires : tie.Need-put-reaches-requires
+put-reaches-requires c κs =
     let b = c .before .before .before .before .before .before .before .before .before .before .before .before .before .before in
     (b .pre .room .few, marks-back (b .args .first) (b .args .positions .now) (b .fits .first) (b .pre .room .small), record { lane = b .pre .lane .lane; size = c .before .before .before .put-suffixes .ensures .size ∙ b .pre .lane .size })
 
@@ -58,8 +55,8 @@ returns c =
     let F = toZ w32 (ofZ w32 (a .first)) in
     let n = length (a .positions .now) in
     filled-as E L F (a .positions .now) (a .prices .now) (a .end) (a .life) (a .first) (a .prices .now) (a .t .now) (c .before .before .put-prices .last .1 .1 .0) (a .q) (toZ-ofZ (b .fits .end)) (toZ-ofZ (b .fits .life)) (toZ-ofZ (b .fits .first)) refl
-    (lane-done L E F (a .positions .now) (a .prices .now) (take n (replicate 64 true)) (c .before .before .before .before .before .before .before .before .before .before .before .before .before .before .before .fill .last .1 .1 .1 .1 .1 .1 .0) (a .t .now) (c .before .before .before .before .before .before .before .before .before .before .put-suffixes .last .1 .1 .1 .0) (c .before .before .before .before .before .before .put-reach .last .1 .1 .1 .1 .0) (c .before .before .put-prices .last .1 .1 .0) (a .q)
-    (b .pre .room .few) (all-true n 64) (b .pre .priced) (b .pre .cheap) (c .before .before .before .before .before .before .before .before .before .before .before .before .before .before .before .fill .ensures) (c .before .before .before .before .before .before .before .before .before .before .put-suffixes .ensures) (c .before .before .before .before .before .before .put-reach .ensures) (c .before .before .put-prices .ensures))
+    (lane-done L E F (a .positions .now) (a .prices .now) (take n (replicate 64 true)) (c .before .before .before .before .before .before .before .before .before .before .before .before .before .before .before .fill .last .1 .1 .1 .1 .1 .1 .0) (a .t .now) (c .before .before .before .before .before .before .before .before .before .before .put-suffixes .last .1 .1 .1 .0) (c .before .before .before .before .before .before .put-reaches .last .1 .1 .1 .1 .0) (c .before .before .put-prices .last .1 .1 .0) (a .q)
+    (b .pre .room .few) (all-true n 64) (b .pre .priced) (b .pre .cheap) (c .before .before .before .before .before .before .before .before .before .before .before .before .before .before .before .fill .ensures) (c .before .before .before .before .before .before .before .before .before .before .put-suffixes .ensures) (c .before .before .before .before .before .before .put-reaches .ensures) (c .before .before .put-prices .ensures) (b .pre .lane .lane))
 
 pub fill-lane-spec : {M : Type 1} → statement M
 fill-lane-spec =
@@ -69,9 +66,8 @@ fill-lane-spec =
     slice-aggregate-fill
     fill-requires
     add-put-suffixes
-    mul-put-suffixes
     put-suffixes-requires
-    put-reach-requires
+    put-reaches-requires
     put-prices-requires
     same-length
     same-length-2

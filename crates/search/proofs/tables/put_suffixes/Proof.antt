@@ -1,63 +1,53 @@
--- `put_suffixes` copies a part's suffix table into its lane. The invariant: the first y rows are written.
-use Prim.Native.Nat.{ℕ, _-_, _≤_, min}
-use mathlib.Core.Path.{_≡_, subst}
+-- `put_suffixes` copies a part's suffix table into its lane. The invariant: the rows of the first j openings are written.
+use Prim.Native.Nat.{ℕ, _-_, _≤_}
+use mathlib.Core.Path.{_≡_, refl, subst, _∙_}
 use native.Mathlib.Omega.{arith}
+use Rattle.lane_rows.specs.Layout.{suffixBase, place}
+use Rattle.search.specs.Fill.{Triangle, ownOf}
+use Rattle.search.proofs.Triangles.{triangle-none, triangle-more}
 use borrow.Author.Needs.{needs}
-use lib.ListN.{getD}
-use Rattle.least.specs.Filled.{FilledBy}
-use Rattle.least.proofs.Filled.{filled-none, filled-more}
 use Rattle.search.proofs.tables.put_suffixes.Statement.{statement}
-use Rattle.lane_rows.specs.Layout.{inf, rowPlace}
 use Rattle.search.proofs.tables.put_suffixes.Tie as tie
 
 abbrev Inv-loop : tie.InvT-loop
-Inv-loop tab m q t₀ y₀ t y = (y ≤ m) × FilledBy (λ (y : ℕ). rowPlace y q) (λ (y : ℕ). min (getD tab y 0) inf) y t₀ t
+Inv-loop tab m q t₀ j₀ t j = (j ≤ m) × Triangle (λ (j i : ℕ). place suffixBase j i q) (ownOf tab) j t₀ t
 
 abbrev μ-loop : tie.MeasureT-loop
-μ-loop tab m q t₀ y₀ t y = m - y
+μ-loop tab m q t₀ j₀ t j = m - j
 
 loop-holds : tie.Need-loop-holds Inv-loop μ-loop
-loop-holds c = (omega arith, filled-none)
+loop-holds c = (omega arith, triangle-none)
 
-mul-capped : tie.Need-mul-capped Inv-loop μ-loop
-mul-capped c = search needs
+put-suffix-requires : tie.Need-put-suffix-requires Inv-loop μ-loop
+put-suffix-requires c κs =
+    let l = c .before .before in
+    let p = l .before .before .before .pre in
+    (omega (arith, p .0, c .before .loop-test .taken), p .1, record { lane = p .2 .lane; size = l .loop .inv .1 .size ∙ p .2 .size })
 
-shared-slice-read-capped : tie.Need-shared-slice-read-capped Inv-loop μ-loop
-shared-slice-read-capped c = search needs
-
-capped-requires : tie.Need-capped-requires Inv-loop μ-loop
-capped-requires c κs = tt
-
-mul-t : tie.Need-mul-t Inv-loop μ-loop
-mul-t c = search needs
-
-add-t : tie.Need-add-t Inv-loop μ-loop
-add-t c = search needs
-
-mul-t-2 : tie.Need-mul-t-2 Inv-loop μ-loop
-mul-t-2 c = search needs
-
-slice-write-t : tie.Need-slice-write-t Inv-loop μ-loop
-slice-write-t c = search needs
-
-add-y : tie.Need-add-y Inv-loop μ-loop
-add-y c = search needs
+add-j : tie.Need-add-j Inv-loop μ-loop
+add-j c = search needs
 
 loop-less : tie.Need-loop-less Inv-loop μ-loop
 loop-less c = search needs
 
 loop-again : tie.Need-loop-again Inv-loop μ-loop
-loop-again c = (omega arith, filled-more (c .capped .result) (omega arith) (λ y h e. omega (arith, e)) (c .capped .ensures) (c .before .before .before .loop .inv .1))
+loop-again c =
+    let l = c .before .before .before .before .before in
+    let s = l .before .before .before in
+    let h = s .pre .2 .lane in (
+      omega (arith, c .before .before .before .before .loop-test .taken),
+      triangle-more (ownOf (s .args .tab .now) (l .loop .j)) (λ i h. refl) (λ j i k a b d e. omega (arith, e, s .pre .0, c .before .before .before .before .loop-test .taken)) (c .before .before .put-suffix .ensures) (l .loop .inv .1),
+    )
 
 same-length : tie.Need-same-length Inv-loop μ-loop
 same-length c = search needs
 
 returns : tie.Need-returns Inv-loop μ-loop
 returns c =
-    let a = c .before .before .before .before .args in
-    let l = c .before .loop in
-    let z : l .y ≡ a .m = omega arith in
-    subst (λ (n : ℕ). FilledBy (λ (y : ℕ). rowPlace y (a .q)) (λ (y : ℕ). min (getD (a .tab .now) y 0) inf) n (a .t .now) (l .t)) z (l .inv .1)
+    let l = c .before in
+    let a = l .before .before .before .args in
+    let z : l .loop .j ≡ a .m = omega arith in
+    subst (λ (n : ℕ). Triangle (λ (j i : ℕ). place suffixBase j i (a .q)) (ownOf (a .tab .now)) n (a .t .now) (l .loop .t)) z (l .loop .inv .1)
 
 pub put-suffixes-spec : {M : Type 1} → statement M
 put-suffixes-spec =
@@ -66,14 +56,8 @@ put-suffixes-spec =
     Inv-loop
     μ-loop
     loop-holds
-    mul-capped
-    shared-slice-read-capped
-    capped-requires
-    mul-t
-    add-t
-    mul-t-2
-    slice-write-t
-    add-y
+    put-suffix-requires
+    add-j
     loop-less
     loop-again
     same-length

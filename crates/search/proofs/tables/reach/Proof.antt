@@ -2,9 +2,8 @@
 use Prim.Native.Nat.{suc}
 use mathlib.Core.Path.{_≡_, sym, ap, _∙_}
 use native.Mathlib.Omega.{arith}
-use borrow.Author.Tests.{lt-ltb, le-ltb}
 use borrow.Author.Needs.{needs}
-use lib.ListN.{length, getD}
+use lib.ListN.{getD}
 use lib.IntN.{ℤ, pos}
 use mir.Facts.{toZ-ofZ}
 use Rattle.model.specs.Model.{within}
@@ -12,9 +11,6 @@ use Rattle.least.specs.Marks.{markOf}
 use Rattle.least.proofs.Diff.{back, gap-fits}
 use Rattle.search.proofs.tables.reach.Statement.{statement}
 use Rattle.search.proofs.tables.reach.Tie as tie
-
-returns : tie.Need-returns
-returns c = rw (lt-ltb (length (c .before .args .positions .now)) (c .before .args .i) (c .if1 .taken))
 
 mark-requires : tie.Need-mark-requires
 mark-requires c κs = search needs
@@ -27,34 +23,25 @@ shared-slice-copy-out-in-reach c = search needs
 
 in-reach-requires : tie.Need-in-reach-requires
 in-reach-requires c κs =
-    let b = c .before .before .before in
+    let b = c .before .before in
     let m = c .before .mark in
     let s = getD (b .args .positions .now) (b .args .j) (pos 0) in
-    gap-fits s (m .result) (b .args .first) (b .args .positions .now) (b .args .i) (b .pre .1 (suc (b .args .j))) (m .ensures) (b .fits .first) (b .pre .1)
+    gap-fits s (m .result) (b .args .first) (b .args .positions .now) (b .args .i) (b .pre .2 (suc (b .args .j))) (m .ensures) (b .fits .first) (b .pre .2)
 
 -- what the test says, in the model's terms
-near : (c : tie.After-in-reach) → c .in-reach .result ≡ within (c .before .before .before .before .args .life) (markOf (c .before .before .before .before .args .first) (c .before .before .before .before .args .positions .now) (c .before .before .before .before .args .i)) (getD (c .before .before .before .before .args .positions .now) (c .before .before .before .before .args .j) (pos 0))
+near : (c : tie.After-in-reach) → c .in-reach .result ≡ within (c .before .before .before .args .life) (markOf (c .before .before .before .args .first) (c .before .before .before .args .positions .now) (c .before .before .before .args .i)) (getD (c .before .before .before .args .positions .now) (c .before .before .before .args .j) (pos 0))
 near c =
-    let b = c .before .before .before .before in
+    let b = c .before .before .before in
     let m = c .before .before .mark in
     let s = getD (b .args .positions .now) (b .args .j) (pos 0) in
     let e : m .result ≡ markOf (b .args .first) (b .args .positions .now) (b .args .i) = m .ensures ∙ ap (λ (x : ℤ). markOf x (b .args .positions .now) (b .args .i)) (toZ-ofZ (b .fits .first)) in
-    c .in-reach .ensures ∙ (λ k. within (toZ-ofZ (b .fits .life) k) ((back (m .result) (m .ok) ∙ e) k) (back s (omega (arith, b .pre .1 (suc (b .args .j)))) k))
+    c .in-reach .ensures ∙ (λ k. within (toZ-ofZ (b .fits .life) k) ((back (m .result) (m .ok) ∙ e) k) (back s (omega (arith, b .pre .2 (suc (b .args .j)))) k))
+
+returns : tie.Need-returns
+returns c = rw (sym (near (c .before)) ∙ c .if1 .taken)
 
 returns-2 : tie.Need-returns-2
-returns-2 c = rw (le-ltb (length (c .before .before .before .before .before .args .positions .now)) (c .before .before .before .before .before .args .i) (c .before .before .before .before .if1 .left), sym (near (c .before)) ∙ c .if2 .taken)
-
-returns-3 : tie.Need-returns-3
-returns-3 c = rw (le-ltb (length (c .before .before .before .before .before .args .positions .now)) (c .before .before .before .before .before .args .i) (c .before .before .before .before .if1 .left), sym (near (c .before)) ∙ c .if2 .left)
+returns-2 c = rw (sym (near (c .before)) ∙ c .if1 .left)
 
 pub reach-spec : {M : Type 1} → statement M
-reach-spec =
-    tie.close
-    (tie.spec
-    returns
-    mark-requires
-    mul-in-reach
-    shared-slice-copy-out-in-reach
-    in-reach-requires
-    returns-2
-    returns-3)
+reach-spec = tie.close (tie.spec mark-requires mul-in-reach shared-slice-copy-out-in-reach in-reach-requires returns returns-2)

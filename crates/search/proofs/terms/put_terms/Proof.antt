@@ -1,0 +1,107 @@
+-- `put_terms` makes the terms. The invariant: they are the largest over the first q parts.
+use Prim.Native.Nat.{ℕ, _+_, _-_, _*_, _<_, _≤_}
+use mathlib.Core.Path.{_≡_, refl, sym, ap, subst, _∙_}
+use native.Mathlib.Omega.{arith}
+use borrow.Author.Needs.{needs}
+use lib.ListN.{length, getD}
+use lib.IntN.{ℤ}
+use mir.Syntax.{w32}
+use mir.Val.{toZ, ofZ}
+use mir.Facts.{toZ-ofZ}
+use Rattle.lane_rows.specs.Sheet.{Column, noColumn}
+use Rattle.search.specs.Arrays.{lanePart, columnOf, foursOf, sheetOf}
+use Rattle.search.specs.Fill.{Raised, Terms}
+use Rattle.search.proofs.Filling.{columns-length, columns-at, ready-back}
+use Rattle.search.proofs.Raising.{terms-none, terms-since, terms-more}
+use Rattle.search.proofs.terms.put_terms.Statement.{statement}
+use Rattle.search.proofs.terms.put_terms.Tie as tie
+
+abbrev Inv-loop : tie.InvT-loop
+Inv-loop end positions fees lives lefts prices tab₀ t₀ q₀ tab t q = (q ≤ length lives) × (length tab ≡ length tab₀) × Terms (sheetOf (toZ w32 end) positions fees lives lefts prices) t₀ t q
+
+abbrev μ-loop : tie.MeasureT-loop
+μ-loop end positions fees lives lefts prices tab₀ t₀ q₀ tab t q = length lives - q
+
+add-clear : tie.Need-add-clear Inv-loop μ-loop
+add-clear c = search needs
+
+mul-clear : tie.Need-mul-clear Inv-loop μ-loop
+mul-clear c = search needs
+
+clear-requires : tie.Need-clear-requires Inv-loop μ-loop
+clear-requires c κs = search needs
+
+loop-holds : tie.Need-loop-holds Inv-loop μ-loop
+loop-holds c =
+    let b = c .before .before .before .before .before .before .before .before .before .before in
+    let a = b .args in
+    (omega arith, refl, terms-none (sheetOf (toZ w32 (ofZ w32 (a .end))) (a .positions .now) (a .fees .now) (a .lives .now) (a .lefts .now) (a .prices .now)) (b .pre .0 .arrays .few) (a .t .now) (c .before .before .clear .last .1 .0) (c .before .before .clear .ensures))
+
+raise-part-requires : tie.Need-raise-part-requires Inv-loop μ-loop
+raise-part-requires c κs =
+    let b = c .before .before .before .before .before .before .before .before .before .before .before .before .before .before in
+    let a = b .args in
+    let l = c .before .before .before .loop in
+    (ready-back (b .fits .end) (b .pre .0 .arrays) (omega (arith, b .pre .0 .room, l .inv .1)), l .inv .2 .size ∙ c .before .before .before .before .before .before .clear .ensures .size ∙ b .pre .1)
+
+add-q : tie.Need-add-q Inv-loop μ-loop
+add-q c = search needs
+
+loop-less : tie.Need-loop-less Inv-loop μ-loop
+loop-less c = search needs
+
+loop-again : tie.Need-loop-again Inv-loop μ-loop
+loop-again c =
+    let b = c .before .before .before .before .before .before .before .before .before .before .before .before .before .before .before .before .before .before .before in
+    let a = b .args in
+    let r = b .pre .0 .arrays in
+    let l = c .before .before .before .before .before .before .before .before .loop in
+    let n = length (a .positions .now) in
+    let k = foursOf (length (a .lives .now)) * 4 in
+    let sheet = sheetOf (toZ w32 (ofZ w32 (a .end))) (a .positions .now) (a .fees .now) (a .lives .now) (a .lefts .now) (a .prices .now) in
+    let t = c .before .before .before .before .before .before .before .before .before .before .before .clear .last .1 .0 in
+    let v = c .before .before .before .before .raise-part .last .1 .1 .1 .1 .1 .1 .1 .1 .0 in
+    let h : l .q < k = omega (arith, c .before .before .before .before .before .before .before .loop-test .taken) in
+    let z : 0 + l .q ≡ l .q = omega arith in
+    let is : getD (sheet .columns) (l .q) noColumn ≡ columnOf (lanePart n (a .lives .now) (a .lefts .now) (a .prices .now) (l .q)) =
+    columns-at n (a .lives .now) (a .lefts .now) (a .prices .now) 0 k (l .q) h ∙ ap (λ (q : ℕ). columnOf (lanePart n (a .lives .now) (a .lefts .now) (a .prices .now) q)) z in (
+      omega (arith, c .before .before .before .before .before .before .before .loop-test .taken),
+      c .before .before .before .before .raise-part .kept .1 .1 .1 .1 .1 .1 .1 .0 ∙ l .inv .1,
+      terms-more sheet (r .few) t (l .t) v (l .q) (omega (arith, columns-length n (a .lives .now) (a .lefts .now) (a .prices .now) 0 k)) (r .fair)
+          (subst (λ (col : Column). Raised sheet col (l .t) v) (sym is) (c .before .before .before .before .raise-part .ensures)) (l .inv .2),
+    )
+
+same-length : tie.Need-same-length Inv-loop μ-loop
+same-length c = search needs
+
+same-length-2 : tie.Need-same-length-2 Inv-loop μ-loop
+same-length-2 c = search needs
+
+returns : tie.Need-returns Inv-loop μ-loop
+returns c =
+    let b = c .before .before .before .before .before .before .before .before .before .before .before .before in
+    let a = b .args in
+    let l = c .before .loop in
+    let z : l .q ≡ length (a .lives .now) = omega arith in
+    let sheet = sheetOf (toZ w32 (ofZ w32 (a .end))) (a .positions .now) (a .fees .now) (a .lives .now) (a .lefts .now) (a .prices .now) in
+    let k = c .before .before .before .before .clear in
+    subst (λ (x : ℤ). Terms (sheetOf x (a .positions .now) (a .fees .now) (a .lives .now) (a .lefts .now) (a .prices .now)) (a .t .now) (l .t) (length (a .lives .now))) (toZ-ofZ (b .fits .end))
+    (terms-since sheet (b .pre .0 .arrays .few) (a .t .now) (k .last .1 .0) (l .t) (length (a .lives .now)) (k .ensures) (subst (Terms sheet (k .last .1 .0) (l .t)) z (l .inv .2)))
+
+pub put-terms-spec : {M : Type 1} → statement M
+put-terms-spec =
+    tie.close
+    (tie.spec
+    Inv-loop
+    μ-loop
+    add-clear
+    mul-clear
+    clear-requires
+    loop-holds
+    raise-part-requires
+    add-q
+    loop-less
+    loop-again
+    same-length
+    same-length-2
+    returns)
