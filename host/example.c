@@ -1,4 +1,5 @@
-/* Plans the job in a file and prints the answer: example JOB. The exit status is the result number, or 20 where there is no answer. */
+/* Plans the job in a file and prints the answer: example JOB. Without a file it fills in the order form of the specification's job, writes the
+ * job text and plans that. The exit status is the result number, or 20 where there is no answer. */
 #include <stdio.h>
 #include <stdlib.h>
 
@@ -8,23 +9,43 @@
 static uint8_t job[32768 + 1];
 static uint8_t out[16384];
 
+#define COUNT(list) (sizeof(list) / sizeof((list)[0]))
+
+/* Writes the specification's job text into `job` from lists of numbers: 6 steps, four openings, two parts. */
+static juzvarola_answer fill_in(void) {
+    static const uint32_t openings[] = {2, 3, 4, 5}, fees[] = {10, 10, 10, 10};
+    static const uint32_t lives[] = {3, 4}, lefts[] = {2, 4}, prices[] = {5, 5, 5, 5, 7, 7, 7, 7};
+    /* No step is idle: the list has length 0, and its pointer may be any that is not null. */
+    return juzvarola_write(6, openings, 0, 11, openings, COUNT(openings), fees, COUNT(fees), lives, COUNT(lives), lefts, COUNT(lefts), prices,
+                           COUNT(prices), job, sizeof job);
+}
+
 int main(int argc, char **argv) {
-    if (argc != 2) {
-        fprintf(stderr, "usage: %s JOB\n", argv[0]);
+    size_t length;
+    if (argc == 1) {
+        juzvarola_answer written = fill_in();
+        length = written.length;
+        if (written.result != 0) {
+            fwrite(job, 1, length, stdout);
+            return (int)written.result;
+        }
+    } else if (argc == 2) {
+        FILE *file = fopen(argv[1], "rb");
+        if (!file) {
+            perror(argv[1]);
+            return 20;
+        }
+        length = fread(job, 1, sizeof job, file);
+        fclose(file);
+    } else {
+        fprintf(stderr, "usage: %s [JOB]\n", argv[0]);
         return 20;
     }
-    FILE *file = fopen(argv[1], "rb");
-    if (!file) {
-        perror(argv[1]);
-        return 20;
-    }
-    size_t length = fread(job, 1, sizeof job, file);
-    fclose(file);
 
     juzvarola_answer answer = juzvarola_plan(job, length, out, sizeof out);
     fwrite(out, 1, answer.length, stdout);
     if (answer.text != 0) {
-        fprintf(stderr, "%s:%u: ", argv[1], (unsigned)answer.line);
+        fprintf(stderr, "%s:%u: ", argc == 2 ? argv[1] : "form", (unsigned)answer.line);
         fwrite(job + answer.fault_start, 1, answer.fault_length, stderr);
         fputc('\n', stderr);
     }

@@ -1,4 +1,4 @@
-/* Juzvarola: plans the stops and part changes of a filling line, and judges such plans. */
+/* Juzvarola: plans the stops and part changes of a filling line, judges such plans, and writes job texts from order forms. */
 #ifndef JUZVAROLA_H
 #define JUZVAROLA_H
 
@@ -17,21 +17,21 @@ extern "C" {
  * length        the bytes written. Bytes past them keep their values. 0 for result 8.
  * fault_start   where the line at fault starts in the text at fault.
  * fault_length  its length, without its byte 10. An empty line that stands in the text has its own start and length 0.
- *               A line that is missing, result 1 and every result with `text` 0 have start 0 and length 0.
+ *               A line that is missing, result 1, every result with `text` 0 and every answer of juzvarola_write have start 0 and length 0.
  */
 typedef struct {
     uint32_t result, text, line;
     size_t length, fault_start, fault_length;
 } juzvarola_answer;
 
-/* For both calls:
+/* For all calls:
  *
  * - A pointer is never null. With length 0 it may be any non-null pointer; nothing is read or written through it.
- * - `out` must not overlap a text. The texts may be the same memory, and are only read.
- * - `out` should have 16,384 bytes or more: with fewer the result is 8 and nothing is written.
+ * - `out` must not overlap a text or a list. These may be the same memory, and are only read.
+ * - `out` should have 16,384 bytes or more, for juzvarola_write 32,768: with fewer the result is 8 and nothing is written.
  * - Nothing is kept between calls and no memory is allocated. Calls on several threads at once are allowed where no `out` overlaps
- *   another call's `out` or text.
- * - Stack that a call needs: less than 1 MB (juzvarola_plan was measured at some 640 KB, juzvarola_judge at 64 KB).
+ *   another call's `out`, text or list.
+ * - Stack that a call needs: less than 1 MB (juzvarola_plan was measured at some 640 KB, juzvarola_judge at 64 KB, juzvarola_write at 32 KB).
  */
 
 /* Plans a job: results 0 to 8. */
@@ -39,6 +39,21 @@ juzvarola_answer juzvarola_plan(const uint8_t *job, size_t job_len, uint8_t *out
 
 /* Judges a plan of a job: results 0 to 5 and 8 to 11. */
 juzvarola_answer juzvarola_judge(const uint8_t *job, size_t job_len, const uint8_t *plan, size_t plan_len, uint8_t *out, size_t out_len);
+
+/* Writes the text of a job from the lists of an order form: results 0, 3, 4, 5 and 8.
+ *
+ * The lists stand in the text's order: a fee for each opening, a left for each life, and for each part one price per opening, part by part.
+ * The counts in the text are the lists' lengths; there is no `idles` line if there are no idles. A list may have any length.
+ *
+ * Result 0: the first `length` bytes of `out` are the job text, with no `result` line before it. It reads back as the same job, and the numbers of
+ * an accepted text give that text again, byte for byte.
+ * Results 3, 4 and 5: the fault that the text would have had, with `text` 1 and the line that would have held it. Fees not as many as openings give 3
+ * on the `openings` line; lefts not as many as lives, and prices not parts times openings, on the `parts` line. There is no text of the caller's, so
+ * no line at fault is handed over.
+ */
+juzvarola_answer juzvarola_write(uint32_t horizon, const uint32_t *idles, size_t idles_len, uint32_t walk, const uint32_t *openings, size_t openings_len,
+                                 const uint32_t *fees, size_t fees_len, const uint32_t *lives, size_t lives_len, const uint32_t *lefts, size_t lefts_len,
+                                 const uint32_t *prices, size_t prices_len, uint8_t *out, size_t out_len);
 
 #ifdef __cplusplus
 }

@@ -1,5 +1,6 @@
 //! How much stack the library's calls need: the least stack of a thread on which each call returns, found by trying.
 
+use juzvarola_host::Form;
 use std::process::{exit, Command, Stdio};
 use std::{env, thread};
 
@@ -27,9 +28,25 @@ fn plan() -> String {
     format!("cost=1088000000\nstops=64\n{stops}")
 }
 
+/// The form of the longest text: every step idle.
+fn longest() -> Form<'static> {
+    let steps: &'static [u32] = (1..=365).collect::<Vec<_>>().leak();
+    let alike = |count, value| -> &'static [u32] { vec![value; count].leak() };
+    Form {
+        horizon: 365,
+        idles: steps,
+        walk: 4_000_000_000,
+        openings: &steps[301..],
+        fees: alike(64, 1_000_000),
+        lives: alike(16, 1000),
+        lefts: alike(16, 1000),
+        prices: alike(1024, 1_000_000),
+    }
+}
+
 /// The calls to try; each is made on a thread of its own.
 fn call(name: &str) -> u32 {
-    let mut out = vec![0; 16_384];
+    let mut out = vec![0; 32_768];
     match name {
         "plan, no stop" => juzvarola_host::plan(job(1000).as_bytes(), &mut out).result,
         "plan, one stop" => juzvarola_host::plan(job(364).as_bytes(), &mut out).result,
@@ -37,6 +54,8 @@ fn call(name: &str) -> u32 {
         "plan, a fault" => juzvarola_host::plan(b"horizon=1\n", &mut out).result,
         "judge, the longest plan" => juzvarola_host::judge(job(1000).as_bytes(), plan().as_bytes(), &mut out).result,
         "judge, a fault" => juzvarola_host::judge(job(1000).as_bytes(), b"cost=1\nstops=65\n", &mut out).result,
+        "write, the longest text" => juzvarola_host::write(&longest(), &mut out).result,
+        "write, a fault" => juzvarola_host::write(&Form { horizon: 1, ..longest() }, &mut out).result,
         _ => unreachable!("no such call"),
     }
 }
@@ -48,6 +67,8 @@ const CALLS: &[(&str, u32)] = &[
     ("plan, a fault", 3),
     ("judge, the longest plan", 0),
     ("judge, a fault", 3),
+    ("write, the longest text", 0),
+    ("write, a fault", 3),
 ];
 
 /// Makes the call in a process of its own, on a thread with this stack; says whether it returned.

@@ -7,7 +7,7 @@ mod library;
 pub mod reference;
 
 #[cfg(feature = "library")]
-pub use library::{judge, plan};
+pub use library::{judge, plan, write};
 
 /// What a call answers. `'t` is the life of the caller's texts.
 #[derive(Debug, Clone, Copy, PartialEq, Eq)]
@@ -24,4 +24,17 @@ pub struct Answer<'t> {
     pub fault_start: usize,
     /// The line at fault, a part of the caller's own text, without its byte 10; empty if there is none.
     pub fault: &'t [u8],
+}
+
+/// An order form: the facts of a job as lists of numbers, in the job text's order. The prices stand part by part, one for each opening.
+#[derive(Debug, Clone, Copy, PartialEq, Eq)]
+pub struct Form<'f> {
+    pub horizon: u32,
+    pub idles: &'f [u32],
+    pub walk: u32,
+    pub openings: &'f [u32],
+    pub fees: &'f [u32],
+    pub lives: &'f [u32],
+    pub lefts: &'f [u32],
+    pub prices: &'f [u32],
 }

@@ -1,6 +1,6 @@
 //! The static library, as `include/juzvarola.h` declares it, behind safe functions.
 
-use crate::Answer;
+use crate::{Answer, Form};
 use std::mem::{offset_of, size_of};
 
 /// `juzvarola_answer`.
@@ -20,6 +20,24 @@ const _: () = assert!(size_of::<Numbers>() == 40 && offset_of!(Numbers, length) 
 extern "C" {
     fn juzvarola_plan(job: *const u8, job_len: usize, out: *mut u8, out_len: usize) -> Numbers;
     fn juzvarola_judge(job: *const u8, job_len: usize, plan: *const u8, plan_len: usize, out: *mut u8, out_len: usize) -> Numbers;
+    fn juzvarola_write(
+        horizon: u32,
+        idles: *const u32,
+        idles_len: usize,
+        walk: u32,
+        openings: *const u32,
+        openings_len: usize,
+        fees: *const u32,
+        fees_len: usize,
+        lives: *const u32,
+        lives_len: usize,
+        lefts: *const u32,
+        lefts_len: usize,
+        prices: *const u32,
+        prices_len: usize,
+        out: *mut u8,
+        out_len: usize,
+    ) -> Numbers;
 }
 
 /// Plans a job. The answer's lines are the first `length` bytes of `out`.
@@ -34,6 +52,33 @@ pub fn judge<'t>(job: &'t [u8], plan: &'t [u8], out: &mut [u8]) -> Answer<'t> {
     // SAFETY: as for `plan`.
     let numbers = unsafe { juzvarola_judge(job.as_ptr(), job.len(), plan.as_ptr(), plan.len(), out.as_mut_ptr(), out.len()) };
     answer(numbers, job, plan)
+}
+
+/// Writes the job text of a form into `out`: its first `length` bytes. No line at fault is handed over, since there is no text of the caller's.
+pub fn write(form: &Form, out: &mut [u8]) -> Answer<'static> {
+    let Form { horizon, idles, walk, openings, fees, lives, lefts, prices } = *form;
+    // SAFETY: as for `plan`; the lists are only read.
+    let numbers = unsafe {
+        juzvarola_write(
+            horizon,
+            idles.as_ptr(),
+            idles.len(),
+            walk,
+            openings.as_ptr(),
+            openings.len(),
+            fees.as_ptr(),
+            fees.len(),
+            lives.as_ptr(),
+            lives.len(),
+            lefts.as_ptr(),
+            lefts.len(),
+            prices.as_ptr(),
+            prices.len(),
+            out.as_mut_ptr(),
+            out.len(),
+        )
+    };
+    answer(numbers, &[], &[])
 }
 
 /// The numbers with the line at fault cut out of its text. A cut outside the text panics.

@@ -108,7 +108,7 @@ body-complete t v s l =
     )
 
 -- what follows the idle steps, if any, is the walk line
-walk-next : (w : ℕ) (s : List ℕ) → startsWith (bytes "idles=") (lineOf "walk=" w ++ s) ≡ false
+pub walk-next : (w : ℕ) (s : List ℕ) → startsWith (bytes "idles=") (lineOf "walk=" w ++ s) ≡ false
 unfolding startsWith line bytes
 walk-next w s = refl
 

@@ -26,7 +26,7 @@ pub refuse : {s : List ℕ} {k l : ℕ} {x : Parsed JobText} (r : JobLines) → 
 refuse r h e = record { reads = fault-read _ (h .0) e; sized = h .1 }
 
 -- idle steps, of which there are some
-some-idles : (is : List ℕ) → 1 ≤ length is → present is ≡ idleLines is
+pub some-idles : (is : List ℕ) → 1 ≤ length is → present is ≡ idleLines is
 unfolding idleLines
 some-idles [] h = absurd (omega arith)
 some-idles (i ∷ is) h = refl
@@ -44,7 +44,7 @@ pub none-read : (h : ℕ) {s : List ℕ} {p : Cursor} (r : Idles) → (r .end �
 unfolding ifPresent return ended idleLines
 none-read h r e stands = rw (e .0, e .1) (record { is = refl; stands = stands })
 
-idle-steps : (is : List ℕ) → is ≡ idleIn (idleLines is)
+pub idle-steps : (is : List ℕ) → is ≡ idleIn (idleLines is)
 unfolding idleLines
 idle-steps [] = refl
 idle-steps (i ∷ is) = refl

@@ -5,6 +5,7 @@ use mathlib.Core.List.{List, [], _∷_, map}
 use native.Mathlib.Omega.{arith}
 use lib.ListN.{length, getD, take, length-map, List·getD-map}
 use lib.Seq.{getD-take, length-take-le, take-nil}
+use mir.Val.{Val}
 use denote.Laws.{Is}
 use denote.Struct.Declared.{row}
 use denote.Struct.Laws.{val}
@@ -43,7 +44,7 @@ part-viewed n m parts k h =
     ∙ List·getD-map (partOf n) (take m parts) k blankPart
     ∙ ap (partOf n) (getD-take m parts k blankPart h)
 
-module _ (j : Job) (sized : Sized j) (whole : Whole j) where
+module _ (j : Job) {vs : List Val} (sized : Sized j) (whole : Is (row the-type) j vs) where
   abbrev n : ℕ
   n = j .«opening_count»
 
@@ -53,10 +54,10 @@ module _ (j : Job) (sized : Sized j) (whole : Whole j) where
   pub idles-long : j .«idle_count» ≤ length (j .idles)
   idles-long = omega (arith, sized .idles, rw length-map at (whole .1 .1 .1 .1 .0 .1 .0 .1))
 
-  openings-long : n ≤ length (j .openings)
+  pub openings-long : n ≤ length (j .openings)
   openings-long = omega (arith, sized .openings, rw length-map at (whole .1 .1 .1 .1 .1 .1 .0 .1 .0 .1))
 
-  parts-long : m ≤ length (j .parts)
+  pub parts-long : m ≤ length (j .parts)
   parts-long = omega (arith, sized .parts, rw length-map at (whole .1 .1 .1 .1 .1 .1 .1 .1 .0 .1 .0 .1))
 
   pub opening-count : length (jobOf j .openings) ≡ n

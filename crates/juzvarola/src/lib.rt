@@ -2,6 +2,9 @@
 use answers::Answer;
 ghost use lib.ListN.{length};
 ghost use Rattle.answers.specs.Said.{lent, Replied};
+ghost use Rattle.form.specs.Form.{filled};
+ghost use Rattle.form.specs.Write.{writeSaid, writeRoom};
+ghost use Rattle.form.specs.Promise.{WritePromise};
 ghost use Rattle.judging.specs.Judge.{judgeSaid, judgeRoom};
 ghost use Rattle.judging.specs.Promise.{JudgePromise};
 ghost use Rattle.planning.specs.Plan.{planSaid, planRoom};
@@ -24,4 +27,34 @@ pub extern "C" fn juzvarola_judge(job: &[u8], plan: &[u8], out: &mut [u8]) -> An
         (lent judgeRoom (length (now (out .entry))) (judgeSaid (now (job .entry)) (now (plan .entry)))) ⌝ }
 {
     judging::judge(job, plan, out)
+}
+
+// Writes the job text of a form.
+#[no_mangle]
+pub extern "C" fn juzvarola_write(
+    horizon: u32,
+    idles: &[u32],
+    walk: u32,
+    openings: &[u32],
+    fees: &[u32],
+    lives: &[u32],
+    lefts: &[u32],
+    prices: &[u32],
+    out: &mut [u8],
+) -> Answer
+    ensures { λ r. ⌜ Replied writeRoom (writeSaid (filled horizon (now (idles .entry)) walk (now (openings .entry)) (now (fees .entry)) (now (lives .entry)) (now (lefts .entry)) (now (prices .entry)))) (now (out .entry)) (now (out .exit)) r ⌝ }
+    ensures { λ _. ⌜ WritePromise (filled horizon (now (idles .entry)) walk (now (openings .entry)) (now (fees .entry)) (now (lives .entry)) (now (lefts .entry)) (now (prices .entry))) (length (now (out .entry)))
+        (lent writeRoom (length (now (out .entry))) (writeSaid (filled horizon (now (idles .entry)) walk (now (openings .entry)) (now (fees .entry)) (now (lives .entry)) (now (lefts .entry)) (now (prices .entry))))) ⌝ }
+{
+    form::write(
+        horizon,
+        idles,
+        walk,
+        openings,
+        fees,
+        lives,
+        lefts,
+        prices,
+        out,
+    )
 }

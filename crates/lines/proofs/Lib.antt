@@ -7,7 +7,9 @@ pub mod Written
 pub mod Back
 pub mod Sound
 pub mod Complete
+pub mod Readback
 pub mod Numbered
 pub mod Writing
+pub mod Texts
 pub mod Powers
 pub mod Arrays

@@ -24,14 +24,14 @@ impl Reply {
     }
 
     /// "Numbers 1 to 5 and 9: `result`, `text` (1 job, 2 plan), `line` (from 1; 0 for number 1)."
-    fn fault(text: u32, fault: Fault) -> Reply {
+    pub(super) fn fault(text: u32, fault: Fault) -> Reply {
         let Fault { result, line, start, length } = fault;
         let reply = Reply::new(result, &format!("text={text}\nline={line}\n"));
         Reply { text, line, fault_start: start, fault_length: length, ..reply }
     }
 
-    /// "8: the output is shorter than 16,384 bytes. Nothing is written, length 0."
-    fn short_output() -> Reply {
+    /// "8: the output is shorter than 16,384 bytes. Nothing is written, length 0." For the writer it is 32,768 bytes.
+    pub(super) fn short_output() -> Reply {
         Reply { result: 8, ..Reply::default() }
     }
 }

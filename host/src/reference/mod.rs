@@ -1,11 +1,13 @@
-//! A second implementation of the planner and the judge, written from the specification sentence by sentence. It is slow and plain, and
+//! A second implementation of the planner, the judge and the writer, written from the specification sentence by sentence. It is slow and plain, and
 //! it uses no code of any other part of the repository.
 
 pub mod brute;
 pub mod calls;
+pub mod form;
 pub mod lines;
 pub mod model;
 pub mod texts;
 pub mod walk;
 
 pub use calls::{judge, plan, Reply};
+pub use form::write;

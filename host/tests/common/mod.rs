@@ -1,6 +1,7 @@
 //! What the tests share: vectors, random inputs, lent buffers with canaries.
 #![allow(dead_code)]
 
+pub mod forms;
 pub mod idle_cases;
 pub mod inputs;
 pub mod jobs;

@@ -20,7 +20,7 @@ impl Vector {
     }
 }
 
-fn hex(field: &str) -> Vec<u8> {
+pub fn hex(field: &str) -> Vec<u8> {
     if field == "-" {
         return Vec::new();
     }
@@ -63,11 +63,13 @@ pub fn line(call: &Call, reply: &Reply) -> String {
     format!("{name} {} {} {} {texts}\n", call.output, reply.result, reply.line)
 }
 
-/// The vectors of every file in `vectors/` that ends in `.txt`.
+/// The vectors of the planner and the judge: of every file in `vectors/` that ends in `.txt`, the forms' aside.
 pub fn all() -> Vec<Vector> {
     let folder = Path::new(env!("CARGO_MANIFEST_DIR")).join("vectors");
     let mut files: Vec<_> = std::fs::read_dir(folder).expect("the vectors").map(|entry| entry.expect("an entry").path()).collect();
-    files.retain(|file| file.extension().is_some_and(|extension| extension == "txt"));
+    files.retain(|file| {
+        file.extension().is_some_and(|extension| extension == "txt") && file.file_stem().is_some_and(|stem| stem != "write")
+    });
     files.sort();
     files.iter().flat_map(|file| std::fs::read_to_string(file).expect("a file").lines().map(vector).collect::<Vec<_>>()).collect()
 }

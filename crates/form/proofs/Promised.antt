@@ -1,0 +1,159 @@
+-- The writer's answer keeps its promise on every form and every room (`promised`): what it writes reads back as what the form states (`written-reads`), and the numbers read from an accepted text
+-- make that text again (`read-writes`). By what the form's text is read as.
+use Prim.Native.Nat.{ℕ, zero, suc, _≤_, _<_}
+use mathlib.Core.Path.{_≡_, refl, sym, ap, subst, _∙_}
+use mathlib.Core.List.{List, []}
+use native.Mathlib.Omega.{arith}
+use native.Mathlib.Decide.{decLt}
+use borrow.Author.Tests.{lt-ltb, le-ltb}
+use lib.ListN.{length}
+use Rattle.lines.specs.Parser.{accepted, refused, good, fault, return, end as ends, finish, whole}
+use Rattle.lines.specs.Fault.{nowhere, skipped, afterBreak, faultSpan, spanIn}
+use Rattle.lines.proofs.Parsing.{bind-good, bind-fault, text-fits}
+use Rattle.lines.proofs.Outcomes.{one-value, one-fault, not-both}
+use Rattle.lines.proofs.Readback.{Readback, back, broken}
+use Rattle.job_text.specs.Grammar.{JobText, jobLines, maxBytes, readJobText}
+use Rattle.job_text.specs.Rendering.{jobText}
+use Rattle.job_text.proofs.Views.{idle-steps}
+use Rattle.job_text.proofs.Accepted.{lines-tell, valid-text, text-is}
+use Rattle.job_text.proofs.Lengths as lengths
+use Rattle.job_text.proofs.Complete.{read-back}
+use Rattle.answers.specs.Said.{Said, plainly, refusal, lent}
+use Rattle.answers.proofs.Replies as replies
+use Rattle.form.specs.Form.{Form, stated, formText, readForm}
+use Rattle.form.specs.Write.{saidFor, writeSaid, writeRoom}
+use Rattle.form.specs.Promise.{Agree, Few, formOf, WritePromise}
+use Rattle.form.proofs.Places.{paired-size, grouped-size}
+use Rattle.form.proofs.Stated.{FormFault, Held, form-back}
+use Rattle.form.proofs.Returned.{same-text, agrees, fits, returned}
+
+-- ---- what the lines give is what the form is read as
+
+pub form-accepted : (f : Form) (t : JobText) (l : ℕ) → jobLines (formText f) 1 ≡ good t [] l → readForm f ≡ accepted t
+unfolding readForm whole ends return
+form-accepted f t l e = ap finish (bind-good jobLines _ e ∙ bind-good ends _ refl)
+
+pub form-refused : (f : Form) (n l : ℕ) → jobLines (formText f) 1 ≡ fault n l → readForm f ≡ refused n l
+unfolding readForm whole
+form-refused f n l e = ap finish (bind-fault jobLines _ e)
+
+-- lines that are read to their end say something valid, which fits
+pub fits-room : (f : Form) (t : JobText) (l : ℕ) → jobLines (formText f) 1 ≡ good t [] l → length (jobText t) ≤ writeRoom
+fits-room f t l e = lengths.text-fits t (lines-tell (formText f) [] 1 l t e .known)
+
+-- ---- the two directions
+
+-- a written text reads back as the same job
+pub written-reads : (f : Form) → Held f → (t : JobText) → readForm f ≡ accepted t → (t ≡ stated f) × (readJobText (jobText t) ≡ accepted t)
+written-reads f held t e = go (form-back f held)
+  where
+    go : Readback FormFault (Agree f × Few f) (stated f) [] (jobLines (formText f) 1) → (t ≡ stated f) × (readJobText (jobText t) ≡ accepted t)
+    go (back g l h) =
+        let same : t ≡ stated f = one-value (form-accepted f (stated f) l h) e in
+        (same, subst (λ (u : JobText). readJobText (jobText u) ≡ accepted u) (sym same) (read-back (stated f) (lines-tell (formText f) [] 1 l (stated f) h .known)))
+    go (broken n m w h) = not-both e (form-refused f n m h)
+
+-- an accepted text, read and written, comes out byte for byte
+pub read-writes : (text : List ℕ) (t : JobText) → readJobText text ≡ accepted t → writeSaid (formOf t) ≡ plainly 0 text
+unfolding writeSaid readForm
+read-writes text t e =
+    let v = valid-text text t e in
+    let same : formText (formOf t) ≡ text = same-text (formOf t) (agrees t v) (fits t v) ∙ ap jobText (returned t v) ∙ sym (text-is text t e) in
+    ap saidFor (ap (λ (s : List ℕ). finish (whole jobLines s 1)) same ∙ text-fits maxBytes jobLines text (subst (λ (s : List ℕ). length s ≤ maxBytes) (sym (text-is text t e)) (lengths.text-fits t v)) ∙ e)
+    ∙ ap (plainly 0) (sym (text-is text t e))
+
+-- ---- no text of the caller's
+
+skipped-none : (n : ℕ) → skipped n [] ≡ []
+unfolding skipped afterBreak
+skipped-none zero = refl
+skipped-none (suc n) = skipped-none n
+
+no-span : (n : ℕ) → faultSpan n [] ≡ nowhere
+unfolding faultSpan
+no-span zero = refl
+no-span (suc n) = ap (spanIn []) (skipped-none n)
+
+-- ---- the promise
+
+module _ (f : Form) (held : Held f) (room : ℕ) where
+  -- of lists that agree and are not too long the very text is read
+  reads : Agree f → Few f → readForm f ≡ finish (whole jobLines (jobText (stated f)) 1)
+  unfolding readForm
+  reads agree few = ap (λ (s : List ℕ). finish (whole jobLines s 1)) (same-text f agree few)
+
+  -- a job that the grammar accepts is not too large
+  few-of : Agree f → readJobText (jobText (stated f)) ≡ accepted (stated f) → Few f
+  few-of agree e =
+      let j = valid-text (jobText (stated f)) (stated f) e .means .job in
+      record {
+        idles = omega (arith, j .few-idles, ap length (idle-steps (f .idles)));
+        openings = omega (arith, j .few-openings, paired-size (f .openings) (f .fees) (agree .fees));
+        parts = omega (arith, j .few-parts, grouped-size (length (f .openings)) (f .lives) (f .lefts) (f .prices) (agree .lefts));
+      }
+
+  -- and so it is what the form is read as
+  accepts : Agree f → readJobText (jobText (stated f)) ≡ accepted (stated f) → readForm f ≡ accepted (stated f)
+  accepts agree e = reads agree (few-of agree e) ∙ text-fits maxBytes jobLines (jobText (stated f)) (lengths.text-fits (stated f) (valid-text (jobText (stated f)) (stated f) e)) ∙ e
+
+  -- an accepted text's numbers make it again
+  again : (text : List ℕ) (t : JobText) → readJobText text ≡ accepted t → f ≡ formOf t → writeSaid f ≡ plainly 0 text
+  again text t e same = ap writeSaid same ∙ read-writes text t e
+
+  short : room < writeRoom → WritePromise f room (plainly 8 [])
+  short h = record {
+    says-8 = (λ e. h, λ e. refl);
+    says-0 = (λ e. absurd (omega arith), λ r. absurd (omega (arith, r .0)));
+    writes-0 = λ e. absurd (omega arith);
+    refuses = λ e. absurd (omega arith);
+    reads = reads;
+    returns = λ e. absurd (omega arith);
+  }
+
+  written : writeRoom ≤ room → (l : ℕ) → Agree f → jobLines (formText f) 1 ≡ good (stated f) [] l → WritePromise f room (writeSaid f)
+  unfolding writeSaid
+  written h l agree e = subst (WritePromise f room) (sym said) (record {
+    says-8 = (λ q. absurd (omega arith), λ q. absurd (omega arith));
+    says-0 = (λ q. (h, (agree, reads-back)), λ q. refl);
+    writes-0 = λ q. (refl, reads-back);
+    refuses = λ q n m r. not-both read r;
+    reads = reads;
+    returns = λ q text t r same. (refl, ap (λ (s : Said). s .bytes) (sym said ∙ again text t r same));
+  })
+    where
+      read : readForm f ≡ accepted (stated f)
+      read = form-accepted f (stated f) l e
+
+      said : writeSaid f ≡ plainly 0 (jobText (stated f))
+      said = ap saidFor read
+
+      reads-back : readJobText (jobText (stated f)) ≡ accepted (stated f)
+      reads-back = read-back (stated f) (lines-tell (formText f) [] 1 l (stated f) e .known)
+
+  refused-line : writeRoom ≤ room → (n m : ℕ) → FormFault n → jobLines (formText f) 1 ≡ fault n m → WritePromise f room (writeSaid f)
+  unfolding writeSaid
+  refused-line h n m w e = subst (WritePromise f room) (sym said) (record {
+    says-8 = (λ q. absurd (omega (arith, w)), λ q. absurd (omega arith));
+    says-0 = (λ q. absurd (omega (arith, w)), λ r. not-both (accepts (r .1 .0) (r .1 .1)) read);
+    writes-0 = λ q. absurd (omega (arith, w));
+    refuses = λ q i j r. let same = one-fault read r in (replies.refuses 1 [] read r, no-span m, omega (arith, w, same), omega (arith, w, same));
+    reads = reads;
+    returns = λ q text t r same. let z : n ≡ 0 = ap (λ (s : Said). s .result) (sym said ∙ again text t r same) in absurd (omega (arith, w));
+  })
+    where
+      read : readForm f ≡ refused n m
+      read = form-refused f n m e
+
+      said : writeSaid f ≡ refusal 1 [] n m
+      said = ap saidFor read
+
+  on-lines : writeRoom ≤ room → Readback FormFault (Agree f × Few f) (stated f) [] (jobLines (formText f) 1) → WritePromise f room (writeSaid f)
+  on-lines h (back g l e) = written h l (g .0) e
+  on-lines h (broken n m w e) = refused-line h n m w e
+
+  pub promised : WritePromise f room (lent writeRoom room (writeSaid f))
+  promised = go (decLt room writeRoom)
+    where
+      go : Dec (room < writeRoom) → WritePromise f room (lent writeRoom room (writeSaid f))
+      go (yes h) = rw (lt-ltb room writeRoom h) (short h)
+      go (no n) = let h : writeRoom ≤ room = omega (arith, n) in rw (le-ltb room writeRoom h) (on-lines h (form-back f held))

@@ -1,0 +1,5 @@
+-- The order form: what it states and the text that it makes (Form), what the writer says of it (Write) and promises (Promise), and the code's checks in these terms (Checks).
+pub mod Form
+pub mod Write
+pub mod Promise
+pub mod Checks
