@@ -37,7 +37,11 @@ typedef struct {
 /* Plans a job: results 0 to 8. */
 juzvarola_answer juzvarola_plan(const uint8_t *job, size_t job_len, uint8_t *out, size_t out_len);
 
-/* Judges a plan of a job: results 0 to 5 and 8 to 11. */
+/* Judges a plan of a job: results 0 to 5 and 8 to 11.
+ *
+ * A plan text of length 0 is the plan of doing nothing, no stops and cost 0: result 10, or 0 where every part outlives the horizon.
+ * A host that hands over a file that it could not open as an empty text gets this answer and no fault: look at the file first.
+ */
 juzvarola_answer juzvarola_judge(const uint8_t *job, size_t job_len, const uint8_t *plan, size_t plan_len, uint8_t *out, size_t out_len);
 
 /* Writes the text of a job from the lists of an order form: results 0, 3, 4, 5 and 8.

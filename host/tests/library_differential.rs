@@ -32,6 +32,25 @@ fn library_is_the_reference() {
     });
 }
 
+/// The judge on an empty plan text: the reference's reply, whatever the job and the output.
+#[test]
+fn library_is_the_reference_on_an_empty_plan_text() {
+    common::with_stack(|| {
+        let mut rng = Rng::new(setting("JUZVAROLA_SEED", 9));
+        let mut results = [0u64; 12];
+        for number in 0..CASES / 6 {
+            let call = inputs::call_on_nothing(&mut rng);
+            let reply = call.expected();
+            if let Err(difference) = lent::compare(&mut rng, &call, &reply) {
+                panic!("call {number}: {difference}");
+            }
+            results[reply.result as usize] += 1;
+        }
+        println!("{} calls, 0 differ\nresults of the judge: {results:?}", CASES / 6);
+        assert!([0, 2, 3, 4, 5, 8, 10].iter().all(|result| results[*result] >= LEAST));
+    });
+}
+
 /// Every beginning of a job text and of a plan text, and every text with one byte replaced, for a job of each kind of line.
 #[test]
 fn library_is_the_reference_on_every_cut_and_every_byte() {

@@ -61,3 +61,22 @@ fn replies_are_consistent_and_every_result_occurs() {
         }
     });
 }
+
+/// "An empty plan text shall mean a plan of no stops and cost 0": the reply is the one to that plan, and its cost is the true one.
+#[test]
+fn an_empty_plan_text_is_doing_nothing() {
+    common::with_stack(|| {
+        let mut rng = Rng::new(setting("JUZVAROLA_SEED", 8));
+        let mut results = [0u64; 12];
+        for _ in 0..CASES {
+            let call = inputs::call_on_nothing(&mut rng);
+            let reply = call.expected();
+            let nothing = common::Call { plan: Some(b"cost=0\nstops=0\n".to_vec()), ..call.clone() };
+            assert_eq!(reply, nothing.expected(), "{call:?}");
+            results[reply.result as usize] += 1;
+        }
+        println!("results of the judge: {results:?}");
+        assert!([0, 1, 2, 3, 4, 5, 8, 10].iter().all(|result| results[*result] >= 5));
+        assert_eq!(results[9] + results[11], 0);
+    });
+}

@@ -8,7 +8,7 @@ use Rattle.lines.specs.Fault.{faultSpan}
 use Rattle.lines.specs.Parser.{Outcome, accepted, refused}
 use Rattle.lines.proofs.Parsing.{text-long}
 use Rattle.job_text.specs.Grammar.{JobText, Given, jobLines, meaning, readJob}
-use Rattle.plan_text.specs.Grammar.{planLines}
+use Rattle.plan_text.proofs.Nothing.{read-long}
 use Rattle.judging.specs.Judge.{onJob, onPlan, judgeSaid}
 use Rattle.whole_input.specs.declared.Text.the-variants.{Job, Plan}
 use Rattle.whole_input.specs.Limits.{limitOf}
@@ -25,8 +25,7 @@ job-over s u t h k =
 plan-over : (s t u : List ℕ) (o : Outcome Given) → limitOf Plan < length t → limitOf Plan < length u → onJob s t o ≡ onJob s u o
 unfolding faultSpan
 plan-over s t u (accepted given) h k =
-    ap (onPlan t (given .job)) (sym (text-long (limitOf Plan) (planLines (given .job)) t h))
-    ∙ ap (onPlan u (given .job)) (text-long (limitOf Plan) (planLines (given .job)) u k)
+    ap (onPlan t (given .job)) (sym (read-long (given .job) t h)) ∙ ap (onPlan u (given .job)) (read-long (given .job) u k)
 plan-over s t u (refused number line) h k = refl
 
 job-same : (s t : List ℕ) → judgeSaid (take (suc (limitOf Job)) s) t ≡ judgeSaid s t

@@ -1,16 +1,19 @@
--- An accepted plan text states what valid visits make (`valid`), and it is the rendering of those visits (`lines-of`). By the grammar's lines, one after the other.
+-- An accepted plan text states what valid visits make (`valid`), and unless it is empty it is the rendering of those visits (`text-tells`). By the grammar's lines, one after the other.
 use Prim.Native.Nat.{ℕ, _≤_}
 use mathlib.Core.Path.{_≡_, refl, sym, ap, _∙_, subst}
-use mathlib.Core.List.{List, [], _++_, append-assoc}
+use mathlib.Core.List.{List, [], _∷_, _++_, append-assoc}
+use mathlib.Core.Logic.{_⊎_, inl, inr, ⊎-elim}
+use native.Mathlib.Omega.{arith}
 use lib.ListN.{length}
 use Rattle.lines.specs.Text.{lineOf, texts}
 use Rattle.lines.specs.Parser.{good, accepted, return, row, checked, rising}
+use Rattle.lines.proofs.Outcomes.{one-value}
 use Rattle.lines.proofs.Sound.{Sound, bind-inv, row-sound, checked-sound, chain-sound, row-gives, chain-gives, accepted-is}
 use Rattle.model.specs.Model.{Job}
 use Rattle.job_text.proofs.Accepted.{Told, Tells}
-use Rattle.plan_text.specs.Grammar.{Stated, mayStop, part, parts, visit, visits, planOf, planLines, maxBytes, readPlan}
+use Rattle.plan_text.specs.Grammar.{Stated, mayStop, part, parts, visit, visits, planOf, planLines, maxBytes, nothing, readPlan}
 use Rattle.plan_text.specs.Rendering.{visitText, planText}
-use Rattle.plan_text.proofs.Valid.{ValidPart, ValidVisit, Valid, stepOf, part-gives, stop-gives}
+use Rattle.plan_text.proofs.Valid.{ValidPart, ValidVisit, no-visits, Valid, stepOf, part-gives, stop-gives}
 
 part-sound : (m before : ℕ) → Sound (part m before) (lineOf "part=")
 unfolding part
@@ -73,8 +76,14 @@ lines-tell job s s′ l l′ stated e =
 
 -- ---- the text
 
-pub lines-of : (job : Job) (s : List ℕ) (stated : Stated) → readPlan job s ≡ accepted stated → Lines job s [] stated
-lines-of job s stated e = let a = accepted-is maxBytes (planLines job) s stated e in lines-tell job s [] 1 (a .last) stated (a .lines)
+-- the empty text states doing nothing; of every other the lines were read
+pub text-tells : (job : Job) (s : List ℕ) (stated : Stated) → readPlan job s ≡ accepted stated → ((s ≡ []) × (nothing job ≡ stated)) ⊎ Lines job s [] stated
+unfolding readPlan
+text-tells job [] stated e = inl (refl, one-value e refl)
+text-tells job (b ∷ s) stated e = let a = accepted-is maxBytes (planLines job) (b ∷ s) stated e in inr (lines-tell job (b ∷ s) [] 1 (a .last) stated (a .lines))
+
+nothing-valid : (job : Job) → Valid job (nothing job)
+nothing-valid job = record { cost = omega arith; vs = []; visits = no-visits job; makes = refl }
 
 pub valid : (job : Job) (s : List ℕ) (stated : Stated) → readPlan job s ≡ accepted stated → Valid job stated
-valid job s stated e = lines-of job s stated e .valid
+valid job s stated e = ⊎-elim (λ n. subst (Valid job) (n .1) (nothing-valid job)) (λ r. r .valid) (text-tells job s stated e)

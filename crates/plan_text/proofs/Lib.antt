@@ -4,6 +4,7 @@ pub mod Lists
 pub mod Jobs
 pub mod Marks
 pub mod Chosen
+pub mod Nothing
 pub mod Numbered
 pub mod Valid
 pub mod Accepted

@@ -14,7 +14,11 @@ use Rattle.model.specs.Model.{Opening, Job}
 use Rattle.model.proofs.Bools.{there}
 use Rattle.plan_text.specs.Grammar.{Visit, any, among, visited, changed, tabulate, openingsAt, planOf}
 use Rattle.plan_text.specs.Rendering.{stepAt}
-use Rattle.jobs.specs.Views.{changesOf, emptyPlan}
+use Rattle.model.specs.Limits.{mostOpenings, mostParts}
+use Rattle.jobs.specs.declared.Job as code
+use Rattle.jobs.specs.declared.Plan.{Plan}
+use Rattle.jobs.specs.Views.{jobOf, Sized, changesOf, modelPlan, emptyPlan, planFor}
+use Rattle.jobs.proofs.Jobs.{Whole, opening-count, part-count}
 use Rattle.plan_text.specs.Marks.{withStep, withParts, withVisit}
 use Rattle.jobs.specs.declared.Changes.{Changes}
 use Rattle.plan_text.proofs.Steps.{noOpening, step-is}
@@ -158,3 +162,7 @@ changes-more job n m step rows cs ks k next count l low high h e =
 -- a fault is no end at a cursor
 pub not-at : {X : Type 0} {k l : ℕ} {q : Cursor} → end.Fault k l ≡ end.At q → X
 not-at e = let z : _≡_ {A = ℕ} 0 1 = cc in absurd (omega arith)
+
+-- which the code's empty plan is
+pub empty-made : (job : code.Job) → Sized job → Whole job → (p : Plan) → ((n m : ℕ) → n ≤ mostOpenings → m ≤ mostParts → modelPlan n m p ≡ emptyPlan n m) → planFor job p ≡ planOf (jobOf job) []
+empty-made job sized whole p e = e _ _ (sized .openings) (sized .parts) ∙ visit-none (jobOf job) _ _ (opening-count job sized whole) (part-count job sized whole)

@@ -1,11 +1,12 @@
--- A plan text's fault is number 1, 2, 3 or 9, and its line is one of the text's lines or the next (so it fits any counter). By the grammar's forms.
+-- A plan text's fault is number 1, 2, 3 or 9, and its line is one of the text's lines or the next (so it fits any counter). By the grammar's forms; the empty text has none.
 use Prim.Native.Nat.{ℕ, _≤_}
 use mathlib.Core.Path.{_≡_, refl}
-use mathlib.Core.List.{List}
+use mathlib.Core.List.{List, [], _∷_}
 use lib.ListN.{length}
 use mathlib.Core.Logic.{_⊎_, inl, inr}
 use native.Mathlib.Omega.{arith}
 use Rattle.lines.specs.Parser.{rowAt, refused}
+use Rattle.lines.proofs.Outcomes.{not-both}
 use Rattle.lines.proofs.Numbered.{Numbers, row-numbers, checked-numbers, bind-numbers, return-numbers, chain-numbers, refused-fault}
 use Rattle.model.specs.Model.{Job}
 use Rattle.plan_text.specs.Grammar.{part, parts, visit, visits, planLines, maxBytes, readPlan}
@@ -31,5 +32,7 @@ lines-numbers job =
     (λ n. bind-numbers PlanFault _ _ (chain-numbers PlanFault (visit job) _ (visit-numbers job) n 0) (λ vs. return-numbers PlanFault _)))
 
 pub fault : (job : Job) (s : List ℕ) (n l : ℕ) → readPlan job s ≡ refused n l → PlanFault n × (l ≤ 32769)
-fault job s n l e =
-    refused-fault PlanFault maxBytes (planLines job) (inl (omega arith, omega arith)) (inl (omega arith, omega arith)) (lines-numbers job) s n l e
+unfolding readPlan
+fault job [] n l e = not-both refl e
+fault job (b ∷ s) n l e =
+    refused-fault PlanFault maxBytes (planLines job) (inl (omega arith, omega arith)) (inl (omega arith, omega arith)) (lines-numbers job) (b ∷ s) n l e

@@ -7,7 +7,7 @@ use native.Mathlib.Omega.{arith}
 use borrow.Author.Tests.{eq-eqb, lt-ltb}
 use lib.Dec.{eqb}
 use lib.ListN.{length, getD}
-use Rattle.lines.specs.Text.{bytes, lineOf, texts, joined}
+use Rattle.lines.specs.Text.{bytes, line, lineOf, texts, joined}
 use Rattle.lines.specs.Parser.{good, accepted, return, row, checked, rising}
 use Rattle.lines.proofs.Parsing.{bind-good, rising-yes}
 use Rattle.lines.proofs.Sound.{Chained}
@@ -18,6 +18,7 @@ use Rattle.jobs.specs.Valid.{ValidJob}
 use Rattle.plan_text.specs.Grammar.{Visit, isOpening, mayStop, part, parts, visit, visits, planOf, planLines, maxBytes, readPlan}
 use Rattle.plan_text.specs.Rendering.{visitText, planText, chosen, changesAt, partsAt, stepAt, visitAt, visitsOf, planLinesOf}
 use Rattle.plan_text.proofs.Lists.{any-at}
+use Rattle.plan_text.proofs.Nothing.{read-lines}
 use Rattle.plan_text.proofs.Chosen.{chosen-few, chosen-front}
 use Rattle.plan_text.proofs.Valid.{ValidPart, ValidParts, ValidVisit, ValidVisits, stepOf}
 use Rattle.plan_text.proofs.Steps.{noOpening, step-is, step-low, step-high, step-rises}
@@ -120,9 +121,15 @@ lines-back job ok cost plan h shape s l =
     let r = lines-complete job cost (visitsOf job plan) (ok .few-parts) h (visits-valid job ok plan shape) s l in
     (r .0, r .1 ∙ ap (λ (p : Plan). good (record { cost = cost; plan = p }) s (r .0)) (plan-back job ok plan shape))
 
+-- it is not empty
+some-bytes : (job : Job) (cost : ℕ) (plan : Plan) → 1 ≤ length (planLinesOf job cost plan)
+unfolding planLinesOf planText line bytes
+some-bytes job cost plan = omega arith
+
 pub read-back : (job : Job) → ValidJob job → (cost : ℕ) (plan : Plan) → cost ≤ 2000000000 → Shaped job plan → readPlan job (planLinesOf job cost plan) ≡ accepted (record { cost = cost; plan = plan })
 read-back job ok cost plan h shape =
     let r = lines-back job ok cost plan h shape [] 1 in
-    text-complete maxBytes (planLines job) (planLinesOf job cost plan) _ (r .0)
+    sym (read-lines job (planLinesOf job cost plan) (some-bytes job cost plan))
+    ∙ text-complete maxBytes (planLines job) (planLinesOf job cost plan) _ (r .0)
     (omega (arith, valid-short job ok cost plan (omega arith) (omega (arith, ok .few-parts, shape .parts))))
     (ap (λ (t : List ℕ). planLines job t 1) (sym (append-nil (planLinesOf job cost plan))) ∙ r .1)

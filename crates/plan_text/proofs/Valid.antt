@@ -1,8 +1,9 @@
 -- What is known of the lines of a plan that were accepted, by their ranges and rules.
 use Prim.Native.Nat.{ℕ, _≤_, _<_}
 use mathlib.Core.Path.{_≡_}
-use mathlib.Core.List.{List}
+use mathlib.Core.List.{List, []}
 use mathlib.Core.Bool.{true, and-eq-true-iff}
+use native.Mathlib.Omega.{arith}
 use lib.Dec.{leb, ltb}
 use lib.ListN.{length}
 use borrow.Author.Tests.{ltb-true, leb-true}
@@ -32,6 +33,10 @@ stepOf v = v .step
 pub record ValidVisits (job : Job) (vs : List Visit) : Type 0 where
   pub few : length vs ≤ 64
   pub each : Chained (ValidVisit job) stepOf 0 vs
+
+-- none at all
+pub no-visits : (job : Job) → ValidVisits job []
+no-visits job = record { few = omega arith; each = tt }
 
 -- what a plan text states: a cost within its range, and the plan that valid visits make
 pub record Valid (job : Job) (stated : Stated) : Type 0 where

@@ -5,7 +5,7 @@ use mathlib.Core.Bool.{Bool, false, _&&_, _||_}
 use lib.ListN.{length}
 use lib.Dec.{ltb, eqb}
 use Rattle.lines.specs.Text.{joined}
-use Rattle.lines.specs.Parser.{Parser, _>>=_, return, row, checked, chain, rising, Outcome, readText}
+use Rattle.lines.specs.Parser.{Parser, _>>=_, return, row, checked, chain, rising, Outcome, accepted, readText}
 use Rattle.model.specs.Model.{Opening, Job, Plan}
 use Rattle.model.specs.Limits.{lastStep, mostOpenings, mostParts}
 
@@ -94,6 +94,11 @@ planLines job = do
 abbrev pub maxBytes : ℕ
 maxBytes = 32768
 
+-- E5. "An empty plan text shall mean a plan of no stops and cost 0."
+abbrev pub nothing : Job → Stated
+nothing job = record { cost = 0; plan = planOf job [] }
+
 -- the whole text: what it states, or its first fault's number and line
-abbrev pub readPlan : Job → List ℕ → Outcome Stated
-readPlan job s = readText maxBytes (planLines job) s
+unfoldable pub readPlan : Job → List ℕ → Outcome Stated
+readPlan job [] = accepted (nothing job)
+readPlan job (b ∷ s) = readText maxBytes (planLines job) (b ∷ s)

@@ -66,11 +66,19 @@ pub fn read_plan_lines(text: &[u8], p: Cursor, job: Job) -> PlanLines
     }
 }
 
-// The whole plan text: a text over the limit is fault 1, bytes after the last line are fault 2.
+// The whole plan text: an empty text is the plan of no stops and cost 0, a text over the limit is fault 1, bytes after the last line are fault 2.
 pub fn read_plan(text: &[u8], job: Job) -> PlanRead
     requires { ⌜ Sized job ⌝ }
     ensures { λ r. ⌜ outcome job r ≡ readPlan (jobOf job) (now (text .entry)) ⌝ }
 {
+    if text.len() == 0 {
+        let cost: u32 = 0;
+        return PlanRead {
+            verdict: WholeText::Good,
+            cost,
+            plan: Plan::empty(),
+        };
+    }
     if Plan::MAX_BYTES < text.len() {
         return PlanRead {
             verdict: WholeText::Fault { number: 1, line: 0 },

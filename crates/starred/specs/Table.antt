@@ -245,4 +245,30 @@ table =
       length = 23;
       fault = bytes "idle=7";
     }
+    ∷
+    -- E5: 01's job and an empty plan text: 10, part 1, due 2
+    record {
+      call = judge;
+      job = bytes "horizon=6\nwalk=11\nopenings=4\nopening=2\nfee=10\nopening=3\nfee=10\nopening=4\nfee=10\nopening=5\nfee=10\nparts=2\nlife=3\nleft=2\nprice=5\nprice=5\nprice=5\nprice=5\nlife=4\nleft=4\nprice=7\nprice=7\nprice=7\nprice=7\n";
+      plan = bytes "";
+      written = bytes "result=10\npart=1\ndue=2\n";
+      result = 10;
+      text = 0;
+      line = 0;
+      length = 23;
+      fault = bytes "";
+    }
+    ∷
+    -- an empty plan text for a job whose parts all outlive the horizon: 0, cost 0
+    record {
+      call = judge;
+      job = bytes "horizon=6\nwalk=11\nopenings=1\nopening=2\nfee=10\nparts=2\nlife=7\nleft=7\nprice=5\nlife=9\nleft=8\nprice=7\n";
+      plan = bytes "";
+      written = bytes "result=0\ncost=0\n";
+      result = 0;
+      text = 0;
+      line = 0;
+      length = 16;
+      fault = bytes "";
+    }
     ∷ []

@@ -63,10 +63,14 @@ fn read_idles(lines: &mut Lines, horizon: i64) -> Result<Vec<i64>, Fault> {
 /// "Plan: `cost` 0..2000000000; `stops` 0..64; for each, `stop` 1..365 and `count` 0..16, then that many `part` 1..16." The plan and the
 /// cost that it states.
 pub fn read_plan(job: &Job, text: &[u8]) -> Result<(Plan, u64), Fault> {
-    let mut lines = Lines::new(text)?;
-    let cost = lines.value("cost", 0, 2_000_000_000)?;
     let openings = job.openings.len();
     let mut plan = Plan { stops: vec![false; openings], changes: vec![vec![false; openings]; job.parts.len()] };
+    // "An empty plan text shall mean a plan of no stops and cost 0."
+    if text.is_empty() {
+        return Ok((plan, 0));
+    }
+    let mut lines = Lines::new(text)?;
+    let cost = lines.value("cost", 0, 2_000_000_000)?;
 
     let mut step_before = 0;
     for _ in 0..lines.value("stops", 0, 64)? {

@@ -466,6 +466,14 @@ fn damaged_job(rng: &mut Rng, facts: &Facts) -> Vec<u8> {
     }
 }
 
+/// A call of the judge with an empty plan text: the job once in four with a fault, the output now and then short.
+pub fn call_on_nothing(rng: &mut Rng) -> Call {
+    let facts = job(rng);
+    let job = if rng.once_in(4) { damaged_job(rng, &facts) } else { facts.text() };
+    let output = if rng.once_in(10) { rng.pick(&[0, 1, 16_383]) } else { OUTPUT };
+    Call { job, plan: Some(Vec::new()), output }
+}
+
 /// A call: the planner or the judge, on texts with or without faults, now and then with a short or a long output.
 pub fn call(rng: &mut Rng) -> Call {
     let facts = job(rng);

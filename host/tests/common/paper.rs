@@ -76,6 +76,7 @@ pub fn cases() -> Vec<Case> {
         ),
         judge("the printed plan with cost 36", "cost=36 stops=2 stop=2 count=1 part=1 stop=4 count=2 part=1 part=2", "result=11 cost=37"),
         judge("the printed plan", "cost=37 stops=2 stop=2 count=1 part=1 stop=4 count=2 part=1 part=2", "result=0 cost=37"),
+        judge("an empty plan text", "", "result=10 part=1 due=2"),
         plan("no openings, life 7", "horizon=6 walk=11 openings=0 parts=1 life=7 left=7", 0, "result=0 nodes=1 floor=0 cost=0 stops=0"),
         plan("no openings, life 6", "horizon=6 walk=11 openings=0 parts=1 life=6 left=6", 0, "result=6"),
         plan("opening 366", &altered("opening=3", "opening=366"), 6, "result=3 text=1 line=6"),

@@ -14,8 +14,7 @@ use Rattle.jobs.specs.Views.{jobOf, planFor}
 use Rattle.plan_text.specs.Grammar.{Visit, visit, visits, planOf}
 use Rattle.plan_text.specs.Marks.{withVisit}
 use Rattle.jobs.specs.declared.Plan.{Plan}
-use Rattle.jobs.proofs.Jobs.{opening-count, part-count}
-use Rattle.plan_text.proofs.Marks.{visit-none, visit-more}
+use Rattle.plan_text.proofs.Marks.{empty-made, visit-more}
 use Rattle.plan_text.proofs.stops.read_visits.Statement.{statement}
 use Rattle.plan_text.proofs.stops.read_visits.Tie as tie
 
@@ -49,7 +48,7 @@ loop-holds c =
       stands = s .pre .0;
       vs = [];
       read = chain-start _ _ _ _ _ _;
-      makes = c .empty .ensures _ _ (s .pre .1 .openings) (s .pre .1 .parts) ∙ visit-none (jobOf job) _ _ (opening-count job (s .pre .1) (s .good .1 .1 .0)) (part-count job (s .pre .1) (s .good .1 .1 .0));
+      makes = empty-made job (s .pre .1) (s .good .1 .1 .0) _ (c .empty .ensures);
     }
 
 read-visit-requires : tie.Need-read-visit-requires Inv-loop μ-loop
