@@ -1,4 +1,4 @@
-/* Plans the job in a file and prints the answer: example JOB. Without a file it fills in the order form of the specification's job, writes the
+/* Says how long the walk of the job in a file may become, plans it and prints the answer: example JOB. Without a file it fills in the order form of the specification's job, writes the
  * job text and plans that. The exit status is the result number, or 20 where there is no answer. */
 #include <stdio.h>
 #include <stdlib.h>
@@ -40,6 +40,11 @@ int main(int argc, char **argv) {
     } else {
         fprintf(stderr, "usage: %s [JOB]\n", argv[0]);
         return 20;
+    }
+
+    juzvarola_counted counted = juzvarola_count(job, length);
+    if (counted.result == 0) {
+        fprintf(stderr, "%s%u nodes\n", counted.count == 4000000000u ? "the walk may have more than " : "the walk has at most ", (unsigned)counted.count);
     }
 
     juzvarola_answer answer = juzvarola_plan(job, length, out, sizeof out);

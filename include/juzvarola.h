@@ -24,6 +24,17 @@ typedef struct {
     size_t length, fault_start, fault_length;
 } juzvarola_answer;
 
+/* What juzvarola_count hands over; nothing is written.
+ *
+ * result, text, line, fault_start and fault_length as above, for the job text alone: results 0 to 5.
+ * count         how many nodes the walk of the job can have at most. 4000000000 means that many or more. 1 for a job with no plan,
+ *               and for one without openings. 0 with every result but 0.
+ */
+typedef struct {
+    uint32_t result, text, line, count;
+    size_t fault_start, fault_length;
+} juzvarola_counted;
+
 /* For all calls:
  *
  * - A pointer is never null. With length 0 it may be any non-null pointer; nothing is read or written through it.
@@ -58,6 +69,10 @@ juzvarola_answer juzvarola_judge(const uint8_t *job, size_t job_len, const uint8
 juzvarola_answer juzvarola_write(uint32_t horizon, const uint32_t *idles, size_t idles_len, uint32_t walk, const uint32_t *openings, size_t openings_len,
                                  const uint32_t *fees, size_t fees_len, const uint32_t *lives, size_t lives_len, const uint32_t *lefts, size_t lefts_len,
                                  const uint32_t *prices, size_t prices_len, uint8_t *out, size_t out_len);
+
+/* Says how long the walk of a job may become, without walking: results 0 to 5. Below 4000000000 no walk of the job has more nodes than
+ * `count`, whatever its walk number, so that with a walk number of `count` or more the planner never answers 7. */
+juzvarola_counted juzvarola_count(const uint8_t *job, size_t job_len);
 
 #ifdef __cplusplus
 }

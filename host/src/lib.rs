@@ -7,7 +7,7 @@ mod library;
 pub mod reference;
 
 #[cfg(feature = "library")]
-pub use library::{judge, plan, write};
+pub use library::{count, judge, plan, write};
 
 /// What a call answers. `'t` is the life of the caller's texts.
 #[derive(Debug, Clone, Copy, PartialEq, Eq)]
@@ -37,4 +37,21 @@ pub struct Form<'f> {
     pub lives: &'f [u32],
     pub lefts: &'f [u32],
     pub prices: &'f [u32],
+}
+
+/// What `count` answers. `'t` is the life of the caller's text.
+#[derive(Debug, Clone, Copy, PartialEq, Eq)]
+pub struct Count<'t> {
+    /// The result number, 0 to 5.
+    pub result: u32,
+    /// The text at fault: 1 the job, 0 none.
+    pub text: u32,
+    /// The line at fault, counted from 1; 0 if there is none.
+    pub line: u32,
+    /// The most nodes that the walk can have; 4000000000 means that many or more. 0 for a refused job.
+    pub count: u32,
+    /// Where the line at fault starts in the text; 0 if there is none.
+    pub fault_start: usize,
+    /// The line at fault, a part of the caller's own text, without its byte 10; empty if there is none.
+    pub fault: &'t [u8],
 }

@@ -1,6 +1,6 @@
 //! The static library, as `include/juzvarola.h` declares it, behind safe functions.
 
-use crate::{Answer, Form};
+use crate::{Answer, Count, Form};
 use std::mem::{offset_of, size_of};
 
 /// `juzvarola_answer`.
@@ -16,6 +16,19 @@ struct Numbers {
 
 // As C lays it out on 64-bit machines.
 const _: () = assert!(size_of::<Numbers>() == 40 && offset_of!(Numbers, length) == 16);
+
+/// `juzvarola_counted`.
+#[repr(C)]
+struct Counted {
+    result: u32,
+    text: u32,
+    line: u32,
+    count: u32,
+    fault_start: usize,
+    fault_length: usize,
+}
+
+const _: () = assert!(size_of::<Counted>() == 32 && offset_of!(Counted, fault_start) == 16);
 
 extern "C" {
     fn juzvarola_plan(job: *const u8, job_len: usize, out: *mut u8, out_len: usize) -> Numbers;
@@ -38,6 +51,7 @@ extern "C" {
         out: *mut u8,
         out_len: usize,
     ) -> Numbers;
+    fn juzvarola_count(job: *const u8, job_len: usize) -> Counted;
 }
 
 /// Plans a job. The answer's lines are the first `length` bytes of `out`.
@@ -79,6 +93,13 @@ pub fn write(form: &Form, out: &mut [u8]) -> Answer<'static> {
         )
     };
     answer(numbers, &[], &[])
+}
+
+/// How many nodes the walk of a job can have at most.
+pub fn count(job: &[u8]) -> Count<'_> {
+    // SAFETY: a slice's pointer is not null and is good for its length.
+    let Counted { result, text, line, count, fault_start, fault_length } = unsafe { juzvarola_count(job.as_ptr(), job.len()) };
+    Count { result, text, line, count, fault_start, fault: &job[fault_start..][..fault_length] }
 }
 
 /// The numbers with the line at fault cut out of its text. A cut outside the text panics.

@@ -32,6 +32,13 @@ module _ (j : Job) (sized : Sized j) (whole : Whole j) where
   pub position-at : (i : ℕ) → i < j .«opening_count» → getD (positions (jobOf j)) i (pos 0) ≡ clock (jobOf j) (openingAt j i .step)
   position-at = seen-at j sized whole clocks (pos 0)
 
+  -- as many of the array's entries as there are openings are their positions
+  pub places-are : (p : Positions) → Placed (jobOf j) p → take (j .«opening_count») (p .at) ≡ positions (jobOf j)
+  places-are p placed = subst (λ (k : ℕ). take k (p .at) ≡ positions (jobOf j)) (opening-count j sized whole) (placed .openings)
+
+  pub place-count : (p : Positions) → Placed (jobOf j) p → length (take (j .«opening_count») (p .at)) ≡ j .«opening_count»
+  place-count p placed = ap length (places-are p placed) ∙ position-count
+
   module _ (valid : ValidJob (jobOf j)) where
     -- the position of an opening, and the end
     pub here-range : (i : ℕ) → i < j .«opening_count» → Position (clock (jobOf j) (openingAt j i .step))

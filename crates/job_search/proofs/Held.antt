@@ -20,7 +20,7 @@ use Rattle.jobs.specs.declared.Job.{Job}
 use Rattle.clock.specs.Placed.{Placed}
 use Rattle.clock.specs.declared.Positions.{Positions}
 use Rattle.jobs.proofs.Jobs.{Whole, blankOpening, opening-count, part-count, part-at, seen-count, valid-part, valid-parts}
-use Rattle.clock.proofs.Places.{position-count}
+use Rattle.clock.proofs.Places.{places-are, place-count}
 use Rattle.clock.proofs.Ranges.{position-small}
 use Rattle.model.proofs.Bools.{there}
 use Rattle.lane_rows.specs.Layout.{top}
@@ -88,12 +88,6 @@ module _ (j : Job) (sized : Sized j) (whole : Whole j) where
   abbrev m : ℕ
   m = j .«part_count»
 
-  places-are : (p : Positions) → Placed (jobOf j) p → take n (p .at) ≡ positions (jobOf j)
-  places-are p placed = subst (λ (k : ℕ). take k (p .at) ≡ positions (jobOf j)) (opening-count j sized whole) (placed .openings)
-
-  pub place-count : (p : Positions) → Placed (jobOf j) p → length (take n (p .at)) ≡ n
-  place-count p placed = ap length (places-are p placed) ∙ position-count j sized whole
-
   pub fee-count : (fs : List ℕ) → take n fs ≡ map feeOf (jobOf j .openings) → length (take n fs) ≡ n
   fee-count fs e = ap length e ∙ seen-count j sized whole feeOf
 
@@ -117,13 +111,13 @@ module _ (j : Job) (sized : Sized j) (whole : Whole j) where
             subst (λ (z : ℤ). mag z ≤ lastPosition) (sym (getD-take n (p .at) i (pos 0) h))
             (position-small (getD (p .at) i (pos 0)) (placed .ranges i (rw (opening-count j sized whole) h)))
         go (no h) =
-            subst (λ (z : ℤ). mag z ≤ lastPosition) (sym (List·getD-eq-default (take n (p .at)) (pos 0) {n = i} (omega (arith, h, place-count p placed)))) (omega arith)
+            subst (λ (z : ℤ). mag z ≤ lastPosition) (sym (List·getD-eq-default (take n (p .at)) (pos 0) {n = i} (omega (arith, h, place-count j sized whole p placed)))) (omega arith)
 
     arrays : Arrays (p .end) (take n (p .at)) (take n fs) (take m ls) (take m rs) ps
     arrays =
         record {
-          few = omega (arith, place-count p placed, sized .openings);
-          paid = fee-count fs fees ∙ sym (place-count p placed);
+          few = omega (arith, place-count j sized whole p placed, sized .openings);
+          paid = fee-count fs fees ∙ sym (place-count j sized whole p placed);
           lives = record {
             some = omega (arith, lane-count lifeOf ls lives, part-count j sized whole, valid .some-part);
             lefts = lane-count leftOf rs lefts ∙ sym (lane-count lifeOf ls lives);
@@ -138,7 +132,7 @@ module _ (j : Job) (sized : Sized j) (whole : Whole j) where
           free = λ x h. laid-free (jobOf j .parts) ps laid x (omega (arith, h, lane-count lifeOf ls lives, part-count j sized whole));
           near = near;
           late = position-small (p .end) (placed .end-range);
-          climbs = subst (λ (ss : List ℤ). Climbs (p .end) (pos 0) ss) (sym (places-are p placed)) (subst (λ (e : ℤ). Climbs e (pos 0) (positions (jobOf j))) (sym (placed .end)) (job-climbs (jobOf j) (valid .rising)));
+          climbs = subst (λ (ss : List ℤ). Climbs (p .end) (pos 0) ss) (sym (places-are j sized whole p placed)) (subst (λ (e : ℤ). Climbs e (pos 0) (positions (jobOf j))) (sym (placed .end)) (job-climbs (jobOf j) (valid .rising)));
         }
 
     -- a part's prices, cut out of all of them
@@ -154,8 +148,8 @@ module _ (j : Job) (sized : Sized j) (whole : Whole j) where
     part : (q : ℕ) → q < length (take m ls) → getD (jobOf j .parts) q noPart ≡ lanePart (length (take n (p .at))) (take m ls) (take m rs) ps q
     part q l =
         let h : q < m = omega (arith, l, lane-count lifeOf ls lives) in
-        let prices = ap (λ (k : ℕ). take k (drop (q * priceStride) ps)) (place-count p placed) ∙ prices-at q h in
+        let prices = ap (λ (k : ℕ). take k (drop (q * priceStride) ps)) (place-count j sized whole p placed) ∙ prices-at q h in
         λ i. record { life = sym (lane-at lifeOf ls lives q h) i; left = sym (lane-at leftOf rs lefts q h) i; prices = sym prices i }
 
     pub held : Holds (jobOf j) (p .end) (take n (p .at)) (take n fs) (take m ls) (take m rs) ps
-    held = record { arrays = arrays; ends = placed .end; places = places-are p placed; fees = fees; parts = part-count j sized whole ∙ sym (lane-count lifeOf ls lives); part = part }
+    held = record { arrays = arrays; ends = placed .end; places = places-are j sized whole p placed; fees = fees; parts = part-count j sized whole ∙ sym (lane-count lifeOf ls lives); part = part }

@@ -1,10 +1,14 @@
 // The library for hosts in C, Rust and other languages: include/juzvarola.h declares these functions.
 use answers::Answer;
+use counting::Counted;
+ghost use mathlib.Core.Path.{_≡_};
 ghost use lib.ListN.{length};
 ghost use Rattle.answers.specs.Said.{lent, Replied};
 ghost use Rattle.form.specs.Form.{filled};
 ghost use Rattle.form.specs.Write.{writeSaid, writeRoom};
 ghost use Rattle.form.specs.Promise.{WritePromise};
+ghost use Rattle.counting.specs.Count.{countSaid};
+ghost use Rattle.counting.specs.Promise.{CountPromise};
 ghost use Rattle.judging.specs.Judge.{judgeSaid, judgeRoom};
 ghost use Rattle.judging.specs.Promise.{JudgePromise};
 ghost use Rattle.planning.specs.Plan.{planSaid, planRoom};
@@ -57,4 +61,12 @@ pub extern "C" fn juzvarola_write(
         prices,
         out,
     )
+}
+
+// How long the walk of a job text may become.
+#[no_mangle]
+pub extern "C" fn juzvarola_count(job: &[u8]) -> Counted
+    ensures { λ r. ⌜ (r ≡ countSaid (now (job .entry))) × CountPromise (now (job .entry)) r ⌝ }
+{
+    counting::count(job)
 }

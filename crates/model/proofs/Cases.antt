@@ -6,9 +6,11 @@ use Prim.Native.Nat.{ℕ, _≤_}
 use lib.ListN.{replicate}
 use Rattle.branch.specs.Search.{limited}
 use Rattle.branch.specs.Label.{treeOf}
-use Rattle.model.specs.Model.{Job, Plan, idle, running, clock, within, lastWithin, dueOf, select, sumAt, costOf, KeepsLives, HasPlan}
+use Rattle.branch.specs.Open.{openNodes}
+use Rattle.model.specs.Model.{Job, Plan, idle, running, clock, within, kept, lastWithin, dueOf, select, sumAt, costOf, KeepsLives, HasPlan}
 use Rattle.model.specs.LowerBound.{leastOf, choiceOf, offers, stopCost, undecidedFees, boundOf}
 use Rattle.model.specs.Promise.{no-plan, cut-none, cut, optimum, answerOf, Promise}
+use Rattle.model.specs.Count.{longest, eachReaches, eachKept, countFrom, openCount}
 use Rattle.model.specs.Verdict.{accepts, unkept, wrongCost, firstLate, verdictFrom, judgedOf}
 use Rattle.model.specs.Published.{sum, atStep, objective}
 use Rattle.model.proofs.Promised.{promise}
@@ -98,6 +100,38 @@ least-37 other k = promised .plan-for .least other k tt
 
 has-not : HasPlan (jobWith 10 1) → ⊥
 has-not = subst (Promise (jobWith 10 1) 11) left-1 (promise (jobWith 10 1) 11) .says-6 .0 refl
+
+-- ---- E6. the count
+
+-- E6.4. "For 01's job it is 17.", by walking and without
+longest-17 : longest (jobWith 10 2) ≡ 17
+unfolding openNodes treeOf boundOf stopCost undecidedFees sumAt offers leastOf within clock running idle
+longest-17 = refl
+
+count-17 : openCount (jobWith 10 2) ≡ 17
+unfolding openCount eachKept kept countFrom eachReaches within clock running idle
+count-17 = refl
+
+-- E6.6. "A job with no plan has result 0 and count 1."; one with a plan and no openings has 1 too
+count-no-plan : openCount (jobWith 10 1) ≡ 1
+unfolding openCount eachKept kept within clock running idle
+count-no-plan = refl
+
+count-bare : openCount (bare 7) ≡ 1
+unfolding openCount eachKept kept countFrom within clock running idle
+count-bare = refl
+
+-- E6.3. "The count stops at 4000000000": 32 openings and a part that needs no change have 2³³ - 1 nodes, 31 of them have 2³² - 1, and 30 have 2³¹ - 1
+abbrev wide : ℕ → Job
+wide n = record { horizon = 40; idles = []; openings = replicate n (record { step = 1; fee = 0 }); parts = record { life = 41; left = 41; prices = [] } ∷ [] }
+
+count-30 : openCount (wide 30) ≡ 2147483647
+unfolding openCount eachKept kept countFrom eachReaches within clock running idle
+count-30 = refl
+
+count-31 : openCount (wide 31) ≡ 4000000000
+unfolding openCount eachKept kept countFrom eachReaches within clock running idle
+count-31 = refl
 
 -- ---- idle steps: the same job, with step 3 idle. Part 1's first life then ends with step 3, and a change at 3 is as good as one at 2
 

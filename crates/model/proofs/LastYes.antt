@@ -16,7 +16,8 @@ use Rattle.branch.proofs.Bounds.{no-sum, there-is}
 use Rattle.model.specs.Model.{Opening, Job, running, clock, positions, end, within}
 use Rattle.model.specs.Windows.{Rising, stepsOf}
 use Rattle.model.specs.LowerBound.{Offer, plus, lowerThan, lower, changeAt, leastOf, offers, undecidedFees}
-use Rattle.model.specs.LastYes.{afterOne, lastYes, Climbs}
+use Rattle.model.specs.LastYes.{afterOne, lastYes, markIn, Climbs}
+use Rattle.model.proofs.Bools.{after-one}
 use Rattle.model.proofs.Integers.{AtMostℤ, at-most, at-most-test, difference}
 use Rattle.model.proofs.Positions.{never-falls, within-earlier, within-later}
 
@@ -32,15 +33,13 @@ unfolding lastYes
 last-yes [] = refl
 last-yes (x ∷ p) = ap (afterOne x) (last-yes p)
 
--- its position, `prev` if there is none
-abbrev markIn : ℤ → List ℤ → ℕ → ℤ
-markIn prev ss m = getD (prev ∷ ss) m (pos 0)
+-- its position
 
-mark-no : (prev s : ℤ) (ss : List ℤ) (m : ℕ) → markIn prev (s ∷ ss) (afterOne false m) ≡ markIn prev ss m
+pub mark-no : (prev s : ℤ) (ss : List ℤ) (m : ℕ) → markIn prev (s ∷ ss) (afterOne false m) ≡ markIn prev ss m
 mark-no prev s ss zero = refl
 mark-no prev s ss (suc m) = refl
 
-mark-yes : (prev s : ℤ) (ss : List ℤ) (m : ℕ) → markIn prev (s ∷ ss) (afterOne true m) ≡ markIn s ss m
+pub mark-yes : (prev s : ℤ) (ss : List ℤ) (m : ℕ) → markIn prev (s ∷ ss) (afterOne true m) ≡ markIn s ss m
 mark-yes prev s ss zero = refl
 mark-yes prev s ss (suc m) = refl
 

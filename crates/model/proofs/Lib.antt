@@ -13,6 +13,11 @@ pub mod Plans
 pub mod BestPlans
 pub mod Promised
 pub mod Sharper
+pub mod MoreChanges
+pub mod Undecided
+pub mod Missing
+pub mod Counted
+pub mod Entries
 pub mod Unique
 pub mod Verdicts
 pub mod Dues

@@ -28,3 +28,7 @@ mostParts = 16
 -- "`walk` 0..4000000000"
 abbrev pub mostWalk : ℕ
 mostWalk = 4000000000
+
+-- E6.3. "The count stops at 4000000000"
+abbrev pub mostCount : ℕ
+mostCount = 4000000000

@@ -51,6 +51,28 @@ impl Job {
         self.walk_by(limit, Job::estimate)
     }
 
+    /// E6. "the number of points of a walk that drops a point only if its estimate is missing", or `most` where it has more.
+    pub fn open_points(&self, most: u64) -> u64 {
+        let mut points = 0;
+        self.open_from(&mut Vec::new(), most, &mut points);
+        points
+    }
+
+    fn open_from(&self, point: &mut Vec<bool>, most: u64, points: &mut u64) {
+        if *points == most {
+            return;
+        }
+        *points += 1;
+        if point.len() == self.openings.len() || self.estimate(point).is_none() {
+            return;
+        }
+        for stop in [false, true] {
+            point.push(stop);
+            self.open_from(point, most, points);
+            point.pop();
+        }
+    }
+
     /// The same walk by any estimate.
     pub fn walk_by(&self, limit: u64, estimate: Estimate) -> Walk {
         let mut walk = Walk { limit, nodes: 0, more: false, best: None };

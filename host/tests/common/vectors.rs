@@ -63,7 +63,7 @@ pub fn line(call: &Call, reply: &Reply) -> String {
     format!("{name} {} {} {} {texts}\n", call.output, reply.result, reply.line)
 }
 
-/// The vectors of the planner and the judge: of every file in `vectors/` that ends in `.txt`, the forms' aside.
+/// The vectors of the planner and the judge: of every file in `vectors/` that ends in `.txt`, the forms' and the count's aside.
 pub fn all() -> Vec<Vector> {
     let folder = Path::new(env!("CARGO_MANIFEST_DIR")).join("vectors");
     let mut files: Vec<_> = std::fs::read_dir(folder).expect("the vectors").map(|entry| entry.expect("an entry").path()).collect();
@@ -71,5 +71,15 @@ pub fn all() -> Vec<Vector> {
         file.extension().is_some_and(|extension| extension == "txt") && file.file_stem().is_some_and(|stem| stem != "write")
     });
     files.sort();
-    files.iter().flat_map(|file| std::fs::read_to_string(file).expect("a file").lines().map(vector).collect::<Vec<_>>()).collect()
+    files
+        .iter()
+        .flat_map(|file| {
+            std::fs::read_to_string(file)
+                .expect("a file")
+                .lines()
+                .filter(|line| !line.starts_with("count "))
+                .map(vector)
+                .collect::<Vec<_>>()
+        })
+        .collect()
 }

@@ -7,9 +7,10 @@ use mir.Syntax.{w32}
 use mir.Val.{toZ, ofZ}
 use Rattle.jobs.specs.Views.{jobOf}
 use Rattle.clock.proofs.Ranges.{position-bits}
+use Rattle.clock.proofs.Places.{place-count}
 use Rattle.search.specs.Arrays.{Holds}
 use Rattle.job_search.specs.Laid.{lifeOf, leftOf}
-use Rattle.job_search.proofs.Held.{long-enough, place-count, fee-count, lane-count, held}
+use Rattle.job_search.proofs.Held.{long-enough, fee-count, lane-count, held}
 use Rattle.job_search.proofs.search_job.Statement.{statement}
 use Rattle.job_search.proofs.search_job.Tie as tie
 

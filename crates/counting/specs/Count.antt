@@ -1,0 +1,30 @@
+-- What the call hands over for a job text. E6.2. "It hands back result, line and count; the count is 0 for a refused job text."
+use Prim.Native.Nat.{ℕ}
+use mathlib.Core.List.{List}
+use Rattle.lines.specs.Parser.{Outcome, accepted, refused}
+use Rattle.lines.specs.Fault.{faultSpan}
+use Rattle.model.specs.Count.{openCount}
+use Rattle.job_text.specs.Grammar.{Given, readJob}
+use Rattle.counting.specs.declared.Counted.{Counted}
+
+-- an accepted job's count
+abbrev pub countOf : ℕ → Counted
+countOf n = record { result = 0; text = 0; line = 0; count = n; «fault_start» = 0; «fault_length» = 0 }
+
+-- a fault of the job text, on a line of it
+abbrev pub refusalOf : List ℕ → ℕ → ℕ → Counted
+refusalOf text number at = record {
+  result = number;
+  text = 1;
+  line = at;
+  count = 0;
+  «fault_start» = faultSpan at text .start;
+  «fault_length» = faultSpan at text .length;
+}
+
+abbrev pub onJob : List ℕ → Outcome Given → Counted
+onJob text (accepted given) = countOf (openCount (given .job))
+onJob text (refused number line) = refusalOf text number line
+
+unfoldable pub countSaid : List ℕ → Counted
+countSaid text = onJob text (readJob text)
