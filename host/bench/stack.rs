@@ -56,6 +56,8 @@ fn call(name: &str) -> u32 {
         "judge, a fault" => juzvarola_host::judge(job(1000).as_bytes(), b"cost=1\nstops=65\n", &mut out).result,
         "write, the longest text" => juzvarola_host::write(&longest(), &mut out).result,
         "write, a fault" => juzvarola_host::write(&Form { horizon: 1, ..longest() }, &mut out).result,
+        "count, the longest walk" => juzvarola_host::count(job(1000).as_bytes()).result,
+        "count, a fault" => juzvarola_host::count(b"horizon=1\n").result,
         _ => unreachable!("no such call"),
     }
 }
@@ -69,6 +71,8 @@ const CALLS: &[(&str, u32)] = &[
     ("judge, a fault", 3),
     ("write, the longest text", 0),
     ("write, a fault", 3),
+    ("count, the longest walk", 0),
+    ("count, a fault", 3),
 ];
 
 /// Makes the call in a process of its own, on a thread with this stack; says whether it returned.

@@ -9,6 +9,7 @@ use Rattle.lines.specs.Text.{bytes}
 use Rattle.answers.specs.Said.{Said, lent, numbers}
 use Rattle.planning.specs.Plan.{planSaid, planRoom}
 use Rattle.judging.specs.Judge.{judgeSaid, judgeRoom}
+use Rattle.counting.specs.Count.{countSaid}
 
 pub data Call : Type 0 where
   planner : Call
@@ -45,9 +46,28 @@ Holds c =
     × (numbers said .length ≡ c .length)
     × (take (numbers said .«fault_length») (drop (numbers said .«fault_start») (textAt (c .text) (c .job) (c .plan))) ≡ c .fault)
 
-abbrev pub All : List Case → Type 0
-All [] = Unit {0}
-All (c ∷ cs) = Holds c × All cs
+-- a case of the count: the job text; the numbers handed over, and the line at fault
+pub record CountCase : Type 0 where
+  pub job : List ℕ
+  pub result : ℕ
+  pub text : ℕ
+  pub line : ℕ
+  pub count : ℕ
+  pub fault : List ℕ
+
+-- what the public contract says of the count
+abbrev pub Counts : CountCase → Type 0
+Counts c =
+    let said = countSaid (c .job) in
+    (said .result ≡ c .result)
+    × (said .text ≡ c .text)
+    × (said .line ≡ c .line)
+    × (said .count ≡ c .count)
+    × (take (said .«fault_length») (drop (said .«fault_start») (c .job)) ≡ c .fault)
+
+abbrev pub All : {A : Type 0} → (A → Type 0) → List A → Type 0
+All holds [] = Unit {0}
+All holds (a ∷ rest) = holds a × All holds rest
 
 unfoldable pub table : List Case
 table =
@@ -270,5 +290,38 @@ table =
       line = 0;
       length = 16;
       fault = bytes "";
+    }
+    ∷ []
+
+unfoldable pub counts : List CountCase
+counts =
+    -- E6: 01's job: 17
+    record {
+      job = bytes "horizon=6\nwalk=11\nopenings=4\nopening=2\nfee=10\nopening=3\nfee=10\nopening=4\nfee=10\nopening=5\nfee=10\nparts=2\nlife=3\nleft=2\nprice=5\nprice=5\nprice=5\nprice=5\nlife=4\nleft=4\nprice=7\nprice=7\nprice=7\nprice=7\n";
+      result = 0;
+      text = 0;
+      line = 0;
+      count = 17;
+      fault = bytes "";
+    }
+    ∷
+    -- `left=1` for part 1, a job with no plan: 0, count 1
+    record {
+      job = bytes "horizon=6\nwalk=11\nopenings=4\nopening=2\nfee=10\nopening=3\nfee=10\nopening=4\nfee=10\nopening=5\nfee=10\nparts=2\nlife=3\nleft=1\nprice=5\nprice=5\nprice=5\nprice=5\nlife=4\nleft=4\nprice=7\nprice=7\nprice=7\nprice=7\n";
+      result = 0;
+      text = 0;
+      line = 0;
+      count = 1;
+      fault = bytes "";
+    }
+    ∷
+    -- `left=4` for part 1, a refused job text: 5, line 14, count 0
+    record {
+      job = bytes "horizon=6\nwalk=11\nopenings=4\nopening=2\nfee=10\nopening=3\nfee=10\nopening=4\nfee=10\nopening=5\nfee=10\nparts=2\nlife=3\nleft=4\nprice=5\nprice=5\nprice=5\nprice=5\nlife=4\nleft=4\nprice=7\nprice=7\nprice=7\nprice=7\n";
+      result = 5;
+      text = 1;
+      line = 14;
+      count = 0;
+      fault = bytes "left=4";
     }
     ∷ []
