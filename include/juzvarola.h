@@ -42,7 +42,7 @@ typedef struct {
  * - `out` should have 16,384 bytes or more, for juzvarola_write 32,768: with fewer the result is 8 and nothing is written.
  * - Nothing is kept between calls and no memory is allocated. Calls on several threads at once are allowed where no `out` overlaps
  *   another call's `out`, text or list.
- * - Stack that a call needs: less than 1 MB (juzvarola_plan was measured at some 640 KB, juzvarola_judge at 48 KB, juzvarola_write at 32 KB, juzvarola_count
+ * - Stack that a call needs: less than 1 MB (juzvarola_plan was measured at some 520 KB, juzvarola_judge at 48 KB, juzvarola_write at 32 KB, juzvarola_count
  *   at 36 KB).
  */
 

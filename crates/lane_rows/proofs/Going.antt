@@ -1,21 +1,17 @@
 -- A loop over the stack's rows from the top down: what the lanes hold, with the rows still to come, is the lane of all rows.
 use Prim.Native.Nat.{ℕ, zero, suc, _+_, _-_, _*_, _≤_, _<_, min}
-use mathlib.Core.Path.{_≡_, refl, ap, _∙_}
+use mathlib.Core.Path.{_≡_, ap}
 use mathlib.Core.List.{List}
 use native.Mathlib.Omega.{arith}
 use lib.ListN.{length, getD}
 use Rattle.lane_rows.specs.Layout.{laneCount, inf, place, rowPlace, markPlace}
-use Rattle.lane_rows.specs.Rows.{lane, sumLanes, AddAsks, Stack}
-use Rattle.lane_rows.proofs.Lanes.{lane-most, lane-cut, sum-rises, sum-same}
+use Rattle.lane_rows.specs.Rows.{lane, AddAsks, Stack}
+use Rattle.lane_rows.proofs.Lanes.{lane-most, lane-nil, lane-suc}
 
 pub record Going (wide : ℕ) (t w : List ℕ) (base j rows : ℕ) (acc : List ℕ) (n : ℕ) : Type 0 where
   pub inside : n ≤ rows
   pub most : (q : ℕ) → q < wide → getD acc q 0 ≤ inf
   pub left : (q : ℕ) → q < wide → min (getD acc q 0) (lane t w base j q n) ≡ lane t w base j q rows
-
-lane-nil : (t w : List ℕ) (base j q : ℕ) → lane t w base j q zero ≡ inf
-unfolding lane
-lane-nil t w base j q = refl
 
 module _ (wide : ℕ) (t w : List ℕ) (base j rows : ℕ) where
   pub going-none : (acc : List ℕ) → ((q : ℕ) → q < wide → getD acc q 0 ≡ inf) → Going wide t w base j rows acc rows
@@ -26,10 +22,6 @@ module _ (wide : ℕ) (t w : List ℕ) (base j rows : ℕ) where
         left = λ q h. omega (arith, f q h, lane-most t w base j q rows);
       }
 
-  lane-suc : (q k : ℕ) → lane t w base j q (suc k) ≡ min (lane t w base j q k) (getD w (rowPlace k q) 0 + getD t (place base j (getD w (markPlace k) 0) q) 0)
-  unfolding lane
-  lane-suc q k = refl
-
   -- row n - 1 is taken in
   pub going-more : (acc next : List ℕ) (n : ℕ) → 0 < n
       → ((q : ℕ) → q < wide → getD next q 0 ≡ min (getD acc q 0) (getD w (rowPlace (n - 1) q) 0 + getD t (place base j (getD w (markPlace (n - 1)) 0) q) 0))
@@ -39,33 +31,16 @@ module _ (wide : ℕ) (t w : List ℕ) (base j rows : ℕ) where
       record {
         inside = omega (arith, g .inside);
         most = λ q l. omega (arith, f q l, g .most q l);
-        left = λ q l. omega (arith, f q l, lane-suc q (n - 1), ap (lane t w base j q) z, g .left q l);
+        left = λ q l. omega (arith, f q l, lane-suc t w base j q (n - 1), ap (lane t w base j q) z, g .left q l);
       }
-
-  pub going-cut : (acc : List ℕ) (n lo : ℕ) → 0 < n → Stack wide t w base lo j rows → getD w (markPlace (n - 1)) 0 < lo → Going wide t w base j rows acc n
-      → (q : ℕ) → q < wide → getD acc q 0 ≡ lane t w base j q rows
-  going-cut acc n lo h s c g q l =
-      let z : n ≡ n - 1 + 1 = omega arith in
-      omega (arith, lane-cut wide t w base lo j q rows (n - 1) s l (omega (arith, g .inside)) c, ap (lane t w base j q) z, g .left q l, g .most q l)
 
   pub going-end : (acc : List ℕ) (n : ℕ) → n ≤ 0 → Going wide t w base j rows acc n → (q : ℕ) → q < wide → getD acc q 0 ≡ lane t w base j q rows
   going-end acc n h g q l =
       let z : n ≡ zero = omega arith in
       omega (arith, ap (lane t w base j q) z, lane-nil t w base j q, g .left q l, g .most q l)
 
-  -- the lanes have fallen to a sum that all rows reach at least
-  pub going-early : (acc : List ℕ) (n ms s : ℕ) → Going wide t w base j rows acc n → s ≡ sumLanes wide (λ (q : ℕ). getD acc q 0) → s ≡ ms → ms ≤ sumLanes wide (λ (q : ℕ). lane t w base j q rows)
-      → ms ≡ sumLanes wide (λ (q : ℕ). lane t w base j q rows)
-  going-early acc n ms s g e f l =
-      let r = sum-rises wide (λ (q : ℕ). lane t w base j q rows) (λ (q : ℕ). getD acc q 0) (λ q l. omega (arith, g .left q l)) in
-      omega (arith, r, e, f, l)
-
-  pub going-sum : (acc : List ℕ) (s : ℕ) → ((q : ℕ) → q < wide → getD acc q 0 ≡ lane t w base j q rows) → s ≡ sumLanes wide (λ (q : ℕ). getD acc q 0)
-      → s ≡ sumLanes wide (λ (q : ℕ). lane t w base j q rows)
-  going-sum acc s f e = e ∙ sum-same wide (λ (q : ℕ). getD acc q 0) (λ (q : ℕ). lane t w base j q rows) f
-
 -- what taking in a row asks
-module _ (fours : ℕ) (t w : List ℕ) (base lo j rows : ℕ) (acc : List ℕ) (n : ℕ) (long : laneCount ≤ length acc) (s : Stack (fours * 4) t w base lo j rows) (g : Going (fours * 4) t w base j rows acc n) (h : 0 < n) where
+module _ (fours : ℕ) (t w : List ℕ) (base j rows : ℕ) (acc : List ℕ) (n : ℕ) (long : laneCount ≤ length acc) (s : Stack (fours * 4) t w base j rows) (g : Going (fours * 4) t w base j rows acc n) (h : 0 < n) where
   pub row-asks : AddAsks fours t w base j (getD w (markPlace (n - 1)) 0) (n - 1) acc
   row-asks =
       let i = g .inside in
@@ -76,8 +51,8 @@ module _ (fours : ℕ) (t w : List ℕ) (base lo j rows : ℕ) (acc : List ℕ) 
         table = s .table;
         size = s .size;
         near = s .near;
-        mark = omega (arith, s .marks (n - 1) (omega arith), s .near);
-        row = omega arith;
+        mark = s .marks (n - 1) (omega arith);
+        row = omega (arith, s .near);
         most = g .most;
         sums = λ q l. s .sums (n - 1) q (omega arith) l;
       }

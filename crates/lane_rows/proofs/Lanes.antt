@@ -4,6 +4,7 @@ use mathlib.Core.Path.{_≡_, refl, sym, ap, ap₂, subst, _∙_}
 use mathlib.Core.Bool.{Bool, true, false, cond}
 use mathlib.Core.List.{List, [], _∷_}
 use native.Mathlib.Omega.{arith}
+use native.Mathlib.Nat.{add-mul}
 use native.Mathlib.Numerals.{add-one}
 use native.Mathlib.Decide.{ℕ-discrete, decLt}
 use borrow.Author.Tests.{ltb-true, ltb-false, lt-ltb, le-ltb}
@@ -14,15 +15,17 @@ use Rattle.branch.specs.declared.Bound.{Bound}
 use Rattle.branch.specs.declared.Bound.the-variants.{Missing, Sum}
 use Rattle.branch.specs.Lower.{add, total}
 use Rattle.branch.specs.Search.{snoc}
+use Rattle.branch.proofs.Bounds.{no-sum, sum-inj}
+use Rattle.branch.proofs.Lower.{split}
 use Rattle.model.specs.Model.{within}
 use Rattle.model.specs.LowerBound.{Offer, plus, lower, leastOf, offers, changeAt}
 use Rattle.model.specs.LastYes.{lastYes}
 use Rattle.model.proofs.LastYes.{last-no, last-yes}
 use Rattle.least.specs.Marks.{markOf}
 use Rattle.least.proofs.Table.{least-cons, offerAt, offers-drop}
-use Rattle.lane_rows.specs.Layout.{laneCount, top, laneLimit, inf, suffixBase, reachBase, place, rowPlace, pricePlace, suffixCuts, reachCuts, cutPlace, markBase, markPlace, lanesIn}
+use Rattle.lane_rows.specs.Layout.{laneCount, top, laneLimit, inf, triangle, suffixBase, reachBase, place, rowPlace, pricePlace, markBase, markPlace, lanesIn}
 use Rattle.lane_rows.specs.Sheet.{Column, Sheet, partSums, Mark, reach, frontFrom, front, noColumn, columnBound}
-use Rattle.lane_rows.specs.Tables.{valueOf, Coded, Lane, Tables}
+use Rattle.lane_rows.specs.Tables.{valueOf, sumWhere, Coded, Lane, Tables}
 use Rattle.lane_rows.specs.Rows.{lane, sumFrom, sumLanes, marksIn, Level, Rows, Kept, Put, Stack, FirstRow}
 use Rattle.lane_rows.proofs.Front.{over, front-snoc, decided-nil, column-front}
 
@@ -33,6 +36,13 @@ value-some n h = rw (lt-ltb n inf h)
 
 pub value-none : (n : ℕ) → inf ≤ n → valueOf n ≡ Missing
 value-none n h = rw (le-ltb n inf h)
+
+-- a sum where a number is a price
+pub where-some : (n s : ℕ) → n < inf → sumWhere n s ≡ Sum s
+where-some n s h = rw (lt-ltb n inf h)
+
+pub where-none : (n s : ℕ) → inf ≤ n → sumWhere n s ≡ Missing
+where-none n s h = rw (le-ltb n inf h)
 
 value-min : (a b : ℕ) → valueOf (min a b) ≡ lower (valueOf a) (valueOf b)
 value-min a b = go (ltb a inf) (ltb b inf) refl refl
@@ -89,6 +99,14 @@ coded-more a b m n (Sum x) (Sum y) s c f = go (ltb x y) refl c
 
 -- ---- lanes
 
+pub lane-nil : (t w : List ℕ) (base j q : ℕ) → lane t w base j q zero ≡ inf
+unfolding lane
+lane-nil t w base j q = refl
+
+pub lane-suc : (t w : List ℕ) (base j q k : ℕ) → lane t w base j q (suc k) ≡ min (lane t w base j q k) (getD w (rowPlace k q) 0 + getD t (place base j (getD w (markPlace k) 0) q) 0)
+unfolding lane
+lane-suc t w base j q k = refl
+
 pub lane-most : (t w : List ℕ) (base j q n : ℕ) → lane t w base j q n ≤ inf
 unfolding lane
 lane-most t w base j q zero = omega arith
@@ -100,19 +118,16 @@ undecided ss col j = drop j (offers ss (col .prices) [])
 module _ (end : ℤ) (ss : List ℤ) (col : Column) (t : List ℕ) (q : ℕ) (la : Lane end ss col t q) where
   -- over the suffix prices: the least over the front
   lane-over : (w : List ℕ) (j n : ℕ) → j ≤ length ss → length ss ≤ 64 → ((k : ℕ) → k < n → getD w (markPlace k) 0 ≤ j) → ((k : ℕ) → k < n → Level (top * j) (getD w (rowPlace k q) 0))
-      → (valueOf (lane t w suffixBase j q n) ≡ over (col .life) end (marksIn (col .first) ss w q n) (undecided ss col j)) × (lane t w suffixBase j q n < inf → lane t w suffixBase j q n ≤ laneLimit)
+      → valueOf (lane t w suffixBase j q n) ≡ over (col .life) end (marksIn (col .first) ss w q n) (undecided ss col j)
   unfolding lane marksIn
-  lane-over w j zero h s m l = (refl, λ g. absurd (omega arith))
+  lane-over w j zero h s m l = refl
   lane-over w j (suc k) h s m l =
       let d = getD w (rowPlace k q) 0 in
       let e = getD t (place suffixBase j (getD w (markPlace k) 0) q) 0 in
       let c = la .suffix j (getD w (markPlace k) 0) (m k (omega arith)) h in
       let x = leastOf (col .life) end (markOf (col .first) ss (getD w (markPlace k) 0)) (undecided ss col j) in
-      let i = lane-over w j k h s (λ i g. m i (omega arith)) (λ i g. l i (omega arith)) in
-      let v = value-plus d e (top * j) (top * (length ss - j)) (omega arith) (l k (omega arith) .some) (coded-low (top * (length ss - j)) (omega arith) e x c) in (
-        value-min (lane t w suffixBase j q k) (d + e) ∙ ap₂ lower (i .0) (v .0 ∙ ap (add (valueOf d)) (coded-est (top * (length ss - j)) (omega arith) e x c)),
-        least laneLimit (lane t w suffixBase j q k) (d + e) (i .1) (λ g. omega (arith, v .1 g)),
-      )
+      let v = value-plus d e (top * j) (top * (length ss - j)) (omega arith) (l k (omega arith) .some) (coded-low (top * (length ss - j)) (omega arith) e x c) in
+      value-min (lane t w suffixBase j q k) (d + e) ∙ ap₂ lower (lane-over w j k h s (λ i g. m i (omega arith)) (λ i g. l i (omega arith))) (v .0 ∙ ap (add (valueOf d)) (coded-est (top * (length ss - j)) (omega arith) e x c))
 
   -- over the table of reach: the least cost so far from which opening j is in reach
   lane-reach : (w : List ℕ) (j n b : ℕ) → j < length ss → b ≤ laneLimit → ((k : ℕ) → k < n → getD w (markPlace k) 0 ≤ j) → ((k : ℕ) → k < n → Level b (getD w (rowPlace k q) 0))
@@ -185,41 +200,69 @@ sum-four f k = omega (arith, next (k * 4), next (k * 4 + 1), next (k * 4 + 2), n
     same : (i : ℕ) → sumLanes (k * 4 + i + 1) f ≡ sumLanes (k * 4 + (i + 1)) f
     same i = let z : k * 4 + i + 1 ≡ k * 4 + (i + 1) = omega arith in ap (λ (x : ℕ). sumLanes x f) z
 
--- as many lanes, each of the same number
-pub sum-inf : (k q : ℕ) → sumFrom (λ (x : ℕ). inf) q k ≡ k * inf
+-- as many lanes, none above a number
+pub sum-most : (f : ℕ → ℕ) (b q k : ℕ) → ((i : ℕ) → f i ≤ b) → sumFrom f q k ≤ k * b
 unfolding sumFrom
-sum-inf zero q = omega arith
-sum-inf (suc k) q = omega (arith, sum-inf k (suc q))
+sum-most f b q zero h = omega arith
+sum-most f b q (suc k) h = omega (arith, h q, sum-most f b (suc q) k h, add-mul k 1 b)
 
-pub parts-sum : (xs : List Column) (q : ℕ) (v : ℕ → ℕ) (g : Column → List Bool → Bound) (p : List Bool) → length xs ≤ laneCount
-    → ((i : ℕ) → i < length xs → (valueOf (v (q + i)) ≡ g (getD xs i noColumn) p) × (v (q + i) < inf → v (q + i) ≤ laneLimit))
-    → (valueOf (sumFrom v q (length xs)) ≡ total g xs p) × (sumFrom v q (length xs) < inf → sumFrom v q (length xs) ≤ laneLimit * length xs)
+-- the parts together, where each has a price: the lanes' sum
+pub parts-sum : (xs : List Column) (q : ℕ) (v : ℕ → ℕ) (g : Column → List Bool → Bound) (p : List Bool) → ((i : ℕ) → i < length xs → g (getD xs i noColumn) p ≡ Sum (v (q + i)))
+    → total g xs p ≡ Sum (sumFrom v q (length xs))
 unfolding sumFrom
-parts-sum [] q v g p h f = (refl, λ l. omega arith)
-parts-sum (x ∷ xs) q v g p h f =
-    let r = parts-sum xs (suc q) v g p (omega arith) (λ i l. let z : suc q + i ≡ q + suc i = omega arith in rw z (f (suc i) (omega arith))) in
-    let z : q ≡ q + 0 = omega arith in
-    let c : (valueOf (v q) ≡ g x p) × (v q < inf → v q ≤ laneLimit) = rw z (f 0 (omega arith)) in
-    let s = value-plus (v q) (sumFrom v (suc q) (length xs)) laneLimit (laneLimit * length xs) (omega arith) (c .1) (r .1) in
-    (s .0 ∙ ap₂ add (c .0) (r .0), λ l. omega (arith, s .1 l))
+parts-sum [] q v g p f = refl
+parts-sum (x ∷ xs) q v g p f =
+    let z : q + 0 ≡ q = omega arith in
+    ap₂ add (f 0 (omega arith) ∙ ap (λ (i : ℕ). Sum (v i)) z)
+    (parts-sum xs (suc q) v g p (λ i l. let y : q + suc i ≡ suc q + i = omega arith in f (suc i) (omega arith) ∙ ap (λ (i : ℕ). Sum (v i)) y))
+
+-- a sum is there where each of its parts is
+pub total-each : (f : Column → List Bool → Bound) (xs : List Column) (p : List Bool) (n : ℕ) → total f xs p ≡ Sum n → (i : ℕ) → i < length xs → (m : ℕ) × (f (getD xs i noColumn) p ≡ Sum m)
+total-each f [] p n e i h = absurd (omega arith)
+total-each f (x ∷ xs) p n e zero h = let d = split (f x p) (total f xs p) n e in (d .a, d .left)
+total-each f (x ∷ xs) p n e (suc i) h = let d = split (f x p) (total f xs p) n e in total-each f xs p (d .b) (d .right) i (omega arith)
+
+pub value-sum : (s x : ℕ) → valueOf s ≡ Sum x → (s ≡ x) × (x < inf)
+value-sum s x e = go (ltb s inf) refl e
+  where
+    go : (t : Bool) → ltb s inf ≡ t → cond t (Sum s) Missing ≡ Sum x → (s ≡ x) × (x < inf)
+    go true f g = let z : s ≡ x = cc in (z, omega (arith, ltb-true s inf f))
+    go false f g = absurd (no-sum Missing x refl g)
+
+pub value-missing : (s : ℕ) → valueOf s ≡ Missing → inf ≤ s
+value-missing s e = go (ltb s inf) refl e
+  where
+    go : (t : Bool) → ltb s inf ≡ t → cond t (Sum s) Missing ≡ Missing → inf ≤ s
+    go true f g = absurd (no-sum (Sum s) s g refl)
+    go false f g = ltb-false s inf f
 
 module _ (sheet : Sheet) (t w : List ℕ) (p : List Bool) (n : ℕ) (ta : Tables sheet t) (ro : Rows sheet w p n) (h : length p ≤ length (sheet .positions)) where
-  -- the part sums of a node
-  pub node-sum : valueOf (sumLanes (lanesIn t) (λ (q : ℕ). lane t w suffixBase (length p) q n)) ≡ partSums sheet p
-  node-sum =
-      subst (λ (k : ℕ). valueOf (sumFrom (λ (q : ℕ). lane t w suffixBase (length p) q n) 0 k) ≡ partSums sheet p) (ta .wide)
-      (parts-sum (sheet .columns) 0 (λ (q : ℕ). lane t w suffixBase (length p) q n) (columnBound sheet) p (ro .narrow) (λ i l. one i l) .0)
-    where
-      one : (i : ℕ) → i < length (sheet .columns) → (valueOf (lane t w suffixBase (length p) (0 + i) n) ≡ columnBound sheet (getD (sheet .columns) i noColumn) p) × (lane t w suffixBase (length p) (0 + i) n < inf → lane t w suffixBase (length p) (0 + i) n ≤ laneLimit)
-      one i l =
-          let la = ta .lanes i (omega (arith, ta .wide)) in
-          let z : 0 + i ≡ i = omega arith in
-          let v = lane-over (sheet .end) (sheet .positions) (getD (sheet .columns) i noColumn) t i la w (length p) n h (ta .few) (ro .marks) (λ k g. ro .level k i g l) in
-          rw z (
-            v .0 ∙ ap (λ (fr : List Mark). over (getD (sheet .columns) i noColumn .life) (sheet .end) fr (undecided (sheet .positions) (getD (sheet .columns) i noColumn) (length p))) (ro .fronts i l)
-                ∙ sym (column-front sheet (getD (sheet .columns) i noColumn) p),
-            v .1,
-          )
+  abbrev laneAt : ℕ → ℕ
+  laneAt q = lane t w suffixBase (length p) q n
+
+  -- a lane is its part's least price
+  node-lane : (q : ℕ) → q < lanesIn t → valueOf (laneAt q) ≡ columnBound sheet (getD (sheet .columns) q noColumn) p
+  node-lane q l =
+      let g : q < length (sheet .columns) = omega (arith, ta .wide) in
+      let col = getD (sheet .columns) q noColumn in
+      lane-over (sheet .end) (sheet .positions) col t q (ta .lanes q l) w (length p) n h (ta .few) (ro .marks) (λ k m. ro .level k q m g)
+      ∙ ap (λ (fr : List Mark). over (col .life) (sheet .end) fr (undecided (sheet .positions) col (length p))) (ro .fronts q g) ∙ sym (column-front sheet col p)
+
+  -- the part sums of a node, where each part has a price
+  pub node-sum : ((q : ℕ) → q < lanesIn t → (m : ℕ) × (columnBound sheet (getD (sheet .columns) q noColumn) p ≡ Sum m)) → partSums sheet p ≡ Sum (sumLanes (lanesIn t) laneAt)
+  node-sum f =
+      subst (λ (k : ℕ). partSums sheet p ≡ Sum (sumFrom laneAt 0 k)) (ta .wide)
+      (parts-sum (sheet .columns) 0 laneAt (columnBound sheet) p (λ i l.
+      let g : i < lanesIn t = omega (arith, ta .wide) in
+      let z : i ≡ 0 + i = omega arith in
+      let m = f i g in
+      m .1 ∙ sym (ap Sum (value-sum (laneAt i) (m .0) (node-lane i g ∙ m .1) .0)) ∙ ap (λ (k : ℕ). Sum (laneAt k)) z))
+
+  -- so where they are there
+  pub node-there : (x : ℕ) → partSums sheet p ≡ Sum x → sumLanes (lanesIn t) laneAt ≡ x
+  node-there x e =
+      let s = node-sum (λ q l. total-each (columnBound sheet) (sheet .columns) p x e q (omega (arith, ta .wide))) in
+      sum-inj (partSums sheet p) (sumLanes (lanesIn t) laneAt) x s e
 
   -- the no child's part sums are no lower
   pub node-rises : length p < length (sheet .positions) → sumLanes (lanesIn t) (λ (q : ℕ). lane t w suffixBase (length p) q n) ≤ sumLanes (lanesIn t) (λ (q : ℕ). lane t w suffixBase (length p + 1) q n)
@@ -245,7 +288,7 @@ marks-kept first ss w w' q (suc m) n l h k =
     ap₂ (λ (x : Mark) (y : List Mark). x ∷ y)
     (ap₂ (λ (x y : ℕ). record { at = markOf first ss x; cost = valueOf y }) a b) (marks-kept first ss w w' q m n l (omega arith) k)
 
-≠-lt : (k n : ℕ) → (k ≡ n → ⊥) → k ≤ n → k < n
+pub ≠-lt : (k n : ℕ) → (k ≡ n → ⊥) → k ≤ n → k < n
 ≠-lt k n g l = go (decLt k n)
   where
     go : Dec (k < n) → k < n
@@ -268,7 +311,6 @@ rows-kept sheet w w' p n r k =
       few = r .few;
       last = let h = r .some in k .marks (n - 1) (omega arith) ∙ r .last;
       marks = λ i l. subst (λ (x : ℕ). x ≤ length p) (sym (k .marks i l)) (r .marks i l);
-      rising = λ i m l g. let z = k .marks i (omega arith) in let y = k .marks m g in omega (arith, z, y, r .rising i m l g);
       narrow = r .narrow;
       level = λ i q l g. subst (Level (top * length p)) (sym (k .rows (rowPlace i q) (omega (arith, r .narrow)))) (r .level i q l g);
       fronts = λ q l. marks-kept (getD (sheet .columns) q noColumn .first) (sheet .positions) w w' q n n (omega (arith, r .narrow)) (omega arith) k ∙ r .fronts q l;
@@ -287,7 +329,6 @@ module _ (sheet : Sheet) (t w : List ℕ) (p : List Bool) (n : ℕ) (ta : Tables
         few = omega (arith, ro .few, e);
         last = ro .last ∙ sym (last-no p);
         marks = λ k l. omega (arith, ro .marks k l, e);
-        rising = ro .rising;
         narrow = ro .narrow;
         level = λ k q l g. level-more (top * length p) (top * length (snoc p false)) (getD w (rowPlace k q) 0) (omega (arith, e)) (ro .level k q l g);
         fronts = λ q l. ro .fronts q l ∙ sym (front-snoc (sheet .positions) (getD (sheet .columns) q noColumn) p false h);
@@ -324,7 +365,6 @@ module _ (sheet : Sheet) (t w : List ℕ) (p : List Bool) (n : ℕ) (ta : Tables
         few = omega (arith, ro .few, e);
         last = let z : n + 1 - 1 ≡ n = omega arith in ap (λ (k : ℕ). getD w' (markPlace k) 0) z ∙ u .mark ∙ add-one (length p) ∙ sym (last-yes p);
         marks = λ k l. mark-at k (omega arith) (ℕ-discrete k n);
-        rising = λ k m l g. rise-at k m l (omega arith) (ℕ-discrete m n) (ℕ-discrete k n);
         narrow = ro .narrow;
         level = λ k q l g. level-at k q (omega arith) g (ℕ-discrete k n);
         fronts = λ q l. front-at q l;
@@ -333,14 +373,6 @@ module _ (sheet : Sheet) (t w : List ℕ) (p : List Bool) (n : ℕ) (ta : Tables
       mark-at : (k : ℕ) → k ≤ n → Dec (k ≡ n) → getD w' (markPlace k) 0 ≤ length (snoc p true)
       mark-at k l (yes g) = rw g (omega (arith, u .mark, snoc-length p true))
       mark-at k l (no g) = let z : k < n = omega (arith, ≠-lt k n g l) in omega (arith, u .kept .marks k z, ro .marks k z, snoc-length p true)
-
-      rise-at : (k m : ℕ) → k ≤ m → m ≤ n → Dec (m ≡ n) → Dec (k ≡ n) → getD w' (markPlace k) 0 ≤ getD w' (markPlace m) 0
-      rise-at k m l g (yes a) (yes b) = rw (a, b) (omega arith)
-      rise-at k m l g (yes a) (no b) =
-          let z : k < n = ≠-lt k n b (omega arith) in
-          let x : getD w' (markPlace m) 0 ≡ length p + 1 = rw a (u .mark) in
-          omega (arith, x, u .kept .marks k z, ro .marks k z)
-      rise-at k m l g (no a) d = let z : m < n = ≠-lt m n a g in omega (arith, u .kept .marks k (omega arith), u .kept .marks m z, ro .rising k m l z)
 
       row-at : (q : ℕ) → q < length (sheet .columns) → getD w' (rowPlace n q) 0 ≡ nextRow q
       row-at q l = u .row q (omega (arith, ta .wide))
@@ -365,7 +397,7 @@ module _ (sheet : Sheet) (t w : List ℕ) (p : List Bool) (n : ℕ) (ta : Tables
 -- ---- the loops
 
 -- at any opening j from the first undecided one on
-pub stack-at : (sheet : Sheet) (t w : List ℕ) (p : List Bool) (n j : ℕ) → Tables sheet t → Rows sheet w p n → length p ≤ j → j ≤ length (sheet .positions) → Stack (lanesIn t) t w suffixBase (getD t (cutPlace suffixCuts j) 0) j n
+pub stack-at : (sheet : Sheet) (t w : List ℕ) (p : List Bool) (n j : ℕ) → Tables sheet t → Rows sheet w p n → length p ≤ j → j ≤ length (sheet .positions) → Stack (lanesIn t) t w suffixBase j n
 stack-at sheet t w p n j ta ro h g =
     record {
       some = ta .some;
@@ -373,9 +405,8 @@ stack-at sheet t w p n j ta ro h g =
       table = omega (arith, ta .size);
       size = ro .size;
       near = omega (arith, ta .few);
-      few = omega (arith, ta .few, ro .few);
+      few = omega (arith, ro .few);
       marks = λ k l. omega (arith, ro .marks k l);
-      rising = ro .rising;
       sums = λ k q l m.
           let o = ro .marks k l in
           let i = getD w (markPlace k) 0 in
@@ -387,14 +418,13 @@ stack-at sheet t w p n j ta ro h g =
                 (leastOf (getD (sheet .columns) q noColumn .life) (sheet .end) (markOf (getD (sheet .columns) q noColumn .first) (sheet .positions) i) (drop j (offers (sheet .positions) (getD (sheet .columns) q noColumn .prices) [])))
                 (la .suffix j i (omega arith) g),
           );
-      cut = λ i q l m. omega (arith, ta .suffix-cut j i q g l m);
     }
 
 module _ (sheet : Sheet) (t w : List ℕ) (p : List Bool) (n : ℕ) (ta : Tables sheet t) (ro : Rows sheet w p n) (h : length p < length (sheet .positions)) where
-  pub stack-no : Stack (lanesIn t) t w suffixBase (getD t (cutPlace suffixCuts (length p + 1)) 0) (length p + 1) n
+  pub stack-no : Stack (lanesIn t) t w suffixBase (length p + 1) n
   stack-no = stack-at sheet t w p n (length p + 1) ta ro (omega arith) (omega arith)
 
-  pub stack-yes : Stack (lanesIn t) t w reachBase (getD t (cutPlace reachCuts (length p)) 0) (length p) n
+  pub stack-yes : Stack (lanesIn t) t w reachBase (length p) n
   stack-yes =
       record {
         some = ta .some;
@@ -402,9 +432,8 @@ module _ (sheet : Sheet) (t w : List ℕ) (p : List Bool) (n : ℕ) (ta : Tables
         table = omega (arith, ta .size);
         size = ro .size;
         near = omega (arith, ta .few);
-        few = omega (arith, ta .few, ro .few);
+        few = ro .few;
         marks = ro .marks;
-        rising = ro .rising;
         sums = λ k q l g.
             omega (
               arith,
@@ -412,21 +441,11 @@ module _ (sheet : Sheet) (t w : List ℕ) (p : List Bool) (n : ℕ) (ta : Tables
               cond-most (within (getD (sheet .columns) q noColumn .life) (markOf (getD (sheet .columns) q noColumn .first) (sheet .positions) (getD w (markPlace k) 0)) (getD (sheet .positions) (length p) (pos 0))),
               ta .lanes q g .reach (length p) (getD w (markPlace k) 0) (ro .marks k l) h,
             );
-        cut = λ i q l g. omega (arith, ta .reach-cut (length p) i q h l g);
       }
     where
       cond-most : (b : Bool) → cond b 0 inf ≤ inf
       cond-most true = omega arith
       cond-most false = omega arith
-
--- what the rows up to k add to a lane
-pub lane-cut : (wide : ℕ) (t w : List ℕ) (base lo j q n k : ℕ) → Stack wide t w base lo j n → q < wide → k < n → getD w (markPlace k) 0 < lo → lane t w base j q (k + 1) ≡ inf
-unfolding lane
-lane-cut wide t w base lo j q n k s l h c = rw add-one (go k (omega arith) c)
-  where
-    go : (i : ℕ) → i < n → getD w (markPlace i) 0 < lo → lane t w base j q (suc i) ≡ inf
-    go zero h c = omega (arith, s .cut (getD w (markPlace zero) 0) q c l)
-    go (suc i) h c = omega (arith, s .cut (getD w (markPlace (suc i)) 0) q c l, go i (omega arith) (omega (arith, s .rising i (suc i) (omega arith) h)))
 
 -- ---- the first node
 
@@ -439,7 +458,6 @@ rows-root sheet w h r =
       few = omega arith;
       last = r .mark;
       marks = λ k l. let z : markBase + k ≡ markBase = omega arith in let y : getD w (markPlace k) 0 ≡ 0 = ap (λ (x : ℕ). getD w x 0) z ∙ r .mark in omega arith;
-      rising = λ k l a b. let z : markBase + k ≡ markBase + l = omega arith in let y : getD w (markPlace k) 0 ≡ getD w (markPlace l) 0 = ap (λ (x : ℕ). getD w x 0) z in omega arith;
       narrow = h;
       level = λ k q l g. let z : k * laneCount + q ≡ q = omega arith in let y : getD w (rowPlace k q) 0 ≡ 0 = ap (λ (x : ℕ). getD w x 0) z ∙ r .lanes q (omega arith) in record { some = λ a. omega arith; most = omega arith };
       fronts = λ q l.
@@ -452,12 +470,15 @@ rows-root sheet w h r =
 
 -- where nothing is decided, a lane is the tables' first number for it
 module _ (sheet : Sheet) (t : List ℕ) (ta : Tables sheet t) where
+  first-place : (q : ℕ) → place suffixBase 0 0 q ≡ q
+  unfolding triangle
+  first-place q = omega arith
+
   pub first-most : (q : ℕ) → q < lanesIn t → getD t q 0 ≤ inf
   first-most q l =
       let col = getD (sheet .columns) q noColumn in
       let n = length (sheet .positions) in
-      let z : place suffixBase 0 0 q ≡ q = omega arith in
-      subst (λ (k : ℕ). getD t k 0 ≤ inf) z
+      subst (λ (k : ℕ). getD t k 0 ≤ inf) (first-place q)
       (coded-most (top * (n - 0)) (omega (arith, ta .few)) (getD t (place suffixBase 0 0 q) 0) (leastOf (col .life) (sheet .end) (markOf (col .first) (sheet .positions) 0) (drop 0 (offers (sheet .positions) (col .prices) [])))
       (ta .lanes q l .suffix 0 0 (omega arith) (omega arith)))
 
@@ -465,7 +486,7 @@ module _ (sheet : Sheet) (t : List ℕ) (ta : Tables sheet t) where
   unfolding lane
   first-lane w q l r =
       let x : 0 * laneCount + q ≡ q = omega arith in
-      let y : place suffixBase 0 (getD w markBase 0) q ≡ q = omega (arith, r .mark) in
+      let y : place suffixBase 0 (getD w markBase 0) q ≡ q = ap (λ (k : ℕ). place suffixBase 0 k q) (r .mark) ∙ first-place q in
       omega (arith, r .lanes q (omega (arith, ta .narrow)), ap (λ (k : ℕ). getD w k 0) x, ap (λ (k : ℕ). getD t k 0) y, first-most q l)
 
   pub first-sums : (w : List ℕ) → FirstRow w → sumLanes (lanesIn t) (λ (q : ℕ). getD t q 0) ≡ sumLanes (lanesIn t) (λ (q : ℕ). lane t w suffixBase 0 q 1)

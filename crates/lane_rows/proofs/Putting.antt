@@ -7,7 +7,7 @@ use lib.ListN.{length, set, length-set}
 use lib.Seq.{getD-set-same, getD-set-other}
 use Rattle.least.specs.Filled.{FilledBy}
 use Rattle.lane_rows.specs.Layout.{laneCount, markCount, rowPlace, markPlace, stackSize}
-use Rattle.lane_rows.specs.Rows.{Put}
+use Rattle.lane_rows.specs.Rows.{Put, Past}
 
 module _ (f : ℕ → ℕ) (w₀ : List ℕ) (n : ℕ) where
   pub put-mark : (wide : ℕ) (w : List ℕ) (g : ℕ → ℕ) (m : ℕ) → n < markCount → length w₀ ≡ stackSize → wide ≤ laneCount → ((q : ℕ) → q < wide → f q ≡ g q) → FilledBy (rowPlace n) f wide w₀ w → Put wide g w₀ (set w (markPlace n) m) n m
@@ -21,3 +21,7 @@ module _ (f : ℕ → ℕ) (w₀ : List ℕ) (n : ℕ) where
         row = λ q l. getD-set-other w (markPlace n) (rowPlace n q) m 0 (λ z. omega (arith, z)) ∙ d .done q l ∙ e q l;
         mark = getD-set-same w (markPlace n) m 0 (omega (arith, d .size));
       }
+
+  -- nothing past the marks moves
+  pub put-past : (wide : ℕ) (w : List ℕ) (m : ℕ) → n < markCount → wide ≤ laneCount → FilledBy (rowPlace n) f wide w₀ w → Past w₀ (set w (markPlace n) m)
+  put-past wide w m h v d = λ x l. getD-set-other w (markPlace n) x m 0 (λ z. omega (arith, z)) ∙ d .rest x (λ q r z. omega (arith, z))

@@ -1,5 +1,5 @@
 -- Where the numbers of the tables and of the stack of rows stand, and which numbers are prices. A row has room for sixteen lanes; a job has as many fours of them as its parts fill.
-use Prim.Native.Nat.{ℕ, _+_, _*_}
+use Prim.Native.Nat.{ℕ, zero, suc, _+_, _*_, _/_}
 use mathlib.Core.List.{List}
 use lib.ListN.{getD}
 use Rattle.model.specs.Limits.{dearest, mostOpenings, mostParts}
@@ -29,31 +29,42 @@ laneLimit = 64000000
 abbrev pub inf : ℕ
 inf = 1030000000
 
--- ---- the tables: two blocks (suffix prices, then reach), the prices, the fees, the number of openings, the cuts of each block, the terms
+-- ---- triangles: level j has the marks 0 to j, since no mark is above the number of openings decided
 
--- a block has a row for each opening and mark
+-- the rows of the levels before j
+unfoldable pub triangle : ℕ → ℕ
+triangle zero = 0
+triangle (suc j) = triangle j + suc j
+
+-- the rows of k levels, as a number
+abbrev pub levelRows : ℕ → ℕ
+levelRows k = k * (k + 1) / 2
+
+-- ---- the tables: two blocks (suffix prices, then reach), the prices, the fees, the number of openings, the number of fours, the terms
+
+-- a block has a row for each level and each of its marks
 abbrev pub blockRows : ℕ
-blockRows = 4225
+blockRows = levelRows markCount
 
 abbrev pub blockSize : ℕ
-blockSize = 67600
+blockSize = blockRows * laneCount
 
 abbrev pub suffixBase : ℕ
 suffixBase = 0
 
 abbrev pub reachBase : ℕ
-reachBase = 67600
+reachBase = suffixBase + blockSize
 
--- lane q of a block's row for opening j and mark i
+-- lane q of a block's row for level j and mark i
 abbrev pub place : ℕ → ℕ → ℕ → ℕ → ℕ
-place base j i q = base + (j * markCount + i) * laneCount + q
+place base j i q = base + (triangle j + i) * laneCount + q
 
 -- the prices start at this row
 abbrev pub priceRow : ℕ
-priceRow = 8450
+priceRow = blockRows + blockRows
 
 abbrev pub priceBase : ℕ
-priceBase = 135200
+priceBase = reachBase + blockSize
 
 -- lane q's price at opening j
 abbrev pub pricePlace : ℕ → ℕ → ℕ
@@ -61,30 +72,20 @@ pricePlace j q = priceBase + j * laneCount + q
 
 -- what stands from this row on belongs to no lane
 abbrev pub laneRows : ℕ
-laneRows = 8514
+laneRows = priceRow + mostOpenings
 
 abbrev pub feeBase : ℕ
-feeBase = 136224
+feeBase = priceBase + mostOpenings * laneCount
 
 abbrev pub feePlace : ℕ → ℕ
 feePlace j = feeBase + j
 
 abbrev pub countPlace : ℕ
-countPlace = 136288
-
--- the cuts of the two blocks. A cut at opening j: the marks below it are Missing in every lane
-abbrev pub suffixCuts : ℕ
-suffixCuts = 136289
-
-abbrev pub reachCuts : ℕ
-reachCuts = 136354
-
-abbrev pub cutPlace : ℕ → ℕ → ℕ
-cutPlace cuts j = cuts + j
+countPlace = feeBase + mostOpenings
 
 -- how many fours of lanes the job has, and how many lanes
 abbrev pub foursPlace : ℕ
-foursPlace = 136419
+foursPlace = countPlace + 1
 
 abbrev pub lanesIn : List ℕ → ℕ
 lanesIn t = getD t foursPlace 0 * 4
@@ -94,18 +95,32 @@ abbrev pub termBase : ℕ
 termBase = foursPlace + 1
 
 abbrev pub termPlace : ℕ → ℕ → ℕ
-termPlace j i = termBase + (j * markCount + i)
+termPlace j i = termBase + (triangle j + i)
 
 abbrev pub tablesSize : ℕ
 tablesSize = termBase + blockRows
 
--- ---- the stack: 65 rows, and the mark of each
+-- ---- the stack: 65 rows, the mark of each, which rows of the memo are known, and the memo
 
 abbrev pub markBase : ℕ
-markBase = 1040
+markBase = markCount * laneCount
 
 abbrev pub markPlace : ℕ → ℕ
 markPlace k = markBase + k
 
+-- is the memo's row for level l and the first k rows known: 1 if it is
+abbrev pub knownBase : ℕ
+knownBase = markBase + markCount
+
+abbrev pub knownPlace : ℕ → ℕ → ℕ
+knownPlace k l = knownBase + k * markCount + l
+
+-- the memo has a row for each level and each number of rows, from none to one more than the level's
+abbrev pub memoBase : ℕ
+memoBase = knownBase + (markCount + 1) * markCount
+
+abbrev pub memoPlace : ℕ → ℕ → ℕ → ℕ
+memoPlace l k q = place memoBase (l + 1) k q
+
 abbrev pub stackSize : ℕ
-stackSize = 1105
+stackSize = memoBase + levelRows (markCount + 1) * laneCount

@@ -13,13 +13,17 @@ use Rattle.model.specs.Model.{within}
 use Rattle.model.specs.LowerBound.{leastOf, offers}
 use Rattle.model.specs.LastYes.{Climbs}
 use Rattle.least.specs.Marks.{markOf}
-use Rattle.lane_rows.specs.Layout.{laneCount, top, inf, suffixBase, reachBase, place, pricePlace, feePlace, countPlace, suffixCuts, reachCuts, cutPlace, lanesIn, termPlace, tablesSize}
+use Rattle.lane_rows.specs.Layout.{laneCount, top, inf, suffixBase, reachBase, place, pricePlace, feePlace, countPlace, lanesIn, termPlace, tablesSize}
 use Rattle.lane_rows.specs.Sheet.{Column, Sheet, partColumns, noColumn}
 use Rattle.model.specs.Limits.{mostOpenings}
 
 -- the price that a number stands for
 abbrev pub valueOf : ℕ → Bound
 valueOf n = cond (ltb n inf) (Sum n) Missing
+
+-- s where the number n is a price, else Missing
+abbrev pub sumWhere : ℕ → ℕ → Bound
+sumWhere n s = cond (ltb n inf) (Sum s) Missing
 
 -- n stands for e, and a price is at most b
 abbrev pub Coded : ℕ → ℕ → Bound → Type 0
@@ -34,11 +38,16 @@ pub record Lane (end : ℤ) (ss : List ℤ) (col : Column) (t : List ℕ) (q : �
   pub price : (j : ℕ) → j < length ss → getD t (pricePlace j q) 0 ≡ getD (col .prices) j 0
   pub cheap : (j : ℕ) → getD (col .prices) j 0 ≤ top
 
+-- two columns with the same life and the same first change
+pub record Alike (a b : Column) : Type 0 where
+  pub life : b .life ≡ a .life
+  pub first : b .first ≡ a .first
+
 -- one part's least fee of openings j and later that keeps it after mark i, at any node
 abbrev pub feeFrom : Sheet → ℕ → ℕ → Column → List Bool → Bound
 feeFrom sheet j i col p = leastOf (col .life) (sheet .end) (markOf (col .first) (sheet .positions) i) (drop j (offers (sheet .positions) (sheet .fees) []))
 
--- the tables of a sheet: a lane for each column, the fees, the number of openings, the cuts, and the terms
+-- the tables of a sheet: a lane for each column, the fees, the number of openings, and the terms; a column past the last part goes with the first part's
 pub record Tables (sheet : Sheet) (t : List ℕ) : Type 0 where
   pub size : length t ≡ tablesSize
   pub few : length (sheet .positions) ≤ mostOpenings
@@ -50,8 +59,8 @@ pub record Tables (sheet : Sheet) (t : List ℕ) : Type 0 where
   pub fees : (j : ℕ) → j < length (sheet .positions) → getD t (feePlace j) 0 ≡ getD (sheet .fees) j 0
   pub fair : (j : ℕ) → getD (sheet .fees) j 0 ≤ top
   pub count : getD t countPlace 0 ≡ length (sheet .positions)
-  pub suffix-cut : (j i q : ℕ) → j ≤ length (sheet .positions) → i < getD t (cutPlace suffixCuts j) 0 → q < lanesIn t → getD t (place suffixBase j i q) 0 ≡ inf
-  pub reach-cut : (j i q : ℕ) → j < length (sheet .positions) → i < getD t (cutPlace reachCuts j) 0 → q < lanesIn t → getD t (place reachBase j i q) 0 ≡ inf
   pub real : sheet .parts ≤ lanesIn t
+  pub begun : 0 < sheet .parts
+  pub spare : (q : ℕ) → sheet .parts ≤ q → q < lanesIn t → Alike (getD (sheet .columns) 0 noColumn) (getD (sheet .columns) q noColumn)
   pub climbs : (q : ℕ) → q < lanesIn t → Climbs (sheet .end) (getD (sheet .columns) q noColumn .first) (sheet .positions)
   pub terms : (j i : ℕ) → i ≤ j → j ≤ length (sheet .positions) → Coded (top * (length (sheet .positions) - j)) (getD t (termPlace j i) 0) (largest (feeFrom sheet j i) (partColumns sheet) [])

@@ -3,9 +3,11 @@ ghost use mathlib.Core.Path.{_≡_};
 ghost use mathlib.Core.Bool.{true};
 ghost use Prim.Native.Nat.{ℕ, _+_, _-_, _*_, _^_, _<_, _≤_, min};
 ghost use lib.ListN.{length, getD};
-ghost use Rattle.lane_rows.specs.Layout.{laneCount, markCount, inf, tablesSize, lanesIn, stackSize, suffixBase, place, rowPlace, markPlace, termPlace};
-ghost use Rattle.lane_rows.specs.Tables.{valueOf};
-ghost use Rattle.lane_rows.specs.Rows.{lane, sumLanes, Turned, MinAsks, PlusAsks, AddAsks, FirstRow, Stack, Put, nextRow, Owing, Settled};
+ghost use Rattle.least.specs.Filled.{FilledBy};
+ghost use Rattle.lane_rows.specs.Layout.{laneCount, markCount, inf, triangle, levelRows, tablesSize, lanesIn, stackSize, suffixBase, place, rowPlace, markPlace, knownPlace, memoPlace, termPlace};
+ghost use Rattle.lane_rows.specs.Tables.{valueOf, sumWhere};
+ghost use Rattle.lane_rows.specs.Rows.{lane, sumLanes, Turned, MinAsks, PlusAsks, AddAsks, Nones, FirstRow, Stack, Put, Past, StepAsks, Stepped, Looks, Known, Recalled, Learnt, nextRow, Owing, Settled};
+ghost use Rattle.model.specs.Limits.{mostOpenings};
 use branch::Bound;
 use least::MARKS;
 use least::TABLE;
@@ -16,34 +18,52 @@ pub const LANES: usize = 16;
 // The number for a missing price.
 pub const INF: u32 = 1030000000;
 
+// The most openings.
+const OPENINGS: usize = MARKS - 1;
+
+// A block of the tables is a triangle: level j has the marks 0 to j, since no mark is above the number of openings decided.
+pub const BLOCK_ROWS: usize = MARKS * (MARKS + 1) / 2;
+
+const BLOCK: usize = BLOCK_ROWS * LANES;
+
 // The tables: where each region starts, and their size.
 
 pub const SUFFIXES: usize = 0;
 
-pub const REACHES: usize = 67600;
+pub const REACHES: usize = SUFFIXES + BLOCK;
 
-pub const PRICES: usize = 135200;
+pub const PRICES: usize = REACHES + BLOCK;
 
-pub const FEES: usize = 136224;
+pub const FEES: usize = PRICES + OPENINGS * LANES;
 
-pub const COUNT: usize = 136288;
-
-pub const SUFFIX_CUTS: usize = 136289;
-
-pub const REACH_CUTS: usize = 136354;
+pub const COUNT: usize = FEES + OPENINGS;
 
 // How many fours of lanes the job has.
-pub const FOURS: usize = 136419;
+pub const FOURS: usize = COUNT + 1;
 
 // E4's terms.
 pub const TERMS: usize = FOURS + 1;
 
-pub const TABLES: usize = TERMS + TABLE;
+pub const TABLES: usize = TERMS + BLOCK_ROWS;
 
-// The stack: 65 rows, then the mark of each.
-pub const ROW_MARKS: usize = 1040;
+// The stack: 65 rows, the mark of each, which rows of the memo are known, and the memo, which has a row for each level and each number of rows from none to one more than the level's.
 
-pub const STACK: usize = 1105;
+const ROW_MARKS: usize = MARKS * LANES;
+
+const KNOWN: usize = ROW_MARKS + MARKS;
+
+const MEMO: usize = KNOWN + (MARKS + 1) * MARKS;
+
+pub const STACK: usize = MEMO + (MARKS + 1) * (MARKS + 2) / 2 * LANES;
+
+// How many rows of a triangle stand before level j's.
+pub fn row_of(j: usize) -> usize
+    requires { ⌜ j ≤ markCount ⌝ }
+    ensures rows { λ r. ⌜ r ≡ triangle j ⌝ }
+    ensures few { λ r. ⌜ r < levelRows (markCount + 1) ⌝ }
+{
+    j * (j + 1) / 2
+}
 
 // The number that stands j past the start of a region.
 pub fn cell(t: &[u32], start: usize, j: usize) -> usize
@@ -55,10 +75,11 @@ pub fn cell(t: &[u32], start: usize, j: usize) -> usize
 
 // E4's term where j openings are decided and mark i is that of the last yes.
 pub fn term(t: &[u32], j: usize, i: usize) -> u64
-    requires { ⌜ (length (now t) ≡ tablesSize) × (j ≤ 64) × (i ≤ 64) ⌝ }
+    requires { ⌜ (length (now t) ≡ tablesSize) × (i ≤ j) × (j ≤ mostOpenings) ⌝ }
     ensures { λ r. ⌜ r ≡ getD (now (t .entry)) (termPlace j i) 0 ⌝ }
 {
-    t[TERMS + (j * MARKS + i)] as u64
+    let row = row_of(j);
+    t[TERMS + (row + i)] as u64
 }
 
 // The mark of the last yes, of the `rows` that are there.
@@ -94,6 +115,26 @@ fn plus_row(fours: usize, prices: &[u32], acc: &mut [u32])
 {
     for p in 0..fours * 4 {
         acc[p] = acc[p] + prices[p];
+    }
+}
+
+// The lanes of a row.
+fn copy_row(fours: usize, d: &[u32], acc: &mut [u32])
+    requires { ⌜ (fours ≤ 4) × (laneCount ≤ length (now d)) × (laneCount ≤ length (now acc)) ⌝ }
+    ensures { λ _. ⌜ Turned (fours * 4) (λ (q : ℕ). getD (now (d .entry)) q 0) (now (acc .entry)) (now (acc .exit)) ⌝ }
+{
+    for p in 0..fours * 4 {
+        acc[p] = d[p];
+    }
+}
+
+// The lanes are stored as the row that starts at `at`.
+fn store_row(fours: usize, acc: &[u32], at: usize, w: &mut [u32])
+    requires { ⌜ (fours ≤ 4) × (laneCount ≤ length (now acc)) × (at + laneCount ≤ length (now w)) ⌝ }
+    ensures { λ _. ⌜ FilledBy (λ (q : ℕ). at + q) (λ (q : ℕ). getD (now (acc .entry)) q 0) (fours * 4) (now (w .entry)) (now (w .exit)) ⌝ }
+{
+    for p in 0..fours * 4 {
+        w[at + p] = acc[p];
     }
 }
 
@@ -140,7 +181,8 @@ fn add_row(
     requires { ⌜ AddAsks fours (now t) (now w) base j i n (now acc) ⌝ }
     ensures { λ _. ⌜ Turned (fours * 4) (λ (q : ℕ). min (getD (now (acc .entry)) q 0) (getD (now (w .entry)) (rowPlace n q) 0 + getD (now (t .entry)) (place base j i q) 0)) (now (acc .entry)) (now (acc .exit)) ⌝ }
 {
-    let at = base + (j * MARKS + i) * LANES;
+    let row = row_of(j);
+    let at = base + (row + i) * LANES;
     min_row(
         fours,
         &w[n * LANES..n * LANES + LANES],
@@ -149,102 +191,136 @@ fn add_row(
     );
 }
 
-// Each lane over the first `rows` rows, from lanes that hold nothing; the rows with a mark below `lo` add nothing.
+// Each lane over the first `rows` rows, from lanes that hold nothing.
 fn least_rows(
     fours: usize,
     t: &[u32],
     w: &[u32],
     base: usize,
-    lo: usize,
     j: usize,
     rows: usize,
     acc: &mut [u32],
 )
-    requires { ⌜ (Stack (fours * 4) (now t) (now w) base lo j rows) × (laneCount ≤ length (now acc)) × ((q : ℕ) → q < fours * 4 → getD (now acc) q 0 ≡ inf) ⌝ }
+    requires { ⌜ (Stack (fours * 4) (now t) (now w) base j rows) × (laneCount ≤ length (now acc)) × ((q : ℕ) → q < fours * 4 → getD (now acc) q 0 ≡ inf) ⌝ }
     ensures { λ _. ⌜ Turned (fours * 4) (λ (q : ℕ). lane (now (t .entry)) (now (w .entry)) base j q rows) (now (acc .entry)) (now (acc .exit)) ⌝ }
 {
     let mut n = rows;
     while 0 < n {
         n -= 1;
         let i = w[ROW_MARKS + n] as usize;
-        if i < lo {
-            return;
-        }
         add_row(fours, t, w, base, j, i, n, acc);
     }
 }
 
-// The sum of so many lanes where opening j is the first undecided one, given that it is at least `ms`.
-fn sum_rows(fours: usize, t: &[u32], w: &[u32], lo: usize, j: usize, rows: usize, ms: u64) -> u64
-    requires { ⌜ Stack (fours * 4) (now t) (now w) suffixBase lo j rows ⌝ }
-    requires { ⌜ ms ≤ sumLanes (fours * 4) (λ (q : ℕ). lane (now t) (now w) suffixBase j q rows) ⌝ }
-    ensures { λ r. ⌜ r ≡ sumLanes (fours * 4) (λ (q : ℕ). lane (now (t .entry)) (now (w .entry)) suffixBase j q rows) ⌝ }
+// So many lanes of the memo's row at `out`, from the one before it, the stack's row at d and the table's at e; and their sum.
+fn step_lanes(fours: usize, t: &[u32], w: &mut [u32], d: usize, e: usize, out: usize) -> u64
+    requires { ⌜ StepAsks (fours * 4) (now t) (now w) d e out ⌝ }
+    ensures { λ r. ⌜ Stepped (fours * 4) (now (t .entry)) (now (w .entry)) (now (w .exit)) d e out r ⌝ }
 {
+    let before = out - LANES;
     let mut acc = [INF; LANES];
-    let mut s = fours as u64 * 4 * INF as u64;
-    let mut n = rows;
-    while 0 < n {
-        n -= 1;
-        let i = w[ROW_MARKS + n] as usize;
-        if i < lo {
-            return s;
-        }
-        add_row(fours, t, w, SUFFIXES, j, i, n, &mut acc);
-        s = total(fours, &acc);
-        if s == ms {
-            return s;
-        }
-    }
-    s
+    copy_row(fours, &w[before..before + LANES], &mut acc);
+    min_row(fours, &w[d..d + LANES], &t[e..e + LANES], &mut acc);
+    store_row(fours, &acc, out, w);
+    total(fours, &acc)
 }
 
-// The sum of all lanes where opening j is the first undecided one, given that it is at least `ms`.
-pub fn lane_sum(t: &[u32], w: &[u32], lo: usize, j: usize, rows: usize, ms: u64) -> u64
-    requires { ⌜ (length (now t) ≡ tablesSize) × Stack (lanesIn (now t)) (now t) (now w) suffixBase lo j rows ⌝ }
-    requires { ⌜ ms ≤ sumLanes (lanesIn (now t)) (λ (q : ℕ). lane (now t) (now w) suffixBase j q rows) ⌝ }
-    ensures { λ r. ⌜ r ≡ sumLanes (lanesIn (now (t .entry))) (λ (q : ℕ). lane (now (t .entry)) (now (w .entry)) suffixBase j q rows) ⌝ }
+// The memo's row at `out`, and its sum.
+fn step_row(t: &[u32; TABLES], w: &mut [u32; STACK], d: usize, e: usize, out: usize) -> u64
+    requires { ⌜ StepAsks (lanesIn (now t)) (now t) (now w) d e out ⌝ }
+    ensures { λ r. ⌜ Stepped (lanesIn (now (t .entry))) (now (t .entry)) (now (w .entry)) (now (w .exit)) d e out r ⌝ }
 {
     let fours = t[FOURS];
     if fours < 2 {
-        return sum_rows(1, t, w, lo, j, rows, ms);
+        return step_lanes(1, t, w, d, e, out);
     }
     if fours < 3 {
-        return sum_rows(2, t, w, lo, j, rows, ms);
+        return step_lanes(2, t, w, d, e, out);
     }
     if fours < 4 {
-        return sum_rows(3, t, w, lo, j, rows, ms);
+        return step_lanes(3, t, w, d, e, out);
     }
-    sum_rows(4, t, w, lo, j, rows, ms)
+    step_lanes(4, t, w, d, e, out)
 }
 
-// The sum of all lanes where nothing is decided: the tables' first row.
-pub fn first_sum(t: &[u32]) -> u64
-    requires { ⌜ (length (now t) ≡ tablesSize) × (lanesIn (now t) ≤ laneCount) × ((q : ℕ) → q < lanesIn (now t) → getD (now t) q 0 ≤ inf) ⌝ }
-    ensures { λ r. ⌜ r ≡ sumLanes (lanesIn (now (t .entry))) (λ (q : ℕ). getD (now (t .entry)) q 0) ⌝ }
+// The memo learns its row for level j and the first m + 1 rows, where it knows that for the first m; its sum.
+fn learn(t: &[u32; TABLES], w: &mut [u32; STACK], m: usize, j: usize) -> u64
+    requires { ⌜ ((n : ℕ) × Looks (now t) (now w) n j × (m < n)) × Known (now w) m j ⌝ }
+    ensures { λ r. ⌜ ((n : ℕ) → Looks (now (t .entry)) (now (w .entry)) n j → m < n → Learnt (now (t .entry)) (now (w .entry)) (now (w .exit)) n m j r) ⌝ }
 {
-    total(t[FOURS] as usize, t)
+    let i = w[ROW_MARKS + m] as usize;
+    let row = row_of(j);
+    let level = row + (j + 1);
+    w[KNOWN + (m + 1) * MARKS + j] = 1;
+    step_row(
+        t,
+        w,
+        m * LANES,
+        SUFFIXES + (row + i) * LANES,
+        MEMO + (level + (m + 1)) * LANES,
+    )
+}
+
+// How many rows, below the top one, the memo knows at level j; of none it knows always.
+fn known_rows(w: &[u32], rows: usize, j: usize) -> usize
+    requires { ⌜ (0 < rows) × (rows ≤ markCount) × (j ≤ mostOpenings) × (length (now w) ≡ stackSize) ⌝ }
+    ensures { λ r. ⌜ (r < rows) × Known (now (w .entry)) r j ⌝ }
+{
+    let mut m = rows - 1;
+    while 0 < m {
+        if w[KNOWN + m * MARKS + j] == 1 {
+            return m;
+        }
+        m -= 1;
+    }
+    m
+}
+
+// The sum of all lanes where opening j is the first undecided one: the memo learns what it lacks there, one row after the other, and the top row's sum is handed over.
+pub fn lane_sum(t: &[u32; TABLES], w: &mut [u32; STACK], rows: usize, j: usize) -> u64
+    requires { ⌜ Looks (now t) (now w) rows j ⌝ }
+    ensures sum { λ r. ⌜ r ≡ sumLanes (lanesIn (now (t .entry))) (λ (q : ℕ). lane (now (t .entry)) (now (w .entry)) suffixBase j q rows) ⌝ }
+    ensures frame { λ _. ⌜ Recalled (now (t .entry)) (now (w .entry)) (now (w .exit)) rows ⌝ }
+{
+    let mut m = known_rows(w, rows, j);
+    let mut sum = 0;
+    while m < rows {
+        sum = learn(t, w, m, j);
+        m += 1;
+    }
+    sum
+}
+
+// The part sums where nothing is decided: the tables' first row; Missing exactly where the first term is.
+pub fn first_sums(t: &[u32]) -> Bound
+    requires { ⌜ (length (now t) ≡ tablesSize) × (lanesIn (now t) ≤ laneCount) × ((q : ℕ) → q < lanesIn (now t) → getD (now t) q 0 ≤ inf) ⌝ }
+    ensures { λ r. ⌜ r ≡ sumWhere (getD (now (t .entry)) (termPlace 0 0) 0) (sumLanes (lanesIn (now (t .entry))) (λ (q : ℕ). getD (now (t .entry)) q 0)) ⌝ }
+{
+    if t[TERMS] < INF {
+        return Bound::Sum(total(t[FOURS] as usize, t));
+    }
+    Bound::Missing
 }
 
 // The row of opening j, decided yes, above the `rows` that are there: so many lanes of it.
 fn put_lanes(fours: usize, t: &[u32], w: &mut [u32], j: usize, rows: usize)
     requires { ⌜ Owing (fours * 4) (now t) (now w) j rows ⌝ }
-    ensures { λ _. ⌜ Put (fours * 4) (nextRow (now (t .entry)) (now (w .entry)) j rows) (now (w .entry)) (now (w .exit)) rows (j + 1) ⌝ }
+    ensures put { λ _. ⌜ Put (fours * 4) (nextRow (now (t .entry)) (now (w .entry)) j rows) (now (w .entry)) (now (w .exit)) rows (j + 1) ⌝ }
+    ensures frame { λ _. ⌜ Past (now (w .entry)) (now (w .exit)) ⌝ }
 {
-    let lo = t[REACH_CUTS + j] as usize;
     let mut acc = [INF; LANES];
-    least_rows(fours, t, w, REACHES, lo, j, rows, &mut acc);
+    least_rows(fours, t, w, REACHES, j, rows, &mut acc);
     let at = PRICES + j * LANES;
     plus_row(fours, &t[at..at + LANES], &mut acc);
-    for p in 0..fours * 4 {
-        w[rows * LANES + p] = acc[p];
-    }
+    store_row(fours, &acc, rows * LANES, w);
     w[ROW_MARKS + rows] = (j + 1) as u32;
 }
 
 // The row of opening j, decided yes, above the `rows` that are there.
 fn put_row(t: &[u32], w: &mut [u32], j: usize, rows: usize)
     requires { ⌜ Owing (lanesIn (now t)) (now t) (now w) j rows ⌝ }
-    ensures { λ _. ⌜ Put (lanesIn (now (t .entry))) (nextRow (now (t .entry)) (now (w .entry)) j rows) (now (w .entry)) (now (w .exit)) rows (j + 1) ⌝ }
+    ensures put { λ _. ⌜ Put (lanesIn (now (t .entry))) (nextRow (now (t .entry)) (now (w .entry)) j rows) (now (w .entry)) (now (w .exit)) rows (j + 1) ⌝ }
+    ensures frame { λ _. ⌜ Past (now (w .entry)) (now (w .exit)) ⌝ }
 {
     let fours = t[FOURS];
     if fours < 2 {
@@ -262,6 +338,16 @@ fn put_row(t: &[u32], w: &mut [u32], j: usize, rows: usize)
     put_lanes(4, t, w, j, rows);
 }
 
+// Nothing is known of the first k rows from a level on: the last of them is new.
+fn forget(w: &mut [u32], k: usize, from: usize)
+    requires { ⌜ (k ≤ markCount) × (from ≤ mostOpenings) × (length (now w) ≡ stackSize) ⌝ }
+    ensures { λ _. ⌜ FilledBy (λ (y : ℕ). knownPlace k (from + y)) (λ (y : ℕ). 0) (markCount - from) (now (w .entry)) (now (w .exit)) ⌝ }
+{
+    for l in from..MARKS {
+        w[KNOWN + k * MARKS + l] = 0;
+    }
+}
+
 // Writes the row that a yes owes.
 pub fn settle(t: &[u32], w: &mut [u32], at: usize, rows: usize, stop: bool) -> usize
     requires { ⌜ (stop ≡ true → (0 < at) × Owing (lanesIn (now t)) (now t) (now w) (at - 1) rows) ⌝ }
@@ -269,9 +355,31 @@ pub fn settle(t: &[u32], w: &mut [u32], at: usize, rows: usize, stop: bool) -> u
 {
     if stop {
         put_row(t, w, at - 1, rows);
+        forget(w, rows + 1, at);
         return rows + 1;
     }
     rows
+}
+
+// The memo's row of no rows, at level l.
+fn none_row(w: &mut [u32], l: usize)
+    requires { ⌜ (l ≤ mostOpenings) × (length (now w) ≡ stackSize) ⌝ }
+    ensures { λ _. ⌜ FilledBy (memoPlace l 0) (λ (q : ℕ). inf) laneCount (now (w .entry)) (now (w .exit)) ⌝ }
+{
+    let level = row_of(l + 1);
+    for p in 0..LANES {
+        w[MEMO + level * LANES + p] = INF;
+    }
+}
+
+// The memo's rows of no rows.
+fn none_rows(w: &mut [u32])
+    requires { ⌜ length (now w) ≡ stackSize ⌝ }
+    ensures { λ _. ⌜ Nones (now (w .entry)) (now (w .exit)) markCount ⌝ }
+{
+    for l in 0..MARKS {
+        none_row(w, l);
+    }
 }
 
 // The row before the first opening: nothing is paid.
@@ -283,4 +391,6 @@ pub fn base_row(w: &mut [u32])
         w[p] = 0;
     }
     w[ROW_MARKS] = 0;
+    forget(w, 1, 0);
+    none_rows(w);
 }

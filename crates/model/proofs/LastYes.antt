@@ -2,12 +2,12 @@
 -- are decided, and on nothing else. By recursion over the decided openings: a change at a yes is in time, and the later the change before, the less is left to pay.
 use mathlib.Core.Path.{_≡_, refl, sym, ap, subst, _∙_}
 use mathlib.Core.Bool.{Bool, true, false, cond, _&&_, false≢true}
-use mathlib.Core.List.{List, [], _∷_, map}
+use mathlib.Core.List.{List, [], _∷_, _++_, map}
 use Prim.Native.Nat.{ℕ, zero, suc, _+_, _≤_}
 use native.Mathlib.Omega.{arith}
 use borrow.Author.Tests.{ltb-true, ltb-false}
 use lib.Dec.{ltb}
-use lib.ListN.{length, getD, drop}
+use lib.ListN.{length, getD, drop, replicate}
 use lib.IntN.{ℤ, pos, _-ℤ_}
 use Rattle.branch.specs.declared.Bound.{Bound}
 use Rattle.branch.specs.declared.Bound.the-variants.{Missing, Sum}
@@ -212,23 +212,35 @@ module _ (life end : ℤ) where
       go x true = plus-more (getD ns 0 0) x
       go x false = tt
 
-  pub last-alone : (prev : ℤ) (ss : List ℤ) (fees ns : List ℕ) (p : List Bool) (n : ℕ) → Climbs end prev ss → length p ≤ length ss → leastOf life end prev (offers ss ns p) ≡ Sum n
-      → leastOf life end prev (offers ss (undecidedFees fees p) p) ≡ leastOf life end (markIn prev ss (lastYes p)) (drop (length p) (offers ss fees []))
+  -- after no decision but no's nothing is changed yet
+  none-alone : (prev : ℤ) (ss : List ℤ) (fees : List ℕ) (k : ℕ) → k ≤ length ss
+      → leastOf life end prev (offers ss (undecidedFees fees (replicate k false)) (replicate k false)) ≡ leastOf life end prev (drop (length (replicate k false)) (offers ss fees []))
+  unfolding leastOf offers undecidedFees
+  none-alone prev ss fees zero l = refl
+  none-alone prev [] fees (suc k) l = absurd (omega arith)
+  none-alone prev (s ∷ ss) fees (suc k) l =
+      ap (λ (fs : List ℕ). leastOf life end prev (offers ss fs (replicate k false))) (decided-rest fees false (replicate k false)) ∙ none-alone prev ss (drop 1 fees) k (omega arith)
+
+  -- the part can be kept at the node p: so the law holds there, and below it after any number of no's, whether or not the part can be kept then
+  pub last-alone : (prev : ℤ) (ss : List ℤ) (fees ns : List ℕ) (p : List Bool) (k n : ℕ) → Climbs end prev ss → length p + k ≤ length ss → leastOf life end prev (offers ss ns p) ≡ Sum n
+      → let d = p ++ replicate k false in leastOf life end prev (offers ss (undecidedFees fees d) d) ≡ leastOf life end (markIn prev ss (lastYes p)) (drop (length d) (offers ss fees []))
   unfolding leastOf offers undecidedFees lastYes
-  last-alone prev ss fees ns [] n c l e = refl
-  last-alone prev [] fees ns (x ∷ p) n c l e = absurd (omega arith)
-  last-alone prev (s ∷ ss) fees ns (false ∷ p) n c l e =
-      ap (λ (fs : List ℕ). leastOf life end prev (offers ss fs p)) (decided-rest fees false p)
-      ∙ last-alone prev ss (drop 1 fees) (drop 1 ns) p n (climbs-from end prev s ss (at-most prev s (c .0)) (c .1)) (omega arith) e
-      ∙ ap (λ (m : ℤ). leastOf life end m (drop (length p) (offers ss (drop 1 fees) []))) (sym (mark-no prev s ss (lastYes p)))
-  last-alone prev (s ∷ ss) fees ns (true ∷ p) n c l e =
-      let os = offers ss (undecidedFees (drop 1 fees) p) p in
+  last-alone prev ss fees ns [] k n c l e = none-alone prev ss fees k (omega arith)
+  last-alone prev [] fees ns (x ∷ p) k n c l e = absurd (omega arith)
+  last-alone prev (s ∷ ss) fees ns (false ∷ p) k n c l e =
+      let d = p ++ replicate k false in
+      ap (λ (fs : List ℕ). leastOf life end prev (offers ss fs d)) (decided-rest fees false d)
+      ∙ last-alone prev ss (drop 1 fees) (drop 1 ns) p k n (climbs-from end prev s ss (at-most prev s (c .0)) (c .1)) (omega arith) e
+      ∙ ap (λ (m : ℤ). leastOf life end m (drop (length d) (offers ss (drop 1 fees) []))) (sym (mark-no prev s ss (lastYes p)))
+  last-alone prev (s ∷ ss) fees ns (true ∷ p) k n c l e =
+      let d = p ++ replicate k false in
+      let os = offers ss (undecidedFees (drop 1 fees) d) d in
       let a = leastOf life end prev os in
       let b = leastOf life end s os in
       let w = in-time life end prev s (s ∷ ss) ns (true ∷ p) n (at-most-test s s (omega arith), c .1) e in
       let t = yes-there prev s ss ns p n (at-most prev s (c .0)) e in
-      (λ i. let fs = decided-rest fees true p i in
-      lower (leastOf life end prev (offers ss fs p)) (cond (w i) (plus (decided-free fees true p i) (leastOf life end s (offers ss fs p))) Missing))
+      (λ i. let fs = decided-rest fees true d i in
+      lower (leastOf life end prev (offers ss fs d)) (cond (w i) (plus (decided-free fees true d i) (leastOf life end s (offers ss fs d))) Missing))
       ∙ ap (lower a) (plus-0 b) ∙ lower-is a b (later-least life end prev s os (at-most prev s (c .0)))
-      ∙ last-alone s ss (drop 1 fees) (drop 1 ns) p (t .0) (c .1) (omega arith) (t .1)
-      ∙ ap (λ (m : ℤ). leastOf life end m (drop (length p) (offers ss (drop 1 fees) []))) (sym (mark-yes prev s ss (lastYes p)))
+      ∙ last-alone s ss (drop 1 fees) (drop 1 ns) p k (t .0) (c .1) (omega arith) (t .1)
+      ∙ ap (λ (m : ℤ). leastOf life end m (drop (length d) (offers ss (drop 1 fees) []))) (sym (mark-yes prev s ss (lastYes p)))

@@ -19,16 +19,17 @@ use Rattle.model.specs.LowerBound.{Offer, leastOf, offers}
 use Rattle.model.specs.LastYes.{Climbs}
 use Rattle.model.proofs.LastYes.{first-climbs}
 use Rattle.least.specs.Marks.{markOf, Bits31}
-use Rattle.least.specs.Filled.{Filled, FilledBy}
+use Rattle.least.specs.Filled.{FilledBy}
 use Rattle.least.specs.Suffix.{tableSize, codeOf, Suffixes}
 use Rattle.least.proofs.Diff.{mag-sub, back}
 use Rattle.model.proofs.Bools.{after-one, there}
 use Rattle.least.proofs.Most.{AtMost, most-least}
 use Rattle.search.specs.Arrays.{priceStride, priceSize, laneValue, lanePart, columnOf, columnsFrom, foursOf, sheetOf, Lived, Lifespans, Arrays, Ready}
-use Rattle.search.specs.Fill.{Triangle, ownOf, reachOf, column, LaneFilled, Lanes, DeadBelow, Terms}
-use Rattle.lane_rows.specs.Layout.{laneCount, markCount, top, laneLimit, inf, blockRows, priceRow, laneRows, suffixBase, reachBase, place, rowPlace, pricePlace, feeBase, feePlace, countPlace, suffixCuts, reachCuts, cutPlace, foursPlace, lanesIn, tablesSize}
+use Rattle.search.specs.Fill.{Triangle, ownOf, reachOf, column, LaneFilled, Lanes, Terms}
+use Rattle.lane_rows.specs.Layout.{laneCount, markCount, top, laneLimit, inf, triangle, blockRows, priceRow, laneRows, suffixBase, reachBase, place, rowPlace, pricePlace, feeBase, feePlace, countPlace, foursPlace, lanesIn, tablesSize}
 use Rattle.lane_rows.specs.Sheet.{Column, noColumn}
 use Rattle.lane_rows.specs.Tables.{Coded, Lane, Tables}
+use Rattle.lane_rows.proofs.Rising.{row-inside}
 use Rattle.model.specs.Limits.{longestLife}
 
 pub coded : (b : ℕ) (e : Bound) (v : ℕ) → b ≤ laneLimit → AtMost b e → v ≡ min (codeOf e) inf → Coded b v e
@@ -59,22 +60,25 @@ module _ (life end first : ℤ) (ss : List ℤ) (ps : List ℕ) (fs : List Bool)
     (s : Suffixes life end first ss ps fs tab 0)
     (w₁ : Triangle (λ (j i : ℕ). place suffixBase j i q) (ownOf tab) (length ss + 1) t₀ t₁)
     (w₂ : Triangle (λ (j i : ℕ). place reachBase j i q) (reachOf life first ss) (length ss) t₁ t₂)
-    (w₃ : FilledBy (λ (j : ℕ). rowPlace (priceRow + j) q) (λ (j : ℕ). getD ps j 0) (length ps) t₂ t₃)
+    (w₃ : FilledBy (λ (j : ℕ). pricePlace j q) (λ (j : ℕ). getD ps j 0) (length ps) t₂ t₃)
     (in-lane : q < laneCount) where
+  -- a row of a block, of a level that is there
+  inside : (j i : ℕ) → i ≤ j → j ≤ length ss → triangle j + i < blockRows
+  inside j i h g = row-inside j i markCount h (omega arith)
+
   suffix : (j i : ℕ) → i ≤ j → j ≤ length ss → Coded (top * (length ss - j)) (getD t₃ (place suffixBase j i q) 0) (leastOf life end (markOf first ss i) (drop j (offers ss ps [])))
   suffix j i h g =
+      let n = inside j i h g in
       coded (top * (length ss - j)) (leastOf life end (markOf first ss i) (drop j (offers ss ps []))) (getD t₃ (place suffixBase j i q) 0) (omega arith)
       (most-least top life end (markOf first ss i) ss ps [] j cheap)
       (w₃ .rest (place suffixBase j i q) (λ x l e. omega (arith, e)) ∙ w₂ .rest (place suffixBase j i q) (λ x y l m e. omega (arith, e)) ∙ w₁ .done j i h (omega arith)
       ∙ ap (λ (k : ℕ). min k inf) (s .rows j i (omega arith) g h ∙ ap (λ (os : List Offer). codeOf (leastOf life end (markOf first ss i) (drop j os))) (offers-all ss ps fs all)))
 
   reaches : (j i : ℕ) → i ≤ j → j < length ss → getD t₃ (place reachBase j i q) 0 ≡ cond (within life (markOf first ss i) (getD ss j (pos 0))) 0 inf
-  reaches j i h g = w₃ .rest (place reachBase j i q) (λ y l e. omega (arith, e)) ∙ w₂ .done j i h g
+  reaches j i h g = let n = inside j i h (omega arith) in w₃ .rest (place reachBase j i q) (λ y l e. omega (arith, e)) ∙ w₂ .done j i h g
 
   price : (j : ℕ) → j < length ss → getD t₃ (pricePlace j q) 0 ≡ getD ps j 0
-  price j h =
-      let z : pricePlace j q ≡ rowPlace (priceRow + j) q = omega arith in
-      ap (λ (k : ℕ). getD t₃ k 0) z ∙ w₃ .done j (omega arith)
+  price j h = w₃ .done j (omega arith)
 
   pub lane-done : LaneFilled end ss (column life first ps) t₀ t₃ q
   lane-done =
@@ -82,8 +86,9 @@ module _ (life end first : ℤ) (ss : List ℤ) (ps : List ℕ) (fs : List Bool)
         lane = record { suffix = suffix; reach = reaches; price = price; cheap = cheap };
         size = w₃ .size ∙ w₂ .size ∙ w₁ .size;
         rest = λ x n.
-            w₃ .rest x (λ j l. n (priceRow + j) (omega arith)) ∙ w₂ .rest x (λ j i l h e. n (blockRows + (j * markCount + i)) (omega arith) (omega (arith, e)))
-            ∙ w₁ .rest x (λ j i l h e. n (j * markCount + i) (omega arith) (omega (arith, e)));
+            w₃ .rest x (λ j l e. n (priceRow + j) (omega arith) (omega (arith, e)))
+            ∙ w₂ .rest x (λ j i l h e. let m = inside j i l (omega arith) in n (blockRows + (triangle j + i)) (omega arith) (omega (arith, e)))
+            ∙ w₁ .rest x (λ j i l h e. let m = inside j i l (omega arith) in n (triangle j + i) (omega arith) (omega (arith, e)));
       }
 
 -- a lane that nobody wrote to stays right
@@ -91,12 +96,14 @@ pub lane-kept : (end : ℤ) (ss : List ℤ) (col : Column) (t t' : List ℕ) (q 
 lane-kept end ss col t t' q few k l =
     record {
       suffix = λ j i h g.
-          let z : place suffixBase j i q ≡ rowPlace (j * markCount + i) q = omega arith in
-          let e : getD t' (place suffixBase j i q) 0 ≡ getD t (place suffixBase j i q) 0 = rw z (k (j * markCount + i) (omega arith)) in
+          let n = row-inside j i markCount h (omega arith) in
+          let z : place suffixBase j i q ≡ rowPlace (triangle j + i) q = omega arith in
+          let e : getD t' (place suffixBase j i q) 0 ≡ getD t (place suffixBase j i q) 0 = rw z (k (triangle j + i) (omega arith)) in
           rw e (l .suffix j i h g);
       reach = λ j i h g.
-          let z : place reachBase j i q ≡ rowPlace (blockRows + (j * markCount + i)) q = omega arith in
-          (rw z (k (blockRows + (j * markCount + i)) (omega arith))) ∙ l .reach j i h g;
+          let n = row-inside j i markCount h (omega arith) in
+          let z : place reachBase j i q ≡ rowPlace (blockRows + (triangle j + i)) q = omega arith in
+          (rw z (k (blockRows + (triangle j + i)) (omega arith))) ∙ l .reach j i h g;
       price = λ j h. let z : pricePlace j q ≡ rowPlace (priceRow + j) q = omega arith in (rw z (k (priceRow + j) (omega arith))) ∙ l .price j h;
       cheap = l .cheap;
     }
@@ -138,12 +145,15 @@ lane-both P l m e f q = go (decLt q (length l))
     go (yes g) = rw (there l q (getD l 0 0) 0 g, there m q (getD m 0 0) 0 (omega arith)) (f q)
     go (no g) = rw (List·getD-eq-default l (getD l 0 0) {n = q} (omega (arith, g)), List·getD-eq-default m (getD m 0 0) {n = q} (omega (arith, g))) (f 0)
 
--- as many lanes as the parts fill, the fees, the number of openings, the cuts, how many fours there are, and the terms
-pub tables-filled : (e : ℤ) (ss : List ℤ) (fs ls rs ps t u v w′ w z′ z : List ℕ) (fours : ℕ) → fours ≡ foursOf (length ls) → Arrays e ss fs ls rs ps → Lanes e ss ls rs ps t (fours * 4)
-    → FilledBy feePlace (λ (j : ℕ). getD fs j 0) (length fs) t u → v ≡ set u countPlace (length fs)
-    → Filled (cutPlace suffixCuts) (DeadBelow (fours * 4) v suffixBase) (length ss + 1) v w′ → Filled (cutPlace reachCuts) (DeadBelow (fours * 4) w′ reachBase) (length ss) w′ w → z′ ≡ set w foursPlace fours
-    → Terms (sheetOf e ss fs ls rs ps) z′ z (length ls) → Tables (sheetOf e ss fs ls rs ps) z
-tables-filled e ss fs ls rs ps t u v w′ w z′ z fours is ar la a b c d f g =
+-- past the last part a lane's number is that of the first
+pub past : (l : List ℕ) (q : ℕ) → 0 < length l → length l ≤ q → laneValue l q ≡ laneValue l 0
+past l q g k = List·getD-eq-default l (getD l 0 0) {n = q} k ∙ there l 0 0 (getD l 0 0) g
+
+-- as many lanes as the parts fill, the fees, the number of openings, how many fours there are, and the terms
+pub tables-filled : (e : ℤ) (ss : List ℤ) (fs ls rs ps t u v w z : List ℕ) (fours : ℕ) → fours ≡ foursOf (length ls) → Arrays e ss fs ls rs ps → Lanes e ss ls rs ps t (fours * 4)
+    → FilledBy feePlace (λ (j : ℕ). getD fs j 0) (length fs) t u → v ≡ set u countPlace (length fs) → w ≡ set v foursPlace fours
+    → Terms (sheetOf e ss fs ls rs ps) w z (length ls) → Tables (sheetOf e ss fs ls rs ps) z
+tables-filled e ss fs ls rs ps t u v w z fours is ar la a b f g =
     record {
       size = long;
       few = ar .few;
@@ -154,23 +164,20 @@ tables-filled e ss fs ls rs ps t u v w′ w z′ z fours is ar la a b c d f g =
       lanes = λ q h.
           subst (λ (col : Column). Lane e ss col z q) (sym (column-is q h))
           (lane-kept e ss (columnIn ss ls rs ps q) t z q (ar .few) (λ y m. under (rowPlace y q) (omega (arith, wide, is, ar .lanes))) (la .right q (omega (arith, wide))));
-      fees = λ j h. let few = ar .few in cuts (feePlace j) (omega arith) ∙ counted (feePlace j) (omega arith) ∙ a .done j (omega (arith, ar .paid));
+      fees = λ j h. let few = ar .few in last (feePlace j) (omega arith) ∙ counted (feePlace j) (omega arith) ∙ a .done j (omega (arith, ar .paid));
       fair = ar .fair;
-      count = cuts countPlace (omega arith) ∙ ap (λ (l : List ℕ). getD l countPlace 0) b ∙ getD-set-same u countPlace (length fs) 0 (omega (arith, a .size, la .size)) ∙ ar .paid;
-      suffix-cut = λ j i q h g l.
-          let few = ar .few in
-          let r : i < getD w′ (cutPlace suffixCuts j) 0 = subst (λ (x : ℕ). i < x) (last (cutPlace suffixCuts j) (omega arith) ∙ d .rest (cutPlace suffixCuts j) (λ y l e. omega (arith, e))) g in
-          let m = c .done j (omega arith) in
-          let k = m .most in
-          cuts (place suffixBase j i q) (omega (arith, wide, is, ar .lanes)) ∙ m .dead i r q (omega (arith, wide));
-      reach-cut = λ j i q h g l.
-          let few = ar .few in
-          let r : i < getD w (cutPlace reachCuts j) 0 = subst (λ (x : ℕ). i < x) (last (cutPlace reachCuts j) (omega arith)) g in
-          let m = d .done j h in
-          let k = m .most in
-          let x : q < laneCount = omega (arith, wide, is, ar .lanes) in
-          last (place reachBase j i q) (omega arith) ∙ d .rest (place reachBase j i q) (λ y l e. omega (arith, e)) ∙ m .dead i r q (omega (arith, wide));
+      count = last countPlace (omega arith) ∙ ap (λ (l : List ℕ). getD l countPlace 0) b ∙ getD-set-same u countPlace (length fs) 0 (omega (arith, a .size, la .size)) ∙ ar .paid;
       real = omega (arith, wide, is);
+      begun = ar .lives .some;
+      spare = λ q k h.
+          let x = past ls q (ar .lives .some) k in
+          let y = past rs q (omega (arith, ar .lives .some, ar .lives .lefts)) (omega (arith, ar .lives .lefts)) in
+          let c = column-is 0 (omega (arith, h)) in
+          let d = column-is q h in
+          record {
+            life = ap (λ (col : Column). col .life) d ∙ ap pos x ∙ sym (ap (λ (col : Column). col .life) c);
+            first = ap (λ (col : Column). col .first) d ∙ (λ i. pos (y i) -ℤ pos (x i)) ∙ sym (ap (λ (col : Column). col .first) c);
+          };
       climbs = λ q h. subst (λ (col : Column). Climbs e (col .first) ss) (sym (column-is q h)) (lane-climbs q);
       terms = g .right;
     }
@@ -178,30 +185,27 @@ tables-filled e ss fs ls rs ps t u v w′ w z′ z fours is ar la a b c d f g =
     lane-climbs : (q : ℕ) → Climbs e (pos (laneValue rs q) -ℤ pos (laneValue ls q)) ss
     lane-climbs q = first-climbs e ss (laneValue rs q) (laneValue ls q) (lane-both (λ (x y : ℕ). x ≤ y) rs ls (ar .lives .lefts) (ar .lives .first) q) (ar .climbs)
 
-    long′ : length w ≡ tablesSize
-    long′ = d .size ∙ c .size ∙ ap length b ∙ length-set u countPlace (length fs) ∙ a .size ∙ la .size
+    long′ : length v ≡ tablesSize
+    long′ = ap length b ∙ length-set u countPlace (length fs) ∙ a .size ∙ la .size
 
     long : length z ≡ tablesSize
-    long = g .size ∙ ap length f ∙ length-set w foursPlace fours ∙ long′
+    long = g .size ∙ ap length f ∙ length-set v foursPlace fours ∙ long′
 
     wide : lanesIn z ≡ fours * 4
-    wide = ap (λ (k : ℕ). k * 4) (g .rest foursPlace (omega arith)) ∙ ap (λ (l : List ℕ). getD l foursPlace 0 * 4) f ∙ ap (λ (k : ℕ). k * 4) (getD-set-same w foursPlace fours 0 (omega (arith, long′)))
+    wide = ap (λ (k : ℕ). k * 4) (g .rest foursPlace (omega arith)) ∙ ap (λ (l : List ℕ). getD l foursPlace 0 * 4) f ∙ ap (λ (k : ℕ). k * 4) (getD-set-same v foursPlace fours 0 (omega (arith, long′)))
 
     column-is : (q : ℕ) → q < lanesIn z → getD (columnsFrom (length ss) ls rs ps 0 (foursOf (length ls) * 4)) q noColumn ≡ columnIn ss ls rs ps q
     column-is q h = let y : 0 + q ≡ q = omega arith in columns-at (length ss) ls rs ps 0 (foursOf (length ls) * 4) q (omega (arith, wide, is)) ∙ ap (columnIn ss ls rs ps) y
 
-    -- what stands before the number of fours, before the cuts, and before the number of openings
-    last : (x : ℕ) → x < foursPlace → getD z x 0 ≡ getD w x 0
-    last x h = g .rest x (omega arith) ∙ ap (λ (l : List ℕ). getD l x 0) f ∙ getD-set-other w foursPlace x fours 0 (λ e. omega (arith, e))
-
-    cuts : (x : ℕ) → x < suffixCuts → getD z x 0 ≡ getD v x 0
-    cuts x h = last x (omega arith) ∙ d .rest x (λ y l e. omega (arith, e)) ∙ c .rest x (λ y l e. omega (arith, e))
+    -- what stands before the number of fours, and before the number of openings
+    last : (x : ℕ) → x < foursPlace → getD z x 0 ≡ getD v x 0
+    last x h = g .rest x (omega arith) ∙ ap (λ (l : List ℕ). getD l x 0) f ∙ getD-set-other v foursPlace x fours 0 (λ e. omega (arith, e))
 
     counted : (x : ℕ) → x < countPlace → getD v x 0 ≡ getD u x 0
     counted x h = ap (λ (l : List ℕ). getD l x 0) b ∙ getD-set-other u countPlace x (length fs) 0 (λ e. omega (arith, e))
 
     under : (x : ℕ) → x < feeBase → getD z x 0 ≡ getD t x 0
-    under x h = cuts x (omega arith) ∙ counted x (omega arith) ∙ a .rest x (λ y l e. omega (arith, e))
+    under x h = last x (omega arith) ∙ counted x (omega arith) ∙ a .rest x (λ y l e. omega (arith, e))
 
 -- ---- a lane's own prices
 

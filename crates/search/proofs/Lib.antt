@@ -1,6 +1,5 @@
 -- Laws of filling the tables, of the job behind them, and of the plan.
 pub mod Triangles
-pub mod Cuts
 pub mod Filling
 pub mod Raising
 pub mod Sheets

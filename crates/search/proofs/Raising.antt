@@ -16,9 +16,10 @@ use Rattle.least.specs.Filled.{FilledBy}
 use Rattle.least.specs.Marks.{markOf}
 use Rattle.least.specs.Suffix.{codeOf, Suffixes}
 use Rattle.least.proofs.Most.{most-least}
-use Rattle.lane_rows.specs.Layout.{markCount, top, laneLimit, inf, termBase, termPlace}
+use Rattle.lane_rows.specs.Layout.{triangle, top, laneLimit, inf, termBase, termPlace}
 use Rattle.lane_rows.specs.Sheet.{Column, Sheet, noColumn}
 use Rattle.lane_rows.specs.Tables.{Coded, feeFrom}
+use Rattle.lane_rows.proofs.Rising.{row-below}
 use Rattle.search.specs.Fill.{Triangle, ownOf, Raised, Terms}
 use Rattle.search.proofs.Filling.{coded, offers-all}
 
@@ -32,10 +33,10 @@ coded-larger b x y (Sum u) (Sum v) h c f = (omega arith, omega arith)
 module _ (sheet : Sheet) (few : length (sheet .positions) ≤ 64) where
   -- none yet
   abbrev pub Cleared : List ℕ → List ℕ → Type 0
-  Cleared t t' = FilledBy (λ (y : ℕ). termBase + y) (λ (y : ℕ). 0) ((length (sheet .positions) + 1) * markCount) t t'
+  Cleared t t' = FilledBy (λ (y : ℕ). termBase + y) (λ (y : ℕ). 0) (triangle (length (sheet .positions) + 1)) t t'
 
   pub terms-none : (t t' : List ℕ) → Cleared t t' → Terms sheet t' t' 0
-  terms-none t t' f = record { size = refl; right = λ j i h g. (f .done (j * markCount + i) (omega arith), omega arith); rest = λ x h. refl }
+  terms-none t t' f = record { size = refl; right = λ j i h g. (f .done (triangle j + i) (row-below j i (length (sheet .positions) + 1) h (omega arith)), omega arith); rest = λ x h. refl }
 
   pub terms-since : (t t' u : List ℕ) (q : ℕ) → Cleared t t' → Terms sheet t' u q → Terms sheet t u q
   terms-since t t' u q f s = record { size = s .size ∙ f .size; right = s .right; rest = λ x h. s .rest x h ∙ f .rest x (λ y l e. omega (arith, e)) }

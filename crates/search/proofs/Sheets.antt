@@ -5,7 +5,7 @@ use mathlib.Core.Path.{_≡_, refl, sym, ap, ap₂, _∙_}
 use mathlib.Core.Bool.{Bool}
 use mathlib.Core.List.{List, [], _∷_}
 use native.Mathlib.Omega.{arith}
-use lib.ListN.{length, getD, take, drop, List·getD-eq-default}
+use lib.ListN.{length, getD, take, drop}
 use lib.IntN.{ℤ, pos, _-ℤ_}
 use Rattle.branch.specs.declared.Bound.{Bound}
 use Rattle.branch.specs.declared.Bound.the-variants.{Missing, Sum}
@@ -13,10 +13,9 @@ use Rattle.branch.specs.Lower.{add, total, larger, largest}
 use Rattle.model.specs.Model.{Part, Job, sumAt, lastChange}
 use Rattle.model.specs.Verdict.{noPart}
 use Rattle.model.specs.LowerBound.{leastOf, offers, undecidedFees, partBound, partFee, stopCost, boundOf}
-use Rattle.model.proofs.Bools.{there}
 use Rattle.model.proofs.Unpaid.{unpaid, unpaid-least}
-use Rattle.search.specs.Arrays.{priceStride, laneValue, lanePart, columnOf, columnsFrom, foursOf, sheetOf, Holds}
-use Rattle.search.proofs.Filling.{own-each}
+use Rattle.search.specs.Arrays.{priceStride, lanePart, columnOf, columnsFrom, foursOf, sheetOf, Holds}
+use Rattle.search.proofs.Filling.{own-each, past}
 use Rattle.lane_rows.specs.Sheet.{columnBound, columnFee, sheetBound}
 
 -- ---- the columns
@@ -31,10 +30,6 @@ module _ (job : Job) (e : ℤ) (ss : List ℤ) (fs ls rs ps : List ℕ) (h : Hol
   own q l =
       let z = sym (h .part q l) in
       λ i. leastOf (pos (z i .life)) (h .ends i) (lastChange (z i)) (offers (h .places i) (z i .prices) p)
-
-  -- past the last part a lane's number is that of the first
-  past : (l : List ℕ) (q : ℕ) → 0 < length l → length l ≤ q → laneValue l q ≡ laneValue l 0
-  past l q g k = List·getD-eq-default l (getD l 0 0) {n = q} k ∙ there l 0 0 (getD l 0 0) g
 
   idle : (q : ℕ) → length ls ≤ q → columnBound (sheetOf e ss fs ls rs ps) (columnOf (lanePart (length ss) ls rs ps q)) p ≡ unpaid begin
   unfolding columnBound

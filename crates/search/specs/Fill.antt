@@ -1,4 +1,4 @@
--- Filling the tables: lane by lane, then the fees, the number of openings, the cuts and, part by part, the terms. What is not named stays as it was.
+-- Filling the tables: lane by lane, then the fees, the number of openings and, part by part, the terms. What is not named stays as it was.
 use Prim.Native.Nat.{ℕ, _+_, _-_, _*_, _<_, _≤_, min, max}
 use mathlib.Core.Path.{_≡_}
 use mathlib.Core.Bool.{cond}
@@ -10,7 +10,7 @@ use Rattle.model.specs.Model.{within}
 use Rattle.least.specs.Marks.{markOf, Bits31}
 use Rattle.least.specs.Suffix.{cell, codeOf, Room}
 use Rattle.search.specs.Arrays.{lanePart, columnOf}
-use Rattle.lane_rows.specs.Layout.{laneCount, markCount, top, inf, blockSize, laneRows, tablesSize, rowPlace, place, termBase, termPlace}
+use Rattle.lane_rows.specs.Layout.{laneCount, top, inf, laneRows, tablesSize, rowPlace, place, termBase, termPlace}
 use Rattle.lane_rows.specs.Sheet.{Column, Sheet}
 use Rattle.lane_rows.specs.Tables.{Coded, Lane, feeFrom}
 
@@ -54,19 +54,6 @@ pub record LaneFilled (end : ℤ) (ss : List ℤ) (col : Column) (t t' : List �
 pub record Lanes (e : ℤ) (ss : List ℤ) (ls rs ps t : List ℕ) (q : ℕ) : Type 0 where
   pub size : length t ≡ tablesSize
   pub right : (r : ℕ) → r < q → Lane e ss (columnOf (lanePart (length ss) ls rs ps r)) t r
-
--- v marks add nothing to the first `lanes` lanes at opening j, in the table from `base` on
-pub record DeadBelow (lanes : ℕ) (t : List ℕ) (base j v : ℕ) : Type 0 where
-  pub most : v ≤ j
-  pub dead : (i : ℕ) → i < v → (q : ℕ) → q < lanes → getD t (place base j i q) 0 ≡ inf
-
--- what writing the first m cuts from `off` on asks: they stand above the block from `base` on
-pub record CutsAsk (lanes base off m : ℕ) (t : List ℕ) : Type 0 where
-  pub narrow : lanes ≤ laneCount
-  pub size : length t ≡ tablesSize
-  pub few : m ≤ markCount
-  pub above : base + blockSize ≤ off
-  pub room : off + m ≤ tablesSize
 
 -- each term is now the larger of what it was and a part's, and nothing before the terms moved
 pub record Raised (sheet : Sheet) (col : Column) (t t' : List ℕ) : Type 0 where

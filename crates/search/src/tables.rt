@@ -1,30 +1,27 @@
 // Filling the tables of the walk, one lane after the other.
 ghost use mathlib.Core.Path.{_≡_};
-ghost use mathlib.Core.Bool.{true};
 ghost use Prim.Native.Nat.{ℕ, _+_, _*_, _<_, _≤_, min};
 ghost use lib.ListN.{length, getD, set};
 ghost use lib.IntN.{pos};
 ghost use Rattle.least.specs.Marks.{Bits31, markOf};
-ghost use Rattle.least.specs.Filled.{Filled, FilledBy};
-ghost use Rattle.lane_rows.specs.Layout.{laneCount, markCount, inf, blockRows, blockSize, suffixBase, reachBase, place, rowPlace, priceRow, feePlace, cutPlace, tablesSize};
+ghost use Rattle.least.specs.Filled.{FilledBy};
+ghost use Rattle.least.specs.Suffix.{tableSize};
+ghost use Rattle.lane_rows.specs.Layout.{laneCount, markCount, inf, suffixBase, reachBase, place, pricePlace, feePlace, tablesSize};
 ghost use Rattle.lane_rows.specs.Tables.{Tables};
 ghost use Rattle.search.specs.Arrays.{laneValue, lanePart, foursOf, columnOf, sheetOf, Lived, Lifespans, Ready};
-ghost use Rattle.search.specs.Fill.{Triangle, ownOf, reachOf, column, InLane, LaneAsks, LaneFilled, Lanes, DeadBelow, CutsAsk};
+ghost use Rattle.search.specs.Fill.{Triangle, ownOf, reachOf, column, InLane, LaneAsks, LaneFilled, Lanes};
 use crate::terms::put_terms;
 use lane_rows::COUNT;
 use lane_rows::FEES;
 use lane_rows::FOURS;
 use lane_rows::INF;
 use lane_rows::LANES;
-use lane_rows::REACH_CUTS;
+use lane_rows::PRICES;
 use lane_rows::REACHES;
-use lane_rows::SUFFIX_CUTS;
 use lane_rows::SUFFIXES;
+use lane_rows::row_of;
 use least::MARKS;
 ghost use Rattle.model.specs.Limits.{longestLife, mostOpenings};
-
-// The row where the prices start.
-const PRICE_ROW: usize = 8450;
 
 // The prices of part q stand from q * 64 on.
 pub const STRIDE: usize = 64;
@@ -89,17 +86,18 @@ fn reach(life: i32, first: i32, positions: &[i32], j: usize, i: usize) -> u32
 
 // One lane of the suffix prices from opening j on, from a part's own table.
 fn put_suffix(tab: &[u64], j: usize, q: usize, t: &mut [u32])
-    requires { ⌜ (j < markCount) × (blockRows ≤ length (now tab)) × (InLane q (now t)) ⌝ }
+    requires { ⌜ (j < markCount) × (tableSize ≤ length (now tab)) × (InLane q (now t)) ⌝ }
     ensures { λ _. ⌜ FilledBy (λ (i : ℕ). place suffixBase j i q) (λ (i : ℕ). ownOf (now (tab .entry)) j i) (j + 1) (now (t .entry)) (now (t .exit)) ⌝ }
 {
+    let row = row_of(j);
     for i in 0..j + 1 {
-        t[SUFFIXES + (j * MARKS + i) * LANES + q] = capped(tab[j * MARKS + i]);
+        t[SUFFIXES + (row + i) * LANES + q] = capped(tab[j * MARKS + i]);
     }
 }
 
 // One lane of the suffix prices from each of the first m openings on.
 fn put_suffixes(tab: &[u64], m: usize, q: usize, t: &mut [u32])
-    requires { ⌜ (m ≤ markCount) × (blockRows ≤ length (now tab)) × (InLane q (now t)) ⌝ }
+    requires { ⌜ (m ≤ markCount) × (tableSize ≤ length (now tab)) × (InLane q (now t)) ⌝ }
     ensures { λ _. ⌜ Triangle (λ (j i : ℕ). place suffixBase j i q) (ownOf (now (tab .entry))) m (now (t .entry)) (now (t .exit)) ⌝ }
 {
     for j in 0..m {
@@ -112,8 +110,9 @@ fn put_reach(life: i32, first: i32, positions: &[i32], j: usize, q: usize, t: &m
     requires { ⌜ (j < length (now positions)) × (length (now positions) ≤ mostOpenings) × ((k : ℕ) → Bits31 (markOf first (now positions) k)) × (InLane q (now t)) ⌝ }
     ensures { λ _. ⌜ FilledBy (λ (i : ℕ). place reachBase j i q) (λ (i : ℕ). reachOf life first (now (positions .entry)) j i) (j + 1) (now (t .entry)) (now (t .exit)) ⌝ }
 {
+    let row = row_of(j);
     for i in 0..j + 1 {
-        t[REACHES + (j * MARKS + i) * LANES + q] = reach(life, first, positions, j, i);
+        t[REACHES + (row + i) * LANES + q] = reach(life, first, positions, j, i);
     }
 }
 
@@ -132,11 +131,11 @@ fn put_reaches(life: i32, first: i32, positions: &[i32], q: usize, t: &mut [u32]
 // One lane of the prices.
 fn put_prices(prices: &[u32], q: usize, t: &mut [u32])
     requires { ⌜ (length (now prices) ≤ mostOpenings) × (InLane q (now t)) ⌝ }
-    ensures { λ _. ⌜ FilledBy (λ (j : ℕ). rowPlace (priceRow + j) q) (λ (j : ℕ). getD (now (prices .entry)) j 0) (length (now (prices .entry))) (now (t .entry)) (now (t .exit)) ⌝ }
+    ensures { λ _. ⌜ FilledBy (λ (j : ℕ). pricePlace j q) (λ (j : ℕ). getD (now (prices .entry)) j 0) (length (now (prices .entry))) (now (t .entry)) (now (t .exit)) ⌝ }
 {
     let mut j = 0;
     while j < prices.len() {
-        t[(PRICE_ROW + j) * LANES + q] = prices[j];
+        t[PRICES + j * LANES + q] = prices[j];
         j += 1;
     }
 }
@@ -234,50 +233,6 @@ fn put_number(at: usize, n: u32, t: &mut [u32])
     t[at] = n;
 }
 
-// The first `lanes` lanes of a row are Missing.
-fn dead(lanes: usize, row: &[u32]) -> bool
-    requires { ⌜ (lanes ≤ laneCount) × (laneCount ≤ length (now row)) ⌝ }
-    ensures { λ r. ⌜ (r ≡ true → (q : ℕ) → q < lanes → getD (now (row .entry)) q 0 ≡ inf) ⌝ }
-{
-    let mut q = 0;
-    while q < lanes {
-        if row[q] != INF {
-            return false;
-        }
-        q += 1;
-    }
-    true
-}
-
-// How many marks add nothing at opening j.
-fn first_live(lanes: usize, t: &[u32], base: usize, j: usize) -> u32
-    requires { ⌜ (lanes ≤ laneCount) × (base + blockSize ≤ length (now t)) × (j ≤ mostOpenings) ⌝ }
-    ensures { λ r. ⌜ DeadBelow lanes (now (t .entry)) base j r ⌝ }
-{
-    let mut i = 0;
-    while i < j {
-        let at = base + (j * MARKS + i) * LANES;
-        if !dead(lanes, &t[at..at + LANES]) {
-            return i as u32;
-        }
-        i += 1;
-    }
-    i as u32
-}
-
-// The cuts of the first m openings, from `off` on.
-fn put_cuts(lanes: usize, base: usize, off: usize, m: usize, t: &mut [u32])
-    requires { ⌜ CutsAsk lanes base off m (now t) ⌝ }
-    ensures { λ _. ⌜ Filled (cutPlace off) (DeadBelow lanes (now (t .entry)) base) m (now (t .entry)) (now (t .exit)) ⌝ }
-{
-    let mut j = 0;
-    while j < m {
-        let v = first_live(lanes, t, base, j);
-        t[off + j] = v;
-        j += 1;
-    }
-}
-
 // As many fours of lanes as the parts fill.
 fn fours_of(parts: usize) -> usize
     requires { ⌜ parts ≤ laneCount ⌝ }
@@ -305,8 +260,6 @@ pub fn fill(
     fill_lanes(lanes, end, positions, fees, lives, lefts, prices, tab, t);
     put_fees(fees, t);
     put_number(COUNT, fees.len() as u32, t);
-    put_cuts(lanes, SUFFIXES, SUFFIX_CUTS, positions.len() + 1, t);
-    put_cuts(lanes, REACHES, REACH_CUTS, positions.len(), t);
     put_number(FOURS, fours as u32, t);
     put_terms(end, positions, fees, lives, lefts, prices, tab, t);
 }

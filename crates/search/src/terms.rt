@@ -3,12 +3,14 @@ ghost use mathlib.Core.Path.{_≡_};
 ghost use Prim.Native.Nat.{ℕ, _+_, _<_, _≤_, max};
 ghost use lib.ListN.{length, getD};
 ghost use Rattle.least.specs.Filled.{FilledBy};
+ghost use Rattle.least.specs.Suffix.{tableSize};
 ghost use Rattle.lane_rows.specs.Layout.{markCount, blockRows, termBase, termPlace, tablesSize};
 ghost use Rattle.search.specs.Arrays.{lanePart, columnOf, sheetOf, Ready};
 ghost use Rattle.search.specs.Fill.{Triangle, ownOf, Raised, Terms};
 use crate::tables::capped;
 use crate::tables::lane_life;
 use lane_rows::TERMS;
+use lane_rows::row_of;
 use least::MARKS;
 
 // The larger of two numbers.
@@ -30,18 +32,19 @@ fn clear(m: usize, t: &mut [u32])
 
 // The terms where j openings are decided are raised to those of a part's own table.
 fn raise(tab: &[u64], j: usize, t: &mut [u32])
-    requires { ⌜ (j < markCount) × (blockRows ≤ length (now tab)) × (length (now t) ≡ tablesSize) ⌝ }
+    requires { ⌜ (j < markCount) × (tableSize ≤ length (now tab)) × (length (now t) ≡ tablesSize) ⌝ }
     ensures { λ _. ⌜ FilledBy (termPlace j) (λ (i : ℕ). max (getD (now (t .entry)) (termPlace j i) 0) (ownOf (now (tab .entry)) j i)) (j + 1) (now (t .entry)) (now (t .exit)) ⌝ }
 {
+    let row = row_of(j);
     for i in 0..j + 1 {
-        let at = j * MARKS + i;
-        t[TERMS + at] = larger(t[TERMS + at], capped(tab[at]));
+        let at = TERMS + (row + i);
+        t[at] = larger(t[at], capped(tab[j * MARKS + i]));
     }
 }
 
 // The terms of the first m rows are raised to those of a part's own table.
 fn raise_rows(tab: &[u64], m: usize, t: &mut [u32])
-    requires { ⌜ (m ≤ markCount) × (blockRows ≤ length (now tab)) × (length (now t) ≡ tablesSize) ⌝ }
+    requires { ⌜ (m ≤ markCount) × (tableSize ≤ length (now tab)) × (length (now t) ≡ tablesSize) ⌝ }
     ensures { λ _. ⌜ Triangle termPlace (λ (j i : ℕ). max (getD (now (t .entry)) (termPlace j i) 0) (ownOf (now (tab .entry)) j i)) m (now (t .entry)) (now (t .exit)) ⌝ }
 {
     for j in 0..m {
@@ -86,7 +89,7 @@ pub fn put_terms(
     requires { ⌜ (Ready end (now positions) (now fees) (now lives) (now lefts) (now prices) (now tab)) × (length (now t) ≡ tablesSize) ⌝ }
     ensures { λ _. ⌜ Terms (sheetOf end (now (positions .entry)) (now (fees .entry)) (now (lives .entry)) (now (lefts .entry)) (now (prices .entry))) (now (t .entry)) (now (t .exit)) (length (now (lives .entry))) ⌝ }
 {
-    clear((positions.len() + 1) * MARKS, t);
+    clear(row_of(positions.len() + 1), t);
     let mut q = 0;
     while q < lives.len() {
         raise_part(end, positions, fees, lives, lefts, prices, q, tab, t);

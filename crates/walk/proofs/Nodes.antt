@@ -6,7 +6,7 @@ use mathlib.Core.List.{List, [], _∷_}
 use native.Mathlib.Omega.{arith}
 use native.Mathlib.Numerals.{add-one}
 use native.Mathlib.Nat.{add-zero, two-pow-succ, pow-le-pow-right}
-use borrow.Author.Tests.{ltb-true, ltb-false, lt-ltb, le-ltb, leb-true, leb-false}
+use borrow.Author.Tests.{ltb-false, lt-ltb, le-ltb, leb-true, leb-false}
 use lib.Dec.{ltb, leb}
 use lib.IntN.{ℤ}
 use lib.ListN.{length, getD, drop, length-append}
@@ -15,7 +15,7 @@ use Rattle.branch.specs.declared.Bound.the-variants.{Missing, Sum}
 use Rattle.branch.specs.Lower.{add, total}
 use Rattle.branch.specs.Search.{none, plan, below, snoc, Limited, kept, counted, stopped}
 use Rattle.branch.specs.Label.{limitedFrom, openFrom}
-use Rattle.branch.proofs.Bounds.{no-sum}
+use Rattle.branch.proofs.Bounds.{no-sum, sum-inj}
 use Rattle.branch.proofs.Steps.{fixed-stop, fixed-drop, fixed-open, open-full, open-both}
 use Rattle.model.specs.Model.{sumAt}
 use Rattle.model.specs.LowerBound.{Offer, leastOf, offers}
@@ -23,13 +23,14 @@ use Rattle.model.specs.LastYes.{lastYes}
 use Rattle.model.proofs.LastYes.{last-no, last-yes}
 use Rattle.walk.specs.declared.Search.{Search}
 use Rattle.walk.specs.declared.Node.{Node}
-use Rattle.lane_rows.specs.Layout.{top, inf, suffixBase, reachBase, pricePlace, markPlace, feePlace, suffixCuts, reachCuts, cutPlace, lanesIn, termPlace}
+use Rattle.lane_rows.specs.Layout.{laneCount, top, inf, suffixBase, reachBase, pricePlace, markPlace, feePlace, lanesIn, termPlace}
 use Rattle.lane_rows.specs.Sheet.{Column, Sheet, columnBound, partSums, feeTerm, sheetBound}
-use Rattle.lane_rows.specs.Tables.{valueOf, Tables}
-use Rattle.lane_rows.specs.Rows.{lane, sumLanes, Rows, Stack, Put, Kept, nextRow, Owing, Settled}
+use Rattle.lane_rows.specs.Tables.{sumWhere, Tables}
+use Rattle.lane_rows.specs.Rows.{lane, sumLanes, FirstRow, Rows, Stack, Memo, Looks, Recalled, termAt, sumsAt, Put, Kept, nextRow, Owing, Settled}
 use Rattle.walk.specs.State.{bits, decided, incumbent, view, viewed, noCost, countedS, keptS, reachedS, undropped, openS, noN, yesN, Pending, ready, owed, At}
-use Rattle.lane_rows.proofs.Terms.{node-term}
-use Rattle.lane_rows.proofs.Lanes.{node-sum, node-rises, rows-no, rows-yes, rows-kept, kept-refl, stack-no, stack-yes}
+use Rattle.lane_rows.proofs.Terms.{last-most, first-by, below-by, own-by, node-term, sums-by}
+use Rattle.lane_rows.proofs.Lanes.{lane-most, sum-most, node-there, node-rises, rows-no, rows-yes, rows-kept, rows-root, first-sums, kept-refl, stack-no, stack-yes}
+use Rattle.lane_rows.proofs.Memory.{memo-root}
 
 -- ---- decisions in a number
 
@@ -92,12 +93,17 @@ yes-sums : (sheet : Sheet) (p : List Bool) → partSums sheet p ≡ partSums she
 unfolding columnBound
 yes-sums sheet p = total-same (columnBound sheet) (sheet .columns) p (snoc p true) (λ col. ap (leastOf (col .life) (sheet .end) (col .first)) (offers-yes (sheet .positions) (col .prices) p))
 
-pub value-sum : (s x : ℕ) → valueOf s ≡ Sum x → (s ≡ x) × (x < inf)
-value-sum s x e = go (ltb s inf) refl e
+-- the sum where a number is a price
+where-sum : (n s x : ℕ) → sumWhere n s ≡ Sum x → s ≡ x
+where-sum n s x e = go (ltb n inf) e
   where
-    go : (t : Bool) → ltb s inf ≡ t → cond t (Sum s) Missing ≡ Sum x → (s ≡ x) × (x < inf)
-    go true f g = let z : s ≡ x = cc in (z, omega (arith, ltb-true s inf f))
-    go false f g = absurd (no-sum Missing x refl g)
+    go : (t : Bool) → cond t (Sum s) Missing ≡ Sum x → s ≡ x
+    go true g = sum-inj (Sum s) s x refl g
+    go false g = absurd (no-sum Missing x refl g)
+
+-- no sum of lanes is above sixteen times the number for Missing
+pub sums-low : (t w : List ℕ) (j n y : ℕ) → lanesIn t ≤ laneCount → sumLanes (lanesIn t) (λ (q : ℕ). lane t w suffixBase j q n) ≡ y → y ≤ laneCount * inf
+sums-low t w j n y h e = omega (arith, e, sum-most (λ (q : ℕ). lane t w suffixBase j q n) inf 0 (lanesIn t) (λ q. lane-most t w suffixBase j q n))
 
 -- ---- a node
 
@@ -117,9 +123,11 @@ module _ (sheet : Sheet) (t w : List ℕ) (p : Node) (stop : Bool) (e : Bound) (
   termed : (m x : ℕ) → lastYes (decided p) ≡ m → e ≡ Sum x → (feeTerm sheet (decided p) ≡ Sum (getD t (termPlace (p .at) m) 0)) × (getD t (termPlace (p .at) m) 0 ≤ top * (length (sheet .positions) - p .at))
   termed m x f g =
       let z = bits-length (p .at) (p .mask) in
+      let l : length (decided p) ≤ length (sheet .positions) = omega (arith, z, a .inside) in
+      let there : partSums sheet (decided p) ≡ Sum x = sym (a .sums) ∙ g in
       subst (λ (i : ℕ). (feeTerm sheet (decided p) ≡ Sum (getD t (termPlace (p .at) i) 0)) × (getD t (termPlace (p .at) i) 0 ≤ top * (length (sheet .positions) - p .at))) f
       (subst (λ (j : ℕ). (feeTerm sheet (decided p) ≡ Sum (getD t (termPlace j (lastYes (decided p))) 0)) × (getD t (termPlace j (lastYes (decided p))) 0 ≤ top * (length (sheet .positions) - j))) z
-      (node-term sheet (decided p) (omega (arith, z, a .inside)) t (a .tables) x (sym (a .sums) ∙ g)))
+      (node-term sheet t (a .tables) (decided p) (lastYes (decided p)) l (last-most (decided p)) (own-by sheet t (a .tables) (decided p) x l there) x there))
 
   -- a full node has no term
   pub bound-full : (x : ℕ) → e ≡ Sum x → p .at ≡ length (sheet .positions) → sheetBound sheet (decided p) ≡ Sum (p .spent + x)
@@ -136,14 +144,6 @@ module _ (sheet : Sheet) (t w : List ℕ) (p : Node) (stop : Bool) (e : Bound) (
         fits = λ x g. omega (arith, termed m x f g .1, a .low x g, a .poor, a .inside, a .tables .few);
       }
 
-  -- its first life's row is there
-  pub some-rows : 0 < p .rows
-  some-rows = go stop (a .rows)
-    where
-      go : (b : Bool) → Pending sheet w (decided p) (p .rows) b → 0 < p .rows
-      go false (ready r) = r .some
-      go true (owed q f r) = r .some
-
   pub owing : stop ≡ true → (0 < p .at) × Owing (lanesIn t) t w (p .at - 1) (p .rows)
   owing s = go stop (a .rows) s
     where
@@ -156,7 +156,7 @@ module _ (sheet : Sheet) (t w : List ℕ) (p : Node) (stop : Bool) (e : Bound) (
           let ta = a .tables in (
             omega arith,
             record {
-              stack = subst (λ (j : ℕ). Stack (lanesIn t) t w reachBase (getD t (cutPlace reachCuts j) 0) j (p .rows)) z (stack-yes sheet t w q (p .rows) ta r h);
+              stack = subst (λ (j : ℕ). Stack (lanesIn t) t w reachBase j (p .rows)) z (stack-yes sheet t w q (p .rows) ta r h);
               size = ta .size;
               near = omega (arith, ta .few, a .inside);
               few = omega (arith, r .few, ta .few, a .inside);
@@ -165,15 +165,16 @@ module _ (sheet : Sheet) (t w : List ℕ) (p : Node) (stop : Bool) (e : Bound) (
           )
 
   -- the node's rows after it is settled
-  pub settled : (w' : List ℕ) (r : ℕ) → Settled t w w' (p .at) (p .rows) r stop → Rows sheet w' (decided p) r × Kept w w' (p .rows) × (p .rows ≤ r)
+  pub settled : (w' : List ℕ) (r : ℕ) → Settled t w w' (p .at) (p .rows) r stop → Rows sheet w' (decided p) r × Kept w w' (p .rows) × (p .rows ≤ r) × Memo t w' r
   settled w' r s = go stop (a .rows) s
     where
-      go : (b : Bool) → Pending sheet w (decided p) (p .rows) b → Settled t w w' (p .at) (p .rows) r b → Rows sheet w' (decided p) r × Kept w w' (p .rows) × (p .rows ≤ r)
+      go : (b : Bool) → Pending sheet w (decided p) (p .rows) b → Settled t w w' (p .at) (p .rows) r b → Rows sheet w' (decided p) r × Kept w w' (p .rows) × (p .rows ≤ r) × Memo t w' r
       go false (ready ro) s =
           let f = s .no refl in (
             subst (λ (l : List ℕ). Rows sheet l (decided p) r) (sym (f .1)) (subst (Rows sheet w (decided p)) (sym (f .0)) ro),
             subst (λ (l : List ℕ). Kept w l (p .rows)) (sym (f .1)) (kept-refl w (p .rows)),
             omega (arith, f .0),
+            s .memo (a .memo),
           )
       go true (owed q f ro) s =
           let g = s .yes refl in
@@ -183,6 +184,7 @@ module _ (sheet : Sheet) (t w : List ℕ) (p : Node) (stop : Bool) (e : Bound) (
             subst (λ (d : List Bool). Rows sheet w' d r) (sym f) (subst (Rows sheet w' (snoc q true)) (sym (g .0)) (rows-yes sheet t w q (p .rows) (a .tables) ro (omega (arith, a .inside)) w' u)),
             u .kept,
             omega (arith, g .0),
+            s .memo (a .memo),
           )
 
 -- ---- the two children. ro: the node's rows as they stand after it is settled
@@ -194,17 +196,18 @@ module _ (sheet : Sheet) (t w w' : List ℕ) (p : Node) (stop : Bool) (e : Bound
   less : length (decided p) < length (sheet .positions)
   less = omega (arith, size)
 
+  there : partSums sheet (decided p) ≡ Sum x
+  there = sym (a .sums) ∙ f
+
   abbrev lanes : ℕ → ℕ → ℕ
   lanes j q = lane t w' suffixBase j q r
 
-  pub sums-asks : Stack (lanesIn t) t w' suffixBase (getD t (cutPlace suffixCuts (p .at + 1)) 0) (p .at + 1) r × ((x ≤ sumLanes (lanesIn t) (λ (q : ℕ). lane t w' suffixBase (p .at + 1) q r)) × (x < inf))
-  sums-asks =
-      let s = node-sum sheet t w' (decided p) r (a .tables) ro (omega (arith, less)) ∙ sym (a .sums) ∙ f in
-      let y = value-sum (sumLanes (lanesIn t) (λ (q : ℕ). lanes (length (decided p)) q)) x s in
-      let z : suffixCuts + (length (decided p) + 1) ≡ suffixCuts + (p .at + 1) = omega (arith, size) in (
-        subst (λ (n : ℕ). Stack (lanesIn t) t w' suffixBase (getD t (cutPlace suffixCuts (p .at + 1)) 0) (n + 1) r) size
-            (subst (λ (n : ℕ). Stack (lanesIn t) t w' suffixBase (getD t n 0) (length (decided p) + 1) r) z (stack-no sheet t w' (decided p) r (a .tables) ro less)),
-        (subst (λ (n : ℕ). x ≤ sumLanes (lanesIn t) (λ (q : ℕ). lane t w' suffixBase (n + 1) q r)) size (omega (arith, y .0, node-rises sheet t w' (decided p) r (a .tables) ro (omega (arith, less)) less)), y .1),
+  -- what a look at the no asks: its part sums are at least x
+  pub sums-asks : Memo t w' r → Looks t w' r (p .at + 1) × (x ≤ sumLanes (lanesIn t) (λ (q : ℕ). lane t w' suffixBase (p .at + 1) q r))
+  sums-asks me =
+      let y = node-there sheet t w' (decided p) r (a .tables) ro (omega (arith, less)) x there in (
+        record { memo = me; stack = subst (λ (n : ℕ). Stack (lanesIn t) t w' suffixBase (n + 1) r) size (stack-no sheet t w' (decided p) r (a .tables) ro less); size = a .tables .size; some = ro .some },
+        subst (λ (n : ℕ). x ≤ sumLanes (lanesIn t) (λ (q : ℕ). lane t w' suffixBase (n + 1) q r)) size (omega (arith, y, node-rises sheet t w' (decided p) r (a .tables) ro (omega (arith, less)) less)),
       )
 
   -- the last yes of each
@@ -214,11 +217,19 @@ module _ (sheet : Sheet) (t w w' : List ℕ) (p : Node) (stop : Bool) (e : Bound
   pub last-yes-is : (fee : ℕ) → lastYes (decided (yesN p r fee)) ≡ p .at + 1
   last-yes-is fee = ap lastYes (bits-yes (p .at) (p .mask)) ∙ last-yes (decided p) ∙ omega (arith, size)
 
-  pub at-no : (b : Bound) → b ≡ valueOf (sumLanes (lanesIn t) (λ (q : ℕ). lane t w' suffixBase (p .at + 1) q r)) → At sheet t w' (noN p r) false b
-  at-no b g =
+  -- the no's part sums, by its term
+  no-sums : sumsAt t w' (p .at + 1) r ≡ partSums sheet (snoc (decided p) false)
+  no-sums =
+      let d = snoc (decided p) false in
+      let n : p .at + 1 ≡ length d = sym (ap length (sym (bits-no (p .at) (p .mask))) ∙ bits-length (p .at + 1) (p .mask * 2)) in
+      let m = lastYes (decided p) in
+      (λ i. sumWhere (getD t (termPlace (n i) (ro .last i)) 0) (sumLanes (lanesIn t) (λ (q : ℕ). lane t w' suffixBase (n i) q r)))
+      ∙ sums-by sheet t (a .tables) d m (omega (arith, n)) (omega (arith, n, size, last-most (decided p))) (below-by sheet t (a .tables) (decided p) x less there) w' r (rows-no sheet t w' (decided p) r (a .tables) ro less)
+
+  pub at-no : (w'' : List ℕ) (b : Bound) → Recalled t w' w'' r → b ≡ sumsAt t w' (p .at + 1) r → At sheet t w'' (noN p r) false b
+  at-no w'' b k g =
       let d = bits-no (p .at) (p .mask) in
-      let rn = rows-no sheet t w' (decided p) r (a .tables) ro less in
-      let n : length (snoc (decided p) false) ≡ p .at + 1 = ap length (sym d) ∙ bits-length (p .at + 1) (p .mask * 2) in
+      let rn = rows-kept sheet w' w'' (snoc (decided p) false) r (rows-no sheet t w' (decided p) r (a .tables) ro less) (k .kept) in
       let fee : length (sheet .fees) ≡ length (sheet .positions) = a .tables .paid in
       record {
         tables = a .tables;
@@ -226,12 +237,16 @@ module _ (sheet : Sheet) (t w w' : List ℕ) (p : Node) (stop : Bool) (e : Bound
         mask = omega (arith, mask-next (p .at) (p .mask) (a .mask));
         spent = a .spent ∙ sym (ap (sumAt (sheet .fees)) d ∙ fees-snoc (sheet .fees) (decided p) false (omega (arith, less)) ∙ add-zero (sumAt (sheet .fees) (decided p)));
         poor = omega (arith, a .poor);
-        sums = g ∙ ap (λ (j : ℕ). valueOf (sumLanes (lanesIn t) (λ (q : ℕ). lane t w' suffixBase j q r))) (sym n) ∙ node-sum sheet t w' (snoc (decided p) false) r (a .tables) rn (omega (arith, n)) ∙ ap (partSums sheet) (sym d);
-        low = λ y k. value-sum (sumLanes (lanesIn t) (λ (q : ℕ). lane t w' suffixBase (p .at + 1) q r)) y (sym g ∙ k) .1;
-        rows = ready (subst (λ (l : List Bool). Rows sheet w' l r) (sym d) rn);
+        sums = g ∙ no-sums ∙ ap (partSums sheet) (sym d);
+        low = λ y u.
+            let s = sumLanes (lanesIn t) (λ (q : ℕ). lane t w' suffixBase (p .at + 1) q r) in
+            let z = where-sum (termAt t w' (p .at + 1) r) s y (sym g ∙ u) in
+            sums-low t w' (p .at + 1) r y (a .tables .narrow) z;
+        memo = k .memo;
+        rows = ready (subst (λ (l : List Bool). Rows sheet w'' l r) (sym d) rn);
       }
 
-  pub at-yes : (w'' : List ℕ) (fee : ℕ) → Kept w' w'' r → fee ≡ getD t (feePlace (p .at)) 0 → At sheet t w'' (yesN p r fee) true (Sum x)
+  pub at-yes : (w'' : List ℕ) (fee : ℕ) → Recalled t w' w'' r → fee ≡ getD t (feePlace (p .at)) 0 → At sheet t w'' (yesN p r fee) true (Sum x)
   at-yes w'' fee k g =
       let d = bits-yes (p .at) (p .mask) in
       let paid : length (sheet .fees) ≡ length (sheet .positions) = a .tables .paid in
@@ -244,7 +259,8 @@ module _ (sheet : Sheet) (t w w' : List ℕ) (p : Node) (stop : Bool) (e : Bound
         poor = omega (arith, a .poor, cost, a .tables .fair (length (decided p)));
         sums = sym f ∙ a .sums ∙ yes-sums sheet (decided p) ∙ ap (partSums sheet) (sym d);
         low = λ y q. a .low y (f ∙ q);
-        rows = owed (decided p) d (rows-kept sheet w' w'' (decided p) r ro k);
+        memo = k .memo;
+        rows = owed (decided p) d (rows-kept sheet w' w'' (decided p) r ro (k .kept));
       }
 
 -- they make its bound
@@ -355,18 +371,21 @@ module _ (sheet : Sheet) (p : Node) (e : Bound) (due : ℕ) (d : Due sheet p e d
 
 -- ---- the first node
 
-module _ (sheet : Sheet) (t w : List ℕ) (ta : Tables sheet t) (ro : Rows sheet w [] 1) where
-  pub root-given : (b : Bound) → b ≡ valueOf (sumLanes (lanesIn t) (λ (q : ℕ). lane t w suffixBase 0 q 1)) → At sheet t w (record { at = 0; rows = 1; spent = 0; mask = 0 }) false b
+module _ (sheet : Sheet) (t w : List ℕ) (ta : Tables sheet t) (fr : FirstRow w) where
+  pub root-given : (b : Bound) → b ≡ sumWhere (getD t (termPlace 0 0) 0) (sumLanes (lanesIn t) (λ (q : ℕ). getD t q 0)) → At sheet t w (record { at = 0; rows = 1; spent = 0; mask = 0 }) false b
   unfolding bits
   root-given b g =
+      let ro = rows-root sheet w (omega (arith, ta .wide, ta .narrow)) fr in
+      let s = first-sums sheet t ta w fr in
       record {
         tables = ta;
         inside = omega arith;
         mask = omega arith;
         spent = sym (fees-free (sheet .fees));
         poor = omega arith;
-        sums = g ∙ node-sum sheet t w [] 1 ta ro (omega arith);
-        low = λ y k. value-sum (sumLanes (lanesIn t) (λ (q : ℕ). lane t w suffixBase 0 q 1)) y (sym g ∙ k) .1;
+        sums = g ∙ ap (sumWhere (getD t (termPlace 0 0) 0)) s ∙ sums-by sheet t ta [] 0 (omega arith) (omega arith) (first-by sheet t ta) w 1 ro;
+        low = λ y k. sums-low t w 0 1 y (ta .narrow) (sym s ∙ where-sum (getD t (termPlace 0 0) 0) (sumLanes (lanesIn t) (λ (q : ℕ). getD t q 0)) y (sym g ∙ k));
+        memo = memo-root t w fr;
         rows = ready ro;
       }
     where

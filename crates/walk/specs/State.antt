@@ -13,10 +13,10 @@ use Rattle.model.specs.Model.{sumAt}
 use Rattle.walk.specs.declared.Search.{Search}
 use Rattle.walk.specs.declared.Node.{Node}
 use Rattle.walk.specs.declared.Solved.{Solved}
-use Rattle.lane_rows.specs.Layout.{top, inf}
+use Rattle.lane_rows.specs.Layout.{laneCount, top, inf}
 use Rattle.lane_rows.specs.Sheet.{Sheet, partSums, sheetBound}
 use Rattle.lane_rows.specs.Tables.{Tables}
-use Rattle.lane_rows.specs.Rows.{Rows}
+use Rattle.lane_rows.specs.Rows.{Rows, Memo}
 
 -- k decisions in a number, the latest in its lowest bit
 unfoldable pub bits : ℕ → ℕ → List Bool
@@ -77,7 +77,7 @@ pub data Pending (sheet : Sheet) (w : List ℕ) (q : List Bool) (n : ℕ) : Bool
   ready : Rows sheet w q n → Pending sheet w q n false
   owed : (q₀ : List Bool) → q ≡ snoc q₀ true → Rows sheet w q₀ n → Pending sheet w q n true
 
--- what the walk is given: the node p of the sheet, with its part sums e
+-- what the walk is given: the node p of the sheet, with its part sums e, and the memo of the rows that are there
 pub record At (sheet : Sheet) (t w : List ℕ) (p : Node) (stop : Bool) (e : Bound) : Type 0 where
   pub tables : Tables sheet t
   pub inside : p .at ≤ length (sheet .positions)
@@ -85,7 +85,8 @@ pub record At (sheet : Sheet) (t w : List ℕ) (p : Node) (stop : Bool) (e : Bou
   pub spent : p .spent ≡ sumAt (sheet .fees) (decided p)
   pub poor : p .spent ≤ top * p .at
   pub sums : e ≡ partSums sheet (decided p)
-  pub low : (x : ℕ) → e ≡ Sum x → x < inf
+  pub low : (x : ℕ) → e ≡ Sum x → x ≤ laneCount * inf
+  pub memo : Memo t w (p .rows)
   pub rows : Pending sheet w (decided p) (p .rows) stop
 
 -- the state at the end, with the floor

@@ -2,25 +2,24 @@
 ghost use mathlib.Core.Path.{_≡_};
 ghost use mathlib.Core.Bool.{true, false};
 ghost use Prim.Native.Nat.{ℕ, _+_, _-_, _*_, _^_, _<_, _≤_, min};
-ghost use lib.ListN.{length, getD};
+ghost use lib.ListN.{length};
 ghost use Rattle.branch.specs.Label.{openFrom};
 ghost use Rattle.branch.specs.Lower.{add};
 ghost use Rattle.branch.specs.declared.Bound.{Bound};
 ghost use Rattle.branch.specs.declared.Bound.the-variants.{Sum};
-ghost use Rattle.lane_rows.specs.Layout.{inf, suffixBase, suffixCuts, cutPlace, lanesIn, tablesSize};
+ghost use Rattle.lane_rows.specs.Layout.{laneCount, inf, suffixBase, lanesIn};
 ghost use Rattle.lane_rows.specs.Sheet.{Sheet, sheetBound};
-ghost use Rattle.lane_rows.specs.Tables.{valueOf, Tables};
-ghost use Rattle.lane_rows.specs.Rows.{lane, sumLanes, Stack, Kept};
+ghost use Rattle.lane_rows.specs.Tables.{Tables};
+ghost use Rattle.lane_rows.specs.Rows.{lane, sumLanes, Looks, Recalled, termAt, sumsAt};
 ghost use Rattle.walk.specs.State.{decided, view, viewed, countedS, keptS, overS, reachedS, openS, solvedS, noN, yesN, At, Solves};
 use branch::Bound;
 use lane_rows::COUNT;
 use lane_rows::FEES;
 use lane_rows::STACK;
-use lane_rows::SUFFIX_CUTS;
 use lane_rows::TABLES;
 use lane_rows::base_row;
 use lane_rows::cell;
-use lane_rows::first_sum;
+use lane_rows::first_sums;
 use lane_rows::lane_sum;
 use lane_rows::last_mark;
 use lane_rows::settle;
@@ -103,26 +102,28 @@ impl Search {
         Bound::Missing
     }
 
-    // The part sums of a node that is walked on, j openings decided, over the rows that are there; `spent` are its fees and its term. They are at least x, so before any row is summed the node is tested with x.
+    // The part sums of a node that is walked on, the no over the rows that are there; `spent` are its fees. They are Missing exactly where its term is, and else at least x: so before any row is summed the node is tested with x.
     pub fn open_rows(
         self,
-        t: &[u32],
-        w: &[u32],
+        t: &[u32; TABLES],
+        w: &mut [u32; STACK],
         limit: u64,
         spent: u64,
         j: usize,
         rows: usize,
         x: u64,
     ) -> Bound
-        requires { ⌜ (length (now t) ≡ tablesSize) × Stack (lanesIn (now t)) (now t) (now w) suffixBase (getD (now t) (cutPlace suffixCuts j) 0) j rows ⌝ }
-        requires { ⌜ (x ≤ sumLanes (lanesIn (now t)) (λ (q : ℕ). lane (now t) (now w) suffixBase j q rows)) × (x < inf) × (spent + inf < 2 ^ 64) ⌝ }
-        ensures { λ r. ⌜ r ≡ openS limit spent (valueOf (sumLanes (lanesIn (now (t .entry))) (λ (q : ℕ). lane (now (t .entry)) (now (w .entry)) suffixBase j q rows))) self ⌝ }
+        requires { ⌜ (Looks (now t) (now w) rows j) × (x ≤ sumLanes (lanesIn (now t)) (λ (q : ℕ). lane (now t) (now w) suffixBase j q rows)) × (spent + inf + laneCount * inf < 2 ^ 64) ⌝ }
+        ensures opens { λ r. ⌜ r ≡ openS limit (spent + termAt (now (t .entry)) (now (w .entry)) j rows) (sumsAt (now (t .entry)) (now (w .entry)) j rows) self ⌝ }
+        ensures frame { λ _. ⌜ Recalled (now (t .entry)) (now (w .entry)) (now (w .exit)) rows ⌝ }
     {
-        let Bound::Sum(y) = self.open(limit, spent, Bound::Sum(x)) else {
+        let Bound::Sum(g) = value(term(t, j, last_mark(w, rows))) else {
             return Bound::Missing;
         };
-        let lo = cell(t, SUFFIX_CUTS, j);
-        self.open(limit, spent, value(lane_sum(t, w, lo, j, rows, y)))
+        let Bound::Sum(_) = self.open(limit, spent + g, Bound::Sum(x)) else {
+            return Bound::Missing;
+        };
+        self.open(limit, spent + g, Bound::Sum(lane_sum(t, w, rows, j)))
     }
 }
 
@@ -175,15 +176,14 @@ pub fn walk(
     requires { ⌜ ((sheet : Sheet) × At sheet (now t) (now w) p stop (Sum x)) × (limit + 1 < 2 ^ 64) ⌝ }
     ensures walked { λ r. ⌜ ((sheet : Sheet) → At sheet (now (t .entry)) (now (w .entry)) p stop (Sum x) → view limit (length (sheet .positions)) r
         ≡ openFrom (sheetBound sheet) limit (length (sheet .positions) - p .at) (decided p) (view limit (length (sheet .positions)) s)) ⌝ }
-    ensures frame { λ r. ⌜ Kept (now (w .entry)) (now (w .exit)) (p .rows) ⌝ }
+    ensures frame { λ r. ⌜ Recalled (now (t .entry)) (now (w .entry)) (now (w .exit)) (p .rows) ⌝ }
 {
     if p.at == cell(t, COUNT, 0) {
         return s.kept(p.spent + x, p.mask);
     }
     let rows = settle(t, w, p.at, p.rows, stop);
     let j = p.at + 1;
-    let due = p.spent + term(t, j, last_mark(w, rows));
-    let a = match s.open_rows(t, w, limit, due, j, rows, x) {
+    let a = match s.open_rows(t, w, limit, p.spent, j, rows, x) {
         Bound::Sum(y) => walk(t, w, limit, p.no(rows), false, y, s.counted()),
         Bound::Missing => s.reached(limit),
     };
@@ -249,7 +249,7 @@ pub fn solve(t: &[u32; TABLES], w: &mut [u32; STACK], limit: u64) -> Solved
     ensures { λ r. ⌜ ((sheet : Sheet) → Tables sheet (now (t .entry)) → Solves sheet limit r) ⌝ }
 {
     base_row(w);
-    let sums = value(first_sum(t));
+    let sums = first_sums(t);
     let due = term(t, 0, 0);
     let floor = plus(due, sums);
     let begun = Search {

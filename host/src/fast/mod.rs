@@ -1,5 +1,5 @@
 //! The walk as fast as Rust makes it, to compare the library's speed with. It uses the library's algorithm: a table of least prices from
-//! each opening on, a stack of rows of least prices up to each stop, the parts side by side, the decisions as a mask.
+//! each opening on, a stack of rows of least prices up to each stop with a memo of their sums, the parts side by side, the decisions as a mask.
 //! Its reader trusts the text, and it shares no code with the reference.
 
 mod lanes;

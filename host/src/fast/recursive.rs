@@ -51,15 +51,16 @@ impl Form for Recursion {
 }
 
 impl<V: Lanes, const Q: usize> Tables<V, Q> {
-    /// The part sums of the no where it is walked on. No part costs less than at the node above, so it is tested with that one's sum before
-    /// any row is summed; and where the sums are the same, the parts are.
+    /// The part sums of the no where it is walked on. It is missing where its term is. Else no part costs less than at the node above, so it
+    /// is tested with that one's sum before any row is summed.
     #[inline(always)]
-    fn below(&self, front: &Front<V, Q>, limit: u64, rows: usize, at: usize, due: u64, sum: u32, state: Search) -> Option<u32> {
-        if !state.opens(limit, due + u64::from(sum)) {
+    fn below(&self, front: &mut Front<V, Q>, limit: u64, rows: usize, at: usize, spent: u64, sum: u32, state: Search) -> Option<u32> {
+        let term = self.term(front, rows, at);
+        if term >= u64::from(INF) || !state.opens(limit, spent + term + u64::from(sum)) {
             return None;
         }
-        let below = self.bound(front, rows, at, sum);
-        (below < INF && state.opens(limit, due + u64::from(below))).then_some(below)
+        let below = self.bound(front, rows, at);
+        state.opens(limit, spent + term + u64::from(below)).then_some(below)
     }
 
     /// Walks on from a node that is counted and not dropped. `stop`: its last decision is a yes, whose row is owed.
@@ -73,8 +74,7 @@ impl<V: Lanes, const Q: usize> Tables<V, Q> {
             rows += 1;
         }
         let no = Node { at: node.at + 1, rows, mask: node.mask * 2, ..node };
-        let due = no.spent + self.term(front, rows, no.at);
-        let state = match self.below(front, limit, rows, no.at, due, sum, state) {
+        let state = match self.below(front, limit, rows, no.at, no.spent, sum, state) {
             Some(below) => self.on(front, limit, no, false, below, state.counted()),
             None => state.reached(limit),
         };

@@ -21,9 +21,6 @@ pub struct Tables<V, const Q: usize> {
     ends: Vec<Row<V, Q>>,
     /// `reach[triangle(j) + mark]`: 0 where opening j is within the life after the mark, else INF.
     reach: Vec<Row<V, Q>>,
-    /// For each opening, the marks below this one are missing for every part, in `ends` and in `reach`.
-    ends_from: Vec<u32>,
-    reach_from: Vec<u32>,
     /// `terms[triangle(j) + mark]`: where j openings are decided and the mark is that of the last yes, the largest over the parts of the
     /// least fee of openings that keep the part; INF where one has none.
     terms: Vec<u32>,
@@ -33,12 +30,6 @@ pub struct Tables<V, const Q: usize> {
 #[inline(always)]
 fn triangle(j: usize) -> usize {
     j * (j + 1) / 2
-}
-
-/// The least mark of opening j that is not missing for some part.
-fn first_live(table: &[u32], lanes: usize, parts: usize, j: usize) -> u32 {
-    let live = |mark: &usize| table[(triangle(j) + mark) * lanes..][..parts].iter().any(|price| *price < INF);
-    (0..=j).find(live).unwrap_or(j) as u32
 }
 
 /// Raises the terms to those of a part.
@@ -67,7 +58,7 @@ impl<V: Lanes, const Q: usize> Tables<V, Q> {
 
     /// Fills the tables. Lanes without a part hold 0, so they add nothing.
     pub fn new(job: &Job) -> Tables<V, Q> {
-        let (count, parts, lanes) = (job.steps.len(), job.parts.len(), Self::LANES);
+        let (count, lanes) = (job.steps.len(), Self::LANES);
         let mut prices = vec![0; count * lanes];
         let mut ends = vec![0; triangle(count + 1) * lanes];
         let mut reach = vec![0; triangle(count) * lanes];
@@ -95,8 +86,6 @@ impl<V: Lanes, const Q: usize> Tables<V, Q> {
         Tables {
             count,
             fees: job.fees.iter().map(|fee| u64::from(*fee)).collect(),
-            ends_from: (0..=count).map(|j| first_live(&ends, lanes, parts, j)).collect(),
-            reach_from: (0..count).map(|j| first_live(&reach, lanes, parts, j)).collect(),
             terms,
             prices: Self::rows(&prices),
             ends: Self::rows(&ends),
@@ -132,6 +121,9 @@ pub fn total<V: Lanes, const Q: usize>(row: &Row<V, Q>) -> u32 {
 pub struct Front<V, const Q: usize> {
     rows: [Row<V, Q>; MAX_OPENINGS + 1],
     marks: [u32; MAX_OPENINGS + 1],
+    /// `memo[triangle(j + 1) + n]`: the least sums of the first n rows with `ends` at opening j, where `known[n][j]` says so. Of no rows it is missing.
+    memo: Vec<Row<V, Q>>,
+    known: [[bool; MAX_OPENINGS + 1]; MAX_OPENINGS + 2],
 }
 
 /// The state of a search.
@@ -155,34 +147,25 @@ struct Above {
 }
 
 impl<V: Lanes, const Q: usize> Tables<V, Q> {
-    /// The parts' least sums of the front's rows, the latest first, with the table's rows of their marks, down to mark `from`; `done` may end it.
+    /// The sum of the parts' least prices over the stops of the front and openings j and later: the memo learns what it lacks at j, one row
+    /// after the other, and the top row's sum is the answer.
     #[inline(always)]
-    fn over(front: &Front<V, Q>, rows: usize, from: u32, table: &[Row<V, Q>], done: impl Fn(&Row<V, Q>) -> bool) -> (Row<V, Q>, bool) {
-        let mut found = [V::splat(INF); Q];
-        for n in (0..rows).rev() {
-            let mark = front.marks[n];
-            if mark < from {
-                break;
-            }
-            take_least(&mut found, &front.rows[n], &table[mark as usize]);
-            if done(&found) {
-                return (found, true);
-            }
+    pub fn bound(&self, front: &mut Front<V, Q>, rows: usize, j: usize) -> u32 {
+        let mut n = rows - 1;
+        while n > 0 && !front.known[n][j] {
+            n -= 1;
         }
-        (found, false)
-    }
-
-    /// The sum of the parts' least prices over the stops of the front and openings j and later. None is less than at the node above, whose
-    /// sum is `sum`: where the sums are the same, the rows below need no look.
-    #[inline(always)]
-    pub fn bound(&self, front: &Front<V, Q>, rows: usize, j: usize, sum: u32) -> u32 {
-        let ends = &self.ends[triangle(j)..triangle(j + 1)];
-        let (found, reached) = Self::over(front, rows, self.ends_from[j], ends, |found| total(found) == sum);
-        if reached {
-            sum
-        } else {
-            total(&found)
+        let (ends, level) = (triangle(j), triangle(j + 1));
+        let mut sum = 0;
+        while n < rows {
+            let mut found = front.memo[level + n];
+            take_least(&mut found, &front.rows[n], &self.ends[ends + front.marks[n] as usize]);
+            front.memo[level + n + 1] = found;
+            n += 1;
+            front.known[n][j] = true;
+            sum = total(&found);
         }
+        sum
     }
 
     /// What is due at least for stops at openings j and later, where the front's last row is that of the last yes.
@@ -197,21 +180,29 @@ impl<V: Lanes, const Q: usize> Tables<V, Q> {
         self.terms[triangle(j) + j].into()
     }
 
-    /// Adds the row of a stop at opening j.
+    /// Adds the row of a stop at opening j. What the memo knew of its place is forgotten.
     #[inline(always)]
     pub fn push(&self, front: &mut Front<V, Q>, rows: usize, j: usize) {
-        let reach = &self.reach[triangle(j)..triangle(j + 1)];
-        let (found, _) = Self::over(front, rows, self.reach_from[j], reach, |_| false);
+        let mut found = [V::splat(INF); Q];
+        for n in (0..rows).rev() {
+            take_least(&mut found, &front.rows[n], &self.reach[triangle(j) + front.marks[n] as usize]);
+        }
         front.rows[rows] = std::array::from_fn(|q| found[q].plus(self.prices[j][q]));
         front.marks[rows] = j as u32 + 1;
+        front.known[rows + 1][j + 1..].fill(false);
     }
 
     /// The walk of at most `limit` nodes, or none where the job has no plan.
     #[inline(always)]
     pub fn walk<F: Form>(&self, limit: u64) -> Option<Found> {
         let none = [V::splat(0); Q];
-        let mut front = Front { rows: [none; MAX_OPENINGS + 1], marks: [0; MAX_OPENINGS + 1] };
-        let sum = self.bound(&front, 1, 0, 0);
+        let mut front = Front {
+            rows: [none; MAX_OPENINGS + 1],
+            marks: [0; MAX_OPENINGS + 1],
+            memo: vec![[V::splat(INF); Q]; triangle(self.count + 2)],
+            known: [[false; MAX_OPENINGS + 1]; MAX_OPENINGS + 2],
+        };
+        let sum = self.bound(&mut front, 1, 0);
         if sum == INF {
             return None;
         }
@@ -255,9 +246,9 @@ impl Form for Loop {
                     at += 1;
                     mask *= 2;
                     term = t.term(front, rows, at);
-                    // It costs no less with its own part sums: no row needs a look where this drops it.
-                    if spent + term + u64::from(sum) < best {
-                        sum = t.bound(front, rows, at, sum);
+                    // It costs no less with its own part sums, and is missing where its term is: no row needs a look where this drops it.
+                    if term < u64::from(INF) && spent + term + u64::from(sum) < best {
+                        sum = t.bound(front, rows, at);
                         continue;
                     }
                     if nodes == limit {

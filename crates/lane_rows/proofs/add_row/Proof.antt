@@ -1,22 +1,23 @@
 -- `add_row` takes a row into the lanes: two windows of sixteen numbers.
-use Prim.Native.Nat.{ℕ, _+_, _*_, min}
-use mathlib.Core.Path.{ap₂, _∙_}
+use Prim.Native.Nat.{ℕ, _+_, _-_, _*_, _<_, _≤_, min}
+use mathlib.Core.Path.{_≡_, ap, ap₂, _∙_}
 use native.Mathlib.Omega.{arith}
-use borrow.Author.Needs.{needs}
-use lib.ListN.{getD}
-use Rattle.lane_rows.specs.Layout.{laneCount, markCount}
+use lib.ListN.{length, getD, take, drop}
+use Rattle.lane_rows.specs.Layout.{laneCount, markCount, place}
+use Rattle.lane_rows.proofs.Rising.{row-inside}
 use Rattle.lane_rows.proofs.Window.{window-at, window-length}
+use borrow.Author.Needs.{needs}
 use Rattle.lane_rows.proofs.add_row.Statement.{statement}
 use Rattle.lane_rows.proofs.add_row.Tie as tie
 
-mul-at : tie.Need-mul-at
-mul-at c = search needs
+row-of-requires : tie.Need-row-of-requires
+row-of-requires c κs = search needs
 
 add-at : tie.Need-add-at
 add-at c = search needs
 
-mul-at-2 : tie.Need-mul-at-2
-mul-at-2 c = search needs
+mul-at : tie.Need-mul-at
+mul-at c = search needs
 
 add-at-2 : tie.Need-add-at-2
 add-at-2 c = search needs
@@ -54,21 +55,38 @@ sub-min-row-2 c = search needs
 part-min-row-start-2 : tie.Need-part-min-row-start-2
 part-min-row-start-2 c = search needs
 
+-- the table's window: where it starts, that it is inside, and its numbers
+abbrev begun : tie.After-row-of → tie.Start
+begun c = c .before .before .before .before
+
+abbrev at : tie.After-row-of → ℕ
+at c = begun c .args .base + (c .row-of .result + begun c .args .i) * laneCount
+
+inside : (c : tie.After-row-of) → at c + laneCount ≤ length (begun c .args .t .now)
+inside c =
+    let s = begun c in
+    omega (arith, row-inside (s .args .j) (s .args .i) markCount (s .pre .mark) (omega (arith, s .pre .near)), c .row-of .ensures .0, s .pre .table)
+
+reads : (c : tie.After-row-of) (q : ℕ) → q < laneCount → let a = begun c .args in getD (take (at c + laneCount - at c) (drop (at c) (a .t .now))) q 0 ≡ getD (a .t .now) (place (a .base) (a .j) (a .i) q) 0
+reads c q l =
+    let a = begun c .args in
+    window-at (a .t .now) (at c) (inside c) q l ∙ ap (λ (x : ℕ). getD (a .t .now) (a .base + (x + a .i) * laneCount + q) 0) (c .row-of .ensures .0)
+
 part-min-row-end-2 : tie.Need-part-min-row-end-2
-part-min-row-end-2 c = search needs
+part-min-row-end-2 c = omega (arith, inside (c .before))
 
 min-row-requires : tie.Need-min-row-requires
 min-row-requires c κs =
-    let s = c .before .before .before .before .before .before in
+    let s = c .before .before .before .before .before .before .before in
     let a = s .args in
-    let d = a .base + (a .j * markCount + a .i) * laneCount in
+    let r = c .before .before .before in
     record {
       few = s .pre .few;
       row = window-length (a .w .now) (a .n * laneCount) (omega arith);
-      table = window-length (a .t .now) d (omega arith);
+      table = window-length (a .t .now) (at r) (inside r);
       lanes = s .pre .lanes;
       most = s .pre .most;
-      sums = λ q l. omega (arith, s .pre .sums q l, window-at (a .w .now) (a .n * laneCount) (omega arith) q (omega (arith, s .pre .few)), window-at (a .t .now) d (omega arith) q (omega (arith, s .pre .few)));
+      sums = λ q l. omega (arith, s .pre .sums q l, window-at (a .w .now) (a .n * laneCount) (omega arith) q (omega (arith, s .pre .few)), reads r q (omega (arith, s .pre .few)));
     }
 
 same-length : tie.Need-same-length
@@ -76,24 +94,23 @@ same-length c = search needs
 
 returns : tie.Need-returns
 returns c =
-    let s = c .before .before .before .before .before .before .before .before .before in
+    let s = c .before .before .before .before .before .before .before .before .before .before in
     let a = s .args in
-    let d = a .base + (a .j * markCount + a .i) * laneCount in
     let e = c .before .before .min-row .ensures in
     record {
       size = e .size;
       lanes = λ q l.
           e .lanes q l
-          ∙ ap₂ (λ (x y : ℕ). min (getD (a .acc .now) q 0) (x + y)) (window-at (a .w .now) (a .n * laneCount) (omega arith) q (omega (arith, s .pre .few))) (window-at (a .t .now) d (omega arith) q (omega (arith, s .pre .few)));
+          ∙ ap₂ (λ (x y : ℕ). min (getD (a .acc .now) q 0) (x + y)) (window-at (a .w .now) (a .n * laneCount) (omega arith) q (omega (arith, s .pre .few))) (reads (c .before .before .before .before .before .before) q (omega (arith, s .pre .few)));
     }
 
 pub add-row-spec : {M : Type 1} → statement M
 add-row-spec =
     tie.close
     (tie.spec
-    mul-at
+    row-of-requires
     add-at
-    mul-at-2
+    mul-at
     add-at-2
     mul-min-row
     mul-min-row-2

@@ -1,13 +1,13 @@
--- `base_row` writes the row of the first life. The invariant: its first lanes are written.
-use Prim.Native.Nat.{ℕ, _-_, _≤_}
-use mathlib.Core.Path.{refl, _∙_}
+-- `base_row` writes the row of the first life, and a memo that knows nothing of it. The invariant: its first lanes are written.
+use Prim.Native.Nat.{ℕ, _+_, _-_, _≤_}
+use mathlib.Core.Path.{_≡_, refl, ap, _∙_}
 use native.Mathlib.Omega.{arith}
-use borrow.Author.Needs.{needs}
-use lib.ListN.{length-set}
+use lib.ListN.{getD, length-set}
 use lib.Seq.{getD-set-same, getD-set-other}
-use Rattle.lane_rows.specs.Layout.{laneCount, markBase}
 use Rattle.least.specs.Filled.{FilledBy}
 use Rattle.least.proofs.Filled.{filled-none, filled-more}
+use Rattle.lane_rows.specs.Layout.{laneCount, markBase, knownPlace}
+use borrow.Author.Needs.{needs}
 use Rattle.lane_rows.proofs.base_row.Statement.{statement}
 use Rattle.lane_rows.proofs.base_row.Tie as tie
 
@@ -33,22 +33,36 @@ loop-less : tie.Need-loop-less Inv-loop μ-loop
 loop-less c = search needs
 
 loop-again : tie.Need-loop-again Inv-loop μ-loop
-loop-again c = (omega arith, filled-more 0 (omega (arith, c .before .before .pre)) (λ q h z. omega (arith, z)) refl (c .before .loop .inv .1))
+loop-again c = (omega arith, filled-more 0 (omega (arith, c .before .before .before .pre)) (λ q h z. omega (arith, z)) refl (c .before .loop .inv .1))
 
 slice-write-w-2 : tie.Need-slice-write-w-2 Inv-loop μ-loop
 slice-write-w-2 c = search needs
 
+forget-requires : tie.Need-forget-requires Inv-loop μ-loop
+forget-requires c κs = let l = c .before .before .loop in (omega arith, omega arith, length-set (l .w) markBase 0 ∙ l .inv .1 .size ∙ c .before .before .before .before .pre)
+
+none-rows-requires : tie.Need-none-rows-requires Inv-loop μ-loop
+none-rows-requires c κs = let l = c .before .before .before .before .before .before .loop in c .before .before .before .forget .ensures .size ∙ length-set (l .w) markBase 0 ∙ l .inv .1 .size ∙ c .before .before .before .before .before .before .before .before .pre
+
 same-length : tie.Need-same-length Inv-loop μ-loop
-same-length c = search needs
+same-length c = let l = c .before .before .before .before .before .before .before .before .before .loop in c .before .before .none-rows .ensures .size ∙ c .before .before .before .before .before .before .forget .ensures .size ∙ length-set (l .w) markBase 0 ∙ l .inv .1 .size
 
 returns : tie.Need-returns Inv-loop μ-loop
 returns c =
-    let l = c .before .loop in
+    let l = c .before .before .before .before .before .before .before .before .before .loop in
     let d = l .inv .1 in
+    let f = c .before .before .before .before .before .before .forget .ensures in
+    let n = c .before .before .none-rows .ensures in
+    let pre = c .before .before .before .before .before .before .before .before .before .before .before .pre in
+    let all = c .before .before .before .before .before .before .before .before .loop-test .left in
     record {
-      size = length-set (l .w) markBase 0 ∙ d .size ∙ c .before .before .pre;
-      lanes = λ q h. getD-set-other (l .w) markBase q 0 0 (λ z. omega (arith, z)) ∙ d .done q (omega arith);
-      mark = getD-set-same (l .w) markBase 0 0 (omega (arith, d .size, c .before .before .pre));
+      size = n .size ∙ f .size ∙ length-set (l .w) markBase 0 ∙ d .size ∙ pre;
+      lanes = λ q h. n .rest q (omega arith) ∙ f .rest q (λ y g e. omega (arith, e)) ∙ getD-set-other (l .w) markBase q 0 0 (λ z. omega (arith, z)) ∙ d .done q (omega (arith, all));
+      mark = n .rest markBase (omega arith) ∙ f .rest markBase (λ y g e. omega (arith, e)) ∙ getD-set-same (l .w) markBase 0 0 (omega (arith, d .size, pre));
+      none = λ k q a b. n .none k q (omega arith) b;
+      fresh = λ k a.
+          let z : knownPlace 1 k ≡ knownPlace 1 (0 + k) = omega arith in
+          n .rest (knownPlace 1 k) (omega arith) ∙ ap (λ (x : ℕ). getD (c .before .before .before .before .before .before .forget .last .0) x 0) z ∙ f .done k (omega arith);
     }
 
 pub base-row-spec : {M : Type 1} → statement M
@@ -64,5 +78,7 @@ base-row-spec =
     loop-less
     loop-again
     slice-write-w-2
+    forget-requires
+    none-rows-requires
     same-length
     returns)

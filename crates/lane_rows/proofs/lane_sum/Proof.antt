@@ -1,65 +1,72 @@
--- `lane_sum` is the sum of the job's lanes: by how many fours there are.
-use Prim.Native.Nat.{ℕ, _≤_}
-use mathlib.Core.Path.{_≡_, sym, ap, subst, _∙_}
+-- `lane_sum` is the top row's sum: the memo learns what it lacks, row by row. The invariant: the rows are kept, the memo is right, and known up to the row at hand; once that is the top one, its sum is held.
+use Prim.Native.Nat.{ℕ, _-_, _≤_}
+use mathlib.Core.Path.{_≡_, subst, _∙_}
 use native.Mathlib.Omega.{arith}
-use borrow.Author.Needs.{needs}
 use Rattle.lane_rows.specs.Layout.{suffixBase, lanesIn}
-use Rattle.lane_rows.specs.Rows.{lane, sumLanes, Stack}
+use Rattle.lane_rows.specs.Rows.{lane, sumLanes, Looks, Known, Recalled}
+use Rattle.lane_rows.proofs.Lanes.{kept-then}
+use Rattle.lane_rows.proofs.Memory.{looks-again, recalled-none, sum-kept}
+use borrow.Author.Needs.{needs}
 use Rattle.lane_rows.proofs.lane_sum.Statement.{statement}
 use Rattle.lane_rows.proofs.lane_sum.Tie as tie
 
-shared-slice-read-fours : tie.Need-shared-slice-read-fours
-shared-slice-read-fours c = search needs
+abbrev Inv-loop : tie.InvT-loop
+Inv-loop t w₀ rows j m₀ sum₀ w m sum = (m ≤ rows) × Recalled t w₀ w rows × Known w m j × (m ≡ rows → sum ≡ sumLanes (lanesIn t) (λ (q : ℕ). lane t w₀ suffixBase j q rows))
 
--- what so many lanes ask, where the job has so many
-asks : (s : tie.Start) (k : ℕ) → lanesIn (s .args .t .now) ≡ k
-    → let a = s .args in (Stack k (a .t .now) (a .w .now) suffixBase (a .lo) (a .j) (a .rows)) × (a .ms ≤ sumLanes k (λ (q : ℕ). lane (a .t .now) (a .w .now) suffixBase (a .j) q (a .rows)))
-asks s k z =
+abbrev μ-loop : tie.MeasureT-loop
+μ-loop t w₀ rows j m₀ sum₀ w m sum = rows - m
+
+known-rows-requires : tie.Need-known-rows-requires Inv-loop μ-loop
+known-rows-requires c κs = let s = c .before .before in (s .pre .some, omega (arith, s .pre .stack .few, s .pre .stack .near), s .pre .stack .near, s .pre .stack .size)
+
+loop-holds : tie.Need-loop-holds Inv-loop μ-loop
+loop-holds c =
+    let s = c .before .before .before in
+    let e = c .known-rows .ensures in
+    (omega (arith, e .0), recalled-none (s .args .t .now) (s .args .w .now) (s .args .rows) (s .pre .memo), e .1, λ z. absurd (omega (arith, z, e .0)))
+
+-- what is asked is asked again
+looks : (c : tie.At-loop Inv-loop μ-loop) → let a = c .before .before .before .before .args in Looks (a .t .now) (c .loop .w) (a .rows) (a .j)
+looks c = let s = c .before .before .before .before in looks-again (s .args .t .now) (s .args .w .now) (c .loop .w) (s .args .rows) (s .args .j) (s .pre) (c .loop .inv .1)
+
+learn-requires : tie.Need-learn-requires Inv-loop μ-loop
+learn-requires c κs = (((c .before .before .before .before .before .before .args .rows), looks (c .before .before), c .before .loop-test .taken), c .before .before .loop .inv .2)
+
+add-m : tie.Need-add-m Inv-loop μ-loop
+add-m c = search needs
+
+loop-less : tie.Need-loop-less Inv-loop μ-loop
+loop-less c = search needs
+
+loop-again : tie.Need-loop-again Inv-loop μ-loop
+loop-again c =
+    let l = c .before .before .before in
+    let s = c .before .before .before .before .before .before .before in
     let a = s .args in
-    subst (λ (wide : ℕ). (Stack wide (a .t .now) (a .w .now) suffixBase (a .lo) (a .j) (a .rows)) × (a .ms ≤ sumLanes wide (λ (q : ℕ). lane (a .t .now) (a .w .now) suffixBase (a .j) q (a .rows)))) z (s .pre .0 .1, s .pre .1)
+    let w = c .learn .last .1 .0 in
+    let e = c .learn .ensures (a .rows) (looks l) (c .before .before .loop-test .taken) in (
+      omega (arith, c .before .before .loop-test .taken),
+      record { kept = kept-then (a .w .now) (l .loop .w) w (a .rows) (a .rows) (omega arith) (l .loop .inv .1 .kept) (e .recalled .kept); memo = e .recalled .memo },
+      (λ h. e .known),
+      λ z. subst (λ (n : ℕ). c .learn .result ≡ sumLanes (lanesIn (a .t .now)) (λ (q : ℕ). lane (a .t .now) (l .loop .w) suffixBase (a .j) q n)) z (e .sum)
+          ∙ sum-kept (a .t .now) (a .w .now) (l .loop .w) (a .rows) (a .j) (s .pre .stack .narrow) (l .loop .inv .1 .kept),
+    )
 
--- what they sum to
-sums : (s : tie.Start) (k r : ℕ) → lanesIn (s .args .t .now) ≡ k → let a = s .args in let f : ℕ → ℕ = λ q. lane (a .t .now) (a .w .now) suffixBase (a .j) q (a .rows) in r ≡ sumLanes k f → r ≡ sumLanes (lanesIn (a .t .now)) f
-sums s k r z e = let a = s .args in e ∙ ap (λ (wide : ℕ). sumLanes wide (λ (q : ℕ). lane (a .t .now) (a .w .now) suffixBase (a .j) q (a .rows))) (sym z)
-
--- not one, two or three fours
-four : (c : tie.Else3) → lanesIn (c .before .before .before .before .before .before .args .t .now) ≡ 16
-four c = omega (arith, c .if3 .left, c .before .if2 .left, c .before .before .if1 .left, c .before .before .before .before .before .before .pre .0 .1 .some, c .before .before .before .before .before .before .pre .0 .1 .narrow)
-
-sum-rows-requires : tie.Need-sum-rows-requires
-sum-rows-requires c κs = asks (c .before .before .before .before) 4 (omega (arith, c .if1 .taken))
-
-returns : tie.Need-returns
-returns c = sums (c .before .before .before .before .before) 4 (c .sum-rows .result) (omega (arith, c .before .if1 .taken)) (c .sum-rows .ensures)
-
-sum-rows-requires-2 : tie.Need-sum-rows-requires-2
-sum-rows-requires-2 c κs = asks (c .before .before .before .before .before) 8 (omega (arith, c .if2 .taken))
-
-returns-2 : tie.Need-returns-2
-returns-2 c = sums (c .before .before .before .before .before .before) 8 (c .sum-rows2 .result) (omega (arith, c .before .if2 .taken)) (c .sum-rows2 .ensures)
-
-sum-rows-requires-3 : tie.Need-sum-rows-requires-3
-sum-rows-requires-3 c κs = asks (c .before .before .before .before .before .before) 12 (omega (arith, c .if3 .taken))
-
-returns-3 : tie.Need-returns-3
-returns-3 c = sums (c .before .before .before .before .before .before .before) 12 (c .sum-rows3 .result) (omega (arith, c .before .if3 .taken)) (c .sum-rows3 .ensures)
-
-sum-rows-requires-4 : tie.Need-sum-rows-requires-4
-sum-rows-requires-4 c κs = asks (c .before .before .before .before .before .before) 16 (four c)
-
-returns-4 : tie.Need-returns-4
-returns-4 c = sums (c .before .before .before .before .before .before .before) 16 (c .sum-rows4 .result) (four (c .before)) (c .sum-rows4 .ensures)
+returns : tie.Need-returns Inv-loop μ-loop
+returns c =
+    let l = c .before .loop in
+    (l .inv .3 (omega (arith, c .loop-test .left, l .inv .0)), l .inv .1)
 
 pub lane-sum-spec : {M : Type 1} → statement M
 lane-sum-spec =
     tie.close
     (tie.spec
-    shared-slice-read-fours
-    sum-rows-requires
-    returns
-    sum-rows-requires-2
-    returns-2
-    sum-rows-requires-3
-    returns-3
-    sum-rows-requires-4
-    returns-4)
+    Inv-loop
+    μ-loop
+    known-rows-requires
+    loop-holds
+    learn-requires
+    add-m
+    loop-less
+    loop-again
+    returns)

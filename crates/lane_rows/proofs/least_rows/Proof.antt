@@ -2,18 +2,18 @@
 use Prim.Native.Nat.{_-_, _*_}
 use mathlib.Core.Path.{_≡_, refl, _∙_}
 use native.Mathlib.Omega.{arith}
-use borrow.Author.Needs.{needs}
 use lib.ListN.{length}
 use Rattle.lane_rows.specs.Layout.{markPlace}
-use Rattle.lane_rows.proofs.Going.{Going, going-none, going-more, going-cut, going-end, row-asks}
+use Rattle.lane_rows.proofs.Going.{Going, going-none, going-more, going-end, row-asks}
+use borrow.Author.Needs.{needs}
 use Rattle.lane_rows.proofs.least_rows.Statement.{statement}
 use Rattle.lane_rows.proofs.least_rows.Tie as tie
 
 abbrev Inv-loop : tie.InvT-loop
-Inv-loop fours t w base lo j rows acc₀ n₀ acc n = (length acc ≡ length acc₀) × Going (fours * 4) t w base j rows acc n
+Inv-loop fours t w base j rows acc₀ n₀ acc n = (length acc ≡ length acc₀) × Going (fours * 4) t w base j rows acc n
 
 abbrev μ-loop : tie.MeasureT-loop
-μ-loop fours t w base lo j rows acc₀ n₀ acc n = n
+μ-loop fours t w base j rows acc₀ n₀ acc n = n
 
 loop-holds : tie.Need-loop-holds Inv-loop μ-loop
 loop-holds c = let s = c .before .before .before in let a = s .args in (refl, going-none (a .fours * 4) (a .t .now) (a .w .now) (a .base) (a .j) (a .rows) (a .acc .now) (s .pre .2))
@@ -33,41 +33,28 @@ shared-slice-read-i c = search needs
 cast-i : tie.Need-cast-i Inv-loop μ-loop
 cast-i c = omega (arith, c .shared-slice-known3 .given (markPlace (c .before .before .loop .n - 1)))
 
-same-length : tie.Need-same-length Inv-loop μ-loop
-same-length c = search needs
-
-returns : tie.Need-returns Inv-loop μ-loop
-returns c =
+add-row-requires : tie.Need-add-row-requires Inv-loop μ-loop
+add-row-requires c κs =
     let l = c .before .before .before .loop in
     let s = c .before .before .before .before .before .before .before in
     let a = s .args in
-    record {
-      size = l .inv .0;
-      lanes = going-cut (a .fours * 4) (a .t .now) (a .w .now) (a .base) (a .j) (a .rows) (l .acc) (l .n) (a .lo) (c .before .before .loop-test .taken) (s .pre .0) (c .if1 .taken) (l .inv .1);
-    }
-
-add-row-requires : tie.Need-add-row-requires Inv-loop μ-loop
-add-row-requires c κs =
-    let l = c .before .before .before .before .loop in
-    let s = c .before .before .before .before .before .before .before .before in
-    let a = s .args in
-    row-asks (a .fours) (a .t .now) (a .w .now) (a .base) (a .lo) (a .j) (a .rows) (l .acc) (l .n) (omega (arith, s .pre .1, l .inv .0)) (s .pre .0) (l .inv .1) (c .before .before .before .loop-test .taken)
+    row-asks (a .fours) (a .t .now) (a .w .now) (a .base) (a .j) (a .rows) (l .acc) (l .n) (omega (arith, s .pre .1, l .inv .0)) (s .pre .0) (l .inv .1) (c .before .before .loop-test .taken)
 
 loop-less : tie.Need-loop-less Inv-loop μ-loop
 loop-less c = search needs
 
 loop-again : tie.Need-loop-again Inv-loop μ-loop
 loop-again c =
-    let l = c .before .before .before .before .before .before .before .loop in
-    let a = c .before .before .before .before .before .before .before .before .before .before .before .args in
+    let l = c .before .before .before .before .before .before .loop in
+    let a = c .before .before .before .before .before .before .before .before .before .before .args in
     let e = c .before .before .add-row .ensures in
-    (e .size ∙ l .inv .0, going-more (a .fours * 4) (a .t .now) (a .w .now) (a .base) (a .j) (a .rows) (l .acc) _ (l .n) (c .before .before .before .before .before .before .loop-test .taken) (e .lanes) (l .inv .1))
+    (e .size ∙ l .inv .0, going-more (a .fours * 4) (a .t .now) (a .w .now) (a .base) (a .j) (a .rows) (l .acc) _ (l .n) (c .before .before .before .before .before .loop-test .taken) (e .lanes) (l .inv .1))
 
-same-length-2 : tie.Need-same-length-2 Inv-loop μ-loop
-same-length-2 c = search needs
+same-length : tie.Need-same-length Inv-loop μ-loop
+same-length c = search needs
 
-returns-2 : tie.Need-returns-2 Inv-loop μ-loop
-returns-2 c =
+returns : tie.Need-returns Inv-loop μ-loop
+returns c =
     let l = c .before .loop in
     let a = c .before .before .before .before .before .args in
     record {
@@ -87,10 +74,8 @@ least-rows-spec =
     mul-i
     shared-slice-read-i
     cast-i
-    same-length
-    returns
     add-row-requires
     loop-less
     loop-again
-    same-length-2
-    returns-2)
+    same-length
+    returns)

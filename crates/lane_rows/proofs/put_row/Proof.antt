@@ -32,7 +32,7 @@ same-length : tie.Need-same-length
 same-length c = search needs
 
 returns : tie.Need-returns
-returns c = puts (c .before .before .before .before .before .before .before .before) 4 (c .before .before .put-lanes .last .1 .1 .0) (omega (arith, c .before .before .before .before .if1 .taken)) (c .before .before .put-lanes .ensures)
+returns c = (puts (c .before .before .before .before .before .before .before .before) 4 (c .before .before .put-lanes .last .1 .1 .0) (omega (arith, c .before .before .before .before .if1 .taken)) (c .before .before .put-lanes .ensures .0), c .before .before .put-lanes .ensures .1)
 
 put-lanes-requires-2 : tie.Need-put-lanes-requires-2
 put-lanes-requires-2 c κs = asks (c .before .before .before .before .before .before) 8 (omega (arith, c .before .if2 .taken))
@@ -41,7 +41,7 @@ same-length-2 : tie.Need-same-length-2
 same-length-2 c = search needs
 
 returns-2 : tie.Need-returns-2
-returns-2 c = puts (c .before .before .before .before .before .before .before .before .before) 8 (c .before .before .put-lanes2 .last .1 .1 .0) (omega (arith, c .before .before .before .before .if2 .taken)) (c .before .before .put-lanes2 .ensures)
+returns-2 c = (puts (c .before .before .before .before .before .before .before .before .before) 8 (c .before .before .put-lanes2 .last .1 .1 .0) (omega (arith, c .before .before .before .before .if2 .taken)) (c .before .before .put-lanes2 .ensures .0), c .before .before .put-lanes2 .ensures .1)
 
 put-lanes-requires-3 : tie.Need-put-lanes-requires-3
 put-lanes-requires-3 c κs = asks (c .before .before .before .before .before .before .before) 12 (omega (arith, c .before .if3 .taken))
@@ -50,7 +50,7 @@ same-length-3 : tie.Need-same-length-3
 same-length-3 c = search needs
 
 returns-3 : tie.Need-returns-3
-returns-3 c = puts (c .before .before .before .before .before .before .before .before .before .before) 12 (c .before .before .put-lanes3 .last .1 .1 .0) (omega (arith, c .before .before .before .before .if3 .taken)) (c .before .before .put-lanes3 .ensures)
+returns-3 c = (puts (c .before .before .before .before .before .before .before .before .before .before) 12 (c .before .before .put-lanes3 .last .1 .1 .0) (omega (arith, c .before .before .before .before .if3 .taken)) (c .before .before .put-lanes3 .ensures .0), c .before .before .put-lanes3 .ensures .1)
 
 put-lanes-requires-4 : tie.Need-put-lanes-requires-4
 put-lanes-requires-4 c κs = asks (c .before .before .before .before .before .before .before) 16 (four (c .before))
@@ -59,7 +59,7 @@ same-length-4 : tie.Need-same-length-4
 same-length-4 c = search needs
 
 returns-4 : tie.Need-returns-4
-returns-4 c = puts (c .before .before .before .before .before .before .before .before .before .before) 16 (c .before .before .put-lanes4 .last .1 .1 .0) (four (c .before .before .before .before)) (c .before .before .put-lanes4 .ensures)
+returns-4 c = (puts (c .before .before .before .before .before .before .before .before .before .before) 16 (c .before .before .put-lanes4 .last .1 .1 .0) (four (c .before .before .before .before)) (c .before .before .put-lanes4 .ensures .0), c .before .before .put-lanes4 .ensures .1)
 
 pub put-row-spec : {M : Type 1} → statement M
 put-row-spec =

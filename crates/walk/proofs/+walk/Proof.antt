@@ -8,20 +8,19 @@ use native.Mathlib.Omega.{arith}
 use borrow.Author.Needs.{needs}
 use borrow.Fn.Kinds.{In}
 use borrow.Fn.PlainCycle.{Measures, is, falls, and}
-use lib.ListN.{length}
+use lib.ListN.{length, getD}
 use Rattle.branch.specs.Label.{limitedFrom, openFrom}
+use Rattle.branch.specs.declared.Bound.{Bound}
 use Rattle.branch.specs.declared.Bound.the-variants.{Sum}
 use Rattle.branch.proofs.Bounds.{sum-inj}
-use Rattle.lane_rows.specs.Tables.{valueOf}
 use Rattle.walk.specs.declared.Search.{Search}
 use Rattle.walk.specs.declared.Node.{Node}
-use Rattle.lane_rows.specs.Layout.{inf, suffixBase, lanesIn}
+use Rattle.lane_rows.specs.Layout.{markPlace}
 use Rattle.lane_rows.specs.Sheet.{Sheet, sheetBound}
-use Rattle.lane_rows.specs.Rows.{lane, sumLanes, Kept, Rows}
+use Rattle.lane_rows.specs.Rows.{Kept, Rows, Memo, Recalled, termAt, sumsAt}
 use Rattle.walk.specs.State.{decided, view, noCost, noN, yesN, At}
-use Rattle.lane_rows.proofs.Lanes.{kept-refl, kept-then}
-use Rattle.lane_rows.proofs.Terms.{term-most}
-use Rattle.walk.proofs.Nodes.{bits-length, Due, due-at, bound-full, some-rows, owing, settled, sums-asks, last-no-is, last-yes-is, at-no, at-yes, mask-fits, fits, full-walked, both-walked, Opened, closed-walked, open-walked}
+use Rattle.lane_rows.proofs.Memory.{recalled-none, recalled-then}
+use Rattle.walk.proofs.Nodes.{Due, due-at, bound-full, owing, settled, sums-asks, last-no-is, last-yes-is, at-no, at-yes, mask-fits, fits, full-walked, both-walked, Opened, closed-walked, open-walked}
 use Rattle.walk.proofs.+walk.{statement}
 use Rattle.walk.proofs.+walk.Tie.{close}
 use Rattle.walk.proofs.Node.no.Reads as no-reads
@@ -32,7 +31,6 @@ use Rattle.walk.proofs.Search.open.Reads as open-reads
 use Rattle.walk.proofs.Search.open_rows.Reads as open-rows-reads
 use Rattle.walk.proofs.Search.reached.Reads as reached-reads
 use Rattle.lane_rows.proofs.cell.Reads as cell-reads
-use Rattle.lane_rows.proofs.last_mark.Reads as last-mark-reads
 use Rattle.lane_rows.proofs.settle.Reads as settle-reads
 use Rattle.lane_rows.proofs.term.Reads as term-reads
 use Rattle.walk.proofs.walk.Reads as walk
@@ -56,10 +54,6 @@ claims t = (
   kept-reads.Learnt,
   settle-reads.Asked,
   settle-reads.Learnt,
-  last-mark-reads.Asked,
-  last-mark-reads.Learnt,
-  term-reads.Asked,
-  term-reads.Learnt,
   open-rows-reads.Asked,
   open-rows-reads.Learnt,
   no-reads.Asked,
@@ -70,6 +64,8 @@ claims t = (
   walk.Post,
   reached-reads.Asked,
   reached-reads.Learnt,
+  term-reads.Asked,
+  term-reads.Learnt,
   open-reads.Asked,
   open-reads.Learnt,
   yes-reads.Asked,
@@ -100,7 +96,7 @@ abbrev undecided : (t : ℕ) → Placed t → Undecided t
 undecided t c = c .before .before .before
 
 abbrev placed : (t : ℕ) → Tested t → Placed t
-placed t c = c .before .before .before .before .before .before .before .before .before .before .before
+placed t c = c .before .before .before
 
 abbrev start : (t : ℕ) → Tested t → Begun t
 start t c = begun t (undecided t (placed t c))
@@ -139,7 +135,7 @@ walk-returns t c =
           let all = c .before .before .if1 .taken ∙ c .before .before .before .before .cell .ensures ∙ h .tables .count in
           ap (view (a .limit) n) (c .kept .ensures)
           ∙ full-walked (sheetBound sheet) (a .limit) n (a .p .spent + a .x) (a .p) (a .s) (bound-full sheet (a .t .now) (a .w .now) (a .p) (a .stop) (Sum (a .x)) h (a .x) refl all) (fits sheet (a .t .now) (a .w .now) (a .p) (a .stop) (a .x) h) all,
-      kept-refl (a .w .now) (a .p .rows),
+      recalled-none (a .t .now) (a .w .now) (a .p .rows) (given t (c .before .before .before .before .before .before) .memo),
     )
 
 walk-settle-requires : (t : ℕ) → walk-lts.Need-settle-requires (claims t) (walk-at t) walk.Post
@@ -152,7 +148,7 @@ walk-settle-requires t c κs =
 stands : (t : ℕ) (c : Placed t) (sheet : Sheet)
     → let a = begun t (undecided t c) .args in
     Given t (begun t (undecided t c)) sheet
-    → Rows sheet (c .settle .last .1 .0) (decided (a .p)) (c .settle .result) × Kept (a .w .now) (c .settle .last .1 .0) (a .p .rows) × (a .p .rows ≤ c .settle .result)
+    → Rows sheet (c .settle .last .1 .0) (decided (a .p)) (c .settle .result) × Kept (a .w .now) (c .settle .last .1 .0) (a .p .rows) × (a .p .rows ≤ c .settle .result) × Memo (a .t .now) (c .settle .last .1 .0) (c .settle .result)
 stands t c sheet h =
     let a = begun t (undecided t c) .args in
     settled sheet (a .t .now) (a .w .now) (a .p) (a .stop) (Sum (a .x)) h (c .settle .last .1 .0) (c .settle .result) (c .settle .ensures)
@@ -167,96 +163,43 @@ near t c = let h = given t (begun t c) in omega (arith, under t c (sheet-of t (b
 walk-add-j : (t : ℕ) → walk-lts.Need-add-j (claims t) (walk-at t) walk.Post
 walk-add-j t c = omega (arith, near t (undecided t (c .before)))
 
--- ---- the no child. `Last`: its last yes is read; `Noted`: its term is read
-
-abbrev Last : ℕ → Type 0
-Last t = walk-lts.After-last-mark (claims t) (walk-at t) walk.Post
-
-abbrev Noted : ℕ → Type 0
-Noted t = walk-lts.After-term (claims t) (walk-at t) walk.Post
-
-abbrev laid : (t : ℕ) → Last t → Placed t
-laid t c = c .before .before .before .before .before
-
-abbrev noted : (t : ℕ) → Tested t → Noted t
-noted t c = c .before .before .before .before .before
-
-walk-last-mark-requires : (t : ℕ) → walk-lts.Need-last-mark-requires (claims t) (walk-at t) walk.Post
-walk-last-mark-requires t c κs =
-    let o = c .before .before .before .before in
-    let b = begun t (undecided t o) in
-    let a = b .args in
-    let r = stands t o (sheet-of t b) (given t b) in (
-      omega (arith, r .2, some-rows (sheet-of t b) (a .t .now) (a .w .now) (a .p) (a .stop) (Sum (a .x)) (given t b)),
-      omega (arith, r .2, r .0 .few, bits-length (a .p .at) (a .p .mask), near t (undecided t o)),
-      r .0 .size,
-    )
-
--- the last yes is a decided opening
-decided-mark : (t : ℕ) (c : Last t) → c .last-mark .result ≤ begun t (undecided t (laid t c)) .args .p .at
-decided-mark t c =
-    let o = laid t c in
-    let b = begun t (undecided t o) in
-    let r = stands t o (sheet-of t b) (given t b) .0 in
-    let h = r .some in
-    omega (arith, c .last-mark .ensures, r .marks (o .settle .result - 1) (omega arith), bits-length (b .args .p .at) (b .args .p .mask))
-
-walk-term-requires : (t : ℕ) → walk-lts.Need-term-requires (claims t) (walk-at t) walk.Post
-walk-term-requires t c κs = let u = undecided t (laid t c) in (given t (begun t u) .tables .size, omega (arith, near t u), omega (arith, near t u, decided-mark t c))
-
--- its part sums
-abbrev sums : (t : ℕ) → Placed t → ℕ
-sums t c = let a = begun t (undecided t c) .args in sumLanes (lanesIn (a .t .now)) (λ (q : ℕ). lane (a .t .now) (c .settle .last .1 .0) suffixBase (a .p .at + 1) q (c .settle .result))
-
-no-given : (t : ℕ) (c : Placed t) (sheet : Sheet)
-    → let b = begun t (undecided t c) in
-    Given t b sheet → At sheet (b .args .t .now) (c .settle .last .1 .0) (noN (b .args .p) (c .settle .result)) false (valueOf (sums t c))
-no-given t c sheet h =
-    let a = begun t (undecided t c) .args in
-    at-no sheet (a .t .now) (a .w .now) (c .settle .last .1 .0) (a .p) (a .stop) (Sum (a .x)) (c .settle .result) (a .x) h refl (stands t c sheet h .0) (under t (undecided t c) sheet h)
-    (valueOf (sums t c)) refl
-
--- its fees and its term
-abbrev no-owes : (t : ℕ) → Noted t → ℕ
-no-owes t c = begun t (undecided t (laid t (c .before))) .args .p .spent + c .term .result
-
-no-due : (t : ℕ) (c : Noted t) (sheet : Sheet)
-    → let o = laid t (c .before) in
-    let b = begun t (undecided t o) in
-    Given t b sheet → Due sheet (noN (b .args .p) (o .settle .result)) (valueOf (sums t o)) (no-owes t c)
-no-due t c sheet h =
-    let o = laid t (c .before) in
-    let a = begun t (undecided t o) .args in
-    subst (λ (g : ℕ). Due sheet (noN (a .p) (o .settle .result)) (valueOf (sums t o)) (a .p .spent + g)) (sym (c .term .ensures))
-    (due-at sheet (a .t .now) (o .settle .last .1 .0) (noN (a .p) (o .settle .result)) false (valueOf (sums t o)) (no-given t o sheet h) (c .before .last-mark .result)
-    (last-no-is sheet (a .t .now) (a .w .now) (o .settle .last .1 .0) (a .p) (a .stop) (Sum (a .x)) (o .settle .result) (a .x) h refl (stands t o sheet h .0) (under t (undecided t o) sheet h) ∙ sym (c .before .last-mark .ensures)))
-
-no-low : (t : ℕ) (c : Noted t) → no-owes t c + inf < 2 ^ 64
-no-low t c =
-    let u = undecided t (laid t (c .before)) in
-    let h = given t (begun t u) in
-    let a = begun t u .args in
-    omega (
-      arith,
-      h .poor,
-      near t u,
-      c .term .ensures,
-      term-most (sheet-of t (begun t u)) (a .t .now) (h .tables) (a .p .at + 1) (c .before .last-mark .result) (omega (arith, decided-mark t (c .before))) (omega (arith, under t u (sheet-of t (begun t u)) h)),
-    )
-
-walk-add-due : (t : ℕ) → walk-lts.Need-add-due (claims t) (walk-at t) walk.Post
-walk-add-due t c = omega (arith, no-low t (c .before))
+-- ---- the no child
 
 walk-open-rows-requires : (t : ℕ) → walk-lts.Need-open-rows-requires (claims t) (walk-at t) walk.Post
 walk-open-rows-requires t c κs =
-    let g = c .before .before .before .before in
-    let o = laid t (g .before) in
+    let o = c .before .before in
     let b = begun t (undecided t o) in
     let a = b .args in
     let sheet = sheet-of t b in
     let h = given t b in
-    let r = sums-asks sheet (a .t .now) (a .w .now) (o .settle .last .1 .0) (a .p) (a .stop) (Sum (a .x)) (o .settle .result) (a .x) h refl (stands t o sheet h .0) (under t (undecided t o) sheet h) in
-    ((h .tables .size, r .0), (r .1 .0, r .1 .1, no-low t g))
+    let st = stands t o sheet h in
+    let r = sums-asks sheet (a .t .now) (a .w .now) (o .settle .last .1 .0) (a .p) (a .stop) (Sum (a .x)) (o .settle .result) (a .x) h refl (st .0) (under t (undecided t o) sheet h) (st .3) in
+    (r .0, r .1, omega (arith, h .poor, near t (undecided t o)))
+
+-- its part sums, its fees and its term
+abbrev sums : (t : ℕ) → Placed t → Bound
+sums t c = let a = begun t (undecided t c) .args in sumsAt (a .t .now) (c .settle .last .1 .0) (a .p .at + 1) (c .settle .result)
+
+abbrev no-owes : (t : ℕ) → Placed t → ℕ
+no-owes t c = let a = begun t (undecided t c) .args in a .p .spent + termAt (a .t .now) (c .settle .last .1 .0) (a .p .at + 1) (c .settle .result)
+
+-- the rows after its test
+abbrev looked : (t : ℕ) → Tested t → List ℕ
+looked t c = c .open-rows .last .1 .1 .0
+
+no-given : (t : ℕ) (c : Tested t) (sheet : Sheet) → Given t (start t c) sheet → At sheet (start t c .args .t .now) (looked t c) (noN (start t c .args .p) (placed t c .settle .result)) false (sums t (placed t c))
+no-given t c sheet h =
+    let o = placed t c in
+    let a = start t c .args in
+    at-no sheet (a .t .now) (a .w .now) (o .settle .last .1 .0) (a .p) (a .stop) (Sum (a .x)) (o .settle .result) (a .x) h refl (stands t o sheet h .0) (under t (undecided t o) sheet h)
+    (looked t c) (sums t o) (c .open-rows .ensures .1) refl
+
+no-due : (t : ℕ) (c : Tested t) (sheet : Sheet) → Given t (start t c) sheet → Due sheet (noN (start t c .args .p) (placed t c .settle .result)) (sums t (placed t c)) (no-owes t (placed t c))
+no-due t c sheet h =
+    let o = placed t c in
+    let a = start t c .args in
+    due-at sheet (a .t .now) (looked t c) (noN (a .p) (o .settle .result)) false (sums t o) (no-given t c sheet h) (getD (o .settle .last .1 .0) (markPlace (o .settle .result - 1)) 0)
+    (last-no-is sheet (a .t .now) (a .w .now) (o .settle .last .1 .0) (a .p) (a .stop) (Sum (a .x)) (o .settle .result) (a .x) h refl (stands t o sheet h .0) (under t (undecided t o) sheet h))
 
 walk-enum-known-y : (t : ℕ) → walk-lts.Need-enum-known-y (claims t) (walk-at t) walk.Post
 walk-enum-known-y t c = search needs
@@ -273,13 +216,13 @@ opened : (t : ℕ) (c : walk-lts.After-y (claims t) (walk-at t) walk.Post) (shee
     let a = start t (c .before .before) .args in
     let n = length (sheet .positions) in
     (h : Given t (start t (c .before .before)) sheet)
-    → Opened sheet (noN (a .p) (o .settle .result)) (valueOf (sums t o)) (no-owes t (noted t (c .before .before))) (no-due t (noted t (c .before .before)) sheet h) (a .limit) n (n - (a .p .at + 1)) (a .s) (c .y .given .0 .0)
+    → Opened sheet (noN (a .p) (o .settle .result)) (sums t o) (no-owes t o) (no-due t (c .before .before) sheet h) (a .limit) n (n - (a .p .at + 1)) (a .s) (c .y .given .0 .0)
 opened t c sheet h =
     let o = placed t (c .before .before) in
     let a = start t (c .before .before) .args in
     let n = length (sheet .positions) in
-    open-walked sheet (noN (a .p) (o .settle .result)) (valueOf (sums t o)) (no-owes t (noted t (c .before .before))) (no-due t (noted t (c .before .before)) sheet h) (a .limit) n (n - (a .p .at + 1)) (a .s) (c .y .given .0 .0)
-    (sym (c .before .before .open-rows .ensures) ∙ c .y .given .1)
+    open-walked sheet (noN (a .p) (o .settle .result)) (sums t o) (no-owes t o) (no-due t (c .before .before) sheet h) (a .limit) n (n - (a .p .at + 1)) (a .s) (c .y .given .0 .0)
+    (sym (c .before .before .open-rows .ensures .0) ∙ c .y .given .1)
 
 walk-counted-requires : (t : ℕ) → walk-lts.Need-counted-requires (claims t) (walk-at t) walk.Post
 walk-counted-requires t c κs =
@@ -290,12 +233,13 @@ walk-counted-requires t c κs =
 -- so it is what the call is given
 no-child : (t : ℕ) (c : walk-lts.After-no (claims t) (walk-at t) walk.Post) (sheet : Sheet)
     → Given t (start t (c .before .before .before .before .before)) sheet
-    → At sheet (start t (c .before .before .before .before .before) .args .t .now) (placed t (c .before .before .before .before .before) .settle .last .1 .0) (c .no .result) false (Sum (c .before .before .before .y .given .0 .0))
+    → At sheet (start t (c .before .before .before .before .before) .args .t .now) (looked t (c .before .before .before .before .before)) (c .no .result) false (Sum (c .before .before .before .y .given .0 .0))
 no-child t c sheet h =
-    let o = placed t (c .before .before .before .before .before) in
-    let a = start t (c .before .before .before .before .before) .args in
-    subst (λ (q : Node). At sheet (a .t .now) (o .settle .last .1 .0) q false (Sum (c .before .before .before .y .given .0 .0))) (sym (c .no .ensures))
-    (subst (At sheet (a .t .now) (o .settle .last .1 .0) (noN (a .p) (o .settle .result)) false) (opened t (c .before .before .before) sheet h .sums) (no-given t o sheet h))
+    let e = c .before .before .before .before .before in
+    let o = placed t e in
+    let a = start t e .args in
+    subst (λ (q : Node). At sheet (a .t .now) (looked t e) q false (Sum (c .before .before .before .y .given .0 .0))) (sym (c .no .ensures))
+    (subst (At sheet (a .t .now) (looked t e) (noN (a .p) (o .settle .result)) false) (opened t (c .before .before .before) sheet h .sums) (no-given t e sheet h))
 
 walk-walk-requires : (t : ℕ) → walk-lts.Need-walk-requires (claims t) (walk-at t) walk.Post
 walk-walk-requires t c κs =
@@ -317,10 +261,10 @@ walked-on t c sheet h =
     ∙ ap (λ (k : Search). openFrom (sheetBound sheet) (a .limit) (n - (a .p .at + 1)) (decided (noN (a .p) (placed t (c .before .before .before .before .before .before .before) .settle .result))) (view (a .limit) n k)) (c .before .counted .ensures)
     ∙ opened t (c .before .before .before .before .before) sheet h .on
 
-walked-keeps : (t : ℕ) (c : walk-lts.After-walk (claims t) (walk-at t) walk.Post) → let o = placed t (c .before .before .before .before .before .before .before) in Kept (o .settle .last .1 .0) (c .walk .last .1 .0) (o .settle .result)
+walked-keeps : (t : ℕ) (c : walk-lts.After-walk (claims t) (walk-at t) walk.Post) → let e = c .before .before .before .before .before .before .before in Recalled (start t e .args .t .now) (looked t e) (c .walk .last .1 .0) (placed t e .settle .result)
 walked-keeps t c =
-    let o = placed t (c .before .before .before .before .before .before .before) in
-    subst (λ (q : Node). Kept (o .settle .last .1 .0) (c .walk .last .1 .0) (q .rows)) (c .before .before .no .ensures) (c .walk .ensures .1)
+    let e = c .before .before .before .before .before .before .before in
+    subst (λ (q : Node). Recalled (start t e .args .t .now) (looked t e) (c .walk .last .1 .0) (q .rows)) (c .before .before .no .ensures) (c .walk .ensures .1)
 
 -- what stands where the no child is not walked on
 passed-by : (t : ℕ) (c : walk-lts.After-reached (claims t) (walk-at t) walk.Post) (sheet : Sheet)
@@ -333,8 +277,8 @@ passed-by t c sheet h =
     let a = start t (c .before .before .before) .args in
     let n = length (sheet .positions) in
     ap (view (a .limit) n) (c .reached .ensures)
-    ∙ closed-walked sheet (noN (a .p) (o .settle .result)) (valueOf (sums t o)) (no-owes t (noted t (c .before .before .before))) (no-due t (noted t (c .before .before .before)) sheet h) (a .limit) n (n - (a .p .at + 1)) (a .s)
-    (sym (c .before .before .before .open-rows .ensures) ∙ c .before .enum-told .given .1)
+    ∙ closed-walked sheet (noN (a .p) (o .settle .result)) (sums t o) (no-owes t o) (no-due t (c .before .before .before) sheet h) (a .limit) n (n - (a .p .at + 1)) (a .s)
+    (sym (c .before .before .before .open-rows .ensures .0) ∙ c .before .enum-told .given .1)
 
 -- the first branch, either way
 first-walked : (t : ℕ) (c : First t) (sheet : Sheet)
@@ -350,21 +294,23 @@ first-walked t c sheet h =
     (λ v. ap (view (a .limit) n) (v .4) ∙ passed-by t (record { before = record { before = record { before = c .before; match = v .0 }; enum-told = v .1 }; reached = v .2 }) sheet h)
     (c .match .came)
 
-first-keeps : (t : ℕ) (c : First t) → let o = placed t (c .before) in Kept (o .settle .last .1 .0) (c .match .w) (o .settle .result)
+first-keeps : (t : ℕ) (c : First t) → let o = placed t (c .before) in Recalled (start t (c .before) .args .t .now) (o .settle .last .1 .0) (c .match .w) (o .settle .result)
 first-keeps t c =
     let o = placed t (c .before) in
+    let a = start t (c .before) .args in
+    let e = c .before .open-rows .ensures .1 in
     ⊎-elim
-    (λ v. subst (λ (l : List ℕ). Kept (o .settle .last .1 .0) l (o .settle .result)) (sym (v .7)) (walked-keeps t (record { before = record { before = record { before = record { before = record { before = record { before = record { before = c .before; match = v .0 }; y = v .1 }; known-told = v .2 }; walk-arg = v .3 }; no = v .4 }; counted = v .5 }; walk = v .6 })))
-    (λ v. subst (λ (l : List ℕ). Kept (o .settle .last .1 .0) l (o .settle .result)) (sym (v .3)) (kept-refl (o .settle .last .1 .0) (o .settle .result)))
+    (λ v. subst (λ (l : List ℕ). Recalled (a .t .now) (o .settle .last .1 .0) l (o .settle .result)) (sym (v .7)) (recalled-then (a .t .now) (o .settle .last .1 .0) (looked t (c .before)) (v .6 .last .1 .0) (o .settle .result) (o .settle .result) (omega arith) (e .kept) (walked-keeps t (record { before = record { before = record { before = record { before = record { before = record { before = record { before = c .before; match = v .0 }; y = v .1 }; known-told = v .2 }; walk-arg = v .3 }; no = v .4 }; counted = v .5 }; walk = v .6 }))))
+    (λ v. subst (λ (l : List ℕ). Recalled (a .t .now) (o .settle .last .1 .0) l (o .settle .result)) (sym (v .3)) e)
     (c .match .came)
 
 -- the rows that stand after it
-all-kept : (t : ℕ) (c : First t) → let a = start t (c .before) .args in Kept (a .w .now) (c .match .w) (a .p .rows)
+all-kept : (t : ℕ) (c : First t) → let a = start t (c .before) .args in Recalled (a .t .now) (a .w .now) (c .match .w) (a .p .rows)
 all-kept t c =
     let b = start t (c .before) in
     let o = placed t (c .before) in
     let r = stands t o (sheet-of t b) (given t b) in
-    kept-then (b .args .w .now) (o .settle .last .1 .0) (c .match .w) (b .args .p .rows) (o .settle .result) (r .2) (r .1) (first-keeps t c)
+    recalled-then (b .args .t .now) (b .args .w .now) (o .settle .last .1 .0) (c .match .w) (b .args .p .rows) (o .settle .result) (r .2) (r .1) (first-keeps t c)
 
 walk-enum-told : (t : ℕ) → walk-lts.Need-enum-told (claims t) (walk-at t) walk.Post
 walk-enum-told t c = search needs
@@ -381,7 +327,7 @@ walk-cell-requires-2 t c κs =
 -- ---- the second branch. `Paid`: its fee is read; `Owed`: its term too
 
 abbrev Paid : ℕ → Type 0
-Paid t = walk-lts.After-struct-known5 (claims t) (walk-at t) walk.Post
+Paid t = walk-lts.After-struct-known4 (claims t) (walk-at t) walk.Post
 
 abbrev first : (t : ℕ) → Paid t → First t
 first t c = c .before .before .before
@@ -414,19 +360,19 @@ yes-given t c sheet h =
     (f .match .w) (c .before .cell2 .result) (first-keeps t f) (c .before .cell2 .ensures)
 
 abbrev Owed : ℕ → Type 0
-Owed t = walk-lts.After-term2 (claims t) (walk-at t) walk.Post
+Owed t = walk-lts.After-term (claims t) (walk-at t) walk.Post
 
 abbrev paying : (t : ℕ) → Owed t → Paid t
 paying t c = c .before .before
 
-walk-term-requires-2 : (t : ℕ) → walk-lts.Need-term-requires-2 (claims t) (walk-at t) walk.Post
-walk-term-requires-2 t c κs =
+walk-term-requires : (t : ℕ) → walk-lts.Need-term-requires (claims t) (walk-at t) walk.Post
+walk-term-requires t c κs =
     let u = undecided t (placed t (first t (c .before) .before)) in
-    (given t (begun t u) .tables .size, omega (arith, near t u), omega (arith, near t u))
+    (given t (begun t u) .tables .size, omega arith, omega (arith, near t u))
 
 -- its fees and its term
 abbrev yes-owes : (t : ℕ) → Owed t → ℕ
-yes-owes t c = yes-node t (paying t c) .spent + c .term2 .result
+yes-owes t c = yes-node t (paying t c) .spent + c .term .result
 
 yes-due : (t : ℕ) (c : Owed t) (sheet : Sheet)
     → let q = paying t c in
@@ -437,7 +383,7 @@ yes-due t c sheet h =
     let f = first t q in
     let o = placed t (f .before) in
     let a = start t (f .before) .args in
-    subst (λ (g : ℕ). Due sheet (yes-node t q) (Sum (a .x)) (yes-node t q .spent + g)) (sym (c .term2 .ensures))
+    subst (λ (g : ℕ). Due sheet (yes-node t q) (Sum (a .x)) (yes-node t q .spent + g)) (sym (c .term .ensures))
     (due-at sheet (a .t .now) (f .match .w) (yes-node t q) true (Sum (a .x)) (yes-given t q sheet h) (a .p .at + 1)
     (last-yes-is sheet (a .t .now) (a .w .now) (o .settle .last .1 .0) (a .p) (a .stop) (Sum (a .x)) (o .settle .result) (a .x) h refl (stands t o sheet h .0) (under t (undecided t o) sheet h) (q .before .cell2 .result)))
 
@@ -555,7 +501,7 @@ walk-returns-3 t c =
     let a = b .args in
     let o = placed t (f .before) in
     let r = stands t o (sheet-of t b) (given t b) in
-    let k = subst (λ (p : Node). Kept (f .match .w) (c .walk2 .last .1 .0) (p .rows)) (y .yes .ensures) (c .walk2 .ensures .1) in (
+    let k = subst (λ (p : Node). Recalled (a .t .now) (f .match .w) (c .walk2 .last .1 .0) (p .rows)) (y .yes .ensures) (c .walk2 .ensures .1) in (
       λ sheet h.
           let n = length (sheet .positions) in
           both t q sheet (c .walk2 .result) h
@@ -563,8 +509,7 @@ walk-returns-3 t c =
           ∙ ap (λ (p : Node). openFrom (sheetBound sheet) (a .limit) (n - p .at) (decided p) (view (a .limit) n (c .before .counted2 .result))) (y .yes .ensures)
           ∙ ap (λ (k : Search). openFrom (sheetBound sheet) (a .limit) (n - (a .p .at + 1)) (decided (yes-node t q)) (view (a .limit) n k)) (c .before .counted2 .ensures)
           ∙ yes-opened t (y .before .before .before) sheet h .on),
-      kept-then (a .w .now) (o .settle .last .1 .0) (c .walk2 .last .1 .0) (a .p .rows) (o .settle .result) (r .2) (r .1)
-          (kept-then (o .settle .last .1 .0) (f .match .w) (c .walk2 .last .1 .0) (o .settle .result) (o .settle .result) (omega arith) (first-keeps t f) k),
+      recalled-then (a .t .now) (a .w .now) (f .match .w) (c .walk2 .last .1 .0) (a .p .rows) (o .settle .result) (r .2) (all-kept t f .kept) k,
     )
 
 pub +walk-spec : {M : Type 1} → statement M
@@ -577,9 +522,6 @@ pub +walk-spec : {M : Type 1} → statement M
     (walk-returns t)
     (walk-settle-requires t)
     (walk-add-j t)
-    (walk-last-mark-requires t)
-    (walk-term-requires t)
-    (walk-add-due t)
     (walk-open-rows-requires t)
     (walk-enum-known-y t)
     (walk-no-requires t)
@@ -589,7 +531,7 @@ pub +walk-spec : {M : Type 1} → statement M
     (walk-reached-requires t)
     (walk-cell-requires-2 t)
     (walk-add-open t)
-    (walk-term-requires-2 t)
+    (walk-term-requires t)
     (walk-add-open-2 t)
     (walk-open-requires t)
     (walk-enum-known-y-2 t)

@@ -16,9 +16,9 @@ use Rattle.walk.specs.declared.Search.{Search}
 use Rattle.model.specs.LastYes.{lastYes}
 use Rattle.lane_rows.specs.Layout.{termPlace}
 use Rattle.lane_rows.specs.Sheet.{Sheet, sheetBound}
-use Rattle.lane_rows.specs.Tables.{valueOf, Tables}
+use Rattle.lane_rows.specs.Tables.{Tables}
 use Rattle.walk.specs.State.{bits, noCost, view, solvedS, At, Solves}
-use Rattle.lane_rows.proofs.Lanes.{rows-root, first-most, first-sums}
+use Rattle.lane_rows.proofs.Lanes.{first-most}
 use Rattle.walk.proofs.Nodes.{Due, due-at, due-bound, root-given, Opened, closed-walked, open-walked}
 use Rattle.walk.proofs.solve.Statement.{statement}
 use Rattle.walk.proofs.solve.Tie as tie
@@ -33,42 +33,36 @@ abbrev fresh : Search
 fresh = record { count = 0; cost = noCost; mask = 0 }
 
 -- the start, and the rows where the first node's bound is known
-abbrev begun : tie.After-value → tie.Start
-begun c = c .before .before .before .before .before
+abbrev begun : tie.After-first-sums → tie.Start
+begun c = c .before .before .before .before
 
-abbrev rows : (c : tie.After-value) → List ℕ
-rows c = c .before .before .before .base-row .last .0
+abbrev rows : (c : tie.After-first-sums) → List ℕ
+rows c = c .before .before .base-row .last .0
 
-first-sum-requires : tie.Need-first-sum-requires
-first-sum-requires c κs =
+first-sums-requires : tie.Need-first-sums-requires
+first-sums-requires c κs =
     let b = c .before .before .before in
     let ta = b .pre .0 .1 in
     (ta .size, ta .narrow, first-most (b .pre .0 .0) (b .args .t .now) ta)
 
-value-requires : tie.Need-value-requires
-value-requires c κs = search needs
-
 -- the first node
-root-stands : (c : tie.After-value) (sheet : Sheet) → Tables sheet (begun c .args .t .now) → At sheet (begun c .args .t .now) (rows c) root false (c .value .result)
-root-stands c sheet ta =
-    let e = c .before .before .before .base-row .ensures in
-    root-given sheet (begun c .args .t .now) (rows c) ta (rows-root sheet (rows c) (omega (arith, ta .wide, ta .narrow)) e)
-    (c .value .result) (c .value .ensures ∙ ap valueOf (c .before .first-sum .ensures ∙ first-sums sheet (begun c .args .t .now) ta (rows c) e))
+root-stands : (c : tie.After-first-sums) (sheet : Sheet) → Tables sheet (begun c .args .t .now) → At sheet (begun c .args .t .now) (rows c) root false (c .first-sums .result)
+root-stands c sheet ta = root-given sheet (begun c .args .t .now) (rows c) ta (c .before .before .base-row .ensures) (c .first-sums .result) (c .first-sums .ensures)
 
 term-requires : tie.Need-term-requires
 term-requires c κs = (begun (c .before) .pre .0 .1 .size, omega arith, omega arith)
 
 -- its term
-root-due : (c : tie.After-term) (sheet : Sheet) → Tables sheet (begun (c .before .before) .args .t .now) → Due sheet root (c .before .before .value .result) (c .term .result)
+root-due : (c : tie.After-term) (sheet : Sheet) → Tables sheet (begun (c .before .before) .args .t .now) → Due sheet root (c .before .before .first-sums .result) (c .term .result)
 unfolding bits lastYes
 root-due c sheet ta =
     let v = c .before .before in
     let t = begun v .args .t .now in
     let z : 0 + getD t (termPlace 0 0) 0 ≡ c .term .result = omega (arith, c .term .ensures) in
-    subst (Due sheet root (v .value .result)) z (due-at sheet t (rows v) root false (v .value .result) (root-stands v sheet ta) 0 refl)
+    subst (Due sheet root (v .first-sums .result)) z (due-at sheet t (rows v) root false (v .first-sums .result) (root-stands v sheet ta) 0 refl)
 
 -- it fits with the part sums
-root-fits : (c : tie.After-term) (x : ℕ) → c .before .before .value .result ≡ Sum x → c .term .result + x < noCost
+root-fits : (c : tie.After-term) (x : ℕ) → c .before .before .first-sums .result ≡ Sum x → c .term .result + x < noCost
 root-fits c x f = let b = begun (c .before .before) in root-due c (b .pre .0 .0) (b .pre .0 .1) .fits x f
 
 plus-requires : tie.Need-plus-requires
@@ -106,7 +100,7 @@ ends c sheet s ta e =
     let g = c .before in
     let limit = begun (g .before .before) .args .limit in
     record {
-      floor = c .plus .ensures ∙ due-bound sheet root (g .before .before .value .result) (g .term .result) (root-due g sheet ta);
+      floor = c .plus .ensures ∙ due-bound sheet root (g .before .before .first-sums .result) (g .term .result) (root-due g sheet ta);
       walked = e ∙ ap (limitedFrom (sheetBound sheet) limit (length (sheet .positions)) []) (fresh-view limit (length (sheet .positions)));
     }
 
@@ -121,7 +115,7 @@ returns c =
     let n = length (sheet .positions) in
     subst (Solves sheet (a .limit)) (sym (c .solved .ensures))
     (ends f sheet (c .before .reached .result) ta
-    (ap (view (a .limit) n) (c .before .reached .ensures) ∙ closed-walked sheet root (v .value .result) (g .term .result) (root-due g sheet ta) (a .limit) n n fresh (sym (c .before .before .before .before .«open» .ensures) ∙ c .before .before .enum-told .given .1)))
+    (ap (view (a .limit) n) (c .before .reached .ensures) ∙ closed-walked sheet root (v .first-sums .result) (g .term .result) (root-due g sheet ta) (a .limit) n n fresh (sym (c .before .before .before .before .«open» .ensures) ∙ c .before .before .enum-told .given .1)))
 
 -- the first node is walked on, with the part sums x
 opened : (c : tie.After-x) (sheet : Sheet)
@@ -129,15 +123,15 @@ opened : (c : tie.After-x) (sheet : Sheet)
     let v = g .before .before in
     let a = begun v .args in
     let n = length (sheet .positions) in
-    (ta : Tables sheet (a .t .now)) → Opened sheet root (v .value .result) (g .term .result) (root-due g sheet ta) (a .limit) n n fresh (c .x .given .0 .0)
+    (ta : Tables sheet (a .t .now)) → Opened sheet root (v .first-sums .result) (g .term .result) (root-due g sheet ta) (a .limit) n n fresh (c .x .given .0 .0)
 opened c sheet ta =
     let g = c .before .before .before .before in
     let v = g .before .before in
     let a = begun v .args in
     let n = length (sheet .positions) in
-    open-walked sheet root (v .value .result) (g .term .result) (root-due g sheet ta) (a .limit) n n fresh (c .x .given .0 .0) (sym (c .before .before .«open» .ensures) ∙ c .x .given .1)
+    open-walked sheet root (v .first-sums .result) (g .term .result) (root-due g sheet ta) (a .limit) n n fresh (c .x .given .0 .0) (sym (c .before .before .«open» .ensures) ∙ c .x .given .1)
 
-abbrev summed : tie.After-x → tie.After-value
+abbrev summed : tie.After-x → tie.After-first-sums
 summed c = c .before .before .before .before .before .before
 
 root-child : (c : tie.After-x) (sheet : Sheet)
@@ -179,8 +173,7 @@ solve-spec =
     tie.close
     (tie.spec
     base-row-requires
-    first-sum-requires
-    value-requires
+    first-sums-requires
     term-requires
     plus-requires
     open-requires

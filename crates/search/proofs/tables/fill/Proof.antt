@@ -1,12 +1,11 @@
 -- `fill` makes the tables of the sheet: as many lanes as the parts fill, then the fees, the number of openings, the cuts, the number of fours and the terms, which keep them.
 use Prim.Native.Nat.{_*_}
-use mathlib.Core.Path.{ap, subst, _∙_}
+use mathlib.Core.Path.{subst, _∙_}
 use native.Mathlib.Omega.{arith}
 use borrow.Author.Needs.{needs}
-use lib.ListN.{length, length-set}
+use lib.ListN.{length}
 use lib.IntN.{ℤ}
 use mir.Facts.{toZ-ofZ}
-use Rattle.lane_rows.specs.Layout.{countPlace}
 use Rattle.search.specs.Arrays.{sheetOf}
 use Rattle.search.specs.Fill.{Lanes, Terms}
 use Rattle.search.proofs.Filling.{tables-filled, ready-back}
@@ -14,14 +13,14 @@ use Rattle.search.proofs.tables.fill.Statement.{statement}
 use Rattle.search.proofs.tables.fill.Tie as tie
 
 -- where the lanes are filled
-abbrev lanes : tie.After-slice-known9 → tie.After-fill-lanes
-lanes c = c .before .before .before .before .before .before .before .before .before .before .before .before .before .before .before .before .before .before .before .before .before .before .before .before
+abbrev lanes : tie.After-slice-known7 → tie.After-fill-lanes
+lanes c = c .before .before .before .before .before .before .before .before .before .before .before .before .before .before .before .before
 
 abbrev start : tie.After-fill-lanes → tie.Start
 start c = c .before .before .before .before .before .before .before .before .before .before
 
 -- before the terms
-abbrev numbered : tie.After-slice-known11 → tie.After-slice-known9
+abbrev numbered : tie.After-slice-known9 → tie.After-slice-known7
 numbered c = c .before .before .before .before .before .before .before
 
 fours-of-requires : tie.Need-fours-of-requires
@@ -45,28 +44,8 @@ cast-put-number c = search needs
 put-number-requires : tie.Need-put-number-requires
 put-number-requires c κs = search needs
 
-add-put-cuts : tie.Need-add-put-cuts
-add-put-cuts c = search needs
-
-put-cuts-requires : tie.Need-put-cuts-requires
-put-cuts-requires c κs = search needs
-
-put-cuts-requires-2 : tie.Need-put-cuts-requires-2
-put-cuts-requires-2 c κs =
-    let l = c .before .before .before .before .before .before .before .before .before .before .before .before .before .before .before .before .before in
-    let s = l .before .before .before .before .before .before .before .before .before .before in
-    let u = c .before .before .before .before .before .before .before .before .before .before .before .put-fees in
-    let r = s .pre .0 .arrays in
-    record {
-      narrow = omega (arith, l .before .before .before .fours-of .ensures, r .lanes);
-      size = c .before .before .before .put-cuts .ensures .size ∙ ap length (c .before .before .before .before .before .before .before .put-number .ensures) ∙ length-set (u .last .1 .0) countPlace (length (s .args .fees .now)) ∙ u .ensures .size ∙ l .fill-lanes .ensures .size;
-      few = omega (arith, r .few);
-      above = omega arith;
-      room = omega (arith, r .few);
-    }
-
 cast-put-number-2 : tie.Need-cast-put-number-2
-cast-put-number-2 c = let f = c .before .before .before .before .before .before .before .before .before .before .before .before .before .before .before .before .before .before .before .before .before .before .before in omega (arith, f .fours-of .ensures, f .before .before .before .before .before .before .before .pre .0 .arrays .lanes)
+cast-put-number-2 c = let f = c .before .before .before .before .before .before .before .before .before .before .before .before .before .before .before in omega (arith, f .fours-of .ensures, f .before .before .before .before .before .before .before .pre .0 .arrays .lanes)
 
 put-number-requires-2 : tie.Need-put-number-requires-2
 put-number-requires-2 c κs = search needs
@@ -77,13 +56,11 @@ put-terms-requires c κs =
     let l = lanes k in
     let b = start l in
     let a = b .args in
-    let u = k .before .before .before .before .before .before .before .before .before .before .before .before .before .before .before .before .before .before .put-fees in
-    let v = k .before .before .before .before .before .before .before .before .before .before .before .before .before .before .put-number in
-    let x = k .before .before .before .before .before .before .before .before .before .before .put-cuts in
-    let y = k .before .before .before .before .before .before .put-cuts2 in
+    let u = k .before .before .before .before .before .before .before .before .before .before .put-fees in
+    let v = k .before .before .before .before .before .before .put-number in
     let z = k .before .before .put-number2 in (
       ready-back (b .fits .end) (b .pre .0 .arrays) (omega (arith, b .pre .0 .room, l .fill-lanes .kept .1 .1 .1 .1 .1 .1 .1 .0)),
-      z .kept .1 .1 .0 ∙ y .kept .1 .1 .1 .1 .0 ∙ x .kept .1 .1 .1 .1 .0 ∙ v .kept .1 .1 .0 ∙ u .kept .1 .0 ∙ l .fill-lanes .ensures .size,
+      z .kept .1 .1 .0 ∙ v .kept .1 .1 .0 ∙ u .kept .1 .0 ∙ l .fill-lanes .ensures .size,
     )
 
 same-length : tie.Need-same-length
@@ -100,16 +77,14 @@ returns c =
     let b = start l in
     let a = b .args in
     let t = l .fill-lanes .last .1 .1 .1 .1 .1 .1 .1 .1 .0 in
-    let u = k .before .before .before .before .before .before .before .before .before .before .before .before .before .before .before .before .before .before .put-fees in
-    let v = k .before .before .before .before .before .before .before .before .before .before .before .before .before .before .put-number in
-    let x = k .before .before .before .before .before .before .before .before .before .before .put-cuts in
-    let y = k .before .before .before .before .before .before .put-cuts2 in
+    let u = k .before .before .before .before .before .before .before .before .before .before .put-fees in
+    let v = k .before .before .before .before .before .before .put-number in
     let z = k .before .before .put-number2 in
     let g = c .before .before .before .before .put-terms in
-    tables-filled (a .end) (a .positions .now) (a .fees .now) (a .lives .now) (a .lefts .now) (a .prices .now) t (u .last .1 .0) (v .last .1 .1 .0) (x .last .1 .1 .1 .1 .0) (y .last .1 .1 .1 .1 .0) (z .last .1 .1 .0) (g .last .1 .1 .1 .1 .1 .1 .1 .0)
+    tables-filled (a .end) (a .positions .now) (a .fees .now) (a .lives .now) (a .lefts .now) (a .prices .now) t (u .last .1 .0) (v .last .1 .1 .0) (z .last .1 .1 .0) (g .last .1 .1 .1 .1 .1 .1 .1 .0)
     (f .result) (f .ensures) (b .pre .0 .arrays)
     (subst (λ (x : ℤ). Lanes x (a .positions .now) (a .lives .now) (a .lefts .now) (a .prices .now) t (f .result * 4)) (toZ-ofZ (b .fits .end)) (l .fill-lanes .ensures))
-    (u .ensures) (v .ensures) (x .ensures) (y .ensures) (z .ensures)
+    (u .ensures) (v .ensures) (z .ensures)
     (subst (λ (x : ℤ). Terms (sheetOf x (a .positions .now) (a .fees .now) (a .lives .now) (a .lefts .now) (a .prices .now)) (z .last .1 .1 .0) (g .last .1 .1 .1 .1 .1 .1 .1 .0) (length (a .lives .now))) (toZ-ofZ (b .fits .end)) (g .ensures))
 
 pub fill-spec : {M : Type 1} → statement M
@@ -122,9 +97,6 @@ fill-spec =
     put-fees-requires
     cast-put-number
     put-number-requires
-    add-put-cuts
-    put-cuts-requires
-    put-cuts-requires-2
     cast-put-number-2
     put-number-requires-2
     put-terms-requires

@@ -7,11 +7,11 @@ use lib.ListN.{length, getD}
 use Rattle.least.specs.Filled.{FilledBy}
 use Rattle.least.proofs.Filled.{filled-none, filled-more}
 use Rattle.search.proofs.tables.put_prices.Statement.{statement}
-use Rattle.lane_rows.specs.Layout.{rowPlace, priceRow}
+use Rattle.lane_rows.specs.Layout.{pricePlace}
 use Rattle.search.proofs.tables.put_prices.Tie as tie
 
 abbrev Inv-loop : tie.InvT-loop
-Inv-loop prices q t₀ j₀ t j = (j ≤ length prices) × FilledBy (λ (j : ℕ). rowPlace (priceRow + j) q) (λ (j : ℕ). getD prices j 0) j t₀ t
+Inv-loop prices q t₀ j₀ t j = (j ≤ length prices) × FilledBy (λ (j : ℕ). pricePlace j q) (λ (j : ℕ). getD prices j 0) j t₀ t
 
 abbrev μ-loop : tie.MeasureT-loop
 μ-loop prices q t₀ j₀ t j = length prices - j
@@ -57,7 +57,7 @@ returns c =
     let a = c .before .before .args in
     let l = c .before .loop in
     let z : l .j ≡ length (a .prices .now) = omega arith in
-    subst (λ (n : ℕ). FilledBy (λ (j : ℕ). rowPlace (priceRow + j) (a .q)) (λ (j : ℕ). getD (a .prices .now) j 0) n (a .t .now) (l .t)) z (l .inv .1)
+    subst (λ (n : ℕ). FilledBy (λ (j : ℕ). pricePlace j (a .q)) (λ (j : ℕ). getD (a .prices .now) j 0) n (a .t .now) (l .t)) z (l .inv .1)
 
 pub put-prices-spec : {M : Type 1} → statement M
 put-prices-spec =
@@ -68,8 +68,8 @@ put-prices-spec =
     loop-holds
     mul-t
     shared-slice-read-t
-    add-t
     mul-t-2
+    add-t
     add-t-2
     mul-t-3
     slice-write-t

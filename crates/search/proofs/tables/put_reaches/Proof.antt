@@ -7,6 +7,7 @@ use mir.Syntax.{w32}
 use mir.Val.{toZ, ofZ}
 use mir.Facts.{toZ-ofZ}
 use Rattle.lane_rows.specs.Layout.{reachBase, place}
+use Rattle.lane_rows.proofs.Rising.{row-below}
 use Rattle.search.specs.Fill.{Triangle, reachOf}
 use Rattle.search.proofs.Triangles.{triangle-none, triangle-more}
 use borrow.Author.Needs.{needs}
@@ -42,7 +43,7 @@ loop-again c =
     let a = s .args in
     let h = s .pre .2 .lane in (
       omega (arith, c .before .before .before .before .loop-test .taken),
-      triangle-more (reachOf (toZ w32 (ofZ w32 (a .life))) (toZ w32 (ofZ w32 (a .first))) (a .positions .now) (l .loop .j)) (λ i h. refl) (λ j i k x b d e. omega (arith, e, s .pre .0, c .before .before .before .before .loop-test .taken)) (c .before .before .put-reach .ensures) (l .loop .inv .1),
+      triangle-more (reachOf (toZ w32 (ofZ w32 (a .life))) (toZ w32 (ofZ w32 (a .first))) (a .positions .now) (l .loop .j)) (λ i h. refl) (λ j i k x b d e. omega (arith, e, row-below j i (l .loop .j) x b, h)) (c .before .before .put-reach .ensures) (l .loop .inv .1),
     )
 
 same-length : tie.Need-same-length Inv-loop μ-loop

@@ -1,26 +1,37 @@
 -- `put_suffix` copies one row of a part's suffix table into its lane. The invariant: the first i numbers are written.
-use Prim.Native.Nat.{ℕ, _+_, _-_, _≤_}
-use mathlib.Core.Path.{_≡_, refl, subst}
+use Prim.Native.Nat.{ℕ, _+_, _-_, _*_, _≤_, _<_}
+use mathlib.Core.Path.{_≡_, refl}
 use native.Mathlib.Omega.{arith}
 use Rattle.least.specs.Filled.{FilledBy}
 use Rattle.least.proofs.Filled.{filled-none, filled-more}
-use Rattle.lane_rows.specs.Layout.{suffixBase, place}
+use Rattle.lane_rows.specs.Layout.{laneCount, markCount, blockRows, suffixBase}
+use Rattle.lane_rows.proofs.Rising.{row-inside}
 use Rattle.search.specs.Fill.{ownOf}
 use borrow.Author.Needs.{needs}
 use Rattle.search.proofs.tables.put_suffix.Statement.{statement}
 use Rattle.search.proofs.tables.put_suffix.Tie as tie
 
 abbrev Inv-loop : tie.InvT-loop
-Inv-loop tab j q t₀ i₀ i-end t i = (i-end ≡ j + 1) × (i ≤ i-end) × FilledBy (λ (i : ℕ). place suffixBase j i q) (λ (i : ℕ). ownOf tab j i) i t₀ t
+Inv-loop tab j q t₀ row i₀ i-end t i = (i-end ≡ j + 1) × (i ≤ i-end) × FilledBy (λ (i : ℕ). suffixBase + (row + i) * laneCount + q) (λ (i : ℕ). ownOf tab j i) i t₀ t
 
 abbrev μ-loop : tie.MeasureT-loop
-μ-loop tab j q t₀ i₀ i-end t i = i-end - i
+μ-loop tab j q t₀ row i₀ i-end t i = i-end - i
+
+row-of-requires : tie.Need-row-of-requires Inv-loop μ-loop
+row-of-requires c κs = omega arith
 
 add-i-end : tie.Need-add-i-end Inv-loop μ-loop
 add-i-end c = search needs
 
 loop-holds : tie.Need-loop-holds Inv-loop μ-loop
 loop-holds c = (refl, omega arith, filled-none)
+
+-- the row stands in its block
+inside : (c : tie.In-loop Inv-loop μ-loop) → c .before .before .row-of .result + c .before .loop .i < blockRows
+inside c =
+    let s = c .before .before .before .before .before in
+    let l = c .before .loop in
+    omega (arith, row-inside (s .args .j) (l .i) markCount (omega (arith, c .loop-test .taken, l .inv .0)) (omega (arith, s .pre .0)), c .before .before .row-of .ensures .0)
 
 mul-capped : tie.Need-mul-capped Inv-loop μ-loop
 mul-capped c = search needs
@@ -52,11 +63,8 @@ add-t-2 c = search needs
 add-t-3 : tie.Need-add-t-3 Inv-loop μ-loop
 add-t-3 c = search needs
 
-mul-t-3 : tie.Need-mul-t-3 Inv-loop μ-loop
-mul-t-3 c = search needs
-
 slice-write-t : tie.Need-slice-write-t Inv-loop μ-loop
-slice-write-t c = search needs
+slice-write-t c = let b = c .before .before .before .before .before .before .before in omega (arith, inside (c .before .before), b .pre .2 .lane, b .pre .2 .size, c .before .before .before .loop .inv .2 .size)
 
 add-i : tie.Need-add-i Inv-loop μ-loop
 add-i c = search needs
@@ -65,17 +73,19 @@ loop-less : tie.Need-loop-less Inv-loop μ-loop
 loop-less c = search needs
 
 loop-again : tie.Need-loop-again Inv-loop μ-loop
-loop-again c = (refl, omega arith, filled-more (c .capped .result) (omega arith) (λ y h e. omega (arith, e)) (c .capped .ensures) (c .before .before .before .loop .inv .2))
+loop-again c =
+    let b = c .before .before .before .before .before .before .before in
+    (refl, omega arith, filled-more (c .capped .result) (omega (arith, inside (c .before .before), b .pre .2 .lane, b .pre .2 .size)) (λ y h e. omega (arith, e)) (c .capped .ensures) (c .before .before .before .loop .inv .2))
 
 same-length : tie.Need-same-length Inv-loop μ-loop
 same-length c = search needs
 
 returns : tie.Need-returns Inv-loop μ-loop
 returns c =
-    let a = c .before .before .before .before .args in
+    let a = c .before .before .before .before .before .args in
     let l = c .before .loop in
     let z : l .i ≡ a .j + 1 = omega arith in
-    subst (λ (n : ℕ). FilledBy (λ (i : ℕ). place suffixBase (a .j) i (a .q)) (λ (i : ℕ). ownOf (a .tab .now) (a .j) i) n (a .t .now) (l .t)) z (l .inv .2)
+    rw (z, c .before .before .row-of .ensures .0) at (l .inv .2)
 
 pub put-suffix-spec : {M : Type 1} → statement M
 put-suffix-spec =
@@ -83,6 +93,7 @@ put-suffix-spec =
     (tie.spec
     Inv-loop
     μ-loop
+    row-of-requires
     add-i-end
     loop-holds
     mul-capped
@@ -90,12 +101,11 @@ put-suffix-spec =
     mul-capped-2
     shared-slice-read-capped
     capped-requires
-    mul-t
     add-t
-    mul-t-2
+    mul-t
     add-t-2
     add-t-3
-    mul-t-3
+    mul-t-2
     slice-write-t
     add-i
     loop-less

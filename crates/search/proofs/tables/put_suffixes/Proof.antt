@@ -3,6 +3,7 @@ use Prim.Native.Nat.{ℕ, _-_, _≤_}
 use mathlib.Core.Path.{_≡_, refl, subst, _∙_}
 use native.Mathlib.Omega.{arith}
 use Rattle.lane_rows.specs.Layout.{suffixBase, place}
+use Rattle.lane_rows.proofs.Rising.{row-below}
 use Rattle.search.specs.Fill.{Triangle, ownOf}
 use Rattle.search.proofs.Triangles.{triangle-none, triangle-more}
 use borrow.Author.Needs.{needs}
@@ -36,7 +37,7 @@ loop-again c =
     let s = l .before .before .before in
     let h = s .pre .2 .lane in (
       omega (arith, c .before .before .before .before .loop-test .taken),
-      triangle-more (ownOf (s .args .tab .now) (l .loop .j)) (λ i h. refl) (λ j i k a b d e. omega (arith, e, s .pre .0, c .before .before .before .before .loop-test .taken)) (c .before .before .put-suffix .ensures) (l .loop .inv .1),
+      triangle-more (ownOf (s .args .tab .now) (l .loop .j)) (λ i h. refl) (λ j i k a b d e. omega (arith, e, row-below j i (l .loop .j) a b, s .pre .2 .lane)) (c .before .before .put-suffix .ensures) (l .loop .inv .1),
     )
 
 same-length : tie.Need-same-length Inv-loop μ-loop

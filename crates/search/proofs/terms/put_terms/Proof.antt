@@ -12,7 +12,9 @@ use Rattle.lane_rows.specs.Sheet.{Column, noColumn}
 use Rattle.search.specs.Arrays.{lanePart, columnOf, foursOf, sheetOf}
 use Rattle.search.specs.Fill.{Raised, Terms}
 use Rattle.search.proofs.Filling.{columns-length, columns-at, ready-back}
-use Rattle.search.proofs.Raising.{terms-none, terms-since, terms-more}
+use Rattle.lane_rows.specs.Layout.{markCount}
+use Rattle.lane_rows.proofs.Rising.{row-inside, triangle-next}
+use Rattle.search.proofs.Raising.{Cleared, terms-none, terms-since, terms-more}
 use Rattle.search.proofs.terms.put_terms.Statement.{statement}
 use Rattle.search.proofs.terms.put_terms.Tie as tie
 
@@ -22,24 +24,32 @@ Inv-loop end positions fees lives lefts prices tab₀ t₀ q₀ tab t q = (q ≤
 abbrev μ-loop : tie.MeasureT-loop
 μ-loop end positions fees lives lefts prices tab₀ t₀ q₀ tab t q = length lives - q
 
-add-clear : tie.Need-add-clear Inv-loop μ-loop
-add-clear c = search needs
+add-row-of : tie.Need-add-row-of Inv-loop μ-loop
+add-row-of c = search needs
 
-mul-clear : tie.Need-mul-clear Inv-loop μ-loop
-mul-clear c = search needs
+row-of-requires : tie.Need-row-of-requires Inv-loop μ-loop
+row-of-requires c κs = omega (arith, c .before .before .before .before .before .before .pre .0 .arrays .few)
 
 clear-requires : tie.Need-clear-requires Inv-loop μ-loop
-clear-requires c κs = search needs
+clear-requires c κs =
+    let b = c .before .before .before .before .before .before .before .before in
+    let n = length (b .args .positions .now) in
+    let few = b .pre .0 .arrays .few in
+    (omega (arith, row-inside n n markCount (omega arith) (omega (arith, few)), triangle-next n, c .before .row-of .ensures .0), b .pre .1)
+
+-- all terms are cleared
+cleared : (c : tie.After-clear Inv-loop μ-loop) → let b = c .before .before .before .before .before .before .before .before .before in let a = b .args in Cleared (sheetOf (toZ w32 (ofZ w32 (a .end))) (a .positions .now) (a .fees .now) (a .lives .now) (a .lefts .now) (a .prices .now)) (b .pre .0 .arrays .few) (a .t .now) (c .clear .last .1 .0)
+cleared c = rw (c .before .before .row-of .ensures .0) at (c .clear .ensures)
 
 loop-holds : tie.Need-loop-holds Inv-loop μ-loop
 loop-holds c =
-    let b = c .before .before .before .before .before .before .before .before .before .before in
+    let b = c .before .before .before .before .before .before .before .before .before .before .before in
     let a = b .args in
-    (omega arith, refl, terms-none (sheetOf (toZ w32 (ofZ w32 (a .end))) (a .positions .now) (a .fees .now) (a .lives .now) (a .lefts .now) (a .prices .now)) (b .pre .0 .arrays .few) (a .t .now) (c .before .before .clear .last .1 .0) (c .before .before .clear .ensures))
+    (omega arith, refl, terms-none (sheetOf (toZ w32 (ofZ w32 (a .end))) (a .positions .now) (a .fees .now) (a .lives .now) (a .lefts .now) (a .prices .now)) (b .pre .0 .arrays .few) (a .t .now) (c .before .before .clear .last .1 .0) (cleared (c .before .before)))
 
 raise-part-requires : tie.Need-raise-part-requires Inv-loop μ-loop
 raise-part-requires c κs =
-    let b = c .before .before .before .before .before .before .before .before .before .before .before .before .before .before in
+    let b = c .before .before .before .before .before .before .before .before .before .before .before .before .before .before .before in
     let a = b .args in
     let l = c .before .before .before .loop in
     (ready-back (b .fits .end) (b .pre .0 .arrays) (omega (arith, b .pre .0 .room, l .inv .1)), l .inv .2 .size ∙ c .before .before .before .before .before .before .clear .ensures .size ∙ b .pre .1)
@@ -52,7 +62,7 @@ loop-less c = search needs
 
 loop-again : tie.Need-loop-again Inv-loop μ-loop
 loop-again c =
-    let b = c .before .before .before .before .before .before .before .before .before .before .before .before .before .before .before .before .before .before .before in
+    let b = c .before .before .before .before .before .before .before .before .before .before .before .before .before .before .before .before .before .before .before .before in
     let a = b .args in
     let r = b .pre .0 .arrays in
     let l = c .before .before .before .before .before .before .before .before .loop in
@@ -79,14 +89,14 @@ same-length-2 c = search needs
 
 returns : tie.Need-returns Inv-loop μ-loop
 returns c =
-    let b = c .before .before .before .before .before .before .before .before .before .before .before .before in
+    let b = c .before .before .before .before .before .before .before .before .before .before .before .before .before in
     let a = b .args in
     let l = c .before .loop in
     let z : l .q ≡ length (a .lives .now) = omega arith in
     let sheet = sheetOf (toZ w32 (ofZ w32 (a .end))) (a .positions .now) (a .fees .now) (a .lives .now) (a .lefts .now) (a .prices .now) in
     let k = c .before .before .before .before .clear in
     subst (λ (x : ℤ). Terms (sheetOf x (a .positions .now) (a .fees .now) (a .lives .now) (a .lefts .now) (a .prices .now)) (a .t .now) (l .t) (length (a .lives .now))) (toZ-ofZ (b .fits .end))
-    (terms-since sheet (b .pre .0 .arrays .few) (a .t .now) (k .last .1 .0) (l .t) (length (a .lives .now)) (k .ensures) (subst (Terms sheet (k .last .1 .0) (l .t)) z (l .inv .2)))
+    (terms-since sheet (b .pre .0 .arrays .few) (a .t .now) (k .last .1 .0) (l .t) (length (a .lives .now)) (cleared (c .before .before .before .before)) (subst (Terms sheet (k .last .1 .0) (l .t)) z (l .inv .2)))
 
 pub put-terms-spec : {M : Type 1} → statement M
 put-terms-spec =
@@ -94,8 +104,8 @@ put-terms-spec =
     (tie.spec
     Inv-loop
     μ-loop
-    add-clear
-    mul-clear
+    add-row-of
+    row-of-requires
     clear-requires
     loop-holds
     raise-part-requires

@@ -1,21 +1,25 @@
 -- `raise` takes the larger of each term of a row and the part's. The invariant: the first i are raised.
-use Prim.Native.Nat.{ℕ, _+_, _-_, _≤_, max}
-use mathlib.Core.Path.{_≡_, refl, ap₂, subst, _∙_}
+use Prim.Native.Nat.{ℕ, _+_, _-_, _≤_, _<_, max}
+use mathlib.Core.Path.{_≡_, refl, ap₂, _∙_}
 use native.Mathlib.Omega.{arith}
 use lib.ListN.{getD}
 use Rattle.least.specs.Filled.{FilledBy}
 use Rattle.least.proofs.Filled.{filled-none, filled-more}
-use Rattle.lane_rows.specs.Layout.{termPlace}
+use Rattle.lane_rows.specs.Layout.{markCount, blockRows, termBase}
+use Rattle.lane_rows.proofs.Rising.{row-inside}
 use Rattle.search.specs.Fill.{ownOf}
 use borrow.Author.Needs.{needs}
 use Rattle.search.proofs.terms.raise.Statement.{statement}
 use Rattle.search.proofs.terms.raise.Tie as tie
 
 abbrev Inv-loop : tie.InvT-loop
-Inv-loop tab j t₀ i₀ i-end t i = (i-end ≡ j + 1) × (i ≤ i-end) × FilledBy (termPlace j) (λ (i : ℕ). max (getD t₀ (termPlace j i) 0) (ownOf tab j i)) i t₀ t
+Inv-loop tab j t₀ row i₀ i-end t i = (i-end ≡ j + 1) × (i ≤ i-end) × FilledBy (λ (i : ℕ). termBase + (row + i)) (λ (i : ℕ). max (getD t₀ (termBase + (row + i)) 0) (ownOf tab j i)) i t₀ t
 
 abbrev μ-loop : tie.MeasureT-loop
-μ-loop tab j t₀ i₀ i-end t i = i-end - i
+μ-loop tab j t₀ row i₀ i-end t i = i-end - i
+
+row-of-requires : tie.Need-row-of-requires Inv-loop μ-loop
+row-of-requires c κs = omega arith
 
 add-i-end : tie.Need-add-i-end Inv-loop μ-loop
 add-i-end c = search needs
@@ -23,23 +27,33 @@ add-i-end c = search needs
 loop-holds : tie.Need-loop-holds Inv-loop μ-loop
 loop-holds c = (refl, omega arith, filled-none)
 
-mul-at : tie.Need-mul-at Inv-loop μ-loop
-mul-at c = search needs
+-- the row stands among the terms
+inside : (c : tie.In-loop Inv-loop μ-loop) → c .before .before .row-of .result + c .before .loop .i < blockRows
+inside c =
+    let s = c .before .before .before .before .before in
+    let l = c .before .loop in
+    omega (arith, row-inside (s .args .j) (l .i) markCount (omega (arith, c .loop-test .taken, l .inv .0)) (omega (arith, s .pre .0)), c .before .before .row-of .ensures .0)
 
 add-at : tie.Need-add-at Inv-loop μ-loop
 add-at c = search needs
 
-add-larger : tie.Need-add-larger Inv-loop μ-loop
-add-larger c = search needs
+add-at-2 : tie.Need-add-at-2 Inv-loop μ-loop
+add-at-2 c = search needs
 
 mul-larger : tie.Need-mul-larger Inv-loop μ-loop
 mul-larger c = search needs
 
 slice-read-larger : tie.Need-slice-read-larger Inv-loop μ-loop
-slice-read-larger c = search needs
+slice-read-larger c = omega (arith, inside (c .before), c .before .before .before .before .before .before .pre .2, c .before .before .loop .inv .2 .size)
 
 mul-capped : tie.Need-mul-capped Inv-loop μ-loop
 mul-capped c = search needs
+
+add-capped : tie.Need-add-capped Inv-loop μ-loop
+add-capped c = search needs
+
+mul-capped-2 : tie.Need-mul-capped-2 Inv-loop μ-loop
+mul-capped-2 c = search needs
 
 shared-slice-read-capped : tie.Need-shared-slice-read-capped Inv-loop μ-loop
 shared-slice-read-capped c = search needs
@@ -50,14 +64,11 @@ capped-requires c κs = tt
 larger-requires : tie.Need-larger-requires Inv-loop μ-loop
 larger-requires c κs = tt
 
-add-t : tie.Need-add-t Inv-loop μ-loop
-add-t c = search needs
-
 mul-t : tie.Need-mul-t Inv-loop μ-loop
 mul-t c = search needs
 
 slice-write-t : tie.Need-slice-write-t Inv-loop μ-loop
-slice-write-t c = search needs
+slice-write-t c = omega (arith, inside (c .before .before .before .before), c .before .before .before .before .before .before .before .before .before .pre .2, c .before .before .before .before .before .loop .inv .2 .size)
 
 add-i : tie.Need-add-i Inv-loop μ-loop
 add-i c = search needs
@@ -67,13 +78,12 @@ loop-less c = search needs
 
 loop-again : tie.Need-loop-again Inv-loop μ-loop
 loop-again c =
-    let b = c .before .before .before .before .before in
-    let l = b .loop in
-    let j = b .before .before .before .args .j in (
+    let l = c .before .before .before .before .before .loop in
+    let row = c .before .before .before .before .before .before .row-of .result in (
       refl,
       omega arith,
-      filled-more (c .larger .result) (omega arith) (λ y h e. omega (arith, e))
-          (c .larger .ensures ∙ ap₂ max (l .inv .2 .rest (termPlace j (l .i)) (λ k h e. omega (arith, e))) (c .before .capped .ensures)) (l .inv .2),
+      filled-more (c .larger .result) (omega (arith, inside (c .before .before .before .before), c .before .before .before .before .before .before .before .before .before .pre .2)) (λ y h e. omega (arith, e))
+          (c .larger .ensures ∙ ap₂ max (l .inv .2 .rest (termBase + (row + l .i)) (λ k h e. omega (arith, e))) (c .before .capped .ensures)) (l .inv .2),
     )
 
 same-length : tie.Need-same-length Inv-loop μ-loop
@@ -81,10 +91,9 @@ same-length c = search needs
 
 returns : tie.Need-returns Inv-loop μ-loop
 returns c =
-    let a = c .before .before .before .before .args in
     let l = c .before .loop in
-    let z : l .i ≡ a .j + 1 = omega arith in
-    subst (λ (n : ℕ). FilledBy (termPlace (a .j)) (λ (i : ℕ). max (getD (a .t .now) (termPlace (a .j) i) 0) (ownOf (a .tab .now) (a .j) i)) n (a .t .now) (l .t)) z (l .inv .2)
+    let z : l .i ≡ c .before .before .before .before .before .args .j + 1 = omega arith in
+    rw (z, c .before .before .row-of .ensures .0) at (l .inv .2)
 
 pub raise-spec : {M : Type 1} → statement M
 raise-spec =
@@ -92,18 +101,19 @@ raise-spec =
     (tie.spec
     Inv-loop
     μ-loop
+    row-of-requires
     add-i-end
     loop-holds
-    mul-at
     add-at
-    add-larger
+    add-at-2
     mul-larger
     slice-read-larger
     mul-capped
+    add-capped
+    mul-capped-2
     shared-slice-read-capped
     capped-requires
     larger-requires
-    add-t
     mul-t
     slice-write-t
     add-i

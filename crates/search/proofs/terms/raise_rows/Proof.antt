@@ -4,6 +4,7 @@ use mathlib.Core.Path.{_≡_, ap, subst, _∙_}
 use native.Mathlib.Omega.{arith}
 use lib.ListN.{getD}
 use Rattle.lane_rows.specs.Layout.{termPlace}
+use Rattle.lane_rows.proofs.Rising.{row-below}
 use Rattle.search.specs.Fill.{Triangle, ownOf}
 use Rattle.search.proofs.Triangles.{triangle-none, triangle-more}
 use borrow.Author.Needs.{needs}
@@ -40,8 +41,8 @@ loop-again c =
     let tab = s .args .tab .now in (
       omega (arith, c .before .before .before .before .loop-test .taken),
       triangle-more (λ (i : ℕ). max (getD u (termPlace j i) 0) (ownOf tab j i))
-          (λ i h. ap (λ (n : ℕ). max n (ownOf tab j i)) (l .loop .inv .1 .rest (termPlace j i) (λ k x a b e. omega (arith, e, s .pre .0, c .before .before .before .before .loop-test .taken))))
-          (λ k i x a b d e. omega (arith, e, s .pre .0, c .before .before .before .before .loop-test .taken)) (c .before .before .raise .ensures) (l .loop .inv .1),
+          (λ i h. ap (λ (n : ℕ). max n (ownOf tab j i)) (l .loop .inv .1 .rest (termPlace j i) (λ k x a b e. omega (arith, e, row-below k x j a b))))
+          (λ k i x a b d e. omega (arith, e, row-below k i j a b)) (c .before .before .raise .ensures) (l .loop .inv .1),
     )
 
 same-length : tie.Need-same-length Inv-loop μ-loop

@@ -1,96 +1,156 @@
--- `open_rows` hands over the part sums of a node that is walked on: where the test with x drops the node, so does that with its part sums, which are no less.
-use Prim.Native.Nat.{ℕ, _+_, _≤_}
-use mathlib.Core.Path.{_≡_, refl, sym, ap, subst, _∙_}
+-- `open_rows` hands over the part sums of a node that is walked on: Missing where its term is; and where the test with x drops the node, so does that with its part sums, which are no less.
+use Prim.Native.Nat.{ℕ, _+_, _-_, _*_, _<_, _≤_}
+use mathlib.Core.Path.{_≡_, refl, sym, ap, _∙_}
 use mathlib.Core.Bool.{Bool, true, false, cond}
 use native.Mathlib.Omega.{arith}
-use borrow.Author.Needs.{needs}
 use borrow.Author.Tests.{ltb-false, le-ltb}
-use lib.Dec.{ltb, leb}
+use lib.Dec.{leb}
+use lib.ListN.{getD}
 use Rattle.branch.specs.declared.Bound.{Bound}
 use Rattle.branch.specs.declared.Bound.the-variants.{Missing, Sum}
 use Rattle.branch.proofs.Bounds.{no-sum, sum-inj}
-use Rattle.lane_rows.specs.Layout.{inf, suffixBase, lanesIn}
+use Rattle.lane_rows.specs.Layout.{laneCount, inf, suffixBase, termPlace, lanesIn}
 use Rattle.lane_rows.specs.Tables.{valueOf}
-use Rattle.lane_rows.specs.Rows.{lane, sumLanes, Stack}
+use Rattle.lane_rows.specs.Rows.{lane, sumLanes, termAt, sumsAt}
+use Rattle.lane_rows.proofs.Lanes.{where-some, where-none, value-sum, value-missing}
+use Rattle.lane_rows.proofs.Memory.{recalled-none}
 use Rattle.walk.specs.declared.Search.{Search}
 use Rattle.walk.specs.State.{viewed, undropped, openS}
-use Rattle.walk.proofs.Nodes.{value-sum}
+use Rattle.walk.proofs.Nodes.{sums-low}
+use borrow.Author.Needs.{needs}
 use Rattle.walk.proofs.Search.open_rows.Statement.{statement}
 use Rattle.walk.proofs.Search.open_rows.Tie as tie
 
 module _ (limit spent : ℕ) (s : Search) where
-  -- what is handed over is what was tested
-  open-same : (x y : ℕ) → openS limit spent (Sum x) s ≡ Sum y → x ≡ y
-  open-same x y e = go (leb limit (s .count)) (viewed (spent + x) s) e
+  -- a node without part sums
+  open-none : (e : Bound) → e ≡ Missing → Missing ≡ openS limit spent e s
+  open-none e f = rw f (go (leb limit (s .count)))
     where
-      go : (b t : Bool) → cond b Missing (cond t (Sum x) Missing) ≡ Sum y → x ≡ y
-      go true t f = absurd (no-sum Missing y refl f)
-      go false true f = sum-inj (Sum x) x y refl f
-      go false false f = absurd (no-sum Missing y refl f)
+      go : (b : Bool) → Missing ≡ cond b Missing Missing
+      go true = refl
+      go false = refl
 
   -- a node that x drops, larger part sums drop too
-  open-drops : (x z : ℕ) → x ≤ z → openS limit spent (Sum x) s ≡ Missing → Missing ≡ openS limit spent (valueOf z) s
-  open-drops x z h e = go (leb limit (s .count)) refl e
+  open-drops : (x z : ℕ) → x ≤ z → openS limit spent (Sum x) s ≡ Missing → Missing ≡ openS limit spent (Sum z) s
+  open-drops x z h e = go (leb limit (s .count)) e
     where
       dropped : (t : Bool) → viewed (spent + x) s ≡ t → cond t (Sum x) Missing ≡ Missing → viewed (spent + z) s ≡ false
       dropped true f g = absurd (no-sum (Sum x) x g refl)
       dropped false f g = le-ltb (spent + z) (s .cost) (omega (arith, ltb-false (spent + x) (s .cost) f))
 
-      by : (t : Bool) → viewed (spent + z) s ≡ false → Missing ≡ undropped spent (cond t (Sum z) Missing) s
-      by true f = sym (ap (λ (b : Bool). cond b (Sum z) Missing) f)
-      by false f = refl
+      go : (b : Bool) → cond b Missing (undropped spent (Sum x) s) ≡ Missing → Missing ≡ cond b Missing (undropped spent (Sum z) s)
+      go true g = refl
+      go false g = sym (ap (λ (b : Bool). cond b (Sum z) Missing) (dropped (viewed (spent + x) s) refl g))
 
-      go : (b : Bool) → leb limit (s .count) ≡ b → cond b Missing (undropped spent (Sum x) s) ≡ Missing → Missing ≡ cond (leb limit (s .count)) Missing (undropped spent (valueOf z) s)
-      go true f g = rw f
-      go false f g = rw f (by (ltb z inf) (dropped (viewed (spent + x) s) refl g))
+-- the lanes' sum
+abbrev sum : tie.Start → ℕ
+sum s = let a = s .args in sumLanes (lanesIn (a .t .now)) (λ (q : ℕ). lane (a .t .now) (a .w .now) suffixBase (a .j) q (a .rows))
 
-open-requires : tie.Need-open-requires
-open-requires c κs = λ y f. let p = c .before .before .pre .1 in let z = sum-inj (Sum (c .before .before .args .x)) (c .before .before .args .x) y refl f in omega (arith, p .1, p .2)
+low : (s : tie.Start) → sum s ≤ laneCount * inf
+low s = let a = s .args in sums-low (a .t .now) (a .w .now) (a .j) (a .rows) (sum s) (s .pre .0 .stack .narrow) refl
 
-enum-known-y : tie.Need-enum-known-y
-enum-known-y c = search needs
+-- the term that is read
+read : (c : tie.After-term) → let a = c .before .before .before .before .before .args in c .term .result ≡ termAt (a .t .now) (a .w .now) (a .j) (a .rows)
+read c = let a = c .before .before .before .before .before .args in c .term .ensures ∙ ap (λ (i : ℕ). getD (a .t .now) (termPlace (a .j) i) 0) (c .before .last-mark .ensures)
+
+-- where it is there
+given : (c : tie.After-g) → let a = c .before .before .before .before .before .before .before .before .args in (termAt (a .t .now) (a .w .now) (a .j) (a .rows) ≡ c .g .given .0 .0) × (c .g .given .0 .0 < inf)
+given c =
+    let a = c .before .before .before .before .before .before .before .before .args in
+    let v = c .before .before in
+    value-sum (termAt (a .t .now) (a .w .now) (a .j) (a .rows)) (c .g .given .0 .0) (ap valueOf (sym (read (v .before))) ∙ sym (v .value .ensures) ∙ c .g .given .1)
+
+-- the part sums are the lanes' sum
+opens : (c : tie.After-g) → let b = c .before .before .before .before .before .before .before .before in let a = b .args in openS (a .limit) (a .spent + c .g .given .0 .0) (Sum (sum b)) (a .self) ≡ openS (a .limit) (a .spent + termAt (a .t .now) (a .w .now) (a .j) (a .rows)) (sumsAt (a .t .now) (a .w .now) (a .j) (a .rows)) (a .self)
+opens c =
+    let b = c .before .before .before .before .before .before .before .before in
+    let a = b .args in
+    let g = given c in
+    let e = where-some (termAt (a .t .now) (a .w .now) (a .j) (a .rows)) (sum b) (omega (arith, g .0, g .1)) in
+    λ i. openS (a .limit) (a .spent + sym (g .0) i) (sym e i) (a .self)
+
+last-mark-requires : tie.Need-last-mark-requires
+last-mark-requires c κs = search needs
+
+term-requires : tie.Need-term-requires
+term-requires c κs =
+    let l = c .before .before .before .before .pre .0 in
+    let r = c .before .before .before .before .args .rows in
+    (l .size, omega (arith, c .last-mark .ensures, l .stack .marks (r - 1) (omega (arith, l .some))), l .stack .near)
+
+value-requires : tie.Need-value-requires
+value-requires c κs = search needs
+
+enum-known-g : tie.Need-enum-known-g
+enum-known-g c = search needs
 
 enum-told : tie.Need-enum-told
 enum-told c = search needs
 
 returns : tie.Need-returns
 returns c =
-    let o = c .before .before in
-    let b = o .before .before .before in
+    let b = c .before .before .before .before .before .before .before .before in
     let a = b .args in
-    open-drops (a .limit) (a .spent) (a .self) (a .x) (sumLanes (lanesIn (a .t .now)) (λ (q : ℕ). lane (a .t .now) (a .w .now) suffixBase (a .j) q (a .rows))) (b .pre .1 .0)
-    (sym (o .«open» .ensures) ∙ c .enum-told .given .1)
+    let v = c .before .before in
+    let m = value-missing (termAt (a .t .now) (a .w .now) (a .j) (a .rows)) (ap valueOf (sym (read (v .before))) ∙ sym (v .value .ensures) ∙ c .enum-told .given .1) in
+    (open-none (a .limit) (a .spent + termAt (a .t .now) (a .w .now) (a .j) (a .rows)) (a .self) (sumsAt (a .t .now) (a .w .now) (a .j) (a .rows)) (where-none (termAt (a .t .now) (a .w .now) (a .j) (a .rows)) (sum b) m), recalled-none (a .t .now) (a .w .now) (a .rows) (b .pre .0 .memo))
 
-cell-requires : tie.Need-cell-requires
-cell-requires c κs = search needs
+add-open : tie.Need-add-open
+add-open c = omega (arith, given (c .before) .1, c .before .before .before .before .before .before .before .before .before .pre .2)
 
-lane-sum-requires : tie.Need-lane-sum-requires
-lane-sum-requires c κs =
-    let y = c .before .before in
-    let o = y .before .before in
-    let b = o .before .before .before in
-    let a = b .args in
-    let z = open-same (a .limit) (a .spent) (a .self) (a .x) (y .y .given .0 .0) (sym (o .«open» .ensures) ∙ y .y .given .1) in
-    ((b .pre .0 .0, subst (λ (lo : ℕ). Stack (lanesIn (a .t .now)) (a .t .now) (a .w .now) suffixBase lo (a .j) (a .rows)) (sym (c .cell .ensures)) (b .pre .0 .1)), omega (arith, z, b .pre .1 .0))
+open-requires : tie.Need-open-requires
+open-requires c κs = λ y f.
+    let b = c .before .before .before .before .before .before .before .before .before in
+    let z = sum-inj (Sum (b .args .x)) (b .args .x) y refl f in
+    omega (arith, z, given (c .before) .1, b .pre .1, b .pre .2, low b)
 
-value-requires : tie.Need-value-requires
-value-requires c κs = search needs
+enum-told-2 : tie.Need-enum-told-2
+enum-told-2 c = search needs
 
--- where the part sums are known
-abbrev begun : tie.After-value → tie.Start
-begun c = c .before .before .before .before .before .before .before .before .before
-
-summed : (c : tie.After-value) → let a = begun c .args in c .value .result ≡ valueOf (sumLanes (lanesIn (a .t .now)) (λ (q : ℕ). lane (a .t .now) (a .w .now) suffixBase (a .j) q (a .rows)))
-summed c = c .value .ensures ∙ ap valueOf (c .before .lane-sum .ensures)
-
-open-requires-2 : tie.Need-open-requires-2
-open-requires-2 c κs =
-    let a = begun c .args in
-    λ y f. omega (arith, begun c .pre .1 .2, value-sum (sumLanes (lanesIn (a .t .now)) (λ (q : ℕ). lane (a .t .now) (a .w .now) suffixBase (a .j) q (a .rows))) y (sym (summed c) ∙ f) .1)
+enum-told-3 : tie.Need-enum-told-3
+enum-told-3 c = search needs
 
 returns-2 : tie.Need-returns-2
-returns-2 c = let a = begun (c .before) .args in c .open2 .ensures ∙ ap (λ (e : Bound). openS (a .limit) (a .spent) e (a .self)) (summed (c .before))
+returns-2 c =
+    let b = c .before .before .before .before .before .before .before .before .before .before .before .before in
+    let a = b .args in
+    let g = c .before .before .before .before in
+    (open-drops (a .limit) (a .spent + g .g .given .0 .0) (a .self) (a .x) (sum b) (b .pre .1) (sym (c .before .before .«open» .ensures) ∙ c .enum-told3 .given .1) ∙ opens g, recalled-none (a .t .now) (a .w .now) (a .rows) (b .pre .0 .memo))
+
+add-open-2 : tie.Need-add-open-2
+add-open-2 c = omega (arith, given (c .before .before .before .before) .1, c .before .before .before .before .before .before .before .before .before .before .before .before .pre .2)
+
+lane-sum-requires : tie.Need-lane-sum-requires
+lane-sum-requires c κs = search needs
+
+open-requires-2 : tie.Need-open-requires-2
+open-requires-2 c κs = λ y f.
+    let b = c .before .before .before .before .before .before .before .before .before .before .before .before .before .before in
+    let z = sum-inj (Sum (c .lane-sum .result)) (c .lane-sum .result) y refl f in
+    omega (arith, z, c .lane-sum .ensures .0, given (c .before .before .before .before .before .before) .1, b .pre .2, low b)
+
+returns-3 : tie.Need-returns-3
+returns-3 c =
+    let a = c .before .before .before .before .before .before .before .before .before .before .before .before .before .before .before .args in
+    let g = c .before .before .before .before .before .before .before in
+    (c .open2 .ensures ∙ ap (λ (s : ℕ). openS (a .limit) (a .spent + g .g .given .0 .0) (Sum s) (a .self)) (c .before .lane-sum .ensures .0) ∙ opens g, c .before .lane-sum .ensures .1)
 
 pub open-rows-spec : {M : Type 1} → statement M
 open-rows-spec =
-    tie.close (tie.spec open-requires enum-known-y enum-told returns cell-requires lane-sum-requires value-requires open-requires-2 returns-2)
+    tie.close
+    (tie.spec
+    last-mark-requires
+    term-requires
+    value-requires
+    enum-known-g
+    enum-told
+    returns
+    add-open
+    open-requires
+    enum-told-2
+    enum-told-3
+    returns-2
+    add-open-2
+    lane-sum-requires
+    open-requires-2
+    returns-3)
