@@ -1,0 +1,116 @@
+//! Files: inputs read whole, outputs written whole or not at all.
+
+use crate::failure::{failure, Failure, CANT_CREATE, INPUT_OUTPUT, NO_INPUT, USAGE};
+use crate::output::shown;
+use crate::standard_output;
+use std::ffi::OsStr;
+use std::fs::{self, File, OpenOptions};
+use std::io::{self, Read, Write};
+use std::os::unix::ffi::OsStrExt;
+use std::os::unix::fs::MetadataExt;
+use std::path::{Path, PathBuf};
+use std::process;
+
+/// More bytes than any text may have: what a longer input has beyond them changes no answer.
+const MOST: u64 = 1 << 20;
+
+/// A text with the name that its messages go by.
+pub struct Input {
+    pub name: String,
+    pub bytes: Vec<u8>,
+}
+
+/// Whether this names standard input or output.
+pub fn is_standard(path: &OsStr) -> bool {
+    path == "-"
+}
+
+/// A path as messages show it.
+pub fn name_of(path: &OsStr) -> String {
+    shown(path.as_bytes())
+}
+
+/// Reads a file, or standard input for `-`. A text that can't be read is an error of the tool, and not an empty text.
+pub fn read(path: &OsStr) -> Result<Input, Failure> {
+    let mut bytes = Vec::new();
+    if is_standard(path) {
+        let read = io::stdin().lock().take(MOST).read_to_end(&mut bytes);
+        read.map_err(|error| failure(NO_INPUT, format_args!("standard input can't be read: {error}")))?;
+        return Ok(Input { name: "<stdin>".to_string(), bytes });
+    }
+    let name = name_of(path);
+    let read = File::open(path).and_then(|file| file.take(MOST).read_to_end(&mut bytes));
+    match read {
+        Ok(_) => Ok(Input { name, bytes }),
+        Err(error) if Path::new(path).is_dir() => Err(failure(NO_INPUT, format_args!("{name} is a folder, not a file ({error})"))),
+        Err(error) => Err(failure(NO_INPUT, format_args!("{name} can't be read: {error}"))),
+    }
+}
+
+/// Refuses an output that is one of the inputs: its text would be gone.
+pub fn not_among(path: &OsStr, inputs: &[&OsStr]) -> Result<(), Failure> {
+    let place = |path: &OsStr| fs::metadata(path).ok().filter(|found| found.is_file()).map(|found| (found.dev(), found.ino()));
+    let own = place(path);
+    match inputs.iter().find(|input| own.is_some() && !is_standard(input) && place(input) == own) {
+        Some(input) => Err(failure(USAGE, format_args!("{} would be written over {}, which is read", name_of(path), name_of(input)))),
+        None => Ok(()),
+    }
+}
+
+/// Writes a file: a regular one under a temporary name that is then renamed, anything else (a device, a pipe) in place; `-` is standard
+/// output.
+pub fn write(path: &OsStr, bytes: &[u8]) -> Result<(), Failure> {
+    if is_standard(path) {
+        return standard_output::write(bytes);
+    }
+    let cant_create = |error: io::Error| failure(CANT_CREATE, format_args!("{} can't be made: {error}", name_of(path)));
+    let place = Path::new(path);
+    match fs::metadata(place) {
+        Ok(found) if found.is_dir() => Err(failure(CANT_CREATE, format_args!("{} is a folder, not a file", name_of(path)))),
+        Ok(found) if found.is_file() => {
+            // A file that may not be written is not replaced either.
+            OpenOptions::new().write(true).open(place).map_err(cant_create)?;
+            let real = fs::canonicalize(place).map_err(cant_create)?;
+            replace(path, &real, bytes, Some(found.permissions()))
+        }
+        Ok(_) => {
+            let mut file = OpenOptions::new().write(true).open(place).map_err(cant_create)?;
+            file.write_all(bytes).map_err(|error| cant_write(path, error))
+        }
+        Err(error) if error.kind() != io::ErrorKind::NotFound => Err(cant_create(error)),
+        Err(_) => replace(path, &behind_links(place), bytes, None),
+    }
+}
+
+/// Where a name leads that does not exist: a link to a file that is not there yet is followed.
+fn behind_links(place: &Path) -> PathBuf {
+    match fs::read_link(place) {
+        Ok(target) => place.parent().unwrap_or(Path::new("")).join(target),
+        Err(_) => place.to_path_buf(),
+    }
+}
+
+fn cant_write(path: &OsStr, error: io::Error) -> Failure {
+    failure(INPUT_OUTPUT, format_args!("{} can't be written: {error}", name_of(path)))
+}
+
+/// Writes beside the file and renames; whatever fails, the file stays as it was and nothing half-written is left.
+fn replace(path: &OsStr, real: &Path, bytes: &[u8], permissions: Option<fs::Permissions>) -> Result<(), Failure> {
+    if real.file_name().is_none() || path.as_bytes().ends_with(b"/") {
+        return Err(failure(CANT_CREATE, format_args!("{} can't be made: it names no file", name_of(path))));
+    }
+    let folder = real.parent().unwrap_or(Path::new(""));
+    let temporary = folder.join(format!(".juzvarola.{}.tmp", process::id()));
+    let mut file = OpenOptions::new()
+        .write(true)
+        .create_new(true)
+        .open(&temporary)
+        .map_err(|error| failure(CANT_CREATE, format_args!("{} can't be made: {error}", name_of(path))))?;
+    let written =
+        file.write_all(bytes).and_then(|()| permissions.map_or(Ok(()), |own| file.set_permissions(own))).and_then(|()| file.sync_all());
+    drop(file);
+    written.and_then(|()| fs::rename(&temporary, real)).map_err(|error| {
+        let _ = fs::remove_file(&temporary);
+        cant_write(path, error)
+    })
+}
