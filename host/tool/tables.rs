@@ -48,20 +48,17 @@ fn width(heads: &[String], rows: &[Vec<String>], column: usize) -> usize {
         .unwrap_or(0)
 }
 
-/// A row whose last cell is broken at blanks where it is too long: further lines have the other cells empty.
+/// A row whose last cell is broken after a comma where it is too long: further lines have the other cells empty.
 fn wrapped(row: &[String]) -> Vec<Vec<String>> {
     let Some((last, others)) = row.split_last() else { return Vec::new() };
     let mut lines = vec![String::new()];
-    for word in last.split(' ') {
-        let line = lines.last_mut().map_or(0, |line| line.chars().count());
-        if line > 0 && line + 1 + word.chars().count() > WRAP {
+    for item in last.split_inclusive(", ") {
+        let line = lines.last().map_or(0, |line| line.chars().count());
+        if line > 0 && line + item.trim_end().chars().count() > WRAP {
             lines.push(String::new());
         }
-        if let Some(line) = lines.last_mut() {
-            line.push_str(if line.is_empty() { "" } else { " " });
-            line.push_str(word);
-        }
+        lines.last_mut().into_iter().for_each(|line| line.push_str(item));
     }
     let cells = |at: usize| others.iter().map(move |cell| if at == 0 { cell.clone() } else { String::new() });
-    lines.into_iter().enumerate().map(|(at, line)| cells(at).chain([line]).collect()).collect()
+    lines.into_iter().enumerate().map(|(at, line)| cells(at).chain([line.trim_end().to_string()]).collect()).collect()
 }

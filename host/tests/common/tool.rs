@@ -62,6 +62,17 @@ impl Folder {
         ran(child.wait_with_output().expect("the program ends"))
     }
 
+    /// Runs it with this on standard input, while nobody reads its output any more.
+    pub fn run_unread(&self, words: &[&str], input: &[u8]) -> Ran {
+        let mut command = Command::new(PROGRAM);
+        command.args(words).current_dir(&self.0).stdin(Stdio::piped()).stdout(Stdio::piped()).stderr(Stdio::piped());
+        let mut child = command.spawn().expect("the program runs");
+        // It can't write before it has read.
+        drop(child.stdout.take());
+        let _ = child.stdin.take().expect("its input").write_all(input);
+        ran(child.wait_with_output().expect("the program ends"))
+    }
+
     /// Runs a line of shell in it, in which the program is "$juzvarola".
     pub fn shell(&self, line: &str) -> Ran {
         let mut command = Command::new("sh");
