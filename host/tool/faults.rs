@@ -122,3 +122,28 @@ fn named(due: Due, line: u32) -> String {
 fn well_formed(value: &[u8]) -> bool {
     (1..=10).contains(&value.len()) && value.iter().all(u8::is_ascii_digit) && (value.len() == 1 || value[0] != b'0')
 }
+
+#[cfg(test)]
+mod tests {
+    use super::*;
+
+    fn words(result: u32, text: u32, line: u32, fault: &str) -> Failure {
+        let reply = Reply { result, text, line, fault: fault.as_bytes().to_vec(), lines: Vec::new() };
+        refusal(&reply, &Input { name: "job".to_string(), bytes: format!("horizon=6\n{fault}\n").into_bytes() }, None)
+    }
+
+    /// A number that a later library may answer is a text at fault, with its line.
+    #[test]
+    fn later_numbers_are_texts_at_fault() {
+        let failure = words(12, 1, 2, "holder=3");
+        assert_eq!((failure.status, failure.message.as_str()), (2, "job:2: the text is at fault (12)\n    holder=3\n"));
+        let failure = words(12, 1, 0, "");
+        assert_eq!((failure.status, failure.message.as_str()), (2, "job: the text is at fault (12)\n"));
+    }
+
+    /// A value of an unknown key outside its range is said so.
+    #[test]
+    fn later_keys_have_words_too() {
+        assert_eq!(words(3, 1, 2, "removal=1000001").message, "job:2: the value is outside its range (3)\n    removal=1000001\n");
+    }
+}

@@ -119,3 +119,41 @@ pub fn with_walk(text: &[u8], walk: u64) -> Option<Vec<u8>> {
     let length = text[start..].iter().position(|byte| *byte == b'\n')?;
     Some([&text[..start], format!("walk={walk}").as_bytes(), &text[start + length..]].concat())
 }
+
+#[cfg(test)]
+mod tests {
+    use super::*;
+
+    const JOB: &str =
+        "horizon=6\nidles=1\nidle=3\nwalk=11\nopenings=1\nopening=2\nfee=10\nparts=2\nlife=3\nleft=2\nprice=5\nlife=4\nleft=4\nprice=7\n";
+
+    /// Lines with other keys, wherever they stand, change nothing of what is read.
+    #[test]
+    fn unknown_keys_are_passed_over() {
+        let more = JOB.replace("left=2\n", "left=2\nremoval=9\ninside=1\nholder=2\n").replace("fee=10\n", "fee=10\ncrew=4\n");
+        assert_eq!(format!("{:?}", job(more.as_bytes())), format!("{:?}", job(JOB.as_bytes())));
+        let read = job(more.as_bytes());
+        assert_eq!((read.horizon, read.walk, &read.idles[..]), (6, Some(11), &[3][..]));
+        assert_eq!((read.openings[0], read.parts.len()), (Opening { step: 2, fee: 10 }, 2));
+        assert_eq!(
+            (read.price(1, 2), read.price(2, 2), read.price(3, 2), read.price(0, 2), read.price(1, 3)),
+            (Some(5), Some(7), None, None, None)
+        );
+        let plan = plan(b"costlow=3\ncost=15\nstops=1\nstop=2\ncount=1\npart=1\n");
+        assert_eq!((plan.cost, plan.stops), (15, vec![Stop { step: 2, parts: vec![1] }]));
+    }
+
+    /// Prices in a form that is not known are missing, and not zero.
+    #[test]
+    fn unknown_prices_are_missing() {
+        let read = job(JOB.replace("price=5\n", "base=9\ndrop=1\nleast=1\n").as_bytes());
+        assert_eq!((read.price(1, 2), read.price(2, 2)), (None, Some(7)));
+    }
+
+    /// Only the walk line is replaced; a text without one has none to replace.
+    #[test]
+    fn the_walk_number_is_replaced() {
+        assert_eq!(with_walk(JOB.as_bytes(), 40), Some(JOB.replace("walk=11", "walk=40").into_bytes()));
+        assert_eq!(with_walk(JOB.replace("walk=11\n", "").as_bytes(), 40), None);
+    }
+}

@@ -3,7 +3,7 @@
 use super::foot::foot;
 use super::labels::{round_distance, spread};
 use super::marks::{length, Marks};
-use super::rows::row;
+use super::rows;
 use super::sheet::{Sheet, STRIP};
 use super::style::{HATCH, STYLE};
 use crate::numbers::{counted, grouped};
@@ -28,10 +28,10 @@ pub fn svg(judged: &Judged) -> String {
     idle_steps(&mut marks, &sheet, job);
     axis(&mut marks, &sheet, job);
     stop_lines(&mut marks, &sheet, plan);
-    for part in 1..=job.parts.len() as u64 {
-        row(&mut marks, &sheet, job, plan, part);
-    }
+    let parts = 1..=job.parts.len() as u64;
+    parts.clone().for_each(|part| rows::bars(&mut marks, &sheet, job, plan, part));
     hatching(&mut marks, &sheet, job);
+    parts.for_each(|part| rows::words(&mut marks, &sheet, job, plan, part));
     openings(&mut marks, &sheet, job, plan);
     stop_labels(&mut marks, &sheet, job, plan);
     changes(&mut marks, &sheet, plan);

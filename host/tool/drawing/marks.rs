@@ -62,6 +62,13 @@ impl Marks {
         self.text += &format!("<text{}>{}</text>\n", listed(&own), escaped(words));
     }
 
+    /// Words with a white edge, which stay legible on a dark ground.
+    pub fn words_on_white(&mut self, class: &str, at: (f64, f64), words: &str) {
+        let own = [("class", format!("{class} edge")), ("x", length(at.0)), ("y", length(at.1)), ("aria-hidden", "true".to_string())];
+        self.text += &format!("<text{}>{}</text>\n", listed(&own), escaped(words));
+        self.words(class, at, words);
+    }
+
     /// Words that run upwards from here.
     pub fn words_upwards(&mut self, class: &str, at: (f64, f64), words: &str) {
         let turn = format!("translate({} {}) rotate(-90)", length(at.0), length(at.1));

@@ -7,18 +7,25 @@ use crate::lives::Life;
 use crate::numbers::{counted, grouped};
 use crate::texts::{Job, Plan};
 
-/// A part's row: its name, its lives, and what its changes cost.
-pub fn row(marks: &mut Marks, sheet: &Sheet, job: &Job, plan: &Plan, part: u64) {
-    let middle = sheet.y(part) + sheet.row / 2.0;
-    let Some(own) = job.parts.get(part as usize - 1) else { return };
-    marks.words("part", (16.0, middle - 1.0), &format!("Part {part}"));
-    marks.words("small", (16.0, middle + 13.0), &format!("life {}, left {}", own.life, own.left));
+/// A part's lives as bars, with a dotted line where a stop leaves it in.
+pub fn bars(marks: &mut Marks, sheet: &Sheet, job: &Job, plan: &Plan, part: u64) {
     for life in job.lives(plan, part) {
         bar(marks, sheet, job, part, &life);
     }
     for stop in plan.stops.iter().filter(|stop| !stop.parts.contains(&part)) {
         let (x, y) = (sheet.x(stop.step), sheet.y(part) + sheet.margin());
         marks.line("across", (x, y), (x, y + sheet.bar()), &[]);
+    }
+}
+
+/// The words of a part's row: its name, what is used of each life, and what its changes cost.
+pub fn words(marks: &mut Marks, sheet: &Sheet, job: &Job, plan: &Plan, part: u64) {
+    let middle = sheet.y(part) + sheet.row / 2.0;
+    let Some(own) = (part as usize).checked_sub(1).and_then(|at| job.parts.get(at)) else { return };
+    marks.words("part", (16.0, middle - 1.0), &format!("Part {part}"));
+    marks.words("small", (16.0, middle + 13.0), &format!("life {}, left {}", own.life, own.left));
+    for life in job.lives(plan, part) {
+        used(marks, sheet, job, part, &life);
     }
     let count = plan.changes(part).len() as u64;
     marks.words("part", (sheet.right + 12.0, middle - 1.0), &counted(count, "change"));
@@ -34,25 +41,25 @@ fn bar(marks: &mut Marks, sheet: &Sheet, job: &Job, part: u64, life: &Life) {
     let tip = format!("part {part}, steps {} to {}: {} of {} used", life.from, life.to, life.used, life.life);
     marks.rectangle("life", (left, top), (right - left, height), &own, &tip);
     marks.polygon("wear", &wear(sheet, job, life, top, height), &[]);
-    let due = sheet.x(job.due(life));
     if life.too_long() > 0 {
-        marks.rectangle(
-            "late",
-            (due, top),
-            (right - due, height),
-            &[("data-part", part.to_string()), ("data-steps", life.too_long().to_string())],
-            &tip,
-        );
+        let due = sheet.x(job.due(life));
+        let more = [("data-part", part.to_string()), ("data-steps", life.too_long().to_string())];
+        marks.rectangle("late", (due, top), (right - due, height), &more, &tip);
     }
     marks.line("tick", (left, top), (left, top + height), &[]);
+}
+
+/// What is used of a life, and how much it is late, where there is room.
+fn used(marks: &mut Marks, sheet: &Sheet, job: &Job, part: u64, life: &Life) {
+    let (left, due, right) = (sheet.x(life.from), sheet.x(job.due(life)), sheet.x(life.to));
+    let y = sheet.y(part) + sheet.margin() + 12.0;
     let used = format!("{}/{}", life.used, life.life);
-    let room = if life.too_long() > 0 { due - left } else { right - left };
-    if room >= used.len() as f64 * 6.8 + 10.0 {
-        marks.words("used", (left + 7.0, top + 12.0), &used);
+    if due - left >= used.len() as f64 * 6.8 + 10.0 {
+        marks.words_on_white("used", (left + 7.0, y), &used);
     }
     let late = format!("{} late", life.too_long());
     if life.too_long() > 0 && right - due >= late.len() as f64 * 7.4 + 6.0 {
-        marks.words("late-words", (due + 4.0, top + 12.0), &late);
+        marks.words("late-words", (due + 4.0, y), &late);
     }
 }
 
