@@ -90,6 +90,30 @@ fn outputs_that_cannot_be_written() {
     failed(&folder, &before, &folder.run(&["plan", "a job.txt", "-o", ""]), 73, "can't be made");
 }
 
+/// What can be known beforehand is said before the walk: this one takes a minute.
+#[test]
+fn outputs_are_looked_at_before_a_long_walk() {
+    let folder = folder();
+    let text = String::from_utf8(job("14_full64_4")).expect("text").replace("walk=5000000\n", "walk=4000000000\n");
+    folder.write("long.txt", text.as_bytes());
+    let before = folder.names();
+    failed(&folder, &before, &folder.run(&["plan", "long.txt", "-o", "no such/plan"]), 73, "can't be made: No such file");
+    failed(&folder, &before, &folder.run(&["plan", "long.txt", "-o", "long.txt/plan"]), 73, "can't be made: Not a directory");
+    failed(&folder, &before, &folder.shell("\"$juzvarola\" plan long.txt >&-"), 74, "standard output is closed");
+}
+
+/// A temporary name that is taken is left alone.
+#[test]
+fn temporary_names_that_are_taken() {
+    let folder = folder();
+    let line = "for number in 0 1 2; do echo mine > .juzvarola.$$.$number.tmp; done; exec \"$juzvarola\" plan 'a job.txt' -o new";
+    let ran = folder.shell(line);
+    assert_eq!(ran.status, 0, "{ran:?}");
+    let taken: Vec<String> = folder.names().into_iter().filter(|name| name.starts_with(".juzvarola")).collect();
+    assert!(taken.len() == 3 && taken.iter().all(|name| folder.read(name) == "mine\n"), "{taken:?}");
+    assert_eq!(folder.read("new"), folder.read("its plan.txt"));
+}
+
 #[test]
 fn a_reader_that_goes_away() {
     let folder = folder();

@@ -4,6 +4,7 @@ use crate::failure::{failure, Failure, CANT_CREATE, INPUT_OUTPUT, NO_INPUT, USAG
 use crate::output::shown;
 use crate::standard_output;
 use std::ffi::OsStr;
+use std::fmt::Display;
 use std::fs::{self, File, OpenOptions};
 use std::io::{self, Read, Write};
 use std::os::unix::ffi::OsStrExt;
@@ -57,60 +58,104 @@ pub fn not_among(path: &OsStr, inputs: &[&OsStr]) -> Result<(), Failure> {
     }
 }
 
+/// How an output is written.
+enum Way {
+    /// To standard output.
+    Standard,
+    /// Where it is: a device, a pipe.
+    InPlace,
+    /// Beside the file, which is then replaced: its real place, and its permissions where it is already there.
+    Replaced(PathBuf, Option<fs::Permissions>),
+}
+
+/// Whether an output can be made, as far as that can be told beforehand: nobody wants to know after a long walk.
+pub fn ready(path: &OsStr) -> Result<(), Failure> {
+    match way(path)? {
+        Way::Standard => standard_output::ready(),
+        Way::InPlace => Ok(()),
+        Way::Replaced(real, _) => match fs::metadata(folder_of(&real)) {
+            Ok(found) if found.is_dir() => Ok(()),
+            Ok(_) => Err(cant_make(path, "Not a directory")),
+            Err(error) => Err(cant_make(path, error)),
+        },
+    }
+}
+
 /// Writes a file: a regular one under a temporary name that is then renamed, anything else (a device, a pipe) in place; `-` is standard
 /// output.
 pub fn write(path: &OsStr, bytes: &[u8]) -> Result<(), Failure> {
-    if is_standard(path) {
-        return standard_output::write(bytes);
+    match way(path)? {
+        Way::Standard => standard_output::write(bytes),
+        Way::InPlace => {
+            let mut file = OpenOptions::new().write(true).open(path).map_err(|error| cant_make(path, error))?;
+            file.write_all(bytes).map_err(|error| cant_write(path, error))
+        }
+        Way::Replaced(real, permissions) => replace(path, &real, bytes, permissions),
     }
-    let cant_create = |error: io::Error| failure(CANT_CREATE, format_args!("{} can't be made: {error}", name_of(path)));
+}
+
+/// How this output is to be written, or why it can't be.
+fn way(path: &OsStr) -> Result<Way, Failure> {
+    if is_standard(path) {
+        return Ok(Way::Standard);
+    }
     let place = Path::new(path);
     match fs::metadata(place) {
         Ok(found) if found.is_dir() => Err(failure(CANT_CREATE, format_args!("{} is a folder, not a file", name_of(path)))),
         Ok(found) if found.is_file() => {
             // A file that may not be written is not replaced either.
-            OpenOptions::new().write(true).open(place).map_err(cant_create)?;
-            let real = fs::canonicalize(place).map_err(cant_create)?;
-            replace(path, &real, bytes, Some(found.permissions()))
+            let opened = OpenOptions::new().write(true).open(place).and_then(|_| fs::canonicalize(place));
+            opened.map(|real| Way::Replaced(real, Some(found.permissions()))).map_err(|error| cant_make(path, error))
         }
-        Ok(_) => {
-            let mut file = OpenOptions::new().write(true).open(place).map_err(cant_create)?;
-            file.write_all(bytes).map_err(|error| cant_write(path, error))
-        }
-        Err(error) if error.kind() != io::ErrorKind::NotFound => Err(cant_create(error)),
-        Err(_) => replace(path, &behind_links(place), bytes, None),
+        Ok(_) => Ok(Way::InPlace),
+        Err(error) if error.kind() != io::ErrorKind::NotFound => Err(cant_make(path, error)),
+        Err(_) if place.file_name().is_none() || path.as_bytes().ends_with(b"/") => Err(cant_make(path, "it names no file")),
+        Err(_) => Ok(Way::Replaced(behind_links(place), None)),
     }
 }
 
 /// Where a name leads that does not exist: a link to a file that is not there yet is followed.
 fn behind_links(place: &Path) -> PathBuf {
     match fs::read_link(place) {
-        Ok(target) => place.parent().unwrap_or(Path::new("")).join(target),
+        Ok(target) => folder_of(place).join(target),
         Err(_) => place.to_path_buf(),
     }
 }
 
-fn cant_write(path: &OsStr, error: io::Error) -> Failure {
-    failure(INPUT_OUTPUT, format_args!("{} can't be written: {error}", name_of(path)))
+/// The folder that a file is in.
+fn folder_of(place: &Path) -> &Path {
+    place.parent().filter(|folder| !folder.as_os_str().is_empty()).unwrap_or(Path::new("."))
+}
+
+fn cant_make(path: &OsStr, why: impl Display) -> Failure {
+    failure(CANT_CREATE, format_args!("{} can't be made: {why}", name_of(path)))
+}
+
+fn cant_write(path: &OsStr, why: impl Display) -> Failure {
+    failure(INPUT_OUTPUT, format_args!("{} can't be written: {why}", name_of(path)))
+}
+
+/// A new file under a name that nothing has yet.
+fn temporary(folder: &Path) -> io::Result<(PathBuf, File)> {
+    let mut made = Err(io::ErrorKind::AlreadyExists.into());
+    for number in 0..100 {
+        let name = folder.join(format!(".juzvarola.{}.{number}.tmp", process::id()));
+        made = OpenOptions::new().write(true).create_new(true).open(&name).map(|file| (name, file));
+        if !matches!(&made, Err(error) if error.kind() == io::ErrorKind::AlreadyExists) {
+            return made;
+        }
+    }
+    made
 }
 
 /// Writes beside the file and renames; whatever fails, the file stays as it was and nothing half-written is left.
 fn replace(path: &OsStr, real: &Path, bytes: &[u8], permissions: Option<fs::Permissions>) -> Result<(), Failure> {
-    if real.file_name().is_none() || path.as_bytes().ends_with(b"/") {
-        return Err(failure(CANT_CREATE, format_args!("{} can't be made: it names no file", name_of(path))));
-    }
-    let folder = real.parent().unwrap_or(Path::new(""));
-    let temporary = folder.join(format!(".juzvarola.{}.tmp", process::id()));
-    let mut file = OpenOptions::new()
-        .write(true)
-        .create_new(true)
-        .open(&temporary)
-        .map_err(|error| failure(CANT_CREATE, format_args!("{} can't be made: {error}", name_of(path))))?;
-    let written =
-        file.write_all(bytes).and_then(|()| permissions.map_or(Ok(()), |own| file.set_permissions(own))).and_then(|()| file.sync_all());
+    let (name, mut file) = temporary(folder_of(real)).map_err(|error| cant_make(path, error))?;
+    let own = |file: &File| permissions.map_or(Ok(()), |own| file.set_permissions(own));
+    let written = file.write_all(bytes).and_then(|()| own(&file)).and_then(|()| file.sync_all());
     drop(file);
-    written.and_then(|()| fs::rename(&temporary, real)).map_err(|error| {
-        let _ = fs::remove_file(&temporary);
+    written.and_then(|()| fs::rename(&name, real)).map_err(|error| {
+        let _ = fs::remove_file(&name);
         cant_write(path, error)
     })
 }

@@ -22,7 +22,8 @@ pub const PAGES: &[Page] = &[
 Writes the plan text to PLAN, or to standard output; its cost, the nodes
 walked and the floor (no plan costs less) are said on standard error.
 If the walk has more nodes than the job's walk number, the best plan so far
-is written and called such; if there is none, no file is made.
+is written and called such; if there is none, no file is made. Prefer -o to >:
+a shell makes an empty file first, which is the plan of doing nothing.
 
   -o, --output PLAN   where the plan goes; - is standard output
   -q, --quiet         no progress, however long the walk

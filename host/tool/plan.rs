@@ -14,6 +14,7 @@ use std::ffi::OsStr;
 pub fn run(order: &PlanOrder) -> Result<u8, Failure> {
     let input = files::read(&order.job)?;
     files::not_among(&order.output, &[&order.job])?;
+    files::ready(&order.output)?;
     let reply = progress::plan(&input.bytes, order.quiet)?;
     if !matches!(reply.result, 0 | 6 | 7) {
         return Err(faults::refusal(&reply, &input, None));

@@ -24,13 +24,18 @@ extern "C" fn look() {
 #[link_section = ".init_array"]
 static LOOK: extern "C" fn() = look;
 
-/// Writes it all to standard output, or says why not.
-pub fn write(bytes: &[u8]) -> Result<(), Failure> {
+/// Refuses a standard output that is closed.
+pub fn ready() -> Result<(), Failure> {
     if CLOSED.load(Ordering::Relaxed) {
         return Err(failure(INPUT_OUTPUT, "standard output is closed: nothing is written"));
     }
+    Ok(())
+}
+
+/// Writes it all to standard output, or says why not.
+pub fn write(bytes: &[u8]) -> Result<(), Failure> {
+    ready()?;
     let mut out = io::stdout().lock();
-    out.write_all(bytes)
-        .and_then(|()| out.flush())
-        .map_err(|error| failure(INPUT_OUTPUT, format_args!("standard output can't be written: {error}")))
+    let written = out.write_all(bytes).and_then(|()| out.flush());
+    written.map_err(|error| failure(INPUT_OUTPUT, format_args!("standard output can't be written: {error}")))
 }

@@ -14,7 +14,7 @@ table{border-collapse:collapse}caption{text-align:left;font-weight:bold;padding:
 th,td{border:1px solid #000;padding:.2em .6em;text-align:right}td:last-child,th:last-child{text-align:left}
 tr{break-inside:avoid}
 @page{size:landscape;margin:12mm}
-@media print{body{margin:0}.lists{break-before:page}}
+@media print{body{margin:0;font-size:9pt}.lists{break-before:page}}
 ";
 
 /// The page.

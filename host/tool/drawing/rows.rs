@@ -57,9 +57,10 @@ fn used(marks: &mut Marks, sheet: &Sheet, job: &Job, part: u64, life: &Life) {
     if due - left >= used.len() as f64 * 6.8 + 10.0 {
         marks.words_on_white("used", (left + 7.0, y), &used);
     }
-    let late = format!("{} late", life.too_long());
-    if life.too_long() > 0 && right - due >= late.len() as f64 * 7.4 + 6.0 {
-        marks.words("late-words", (due + 4.0, y), &late);
+    let late = [format!("{} late", life.too_long()), format!("+{}", life.too_long())];
+    let fits = |words: &&String| right - due >= words.len() as f64 * 7.4 + 6.0;
+    if let Some(words) = late.iter().find(fits).filter(|_| life.too_long() > 0) {
+        marks.words("late-words", (due + 4.0, y), words);
     }
 }
 
