@@ -101,13 +101,8 @@ fn comma_separated_values_add_up() {
     });
 }
 
-#[test]
-fn lists_of_the_specifications_plan() {
-    let folder = Folder::new();
-    folder.write("job.txt", &text(JOB));
-    folder.write("plan.txt", &text("cost=37 stops=2 stop=2 count=1 part=1 stop=4 count=2 part=1 part=2"));
-    let ran = folder.run(&["list", "job.txt", "plan.txt", "--every", "3"]);
-    let expected = "\
+/// All lists of the specification's plan.
+const LISTS: &str = "\
 Plan plan.txt of job job.txt
 every part's life is kept and the cost is true: 37 (result 0)
 
@@ -140,7 +135,14 @@ Costs
   total      37
   floor      37
 ";
-    assert_eq!((ran.status, ran.out.as_str()), (0, expected));
+
+#[test]
+fn lists_of_the_specifications_plan() {
+    let folder = Folder::new();
+    folder.write("job.txt", &text(JOB));
+    folder.write("plan.txt", &text("cost=37 stops=2 stop=2 count=1 part=1 stop=4 count=2 part=1 part=2"));
+    let ran = folder.run(&["list", "job.txt", "plan.txt", "--every", "3"]);
+    assert_eq!((ran.status, ran.out.as_str()), (0, LISTS));
     assert_eq!(ran.err, "plan.txt: every part's life is kept and the cost is true: 37 (0)\n");
 }
 
@@ -170,14 +172,8 @@ fn long_lists_are_broken_and_lose_nothing() {
     assert_eq!(section.matches(" at ").count() - 1, stops, "each change once, and the head: {section}");
 }
 
-#[test]
-fn comparisons() {
-    let folder = Folder::new();
-    folder.write("job.txt", &text(JOB));
-    folder.write("best.txt", &text("cost=37 stops=2 stop=2 count=1 part=1 stop=4 count=2 part=1 part=2"));
-    folder.write("other.txt", &text("cost=44 stops=2 stop=2 count=2 part=1 part=2 stop=5 count=2 part=1 part=2"));
-    let ran = folder.run(&["compare", "job.txt", "best.txt", "other.txt"]);
-    let expected = "\
+/// That plan beside another.
+const COMPARISON: &str = "\
 Two plans of job job.txt
 A  best.txt: every part's life is kept and the cost is true: 37 (result 0)
 B  other.txt: every part's life is kept and the cost is true: 44 (result 0)
@@ -198,8 +194,16 @@ Where they differ: parts changed
      4  1, 2  no stop
      5  no stop  1, 2
 ";
+
+#[test]
+fn comparisons() {
+    let folder = Folder::new();
+    folder.write("job.txt", &text(JOB));
+    folder.write("best.txt", &text("cost=37 stops=2 stop=2 count=1 part=1 stop=4 count=2 part=1 part=2"));
+    folder.write("other.txt", &text("cost=44 stops=2 stop=2 count=2 part=1 part=2 stop=5 count=2 part=1 part=2"));
+    let ran = folder.run(&["compare", "job.txt", "best.txt", "other.txt"]);
     let columns = |text: &str| text.lines().map(|line| line.split_whitespace().collect::<Vec<_>>().join(" ")).collect::<Vec<_>>();
-    assert_eq!((ran.status, columns(&ran.out)), (0, columns(expected)), "{}", ran.out);
+    assert_eq!((ran.status, columns(&ran.out)), (0, columns(COMPARISON)), "{}", ran.out);
     assert_eq!(ran.err.lines().count(), 2);
     let same = folder.run(&["compare", "job.txt", "best.txt", "best.txt"]);
     assert!(same.out.ends_with("They stop and change at the same steps.\n"), "{}", same.out);

@@ -1,4 +1,4 @@
-//! Progress of long walks, seen on a terminal (made by `script`, of every Linux): shown where the walk is long, and never part of the answer.
+//! Progress of long walks, seen on a terminal (made by `script`): shown where the walk is long, and never part of the answer.
 #![cfg(feature = "library")]
 
 mod common;

@@ -77,12 +77,10 @@ fn words(reply: &Reply, job: &Job, plan: &Plan) -> Option<String> {
 fn late(job: &Job, plan: &Plan, part: u64, due: u64) -> String {
     let next = plan.changes(part).into_iter().find(|step| *step > due);
     let steps = job.runs(due, next.unwrap_or(job.end()));
-    let steps = counted(steps, "running step");
+    let late = format!("{} too late", counted(steps, "running step"));
+    let due = format!("part {part} is not kept: it is due by step {due}");
     match next {
-        Some(next) => format!("part {part} is not kept: it is due by step {due} and changed only at step {next}, {steps} too late"),
-        None => {
-            let end = job.horizon;
-            format!("part {part} is not kept: it is due by step {due} and not changed any more; at the end, after step {end}, that is {steps} too late")
-        }
+        Some(next) => format!("{due} and changed only at step {next}, {late}"),
+        None => format!("{due} and not changed any more; at the end, after step {}, that is {late}", job.horizon),
     }
 }

@@ -6,7 +6,8 @@ text{font-family:\"DejaVu Sans\",Verdana,Arial,sans-serif;font-size:12px;fill:#0
 .title{font-size:20px;font-weight:bold}.verdict{font-size:14px}.refused{font-size:14px;font-weight:bold}
 .part{font-size:14px;font-weight:bold}.small{font-size:11px}.end{text-anchor:end}.middle{text-anchor:middle}
 .step{font-weight:bold;text-anchor:middle}.fee{font-size:11px;text-anchor:middle}.up{font-size:11px}
-.used{font-size:11px}.edge{fill:#fff;stroke:#fff;stroke-width:3px;stroke-linejoin:round}.late-words{font-size:11px;font-weight:bold;fill:#fff}
+.used{font-size:11px}.edge{fill:#fff;stroke:#fff;stroke-width:3px;stroke-linejoin:round}
+.late-words{font-size:11px;font-weight:bold;fill:#fff}
 .sheet{fill:#fff}.frame{fill:none;stroke:#000}
 .idle{fill:#d9d9d9}.hatch{fill:url(#hatch)}
 .life{fill:#fff;stroke:#000;stroke-width:1}.wear{fill:#7fa8cf}.late{fill:#000}
@@ -16,4 +17,7 @@ text{font-family:\"DejaVu Sans\",Verdana,Arial,sans-serif;font-size:12px;fill:#0
 ";
 
 /// The pattern of idle steps.
-pub const HATCH: &str = "<defs><pattern id=\"hatch\" width=\"6\" height=\"6\" patternUnits=\"userSpaceOnUse\"><path d=\"M0 6L6 0\" stroke=\"#555\" stroke-width=\".7\"/></pattern></defs>\n";
+pub const HATCH: &str = "\
+<defs><pattern id=\"hatch\" width=\"6\" height=\"6\" patternUnits=\"userSpaceOnUse\">\
+<path d=\"M0 6L6 0\" stroke=\"#555\" stroke-width=\".7\"/></pattern></defs>
+";
