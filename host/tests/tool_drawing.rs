@@ -270,6 +270,10 @@ fn names_are_escaped() {
         let words: String = elements(&folder.read(name)).into_iter().map(|element| element.text).collect();
         assert!(words.contains("of job <job> & \"it's\" \u{e4}"), "{words}");
     }
+    let long = "n".repeat(250);
+    folder.write(&long, &text(JOB));
+    assert_eq!(folder.run(&["draw", &long, plan, "-o", "a.svg"]).status, 0);
+    assert!(folder.read("a.svg").contains(&format!(" of job {}..<", "n".repeat(80))));
 }
 
 #[test]

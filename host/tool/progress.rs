@@ -16,7 +16,7 @@ const PATIENCE: Duration = Duration::from_secs(1);
 /// How often the line is looked at, and drawn if it has changed.
 const TICK: Duration = Duration::from_millis(200);
 /// The first walk number of the thread that looks ahead.
-const FIRST_WALK: u64 = 1 << 20;
+const FIRST_WALK: u64 = 1 << 17;
 
 /// How far a walk of so many nodes comes.
 struct Glimpse {

@@ -2,7 +2,7 @@
 
 use super::foot::foot;
 use super::labels::{round_distance, spread};
-use super::marks::{length, Marks};
+use super::marks::{escaped, length, Marks};
 use super::rows;
 use super::sheet::{Sheet, STRIP};
 use super::style::{HATCH, STYLE};
@@ -13,15 +13,18 @@ use crate::verdicts::Judged;
 /// The least width of a hatched shape.
 const HATCHED: f64 = 6.0;
 
+/// The most of a file's name that is shown.
+const NAME: usize = 80;
+
 /// The whole picture.
 pub fn svg(judged: &Judged) -> String {
     let Judged { job, plan, .. } = judged;
     let sheet = Sheet::of(job, plan);
     let mut marks = Marks::default();
     let (width, height) = (length(sheet.width), length(sheet.height));
-    marks.plain(&format!(
-        "<svg xmlns=\"http://www.w3.org/2000/svg\" width=\"{width}\" height=\"{height}\" viewBox=\"0 0 {width} {height}\" role=\"img\">\n"
-    ));
+    let size = format!("width=\"{width}\" height=\"{height}\" viewBox=\"0 0 {width} {height}\"");
+    let label = escaped(&format!("Calendar of stops and part changes: {}", judged.words));
+    marks.plain(&format!("<svg xmlns=\"http://www.w3.org/2000/svg\" {size} role=\"img\" aria-label=\"{label}\">\n"));
     marks.plain(&format!("<style>\n{STYLE}</style>\n{HATCH}"));
     marks.rectangle("sheet", (0.0, 0.0), (sheet.width, sheet.height), &[], "");
     head(&mut marks, judged);
@@ -51,9 +54,13 @@ fn head(marks: &mut Marks, judged: &Judged) {
     marks.words("small", (16.0, 70.0), &format!("Plan {} of job {}", file_name(&judged.plan_name), file_name(&judged.job_name)));
 }
 
-/// The last part of a path.
-fn file_name(name: &str) -> &str {
-    name.rsplit('/').next().unwrap_or(name)
+/// The last part of a path, as much of it as has room.
+fn file_name(name: &str) -> String {
+    let last = name.rsplit('/').next().unwrap_or(name);
+    match last.char_indices().nth(NAME) {
+        Some((at, _)) => format!("{}..", &last[..at]),
+        None => last.to_string(),
+    }
 }
 
 /// Runs of idle steps: the step before the first, and the last.
