@@ -135,15 +135,15 @@ mod tests {
     /// A number that a later library may answer is a text at fault, with its line.
     #[test]
     fn later_numbers_are_texts_at_fault() {
-        let failure = words(12, 1, 2, "holder=3");
-        assert_eq!((failure.status, failure.message.as_str()), (2, "job:2: the text is at fault (12)\n    holder=3\n"));
-        let failure = words(12, 1, 0, "");
-        assert_eq!((failure.status, failure.message.as_str()), (2, "job: the text is at fault (12)\n"));
+        let failure = words(99, 1, 2, "later=3");
+        assert_eq!((failure.status, failure.message.as_str()), (2, "job:2: the text is at fault (99)\n    later=3\n"));
+        let failure = words(99, 1, 0, "");
+        assert_eq!((failure.status, failure.message.as_str()), (2, "job: the text is at fault (99)\n"));
     }
 
     /// A value of an unknown key outside its range is said so.
     #[test]
     fn later_keys_have_words_too() {
-        assert_eq!(words(3, 1, 2, "removal=1000001").message, "job:2: the value is outside its range (3)\n    removal=1000001\n");
+        assert_eq!(words(3, 1, 2, "later=1000001").message, "job:2: the value is outside its range (3)\n    later=1000001\n");
     }
 }
