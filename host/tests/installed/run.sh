@@ -15,6 +15,7 @@ mkdir "$prefix"
 prefix=$(cd "$prefix" && pwd)
 # pkg-config does not take a prefix with a blank; the blank is DESTDIR's.
 plain="$scratch/prefix"
+export MAKEFLAGS=--no-print-directory
 make -s install PREFIX="$plain" DESTDIR=
 make -s install PREFIX=/usr DESTDIR="$prefix"
 installed="bin/judge bin/juzvarola bin/planner include/juzvarola.h lib/libjuzvarola.a lib/pkgconfig/juzvarola.pc
