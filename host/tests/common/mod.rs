@@ -9,7 +9,10 @@ pub mod jobs;
 pub mod lent;
 pub mod paper;
 pub mod rng;
+#[cfg(feature = "library")]
+pub mod tool;
 pub mod vectors;
+pub mod xml;
 
 use std::thread;
 

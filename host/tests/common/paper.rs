@@ -23,7 +23,7 @@ impl Case {
     }
 }
 
-const JOB: &str = "horizon=6 walk=11 openings=4 opening=2 fee=10 opening=3 fee=10 opening=4 fee=10 opening=5 fee=10 parts=2 \
+pub const JOB: &str = "horizon=6 walk=11 openings=4 opening=2 fee=10 opening=3 fee=10 opening=4 fee=10 opening=5 fee=10 parts=2 \
     life=3 left=2 price=5 price=5 price=5 price=5 life=4 left=4 price=7 price=7 price=7 price=7";
 
 const PLANNED: &str = "result=0 nodes=11 floor=37 cost=37 stops=2 stop=2 count=1 part=1 stop=4 count=2 part=1 part=2";
@@ -34,7 +34,7 @@ pub fn text(lines: &str) -> Vec<u8> {
 }
 
 /// The job with the first `old` replaced.
-fn altered(old: &str, new: &str) -> String {
+pub fn altered(old: &str, new: &str) -> String {
     assert!(JOB.contains(old), "{old} is in the job");
     JOB.replacen(old, new, 1)
 }

@@ -1,0 +1,119 @@
+//! The words for each fault: what its number means at its line.
+#![cfg(feature = "library")]
+
+mod common;
+use common::paper::{altered, text, JOB};
+use common::tool::Folder;
+
+/// A job and a plan of it.
+const PLAN: &str = "cost=37 stops=2 stop=2 count=1 part=1 stop=4 count=2 part=1 part=2";
+
+/// What the judge says on standard error of these texts; the exit status must be 2.
+fn said(job: &[u8], plan: &[u8]) -> String {
+    let folder = Folder::new();
+    folder.write("job.txt", job);
+    folder.write("plan.txt", plan);
+    let ran = folder.run(&["judge", "job.txt", "plan.txt"]);
+    assert_eq!((ran.status, ran.out.as_str()), (2, ""), "{}", ran.err);
+    ran.err
+}
+
+/// The same of a job with the first `old` replaced.
+fn of_job(old: &str, new: &str) -> String {
+    said(&text(&altered(old, new)), b"")
+}
+
+/// The same of a plan with the first `old` replaced.
+fn of_plan(old: &str, new: &str) -> String {
+    assert!(PLAN.contains(old));
+    said(&text(JOB), &text(&PLAN.replacen(old, new, 1)))
+}
+
+#[test]
+fn values_outside_their_range() {
+    let cases = [
+        ("horizon=6", "horizon=366", "job.txt:1: horizon is not a number from 2 to 365 (3)\n    horizon=366\n"),
+        ("walk=11", "walk=4000000001", "job.txt:2: walk is not a number from 0 to 4,000,000,000 (3)\n    walk=4000000001\n"),
+        ("openings=4", "openings=65", "job.txt:3: openings is not a number from 0 to 64 (3)\n    openings=65\n"),
+        ("opening=2", "opening=0", "job.txt:4: opening is not a number from 1 to 365 (3)\n    opening=0\n"),
+        ("fee=10", "fee=1000001", "job.txt:5: fee is not a number from 0 to 1,000,000 (3)\n    fee=1000001\n"),
+        ("parts=2", "parts=17", "job.txt:12: parts is not a number from 1 to 16 (3)\n    parts=17\n"),
+        ("life=3", "life=1001", "job.txt:13: life is not a number from 1 to 1,000 (3)\n    life=1001\n"),
+        ("left=2", "left=0", "job.txt:14: left is not a number from 1 to 1,000 (3)\n    left=0\n"),
+        ("price=5", "price=0", "job.txt:15: price is not a number from 1 to 1,000,000 (3)\n    price=0\n"),
+        ("horizon=6", "horizon=6 idles=0", "job.txt:2: idles is not a number from 1 to 365 (3)\n    idles=0\n"),
+        ("horizon=6", "horizon=6 idles=1 idle=366", "job.txt:3: idle is not a number from 1 to 365 (3)\n    idle=366\n"),
+    ];
+    for (old, new, words) in cases {
+        assert_eq!(of_job(old, new), words);
+    }
+    let cases = [
+        ("cost=37", "cost=4000000001", "plan.txt:1: cost is not a number from 0 to "),
+        ("stops=2", "stops=65", "plan.txt:2: stops is not a number from 0 to 64 (3)\n    stops=65\n"),
+        ("stop=2", "stop=366", "plan.txt:3: stop is not a number from 1 to 365 (3)\n    stop=366\n"),
+        ("count=1", "count=17", "plan.txt:4: count is not a number from 0 to 16 (3)\n    count=17\n"),
+        ("part=1", "part=0", "plan.txt:5: part is not a number from 1 to 16 (3)\n    part=0\n"),
+    ];
+    for (old, new, words) in cases {
+        assert!(of_plan(old, new).starts_with(words), "{}", of_plan(old, new));
+    }
+}
+
+#[test]
+fn steps_lives_stops_and_parts() {
+    let opening = "opening does not come after the opening before, or is past the horizon (4)";
+    assert_eq!(of_job("opening=3", "opening=2"), format!("job.txt:6: {opening}\n    opening=2\n"));
+    assert_eq!(of_job("opening=5", "opening=7"), format!("job.txt:10: {opening}\n    opening=7\n"));
+    let idle = "idle does not come after the idle step before, or is past the horizon (4)";
+    assert_eq!(of_job("horizon=6", "horizon=6 idles=1 idle=7"), format!("job.txt:3: {idle}\n    idle=7\n"));
+    assert_eq!(of_job("left=2", "left=4"), "job.txt:14: left is greater than life (5)\n    left=4\n");
+    let stop = "stop is no opening of the job, or does not come after the stop before (9)";
+    assert_eq!(of_plan("stop=2", "stop=1"), format!("plan.txt:3: {stop}\n    stop=1\n"));
+    let part = "part is above the job's number of parts, or does not come after the part before (9)";
+    assert_eq!(of_plan("part=1", "part=3"), format!("plan.txt:5: {part}\n    part=3\n"));
+}
+
+#[test]
+fn lines_that_are_not_well_formed() {
+    let digits = "is not 1 to 10 digits without a leading zero (2)";
+    assert_eq!(of_job("price=5", "price=05"), format!("job.txt:15: price {digits}\n    price=05\n"));
+    assert_eq!(of_job("fee=10", "fee="), format!("job.txt:5: fee {digits}\n    fee=\n"));
+    assert_eq!(of_job("fee=10", "fee=12345678901"), format!("job.txt:5: fee {digits}\n    fee=12345678901\n"));
+    assert_eq!(of_job("horizon=6", "horizon=6 idles=x"), format!("job.txt:2: idles {digits}\n    idles=x\n"));
+    assert_eq!(of_plan("part=1", "part=1.5"), format!("plan.txt:5: part {digits}\n    part=1.5\n"));
+    assert_eq!(of_job("walk=11", "work=11"), "job.txt:2: `walk=` (or `idles=`) is due here (2)\n    work=11\n");
+    assert_eq!(of_job("fee=10 opening=3", "opening=3"), "job.txt:5: `fee=` is due here (2)\n    opening=3\n");
+    assert_eq!(of_job("openings=4", "openings=5"), "job.txt:12: `opening=` is due here (2)\n    parts=2\n");
+    assert_eq!(of_job("price=5 life=4", "life=4"), "job.txt:18: `price=` is due here (2)\n    life=4\n");
+    assert_eq!(of_plan("stops=2", "stops=3"), "plan.txt:9: the text ends, and `stop=` is due (2)\n".replace(":9:", ":10:"));
+    assert_eq!(of_plan("count=2", "count=3"), "plan.txt:10: the text ends, and `part=` is due (2)\n");
+    assert_eq!(of_plan("stops=2", "stops=1"), "plan.txt:6: the text goes on after its last line (2)\n    stop=4\n");
+    assert_eq!(of_job("parts=2", "parts=1"), "job.txt:19: the text goes on after its last line (2)\n    life=4\n");
+}
+
+#[test]
+fn ends_of_texts_and_of_lines() {
+    let job = text(JOB);
+    let short = &job[..job.len() - 1];
+    assert_eq!(said(short, b""), "job.txt:24: the last line is not ended by a line feed (2)\n    price=7\n");
+    assert_eq!(said(&job[..job.len() - 8], b""), "job.txt:24: the text ends, and `price=` is due (2)\n");
+    assert_eq!(said(b"", b""), "job.txt:1: the text ends, and `horizon=` is due (2)\n");
+    assert_eq!(said(&job, b"\n"), "plan.txt:1: `cost=` is due here (2)\n");
+    let windows = String::from_utf8(job.clone()).expect("text").replace('\n', "\r\n");
+    let words =
+        "job.txt:1: the line ends with a carriage return, as Windows writes it; a line feed alone ends a line (2)\n    horizon=6\\x0d\n";
+    assert_eq!(said(windows.as_bytes(), b""), words);
+    let marked = [b"\xef\xbb\xbf", &job[..]].concat();
+    assert!(said(&marked, b"").starts_with("job.txt:1: the text begins with a byte order mark"));
+    assert_eq!(said(&[&job[..], b"\n"].concat(), b""), "job.txt:25: the text goes on after its last line (2)\n");
+}
+
+#[test]
+fn long_texts_and_odd_bytes() {
+    assert_eq!(said(&[b'a'; 32_769], b""), "job.txt: the text has over 32,768 bytes (1)\n");
+    assert_eq!(said(&text(JOB), &[b'a'; 32_769]), "plan.txt: the text has over 32,768 bytes (1)\n");
+    let line = [&[b'z'; 400][..], b"\n"].concat();
+    assert_eq!(said(&line, b""), format!("job.txt:1: `horizon=` is due here (2)\n    {} .. (400 bytes)\n", "z".repeat(160)));
+    let words = "job.txt:1: `horizon=` is due here (2)\n    \\x1b[2J\\x00\\xff\u{e9}\n";
+    assert_eq!(said(b"\x1b[2J\0\xff\xc3\xa9\n", b""), words);
+}

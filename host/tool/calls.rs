@@ -1,0 +1,87 @@
+//! The library's calls, each on a thread with the stack that it needs.
+
+use crate::failure::{failure, Failure, SOFTWARE, SYSTEM};
+use crate::texts;
+use juzvarola_host as library;
+use std::thread;
+
+/// Twice the stack that the header asks for.
+const STACK: usize = 2 << 20;
+/// The output that the header asks for.
+const OUTPUT: usize = 16_384;
+
+/// What a call answered: its numbers, the line at fault, and the lines written.
+#[derive(Debug, Clone)]
+pub struct Reply {
+    pub result: u32,
+    pub text: u32,
+    pub line: u32,
+    pub fault: Vec<u8>,
+    pub lines: Vec<u8>,
+}
+
+impl Reply {
+    /// The value of the answer's first line with this key.
+    pub fn value(&self, key: &str) -> Option<u64> {
+        texts::pairs(&self.lines).find(|(own, _)| *own == key.as_bytes()).map(|(_, value)| value)
+    }
+
+    /// The plan text of the planner's answer: its lines from `cost` on.
+    pub fn plan_text(&self) -> Option<&[u8]> {
+        let start = texts::line_starts(&self.lines).find(|start| self.lines[*start..].starts_with(b"cost="))?;
+        Some(&self.lines[start..])
+    }
+
+    /// The answer's numbers with what was written.
+    fn of(answer: library::Answer, mut out: Vec<u8>) -> Reply {
+        out.truncate(answer.length);
+        Reply { result: answer.result, text: answer.text, line: answer.line, fault: answer.fault.to_vec(), lines: out }
+    }
+}
+
+/// Starts a thread that a call can be made on; it ends by itself, or with the program.
+pub fn start(body: impl FnOnce() + Send + 'static) -> Result<(), Failure> {
+    let thread = thread::Builder::new().stack_size(STACK).spawn(body);
+    thread.map(|_| ()).map_err(|error| failure(SYSTEM, format_args!("no thread can be started: {error}")))
+}
+
+/// Makes the call on a thread of its own and waits for it.
+fn on_own_stack<T: Send>(call: impl FnOnce() -> T + Send) -> Result<T, Failure> {
+    thread::scope(|scope| {
+        let thread = thread::Builder::new().stack_size(STACK).spawn_scoped(scope, call);
+        let thread = thread.map_err(|error| failure(SYSTEM, format_args!("no thread can be started: {error}")))?;
+        thread.join().map_err(|_| failure(SOFTWARE, "the library did not answer"))
+    })
+}
+
+/// The planner's call, on this thread.
+pub fn plan_here(job: &[u8]) -> Reply {
+    let mut out = vec![0; OUTPUT];
+    let answer = library::plan(job, &mut out);
+    Reply::of(answer, out)
+}
+
+/// The judge's call.
+pub fn judge(job: &[u8], plan: &[u8]) -> Result<Reply, Failure> {
+    on_own_stack(|| {
+        let mut out = vec![0; OUTPUT];
+        let answer = library::judge(job, plan, &mut out);
+        Reply::of(answer, out)
+    })
+}
+
+/// The count's call: its fault as a reply without lines, and the count.
+pub fn count(job: &[u8]) -> Result<(Reply, u32), Failure> {
+    on_own_stack(|| {
+        let library::Count { result, text, line, count, fault, .. } = library::count(job);
+        (Reply { result, text, line, fault: fault.to_vec(), lines: Vec::new() }, count)
+    })
+}
+
+/// The floor of an accepted job, which the planner says at any walk number, 0 included. None where no plan keeps the lives.
+pub fn floor(job: &[u8]) -> Result<Option<u64>, Failure> {
+    match texts::with_walk(job, 0) {
+        Some(text) => on_own_stack(|| plan_here(&text).value("floor")),
+        None => Ok(None),
+    }
+}

@@ -1,0 +1,149 @@
+//! Faults of a text in words, with the line at fault beneath, as compilers do.
+
+use crate::calls::Reply;
+use crate::due_keys::{self, Due};
+use crate::failure::{status_of, Failure};
+use crate::files::Input;
+use crate::numbers::grouped;
+use crate::output::shown_line;
+
+/// The words for a fault by its number and the key of its line; an empty key stands for every other.
+const WORDS: &[(u32, &str, &str)] = &[
+    (1, "", "the text has over 32,768 bytes"),
+    (2, "", "the line is not well formed"),
+    (3, "", "the value is outside its range"),
+    (4, "opening", "opening does not come after the opening before, or is past the horizon"),
+    (4, "idle", "idle does not come after the idle step before, or is past the horizon"),
+    (4, "", "the step does not rise or is past the horizon"),
+    (5, "", "left is greater than life"),
+    (8, "", "the library was lent too short an output"),
+    (9, "stop", "stop is no opening of the job, or does not come after the stop before"),
+    (9, "part", "part is above the job's number of parts, or does not come after the part before"),
+    (9, "", "the plan does not fit the job"),
+    (0, "", "the text is at fault"),
+];
+
+/// The range of a value by its key.
+const RANGES: &[(&str, u64, u64)] = &[
+    ("horizon", 2, 365),
+    ("idles", 1, 365),
+    ("idle", 1, 365),
+    ("walk", 0, 4_000_000_000),
+    ("openings", 0, 64),
+    ("opening", 1, 365),
+    ("fee", 0, 1_000_000),
+    ("parts", 1, 16),
+    ("life", 1, 1000),
+    ("left", 1, 1000),
+    ("price", 1, 1_000_000),
+    ("cost", 0, 2_000_000_000),
+    ("stops", 0, 64),
+    ("stop", 1, 365),
+    ("count", 0, 16),
+    ("part", 1, 16),
+];
+
+/// The failure that a refusal is: its words with the number, and the line at fault as it stands in the caller's file.
+pub fn refusal(reply: &Reply, job: &Input, plan: Option<&Input>) -> Failure {
+    let at_fault = plan.filter(|_| reply.text == 2).unwrap_or(job);
+    let words = words_for(reply, &at_fault.bytes);
+    let mut message = match reply.line {
+        0 => format!("{}: {words} ({})\n", at_fault.name, reply.result),
+        line => format!("{}:{line}: {words} ({})\n", at_fault.name, reply.result),
+    };
+    if !reply.fault.is_empty() {
+        message += &format!("    {}\n", shown_line(&reply.fault));
+    }
+    Failure { status: status_of(reply.result), message }
+}
+
+/// What the fault's number means at its line.
+fn words_for(reply: &Reply, text: &[u8]) -> String {
+    let key = std::str::from_utf8(reply.fault.split(|byte| *byte == b'=').next().unwrap_or(b"")).unwrap_or("");
+    let range = RANGES.iter().find(|(own, ..)| *own == key);
+    match (reply.result, range) {
+        (2, _) => shape(reply, text),
+        (3, Some((_, low, high))) => format!("{key} is not a number from {} to {}", grouped(*low), grouped(*high)),
+        (number, _) => from_table(number, key).to_string(),
+    }
+}
+
+/// The table's words for a number at a key; for a number that is not in it, those for any fault.
+fn from_table(number: u32, key: &str) -> &'static str {
+    let find = |number, key| WORDS.iter().find(|(own, of, _)| *own == number && *of == key);
+    find(number, key).or_else(|| find(number, "")).or_else(|| find(0, "")).map_or("", |(.., words)| words)
+}
+
+/// What is wrong with the shape of a line (number 2): it is missing, too many, cut short, another one, or its value is no number.
+fn shape(reply: &Reply, text: &[u8]) -> String {
+    let fault = &reply.fault[..];
+    let lines = text.split(|byte| *byte == b'\n').count() as u32;
+    let unended = reply.line == lines;
+    match due_on(reply, text) {
+        Due::End => "the text goes on after its last line".to_string(),
+        _ if fault.starts_with(b"\xef\xbb\xbf") => {
+            "the text begins with a byte order mark, as Windows writes it; it begins with its first line".to_string()
+        }
+        due if fault.is_empty() && reply.line >= lines => format!("the text ends, and {} is due", named(due, reply.line)),
+        _ if fault.ends_with(b"\r") => {
+            "the line ends with a carriage return, as Windows writes it; a line feed alone ends a line".to_string()
+        }
+        Due::Key(key) if fault.starts_with(format!("{key}=").as_bytes()) => {
+            if unended && well_formed(&fault[key.len() + 1..]) {
+                "the last line is not ended by a line feed".to_string()
+            } else {
+                format!("{key} is not 1 to 10 digits without a leading zero")
+            }
+        }
+        due @ Due::Key(_) => format!("{} is due here", named(due, reply.line)),
+        Due::Unknown => from_table(2, "").to_string(),
+    }
+}
+
+/// What is due on the line at fault. A second line that begins with `idles=` is meant as one.
+fn due_on(reply: &Reply, text: &[u8]) -> Due {
+    match reply.text {
+        2 => due_keys::of_plan(text, reply.line),
+        _ if reply.line == 2 && reply.fault.starts_with(b"idles=") => Due::Key("idles"),
+        _ => due_keys::of_job(text, reply.line),
+    }
+}
+
+/// The line that is due, as a message names it.
+fn named(due: Due, line: u32) -> String {
+    match due {
+        Due::Key("walk") if line == 2 => "`walk=` (or `idles=`)".to_string(),
+        Due::Key(key) => format!("`{key}=`"),
+        Due::End | Due::Unknown => "another line".to_string(),
+    }
+}
+
+/// Whether a value is 1 to 10 digits with no leading zero.
+fn well_formed(value: &[u8]) -> bool {
+    (1..=10).contains(&value.len()) && value.iter().all(u8::is_ascii_digit) && (value.len() == 1 || value[0] != b'0')
+}
+
+#[cfg(test)]
+mod tests {
+    use super::*;
+
+    fn words(result: u32, text: u32, line: u32, fault: &str) -> Failure {
+        let reply = Reply { result, text, line, fault: fault.as_bytes().to_vec(), lines: Vec::new() };
+        refusal(&reply, &Input { name: "job".to_string(), bytes: format!("horizon=6\n{fault}\n").into_bytes() }, None)
+    }
+
+    /// A number that a later library may answer is a text at fault, with its line.
+    #[test]
+    fn later_numbers_are_texts_at_fault() {
+        let failure = words(99, 1, 2, "later=3");
+        assert_eq!((failure.status, failure.message.as_str()), (2, "job:2: the text is at fault (99)\n    later=3\n"));
+        let failure = words(99, 1, 0, "");
+        assert_eq!((failure.status, failure.message.as_str()), (2, "job: the text is at fault (99)\n"));
+    }
+
+    /// A value of an unknown key outside its range is said so.
+    #[test]
+    fn later_keys_have_words_too() {
+        assert_eq!(words(3, 1, 2, "later=1000001").message, "job:2: the value is outside its range (3)\n    later=1000001\n");
+    }
+}

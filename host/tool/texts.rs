@@ -1,0 +1,159 @@
+//! The tool's own reading of texts that the library has accepted, for lists and drawings. Lines with unknown keys are passed over.
+
+/// A step at which the line may stop, and what a stop costs there.
+#[derive(Debug, Clone, Copy, Default, PartialEq, Eq)]
+pub struct Opening {
+    pub step: u64,
+    pub fee: u64,
+}
+
+/// A part: its life, what is left of its first, its price at each opening.
+#[derive(Debug, Clone, Default)]
+pub struct Part {
+    pub life: u64,
+    pub left: u64,
+    pub prices: Vec<u64>,
+}
+
+/// A job as its text says it.
+#[derive(Debug, Clone, Default)]
+pub struct Job {
+    pub horizon: u64,
+    pub idles: Vec<u64>,
+    pub walk: Option<u64>,
+    pub openings: Vec<Opening>,
+    pub parts: Vec<Part>,
+}
+
+/// A stop of a plan and the parts changed at it, counted from 1.
+#[derive(Debug, Clone, Default, PartialEq, Eq)]
+pub struct Stop {
+    pub step: u64,
+    pub parts: Vec<u64>,
+}
+
+/// A plan as its text says it, with the cost that it states.
+#[derive(Debug, Clone, Default)]
+pub struct Plan {
+    pub cost: u64,
+    pub stops: Vec<Stop>,
+}
+
+impl Job {
+    /// The fee of a stop at this step.
+    pub fn fee(&self, step: u64) -> u64 {
+        self.openings.iter().find(|opening| opening.step == step).map_or(0, |opening| opening.fee)
+    }
+
+    /// The price of a part, counted from 1, at this step; none where the text gives it in a form that this reader does not know.
+    pub fn price(&self, part: u64, step: u64) -> Option<u64> {
+        let part = self.parts.get(usize::try_from(part).ok()?.checked_sub(1)?)?;
+        let opening = self.openings.iter().position(|opening| opening.step == step)?;
+        part.prices.get(opening).copied()
+    }
+}
+
+impl Plan {
+    /// The steps at which a part, counted from 1, is changed.
+    pub fn changes(&self, part: u64) -> Vec<u64> {
+        self.stops.iter().filter(|stop| stop.parts.contains(&part)).map(|stop| stop.step).collect()
+    }
+
+    /// How many changes there are.
+    pub fn change_count(&self) -> u64 {
+        self.stops.iter().map(|stop| stop.parts.len() as u64).sum()
+    }
+}
+
+/// Where the lines of a text start.
+pub fn line_starts(text: &[u8]) -> impl Iterator<Item = usize> + '_ {
+    let after = text.iter().enumerate().filter(|(_, byte)| **byte == b'\n').map(|(at, _)| at + 1);
+    std::iter::once(0).chain(after).filter(|start| *start < text.len())
+}
+
+/// The lines of a text as keys and values. A line that is no key and number is passed over.
+pub fn pairs(text: &[u8]) -> impl Iterator<Item = (&[u8], u64)> {
+    text.split(|byte| *byte == b'\n').filter_map(|line| {
+        let at = line.iter().position(|byte| *byte == b'=')?;
+        let value = std::str::from_utf8(&line[at + 1..]).ok()?.parse().ok()?;
+        Some((&line[..at], value))
+    })
+}
+
+/// Reads an accepted job text.
+pub fn job(text: &[u8]) -> Job {
+    let mut job = Job::default();
+    for (key, value) in pairs(text) {
+        match key {
+            b"horizon" => job.horizon = value,
+            b"idle" => job.idles.push(value),
+            b"walk" => job.walk = Some(value),
+            b"opening" => job.openings.push(Opening { step: value, fee: 0 }),
+            b"fee" => job.openings.last_mut().into_iter().for_each(|opening| opening.fee = value),
+            b"life" => job.parts.push(Part { life: value, ..Part::default() }),
+            b"left" => job.parts.last_mut().into_iter().for_each(|part| part.left = value),
+            b"price" => job.parts.last_mut().into_iter().for_each(|part| part.prices.push(value)),
+            _ => {}
+        }
+    }
+    job
+}
+
+/// Reads an accepted plan text. The empty one is the plan of doing nothing.
+pub fn plan(text: &[u8]) -> Plan {
+    let mut plan = Plan::default();
+    for (key, value) in pairs(text) {
+        match key {
+            b"cost" => plan.cost = value,
+            b"stop" => plan.stops.push(Stop { step: value, parts: Vec::new() }),
+            b"part" => plan.stops.last_mut().into_iter().for_each(|stop| stop.parts.push(value)),
+            _ => {}
+        }
+    }
+    plan
+}
+
+/// A job text with another walk number; none where it has no walk line.
+pub fn with_walk(text: &[u8], walk: u64) -> Option<Vec<u8>> {
+    let start = line_starts(text).find(|start| text[*start..].starts_with(b"walk="))?;
+    let length = text[start..].iter().position(|byte| *byte == b'\n')?;
+    Some([&text[..start], format!("walk={walk}").as_bytes(), &text[start + length..]].concat())
+}
+
+#[cfg(test)]
+mod tests {
+    use super::*;
+
+    const JOB: &str =
+        "horizon=6\nidles=1\nidle=3\nwalk=11\nopenings=1\nopening=2\nfee=10\nparts=2\nlife=3\nleft=2\nprice=5\nlife=4\nleft=4\nprice=7\n";
+
+    /// Lines with other keys, wherever they stand, change nothing of what is read.
+    #[test]
+    fn unknown_keys_are_passed_over() {
+        let more = JOB.replace("left=2\n", "left=2\nremoval=9\ninside=1\nholder=2\n").replace("fee=10\n", "fee=10\ncrew=4\n");
+        assert_eq!(format!("{:?}", job(more.as_bytes())), format!("{:?}", job(JOB.as_bytes())));
+        let read = job(more.as_bytes());
+        assert_eq!((read.horizon, read.walk, &read.idles[..]), (6, Some(11), &[3][..]));
+        assert_eq!((read.openings[0], read.parts.len()), (Opening { step: 2, fee: 10 }, 2));
+        assert_eq!(
+            (read.price(1, 2), read.price(2, 2), read.price(3, 2), read.price(0, 2), read.price(1, 3)),
+            (Some(5), Some(7), None, None, None)
+        );
+        let plan = plan(b"costlow=3\ncost=15\nstops=1\nstop=2\ncount=1\npart=1\n");
+        assert_eq!((plan.cost, plan.stops), (15, vec![Stop { step: 2, parts: vec![1] }]));
+    }
+
+    /// Prices in a form that is not known are missing, and not zero.
+    #[test]
+    fn unknown_prices_are_missing() {
+        let read = job(JOB.replace("price=5\n", "base=9\ndrop=1\nleast=1\n").as_bytes());
+        assert_eq!((read.price(1, 2), read.price(2, 2)), (None, Some(7)));
+    }
+
+    /// Only the walk line is replaced; a text without one has none to replace.
+    #[test]
+    fn the_walk_number_is_replaced() {
+        assert_eq!(with_walk(JOB.as_bytes(), 40), Some(JOB.replace("walk=11", "walk=40").into_bytes()));
+        assert_eq!(with_walk(JOB.replace("walk=11\n", "").as_bytes(), 40), None);
+    }
+}
