@@ -33,7 +33,7 @@ use Rattle.search.specs.declared.Found.{Found}
 use Rattle.search.specs.Found.{Finds, saidIn}
 use Rattle.search.proofs.Answered.{said}
 use Rattle.job_numbers.specs.Laid.{Numbered, pricesWith, Laid}
-use Rattle.job_search.specs.Laden.{laden, ladenJob}
+use Rattle.job_search.specs.Removals.{hasRemovals, anyRemovals}
 use Rattle.job_numbers.specs.declared.Numbers.{Numbers}
 use Rattle.job_numbers.proofs.Counts.{Counted, counted, life-at, left-at, near, late, fair, brief, begun, first, prices-range, prices-at}
 
@@ -56,7 +56,7 @@ plain-each : (n : ℕ) (ps : List model.Part) → ((q : ℕ) → q < length ps �
 plain-each n [] f = tt
 plain-each n (p ∷ ps) f = let z = f 0 (omega arith) in (z .0, z .1, z .2, plain-each n ps (λ q h. f (suc q) (omega arith)))
 
-module _ (j : Job) (sized : Sized j) (whole : Whole j) (free : ladenJob j ≡ false) where
+module _ (j : Job) (sized : Sized j) (whole : Whole j) (free : anyRemovals j ≡ false) where
   abbrev n : ℕ
   n = j .«opening_count»
 
@@ -64,17 +64,17 @@ module _ (j : Job) (sized : Sized j) (whole : Whole j) (free : ladenJob j ≡ fa
   m = j .«part_count»
 
   -- no removal, and no mark of a holder
-  not-laden : (q : ℕ) → q < m → let p = recordAt (j .parts) q in (ltb 0 (p .removal) ≡ false) × (some (length (p .holders)) (λ i. getD (p .holders) i false) ≡ false)
-  not-laden q h = let p = recordAt (j .parts) q in or-split (ltb 0 (p .removal)) (some (length (p .holders)) (λ i. getD (p .holders) i false)) (some-not m (λ q. laden (recordAt (j .parts) q)) free q h)
+  neither : (q : ℕ) → q < m → let p = recordAt (j .parts) q in (ltb 0 (p .removal) ≡ false) × (some (length (p .holders)) (λ i. getD (p .holders) i false) ≡ false)
+  neither q h = let p = recordAt (j .parts) q in or-split (ltb 0 (p .removal)) (some (length (p .holders)) (λ i. getD (p .holders) i false)) (some-not m (λ q. hasRemovals (recordAt (j .parts) q)) free q h)
 
   no-removal : (q : ℕ) → q < m → partAt (jobOf j) q .removal ≡ 0
   no-removal q h =
       let p = recordAt (j .parts) q in
-      let z : p .removal ≡ 0 = omega (arith, ltb-false 0 (p .removal) (not-laden q h .0)) in
+      let z : p .removal ≡ 0 = omega (arith, ltb-false 0 (p .removal) (neither q h .0)) in
       ap (λ (x : model.Part). x .removal) (part-at j sized whole q h) ∙ z
 
   no-holder : (q : ℕ) → q < m → partAt (jobOf j) q .holders ≡ []
-  no-holder q h = ap (λ (x : model.Part). x .holders) (part-at j sized whole q h) ∙ no-numbers (recordAt (j .parts) q .holders) (not-laden q h .1)
+  no-holder q h = ap (λ (x : model.Part). x .holders) (part-at j sized whole q h) ∙ no-numbers (recordAt (j .parts) q .holders) (neither q h .1)
 
   module _ (valid : ValidJob (jobOf j)) where
     priced : (q : ℕ) → q < m → length (partAt (jobOf j) q .prices) ≡ n

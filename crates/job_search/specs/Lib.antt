@@ -1,2 +1,2 @@
 -- Which jobs have holders or removals.
-pub mod Laden
+pub mod Removals

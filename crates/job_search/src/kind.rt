@@ -7,7 +7,7 @@ ghost use mathlib.Core.Bool.{false};
 ghost use lib.ListN.{length, getD};
 ghost use Rattle.jobs.specs.Views.{Sized};
 ghost use Rattle.coming_out.specs.Rows.{some};
-ghost use Rattle.job_search.specs.Laden.{laden, ladenJob};
+ghost use Rattle.job_search.specs.Removals.{hasRemovals, anyRemovals};
 
 // One of the marks is set.
 fn any_set(marks: [bool; 16]) -> bool
@@ -24,8 +24,8 @@ fn any_set(marks: [bool; 16]) -> bool
 }
 
 // A part with holders, or with a removal above 0.
-fn laden_part(part: Part) -> bool
-    ensures { λ r. ⌜ r ≡ laden part ⌝ }
+fn has_removals(part: Part) -> bool
+    ensures { λ r. ⌜ r ≡ hasRemovals part ⌝ }
 {
     if 0 < part.removal {
         return true;
@@ -35,16 +35,16 @@ fn laden_part(part: Part) -> bool
 }
 
 // One of the parts is so.
-pub fn is_laden(job: Job) -> bool
+pub fn any_removals(job: Job) -> bool
     requires { ⌜ Sized job ⌝ }
-    ensures { λ r. ⌜ r ≡ ladenJob job ⌝ }
+    ensures { λ r. ⌜ r ≡ anyRemovals job ⌝ }
 {
     let parts = job.parts;
     let count = job.part_count;
     let mut q: usize = 0;
     while q < count {
         let part = part_of(parts, count, q);
-        if laden_part(part) {
+        if has_removals(part) {
             return true;
         }
         q += 1;

@@ -5,7 +5,7 @@ use held_job::search_held_job;
 use job_numbers::numbers_of;
 use job_numbers::prices_of;
 use jobs::Job;
-use kind::is_laden;
+use kind::any_removals;
 use search::Found;
 use search::search;
 ghost use mathlib.Core.Path.{_≡_};
@@ -14,11 +14,11 @@ ghost use Rattle.model.specs.Promise.{answerOf};
 ghost use Rattle.jobs.specs.Views.{jobOf};
 ghost use Rattle.jobs.specs.Valid.{Sound};
 ghost use Rattle.search.specs.Found.{saidIn};
-ghost use Rattle.job_search.specs.Laden.{ladenJob};
+ghost use Rattle.job_search.specs.Removals.{anyRemovals};
 
 // The search over the openings alone, of a job without holders and with removals of 0.
 fn search_plain(job: Job, limit: u32) -> Found
-    requires { ⌜ Sound job × (ladenJob job ≡ false) ⌝ }
+    requires { ⌜ Sound job × (anyRemovals job ≡ false) ⌝ }
     ensures { λ r. ⌜ saidIn (job .«opening_count») (job .«part_count») r ≡ answerOf (jobOf job) limit ⌝ }
 {
     let n = job.opening_count;
@@ -46,7 +46,7 @@ pub fn search_job(job: Job, limit: u32) -> Found
     requires { ⌜ Sound job ⌝ }
     ensures { λ r. ⌜ saidIn (job .«opening_count») (job .«part_count») r ≡ answerOf (jobOf job) limit ⌝ }
 {
-    if is_laden(job) {
+    if any_removals(job) {
         return search_held_job(job, limit);
     }
     search_plain(job, limit)

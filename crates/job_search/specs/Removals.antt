@@ -8,9 +8,9 @@ use Rattle.part_records.specs.Records.{recordAt}
 use Rattle.coming_out.specs.Rows.{some}
 
 -- a part has a removal above 0, or a holder
-abbrev pub laden : Part → Bool
-laden part = ltb 0 (part .removal) || some (length (part .holders)) (λ i. getD (part .holders) i false)
+abbrev pub hasRemovals : Part → Bool
+hasRemovals part = ltb 0 (part .removal) || some (length (part .holders)) (λ i. getD (part .holders) i false)
 
 -- some part of the job is so
-abbrev pub ladenJob : Job → Bool
-ladenJob job = some (job .«part_count») (λ q. laden (recordAt (job .parts) q))
+abbrev pub anyRemovals : Job → Bool
+anyRemovals job = some (job .«part_count») (λ q. hasRemovals (recordAt (job .parts) q))
