@@ -2,3 +2,4 @@
 pub mod Looked
 pub mod Settled
 pub mod Children
+pub mod Names

@@ -9,18 +9,16 @@ use Rattle.branch.specs.Search.{snoc}
 use Rattle.model.specs.Decisions.{covered}
 use Rattle.model.specs.LastYes.{lastYes}
 use Rattle.model.proofs.LastYes.{last-no, last-yes}
-use Rattle.least.specs.Filled.{FilledBy}
-use Rattle.lane_rows.specs.Layout.{inf, lanesIn}
+use Rattle.lane_rows.specs.Layout.{lanesIn}
 use Rattle.lane_rows.specs.Sheet.{Sheet, front, noColumn}
 use Rattle.lane_rows.specs.Tables.{Tables}
 use Rattle.lane_rows.specs.Rows.{Put}
 use Rattle.held_rows.specs.Held.{solid, HeldSheet, columnIn, plain, noLane, needsOf, seen, seenBy, lastFor}
-use Rattle.held_rows.specs.Rows.{SeenRows}
+use Rattle.held_rows.specs.Rows.{SeenRows, stopRow}
 use Rattle.held_rows.proofs.Seen.{seen-stop, seen-length}
 use Rattle.held_rows.proofs.Rows.{rows-stop}
 use Rattle.held_lanes.specs.Places.{bitAt, offset, leadPlace, classesPlace, lastPlace}
-use Rattle.held_lanes.specs.Tables.{HeldTables, Lasts, shutRow, noted}
-use Rattle.held_stops.specs.Stops.{Pended}
+use Rattle.held_lanes.specs.Tables.{HeldTables, Lasts, noted}
 
 not-not : (b : Bool) → not (not b) ≡ b
 not-not true = refl
@@ -51,23 +49,23 @@ module _ (sheet : HeldSheet) (t u v w : List ℕ) (ta : Tables (plain sheet) t) 
   abbrev sees : List (List Bool) → ℕ → List Bool
   sees ds q = seenBy sheet ds (getD (sheet .lanes) q noLane)
 
-  pub stop-settled : (w' : List ℕ) → at < length (sheet .positions) → Pended t w v at n → SeenRows (plain sheet) w at (sees bs) n → Put (lanesIn t) (shutRow v n set) w w' n (at + 1)
+  pub stop-settled : (w' : List ℕ) → at < length (sheet .positions) → SeenRows (plain sheet) w at (sees bs) n → Put (lanesIn t) (stopRow t w at n (λ (q : ℕ). bitAt q set)) w w' n (at + 1)
       → SeenRows (plain sheet) w' (at + 1) (sees (bs ++ ((true ∷ rs) ∷ []))) (n + 1)
-  stop-settled w' h p r put =
+  stop-settled w' h r put =
       rows-alike (plain sheet) w' (at + 1) (λ (q : ℕ). snoc (sees bs q) (not (bitAt q set))) (sees (bs ++ ((true ∷ rs) ∷ []))) (n + 1) same
-      (rows-stop (plain sheet) t w at (sees bs) n ta r h (λ (q : ℕ). bitAt q set) w' (record { kept = put .kept; row = λ q l. put .row q l ∙ ap (cond (bitAt q set) inf) (p q l); mark = put .mark }))
+      (rows-stop (plain sheet) t w at (sees bs) n ta r h (λ (q : ℕ). bitAt q set) w' put)
     where
       same : (q : ℕ) → q < length (plain sheet .columns) → snoc (sees bs q) (not (bitAt q set)) ≡ sees (bs ++ ((true ∷ rs) ∷ [])) q
       same q l =
           let needs = needsOf sheet (getD (sheet .lanes) q noLane .class) in
           ap (λ (b : Bool). snoc (sees bs q) (not b)) (bits q (omega (arith, length-map (sheet .lanes) columnIn))) ∙ ap (snoc (sees bs q)) (not-not (covered needs rs)) ∙ sym (seen-stop needs bs rs)
 
-  pub lasts-settled : (v' : List ℕ) → HeldTables sheet u → Lasts sheet v bs (n - 1) → FilledBy (lastPlace n) (noted u v (at + 1) n set) (getD u classesPlace 0) v v' → Lasts sheet v' (bs ++ ((true ∷ rs) ∷ [])) n
+  pub lasts-settled : (v' : List ℕ) → HeldTables sheet u → Lasts sheet v bs (n - 1) → ((c : ℕ) → c < getD u classesPlace 0 → getD v' (lastPlace n c) 0 ≡ noted u v (at + 1) n set c) → Lasts sheet v' (bs ++ ((true ∷ rs) ∷ [])) n
   lasts-settled v' he ls f c l =
       let needs = needsOf sheet c in
       let lead = getD u (leadPlace c) 0 in
       let le = he .leads c l in
-      f .done c (omega (arith, he .classes))
+      f c (omega (arith, he .classes))
       ∙ ap (λ (b : Bool). cond b (getD v (lastPlace (n - 1) c) 0) (offset (at + 1) c)) (bits lead (le .0) ∙ ap (λ (k : ℕ). not (covered (needsOf sheet k) rs)) (le .1))
       ∙ ap (λ (x : ℕ). cond (not (covered needs rs)) x (offset (at + 1) c)) (ls c l)
       ∙ go (covered needs rs)

@@ -1,6 +1,6 @@
 // The rows of stops whose removals are decided: the sum of the lanes while they are, and the row once they are.
 ghost use mathlib.Core.Path.{_≡_};
-ghost use Prim.Native.Nat.{ℕ, _+_, _*_, _<_, _≤_};
+ghost use Prim.Native.Nat.{ℕ, _+_, _*_, _^_, _<_, _≤_};
 ghost use lib.ListN.{length, getD};
 ghost use Rattle.model.specs.Limits.{mostOpenings};
 ghost use Rattle.least.specs.Filled.{FilledBy};
@@ -8,11 +8,13 @@ ghost use Rattle.lane_rows.specs.Layout.{laneCount, inf, lanesIn};
 ghost use Rattle.lane_rows.specs.Rows.{sumLanes, Turned, Looks, Recalled, Put, Memo, Owing, nextRow};
 ghost use Rattle.held_lanes.specs.Places.{pendingPlace, readyPlace, asideSize};
 ghost use Rattle.held_lanes.specs.Tables.{StopAsks, shutRow};
-ghost use Rattle.held_stops.specs.Stops.{ReadAt, stopLane, LooksAtStop, Pended, Pends};
+ghost use Rattle.held_stops.specs.Stops.{ReadAt, stopLane, LooksAtStop, Pended, Pends, SettleAsks, StopPut, StopNoted};
 use held_lanes::ASIDE;
 use held_lanes::HELD;
 use held_lanes::PENDING;
 use held_lanes::READY;
+use held_lanes::REMOVED;
+use held_lanes::note_lasts;
 use held_lanes::number;
 use held_lanes::shut_row;
 use held_lanes::stop_row;
@@ -144,4 +146,25 @@ pub fn put_stop(
     stop_row(t, u, v, w, rows, set);
     w[ROW_MARKS + rows] = at as u32;
     forget(w, rows + 1, at);
+}
+
+// The stop whose removals are decided is settled: its row above the rows that are there, the last mark of each class, and its removals.
+pub fn settle_stop(
+    t: &[u32; TABLES],
+    u: &[u32; HELD],
+    v: &mut [u32; ASIDE],
+    w: &mut [u32; STACK],
+    at: usize,
+    rows: usize,
+    set: usize,
+    removed: usize,
+)
+    requires { ⌜ (SettleAsks (now t) (now u) (now v) (now w) at rows) × (removed < 2 ^ 32) ⌝ }
+    ensures put { λ _. ⌜ StopPut (now (t .entry)) (now (w .entry)) (now (w .exit)) at rows set ⌝ }
+    ensures noted { λ _. ⌜ StopNoted (now (t .entry)) (now (u .entry)) (now (w .entry)) (now (v .entry)) (now (v .exit)) at rows set removed ⌝ }
+{
+    pend(t, w, v, at - 1, rows);
+    put_stop(t, u, v, w, at, rows, set);
+    note_lasts(u, v, at, rows, set);
+    v[REMOVED + (at - 1)] = removed as u32;
 }
