@@ -41,19 +41,23 @@ fn library(job: &[u8]) -> Timed {
 
 fn rust(job: &[u8], unit: Unit) -> Timed {
     let (time, found) = timed(|| fast::Job::read(job).solve(unit).expect("the job has a plan"));
-    (time, Outcome { nodes: found.nodes, floor: found.floor, cost: found.best.map(|best| best.0) })
+    (time, Outcome { nodes: found.nodes, floor: found.floor, cost: found.best.map(|best| best.cost) })
 }
 
-fn solvers() -> Vec<Solver> {
+/// The solvers of jobs without holders, or with them. The library does not know holders yet.
+fn solvers(held: bool) -> Vec<Solver> {
     let mut solvers: Vec<Solver> = Vec::new();
     #[cfg(feature = "library")]
-    solvers.push(("library".into(), library));
-    for unit in Unit::all() {
+    if !held {
+        solvers.push(("library".into(), library));
+    }
+    for unit in if held { vec![Unit::Holders] } else { Unit::all() } {
         let solve: fn(&[u8]) -> Timed = match unit {
             Unit::Plain => |job| rust(job, Unit::Plain),
             Unit::Recursive => |job| rust(job, Unit::Recursive),
             Unit::Sse2 => |job| rust(job, Unit::Sse2),
             Unit::Avx2 => |job| rust(job, Unit::Avx2),
+            Unit::Holders => |job| rust(job, Unit::Holders),
         };
         solvers.push((format!("{unit:?}"), solve));
     }
@@ -63,7 +67,7 @@ fn solvers() -> Vec<Solver> {
 /// The places of the solvers that the library, which is the first, is compared with.
 fn beside(solvers: &[Solver]) -> Vec<usize> {
     let there = solvers[0].0 == "library";
-    (1..solvers.len()).filter(|at| there && ["Plain", "Recursive"].contains(&solvers[*at].0.as_str())).collect()
+    (1..solvers.len()).filter(|at| there && ["Plain", "Recursive", "Holders"].contains(&solvers[*at].0.as_str())).collect()
 }
 
 /// The CPU time of this thread in seconds: other programs on the machine count little.
@@ -174,25 +178,38 @@ fn run() {
     }
     let folder = Path::new(env!("CARGO_MANIFEST_DIR")).join("../jobs");
     let table = fs::read_to_string(folder.join("TABLE.md")).expect("TABLE.md");
-    let solvers = solvers();
     // Once so much was freed at one time, the C library keeps what is freed: else some calls would pay for fresh pages, and some not.
     drop(black_box(vec![0u8; 16 << 20]));
-    print_heads(&solvers);
     let mut wrong = 0;
-    for file in jobs(&folder, &names) {
-        let name = stem(&file);
-        let job = fs::read_to_string(&file).expect("a job");
-        let [first, measured] = measure(&solvers, &with_walk(&job, Some(1)), &with_walk(&job, walk));
-        let wanted = expected(&table, &name).expect("a row of TABLE.md");
-        let whole = walk.is_none_or(|walk| walk >= wanted.nodes);
-        let reference = if whole { wanted } else { measured[0].1 };
-        wrong += differing(&name, &solvers, &first, first[0].1) + differing(&name, &solvers, &measured, reference);
-        print_row(&name, reference.nodes, &solvers, &first, &measured);
+    for held in [false, true] {
+        let of_kind = |file: &PathBuf| fs::read_to_string(file).expect("a job").contains("\nholder=") == held;
+        let files: Vec<PathBuf> = jobs(&folder, &names).into_iter().filter(of_kind).collect();
+        if !files.is_empty() {
+            wrong += compare(&solvers(held), &files, &table, walk);
+            println!();
+        }
     }
     if wrong > 0 {
         eprintln!("{wrong} outcomes differ");
         process::exit(1);
     }
+}
+
+/// The table of these jobs; how many outcomes differ.
+fn compare(solvers: &[Solver], files: &[PathBuf], table: &str, walk: Option<u64>) -> usize {
+    print_heads(solvers);
+    let mut wrong = 0;
+    for file in files {
+        let name = stem(file);
+        let job = fs::read_to_string(file).expect("a job");
+        let [first, measured] = measure(solvers, &with_walk(&job, Some(1)), &with_walk(&job, walk));
+        let wanted = expected(table, &name).expect("a row of TABLE.md");
+        let whole = walk.is_none_or(|walk| walk >= wanted.nodes);
+        let reference = if whole { wanted } else { measured[0].1 };
+        wrong += differing(&name, solvers, &first, first[0].1) + differing(&name, solvers, &measured, reference);
+        print_row(&name, reference.nodes, solvers, &first, &measured);
+    }
+    wrong
 }
 
 fn main() {

@@ -3,9 +3,9 @@
 
     solvers.py [--limit SECONDS] [--solver NAME ..] [--write FOLDER] [JOB ..]
 
-Writes model (1) of source document 000, with the first life of 001, for glpsol, cbc and lp_solve (Debian: glpk-utils, coinor-cbc,
-lp-solve), runs each on one thread, compares the cost with TABLE.md and prints a table of times. JOB is the beginning of a job's name;
-with none, all jobs are solved.
+Writes model (1) of source document 000, with the first life of 001, and for jobs with removals model S1 of 001, for glpsol, cbc and
+lp_solve (Debian: glpk-utils, coinor-cbc, lp-solve), runs each on one thread, compares the cost with TABLE.md and prints a table of times.
+JOB is the beginning of a job's name; with none, all jobs are solved.
 """
 
 import argparse
@@ -21,7 +21,8 @@ JOBS = os.path.join(os.path.dirname(os.path.abspath(__file__)), "..", "..", "job
 
 
 def read_job(text):
-    """The facts of a job text without faults: running steps, openings (running steps up to it, fee), parts (life, left, prices)."""
+    """The facts of a job text without faults: running steps, openings (running steps up to it, fee), parts (life, left, prices, removal,
+    the places of the holders from 0)."""
     horizon, idles, openings, parts = None, [], [], []
     for line in text.split():
         key, value = line.split("=")
@@ -37,7 +38,11 @@ def read_job(text):
         elif key == "life":
             parts.append([value])
         elif key == "left":
-            parts[-1] += [value, []]
+            parts[-1] += [value, [], 0, []]
+        elif key == "removal":
+            parts[-1][3] = value
+        elif key == "holder":
+            parts[-1][4].append(value - 1)
         elif key == "price":
             parts[-1][2].append(value)
     return horizon - len(idles), openings, parts
@@ -57,13 +62,21 @@ def windows(horizon, openings, life, left):
 
 def model(job):
     """The objective as (coefficient, variable), the constraints as (terms, relation, bound), and the variables. All are binary: z for a
-    stop, x for a change."""
+    stop, x for a change, y for a removal, which a job without removals and holders has no need of."""
     horizon, openings, parts = job
     objective = [(fee, f"z{j}") for j, (_, fee) in enumerate(openings)]
     constraints = []
-    for i, (life, left, prices) in enumerate(parts):
+    held = any(removal or holders for *_, removal, holders in parts)
+    for i, (life, left, prices, removal, holders) in enumerate(parts):
         objective += [(price, f"x{i}_{j}") for j, price in enumerate(prices)]
-        constraints += [([(1, f"x{i}_{j}"), (-1, f"z{j}")], "<=", 0) for j in range(len(openings))]
+        for j in range(len(openings)):
+            if held:
+                # (4) and (5) of model S1: x <= y <= z, and y of each holder is no less than y.
+                objective.append((removal, f"y{i}_{j}"))
+                below = [(f"x{i}_{j}", f"y{i}_{j}"), (f"y{i}_{j}", f"z{j}")] + [(f"y{i}_{j}", f"y{h}_{j}") for h in holders]
+            else:
+                below = [(f"x{i}_{j}", f"z{j}")]
+            constraints += [([(1, less), (-1, more)], "<=", 0) for less, more in below]
         for window in windows(horizon, openings, life, left):
             if not window:
                 sys.exit("a part has a window without openings: the job has no plan")
@@ -148,9 +161,10 @@ def solve(name, files, limit, folder):
 
 
 def expected_costs():
+    """Of each job the nodes of the walk and the least cost: that of the walk, or of the column of its own that jobs with holders have."""
     with open(os.path.join(JOBS, "TABLE.md"), encoding="utf-8") as file:
         rows = [[cell.strip() for cell in line.split("|")] for line in file if line.startswith("|")]
-    return {row[1]: (int(row[2]), int(row[4])) for row in rows if row[2].isdigit()}
+    return {row[1]: (int(row[2]), int(row[9] if len(row) > 10 else row[4])) for row in rows if row[2].isdigit()}
 
 
 def write(folder, name, job):

@@ -40,6 +40,10 @@ fn longest() -> Form<'static> {
         fees: alike(64, 1_000_000),
         lives: alike(16, 1000),
         lefts: alike(16, 1000),
+        covered: alike(16, 0),
+        removals: &[],
+        insides: &[],
+        holders: &[],
         prices: alike(1024, 1_000_000),
     }
 }

@@ -12,7 +12,7 @@ pub use library::{count, judge, plan, write};
 /// What a call answers. `'t` is the life of the caller's texts.
 #[derive(Debug, Clone, Copy, PartialEq, Eq)]
 pub struct Answer<'t> {
-    /// The result number, 0 to 11.
+    /// The result number, 0 to 12.
     pub result: u32,
     /// The text at fault: 1 the job, 2 the plan, 0 neither.
     pub text: u32,
@@ -27,6 +27,7 @@ pub struct Answer<'t> {
 }
 
 /// An order form: the facts of a job as lists of numbers, in the job text's order. The prices stand part by part, one for each opening.
+/// A part's lines `removal`, `inside` and `holder` may be left out.
 #[derive(Debug, Clone, Copy, PartialEq, Eq)]
 pub struct Form<'f> {
     pub horizon: u32,
@@ -36,13 +37,21 @@ pub struct Form<'f> {
     pub fees: &'f [u32],
     pub lives: &'f [u32],
     pub lefts: &'f [u32],
+    /// For each part 1 where those lines stand, else 0.
+    pub covered: &'f [u32],
+    /// One for each part that has the lines.
+    pub removals: &'f [u32],
+    /// How many holders it has, one for each part that has the lines.
+    pub insides: &'f [u32],
+    /// The numbers of all holders, part after part.
+    pub holders: &'f [u32],
     pub prices: &'f [u32],
 }
 
 /// What `count` answers. `'t` is the life of the caller's text.
 #[derive(Debug, Clone, Copy, PartialEq, Eq)]
 pub struct Count<'t> {
-    /// The result number, 0 to 5.
+    /// The result number, 0 to 5 or 12.
     pub result: u32,
     /// The text at fault: 1 the job, 0 none.
     pub text: u32,

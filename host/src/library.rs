@@ -70,7 +70,10 @@ pub fn judge<'t>(job: &'t [u8], plan: &'t [u8], out: &mut [u8]) -> Answer<'t> {
 
 /// Writes the job text of a form into `out`: its first `length` bytes. No line at fault is handed over, since there is no text of the caller's.
 pub fn write(form: &Form, out: &mut [u8]) -> Answer<'static> {
-    let Form { horizon, idles, walk, openings, fees, lives, lefts, prices } = *form;
+    let Form { horizon, idles, walk, openings, fees, lives, lefts, prices, .. } = *form;
+    // The library has no removals and holders yet.
+    assert!(form.covered.len() == lives.len() && form.covered.iter().all(|stands| *stands == 0), "a part has holders");
+    assert!([form.removals, form.insides, form.holders].iter().all(|list| list.is_empty()), "a part has holders");
     // SAFETY: as for `plan`; the lists are only read.
     let numbers = unsafe {
         juzvarola_write(

@@ -2,9 +2,8 @@
 #![cfg(feature = "library")]
 
 mod common;
-use common::{inputs, rng::Rng, setting, vectors::hex};
+use common::{inputs, rng::Rng, setting, vectors};
 use juzvarola_host::{count, judge, plan, reference::texts};
-use std::path::Path;
 use std::time::Instant;
 
 /// "The count stops at 4000000000".
@@ -15,19 +14,12 @@ const MOST: u64 = 3_000;
 
 #[test]
 fn every_vector_of_the_count() {
-    let file = Path::new(env!("CARGO_MANIFEST_DIR")).join("vectors/count.txt");
-    let file = std::env::var("JUZVAROLA_COUNT_VECTORS").map_or(file, Into::into);
-    let lines = std::fs::read_to_string(file).expect("the vectors");
     let (mut vectors, mut differ) = (0, 0);
-    for line in lines.lines() {
-        let field = |name: &str| line.split(' ').find_map(|field| field.strip_prefix(name)).expect("a field");
-        let number = |name: &str| field(name).parse::<u32>().expect("a number");
-        let job = hex(field("job="));
-        let answer = count(&job);
-        let same = (answer.result, answer.text, answer.line, answer.count)
-            == (number("result="), number("text="), number("line="), number("count="));
-        if !same || answer.fault != hex(field("fault=")) {
-            println!("{line}: {answer:?}");
+    for vector in vectors::counts() {
+        let answer = count(&vector.job);
+        let same = (answer.result, answer.text, answer.line, answer.count) == (vector.result, vector.text, vector.line, vector.count);
+        if !same || answer.fault != vector.fault {
+            println!("{}: {answer:?}", vector.job.escape_ascii());
             differ += 1;
         }
         vectors += 1;

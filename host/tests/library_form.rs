@@ -27,7 +27,11 @@ fn compare(rng: &mut Rng, call: &FormCall, reply: &Reply) -> Result<(), String> 
         fees: inside(2),
         lives: inside(3),
         lefts: inside(4),
-        prices: inside(5),
+        covered: inside(5),
+        removals: inside(6),
+        insides: inside(7),
+        holders: inside(8),
+        prices: inside(9),
         ..call.form()
     };
     let mut out = Lent::output(rng, call.output);
@@ -65,7 +69,7 @@ fn library_writes_what_the_reference_writes() {
     common::with_stack(|| {
         let mut rng = Rng::new(setting("JUZVAROLA_SEED", 8));
         let cases = setting("JUZVAROLA_CASES", CASES);
-        let mut results = [0u64; 9];
+        let mut results = [0u64; 13];
         for number in 0..cases {
             let call = forms::random(&mut rng);
             let reply = call.expected();

@@ -4,7 +4,7 @@
 mod common;
 use common::lent::{judged, planned};
 use common::{inputs, jobs, rng::Rng, setting};
-use juzvarola_host::fast::{self, Found, Unit};
+use juzvarola_host::fast::{self, Best, Found, Unit};
 
 /// Nodes of a walk, at most.
 const LIMIT: u64 = 100_000;
@@ -15,7 +15,7 @@ fn lines_of(job: &inputs::Facts, found: Option<Found>) -> String {
         return "result=6\n".to_string();
     };
     let mut lines = format!("result={}\nnodes={}\nfloor={}\n", if found.more { 7 } else { 0 }, found.nodes, found.floor);
-    if let Some((cost, stops)) = found.best {
+    if let Some(Best { cost, stops, .. }) = found.best {
         lines += &format!("cost={cost}\nstops={}\n", stops.count_ones());
         for (k, (step, _)) in job.openings.iter().enumerate() {
             if stops >> k & 1 == 1 {
@@ -35,13 +35,13 @@ fn library_walks_as_far_as_the_fast_walk() {
             let mut job = inputs::facts(&mut rng, if number % 2 == 0 { inputs::MIDDLE } else { inputs::LARGE });
             job.walk = rng.within(LIMIT / 2, LIMIT);
             let text = job.text();
-            let found = fast::Job::read(&text).solve(Unit::Plain);
+            let found = fast::Job::read(&text).solve(if job.is_held() { Unit::Holders } else { Unit::Plain });
             let written = planned(&text);
             let changes = |line: &&str| !line.starts_with("count=") && !line.starts_with("part=");
             let kept: String = written.lines().filter(changes).map(|line| format!("{line}\n")).collect();
             assert_eq!(kept, lines_of(&job, found), "{}", String::from_utf8_lossy(&text));
             if let Some(at) = written.find("cost=") {
-                let cost = found.and_then(|found| found.best).expect("a plan").0;
+                let cost = found.and_then(|found| found.best).expect("a plan").cost;
                 assert_eq!(judged(&text, &written.as_bytes()[at..]), format!("result=0\ncost={cost}\n"));
             }
             long += u64::from(found.is_some_and(|found| found.nodes > LIMIT / 10));
@@ -54,7 +54,7 @@ fn library_walks_as_far_as_the_fast_walk() {
 #[test]
 fn library_gives_the_table() {
     common::with_stack(|| {
-        for row in jobs::up_to(4_000_000) {
+        for row in jobs::up_to(4_000_000).into_iter().filter(|row| inputs::holders_on() || !row.is_held()) {
             let written = planned(&row.text);
             let head = format!("result=0\nnodes={}\nfloor={}\ncost={}\n", row.nodes, row.floor, row.cost);
             assert!(written.starts_with(&head), "{}: {written}", row.name);

@@ -1,17 +1,26 @@
 //! The reference by itself: the specification's cases, and what must hold of its replies on random calls.
 
 mod common;
-use common::{idle_cases, inputs, paper, rng::Rng, setting};
-use juzvarola_host::reference::{self, Reply};
+use common::{holder_cases, idle_cases, inputs, paper, rng::Rng, setting};
+use juzvarola_host::reference::{self, Counted, Reply};
 
 const CASES: u64 = 30_000;
 
 #[test]
-fn reference_gives_the_papers_cases_and_the_idle_ones() {
-    for case in paper::cases().into_iter().chain(idle_cases::cases()) {
+fn reference_gives_the_papers_cases_the_idle_ones_and_those_with_holders() {
+    for case in [paper::cases(), idle_cases::cases(), holder_cases::cases()].concat() {
         let reply = case.call.expected();
         assert!(case.is(reply.line, &reply.bytes), "{}: {}", case.name, reply.bytes.escape_ascii());
     }
+}
+
+/// "E6's call gives 12 with line 0 after all text checks."
+#[test]
+fn count_refuses_holders_after_all_text_checks() {
+    let [held, longer] = holder_cases::counted();
+    assert_eq!(reference::count(&held, 1), Counted { result: 12, ..Counted::default() });
+    let counted = reference::count(&longer, 1);
+    assert_eq!((counted.result, counted.text, counted.line, counted.count), (2, 1, 24, 0));
 }
 
 /// The line with this number (from 1), cut out by splitting the text; a missing one is empty.
@@ -27,8 +36,8 @@ fn check(call: &common::Call, reply: &Reply) {
         _ => &Vec::new(),
     };
     let fault = &text[reply.fault_start..][..reply.fault_length];
-    assert_eq!(reply.text != 0, matches!(reply.result, 1..=5 | 9), "{call:?}");
-    assert_eq!(reply.line != 0, matches!(reply.result, 2..=5 | 9), "{call:?}");
+    assert_eq!(reply.text != 0, matches!(reply.result, 1..=5 | 9 | 12), "{call:?}");
+    assert_eq!(reply.line != 0, matches!(reply.result, 2..=5 | 9 | 12), "{call:?}");
     if reply.line != 0 {
         assert_eq!(fault, line_of(text, reply.line), "{call:?}");
     } else {
@@ -46,18 +55,22 @@ fn check(call: &common::Call, reply: &Reply) {
 fn replies_are_consistent_and_every_result_occurs() {
     common::with_stack(|| {
         let mut rng = Rng::new(setting("JUZVAROLA_SEED", 1));
-        let mut results = [[0u64; 12]; 2];
+        let mut results = [[0u64; 13]; 2];
+        let mut costly = 0;
         let cases = setting("JUZVAROLA_CASES", CASES);
         for _ in 0..cases {
             let call = inputs::call(&mut rng);
             let reply = call.expected();
             check(&call, &reply);
+            costly += u64::from(reply.result == 0 && call.is_costly());
             results[call.plan.is_some() as usize][reply.result as usize] += 1;
         }
         println!("results of the planner: {:?}\nresults of the judge:   {:?}", results[0], results[1]);
+        println!("{costly} plans that cost more than 2000000000 are accepted");
         if cases >= CASES {
             assert!(results[0][..9].iter().all(|times| *times >= 5));
             assert!([0, 1, 2, 3, 4, 5, 8, 9, 10, 11].iter().all(|result| results[1][*result] >= 5));
+            assert!(!inputs::holders_on() || (results[0][12] >= 5 && results[1][12] >= 5 && costly >= 5));
         }
     });
 }
@@ -67,7 +80,7 @@ fn replies_are_consistent_and_every_result_occurs() {
 fn an_empty_plan_text_is_doing_nothing() {
     common::with_stack(|| {
         let mut rng = Rng::new(setting("JUZVAROLA_SEED", 8));
-        let mut results = [0u64; 12];
+        let mut results = [0u64; 13];
         for _ in 0..CASES {
             let call = inputs::call_on_nothing(&mut rng);
             let reply = call.expected();

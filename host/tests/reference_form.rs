@@ -30,7 +30,12 @@ fn facts_of(text: &[u8]) -> Facts {
         parts: job
             .parts
             .iter()
-            .map(|part| inputs::PartFacts { life: part.life as u64, left: part.left as u64, prices: part.prices.clone() })
+            .map(|part| inputs::PartFacts {
+                life: part.life as u64,
+                left: part.left as u64,
+                cover: part.covered.then(|| (part.removal, part.holders.iter().map(|holder| *holder as u64 + 1).collect())),
+                prices: part.prices.clone(),
+            })
             .collect(),
     }
 }

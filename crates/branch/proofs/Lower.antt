@@ -1,4 +1,4 @@
--- How a bound comes to be a lower bound: it never falls as more is decided. Sums of such bounds are such, by cases; and what a sum, or the largest, of bounds is made of.
+-- How a bound comes to be a lower bound: it never falls as more is decided. A sum, and the largest, of bounds that never fall never falls, by cases; and what a sum, or the largest, of bounds is made of.
 use Prim.Native.Nat.{ℕ, _+_, _≤_, max}
 use native.Mathlib.Omega.{arith}
 use mathlib.Core.Path.{_≡_, refl, ap, _∙_}
@@ -7,7 +7,6 @@ use mathlib.Core.List.{List, [], _∷_, _++_}
 use Rattle.branch.specs.declared.Bound.{Bound}
 use Rattle.branch.specs.declared.Bound.the-variants.{Missing, Sum}
 use Rattle.branch.specs.Search.{NoMore}
-use Rattle.branch.specs.Label.{LowerBound}
 use Rattle.branch.specs.Lower.{add, total, larger, largest}
 use Rattle.branch.proofs.Bounds.{no-sum}
 
@@ -22,18 +21,9 @@ add-mono Missing (Sum b) x₂ (Sum d) h g = absurd h
 add-mono (Sum a) (Sum b) Missing (Sum d) h g = absurd g
 add-mono (Sum a) (Sum b) (Sum c) (Sum d) h g = omega arith
 
-pub add-rises : (f g : List Bool → Bound) → Rises f → Rises g → Rises (λ p. add (f p) (g p))
-add-rises f g h k p t = add-mono (f p) (f (p ++ t)) (g p) (g (p ++ t)) (h p t) (k p t)
-
 pub total-mono : {A : Type 0} (f : A → List Bool → Bound) (rest : List A) (p q : List Bool) → ((a : A) → NoMore (f a p) (f a q)) → NoMore (total f rest p) (total f rest q)
 total-mono f [] p q h = omega arith
 total-mono f (a ∷ rest) p q h = add-mono (f a p) (f a q) (total f rest p) (total f rest q) (h a) (total-mono f rest p q h)
-
-pub total-rises : {A : Type 0} (f : A → List Bool → Bound) (rest : List A) → ((a : A) → Rises (f a)) → Rises (total f rest)
-total-rises f rest h p t = total-mono f rest p (p ++ t) (λ a. h a p t)
-
-pub lower-bound-of : (bound : List Bool → Bound) (n : ℕ) → Rises bound → LowerBound n bound bound
-lower-bound-of bound n rises = record { full = λ s h. refl; lower = λ p t h. rises p t }
 
 -- ---- a sum of bounds that is there: both are
 
@@ -92,18 +82,20 @@ largest-there f g p h (a ∷ rest) n e =
     (max (x .0) (y .0), rw (x .1, y .1))
 
 -- one more, at the end
-larger-assoc : (x y z : Bound) → larger x (larger y z) ≡ larger (larger x y) z
+pub larger-assoc : (x y z : Bound) → larger x (larger y z) ≡ larger (larger x y) z
 larger-assoc Missing y z = refl
 larger-assoc (Sum a) Missing z = refl
 larger-assoc (Sum a) (Sum b) Missing = refl
 larger-assoc (Sum a) (Sum b) (Sum c) = ap Sum (omega arith)
 
-larger-none : (x : Bound) → larger x (Sum 0) ≡ larger (Sum 0) x
-larger-none Missing = refl
-larger-none (Sum a) = ap Sum (omega arith)
+pub larger-comm : (x y : Bound) → larger x y ≡ larger y x
+larger-comm Missing Missing = refl
+larger-comm Missing (Sum b) = refl
+larger-comm (Sum a) Missing = refl
+larger-comm (Sum a) (Sum b) = ap Sum (omega arith)
 
 pub largest-snoc : {A : Type 0} (f : A → List Bool → Bound) (rest : List A) (a : A) (p : List Bool) → largest f (rest ++ (a ∷ [])) p ≡ larger (largest f rest p) (f a p)
-largest-snoc f [] a p = larger-none (f a p)
+largest-snoc f [] a p = larger-comm (f a p) (Sum 0)
 largest-snoc f (x ∷ rest) a p = ap (larger (f x p)) (largest-snoc f rest a p) ∙ larger-assoc (f x p) (largest f rest p) (f a p)
 
 -- more is no less

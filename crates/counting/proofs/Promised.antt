@@ -15,9 +15,11 @@ use Rattle.model.specs.Ordered.{Lefts, Ordered}
 use Rattle.model.specs.Count.{longest, openCount}
 use Rattle.model.specs.Count as model
 use Rattle.model.proofs.Counted.{nodes-most, count-promise}
+use Rattle.model.proofs.Unheld.{plain-unheld}
 use Rattle.jobs.specs.Valid.{All, ValidPart, ValidJob}
 use Rattle.job_text.specs.Grammar.{Given, readJob}
 use Rattle.job_text.specs.Valid.{Valid}
+use Rattle.jobs.proofs.Plain.{valid-plain}
 use Rattle.job_text.proofs.Accepted.{valid}
 use Rattle.job_text.proofs.Numbered.{fault}
 use Rattle.counting.specs.Count.{countOf, refusalOf, onJob, countSaid}
@@ -59,7 +61,7 @@ module _ (text : List ℕ) where
     limited = valid text g eg
 
     c : model.CountPromise (g .job) (openCount (g .job))
-    c = count-promise (g .job) (ordered (g .job) (limited .job))
+    c = count-promise (g .job) (ordered (g .job) (limited .job)) (plain-unheld (length (g .job .openings)) (g .job .parts) (valid-plain (length (g .job .openings)) (g .job .parts) (limited .job .parts)))
 
     -- what holds of this job holds of any reading's
     moved : (P : Given → Type 0) → P g → (r : Reading text) → P (r .given)

@@ -78,6 +78,6 @@ module _ (h l : ℕ) (is t : List ℕ) where
 pub steps-found : (h n l : ℕ) (r : Check) (is t u : List ℕ) (k m : ℕ) → 1 ≤ n → k ≡ m → idleSteps h n t l ≡ found r is u k → (idleSteps h n >>= λ x. return (present x)) t l ≡ found r (idleLines is) u m
 unfolding found return idleSteps
 steps-found h n l Good is t u k m some e q =
-    let size = chain-gives (idle h) (λ (i : ℕ). i) (λ _ _. Unit {0}) (λ _ _ _ _ _ _ _. tt) n 0 t u l k is q .0 in
+    let size = chain-gives (idle h) (λ (before i : ℕ). i) (λ _ _. Unit {0}) (λ _ _ _ _ _ _ _. tt) n 0 t u l k is q .0 in
     bind-good (idleSteps h n) _ q ∙ ap₂ (λ (x : Optional (List ℕ)) (j : ℕ). good x u j) (some-idles is (omega (arith, size))) e
 steps-found h n l (Fault i j) is t u k m some e q = bind-fault (idleSteps h n) _ q

@@ -29,12 +29,12 @@ grouped-size n (l ∷ ls) [] ps e = absurd (omega arith)
 grouped-size n (l ∷ ls) (r ∷ rs) ps e = ap suc (grouped-size n ls rs (drop n ps) (omega arith))
 
 pub grouped-at : (n : ℕ) (ls rs ps : List ℕ) → length rs ≡ length ls → (k : ℕ) (d : Part) → k < length ls
-    → getD (grouped n ls rs ps) k d ≡ record { life = getD ls k 0; left = getD rs k 0; prices = take n (drop (k * n) ps) }
+    → getD (grouped n ls rs ps) k d ≡ record { life = getD ls k 0; left = getD rs k 0; removal = 0; holders = []; prices = take n (drop (k * n) ps) }
 unfolding grouped
 grouped-at n [] rs ps e k d h = absurd (omega arith)
 grouped-at n (l ∷ ls) [] ps e k d h = absurd (omega arith)
-grouped-at n (l ∷ ls) (r ∷ rs) ps e zero d h = ap (λ (j : ℕ). record { life = l; left = r; prices = take n (drop j ps) }) (sym (zero-mul n))
+grouped-at n (l ∷ ls) (r ∷ rs) ps e zero d h = ap (λ (j : ℕ). record { life = l; left = r; removal = 0; holders = []; prices = take n (drop j ps) }) (sym (zero-mul n))
 grouped-at n (l ∷ ls) (r ∷ rs) ps e (suc k) d h =
     grouped-at n ls rs (drop n ps) (omega arith) k d (omega arith)
-    ∙ ap (λ (qs : List ℕ). record { life = getD ls k 0; left = getD rs k 0; prices = take n qs })
+    ∙ ap (λ (qs : List ℕ). record { life = getD ls k 0; left = getD rs k 0; removal = 0; holders = []; prices = take n qs })
     (drop-drop (k * n) n ps ∙ ap (λ (j : ℕ). drop j ps) (add-comm n (k * n) ∙ sym (suc-mul k n)))

@@ -10,6 +10,7 @@ use lib.Seq.{take-at, drop-at}
 use Rattle.lines.specs.Text.{lineOf, texts, Optional, missing, present, optionalText}
 use Rattle.model.specs.Model.{Opening, Part}
 use Rattle.jobs.specs.Valid.{All, ValidPart}
+use Rattle.jobs.proofs.Plain.{plain-part}
 use Rattle.job_text.specs.Grammar.{JobText, idleIn}
 use Rattle.job_text.specs.Valid.{Some, ValidText}
 use Rattle.job_text.specs.Rendering.{idlesText, openingText, partText, bodyText, jobText}
@@ -78,9 +79,9 @@ grouped-back : (n : ℕ) (ps : List Part) → All (ValidPart n) ps → grouped n
 unfolding grouped
 grouped-back n [] v = refl
 grouped-back n (p ∷ ps) v =
-    ap₂ (λ (qs rest : List ℕ). record { life = p .life; left = p .left; prices = qs } ∷ grouped n (map lifeOf ps) (map leftOf ps) rest)
+    ap₂ (λ (qs rest : List ℕ). record { life = p .life; left = p .left; removal = 0; holders = []; prices = qs } ∷ grouped n (map lifeOf ps) (map leftOf ps) rest)
     (take-at (p .prices) (texts pricesOf ps) n (v .0 .priced)) (drop-at (p .prices) (texts pricesOf ps) n (v .0 .priced))
-    ∙ ap (λ (xs : List Part). p ∷ xs) (grouped-back n ps (v .1))
+    ∙ ap₂ (λ (q : Part) (xs : List Part). q ∷ xs) (plain-part p (v .0 .removal) (v .0 .holders)) (grouped-back n ps (v .1))
 
 prices-size : (n : ℕ) (ps : List Part) → All (ValidPart n) ps → length (texts pricesOf ps) ≡ length ps * n
 prices-size n [] v = sym (zero-mul n)

@@ -16,6 +16,7 @@ use Rattle.lines.specs.Parser.{Parsed, return, row, rowAt, checked, times, risi
 use Rattle.lines.proofs.Sound.{Chained}
 use Rattle.lines.proofs.Readback.{Readback, back, broken, same-back, bind-back, return-back, row-back, checked-back, chain-back}
 use Rattle.model.specs.Model.{Opening, Part}
+use Rattle.jobs.proofs.Plain.{plain-part}
 use Rattle.job_text.specs.Grammar.{JobText, idle, idleSteps, idles, opening, openings, part, body, rest, jobLines}
 use Rattle.job_text.specs.Rendering.{openingText, partText}
 use Rattle.job_text.specs.Views.{idleLines}
@@ -50,9 +51,9 @@ pub record Held (f : Form) : Type 0 where
   pub lefts : Small (f .lefts)
   pub prices : Small (f .prices)
 
-small-chained : (next : ℕ → ℕ) (prev : ℕ) (xs : List ℕ) → Small xs → Chained (λ _. Short) next prev xs
+small-chained : (next : ℕ → ℕ → ℕ) (prev : ℕ) (xs : List ℕ) → Small xs → Chained (λ _. Short) next prev xs
 small-chained next prev [] h = tt
-small-chained next prev (x ∷ xs) h = (omega (arith, h 0), small-chained next (next x) xs (λ i. h (suc i)))
+small-chained next prev (x ∷ xs) h = (omega (arith, h 0), small-chained next (next prev x) xs (λ i. h (suc i)))
 
 -- ---- one line
 
@@ -92,7 +93,7 @@ idles-back h l is t small other = go (decLt 0 (length is))
         (bind-back (row "idles=" 1 365) (λ v. return (present v)) (count-back (bytes "idles=") 1 365 (omega arith) true (length is) (texts (lineOf "idle=") is ++ t) l)
         (λ few k. return-back (present (length is)) (texts (lineOf "idle=") is ++ t) k (few .0)))
         (λ few k. bind-back (idleSteps h (length is)) (λ x. return (present x))
-        (chain-back FormFault (idle h) (λ (i : ℕ). i) (lineOf "idle=") Short (λ before v v-few s j. step-back (bytes "idle=") h before v v-few s j) 0 is (small-chained (λ (i : ℕ). i) 0 is small) t k)
+        (chain-back FormFault (idle h) (λ (before i : ℕ). i) (lineOf "idle=") Short (λ before v v-few s j. step-back (bytes "idle=") h before v v-few s j) 0 is (small-chained (λ (before i : ℕ). i) 0 is small) t k)
         (λ _ j. subst (λ (o : Optional (List ℕ)). Readback FormFault (length is ≤ 365) o t (return (present is) t j)) (some-idles is m) (return-back (present is) t j few))))
 
 -- ---- openings
@@ -107,8 +108,8 @@ opening-back h before o few s l =
     (bind-back _ _ (step-back (bytes "opening=") h before (o .step) (few .0) (lineOf "fee=" (o .fee) ++ s) l)
     (λ _ k. bind-back (row "fee=" 0 1000000) _ (value-back (bytes "fee=") 0 1000000 (o .fee) (few .1) s k) (λ _ j. return-back o s j tt)))
 
-abbrev stepOf : Opening → ℕ
-stepOf o = o .step
+abbrev stepOf : ℕ → Opening → ℕ
+stepOf before o = o .step
 
 paired-short : (prev : ℕ) (os fs : List ℕ) → Small os → Small fs → Chained (λ _. ShortOpening) stepOf prev (paired os fs)
 unfolding paired
@@ -122,6 +123,8 @@ paired-short prev (o ∷ os) (f ∷ fs) a b = ((omega (arith, a 0), omega (arith
 pub record ShortPart (n : ℕ) (p : Part) : Type 0 where
   pub life : Short (p .life)
   pub left : Short (p .left)
+  pub removal : p .removal ≡ 0
+  pub holders : p .holders ≡ []
   pub priced : length (p .prices) ≡ n
   pub prices : Small (p .prices)
 
@@ -137,8 +140,8 @@ part-back n p few s l =
     (checked-back FormFault 5 (omega arith, omega arith) (upTo (p .life)) (row "left=" 1 1000) (p .left) (b ++ (c ++ s)) (c ++ s) k (value-back (bytes "left=") 1 1000 (p .left) (few .left) (c ++ s) k))
     (λ _ j. bind-back (times n (row "price=" 1 1000000)) _
     (subst (λ (m : ℕ). Readback FormFault (Unit {0}) (p .prices) s (times m (row "price=" 1 1000000) (c ++ s) j)) (few .priced)
-    (chain-back FormFault (λ _. row "price=" 1 1000000) (λ _. 0) (lineOf "price=") Short (λ _ v v-few t i. value-back (bytes "price=") 1 1000000 v v-few t i) 0 (p .prices) (small-chained (λ _. 0) 0 (p .prices) (few .prices)) s j))
-    (λ _ i. return-back p s i tt))))
+    (chain-back FormFault (λ _. row "price=" 1 1000000) (λ _ _. 0) (lineOf "price=") Short (λ _ v v-few t i. value-back (bytes "price=") 1 1000000 v v-few t i) 0 (p .prices) (small-chained (λ _ _. 0) 0 (p .prices) (few .prices)) s j))
+    (λ _ i. subst (λ (q : Part). Readback FormFault (Unit {0}) p s (return q s i)) (sym (plain-part p (few .removal) (few .holders))) (return-back p s i tt)))))
 
 small-take : (n : ℕ) (ps : List ℕ) → Small ps → Small (take n ps)
 small-take zero ps h i = omega arith
@@ -149,13 +152,13 @@ small-take (suc n) (p ∷ ps) h (suc i) = small-take n ps (λ j. h (suc j)) i
 small-drop : (n : ℕ) (ps : List ℕ) → Small ps → Small (drop n ps)
 small-drop n ps h i = rw (getD-drop n ps i 0) (h (n + i))
 
-grouped-short : (n : ℕ) (ls rs ps : List ℕ) → Small ls → Small rs → Small ps → length ps ≡ length ls * n → Chained (λ _. ShortPart n) (λ _. 0) 0 (grouped n ls rs ps)
+grouped-short : (n : ℕ) (ls rs ps : List ℕ) → Small ls → Small rs → Small ps → length ps ≡ length ls * n → Chained (λ _. ShortPart n) (λ _ _. 0) 0 (grouped n ls rs ps)
 unfolding grouped
 grouped-short n [] rs ps a b c e = tt
 grouped-short n (l ∷ ls) [] ps a b c e = tt
 grouped-short n (l ∷ ls) (r ∷ rs) ps a b c e =
     let long : length ps ≡ length ls * n + n = e ∙ suc-mul (length ls) n in (
-      record { life = omega (arith, a 0); left = omega (arith, b 0); priced = length-take-le n ps (omega (arith, long)); prices = small-take n ps c },
+      record { life = omega (arith, a 0); left = omega (arith, b 0); removal = refl; holders = refl; priced = length-take-le n ps (omega (arith, long)); prices = small-take n ps c },
       grouped-short n ls rs (drop n ps) (λ i. a (suc i)) (λ i. b (suc i)) (small-drop n ps c) (length-drop n ps ∙ (let q : length (l ∷ ls) * n ≡ length ls * n + n = suc-mul (length ls) n in omega (arith, long))),
     )
 
@@ -188,7 +191,7 @@ module _ (f : Form) (held : Held f) where
   parts-back agree l =
       subst (λ (k : ℕ). Readback FormFault (Unit {0}) (said .parts) [] (times k (part n) (texts partText (said .parts)) l)) (grouped-size n (f .lives) (f .lefts) (f .prices) (agree .0))
       (subst (λ (t : List ℕ). Readback FormFault (Unit {0}) (said .parts) [] (times (length (said .parts)) (part n) t l)) (append-nil (texts partText (said .parts)))
-      (chain-back FormFault (λ _. part n) (λ _. 0) partText (ShortPart n) (λ _. part-back n) 0 (said .parts) (grouped-short n (f .lives) (f .lefts) (f .prices) (held .lives) (held .lefts) (held .prices) (agree .1)) [] l))
+      (chain-back FormFault (λ _. part n) (λ _ _. 0) partText (ShortPart n) (λ _. part-back n) 0 (said .parts) (grouped-short n (f .lives) (f .lefts) (f .prices) (held .lives) (held .lefts) (held .prices) (agree .1)) [] l))
 
   body-back : length (f .fees) ≡ n → (l : ℕ) → Readback FormFault ((m ≤ 16) × PartsAgree) said [] (body (f .horizon) (said .idles) (f .walk) n (bodyOf os (f .fees) (f .lives) (f .lefts) (f .prices)) l)
   unfolding body openings bodyOf

@@ -37,7 +37,7 @@ paired (o ∷ os) (f ∷ fs) = record { step = o; fee = f } ∷ paired os fs
 unfoldable pub grouped : ℕ → List ℕ → List ℕ → List ℕ → List Part
 grouped n [] rs ps = []
 grouped n (l ∷ ls) [] ps = []
-grouped n (l ∷ ls) (r ∷ rs) ps = record { life = l; left = r; prices = take n ps } ∷ grouped n ls rs (drop n ps)
+grouped n (l ∷ ls) (r ∷ rs) ps = record { life = l; left = r; removal = 0; holders = []; prices = take n ps } ∷ grouped n ls rs (drop n ps)
 
 -- what a form states, "with no `idles` line if there are none"
 abbrev pub stated : Form → JobText

@@ -7,7 +7,7 @@ use crate::check::check_value;
 use jobs::Opening;
 use jobs::Part;
 ghost use mathlib.Core.Path.{_≡_};
-ghost use mathlib.Core.List.{map};
+ghost use mathlib.Core.List.{[], map};
 ghost use Prim.Native.Nat.{ℕ, _+_, _*_, _≤_, _<_};
 ghost use lib.ListN.{length, take};
 ghost use Rattle.lines.specs.Text.{lineOf, texts};
@@ -162,6 +162,8 @@ fn no_part(k: u32, line: u32) -> OnePart
         part: Part {
             life: 0,
             left: 0,
+            removal: 0,
+            holders: [false; 16],
             prices: [0u32; 64],
         },
     }
@@ -170,7 +172,7 @@ fn no_part(k: u32, line: u32) -> OnePart
 // A part: its life, what is left, and its prices, from line `at` on.
 fn take_part(life: u32, left: u32, prices: &[u32], at: u32) -> OnePart
     requires { ⌜ (length (now prices) ≤ mostOpenings) × (at < 9000) ⌝ }
-    ensures { λ r. ⌜ ReadsAs (part (length (now (prices .entry)))) (partText (record { life = life; left = left; prices = now (prices .entry) })) at
+    ensures { λ r. ⌜ ReadsAs (part (length (now (prices .entry)))) (partText (record { life = life; left = left; removal = 0; holders = []; prices = now (prices .entry) })) at
         (r .check) (partOf (length (now (prices .entry))) (r .part)) (at + 2 + length (now (prices .entry))) ⌝ }
 {
     match check_value(life, Part::MIN_LIFE, Part::MAX_LIFE, at) {
@@ -184,6 +186,8 @@ fn take_part(life: u32, left: u32, prices: &[u32], at: u32) -> OnePart
                     part: Part {
                         life,
                         left,
+                        removal: 0,
+                        holders: [false; 16],
                         prices: taken,
                     },
                 }
@@ -203,6 +207,8 @@ pub fn take_parts(lives: &[u32], lefts: &[u32], prices: &[u32], n: usize, at: u3
     let blank = Part {
         life: 0,
         left: 0,
+        removal: 0,
+        holders: [false; 16],
         prices: [0u32; 64],
     };
     let mut taken = [blank; 16];

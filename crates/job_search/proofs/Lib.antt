@@ -1,4 +1,3 @@
--- The numbers of the parts' records, laid out (Records), the arrays as what the search asks for (Held), and the answer to an accepted job with its ranges (Limits).
-pub mod Records
-pub mod Held
+-- The arrays of a job without holders and with removals of 0, as what the search asks for (Plain), and the ranges of the answer to an accepted job (Limits).
+pub mod Plain
 pub mod Limits

@@ -1,37 +1,20 @@
--- What the search of an accepted job says, and how large its numbers can be: no more nodes than the limit, and floor and cost at most what a plan can cost.
+-- How large the numbers of an accepted job's answer can be: no more nodes than the limit, and floor and cost at most what a plan can cost.
 -- By the promise of the answer: the cost is that of a plan, and the floor is no more than the cost of any.
 use Prim.Native.Nat.{ℕ, _≤_}
-use mathlib.Core.Path.{_≡_, refl, sym, ap₂, subst, _∙_}
+use mathlib.Core.Path.{_≡_, refl}
 use mathlib.Core.List.{[]}
 use native.Mathlib.Omega.{arith}
 use Rattle.branch.specs.declared.Bound.the-variants.{Sum}
-use Rattle.branch.specs.Search.{NoMore}
-use Rattle.branch.proofs.Bounds.{sum-inj, there-is}
+use Rattle.branch.proofs.Bounds.{sum-inj}
 use Rattle.model.specs.Model as model
 use Rattle.model.specs.Model.{HasPlan}
 use Rattle.model.specs.LowerBound.{boundOf}
 use Rattle.model.specs.Promise.{PlannerAnswer, no-plan, cut-none, cut, optimum, answerOf, nodesOf, Promise}
-use Rattle.model.proofs.Bounded.{bounds}
-use Rattle.model.proofs.Plans.{stops-bound, rooted}
+use Rattle.model.proofs.Roots.{rooted, floor-least}
 use Rattle.model.proofs.Promised.{promise}
-use Rattle.jobs.specs.Views.{jobOf, Sized}
 use Rattle.jobs.specs.Valid.{ValidJob}
-use Rattle.jobs.specs.declared.Job.{Job}
-use Rattle.jobs.proofs.Jobs.{Whole, opening-count, part-count}
 use Rattle.verdict.specs.Ranges.{dearestPlan}
 use Rattle.verdict.proofs.Limits.{cost-most}
-use Rattle.search.specs.declared.Found.{Found}
-use Rattle.search.specs.Found.{Finds, saidIn}
-use Rattle.search.proofs.Answered.{said}
-
--- ---- the answer
-
--- what the search hands back, read with the struct's counts, is the model's answer
-pub job-said : (j : Job) → Sized j → Whole j → (limit : ℕ) (r : Found) → Finds (jobOf j) limit r → saidIn (j .«opening_count») (j .«part_count») r ≡ answerOf (jobOf j) limit
-job-said j sized whole limit r a =
-    ap₂ (λ (n m : ℕ). saidIn n m r) (sym (opening-count j sized whole)) (sym (part-count j sized whole)) ∙ said (jobOf j) limit r a
-
--- ---- its ranges
 
 -- the values that are printed
 abbrev pub Ranged : ℕ → PlannerAnswer → Type 0
@@ -45,9 +28,8 @@ module _ (job : model.Job) (valid : ValidJob job) where
   pub floor-most : (f : ℕ) → boundOf job [] ≡ Sum f → f ≤ dearestPlan
   floor-most f e =
       let h = rooted job f e in
-      let b = stops-bound job (h .0) (h .1) in
-      let l = there-is (boundOf job []) (b .bound) (subst (NoMore (boundOf job [])) (b .is) (bounds job .lower [] (h .0 .stops) (h .1 .size))) in
-      omega (arith, sum-inj (boundOf job []) f (l .0) e (l .1), l .2, b .le, cost-most job valid (h .0))
+      let l = floor-least job (h .0) (h .1) in
+      omega (arith, sum-inj (boundOf job []) f (l .0) e (l .1), l .2, cost-most job valid (h .0))
 
   module _ (limit : ℕ) where
     -- the values of an answer that keeps the promise

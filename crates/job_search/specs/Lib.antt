@@ -1,2 +1,2 @@
--- The numbers of a job's parts as the code lays them out.
-pub mod Laid
+-- Which jobs have holders or removals.
+pub mod Removals

@@ -1,122 +1,35 @@
-// The search of an accepted job: its numbers laid out in arrays, and the counted search over them.
-use clock::positions_of;
+// The search of an accepted job: over its openings alone where no part has a holder and every removal is 0, and else over its openings and removals.
+pub mod kind;
+
+use held_job::search_held_job;
+use job_numbers::numbers_of;
+use job_numbers::prices_of;
 use jobs::Job;
-use jobs::Part;
-use part_records::part_of;
+use kind::any_removals;
 use search::Found;
 use search::search;
-use search::tables::STRIDE;
 ghost use mathlib.Core.Path.{_≡_};
-ghost use mathlib.Core.List.{map};
-ghost use Prim.Native.Nat.{ℕ, _+_, _≤_};
-ghost use lib.ListN.{length, getD, take};
-ghost use Rattle.model.specs.Model.{feeOf};
-ghost use Rattle.jobs.specs.Views.{jobOf, Sized};
+ghost use mathlib.Core.Bool.{false};
+ghost use Rattle.model.specs.Promise.{answerOf};
+ghost use Rattle.jobs.specs.Views.{jobOf};
 ghost use Rattle.jobs.specs.Valid.{Sound};
-ghost use Rattle.least.specs.Filled.{FilledBy};
-ghost use Rattle.search.specs.Found.{Finds};
-ghost use Rattle.job_search.specs.Laid.{lifeOf, leftOf, Laid};
+ghost use Rattle.search.specs.Found.{saidIn};
+ghost use Rattle.job_search.specs.Removals.{anyRemovals};
 
-// The life of each part, and what is left of its first life.
-struct Lives {
-    lives: [u32; 16],
-    lefts: [u32; 16],
-}
-
-// The fees of the openings.
-fn fees_of(job: Job) -> [u32; 64]
-    requires { ⌜ Sized job ⌝ }
-    ensures { λ r. ⌜ take (job .«opening_count») r ≡ map feeOf (jobOf job .openings) ⌝ }
-{
-    let n = job.opening_count;
-    let mut fees = [0u32; 64];
-    let mut i: usize = 0;
-    while i < n {
-        let o = job.openings[i];
-        fees[i] = o.fee;
-        i += 1;
-    }
-    fees
-}
-
-// A part's life.
-fn life_of(part: Part) -> u32
-    ensures { λ r. ⌜ r ≡ part .life ⌝ }
-{
-    part.life
-}
-
-// What is left of a part's first life.
-fn left_of(part: Part) -> u32
-    ensures { λ r. ⌜ r ≡ part .left ⌝ }
-{
-    part.left
-}
-
-// The lives of the parts.
-fn lives_of(job: Job) -> Lives
-    requires { ⌜ Sized job ⌝ }
-    ensures { λ r. ⌜ (take (job .«part_count») (r .lives) ≡ map lifeOf (jobOf job .parts)) × (take (job .«part_count») (r .lefts) ≡ map leftOf (jobOf job .parts)) ⌝ }
-{
-    let parts = job.parts;
-    let count = job.part_count;
-    let mut lives = [0u32; 16];
-    let mut lefts = [0u32; 16];
-    let mut q: usize = 0;
-    while q < count {
-        let part = part_of(parts, count, q);
-        lives[q] = life_of(part);
-        lefts[q] = left_of(part);
-        q += 1;
-    }
-    Lives { lives, lefts }
-}
-
-// One part's prices, from `at` on.
-fn put_prices(prices: &[u32], at: usize, flat: &mut [u32])
-    requires { ⌜ at + length (now prices) ≤ length (now flat) ⌝ }
-    ensures { λ _. ⌜ FilledBy (λ (i : ℕ). at + i) (λ (i : ℕ). getD (now (prices .entry)) i 0) (length (now (prices .entry))) (now (flat .entry)) (now (flat .exit)) ⌝ }
-{
-    let mut i = 0;
-    while i < prices.len() {
-        flat[at + i] = prices[i];
-        i += 1;
-    }
-}
-
-// The prices of the parts, one part after the other.
-fn prices_of(job: Job) -> [u32; 1024]
-    requires { ⌜ Sized job ⌝ }
-    ensures { λ r. ⌜ Laid (jobOf job .parts) r ⌝ }
-{
-    let n = job.opening_count;
-    let parts = job.parts;
-    let count = job.part_count;
-    let mut flat = [0u32; 1024];
-    let mut q: usize = 0;
-    while q < count {
-        let part = part_of(parts, count, q);
-        let prices = part.prices;
-        put_prices(&prices[..n], q * STRIDE, &mut flat);
-        q += 1;
-    }
-    flat
-}
-
-// The search of an accepted job, with a limit on its nodes.
-pub fn search_job(job: Job, limit: u32) -> Found
-    requires { ⌜ Sound job ⌝ }
-    ensures { λ r. ⌜ Finds (jobOf job) limit r ⌝ }
+// The search over the openings alone, of a job without holders and with removals of 0.
+fn search_plain(job: Job, limit: u32) -> Found
+    requires { ⌜ Sound job × (anyRemovals job ≡ false) ⌝ }
+    ensures { λ r. ⌜ saidIn (job .«opening_count») (job .«part_count») r ≡ answerOf (jobOf job) limit ⌝ }
 {
     let n = job.opening_count;
     let count = job.part_count;
-    let placed = positions_of(job);
+    let numbers = numbers_of(job);
+    let placed = numbers.placed;
     let positions = placed.at;
-    let fees = fees_of(job);
-    let wear = lives_of(job);
-    let lives = wear.lives;
-    let lefts = wear.lefts;
-    let prices = prices_of(job);
+    let fees = numbers.fees;
+    let lives = numbers.lives;
+    let lefts = numbers.lefts;
+    let prices = prices_of(job, [0; 16]);
     search(
         placed.end,
         &positions[..n],
@@ -126,4 +39,15 @@ pub fn search_job(job: Job, limit: u32) -> Found
         &prices,
         limit as u64,
     )
+}
+
+// The search of an accepted job, with a limit on its nodes: the model's answer.
+pub fn search_job(job: Job, limit: u32) -> Found
+    requires { ⌜ Sound job ⌝ }
+    ensures { λ r. ⌜ saidIn (job .«opening_count») (job .«part_count») r ≡ answerOf (jobOf job) limit ⌝ }
+{
+    if any_removals(job) {
+        return search_held_job(job, limit);
+    }
+    search_plain(job, limit)
 }

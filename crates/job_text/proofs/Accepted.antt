@@ -10,7 +10,7 @@ use borrow.Author.Tests.{ltb-true, leb-true}
 use Rattle.lines.specs.Text.{bytes, line, lineOf, texts, Optional, missing, present, optionalText}
 use Rattle.lines.specs.Parser.{Parser, good, Outcome, accepted, refused, return, row, rowAt, optional, ifPresent, checked, times, rising, upTo}
 use Rattle.lines.proofs.Outcomes.{one-value, not-both}
-use Rattle.lines.proofs.Sound.{bind-inv, Optionally, optional-inv, row-sound, checked-sound, chain-sound, row-gives, checked-gives, Chained, chain-gives, accepted-is}
+use Rattle.lines.proofs.Sound.{Told, Tells, Rises, rising-tells, bind-inv, Optionally, optional-inv, row-sound, checked-sound, chain-sound, row-gives, checked-gives, Chained, chain-gives, accepted-is}
 use Rattle.model.specs.Model.{Opening}
 use Rattle.model.specs.Windows.{Rising, stepsOf}
 use Rattle.job_text.specs.Grammar.{JobText, Given, idleIn, meant, idle, idleSteps, idles, opening, openings, part, body, rest, jobLines, maxBytes, readJobText, meaning, readJob}
@@ -18,31 +18,11 @@ use Rattle.job_text.specs.Rendering.{idlesText, openingText, partText, b
 use Rattle.jobs.specs.Valid.{All, ValidOpening, ValidPrice, ValidPart, ValidJob}
 use Rattle.job_text.specs.Valid.{Valid, Some, ValidText}
 
--- what a parser gives: a value that is known, and the text is what is written for it
-pub record Told {A : Type 0} (P : A → Type 0) (w : A → List ℕ) (s s′ : List ℕ) (a : A) : Type 0 where
-  pub known : P a
-  pub text : s ≡ w a ++ s′
-
-abbrev pub Tells : {A : Type 0} → Parser A → (A → Type 0) → (A → List ℕ) → Type 0
-Tells {A} p P w = (s s′ : List ℕ) (l l′ : ℕ) (a : A) → p s l ≡ good a s′ l′ → Told P w s s′ a
-
 -- ---- steps that rise
 
 -- a step after step `before` and within the horizon h
-pub record KnownStep (h before v : ℕ) : Type 0 where
-  pub low : 1 ≤ v
-  pub high : v ≤ 365
-  pub after : before < v
-  pub within : v ≤ h
-
-step-tells : (key : List ℕ) (h before : ℕ) → Tells (checked 4 (rising before h) (rowAt key 1 365)) (KnownStep h before) (line key)
-step-tells key h before s s′ l l′ v e =
-    let k = checked-gives 4 (rising before h) (rowAt key 1 365) _ (row-gives key 1 365) s s′ l l′ v e in
-    let r = and-eq-true-iff (ltb before v) (leb v h) .0 (k .1) in
-    record {
-      known = record { low = k .0 .0; high = k .0 .1; after = ltb-true before v (r .0); within = leb-true v h (r .1) };
-      text = checked-sound 4 (rising before h) (rowAt key 1 365) (line key) (row-sound key 1 365) s s′ l l′ v e;
-    }
+abbrev pub KnownStep : ℕ → ℕ → ℕ → Type 0
+KnownStep h before v = Rises 365 h before v
 
 -- ---- idle steps
 
@@ -51,8 +31,8 @@ abbrev KnownIdles : ℕ → Optional (List ℕ) → Type 0
 KnownIdles h is = (length (idleIn is) ≤ 365) × Rising 0 h (idleIn is) × Some is
 
 -- the number that an idle step hands on
-abbrev pub itself : ℕ → ℕ
-itself i = i
+abbrev pub itself : ℕ → ℕ → ℕ
+itself before i = i
 
 steps-rise : (h before : ℕ) (is : List ℕ) → Chained (KnownStep h) itself before is → Rising before h is
 steps-rise h before [] c = tt
@@ -74,7 +54,7 @@ idles-tell h s s′ l l′ is e =
         let x : present (d .a) ≡ is = cc (d .second) in
         let y : d .mid ≡ s′ = cc (d .second) in
         let k = row-gives _ 1 365 s mid l at n some in
-        let c = chain-gives (idle h) itself (KnownStep h) (λ before s s′ l l′ i e. step-tells _ h before s s′ l l′ i e .known) n 0 mid (d .mid) at (d .at) (d .a) (d .first) in
+        let c = chain-gives (idle h) itself (KnownStep h) (λ before s s′ l l′ i e. rising-tells 4 _ 365 h before s s′ l l′ i e .known) n 0 mid (d .mid) at (d .at) (d .a) (d .first) in
         let count : n ≡ length (d .a) = sym (c .0) in
         subst (Told (KnownIdles h) (optionalText idlesText) s s′) x (record {
           known = (subst (λ (m : ℕ). m ≤ 365) count (k .1), steps-rise h 0 (d .a) (c .1), subst (λ (m : ℕ). 1 ≤ m) count (k .0));
@@ -82,7 +62,7 @@ idles-tell h s s′ l l′ is e =
               (row-sound _ 1 365 s mid l at n some
               ∙ ap (λ (m : ℕ). lineOf "idles=" m ++ mid) count
               ∙ ap (λ (r : List ℕ). lineOf "idles=" (length (d .a)) ++ r)
-              (chain-sound (idle h) itself (lineOf "idle=") (λ before s s′ l l′ i e. step-tells _ h before s s′ l l′ i e .text) n 0 mid (d .mid) at (d .at) (d .a) (d .first)
+              (chain-sound (idle h) itself (lineOf "idle=") (λ before s s′ l l′ i e. rising-tells 4 _ 365 h before s s′ l l′ i e .text) n 0 mid (d .mid) at (d .at) (d .a) (d .first)
               ∙ ap (λ (r : List ℕ). texts (lineOf "idle=") (d .a) ++ r) y));
         })
 
@@ -98,7 +78,7 @@ opening-tells h before s s′ l l′ o e =
     let d = bind-inv (row "fee=" 0 1000000) _ (b .mid) s′ (b .at) l′ o (b .second) in
     let x : record { step = b .a; fee = d .a } ≡ o = cc (d .second) in
     let y : d .mid ≡ s′ = cc (d .second) in
-    let k = step-tells _ h before s (b .mid) l (b .at) (b .a) (b .first) in
+    let k = rising-tells 4 _ 365 h before s (b .mid) l (b .at) (b .a) (b .first) in
     let f = row-gives _ 0 1000000 (b .mid) (d .mid) (b .at) (d .at) (d .a) (d .first) in
     subst (Told (KnownOpening h before) openingText s s′) x (record {
       known = (k .known, f .1);
@@ -107,8 +87,8 @@ opening-tells h before s s′ l l′ o e =
           ∙ ap (λ (r : List ℕ). lineOf "opening=" (b .a) ++ r) (row-sound _ 0 1000000 (b .mid) (d .mid) (b .at) (d .at) (d .a) (d .first) ∙ ap (λ (r : List ℕ). lineOf "fee=" (d .a) ++ r) y));
     })
 
-abbrev pub stepOf : Opening → ℕ
-stepOf o = o .step
+abbrev pub stepOf : ℕ → Opening → ℕ
+stepOf before o = o .step
 
 chained-rising : (h before : ℕ) (os : List Opening) → Chained (KnownOpening h) stepOf before os → All ValidOpening os × Rising before h (stepsOf os)
 chained-rising h before [] c = (tt, tt)
@@ -120,7 +100,7 @@ chained-rising h before (o ∷ os) c =
 -- ---- parts
 
 -- a chain that hands nothing on
-each : {A : Type 0} (P : A → Type 0) (before : ℕ) (xs : List A) → Chained (λ (k : ℕ). P) (λ (x : A). 0) before xs → All P xs
+each : {A : Type 0} (P : A → Type 0) (before : ℕ) (xs : List A) → Chained (λ (k : ℕ). P) (λ (k : ℕ) (x : A). 0) before xs → All P xs
 each P before [] c = tt
 each P before (x ∷ xs) c = (c .0, each P 0 xs (c .1))
 
@@ -133,17 +113,19 @@ part-tells n s s′ l l′ p e =
     let b = bind-inv p₁ _ s s′ l l′ p e in
     let d = bind-inv (checked 5 (upTo (b .a)) p₂) _ (b .mid) s′ (b .at) l′ p (b .second) in
     let f = bind-inv (times n price) _ (d .mid) s′ (d .at) l′ p (d .second) in
-    let x : record { life = b .a; left = d .a; prices = f .a } ≡ p = cc (f .second) in
+    let x : record { life = b .a; left = d .a; removal = 0; holders = []; prices = f .a } ≡ p = cc (f .second) in
     let y : f .mid ≡ s′ = cc (f .second) in
     let k₁ = row-gives _ 1 1000 s (b .mid) l (b .at) (b .a) (b .first) in
     let k₂ = checked-gives 5 (upTo (b .a)) p₂ _ (row-gives _ 1 1000) (b .mid) (d .mid) (b .at) (d .at) (d .a) (d .first) in
-    let k₃ = chain-gives (λ _. price) (λ _. 0) (λ _. ValidPrice) (λ _. row-gives _ 1 1000000) n 0 (d .mid) (f .mid) (d .at) (f .at) (f .a) (f .first) in
+    let k₃ = chain-gives (λ _. price) (λ _ _. 0) (λ _. ValidPrice) (λ _. row-gives _ 1 1000000) n 0 (d .mid) (f .mid) (d .at) (f .at) (f .a) (f .first) in
     subst (Told (ValidPart n) partText s s′) x (record {
       known = record {
         life-low = k₁ .0;
         life-high = k₁ .1;
         left-low = k₂ .0 .0;
         left-high = leb-true (d .a) (b .a) (k₂ .1);
+        removal = refl;
+        holders = refl;
         priced = k₃ .0;
         prices = each ValidPrice 0 (f .a) (k₃ .1);
       };
@@ -152,7 +134,7 @@ part-tells n s s′ l l′ p e =
           ∙ ap (λ (r : List ℕ). lineOf "life=" (b .a) ++ r)
           (checked-sound 5 (upTo (b .a)) p₂ (lineOf "left=") (row-sound _ 1 1000) (b .mid) (d .mid) (b .at) (d .at) (d .a) (d .first)
           ∙ ap (λ (r : List ℕ). lineOf "left=" (d .a) ++ r)
-          (chain-sound (λ _. price) (λ _. 0) (lineOf "price=") (λ _. row-sound _ 1 1000000) n 0 (d .mid) (f .mid) (d .at) (f .at) (f .a) (f .first)
+          (chain-sound (λ _. price) (λ _ _. 0) (lineOf "price=") (λ _. row-sound _ 1 1000000) n 0 (d .mid) (f .mid) (d .at) (f .at) (f .a) (f .first)
           ∙ ap (λ (r : List ℕ). texts (lineOf "price=") (f .a) ++ r) y)));
     })
 
@@ -173,7 +155,7 @@ body-tells h is w n s s′ l l′ g e =
     let k₁ = chain-gives (opening h) stepOf (KnownOpening h) (λ before s s′ l l′ o e. opening-tells h before s s′ l l′ o e .known) n 0 s (b .mid) l (b .at) (b .a) (b .first) in
     let os = chained-rising h 0 (b .a) (k₁ .1) in
     let k₂ = row-gives _ 1 16 (b .mid) (d .mid) (b .at) (d .at) (d .a) (d .first) in
-    let k₃ = chain-gives (λ _. part n) (λ _. 0) (λ _. ValidPart n) (λ _ s s′ l l′ p e. part-tells n s s′ l l′ p e .known) (d .a) 0 (d .mid) (f .mid) (d .at) (f .at) (f .a) (f .first) in
+    let k₃ = chain-gives (λ _. part n) (λ _ _. 0) (λ _. ValidPart n) (λ _ s s′ l l′ p e. part-tells n s s′ l l′ p e .known) (d .a) 0 (d .mid) (f .mid) (d .at) (f .at) (f .a) (f .first) in
     let count : d .a ≡ length (f .a) = sym (k₃ .0) in
     let ps : All (ValidPart (length (b .a))) (f .a) = subst (λ (m : ℕ). All (ValidPart m) (f .a)) (sym (k₁ .0)) (each (ValidPart n) 0 (f .a) (k₃ .1)) in
     subst (Told (KnownJob h is w n) bodyText s s′) x (record {
@@ -201,7 +183,7 @@ body-tells h is w n s s′ l l′ g e =
           (row-sound _ 1 16 (b .mid) (d .mid) (b .at) (d .at) (d .a) (d .first)
           ∙ ap (λ (m : ℕ). lineOf "parts=" m ++ d .mid) count
           ∙ ap (λ (r : List ℕ). lineOf "parts=" (length (f .a)) ++ r)
-          (chain-sound (λ _. part n) (λ _. 0) partText (λ _ s s′ l l′ p e. part-tells n s s′ l l′ p e .text) (d .a) 0 (d .mid) (f .mid) (d .at) (f .at) (f .a) (f .first)
+          (chain-sound (λ _. part n) (λ _ _. 0) partText (λ _ s s′ l l′ p e. part-tells n s s′ l l′ p e .text) (d .a) 0 (d .mid) (f .mid) (d .at) (f .at) (f .a) (f .first)
           ∙ ap (λ (r : List ℕ). texts partText (f .a) ++ r) y)));
     })
 

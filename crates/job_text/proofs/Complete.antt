@@ -12,21 +12,16 @@ use Rattle.lines.specs.Text.{bytes, line, lineOf, texts, Optional, missing, pre
 use Rattle.lines.specs.Parser.{good, accepted, return, row, rowAt, optional, ifPresent, checked, times, rising, upTo}
 use Rattle.lines.proofs.Parsing.{bind-good, rising-yes, upTo-yes, optional-missing}
 use Rattle.lines.proofs.Sound.{Chained}
-use Rattle.lines.proofs.Complete.{Complete, row-complete, optional-present, checked-complete, chain-complete, text-complete}
-use Rattle.model.specs.Model.{Opening}
+use Rattle.lines.proofs.Complete.{Complete, row-complete, rising-complete, optional-present, checked-complete, chain-complete, text-complete}
+use Rattle.model.specs.Model.{Opening, Part}
 use Rattle.model.specs.Windows.{Rising, stepsOf}
 use Rattle.jobs.specs.Valid.{All, ValidOpening, ValidPrice, ValidPart}
+use Rattle.jobs.proofs.Plain.{plain-part}
 use Rattle.job_text.specs.Grammar.{JobText, idleIn, idle, idleSteps, idles, opening, openings, part, body, rest, jobLines, maxBytes, readJobText}
 use Rattle.job_text.specs.Rendering.{idlesText, openingText, partText, bodyText, jobText}
 use Rattle.job_text.specs.Valid.{Some, ValidText}
 use Rattle.job_text.proofs.Accepted.{KnownStep, itself, KnownOpening, stepOf, valid-text, text-is}
 use Rattle.job_text.proofs.Lengths.{text-fits}
-
--- ---- steps that rise
-
-step-complete : (key : List ℕ) (h before : ℕ) → Complete (checked 4 (rising before h) (rowAt key 1 365)) (line key) (KnownStep h before)
-step-complete key h before v k s l =
-    checked-complete 4 (rising before h) (rowAt key 1 365) (line key) _ (row-complete key 1 365 (omega arith)) v ((k .low, k .high), rising-yes before h v (k .after) (k .within)) s l
 
 -- ---- idle steps
 
@@ -41,7 +36,7 @@ idles-complete h missing high few r some s l e = (l, bind-good (optional "idles=
 idles-complete h (present is) high few r some s l e =
     let ts = texts (lineOf "idle=") is in
     let a = optional-present (bytes "idles=") 1 365 (omega arith) (length is) (some, few) (ts ++ s) l in
-    let b = chain-complete (idle h) itself (lineOf "idle=") (KnownStep h) (step-complete _ h) 0 is (rise-chained h 0 is high r) s (a .0) in (
+    let b = chain-complete (idle h) itself (lineOf "idle=") (KnownStep h) (rising-complete 4 _ 365 h (omega arith)) 0 is (rise-chained h 0 is high r) s (a .0) in (
       b .0,
       ap (λ (x : List ℕ). idles h x l) (append-assoc (lineOf "idles=" (length is)) ts s)
           ∙ bind-good (optional "idles=" 1 365) _ (a .1) ∙ bind-good (idleSteps h (length is)) _ (b .1),
@@ -53,7 +48,7 @@ opening-complete : (h before : ℕ) → Complete (opening h before) openingText 
 unfolding opening return openingText
 opening-complete h before o k s l =
     let f = lineOf "fee=" (o .fee) in
-    let a = step-complete (bytes "opening=") h before (o .step) (k .0) (f ++ s) l in
+    let a = rising-complete 4 (bytes "opening=") 365 h (omega arith) before (o .step) (k .0) (f ++ s) l in
     let b = row-complete (bytes "fee=") 0 1000000 (omega arith) (o .fee) (omega arith, k .1) s (a .0) in (
       b .0,
       ap (λ (x : List ℕ). opening h before x l) (append-assoc (lineOf "opening=" (o .step)) f s)
@@ -68,7 +63,7 @@ openings-chained h before (o ∷ os) v r =
 -- ---- parts
 
 -- a chain that hands nothing on
-each-chained : {A : Type 0} (P : A → Type 0) (before : ℕ) (xs : List A) → All P xs → Chained (λ (k : ℕ). P) (λ (x : A). 0) before xs
+each-chained : {A : Type 0} (P : A → Type 0) (before : ℕ) (xs : List A) → All P xs → Chained (λ (k : ℕ). P) (λ (k : ℕ) (x : A). 0) before xs
 each-chained P before [] v = tt
 each-chained P before (x ∷ xs) v = (v .0, each-chained P 0 xs (v .1))
 
@@ -81,11 +76,12 @@ part-complete n p v s l =
     let a = row-complete (bytes "life=") 1 1000 (omega arith) (p .life) (v .life-low, v .life-high) (left ++ (ts ++ s)) l in
     let b = checked-complete 5 (upTo (p .life)) (row "left=" 1 1000) (lineOf "left=") _ (row-complete _ 1 1000 (omega arith)) (p .left)
     ((v .left-low, omega (arith, v .left-high, v .life-high)), upTo-yes (p .life) (p .left) (v .left-high)) (ts ++ s) (a .0) in
-    let c = chain-complete (λ _. price) (λ _. 0) (lineOf "price=") (λ _. ValidPrice) (λ _. row-complete _ 1 1000000 (omega arith)) 0 (p .prices) (each-chained ValidPrice 0 (p .prices) (v .prices)) s (b .0) in (
+    let c = chain-complete (λ _. price) (λ _ _. 0) (lineOf "price=") (λ _. ValidPrice) (λ _. row-complete _ 1 1000000 (omega arith)) 0 (p .prices) (each-chained ValidPrice 0 (p .prices) (v .prices)) s (b .0) in (
       c .0,
       ap (λ (x : List ℕ). part n x l) (append-assoc (lineOf "life=" (p .life) ++ left) ts s ∙ append-assoc (lineOf "life=" (p .life)) left (ts ++ s))
           ∙ bind-good (row "life=" 1 1000) _ (a .1) ∙ bind-good (checked 5 (upTo (p .life)) (row "left=" 1 1000)) _ (b .1)
-          ∙ bind-good (times n price) _ (ap (λ (m : ℕ). times m price (ts ++ s) (b .0)) (sym (v .priced)) ∙ c .1),
+          ∙ bind-good (times n price) _ (ap (λ (m : ℕ). times m price (ts ++ s) (b .0)) (sym (v .priced)) ∙ c .1)
+          ∙ ap (λ (q : Part). good q s (c .0)) (plain-part p (v .removal) (v .holders)),
     )
 
 -- ---- the whole
@@ -101,7 +97,7 @@ body-complete t v s l =
     let ps = texts partText (t .parts) in
     let a = chain-complete (opening h) stepOf openingText (KnownOpening h) (opening-complete h) 0 (t .openings) (openings-chained h 0 (t .openings) (j .openings) (j .rising)) (m ++ (ps ++ s)) l in
     let b = row-complete (bytes "parts=") 1 16 (omega arith) (length (t .parts)) (j .some-part, j .few-parts) (ps ++ s) (a .0) in
-    let c = chain-complete (λ _. part n) (λ _. 0) partText (λ _. ValidPart n) (λ _. part-complete n) 0 (t .parts) (each-chained (ValidPart n) 0 (t .parts) (j .parts)) s (b .0) in (
+    let c = chain-complete (λ _. part n) (λ _ _. 0) partText (λ _. ValidPart n) (λ _. part-complete n) 0 (t .parts) (each-chained (ValidPart n) 0 (t .parts) (j .parts)) s (b .0) in (
       c .0,
       ap (λ (x : List ℕ). body h (t .idles) (t .walk) n x l) (append-assoc (os ++ m) ps s ∙ append-assoc os m (ps ++ s))
           ∙ bind-good (openings h n) _ (a .1) ∙ bind-good (row "parts=" 1 16) _ (b .1) ∙ bind-good (times (length (t .parts)) (part n)) _ (c .1),

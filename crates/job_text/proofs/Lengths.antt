@@ -1,11 +1,13 @@
 -- A job text has at most 19,428 bytes, so it fits (`text-short`): 365 idle steps, 64 openings and sixteen parts, each number with its most digits. By the lengths of the lines; idle steps rise, so they are among 1 to 365.
-use Prim.Native.Nat.{ℕ, _+_, _-_, _*_, _≤_}
-use mathlib.Core.Path.{_≡_, refl}
+use Prim.Native.Nat.{ℕ, _+_, _-_, _*_, _≤_, _<_}
+use mathlib.Core.Path.{_≡_, refl, ap}
 use mathlib.Core.List.{List, [], _∷_, _++_}
 use native.Mathlib.Omega.{arith}
 use lib.ListN.{length, length-append}
 use Rattle.lines.specs.Text.{bytes, decimalIn, line, lineOf, texts, Optional, missing, present, optionalText, joined}
-use Rattle.lines.proofs.Writing.{line-short, joined-room, joined-grows}
+use Rattle.lines.proofs.Sound.{Chained}
+use Rattle.lines.proofs.Writing.{line-short, joined-grows}
+use Rattle.lines.proofs.Texts.{rising-room}
 use Rattle.model.specs.Model.{Opening, Part}
 use Rattle.model.specs.Windows.{Rising}
 use Rattle.jobs.specs.Valid.{All, ValidOpening, ValidPrice, ValidPart}
@@ -42,21 +44,20 @@ unfolding idleLine joined line bytes decimalIn
 all-idles = refl
 
 -- those that rise are some of them
-rising-short : (h before : ℕ) (is : List ℕ) → before ≤ h → Rising before h is → length (texts (lineOf "idle=") is) + length (joined idleLine before) ≤ length (joined idleLine h)
+rising-chained : (h before : ℕ) (is : List ℕ) → Rising before h is → Chained (λ b i. (b < i) × (i ≤ h) × (length (lineOf "idle=" i) ≤ length (idleLine (i - 1)))) (λ _ i. i) before is
 unfolding idleLine
-rising-short h before [] low r = omega (arith, joined-grows idleLine before h low)
-rising-short h before (i ∷ is) low r =
-    let e : i - 1 + 1 ≡ i = omega (arith, r .0) in
-    let here : length (joined idleLine (i - 1)) + length (lineOf "idle=" i) ≤ length (joined idleLine i) = rw e at (joined-room idleLine (i - 1) i (omega (arith, r .0))) in
-    rw (length-append (lineOf "idle=" i))
-    (omega (arith, here, joined-grows idleLine before (i - 1) (omega (arith, r .0)), rising-short h i is (r .1) (r .2)))
+rising-chained h before [] r = tt
+rising-chained h before (i ∷ is) r =
+    let e : i ≡ i - 1 + 1 = omega (arith, r .0) in
+    let same = ap (λ (k : ℕ). length (lineOf "idle=" k)) e in
+    ((r .0, r .1, omega (arith, same)), rising-chained h i is (r .2))
 
 idles-short : (h : ℕ) (o : Optional (List ℕ)) → h ≤ 365 → length (idleIn o) ≤ 365 → Rising 0 h (idleIn o) → length (optionalText idlesText o) ≤ 3187
 unfolding idlesText
 idles-short h missing high few r = omega arith
 idles-short h (present is) high few r =
     rw (length-append (lineOf "idles=" (length is)))
-    (omega (arith, key-length, line-short (bytes "idles=") 2 (length is) (omega arith), rising-short h 0 is (omega arith) r, joined-grows idleLine h 365 high, all-idles))
+    (omega (arith, key-length, line-short (bytes "idles=") 2 (length is) (omega arith), rising-room (lineOf "idle=") idleLine h 0 is (omega arith) (rising-chained h 0 is r), joined-grows idleLine h 365 high, all-idles))
 
 -- ---- openings and parts
 

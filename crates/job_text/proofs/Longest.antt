@@ -24,7 +24,7 @@ openingsAfter before zero = []
 openingsAfter before (suc n) = record { step = suc before; fee = 1000000 } ∷ openingsAfter (suc before) n
 
 longestPart : Part
-longestPart = record { life = 1000; left = 1000; prices = replicate 64 1000000 }
+longestPart = record { life = 1000; left = 1000; removal = 0; holders = []; prices = replicate 64 1000000 }
 
 -- every step idle, the last 64 steps openings, sixteen parts
 pub longestText : JobText
@@ -75,6 +75,8 @@ longest-valid = record {
         life-high = omega arith;
         left-low = omega arith;
         left-high = omega arith;
+        removal = refl;
+        holders = refl;
         priced = refl;
         prices = all-alike ValidPrice 64 1000000 (omega arith, omega arith);
       });

@@ -35,7 +35,7 @@ some-idles (i ∷ is) h = refl
 pub idles-read : (h n : ℕ) {s : List ℕ} (t : List ℕ) (l : ℕ) (e : End) (is : List ℕ) → 1 ≤ n → Reads s (ended e is) (idleSteps h n t l) → Reads s (ended e (idleLines is)) (ifPresent (idleSteps h) (present n) t l)
 unfolding ifPresent ended idleSteps
 idles-read h n {s} t l (end.At q) is some r =
-    let size = chain-gives (idle h) (λ (i : ℕ). i) (λ _ _. Unit {0}) (λ _ _ _ _ _ _ _. tt) n 0 t _ l _ is (end-value is r refl) .0 in
+    let size = chain-gives (idle h) (λ (before i : ℕ). i) (λ _ _. Unit {0}) (λ _ _ _ _ _ _ _. tt) n 0 t _ l _ is (end-value is r refl) .0 in
     subst (λ (x : Optional (List ℕ)). Reads s (ended (end.At q) x) (ifPresent (idleSteps h) (present n) t l)) (some-idles is (omega (arith, size))) (map-read present (idleSteps h n) (end.At q) is r)
 idles-read h n t l (end.Fault k j) is some r = map-read present (idleSteps h n) (end.Fault k j) is r
 

@@ -34,7 +34,7 @@ unfoldable pub idle : ℕ → ℕ → Parser ℕ
 idle h before = checked 4 (rising before h) (row "idle=" 1 lastStep)
 
 unfoldable pub idleSteps : ℕ → ℕ → Parser (List ℕ)
-idleSteps h n = chain (idle h) (λ i. i) n 0
+idleSteps h n = chain (idle h) (λ _ i. i) n 0
 
 -- the number of idle steps and the steps, which may be missing
 unfoldable pub idles : ℕ → Parser (Optional (List ℕ))
@@ -50,7 +50,7 @@ opening h before = do
   return (record { step = o; fee = f })
 
 unfoldable pub openings : ℕ → ℕ → Parser (List Opening)
-openings h n = chain (opening h) (λ o. o .step) n 0
+openings h n = chain (opening h) (λ _ o. o .step) n 0
 
 -- a part, with a price for each of n openings; R5: number 5 is "`left` greater than `life`, on the `left` line"
 unfoldable pub part : ℕ → Parser Part
@@ -58,7 +58,7 @@ part n = do
   l ← row "life=" 1 longestLife
   r ← checked 5 (upTo l) (row "left=" 1 longestLife)
   ps ← times n (row "price=" 1 dearest)
-  return (record { life = l; left = r; prices = ps })
+  return (record { life = l; left = r; removal = 0; holders = []; prices = ps })
 
 -- what follows the number n of openings
 unfoldable pub body : ℕ → Optional (List ℕ) → ℕ → ℕ → Parser JobText

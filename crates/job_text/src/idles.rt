@@ -1,9 +1,10 @@
 // The idle steps of a job text.
-use crate::steps::read_rising;
 use jobs::Job;
+use jobs::Opening;
 use lines::read::Field;
 use lines::read::OptionalField;
 use lines::read::read_optional;
+use lines::read::read_rising;
 use lines::rows::Cursor;
 use lines::rows::End;
 use lines::rows::Row;
@@ -27,7 +28,7 @@ pub struct Idles {
 fn read_idle(s: &[u8], horizon: u32, before: u32) -> Field
     ensures { λ r. ⌜ LineRead (idle horizon before) (now (s .entry)) r ⌝ }
 {
-    read_rising(s, b"idle=", horizon, before)
+    read_rising(s, b"idle=", Opening::MAX_STEP, before, horizon, 4)
 }
 
 // The idle steps, n of them.

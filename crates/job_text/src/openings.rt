@@ -1,7 +1,7 @@
 // The openings of a job text.
-use crate::steps::read_rising;
 use jobs::Opening;
 use lines::read::read_field;
+use lines::read::read_rising;
 use lines::rows::Cursor;
 use lines::rows::End;
 use lines::rows::Row;
@@ -33,7 +33,14 @@ fn read_opening(text: &[u8], p: Cursor, horizon: u32, before: u32) -> OpeningRow
     ensures { λ r. ⌜ Reads (now (text .entry)) (openingAnswer r) (opening horizon before (drop (p .at) (now (text .entry))) (p .line)) ⌝ }
 {
     let at = p.at;
-    let field = read_rising(&text[at..], b"opening=", horizon, before);
+    let field = read_rising(
+        &text[at..],
+        b"opening=",
+        Opening::MAX_STEP,
+        before,
+        horizon,
+        4,
+    );
     match advance(text, p, field) {
         Row::Value(step, q) => {
             let at = q.at;

@@ -102,6 +102,8 @@ fn no_part(k: u32, line: usize) -> PartRead
         part: Part {
             life: 0,
             left: 0,
+            removal: 0,
+            holders: [false; 16],
             prices: [0u32; 64],
         },
     }
@@ -125,7 +127,13 @@ fn read_part(text: &[u8], p: Cursor, n: usize) -> PartRead
                     let prices = read.prices;
                     PartRead {
                         end,
-                        part: Part { life, left, prices },
+                        part: Part {
+                            life,
+                            left,
+                            removal: 0,
+                            holders: [false; 16],
+                            prices,
+                        },
                     }
                 }
                 Row::Fault { number: k, line: l } => no_part(k, l),
@@ -143,6 +151,8 @@ pub fn read_parts(text: &[u8], p: Cursor, m: usize, n: usize) -> Parts
     let blank = Part {
         life: 0,
         left: 0,
+        removal: 0,
+        holders: [false; 16],
         prices: [0u32; 64],
     };
     let mut parts = [blank; 16];

@@ -5,6 +5,8 @@ use mathlib.Core.List.{List, [], _∷_, map}
 use native.Mathlib.Omega.{arith}
 use lib.ListN.{length, getD, take, length-map, List·getD-map}
 use lib.Seq.{getD-take, length-take-le, take-nil}
+use Rattle.lines.specs.Text.{joined}
+use Rattle.lines.specs.Chosen.{chosen}
 use mir.Val.{Val}
 use denote.Laws.{Is}
 use denote.Struct.Declared.{row}
@@ -39,8 +41,9 @@ abbrev pub viewed : ℕ → ℕ → List Part → List model.Part
 viewed n m parts = map (partOf n) (take m parts)
 
 pub part-viewed : (n m : ℕ) (parts : List Part) (k : ℕ) → k < m → getD (viewed n m parts) k noPart ≡ partOf n (getD parts k blankPart)
+unfolding chosen joined
 part-viewed n m parts k h =
-    ap (λ (prices : List ℕ). getD (viewed n m parts) k (record { life = 0; left = 0; prices = prices })) (sym (take-nil n))
+    ap (λ (prices : List ℕ). getD (viewed n m parts) k (record { life = 0; left = 0; removal = 0; holders = []; prices = prices })) (sym (take-nil n))
     ∙ List·getD-map (partOf n) (take m parts) k blankPart
     ∙ ap (partOf n) (getD-take m parts k blankPart h)
 

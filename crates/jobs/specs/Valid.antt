@@ -28,6 +28,9 @@ pub record ValidPart (n : ℕ) (p : Part) : Type 0 where
   pub life-high : p .life ≤ longestLife
   pub left-low : 1 ≤ p .left
   pub left-high : p .left ≤ p .life
+  -- E7.2. "a part without them has removal 0 and no holders": no text gives any yet
+  pub removal : p .removal ≡ 0
+  pub holders : p .holders ≡ []
   pub priced : length (p .prices) ≡ n
   pub prices : All ValidPrice (p .prices)
 

@@ -3,6 +3,7 @@ use Prim.Native.Nat.{ℕ, _≤_}
 use mathlib.Core.Bool.{Bool, false}
 use mathlib.Core.List.{List, [], map}
 use lib.ListN.{getD, take, replicate}
+use Rattle.lines.specs.Chosen.{numbersOf}
 use Rattle.model.specs.Model as model
 use Rattle.model.specs.Limits.{lastStep, mostOpenings, mostParts}
 use Rattle.jobs.specs.declared.Opening.{Opening}
@@ -15,14 +16,14 @@ use Rattle.jobs.specs.declared.Plan.{Plan}
 
 -- what stands past the end of an array of parts
 abbrev pub blankPart : Part
-blankPart = record { life = 0; left = 0; prices = [] }
+blankPart = record { life = 0; left = 0; removal = 0; holders = []; prices = [] }
 
 abbrev pub openingOf : Opening → model.Opening
 openingOf o = record { step = o .step; fee = o .fee }
 
 -- a part whose first n prices count
 abbrev pub partOf : ℕ → Part → model.Part
-partOf n p = record { life = p .life; left = p .left; prices = take n (p .prices) }
+partOf n p = record { life = p .life; left = p .left; removal = p .removal; holders = numbersOf (p .holders); prices = take n (p .prices) }
 
 -- the job that a struct holds: its first idle steps, openings, prices and parts, as many as it says
 abbrev pub jobOf : Job → model.Job

@@ -10,10 +10,12 @@ pub struct Opening {
     pub fee: u32,
 }
 
-// A wear part: its life, what is left of its first life, and its price at each opening.
+// A wear part: its life, what is left of its first life, what removing it costs, its holders (mark j says whether part j + 1 is one), and its price at each opening.
 pub struct Part {
     pub life: u32,
     pub left: u32,
+    pub removal: u32,
+    pub holders: [bool; 16],
     pub prices: [u32; 64],
 }
 
@@ -77,6 +79,8 @@ impl Job {
         let part = Part {
             life: 0,
             left: 0,
+            removal: 0,
+            holders: [false; 16],
             prices: [0u32; 64],
         };
         Job {
@@ -105,7 +109,7 @@ pub struct Plan {
 impl Plan {
     pub const MAX_BYTES: usize = 32768;
 
-    pub const MAX_COST: u32 = 2000000000;
+    pub const MAX_COST: u32 = 4000000000;
 
     pub const MAX_STOPS: u32 = 64;
 

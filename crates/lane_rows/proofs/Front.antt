@@ -14,7 +14,9 @@ use Rattle.branch.specs.declared.Bound.the-variants.{Missing, Sum}
 use Rattle.branch.specs.Lower.{add}
 use Rattle.model.specs.Model.{within}
 use Rattle.model.specs.LowerBound.{Offer, plus, lower, leastOf, offers}
+use Rattle.branch.specs.Search.{snoc}
 use Rattle.model.proofs.Bools.{after-one}
+use Rattle.model.proofs.Offers.{offers-yes}
 use Rattle.lane_rows.specs.Sheet.{Column, Sheet, columnBound, Mark, reach, joined, frontFrom, decidedOffers, front}
 
 -- ---- the lower of two is a minimum
@@ -157,6 +159,11 @@ column-front sheet col p =
 
     rest : List Offer
     rest = drop (length p) (offers ss ns [])
+
+-- a yes and an undecided opening are the same to a part
+pub column-yes : (sheet : Sheet) (col : Column) (p : List Bool) → columnBound sheet col p ≡ columnBound sheet col (snoc p true)
+unfolding columnBound
+column-yes sheet col p = ap (leastOf (col .life) (sheet .end) (col .first)) (offers-yes (sheet .positions) (col .prices) p)
 
 -- ---- one decision more
 

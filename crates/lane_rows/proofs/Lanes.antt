@@ -1,5 +1,5 @@
 -- The code's lanes of numbers are the parts' least prices: a lane over the suffix prices is the least over the front, a lane over the reach table is the least cost from which opening j is in reach.
-use Prim.Native.Nat.{ℕ, zero, suc, _+_, _-_, _*_, _<_, _≤_, min}
+use Prim.Native.Nat.{ℕ, zero, suc, _+_, _-_, _*_, _<_, _≤_, min, max}
 use mathlib.Core.Path.{_≡_, refl, sym, ap, ap₂, subst, _∙_}
 use mathlib.Core.Bool.{Bool, true, false, cond}
 use mathlib.Core.List.{List, [], _∷_}
@@ -13,7 +13,7 @@ use lib.ListN.{length, getD, drop, length-append}
 use lib.IntN.{ℤ, pos}
 use Rattle.branch.specs.declared.Bound.{Bound}
 use Rattle.branch.specs.declared.Bound.the-variants.{Missing, Sum}
-use Rattle.branch.specs.Lower.{add, total}
+use Rattle.branch.specs.Lower.{add, total, larger}
 use Rattle.branch.specs.Search.{snoc}
 use Rattle.branch.proofs.Bounds.{no-sum, sum-inj}
 use Rattle.branch.proofs.Lower.{split}
@@ -57,7 +57,7 @@ value-min a b = go (ltb a inf) (ltb b inf) refl refl
     go false true e f = let z : min a b ≡ b = omega (arith, ltb-false a inf e, ltb-true b inf f) in ap valueOf z ∙ value-some b (ltb-true b inf f)
     go false false e f = value-none (min a b) (omega (arith, ltb-false a inf e, ltb-false b inf f))
 
-value-plus : (a b A B : ℕ) → A + B < inf → (a < inf → a ≤ A) → (b < inf → b ≤ B)
+pub value-plus : (a b A B : ℕ) → A + B < inf → (a < inf → a ≤ A) → (b < inf → b ≤ B)
     → (valueOf (a + b) ≡ add (valueOf a) (valueOf b)) × (a + b < inf → a + b ≤ A + B)
 value-plus a b A B s l m = (go (ltb a inf) (ltb b inf) refl refl, λ g. omega (arith, l (omega arith), m (omega arith)))
   where
@@ -87,6 +87,13 @@ module _ (b : ℕ) (s : b < inf) where
   coded-most n Missing c = omega arith
   coded-most n (Sum x) c = omega arith
 
+-- the larger of two numbers stands for the larger of their bounds
+pub coded-larger : (b x y : ℕ) (d e : Bound) → b ≤ laneLimit → Coded b x d → Coded b y e → Coded b (max x y) (larger d e)
+coded-larger b x y Missing Missing h c f = omega arith
+coded-larger b x y Missing (Sum v) h c f = omega arith
+coded-larger b x y (Sum u) Missing h c f = omega arith
+coded-larger b x y (Sum u) (Sum v) h c f = (omega arith, omega arith)
+
 -- fewer openings, no lower price
 coded-more : (a b m n : ℕ) (d e : Bound) → m < inf → Coded m a (lower e d) → Coded n b e → a ≤ b
 coded-more a b m n d Missing s c f = omega (arith, coded-most m s a (lower Missing d) c)
@@ -112,12 +119,12 @@ unfolding lane
 lane-most t w base j q zero = omega arith
 lane-most t w base j q (suc n) = omega (arith, lane-most t w base j q n)
 
-abbrev undecided : List ℤ → Column → ℕ → List Offer
+abbrev pub undecided : List ℤ → Column → ℕ → List Offer
 undecided ss col j = drop j (offers ss (col .prices) [])
 
 module _ (end : ℤ) (ss : List ℤ) (col : Column) (t : List ℕ) (q : ℕ) (la : Lane end ss col t q) where
   -- over the suffix prices: the least over the front
-  lane-over : (w : List ℕ) (j n : ℕ) → j ≤ length ss → length ss ≤ 64 → ((k : ℕ) → k < n → getD w (markPlace k) 0 ≤ j) → ((k : ℕ) → k < n → Level (top * j) (getD w (rowPlace k q) 0))
+  pub lane-over : (w : List ℕ) (j n : ℕ) → j ≤ length ss → length ss ≤ 64 → ((k : ℕ) → k < n → getD w (markPlace k) 0 ≤ j) → ((k : ℕ) → k < n → Level (top * j) (getD w (rowPlace k q) 0))
       → valueOf (lane t w suffixBase j q n) ≡ over (col .life) end (marksIn (col .first) ss w q n) (undecided ss col j)
   unfolding lane marksIn
   lane-over w j zero h s m l = refl
@@ -130,7 +137,7 @@ module _ (end : ℤ) (ss : List ℤ) (col : Column) (t : List ℕ) (q : ℕ) (la
       value-min (lane t w suffixBase j q k) (d + e) ∙ ap₂ lower (lane-over w j k h s (λ i g. m i (omega arith)) (λ i g. l i (omega arith))) (v .0 ∙ ap (add (valueOf d)) (coded-est (top * (length ss - j)) (omega arith) e x c))
 
   -- over the table of reach: the least cost so far from which opening j is in reach
-  lane-reach : (w : List ℕ) (j n b : ℕ) → j < length ss → b ≤ laneLimit → ((k : ℕ) → k < n → getD w (markPlace k) 0 ≤ j) → ((k : ℕ) → k < n → Level b (getD w (rowPlace k q) 0))
+  pub lane-reach : (w : List ℕ) (j n b : ℕ) → j < length ss → b ≤ laneLimit → ((k : ℕ) → k < n → getD w (markPlace k) 0 ≤ j) → ((k : ℕ) → k < n → Level b (getD w (rowPlace k q) 0))
       → (valueOf (lane t w reachBase j q n) ≡ reach (col .life) (marksIn (col .first) ss w q n) (getD ss j (pos 0))) × (lane t w reachBase j q n < inf → lane t w reachBase j q n ≤ b)
   unfolding lane marksIn
   lane-reach w j zero b h s m l = (refl, λ g. absurd (omega arith))
@@ -146,7 +153,7 @@ module _ (end : ℤ) (ss : List ℤ) (col : Column) (t : List ℕ) (q : ℕ) (la
       one d e false f l = (value-none (d + e) (omega (arith, f)), λ g. absurd (omega (arith, f)))
 
   -- one opening less: no lane falls
-  lane-rises : (w : List ℕ) (j n : ℕ) → j < length ss → length ss ≤ 64 → ((k : ℕ) → k < n → getD w (markPlace k) 0 ≤ j) → lane t w suffixBase j q n ≤ lane t w suffixBase (j + 1) q n
+  pub lane-rises : (w : List ℕ) (j n : ℕ) → j < length ss → length ss ≤ 64 → ((k : ℕ) → k < n → getD w (markPlace k) 0 ≤ j) → lane t w suffixBase j q n ≤ lane t w suffixBase (j + 1) q n
   unfolding lane
   lane-rises w j zero h s m = omega arith
   lane-rises w j (suc k) h s m =
@@ -279,7 +286,7 @@ pub kept-then : (u v w : List ℕ) (m n : ℕ) → m ≤ n → Kept u v m → Ke
 kept-then u v w m n h a b =
     record { size = b .size ∙ a .size; rows = λ k l. b .rows k (omega arith) ∙ a .rows k l; marks = λ k l. b .marks k (omega arith) ∙ a .marks k l }
 
-marks-kept : (first : ℤ) (ss : List ℤ) (w w' : List ℕ) (q m n : ℕ) → q < laneCount → m ≤ n → Kept w w' n → marksIn first ss w' q m ≡ marksIn first ss w q m
+pub marks-kept : (first : ℤ) (ss : List ℤ) (w w' : List ℕ) (q m n : ℕ) → q < laneCount → m ≤ n → Kept w w' n → marksIn first ss w' q m ≡ marksIn first ss w q m
 unfolding marksIn
 marks-kept first ss w w' q zero n l h k = refl
 marks-kept first ss w w' q (suc m) n l h k =
@@ -295,12 +302,12 @@ pub ≠-lt : (k n : ℕ) → (k ≡ n → ⊥) → k ≤ n → k < n
     go (yes h) = h
     go (no h) = absurd (g (omega (arith, h)))
 
-marks-suc : (first : ℤ) (ss : List ℤ) (w : List ℕ) (q n : ℕ) (a : ℤ) (c : Bound) (fr : List Mark) → markOf first ss (getD w (markPlace n) 0) ≡ a → valueOf (getD w (rowPlace n q) 0) ≡ c → marksIn first ss w q n ≡ fr
+pub marks-suc : (first : ℤ) (ss : List ℤ) (w : List ℕ) (q n : ℕ) (a : ℤ) (c : Bound) (fr : List Mark) → markOf first ss (getD w (markPlace n) 0) ≡ a → valueOf (getD w (rowPlace n q) 0) ≡ c → marksIn first ss w q n ≡ fr
     → marksIn first ss w q (suc n) ≡ record { at = a; cost = c } ∷ fr
 unfolding marksIn
 marks-suc first ss w q n a c fr e f g = λ i. record { at = e i; cost = f i } ∷ g i
 
-level-more : (a b v : ℕ) → a ≤ b → Level a v → Level b v
+pub level-more : (a b v : ℕ) → a ≤ b → Level a v → Level b v
 level-more a b v h l = record { some = λ g. omega (arith, l .some g); most = l .most }
 
 pub rows-kept : (sheet : Sheet) (w w' : List ℕ) (p : List Bool) (n : ℕ) → Rows sheet w p n → Kept w w' n → Rows sheet w' p n

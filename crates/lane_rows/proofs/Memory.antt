@@ -11,7 +11,7 @@ use lib.Seq.{getD-set-same, getD-set-other}
 use Rattle.least.specs.Filled.{FilledBy}
 use Rattle.model.specs.Limits.{mostOpenings}
 use Rattle.lane_rows.specs.Layout.{laneCount, markCount, inf, triangle, suffixBase, place, rowPlace, markPlace, knownBase, knownPlace, memoBase, memoPlace, lanesIn, stackSize}
-use Rattle.lane_rows.specs.Rows.{lane, sumLanes, Kept, Put, Past, Remembers, Memo, stepOf, StepAsks, Stepped, Looks, Known, Recalled, Learnt, FirstRow, Nones}
+use Rattle.lane_rows.specs.Rows.{lane, sumLanes, Kept, Put, Past, Remembers, Memo, stepOf, StepAsks, Stepped, Looks, Known, Recalled, Still, Learnt, FirstRow, Nones}
 use Rattle.lane_rows.proofs.Rising.{row-below, row-inside}
 use Rattle.lane_rows.proofs.Lanes.{lane-most, lane-nil, lane-suc, sum-same, kept-refl, kept-then, ≠-lt}
 
@@ -155,6 +155,13 @@ module _ (t w : List ℕ) (n m j : ℕ) (s : Looks t w n j) (h : m < n) (kn : Kn
         go (yes x) (no y) = old (λ z. y (z .1))
         go (no x) d = old (λ z. x (z .0))
 
+    still-known : Still w w'
+    still-known k l a b e = knows k l a b ∙ go (ℕ-discrete (knownPlace (k + 1) l) (knownPlace (m + 1) j))
+      where
+        go : Dec (knownPlace (k + 1) l ≡ knownPlace (m + 1) j) → getD noted (knownPlace (k + 1) l) 0 ≡ 1
+        go (yes z) = ap (λ (i : ℕ). getD noted i 0) z ∙ getD-set-same w (knownPlace (m + 1) j) 1 0 (omega (arith, s .stack .size, below, s .stack .near))
+        go (no z) = still (knownPlace (k + 1) l) z ∙ e
+
     pub learnt : Learnt t w w' n m j r
     learnt =
         record {
@@ -167,6 +174,7 @@ module _ (t w : List ℕ) (n m j : ℕ) (s : Looks t w n j) (h : m < n) (kn : Kn
             };
           };
           known = knows m j (omega (arith, below, s .stack .near)) (s .stack .near) ∙ getD-set-same w (knownPlace (m + 1) j) 1 0 (omega (arith, s .stack .size, below, s .stack .near));
+          still = still-known;
           sum = u .sum ∙ sum-same (lanesIn t) (stepOf t noted (m * laneCount) from out) (λ (q : ℕ). lane t w suffixBase j q (m + 1)) step-is;
         }
 

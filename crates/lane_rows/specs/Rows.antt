@@ -171,11 +171,23 @@ pub record Recalled (t w w' : List ℕ) (n : ℕ) : Type 0 where
   pub kept : Kept w w' n
   pub memo : Memo t w' n
 
+-- what the memo knows it still knows
+abbrev pub Still : List ℕ → List ℕ → Type 0
+Still w w' = (k l : ℕ) → k ≤ mostOpenings → l ≤ mostOpenings → getD w (knownPlace (k + 1) l) 0 ≡ 1 → getD w' (knownPlace (k + 1) l) 0 ≡ 1
+
 -- so they are, the memo of the first m + 1 rows is known at level j, and r is its sum
 pub record Learnt (t w w' : List ℕ) (n m j r : ℕ) : Type 0 where
   pub recalled : Recalled t w w' n
   pub known : getD w' (knownPlace (m + 1) j) 0 ≡ 1
+  pub still : Still w w'
   pub sum : r ≡ sumLanes (lanesIn t) (λ (q : ℕ). lane t w suffixBase j q (m + 1))
+
+-- all of the first n rows are known at level j, and r is the sum of their lanes
+pub record Looked (t w w' : List ℕ) (n j r : ℕ) : Type 0 where
+  pub sum : r ≡ sumLanes (lanesIn t) (λ (q : ℕ). lane t w suffixBase j q n)
+  pub recalled : Recalled t w w' n
+  pub known : getD w' (knownPlace n j) 0 ≡ 1
+  pub still : Still w w'
 
 -- ---- nodes
 

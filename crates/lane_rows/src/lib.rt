@@ -6,7 +6,7 @@ ghost use lib.ListN.{length, getD};
 ghost use Rattle.least.specs.Filled.{FilledBy};
 ghost use Rattle.lane_rows.specs.Layout.{laneCount, markCount, inf, triangle, levelRows, tablesSize, lanesIn, stackSize, suffixBase, place, rowPlace, markPlace, knownPlace, memoPlace, termPlace};
 ghost use Rattle.lane_rows.specs.Tables.{valueOf, sumWhere};
-ghost use Rattle.lane_rows.specs.Rows.{lane, sumLanes, Turned, MinAsks, PlusAsks, AddAsks, Nones, FirstRow, Stack, Put, Past, StepAsks, Stepped, Looks, Known, Recalled, Learnt, nextRow, Owing, Settled};
+ghost use Rattle.lane_rows.specs.Rows.{lane, sumLanes, Turned, MinAsks, PlusAsks, AddAsks, Nones, FirstRow, Stack, Put, Past, StepAsks, Stepped, Looks, Known, Recalled, Learnt, Looked, nextRow, Owing, Settled};
 ghost use Rattle.model.specs.Limits.{mostOpenings};
 use branch::Bound;
 use least::MARKS;
@@ -48,11 +48,11 @@ pub const TABLES: usize = TERMS + BLOCK_ROWS;
 
 // The stack: 65 rows, the mark of each, which rows of the memo are known, and the memo, which has a row for each level and each number of rows from none to one more than the level's.
 
-const ROW_MARKS: usize = MARKS * LANES;
+pub const ROW_MARKS: usize = MARKS * LANES;
 
-const KNOWN: usize = ROW_MARKS + MARKS;
+pub const KNOWN: usize = ROW_MARKS + MARKS;
 
-const MEMO: usize = KNOWN + (MARKS + 1) * MARKS;
+pub const MEMO: usize = KNOWN + (MARKS + 1) * MARKS;
 
 pub const STACK: usize = MEMO + (MARKS + 1) * (MARKS + 2) / 2 * LANES;
 
@@ -109,7 +109,7 @@ fn min_row(fours: usize, d: &[u32], e: &[u32], acc: &mut [u32])
 }
 
 // Each lane with its price in a row of prices.
-fn plus_row(fours: usize, prices: &[u32], acc: &mut [u32])
+pub fn plus_row(fours: usize, prices: &[u32], acc: &mut [u32])
     requires { ⌜ PlusAsks fours (now prices) (now acc) ⌝ }
     ensures { λ _. ⌜ Turned (fours * 4) (λ (q : ℕ). getD (now (acc .entry)) q 0 + getD (now (prices .entry)) q 0) (now (acc .entry)) (now (acc .exit)) ⌝ }
 {
@@ -129,7 +129,7 @@ fn copy_row(fours: usize, d: &[u32], acc: &mut [u32])
 }
 
 // The lanes are stored as the row that starts at `at`.
-fn store_row(fours: usize, acc: &[u32], at: usize, w: &mut [u32])
+pub fn store_row(fours: usize, acc: &[u32], at: usize, w: &mut [u32])
     requires { ⌜ (fours ≤ 4) × (laneCount ≤ length (now acc)) × (at + laneCount ≤ length (now w)) ⌝ }
     ensures { λ _. ⌜ FilledBy (λ (q : ℕ). at + q) (λ (q : ℕ). getD (now (acc .entry)) q 0) (fours * 4) (now (w .entry)) (now (w .exit)) ⌝ }
 {
@@ -139,7 +139,7 @@ fn store_row(fours: usize, acc: &[u32], at: usize, w: &mut [u32])
 }
 
 // The sum of all lanes, in four sums that stay within 32 bits.
-fn total(fours: usize, acc: &[u32]) -> u64
+pub fn total(fours: usize, acc: &[u32]) -> u64
     requires { ⌜ (fours ≤ 4) × (laneCount ≤ length (now acc)) × ((q : ℕ) → q < fours * 4 → getD (now acc) q 0 ≤ inf) ⌝ }
     ensures { λ r. ⌜ r ≡ sumLanes (fours * 4) (λ (q : ℕ). getD (now (acc .entry)) q 0) ⌝ }
 {
@@ -192,7 +192,7 @@ fn add_row(
 }
 
 // Each lane over the first `rows` rows, from lanes that hold nothing.
-fn least_rows(
+pub fn least_rows(
     fours: usize,
     t: &[u32],
     w: &[u32],
@@ -276,11 +276,10 @@ fn known_rows(w: &[u32], rows: usize, j: usize) -> usize
     m
 }
 
-// The sum of all lanes where opening j is the first undecided one: the memo learns what it lacks there, one row after the other, and the top row's sum is handed over.
-pub fn lane_sum(t: &[u32; TABLES], w: &mut [u32; STACK], rows: usize, j: usize) -> u64
+// The memo learns what it lacks at level j, one row after the other; the top row's sum is handed over.
+pub fn look(t: &[u32; TABLES], w: &mut [u32; STACK], rows: usize, j: usize) -> u64
     requires { ⌜ Looks (now t) (now w) rows j ⌝ }
-    ensures sum { λ r. ⌜ r ≡ sumLanes (lanesIn (now (t .entry))) (λ (q : ℕ). lane (now (t .entry)) (now (w .entry)) suffixBase j q rows) ⌝ }
-    ensures frame { λ _. ⌜ Recalled (now (t .entry)) (now (w .entry)) (now (w .exit)) rows ⌝ }
+    ensures { λ r. ⌜ Looked (now (t .entry)) (now (w .entry)) (now (w .exit)) rows j r ⌝ }
 {
     let mut m = known_rows(w, rows, j);
     let mut sum = 0;
@@ -289,6 +288,15 @@ pub fn lane_sum(t: &[u32; TABLES], w: &mut [u32; STACK], rows: usize, j: usize) 
         m += 1;
     }
     sum
+}
+
+// The sum of all lanes where opening j is the first undecided one.
+pub fn lane_sum(t: &[u32; TABLES], w: &mut [u32; STACK], rows: usize, j: usize) -> u64
+    requires { ⌜ Looks (now t) (now w) rows j ⌝ }
+    ensures sum { λ r. ⌜ r ≡ sumLanes (lanesIn (now (t .entry))) (λ (q : ℕ). lane (now (t .entry)) (now (w .entry)) suffixBase j q rows) ⌝ }
+    ensures frame { λ _. ⌜ Recalled (now (t .entry)) (now (w .entry)) (now (w .exit)) rows ⌝ }
+{
+    look(t, w, rows, j)
 }
 
 // The part sums where nothing is decided: the tables' first row; Missing exactly where the first term is.
@@ -339,7 +347,7 @@ fn put_row(t: &[u32], w: &mut [u32], j: usize, rows: usize)
 }
 
 // Nothing is known of the first k rows from a level on: the last of them is new.
-fn forget(w: &mut [u32], k: usize, from: usize)
+pub fn forget(w: &mut [u32], k: usize, from: usize)
     requires { ⌜ (k ≤ markCount) × (from ≤ mostOpenings) × (length (now w) ≡ stackSize) ⌝ }
     ensures { λ _. ⌜ FilledBy (λ (y : ℕ). knownPlace k (from + y)) (λ (y : ℕ). 0) (markCount - from) (now (w .entry)) (now (w .exit)) ⌝ }
 {

@@ -6,13 +6,13 @@ use mathlib.Core.Bool.{Bool, true}
 use native.Mathlib.Omega.{arith}
 use lib.ListN.{length}
 use lib.Seq.{drop-append-seam}
-use Rattle.lines.specs.Parser.{Parser, good, return, taken, rowAt, optionalAt, checked, chain, end as ends, accepted, finish, whole, readText}
+use Rattle.lines.specs.Parser.{Parser, good, return, taken, rowAt, optionalAt, checked, chain, rising, end as ends, accepted, finish, whole, readText}
 use Rattle.lines.specs.Line.{startsWith}
 use Rattle.lines.specs.Text.{decimal, line, texts, present}
 use Rattle.lines.proofs.Reading.{field-good}
-use Rattle.lines.proofs.Parsing.{bind-good, checked-good, optional-there, text-fits}
+use Rattle.lines.proofs.Parsing.{bind-good, checked-good, rising-yes, optional-there, text-fits}
 use Rattle.lines.proofs.Back.{starts-own, line-back}
-use Rattle.lines.proofs.Sound.{Chained}
+use Rattle.lines.proofs.Sound.{Chained, Rises}
 
 -- a value with P, written with anything behind it, is read, and what is behind it is left
 abbrev pub Complete : {A : Type 0} → Parser A → (A → List ℕ) → (A → Type 0) → Type 0
@@ -37,17 +37,22 @@ optional-present key lo hi few v h s l =
 pub checked-complete : (k : ℕ) (ok : ℕ → Bool) (p : Parser ℕ) (w : ℕ → List ℕ) (P : ℕ → Type 0) → Complete p w P → Complete (checked k ok p) w (λ v. P v × (ok v ≡ true))
 checked-complete k ok p w P c v h s l = let r = c v (h .0) s l in (r .0, checked-good k ok p (w v ++ s) l (r .1) (h .1))
 
+-- a number that rises and stays within a bound
+pub rising-complete : (n : ℕ) (key : List ℕ) (hi most : ℕ) → hi < 10 ^ 10 → (before : ℕ) → Complete (checked n (rising before most) (rowAt key 1 hi)) (line key) (Rises hi most before)
+rising-complete n key hi most few before v k s l =
+    checked-complete n (rising before most) (rowAt key 1 hi) (line key) _ (row-complete key 1 hi few) v ((k .low, k .high), rising-yes before most v (k .after) (k .within)) s l
+
 -- a chain: as many as there are
-pub chain-complete : {A : Type 0} (p : ℕ → Parser A) (next : A → ℕ) (w : A → List ℕ) (P : ℕ → A → Type 0) → ((prev : ℕ) → Complete (p prev) w (P prev))
+pub chain-complete : {A : Type 0} (p : ℕ → Parser A) (next : ℕ → A → ℕ) (w : A → List ℕ) (P : ℕ → A → Type 0) → ((prev : ℕ) → Complete (p prev) w (P prev))
     → (prev : ℕ) (xs : List A) → Chained P next prev xs → (s : List ℕ) (l : ℕ) → (l′ : ℕ) × (chain p next (length xs) prev (texts w xs ++ s) l ≡ good xs s l′)
 unfolding chain return
 chain-complete p next w P c prev [] h s l = (l, refl)
 chain-complete p next w P c prev (x ∷ xs) h s l =
     let a = c prev x (h .0) (texts w xs ++ s) l in
-    let b = chain-complete p next w P c (next x) xs (h .1) s (a .0) in (
+    let b = chain-complete p next w P c (next prev x) xs (h .1) s (a .0) in (
       b .0,
       ap (λ (r : List ℕ). chain p next (length (x ∷ xs)) prev r l) (append-assoc (w x) (texts w xs) s)
-          ∙ bind-good (p prev) _ (a .1) ∙ bind-good (chain p next (length xs) (next x)) _ (b .1),
+          ∙ bind-good (p prev) _ (a .1) ∙ bind-good (chain p next (length xs) (next prev x)) _ (b .1),
     )
 
 -- a text whose lines are read to its end

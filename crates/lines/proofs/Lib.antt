@@ -11,5 +11,6 @@ pub mod Readback
 pub mod Numbered
 pub mod Writing
 pub mod Texts
+pub mod Chosen
 pub mod Powers
 pub mod Arrays

@@ -76,15 +76,15 @@ module _ (P : ℕ → Type 0) where
   present-numbers f h missing = return-numbers missing
   present-numbers f h (present a) = bind-numbers (f a) _ (h a) (λ b. return-numbers (present b))
 
-  pub chain-numbers : {A : Type 0} (p : ℕ → Parser A) (next : A → ℕ) → ((k : ℕ) → Numbers P (p k)) → (n before : ℕ) → Numbers P (chain p next n before)
+  pub chain-numbers : {A : Type 0} (p : ℕ → Parser A) (next : ℕ → A → ℕ) → ((k : ℕ) → Numbers P (p k)) → (n before : ℕ) → Numbers P (chain p next n before)
   unfolding chain
   chain-numbers p next h zero before = return-numbers []
   chain-numbers p next h (suc n) before =
-      bind-numbers (p before) _ (h before) (λ a. bind-numbers (chain p next n (next a)) _ (chain-numbers p next h n (next a)) (λ rest. return-numbers (a ∷ rest)))
+      bind-numbers (p before) _ (h before) (λ a. bind-numbers (chain p next n (next before a)) _ (chain-numbers p next h n (next before a)) (λ rest. return-numbers (a ∷ rest)))
 
   pub times-numbers : {A : Type 0} (n : ℕ) (p : Parser A) → Numbers P p → Numbers P (times n p)
   unfolding times
-  times-numbers n p h = chain-numbers (λ _. p) (λ _. 0) (λ _. h) n 0
+  times-numbers n p h = chain-numbers (λ _. p) (λ _ _. 0) (λ _. h) n 0
 
   end-numbers : P 2 → Numbers P ends
   unfolding ends

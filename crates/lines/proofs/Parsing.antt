@@ -183,21 +183,21 @@ behind xs (good ys s l) = good (xs ++ ys) s l
 behind xs (fault n l) = fault n l
 
 -- a loop over a chain: one more, a fault, and the end. i of n are read, in xs
-module _ {A : Type 0} (p : ℕ → Parser A) (next : A → ℕ) (n i : ℕ) (xs : List A) (prev : ℕ) (s : List ℕ) (l : ℕ) where
+module _ {A : Type 0} (p : ℕ → Parser A) (next : ℕ → A → ℕ) (n i : ℕ) (xs : List A) (prev : ℕ) (s : List ℕ) (l : ℕ) where
   later : i < n → n - i ≡ suc (n - (i + 1))
   later h = omega arith
 
   pub chain-more : {a : A} {s′ : List ℕ} {l′ : ℕ} {ys : List A} → i < n → p prev s l ≡ good a s′ l′ → ys ≡ xs ++ a ∷ []
-      → behind xs (chain p next (n - i) prev s l) ≡ behind ys (chain p next (n - (i + 1)) (next a) s′ l′)
+      → behind xs (chain p next (n - i) prev s l) ≡ behind ys (chain p next (n - (i + 1)) (next prev a) s′ l′)
   unfolding chain return
   chain-more {a} {s′} {l′} {ys} h e f =
       ap (λ (k : ℕ). behind xs (chain p next k prev s l)) (later h)
       ∙ ap (behind xs) (bind-good (p prev) _ e)
-      ∙ after-one (chain p next (n - (i + 1)) (next a) s′ l′) refl
-      ∙ ap (λ (zs : List A). behind zs (chain p next (n - (i + 1)) (next a) s′ l′)) (sym f)
+      ∙ after-one (chain p next (n - (i + 1)) (next prev a) s′ l′) refl
+      ∙ ap (λ (zs : List A). behind zs (chain p next (n - (i + 1)) (next prev a) s′ l′)) (sym f)
     where
-      after-one : (y : Parsed (List A)) → chain p next (n - (i + 1)) (next a) s′ l′ ≡ y
-          → behind xs ((chain p next (n - (i + 1)) (next a) >>= λ rest. return (a ∷ rest)) s′ l′) ≡ behind (xs ++ a ∷ []) y
+      after-one : (y : Parsed (List A)) → chain p next (n - (i + 1)) (next prev a) s′ l′ ≡ y
+          → behind xs ((chain p next (n - (i + 1)) (next prev a) >>= λ rest. return (a ∷ rest)) s′ l′) ≡ behind (xs ++ a ∷ []) y
       after-one (good ys t m) q = ap (behind xs) (bind-good _ _ q) ∙ ap (λ (zs : List A). good zs t m) (sym (append-assoc xs (a ∷ []) ys))
       after-one (fault k m) q = ap (behind xs) (bind-fault _ _ q)
 
@@ -212,7 +212,7 @@ module _ {A : Type 0} (p : ℕ → Parser A) (next : A → ℕ) (n i : ℕ) (xs 
       ap (λ (k : ℕ). behind xs (chain p next k prev s l)) z
       ∙ ap (λ (zs : List A). good zs s l) (append-nil xs)
 
-pub chain-start : {A : Type 0} (p : ℕ → Parser A) (next : A → ℕ) (n prev : ℕ) (s : List ℕ) (l : ℕ) → chain p next n prev s l ≡ behind [] (chain p next (n - 0) prev s l)
+pub chain-start : {A : Type 0} (p : ℕ → Parser A) (next : ℕ → A → ℕ) (n prev : ℕ) (s : List ℕ) (l : ℕ) → chain p next n prev s l ≡ behind [] (chain p next (n - 0) prev s l)
 chain-start {A} p next n prev s l = rw sub-zero (same (chain p next n prev s l))
   where
     same : (y : Parsed (List A)) → y ≡ behind [] y
@@ -237,6 +237,10 @@ module _ {A : Type 0} {s : List ℕ} {x : Parsed A} {e : End} (a : A) where
   pub fault-read : {k l : ℕ} → e ≡ end.Fault k l → x ≡ fault k l → Reads s (ended e a) x
   unfolding ended
   fault-read m h = rw (m, h) (record { is = refl; stands = tt })
+
+-- a fault is no end at a cursor
+pub not-at : {X : Type 0} {k l : ℕ} {q : Cursor} → end.Fault k l ≡ end.At q → X
+not-at e = let z : _≡_ {A = ℕ} 0 1 = cc in absurd (omega arith)
 
 -- a value that is put into another
 pub map-read : {A B : Type 0} {s t : List ℕ} {l : ℕ} (f : A → B) (p : Parser A) (e : End) (a : A) → Reads s (ended e a) (p t l) → Reads s (ended e (f a)) ((p >>= λ x. return (f x)) t l)

@@ -68,7 +68,7 @@ module _ (F : ℕ → Type 0) where
   checked-back k f ok p v t s l (broken n m w h) = broken n m w (checked-fault k ok p t l h)
 
   -- as many as there are
-  pub chain-back : {A : Type 0} (p : ℕ → Parser A) (next : A → ℕ) (w : A → List ℕ) (P : A → Type 0)
+  pub chain-back : {A : Type 0} (p : ℕ → Parser A) (next : ℕ → A → ℕ) (w : A → List ℕ) (P : A → Type 0)
       → ((prev : ℕ) (a : A) → P a → (s : List ℕ) (l : ℕ) → Readback F (Unit {0}) a s (p prev (w a ++ s) l))
       → (prev : ℕ) (xs : List A) → Chained (λ _. P) next prev xs → (s : List ℕ) (l : ℕ) → Readback F (Unit {0}) xs s (chain p next (length xs) prev (texts w xs ++ s) l)
   unfolding chain
@@ -76,4 +76,4 @@ module _ (F : ℕ → Type 0) where
   chain-back p next w P c prev (x ∷ xs) h s l =
       same-back (ap (λ (r : List ℕ). chain p next (length (x ∷ xs)) prev r l) (append-assoc (w x) (texts w xs) s))
       (bind-back (p prev) _ (c prev x (h .0) (texts w xs ++ s) l) (λ _ m.
-      bind-back (chain p next (length xs) (next x)) _ (chain-back p next w P c (next x) xs (h .1) s m) (λ _ k. return-back (x ∷ xs) s k tt)))
+      bind-back (chain p next (length xs) (next prev x)) _ (chain-back p next w P c (next prev x) xs (h .1) s m) (λ _ k. return-back (x ∷ xs) s k tt)))

@@ -1,17 +1,17 @@
 -- What a parser accepts is what is written for its value (`Sound`), and what is known of that value (`Gives`). By the parsers' forms: row, optional, checked, bind, chain, whole text.
-use Prim.Native.Nat.{ℕ, zero, suc, _+_, _≤_}
+use Prim.Native.Nat.{ℕ, zero, suc, _+_, _≤_, _<_}
 use mathlib.Core.Path.{_≡_, refl, sym, ap, _∙_, subst}
 use mathlib.Core.List.{List, [], _∷_, _++_, append-assoc}
-use mathlib.Core.Bool.{Bool, true, false, _&&_}
+use mathlib.Core.Bool.{Bool, true, false, _&&_, and-eq-true-iff}
 use native.Mathlib.Omega.{arith}
-use lib.Dec.{leb}
+use lib.Dec.{leb, ltb}
 use lib.ListN.{length, drop}
 use Rattle.lines.specs.Line.{startsWith, readLine}
-use Rattle.lines.specs.Parser.{Parsed, good, fault, Parser, _>>=_, return, inRange, readField, taken, rowAt, optionalAt, checked, chain, end as ends, accepted, finish, whole, readText}
+use Rattle.lines.specs.Parser.{Parsed, good, fault, Parser, _>>=_, return, inRange, readField, taken, rowAt, optionalAt, checked, chain, rising, end as ends, accepted, finish, whole, readText}
 use Rattle.lines.specs.Text.{line, texts, Optional, missing, present}
 use Rattle.lines.specs.declared.read.Line.{Line}
 use Rattle.lines.specs.declared.read.Line.the-variants.{Value, Bad}
-use borrow.Author.Tests.{leb-true}
+use borrow.Author.Tests.{leb-true, ltb-true}
 use Rattle.lines.proofs.Parsing.{bind-good, bind-fault, InRow, row-in, optional-there, optional-missing}
 use Rattle.lines.proofs.Outcomes.{not-both}
 use Rattle.lines.proofs.Written.{Stands, line-written}
@@ -89,7 +89,7 @@ checked-sound k ok p w so s s′ l l′ a h = go (p s l) refl
     go (fault n m) e = never (rw (checked, e) at h)
 
 -- a chain: each of its values in turn, as many as it says
-pub chain-sound : {A : Type 0} (p : ℕ → Parser A) (next : A → ℕ) (w : A → List ℕ) → ((prev : ℕ) → Sound (p prev) w) → (n prev : ℕ) → Sound (chain p next n prev) (texts w)
+pub chain-sound : {A : Type 0} (p : ℕ → Parser A) (next : ℕ → A → ℕ) (w : A → List ℕ) → ((prev : ℕ) → Sound (p prev) w) → (n prev : ℕ) → Sound (chain p next n prev) (texts w)
 unfolding chain return
 chain-sound p next w so zero prev s s′ l l′ xs h =
     let x : [] ≡ xs = cc in
@@ -97,11 +97,11 @@ chain-sound p next w so zero prev s s′ l l′ xs h =
     y ∙ ap (λ (zs : List _). texts w zs ++ s′) x
 chain-sound p next w so (suc n) prev s s′ l l′ xs h =
     let b = bind-inv (p prev) _ s s′ l l′ xs h in
-    let d = bind-inv (chain p next n (next (b .a))) _ (b .mid) s′ (b .at) l′ xs (b .second) in
+    let d = bind-inv (chain p next n (next prev (b .a))) _ (b .mid) s′ (b .at) l′ xs (b .second) in
     let x : (b .a ∷ d .a) ≡ xs = cc (d .second) in
     let y : d .mid ≡ s′ = cc (d .second) in
     so prev s (b .mid) l (b .at) (b .a) (b .first)
-    ∙ ap (λ (r : List ℕ). w (b .a) ++ r) (chain-sound p next w so n (next (b .a)) (b .mid) (d .mid) (b .at) (d .at) (d .a) (d .first) ∙ ap (λ (r : List ℕ). texts w (d .a) ++ r) y)
+    ∙ ap (λ (r : List ℕ). w (b .a) ++ r) (chain-sound p next w so n (next prev (b .a)) (b .mid) (d .mid) (b .at) (d .at) (d .a) (d .first) ∙ ap (λ (r : List ℕ). texts w (d .a) ++ r) y)
     ∙ sym (append-assoc (w (b .a)) (texts w (d .a)) s′)
     ∙ ap (λ (zs : List _). texts w zs ++ s′) x
 
@@ -129,11 +129,11 @@ checked-gives k ok p P gives s s′ l l′ a h = go (p s l) refl
     go (fault n m) e = never (rw (checked, e) at h)
 
 -- each of a chain's values, with the number that the one before left
-abbrev pub Chained : {A : Type 0} → (ℕ → A → Type 0) → (A → ℕ) → ℕ → List A → Type 0
+abbrev pub Chained : {A : Type 0} → (ℕ → A → Type 0) → (ℕ → A → ℕ) → ℕ → List A → Type 0
 Chained P next prev [] = Unit {0}
-Chained P next prev (x ∷ xs) = P prev x × Chained P next (next x) xs
+Chained P next prev (x ∷ xs) = P prev x × Chained P next (next prev x) xs
 
-pub chain-gives : {A : Type 0} (p : ℕ → Parser A) (next : A → ℕ) (P : ℕ → A → Type 0) → ((prev : ℕ) → Gives (p prev) (P prev)) → (n prev : ℕ)
+pub chain-gives : {A : Type 0} (p : ℕ → Parser A) (next : ℕ → A → ℕ) (P : ℕ → A → Type 0) → ((prev : ℕ) → Gives (p prev) (P prev)) → (n prev : ℕ)
     → Gives (chain p next n prev) (λ xs. (length xs ≡ n) × Chained P next prev xs)
 unfolding chain return
 chain-gives {A} p next P gives zero prev s s′ l l′ xs h =
@@ -141,10 +141,34 @@ chain-gives {A} p next P gives zero prev s s′ l l′ xs h =
     subst (λ (ys : List A). (length ys ≡ 0) × Chained P next prev ys) x (refl, tt)
 chain-gives {A} p next P gives (suc n) prev s s′ l l′ xs h =
     let b = bind-inv (p prev) _ s s′ l l′ xs h in
-    let d = bind-inv (chain p next n (next (b .a))) _ (b .mid) s′ (b .at) l′ xs (b .second) in
+    let d = bind-inv (chain p next n (next prev (b .a))) _ (b .mid) s′ (b .at) l′ xs (b .second) in
     let x : (b .a ∷ d .a) ≡ xs = cc (d .second) in
-    let r = chain-gives p next P gives n (next (b .a)) (b .mid) (d .mid) (b .at) (d .at) (d .a) (d .first) in
+    let r = chain-gives p next P gives n (next prev (b .a)) (b .mid) (d .mid) (b .at) (d .at) (d .a) (d .first) in
     subst (λ (ys : List A). (length ys ≡ suc n) × Chained P next prev ys) x (ap suc (r .0), (gives prev s (b .mid) l (b .at) (b .a) (b .first), r .1))
+
+-- what a parser gives: a value that is known, and the text is what is written for it
+pub record Told {A : Type 0} (P : A → Type 0) (w : A → List ℕ) (s s′ : List ℕ) (a : A) : Type 0 where
+  pub known : P a
+  pub text : s ≡ w a ++ s′
+
+abbrev pub Tells : {A : Type 0} → Parser A → (A → Type 0) → (A → List ℕ) → Type 0
+Tells {A} p P w = (s s′ : List ℕ) (l l′ : ℕ) (a : A) → p s l ≡ good a s′ l′ → Told P w s s′ a
+
+-- a number from 1 to hi, after the one before and within a bound
+pub record Rises (hi most before v : ℕ) : Type 0 where
+  pub low : 1 ≤ v
+  pub high : v ≤ hi
+  pub after : before < v
+  pub within : v ≤ most
+
+pub rising-tells : (n : ℕ) (key : List ℕ) (hi most before : ℕ) → Tells (checked n (rising before most) (rowAt key 1 hi)) (Rises hi most before) (line key)
+rising-tells n key hi most before s s′ l l′ v e =
+    let k = checked-gives n (rising before most) (rowAt key 1 hi) _ (row-gives key 1 hi) s s′ l l′ v e in
+    let r = and-eq-true-iff (ltb before v) (leb v most) .0 (k .1) in
+    record {
+      known = record { low = k .0 .0; high = k .0 .1; after = ltb-true before v (r .0); within = leb-true v most (r .1) };
+      text = checked-sound n (rising before most) (rowAt key 1 hi) (line key) (row-sound key 1 hi) s s′ l l′ v e;
+    }
 
 -- ---- a whole text
 

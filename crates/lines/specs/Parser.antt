@@ -72,16 +72,16 @@ ifPresent f (present a) = do
 unfoldable pub checked : ℕ → (ℕ → Bool) → Parser ℕ → Parser ℕ
 checked k ok p s l = elim (p s l) [ good v s′ l′ ↦ elim (ok v) [ true ↦ good v s′ l′ | false ↦ fault k l ] | fault n m ↦ fault n m ]
 
--- n times p, each given the number that the one before leaves
-unfoldable pub chain : {A : Type 0} → (ℕ → Parser A) → (A → ℕ) → ℕ → ℕ → Parser (List A)
+-- n times p, each given a number: what the one before leaves of its own number and its value
+unfoldable pub chain : {A : Type 0} → (ℕ → Parser A) → (ℕ → A → ℕ) → ℕ → ℕ → Parser (List A)
 chain p next zero prev = return []
 chain p next (suc n) prev = do
   a ← p prev
-  rest ← chain p next n (next a)
+  rest ← chain p next n (next prev a)
   return (a ∷ rest)
 
 unfoldable pub times : {A : Type 0} → ℕ → Parser A → Parser (List A)
-times n p = chain (λ _. p) (λ _. 0) n 0
+times n p = chain (λ _. p) (λ _ _. 0) n 0
 
 -- nothing more
 unfoldable pub end : Parser (Unit {0})

@@ -2,7 +2,8 @@
 ghost use mathlib.Core.Path.{_≡_};
 ghost use Prim.Native.Nat.{_≤_};
 ghost use lib.ListN.{length};
-ghost use Rattle.lines.specs.Parser.{readField, optionalField};
+ghost use Rattle.lines.specs.Parser.{readField, optionalField, rowAt, checked, rising};
+ghost use Rattle.lines.specs.Cursor.{LineRead};
 ghost use Rattle.lines.specs.Line.{digits, numberFrom, startsWith, readLine, readValue};
 
 // A line that was read: its value and how many bytes it has; or a line that is not well formed.
@@ -153,4 +154,28 @@ pub fn read_optional(s: &[u8], key: &[u8], lo: u32, hi: u32) -> OptionalField
         return OptionalField::There(read_field(s, key, lo, hi));
     }
     OptionalField::Missing
+}
+
+// The line of a number from 1 to hi, which is after the number before and at most `most`: else fault k, after 2 and 3.
+pub fn read_rising(s: &[u8], key: &[u8], hi: u32, before: u32, most: u32, k: u32) -> Field
+    ensures { λ r. ⌜ LineRead (checked k (rising before most) (rowAt (now (key .entry)) 1 hi)) (now (s .entry)) r ⌝ }
+{
+    match read_field(s, key, 1, hi) {
+        Field::Value {
+            value: v,
+            length: n,
+        } => {
+            if v <= before {
+                return Field::Fault(k);
+            }
+            if most < v {
+                return Field::Fault(k);
+            }
+            Field::Value {
+                value: v,
+                length: n,
+            }
+        }
+        Field::Fault(j) => Field::Fault(j),
+    }
 }

@@ -5,14 +5,15 @@ use mathlib.Core.List.{[], _∷_, map}
 use Prim.Native.Nat.{ℕ, _≤_}
 use lib.ListN.{replicate}
 use Rattle.branch.specs.Search.{limited}
-use Rattle.branch.specs.Label.{treeOf}
+use Rattle.branch.specs.Questions.{askFrom}
 use Rattle.branch.specs.Open.{openNodes}
-use Rattle.model.specs.Model.{Job, Plan, idle, running, clock, within, kept, lastWithin, dueOf, select, sumAt, costOf, KeepsLives, HasPlan}
-use Rattle.model.specs.LowerBound.{leastOf, choiceOf, offers, stopCost, undecidedFees, boundOf}
+use Rattle.model.specs.Model.{Job, Plan, idle, running, clock, within, kept, lastWithin, dueOf, listed, table, holdsOne, rounds, comesOut, holding, outBy, select, sumAt, sum, costOf, KeepsLives, HasPlan}
+use Rattle.model.specs.Decisions.{heldFrom, covered}
+use Rattle.model.specs.LowerBound.{leastOf, choiceOf, offers, blocks, stopCost, undecidedFees, boundOf}
 use Rattle.model.specs.Promise.{no-plan, cut-none, cut, optimum, answerOf, Promise}
 use Rattle.model.specs.Count.{longest, eachReaches, eachKept, countFrom, openCount}
 use Rattle.model.specs.Verdict.{accepts, unkept, wrongCost, firstLate, verdictFrom, judgedOf}
-use Rattle.model.specs.Published.{sum, atStep, objective}
+use Rattle.model.specs.Published.{atStep, objective}
 use Rattle.model.proofs.Promised.{promise}
 
 -- the worked job with the fee of each opening and part 1's left
@@ -21,7 +22,7 @@ jobWith fee left = record {
   horizon = 6;
   idles = [];
   openings = map (λ (step : ℕ). record { step = step; fee = fee }) (2 ∷ 3 ∷ 4 ∷ 5 ∷ []);
-  parts = record { life = 3; left = left; prices = replicate 4 5 } ∷ record { life = 4; left = 4; prices = replicate 4 7 } ∷ [];
+  parts = record { life = 3; left = left; removal = 0; holders = []; prices = replicate 4 5 } ∷ record { life = 4; left = 4; removal = 0; holders = []; prices = replicate 4 7 } ∷ [];
 }
 
 -- stop=2 part=1, stop=4 part=1 part=2
@@ -39,53 +40,53 @@ twice = record {
 }
 
 walk-11 : answerOf (jobWith 10 2) 11 ≡ optimum 11 37 37 printed
-unfolding answerOf limited treeOf boundOf stopCost undecidedFees sumAt offers leastOf choiceOf within clock running idle
+unfolding answerOf limited askFrom boundOf stopCost undecidedFees blocks heldFrom covered holding comesOut rounds holdsOne listed table select sumAt offers leastOf choiceOf within clock running idle
 walk-11 = refl
 
 walk-10 : answerOf (jobWith 10 2) 10 ≡ cut 10 37 37 printed
-unfolding answerOf limited treeOf boundOf stopCost undecidedFees sumAt offers leastOf choiceOf within clock running idle
+unfolding answerOf limited askFrom boundOf stopCost undecidedFees blocks heldFrom covered holding comesOut rounds holdsOne listed table select sumAt offers leastOf choiceOf within clock running idle
 walk-10 = refl
 
 walk-8 : answerOf (jobWith 10 2) 8 ≡ cut 8 37 44 twice
-unfolding answerOf limited treeOf boundOf stopCost undecidedFees sumAt offers leastOf choiceOf within clock running idle
+unfolding answerOf limited askFrom boundOf stopCost undecidedFees blocks heldFrom covered holding comesOut rounds holdsOne listed table select sumAt offers leastOf choiceOf within clock running idle
 walk-8 = refl
 
 walk-6 : answerOf (jobWith 10 2) 6 ≡ cut-none 6 37
-unfolding answerOf limited treeOf boundOf stopCost undecidedFees sumAt offers leastOf choiceOf within clock running idle
+unfolding answerOf limited askFrom boundOf stopCost undecidedFees blocks heldFrom covered holding comesOut rounds holdsOne listed table select sumAt offers leastOf choiceOf within clock running idle
 walk-6 = refl
 
 walk-0 : answerOf (jobWith 10 2) 0 ≡ cut-none 0 37
-unfolding answerOf limited treeOf boundOf stopCost undecidedFees sumAt offers leastOf choiceOf within clock running idle
+unfolding answerOf limited askFrom boundOf stopCost undecidedFees blocks heldFrom covered holding comesOut rounds holdsOne listed table select sumAt offers leastOf choiceOf within clock running idle
 walk-0 = refl
 
 left-1 : answerOf (jobWith 10 1) 11 ≡ no-plan
-unfolding answerOf limited treeOf boundOf stopCost undecidedFees sumAt offers leastOf choiceOf within clock running idle
+unfolding answerOf limited askFrom boundOf stopCost undecidedFees blocks heldFrom covered holding comesOut rounds holdsOne listed table select sumAt offers leastOf choiceOf within clock running idle
 left-1 = refl
 
 fees-0 : answerOf (jobWith 0 2) 11 ≡ optimum 11 17 17 printed
-unfolding answerOf limited treeOf boundOf stopCost undecidedFees sumAt offers leastOf choiceOf within clock running idle
+unfolding answerOf limited askFrom boundOf stopCost undecidedFees blocks heldFrom covered holding comesOut rounds holdsOne listed table select sumAt offers leastOf choiceOf within clock running idle
 fees-0 = refl
 
 -- one part, T = 6, no openings
 abbrev bare : ℕ → Job
-bare life = record { horizon = 6; idles = []; openings = []; parts = record { life = life; left = life; prices = [] } ∷ [] }
+bare life = record { horizon = 6; idles = []; openings = []; parts = record { life = life; left = life; removal = 0; holders = []; prices = [] } ∷ [] }
 
 bare-7 : answerOf (bare 7) 11 ≡ optimum 1 0 0 (record { stops = []; changes = [] ∷ [] })
-unfolding answerOf limited treeOf boundOf stopCost undecidedFees sumAt offers leastOf choiceOf within clock running idle
+unfolding answerOf limited askFrom boundOf stopCost undecidedFees blocks heldFrom covered holding comesOut rounds holdsOne listed table select sumAt offers leastOf choiceOf within clock running idle
 bare-7 = refl
 
 bare-6 : answerOf (bare 6) 11 ≡ no-plan
-unfolding answerOf limited treeOf boundOf stopCost undecidedFees sumAt offers leastOf choiceOf within clock running idle
+unfolding answerOf limited askFrom boundOf stopCost undecidedFees blocks heldFrom covered holding comesOut rounds holdsOne listed table select sumAt offers leastOf choiceOf within clock running idle
 bare-6 = refl
 
 -- the printed plan's true cost
 printed-costs : costOf (jobWith 10 2) printed ≡ 37
-unfolding sumAt
+unfolding outBy comesOut rounds holdsOne listed table sumAt sum
 printed-costs = refl
 
 -- and the published objective at it
 printed-objective : objective (jobWith 10 2) printed ≡ 37
-unfolding objective sum atStep
+unfolding objective sum atStep outBy comesOut rounds holdsOne listed table
 printed-objective = refl
 
 -- what the promise says of it: there is a plan, none costs less than 37, and with `left=1` there is none
@@ -105,7 +106,7 @@ has-not = subst (Promise (jobWith 10 1) 11) left-1 (promise (jobWith 10 1) 11) .
 
 -- E6.4. "For 01's job it is 17.", by walking and without
 longest-17 : longest (jobWith 10 2) ≡ 17
-unfolding openNodes treeOf boundOf stopCost undecidedFees sumAt offers leastOf within clock running idle
+unfolding openNodes askFrom boundOf stopCost undecidedFees blocks heldFrom covered holding comesOut rounds holdsOne listed table select sumAt offers leastOf within clock running idle
 longest-17 = refl
 
 count-17 : openCount (jobWith 10 2) ≡ 17
@@ -123,7 +124,7 @@ count-bare = refl
 
 -- E6.3. "The count stops at 4000000000": 32 openings and a part that needs no change have 2³³ - 1 nodes, 31 of them have 2³² - 1, and 30 have 2³¹ - 1
 abbrev wide : ℕ → Job
-wide n = record { horizon = 40; idles = []; openings = replicate n (record { step = 1; fee = 0 }); parts = record { life = 41; left = 41; prices = [] } ∷ [] }
+wide n = record { horizon = 40; idles = []; openings = replicate n (record { step = 1; fee = 0 }); parts = record { life = 41; left = 41; removal = 0; holders = []; prices = [] } ∷ [] }
 
 count-30 : openCount (wide 30) ≡ 2147483647
 unfolding openCount eachKept kept countFrom eachReaches within clock running idle
@@ -146,7 +147,7 @@ rested = record {
 }
 
 idle-3 : answerOf idleJob 100 ≡ optimum 9 37 37 rested
-unfolding answerOf limited treeOf boundOf stopCost undecidedFees sumAt offers leastOf choiceOf within clock running idle
+unfolding answerOf limited askFrom boundOf stopCost undecidedFees blocks heldFrom covered holding comesOut rounds holdsOne listed table select sumAt offers leastOf choiceOf within clock running idle
 idle-3 = refl
 
 -- ---- the judge
@@ -159,15 +160,15 @@ early = record {
 }
 
 judge-early : (cost : ℕ) → judgedOf (jobWith 10 2) cost early ≡ unkept 1 6
-unfolding judgedOf verdictFrom firstLate sumAt select within dueOf lastWithin clock running idle
+unfolding judgedOf verdictFrom firstLate outBy comesOut rounds holdsOne listed table sumAt sum select within dueOf lastWithin clock running idle
 judge-early cost = refl
 
 judge-printed : judgedOf (jobWith 10 2) 37 printed ≡ accepts 37
-unfolding judgedOf verdictFrom firstLate sumAt select within dueOf lastWithin clock running idle
+unfolding judgedOf verdictFrom firstLate outBy comesOut rounds holdsOne listed table sumAt sum select within dueOf lastWithin clock running idle
 judge-printed = refl
 
 judge-36 : judgedOf (jobWith 10 2) 36 printed ≡ wrongCost 37
-unfolding judgedOf verdictFrom firstLate sumAt select within dueOf lastWithin clock running idle
+unfolding judgedOf verdictFrom firstLate outBy comesOut rounds holdsOne listed table sumAt sum select within dueOf lastWithin clock running idle
 judge-36 = refl
 
 -- with step 3 idle, the plan of doing nothing loses part 1 after step 3
@@ -175,9 +176,9 @@ abbrev still : Plan
 still = record { stops = replicate 4 false; changes = replicate 4 false ∷ replicate 4 false ∷ [] }
 
 judge-idle : (cost : ℕ) → judgedOf idleJob cost still ≡ unkept 1 3
-unfolding judgedOf verdictFrom firstLate sumAt select within dueOf lastWithin clock running idle
+unfolding judgedOf verdictFrom firstLate outBy comesOut rounds holdsOne listed table sumAt sum select within dueOf lastWithin clock running idle
 judge-idle cost = refl
 
 judge-rested : judgedOf idleJob 37 rested ≡ accepts 37
-unfolding judgedOf verdictFrom firstLate sumAt select within dueOf lastWithin clock running idle
+unfolding judgedOf verdictFrom firstLate outBy comesOut rounds holdsOne listed table sumAt sum select within dueOf lastWithin clock running idle
 judge-rested = refl

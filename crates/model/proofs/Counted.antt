@@ -13,15 +13,16 @@ use Rattle.branch.specs.Label.{treeOf}
 use Rattle.branch.specs.Open.{present, openNodes}
 use Rattle.branch.proofs.Limit.{cut as limits}
 use Rattle.branch.proofs.Open.{open-missing, open-both, open-1, walk-most}
-use Rattle.model.specs.Model.{Job, HasPlan}
+use Rattle.model.specs.Model.{Job, NoHolders, HasPlan}
 use Rattle.model.specs.LowerBound.{boundOf}
-use Rattle.model.specs.Promise.{nodesOf, decisions, searched, wholeCount, answeredAt, answerOf}
 use Rattle.model.specs.LastYes.{lastYes}
+use Rattle.model.specs.Promise.{nodesOf, searched, wholeCount, answeredAt, answerOf}
 use Rattle.model.specs.Ordered.{Ordered}
 use Rattle.model.specs.Count.{longest, capped, reaches, eachKept, countFrom, entry, openCount, CountPromise}
-use Rattle.model.proofs.Plans.{rooted, has-plan}
+use Rattle.model.proofs.Roots.{rooted, has-plan}
 use Rattle.model.proofs.Promised.{promise}
 use Rattle.model.proofs.LastYes.{last-no, last-yes}
+use Rattle.model.proofs.NoHolders.{plain-tree}
 use Rattle.model.proofs.Missing.{root-there, yes-there, no-there}
 
 module _ (job : Job) where
@@ -37,19 +38,43 @@ module _ (job : Job) where
   dropped zero p h = open-missing (treeOf (boundOf job) zero p) h
   dropped (suc k) p h = open-missing (treeOf (boundOf job) (suc k) p) h
 
-  module _ (o : Ordered job) where
-    from-is : (k : ℕ) (p : List Bool) → length p + k ≡ decisions job → present (boundOf job p) ≡ true → countFrom (reaches job) k (length p) (lastYes p) ≡ capped (openAt k p)
+  module _ (none-held : NoHolders (job .parts)) where
+    -- the tree is that of W4
+    longest-is : longest job ≡ openAt (length (job .openings)) []
+    longest-is = ap openNodes (plain-tree job none-held)
+
+    -- ---- plans
+
+    pub longest-1 : (longest job ≡ 1) ↔ ((HasPlan job → ⊥) ⊎ (length (job .openings) ≡ 0))
+    longest-1 = (
+      (λ h. to (length (job .openings)) refl (sym longest-is ∙ h)),
+      λ h. longest-is ∙ ⊎-elim (λ g. dropped (length (job .openings)) [] (lost (boundOf job []) refl g)) no-openings h,
+    )
+      where
+        no-openings : length (job .openings) ≡ 0 → openAt (length (job .openings)) [] ≡ 1
+        no-openings h = ap (λ (k : ℕ). openAt k []) h ∙ (unfold treeOf openNodes in refl)
+
+        lost : (x : Bound) → boundOf job [] ≡ x → (HasPlan job → ⊥) → present x ≡ false
+        lost Missing e h = refl
+        lost (Sum f) e h = absurd (h (rooted job f e))
+
+        to : (k : ℕ) → length (job .openings) ≡ k → openAt k [] ≡ 1 → (HasPlan job → ⊥) ⊎ (k ≡ 0)
+        to zero e h = inr refl
+        to (suc k) e h = inl (λ w. has-plan job .0 w (open-1 (boundOf job []) (λ x. treeOf (boundOf job) k (snoc [] x)) .0 (unfold treeOf in h)))
+
+  module _ (o : Ordered job) (none-held : NoHolders (job .parts)) where
+    from-is : (k : ℕ) (p : List Bool) → length p + k ≡ length (job .openings) → present (boundOf job p) ≡ true → countFrom (reaches job) k (length p) (lastYes p) ≡ capped (openAt k p)
     unfolding countFrom treeOf
     from-is zero p h t = unfold openNodes in refl
-    from-is (suc k) p h t = go (reaches job (lastYes p) (suc (length p))) (no-there job o p l t)
+    from-is (suc k) p h t = go (reaches job (lastYes p) (suc (length p))) (no-there job o none-held p l t)
         (subst (λ (j : ℕ). countFrom (reaches job) k j j ≡ capped (openAt k (snoc p true))) (snoc-size p true)
         (subst (λ (m : ℕ). countFrom (reaches job) k (length (snoc p true)) m ≡ capped (openAt k (snoc p true))) (last-yes p ∙ sym (snoc-size p true))
-        (from-is k (snoc p true) (omega (arith, snoc-size p true)) (yes-there job o p l ∙ t))))
+        (from-is k (snoc p true) (omega (arith, snoc-size p true)) (yes-there job o none-held p l ∙ t))))
         (λ q. subst (λ (j : ℕ). countFrom (reaches job) k j (lastYes p) ≡ capped (openAt k (snoc p false))) (snoc-size p false)
         (subst (λ (m : ℕ). countFrom (reaches job) k (length (snoc p false)) m ≡ capped (openAt k (snoc p false))) (last-no p)
         (from-is k (snoc p false) (omega (arith, snoc-size p false)) q)))
       where
-        l : length p < decisions job
+        l : length p < length (job .openings)
         l = omega arith
 
         both : openAt (suc k) p ≡ 1 + openAt k (snoc p false) + openAt k (snoc p true)
@@ -62,17 +87,17 @@ module _ (job : Job) where
         go false q y n = omega (arith, both, y, dropped k (snoc p false) q)
 
     -- what the entry (j, m) means: the number of nodes, up to the cap, from any node on that has a bound, where j openings are decided and m is the last yes
-    pub entry-is : (p : List Bool) → length p ≤ decisions job → present (boundOf job p) ≡ true → entry job (length p) (lastYes p) ≡ capped (openAt (decisions job - length p) p)
-    entry-is p l t = from-is (decisions job - length p) p (omega arith) t
+    pub entry-is : (p : List Bool) → length p ≤ length (job .openings) → present (boundOf job p) ≡ true → entry job (length p) (lastYes p) ≡ capped (openAt (length (job .openings) - length p) p)
+    entry-is p l t = from-is (length (job .openings) - length p) p (omega arith) t
 
     -- so the call's number is the count that is asked for, up to the cap
     pub counted : openCount job ≡ capped (longest job)
     unfolding openCount lastYes
-    counted = go (eachKept job (job .parts)) (root-there job o)
+    counted = go (eachKept job (job .parts)) (root-there job o none-held) ∙ ap capped (sym (longest-is none-held))
       where
-        go : (r : Bool) → present (boundOf job []) ≡ r → cond r (entry job 0 0) 1 ≡ capped (longest job)
-        go true h = let z : decisions job - 0 ≡ decisions job = omega arith in entry-is [] (omega arith) h ∙ ap (λ (k : ℕ). capped (openAt k [])) z
-        go false h = omega (arith, dropped (decisions job) [] h)
+        go : (r : Bool) → present (boundOf job []) ≡ r → cond r (entry job 0 0) 1 ≡ capped (openAt (length (job .openings)) [])
+        go true h = let z : length (job .openings) - 0 ≡ length (job .openings) = omega arith in entry-is [] (omega arith) h ∙ ap (λ (k : ℕ). capped (openAt k [])) z
+        go false h = omega (arith, dropped (length (job .openings)) [] h)
 
   -- ---- walks, whole or cut
 
@@ -96,31 +121,14 @@ module _ (job : Job) where
   pub nodes-most : (limit : ℕ) → nodesOf (answerOf job limit) ≤ min limit (longest job)
   nodes-most limit = omega (arith, answer-most limit, limits (searched job) limit .count, whole-most)
 
-  -- ---- plans
-
-  no-openings : decisions job ≡ 0 → longest job ≡ 1
-  unfolding treeOf openNodes
-  no-openings h = ap (λ (k : ℕ). openAt k []) h
-
-  pub longest-1 : (longest job ≡ 1) ↔ ((HasPlan job → ⊥) ⊎ (decisions job ≡ 0))
-  longest-1 = ((λ h. to (decisions job) refl h), ⊎-elim (λ h. dropped (decisions job) [] (lost (boundOf job []) refl h)) no-openings)
-    where
-      lost : (x : Bound) → boundOf job [] ≡ x → (HasPlan job → ⊥) → present x ≡ false
-      lost Missing e h = refl
-      lost (Sum f) e h = absurd (h (rooted job f e))
-
-      to : (k : ℕ) → decisions job ≡ k → openAt k [] ≡ 1 → (HasPlan job → ⊥) ⊎ (k ≡ 0)
-      to zero e h = inr refl
-      to (suc k) e h = inl (λ w. has-plan job .0 w (open-1 (boundOf job []) (λ x. treeOf (boundOf job) k (snoc [] x)) .0 (unfold treeOf in h)))
-
   -- ---- the promise
 
-  module _ (o : Ordered job) where
+  module _ (o : Ordered job) (none-held : NoHolders (job .parts)) where
     pub count-promise : CountPromise job (openCount job)
     count-promise = record {
-      counts = counted o;
-      most = λ l. omega (arith, counted o, whole-most);
-      nodes = λ limit l. omega (arith, counted o, nodes-most limit);
-      enough = λ limit l m e. omega (arith, counted o, whole-most, promise job limit .says-7 .0 e .1);
-      one = ((λ e. longest-1 .0 (omega (arith, counted o))), λ h. omega (arith, counted o, longest-1 .1 h));
+      counts = counted o none-held;
+      most = λ l. omega (arith, counted o none-held, whole-most);
+      nodes = λ limit l. omega (arith, counted o none-held, nodes-most limit);
+      enough = λ limit l m e. omega (arith, counted o none-held, whole-most, promise job limit .says-7 .0 e .1);
+      one = ((λ e. longest-1 none-held .0 (omega (arith, counted o none-held))), λ h. omega (arith, counted o none-held, longest-1 none-held .1 h));
     }

@@ -8,7 +8,6 @@ use native.Mathlib.Omega.{arith}
 use lib.ListN.{length, getD}
 use lib.IntN.{ℤ, pos, _-ℤ_}
 use Rattle.model.specs.Model.{Part, Job, positions, lastChange, end, within, kept}
-use Rattle.model.specs.Promise.{decisions}
 use Rattle.model.specs.Limits.{longestLife, mostCount}
 use Rattle.model.specs.Count.{inTime, eachReaches, reaches, eachKept, countFrom, openCount, leastAmong, leastLife, leastLeft, countFor}
 use Rattle.model.proofs.Bools.{same-test}
@@ -54,7 +53,7 @@ kept-steps life end prev (s ∷ ss) = (
     from (suc k) e = e
 
 module _ (job : Job) where
-  kept-reaches : (eachKept job (job .parts) ≡ true) ↔ ((k : ℕ) → k ≤ decisions job → reaches job k k ≡ true)
+  kept-reaches : (eachKept job (job .parts) ≡ true) ↔ ((k : ℕ) → k ≤ length (job .openings) → reaches job k k ≡ true)
   unfolding eachKept eachReaches
   kept-reaches = (to (job .parts), from (job .parts))
     where
@@ -64,14 +63,14 @@ module _ (job : Job) where
       at : Part → ℕ → Bool
       at part k = inTime (pos (part .life)) (end job) (lastChange part) (positions job) k k
 
-      to : (parts : List Part) → eachKept job parts ≡ true → (k : ℕ) → k ≤ decisions job → eachReaches job k k parts ≡ true
+      to : (parts : List Part) → eachKept job parts ≡ true → (k : ℕ) → k ≤ length (job .openings) → eachReaches job k k parts ≡ true
       to [] e k h = refl
       to (part ∷ parts) e k h =
           let d = and-eq-true-iff (keeps part) (eachKept job parts) .0 e in
           and-eq-true-iff (at part k) (eachReaches job k k parts) .1
           (kept-steps (pos (part .life)) (end job) (lastChange part) (positions job) .0 (d .0) k (omega (arith, positions-size job)), to parts (d .1) k h)
 
-      from : (parts : List Part) → ((k : ℕ) → k ≤ decisions job → eachReaches job k k parts ≡ true) → eachKept job parts ≡ true
+      from : (parts : List Part) → ((k : ℕ) → k ≤ length (job .openings) → eachReaches job k k parts ≡ true) → eachKept job parts ≡ true
       from [] f = refl
       from (part ∷ parts) f =
           and-eq-true-iff (keeps part) (eachKept job parts) .1 (
@@ -79,7 +78,7 @@ module _ (job : Job) where
             from parts (λ k h. split k h .1),
           )
         where
-          split : (k : ℕ) → k ≤ decisions job → (at part k ≡ true) × (eachReaches job k k parts ≡ true)
+          split : (k : ℕ) → k ≤ length (job .openings) → (at part k ≡ true) × (eachReaches job k k parts ≡ true)
           split k h = and-eq-true-iff (at part k) (eachReaches job k k parts) .0 (f k h)
 
 -- ---- the tests by the least life and the least first life
@@ -164,7 +163,7 @@ module _ (job : Job) where
     pub count-least : openCount job ≡ countFor (pos (leastLife job)) (end job) (pos (leastLeft job) -ℤ pos (leastLife job)) (positions job)
     unfolding openCount countFor
     count-least =
-        let z : decisions job - 0 ≡ length (positions job) = omega (arith, positions-size job) in
+        let z : length (job .openings) - 0 ≡ length (positions job) = omega (arith, positions-size job) in
         (λ i. cond (kept-least i) (countFrom (reaches job) (z i) 0 0) 1)
         ∙ ap (λ (n : ℕ). cond (kept (pos (leastLife job)) (end job) (pos (leastLeft job) -ℤ pos (leastLife job)) (positions job)) n 1)
         (count-same (reaches job) (test (leastLife job) (leastLeft job)) reaches-least (length (positions job)) 0 0)

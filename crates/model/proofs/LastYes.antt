@@ -129,7 +129,7 @@ module _ (life end : ℤ) where
       go true true true f = no-more-refl (plus (o .price) e)
       go true true false f = absurd (false≢true (f refl))
 
-  later-least : (p q : ℤ) (os : List Offer) → AtMostℤ p q → NoMore (leastOf life end q os) (leastOf life end p os)
+  pub later-least : (p q : ℤ) (os : List Offer) → AtMostℤ p q → NoMore (leastOf life end q os) (leastOf life end p os)
   unfolding leastOf
   later-least p q [] h = go (within life p end) (within life q end) (within-later life p q end h)
     where

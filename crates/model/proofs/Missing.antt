@@ -1,4 +1,4 @@
--- Whether a node's bound is missing, without bounds: it is there exactly if each part is kept by changes at all yes and undecided openings of the node. Below a node with a bound, yes
+-- Whether a node's bound is missing, without bounds, where the job has no holders: it is there exactly if each part is kept by changes at all yes and undecided openings of the node. Below a node with a bound, yes
 -- always has one, and no has one exactly if the place behind the next opening comes in time after the last yes. By recursion over the parts.
 use mathlib.Core.Path.{_≡_, refl, sym, ap, _∙_}
 use mathlib.Core.Bool.{Bool, true, false, _&&_, and-eq-true-iff, false≢true}
@@ -6,7 +6,8 @@ use mathlib.Core.List.{List, [], _∷_, _++_}
 use mathlib.Core.Logic.{_↔_}
 use Prim.Native.Nat.{ℕ, suc, _+_, _≤_, _<_}
 use native.Mathlib.Omega.{arith}
-use lib.ListN.{length, drop}
+use lib.ListN.{length, length-append, drop}
+use lib.Seq.{take-all}
 use lib.IntN.{ℤ, pos}
 use Rattle.branch.specs.declared.Bound.{Bound}
 use Rattle.branch.specs.declared.Bound.the-variants.{Missing, Sum}
@@ -15,9 +16,10 @@ use Rattle.branch.specs.Lower.{add, total}
 use Rattle.branch.specs.Open.{present}
 use Rattle.branch.proofs.Bounds.{there-is}
 use Rattle.branch.proofs.Open.{missing-not}
-use Rattle.model.specs.Model.{Part, Job, positions, lastChange, end, within, kept, keptBy, select, sumAt}
-use Rattle.model.specs.LowerBound.{leastOver, choiceOver, partBound, feesAt, stopCost, boundOf}
 use Rattle.model.specs.LastYes.{lastYes}
+use Rattle.model.specs.Model.{Part, Job, NoHolders, positions, lastChange, end, within, kept, keptBy, select, sumAt}
+use Rattle.model.specs.Decisions.{charged, heldAt, heldFrom, heldParts}
+use Rattle.model.specs.LowerBound.{paidAt, leastOver, choiceOver, partBound, stopCost, boundOf}
 use Rattle.model.specs.Ordered.{Lefts, Ordered}
 use Rattle.model.specs.Count.{inTime, eachReaches, reaches, eachKept}
 use Rattle.model.proofs.Bools.{same-test, inside}
@@ -27,6 +29,7 @@ use Rattle.model.proofs.Offers.{KeepsOver, part-most, part-found}
 use Rattle.model.proofs.Sharper.{missing-same}
 use Rattle.model.proofs.Undecided.{openTo, open-size, open-at, open-split, yes-same, parted, no-less, last-is, next-is, without}
 use Rattle.model.proofs.MoreChanges.{select-empty, kept-more}
+use Rattle.model.proofs.NoHolders.{same-places}
 
 -- ---- one part at a node
 
@@ -84,23 +87,30 @@ module _ (job : Job) where
   same-there (Sum a) Missing h = missing-not (Sum a) .1 (h .1 refl)
   same-there (Sum a) (Sum b) h = refl
 
-  module _ (o : Ordered job) where
-    total-there : (p : List Bool) (parts : List Part) → Lefts parts → present (total (partBound job) parts p) ≡ allKept p parts
-    unfolding allKept
-    total-there p [] h = refl
-    total-there p (part ∷ parts) h =
-        there-add (partBound job part p) (total (partBound job) parts p) ∙ (λ i. part-there o part (h .0) (part .prices) p i && total-there p parts (h .1) i)
+  module _ (o : Ordered job) (none : NoHolders (job .parts)) where
+    -- without holders a part has the node's openings for places, and its removal changes no gap
+    held-there : (i : ℕ) (part : Part) → part .left ≤ part .life → (p : List Bool) → length p ≤ length (job .openings) → present (partBound job (heldAt job i part) p) ≡ openKept p part
+    held-there i part h p l =
+        ap (λ (q : List Bool). present (leastOver job (charged job i part) (charged job i part .prices) q)) (same-places job none i part p ∙ take-all (length (job .openings)) p l)
+        ∙ part-there o (charged job i part) h (charged job i part .prices) p
 
-    node-there : (p : List Bool) → present (boundOf job p) ≡ allKept p (job .parts)
+    total-there : (i : ℕ) (p : List Bool) (l : length p ≤ length (job .openings)) (parts : List Part) → Lefts parts → present (total (partBound job) (heldFrom job i parts) p) ≡ allKept p parts
+    unfolding allKept heldFrom
+    total-there i p l [] h = refl
+    total-there i p l (part ∷ parts) h =
+        there-add (partBound job (heldAt job i part) p) (total (partBound job) (heldFrom job (suc i) parts) p)
+        ∙ (λ k. held-there i part (h .0) p l k && total-there (suc i) p l parts (h .1) k)
+
+    node-there : (p : List Bool) → length p ≤ length (job .openings) → present (boundOf job p) ≡ allKept p (job .parts)
     unfolding stopCost
-    node-there p =
+    node-there p l =
         same-there (boundOf job p) (stopCost job p) (missing-same job p)
-        ∙ there-add (feesAt job p) (total (partBound job) (job .parts) p) ∙ total-there p (job .parts) (o .lefts)
+        ∙ there-add (Sum (paidAt job p)) (total (partBound job) (heldParts job) p) ∙ total-there 0 p l (job .parts) (o .lefts)
 
     -- the root's bound is there exactly if changes at all openings keep each part
     pub root-there : present (boundOf job []) ≡ eachKept job (job .parts)
     unfolding allKept eachKept
-    root-there = node-there [] ∙ go (job .parts)
+    root-there = node-there [] (omega arith) ∙ go (job .parts)
       where
         go : (parts : List Part) → allKept [] parts ≡ eachKept job parts
         go [] = refl
@@ -111,10 +121,13 @@ module _ (job : Job) where
       inner : length p < length (positions job)
       inner = omega (arith, positions-size job)
 
+      within-size : (x : Bool) → length (snoc p x) ≤ length (job .openings)
+      within-size x = simp length-append (omega arith)
+
       -- below a node with a bound, yes has one
       pub yes-there : present (boundOf job (snoc p true)) ≡ present (boundOf job p)
       unfolding allKept
-      yes-there = node-there (snoc p true) ∙ go (job .parts) ∙ sym (node-there p)
+      yes-there = node-there (snoc p true) (within-size true) ∙ go (job .parts) ∙ sym (node-there p (omega arith))
         where
           go : (parts : List Part) → allKept (snoc p true) parts ≡ allKept p parts
           go [] = refl
@@ -136,7 +149,7 @@ module _ (job : Job) where
       -- and no has one exactly if the place behind the next opening comes in time: this depends on the last yes and on how many openings are decided, and on nothing else
       pub no-there : present (boundOf job p) ≡ true → present (boundOf job (snoc p false)) ≡ reaches job (lastYes p) (suc (length p))
       unfolding allKept eachReaches
-      no-there t = node-there (snoc p false) ∙ go (job .parts) (sym (node-there p) ∙ t)
+      no-there t = node-there (snoc p false) (within-size false) ∙ go (job .parts) (sym (node-there p (omega arith)) ∙ t)
         where
           go : (parts : List Part) → allKept p parts ≡ true → allKept (snoc p false) parts ≡ eachReaches job (lastYes p) (suc (length p)) parts
           go [] k = refl

@@ -6,15 +6,18 @@ use mathlib.Core.Logic.{inl, inr, ⊎-elim, _↔_}
 use Prim.Native.Nat.{ℕ, zero, suc, _+_, _*_, _≤_, _<_}
 use native.Mathlib.Omega.{arith}
 use lib.Dec.{eqb, ltb, leb}
-use lib.ListN.{length, length-map, getD, drop}
+use lib.ListN.{length, length-map, List·getD-map, getD, drop}
 use borrow.Author.Tests.{eqb-true, eq-eqb, ne-eqb, ltb-true, lt-ltb, leb-true, le-leb}
-use Rattle.model.specs.Model.{Opening, Part, Job, Plan, running, feeOf, pricesOf, costOf, select, sumAt, KeepsLives}
+use Rattle.model.specs.Model.{Opening, Part, Job, Plan, running, feeOf, pricesOf, removalOf, outAt, sum, removalsOf, costOf, table, select, sumAt, KeepsLives}
 use Rattle.model.specs.Windows.{Rising, stepsOf, In, Changed, Windows, Served, RunningWindows}
 use Rattle.model.specs.Verdict.{noPart, partAt, changesAt, KeptAt}
-use Rattle.model.specs.Published.{sum, atStep, binary, occasionCost, purchaseCost, z, x, objective, Variables, AtStops, Published, runningSum, PublishedRunning, Proper, Tied}
+use Rattle.model.specs.Published.{atStep, binary, occasionCost, purchaseCost, dismountingCost, z, x, y, objective, Variables, AtStops, Published, runningSum, PublishedRunning, Proper, Tied}
 use Rattle.model.proofs.Bools.{after-one, inside}
 use Rattle.model.proofs.Positions.{rising-above, rising-within}
 use Rattle.model.proofs.Sums.{sum-term, term-sum, sum-none, sum-same, sum-both, sum-shift, sum-swap, sum-one}
+use Rattle.model.proofs.Totals.{sum-at}
+use Rattle.model.proofs.Lists.{table-length, table-at}
+use Rattle.model.proofs.Outs.{outs-length}
 use Rattle.model.proofs.Windows.{part-windows, no-idles}
 use Rattle.model.proofs.Verdicts.{lives-kept, lives-shaped, kept-lives}
 
@@ -204,10 +207,22 @@ module _ (job : Job) (proper : Proper job) (plan : Plan) where
 
   cost-is : costOf job plan ≡ objective job plan
   unfolding objective
-  cost-is = omega (arith, sum-both T 1 (λ t. sum 0 parts (λ i. purchase i t)) occasion, purchases, occasions)
+  cost-is = omega (arith, sum-both T 1 (λ t. sum 0 parts (λ i. purchase i t + dismounting i t)) occasion, changes-sum, purchases, dismountings, occasions)
     where
+      openings : ℕ
+      openings = length (job .openings)
+
       purchase : ℕ → ℕ → ℕ
       purchase i t = purchaseCost job i t * x job plan i t
+
+      dismounting : ℕ → ℕ → ℕ
+      dismounting i t = dismountingCost job i t * y job plan i t
+
+      out : ℕ → List Bool
+      out k = outAt job (plan .changes) k
+
+      removed : ℕ → ℕ → ℕ
+      removed i k = cond (getD (out k) i false) (partAt job i .removal) 0
 
       occasion : ℕ → ℕ
       occasion t = occasionCost job t * z job plan t
@@ -215,9 +230,33 @@ module _ (job : Job) (proper : Proper job) (plan : Plan) where
       occasions : sum 1 T occasion ≡ sumAt (map feeOf (job .openings)) (plan .stops)
       occasions = sum-steps T steps 0 (map feeOf (job .openings)) (plan .stops) (proper .openings) (length-map (job .openings) feeOf ∙ sym opening-count)
 
-      purchases : sum 1 T (λ t. sum 0 parts (λ i. purchase i t)) ≡ pricesOf (job .parts) (plan .changes)
-      purchases = sum-swap parts 0 T 1 purchase
-          ∙ sum-same parts 0 (λ i. sum 1 T (purchase i)) (λ i. sumAt (partAt job i .prices) (changesAt plan i))
+      changes-sum : sum 1 T (λ t. sum 0 parts (λ i. purchase i t + dismounting i t)) ≡ sum 0 parts (λ i. sum 1 T (purchase i)) + sum 0 parts (λ i. sum 1 T (dismounting i))
+      changes-sum = sum-swap parts 0 T 1 (λ i t. purchase i t + dismounting i t)
+          ∙ sum-same parts 0 (λ i. sum 1 T (λ t. purchase i t + dismounting i t)) (λ i. sum 1 T (purchase i) + sum 1 T (dismounting i)) (λ i _ _. sum-both T 1 (purchase i) (dismounting i))
+          ∙ sum-both parts 0 (λ i. sum 1 T (purchase i)) (λ i. sum 1 T (dismounting i))
+
+      -- one part's removals, over the steps and over the openings
+      part-removed : (i : ℕ) → sum 1 T (dismounting i) ≡ sum 0 openings (removed i)
+      part-removed i =
+          sum-steps T steps 0 (table (λ _. partAt job i .removal) openings) (table (λ k. getD (out k) i false) openings) (proper .openings) (table-length (λ _. partAt job i .removal) openings ∙ sym opening-count)
+          ∙ sum-at (table (λ _. partAt job i .removal) openings) (table (λ k. getD (out k) i false) openings) openings (table-length (λ k. getD (out k) i false) openings)
+          ∙ sum-same openings 0 (λ k. cond (getD (table (λ k. getD (out k) i false) openings) k false) (getD (table (λ _. partAt job i .removal) openings) k 0) 0) (removed i)
+          (λ k _ l. ap₂ (λ (b : Bool) (n : ℕ). cond b n 0) (table-at (λ k. getD (out k) i false) openings k false (omega arith)) (table-at (λ _. partAt job i .removal) openings k 0 (omega arith)))
+
+      dismountings : sum 0 parts (λ i. sum 1 T (dismounting i)) ≡ removalsOf job (plan .changes)
+      dismountings =
+          sum-same parts 0 (λ i. sum 1 T (dismounting i)) (λ i. sum 0 openings (removed i)) (λ i _ _. part-removed i)
+          ∙ sym (sum-swap parts 0 openings 0 removed)
+          ∙ sum-same openings 0 (λ k. sum 0 parts (λ i. removed i k)) (λ k. sumAt (map removalOf (job .parts)) (out k)) (λ k _ _. sym (at-opening k))
+        where
+          at-opening : (k : ℕ) → sumAt (map removalOf (job .parts)) (out k) ≡ sum 0 parts (λ i. removed i k)
+          at-opening k =
+              sum-at (map removalOf (job .parts)) (out k) parts (outs-length job (plan .changes) k)
+              ∙ sum-same parts 0 (λ i. cond (getD (out k) i false) (getD (map removalOf (job .parts)) i 0) 0) (λ i. removed i k)
+              (λ i _ _. ap (λ (n : ℕ). cond (getD (out k) i false) n 0) (List·getD-map removalOf (job .parts) i noPart))
+
+      purchases : sum 0 parts (λ i. sum 1 T (purchase i)) ≡ pricesOf (job .parts) (plan .changes)
+      purchases = sum-same parts 0 (λ i. sum 1 T (purchase i)) (λ i. sumAt (partAt job i .prices) (changesAt plan i))
           (λ i _ h. sum-steps T steps 0 (partAt job i .prices) (changesAt plan i) (proper .openings) (proper .prices i (omega arith) ∙ sym opening-count))
           ∙ sym (prices-sum (job .parts) (plan .changes))
 

@@ -10,49 +10,51 @@ use borrow.Author.Tests.{ltb-false}
 use lib.ListN.{length}
 use Rattle.branch.specs.declared.Bound.{Bound}
 use Rattle.branch.specs.declared.Bound.the-variants.{Missing, Sum}
-use Rattle.branch.specs.Search.{NoMore, Tree, Incumbent, none, plan, Limited, whole, atMost}
-use Rattle.branch.specs.Label.{treeOf, LowerBound}
+use Rattle.branch.specs.Search.{NoMore, Bounded, Tree, Incumbent, none, plan, Limited, whole, atMost, Sharper}
+use Rattle.branch.specs.Questions.{asked}
 use Rattle.branch.specs.Lower.{total, largest}
 use Rattle.branch.proofs.Bounds.{no-sum}
-use Rattle.branch.proofs.Lower.{Rises, split, add-rises, total-rises, lower-bound-of, add-more, largest-there}
-use Rattle.branch.proofs.Labels.{fixed-fewer, fixed-end}
+use Rattle.branch.proofs.Lower.{Rises, split, add-mono, total-mono, add-more, largest-there}
+use Rattle.branch.proofs.Asked.{asked-bounded, asked-sharper}
+use Rattle.branch.proofs.Fewer.{fewer as sharper-fewer, same-end as sharper-end}
 use Rattle.branch.proofs.Limit.{cut as limits}
 use Rattle.model.specs.Model.{Job, Plan, feeOf}
-use Rattle.model.specs.LowerBound.{partBound, feesAt, stopCost, undecidedFees, partFee, boundOf, planAt}
-use Rattle.model.specs.Promise.{PlannerAnswer, no-plan, cut-none, cut, optimum, resultOf, decisions, searched, wholeCount, answered, answeredAt, answerOf}
-use Rattle.model.proofs.Bools.{open-before}
-use Rattle.model.proofs.Fees.{sum-rises}
-use Rattle.model.proofs.Bounded.{part-mono, least-there, bounds}
+use Rattle.model.specs.Decisions.{heldParts}
+use Rattle.model.specs.LowerBound.{inner, stopsAt, placesAt, partBound, paidAt, stopCost, undecidedFees, partFee, boundOf, planAt}
+use Rattle.model.specs.Promise.{PlannerAnswer, no-plan, cut-none, cut, optimum, resultOf, questions, searched, wholeCount, answered, answeredAt, answerOf}
+use Rattle.model.proofs.Blocks.{grows, places-grow}
+use Rattle.model.proofs.Bounded.{part-mono, least-there, paid-rises, full-bound, tree-bounds}
 
 module _ (job : Job) where
   -- ---- the bound before
 
   stop-rises : Rises (stopCost job)
   unfolding stopCost
-  stop-rises =
-      add-rises (feesAt job) (total (partBound job) (job .parts))
-      (λ p t. sum-rises (map feeOf (job .openings)) p t)
-      (total-rises (partBound job) (job .parts) (λ part p t. part-mono job part (part .prices) p (p ++ t) (open-before p t)))
-
-  old-bounds : LowerBound (decisions job) (stopCost job) (stopCost job)
-  old-bounds = lower-bound-of (stopCost job) (decisions job) stop-rises
+  stop-rises p t =
+      add-mono (Sum (paidAt job p)) (Sum (paidAt job (p ++ t))) (total (partBound job) (heldParts job) p) (total (partBound job) (heldParts job) (p ++ t))
+      (paid-rises job p t)
+      (total-mono (partBound job) (heldParts job) p (p ++ t)
+      (λ held. part-mono job (held .part) (held .part .prices) (placesAt job held p) (placesAt job held (p ++ t)) (places-grow held (grows (inner job) (length (job .openings)) p t))))
 
   -- the tree of the walk before
   abbrev pub oldTree : Tree
-  oldTree = treeOf (stopCost job) (decisions job) []
+  oldTree = asked (stopCost job) (questions job)
+
+  old-bounds : Bounded oldTree
+  old-bounds = asked-bounded (stopCost job) (questions job) (λ p s _. stop-rises p s)
 
   -- ---- the two
 
   pub never-less : (p : List Bool) → NoMore (stopCost job p) (boundOf job p)
   unfolding boundOf
-  never-less p = add-more (stopCost job p) (largest (partFee job) (job .parts) p)
+  never-less p = add-more (stopCost job p) (largest (partFee job) (heldParts job) p)
 
   pub there-too : (p : List Bool) (n : ℕ) → stopCost job p ≡ Sum n → (m : ℕ) × (boundOf job p ≡ Sum m) × (n ≤ m)
   unfolding boundOf stopCost
   there-too p n e =
-      let d = split (feesAt job p) (total (partBound job) (job .parts) p) n e in
+      let d = split (Sum (paidAt job p)) (total (partBound job) (heldParts job) p) n e in
       let l = largest-there (partBound job) (partFee job) p
-      (λ part m f. least-there job part (part .prices) (undecidedFees (map feeOf (job .openings)) p) p m f) (job .parts) (d .b) (d .right) in
+      (λ held m f. least-there job (held .part) (held .part .prices) (undecidedFees (map feeOf (job .openings)) (stopsAt job p)) (placesAt job held p) m f) (heldParts job) (d .b) (d .right) in
       (n + l .0, rw (e, l .1), omega arith)
 
   pub missing-same : (p : List Bool) → (boundOf job p ≡ Missing) ↔ (stopCost job p ≡ Missing)
@@ -65,12 +67,15 @@ module _ (job : Job) where
       by : stopCost job p ≡ Missing → boundOf job p ≡ Missing
       by e = unfold boundOf in rw e
 
+  sharper : Sharper oldTree (searched job)
+  sharper = asked-sharper (stopCost job) (boundOf job) never-less (questions job) (λ s full. sym (full-bound job s full))
+
   -- "On every job the new walk has no more points than the old one"
   pub fewer : wholeCount job ≤ length (whole oldTree .nodes)
-  fewer = fixed-fewer (decisions job) (stopCost job) (boundOf job) (stopCost job) old-bounds (bounds job) never-less
+  fewer = sharper-fewer oldTree (searched job) [] none sharper old-bounds (tree-bounds job)
 
   same-end : whole (searched job) .incumbent ≡ whole oldTree .incumbent
-  same-end = fixed-end (decisions job) (stopCost job) (boundOf job) (stopCost job) old-bounds (bounds job) never-less
+  same-end = sharper-end oldTree (searched job) [] none sharper old-bounds (tree-bounds job)
 
   -- ---- the answers
 

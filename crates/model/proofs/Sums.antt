@@ -6,7 +6,7 @@ use native.Mathlib.Omega.{arith}
 use native.Mathlib.Decide.{decLe}
 use lib.Dec.{eqb}
 use borrow.Author.Tests.{eq-eqb, ne-eqb}
-use Rattle.model.specs.Published.{sum}
+use Rattle.model.specs.Model.{sum}
 
 -- a sum of at least 1 has a term of at least 1, and the converse
 pub sum-term : (n from : ℕ) (f : ℕ → ℕ) → 1 ≤ sum from n f → (t : ℕ) × (from ≤ t) × (t < from + n) × (1 ≤ f t)
@@ -37,6 +37,12 @@ pub sum-same : (n from : ℕ) (f g : ℕ → ℕ) → ((t : ℕ) → from ≤ t 
 unfolding sum
 sum-same zero from f g h = refl
 sum-same (suc n) from f g h = ap₂ (λ (a b : ℕ). a + b) (h from (omega arith) (omega arith)) (sum-same n (suc from) f g (λ t a b. h t (omega arith) (omega arith)))
+
+-- of terms that are no larger
+pub sum-mono : (n from : ℕ) (f g : ℕ → ℕ) → ((t : ℕ) → from ≤ t → t < from + n → f t ≤ g t) → sum from n f ≤ sum from n g
+unfolding sum
+sum-mono zero from f g h = omega arith
+sum-mono (suc n) from f g h = omega (arith, h from (omega arith) (omega arith), sum-mono n (suc from) f g (λ t a b. h t (omega arith) (omega arith)))
 
 pub sum-both : (n from : ℕ) (f g : ℕ → ℕ) → sum from n (λ t. f t + g t) ≡ sum from n f + sum from n g
 unfolding sum

@@ -11,7 +11,7 @@ use Rattle.branch.specs.Open.{openNodes}
 use Rattle.model.specs.Model.{Part, Job, positions, lastChange, end, within, kept, HasPlan}
 use Rattle.model.specs.Limits.{longestLife, mostWalk, mostCount}
 use Rattle.model.specs.LastYes.{markIn}
-use Rattle.model.specs.Promise.{nodesOf, resultOf, decisions, searched, wholeCount, answerOf}
+use Rattle.model.specs.Promise.{nodesOf, resultOf, searched, wholeCount, answerOf}
 
 -- E6.1. "the number of points of a walk that drops a point only if its estimate is missing"
 abbrev pub longest : Job → ℕ
@@ -49,7 +49,7 @@ countFrom test (suc k) j m = capped (1 + cond (test m (suc j)) (countFrom test k
 
 -- the entry (j, m) of a table over j and m up to the number of openings
 abbrev pub entry : Job → ℕ → ℕ → ℕ
-entry job j m = countFrom (reaches job) (decisions job - j) j m
+entry job j m = countFrom (reaches job) (length (job .openings) - j) j m
 
 -- E6.1. "A new call gives the number of points [..], worked out without walking."
 unfoldable pub openCount : Job → ℕ

@@ -29,6 +29,10 @@ mostParts = 16
 abbrev pub mostWalk : ℕ
 mostWalk = 4000000000
 
+-- E7.10. "The plan's `cost` may now be up to 4000000000."
+abbrev pub mostCost : ℕ
+mostCost = 4000000000
+
 -- E6.3. "The count stops at 4000000000"
 abbrev pub mostCount : ℕ
 mostCount = 4000000000

@@ -1,4 +1,4 @@
--- The published model, over the steps 1 to T: the variables, the objective (1a) and the constraint (1c) of source 000, the constraints (2) and (3) of source 001; and what ties a job's plans to them.
+-- The published model, over the steps 1 to T: the variables, the objective (1) and the constraints (2) and (3) of source 001, the constraint (1c) of source 000; and what ties a job's plans to them.
 -- "Stops may be made only at named steps, the openings": at any other step the variables are 0.
 use mathlib.Core.Path.{_≡_}
 use mathlib.Core.Bool.{Bool, false, cond, _&&_}
@@ -7,16 +7,11 @@ use mathlib.Core.Logic.{_↔_}
 use Prim.Native.Nat.{ℕ, zero, suc, _+_, _*_, _≤_, _<_}
 use lib.Dec.{eqb, ltb, leb}
 use lib.ListN.{length, getD, drop}
-use Rattle.model.specs.Model.{Job, Plan, running, feeOf, costOf, KeepsLives}
+use Rattle.model.specs.Model.{Job, Plan, running, table, feeOf, outAt, sum, costOf, KeepsLives}
 use Rattle.model.specs.Windows.{Rising, stepsOf}
 use Rattle.model.specs.Verdict.{partAt, changesAt}
 
 -- ---- sums and variables
-
--- the sum of f over `count` numbers, `from` the first
-unfoldable pub sum : ℕ → ℕ → (ℕ → ℕ) → ℕ
-sum from zero f = 0
-sum from (suc count) f = f from + sum (suc from) count f
 
 -- what stands at step t, where the list has something for each of the steps ss; elsewhere d
 unfoldable pub atStep : {A : Type 0} → A → List ℕ → List A → ℕ → A
@@ -35,6 +30,10 @@ occasionCost job t = atStep 0 (stepsOf (job .openings)) (map feeOf (job .opening
 abbrev pub purchaseCost : Job → ℕ → ℕ → ℕ
 purchaseCost job i t = atStep 0 (stepsOf (job .openings)) (partAt job i .prices) t
 
+-- a_it of 001, the cost of dismounting component i: the removal of part number i + 1, the same at each opening
+abbrev pub dismountingCost : Job → ℕ → ℕ → ℕ
+dismountingCost job i t = atStep 0 (stepsOf (job .openings)) (table (λ _. partAt job i .removal) (length (job .openings))) t
+
 -- z_t: 1 if a stop is made at step t
 abbrev pub z : Job → Plan → ℕ → ℕ
 z job plan t = binary (atStep false (stepsOf (job .openings)) (plan .stops) t)
@@ -43,11 +42,15 @@ z job plan t = binary (atStep false (stepsOf (job .openings)) (plan .stops) t)
 abbrev pub x : Job → Plan → ℕ → ℕ → ℕ
 x job plan i t = binary (atStep false (stepsOf (job .openings)) (changesAt plan i) t)
 
+-- y_it of 001: 1 if part number i + 1 comes out at step t, by itself or with another; of the sets that (4) and (5) allow this is the least (`Dismounting`)
+abbrev pub y : Job → Plan → ℕ → ℕ → ℕ
+y job plan i t = binary (atStep false (stepsOf (job .openings)) (table (λ k. getD (outAt job (plan .changes) k) i false) (length (job .openings))) t)
+
 -- ---- the objective
 
--- (1a): the sum over the steps t of (the sum over the parts i of c_it x_it) + d_t z_t
+-- (1) of 001: the sum over the steps t of (the sum over the parts i of c_it x_it + a_it y_it) + d_t z_t; where no part has a removal it is (1a) of 000
 unfoldable pub objective : Job → Plan → ℕ
-objective job plan = sum 1 (job .horizon) (λ t. sum 0 (length (job .parts)) (λ i. purchaseCost job i t * x job plan i t) + occasionCost job t * z job plan t)
+objective job plan = sum 1 (job .horizon) (λ t. sum 0 (length (job .parts)) (λ i. purchaseCost job i t * x job plan i t + dismountingCost job i t * y job plan i t) + occasionCost job t * z job plan t)
 
 -- ---- the constraints
 

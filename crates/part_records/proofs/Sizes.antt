@@ -8,4 +8,4 @@ use Rattle.jobs.proofs.Part as part
 use Rattle.jobs.proofs.Part.Laws as part-laws
 
 pub priced : (r : Part) → Is part.the-row r (LL.vals part.the-type part-laws.the-laws r) → length (r .prices) ≡ 64
-priced r is = sym (length-map (r .prices) _) ∙ is .1 .1 .1 .1 .0 .1 .0 .1
+priced r is = sym (length-map (r .prices) _) ∙ is .1 .1 .1 .1 .1 .1 .0 .1 .0 .1

@@ -8,9 +8,8 @@ use lib.ListN.{length}
 use Rattle.lines.specs.Text.{lineOf, texts}
 use Rattle.lines.specs.Parser.{good, accepted, return, row, checked, rising}
 use Rattle.lines.proofs.Outcomes.{one-value}
-use Rattle.lines.proofs.Sound.{Sound, bind-inv, row-sound, checked-sound, chain-sound, row-gives, chain-gives, accepted-is}
+use Rattle.lines.proofs.Sound.{Told, Tells, Sound, bind-inv, row-sound, checked-sound, chain-sound, row-gives, chain-gives, accepted-is}
 use Rattle.model.specs.Model.{Job}
-use Rattle.job_text.proofs.Accepted.{Told, Tells}
 use Rattle.plan_text.specs.Grammar.{Stated, mayStop, part, parts, visit, visits, planOf, planLines, maxBytes, nothing, readPlan}
 use Rattle.plan_text.specs.Rendering.{visitText, planText}
 use Rattle.plan_text.proofs.Valid.{ValidPart, ValidVisit, no-visits, Valid, stepOf, part-gives, stop-gives}
@@ -31,7 +30,7 @@ visit-tells job before s s′ l l′ v e =
     let y : f .mid ≡ s′ = cc (f .second) in
     let k₁ = stop-gives job before s (b .mid) l (b .at) (b .a) (b .first) in
     let k₂ = row-gives _ 0 16 (b .mid) (d .mid) (b .at) (d .at) (d .a) (d .first) in
-    let k₃ = chain-gives (part m) (λ (k : ℕ). k) (ValidPart m) (part-gives m) (d .a) 0 (d .mid) (f .mid) (d .at) (f .at) (f .a) (f .first) in
+    let k₃ = chain-gives (part m) (λ _ k. k) (ValidPart m) (part-gives m) (d .a) 0 (d .mid) (f .mid) (d .at) (f .at) (f .a) (f .first) in
     let count : d .a ≡ length (f .a) = sym (k₃ .0) in
     subst (Told (ValidVisit job before) visitText s s′) x (record {
       known = record { later = k₁ .1; high = k₁ .0; opening = k₁ .2; few = subst (λ (n : ℕ). n ≤ 16) count (k₂ .1); parts = k₃ .1 };
@@ -41,7 +40,7 @@ visit-tells job before s s′ l l′ v e =
           (row-sound _ 0 16 (b .mid) (d .mid) (b .at) (d .at) (d .a) (d .first)
           ∙ ap (λ (n : ℕ). lineOf "count=" n ++ d .mid) count
           ∙ ap (λ (r : List ℕ). lineOf "count=" (length (f .a)) ++ r)
-          (chain-sound (part m) (λ (k : ℕ). k) (lineOf "part=") (part-sound m) (d .a) 0 (d .mid) (f .mid) (d .at) (f .at) (f .a) (f .first)
+          (chain-sound (part m) (λ _ k. k) (lineOf "part=") (part-sound m) (d .a) 0 (d .mid) (f .mid) (d .at) (f .at) (f .a) (f .first)
           ∙ ap (λ (r : List ℕ). texts (lineOf "part=") (f .a) ++ r) y)));
     })
 
@@ -53,24 +52,24 @@ pub record Lines (job : Job) (s s′ : List ℕ) (stated : Stated) : Type 0 wher
 pub lines-tell : (job : Job) (s s′ : List ℕ) (l l′ : ℕ) (stated : Stated) → planLines job s l ≡ good stated s′ l′ → Lines job s s′ stated
 unfolding planLines visits return planText
 lines-tell job s s′ l l′ stated e =
-    let b = bind-inv (row "cost=" 0 2000000000) _ s s′ l l′ stated e in
+    let b = bind-inv (row "cost=" 0 4000000000) _ s s′ l l′ stated e in
     let d = bind-inv (row "stops=" 0 64) _ (b .mid) s′ (b .at) l′ stated (b .second) in
     let f = bind-inv (visits job (d .a)) _ (d .mid) s′ (d .at) l′ stated (d .second) in
     let x : record { cost = b .a; plan = planOf job (f .a) } ≡ stated = cc (f .second) in
     let y : f .mid ≡ s′ = cc (f .second) in
-    let k₁ = row-gives _ 0 2000000000 s (b .mid) l (b .at) (b .a) (b .first) in
+    let k₁ = row-gives _ 0 4000000000 s (b .mid) l (b .at) (b .a) (b .first) in
     let k₂ = row-gives _ 0 64 (b .mid) (d .mid) (b .at) (d .at) (d .a) (d .first) in
-    let k₃ = chain-gives (visit job) stepOf (ValidVisit job) (λ before s s′ l l′ v e. visit-tells job before s s′ l l′ v e .known) (d .a) 0 (d .mid) (f .mid) (d .at) (f .at) (f .a) (f .first) in
+    let k₃ = chain-gives (visit job) (λ _. stepOf) (ValidVisit job) (λ before s s′ l l′ v e. visit-tells job before s s′ l l′ v e .known) (d .a) 0 (d .mid) (f .mid) (d .at) (f .at) (f .a) (f .first) in
     let count : d .a ≡ length (f .a) = sym (k₃ .0) in
     subst (Lines job s s′) x (record {
       valid = record { cost = k₁ .1; vs = f .a; visits = record { few = subst (λ (n : ℕ). n ≤ 64) count (k₂ .1); each = k₃ .1 }; makes = refl };
       text = simp append-assoc
-          (row-sound _ 0 2000000000 s (b .mid) l (b .at) (b .a) (b .first)
+          (row-sound _ 0 4000000000 s (b .mid) l (b .at) (b .a) (b .first)
           ∙ ap (λ (r : List ℕ). lineOf "cost=" (b .a) ++ r)
           (row-sound _ 0 64 (b .mid) (d .mid) (b .at) (d .at) (d .a) (d .first)
           ∙ ap (λ (n : ℕ). lineOf "stops=" n ++ d .mid) count
           ∙ ap (λ (r : List ℕ). lineOf "stops=" (length (f .a)) ++ r)
-          (chain-sound (visit job) stepOf visitText (λ before s s′ l l′ v e. visit-tells job before s s′ l l′ v e .text) (d .a) 0 (d .mid) (f .mid) (d .at) (f .at) (f .a) (f .first)
+          (chain-sound (visit job) (λ _. stepOf) visitText (λ before s s′ l l′ v e. visit-tells job before s s′ l l′ v e .text) (d .a) 0 (d .mid) (f .mid) (d .at) (f .at) (f .a) (f .first)
           ∙ ap (λ (r : List ℕ). texts visitText (f .a) ++ r) y)));
     })
 

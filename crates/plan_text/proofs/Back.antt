@@ -17,8 +17,9 @@ use Rattle.model.specs.Model.{Opening, Job, Plan}
 use Rattle.model.specs.Verdict.{Shaped}
 use Rattle.jobs.specs.Valid.{All, ValidJob}
 use Rattle.plan_text.specs.Grammar.{Visit, any, among, isOpening, visited, changed, tabulate, openingsAt, planOf}
-use Rattle.plan_text.specs.Rendering.{chosen, changesAt, partsAt, stepAt, visitAt, visitsOf}
-use Rattle.plan_text.proofs.Chosen.{chosen-front}
+use Rattle.lines.specs.Chosen.{chosen}
+use Rattle.plan_text.specs.Rendering.{changesAt, partsAt, stepAt, visitAt, visitsOf}
+use Rattle.lines.proofs.Chosen.{chosen-front}
 use Rattle.plan_text.proofs.Lists.{any-append, any-index, table-at, table-is}
 use Rattle.plan_text.proofs.Marks.{openings-table}
 use Rattle.plan_text.proofs.Valid.{ValidPart, ValidParts, ValidVisit, ValidVisits, stepOf}
@@ -39,13 +40,13 @@ module _ {A : Type 0} (key : A → ℕ) where
   abbrev has : List A → ℕ → Bool
   has xs k = any (λ (x : A). eqb (key x) k) xs
 
-  none-before : (f : ℕ → A) (n before k : ℕ) (xs : List A) → k ≤ before → Chained (Found f n) key before xs → has xs k ≡ false
+  none-before : (f : ℕ → A) (n before k : ℕ) (xs : List A) → k ≤ before → Chained (Found f n) (λ _. key) before xs → has xs k ≡ false
   unfolding any
   none-before f n before k [] h c = refl
   none-before f n before k (x ∷ xs) h c = rw (any, ne-eqb (key x) k (λ e. omega (arith, c .0 .later))) (none-before f n (key x) k xs (omega (arith, c .0 .later)) (c .1))
 
   -- f 0 is not among those behind it
-  shifted : (f : ℕ → A) (n before : ℕ) (xs : List A) → key (f 0) ≤ before → Chained (Found f (suc n)) key before xs → Chained (Found (λ i. f (suc i)) n) key before xs
+  shifted : (f : ℕ → A) (n before : ℕ) (xs : List A) → key (f 0) ≤ before → Chained (Found f (suc n)) (λ _. key) before xs → Chained (Found (λ i. f (suc i)) n) (λ _. key) before xs
   shifted f n before [] h c = tt
   shifted f n before (x ∷ xs) h c = (go (c .0 .i) (c .0 .inside) (c .0 .is), shifted f n (key x) xs (omega (arith, c .0 .later)) (c .1))
     where
@@ -54,7 +55,7 @@ module _ {A : Type 0} (key : A → ℕ) where
       go (suc i) l e = record { later = c .0 .later; i = i; inside = omega arith; is = e }
 
   pub chosen-is : (n : ℕ) (test : ℕ → Bool) (f : ℕ → A) (before : ℕ) (xs : List A)
-      → ((i j : ℕ) → i < j → j < n → key (f i) < key (f j)) → Chained (Found f n) key before xs
+      → ((i j : ℕ) → i < j → j < n → key (f i) < key (f j)) → Chained (Found f n) (λ _. key) before xs
       → ((i : ℕ) → i < n → test i ≡ has xs (key (f i))) → chosen test f n ≡ xs
   unfolding chosen joined any
   chosen-is zero test f before [] rise c t = refl
@@ -70,7 +71,7 @@ module _ {A : Type 0} (key : A → ℕ) where
       rise′ i j k l = rise (suc i) (suc j) (omega arith) (omega arith)
 
       go : (i : ℕ) → i < suc n → f i ≡ x
-          → ((before : ℕ) (ys : List A) → ((i j : ℕ) → i < j → j < n → key (f (suc i)) < key (f (suc j))) → Chained (Found (λ i. f (suc i)) n) key before ys
+          → ((before : ℕ) (ys : List A) → ((i j : ℕ) → i < j → j < n → key (f (suc i)) < key (f (suc j))) → Chained (Found (λ i. f (suc i)) n) (λ _. key) before ys
           → ((i : ℕ) → i < n → test (suc i) ≡ has ys (key (f (suc i)))) → chosen (λ i. test (suc i)) (λ i. f (suc i)) n ≡ ys)
           → chosen test f (suc n) ≡ x ∷ xs
       go zero l e rec =
@@ -92,12 +93,12 @@ module _ {A : Type 0} (key : A → ℕ) where
 parts-back : (m : ℕ) (test : ℕ → Bool) (ks : List ℕ) → ValidParts m ks → ((k : ℕ) → k < m → test k ≡ among ks (k + 1)) → chosen test (λ k. k + 1) m ≡ ks
 parts-back m test ks v t = chosen-is (λ (k : ℕ). k) m test (λ k. k + 1) 0 ks (λ i j h l. omega arith) (found 0 ks v) t
   where
-    found : (before : ℕ) (ks : List ℕ) → Chained (ValidPart m) (λ (k : ℕ). k) before ks → Chained (Found (λ (k : ℕ). k) (λ k. k + 1) m) (λ (k : ℕ). k) before ks
+    found : (before : ℕ) (ks : List ℕ) → Chained (ValidPart m) (λ _ k. k) before ks → Chained (Found (λ (k : ℕ). k) (λ k. k + 1) m) (λ _ k. k) before ks
     found before [] c = tt
     found before (k ∷ ks) c = (record { later = c .0 .0; i = k - 1; inside = omega (arith, c .0); is = omega (arith, c .0) }, found k ks (c .1))
 
 -- no part is changed at a step before all visits
-changed-none : (job : Job) (before t k : ℕ) (vs : List Visit) → t ≤ before → Chained (ValidVisit job) stepOf before vs → changed vs k t ≡ false
+changed-none : (job : Job) (before t k : ℕ) (vs : List Visit) → t ≤ before → Chained (ValidVisit job) (λ _. stepOf) before vs → changed vs k t ≡ false
 unfolding any
 changed-none job before t k [] h c = refl
 changed-none job before t k (v ∷ vs) h c =
@@ -107,7 +108,7 @@ changed-none job before t k (v ∷ vs) h c =
 Own : List Visit → Visit → Type 0
 Own vs v = (k : ℕ) → changed vs k (v .step) ≡ among (v .parts) k
 
-own-visits : (job : Job) (before : ℕ) (vs : List Visit) → Chained (ValidVisit job) stepOf before vs → All (Own vs) vs
+own-visits : (job : Job) (before : ℕ) (vs : List Visit) → Chained (ValidVisit job) (λ _. stepOf) before vs → All (Own vs) vs
 unfolding Own any
 own-visits job before [] c = tt
 own-visits job before (v ∷ vs) c = (
@@ -115,7 +116,7 @@ own-visits job before (v ∷ vs) c = (
   behind (v .step) vs vs (omega arith) (c .1) (own-visits job (v .step) vs (c .1)),
 )
   where
-    behind : (before : ℕ) (us ws : List Visit) → v .step ≤ before → Chained (ValidVisit job) stepOf before us → All (Own ws) us → All (Own (v ∷ ws)) us
+    behind : (before : ℕ) (us ws : List Visit) → v .step ≤ before → Chained (ValidVisit job) (λ _. stepOf) before us → All (Own ws) us → All (Own (v ∷ ws)) us
     behind before [] ws h c a = tt
     behind before (u ∷ us) ws h c a =
         (λ k. rw (any, ne-eqb (v .step) (u .step) (λ e. omega (arith, c .0 .later))) (a .0 k), behind (u .step) us ws (omega (arith, c .0 .later)) (c .1) (a .1))
@@ -144,8 +145,8 @@ visit-back job vs v i h e ok own = λ j. record { step = e j; parts = parts j }
         ap (chosen (changesAt (planOf job vs) i) (λ k. k + 1)) (made-shaped job vs .parts)
         ∙ parts-back (length (job .parts)) (changesAt (planOf job vs) i) (v .parts) ok (λ k l. made-at job vs i k h l ∙ ap (changed vs (k + 1)) e ∙ own (k + 1))
 
-visits-found : (job : Job) (vs : List Visit) (before : ℕ) (us : List Visit) → Chained (ValidVisit job) stepOf before us → All (Own vs) us
-    → Chained (Found stepOf (visitAt job (planOf job vs)) (length (job .openings))) stepOf before us
+visits-found : (job : Job) (vs : List Visit) (before : ℕ) (us : List Visit) → Chained (ValidVisit job) (λ _. stepOf) before us → All (Own vs) us
+    → Chained (Found stepOf (visitAt job (planOf job vs)) (length (job .openings))) (λ _. stepOf) before us
 visits-found job vs before [] c a = tt
 visits-found job vs before (u ∷ us) c a =
     let o = opening-at job (u .step) (c .0 .opening) in (

@@ -9,9 +9,10 @@ use lib.ListN.{length, getD, length-append}
 use Rattle.lines.specs.Text.{bytes, decimalIn, line, lineOf, texts, joined}
 use Rattle.lines.proofs.Writing.{line-short, joined-grows, joined-short}
 use Rattle.model.specs.Model.{Job, Plan}
-use Rattle.plan_text.specs.Rendering.{visitText, planText, chosen, changesAt, partsAt, stepAt, visitAt, visitsOf, planLinesOf}
+use Rattle.lines.specs.Chosen.{chosen}
+use Rattle.plan_text.specs.Rendering.{visitText, planText, changesAt, partsAt, stepAt, visitAt, visitsOf, planLinesOf}
 use Rattle.jobs.specs.Valid.{ValidJob}
-use Rattle.plan_text.proofs.Chosen.{chosen-few, chosen-texts}
+use Rattle.lines.proofs.Chosen.{chosen-few, chosen-texts}
 use Rattle.plan_text.proofs.Steps.{step-small}
 
 -- the longest text of a plan's lines

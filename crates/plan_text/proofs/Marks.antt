@@ -157,12 +157,6 @@ changes-more job n m step rows cs ks k next count l low high h e =
     (e ∙ ap (withStep job step) (sym (changes-at n m cs (k - 1) none l (omega arith)) ∙ ap (λ (xs : List (List Bool)). getD xs (k - 1) []) h))
     ∙ part-more job step rows ks k low (omega arith)
 
--- ---- ends
-
--- a fault is no end at a cursor
-pub not-at : {X : Type 0} {k l : ℕ} {q : Cursor} → end.Fault k l ≡ end.At q → X
-not-at e = let z : _≡_ {A = ℕ} 0 1 = cc in absurd (omega arith)
-
 -- which the code's empty plan is
 pub empty-made : (job : code.Job) → Sized job → Whole job → (p : Plan) → ((n m : ℕ) → n ≤ mostOpenings → m ≤ mostParts → modelPlan n m p ≡ emptyPlan n m) → planFor job p ≡ planOf (jobOf job) []
 empty-made job sized whole p e = e _ _ (sized .openings) (sized .parts) ∙ visit-none (jobOf job) _ _ (opening-count job sized whole) (part-count job sized whole)

@@ -27,7 +27,7 @@ visit-numbers job before =
 pub lines-numbers : (job : Job) → Numbers PlanFault (planLines job)
 unfolding planLines visits
 lines-numbers job =
-    bind-numbers PlanFault _ _ (line-numbers _ 0 2000000000)
+    bind-numbers PlanFault _ _ (line-numbers _ 0 4000000000)
     (λ cost. bind-numbers PlanFault _ _ (line-numbers _ 0 64)
     (λ n. bind-numbers PlanFault _ _ (chain-numbers PlanFault (visit job) _ (visit-numbers job) n 0) (λ vs. return-numbers PlanFault _)))
 

@@ -16,10 +16,11 @@ use Rattle.model.specs.Model.{Opening, Job, Plan}
 use Rattle.model.specs.Verdict.{Shaped}
 use Rattle.jobs.specs.Valid.{ValidJob}
 use Rattle.plan_text.specs.Grammar.{Visit, isOpening, mayStop, part, parts, visit, visits, planOf, planLines, maxBytes, readPlan}
-use Rattle.plan_text.specs.Rendering.{visitText, planText, chosen, changesAt, partsAt, stepAt, visitAt, visitsOf, planLinesOf}
+use Rattle.lines.specs.Chosen.{chosen}
+use Rattle.plan_text.specs.Rendering.{visitText, planText, changesAt, partsAt, stepAt, visitAt, visitsOf, planLinesOf}
 use Rattle.plan_text.proofs.Lists.{any-at}
 use Rattle.plan_text.proofs.Nothing.{read-lines}
-use Rattle.plan_text.proofs.Chosen.{chosen-few, chosen-front}
+use Rattle.lines.proofs.Chosen.{chosen-few, chosen-front}
 use Rattle.plan_text.proofs.Valid.{ValidPart, ValidParts, ValidVisit, ValidVisits, stepOf}
 use Rattle.plan_text.proofs.Steps.{noOpening, step-is, step-low, step-high, step-rises}
 use Rattle.plan_text.proofs.Lengths.{valid-short}
@@ -42,24 +43,24 @@ visit-complete job before few v ok s l =
     let may : mayStop job before (v .step) ≡ true = rw (lt-ltb before (v .step) (ok .later)) (ok .opening) in
     let a = checked-complete 9 (mayStop job before) (row "stop=" 1 365) (lineOf "stop=") _ (row-complete _ 1 365 (omega arith)) (v .step) ((omega (arith, ok .later), ok .high), may) (n ++ (ks ++ s)) l in
     let b = row-complete (bytes "count=") 0 16 (omega arith) (length (v .parts)) (omega arith, ok .few) (ks ++ s) (a .0) in
-    let c = chain-complete (part m) (λ (k : ℕ). k) (lineOf "part=") (ValidPart m) (λ before. part-complete m before few) 0 (v .parts) (ok .parts) s (b .0) in (
+    let c = chain-complete (part m) (λ _ k. k) (lineOf "part=") (ValidPart m) (λ before. part-complete m before few) 0 (v .parts) (ok .parts) s (b .0) in (
       c .0,
       ap (λ (r : List ℕ). visit job before r l) (append-assoc (lineOf "stop=" (v .step) ++ n) ks s ∙ append-assoc (lineOf "stop=" (v .step)) n (ks ++ s))
           ∙ bind-good stop _ (a .1) ∙ bind-good (row "count=" 0 16) _ (b .1) ∙ bind-good (parts m (length (v .parts))) _ (c .1),
     )
 
-lines-complete : (job : Job) (cost : ℕ) (vs : List Visit) → length (job .parts) ≤ 16 → cost ≤ 2000000000 → ValidVisits job vs → (s : List ℕ) (l : ℕ)
+lines-complete : (job : Job) (cost : ℕ) (vs : List Visit) → length (job .parts) ≤ 16 → cost ≤ 4000000000 → ValidVisits job vs → (s : List ℕ) (l : ℕ)
     → (l′ : ℕ) × (planLines job (planText cost vs ++ s) l ≡ good (record { cost = cost; plan = planOf job vs }) s l′)
 unfolding planLines visits return planText
 lines-complete job cost vs few h ok s l =
     let ts = texts visitText vs in
     let n = lineOf "stops=" (length vs) in
-    let a = row-complete (bytes "cost=") 0 2000000000 (omega arith) cost (omega arith, h) (n ++ (ts ++ s)) l in
+    let a = row-complete (bytes "cost=") 0 4000000000 (omega arith) cost (omega arith, h) (n ++ (ts ++ s)) l in
     let b = row-complete (bytes "stops=") 0 64 (omega arith) (length vs) (omega arith, ok .few) (ts ++ s) (a .0) in
-    let c = chain-complete (visit job) stepOf visitText (ValidVisit job) (λ before. visit-complete job before few) 0 vs (ok .each) s (b .0) in (
+    let c = chain-complete (visit job) (λ _. stepOf) visitText (ValidVisit job) (λ before. visit-complete job before few) 0 vs (ok .each) s (b .0) in (
       c .0,
       ap (λ (r : List ℕ). planLines job r l) (append-assoc (lineOf "cost=" cost ++ n) ts s ∙ append-assoc (lineOf "cost=" cost) n (ts ++ s))
-          ∙ bind-good (row "cost=" 0 2000000000) _ (a .1) ∙ bind-good (row "stops=" 0 64) _ (b .1) ∙ bind-good (visits job (length vs)) _ (c .1),
+          ∙ bind-good (row "cost=" 0 4000000000) _ (a .1) ∙ bind-good (row "stops=" 0 64) _ (b .1) ∙ bind-good (visits job (length vs)) _ (c .1),
     )
 
 -- ---- a plan's visits are valid
@@ -67,11 +68,11 @@ lines-complete job cost vs few h ok s l =
 -- what is chosen in rising order rises
 chosen-chained : {A : Type 0} (P : ℕ → A → Type 0) (key : A → ℕ) (n : ℕ) (test : ℕ → Bool) (f : ℕ → A) (before : ℕ)
     → ((i j : ℕ) → i < j → j < n → key (f i) < key (f j)) → ((i : ℕ) → i < n → before < key (f i)) → ((i b : ℕ) → i < n → b < key (f i) → P b (f i))
-    → Chained P key before (chosen test f n)
+    → Chained P (λ _. key) before (chosen test f n)
 unfolding chosen joined
 chosen-chained P key zero test f before rise low each = tt
 chosen-chained {A} P key (suc n) test f before rise low each =
-    subst (Chained P key before) (sym (chosen-front test f n))
+    subst (Chained P (λ _. key) before) (sym (chosen-front test f n))
     (go (test 0)
     (chosen-chained P key n (λ i. test (suc i)) (λ i. f (suc i)) (key (f 0)) rise′ (λ i h. rise 0 (suc i) (omega arith) (omega arith)) each′)
     (chosen-chained P key n (λ i. test (suc i)) (λ i. f (suc i)) before rise′ (λ i h. low (suc i) (omega arith)) each′))
@@ -85,7 +86,7 @@ chosen-chained {A} P key (suc n) test f before rise low each =
     rest : List A
     rest = chosen (λ i. test (suc i)) (λ i. f (suc i)) n
 
-    go : (b : Bool) → Chained P key (key (f 0)) rest → Chained P key before rest → Chained P key before (cond b (f 0 ∷ []) [] ++ rest)
+    go : (b : Bool) → Chained P (λ _. key) (key (f 0)) rest → Chained P (λ _. key) before rest → Chained P (λ _. key) before (cond b (f 0 ∷ []) [] ++ rest)
     go true after skip = (each 0 before (omega arith) (low 0 (omega arith)), after)
     go false after skip = skip
 
@@ -114,7 +115,7 @@ visits-valid job ok plan shape = record {
 -- ---- the plan
 
 -- with anything behind its lines
-pub lines-back : (job : Job) → ValidJob job → (cost : ℕ) (plan : Plan) → cost ≤ 2000000000 → Shaped job plan → (s : List ℕ) (l : ℕ)
+pub lines-back : (job : Job) → ValidJob job → (cost : ℕ) (plan : Plan) → cost ≤ 4000000000 → Shaped job plan → (s : List ℕ) (l : ℕ)
     → (l′ : ℕ) × (planLines job (planLinesOf job cost plan ++ s) l ≡ good (record { cost = cost; plan = plan }) s l′)
 unfolding planLinesOf
 lines-back job ok cost plan h shape s l =
@@ -126,7 +127,7 @@ some-bytes : (job : Job) (cost : ℕ) (plan : Plan) → 1 ≤ length (planLinesO
 unfolding planLinesOf planText line bytes
 some-bytes job cost plan = omega arith
 
-pub read-back : (job : Job) → ValidJob job → (cost : ℕ) (plan : Plan) → cost ≤ 2000000000 → Shaped job plan → readPlan job (planLinesOf job cost plan) ≡ accepted (record { cost = cost; plan = plan })
+pub read-back : (job : Job) → ValidJob job → (cost : ℕ) (plan : Plan) → cost ≤ 4000000000 → Shaped job plan → readPlan job (planLinesOf job cost plan) ≡ accepted (record { cost = cost; plan = plan })
 read-back job ok cost plan h shape =
     let r = lines-back job ok cost plan h shape [] 1 in
     sym (read-lines job (planLinesOf job cost plan) (some-bytes job cost plan))

@@ -17,7 +17,7 @@ abbrev pub ValidPart : ℕ → ℕ → ℕ → Type 0
 ValidPart m before k = (before < k) × (k ≤ m)
 
 abbrev pub ValidParts : ℕ → List ℕ → Type 0
-ValidParts m ks = Chained (ValidPart m) (λ (k : ℕ). k) 0 ks
+ValidParts m ks = Chained (ValidPart m) (λ _ k. k) 0 ks
 
 -- "Stops rise and are openings"
 pub record ValidVisit (job : Job) (before : ℕ) (v : Visit) : Type 0 where
@@ -32,7 +32,7 @@ stepOf v = v .step
 
 pub record ValidVisits (job : Job) (vs : List Visit) : Type 0 where
   pub few : length vs ≤ 64
-  pub each : Chained (ValidVisit job) stepOf 0 vs
+  pub each : Chained (ValidVisit job) (λ _. stepOf) 0 vs
 
 -- none at all
 pub no-visits : (job : Job) → ValidVisits job []
@@ -40,7 +40,7 @@ no-visits job = record { few = omega arith; each = tt }
 
 -- what a plan text states: a cost within its range, and the plan that valid visits make
 pub record Valid (job : Job) (stated : Stated) : Type 0 where
-  pub cost : stated .cost ≤ 2000000000
+  pub cost : stated .cost ≤ 4000000000
   pub vs : List Visit
   pub visits : ValidVisits job vs
   pub makes : planOf job vs ≡ stated .plan

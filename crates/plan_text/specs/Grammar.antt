@@ -1,4 +1,4 @@
--- X4. The plan's lines, read against a job: "`cost` 0..2000000000; `stops` 0..64; for each, `stop` 1..365 and `count` 0..16, then that many `part` 1..16."
+-- X4. The plan's lines, read against a job: "`cost` 0..2000000000 [E7.10: "up to 4000000000"]; `stops` 0..64; for each, `stop` 1..365 and `count` 0..16, then that many `part` 1..16."
 use Prim.Native.Nat.{ℕ, _+_}
 use mathlib.Core.List.{List, [], _∷_, map}
 use mathlib.Core.Bool.{Bool, false, _&&_, _||_}
@@ -7,7 +7,7 @@ use lib.Dec.{ltb, eqb}
 use Rattle.lines.specs.Text.{joined}
 use Rattle.lines.specs.Parser.{Parser, _>>=_, return, row, checked, chain, rising, Outcome, accepted, readText}
 use Rattle.model.specs.Model.{Opening, Job, Plan}
-use Rattle.model.specs.Limits.{lastStep, mostOpenings, mostParts}
+use Rattle.model.specs.Limits.{lastStep, mostOpenings, mostParts, mostCost}
 
 -- a stop as the text has it: its step, and the numbers of the parts changed there
 pub record Visit : Type 0 where
@@ -42,7 +42,7 @@ unfoldable pub part : ℕ → ℕ → Parser ℕ
 part m before = checked 9 (rising before m) (row "part=" 1 mostParts)
 
 unfoldable pub parts : ℕ → ℕ → Parser (List ℕ)
-parts m n = chain (part m) (λ k. k) n 0
+parts m n = chain (part m) (λ _ k. k) n 0
 
 -- a stop after the step before it, and its parts
 unfoldable pub visit : Job → ℕ → Parser Visit
@@ -53,7 +53,7 @@ visit job before = do
   return (record { step = step; parts = ks })
 
 unfoldable pub visits : Job → ℕ → Parser (List Visit)
-visits job n = chain (visit job) (λ v. v .step) n 0
+visits job n = chain (visit job) (λ _ v. v .step) n 0
 
 -- ---- the plan that visits make
 
@@ -85,7 +85,7 @@ planOf job vs = record {
 -- the lines of a plan, wherever they begin
 unfoldable pub planLines : Job → Parser Stated
 planLines job = do
-  cost ← row "cost=" 0 2000000000
+  cost ← row "cost=" 0 mostCost
   n ← row "stops=" 0 mostOpenings
   vs ← visits job n
   return (record { cost = cost; plan = planOf job vs })

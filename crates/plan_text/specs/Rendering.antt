@@ -1,9 +1,10 @@
 -- O3. The text of a plan: "the plan lines" that the planner prints.
 use Prim.Native.Nat.{ℕ, _+_}
-use mathlib.Core.List.{List, [], _∷_, _++_, map}
-use mathlib.Core.Bool.{Bool, false, cond}
+use mathlib.Core.List.{List, [], _++_, map}
+use mathlib.Core.Bool.{Bool, false}
 use lib.ListN.{length, getD}
-use Rattle.lines.specs.Text.{lineOf, texts, joined}
+use Rattle.lines.specs.Text.{lineOf, texts}
+use Rattle.lines.specs.Chosen.{chosen}
 use Rattle.model.specs.Model.{Opening, Job, Plan}
 use Rattle.plan_text.specs.Grammar.{Visit}
 
@@ -16,10 +17,6 @@ unfoldable pub planText : ℕ → List Visit → List ℕ
 planText cost vs = lineOf "cost=" cost ++ lineOf "stops=" (length vs) ++ texts visitText vs
 
 -- ---- the visits of a plan
-
--- those of f 0, f 1, .. f (n - 1) whose number passes a test, in order
-unfoldable pub chosen : {A : Type 0} → (ℕ → Bool) → (ℕ → A) → ℕ → List A
-chosen test f n = joined (λ i. cond (test i) (f i ∷ []) []) n
 
 -- part k + 1 is changed at opening i
 abbrev pub changesAt : Plan → ℕ → ℕ → Bool

@@ -7,7 +7,7 @@ use Rattle.jobs.specs.declared.Job.{Job}
 use Rattle.jobs.specs.declared.Plan.{Plan}
 use Rattle.jobs.specs.Views.{changedIn, planFor}
 use Rattle.plan_text.specs.Grammar.{Stated}
-use Rattle.plan_text.specs.Rendering.{chosen}
+use Rattle.lines.specs.Chosen.{chosen}
 use Rattle.plan_text.specs.declared.whole.PlanRead.{PlanRead}
 
 -- the numbers of those of the first m parts that are changed at opening i

@@ -10,7 +10,7 @@ use Rattle.lines.proofs.Outcomes.{one-value, not-both}
 use Rattle.model.specs.Model.{Job, HasPlan}
 use Rattle.model.specs.Promise as model
 use Rattle.model.specs.Promise.{PlannerAnswer, no-plan, cut-none, cut, optimum, resultOf, wholeCount, answerOf}
-use Rattle.model.proofs.Promised.{promise}
+use Rattle.model.proofs.Promised.{promise, any-walk}
 use Rattle.job_text.specs.Grammar.{Given, readJob}
 use Rattle.job_text.proofs.Numbered.{fault}
 use Rattle.answers.specs.Said.{plainly, lent}
@@ -78,7 +78,7 @@ module _ (text : List ℕ) (room : ℕ) where
         let walk : g .walk ≤ walkIn q = subst (λ (x : Given). x .walk ≤ walkIn q) (given-is r) w in
         ap (onJob other) (q .is)
         ∙ ap (λ (x : Job). saidFor x (answerOf x (walkIn q))) job
-        ∙ ap (saidFor (g .job)) (promises .any-walk e (walkIn q) walk)
+        ∙ ap (saidFor (g .job)) (any-walk (g .job) (g .walk) (promises .says-0 .0 e .1) (walkIn q) walk)
 
     read : ((other : List ℕ) → lent planRoom room (planSaid other) ≡ onJob other (readJob other)) → PlanPromise text room (saidFor (g .job) answer)
     read room-is = record {

@@ -6,8 +6,8 @@ use mathlib.Core.List.{List}
 use mathlib.Core.Bool.{Bool}
 use native.Mathlib.Omega.{arith}
 use Rattle.lines.specs.Parser.{accepted}
-use Rattle.model.specs.Model.{Job, Plan, BestPlan}
-use Rattle.model.specs.Promise.{PlannerAnswer, no-plan, cut-none, cut, optimum, Any, Walked, Promise}
+use Rattle.model.specs.Model.{Job, Plan}
+use Rattle.model.specs.Promise.{PlannerAnswer, no-plan, cut-none, cut, optimum, Any, BestPlan, Walked, Promise}
 use Rattle.model.proofs.Verdicts.{lives-shaped, best-accepted}
 use Rattle.job_text.specs.Grammar.{Given, readJob}
 use Rattle.jobs.specs.Valid.{ValidJob}

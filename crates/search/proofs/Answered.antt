@@ -12,9 +12,11 @@ use Rattle.branch.specs.declared.Bound.the-variants.{Missing, Sum}
 use Rattle.branch.specs.Search.{none, plan, atMost}
 use Rattle.branch.specs.Label.{treeOf}
 use Rattle.model.specs.Model.{Opening, Part, Job, clock, lastChange}
-use Rattle.model.specs.LowerBound.{Offer, lowerThan, changeAt, leastOf, offers, choiceOf, partChoice, boundOf, planAt}
+use Rattle.model.specs.LowerBound.{Offer, lowerThan, changeAt, leastOf, offers, choiceOf}
+use Rattle.model.specs.Unheld.{plainPartChoice, plainBound, plainPlan, plainAnswer}
 use Rattle.model.specs.Verdict.{noPart}
-use Rattle.model.specs.Promise.{cut, optimum, answered, answeredAt, answerOf, decisions}
+use Rattle.model.specs.Promise.{cut, optimum}
+use Rattle.branch.specs.Planning.{answered, answeredAt}
 use Rattle.model.proofs.Bools.{there}
 use Rattle.model.proofs.Offers.{offers-length}
 use Rattle.jobs.specs.declared.Changes.{Changes}
@@ -27,7 +29,7 @@ use Rattle.walk.specs.State.{bits, Solves}
 use Rattle.walk.proofs.Nodes.{bits-length}
 use Rattle.walk.specs.declared.Solved.{Solved}
 
-choice-size : (life end prev : ℤ) (os : List Offer) → length (choiceOf life end prev os) ≡ length os
+pub choice-size : (life end prev : ℤ) (os : List Offer) → length (choiceOf life end prev os) ≡ length os
 unfolding choiceOf
 choice-size life end prev [] = refl
 choice-size life end prev (o ∷ os) =
@@ -54,17 +56,17 @@ handed s stops rows =
 
 module _ (job : Job) (e : ℤ) (ss : List ℤ) (fs ls rs ps : List ℕ) (h : Holds job e ss fs ls rs ps) (limit : ℕ) (s : Solved) (g : Solves (sheetOf e ss fs ls rs ps) limit s)
     (stops : List Bool) (f : stops ≡ bits (length ss) (s .mask) ++ replicate (64 - length ss) false) (rows : List Changes) (c : Chooses e ss ls rs ps (take (length ss) stops) rows (length ls)) where
-  size : length ss ≡ decisions job
+  size : length ss ≡ length (job .openings)
   size = ap length (h .places) ∙ length-map (job .openings) (λ (o : Opening). clock job (o .step))
 
-  walked : limitedIn (length ss) (handed s stops rows) ≡ atMost limit (treeOf (boundOf job) (length ss) [])
+  walked : limitedIn (length ss) (handed s stops rows) ≡ atMost limit (treeOf (plainBound job) (length ss) [])
   walked =
       (λ i. record { count = s .count; over = s .over; incumbent = cond (s .found) (plan (s .cost) (stops-are (length ss) (s .mask) stops f i)) none })
       ∙ g .walked
       ∙ (λ i. atMost limit (treeOf (λ p. sheet-bound job e ss fs ls rs ps h p i) (length ss) []))
 
   abbrev chosen : Part → List Bool
-  chosen part = partChoice job part (take (length ss) stops)
+  chosen part = plainPartChoice job part (take (length ss) stops)
 
   row-is : (q : ℕ) → q < length ls → rowIn (length ss) (getD rows q noRow) ≡ chosen (getD (job .parts) q noPart)
   row-is q l =
@@ -96,27 +98,27 @@ module _ (job : Job) (e : ℤ) (ss : List ℤ) (fs ls rs ps : List ℕ) (h : Hol
   pub finds : Finds job limit (handed s stops rows)
   finds =
       record {
-        walked = subst (λ (k : ℕ). limitedIn k (handed s stops rows) ≡ atMost limit (treeOf (boundOf job) k [])) size walked;
+        walked = subst (λ (k : ℕ). limitedIn k (handed s stops rows) ≡ atMost limit (treeOf (plainBound job) k [])) size walked;
         floor = g .floor ∙ sheet-bound job e ss fs ls rs ps h [];
-        changes = subst (λ (k : ℕ). changesIn k (length (job .parts)) (handed s stops rows) ≡ map (λ (part : Part). partChoice job part (take k stops)) (job .parts)) size changes;
+        changes = subst (λ (k : ℕ). changesIn k (length (job .parts)) (handed s stops rows) ≡ map (λ (part : Part). plainPartChoice job part (take k stops)) (job .parts)) size changes;
       }
 
 -- ---- so it is the model's answer
 
 module _ (job : Job) (limit : ℕ) (r : Found) (a : Finds job limit r) where
-  plan-is : planFound (decisions job) (length (job .parts)) r ≡ planAt job (stopsIn (decisions job) r)
-  plan-is = λ i. record { stops = stopsIn (decisions job) r; changes = a .changes i }
+  plan-is : planFound (length (job .openings)) (length (job .parts)) r ≡ plainPlan job (stopsIn (length (job .openings)) r)
+  plan-is = λ i. record { stops = stopsIn (length (job .openings)) r; changes = a .changes i }
 
-  by : (floor : ℕ) (o t : Bool) → saidBy (decisions job) (length (job .parts)) floor r o t ≡ answered job floor (r .count) o (cond t (plan (r .cost) (stopsIn (decisions job) r)) none)
+  by : (floor : ℕ) (o t : Bool) → saidBy (length (job .openings)) (length (job .parts)) floor r o t ≡ answered (plainPlan job) floor (r .count) o (cond t (plan (r .cost) (stopsIn (length (job .openings)) r)) none)
   by floor true false = refl
   by floor true true = ap (cut (r .count) floor (r .cost)) plan-is
   by floor false false = refl
   by floor false true = ap (optimum (r .count) floor (r .cost)) plan-is
 
-  at : (b : Bound) → saidAt (decisions job) (length (job .parts)) r b ≡ answeredAt job b (limitedIn (decisions job) r)
+  at : (b : Bound) → saidAt (length (job .openings)) (length (job .parts)) r b ≡ answeredAt (plainPlan job) b (limitedIn (length (job .openings)) r)
   at Missing = refl
   at (Sum floor) = by floor (r .over) (r .found)
 
-  pub said : saidIn (decisions job) (length (job .parts)) r ≡ answerOf job limit
-  unfolding answerOf
-  said = at (r .floor) ∙ ap₂ (answeredAt job) (a .floor) (a .walked)
+  pub said : saidIn (length (job .openings)) (length (job .parts)) r ≡ plainAnswer job limit
+  unfolding plainAnswer
+  said = at (r .floor) ∙ ap₂ (answeredAt (plainPlan job)) (a .floor) (a .walked)

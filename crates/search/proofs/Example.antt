@@ -36,7 +36,7 @@ job =
       horizon = 6;
       idles = [];
       openings = record { step = 2; fee = 10 } ∷ record { step = 3; fee = 10 } ∷ record { step = 4; fee = 10 } ∷ record { step = 5; fee = 10 } ∷ [];
-      parts = record { life = 3; left = 2; prices = 5 ∷ 5 ∷ 5 ∷ 5 ∷ [] } ∷ record { life = 4; left = 4; prices = 7 ∷ 7 ∷ 7 ∷ 7 ∷ [] } ∷ [];
+      parts = record { life = 3; left = 2; removal = 0; holders = []; prices = 5 ∷ 5 ∷ 5 ∷ 5 ∷ [] } ∷ record { life = 4; left = 4; removal = 0; holders = []; prices = 7 ∷ 7 ∷ 7 ∷ 7 ∷ [] } ∷ [];
     }
 
 abbrev pub places : List ℤ

@@ -7,8 +7,6 @@ use native.Mathlib.Omega.{arith}
 use native.Mathlib.Numerals.{add-one}
 use lib.ListN.{length, getD, take, drop}
 use lib.Seq.{take-suc}
-use Rattle.branch.specs.declared.Bound.{Bound}
-use Rattle.branch.specs.declared.Bound.the-variants.{Missing, Sum}
 use Rattle.branch.specs.Lower.{larger, largest}
 use Rattle.branch.proofs.Lower.{largest-snoc}
 use Rattle.model.specs.LowerBound.{Offer, leastOf}
@@ -16,19 +14,13 @@ use Rattle.least.specs.Filled.{FilledBy}
 use Rattle.least.specs.Marks.{markOf}
 use Rattle.least.specs.Suffix.{codeOf, Suffixes}
 use Rattle.least.proofs.Most.{most-least}
-use Rattle.lane_rows.specs.Layout.{triangle, top, laneLimit, inf, termBase, termPlace}
+use Rattle.lane_rows.specs.Layout.{triangle, top, inf, termBase, termPlace}
 use Rattle.lane_rows.specs.Sheet.{Column, Sheet, noColumn}
 use Rattle.lane_rows.specs.Tables.{Coded, feeFrom}
+use Rattle.lane_rows.proofs.Lanes.{coded-larger}
 use Rattle.lane_rows.proofs.Rising.{row-below}
 use Rattle.search.specs.Fill.{Triangle, ownOf, Raised, Terms}
 use Rattle.search.proofs.Filling.{coded, offers-all}
-
--- the larger of two numbers stands for the larger of their bounds
-coded-larger : (b x y : ℕ) (d e : Bound) → b ≤ laneLimit → Coded b x d → Coded b y e → Coded b (max x y) (larger d e)
-coded-larger b x y Missing Missing h c f = omega arith
-coded-larger b x y Missing (Sum v) h c f = omega arith
-coded-larger b x y (Sum u) Missing h c f = omega arith
-coded-larger b x y (Sum u) (Sum v) h c f = (omega arith, omega arith)
 
 module _ (sheet : Sheet) (few : length (sheet .positions) ≤ 64) where
   -- none yet

@@ -12,7 +12,8 @@ use Rattle.branch.specs.declared.Bound.the-variants.{Missing, Sum}
 use Rattle.branch.specs.Lower.{add, total, larger, largest}
 use Rattle.model.specs.Model.{Part, Job, sumAt, lastChange}
 use Rattle.model.specs.Verdict.{noPart}
-use Rattle.model.specs.LowerBound.{leastOf, offers, undecidedFees, partBound, partFee, stopCost, boundOf}
+use Rattle.model.specs.LowerBound.{leastOf, offers, undecidedFees}
+use Rattle.model.specs.Unheld.{plainPartBound, plainPartFee, plainBound}
 use Rattle.model.proofs.Unpaid.{unpaid, unpaid-least}
 use Rattle.search.specs.Arrays.{priceStride, lanePart, columnOf, columnsFrom, foursOf, sheetOf, Holds}
 use Rattle.search.proofs.Filling.{own-each, past}
@@ -23,9 +24,9 @@ use Rattle.lane_rows.specs.Sheet.{columnBound, columnFee, sheetBound}
 module _ (job : Job) (e : ℤ) (ss : List ℤ) (fs ls rs ps : List ℕ) (h : Holds job e ss fs ls rs ps) (p : List Bool) where
   -- the first part's bound
   abbrev begin : Bound
-  begin = partBound job (getD (job .parts) 0 noPart) p
+  begin = plainPartBound job (getD (job .parts) 0 noPart) p
 
-  own : (q : ℕ) → q < length ls → columnBound (sheetOf e ss fs ls rs ps) (columnOf (lanePart (length ss) ls rs ps q)) p ≡ partBound job (getD (job .parts) q noPart) p
+  own : (q : ℕ) → q < length ls → columnBound (sheetOf e ss fs ls rs ps) (columnOf (lanePart (length ss) ls rs ps q)) p ≡ plainPartBound job (getD (job .parts) q noPart) p
   unfolding columnBound
   own q l =
       let z = sym (h .part q l) in
@@ -59,7 +60,7 @@ module _ (job : Job) (e : ℤ) (ss : List ℤ) (fs ls rs ps : List ℕ) (h : Hol
 
   -- k columns from q on, of which the first are those of xs, where the first part can be kept
   columns-total : (x₀ : ℕ) → begin ≡ Sum x₀ → (xs : List Part) (q k : ℕ) → length xs ≤ k → q + length xs ≡ length ls → PartsFrom xs q
-      → total (columnBound (sheetOf e ss fs ls rs ps)) (columnsFrom (length ss) ls rs ps q k) p ≡ total (partBound job) xs p
+      → total (columnBound (sheetOf e ss fs ls rs ps)) (columnsFrom (length ss) ls rs ps q k) p ≡ total (plainPartBound job) xs p
   unfolding columnsFrom
   columns-total x₀ b [] q k g m f = rest q k (omega arith)
     where
@@ -68,15 +69,15 @@ module _ (job : Job) (e : ℤ) (ss : List ℤ) (fs ls rs ps : List ℕ) (h : Hol
       rest q (suc k) l = ap₂ add (idle q l ∙ ap unpaid b) (rest (suc q) k (omega arith))
   columns-total x₀ b (x ∷ xs) q zero g m f = absurd (omega arith)
   columns-total x₀ b (x ∷ xs) q (suc k) g m f =
-      ap₂ add (own q (omega arith) ∙ ap (λ (part : Part). partBound job part p) (sym (first-is x xs q f)))
+      ap₂ add (own q (omega arith) ∙ ap (λ (part : Part). plainPartBound job part p) (sym (first-is x xs q f)))
       (columns-total x₀ b xs (suc q) k (omega arith) (omega arith) (rest-are x xs q f))
 
   -- where it can't, both sums are Missing
-  missing-total : (xs : List Part) → 0 < length xs → partBound job (getD xs 0 noPart) p ≡ Missing → total (partBound job) xs p ≡ Missing
+  missing-total : (xs : List Part) → 0 < length xs → plainPartBound job (getD xs 0 noPart) p ≡ Missing → total (plainPartBound job) xs p ≡ Missing
   missing-total [] g b = absurd (omega arith)
-  missing-total (x ∷ xs) g b = ap (λ (y : Bound). add y (total (partBound job) xs p)) b
+  missing-total (x ∷ xs) g b = ap (λ (y : Bound). add y (total (plainPartBound job) xs p)) b
 
-  all-total : (k : ℕ) → length ls ≤ k → (b : Bound) → begin ≡ b → total (columnBound (sheetOf e ss fs ls rs ps)) (columnsFrom (length ss) ls rs ps 0 k) p ≡ total (partBound job) (job .parts) p
+  all-total : (k : ℕ) → length ls ≤ k → (b : Bound) → begin ≡ b → total (columnBound (sheetOf e ss fs ls rs ps)) (columnsFrom (length ss) ls rs ps 0 k) p ≡ total (plainPartBound job) (job .parts) p
   unfolding columnsFrom
   all-total k l (Sum x) b = columns-total x b (job .parts) 0 k (omega (arith, h .parts)) (omega (arith, h .parts)) all-parts
   all-total zero l Missing b = absurd (omega (arith, h .arrays .lives .some))
@@ -86,26 +87,26 @@ module _ (job : Job) (e : ℤ) (ss : List ℤ) (fs ls rs ps : List ℕ) (h : Hol
 
   -- ---- the terms: over the columns of the parts alone
 
-  own-fee : (q : ℕ) → q < length ls → columnFee (sheetOf e ss fs ls rs ps) (columnOf (lanePart (length ss) ls rs ps q)) p ≡ partFee job (getD (job .parts) q noPart) p
+  own-fee : (q : ℕ) → q < length ls → columnFee (sheetOf e ss fs ls rs ps) (columnOf (lanePart (length ss) ls rs ps q)) p ≡ plainPartFee job (getD (job .parts) q noPart) p
   unfolding columnFee
   own-fee q l =
       let z = sym (h .part q l) in
       λ i. leastOf (pos (z i .life)) (h .ends i) (lastChange (z i)) (offers (h .places i) (undecidedFees (h .fees i) p) p)
 
   columns-largest : (xs : List Part) (q k : ℕ) → length xs ≤ k → q + length xs ≡ length ls → PartsFrom xs q
-      → largest (columnFee (sheetOf e ss fs ls rs ps)) (take (length xs) (columnsFrom (length ss) ls rs ps q k)) p ≡ largest (partFee job) xs p
+      → largest (columnFee (sheetOf e ss fs ls rs ps)) (take (length xs) (columnsFrom (length ss) ls rs ps q k)) p ≡ largest (plainPartFee job) xs p
   unfolding columnsFrom
   columns-largest [] q k g m f = refl
   columns-largest (x ∷ xs) q zero g m f = absurd (omega arith)
   columns-largest (x ∷ xs) q (suc k) g m f =
-      ap₂ larger (own-fee q (omega arith) ∙ ap (λ (part : Part). partFee job part p) (sym (first-is x xs q f)))
+      ap₂ larger (own-fee q (omega arith) ∙ ap (λ (part : Part). plainPartFee job part p) (sym (first-is x xs q f)))
       (columns-largest xs (suc q) k (omega arith) (omega arith) (rest-are x xs q f))
 
-  all-largest : largest (columnFee (sheetOf e ss fs ls rs ps)) (take (length ls) (columnsFrom (length ss) ls rs ps 0 (foursOf (length ls) * 4))) p ≡ largest (partFee job) (job .parts) p
+  all-largest : largest (columnFee (sheetOf e ss fs ls rs ps)) (take (length ls) (columnsFrom (length ss) ls rs ps 0 (foursOf (length ls) * 4))) p ≡ largest (plainPartFee job) (job .parts) p
   all-largest =
       ap (λ (n : ℕ). largest (columnFee (sheetOf e ss fs ls rs ps)) (take n (columnsFrom (length ss) ls rs ps 0 (foursOf (length ls) * 4))) p) (sym (h .parts))
       ∙ columns-largest (job .parts) 0 (foursOf (length ls) * 4) (omega (arith, h .parts)) (omega (arith, h .parts)) all-parts
 
-  pub sheet-bound : sheetBound (sheetOf e ss fs ls rs ps) p ≡ boundOf job p
-  unfolding sheetBound boundOf stopCost
+  pub sheet-bound : sheetBound (sheetOf e ss fs ls rs ps) p ≡ plainBound job p
+  unfolding sheetBound plainBound
   sheet-bound = ap₂ add (ap₂ add (ap (λ (l : List ℕ). Sum (sumAt l p)) (h .fees)) (all-total (foursOf (length ls) * 4) (omega arith) begin refl)) all-largest

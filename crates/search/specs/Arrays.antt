@@ -26,7 +26,7 @@ laneValue l q = getD l q (getD l 0 0)
 
 -- the part of lane q: ls lives, rs first lives, ps prices at n openings
 abbrev pub lanePart : ℕ → List ℕ → List ℕ → List ℕ → ℕ → Part
-lanePart n ls rs ps q = record { life = laneValue ls q; left = laneValue rs q; prices = take n (drop (q * priceStride) ps) }
+lanePart n ls rs ps q = record { life = laneValue ls q; left = laneValue rs q; removal = 0; holders = []; prices = take n (drop (q * priceStride) ps) }
 
 -- lane q's life, and the position of the change before the first: ls lives, rs first lives
 pub record Lived (ls rs : List ℕ) (q : ℕ) (life first : ℤ) : Type 0 where

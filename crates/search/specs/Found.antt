@@ -8,8 +8,8 @@ use Rattle.branch.specs.declared.Bound.{Bound}
 use Rattle.branch.specs.declared.Bound.the-variants.{Missing, Sum}
 use Rattle.branch.specs.Search.{Incumbent, none, plan, Limited, atMost}
 use Rattle.model.specs.Model.{Job, Part, Plan}
-use Rattle.model.specs.LowerBound.{boundOf, partChoice}
-use Rattle.model.specs.Promise.{PlannerAnswer, no-plan, cut-none, cut, optimum, decisions, searched}
+use Rattle.model.specs.Promise.{PlannerAnswer, no-plan, cut-none, cut, optimum}
+use Rattle.model.specs.Unheld.{plainPartChoice, plainBound, plainTree}
 use Rattle.jobs.specs.declared.Changes.{Changes}
 use Rattle.search.specs.declared.Found.{Found}
 
@@ -31,11 +31,12 @@ incumbentIn n r = cond (r .found) (plan (r .cost) (stopsIn n r)) none
 abbrev pub limitedIn : ℕ → Found → Limited
 limitedIn n r = record { count = r .count; over = r .over; incumbent = incumbentIn n r }
 
--- the nodes walked, whether there are more, and the best full plan among them; the floor; and the tie rule's changes within the stops
+-- the walk over the openings alone, of a job at whose prices nothing is left to add (`model/Unheld`): the nodes walked, whether there are more, and the best full plan among them; the floor; and the tie
+-- rule's changes within the stops
 pub record Finds (job : Job) (limit : ℕ) (r : Found) : Type 0 where
-  pub walked : limitedIn (decisions job) r ≡ atMost limit (searched job)
-  pub floor : r .floor ≡ boundOf job []
-  pub changes : changesIn (decisions job) (length (job .parts)) r ≡ map (λ (part : Part). partChoice job part (stopsIn (decisions job) r)) (job .parts)
+  pub walked : limitedIn (length (job .openings)) r ≡ atMost limit (plainTree job)
+  pub floor : r .floor ≡ plainBound job []
+  pub changes : changesIn (length (job .openings)) (length (job .parts)) r ≡ map (λ (part : Part). plainPartChoice job part (stopsIn (length (job .openings)) r)) (job .parts)
 
 -- the planner's answer, read off what the code holds
 abbrev pub planFound : ℕ → ℕ → Found → Plan

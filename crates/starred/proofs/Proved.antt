@@ -5,14 +5,16 @@ use Rattle.lines.specs.Line.{digits, numberFrom, startsWith, readValue, readLin
 use Rattle.lines.specs.Parser.{_>>=_, return, inRange, readField, taken, rowAt, optionalAt, ifPresent, checked, chain, times, end, whole, readText}
 use Rattle.lines.specs.Fault.{beforeBreak, afterBreak, skipped, faultLine, faultSpan}
 use Rattle.branch.specs.Search.{walk, limited}
-use Rattle.branch.specs.Label.{treeOf}
-use Rattle.model.specs.Model.{idle, running, clock, within, kept, lastWithin, dueOf, select, sumAt}
-use Rattle.model.specs.LowerBound.{leastOf, choiceOf, offers, stopCost, undecidedFees, boundOf}
+use Rattle.branch.specs.Questions.{askFrom}
+use Rattle.model.specs.Model.{idle, running, clock, within, kept, lastWithin, dueOf, listed, table as places, holdsOne, rounds, comesOut, holding, outBy, select, sumAt, sum}
+use Rattle.model.specs.Decisions.{heldFrom, covered}
+use Rattle.model.specs.LowerBound.{leastOf, choiceOf, offers, blocks, stopCost, undecidedFees, boundOf}
 use Rattle.model.specs.Promise.{answerOf}
 use Rattle.model.specs.Verdict.{firstLate, verdictFrom, judgedOf}
 use Rattle.job_text.specs.Grammar as job
 use Rattle.plan_text.specs.Grammar as plan
-use Rattle.plan_text.specs.Rendering.{visitText, planText, chosen, visitsOf, planLinesOf}
+use Rattle.lines.specs.Chosen.{chosen}
+use Rattle.plan_text.specs.Rendering.{visitText, planText, visitsOf, planLinesOf}
 use Rattle.answers.specs.Said.{faultLines}
 use Rattle.judging.specs.Judge.{costLines, unkeptLines, judgeSaid}
 use Rattle.planning.specs.Plan.{searchLines, plannedLines, planSaid}
@@ -21,7 +23,7 @@ use Rattle.counting.specs.Count.{countSaid}
 use Rattle.starred.specs.Table.{All, Holds, Counts, table, counts}
 
 pub proved : All Holds table × All Counts counts
-unfolding table counts bytes decimalIn line joined digits numberFrom startsWith readValue readLine _>>=_ return inRange readField taken rowAt optionalAt ifPresent checked chain times end whole readText beforeBreak afterBreak skipped faultLine faultSpan walk limited treeOf idle running clock within kept lastWithin dueOf select sumAt leastOf choiceOf offers stopCost undecidedFees boundOf answerOf firstLate verdictFrom judgedOf job.idle job.idleSteps job.idles job.opening job.openings job.part job.body job.rest job.jobLines plan.any plan.part plan.parts plan.visit plan.visits plan.planOf plan.planLines plan.readPlan visitText planText chosen visitsOf planLinesOf faultLines searchLines plannedLines costLines unkeptLines judgeSaid planSaid eachReaches eachKept countFrom openCount countSaid
+unfolding table counts bytes decimalIn line joined digits numberFrom startsWith readValue readLine _>>=_ return inRange readField taken rowAt optionalAt ifPresent checked chain times end whole readText beforeBreak afterBreak skipped faultLine faultSpan walk limited askFrom idle running clock within kept lastWithin dueOf listed places holdsOne rounds comesOut holding outBy select sumAt sum heldFrom covered leastOf choiceOf offers blocks stopCost undecidedFees boundOf answerOf firstLate verdictFrom judgedOf job.idle job.idleSteps job.idles job.opening job.openings job.part job.body job.rest job.jobLines plan.any plan.part plan.parts plan.visit plan.visits plan.planOf plan.planLines plan.readPlan visitText planText chosen visitsOf planLinesOf faultLines searchLines plannedLines costLines unkeptLines judgeSaid planSaid eachReaches eachKept countFrom openCount countSaid
 proved = (
   ((refl, refl, refl, refl, refl, refl), ((refl, refl, refl, refl, refl, refl), ((refl, refl, refl, refl, refl, refl), ((refl, refl, refl, refl, refl, refl), ((refl, refl, refl, refl, refl, refl), ((refl, refl, refl, refl, refl, refl), ((refl, refl, refl, refl, refl, refl), ((refl, refl, refl, refl, refl, refl), ((refl, refl, refl, refl, refl, refl), ((refl, refl, refl, refl, refl, refl), ((refl, refl, refl, refl, refl, refl), ((refl, refl, refl, refl, refl, refl), ((refl, refl, refl, refl, refl, refl), ((refl, refl, refl, refl, refl, refl), ((refl, refl, refl, refl, refl, refl), ((refl, refl, refl, refl, refl, refl), ((refl, refl, refl, refl, refl, refl), tt))))))))))))))))),
   ((refl, refl, refl, refl, refl), ((refl, refl, refl, refl, refl), ((refl, refl, refl, refl, refl), tt))),

@@ -10,8 +10,9 @@ use Rattle.model.proofs.Verdicts.{judge}
 use Rattle.model.proofs.Dues.{due-in-horizon}
 use Rattle.jobs.specs.Valid.{ValidJob}
 use Rattle.verdict.specs.Ranges.{dearestPlan, Limited}
-use Rattle.verdict.proofs.Sums.{sum-most, cheap-fees}
+use Rattle.verdict.proofs.Sums.{sum-most, cheap-fees, cheap-removals}
 use Rattle.verdict.proofs.Parts.{prices-most}
+use Rattle.verdict.proofs.Removed.{removals-most}
 
 module _ (job : Job) (valid : ValidJob job) (plan : Plan) where
   pub cost-most : costOf job plan ≤ dearestPlan
@@ -23,6 +24,7 @@ module _ (job : Job) (valid : ValidJob job) (plan : Plan) where
         length-map (job .openings) feeOf,
         sum-most (map feeOf (job .openings)) (plan .stops) (cheap-fees (job .openings) (valid .openings)),
         prices-most (length (job .openings)) (valid .few-openings) (job .parts) (plan .changes) (valid .parts),
+        removals-most job (plan .changes) (valid .few-parts) (cheap-removals (length (job .openings)) (job .parts) (valid .parts)),
       )
 
   limited : (j : Judgement) → Values job plan j → Limited j

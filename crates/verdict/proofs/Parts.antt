@@ -11,6 +11,7 @@ use lib.Seq.{drop-cons, drop-drop, getD-drop}
 use denote.Laws.{Is}
 use denote.Struct.Declared.{row}
 use denote.Struct.Laws.{val}
+use Rattle.model.specs.Limits.{mostParts}
 use Rattle.model.specs.Model as model
 use Rattle.model.specs.Model.{sumAt, pricesOf}
 use Rattle.model.specs.Verdict.{Gaps, in-time, too-long, lateOf, Verdict, keeps, late, ruled, verdictFrom, noPart}
@@ -22,22 +23,22 @@ use Rattle.jobs.proofs.Plan.Laws.{the-laws}
 use Rattle.jobs.specs.declared.Changes.{Changes}
 use Rattle.jobs.specs.declared.Plan.{Plan}
 use Rattle.jobs.proofs.Lists.{firsts-size, firsts-at}
-use Rattle.verdict.specs.Steps.{lowerPart, dearestSum}
+use Rattle.verdict.specs.Steps.{blankChanges, lowerPart, dearestSum}
 use Rattle.verdict.proofs.Sums.{all-drop, sum-most, cheap-prices}
 
 -- ---- the change sets that a plan's struct holds
-
--- what stands past the end of the array
-abbrev pub blankChanges : Changes
-blankChanges = record { at = [] }
 
 -- what is known of an argument that is a plan
 abbrev pub WholePlan : Plan → Type 0
 WholePlan p = Is (row the-type) p (val the-type the-laws p ∷ [])
 
+-- there are sixteen change sets
+pub plan-long : (p : Plan) → WholePlan p → length (p .changes) ≡ mostParts
+plan-long p whole = rw length-map at (whole .1 .1 .1 .0 .1 .0 .1)
+
 module _ (j : Job) (sized : Sized j) (p : Plan) (whole : WholePlan p) where
   changes-long : j .«part_count» ≤ length (p .changes)
-  changes-long = omega (arith, sized .parts, rw length-map at (whole .1 .1 .1 .0 .1 .0 .1))
+  changes-long = omega (arith, sized .parts, plan-long p whole)
 
   pub changes-count : length (changesFor j (p .changes)) ≡ j .«part_count»
   changes-count = firsts-size (λ (c : Changes). take (j .«opening_count») (c .at)) (p .changes) (j .«part_count») changes-long

@@ -7,17 +7,11 @@ use native.Mathlib.Omega.{arith}
 use native.Mathlib.Nat.{mul-suc}
 use lib.ListN.{length, getD, drop, length-drop, drop-of-length-le}
 use lib.Seq.{drop-nil}
-use Rattle.model.specs.Model.{Opening, sumAt, feeOf}
+use Rattle.model.specs.Model.{Opening, Part, sumAt, feeOf, removalOf}
 use Rattle.model.proofs.Offers.{sum-none}
-use Rattle.jobs.specs.Valid.{All, ValidOpening, ValidPrice}
-use Rattle.verdict.specs.Steps.{dearestSum}
-
--- the highest fee and the highest price
-abbrev pub dearest : ℕ
-dearest = 1000000
-
-abbrev pub Cheap : List ℕ → Type 0
-Cheap = All (λ (n : ℕ). n ≤ dearest)
+use Rattle.model.specs.Limits.{dearest}
+use Rattle.jobs.specs.Valid.{All, ValidOpening, ValidPrice, ValidPart}
+use Rattle.verdict.specs.Steps.{dearestSum, Cheap}
 
 pub all-drop : {A : Type 0} (P : A → Type 0) (k : ℕ) (l : List A) → All P l → All P (drop k l)
 all-drop P zero l h = h
@@ -28,9 +22,12 @@ all-map : {A B : Type 0} (P : A → Type 0) (Q : B → Type 0) (f : A → B) →
 all-map P Q f g [] h = tt
 all-map P Q f g (x ∷ l) h = (g x (h .0), all-map P Q f g l (h .1))
 
--- the fees of openings, and the prices of a part
+-- the fees of openings, the removals of parts, and the prices of a part
 pub cheap-fees : (os : List Opening) → All ValidOpening os → Cheap (map feeOf os)
 cheap-fees = all-map ValidOpening (λ (n : ℕ). n ≤ dearest) feeOf (λ o h. h .fee)
+
+pub cheap-removals : (n : ℕ) (ps : List Part) → All (ValidPart n) ps → Cheap (map removalOf ps)
+cheap-removals n = all-map (ValidPart n) (λ (x : ℕ). x ≤ dearest) removalOf (λ p h. omega (arith, h .removal))
 
 pub cheap-prices : (ns : List ℕ) → All ValidPrice ns → Cheap ns
 cheap-prices [] h = tt

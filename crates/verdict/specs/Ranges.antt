@@ -3,9 +3,9 @@ use Prim.Native.Nat.{ℕ, _≤_}
 use Rattle.model.specs.Limits.{lastStep, mostParts}
 use Rattle.model.specs.Verdict.{Judgement, accepts, unkept, wrongCost}
 
--- sixty-four fees and sixteen times sixty-four prices, each of a million
+-- sixty-four fees, sixteen times sixty-four prices and as many removals, each of a million
 abbrev pub dearestPlan : ℕ
-dearestPlan = 1088000000
+dearestPlan = 2112000000
 
 -- each value is within its range
 abbrev pub Limited : Judgement → Type 0

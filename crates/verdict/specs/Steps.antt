@@ -1,13 +1,15 @@
 -- What one step of each loop adds: one gap to the gaps before it, one part to the parts before it, one number to a sum.
 use Prim.Native.Nat.{ℕ, _≤_}
 use mathlib.Core.Bool.{cond}
+use mathlib.Core.List.{List, []}
 use lib.IntN.{ℤ}
 use Rattle.model.specs.Model.{Job, within, dueOf}
 use Rattle.jobs.specs.declared.Job as code
+use Rattle.jobs.specs.declared.Changes.{Changes}
 use Rattle.clock.specs.Placed.{Position, Begins}
 use Rattle.model.specs.Verdict.{Gaps, in-time, too-long, Verdict, keeps, late}
-use Rattle.jobs.specs.Valid.{Sound}
-use Rattle.model.specs.Limits.{longestLife}
+use Rattle.jobs.specs.Valid.{All, Sound}
+use Rattle.model.specs.Limits.{longestLife, dearest}
 
 -- one gap, from the change before to the next change or the end
 abbrev pub gapOf : Job → ℤ → ℤ → ℤ → Gaps
@@ -29,6 +31,18 @@ firstLong (too-long due) b = too-long due
 abbrev pub lowerPart : Verdict → Verdict → Verdict
 lowerPart keeps b = b
 lowerPart (late part due) b = late part due
+
+-- what stands past the end of an array of change sets
+abbrev pub blankChanges : Changes
+blankChanges = record { at = [] }
+
+-- none is above the highest fee, price or removal
+abbrev pub Cheap : List ℕ → Type 0
+Cheap = All (λ (n : ℕ). n ≤ dearest)
+
+-- the most that sixteen removals at one opening can sum up to
+abbrev pub dearestStop : ℕ
+dearestStop = 16000000
 
 -- the most that sixty-four fees, or one part's prices at sixty-four openings, can sum up to, each a million at most
 abbrev pub dearestSum : ℕ

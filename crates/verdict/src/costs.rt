@@ -1,25 +1,19 @@
-// The true cost of a plan: the fees of its stops plus the prices of its changes.
+// The true cost of a plan: the fees of its stops plus the prices of its changes, and the removals.
+use crate::removals::removals_paid;
+use crate::summing::plus;
+use crate::summing::sum_at;
 use jobs::Job;
 use jobs::Part;
 use jobs::Plan;
 use part_records::part_of;
 ghost use mathlib.Core.Path.{_≡_};
 ghost use mathlib.Core.List.{map};
-ghost use Prim.Native.Nat.{_+_, _≤_};
+ghost use Prim.Native.Nat.{_≤_};
 ghost use lib.ListN.{take};
 ghost use Rattle.model.specs.Model.{sumAt, feeOf, pricesOf, costOf};
 ghost use Rattle.jobs.specs.Views.{jobOf, partOf, changesFor, planFor};
 ghost use Rattle.jobs.specs.Valid.{ValidPart, Sound};
-ghost use Rattle.verdict.specs.Steps.{dearestSum};
 ghost use Rattle.model.specs.Limits.{mostOpenings};
-
-// A fee or a price more.
-fn plus(sum: u64, price: u32) -> u64
-    requires { ⌜ sum ≤ dearestSum ⌝ }
-    ensures { λ r. ⌜ r ≡ price + sum ⌝ }
-{
-    sum + price as u64
-}
 
 // The fees of the stops.
 fn fees_of(job: Job, stops: [bool; 64]) -> u64
@@ -43,15 +37,8 @@ fn part_prices(n: usize, part: Part, changes: [bool; 64]) -> u64
     requires { ⌜ (n ≤ mostOpenings) × ValidPart n (partOf n part) ⌝ }
     ensures { λ r. ⌜ r ≡ sumAt (take n (part .prices)) (take n changes) ⌝ }
 {
-    let mut sum: u64 = 0;
-    let mut k = n;
-    while 0 < k {
-        k -= 1;
-        if changes[k] {
-            sum = plus(sum, part.prices[k]);
-        }
-    }
-    sum
+    let prices = part.prices;
+    sum_at(n, &prices, &changes)
 }
 
 // The prices of every part's changes.
@@ -74,7 +61,7 @@ fn prices_of(job: Job, plan: Plan) -> u64
     sum
 }
 
-// The cost of a plan: the fees of its stops plus the prices of its changes.
+// The cost of a plan: the fees of its stops plus the prices of its changes, and the removals.
 pub fn cost_of(job: Job, plan: Plan) -> u64
     requires { ⌜ Sound job ⌝ }
     ensures { λ r. ⌜ r ≡ costOf (jobOf job) (planFor job plan) ⌝ }
@@ -82,5 +69,6 @@ pub fn cost_of(job: Job, plan: Plan) -> u64
     let stops = plan.stops;
     let fees = fees_of(job, stops);
     let prices = prices_of(job, plan);
-    fees + prices
+    let removals = removals_paid(job, plan);
+    fees + prices + removals
 }

@@ -1,6 +1,8 @@
 // The judge's verdict on a plan: the lives, the true cost, and the judgement (here).
 pub mod costs;
 pub mod lives;
+pub mod removals;
+pub mod summing;
 
 use costs::cost_of;
 use jobs::Job;

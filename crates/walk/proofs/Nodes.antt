@@ -8,8 +8,7 @@ use native.Mathlib.Numerals.{add-one}
 use native.Mathlib.Nat.{add-zero, two-pow-succ, pow-le-pow-right}
 use borrow.Author.Tests.{ltb-false, lt-ltb, le-ltb, leb-true, leb-false}
 use lib.Dec.{ltb, leb}
-use lib.IntN.{ℤ}
-use lib.ListN.{length, getD, drop, length-append}
+use lib.ListN.{length, getD, length-append}
 use Rattle.branch.specs.declared.Bound.{Bound}
 use Rattle.branch.specs.declared.Bound.the-variants.{Missing, Sum}
 use Rattle.branch.specs.Lower.{add, total}
@@ -18,8 +17,8 @@ use Rattle.branch.specs.Label.{limitedFrom, openFrom}
 use Rattle.branch.proofs.Bounds.{no-sum, sum-inj}
 use Rattle.branch.proofs.Steps.{fixed-stop, fixed-drop, fixed-open, open-full, open-both}
 use Rattle.model.specs.Model.{sumAt}
-use Rattle.model.specs.LowerBound.{Offer, leastOf, offers}
 use Rattle.model.specs.LastYes.{lastYes}
+use Rattle.model.proofs.Fees.{sum-snoc}
 use Rattle.model.proofs.LastYes.{last-no, last-yes}
 use Rattle.walk.specs.declared.Search.{Search}
 use Rattle.walk.specs.declared.Node.{Node}
@@ -28,6 +27,7 @@ use Rattle.lane_rows.specs.Sheet.{Column, Sheet, columnBound, partSums, feeTerm
 use Rattle.lane_rows.specs.Tables.{sumWhere, Tables}
 use Rattle.lane_rows.specs.Rows.{lane, sumLanes, FirstRow, Rows, Stack, Memo, Looks, Recalled, termAt, sumsAt, Put, Kept, nextRow, Owing, Settled}
 use Rattle.walk.specs.State.{bits, decided, incumbent, view, viewed, noCost, countedS, keptS, reachedS, undropped, openS, noN, yesN, Pending, ready, owed, At}
+use Rattle.lane_rows.proofs.Front.{column-yes}
 use Rattle.lane_rows.proofs.Terms.{last-most, first-by, below-by, own-by, node-term, sums-by}
 use Rattle.lane_rows.proofs.Lanes.{lane-most, sum-most, node-there, node-rises, rows-no, rows-yes, rows-kept, rows-root, first-sums, kept-refl, stack-no, stack-yes}
 use Rattle.lane_rows.proofs.Memory.{memo-root}
@@ -65,14 +65,6 @@ mask-next k m h =
 
 -- ---- fees and sums
 
-fees-snoc : (fs : List ℕ) (p : List Bool) (b : Bool) → length p < length fs → sumAt fs (snoc p b) ≡ sumAt fs p + cond b (getD fs (length p) 0) 0
-unfolding sumAt
-fees-snoc [] p b h = absurd (omega arith)
-fees-snoc (f ∷ fs) [] true h = omega arith
-fees-snoc (f ∷ fs) [] false h = omega arith
-fees-snoc (f ∷ fs) (true ∷ p) b h = omega (arith, fees-snoc fs p b (omega arith))
-fees-snoc (f ∷ fs) (false ∷ p) b h = fees-snoc fs p b (omega arith)
-
 fees-none : (fs : List ℕ) → sumAt fs [] ≡ 0
 unfolding sumAt
 fees-none fs = refl
@@ -81,17 +73,9 @@ total-same : (f : Column → List Bool → Bound) (xs : List Column) (p q : List
 total-same f [] p q e = refl
 total-same f (x ∷ xs) p q e = ap₂ add (e x) (total-same f xs p q e)
 
--- a yes and an undecided opening are the same to a part
-offers-yes : (ss : List ℤ) (ns : List ℕ) (p : List Bool) → offers ss ns p ≡ offers ss ns (snoc p true)
-unfolding offers
-offers-yes [] ns p = refl
-offers-yes (s ∷ ss) ns [] = refl
-offers-yes (s ∷ ss) ns (b ∷ p) = ap (λ (l : List Offer). record { position = s; price = getD ns 0 0; allowed = b } ∷ l) (offers-yes ss (drop 1 ns) p)
-
 -- so a yes child has its parent's part sums
 yes-sums : (sheet : Sheet) (p : List Bool) → partSums sheet p ≡ partSums sheet (snoc p true)
-unfolding columnBound
-yes-sums sheet p = total-same (columnBound sheet) (sheet .columns) p (snoc p true) (λ col. ap (leastOf (col .life) (sheet .end) (col .first)) (offers-yes (sheet .positions) (col .prices) p))
+yes-sums sheet p = total-same (columnBound sheet) (sheet .columns) p (snoc p true) (λ col. column-yes sheet col p)
 
 -- the sum where a number is a price
 where-sum : (n s x : ℕ) → sumWhere n s ≡ Sum x → s ≡ x
@@ -235,7 +219,7 @@ module _ (sheet : Sheet) (t w w' : List ℕ) (p : Node) (stop : Bool) (e : Bound
         tables = a .tables;
         inside = omega arith;
         mask = omega (arith, mask-next (p .at) (p .mask) (a .mask));
-        spent = a .spent ∙ sym (ap (sumAt (sheet .fees)) d ∙ fees-snoc (sheet .fees) (decided p) false (omega (arith, less)) ∙ add-zero (sumAt (sheet .fees) (decided p)));
+        spent = a .spent ∙ sym (ap (sumAt (sheet .fees)) d ∙ sum-snoc (sheet .fees) (decided p) false (omega (arith, less)) ∙ add-zero (sumAt (sheet .fees) (decided p)));
         poor = omega (arith, a .poor);
         sums = g ∙ no-sums ∙ ap (partSums sheet) (sym d);
         low = λ y u.
@@ -255,7 +239,7 @@ module _ (sheet : Sheet) (t w w' : List ℕ) (p : Node) (stop : Bool) (e : Bound
         tables = a .tables;
         inside = omega arith;
         mask = mask-next (p .at) (p .mask) (a .mask);
-        spent = ap₂ (λ (m n : ℕ). m + n) (a .spent) cost ∙ sym (ap (sumAt (sheet .fees)) d ∙ fees-snoc (sheet .fees) (decided p) true (omega (arith, less)));
+        spent = ap₂ (λ (m n : ℕ). m + n) (a .spent) cost ∙ sym (ap (sumAt (sheet .fees)) d ∙ sum-snoc (sheet .fees) (decided p) true (omega (arith, less)));
         poor = omega (arith, a .poor, cost, a .tables .fair (length (decided p)));
         sums = sym f ∙ a .sums ∙ yes-sums sheet (decided p) ∙ ap (partSums sheet) (sym d);
         low = λ y q. a .low y (f ∙ q);

@@ -22,6 +22,17 @@ impl Plain {
     fn each(self, other: Plain, f: impl Fn(u32, u32) -> u32) -> Plain {
         Plain(std::array::from_fn(|lane| f(self.0[lane], other.0[lane])))
     }
+
+    #[inline(always)]
+    pub fn greatest(self, other: Plain) -> Plain {
+        self.each(other, |a, b| if (a as i32) < b as i32 { b } else { a })
+    }
+
+    /// The value in the lanes of the set, given as bits, and 0 in the others.
+    #[inline(always)]
+    pub fn shut(set: u32, value: u32) -> Plain {
+        Plain(std::array::from_fn(|lane| if set & 1 << lane == 0 { 0 } else { value }))
+    }
 }
 
 impl Lanes for Plain {

@@ -2,15 +2,17 @@
 //! each opening on, a stack of rows of least prices up to each stop with a memo of their sums, the parts side by side, the decisions as a mask.
 //! Its reader trusts the text, and it shares no code with the reference.
 
+mod holders;
 mod lanes;
 mod recursive;
 mod walk;
 
+use holders::walk_held;
 #[cfg(target_arch = "x86_64")]
 use lanes::{Avx2, Sse2};
 use lanes::{Lanes, Plain};
 use recursive::Recursion;
-use walk::{Form, Loop, Tables};
+use walk::{Form, Loop, Tables, MAX_OPENINGS};
 
 /// The facts of a job, for the walk.
 #[derive(Debug, Clone, Default)]
@@ -28,6 +30,9 @@ pub struct Job {
 pub struct Part {
     pub life: i32,
     pub left: i32,
+    pub removal: u32,
+    /// The places of its holders among the parts, from 0.
+    pub holders: Vec<usize>,
     pub prices: Vec<u32>,
 }
 
@@ -38,8 +43,15 @@ pub struct Found {
     /// Whether the whole walk has more nodes.
     pub more: bool,
     pub floor: u64,
-    /// The best plan's cost and its stops, opening k in bit k.
-    pub best: Option<(u64, u64)>,
+    pub best: Option<Best>,
+}
+
+/// The best plan: its cost, its stops (opening k in bit k), and the parts decided to be removed at each (part p in bit p).
+#[derive(Debug, Clone, Copy, PartialEq, Eq)]
+pub struct Best {
+    pub cost: u64,
+    pub stops: u64,
+    pub removed: [u16; MAX_OPENINGS],
 }
 
 /// How the parts are computed side by side.
@@ -53,10 +65,12 @@ pub enum Unit {
     Sse2,
     /// Vectors of eight.
     Avx2,
+    /// Arrays, the walk that decides removals too: the only one for jobs in which a removal costs something or a part holds another.
+    Holders,
 }
 
 impl Unit {
-    /// The units that this machine has.
+    /// The units that this machine has for jobs without removals.
     pub fn all() -> Vec<Unit> {
         let mut units = vec![Unit::Plain, Unit::Recursive];
         #[cfg(target_arch = "x86_64")]
@@ -85,6 +99,8 @@ impl Job {
                 b"fee" => job.fees.push(value as u32),
                 b"life" => job.parts.push(Part { life: value as i32, ..Part::default() }),
                 b"left" => job.parts.last_mut().expect("a part").left = value as i32,
+                b"removal" => job.parts.last_mut().expect("a part").removal = value as u32,
+                b"holder" => job.parts.last_mut().expect("a part").holders.push(value as usize - 1),
                 b"price" => job.parts.last_mut().expect("a part").prices.push(value as u32),
                 _ => {}
             }
@@ -97,9 +113,15 @@ impl Job {
         step - self.idles.partition_point(|idle| *idle <= step) as i32
     }
 
-    /// The walk with the job's own limit, or none where the job has no plan. The machine must have the unit.
+    /// Whether no removal costs anything and no part holds another.
+    pub fn is_plain(&self) -> bool {
+        self.parts.iter().all(|part| part.removal == 0 && part.holders.is_empty())
+    }
+
+    /// The walk with the job's own limit, or none where the job has no plan. The machine must have the unit, and the unit must be for
+    /// such a job.
     pub fn solve(&self, unit: Unit) -> Option<Found> {
-        assert!(Unit::all().contains(&unit), "this machine has no {unit:?}");
+        assert!(unit == Unit::Holders || (self.is_plain() && Unit::all().contains(&unit)), "{unit:?} is not for this");
         match unit {
             Unit::Plain => self.by_width::<Plain, Loop>(),
             Unit::Recursive => self.by_width::<Plain, Recursion>(),
@@ -110,6 +132,12 @@ impl Job {
             Unit::Avx2 => match self.parts.len() {
                 0..=8 => unsafe { walk_avx2::<1>(self) },
                 _ => unsafe { walk_avx2::<2>(self) },
+            },
+            Unit::Holders => match self.parts.len() {
+                0..=4 => walk_held::<1>(self),
+                5..=8 => walk_held::<2>(self),
+                9..=12 => walk_held::<3>(self),
+                _ => walk_held::<4>(self),
             },
             #[cfg(not(target_arch = "x86_64"))]
             _ => unreachable!("no such machine"),

@@ -6,19 +6,19 @@ use super::walk::{Form, Front, Search, Tables, INF};
 impl Search {
     /// A node of this cost is walked on: it is within the limit and costs less than the best plan.
     #[inline(always)]
-    fn opens(self, limit: u64, cost: u64) -> bool {
+    pub fn opens(self, limit: u64, cost: u64) -> bool {
         self.count < limit && (!self.found || cost < self.cost)
     }
 
     /// One node more.
     #[inline(always)]
-    fn counted(self) -> Search {
+    pub fn counted(self) -> Search {
         Search { count: self.count + 1, ..self }
     }
 
     /// A node is reached: one more, or one beyond the limit.
     #[inline(always)]
-    fn reached(self, limit: u64) -> Search {
+    pub fn reached(self, limit: u64) -> Search {
         if self.count < limit {
             self.counted()
         } else {

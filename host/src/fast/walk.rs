@@ -1,13 +1,13 @@
 //! The tables and the walk as a loop. Mark 0 is the first life, mark k + 1 a change at opening k.
 
 use super::lanes::Lanes;
-use super::{Found, Job, Part};
+use super::{Best, Found, Job, Part};
 
 /// Stands for a missing price. A price that is not missing is at most 64,000,000, and sixteen of them sum to less than this; four of
 /// this still fit a lane.
 pub const INF: u32 = 1_030_000_000;
 
-const MAX_OPENINGS: usize = 64;
+pub const MAX_OPENINGS: usize = 64;
 
 /// A price for each part.
 pub type Row<V, const Q: usize> = [V; Q];
@@ -16,11 +16,11 @@ pub type Row<V, const Q: usize> = [V; Q];
 pub struct Tables<V, const Q: usize> {
     pub count: usize,
     pub fees: Vec<u64>,
-    prices: Vec<Row<V, Q>>,
+    pub prices: Vec<Row<V, Q>>,
     /// `ends[triangle(j) + mark]`: the least price of changes at opening j and later that keep the part after the mark.
-    ends: Vec<Row<V, Q>>,
+    pub ends: Vec<Row<V, Q>>,
     /// `reach[triangle(j) + mark]`: 0 where opening j is within the life after the mark, else INF.
-    reach: Vec<Row<V, Q>>,
+    pub reach: Vec<Row<V, Q>>,
     /// `terms[triangle(j) + mark]`: where j openings are decided and the mark is that of the last yes, the largest over the parts of the
     /// least fee of openings that keep the part; INF where one has none.
     terms: Vec<u32>,
@@ -28,12 +28,12 @@ pub struct Tables<V, const Q: usize> {
 
 /// Where the marks 0 to j of opening j begin in a table.
 #[inline(always)]
-fn triangle(j: usize) -> usize {
+pub fn triangle(j: usize) -> usize {
     j * (j + 1) / 2
 }
 
 /// Raises the terms to those of a part.
-fn raise(terms: &mut [u32], part: &Part, positions: &[i32], fees: &[u32], last: i32) {
+pub fn raise(terms: &mut [u32], part: &Part, positions: &[i32], fees: &[u32], last: i32) {
     let count = positions.len();
     let position = |mark: usize| if mark == 0 { part.left - part.life } else { positions[mark - 1] };
     let mut least: [u32; MAX_OPENINGS + 1] =
@@ -209,7 +209,7 @@ impl<V: Lanes, const Q: usize> Tables<V, Q> {
         let floor = u64::from(sum) + self.top(0);
         let Search { count, over, found, cost, mask } = F::search(self, &mut front, limit, sum);
         let stops = || (0..self.count).fold(0, |stops, k| stops | (mask >> (self.count - 1 - k) & 1) << k);
-        Some(Found { nodes: count, more: over, floor, best: found.then(|| (cost, stops())) })
+        Some(Found { nodes: count, more: over, floor, best: found.then(|| Best { cost, stops: stops(), removed: [0; MAX_OPENINGS] }) })
     }
 }
 

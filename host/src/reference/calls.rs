@@ -1,4 +1,4 @@
-//! The planner's and the judge's answers, in the order of the result numbers.
+//! The planner's, the judge's and the count's answers, in the order of the result numbers.
 
 use super::lines::Fault;
 use super::texts::{plan_lines, read_job, read_plan};
@@ -23,7 +23,8 @@ impl Reply {
         Reply { result, bytes: format!("result={result}\n{more}").into_bytes(), ..Reply::default() }
     }
 
-    /// "Numbers 1 to 5 and 9: `result`, `text` (1 job, 2 plan), `line` (from 1; 0 for number 1)."
+    /// "Numbers 1 to 5 and 9: `result`, `text` (1 job, 2 plan), `line` (from 1; 0 for number 1)." "Text errors from 12 on write and hand
+    /// the host what 3 would, under their own number."
     pub(super) fn fault(text: u32, fault: Fault) -> Reply {
         let Fault { result, line, start, length } = fault;
         let reply = Reply::new(result, &format!("text={text}\nline={line}\n"));
@@ -52,7 +53,7 @@ pub fn plan(job_text: &[u8], output: usize) -> Reply {
     // "7: the walk has more points than `walk`." "Planner 0 and 7: `result`, `nodes` (points walked), `floor`, then the plan lines; with
     // 7 and no plan it ends after `floor`."
     let walk = job.walk(job.walk);
-    let plan = walk.best.and_then(|(_, stops)| job.plan_at(&stops));
+    let plan = walk.best.and_then(|(_, point)| job.plan_at(&point));
     let lines = plan.map_or(String::new(), |plan| plan_lines(&job, &plan));
     Reply::new(if walk.more { 7 } else { 0 }, &format!("nodes={}\nfloor={floor}\n{lines}", walk.nodes))
 }
@@ -79,4 +80,26 @@ pub fn judge(job_text: &[u8], plan_text: &[u8], output: usize) -> Reply {
     // "11: all kept, but `cost` is not the plan's cost." Both print the true cost.
     let cost = job.cost(&plan);
     Reply::new(if cost == stated { 0 } else { 11 }, &format!("cost={cost}\n"))
+}
+
+/// All that the count hands over.
+#[derive(Debug, Clone, PartialEq, Eq, Default)]
+pub struct Counted {
+    pub result: u32,
+    pub text: u32,
+    pub line: u32,
+    pub count: u64,
+    pub fault_start: usize,
+    pub fault_length: usize,
+}
+
+/// The count, by walking: at most `most` points, where the call says how many there are. "It hands back result, line and count; the count
+/// is 0 for a refused job text."
+pub fn count(job_text: &[u8], most: u64) -> Counted {
+    match read_job(job_text) {
+        // "E6's count refuses jobs with a holder": "12 with line 0 after all text checks".
+        Ok(job) if !job.holding().is_empty() => Counted { result: 12, ..Counted::default() },
+        Ok(job) => Counted { count: job.open_points(most), ..Counted::default() },
+        Err(Fault { result, line, start, length }) => Counted { result, text: 1, line, count: 0, fault_start: start, fault_length: length },
+    }
 }

@@ -39,9 +39,38 @@ impl Text {
     }
 }
 
-/// The step before place `at`.
+/// The number before place `at`.
 fn before(steps: &[u32], at: usize) -> Option<u32> {
     at.checked_sub(1).map(|at| steps[at])
+}
+
+/// Whether the parts' lists have the lengths that go with the lives and the openings. `covered` says for each part whether its lines
+/// stand; a removal and an inside belong to each that has them, and the holders stand part after part.
+fn fits(form: &Form) -> bool {
+    let parts = form.lives.len();
+    let covered = form.covered.iter().filter(|stands| **stands == 1).count();
+    let inside: u64 = form.insides.iter().map(|count| u64::from(*count)).sum();
+    form.lefts.len() == parts
+        && form.covered.len() == parts
+        && form.covered.iter().all(|stands| *stands < 2)
+        && form.removals.len() == covered
+        && form.insides.len() == covered
+        && form.holders.len() as u64 == inside
+        && form.prices.len() == parts * form.openings.len()
+}
+
+/// The lines of a part's removal and holders. "12 for a holder that doesn't rise, is above `parts` or is the part itself".
+fn put_cover(text: &mut Text, form: &Form, part: usize, removal: u32, holders: &[u32]) -> Result<(), Fault> {
+    text.put("removal", u64::from(removal), 0, 1_000_000)?;
+    text.put("inside", holders.len() as u64, 0, 15)?;
+    for (at, holder) in holders.iter().enumerate() {
+        text.put("holder", u64::from(*holder), 1, 16)?;
+        let number = *holder as usize;
+        if before(holders, at).is_some_and(|before| *holder <= before) || number > form.lives.len() || number == part + 1 {
+            return Err(text.fault(12));
+        }
+    }
+    Ok(())
 }
 
 fn lines(form: &Form) -> Result<Text, Fault> {
@@ -66,11 +95,19 @@ fn lines(form: &Form) -> Result<Text, Fault> {
         text.put("fee", u64::from(form.fees[at]), 0, 1_000_000)?;
     }
 
+    put_parts(&mut text, form)?;
+    Ok(text)
+}
+
+/// The lines from `parts` on.
+fn put_parts(text: &mut Text, form: &Form) -> Result<(), Fault> {
     text.put("parts", form.lives.len() as u64, 1, 16)?;
-    // "lefts not as many as lives, prices not parts times openings, [..] on the `parts` line".
-    if form.lefts.len() != form.lives.len() || form.prices.len() != form.lives.len() * form.openings.len() {
+    // "lefts not as many as lives, prices not parts times openings, or a list added later of a wrong length, on the `parts` line".
+    if !fits(form) {
         return Err(text.fault(3));
     }
+    let mut covers = form.removals.iter().zip(form.insides);
+    let mut holders = form.holders;
     for (part, life) in form.lives.iter().enumerate() {
         text.put("life", u64::from(*life), 1, 1000)?;
         text.put("left", u64::from(form.lefts[part]), 1, 1000)?;
@@ -78,11 +115,17 @@ fn lines(form: &Form) -> Result<Text, Fault> {
         if form.lefts[part] > *life {
             return Err(text.fault(5));
         }
+        if form.covered[part] == 1 {
+            let (removal, inside) = covers.next().expect("a removal and an inside for each covered part");
+            let (own, rest) = holders.split_at(*inside as usize);
+            put_cover(text, form, part, *removal, own)?;
+            holders = rest;
+        }
         for price in &form.prices[part * form.openings.len()..][..form.openings.len()] {
             text.put("price", u64::from(*price), 1, 1_000_000)?;
         }
     }
-    Ok(text)
+    Ok(())
 }
 
 /// The writer, with an output of this length. "A call that writes a job text puts no `result` line before it; a refusal there writes the

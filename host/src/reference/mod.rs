@@ -1,4 +1,4 @@
-//! A second implementation of the planner, the judge and the writer, written from the specification sentence by sentence. It is slow and plain, and
+//! A second implementation of the planner, the judge, the writer and the count, written from the specification sentence by sentence. It is slow and plain, and
 //! it uses no code of any other part of the repository.
 
 pub mod brute;
@@ -9,5 +9,5 @@ pub mod model;
 pub mod texts;
 pub mod walk;
 
-pub use calls::{judge, plan, Reply};
+pub use calls::{count, judge, plan, Counted, Reply};
 pub use form::write;

@@ -7,11 +7,17 @@ pub struct Opening {
     pub fee: u64,
 }
 
-/// "A part has a life L and a first life R ("left")." Its price at each opening.
+/// "A part has a life L and a first life R ("left")." What its removal costs, the parts that come out before it, and its price at each
+/// opening. "A part without them has removal 0 and no holders".
 #[derive(Debug, Clone, PartialEq, Eq)]
 pub struct Part {
     pub life: i64,
     pub left: i64,
+    /// Whether the lines `removal`, `inside` and `holder` stand.
+    pub covered: bool,
+    pub removal: u64,
+    /// The places of its holders among the parts, from 0, rising.
+    pub holders: Vec<usize>,
     pub prices: Vec<u64>,
 }
 
@@ -25,7 +31,7 @@ pub struct Job {
     pub parts: Vec<Part>,
 }
 
-/// A set of openings: a yes or no for each.
+/// A set of openings, or of parts: a yes or no for each.
 pub type Set = Vec<bool>;
 
 /// "A plan is a set of openings, its stops, and for each part a set of openings at which it is changed."
@@ -82,20 +88,45 @@ impl Job {
         self.openings.iter().zip(stops).filter(|(_, stop)| **stop).map(|(opening, _)| opening.fee).sum()
     }
 
-    /// "Its cost is the fees of its stops plus the prices of its changes."
+    /// What comes out with a part: "Changing a part removes it and all its holders". "Holders work through chains"; "Holders may run in a
+    /// circle; they then come out together".
+    pub fn comes_out(&self, part: usize) -> Set {
+        let mut out = vec![false; self.parts.len()];
+        out[part] = true;
+        // The longest chain without a part twice has fewer links than there are parts.
+        for _ in &self.parts {
+            for at in 0..out.len() {
+                if out[at] {
+                    self.parts[at].holders.iter().for_each(|holder| out[*holder] = true);
+                }
+            }
+        }
+        out
+    }
+
+    /// "Each part that is somebody's holder, by rising number".
+    pub fn holding(&self) -> Vec<usize> {
+        (0..self.parts.len()).filter(|at| self.parts.iter().any(|part| part.holders.contains(at))).collect()
+    }
+
+    /// "Each removed part costs its removal once at that stop."
+    fn removals(&self, plan: &Plan, opening: usize) -> u64 {
+        let changed = (0..self.parts.len()).filter(|part| plan.changes[*part][opening]);
+        let out: Vec<Set> = changed.map(|part| self.comes_out(part)).collect();
+        let removed = |at: &usize| out.iter().any(|out| out[*at]);
+        (0..self.parts.len()).filter(removed).map(|at| self.parts[at].removal).sum()
+    }
+
+    /// "Its cost is the fees of its stops plus the prices of its changes", and the removals.
     pub fn cost(&self, plan: &Plan) -> u64 {
         let prices = |(part, changes): (&Part, &Set)| part.price(changes);
-        self.fees(&plan.stops) + self.parts.iter().zip(&plan.changes).map(prices).sum::<u64>()
+        let removals = (0..self.openings.len()).map(|opening| self.removals(plan, opening));
+        self.fees(&plan.stops) + self.parts.iter().zip(&plan.changes).map(prices).sum::<u64>() + removals.sum::<u64>()
     }
 
-    /// The least-price change set that keeps the part over the allowed openings, with its price, or none.
+    /// The change set of least sum of these prices that keeps the part over the allowed openings, with that sum, or none.
     /// Of two of equal price, "the one that makes no stop at the earliest opening where they differ is taken"; "each part's least-price
     /// change set is chosen the same way".
-    pub fn least(&self, part: &Part, allowed: &Set) -> Option<(u64, Set)> {
-        self.least_of(part, &part.prices, allowed)
-    }
-
-    /// The same of these prices.
     pub fn least_of(&self, part: &Part, prices: &[u64], allowed: &Set) -> Option<(u64, Set)> {
         let count = self.openings.len();
         // The last change: 0 is the first life, k + 1 is opening k.

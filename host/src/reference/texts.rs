@@ -1,10 +1,10 @@
-//! "The texts": the job's lines with its idle lines, the plan's lines, and how a plan is printed.
+//! "The texts": the job's lines with its idle lines and the lines of parts that others hold, the plan's lines, and how a plan is printed.
 
 use super::lines::{Fault, Lines};
 use super::model::{Job, Opening, Part, Plan};
 
 /// "Job: `horizon` 2..365; `walk` 0..4000000000; `openings` 0..64; for each, `opening` 1..365 and `fee` 0..1000000; `parts` 1..16; for
-/// each, `life` 1..1000, `left` 1..1000, then one `price` 1..1000000 per opening."
+/// each, `life` 1..1000, `left` 1..1000, then one `price` 1..1000000 per opening." The optional lines stand where the requests put them.
 pub fn read_job(text: &[u8]) -> Result<Job, Fault> {
     let mut lines = Lines::new(text)?;
     let horizon = lines.value("horizon", 2, 365)? as i64;
@@ -23,23 +23,44 @@ pub fn read_job(text: &[u8]) -> Result<Job, Fault> {
         openings.push(Opening { step, fee });
     }
 
-    let mut parts = Vec::new();
-    for _ in 0..lines.value("parts", 1, 16)? {
-        let life = lines.value("life", 1, 1000)? as i64;
-        let left = lines.value("left", 1, 1000)? as i64;
-        // "5: `left` greater than `life`, on the `left` line."
-        if left > life {
-            return Err(lines.fault(5));
-        }
-        let mut prices = Vec::new();
-        for _ in 0..count {
-            prices.push(lines.value("price", 1, 1_000_000)?);
-        }
-        parts.push(Part { life, left, prices });
-    }
+    let parts = lines.value("parts", 1, 16)? as usize;
+    let parts = (0..parts).map(|own| read_part(&mut lines, own, parts, count)).collect::<Result<Vec<Part>, Fault>>()?;
 
     lines.end()?;
     Ok(Job { horizon, idles, walk, openings, parts })
+}
+
+/// The lines of the part at place `own` of `parts`, with a price for each of `openings`.
+fn read_part(lines: &mut Lines, own: usize, parts: usize, openings: u64) -> Result<Part, Fault> {
+    let life = lines.value("life", 1, 1000)? as i64;
+    let left = lines.value("left", 1, 1000)? as i64;
+    // "5: `left` greater than `life`, on the `left` line."
+    if left > life {
+        return Err(lines.fault(5));
+    }
+    let covered = lines.begins("removal=");
+    let (removal, holders) = if covered { read_cover(lines, own, parts)? } else { (0, Vec::new()) };
+    let mut prices = Vec::new();
+    for _ in 0..openings {
+        prices.push(lines.value("price", 1, 1_000_000)?);
+    }
+    Ok(Part { life, left, covered, removal, holders, prices })
+}
+
+/// "After each `left` a job may have `removal` 0..1000000, `inside` 0..15 and that many `holder` lines, 1..16, rising". They are there
+/// exactly if the next line begins with `removal=`. The removal, and the places of the holders from 0.
+fn read_cover(lines: &mut Lines, own: usize, parts: usize) -> Result<(u64, Vec<usize>), Fault> {
+    let removal = lines.value("removal", 0, 1_000_000)?;
+    let mut holders: Vec<usize> = Vec::new();
+    for _ in 0..lines.value("inside", 0, 15)? {
+        let holder = lines.value("holder", 1, 16)? as usize - 1;
+        // "12 for a holder that doesn't rise, is above `parts` or is the part itself, on its line after 3".
+        if holders.last().is_some_and(|before| holder <= *before) || holder >= parts || holder == own {
+            return Err(lines.fault(12));
+        }
+        holders.push(holder);
+    }
+    Ok((removal, holders))
 }
 
 /// "After `horizon` a job may have `idles` 1..365 and that many `idle` lines, 1..365, rising and within the horizon; without the line no
@@ -60,8 +81,8 @@ fn read_idles(lines: &mut Lines, horizon: i64) -> Result<Vec<i64>, Fault> {
     Ok(idles)
 }
 
-/// "Plan: `cost` 0..2000000000; `stops` 0..64; for each, `stop` 1..365 and `count` 0..16, then that many `part` 1..16." The plan and the
-/// cost that it states.
+/// "Plan: `cost` [..]; `stops` 0..64; for each, `stop` 1..365 and `count` 0..16, then that many `part` 1..16." "The plan's `cost` may now
+/// be up to 4000000000." The plan and the cost that it states.
 pub fn read_plan(job: &Job, text: &[u8]) -> Result<(Plan, u64), Fault> {
     let openings = job.openings.len();
     let mut plan = Plan { stops: vec![false; openings], changes: vec![vec![false; openings]; job.parts.len()] };
@@ -70,7 +91,7 @@ pub fn read_plan(job: &Job, text: &[u8]) -> Result<(Plan, u64), Fault> {
         return Ok((plan, 0));
     }
     let mut lines = Lines::new(text)?;
-    let cost = lines.value("cost", 0, 2_000_000_000)?;
+    let cost = lines.value("cost", 0, 4_000_000_000)?;
 
     let mut step_before = 0;
     for _ in 0..lines.value("stops", 0, 64)? {

@@ -4,10 +4,13 @@ use super::inputs::{self, Facts, Size};
 use super::rng::Rng;
 use juzvarola_host::reference::Reply;
 use juzvarola_host::Form;
-use std::path::Path;
+use std::path::{Path, PathBuf};
 
-/// The lists of a form, in the job text's order: idles, openings, fees, lives, lefts, prices.
-pub const LISTS: [&str; 6] = ["idles", "openings", "fees", "lives", "lefts", "prices"];
+/// The lists of a form, in the job text's order.
+pub const LISTS: [&str; 10] = ["idles", "openings", "fees", "lives", "lefts", "covered", "removals", "insides", "holders", "prices"];
+
+/// The place of `covered`.
+const COVERED: usize = 5;
 
 /// A call of the writer, with lists of its own.
 #[derive(Debug, Clone, Default)]
@@ -15,24 +18,29 @@ pub struct FormCall {
     pub output: usize,
     pub horizon: u32,
     pub walk: u32,
-    pub lists: [Vec<u32>; 6],
+    pub lists: [Vec<u32>; 10],
 }
 
 impl FormCall {
     pub fn form(&self) -> Form<'_> {
-        let [idles, openings, fees, lives, lefts, prices] = &self.lists;
-        Form { horizon: self.horizon, idles, walk: self.walk, openings, fees, lives, lefts, prices }
+        let [idles, openings, fees, lives, lefts, covered, removals, insides, holders, prices] = &self.lists;
+        Form { horizon: self.horizon, idles, walk: self.walk, openings, fees, lives, lefts, covered, removals, insides, holders, prices }
     }
 
     /// The form that has a job's facts.
     pub fn of(facts: &Facts, output: usize) -> FormCall {
         let numbers = |values: Vec<u64>| values.into_iter().map(|value| value as u32).collect();
+        let covers = || facts.parts.iter().filter_map(|part| part.cover.as_ref());
         let lists = [
             numbers(facts.idles.clone()),
             numbers(facts.openings.iter().map(|opening| opening.0).collect()),
             numbers(facts.openings.iter().map(|opening| opening.1).collect()),
             numbers(facts.parts.iter().map(|part| part.life).collect()),
             numbers(facts.parts.iter().map(|part| part.left).collect()),
+            numbers(facts.parts.iter().map(|part| u64::from(part.cover.is_some())).collect()),
+            numbers(covers().map(|cover| cover.0).collect()),
+            numbers(covers().map(|cover| cover.1.len() as u64).collect()),
+            numbers(covers().flat_map(|cover| cover.1.clone()).collect()),
             numbers(facts.parts.iter().flat_map(|part| part.prices.clone()).collect()),
         ];
         FormCall { output, horizon: facts.horizon as u32, walk: facts.walk as u32, lists }
@@ -75,8 +83,48 @@ fn resize(rng: &mut Rng, list: &mut Vec<u32>) {
     }
 }
 
+/// A damage to what the lists say of removals and holders.
+fn damage_covers(rng: &mut Rng, call: &mut FormCall) {
+    let [.., lives, _, covered, removals, insides, holders, _] = &mut call.lists;
+    let parts = lives.len() as u32;
+    let numbers = [0, 1, 2, 3, parts, parts.wrapping_add(1), 15, 16, 17, u32::MAX];
+    match rng.below(6) {
+        // One part's lines more or fewer, with a removal and no holder or without them.
+        0 if !covered.is_empty() => {
+            let part = rng.below(covered.len() as u64) as usize;
+            covered[part] ^= 1;
+        }
+        1 if covered.contains(&0) => {
+            let part = covered.iter().position(|stands| *stands == 0).expect("one without lines");
+            let before = covered[..part].iter().filter(|stands| **stands == 1).count();
+            covered[part] = 1;
+            removals.insert(before.min(removals.len()), rng.pick(&[0, 7, 1_000_000, 1_000_001]));
+            insides.insert(before.min(insides.len()), 0);
+        }
+        // One holder more of some part.
+        2 | 3 if !insides.is_empty() => {
+            let at = rng.below(insides.len() as u64) as usize;
+            let before: u64 = insides[..=at].iter().map(|inside| u64::from(*inside)).sum();
+            insides[at] = insides[at].wrapping_add(1);
+            holders.insert(before.min(holders.len() as u64) as usize, rng.pick(&numbers));
+        }
+        4 if holders.len() > 1 => {
+            let place = rng.below(holders.len() as u64 - 1) as usize;
+            holders.swap(place, place + 1);
+        }
+        _ if !holders.is_empty() => {
+            let place = rng.below(holders.len() as u64) as usize;
+            holders[place] = rng.pick(&numbers);
+        }
+        _ => {}
+    }
+}
+
 fn damage(rng: &mut Rng, call: &mut FormCall) {
-    let at = rng.below(6) as usize;
+    if inputs::holders_on() && rng.once_in(4) {
+        return damage_covers(rng, call);
+    }
+    let at = rng.below(LISTS.len() as u64) as usize;
     match rng.below(8) {
         0 => call.horizon = value(rng),
         1 => call.walk = value(rng),
@@ -86,7 +134,7 @@ fn damage(rng: &mut Rng, call: &mut FormCall) {
             call.lists[at].swap(place, place + 1);
         }
         5 => {
-            let other = rng.below(6) as usize;
+            let other = rng.below(LISTS.len() as u64) as usize;
             call.lists.swap(at, other);
         }
         // A left above its life, a step past the horizon.
@@ -123,27 +171,36 @@ pub fn random(rng: &mut Rng) -> FormCall {
             damage(rng, &mut call);
         }
     }
+    if !inputs::holders_on() {
+        let parts = call.lists[3].len();
+        call.lists[COVERED..COVERED + 4].iter_mut().for_each(Vec::clear);
+        call.lists[COVERED].resize(parts, 0);
+    }
     call
 }
 
-/// A vector of `vectors/write.txt`: a call, and what it answers.
+/// A vector of `vectors/write.txt` or `vectors/write7.txt`: a call, and what it answers.
 pub struct FormVector {
     pub call: FormCall,
     pub reply: Reply,
 }
 
+/// A form that does not speak of removals and holders has none.
 fn vector(line: &str) -> FormVector {
-    let field = |name: &str| {
-        let found = line.split(' ').find_map(|field| field.strip_prefix(name)?.strip_prefix('='));
-        found.unwrap_or_else(|| panic!("a vector has no {name}"))
-    };
+    let plain = !line.contains(" covered=");
+    let field = |name: &str| super::vectors::field(line, name);
     let number = |name: &str| field(name).parse::<u32>().expect("a number");
-    let list = |name: &str| match field(name) {
+    let covers = &LISTS[COVERED..COVERED + 4];
+    let list = |name: &str| match if plain && covers.contains(&name) { "-" } else { field(name) } {
         "-" => Vec::new(),
         values => values.split(',').map(|value| value.parse().expect("a number")).collect(),
     };
+    let mut lists = LISTS.map(list);
+    if plain {
+        lists[COVERED] = vec![0; lists[3].len()];
+    }
     FormVector {
-        call: FormCall { output: number("out") as usize, horizon: number("horizon"), walk: number("walk"), lists: LISTS.map(list) },
+        call: FormCall { output: number("out") as usize, horizon: number("horizon"), walk: number("walk"), lists },
         reply: Reply {
             result: number("result"),
             text: number("text"),
@@ -155,7 +212,12 @@ fn vector(line: &str) -> FormVector {
 }
 
 pub fn vectors() -> Vec<FormVector> {
-    let file = Path::new(env!("CARGO_MANIFEST_DIR")).join("vectors/write.txt");
-    let name = std::env::var("JUZVAROLA_FORMS").map_or(file, Into::into);
-    std::fs::read_to_string(name).expect("the forms' vectors").lines().map(vector).collect()
+    let folder = Path::new(env!("CARGO_MANIFEST_DIR")).join("vectors");
+    let kept = if inputs::holders_on() { &["write.txt", "write7.txt"][..] } else { &["write.txt"] };
+    let files = match std::env::var("JUZVAROLA_FORMS") {
+        Ok(file) => vec![file.into()],
+        Err(_) => kept.iter().map(|file| folder.join(file)).collect::<Vec<PathBuf>>(),
+    };
+    let read = |file: PathBuf| std::fs::read_to_string(file).expect("the forms' vectors").lines().map(vector).collect::<Vec<_>>();
+    files.into_iter().flat_map(read).collect()
 }

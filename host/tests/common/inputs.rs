@@ -24,6 +24,8 @@ pub struct Facts {
 pub struct PartFacts {
     pub life: u64,
     pub left: u64,
+    /// The removal and the numbers of the holders, where their lines stand.
+    pub cover: Option<(u64, Vec<u64>)>,
     pub prices: Vec<u64>,
 }
 
@@ -51,6 +53,7 @@ impl Facts {
         text += &format!("parts={}\n", self.parts.len());
         for part in &self.parts {
             text += &format!("life={}\nleft={}\n", part.life, part.left);
+            text += &part.cover_lines();
             for price in &part.prices {
                 text += &format!("price={price}\n");
             }
@@ -58,11 +61,24 @@ impl Facts {
         text.into_bytes()
     }
 
+    /// Whether a removal costs something or a part holds another.
+    pub fn is_held(&self) -> bool {
+        self.parts.iter().filter_map(|part| part.cover.as_ref()).any(|(removal, holders)| *removal > 0 || !holders.is_empty())
+    }
+
     /// The most running steps between neighbours among step 0, the openings and step T + 1.
     fn longest_gap(&self) -> u64 {
         let steps = [0].into_iter().chain(self.openings.iter().map(|o| o.0)).chain([self.horizon + 1]);
         let running: Vec<u64> = steps.map(|step| step - self.idles.iter().filter(|idle| **idle <= step).count() as u64).collect();
         running.windows(2).map(|pair| pair[1] - pair[0]).max().unwrap_or(1)
+    }
+}
+
+impl PartFacts {
+    fn cover_lines(&self) -> String {
+        let Some((removal, holders)) = &self.cover else { return String::new() };
+        let lines: String = holders.iter().map(|holder| format!("holder={holder}\n")).collect();
+        format!("removal={removal}\ninside={}\n{lines}", holders.len())
     }
 }
 
@@ -75,6 +91,8 @@ pub struct Size {
 }
 
 pub const TINY: Size = Size { horizon: 8, openings: 5, parts: 2 };
+/// For all plans with all removals.
+pub const NESTED: Size = Size { horizon: 7, openings: 4, parts: 4 };
 pub const SMALL: Size = Size { horizon: 14, openings: 7, parts: 4 };
 pub const MIDDLE: Size = Size { horizon: 60, openings: 16, parts: 8 };
 pub const LARGE: Size = Size { horizon: 365, openings: 64, parts: 16 };
@@ -136,6 +154,53 @@ fn idle_steps(rng: &mut Rng, horizon: u64, openings: &[u64]) -> Vec<u64> {
     idles.into_iter().collect()
 }
 
+/// Whether jobs have removals and holders: JUZVAROLA_HOLDERS=0 gives the same random inputs without them. The library does not know
+/// them yet.
+pub fn holders_on() -> bool {
+    setting("JUZVAROLA_HOLDERS", u64::from(cfg!(not(feature = "library")))) != 0
+}
+
+/// The holders of each part, by number: none, some, many, a chain, a circle of all, a circle of two that holds others, all hold all, trees.
+fn holders(rng: &mut Rng, parts: usize) -> Vec<Vec<u64>> {
+    let mut order: Vec<usize> = (0..parts).collect();
+    (1..parts).for_each(|at| order.swap(at, rng.below(at as u64 + 1) as usize));
+    let mut links: BTreeSet<(usize, usize)> = BTreeSet::new();
+    let pairs = || (0..parts * parts).map(|pair| (pair / parts, pair % parts));
+    let manner = rng.below(9);
+    let often = rng.within(1, 4);
+    match manner {
+        0 => {}
+        1 | 2 => links.extend(pairs().filter(|_| rng.below(8) < often)),
+        3 | 4 => links.extend(order.windows(2).map(|pair| (pair[0], pair[1]))),
+        5 => links.extend((0..parts).map(|at| (order[at], order[(at + 1) % parts]))),
+        6 => {
+            let circle = parts.min(2);
+            links.extend((0..circle).map(|at| (order[at], order[(at + 1) % circle])));
+            links.extend((circle..parts).filter(|_| rng.once_in(2)).map(|at| (order[at], order[0])));
+        }
+        7 => links.extend(pairs()),
+        _ => links.extend((1..parts).map(|at| (order[at], order[rng.below(at as u64) as usize]))),
+    }
+    let own = |part: usize| links.iter().filter(move |(of, by)| *of == part && *by != part).map(|(_, by)| *by as u64 + 1).collect();
+    (0..parts).map(own).collect()
+}
+
+/// Gives about half of the jobs removals and holders; at times the lines say that there are none.
+fn cover(rng: &mut Rng, parts: &mut [PartFacts]) {
+    if !holders_on() || rng.once_in(2) {
+        return;
+    }
+    let most = rng.pick(&[0, 0, 1, 5, 20, 1_000_000]);
+    let lines = rng.pick(&[2, 4, 1000]);
+    let count = parts.len();
+    for (part, holders) in parts.iter_mut().zip(holders(rng, count)) {
+        let removal = if rng.once_in(4) { 0 } else { rng.within(0, most) };
+        let removal = if most == 1_000_000 && rng.once_in(2) { most } else { removal };
+        let stand = removal > 0 || !holders.is_empty() || rng.once_in(lines);
+        part.cover = stand.then_some((removal, holders));
+    }
+}
+
 /// A job without faults; most have a plan. Its walk number is the largest.
 pub fn facts(rng: &mut Rng, size: Size) -> Facts {
     let horizon = rng.within(2, size.horizon);
@@ -162,18 +227,24 @@ pub fn facts(rng: &mut Rng, size: Size) -> Facts {
             1 => life,
             _ => rng.within(gap.min(life), life),
         };
-        facts.parts.push(PartFacts { life, left, prices: amounts(rng, count, 1) });
+        facts.parts.push(PartFacts { life, left, cover: None, prices: amounts(rng, count, 1) });
     }
+    cover(rng, &mut facts.parts);
     facts
 }
 
+/// The most points of a walk with removals that the reference walks whole.
+const WHOLE: u64 = 300;
+
 /// The same job with a walk number: any up to `most`, the number of points of the whole walk (where that is small) or one beside it.
 fn with_walk(rng: &mut Rng, mut facts: Facts, most: u64, whole: bool) -> Facts {
+    let walked = |limit| reference::texts::read_job(&facts.text()).expect("a job without faults").walk(limit);
+    let whole = whole && !(facts.is_held() && walked(WHOLE).more);
     if whole && rng.once_in(3) {
         return facts;
     }
     if whole && rng.once_in(2) {
-        let points = reference::texts::read_job(&facts.text()).expect("a job without faults").walk(MOST_WALK).nodes;
+        let points = walked(MOST_WALK).nodes;
         facts.walk = rng.within(points - 1, points + 1);
     } else {
         facts.walk = rng.within(0, most);
@@ -181,9 +252,23 @@ fn with_walk(rng: &mut Rng, mut facts: Facts, most: u64, whole: bool) -> Facts {
     facts
 }
 
+/// The largest job: 64 openings and 16 parts, which outlast it, all amounts the largest. With removals a plan may cost more than
+/// 2000000000.
+fn largest(rng: &mut Rng) -> Facts {
+    let most = 1_000_000;
+    let openings: Vec<(u64, u64)> = (1..=64).map(|step| (step, most)).collect();
+    let part = PartFacts { life: 1000, left: rng.within(60, 1000), cover: None, prices: vec![most; 64] };
+    let mut facts = Facts { horizon: rng.within(64, 70), idles: Vec::new(), walk: rng.within(0, 80), openings, parts: vec![part; 16] };
+    if holders_on() {
+        facts.parts.iter_mut().zip(holders(rng, 16)).for_each(|(part, holders)| part.cover = Some((most, holders)));
+    }
+    facts
+}
+
 /// A job that the reference walks in a short time.
 pub fn job(rng: &mut Rng) -> Facts {
     match rng.below(100) {
+        0 if rng.once_in(2) => largest(rng),
         0 => {
             let facts = facts(rng, LARGE);
             with_walk(rng, facts, 80, false)
@@ -208,22 +293,10 @@ pub fn printed_plan(job: &[u8]) -> Option<Vec<u8>> {
 
 /// A plan without faults of the text; `often` of 10 openings are stops, and of 10 parts are changed there. Its cost is true.
 fn random_plan(rng: &mut Rng, facts: &Facts, often: u64) -> Vec<u8> {
-    let mut cost = 0;
-    let mut stops = 0;
-    let mut lines = String::new();
-    for (opening, (step, fee)) in facts.openings.iter().enumerate() {
-        if rng.below(10) < often {
-            let parts: Vec<usize> = (0..facts.parts.len()).filter(|_| rng.below(10) < often).collect();
-            stops += 1;
-            cost += fee;
-            lines += &format!("stop={step}\ncount={}\n", parts.len());
-            for part in parts {
-                cost += facts.parts[part].prices[opening];
-                lines += &format!("part={}\n", part + 1);
-            }
-        }
-    }
-    format!("cost={cost}\nstops={stops}\n{lines}").into_bytes()
+    let job = reference::texts::read_job(&facts.text()).expect("a job without faults");
+    let stops: Vec<bool> = facts.openings.iter().map(|_| rng.below(10) < often).collect();
+    let changes = facts.parts.iter().map(|_| stops.iter().map(|stop| *stop && rng.below(10) < often).collect()).collect();
+    reference::texts::plan_lines(&job, &reference::model::Plan { stops, changes }).into_bytes()
 }
 
 /// A plan text for the job: printed by the planner or random, its cost at times not the true one.
@@ -236,7 +309,7 @@ pub fn plan(rng: &mut Rng, facts: &Facts) -> Vec<u8> {
     if !rng.once_in(4) {
         return plan;
     }
-    let cost = [rng.below(100), rng.below(2_000_000_001), 0, 2_000_000_000][rng.below(4) as usize];
+    let cost = [rng.below(100), rng.below(2_000_000_001), 0, 2_000_000_000, rng.below(4_000_000_001), 4_000_000_000][rng.below(6) as usize];
     let rest = plan.iter().position(|byte| *byte == b'\n').expect("a plan has lines");
     [format!("cost={cost}").as_bytes(), &plan[rest..]].concat()
 }
@@ -303,7 +376,7 @@ const NO_VALUES: &[&str] = &[
 
 const KEYS: &[&str] = &[
     "horizon", "walk", "openings", "opening", "fee", "parts", "life", "left", "price", "cost", "stops", "stop", "count", "part", "", "Fee",
-    " fee", "fee ", "pric", "prices", "result", "idles", "idle",
+    " fee", "fee ", "pric", "prices", "result", "removal", "inside", "holder", "idles", "idle",
 ];
 
 /// How many of the keys at the end are for idle lines.
@@ -457,10 +530,61 @@ fn with_damaged_idles(rng: &mut Rng, facts: &Facts) -> Vec<u8> {
     facts.text_with(&lines.iter().map(|line| format!("{line}\n")).collect::<String>(), "")
 }
 
-/// The job's text, damaged; its idle lines once in three.
+/// A damage to the lines of a part's removal and holders: the lines of a part with this number among so many parts.
+fn damage_cover(rng: &mut Rng, lines: &mut Vec<String>, own: u64, parts: u64) {
+    let inside = lines.len() as u64 - 2;
+    let at = rng.within(2, (inside + 1).max(2)) as usize;
+    let other = |rng: &mut Rng| rng.pick(&[0, 1, own, parts, parts + 1, 16, 17, u64::MAX]);
+    match rng.below(14) {
+        0 => lines[0] = format!("removal={}", rng.pick(&[1_000_000u64, 1_000_001, 4_294_967_296])),
+        1 => lines[1] = format!("inside={}", rng.pick(&[0, 15, 16, 17])),
+        2 => lines[1] = format!("inside={}", inside + 1),
+        3 => lines[1] = format!("inside={}", inside.saturating_sub(1)),
+        // A line missing, doubled or exchanged with the one after it.
+        4 => drop(lines.remove(rng.below(lines.len() as u64) as usize)),
+        5 => lines.insert(at, lines[at.min(lines.len() - 1)].clone()),
+        6 => {
+            let first = rng.below(lines.len() as u64 - 1) as usize;
+            lines.swap(first, first + 1);
+        }
+        7 => lines[2..].reverse(),
+        // One holder more, or another one: the part itself, one above `parts`, one that doesn't rise, one outside 1 to 16.
+        8..=10 => {
+            lines.insert(at, format!("holder={}", other(rng)));
+            lines[1] = format!("inside={}", inside + 1);
+        }
+        _ if inside > 0 => lines[at] = format!("holder={}", other(rng)),
+        _ => lines.push(format!("holder={}", other(rng))),
+    }
+}
+
+/// The job's text with a damage to the lines of one part's removal and holders.
+fn with_damaged_cover(rng: &mut Rng, facts: &Facts) -> Vec<u8> {
+    let mut facts = facts.clone();
+    let count = facts.parts.len() as u64;
+    let own = rng.below(count);
+    let part = &mut facts.parts[own as usize];
+    if part.cover.is_none() {
+        let holders = (1..=count).filter(|number| *number != own + 1 && rng.once_in(2)).collect();
+        part.cover = Some((rng.below(3), holders));
+    }
+    let section = part.cover_lines();
+    let mut lines: Vec<String> = section.lines().map(str::to_string).collect();
+    damage_cover(rng, &mut lines, own + 1, count);
+    let text = String::from_utf8(facts.text()).expect("ASCII");
+    // The part's own lines: those after the `life` line with its number.
+    let life = text.match_indices("life=").nth(own as usize).expect("a part").0;
+    let at = life + text[life..].find(&section).expect("its lines");
+    let lines: String = lines.iter().map(|line| format!("{line}\n")).collect();
+    [&text[..at], &lines, &text[at + section.len()..]].concat().into_bytes()
+}
+
+/// The job's text, damaged: in its idle lines once in three, in a part's removal and holders once in six.
 fn damaged_job(rng: &mut Rng, facts: &Facts) -> Vec<u8> {
     if idles_on() && rng.once_in(3) {
         with_damaged_idles(rng, facts)
+    } else if holders_on() && rng.once_in(4) {
+        with_damaged_cover(rng, facts)
     } else {
         damaged(rng, facts.text())
     }
@@ -476,6 +600,15 @@ pub fn call_on_nothing(rng: &mut Rng) -> Call {
 
 /// A call: the planner or the judge, on texts with or without faults, now and then with a short or a long output.
 pub fn call(rng: &mut Rng) -> Call {
+    let call = any_call(rng);
+    if holders_on() || !call.is_of_holders() {
+        call
+    } else {
+        self::call(rng)
+    }
+}
+
+fn any_call(rng: &mut Rng) -> Call {
     let facts = job(rng);
     let output = if rng.once_in(40) { rng.pick(&[0, 1, 100, 16_383, 16_385, 20_000, 40_000]) } else { OUTPUT };
     let text = facts.text();

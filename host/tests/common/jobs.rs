@@ -11,7 +11,14 @@ pub struct Row {
     pub cost: u64,
 }
 
-/// The jobs whose whole walk has at most this many nodes.
+impl Row {
+    /// Whether a part has holders.
+    pub fn is_held(&self) -> bool {
+        self.text.windows(8).any(|window| window == b"\nholder=")
+    }
+}
+
+/// The jobs whose walk has at most this many nodes.
 pub fn up_to(nodes: u64) -> Vec<Row> {
     let folder = Path::new(env!("CARGO_MANIFEST_DIR")).join("../jobs");
     let table = fs::read_to_string(folder.join("TABLE.md")).expect("TABLE.md");

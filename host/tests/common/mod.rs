@@ -2,6 +2,7 @@
 #![allow(dead_code)]
 
 pub mod forms;
+pub mod holder_cases;
 pub mod idle_cases;
 pub mod inputs;
 pub mod jobs;
@@ -50,6 +51,18 @@ impl std::fmt::Debug for Call {
 }
 
 impl Call {
+    /// Whether the plan states a cost that only removals make possible.
+    pub fn is_costly(&self) -> bool {
+        let plan = self.plan.as_deref().map(String::from_utf8_lossy);
+        let cost = plan.as_deref().and_then(|plan| plan.lines().next()?.strip_prefix("cost=")?.parse::<u64>().ok());
+        cost.is_some_and(|cost| cost > 2_000_000_000)
+    }
+
+    /// Whether removals and holders may move the answer.
+    pub fn is_of_holders(&self) -> bool {
+        self.is_costly() || String::from_utf8_lossy(&self.job).lines().any(|line| line.starts_with("removal="))
+    }
+
     /// The reference's reply.
     pub fn expected(&self) -> juzvarola_host::reference::Reply {
         use juzvarola_host::reference;

@@ -1,8 +1,8 @@
 //! The vectors of `vectors/`; its `README.md` has the format.
 
-use super::Call;
+use super::{inputs, Call};
 use juzvarola_host::reference::Reply;
-use std::path::Path;
+use std::path::{Path, PathBuf};
 
 pub struct Vector {
     pub call: Call,
@@ -28,21 +28,35 @@ pub fn hex(field: &str) -> Vec<u8> {
     (0..field.len()).step_by(2).map(|at| u8::from_str_radix(&field[at..at + 2], 16).expect("hex")).collect()
 }
 
+/// The value of a field `name=value`.
+pub fn field<'l>(line: &'l str, name: &str) -> &'l str {
+    let found = line.split(' ').find_map(|field| field.strip_prefix(name)?.strip_prefix('='));
+    found.unwrap_or_else(|| panic!("a vector has no {name}"))
+}
+
+/// A vector whose fields have names, or one whose fields stand in order.
 fn vector(line: &str) -> Vector {
     let fields: Vec<&str> = line.split(' ').collect();
-    assert_eq!(fields.len(), 8, "fields of a vector");
-    let plan = match fields[0] {
-        "plan" => None,
-        "judge" => Some(hex(fields[5])),
+    let judge = match fields[0] {
+        "plan" => false,
+        "judge" => true,
         other => panic!("no call: {other}"),
     };
-    let number = |at: usize| fields[at].parse::<u32>().expect("a number");
+    let (names, places) = (["out", "result", "line", "job", "plan", "written", "fault"], [1, 2, 3, 4, 5, 6, 7]);
+    let named = fields[1].starts_with("out=");
+    let plan = |name: &str| named && name == "plan" && !judge;
+    let [output, result, at, job, plan, bytes, fault] = std::array::from_fn(|n| match named {
+        _ if plan(names[n]) => "-",
+        true => field(line, names[n]),
+        false => fields[places[n]],
+    });
+    let number = |value: &str| value.parse::<u32>().expect("a number");
     Vector {
-        call: Call { job: hex(fields[4]), plan, output: number(1) as usize },
-        result: number(2),
-        line: number(3),
-        bytes: hex(fields[6]),
-        fault: hex(fields[7]),
+        call: Call { job: hex(job), plan: judge.then(|| hex(plan)), output: number(output) as usize },
+        result: number(result),
+        line: number(at),
+        bytes: hex(bytes),
+        fault: hex(fault),
     }
 }
 
@@ -63,23 +77,53 @@ pub fn line(call: &Call, reply: &Reply) -> String {
     format!("{name} {} {} {} {texts}\n", call.output, reply.result, reply.line)
 }
 
-/// The vectors of the planner and the judge: of every file in `vectors/` that ends in `.txt`, the forms' and the count's aside.
+/// The vectors of the planner and the judge: of every file in `vectors/` that ends in `.txt`, the forms' and the count's aside. Without
+/// holders only those that they leave alone.
 pub fn all() -> Vec<Vector> {
+    let files = match std::env::var("JUZVAROLA_VECTORS") {
+        Ok(file) => vec![file.into()],
+        Err(_) => kept(),
+    };
+    let read = |file: PathBuf| std::fs::read_to_string(file).expect("a file").lines().map(vector).collect::<Vec<_>>();
+    files.into_iter().flat_map(read).filter(|vector| inputs::holders_on() || !vector.call.is_of_holders()).collect()
+}
+
+/// The files of `vectors/` with calls of the planner and the judge.
+fn kept() -> Vec<PathBuf> {
     let folder = Path::new(env!("CARGO_MANIFEST_DIR")).join("vectors");
     let mut files: Vec<_> = std::fs::read_dir(folder).expect("the vectors").map(|entry| entry.expect("an entry").path()).collect();
     files.retain(|file| {
-        file.extension().is_some_and(|extension| extension == "txt") && file.file_stem().is_some_and(|stem| stem != "write")
+        let stem = file.file_stem().expect("a name").to_string_lossy();
+        let other = ["write", "count"].iter().any(|call| stem.starts_with(call));
+        file.extension().is_some_and(|extension| extension == "txt") && !other
     });
     files.sort();
     files
-        .iter()
-        .flat_map(|file| {
-            std::fs::read_to_string(file)
-                .expect("a file")
-                .lines()
-                .filter(|line| !line.starts_with("count "))
-                .map(vector)
-                .collect::<Vec<_>>()
-        })
-        .collect()
+}
+
+/// A vector of the count: a job, what it answers, and the line at fault.
+pub struct CountVector {
+    pub job: Vec<u8>,
+    pub result: u32,
+    pub text: u32,
+    pub line: u32,
+    pub count: u32,
+    pub fault: Vec<u8>,
+}
+
+/// The vectors of the count: `vectors/count.txt`, and with holders `vectors/count7.txt`.
+pub fn counts() -> Vec<CountVector> {
+    let folder = Path::new(env!("CARGO_MANIFEST_DIR")).join("vectors");
+    let kept = if inputs::holders_on() { &["count.txt", "count7.txt"][..] } else { &["count.txt"] };
+    let files: Vec<PathBuf> = match std::env::var("JUZVAROLA_COUNT_VECTORS") {
+        Ok(file) => vec![file.into()],
+        Err(_) => kept.iter().map(|file| folder.join(file)).collect(),
+    };
+    let vector = |line: &str| {
+        let number = |name: &str| field(line, name).parse::<u32>().expect("a number");
+        let (result, text, at, count) = (number("result"), number("text"), number("line"), number("count"));
+        CountVector { job: hex(field(line, "job")), result, text, line: at, count, fault: hex(field(line, "fault")) }
+    };
+    let read = |file: PathBuf| std::fs::read_to_string(file).expect("a file").lines().map(vector).collect::<Vec<_>>();
+    files.into_iter().flat_map(read).collect()
 }

@@ -13,7 +13,7 @@ use Rattle.job_writing.proofs.put_part.Tie as tie
 
 -- the prices that count are there
 long : (s : tie.Start) → s .args .n ≤ length (s .args .part .prices)
-long s = omega (arith, s .pre .0, rw length-map at (s .good .1 .1 .0 .1 .1 .1 .1 .0 .1 .0 .1))
+long s = omega (arith, s .pre .0, rw length-map at (s .good .1 .1 .0 .1 .1 .1 .1 .1 .1 .0 .1 .0 .1))
 
 slice-aggregate-put-line : tie.Need-slice-aggregate-put-line
 slice-aggregate-put-line c = search needs

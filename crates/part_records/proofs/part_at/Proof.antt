@@ -54,7 +54,7 @@ R = part.the-row
 
 -- a record's bytes: life, left and 64 prices, of four bytes each
 abbrev size : ℕ
-size = 264
+size = 284
 
 abbrev Arg : Type 0
 Arg = RefT (List Part) × (ℕ × Unit {0})

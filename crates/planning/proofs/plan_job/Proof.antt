@@ -4,7 +4,7 @@ use Rattle.model.specs.Promise.{PlannerAnswer, answerOf}
 use Rattle.jobs.specs.Views.{jobOf}
 use Rattle.search.specs.declared.Found.{Found}
 use Rattle.search.specs.Found.{planFound}
-use Rattle.job_search.proofs.Limits.{Ranged, job-said, answer-ranged}
+use Rattle.job_search.proofs.Limits.{Ranged, answer-ranged}
 use Rattle.answers.specs.Said.{Replied}
 use Rattle.planning.specs.Plan.{saidFor, planRoom}
 use Rattle.planning.specs.Finding.{answerIn}
@@ -22,9 +22,7 @@ searched c = c .before .before .before .search-job .result
 -- what is found is the model's answer, with the plan that the search holds
 said : (c : tie.After-finding-of) → let j = start c .args .job in
     answerIn (planFound (j .«opening_count») (j .«part_count») (searched c)) (c .finding-of .result) ≡ answerOf (jobOf j) (start c .args .walk)
-said c =
-    let s = start c in
-    c .finding-of .ensures _ _ ∙ job-said (s .args .job) (s .pre .0 .sized) (s .good .0) (s .args .walk) (searched c) (c .before .before .before .search-job .ensures)
+said c = c .finding-of .ensures _ _ ∙ c .before .before .before .search-job .ensures
 
 search-job-requires : tie.Need-search-job-requires
 search-job-requires c κs = search needs

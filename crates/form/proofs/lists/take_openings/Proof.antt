@@ -21,13 +21,13 @@ use borrow.Author.Needs.{needs}
 use Rattle.form.proofs.lists.take_openings.Statement.{statement}
 use Rattle.form.proofs.lists.take_openings.Tie as tie
 
-abbrev stepOf : model.Opening → ℕ
-stepOf o = o .step
+abbrev stepOf : ℕ → model.Opening → ℕ
+stepOf before o = o .step
 
 abbrev Inv-loop : tie.InvT-loop
 Inv-loop steps fees horizon at taken₀ before₀ line₀ i₀ taken before line i =
     (i ≤ length steps) × (length taken ≡ 64) × (line ≡ at + 2 * i)
-    × Going (opening horizon) stepOf openingText (paired steps fees) (length steps) at i (map openingOf (take i taken)) before line
+    × Going (opening horizon) stepOf openingText (paired steps fees) (length steps) 0 at i (map openingOf (take i taken)) before line
 
 abbrev μ-loop : tie.MeasureT-loop
 μ-loop steps fees horizon at taken₀ before₀ line₀ i₀ taken before line i = length steps - i
@@ -39,7 +39,7 @@ none = openingOf blankOpening
 loop-holds : tie.Need-loop-holds Inv-loop μ-loop
 loop-holds c =
     let a = c .before .before .args in
-    (omega arith, refl, omega arith, going-start (opening (a .horizon)) stepOf openingText (paired (a .steps .now) (a .fees .now)) (length (a .steps .now)) (a .at))
+    (omega arith, refl, omega arith, going-start (opening (a .horizon)) stepOf openingText (paired (a .steps .now) (a .fees .now)) (length (a .steps .now)) 0 (a .at))
 
 mul-t13 : tie.Need-mul-t13 Inv-loop μ-loop
 mul-t13 c = search needs
@@ -86,7 +86,7 @@ loop-again c =
       omega (arith, t),
       simp length-set (l .inv .1),
       omega (arith, l .inv .2),
-      going-more (opening (a .horizon)) stepOf openingText (paired os fs) (length os) (a .at) (paired-size os fs size) (l .i) (map openingOf (take (l .i) (l .taken))) (l .before) (l .line) (l .inv .3)
+      going-more (opening (a .horizon)) stepOf openingText (paired os fs) (length os) 0 (a .at) (paired-size os fs size) (l .i) (map openingOf (take (l .i) (l .taken))) (l .before) (l .line) (l .inv .3)
           (openingOf o) none (openingOf o) (paired-at os fs size (l .i) none t) t
           (λ s. passed (openingOf o) s (l .line + 2) (c .before .before .check-opening .ensures s) (c .enum-told .given .1)) (map-take-more openingOf (l .i) (l .taken) o (omega (arith, c .before .before .before .before .before .before .before .before .before .pre, l .inv .1, t))),
     )
@@ -103,7 +103,7 @@ returns c =
     let l = c .before .before .before .before .before .before .before .loop in
     let o : Opening = record { step = getD os (l .i) 0; fee = getD fs (l .i) 0 } in
     let size = c .before .before .before .before .before .before .before .before .before .before .pre .1 in
-    going-fault (opening (a .horizon)) stepOf openingText (paired os fs) (length os) (a .at) (paired-size os fs size) (l .i) (map openingOf (take (l .i) (l .taken))) (l .before) (l .line) (l .inv .3)
+    going-fault (opening (a .horizon)) stepOf openingText (paired os fs) (length os) 0 (a .at) (paired-size os fs size) (l .i) (map openingOf (take (l .i) (l .taken))) (l .before) (l .line) (l .inv .3)
     (openingOf o) none (paired-at os fs size (l .i) none (c .before .before .before .before .before .before .loop-test .taken)) (c .before .before .before .before .before .before .loop-test .taken)
     (λ s. failed (openingOf o) s (l .line + 2) (c .before .before .before .check-opening .ensures s) (c .before .k .given .1))
 
@@ -116,7 +116,7 @@ returns-2 c =
     let l = c .before .loop in
     let end : l .i ≡ length os = omega arith in
     let next : l .line ≡ a .at + 2 * length os = omega (arith, l .inv .2) in
-    λ s. going-end (opening (a .horizon)) stepOf openingText (paired os fs) (length os) (a .at) (paired-size os fs (c .before .before .before .before .pre .1)) (l .i) (map openingOf (take (l .i) (l .taken))) (l .before) (l .line) (l .inv .3) (omega arith) s
+    λ s. going-end (opening (a .horizon)) stepOf openingText (paired os fs) (length os) 0 (a .at) (paired-size os fs (c .before .before .before .before .pre .1)) (l .i) (map openingOf (take (l .i) (l .taken))) (l .before) (l .line) (l .inv .3) (omega arith) s
     ∙ ap₂ (λ (i m : ℕ). good (map openingOf (take i (l .taken))) s m) end next
 
 pub take-openings-spec : {M : Type 1} → statement M

@@ -1,10 +1,11 @@
 -- `take_part`: the life, what is left and the prices, each on the lines that follow the one before.
 use Prim.Native.Nat.{ℕ, _+_}
 use mathlib.Core.Path.{_≡_, refl, sym, ap, _∙_}
-use mathlib.Core.List.{List, _++_, append-assoc}
+use mathlib.Core.List.{List, [], _++_, append-assoc}
 use native.Mathlib.Omega.{arith}
 use lib.ListN.{length, take}
-use Rattle.lines.specs.Text.{bytes, lineOf, texts}
+use Rattle.lines.specs.Text.{bytes, lineOf, texts, joined}
+use Rattle.lines.specs.Chosen.{chosen}
 use Rattle.lines.specs.Parser.{row, times}
 use Rattle.lines.proofs.Parsing.{bind-good, bind-fault}
 use Rattle.model.specs.Model.{Part}
@@ -25,7 +26,7 @@ priceLines ps s = texts (lineOf "price=") ps ++ s
 abbrev leftLines : ℕ → List ℕ → List ℕ → List ℕ
 leftLines left ps s = lineOf "left=" left ++ priceLines ps s
 
-lines : (life left : ℕ) (ps s : List ℕ) → partText (record { life = life; left = left; prices = ps }) ++ s ≡ lineOf "life=" life ++ leftLines left ps s
+lines : (life left : ℕ) (ps s : List ℕ) → partText (record { life = life; left = left; removal = 0; holders = []; prices = ps }) ++ s ≡ lineOf "life=" life ++ leftLines left ps s
 unfolding partText
 lines life left ps s = append-assoc (lineOf "life=" life ++ lineOf "left=" left) (texts (lineOf "price=") ps) s ∙ append-assoc (lineOf "life=" life) (lineOf "left=" left) (priceLines ps s)
 
@@ -63,7 +64,7 @@ no-part-requires-2 : tie.Need-no-part-requires-2
 no-part-requires-2 c κs = search needs
 
 returns : tie.Need-returns
-unfolding part
+unfolding part chosen joined
 returns c =
     let a = c .before .before .before .before .before .before .before .before .before .args in
     let ps = a .prices .now in
@@ -72,7 +73,7 @@ returns c =
     λ s. ap (λ (t : List ℕ). part (length ps) t (a .at)) (lines (a .life) (a .left) ps s)
     ∙ bind-good (row "life=" 1 1000) _ (passed (a .life) (leftLines (a .left) ps s) (a .at + 1) (c .before .before .before .before .before .before .before .check-value .ensures (bytes "life=") (leftLines (a .left) ps s)) (c .before .before .before .before .before .enum-told .given .1))
     ∙ bind-good _ _ (passed (a .left) (priceLines ps s) (a .at + 1 + 1) (c .before .before .before .before .check-left .ensures (bytes "left=") (priceLines ps s)) (c .before .before .enum-told2 .given .1))
-    ∙ found-map {B = Part} (λ (qs : List ℕ). record { life = a .life; left = a .left; prices = qs }) (times (length ps) (row "price=" 1 1000000)) (priceLines ps s) (a .at + 1 + 1)
+    ∙ found-map {B = Part} (λ (qs : List ℕ). record { life = a .life; left = a .left; removal = 0; holders = []; prices = qs }) (times (length ps) (row "price=" 1 1000000)) (priceLines ps s) (a .at + 1 + 1)
     (r .check) (take (length ps) (r .prices)) s (a .at + 2 + length ps) (a .at + 2 + length ps) refl
     (ap (times (length ps) (row "price=" 1 1000000) (priceLines ps s)) next ∙ c .before .take-prices .ensures s)
 

@@ -1,7 +1,7 @@
 -- `take_parts`: what is taken so far stands before what the lines of the parts still give; the prices of part k begin at place k times n.
 use Prim.Native.Nat.{ℕ, _+_, _-_, _*_, _≤_}
 use mathlib.Core.Path.{_≡_, refl, sym, ap, ap₂, _∙_}
-use mathlib.Core.List.{List, map, _++_}
+use mathlib.Core.List.{List, [], map, _++_}
 use native.Mathlib.Omega.{arith}
 use native.Mathlib.Nat.{mul-le-mul-right, suc-mul, zero-mul}
 use native.Mathlib.Numerals.{add-one}
@@ -25,13 +25,13 @@ use Rattle.form.proofs.lists.take_parts.Tie as tie
 abbrev parts : ℕ → ℕ → Parser model.Part
 parts n _ = part n
 
-abbrev none : model.Part → ℕ
-none _ = 0
+abbrev none : ℕ → model.Part → ℕ
+none _ _ = 0
 
 abbrev Inv-loop : tie.InvT-loop
 Inv-loop lives lefts prices n at taken₀ line₀ start₀ k₀ taken line start k =
     (k ≤ length lives) × (length taken ≡ 16) × (line ≤ at + 66 * k) × (start ≡ k * n)
-    × Going (parts n) none partText (grouped n lives lefts prices) (length lives) at k (map (partOf n) (take k taken)) 0 line
+    × Going (parts n) none partText (grouped n lives lefts prices) (length lives) 0 at k (map (partOf n) (take k taken)) 0 line
 
 abbrev μ-loop : tie.MeasureT-loop
 μ-loop lives lefts prices n at taken₀ line₀ start₀ k₀ taken line start k = length lives - k
@@ -39,7 +39,7 @@ abbrev μ-loop : tie.MeasureT-loop
 loop-holds : tie.Need-loop-holds Inv-loop μ-loop
 loop-holds c =
     let a = c .before .before .before .args in
-    (omega arith, refl, omega arith, sym (zero-mul (a .n)), going-start (parts (a .n)) none partText (grouped (a .n) (a .lives .now) (a .lefts .now) (a .prices .now)) (length (a .lives .now)) (a .at))
+    (omega arith, refl, omega arith, sym (zero-mul (a .n)), going-start (parts (a .n)) none partText (grouped (a .n) (a .lives .now) (a .lefts .now) (a .prices .now)) (length (a .lives .now)) 0 (a .at))
 
 -- the prices of part k are there
 inside : (c : tie.In-loop Inv-loop μ-loop) → c .before .loop .start + c .before .before .before .before .before .args .n ≤ length (c .before .before .before .before .before .args .prices .now)
@@ -60,7 +60,7 @@ lent c = take (c .before .loop .start + c .before .before .before .before .befor
 
 -- the part that is taken, as the form states it
 abbrev stated : (c : tie.In-loop Inv-loop μ-loop) → model.Part
-stated c = let a = c .before .before .before .before .before .args in record { life = getD (a .lives .now) (c .before .loop .k) 0; left = getD (a .lefts .now) (c .before .loop .k) 0; prices = take (a .n) (drop (c .before .loop .k * a .n) (a .prices .now)) }
+stated c = let a = c .before .before .before .before .before .args in record { life = getD (a .lives .now) (c .before .loop .k) 0; left = getD (a .lefts .now) (c .before .loop .k) 0; removal = 0; holders = []; prices = take (a .n) (drop (c .before .loop .k * a .n) (a .prices .now)) }
 
 lent-is : (c : tie.In-loop Inv-loop μ-loop) → lent c ≡ take (c .before .before .before .before .before .args .n) (drop (c .before .loop .k * c .before .before .before .before .before .args .n) (c .before .before .before .before .before .args .prices .now))
 lent-is c =
@@ -135,8 +135,8 @@ read : (c : tie.After-take-part Inv-loop μ-loop) → let a = c .before .before 
 read c s =
     let a = c .before .before .before .before .before .before .before .before .before .args in
     let b = (c .before .before .before .before) in
-    let p : model.Part = record { life = getD (a .lives .now) (c .before .before .before .before .before .loop .k) 0; left = getD (a .lefts .now) (c .before .before .before .before .before .loop .k) 0; prices = lent b } in
-    ap (λ (qs : List ℕ). part (a .n) (partText (record { life = p .life; left = p .left; prices = qs }) ++ s) (c .before .before .before .before .before .loop .line)) (sym (lent-is b))
+    let p : model.Part = record { life = getD (a .lives .now) (c .before .before .before .before .before .loop .k) 0; left = getD (a .lefts .now) (c .before .before .before .before .before .loop .k) 0; removal = 0; holders = []; prices = lent b } in
+    ap (λ (qs : List ℕ). part (a .n) (partText (record { life = p .life; left = p .left; removal = 0; holders = []; prices = qs }) ++ s) (c .before .before .before .before .before .loop .line)) (sym (lent-is b))
     ∙ ap (λ (m : ℕ). part m (partText p ++ s) (c .before .before .before .before .before .loop .line)) (sym (lent-size b))
     ∙ c .take-part .ensures s
     ∙ ap (λ (m : ℕ). found (c .take-part .result .check) (partOf m (c .take-part .result .part)) s (c .before .before .before .before .before .loop .line + 2 + m)) (lent-size b)
@@ -158,7 +158,7 @@ loop-again c =
       simp length-set (l .inv .1),
       omega (arith, l .inv .2, c .before .before .before .before .before .before .before .before .before .before .before .before .pre .2),
       rw (add-one, suc-mul) (omega (arith, l .inv .3)),
-      going-more (parts n) none partText (grouped n ls rs ps) (length ls) (a .at) (grouped-size n ls rs ps size) (l .k) (map (partOf n) (take (l .k) (l .taken))) 0 (l .line) (l .inv .4)
+      going-more (parts n) none partText (grouped n ls rs ps) (length ls) 0 (a .at) (grouped-size n ls rs ps size) (l .k) (map (partOf n) (take (l .k) (l .taken))) 0 (l .line) (l .inv .4)
           (stated (c .before .before .before .before .before .before .before)) (partOf n blankPart) q (grouped-at n ls rs ps size (l .k) (partOf n blankPart) t) t
           (λ s. passed q s (l .line + 2 + n) (read (c .before .before .before) s) (c .before .enum-told .given .1) ∙ ap (good q s) next)
           (map-take-more (partOf n) (l .k) (l .taken) (r .part) (omega (arith, c .before .before .before .before .before .before .before .before .before .before .before .before .pre, l .inv .1, t))),
@@ -180,7 +180,7 @@ returns c =
     let q = partOf n (c .before .before .before .take-part .result .part) in
     let size = c .before .before .before .before .before .before .before .before .before .before .before .before .pre .1 in (
       0,
-      going-fault (parts n) none partText (grouped n ls rs ps) (length ls) (a .at) (grouped-size n ls rs ps size) (l .k) (map (partOf n) (take (l .k) (l .taken))) 0 (l .line) (l .inv .4)
+      going-fault (parts n) none partText (grouped n ls rs ps) (length ls) 0 (a .at) (grouped-size n ls rs ps size) (l .k) (map (partOf n) (take (l .k) (l .taken))) 0 (l .line) (l .inv .4)
           (stated (c .before .before .before .before .before .before .before)) (partOf n blankPart) (grouped-at n ls rs ps size (l .k) (partOf n blankPart) t) t
           (λ s. failed q s (l .line + 2 + n) (read (c .before .before .before) s) (c .before .check .given .1)),
     )
@@ -196,7 +196,7 @@ returns-2 c =
     let l = c .before .loop in
     let end : l .k ≡ length ls = omega arith in (
       l .line,
-      λ s. going-end (parts n) none partText (grouped n ls rs ps) (length ls) (a .at) (grouped-size n ls rs ps (c .before .before .before .before .before .pre .1)) (l .k) (map (partOf n) (take (l .k) (l .taken))) 0 (l .line) (l .inv .4) (omega arith) s
+      λ s. going-end (parts n) none partText (grouped n ls rs ps) (length ls) 0 (a .at) (grouped-size n ls rs ps (c .before .before .before .before .before .pre .1)) (l .k) (map (partOf n) (take (l .k) (l .taken))) 0 (l .line) (l .inv .4) (omega arith) s
           ∙ ap (λ (k : ℕ). good (map (partOf n) (take k (l .taken))) s (l .line)) end,
     )
 

@@ -16,12 +16,12 @@ use Rattle.form.proofs.lists.take_prices.Tie as tie
 abbrev price : ℕ → Parser ℕ
 price _ = row "price=" 1 1000000
 
-abbrev none : ℕ → ℕ
-none _ = 0
+abbrev none : ℕ → ℕ → ℕ
+none _ _ = 0
 
 abbrev Inv-loop : tie.InvT-loop
 Inv-loop prices at taken₀ line₀ i₀ taken line i =
-    (i ≤ length prices) × (length taken ≡ 64) × (line ≡ at + i) × Going price none (lineOf "price=") prices (length prices) at i (take i taken) 0 line
+    (i ≤ length prices) × (length taken ≡ 64) × (line ≡ at + i) × Going price none (lineOf "price=") prices (length prices) 0 at i (take i taken) 0 line
 
 abbrev μ-loop : tie.MeasureT-loop
 μ-loop prices at taken₀ line₀ i₀ taken line i = length prices - i
@@ -29,7 +29,7 @@ abbrev μ-loop : tie.MeasureT-loop
 loop-holds : tie.Need-loop-holds Inv-loop μ-loop
 loop-holds c =
     let a = c .before .args in
-    (omega arith, refl, omega arith, going-start price none (lineOf "price=") (a .prices .now) (length (a .prices .now)) (a .at))
+    (omega arith, refl, omega arith, going-start price none (lineOf "price=") (a .prices .now) (length (a .prices .now)) 0 (a .at))
 
 mul-v : tie.Need-mul-v Inv-loop μ-loop
 mul-v c = search needs
@@ -68,7 +68,7 @@ loop-again c =
       omega (arith, t),
       simp length-set (l .inv .1),
       omega (arith, l .inv .2),
-      going-more price none (lineOf "price=") ps (length ps) (a .at) refl (l .i) (take (l .i) (l .taken)) 0 (l .line) (l .inv .3) v 0 v refl t
+      going-more price none (lineOf "price=") ps (length ps) 0 (a .at) refl (l .i) (take (l .i) (l .taken)) 0 (l .line) (l .inv .3) v 0 v refl t
           (λ s. passed v s (l .line + 1) (c .before .before .check-value .ensures (bytes "price=") s) (c .enum-told .given .1)) (take-more (l .i) (l .taken) v (omega (arith, c .before .before .before .before .before .before .before .pre, l .inv .1, t))),
     )
 
@@ -82,7 +82,7 @@ returns c =
     let ps = a .prices .now in
     let l = c .before .before .before .before .before .before .loop in
     let v = getD ps (l .i) 0 in
-    going-fault price none (lineOf "price=") ps (length ps) (a .at) refl (l .i) (take (l .i) (l .taken)) 0 (l .line) (l .inv .3) v 0 refl (c .before .before .before .before .before .loop-test .taken)
+    going-fault price none (lineOf "price=") ps (length ps) 0 (a .at) refl (l .i) (take (l .i) (l .taken)) 0 (l .line) (l .inv .3) v 0 refl (c .before .before .before .before .before .loop-test .taken)
     (λ s. failed v s (l .line + 1) (c .before .before .before .check-value .ensures (bytes "price=") s) (c .before .k .given .1))
 
 returns-2 : tie.Need-returns-2 Inv-loop μ-loop
@@ -93,7 +93,7 @@ returns-2 c =
     let l = c .before .loop in
     let end : l .i ≡ length ps = omega arith in
     let next : l .line ≡ a .at + length ps = omega (arith, l .inv .2) in
-    λ s. going-end price none (lineOf "price=") ps (length ps) (a .at) refl (l .i) (take (l .i) (l .taken)) 0 (l .line) (l .inv .3) (omega arith) s
+    λ s. going-end price none (lineOf "price=") ps (length ps) 0 (a .at) refl (l .i) (take (l .i) (l .taken)) 0 (l .line) (l .inv .3) (omega arith) s
     ∙ ap₂ (λ (i m : ℕ). good (take i (l .taken)) s m) end next
 
 pub take-prices-spec : {M : Type 1} → statement M

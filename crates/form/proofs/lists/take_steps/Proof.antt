@@ -14,12 +14,12 @@ use borrow.Author.Needs.{needs}
 use Rattle.form.proofs.lists.take_steps.Statement.{statement}
 use Rattle.form.proofs.lists.take_steps.Tie as tie
 
-abbrev itself : ℕ → ℕ
-itself i = i
+abbrev itself : ℕ → ℕ → ℕ
+itself before i = i
 
 abbrev Inv-loop : tie.InvT-loop
 Inv-loop idles horizon at taken₀ before₀ line₀ i₀ taken before line i =
-    (i ≤ length idles) × (length taken ≡ 365) × (line ≡ at + i) × Going (idle horizon) itself (lineOf "idle=") idles (length idles) at i (take i taken) before line
+    (i ≤ length idles) × (length taken ≡ 365) × (line ≡ at + i) × Going (idle horizon) itself (lineOf "idle=") idles (length idles) 0 at i (take i taken) before line
 
 abbrev μ-loop : tie.MeasureT-loop
 μ-loop idles horizon at taken₀ before₀ line₀ i₀ taken before line i = length idles - i
@@ -27,7 +27,7 @@ abbrev μ-loop : tie.MeasureT-loop
 loop-holds : tie.Need-loop-holds Inv-loop μ-loop
 loop-holds c =
     let a = c .before .args in
-    (omega arith, refl, omega arith, going-start (idle (a .horizon)) itself (lineOf "idle=") (a .idles .now) (length (a .idles .now)) (a .at))
+    (omega arith, refl, omega arith, going-start (idle (a .horizon)) itself (lineOf "idle=") (a .idles .now) (length (a .idles .now)) 0 (a .at))
 
 mul-v : tie.Need-mul-v Inv-loop μ-loop
 mul-v c = search needs
@@ -67,7 +67,7 @@ loop-again c =
       omega (arith, t),
       simp length-set (l .inv .1),
       omega (arith, l .inv .2),
-      going-more (idle (a .horizon)) itself (lineOf "idle=") is (length is) (a .at) refl (l .i) (take (l .i) (l .taken)) (l .before) (l .line) (l .inv .3) v 0 v refl t
+      going-more (idle (a .horizon)) itself (lineOf "idle=") is (length is) 0 (a .at) refl (l .i) (take (l .i) (l .taken)) (l .before) (l .line) (l .inv .3) v 0 v refl t
           (λ s. passed v s (l .line + 1) (c .before .before .check-step .ensures (bytes "idle=") s) (c .enum-told .given .1)) (take-more (l .i) (l .taken) v (omega (arith, c .before .before .before .before .before .before .before .pre, l .inv .1, t))),
     )
 
@@ -81,7 +81,7 @@ returns c =
     let is = a .idles .now in
     let l = c .before .before .before .before .before .before .loop in
     let v = getD is (l .i) 0 in (
-      going-fault (idle (a .horizon)) itself (lineOf "idle=") is (length is) (a .at) refl (l .i) (take (l .i) (l .taken)) (l .before) (l .line) (l .inv .3) v 0 refl (c .before .before .before .before .before .loop-test .taken)
+      going-fault (idle (a .horizon)) itself (lineOf "idle=") is (length is) 0 (a .at) refl (l .i) (take (l .i) (l .taken)) (l .before) (l .line) (l .inv .3) v 0 refl (c .before .before .before .before .before .loop-test .taken)
           (λ s. failed v s (l .line + 1) (c .before .before .before .check-step .ensures (bytes "idle=") s) (c .before .k .given .1)),
       refl,
     )
@@ -94,7 +94,7 @@ returns-2 c =
     let l = c .before .loop in
     let end : l .i ≡ length is = omega arith in
     let next : l .line ≡ a .at + length is = omega (arith, l .inv .2) in (
-      λ s. going-end (idle (a .horizon)) itself (lineOf "idle=") is (length is) (a .at) refl (l .i) (take (l .i) (l .taken)) (l .before) (l .line) (l .inv .3) (omega arith) s
+      λ s. going-end (idle (a .horizon)) itself (lineOf "idle=") is (length is) 0 (a .at) refl (l .i) (take (l .i) (l .taken)) (l .before) (l .line) (l .inv .3) (omega arith) s
           ∙ ap (good (take (l .i) (l .taken)) s) next,
       end,
     )

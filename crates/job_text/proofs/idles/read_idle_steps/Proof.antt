@@ -16,7 +16,7 @@ abbrev Inv-loop : tie.InvT-loop
 Inv-loop text horizon n idles₀ q₀ before₀ i₀ idles q before i =
     (i ≤ n) × (length idles ≡ 365) × Stands text q
     × (idleSteps horizon n (drop (q₀ .at) text) (q₀ .line)
-    ≡ behind (take i idles) (chain (idle horizon) (λ (v : ℕ). v) (n - i) before (drop (q .at) text) (q .line)))
+    ≡ behind (take i idles) (chain (idle horizon) (λ (k v : ℕ). v) (n - i) before (drop (q .at) text) (q .line)))
 
 abbrev μ-loop : tie.MeasureT-loop
 μ-loop text horizon n idles₀ q₀ before₀ i₀ idles q before i = n - i

@@ -21,7 +21,7 @@ abbrev Inv-loop : tie.InvT-loop
 Inv-loop text horizon n openings₀ q₀ before₀ i₀ openings q before i =
     (i ≤ n) × (length openings ≡ 64) × Stands text q
     × (grammar.openings horizon n (drop (q₀ .at) text) (q₀ .line)
-    ≡ behind (map openingOf (take i openings)) (chain (opening horizon) (λ (o : Opening). o .step) (n - i) before (drop (q .at) text) (q .line)))
+    ≡ behind (map openingOf (take i openings)) (chain (opening horizon) (λ (k : ℕ) (o : Opening). o .step) (n - i) before (drop (q .at) text) (q .line)))
 
 abbrev μ-loop : tie.MeasureT-loop
 μ-loop text horizon n openings₀ q₀ before₀ i₀ openings q before i = n - i

@@ -1,10 +1,11 @@
 -- `read_part`: the lines of the life, of what is left and of the prices, each where the one before ends; the first fault is the whole's.
 use borrow.Author.Needs.{needs}
 use Prim.Native.Nat.{ℕ}
-use mathlib.Core.List.{List}
+use mathlib.Core.List.{List, []}
 use mathlib.Core.Path.{ap, sym, _∙_}
 use lib.ListN.{drop}
-use Rattle.lines.specs.Text.{bytes}
+use Rattle.lines.specs.Text.{bytes, joined}
+use Rattle.lines.specs.Chosen.{chosen}
 use Rattle.lines.specs.Parser.{times, row, checked, upTo}
 use Rattle.lines.specs.Cursor.{Stands, Reads, rowAnswer}
 use Rattle.lines.proofs.Parsing.{bind-good, bind-fault, row-line, line-inside, line-reads, got-value, got-fault, got-place, map-read, fault-read}
@@ -83,11 +84,11 @@ no-part-requires-2 : tie.Need-no-part-requires-2
 no-part-requires-2 c κs = search needs
 
 returns : tie.Need-returns
-unfolding part
+unfolding part chosen joined
 returns c =
     let d = c .before .before .before in
     let f = c .before .before .before .before .before .before .before .before .before in
-    let make : List ℕ → Part = λ ps. record { life = f .life .given .0 .0; left = d .left .given .0 .0; prices = ps } in
+    let make : List ℕ → Part = λ ps. record { life = f .life .given .0 .0; left = d .left .given .0 .0; removal = 0; holders = []; prices = ps } in
     let r = map-read make (times (c .before .before .before .before .before .before .before .before .before .before .before .before .before .before .before .before .args .n) (row "price=" 1 1000000)) _ _ (c .before .read-prices .ensures) in
     record {
       is = r .is ∙ sym (bind-good _ _ (got-value (life (f .before .before)) (ap rowAnswer (f .life .given .1))) ∙ bind-good _ _ (got-value (left (d .before .before)) (ap rowAnswer (d .left .given .1))));

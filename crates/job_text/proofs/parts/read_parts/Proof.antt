@@ -20,7 +20,7 @@ abbrev Inv-loop : tie.InvT-loop
 Inv-loop text m n parts₀ q₀ i₀ parts q i =
     (i ≤ m) × (length parts ≡ 16) × Stands text q
     × (times m (part n) (drop (q₀ .at) text) (q₀ .line)
-    ≡ behind (map (partOf n) (take i parts)) (chain (λ (k : ℕ). part n) (λ (v : Part). 0) (m - i) 0 (drop (q .at) text) (q .line)))
+    ≡ behind (map (partOf n) (take i parts)) (chain (λ (k : ℕ). part n) (λ (k : ℕ) (v : Part). 0) (m - i) 0 (drop (q .at) text) (q .line)))
 
 abbrev μ-loop : tie.MeasureT-loop
 μ-loop text m n parts₀ q₀ i₀ parts q i = m - i

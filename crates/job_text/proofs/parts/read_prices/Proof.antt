@@ -15,7 +15,7 @@ abbrev Inv-loop : tie.InvT-loop
 Inv-loop text n prices₀ q₀ i₀ prices q i =
     (i ≤ n) × (length prices ≡ 64) × Stands text q
     × (times n (row "price=" 1 1000000) (drop (q₀ .at) text) (q₀ .line)
-    ≡ behind (take i prices) (chain (λ (k : ℕ). row "price=" 1 1000000) (λ (v : ℕ). 0) (n - i) 0 (drop (q .at) text) (q .line)))
+    ≡ behind (take i prices) (chain (λ (k : ℕ). row "price=" 1 1000000) (λ (k v : ℕ). 0) (n - i) 0 (drop (q .at) text) (q .line)))
 
 abbrev μ-loop : tie.MeasureT-loop
 μ-loop text n prices₀ q₀ i₀ prices q i = n - i

@@ -26,7 +26,7 @@ record Reading (text : List ℕ) (job : Job) (n step : ℕ) (marks₀ : List Cha
   long : length marks ≡ 16
   stands : Stands text q
   ks : List ℕ
-  read : parts (job .«part_count») n (drop (q₀ .at) text) (q₀ .line) ≡ behind ks (chain (part (job .«part_count»)) (λ (k : ℕ). k) (n - i) before (drop (q .at) text) (q .line))
+  read : parts (job .«part_count») n (drop (q₀ .at) text) (q₀ .line) ≡ behind ks (chain (part (job .«part_count»)) (λ (before k : ℕ). k) (n - i) before (drop (q .at) text) (q .line))
   marked : changesFor job marks ≡ withParts (jobOf job) step ks (changesFor job marks₀)
 
 abbrev Inv-loop : tie.InvT-loop

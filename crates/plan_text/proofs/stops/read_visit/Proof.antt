@@ -7,12 +7,11 @@ use lib.ListN.{drop}
 use Rattle.lines.specs.Text.{bytes}
 use Rattle.lines.specs.Parser.{_>>=_, return, row, checked}
 use Rattle.lines.specs.Cursor.{Stands, Reads, rowAnswer, ended}
-use Rattle.lines.proofs.Parsing.{bind-good, bind-fault, row-line, line-inside, line-reads, got-value, got-fault, got-place, map-read}
+use Rattle.lines.proofs.Parsing.{bind-good, bind-fault, row-line, line-inside, line-reads, got-value, got-fault, got-place, map-read, not-at}
 use Rattle.jobs.specs.Views.{jobOf}
 use Rattle.plan_text.specs.Grammar.{Visit, mayStop, parts, visit}
 use Rattle.plan_text.specs.Marks.{withVisit}
 use Rattle.jobs.proofs.Jobs.{part-count}
-use Rattle.plan_text.proofs.Marks.{not-at}
 use Rattle.plan_text.proofs.stops.read_visit.Statement.{statement}
 use Rattle.plan_text.proofs.stops.read_visit.Tie as tie
 

@@ -18,8 +18,8 @@ use Rattle.plan_text.proofs.Marks.{empty-made, visit-more}
 use Rattle.plan_text.proofs.stops.read_visits.Statement.{statement}
 use Rattle.plan_text.proofs.stops.read_visits.Tie as tie
 
-abbrev stepOf : Visit → ℕ
-stepOf v = v .step
+abbrev stepOf : ℕ → Visit → ℕ
+stepOf before v = v .step
 
 -- i of n visits were read
 record Reading (text : List ℕ) (job : Job) (n : ℕ) (q₀ : Cursor) (plan : Plan) (q : Cursor) (before i : ℕ) : Type 0 where

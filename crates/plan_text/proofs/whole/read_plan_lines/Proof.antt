@@ -31,15 +31,15 @@ read-field-requires c κs = search needs
 advance-requires : tie.Need-advance-requires
 advance-requires c κs =
     let st = c .before .before .before .before in
-    (st .pre .0, line-inside _ (st .args .p) (row-line _ 0 2000000000 _ (c .read-field .ensures)) (st .pre .0))
+    (st .pre .0, line-inside _ (st .args .p) (row-line _ 0 4000000000 _ (c .read-field .ensures)) (st .pre .0))
 
 enum-known-cost : tie.Need-enum-known-cost
 enum-known-cost c = search needs
 
 -- the cost's line, read in the whole text
-cost : (c : tie.After-advance) → let a = c .before .before .before .before .before .args in Reads (a .text .now) (rowAnswer (c .advance .result)) (row "cost=" 0 2000000000 (drop (a .p .at) (a .text .now)) (a .p .line))
+cost : (c : tie.After-advance) → let a = c .before .before .before .before .before .args in Reads (a .text .now) (rowAnswer (c .advance .result)) (row "cost=" 0 4000000000 (drop (a .p .at) (a .text .now)) (a .p .line))
 unfolding bytes
-cost c = line-reads _ (c .before .before .before .before .before .args .p) (row-line _ 0 2000000000 _ (c .before .read-field .ensures)) (c .advance .ensures)
+cost c = line-reads _ (c .before .before .before .before .before .args .p) (row-line _ 0 4000000000 _ (c .before .read-field .ensures)) (c .advance .ensures)
 
 stood : (c : tie.After-cost) → Stands (c .before .before .before .before .before .before .before .args .text .now) (c .cost .given .0 .1 .0)
 stood c = got-place (cost (c .before .before)) (ap rowAnswer (c .cost .given .1))

@@ -6,10 +6,10 @@ use native.Mathlib.Omega.{arith}
 use borrow.Author.Needs.{needs}
 use lib.ListN.{length}
 use Rattle.lines.specs.Text.{joined}
-use Rattle.plan_text.specs.Rendering.{chosen}
+use Rattle.lines.specs.Chosen.{chosen}
 use Rattle.jobs.specs.Views.{changedIn}
 use Rattle.plan_text.specs.Views.{numbersAt}
-use Rattle.plan_text.proofs.Chosen.{chosen-count, chosen-few}
+use Rattle.lines.proofs.Chosen.{chosen-count, chosen-few}
 use Rattle.plan_text.proofs.write.count_parts.Statement.{statement}
 use Rattle.plan_text.proofs.write.count_parts.Tie as tie
 

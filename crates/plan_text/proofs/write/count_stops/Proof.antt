@@ -7,10 +7,12 @@ use borrow.Author.Needs.{needs}
 use lib.ListN.{length, getD}
 use Rattle.lines.specs.Text.{joined}
 use Rattle.jobs.specs.Views.{jobOf, planFor}
-use Rattle.plan_text.specs.Rendering.{chosen, visitAt}
+use Rattle.lines.specs.Chosen.{chosen}
+use Rattle.plan_text.specs.Rendering.{visitAt}
 use Rattle.jobs.specs.declared.Plan.{Plan}
 use Rattle.jobs.proofs.Jobs.{opening-count}
-use Rattle.plan_text.proofs.Chosen.{chosen-count, chosen-few, chosen-length, stops-are}
+use Rattle.lines.proofs.Chosen.{chosen-count, chosen-few, chosen-length}
+use Rattle.plan_text.proofs.Chosen.{stops-are}
 use Rattle.plan_text.proofs.write.count_stops.Statement.{statement}
 use Rattle.plan_text.proofs.write.count_stops.Tie as tie
 

@@ -10,7 +10,7 @@ use Rattle.lines.specs.Wrote.{Wrote}
 use Rattle.lines.proofs.Writing.{none, then, kept, same, joined-more, joined-room}
 use Rattle.jobs.specs.Views.{changedIn}
 use Rattle.jobs.specs.declared.Plan.{Plan}
-use Rattle.plan_text.proofs.Chosen.{chosen-texts}
+use Rattle.lines.proofs.Chosen.{chosen-texts}
 use Rattle.plan_text.proofs.write.put_parts.Statement.{statement}
 use Rattle.plan_text.proofs.write.put_parts.Tie as tie
 

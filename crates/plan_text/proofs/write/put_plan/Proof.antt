@@ -12,7 +12,7 @@ use Rattle.jobs.specs.Views.{jobOf, planFor}
 use Rattle.plan_text.specs.Grammar.{Visit}
 use Rattle.plan_text.specs.Rendering.{visitAt, visitText, visitsOf, planText, planLinesOf}
 use Rattle.jobs.proofs.Jobs.{opening-count}
-use Rattle.plan_text.proofs.Chosen.{chosen-few}
+use Rattle.lines.proofs.Chosen.{chosen-few}
 use Rattle.plan_text.proofs.write.put_plan.Statement.{statement}
 use Rattle.plan_text.proofs.write.put_plan.Tie as tie
 

@@ -13,7 +13,8 @@ use Rattle.jobs.specs.Views.{jobOf, planFor}
 use Rattle.plan_text.specs.Rendering.{visitAt, visitText, visitsOf}
 use Rattle.jobs.specs.declared.Plan.{Plan}
 use Rattle.jobs.proofs.Jobs.{opening-count}
-use Rattle.plan_text.proofs.Chosen.{chosen-texts, stops-are}
+use Rattle.lines.proofs.Chosen.{chosen-texts}
+use Rattle.plan_text.proofs.Chosen.{stops-are}
 use Rattle.plan_text.proofs.write.put_stops.Statement.{statement}
 use Rattle.plan_text.proofs.write.put_stops.Tie as tie
 

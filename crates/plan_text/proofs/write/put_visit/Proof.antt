@@ -12,7 +12,8 @@ use Rattle.jobs.proofs.Jobs.{openingAt}
 use Rattle.plan_text.specs.Rendering.{visitAt, visitText}
 use Rattle.plan_text.specs.Views.{numbersAt}
 use Rattle.plan_text.proofs.Jobs.{step-at}
-use Rattle.plan_text.proofs.Chosen.{chosen-few, numbers-are}
+use Rattle.lines.proofs.Chosen.{chosen-few}
+use Rattle.plan_text.proofs.Chosen.{numbers-are}
 use Rattle.plan_text.proofs.write.put_visit.Statement.{statement}
 use Rattle.plan_text.proofs.write.put_visit.Tie as tie
 

@@ -11,7 +11,8 @@ use Rattle.jobs.specs.Views.{jobOf, partOf, changesFor, changesOf}
 use Rattle.jobs.specs.Valid.{ValidPart}
 use Rattle.jobs.specs.declared.Job.{Job}
 use Rattle.jobs.proofs.Jobs.{partAt, part-count, part-at, valid-part, valid-parts}
-use Rattle.verdict.proofs.Parts.{blankChanges, changes-count, changes-at, Priced, priced-none, priced-more, priced-most, part-most}
+use Rattle.verdict.specs.Steps.{blankChanges}
+use Rattle.verdict.proofs.Parts.{changes-count, changes-at, Priced, priced-none, priced-more, priced-most, part-most}
 use Rattle.verdict.proofs.costs.prices_of.Statement.{statement}
 use Rattle.verdict.proofs.costs.prices_of.Tie as tie
 

@@ -1,0 +1,54 @@
+-- What a job's part records say of holders and removals, by their places.
+use mathlib.Core.Path.{_≡_, refl, sym, ap, subst, _∙_}
+use mathlib.Core.Bool.{Bool, false}
+use mathlib.Core.List.{List, [], map}
+use Prim.Native.Nat.{ℕ, suc, _≤_, _<_}
+use native.Mathlib.Omega.{arith}
+use lib.ListN.{length, getD, length-map}
+use lib.Seq.{ext-getD}
+use Rattle.model.specs.Limits.{mostParts}
+use Rattle.model.specs.Model as model
+use Rattle.model.specs.Model.{listed, table, holdersAt, removalOf}
+use Rattle.model.specs.Verdict.{noPart}
+use Rattle.model.proofs.Lists.{table-length, table-at}
+use Rattle.lines.specs.Chosen.{numbersOf}
+use Rattle.jobs.specs.declared.Part.{Part}
+use Rattle.jobs.specs.declared.Job.{Job}
+use Rattle.jobs.specs.Views.{blankPart, jobOf, Sized}
+use Rattle.jobs.proofs.Lists.{map-at}
+use Rattle.jobs.proofs.Jobs.{Whole, part-count, part-at}
+use Rattle.coming_out.specs.Rows.{place, Row, Rows, HeldBy}
+use Rattle.coming_out.specs.Places.{Removals}
+use Rattle.coming_out.proofs.Listed.{numbers-listed}
+
+-- the marks of the holders of the part at place q, and its removal
+abbrev pub marksAt : List Part → ℕ → List Bool
+marksAt parts q = getD parts q blankPart .holders
+
+abbrev pub removalAt : List Part → ℕ → ℕ
+removalAt parts q = getD parts q blankPart .removal
+
+module _ (job : Job) (sized : Sized job) (whole : Whole job) where
+  -- seen through g
+  seen : {B : Type 0} (g : model.Part → B) (e : B) (q : ℕ) → q < job .«part_count» → getD (map g (jobOf job .parts)) q e ≡ g (getD (jobOf job .parts) q noPart)
+  seen g e q h = map-at g (jobOf job .parts) q noPart e (omega (arith, h, part-count job sized whole))
+
+  pub held-by : (matrix : List Bool) → Rows (job .«part_count») (marksAt (job .parts)) matrix → HeldBy (jobOf job) (job .«part_count») matrix
+  held-by matrix rows = record { count = part-count job sized whole; at = at }
+    where
+      at : (q j : ℕ) → q < job .«part_count» → j < job .«part_count» → getD matrix (place q j) false ≡ listed (holdersAt (jobOf job) q) (suc j)
+      at q j h l =
+          rows .at q j h (omega (arith, l, sized .parts))
+          ∙ sym (numbers-listed (marksAt (job .parts) q) j)
+          ∙ ap (λ (hs : List ℕ). listed hs (suc j)) (sym (seen (λ (part : model.Part). part .holders) [] q h ∙ ap (λ (part : model.Part). part .holders) (part-at job sized whole q h)))
+
+  pub removals-by : (removals : List ℕ) → Row 0 (table (removalAt (job .parts)) (job .«part_count»)) removals → Removals (jobOf job) removals
+  removals-by removals r = subst (λ (xs : List ℕ). Row 0 xs removals) same r
+    where
+      counted : length (table (removalAt (job .parts)) (job .«part_count»)) ≡ job .«part_count»
+      counted = table-length (removalAt (job .parts)) (job .«part_count»)
+
+      same : table (removalAt (job .parts)) (job .«part_count») ≡ map removalOf (jobOf job .parts)
+      same = ext-getD 0 (table (removalAt (job .parts)) (job .«part_count»)) (map removalOf (jobOf job .parts)) (counted ∙ sym (length-map (jobOf job .parts) removalOf ∙ part-count job sized whole))
+          (λ q h. let l : q < job .«part_count» = omega (arith, h, counted) in
+          table-at (removalAt (job .parts)) (job .«part_count») q 0 l ∙ sym (seen removalOf 0 q l ∙ ap removalOf (part-at job sized whole q l)))

@@ -1,0 +1,53 @@
+// Who holds whom, and the removals, from a job's part records.
+use crate::with_row;
+use jobs::Job;
+use jobs::Part;
+use part_records::part_of;
+ghost use mathlib.Core.Path.{_≡_};
+ghost use Prim.Native.Nat.{_≤_};
+ghost use Rattle.jobs.specs.Views.{jobOf, Sized};
+ghost use Rattle.coming_out.specs.Rows.{HeldBy};
+ghost use Rattle.coming_out.specs.Places.{Removals};
+
+// The holders of each part.
+pub fn holders_of(job: Job) -> [bool; 256]
+    requires { ⌜ Sized job ⌝ }
+    ensures { λ r. ⌜ HeldBy (jobOf job) (job .«part_count») r ⌝ }
+{
+    let m = job.part_count;
+    let parts = job.parts;
+    let mut matrix = [false; 256];
+    let mut q: usize = 0;
+    while q < m {
+        let part = part_of(parts, m, q);
+        let holders = part.holders;
+        let next = with_row(matrix, q, holders);
+        matrix = next;
+        q += 1;
+    }
+    matrix
+}
+
+// A part's removal.
+fn removal_of(part: Part) -> u32
+    ensures { λ r. ⌜ r ≡ part .removal ⌝ }
+{
+    part.removal
+}
+
+// The removal of each part.
+pub fn removals_of(job: Job) -> [u32; 16]
+    requires { ⌜ Sized job ⌝ }
+    ensures { λ r. ⌜ Removals (jobOf job) r ⌝ }
+{
+    let m = job.part_count;
+    let parts = job.parts;
+    let mut removals = [0u32; 16];
+    let mut q: usize = 0;
+    while q < m {
+        let part = part_of(parts, m, q);
+        removals[q] = removal_of(part);
+        q += 1;
+    }
+    removals
+}

@@ -1,0 +1,24 @@
+-- What is known of accepted lines of removal.
+use Prim.Native.Nat.{ℕ, _≤_, _<_}
+use mathlib.Core.Path.{_≡_}
+use mathlib.Core.List.{List, [], _∷_}
+use lib.ListN.{length}
+use Rattle.lines.specs.Text.{Optional, missing, present}
+use Rattle.model.specs.Limits.{dearest}
+use Rattle.covers.specs.Grammar.{Cover}
+
+-- the numbers rise after `before` and stay within m, and none is k
+abbrev pub Holds : ℕ → ℕ → ℕ → List ℕ → Type 0
+Holds m k before [] = Unit {0}
+Holds m k before (h ∷ hs) = (before < h) × (h ≤ m) × (h ≡ k → ⊥) × Holds m k h hs
+
+-- the lines of part k of m
+pub record ValidCover (m k : ℕ) (c : Cover) : Type 0 where
+  pub removal : c .removal ≤ dearest
+  pub few : length (c .holders) ≤ 15
+  pub holders : Holds m k 0 (c .holders)
+
+-- where they stand
+abbrev pub ValidLines : ℕ → ℕ → Optional Cover → Type 0
+ValidLines m k missing = Unit {0}
+ValidLines m k (present c) = ValidCover m k c

@@ -1,0 +1,38 @@
+-- A node's name read block by block: the first block of what is left of it, how long it is, and what it says.
+use Prim.Native.Nat.{ℕ, _+_, _<_}
+use mathlib.Core.Path.{_≡_}
+use mathlib.Core.Bool.{Bool, true, false, cond}
+use mathlib.Core.List.{List, [], _∷_}
+use lib.ListN.{length, getD, take, drop}
+use Rattle.model.specs.Model.{sumAt}
+use Rattle.model.specs.LowerBound.{stopsIn, removedIn}
+
+-- the first block, where h removals are decided after a yes; d where nothing is decided
+abbrev pub firstOr : List Bool → ℕ → List Bool → List Bool
+firstOr d h [] = d
+firstOr d h (false ∷ p) = false ∷ []
+firstOr d h (true ∷ p) = true ∷ take h p
+
+-- how many decisions it takes; the last block may have fewer
+abbrev pub blockLong : ℕ → List Bool → ℕ
+blockLong h [] = 0
+blockLong h (false ∷ p) = 1
+blockLong h (true ∷ p) = h + 1
+
+-- what a block pays: its fee after a yes, and the removals decided
+abbrev pub blockPaid : ℕ → List ℕ → List Bool → ℕ
+blockPaid fee rs b = cond (getD b 0 true) fee 0 + sumAt rs (drop 1 b)
+
+-- "the fees of its yes openings", and the decided removals
+abbrev pub paidIn : List ℕ → List ℕ → List (List Bool) → ℕ
+paidIn fees rs bs = sumAt fees (stopsIn bs) + removedIn rs bs
+
+-- what is still to be paid for a stop: nothing once it is decided
+abbrev pub blockDue : ℕ → List Bool → ℕ
+blockDue fee [] = fee
+blockDue fee (x ∷ r) = 0
+
+-- an array with an entry for each of n openings
+pub record Entries {A : Type 0} (d : A) (f : ℕ → A) (n : ℕ) (r : List A) : Type 0 where
+  pub size : length r ≡ 64
+  pub at : (k : ℕ) → k < n → getD r k d ≡ f k

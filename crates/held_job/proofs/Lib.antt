@@ -1,0 +1,2 @@
+-- The arrays as what the search asks for.
+pub mod Held

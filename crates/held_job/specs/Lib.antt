@@ -1,0 +1,2 @@
+-- What removals and holders bring into the search of a job.
+pub mod Removed

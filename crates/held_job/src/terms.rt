@@ -1,0 +1,38 @@
+// What removals and holders bring into the search: what is added to the prices, who comes out with whom, and the removals that are decided.
+use coming_out::charges;
+use coming_out::come_out;
+use coming_out::holding_of;
+use coming_out::inner_removals;
+use coming_out::needs;
+use coming_out::records::holders_of;
+use coming_out::records::removals_of;
+use jobs::Job;
+ghost use Rattle.jobs.specs.Views.{jobOf, Sized};
+ghost use Rattle.held_job.specs.Removed.{TermsOf};
+
+// What is added to each part's prices; of the parts that are somebody's holder, those that come out with each part; their removals; and how many they are.
+pub struct Terms {
+    pub charges: [u32; 16],
+    pub needs: [bool; 256],
+    pub removals: [u32; 16],
+    pub holding: usize,
+}
+
+// The terms of a job.
+pub fn terms_of(job: Job) -> Terms
+    requires { ⌜ Sized job ⌝ }
+    ensures { λ r. ⌜ TermsOf (jobOf job) r ⌝ }
+{
+    let count = job.part_count;
+    let paid = removals_of(job);
+    let holders = holders_of(job);
+    let outs = come_out(&holders, count);
+    let holding = holding_of(&holders, count);
+    let marks = holding.marks;
+    Terms {
+        charges: charges(paid, marks),
+        needs: needs(&outs, count, holding),
+        removals: inner_removals(paid, holding),
+        holding: holding.count,
+    }
+}

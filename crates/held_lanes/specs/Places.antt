@@ -1,0 +1,92 @@
+-- Where the numbers of the tables for holders stand, and of what goes with the stack of rows. A set of lanes is a number, lane q its bit q.
+use Prim.Native.Nat.{ℕ, zero, suc, _+_, _*_, _/_, _%_, max}
+use mathlib.Core.Bool.{Bool, cond}
+use lib.Dec.{eqb}
+use Rattle.model.specs.Limits.{mostOpenings, mostParts}
+use Rattle.lane_rows.specs.Layout.{laneCount, markCount, inf, triangle, blockSize}
+
+-- lane q belongs to the set
+unfoldable pub bitAt : ℕ → ℕ → Bool
+bitAt zero s = eqb (s % 2) 1
+bitAt (suc q) s = bitAt q (s / 2)
+
+-- what stands for a lane of the set: a number, and for the others 0
+abbrev pub maskOf : ℕ → ℕ → ℕ
+maskOf s q = cond (bitAt q s) inf 0
+
+-- the largest of f over the numbers below k
+unfoldable pub mostTo : (ℕ → ℕ) → ℕ → ℕ
+mostTo f zero = 0
+mostTo f (suc k) = max (mostTo f k) (f k)
+
+-- ---- the tables for holders: the terms by classes, those where every last mark is the opening just decided, the removals, the lanes that need a holding part, and the classes that do, the masks of four lanes, a lane of
+-- each class, how many classes there are, and how many holding parts
+
+-- the term of class c where j openings are decided, after mark i: it stands at an offset of the level's
+abbrev pub offset : ℕ → ℕ → ℕ
+offset i c = i * laneCount + c
+
+abbrev pub levelPlace : ℕ → ℕ → ℕ
+levelPlace j o = triangle j * laneCount + o
+
+abbrev pub classPlace : ℕ → ℕ → ℕ → ℕ
+classPlace j i c = levelPlace j (offset i c)
+
+abbrev pub topPlace : ℕ → ℕ
+topPlace j = blockSize + j
+
+abbrev pub removalBase : ℕ
+removalBase = blockSize + markCount
+
+abbrev pub removalPlace : ℕ → ℕ
+removalPlace b = removalBase + b
+
+abbrev pub needLanesPlace : ℕ → ℕ
+needLanesPlace b = removalBase + mostParts + b
+
+abbrev pub needCountPlace : ℕ → ℕ
+needCountPlace b = removalBase + mostParts * 2 + b
+
+abbrev pub needClassPlace : ℕ → ℕ → ℕ
+needClassPlace b i = removalBase + mostParts * 3 + (b * laneCount + i)
+
+abbrev pub maskBase : ℕ
+maskBase = removalBase + mostParts * 3 + mostParts * laneCount
+
+abbrev pub maskPlace : ℕ → ℕ → ℕ
+maskPlace s i = maskBase + s * 4 + i
+
+abbrev pub leadPlace : ℕ → ℕ
+leadPlace c = maskBase + 64 + c
+
+abbrev pub classesPlace : ℕ
+classesPlace = maskBase + 64 + laneCount
+
+abbrev pub holdsPlace : ℕ
+holdsPlace = classesPlace + 1
+
+abbrev pub heldSize : ℕ
+heldSize = holdsPlace + 1
+
+-- ---- beside the stack of rows: the last mark of each class, as an offset of a level's terms; the removals decided at each opening, and the incumbent's; the row of the stop at hand, above so many rows, and whether it is there
+
+abbrev pub lastPlace : ℕ → ℕ → ℕ
+lastPlace r c = r * laneCount + c
+
+abbrev pub removedPlace : ℕ → ℕ
+removedPlace k = markCount * laneCount + k
+
+abbrev pub bestPlace : ℕ → ℕ
+bestPlace k = markCount * laneCount + mostOpenings + k
+
+abbrev pub pendingRow : ℕ → ℕ
+pendingRow r = markCount * laneCount + mostOpenings * 2 + r * laneCount
+
+abbrev pub pendingPlace : ℕ → ℕ → ℕ
+pendingPlace r q = pendingRow r + q
+
+abbrev pub readyPlace : ℕ → ℕ
+readyPlace r = markCount * laneCount * 2 + mostOpenings * 2 + r
+
+abbrev pub asideSize : ℕ
+asideSize = readyPlace markCount

@@ -1,0 +1,152 @@
+-- What the code hands back is the model's answer: the incumbent is a full node, its stops are the name's first decisions, and the rows are the tie rule's changes at its places.
+use Prim.Native.Nat.{ℕ, _+_, _-_, _*_, _<_, _≤_}
+use mathlib.Core.Path.{_≡_, refl, sym, ap, ap₂, subst, _∙_}
+use mathlib.Core.Bool.{Bool, true, false, cond}
+use mathlib.Core.List.{List, [], _∷_, _++_, map}
+use native.Mathlib.Omega.{arith}
+use borrow.Author.Count.{below-more}
+use lib.ListN.{length, getD, take, set, replicate, length-map, length-set, List·getD-map}
+use lib.Seq.{take-at, getD-take, length-take-le, ext-getD, getD-set-same, getD-set-other}
+use lib.IntN.{ℤ, pos, _-ℤ_}
+use Rattle.branch.specs.declared.Bound.{Bound}
+use Rattle.branch.specs.declared.Bound.the-variants.{Missing, Sum}
+use Rattle.branch.specs.Search.{Incumbent, none, plan, Limited, atMost, costAt}
+use Rattle.branch.specs.Questions.{askFrom}
+use Rattle.branch.proofs.Among.{limited-best}
+use Rattle.model.specs.Model.{Job}
+use Rattle.model.specs.Decisions.{Held, heldParts}
+use Rattle.model.specs.LowerBound.{offers, choiceOf, blocks, stopsAt, partChoice, boundOf, planAt}
+use Rattle.model.specs.Promise.{cut, optimum, answered, answeredAt, answerOf, searched}
+use Rattle.model.proofs.Bools.{there}
+use Rattle.model.proofs.Offers.{offers-length}
+use Rattle.model.proofs.Bounded.{node-full, stops-length}
+use Rattle.model.proofs.Held.{held-at}
+use Rattle.model.specs.Decisions.{heldAt}
+use Rattle.model.specs.Verdict.{partAt}
+use Rattle.jobs.specs.declared.Changes.{Changes}
+use Rattle.search.specs.declared.Found.{Found}
+use Rattle.search.specs.Found.{stopsIn, rowIn, changesIn, planFound, saidBy, saidAt, saidIn}
+use Rattle.search.proofs.Answered.{choice-size}
+use Rattle.held_bound.specs.Blocks.{Entries}
+use Rattle.held_bound.specs.Arrays.{pricesAt, Arrays, Holds}
+use Rattle.held_bound.specs.Sums.{placesOf, laneChoice}
+use Rattle.held_bound.proofs.Totals.{opened, holding, nodes-are, held-size, choice-is}
+use Rattle.held_walk.specs.declared.Search.{Search}
+use Rattle.held_walk.specs.declared.Node.{Node}
+use Rattle.held_walk.specs.State.{view, treeAt}
+use Rattle.held_search.specs.declared.Solved.{Solved}
+use Rattle.held_search.specs.Solved.{Solves, noRow, Chooses}
+
+-- ---- the rows of changes, part by part
+
+module _ (e : ℤ) (ss : List ℤ) (ls rs ps : List ℕ) (nd : List Bool) (h : ℕ) (name : List Bool) where
+  abbrev chosen : ℕ → List Bool
+  chosen q = laneChoice e ss (getD ls q 0) (getD rs q 0) (pricesAt (length ss) ps q) (placesOf (length ss) h nd q name) ++ replicate (64 - length ss) false
+
+  pub chooses-none : (rows : List Changes) → length rows ≡ 16 → Chooses e ss ls rs ps nd h name rows 0
+  chooses-none rows s = record { size = s; row = λ q l. absurd (omega arith) }
+
+  pub chooses-more : (rows : List Changes) (q : ℕ) (v : List Bool) → q < 16 → v ≡ chosen q → Chooses e ss ls rs ps nd h name rows q → Chooses e ss ls rs ps nd h name (set rows q (record { at = v })) (q + 1)
+  chooses-more rows q v l f c =
+      record {
+        size = length-set rows q (record { at = v }) ∙ c .size;
+        row = below-more (λ (r : ℕ). getD (set rows q (record { at = v })) r noRow .at ≡ chosen r) q
+            (λ r l. ap (λ (x : Changes). x .at) (getD-set-other rows q r (record { at = v }) noRow (λ z. omega (arith, z))) ∙ c .row r l)
+            (ap (λ (x : Changes). x .at) (getD-set-same rows q (record { at = v }) noRow (omega (arith, c .size))) ∙ f);
+      }
+
+-- ---- the first node
+
+-- what is asked there is the job's tree
+pub root-tree : (job : Job) (h n : ℕ) → h ≡ Rattle.model.specs.LowerBound.inner job → n ≡ length (job .openings) → treeAt (boundOf job) h (record { size = 0; openings = n; removals = 0 }) [] ≡ searched job
+unfolding askFrom
+root-tree job h n e f = ap₂ (λ (i k : ℕ). treeAt (boundOf job) i (record { size = 0; openings = k; removals = 0 }) []) e f
+
+-- ---- what the code holds, as it is handed back
+
+abbrev pub handed : Solved → List Bool → List Changes → Found
+handed s stops rows =
+    let st = s .state in
+    record { count = st .count; over = st .over; found = st .found; cost = st .cost; floor = s .floor; stops = stops; changes = rows }
+
+module _ (job : Job) (e : ℤ) (ss : List ℤ) (fs ls rs ps : List ℕ) (nd : List Bool) (rm : List ℕ) (ar : Arrays e ss fs ls rs ps nd rm) (ho : Holds job e ss fs ls rs ps nd rm) (limit : ℕ) (best : List Bool) (s : Solved)
+    (so : Solves job limit best s) (stops : List Bool) (st : Entries false (λ (k : ℕ). getD (getD (blocks (length rm) (length ss) (take (s .state .size) best)) k (false ∷ [])) 0 true) (length ss) stops)
+    (rows : List Changes) (ch : Chooses e ss ls rs ps nd (length rm) (take (s .state .size) best) rows (length ls)) where
+  abbrev name : List Bool
+  name = take (s .state .size) best
+
+  abbrev r : Found
+  r = handed s stops rows
+
+  abbrev n : ℕ
+  n = length (job .openings)
+
+  abbrev m : ℕ
+  m = length (job .parts)
+
+  -- an incumbent is a full node
+  full-length : (c : ℕ) → view best (s .state) .incumbent ≡ plan c name → length (stopsAt job name) ≡ n
+  full-length c f =
+      stops-length job name (node-full job name c (limited-best (searched job) limit .costs c name (sym (ap (λ (l : Limited). l .incumbent) (so .walked)) ∙ f)))
+
+  stops-are : length (stopsAt job name) ≡ n → stopsIn n r ≡ stopsAt job name
+  stops-are f = ext-getD false (take n stops) (stopsAt job name) (long ∙ sym f) at
+    where
+      size : length ss ≡ n
+      size = opened job e ss fs ls rs ps nd rm ho
+
+      long : length (take n stops) ≡ n
+      long = length-take-le n stops (omega (arith, st .size, size, ar .lanes .timed .few))
+
+      at : (k : ℕ) → k < length (take n stops) → getD (take n stops) k false ≡ getD (stopsAt job name) k false
+      at k l =
+          getD-take n stops k false (omega (arith, long)) ∙ st .at k (omega (arith, long, size))
+          ∙ ap (λ (bs : List (List Bool)). getD (getD bs k (false ∷ [])) 0 true) (nodes-are job e ss fs ls rs ps nd rm ho name)
+          ∙ sym (List·getD-map (λ (b : List Bool). getD b 0 true) (Rattle.model.specs.LowerBound.nodeAt job name) k (false ∷ []))
+
+  row-is : (q : ℕ) → q < length ls → rowIn n (getD rows q noRow) ≡ partChoice job (heldAt job q (partAt job q)) name
+  row-is q l =
+      let size = opened job e ss fs ls rs ps nd rm ho in
+      let x = laneChoice e ss (getD ls q 0) (getD rs q 0) (pricesAt (length ss) ps q) (placesOf (length ss) (length rm) nd q name) in
+      let os = offers ss (pricesAt (length ss) ps q) (placesOf (length ss) (length rm) nd q name) in
+      ap (λ (k : ℕ). take k (getD rows q noRow .at)) (sym size)
+      ∙ ap (take (length ss)) (ch .row q l)
+      ∙ take-at x (replicate (64 - length ss) false) (length ss)
+      (choice-size (pos (getD ls q 0)) e (pos (getD rs q 0) -ℤ pos (getD ls q 0)) os ∙ offers-length ss (pricesAt (length ss) ps q) (placesOf (length ss) (length rm) nd q name))
+      ∙ choice-is job e ss fs ls rs ps nd rm ho q l name
+
+  changes-are : changesIn n m r ≡ map (λ (held : Held). partChoice job held name) (heldParts job)
+  changes-are = ext-getD (rowIn n noRow) (map (rowIn n) (take m rows)) (map choose (heldParts job)) (long ∙ sym (length-map (heldParts job) choose ∙ held-size job e ss fs ls rs ps nd rm ho ∙ sym (ho .parts))) at
+    where
+      choose : Held → List Bool
+      choose held = partChoice job held name
+
+      long : length (map (rowIn n) (take m rows)) ≡ m
+      long = length-map (take m rows) (rowIn n) ∙ length-take-le m rows (omega (arith, ch .size, ho .parts, ar .lanes .parts))
+
+      at : (q : ℕ) → q < length (map (rowIn n) (take m rows)) → getD (map (rowIn n) (take m rows)) q (rowIn n noRow) ≡ getD (map choose (heldParts job)) q (rowIn n noRow)
+      at q l =
+          let own = heldAt job q (partAt job q) in
+          List·getD-map (rowIn n) (take m rows) q noRow
+          ∙ ap (rowIn n) (getD-take m rows q noRow (omega (arith, long)))
+          ∙ row-is q (omega (arith, long, ho .parts))
+          ∙ ap choose (sym (held-at job q own (omega (arith, long))))
+          ∙ sym (List·getD-map choose (heldParts job) q own)
+          ∙ there (map choose (heldParts job)) q (choose own) (rowIn n noRow) (omega (arith, long, length-map (heldParts job) choose, held-size job e ss fs ls rs ps nd rm ho, ho .parts))
+
+  plan-is : (c : ℕ) → view best (s .state) .incumbent ≡ plan c name → planFound n m r ≡ planAt job name
+  plan-is c f = λ i. record { stops = stops-are (full-length c f) i; changes = changes-are i }
+
+  by : (floor : ℕ) (o t : Bool) → s .state .found ≡ t → saidBy n m floor r o t ≡ answered job floor (r .count) o (cond t (plan (r .cost) name) none)
+  by floor true false f = refl
+  by floor true true f = ap (cut (r .count) floor (r .cost)) (plan-is (r .cost) (ap (λ (b : Bool). cond b (plan (r .cost) name) none) f))
+  by floor false false f = refl
+  by floor false true f = ap (optimum (r .count) floor (r .cost)) (plan-is (r .cost) (ap (λ (b : Bool). cond b (plan (r .cost) name) none) f))
+
+  at-floor : (b : Bound) → saidAt n m r b ≡ answeredAt job b (view best (s .state))
+  at-floor Missing = refl
+  at-floor (Sum floor) = by floor (r .over) (r .found) refl
+
+  pub said : saidIn n m r ≡ answerOf job limit
+  unfolding answerOf
+  said = at-floor (r .floor) ∙ ap₂ (answeredAt job) (so .floor) (so .walked)

@@ -1,0 +1,115 @@
+-- The bounds of the nodes below a node, by the numbers that the code finds: no and yes below an opening, not removed and removed below a stop. The term tells whether a bound is missing.
+use Prim.Native.Nat.{ℕ, _+_, _-_, _*_, _<_, _≤_, max}
+use mathlib.Core.Path.{_≡_, refl, sym, ap, ap₂, subst, _∙_}
+use mathlib.Core.Bool.{Bool, true, false, cond, not}
+use mathlib.Core.List.{List, [], _∷_, _++_}
+use native.Mathlib.Omega.{arith}
+use lib.ListN.{length, getD}
+use Rattle.branch.specs.declared.Bound.{Bound}
+use Rattle.branch.specs.declared.Bound.the-variants.{Missing, Sum}
+use Rattle.branch.specs.Lower.{add}
+use Rattle.branch.specs.Search.{snoc}
+use Rattle.model.specs.Decisions.{covered}
+use Rattle.lane_rows.specs.Layout.{top, laneLimit, inf, suffixBase, lanesIn}
+use Rattle.lane_rows.specs.Tables.{Coded, Tables}
+use Rattle.lane_rows.specs.Rows.{lane, sumLanes}
+use Rattle.lane_rows.proofs.Lanes.{sum-same}
+use Rattle.held_rows.specs.Held.{HeldSheet, plain, noLane, needsOf, held, seenBy, paidIn, heldSums, heldTerm, Classed}
+use Rattle.held_rows.specs.Rows.{SeenRows}
+use Rattle.held_rows.proofs.Sums.{sums-yes, sums-removed, term-removed}
+use Rattle.held_rows.proofs.Numbers.{wide, no-sums, stop-sums}
+use Rattle.held_lanes.specs.Places.{mostTo, topPlace, needCountPlace, needClassPlace}
+use Rattle.held_lanes.specs.Tables.{HeldTables, Lasts, termOf}
+use Rattle.held_lanes.proofs.Coded.{no-coded, yes-coded, left-coded}
+use Rattle.held_stops.specs.Stops.{stopLane}
+use Rattle.held_stops.proofs.Settled.{ShutSet}
+
+-- the bound where these blocks are decided
+abbrev pub boundIn : HeldSheet → List (List Bool) → Bound
+boundIn sheet ds = add (add (Sum (paidIn sheet ds)) (heldSums sheet ds)) (heldTerm sheet ds)
+
+-- ---- the term tells
+
+-- the bound is missing where the number g is none of a price; else the sums are y, the term is g, and the bound is the sum of all
+pub record Told (sheet : HeldSheet) (ds : List (List Bool)) (g y : ℕ) : Type 0 where
+  pub none : inf ≤ g → boundIn sheet ds ≡ Missing
+  pub sums : g < inf → heldSums sheet ds ≡ Sum y
+  pub term : g < inf → heldTerm sheet ds ≡ Sum g
+  pub bound : g < inf → boundIn sheet ds ≡ Sum (paidIn sheet ds + y + g)
+
+missing-add : (x : Bound) → add x Missing ≡ Missing
+missing-add Missing = refl
+missing-add (Sum a) = refl
+
+module _ (sheet : HeldSheet) (ds : List (List Bool)) (b g y : ℕ) (few : b ≤ laneLimit) (c : Coded b g (heldTerm sheet ds)) (s : (k : ℕ) → heldTerm sheet ds ≡ Sum k → heldSums sheet ds ≡ Sum y) where
+  there : g < inf → heldTerm sheet ds ≡ Sum g
+  there h = go (heldTerm sheet ds) c
+    where
+      go : (e : Bound) → Coded b g e → e ≡ Sum g
+      go Missing d = absurd (omega (arith, d, h))
+      go (Sum k) d = ap Sum (sym (d .0))
+
+  pub told : Told sheet ds g y
+  told =
+      record {
+        none = λ h. ap (add (add (Sum (paidIn sheet ds)) (heldSums sheet ds))) (go (heldTerm sheet ds) c h) ∙ missing-add (add (Sum (paidIn sheet ds)) (heldSums sheet ds));
+        sums = λ h. s g (there h);
+        term = there;
+        bound = λ h. ap₂ (λ (x e : Bound). add (add (Sum (paidIn sheet ds)) x) e) (s g (there h)) (there h);
+      }
+    where
+      go : (e : Bound) → Coded b g e → inf ≤ g → e ≡ Missing
+      go Missing d h = refl
+      go (Sum k) d h = absurd (omega (arith, d .0, d .1, h, few))
+
+-- ---- below an opening
+
+module _ (sheet : HeldSheet) (fit : Classed sheet) (t u v w : List ℕ) (ta : Tables (plain sheet) t) (he : HeldTables sheet u) (bs : List (List Bool)) (n r : ℕ) (ls : Lasts sheet v bs r)
+    (ro : SeenRows (plain sheet) w (length bs) (λ (q : ℕ). seenBy sheet bs (getD (sheet .lanes) q noLane)) n) (x : ℕ) (sums : heldSums sheet bs ≡ Sum x) (few : length bs < length (sheet .positions)) where
+  abbrev at : ℕ
+  at = length bs
+
+  abbrev most : ℕ
+  most = top * (length (sheet .positions) - (at + 1))
+
+  small : most ≤ laneLimit
+  small = omega (arith, ta .few)
+
+  abbrev pub noTerm : ℕ
+  noTerm = mostTo (termOf u v (at + 1) r) (length (sheet .needs))
+
+  abbrev pub noSum : ℕ
+  noSum = sumLanes (lanesIn t) (λ (q : ℕ). lane t w suffixBase (at + 1) q n)
+
+  pub no-told : Told sheet (bs ++ ((false ∷ []) ∷ [])) noTerm noSum
+  no-told = told sheet (bs ++ ((false ∷ []) ∷ [])) most noTerm noSum small (no-coded sheet fit u v he (ta .few) bs r ls x sums few) (no-sums sheet fit t w ta bs n ro few)
+
+  pub yes-told : Told sheet (bs ++ ((true ∷ []) ∷ [])) (getD u (topPlace (at + 1)) 0) x
+  yes-told = told sheet (bs ++ ((true ∷ []) ∷ [])) most (getD u (topPlace (at + 1)) 0) x small (yes-coded sheet fit u v he (ta .few) bs r ls x sums few) (λ k e. sums-yes sheet bs ∙ sums)
+
+  -- ---- below a stop
+
+  module _ (rs : List Bool) (g : ℕ) (next : length rs < held sheet) (coded : Coded most g (heldTerm sheet (bs ++ ((true ∷ rs) ∷ [])))) where
+    abbrev pub leftTerm : ℕ
+    leftTerm = max g (mostTo (λ (i : ℕ). termOf u v (at + 1) r (getD u (needClassPlace (length rs) i) 0)) (getD u (needCountPlace (length rs)) 0))
+
+    -- the lanes are picked by the set of those that the stop is shut to
+    picked : (set : ℕ) → ShutSet sheet (snoc rs false) set → (q : ℕ) → q < lanesIn t
+        → cond (covered (needsOf sheet (getD (sheet .lanes) q noLane .class)) (snoc rs false)) (lane t w suffixBase at q n) (lane t w suffixBase (at + 1) q n) ≡ stopLane t w (at + 1) n set q
+    picked set b q l =
+        let z : at + 1 - 1 ≡ at = omega arith in
+        go (covered (needsOf sheet (getD (sheet .lanes) q noLane .class)) (snoc rs false)) ∙ ap₂ (λ (d : Bool) (j : ℕ). cond d (lane t w suffixBase (at + 1) q n) (lane t w suffixBase j q n)) (sym (b q (omega (arith, wide sheet fit t w ta bs n ro)))) (sym z)
+      where
+        go : (d : Bool) → cond d (lane t w suffixBase at q n) (lane t w suffixBase (at + 1) q n) ≡ cond (not d) (lane t w suffixBase (at + 1) q n) (lane t w suffixBase at q n)
+        go true = refl
+        go false = refl
+
+    pub left-told : (set : ℕ) → ShutSet sheet (snoc rs false) set → Told sheet (bs ++ ((true ∷ snoc rs false) ∷ [])) leftTerm (sumLanes (lanesIn t) (stopLane t w (at + 1) n set))
+    left-told set b =
+        told sheet (bs ++ ((true ∷ snoc rs false) ∷ [])) most leftTerm (sumLanes (lanesIn t) (stopLane t w (at + 1) n set)) small (left-coded sheet fit u v he (ta .few) bs r ls x sums few rs g next coded)
+        (λ k e. stop-sums sheet fit t w ta bs n ro few (snoc rs false) k e
+        ∙ ap Sum (sum-same (lanesIn t) (λ (q : ℕ). cond (covered (needsOf sheet (getD (sheet .lanes) q noLane .class)) (snoc rs false)) (lane t w suffixBase at q n) (lane t w suffixBase (at + 1) q n)) (stopLane t w (at + 1) n set) (picked set b)))
+
+    pub removed-told : (y : ℕ) → heldSums sheet (bs ++ ((true ∷ rs) ∷ [])) ≡ Sum y → Told sheet (bs ++ ((true ∷ snoc rs true) ∷ [])) g y
+    removed-told y e =
+        told sheet (bs ++ ((true ∷ snoc rs true) ∷ [])) most g y small (subst (Coded most g) (sym (term-removed sheet bs rs)) coded) (λ k f. sums-removed sheet bs rs ∙ e)

@@ -1,0 +1,100 @@
+-- `search_plain`: the arrays hold the job, so what the search answers for every job that they hold it answers for this one.
+use Prim.Native.Nat.{ℕ}
+use mathlib.Core.Path.{sym}
+use native.Mathlib.Omega.{arith}
+use borrow.Author.Needs.{needs}
+use lib.ListN.{take, replicate}
+use mir.Syntax.{w32}
+use mir.Val.{toZ, ofZ}
+use Rattle.jobs.specs.Views.{jobOf}
+use Rattle.clock.proofs.Ranges.{position-bits}
+use Rattle.coming_out.proofs.Rows.{blank}
+use Rattle.search.specs.Arrays.{Holds}
+use Rattle.job_numbers.proofs.Counts.{long-enough, Counted, counted}
+use Rattle.job_search.proofs.Plain.{job-said, holds-plain}
+use Rattle.job_search.proofs.search_plain.Statement.{statement}
+use Rattle.job_search.proofs.search_plain.Tie as tie
+
+-- ---- what is known once the arrays are laid out
+
+module _ (c : tie.After-prices-of) where
+  abbrev numbers : tie.After-numbers-of
+  numbers = c .before .before .before .before .before .before
+
+  abbrev s : tie.Start
+  s = numbers .before
+
+  abbrev n : ℕ
+  n = s .args .job .«opening_count»
+
+  abbrev m : ℕ
+  m = s .args .job .«part_count»
+
+  long : Counted n m (numbers .numbers-of .result)
+  long = counted (s .args .job) (s .pre .0 .sized) (s .good .0) (numbers .numbers-of .result) (numbers .numbers-of .ensures)
+
+  holds : Holds (jobOf (s .args .job)) (toZ w32 (ofZ w32 (numbers .numbers-of .result .placed .end))) (take n (numbers .numbers-of .result .placed .at)) (take n (numbers .numbers-of .result .fees)) (take m (numbers .numbers-of .result .lives))
+      (take m (numbers .numbers-of .result .lefts)) (c .prices-of .result)
+  holds =
+      rw (position-bits (numbers .numbers-of .result .placed .end) (numbers .numbers-of .ensures .placed .end-range))
+      (holds-plain (s .args .job) (s .pre .0 .sized) (s .good .0) (s .pre .1) (s .pre .0 .valid) (numbers .numbers-of .result) (numbers .numbers-of .ensures) (replicate 16 0) (blank 0 16) (c .prices-of .result) (c .prices-of .ensures))
+
+numbers-of-requires : tie.Need-numbers-of-requires
+numbers-of-requires c κs = search needs
+
+prices-of-requires : tie.Need-prices-of-requires
+prices-of-requires c κs = let b = c .before .before .before .before .before .before in (b .pre .0, λ q h. omega (arith, blank {A = ℕ} 0 16 q))
+
+array-share-prefix-positions : tie.Need-array-share-prefix-positions
+array-share-prefix-positions c = long-enough (n c) (numbers c .numbers-of .result .placed .at) (long c .places)
+
+slice-aggregate-search : tie.Need-slice-aggregate-search
+slice-aggregate-search c = sym (long (c .before) .places)
+
+array-share-prefix-fees : tie.Need-array-share-prefix-fees
+array-share-prefix-fees c = let b = c .before in long-enough (n b) (numbers b .numbers-of .result .fees) (long b .fees)
+
+slice-aggregate-search-2 : tie.Need-slice-aggregate-search-2
+slice-aggregate-search-2 c = sym (long (c .before .before) .fees)
+
+array-share-prefix-lives : tie.Need-array-share-prefix-lives
+array-share-prefix-lives c = let b = c .before .before in long-enough (m b) (numbers b .numbers-of .result .lives) (long b .lives)
+
+slice-aggregate-search-3 : tie.Need-slice-aggregate-search-3
+slice-aggregate-search-3 c = sym (long (c .before .before .before) .lives)
+
+array-share-prefix-lefts : tie.Need-array-share-prefix-lefts
+array-share-prefix-lefts c = let b = c .before .before .before in long-enough (m b) (numbers b .numbers-of .result .lefts) (long b .lefts)
+
+slice-aggregate-search-4 : tie.Need-slice-aggregate-search-4
+slice-aggregate-search-4 c = sym (long (c .before .before .before .before) .lefts)
+
+slice-aggregate-search-5 : tie.Need-slice-aggregate-search-5
+slice-aggregate-search-5 c = search needs
+
+search-requires : tie.Need-search-requires
+search-requires c κs = let b = c .before .before .before .before .before .before in ((jobOf (s b .args .job), holds b), omega (arith, s b .fits .limit))
+
+returns : tie.Need-returns
+returns c =
+    let b = c .before .before .before .before .before .before .before in
+    let j = s b .args .job in
+    job-said j (s b .pre .0 .sized) (s b .good .0) (s b .pre .1) (s b .pre .0 .valid) (s b .args .limit) (c .search .result) (c .search .ensures (jobOf j) (holds b))
+
+pub search-plain-spec : {M : Type 1} → statement M
+search-plain-spec =
+    tie.close
+    (tie.spec
+    numbers-of-requires
+    prices-of-requires
+    array-share-prefix-positions
+    slice-aggregate-search
+    array-share-prefix-fees
+    slice-aggregate-search-2
+    array-share-prefix-lives
+    slice-aggregate-search-3
+    array-share-prefix-lefts
+    slice-aggregate-search-4
+    slice-aggregate-search-5
+    search-requires
+    returns)
