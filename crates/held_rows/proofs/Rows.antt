@@ -15,7 +15,7 @@ use Rattle.branch.specs.Lower.{add}
 use Rattle.branch.specs.Search.{snoc}
 use Rattle.model.specs.LowerBound.{plus, leastOf, offers}
 use Rattle.least.specs.Marks.{markOf}
-use Rattle.lane_rows.specs.Layout.{laneCount, top, inf, suffixBase, reachBase, place, rowPlace, pricePlace, markBase, markPlace, lanesIn}
+use Rattle.lane_rows.specs.Layout.{laneCount, dear, inf, suffixBase, reachBase, place, rowPlace, pricePlace, markBase, markPlace, lanesIn}
 use Rattle.lane_rows.specs.Sheet.{Column, Sheet, columnBound, reach, joined, frontFrom, front, noColumn}
 use Rattle.lane_rows.specs.Tables.{valueOf, Tables}
 use Rattle.lane_rows.specs.Rows.{lane, marksIn, Level, Kept, Put, FirstRow, Stack, nextRow}
@@ -34,7 +34,7 @@ rows-kept sheet w w' at sees n r k =
       marks = λ i l. subst (λ (x : ℕ). x ≤ at) (sym (k .marks i l)) (r .marks i l);
       narrow = r .narrow;
       decided = r .decided;
-      level = λ i q l g. subst (Level (top * at)) (sym (k .rows (rowPlace i q) (omega (arith, r .narrow)))) (r .level i q l g);
+      level = λ i q l g. subst (Level (dear * at)) (sym (k .rows (rowPlace i q) (omega (arith, r .narrow)))) (r .level i q l g);
       fronts = λ q l. ap solid (marks-kept (getD (sheet .columns) q noColumn .first) (sheet .positions) w w' q n n (omega (arith, r .narrow)) (omega arith) k) ∙ r .fronts q l;
     }
 
@@ -72,7 +72,7 @@ module _ (sheet : Sheet) (t w : List ℕ) (at : ℕ) (sees : ℕ → List Bool) 
           marks = λ k l. omega (arith, ro .marks k l);
           narrow = ro .narrow;
           decided = λ q l. snoc-at q false l;
-          level = λ k q l g. level-more (top * at) (top * (at + 1)) (getD w (rowPlace k q) 0) (omega arith) (ro .level k q l g);
+          level = λ k q l g. level-more (dear * at) (dear * (at + 1)) (getD w (rowPlace k q) 0) (omega arith) (ro .level k q l g);
           fronts = λ q l. ro .fronts q l ∙ ap solid (sym (front-at q false l));
         }
 
@@ -84,7 +84,7 @@ module _ (sheet : Sheet) (t w : List ℕ) (at : ℕ) (sees : ℕ → List Bool) 
     plus-sum Missing x = refl
     plus-sum (Sum y) x = ap Sum (omega arith)
 
-    next-cost : (q : ℕ) → q < length (sheet .columns) → (valueOf (nextRow t w at n q) ≡ price q) × Level (top * (at + 1)) (nextRow t w at n q)
+    next-cost : (q : ℕ) → q < length (sheet .columns) → (valueOf (nextRow t w at n q) ≡ price q) × Level (dear * (at + 1)) (nextRow t w at n q)
     next-cost q l =
         let col = colAt q in
         let la = ta .lanes q (omega (arith, ta .wide)) in
@@ -92,8 +92,8 @@ module _ (sheet : Sheet) (t w : List ℕ) (at : ℕ) (sees : ℕ → List Bool) 
         let y = getD t (pricePlace at q) 0 in
         let c = la .cheap at in
         let pr = la .price at h in
-        let r = lane-reach (sheet .end) (sheet .positions) col t q la w at n (top * at) h (omega (arith, ta .few)) (ro .marks) (λ k g. ro .level k q g l) in
-        let v = value-plus x y (top * at) top (omega (arith, ta .few)) (r .1) (λ g. omega (arith, c, pr)) in (
+        let r = lane-reach (sheet .end) (sheet .positions) col t q la w at n (dear * at) h (omega (arith, ta .few)) (ro .marks) (λ k g. ro .level k q g l) in
+        let v = value-plus x y (dear * at) dear (omega (arith, ta .few)) (r .1) (λ g. omega (arith, c, pr)) in (
           v .0
               ∙ ap₂ add (r .0 ∙ reach-same (col .life) (marksIn (col .first) (sheet .positions) w q n) (front (sheet .positions) col (sees q)) (getD (sheet .positions) at (pos 0)) (ro .fronts q l)) (value-some y (omega (arith, c, pr)) ∙ ap Sum pr)
               ∙ plus-sum (reach (col .life) (front (sheet .positions) col (sees q)) (getD (sheet .positions) at (pos 0))) (getD (col .prices) at 0),
@@ -117,8 +117,8 @@ module _ (sheet : Sheet) (t w : List ℕ) (at : ℕ) (sees : ℕ → List Bool) 
           fronts = λ q l. fronts-at q l;
         }
       where
-        cost : (q : ℕ) → q < length (sheet .columns) → (valueOf (stopRow t w at n shut q) ≡ cond (not (shut q)) (price q) Missing) × Level (top * (at + 1)) (stopRow t w at n shut q)
-        cost q l = shut-cost (shut q) (nextRow t w at n q) (top * (at + 1)) (price q) (next-cost q l)
+        cost : (q : ℕ) → q < length (sheet .columns) → (valueOf (stopRow t w at n shut q) ≡ cond (not (shut q)) (price q) Missing) × Level (dear * (at + 1)) (stopRow t w at n shut q)
+        cost q l = shut-cost (shut q) (nextRow t w at n q) (dear * (at + 1)) (price q) (next-cost q l)
 
         mark-at : (k : ℕ) → k ≤ n → Dec (k ≡ n) → getD w' (markPlace k) 0 ≤ at + 1
         mark-at k l (yes g) = rw g (omega (arith, u .mark))
@@ -127,11 +127,11 @@ module _ (sheet : Sheet) (t w : List ℕ) (at : ℕ) (sees : ℕ → List Bool) 
         row-at : (q : ℕ) → q < length (sheet .columns) → getD w' (rowPlace n q) 0 ≡ stopRow t w at n shut q
         row-at q l = u .row q (omega (arith, ta .wide))
 
-        level-at : (k q : ℕ) → k ≤ n → q < length (sheet .columns) → Dec (k ≡ n) → Level (top * (at + 1)) (getD w' (rowPlace k q) 0)
-        level-at k q l m (yes g) = rw g (subst (Level (top * (at + 1))) (sym (row-at q m)) (cost q m .1))
+        level-at : (k q : ℕ) → k ≤ n → q < length (sheet .columns) → Dec (k ≡ n) → Level (dear * (at + 1)) (getD w' (rowPlace k q) 0)
+        level-at k q l m (yes g) = rw g (subst (Level (dear * (at + 1))) (sym (row-at q m)) (cost q m .1))
         level-at k q l m (no g) =
             let z : k < n = ≠-lt k n g l in
-            subst (Level (top * (at + 1))) (sym (u .kept .rows (rowPlace k q) (omega (arith, ro .narrow)))) (level-more (top * at) (top * (at + 1)) (getD w (rowPlace k q) 0) (omega arith) (ro .level k q z m))
+            subst (Level (dear * (at + 1))) (sym (u .kept .rows (rowPlace k q) (omega (arith, ro .narrow)))) (level-more (dear * at) (dear * (at + 1)) (getD w (rowPlace k q) 0) (omega arith) (ro .level k q z m))
 
         fronts-at : (q : ℕ) → q < length (sheet .columns) → solid (marksIn (colAt q .first) (sheet .positions) w' q (n + 1)) ≡ solid (front (sheet .positions) (colAt q) (snoc (sees q) (not (shut q))))
         fronts-at q l =
@@ -189,7 +189,7 @@ module _ (sheet : Sheet) (t w : List ℕ) (at : ℕ) (sees : ℕ → List Bool) 
             omega (
               arith,
               ro .level k q l (omega (arith, ta .wide)) .most,
-              coded-most (top * (length (sheet .positions) - j)) (omega (arith, ta .few)) (getD t (place suffixBase j i q) 0) (leastOf (col .life) (sheet .end) (markOf (col .first) (sheet .positions) i) (drop j (offers (sheet .positions) (col .prices) [])))
+              coded-most (dear * (length (sheet .positions) - j)) (omega (arith, ta .few)) (getD t (place suffixBase j i q) 0) (leastOf (col .life) (sheet .end) (markOf (col .first) (sheet .positions) i) (drop j (offers (sheet .positions) (col .prices) [])))
                   (ta .lanes q m .suffix j i (omega arith) g),
             );
       }

@@ -4,7 +4,7 @@ use mathlib.Core.Path.{_≡_}
 use mathlib.Core.Bool.{Bool, cond}
 use mathlib.Core.List.{List}
 use lib.ListN.{length, getD}
-use Rattle.lane_rows.specs.Layout.{laneCount, top, inf, rowPlace, markPlace, stackSize}
+use Rattle.lane_rows.specs.Layout.{laneCount, dear, inf, rowPlace, markPlace, stackSize}
 use Rattle.lane_rows.specs.Sheet.{Sheet, front, noColumn}
 use Rattle.lane_rows.specs.Rows.{marksIn, Level, nextRow}
 use Rattle.held_rows.specs.Held.{solid}
@@ -17,7 +17,7 @@ pub record SeenRows (sheet : Sheet) (w : List ℕ) (at : ℕ) (sees : ℕ → Li
   pub marks : (k : ℕ) → k < n → getD w (markPlace k) 0 ≤ at
   pub narrow : length (sheet .columns) ≤ laneCount
   pub decided : (q : ℕ) → q < length (sheet .columns) → length (sees q) ≡ at
-  pub level : (k q : ℕ) → k < n → q < length (sheet .columns) → Level (top * at) (getD w (rowPlace k q) 0)
+  pub level : (k q : ℕ) → k < n → q < length (sheet .columns) → Level (dear * at) (getD w (rowPlace k q) 0)
   pub fronts : (q : ℕ) → q < length (sheet .columns) → solid (marksIn (getD (sheet .columns) q noColumn .first) (sheet .positions) w q n) ≡ solid (front (sheet .positions) (getD (sheet .columns) q noColumn) (sees q))
 
 -- a lane's number, or Missing where the stop is shut to it

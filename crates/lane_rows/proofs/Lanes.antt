@@ -23,7 +23,7 @@ use Rattle.model.specs.LastYes.{lastYes}
 use Rattle.model.proofs.LastYes.{last-no, last-yes}
 use Rattle.least.specs.Marks.{markOf}
 use Rattle.least.proofs.Table.{least-cons, offerAt, offers-drop}
-use Rattle.lane_rows.specs.Layout.{laneCount, top, laneLimit, inf, triangle, suffixBase, reachBase, place, rowPlace, pricePlace, markBase, markPlace, lanesIn}
+use Rattle.lane_rows.specs.Layout.{laneCount, dear, laneLimit, inf, triangle, suffixBase, reachBase, place, rowPlace, pricePlace, markBase, markPlace, lanesIn}
 use Rattle.lane_rows.specs.Sheet.{Column, Sheet, partSums, Mark, reach, frontFrom, front, noColumn, columnBound}
 use Rattle.lane_rows.specs.Tables.{valueOf, sumWhere, Coded, Lane, Tables}
 use Rattle.lane_rows.specs.Rows.{lane, sumFrom, sumLanes, marksIn, Level, Rows, Kept, Put, Stack, FirstRow}
@@ -124,7 +124,7 @@ undecided ss col j = drop j (offers ss (col .prices) [])
 
 module _ (end : ℤ) (ss : List ℤ) (col : Column) (t : List ℕ) (q : ℕ) (la : Lane end ss col t q) where
   -- over the suffix prices: the least over the front
-  pub lane-over : (w : List ℕ) (j n : ℕ) → j ≤ length ss → length ss ≤ 64 → ((k : ℕ) → k < n → getD w (markPlace k) 0 ≤ j) → ((k : ℕ) → k < n → Level (top * j) (getD w (rowPlace k q) 0))
+  pub lane-over : (w : List ℕ) (j n : ℕ) → j ≤ length ss → length ss ≤ 64 → ((k : ℕ) → k < n → getD w (markPlace k) 0 ≤ j) → ((k : ℕ) → k < n → Level (dear * j) (getD w (rowPlace k q) 0))
       → valueOf (lane t w suffixBase j q n) ≡ over (col .life) end (marksIn (col .first) ss w q n) (undecided ss col j)
   unfolding lane marksIn
   lane-over w j zero h s m l = refl
@@ -133,8 +133,8 @@ module _ (end : ℤ) (ss : List ℤ) (col : Column) (t : List ℕ) (q : ℕ) (la
       let e = getD t (place suffixBase j (getD w (markPlace k) 0) q) 0 in
       let c = la .suffix j (getD w (markPlace k) 0) (m k (omega arith)) h in
       let x = leastOf (col .life) end (markOf (col .first) ss (getD w (markPlace k) 0)) (undecided ss col j) in
-      let v = value-plus d e (top * j) (top * (length ss - j)) (omega arith) (l k (omega arith) .some) (coded-low (top * (length ss - j)) (omega arith) e x c) in
-      value-min (lane t w suffixBase j q k) (d + e) ∙ ap₂ lower (lane-over w j k h s (λ i g. m i (omega arith)) (λ i g. l i (omega arith))) (v .0 ∙ ap (add (valueOf d)) (coded-est (top * (length ss - j)) (omega arith) e x c))
+      let v = value-plus d e (dear * j) (dear * (length ss - j)) (omega arith) (l k (omega arith) .some) (coded-low (dear * (length ss - j)) (omega arith) e x c) in
+      value-min (lane t w suffixBase j q k) (d + e) ∙ ap₂ lower (lane-over w j k h s (λ i g. m i (omega arith)) (λ i g. l i (omega arith))) (v .0 ∙ ap (add (valueOf d)) (coded-est (dear * (length ss - j)) (omega arith) e x c))
 
   -- over the table of reach: the least cost so far from which opening j is in reach
   pub lane-reach : (w : List ℕ) (j n b : ℕ) → j < length ss → b ≤ laneLimit → ((k : ℕ) → k < n → getD w (markPlace k) 0 ≤ j) → ((k : ℕ) → k < n → Level b (getD w (rowPlace k q) 0))
@@ -167,12 +167,12 @@ module _ (end : ℤ) (ss : List ℤ) (col : Column) (t : List ℕ) (q : ℕ) (la
       rises : (i : ℕ) → i ≤ j → getD t (place suffixBase j i q) 0 ≤ getD t (place suffixBase (j + 1) i q) 0
       rises i g =
           let a = markOf (col .first) ss i in
-          coded-more (getD t (place suffixBase j i q) 0) (getD t (place suffixBase (j + 1) i q) 0) (top * (length ss - j)) (top * (length ss - (j + 1)))
+          coded-more (getD t (place suffixBase j i q) 0) (getD t (place suffixBase (j + 1) i q) 0) (dear * (length ss - j)) (dear * (length ss - (j + 1)))
           (changeAt (col .life) a (offerAt ss (col .prices) [] j) (leastOf (col .life) end (getD ss j (pos 0)) (drop (suc j) all))) (leastOf (col .life) end a (drop (suc j) all)) (omega arith)
-          (subst (Coded (top * (length ss - j)) (getD t (place suffixBase j i q) 0))
+          (subst (Coded (dear * (length ss - j)) (getD t (place suffixBase j i q) 0))
           (least-cons (col .life) end a (drop j all) (offerAt ss (col .prices) [] j) (drop (suc j) all) (offers-drop ss (col .prices) [] j h))
           (la .suffix j i g (omega arith)))
-          (subst (λ (x : ℕ). Coded (top * (length ss - (j + 1))) (getD t (place suffixBase (j + 1) i q) 0) (leastOf (col .life) end a (drop x all))) (add-one j) (la .suffix (j + 1) i (omega arith) (omega arith)))
+          (subst (λ (x : ℕ). Coded (dear * (length ss - (j + 1))) (getD t (place suffixBase (j + 1) i q) 0) (leastOf (col .life) end a (drop x all))) (add-one j) (la .suffix (j + 1) i (omega arith) (omega arith)))
 
 -- ---- the parts together
 
@@ -319,7 +319,7 @@ rows-kept sheet w w' p n r k =
       last = let h = r .some in k .marks (n - 1) (omega arith) ∙ r .last;
       marks = λ i l. subst (λ (x : ℕ). x ≤ length p) (sym (k .marks i l)) (r .marks i l);
       narrow = r .narrow;
-      level = λ i q l g. subst (Level (top * length p)) (sym (k .rows (rowPlace i q) (omega (arith, r .narrow)))) (r .level i q l g);
+      level = λ i q l g. subst (Level (dear * length p)) (sym (k .rows (rowPlace i q) (omega (arith, r .narrow)))) (r .level i q l g);
       fronts = λ q l. marks-kept (getD (sheet .columns) q noColumn .first) (sheet .positions) w w' q n n (omega (arith, r .narrow)) (omega arith) k ∙ r .fronts q l;
     }
 
@@ -337,7 +337,7 @@ module _ (sheet : Sheet) (t w : List ℕ) (p : List Bool) (n : ℕ) (ta : Tables
         last = ro .last ∙ sym (last-no p);
         marks = λ k l. omega (arith, ro .marks k l, e);
         narrow = ro .narrow;
-        level = λ k q l g. level-more (top * length p) (top * length (snoc p false)) (getD w (rowPlace k q) 0) (omega (arith, e)) (ro .level k q l g);
+        level = λ k q l g. level-more (dear * length p) (dear * length (snoc p false)) (getD w (rowPlace k q) 0) (omega (arith, e)) (ro .level k q l g);
         fronts = λ q l. ro .fronts q l ∙ sym (front-snoc (sheet .positions) (getD (sheet .columns) q noColumn) p false h);
       }
 
@@ -348,7 +348,7 @@ module _ (sheet : Sheet) (t w : List ℕ) (p : List Bool) (n : ℕ) (ta : Tables
   plus-sum Missing x = refl
   plus-sum (Sum y) x = ap Sum (omega arith)
 
-  next-cost : (q : ℕ) (l : q < length (sheet .columns)) → (valueOf (nextRow q) ≡ plus (getD (getD (sheet .columns) q noColumn .prices) (length p) 0) (reach (getD (sheet .columns) q noColumn .life) (front (sheet .positions) (getD (sheet .columns) q noColumn) p) (getD (sheet .positions) (length p) (pos 0)))) × Level (top * (length p + 1)) (nextRow q)
+  next-cost : (q : ℕ) (l : q < length (sheet .columns)) → (valueOf (nextRow q) ≡ plus (getD (getD (sheet .columns) q noColumn .prices) (length p) 0) (reach (getD (sheet .columns) q noColumn .life) (front (sheet .positions) (getD (sheet .columns) q noColumn) p) (getD (sheet .positions) (length p) (pos 0)))) × Level (dear * (length p + 1)) (nextRow q)
   next-cost q l =
       let col = getD (sheet .columns) q noColumn in
       let la = ta .lanes q (omega (arith, ta .wide)) in
@@ -356,8 +356,8 @@ module _ (sheet : Sheet) (t w : List ℕ) (p : List Bool) (n : ℕ) (ta : Tables
       let y = getD t (pricePlace (length p) q) 0 in
       let c = la .cheap (length p) in
       let pr = la .price (length p) h in
-      let r = lane-reach (sheet .end) (sheet .positions) col t q la w (length p) n (top * length p) h (omega (arith, ta .few)) (ro .marks) (λ k g. ro .level k q g l) in
-      let v = value-plus x y (top * length p) top (omega (arith, ta .few)) (r .1) (λ g. omega (arith, c, pr)) in (
+      let r = lane-reach (sheet .end) (sheet .positions) col t q la w (length p) n (dear * length p) h (omega (arith, ta .few)) (ro .marks) (λ k g. ro .level k q g l) in
+      let v = value-plus x y (dear * length p) dear (omega (arith, ta .few)) (r .1) (λ g. omega (arith, c, pr)) in (
         v .0 ∙ ap₂ add (r .0 ∙ ap (λ (fr : List Mark). reach (col .life) fr (getD (sheet .positions) (length p) (pos 0))) (ro .fronts q l)) (value-some y (omega (arith, c, pr)) ∙ ap Sum pr)
             ∙ plus-sum (reach (col .life) (front (sheet .positions) col p) (getD (sheet .positions) (length p) (pos 0))) (getD (col .prices) (length p) 0),
         record { some = λ g. omega (arith, v .1 g); most = omega (arith, lane-most t w reachBase (length p) q n, c, pr) },
@@ -384,12 +384,12 @@ module _ (sheet : Sheet) (t w : List ℕ) (p : List Bool) (n : ℕ) (ta : Tables
       row-at : (q : ℕ) → q < length (sheet .columns) → getD w' (rowPlace n q) 0 ≡ nextRow q
       row-at q l = u .row q (omega (arith, ta .wide))
 
-      level-at : (k q : ℕ) → k ≤ n → q < length (sheet .columns) → Dec (k ≡ n) → Level (top * length (snoc p true)) (getD w' (rowPlace k q) 0)
+      level-at : (k q : ℕ) → k ≤ n → q < length (sheet .columns) → Dec (k ≡ n) → Level (dear * length (snoc p true)) (getD w' (rowPlace k q) 0)
       level-at k q l m (yes g) =
-          rw (g, row-at q m) (level-more (top * (length p + 1)) (top * length (snoc p true)) (nextRow q) (omega (arith, snoc-length p true)) (next-cost q m .1))
+          rw (g, row-at q m) (level-more (dear * (length p + 1)) (dear * length (snoc p true)) (nextRow q) (omega (arith, snoc-length p true)) (next-cost q m .1))
       level-at k q l m (no g) =
           let z : k < n = ≠-lt k n g l in
-          rw (u .kept .rows (rowPlace k q) (omega (arith, ro .narrow))) (level-more (top * length p) (top * length (snoc p true)) (getD w (rowPlace k q) 0) (omega (arith, snoc-length p true)) (ro .level k q z m))
+          rw (u .kept .rows (rowPlace k q) (omega (arith, ro .narrow))) (level-more (dear * length p) (dear * length (snoc p true)) (getD w (rowPlace k q) 0) (omega (arith, snoc-length p true)) (ro .level k q z m))
 
       front-at : (q : ℕ) → q < length (sheet .columns) → marksIn (getD (sheet .columns) q noColumn .first) (sheet .positions) w' q (n + 1) ≡ front (sheet .positions) (getD (sheet .columns) q noColumn) (snoc p true)
       front-at q l =
@@ -421,7 +421,7 @@ stack-at sheet t w p n j ta ro h g =
           omega (
             arith,
             ro .level k q l (omega (arith, ta .wide)) .most,
-            coded-most (top * (length (sheet .positions) - j)) (omega (arith, ta .few)) (getD t (place suffixBase j i q) 0)
+            coded-most (dear * (length (sheet .positions) - j)) (omega (arith, ta .few)) (getD t (place suffixBase j i q) 0)
                 (leastOf (getD (sheet .columns) q noColumn .life) (sheet .end) (markOf (getD (sheet .columns) q noColumn .first) (sheet .positions) i) (drop j (offers (sheet .positions) (getD (sheet .columns) q noColumn .prices) [])))
                 (la .suffix j i (omega arith) g),
           );
@@ -486,7 +486,7 @@ module _ (sheet : Sheet) (t : List ℕ) (ta : Tables sheet t) where
       let col = getD (sheet .columns) q noColumn in
       let n = length (sheet .positions) in
       subst (λ (k : ℕ). getD t k 0 ≤ inf) (first-place q)
-      (coded-most (top * (n - 0)) (omega (arith, ta .few)) (getD t (place suffixBase 0 0 q) 0) (leastOf (col .life) (sheet .end) (markOf (col .first) (sheet .positions) 0) (drop 0 (offers (sheet .positions) (col .prices) [])))
+      (coded-most (dear * (n - 0)) (omega (arith, ta .few)) (getD t (place suffixBase 0 0 q) 0) (leastOf (col .life) (sheet .end) (markOf (col .first) (sheet .positions) 0) (drop 0 (offers (sheet .positions) (col .prices) [])))
       (ta .lanes q l .suffix 0 0 (omega arith) (omega arith)))
 
   first-lane : (w : List ℕ) (q : ℕ) → q < lanesIn t → FirstRow w → getD t q 0 ≡ lane t w suffixBase 0 q 1

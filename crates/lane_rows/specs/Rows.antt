@@ -9,7 +9,7 @@ use Rattle.branch.specs.declared.Bound.{Bound}
 use Rattle.model.specs.LastYes.{lastYes}
 use Rattle.least.specs.Filled.{FilledBy}
 use Rattle.least.specs.Marks.{markOf}
-use Rattle.lane_rows.specs.Layout.{laneCount, markCount, top, inf, place, rowPlace, suffixBase, markBase, markPlace, knownBase, knownPlace, memoBase, memoPlace, stackSize, blockSize, reachBase, pricePlace, termPlace, lanesIn, tablesSize}
+use Rattle.lane_rows.specs.Layout.{laneCount, markCount, dear, inf, place, rowPlace, suffixBase, markBase, markPlace, knownBase, knownPlace, memoBase, memoPlace, stackSize, blockSize, reachBase, pricePlace, termPlace, lanesIn, tablesSize}
 use Rattle.lane_rows.specs.Sheet.{Sheet, Mark, front, noColumn}
 use Rattle.lane_rows.specs.Tables.{valueOf, sumWhere}
 use Rattle.model.specs.Limits.{mostOpenings}
@@ -69,7 +69,7 @@ marksIn first ss w q (suc k) = record { at = markOf first ss (getD w (markPlace 
 -- a number of a row: Missing, or at most b
 pub record Level (b v : ℕ) : Type 0 where
   pub some : v < inf → v ≤ b
-  pub most : v ≤ inf + top
+  pub most : v ≤ inf + dear
 
 -- the stack's first n rows are those of the node p
 pub record Rows (sheet : Sheet) (w : List ℕ) (p : List Bool) (n : ℕ) : Type 0 where
@@ -79,7 +79,7 @@ pub record Rows (sheet : Sheet) (w : List ℕ) (p : List Bool) (n : ℕ) : Type 
   pub last : getD w (markPlace (n - 1)) 0 ≡ lastYes p
   pub marks : (k : ℕ) → k < n → getD w (markPlace k) 0 ≤ length p
   pub narrow : length (sheet .columns) ≤ laneCount
-  pub level : (k q : ℕ) → k < n → q < length (sheet .columns) → Level (top * length p) (getD w (rowPlace k q) 0)
+  pub level : (k q : ℕ) → k < n → q < length (sheet .columns) → Level (dear * length p) (getD w (rowPlace k q) 0)
   pub fronts : (q : ℕ) → q < length (sheet .columns) → marksIn (getD (sheet .columns) q noColumn .first) (sheet .positions) w q n ≡ front (sheet .positions) (getD (sheet .columns) q noColumn) p
 
 -- the memo's rows of no rows stand at the levels before n, and nothing before the memo moved
@@ -209,7 +209,7 @@ pub record Owing (wide : ℕ) (t w : List ℕ) (j n : ℕ) : Type 0 where
   pub size : length t ≡ tablesSize
   pub near : j < 64
   pub few : n < markCount
-  pub cheap : (q : ℕ) → q < wide → getD t (pricePlace j q) 0 ≤ top
+  pub cheap : (q : ℕ) → q < wide → getD t (pricePlace j q) 0 ≤ dear
 
 -- a node is settled: after a no the stack stays, after a yes it has the row of the last opening; the memo stays right
 pub record Settled (t w w' : List ℕ) (at n r : ℕ) (stop : Bool) : Type 0 where

@@ -22,7 +22,7 @@ use Rattle.model.proofs.Fees.{sum-snoc}
 use Rattle.model.proofs.LastYes.{last-no, last-yes}
 use Rattle.walk.specs.declared.Search.{Search}
 use Rattle.walk.specs.declared.Node.{Node}
-use Rattle.lane_rows.specs.Layout.{laneCount, top, inf, suffixBase, reachBase, pricePlace, markPlace, feePlace, lanesIn, termPlace}
+use Rattle.lane_rows.specs.Layout.{laneCount, top, dear, inf, suffixBase, reachBase, pricePlace, markPlace, feePlace, lanesIn, termPlace}
 use Rattle.lane_rows.specs.Sheet.{Column, Sheet, columnBound, partSums, feeTerm, sheetBound}
 use Rattle.lane_rows.specs.Tables.{sumWhere, Tables}
 use Rattle.lane_rows.specs.Rows.{lane, sumLanes, FirstRow, Rows, Stack, Memo, Looks, Recalled, termAt, sumsAt, Put, Kept, nextRow, Owing, Settled}
@@ -144,7 +144,7 @@ module _ (sheet : Sheet) (t w : List ℕ) (p : Node) (stop : Bool) (e : Bound) (
               size = ta .size;
               near = omega (arith, ta .few, a .inside);
               few = omega (arith, r .few, ta .few, a .inside);
-              cheap = λ i m. subst (λ (j : ℕ). getD t (pricePlace j i) 0 ≤ top) z (omega (arith, ta .lanes i m .price (length q) h, ta .lanes i m .cheap (length q)));
+              cheap = λ i m. subst (λ (j : ℕ). getD t (pricePlace j i) 0 ≤ dear) z (omega (arith, ta .lanes i m .price (length q) h, ta .lanes i m .cheap (length q)));
             },
           )
 
