@@ -18,7 +18,7 @@ use Rattle.held_rows.proofs.Terms.{term-here, term-no, term-yes, term-left}
 use Rattle.held_lanes.specs.Places.{mostTo, levelPlace, needCountPlace, needClassPlace, topPlace}
 use Rattle.held_lanes.specs.Tables.{needing, HeldTables, Lasts, termOf}
 
-coded-to : (b k : ℕ) (f : ℕ → ℕ) (F : ℕ → Bound) → b ≤ laneLimit → ((c : ℕ) → c < k → Coded b (f c) (F c)) → Coded b (mostTo f k) (largestTo F k)
+pub coded-to : (b k : ℕ) (f : ℕ → ℕ) (F : ℕ → Bound) → b ≤ laneLimit → ((c : ℕ) → c < k → Coded b (f c) (F c)) → Coded b (mostTo f k) (largestTo F k)
 unfolding mostTo largestTo
 coded-to b zero f F h g = (refl, omega arith)
 coded-to b (suc k) f F h g = coded-larger b (mostTo f k) (f k) (largestTo F k) (F k) h (coded-to b k f F h (λ c l. g c (omega arith))) (g k (omega arith))

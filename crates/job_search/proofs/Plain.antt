@@ -5,15 +5,12 @@ use mathlib.Core.Bool.{false}
 use mathlib.Core.List.{List, []}
 use native.Mathlib.Omega.{arith}
 use lib.ListN.{length, getD, take, drop, length-map, List·getD-map}
-use lib.IntN.{ℤ, pos}
 use Rattle.model.specs.Model as model
-use Rattle.model.specs.Model.{clock, positions, table, hasHolder, removalOf}
+use Rattle.model.specs.Model.{clock, table, hasHolder, removalOf}
 use Rattle.model.specs.Limits.{dearest}
-use Rattle.model.specs.LastYes.{Climbs}
 use Rattle.model.specs.Verdict.{noPart, partAt}
 use Rattle.model.specs.Promise.{answerOf}
 use Rattle.model.specs.Unheld.{chargedPart, chargedJob}
-use Rattle.model.proofs.LastYes.{job-climbs}
 use Rattle.model.proofs.NoHolders.{none-held}
 use Rattle.model.proofs.Unheld.{same-answer}
 use Rattle.jobs.specs.Views.{jobOf, Sized}
@@ -23,13 +20,14 @@ use Rattle.jobs.proofs.Lists.{map-at}
 use Rattle.jobs.proofs.Jobs.{Whole, opening-count, part-count}
 use Rattle.clock.proofs.Places.{places-are}
 use Rattle.coming_out.specs.Places.{Removals}
-use Rattle.search.specs.Arrays.{priceStride, lanePart, Arrays, Holds}
+use Rattle.search.specs.Arrays.{priceStride, lanePart, Holds}
 use Rattle.search.specs.declared.Found.{Found}
 use Rattle.search.specs.Found.{Finds, saidIn}
 use Rattle.search.proofs.Answered.{said}
 use Rattle.job_numbers.specs.Laid.{Numbered, pricesWith, Laid}
 use Rattle.job_numbers.specs.declared.Numbers.{Numbers}
-use Rattle.job_numbers.proofs.Counts.{removal-range, Counted, counted, life-at, left-at, near, late, fair, brief, begun, first, prices-range, prices-at}
+use Rattle.job_numbers.proofs.Counts.{removal-range, Counted, counted, life-at, left-at, prices-at}
+use Rattle.held_job.proofs.Arrays.{plain-arrays}
 
 module _ (j : Job) (sized : Sized j) (whole : Whole j) where
   abbrev n : ℕ
@@ -63,28 +61,6 @@ module _ (j : Job) (sized : Sized j) (whole : Whole j) where
       long : Counted n m r
       long = counted j sized whole r numbered
 
-      arrays : Arrays (r .placed .end) (take n (r .placed .at)) (take n (r .fees)) (take m (r .lives)) (take m (r .lefts)) ps
-      arrays =
-          record {
-            few = omega (arith, long .places, sized .openings);
-            paid = long .fees ∙ sym (long .places);
-            lives = record {
-              some = omega (arith, long .lives, part-count j sized whole, valid .some-part);
-              lefts = long .lefts ∙ sym (long .lives);
-              brief = brief j sized whole r numbered valid;
-              begun = begun j sized whole r numbered valid;
-              first = first j sized whole r numbered valid;
-            };
-            lanes = omega (arith, long .lives, sized .parts);
-            prices = laid .size;
-            fair = fair j sized whole r numbered valid;
-            cheap = prices-range j sized whole valid added dearest (λ q h. removed-range q) ps laid;
-            free = λ x h. laid .rest x (omega (arith, h, long .lives));
-            near = near j sized whole r numbered;
-            late = late j sized whole r numbered;
-            climbs = subst (λ (ss : List ℤ). Climbs (r .placed .end) (pos 0) ss) (sym (places-are j sized whole (r .placed) (numbered .placed))) (subst (λ (e : ℤ). Climbs e (pos 0) (positions (jobOf j))) (sym (numbered .placed .end)) (job-climbs (jobOf j) (valid .rising)));
-          }
-
       -- the part, charged
       part : (q : ℕ) → q < length (take m (r .lives)) → partAt (chargedJob (jobOf j)) q ≡ lanePart (length (take n (r .placed .at))) (take m (r .lives)) (take m (r .lefts)) ps q
       part q l =
@@ -100,7 +76,7 @@ module _ (j : Job) (sized : Sized j) (whole : Whole j) where
       unfolding clock
       holds-charged =
           record {
-            arrays = arrays;
+            arrays = plain-arrays j sized whole valid r numbered added (λ q h. removed-range q) ps laid;
             ends = numbered .placed .end;
             places = places-are j sized whole (r .placed) (numbered .placed);
             fees = numbered .fees;

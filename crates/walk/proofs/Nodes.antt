@@ -26,7 +26,7 @@ use Rattle.lane_rows.specs.Layout.{laneCount, top, dear, inf, suffixBase, reach
 use Rattle.lane_rows.specs.Sheet.{Column, Sheet, columnBound, partSums, feeTerm, sheetBound}
 use Rattle.lane_rows.specs.Tables.{sumWhere, Tables}
 use Rattle.lane_rows.specs.Rows.{lane, sumLanes, FirstRow, Rows, Stack, Memo, Looks, Recalled, termAt, sumsAt, Put, Kept, nextRow, Owing, Settled}
-use Rattle.walk.specs.State.{bits, decided, incumbent, view, viewed, noCost, countedS, keptS, reachedS, undropped, openS, noN, yesN, Pending, ready, owed, At}
+use Rattle.walk.specs.State.{bits, decided, incumbentOf, incumbent, viewOf, view, viewed, noCost, countedS, keptS, reachedS, undropped, openS, noN, yesN, Pending, ready, owed, At}
 use Rattle.lane_rows.proofs.Front.{column-yes}
 use Rattle.lane_rows.proofs.Terms.{last-most, first-by, below-by, own-by, node-term, sums-by}
 use Rattle.lane_rows.proofs.Lanes.{lane-most, sum-most, node-there, node-rises, rows-no, rows-yes, rows-kept, rows-root, first-sums, kept-refl, stack-no, stack-yes}
@@ -39,14 +39,14 @@ unfolding bits
 bits-length zero m = refl
 bits-length (suc k) m = simp length-append (omega (arith, bits-length k (m / 2)))
 
-bits-no : (k m : ℕ) → bits (k + 1) (m * 2) ≡ snoc (bits k m) false
+pub bits-no : (k m : ℕ) → bits (k + 1) (m * 2) ≡ snoc (bits k m) false
 unfolding bits
 bits-no k m =
     let z : m * 2 / 2 ≡ m = omega arith in
     let y : m * 2 % 2 ≡ 0 = omega arith in
     rw (add-one, z, y)
 
-bits-yes : (k m : ℕ) → bits (k + 1) (m * 2 + 1) ≡ snoc (bits k m) true
+pub bits-yes : (k m : ℕ) → bits (k + 1) (m * 2 + 1) ≡ snoc (bits k m) true
 unfolding bits
 bits-yes k m =
     let z : (m * 2 + 1) / 2 ≡ m = omega arith in
@@ -58,7 +58,7 @@ mask-fits k m h l =
     let z : 2 ^ k ≤ 2 ^ 63 = pow-le-pow-right {n = 2} (omega arith) {i = k} {j = 63} (omega arith) in
     omega arith
 
-mask-next : (k m : ℕ) → m < 2 ^ k → m * 2 + 1 < 2 ^ (k + 1)
+pub mask-next : (k m : ℕ) → m < 2 ^ k → m * 2 + 1 < 2 ^ (k + 1)
 mask-next k m h =
     let z : 2 ^ suc k ≡ 2 ^ k + 2 ^ k = two-pow-succ k in
     rw (add-one k) (omega arith)
@@ -258,10 +258,10 @@ fits sheet t w p stop x h = omega (arith, h .low x refl, h .poor, h .inside, h .
 
 -- ---- the state
 
-improves-below : (n e : ℕ) (s : Search) → e < noCost → viewed e s ≡ below (Sum e) (incumbent n s)
-improves-below n e s h = go (ltb (s .cost) noCost) refl
+pub improves-below : (l : List Bool) (e : ℕ) (s : Search) → e < noCost → viewed e s ≡ below (Sum e) (incumbentOf l s)
+improves-below l e s h = go (ltb (s .cost) noCost) refl
   where
-    go : (t : Bool) → ltb (s .cost) noCost ≡ t → ltb e (s .cost) ≡ below (Sum e) (cond t (plan (s .cost) (bits n (s .mask))) none)
+    go : (t : Bool) → ltb (s .cost) noCost ≡ t → ltb e (s .cost) ≡ below (Sum e) (cond t (plan (s .cost) l) none)
     go true f = refl
     go false f = lt-ltb e (s .cost) (omega (arith, ltb-false (s .cost) noCost f))
 
@@ -272,23 +272,23 @@ full-walked est L n e p s f h q =
     rw (sym q, lt-ltb e noCost h) (sym (open-full est L (p .at - p .at) (decided p) (view L (p .at) s) (omega arith) ∙ ap (λ (b : Bound). kept b (decided p) (view L (p .at) s)) f))
 
 -- a node more within the limit, and one beyond it
-counted-view : (L n : ℕ) (s : Search) → s .count < L → view L n (countedS s) ≡ counted (view L n s)
-counted-view L n s h =
+pub counted-view : (L : ℕ) (name : ℕ → List Bool) (s : Search) → s .count < L → viewOf L name (countedS s) ≡ counted (viewOf L name s)
+counted-view L name s h =
     let z : min (s .count + 1) L ≡ min (s .count) L + 1 = omega arith in
     let y : ltb L (s .count + 1) ≡ ltb L (s .count) = le-ltb L (s .count + 1) (omega arith) ∙ sym (le-ltb L (s .count) (omega arith)) in
-    λ i. record { count = z i; over = y i; incumbent = incumbent n s }
+    λ i. record { count = z i; over = y i; incumbent = incumbentOf (name (s .mask)) s }
 
-passed-view : (L n : ℕ) (s : Search) → s .count < L → view L n (reachedS L s) ≡ counted (view L n s)
-passed-view L n s h = ap (λ (b : Bool). view L n (cond b s (countedS s))) (le-ltb L (s .count) (omega arith)) ∙ counted-view L n s h
+pub passed-view : (L : ℕ) (name : ℕ → List Bool) (s : Search) → s .count < L → viewOf L name (reachedS L s) ≡ counted (viewOf L name s)
+passed-view L name s h = ap (λ (b : Bool). viewOf L name (cond b s (countedS s))) (le-ltb L (s .count) (omega arith)) ∙ counted-view L name s h
 
-stopped-view : (L n : ℕ) (s : Search) → L ≤ s .count → view L n (reachedS L s) ≡ stopped (view L n s)
-stopped-view L n s h = go (ltb L (s .count)) refl
+pub stopped-view : (L : ℕ) (name : ℕ → List Bool) (s : Search) → L ≤ s .count → viewOf L name (reachedS L s) ≡ stopped (viewOf L name s)
+stopped-view L name s h = go (ltb L (s .count)) refl
   where
-    go : (b : Bool) → ltb L (s .count) ≡ b → view L n (cond b s (countedS s)) ≡ stopped (view L n s)
-    go true f = λ i. record { count = min (s .count) L; over = f i; incumbent = incumbent n s }
+    go : (b : Bool) → ltb L (s .count) ≡ b → viewOf L name (cond b s (countedS s)) ≡ stopped (viewOf L name s)
+    go true f = λ i. record { count = min (s .count) L; over = f i; incumbent = incumbentOf (name (s .mask)) s }
     go false f =
         let z : min (s .count + 1) L ≡ min (s .count) L = omega (arith, ltb-false L (s .count) f) in
-        λ i. record { count = z i; over = lt-ltb L (s .count + 1) (omega arith) i; incumbent = incumbent n s }
+        λ i. record { count = z i; over = lt-ltb L (s .count + 1) (omega arith) i; incumbent = incumbentOf (name (s .mask)) s }
 
 -- both children walked, from what the two calls say
 pub both-walked : (est : List Bool → Bound) (L n : ℕ) (p : Node) (r fee : ℕ) (s r₁ r₂ : Limited) → p .at < n
@@ -307,7 +307,7 @@ module _ (sheet : Sheet) (p : Node) (e : Bound) (due : ℕ) (d : Due sheet p e d
   walked = limitedFrom (sheetBound sheet) L k (decided p) (view L n s)
 
   tested : (x : ℕ) → e ≡ Sum x → below (sheetBound sheet (decided p)) (incumbent n s) ≡ viewed (due + x) s
-  tested x f = ap (λ (b : Bound). below b (incumbent n s)) (d .some x f) ∙ sym (improves-below n (due + x) s (d .fits x f))
+  tested x f = ap (λ (b : Bound). below b (incumbent n s)) (d .some x f) ∙ sym (improves-below (bits n (s .mask)) (due + x) s (d .fits x f))
 
   -- it is not walked on
   pub closed-walked : openS L due e s ≡ Missing → view L n (reachedS L s) ≡ walked
@@ -322,8 +322,8 @@ module _ (sheet : Sheet) (p : Node) (e : Bound) (due : ℕ) (d : Due sheet p e d
           no false u = refl
 
       go : (b : Bool) → leb L (s .count) ≡ b → cond b Missing (undropped due e s) ≡ Missing → view L n (reachedS L s) ≡ walked
-      go true h u = let l = leb-true L (s .count) h in stopped-view L n s l ∙ sym (fixed-stop (sheetBound sheet) L k (decided p) (view L n s) (omega (arith, l)))
-      go false h u = let l = leb-false L (s .count) h in passed-view L n s l ∙ sym (fixed-drop (sheetBound sheet) L k (decided p) (view L n s) (omega (arith, l)) (drop e refl u))
+      go true h u = let l = leb-true L (s .count) h in stopped-view L (bits n) s l ∙ sym (fixed-stop (sheetBound sheet) L k (decided p) (view L n s) (omega (arith, l)))
+      go false h u = let l = leb-false L (s .count) h in passed-view L (bits n) s l ∙ sym (fixed-drop (sheetBound sheet) L k (decided p) (view L n s) (omega (arith, l)) (drop e refl u))
 
   -- it is walked on
   pub record Opened (y : ℕ) : Type 0 where
@@ -350,8 +350,31 @@ module _ (sheet : Sheet) (p : Node) (e : Bound) (due : ℕ) (d : Due sheet p e d
           record {
             sums = r .0;
             within = l;
-            on = ap (openFrom (sheetBound sheet) L k (decided p)) (counted-view L n s l) ∙ sym (fixed-open (sheetBound sheet) L k (decided p) (view L n s) (omega (arith, l)) (r .1));
+            on = ap (openFrom (sheetBound sheet) L k (decided p)) (counted-view L (bits n) s l) ∙ sym (fixed-open (sheetBound sheet) L k (decided p) (view L n s) (omega (arith, l)) (r .1));
           }
+
+-- ---- what `open` says, by the part sums
+
+module _ (limit spent : ℕ) (s : Search) where
+  -- a node without part sums
+  pub open-none : (e : Bound) → e ≡ Missing → Missing ≡ openS limit spent e s
+  open-none e f = rw f (go (leb limit (s .count)))
+    where
+      go : (b : Bool) → Missing ≡ cond b Missing Missing
+      go true = refl
+      go false = refl
+
+  -- a node that x drops, larger part sums drop too
+  pub open-drops : (x z : ℕ) → x ≤ z → openS limit spent (Sum x) s ≡ Missing → Missing ≡ openS limit spent (Sum z) s
+  open-drops x z h e = go (leb limit (s .count)) e
+    where
+      dropped : (t : Bool) → viewed (spent + x) s ≡ t → cond t (Sum x) Missing ≡ Missing → viewed (spent + z) s ≡ false
+      dropped true f g = absurd (no-sum (Sum x) x g refl)
+      dropped false f g = le-ltb (spent + z) (s .cost) (omega (arith, ltb-false (spent + x) (s .cost) f))
+
+      go : (b : Bool) → cond b Missing (undropped spent (Sum x) s) ≡ Missing → Missing ≡ cond b Missing (undropped spent (Sum z) s)
+      go true g = refl
+      go false g = sym (ap (λ (b : Bool). cond b (Sum z) Missing) (dropped (viewed (spent + x) s) refl g))
 
 -- ---- the first node
 
