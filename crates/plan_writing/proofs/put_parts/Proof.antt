@@ -11,8 +11,8 @@ use Rattle.lines.proofs.Writing.{none, then, kept, same, joined-more, joined-ro
 use Rattle.jobs.specs.Views.{changedIn}
 use Rattle.jobs.specs.declared.Plan.{Plan}
 use Rattle.lines.proofs.Chosen.{chosen-texts}
-use Rattle.plan_text.proofs.write.put_parts.Statement.{statement}
-use Rattle.plan_text.proofs.write.put_parts.Tie as tie
+use Rattle.plan_writing.proofs.put_parts.Statement.{statement}
+use Rattle.plan_writing.proofs.put_parts.Tie as tie
 
 -- the line of part k + 1, or nothing
 abbrev piece : Plan → ℕ → ℕ → List ℕ

@@ -8,10 +8,10 @@ use lib.ListN.{length}
 use Rattle.lines.specs.Text.{joined}
 use Rattle.lines.specs.Chosen.{chosen}
 use Rattle.jobs.specs.Views.{changedIn}
 use Rattle.plan_text.specs.Views.{numbersAt}
 use Rattle.lines.proofs.Chosen.{chosen-count, chosen-few}
-use Rattle.plan_text.proofs.write.count_parts.Statement.{statement}
-use Rattle.plan_text.proofs.write.count_parts.Tie as tie
+use Rattle.plan_writing.proofs.count_parts.Statement.{statement}
+use Rattle.plan_writing.proofs.count_parts.Tie as tie
 
 abbrev Inv-loop : tie.InvT-loop
 Inv-loop plan m i n₀ k₀ n k = (k ≤ m) × (n ≡ length (numbersAt plan k i))

@@ -10,13 +10,13 @@ use Rattle.lines.specs.Wrote.{Wrote}
 use Rattle.lines.proofs.Writing.{none, then, kept, same, joined-more, joined-room}
 use Rattle.jobs.specs.declared.Job.{Job}
 use Rattle.jobs.specs.Views.{jobOf, planFor}
 use Rattle.plan_text.specs.Rendering.{visitAt, visitText, visitsOf}
 use Rattle.jobs.specs.declared.Plan.{Plan}
 use Rattle.jobs.proofs.Jobs.{opening-count}
 use Rattle.lines.proofs.Chosen.{chosen-texts}
 use Rattle.plan_text.proofs.Chosen.{stops-are}
-use Rattle.plan_text.proofs.write.put_stops.Statement.{statement}
-use Rattle.plan_text.proofs.write.put_stops.Tie as tie
+use Rattle.plan_writing.proofs.put_stops.Statement.{statement}
+use Rattle.plan_writing.proofs.put_stops.Tie as tie
 
 -- the lines of the stop at opening i, or nothing
 abbrev piece : Job → Plan → ℕ → List ℕ

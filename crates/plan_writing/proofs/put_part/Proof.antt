@@ -8,8 +8,8 @@ use borrow.Author.Needs.{needs}
 use lib.ListN.{length}
 use Rattle.lines.specs.Text.{bytes, lineOf}
 use Rattle.lines.proofs.Writing.{none, same}
-use Rattle.plan_text.proofs.write.put_part.Statement.{statement}
-use Rattle.plan_text.proofs.write.put_part.Tie as tie
+use Rattle.plan_writing.proofs.put_part.Statement.{statement}
+use Rattle.plan_writing.proofs.put_part.Tie as tie
 
 slice-aggregate-put-line : tie.Need-slice-aggregate-put-line
 slice-aggregate-put-line c = search needs

@@ -8,9 +8,9 @@ use borrow.Author.Needs.{needs}
 use lib.ListN.{length}
 use Rattle.lines.proofs.Writing.{none, same}
 use Rattle.jobs.specs.Views.{jobOf, planFor}
 use Rattle.plan_text.specs.Rendering.{visitAt, visitText}
-use Rattle.plan_text.proofs.write.put_stop.Statement.{statement}
-use Rattle.plan_text.proofs.write.put_stop.Tie as tie
+use Rattle.plan_writing.proofs.put_stop.Statement.{statement}
+use Rattle.plan_writing.proofs.put_stop.Tie as tie
 
 -- the lines of the stop, or nothing
 abbrev written : tie.Start → Bool → List ℕ

@@ -8,13 +8,13 @@ use lib.ListN.{length, getD}
 use Rattle.lines.specs.Text.{joined}
 use Rattle.jobs.specs.Views.{jobOf, planFor}
 use Rattle.lines.specs.Chosen.{chosen}
 use Rattle.plan_text.specs.Rendering.{visitAt}
 use Rattle.jobs.specs.declared.Plan.{Plan}
 use Rattle.jobs.proofs.Jobs.{opening-count}
 use Rattle.lines.proofs.Chosen.{chosen-count, chosen-few, chosen-length}
 use Rattle.plan_text.proofs.Chosen.{stops-are}
-use Rattle.plan_text.proofs.write.count_stops.Statement.{statement}
-use Rattle.plan_text.proofs.write.count_stops.Tie as tie
+use Rattle.plan_writing.proofs.count_stops.Statement.{statement}
+use Rattle.plan_writing.proofs.count_stops.Tie as tie
 
 -- a stop is made at opening i
 abbrev stop : Plan → ℕ → Bool

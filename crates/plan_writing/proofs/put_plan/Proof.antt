@@ -9,12 +9,12 @@ use lib.ListN.{length, getD, length-append}
 use Rattle.lines.specs.Text.{bytes, lineOf, texts}
 use Rattle.lines.proofs.Writing.{then, kept, same}
 use Rattle.jobs.specs.Views.{jobOf, planFor}
 use Rattle.plan_text.specs.Grammar.{Visit}
 use Rattle.plan_text.specs.Rendering.{visitAt, visitText, visitsOf, planText, planLinesOf}
 use Rattle.jobs.proofs.Jobs.{opening-count}
 use Rattle.lines.proofs.Chosen.{chosen-few}
-use Rattle.plan_text.proofs.write.put_plan.Statement.{statement}
-use Rattle.plan_text.proofs.write.put_plan.Tie as tie
+use Rattle.plan_writing.proofs.put_plan.Statement.{statement}
+use Rattle.plan_writing.proofs.put_plan.Tie as tie
 
 -- the visits that are written
 abbrev made : tie.Start → List Visit
