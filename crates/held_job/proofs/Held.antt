@@ -19,7 +19,7 @@ use Rattle.jobs.specs.declared.Job.{Job}
 use Rattle.jobs.proofs.Jobs.{Whole, part-count}
 use Rattle.clock.proofs.Places.{places-are}
 use Rattle.coming_out.proofs.Rows.{row-take}
-use Rattle.held_bound.specs.Arrays.{needStride, pricesAt, needsAt, Lane, Holds}
+use Rattle.held_places.specs.Arrays.{needStride, pricesAt, needsAt, Lane, Holds}
 use Rattle.held_tables.specs.Sheet.{HeldArrays}
 use Rattle.job_numbers.specs.Laid.{Numbered, pricesWith, Laid}
 use Rattle.held_job.specs.Removed.{TermsOf}

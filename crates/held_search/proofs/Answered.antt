@@ -27,10 +27,10 @@ use Rattle.jobs.specs.declared.Changes.{Changes}
 use Rattle.search.specs.declared.Found.{Found}
 use Rattle.search.specs.Found.{stopsIn, rowIn, changesIn, planFound, saidBy, saidAt, saidIn}
 use Rattle.search.proofs.Answered.{choice-size}
-use Rattle.held_bound.specs.Blocks.{Entries}
-use Rattle.held_bound.specs.Arrays.{pricesAt, Lanes, Holds}
-use Rattle.held_bound.specs.Sums.{placesOf, laneChoice}
-use Rattle.held_bound.proofs.Totals.{opened, holding, nodes-are, held-size, choice-is}
+use Rattle.held_places.specs.Blocks.{Entries}
+use Rattle.held_places.specs.Arrays.{pricesAt, Lanes, Holds}
+use Rattle.held_places.specs.Changes.{placesOf, laneChoice}
+use Rattle.held_places.proofs.Held.{opened, holding, nodes-are, held-size, choice-is}
 use Rattle.held_rows.specs.Held.{HeldSheet, held, heldBound, SheetOf}
 use Rattle.held_rows.proofs.Sheets.{held-bound}
 use Rattle.walk.specs.declared.Solved.{Solved}

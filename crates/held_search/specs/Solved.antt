@@ -11,8 +11,8 @@ use Rattle.model.specs.Model.{Job}
 use Rattle.model.specs.LowerBound.{boundOf}
 use Rattle.model.specs.Promise.{searched}
 use Rattle.jobs.specs.declared.Changes.{Changes}
-use Rattle.held_bound.specs.Arrays.{pricesAt}
-use Rattle.held_bound.specs.Sums.{placesOf, laneChoice}
+use Rattle.held_places.specs.Arrays.{pricesAt}
+use Rattle.held_places.specs.Changes.{placesOf, laneChoice}
 use Rattle.walk.specs.declared.Solved.{Solved}
 use Rattle.walk.specs.State.{bits}
 

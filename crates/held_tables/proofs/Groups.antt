@@ -9,8 +9,8 @@ use borrow.Author.Count.{below-more}
 use lib.ListN.{length, getD, set, drop, replicate, length-set, List·getD-eq-default}
 use lib.Seq.{getD-take, getD-drop, ext-getD, getD-set-same, getD-set-other}
 use Rattle.lane_rows.specs.Layout.{laneCount}
-use Rattle.held_bound.specs.Arrays.{needStride, needSize, needsAt}
-use Rattle.held_bound.proofs.Parts.{needs-length}
+use Rattle.held_places.specs.Arrays.{needStride, needSize, needsAt}
+use Rattle.held_places.proofs.Parts.{needs-length}
 use Rattle.held_tables.specs.declared.classes.Classes.{Classes}
 use Rattle.held_tables.specs.Grouped.{Led, Grouped}
 

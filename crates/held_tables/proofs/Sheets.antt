@@ -18,7 +18,7 @@ use Rattle.lane_rows.specs.Sheet.{Column, Sheet, noColumn}
 use Rattle.lane_rows.specs.Tables.{Alike, Tables}
 use Rattle.search.specs.Arrays.{priceStride, laneValue, lanePart, foursOf, sheetOf}
 use Rattle.search.proofs.Filling.{past, own-each}
-use Rattle.held_bound.specs.Arrays.{needStride, needsAt, Lanes, Holds}
+use Rattle.held_places.specs.Arrays.{needStride, needsAt, Lanes, Holds}
 use Rattle.held_rows.specs.Held.{HeldColumn, HeldSheet, columnIn, plain, noLane, needsOf, Classed, Laid, Fills, SheetOf}
 use Rattle.held_lanes.specs.Tables.{needing}
 use Rattle.held_tables.specs.declared.classes.Classes.{Classes}
@@ -35,7 +35,6 @@ lanes-are ar =
       lives = record { lefts = p .lives .lefts; brief = p .lives .brief; begun = p .lives .begun };
       parts = p .lanes;
       prices = p .prices;
-      cheap = p .cheap;
       needs = ar .needs;
       holding = ar .holding;
     }

@@ -5,7 +5,7 @@ use mathlib.Core.Bool.{Bool, false}
 use mathlib.Core.List.{List}
 use lib.ListN.{length, getD}
 use Rattle.lane_rows.specs.Layout.{laneCount}
-use Rattle.held_bound.specs.Arrays.{needStride, needsAt}
+use Rattle.held_places.specs.Arrays.{needStride, needsAt}
 use Rattle.held_tables.specs.declared.classes.Classes.{Classes}
 
 -- the classes and their parts are small numbers

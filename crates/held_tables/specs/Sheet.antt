@@ -10,7 +10,7 @@ use Rattle.least.specs.Suffix.{tableSize}
 use Rattle.lane_rows.specs.Layout.{top}
 use Rattle.search.specs.Arrays as search
 use Rattle.search.specs.Arrays.{lanePart, columnOf, foursOf}
-use Rattle.held_bound.specs.Arrays.{needSize, needsAt}
+use Rattle.held_places.specs.Arrays.{needSize, needsAt}
 use Rattle.held_rows.specs.Held.{HeldColumn, HeldSheet}
 use Rattle.held_tables.specs.declared.classes.Classes.{Classes}
 

@@ -4,9 +4,9 @@ ghost use mathlib.Core.Bool.{Bool, true, false, not, cond};
 ghost use Prim.Native.Nat.{ℕ, _+_, _<_, _≤_};
 ghost use lib.ListN.{length, getD};
 ghost use Rattle.lane_rows.specs.Layout.{laneCount};
-ghost use Rattle.held_bound.specs.Arrays.{needSize, needsAt};
+ghost use Rattle.held_places.specs.Arrays.{needSize, needsAt};
 ghost use Rattle.held_tables.specs.Grouped.{Grouped};
-use held_bound::PARTS;
+use held_places::PARTS;
 
 // The class of each lane, the first part of each class, and how many classes there are.
 pub struct Classes {

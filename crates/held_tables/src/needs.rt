@@ -5,16 +5,16 @@ ghost use Prim.Native.Nat.{ℕ, _<_, _≤_};
 ghost use lib.ListN.{length, getD};
 ghost use Rattle.least.specs.Filled.{Filled, FilledBy};
 ghost use Rattle.lane_rows.specs.Layout.{laneCount};
-ghost use Rattle.held_bound.specs.Arrays.{needSize};
+ghost use Rattle.held_places.specs.Arrays.{needSize};
 ghost use Rattle.held_lanes.specs.Places.{removalPlace, needLanesPlace, heldSize};
 ghost use Rattle.held_tables.specs.Grouped.{Led, needIn};
 ghost use Rattle.held_tables.specs.Fill.{LaneSet, Listed, Lists, Needed};
 use crate::classes::Classes;
-use held_bound::PARTS;
 use held_lanes::NEED_CLASSES;
 use held_lanes::NEED_COUNTS;
 use held_lanes::NEED_LANES;
 use held_lanes::REMOVALS;
+use held_places::PARTS;
 use lane_rows::LANES;
 
 // The removals.

@@ -1,10 +1,10 @@
 -- The two branches of a node, one after the other, whatever is asked there: what the first leaves, and what both do.
 use Prim.Native.Nat.{ℕ, _+_, _-_, _*_, _^_, _<_, _≤_}
 use mathlib.Core.Path.{_≡_, refl, sym, ap, subst, _∙_}
-use mathlib.Core.Bool.{Bool, true, false, cond}
+use mathlib.Core.Bool.{Bool, true, false}
 use mathlib.Core.List.{List}
 use native.Mathlib.Omega.{arith}
-use lib.ListN.{length, getD}
+use lib.ListN.{length}
 use Rattle.branch.specs.declared.Bound.{Bound}
 use Rattle.branch.specs.declared.Bound.the-variants.{Missing, Sum}
 use Rattle.branch.specs.Search.{Tree, Limited, limited, onward}
@@ -16,8 +16,8 @@ use Rattle.walk.specs.declared.Search.{Search}
 use Rattle.walk.specs.State.{countedS, reachedS, openS}
 use Rattle.stop_walk.specs.declared.Node.{Node}
 use Rattle.stop_walk.specs.State.{bestIn, bestName, view, settledN, written, treeAt, Pending, At, Frame, Walked}
-use Rattle.stop_walk.proofs.Trees.{Due, closed, opened}
-use Rattle.stop_walk.proofs.Frames.{aside-none, frame-then, frame-looked, pended-kept, best-kept, at-kept}
+use Rattle.walk.proofs.Trees.{DueAt, closed, opened}
+use Rattle.stop_walk.proofs.Frames.{frame-then, frame-looked, pended-kept, best-kept, at-kept}
 use Rattle.stop_walk.proofs.Settling.{Rests}
 
 -- ---- numbers of a node
@@ -64,12 +64,12 @@ module _ {sheet : HeldSheet} {ds : List (List Bool)} {t u w v : List ℕ} {p : N
   at-looked = at-kept (frame-looked v (written p) k) (λ o r. pended-kept t w w' v v (p .at - 1) (p .rows) (a .tables .narrow) (k .kept) (λ q l. refl) (a .pending o r)) a
 
   -- the first node is passed by
-  pub first-closed : {T : Tree} {e : Bound} {due : ℕ} (d : Due T e due) (name : List Bool) (L : ℕ) (s : Search) → openS L due e s ≡ Missing → Passed sheet t w w' v v p L T name s (reachedS L s)
+  pub first-closed : {T : Tree} {e : Bound} {due : ℕ} (d : DueAt T e due) (name : List Bool) (L : ℕ) (s : Search) → openS L due e s ≡ Missing → Passed sheet t w w' v v p L T name s (reachedS L s)
   first-closed d name L s f =
       record { search = closed d name L (bestName (held sheet) (length (sheet .positions)) v) s f; frame = frame-looked v (written p) k; pending = at-looked .pending }
 
   -- it is walked on from
-  pub first-open : {q : Node} {left : List (List Bool)} {e : Bound} {due : ℕ} (d : Due (treeAt sheet q left) e due) (L : ℕ) (s r : Search) (y : ℕ) {w'' v'' : List ℕ}
+  pub first-open : {q : Node} {left : List (List Bool)} {e : Bound} {due : ℕ} (d : DueAt (treeAt sheet q left) e due) (L : ℕ) (s r : Search) (y : ℕ) {w'' v'' : List ℕ}
       → openS L due e s ≡ Sum y → Walked sheet left t w' w'' v v'' L q (countedS s) r → q .rows ≡ p .rows → written p ≤ written q → (Pending t w'' v'' q → Pending t w'' v'' p)
       → Passed sheet t w w'' v v'' p L (treeAt sheet q left) (joined left) s r
   first-open {q} {left} d L s r y {w''} {v''} f z e h pe =
@@ -82,7 +82,7 @@ module _ {sheet : HeldSheet} {ds : List (List Bool)} {t u w v : List ℕ} {p : N
 -- ---- both branches
 
 module _ {sheet : HeldSheet} {ds : List (List Bool)} {t w w' v v' : List ℕ} {p : Node} {x L : ℕ} {T : Tree} {name : List Bool} {s r : Search} (z : Passed sheet t w w' v v' p L T name s r) (q : Node) (right : List (List Bool)) {due : ℕ}
-    (d : Due (treeAt sheet q right) (Sum x) due) (both : (st : Limited) → onward L (treeAt sheet p ds) (joined ds) st ≡ limited L (treeAt sheet q right) (joined right) (limited L T name st)) where
+    (d : DueAt (treeAt sheet q right) (Sum x) due) (both : (st : Limited) → onward L (treeAt sheet p ds) (joined ds) st ≡ limited L (treeAt sheet q right) (joined right) (limited L T name st)) where
   -- the second node is passed by
   pub second-closed : openS L due (Sum x) r ≡ Missing → Walked sheet ds t w w' v v' L p s (reachedS L r)
   second-closed f =

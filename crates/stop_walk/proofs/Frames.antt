@@ -1,7 +1,7 @@
 -- What is kept stays given: frames one after the other, and a node's rows, marks and removals under a frame.
 use Prim.Native.Nat.{ℕ, _+_, _-_, _<_, _≤_}
-use mathlib.Core.Path.{_≡_, refl, sym, ap, ap₂, subst, _∙_}
-use mathlib.Core.Bool.{Bool, true, false, cond, false≢true}
+use mathlib.Core.Path.{_≡_, refl, sym, ap, subst, _∙_}
+use mathlib.Core.Bool.{Bool, cond}
 use mathlib.Core.List.{List}
 use native.Mathlib.Omega.{arith}
 use lib.ListN.{length, getD, set, length-set}
@@ -9,7 +9,7 @@ use lib.Seq.{getD-set-other}
 use Rattle.least.specs.Filled.{FilledBy}
 use Rattle.model.specs.Decisions.{joined}
 use Rattle.lane_rows.specs.Layout.{laneCount, reachBase, pricePlace, lanesIn}
-use Rattle.lane_rows.specs.Rows.{Kept, Memo, Recalled, nextRow}
+use Rattle.lane_rows.specs.Rows.{Kept, Memo, Recalled}
 use Rattle.lane_rows.proofs.Memory.{lane-kept, recalled-none, recalled-then}
 use Rattle.held_rows.specs.Held.{HeldSheet, plain, held}
 use Rattle.held_rows.proofs.Rows.{rows-kept}
@@ -18,7 +18,7 @@ use Rattle.held_stops.specs.Stops.{Pended}
 use Rattle.walk.specs.State.{viewOf}
 use Rattle.walk.specs.declared.Search.{Search}
 use Rattle.stop_walk.specs.declared.Node.{Node}
-use Rattle.stop_walk.specs.State.{blocksOf, removalsIn, bestIn, bestName, view, written, seesAt, Written, Pending, StopAt, OpenAt, At, Aside, Frame}
+use Rattle.stop_walk.specs.State.{removalsIn, bestIn, view, written, seesAt, Written, Pending, At, Aside, Frame}
 use Rattle.stop_walk.proofs.Blocks.{blocks-same}
 
 pub aside-none : (v : List ℕ) (n k : ℕ) → Aside v v n k
@@ -87,7 +87,6 @@ written-kept {sheet} {bs} {t} {w} {w'} {v} {v'} {rows} {at} {m} few f a =
     let some = a .rows-are .some in
     record {
       size = a .size;
-      wholes = a .wholes;
       rows-are = rows-kept (plain sheet) w w' (length bs) (seesAt sheet bs) rows (a .rows-are) (f .recalled .kept);
       memo = f .recalled .memo;
       lasts = λ c l. f .aside .lasts (rows - 1) c (omega (arith, some)) (omega (arith, few)) ∙ a .lasts c l;

@@ -6,24 +6,19 @@ use mathlib.Core.List.{List, [], _∷_}
 use native.Mathlib.Omega.{arith}
 use lib.ListN.{length, getD, length-take, length-map}
 use lib.Seq.{getD-take}
-use lib.IntN.{pos}
 use Rattle.branch.specs.declared.Bound.{Bound}
 use Rattle.branch.specs.declared.Bound.the-variants.{Missing, Sum}
 use Rattle.branch.specs.Lower.{larger, largest}
-use Rattle.model.specs.Model.{within}
-use Rattle.least.specs.Marks.{markOf}
-use Rattle.lane_rows.specs.Layout.{laneCount, top, inf, suffixBase, reachBase, pricePlace, markPlace, lanesIn}
-use Rattle.lane_rows.specs.Sheet.{Sheet, noColumn}
+use Rattle.lane_rows.specs.Layout.{laneCount, inf, suffixBase, reachBase, lanesIn}
 use Rattle.lane_rows.specs.Tables.{Coded, Tables}
 use Rattle.lane_rows.specs.Rows.{lane, sumLanes, Stack, Looks, Owing}
-use Rattle.lane_rows.proofs.Lanes.{lane-most, sum-most}
+use Rattle.lane_rows.proofs.Lanes.{lane-most, sum-most, seen-reach}
 use Rattle.lane_rows.proofs.Terms.{last-most}
-use Rattle.held_rows.specs.Held.{HeldColumn, HeldSheet, plain, columnIn, noLane, needsOf, seen, laneBound, laneFee, partLanes, heldSums, heldTerm, lastFor, Classed}
-use Rattle.held_rows.specs.Rows.{SeenRows}
+use Rattle.held_rows.specs.Held.{HeldColumn, HeldSheet, plain, columnIn, noLane, needsOf, seen, laneBound, laneFee, partLanes, heldSums, heldTerm, Classed}
 use Rattle.held_rows.proofs.Seen.{seen-length}
 use Rattle.held_rows.proofs.Sums.{fee-there, each-there}
 use Rattle.held_rows.proofs.Rows.{stack-at}
-use Rattle.held_lanes.specs.Places.{bitAt, lastPlace, classesPlace, asideSize}
+use Rattle.held_lanes.specs.Places.{bitAt, asideSize}
 use Rattle.held_lanes.specs.Tables.{HeldTables, TermAsks, NoteAsks}
 use Rattle.held_stops.specs.Stops.{stopLane, LooksAtStop}
 use Rattle.stop_walk.specs.State.{seesAt, Written}
@@ -66,30 +61,6 @@ term-there sheet ds x fit e = fees-there (laneFee sheet ds) (partLanes sheet) ea
         (f .0, ap (λ (lane : HeldColumn). laneFee sheet ds lane []) (getD-take (sheet .parts) (sheet .lanes) i noLane z) ∙ f .1)
 
 -- ---- the rows of a stop
-
--- the loops over the reach table
-stack-reach : (sheet : Sheet) (t w : List ℕ) (at : ℕ) (sees : ℕ → List Bool) (n : ℕ) → Tables sheet t → SeenRows sheet w at sees n → at < length (sheet .positions) → Stack (lanesIn t) t w reachBase at n
-stack-reach sheet t w at sees n ta ro h =
-    record {
-      some = ta .some;
-      narrow = ta .narrow;
-      table = omega (arith, ta .size);
-      size = ro .size;
-      near = omega (arith, ta .few);
-      few = ro .few;
-      marks = ro .marks;
-      sums = λ k q l g.
-          omega (
-            arith,
-            ro .level k q l (omega (arith, ta .wide)) .most,
-            cond-most (within (getD (sheet .columns) q noColumn .life) (markOf (getD (sheet .columns) q noColumn .first) (sheet .positions) (getD w (markPlace k) 0)) (getD (sheet .positions) at (pos 0))),
-            ta .lanes q g .reach at (getD w (markPlace k) 0) (ro .marks k l) h,
-          );
-    }
-  where
-    cond-most : (b : Bool) → cond b 0 inf ≤ inf
-    cond-most true = omega arith
-    cond-most false = omega arith
 
 module _ {sheet : HeldSheet} {bs : List (List Bool)} {t u w v : List ℕ} {rows at m : ℕ} (ta : Tables (plain sheet) t) (he : HeldTables sheet u) (size : length v ≡ asideSize) (wr : Written sheet bs t w v rows at m) where
   -- the rows are few
@@ -139,7 +110,7 @@ module _ {sheet : HeldSheet} {bs : List (List Bool)} {t u w v : List ℕ} {rows 
       let few = ta .few in
       let z = wr .size in
       record {
-        stack = subst (λ (j : ℕ). Stack (lanesIn t) t w reachBase j rows) z (stack-reach (plain sheet) t w (length bs) (seesAt sheet bs) rows ta (wr .rows-are) (omega arith));
+        stack = subst (λ (j : ℕ). Stack (lanesIn t) t w reachBase j rows) z (seen-reach (plain sheet) t w (length bs) (seesAt sheet bs) rows ta (wr .rows-are) (omega arith));
         size = ta .size;
         near = omega arith;
         few = omega (arith, rows-few .1);

@@ -1,6 +1,5 @@
 -- Laws of the walk over stops.
 pub mod Blocks
-pub mod Trees
 pub mod Frames
 pub mod Given
 pub mod Settling

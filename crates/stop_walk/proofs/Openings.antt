@@ -1,22 +1,21 @@
 -- The nodes below an opening: no stop, and a stop. What is given of each, its fees, removals and term, and the search of both.
-use Prim.Native.Nat.{ℕ, suc, _+_, _-_, _*_, _/_, _%_, _^_, _<_, _≤_}
+use Prim.Native.Nat.{ℕ, suc, _+_, _-_, _*_, _/_, _<_, _≤_}
 use mathlib.Core.Path.{_≡_, refl, sym, ap, ap₂, subst, _∙_}
 use mathlib.Core.Bool.{Bool, true, false, cond, not, false≢true}
 use mathlib.Core.List.{List, [], _∷_, _++_}
 use native.Mathlib.Omega.{arith}
-use native.Mathlib.Numerals.{add-one}
 use borrow.Author.Tests.{lt-ltb}
 use lib.ListN.{length, getD, length-append}
 use Rattle.branch.specs.declared.Bound.{Bound}
 use Rattle.branch.specs.declared.Bound.the-variants.{Sum}
 use Rattle.branch.specs.Lower.{add}
-use Rattle.branch.specs.Search.{Tree, none, plan, snoc, Limited, kept, limited, onward}
+use Rattle.branch.specs.Search.{none, plan, Limited, kept, limited, onward}
 use Rattle.branch.specs.Questions.{leftAt}
 use Rattle.branch.proofs.Bounds.{sum-inj}
 use Rattle.branch.proofs.Steps.{left-bound, on-full, on-opening}
 use Rattle.model.specs.Decisions.{joined}
 use Rattle.model.specs.LastYes.{lastYes}
-use Rattle.model.proofs.Blocks.{covered-none, Wholes}
+use Rattle.model.proofs.Blocks.{covered-none}
 use Rattle.model.proofs.LastYes.{last-no}
 use Rattle.least.specs.Filled.{FilledBy}
 use Rattle.lane_rows.specs.Layout.{laneCount, top, inf, suffixBase, feePlace, lanesIn}
@@ -24,25 +23,24 @@ use Rattle.lane_rows.specs.Tables.{sumWhere}
 use Rattle.lane_rows.specs.Rows.{lane, sumLanes, Looks}
 use Rattle.held_rows.specs.Held.{HeldSheet, plain, noLane, needsOf, seen, held, paidIn, heldSums, heldTerm, heldBound}
 use Rattle.held_rows.specs.Rows.{SeenRows}
-use Rattle.held_rows.proofs.Seen.{wholes-more, paid-no, paid-yes, seen-no}
+use Rattle.held_rows.proofs.Seen.{paid-no, paid-yes, seen-no}
 use Rattle.held_rows.proofs.Sums.{sums-yes}
 use Rattle.held_rows.proofs.Numbers.{here-sums, no-rises}
 use Rattle.held_rows.proofs.Rows.{rows-no}
 use Rattle.held_lanes.specs.Places.{offset, mostTo, topPlace, classesPlace, removedPlace, bestPlace, readyPlace}
-use Rattle.held_lanes.specs.Tables.{Lasts, TermAsks, termOf}
+use Rattle.held_lanes.specs.Tables.{TermAsks, termOf}
 use Rattle.held_lanes.proofs.Sets.{bit-zero}
 use Rattle.held_lanes.proofs.Coded.{no-coded, yes-coded}
-use Rattle.held_stops.proofs.Settled.{ShutSet}
-use Rattle.held_stops.proofs.Children.{boundIn, Told, no-told, yes-told}
+use Rattle.held_stops.proofs.Children.{Told, no-told}
 use Rattle.held_stops.proofs.Names.{no-joined, stop-joined, opening-bound, no-bound, stop-bound}
 use Rattle.walk.specs.declared.Search.{Search}
-use Rattle.walk.specs.State.{bits, noCost, keptS, incumbentOf}
+use Rattle.walk.specs.State.{bits, noCost, keptS}
 use Rattle.walk.proofs.Nodes.{mask-next}
 use Rattle.stop_walk.specs.declared.Node.{Node}
-use Rattle.stop_walk.specs.State.{blocksOf, removalsIn, bestIn, bestName, view, noN, yesN, written, treeAt, seesAt, Written, At, Walked}
-use Rattle.stop_walk.proofs.Blocks.{blocks-same, blocks-no}
+use Rattle.stop_walk.specs.State.{blocksOf, removalsIn, bestIn, view, noN, yesN, written, treeAt, seesAt, Written, At, Walked}
+use Rattle.stop_walk.proofs.Blocks.{blocks-same, blocks-no, written-whole}
 use Rattle.stop_walk.proofs.Frames.{keep-frame}
-use Rattle.stop_walk.proofs.Trees.{Due, due-there, due-where}
+use Rattle.walk.proofs.Trees.{DueAt, due-there, due-where}
 use Rattle.stop_walk.proofs.Given.{coded-there, term-there, term-asks, looks-at}
 
 -- the blocks of the two
@@ -64,7 +62,7 @@ module _ {sheet : HeldSheet} {ds : List (List Bool)} {t u w v : List ℕ} {p : N
   pub full-bound : p .at ≡ length (sheet .positions) → heldBound sheet (joined ds) ≡ Sum (p .spent + x)
   full-bound e =
       let z : paidIn sheet ds + x + g ≡ p .spent + x = omega (arith, a .spent, a .cheap, e) in
-      opening-bound sheet (p .at) ds (wr .wholes) (a .inside) ∙ (λ i. add (add (Sum (paidIn sheet ds)) (a .sums i)) (a .term i)) ∙ ap Sum z
+      opening-bound sheet (p .at) ds (written-whole wr) (a .inside) ∙ (λ i. add (add (Sum (paidIn sheet ds)) (a .sums i)) (a .term i)) ∙ ap Sum z
 
   pub full-fits : p .spent + x < noCost
   full-fits = omega (arith, a .low, a .poor, a .inside, a .tables .few, a .opening o .next, a .holders .parts)
@@ -138,9 +136,9 @@ module _ {sheet : HeldSheet} {ds : List (List Bool)} {t u w v : List ℕ} {p : N
     no-paid = a .spent ∙ sym (paid-no sheet ds paid)
 
     -- its fees, removals and term
-    pub no-due : (h y r : ℕ) → Told sheet (noBlocks ds) h y → (h < inf → h ≤ top * (length (sheet .positions) - (p .at + 1))) → y ≤ laneCount * inf → Due (treeAt sheet (noN p r) (noBlocks ds)) (sumWhere h y) (p .spent + h)
+    pub no-due : (h y r : ℕ) → Told sheet (noBlocks ds) h y → (h < inf → h ≤ top * (length (sheet .positions) - (p .at + 1))) → y ≤ laneCount * inf → DueAt (treeAt sheet (noN p r) (noBlocks ds)) (sumWhere h y) (p .spent + h)
     no-due h y r told cheap low =
-        let b = left-bound (heldBound sheet) 0 (held sheet) (held sheet - p .next) (length (sheet .positions) - (p .at + 1)) (joined (noBlocks ds)) ∙ ap (heldBound sheet) (sym (no-joined ds)) ∙ no-bound sheet (p .at) ds (wr .wholes) less in
+        let b = left-bound (heldBound sheet) 0 (held sheet) (held sheet - p .next) (length (sheet .positions) - (p .at + 1)) (joined (noBlocks ds)) ∙ ap (heldBound sheet) (sym (no-joined ds)) ∙ no-bound sheet (p .at) ds (written-whole wr) less in
         due-where (treeAt sheet (noN p r) (noBlocks ds)) (p .spent + h) h y
         (λ l. b ∙ told .none l)
         (λ l. b ∙ told .bound l ∙ ap Sum (omega (arith, no-paid)))
@@ -166,7 +164,6 @@ module _ {sheet : HeldSheet} {ds : List (List Bool)} {t u w v : List ℕ} {p : N
           opening = λ q. record {
             all = record {
               size = length-append ds ((false ∷ []) ∷ []) ∙ ap (λ (k : ℕ). k + 1) size;
-              wholes = subst (λ (k : ℕ). Wholes (held sheet) k (noBlocks ds)) (sym (add-one (p .at))) (wholes-more (held sheet) (p .at) ds (false ∷ []) (wr .wholes) refl);
               rows-are = subst (λ (k : ℕ). SeenRows (plain sheet) w k (seesAt sheet (noBlocks ds)) (p .rows)) (sym (length-append ds ((false ∷ []) ∷ [])))
                   (subst (λ (f : ℕ → List Bool). SeenRows (plain sheet) w (length ds + 1) f (p .rows)) (λ i q. sym (seen-no (needsOf sheet (getD (sheet .lanes) q noLane .class)) ds) i)
                   (rows-no (plain sheet) t w (length ds) (seesAt sheet ds) (p .rows) (a .tables) (wr .rows-are) few));
@@ -202,11 +199,11 @@ module _ {sheet : HeldSheet} {ds : List (List Bool)} {t u w v : List ℕ} {p : N
       pub yes-fits : paying + k + x < noCost
       yes-fits = omega (arith, yes-poor, yes-coded-at .1, a .low, a .inside, a .tables .few)
 
-      pub yes-due : (r : ℕ) → Due (treeAt sheet (yesN p r paying) (yesBlocks ds)) (Sum x) (paying + k)
+      pub yes-due : (r : ℕ) → DueAt (treeAt sheet (yesN p r paying) (yesBlocks ds)) (Sum x) (paying + k)
       yes-due r =
           let z : paidIn sheet (yesBlocks ds) + x + k ≡ paying + k + x = omega (arith, yes-paid) in
           due-there (treeAt sheet (yesN p r paying) (yesBlocks ds)) (paying + k) x
-          (left-bound (heldBound sheet) 0 (held sheet) (held sheet - 0) (length (sheet .positions) - (p .at + 1)) (joined (yesBlocks ds)) ∙ ap (heldBound sheet) (sym (stop-joined ds [])) ∙ stop-bound sheet (p .at) ds (wr .wholes) [] less (omega arith)
+          (left-bound (heldBound sheet) 0 (held sheet) (held sheet - 0) (length (sheet .positions) - (p .at + 1)) (joined (yesBlocks ds)) ∙ ap (heldBound sheet) (sym (stop-joined ds [])) ∙ stop-bound sheet (p .at) ds (written-whole wr) [] less (omega arith)
           ∙ (λ i. add (add (Sum (paidIn sheet (yesBlocks ds))) ((sums-yes sheet ds ∙ a .sums) i)) (yes-coded-at .0 i)) ∙ ap Sum z)
           yes-fits
 

@@ -1,6 +1,6 @@
 -- The first node: nothing is decided, so its part sums and its term are those without holders, and what the walk is given of it.
-use Prim.Native.Nat.{ℕ, zero, suc, _+_, _-_, _*_, _<_, _≤_, min}
-use mathlib.Core.Path.{_≡_, refl, sym, ap, ap₂, subst, _∙_}
+use Prim.Native.Nat.{ℕ, zero, suc, _-_, _*_, _≤_, min}
+use mathlib.Core.Path.{_≡_, refl, sym, ap, ap₂, _∙_}
 use mathlib.Core.Bool.{Bool, true, false, false≢true}
 use mathlib.Core.List.{List, [], _∷_, map}
 use native.Mathlib.Omega.{arith}
@@ -9,7 +9,7 @@ use lib.ListN.{length, getD, take}
 use Rattle.branch.specs.declared.Bound.{Bound}
 use Rattle.branch.specs.declared.Bound.the-variants.{Missing, Sum}
 use Rattle.branch.specs.Lower.{add, total, larger, largest}
-use Rattle.branch.specs.Search.{none, Limited, limited}
+use Rattle.branch.specs.Search.{none, limited}
 use Rattle.branch.specs.Questions.{leftAt}
 use Rattle.branch.proofs.Steps.{left-bound}
 use Rattle.model.specs.Model.{sumAt}
@@ -18,13 +18,13 @@ use Rattle.model.specs.Decisions.{joined}
 use Rattle.model.specs.LastYes.{lastYes}
 use Rattle.least.specs.Filled.{FilledBy}
 use Rattle.lane_rows.specs.Layout.{laneCount, top, inf, suffixBase, termPlace, lanesIn}
-use Rattle.lane_rows.specs.Sheet.{Column, Sheet, columnBound, columnFee, partSums, partColumns, feeTerm}
+use Rattle.lane_rows.specs.Sheet.{Column, columnBound, columnFee, partSums, feeTerm}
 use Rattle.lane_rows.specs.Tables.{sumWhere, Tables}
 use Rattle.lane_rows.specs.Rows.{lane, sumLanes, FirstRow}
 use Rattle.lane_rows.proofs.Lanes.{lane-most, first-sums, rows-root}
 use Rattle.lane_rows.proofs.Memory.{memo-root}
 use Rattle.lane_rows.proofs.Terms.{first-by, node-term, sums-by}
-use Rattle.held_rows.specs.Held.{HeldColumn, HeldSheet, columnIn, plain, held, paidIn, laneBound, laneFee, partLanes, heldSums, heldTerm, heldBound, Classed}
+use Rattle.held_rows.specs.Held.{HeldColumn, HeldSheet, columnIn, plain, held, paidIn, laneBound, laneFee, heldSums, heldTerm, heldBound, Classed}
 use Rattle.held_rows.proofs.Rows as held
 use Rattle.held_lanes.specs.Places.{offset, classesPlace, lastPlace, asideSize}
 use Rattle.held_lanes.specs.Tables.{HeldTables}
@@ -34,7 +34,7 @@ use Rattle.walk.specs.declared.Search.{Search}
 use Rattle.walk.specs.State.{noCost, solvedS}
 use Rattle.stop_walk.specs.declared.Node.{Node}
 use Rattle.stop_walk.specs.State.{blocksOf, view, treeAt, At, Solves}
-use Rattle.stop_walk.proofs.Trees.{Due, where-there}
+use Rattle.walk.proofs.Trees.{DueAt, where-there}
 use Rattle.stop_walk.proofs.Given.{sums-low}
 
 -- ---- nothing decided is as without holders
@@ -94,7 +94,7 @@ module _ (sheet : HeldSheet) (t u w : List ℕ) (ta : Tables (plain sheet) t) (h
       go Missing e = (λ i. add (add (Sum (paidIn sheet [])) ((sums-are ∙ e) i)) (heldTerm sheet []))
       go (Sum x) e = (λ i. add (add (Sum (paid-first sheet i)) ((sums-are ∙ e) i)) (term-is x e .0 i)) ∙ ap Sum (omega arith)
 
-  pub root-due : (h : ℕ) → Due (treeAt sheet (rootN h) []) (sumWhere due firsts) due
+  pub root-due : (h : ℕ) → DueAt (treeAt sheet (rootN h) []) (sumWhere due firsts) due
   unfolding joined
   root-due h =
       let b = left-bound (heldBound sheet) 0 (held sheet) (held sheet - h) (length (sheet .positions) - 0) [] ∙ bound-first in
@@ -126,7 +126,6 @@ module _ (sheet : HeldSheet) (t u w : List ℕ) (ta : Tables (plain sheet) t) (h
         opening = λ o. record {
           all = record {
             size = refl;
-            wholes = tt;
             rows-are = held.rows-root (plain sheet) w (omega (arith, ta .wide, ta .narrow)) fr;
             memo = memo-root t w fr;
             lasts = λ c l. f .done c (omega (arith, he .classes));

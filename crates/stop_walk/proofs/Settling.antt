@@ -1,28 +1,24 @@
 -- A node whose stop is settled: what is given of it, and what is kept.
-use Prim.Native.Nat.{ℕ, suc, _+_, _-_, _*_, _/_, _^_, _<_, _≤_}
+use Prim.Native.Nat.{ℕ, _+_, _-_, _/_, _^_, _<_, _≤_}
 use mathlib.Core.Path.{_≡_, refl, sym, ap, ap₂, subst, _∙_}
 use mathlib.Core.Bool.{Bool, true, false, cond, false≢true}
 use mathlib.Core.List.{List, [], _∷_, _++_}
 use native.Mathlib.Omega.{arith}
-use native.Mathlib.Numerals.{add-one}
 use native.Mathlib.Nat.{pow-le-pow-right}
-use lib.ListN.{length, getD, length-append}
-use Rattle.model.proofs.Blocks.{Wholes}
-use Rattle.lane_rows.specs.Layout.{laneCount, inf, lanesIn}
-use Rattle.lane_rows.specs.Rows.{Kept, Put, Memo, nextRow}
+use lib.ListN.{length, length-append}
+use Rattle.lane_rows.specs.Layout.{lanesIn}
+use Rattle.lane_rows.specs.Rows.{Put}
 use Rattle.lane_rows.proofs.Lanes.{kept-then}
 use Rattle.lane_rows.proofs.Memory.{recalled-none, recalled-then}
 use Rattle.held_rows.specs.Held.{HeldSheet, plain, held}
 use Rattle.held_rows.specs.Rows.{SeenRows, stopRow}
-use Rattle.held_rows.proofs.Seen.{wholes-more}
-use Rattle.held_lanes.specs.Places.{bitAt, classesPlace, lastPlace, removedPlace, bestPlace, pendingPlace, readyPlace}
+use Rattle.held_lanes.specs.Places.{bitAt, lastPlace, removedPlace, bestPlace, pendingPlace, readyPlace}
 use Rattle.held_lanes.specs.Tables.{Lasts, NoteAsks, noted}
 use Rattle.held_stops.specs.Stops.{SettleAsks, StopPut, StopNoted}
 use Rattle.held_stops.proofs.Settled.{stop-settled, lasts-settled}
 use Rattle.walk.specs.State.{bits}
-use Rattle.walk.proofs.Nodes.{bits-length}
 use Rattle.stop_walk.specs.declared.Node.{Node}
-use Rattle.stop_walk.specs.State.{blocksOf, removalsIn, bestIn, settledN, written, seesAt, Written, Pending, StopAt, OpenAt, At, Aside, Frame, NodeSettled}
+use Rattle.stop_walk.specs.State.{blocksOf, removalsIn, bestIn, settledN, written, seesAt, Written, Pending, StopAt, At, Aside, Frame, NodeSettled}
 use Rattle.stop_walk.proofs.Blocks.{blocks-same, blocks-stop}
 use Rattle.stop_walk.proofs.Frames.{aside-none, pended-kept}
 use Rattle.stop_walk.proofs.Given.{rows-few, owing-stop, note-asks}
@@ -96,15 +92,12 @@ module _ {sheet : HeldSheet} {ds : List (List Bool)} {t u w v : List ℕ} {p : N
         let y : length bs + 1 ≡ p .at = omega (arith, z, later) in
         let same = s .same in
         let n : p .rows + 1 - 1 ≡ p .rows = omega arith in
-        let all = ap length (s .removed) in
-        let full : length rs ≡ h = sym all ∙ bits-length (p .next) (p .removed) ∙ done in
         let rows = subst (λ (k : ℕ). Put (lanesIn t) (stopRow t w k (p .rows) (λ (q : ℕ). bitAt q (p .killed))) w w' (p .rows) (p .at)) (sym z) (put .put) in
         let seen = stop-settled sheet t u v w (a .tables) bs rs (p .rows) (p .killed) (s .shut) w' (omega (arith, z, less)) (wr .rows-are) (subst (Put (lanesIn t) (stopRow t w (length bs) (p .rows) (λ (q : ℕ). bitAt q (p .killed))) w w' (p .rows)) (sym y) rows) in
         let lasts = lasts-settled sheet t u v w (a .tables) bs rs (p .rows) (p .killed) (s .shut) v' (a .holders) (wr .lasts) (λ c l. nt .lasts c l ∙ ap (λ (k : ℕ). noted u v k (p .rows) (p .killed) c) (sym y)) in
         subst (λ (ls : List (List Bool)). Written sheet ls t w' v' (p .rows + 1) (p .at) (p .mask)) (sym same)
         (record {
           size = more-size bs (true ∷ rs) ∙ y;
-          wholes = subst (λ (k : ℕ). Wholes h k (bs ++ ((true ∷ rs) ∷ []))) (sym (add-one at) ∙ later) (wholes-more h at bs (true ∷ rs) (wr .wholes) full);
           rows-are = subst (λ (k : ℕ). SeenRows (plain sheet) w' k (seesAt sheet (bs ++ ((true ∷ rs) ∷ []))) (p .rows + 1)) (sym (more-size bs (true ∷ rs))) seen;
           memo = put .memo (wr .memo);
           lasts = subst (Lasts sheet v' (bs ++ ((true ∷ rs) ∷ []))) (sym n) lasts;

@@ -1,25 +1,24 @@
 -- The nodes below a stop whose removals are not all decided: the next holding part is not removed, and it is. What is given of each, its fees, removals and term, and the search of both.
-use Prim.Native.Nat.{ℕ, suc, _+_, _-_, _*_, _/_, _%_, _^_, _<_, _≤_, max}
+use Prim.Native.Nat.{ℕ, suc, _+_, _-_, _*_, _<_, _≤_, max}
 use mathlib.Core.Path.{_≡_, refl, sym, ap, ap₂, subst, _∙_}
-use mathlib.Core.Bool.{Bool, true, false, cond, not, false≢true}
+use mathlib.Core.Bool.{Bool, true, false, not, false≢true}
 use mathlib.Core.List.{List, [], _∷_, _++_}
 use native.Mathlib.Omega.{arith}
-use native.Mathlib.Numerals.{add-one}
 use lib.Bits.{bitOr}
 use lib.ListN.{length, getD, length-append}
 use Rattle.branch.specs.declared.Bound.{Bound}
 use Rattle.branch.specs.declared.Bound.the-variants.{Sum}
 use Rattle.branch.specs.Lower.{add}
-use Rattle.branch.specs.Search.{Tree, snoc, Limited, limited, onward}
+use Rattle.branch.specs.Search.{snoc, Limited, limited, onward}
 use Rattle.branch.specs.Questions.{leftAt}
 use Rattle.branch.proofs.Bounds.{sum-inj}
 use Rattle.branch.proofs.Steps.{left-bound, on-decision}
 use Rattle.model.specs.Decisions.{joined}
 use Rattle.model.proofs.Blocks.{Wholes}
-use Rattle.lane_rows.specs.Layout.{laneCount, top, inf, suffixBase, lanesIn}
+use Rattle.lane_rows.specs.Layout.{laneCount, top, inf, lanesIn}
 use Rattle.lane_rows.specs.Tables.{Coded, sumWhere}
 use Rattle.lane_rows.specs.Rows.{lane, sumLanes}
-use Rattle.held_rows.specs.Held.{HeldSheet, plain, noLane, needsOf, held, paidIn, heldSums, heldTerm, heldBound}
+use Rattle.held_rows.specs.Held.{HeldSheet, noLane, needsOf, held, paidIn, heldSums, heldTerm, heldBound}
 use Rattle.held_rows.proofs.Seen.{paid-removal, covered-removed}
 use Rattle.held_rows.proofs.Sums.{sums-removed, term-removed}
 use Rattle.held_rows.proofs.Numbers.{stop-sums, left-rises}
@@ -28,15 +27,15 @@ use Rattle.held_lanes.specs.Places.{mostTo, bitAt, removalPlace, needLanesPlace
 use Rattle.held_lanes.specs.Tables.{TermAsks, termOf}
 use Rattle.held_lanes.proofs.Sets.{shut-more}
 use Rattle.held_lanes.proofs.Coded.{left-coded}
-use Rattle.held_stops.specs.Stops.{stopLane, LooksAtStop}
-use Rattle.held_stops.proofs.Settled.{ShutSet}
-use Rattle.held_stops.proofs.Children.{boundIn, Told, left-told, removed-told}
-use Rattle.held_stops.proofs.Names.{stopName, stop-more, stop-joined, stop-bound}
-use Rattle.walk.specs.State.{bits, noCost}
+use Rattle.held_stops.specs.Stops.{ShutSet, stopLane, LooksAtStop}
+use Rattle.held_stops.proofs.Children.{boundIn, Told, left-told}
+use Rattle.held_stops.proofs.Names.{stop-more, stop-joined, stop-bound}
+use Rattle.walk.specs.State.{noCost}
 use Rattle.walk.proofs.Nodes.{bits-length, bits-no, bits-yes, mask-next}
 use Rattle.stop_walk.specs.declared.Node.{Node}
-use Rattle.stop_walk.specs.State.{leftN, outN, treeAt, seesAt, Written, StopAt, At}
-use Rattle.stop_walk.proofs.Trees.{Due, due-there, due-where}
+use Rattle.stop_walk.specs.State.{leftN, outN, treeAt, StopAt, At}
+use Rattle.stop_walk.proofs.Blocks.{written-whole}
+use Rattle.walk.proofs.Trees.{DueAt, due-there, due-where}
 use Rattle.stop_walk.proofs.Given.{coded-there, term-asks, looks-stop}
 
 -- the blocks of the two
@@ -84,7 +83,7 @@ module _ {sheet : HeldSheet} {ds : List (List Bool)} {t u w v : List ℕ} {p : N
   coded-here = subst (Coded most g) (sym term-here) (refl, omega (arith, a .cheap, size))
 
   wholes : Wholes (held sheet) (length bs) bs
-  wholes = subst (λ (k : ℕ). Wholes (held sheet) k bs) (sym (stop .before .size)) (stop .before .wholes)
+  wholes = subst (λ (k : ℕ). Wholes (held sheet) k bs) (sym (stop .before .size)) (written-whole (stop .before))
 
   -- the name of a node below
   more-name : (b : Bool) → snoc (joined here) b ≡ joined (moreBlocks bs rs b)
@@ -155,7 +154,7 @@ module _ {sheet : HeldSheet} {ds : List (List Bool)} {t u w v : List ℕ} {p : N
     left-paid : p .spent ≡ paidIn sheet (moreBlocks bs rs false)
     left-paid = omega (arith, paid-here, paid-removal sheet bs paid rs false open-rs)
 
-    pub left-due : (set h y : ℕ) → Told sheet (moreBlocks bs rs false) h y → (h < inf → h ≤ top * (length (sheet .positions) - p .at)) → y ≤ laneCount * inf → Due (treeAt sheet (leftN p set) (moreBlocks bs rs false)) (sumWhere h y) (p .spent + h)
+    pub left-due : (set h y : ℕ) → Told sheet (moreBlocks bs rs false) h y → (h < inf → h ≤ top * (length (sheet .positions) - p .at)) → y ≤ laneCount * inf → DueAt (treeAt sheet (leftN p set) (moreBlocks bs rs false)) (sumWhere h y) (p .spent + h)
     left-due set h y told cheap low =
         let b = left-bound (heldBound sheet) 0 (held sheet) (held sheet - (p .next + 1)) (length (sheet .positions) - p .at) (joined (moreBlocks bs rs false)) ∙ more-bound false in
         due-where (treeAt sheet (leftN p set) (moreBlocks bs rs false)) (p .spent + h) h y
@@ -210,7 +209,7 @@ module _ {sheet : HeldSheet} {ds : List (List Bool)} {t u w v : List ℕ} {p : N
       pub out-fits : paying + g + x < noCost
       out-fits = omega (arith, out-poor, a .cheap, a .low, a .inside, a .tables .few, a .holders .parts)
 
-      pub out-due : Due (treeAt sheet (outN p paying) (moreBlocks bs rs true)) (Sum x) (paying + g)
+      pub out-due : DueAt (treeAt sheet (outN p paying) (moreBlocks bs rs true)) (Sum x) (paying + g)
       out-due =
           let z : paidIn sheet (moreBlocks bs rs true) + x + g ≡ paying + g + x = omega (arith, out-paid) in
           due-there (treeAt sheet (outN p paying) (moreBlocks bs rs true)) (paying + g) x

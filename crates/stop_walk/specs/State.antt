@@ -6,11 +6,10 @@ use mathlib.Core.List.{List, [], _∷_, _++_}
 use lib.Dec.{eqb}
 use lib.ListN.{length, getD}
 use Rattle.branch.specs.declared.Bound.{Bound}
-use Rattle.branch.specs.declared.Bound.the-variants.{Missing, Sum}
+use Rattle.branch.specs.declared.Bound.the-variants.{Sum}
 use Rattle.branch.specs.Search.{Tree, none, plan, Limited, onward, atMost}
 use Rattle.branch.specs.Questions.{leftAt}
 use Rattle.model.specs.Decisions.{joined}
-use Rattle.model.proofs.Blocks.{Wholes}
 use Rattle.lane_rows.specs.Layout.{laneCount, top, inf}
 use Rattle.lane_rows.specs.Tables.{Tables}
 use Rattle.lane_rows.specs.Rows.{Memo, Recalled}
@@ -18,8 +17,7 @@ use Rattle.held_rows.specs.Held.{HeldSheet, plain, noLane, held, seenBy, paidIn
 use Rattle.held_rows.specs.Rows.{SeenRows}
 use Rattle.held_lanes.specs.Places.{lastPlace, removedPlace, bestPlace, pendingPlace, readyPlace, asideSize}
 use Rattle.held_lanes.specs.Tables.{HeldTables, Lasts}
-use Rattle.held_stops.specs.Stops.{Pended, SettleAsks, StopPut, StopNoted}
-use Rattle.held_stops.proofs.Settled.{ShutSet}
+use Rattle.held_stops.specs.Stops.{ShutSet, Pended, StopPut, StopNoted}
 use Rattle.walk.specs.declared.Search.{Search}
 use Rattle.walk.specs.declared.Solved.{Solved}
 use Rattle.walk.specs.State.{bits, viewOf}
@@ -84,7 +82,6 @@ seesAt sheet bs q = seenBy sheet bs (getD (sheet .lanes) q noLane)
 -- the rows of whole blocks bs, of `at` openings, are there, with the last marks and the removals; m has the stops
 pub record Written (sheet : HeldSheet) (bs : List (List Bool)) (t w v : List ℕ) (rows at m : ℕ) : Type 0 where
   pub size : length bs ≡ at
-  pub wholes : Wholes (held sheet) at bs
   pub rows-are : SeenRows (plain sheet) w (length bs) (seesAt sheet bs) rows
   pub memo : Memo t w rows
   pub lasts : Lasts sheet v bs (rows - 1)

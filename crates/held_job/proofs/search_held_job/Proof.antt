@@ -10,7 +10,7 @@ use Rattle.jobs.specs.Views.{jobOf}
 use Rattle.jobs.proofs.Jobs.{opening-count, part-count}
 use Rattle.clock.proofs.Ranges.{position-bits}
 use Rattle.search.specs.Found.{saidIn}
-use Rattle.held_bound.specs.Arrays.{Holds}
+use Rattle.held_places.specs.Arrays.{Holds}
 use Rattle.held_tables.specs.Sheet.{HeldArrays}
 use Rattle.job_numbers.proofs.Counts.{long-enough, Counted, counted}
 use Rattle.held_job.proofs.Held as held

@@ -8,8 +8,8 @@ use lib.ListN.{length, take}
 use lib.Seq.{length-take-le}
 use lib.IntN.{ℤ}
 use mir.Facts.{toZ-ofZ}
-use Rattle.held_bound.specs.Arrays.{Lanes, Holds}
-use Rattle.held_bound.proofs.Parts.{read-back}
+use Rattle.held_places.specs.Arrays.{Lanes, Holds}
+use Rattle.held_places.proofs.Parts.{read-back}
 use Rattle.held_tables.specs.Sheet.{HeldArrays}
 use Rattle.held_tables.proofs.Sheets.{lanes-are}
 use Rattle.held_search.specs.Solved.{Solves, Chooses}

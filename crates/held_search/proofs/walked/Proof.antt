@@ -9,9 +9,9 @@ use mir.Val.{toZ, ofZ}
 use Rattle.lane_rows.specs.Sheet.{Sheet}
 use Rattle.lane_rows.specs.Tables.{Tables}
 use Rattle.search.proofs.Filling.{ready-back}
-use Rattle.held_bound.specs.Arrays.{Holds}
-use Rattle.held_bound.proofs.Parts.{read-back}
-use Rattle.held_bound.proofs.Totals.{opened, holding}
+use Rattle.held_places.specs.Arrays.{Holds}
+use Rattle.held_places.proofs.Parts.{read-back}
+use Rattle.held_places.proofs.Held.{opened, holding}
 use Rattle.held_rows.specs.Held.{HeldSheet, plain, Classed}
 use Rattle.held_tables.specs.declared.classes.Classes.{Classes}
 use Rattle.held_tables.specs.Sheet.{HeldArrays, heldSheetOf}

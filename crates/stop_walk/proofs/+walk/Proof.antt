@@ -13,12 +13,12 @@ use lib.ListN.{length, getD, set}
 use lib.Seq.{getD-set-same, getD-set-other}
 use Rattle.branch.specs.Search.{Limited, limited, onward}
 use Rattle.branch.specs.declared.Bound.{Bound}
-use Rattle.branch.specs.declared.Bound.the-variants.{Missing, Sum}
+use Rattle.branch.specs.declared.Bound.the-variants.{Sum}
 use Rattle.branch.proofs.Bounds.{sum-inj}
 use Rattle.model.specs.Decisions.{joined}
 use Rattle.lane_rows.specs.Layout.{laneCount, top, inf, suffixBase, feePlace, lanesIn}
 use Rattle.lane_rows.specs.Tables.{sumWhere}
-use Rattle.lane_rows.specs.Rows.{lane, sumLanes, Recalled}
+use Rattle.lane_rows.specs.Rows.{lane, sumLanes}
 use Rattle.lane_rows.proofs.Lanes.{lane-most}
 use Rattle.lane_rows.proofs.Memory.{recalled-none}
 use Rattle.held_rows.specs.Held.{HeldSheet, held}
@@ -26,17 +26,17 @@ use Rattle.held_lanes.specs.Places.{needLanesPlace, removalPlace, topPlace, rea
 use Rattle.held_stops.specs.Stops.{stopLane}
 use Rattle.held_stops.proofs.Children.{Told}
 use Rattle.walk.specs.declared.Search.{Search}
-use Rattle.walk.specs.State.{noCost, countedS, reachedS, openS}
+use Rattle.walk.specs.State.{noCost, openS}
 use Rattle.walk.proofs.Nodes.{mask-fits}
 use Rattle.stop_walk.specs.declared.Node.{Node}
-use Rattle.stop_walk.specs.State.{bestIn, bestName, noN, yesN, leftN, outN, settledN, written, treeAt, At, Frame, Walked}
-use Rattle.stop_walk.proofs.Trees.{Due, where-there, Opened, opened}
+use Rattle.stop_walk.specs.State.{bestName, noN, yesN, leftN, outN, settledN, written, treeAt, At, Frame, Walked}
+use Rattle.walk.proofs.Trees.{DueAt, where-there, Opened, opened}
 use Rattle.stop_walk.proofs.Frames.{aside-none, ready-frame, at-kept}
 use Rattle.stop_walk.proofs.Given.{sums-low, stop-most}
 use Rattle.stop_walk.proofs.Settling.{settle-asks, Rests, rests}
 use Rattle.stop_walk.proofs.Openings.{noBlocks, yesBlocks, full-fits, full-walked, opening-asks, no-below, no-more, no-cheap, no-due, at-no, yes-fits, yes-due, at-yes, both-openings}
 use Rattle.stop_walk.proofs.Stops.{moreBlocks, stop-asks, left-shut, left-below, left-more, left-cheap, left-due, at-left, out-fits, out-due, at-out, both-removals}
-use Rattle.stop_walk.proofs.Branches.{next-most, stop-here, spent-fits, Passed, passed-as, walked-as, at-looked, first-closed, first-open, second-closed, second-open, rests-walked}
+use Rattle.stop_walk.proofs.Branches.{stop-here, spent-fits, Passed, passed-as, walked-as, at-looked, first-closed, first-open, second-closed, second-open, rests-walked}
 use Rattle.stop_walk.proofs.walk.Reads as walk
 use Rattle.stop_walk.proofs.walk.Kinds as walk-kinds
 use Rattle.stop_walk.proofs.+walk.Lts-walk as walk-lts
@@ -247,7 +247,7 @@ module _ (t : ℕ) (c : Tested t) (sheet : HeldSheet) (ds : List (List Bool)) (h
   left-fair : termed t c .removal-term .result < inf → termed t c .removal-term .result ≤ top * (length (sheet .positions) - start t c .args .p .at)
   left-fair = let d = termed t c in left-cheap h owed next (shut t d) (d .removal-term .result) (left-sum t d) (shut-is t d) (d .removal-term .ensures) refl
 
-  left-owes : let a = start t c .args in let d = termed t c in Due (treeAt sheet (leftN (a .p) (shut t d)) (more false)) (sumWhere (d .removal-term .result) (left-sum t d)) (a .p .spent + d .removal-term .result)
+  left-owes : let a = start t c .args in let d = termed t c in DueAt (treeAt sheet (leftN (a .p) (shut t d)) (more false)) (sumWhere (d .removal-term .result) (left-sum t d)) (a .p .spent + d .removal-term .result)
   left-owes = let d = termed t c in left-due h owed next (shut t d) (d .removal-term .result) (left-sum t d) left-told left-fair (left-low t d)
 
   -- it is given where its part sums are there
@@ -407,7 +407,7 @@ module _ (t : ℕ) (c : Paid t) (sheet : HeldSheet) (ds : List (List Bool)) (h :
   abbrev out-blocks : List (List Bool)
   out-blocks = more t (first t c .before) sheet ds h true
 
-  out-owes : let a = start t (first t c .before) .args in Due (treeAt sheet (outN (a .p) (paying t c)) out-blocks) (Sum (a .x)) (paying t c + a .g)
+  out-owes : let a = start t (first t c .before) .args in DueAt (treeAt sheet (outN (a .p) (paying t c)) out-blocks) (Sum (a .x)) (paying t c + a .g)
   out-owes = let e = first t c .before in out-due h (owed t e sheet ds h) (next t e sheet ds h) (paying t c) (cost t c)
 
   both-out : let a = start t (first t c .before) .args in (st : Limited) → onward (a .limit) (treeAt sheet (a .p) ds) (joined ds) st
@@ -677,7 +677,7 @@ module _ (t : ℕ) (c : Judged t) (sheet : HeldSheet) (ds : List (List Bool)) (h
   no-fair : found < inf → found ≤ top * (length (sheet .positions) - (start-o t c .args .p .at + 1))
   no-fair = let l = looked t c in no-cheap (rest .given) refl under (l .opening-term .result) (no-sum t l) (l .opening-term .ensures) refl
 
-  no-owes : let a = start-o t c .args in Due (treeAt sheet (noN (a .p) (rested t c .settle .result)) (noBlocks ds)) (sumWhere found (no-sum t (looked t c))) (a .p .spent + found)
+  no-owes : let a = start-o t c .args in DueAt (treeAt sheet (noN (a .p) (rested t c .settle .result)) (noBlocks ds)) (sumWhere found (no-sum t (looked t c))) (a .p .spent + found)
   no-owes = no-due (rest .given) refl under found (no-sum t (looked t c)) (rested t c .settle .result) no-told no-fair (no-low t (looked t c))
 
   no-given : (y : ℕ) → sumWhere found (no-sum t (looked t c)) ≡ Sum y
@@ -842,7 +842,7 @@ module _ (t : ℕ) (c : Owed t) (sheet : HeldSheet) (ds : List (List Bool)) (h :
   abbrev top-row : ℕ
   top-row = rested t (second t c .before) .settle .result
 
-  yes-owes : let a = start-o t (second t c .before) .args in Due (treeAt sheet (yesN (a .p) top-row (fees t c)) (yesBlocks ds)) (Sum (a .x)) (fees t c + c .number4 .result)
+  yes-owes : let a = start-o t (second t c .before) .args in DueAt (treeAt sheet (yesN (a .p) top-row (fees t c)) (yesBlocks ds)) (Sum (a .x)) (fees t c + c .number4 .result)
   yes-owes = let e = second t c .before in yes-due (rest t e sheet ds h .given) refl (under t e sheet ds h) (c .number4 .result) (fees t c) (c .number4 .ensures .0) (fee-is t (c .before .before .before)) top-row
 
   both-yes : let e = second t c .before in let a = start-o t e .args in (st : Limited) → onward (a .limit) (treeAt sheet (node-in t (rested t e)) ds) (joined ds) st

@@ -1,9 +1,9 @@
 -- `first_marks` writes the mark of one class after the other. The invariant: the first are written.
 use Prim.Native.Nat.{ℕ, _+_, _-_, _≤_}
-use mathlib.Core.Path.{_≡_, sym, subst, _∙_}
+use mathlib.Core.Path.{_≡_, sym, subst}
 use native.Mathlib.Omega.{arith}
 use borrow.Author.Needs.{needs}
-use lib.ListN.{length, getD, set}
+use lib.ListN.{getD, set}
 use Rattle.least.specs.Filled.{FilledBy}
 use Rattle.least.proofs.Filled.{filled-none, filled-more}
 use Rattle.held_lanes.specs.Places.{offset, classesPlace, lastPlace}

@@ -1,5 +1,5 @@
 -- `settle` settles the stop, if there is one: by the two cases.
-use mathlib.Core.Path.{_≡_, refl, sym, _∙_}
+use mathlib.Core.Path.{refl, sym, _∙_}
 use mathlib.Core.Bool.{false≢true}
 use native.Mathlib.Omega.{arith}
 use Rattle.stop_walk.proofs.settle.Statement.{statement}

@@ -10,9 +10,8 @@ use Rattle.branch.specs.Lower.{add}
 use Rattle.branch.specs.declared.Bound.{Bound}
 use Rattle.branch.specs.declared.Bound.the-variants.{Sum}
 use Rattle.model.specs.Decisions.{joined}
-use Rattle.lane_rows.specs.Layout.{termPlace, lanesIn}
-use Rattle.lane_rows.specs.Tables.{sumWhere, Tables}
-use Rattle.lane_rows.specs.Rows.{sumLanes}
+use Rattle.lane_rows.specs.Layout.{termPlace}
+use Rattle.lane_rows.specs.Tables.{Tables}
 use Rattle.lane_rows.proofs.Lanes.{first-most}
 use Rattle.held_rows.specs.Held.{HeldSheet, plain, held, heldBound, Classed}
 use Rattle.held_lanes.specs.Places.{asideSize}
@@ -20,7 +19,7 @@ use Rattle.held_lanes.specs.Tables.{HeldTables}
 use Rattle.walk.specs.declared.Search.{Search}
 use Rattle.walk.specs.State.{noCost}
 use Rattle.stop_walk.specs.State.{bestName, view, treeAt, At, Solves}
-use Rattle.stop_walk.proofs.Trees.{Due, Opened, closed, opened}
+use Rattle.walk.proofs.Trees.{DueAt, Opened, closed, opened}
 use Rattle.stop_walk.proofs.Root.{rootN, bound-first, root-due, root-given, fresh, root-ends}
 use Rattle.stop_walk.proofs.solve.Statement.{statement}
 use Rattle.stop_walk.proofs.solve.Tie as tie
@@ -67,11 +66,11 @@ module _ (c : tie.After-term) (sheet : HeldSheet) (g : Given (begun (c .before .
   abbrev summed : tie.After-first-sums
   summed = c .before .before
 
-  owes : (h : ℕ) → Due (treeAt sheet (rootN h) []) (summed .first-sums .result) (c .term .result)
+  owes : (h : ℕ) → DueAt (treeAt sheet (rootN h) []) (summed .first-sums .result) (c .term .result)
   owes h =
       let a = begun summed .args in
-      subst (Due (treeAt sheet (rootN h) []) (summed .first-sums .result)) (sym (c .term .ensures))
-      (subst (λ (e : Bound). Due (treeAt sheet (rootN h) []) e (getD (a .t .now) (termPlace 0 0) 0)) (sym (summed .first-sums .ensures))
+      subst (DueAt (treeAt sheet (rootN h) []) (summed .first-sums .result)) (sym (c .term .ensures))
+      (subst (λ (e : Bound). DueAt (treeAt sheet (rootN h) []) e (getD (a .t .now) (termPlace 0 0) 0)) (sym (summed .first-sums .ensures))
       (root-due sheet (a .t .now) (a .u .now) (rows summed) (g .tables) (g .holders) (g .fit) (summed .before .before .before .before .before .base-row .ensures) h))
 
   floor-is : add (Sum (c .term .result)) (summed .first-sums .result) ≡ heldBound sheet []

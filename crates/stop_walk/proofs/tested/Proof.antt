@@ -1,6 +1,6 @@
 -- `tested` drops a node whose term is Missing, and one that smaller part sums drop; else it hands over its fees, removals and term.
-use Prim.Native.Nat.{ℕ, _+_, _<_, _≤_}
-use mathlib.Core.Path.{_≡_, refl, sym, ap, _∙_}
+use Prim.Native.Nat.{_+_, _<_}
+use mathlib.Core.Path.{_≡_, refl, sym, _∙_}
 use native.Mathlib.Omega.{arith}
 use borrow.Author.Needs.{needs}
 use Rattle.branch.specs.declared.Bound.the-variants.{Missing, Sum}

@@ -4,7 +4,7 @@ use mathlib.Core.Path.{_≡_, ap}
 use mathlib.Core.Bool.{Bool, true, false, cond}
 use lib.ListN.{getD}
 use borrow.Author.Count.{below-more}
-use Rattle.held_bound.specs.Arrays.{needStride}
+use Rattle.held_places.specs.Arrays.{needStride}
 use Rattle.held_tables.proofs.Groups.{needs-same}
 use native.Mathlib.Omega.{arith}
 use borrow.Author.Needs.{needs}
