@@ -15,9 +15,12 @@ static uint8_t out[16384];
 static juzvarola_answer fill_in(void) {
     static const uint32_t openings[] = {2, 3, 4, 5}, fees[] = {10, 10, 10, 10};
     static const uint32_t lives[] = {3, 4}, lefts[] = {2, 4}, prices[] = {5, 5, 5, 5, 7, 7, 7, 7};
+    /* No part has lines of removal, so that there are no removals, insides and holders. */
+    static const uint32_t covered[] = {0, 0};
     /* No step is idle: the list has length 0, and its pointer may be any that is not null. */
-    return juzvarola_write(6, openings, 0, 11, openings, COUNT(openings), fees, COUNT(fees), lives, COUNT(lives), lefts, COUNT(lefts), prices,
-                           COUNT(prices), job, sizeof job);
+    static const uint32_t none[] = {0};
+    return juzvarola_write(6, none, 0, 11, openings, COUNT(openings), fees, COUNT(fees), lives, COUNT(lives), lefts, COUNT(lefts), covered,
+                           COUNT(covered), none, 0, none, 0, none, 0, prices, COUNT(prices), job, sizeof job);
 }
 
 int main(int argc, char **argv) {

@@ -11,8 +11,8 @@ extern "C" {
 
 /* The answer of a call. The lines that go with it are the first `length` bytes of the lent output.
  *
- * result        0 to 11, as in the specification.
- * text          the text at fault for results 1, 2, 3, 4, 5 and 9: 1 the job, 2 the plan. 0 for every other result.
+ * result        0 to 12, as in the specification.
+ * text          the text at fault for results 1, 2, 3, 4, 5, 9 and 12: 1 the job, 2 the plan. 0 for every other result.
  * line          the line at fault, counted from 1. 0 if there is none, and for result 1.
  * length        the bytes written. Bytes past them keep their values. 0 for result 8.
  * fault_start   where the line at fault starts in the text at fault.
@@ -26,7 +26,8 @@ typedef struct {
 
 /* What juzvarola_count hands over; nothing is written.
  *
- * result, text, line, fault_start and fault_length as above, for the job text alone: results 0 to 5.
+ * result, text, line, fault_start and fault_length as above, for the job text alone: results 0 to 5 and 12. There is no count of a job with a
+ * holder: where its text has no fault the result is 12 too, with text 0, line 0, fault_start 0 and fault_length 0.
  * count         how many nodes the walk of the job can have at most. 4000000000 means that many or more. 1 for a job with no plan,
  *               and for one without openings. 0 with every result but 0.
  */
@@ -42,36 +43,45 @@ typedef struct {
  * - `out` should have 16,384 bytes or more, for juzvarola_write 32,768: with fewer the result is 8 and nothing is written.
  * - Nothing is kept between calls and no memory is allocated. Calls on several threads at once are allowed where no `out` overlaps
  *   another call's `out`, text or list.
- * - Stack that a call needs: less than 1 MB (juzvarola_plan was measured at some 520 KB, juzvarola_judge at 48 KB, juzvarola_write at 32 KB, juzvarola_count
- *   at 36 KB).
+ * - Stack that a call needs: less than 1.5 MB, so a thread of 2 MB serves. juzvarola_plan was measured at some 680 KB, and at 1,440 KB on the job whose
+ *   search goes deepest (64 openings, sixteen parts that hold each other); juzvarola_judge at 52 KB, juzvarola_write and juzvarola_count at 36 KB.
  */
 
-/* Plans a job: results 0 to 8. */
+/* Plans a job: results 0 to 8 and 12. */
 juzvarola_answer juzvarola_plan(const uint8_t *job, size_t job_len, uint8_t *out, size_t out_len);
 
-/* Judges a plan of a job: results 0 to 5 and 8 to 11.
+/* Judges a plan of a job: results 0 to 5 and 8 to 12. The plan may state a cost of up to 4000000000; 12 is a fault of the job text only.
  *
  * A plan text of length 0 is the plan of doing nothing, no stops and cost 0: result 10, or 0 where every part outlives the horizon.
  * A host that hands over a file that it could not open as an empty text gets this answer and no fault: look at the file first.
  */
 juzvarola_answer juzvarola_judge(const uint8_t *job, size_t job_len, const uint8_t *plan, size_t plan_len, uint8_t *out, size_t out_len);
 
-/* Writes the text of a job from the lists of an order form: results 0, 3, 4, 5 and 8.
+/* Writes the text of a job from the lists of an order form: results 0, 3, 4, 5, 8 and 12.
  *
  * The lists stand in the text's order: a fee for each opening, a left for each life, and for each part one price per opening, part by part.
  * The counts in the text are the lists' lengths; there is no `idles` line if there are no idles. A list may have any length.
  *
+ * Four lists are for a part's lines `removal`, `inside` and `holder`, which may be left out:
+ * covered       for each part 1 where its lines stand, else 0.
+ * removals      one for each part with the lines.
+ * insides       how many holders it has, one for each part with the lines.
+ * holders       the numbers of all holders, part after part: as many as the insides say together.
+ * For a job without these lines `covered` is a 0 for each part, and the other three have length 0.
+ *
  * Result 0: the first `length` bytes of `out` are the job text, with no `result` line before it. It reads back as the same job, and the numbers of
  * an accepted text give that text again, byte for byte.
- * Results 3, 4 and 5: the fault that the text would have had, with `text` 1 and the line that would have held it. Fees not as many as openings give 3
- * on the `openings` line; lefts not as many as lives, and prices not parts times openings, on the `parts` line. There is no text of the caller's, so
- * no line at fault is handed over.
+ * Results 3, 4, 5 and 12: the fault that the text would have had, with `text` 1 and the line that would have held it. Fees not as many as openings give
+ * 3 on the `openings` line; lefts not as many as lives, prices not parts times openings, one of the four lists with a wrong length, and a `covered` that is
+ * neither 0 nor 1, on the `parts` line. There is no text of the caller's, so no line at fault is handed over.
  */
 juzvarola_answer juzvarola_write(uint32_t horizon, const uint32_t *idles, size_t idles_len, uint32_t walk, const uint32_t *openings, size_t openings_len,
                                  const uint32_t *fees, size_t fees_len, const uint32_t *lives, size_t lives_len, const uint32_t *lefts, size_t lefts_len,
-                                 const uint32_t *prices, size_t prices_len, uint8_t *out, size_t out_len);
+                                 const uint32_t *covered, size_t covered_len, const uint32_t *removals, size_t removals_len, const uint32_t *insides,
+                                 size_t insides_len, const uint32_t *holders, size_t holders_len, const uint32_t *prices, size_t prices_len, uint8_t *out,
+                                 size_t out_len);
 
-/* Says how long the walk of a job may become, without walking: results 0 to 5. Below 4000000000 no walk of the job has more nodes than
+/* Says how long the walk of a job may become, without walking: results 0 to 5 and 12. Below 4000000000 no walk of the job has more nodes than
  * `count`, whatever its walk number, so that with a walk number of `count` or more the planner never answers 7. */
 juzvarola_counted juzvarola_count(const uint8_t *job, size_t job_len);
 

@@ -44,13 +44,11 @@ fn rust(job: &[u8], unit: Unit) -> Timed {
     (time, Outcome { nodes: found.nodes, floor: found.floor, cost: found.best.map(|best| best.cost) })
 }
 
-/// The solvers of jobs without holders, or with them. The library does not know holders yet.
+/// The solvers of jobs without holders, or with them.
 fn solvers(held: bool) -> Vec<Solver> {
     let mut solvers: Vec<Solver> = Vec::new();
     #[cfg(feature = "library")]
-    if !held {
-        solvers.push(("library".into(), library));
-    }
+    solvers.push(("library".into(), library));
     for unit in if held { vec![Unit::Holders] } else { Unit::all() } {
         let solve: fn(&[u8]) -> Timed = match unit {
             Unit::Plain => |job| rust(job, Unit::Plain),

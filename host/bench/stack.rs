@@ -21,14 +21,34 @@ fn job(life: u32) -> String {
     text
 }
 
-/// A plan of that job: all parts at all openings.
-fn plan() -> String {
-    let parts: String = (1..=16).map(|part| format!("part={part}\n")).collect();
-    let stops: String = (301..365).map(|step| format!("stop={step}\ncount=16\n{parts}")).collect();
-    format!("cost=1088000000\nstops=64\n{stops}")
+/// The job whose walk goes deepest: 64 openings in a row, sixteen parts that last one step and hold each other. Every stop is made and every part
+/// is removed at each, decided one by one: 64 times 17 decisions.
+fn deepest() -> String {
+    let mut text = String::from("horizon=64\nwalk=4000000000\nopenings=64\n");
+    for step in 1..=64 {
+        text += &format!("opening={step}\nfee=1000000\n");
+    }
+    text += "parts=16\n";
+    for part in 1..=16 {
+        let holders: String = (1..=16).filter(|other| *other != part).map(|other| format!("holder={other}\n")).collect();
+        text += &format!("life=1\nleft=1\nremoval=1000000\ninside=15\n{holders}{}", "price=1000000\n".repeat(64));
+    }
+    text
 }
 
-/// The form of the longest text: every step idle.
+/// The plan of all parts at all openings, from this step on.
+fn all_from(first: u32, cost: u32) -> String {
+    let parts: String = (1..=16).map(|part| format!("part={part}\n")).collect();
+    let stops: String = (first..first + 64).map(|step| format!("stop={step}\ncount=16\n{parts}")).collect();
+    format!("cost={cost}\nstops=64\n{stops}")
+}
+
+/// A plan of the largest job: all parts at all openings.
+fn plan() -> String {
+    all_from(301, 1_088_000_000)
+}
+
+/// The form of the longest text: every step idle, each part held by all others.
 fn longest() -> Form<'static> {
     let steps: &'static [u32] = (1..=365).collect::<Vec<_>>().leak();
     let alike = |count, value| -> &'static [u32] { vec![value; count].leak() };
@@ -40,10 +60,10 @@ fn longest() -> Form<'static> {
         fees: alike(64, 1_000_000),
         lives: alike(16, 1000),
         lefts: alike(16, 1000),
-        covered: alike(16, 0),
-        removals: &[],
-        insides: &[],
-        holders: &[],
+        covered: alike(16, 1),
+        removals: alike(16, 1_000_000),
+        insides: alike(16, 15),
+        holders: (1..=16).flat_map(|part| (1..=16).filter(move |other| *other != part)).collect::<Vec<_>>().leak(),
         prices: alike(1024, 1_000_000),
     }
 }
@@ -55,8 +75,10 @@ fn call(name: &str) -> u32 {
         "plan, no stop" => juzvarola_host::plan(job(1000).as_bytes(), &mut out).result,
         "plan, one stop" => juzvarola_host::plan(job(364).as_bytes(), &mut out).result,
         "plan, no plan" => juzvarola_host::plan(job(1).as_bytes(), &mut out).result,
+        "plan, all removed" => juzvarola_host::plan(deepest().as_bytes(), &mut out).result,
         "plan, a fault" => juzvarola_host::plan(b"horizon=1\n", &mut out).result,
         "judge, the longest plan" => juzvarola_host::judge(job(1000).as_bytes(), plan().as_bytes(), &mut out).result,
+        "judge, all removed" => juzvarola_host::judge(deepest().as_bytes(), all_from(1, 2_112_000_000).as_bytes(), &mut out).result,
         "judge, a fault" => juzvarola_host::judge(job(1000).as_bytes(), b"cost=1\nstops=65\n", &mut out).result,
         "write, the longest text" => juzvarola_host::write(&longest(), &mut out).result,
         "write, a fault" => juzvarola_host::write(&Form { horizon: 1, ..longest() }, &mut out).result,
@@ -70,8 +92,10 @@ const CALLS: &[(&str, u32)] = &[
     ("plan, no stop", 0),
     ("plan, one stop", 0),
     ("plan, no plan", 6),
+    ("plan, all removed", 0),
     ("plan, a fault", 3),
     ("judge, the longest plan", 0),
+    ("judge, all removed", 0),
     ("judge, a fault", 3),
     ("write, the longest text", 0),
     ("write, a fault", 3),

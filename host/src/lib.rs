@@ -41,7 +41,7 @@ pub struct Form<'f> {
     pub covered: &'f [u32],
     /// One for each part that has the lines.
     pub removals: &'f [u32],
-    /// How many holders it has, one for each part that has the lines.
+    /// How many holders the part has, one for each part that has the lines.
     pub insides: &'f [u32],
     /// The numbers of all holders, part after part.
     pub holders: &'f [u32],
@@ -51,7 +51,7 @@ pub struct Form<'f> {
 /// What `count` answers. `'t` is the life of the caller's text.
 #[derive(Debug, Clone, Copy, PartialEq, Eq)]
 pub struct Count<'t> {
-    /// The result number, 0 to 5 or 12.
+    /// The result number, 0 to 5 or 12; 12 with no text at fault says that the job has a holder, and that there is no count of it.
     pub result: u32,
     /// The text at fault: 1 the job, 0 none.
     pub text: u32,

@@ -46,6 +46,14 @@ extern "C" {
         lives_len: usize,
         lefts: *const u32,
         lefts_len: usize,
+        covered: *const u32,
+        covered_len: usize,
+        removals: *const u32,
+        removals_len: usize,
+        insides: *const u32,
+        insides_len: usize,
+        holders: *const u32,
+        holders_len: usize,
         prices: *const u32,
         prices_len: usize,
         out: *mut u8,
@@ -70,10 +78,7 @@ pub fn judge<'t>(job: &'t [u8], plan: &'t [u8], out: &mut [u8]) -> Answer<'t> {
 
 /// Writes the job text of a form into `out`: its first `length` bytes. No line at fault is handed over, since there is no text of the caller's.
 pub fn write(form: &Form, out: &mut [u8]) -> Answer<'static> {
-    let Form { horizon, idles, walk, openings, fees, lives, lefts, prices, .. } = *form;
-    // The library has no removals and holders yet.
-    assert!(form.covered.len() == lives.len() && form.covered.iter().all(|stands| *stands == 0), "a part has holders");
-    assert!([form.removals, form.insides, form.holders].iter().all(|list| list.is_empty()), "a part has holders");
+    let Form { horizon, idles, walk, openings, fees, lives, lefts, covered, removals, insides, holders, prices } = *form;
     // SAFETY: as for `plan`; the lists are only read.
     let numbers = unsafe {
         juzvarola_write(
@@ -89,6 +94,14 @@ pub fn write(form: &Form, out: &mut [u8]) -> Answer<'static> {
             lives.len(),
             lefts.as_ptr(),
             lefts.len(),
+            covered.as_ptr(),
+            covered.len(),
+            removals.as_ptr(),
+            removals.len(),
+            insides.as_ptr(),
+            insides.len(),
+            holders.as_ptr(),
+            holders.len(),
             prices.as_ptr(),
             prices.len(),
             out.as_mut_ptr(),

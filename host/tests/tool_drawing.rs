@@ -146,11 +146,13 @@ fn check_marks(drawn: &Drawn) {
 /// Fees above their stops, costs beneath, and all words on the sheet.
 fn check_words(drawn: &Drawn) {
     let words = plain(&drawn.words());
-    let (fees, cost) = (drawn.job.fees(&drawn.plan.stops), drawn.job.cost(&drawn.plan));
-    assert!(
-        words.contains(&format!("Fees {fees} \u{b7} Parts {} \u{b7} Total {cost}", cost - fees).replace(" \u{b7} ", "  \u{b7}  ")),
-        "{words}"
-    );
+    let (fees, prices, cost) = (drawn.job.fees(&drawn.plan.stops), drawn.job.prices(&drawn.plan), drawn.job.cost(&drawn.plan));
+    let removals = match cost - fees - prices {
+        0 => String::new(),
+        removals => format!(" \u{b7} Removals {removals}"),
+    };
+    let line = format!("Fees {fees} \u{b7} Parts {prices}{removals} \u{b7} Total {cost}").replace(" \u{b7} ", "  \u{b7}  ");
+    assert!(words.contains(&line), "{words}");
     assert_eq!(words.contains("Stated "), cost != drawn.stated);
     let floor = drawn.job.floor();
     assert_eq!(number_after(&words, "No plan costs less than "), floor);

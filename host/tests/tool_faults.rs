@@ -40,6 +40,9 @@ fn values_outside_their_range() {
         ("parts=2", "parts=17", "job.txt:12: parts is not a number from 1 to 16 (3)\n    parts=17\n"),
         ("life=3", "life=1001", "job.txt:13: life is not a number from 1 to 1,000 (3)\n    life=1001\n"),
         ("left=2", "left=0", "job.txt:14: left is not a number from 1 to 1,000 (3)\n    left=0\n"),
+        ("left=2", "left=2 removal=1000001 inside=0", "job.txt:15: removal is not a number from 0 to 1,000,000 (3)\n    removal=1000001\n"),
+        ("left=2", "left=2 removal=0 inside=16", "job.txt:16: inside is not a number from 0 to 15 (3)\n    inside=16\n"),
+        ("left=2", "left=2 removal=0 inside=1 holder=17", "job.txt:17: holder is not a number from 1 to 16 (3)\n    holder=17\n"),
         ("price=5", "price=0", "job.txt:15: price is not a number from 1 to 1,000,000 (3)\n    price=0\n"),
         ("horizon=6", "horizon=6 idles=0", "job.txt:2: idles is not a number from 1 to 365 (3)\n    idles=0\n"),
         ("horizon=6", "horizon=6 idles=1 idle=366", "job.txt:3: idle is not a number from 1 to 365 (3)\n    idle=366\n"),
@@ -67,6 +70,12 @@ fn steps_lives_stops_and_parts() {
     let idle = "idle does not come after the idle step before, or is past the horizon (4)";
     assert_eq!(of_job("horizon=6", "horizon=6 idles=1 idle=7"), format!("job.txt:3: {idle}\n    idle=7\n"));
     assert_eq!(of_job("left=2", "left=4"), "job.txt:14: left is greater than life (5)\n    left=4\n");
+    let holder = "holder is above the job's number of parts, is the part itself, or does not come after the holder before (12)";
+    for (number, inside) in [(1, "inside=1 holder=1"), (3, "inside=1 holder=3"), (2, "inside=2 holder=2 holder=2")] {
+        let line = if inside.starts_with("inside=2") { 18 } else { 17 };
+        let words = of_job("left=2", &format!("left=2 removal=4 {inside}"));
+        assert_eq!(words, format!("job.txt:{line}: {holder}\n    holder={number}\n"));
+    }
     let stop = "stop is no opening of the job, or does not come after the stop before (9)";
     assert_eq!(of_plan("stop=2", "stop=1"), format!("plan.txt:3: {stop}\n    stop=1\n"));
     let part = "part is above the job's number of parts, or does not come after the part before (9)";
@@ -85,6 +94,10 @@ fn lines_that_are_not_well_formed() {
     assert_eq!(of_job("fee=10 opening=3", "opening=3"), "job.txt:5: `fee=` is due here (2)\n    opening=3\n");
     assert_eq!(of_job("openings=4", "openings=5"), "job.txt:12: `opening=` is due here (2)\n    parts=2\n");
     assert_eq!(of_job("price=5 life=4", "life=4"), "job.txt:18: `price=` is due here (2)\n    life=4\n");
+    assert_eq!(of_job("left=2", "left=2 inside=0"), "job.txt:15: `price=` (or `removal=`) is due here (2)\n    inside=0\n");
+    assert_eq!(of_job("left=2", "left=2 removal=x"), format!("job.txt:15: removal {digits}\n    removal=x\n"));
+    assert_eq!(of_job("left=2", "left=2 removal=1"), "job.txt:16: `inside=` is due here (2)\n    price=5\n");
+    assert_eq!(of_job("left=2", "left=2 removal=1 inside=1"), "job.txt:17: `holder=` is due here (2)\n    price=5\n");
     assert_eq!(of_plan("stops=2", "stops=3"), "plan.txt:9: the text ends, and `stop=` is due (2)\n".replace(":9:", ":10:"));
     assert_eq!(of_plan("count=2", "count=3"), "plan.txt:10: the text ends, and `part=` is due (2)\n");
     assert_eq!(of_plan("stops=2", "stops=1"), "plan.txt:6: the text goes on after its last line (2)\n    stop=4\n");

@@ -59,11 +59,13 @@ fn example(rng: &mut Rng) -> (Facts, Vec<u8>, Job, Plan) {
 
 /// Checks the rows of a list by the reference's reading of the plan.
 fn check_rows(rows: &[Row], job: &Job, plan: &Plan, every: u64) {
-    let (fees, cost) = (job.fees(&plan.stops), job.cost(plan));
-    assert_eq!((amount(rows, "fees"), amount(rows, "parts"), amount(rows, "total")), (fees, cost - fees, cost));
+    let (fees, prices, cost) = (job.fees(&plan.stops), job.prices(plan), job.cost(plan));
+    assert_eq!((amount(rows, "fees"), amount(rows, "parts"), amount(rows, "total")), (fees, prices, cost));
+    assert_eq!((sum(rows, "removal", "amount"), sum(rows, "removals", "amount")), (cost - fees - prices, cost - fees - prices));
+    assert!(!rows.iter().any(|row| row.get("record") == "other"));
     let changes: usize = plan.changes.iter().map(|own| own.iter().filter(|changed| **changed).count()).sum();
     for record in ["change", "period", "part"] {
-        assert_eq!((sum(rows, record, "count"), sum(rows, record, "amount")), (changes as u64, cost - fees), "{record}");
+        assert_eq!((sum(rows, record, "count"), sum(rows, record, "amount")), (changes as u64, prices), "{record}");
     }
     assert_eq!((sum(rows, "stop", "count"), sum(rows, "stop", "amount")), (changes as u64, fees));
     assert_eq!(sum(rows, "stop", "running") + sum(rows, "end", "running"), job.running(job.horizon) as u64);

@@ -5,8 +5,8 @@ use crate::texts;
 use juzvarola_host as library;
 use std::thread;
 
-/// Twice the stack that the header asks for.
-const STACK: usize = 2 << 20;
+/// Twice the stack that the header says will serve.
+const STACK: usize = 4 << 20;
 /// The output that the header asks for.
 const OUTPUT: usize = 16_384;
 

@@ -30,13 +30,13 @@ fn text(first: &Judged, second: &Judged) -> String {
 fn costs(first: &Judged, second: &Judged) -> Table<'static> {
     let of = |judged: &Judged| {
         let (plan, costs) = (&judged.plan, &judged.costs);
-        [plan.stops.len() as u64, plan.change_count(), costs.fees, costs.parts, costs.other, costs.total(), plan.cost]
+        [plan.stops.len() as u64, plan.change_count(), costs.fees, costs.parts, costs.removals, costs.other, costs.total(), plan.cost]
     };
     let (firsts, seconds) = (of(first), of(second));
-    let names = ["stops", "changes", "fees", "parts", "other", "total", "stated cost"];
+    let names = ["stops", "changes", "fees", "parts", "removals", "other", "total", "stated cost"];
     let mut rows = Vec::new();
     for ((name, first), second) in names.into_iter().zip(firsts).zip(seconds) {
-        if name != "other" || first + second > 0 {
+        if !["removals", "other"].contains(&name) || first + second > 0 {
             rows.push(vec![name.to_string(), grouped(first), grouped(second), signed(first, second)]);
         }
     }

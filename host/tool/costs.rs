@@ -2,11 +2,13 @@
 
 use crate::texts::{Job, Plan, Stop};
 
-/// The costs of a plan. `other` is what the judge counts besides fees and prices, for forms of the job text that this program does not read.
+/// The costs of a plan. `removals` is what taking parts out costs, each once a stop; `other` what the judge counts besides, for forms of the job text
+/// that this program does not read.
 #[derive(Debug, Clone, Copy, PartialEq, Eq)]
 pub struct Costs {
     pub fees: u64,
     pub parts: u64,
+    pub removals: u64,
     pub other: u64,
 }
 
@@ -15,17 +17,28 @@ impl Costs {
     pub fn of(job: &Job, plan: &Plan, judged: Option<u64>) -> Costs {
         let fees = plan.stops.iter().map(|stop| job.fee(stop.step)).sum();
         let parts = plan.stops.iter().map(|stop| prices(job, stop)).sum();
-        Costs { fees, parts, other: judged.unwrap_or(0).saturating_sub(fees + parts) }
+        let removals = plan.stops.iter().map(|stop| removals(job, stop)).sum();
+        Costs { fees, parts, removals, other: judged.unwrap_or(0).saturating_sub(fees + parts + removals) }
     }
 
     pub fn total(&self) -> u64 {
-        self.fees + self.parts + self.other
+        self.fees + self.parts + self.removals + self.other
+    }
+
+    /// The costs that not every job has, by name, where there are some.
+    pub fn further(&self) -> impl Iterator<Item = (&'static str, u64)> {
+        [("removals", self.removals), ("other", self.other)].into_iter().filter(|(_, amount)| *amount > 0)
     }
 }
 
 /// The prices of all parts changed at a stop.
 pub fn prices(job: &Job, stop: &Stop) -> u64 {
     stop.parts.iter().filter_map(|part| job.price(*part, stop.step)).sum()
+}
+
+/// What taking parts out costs at a stop: each part that comes out, once.
+pub fn removals(job: &Job, stop: &Stop) -> u64 {
+    job.removed(stop).into_iter().map(|part| job.removal(part)).sum()
 }
 
 /// The prices of all changes of a part.

@@ -12,6 +12,10 @@ const CAP: u32 = 4_000_000_000;
 pub fn run(job: &OsStr) -> Result<u8, Failure> {
     let input = files::read(job)?;
     let (reply, count) = calls::count(&input.bytes)?;
+    if (reply.result, reply.text) == (12, 0) {
+        let words = "a part has a holder, and the count is for jobs without holders";
+        return Err(Failure { status: status_of(reply.result), message: format!("{}: {words} ({})\n", input.name, reply.result) });
+    }
     if reply.result != 0 {
         return Err(faults::refusal(&reply, &input, None));
     }

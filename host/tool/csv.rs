@@ -36,15 +36,15 @@ pub fn list(judged: &Judged, every: Option<u64>) -> String {
     let mut rows = vec![Row { record: "result", count: Some(u64::from(judged.result)), ..Row::default() }];
     rows.extend(changes(job, plan, every));
     rows.extend(stops(job, plan, every));
+    rows.extend(removals(job, plan, every));
     rows.extend(every.into_iter().flat_map(|steps| by_period(job, plan, steps)));
     rows.extend((1..=job.parts.len() as u64).map(|part| {
         let (count, amount) = (Some(plan.changes(part).len() as u64), Some(prices_of_part(job, plan, part)));
         Row { record: "part", part: Some(part), count, amount, ..Row::default() }
     }));
     let sum = |record, amount| Row { record, amount, ..Row::default() };
-    let other = Some(judged.costs.other).filter(|other| *other > 0);
     rows.extend([sum("fees", Some(judged.costs.fees)), sum("parts", Some(judged.costs.parts))]);
-    rows.extend(other.map(|other| sum("other", Some(other))));
+    rows.extend(judged.costs.further().map(|(name, amount)| sum(name, Some(amount))));
     rows.extend([sum("total", Some(judged.costs.total())), sum("stated", Some(plan.cost))]);
     rows.extend(judged.floor.map(|floor| sum("floor", Some(floor))));
     rows.iter().fold(format!("{HEAD}\n"), |text, row| text + &row.text())
@@ -97,6 +97,26 @@ fn stops(job: &Job, plan: &Plan, every: Option<u64>) -> Vec<Row> {
     }
     let running = Some(job.runs(before, job.horizon));
     rows.push(Row { record: "end", step: Some(job.horizon), running, ..Row::default() });
+    rows
+}
+
+/// A row for each removal that costs something: each part that comes out at a stop, once.
+fn removals(job: &Job, plan: &Plan, every: Option<u64>) -> Vec<Row> {
+    let mut rows = Vec::new();
+    for stop in &plan.stops {
+        for part in job.removed(stop).into_iter().filter(|part| job.removal(*part) > 0) {
+            let (step, period) = (Some(stop.step), period(job, every, stop.step));
+            rows.push(Row {
+                record: "removal",
+                step,
+                period,
+                part: Some(part),
+                count: Some(1),
+                amount: Some(job.removal(part)),
+                ..Row::default()
+            });
+        }
+    }
     rows
 }
 

@@ -36,7 +36,8 @@ fn before(text: &[u8], line: u32) -> &[u8] {
 
 /// What is due on this line of a job text.
 pub fn of_job(text: &[u8], line: u32) -> Due {
-    let (mut idles, mut openings, mut parts, mut prices) = (Tally::default(), Tally::default(), Tally::default(), Tally::default());
+    let (mut idles, mut openings, mut parts) = (Tally::default(), Tally::default(), Tally::default());
+    let (mut prices, mut holders) = (Tally::default(), Tally::default());
     let mut last: &[u8] = b"";
     for (key, value) in pairs(before(text, line)) {
         match key {
@@ -46,6 +47,8 @@ pub fn of_job(text: &[u8], line: u32) -> Due {
             b"opening" => openings.seen += 1,
             b"parts" => parts.due = value,
             b"life" => (parts.seen, prices) = (parts.seen + 1, Tally { due: openings.due, seen: 0 }),
+            b"inside" => holders = Tally { due: value, seen: 0 },
+            b"holder" => holders.seen += 1,
             b"price" => prices.seen += 1,
             _ => {}
         }
@@ -60,11 +63,18 @@ pub fn of_job(text: &[u8], line: u32) -> Due {
         b"openings" | b"fee" => Due::Key(if openings.more() { "opening" } else { "parts" }),
         b"parts" => Due::Key("life"),
         b"life" => Due::Key("left"),
-        b"left" | b"price" if prices.more() => Due::Key("price"),
-        b"left" | b"price" if parts.more() => Due::Key("life"),
-        b"left" | b"price" => Due::End,
+        b"removal" => Due::Key("inside"),
+        b"inside" | b"holder" if holders.more() => Due::Key("holder"),
+        b"left" | b"inside" | b"holder" | b"price" if prices.more() => Due::Key("price"),
+        b"left" | b"inside" | b"holder" | b"price" if parts.more() => Due::Key("life"),
+        b"left" | b"inside" | b"holder" | b"price" => Due::End,
         _ => Due::Unknown,
     }
+}
+
+/// Whether a `removal` line may stand on this line of a job text: right behind a `left` line.
+pub fn may_be_removed(text: &[u8], line: u32) -> bool {
+    pairs(before(text, line)).last().is_some_and(|(key, _)| key == b"left")
 }
 
 /// What is due on this line of a plan text.

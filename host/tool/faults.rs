@@ -20,6 +20,7 @@ const WORDS: &[(u32, &str, &str)] = &[
     (9, "stop", "stop is no opening of the job, or does not come after the stop before"),
     (9, "part", "part is above the job's number of parts, or does not come after the part before"),
     (9, "", "the plan does not fit the job"),
+    (12, "holder", "holder is above the job's number of parts, is the part itself, or does not come after the holder before"),
     (0, "", "the text is at fault"),
 ];
 
@@ -35,6 +36,9 @@ const RANGES: &[(&str, u64, u64)] = &[
     ("parts", 1, 16),
     ("life", 1, 1000),
     ("left", 1, 1000),
+    ("removal", 0, 1_000_000),
+    ("inside", 0, 15),
+    ("holder", 1, 16),
     ("price", 1, 1_000_000),
     ("cost", 0, 4_000_000_000),
     ("stops", 0, 64),
@@ -84,7 +88,7 @@ fn shape(reply: &Reply, text: &[u8]) -> String {
         _ if fault.starts_with(b"\xef\xbb\xbf") => {
             "the text begins with a byte order mark, as Windows writes it; it begins with its first line".to_string()
         }
-        due if fault.is_empty() && reply.line >= lines => format!("the text ends, and {} is due", named(due, reply.line)),
+        due if fault.is_empty() && reply.line >= lines => format!("the text ends, and {} is due", named(due, text, reply.line)),
         _ if fault.ends_with(b"\r") => {
             "the line ends with a carriage return, as Windows writes it; a line feed alone ends a line".to_string()
         }
@@ -95,24 +99,26 @@ fn shape(reply: &Reply, text: &[u8]) -> String {
                 format!("{key} is not 1 to 10 digits without a leading zero")
             }
         }
-        due @ Due::Key(_) => format!("{} is due here", named(due, reply.line)),
+        due @ Due::Key(_) => format!("{} is due here", named(due, text, reply.line)),
         Due::Unknown => from_table(2, "").to_string(),
     }
 }
 
-/// What is due on the line at fault. A second line that begins with `idles=` is meant as one.
+/// What is due on the line at fault. A second line that begins with `idles=` is meant as one, and so is one behind a `left` line that begins with `removal=`.
 fn due_on(reply: &Reply, text: &[u8]) -> Due {
     match reply.text {
         2 => due_keys::of_plan(text, reply.line),
         _ if reply.line == 2 && reply.fault.starts_with(b"idles=") => Due::Key("idles"),
+        _ if reply.fault.starts_with(b"removal=") && due_keys::may_be_removed(text, reply.line) => Due::Key("removal"),
         _ => due_keys::of_job(text, reply.line),
     }
 }
 
-/// The line that is due, as a message names it.
-fn named(due: Due, line: u32) -> String {
+/// The line that is due, as a message names it, with the one that may stand before it.
+fn named(due: Due, text: &[u8], line: u32) -> String {
     match due {
         Due::Key("walk") if line == 2 => "`walk=` (or `idles=`)".to_string(),
+        Due::Key(key) if due_keys::may_be_removed(text, line) => format!("`{key}=` (or `removal=`)"),
         Due::Key(key) => format!("`{key}=`"),
         Due::End | Due::Unknown => "another line".to_string(),
     }

@@ -1,7 +1,7 @@
 //! `list`: what to buy and when, for the buyer; when the line stops, for production.
 
 use crate::arguments::ListOrder;
-use crate::costs::{prices, prices_of_part};
+use crate::costs::{prices, prices_of_part, removals};
 use crate::csv;
 use crate::failure::{status_of, Failure};
 use crate::numbers::{grouped, joined};
@@ -26,7 +26,7 @@ fn lists(judged: &Judged, every: Option<u64>) -> String {
     for table in [buy(job, plan), by_stop(job, plan)].into_iter().chain(every.map(|steps| by_period(job, plan, steps))) {
         text += &table.text();
     }
-    text + &stops(job, plan).text() + &costs(judged)
+    text + &stops(job, plan).text() + &removed(job, plan).map_or(String::new(), |table| table.text()) + &costs(judged)
 }
 
 /// A price, or a dash where the job's text gives it in a form that is not read here.
@@ -103,10 +103,22 @@ fn stops(job: &Job, plan: &Plan) -> Table<'static> {
     Table { title: "Stops of the line".to_string(), heads, rows }
 }
 
+/// What comes out at each stop: the parts changed and those that hold them, and what that costs. None where no part has a removal or a holder.
+fn removed(job: &Job, plan: &Plan) -> Option<Table<'static>> {
+    job.parts.iter().find(|part| part.removal > 0 || !part.holders.is_empty())?;
+    let mut rows = Vec::new();
+    for stop in &plan.stops {
+        let out = job.removed(stop);
+        rows.push(vec![stop.step.to_string(), out.len().to_string(), grouped(removals(job, stop)), joined(out)]);
+    }
+    Some(Table { title: "Parts that come out".to_string(), heads: &["step", "count", "removals", "<parts"], rows })
+}
+
 /// Fees, prices, their sum and the floor.
 fn costs(judged: &Judged) -> String {
     let costs = &judged.costs;
-    let mut rows = vec![("fees", Some(costs.fees)), ("parts", Some(costs.parts)), ("other", Some(costs.other).filter(|other| *other > 0))];
+    let mut rows = vec![("fees", Some(costs.fees)), ("parts", Some(costs.parts))];
+    rows.extend(costs.further().map(|(name, amount)| (name, Some(amount))));
     rows.extend([("total", Some(costs.total())), ("floor", judged.floor)]);
     let rows = rows.into_iter().filter_map(|(name, value)| Some(vec![name.to_string(), grouped(value?)])).collect();
     Table { title: "Costs".to_string(), heads: &["<of", "amount"], rows }.text().trim_end().to_string() + "\n"

@@ -45,10 +45,11 @@ fn words(reply: &Reply, job: &Job) -> String {
 /// The printed plan's cost, stops and changes.
 fn plan_in_words(reply: &Reply, job: &Job) -> Option<String> {
     let plan = texts::plan(reply.plan_text()?);
-    let Costs { fees, parts, other } = Costs::of(job, &plan, Some(plan.cost));
-    let other = if other == 0 { String::new() } else { format!(", other {}", grouped(other)) };
+    let costs = Costs::of(job, &plan, Some(plan.cost));
+    let (fees, parts) = (costs.fees, costs.parts);
+    let further: String = costs.further().map(|(name, amount)| format!(", {name} {}", grouped(amount))).collect();
     let (stops, changes) = (counted(plan.stops.len() as u64, "stop"), counted(plan.change_count(), "change"));
-    Some(format!("{} (fees {}, parts {}{other}), with {stops} and {changes}", grouped(plan.cost), grouped(fees), grouped(parts)))
+    Some(format!("{} (fees {}, parts {}{further}), with {stops} and {changes}", grouped(plan.cost), grouped(fees), grouped(parts)))
 }
 
 /// A second line where there is no plan: which part stands in its way, and that no file was made.

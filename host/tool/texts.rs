@@ -7,11 +7,13 @@ pub struct Opening {
     pub fee: u64,
 }
 
-/// A part: its life, what is left of its first, its price at each opening.
+/// A part: its life, what is left of its first, what it costs to take it out, the parts that hold it, its price at each opening.
 #[derive(Debug, Clone, Default)]
 pub struct Part {
     pub life: u64,
     pub left: u64,
+    pub removal: u64,
+    pub holders: Vec<u64>,
     pub prices: Vec<u64>,
 }
 
@@ -47,9 +49,37 @@ impl Job {
 
     /// The price of a part, counted from 1, at this step; none where the text gives it in a form that this reader does not know.
     pub fn price(&self, part: u64, step: u64) -> Option<u64> {
-        let part = self.parts.get(usize::try_from(part).ok()?.checked_sub(1)?)?;
+        let part = self.part(part)?;
         let opening = self.openings.iter().position(|opening| opening.step == step)?;
         part.prices.get(opening).copied()
+    }
+}
+
+impl Job {
+    /// The parts that come out at a stop, counted from 1: those that are changed, their holders, the holders' holders and so on.
+    pub fn removed(&self, stop: &Stop) -> Vec<u64> {
+        let mut out = stop.parts.clone();
+        let mut at = 0;
+        while let Some(part) = out.get(at).copied() {
+            let holders = self.part(part).map_or(&[][..], |part| &part.holders);
+            for holder in holders {
+                if !out.contains(holder) {
+                    out.push(*holder);
+                }
+            }
+            at += 1;
+        }
+        out.sort_unstable();
+        out
+    }
+
+    /// What taking a part out costs.
+    pub fn removal(&self, part: u64) -> u64 {
+        self.part(part).map_or(0, |part| part.removal)
+    }
+
+    fn part(&self, part: u64) -> Option<&Part> {
+        self.parts.get(usize::try_from(part).ok()?.checked_sub(1)?)
     }
 }
 
@@ -92,6 +122,8 @@ pub fn job(text: &[u8]) -> Job {
             b"fee" => job.openings.last_mut().into_iter().for_each(|opening| opening.fee = value),
             b"life" => job.parts.push(Part { life: value, ..Part::default() }),
             b"left" => job.parts.last_mut().into_iter().for_each(|part| part.left = value),
+            b"removal" => job.parts.last_mut().into_iter().for_each(|part| part.removal = value),
+            b"holder" => job.parts.last_mut().into_iter().for_each(|part| part.holders.push(value)),
             b"price" => job.parts.last_mut().into_iter().for_each(|part| part.prices.push(value)),
             _ => {}
         }
@@ -130,7 +162,7 @@ mod tests {
     /// Lines with other keys, wherever they stand, change nothing of what is read.
     #[test]
     fn unknown_keys_are_passed_over() {
-        let more = JOB.replace("left=2\n", "left=2\nremoval=9\ninside=1\nholder=2\n").replace("fee=10\n", "fee=10\ncrew=4\n");
+        let more = JOB.replace("left=2\n", "left=2\nlater=9\n").replace("fee=10\n", "fee=10\ncrew=4\n");
         assert_eq!(format!("{:?}", job(more.as_bytes())), format!("{:?}", job(JOB.as_bytes())));
         let read = job(more.as_bytes());
         assert_eq!((read.horizon, read.walk, &read.idles[..]), (6, Some(11), &[3][..]));
@@ -141,6 +173,14 @@ mod tests {
         );
         let plan = plan(b"costlow=3\ncost=15\nstops=1\nstop=2\ncount=1\npart=1\n");
         assert_eq!((plan.cost, plan.stops), (15, vec![Stop { step: 2, parts: vec![1] }]));
+    }
+
+    /// A part's lines of removal are read where they stand.
+    #[test]
+    fn removals_and_holders_are_read() {
+        let read = job(JOB.replace("left=2\n", "left=2\nremoval=9\ninside=1\nholder=2\n").as_bytes());
+        assert_eq!((read.parts[0].removal, &read.parts[0].holders[..], read.price(1, 2)), (9, &[2][..], Some(5)));
+        assert_eq!((read.parts[1].removal, read.parts[1].holders.len()), (0, 0));
     }
 
     /// Prices in a form that is not known are missing, and not zero.

@@ -26,7 +26,7 @@ twoLines number key value = lineOf "result=" number ++ line key value
 abbrev pub threeLines : ℕ → List ℕ → ℕ → List ℕ → ℕ → List ℕ
 threeLines number key value next more = twoLines number key value ++ line next more
 
--- O1. "Numbers 1 to 5 and 9: `result`, `text` (1 job, 2 plan), `line` (from 1; 0 for number 1)."
+-- O1. "Numbers 1 to 5 and 9: `result`, `text` (1 job, 2 plan), `line` (from 1; 0 for number 1)." E7.14. "text errors from 12 on write and hand the host what 3 would, under their own number"
 unfoldable pub faultLines : ℕ → ℕ → ℕ → List ℕ
 faultLines number text at = lineOf "result=" number ++ lineOf "text=" text ++ lineOf "line=" at
 

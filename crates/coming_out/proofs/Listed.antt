@@ -1,15 +1,15 @@
 -- A row of marks and the numbers that it stands for: a number is on the list exactly if its mark is set. By recursion over the marks.
 use mathlib.Core.Path.{_≡_, refl, sym, ap, ap₂, _∙_}
-use mathlib.Core.Bool.{Bool, true, false, cond, _||_}
+use mathlib.Core.Bool.{Bool, true, false, cond, _||_, false≢true}
 use mathlib.Core.List.{List, [], _∷_, _++_}
 use Prim.Native.Nat.{ℕ, zero, suc, _+_, _<_}
 use native.Mathlib.Omega.{arith}
-use borrow.Author.Tests.{eq-eqb, ne-eqb}
-use lib.Dec.{eqb}
+use borrow.Author.Tests.{eq-eqb, ne-eqb, lt-ltb}
+use lib.Dec.{eqb, ltb}
 use lib.ListN.{length, getD}
 use Rattle.lines.specs.Text.{joined}
 use Rattle.lines.specs.Chosen.{chosen, numbersOf}
-use Rattle.lines.proofs.Chosen.{chosen-front, chosen-same}
+use Rattle.lines.proofs.Chosen.{chosen-front, chosen-same, chosen-none-after}
 use Rattle.model.specs.Model.{listed}
 
 -- the numbers of marks, counted from b on
@@ -48,3 +48,18 @@ marked b (true ∷ marks) (suc j) =
 
 pub numbers-listed : (marks : List Bool) (j : ℕ) → listed (numbersOf marks) (suc j) ≡ getD marks j false
 numbers-listed marks j = let z : suc j ≡ j + 1 = omega arith in ap (listed (numbersOf marks)) z ∙ marked 1 marks j
+
+-- ---- some number is on the list exactly if some mark is set
+
+-- a list that has a number has a length
+listed-some : (hs : List ℕ) (n : ℕ) → listed hs n ≡ true → ltb 0 (length hs) ≡ true
+unfolding listed
+listed-some [] n e = absurd (false≢true e)
+listed-some (h ∷ hs) n e = lt-ltb 0 (length (h ∷ hs)) (omega arith)
+
+pub marked-some : (marks : List Bool) (i : ℕ) → getD marks i false ≡ true → ltb 0 (length (numbersOf marks)) ≡ true
+marked-some marks i e = listed-some (numbersOf marks) (suc i) (numbers-listed marks i ∙ e)
+
+pub marked-none : (marks : List Bool) → ((i : ℕ) → i < length marks → getD marks i false ≡ false) → ltb 0 (length (numbersOf marks)) ≡ false
+unfolding chosen joined
+marked-none marks none = ap (λ (hs : List ℕ). ltb 0 (length hs)) (chosen-none-after (λ i. getD marks i false) (λ i. i + 1) 0 (length marks) (omega arith) (λ i _ h. none i h))

@@ -1,16 +1,18 @@
 -- What a job's part records say of holders and removals, by their places.
 use mathlib.Core.Path.{_≡_, refl, sym, ap, subst, _∙_}
-use mathlib.Core.Bool.{Bool, false}
+use mathlib.Core.Bool.{Bool, true, false}
 use mathlib.Core.List.{List, [], map}
 use Prim.Native.Nat.{ℕ, suc, _≤_, _<_}
 use native.Mathlib.Omega.{arith}
 use lib.ListN.{length, getD, length-map}
+use lib.Dec.{ltb}
 use lib.Seq.{ext-getD}
 use Rattle.model.specs.Limits.{mostParts}
 use Rattle.model.specs.Model as model
-use Rattle.model.specs.Model.{listed, table, holdersAt, removalOf}
+use Rattle.model.specs.Model.{listed, table, holdersAt, isHeld, hasHolder, removalOf}
 use Rattle.model.specs.Verdict.{noPart}
 use Rattle.model.proofs.Lists.{table-length, table-at}
+use Rattle.model.proofs.NoHolders.{held-here, held-nowhere}
 use Rattle.lines.specs.Chosen.{numbersOf}
 use Rattle.jobs.specs.declared.Part.{Part}
 use Rattle.jobs.specs.declared.Job.{Job}
@@ -41,6 +43,16 @@ module _ (job : Job) (sized : Sized job) (whole : Whole job) where
           rows .at q j h (omega (arith, l, sized .parts))
           ∙ sym (numbers-listed (marksAt (job .parts) q) j)
           ∙ ap (λ (hs : List ℕ). listed hs (suc j)) (sym (seen (λ (part : model.Part). part .holders) [] q h ∙ ap (λ (part : model.Part). part .holders) (part-at job sized whole q h)))
+
+  -- whether the part at place q has a holder
+  held-at : (q : ℕ) → q < job .«part_count» → isHeld (getD (jobOf job .parts) q noPart) ≡ ltb 0 (length (numbersOf (marksAt (job .parts) q)))
+  held-at q h = ap isHeld (part-at job sized whole q h)
+
+  pub holder-here : (q : ℕ) → q < job .«part_count» → ltb 0 (length (numbersOf (marksAt (job .parts) q))) ≡ true → hasHolder (jobOf job) ≡ true
+  holder-here q h e = held-here (jobOf job .parts) q (omega (arith, h, part-count job sized whole)) (held-at q h ∙ e)
+
+  pub holder-nowhere : ((q : ℕ) → q < job .«part_count» → ltb 0 (length (numbersOf (marksAt (job .parts) q))) ≡ false) → hasHolder (jobOf job) ≡ false
+  holder-nowhere f = held-nowhere (jobOf job .parts) (λ q l. let h : q < job .«part_count» = omega (arith, l, part-count job sized whole) in held-at q h ∙ f q h)
 
   pub removals-by : (removals : List ℕ) → Row 0 (table (removalAt (job .parts)) (job .«part_count»)) removals → Removals (jobOf job) removals
   removals-by removals r = subst (λ (xs : List ℕ). Row 0 xs removals) same r

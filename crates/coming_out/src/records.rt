@@ -1,10 +1,14 @@
-// Who holds whom, and the removals, from a job's part records.
+// Who holds whom, whether anybody does, and the removals, from a job's part records.
 use crate::with_row;
 use jobs::Job;
 use jobs::Part;
 use part_records::part_of;
 ghost use mathlib.Core.Path.{_≡_};
 ghost use Prim.Native.Nat.{_≤_};
+ghost use lib.Dec.{ltb};
+ghost use lib.ListN.{length};
+ghost use Rattle.lines.specs.Chosen.{numbersOf};
+ghost use Rattle.model.specs.Model.{hasHolder};
 ghost use Rattle.jobs.specs.Views.{jobOf, Sized};
 ghost use Rattle.coming_out.specs.Rows.{HeldBy};
 ghost use Rattle.coming_out.specs.Places.{Removals};
@@ -26,6 +30,39 @@ pub fn holders_of(job: Job) -> [bool; 256]
         q += 1;
     }
     matrix
+}
+
+// One of the marks is set.
+fn any_set(marks: [bool; 16]) -> bool
+    ensures { λ r. ⌜ r ≡ ltb 0 (length (numbersOf marks)) ⌝ }
+{
+    let mut i: usize = 0;
+    while i < 16 {
+        if marks[i] {
+            return true;
+        }
+        i += 1;
+    }
+    false
+}
+
+// Some part has a holder.
+pub fn has_holder(job: Job) -> bool
+    requires { ⌜ Sized job ⌝ }
+    ensures { λ r. ⌜ r ≡ hasHolder (jobOf job) ⌝ }
+{
+    let m = job.part_count;
+    let parts = job.parts;
+    let mut q: usize = 0;
+    while q < m {
+        let part = part_of(parts, m, q);
+        let holders = part.holders;
+        if any_set(holders) {
+            return true;
+        }
+        q += 1;
+    }
+    false
 }
 
 // A part's removal.

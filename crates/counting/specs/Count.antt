@@ -1,8 +1,10 @@
--- What the call hands over for a job text. E6.2. "It hands back result, line and count; the count is 0 for a refused job text."
+-- What the call hands over for a job text. E6.2. "It hands back result, line and count; the count is 0 for a refused job text." E7.12. "E6's count refuses jobs with a holder".
 use Prim.Native.Nat.{ℕ}
+use mathlib.Core.Bool.{cond}
 use mathlib.Core.List.{List}
 use Rattle.lines.specs.Parser.{Outcome, accepted, refused}
 use Rattle.lines.specs.Fault.{faultSpan}
+use Rattle.model.specs.Model.{Job, hasHolder}
 use Rattle.model.specs.Count.{openCount}
 use Rattle.job_text.specs.Grammar.{Given, readJob}
 use Rattle.counting.specs.declared.Counted.{Counted}
@@ -22,8 +24,16 @@ refusalOf text number at = record {
   «fault_length» = faultSpan at text .length;
 }
 
+-- E7.12. a job with a holder: "12 with line 0 after all text checks"
+abbrev pub holderRefusal : Counted
+holderRefusal = record { result = 12; text = 0; line = 0; count = 0; «fault_start» = 0; «fault_length» = 0 }
+
+-- what is handed over for an accepted job
+unfoldable pub countedJob : Job → Counted
+countedJob job = cond (hasHolder job) holderRefusal (countOf (openCount job))
+
 abbrev pub onJob : List ℕ → Outcome Given → Counted
-onJob text (accepted given) = countOf (openCount (given .job))
+onJob text (accepted given) = countedJob (given .job)
 onJob text (refused number line) = refusalOf text number line
 
 unfoldable pub countSaid : List ℕ → Counted

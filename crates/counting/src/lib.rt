@@ -1,5 +1,6 @@
 // How long a walk may become, without walking: the nodes of the walk that drops a node only if its bound is missing.
 use clock::positions_of;
+use coming_out::records::has_holder;
 use job_text::whole::read_job;
 use jobs::Job;
 use jobs::Part;
@@ -21,7 +22,7 @@ ghost use Rattle.jobs.specs.Views.{jobOf, Sized};
 ghost use Rattle.jobs.specs.Valid.{Sound};
 ghost use Rattle.least.specs.Filled.{FilledBy};
 ghost use Rattle.counting.specs.Row.{sumOf, noted, Near, Row};
-ghost use Rattle.counting.specs.Count.{countSaid};
+ghost use Rattle.counting.specs.Count.{countedJob, countSaid};
 ghost use Rattle.counting.specs.Promise.{CountPromise};
 
 // The count stops here.
@@ -212,8 +213,33 @@ fn count_job(job: Job) -> u32
     )
 }
 
-// How long the walk of a job text may become: every number that is handed over is the defined one (`countSaid`). The result is 0 exactly if the job is accepted; the count is then
-// the defined one, up to the cap; and below the cap no walk of this job has more nodes (`CountPromise`).
+// What is handed over for an accepted job: 12 where it has a holder, else its count.
+fn counted_job(job: Job) -> Counted
+    requires { ⌜ Sound job ⌝ }
+    ensures { λ r. ⌜ r ≡ countedJob (jobOf job) ⌝ }
+{
+    if has_holder(job) {
+        return Counted {
+            result: 12,
+            text: 0,
+            line: 0,
+            count: 0,
+            fault_start: 0,
+            fault_length: 0,
+        };
+    }
+    Counted {
+        result: 0,
+        text: 0,
+        line: 0,
+        count: count_job(job),
+        fault_start: 0,
+        fault_length: 0,
+    }
+}
+
+// How long the walk of a job text may become: every number that is handed over is the defined one (`countSaid`). The result is 0 exactly if the job is accepted and has no holder; the
+// count is then the defined one, up to the cap; and below the cap no walk of this job has more nodes (`CountPromise`). A job with a holder is refused with 12, behind every fault of its text.
 pub fn count(job: &[u8]) -> Counted
     ensures { λ r. ⌜ (r ≡ countSaid (now (job .entry))) × CountPromise (now (job .entry)) r ⌝ }
 {
@@ -233,14 +259,7 @@ pub fn count(job: &[u8]) -> Counted
         }
         WholeText::Good => {
             let accepted = read.text.job;
-            Counted {
-                result: 0,
-                text: 0,
-                line: 0,
-                count: count_job(accepted),
-                fault_start: 0,
-                fault_length: 0,
-            }
+            counted_job(accepted)
         }
     }
 }

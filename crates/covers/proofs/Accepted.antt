@@ -12,7 +12,8 @@ use Rattle.lines.specs.Parser.{good, return, row, optional, ifPresent, checked,
 use Rattle.lines.proofs.Sound.{bind-inv, Optionally, optional-inv, row-sound, checked-sound, chain-sound, row-gives, checked-gives, Chained, chain-gives, Told, Tells, Rises, rising-tells}
 use Rattle.covers.specs.Grammar.{Cover, other, holder, holders, inside, cover}
 use Rattle.covers.specs.Rendering.{coverText}
-use Rattle.covers.specs.Valid.{Holds, ValidCover, ValidLines}
+use Rattle.jobs.specs.Valid.{Holds}
+use Rattle.covers.specs.Valid.{ValidCover, ValidLines}
 
 -- a holder of part k of m, after the holder before
 abbrev pub KnownHolder : ℕ → ℕ → ℕ → ℕ → Type 0

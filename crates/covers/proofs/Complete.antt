@@ -14,7 +14,8 @@ use Rattle.lines.proofs.Sound.{Chained, Rises}
 use Rattle.lines.proofs.Complete.{Complete, row-complete, rising-complete, optional-present, checked-complete, chain-complete}
 use Rattle.covers.specs.Grammar.{Cover, other, holder, holders, inside, cover}
 use Rattle.covers.specs.Rendering.{coverText}
-use Rattle.covers.specs.Valid.{Holds, ValidLines}
+use Rattle.jobs.specs.Valid.{Holds}
+use Rattle.covers.specs.Valid.{ValidLines}
 use Rattle.covers.proofs.Accepted.{KnownHolder, itself}
 
 holder-complete : (m k before : ℕ) → Complete (holder m k before) (lineOf "holder=") (KnownHolder m k before)

@@ -15,14 +15,15 @@ use Rattle.lines.proofs.Writing.{line-short, joined-grows}
 use Rattle.lines.proofs.Texts.{rising-room}
 use Rattle.covers.specs.Grammar.{Cover}
 use Rattle.covers.specs.Rendering.{coverText}
-use Rattle.covers.specs.Valid.{Holds, ValidCover}
+use Rattle.jobs.specs.Valid.{Holds}
+use Rattle.covers.specs.Valid.{ValidCover}
 
 key-length : (length (bytes "removal=") ≡ 8) × (length (bytes "inside=") ≡ 7)
 unfolding bytes
 key-length = (refl, refl)
 
 -- the line of holder j + 1
-pub holderLine : ℕ → List ℕ
+unfoldable pub holderLine : ℕ → List ℕ
 holderLine j = lineOf "holder=" (j + 1)
 
 -- all sixteen: 9 lines of 9 bytes and 7 of 10

@@ -5,12 +5,8 @@ use mathlib.Core.List.{List, [], _∷_}
 use lib.ListN.{length}
 use Rattle.lines.specs.Text.{Optional, missing, present}
 use Rattle.model.specs.Limits.{dearest}
+use Rattle.jobs.specs.Valid.{Holds}
 use Rattle.covers.specs.Grammar.{Cover}
-
--- the numbers rise after `before` and stay within m, and none is k
-abbrev pub Holds : ℕ → ℕ → ℕ → List ℕ → Type 0
-Holds m k before [] = Unit {0}
-Holds m k before (h ∷ hs) = (before < h) × (h ≤ m) × (h ≡ k → ⊥) × Holds m k h hs
 
 -- the lines of part k of m
 pub record ValidCover (m k : ℕ) (c : Cover) : Type 0 where

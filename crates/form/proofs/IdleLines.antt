@@ -8,18 +8,20 @@ use native.Mathlib.Decide.{decLt}
 use borrow.Author.Tests.{eq-eqb, ne-eqb}
 use lib.ListN.{length}
 use Rattle.lines.specs.Line.{startsWith}
-use Rattle.lines.specs.Text.{bytes, decimal, line, lineOf, texts, Optional, present, optionalText}
+use Rattle.lines.specs.Text.{bytes, lineOf, texts, Optional, present, optionalText}
 use Rattle.lines.specs.Parser.{Parsed, good, fault, _>>=_, return, row, optional, ifPresent}
 use Rattle.lines.proofs.Parsing.{bind-good, bind-fault, optional-there, optional-missing}
-use Rattle.lines.proofs.Back.{starts-own}
 use Rattle.lines.proofs.Sound.{chain-gives}
 use Rattle.job_text.specs.Grammar.{idle, idleSteps, idles}
 use Rattle.job_text.specs.Views.{idleLines}
 use Rattle.job_text.proofs.Views.{some-idles}
-use Rattle.form.specs.Form.{countOf, idleCountText}
-use Rattle.form.specs.Checks.{found, lineAfter}
-use Rattle.form.specs.declared.check.Check.{Check}
-use Rattle.form.specs.declared.check.Check.the-variants.{Good, Fault}
+use Rattle.form_lists.specs.Facts.{countOf}
+use Rattle.form_lists.specs.Checks.{found}
+use Rattle.form_lists.specs.declared.check.Check.{Check}
+use Rattle.form_lists.specs.declared.check.Check.the-variants.{Good, Fault}
+use Rattle.form_lists.proofs.CoverLines.{starts-line}
+use Rattle.form.specs.Form.{idleCountText}
+use Rattle.form.specs.Checks.{lineAfter}
 
 -- ---- the line after them
 
@@ -43,10 +45,6 @@ text-some : (is t : List ℕ) → 1 ≤ length is → optionalText idleCountText
 unfolding idleLines idleCountText
 text-some [] t h = absurd (omega arith)
 text-some (i ∷ is) t h = append-assoc (lineOf "idles=" (countOf 365 true (length (i ∷ is)))) (texts (lineOf "idle=") (i ∷ is)) t
-
-starts-line : (key : List ℕ) (v : ℕ) (t : List ℕ) → startsWith key (line key v ++ t) ≡ true
-unfolding line
-starts-line key v t = ap (startsWith key) (append-assoc key (decimal v ++ 10 ∷ []) t) ∙ starts-own key ((decimal v ++ 10 ∷ []) ++ t)
 
 module _ (h l : ℕ) (is t : List ℕ) where
   -- where there are none, the lines behind begin with another key

@@ -1,9 +1,6 @@
--- The laws, in the order in which they rest on each other: the code's checks (Checks, CountLines, Loops, Places, IdleLines), what a form's text is read as (Stated),
+-- The laws, in the order in which they rest on each other: lines with a fault (Refusals), those of the idle steps (IdleLines), what a form's text is read as (Stated),
 -- the form that an accepted text makes (Returned), and the promise (Promised).
-pub mod Checks
-pub mod CountLines
-pub mod Loops
-pub mod Places
+pub mod Refusals
 pub mod IdleLines
 pub mod Stated
 pub mod Returned

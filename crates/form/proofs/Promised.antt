@@ -6,13 +6,14 @@ use mathlib.Core.List.{List, []}
 use native.Mathlib.Omega.{arith}
 use native.Mathlib.Decide.{decLt}
 use borrow.Author.Tests.{lt-ltb, le-ltb}
-use lib.ListN.{length}
+use mathlib.Core.Logic.{⊎-elim}
+use lib.ListN.{length, length-map}
 use Rattle.lines.specs.Parser.{accepted, refused, good, fault, return, end as ends, finish, whole}
 use Rattle.lines.specs.Fault.{nowhere, skipped, afterBreak, faultSpan, spanIn}
 use Rattle.lines.proofs.Parsing.{bind-good, bind-fault, text-fits}
 use Rattle.lines.proofs.Outcomes.{one-value, one-fault, not-both}
 use Rattle.lines.proofs.Readback.{Readback, back, broken}
-use Rattle.job_text.specs.Grammar.{JobText, jobLines, maxBytes, readJobText}
+use Rattle.job_text.specs.Grammar.{JobText, meantPart, jobLines, maxBytes, readJobText}
 use Rattle.job_text.specs.Rendering.{jobText}
 use Rattle.job_text.proofs.Views.{idle-steps}
 use Rattle.job_text.proofs.Accepted.{lines-tell, valid-text, text-is}
@@ -20,11 +21,11 @@ use Rattle.job_text.proofs.Lengths as lengths
 use Rattle.job_text.proofs.Complete.{read-back}
 use Rattle.answers.specs.Said.{Said, plainly, refusal, lent}
 use Rattle.answers.proofs.Replies as replies
+use Rattle.form_lists.proofs.Places.{paired-size, parts-size}
 use Rattle.form.specs.Form.{Form, stated, formText, readForm}
 use Rattle.form.specs.Write.{saidFor, writeSaid, writeRoom}
-use Rattle.form.specs.Promise.{Agree, Few, formOf, WritePromise}
-use Rattle.form.proofs.Places.{paired-size, grouped-size}
-use Rattle.form.proofs.Stated.{FormFault, Held, form-back}
+use Rattle.form.specs.Promise.{Agree, Few, FormFault, formOf, WritePromise}
+use Rattle.form.proofs.Stated.{Held, form-back}
 use Rattle.form.proofs.Returned.{same-text, agrees, fits, returned}
 
 -- ---- what the lines give is what the form is read as
@@ -62,6 +63,13 @@ read-writes text t e =
     ap saidFor (ap (λ (s : List ℕ). finish (whole jobLines s 1)) same ∙ text-fits maxBytes jobLines text (subst (λ (s : List ℕ). length s ≤ maxBytes) (sym (text-is text t e)) (lengths.text-fits t v)) ∙ e)
     ∙ ap (plainly 0) (sym (text-is text t e))
 
+-- a fault is neither 0 nor 8
+not-0 : (n : ℕ) → FormFault n → n ≡ 0 → ⊥
+not-0 n w e = ⊎-elim (λ v. omega (arith, v)) (λ v. omega (arith, v)) w
+
+not-8 : (n : ℕ) → FormFault n → n ≡ 8 → ⊥
+not-8 n w e = ⊎-elim (λ v. omega (arith, v)) (λ v. omega (arith, v)) w
+
 -- ---- no text of the caller's
 
 skipped-none : (n : ℕ) → skipped n [] ≡ []
@@ -89,7 +97,7 @@ module _ (f : Form) (held : Held f) (room : ℕ) where
       record {
         idles = omega (arith, j .few-idles, ap length (idle-steps (f .idles)));
         openings = omega (arith, j .few-openings, paired-size (f .openings) (f .fees) (agree .fees));
-        parts = omega (arith, j .few-parts, grouped-size (length (f .openings)) (f .lives) (f .lefts) (f .prices) (agree .lefts));
+        parts = omega (arith, j .few-parts, length-map (stated f .parts) meantPart, parts-size (length (f .openings)) (f .parts) (agree .parts));
       }
 
   -- and so it is what the form is read as
@@ -133,12 +141,12 @@ module _ (f : Form) (held : Held f) (room : ℕ) where
   refused-line : writeRoom ≤ room → (n m : ℕ) → FormFault n → jobLines (formText f) 1 ≡ fault n m → WritePromise f room (writeSaid f)
   unfolding writeSaid
   refused-line h n m w e = subst (WritePromise f room) (sym said) (record {
-    says-8 = (λ q. absurd (omega (arith, w)), λ q. absurd (omega arith));
-    says-0 = (λ q. absurd (omega (arith, w)), λ r. not-both (accepts (r .1 .0) (r .1 .1)) read);
-    writes-0 = λ q. absurd (omega (arith, w));
-    refuses = λ q i j r. let same = one-fault read r in (replies.refuses 1 [] read r, no-span m, omega (arith, w, same), omega (arith, w, same));
+    says-8 = (λ q. absurd (not-8 n w q), λ q. absurd (omega arith));
+    says-0 = (λ q. absurd (not-0 n w q), λ r. not-both (accepts (r .1 .0) (r .1 .1)) read);
+    writes-0 = λ q. absurd (not-0 n w q);
+    refuses = λ q i j r. (replies.refuses 1 [] read r, no-span m, subst FormFault (one-fault read r .0) w);
     reads = reads;
-    returns = λ q text t r same. let z : n ≡ 0 = ap (λ (s : Said). s .result) (sym said ∙ again text t r same) in absurd (omega (arith, w));
+    returns = λ q text t r same. let z : n ≡ 0 = ap (λ (s : Said). s .result) (sym said ∙ again text t r same) in absurd (not-0 n w z);
   })
     where
       read : readForm f ≡ refused n m

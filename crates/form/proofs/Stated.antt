@@ -1,36 +1,51 @@
--- A form's text is read as what the form states, and then its lists agree and are not too long; or it has a fault of number 3, 4 or 5 (`form-back`). By the grammar's lines, one after the other.
+-- A form's text is read as what the form states, and then its lists agree and are not too long; or it has a fault of number 3, 4, 5 or 12 (`form-back`). By the grammar's lines, one after the other.
 use Prim.Native.Nat.{ℕ, zero, suc, _+_, _*_, _^_, _≤_, _<_}
 use mathlib.Core.Path.{_≡_, refl, sym, ap, ap₂, subst, _∙_}
 use mathlib.Core.Bool.{Bool, true, false, _&&_, and-eq-true-iff, false≢true}
-use mathlib.Core.List.{List, [], _∷_, _++_, append-assoc, append-nil}
+use mathlib.Core.List.{List, [], _∷_, _++_, append-assoc}
+use mathlib.Core.Logic.{inl, inr}
 use native.Mathlib.Omega.{arith}
 use native.Mathlib.Decide.{decLt}
-use native.Mathlib.Nat.{suc-mul}
+use native.Mathlib.Nat.{suc-mul, min-le-left}
 use borrow.Author.Tests.{leb-true, le-leb, eqb-true}
-use lib.Dec.{leb, eqb}
-use lib.ListN.{length, getD, take, drop, length-drop}
+use lib.Dec.{leb}
+use lib.ListN.{length, getD, take, drop, length-take, length-drop}
 use lib.Seq.{getD-drop, length-take-le}
 use Rattle.lines.specs.Line.{startsWith}
-use Rattle.lines.specs.Text.{bytes, line, lineOf, texts, Optional, present, optionalText}
-use Rattle.lines.specs.Parser.{Parsed, return, row, rowAt, checked, times, rising, upTo, ifPresent}
+use Rattle.lines.specs.Text.{bytes, line, lineOf, texts, Optional, missing, present, optionalText}
+use Rattle.lines.specs.Parser.{Parsed, return, row, rowAt, checked, chain, times, rising, upTo, ifPresent}
 use Rattle.lines.proofs.Sound.{Chained}
 use Rattle.lines.proofs.Readback.{Readback, back, broken, same-back, bind-back, return-back, row-back, checked-back, chain-back}
-use Rattle.model.specs.Model.{Opening, Part}
-use Rattle.jobs.proofs.Plain.{plain-part}
-use Rattle.job_text.specs.Grammar.{JobText, idle, idleSteps, idles, opening, openings, part, body, rest, jobLines}
+use Rattle.model.specs.Model.{Opening}
+use Rattle.jobs.specs.Valid.{All}
+use Rattle.covers.specs.Grammar.{Cover, other, holder, holders, inside, cover}
+use Rattle.covers.specs.Rendering.{coverText}
+use Rattle.job_text.specs.Grammar.{PartText, JobText, idle, idleSteps, idles, opening, openings, afterLeft, part, following, parts, body, rest, jobLines}
 use Rattle.job_text.specs.Rendering.{openingText, partText}
 use Rattle.job_text.specs.Views.{idleLines}
-use Rattle.job_text.proofs.Complete.{walk-next}
+use Rattle.job_text.proofs.Complete.{walk-next, prices-next}
 use Rattle.job_text.proofs.Views.{some-idles}
-use Rattle.form.specs.Form.{Form, paired, grouped, stated, feesAgree, partsAgree, countOf, idleCountText, bodyOf, restOf, formText}
-use Rattle.form.specs.Promise.{Agree, Few}
-use Rattle.form.proofs.CountLines.{count-in, count-out}
-use Rattle.form.proofs.Places.{paired-size, grouped-size}
+use Rattle.form_lists.specs.Facts.{PartLists, paired, coversOf, grouped, feesAgree, partsAgree, PartsAgree, countOf, countedText}
+use Rattle.form_lists.proofs.CountLines.{count-in, count-out}
+use Rattle.form_lists.proofs.CoverLines.{cover-none, removal-there}
+use Rattle.form_lists.proofs.Places.{paired-size, parts-size, agree-says}
+use Rattle.form_lists.proofs.PartLoop.{next-other}
+use Rattle.form.specs.Form.{Form, stated, idleCountText, bodyOf, restOf, formText}
+use Rattle.form.specs.Promise.{Agree, Few, FormFault}
 use Rattle.form.proofs.IdleLines.{idles-none, number-there}
 
--- a writer's refusal of a line
-abbrev pub FormFault : ℕ → Type 0
-FormFault n = (3 ≤ n) × (n ≤ 5)
+-- the writer's refusals of a line
+three : FormFault 3
+three = inl (omega arith, omega arith)
+
+four : FormFault 4
+four = inl (omega arith, omega arith)
+
+five : FormFault 5
+five = inl (omega arith, omega arith)
+
+twelve : FormFault 12
+twelve = inr refl
 
 -- a number can be written: it has at most ten digits
 abbrev Short : ℕ → Type 0
@@ -47,9 +62,12 @@ pub record Held (f : Form) : Type 0 where
   pub idles : Small (f .idles)
   pub openings : Small (f .openings)
   pub fees : Small (f .fees)
-  pub lives : Small (f .lives)
-  pub lefts : Small (f .lefts)
-  pub prices : Small (f .prices)
+  pub lives : Small (f .parts .lives)
+  pub lefts : Small (f .parts .lefts)
+  pub removals : Small (f .parts .removals)
+  pub insides : Small (f .parts .insides)
+  pub holders : Small (f .parts .holders)
+  pub prices : Small (f .parts .prices)
 
 small-chained : (next : ℕ → ℕ → ℕ) (prev : ℕ) (xs : List ℕ) → Small xs → Chained (λ _. Short) next prev xs
 small-chained next prev [] h = tt
@@ -58,17 +76,17 @@ small-chained next prev (x ∷ xs) h = (omega (arith, h 0), small-chained next (
 -- ---- one line
 
 value-back : (key : List ℕ) (lo hi v : ℕ) → Short v → (s : List ℕ) (l : ℕ) → Readback FormFault (Unit {0}) v s (rowAt key lo hi (line key v ++ s) l)
-value-back = row-back FormFault (omega arith, omega arith)
+value-back = row-back FormFault three
 
 step-back : (key : List ℕ) (h before v : ℕ) → Short v → (s : List ℕ) (l : ℕ) → Readback FormFault (Unit {0}) v s (checked 4 (rising before h) (rowAt key 1 365) (line key v ++ s) l)
-step-back key h before v few s l = checked-back FormFault 4 (omega arith, omega arith) (rising before h) (rowAt key 1 365) v (line key v ++ s) s l (value-back key 1 365 v few s l)
+step-back key h before v few s l = checked-back FormFault 4 four (rising before h) (rowAt key 1 365) v (line key v ++ s) s l (value-back key 1 365 v few s l)
 
 count-back : (key : List ℕ) (lo most : ℕ) → suc most < 10 ^ 10 → (agree : Bool) (n : ℕ) (s : List ℕ) (l : ℕ)
     → Readback FormFault ((n ≤ most) × (agree ≡ true)) n s (rowAt key lo most (line key (countOf most agree n) ++ s) l)
 count-back key lo most few agree n s l = go (leb n most && agree) refl (decLt n lo)
   where
     out : (lo ≤ n → n ≤ most → agree ≡ true → ⊥) → Readback FormFault ((n ≤ most) × (agree ≡ true)) n s (rowAt key lo most (line key (countOf most agree n) ++ s) l)
-    out no-good = broken 3 l (omega arith, omega arith) (count-out key lo most few agree n s l no-good)
+    out no-good = broken 3 l three (count-out key lo most few agree n s l no-good)
 
     go : (b : Bool) → (leb n most && agree) ≡ b → Dec (n < lo) → Readback FormFault ((n ≤ most) × (agree ≡ true)) n s (rowAt key lo most (line key (countOf most agree n) ++ s) l)
     go true e (yes h) = out (λ low high a. omega arith)
@@ -117,31 +135,77 @@ paired-short prev [] fs a b = tt
 paired-short prev (o ∷ os) [] a b = tt
 paired-short prev (o ∷ os) (f ∷ fs) a b = ((omega (arith, a 0), omega (arith, b 0)), paired-short o os fs (λ i. a (suc i)) (λ i. b (suc i)))
 
+-- ---- covers
+
+-- numbers of lines of removal that can be written
+abbrev ShortCover : Optional Cover → Type 0
+ShortCover missing = Unit {0}
+ShortCover (present c) = Short (c .removal) × Short (length (c .holders)) × Small (c .holders)
+
+abbrev itself : ℕ → ℕ → ℕ
+itself before h = h
+
+holder-back : (m k before v : ℕ) → Short v → (s : List ℕ) (l : ℕ) → Readback FormFault (Unit {0}) v s (holder m k before (lineOf "holder=" v ++ s) l)
+unfolding holder
+holder-back m k before v few s l =
+    checked-back FormFault 12 twelve (other k) (checked 12 (rising before m) (row "holder=" 1 16)) v (lineOf "holder=" v ++ s) s l
+    (checked-back FormFault 12 twelve (rising before m) (row "holder=" 1 16) v (lineOf "holder=" v ++ s) s l (value-back (bytes "holder=") 1 16 v few s l))
+
+inside-back : (m k : ℕ) (c : Cover) → ShortCover (present c) → (s : List ℕ) (l : ℕ)
+    → Readback FormFault (Unit {0}) c s (inside m k (c .removal) (lineOf "inside=" (length (c .holders)) ++ (texts (lineOf "holder=") (c .holders) ++ s)) l)
+unfolding inside holders
+inside-back m k c few s l =
+    bind-back (row "inside=" 0 15) _ (value-back (bytes "inside=") 0 15 (length (c .holders)) (few .1) (texts (lineOf "holder=") (c .holders) ++ s) l)
+    (λ _ i. bind-back (holders m k (length (c .holders))) _
+    (chain-back FormFault (holder m k) itself (lineOf "holder=") Short (holder-back m k) 0 (c .holders) (small-chained itself 0 (c .holders) (few .2)) s i)
+    (λ _ j. return-back c s j tt))
+
+cover-back : (m k : ℕ) (o : Optional Cover) → ShortCover o → (s : List ℕ) (l : ℕ) → startsWith (bytes "removal=") s ≡ false → Readback FormFault (Unit {0}) o s (cover m k (optionalText coverText o ++ s) l)
+unfolding coverText ifPresent
+cover-back m k missing few s l other = back tt l (cover-none m k s l other)
+cover-back m k (present c) few s l other =
+    let a = lineOf "removal=" (c .removal) in
+    let b = lineOf "inside=" (length (c .holders)) in
+    let d = texts (lineOf "holder=") (c .holders) in
+    same-back (ap (λ (t : List ℕ). cover m k t l) (append-assoc (a ++ b) d s ∙ append-assoc a b (d ++ s)) ∙ removal-there m k (c .removal) (b ++ (d ++ s)) l)
+    (bind-back _ (ifPresent (inside m k))
+    (bind-back (row "removal=" 0 1000000) (λ v. return (present v)) (value-back (bytes "removal=") 0 1000000 (c .removal) (few .0) (b ++ (d ++ s)) l) (λ known i. return-back (present (c .removal)) (b ++ (d ++ s)) i known))
+    (λ _ i. bind-back (inside m k (c .removal)) (λ x. return (present x)) (inside-back m k c few s i) (λ _ j. return-back (present c) s j tt)))
+
 -- ---- parts
 
 -- a part with n prices
-pub record ShortPart (n : ℕ) (p : Part) : Type 0 where
+pub record ShortPart (n : ℕ) (p : PartText) : Type 0 where
   pub life : Short (p .life)
   pub left : Short (p .left)
-  pub removal : p .removal ≡ 0
-  pub holders : p .holders ≡ []
+  pub cover : ShortCover (p .cover)
   pub priced : length (p .prices) ≡ n
   pub prices : Small (p .prices)
 
-part-back : (n : ℕ) (p : Part) → ShortPart n p → (s : List ℕ) (l : ℕ) → Readback FormFault (Unit {0}) p s (part n (partText p ++ s) l)
-unfolding part partText times
-part-back n p few s l =
+part-back : (m n k : ℕ) (p : PartText) → ShortPart n p → (s : List ℕ) (l : ℕ) → startsWith (bytes "removal=") s ≡ false → Readback FormFault (Unit {0}) p s (part m n k (partText p ++ s) l)
+unfolding part afterLeft partText times
+part-back m n k p few s l other =
     let a = lineOf "life=" (p .life) in
     let b = lineOf "left=" (p .left) in
+    let d = optionalText coverText (p .cover) in
     let c = texts (lineOf "price=") (p .prices) in
-    same-back (ap (λ (t : List ℕ). part n t l) (append-assoc (a ++ b) c s ∙ append-assoc a b (c ++ s)))
-    (bind-back (row "life=" 1 1000) _ (value-back (bytes "life=") 1 1000 (p .life) (few .life) (b ++ (c ++ s)) l)
-    (λ _ k. bind-back (checked 5 (upTo (p .life)) (row "left=" 1 1000)) _
-    (checked-back FormFault 5 (omega arith, omega arith) (upTo (p .life)) (row "left=" 1 1000) (p .left) (b ++ (c ++ s)) (c ++ s) k (value-back (bytes "left=") 1 1000 (p .left) (few .left) (c ++ s) k))
-    (λ _ j. bind-back (times n (row "price=" 1 1000000)) _
-    (subst (λ (m : ℕ). Readback FormFault (Unit {0}) (p .prices) s (times m (row "price=" 1 1000000) (c ++ s) j)) (few .priced)
-    (chain-back FormFault (λ _. row "price=" 1 1000000) (λ _ _. 0) (lineOf "price=") Short (λ _ v v-few t i. value-back (bytes "price=") 1 1000000 v v-few t i) 0 (p .prices) (small-chained (λ _ _. 0) 0 (p .prices) (few .prices)) s j))
-    (λ _ i. subst (λ (q : Part). Readback FormFault (Unit {0}) p s (return q s i)) (sym (plain-part p (few .removal) (few .holders))) (return-back p s i tt)))))
+    same-back (ap (λ (t : List ℕ). part m n k t l) (append-assoc (a ++ b ++ d) c s ∙ append-assoc (a ++ b) d (c ++ s) ∙ append-assoc a b (d ++ (c ++ s))))
+    (bind-back (row "life=" 1 1000) _ (value-back (bytes "life=") 1 1000 (p .life) (few .life) (b ++ (d ++ (c ++ s))) l)
+    (λ _ i. bind-back (checked 5 (upTo (p .life)) (row "left=" 1 1000)) _
+    (checked-back FormFault 5 five (upTo (p .life)) (row "left=" 1 1000) (p .left) (b ++ (d ++ (c ++ s))) (d ++ (c ++ s)) i (value-back (bytes "left=") 1 1000 (p .left) (few .left) (d ++ (c ++ s)) i))
+    (λ _ j. bind-back (cover m k) _ (cover-back m k (p .cover) (few .cover) (c ++ s) j (prices-next (p .prices) s other))
+    (λ _ h. bind-back (times n (row "price=" 1 1000000)) _
+    (subst (λ (q : ℕ). Readback FormFault (Unit {0}) (p .prices) s (times q (row "price=" 1 1000000) (c ++ s) h)) (few .priced)
+    (chain-back FormFault (λ _. row "price=" 1 1000000) (λ _ _. 0) (lineOf "price=") Short (λ _ v v-few t q. value-back (bytes "price=") 1 1000000 v v-few t q) 0 (p .prices) (small-chained (λ _ _. 0) 0 (p .prices) (few .prices)) s h))
+    (λ _ q. return-back p s q tt)))))
+
+-- parts with nothing behind them
+all-back : (m n k : ℕ) (ps : List PartText) → All (ShortPart n) ps → (l : ℕ) → Readback FormFault (Unit {0}) ps [] (chain (part m n) following (length ps) k (texts partText ps) l)
+unfolding chain
+all-back m n k [] h l = return-back [] [] l tt
+all-back m n k (p ∷ ps) h l =
+    bind-back (part m n k) _ (part-back m n k p (h .0) (texts partText ps) l (next-other ps))
+    (λ _ i. bind-back (chain (part m n) following (length ps) (suc k)) _ (all-back m n (suc k) ps (h .1) i) (λ _ j. return-back (p ∷ ps) [] j tt))
 
 small-take : (n : ℕ) (ps : List ℕ) → Small ps → Small (take n ps)
 small-take zero ps h i = omega arith
@@ -152,14 +216,24 @@ small-take (suc n) (p ∷ ps) h (suc i) = small-take n ps (λ j. h (suc j)) i
 small-drop : (n : ℕ) (ps : List ℕ) → Small ps → Small (drop n ps)
 small-drop n ps h i = rw (getD-drop n ps i 0) (h (n + i))
 
-grouped-short : (n : ℕ) (ls rs ps : List ℕ) → Small ls → Small rs → Small ps → length ps ≡ length ls * n → Chained (λ _. ShortPart n) (λ _ _. 0) 0 (grouped n ls rs ps)
+covers-short : (cs vs is hs : List ℕ) → Small vs → Small is → Small hs → All ShortCover (coversOf cs vs is hs)
+unfolding coversOf
+covers-short [] vs is hs a b c = tt
+covers-short (zero ∷ cs) vs is hs a b c = (tt, covers-short cs vs is hs a b c)
+covers-short (suc m ∷ cs) vs is hs a b c = (
+  (omega (arith, a 0), omega (arith, length-take (getD is 0 0) hs, min-le-left (getD is 0 0) (length hs), b 0), small-take (getD is 0 0) hs c),
+  covers-short cs (drop 1 vs) (drop 1 is) (drop (getD is 0 0) hs) (small-drop 1 vs a) (small-drop 1 is b) (small-drop (getD is 0 0) hs c),
+)
+
+grouped-short : (n : ℕ) (ls rs : List ℕ) (cs : List (Optional Cover)) (ps : List ℕ) → Small ls → Small rs → All ShortCover cs → Small ps → length ps ≡ length ls * n → All (ShortPart n) (grouped n ls rs cs ps)
 unfolding grouped
-grouped-short n [] rs ps a b c e = tt
-grouped-short n (l ∷ ls) [] ps a b c e = tt
-grouped-short n (l ∷ ls) (r ∷ rs) ps a b c e =
+grouped-short n [] rs cs ps a b d c e = tt
+grouped-short n (l ∷ ls) [] cs ps a b d c e = tt
+grouped-short n (l ∷ ls) (r ∷ rs) [] ps a b d c e = tt
+grouped-short n (l ∷ ls) (r ∷ rs) (o ∷ cs) ps a b d c e =
     let long : length ps ≡ length ls * n + n = e ∙ suc-mul (length ls) n in (
-      record { life = omega (arith, a 0); left = omega (arith, b 0); removal = refl; holders = refl; priced = length-take-le n ps (omega (arith, long)); prices = small-take n ps c },
-      grouped-short n ls rs (drop n ps) (λ i. a (suc i)) (λ i. b (suc i)) (small-drop n ps c) (length-drop n ps ∙ (let q : length (l ∷ ls) * n ≡ length ls * n + n = suc-mul (length ls) n in omega (arith, long))),
+      record { life = omega (arith, a 0); left = omega (arith, b 0); cover = d .0; priced = length-take-le n ps (omega (arith, long)); prices = small-take n ps c },
+      grouped-short n ls rs cs (drop n ps) (λ i. a (suc i)) (λ i. b (suc i)) (d .1) (small-drop n ps c) (length-drop n ps ∙ (let q : length (l ∷ ls) * n ≡ length ls * n + n = suc-mul (length ls) n in omega (arith, long))),
     )
 
 -- ---- the whole
@@ -168,65 +242,62 @@ module _ (f : Form) (held : Held f) where
   abbrev os : List ℕ
   os = f .openings
 
+  abbrev x : PartLists
+  x = f .parts
+
   abbrev n : ℕ
   n = length (f .openings)
 
   abbrev m : ℕ
-  m = length (f .lives)
-
-  -- a left for each life, and a price for each part and opening
-  abbrev PartsAgree : Type 0
-  PartsAgree = (length (f .lefts) ≡ m) × (length (f .prices) ≡ m * n)
-
-  parts-agree : partsAgree os (f .lives) (f .lefts) (f .prices) ≡ true → PartsAgree
-  parts-agree e =
-      let w = and-eq-true-iff (eqb (length (f .lefts)) m) (eqb (length (f .prices)) (m * n)) .0 e in
-      (eqb-true (length (f .lefts)) m (w .0), eqb-true (length (f .prices)) (m * n) (w .1))
+  m = length (f .parts .lives)
 
   abbrev said : JobText
   said = stated f
 
-  parts-back : PartsAgree → (l : ℕ) → Readback FormFault (Unit {0}) (said .parts) [] (times m (part n) (texts partText (said .parts)) l)
-  unfolding times
-  parts-back agree l =
-      subst (λ (k : ℕ). Readback FormFault (Unit {0}) (said .parts) [] (times k (part n) (texts partText (said .parts)) l)) (grouped-size n (f .lives) (f .lefts) (f .prices) (agree .0))
-      (subst (λ (t : List ℕ). Readback FormFault (Unit {0}) (said .parts) [] (times (length (said .parts)) (part n) t l)) (append-nil (texts partText (said .parts)))
-      (chain-back FormFault (λ _. part n) (λ _ _. 0) partText (ShortPart n) (λ _. part-back n) 0 (said .parts) (grouped-short n (f .lives) (f .lefts) (f .prices) (held .lives) (held .lefts) (held .prices) (agree .1)) [] l))
+  parts-short : PartsAgree n x → All (ShortPart n) (said .parts)
+  parts-short agree =
+      grouped-short n (x .lives) (x .lefts) (coversOf (x .covered) (x .removals) (x .insides) (x .holders)) (x .prices) (held .lives) (held .lefts)
+      (covers-short (x .covered) (x .removals) (x .insides) (x .holders) (held .removals) (held .insides) (held .holders)) (held .prices) (agree .prices)
 
-  body-back : length (f .fees) ≡ n → (l : ℕ) → Readback FormFault ((m ≤ 16) × PartsAgree) said [] (body (f .horizon) (said .idles) (f .walk) n (bodyOf os (f .fees) (f .lives) (f .lefts) (f .prices)) l)
-  unfolding body openings bodyOf
+  parts-back : PartsAgree n x → (l : ℕ) → Readback FormFault (Unit {0}) (said .parts) [] (parts m n (texts partText (said .parts)) l)
+  unfolding parts
+  parts-back agree l =
+      let size = parts-size n x agree in
+      subst (λ (k : ℕ). Readback FormFault (Unit {0}) (said .parts) [] (chain (part m n) following k 1 (texts partText (said .parts)) l)) size (all-back m n 1 (said .parts) (parts-short agree) l)
+
+  body-back : length (f .fees) ≡ n → (l : ℕ) → Readback FormFault ((m ≤ 16) × PartsAgree n x) said [] (body (f .horizon) (said .idles) (f .walk) n (bodyOf os (f .fees) x) l)
+  unfolding body openings bodyOf countedText
   body-back agree l =
-      let c = lineOf "parts=" (countOf 16 (partsAgree os (f .lives) (f .lefts) (f .prices)) m) in
+      let c = lineOf "parts=" (countOf 16 (partsAgree n x) m) in
       let ps = texts partText (said .parts) in
       bind-back (openings (f .horizon) n) _
       (subst (λ (k : ℕ). Readback FormFault (Unit {0}) (said .openings) (c ++ ps) (openings (f .horizon) k (texts openingText (said .openings) ++ (c ++ ps)) l)) (paired-size os (f .fees) agree)
       (chain-back FormFault (opening (f .horizon)) stepOf openingText ShortOpening (λ before o few s j. opening-back (f .horizon) before o few s j) 0 (said .openings) (paired-short 0 os (f .fees) (held .openings) (held .fees)) (c ++ ps) l))
-      (λ _ k. bind-back (row "parts=" 1 16) _ (count-back (bytes "parts=") 1 16 (omega arith) (partsAgree os (f .lives) (f .lefts) (f .prices)) m ps k)
-      (λ few j. bind-back (times m (part n)) _ (parts-back (parts-agree (few .1)) j)
-      (λ _ i. return-back said [] i (few .0, parts-agree (few .1)))))
+      (λ _ k. bind-back (row "parts=" 1 16) _ (count-back (bytes "parts=") 1 16 (omega arith) (partsAgree n x) m ps k)
+      (λ few j. bind-back (parts m n) _ (parts-back (agree-says n x (few .1)) j)
+      (λ _ i. return-back said [] i (few .0, agree-says n x (few .1)))))
 
   -- what the lists must be like once everything is read
   abbrev Fits : Type 0
   Fits = Agree f × Few f
 
-  rest-back : length (f .idles) ≤ 365 → (l : ℕ) → Readback FormFault Fits said [] (rest (f .horizon) (said .idles) (restOf (f .walk) os (f .fees) (f .lives) (f .lefts) (f .prices)) l)
+  rest-back : length (f .idles) ≤ 365 → (l : ℕ) → Readback FormFault Fits said [] (rest (f .horizon) (said .idles) (restOf (f .walk) os (f .fees) x) l)
   unfolding rest restOf
   rest-back few l =
-      let b = bodyOf os (f .fees) (f .lives) (f .lefts) (f .prices) in
+      let b = bodyOf os (f .fees) x in
       let c = lineOf "openings=" (countOf 64 (feesAgree os (f .fees)) n) in
       bind-back (row "walk=" 0 4000000000) _ (value-back (bytes "walk=") 0 4000000000 (f .walk) (omega (arith, held .walk)) (c ++ b) l)
       (λ _ k. bind-back (row "openings=" 0 64) _ (count-back (bytes "openings=") 0 64 (omega arith) (feesAgree os (f .fees)) n b k)
       (λ g j. with-fees g (body-back (eqb-true (length (f .fees)) n (g .1)) j)))
     where
-      with-fees : {x : Parsed JobText} → (n ≤ 64) × (feesAgree os (f .fees) ≡ true) → Readback FormFault ((m ≤ 16) × PartsAgree) said [] x → Readback FormFault Fits said [] x
-      with-fees g (back h j e) =
-          back (record { fees = eqb-true (length (f .fees)) n (g .1); lefts = h .1 .0; prices = h .1 .1 }, record { idles = few; openings = g .0; parts = h .0 }) j e
+      with-fees : {x : Parsed JobText} → (n ≤ 64) × (feesAgree os (f .fees) ≡ true) → Readback FormFault ((m ≤ 16) × PartsAgree n (f .parts)) said [] x → Readback FormFault Fits said [] x
+      with-fees g (back h j e) = back (record { fees = eqb-true (length (f .fees)) n (g .1); parts = h .1 }, record { idles = few; openings = g .0; parts = h .0 }) j e
       with-fees g (broken i j h e) = broken i j h e
 
   pub form-back : Readback FormFault Fits said [] (jobLines (formText f) 1)
   unfolding jobLines formText restOf
   form-back =
-      let r = restOf (f .walk) os (f .fees) (f .lives) (f .lefts) (f .prices) in
+      let r = restOf (f .walk) os (f .fees) x in
       let is = optionalText idleCountText (idleLines (f .idles)) in
       bind-back (row "horizon=" 2 365) _ (value-back (bytes "horizon=") 2 365 (f .horizon) (omega (arith, held .horizon)) (is ++ r) 1)
       (λ _ k. bind-back (idles (f .horizon)) _ (idles-back (f .horizon) k (f .idles) r (held .idles) (walk-next (f .walk) _)) (λ few j. rest-back few j))

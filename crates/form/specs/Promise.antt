@@ -1,31 +1,61 @@
 -- What the writer promises, over the form, the room lent and the answer.
-use Prim.Native.Nat.{ℕ, _*_, _≤_, _<_}
+use Prim.Native.Nat.{ℕ, _≤_, _<_}
 use mathlib.Core.Path.{_≡_}
-use mathlib.Core.List.{List, [], map}
-use mathlib.Core.Logic.{_↔_}
+use mathlib.Core.List.{List, [], _∷_, map}
+use mathlib.Core.Logic.{_↔_, _⊎_}
 use lib.ListN.{length}
-use Rattle.lines.specs.Text.{texts}
+use Rattle.lines.specs.Text.{texts, Optional, missing, present}
 use Rattle.lines.specs.Fault.{nowhere}
 use Rattle.lines.specs.Parser.{accepted, refused, finish, whole}
-use Rattle.model.specs.Model.{Opening, Part}
+use Rattle.model.specs.Model.{Opening}
 use Rattle.model.specs.Limits.{lastStep, mostOpenings, mostParts}
-use Rattle.job_text.specs.Grammar.{JobText, idleIn, jobLines, readJobText}
+use Rattle.job_text.specs.Grammar.{PartText, JobText, idleIn, jobLines, readJobText}
 use Rattle.job_text.specs.Rendering.{jobText}
+use Rattle.covers.specs.Grammar.{Cover}
+use Rattle.form_lists.specs.Facts.{PartLists, PartsAgree}
 use Rattle.answers.specs.Said.{Said, Refuses}
 use Rattle.form.specs.Form.{Form, stated, readForm}
 use Rattle.form.specs.Write.{writeRoom}
 
--- the lists agree in length: a fee for each opening, a left for each life, a price for each part and opening
+-- the lists agree in length: a fee for each opening, and those of the parts as `PartsAgree` says
 pub record Agree (f : Form) : Type 0 where
   pub fees : length (f .fees) ≡ length (f .openings)
-  pub lefts : length (f .lefts) ≡ length (f .lives)
-  pub prices : length (f .prices) ≡ length (f .lives) * length (f .openings)
+  pub parts : PartsAgree (length (f .openings)) (f .parts)
 
 -- no list is longer than a job's limits
 pub record Few (f : Form) : Type 0 where
   pub idles : length (f .idles) ≤ lastStep
   pub openings : length (f .openings) ≤ mostOpenings
-  pub parts : length (f .lives) ≤ mostParts
+  pub parts : length (f .parts .lives) ≤ mostParts
+
+-- the numbers of a part's lines of removal: whether they stand, and what they say
+abbrev pub markOf : Optional Cover → ℕ
+markOf missing = 0
+markOf (present c) = 1
+
+abbrev pub removalsOf : Optional Cover → List ℕ
+removalsOf missing = []
+removalsOf (present c) = c .removal ∷ []
+
+abbrev pub insidesOf : Optional Cover → List ℕ
+insidesOf missing = []
+insidesOf (present c) = length (c .holders) ∷ []
+
+abbrev pub holdersOf : Optional Cover → List ℕ
+holdersOf missing = []
+holdersOf (present c) = c .holders
+
+-- the numbers that parts hold, as lists
+abbrev pub listsOf : List PartText → PartLists
+listsOf ps = record {
+  lives = map (λ (p : PartText). p .life) ps;
+  lefts = map (λ (p : PartText). p .left) ps;
+  covered = map (λ (p : PartText). markOf (p .cover)) ps;
+  removals = texts (λ (p : PartText). removalsOf (p .cover)) ps;
+  insides = texts (λ (p : PartText). insidesOf (p .cover)) ps;
+  holders = texts (λ (p : PartText). holdersOf (p .cover)) ps;
+  prices = texts (λ (p : PartText). p .prices) ps;
+}
 
 -- the numbers that a job text holds, as a form
 abbrev pub formOf : JobText → Form
@@ -35,10 +65,12 @@ formOf t = record {
   walk = t .walk;
   openings = map (λ (o : Opening). o .step) (t .openings);
   fees = map (λ (o : Opening). o .fee) (t .openings);
-  lives = map (λ (p : Part). p .life) (t .parts);
-  lefts = map (λ (p : Part). p .left) (t .parts);
-  prices = texts (λ (p : Part). p .prices) (t .parts);
+  parts = listsOf (t .parts);
 }
+
+-- "3, 4, 5" and E7's 12: the writer's refusals of a line
+abbrev pub FormFault : ℕ → Type 0
+FormFault n = ((3 ≤ n) × (n ≤ 5)) ⊎ (n ≡ 12)
 
 pub record WritePromise (f : Form) (room : ℕ) (s : Said) : Type 0 where
   -- "8 if the output has less than 32,768 bytes"
@@ -47,9 +79,9 @@ pub record WritePromise (f : Form) (room : ℕ) (s : Said) : Type 0 where
   pub says-0 : (s .result ≡ 0) ↔ ((writeRoom ≤ room) × (Agree f × (readJobText (jobText (stated f)) ≡ accepted (stated f))))
   -- the bytes are that job's text: "A written text reads back as the same job"
   pub writes-0 : s .result ≡ 0 → (s .bytes ≡ jobText (stated f)) × (readJobText (s .bytes) ≡ accepted (stated f))
-  -- every refusal: 3, 4 or 5, text 1, its line, and no line at fault, "there is no text of the caller's"
+  -- every refusal: 3, 4, 5 or 12, text 1, its line, and no line at fault, "there is no text of the caller's"
   pub refuses : writeRoom ≤ room → (number line : ℕ) → readForm f ≡ refused number line
-      → Refuses 1 [] number line s × (s .fault ≡ nowhere) × (3 ≤ number) × (number ≤ 5)
+      → Refuses 1 [] number line s × (s .fault ≡ nowhere) × FormFault number
   -- "for the same faults": of lists that agree and are not too long, what is read is the very text of the job that they state
   pub reads : Agree f → Few f → readForm f ≡ finish (whole jobLines (jobText (stated f)) 1)
   -- "an accepted text, read and written, comes out byte for byte"

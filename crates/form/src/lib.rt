@@ -1,19 +1,16 @@
 // The order form: a job text written from lists of numbers.
-pub mod check;
-pub mod counts;
-pub mod lists;
-
-use crate::check::Check;
-use crate::check::check_value;
-use crate::counts::check_idle_count;
-use crate::counts::check_opening_count;
-use crate::counts::check_part_count;
-use crate::lists::Idles;
-use crate::lists::take_openings;
-use crate::lists::take_parts;
-use crate::lists::take_steps;
 use answers::Answer;
 use answers::refuse;
+use form_lists::check::Check;
+use form_lists::check::check_value;
+use form_lists::counts::check_idle_count;
+use form_lists::counts::check_opening_count;
+use form_lists::lists::Idles;
+use form_lists::lists::Openings;
+use form_lists::lists::take_openings;
+use form_lists::lists::take_steps;
+use form_lists::parts::Parts;
+use form_lists::parts::take_counted;
 use job_text::whole::JobText;
 use job_writing::put_job;
 use jobs::Job;
@@ -28,10 +25,12 @@ ghost use Rattle.job_text.specs.Grammar.{body, rest, jobLines};
 ghost use Rattle.job_text.specs.Rendering.{jobText};
 ghost use Rattle.job_text.specs.Views.{idleLines, textOf};
 ghost use Rattle.answers.specs.Said.{lent, plainly, refusal, Replied};
+ghost use Rattle.form_lists.specs.Facts.{partLists};
+ghost use Rattle.form_lists.specs.Checks.{found};
 ghost use Rattle.form.specs.Form.{filled, idleCountText, bodyOf, restOf, formText};
 ghost use Rattle.form.specs.Write.{writeSaid, writeRoom};
 ghost use Rattle.form.specs.Promise.{WritePromise};
-ghost use Rattle.form.specs.Checks.{found, lineAfter, LinesTaken};
+ghost use Rattle.form.specs.Checks.{lineAfter, textWith, LinesTaken};
 ghost use Rattle.model.specs.Limits.{lastStep, mostOpenings};
 
 // The room that a job text must have.
@@ -51,6 +50,7 @@ fn no_lines(k: u32, line: u32) -> Taken
         check: Check::Fault { number: k, line },
         text: JobText {
             walk: 0,
+            covered: [false; 16],
             job: Job::empty(),
         },
     }
@@ -94,6 +94,36 @@ fn line_after(n: usize) -> u32
     3 + (n as u32)
 }
 
+// What a text says with these steps, n openings and m parts.
+fn text_with(
+    horizon: u32,
+    steps: Idles,
+    walk: u32,
+    n: usize,
+    os: Openings,
+    m: usize,
+    ps: Parts,
+) -> JobText
+    ensures { λ r. ⌜ textOf r ≡ textWith horizon walk steps n os m ps ⌝ }
+    ensures { λ r. ⌜ (r .job .«idle_count» ≡ steps .count) × (r .job .«opening_count» ≡ n) × (r .job .«part_count» ≡ m) ⌝ }
+{
+    let idle_count = steps.count;
+    let idles = steps.idles;
+    let openings = os.openings;
+    let parts = ps.parts;
+    let covered = ps.covered;
+    let job = Job {
+        horizon,
+        idle_count,
+        idles,
+        opening_count: n,
+        openings,
+        part_count: m,
+        parts,
+    };
+    JobText { walk, covered, job }
+}
+
 // What follows the number of openings, which have as many fees.
 fn take_body(
     horizon: u32,
@@ -103,12 +133,16 @@ fn take_body(
     fees: &[u32],
     lives: &[u32],
     lefts: &[u32],
+    covered: &[u32],
+    removals: &[u32],
+    insides: &[u32],
+    holders: &[u32],
     prices: &[u32],
     at: u32,
 ) -> Taken
     requires { ⌜ (steps .count ≤ lastStep) × (length (now openings) ≤ mostOpenings) × (length (now fees) ≡ length (now openings)) × (at < 500) ⌝ }
     ensures { λ r. ⌜ LinesTaken (body horizon (idleLines (take (steps .count) (steps .idles))) walk (length (now (openings .entry))))
-        (bodyOf (now (openings .entry)) (now (fees .entry)) (now (lives .entry)) (now (lefts .entry)) (now (prices .entry))) at r ⌝ }
+        (bodyOf (now (openings .entry)) (now (fees .entry)) (partLists (now (lives .entry)) (now (lefts .entry)) (now (covered .entry)) (now (removals .entry)) (now (insides .entry)) (now (holders .entry)) (now (prices .entry)))) at r ⌝ }
 {
     let n = openings.len();
     let os = take_openings(openings, fees, horizon, at);
@@ -116,29 +150,23 @@ fn take_body(
     match os_check {
         Check::Good => {
             let line = at + 2 * (n as u32);
-            let part_count = lives.len();
-            match check_part_count(part_count, lefts.len(), prices.len(), n, line) {
-                Check::Good => {
-                    let ps = take_parts(lives, lefts, prices, n, line + 1);
-                    let check = ps.check;
-                    let idle_count = steps.count;
-                    let idles = steps.idles;
-                    let openings = os.openings;
-                    let parts = ps.parts;
-                    let job = Job {
-                        horizon,
-                        idle_count,
-                        idles,
-                        opening_count: n,
-                        openings,
-                        part_count,
-                        parts,
-                    };
-                    Taken {
-                        check,
-                        text: JobText { walk, job },
-                    }
-                }
+            let ps = take_counted(
+                lives,
+                lefts,
+                covered,
+                removals,
+                insides,
+                holders,
+                prices,
+                n,
+                line,
+            );
+            let ps_check = ps.check;
+            match ps_check {
+                Check::Good => Taken {
+                    check: Check::Good,
+                    text: text_with(horizon, steps, walk, n, os, lives.len(), ps),
+                },
                 Check::Fault { number: k, line: l } => no_lines(k, l),
             }
         }
@@ -155,12 +183,16 @@ fn take_rest(
     fees: &[u32],
     lives: &[u32],
     lefts: &[u32],
+    covered: &[u32],
+    removals: &[u32],
+    insides: &[u32],
+    holders: &[u32],
     prices: &[u32],
     at: u32,
 ) -> Taken
     requires { ⌜ (steps .count ≤ lastStep) × (at < 400) ⌝ }
     ensures { λ r. ⌜ LinesTaken (rest horizon (idleLines (take (steps .count) (steps .idles))))
-        (restOf walk (now (openings .entry)) (now (fees .entry)) (now (lives .entry)) (now (lefts .entry)) (now (prices .entry))) at r ⌝ }
+        (restOf walk (now (openings .entry)) (now (fees .entry)) (partLists (now (lives .entry)) (now (lefts .entry)) (now (covered .entry)) (now (removals .entry)) (now (insides .entry)) (now (holders .entry)) (now (prices .entry)))) at r ⌝ }
 {
     match check_value(walk, 0, Job::MAX_WALK, at) {
         Check::Good => match check_opening_count(openings.len(), fees.len(), at + 1) {
@@ -172,6 +204,10 @@ fn take_rest(
                 fees,
                 lives,
                 lefts,
+                covered,
+                removals,
+                insides,
+                holders,
                 prices,
                 at + 2,
             ),
@@ -190,9 +226,13 @@ fn take_form(
     fees: &[u32],
     lives: &[u32],
     lefts: &[u32],
+    covered: &[u32],
+    removals: &[u32],
+    insides: &[u32],
+    holders: &[u32],
     prices: &[u32],
 ) -> Taken
-    ensures { λ r. ⌜ LinesTaken jobLines (formText (filled horizon (now (idles .entry)) walk (now (openings .entry)) (now (fees .entry)) (now (lives .entry)) (now (lefts .entry)) (now (prices .entry)))) 1 r ⌝ }
+    ensures { λ r. ⌜ LinesTaken jobLines (formText (filled horizon (now (idles .entry)) walk (now (openings .entry)) (now (fees .entry)) (now (lives .entry)) (now (lefts .entry)) (now (covered .entry)) (now (removals .entry)) (now (insides .entry)) (now (holders .entry)) (now (prices .entry)))) 1 r ⌝ }
 {
     match check_value(horizon, Job::MIN_HORIZON, Job::MAX_HORIZON, 1) {
         Check::Good => {
@@ -209,6 +249,10 @@ fn take_form(
                         fees,
                         lives,
                         lefts,
+                        covered,
+                        removals,
+                        insides,
+                        holders,
                         prices,
                         at,
                     )
@@ -249,14 +293,31 @@ pub fn write(
     fees: &[u32],
     lives: &[u32],
     lefts: &[u32],
+    covered: &[u32],
+    removals: &[u32],
+    insides: &[u32],
+    holders: &[u32],
     prices: &[u32],
     out: &mut [u8],
 ) -> Answer
-    ensures { λ r. ⌜ Replied writeRoom (writeSaid (filled horizon (now (idles .entry)) walk (now (openings .entry)) (now (fees .entry)) (now (lives .entry)) (now (lefts .entry)) (now (prices .entry)))) (now (out .entry)) (now (out .exit)) r ⌝ }
-    ensures { λ _. ⌜ WritePromise (filled horizon (now (idles .entry)) walk (now (openings .entry)) (now (fees .entry)) (now (lives .entry)) (now (lefts .entry)) (now (prices .entry))) (length (now (out .entry)))
-        (lent writeRoom (length (now (out .entry))) (writeSaid (filled horizon (now (idles .entry)) walk (now (openings .entry)) (now (fees .entry)) (now (lives .entry)) (now (lefts .entry)) (now (prices .entry))))) ⌝ }
+    ensures { λ r. ⌜ Replied writeRoom (writeSaid (filled horizon (now (idles .entry)) walk (now (openings .entry)) (now (fees .entry)) (now (lives .entry)) (now (lefts .entry)) (now (covered .entry)) (now (removals .entry)) (now (insides .entry)) (now (holders .entry)) (now (prices .entry)))) (now (out .entry)) (now (out .exit)) r ⌝ }
+    ensures { λ _. ⌜ WritePromise (filled horizon (now (idles .entry)) walk (now (openings .entry)) (now (fees .entry)) (now (lives .entry)) (now (lefts .entry)) (now (covered .entry)) (now (removals .entry)) (now (insides .entry)) (now (holders .entry)) (now (prices .entry))) (length (now (out .entry)))
+        (lent writeRoom (length (now (out .entry))) (writeSaid (filled horizon (now (idles .entry)) walk (now (openings .entry)) (now (fees .entry)) (now (lives .entry)) (now (lefts .entry)) (now (covered .entry)) (now (removals .entry)) (now (insides .entry)) (now (holders .entry)) (now (prices .entry))))) ⌝ }
 {
-    let taken = take_form(horizon, idles, walk, openings, fees, lives, lefts, prices);
+    let taken = take_form(
+        horizon,
+        idles,
+        walk,
+        openings,
+        fees,
+        lives,
+        lefts,
+        covered,
+        removals,
+        insides,
+        holders,
+        prices,
+    );
     let check = taken.check;
     match check {
         Check::Fault { number, line } => refuse_line(number, line, out),

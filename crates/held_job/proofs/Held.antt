@@ -1,16 +1,16 @@
 -- The arrays of any accepted job, with its charges added to the prices, hold the job as the search over openings and removals asks.
-use Prim.Native.Nat.{ℕ, _+_, _*_, _≤_, _<_}
+use Prim.Native.Nat.{ℕ, zero, suc, _+_, _*_, _≤_, _<_}
 use mathlib.Core.Path.{_≡_, sym, ap, subst, _∙_}
 use mathlib.Core.Bool.{Bool, true, false, cond}
-use mathlib.Core.List.{List, map}
+use mathlib.Core.List.{List, [], _∷_, map}
 use native.Mathlib.Omega.{arith}
-use lib.ListN.{length, getD, take, drop, length-map, length-drop}
+use lib.ListN.{length, getD, take, drop, length-map, length-drop, List·getD-map}
 use lib.Seq.{getD-take, getD-drop, length-take-le, ext-getD}
 use Rattle.model.specs.Limits.{dearest, mostParts}
 use Rattle.model.specs.Model as model
-use Rattle.model.specs.Model.{table, holding, comesOut, removalOf}
+use Rattle.model.specs.Model.{select, table, holding, comesOut, removalOf}
 use Rattle.model.specs.Decisions.{ofHolders, charge, heldAt}
-use Rattle.model.specs.Verdict.{partAt}
+use Rattle.model.specs.Verdict.{partAt, noPart}
 use Rattle.model.proofs.Closure.{out-length}
 use Rattle.model.proofs.Totals.{select-length}
 use Rattle.jobs.specs.Views.{jobOf, Sized}
@@ -19,12 +19,14 @@ use Rattle.jobs.specs.declared.Job.{Job}
 use Rattle.jobs.proofs.Jobs.{Whole, part-count}
 use Rattle.clock.proofs.Places.{places-are}
 use Rattle.coming_out.proofs.Rows.{row-take}
-use Rattle.held_bound.specs.Arrays.{needStride, pricesAt, needsAt, Lane, Arrays, Holds}
+use Rattle.held_places.specs.Arrays.{needStride, pricesAt, needsAt, Lane, Holds}
+use Rattle.held_tables.specs.Sheet.{HeldArrays}
 use Rattle.job_numbers.specs.Laid.{Numbered, pricesWith, Laid}
 use Rattle.held_job.specs.Removed.{TermsOf}
 use Rattle.job_numbers.specs.declared.Numbers.{Numbers}
 use Rattle.held_job.specs.declared.terms.Terms.{Terms}
-use Rattle.job_numbers.proofs.Counts.{removal-range, Counted, counted, life-at, left-at, near, late, fair, brief, begun, prices-range, prices-at}
+use Rattle.job_numbers.proofs.Counts.{removal-range, Counted, counted, life-at, left-at, prices-at}
+use Rattle.held_job.proofs.Arrays.{plain-arrays}
 
 -- what is added to a price is nothing, or a removal
 charge-range : (job : model.Job) → ValidJob job → (q : ℕ) → charge job q (partAt job q) ≤ dearest
@@ -33,6 +35,18 @@ charge-range job valid q = go (getD (holding job) q false)
     go : (b : Bool) → cond b 0 (partAt job q .removal) ≤ dearest
     go true = omega arith
     go false = removal-range (length (job .openings)) (job .parts) (valid .parts) q
+
+-- no number of a selection is above all numbers
+select-most : (xs : List ℕ) (ms : List Bool) (b : ℕ) → ((j : ℕ) → getD xs j 0 ≤ b) → (i : ℕ) → getD (select xs ms) i 0 ≤ b
+unfolding select
+select-most [] ms b f i = f i
+select-most (x ∷ xs) [] b f i = omega arith
+select-most (x ∷ xs) (false ∷ ms) b f i = select-most xs ms b (λ j. f (suc j)) i
+select-most (x ∷ xs) (true ∷ ms) b f zero = f 0
+select-most (x ∷ xs) (true ∷ ms) b f (suc i) = select-most xs ms b (λ j. f (suc j)) i
+
+removals-range : (job : model.Job) → ValidJob job → (q : ℕ) → getD (map removalOf (job .parts)) q 0 ≤ dearest
+removals-range job valid q = rw (List·getD-map removalOf (job .parts) q noPart) (removal-range (length (job .openings)) (job .parts) (valid .parts) q)
 
 module _ (job : model.Job) (t : Terms) (terms : TermsOf job t) where
   -- of a list with an entry for each part, as many entries as there are parts that are somebody's holder
@@ -73,24 +87,13 @@ module _ (j : Job) (sized : Sized j) (whole : Whole j) (valid : ValidJob (jobOf 
   long : Counted n m r
   long = counted j sized whole r numbered
 
-  pub arrays : Arrays (r .placed .end) (take n (r .placed .at)) (take n (r .fees)) (take m (r .lives)) (take m (r .lefts)) ps (t .needs) decided
+  pub arrays : HeldArrays (r .placed .end) (take n (r .placed .at)) (take n (r .fees)) (take m (r .lives)) (take m (r .lefts)) ps (t .needs) decided
   arrays =
       record {
-        lanes = record {
-          timed = record { few = omega (arith, long .places, sized .openings); near = near j sized whole r numbered; late = late j sized whole r numbered };
-          lives = record {
-            lefts = long .lefts ∙ sym (long .lives);
-            brief = brief j sized whole r numbered valid;
-            begun = begun j sized whole r numbered valid;
-          };
-          parts = omega (arith, long .lives, sized .parts);
-          prices = laid .size;
-          cheap = prices-range j sized whole valid (t .charges) dearest (λ q h. charges-range (jobOf j) t terms valid q (omega (arith, h, sized .parts))) ps laid;
-          needs = terms .needs .size;
-          holding = omega (arith, removals-long (jobOf j) t terms, terms .few);
-        };
-        paid = long .fees ∙ sym (long .places);
-        fair = λ i. omega (arith, fair j sized whole r numbered valid i);
+        plain = plain-arrays j sized whole valid r numbered (t .charges) (λ q h. charges-range (jobOf j) t terms valid q (omega (arith, h, sized .parts))) ps laid;
+        needs = terms .needs .size;
+        holding = omega (arith, removals-long (jobOf j) t terms, terms .few);
+        removals = λ b. omega (arith, ap (λ (l : List ℕ). getD l b 0) (removals-are (jobOf j) t terms), select-most (map removalOf (jobOf j .parts)) (holding (jobOf j)) dearest (removals-range (jobOf j) valid) b);
       }
 
   -- the part as it is planned for

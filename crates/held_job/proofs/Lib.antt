@@ -1,2 +1,3 @@
--- The arrays as what the search asks for.
+-- The arrays as what the searches ask for.
+pub mod Arrays
 pub mod Held

@@ -14,11 +14,11 @@ use Rattle.lane_rows.proofs.Lanes.{coded-larger}
 use Rattle.lane_rows.proofs.Terms.{last-most}
 use Rattle.held_rows.specs.Held.{HeldSheet, needsOf, seen, heldSums, heldTerm, held, largestTo, classFee, lastFor, Classed}
 use Rattle.held_rows.proofs.Seen.{seen-length}
-use Rattle.held_rows.proofs.Terms.{term-here, term-no, term-yes, term-left}
+use Rattle.held_rows.proofs.Terms.{term-no, term-yes, term-left}
 use Rattle.held_lanes.specs.Places.{mostTo, levelPlace, needCountPlace, needClassPlace, topPlace}
 use Rattle.held_lanes.specs.Tables.{needing, HeldTables, Lasts, termOf}
 
-coded-to : (b k : ℕ) (f : ℕ → ℕ) (F : ℕ → Bound) → b ≤ laneLimit → ((c : ℕ) → c < k → Coded b (f c) (F c)) → Coded b (mostTo f k) (largestTo F k)
+pub coded-to : (b k : ℕ) (f : ℕ → ℕ) (F : ℕ → Bound) → b ≤ laneLimit → ((c : ℕ) → c < k → Coded b (f c) (F c)) → Coded b (mostTo f k) (largestTo F k)
 unfolding mostTo largestTo
 coded-to b zero f F h g = (refl, omega arith)
 coded-to b (suc k) f F h g = coded-larger b (mostTo f k) (f k) (largestTo F k) (F k) h (coded-to b k f F h (λ c l. g c (omega arith))) (g k (omega arith))
@@ -53,9 +53,6 @@ module _ (sheet : HeldSheet) (fit : Classed sheet) (u v : List ℕ) (he : HeldTa
   -- ---- the node's terms, where its lanes can be kept
 
   module _ (x : ℕ) (sums : heldSums sheet bs ≡ Sum x) where
-    pub here-coded : count ≤ length (sheet .positions) → Coded (most count) (mostTo (termOf u v count r) (length (sheet .needs))) (heldTerm sheet bs)
-    here-coded h = subst (Coded (most count) (mostTo (termOf u v count r) (length (sheet .needs)))) (sym (term-here sheet fit bs x sums h)) (all-terms count (omega arith) h)
-
     module _ (h : count < length (sheet .positions)) where
       pub no-coded : Coded (most (count + 1)) (mostTo (termOf u v (count + 1) r) (length (sheet .needs))) (heldTerm sheet (bs ++ ((false ∷ []) ∷ [])))
       no-coded = subst (Coded (most (count + 1)) (mostTo (termOf u v (count + 1) r) (length (sheet .needs)))) (sym (term-no sheet fit bs x sums h)) (all-terms (count + 1) (omega arith) (omega arith))

@@ -1,6 +1,5 @@
 -- Laws of the rows where parts hide behind others.
 pub mod Seen
-pub mod Solid
 pub mod Sums
 pub mod Terms
 pub mod Sheets

@@ -186,18 +186,6 @@ module _ (sheet : HeldSheet) (fit : Classed sheet) (bs : List (List Bool)) where
         let e = each-there (laneBound sheet bs) (sheet .lanes) x sums i y in
         subst Part (sym (getD-take (sheet .parts) (sheet .lanes) i noLane z)) (record { climbs = fit .climbs i y; price = e .0; there = e .1 })
 
-    -- at the node itself
-    pub term-here : count ≤ length (sheet .positions) → heldTerm sheet bs ≡ largestTo (λ (c : ℕ). classFee sheet count (lastFor sheet bs c) c) (length (sheet .needs))
-    term-here h =
-        largest-each (laneFee sheet bs) (λ (lane : HeldColumn) (p : List Bool). lanes-fee count (lastFor sheet bs (lane .class)) lane) (partLanes sheet) one ∙ classes-fee count (lastFor sheet bs)
-      where
-        one : (i : ℕ) → i < length (partLanes sheet) → let lane = getD (partLanes sheet) i noLane in laneFee sheet bs lane [] ≡ lanes-fee count (lastFor sheet bs (lane .class)) lane
-        one i l =
-            let lane = getD (partLanes sheet) i noLane in
-            let s = seen-length (needsOf sheet (lane .class)) bs in
-            let k = part i l in
-            fee-here (plain sheet) (lane .column) (k .climbs) (seenBy sheet bs lane) (k .price) (k .there) (omega (arith, s)) ∙ ap (λ (j : ℕ). lanes-fee j (lastFor sheet bs (lane .class)) lane) s
-
     module _ (few : count < length (sheet .positions)) where
       -- a lane's term where the next opening is shut to it, and where it is allowed
       shut-fee : (i : ℕ) → i < length (partLanes sheet) → let lane = getD (partLanes sheet) i noLane in columnFee (plain sheet) (lane .column) (snoc (seenBy sheet bs lane) false) ≡ lanes-fee (count + 1) (lastFor sheet bs (lane .class)) lane

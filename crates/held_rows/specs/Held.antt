@@ -8,15 +8,16 @@ use lib.ListN.{length, getD, take}
 use lib.Dec.{eqb}
 use lib.IntN.{ℤ, pos}
 use Rattle.branch.specs.declared.Bound.{Bound}
-use Rattle.branch.specs.declared.Bound.the-variants.{Missing, Sum}
+use Rattle.branch.specs.declared.Bound.the-variants.{Sum}
 use Rattle.branch.specs.Lower.{add, total, larger, largest}
 use Rattle.model.specs.Model.{Job, positions, end, lastChange, sumAt, feeOf, removalOf}
 use Rattle.model.specs.Decisions.{allows, Held, heldAt, ofHolders}
 use Rattle.model.specs.LowerBound.{blocks, stopsIn, removedIn}
 use Rattle.model.specs.LastYes.{lastYes, Climbs}
 use Rattle.model.specs.Verdict.{noPart}
-use Rattle.lane_rows.specs.Sheet.{Column, Sheet, columnBound, columnFee, Mark, noColumn}
+use Rattle.lane_rows.specs.Sheet.{Column, Sheet, columnBound, columnFee, noColumn}
 use Rattle.lane_rows.specs.Tables.{Alike, feeFrom}
+pub use Rattle.lane_rows.specs.Sheet.{solid}
 
 -- one lane: its column, and its class. The lanes of a class need the same holding parts
 pub record HeldColumn : Type 0 where
@@ -112,18 +113,6 @@ classFee sheet j i c = largest (λ (lane : HeldColumn) (p : List Bool). cond (eq
 -- the last opening that is allowed to a class, numbered from 1; 0 if there is none
 abbrev pub lastFor : HeldSheet → List (List Bool) → ℕ → ℕ
 lastFor sheet bs c = lastYes (seen (needsOf sheet c) bs)
-
--- ---- fronts. A stop has one row for all lanes; where it is shut to a lane, the lane's mark there costs Missing, and a mark that costs Missing adds nothing
-
--- a mark in front of others, if it costs something
-abbrev pub solidThen : ℤ → Bound → List Mark → List Mark
-solidThen at Missing fr = fr
-solidThen at (Sum c) fr = record { at = at; cost = Sum c } ∷ fr
-
--- the marks that cost something
-unfoldable pub solid : List Mark → List Mark
-solid [] = []
-solid (f ∷ fr) = solidThen (f .at) (f .cost) (solid fr)
 
 -- ---- the sheet of a job
 

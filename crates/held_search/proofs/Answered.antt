@@ -11,11 +11,11 @@ use lib.IntN.{ℤ, pos, _-ℤ_}
 use Rattle.branch.specs.declared.Bound.{Bound}
 use Rattle.branch.specs.declared.Bound.the-variants.{Missing, Sum}
 use Rattle.branch.specs.Search.{Incumbent, none, plan, Limited, atMost, costAt}
-use Rattle.branch.specs.Questions.{askFrom}
+use Rattle.branch.specs.Questions.{askFrom, leftAt}
 use Rattle.branch.proofs.Among.{limited-best}
 use Rattle.model.specs.Model.{Job}
 use Rattle.model.specs.Decisions.{Held, heldParts}
-use Rattle.model.specs.LowerBound.{offers, choiceOf, blocks, stopsAt, partChoice, boundOf, planAt}
+use Rattle.model.specs.LowerBound.{offers, choiceOf, blocks, stopsAt, inner, partChoice, boundOf, planAt}
 use Rattle.model.specs.Promise.{cut, optimum, answered, answeredAt, answerOf, searched}
 use Rattle.model.proofs.Bools.{there}
 use Rattle.model.proofs.Offers.{offers-length}
@@ -27,15 +27,15 @@ use Rattle.jobs.specs.declared.Changes.{Changes}
 use Rattle.search.specs.declared.Found.{Found}
 use Rattle.search.specs.Found.{stopsIn, rowIn, changesIn, planFound, saidBy, saidAt, saidIn}
 use Rattle.search.proofs.Answered.{choice-size}
-use Rattle.held_bound.specs.Blocks.{Entries}
-use Rattle.held_bound.specs.Arrays.{pricesAt, Arrays, Holds}
-use Rattle.held_bound.specs.Sums.{placesOf, laneChoice}
-use Rattle.held_bound.proofs.Totals.{opened, holding, nodes-are, held-size, choice-is}
-use Rattle.held_walk.specs.declared.Search.{Search}
-use Rattle.held_walk.specs.declared.Node.{Node}
-use Rattle.held_walk.specs.State.{view, treeAt}
-use Rattle.held_search.specs.declared.Solved.{Solved}
-use Rattle.held_search.specs.Solved.{Solves, noRow, Chooses}
+use Rattle.held_places.specs.Blocks.{Entries}
+use Rattle.held_places.specs.Arrays.{pricesAt, Lanes, Holds}
+use Rattle.held_places.specs.Changes.{placesOf, laneChoice}
+use Rattle.held_places.proofs.Held.{opened, holding, nodes-are, held-size, choice-is}
+use Rattle.held_rows.specs.Held.{HeldSheet, held, heldBound, SheetOf}
+use Rattle.held_rows.proofs.Sheets.{held-bound}
+use Rattle.walk.specs.declared.Solved.{Solved}
+use Rattle.stop_walk.specs.State as stop
+use Rattle.held_search.specs.Solved.{limitedBy, Solves, noRow, Chooses}
 
 -- ---- the rows of changes, part by part
 
@@ -55,26 +55,23 @@ module _ (e : ℤ) (ss : List ℤ) (ls rs ps : List ℕ) (nd : List Bool) (h : �
             (ap (λ (x : Changes). x .at) (getD-set-same rows q (record { at = v }) noRow (omega (arith, c .size))) ∙ f);
       }
 
--- ---- the first node
+-- ---- the walk over the sheet is the search of the job
 
--- what is asked there is the job's tree
-pub root-tree : (job : Job) (h n : ℕ) → h ≡ Rattle.model.specs.LowerBound.inner job → n ≡ length (job .openings) → treeAt (boundOf job) h (record { size = 0; openings = n; removals = 0 }) [] ≡ searched job
+pub solves-job : (job : Job) (sheet : HeldSheet) (limit : ℕ) (v : List ℕ) (r : Solved) → SheetOf job sheet → held sheet ≡ inner job → length (sheet .positions) ≡ length (job .openings) → stop.Solves sheet limit v r
+    → Solves job limit (stop.bestName (held sheet) (length (sheet .positions)) v (r .mask)) r
 unfolding askFrom
-root-tree job h n e f = ap₂ (λ (i k : ℕ). treeAt (boundOf job) i (record { size = 0; openings = k; removals = 0 }) []) e f
+solves-job job sheet limit v r so h n s =
+    let bound : heldBound sheet ≡ boundOf job = λ i p. held-bound job sheet so p i in
+    record { floor = s .floor ∙ held-bound job sheet so []; walked = s .walked ∙ (λ i. atMost limit (leftAt (bound i) (h i) 0 (n i) [])) }
 
 -- ---- what the code holds, as it is handed back
 
 abbrev pub handed : Solved → List Bool → List Changes → Found
-handed s stops rows =
-    let st = s .state in
-    record { count = st .count; over = st .over; found = st .found; cost = st .cost; floor = s .floor; stops = stops; changes = rows }
+handed s stops rows = record { count = s .count; over = s .over; found = s .found; cost = s .cost; floor = s .floor; stops = stops; changes = rows }
 
-module _ (job : Job) (e : ℤ) (ss : List ℤ) (fs ls rs ps : List ℕ) (nd : List Bool) (rm : List ℕ) (ar : Arrays e ss fs ls rs ps nd rm) (ho : Holds job e ss fs ls rs ps nd rm) (limit : ℕ) (best : List Bool) (s : Solved)
-    (so : Solves job limit best s) (stops : List Bool) (st : Entries false (λ (k : ℕ). getD (getD (blocks (length rm) (length ss) (take (s .state .size) best)) k (false ∷ [])) 0 true) (length ss) stops)
-    (rows : List Changes) (ch : Chooses e ss ls rs ps nd (length rm) (take (s .state .size) best) rows (length ls)) where
-  abbrev name : List Bool
-  name = take (s .state .size) best
-
+module _ (job : Job) (e : ℤ) (ss : List ℤ) (fs ls rs ps : List ℕ) (nd : List Bool) (rm : List ℕ) (ar : Lanes e ss ls rs ps nd (length rm)) (ho : Holds job e ss fs ls rs ps nd rm) (limit : ℕ) (name : List Bool) (s : Solved)
+    (so : Solves job limit name s) (stops : List Bool) (st : Entries false (λ (k : ℕ). getD (getD (blocks (length rm) (length ss) name) k (false ∷ [])) 0 true) (length ss) stops)
+    (rows : List Changes) (ch : Chooses e ss ls rs ps nd (length rm) name rows (length ls)) where
   abbrev r : Found
   r = handed s stops rows
 
@@ -85,7 +82,7 @@ module _ (job : Job) (e : ℤ) (ss : List ℤ) (fs ls rs ps : List ℕ) (nd : Li
   m = length (job .parts)
 
   -- an incumbent is a full node
-  full-length : (c : ℕ) → view best (s .state) .incumbent ≡ plan c name → length (stopsAt job name) ≡ n
+  full-length : (c : ℕ) → limitedBy name s .incumbent ≡ plan c name → length (stopsAt job name) ≡ n
   full-length c f =
       stops-length job name (node-full job name c (limited-best (searched job) limit .costs c name (sym (ap (λ (l : Limited). l .incumbent) (so .walked)) ∙ f)))
 
@@ -96,7 +93,7 @@ module _ (job : Job) (e : ℤ) (ss : List ℤ) (fs ls rs ps : List ℕ) (nd : Li
       size = opened job e ss fs ls rs ps nd rm ho
 
       long : length (take n stops) ≡ n
-      long = length-take-le n stops (omega (arith, st .size, size, ar .lanes .timed .few))
+      long = length-take-le n stops (omega (arith, st .size, size, ar .timed .few))
 
       at : (k : ℕ) → k < length (take n stops) → getD (take n stops) k false ≡ getD (stopsAt job name) k false
       at k l =
@@ -122,7 +119,7 @@ module _ (job : Job) (e : ℤ) (ss : List ℤ) (fs ls rs ps : List ℕ) (nd : Li
       choose held = partChoice job held name
 
       long : length (map (rowIn n) (take m rows)) ≡ m
-      long = length-map (take m rows) (rowIn n) ∙ length-take-le m rows (omega (arith, ch .size, ho .parts, ar .lanes .parts))
+      long = length-map (take m rows) (rowIn n) ∙ length-take-le m rows (omega (arith, ch .size, ho .parts, ar .parts))
 
       at : (q : ℕ) → q < length (map (rowIn n) (take m rows)) → getD (map (rowIn n) (take m rows)) q (rowIn n noRow) ≡ getD (map choose (heldParts job)) q (rowIn n noRow)
       at q l =
@@ -134,16 +131,16 @@ module _ (job : Job) (e : ℤ) (ss : List ℤ) (fs ls rs ps : List ℕ) (nd : Li
           ∙ sym (List·getD-map choose (heldParts job) q own)
           ∙ there (map choose (heldParts job)) q (choose own) (rowIn n noRow) (omega (arith, long, length-map (heldParts job) choose, held-size job e ss fs ls rs ps nd rm ho, ho .parts))
 
-  plan-is : (c : ℕ) → view best (s .state) .incumbent ≡ plan c name → planFound n m r ≡ planAt job name
+  plan-is : (c : ℕ) → limitedBy name s .incumbent ≡ plan c name → planFound n m r ≡ planAt job name
   plan-is c f = λ i. record { stops = stops-are (full-length c f) i; changes = changes-are i }
 
-  by : (floor : ℕ) (o t : Bool) → s .state .found ≡ t → saidBy n m floor r o t ≡ answered job floor (r .count) o (cond t (plan (r .cost) name) none)
+  by : (floor : ℕ) (o t : Bool) → s .found ≡ t → saidBy n m floor r o t ≡ answered job floor (r .count) o (cond t (plan (r .cost) name) none)
   by floor true false f = refl
   by floor true true f = ap (cut (r .count) floor (r .cost)) (plan-is (r .cost) (ap (λ (b : Bool). cond b (plan (r .cost) name) none) f))
   by floor false false f = refl
   by floor false true f = ap (optimum (r .count) floor (r .cost)) (plan-is (r .cost) (ap (λ (b : Bool). cond b (plan (r .cost) name) none) f))
 
-  at-floor : (b : Bound) → saidAt n m r b ≡ answeredAt job b (view best (s .state))
+  at-floor : (b : Bound) → saidAt n m r b ≡ answeredAt job b (limitedBy name s)
   at-floor Missing = refl
   at-floor (Sum floor) = by floor (r .over) (r .found) refl
 

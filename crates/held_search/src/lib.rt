@@ -1,4 +1,6 @@
-// The planner's search of a job with holders: the counted walk over the names of its nodes, and the plan of its incumbent.
+// The planner's search of a job with holders: its tables, the counted walk over them, and the plan of its incumbent.
+pub mod name;
+
 ghost use mathlib.Core.Path.{_≡_};
 ghost use mathlib.Core.Bool.{false};
 ghost use mathlib.Core.List.{_++_};
@@ -8,31 +10,32 @@ ghost use Rattle.model.specs.Model.{Job};
 ghost use Rattle.model.specs.Promise.{answerOf};
 ghost use Rattle.least.specs.Suffix.{tableSize};
 ghost use Rattle.search.specs.Found.{saidIn};
-ghost use Rattle.held_bound.specs.Arrays.{pricesAt, Lanes, Arrays, Ready, Holds};
-ghost use Rattle.held_bound.specs.Sums.{placesOf, laneChoice};
+ghost use Rattle.held_places.specs.Arrays.{pricesAt, Lanes, Holds};
+ghost use Rattle.held_places.specs.Changes.{placesOf, laneChoice};
+ghost use Rattle.held_tables.specs.Sheet.{HeldArrays, HeldReady};
+ghost use Rattle.stop_walk.specs.State.{bestName};
 ghost use Rattle.held_search.specs.Solved.{Solves, Chooses};
-use branch::Bound;
-use held_bound::STRIDE;
-use held_bound::bound_at;
-use held_bound::part_choice;
-use held_bound::part_places;
-use held_bound::stops;
-use held_walk::NAMES;
-use held_walk::Node;
-use held_walk::Search;
-use held_walk::walk;
+use held_lanes::ASIDE;
+use held_lanes::HELD;
+use held_places::STRIDE;
+use held_places::part_choice;
+use held_places::part_places;
+use held_places::stops;
+use held_tables::classes::classes_of;
+use held_tables::fill_held;
 use jobs::Changes;
+use lane_rows::STACK;
+use lane_rows::TABLES;
 use least::TABLE;
+use name::NAMES;
+use name::name_of;
 use search::Found;
+use search::tables::fill;
+use stop_walk::solve;
+use walk::Solved;
 
-// What the walk gives: the first node's bound and the last state.
-struct Solved {
-    floor: Bound,
-    state: Search,
-}
-
-// The walk from the node with nothing decided; the incumbent's name stands at the start of `best`.
-fn solve(
+// The floor and the walk's last state. The tables stand on the stack of this call; the incumbent's removals are in v from BEST on.
+fn walked(
     end: i32,
     positions: &[i32],
     fees: &[u32],
@@ -42,15 +45,19 @@ fn solve(
     needs: &[bool],
     removals: &[u32],
     limit: u64,
-    best: &mut [bool],
     tab: &mut [u64],
+    v: &mut [u32; ASIDE],
 ) -> Solved
-    requires { ⌜ (Ready end (now positions) (now fees) (now lives) (now lefts) (now prices) (now needs) (now removals) (now tab)) × (length (now best) ≡ 1088) × (limit < 2 ^ 63) ⌝ }
-    ensures { λ r. ⌜ ((job : Job) → Holds job end (now (positions .entry)) (now (fees .entry)) (now (lives .entry)) (now (lefts .entry)) (now (prices .entry)) (now (needs .entry)) (now (removals .entry)) → Solves job limit (now (best .exit)) r) ⌝ }
-    ensures sized { λ r. ⌜ r .state .size ≤ 1088 ⌝ }
+    requires { ⌜ (HeldReady end (now positions) (now fees) (now lives) (now lefts) (now prices) (now needs) (now removals) (now tab)) × (limit < 2 ^ 63) ⌝ }
+    ensures { λ r. ⌜ ((job : Job) → Holds job end (now (positions .entry)) (now (fees .entry)) (now (lives .entry)) (now (lefts .entry)) (now (prices .entry)) (now (needs .entry)) (now (removals .entry))
+        → Solves job limit (bestName (length (now (removals .entry))) (length (now (positions .entry))) (now (v .exit)) (r .mask)) r) ⌝ }
 {
-    let mut name = [false; NAMES];
-    let floor = bound_at(
+    let classes = classes_of(needs, removals.len(), lives.len());
+    let mut t = [0; TABLES];
+    let mut u = [0; HELD];
+    let mut w = [0; STACK];
+    fill(end, positions, fees, lives, lefts, prices, tab, &mut t);
+    fill_held(
         end,
         positions,
         fees,
@@ -59,38 +66,11 @@ fn solve(
         prices,
         needs,
         removals,
-        &name[..0],
+        classes,
         tab,
+        &mut u,
     );
-    let root = Node {
-        size: 0,
-        openings: positions.len(),
-        removals: 0,
-    };
-    let begun = Search {
-        count: 0,
-        over: false,
-        found: false,
-        cost: 0,
-        size: 0,
-    };
-    let state = walk(
-        end,
-        positions,
-        fees,
-        lives,
-        lefts,
-        prices,
-        needs,
-        removals,
-        limit,
-        root,
-        begun,
-        &mut name,
-        best,
-        tab,
-    );
-    Solved { floor, state }
+    solve(&t, &u, &mut w, v, limit)
 }
 
 // Part q's changes at the node of this name.
@@ -162,13 +142,14 @@ pub fn search_held(
     removals: &[u32],
     limit: u64,
 ) -> Found
-    requires { ⌜ (Arrays end (now positions) (now fees) (now lives) (now lefts) (now prices) (now needs) (now removals)) × (limit < 2 ^ 63) ⌝ }
+    requires { ⌜ (HeldArrays end (now positions) (now fees) (now lives) (now lefts) (now prices) (now needs) (now removals)) × (limit < 2 ^ 63) ⌝ }
     ensures { λ r. ⌜ ((job : Job) → Holds job end (now (positions .entry)) (now (fees .entry)) (now (lives .entry)) (now (lefts .entry)) (now (prices .entry)) (now (needs .entry)) (now (removals .entry))
         → saidIn (length (job .openings)) (length (job .parts)) r ≡ answerOf job limit) ⌝ }
 {
-    let mut best = [false; NAMES];
     let mut tab = [0; TABLE];
-    let solved = solve(
+    let mut v = [0; ASIDE];
+    let mut name = [false; NAMES];
+    let solved = walked(
         end,
         positions,
         fees,
@@ -178,15 +159,14 @@ pub fn search_held(
         needs,
         removals,
         limit,
-        &mut best,
         &mut tab,
+        &mut v,
     );
     let floor = solved.floor;
-    let state = solved.state;
-    let size = state.size;
     let n = positions.len();
     let h = removals.len();
-    let at = stops(&best[..size], n, h);
+    let size = name_of(solved.mask, &v, n, h, &mut name);
+    let at = stops(&name[..size], n, h);
     let rows = changes(
         end,
         positions,
@@ -195,14 +175,14 @@ pub fn search_held(
         prices,
         needs,
         h,
-        &best[..size],
+        &name[..size],
         &mut tab,
     );
     Found {
-        count: state.count,
-        over: state.over,
-        found: state.found,
-        cost: state.cost,
+        count: solved.count,
+        over: solved.over,
+        found: solved.found,
+        cost: solved.cost,
         floor,
         stops: at,
         changes: rows,

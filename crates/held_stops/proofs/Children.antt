@@ -1,6 +1,6 @@
--- The bounds of the nodes below a node, by the numbers that the code finds: no and yes below an opening, not removed and removed below a stop. The term tells whether a bound is missing.
+-- The bounds of the first node below a node, by the numbers that the code finds: no below an opening, not removed below a stop. The term tells whether a bound is missing.
 use Prim.Native.Nat.{ℕ, _+_, _-_, _*_, _<_, _≤_, max}
-use mathlib.Core.Path.{_≡_, refl, sym, ap, ap₂, subst, _∙_}
+use mathlib.Core.Path.{_≡_, refl, sym, ap, ap₂, _∙_}
 use mathlib.Core.Bool.{Bool, true, false, cond, not}
 use mathlib.Core.List.{List, [], _∷_, _++_}
 use native.Mathlib.Omega.{arith}
@@ -16,13 +16,11 @@ use Rattle.lane_rows.specs.Rows.{lane, sumLanes}
 use Rattle.lane_rows.proofs.Lanes.{sum-same}
 use Rattle.held_rows.specs.Held.{HeldSheet, plain, noLane, needsOf, held, seenBy, paidIn, heldSums, heldTerm, Classed}
 use Rattle.held_rows.specs.Rows.{SeenRows}
-use Rattle.held_rows.proofs.Sums.{sums-yes, sums-removed, term-removed}
 use Rattle.held_rows.proofs.Numbers.{wide, no-sums, stop-sums}
-use Rattle.held_lanes.specs.Places.{mostTo, topPlace, needCountPlace, needClassPlace}
+use Rattle.held_lanes.specs.Places.{mostTo, needCountPlace, needClassPlace}
 use Rattle.held_lanes.specs.Tables.{HeldTables, Lasts, termOf}
-use Rattle.held_lanes.proofs.Coded.{no-coded, yes-coded, left-coded}
-use Rattle.held_stops.specs.Stops.{stopLane}
-use Rattle.held_stops.proofs.Settled.{ShutSet}
+use Rattle.held_lanes.proofs.Coded.{no-coded, left-coded}
+use Rattle.held_stops.specs.Stops.{ShutSet, stopLane}
 
 -- the bound where these blocks are decided
 abbrev pub boundIn : HeldSheet → List (List Bool) → Bound
@@ -84,9 +82,6 @@ module _ (sheet : HeldSheet) (fit : Classed sheet) (t u v w : List ℕ) (ta : Ta
   pub no-told : Told sheet (bs ++ ((false ∷ []) ∷ [])) noTerm noSum
   no-told = told sheet (bs ++ ((false ∷ []) ∷ [])) most noTerm noSum small (no-coded sheet fit u v he (ta .few) bs r ls x sums few) (no-sums sheet fit t w ta bs n ro few)
 
-  pub yes-told : Told sheet (bs ++ ((true ∷ []) ∷ [])) (getD u (topPlace (at + 1)) 0) x
-  yes-told = told sheet (bs ++ ((true ∷ []) ∷ [])) most (getD u (topPlace (at + 1)) 0) x small (yes-coded sheet fit u v he (ta .few) bs r ls x sums few) (λ k e. sums-yes sheet bs ∙ sums)
-
   -- ---- below a stop
 
   module _ (rs : List Bool) (g : ℕ) (next : length rs < held sheet) (coded : Coded most g (heldTerm sheet (bs ++ ((true ∷ rs) ∷ [])))) where
@@ -109,7 +104,3 @@ module _ (sheet : HeldSheet) (fit : Classed sheet) (t u v w : List ℕ) (ta : Ta
         told sheet (bs ++ ((true ∷ snoc rs false) ∷ [])) most leftTerm (sumLanes (lanesIn t) (stopLane t w (at + 1) n set)) small (left-coded sheet fit u v he (ta .few) bs r ls x sums few rs g next coded)
         (λ k e. stop-sums sheet fit t w ta bs n ro few (snoc rs false) k e
         ∙ ap Sum (sum-same (lanesIn t) (λ (q : ℕ). cond (covered (needsOf sheet (getD (sheet .lanes) q noLane .class)) (snoc rs false)) (lane t w suffixBase at q n) (lane t w suffixBase (at + 1) q n)) (stopLane t w (at + 1) n set) (picked set b)))
-
-    pub removed-told : (y : ℕ) → heldSums sheet (bs ++ ((true ∷ rs) ∷ [])) ≡ Sum y → Told sheet (bs ++ ((true ∷ snoc rs true) ∷ [])) g y
-    removed-told y e =
-        told sheet (bs ++ ((true ∷ snoc rs true) ∷ [])) most g y small (subst (Coded most g) (sym (term-removed sheet bs rs)) coded) (λ k f. sums-removed sheet bs rs ∙ e)

@@ -19,6 +19,7 @@ use Rattle.held_rows.proofs.Seen.{seen-stop, seen-length}
 use Rattle.held_rows.proofs.Rows.{rows-stop}
 use Rattle.held_lanes.specs.Places.{bitAt, offset, leadPlace, classesPlace, lastPlace}
 use Rattle.held_lanes.specs.Tables.{HeldTables, Lasts, noted}
+use Rattle.held_stops.specs.Stops.{ShutSet}
 
 not-not : (b : Bool) → not (not b) ≡ b
 not-not true = refl
@@ -37,10 +38,6 @@ rows-alike sheet w at sees sees' n e r =
       level = r .level;
       fronts = λ q l. r .fronts q l ∙ ap (λ (p : List Bool). solid (front (sheet .positions) (getD (sheet .columns) q noColumn) p)) (e q l);
     }
-
--- the set has the lanes that the stop is shut to
-abbrev pub ShutSet : HeldSheet → List Bool → ℕ → Type 0
-ShutSet sheet rs set = (q : ℕ) → q < length (sheet .lanes) → bitAt q set ≡ not (covered (needsOf sheet (getD (sheet .lanes) q noLane .class)) rs)
 
 module _ (sheet : HeldSheet) (t u v w : List ℕ) (ta : Tables (plain sheet) t) (bs : List (List Bool)) (rs : List Bool) (n set : ℕ) (bits : ShutSet sheet rs set) where
   abbrev at : ℕ

@@ -4,8 +4,8 @@ ghost use Prim.Native.Nat.{ℕ, _+_, _*_, _^_, _<_, _≤_};
 ghost use lib.ListN.{length, getD};
 ghost use Rattle.model.specs.Limits.{mostOpenings};
 ghost use Rattle.least.specs.Filled.{FilledBy};
-ghost use Rattle.lane_rows.specs.Layout.{laneCount, inf, lanesIn};
-ghost use Rattle.lane_rows.specs.Rows.{sumLanes, Turned, Looks, Recalled, Put, Memo, Owing, nextRow};
+ghost use Rattle.lane_rows.specs.Layout.{lanesIn};
+ghost use Rattle.lane_rows.specs.Rows.{sumLanes, Looks, Recalled, Put, Memo, Owing, nextRow};
 ghost use Rattle.held_lanes.specs.Places.{pendingPlace, readyPlace, asideSize};
 ghost use Rattle.held_lanes.specs.Tables.{StopAsks, shutRow};
 ghost use Rattle.held_stops.specs.Stops.{ReadAt, stopLane, LooksAtStop, Pended, Pends, SettleAsks, StopPut, StopNoted};
@@ -23,15 +23,12 @@ use lane_rows::INF;
 use lane_rows::KNOWN;
 use lane_rows::LANES;
 use lane_rows::MEMO;
-use lane_rows::PRICES;
-use lane_rows::REACHES;
 use lane_rows::ROW_MARKS;
 use lane_rows::STACK;
 use lane_rows::TABLES;
 use lane_rows::forget;
-use lane_rows::least_rows;
 use lane_rows::look;
-use lane_rows::plus_row;
+use lane_rows::next_lanes;
 use lane_rows::row_of;
 use lane_rows::store_row;
 use least::MARKS;
@@ -73,16 +70,6 @@ pub fn shut_sum(
         MEMO + (next + rows) * LANES,
         set,
     )
-}
-
-// So many lanes of the row of a stop at opening j, above the rows that are there, where it is allowed.
-fn next_lanes(fours: usize, t: &[u32], w: &[u32], j: usize, rows: usize, acc: &mut [u32])
-    requires { ⌜ (Owing (fours * 4) (now t) (now w) j rows) × (laneCount ≤ length (now acc)) × ((q : ℕ) → q < fours * 4 → getD (now acc) q 0 ≡ inf) ⌝ }
-    ensures { λ _. ⌜ Turned (fours * 4) (nextRow (now (t .entry)) (now (w .entry)) j rows) (now (acc .entry)) (now (acc .exit)) ⌝ }
-{
-    least_rows(fours, t, w, REACHES, j, rows, acc);
-    let at = PRICES + j * LANES;
-    plus_row(fours, &t[at..at + LANES], acc);
 }
 
 // It is kept for all the removals of the stop.

@@ -22,7 +22,7 @@ use Rattle.jobs.proofs.Jobs.{Whole, blankOpening, opening-count, part-count, se
 use Rattle.clock.proofs.Places.{place-count}
 use Rattle.clock.proofs.Ranges.{position-small}
 use Rattle.coming_out.proofs.Rows.{past}
-use Rattle.held_bound.specs.Arrays.{priceStride}
+use Rattle.held_places.specs.Arrays.{priceStride}
 use Rattle.job_numbers.specs.Laid.{lifeOf, leftOf, Numbered, pricesWith, Laid}
 use Rattle.job_numbers.specs.declared.Numbers.{Numbers}
 

@@ -14,7 +14,7 @@ use Rattle.jobs.specs.declared.Part.{Part}
 use Rattle.jobs.specs.Views.{blankPart, partOf}
 use Rattle.part_records.specs.Records.{recordAt}
 use Rattle.coming_out.proofs.Rows.{blank}
-use Rattle.held_bound.specs.Arrays.{priceStride, priceSize}
+use Rattle.held_places.specs.Arrays.{priceStride, priceSize}
 use Rattle.least.specs.Filled.{FilledBy}
 use Rattle.job_numbers.specs.Laid.{Laid}
 

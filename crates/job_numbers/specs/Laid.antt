@@ -6,7 +6,7 @@ use lib.ListN.{length, getD, take}
 use Rattle.model.specs.Model.{Part, Job, table, feeOf}
 use Rattle.model.specs.Verdict.{partAt}
 use Rattle.clock.specs.Placed.{Placed}
-use Rattle.held_bound.specs.Arrays.{priceStride, priceSize}
+use Rattle.held_places.specs.Arrays.{priceStride, priceSize}
 use Rattle.job_numbers.specs.declared.Numbers.{Numbers}
 
 -- "a life L and a first life R"

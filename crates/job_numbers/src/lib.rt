@@ -1,7 +1,7 @@
 // The numbers of a job laid out in arrays, as the searches take them.
 use clock::Positions;
 use clock::positions_of;
-use held_bound::STRIDE;
+use held_places::STRIDE;
 use jobs::Job;
 use jobs::Part;
 use part_records::part_of;

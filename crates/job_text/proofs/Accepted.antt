@@ -1,11 +1,11 @@
 -- An accepted job text is the rendering of what it says (`text-is`), and that is valid (`valid-text`, and `valid` of what it means). By the grammar's lines, one after the other.
-use Prim.Native.Nat.{ℕ, _≤_, _<_}
+use Prim.Native.Nat.{ℕ, suc, _≤_, _<_}
 use mathlib.Core.Path.{_≡_, refl, sym, ap, _∙_, subst}
-use mathlib.Core.List.{List, [], _∷_, _++_, append-assoc, append-nil}
+use mathlib.Core.List.{List, [], _∷_, _++_, map, append-assoc, append-nil}
 use mathlib.Core.Bool.{and-eq-true-iff}
 use native.Mathlib.Omega.{arith}
 use lib.Dec.{leb, ltb}
-use lib.ListN.{length}
+use lib.ListN.{length, length-map}
 use borrow.Author.Tests.{ltb-true, leb-true}
 use Rattle.lines.specs.Text.{bytes, line, lineOf, texts, Optional, missing, present, optionalText}
 use Rattle.lines.specs.Parser.{Parser, good, Outcome, accepted, refused, return, row, rowAt, optional, ifPresent, checked, times, rising, upTo}
@@ -13,9 +13,14 @@ use Rattle.lines.proofs.Outcomes.{one-value, not-both}
 use Rattle.lines.proofs.Sound.{Told, Tells, Rises, rising-tells, bind-inv, Optionally, optional-inv, row-sound, checked-sound, chain-sound, row-gives, checked-gives, Chained, chain-gives, accepted-is}
 use Rattle.model.specs.Model.{Opening}
 use Rattle.model.specs.Windows.{Rising, stepsOf}
-use Rattle.job_text.specs.Grammar.{JobText, Given, idleIn, meant, idle, idleSteps, idles, opening, openings, part, body, rest, jobLines, maxBytes, readJobText, meaning, readJob}
+use Rattle.job_text.specs.Grammar.{PartText, JobText, Given, idleIn, meantPart, meant, idle, idleSteps, idles, opening, openings, afterLeft, part, following, parts, body, rest, jobLines, maxBytes, readJobText, meaning, readJob}
 use Rattle.job_text.specs.Rendering.{idlesText, openingText, partText, bodyText, jobText}
-use Rattle.jobs.specs.Valid.{All, ValidOpening, ValidPrice, ValidPart, ValidJob}
+use Rattle.jobs.specs.Valid.{All, ValidOpening, ValidPrice, Holds, ValidPart, HeldFrom, ValidJob}
+use Rattle.covers.specs.Grammar.{Cover, cover}
+use Rattle.covers.specs.Rendering.{coverText}
+use Rattle.covers.specs.Valid.{ValidLines}
+use Rattle.covers.specs.Views.{meantCover}
+use Rattle.covers.proofs.Accepted.{cover-tells}
 use Rattle.job_text.specs.Valid.{Valid, Some, ValidText}
 
 -- ---- steps that rise
@@ -104,39 +109,77 @@ each : {A : Type 0} (P : A → Type 0) (before : ℕ) (xs : List A) → Chained 
 each P before [] c = tt
 each P before (x ∷ xs) c = (c .0, each P 0 xs (c .1))
 
-part-tells : (n : ℕ) → Tells (part n) (ValidPart n) partText
-unfolding part times return partText
-part-tells n s s′ l l′ p e =
+-- what is known of the lines of removal, where they stand, is known of what they mean
+cover-known : (m k : ℕ) (o : Optional Cover) → ValidLines m k o → (meantCover o .removal ≤ 1000000) × (length (meantCover o .holders) ≤ 15) × Holds m k 0 (meantCover o .holders)
+unfolding meantCover
+cover-known m k missing v = (omega arith, omega arith, tt)
+cover-known m k (present c) v = (v .removal, v .few, v .holders)
+
+-- part k of m, with n prices
+abbrev pub KnownPart : ℕ → ℕ → ℕ → PartText → Type 0
+KnownPart m n k p = ValidPart n (meantPart p) × Holds m k 0 (meantPart p .holders)
+
+-- and back
+pub known-cover : (m n k : ℕ) (p : PartText) → KnownPart m n k p → ValidLines m k (p .cover)
+unfolding meantCover
+known-cover m n k p v = go (p .cover) (v .0 .removal) (v .0 .few-holders) (v .1)
+  where
+    go : (o : Optional Cover) → meantCover o .removal ≤ 1000000 → length (meantCover o .holders) ≤ 15 → Holds m k 0 (meantCover o .holders) → ValidLines m k o
+    go missing r f h = tt
+    go (present c) r f h = record { removal = r; few = f; holders = h }
+
+part-tells : (m n k : ℕ) → Tells (part m n k) (KnownPart m n k) partText
+unfolding part afterLeft times return partText
+part-tells m n k s s′ l l′ p e =
     let p₁ = row "life=" 1 1000 in
     let p₂ = row "left=" 1 1000 in
     let price = row "price=" 1 1000000 in
     let b = bind-inv p₁ _ s s′ l l′ p e in
     let d = bind-inv (checked 5 (upTo (b .a)) p₂) _ (b .mid) s′ (b .at) l′ p (b .second) in
-    let f = bind-inv (times n price) _ (d .mid) s′ (d .at) l′ p (d .second) in
-    let x : record { life = b .a; left = d .a; removal = 0; holders = []; prices = f .a } ≡ p = cc (f .second) in
+    let g = bind-inv (cover m k) _ (d .mid) s′ (d .at) l′ p (d .second) in
+    let f = bind-inv (times n price) _ (g .mid) s′ (g .at) l′ p (g .second) in
+    let x : record { life = b .a; left = d .a; cover = g .a; prices = f .a } ≡ p = cc (f .second) in
     let y : f .mid ≡ s′ = cc (f .second) in
     let k₁ = row-gives _ 1 1000 s (b .mid) l (b .at) (b .a) (b .first) in
     let k₂ = checked-gives 5 (upTo (b .a)) p₂ _ (row-gives _ 1 1000) (b .mid) (d .mid) (b .at) (d .at) (d .a) (d .first) in
-    let k₃ = chain-gives (λ _. price) (λ _ _. 0) (λ _. ValidPrice) (λ _. row-gives _ 1 1000000) n 0 (d .mid) (f .mid) (d .at) (f .at) (f .a) (f .first) in
-    subst (Told (ValidPart n) partText s s′) x (record {
-      known = record {
-        life-low = k₁ .0;
-        life-high = k₁ .1;
-        left-low = k₂ .0 .0;
-        left-high = leb-true (d .a) (b .a) (k₂ .1);
-        removal = refl;
-        holders = refl;
-        priced = k₃ .0;
-        prices = each ValidPrice 0 (f .a) (k₃ .1);
-      };
+    let told = cover-tells m k (d .mid) (g .mid) (d .at) (g .at) (g .a) (g .first) in
+    let k₃ = cover-known m k (g .a) (told .known) in
+    let k₄ = chain-gives (λ _. price) (λ _ _. 0) (λ _. ValidPrice) (λ _. row-gives _ 1 1000000) n 0 (g .mid) (f .mid) (g .at) (f .at) (f .a) (f .first) in
+    subst (Told (KnownPart m n k) partText s s′) x (record {
+      known = (
+        record {
+          life-low = k₁ .0;
+          life-high = k₁ .1;
+          left-low = k₂ .0 .0;
+          left-high = leb-true (d .a) (b .a) (k₂ .1);
+          removal = k₃ .0;
+          few-holders = k₃ .1;
+          priced = k₄ .0;
+          prices = each ValidPrice 0 (f .a) (k₄ .1);
+        },
+        k₃ .2,
+      );
       text = simp append-assoc
           (row-sound _ 1 1000 s (b .mid) l (b .at) (b .a) (b .first)
           ∙ ap (λ (r : List ℕ). lineOf "life=" (b .a) ++ r)
           (checked-sound 5 (upTo (b .a)) p₂ (lineOf "left=") (row-sound _ 1 1000) (b .mid) (d .mid) (b .at) (d .at) (d .a) (d .first)
           ∙ ap (λ (r : List ℕ). lineOf "left=" (d .a) ++ r)
-          (chain-sound (λ _. price) (λ _ _. 0) (lineOf "price=") (λ _. row-sound _ 1 1000000) n 0 (d .mid) (f .mid) (d .at) (f .at) (f .a) (f .first)
-          ∙ ap (λ (r : List ℕ). texts (lineOf "price=") (f .a) ++ r) y)));
+          (told .text
+          ∙ ap (λ (r : List ℕ). optionalText coverText (g .a) ++ r)
+          (chain-sound (λ _. price) (λ _ _. 0) (lineOf "price=") (λ _. row-sound _ 1 1000000) n 0 (g .mid) (f .mid) (g .at) (f .at) (f .a) (f .first)
+          ∙ ap (λ (r : List ℕ). texts (lineOf "price=") (f .a) ++ r) y))));
     })
+
+-- numbered parts, in the model's terms
+chained-parts : (m n k : ℕ) (ps : List PartText) → Chained (KnownPart m n) following k ps → All (ValidPart n) (map meantPart ps) × HeldFrom m k (map meantPart ps)
+chained-parts m n k [] c = (tt, tt)
+chained-parts m n k (p ∷ ps) c =
+    let r = chained-parts m n (suc k) ps (c .1) in
+    ((c .0 .0, r .0), (c .0 .1, r .1))
+
+pub parts-chained : (m n k : ℕ) (ps : List PartText) → All (ValidPart n) (map meantPart ps) → HeldFrom m k (map meantPart ps) → Chained (KnownPart m n) following k ps
+parts-chained m n k [] v h = tt
+parts-chained m n k (p ∷ ps) v h = ((v .0, h .0), parts-chained m n (suc k) ps (v .1) (h .1))
 
 -- ---- the whole
 
@@ -145,19 +188,20 @@ KnownJob h is w n t =
     (2 ≤ h → h ≤ 365 → KnownIdles h is → n ≤ 64 → ValidJob (meant t .job)) × (t .walk ≡ w) × (t .horizon ≡ h) × (t .idles ≡ is) × (length (t .openings) ≡ n)
 
 body-tells : (h : ℕ) (is : Optional (List ℕ)) (w n : ℕ) → Tells (body h is w n) (KnownJob h is w n) bodyText
-unfolding body openings times return bodyText
+unfolding body openings parts return bodyText
 body-tells h is w n s s′ l l′ g e =
     let b = bind-inv (openings h n) _ s s′ l l′ g e in
     let d = bind-inv (row "parts=" 1 16) _ (b .mid) s′ (b .at) l′ g (b .second) in
-    let f = bind-inv (times (d .a) (part n)) _ (d .mid) s′ (d .at) l′ g (d .second) in
+    let f = bind-inv (parts (d .a) n) _ (d .mid) s′ (d .at) l′ g (d .second) in
     let x : record { horizon = h; idles = is; walk = w; openings = b .a; parts = f .a } ≡ g = cc (f .second) in
     let y : f .mid ≡ s′ = cc (f .second) in
     let k₁ = chain-gives (opening h) stepOf (KnownOpening h) (λ before s s′ l l′ o e. opening-tells h before s s′ l l′ o e .known) n 0 s (b .mid) l (b .at) (b .a) (b .first) in
     let os = chained-rising h 0 (b .a) (k₁ .1) in
     let k₂ = row-gives _ 1 16 (b .mid) (d .mid) (b .at) (d .at) (d .a) (d .first) in
-    let k₃ = chain-gives (λ _. part n) (λ _ _. 0) (λ _. ValidPart n) (λ _ s s′ l l′ p e. part-tells n s s′ l l′ p e .known) (d .a) 0 (d .mid) (f .mid) (d .at) (f .at) (f .a) (f .first) in
+    let k₃ = chain-gives (part (d .a) n) following (KnownPart (d .a) n) (λ k s s′ l l′ p e. part-tells (d .a) n k s s′ l l′ p e .known) (d .a) 1 (d .mid) (f .mid) (d .at) (f .at) (f .a) (f .first) in
     let count : d .a ≡ length (f .a) = sym (k₃ .0) in
-    let ps : All (ValidPart (length (b .a))) (f .a) = subst (λ (m : ℕ). All (ValidPart m) (f .a)) (sym (k₁ .0)) (each (ValidPart n) 0 (f .a) (k₃ .1)) in
+    let meant-count : d .a ≡ length (map meantPart (f .a)) = count ∙ sym (length-map (f .a) meantPart) in
+    let ps = chained-parts (d .a) n 1 (f .a) (k₃ .1) in
     subst (Told (KnownJob h is w n) bodyText s s′) x (record {
       known = (
         λ low high steps few. record {
@@ -168,9 +212,10 @@ body-tells h is w n s s′ l l′ g e =
           few-openings = subst (λ (m : ℕ). m ≤ 64) (sym (k₁ .0)) few;
           openings = os .0;
           rising = os .1;
-          some-part = subst (λ (m : ℕ). 1 ≤ m) count (k₂ .0);
-          few-parts = subst (λ (m : ℕ). m ≤ 16) count (k₂ .1);
-          parts = ps;
+          some-part = subst (λ (m : ℕ). 1 ≤ m) meant-count (k₂ .0);
+          few-parts = subst (λ (m : ℕ). m ≤ 16) meant-count (k₂ .1);
+          parts = subst (λ (m : ℕ). All (ValidPart m) (map meantPart (f .a))) (sym (k₁ .0)) (ps .0);
+          holders = subst (λ (m : ℕ). HeldFrom m 1 (map meantPart (f .a))) meant-count (ps .1);
         },
         refl,
         refl,
@@ -183,7 +228,7 @@ body-tells h is w n s s′ l l′ g e =
           (row-sound _ 1 16 (b .mid) (d .mid) (b .at) (d .at) (d .a) (d .first)
           ∙ ap (λ (m : ℕ). lineOf "parts=" m ++ d .mid) count
           ∙ ap (λ (r : List ℕ). lineOf "parts=" (length (f .a)) ++ r)
-          (chain-sound (λ _. part n) (λ _ _. 0) partText (λ _ s s′ l l′ p e. part-tells n s s′ l l′ p e .text) (d .a) 0 (d .mid) (f .mid) (d .at) (f .at) (f .a) (f .first)
+          (chain-sound (part (d .a) n) following partText (λ k s s′ l l′ p e. part-tells (d .a) n k s s′ l l′ p e .text) (d .a) 1 (d .mid) (f .mid) (d .at) (f .at) (f .a) (f .first)
           ∙ ap (λ (r : List ℕ). texts partText (f .a) ++ r) y)));
     })
 

@@ -1,14 +1,20 @@
 -- The bound on a job text's length is exact: a valid text has that many bytes (`reached`), by computation. Its record is valid since its idle steps and openings are counted up.
-use Prim.Native.Nat.{ℕ, zero, suc, _+_, _≤_}
+use Prim.Native.Nat.{ℕ, zero, suc, _+_, _≤_, _<_}
 use mathlib.Core.Path.{_≡_, refl}
-use mathlib.Core.List.{List, [], _∷_}
+use mathlib.Core.Bool.{Bool, true, false, cond}
+use mathlib.Core.List.{List, [], _∷_, map}
 use native.Mathlib.Omega.{arith}
+use native.Mathlib.Decide.{ℕ-discrete}
+use lib.Dec.{eqb}
+use borrow.Author.Tests.{eq-eqb, ne-eqb}
 use lib.ListN.{length, replicate}
 use Rattle.lines.specs.Text.{bytes, decimalIn, line, present}
-use Rattle.model.specs.Model.{Opening, Part}
+use Rattle.model.specs.Model.{Opening}
 use Rattle.model.specs.Windows.{Rising, stepsOf}
-use Rattle.jobs.specs.Valid.{All, ValidOpening, ValidPrice, ValidPart}
-use Rattle.job_text.specs.Grammar.{JobText}
+use Rattle.jobs.specs.Valid.{All, ValidOpening, ValidPrice, Holds, ValidPart, HeldFrom}
+use Rattle.covers.specs.Rendering.{coverText}
+use Rattle.covers.specs.Views.{meantCover}
+use Rattle.job_text.specs.Grammar.{PartText, JobText, meantPart}
 use Rattle.job_text.specs.Rendering.{idlesText, openingText, partText, bodyText, jobText}
 use Rattle.job_text.specs.Valid.{ValidText}
 use Rattle.job_text.proofs.Lengths.{longest}
@@ -23,15 +29,26 @@ openingsAfter : ℕ → ℕ → List Opening
 openingsAfter before zero = []
 openingsAfter before (suc n) = record { step = suc before; fee = 1000000 } ∷ openingsAfter (suc before) n
 
-longestPart : Part
-longestPart = record { life = 1000; left = 1000; removal = 0; holders = []; prices = replicate 64 1000000 }
+-- the n numbers after `before`, but not k
+others : ℕ → ℕ → ℕ → List ℕ
+others k before zero = []
+others k before (suc n) = cond (eqb (suc before) k) (others k (suc before) n) (suc before ∷ others k (suc before) n)
+
+-- part k of sixteen, held by the fifteen others
+longestPart : ℕ → PartText
+longestPart k = record { life = 1000; left = 1000; cover = present (record { removal = 1000000; holders = others k 0 16 }); prices = replicate 64 1000000 }
+
+-- the n parts after part `before`
+partsAfter : ℕ → ℕ → List PartText
+partsAfter before zero = []
+partsAfter before (suc n) = longestPart (suc before) ∷ partsAfter (suc before) n
 
 -- every step idle, the last 64 steps openings, sixteen parts
 pub longestText : JobText
-longestText = record { horizon = 365; idles = present (stepsAfter 0 365); walk = 4000000000; openings = openingsAfter 301 64; parts = replicate 16 longestPart }
+longestText = record { horizon = 365; idles = present (stepsAfter 0 365); walk = 4000000000; openings = openingsAfter 301 64; parts = partsAfter 0 16 }
 
 pub reached : length (jobText longestText) ≡ longest
-unfolding longestText longestPart stepsAfter openingsAfter jobText bodyText idlesText openingText partText line bytes decimalIn
+unfolding longestText longestPart partsAfter others stepsAfter openingsAfter jobText bodyText idlesText openingText partText coverText line bytes decimalIn
 reached = refl
 
 -- ---- it is valid
@@ -55,8 +72,55 @@ all-alike : {A : Type 0} (P : A → Type 0) (n : ℕ) (x : A) → P x → All P 
 all-alike P zero x h = tt
 all-alike P (suc n) x h = (h, all-alike P n x h)
 
+-- the others rise, are within m, and are not k
+others-hold : (m k least before n : ℕ) → least ≤ before → before + n ≤ m → Holds m k least (others k before n)
+unfolding others
+others-hold m k least before zero l h = tt
+others-hold m k least before (suc n) l h =
+    go (ℕ-discrete (suc before) k) (others-hold m k least (suc before) n (omega arith) (omega arith)) (others-hold m k (suc before) (suc before) n (omega arith) (omega arith))
+  where
+    go : Dec (suc before ≡ k) → Holds m k least (others k (suc before) n) → Holds m k (suc before) (others k (suc before) n) → Holds m k least (others k before (suc n))
+    go (yes e) without after = rw (eq-eqb (suc before) k e) without
+    go (no e) without after = rw (ne-eqb (suc before) k e) (omega arith, omega arith, e, after)
+
+-- there are no more of them than numbers, and one fewer where k is among these
+others-most : (k before n : ℕ) → length (others k before n) ≤ n
+unfolding others
+others-most k before zero = omega arith
+others-most k before (suc n) = go (eqb (suc before) k) (others-most k (suc before) n)
+  where
+    go : (b : Bool) → length (others k (suc before) n) ≤ n → length (cond b (others k (suc before) n) (suc before ∷ others k (suc before) n)) ≤ suc n
+    go true h = omega arith
+    go false h = omega arith
+
+others-few : (k before n : ℕ) → before < k → k ≤ before + n → length (others k before n) < n
+unfolding others
+others-few k before zero l h = absurd (omega arith)
+others-few k before (suc n) l h = go (ℕ-discrete (suc before) k) (λ e. others-few k (suc before) n (omega (arith, e)) (omega arith))
+  where
+    go : Dec (suc before ≡ k) → ((suc before ≡ k → ⊥) → length (others k (suc before) n) < n) → length (others k before (suc n)) < suc n
+    go (yes e) later = rw (eq-eqb (suc before) k e) (omega (arith, others-most k (suc before) n))
+    go (no e) later = rw (ne-eqb (suc before) k e) (omega (arith, later e))
+
+parts-valid : (before n : ℕ) → before + n ≤ 16 → All (ValidPart 64) (map meantPart (partsAfter before n)) × HeldFrom 16 (suc before) (map meantPart (partsAfter before n))
+unfolding partsAfter longestPart meantCover
+parts-valid before zero m = (tt, tt)
+parts-valid before (suc n) m =
+    let r = parts-valid (suc before) n (omega arith) in
+    let p : ValidPart 64 (meantPart (longestPart (suc before))) = record {
+      life-low = omega arith;
+      life-high = omega arith;
+      left-low = omega arith;
+      left-high = omega arith;
+      removal = omega arith;
+      few-holders = omega (arith, others-few (suc before) 0 16 (omega arith) (omega arith));
+      priced = refl;
+      prices = all-alike ValidPrice 64 1000000 (omega arith, omega arith);
+    } in
+    ((p, r .0), (others-hold 16 (suc before) 0 0 16 (omega arith) (omega arith), r .1))
+
 pub longest-valid : ValidText longestText
-unfolding longestText longestPart stepsAfter openingsAfter
+unfolding longestText partsAfter stepsAfter openingsAfter
 longest-valid = record {
   means = record {
     walk = omega arith;
@@ -70,16 +134,8 @@ longest-valid = record {
       rising = openings-rise 0 301 64 365 (omega arith) (omega arith);
       some-part = omega arith;
       few-parts = omega arith;
-      parts = all-alike (ValidPart 64) 16 longestPart (record {
-        life-low = omega arith;
-        life-high = omega arith;
-        left-low = omega arith;
-        left-high = omega arith;
-        removal = refl;
-        holders = refl;
-        priced = refl;
-        prices = all-alike ValidPrice 64 1000000 (omega arith, omega arith);
-      });
+      parts = parts-valid 0 16 (omega arith) .0;
+      holders = parts-valid 0 16 (omega arith) .1;
     };
   };
   idles = omega arith;

@@ -3,8 +3,9 @@ use Prim.Native.Nat.{ℕ}
 use mathlib.Core.List.{List, _++_}
 use lib.ListN.{length}
 use Rattle.lines.specs.Text.{lineOf, texts, optionalText}
-use Rattle.model.specs.Model.{Opening, Part}
-use Rattle.job_text.specs.Grammar.{JobText}
+use Rattle.model.specs.Model.{Opening}
+use Rattle.covers.specs.Rendering.{coverText}
+use Rattle.job_text.specs.Grammar.{PartText, JobText}
 
 -- the number of idle steps and the steps
 unfoldable pub idlesText : List ℕ → List ℕ
@@ -13,8 +14,8 @@ idlesText is = lineOf "idles=" (length is) ++ texts (lineOf "idle=") is
 unfoldable pub openingText : Opening → List ℕ
 openingText o = lineOf "opening=" (o .step) ++ lineOf "fee=" (o .fee)
 
-unfoldable pub partText : Part → List ℕ
-partText p = lineOf "life=" (p .life) ++ lineOf "left=" (p .left) ++ texts (lineOf "price=") (p .prices)
+unfoldable pub partText : PartText → List ℕ
+partText p = lineOf "life=" (p .life) ++ lineOf "left=" (p .left) ++ optionalText coverText (p .cover) ++ texts (lineOf "price=") (p .prices)
 
 -- what follows the number of openings
 unfoldable pub bodyText : JobText → List ℕ

@@ -1,4 +1,5 @@
 // The parts of a job text.
+use covers::read_cover;
 use jobs::Part;
 use lines::read::Field;
 use lines::read::read_field;
@@ -7,13 +8,15 @@ use lines::rows::End;
 use lines::rows::Row;
 use lines::rows::advance;
 ghost use mathlib.Core.Path.{_≡_};
-ghost use mathlib.Core.List.{map};
-ghost use Prim.Native.Nat.{_≤_};
+ghost use mathlib.Core.Bool.{false};
+ghost use Prim.Native.Nat.{ℕ, _≤_};
 ghost use lib.ListN.{drop, take};
 ghost use Rattle.lines.specs.Parser.{times, row, checked, upTo};
 ghost use Rattle.lines.specs.Cursor.{Stands, LineRead, Reads, ended};
 ghost use Rattle.jobs.specs.Views.{partOf};
-ghost use Rattle.job_text.specs.Grammar.{part};
+ghost use Rattle.job_text.specs.Grammar.{meantPart, afterLeft, part};
+ghost use Rattle.job_text.specs.Grammar as grammar;
+ghost use Rattle.job_text.specs.Views.{partLines, PartSeen, PartsSeen};
 ghost use Rattle.model.specs.Limits.{longestLife, dearest, mostOpenings, mostParts};
 
 // Prices read, and where they end.
@@ -22,15 +25,17 @@ pub struct Prices {
     pub prices: [u32; 64],
 }
 
-// A part read, and where it ends.
+// A part read, whether its lines of removal stand, and where it ends.
 pub struct PartRead {
     pub end: End,
+    pub there: bool,
     pub part: Part,
 }
 
-// Parts read, and where they end.
+// Parts read, of which of them the lines of removal stand, and where they end.
 pub struct Parts {
     pub end: End,
+    pub covered: [bool; 16],
     pub parts: [Part; 16],
 }
 
@@ -93,26 +98,75 @@ fn read_prices(text: &[u8], p: Cursor, n: usize) -> Prices
     }
 }
 
-// A part that was not read.
-fn no_part(k: u32, line: usize) -> PartRead
-    ensures { λ r. ⌜ r .end ≡ End.Fault k line ⌝ }
+// What stands where no part is read: removal 0 and no holders, which no line says.
+pub fn blank_part() -> Part
+    ensures { λ r. ⌜ ((n : ℕ) → meantPart (partLines false (partOf n r)) ≡ partOf n r) ⌝ }
 {
-    PartRead {
-        end: End::Fault { number: k, line },
-        part: Part {
-            life: 0,
-            left: 0,
-            removal: 0,
-            holders: [false; 16],
-            prices: [0u32; 64],
-        },
+    Part {
+        life: 0,
+        left: 0,
+        removal: 0,
+        holders: [false; 16],
+        prices: [0u32; 64],
     }
 }
 
-// A part, with a price for each of n openings.
-fn read_part(text: &[u8], p: Cursor, n: usize) -> PartRead
-    requires { ⌜ Stands (now text) p × (n ≤ mostOpenings) ⌝ }
-    ensures { λ r. ⌜ Reads (now (text .entry)) (ended (r .end) (partOf n (r .part))) (part n (drop (p .at) (now (text .entry))) (p .line)) ⌝ }
+// A part that was not read.
+fn no_part(k: u32, line: usize) -> PartRead
+    ensures { λ r. ⌜ (r .end ≡ End.Fault k line) × ((n : ℕ) → meantPart (partLines (r .there) (partOf n (r .part))) ≡ partOf n (r .part)) ⌝ }
+{
+    let part = blank_part();
+    PartRead {
+        end: End::Fault { number: k, line },
+        there: false,
+        part,
+    }
+}
+
+// What follows the life of part k of m and what is left of it: the lines of removal, where they stand, and n prices.
+fn read_after_left(
+    text: &[u8],
+    p: Cursor,
+    m: u32,
+    n: usize,
+    k: u32,
+    life: u32,
+    left: u32,
+) -> PartRead
+    requires { ⌜ Stands (now text) p × (m ≤ mostParts) × (n ≤ mostOpenings) ⌝ }
+    ensures { λ r. ⌜ PartSeen n (now (text .entry)) r (afterLeft m n k life left (drop (p .at) (now (text .entry))) (p .line)) ⌝ }
+{
+    let lines = read_cover(text, p, m, k);
+    let lines_end = lines.end;
+    match lines_end {
+        End::At(q) => {
+            let read = read_prices(text, q, n);
+            let end = read.end;
+            let prices = read.prices;
+            let there = lines.there;
+            let cover = lines.cover;
+            let removal = cover.removal;
+            let holders = cover.holders;
+            PartRead {
+                end,
+                there,
+                part: Part {
+                    life,
+                    left,
+                    removal,
+                    holders,
+                    prices,
+                },
+            }
+        }
+        End::Fault { number: j, line: l } => no_part(j, l),
+    }
+}
+
+// Part k of m, with a price for each of n openings.
+fn read_part(text: &[u8], p: Cursor, m: u32, n: usize, k: u32) -> PartRead
+    requires { ⌜ Stands (now text) p × (m ≤ mostParts) × (n ≤ mostOpenings) ⌝ }
+    ensures { λ r. ⌜ PartSeen n (now (text .entry)) r (part m n k (drop (p .at) (now (text .entry))) (p .line)) ⌝ }
 {
     let at = p.at;
     let field = read_field(&text[at..], b"life=", Part::MIN_LIFE, Part::MAX_LIFE);
@@ -121,63 +175,50 @@ fn read_part(text: &[u8], p: Cursor, n: usize) -> PartRead
             let at = q.at;
             let field = read_left(&text[at..], life);
             match advance(text, q, field) {
-                Row::Value(left, r) => {
-                    let read = read_prices(text, r, n);
-                    let end = read.end;
-                    let prices = read.prices;
-                    PartRead {
-                        end,
-                        part: Part {
-                            life,
-                            left,
-                            removal: 0,
-                            holders: [false; 16],
-                            prices,
-                        },
-                    }
-                }
-                Row::Fault { number: k, line: l } => no_part(k, l),
+                Row::Value(left, r) => read_after_left(text, r, m, n, k, life, left),
+                Row::Fault { number: j, line: l } => no_part(j, l),
             }
         }
-        Row::Fault { number: k, line: l } => no_part(k, l),
+        Row::Fault { number: j, line: l } => no_part(j, l),
     }
 }
 
 // The parts, m of them, with n prices each.
 pub fn read_parts(text: &[u8], p: Cursor, m: usize, n: usize) -> Parts
     requires { ⌜ Stands (now text) p × ((m ≤ mostParts) × (n ≤ mostOpenings)) ⌝ }
-    ensures { λ r. ⌜ Reads (now (text .entry)) (ended (r .end) (map (partOf n) (take m (r .parts)))) (times m (part n) (drop (p .at) (now (text .entry))) (p .line)) ⌝ }
+    ensures { λ r. ⌜ PartsSeen m n (now (text .entry)) r (grammar.parts m n (drop (p .at) (now (text .entry))) (p .line)) ⌝ }
 {
-    let blank = Part {
-        life: 0,
-        left: 0,
-        removal: 0,
-        holders: [false; 16],
-        prices: [0u32; 64],
-    };
+    let blank = blank_part();
     let mut parts = [blank; 16];
+    let mut covered = [false; 16];
     let mut q = p;
     let mut i: usize = 0;
     while i < m {
-        let read = read_part(text, q, n);
-        let end = read.end;
-        match end {
+        let read = read_part(text, q, m as u32, n, i as u32 + 1);
+        let read_end = read.end;
+        match read_end {
             End::At(r) => {
                 let part = read.part;
+                let there = read.there;
                 parts[i] = part;
+                covered[i] = there;
                 q = r;
                 i += 1;
             }
             End::Fault { number: k, line: l } => {
+                let end = End::Fault { number: k, line: l };
                 return Parts {
-                    end: End::Fault { number: k, line: l },
+                    end,
+                    covered,
                     parts,
                 };
             }
         }
     }
+    let end = End::At(q);
     Parts {
-        end: End::At(q),
+        end,
+        covered,
         parts,
     }
 }

@@ -16,13 +16,14 @@ ghost use Prim.Native.Nat.{_≤_};
 ghost use lib.ListN.{drop};
 ghost use Rattle.lines.specs.Cursor.{Stands};
 ghost use Rattle.jobs.specs.Views.{Sized};
-ghost use Rattle.job_text.specs.Views.{idlesOf, idleLines, LinesRead, TextRead};
-ghost use Rattle.job_text.specs.Grammar.{body, rest, jobLines, readJobText};
+ghost use Rattle.job_text.specs.Views.{idlesOf, idleLines, textOf, givenOf, LinesRead, TextRead};
+ghost use Rattle.job_text.specs.Grammar.{meant, body, rest, jobLines, readJobText};
 ghost use Rattle.model.specs.Limits.{lastStep, mostOpenings};
 
-// What a job text says: the job, and beside it what its text has besides.
+// What a job text says: the job, and beside it what its text has besides: the walk number, and of which parts the lines of removal stand.
 pub struct JobText {
     pub walk: u32,
+    pub covered: [bool; 16],
     pub job: Job,
 }
 
@@ -40,17 +41,18 @@ pub struct JobRead {
 
 // What stands where a text is refused.
 fn no_text() -> JobText
-    ensures { λ r. ⌜ Sized (r .job) ⌝ }
+    ensures { λ r. ⌜ (meant (textOf r) ≡ givenOf r) × Sized (r .job) ⌝ }
 {
     JobText {
         walk: 0,
+        covered: [false; 16],
         job: Job::empty(),
     }
 }
 
 // Lines with a fault.
 fn no_job(k: u32, line: usize) -> JobLines
-    ensures { λ r. ⌜ (r .end ≡ End.Fault k line) × Sized (r .text .job) ⌝ }
+    ensures { λ r. ⌜ (r .end ≡ End.Fault k line) × (meant (textOf (r .text)) ≡ givenOf (r .text)) × Sized (r .text .job) ⌝ }
 {
     JobLines {
         end: End::Fault { number: k, line },
@@ -74,22 +76,22 @@ fn read_body(text: &[u8], p: Cursor, horizon: u32, steps: Idles, walk: u32, n: u
                     let part_count = m as usize;
                     let ps = read_parts(text, r, part_count, n);
                     let end = ps.end;
-                    let idle_count = steps.count;
                     let idles = steps.idles;
                     let openings = os.openings;
                     let parts = ps.parts;
                     let job = Job {
                         horizon,
-                        idle_count,
+                        idle_count: steps.count,
                         idles,
                         opening_count: n,
                         openings,
                         part_count,
                         parts,
                     };
+                    let covered = ps.covered;
                     JobLines {
                         end,
-                        text: JobText { walk, job },
+                        text: JobText { walk, covered, job },
                     }
                 }
                 Row::Fault { number: k, line: l } => no_job(k, l),

@@ -1,4 +1,6 @@
 // The lines of a job, written into a lent slice.
+use covers::Cover;
+use covers::put_cover;
 use job_text::whole::JobText;
 use jobs::Job;
 use jobs::Opening;
@@ -9,8 +11,11 @@ ghost use lib.ListN.{length};
 ghost use Rattle.lines.specs.Text.{line, texts, optionalText};
 ghost use Rattle.lines.specs.Wrote.{Wrote};
 ghost use Rattle.jobs.specs.Views.{openingOf, partOf, jobOf, Sized};
-ghost use Rattle.job_text.specs.Views.{idleLines, textOf};
+ghost use Rattle.covers.specs.Rendering.{coverText};
+ghost use Rattle.covers.specs.Views.{linesOf};
+ghost use Rattle.job_text.specs.Views.{idleLines, partLines, textOf};
 ghost use Rattle.job_text.specs.Rendering.{idlesText, openingText, partText, bodyText, jobText};
+ghost use Rattle.job_writing.specs.Lines.{coverIn, linesFor};
 
 // Puts the line of a key and each value.
 fn put_values(out: &mut [u8], at: usize, key: &[u8], values: &[u32]) -> usize
@@ -66,31 +71,46 @@ fn put_openings(out: &mut [u8], at: usize, job: Job) -> usize
     end
 }
 
-// Puts the lines of a part, of which the first n prices count.
-fn put_part(out: &mut [u8], at: usize, part: Part, n: usize) -> usize
+// Puts a part's lines of removal, where they stand.
+fn put_removal(out: &mut [u8], at: usize, part: Part, there: bool) -> usize
+    requires { ⌜ at + length (optionalText coverText (linesOf there (coverIn part))) ≤ length (now out) ⌝ }
+    ensures { λ r. ⌜ Wrote (now (out .entry)) at (optionalText coverText (linesOf there (coverIn part))) (now (out .exit)) r ⌝ }
+{
+    let removal = part.removal;
+    if there {
+        let holders = part.holders;
+        return put_cover(out, at, Cover { removal, holders });
+    }
+    at
+}
+
+// Puts the lines of a part, of which the first n prices count, with those of removal where they stand.
+fn put_part(out: &mut [u8], at: usize, part: Part, there: bool, n: usize) -> usize
     requires { ⌜ n ≤ 64 ⌝ }
-    requires { ⌜ at + length (partText (partOf n part)) ≤ length (now out) ⌝ }
-    ensures { λ r. ⌜ Wrote (now (out .entry)) at (partText (partOf n part)) (now (out .exit)) r ⌝ }
+    requires { ⌜ at + length (partText (partLines there (partOf n part))) ≤ length (now out) ⌝ }
+    ensures { λ r. ⌜ Wrote (now (out .entry)) at (partText (partLines there (partOf n part))) (now (out .exit)) r ⌝ }
 {
     let a = put_line(out, at, b"life=", part.life as u64);
     let b = put_line(out, a, b"left=", part.left as u64);
+    let c = put_removal(out, b, part, there);
     let prices = part.prices;
-    put_values(out, b, b"price=", &prices[..n])
+    put_values(out, c, b"price=", &prices[..n])
 }
 
-// Puts the lines of the parts.
-fn put_parts(out: &mut [u8], at: usize, job: Job) -> usize
+// Puts the lines of the parts, with those of removal of the parts that are marked.
+fn put_parts(out: &mut [u8], at: usize, covered: [bool; 16], job: Job) -> usize
     requires { ⌜ Sized job ⌝ }
-    requires { ⌜ at + length (texts partText (jobOf job .parts)) ≤ length (now out) ⌝ }
-    ensures { λ r. ⌜ Wrote (now (out .entry)) at (texts partText (jobOf job .parts)) (now (out .exit)) r ⌝ }
+    requires { ⌜ at + length (texts partText (linesFor covered job)) ≤ length (now out) ⌝ }
+    ensures { λ r. ⌜ Wrote (now (out .entry)) at (texts partText (linesFor covered job)) (now (out .exit)) r ⌝ }
 {
     let m = job.part_count;
     let n = job.opening_count;
     let mut end = at;
     let mut k: usize = 0;
     while k < m {
+        let there = covered[k];
         let part = job.parts[k];
-        end = put_part(out, end, part, n);
+        end = put_part(out, end, part, there, n);
         k += 1;
     }
     end
@@ -105,7 +125,8 @@ fn put_body(out: &mut [u8], at: usize, text: JobText) -> usize
     let job = text.job;
     let a = put_openings(out, at, job);
     let b = put_line(out, a, b"parts=", job.part_count as u64);
-    put_parts(out, b, job)
+    let covered = text.covered;
+    put_parts(out, b, covered, job)
 }
 
 // Puts the text of a job and its walk number into out from at on, and answers the place after it.

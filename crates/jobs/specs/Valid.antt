@@ -1,5 +1,5 @@
 -- What is known of an accepted job.
-use Prim.Native.Nat.{ℕ, _≤_}
+use Prim.Native.Nat.{ℕ, suc, _≤_, _<_}
 use mathlib.Core.Path.{_≡_}
 use mathlib.Core.List.{List, [], _∷_}
 use lib.ListN.{length}
@@ -22,17 +22,27 @@ pub record ValidOpening (o : Opening) : Type 0 where
 abbrev pub ValidPrice : ℕ → Type 0
 ValidPrice p = (1 ≤ p) × (p ≤ dearest)
 
+-- E7.2, E7.14. the holders of part k of m: they rise after `before`, are at most m, and none is the part itself
+abbrev pub Holds : ℕ → ℕ → ℕ → List ℕ → Type 0
+Holds m k before [] = Unit {0}
+Holds m k before (h ∷ hs) = (before < h) × (h ≤ m) × (h ≡ k → ⊥) × Holds m k h hs
+
 -- X3, M5. a part of a job with n openings: "one price per opening", "R at most L"
 pub record ValidPart (n : ℕ) (p : Part) : Type 0 where
   pub life-low : 1 ≤ p .life
   pub life-high : p .life ≤ longestLife
   pub left-low : 1 ≤ p .left
   pub left-high : p .left ≤ p .life
-  -- E7.2. "a part without them has removal 0 and no holders": no text gives any yet
-  pub removal : p .removal ≡ 0
-  pub holders : p .holders ≡ []
+  -- E7.2. "`removal` 0..1000000, `inside` 0..15"
+  pub removal : p .removal ≤ dearest
+  pub few-holders : length (p .holders) ≤ 15
   pub priced : length (p .prices) ≡ n
   pub prices : All ValidPrice (p .prices)
+
+-- the holders of each of these parts, the first of which is part k of m
+abbrev pub HeldFrom : ℕ → ℕ → List Part → Type 0
+HeldFrom m k [] = Unit {0}
+HeldFrom m k (p ∷ ps) = Holds m k 0 (p .holders) × HeldFrom m (suc k) ps
 
 pub record ValidJob (j : Job) : Type 0 where
   pub horizon-low : 2 ≤ j .horizon
@@ -45,6 +55,7 @@ pub record ValidJob (j : Job) : Type 0 where
   pub some-part : 1 ≤ length (j .parts)
   pub few-parts : length (j .parts) ≤ mostParts
   pub parts : All (ValidPart (length (j .openings))) (j .parts)
+  pub holders : HeldFrom (length (j .parts)) 1 (j .parts)
 
 -- the struct holds an accepted job: its counts stay within the arrays, and the job is valid
 pub record Sound (j : code.Job) : Type 0 where

@@ -46,10 +46,10 @@ module _ (jobText planText : List ℕ) (room : ℕ) where
 
   refused-job : judgeRoom ≤ room → (n l : ℕ) → readJob jobText ≡ refused n l → JudgePromise jobText planText room (onJob jobText planText (refused n l))
   refused-job h n l e = record {
-    says-8 = (λ f. absurd (omega (arith, k)), λ f. absurd (omega arith));
-    says-0 = (λ f. absurd (omega (arith, k)), λ r. no (r .1 .0));
-    says-10 = (λ f. absurd (omega (arith, k)), λ r. no (r .1 .0));
-    says-11 = (λ f. absurd (omega (arith, k)), λ r. no (r .1 .0));
+    says-8 = (λ f. absurd (job.fault-else n 8 k (omega arith) (omega arith) f), λ f. absurd (omega arith));
+    says-0 = (λ f. absurd (omega (arith, job.fault-some n k)), λ r. no (r .1 .0));
+    says-10 = (λ f. absurd (job.fault-else n 10 k (omega arith) (omega arith) f), λ r. no (r .1 .0));
+    says-11 = (λ f. absurd (job.fault-else n 11 k (omega arith) (omega arith) f), λ r. no (r .1 .0));
     writes-0 = λ r f. no r;
     writes-10 = λ r f. no r;
     writes-11 = λ r f. no r;
@@ -57,7 +57,7 @@ module _ (jobText planText : List ℕ) (room : ℕ) where
     plan-fault = λ m g f. not-both f e;
   }
     where
-      k : (1 ≤ n) × (n ≤ 5)
+      k : job.JobFault n
       k = job.fault jobText n l e .0
 
       no : {X : Type 0} → Reading jobText planText → X

@@ -1,7 +1,7 @@
 -- The code's lanes of numbers are the parts' least prices: a lane over the suffix prices is the least over the front, a lane over the reach table is the least cost from which opening j is in reach.
 use Prim.Native.Nat.{ℕ, zero, suc, _+_, _-_, _*_, _<_, _≤_, min, max}
 use mathlib.Core.Path.{_≡_, refl, sym, ap, ap₂, subst, _∙_}
-use mathlib.Core.Bool.{Bool, true, false, cond}
+use mathlib.Core.Bool.{Bool, true, false, not, cond}
 use mathlib.Core.List.{List, [], _∷_}
 use native.Mathlib.Omega.{arith}
 use native.Mathlib.Nat.{add-mul}
@@ -23,11 +23,12 @@ use Rattle.model.specs.LastYes.{lastYes}
 use Rattle.model.proofs.LastYes.{last-no, last-yes}
 use Rattle.least.specs.Marks.{markOf}
 use Rattle.least.proofs.Table.{least-cons, offerAt, offers-drop}
-use Rattle.lane_rows.specs.Layout.{laneCount, top, laneLimit, inf, triangle, suffixBase, reachBase, place, rowPlace, pricePlace, markBase, markPlace, lanesIn}
-use Rattle.lane_rows.specs.Sheet.{Column, Sheet, partSums, Mark, reach, frontFrom, front, noColumn, columnBound}
+use Rattle.lane_rows.specs.Layout.{laneCount, dear, laneLimit, inf, triangle, suffixBase, reachBase, place, rowPlace, pricePlace, markBase, markPlace, lanesIn}
+use Rattle.lane_rows.specs.Sheet.{Column, Sheet, partSums, Mark, reach, joined, frontFrom, front, solid, noColumn, columnBound}
 use Rattle.lane_rows.specs.Tables.{valueOf, sumWhere, Coded, Lane, Tables}
-use Rattle.lane_rows.specs.Rows.{lane, sumFrom, sumLanes, marksIn, Level, Rows, Kept, Put, Stack, FirstRow}
-use Rattle.lane_rows.proofs.Front.{over, front-snoc, decided-nil, column-front}
+use Rattle.lane_rows.specs.Rows.{lane, sumFrom, sumLanes, marksIn, Level, SeenRows, Rows, Kept, Put, Stack, FirstRow, nextRow, shutTo, stopRow}
+use Rattle.lane_rows.proofs.Front.{over, offerIs, front-snoc, decided-nil, column-front}
+use Rattle.lane_rows.proofs.Solid.{reach-same, over-same, joined-solid}
 
 -- ---- numbers for prices
 
@@ -124,7 +125,7 @@ undecided ss col j = drop j (offers ss (col .prices) [])
 
 module _ (end : ℤ) (ss : List ℤ) (col : Column) (t : List ℕ) (q : ℕ) (la : Lane end ss col t q) where
   -- over the suffix prices: the least over the front
-  pub lane-over : (w : List ℕ) (j n : ℕ) → j ≤ length ss → length ss ≤ 64 → ((k : ℕ) → k < n → getD w (markPlace k) 0 ≤ j) → ((k : ℕ) → k < n → Level (top * j) (getD w (rowPlace k q) 0))
+  pub lane-over : (w : List ℕ) (j n : ℕ) → j ≤ length ss → length ss ≤ 64 → ((k : ℕ) → k < n → getD w (markPlace k) 0 ≤ j) → ((k : ℕ) → k < n → Level (dear * j) (getD w (rowPlace k q) 0))
       → valueOf (lane t w suffixBase j q n) ≡ over (col .life) end (marksIn (col .first) ss w q n) (undecided ss col j)
   unfolding lane marksIn
   lane-over w j zero h s m l = refl
@@ -133,8 +134,8 @@ module _ (end : ℤ) (ss : List ℤ) (col : Column) (t : List ℕ) (q : ℕ) (la
       let e = getD t (place suffixBase j (getD w (markPlace k) 0) q) 0 in
       let c = la .suffix j (getD w (markPlace k) 0) (m k (omega arith)) h in
       let x = leastOf (col .life) end (markOf (col .first) ss (getD w (markPlace k) 0)) (undecided ss col j) in
-      let v = value-plus d e (top * j) (top * (length ss - j)) (omega arith) (l k (omega arith) .some) (coded-low (top * (length ss - j)) (omega arith) e x c) in
-      value-min (lane t w suffixBase j q k) (d + e) ∙ ap₂ lower (lane-over w j k h s (λ i g. m i (omega arith)) (λ i g. l i (omega arith))) (v .0 ∙ ap (add (valueOf d)) (coded-est (top * (length ss - j)) (omega arith) e x c))
+      let v = value-plus d e (dear * j) (dear * (length ss - j)) (omega arith) (l k (omega arith) .some) (coded-low (dear * (length ss - j)) (omega arith) e x c) in
+      value-min (lane t w suffixBase j q k) (d + e) ∙ ap₂ lower (lane-over w j k h s (λ i g. m i (omega arith)) (λ i g. l i (omega arith))) (v .0 ∙ ap (add (valueOf d)) (coded-est (dear * (length ss - j)) (omega arith) e x c))
 
   -- over the table of reach: the least cost so far from which opening j is in reach
   pub lane-reach : (w : List ℕ) (j n b : ℕ) → j < length ss → b ≤ laneLimit → ((k : ℕ) → k < n → getD w (markPlace k) 0 ≤ j) → ((k : ℕ) → k < n → Level b (getD w (rowPlace k q) 0))
@@ -167,12 +168,12 @@ module _ (end : ℤ) (ss : List ℤ) (col : Column) (t : List ℕ) (q : ℕ) (la
       rises : (i : ℕ) → i ≤ j → getD t (place suffixBase j i q) 0 ≤ getD t (place suffixBase (j + 1) i q) 0
       rises i g =
           let a = markOf (col .first) ss i in
-          coded-more (getD t (place suffixBase j i q) 0) (getD t (place suffixBase (j + 1) i q) 0) (top * (length ss - j)) (top * (length ss - (j + 1)))
+          coded-more (getD t (place suffixBase j i q) 0) (getD t (place suffixBase (j + 1) i q) 0) (dear * (length ss - j)) (dear * (length ss - (j + 1)))
           (changeAt (col .life) a (offerAt ss (col .prices) [] j) (leastOf (col .life) end (getD ss j (pos 0)) (drop (suc j) all))) (leastOf (col .life) end a (drop (suc j) all)) (omega arith)
-          (subst (Coded (top * (length ss - j)) (getD t (place suffixBase j i q) 0))
+          (subst (Coded (dear * (length ss - j)) (getD t (place suffixBase j i q) 0))
           (least-cons (col .life) end a (drop j all) (offerAt ss (col .prices) [] j) (drop (suc j) all) (offers-drop ss (col .prices) [] j h))
           (la .suffix j i g (omega arith)))
-          (subst (λ (x : ℕ). Coded (top * (length ss - (j + 1))) (getD t (place suffixBase (j + 1) i q) 0) (leastOf (col .life) end a (drop x all))) (add-one j) (la .suffix (j + 1) i (omega arith) (omega arith)))
+          (subst (λ (x : ℕ). Coded (dear * (length ss - (j + 1))) (getD t (place suffixBase (j + 1) i q) 0) (leastOf (col .life) end a (drop x all))) (add-one j) (la .suffix (j + 1) i (omega arith) (omega arith)))
 
 -- ---- the parts together
 
@@ -243,17 +244,28 @@ value-missing s e = go (ltb s inf) refl e
     go true f g = absurd (no-sum (Sum s) s g refl)
     go false f g = ltb-false s inf f
 
+-- the column of lane q
+abbrev columnAt : Sheet → ℕ → Column
+columnAt sheet q = getD (sheet .columns) q noColumn
+
+module _ (sheet : Sheet) (t w : List ℕ) (at : ℕ) (sees : ℕ → List Bool) (n : ℕ) (ta : Tables sheet t) (ro : SeenRows sheet w at sees n) where
+  -- a lane's least price
+  pub lane-is : at ≤ length (sheet .positions) → (q : ℕ) → q < lanesIn t → valueOf (lane t w suffixBase at q n) ≡ columnBound sheet (columnAt sheet q) (sees q)
+  lane-is h q l =
+      let g : q < length (sheet .columns) = omega (arith, ta .wide) in
+      let col = columnAt sheet q in
+      lane-over (sheet .end) (sheet .positions) col t q (ta .lanes q l) w at n h (ta .few) (ro .marks) (λ k m. ro .level k q m g)
+      ∙ over-same (col .life) (sheet .end) (marksIn (col .first) (sheet .positions) w q n) (front (sheet .positions) col (sees q)) (undecided (sheet .positions) col at) (ro .fronts q g)
+      ∙ ap (λ (j : ℕ). over (col .life) (sheet .end) (front (sheet .positions) col (sees q)) (drop j (offers (sheet .positions) (col .prices) []))) (sym (ro .decided q g))
+      ∙ sym (column-front sheet col (sees q))
+
 module _ (sheet : Sheet) (t w : List ℕ) (p : List Bool) (n : ℕ) (ta : Tables sheet t) (ro : Rows sheet w p n) (h : length p ≤ length (sheet .positions)) where
   abbrev laneAt : ℕ → ℕ
   laneAt q = lane t w suffixBase (length p) q n
 
   -- a lane is its part's least price
   node-lane : (q : ℕ) → q < lanesIn t → valueOf (laneAt q) ≡ columnBound sheet (getD (sheet .columns) q noColumn) p
-  node-lane q l =
-      let g : q < length (sheet .columns) = omega (arith, ta .wide) in
-      let col = getD (sheet .columns) q noColumn in
-      lane-over (sheet .end) (sheet .positions) col t q (ta .lanes q l) w (length p) n h (ta .few) (ro .marks) (λ k m. ro .level k q m g)
-      ∙ ap (λ (fr : List Mark). over (col .life) (sheet .end) fr (undecided (sheet .positions) col (length p))) (ro .fronts q g) ∙ sym (column-front sheet col p)
+  node-lane q l = lane-is sheet t w (length p) (λ (q : ℕ). p) n ta (ro .seen) h q l
 
   -- the part sums of a node, where each part has a price
   pub node-sum : ((q : ℕ) → q < lanesIn t → (m : ℕ) × (columnBound sheet (getD (sheet .columns) q noColumn) p ≡ Sum m)) → partSums sheet p ≡ Sum (sumLanes (lanesIn t) laneAt)
@@ -275,7 +287,7 @@ module _ (sheet : Sheet) (t w : List ℕ) (p : List Bool) (n : ℕ) (ta : Tables
   pub node-rises : length p < length (sheet .positions) → sumLanes (lanesIn t) (λ (q : ℕ). lane t w suffixBase (length p) q n) ≤ sumLanes (lanesIn t) (λ (q : ℕ). lane t w suffixBase (length p + 1) q n)
   node-rises l =
       sum-rises (lanesIn t) (λ (q : ℕ). lane t w suffixBase (length p) q n) (λ (q : ℕ). lane t w suffixBase (length p + 1) q n)
-      (λ q g. lane-rises (sheet .end) (sheet .positions) (getD (sheet .columns) q noColumn) t q (ta .lanes q g) w (length p) n l (ta .few) (ro .marks))
+      (λ q g. lane-rises (sheet .end) (sheet .positions) (getD (sheet .columns) q noColumn) t q (ta .lanes q g) w (length p) n l (ta .few) (ro .seen .marks))
 
 -- ---- the stack: what is kept, one row more, a no
 
@@ -310,129 +322,174 @@ marks-suc first ss w q n a c fr e f g = λ i. record { at = e i; cost = f i } �
 pub level-more : (a b v : ℕ) → a ≤ b → Level a v → Level b v
 level-more a b v h l = record { some = λ g. omega (arith, l .some g); most = l .most }
 
-pub rows-kept : (sheet : Sheet) (w w' : List ℕ) (p : List Bool) (n : ℕ) → Rows sheet w p n → Kept w w' n → Rows sheet w' p n
-rows-kept sheet w w' p n r k =
+-- ---- rows where each lane sees the decisions in its own way: a no leaves them as they are, a stop adds a row, in which the lanes that it is shut to have Missing. Their fronts have the same solid marks as
+-- if there were no stop
+
+pub seen-kept : (sheet : Sheet) (w w' : List ℕ) (at : ℕ) (sees : ℕ → List Bool) (n : ℕ) → SeenRows sheet w at sees n → Kept w w' n → SeenRows sheet w' at sees n
+seen-kept sheet w w' at sees n r k =
     record {
       size = k .size ∙ r .size;
       some = r .some;
       few = r .few;
-      last = let h = r .some in k .marks (n - 1) (omega arith) ∙ r .last;
-      marks = λ i l. subst (λ (x : ℕ). x ≤ length p) (sym (k .marks i l)) (r .marks i l);
+      marks = λ i l. subst (λ (x : ℕ). x ≤ at) (sym (k .marks i l)) (r .marks i l);
       narrow = r .narrow;
-      level = λ i q l g. subst (Level (top * length p)) (sym (k .rows (rowPlace i q) (omega (arith, r .narrow)))) (r .level i q l g);
-      fronts = λ q l. marks-kept (getD (sheet .columns) q noColumn .first) (sheet .positions) w w' q n n (omega (arith, r .narrow)) (omega arith) k ∙ r .fronts q l;
+      decided = r .decided;
+      level = λ i q l g. subst (Level (dear * at)) (sym (k .rows (rowPlace i q) (omega (arith, r .narrow)))) (r .level i q l g);
+      fronts = λ q l. ap solid (marks-kept (getD (sheet .columns) q noColumn .first) (sheet .positions) w w' q n n (omega (arith, r .narrow)) (omega arith) k) ∙ r .fronts q l;
     }
 
-snoc-length : (p : List Bool) (b : Bool) → length (snoc p b) ≡ length p + 1
-snoc-length p b = simp length-append
+module _ (sheet : Sheet) (t w : List ℕ) (at : ℕ) (sees : ℕ → List Bool) (n : ℕ) (ta : Tables sheet t) (ro : SeenRows sheet w at sees n) where
+  module _ (h : at < length (sheet .positions)) where
+    snoc-at : (q : ℕ) (b : Bool) → q < length (sheet .columns) → length (snoc (sees q) b) ≡ at + 1
+    snoc-at q b l = simp length-append (omega (arith, ro .decided q l))
+
+    front-at : (q : ℕ) (b : Bool) → q < length (sheet .columns)
+        → front (sheet .positions) (columnAt sheet q) (snoc (sees q) b) ≡ joined (columnAt sheet q .life) (front (sheet .positions) (columnAt sheet q) (sees q)) (offerIs (sheet .positions) (columnAt sheet q .prices) b at)
+    front-at q b l =
+        front-snoc (sheet .positions) (columnAt sheet q) (sees q) b (omega (arith, ro .decided q l))
+        ∙ ap (λ (j : ℕ). joined (columnAt sheet q .life) (front (sheet .positions) (columnAt sheet q) (sees q)) (offerIs (sheet .positions) (columnAt sheet q .prices) b j)) (ro .decided q l)
+
+    -- a no
+    pub seen-no : SeenRows sheet w (at + 1) (λ (q : ℕ). snoc (sees q) false) n
+    seen-no =
+        record {
+          size = ro .size;
+          some = ro .some;
+          few = omega (arith, ro .few);
+          marks = λ k l. omega (arith, ro .marks k l);
+          narrow = ro .narrow;
+          decided = λ q l. snoc-at q false l;
+          level = λ k q l g. level-more (dear * at) (dear * (at + 1)) (getD w (rowPlace k q) 0) (omega arith) (ro .level k q l g);
+          fronts = λ q l. ro .fronts q l ∙ ap solid (sym (front-at q false l));
+        }
+
+    -- a stop: what its row costs a lane, where it is allowed
+    abbrev price : ℕ → Bound
+    price q = plus (getD (columnAt sheet q .prices) at 0) (reach (columnAt sheet q .life) (front (sheet .positions) (columnAt sheet q) (sees q)) (getD (sheet .positions) at (pos 0)))
+
+    plus-sum : (e : Bound) (x : ℕ) → add e (Sum x) ≡ plus x e
+    plus-sum Missing x = refl
+    plus-sum (Sum y) x = ap Sum (omega arith)
+
+    next-cost : (q : ℕ) → q < length (sheet .columns) → (valueOf (nextRow t w at n q) ≡ price q) × Level (dear * (at + 1)) (nextRow t w at n q)
+    next-cost q l =
+        let col = columnAt sheet q in
+        let la = ta .lanes q (omega (arith, ta .wide)) in
+        let x = lane t w reachBase at q n in
+        let y = getD t (pricePlace at q) 0 in
+        let c = la .cheap at in
+        let pr = la .price at h in
+        let r = lane-reach (sheet .end) (sheet .positions) col t q la w at n (dear * at) h (omega (arith, ta .few)) (ro .marks) (λ k g. ro .level k q g l) in
+        let v = value-plus x y (dear * at) dear (omega (arith, ta .few)) (r .1) (λ g. omega (arith, c, pr)) in (
+          v .0
+              ∙ ap₂ add (r .0 ∙ reach-same (col .life) (marksIn (col .first) (sheet .positions) w q n) (front (sheet .positions) col (sees q)) (getD (sheet .positions) at (pos 0)) (ro .fronts q l)) (value-some y (omega (arith, c, pr)) ∙ ap Sum pr)
+              ∙ plus-sum (reach (col .life) (front (sheet .positions) col (sees q)) (getD (sheet .positions) at (pos 0))) (getD (col .prices) at 0),
+          record { some = λ g. omega (arith, v .1 g); most = omega (arith, lane-most t w reachBase at q n, c, pr) },
+        )
+
+    shut-cost : (shut : Bool) (v b : ℕ) (e : Bound) → (valueOf v ≡ e) × Level b v → (valueOf (shutTo shut v) ≡ cond (not shut) e Missing) × Level b (shutTo shut v)
+    shut-cost true v b e c = (value-none inf (omega arith), record { some = λ g. absurd (omega arith); most = omega arith })
+    shut-cost false v b e c = c
+
+    pub seen-stop : (shut : ℕ → Bool) (w' : List ℕ) → Put (lanesIn t) (stopRow t w at n shut) w w' n (at + 1) → SeenRows sheet w' (at + 1) (λ (q : ℕ). snoc (sees q) (not (shut q))) (n + 1)
+    seen-stop shut w' u =
+        record {
+          size = u .kept .size ∙ ro .size;
+          some = omega arith;
+          few = omega (arith, ro .few);
+          marks = λ k l. mark-at k (omega arith) (ℕ-discrete k n);
+          narrow = ro .narrow;
+          decided = λ q l. snoc-at q (not (shut q)) l;
+          level = λ k q l g. level-at k q (omega arith) g (ℕ-discrete k n);
+          fronts = λ q l. fronts-at q l;
+        }
+      where
+        cost : (q : ℕ) → q < length (sheet .columns) → (valueOf (stopRow t w at n shut q) ≡ cond (not (shut q)) (price q) Missing) × Level (dear * (at + 1)) (stopRow t w at n shut q)
+        cost q l = shut-cost (shut q) (nextRow t w at n q) (dear * (at + 1)) (price q) (next-cost q l)
+
+        mark-at : (k : ℕ) → k ≤ n → Dec (k ≡ n) → getD w' (markPlace k) 0 ≤ at + 1
+        mark-at k l (yes g) = rw g (omega (arith, u .mark))
+        mark-at k l (no g) = let z : k < n = omega (arith, ≠-lt k n g l) in omega (arith, u .kept .marks k z, ro .marks k z)
+
+        row-at : (q : ℕ) → q < length (sheet .columns) → getD w' (rowPlace n q) 0 ≡ stopRow t w at n shut q
+        row-at q l = u .row q (omega (arith, ta .wide))
+
+        level-at : (k q : ℕ) → k ≤ n → q < length (sheet .columns) → Dec (k ≡ n) → Level (dear * (at + 1)) (getD w' (rowPlace k q) 0)
+        level-at k q l m (yes g) = rw g (subst (Level (dear * (at + 1))) (sym (row-at q m)) (cost q m .1))
+        level-at k q l m (no g) =
+            let z : k < n = ≠-lt k n g l in
+            subst (Level (dear * (at + 1))) (sym (u .kept .rows (rowPlace k q) (omega (arith, ro .narrow)))) (level-more (dear * at) (dear * (at + 1)) (getD w (rowPlace k q) 0) (omega arith) (ro .level k q z m))
+
+        fronts-at : (q : ℕ) → q < length (sheet .columns) → solid (marksIn (columnAt sheet q .first) (sheet .positions) w' q (n + 1)) ≡ solid (front (sheet .positions) (columnAt sheet q) (snoc (sees q) (not (shut q))))
+        fronts-at q l =
+            let col = columnAt sheet q in
+            let ss = sheet .positions in
+            let o = offerIs ss (col .prices) (not (shut q)) at in
+            ap solid
+            (ap (marksIn (col .first) ss w' q) (add-one n)
+            ∙ marks-suc (col .first) ss w' q n (getD ss at (pos 0)) (cond (not (shut q)) (price q) Missing) (marksIn (col .first) ss w q n)
+            (ap (markOf (col .first) ss) (u .mark ∙ add-one at)) (ap valueOf (row-at q l) ∙ cost q l .0)
+            (marks-kept (col .first) ss w w' q n n (omega (arith, ro .narrow)) (omega arith) (u .kept)))
+            ∙ joined-solid (col .life) (marksIn (col .first) ss w q n) (front ss col (sees q)) o (ro .fronts q l)
+            ∙ ap solid (sym (front-at q (not (shut q)) l))
+
+-- ---- rows that every lane sees as they are
+
+pub rows-kept : (sheet : Sheet) (w w' : List ℕ) (p : List Bool) (n : ℕ) → Rows sheet w p n → Kept w w' n → Rows sheet w' p n
+rows-kept sheet w w' p n r k =
+    record {
+      seen = seen-kept sheet w w' (length p) (λ (q : ℕ). p) n (r .seen) k;
+      last = let h = r .seen .some in k .marks (n - 1) (omega arith) ∙ r .last;
+    }
+
+-- one decision more
+decided-more : (sheet : Sheet) (w : List ℕ) (p : List Bool) (b : Bool) (n : ℕ) → SeenRows sheet w (length p + 1) (λ (q : ℕ). snoc p b) n → SeenRows sheet w (length (snoc p b)) (λ (q : ℕ). snoc p b) n
+decided-more sheet w p b n r = let e : length p + 1 ≡ length (snoc p b) = simp length-append in subst (λ (k : ℕ). SeenRows sheet w k (λ (q : ℕ). snoc p b) n) e r
 
 module _ (sheet : Sheet) (t w : List ℕ) (p : List Bool) (n : ℕ) (ta : Tables sheet t) (ro : Rows sheet w p n) (h : length p < length (sheet .positions)) where
   pub rows-no : Rows sheet w (snoc p false) n
   rows-no =
-      let e = snoc-length p false in
       record {
-        size = ro .size;
-        some = ro .some;
-        few = omega (arith, ro .few, e);
+        seen = decided-more sheet w p false n (seen-no sheet t w (length p) (λ (q : ℕ). p) n ta (ro .seen) h);
         last = ro .last ∙ sym (last-no p);
-        marks = λ k l. omega (arith, ro .marks k l, e);
-        narrow = ro .narrow;
-        level = λ k q l g. level-more (top * length p) (top * length (snoc p false)) (getD w (rowPlace k q) 0) (omega (arith, e)) (ro .level k q l g);
-        fronts = λ q l. ro .fronts q l ∙ sym (front-snoc (sheet .positions) (getD (sheet .columns) q noColumn) p false h);
       }
 
-  abbrev pub nextRow : ℕ → ℕ
-  nextRow q = lane t w reachBase (length p) q n + getD t (pricePlace (length p) q) 0
-
-  plus-sum : (e : Bound) (x : ℕ) → add e (Sum x) ≡ plus x e
-  plus-sum Missing x = refl
-  plus-sum (Sum y) x = ap Sum (omega arith)
-
-  next-cost : (q : ℕ) (l : q < length (sheet .columns)) → (valueOf (nextRow q) ≡ plus (getD (getD (sheet .columns) q noColumn .prices) (length p) 0) (reach (getD (sheet .columns) q noColumn .life) (front (sheet .positions) (getD (sheet .columns) q noColumn) p) (getD (sheet .positions) (length p) (pos 0)))) × Level (top * (length p + 1)) (nextRow q)
-  next-cost q l =
-      let col = getD (sheet .columns) q noColumn in
-      let la = ta .lanes q (omega (arith, ta .wide)) in
-      let x = lane t w reachBase (length p) q n in
-      let y = getD t (pricePlace (length p) q) 0 in
-      let c = la .cheap (length p) in
-      let pr = la .price (length p) h in
-      let r = lane-reach (sheet .end) (sheet .positions) col t q la w (length p) n (top * length p) h (omega (arith, ta .few)) (ro .marks) (λ k g. ro .level k q g l) in
-      let v = value-plus x y (top * length p) top (omega (arith, ta .few)) (r .1) (λ g. omega (arith, c, pr)) in (
-        v .0 ∙ ap₂ add (r .0 ∙ ap (λ (fr : List Mark). reach (col .life) fr (getD (sheet .positions) (length p) (pos 0))) (ro .fronts q l)) (value-some y (omega (arith, c, pr)) ∙ ap Sum pr)
-            ∙ plus-sum (reach (col .life) (front (sheet .positions) col p) (getD (sheet .positions) (length p) (pos 0))) (getD (col .prices) (length p) 0),
-        record { some = λ g. omega (arith, v .1 g); most = omega (arith, lane-most t w reachBase (length p) q n, c, pr) },
-      )
-
-  pub rows-yes : (w' : List ℕ) → Put (lanesIn t) nextRow w w' n (length p + 1) → Rows sheet w' (snoc p true) (n + 1)
+  pub rows-yes : (w' : List ℕ) → Put (lanesIn t) (nextRow t w (length p) n) w w' n (length p + 1) → Rows sheet w' (snoc p true) (n + 1)
   rows-yes w' u =
-      let e = snoc-length p true in
       record {
-        size = u .kept .size ∙ ro .size;
-        some = omega arith;
-        few = omega (arith, ro .few, e);
+        seen = decided-more sheet w' p true (n + 1) (seen-stop sheet t w (length p) (λ (q : ℕ). p) n ta (ro .seen) h (λ (q : ℕ). false) w' u);
         last = let z : n + 1 - 1 ≡ n = omega arith in ap (λ (k : ℕ). getD w' (markPlace k) 0) z ∙ u .mark ∙ add-one (length p) ∙ sym (last-yes p);
-        marks = λ k l. mark-at k (omega arith) (ℕ-discrete k n);
-        narrow = ro .narrow;
-        level = λ k q l g. level-at k q (omega arith) g (ℕ-discrete k n);
-        fronts = λ q l. front-at q l;
       }
-    where
-      mark-at : (k : ℕ) → k ≤ n → Dec (k ≡ n) → getD w' (markPlace k) 0 ≤ length (snoc p true)
-      mark-at k l (yes g) = rw g (omega (arith, u .mark, snoc-length p true))
-      mark-at k l (no g) = let z : k < n = omega (arith, ≠-lt k n g l) in omega (arith, u .kept .marks k z, ro .marks k z, snoc-length p true)
-
-      row-at : (q : ℕ) → q < length (sheet .columns) → getD w' (rowPlace n q) 0 ≡ nextRow q
-      row-at q l = u .row q (omega (arith, ta .wide))
-
-      level-at : (k q : ℕ) → k ≤ n → q < length (sheet .columns) → Dec (k ≡ n) → Level (top * length (snoc p true)) (getD w' (rowPlace k q) 0)
-      level-at k q l m (yes g) =
-          rw (g, row-at q m) (level-more (top * (length p + 1)) (top * length (snoc p true)) (nextRow q) (omega (arith, snoc-length p true)) (next-cost q m .1))
-      level-at k q l m (no g) =
-          let z : k < n = ≠-lt k n g l in
-          rw (u .kept .rows (rowPlace k q) (omega (arith, ro .narrow))) (level-more (top * length p) (top * length (snoc p true)) (getD w (rowPlace k q) 0) (omega (arith, snoc-length p true)) (ro .level k q z m))
-
-      front-at : (q : ℕ) → q < length (sheet .columns) → marksIn (getD (sheet .columns) q noColumn .first) (sheet .positions) w' q (n + 1) ≡ front (sheet .positions) (getD (sheet .columns) q noColumn) (snoc p true)
-      front-at q l =
-          let col = getD (sheet .columns) q noColumn in
-          ap (marksIn (col .first) (sheet .positions) w' q) (add-one n)
-          ∙ marks-suc (col .first) (sheet .positions) w' q n (getD (sheet .positions) (length p) (pos 0)) (plus (getD (col .prices) (length p) 0) (reach (col .life) (front (sheet .positions) col p) (getD (sheet .positions) (length p) (pos 0)))) (front (sheet .positions) col p)
-          (ap (markOf (col .first) (sheet .positions)) (u .mark ∙ add-one (length p)))
-          (ap valueOf (row-at q l) ∙ next-cost q l .0)
-          (marks-kept (col .first) (sheet .positions) w w' q n n (omega (arith, ro .narrow)) (omega arith) (u .kept) ∙ ro .fronts q l)
-          ∙ sym (front-snoc (sheet .positions) col p true h)
 
 -- ---- the loops
 
--- at any opening j from the first undecided one on
-pub stack-at : (sheet : Sheet) (t w : List ℕ) (p : List Bool) (n j : ℕ) → Tables sheet t → Rows sheet w p n → length p ≤ j → j ≤ length (sheet .positions) → Stack (lanesIn t) t w suffixBase j n
-stack-at sheet t w p n j ta ro h g =
-    record {
-      some = ta .some;
-      narrow = ta .narrow;
-      table = omega (arith, ta .size);
-      size = ro .size;
-      near = omega (arith, ta .few);
-      few = omega (arith, ro .few);
-      marks = λ k l. omega (arith, ro .marks k l);
-      sums = λ k q l m.
-          let o = ro .marks k l in
-          let i = getD w (markPlace k) 0 in
-          let la = ta .lanes q m in
-          omega (
-            arith,
-            ro .level k q l (omega (arith, ta .wide)) .most,
-            coded-most (top * (length (sheet .positions) - j)) (omega (arith, ta .few)) (getD t (place suffixBase j i q) 0)
-                (leastOf (getD (sheet .columns) q noColumn .life) (sheet .end) (markOf (getD (sheet .columns) q noColumn .first) (sheet .positions) i) (drop j (offers (sheet .positions) (getD (sheet .columns) q noColumn .prices) [])))
-                (la .suffix j i (omega arith) g),
-          );
-    }
+module _ (sheet : Sheet) (t w : List ℕ) (at : ℕ) (sees : ℕ → List Bool) (n : ℕ) (ta : Tables sheet t) (ro : SeenRows sheet w at sees n) where
+  -- at any opening j from the first undecided one on
+  pub seen-stack : (j : ℕ) → at ≤ j → j ≤ length (sheet .positions) → Stack (lanesIn t) t w suffixBase j n
+  seen-stack j h g =
+      record {
+        some = ta .some;
+        narrow = ta .narrow;
+        table = omega (arith, ta .size);
+        size = ro .size;
+        near = omega (arith, ta .few);
+        few = omega (arith, ro .few);
+        marks = λ k l. omega (arith, ro .marks k l);
+        sums = λ k q l m.
+            let o = ro .marks k l in
+            let i = getD w (markPlace k) 0 in
+            let col = getD (sheet .columns) q noColumn in
+            omega (
+              arith,
+              ro .level k q l (omega (arith, ta .wide)) .most,
+              coded-most (dear * (length (sheet .positions) - j)) (omega (arith, ta .few)) (getD t (place suffixBase j i q) 0) (leastOf (col .life) (sheet .end) (markOf (col .first) (sheet .positions) i) (drop j (offers (sheet .positions) (col .prices) [])))
+                  (ta .lanes q m .suffix j i (omega arith) g),
+            );
+      }
 
-module _ (sheet : Sheet) (t w : List ℕ) (p : List Bool) (n : ℕ) (ta : Tables sheet t) (ro : Rows sheet w p n) (h : length p < length (sheet .positions)) where
-  pub stack-no : Stack (lanesIn t) t w suffixBase (length p + 1) n
-  stack-no = stack-at sheet t w p n (length p + 1) ta ro (omega arith) (omega arith)
-
-  pub stack-yes : Stack (lanesIn t) t w reachBase (length p) n
-  stack-yes =
+  -- the loops over the reach table, where there is an undecided opening
+  pub seen-reach : at < length (sheet .positions) → Stack (lanesIn t) t w reachBase at n
+  seen-reach h =
       record {
         some = ta .some;
         narrow = ta .narrow;
@@ -445,8 +502,8 @@ module _ (sheet : Sheet) (t w : List ℕ) (p : List Bool) (n : ℕ) (ta : Tables
             omega (
               arith,
               ro .level k q l (omega (arith, ta .wide)) .most,
-              cond-most (within (getD (sheet .columns) q noColumn .life) (markOf (getD (sheet .columns) q noColumn .first) (sheet .positions) (getD w (markPlace k) 0)) (getD (sheet .positions) (length p) (pos 0))),
-              ta .lanes q g .reach (length p) (getD w (markPlace k) 0) (ro .marks k l) h,
+              cond-most (within (getD (sheet .columns) q noColumn .life) (markOf (getD (sheet .columns) q noColumn .first) (sheet .positions) (getD w (markPlace k) 0)) (getD (sheet .positions) at (pos 0))),
+              ta .lanes q g .reach at (getD w (markPlace k) 0) (ro .marks k l) h,
             );
       }
     where
@@ -454,26 +511,38 @@ module _ (sheet : Sheet) (t w : List ℕ) (p : List Bool) (n : ℕ) (ta : Tables
       cond-most true = omega arith
       cond-most false = omega arith
 
+module _ (sheet : Sheet) (t w : List ℕ) (p : List Bool) (n : ℕ) (ta : Tables sheet t) (ro : Rows sheet w p n) (h : length p < length (sheet .positions)) where
+  pub stack-no : Stack (lanesIn t) t w suffixBase (length p + 1) n
+  stack-no = seen-stack sheet t w (length p) (λ (q : ℕ). p) n ta (ro .seen) (length p + 1) (omega arith) (omega arith)
+
+  pub stack-yes : Stack (lanesIn t) t w reachBase (length p) n
+  stack-yes = seen-reach sheet t w (length p) (λ (q : ℕ). p) n ta (ro .seen) h
+
 -- ---- the first node
 
-pub rows-root : (sheet : Sheet) (w : List ℕ) → length (sheet .columns) ≤ laneCount → FirstRow w → Rows sheet w [] 1
-unfolding marksIn frontFrom lastYes
-rows-root sheet w h r =
+pub seen-root : (sheet : Sheet) (w : List ℕ) → length (sheet .columns) ≤ laneCount → FirstRow w → SeenRows sheet w 0 (λ (q : ℕ). []) 1
+unfolding marksIn frontFrom
+seen-root sheet w h r =
     record {
       size = r .size;
       some = omega arith;
       few = omega arith;
-      last = r .mark;
       marks = λ k l. let z : markBase + k ≡ markBase = omega arith in let y : getD w (markPlace k) 0 ≡ 0 = ap (λ (x : ℕ). getD w x 0) z ∙ r .mark in omega arith;
       narrow = h;
+      decided = λ q l. refl;
       level = λ k q l g. let z : k * laneCount + q ≡ q = omega arith in let y : getD w (rowPlace k q) 0 ≡ 0 = ap (λ (x : ℕ). getD w x 0) z ∙ r .lanes q (omega arith) in record { some = λ a. omega arith; most = omega arith };
       fronts = λ q l.
           let col = getD (sheet .columns) q noColumn in
           let z : 0 * laneCount + q ≡ q = omega arith in
           let y : getD w (rowPlace 0 q) 0 ≡ 0 = ap (λ (x : ℕ). getD w x 0) z ∙ r .lanes q (omega arith) in
-          (λ i. record { at = markOf (col .first) (sheet .positions) (r .mark i); cost = valueOf (y i) } ∷ [])
-          ∙ sym (ap (frontFrom (col .life) (record { at = col .first; cost = Sum 0 } ∷ [])) (decided-nil (sheet .positions) (col .prices)));
+          ap solid
+          ((λ i. record { at = markOf (col .first) (sheet .positions) (r .mark i); cost = valueOf (y i) } ∷ [])
+          ∙ sym (ap (frontFrom (col .life) (record { at = col .first; cost = Sum 0 } ∷ [])) (decided-nil (sheet .positions) (col .prices))));
     }
+
+pub rows-root : (sheet : Sheet) (w : List ℕ) → length (sheet .columns) ≤ laneCount → FirstRow w → Rows sheet w [] 1
+unfolding lastYes
+rows-root sheet w h r = record { seen = seen-root sheet w h r; last = r .mark }
 
 -- where nothing is decided, a lane is the tables' first number for it
 module _ (sheet : Sheet) (t : List ℕ) (ta : Tables sheet t) where
@@ -486,7 +555,7 @@ module _ (sheet : Sheet) (t : List ℕ) (ta : Tables sheet t) where
       let col = getD (sheet .columns) q noColumn in
       let n = length (sheet .positions) in
       subst (λ (k : ℕ). getD t k 0 ≤ inf) (first-place q)
-      (coded-most (top * (n - 0)) (omega (arith, ta .few)) (getD t (place suffixBase 0 0 q) 0) (leastOf (col .life) (sheet .end) (markOf (col .first) (sheet .positions) 0) (drop 0 (offers (sheet .positions) (col .prices) [])))
+      (coded-most (dear * (n - 0)) (omega (arith, ta .few)) (getD t (place suffixBase 0 0 q) 0) (leastOf (col .life) (sheet .end) (markOf (col .first) (sheet .positions) 0) (drop 0 (offers (sheet .positions) (col .prices) [])))
       (ta .lanes q l .suffix 0 0 (omega arith) (omega arith)))
 
   first-lane : (w : List ℕ) (q : ℕ) → q < lanesIn t → FirstRow w → getD t q 0 ≡ lane t w suffixBase 0 q 1

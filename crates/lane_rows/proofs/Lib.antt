@@ -3,6 +3,7 @@ pub mod Rising
 pub mod Window
 pub mod Putting
 pub mod Front
+pub mod Solid
 pub mod Lanes
 pub mod Going
 pub mod Terms

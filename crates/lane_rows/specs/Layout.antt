@@ -17,15 +17,19 @@ rowPlace y q = y * laneCount + q
 
 -- ---- numbers for prices
 
--- the highest price or fee
+-- the highest fee or removal
 abbrev pub top : ℕ
 top = dearest
 
+-- the highest price: "a part that holds nobody adds its removal to its price" (E7.6)
+abbrev pub dear : ℕ
+dear = dearest + dearest
+
 -- the most that a part's changes cost, one at each opening
 abbrev pub laneLimit : ℕ
-laneLimit = 64000000
+laneLimit = 128000000
 
--- the number for Missing: sixteen lanes that are prices stay below it
+-- the number for Missing: a lane that is a price stays below it
 abbrev pub inf : ℕ
 inf = 1030000000
 

@@ -1,7 +1,7 @@
 -- What the stack of rows holds: a row for the first life and one for each yes opening, with its mark.
 use Prim.Native.Nat.{ℕ, zero, suc, _+_, _-_, _*_, _^_, _<_, _≤_, min}
 use mathlib.Core.Path.{_≡_}
-use mathlib.Core.Bool.{Bool, true, false}
+use mathlib.Core.Bool.{Bool, true, false, cond}
 use mathlib.Core.List.{List, [], _∷_}
 use lib.ListN.{length, getD}
 use lib.IntN.{ℤ}
@@ -9,8 +9,8 @@ use Rattle.branch.specs.declared.Bound.{Bound}
 use Rattle.model.specs.LastYes.{lastYes}
 use Rattle.least.specs.Filled.{FilledBy}
 use Rattle.least.specs.Marks.{markOf}
-use Rattle.lane_rows.specs.Layout.{laneCount, markCount, top, inf, place, rowPlace, suffixBase, markBase, markPlace, knownBase, knownPlace, memoBase, memoPlace, stackSize, blockSize, reachBase, pricePlace, termPlace, lanesIn, tablesSize}
-use Rattle.lane_rows.specs.Sheet.{Sheet, Mark, front, noColumn}
+use Rattle.lane_rows.specs.Layout.{laneCount, markCount, dear, inf, place, rowPlace, suffixBase, markBase, markPlace, knownBase, knownPlace, memoBase, memoPlace, stackSize, blockSize, reachBase, pricePlace, termPlace, lanesIn, tablesSize}
+use Rattle.lane_rows.specs.Sheet.{Sheet, Mark, front, solid, noColumn}
 use Rattle.lane_rows.specs.Tables.{valueOf, sumWhere}
 use Rattle.model.specs.Limits.{mostOpenings}
 
@@ -69,18 +69,24 @@ marksIn first ss w q (suc k) = record { at = markOf first ss (getD w (markPlace 
 -- a number of a row: Missing, or at most b
 pub record Level (b v : ℕ) : Type 0 where
   pub some : v < inf → v ≤ b
-  pub most : v ≤ inf + top
+  pub most : v ≤ inf + dear
 
--- the stack's first n rows are those of the node p
-pub record Rows (sheet : Sheet) (w : List ℕ) (p : List Bool) (n : ℕ) : Type 0 where
+-- the stack's first n rows are those of a node where `at` openings are decided, and lane q sees them as `sees q`: a row for the first life and one for each stop, in which a lane that the stop is shut to
+-- has Missing
+pub record SeenRows (sheet : Sheet) (w : List ℕ) (at : ℕ) (sees : ℕ → List Bool) (n : ℕ) : Type 0 where
   pub size : length w ≡ stackSize
   pub some : 0 < n
-  pub few : n ≤ length p + 1
-  pub last : getD w (markPlace (n - 1)) 0 ≡ lastYes p
-  pub marks : (k : ℕ) → k < n → getD w (markPlace k) 0 ≤ length p
+  pub few : n ≤ at + 1
+  pub marks : (k : ℕ) → k < n → getD w (markPlace k) 0 ≤ at
   pub narrow : length (sheet .columns) ≤ laneCount
-  pub level : (k q : ℕ) → k < n → q < length (sheet .columns) → Level (top * length p) (getD w (rowPlace k q) 0)
-  pub fronts : (q : ℕ) → q < length (sheet .columns) → marksIn (getD (sheet .columns) q noColumn .first) (sheet .positions) w q n ≡ front (sheet .positions) (getD (sheet .columns) q noColumn) p
+  pub decided : (q : ℕ) → q < length (sheet .columns) → length (sees q) ≡ at
+  pub level : (k q : ℕ) → k < n → q < length (sheet .columns) → Level (dear * at) (getD w (rowPlace k q) 0)
+  pub fronts : (q : ℕ) → q < length (sheet .columns) → solid (marksIn (getD (sheet .columns) q noColumn .first) (sheet .positions) w q n) ≡ solid (front (sheet .positions) (getD (sheet .columns) q noColumn) (sees q))
+
+-- they are those of the node p, which every lane sees as it is
+pub record Rows (sheet : Sheet) (w : List ℕ) (p : List Bool) (n : ℕ) : Type 0 where
+  pub seen : SeenRows sheet w (length p) (λ (q : ℕ). p) n
+  pub last : getD w (markPlace (n - 1)) 0 ≡ lastYes p
 
 -- the memo's rows of no rows stand at the levels before n, and nothing before the memo moved
 pub record Nones (w w' : List ℕ) (n : ℕ) : Type 0 where
@@ -203,13 +209,21 @@ sumsAt t w j n = sumWhere (termAt t w j n) (sumLanes (lanesIn t) (λ (q : ℕ). 
 abbrev pub nextRow : List ℕ → List ℕ → ℕ → ℕ → ℕ → ℕ
 nextRow t w j n q = lane t w reachBase j q n + getD t (pricePlace j q) 0
 
+-- a lane's number, or Missing where the stop is shut to it
+abbrev pub shutTo : Bool → ℕ → ℕ
+shutTo b v = cond b inf v
+
+-- the row of a stop at opening j, which is shut to the lanes of the set
+abbrev pub stopRow : List ℕ → List ℕ → ℕ → ℕ → (ℕ → Bool) → ℕ → ℕ
+stopRow t w j n shut q = shutTo (shut q) (nextRow t w j n q)
+
 -- what writing the row of opening j asks, in its first `wide` lanes
 pub record Owing (wide : ℕ) (t w : List ℕ) (j n : ℕ) : Type 0 where
   pub stack : Stack wide t w reachBase j n
   pub size : length t ≡ tablesSize
   pub near : j < 64
   pub few : n < markCount
-  pub cheap : (q : ℕ) → q < wide → getD t (pricePlace j q) 0 ≤ top
+  pub cheap : (q : ℕ) → q < wide → getD t (pricePlace j q) 0 ≤ dear
 
 -- a node is settled: after a no the stack stays, after a yes it has the row of the last opening; the memo stays right
 pub record Settled (t w w' : List ℕ) (at n r : ℕ) (stop : Bool) : Type 0 where

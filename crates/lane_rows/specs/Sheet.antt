@@ -75,6 +75,16 @@ decidedOffers (s ∷ ss) ns (b ∷ p) = record { position = s; price = getD ns 0
 abbrev pub front : List ℤ → Column → List Bool → List Mark
 front ss col p = frontFrom (col .life) (record { at = col .first; cost = Sum 0 } ∷ []) (decidedOffers ss (col .prices) p)
 
+-- a stop has one row for all lanes; where it is shut to a lane, the lane's mark there costs Missing, and a mark that costs Missing adds nothing: a mark in front of others, if it costs something
+abbrev pub solidThen : ℤ → Bound → List Mark → List Mark
+solidThen at Missing fr = fr
+solidThen at (Sum c) fr = record { at = at; cost = Sum c } ∷ fr
+
+-- the marks that cost something
+unfoldable pub solid : List Mark → List Mark
+solid [] = []
+solid (f ∷ fr) = solidThen (f .at) (f .cost) (solid fr)
+
 -- a column that is none of the sheet's
 abbrev pub noColumn : Column
 noColumn = record { life = pos 0; first = pos 0; prices = [] }

@@ -13,7 +13,7 @@ use Rattle.model.specs.Model.{within}
 use Rattle.model.specs.LowerBound.{leastOf, offers}
 use Rattle.model.specs.LastYes.{Climbs}
 use Rattle.least.specs.Marks.{markOf}
-use Rattle.lane_rows.specs.Layout.{laneCount, top, inf, suffixBase, reachBase, place, pricePlace, feePlace, countPlace, lanesIn, termPlace, tablesSize}
+use Rattle.lane_rows.specs.Layout.{laneCount, top, dear, inf, suffixBase, reachBase, place, pricePlace, feePlace, countPlace, lanesIn, termPlace, tablesSize}
 use Rattle.lane_rows.specs.Sheet.{Column, Sheet, partColumns, noColumn}
 use Rattle.model.specs.Limits.{mostOpenings}
 
@@ -33,10 +33,10 @@ Coded b n (Sum x) = (n ≡ x) × (x ≤ b)
 -- lane q of the tables t is right for a column: the least prices from an opening on after a mark, which openings are in reach of a mark, the prices
 pub record Lane (end : ℤ) (ss : List ℤ) (col : Column) (t : List ℕ) (q : ℕ) : Type 0 where
   pub suffix : (j i : ℕ) → i ≤ j → j ≤ length ss
-      → Coded (top * (length ss - j)) (getD t (place suffixBase j i q) 0) (leastOf (col .life) end (markOf (col .first) ss i) (drop j (offers ss (col .prices) [])))
+      → Coded (dear * (length ss - j)) (getD t (place suffixBase j i q) 0) (leastOf (col .life) end (markOf (col .first) ss i) (drop j (offers ss (col .prices) [])))
   pub reach : (j i : ℕ) → i ≤ j → j < length ss → getD t (place reachBase j i q) 0 ≡ cond (within (col .life) (markOf (col .first) ss i) (getD ss j (pos 0))) 0 inf
   pub price : (j : ℕ) → j < length ss → getD t (pricePlace j q) 0 ≡ getD (col .prices) j 0
-  pub cheap : (j : ℕ) → getD (col .prices) j 0 ≤ top
+  pub cheap : (j : ℕ) → getD (col .prices) j 0 ≤ dear
 
 -- two columns with the same life and the same first change
 pub record Alike (a b : Column) : Type 0 where

@@ -109,7 +109,7 @@ fn min_row(fours: usize, d: &[u32], e: &[u32], acc: &mut [u32])
 }
 
 // Each lane with its price in a row of prices.
-pub fn plus_row(fours: usize, prices: &[u32], acc: &mut [u32])
+fn plus_row(fours: usize, prices: &[u32], acc: &mut [u32])
     requires { ⌜ PlusAsks fours (now prices) (now acc) ⌝ }
     ensures { λ _. ⌜ Turned (fours * 4) (λ (q : ℕ). getD (now (acc .entry)) q 0 + getD (now (prices .entry)) q 0) (now (acc .entry)) (now (acc .exit)) ⌝ }
 {
@@ -192,7 +192,7 @@ fn add_row(
 }
 
 // Each lane over the first `rows` rows, from lanes that hold nothing.
-pub fn least_rows(
+fn least_rows(
     fours: usize,
     t: &[u32],
     w: &[u32],
@@ -311,15 +311,23 @@ pub fn first_sums(t: &[u32]) -> Bound
 }
 
 // The row of opening j, decided yes, above the `rows` that are there: so many lanes of it.
+pub fn next_lanes(fours: usize, t: &[u32], w: &[u32], j: usize, rows: usize, acc: &mut [u32])
+    requires { ⌜ (Owing (fours * 4) (now t) (now w) j rows) × (laneCount ≤ length (now acc)) × ((q : ℕ) → q < fours * 4 → getD (now acc) q 0 ≡ inf) ⌝ }
+    ensures { λ _. ⌜ Turned (fours * 4) (nextRow (now (t .entry)) (now (w .entry)) j rows) (now (acc .entry)) (now (acc .exit)) ⌝ }
+{
+    least_rows(fours, t, w, REACHES, j, rows, acc);
+    let at = PRICES + j * LANES;
+    plus_row(fours, &t[at..at + LANES], acc);
+}
+
+// They are written, with the mark.
 fn put_lanes(fours: usize, t: &[u32], w: &mut [u32], j: usize, rows: usize)
     requires { ⌜ Owing (fours * 4) (now t) (now w) j rows ⌝ }
     ensures put { λ _. ⌜ Put (fours * 4) (nextRow (now (t .entry)) (now (w .entry)) j rows) (now (w .entry)) (now (w .exit)) rows (j + 1) ⌝ }
     ensures frame { λ _. ⌜ Past (now (w .entry)) (now (w .exit)) ⌝ }
 {
     let mut acc = [INF; LANES];
-    least_rows(fours, t, w, REACHES, j, rows, &mut acc);
-    let at = PRICES + j * LANES;
-    plus_row(fours, &t[at..at + LANES], &mut acc);
+    next_lanes(fours, t, w, j, rows, &mut acc);
     store_row(fours, &acc, rows * LANES, w);
     w[ROW_MARKS + rows] = (j + 1) as u32;
 }

@@ -1,17 +1,21 @@
 -- A job without holders: no removal is decided, so blocks are stops, each part can be changed at every stop, and nothing is paid for decided removals.
-use mathlib.Core.Path.{_≡_, refl, sym, ap, _∙_}
+use mathlib.Core.Path.{_≡_, refl, sym, ap, ap₂, _∙_}
 use mathlib.Core.Bool.{Bool, true, false, _&&_, _||_, false≢true}
 use mathlib.Core.List.{List, [], _∷_, map}
-use Prim.Native.Nat.{ℕ, zero, suc}
+use Prim.Native.Nat.{ℕ, zero, suc, _<_}
 use native.Mathlib.Omega.{arith}
 use lib.ListN.{length, getD, take, drop, replicate}
+use lib.Dec.{ltb}
+use borrow.Author.Tests.{ltb-false}
 use Rattle.branch.specs.Label.{treeOf}
 use Rattle.branch.specs.Questions.{done, times, asked}
 use Rattle.branch.proofs.Asked.{asked-fixed}
-use Rattle.model.specs.Model.{Part, Job, comesOut, listed, holdsOne, holding, NoHolders, select}
+use Rattle.model.specs.Model.{Part, Job, comesOut, listed, holdsOne, holding, isHeld, anyHeld, NoHolders, select}
 use Rattle.model.specs.Decisions.{ofHolders, heldAt, covered, allows}
 use Rattle.model.specs.LowerBound.{blocks, inner, nodeAt, stopsIn, stopsAt, removedIn, placesAt, boundOf}
 use Rattle.model.specs.Promise.{searched}
+use Rattle.model.specs.Verdict.{noPart}
+use Rattle.model.proofs.Bools.{or-left, or-right, or-split}
 use Rattle.model.proofs.Offers.{sum-none}
 use Rattle.model.proofs.Lists.{table-yes}
 
@@ -45,6 +49,33 @@ places-plain (b ∷ bs) = let e = go (getD b 0 true) in let r = places-plain bs 
 pub removed-plain : (bs : List (List Bool)) → removedIn [] bs ≡ 0
 removed-plain [] = refl
 removed-plain (b ∷ bs) = omega (arith, sum-none (drop 1 b), removed-plain bs)
+
+-- ---- the test: `hasHolder` is false exactly of the jobs without holders
+
+pub held-here : (ps : List Part) (q : ℕ) → q < length ps → isHeld (getD ps q noPart) ≡ true → anyHeld ps ≡ true
+unfolding anyHeld
+held-here [] q h e = absurd (omega arith)
+held-here (p ∷ ps) zero h e = or-left (isHeld p) (anyHeld ps) e
+held-here (p ∷ ps) (suc q) h e = or-right (isHeld p) (anyHeld ps) (held-here ps q (omega arith) e)
+
+pub held-nowhere : (ps : List Part) → ((q : ℕ) → q < length ps → isHeld (getD ps q noPart) ≡ false) → anyHeld ps ≡ false
+unfolding anyHeld
+held-nowhere [] f = refl
+held-nowhere (p ∷ ps) f = ap₂ _||_ (f 0 (omega arith)) (held-nowhere ps (λ q h. f (suc q) (omega arith)))
+
+empty : (hs : List ℕ) → ltb 0 (length hs) ≡ false → hs ≡ []
+empty [] e = refl
+empty (h ∷ hs) e = absurd (omega (arith, ltb-false 0 (length (h ∷ hs)) e))
+
+pub none-held : (ps : List Part) → anyHeld ps ≡ false → NoHolders ps
+unfolding anyHeld
+none-held [] e = tt
+none-held (p ∷ ps) e = let z = or-split (isHeld p) (anyHeld ps) e in (empty (p .holders) (z .0), none-held ps (z .1))
+
+pub held-none : (ps : List Part) → NoHolders ps → anyHeld ps ≡ false
+unfolding anyHeld
+held-none [] h = refl
+held-none (p ∷ ps) h = ap₂ _||_ (ap (λ (hs : List ℕ). ltb 0 (length hs)) (h .0)) (held-none ps (h .1))
 
 -- ---- the job
 

@@ -1,4 +1,3 @@
-// The plan text, read against a job and written: its stops, and the whole text.
+// The plan text, read against a job: its stops, and the whole text.
 pub mod stops;
 pub mod whole;
-pub mod write;

@@ -12,7 +12,7 @@ use Rattle.model.specs.Promise as model
 use Rattle.model.specs.Promise.{PlannerAnswer, no-plan, cut-none, cut, optimum, resultOf, wholeCount, answerOf}
 use Rattle.model.proofs.Promised.{promise, any-walk}
 use Rattle.job_text.specs.Grammar.{Given, readJob}
-use Rattle.job_text.proofs.Numbered.{fault}
+use Rattle.job_text.proofs.Numbered.{JobFault, fault-some, fault-else, fault}
 use Rattle.answers.specs.Said.{plainly, lent}
 use Rattle.answers.proofs.Replies.{refuses}
 use Rattle.planning.specs.Plan.{saidFor, onJob, planSaid, planRoom}
@@ -39,16 +39,16 @@ module _ (text : List ℕ) (room : ℕ) where
 
   refused-job : planRoom ≤ room → (n l : ℕ) → readJob text ≡ refused n l → PlanPromise text room (onJob text (refused n l))
   refused-job h n l e = record {
-    says-8 = (λ f. absurd (omega (arith, k)), λ f. absurd (omega arith));
-    says-6 = (λ f. absurd (omega (arith, k)), λ r. no (r .1 .0));
-    says-7 = (λ f. absurd (omega (arith, k)), λ r. no (r .1 .0));
-    says-0 = (λ f. absurd (omega (arith, k)), λ r. no (r .1 .0));
+    says-8 = (λ f. absurd (fault-else n 8 k (omega arith) (omega arith) f), λ f. absurd (omega arith));
+    says-6 = (λ f. absurd (fault-else n 6 k (omega arith) (omega arith) f), λ r. no (r .1 .0));
+    says-7 = (λ f. absurd (fault-else n 7 k (omega arith) (omega arith) f), λ r. no (r .1 .0));
+    says-0 = (λ f. absurd (omega (arith, fault-some n k)), λ r. no (r .1 .0));
     answers = λ m r. no r;
     job-fault = λ m i j f. refuses 1 text e f;
     any-walk = λ f r. no r;
   }
     where
-      k : (1 ≤ n) × (n ≤ 5)
+      k : JobFault n
       k = fault text n l e .0
 
       no : {X : Type 0} → Reading text → X

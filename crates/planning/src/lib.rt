@@ -9,7 +9,7 @@ use jobs::Job;
 use jobs::Plan;
 use lines::rows::WholeText;
 use lines::write::put_line;
-use plan_text::write::put_plan;
+use plan_writing::put_plan;
 use search::Found;
 ghost use mathlib.Core.Path.{_≡_};
 ghost use Prim.Native.Nat.{ℕ, _≤_};

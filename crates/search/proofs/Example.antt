@@ -13,7 +13,7 @@ use lib.Signed.{mag}
 use Rattle.model.specs.Model.{Job, idle, running, clock}
 use Rattle.model.specs.Verdict.{noPart}
 use Rattle.search.specs.Arrays.{priceStride, lanePart, Holds}
-use Rattle.lane_rows.specs.Layout.{top}
+use Rattle.lane_rows.specs.Layout.{top, dear}
 use Rattle.model.specs.Limits.{lastPosition, longestLife}
 
 -- every number of the list is at most b
@@ -88,7 +88,7 @@ held =
         lanes = omega arith;
         prices = refl;
         fair = all-up-to top fees refl;
-        cheap = all-up-to top flat refl;
+        cheap = all-up-to dear flat refl;
         free = free;
         near = near;
         late = omega arith;

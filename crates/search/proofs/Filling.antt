@@ -26,7 +26,7 @@ use Rattle.model.proofs.Bools.{after-one, there}
 use Rattle.least.proofs.Most.{AtMost, most-least}
 use Rattle.search.specs.Arrays.{priceStride, priceSize, laneValue, lanePart, columnOf, columnsFrom, foursOf, sheetOf, Lived, Lifespans, Arrays, Ready}
 use Rattle.search.specs.Fill.{Triangle, ownOf, reachOf, column, LaneFilled, Lanes, Terms}
-use Rattle.lane_rows.specs.Layout.{laneCount, markCount, top, laneLimit, inf, triangle, blockRows, priceRow, laneRows, suffixBase, reachBase, place, rowPlace, pricePlace, feeBase, feePlace, countPlace, foursPlace, lanesIn, tablesSize}
+use Rattle.lane_rows.specs.Layout.{laneCount, markCount, dear, laneLimit, inf, triangle, blockRows, priceRow, laneRows, suffixBase, reachBase, place, rowPlace, pricePlace, feeBase, feePlace, countPlace, foursPlace, lanesIn, tablesSize}
 use Rattle.lane_rows.specs.Sheet.{Column, noColumn}
 use Rattle.lane_rows.specs.Tables.{Coded, Lane, Tables}
 use Rattle.lane_rows.proofs.Rising.{row-inside}
@@ -56,7 +56,7 @@ offers-all (s ∷ ss) ps fs h =
 
 -- ---- the lane, after its three loops
 
-module _ (life end first : ℤ) (ss : List ℤ) (ps : List ℕ) (fs : List Bool) (tab t₀ t₁ t₂ t₃ : List ℕ) (q : ℕ) (few : length ss ≤ 64) (all : (k : ℕ) → getD fs k true ≡ true) (p : length ps ≡ length ss) (cheap : (j : ℕ) → getD ps j 0 ≤ top)
+module _ (life end first : ℤ) (ss : List ℤ) (ps : List ℕ) (fs : List Bool) (tab t₀ t₁ t₂ t₃ : List ℕ) (q : ℕ) (few : length ss ≤ 64) (all : (k : ℕ) → getD fs k true ≡ true) (p : length ps ≡ length ss) (cheap : (j : ℕ) → getD ps j 0 ≤ dear)
     (s : Suffixes life end first ss ps fs tab 0)
     (w₁ : Triangle (λ (j i : ℕ). place suffixBase j i q) (ownOf tab) (length ss + 1) t₀ t₁)
     (w₂ : Triangle (λ (j i : ℕ). place reachBase j i q) (reachOf life first ss) (length ss) t₁ t₂)
@@ -66,11 +66,11 @@ module _ (life end first : ℤ) (ss : List ℤ) (ps : List ℕ) (fs : List Bool)
   inside : (j i : ℕ) → i ≤ j → j ≤ length ss → triangle j + i < blockRows
   inside j i h g = row-inside j i markCount h (omega arith)
 
-  suffix : (j i : ℕ) → i ≤ j → j ≤ length ss → Coded (top * (length ss - j)) (getD t₃ (place suffixBase j i q) 0) (leastOf life end (markOf first ss i) (drop j (offers ss ps [])))
+  suffix : (j i : ℕ) → i ≤ j → j ≤ length ss → Coded (dear * (length ss - j)) (getD t₃ (place suffixBase j i q) 0) (leastOf life end (markOf first ss i) (drop j (offers ss ps [])))
   suffix j i h g =
       let n = inside j i h g in
-      coded (top * (length ss - j)) (leastOf life end (markOf first ss i) (drop j (offers ss ps []))) (getD t₃ (place suffixBase j i q) 0) (omega arith)
-      (most-least top life end (markOf first ss i) ss ps [] j cheap)
+      coded (dear * (length ss - j)) (leastOf life end (markOf first ss i) (drop j (offers ss ps []))) (getD t₃ (place suffixBase j i q) 0) (omega arith)
+      (most-least dear life end (markOf first ss i) ss ps [] j cheap)
       (w₃ .rest (place suffixBase j i q) (λ x l e. omega (arith, e)) ∙ w₂ .rest (place suffixBase j i q) (λ x y l m e. omega (arith, e)) ∙ w₁ .done j i h (omega arith)
       ∙ ap (λ (k : ℕ). min k inf) (s .rows j i (omega arith) g h ∙ ap (λ (os : List Offer). codeOf (leastOf life end (markOf first ss i) (drop j os))) (offers-all ss ps fs all)))
 

@@ -9,7 +9,7 @@ use Rattle.model.specs.Model.{Part, Job, positions, end, lastChange, feeOf}
 use Rattle.model.specs.LastYes.{Climbs}
 use Rattle.model.specs.Verdict.{noPart}
 use Rattle.least.specs.Suffix.{tableSize}
-use Rattle.lane_rows.specs.Layout.{laneCount, top}
+use Rattle.lane_rows.specs.Layout.{laneCount, top, dear}
 use Rattle.lane_rows.specs.Sheet.{Column, Sheet}
 use Rattle.model.specs.Limits.{lastPosition, longestLife, mostOpenings}
 
@@ -65,7 +65,7 @@ pub record Arrays (e : ℤ) (ss : List ℤ) (fs ls rs ps : List ℕ) : Type 0 wh
   pub lanes : length ls ≤ laneCount
   pub prices : length ps ≡ priceSize
   pub fair : (j : ℕ) → getD fs j 0 ≤ top
-  pub cheap : (j : ℕ) → getD ps j 0 ≤ top
+  pub cheap : (j : ℕ) → getD ps j 0 ≤ dear
   pub free : (j : ℕ) → length ls * priceStride ≤ j → getD ps j 0 ≡ 0
   pub near : (j : ℕ) → mag (getD ss j (pos 0)) ≤ lastPosition
   pub late : mag e ≤ lastPosition

@@ -10,7 +10,7 @@ use Rattle.model.specs.Model.{within}
 use Rattle.least.specs.Marks.{markOf, Bits31}
 use Rattle.least.specs.Suffix.{cell, codeOf, Room}
 use Rattle.search.specs.Arrays.{lanePart, columnOf}
-use Rattle.lane_rows.specs.Layout.{laneCount, top, inf, laneRows, tablesSize, rowPlace, place, termBase, termPlace}
+use Rattle.lane_rows.specs.Layout.{laneCount, top, dear, inf, laneRows, tablesSize, rowPlace, place, termBase, termPlace}
 use Rattle.lane_rows.specs.Sheet.{Column, Sheet}
 use Rattle.lane_rows.specs.Tables.{Coded, Lane, feeFrom}
 
@@ -41,7 +41,7 @@ pub record LaneAsks (end first : ℤ) (ss : List ℤ) (ps : List ℕ) (q : ℕ) 
   pub room : Room first ss tab
   pub late : Bits31 end
   pub priced : length ps ≡ length ss
-  pub cheap : (j : ℕ) → getD ps j 0 ≤ top
+  pub cheap : (j : ℕ) → getD ps j 0 ≤ dear
   pub lane : InLane q t
 
 -- lane q is right for a column, and nothing else moved

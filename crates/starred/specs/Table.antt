@@ -291,6 +291,58 @@ table =
       length = 16;
       fault = bytes "";
     }
+    ∷
+    -- E7: part 1 inside part 2, whose removal is decided: the floor is the root's, without it
+    record {
+      call = planner;
+      job = bytes "horizon=4\nwalk=100000\nopenings=1\nopening=3\nfee=0\nparts=2\nlife=4\nleft=4\nremoval=6\ninside=1\nholder=2\nprice=6\nlife=4\nleft=3\nremoval=1\ninside=0\nprice=3\n";
+      plan = bytes "";
+      written = bytes "result=0\nnodes=5\nfloor=15\ncost=16\nstops=1\nstop=3\ncount=2\npart=1\npart=2\n";
+      result = 0;
+      text = 0;
+      line = 0;
+      length = 71;
+      fault = bytes "";
+    }
+    ∷
+    -- two parts that hold each other come out together
+    record {
+      call = planner;
+      job = bytes "horizon=2\nwalk=38\nopenings=1\nopening=1\nfee=0\nparts=2\nlife=7\nleft=1\nremoval=1\ninside=1\nholder=2\nprice=2\nlife=4\nleft=4\nremoval=0\ninside=1\nholder=1\nprice=1\n";
+      plan = bytes "";
+      written = bytes "result=0\nnodes=7\nfloor=2\ncost=3\nstops=1\nstop=1\ncount=1\npart=1\n";
+      result = 0;
+      text = 0;
+      line = 0;
+      length = 62;
+      fault = bytes "";
+    }
+    ∷
+    -- part 3 inside 2 inside 1: all three come out, and 66, by the direct rule, is not the cost
+    record {
+      call = judge;
+      job = bytes "horizon=2\nwalk=1\nopenings=1\nopening=1\nfee=1\nparts=3\nlife=3\nleft=3\nremoval=10\ninside=0\nprice=5\nlife=3\nleft=3\nremoval=20\ninside=1\nholder=1\nprice=5\nlife=3\nleft=1\nremoval=40\ninside=1\nholder=2\nprice=5\n";
+      plan = bytes "cost=66\nstops=1\nstop=1\ncount=1\npart=3\n";
+      written = bytes "result=11\ncost=76\n";
+      result = 11;
+      text = 0;
+      line = 0;
+      length = 18;
+      fault = bytes "";
+    }
+    ∷
+    -- a part that is its own holder: 12, on its line
+    record {
+      call = planner;
+      job = bytes "horizon=4\nwalk=100000\nopenings=1\nopening=3\nfee=0\nparts=2\nlife=4\nleft=4\nremoval=6\ninside=1\nholder=1\nprice=6\nlife=4\nleft=3\nremoval=1\ninside=0\nprice=3\n";
+      plan = bytes "";
+      written = bytes "result=12\ntext=1\nline=11\n";
+      result = 12;
+      text = 1;
+      line = 11;
+      length = 25;
+      fault = bytes "holder=1";
+    }
     ∷ []
 
 unfoldable pub counts : List CountCase
@@ -323,5 +375,35 @@ counts =
       line = 14;
       count = 0;
       fault = bytes "left=4";
+    }
+    ∷
+    -- E7: a job with a holder: 12, with text 0 and line 0
+    record {
+      job = bytes "horizon=4\nwalk=100000\nopenings=1\nopening=3\nfee=0\nparts=2\nlife=4\nleft=4\nremoval=6\ninside=1\nholder=2\nprice=6\nlife=4\nleft=3\nremoval=1\ninside=0\nprice=3\n";
+      result = 12;
+      text = 0;
+      line = 0;
+      count = 0;
+      fault = bytes "";
+    }
+    ∷
+    -- a fault 12 of the text before it: on its line
+    record {
+      job = bytes "horizon=4\nwalk=100000\nopenings=1\nopening=3\nfee=0\nparts=2\nlife=4\nleft=4\nremoval=6\ninside=1\nholder=1\nprice=6\nlife=4\nleft=3\nremoval=1\ninside=0\nprice=3\n";
+      result = 12;
+      text = 1;
+      line = 11;
+      count = 0;
+      fault = bytes "holder=1";
+    }
+    ∷
+    -- a removal and no holder: counted as without it
+    record {
+      job = bytes "horizon=4\nwalk=25\nopenings=2\nopening=2\nfee=0\nopening=4\nfee=5\nparts=1\nlife=5\nleft=3\nremoval=5\ninside=0\nprice=8\nprice=4\n";
+      result = 0;
+      text = 0;
+      line = 0;
+      count = 5;
+      fault = bytes "";
     }
     ∷ []

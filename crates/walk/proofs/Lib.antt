@@ -1,2 +1,3 @@
 -- Laws of the nodes and of the walk's state.
+pub mod Trees
 pub mod Nodes

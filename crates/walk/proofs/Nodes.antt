@@ -1,36 +1,37 @@
 -- From a node to the nodes below it: what the walk is given at each, and how the code's numbers are the search's.
-use Prim.Native.Nat.{ℕ, zero, suc, _+_, _-_, _*_, _/_, _%_, _^_, _<_, _≤_, min}
+use Prim.Native.Nat.{ℕ, zero, suc, _+_, _-_, _*_, _/_, _%_, _^_, _<_, _≤_}
 use mathlib.Core.Path.{_≡_, refl, sym, ap, ap₂, subst, _∙_}
 use mathlib.Core.Bool.{Bool, true, false, cond, false≢true}
 use mathlib.Core.List.{List, [], _∷_}
 use native.Mathlib.Omega.{arith}
 use native.Mathlib.Numerals.{add-one}
 use native.Mathlib.Nat.{add-zero, two-pow-succ, pow-le-pow-right}
-use borrow.Author.Tests.{ltb-false, lt-ltb, le-ltb, leb-true, leb-false}
+use borrow.Author.Tests.{ltb-false, lt-ltb, le-ltb}
 use lib.Dec.{ltb, leb}
 use lib.ListN.{length, getD, length-append}
 use Rattle.branch.specs.declared.Bound.{Bound}
 use Rattle.branch.specs.declared.Bound.the-variants.{Missing, Sum}
 use Rattle.branch.specs.Lower.{add, total}
-use Rattle.branch.specs.Search.{none, plan, below, snoc, Limited, kept, counted, stopped}
-use Rattle.branch.specs.Label.{limitedFrom, openFrom}
+use Rattle.branch.specs.Search.{snoc, Limited, kept, onward}
+use Rattle.branch.specs.Label.{treeOf, limitedFrom, openFrom}
 use Rattle.branch.proofs.Bounds.{no-sum, sum-inj}
-use Rattle.branch.proofs.Steps.{fixed-stop, fixed-drop, fixed-open, open-full, open-both}
+use Rattle.branch.proofs.Steps.{boundAt, open-full, open-both}
 use Rattle.model.specs.Model.{sumAt}
 use Rattle.model.specs.LastYes.{lastYes}
 use Rattle.model.proofs.Fees.{sum-snoc}
 use Rattle.model.proofs.LastYes.{last-no, last-yes}
 use Rattle.walk.specs.declared.Search.{Search}
 use Rattle.walk.specs.declared.Node.{Node}
-use Rattle.lane_rows.specs.Layout.{laneCount, top, inf, suffixBase, reachBase, pricePlace, markPlace, feePlace, lanesIn, termPlace}
+use Rattle.lane_rows.specs.Layout.{laneCount, top, dear, inf, suffixBase, reachBase, pricePlace, markPlace, feePlace, lanesIn, termPlace}
 use Rattle.lane_rows.specs.Sheet.{Column, Sheet, columnBound, partSums, feeTerm, sheetBound}
 use Rattle.lane_rows.specs.Tables.{sumWhere, Tables}
 use Rattle.lane_rows.specs.Rows.{lane, sumLanes, FirstRow, Rows, Stack, Memo, Looks, Recalled, termAt, sumsAt, Put, Kept, nextRow, Owing, Settled}
-use Rattle.walk.specs.State.{bits, decided, incumbent, view, viewed, noCost, countedS, keptS, reachedS, undropped, openS, noN, yesN, Pending, ready, owed, At}
+use Rattle.walk.specs.State.{bits, decided, view, viewed, noCost, countedS, keptS, reachedS, undropped, openS, noN, yesN, Pending, ready, owed, At}
 use Rattle.lane_rows.proofs.Front.{column-yes}
 use Rattle.lane_rows.proofs.Terms.{last-most, first-by, below-by, own-by, node-term, sums-by}
 use Rattle.lane_rows.proofs.Lanes.{lane-most, sum-most, node-there, node-rises, rows-no, rows-yes, rows-kept, rows-root, first-sums, kept-refl, stack-no, stack-yes}
 use Rattle.lane_rows.proofs.Memory.{memo-root}
+use Rattle.walk.proofs.Trees.{DueAt, closed, opened}
 
 -- ---- decisions in a number
 
@@ -39,14 +40,14 @@ unfolding bits
 bits-length zero m = refl
 bits-length (suc k) m = simp length-append (omega (arith, bits-length k (m / 2)))
 
-bits-no : (k m : ℕ) → bits (k + 1) (m * 2) ≡ snoc (bits k m) false
+pub bits-no : (k m : ℕ) → bits (k + 1) (m * 2) ≡ snoc (bits k m) false
 unfolding bits
 bits-no k m =
     let z : m * 2 / 2 ≡ m = omega arith in
     let y : m * 2 % 2 ≡ 0 = omega arith in
     rw (add-one, z, y)
 
-bits-yes : (k m : ℕ) → bits (k + 1) (m * 2 + 1) ≡ snoc (bits k m) true
+pub bits-yes : (k m : ℕ) → bits (k + 1) (m * 2 + 1) ≡ snoc (bits k m) true
 unfolding bits
 bits-yes k m =
     let z : (m * 2 + 1) / 2 ≡ m = omega arith in
@@ -58,7 +59,7 @@ mask-fits k m h l =
     let z : 2 ^ k ≤ 2 ^ 63 = pow-le-pow-right {n = 2} (omega arith) {i = k} {j = 63} (omega arith) in
     omega arith
 
-mask-next : (k m : ℕ) → m < 2 ^ k → m * 2 + 1 < 2 ^ (k + 1)
+pub mask-next : (k m : ℕ) → m < 2 ^ k → m * 2 + 1 < 2 ^ (k + 1)
 mask-next k m h =
     let z : 2 ^ suc k ≡ 2 ^ k + 2 ^ k = two-pow-succ k in
     rw (add-one k) (omega arith)
@@ -143,8 +144,8 @@ module _ (sheet : Sheet) (t w : List ℕ) (p : Node) (stop : Bool) (e : Bound) (
               stack = subst (λ (j : ℕ). Stack (lanesIn t) t w reachBase j (p .rows)) z (stack-yes sheet t w q (p .rows) ta r h);
               size = ta .size;
               near = omega (arith, ta .few, a .inside);
-              few = omega (arith, r .few, ta .few, a .inside);
-              cheap = λ i m. subst (λ (j : ℕ). getD t (pricePlace j i) 0 ≤ top) z (omega (arith, ta .lanes i m .price (length q) h, ta .lanes i m .cheap (length q)));
+              few = omega (arith, r .seen .few, ta .few, a .inside);
+              cheap = λ i m. subst (λ (j : ℕ). getD t (pricePlace j i) 0 ≤ dear) z (omega (arith, ta .lanes i m .price (length q) h, ta .lanes i m .cheap (length q)));
             },
           )
 
@@ -190,7 +191,7 @@ module _ (sheet : Sheet) (t w w' : List ℕ) (p : Node) (stop : Bool) (e : Bound
   pub sums-asks : Memo t w' r → Looks t w' r (p .at + 1) × (x ≤ sumLanes (lanesIn t) (λ (q : ℕ). lane t w' suffixBase (p .at + 1) q r))
   sums-asks me =
       let y = node-there sheet t w' (decided p) r (a .tables) ro (omega (arith, less)) x there in (
-        record { memo = me; stack = subst (λ (n : ℕ). Stack (lanesIn t) t w' suffixBase (n + 1) r) size (stack-no sheet t w' (decided p) r (a .tables) ro less); size = a .tables .size; some = ro .some },
+        record { memo = me; stack = subst (λ (n : ℕ). Stack (lanesIn t) t w' suffixBase (n + 1) r) size (stack-no sheet t w' (decided p) r (a .tables) ro less); size = a .tables .size; some = ro .seen .some },
         subst (λ (n : ℕ). x ≤ sumLanes (lanesIn t) (λ (q : ℕ). lane t w' suffixBase (n + 1) q r)) size (omega (arith, y, node-rises sheet t w' (decided p) r (a .tables) ro (omega (arith, less)) less)),
       )
 
@@ -258,37 +259,11 @@ fits sheet t w p stop x h = omega (arith, h .low x refl, h .poor, h .inside, h .
 
 -- ---- the state
 
-improves-below : (n e : ℕ) (s : Search) → e < noCost → viewed e s ≡ below (Sum e) (incumbent n s)
-improves-below n e s h = go (ltb (s .cost) noCost) refl
-  where
-    go : (t : Bool) → ltb (s .cost) noCost ≡ t → ltb e (s .cost) ≡ below (Sum e) (cond t (plan (s .cost) (bits n (s .mask))) none)
-    go true f = refl
-    go false f = lt-ltb e (s .cost) (omega (arith, ltb-false (s .cost) noCost f))
-
 -- a full node kept
 pub full-walked : (est : List Bool → Bound) (L n e : ℕ) (p : Node) (s : Search) → est (decided p) ≡ Sum e → e < noCost → p .at ≡ n
     → view L n (keptS s e (p .mask)) ≡ openFrom est L (n - p .at) (decided p) (view L n s)
 full-walked est L n e p s f h q =
     rw (sym q, lt-ltb e noCost h) (sym (open-full est L (p .at - p .at) (decided p) (view L (p .at) s) (omega arith) ∙ ap (λ (b : Bound). kept b (decided p) (view L (p .at) s)) f))
-
--- a node more within the limit, and one beyond it
-counted-view : (L n : ℕ) (s : Search) → s .count < L → view L n (countedS s) ≡ counted (view L n s)
-counted-view L n s h =
-    let z : min (s .count + 1) L ≡ min (s .count) L + 1 = omega arith in
-    let y : ltb L (s .count + 1) ≡ ltb L (s .count) = le-ltb L (s .count + 1) (omega arith) ∙ sym (le-ltb L (s .count) (omega arith)) in
-    λ i. record { count = z i; over = y i; incumbent = incumbent n s }
-
-passed-view : (L n : ℕ) (s : Search) → s .count < L → view L n (reachedS L s) ≡ counted (view L n s)
-passed-view L n s h = ap (λ (b : Bool). view L n (cond b s (countedS s))) (le-ltb L (s .count) (omega arith)) ∙ counted-view L n s h
-
-stopped-view : (L n : ℕ) (s : Search) → L ≤ s .count → view L n (reachedS L s) ≡ stopped (view L n s)
-stopped-view L n s h = go (ltb L (s .count)) refl
-  where
-    go : (b : Bool) → ltb L (s .count) ≡ b → view L n (cond b s (countedS s)) ≡ stopped (view L n s)
-    go true f = λ i. record { count = min (s .count) L; over = f i; incumbent = incumbent n s }
-    go false f =
-        let z : min (s .count + 1) L ≡ min (s .count) L = omega (arith, ltb-false L (s .count) f) in
-        λ i. record { count = z i; over = lt-ltb L (s .count + 1) (omega arith) i; incumbent = incumbent n s }
 
 -- both children walked, from what the two calls say
 pub both-walked : (est : List Bool → Bound) (L n : ℕ) (p : Node) (r fee : ℕ) (s r₁ r₂ : Limited) → p .at < n
@@ -302,28 +277,26 @@ both-walked est L n p r fee s r₁ r₂ h f₁ f₂ =
 
 -- ---- a node that is reached, with what `open` says of it
 
+tree-bound : (est : List Bool → Bound) (k : ℕ) (p : List Bool) → boundAt (treeOf est k p) ≡ est p
+unfolding treeOf
+tree-bound est zero p = refl
+tree-bound est (suc k) p = refl
+
+open-onward : (est : List Bool → Bound) (L k : ℕ) (p : List Bool) (st : Limited) → openFrom est L k p st ≡ onward L (treeOf est k p) p st
+unfolding treeOf
+open-onward est L zero p st = refl
+open-onward est L (suc k) p st = refl
+
 module _ (sheet : Sheet) (p : Node) (e : Bound) (due : ℕ) (d : Due sheet p e due) (L n k : ℕ) (s : Search) where
   abbrev walked : Limited
   walked = limitedFrom (sheetBound sheet) L k (decided p) (view L n s)
 
-  tested : (x : ℕ) → e ≡ Sum x → below (sheetBound sheet (decided p)) (incumbent n s) ≡ viewed (due + x) s
-  tested x f = ap (λ (b : Bound). below b (incumbent n s)) (d .some x f) ∙ sym (improves-below n (due + x) s (d .fits x f))
+  owes : DueAt (treeOf (sheetBound sheet) k (decided p)) e due
+  owes = let b = tree-bound (sheetBound sheet) k (decided p) in record { none = λ f. b ∙ d .none f; some = λ x f. b ∙ d .some x f; fits = d .fits }
 
   -- it is not walked on
   pub closed-walked : openS L due e s ≡ Missing → view L n (reachedS L s) ≡ walked
-  closed-walked f = go (leb L (s .count)) refl f
-    where
-      drop : (e' : Bound) → e ≡ e' → undropped due e' s ≡ Missing → below (sheetBound sheet (decided p)) (incumbent n s) ≡ false
-      drop Missing g h = ap (λ (b : Bound). below b (incumbent n s)) (d .none g)
-      drop (Sum x) g h = tested x g ∙ no (viewed (due + x) s) h
-        where
-          no : (b : Bool) → cond b (Sum x) Missing ≡ Missing → b ≡ false
-          no true u = absurd (no-sum (Sum x) x u refl)
-          no false u = refl
-
-      go : (b : Bool) → leb L (s .count) ≡ b → cond b Missing (undropped due e s) ≡ Missing → view L n (reachedS L s) ≡ walked
-      go true h u = let l = leb-true L (s .count) h in stopped-view L n s l ∙ sym (fixed-stop (sheetBound sheet) L k (decided p) (view L n s) (omega (arith, l)))
-      go false h u = let l = leb-false L (s .count) h in passed-view L n s l ∙ sym (fixed-drop (sheetBound sheet) L k (decided p) (view L n s) (omega (arith, l)) (drop e refl u))
+  closed-walked f = closed owes (decided p) L (bits n) s f
 
   -- it is walked on
   pub record Opened (y : ℕ) : Type 0 where
@@ -332,26 +305,32 @@ module _ (sheet : Sheet) (p : Node) (e : Bound) (due : ℕ) (d : Due sheet p e d
     pub on : openFrom (sheetBound sheet) L k (decided p) (view L n (countedS s)) ≡ walked
 
   pub open-walked : (y : ℕ) → openS L due e s ≡ Sum y → Opened y
-  open-walked y f = go (leb L (s .count)) refl f
-    where
-      kept-on : (e' : Bound) → e ≡ e' → undropped due e' s ≡ Sum y → (e ≡ Sum y) × (below (sheetBound sheet (decided p)) (incumbent n s) ≡ true)
-      kept-on Missing g h = absurd (no-sum Missing y refl h)
-      kept-on (Sum x) g h = let r = yes (viewed (due + x) s) h in (g ∙ r .0, tested x g ∙ r .1)
-        where
-          yes : (b : Bool) → cond b (Sum x) Missing ≡ Sum y → (Sum x ≡ Sum y) × (b ≡ true)
-          yes true u = (u, refl)
-          yes false u = absurd (no-sum Missing y refl u)
+  open-walked y f =
+      let r = opened owes (decided p) L (bits n) s y f in
+      record { sums = r .sums; within = r .within; on = open-onward (sheetBound sheet) L k (decided p) (view L n (countedS s)) ∙ r .on }
 
-      go : (b : Bool) → leb L (s .count) ≡ b → cond b Missing (undropped due e s) ≡ Sum y → Opened y
-      go true h u = absurd (no-sum Missing y refl u)
-      go false h u =
-          let r = kept-on e refl u in
-          let l = leb-false L (s .count) h in
-          record {
-            sums = r .0;
-            within = l;
-            on = ap (openFrom (sheetBound sheet) L k (decided p)) (counted-view L n s l) ∙ sym (fixed-open (sheetBound sheet) L k (decided p) (view L n s) (omega (arith, l)) (r .1));
-          }
+-- ---- what `open` says, by the part sums
+
+module _ (limit spent : ℕ) (s : Search) where
+  -- a node without part sums
+  pub open-none : (e : Bound) → e ≡ Missing → Missing ≡ openS limit spent e s
+  open-none e f = rw f (go (leb limit (s .count)))
+    where
+      go : (b : Bool) → Missing ≡ cond b Missing Missing
+      go true = refl
+      go false = refl
+
+  -- a node that x drops, larger part sums drop too
+  pub open-drops : (x z : ℕ) → x ≤ z → openS limit spent (Sum x) s ≡ Missing → Missing ≡ openS limit spent (Sum z) s
+  open-drops x z h e = go (leb limit (s .count)) e
+    where
+      dropped : (t : Bool) → viewed (spent + x) s ≡ t → cond t (Sum x) Missing ≡ Missing → viewed (spent + z) s ≡ false
+      dropped true f g = absurd (no-sum (Sum x) x g refl)
+      dropped false f g = le-ltb (spent + z) (s .cost) (omega (arith, ltb-false (spent + x) (s .cost) f))
+
+      go : (b : Bool) → cond b Missing (undropped spent (Sum x) s) ≡ Missing → Missing ≡ cond b Missing (undropped spent (Sum z) s)
+      go true g = refl
+      go false g = sym (ap (λ (b : Bool). cond b (Sum z) Missing) (dropped (viewed (spent + x) s) refl g))
 
 -- ---- the first node
 

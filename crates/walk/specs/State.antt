@@ -30,17 +30,24 @@ decided p = bits (p .at) (p .mask)
 abbrev pub noCost : ℕ
 noCost = 18446744073709551615
 
--- the best full plan so far
+-- the best full plan so far, whose name is l
+abbrev pub incumbentOf : List Bool → Search → Incumbent
+incumbentOf l s = cond (ltb (s .cost) noCost) (plan (s .cost) l) none
+
 abbrev pub incumbent : ℕ → Search → Incumbent
-incumbent n s = cond (ltb (s .cost) noCost) (plan (s .cost) (bits n (s .mask))) none
+incumbent n s = incumbentOf (bits n (s .mask)) s
 
 -- a node was reached beyond the limit
 abbrev pub overS : ℕ → Search → Bool
 overS limit s = ltb limit (s .count)
 
--- the state as the search has it, with a limit and where there are n openings
+-- the state as the search has it, with a limit and what the best full plan's decisions are the name of
+abbrev pub viewOf : ℕ → (ℕ → List Bool) → Search → Limited
+viewOf limit name s = record { count = min (s .count) limit; over = overS limit s; incumbent = incumbentOf (name (s .mask)) s }
+
+-- the same where there are n openings
 abbrev pub view : ℕ → ℕ → Search → Limited
-view limit n s = record { count = min (s .count) limit; over = overS limit s; incumbent = incumbent n s }
+view limit n s = viewOf limit (bits n) s
 
 -- a bound e is less than the incumbent's cost
 abbrev pub viewed : ℕ → Search → Bool

@@ -218,7 +218,7 @@ impl Search {
     }
 
     // The state at the end.
-    fn solved(self, floor: Bound, limit: u64) -> Solved
+    pub fn solved(self, floor: Bound, limit: u64) -> Solved
         ensures { λ r. ⌜ r ≡ solvedS floor limit self ⌝ }
     {
         Solved {
@@ -233,7 +233,7 @@ impl Search {
 }
 
 // A number more than a bound.
-fn plus(n: u64, e: Bound) -> Bound
+pub fn plus(n: u64, e: Bound) -> Bound
     requires { ⌜ ((x : ℕ) → e ≡ Sum x → n + x < 2 ^ 64) ⌝ }
     ensures { λ r. ⌜ r ≡ add (Sum n) e ⌝ }
 {

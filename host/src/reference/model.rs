@@ -117,11 +117,15 @@ impl Job {
         (0..self.parts.len()).filter(removed).map(|at| self.parts[at].removal).sum()
     }
 
+    /// "The prices of its changes".
+    pub fn prices(&self, plan: &Plan) -> u64 {
+        self.parts.iter().zip(&plan.changes).map(|(part, changes)| part.price(changes)).sum()
+    }
+
     /// "Its cost is the fees of its stops plus the prices of its changes", and the removals.
     pub fn cost(&self, plan: &Plan) -> u64 {
-        let prices = |(part, changes): (&Part, &Set)| part.price(changes);
         let removals = (0..self.openings.len()).map(|opening| self.removals(plan, opening));
-        self.fees(&plan.stops) + self.parts.iter().zip(&plan.changes).map(prices).sum::<u64>() + removals.sum::<u64>()
+        self.fees(&plan.stops) + self.prices(plan) + removals.sum::<u64>()
     }
 
     /// The change set of least sum of these prices that keeps the part over the allowed openings, with that sum, or none.

@@ -154,10 +154,9 @@ fn idle_steps(rng: &mut Rng, horizon: u64, openings: &[u64]) -> Vec<u64> {
     idles.into_iter().collect()
 }
 
-/// Whether jobs have removals and holders: JUZVAROLA_HOLDERS=0 gives the same random inputs without them. The library does not know
-/// them yet.
+/// Whether jobs have removals and holders: JUZVAROLA_HOLDERS=0 gives the same random inputs without them.
 pub fn holders_on() -> bool {
-    setting("JUZVAROLA_HOLDERS", u64::from(cfg!(not(feature = "library")))) != 0
+    setting("JUZVAROLA_HOLDERS", 1) != 0
 }
 
 /// The holders of each part, by number: none, some, many, a chain, a circle of all, a circle of two that holds others, all hold all, trees.

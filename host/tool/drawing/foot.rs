@@ -9,7 +9,8 @@ use crate::verdicts::Judged;
 pub fn foot(marks: &mut Marks, sheet: &Sheet, judged: &Judged) {
     let costs = &judged.costs;
     let mut words = vec![format!("Fees {}", grouped(costs.fees)), format!("Parts {}", grouped(costs.parts))];
-    words.extend(Some(costs.other).filter(|other| *other > 0).map(|other| format!("Other {}", grouped(other))));
+    words.extend((costs.removals > 0).then(|| format!("Removals {}", grouped(costs.removals))));
+    words.extend((costs.other > 0).then(|| format!("Other {}", grouped(costs.other))));
     words.push(format!("Total {}", grouped(costs.total())));
     words.extend(Some(judged.plan.cost).filter(|stated| *stated != costs.total()).map(|stated| format!("Stated {}", grouped(stated))));
     words.extend(judged.floor.map(|floor| format!("No plan costs less than {}", grouped(floor))));

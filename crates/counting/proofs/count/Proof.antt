@@ -10,7 +10,7 @@ use Rattle.job_text.proofs.Views.{means}
 use Rattle.job_text.proofs.Accepted.{valid}
 use Rattle.job_text.proofs.Numbered.{fault}
 use Rattle.counting.specs.declared.Counted.{Counted}
-use Rattle.counting.specs.Count.{countOf, onJob, countSaid}
+use Rattle.counting.specs.Count.{onJob, countSaid}
 use Rattle.counting.specs.Promise.{CountPromise}
 use Rattle.counting.proofs.Promised.{promised}
 use borrow.Author.Needs.{needs}
@@ -43,8 +43,8 @@ cast-t9 c = omega (arith, fault _ _ _ (refused-job (c .before .before)) .1)
 enum-told : tie.Need-enum-told
 enum-told c = search needs
 
-count-job-requires : tie.Need-count-job-requires
-count-job-requires c κs =
+counted-job-requires : tie.Need-counted-job-requires
+counted-job-requires c κs =
     let t = c .before in
     record { sized = t .before .before .read-job .ensures .sized; valid = valid _ _ (accepted-job t) .job }
 
@@ -63,7 +63,7 @@ unfolding countSaid
 returns-2 c =
     let t = c .before .before in
     kept (t .before .before .before .before) _
-    (ap countOf (c .count-job .ensures) ∙ ap (onJob (t .before .before .before .before .args .job .now)) (sym (accepted-job t)))
+    (c .counted-job .ensures ∙ ap (onJob (t .before .before .before .before .args .job .now)) (sym (accepted-job t)))
 
 pub count-spec : {M : Type 1} → statement M
 count-spec =
@@ -74,6 +74,6 @@ count-spec =
     fault-span-requires
     cast-t9
     enum-told
-    count-job-requires
+    counted-job-requires
     returns
     returns-2)

@@ -1,61 +1,50 @@
 -- `take_body`: the openings, the number of parts and the parts, each where the one before ends; the first fault is the whole's.
 use Prim.Native.Nat.{ℕ, _+_, _*_}
-use mathlib.Core.Path.{refl, sym, ap, _∙_}
-use mathlib.Core.List.{List, [], _++_, map, append-nil}
+use mathlib.Core.Path.{sym, ap, _∙_}
+use mathlib.Core.List.{List, [], map}
 use native.Mathlib.Omega.{arith}
 use lib.ListN.{length, take}
-use Rattle.lines.specs.Text.{lineOf, texts}
-use Rattle.lines.specs.Parser.{row, times}
+use Rattle.lines.specs.Parser.{good, return, row}
 use Rattle.lines.proofs.Parsing.{bind-good, bind-fault}
-use Rattle.model.specs.Model.{Part}
 use Rattle.jobs.specs.Views.{openingOf, partOf}
-use Rattle.job_text.specs.Grammar.{JobText, openings, part, body}
-use Rattle.job_text.specs.Rendering.{partText}
-use Rattle.job_text.specs.Views.{idleLines}
-use Rattle.form.specs.Form.{grouped, partsAgree, countOf, bodyOf}
-use Rattle.form.proofs.Checks.{passed, failed, found-map, refuse}
+use Rattle.model.specs.Model.{Opening}
+use Rattle.job_text.specs.Grammar.{PartText, JobText, openings, parts, body}
+use Rattle.job_text.specs.Views.{idleLines, partsLines}
+use Rattle.form_lists.specs.Facts.{PartLists, partLists, countedText}
+use Rattle.form_lists.specs.Checks.{found, countedParts}
+use Rattle.form_lists.proofs.Checks.{passed, failed}
+use Rattle.form.specs.Form.{bodyOf}
+use Rattle.form.proofs.Refusals.{refuse, bind-then}
 use borrow.Author.Needs.{needs}
 use Rattle.form.proofs.take_body.Statement.{statement}
 use Rattle.form.proofs.take_body.Tie as tie
 
--- the lines of the parts, and the line of their number with them
-abbrev partLines : (c : tie.Start) → List ℕ
-partLines c = let a = c .args in texts partText (grouped (length (a .openings .now)) (a .lives .now) (a .lefts .now) (a .prices .now))
-
-abbrev numbered : (c : tie.Start) → List ℕ
-numbered c = let a = c .args in lineOf "parts=" (countOf 16 (partsAgree (a .openings .now) (a .lives .now) (a .lefts .now) (a .prices .now)) (length (a .lives .now))) ++ partLines c
-
 take-openings-requires : tie.Need-take-openings-requires
-take-openings-requires c κs = let p = c .before .before .before .before .before .pre in (p .1, p .2, omega (arith, p .3))
+take-openings-requires c κs = search needs
 
 enum-told : tie.Need-enum-told
 enum-told c = search needs
 
 cast-line : tie.Need-cast-line
-cast-line c = omega (arith, c .before .before .before .before .before .before .before .before .pre .1)
+cast-line c = search needs
 
 mul-line : tie.Need-mul-line
-mul-line c = omega (arith, c .before .before .before .before .before .before .before .before .pre .1)
+mul-line c = search needs
 
 add-line : tie.Need-add-line
-add-line c = omega (arith, c .before .before .before .before .before .before .before .before .pre)
+add-line c = search needs
 
-check-part-count-requires : tie.Need-check-part-count-requires
-check-part-count-requires c κs = c .before .before .before .before .before .before .before .before .pre .1
+take-counted-requires : tie.Need-take-counted-requires
+take-counted-requires c κs = search needs
 
 enum-told-2 : tie.Need-enum-told-2
 enum-told-2 c = search needs
 
-add-take-parts : tie.Need-add-take-parts
-add-take-parts c = omega (arith, c .before .before .before .before .before .before .before .before .before .before .before .pre)
+text-with-requires : tie.Need-text-with-requires
+text-with-requires c κs = search needs
 
-take-parts-requires : tie.Need-take-parts-requires
-take-parts-requires c κs =
-    let g = c .before .before .check-part-count .ensures .1 (c .enum-told2 .given .1) in
-    (g .0, g .1, c .before .before .before .before .before .before .before .before .before .before .before .pre .1, g .2, omega (arith, c .before .before .before .before .before .before .before .before .before .before .before .pre))
-
-enum-known-k : tie.Need-enum-known-k
-enum-known-k c = search needs
+enum-known-ps-check : tie.Need-enum-known-ps-check
+enum-known-ps-check c = search needs
 
 no-lines-requires : tie.Need-no-lines-requires
 no-lines-requires c κs = search needs
@@ -66,44 +55,63 @@ enum-known-os-check c = search needs
 no-lines-requires-2 : tie.Need-no-lines-requires-2
 no-lines-requires-2 c κs = search needs
 
+-- the lists of the parts, and their text
+abbrev lists : tie.Start → PartLists
+lists s = let a = s .args in partLists (a .lives .now) (a .lefts .now) (a .covered .now) (a .removals .now) (a .insides .now) (a .holders .now) (a .prices .now)
+
+abbrev partsText : tie.Start → List ℕ
+partsText s = countedText (length (s .args .openings .now)) (lists s)
+
+-- what is said with these openings and parts
+abbrev together : tie.Start → List Opening → List PartText → JobText
+together s os ps = record { horizon = s .args .horizon; idles = idleLines (take (s .args .steps .count) (s .args .steps .idles)); walk = s .args .walk; openings = os; parts = ps }
+
 returns : tie.Need-returns
-unfolding body bodyOf
+unfolding body bodyOf return found
 returns c =
-    let a = c .before .before .before .before .before .before .before .before .before .before .before .before .before .before .before .args in
-    let n = length (a .openings .now) in
-    let m = length (a .lives .now) in
-    let os = map openingOf (take n (c .before .before .before .before .before .before .before .before .before .take-openings .result .openings)) in
-    let line = a .at + 2 * n in
-    let is = idleLines (take (a .steps .count) (a .steps .idles)) in
-    let r = c .before .before .before .take-parts in
+    let s = c .before .before .before .before .before .before .before .before .before .before .before .before .before .before .before .before in
+    let n = length (s .args .openings .now) in
+    let m = length (s .args .lives .now) in
+    let r = c .before .before .before .before .before .before .take-openings in
+    let os = map openingOf (take n (r .result .openings)) in
+    let q = c .before .before .before .take-counted in
+    let line = s .args .at + 2 * n in
+    let passes = c .before .enum-told2 .given .1 in
+    let ps = partsLines (take m (q .result .covered)) (map (partOf n) (take m (q .result .parts))) in
+    let w = c .text-with .ensures in
     record {
-      next = r .ensures .0;
-      finds = bind-good (openings (a .horizon) n) _ (passed os (numbered (c .before .before .before .before .before .before .before .before .before .before .before .before .before .before .before)) line (c .before .before .before .before .before .before .before .before .before .take-openings .ensures (numbered (c .before .before .before .before .before .before .before .before .before .before .before .before .before .before .before))) (c .before .before .before .before .before .before .before .enum-told .given .1))
-          ∙ bind-good (row "parts=" 1 16) _ (passed m (partLines (c .before .before .before .before .before .before .before .before .before .before .before .before .before .before .before)) (line + 1) (c .before .before .before .before .before .before .check-part-count .ensures .0 (partLines (c .before .before .before .before .before .before .before .before .before .before .before .before .before .before .before))) (c .before .before .before .before .enum-told2 .given .1))
-          ∙ found-map {B = JobText} (λ (ps : List Part). record { horizon = a .horizon; idles = is; walk = a .walk; openings = os; parts = ps }) (times m (part n)) (partLines (c .before .before .before .before .before .before .before .before .before .before .before .before .before .before .before)) (line + 1)
-          (r .result .check) (map (partOf n) (take m (r .result .parts))) [] (r .ensures .0) (r .ensures .0) refl
-          (ap (λ (t : List ℕ). times m (part n) t (line + 1)) (sym (append-nil (partLines (c .before .before .before .before .before .before .before .before .before .before .before .before .before .before .before)))) ∙ r .ensures .1 []);
-      sized = record { idles = c .before .before .before .before .before .before .before .before .before .before .before .before .before .before .before .pre .0; openings = c .before .before .before .before .before .before .before .before .before .before .before .before .before .before .before .pre .1; parts = c .before .before .before .before .before .before .check-part-count .ensures .1 (c .before .before .before .before .enum-told2 .given .1) .0 };
+      next = q .ensures .next;
+      finds = bind-good (openings (s .args .horizon) n) _ (passed os (partsText s) line (r .ensures (partsText s)) (c .before .before .before .before .enum-told .given .1))
+          ∙ bind-then (row "parts=" 1 16) (λ k. parts k n) (λ qs. return (together s os qs)) (partsText s) line
+          ∙ bind-good (countedParts n) _ (passed ps [] (q .ensures .next) (q .ensures .finds) passes)
+          ∙ ap (λ (t : JobText). good t [] (q .ensures .next)) (sym (w .0));
+      sized = record { idles = omega (arith, w .1 .0, s .pre .0); openings = omega (arith, w .1 .1, s .pre .1); parts = omega (arith, w .1 .2, q .ensures .few passes) };
     }
 
 returns-2 : tie.Need-returns-2
 unfolding body bodyOf
 returns-2 c =
-    let a = c .before .before .before .before .before .before .before .before .before .before .before .before .before .args in
-    let n = length (a .openings .now) in
-    let os = map openingOf (take n (c .before .before .before .before .before .before .before .take-openings .result .openings)) in
-    let line = a .at + 2 * n in
+    let s = c .before .before .before .before .before .before .before .before .before .before .before .before .before .before .before .before .before in
+    let n = length (s .args .openings .now) in
+    let m = length (s .args .lives .now) in
+    let r = c .before .before .before .before .before .before .before .take-openings in
+    let os = map openingOf (take n (r .result .openings)) in
+    let q = c .before .before .before .before .take-counted in
+    let line = s .args .at + 2 * n in
+    let ps = partsLines (take m (q .result .covered)) (map (partOf n) (take m (q .result .parts))) in
     refuse (c .no-lines .result) (c .no-lines .ensures)
-    (bind-good (openings (a .horizon) n) _ (passed os (numbered (c .before .before .before .before .before .before .before .before .before .before .before .before .before)) line (c .before .before .before .before .before .before .before .take-openings .ensures (numbered (c .before .before .before .before .before .before .before .before .before .before .before .before .before))) (c .before .before .before .before .before .enum-told .given .1))
-    ∙ bind-fault (row "parts=" 1 16) _ (failed (length (a .lives .now)) (partLines (c .before .before .before .before .before .before .before .before .before .before .before .before .before)) (line + 1) (c .before .before .before .before .check-part-count .ensures .0 (partLines (c .before .before .before .before .before .before .before .before .before .before .before .before .before))) (c .before .before .k .given .1)))
+    (bind-good (openings (s .args .horizon) n) _ (passed os (partsText s) line (r .ensures (partsText s)) (c .before .before .before .before .before .enum-told .given .1))
+    ∙ bind-then (row "parts=" 1 16) (λ k. parts k n) (λ qs. return (together s os qs)) (partsText s) line
+    ∙ bind-fault (countedParts n) _ (failed ps [] (q .ensures .next) (q .ensures .finds) (c .before .before .ps-check .given .1)))
 
 returns-3 : tie.Need-returns-3
 unfolding body bodyOf
 returns-3 c =
-    let a = c .before .before .before .before .before .before .before .before .before .before .args in
-    let n = length (a .openings .now) in
+    let s = c .before .before .before .before .before .before .before .before .before .before .before .before .before .before in
+    let n = length (s .args .openings .now) in
+    let r = c .before .before .before .before .take-openings in
     refuse (c .no-lines2 .result) (c .no-lines2 .ensures)
-    (bind-fault (openings (a .horizon) n) _ (failed (map openingOf (take n (c .before .before .before .before .take-openings .result .openings))) (numbered (c .before .before .before .before .before .before .before .before .before .before)) (a .at + 2 * n) (c .before .before .before .before .take-openings .ensures (numbered (c .before .before .before .before .before .before .before .before .before .before))) (c .before .before .os-check .given .1)))
+    (bind-fault (openings (s .args .horizon) n) _ (failed (map openingOf (take n (r .result .openings))) (partsText s) (s .args .at + 2 * n) (r .ensures (partsText s)) (c .before .before .os-check .given .1)))
 
 pub take-body-spec : {M : Type 1} → statement M
 take-body-spec =
@@ -114,11 +122,10 @@ take-body-spec =
     cast-line
     mul-line
     add-line
-    check-part-count-requires
+    take-counted-requires
     enum-told-2
-    add-take-parts
-    take-parts-requires
-    enum-known-k
+    text-with-requires
+    enum-known-ps-check
     no-lines-requires
     enum-known-os-check
     no-lines-requires-2

@@ -8,9 +8,10 @@ use Rattle.lines.specs.Text.{lineOf, texts}
 use Rattle.lines.specs.Parser.{good}
 use Rattle.job_text.specs.Views.{idleLines}
 use Rattle.job_text.proofs.Complete.{walk-next}
-use Rattle.form.specs.Checks.{found, lineAfter}
-use Rattle.form.specs.declared.check.Check.{Check}
-use Rattle.form.proofs.Checks.{passed, failed}
+use Rattle.form_lists.specs.Checks.{found}
+use Rattle.form_lists.specs.declared.check.Check.{Check}
+use Rattle.form_lists.proofs.Checks.{passed, failed}
+use Rattle.form.specs.Checks.{lineAfter}
 use Rattle.form.proofs.IdleLines.{after-some, idles-none, idles-fault, idles-some, steps-found}
 use borrow.Author.Needs.{needs}
 use Rattle.form.proofs.take_idles.Statement.{statement}

@@ -5,11 +5,11 @@ use native.Mathlib.Omega.{arith}
 use lib.ListN.{length}
 use Rattle.lines.specs.Parser.{accepted, refused}
 use Rattle.job_text.specs.Views.{textOf}
-use Rattle.form.specs.Form.{Form, readForm}
+use Rattle.form.specs.Form.{Form, filled, readForm}
 use Rattle.form.specs.Write.{writeSaid, writeRoom}
 use Rattle.form.specs.Promise.{WritePromise}
 use Rattle.answers.specs.Said.{lent}
-use Rattle.form.proofs.Checks.{passed, failed}
+use Rattle.form_lists.proofs.Checks.{passed, failed}
 use Rattle.form.proofs.Stated.{Held}
 use Rattle.form.proofs.Promised.{form-accepted, form-refused, fits-room, promised}
 use borrow.Author.Needs.{needs}
@@ -18,32 +18,27 @@ use Rattle.form.proofs.write.Tie as tie
 
 -- the form that is handed over
 abbrev form : (c : tie.After-slice-known) → Form
-form c = let a = c .before .before .before .before .before .before .before .args in record {
-  horizon = a .horizon;
-  idles = a .idles .now;
-  walk = a .walk;
-  openings = a .openings .now;
-  fees = a .fees .now;
-  lives = a .lives .now;
-  lefts = a .lefts .now;
-  prices = a .prices .now;
-}
+form c = let a = c .before .before .before .before .before .before .before .before .before .before .before .args in
+    filled (a .horizon) (a .idles .now) (a .walk) (a .openings .now) (a .fees .now) (a .lives .now) (a .lefts .now) (a .covered .now) (a .removals .now) (a .insides .now) (a .holders .now) (a .prices .now)
 
 -- its numbers have 32 bits
 held : (c : tie.After-slice-known) → Held (form c)
 held c = record {
-  horizon = omega (arith, c .before .before .before .before .before .before .before .fits .horizon .fits);
-  walk = omega (arith, c .before .before .before .before .before .before .before .fits .walk .fits);
-  idles = λ i. omega (arith, c .before .before .before .before .before .before .shared-slice-known .given i);
-  openings = λ i. omega (arith, c .before .before .before .before .before .shared-slice-known2 .given i);
-  fees = λ i. omega (arith, c .before .before .before .before .shared-slice-known3 .given i);
-  lives = λ i. omega (arith, c .before .before .before .shared-slice-known4 .given i);
-  lefts = λ i. omega (arith, c .before .before .shared-slice-known5 .given i);
-  prices = λ i. omega (arith, c .before .shared-slice-known6 .given i);
+  horizon = omega (arith, c .before .before .before .before .before .before .before .before .before .before .before .fits .horizon .fits);
+  walk = omega (arith, c .before .before .before .before .before .before .before .before .before .before .before .fits .walk .fits);
+  idles = λ i. omega (arith, c .before .before .before .before .before .before .before .before .before .before .shared-slice-known .given i);
+  openings = λ i. omega (arith, c .before .before .before .before .before .before .before .before .before .shared-slice-known2 .given i);
+  fees = λ i. omega (arith, c .before .before .before .before .before .before .before .before .shared-slice-known3 .given i);
+  lives = λ i. omega (arith, c .before .before .before .before .before .before .before .shared-slice-known4 .given i);
+  lefts = λ i. omega (arith, c .before .before .before .before .before .before .shared-slice-known5 .given i);
+  removals = λ i. omega (arith, c .before .before .before .before .shared-slice-known7 .given i);
+  insides = λ i. omega (arith, c .before .before .before .shared-slice-known8 .given i);
+  holders = λ i. omega (arith, c .before .before .shared-slice-known9 .given i);
+  prices = λ i. omega (arith, c .before .shared-slice-known10 .given i);
 }
 
-kept : (c : tie.After-slice-known) → let room = length (c .before .before .before .before .before .before .before .args .out .now) in WritePromise (form c) room (lent writeRoom room (writeSaid (form c)))
-kept c = promised (form c) (held c) (length (c .before .before .before .before .before .before .before .args .out .now))
+kept : (c : tie.After-slice-known) → let room = length (c .before .before .before .before .before .before .before .before .before .before .before .args .out .now) in WritePromise (form c) room (lent writeRoom room (writeSaid (form c)))
+kept c = promised (form c) (held c) (length (c .before .before .before .before .before .before .before .before .before .before .before .args .out .now))
 
 -- what the form is read as, by the verdict on its lines
 refused-form : (c : tie.After-check) → readForm (form (c .before .before .before)) ≡ refused (c .check .given .0 .0) (c .check .given .0 .1 .0)

@@ -10,7 +10,8 @@ use Rattle.jobs.specs.Views.{jobOf}
 use Rattle.jobs.proofs.Jobs.{opening-count, part-count}
 use Rattle.clock.proofs.Ranges.{position-bits}
 use Rattle.search.specs.Found.{saidIn}
-use Rattle.held_bound.specs.Arrays.{Arrays, Holds}
+use Rattle.held_places.specs.Arrays.{Holds}
+use Rattle.held_tables.specs.Sheet.{HeldArrays}
 use Rattle.job_numbers.proofs.Counts.{long-enough, Counted, counted}
 use Rattle.held_job.proofs.Held as held
 use Rattle.held_job.proofs.search_held_job.Statement.{statement}
@@ -37,7 +38,7 @@ module _ (c : tie.After-prices-of) where
   long : Counted n m (numbers .numbers-of .result)
   long = counted (s .args .job) (s .pre .sized) (s .good .0) (numbers .numbers-of .result) (numbers .numbers-of .ensures)
 
-  arrays : Arrays (toZ w32 (ofZ w32 (numbers .numbers-of .result .placed .end))) (take n (numbers .numbers-of .result .placed .at)) (take n (numbers .numbers-of .result .fees)) (take m (numbers .numbers-of .result .lives))
+  arrays : HeldArrays (toZ w32 (ofZ w32 (numbers .numbers-of .result .placed .end))) (take n (numbers .numbers-of .result .placed .at)) (take n (numbers .numbers-of .result .fees)) (take m (numbers .numbers-of .result .lives))
       (take m (numbers .numbers-of .result .lefts)) (c .prices-of .result) (terms .terms-of .result .needs) (take (terms .terms-of .result .holding) (terms .terms-of .result .removals))
   arrays =
       rw (position-bits (numbers .numbers-of .result .placed .end) (numbers .numbers-of .ensures .placed .end-range))

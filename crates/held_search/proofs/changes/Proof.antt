@@ -8,8 +8,8 @@ use lib.IntN.{ℤ}
 use mir.Syntax.{w32}
 use mir.Val.{toZ, ofZ}
 use mir.Facts.{toZ-ofZ}
-use Rattle.held_bound.specs.Arrays.{Lanes}
-use Rattle.held_bound.proofs.Parts.{read-back}
+use Rattle.held_places.specs.Arrays.{Lanes}
+use Rattle.held_places.proofs.Parts.{read-back}
 use Rattle.held_search.specs.Solved.{Chooses}
 use Rattle.held_search.proofs.Answered.{chooses-none, chooses-more}
 use Rattle.held_search.proofs.changes.Statement.{statement}

@@ -9,8 +9,8 @@ use lib.ListN.{length, getD, replicate}
 use lib.IntN.{ℤ, pos, _-ℤ_}
 use mir.Facts.{toZ-ofZ}
 use Rattle.model.specs.LowerBound.{choiceOf}
-use Rattle.held_bound.specs.Arrays.{Timed}
-use Rattle.held_bound.proofs.Parts.{prices-are, prices-length, first-length, read-back, places-seen}
+use Rattle.held_places.specs.Arrays.{Timed}
+use Rattle.held_places.proofs.Parts.{prices-are, prices-length, first-length, read-back, places-seen}
 use Rattle.held_search.proofs.part_changes.Statement.{statement}
 use Rattle.held_search.proofs.part_changes.Tie as tie
 

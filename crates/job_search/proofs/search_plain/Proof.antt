@@ -1,25 +1,28 @@
--- `search_plain`: the arrays hold the job, so what the search answers for every job that they hold it answers for this one.
+-- `search_plain`: the arrays hold the job with its removals added to its prices, so what the search answers for every job that they hold it answers for this one.
 use Prim.Native.Nat.{ℕ}
 use mathlib.Core.Path.{sym}
 use native.Mathlib.Omega.{arith}
 use borrow.Author.Needs.{needs}
-use lib.ListN.{take, replicate}
+use lib.ListN.{take}
 use mir.Syntax.{w32}
 use mir.Val.{toZ, ofZ}
+use Rattle.model.specs.Unheld.{chargedJob}
 use Rattle.jobs.specs.Views.{jobOf}
 use Rattle.clock.proofs.Ranges.{position-bits}
-use Rattle.coming_out.proofs.Rows.{blank}
 use Rattle.search.specs.Arrays.{Holds}
 use Rattle.job_numbers.proofs.Counts.{long-enough, Counted, counted}
-use Rattle.job_search.proofs.Plain.{job-said, holds-plain}
+use Rattle.job_search.proofs.Plain.{job-said, removed-range, holds-charged}
 use Rattle.job_search.proofs.search_plain.Statement.{statement}
 use Rattle.job_search.proofs.search_plain.Tie as tie
 
 -- ---- what is known once the arrays are laid out
 
 module _ (c : tie.After-prices-of) where
+  abbrev removals : tie.After-removals-of
+  removals = c .before
+
   abbrev numbers : tie.After-numbers-of
-  numbers = c .before .before .before .before .before .before
+  numbers = removals .before .before .before .before .before .before
 
   abbrev s : tie.Start
   s = numbers .before
@@ -33,17 +36,22 @@ module _ (c : tie.After-prices-of) where
   long : Counted n m (numbers .numbers-of .result)
   long = counted (s .args .job) (s .pre .0 .sized) (s .good .0) (numbers .numbers-of .result) (numbers .numbers-of .ensures)
 
-  holds : Holds (jobOf (s .args .job)) (toZ w32 (ofZ w32 (numbers .numbers-of .result .placed .end))) (take n (numbers .numbers-of .result .placed .at)) (take n (numbers .numbers-of .result .fees)) (take m (numbers .numbers-of .result .lives))
+  holds : Holds (chargedJob (jobOf (s .args .job))) (toZ w32 (ofZ w32 (numbers .numbers-of .result .placed .end))) (take n (numbers .numbers-of .result .placed .at)) (take n (numbers .numbers-of .result .fees)) (take m (numbers .numbers-of .result .lives))
       (take m (numbers .numbers-of .result .lefts)) (c .prices-of .result)
   holds =
       rw (position-bits (numbers .numbers-of .result .placed .end) (numbers .numbers-of .ensures .placed .end-range))
-      (holds-plain (s .args .job) (s .pre .0 .sized) (s .good .0) (s .pre .1) (s .pre .0 .valid) (numbers .numbers-of .result) (numbers .numbers-of .ensures) (replicate 16 0) (blank 0 16) (c .prices-of .result) (c .prices-of .ensures))
+      (holds-charged (s .args .job) (s .pre .0 .sized) (s .good .0) (s .pre .0 .valid) (removals .removals-of .result) (removals .removals-of .ensures) (numbers .numbers-of .result) (numbers .numbers-of .ensures) (c .prices-of .result) (c .prices-of .ensures))
 
 numbers-of-requires : tie.Need-numbers-of-requires
 numbers-of-requires c κs = search needs
 
+removals-of-requires : tie.Need-removals-of-requires
+removals-of-requires c κs = c .before .before .before .before .before .before .pre .0 .sized
+
 prices-of-requires : tie.Need-prices-of-requires
-prices-of-requires c κs = let b = c .before .before .before .before .before .before in (b .pre .0, λ q h. omega (arith, blank {A = ℕ} 0 16 q))
+prices-of-requires c κs =
+    let b = c .before .before .before .before .before .before .before in
+    (b .pre .0, λ q h. removed-range (b .args .job) (b .pre .0 .sized) (b .good .0) (b .pre .0 .valid) (c .removals-of .result) (c .removals-of .ensures) q)
 
 array-share-prefix-positions : tie.Need-array-share-prefix-positions
 array-share-prefix-positions c = long-enough (n c) (numbers c .numbers-of .result .placed .at) (long c .places)
@@ -73,19 +81,20 @@ slice-aggregate-search-5 : tie.Need-slice-aggregate-search-5
 slice-aggregate-search-5 c = search needs
 
 search-requires : tie.Need-search-requires
-search-requires c κs = let b = c .before .before .before .before .before .before in ((jobOf (s b .args .job), holds b), omega (arith, s b .fits .limit))
+search-requires c κs = let b = c .before .before .before .before .before .before in ((chargedJob (jobOf (s b .args .job)), holds b), omega (arith, s b .fits .limit))
 
 returns : tie.Need-returns
 returns c =
     let b = c .before .before .before .before .before .before .before in
     let j = s b .args .job in
-    job-said j (s b .pre .0 .sized) (s b .good .0) (s b .pre .1) (s b .pre .0 .valid) (s b .args .limit) (c .search .result) (c .search .ensures (jobOf j) (holds b))
+    job-said j (s b .pre .0 .sized) (s b .good .0) (s b .pre .1) (s b .args .limit) (c .search .result) (c .search .ensures (chargedJob (jobOf j)) (holds b))
 
 pub search-plain-spec : {M : Type 1} → statement M
 search-plain-spec =
     tie.close
     (tie.spec
     numbers-of-requires
+    removals-of-requires
     prices-of-requires
     array-share-prefix-positions
     slice-aggregate-search

@@ -16,11 +16,11 @@ use Rattle.job_writing.proofs.put_job.Tie as tie
 
 -- how many openings there are
 count : (s : tie.Start) → length (jobOf (s .args .text .job) .openings) ≡ s .args .text .job .«opening_count»
-count s = opening-count (s .args .text .job) (s .pre .0) (s .good .1 .1 .0 .1 .1 .1 .0)
+count s = opening-count (s .args .text .job) (s .pre .0) (s .good .1 .1 .0 .1 .1 .1 .1 .0)
 
 -- the idle steps that count are there
 long : (s : tie.Start) → s .args .text .job .«idle_count» ≤ length (s .args .text .job .idles)
-long s = idles-long (s .args .text .job) (s .pre .0) (s .good .1 .1 .0 .1 .1 .1 .0)
+long s = idles-long (s .args .text .job) (s .pre .0) (s .good .1 .1 .0 .1 .1 .1 .1 .0)
 
 room : (s : tie.Start) → let t = s .args .text in let j = t .job in
     s .args .at + (length (lineOf "horizon=" (j .horizon)) + length (optionalText idlesText (idleLines (jobOf j .idles))) + length (lineOf "walk=" (t .walk)) + length (lineOf "openings=" (j .«opening_count»)) + length (bodyText (textOf t))) ≤ length (s .args .out .now)

@@ -1,16 +1,12 @@
--- `read_part`: the lines of the life, of what is left and of the prices, each where the one before ends; the first fault is the whole's.
+-- `read_part`: the lines of the life and of what is left, and what follows them, each where the one before ends; the first fault is the whole's.
 use borrow.Author.Needs.{needs}
-use Prim.Native.Nat.{ℕ}
-use mathlib.Core.List.{List, []}
 use mathlib.Core.Path.{ap, sym, _∙_}
 use lib.ListN.{drop}
-use Rattle.lines.specs.Text.{bytes, joined}
-use Rattle.lines.specs.Chosen.{chosen}
-use Rattle.lines.specs.Parser.{times, row, checked, upTo}
+use Rattle.lines.specs.Text.{bytes}
+use Rattle.lines.specs.Parser.{row, checked, upTo}
 use Rattle.lines.specs.Cursor.{Stands, Reads, rowAnswer}
-use Rattle.lines.proofs.Parsing.{bind-good, bind-fault, row-line, line-inside, line-reads, got-value, got-fault, got-place, map-read, fault-read}
+use Rattle.lines.proofs.Parsing.{bind-good, bind-fault, row-line, line-inside, line-reads, got-value, got-fault, got-place, fault-read}
 use Rattle.job_text.specs.Grammar.{part}
-use Rattle.model.specs.Model.{Part}
 use Rattle.job_text.proofs.parts.read_part.Statement.{statement}
 use Rattle.job_text.proofs.parts.read_part.Tie as tie
 
@@ -68,42 +64,53 @@ left : (c : tie.After-advance2) → let q = c .before .before .before .before .l
     Reads text (rowAnswer (c .advance2 .result)) (checked 5 (upTo (c .before .before .before .before .life .given .0 .0)) (row "left=" 1 1000) (drop (q .at) text) (q .line))
 left c = line-reads _ (c .before .before .before .before .life .given .0 .1 .0) (c .before .read-left .ensures) (c .advance2 .ensures)
 
-read-prices-requires : tie.Need-read-prices-requires
-read-prices-requires c κs = (got-place (left (c .before .before .before)) (ap rowAnswer (c .before .left .given .1)), c .before .before .before .before .before .before .before .before .before .before .before .before .before .before .pre .1)
+read-after-left-requires : tie.Need-read-after-left-requires
+read-after-left-requires c κs =
+    let st = c .before .before .before .before .before .before .before .before .before .before .before .before .before .before in
+    (got-place (left (c .before .before .before)) (ap rowAnswer (c .before .left .given .1)), st .pre .1, st .pre .2)
 
-enum-known-k : tie.Need-enum-known-k
-enum-known-k c = search needs
+enum-known-j : tie.Need-enum-known-j
+enum-known-j c = search needs
 
 no-part-requires : tie.Need-no-part-requires
 no-part-requires c κs = search needs
 
-enum-known-k-2 : tie.Need-enum-known-k-2
-enum-known-k-2 c = search needs
+enum-known-j-2 : tie.Need-enum-known-j-2
+enum-known-j-2 c = search needs
 
 no-part-requires-2 : tie.Need-no-part-requires-2
 no-part-requires-2 c κs = search needs
 
 returns : tie.Need-returns
-unfolding part chosen joined
+unfolding part
 returns c =
-    let d = c .before .before .before in
-    let f = c .before .before .before .before .before .before .before .before .before in
-    let make : List ℕ → Part = λ ps. record { life = f .life .given .0 .0; left = d .left .given .0 .0; removal = 0; holders = []; prices = ps } in
-    let r = map-read make (times (c .before .before .before .before .before .before .before .before .before .before .before .before .before .before .before .before .args .n) (row "price=" 1 1000000)) _ _ (c .before .read-prices .ensures) in
+    let d = c .before .before in
+    let f = d .before .before .before .before .before .before in
+    let r = c .read-after-left .ensures in
     record {
-      is = r .is ∙ sym (bind-good _ _ (got-value (life (f .before .before)) (ap rowAnswer (f .life .given .1))) ∙ bind-good _ _ (got-value (left (d .before .before)) (ap rowAnswer (d .left .given .1))));
-      stands = r .stands;
+      reads = record {
+        is = r .reads .is ∙ sym (bind-good _ _ (got-value (life (f .before .before)) (ap rowAnswer (f .life .given .1))) ∙ bind-good _ _ (got-value (left (d .before .before)) (ap rowAnswer (d .left .given .1))));
+        stands = r .reads .stands;
+      };
+      means = r .means;
     }
 
 returns-2 : tie.Need-returns-2
 unfolding part
 returns-2 c =
     let f = c .before .before .before .before .before .before .before .before in
-    fault-read _ (c .no-part .ensures) (bind-good _ _ (got-value (life (f .before .before)) (ap rowAnswer (f .life .given .1))) ∙ bind-fault _ _ (got-fault (left (c .before .before .before .before)) (ap rowAnswer (c .before .before .k .given .1))))
+    record {
+      reads = fault-read _ (c .no-part .ensures .0) (bind-good _ _ (got-value (life (f .before .before)) (ap rowAnswer (f .life .given .1))) ∙ bind-fault _ _ (got-fault (left (c .before .before .before .before)) (ap rowAnswer (c .before .before .j .given .1))));
+      means = c .no-part .ensures .1 (f .before .before .before .before .before .before .before .args .n);
+    }
 
 returns-3 : tie.Need-returns-3
 unfolding part
-returns-3 c = fault-read _ (c .no-part2 .ensures) (bind-fault _ _ (got-fault (life (c .before .before .before .before)) (ap rowAnswer (c .before .before .k2 .given .1))))
+returns-3 c =
+    record {
+      reads = fault-read _ (c .no-part2 .ensures .0) (bind-fault _ _ (got-fault (life (c .before .before .before .before)) (ap rowAnswer (c .before .before .j2 .given .1))));
+      means = c .no-part2 .ensures .1 (c .before .before .before .before .before .before .before .before .before .args .n);
+    }
 
 pub read-part-spec : {M : Type 1} → statement M
 read-part-spec =
@@ -122,10 +129,10 @@ read-part-spec =
     read-left-requires
     advance-requires-2
     enum-known-left
-    read-prices-requires
-    enum-known-k
+    read-after-left-requires
+    enum-known-j
     no-part-requires
-    enum-known-k-2
+    enum-known-j-2
     no-part-requires-2
     returns
     returns-2

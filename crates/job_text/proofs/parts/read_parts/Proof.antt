@@ -1,45 +1,60 @@
--- `read_parts`: what is read so far stands before what the rest of the parts still gives.
-use Prim.Native.Nat.{ℕ, _-_, _≤_}
+-- `read_parts`: what is read so far stands before what the rest of the parts still gives, and every part is what its lines mean.
+use Prim.Native.Nat.{ℕ, _+_, _-_, _≤_, _<_}
 use native.Mathlib.Omega.{arith}
+use native.Mathlib.Numerals.{add-one}
 use borrow.Author.Needs.{needs}
 use mathlib.Core.Path.{_≡_, refl, ap, sym, _∙_}
 use mathlib.Core.List.{map}
-use lib.ListN.{length, drop, take, length-set}
-use Rattle.lines.specs.Parser.{good, chain, times}
-use Rattle.job_text.specs.Grammar.{part}
-use Rattle.model.specs.Model.{Part}
-use Rattle.lines.specs.Cursor.{ended}
-use Rattle.lines.specs.Cursor.{Stands}
-use Rattle.jobs.specs.Views.{partOf}
-use Rattle.lines.proofs.Arrays.{map-take-more}
+use lib.ListN.{length, drop, take, set, length-set}
+use Rattle.lines.specs.Parser.{good, chain}
+use Rattle.lines.specs.Cursor.{ended, Stands}
 use Rattle.lines.proofs.Parsing.{end-value, end-fault, end-place, behind, chain-start, chain-more, chain-fault, chain-end}
+use Rattle.jobs.specs.Views.{partOf}
+use Rattle.job_text.specs.Grammar.{part, following, parts}
+use Rattle.job_text.specs.Views.{partsLines}
+use Rattle.job_text.proofs.Views.{Meant, blanks-mean, lines-more, meant-set, lines-mean}
 use Rattle.job_text.proofs.parts.read_parts.Statement.{statement}
 use Rattle.job_text.proofs.parts.read_parts.Tie as tie
 
 abbrev Inv-loop : tie.InvT-loop
-Inv-loop text m n parts₀ q₀ i₀ parts q i =
-    (i ≤ m) × (length parts ≡ 16) × Stands text q
-    × (times m (part n) (drop (q₀ .at) text) (q₀ .line)
-    ≡ behind (map (partOf n) (take i parts)) (chain (λ (k : ℕ). part n) (λ (k : ℕ) (v : Part). 0) (m - i) 0 (drop (q .at) text) (q .line)))
+Inv-loop text m n parts₀ covered₀ q₀ i₀ ps cs q i =
+    (i ≤ m) × (length ps ≡ 16) × (length cs ≡ 16) × Stands text q × Meant n cs ps
+    × (parts m n (drop (q₀ .at) text) (q₀ .line)
+    ≡ behind (partsLines (take i cs) (map (partOf n) (take i ps))) (chain (part m n) following (m - i) (i + 1) (drop (q .at) text) (q .line)))
 
 abbrev μ-loop : tie.MeasureT-loop
-μ-loop text m n parts₀ q₀ i₀ parts q i = m - i
+μ-loop text m n parts₀ covered₀ q₀ i₀ ps cs q i = m - i
+
+blank-part-requires : tie.Need-blank-part-requires Inv-loop μ-loop
+blank-part-requires c κs = search needs
 
 loop-holds : tie.Need-loop-holds Inv-loop μ-loop
-unfolding times
-loop-holds c = (omega arith, refl, c .before .pre .0, chain-start _ _ _ _ _ _)
+unfolding parts partsLines
+loop-holds c = (omega arith, refl, refl, c .before .before .pre .0, blanks-mean (c .before .before .args .n) (c .blank-part .result) (c .blank-part .ensures (c .before .before .args .n)), chain-start _ _ _ _ _ _)
+
+cast-read-part : tie.Need-cast-read-part Inv-loop μ-loop
+cast-read-part c = omega (arith, c .before .before .before .before .pre .1 .0)
+
+cast-read-part-2 : tie.Need-cast-read-part-2 Inv-loop μ-loop
+cast-read-part-2 c = omega (arith, c .before .before .before .before .pre .1 .0)
+
+add-read-part : tie.Need-add-read-part Inv-loop μ-loop
+add-read-part c = omega (arith, c .before .before .before .before .pre .1 .0)
 
 read-part-requires : tie.Need-read-part-requires Inv-loop μ-loop
-read-part-requires c κs = (c .before .loop .inv .2, c .before .before .before .pre .1 .1)
+read-part-requires c κs = (c .before .loop .inv .3, c .before .before .before .before .pre .1 .0, c .before .before .before .before .pre .1 .1)
 
-enum-known-end : tie.Need-enum-known-end Inv-loop μ-loop
-enum-known-end c = search needs
+enum-known-read-end : tie.Need-enum-known-read-end Inv-loop μ-loop
+enum-known-read-end c = search needs
 
 mul-parts : tie.Need-mul-parts Inv-loop μ-loop
 mul-parts c = search needs
 
 array-set-from-parts : tie.Need-array-set-from-parts Inv-loop μ-loop
-array-set-from-parts c = omega (arith, c .before .before .before .before .before .before .before .before .pre .1 .0)
+array-set-from-parts c = omega (arith, c .before .before .before .before .before .before .before .before .before .pre .1 .0)
+
+array-write-covered : tie.Need-array-write-covered Inv-loop μ-loop
+array-write-covered c = omega (arith, c .before .before .before .before .before .before .before .before .before .pre .1 .0)
 
 add-i : tie.Need-add-i Inv-loop μ-loop
 add-i c = omega arith
@@ -50,32 +65,60 @@ loop-less c = omega arith
 loop-again : tie.Need-loop-again Inv-loop μ-loop
 loop-again c =
     let at = c .before .before .before .before .before .before in
+    let a = at .before .before .before .args in
     let v = at .loop .inv in
-    let e = c .before .before .before .before .read-part .ensures in
-    let m = c .before .before .end .given .1 in (
+    let r = c .before .before .before .before .read-part in
+    let e = c .before .before .read-end .given in
+    let i = at .loop .i in
+    let few : i < 16 = omega (arith, at .before .before .before .pre .1 .0, c .before .before .before .before .before .loop-test .taken) in
+    let marked : i < length (at .loop .covered) = omega (arith, few, v .2) in
+    let there : i < length (at .loop .parts) = omega (arith, few, v .1) in
+    let cs = set (at .loop .covered) i (r .result .there) in
+    let ps = set (at .loop .parts) i (r .result .part) in (
       omega arith,
       simp length-set (v .1),
-      end-place _ e m,
-      v .3 ∙ chain-more _ _ (at .before .before .args .m) (at .loop .i) _ _ _ _ (c .before .before .before .before .before .loop-test .taken) (end-value _ e m)
-          (map-take-more (partOf (at .before .before .args .n)) (at .loop .i) (at .loop .parts) _ (omega (arith, at .before .before .pre .1 .0))),
+      simp length-set (v .2),
+      end-place _ (r .ensures .reads) (e .1),
+      meant-set (a .n) i (at .loop .covered) (at .loop .parts) (r .result .there) (r .result .part) marked there (v .4) (r .ensures .means),
+      v .5
+          ∙ chain-more (part (a .m) (a .n)) following (a .m) i _ (i + 1) _ _ (c .before .before .before .before .before .loop-test .taken) (end-value _ (r .ensures .reads) (e .1)) (lines-more (a .n) i (at .loop .covered) (at .loop .parts) (r .result .there) (r .result .part) marked there)
+          ∙ ap (λ (k : ℕ). behind (partsLines (take (i + 1) cs) (map (partOf (a .n)) (take (i + 1) ps))) (chain (part (a .m) (a .n)) following (a .m - (i + 1)) k (drop (e .0 .0 .at) (a .text .now)) (e .0 .0 .line))) (sym (add-one (i + 1))),
     )
 
-enum-known-end-2 : tie.Need-enum-known-end-2 Inv-loop μ-loop
-enum-known-end-2 c = search needs
+enum-known-read-end-2 : tie.Need-enum-known-read-end-2 Inv-loop μ-loop
+enum-known-read-end-2 c = search needs
 
 returns : tie.Need-returns Inv-loop μ-loop
 unfolding ended
 returns c =
     let at = c .before .before .before .before .before in
-    record { is = sym (at .loop .inv .3 ∙ chain-fault _ _ (at .before .before .args .m) (at .loop .i) _ _ _ _ (c .before .before .before .before .loop-test .taken) (end-fault _ (c .before .before .before .read-part .ensures) (c .before .end2 .given .1))); stands = tt }
+    let a = at .before .before .before .args in
+    let v = at .loop .inv in
+    let r = c .before .before .before .read-part in
+    record {
+      reads = record {
+        is = sym (v .5 ∙ chain-fault (part (a .m) (a .n)) following (a .m) (at .loop .i) _ _ _ _ (c .before .before .before .before .loop-test .taken) (end-fault _ (r .ensures .reads) (c .before .read-end2 .given .1)));
+        stands = tt;
+      };
+      means = lines-mean (a .n) (a .m) (at .loop .covered) (at .loop .parts) (omega (arith, at .before .before .before .pre .1 .0, v .2)) (v .4);
+    }
 
 returns-2 : tie.Need-returns-2 Inv-loop μ-loop
 unfolding ended
 returns-2 c =
-    let v = c .before .loop .inv in
-    let a = c .before .before .before .args in
-    let same : c .before .loop .i ≡ a .m = omega arith in
-    record { is = sym (v .3 ∙ chain-end _ _ (a .m) (c .before .loop .i) _ _ _ _ (omega arith) ∙ ap (λ (k : ℕ). good (map (partOf (a .n)) (take k (c .before .loop .parts))) (drop (c .before .loop .q .at) (a .text .now)) (c .before .loop .q .line)) same); stands = v .2 }
+    let at = c .before in
+    let a = at .before .before .before .args in
+    let v = at .loop .inv in
+    let same : at .loop .i ≡ a .m = omega arith in
+    record {
+      reads = record {
+        is = sym (v .5
+            ∙ chain-end (part (a .m) (a .n)) following (a .m) (at .loop .i) _ _ _ _ (omega arith)
+            ∙ ap (λ (k : ℕ). good (partsLines (take k (at .loop .covered)) (map (partOf (a .n)) (take k (at .loop .parts)))) (drop (at .loop .q .at) (a .text .now)) (at .loop .q .line)) same);
+        stands = v .3;
+      };
+      means = lines-mean (a .n) (a .m) (at .loop .covered) (at .loop .parts) (omega (arith, at .before .before .before .pre .1 .0, v .2)) (v .4);
+    }
 
 pub read-parts-spec : {M : Type 1} → statement M
 read-parts-spec =
@@ -83,14 +126,19 @@ read-parts-spec =
     (tie.spec
     Inv-loop
     μ-loop
+    blank-part-requires
     loop-holds
+    cast-read-part
+    cast-read-part-2
+    add-read-part
     read-part-requires
-    enum-known-end
+    enum-known-read-end
     mul-parts
     array-set-from-parts
+    array-write-covered
     add-i
     loop-less
     loop-again
-    enum-known-end-2
+    enum-known-read-end-2
     returns
     returns-2)

@@ -1,16 +1,15 @@
 -- `read_body`: the openings, the number of parts and the parts, each where the one before ends; the first fault is the whole's.
 use mathlib.Core.Path.{ap, sym, _∙_}
-use mathlib.Core.List.{List, map}
-use lib.ListN.{take, drop}
+use mathlib.Core.List.{List}
+use lib.ListN.{drop}
 use Rattle.lines.specs.Text.{bytes}
-use Rattle.lines.specs.Parser.{times, row}
+use Rattle.lines.specs.Parser.{row}
 use Rattle.lines.specs.Cursor.{Stands, Reads, rowAnswer}
 use Rattle.lines.proofs.Parsing.{bind-good, bind-fault, row-line, line-inside, line-reads, got-value, got-fault, got-place, got-most, end-value, end-fault, end-place, map-read}
-use Rattle.model.specs.Model.{Part}
-use Rattle.job_text.specs.Grammar.{JobText, part, body}
-use Rattle.jobs.specs.Views.{openingOf}
-use Rattle.job_text.specs.Views.{idlesOf, idleLines}
-use Rattle.job_text.proofs.Views.{refuse}
+use Rattle.job_text.specs.Grammar.{PartText, JobText, parts, body}
+use Rattle.job_text.specs.Views.{textOf}
+use Rattle.job_text.specs.declared.whole.JobText as code
+use Rattle.job_text.proofs.Views.{refuse, text-means}
 use borrow.Author.Needs.{needs}
 use Rattle.job_text.proofs.whole.read_body.Statement.{statement}
 use Rattle.job_text.proofs.whole.read_body.Tie as tie
@@ -74,25 +73,35 @@ no-job-requires-2 c κs = search needs
 returns : tie.Need-returns
 unfolding body
 returns c =
-    let row = c .before .before .before .before .before .before .before in
-    let os = row .before .before .before .before .before in
-    let start = row .before .before .before .before .before .before .before .before .before in
+    let count-row = c .before .before .before .before .before .before .before .before in
+    let os = count-row .before .before .before .before .before in
+    let start = count-row .before .before .before .before .before .before .before .before .before in
     let a = start .args in
-    let make : List Part → JobText = λ ps. record {
-      horizon = a .horizon;
-      idles = idleLines (idlesOf (a .steps));
+    let told = c .before .before .before .before .before .before .m .given in
+    let ps = c .before .before .before .before .read-parts in
+    let t : code.JobText = record {
       walk = a .walk;
-      openings = map openingOf (take (a .n) (os .before .before .read-openings .result .openings));
-      parts = ps;
+      covered = ps .result .covered;
+      job = record {
+        horizon = a .horizon;
+        «idle_count» = a .steps .count;
+        idles = a .steps .idles;
+        «opening_count» = a .n;
+        openings = os .before .before .read-openings .result .openings;
+        «part_count» = told .0 .0;
+        parts = ps .result .parts;
+      };
     } in
-    let r = map-read make (times (c .before .before .before .before .before .m .given .0 .0) (part (a .n))) _ _ (c .before .before .before .read-parts .ensures) in
-    let m = ap rowAnswer (c .before .before .before .before .before .m .given .1) in
+    let make : List PartText → JobText = λ qs. record { horizon = a .horizon; idles = textOf t .idles; walk = a .walk; openings = textOf t .openings; parts = qs } in
+    let r = map-read make (parts (told .0 .0) (a .n)) (ps .result .end) (textOf t .parts) (ps .ensures .reads) in
+    let m = ap rowAnswer (told .1) in
     record {
       reads = record {
-        is = r .is ∙ sym (bind-good _ _ (end-value _ (os .before .before .read-openings .ensures) (os .os-end .given .1)) ∙ bind-good _ _ (got-value (count row) m));
+        is = r .is ∙ sym (bind-good _ _ (end-value _ (os .before .before .read-openings .ensures) (os .os-end .given .1)) ∙ bind-good _ _ (got-value (count count-row) m));
         stands = r .stands;
       };
-      sized = record { idles = start .pre .1; openings = start .pre .2; parts = got-most _ _ 1 16 _ (count row) m };
+      means = text-means t (ps .ensures .means);
+      sized = record { idles = start .pre .1; openings = start .pre .2; parts = got-most _ _ 1 16 _ (count count-row) m };
     }
 
 returns-2 : tie.Need-returns-2

@@ -13,7 +13,7 @@ no-text-requires : tie.Need-no-text-requires
 no-text-requires c κs = search needs
 
 returns : tie.Need-returns
-returns c = record { is = text-long maxBytes jobLines _ (c .before .if1 .taken); sized = c .no-text .ensures }
+returns c = record { is = text-long maxBytes jobLines _ (c .before .if1 .taken); means = c .no-text .ensures .0; sized = c .no-text .ensures .1 }
 
 read-job-lines-requires : tie.Need-read-job-lines-requires
 read-job-lines-requires c κs = search needs
@@ -27,6 +27,7 @@ returns-2 c =
     let t : JobText = textOf (r .result .text) in
     record {
       is = ap (λ (v : WholeText). judged v t) (c .close-text .ensures) ∙ close-read jobLines _ (r .result .end) t (r .ensures .reads) ∙ text-fits maxBytes jobLines _ (c .before .before .before .if1 .left);
+      means = r .ensures .means;
       sized = r .ensures .sized;
     }
 

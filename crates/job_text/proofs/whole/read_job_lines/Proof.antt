@@ -70,6 +70,7 @@ returns c =
         is = e .reads .is ∙ sym (bind-good _ _ (got-value (horizon (h .before .before)) (ap rowAnswer (h .horizon .given .1))) ∙ bind-good _ _ (end-value _ (c .before .before .before .before .read-idles .ensures .reads) (c .before .before .steps-end .given .1)));
         stands = e .reads .stands;
       };
+      means = e .means;
       sized = e .sized;
     }
 

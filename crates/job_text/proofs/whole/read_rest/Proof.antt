@@ -99,6 +99,7 @@ returns c =
         is = e .reads .is ∙ sym (bind-good _ _ (got-value (walk (w .before .before)) (ap rowAnswer (w .walk .given .1))) ∙ bind-good _ _ (got-value (count (c .before .before .before .before)) (ap rowAnswer (c .before .before .n .given .1))));
         stands = e .reads .stands;
       };
+      means = e .means;
       sized = e .sized;
     }
 

@@ -12,7 +12,7 @@ use Rattle.least.proofs.Diff.{small-back}
 use Rattle.search.specs.Arrays.{priceStride, lanePart}
 use Rattle.search.proofs.Filling.{own-each, own-is, own-length, marks-small, lived-back, filled-as}
 use Rattle.search.proofs.tables.fill_part.Statement.{statement}
-use Rattle.lane_rows.specs.Layout.{top}
+use Rattle.lane_rows.specs.Layout.{dear}
 use Rattle.search.proofs.tables.fill_part.Tie as tie
 
 abbrev start : tie.After-lane-life → tie.Start
@@ -55,7 +55,7 @@ fill-lane-requires c κs =
       room = record { size = p .room; few = r .few; small = marks-small r (lived-back (r .lives) (v .lane-life .ensures)) };
       late = small-back (a .end) (omega (arith, r .late));
       priced = ap length w ∙ own-length ps (a .q) n (lane .lane) (r .few) (r .prices);
-      cheap = λ j. subst (λ (x : List ℕ). getD x j 0 ≤ top) (sym w) (own-each (λ (x : ℕ). x ≤ top) ps (a .q) n (omega arith) (λ j. r .cheap (a .q * priceStride + j)) j);
+      cheap = λ j. subst (λ (x : List ℕ). getD x j 0 ≤ dear) (sym w) (own-each (λ (x : ℕ). x ≤ dear) ps (a .q) n (omega arith) (λ j. r .cheap (a .q * priceStride + j)) j);
       lane = lane;
     }
 

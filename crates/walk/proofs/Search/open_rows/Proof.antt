@@ -1,46 +1,20 @@
 -- `open_rows` hands over the part sums of a node that is walked on: Missing where its term is; and where the test with x drops the node, so does that with its part sums, which are no less.
 use Prim.Native.Nat.{ℕ, _+_, _-_, _*_, _<_, _≤_}
 use mathlib.Core.Path.{_≡_, refl, sym, ap, _∙_}
-use mathlib.Core.Bool.{Bool, true, false, cond}
 use native.Mathlib.Omega.{arith}
-use borrow.Author.Tests.{ltb-false, le-ltb}
-use lib.Dec.{leb}
 use lib.ListN.{getD}
-use Rattle.branch.specs.declared.Bound.{Bound}
-use Rattle.branch.specs.declared.Bound.the-variants.{Missing, Sum}
-use Rattle.branch.proofs.Bounds.{no-sum, sum-inj}
+use Rattle.branch.specs.declared.Bound.the-variants.{Sum}
+use Rattle.branch.proofs.Bounds.{sum-inj}
 use Rattle.lane_rows.specs.Layout.{laneCount, inf, suffixBase, termPlace, lanesIn}
 use Rattle.lane_rows.specs.Tables.{valueOf}
 use Rattle.lane_rows.specs.Rows.{lane, sumLanes, termAt, sumsAt}
 use Rattle.lane_rows.proofs.Lanes.{where-some, where-none, value-sum, value-missing}
 use Rattle.lane_rows.proofs.Memory.{recalled-none}
-use Rattle.walk.specs.declared.Search.{Search}
-use Rattle.walk.specs.State.{viewed, undropped, openS}
-use Rattle.walk.proofs.Nodes.{sums-low}
+use Rattle.walk.specs.State.{openS}
+use Rattle.walk.proofs.Nodes.{sums-low, open-none, open-drops}
 use borrow.Author.Needs.{needs}
 use Rattle.walk.proofs.Search.open_rows.Statement.{statement}
 use Rattle.walk.proofs.Search.open_rows.Tie as tie
-
-module _ (limit spent : ℕ) (s : Search) where
-  -- a node without part sums
-  open-none : (e : Bound) → e ≡ Missing → Missing ≡ openS limit spent e s
-  open-none e f = rw f (go (leb limit (s .count)))
-    where
-      go : (b : Bool) → Missing ≡ cond b Missing Missing
-      go true = refl
-      go false = refl
-
-  -- a node that x drops, larger part sums drop too
-  open-drops : (x z : ℕ) → x ≤ z → openS limit spent (Sum x) s ≡ Missing → Missing ≡ openS limit spent (Sum z) s
-  open-drops x z h e = go (leb limit (s .count)) e
-    where
-      dropped : (t : Bool) → viewed (spent + x) s ≡ t → cond t (Sum x) Missing ≡ Missing → viewed (spent + z) s ≡ false
-      dropped true f g = absurd (no-sum (Sum x) x g refl)
-      dropped false f g = le-ltb (spent + z) (s .cost) (omega (arith, ltb-false (spent + x) (s .cost) f))
-
-      go : (b : Bool) → cond b Missing (undropped spent (Sum x) s) ≡ Missing → Missing ≡ cond b Missing (undropped spent (Sum z) s)
-      go true g = refl
-      go false g = sym (ap (λ (b : Bool). cond b (Sum z) Missing) (dropped (viewed (spent + x) s) refl g))
 
 -- the lanes' sum
 abbrev sum : tie.Start → ℕ

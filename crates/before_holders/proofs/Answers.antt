@@ -1,0 +1,88 @@
+-- Every call answers as before (`as-before`): the texts say the same (`Jobs`, `Plans`), and of a job with no holders and removals of 0 the answer and a plan's cost are the ones before (`model/Unheld`).
+use Prim.Native.Nat.{ℕ}
+use mathlib.Core.Path.{_≡_, refl, sym, ap, _∙_, subst}
+use mathlib.Core.Bool.{Bool, cond}
+use mathlib.Core.List.{List, [], _∷_, map}
+use lib.ListN.{length}
+use Rattle.lines.specs.Parser.{accepted}
+use Rattle.model.specs.Model.{Job}
+use Rattle.model.specs.Verdict.{judged, judgedOf, verdictOf}
+use Rattle.model.specs.Count.{openCount}
+use Rattle.model.proofs.NoHolders.{held-none}
+use Rattle.model.proofs.Unheld.{Plain, plain-unheld, answer-before, cost-before}
+use Rattle.jobs.specs.Valid.{All, ValidPart}
+use Rattle.job_text.specs.Grammar.{Given, readJob}
+use Rattle.job_text.proofs.Accepted.{valid}
+use Rattle.plan_text.specs.Grammar.{Stated}
+use Rattle.answers.specs.Said.{lent}
+use Rattle.planning.specs.Plan as planning
+use Rattle.judging.specs.Judge as judging
+use Rattle.counting.specs.Count as counting
+use Rattle.before_holders.specs.Texts as texts
+use Rattle.before_holders.specs.Answers as before
+use Rattle.before_holders.specs.AsBefore.{Accepted, AsBefore}
+use Rattle.before_holders.proofs.Jobs.{said, job-before}
+use Rattle.before_holders.proofs.Plans.{plan-before}
+use Rattle.before_holders.proofs.Rendered.{exactly}
+use Rattle.before_holders.proofs.Forms.{writer-before}
+
+-- ---- the job: no holders, removals of 0 and a price for each opening
+
+parts-plain : (n : ℕ) (ps : List texts.PartText) → All (ValidPart n) (map texts.meantPart ps) → Plain n (map texts.meantPart ps)
+parts-plain n [] v = tt
+parts-plain n (p ∷ ps) v = (refl, refl, v .0 .priced, parts-plain n ps (v .1))
+
+job-plain : (text : List ℕ) (g : Given) → texts.readJob text ≡ accepted g → Plain (length (g .job .openings)) (g .job .parts)
+job-plain text g e =
+    let t = said text g e in
+    let v = valid text g (job-before text g e) .job .parts in
+    subst (λ (h : Given). All (ValidPart (length (h .job .openings))) (h .job .parts) → Plain (length (h .job .openings)) (h .job .parts)) (t .means)
+    (parts-plain (length (t .text .openings)) (t .text .parts)) v
+
+-- ---- the answers
+
+module _ (text : List ℕ) (a : Accepted text) where
+  abbrev job : Job
+  job = a .given .job
+
+  plain : Plain (length (job .openings)) (job .parts)
+  plain = job-plain text (a .given) (a .is)
+
+  today : readJob text ≡ accepted (a .given)
+  today = job-before text (a .given) (a .is)
+
+  pub planner-before : planning.planSaid text ≡ before.planSaid text
+  unfolding planning.planSaid before.planSaid
+  planner-before =
+      ap (planning.onJob text) today
+      ∙ ap (planning.saidFor job) (answer-before job plain (a .given .walk))
+      ∙ sym (ap (before.planOn text) (a .is))
+
+  pub count-before : counting.countSaid text ≡ before.countSaid text
+  unfolding counting.countSaid counting.countedJob before.countSaid
+  count-before =
+      ap (counting.onJob text) today
+      ∙ ap (λ (t : Bool). cond t counting.holderRefusal (counting.countOf (openCount job))) (held-none (job .parts) (plain-unheld (length (job .openings)) (job .parts) plain))
+      ∙ sym (ap (before.countOn text) (a .is))
+
+  pub judge-before : (plan : List ℕ) (stated : Stated) → texts.readPlan job plan ≡ accepted stated → judging.judgeSaid text plan ≡ before.judgeSaid text plan
+  unfolding judging.judgeSaid before.judgeSaid judgedOf
+  judge-before plan stated e =
+      ap (judging.onJob text plan) today
+      ∙ ap (judging.onPlan plan job) (plan-before job plan stated e)
+      ∙ ap (λ (c : ℕ). judging.saidOf (judged (stated .cost) c (verdictOf job (stated .plan)))) (cost-before job plain (stated .plan))
+      ∙ sym (ap (before.judgePlan plan job) e)
+      ∙ sym (ap (before.judgeOn text plan) (a .is))
+
+-- ---- all calls
+
+pub as-before : AsBefore
+as-before = record {
+  accepts = exactly;
+  job-text = today;
+  plan-text = λ job plan a. plan-before (a .job-text .given .job) plan (a .stated) (a .is);
+  planner = λ text a room. ap (lent 16384 room) (planner-before text a);
+  judge = λ job plan a room. ap (lent 16384 room) (judge-before job (a .job-text) plan (a .stated) (a .is));
+  count = count-before;
+  writer = λ f room. ap (lent 32768 room) (writer-before f);
+}

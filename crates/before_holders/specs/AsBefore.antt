@@ -1,0 +1,54 @@
+-- E7.13. "With no holders and removals of 0, every printed answer to texts that were free of faults before is the one given before."
+use Prim.Native.Nat.{ℕ}
+use mathlib.Core.Path.{_≡_}
+use mathlib.Core.List.{List, []}
+use mathlib.Core.Logic.{_↔_}
+use lib.ListN.{length, replicate}
+use Rattle.lines.specs.Text.{missing}
+use Rattle.lines.specs.Parser.{accepted}
+use Rattle.jobs.specs.Valid.{All}
+use Rattle.job_text.specs.Grammar.{Given}
+use Rattle.job_text.specs.Grammar as today
+use Rattle.plan_text.specs.Grammar.{Stated}
+use Rattle.plan_text.specs.Grammar as plans
+use Rattle.answers.specs.Said.{lent}
+use Rattle.planning.specs.Plan.{planSaid, planRoom}
+use Rattle.judging.specs.Judge.{judgeSaid, judgeRoom}
+use Rattle.counting.specs.Count.{countSaid}
+use Rattle.form.specs.Form.{Form, filled}
+use Rattle.form.specs.Write.{writeSaid, writeRoom}
+use Rattle.before_holders.specs.Texts.{readJob, readPlan}
+use Rattle.before_holders.specs.Texts as texts
+use Rattle.before_holders.specs.Answers as before
+
+-- a job text was free of faults
+pub record Accepted (text : List ℕ) : Type 0 where
+  pub given : Given
+  pub is : readJob text ≡ accepted given
+
+-- what it says today has no lines of removal
+abbrev pub Bare : today.JobText → Type 0
+Bare t = All (λ (p : today.PartText). p .cover ≡ missing) (t .parts)
+
+-- a job text and a plan text were
+pub record BothAccepted (job plan : List ℕ) : Type 0 where
+  pub job-text : Accepted job
+  pub stated : Stated
+  pub is : readPlan (job-text .given .job) plan ≡ accepted stated
+
+-- a form of the writer's before E7, as it is filled in today: no part is covered, and the other three lists are empty
+abbrev pub uncovered : texts.Form → Form
+uncovered f = filled (f .horizon) (f .idles) (f .walk) (f .openings) (f .fees) (f .lives) (f .lefts) (replicate (length (f .lives)) 0) [] [] [] (f .prices)
+
+pub record AsBefore : Type 0 where
+  -- exactly the job texts that are accepted today and have no lines of removal were accepted
+  pub accepts : (text : List ℕ) → Accepted text ↔ ((t : today.JobText) × ((today.readJobText text ≡ accepted t) × Bare t))
+  -- the texts say what they said
+  pub job-text : (text : List ℕ) (a : Accepted text) → today.readJob text ≡ accepted (a .given)
+  pub plan-text : (job plan : List ℕ) (a : BothAccepted job plan) → plans.readPlan (a .job-text .given .job) plan ≡ accepted (a .stated)
+  -- every number handed over and every byte written is as before, in any room
+  pub planner : (text : List ℕ) → Accepted text → (room : ℕ) → lent planRoom room (planSaid text) ≡ lent before.planRoom room (before.planSaid text)
+  pub judge : (job plan : List ℕ) → BothAccepted job plan → (room : ℕ) → lent judgeRoom room (judgeSaid job plan) ≡ lent before.judgeRoom room (before.judgeSaid job plan)
+  pub count : (text : List ℕ) → Accepted text → countSaid text ≡ before.countSaid text
+  -- of the writer also every refusal
+  pub writer : (f : texts.Form) (room : ℕ) → lent writeRoom room (writeSaid (uncovered f)) ≡ lent before.writeRoom room (before.writeSaid f)

@@ -1,4 +1,0 @@
-pub mod Scans
-pub mod Steps
-pub mod Parts
-pub mod Totals

@@ -1,0 +1,4 @@
+pub mod Scans
+pub mod Steps
+pub mod Parts
+pub mod Held

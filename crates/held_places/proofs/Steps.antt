@@ -1,0 +1,73 @@
+-- Needs, one more at a time: each law is one unfolding at the place where a loop stands.
+use Prim.Native.Nat.{ℕ, suc, _+_, _-_, _≤_, _<_}
+use mathlib.Core.Path.{_≡_, refl, sym, ap, ap₂, _∙_}
+use mathlib.Core.Bool.{Bool, true, false, not, _&&_, _||_}
+use mathlib.Core.List.{List, [], _∷_}
+use native.Mathlib.Omega.{arith}
+use native.Mathlib.Numerals.{add-one}
+use lib.ListN.{length, getD, take, drop, length-drop, drop-of-length-le}
+use lib.Seq.{drop-drop, drop-cons, getD-drop, take-all}
+use Rattle.model.specs.Decisions.{covered, allows}
+use Rattle.model.proofs.Blocks.{covered-none}
+use Rattle.held_places.specs.Blocks.{firstOr}
+
+-- ---- a list at a place
+
+-- the part of a slice from k on
+pub rest-of : {A : Type 0} (s : List A) (k : ℕ) → take (length s - k) (drop k s) ≡ drop k s
+rest-of s k = take-all (length s - k) (drop k s) (simp length-drop (omega arith))
+
+pub drop-more : {A : Type 0} (l : List A) (k : ℕ) (d x : A) → k < length l → getD l k d ≡ x → drop k l ≡ x ∷ drop (k + 1) l
+drop-more l k d x h e = rw (add-one) (drop-cons l k d h ∙ ap (λ (y : _). y ∷ drop (suc k) l) e)
+
+-- the front of what is left, and what is left behind it
+front : {A : Type 0} (l : List A) (k : ℕ) (d : A) → getD (drop k l) 0 d ≡ getD l k d
+front l k d = let z : k + 0 ≡ k = omega arith in getD-drop k l 0 d ∙ ap (λ (m : ℕ). getD l m d) z
+
+-- ---- needs
+
+covered-step : (needs removed : List Bool) (b : ℕ) → b < length needs
+    → covered (drop b needs) (drop b removed) ≡ ((not (getD needs b false) || getD removed b true) && covered (drop (b + 1) needs) (drop (b + 1) removed))
+unfolding covered
+covered-step needs removed b h =
+    ap (λ (l : List Bool). covered l (drop b removed)) (drop-more needs b false (getD needs b false) h refl)
+    ∙ ap₂ (λ (x : Bool) (l : List Bool). (not (getD needs b false) || x) && covered (drop (b + 1) needs) l) (front removed b true) (drop-drop 1 b removed)
+
+module _ (needs removed : List Bool) (b : ℕ) (h : b < length needs) where
+  pub covered-more : (not (getD needs b false) || getD removed b true) ≡ true → covered needs removed ≡ covered (drop b needs) (drop b removed)
+      → covered needs removed ≡ covered (drop (b + 1) needs) (drop (b + 1) removed)
+  covered-more e f = f ∙ covered-step needs removed b h ∙ ap (λ (x : Bool). x && covered (drop (b + 1) needs) (drop (b + 1) removed)) e
+
+  pub covered-not : (not (getD needs b false) || getD removed b true) ≡ false → covered needs removed ≡ covered (drop b needs) (drop b removed) → false ≡ covered needs removed
+  covered-not e f = sym (f ∙ covered-step needs removed b h ∙ ap (λ (x : Bool). x && covered (drop (b + 1) needs) (drop (b + 1) removed)) e)
+
+pub covered-end : (needs removed : List Bool) (b : ℕ) → length needs ≤ b → covered needs removed ≡ covered (drop b needs) (drop b removed) → true ≡ covered needs removed
+unfolding covered
+covered-end needs removed b h f = sym (f ∙ ap (λ (l : List Bool). covered l (drop b removed)) (drop-of-length-le needs h))
+
+-- no more decisions count than there are needs
+pub covered-take : (needs q : List Bool) → covered needs (take (length needs) q) ≡ covered needs q
+unfolding covered
+covered-take [] q = refl
+covered-take (need ∷ needs) [] = refl
+covered-take (need ∷ needs) (x ∷ q) = ap (λ (b : Bool). (not need || x) && b) (covered-take needs q)
+
+-- ---- the block that begins at i, by what stands there
+
+module _ (name : List Bool) (i : ℕ) where
+  abbrev behind-it : List Bool
+  behind-it = take (length name - (i + 1)) (drop (i + 1) name)
+
+  begins : (b : Bool) → i < length name → getD name i false ≡ b → b ∷ behind-it ≡ drop i name
+  begins b h e = ap (λ (l : List Bool). b ∷ l) (rest-of name (i + 1)) ∙ sym (drop-more name i false b h e)
+
+  -- it lets a part be changed
+  module _ (needs : List Bool) where
+    pub allows-yes : (r : Bool) → i < length name → getD name i false ≡ true → r ≡ covered needs behind-it → r ≡ allows needs (firstOr [] (length needs) (drop i name))
+    allows-yes r h e f = f ∙ sym (covered-take needs behind-it) ∙ ap (λ (q : List Bool). allows needs (firstOr [] (length needs) q)) (begins true h e)
+
+    pub allows-no : i < length name → getD name i false ≡ false → false ≡ allows needs (firstOr [] (length needs) (drop i name))
+    allows-no h e = ap (λ (q : List Bool). allows needs (firstOr [] (length needs) q)) (begins false h e)
+
+    pub allows-none : length name ≤ i → true ≡ allows needs (firstOr [] (length needs) (drop i name))
+    allows-none h = sym (covered-none needs) ∙ ap (λ (q : List Bool). allows needs (firstOr [] (length needs) q)) (sym (drop-of-length-le name h))

@@ -1,0 +1,42 @@
+-- `opens`: a part can be changed at the block that begins at i, by what stands there.
+use borrow.Author.Needs.{needs}
+use Rattle.held_places.proofs.Steps.{allows-yes, allows-no, allows-none}
+use Rattle.held_places.proofs.opens.Statement.{statement}
+use Rattle.held_places.proofs.opens.Tie as tie
+
+shared-slice-read-if2 : tie.Need-shared-slice-read-if2
+shared-slice-read-if2 c = search needs
+
+add-covers : tie.Need-add-covers
+add-covers c = search needs
+
+sub-covers : tie.Need-sub-covers
+sub-covers c = search needs
+
+part-covers-start : tie.Need-part-covers-start
+part-covers-start c = search needs
+
+part-covers-end : tie.Need-part-covers-end
+part-covers-end c = search needs
+
+covers-requires : tie.Need-covers-requires
+covers-requires c κs = search needs
+
+returns : tie.Need-returns
+returns c =
+    let t = c .before .before in
+    let b = t .before .before in
+    let a = b .before .before .before .args in
+    allows-yes (a .name .now) (a .i) (a .needs .now) (c .covers .result) (b .if1 .taken) (t .if2 .taken) (c .covers .ensures)
+
+returns-2 : tie.Need-returns-2
+returns-2 c =
+    let b = c .before .before in
+    let a = b .before .before .before .args in
+    allows-no (a .name .now) (a .i) (a .needs .now) (b .if1 .taken) (c .if2 .left)
+
+returns-3 : tie.Need-returns-3
+returns-3 c = let a = c .before .before .before .args in allows-none (a .name .now) (a .i) (a .needs .now) (c .if1 .left)
+
+pub opens-spec : {M : Type 1} → statement M
+opens-spec = tie.close (tie.spec shared-slice-read-if2 add-covers sub-covers part-covers-start part-covers-end covers-requires returns returns-2 returns-3)

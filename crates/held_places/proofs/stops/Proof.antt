@@ -1,0 +1,60 @@
+-- `stops` has the first decision of each block, while the name is read.
+use Prim.Native.Nat.{ℕ, _-_}
+use mathlib.Core.Path.{_≡_, refl, ap, _∙_}
+use mathlib.Core.Bool.{Bool, true, false}
+use mathlib.Core.List.{List, [], _∷_}
+use native.Mathlib.Omega.{arith}
+use borrow.Author.Needs.{needs}
+use lib.ListN.{getD}
+use Rattle.model.specs.LowerBound.{blocks}
+use Rattle.held_places.proofs.Scans.{Reading, scan-at, scan-near, reading-none, reading-more, reading-all}
+use Rattle.held_places.proofs.stops.Statement.{statement}
+use Rattle.held_places.proofs.stops.Tie as tie
+
+abbrev stop : ℕ → ℕ → List Bool → ℕ → Bool
+stop h n name k = getD (getD (blocks h n name) k (false ∷ [])) 0 true
+
+abbrev Inv-loop : tie.InvT-loop
+Inv-loop name n h out₀ i₀ k₀ out i k = Reading false (stop h n name) h n name out k i
+
+abbrev μ-loop : tie.MeasureT-loop
+μ-loop name n h out₀ i₀ k₀ out i k = n - k
+
+loop-holds : tie.Need-loop-holds Inv-loop μ-loop
+loop-holds c = let a = c .before .args in reading-none false (stop (a .h) (a .n) (a .name .now)) (a .h) (a .n) (a .name .now) _ refl
+
+stop-at-requires : tie.Need-stop-at-requires Inv-loop μ-loop
+stop-at-requires c κs = search needs
+
+array-write-out : tie.Need-array-write-out Inv-loop μ-loop
+array-write-out c = search needs
+
+behind-requires : tie.Need-behind-requires Inv-loop μ-loop
+behind-requires c κs =
+    let l = c .before .before .loop in
+    let b = c .before .before .before .before in
+    (scan-near (b .args .h) (b .args .n) (b .args .name .now) (l .k) (l .i) (b .pre .0) (l .inv .scan), b .pre .1)
+
+add-k : tie.Need-add-k Inv-loop μ-loop
+add-k c = search needs
+
+loop-less : tie.Need-loop-less Inv-loop μ-loop
+loop-less c = search needs
+
+loop-again : tie.Need-loop-again Inv-loop μ-loop
+loop-again c =
+    let l = c .before .before .before .loop in
+    let b = c .before .before .before .before .before in
+    let a = b .args in
+    reading-more false (stop (a .h) (a .n) (a .name .now)) (a .h) (a .n) (a .name .now) (l .out) (l .k) (l .i) (c .behind .result) (c .before .stop-at .result) (b .pre .0) (b .pre .1) (c .before .before .loop-test .taken)
+    (c .before .stop-at .ensures (a .h) ∙ ap (λ (d : List Bool). getD d 0 true) (scan-at (a .h) (a .n) (a .name .now) (false ∷ []) (l .k) (l .i) (c .before .before .loop-test .taken) (l .inv .scan)))
+    (c .behind .ensures) (l .inv)
+
+returns : tie.Need-returns Inv-loop μ-loop
+returns c =
+    let l = c .before .loop in
+    let a = c .before .before .before .args in
+    reading-all false (stop (a .h) (a .n) (a .name .now)) (a .h) (a .n) (a .name .now) (l .out) (l .k) (l .i) (c .loop-test .left) (l .inv)
+
+pub stops-spec : {M : Type 1} → statement M
+stops-spec = tie.close (tie.spec Inv-loop μ-loop loop-holds stop-at-requires array-write-out behind-requires add-k loop-less loop-again returns)

@@ -1,0 +1,9 @@
+-- Laws of the classes, of filling the tables for holders, and of the job behind them.
+pub mod Groups
+pub mod Sets
+pub mod Lists
+pub mod Masks
+pub mod Lanes
+pub mod Raising
+pub mod Sheets
+pub mod Filled

@@ -1,0 +1,59 @@
+-- `clear` writes 0 to the terms. The invariant: the first y are 0.
+use Prim.Native.Nat.{ℕ, _-_, _≤_}
+use mathlib.Core.Path.{_≡_, refl, subst}
+use Rattle.least.specs.Filled.{FilledBy}
+use Rattle.least.proofs.Filled.{filled-none, filled-more}
+use Rattle.lane_rows.specs.Layout.{blockSize}
+use native.Mathlib.Omega.{arith}
+use borrow.Author.Needs.{needs}
+use Rattle.held_tables.proofs.terms.clear.Statement.{statement}
+use Rattle.held_tables.proofs.terms.clear.Tie as tie
+
+abbrev Inv-loop : tie.InvT-loop
+Inv-loop u₀ y₀ u y = (y ≤ blockSize) × FilledBy (λ (y : ℕ). y) (λ (y : ℕ). 0) y u₀ u
+
+abbrev μ-loop : tie.MeasureT-loop
+μ-loop u₀ y₀ u y = blockSize - y
+
+loop-holds : tie.Need-loop-holds Inv-loop μ-loop
+loop-holds c = (omega arith, filled-none)
+
+mul-u : tie.Need-mul-u Inv-loop μ-loop
+mul-u c = search needs
+
+slice-write-u : tie.Need-slice-write-u Inv-loop μ-loop
+slice-write-u c = search needs
+
+add-y : tie.Need-add-y Inv-loop μ-loop
+add-y c = search needs
+
+loop-less : tie.Need-loop-less Inv-loop μ-loop
+loop-less c = search needs
+
+loop-again : tie.Need-loop-again Inv-loop μ-loop
+loop-again c = (omega arith, filled-more 0 (omega arith) (λ y h e. omega (arith, e)) refl (c .before .loop .inv .1))
+
+same-length : tie.Need-same-length Inv-loop μ-loop
+same-length c = search needs
+
+returns : tie.Need-returns Inv-loop μ-loop
+returns c =
+    let a = c .before .before .args in
+    let l = c .before .loop in
+    let z : l .y ≡ blockSize = omega arith in
+    subst (λ (n : ℕ). FilledBy (λ (y : ℕ). y) (λ (y : ℕ). 0) n (a .u .now) (l .u)) z (l .inv .1)
+
+pub clear-spec : {M : Type 1} → statement M
+clear-spec =
+    tie.close
+    (tie.spec
+    Inv-loop
+    μ-loop
+    loop-holds
+    mul-u
+    slice-write-u
+    add-y
+    loop-less
+    loop-again
+    same-length
+    returns)

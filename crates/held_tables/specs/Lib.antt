@@ -1,0 +1,3 @@
+pub mod Grouped
+pub mod Sheet
+pub mod Fill

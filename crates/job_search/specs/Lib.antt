@@ -1,2 +1,0 @@
--- Which jobs have holders or removals.
-pub mod Removals
