@@ -504,7 +504,7 @@ walk-returns-2 t c =
     (record { recalled = recalled-none (a .t .now) (f .match .w) (a .p .rows) (z .frame .recalled .memo); aside = aside-none (f .match .v) (a .p .rows) (written (a .p)) }) (λ i l. refl)
     (walked-as (l .out .ensures) (c .before .counted2 .ensures) (c .walk2 .ensures sheet (out-blocks t q sheet ds h) (out-child t l sheet ds h))) refl (wrote t (f .before) sheet ds h) (λ z o r. z refl r)
 
--- ---- at an opening. `Opening`: no removal is open; `Settled`: the node is settled; `Counted`: the openings are counted; `Undecided`: there is an undecided one; `Looked`: the no's term is found; `Judged`: the no is tested;
+-- ---- at an opening. `Opening`: no removal is open; `Settled`: the node is settled; `Undecided`: there is an undecided one; `Looked`: the no's term is found; `Judged`: the no is tested;
 -- `Second`: the first branch is walked; `Owed`: the fee and the term of a stop are read
 
 abbrev Opening : ℕ → Type 0
@@ -512,9 +512,6 @@ Opening t = walk-lts.Else1 (claims t) (walk-at t) walk.Post
 
 abbrev Settled : ℕ → Type 0
 Settled t = walk-lts.After-settle (claims t) (walk-at t) walk.Post
-
-abbrev Counted : ℕ → Type 0
-Counted t = walk-lts.After-cell (claims t) (walk-at t) walk.Post
 
 abbrev Undecided : ℕ → Type 0
 Undecided t = walk-lts.Else2 (claims t) (walk-at t) walk.Post
