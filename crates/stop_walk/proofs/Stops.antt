@@ -21,14 +21,14 @@ use Rattle.lane_rows.specs.Rows.{lane, sumLanes}
 use Rattle.held_rows.specs.Held.{HeldSheet, noLane, needsOf, held, paidIn, heldSums, heldTerm, heldBound}
 use Rattle.held_rows.proofs.Seen.{paid-removal, covered-removed}
 use Rattle.held_rows.proofs.Sums.{sums-removed, term-removed}
-use Rattle.held_rows.proofs.Numbers.{stop-sums, left-rises}
+use Rattle.held_rows.proofs.Numbers.{stop-sums, stays-rises}
 use Rattle.held_rows.proofs.Numbers as numbers
 use Rattle.held_lanes.specs.Places.{mostTo, bitAt, removalPlace, needLanesPlace, needCountPlace, needClassPlace}
 use Rattle.held_lanes.specs.Tables.{TermAsks, termOf}
 use Rattle.held_lanes.proofs.Sets.{shut-more}
-use Rattle.held_lanes.proofs.Coded.{left-coded}
+use Rattle.held_lanes.proofs.Coded.{stays-coded}
 use Rattle.held_stops.specs.Stops.{ShutSet, stopLane, LooksAtStop}
-use Rattle.held_stops.proofs.Children.{boundIn, Told, left-told}
+use Rattle.held_stops.proofs.Children.{boundIn, Told, stays-told}
 use Rattle.held_stops.proofs.Names.{stop-more, stop-joined, stop-bound}
 use Rattle.walk.specs.State.{noCost}
 use Rattle.walk.proofs.Nodes.{bits-length, bits-no, bits-yes, mask-next}
@@ -130,7 +130,7 @@ module _ {sheet : HeldSheet} {ds : List (List Bool)} {t u w v : List ℕ} {p : N
       stays-below =
           subst (Told sheet (moreBlocks bs rs false) h) sum-is
           (subst (λ (k : ℕ). Told sheet (moreBlocks bs rs false) k (sumLanes (lanesIn t) (stopLane t w (length bs + 1) (p .rows) set))) term-is
-          (left-told sheet (a .fit) t u v w (a .tables) (a .holders) bs (p .rows) (p .rows - 1) (stop .before .lasts) (stop .before .rows-are) (stop .price) (stop .there) few rs g open-rs coded-here set stays-shut))
+          (stays-told sheet (a .fit) t u v w (a .tables) (a .holders) bs (p .rows) (p .rows - 1) (stop .before .lasts) (stop .before .rows-are) (stop .price) (stop .there) few rs g open-rs coded-here set stays-shut))
 
       -- its part sums are no less than the node's
       pub stays-more : h < inf → x ≤ y
@@ -142,13 +142,13 @@ module _ {sheet : HeldSheet} {ds : List (List Bool)} {t u w v : List ℕ} {p : N
             arith,
             sum-inj (heldSums sheet here) x (sumLanes (lanesIn t) (lane rs)) sums-here e,
             sum-inj (heldSums sheet (moreBlocks bs rs false)) y (sumLanes (lanesIn t) (lane (snoc rs false))) (stays-below .sums l) f,
-            left-rises sheet (a .fit) t w (a .tables) bs (p .rows) (stop .before .rows-are) few rs,
+            stays-rises sheet (a .fit) t w (a .tables) bs (p .rows) (stop .before .rows-are) few rs,
           )
 
       pub stays-cheap : h < inf → h ≤ top * (length (sheet .positions) - p .at)
       stays-cheap l =
           let c = coded-there most (max g (mostTo (λ (i : ℕ). termOf u v (length bs + 1) (p .rows - 1) (getD u (needClassPlace (length rs) i) 0)) (getD u (needCountPlace (length rs)) 0))) (heldTerm sheet (moreBlocks bs rs false)) h
-          (left-coded sheet (a .fit) u v (a .holders) (a .tables .few) bs (p .rows - 1) (stop .before .lasts) (stop .price) (stop .there) few rs g open-rs coded-here) (stays-below .term l) in
+          (stays-coded sheet (a .fit) u v (a .holders) (a .tables .few) bs (p .rows - 1) (stop .before .lasts) (stop .price) (stop .there) few rs g open-rs coded-here) (stays-below .term l) in
           omega (arith, c .1, size)
 
     stays-paid : p .spent ≡ paidIn sheet (moreBlocks bs rs false)
