@@ -57,7 +57,7 @@ fn is_reached(matrix: &[bool; PLACES], m: usize, set: [bool; PARTS], j: usize) -
 }
 
 // The parts of `own`, and those that stand in the row of one of a set.
-pub fn joined(
+pub fn union(
     matrix: &[bool; PLACES],
     m: usize,
     own: [bool; PARTS],
@@ -84,7 +84,7 @@ fn out_with(holders: &[bool; PLACES], m: usize, q: usize) -> [bool; PARTS]
     row[q] = true;
     let mut k: usize = 0;
     while k < m {
-        let next = joined(holders, m, row, row);
+        let next = union(holders, m, row, row);
         row = next;
         k += 1;
     }
@@ -148,7 +148,7 @@ pub fn holding_of(holders: &[bool; PLACES], m: usize) -> Holding
     requires { ⌜ m ≤ mostParts ⌝ }
     ensures { λ r. ⌜ Within r × ((job : Job) → HeldBy job m (now (holders .entry)) → IsHolding job r) ⌝ }
 {
-    let marks = joined(holders, m, [false; PARTS], [true; PARTS]);
+    let marks = union(holders, m, [false; PARTS], [true; PARTS]);
     places_of(marks)
 }
 

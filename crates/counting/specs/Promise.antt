@@ -28,30 +28,30 @@ module _ {text : List ℕ} where
   walkIn r = r .given .walk
 
   -- the job has a holder, and it has none
-  abbrev pub Held : Reading text → Type 0
-  Held r = hasHolder (jobIn r) ≡ true
+  abbrev pub HasHolder : Reading text → Type 0
+  HasHolder r = hasHolder (jobIn r) ≡ true
 
-  abbrev pub Unheld : Reading text → Type 0
-  Unheld r = hasHolder (jobIn r) ≡ false
+  abbrev pub NoHolder : Reading text → Type 0
+  NoHolder r = hasHolder (jobIn r) ≡ false
 
 pub record CountPromise (text : List ℕ) (c : Counted) : Type 0 where
   -- 0 exactly if the job is accepted and has no holder
-  pub says-0 : (c .result ≡ 0) ↔ ((r : Reading text) × Unheld r)
+  pub says-0 : (c .result ≡ 0) ↔ ((r : Reading text) × NoHolder r)
   -- E7.12. "E6's count refuses jobs with a holder": its numbers are handed over exactly if the job is accepted and has a holder
-  pub holders : (c ≡ holderRefusal) ↔ ((r : Reading text) × Held r)
+  pub holders : (c ≡ holderRefusal) ↔ ((r : Reading text) × HasHolder r)
   -- E6.1. "the number of points of a walk that drops a point only if its estimate is missing", below the cap
-  pub below : (r : Reading text) → Unheld r → c .count < mostCount → c .count ≡ longest (jobIn r)
+  pub below : (r : Reading text) → NoHolder r → c .count < mostCount → c .count ≡ longest (jobIn r)
   -- E6.3. "The count stops at 4000000000, which then means that or more."
-  pub cap : (r : Reading text) → Unheld r → (c .count ≡ mostCount) ↔ (mostCount ≤ longest (jobIn r))
+  pub cap : (r : Reading text) → NoHolder r → (c .count ≡ mostCount) ↔ (mostCount ≤ longest (jobIn r))
   pub most : c .count ≤ mostCount
   -- E6.5. "No walk ever has more points than this count below the cap": not the whole walk, nor that of the planner's answer to this text, nor that of an answer with another walk number
-  pub whole : (r : Reading text) → Unheld r → c .count < mostCount → wholeCount (jobIn r) ≤ c .count
-  pub nodes : (r : Reading text) → Unheld r → nodesOf (answerOf (jobIn r) (walkIn r)) ≤ c .count
-  pub any-nodes : (r : Reading text) → Unheld r → c .count < mostCount → (limit : ℕ) → nodesOf (answerOf (jobIn r) limit) ≤ c .count
+  pub whole : (r : Reading text) → NoHolder r → c .count < mostCount → wholeCount (jobIn r) ≤ c .count
+  pub nodes : (r : Reading text) → NoHolder r → nodesOf (answerOf (jobIn r) (walkIn r)) ≤ c .count
+  pub any-nodes : (r : Reading text) → NoHolder r → c .count < mostCount → (limit : ℕ) → nodesOf (answerOf (jobIn r) limit) ≤ c .count
   -- so with a walk number of the count or more the planner never says 7
-  pub enough : (r : Reading text) → Unheld r → c .count < mostCount → (limit : ℕ) → c .count ≤ limit → resultOf (answerOf (jobIn r) limit) ≡ 7 → ⊥
+  pub enough : (r : Reading text) → NoHolder r → c .count < mostCount → (limit : ℕ) → c .count ≤ limit → resultOf (answerOf (jobIn r) limit) ≡ 7 → ⊥
   -- E6.6. "A job with no plan has result 0 and count 1."; a job without openings has count 1 too, and no other has
-  pub one : (r : Reading text) → Unheld r → (c .count ≡ 1) ↔ ((HasPlan (jobIn r) → ⊥) ⊎ (length (jobIn r .openings) ≡ 0))
+  pub one : (r : Reading text) → NoHolder r → (c .count ≡ 1) ↔ ((HasPlan (jobIn r) → ⊥) ⊎ (length (jobIn r .openings) ≡ 0))
   -- E6.2. "the count is 0 for a refused job text": the fault, its line and where it stands
   pub job-fault : (number line : ℕ) → readJob text ≡ refused number line → c ≡ refusalOf text number line
   pub span : (number line : ℕ) → readJob text ≡ refused number line → Cuts text (faultLine line text) (record { start = c .«fault_start»; length = c .«fault_length» })

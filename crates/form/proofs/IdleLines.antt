@@ -25,6 +25,9 @@ use Rattle.form.specs.Checks.{lineAfter}
 
 -- ---- the line after them
 
+pub after-none : (n : ℕ) → n ≡ 0 → lineAfter n ≡ 2
+after-none n e = rw (eq-eqb n 0 e)
+
 pub after-some : (n : ℕ) → 1 ≤ n → lineAfter n ≡ 3 + n
 after-some n h = rw (ne-eqb n 0 (λ e. omega (arith, e)))
 

@@ -1,7 +1,8 @@
--- The laws, in the order in which they rest on each other: lines with a fault (Refusals), those of the idle steps (IdleLines), what a form's text is read as (Stated),
--- the form that an accepted text makes (Returned), and the promise (Promised).
+-- The laws, in the order in which they rest on each other: lines with a fault (Refusals), those of the idle steps (IdleLines), lists that disagree (Differing),
+-- what a form's text is read as (Stated), the form that an accepted text makes (Returned), and the promise (Promised).
 pub mod Refusals
 pub mod IdleLines
+pub mod Differing
 pub mod Stated
 pub mod Returned
 pub mod Promised

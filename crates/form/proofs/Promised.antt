@@ -25,6 +25,7 @@ use Rattle.form_lists.proofs.Places.{paired-size, parts-size}
 use Rattle.form.specs.Form.{Form, stated, formText, readForm}
 use Rattle.form.specs.Write.{saidFor, writeSaid, writeRoom}
 use Rattle.form.specs.Promise.{Agree, Few, FormFault, formOf, WritePromise}
+use Rattle.form.proofs.Differing.{fees-out, parts-out}
 use Rattle.form.proofs.Stated.{Held, form-back}
 use Rattle.form.proofs.Returned.{same-text, agrees, fits, returned}
 
@@ -114,6 +115,8 @@ module _ (f : Form) (held : Held f) (room : ℕ) where
     says-0 = (λ e. absurd (omega arith), λ r. absurd (omega (arith, r .0)));
     writes-0 = λ e. absurd (omega arith);
     refuses = λ e. absurd (omega arith);
+    fees-differ = λ e. absurd (omega arith);
+    parts-differ = λ e. absurd (omega arith);
     reads = reads;
     returns = λ e. absurd (omega arith);
   }
@@ -125,6 +128,8 @@ module _ (f : Form) (held : Held f) (room : ℕ) where
     says-0 = (λ q. (h, (agree, reads-back)), λ q. refl);
     writes-0 = λ q. (refl, reads-back);
     refuses = λ q n m r. not-both read r;
+    fees-differ = λ q start differ. absurd (differ (agree .fees));
+    parts-differ = λ q start known differ. absurd (differ (agree .parts));
     reads = reads;
     returns = λ q text t r same. (refl, ap (λ (s : Said). s .bytes) (sym said ∙ again text t r same));
   })
@@ -145,6 +150,8 @@ module _ (f : Form) (held : Held f) (room : ℕ) where
     says-0 = (λ q. absurd (not-0 n w q), λ r. not-both (accepts (r .1 .0) (r .1 .1)) read);
     writes-0 = λ q. absurd (not-0 n w q);
     refuses = λ q i j r. (replies.refuses 1 [] read r, no-span m, subst FormFault (one-fault read r .0) w);
+    fees-differ = λ q start differ. replies.refuses 1 [] read (form-refused f 3 _ (fees-out f start differ));
+    parts-differ = λ q start known differ. replies.refuses 1 [] read (form-refused f 3 _ (parts-out f start known differ));
     reads = reads;
     returns = λ q text t r same. let z : n ≡ 0 = ap (λ (s : Said). s .result) (sym said ∙ again text t r same) in absurd (not-0 n w z);
   })

@@ -1,5 +1,5 @@
 -- What the writer promises, over the form, the room lent and the answer.
-use Prim.Native.Nat.{ℕ, _≤_, _<_}
+use Prim.Native.Nat.{ℕ, _+_, _*_, _≤_, _<_}
 use mathlib.Core.Path.{_≡_}
 use mathlib.Core.List.{List, [], _∷_, map}
 use mathlib.Core.Logic.{_↔_, _⊎_}
@@ -8,7 +8,9 @@ use Rattle.lines.specs.Text.{texts, Optional, missing, present}
 use Rattle.lines.specs.Fault.{nowhere}
 use Rattle.lines.specs.Parser.{accepted, refused, finish, whole}
 use Rattle.model.specs.Model.{Opening}
-use Rattle.model.specs.Limits.{lastStep, mostOpenings, mostParts}
+use Rattle.model.specs.Limits.{lastStep, dearest, mostOpenings, mostParts, mostWalk}
+use Rattle.model.specs.Windows.{Rising}
+use Rattle.jobs.specs.Valid.{All}
 use Rattle.job_text.specs.Grammar.{PartText, JobText, idleIn, jobLines, readJobText}
 use Rattle.job_text.specs.Rendering.{jobText}
 use Rattle.covers.specs.Grammar.{Cover}
@@ -16,6 +18,7 @@ use Rattle.form_lists.specs.Facts.{PartLists, PartsAgree}
 use Rattle.answers.specs.Said.{Said, Refuses}
 use Rattle.form.specs.Form.{Form, stated, readForm}
 use Rattle.form.specs.Write.{writeRoom}
+use Rattle.form.specs.Checks.{lineAfter}
 
 -- the lists agree in length: a fee for each opening, and those of the parts as `PartsAgree` says
 pub record Agree (f : Form) : Type 0 where
@@ -27,6 +30,29 @@ pub record Few (f : Form) : Type 0 where
   pub idles : length (f .idles) ≤ lastStep
   pub openings : length (f .openings) ≤ mostOpenings
   pub parts : length (f .parts .lives) ≤ mostParts
+
+-- the lines before the `openings` line have no fault: each number is in its range, and the idle steps rise within the horizon
+pub record StartFaultless (f : Form) : Type 0 where
+  pub horizon-low : 2 ≤ f .horizon
+  pub horizon-high : f .horizon ≤ lastStep
+  pub few-idles : length (f .idles) ≤ lastStep
+  pub idles : Rising 0 (f .horizon) (f .idles)
+  pub walk : f .walk ≤ mostWalk
+
+-- nor has the `openings` line, nor those of the openings and fees: they are not too many, as many as each other, rise within the horizon, and no fee is too high
+pub record OpeningsFaultless (f : Form) : Type 0 where
+  pub few : length (f .openings) ≤ mostOpenings
+  pub as-many : length (f .fees) ≡ length (f .openings)
+  pub openings : Rising 0 (f .horizon) (f .openings)
+  pub fees : All (λ (fee : ℕ). fee ≤ dearest) (f .fees)
+
+-- the number of the `openings` line: the one after the `walk` line, which follows the idle steps
+abbrev pub openingsLine : Form → ℕ
+openingsLine f = lineAfter (length (f .idles)) + 1
+
+-- the number of the `parts` line: the one after the lines of the openings, two for each
+abbrev pub partsLine : Form → ℕ
+partsLine f = openingsLine f + 1 + 2 * length (f .openings)
 
 -- the numbers of a part's lines of removal: whether they stand, and what they say
 abbrev pub markOf : Optional Cover → ℕ
@@ -82,6 +108,10 @@ pub record WritePromise (f : Form) (room : ℕ) (s : Said) : Type 0 where
   -- every refusal: 3, 4, 5 or 12, text 1, its line, and no line at fault, "there is no text of the caller's"
   pub refuses : writeRoom ≤ room → (number line : ℕ) → readForm f ≡ refused number line
       → Refuses 1 [] number line s × (s .fault ≡ nowhere) × FormFault number
+  -- "Fees not as many as openings give 3 on the `openings` line"
+  pub fees-differ : writeRoom ≤ room → StartFaultless f → (length (f .fees) ≡ length (f .openings) → ⊥) → Refuses 1 [] 3 (openingsLine f) s
+  -- "lefts not as many as lives, prices not parts times openings, or a list added later of a wrong length, on the `parts` line"
+  pub parts-differ : writeRoom ≤ room → StartFaultless f → OpeningsFaultless f → (PartsAgree (length (f .openings)) (f .parts) → ⊥) → Refuses 1 [] 3 (partsLine f) s
   -- "for the same faults": of lists that agree and are not too long, what is read is the very text of the job that they state
   pub reads : Agree f → Few f → readForm f ≡ finish (whole jobLines (jobText (stated f)) 1)
   -- "an accepted text, read and written, comes out byte for byte"

@@ -17,7 +17,7 @@ use Rattle.clock.proofs.Places.{places-are}
 use Rattle.search.specs.Arrays.{Arrays}
 use Rattle.job_numbers.specs.Laid.{Numbered, pricesWith, Laid}
 use Rattle.job_numbers.specs.declared.Numbers.{Numbers}
-use Rattle.job_numbers.proofs.Counts.{Counted, counted, near, late, fair, brief, begun, first, prices-range}
+use Rattle.job_numbers.proofs.Counts.{Counted, counted, position-range, end-range, fee-at-most, life-at-most, left-at-most, left-within-life, prices-range}
 
 module _ (j : Job) (sized : Sized j) (whole : Whole j) (valid : ValidJob (jobOf j)) where
   abbrev n : ℕ
@@ -38,17 +38,17 @@ module _ (j : Job) (sized : Sized j) (whole : Whole j) (valid : ValidJob (jobOf 
           lives = record {
             some = omega (arith, long .lives, part-count j sized whole, valid .some-part);
             lefts = long .lefts ∙ sym (long .lives);
-            brief = brief j sized whole r numbered valid;
-            begun = begun j sized whole r numbered valid;
-            first = first j sized whole r numbered valid;
+            brief = life-at-most j sized whole r numbered valid;
+            begun = left-at-most j sized whole r numbered valid;
+            first = left-within-life j sized whole r numbered valid;
           };
           lanes = omega (arith, long .lives, sized .parts);
           prices = laid .size;
-          fair = fair j sized whole r numbered valid;
+          fair = fee-at-most j sized whole r numbered valid;
           cheap = prices-range j sized whole valid added dearest range ps laid;
           free = λ x h. laid .rest x (omega (arith, h, long .lives));
-          near = near j sized whole r numbered;
-          late = late j sized whole r numbered;
+          near = position-range j sized whole r numbered;
+          late = end-range j sized whole r numbered;
           climbs = subst (λ (ss : List ℤ). Climbs (r .placed .end) (pos 0) ss) (sym (places-are j sized whole (r .placed) (numbered .placed)))
               (subst (λ (e : ℤ). Climbs e (pos 0) (positions (jobOf j))) (sym (numbered .placed .end)) (job-climbs (jobOf j) (valid .rising)));
         }

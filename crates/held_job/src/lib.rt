@@ -1,12 +1,12 @@
 // The search of any accepted job over its openings and removals: its numbers and what holders and removals add to them laid out in arrays, and the counted search over them.
-pub mod terms;
+pub mod holders;
 
 use held_search::search_held;
+use holders::holder_numbers_of;
 use job_numbers::numbers_of;
 use job_numbers::prices_of;
 use jobs::Job;
 use search::Found;
-use terms::terms_of;
 ghost use mathlib.Core.Path.{_≡_};
 ghost use Rattle.model.specs.Promise.{answerOf};
 ghost use Rattle.jobs.specs.Views.{jobOf};
@@ -26,11 +26,11 @@ pub fn search_held_job(job: Job, limit: u32) -> Found
     let fees = numbers.fees;
     let lives = numbers.lives;
     let lefts = numbers.lefts;
-    let terms = terms_of(job);
-    let needs = terms.needs;
-    let removals = terms.removals;
-    let holding = terms.holding;
-    let charges = terms.charges;
+    let holders = holder_numbers_of(job);
+    let needs = holders.needs;
+    let removals = holders.removals;
+    let holding = holders.holding;
+    let charges = holders.charges;
     let prices = prices_of(job, charges);
     search_held(
         placed.end,

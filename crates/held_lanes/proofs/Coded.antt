@@ -14,7 +14,7 @@ use Rattle.lane_rows.proofs.Lanes.{coded-larger}
 use Rattle.lane_rows.proofs.Terms.{last-most}
 use Rattle.held_rows.specs.Held.{HeldSheet, needsOf, seen, heldSums, heldTerm, held, largestTo, classFee, lastFor, Classed}
 use Rattle.held_rows.proofs.Seen.{seen-length}
-use Rattle.held_rows.proofs.Terms.{term-no, term-yes, term-left}
+use Rattle.held_rows.proofs.Terms.{term-no, term-yes, term-stays}
 use Rattle.held_lanes.specs.Places.{mostTo, levelPlace, needCountPlace, needClassPlace, topPlace}
 use Rattle.held_lanes.specs.Tables.{needing, HeldTables, Lasts, termOf}
 
@@ -60,10 +60,10 @@ module _ (sheet : HeldSheet) (fit : Classed sheet) (u v : List ℕ) (he : HeldTa
       pub yes-coded : Coded (most (count + 1)) (getD u (topPlace (count + 1)) 0) (heldTerm sheet (bs ++ ((true ∷ []) ∷ [])))
       yes-coded = subst (Coded (most (count + 1)) (getD u (topPlace (count + 1)) 0)) (sym (term-yes sheet fit bs x sums h)) (he .tops (count + 1) (omega arith))
 
-      pub left-coded : (rs : List Bool) (g : ℕ) → length rs < held sheet → Coded (most (count + 1)) g (heldTerm sheet (bs ++ ((true ∷ rs) ∷ [])))
+      pub stays-coded : (rs : List Bool) (g : ℕ) → length rs < held sheet → Coded (most (count + 1)) g (heldTerm sheet (bs ++ ((true ∷ rs) ∷ [])))
           → Coded (most (count + 1)) (max g (mostTo (λ (i : ℕ). termOf u v (count + 1) r (getD u (needClassPlace (length rs) i) 0)) (getD u (needCountPlace (length rs)) 0))) (heldTerm sheet (bs ++ ((true ∷ snoc rs false) ∷ [])))
-      left-coded rs g l c =
+      stays-coded rs g l c =
           let m = mostTo (λ (i : ℕ). termOf u v (count + 1) r (getD u (needClassPlace (length rs) i) 0)) (getD u (needCountPlace (length rs)) 0) in
           let e = largestTo (λ (c : ℕ). cond (needing sheet (length rs) c) (classFee sheet (count + 1) (lastFor sheet bs c) c) (Sum 0)) (length (sheet .needs)) in
-          subst (Coded (most (count + 1)) (max g m)) (sym (term-left sheet fit bs x sums h rs))
+          subst (Coded (most (count + 1)) (max g m)) (sym (term-stays sheet fit bs x sums h rs))
           (coded-larger (most (count + 1)) g m (heldTerm sheet (bs ++ ((true ∷ rs) ∷ []))) e (omega arith) c (need-terms (count + 1) (length rs) (omega arith) (omega arith) l))

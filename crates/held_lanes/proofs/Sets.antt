@@ -11,7 +11,7 @@ use lib.ListN.{length, getD}
 use Rattle.branch.specs.Search.{snoc}
 use Rattle.model.specs.Decisions.{covered}
 use Rattle.least.specs.Filled.{FilledBy}
-use Rattle.held_rows.proofs.Seen.{covered-left}
+use Rattle.held_rows.proofs.Seen.{covered-stays}
 use Rattle.lane_rows.specs.Layout.{inf}
 use Rattle.held_lanes.specs.Places.{bitAt, maskOf}
 
@@ -58,7 +58,7 @@ bit-or (suc q) a b =
 
 -- the lanes that a stop is shut to, with one part more that is not removed
 pub shut-more : (needs rs : List Bool) (q a b : ℕ) → bitAt q a ≡ not (covered needs rs) → bitAt q b ≡ getD needs (length rs) false → bitAt q (bitOr a b) ≡ not (covered needs (snoc rs false))
-shut-more needs rs q a b e f = bit-or q a b ∙ ap₂ (λ (x y : Bool). x || y) e f ∙ go (covered needs rs) (getD needs (length rs) false) ∙ ap not (sym (covered-left needs rs))
+shut-more needs rs q a b e f = bit-or q a b ∙ ap₂ (λ (x y : Bool). x || y) e f ∙ go (covered needs rs) (getD needs (length rs) false) ∙ ap not (sym (covered-stays needs rs))
   where
     go : (x y : Bool) → (not x || y) ≡ not (x && not y)
     go true true = refl

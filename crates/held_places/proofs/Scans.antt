@@ -14,10 +14,6 @@ use Rattle.held_places.specs.Blocks.{firstOr, blockLong, Entries}
 
 -- ---- one block
 
-blocks-none : (h : ℕ) (q : List Bool) → blocks h 0 q ≡ []
-unfolding blocks
-blocks-none h q = refl
-
 block-drop : (h n : ℕ) (q : List Bool) → drop 1 (blocks h (suc n) q) ≡ blocks h n (drop (blockLong h q) q)
 unfolding blocks
 block-drop h zero [] = refl
@@ -63,9 +59,6 @@ module _ (h n : ℕ) (p : List Bool) where
       let y : k + 0 ≡ k = omega arith in
       sym (block-first d h (n - (k + 1)) (drop i p)) ∙ ap (λ (m : ℕ). getD (blocks h m (drop i p)) 0 d) (sym z) ∙ ap (λ (l : List (List Bool)). getD l 0 d) (sym (s .rest))
       ∙ getD-drop k (blocks h n p) 0 d ∙ ap (λ (m : ℕ). getD (blocks h n p) m d) y
-
-  pub scan-end : (k i : ℕ) → n ≤ k → Scan h n p k i → drop k (blocks h n p) ≡ []
-  scan-end k i l s = let z : n - k ≡ 0 = omega arith in s .rest ∙ ap (λ (m : ℕ). blocks h m (drop i p)) z ∙ blocks-none h (drop i p)
 
   -- places are small
   pub scan-near : (k i : ℕ) → n ≤ mostOpenings → Scan h n p k i → i ≤ mostOpenings * 17

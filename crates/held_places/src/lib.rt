@@ -31,8 +31,8 @@ fn free(need: bool, removed: &[bool], b: usize) -> bool
     true
 }
 
-// Every part that is needed is removed or undecided: the decisions are those of the parts that are somebody's holder, in order.
-fn covers(needs: &[bool], removed: &[bool]) -> bool
+// Every part that is needed is out, or undecided: the decisions are those of the parts that are somebody's holder, in order.
+fn all_out(needs: &[bool], removed: &[bool]) -> bool
     ensures { λ r. ⌜ r ≡ covered (now (needs .entry)) (now (removed .entry)) ⌝ }
 {
     let mut b = 0;
@@ -66,7 +66,7 @@ fn opens(needs: &[bool], name: &[bool], i: usize) -> bool
 {
     if i < name.len() {
         if name[i] {
-            return covers(needs, &name[i + 1..]);
+            return all_out(needs, &name[i + 1..]);
         }
         return false;
     }

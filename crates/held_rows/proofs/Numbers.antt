@@ -19,7 +19,7 @@ use Rattle.lane_rows.specs.Rows.{lane, sumLanes}
 use Rattle.lane_rows.proofs.Lanes.{value-sum, sum-rises, lane-rises}
 use Rattle.held_rows.specs.Held.{HeldColumn, HeldSheet, columnIn, plain, noLane, needsOf, seenBy, laneBound, laneFee, partLanes, heldSums, heldTerm, Classed}
 use Rattle.held_rows.specs.Rows.{SeenRows}
-use Rattle.held_rows.proofs.Seen.{covered-left}
+use Rattle.held_rows.proofs.Seen.{covered-stays}
 use Rattle.held_rows.proofs.Sums.{openBound, shutBound, bound-no, bound-stop, bound-there, sum-there, each-fee}
 use Rattle.held_rows.proofs.Rows.{lane-is, rows-no}
 
@@ -112,8 +112,8 @@ module _ (sheet : HeldSheet) (fit : Classed sheet) (t w : List ℕ) (ta : Tables
     pub no-rises : sumLanes (lanesIn t) (λ (q : ℕ). lane t w suffixBase at q n) ≤ sumLanes (lanesIn t) (λ (q : ℕ). lane t w suffixBase (at + 1) q n)
     no-rises = sum-rises (lanesIn t) (λ (q : ℕ). lane t w suffixBase at q n) (λ (q : ℕ). lane t w suffixBase (at + 1) q n) rises
 
-    pub left-rises : (rs : List Bool) → sumLanes (lanesIn t) (stopLane rs) ≤ sumLanes (lanesIn t) (stopLane (snoc rs false))
-    left-rises rs = sum-rises (lanesIn t) (stopLane rs) (stopLane (snoc rs false)) one
+    pub stays-rises : (rs : List Bool) → sumLanes (lanesIn t) (stopLane rs) ≤ sumLanes (lanesIn t) (stopLane (snoc rs false))
+    stays-rises rs = sum-rises (lanesIn t) (stopLane rs) (stopLane (snoc rs false)) one
       where
         go : (x y : ℕ) (a b : Bool) → x ≤ y → cond a x y ≤ cond (a && b) x y
         go x y true true l = omega arith
@@ -123,5 +123,5 @@ module _ (sheet : HeldSheet) (fit : Classed sheet) (t w : List ℕ) (ta : Tables
         one : (q : ℕ) → q < lanesIn t → stopLane rs q ≤ stopLane (snoc rs false) q
         one q l =
             let needs = needsOf sheet (getD (sheet .lanes) q noLane .class) in
-            subst (λ (b : Bool). stopLane rs q ≤ cond b (lane t w suffixBase at q n) (lane t w suffixBase (at + 1) q n)) (sym (covered-left needs rs))
+            subst (λ (b : Bool). stopLane rs q ≤ cond b (lane t w suffixBase at q n) (lane t w suffixBase (at + 1) q n)) (sym (covered-stays needs rs))
             (go (lane t w suffixBase at q n) (lane t w suffixBase (at + 1) q n) (covered needs rs) (not (getD needs (length rs) false)) (rises q l))

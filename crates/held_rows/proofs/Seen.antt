@@ -71,16 +71,16 @@ covered-removed [] rs = refl
 covered-removed (need ∷ needs) [] = refl
 covered-removed (need ∷ needs) (x ∷ rs) = ap (λ (b : Bool). (not need || x) && b) (covered-removed needs rs)
 
-pub covered-left : (needs rs : List Bool) → covered needs (snoc rs false) ≡ (covered needs rs && not (getD needs (length rs) false))
+pub covered-stays : (needs rs : List Bool) → covered needs (snoc rs false) ≡ (covered needs rs && not (getD needs (length rs) false))
 unfolding covered
-covered-left [] [] = refl
-covered-left [] (x ∷ rs) = refl
-covered-left (need ∷ needs) [] = rw (covered-none needs) (go need)
+covered-stays [] [] = refl
+covered-stays [] (x ∷ rs) = refl
+covered-stays (need ∷ needs) [] = rw (covered-none needs) (go need)
   where
     go : (b : Bool) → ((not b || false) && true) ≡ (((not b || true) && true) && not b)
     go true = refl
     go false = refl
-covered-left (need ∷ needs) (x ∷ rs) = ap (λ (b : Bool). (not need || x) && b) (covered-left needs rs) ∙ go (not need || x) (covered needs rs) (not (getD needs (length rs) false))
+covered-stays (need ∷ needs) (x ∷ rs) = ap (λ (b : Bool). (not need || x) && b) (covered-stays needs rs) ∙ go (not need || x) (covered needs rs) (not (getD needs (length rs) false))
   where
     go : (a b c : Bool) → (a && (b && c)) ≡ ((a && b) && c)
     go true b c = refl

@@ -27,7 +27,7 @@ use Rattle.lane_rows.specs.Tables.{feeFrom}
 use Rattle.lane_rows.proofs.Front.{column-yes}
 use Rattle.lane_rows.proofs.Terms.{last-most}
 use Rattle.held_rows.specs.Held.{Classed, HeldColumn, HeldSheet, plain, noLane, needsOf, seen, seenBy, partLanes, laneBound, laneFee, heldSums, heldTerm, largestTo, classFee, lastFor}
-use Rattle.held_rows.proofs.Seen.{seen-length, seen-no, seen-yes, seen-stop, covered-left}
+use Rattle.held_rows.proofs.Seen.{seen-length, seen-no, seen-yes, seen-stop, covered-stays}
 use Rattle.held_rows.proofs.Sums.{each-there}
 
 -- ---- one part
@@ -228,9 +228,9 @@ module _ (sheet : HeldSheet) (fit : Classed sheet) (bs : List (List Bool)) where
           go false = shut-fee i l
 
       -- one part that is not removed: the classes that need it fall back to their last mark
-      pub term-left : (rs : List Bool) → heldTerm sheet (bs ++ ((true ∷ snoc rs false) ∷ []))
+      pub term-stays : (rs : List Bool) → heldTerm sheet (bs ++ ((true ∷ snoc rs false) ∷ []))
           ≡ larger (heldTerm sheet (bs ++ ((true ∷ rs) ∷ []))) (largestTo (λ (c : ℕ). cond (getD (needsOf sheet c) (length rs) false) (classFee sheet (count + 1) (lastFor sheet bs c) c) (Sum 0)) (length (sheet .needs)))
-      term-left rs =
+      term-stays rs =
           largest-each (laneFee sheet (bs ++ ((true ∷ snoc rs false) ∷ [])))
           (λ (lane : HeldColumn) (p : List Bool). larger (laneFee sheet (bs ++ ((true ∷ rs) ∷ [])) lane p) (cond (getD (needsOf sheet (lane .class)) (length rs) false) (lanes-fee (count + 1) (lastFor sheet bs (lane .class)) lane) (Sum 0)))
           (partLanes sheet) one
@@ -257,6 +257,6 @@ module _ (sheet : HeldSheet) (fit : Classed sheet) (bs : List (List Bool)) where
               let b = lanes-fee (count + 1) (lastFor sheet bs (lane .class)) lane in
               let n = getD needs (length rs) false in
               stop-fee (snoc rs false) i l
-              ∙ ap (λ (y : Bool). cond y a b) (covered-left needs rs)
+              ∙ ap (λ (y : Bool). cond y a b) (covered-stays needs rs)
               ∙ shut a b (covered needs rs) n (fee-falls (plain sheet) (lane .column) (part i l .climbs) (count + 1) (lastFor sheet bs (lane .class)) (count + 1) (omega (arith, last-most (seen needs bs), seen-length needs bs)) (omega (arith, few)))
               ∙ ap (λ (y : Bound). larger y (cond n b (Sum 0))) (sym (stop-fee rs i l))

@@ -19,7 +19,7 @@ use Rattle.held_rows.specs.Rows.{SeenRows}
 use Rattle.held_rows.proofs.Numbers.{wide, no-sums, stop-sums}
 use Rattle.held_lanes.specs.Places.{mostTo, needCountPlace, needClassPlace}
 use Rattle.held_lanes.specs.Tables.{HeldTables, Lasts, termOf}
-use Rattle.held_lanes.proofs.Coded.{no-coded, left-coded}
+use Rattle.held_lanes.proofs.Coded.{no-coded, stays-coded}
 use Rattle.held_stops.specs.Stops.{ShutSet, stopLane}
 
 -- the bound where these blocks are decided
@@ -85,8 +85,8 @@ module _ (sheet : HeldSheet) (fit : Classed sheet) (t u v w : List ℕ) (ta : Ta
   -- ---- below a stop
 
   module _ (rs : List Bool) (g : ℕ) (next : length rs < held sheet) (coded : Coded most g (heldTerm sheet (bs ++ ((true ∷ rs) ∷ [])))) where
-    abbrev pub leftTerm : ℕ
-    leftTerm = max g (mostTo (λ (i : ℕ). termOf u v (at + 1) r (getD u (needClassPlace (length rs) i) 0)) (getD u (needCountPlace (length rs)) 0))
+    abbrev pub staysTerm : ℕ
+    staysTerm = max g (mostTo (λ (i : ℕ). termOf u v (at + 1) r (getD u (needClassPlace (length rs) i) 0)) (getD u (needCountPlace (length rs)) 0))
 
     -- the lanes are picked by the set of those that the stop is shut to
     picked : (set : ℕ) → ShutSet sheet (snoc rs false) set → (q : ℕ) → q < lanesIn t
@@ -99,8 +99,8 @@ module _ (sheet : HeldSheet) (fit : Classed sheet) (t u v w : List ℕ) (ta : Ta
         go true = refl
         go false = refl
 
-    pub left-told : (set : ℕ) → ShutSet sheet (snoc rs false) set → Told sheet (bs ++ ((true ∷ snoc rs false) ∷ [])) leftTerm (sumLanes (lanesIn t) (stopLane t w (at + 1) n set))
-    left-told set b =
-        told sheet (bs ++ ((true ∷ snoc rs false) ∷ [])) most leftTerm (sumLanes (lanesIn t) (stopLane t w (at + 1) n set)) small (left-coded sheet fit u v he (ta .few) bs r ls x sums few rs g next coded)
+    pub stays-told : (set : ℕ) → ShutSet sheet (snoc rs false) set → Told sheet (bs ++ ((true ∷ snoc rs false) ∷ [])) staysTerm (sumLanes (lanesIn t) (stopLane t w (at + 1) n set))
+    stays-told set b =
+        told sheet (bs ++ ((true ∷ snoc rs false) ∷ [])) most staysTerm (sumLanes (lanesIn t) (stopLane t w (at + 1) n set)) small (stays-coded sheet fit u v he (ta .few) bs r ls x sums few rs g next coded)
         (λ k e. stop-sums sheet fit t w ta bs n ro few (snoc rs false) k e
         ∙ ap Sum (sum-same (lanesIn t) (λ (q : ℕ). cond (covered (needsOf sheet (getD (sheet .lanes) q noLane .class)) (snoc rs false)) (lane t w suffixBase at q n) (lane t w suffixBase (at + 1) q n)) (stopLane t w (at + 1) n set) (picked set b)))

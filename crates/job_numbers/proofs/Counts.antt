@@ -154,8 +154,9 @@ module _ (j : Job) (sized : Sized j) (whole : Whole j) where
     pub left-at : (q d : ℕ) → q < m → getD (take m (r .lefts)) q d ≡ getD (jobOf j .parts) q noPart .left
     left-at = lane-at leftOf (r .lefts) (numbered .lefts)
 
-    pub near : (i : ℕ) → mag (getD (take n (r .placed .at)) i (pos 0)) ≤ lastPosition
-    near i = go (decLt i n)
+    -- a position is at most the last one, either way; past the end it is 0
+    pub position-range : (i : ℕ) → mag (getD (take n (r .placed .at)) i (pos 0)) ≤ lastPosition
+    position-range i = go (decLt i n)
       where
         go : Dec (i < n) → mag (getD (take n (r .placed .at)) i (pos 0)) ≤ lastPosition
         go (yes h) =
@@ -164,20 +165,25 @@ module _ (j : Job) (sized : Sized j) (whole : Whole j) where
         go (no h) =
             subst (λ (z : ℤ). mag z ≤ lastPosition) (sym (List·getD-eq-default (take n (r .placed .at)) (pos 0) {n = i} (omega (arith, h, counted .places)))) (omega arith)
 
-    pub late : mag (r .placed .end) ≤ lastPosition
-    late = position-small (r .placed .end) (numbered .placed .end-range)
+    -- so is the end
+    pub end-range : mag (r .placed .end) ≤ lastPosition
+    end-range = position-small (r .placed .end) (numbered .placed .end-range)
 
     module _ (valid : ValidJob (jobOf j)) where
-      pub fair : (i : ℕ) → getD (take n (r .fees)) i 0 ≤ dearest
-      fair i = subst (λ (l : List ℕ). getD l i 0 ≤ dearest) (sym (numbered .fees)) (fee-range (jobOf j .openings) (valid .openings) i)
+      -- a fee is at most the dearest
+      pub fee-at-most : (i : ℕ) → getD (take n (r .fees)) i 0 ≤ dearest
+      fee-at-most i = subst (λ (l : List ℕ). getD l i 0 ≤ dearest) (sym (numbered .fees)) (fee-range (jobOf j .openings) (valid .openings) i)
 
-      pub brief : (q : ℕ) → getD (take m (r .lives)) q 0 ≤ longestLife
-      brief q = subst (λ (l : List ℕ). getD l q 0 ≤ longestLife) (sym (numbered .lives)) (life-range n (jobOf j .parts) (valid-parts j sized whole valid) q)
+      -- a life is at most the longest
+      pub life-at-most : (q : ℕ) → getD (take m (r .lives)) q 0 ≤ longestLife
+      life-at-most q = subst (λ (l : List ℕ). getD l q 0 ≤ longestLife) (sym (numbered .lives)) (life-range n (jobOf j .parts) (valid-parts j sized whole valid) q)
 
-      pub begun : (q : ℕ) → getD (take m (r .lefts)) q 0 ≤ longestLife
-      begun q = subst (λ (l : List ℕ). getD l q 0 ≤ longestLife) (sym (numbered .lefts)) (left-range n (jobOf j .parts) (valid-parts j sized whole valid) q)
+      -- so is a first life
+      pub left-at-most : (q : ℕ) → getD (take m (r .lefts)) q 0 ≤ longestLife
+      left-at-most q = subst (λ (l : List ℕ). getD l q 0 ≤ longestLife) (sym (numbered .lefts)) (left-range n (jobOf j .parts) (valid-parts j sized whole valid) q)
 
-      pub first : (q : ℕ) → getD (take m (r .lefts)) q 0 ≤ getD (take m (r .lives)) q 0
-      first q =
+      -- "R at most L"
+      pub left-within-life : (q : ℕ) → getD (take m (r .lefts)) q 0 ≤ getD (take m (r .lives)) q 0
+      left-within-life q =
           subst (λ (l : List ℕ). getD l q 0 ≤ getD (take m (r .lives)) q 0) (sym (numbered .lefts))
           (subst (λ (l : List ℕ). getD (map leftOf (jobOf j .parts)) q 0 ≤ getD l q 0) (sym (numbered .lives)) (left-life n (jobOf j .parts) (valid-parts j sized whole valid) q))

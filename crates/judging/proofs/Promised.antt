@@ -10,17 +10,18 @@ use Rattle.lines.specs.Parser.{Outcome, accepted, refused}
 use Rattle.lines.proofs.Outcomes.{one-value, not-both}
 use Rattle.model.specs.Model.{KeepsLives, costOf}
 use Rattle.model.specs.Verdict as verdict
-use Rattle.model.specs.Verdict.{Judgement, accepts, unkept, wrongCost, numberOf, judgedOf, AllKept, LowestUnkept}
+use Rattle.model.specs.Verdict.{Judgement, accepts, unkept, wrongCost, numberOf, judgedOf, AllKept}
 use Rattle.model.proofs.Verdicts.{judge, lives-kept, kept-lives}
 use Rattle.job_text.specs.Grammar.{Given, readJob}
 use Rattle.job_text.proofs.Numbered as job
+use Rattle.job_text.proofs.Published.{text-due}
 use Rattle.plan_text.specs.Grammar.{Stated, readPlan}
 use Rattle.plan_text.proofs.Numbered as plan
 use Rattle.plan_text.proofs.Shapes.{shaped}
 use Rattle.answers.specs.Said.{Said, plainly, lent}
 use Rattle.answers.proofs.Replies.{refuses}
 use Rattle.judging.specs.Judge.{costLines, unkeptLines, saidOf, onPlan, onJob, judgeSaid, judgeRoom}
-use Rattle.judging.specs.Promise.{Reading, JudgePromise}
+use Rattle.judging.specs.Promise.{Reading, Overdue, JudgePromise}
 
 module _ (jobText planText : List ℕ) (room : ℕ) where
   -- ---- no room
@@ -136,11 +137,11 @@ module _ (jobText planText : List ℕ) (room : ℕ) where
     writes-0 (unkept p d) v e = absurd (omega arith)
     writes-0 (wrongCost c) v e = absurd (omega arith)
 
-    writes-10 : (j : Judgement) → Values j → numberOf j ≡ 10
-        → (part : ℕ) × ((due : ℕ) × (LowestUnkept (g .job) (st .plan) part due × (saidOf j .bytes ≡ unkeptLines part due)))
-    writes-10 (accepts c) v e = absurd (omega arith)
-    writes-10 (unkept p d) v e = (p, (d, (v, refl)))
-    writes-10 (wrongCost c) v e = absurd (omega arith)
+    writes-10 : (j : Judgement) → judgedOf (g .job) (st .cost) (st .plan) ≡ j → numberOf j ≡ 10
+        → (part : ℕ) × ((due : ℕ) × (Overdue (g .job) (st .plan) part due × (saidOf j .bytes ≡ unkeptLines part due)))
+    writes-10 (accepts c) is e = absurd (omega arith)
+    writes-10 (unkept p d) is e = (p, (d, (text-due jobText g eg (st .plan) (st .cost) p d is, refl)))
+    writes-10 (wrongCost c) is e = absurd (omega arith)
 
     writes-11 : (j : Judgement) → Values j → numberOf j ≡ 11 → saidOf j .bytes ≡ costLines 11 (costOf (g .job) (st .plan))
     writes-11 (accepts c) v e = absurd (omega arith)
@@ -152,8 +153,8 @@ module _ (jobText planText : List ℕ) (room : ℕ) where
     not-8 (unkept p d) e = omega arith
     not-8 (wrongCost c) e = omega arith
 
-    read : (j : Judgement) → verdict.JudgePromise (g .job) (st .cost) (st .plan) j → JudgePromise jobText planText room (saidOf j)
-    read j p = record {
+    read : (j : Judgement) → judgedOf (g .job) (st .cost) (st .plan) ≡ j → verdict.JudgePromise (g .job) (st .cost) (st .plan) j → JudgePromise jobText planText room (saidOf j)
+    read j is p = record {
       says-8 = (λ e. absurd (not-8 j e), λ e. absurd (omega arith));
       says-0 = (
         λ e. let x = p .says-0 .0 e in (h, (here, (keeps (x .0), x .1))),
@@ -169,7 +170,7 @@ module _ (jobText planText : List ℕ) (room : ℕ) where
       );
       writes-0 = λ r e. moved-back (λ x y. saidOf j .bytes ≡ costLines 0 (costOf (x .job) (y .plan))) r (writes-0 j (p .values) e);
       writes-10 = λ r e. moved-back
-          (λ x y. (part : ℕ) × ((due : ℕ) × (LowestUnkept (x .job) (y .plan) part due × (saidOf j .bytes ≡ unkeptLines part due)))) r (writes-10 j (p .values) e);
+          (λ x y. (part : ℕ) × ((due : ℕ) × (Overdue (x .job) (y .plan) part due × (saidOf j .bytes ≡ unkeptLines part due)))) r (writes-10 j is e);
       writes-11 = λ r e. moved-back (λ x y. saidOf j .bytes ≡ costLines 11 (costOf (x .job) (y .plan))) r (writes-11 j (p .values) e);
       job-fault = λ m n l e. not-both eg e;
       plan-fault = λ m g′ f n l e. not-both es (other-plan eg f ∙ e);
@@ -178,7 +179,7 @@ module _ (jobText planText : List ℕ) (room : ℕ) where
   -- ---- all together
 
   on-plan : judgeRoom ≤ room → (g : Given) → readJob jobText ≡ accepted g → (x : Outcome Stated) → readPlan (g .job) planText ≡ x → JudgePromise jobText planText room (onPlan planText (g .job) x)
-  on-plan h g eg (accepted st) es = read h g eg st es (judgedOf (g .job) (st .cost) (st .plan)) (judged h g eg st es)
+  on-plan h g eg (accepted st) es = read h g eg st es (judgedOf (g .job) (st .cost) (st .plan)) refl (judged h g eg st es)
   on-plan h g eg (refused n l) e = refused-plan h g eg n l e
 
   on-job : judgeRoom ≤ room → (x : Outcome Given) → readJob jobText ≡ x → JudgePromise jobText planText room (onJob jobText planText x)

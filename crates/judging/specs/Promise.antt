@@ -4,8 +4,9 @@ use mathlib.Core.Path.{_≡_}
 use mathlib.Core.List.{List}
 use mathlib.Core.Logic.{_↔_}
 use Rattle.lines.specs.Parser.{accepted, refused}
-use Rattle.model.specs.Model.{KeepsLives, costOf}
+use Rattle.model.specs.Model.{Job, Plan, KeepsLives, costOf}
 use Rattle.model.specs.Verdict.{LowestUnkept}
+use Rattle.model.specs.Due.{DueIs}
 use Rattle.job_text.specs.Grammar.{Given, readJob}
 use Rattle.plan_text.specs.Grammar.{Stated, readPlan}
 use Rattle.answers.specs.Said.{Said, Refuses}
@@ -30,6 +31,10 @@ module _ {job plan : List ℕ} where
   abbrev pub States : Reading job plan → Type 0
   States r = r .stated .cost ≡ trueCost r
 
+-- R10. the lowest part that is not kept, with its first gap that is too long, and its due step, which is "the change before, or R − L, plus L"
+abbrev pub Overdue : Job → Plan → ℕ → ℕ → Type 0
+Overdue job plan part due = (late : LowestUnkept job plan part due) × DueIs job plan part due late
+
 pub record JudgePromise (job plan : List ℕ) (room : ℕ) (s : Said) : Type 0 where
   -- R8. "8: the output is shorter than 16,384 bytes."
   pub says-8 : (s .result ≡ 8) ↔ (room < judgeRoom)
@@ -41,8 +46,8 @@ pub record JudgePromise (job plan : List ℕ) (room : ℕ) (s : Said) : Type 0 w
   pub says-11 : (s .result ≡ 11) ↔ ((judgeRoom ≤ room) × ((r : Reading job plan) × (Keeps r × (States r → ⊥))))
   -- what is written with them
   pub writes-0 : (r : Reading job plan) → s .result ≡ 0 → s .bytes ≡ costLines 0 (trueCost r)
-  pub writes-10 : (r : Reading job plan) → s .result ≡ 10
-      → (part : ℕ) × ((due : ℕ) × (LowestUnkept (r .given .job) (r .stated .plan) part due × (s .bytes ≡ unkeptLines part due)))
+  -- R10. "Lowest such part, and its due step: at its first gap that is too long, the last step at which a change would still have kept it (the change before, or R − L, plus L)."
+  pub writes-10 : (r : Reading job plan) → s .result ≡ 10 → (part : ℕ) × ((due : ℕ) × (Overdue (r .given .job) (r .stated .plan) part due × (s .bytes ≡ unkeptLines part due)))
   pub writes-11 : (r : Reading job plan) → s .result ≡ 11 → s .bytes ≡ costLines 11 (trueCost r)
   -- D4. the faults of the two texts, the job's first
   pub job-fault : judgeRoom ≤ room → (number line : ℕ) → readJob job ≡ refused number line → Refuses 1 job number line s

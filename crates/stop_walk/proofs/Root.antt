@@ -60,7 +60,7 @@ paid-first sheet = refl
 
 -- the node
 abbrev pub rootN : ℕ → Node
-rootN h = record { at = 0; rows = 1; next = h; owed = false; killed = 0; removed = 0; spent = 0; mask = 0 }
+rootN h = record { at = 0; rows = 1; next = h; owed = false; shut = 0; removed = 0; spent = 0; mask = 0 }
 
 module _ (sheet : HeldSheet) (t u w : List ℕ) (ta : Tables (plain sheet) t) (he : HeldTables sheet u) (fit : Classed sheet) (fr : FirstRow w) where
   abbrev due : ℕ

@@ -53,7 +53,7 @@ module _ {sheet : HeldSheet} {ds : List (List Bool)} {t u w v : List ℕ} {p : N
         omega (arith, s .small, h),
       )
 
-  module _ {w' v' : List ℕ} (put : StopPut t w w' (p .at) (p .rows) (p .killed)) (nt : StopNoted t u w v v' (p .at) (p .rows) (p .killed) (p .removed)) where
+  module _ {w' v' : List ℕ} (put : StopPut t w w' (p .at) (p .rows) (p .shut)) (nt : StopNoted t u w v v' (p .at) (p .rows) (p .shut) (p .removed)) where
     few : (0 < p .rows) × (p .rows ≤ 64) × (p .at ≤ 64)
     few = let r = rows-few (a .tables) (a .holders) (a .aside) (s .before) in (r .0, omega (arith, r .1, s .later, a .inside, a .tables .few), omega (arith, a .inside, a .tables .few))
 
@@ -92,9 +92,9 @@ module _ {sheet : HeldSheet} {ds : List (List Bool)} {t u w v : List ℕ} {p : N
         let y : length bs + 1 ≡ p .at = omega (arith, z, later) in
         let same = s .same in
         let n : p .rows + 1 - 1 ≡ p .rows = omega arith in
-        let rows = subst (λ (k : ℕ). Put (lanesIn t) (stopRow t w k (p .rows) (λ (q : ℕ). bitAt q (p .killed))) w w' (p .rows) (p .at)) (sym z) (put .put) in
-        let seen = stop-settled sheet t u v w (a .tables) bs rs (p .rows) (p .killed) (s .shut) w' (omega (arith, z, less)) (wr .rows-are) (subst (Put (lanesIn t) (stopRow t w (length bs) (p .rows) (λ (q : ℕ). bitAt q (p .killed))) w w' (p .rows)) (sym y) rows) in
-        let lasts = lasts-settled sheet t u v w (a .tables) bs rs (p .rows) (p .killed) (s .shut) v' (a .holders) (wr .lasts) (λ c l. nt .lasts c l ∙ ap (λ (k : ℕ). noted u v k (p .rows) (p .killed) c) (sym y)) in
+        let rows = subst (λ (k : ℕ). Put (lanesIn t) (stopRow t w k (p .rows) (λ (q : ℕ). bitAt q (p .shut))) w w' (p .rows) (p .at)) (sym z) (put .put) in
+        let seen = stop-settled sheet t u v w (a .tables) bs rs (p .rows) (p .shut) (s .shut) w' (omega (arith, z, less)) (wr .rows-are) (subst (Put (lanesIn t) (stopRow t w (length bs) (p .rows) (λ (q : ℕ). bitAt q (p .shut))) w w' (p .rows)) (sym y) rows) in
+        let lasts = lasts-settled sheet t u v w (a .tables) bs rs (p .rows) (p .shut) (s .shut) v' (a .holders) (wr .lasts) (λ c l. nt .lasts c l ∙ ap (λ (k : ℕ). noted u v k (p .rows) (p .shut) c) (sym y)) in
         subst (λ (ls : List (List Bool)). Written sheet ls t w' v' (p .rows + 1) (p .at) (p .mask)) (sym same)
         (record {
           size = more-size bs (true ∷ rs) ∙ y;

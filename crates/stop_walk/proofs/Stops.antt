@@ -21,19 +21,19 @@ use Rattle.lane_rows.specs.Rows.{lane, sumLanes}
 use Rattle.held_rows.specs.Held.{HeldSheet, noLane, needsOf, held, paidIn, heldSums, heldTerm, heldBound}
 use Rattle.held_rows.proofs.Seen.{paid-removal, covered-removed}
 use Rattle.held_rows.proofs.Sums.{sums-removed, term-removed}
-use Rattle.held_rows.proofs.Numbers.{stop-sums, left-rises}
+use Rattle.held_rows.proofs.Numbers.{stop-sums, stays-rises}
 use Rattle.held_rows.proofs.Numbers as numbers
 use Rattle.held_lanes.specs.Places.{mostTo, bitAt, removalPlace, needLanesPlace, needCountPlace, needClassPlace}
 use Rattle.held_lanes.specs.Tables.{TermAsks, termOf}
 use Rattle.held_lanes.proofs.Sets.{shut-more}
-use Rattle.held_lanes.proofs.Coded.{left-coded}
+use Rattle.held_lanes.proofs.Coded.{stays-coded}
 use Rattle.held_stops.specs.Stops.{ShutSet, stopLane, LooksAtStop}
-use Rattle.held_stops.proofs.Children.{boundIn, Told, left-told}
+use Rattle.held_stops.proofs.Children.{boundIn, Told, stays-told}
 use Rattle.held_stops.proofs.Names.{stop-more, stop-joined, stop-bound}
 use Rattle.walk.specs.State.{noCost}
 use Rattle.walk.proofs.Nodes.{bits-length, bits-no, bits-yes, mask-next}
 use Rattle.stop_walk.specs.declared.Node.{Node}
-use Rattle.stop_walk.specs.State.{leftN, outN, treeAt, StopAt, At}
+use Rattle.stop_walk.specs.State.{staysN, outN, treeAt, StopAt, At}
 use Rattle.stop_walk.proofs.Blocks.{written-whole}
 use Rattle.walk.proofs.Trees.{DueAt, due-there, due-where}
 use Rattle.stop_walk.proofs.Given.{coded-there, term-asks, looks-stop}
@@ -111,14 +111,14 @@ module _ {sheet : HeldSheet} {ds : List (List Bool)} {t u w v : List ℕ} {p : N
 
     -- ---- not removed
 
-    module _ (set h y : ℕ) (lanes : set ≡ bitOr (p .killed) (getD u (needLanesPlace (p .next)) 0))
+    module _ (set h y : ℕ) (lanes : set ≡ bitOr (p .shut) (getD u (needLanesPlace (p .next)) 0))
         (term : h ≡ max g (mostTo (λ (i : ℕ). termOf u v (p .at) (p .rows - 1) (getD u (needClassPlace (p .next) i) 0)) (getD u (needCountPlace (p .next)) 0)))
         (sum : y ≡ sumLanes (lanesIn t) (stopLane t w (p .at) (p .rows) set)) where
-      pub left-shut : ShutSet sheet (snoc rs false) set
-      left-shut q l =
+      pub stays-shut : ShutSet sheet (snoc rs false) set
+      stays-shut q l =
           let needs = needsOf sheet (getD (sheet .lanes) q noLane .class) in
           ap (bitAt q) lanes
-          ∙ shut-more needs rs q (p .killed) (getD u (needLanesPlace (p .next)) 0) (stop .shut q l) (a .holders .need-lanes (p .next) q next l ∙ ap (λ (k : ℕ). getD needs k false) (sym asked))
+          ∙ shut-more needs rs q (p .shut) (getD u (needLanesPlace (p .next)) 0) (stop .shut q l) (a .holders .need-lanes (p .next) q next l ∙ ap (λ (k : ℕ). getD needs k false) (sym asked))
 
       term-is : max g (mostTo (λ (i : ℕ). termOf u v (length bs + 1) (p .rows - 1) (getD u (needClassPlace (length rs) i) 0)) (getD u (needCountPlace (length rs)) 0)) ≡ h
       term-is = sym (term ∙ ap₂ (λ (j b : ℕ). max g (mostTo (λ (i : ℕ). termOf u v j (p .rows - 1) (getD u (needClassPlace b i) 0)) (getD u (needCountPlace b) 0))) (sym size) (sym asked))
@@ -126,44 +126,44 @@ module _ {sheet : HeldSheet} {ds : List (List Bool)} {t u w v : List ℕ} {p : N
       sum-is : sumLanes (lanesIn t) (stopLane t w (length bs + 1) (p .rows) set) ≡ y
       sum-is = sym (sum ∙ ap (λ (j : ℕ). sumLanes (lanesIn t) (stopLane t w j (p .rows) set)) (sym size))
 
-      pub left-below : Told sheet (moreBlocks bs rs false) h y
-      left-below =
+      pub stays-below : Told sheet (moreBlocks bs rs false) h y
+      stays-below =
           subst (Told sheet (moreBlocks bs rs false) h) sum-is
           (subst (λ (k : ℕ). Told sheet (moreBlocks bs rs false) k (sumLanes (lanesIn t) (stopLane t w (length bs + 1) (p .rows) set))) term-is
-          (left-told sheet (a .fit) t u v w (a .tables) (a .holders) bs (p .rows) (p .rows - 1) (stop .before .lasts) (stop .before .rows-are) (stop .price) (stop .there) few rs g open-rs coded-here set left-shut))
+          (stays-told sheet (a .fit) t u v w (a .tables) (a .holders) bs (p .rows) (p .rows - 1) (stop .before .lasts) (stop .before .rows-are) (stop .price) (stop .there) few rs g open-rs coded-here set stays-shut))
 
       -- its part sums are no less than the node's
-      pub left-more : h < inf → x ≤ y
-      left-more l =
+      pub stays-more : h < inf → x ≤ y
+      stays-more l =
           let e = stop-sums sheet (a .fit) t w (a .tables) bs (p .rows) (stop .before .rows-are) few rs g term-here in
-          let f = stop-sums sheet (a .fit) t w (a .tables) bs (p .rows) (stop .before .rows-are) few (snoc rs false) h (left-below .term l) in
+          let f = stop-sums sheet (a .fit) t w (a .tables) bs (p .rows) (stop .before .rows-are) few (snoc rs false) h (stays-below .term l) in
           let lane = numbers.stopLane sheet (a .fit) t w (a .tables) bs (p .rows) (stop .before .rows-are) few in
           omega (
             arith,
             sum-inj (heldSums sheet here) x (sumLanes (lanesIn t) (lane rs)) sums-here e,
-            sum-inj (heldSums sheet (moreBlocks bs rs false)) y (sumLanes (lanesIn t) (lane (snoc rs false))) (left-below .sums l) f,
-            left-rises sheet (a .fit) t w (a .tables) bs (p .rows) (stop .before .rows-are) few rs,
+            sum-inj (heldSums sheet (moreBlocks bs rs false)) y (sumLanes (lanesIn t) (lane (snoc rs false))) (stays-below .sums l) f,
+            stays-rises sheet (a .fit) t w (a .tables) bs (p .rows) (stop .before .rows-are) few rs,
           )
 
-      pub left-cheap : h < inf → h ≤ top * (length (sheet .positions) - p .at)
-      left-cheap l =
+      pub stays-cheap : h < inf → h ≤ top * (length (sheet .positions) - p .at)
+      stays-cheap l =
           let c = coded-there most (max g (mostTo (λ (i : ℕ). termOf u v (length bs + 1) (p .rows - 1) (getD u (needClassPlace (length rs) i) 0)) (getD u (needCountPlace (length rs)) 0))) (heldTerm sheet (moreBlocks bs rs false)) h
-          (left-coded sheet (a .fit) u v (a .holders) (a .tables .few) bs (p .rows - 1) (stop .before .lasts) (stop .price) (stop .there) few rs g open-rs coded-here) (left-below .term l) in
+          (stays-coded sheet (a .fit) u v (a .holders) (a .tables .few) bs (p .rows - 1) (stop .before .lasts) (stop .price) (stop .there) few rs g open-rs coded-here) (stays-below .term l) in
           omega (arith, c .1, size)
 
-    left-paid : p .spent ≡ paidIn sheet (moreBlocks bs rs false)
-    left-paid = omega (arith, paid-here, paid-removal sheet bs paid rs false open-rs)
+    stays-paid : p .spent ≡ paidIn sheet (moreBlocks bs rs false)
+    stays-paid = omega (arith, paid-here, paid-removal sheet bs paid rs false open-rs)
 
-    pub left-due : (set h y : ℕ) → Told sheet (moreBlocks bs rs false) h y → (h < inf → h ≤ top * (length (sheet .positions) - p .at)) → y ≤ laneCount * inf → DueAt (treeAt sheet (leftN p set) (moreBlocks bs rs false)) (sumWhere h y) (p .spent + h)
-    left-due set h y told cheap low =
+    pub stays-due : (set h y : ℕ) → Told sheet (moreBlocks bs rs false) h y → (h < inf → h ≤ top * (length (sheet .positions) - p .at)) → y ≤ laneCount * inf → DueAt (treeAt sheet (staysN p set) (moreBlocks bs rs false)) (sumWhere h y) (p .spent + h)
+    stays-due set h y told cheap low =
         let b = left-bound (heldBound sheet) 0 (held sheet) (held sheet - (p .next + 1)) (length (sheet .positions) - p .at) (joined (moreBlocks bs rs false)) ∙ more-bound false in
-        due-where (treeAt sheet (leftN p set) (moreBlocks bs rs false)) (p .spent + h) h y
+        due-where (treeAt sheet (staysN p set) (moreBlocks bs rs false)) (p .spent + h) h y
         (λ l. b ∙ told .none l)
-        (λ l. b ∙ told .bound l ∙ ap Sum (omega (arith, left-paid)))
+        (λ l. b ∙ told .bound l ∙ ap Sum (omega (arith, stays-paid)))
         (λ l. omega (arith, cheap l, low, a .poor, a .inside, a .tables .few, a .holders .parts))
 
-    pub at-left : (set h y : ℕ) → ShutSet sheet (snoc rs false) set → Told sheet (moreBlocks bs rs false) h y → h < inf → h ≤ top * (length (sheet .positions) - p .at) → y ≤ laneCount * inf → At sheet (moreBlocks bs rs false) t u w v (leftN p set) y h
-    at-left set h y shut told l cheap low =
+    pub at-stays : (set h y : ℕ) → ShutSet sheet (snoc rs false) set → Told sheet (moreBlocks bs rs false) h y → h < inf → h ≤ top * (length (sheet .positions) - p .at) → y ≤ laneCount * inf → At sheet (moreBlocks bs rs false) t u w v (staysN p set) y h
+    at-stays set h y shut told l cheap low =
         record {
           tables = a .tables;
           holders = a .holders;
@@ -171,7 +171,7 @@ module _ {sheet : HeldSheet} {ds : List (List Bool)} {t u w v : List ℕ} {p : N
           aside = a .aside;
           inside = a .inside;
           mask = a .mask;
-          spent = left-paid;
+          spent = stays-paid;
           poor = omega (arith, a .poor);
           sums = told .sums l;
           low = low;
@@ -252,7 +252,7 @@ module _ {sheet : HeldSheet} {ds : List (List Bool)} {t u w v : List ℕ} {p : N
 
     -- the search of both
     pub both-removals : (L set paying : ℕ) (st : Limited) → onward L (treeAt sheet p ds) (joined ds) st
-        ≡ limited L (treeAt sheet (outN p paying) (moreBlocks bs rs true)) (joined (moreBlocks bs rs true)) (limited L (treeAt sheet (leftN p set) (moreBlocks bs rs false)) (joined (moreBlocks bs rs false)) st)
+        ≡ limited L (treeAt sheet (outN p paying) (moreBlocks bs rs true)) (joined (moreBlocks bs rs true)) (limited L (treeAt sheet (staysN p set) (moreBlocks bs rs false)) (joined (moreBlocks bs rs false)) st)
     both-removals L set paying st =
         let h = held sheet in
         let n = length (sheet .positions) - p .at in

@@ -49,21 +49,21 @@ view limit sheet v s = viewOf limit (bestName (held sheet) (length (sheet .posit
 
 -- the nodes below an opening: no stop, and a stop
 abbrev pub noN : Node → ℕ → Node
-noN p r = record { at = p .at + 1; rows = r; next = p .next; owed = false; killed = 0; removed = 0; spent = p .spent; mask = p .mask * 2 }
+noN p r = record { at = p .at + 1; rows = r; next = p .next; owed = false; shut = 0; removed = 0; spent = p .spent; mask = p .mask * 2 }
 
 abbrev pub yesN : Node → ℕ → ℕ → Node
-yesN p r paid = record { at = p .at + 1; rows = r; next = 0; owed = true; killed = 0; removed = 0; spent = paid; mask = p .mask * 2 + 1 }
+yesN p r paid = record { at = p .at + 1; rows = r; next = 0; owed = true; shut = 0; removed = 0; spent = paid; mask = p .mask * 2 + 1 }
 
 -- the nodes below a stop: the next holding part is not removed, and it is
-abbrev pub leftN : Node → ℕ → Node
-leftN p set = record { at = p .at; rows = p .rows; next = p .next + 1; owed = true; killed = set; removed = p .removed * 2; spent = p .spent; mask = p .mask }
+abbrev pub staysN : Node → ℕ → Node
+staysN p set = record { at = p .at; rows = p .rows; next = p .next + 1; owed = true; shut = set; removed = p .removed * 2; spent = p .spent; mask = p .mask }
 
 abbrev pub outN : Node → ℕ → Node
-outN p paid = record { at = p .at; rows = p .rows; next = p .next + 1; owed = true; killed = p .killed; removed = p .removed * 2 + 1; spent = paid; mask = p .mask }
+outN p paid = record { at = p .at; rows = p .rows; next = p .next + 1; owed = true; shut = p .shut; removed = p .removed * 2 + 1; spent = paid; mask = p .mask }
 
 -- the node once its stop is settled
 abbrev pub settledN : Node → ℕ → Node
-settledN p r = record { at = p .at; rows = r; next = p .next; owed = false; killed = p .killed; removed = p .removed; spent = p .spent; mask = p .mask }
+settledN p r = record { at = p .at; rows = r; next = p .next; owed = false; shut = p .shut; removed = p .removed; spent = p .spent; mask = p .mask }
 
 -- how many openings have their rows and removals written
 abbrev pub written : Node → ℕ
@@ -104,7 +104,7 @@ pub record StopAt (sheet : HeldSheet) (ds : List (List Bool)) (t w v : List ℕ)
   pub next : p .next ≤ held sheet
   pub removed : bits (p .next) (p .removed) ≡ rs
   pub small : p .removed < 2 ^ p .next
-  pub shut : ShutSet sheet rs (p .killed)
+  pub shut : ShutSet sheet rs (p .shut)
 
 -- at an opening: all its blocks are written
 pub record OpenAt (sheet : HeldSheet) (ds : List (List Bool)) (t w v : List ℕ) (p : Node) : Type 0 where
@@ -154,7 +154,7 @@ pub record Walked (sheet : HeldSheet) (ds : List (List Bool)) (t w w' v v' : Lis
 -- a node is settled: at an opening nothing moves, a stop has its row and its marks written
 pub record NodeSettled (t u w w' v v' : List ℕ) (p : Node) (r : ℕ) : Type 0 where
   pub no : p .owed ≡ false → (r ≡ p .rows) × (w' ≡ w) × (v' ≡ v)
-  pub yes : p .owed ≡ true → (r ≡ p .rows + 1) × StopPut t w w' (p .at) (p .rows) (p .killed) × StopNoted t u w v v' (p .at) (p .rows) (p .killed) (p .removed)
+  pub yes : p .owed ≡ true → (r ≡ p .rows + 1) × StopPut t w w' (p .at) (p .rows) (p .shut) × StopNoted t u w v v' (p .at) (p .rows) (p .shut) (p .removed)
 
 -- ---- the whole search
 

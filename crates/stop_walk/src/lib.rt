@@ -16,7 +16,7 @@ ghost use Rattle.held_lanes.specs.Places.{offset, classesPlace, heldSize, lastP
 ghost use Rattle.held_lanes.specs.Tables.{HeldTables};
 ghost use Rattle.held_stops.specs.Stops.{stopLane, LooksAtStop, SettleAsks};
 ghost use Rattle.walk.specs.State.{openS};
-ghost use Rattle.stop_walk.specs.State.{noN, yesN, leftN, outN, At, Walked, NodeSettled, Solves};
+ghost use Rattle.stop_walk.specs.State.{noN, yesN, staysN, outN, At, Walked, NodeSettled, Solves};
 use branch::Bound;
 use held_lanes::ASIDE;
 use held_lanes::BEST;
@@ -55,7 +55,7 @@ pub struct Node {
     pub rows: usize,
     pub next: usize,
     pub owed: bool,
-    pub killed: usize,
+    pub shut: usize,
     pub removed: usize,
     pub spent: u64,
     pub mask: u64,
@@ -72,7 +72,7 @@ impl Node {
             rows,
             next: self.next,
             owed: false,
-            killed: 0,
+            shut: 0,
             removed: 0,
             spent: self.spent,
             mask: self.mask * 2,
@@ -89,7 +89,7 @@ impl Node {
             rows,
             next: 0,
             owed: true,
-            killed: 0,
+            shut: 0,
             removed: 0,
             spent,
             mask: self.mask * 2 + 1,
@@ -97,16 +97,16 @@ impl Node {
     }
 
     // The node below: the next holding part is not removed, which leaves the stop shut to the lanes of the set.
-    fn left(self, set: usize) -> Node
+    fn stays(self, set: usize) -> Node
         requires { ⌜ (self .next < 16) × (self .removed * 2 < 2 ^ 64) ⌝ }
-        ensures { λ r. ⌜ r ≡ leftN self set ⌝ }
+        ensures { λ r. ⌜ r ≡ staysN self set ⌝ }
     {
         Node {
             at: self.at,
             rows: self.rows,
             next: self.next + 1,
             owed: true,
-            killed: set,
+            shut: set,
             removed: self.removed * 2,
             spent: self.spent,
             mask: self.mask,
@@ -123,7 +123,7 @@ impl Node {
             rows: self.rows,
             next: self.next + 1,
             owed: true,
-            killed: self.killed,
+            shut: self.shut,
             removed: self.removed * 2 + 1,
             spent,
             mask: self.mask,
@@ -153,7 +153,7 @@ fn settle(
     ensures { λ r. ⌜ NodeSettled (now (t .entry)) (now (u .entry)) (now (w .entry)) (now (w .exit)) (now (v .entry)) (now (v .exit)) p r ⌝ }
 {
     if p.owed {
-        settle_stop(t, u, v, w, p.at, p.rows, p.killed, p.removed);
+        settle_stop(t, u, v, w, p.at, p.rows, p.shut, p.removed);
         return p.rows + 1;
     }
     p.rows
@@ -197,7 +197,7 @@ fn no_sums(
 }
 
 // The part sums of a node below a stop, if it is walked on: the stop at opening j - 1 is shut to the lanes of the set.
-fn left_sums(
+fn stay_sums(
     t: &[u32; TABLES],
     u: &[u32; HELD],
     w: &mut [u32; STACK],
@@ -237,10 +237,10 @@ pub fn walk(
         → Walked sheet ds (now (t .entry)) (now (w .entry)) (now (w .exit)) (now (v .entry)) (now (v .exit)) limit p s r) ⌝ }
 {
     if p.next < number(u, HOLDS) {
-        let set = p.killed | number(u, NEED_LANES + p.next);
+        let set = p.shut | number(u, NEED_LANES + p.next);
         let h = removal_term(u, v, p.at, p.rows - 1, p.next, g);
-        let a = match left_sums(t, u, w, limit, p.spent, p.rows, p.at, set, h, x, s) {
-            Bound::Sum(y) => walk(t, u, w, v, limit, p.left(set), y, h, s.counted()),
+        let a = match stay_sums(t, u, w, limit, p.spent, p.rows, p.at, set, h, x, s) {
+            Bound::Sum(y) => walk(t, u, w, v, limit, p.stays(set), y, h, s.counted()),
             Bound::Missing => s.reached(limit),
         };
         let spent = p.spent + number(u, REMOVALS + p.next) as u64;
@@ -311,7 +311,7 @@ pub fn solve(
         rows: 1,
         next: number(u, HOLDS),
         owed: false,
-        killed: 0,
+        shut: 0,
         removed: 0,
         spent: 0,
         mask: 0,

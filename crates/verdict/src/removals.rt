@@ -1,9 +1,9 @@
 // The removals of a plan: "each removed part costs its removal once at that stop".
 use crate::summing::sum_at;
 use coming_out::come_out;
-use coming_out::joined;
 use coming_out::records::holders_of;
 use coming_out::records::removals_of;
+use coming_out::union;
 use jobs::Changes;
 use jobs::Job;
 use jobs::Plan;
@@ -48,7 +48,7 @@ pub fn removals_at(outs: &[bool; 256], m: usize, removals: [u32; 16], plan: Plan
     while 0 < k {
         k -= 1;
         let changed = changed_at(changes, k);
-        let out = joined(outs, m, [false; 16], changed);
+        let out = union(outs, m, [false; 16], changed);
         sum += sum_at(m, &removals, &out);
     }
     sum

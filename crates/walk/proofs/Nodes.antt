@@ -184,9 +184,6 @@ module _ (sheet : Sheet) (t w w' : List ℕ) (p : Node) (stop : Bool) (e : Bound
   there : partSums sheet (decided p) ≡ Sum x
   there = sym (a .sums) ∙ f
 
-  abbrev lanes : ℕ → ℕ → ℕ
-  lanes j q = lane t w' suffixBase j q r
-
   -- what a look at the no asks: its part sums are at least x
   pub sums-asks : Memo t w' r → Looks t w' r (p .at + 1) × (x ≤ sumLanes (lanesIn t) (λ (q : ℕ). lane t w' suffixBase (p .at + 1) q r))
   sums-asks me =

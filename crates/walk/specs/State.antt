@@ -34,9 +34,6 @@ noCost = 18446744073709551615
 abbrev pub incumbentOf : List Bool → Search → Incumbent
 incumbentOf l s = cond (ltb (s .cost) noCost) (plan (s .cost) l) none
 
-abbrev pub incumbent : ℕ → Search → Incumbent
-incumbent n s = incumbentOf (bits n (s .mask)) s
-
 -- a node was reached beyond the limit
 abbrev pub overS : ℕ → Search → Bool
 overS limit s = ltb limit (s .count)

@@ -11,8 +11,8 @@ use borrow.Author.Needs.{needs}
 use Rattle.coming_out.proofs.holding_of.Statement.{statement}
 use Rattle.coming_out.proofs.holding_of.Tie as tie
 
-joined-requires : tie.Need-joined-requires
-joined-requires c κs = search needs
+union-requires : tie.Need-union-requires
+union-requires c κs = search needs
 
 places-of-requires : tie.Need-places-of-requires
 places-of-requires c κs = search needs
@@ -25,9 +25,9 @@ returns c = (
       let e = c .places-of .ensures in
       let r = c .places-of .result in
       is-holding job r (e .2)
-      (subst (Row false (holding job)) (sym (e .0)) (subst (λ (xs : List Bool). Row false xs (c .before .joined .result)) (union-holding job (s .args .m) (s .args .holders .now) held (s .pre)) (c .before .joined .ensures)))
+      (subst (Row false (holding job)) (sym (e .0)) (subst (λ (xs : List Bool). Row false xs (c .before .union .result)) (union-holding job (s .args .m) (s .args .holders .now) held (s .pre)) (c .before .union .ensures)))
       (e .1 ∙ ap (placesFrom 0) (sym (e .0))),
 )
 
 pub holding-of-spec : {M : Type 1} → statement M
-holding-of-spec = tie.close (tie.spec joined-requires places-of-requires returns)
+holding-of-spec = tie.close (tie.spec union-requires places-of-requires returns)

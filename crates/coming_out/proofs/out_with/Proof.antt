@@ -20,8 +20,8 @@ array-write-row c = omega (arith, c .pre)
 loop-holds : tie.Need-loop-holds Inv-loop μ-loop
 loop-holds c = (omega arith, λ job held. turned-none job (c .args .m) (c .args .holders .now) held (c .args .q) (c .pre .1) (c .pre .0))
 
-joined-requires : tie.Need-joined-requires Inv-loop μ-loop
-joined-requires c κs = c .before .before .pre .0
+union-requires : tie.Need-union-requires Inv-loop μ-loop
+union-requires c κs = c .before .before .pre .0
 
 add-k : tie.Need-add-k Inv-loop μ-loop
 add-k c = search needs
@@ -34,7 +34,7 @@ loop-again c =
     let i = c .before in
     let l = i .before .loop in
     let a = i .before .before .args in
-    (omega arith, λ job held. turned-more job (a .m) (a .holders .now) held (a .q) (l .k) (l .row) (c .joined .result) (i .loop-test .taken) (c .joined .ensures) (l .inv .1 job held))
+    (omega arith, λ job held. turned-more job (a .m) (a .holders .now) held (a .q) (l .k) (l .row) (c .union .result) (i .loop-test .taken) (c .union .ensures) (l .inv .1 job held))
 
 returns : tie.Need-returns Inv-loop μ-loop
 returns c =
@@ -50,7 +50,7 @@ out-with-spec =
     μ-loop
     array-write-row
     loop-holds
-    joined-requires
+    union-requires
     add-k
     loop-less
     loop-again

@@ -20,11 +20,11 @@ use Rattle.held_job.proofs.search_held_job.Tie as tie
 -- ---- what is known once the arrays are laid out
 
 module _ (c : tie.After-prices-of) where
-  abbrev terms : tie.After-terms-of
-  terms = c .before .before .before .before
+  abbrev holders : tie.After-holder-numbers-of
+  holders = c .before .before .before .before
 
   abbrev numbers : tie.After-numbers-of
-  numbers = terms .before .before .before .before .before .before
+  numbers = holders .before .before .before .before .before .before
 
   abbrev s : tie.Start
   s = numbers .before
@@ -39,28 +39,28 @@ module _ (c : tie.After-prices-of) where
   long = counted (s .args .job) (s .pre .sized) (s .good .0) (numbers .numbers-of .result) (numbers .numbers-of .ensures)
 
   arrays : HeldArrays (toZ w32 (ofZ w32 (numbers .numbers-of .result .placed .end))) (take n (numbers .numbers-of .result .placed .at)) (take n (numbers .numbers-of .result .fees)) (take m (numbers .numbers-of .result .lives))
-      (take m (numbers .numbers-of .result .lefts)) (c .prices-of .result) (terms .terms-of .result .needs) (take (terms .terms-of .result .holding) (terms .terms-of .result .removals))
+      (take m (numbers .numbers-of .result .lefts)) (c .prices-of .result) (holders .holder-numbers-of .result .needs) (take (holders .holder-numbers-of .result .holding) (holders .holder-numbers-of .result .removals))
   arrays =
       rw (position-bits (numbers .numbers-of .result .placed .end) (numbers .numbers-of .ensures .placed .end-range))
-      (held.arrays (s .args .job) (s .pre .sized) (s .good .0) (s .pre .valid) (numbers .numbers-of .result) (numbers .numbers-of .ensures) (terms .terms-of .result) (terms .terms-of .ensures) (c .prices-of .result) (c .prices-of .ensures))
+      (held.arrays (s .args .job) (s .pre .sized) (s .good .0) (s .pre .valid) (numbers .numbers-of .result) (numbers .numbers-of .ensures) (holders .holder-numbers-of .result) (holders .holder-numbers-of .ensures) (c .prices-of .result) (c .prices-of .ensures))
 
   holds : Holds (jobOf (s .args .job)) (toZ w32 (ofZ w32 (numbers .numbers-of .result .placed .end))) (take n (numbers .numbers-of .result .placed .at)) (take n (numbers .numbers-of .result .fees)) (take m (numbers .numbers-of .result .lives))
-      (take m (numbers .numbers-of .result .lefts)) (c .prices-of .result) (terms .terms-of .result .needs) (take (terms .terms-of .result .holding) (terms .terms-of .result .removals))
+      (take m (numbers .numbers-of .result .lefts)) (c .prices-of .result) (holders .holder-numbers-of .result .needs) (take (holders .holder-numbers-of .result .holding) (holders .holder-numbers-of .result .removals))
   holds =
       rw (position-bits (numbers .numbers-of .result .placed .end) (numbers .numbers-of .ensures .placed .end-range))
-      (held.holds (s .args .job) (s .pre .sized) (s .good .0) (s .pre .valid) (numbers .numbers-of .result) (numbers .numbers-of .ensures) (terms .terms-of .result) (terms .terms-of .ensures) (c .prices-of .result) (c .prices-of .ensures))
+      (held.holds (s .args .job) (s .pre .sized) (s .good .0) (s .pre .valid) (numbers .numbers-of .result) (numbers .numbers-of .ensures) (holders .holder-numbers-of .result) (holders .holder-numbers-of .ensures) (c .prices-of .result) (c .prices-of .ensures))
 
 numbers-of-requires : tie.Need-numbers-of-requires
 numbers-of-requires c κs = search needs
 
-terms-of-requires : tie.Need-terms-of-requires
-terms-of-requires c κs = search needs
+holder-numbers-of-requires : tie.Need-holder-numbers-of-requires
+holder-numbers-of-requires c κs = search needs
 
 prices-of-requires : tie.Need-prices-of-requires
 prices-of-requires c κs =
     let t = c .before .before .before in
     let b = t .before .before .before .before .before .before .before in
-    (b .pre, held.charges-range (jobOf (b .args .job)) (t .terms-of .result) (t .terms-of .ensures) (b .pre .valid))
+    (b .pre, held.charges-range (jobOf (b .args .job)) (t .holder-numbers-of .result) (t .holder-numbers-of .ensures) (b .pre .valid))
 
 array-share-prefix-positions : tie.Need-array-share-prefix-positions
 array-share-prefix-positions c = long-enough (n c) (numbers c .numbers-of .result .placed .at) (long c .places)
@@ -98,7 +98,7 @@ array-share-prefix-removals c = search needs
 slice-aggregate-search-held-7 : tie.Need-slice-aggregate-search-held-7
 slice-aggregate-search-held-7 c =
     let b = c .before .before .before .before .before .before .before in
-    sym (held.removals-long (jobOf (s b .args .job)) (terms b .terms-of .result) (terms b .terms-of .ensures))
+    sym (held.removals-long (jobOf (s b .args .job)) (holders b .holder-numbers-of .result) (holders b .holder-numbers-of .ensures))
 
 search-held-requires : tie.Need-search-held-requires
 search-held-requires c κs = let b = c .before .before .before .before .before .before .before .before in (arrays b, omega (arith, s b .fits .limit))
@@ -115,7 +115,7 @@ search-held-job-spec =
     tie.close
     (tie.spec
     numbers-of-requires
-    terms-of-requires
+    holder-numbers-of-requires
     prices-of-requires
     array-share-prefix-positions
     slice-aggregate-search-held

@@ -7,27 +7,27 @@ use Rattle.held_places.proofs.opens.Tie as tie
 shared-slice-read-if2 : tie.Need-shared-slice-read-if2
 shared-slice-read-if2 c = search needs
 
-add-covers : tie.Need-add-covers
-add-covers c = search needs
+add-all-out : tie.Need-add-all-out
+add-all-out c = search needs
 
-sub-covers : tie.Need-sub-covers
-sub-covers c = search needs
+sub-all-out : tie.Need-sub-all-out
+sub-all-out c = search needs
 
-part-covers-start : tie.Need-part-covers-start
-part-covers-start c = search needs
+part-all-out-start : tie.Need-part-all-out-start
+part-all-out-start c = search needs
 
-part-covers-end : tie.Need-part-covers-end
-part-covers-end c = search needs
+part-all-out-end : tie.Need-part-all-out-end
+part-all-out-end c = search needs
 
-covers-requires : tie.Need-covers-requires
-covers-requires c κs = search needs
+all-out-requires : tie.Need-all-out-requires
+all-out-requires c κs = search needs
 
 returns : tie.Need-returns
 returns c =
     let t = c .before .before in
     let b = t .before .before in
     let a = b .before .before .before .args in
-    allows-yes (a .name .now) (a .i) (a .needs .now) (c .covers .result) (b .if1 .taken) (t .if2 .taken) (c .covers .ensures)
+    allows-yes (a .name .now) (a .i) (a .needs .now) (c .all-out .result) (b .if1 .taken) (t .if2 .taken) (c .all-out .ensures)
 
 returns-2 : tie.Need-returns-2
 returns-2 c =
@@ -39,4 +39,4 @@ returns-3 : tie.Need-returns-3
 returns-3 c = let a = c .before .before .before .args in allows-none (a .name .now) (a .i) (a .needs .now) (c .if1 .left)
 
 pub opens-spec : {M : Type 1} → statement M
-opens-spec = tie.close (tie.spec shared-slice-read-if2 add-covers sub-covers part-covers-start part-covers-end covers-requires returns returns-2 returns-3)
+opens-spec = tie.close (tie.spec shared-slice-read-if2 add-all-out sub-all-out part-all-out-start part-all-out-end all-out-requires returns returns-2 returns-3)

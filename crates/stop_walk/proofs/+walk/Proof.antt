@@ -29,13 +29,13 @@ use Rattle.walk.specs.declared.Search.{Search}
 use Rattle.walk.specs.State.{noCost, openS}
 use Rattle.walk.proofs.Nodes.{mask-fits}
 use Rattle.stop_walk.specs.declared.Node.{Node}
-use Rattle.stop_walk.specs.State.{bestName, noN, yesN, leftN, outN, settledN, written, treeAt, At, Frame, Walked}
+use Rattle.stop_walk.specs.State.{bestName, noN, yesN, staysN, outN, settledN, written, treeAt, At, Frame, Walked}
 use Rattle.walk.proofs.Trees.{DueAt, where-there, Opened, opened}
 use Rattle.stop_walk.proofs.Frames.{aside-none, ready-frame, at-kept}
 use Rattle.stop_walk.proofs.Given.{sums-low, stop-most}
 use Rattle.stop_walk.proofs.Settling.{settle-asks, Rests, rests}
 use Rattle.stop_walk.proofs.Openings.{noBlocks, yesBlocks, full-fits, full-walked, opening-asks, no-below, no-more, no-cheap, no-due, at-no, yes-fits, yes-due, at-yes, both-openings}
-use Rattle.stop_walk.proofs.Stops.{moreBlocks, stop-asks, left-shut, left-below, left-more, left-cheap, left-due, at-left, out-fits, out-due, at-out, both-removals}
+use Rattle.stop_walk.proofs.Stops.{moreBlocks, stop-asks, stays-shut, stays-below, stays-more, stays-cheap, stays-due, at-stays, out-fits, out-due, at-out, both-removals}
 use Rattle.stop_walk.proofs.Branches.{stop-here, spent-fits, Passed, passed-as, walked-as, at-looked, first-closed, first-open, second-closed, second-open, rests-walked}
 use Rattle.stop_walk.proofs.walk.Reads as walk
 use Rattle.stop_walk.proofs.walk.Kinds as walk-kinds
@@ -44,12 +44,12 @@ use Rattle.held_lanes.proofs.number.Reads as number-reads
 use Rattle.held_lanes.proofs.opening_term.Reads as opening-term-reads
 use Rattle.held_lanes.proofs.removal_term.Reads as removal-term-reads
 use Rattle.lane_rows.proofs.cell.Reads as cell-reads
-use Rattle.stop_walk.proofs.Node.left.Reads as left-reads
+use Rattle.stop_walk.proofs.Node.stays.Reads as stays-reads
 use Rattle.stop_walk.proofs.Node.no.Reads as no-reads
 use Rattle.stop_walk.proofs.Node.out.Reads as out-reads
 use Rattle.stop_walk.proofs.Node.yes.Reads as yes-reads
 use Rattle.stop_walk.proofs.keep.Reads as keep-reads
-use Rattle.stop_walk.proofs.left_sums.Reads as left-sums-reads
+use Rattle.stop_walk.proofs.stay_sums.Reads as stay-sums-reads
 use Rattle.stop_walk.proofs.no_sums.Reads as no-sums-reads
 use Rattle.stop_walk.proofs.settle.Reads as settle-reads
 use Rattle.walk.proofs.Search.counted.Reads as counted-reads
@@ -74,10 +74,10 @@ claims t = (
   number-reads.Learnt,
   removal-term-reads.Asked,
   removal-term-reads.Learnt,
-  left-sums-reads.Asked,
-  left-sums-reads.Learnt,
-  left-reads.Asked,
-  left-reads.Learnt,
+  stay-sums-reads.Asked,
+  stay-sums-reads.Learnt,
+  stays-reads.Asked,
+  stays-reads.Learnt,
   counted-reads.Asked,
   counted-reads.Learnt,
   walk-below t,
@@ -122,7 +122,7 @@ abbrev Termed : ℕ → Type 0
 Termed t = walk-lts.After-removal-term (claims t) (walk-at t) walk.Post
 
 abbrev Tested : ℕ → Type 0
-Tested t = walk-lts.After-left-sums (claims t) (walk-at t) walk.Post
+Tested t = walk-lts.After-stay-sums (claims t) (walk-at t) walk.Post
 
 abbrev First : ℕ → Type 0
 First t = walk-lts.At-match-came (claims t) (walk-at t) walk.Post
@@ -210,25 +210,25 @@ walk-removal-term-requires t c κs =
 
 -- the lanes that it is shut to then, its term and its part sums
 abbrev shut : (t : ℕ) → Termed t → ℕ
-shut t c = bitOr (begin t c .args .p .killed) (numbered t c .number2 .result)
+shut t c = bitOr (begin t c .args .p .shut) (numbered t c .number2 .result)
 
-abbrev left-sum : (t : ℕ) → Termed t → ℕ
-left-sum t c = let a = begin t c .args in sumLanes (lanesIn (a .t .now)) (stopLane (a .t .now) (a .w .now) (a .p .at) (a .p .rows) (shut t c))
+abbrev stays-sum : (t : ℕ) → Termed t → ℕ
+stays-sum t c = let a = begin t c .args in sumLanes (lanesIn (a .t .now)) (stopLane (a .t .now) (a .w .now) (a .p .at) (a .p .rows) (shut t c))
 
-shut-is : (t : ℕ) (c : Termed t) → let a = begin t c .args in shut t c ≡ bitOr (a .p .killed) (getD (a .u .now) (needLanesPlace (a .p .next)) 0)
-shut-is t c = ap (bitOr (begin t c .args .p .killed)) (numbered t c .number2 .ensures .0)
+shut-is : (t : ℕ) (c : Termed t) → let a = begin t c .args in shut t c ≡ bitOr (a .p .shut) (getD (a .u .now) (needLanesPlace (a .p .next)) 0)
+shut-is t c = ap (bitOr (begin t c .args .p .shut)) (numbered t c .number2 .ensures .0)
 
-left-low : (t : ℕ) (c : Termed t) → left-sum t c ≤ laneCount * inf
-left-low t c = let a = begin t c .args in sums-low (stopLane (a .t .now) (a .w .now) (a .p .at) (a .p .rows) (shut t c)) (lanesIn (a .t .now)) (left-sum t c) (given t (begin t c) .tables .narrow) (stop-most (a .t .now) (a .w .now) (a .p .at) (a .p .rows) (shut t c)) refl
+stays-low : (t : ℕ) (c : Termed t) → stays-sum t c ≤ laneCount * inf
+stays-low t c = let a = begin t c .args in sums-low (stopLane (a .t .now) (a .w .now) (a .p .at) (a .p .rows) (shut t c)) (lanesIn (a .t .now)) (stays-sum t c) (given t (begin t c) .tables .narrow) (stop-most (a .t .now) (a .w .now) (a .p .at) (a .p .rows) (shut t c)) refl
 
-walk-left-sums-requires : (t : ℕ) → walk-lts.Need-left-sums-requires (claims t) (walk-at t) walk.Post
-walk-left-sums-requires t c κs =
+walk-stay-sums-requires : (t : ℕ) → walk-lts.Need-stay-sums-requires (claims t) (walk-at t) walk.Post
+walk-stay-sums-requires t c κs =
     let d = c .before in
     let b = begin t d in
     let h = given t b in
     let next = next-in t (stopped t d) (sheet-of t b) (blocks-of t b) h in
     let o = stop-here h next in
-    (stop-asks h o .1, left-more h o next (shut t d) (d .removal-term .result) (left-sum t d) (shut-is t d) (d .removal-term .ensures) refl, spent-fits h, h .low)
+    (stop-asks h o .1, stays-more h o next (shut t d) (d .removal-term .result) (stays-sum t d) (shut-is t d) (d .removal-term .ensures) refl, spent-fits h, h .low)
 
 module _ (t : ℕ) (c : Tested t) (sheet : HeldSheet) (ds : List (List Bool)) (h : Given t (start t c) sheet ds) where
   next : start t c .args .p .next < held sheet
@@ -241,30 +241,30 @@ module _ (t : ℕ) (c : Tested t) (sheet : HeldSheet) (ds : List (List Bool)) (h
   abbrev more : Bool → List (List Bool)
   more b = let s = h .stop owed in moreBlocks (s .bs) (s .rs) b
 
-  left-told : Told sheet (more false) (termed t c .removal-term .result) (left-sum t (termed t c))
-  left-told = let d = termed t c in left-below h owed next (shut t d) (d .removal-term .result) (left-sum t d) (shut-is t d) (d .removal-term .ensures) refl
+  stays-told : Told sheet (more false) (termed t c .removal-term .result) (stays-sum t (termed t c))
+  stays-told = let d = termed t c in stays-below h owed next (shut t d) (d .removal-term .result) (stays-sum t d) (shut-is t d) (d .removal-term .ensures) refl
 
-  left-fair : termed t c .removal-term .result < inf → termed t c .removal-term .result ≤ top * (length (sheet .positions) - start t c .args .p .at)
-  left-fair = let d = termed t c in left-cheap h owed next (shut t d) (d .removal-term .result) (left-sum t d) (shut-is t d) (d .removal-term .ensures) refl
+  stays-fair : termed t c .removal-term .result < inf → termed t c .removal-term .result ≤ top * (length (sheet .positions) - start t c .args .p .at)
+  stays-fair = let d = termed t c in stays-cheap h owed next (shut t d) (d .removal-term .result) (stays-sum t d) (shut-is t d) (d .removal-term .ensures) refl
 
-  left-owes : let a = start t c .args in let d = termed t c in DueAt (treeAt sheet (leftN (a .p) (shut t d)) (more false)) (sumWhere (d .removal-term .result) (left-sum t d)) (a .p .spent + d .removal-term .result)
-  left-owes = let d = termed t c in left-due h owed next (shut t d) (d .removal-term .result) (left-sum t d) left-told left-fair (left-low t d)
+  stays-owes : let a = start t c .args in let d = termed t c in DueAt (treeAt sheet (staysN (a .p) (shut t d)) (more false)) (sumWhere (d .removal-term .result) (stays-sum t d)) (a .p .spent + d .removal-term .result)
+  stays-owes = let d = termed t c in stays-due h owed next (shut t d) (d .removal-term .result) (stays-sum t d) stays-told stays-fair (stays-low t d)
 
   -- it is given where its part sums are there
-  left-given : (y : ℕ) → let a = start t c .args in let d = termed t c in sumWhere (d .removal-term .result) (left-sum t d) ≡ Sum y
-      → At sheet (more false) (a .t .now) (a .u .now) (c .left-sums .last .1 .1 .0) (a .v .now) (leftN (a .p) (shut t d)) y (d .removal-term .result)
+  stays-given : (y : ℕ) → let a = start t c .args in let d = termed t c in sumWhere (d .removal-term .result) (stays-sum t d) ≡ Sum y
+      → At sheet (more false) (a .t .now) (a .u .now) (c .stay-sums .last .1 .1 .0) (a .v .now) (staysN (a .p) (shut t d)) y (d .removal-term .result)
   unfolding at-kept at-looked
-  left-given y e =
+  stays-given y e =
       let a = start t c .args in
       let d = termed t c in
-      let w = where-there (d .removal-term .result) (left-sum t d) y e in
-      subst (λ (z : ℕ). At sheet (more false) (a .t .now) (a .u .now) (c .left-sums .last .1 .1 .0) (a .v .now) (leftN (a .p) (shut t d)) z (d .removal-term .result)) (w .1)
-      (at-left (at-looked h (c .left-sums .last .1 .1 .0) (c .left-sums .ensures .1)) owed next (shut t d) (d .removal-term .result) (left-sum t d)
-      (left-shut h owed next (shut t d) (d .removal-term .result) (left-sum t d) (shut-is t d) (d .removal-term .ensures) refl) left-told (w .0) (left-fair (w .0)) (left-low t d))
+      let w = where-there (d .removal-term .result) (stays-sum t d) y e in
+      subst (λ (z : ℕ). At sheet (more false) (a .t .now) (a .u .now) (c .stay-sums .last .1 .1 .0) (a .v .now) (staysN (a .p) (shut t d)) z (d .removal-term .result)) (w .1)
+      (at-stays (at-looked h (c .stay-sums .last .1 .1 .0) (c .stay-sums .ensures .1)) owed next (shut t d) (d .removal-term .result) (stays-sum t d)
+      (stays-shut h owed next (shut t d) (d .removal-term .result) (stays-sum t d) (shut-is t d) (d .removal-term .ensures) refl) stays-told (w .0) (stays-fair (w .0)) (stays-low t d))
 
   -- what the first branch does
   abbrev Passing : List ℕ → List ℕ → Search → Type 0
-  Passing w v r = let a = start t c .args in Passed sheet (a .t .now) (a .w .now) w (a .v .now) v (a .p) (a .limit) (treeAt sheet (leftN (a .p) (shut t (termed t c))) (more false)) (joined (more false)) (a .s) r
+  Passing w v r = let a = start t c .args in Passed sheet (a .t .now) (a .w .now) w (a .v .now) v (a .p) (a .limit) (treeAt sheet (staysN (a .p) (shut t (termed t c))) (more false)) (joined (more false)) (a .s) r
 
   wrote : written (start t c .args .p) ≤ start t c .args .p .at - 1
   wrote = let p = start t c .args .p in omega (arith, ap (λ (b : Bool). cond b (p .at - 1) (p .at)) owed)
@@ -272,8 +272,8 @@ module _ (t : ℕ) (c : Tested t) (sheet : HeldSheet) (ds : List (List Bool)) (h
 walk-enum-known-y : (t : ℕ) → walk-lts.Need-enum-known-y (claims t) (walk-at t) walk.Post
 walk-enum-known-y t c = search needs
 
-walk-left-requires : (t : ℕ) → walk-lts.Need-left-requires (claims t) (walk-at t) walk.Post
-walk-left-requires t c κs =
+walk-stays-requires : (t : ℕ) → walk-lts.Need-stays-requires (claims t) (walk-at t) walk.Post
+walk-stays-requires t c κs =
     let e = c .before .before .before .before .before in
     let d = stopped t (termed t e) in
     let b = start t e in
@@ -283,75 +283,75 @@ walk-left-requires t c κs =
     (near t d, omega (arith, mask-fits (p .next) (p .removed) (s .small) (omega (arith, near t d))))
 
 -- it is walked on, with the part sums y
-left-opens : (t : ℕ) (c : walk-lts.After-y (claims t) (walk-at t) walk.Post) → let e = c .before .before in let a = start t e .args in let d = termed t e in openS (a .limit) (a .p .spent + d .removal-term .result) (sumWhere (d .removal-term .result) (left-sum t d)) (a .s) ≡ Sum (c .y .given .0 .0)
-left-opens t c = sym (c .before .before .left-sums .ensures .0) ∙ c .y .given .1
+stays-opens : (t : ℕ) (c : walk-lts.After-y (claims t) (walk-at t) walk.Post) → let e = c .before .before in let a = start t e .args in let d = termed t e in openS (a .limit) (a .p .spent + d .removal-term .result) (sumWhere (d .removal-term .result) (stays-sum t d)) (a .s) ≡ Sum (c .y .given .0 .0)
+stays-opens t c = sym (c .before .before .stay-sums .ensures .0) ∙ c .y .given .1
 
-left-opened : (t : ℕ) (c : walk-lts.After-y (claims t) (walk-at t) walk.Post) (sheet : HeldSheet) (ds : List (List Bool))
+stays-opened : (t : ℕ) (c : walk-lts.After-y (claims t) (walk-at t) walk.Post) (sheet : HeldSheet) (ds : List (List Bool))
     → let e = c .before .before in
     let a = start t e .args in
     (h : Given t (start t e) sheet ds)
-    → Opened (left-owes t e sheet ds h) (joined (more t e sheet ds h false)) (a .limit) (bestName (held sheet) (length (sheet .positions)) (a .v .now)) (a .s) (c .y .given .0 .0)
-left-opened t c sheet ds h =
+    → Opened (stays-owes t e sheet ds h) (joined (more t e sheet ds h false)) (a .limit) (bestName (held sheet) (length (sheet .positions)) (a .v .now)) (a .s) (c .y .given .0 .0)
+stays-opened t c sheet ds h =
     let e = c .before .before in
     let a = start t e .args in
-    opened (left-owes t e sheet ds h) (joined (more t e sheet ds h false)) (a .limit) (bestName (held sheet) (length (sheet .positions)) (a .v .now)) (a .s) (c .y .given .0 .0) (left-opens t c)
+    opened (stays-owes t e sheet ds h) (joined (more t e sheet ds h false)) (a .limit) (bestName (held sheet) (length (sheet .positions)) (a .v .now)) (a .s) (c .y .given .0 .0) (stays-opens t c)
 
 walk-counted-requires : (t : ℕ) → walk-lts.Need-counted-requires (claims t) (walk-at t) walk.Post
 walk-counted-requires t c κs =
     let y = c .before .before .before .before in
     let b = start t (y .before .before) in
-    omega (arith, left-opened t y (sheet-of t b) (blocks-of t b) (given t b) .within, limits t b)
+    omega (arith, stays-opened t y (sheet-of t b) (blocks-of t b) (given t b) .within, limits t b)
 
 -- so it is what the call is given
-left-child : (t : ℕ) (c : walk-lts.After-left (claims t) (walk-at t) walk.Post) (sheet : HeldSheet) (ds : List (List Bool))
+stays-child : (t : ℕ) (c : walk-lts.After-stays (claims t) (walk-at t) walk.Post) (sheet : HeldSheet) (ds : List (List Bool))
     → let y = c .before .before .before .before in
     let e = y .before .before in
     let a = start t e .args in
     (h : Given t (start t e) sheet ds)
-    → At sheet (more t e sheet ds h false) (a .t .now) (a .u .now) (e .left-sums .last .1 .1 .0) (a .v .now) (c .left .result) (y .y .given .0 .0) (termed t e .removal-term .result)
-left-child t c sheet ds h =
+    → At sheet (more t e sheet ds h false) (a .t .now) (a .u .now) (e .stay-sums .last .1 .1 .0) (a .v .now) (c .stays .result) (y .y .given .0 .0) (termed t e .removal-term .result)
+stays-child t c sheet ds h =
     let y = c .before .before .before .before in
     let e = y .before .before in
     let a = start t e .args in
-    subst (λ (q : Node). At sheet (more t e sheet ds h false) (a .t .now) (a .u .now) (e .left-sums .last .1 .1 .0) (a .v .now) q (y .y .given .0 .0) (termed t e .removal-term .result)) (sym (c .left .ensures))
-    (left-given t e sheet ds h (y .y .given .0 .0) (left-opened t y sheet ds h .sums))
+    subst (λ (q : Node). At sheet (more t e sheet ds h false) (a .t .now) (a .u .now) (e .stay-sums .last .1 .1 .0) (a .v .now) q (y .y .given .0 .0) (termed t e .removal-term .result)) (sym (c .stays .ensures))
+    (stays-given t e sheet ds h (y .y .given .0 .0) (stays-opened t y sheet ds h .sums))
 
 walk-walk-requires : (t : ℕ) → walk-lts.Need-walk-requires (claims t) (walk-at t) walk.Post
 walk-walk-requires t c κs =
     let l = c .before in
     let e = l .before .before .before .before .before .before in
     let b = start t e in
-    let z : l .left .result .at ≡ b .args .p .at = ap (λ (q : Node). q .at) (l .left .ensures) in
-    let x : l .left .result .next ≡ b .args .p .next + 1 = ap (λ (q : Node). q .next) (l .left .ensures) in
+    let z : l .stays .result .at ≡ b .args .p .at = ap (λ (q : Node). q .at) (l .stays .ensures) in
+    let x : l .stays .result .next ≡ b .args .p .next + 1 = ap (λ (q : Node). q .next) (l .stays .ensures) in
     let h = given t b in
-    (omega (arith, b .pre .0, z, x, near t (stopped t (termed t e))), ((sheet-of t b, (more t e (sheet-of t b) (blocks-of t b) h false, left-child t l (sheet-of t b) (blocks-of t b) h)), limits t b))
+    (omega (arith, b .pre .0, z, x, near t (stopped t (termed t e))), ((sheet-of t b, (more t e (sheet-of t b) (blocks-of t b) h false, stays-child t l (sheet-of t b) (blocks-of t b) h)), limits t b))
 
-left-walked : (t : ℕ) (c : walk-lts.After-walk (claims t) (walk-at t) walk.Post) (sheet : HeldSheet) (ds : List (List Bool))
+stays-walked : (t : ℕ) (c : walk-lts.After-walk (claims t) (walk-at t) walk.Post) (sheet : HeldSheet) (ds : List (List Bool))
     → let e = c .before .before .before .before .before .before .before .before in
     (h : Given t (start t e) sheet ds) → Passing t e sheet ds h (c .walk .last .1 .1 .0) (c .walk .last .1 .1 .1 .0) (c .walk .result)
-left-walked t c sheet ds h =
+stays-walked t c sheet ds h =
     let l = c .before .before in
     let y = l .before .before .before .before in
     let e = y .before .before in
     let a = start t e .args in
-    first-open h (e .left-sums .last .1 .1 .0) (e .left-sums .ensures .1) (left-owes t e sheet ds h) (a .limit) (a .s) (c .walk .result) (y .y .given .0 .0) (left-opens t y)
-    (walked-as (l .left .ensures) (c .before .counted .ensures) (c .walk .ensures sheet (more t e sheet ds h false) (left-child t l sheet ds h))) refl (wrote t e sheet ds h) (λ z o r. z refl r)
+    first-open h (e .stay-sums .last .1 .1 .0) (e .stay-sums .ensures .1) (stays-owes t e sheet ds h) (a .limit) (a .s) (c .walk .result) (y .y .given .0 .0) (stays-opens t y)
+    (walked-as (l .stays .ensures) (c .before .counted .ensures) (c .walk .ensures sheet (more t e sheet ds h false) (stays-child t l sheet ds h))) refl (wrote t e sheet ds h) (λ z o r. z refl r)
 
-left-passed : (t : ℕ) (c : walk-lts.After-reached (claims t) (walk-at t) walk.Post) (sheet : HeldSheet) (ds : List (List Bool))
+stays-passed : (t : ℕ) (c : walk-lts.After-reached (claims t) (walk-at t) walk.Post) (sheet : HeldSheet) (ds : List (List Bool))
     → let e = c .before .before .before in
-    (h : Given t (start t e) sheet ds) → Passing t e sheet ds h (e .left-sums .last .1 .1 .0) (start t e .args .v .now) (c .reached .result)
-left-passed t c sheet ds h =
+    (h : Given t (start t e) sheet ds) → Passing t e sheet ds h (e .stay-sums .last .1 .1 .0) (start t e .args .v .now) (c .reached .result)
+stays-passed t c sheet ds h =
     let e = c .before .before .before in
     let a = start t e .args in
     passed-as refl refl (c .reached .ensures)
-    (first-closed h (e .left-sums .last .1 .1 .0) (e .left-sums .ensures .1) (left-owes t e sheet ds h) (joined (more t e sheet ds h false)) (a .limit) (a .s) (sym (e .left-sums .ensures .0) ∙ c .before .enum-told .given .1))
+    (first-closed h (e .stay-sums .last .1 .1 .0) (e .stay-sums .ensures .1) (stays-owes t e sheet ds h) (joined (more t e sheet ds h false)) (a .limit) (a .s) (sym (e .stay-sums .ensures .0) ∙ c .before .enum-told .given .1))
 
 -- the first branch, either way
-left-first : (t : ℕ) (c : First t) (sheet : HeldSheet) (ds : List (List Bool)) (h : Given t (start t (c .before)) sheet ds) → Passing t (c .before) sheet ds h (c .match .w) (c .match .v) (c .match .a)
-left-first t c sheet ds h =
+stays-first : (t : ℕ) (c : First t) (sheet : HeldSheet) (ds : List (List Bool)) (h : Given t (start t (c .before)) sheet ds) → Passing t (c .before) sheet ds h (c .match .w) (c .match .v) (c .match .a)
+stays-first t c sheet ds h =
     ⊎-elim
-    (λ v. passed-as (v .8) (v .9) (v .10) (left-walked t (record { before = record { before = record { before = record { before = record { before = record { before = record { before = record { before = c .before; match = v .0 }; y = v .1 }; known-told = v .2 }; walk-arg = v .3 }; walk-arg2 = v .4 }; left = v .5 }; counted = v .6 }; walk = v .7 }) sheet ds h))
-    (λ v. passed-as (v .3) (v .4) (v .5) (left-passed t (record { before = record { before = record { before = c .before; match = v .0 }; enum-told = v .1 }; reached = v .2 }) sheet ds h))
+    (λ v. passed-as (v .8) (v .9) (v .10) (stays-walked t (record { before = record { before = record { before = record { before = record { before = record { before = record { before = record { before = c .before; match = v .0 }; y = v .1 }; known-told = v .2 }; walk-arg = v .3 }; walk-arg2 = v .4 }; stays = v .5 }; counted = v .6 }; walk = v .7 }) sheet ds h))
+    (λ v. passed-as (v .3) (v .4) (v .5) (stays-passed t (record { before = record { before = record { before = c .before; match = v .0 }; enum-told = v .1 }; reached = v .2 }) sheet ds h))
     (c .match .came)
 
 walk-enum-told : (t : ℕ) → walk-lts.Need-enum-told (claims t) (walk-at t) walk.Post
@@ -411,7 +411,7 @@ module _ (t : ℕ) (c : Paid t) (sheet : HeldSheet) (ds : List (List Bool)) (h :
   out-owes = let e = first t c .before in out-due h (owed t e sheet ds h) (next t e sheet ds h) (paying t c) (cost t c)
 
   both-out : let a = start t (first t c .before) .args in (st : Limited) → onward (a .limit) (treeAt sheet (a .p) ds) (joined ds) st
-      ≡ limited (a .limit) (treeAt sheet (outN (a .p) (paying t c)) out-blocks) (joined out-blocks) (limited (a .limit) (treeAt sheet (leftN (a .p) (shut t (termed t (first t c .before)))) (more t (first t c .before) sheet ds h false)) (joined (more t (first t c .before) sheet ds h false)) st)
+      ≡ limited (a .limit) (treeAt sheet (outN (a .p) (paying t c)) out-blocks) (joined out-blocks) (limited (a .limit) (treeAt sheet (staysN (a .p) (shut t (termed t (first t c .before)))) (more t (first t c .before) sheet ds h false)) (joined (more t (first t c .before) sheet ds h false)) st)
   both-out st = let e = first t c .before in both-removals h (owed t e sheet ds h) (next t e sheet ds h) (start t e .args .limit) (shut t (termed t e)) (paying t c) st
 
   -- it is given after the first branch
@@ -420,7 +420,7 @@ module _ (t : ℕ) (c : Paid t) (sheet : HeldSheet) (ds : List (List Bool)) (h :
   out-given =
       let f = first t c in
       let e = f .before in
-      let z = left-first t f sheet ds h in
+      let z = stays-first t f sheet ds h in
       at-out (at-kept (z .frame) (z .pending) h) (owed t e sheet ds h) (next t e sheet ds h) (paying t c) (cost t c)
 
 walk-returns : (t : ℕ) → walk-lts.Need-returns (claims t) (walk-at t) walk.Post
@@ -430,7 +430,7 @@ walk-returns t c =
     let f = first t q in
     let a = start t (f .before) .args in
     subst (λ (r : Search). Walked sheet ds (a .t .now) (a .w .now) (f .match .w) (a .v .now) (f .match .v) (a .limit) (a .p) (a .s) r) (sym (c .reached2 .ensures))
-    (second-closed (left-first t f sheet ds h) (outN (a .p) (paying t q)) (out-blocks t q sheet ds h) (out-owes t q sheet ds h) (both-out t q sheet ds h) (sym (c .before .before .before .«open» .ensures) ∙ c .before .enum-told2 .given .1))
+    (second-closed (stays-first t f sheet ds h) (outN (a .p) (paying t q)) (out-blocks t q sheet ds h) (out-owes t q sheet ds h) (both-out t q sheet ds h) (sym (c .before .before .before .«open» .ensures) ∙ c .before .enum-told2 .given .1))
 
 -- it is walked on, with the same part sums
 out-opens : (t : ℕ) (c : walk-lts.After-y2 (claims t) (walk-at t) walk.Post) → let q = c .before .before .before in let f = first t q in let a = start t (f .before) .args in openS (a .limit) (paying t q + a .g) (Sum (a .x)) (f .match .a) ≡ Sum (c .y2 .given .0 .0)
@@ -499,12 +499,12 @@ walk-returns-2 t c =
     let q = y .before .before .before in
     let f = first t q in
     let a = start t (f .before) .args in
-    let z = left-first t f sheet ds h in
+    let z = stays-first t f sheet ds h in
     second-open z (outN (a .p) (paying t q)) (out-blocks t q sheet ds h) (out-owes t q sheet ds h) (both-out t q sheet ds h) (y .y2 .given .0 .0) (c .walk2 .result) (out-opens t y)
     (record { recalled = recalled-none (a .t .now) (f .match .w) (a .p .rows) (z .frame .recalled .memo); aside = aside-none (f .match .v) (a .p .rows) (written (a .p)) }) (λ i l. refl)
     (walked-as (l .out .ensures) (c .before .counted2 .ensures) (c .walk2 .ensures sheet (out-blocks t q sheet ds h) (out-child t l sheet ds h))) refl (wrote t (f .before) sheet ds h) (λ z o r. z refl r)
 
--- ---- at an opening. `Opening`: no removal is open; `Settled`: the node is settled; `Counted`: the openings are counted; `Undecided`: there is an undecided one; `Looked`: the no's term is found; `Judged`: the no is tested;
+-- ---- at an opening. `Opening`: no removal is open; `Settled`: the node is settled; `Undecided`: there is an undecided one; `Looked`: the no's term is found; `Judged`: the no is tested;
 -- `Second`: the first branch is walked; `Owed`: the fee and the term of a stop are read
 
 abbrev Opening : ℕ → Type 0
@@ -512,9 +512,6 @@ Opening t = walk-lts.Else1 (claims t) (walk-at t) walk.Post
 
 abbrev Settled : ℕ → Type 0
 Settled t = walk-lts.After-settle (claims t) (walk-at t) walk.Post
-
-abbrev Counted : ℕ → Type 0
-Counted t = walk-lts.After-cell (claims t) (walk-at t) walk.Post
 
 abbrev Undecided : ℕ → Type 0
 Undecided t = walk-lts.Else2 (claims t) (walk-at t) walk.Post
@@ -977,9 +974,9 @@ pub +walk-spec : {M : Type 1} → statement M
     (walk-number-requires-2 t)
     (walk-sub-removal-term t)
     (walk-removal-term-requires t)
-    (walk-left-sums-requires t)
+    (walk-stay-sums-requires t)
     (walk-enum-known-y t)
-    (walk-left-requires t)
+    (walk-stays-requires t)
     (walk-counted-requires t)
     (walk-walk-requires t)
     (walk-enum-told t)

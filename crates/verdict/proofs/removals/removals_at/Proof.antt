@@ -40,8 +40,8 @@ sub-k c = omega arith
 changed-at-requires : tie.Need-changed-at-requires Inv-loop μ-loop
 changed-at-requires c κs = omega (arith, start c .pre .1)
 
-joined-requires : tie.Need-joined-requires Inv-loop μ-loop
-joined-requires c κs = start (c .before) .pre .0
+union-requires : tie.Need-union-requires Inv-loop μ-loop
+union-requires c κs = start (c .before) .pre .0
 
 slice-aggregate-sum-at : tie.Need-slice-aggregate-sum-at Inv-loop μ-loop
 slice-aggregate-sum-at c = search needs
@@ -52,7 +52,7 @@ slice-aggregate-sum-at-2 c = search needs
 sum-at-requires : tie.Need-sum-at-requires Inv-loop μ-loop
 sum-at-requires c κs =
     let s = start (c .before .before .before .before) in
-    (omega (arith, s .pre .0), omega (arith, s .pre .0, s .good), omega (arith, s .pre .0, c .before .before .joined .ensures .size), s .pre .2)
+    (omega (arith, s .pre .0), omega (arith, s .pre .0, s .good), omega (arith, s .pre .0, c .before .before .union .ensures .size), s .pre .2)
 
 add-sum : tie.Need-add-sum Inv-loop μ-loop
 add-sum c =
@@ -74,7 +74,7 @@ loop-again c =
       λ job p r v. paid-more (a .n) (paidAt job (a .m) (a .n) (a .plan .changes)) (l .k) (l .sum) _ (i .loop-test .taken) (l .inv .0)
           (ap (λ (x : ℕ). l .sum + x)
           (c .sum-at .ensures
-          ∙ paid-is job (a .m) (a .n) (a .plan .changes) p (s .pre .0) (omega (arith, s .pre .0, plan-long (a .plan) (s .good .1 .1 .1 .0))) (a .outs .now) r (l .k - 1) (j .before .changed-at .result) (j .joined .result) (a .t3) (omega arith) (j .before .changed-at .ensures) (j .joined .ensures) v))
+          ∙ paid-is job (a .m) (a .n) (a .plan .changes) p (s .pre .0) (omega (arith, s .pre .0, plan-long (a .plan) (s .good .1 .1 .1 .0))) (a .outs .now) r (l .k - 1) (j .before .changed-at .result) (j .union .result) (a .t3) (omega arith) (j .before .changed-at .ensures) (j .union .ensures) v))
           (l .inv .2 job p r v),
     )
 
@@ -95,7 +95,7 @@ removals-at-spec =
     loop-holds
     sub-k
     changed-at-requires
-    joined-requires
+    union-requires
     slice-aggregate-sum-at
     slice-aggregate-sum-at-2
     sum-at-requires

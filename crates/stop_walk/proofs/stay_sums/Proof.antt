@@ -1,4 +1,4 @@
--- `left_sums` sums the lanes of a node that the test before does not drop.
+-- `stay_sums` sums the lanes of a node that the test before does not drop.
 use Prim.Native.Nat.{ℕ, _+_, _*_, _<_, _≤_}
 use mathlib.Core.Path.{_≡_, refl, sym, ap, _∙_}
 use native.Mathlib.Omega.{arith}
@@ -14,8 +14,8 @@ use Rattle.held_stops.specs.Stops.{stopLane}
 use Rattle.stop_walk.proofs.Given.{stop-most}
 use Rattle.walk.specs.State.{openS}
 use Rattle.stop_walk.proofs.Given.{sums-low}
-use Rattle.stop_walk.proofs.left_sums.Statement.{statement}
-use Rattle.stop_walk.proofs.left_sums.Tie as tie
+use Rattle.stop_walk.proofs.stay_sums.Statement.{statement}
+use Rattle.stop_walk.proofs.stay_sums.Tie as tie
 
 -- the lanes' sum
 abbrev sum : tie.Start → ℕ
@@ -61,5 +61,5 @@ returns-2 c =
     let e = due d in
     (c .«open» .ensures ∙ (λ i. openS (a .limit) (e .0 i) (Sum (c .before .shut-sum .ensures .0 i)) (a .s)) ∙ ap (λ (b : Bound). openS (a .limit) (a .spent + a .h) b (a .s)) (sym (where-some (a .h) (sum s) (e .1))), c .before .shut-sum .ensures .1)
 
-pub left-sums-spec : {M : Type 1} → statement M
-left-sums-spec = tie.close (tie.spec tested-requires enum-known-due enum-told returns shut-sum-requires open-requires returns-2)
+pub stay-sums-spec : {M : Type 1} → statement M
+stay-sums-spec = tie.close (tie.spec tested-requires enum-known-due enum-told returns shut-sum-requires open-requires returns-2)

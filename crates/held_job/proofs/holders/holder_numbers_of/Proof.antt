@@ -1,4 +1,4 @@
--- `terms_of`: each term is that of the job, by who holds whom and what comes out with whom.
+-- `holder_numbers_of`: each number is that of the job, by who holds whom and what comes out with whom.
 use Prim.Native.Nat.{ℕ}
 use mathlib.Core.Path.{sym, subst}
 use Rattle.model.specs.Model.{comesOut}
@@ -7,8 +7,8 @@ use Rattle.jobs.specs.Views.{jobOf}
 use Rattle.jobs.proofs.Jobs.{part-count}
 use Rattle.coming_out.specs.Rows.{Rows}
 use borrow.Author.Needs.{needs}
-use Rattle.held_job.proofs.terms.terms_of.Statement.{statement}
-use Rattle.held_job.proofs.terms.terms_of.Tie as tie
+use Rattle.held_job.proofs.holders.holder_numbers_of.Statement.{statement}
+use Rattle.held_job.proofs.holders.holder_numbers_of.Tie as tie
 
 removals-of-requires : tie.Need-removals-of-requires
 removals-of-requires c κs = search needs
@@ -50,8 +50,8 @@ returns c =
       few = h .holding-of .ensures .0 .few;
     }
 
-pub terms-of-spec : {M : Type 1} → statement M
-terms-of-spec =
+pub holder-numbers-of-spec : {M : Type 1} → statement M
+holder-numbers-of-spec =
     tie.close
     (tie.spec
     removals-of-requires

@@ -1,4 +1,4 @@
-// What removals and holders bring into the search: what is added to the prices, who comes out with whom, and the removals that are decided.
+// What holders and removals add to a job's numbers: the charges, who comes out with whom, and the removals that are decided.
 use coming_out::charges;
 use coming_out::come_out;
 use coming_out::holding_of;
@@ -8,20 +8,20 @@ use coming_out::records::holders_of;
 use coming_out::records::removals_of;
 use jobs::Job;
 ghost use Rattle.jobs.specs.Views.{jobOf, Sized};
-ghost use Rattle.held_job.specs.Removed.{TermsOf};
+ghost use Rattle.held_job.specs.Removed.{HolderNumbersOf};
 
 // What is added to each part's prices; of the parts that are somebody's holder, those that come out with each part; their removals; and how many they are.
-pub struct Terms {
+pub struct HolderNumbers {
     pub charges: [u32; 16],
     pub needs: [bool; 256],
     pub removals: [u32; 16],
     pub holding: usize,
 }
 
-// The terms of a job.
-pub fn terms_of(job: Job) -> Terms
+// What holders and removals add to the numbers of a job.
+pub fn holder_numbers_of(job: Job) -> HolderNumbers
     requires { ⌜ Sized job ⌝ }
-    ensures { λ r. ⌜ TermsOf (jobOf job) r ⌝ }
+    ensures { λ r. ⌜ HolderNumbersOf (jobOf job) r ⌝ }
 {
     let count = job.part_count;
     let paid = removals_of(job);
@@ -29,7 +29,7 @@ pub fn terms_of(job: Job) -> Terms
     let outs = come_out(&holders, count);
     let holding = holding_of(&holders, count);
     let marks = holding.marks;
-    Terms {
+    HolderNumbers {
         charges: charges(paid, marks),
         needs: needs(&outs, count, holding),
         removals: inner_removals(paid, holding),

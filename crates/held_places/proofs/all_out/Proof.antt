@@ -1,4 +1,4 @@
--- `covers` is the model's `covered`: what is not yet looked at decides.
+-- `all_out` is the model's `covered`: what is not yet looked at decides.
 use Prim.Native.Nat.{_-_, _≤_}
 use mathlib.Core.Path.{_≡_, refl, sym, _∙_}
 use native.Mathlib.Omega.{arith}
@@ -7,8 +7,8 @@ use borrow.Author.Tests.{not-true, not-false}
 use lib.ListN.{length, drop}
 use Rattle.model.specs.Decisions.{covered}
 use Rattle.held_places.proofs.Steps.{covered-more, covered-not, covered-end}
-use Rattle.held_places.proofs.covers.Statement.{statement}
-use Rattle.held_places.proofs.covers.Tie as tie
+use Rattle.held_places.proofs.all_out.Statement.{statement}
+use Rattle.held_places.proofs.all_out.Tie as tie
 
 abbrev Inv-loop : tie.InvT-loop
 Inv-loop needs removed b₀ b = (b ≤ length needs) × (covered needs removed ≡ covered (drop b needs) (drop b removed))
@@ -51,5 +51,5 @@ returns-2 c =
     let a = c .before .before .before .before .args in
     covered-end (a .needs .now) (a .removed .now) (l .b) (c .loop-test .left) (l .inv .1)
 
-pub covers-spec : {M : Type 1} → statement M
-covers-spec = tie.close (tie.spec Inv-loop μ-loop loop-holds shared-slice-read-free free-requires returns add-b loop-less loop-again returns-2)
+pub all-out-spec : {M : Type 1} → statement M
+all-out-spec = tie.close (tie.spec Inv-loop μ-loop loop-holds shared-slice-read-free free-requires returns add-b loop-less loop-again returns-2)

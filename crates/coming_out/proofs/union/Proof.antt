@@ -1,4 +1,4 @@
--- `joined`: the first j places of the row are there.
+-- `union`: the first j places of the row are there.
 use Prim.Native.Nat.{ℕ, _-_, _≤_}
 use mathlib.Core.Path.{_≡_, ap, subst, _∙_}
 use mathlib.Core.Bool.{Bool, false, _||_}
@@ -8,8 +8,8 @@ use lib.ListN.{getD}
 use Rattle.model.specs.Model.{table}
 use Rattle.coming_out.specs.Rows.{Row, reached}
 use Rattle.coming_out.proofs.Rows.{row-none, row-more}
-use Rattle.coming_out.proofs.joined.Statement.{statement}
-use Rattle.coming_out.proofs.joined.Tie as tie
+use Rattle.coming_out.proofs.union.Statement.{statement}
+use Rattle.coming_out.proofs.union.Tie as tie
 
 abbrev Inv-loop : tie.InvT-loop
 Inv-loop matrix m set own row₀ j₀ row j = (j ≤ m) × Row false (table (λ x. getD own x false || reached m matrix set x) j) row
@@ -55,8 +55,8 @@ returns c =
     let z : l .j ≡ a .m = omega arith in
     subst (λ (k : ℕ). Row false (table (λ x. getD (a .t3) x false || reached (a .m) (a .matrix .now) (a .set) x) k) (l .row)) z (l .inv .1)
 
-pub joined-spec : {M : Type 1} → statement M
-joined-spec =
+pub union-spec : {M : Type 1} → statement M
+union-spec =
     tie.close
     (tie.spec
     Inv-loop
