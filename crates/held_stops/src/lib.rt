@@ -27,7 +27,7 @@ use lane_rows::ROW_MARKS;
 use lane_rows::STACK;
 use lane_rows::TABLES;
 use lane_rows::forget;
-use lane_rows::look;
+use lane_rows::look_by_fours;
 use lane_rows::next_lanes;
 use lane_rows::row_of;
 use lane_rows::store_row;
@@ -42,7 +42,7 @@ fn recall(t: &[u32; TABLES], w: &mut [u32; STACK], rows: usize, j: usize)
     if known == 1 {
         return;
     }
-    look(t, w, rows, j);
+    look_by_fours(t, w, rows, j);
 }
 
 // The sum of all lanes over the rows that are there, where the stop at opening j - 1 is shut to the lanes of the set.

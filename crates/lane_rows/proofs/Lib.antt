@@ -8,3 +8,4 @@ pub mod Lanes
 pub mod Going
 pub mod Terms
 pub mod Memory
+pub mod Fours

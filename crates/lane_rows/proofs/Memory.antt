@@ -11,7 +11,7 @@ use lib.Seq.{getD-set-same, getD-set-other}
 use Rattle.least.specs.Filled.{FilledBy}
 use Rattle.model.specs.Limits.{mostOpenings}
 use Rattle.lane_rows.specs.Layout.{laneCount, markCount, inf, triangle, suffixBase, place, rowPlace, markPlace, knownBase, knownPlace, memoBase, memoPlace, lanesIn, stackSize}
-use Rattle.lane_rows.specs.Rows.{lane, sumLanes, Kept, Put, Past, Remembers, Memo, stepOf, StepAsks, Stepped, Looks, Known, Recalled, Still, Learnt, FirstRow, Nones}
+use Rattle.lane_rows.specs.Rows.{lane, sumLanes, Kept, Put, Past, Remembers, Memo, stepOf, StepAsks, Stepped, FoursAsks, Looks, Known, Recalled, Still, Learnt, Looked, FirstRow, Nones}
 use Rattle.lane_rows.proofs.Rising.{row-below, row-inside}
 use Rattle.lane_rows.proofs.Lanes.{lane-most, lane-nil, lane-suc, sum-same, kept-refl, kept-then, ≠-lt}
 
@@ -22,8 +22,8 @@ lane-kept t w w' base l q n zero kp h g = refl
 lane-kept t w w' base l q n (suc k) kp h g =
     (λ i. min (lane-kept t w w' base l q n k kp h (omega arith) i) (kp .rows (rowPlace k q) (omega arith) i + getD t (place base l (kp .marks k (omega arith) i) q) 0))
 
--- a row of the memo stands within the stack
-memo-room : (l k : ℕ) → l ≤ mostOpenings → k ≤ l + 1 → memoPlace l k laneCount ≤ stackSize
+-- a row of the memo stands within the stack, with a row's room behind it
+memo-room : (l k : ℕ) → l ≤ mostOpenings → k ≤ l + 1 → memoPlace l k laneCount + laneCount ≤ stackSize
 memo-room l k h g = omega (arith, row-inside (l + 1) k (markCount + 1) g (omega arith))
 
 -- rows of two levels stand apart
@@ -97,6 +97,15 @@ module _ (t w : List ℕ) (n m j : ℕ) (s : Looks t w n j) (h : m < n) (kn : Kn
         room = omega (arith, length-set w (knownPlace (m + 1) j) 1, s .stack .size, memo-room j (m + 1) (s .stack .near) (omega (arith, below)));
         most = λ q l. omega (arith, last q l, lane-most t w suffixBase j q m);
         sums = λ q l. omega (arith, this q l, s .stack .sums m q h l);
+      }
+
+  pub fours-asks : FoursAsks t noted (m * laneCount) from out
+  fours-asks =
+      record {
+        asks = step-asks;
+        apart = omega (arith, below, s .stack .near);
+        table = omega (arith, s .size, row-inside j mark markCount (s .stack .marks m h) (omega (arith, s .stack .near)));
+        room = omega (arith, length-set w (knownPlace (m + 1) j) 1, s .stack .size, memo-room j (m + 1) (s .stack .near) (omega (arith, below)));
       }
 
   step-is : (q : ℕ) → q < lanesIn t → stepOf t noted (m * laneCount) from out q ≡ lane t w suffixBase j q (m + 1)
@@ -214,6 +223,32 @@ recalled-then t u v w m n h a b =
 -- so the lanes' sum over all of them is the same
 pub sum-kept : (t w w' : List ℕ) (n j : ℕ) → lanesIn t ≤ laneCount → Kept w w' n → sumLanes (lanesIn t) (λ (q : ℕ). lane t w' suffixBase j q n) ≡ sumLanes (lanesIn t) (λ (q : ℕ). lane t w suffixBase j q n)
 sum-kept t w w' n j h k = sum-same (lanesIn t) (λ (q : ℕ). lane t w' suffixBase j q n) (λ (q : ℕ). lane t w suffixBase j q n) (λ q l. lane-kept t w w' suffixBase j q n n k (omega arith) (omega arith))
+
+-- the memo learns row by row: the rows are kept, the memo is right, and known up to row m; once that is the top one, its sum is held
+pub record Looking (t w₀ w : List ℕ) (rows j m sum : ℕ) : Type 0 where
+  pub inside : m ≤ rows
+  pub recalled : Recalled t w₀ w rows
+  pub known : Known w m j
+  pub all : m ≡ rows → sum ≡ sumLanes (lanesIn t) (λ (q : ℕ). lane t w₀ suffixBase j q rows)
+  pub still : Still w₀ w
+
+pub looking-first : (t w : List ℕ) (rows j m : ℕ) → Looks t w rows j → m < rows → Known w m j → Looking t w w rows j m 0
+looking-first t w rows j m s h kn = record { inside = omega (arith, h); recalled = recalled-none t w rows (s .memo); known = kn; all = (λ z. absurd (omega (arith, z, h))); still = λ k l a b e. e }
+
+pub looking-next : (t w₀ w w' : List ℕ) (rows j m sum r : ℕ) → Looks t w₀ rows j → Looking t w₀ w rows j m sum → m < rows → Learnt t w w' rows m j r → Looking t w₀ w' rows j (m + 1) r
+looking-next t w₀ w w' rows j m sum r s l h e =
+    record {
+      inside = omega (arith, h);
+      recalled = record { kept = kept-then w₀ w w' rows rows (omega arith) (l .recalled .kept) (e .recalled .kept); memo = e .recalled .memo };
+      known = (λ z. e .known);
+      all = (λ z. subst (λ (n : ℕ). r ≡ sumLanes (lanesIn t) (λ (q : ℕ). lane t w suffixBase j q n)) z (e .sum) ∙ sum-kept t w₀ w rows j (s .stack .narrow) (l .recalled .kept));
+      still = λ k i a b x. e .still k i a b (l .still k i a b x);
+    }
+
+pub looking-last : (t w₀ w : List ℕ) (rows j m sum : ℕ) → Looks t w₀ rows j → Looking t w₀ w rows j m sum → rows ≤ m → Looked t w₀ w rows j sum
+looking-last t w₀ w rows j m sum s l h =
+    let z : m ≡ rows = omega (arith, h, l .inside) in
+    record { sum = l .all z; recalled = l .recalled; known = subst (λ (n : ℕ). getD w (knownPlace n j) 0 ≡ 1) z (l .known (omega (arith, z, s .some))); still = l .still }
 
 -- ---- a new row
 

@@ -127,4 +127,4 @@ abbrev pub memoPlace : ℕ → ℕ → ℕ → ℕ
 memoPlace l k q = place memoBase (l + 1) k q
 
 abbrev pub stackSize : ℕ
-stackSize = memoBase + levelRows (markCount + 1) * laneCount
+stackSize = memoBase + levelRows (markCount + 1) * laneCount + laneCount

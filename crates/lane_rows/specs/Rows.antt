@@ -161,6 +161,13 @@ pub record Stepped (wide : ℕ) (t w w' : List ℕ) (d e out r : ℕ) : Type 0 w
   pub stored : FilledBy (λ (q : ℕ). out + q) (stepOf t w d e out) wide w w'
   pub sum : r ≡ sumLanes wide (stepOf t w d e out)
 
+-- what writing it one four after the other asks: the row at d stands before it, and a row's room behind each
+pub record FoursAsks (t w : List ℕ) (d e out : ℕ) : Type 0 where
+  pub asks : StepAsks (lanesIn t) t w d e out
+  pub apart : d + laneCount ≤ out
+  pub table : e + laneCount + laneCount ≤ length t
+  pub room : out + laneCount + laneCount ≤ length w
+
 -- what a look at n rows, at level j, asks
 pub record Looks (t w : List ℕ) (n j : ℕ) : Type 0 where
   pub memo : Memo t w n

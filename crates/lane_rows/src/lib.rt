@@ -6,7 +6,7 @@ ghost use lib.ListN.{length, getD};
 ghost use Rattle.least.specs.Filled.{FilledBy};
 ghost use Rattle.lane_rows.specs.Layout.{laneCount, markCount, inf, triangle, levelRows, tablesSize, lanesIn, stackSize, suffixBase, place, rowPlace, markPlace, knownPlace, memoPlace, termPlace};
 ghost use Rattle.lane_rows.specs.Tables.{valueOf, sumWhere};
-ghost use Rattle.lane_rows.specs.Rows.{lane, sumLanes, Turned, MinAsks, PlusAsks, AddAsks, Nones, FirstRow, Stack, Put, Past, StepAsks, Stepped, Looks, Known, Recalled, Learnt, Looked, nextRow, Owing, Settled};
+ghost use Rattle.lane_rows.specs.Rows.{lane, sumLanes, Turned, MinAsks, PlusAsks, AddAsks, Nones, FirstRow, Stack, Put, Past, StepAsks, Stepped, FoursAsks, Looks, Known, Recalled, Learnt, Looked, nextRow, Owing, Settled};
 ghost use Rattle.model.specs.Limits.{mostOpenings};
 use branch::Bound;
 use least::MARKS;
@@ -46,7 +46,7 @@ pub const TERMS: usize = FOURS + 1;
 
 pub const TABLES: usize = TERMS + BLOCK_ROWS;
 
-// The stack: 65 rows, the mark of each, which rows of the memo are known, and the memo, which has a row for each level and each number of rows from none to one more than the level's.
+// The stack: 65 rows, the mark of each, which rows of the memo are known, and the memo, which has a row for each level and each number of rows from none to one more than the level's; a row's room stands behind it.
 
 pub const ROW_MARKS: usize = MARKS * LANES;
 
@@ -54,7 +54,7 @@ pub const KNOWN: usize = ROW_MARKS + MARKS;
 
 pub const MEMO: usize = KNOWN + (MARKS + 1) * MARKS;
 
-pub const STACK: usize = MEMO + (MARKS + 1) * (MARKS + 2) / 2 * LANES;
+pub const STACK: usize = MEMO + (MARKS + 1) * (MARKS + 2) / 2 * LANES + LANES;
 
 // How many rows of a triangle stand before level j's.
 pub fn row_of(j: usize) -> usize
@@ -243,8 +243,22 @@ fn step_row(t: &[u32; TABLES], w: &mut [u32; STACK], d: usize, e: usize, out: us
     step_lanes(4, t, w, d, e, out)
 }
 
-// The memo learns its row for level j and the first m + 1 rows, where it knows that for the first m; its sum.
-fn learn(t: &[u32; TABLES], w: &mut [u32; STACK], m: usize, j: usize) -> u64
+// The same row, one four of lanes after the other: less code than one for each number of fours.
+fn step_fours(t: &[u32; TABLES], w: &mut [u32; STACK], d: usize, e: usize, out: usize) -> u64
+    requires { ⌜ FoursAsks (now t) (now w) d e out ⌝ }
+    ensures { λ r. ⌜ Stepped (lanesIn (now (t .entry))) (now (t .entry)) (now (w .entry)) (now (w .exit)) d e out r ⌝ }
+{
+    let fours = t[FOURS] as usize;
+    let mut sum: u64 = 0;
+    for k in 0..fours {
+        let four = step_lanes(1, t, w, d + k * 4, e + k * 4, out + k * 4);
+        sum = sum + four;
+    }
+    sum
+}
+
+// The memo learns its row for level j and the first m + 1 rows, where it knows that for the first m, by the code for each number of fours or by one four after the other; its sum.
+fn learn(t: &[u32; TABLES], w: &mut [u32; STACK], m: usize, j: usize, whole: bool) -> u64
     requires { ⌜ ((n : ℕ) × Looks (now t) (now w) n j × (m < n)) × Known (now w) m j ⌝ }
     ensures { λ r. ⌜ ((n : ℕ) → Looks (now (t .entry)) (now (w .entry)) n j → m < n → Learnt (now (t .entry)) (now (w .entry)) (now (w .exit)) n m j r) ⌝ }
 {
@@ -252,13 +266,13 @@ fn learn(t: &[u32; TABLES], w: &mut [u32; STACK], m: usize, j: usize) -> u64
     let row = row_of(j);
     let level = row + (j + 1);
     w[KNOWN + (m + 1) * MARKS + j] = 1;
-    step_row(
-        t,
-        w,
-        m * LANES,
-        SUFFIXES + (row + i) * LANES,
-        MEMO + (level + (m + 1)) * LANES,
-    )
+    let d = m * LANES;
+    let e = SUFFIXES + (row + i) * LANES;
+    let out = MEMO + (level + (m + 1)) * LANES;
+    if whole {
+        return step_row(t, w, d, e, out);
+    }
+    step_fours(t, w, d, e, out)
 }
 
 // How many rows, below the top one, the memo knows at level j; of none it knows always.
@@ -284,7 +298,21 @@ pub fn look(t: &[u32; TABLES], w: &mut [u32; STACK], rows: usize, j: usize) -> u
     let mut m = known_rows(w, rows, j);
     let mut sum = 0;
     while m < rows {
-        sum = learn(t, w, m, j);
+        sum = learn(t, w, m, j, true);
+        m += 1;
+    }
+    sum
+}
+
+// The same, one four of lanes after the other: for the walk with holders, so that the walk without them has `look` to itself, in its own code.
+pub fn look_by_fours(t: &[u32; TABLES], w: &mut [u32; STACK], rows: usize, j: usize) -> u64
+    requires { ⌜ Looks (now t) (now w) rows j ⌝ }
+    ensures { λ r. ⌜ Looked (now (t .entry)) (now (w .entry)) (now (w .exit)) rows j r ⌝ }
+{
+    let mut m = known_rows(w, rows, j);
+    let mut sum = 0;
+    while m < rows {
+        sum = learn(t, w, m, j, false);
         m += 1;
     }
     sum

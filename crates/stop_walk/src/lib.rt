@@ -40,7 +40,7 @@ use lane_rows::TABLES;
 use lane_rows::base_row;
 use lane_rows::cell;
 use lane_rows::first_sums;
-use lane_rows::lane_sum;
+use lane_rows::look_by_fours;
 use lane_rows::term;
 use lane_rows::value;
 use walk::NO_COST;
@@ -193,7 +193,7 @@ fn no_sums(
     let Bound::Sum(due) = tested(limit, spent, h, x, s) else {
         return Bound::Missing;
     };
-    s.open(limit, due, Bound::Sum(lane_sum(t, w, rows, j)))
+    s.open(limit, due, Bound::Sum(look_by_fours(t, w, rows, j)))
 }
 
 // The part sums of a node below a stop, if it is walked on: the stop at opening j - 1 is shut to the lanes of the set.

@@ -41,15 +41,15 @@ returns c =
     let a = s .args in
     (sym (c .before .before .tested .ensures .0 (c .enum-told .given .1) (sum s) (s .pre .1)), recalled-none (a .t .now) (a .w .now) (a .rows) (s .pre .0 .memo))
 
-lane-sum-requires : tie.Need-lane-sum-requires
-lane-sum-requires c κs = search needs
+look-by-fours-requires : tie.Need-look-by-fours-requires
+look-by-fours-requires c κs = search needs
 
 open-requires : tie.Need-open-requires
 open-requires c κs = λ y f.
     let d = c .before .before .before in
     let s = d .before .before .before in
-    let z = sum-inj (Sum (c .lane-sum .result)) (c .lane-sum .result) y refl f in
-    omega (arith, z, c .lane-sum .ensures .0, due d, s .pre .2, low s)
+    let z = sum-inj (Sum (c .look-by-fours .result)) (c .look-by-fours .result) y refl f in
+    omega (arith, z, c .look-by-fours .ensures .sum, due d, s .pre .2, low s)
 
 returns-2 : tie.Need-returns-2
 returns-2 c =
@@ -57,7 +57,7 @@ returns-2 c =
     let s = d .before .before .before in
     let a = s .args in
     let e = due d in
-    (c .«open» .ensures ∙ (λ i. openS (a .limit) (e .0 i) (Sum (c .before .lane-sum .ensures .0 i)) (a .s)) ∙ ap (λ (b : Bound). openS (a .limit) (a .spent + a .h) b (a .s)) (sym (where-some (a .h) (sum s) (e .1))), c .before .lane-sum .ensures .1)
+    (c .«open» .ensures ∙ (λ i. openS (a .limit) (e .0 i) (Sum (c .before .look-by-fours .ensures .sum i)) (a .s)) ∙ ap (λ (b : Bound). openS (a .limit) (a .spent + a .h) b (a .s)) (sym (where-some (a .h) (sum s) (e .1))), c .before .look-by-fours .ensures .recalled)
 
 pub no-sums-spec : {M : Type 1} → statement M
-no-sums-spec = tie.close (tie.spec tested-requires enum-known-due enum-told returns lane-sum-requires open-requires returns-2)
+no-sums-spec = tie.close (tie.spec tested-requires enum-known-due enum-told returns look-by-fours-requires open-requires returns-2)
