@@ -1,7 +1,5 @@
 -- What is known of accepted lines of removal.
-use Prim.Native.Nat.{ℕ, _≤_, _<_}
-use mathlib.Core.Path.{_≡_}
-use mathlib.Core.List.{List, [], _∷_}
+use Prim.Native.Nat.{ℕ, _≤_}
 use lib.ListN.{length}
 use Rattle.lines.specs.Text.{Optional, missing, present}
 use Rattle.model.specs.Limits.{dearest}

@@ -22,7 +22,7 @@ use Rattle.job_text.specs.Rendering.{openingText, partText}
 use Rattle.job_text.specs.Views.{idleLines}
 use Rattle.job_text.proofs.Accepted.{itself, stepOf}
 use Rattle.job_text.proofs.Complete.{walk-next}
-use Rattle.form_lists.specs.Facts.{PartLists, paired, partsOf, feesAgree, partsAgree, PartsAgree, countOf, countedText}
+use Rattle.form_lists.specs.Facts.{paired, partsOf, feesAgree, partsAgree, PartsAgree, countOf, countedText}
 use Rattle.form_lists.specs.Checks.{found}
 use Rattle.form_lists.specs.declared.check.Check.the-variants.{Good}
 use Rattle.form_lists.proofs.CountLines.{count-in, count-out}

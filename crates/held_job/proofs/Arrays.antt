@@ -3,7 +3,7 @@ use Prim.Native.Nat.{ℕ, _≤_, _<_}
 use mathlib.Core.Path.{sym, subst, _∙_}
 use mathlib.Core.List.{List}
 use native.Mathlib.Omega.{arith}
-use lib.ListN.{length, getD, take}
+use lib.ListN.{getD, take}
 use lib.IntN.{ℤ, pos}
 use Rattle.model.specs.Model.{positions}
 use Rattle.model.specs.Limits.{dearest}

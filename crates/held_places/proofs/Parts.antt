@@ -1,12 +1,12 @@
 -- One part's changes: the arrays' ranges are those that a part's table asks for, and only what a part sees of the openings counts.
 use Prim.Native.Nat.{ℕ, zero, suc, _+_, _-_, _*_, _≤_, _<_}
-use mathlib.Core.Path.{_≡_, refl, sym, ap, ap₂, subst, _∙_}
+use mathlib.Core.Path.{_≡_, refl, sym, ap, subst, _∙_}
 use mathlib.Core.Bool.{Bool, true}
-use mathlib.Core.List.{List, [], _∷_, map}
+use mathlib.Core.List.{List, [], _∷_}
 use native.Mathlib.Omega.{arith}
-use lib.ListN.{length, getD, take, drop, length-take, length-drop, length-map, List·getD-map}
+use lib.ListN.{length, getD, take, drop, length-take, length-drop, List·getD-map}
 use lib.Seq.{getD-take, length-take-le}
-use lib.IntN.{ℤ, pos, _-ℤ_}
+use lib.IntN.{ℤ, pos}
 use mir.Syntax.{w32}
 use mir.Val.{SFits, toZ, ofZ}
 use mir.Facts.{toZ-ofZ}
@@ -16,7 +16,7 @@ use Rattle.model.specs.Limits.{mostOpenings, mostParts}
 use Rattle.model.proofs.Bools.{after-one}
 use Rattle.model.proofs.Blocks.{covered-none}
 use Rattle.least.specs.Marks.{markOf, Bits31}
-use Rattle.least.specs.Suffix.{tableSize, PartUntil}
+use Rattle.least.specs.Suffix.{PartUntil}
 use Rattle.least.proofs.Diff.{mag-sub, back, small-back}
 use Rattle.held_places.specs.Blocks.{Entries}
 use Rattle.held_places.specs.Arrays.{priceStride, priceSize, needStride, needSize, pricesAt, needsAt, Lives, Lived}

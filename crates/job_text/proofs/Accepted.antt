@@ -1,14 +1,12 @@
 -- An accepted job text is the rendering of what it says (`text-is`), and that is valid (`valid-text`, and `valid` of what it means). By the grammar's lines, one after the other.
-use Prim.Native.Nat.{ℕ, suc, _≤_, _<_}
+use Prim.Native.Nat.{ℕ, suc, _≤_}
 use mathlib.Core.Path.{_≡_, refl, sym, ap, _∙_, subst}
 use mathlib.Core.List.{List, [], _∷_, _++_, map, append-assoc, append-nil}
-use mathlib.Core.Bool.{and-eq-true-iff}
 use native.Mathlib.Omega.{arith}
-use lib.Dec.{leb, ltb}
 use lib.ListN.{length, length-map}
-use borrow.Author.Tests.{ltb-true, leb-true}
-use Rattle.lines.specs.Text.{bytes, line, lineOf, texts, Optional, missing, present, optionalText}
-use Rattle.lines.specs.Parser.{Parser, good, Outcome, accepted, refused, return, row, rowAt, optional, ifPresent, checked, times, rising, upTo}
+use borrow.Author.Tests.{leb-true}
+use Rattle.lines.specs.Text.{bytes, lineOf, texts, Optional, missing, present, optionalText}
+use Rattle.lines.specs.Parser.{good, Outcome, accepted, refused, return, row, optional, ifPresent, checked, times, rising, upTo}
 use Rattle.lines.proofs.Outcomes.{one-value, not-both}
 use Rattle.lines.proofs.Sound.{Told, Tells, Rises, rising-tells, bind-inv, Optionally, optional-inv, row-sound, checked-sound, chain-sound, row-gives, checked-gives, Chained, chain-gives, accepted-is}
 use Rattle.model.specs.Model.{Opening}

@@ -9,8 +9,8 @@ use native.Mathlib.Omega.{arith}
 use lib.ListN.{length, length-map}
 use Rattle.lines.specs.Line.{startsWith}
 use Rattle.lines.specs.Text.{bytes, line, lineOf, texts, Optional, missing, present, optionalText}
-use Rattle.lines.specs.Parser.{good, accepted, return, row, rowAt, optional, ifPresent, checked, chain, times, rising, upTo}
-use Rattle.lines.proofs.Parsing.{bind-good, rising-yes, upTo-yes, optional-missing}
+use Rattle.lines.specs.Parser.{good, accepted, return, row, optional, ifPresent, checked, chain, times, rising, upTo}
+use Rattle.lines.proofs.Parsing.{bind-good, upTo-yes, optional-missing}
 use Rattle.lines.proofs.Sound.{Chained}
 use Rattle.lines.proofs.Complete.{Complete, row-complete, rising-complete, optional-present, checked-complete, chain-complete, text-complete}
 use Rattle.model.specs.Model.{Opening}

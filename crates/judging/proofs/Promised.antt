@@ -18,7 +18,7 @@ use Rattle.job_text.proofs.Published.{text-due}
 use Rattle.plan_text.specs.Grammar.{Stated, readPlan}
 use Rattle.plan_text.proofs.Numbered as plan
 use Rattle.plan_text.proofs.Shapes.{shaped}
-use Rattle.answers.specs.Said.{Said, plainly, lent}
+use Rattle.answers.specs.Said.{plainly, lent}
 use Rattle.answers.proofs.Replies.{refuses}
 use Rattle.judging.specs.Judge.{costLines, unkeptLines, saidOf, onPlan, onJob, judgeSaid, judgeRoom}
 use Rattle.judging.specs.Promise.{Reading, Overdue, JudgePromise}

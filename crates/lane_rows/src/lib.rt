@@ -10,7 +10,6 @@ ghost use Rattle.lane_rows.specs.Rows.{lane, sumLanes, Turned, MinAsks, 
 ghost use Rattle.model.specs.Limits.{mostOpenings};
 use branch::Bound;
 use least::MARKS;
-use least::TABLE;
 
 // A row has room for a lane for each part.
 pub const LANES: usize = 16;

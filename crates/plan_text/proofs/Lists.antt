@@ -1,5 +1,5 @@
 -- Laws of tests of lists and of tables, by recursion over the list and by index.
-use Prim.Native.Nat.{ℕ, zero, suc, _≤_, _<_}
+use Prim.Native.Nat.{ℕ, zero, suc, _<_}
 use mathlib.Core.Path.{_≡_, refl, sym, ap, ap₂, _∙_}
 use mathlib.Core.List.{List, [], _∷_, _++_, map}
 use mathlib.Core.Bool.{Bool, true, false, _||_, or-assoc, or-true, or-false, false≢true}
@@ -8,7 +8,7 @@ use native.Mathlib.Nat.{eq-or-lt-of-le, le-of-suc-le-suc}
 use native.Mathlib.Omega.{arith}
 use borrow.Author.Tests.{eqb-true, eqb-false}
 use lib.Dec.{eqb}
-use lib.ListN.{length, getD, take, set, replicate, length-append, length-set, length-map, List·getD-append, List·getD-map}
+use lib.ListN.{length, getD, set, replicate, length-append, length-set, length-map, List·getD-append, List·getD-map}
 use lib.Seq.{getD-at, getD-set-same, getD-set-other, ext-getD}
 use Rattle.lines.specs.Text.{joined}
 use Rattle.plan_text.specs.Grammar.{any, tabulate}

@@ -8,8 +8,6 @@ use borrow.Author.Tests.{eq-eqb, ne-eqb}
 use lib.Dec.{eqb}
 use lib.ListN.{length, getD, take, set, replicate, length-map, List·getD-map, length-replicate, getD-replicate}
 use lib.Seq.{take-set-lt, getD-take, length-take-le}
-use Rattle.lines.specs.declared.rows.Cursor.{Cursor}
-use Rattle.lines.specs.declared.rows.End.the-variants as end
 use Rattle.model.specs.Model.{Opening, Job}
 use Rattle.model.proofs.Bools.{there}
 use Rattle.plan_text.specs.Grammar.{Visit, any, among, visited, changed, tabulate, openingsAt, planOf}

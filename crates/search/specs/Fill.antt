@@ -1,5 +1,5 @@
 -- Filling the tables: lane by lane, then the fees, the number of openings and, part by part, the terms. What is not named stays as it was.
-use Prim.Native.Nat.{ℕ, _+_, _-_, _*_, _<_, _≤_, min, max}
+use Prim.Native.Nat.{ℕ, _-_, _*_, _<_, _≤_, min, max}
 use mathlib.Core.Path.{_≡_}
 use mathlib.Core.Bool.{cond}
 use mathlib.Core.List.{List, []}
@@ -10,7 +10,7 @@ use Rattle.model.specs.Model.{within}
 use Rattle.least.specs.Marks.{markOf, Bits31}
 use Rattle.least.specs.Suffix.{cell, codeOf, Room}
 use Rattle.search.specs.Arrays.{lanePart, columnOf}
-use Rattle.lane_rows.specs.Layout.{laneCount, top, dear, inf, laneRows, tablesSize, rowPlace, place, termBase, termPlace}
+use Rattle.lane_rows.specs.Layout.{laneCount, top, dear, inf, laneRows, tablesSize, rowPlace, termBase, termPlace}
 use Rattle.lane_rows.specs.Sheet.{Column, Sheet}
 use Rattle.lane_rows.specs.Tables.{Coded, Lane, feeFrom}
 

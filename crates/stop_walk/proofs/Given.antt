@@ -7,7 +7,7 @@ use native.Mathlib.Omega.{arith}
 use lib.ListN.{length, getD, length-take, length-map}
 use lib.Seq.{getD-take}
 use Rattle.branch.specs.declared.Bound.{Bound}
-use Rattle.branch.specs.declared.Bound.the-variants.{Missing, Sum}
+use Rattle.branch.specs.declared.Bound.the-variants.{Sum}
 use Rattle.branch.specs.Lower.{larger, largest}
 use Rattle.lane_rows.specs.Layout.{laneCount, inf, suffixBase, reachBase, lanesIn}
 use Rattle.lane_rows.specs.Tables.{Coded, Tables}

@@ -1,7 +1,7 @@
 -- The first node: nothing is decided, so its part sums and its term are those without holders, and what the walk is given of it.
 use Prim.Native.Nat.{ℕ, zero, suc, _-_, _*_, _≤_, min}
 use mathlib.Core.Path.{_≡_, refl, sym, ap, ap₂, _∙_}
-use mathlib.Core.Bool.{Bool, true, false, false≢true}
+use mathlib.Core.Bool.{Bool, false, false≢true}
 use mathlib.Core.List.{List, [], _∷_, map}
 use native.Mathlib.Omega.{arith}
 use borrow.Author.Tests.{le-ltb}

@@ -6,7 +6,6 @@ use mathlib.Core.List.{List, [], _∷_, _++_}
 use native.Mathlib.Omega.{arith}
 use lib.Bits.{bitOr}
 use lib.ListN.{length, getD, length-append}
-use Rattle.branch.specs.declared.Bound.{Bound}
 use Rattle.branch.specs.declared.Bound.the-variants.{Sum}
 use Rattle.branch.specs.Lower.{add}
 use Rattle.branch.specs.Search.{snoc, Limited, limited, onward}

@@ -9,7 +9,7 @@ use jobs::Job;
 use jobs::Plan;
 ghost use mathlib.Core.Path.{_≡_};
 ghost use mathlib.Core.Bool.{false};
-ghost use Prim.Native.Nat.{ℕ, _≤_, _<_};
+ghost use Prim.Native.Nat.{_≤_, _<_};
 ghost use lib.ListN.{length, getD, take};
 ghost use Rattle.model.specs.Limits.{mostOpenings, mostParts};
 ghost use Rattle.model.specs.Model as model;

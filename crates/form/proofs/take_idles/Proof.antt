@@ -40,17 +40,8 @@ returns c =
 check-idle-count-requires : tie.Need-check-idle-count-requires
 check-idle-count-requires c κs = search needs
 
-enum-told : tie.Need-enum-told
-enum-told c = search needs
-
 take-steps-requires : tie.Need-take-steps-requires
 take-steps-requires c κs = (c .before .before .check-idle-count .ensures .1 (c .enum-told .given .1), omega arith)
-
-enum-known-k : tie.Need-enum-known-k
-enum-known-k c = search needs
-
-no-steps-requires-2 : tie.Need-no-steps-requires-2
-no-steps-requires-2 c κs = search needs
 
 returns-2 : tie.Need-returns-2
 returns-2 c =
@@ -82,13 +73,5 @@ returns-3 c =
 pub take-idles-spec : {M : Type 1} → statement M
 take-idles-spec =
     tie.close
-    (tie.spec
-    no-steps-requires
-    returns
-    check-idle-count-requires
-    enum-told
-    take-steps-requires
-    enum-known-k
-    no-steps-requires-2
-    returns-2
-    returns-3)
+    (tie.spec no-steps-requires returns check-idle-count-requires (λ c. search needs) take-steps-requires
+    (λ c. search needs) (λ c κs. search needs) returns-2 returns-3)

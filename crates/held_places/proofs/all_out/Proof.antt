@@ -19,9 +19,6 @@ abbrev μ-loop : tie.MeasureT-loop
 loop-holds : tie.Need-loop-holds Inv-loop μ-loop
 loop-holds c = (omega arith, refl)
 
-shared-slice-read-free : tie.Need-shared-slice-read-free Inv-loop μ-loop
-shared-slice-read-free c = search needs
-
 free-requires : tie.Need-free-requires Inv-loop μ-loop
 free-requires c κs = search needs
 
@@ -31,12 +28,6 @@ returns c =
     let l = c .before .before .before .before .loop in
     let a = c .before .before .before .before .before .before .before .args in
     covered-not (a .needs .now) (a .removed .now) (l .b) (c .before .before .before .loop-test .taken) (sym (f .free .ensures) ∙ not-true (f .free .result) (c .if1 .taken)) (l .inv .1)
-
-add-b : tie.Need-add-b Inv-loop μ-loop
-add-b c = search needs
-
-loop-less : tie.Need-loop-less Inv-loop μ-loop
-loop-less c = search needs
 
 loop-again : tie.Need-loop-again Inv-loop μ-loop
 loop-again c =
@@ -52,4 +43,4 @@ returns-2 c =
     covered-end (a .needs .now) (a .removed .now) (l .b) (c .loop-test .left) (l .inv .1)
 
 pub all-out-spec : {M : Type 1} → statement M
-all-out-spec = tie.close (tie.spec Inv-loop μ-loop loop-holds shared-slice-read-free free-requires returns add-b loop-less loop-again returns-2)
+all-out-spec = tie.close (tie.spec Inv-loop μ-loop loop-holds (λ c. search needs) free-requires returns (λ c. search needs) (λ c. search needs) loop-again returns-2)

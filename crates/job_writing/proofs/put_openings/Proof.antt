@@ -35,9 +35,6 @@ long s = openings-long (s .args .t3) (s .pre .0) (s .good .1 .1 .0)
 loop-holds : tie.Need-loop-holds Inv-loop μ-loop
 loop-holds c = (omega arith, none)
 
-mul-o : tie.Need-mul-o Inv-loop μ-loop
-mul-o c = search needs
-
 element-copy-out-o : tie.Need-element-copy-out-o Inv-loop μ-loop
 element-copy-out-o c = omega (arith, c .before .before .before .pre .0, c .loop-test .taken)
 
@@ -71,15 +68,5 @@ returns c =
 pub put-openings-spec : {M : Type 1} → statement M
 put-openings-spec =
     tie.close
-    (tie.spec
-    Inv-loop
-    μ-loop
-    loop-holds
-    mul-o
-    element-copy-out-o
-    put-opening-requires
-    add-i
-    loop-less
-    loop-again
-    same-length
-    returns)
+    (tie.spec Inv-loop μ-loop loop-holds (λ c. search needs) element-copy-out-o put-opening-requires add-i loop-less
+    loop-again same-length returns)

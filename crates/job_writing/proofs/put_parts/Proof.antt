@@ -54,9 +54,6 @@ loop-holds c = (omega arith, none)
 array-read-there : tie.Need-array-read-there Inv-loop μ-loop
 array-read-there c = omega (arith, c .before .before .before .pre .0, marks (c .before .before .before), c .loop-test .taken)
 
-mul-part : tie.Need-mul-part Inv-loop μ-loop
-mul-part c = search needs
-
 element-copy-out-part : tie.Need-element-copy-out-part Inv-loop μ-loop
 element-copy-out-part c = omega (arith, c .before .before .before .pre .0, c .loop-test .taken)
 
@@ -96,16 +93,5 @@ returns c =
 pub put-parts-spec : {M : Type 1} → statement M
 put-parts-spec =
     tie.close
-    (tie.spec
-    Inv-loop
-    μ-loop
-    loop-holds
-    array-read-there
-    mul-part
-    element-copy-out-part
-    put-part-requires
-    add-k
-    loop-less
-    loop-again
-    same-length
-    returns)
+    (tie.spec Inv-loop μ-loop loop-holds array-read-there (λ c. search needs) element-copy-out-part put-part-requires
+    add-k loop-less loop-again same-length returns)

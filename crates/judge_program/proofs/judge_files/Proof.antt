@@ -9,41 +9,14 @@ use Rattle.judge_program.proofs.Cut.{same}
 use Rattle.judge_program.proofs.judge_files.Statement.{statement}
 use Rattle.judge_program.proofs.judge_files.Tie as tie
 
-slice-aggregate-read-file : tie.Need-slice-aggregate-read-file
-slice-aggregate-read-file c = search needs
-
 read-file-requires : tie.Need-read-file-requires
 read-file-requires c κs = search needs
-
-slice-aggregate-read-file-2 : tie.Need-slice-aggregate-read-file-2
-slice-aggregate-read-file-2 c = search needs
 
 read-file-requires-2 : tie.Need-read-file-requires-2
 read-file-requires-2 c κs = search needs
 
-array-share-prefix-job : tie.Need-array-share-prefix-job
-array-share-prefix-job c = search needs
-
-slice-aggregate-judge : tie.Need-slice-aggregate-judge
-slice-aggregate-judge c = search needs
-
-array-share-prefix-plan : tie.Need-array-share-prefix-plan
-array-share-prefix-plan c = search needs
-
-slice-aggregate-judge-2 : tie.Need-slice-aggregate-judge-2
-slice-aggregate-judge-2 c = search needs
-
-slice-aggregate-judge-3 : tie.Need-slice-aggregate-judge-3
-slice-aggregate-judge-3 c = search needs
-
 judge-requires : tie.Need-judge-requires
 judge-requires c κs = search needs
-
-array-share-prefix-out : tie.Need-array-share-prefix-out
-array-share-prefix-out c = search needs
-
-slice-aggregate-write-all : tie.Need-slice-aggregate-write-all
-slice-aggregate-write-all c = search needs
 
 write-all-requires : tie.Need-write-all-requires
 write-all-requires c κs = search needs
@@ -61,18 +34,6 @@ returns c = record {
 pub judge-files-spec : {M : Type 1} → statement M
 judge-files-spec =
     tie.close
-    (tie.spec
-    slice-aggregate-read-file
-    read-file-requires
-    slice-aggregate-read-file-2
-    read-file-requires-2
-    array-share-prefix-job
-    slice-aggregate-judge
-    array-share-prefix-plan
-    slice-aggregate-judge-2
-    slice-aggregate-judge-3
-    judge-requires
-    array-share-prefix-out
-    slice-aggregate-write-all
-    write-all-requires
-    returns)
+    (tie.spec (λ c. search needs) read-file-requires (λ c. search needs) read-file-requires-2 (λ c. search needs)
+    (λ c. search needs) (λ c. search needs) (λ c. search needs) (λ c. search needs) judge-requires
+    (λ c. search needs) (λ c. search needs) write-all-requires returns)

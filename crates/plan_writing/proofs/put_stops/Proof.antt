@@ -72,13 +72,4 @@ returns c =
 pub put-stops-spec : {M : Type 1} → statement M
 put-stops-spec =
     tie.close
-    (tie.spec
-    Inv-loop
-    μ-loop
-    loop-holds
-    put-stop-requires
-    add-i
-    loop-less
-    loop-again
-    same-length
-    returns)
+    (tie.spec Inv-loop μ-loop loop-holds put-stop-requires add-i loop-less loop-again same-length returns)

@@ -12,7 +12,6 @@ use lib.Bits.{bitOr}
 use lib.ListN.{length, getD, set}
 use lib.Seq.{getD-set-same, getD-set-other}
 use Rattle.branch.specs.Search.{Limited, limited, onward}
-use Rattle.branch.specs.declared.Bound.{Bound}
 use Rattle.branch.specs.declared.Bound.the-variants.{Sum}
 use Rattle.branch.proofs.Bounds.{sum-inj}
 use Rattle.model.specs.Decisions.{joined}

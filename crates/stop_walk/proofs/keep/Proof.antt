@@ -19,39 +19,12 @@ abbrev μ-loop : tie.MeasureT-loop
 loop-holds : tie.Need-loop-holds Inv-loop μ-loop
 loop-holds c = (omega arith, filled-none)
 
-add-v : tie.Need-add-v Inv-loop μ-loop
-add-v c = search needs
-
-mul-v : tie.Need-mul-v Inv-loop μ-loop
-mul-v c = search needs
-
-slice-read-v : tie.Need-slice-read-v Inv-loop μ-loop
-slice-read-v c = search needs
-
-add-v-2 : tie.Need-add-v-2 Inv-loop μ-loop
-add-v-2 c = search needs
-
-mul-v-2 : tie.Need-mul-v-2 Inv-loop μ-loop
-mul-v-2 c = search needs
-
-slice-write-v : tie.Need-slice-write-v Inv-loop μ-loop
-slice-write-v c = search needs
-
-add-i : tie.Need-add-i Inv-loop μ-loop
-add-i c = search needs
-
-loop-less : tie.Need-loop-less Inv-loop μ-loop
-loop-less c = search needs
-
 loop-again : tie.Need-loop-again Inv-loop μ-loop
 loop-again c =
     let l = c .before .before .loop in
     let s = c .before .before .before in
     let t = c .before .loop-test .taken in
     (omega arith, filled-more _ (omega (arith, s .pre)) (λ q h z. omega (arith, z)) (l .inv .1 .rest (removedPlace (l .i)) (λ y h z. omega (arith, z, t))) (l .inv .1))
-
-same-length : tie.Need-same-length Inv-loop μ-loop
-same-length c = search needs
 
 returns : tie.Need-returns Inv-loop μ-loop
 returns c =
@@ -61,4 +34,4 @@ returns c =
     subst (λ (n : ℕ). FilledBy bestPlace (λ (k : ℕ). getD v (removedPlace k) 0) n v (l .v)) z (l .inv .1)
 
 pub keep-spec : {M : Type 1} → statement M
-keep-spec = tie.close (tie.spec Inv-loop μ-loop loop-holds add-v mul-v slice-read-v add-v-2 mul-v-2 slice-write-v add-i loop-less loop-again same-length returns)
+keep-spec = tie.close (tie.spec Inv-loop μ-loop loop-holds (λ c. search needs) (λ c. search needs) (λ c. search needs) (λ c. search needs) (λ c. search needs) (λ c. search needs) (λ c. search needs) (λ c. search needs) loop-again (λ c. search needs) returns)

@@ -29,12 +29,6 @@ due c = c .before .before .tested .ensures .1 (c .due .given .0 .0) (c .due .giv
 tested-requires : tie.Need-tested-requires
 tested-requires c κs = search needs
 
-enum-known-due : tie.Need-enum-known-due
-enum-known-due c = search needs
-
-enum-told : tie.Need-enum-told
-enum-told c = search needs
-
 returns : tie.Need-returns
 returns c =
     let s = c .before .before .before in
@@ -60,4 +54,4 @@ returns-2 c =
     (c .«open» .ensures ∙ (λ i. openS (a .limit) (e .0 i) (Sum (c .before .look-by-fours .ensures .sum i)) (a .s)) ∙ ap (λ (b : Bound). openS (a .limit) (a .spent + a .h) b (a .s)) (sym (where-some (a .h) (sum s) (e .1))), c .before .look-by-fours .ensures .recalled)
 
 pub no-sums-spec : {M : Type 1} → statement M
-no-sums-spec = tie.close (tie.spec tested-requires enum-known-due enum-told returns look-by-fours-requires open-requires returns-2)
+no-sums-spec = tie.close (tie.spec tested-requires (λ c. search needs) (λ c. search needs) returns look-by-fours-requires open-requires returns-2)

@@ -31,12 +31,6 @@ due c = c .before .before .tested .ensures .1 (c .due .given .0 .0) (c .due .giv
 tested-requires : tie.Need-tested-requires
 tested-requires c κs = search needs
 
-enum-known-due : tie.Need-enum-known-due
-enum-known-due c = search needs
-
-enum-told : tie.Need-enum-told
-enum-told c = search needs
-
 returns : tie.Need-returns
 returns c =
     let s = c .before .before .before in
@@ -62,4 +56,4 @@ returns-2 c =
     (c .«open» .ensures ∙ (λ i. openS (a .limit) (e .0 i) (Sum (c .before .shut-sum .ensures .0 i)) (a .s)) ∙ ap (λ (b : Bound). openS (a .limit) (a .spent + a .h) b (a .s)) (sym (where-some (a .h) (sum s) (e .1))), c .before .shut-sum .ensures .1)
 
 pub stay-sums-spec : {M : Type 1} → statement M
-stay-sums-spec = tie.close (tie.spec tested-requires enum-known-due enum-told returns shut-sum-requires open-requires returns-2)
+stay-sums-spec = tie.close (tie.spec tested-requires (λ c. search needs) (λ c. search needs) returns shut-sum-requires open-requires returns-2)

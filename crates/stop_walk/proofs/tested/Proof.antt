@@ -20,12 +20,6 @@ there c = value-sum (c .before .before .before .args .h) (c .g .given .0 .0) (sy
 value-requires : tie.Need-value-requires
 value-requires c κs = search needs
 
-enum-known-g : tie.Need-enum-known-g
-enum-known-g c = search needs
-
-enum-told : tie.Need-enum-told
-enum-told c = search needs
-
 returns : tie.Need-returns
 returns c =
     let a = c .before .before .before .args in
@@ -40,12 +34,6 @@ open-requires c κs = λ y f.
     let s = c .before .before .before .before in
     let z = sum-inj (Sum (s .args .x)) (s .args .x) y refl f in
     omega (arith, z, there (c .before), s .pre)
-
-enum-told-2 : tie.Need-enum-told-2
-enum-told-2 c = search needs
-
-enum-told-3 : tie.Need-enum-told-3
-enum-told-3 c = search needs
 
 returns-2 : tie.Need-returns-2
 returns-2 c =
@@ -71,4 +59,4 @@ returns-3 c =
     (λ f. absurd (no-sum (Sum n) n f refl), λ d f. (omega (arith, sum-inj (Sum n) n d refl f, e), omega (arith, e)))
 
 pub tested-spec : {M : Type 1} → statement M
-tested-spec = tie.close (tie.spec value-requires enum-known-g enum-told returns add-open open-requires enum-told-2 enum-told-3 returns-2 add-t8 returns-3)
+tested-spec = tie.close (tie.spec value-requires (λ c. search needs) (λ c. search needs) returns add-open open-requires (λ c. search needs) (λ c. search needs) returns-2 add-t8 returns-3)

@@ -21,12 +21,6 @@ abbrev μ-loop : tie.MeasureT-loop
 loop-holds : tie.Need-loop-holds Inv-loop μ-loop
 loop-holds c = (omega arith, refl)
 
-mul-if1 : tie.Need-mul-if1 Inv-loop μ-loop
-mul-if1 c = search needs
-
-shared-slice-read-if1 : tie.Need-shared-slice-read-if1 Inv-loop μ-loop
-shared-slice-read-if1 c = omega arith
-
 -- the mark at hand, and the rest
 front : (c : tie.In-loop Inv-loop μ-loop) → let l = c .before .loop in let cs = c .before .before .args .covered .now in allMarks cs ≡ (leb (getD cs (l .i) 0) 1 && allMarks (drop (l .i + 1) cs))
 front c = c .before .loop .inv .1 ∙ ap allMarks (drop-step (c .before .before .args .covered .now) (c .before .loop .i) (c .loop-test .taken))
@@ -36,12 +30,6 @@ returns c =
     let l = c .before .before .before .loop in
     let cs = c .before .before .before .before .args .covered .now in
     sym (front (c .before .before) ∙ ap (λ (b : Bool). b && allMarks (drop (l .i + 1) cs)) (lt-leb (getD cs (l .i) 0) 1 (c .if1 .taken)))
-
-add-i : tie.Need-add-i Inv-loop μ-loop
-add-i c = search needs
-
-loop-less : tie.Need-loop-less Inv-loop μ-loop
-loop-less c = omega arith
 
 loop-again : tie.Need-loop-again Inv-loop μ-loop
 loop-again c =
@@ -55,14 +43,5 @@ returns-2 c = sym (c .before .loop .inv .1 ∙ ap allMarks (drop-of-length-le (c
 pub are-marks-spec : {M : Type 1} → statement M
 are-marks-spec =
     tie.close
-    (tie.spec
-    Inv-loop
-    μ-loop
-    loop-holds
-    mul-if1
-    shared-slice-read-if1
-    returns
-    add-i
-    loop-less
-    loop-again
-    returns-2)
+    (tie.spec Inv-loop μ-loop loop-holds (λ c. search needs) (λ c. omega arith) returns (λ c. search needs)
+    (λ c. omega arith) loop-again returns-2)

@@ -69,12 +69,4 @@ returns-5 c =
 pub covers-agree-spec : {M : Type 1} → statement M
 covers-agree-spec =
     tie.close
-    (tie.spec
-    returns
-    are-marks-requires
-    returns-2
-    sum-requires
-    returns-3
-    returns-4
-    sum-requires-2
-    returns-5)
+    (tie.spec returns are-marks-requires returns-2 sum-requires returns-3 returns-4 sum-requires-2 returns-5)

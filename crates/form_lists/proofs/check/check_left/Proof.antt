@@ -11,17 +11,11 @@ use Rattle.form_lists.proofs.check.check_left.Tie as tie
 check-value-requires : tie.Need-check-value-requires
 check-value-requires c κs = search needs
 
-enum-told : tie.Need-enum-told
-enum-told c = search needs
-
 returns : tie.Need-returns
 unfolding found
 returns c =
     let a = c .before .before .before .before .args in
     λ key s. checked-not 5 (upTo (a .life)) _ _ _ (passed (a .v) s (a .at + 1) (c .before .before .before .check-value .ensures key s) (c .before .enum-told .given .1)) (upTo-not (a .life) (a .v) (c .if1 .taken))
-
-enum-known-k : tie.Need-enum-known-k
-enum-known-k c = search needs
 
 returns-2 : tie.Need-returns-2
 unfolding found
@@ -38,10 +32,4 @@ returns-3 c =
 pub check-left-spec : {M : Type 1} → statement M
 check-left-spec =
     tie.close
-    (tie.spec
-    check-value-requires
-    enum-told
-    returns
-    enum-known-k
-    returns-2
-    returns-3)
+    (tie.spec check-value-requires (λ c. search needs) returns (λ c. search needs) returns-2 returns-3)

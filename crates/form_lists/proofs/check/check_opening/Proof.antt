@@ -23,17 +23,8 @@ lines h before step fee s l = ap (λ (r : List ℕ). opening h before r l) (appe
 check-rising-requires : tie.Need-check-rising-requires
 check-rising-requires c κs = search needs
 
-enum-told : tie.Need-enum-told
-enum-told c = search needs
-
-add-check-value : tie.Need-add-check-value
-add-check-value c = search needs
-
 check-value-requires : tie.Need-check-value-requires
 check-value-requires c κs = search needs
-
-enum-known-k : tie.Need-enum-known-k
-enum-known-k c = search needs
 
 returns : tie.Need-returns
 unfolding opening
@@ -55,11 +46,5 @@ returns-2 c =
 pub check-opening-spec : {M : Type 1} → statement M
 check-opening-spec =
     tie.close
-    (tie.spec
-    check-rising-requires
-    enum-told
-    add-check-value
-    check-value-requires
-    enum-known-k
-    returns
-    returns-2)
+    (tie.spec check-rising-requires (λ c. search needs) (λ c. search needs) check-value-requires (λ c. search needs)
+    returns returns-2)

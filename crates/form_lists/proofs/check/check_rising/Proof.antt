@@ -11,9 +11,6 @@ use Rattle.form_lists.proofs.check.check_rising.Tie as tie
 check-value-requires : tie.Need-check-value-requires
 check-value-requires c κs = search needs
 
-enum-told : tie.Need-enum-told
-enum-told c = search needs
-
 returns : tie.Need-returns
 unfolding found
 returns c =
@@ -25,9 +22,6 @@ unfolding found
 returns-2 c =
     let a = c .before .before .before .before .before .args in
     λ key s. checked-not (a .k) (rising (a .before) (a .most)) _ _ _ (passed (a .v) s (a .at + 1) (c .before .before .before .before .check-value .ensures key s) (c .before .before .enum-told .given .1)) (rising-high (a .before) (a .most) (a .v) (c .before .if1 .left) (c .if2 .taken))
-
-enum-known-j : tie.Need-enum-known-j
-enum-known-j c = search needs
 
 returns-3 : tie.Need-returns-3
 unfolding found
@@ -44,11 +38,4 @@ returns-4 c =
 pub check-rising-spec : {M : Type 1} → statement M
 check-rising-spec =
     tie.close
-    (tie.spec
-    check-value-requires
-    enum-told
-    returns
-    returns-2
-    enum-known-j
-    returns-3
-    returns-4)
+    (tie.spec check-value-requires (λ c. search needs) returns returns-2 (λ c. search needs) returns-3 returns-4)

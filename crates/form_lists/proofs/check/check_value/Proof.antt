@@ -24,7 +24,4 @@ returns-3 c = λ key s. value-in key _ _ _ (few (c .before .before)) s _ (c .bef
 pub check-value-spec : {M : Type 1} → statement M
 check-value-spec =
     tie.close
-    (tie.spec
-    returns
-    returns-2
-    returns-3)
+    (tie.spec returns returns-2 returns-3)

@@ -9,15 +9,9 @@ use borrow.Author.Needs.{needs}
 use Rattle.form_lists.proofs.counts.check_idle_count.Statement.{statement}
 use Rattle.form_lists.proofs.counts.check_idle_count.Tie as tie
 
-cast-if1 : tie.Need-cast-if1
-cast-if1 c = search needs
-
 returns : tie.Need-returns
 unfolding found
 returns c = (λ s. count-out _ 1 365 (omega arith) true (c .before .args .n) s _ (λ low high e. omega (arith, c .if1 .taken)), not-good)
-
-cast-if2 : tie.Need-cast-if2
-cast-if2 c = search needs
 
 returns-2 : tie.Need-returns-2
 unfolding found
@@ -30,9 +24,4 @@ returns-3 c = (λ s. count-in _ 1 365 (omega arith) true (c .before .before .arg
 pub check-idle-count-spec : {M : Type 1} → statement M
 check-idle-count-spec =
     tie.close
-    (tie.spec
-    cast-if1
-    returns
-    cast-if2
-    returns-2
-    returns-3)
+    (tie.spec (λ c. search needs) returns (λ c. search needs) returns-2 returns-3)

@@ -10,9 +10,6 @@ use borrow.Author.Needs.{needs}
 use Rattle.form_lists.proofs.counts.check_opening_count.Statement.{statement}
 use Rattle.form_lists.proofs.counts.check_opening_count.Tie as tie
 
-cast-if1 : tie.Need-cast-if1
-cast-if1 c = search needs
-
 returns : tie.Need-returns
 unfolding found
 returns c =
@@ -35,8 +32,4 @@ returns-3 c =
 pub check-opening-count-spec : {M : Type 1} → statement M
 check-opening-count-spec =
     tie.close
-    (tie.spec
-    cast-if1
-    returns
-    returns-2
-    returns-3)
+    (tie.spec (λ c. search needs) returns returns-2 returns-3)

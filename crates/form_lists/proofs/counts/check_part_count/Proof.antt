@@ -15,15 +15,9 @@ use Rattle.form_lists.proofs.counts.check_part_count.Tie as tie
 abbrev agree : tie.Start → Bool
 agree s = let a = s .args in sizesAgree (a .m) (a .lefts) (a .prices) (a .n) && coversAgree (a .m) (a .covered .now) (a .removals) (a .insides .now) (a .holders)
 
-cast-if1 : tie.Need-cast-if1
-cast-if1 c = search needs
-
 returns : tie.Need-returns
 unfolding found
 returns c = let s = c .before .before .before in (λ t. count-out _ 1 16 (omega arith) (agree s) (s .args .m) t _ (λ low high e. omega (arith, c .if1 .taken)), not-good)
-
-cast-if2 : tie.Need-cast-if2
-cast-if2 c = search needs
 
 returns-2 : tie.Need-returns-2
 unfolding found
@@ -49,4 +43,4 @@ returns-4 c =
 pub check-part-count-spec : {M : Type 1} → statement M
 check-part-count-spec =
     tie.close
-    (tie.spec cast-if1 returns cast-if2 returns-2 parts-agree-requires returns-3 returns-4)
+    (tie.spec (λ c. search needs) returns (λ c. search needs) returns-2 parts-agree-requires returns-3 returns-4)

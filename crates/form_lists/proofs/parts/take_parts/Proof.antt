@@ -40,9 +40,6 @@ loop-holds c =
 take-next-requires : tie.Need-take-next-requires Inv-loop μ-loop
 take-next-requires c κs = let l = c .before .loop in let s = c .before .before .before .before .before .before .before .before .before .before .before in (l .inv .standing, (c .loop-test .taken, s .pre .1 .0, s .pre .1 .1, omega (arith, l .inv .line, s .pre .1, c .loop-test .taken)))
 
-enum-told : tie.Need-enum-told Inv-loop μ-loop
-enum-told c = search needs
-
 mul-taken : tie.Need-mul-taken Inv-loop μ-loop
 mul-taken c = omega (arith, c .before .before .before .before .loop-test .taken, c .before .before .before .before .before .before .before .before .before .before .before .before .before .before .before .pre .1)
 
@@ -67,9 +64,6 @@ loop-again c =
     taking-more (a .n) (a .at) (lists (c .before .before .before .before .before .before .before .before .before .before .before .before .before .before .before .before)) (l .marks) (l .taken) (l .p) (l .k) (l .inv) (c .before .before .before .before .before .loop-test .taken) (r .result .place) (r .result .there) (r .result .part) (r .ensures .1)
     (λ s h. passed part s (r .result .place .line) (r .ensures .0 s h) (c .before .before .enum-told .given .1)) (c .before .before .before .before .before .before .before .before .before .before .before .before .before .before .before .before .pre .1 .0)
 
-enum-known-check : tie.Need-enum-known-check Inv-loop μ-loop
-enum-known-check c = search needs
-
 returns : tie.Need-returns Inv-loop μ-loop
 unfolding found
 returns c =
@@ -92,20 +86,6 @@ returns-2 c =
 pub take-parts-spec : {M : Type 1} → statement M
 take-parts-spec =
     tie.close
-    (tie.spec
-    Inv-loop
-    μ-loop
-    blank-part-requires
-    first-place-requires
-    loop-holds
-    take-next-requires
-    enum-told
-    mul-taken
-    array-set-from-taken
-    array-write-marks
-    add-k
-    loop-less
-    loop-again
-    enum-known-check
-    returns
-    returns-2)
+    (tie.spec Inv-loop μ-loop blank-part-requires first-place-requires loop-holds take-next-requires
+    (λ c. search needs) mul-taken array-set-from-taken array-write-marks add-k loop-less loop-again
+    (λ c. search needs) returns returns-2)

@@ -13,17 +13,11 @@ use Rattle.form_lists.proofs.removal.check_holder.Tie as tie
 check-rising-requires : tie.Need-check-rising-requires
 check-rising-requires c κs = search needs
 
-enum-told : tie.Need-enum-told
-enum-told c = search needs
-
 returns : tie.Need-returns
 unfolding holder found
 returns c =
     let a = c .before .before .before .before .args in
     λ s. checked-not 12 (other (a .k)) _ _ _ (passed (a .v) s (a .at + 1) (c .before .before .before .check-rising .ensures (bytes "holder=") s) (c .before .enum-told .given .1)) (simp (eq-eqb (a .v) (a .k) (c .if1 .taken)))
-
-enum-known-j : tie.Need-enum-known-j
-enum-known-j c = search needs
 
 returns-2 : tie.Need-returns-2
 unfolding holder found
@@ -39,4 +33,4 @@ returns-3 c =
 
 pub check-holder-spec : {M : Type 1} → statement M
 check-holder-spec =
-    tie.close (tie.spec check-rising-requires enum-told returns enum-known-j returns-2 returns-3)
+    tie.close (tie.spec check-rising-requires (λ c. search needs) returns (λ c. search needs) returns-2 returns-3)

@@ -44,20 +44,8 @@ returns c =
 check-value-requires : tie.Need-check-value-requires
 check-value-requires c κs = search needs
 
-enum-told : tie.Need-enum-told
-enum-told c = search needs
-
-add-take-inside : tie.Need-add-take-inside
-add-take-inside c = search needs
-
 take-inside-requires : tie.Need-take-inside-requires
 take-inside-requires c κs = search needs
-
-enum-known-j : tie.Need-enum-known-j
-enum-known-j c = search needs
-
-no-cover-requires-2 : tie.Need-no-cover-requires-2
-no-cover-requires-2 c κs = search needs
 
 returns-2 : tie.Need-returns-2
 unfolding linesOf
@@ -91,14 +79,5 @@ returns-3 c =
 pub take-cover-spec : {M : Type 1} → statement M
 take-cover-spec =
     tie.close
-    (tie.spec
-    no-cover-requires
-    returns
-    check-value-requires
-    enum-told
-    add-take-inside
-    take-inside-requires
-    enum-known-j
-    no-cover-requires-2
-    returns-2
-    returns-3)
+    (tie.spec no-cover-requires returns check-value-requires (λ c. search needs) (λ c. search needs)
+    take-inside-requires (λ c. search needs) (λ c κs. search needs) returns-2 returns-3)

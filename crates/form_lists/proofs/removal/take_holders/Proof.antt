@@ -40,17 +40,8 @@ loop-holds c =
     let a = c .before .args in
     record { few = omega arith; size = refl; bare = λ j h. blank j; line-is = omega arith; going = going-start (holder (a .m) (a .k)) itself (lineOf "holder=") (a .holders .now) (length (a .holders .now)) 0 (a .at) }
 
-mul-v : tie.Need-mul-v Inv-loop μ-loop
-mul-v c = search needs
-
-shared-slice-read-v : tie.Need-shared-slice-read-v Inv-loop μ-loop
-shared-slice-read-v c = omega arith
-
 check-holder-requires : tie.Need-check-holder-requires Inv-loop μ-loop
 check-holder-requires c κs = search needs
-
-enum-told : tie.Need-enum-told Inv-loop μ-loop
-enum-told c = search needs
 
 -- what is known of a holder that passed
 known : (c : tie.After-enum-told Inv-loop μ-loop) → let a = c .before .before .before .before .before .before .before .args in let l = c .before .before .before .before .before .loop in
@@ -98,9 +89,6 @@ loop-again c =
           (numbers-more (l .marks) v (w .0 .low) (omega (arith, w .0 .high, i .size)) (λ j h. i .bare j (omega (arith, w .0 .after))));
     }
 
-enum-known-j : tie.Need-enum-known-j Inv-loop μ-loop
-enum-known-j c = search needs
-
 returns : tie.Need-returns Inv-loop μ-loop
 unfolding holders found
 returns c =
@@ -124,21 +112,6 @@ returns-2 c =
 pub take-holders-spec : {M : Type 1} → statement M
 take-holders-spec =
     tie.close
-    (tie.spec
-    Inv-loop
-    μ-loop
-    loop-holds
-    mul-v
-    shared-slice-read-v
-    check-holder-requires
-    enum-told
-    sub-marks
-    cast-marks
-    array-write-marks
-    add-line
-    add-i
-    loop-less
-    loop-again
-    enum-known-j
-    returns
-    returns-2)
+    (tie.spec Inv-loop μ-loop loop-holds (λ c. search needs) (λ c. omega arith) check-holder-requires
+    (λ c. search needs) sub-marks cast-marks array-write-marks add-line add-i loop-less loop-again
+    (λ c. search needs) returns returns-2)

@@ -18,17 +18,8 @@ use borrow.Author.Needs.{needs}
 use Rattle.form_lists.proofs.removal.take_inside.Statement.{statement}
 use Rattle.form_lists.proofs.removal.take_inside.Tie as tie
 
-cast-n : tie.Need-cast-n
-cast-n c = search needs
-
 check-value-requires : tie.Need-check-value-requires
 check-value-requires c κs = search needs
-
-enum-told : tie.Need-enum-told
-enum-told c = search needs
-
-add-take-holders : tie.Need-add-take-holders
-add-take-holders c = search needs
 
 -- the lines of the holders
 abbrev holderLines : List ℕ → List ℕ → List ℕ
@@ -44,14 +35,8 @@ few c =
 take-holders-requires : tie.Need-take-holders-requires
 take-holders-requires c κs = let s = c .before .before .before .before in (few c, s .pre .1, omega (arith, s .pre .2))
 
-add-t15 : tie.Need-add-t15
-add-t15 c = search needs
-
 add-t16 : tie.Need-add-t16
 add-t16 c = omega (arith, few (c .before .before), c .before .before .before .before .before .before .pre)
-
-enum-known-j : tie.Need-enum-known-j
-enum-known-j c = search needs
 
 no-cover-requires : tie.Need-no-cover-requires
 no-cover-requires c κs = search needs
@@ -85,15 +70,5 @@ returns-2 c =
 pub take-inside-spec : {M : Type 1} → statement M
 take-inside-spec =
     tie.close
-    (tie.spec
-    cast-n
-    check-value-requires
-    enum-told
-    add-take-holders
-    take-holders-requires
-    add-t15
-    add-t16
-    enum-known-j
-    no-cover-requires
-    returns
-    returns-2)
+    (tie.spec (λ c. search needs) check-value-requires (λ c. search needs) (λ c. search needs) take-holders-requires
+    (λ c. search needs) add-t16 (λ c. search needs) no-cover-requires returns returns-2)

@@ -5,9 +5,6 @@ use Rattle.job_text.specs.Grammar.{idle}
 use Rattle.job_text.proofs.idles.read_idle.Statement.{statement}
 use Rattle.job_text.proofs.idles.read_idle.Tie as tie
 
-slice-aggregate-read-rising : tie.Need-slice-aggregate-read-rising
-slice-aggregate-read-rising c = search needs
-
 read-rising-requires : tie.Need-read-rising-requires
 read-rising-requires c κs = search needs
 
@@ -16,4 +13,4 @@ unfolding idle bytes
 returns c = c .read-rising .ensures
 
 pub read-idle-spec : {M : Type 1} → statement M
-read-idle-spec = tie.close (tie.spec slice-aggregate-read-rising read-rising-requires returns)
+read-idle-spec = tie.close (tie.spec (λ c. search needs) read-rising-requires returns)

@@ -31,9 +31,6 @@ sub-read-idle c = c .before .loop .inv .2 .inside
 part-read-idle-start : tie.Need-part-read-idle-start Inv-loop μ-loop
 part-read-idle-start c = c .before .loop .inv .2 .inside
 
-part-read-idle-end : tie.Need-part-read-idle-end Inv-loop μ-loop
-part-read-idle-end c = search needs
-
 read-idle-requires : tie.Need-read-idle-requires Inv-loop μ-loop
 read-idle-requires c κs = search needs
 
@@ -45,20 +42,8 @@ step : (c : tie.After-advance Inv-loop μ-loop) → let l = c .before .before .b
     Reads (a .text .now) (rowAnswer (c .advance .result)) (idle (a .horizon) (l .before) (drop (l .q .at) (a .text .now)) (l .q .line))
 step c = line-reads _ (c .before .before .before .before .loop .q) (c .before .read-idle .ensures) (c .advance .ensures)
 
-enum-known-v : tie.Need-enum-known-v Inv-loop μ-loop
-enum-known-v c = search needs
-
-mul-idles : tie.Need-mul-idles Inv-loop μ-loop
-mul-idles c = search needs
-
 array-write-idles : tie.Need-array-write-idles Inv-loop μ-loop
 array-write-idles c = omega (arith, c .before .before .before .before .before .before .before .before .before .pre .1)
-
-add-i : tie.Need-add-i Inv-loop μ-loop
-add-i c = omega arith
-
-loop-less : tie.Need-loop-less Inv-loop μ-loop
-loop-less c = omega arith
 
 loop-again : tie.Need-loop-again Inv-loop μ-loop
 loop-again c =
@@ -72,9 +57,6 @@ loop-again c =
       v .3 ∙ chain-more _ _ (at .before .before .args .n) (at .loop .i) _ _ _ _ (c .before .before .before .before .before .before .loop-test .taken) (got-value e m)
           (take-more (at .loop .i) (at .loop .idles) _ (omega (arith, at .before .before .pre .1))),
     )
-
-enum-known-k : tie.Need-enum-known-k Inv-loop μ-loop
-enum-known-k c = search needs
 
 returns : tie.Need-returns Inv-loop μ-loop
 unfolding ended
@@ -101,21 +83,6 @@ returns-2 c =
 pub read-idle-steps-spec : {M : Type 1} → statement M
 read-idle-steps-spec =
     tie.close
-    (tie.spec
-    Inv-loop
-    μ-loop
-    loop-holds
-    sub-read-idle
-    part-read-idle-start
-    part-read-idle-end
-    read-idle-requires
-    advance-requires
-    enum-known-v
-    mul-idles
-    array-write-idles
-    add-i
-    loop-less
-    loop-again
-    enum-known-k
-    returns
-    returns-2)
+    (tie.spec Inv-loop μ-loop loop-holds sub-read-idle part-read-idle-start (λ c. search needs) read-idle-requires
+    advance-requires (λ c. search needs) (λ c. search needs) array-write-idles (λ c. omega arith) (λ c. omega arith)
+    loop-again (λ c. search needs) returns returns-2)

@@ -15,23 +15,8 @@ use borrow.Author.Needs.{needs}
 use Rattle.job_text.proofs.idles.read_idles.Statement.{statement}
 use Rattle.job_text.proofs.idles.read_idles.Tie as tie
 
-sub-read-optional : tie.Need-sub-read-optional
-sub-read-optional c = search needs
-
-part-read-optional-start : tie.Need-part-read-optional-start
-part-read-optional-start c = search needs
-
-part-read-optional-end : tie.Need-part-read-optional-end
-part-read-optional-end c = search needs
-
-slice-aggregate-read-optional : tie.Need-slice-aggregate-read-optional
-slice-aggregate-read-optional c = search needs
-
 read-optional-requires : tie.Need-read-optional-requires
 read-optional-requires c κs = search needs
-
-enum-known-field : tie.Need-enum-known-field
-enum-known-field c = search needs
 
 -- where the line is there: the row's field, and the optional line as a row
 found : (c : tie.After-field) → let a = c .before .before .before .before .before .before .args in
@@ -52,29 +37,14 @@ row c =
     let st = c .before .before .before .before .before .before .before .before in
     line-reads _ (st .args .p) (row-line _ 1 365 _ (found (c .before .before) .0)) (c .advance .ensures)
 
-enum-known-n : tie.Need-enum-known-n
-enum-known-n c = search needs
-
-cast-read-idle-steps : tie.Need-cast-read-idle-steps
-cast-read-idle-steps c = search needs
-
 read-idle-steps-requires : tie.Need-read-idle-steps-requires
 read-idle-steps-requires c κs =
     let e = row (c .before .before .before) in
     let m = ap rowAnswer (c .before .n .given .1) in
     (got-place e m, row-gives _ 1 365 _ _ _ _ _ (got-value e m) .1)
 
-enum-known-k : tie.Need-enum-known-k
-enum-known-k c = search needs
-
 no-idles-requires : tie.Need-no-idles-requires
 no-idles-requires c κs = search needs
-
-enum-told : tie.Need-enum-told
-enum-told c = search needs
-
-no-idles-requires-2 : tie.Need-no-idles-requires-2
-no-idles-requires-2 c κs = search needs
 
 returns : tie.Need-returns
 unfolding idles return
@@ -110,21 +80,6 @@ returns-3 c =
 pub read-idles-spec : {M : Type 1} → statement M
 read-idles-spec =
     tie.close
-    (tie.spec
-    sub-read-optional
-    part-read-optional-start
-    part-read-optional-end
-    slice-aggregate-read-optional
-    read-optional-requires
-    enum-known-field
-    advance-requires
-    enum-known-n
-    cast-read-idle-steps
-    read-idle-steps-requires
-    enum-known-k
-    no-idles-requires
-    enum-told
-    no-idles-requires-2
-    returns
-    returns-2
-    returns-3)
+    (tie.spec (λ c. search needs) (λ c. search needs) (λ c. search needs) (λ c. search needs) read-optional-requires
+    (λ c. search needs) advance-requires (λ c. search needs) (λ c. search needs) read-idle-steps-requires
+    (λ c. search needs) no-idles-requires (λ c. search needs) (λ c κs. search needs) returns returns-2 returns-3)

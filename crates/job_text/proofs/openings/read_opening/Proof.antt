@@ -10,18 +10,6 @@ use Rattle.job_text.specs.Grammar.{opening}
 use Rattle.job_text.proofs.openings.read_opening.Statement.{statement}
 use Rattle.job_text.proofs.openings.read_opening.Tie as tie
 
-sub-read-rising : tie.Need-sub-read-rising
-sub-read-rising c = search needs
-
-part-read-rising-start : tie.Need-part-read-rising-start
-part-read-rising-start c = search needs
-
-part-read-rising-end : tie.Need-part-read-rising-end
-part-read-rising-end c = search needs
-
-slice-aggregate-read-rising : tie.Need-slice-aggregate-read-rising
-slice-aggregate-read-rising c = search needs
-
 read-rising-requires : tie.Need-read-rising-requires
 read-rising-requires c κs = search needs
 
@@ -29,9 +17,6 @@ advance-requires : tie.Need-advance-requires
 advance-requires c κs =
     let st = c .before .before .before .before in
     (st .pre, line-inside _ (st .args .p) (c .read-rising .ensures) (st .pre))
-
-enum-known-step : tie.Need-enum-known-step
-enum-known-step c = search needs
 
 -- the step's line, read in the whole text
 step : (c : tie.After-advance) → let a = c .before .before .before .before .before .args in
@@ -48,12 +33,6 @@ sub-read-field c = stood (c .before) .inside
 part-read-field-start : tie.Need-part-read-field-start
 part-read-field-start c = stood (c .before) .inside
 
-part-read-field-end : tie.Need-part-read-field-end
-part-read-field-end c = search needs
-
-slice-aggregate-read-field : tie.Need-slice-aggregate-read-field
-slice-aggregate-read-field c = search needs
-
 read-field-requires : tie.Need-read-field-requires
 read-field-requires c κs = search needs
 
@@ -62,21 +41,12 @@ advance-requires-2 c κs =
     let s = stood (c .before .before .before .before) in
     (s, line-inside _ (c .before .before .before .before .step .given .0 .1 .0) (row-line _ 0 1000000 _ (c .read-field .ensures)) s)
 
-enum-known-fee : tie.Need-enum-known-fee
-enum-known-fee c = search needs
-
 -- the fee's line, read in the whole text
 fee : (c : tie.After-advance2) → let q = c .before .before .before .before .before .step .given .0 .1 .0 in
     let text = c .before .before .before .before .before .before .before .before .before .before .before .before .args .text .now in
     Reads text (rowAnswer (c .advance2 .result)) (row "fee=" 0 1000000 (drop (q .at) text) (q .line))
 unfolding bytes
 fee c = line-reads _ (c .before .before .before .before .before .step .given .0 .1 .0) (row-line _ 0 1000000 _ (c .before .read-field .ensures)) (c .advance2 .ensures)
-
-enum-known-k : tie.Need-enum-known-k
-enum-known-k c = search needs
-
-enum-known-k-2 : tie.Need-enum-known-k-2
-enum-known-k-2 c = search needs
 
 returns : tie.Need-returns
 unfolding opening return
@@ -99,23 +69,7 @@ returns-3 c = record { is = sym (bind-fault _ _ (got-fault (step (c .before .bef
 pub read-opening-spec : {M : Type 1} → statement M
 read-opening-spec =
     tie.close
-    (tie.spec
-    sub-read-rising
-    part-read-rising-start
-    part-read-rising-end
-    slice-aggregate-read-rising
-    read-rising-requires
-    advance-requires
-    enum-known-step
-    sub-read-field
-    part-read-field-start
-    part-read-field-end
-    slice-aggregate-read-field
-    read-field-requires
-    advance-requires-2
-    enum-known-fee
-    enum-known-k
-    enum-known-k-2
-    returns
-    returns-2
-    returns-3)
+    (tie.spec (λ c. search needs) (λ c. search needs) (λ c. search needs) (λ c. search needs) read-rising-requires
+    advance-requires (λ c. search needs) sub-read-field part-read-field-start (λ c. search needs)
+    (λ c. search needs) read-field-requires advance-requires-2 (λ c. search needs) (λ c. search needs)
+    (λ c. search needs) returns returns-2 returns-3)

@@ -33,20 +33,8 @@ loop-holds c = (omega arith, refl, c .before .pre .0, chain-start _ _ _ _ _ _)
 read-opening-requires : tie.Need-read-opening-requires Inv-loop μ-loop
 read-opening-requires c κs = c .before .loop .inv .2
 
-enum-known-o : tie.Need-enum-known-o Inv-loop μ-loop
-enum-known-o c = search needs
-
-mul-openings : tie.Need-mul-openings Inv-loop μ-loop
-mul-openings c = search needs
-
 array-set-from-openings : tie.Need-array-set-from-openings Inv-loop μ-loop
 array-set-from-openings c = omega (arith, c .before .before .before .before .before .before .before .pre .1)
-
-add-i : tie.Need-add-i Inv-loop μ-loop
-add-i c = omega arith
-
-loop-less : tie.Need-loop-less Inv-loop μ-loop
-loop-less c = omega arith
 
 loop-again : tie.Need-loop-again Inv-loop μ-loop
 loop-again c =
@@ -61,9 +49,6 @@ loop-again c =
       v .3 ∙ chain-more _ _ n (at .loop .i) _ _ _ _ (c .before .before .before .before .loop-test .taken) (got-value e m)
           (map-take-more openingOf (at .loop .i) (at .loop .openings) _ (omega (arith, at .before .before .pre .1))),
     )
-
-enum-known-k : tie.Need-enum-known-k Inv-loop μ-loop
-enum-known-k c = search needs
 
 returns : tie.Need-returns Inv-loop μ-loop
 unfolding ended
@@ -90,17 +75,5 @@ returns-2 c =
 pub read-openings-spec : {M : Type 1} → statement M
 read-openings-spec =
     tie.close
-    (tie.spec
-    Inv-loop
-    μ-loop
-    loop-holds
-    read-opening-requires
-    enum-known-o
-    mul-openings
-    array-set-from-openings
-    add-i
-    loop-less
-    loop-again
-    enum-known-k
-    returns
-    returns-2)
+    (tie.spec Inv-loop μ-loop loop-holds read-opening-requires (λ c. search needs) (λ c. search needs)
+    array-set-from-openings (λ c. omega arith) (λ c. omega arith) loop-again (λ c. search needs) returns returns-2)

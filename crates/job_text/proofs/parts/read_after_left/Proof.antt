@@ -1,7 +1,7 @@
 -- `read_after_left`: the lines of removal, where they stand, and the prices behind them; the first fault is the whole's.
 use Prim.Native.Nat.{ℕ}
 use mathlib.Core.List.{List}
-use mathlib.Core.Path.{_≡_, sym, ap, _∙_}
+use mathlib.Core.Path.{_≡_, sym, _∙_}
 use lib.ListN.{take}
 use Rattle.lines.specs.Parser.{times, row}
 use Rattle.lines.specs.Cursor.{Stands}
@@ -15,18 +15,12 @@ use Rattle.job_text.proofs.parts.read_after_left.Tie as tie
 read-cover-requires : tie.Need-read-cover-requires
 read-cover-requires c κs = search needs
 
-enum-known-lines-end : tie.Need-enum-known-lines-end
-enum-known-lines-end c = search needs
-
 -- the lines of removal end in the text
 stood : (c : tie.After-lines-end) → Stands (c .before .before .before .before .args .text .now) (c .lines-end .given .0 .0)
 stood c = end-place _ (c .before .before .read-cover .ensures .reads) (c .lines-end .given .1)
 
 read-prices-requires : tie.Need-read-prices-requires
 read-prices-requires c κs = (stood (c .before), c .before .before .before .before .before .pre .2)
-
-enum-known-lines-end-2 : tie.Need-enum-known-lines-end-2
-enum-known-lines-end-2 c = search needs
 
 no-part-requires : tie.Need-no-part-requires
 no-part-requires c κs = search needs
@@ -63,11 +57,5 @@ returns-2 c =
 pub read-after-left-spec : {M : Type 1} → statement M
 read-after-left-spec =
     tie.close
-    (tie.spec
-    read-cover-requires
-    enum-known-lines-end
-    read-prices-requires
-    enum-known-lines-end-2
-    no-part-requires
-    returns
-    returns-2)
+    (tie.spec read-cover-requires (λ c. search needs) read-prices-requires (λ c. search needs) no-part-requires
+    returns returns-2)

@@ -9,14 +9,8 @@ use Rattle.lines.proofs.Parsing.{row-line, line-ruled, line-broken, line-fault,
 use Rattle.job_text.proofs.parts.read_left.Statement.{statement}
 use Rattle.job_text.proofs.parts.read_left.Tie as tie
 
-slice-aggregate-read-field : tie.Need-slice-aggregate-read-field
-slice-aggregate-read-field c = search needs
-
 read-field-requires : tie.Need-read-field-requires
 read-field-requires c κs = search needs
-
-enum-known-v : tie.Need-enum-known-v
-enum-known-v c = search needs
 
 -- the row that was read
 found : (c : tie.After-v) → let a = c .before .before .before .before .before .args in LineRead (row "left=" 1 1000) (a .s .now) (Value (c .v .given .0 .0) (c .v .given .0 .1 .0))
@@ -25,9 +19,6 @@ found c = row-line _ 1 1000 _ (sym (c .v .given .1) ∙ c .before .before .read-
 
 returns : tie.Need-returns
 returns c = line-broken _ _ _ _ (found (c .before .before)) (upTo-not _ _ (c .if1 .taken))
-
-enum-known-k : tie.Need-enum-known-k
-enum-known-k c = search needs
 
 returns-2 : tie.Need-returns-2
 returns-2 c = line-ruled _ _ _ _ (found (c .before .before)) (upTo-yes _ _ (c .if1 .left))
@@ -39,11 +30,5 @@ returns-3 c = line-fault _ _ _ _ (row-line _ 1 1000 _ (sym (c .before .k .given 
 pub read-left-spec : {M : Type 1} → statement M
 read-left-spec =
     tie.close
-    (tie.spec
-    slice-aggregate-read-field
-    read-field-requires
-    enum-known-v
-    returns
-    enum-known-k
-    returns-2
+    (tie.spec (λ c. search needs) read-field-requires (λ c. search needs) returns (λ c. search needs) returns-2
     returns-3)

@@ -10,18 +10,6 @@ use Rattle.job_text.specs.Grammar.{part}
 use Rattle.job_text.proofs.parts.read_part.Statement.{statement}
 use Rattle.job_text.proofs.parts.read_part.Tie as tie
 
-sub-read-field : tie.Need-sub-read-field
-sub-read-field c = search needs
-
-part-read-field-start : tie.Need-part-read-field-start
-part-read-field-start c = search needs
-
-part-read-field-end : tie.Need-part-read-field-end
-part-read-field-end c = search needs
-
-slice-aggregate-read-field : tie.Need-slice-aggregate-read-field
-slice-aggregate-read-field c = search needs
-
 read-field-requires : tie.Need-read-field-requires
 read-field-requires c κs = search needs
 
@@ -29,9 +17,6 @@ advance-requires : tie.Need-advance-requires
 advance-requires c κs =
     let st = c .before .before .before .before in
     (st .pre .0, line-inside _ (st .args .p) (row-line _ 1 1000 _ (c .read-field .ensures)) (st .pre .0))
-
-enum-known-life : tie.Need-enum-known-life
-enum-known-life c = search needs
 
 -- the life's line, read in the whole text
 life : (c : tie.After-advance) → let a = c .before .before .before .before .before .args in Reads (a .text .now) (rowAnswer (c .advance .result)) (row "life=" 1 1000 (drop (a .p .at) (a .text .now)) (a .p .line))
@@ -47,17 +32,11 @@ sub-read-left c = stood (c .before) .inside
 part-read-left-start : tie.Need-part-read-left-start
 part-read-left-start c = stood (c .before) .inside
 
-part-read-left-end : tie.Need-part-read-left-end
-part-read-left-end c = search needs
-
 read-left-requires : tie.Need-read-left-requires
 read-left-requires c κs = search needs
 
 advance-requires-2 : tie.Need-advance-requires-2
 advance-requires-2 c κs = let s = stood (c .before .before .before) in (s, line-inside _ (c .before .before .before .life .given .0 .1 .0) (c .read-left .ensures) s)
-
-enum-known-left : tie.Need-enum-known-left
-enum-known-left c = search needs
 
 -- the line of what is left, read in the whole text
 left : (c : tie.After-advance2) → let q = c .before .before .before .before .life .given .0 .1 .0 in let text = c .before .before .before .before .before .before .before .before .before .before .before .args .text .now in
@@ -69,17 +48,8 @@ read-after-left-requires c κs =
     let st = c .before .before .before .before .before .before .before .before .before .before .before .before .before .before in
     (got-place (left (c .before .before .before)) (ap rowAnswer (c .before .left .given .1)), st .pre .1, st .pre .2)
 
-enum-known-j : tie.Need-enum-known-j
-enum-known-j c = search needs
-
 no-part-requires : tie.Need-no-part-requires
 no-part-requires c κs = search needs
-
-enum-known-j-2 : tie.Need-enum-known-j-2
-enum-known-j-2 c = search needs
-
-no-part-requires-2 : tie.Need-no-part-requires-2
-no-part-requires-2 c κs = search needs
 
 returns : tie.Need-returns
 unfolding part
@@ -115,25 +85,7 @@ returns-3 c =
 pub read-part-spec : {M : Type 1} → statement M
 read-part-spec =
     tie.close
-    (tie.spec
-    sub-read-field
-    part-read-field-start
-    part-read-field-end
-    slice-aggregate-read-field
-    read-field-requires
-    advance-requires
-    enum-known-life
-    sub-read-left
-    part-read-left-start
-    part-read-left-end
-    read-left-requires
-    advance-requires-2
-    enum-known-left
-    read-after-left-requires
-    enum-known-j
-    no-part-requires
-    enum-known-j-2
-    no-part-requires-2
-    returns
-    returns-2
-    returns-3)
+    (tie.spec (λ c. search needs) (λ c. search needs) (λ c. search needs) (λ c. search needs) read-field-requires
+    advance-requires (λ c. search needs) sub-read-left part-read-left-start (λ c. search needs) read-left-requires
+    advance-requires-2 (λ c. search needs) read-after-left-requires (λ c. search needs) no-part-requires
+    (λ c. search needs) (λ c κs. search needs) returns returns-2 returns-3)

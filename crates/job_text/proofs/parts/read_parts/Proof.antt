@@ -44,23 +44,11 @@ add-read-part c = omega (arith, c .before .before .before .before .pre .1 .0)
 read-part-requires : tie.Need-read-part-requires Inv-loop μ-loop
 read-part-requires c κs = (c .before .loop .inv .3, c .before .before .before .before .pre .1 .0, c .before .before .before .before .pre .1 .1)
 
-enum-known-read-end : tie.Need-enum-known-read-end Inv-loop μ-loop
-enum-known-read-end c = search needs
-
-mul-parts : tie.Need-mul-parts Inv-loop μ-loop
-mul-parts c = search needs
-
 array-set-from-parts : tie.Need-array-set-from-parts Inv-loop μ-loop
 array-set-from-parts c = omega (arith, c .before .before .before .before .before .before .before .before .before .pre .1 .0)
 
 array-write-covered : tie.Need-array-write-covered Inv-loop μ-loop
 array-write-covered c = omega (arith, c .before .before .before .before .before .before .before .before .before .pre .1 .0)
-
-add-i : tie.Need-add-i Inv-loop μ-loop
-add-i c = omega arith
-
-loop-less : tie.Need-loop-less Inv-loop μ-loop
-loop-less c = omega arith
 
 loop-again : tie.Need-loop-again Inv-loop μ-loop
 loop-again c =
@@ -84,9 +72,6 @@ loop-again c =
           ∙ chain-more (part (a .m) (a .n)) following (a .m) i _ (i + 1) _ _ (c .before .before .before .before .before .loop-test .taken) (end-value _ (r .ensures .reads) (e .1)) (lines-more (a .n) i (at .loop .covered) (at .loop .parts) (r .result .there) (r .result .part) marked there)
           ∙ ap (λ (k : ℕ). behind (partsLines (take (i + 1) cs) (map (partOf (a .n)) (take (i + 1) ps))) (chain (part (a .m) (a .n)) following (a .m - (i + 1)) k (drop (e .0 .0 .at) (a .text .now)) (e .0 .0 .line))) (sym (add-one (i + 1))),
     )
-
-enum-known-read-end-2 : tie.Need-enum-known-read-end-2 Inv-loop μ-loop
-enum-known-read-end-2 c = search needs
 
 returns : tie.Need-returns Inv-loop μ-loop
 unfolding ended
@@ -123,22 +108,6 @@ returns-2 c =
 pub read-parts-spec : {M : Type 1} → statement M
 read-parts-spec =
     tie.close
-    (tie.spec
-    Inv-loop
-    μ-loop
-    blank-part-requires
-    loop-holds
-    cast-read-part
-    cast-read-part-2
-    add-read-part
-    read-part-requires
-    enum-known-read-end
-    mul-parts
-    array-set-from-parts
-    array-write-covered
-    add-i
-    loop-less
-    loop-again
-    enum-known-read-end-2
-    returns
-    returns-2)
+    (tie.spec Inv-loop μ-loop blank-part-requires loop-holds cast-read-part cast-read-part-2 add-read-part
+    read-part-requires (λ c. search needs) (λ c. search needs) array-set-from-parts array-write-covered
+    (λ c. omega arith) (λ c. omega arith) loop-again (λ c. search needs) returns returns-2)

@@ -5,9 +5,6 @@ use Rattle.lines.proofs.Parsing.{row-line}
 use Rattle.job_text.proofs.parts.read_price.Statement.{statement}
 use Rattle.job_text.proofs.parts.read_price.Tie as tie
 
-slice-aggregate-read-field : tie.Need-slice-aggregate-read-field
-slice-aggregate-read-field c = search needs
-
 read-field-requires : tie.Need-read-field-requires
 read-field-requires c κs = search needs
 
@@ -16,4 +13,4 @@ unfolding bytes
 returns c = row-line _ 1 1000000 _ (c .read-field .ensures)
 
 pub read-price-spec : {M : Type 1} → statement M
-read-price-spec = tie.close (tie.spec slice-aggregate-read-field read-field-requires returns)
+read-price-spec = tie.close (tie.spec (λ c. search needs) read-field-requires returns)

@@ -30,9 +30,6 @@ sub-read-price c = c .before .loop .inv .2 .inside
 part-read-price-start : tie.Need-part-read-price-start Inv-loop μ-loop
 part-read-price-start c = c .before .loop .inv .2 .inside
 
-part-read-price-end : tie.Need-part-read-price-end Inv-loop μ-loop
-part-read-price-end c = search needs
-
 read-price-requires : tie.Need-read-price-requires Inv-loop μ-loop
 read-price-requires c κs = search needs
 
@@ -44,20 +41,8 @@ price : (c : tie.After-advance Inv-loop μ-loop) → let q = c .before .before .
     Reads text (rowAnswer (c .advance .result)) (row "price=" 1 1000000 (drop (q .at) text) (q .line))
 price c = line-reads _ (c .before .before .before .before .loop .q) (c .before .read-price .ensures) (c .advance .ensures)
 
-enum-known-v : tie.Need-enum-known-v Inv-loop μ-loop
-enum-known-v c = search needs
-
-mul-prices : tie.Need-mul-prices Inv-loop μ-loop
-mul-prices c = search needs
-
 array-write-prices : tie.Need-array-write-prices Inv-loop μ-loop
 array-write-prices c = omega (arith, c .before .before .before .before .before .before .before .before .before .pre .1)
-
-add-i : tie.Need-add-i Inv-loop μ-loop
-add-i c = omega arith
-
-loop-less : tie.Need-loop-less Inv-loop μ-loop
-loop-less c = omega arith
 
 loop-again : tie.Need-loop-again Inv-loop μ-loop
 loop-again c =
@@ -71,9 +56,6 @@ loop-again c =
       v .3 ∙ chain-more _ _ (at .before .before .args .n) (at .loop .i) _ _ _ _ (c .before .before .before .before .before .before .loop-test .taken) (got-value e m)
           (take-more (at .loop .i) (at .loop .prices) _ (omega (arith, at .before .before .pre .1))),
     )
-
-enum-known-k : tie.Need-enum-known-k Inv-loop μ-loop
-enum-known-k c = search needs
 
 returns : tie.Need-returns Inv-loop μ-loop
 unfolding ended
@@ -91,21 +73,6 @@ returns-2 c =
 pub read-prices-spec : {M : Type 1} → statement M
 read-prices-spec =
     tie.close
-    (tie.spec
-    Inv-loop
-    μ-loop
-    loop-holds
-    sub-read-price
-    part-read-price-start
-    part-read-price-end
-    read-price-requires
-    advance-requires
-    enum-known-v
-    mul-prices
-    array-write-prices
-    add-i
-    loop-less
-    loop-again
-    enum-known-k
-    returns
-    returns-2)
+    (tie.spec Inv-loop μ-loop loop-holds sub-read-price part-read-price-start (λ c. search needs) read-price-requires
+    advance-requires (λ c. search needs) (λ c. search needs) array-write-prices (λ c. omega arith)
+    (λ c. omega arith) loop-again (λ c. search needs) returns returns-2)

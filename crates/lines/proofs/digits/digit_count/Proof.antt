@@ -22,21 +22,12 @@ loop-holds c = (omega arith, c .pre, refl)
 power-of-ten-requires : tie.Need-power-of-ten-requires Inv-loop μ-loop
 power-of-ten-requires c κs = search needs
 
-add-result : tie.Need-add-result Inv-loop μ-loop
-add-result c = search needs
-
 returns : tie.Need-returns Inv-loop μ-loop
 returns c =
     let l = c .before .before .before .loop in
     let n = c .before .before .before .before .args .n in
     let lo : 10 ^ l .k ≤ n = omega (arith, c .before .power-of-ten .ensures, c .if1 .taken) in
     (omega arith, rw add-one (l .inv .1), rw add-one (l .inv .2 ∙ decimal-padded (l .k) n lo (l .inv .1)))
-
-sub-k : tie.Need-sub-k Inv-loop μ-loop
-sub-k c = search needs
-
-loop-less : tie.Need-loop-less Inv-loop μ-loop
-loop-less c = search needs
 
 loop-again : tie.Need-loop-again Inv-loop μ-loop
 loop-again c =
@@ -58,14 +49,5 @@ returns-2 c =
 pub digit-count-spec : {M : Type 1} → statement M
 digit-count-spec =
     tie.close
-    (tie.spec
-    Inv-loop
-    μ-loop
-    loop-holds
-    power-of-ten-requires
-    add-result
-    returns
-    sub-k
-    loop-less
-    loop-again
-    returns-2)
+    (tie.spec Inv-loop μ-loop loop-holds power-of-ten-requires (λ c. search needs) returns (λ c. search needs)
+    (λ c. search needs) loop-again returns-2)

@@ -17,12 +17,6 @@ abbrev μ-loop : tie.MeasureT-loop
 loop-holds : tie.Need-loop-holds Inv-loop μ-loop
 loop-holds c = (rw zero-mul (omega arith), omega arith)
 
-add-digit : tie.Need-add-digit Inv-loop μ-loop
-add-digit c = search needs
-
-loop-less : tie.Need-loop-less Inv-loop μ-loop
-loop-less c = omega arith
-
 loop-again : tie.Need-loop-again Inv-loop μ-loop
 loop-again c =
     let l = c .before .loop in
@@ -34,4 +28,4 @@ returns : tie.Need-returns Inv-loop μ-loop
 returns c = (c .before .loop .inv .0, omega arith, c .before .loop .inv .1)
 
 pub digit-of-spec : {M : Type 1} → statement M
-digit-of-spec = tie.close (tie.spec Inv-loop μ-loop loop-holds add-digit loop-less loop-again returns)
+digit-of-spec = tie.close (tie.spec Inv-loop μ-loop loop-holds (λ c. search needs) (λ c. omega arith) loop-again returns)

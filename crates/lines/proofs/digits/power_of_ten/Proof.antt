@@ -6,14 +6,8 @@ use Rattle.lines.proofs.Powers.{powers-at}
 use Rattle.lines.proofs.digits.power_of_ten.Statement.{statement}
 use Rattle.lines.proofs.digits.power_of_ten.Tie as tie
 
-mul-result : tie.Need-mul-result
-mul-result c = search needs
-
-array-read-result : tie.Need-array-read-result
-array-read-result c = search needs
-
 returns : tie.Need-returns
 returns c = powers-at 0 10 (c .args .k) (c .pre) ∙ rw zero-add
 
 pub power-of-ten-spec : {M : Type 1} → statement M
-power-of-ten-spec = tie.close (tie.spec mul-result array-read-result returns)
+power-of-ten-spec = tie.close (tie.spec (λ c. search needs) (λ c. search needs) returns)

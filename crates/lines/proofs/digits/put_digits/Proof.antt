@@ -23,9 +23,6 @@ abbrev μ-loop : tie.MeasureT-loop
 loop-holds : tie.Need-loop-holds Inv-loop μ-loop
 loop-holds c = (c .before .pre .0, c .before .pre .1, refl, refl, refl)
 
-sub-left : tie.Need-sub-left Inv-loop μ-loop
-sub-left c = search needs
-
 power-of-ten-requires : tie.Need-power-of-ten-requires Inv-loop μ-loop
 power-of-ten-requires c κs = search needs
 
@@ -36,19 +33,10 @@ digit-of-requires c κs =
     let h : l .rest < 10 ^ (l .left - 1) * 10 = subst (λ (m : ℕ). l .rest < m) (ap (λ (m : ℕ). 10 ^ m) k ∙ pow-suc 10 (l .left - 1)) (l .inv .1) in
     omega (arith, c .power-of-ten .ensures, power-positive (l .left - 1))
 
-add-out : tie.Need-add-out Inv-loop μ-loop
-add-out c = search needs
-
 slice-write-out : tie.Need-slice-write-out Inv-loop μ-loop
 slice-write-out c =
     let l = c .before .before .before .before .loop in
     omega (arith, l .inv .2, l .inv .3, c .before .before .before .before .before .before .pre, c .before .before .before .loop-test .taken)
-
-add-end : tie.Need-add-end Inv-loop μ-loop
-add-end c = search needs
-
-loop-less : tie.Need-loop-less Inv-loop μ-loop
-loop-less c = search needs
 
 loop-again : tie.Need-loop-again Inv-loop μ-loop
 loop-again c =
@@ -86,17 +74,5 @@ returns c =
 pub put-digits-spec : {M : Type 1} → statement M
 put-digits-spec =
     tie.close
-    (tie.spec
-    Inv-loop
-    μ-loop
-    loop-holds
-    sub-left
-    power-of-ten-requires
-    digit-of-requires
-    add-out
-    slice-write-out
-    add-end
-    loop-less
-    loop-again
-    same-length
-    returns)
+    (tie.spec Inv-loop μ-loop loop-holds (λ c. search needs) power-of-ten-requires digit-of-requires
+    (λ c. search needs) slice-write-out (λ c. search needs) (λ c. search needs) loop-again same-length returns)

@@ -17,11 +17,8 @@ put-digits-requires c κs =
     let e = c .digit-count .ensures in
     (e .0, e .1, omega (arith, s .pre .1, ap length (e .2), padded-length (c .digit-count .result) (s .args .n)))
 
-same-length : tie.Need-same-length
-same-length c = search needs
-
 returns : tie.Need-returns
 returns c = same (c .before .before .put-digits .ensures) (sym (c .before .before .before .digit-count .ensures .2)) refl
 
 pub put-number-spec : {M : Type 1} → statement M
-put-number-spec = tie.close (tie.spec digit-count-requires put-digits-requires same-length returns)
+put-number-spec = tie.close (tie.spec digit-count-requires put-digits-requires (λ c. search needs) returns)

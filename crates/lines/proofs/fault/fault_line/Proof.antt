@@ -19,12 +19,6 @@ cut c = let a = c .before .before .before .args in subst (Cuts (a .text .now) (f
 add-end : tie.Need-add-end
 add-end c = omega (arith, cut c .inside, c .before .before .before)
 
-sub-result : tie.Need-sub-result
-sub-result c = search needs
-
-part-result-start : tie.Need-part-result-start
-part-result-start c = search needs
-
 part-result-end : tie.Need-part-result-end
 part-result-end c = cut c .inside
 
@@ -36,4 +30,4 @@ returns c =
 pub fault-line-spec : {M : Type 1} → statement M
 fault-line-spec =
     tie.close
-    (tie.spec fault-span-requires add-end sub-result part-result-start part-result-end returns)
+    (tie.spec fault-span-requires add-end (λ c. search needs) (λ c. search needs) part-result-end returns)

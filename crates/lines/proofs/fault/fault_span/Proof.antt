@@ -10,9 +10,6 @@ use Rattle.lines.proofs.fault.fault_span.Tie as tie
 returns : tie.Need-returns
 returns c = span-zero _ _ (c .if1 .taken)
 
-sub-skip-lines : tie.Need-sub-skip-lines
-sub-skip-lines c = search needs
-
 skip-lines-requires : tie.Need-skip-lines-requires
 skip-lines-requires c κs = search needs
 
@@ -22,15 +19,6 @@ returns-2 c =
     span-missing s (c .before .skip-lines .result) (c .if2 .taken)
     ∙ ap (spanIn s) (c .before .skip-lines .ensures .1)
     ∙ sym (span-is s _ (c .before .before .if1 .left))
-
-sub-line-length : tie.Need-sub-line-length
-sub-line-length c = search needs
-
-part-line-length-start : tie.Need-part-line-length-start
-part-line-length-start c = search needs
-
-part-line-length-end : tie.Need-part-line-length-end
-part-line-length-end c = search needs
 
 line-length-requires : tie.Need-line-length-requires
 line-length-requires c κs = search needs
@@ -46,13 +34,5 @@ returns-3 c =
 pub fault-span-spec : {M : Type 1} → statement M
 fault-span-spec =
     tie.close
-    (tie.spec
-    returns
-    sub-skip-lines
-    skip-lines-requires
-    returns-2
-    sub-line-length
-    part-line-length-start
-    part-line-length-end
-    line-length-requires
-    returns-3)
+    (tie.spec returns (λ c. search needs) skip-lines-requires returns-2 (λ c. search needs) (λ c. search needs)
+    (λ c. search needs) line-length-requires returns-3)

@@ -27,15 +27,6 @@ within c = let s = drop (c .before .before .before .loop .at) (c .before .before
 loop-holds : tie.Need-loop-holds Inv-loop μ-loop
 loop-holds c = (omega arith, omega arith, rw sub-zero)
 
-sub-line-length : tie.Need-sub-line-length Inv-loop μ-loop
-sub-line-length c = omega arith
-
-part-line-length-start : tie.Need-part-line-length-start Inv-loop μ-loop
-part-line-length-start c = search needs
-
-part-line-length-end : tie.Need-part-line-length-end Inv-loop μ-loop
-part-line-length-end c = search needs
-
 line-length-requires : tie.Need-line-length-requires Inv-loop μ-loop
 line-length-requires c κs = search needs
 
@@ -53,12 +44,6 @@ add-at c = omega (arith, within (c .before))
 add-at-2 : tie.Need-add-at-2 Inv-loop μ-loop
 add-at-2 c = omega (arith, within (c .before))
 
-add-i : tie.Need-add-i Inv-loop μ-loop
-add-i c = omega arith
-
-loop-less : tie.Need-loop-less Inv-loop μ-loop
-loop-less c = omega arith
-
 loop-again : tie.Need-loop-again Inv-loop μ-loop
 loop-again c =
     let at = c .before .before .before .before in
@@ -70,19 +55,5 @@ returns-2 c = (c .before .loop .inv .0, sym (c .before .loop .inv .2 ∙ skipped
 pub skip-lines-spec : {M : Type 1} → statement M
 skip-lines-spec =
     tie.close
-    (tie.spec
-    Inv-loop
-    μ-loop
-    loop-holds
-    sub-line-length
-    part-line-length-start
-    part-line-length-end
-    line-length-requires
-    add-if1
-    returns
-    add-at
-    add-at-2
-    add-i
-    loop-less
-    loop-again
-    returns-2)
+    (tie.spec Inv-loop μ-loop loop-holds (λ c. omega arith) (λ c. search needs) (λ c. search needs)
+    line-length-requires add-if1 returns add-at add-at-2 (λ c. omega arith) (λ c. omega arith) loop-again returns-2)

@@ -8,7 +8,6 @@ use lib.ListN.{length, getD}
 use Rattle.lines.specs.Text.{joined}
 use Rattle.lines.specs.Chosen.{chosen}
 use Rattle.lines.proofs.Chosen.{chosen-count, chosen-few}
-use borrow.Author.Needs.{needs}
 use Rattle.lines.proofs.marks.count_marks.Statement.{statement}
 use Rattle.lines.proofs.marks.count_marks.Tie as tie
 
@@ -26,20 +25,11 @@ loop-holds : tie.Need-loop-holds Inv-loop μ-loop
 unfolding chosen joined
 loop-holds c = (omega arith, refl)
 
-shared-slice-read-counted : tie.Need-shared-slice-read-counted Inv-loop μ-loop
-shared-slice-read-counted c = omega arith
-
 counted-requires : tie.Need-counted-requires Inv-loop μ-loop
 counted-requires c κs =
     let s = c .before .before .before .before in
     let l = c .before .before .loop in
     omega (arith, s .pre, chosen-few (λ k. getD (s .args .marks .now) k false) (λ k. k + 1) (l .i))
-
-add-i : tie.Need-add-i Inv-loop μ-loop
-add-i c = omega arith
-
-loop-less : tie.Need-loop-less Inv-loop μ-loop
-loop-less c = omega arith
 
 loop-again : tie.Need-loop-again Inv-loop μ-loop
 loop-again c =
@@ -57,13 +47,5 @@ returns c =
 pub count-marks-spec : {M : Type 1} → statement M
 count-marks-spec =
     tie.close
-    (tie.spec
-    Inv-loop
-    μ-loop
-    loop-holds
-    shared-slice-read-counted
-    counted-requires
-    add-i
-    loop-less
-    loop-again
-    returns)
+    (tie.spec Inv-loop μ-loop loop-holds (λ c. omega arith) counted-requires (λ c. omega arith) (λ c. omega arith)
+    loop-again returns)

@@ -11,9 +11,6 @@ use Rattle.lines.proofs.Writing.{none, same}
 use Rattle.lines.proofs.marks.put_mark.Statement.{statement}
 use Rattle.lines.proofs.marks.put_mark.Tie as tie
 
-add-put-line : tie.Need-add-put-line
-add-put-line c = search needs
-
 -- the line, or nothing
 abbrev written : List ℕ → ℕ → Bool → List ℕ
 written key i b = cond b (line key (i + 1)) []
@@ -22,9 +19,6 @@ put-line-requires : tie.Need-put-line-requires
 put-line-requires c κs =
     let s = c .before .before .before .before in
     (omega (arith, s .pre), omega (arith, s .pre, ap (λ (b : Bool). length (written (s .args .key .now) (s .args .i) b)) (c .before .if1 .taken)))
-
-same-length : tie.Need-same-length
-same-length c = search needs
 
 returns : tie.Need-returns
 returns c =
@@ -35,4 +29,4 @@ returns-2 : tie.Need-returns-2
 returns-2 c = same none (sym (ap (written (c .before .before .before .args .key .now) (c .before .before .before .args .i)) (c .if1 .left))) refl
 
 pub put-mark-spec : {M : Type 1} → statement M
-put-mark-spec = tie.close (tie.spec add-put-line put-line-requires same-length returns returns-2)
+put-mark-spec = tie.close (tie.spec (λ c. search needs) put-line-requires (λ c. search needs) returns returns-2)

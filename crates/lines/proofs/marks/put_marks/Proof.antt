@@ -31,9 +31,6 @@ loop-holds c = (omega arith, none)
 pieces : (s : tie.Start Inv-loop μ-loop) → let a = s .args in texts (line (a .key .now)) (numbersOf (a .marks .now)) ≡ joined (piece (a .key .now) (a .marks .now)) (length (a .marks .now))
 pieces s = chosen-texts (line (s .args .key .now)) (λ i. getD (s .args .marks .now) i false) (λ i. i + 1) (length (s .args .marks .now))
 
-shared-slice-read-put-mark : tie.Need-shared-slice-read-put-mark Inv-loop μ-loop
-shared-slice-read-put-mark c = omega arith
-
 put-mark-requires : tie.Need-put-mark-requires Inv-loop μ-loop
 put-mark-requires c κs =
     let s = c .before .before .before .before .before .before .before in
@@ -42,12 +39,6 @@ put-mark-requires c κs =
       omega (arith, s .pre .0, t),
       omega (arith, s .pre .1, ap length (pieces s), l .inv .1 .next, kept (l .inv .1), joined-room (piece (s .args .key .now) (s .args .marks .now)) (l .i) (length (s .args .marks .now)) t),
     )
-
-add-i : tie.Need-add-i Inv-loop μ-loop
-add-i c = omega arith
-
-loop-less : tie.Need-loop-less Inv-loop μ-loop
-loop-less c = omega arith
 
 loop-again : tie.Need-loop-again Inv-loop μ-loop
 loop-again c =
@@ -67,14 +58,5 @@ returns c =
 pub put-marks-spec : {M : Type 1} → statement M
 put-marks-spec =
     tie.close
-    (tie.spec
-    Inv-loop
-    μ-loop
-    loop-holds
-    shared-slice-read-put-mark
-    put-mark-requires
-    add-i
-    loop-less
-    loop-again
-    same-length
-    returns)
+    (tie.spec Inv-loop μ-loop loop-holds (λ c. omega arith) put-mark-requires (λ c. omega arith) (λ c. omega arith)
+    loop-again same-length returns)

@@ -21,29 +21,14 @@ abbrev μ-loop : tie.MeasureT-loop
 loop-holds : tie.Need-loop-holds Inv-loop μ-loop
 loop-holds c = (search needs, same none refl (omega arith))
 
-shared-slice-read-out : tie.Need-shared-slice-read-out Inv-loop μ-loop
-shared-slice-read-out c = search needs
-
-add-out : tie.Need-add-out Inv-loop μ-loop
-add-out c = search needs
-
 slice-write-out : tie.Need-slice-write-out Inv-loop μ-loop
 slice-write-out c = omega (arith, kept (c .before .before .loop .inv .1))
-
-add-i : tie.Need-add-i Inv-loop μ-loop
-add-i c = search needs
-
-loop-less : tie.Need-loop-less Inv-loop μ-loop
-loop-less c = search needs
 
 loop-again : tie.Need-loop-again Inv-loop μ-loop
 loop-again c =
     let l = c .before .before .loop in
     let src = c .before .before .before .args .src .now in
     (omega arith, same (then (l .inv .1) (one (getD src (l .i) 0))) (rw (add-one, take-suc src (l .i) 0 (search needs))) (add-assoc _ (l .i) 1))
-
-add-result : tie.Need-add-result Inv-loop μ-loop
-add-result c = search needs
 
 same-length : tie.Need-same-length Inv-loop μ-loop
 same-length c = kept (c .before .loop .inv .1)
@@ -57,16 +42,5 @@ returns c =
 pub put-bytes-spec : {M : Type 1} → statement M
 put-bytes-spec =
     tie.close
-    (tie.spec
-    Inv-loop
-    μ-loop
-    loop-holds
-    shared-slice-read-out
-    add-out
-    slice-write-out
-    add-i
-    loop-less
-    loop-again
-    add-result
-    same-length
-    returns)
+    (tie.spec Inv-loop μ-loop loop-holds (λ c. search needs) (λ c. search needs) slice-write-out (λ c. search needs)
+    (λ c. search needs) loop-again (λ c. search needs) same-length returns)

@@ -35,9 +35,6 @@ loop-holds : tie.Need-loop-holds Inv-loop μ-loop
 unfolding joined
 loop-holds c = (omega arith, refl, refl)
 
-mul-o : tie.Need-mul-o Inv-loop μ-loop
-mul-o c = search needs
-
 element-copy-out-o : tie.Need-element-copy-out-o Inv-loop μ-loop
 element-copy-out-o c = omega (arith, c .before .before .pre)
 
@@ -49,12 +46,6 @@ marked-requires c κs = search needs
 
 array-write-marks : tie.Need-array-write-marks Inv-loop μ-loop
 array-write-marks c = omega (arith, c .before .before .before .before .pre)
-
-add-i : tie.Need-add-i Inv-loop μ-loop
-add-i c = search needs
-
-loop-less : tie.Need-loop-less Inv-loop μ-loop
-loop-less c = search needs
 
 -- what is stored at i
 stored : (c : tie.After-marked Inv-loop μ-loop) → let a = c .before .before .before .before .args in
@@ -87,16 +78,5 @@ returns c =
 pub mark-spec : {M : Type 1} → statement M
 mark-spec =
     tie.close
-    (tie.spec
-    Inv-loop
-    μ-loop
-    loop-holds
-    mul-o
-    element-copy-out-o
-    array-read-marked
-    marked-requires
-    array-write-marks
-    add-i
-    loop-less
-    loop-again
-    returns)
+    (tie.spec Inv-loop μ-loop loop-holds (λ c. search needs) element-copy-out-o array-read-marked marked-requires
+    array-write-marks (λ c. search needs) (λ c. search needs) loop-again returns)

@@ -60,9 +60,6 @@ sub-read-number c = c .before .loop .inv .stands .inside
 part-read-number-start : tie.Need-part-read-number-start Inv-loop μ-loop
 part-read-number-start c = c .before .loop .inv .stands .inside
 
-part-read-number-end : tie.Need-part-read-number-end Inv-loop μ-loop
-part-read-number-end c = search needs
-
 read-number-requires : tie.Need-read-number-requires Inv-loop μ-loop
 read-number-requires c κs = search needs
 
@@ -74,9 +71,6 @@ number : (c : tie.After-advance Inv-loop μ-loop) → let l = c .before .before 
     Reads (a .text .now) (rowAnswer (c .advance .result)) (part (a .job .«part_count») (l .before) (drop (l .q .at) (a .text .now)) (l .q .line))
 number c = line-reads _ (c .before .before .before .before .loop .q) (c .before .read-number .ensures) (c .advance .ensures)
 
-enum-known-k : tie.Need-enum-known-k Inv-loop μ-loop
-enum-known-k c = search needs
-
 -- the number read is that of a part
 known : (c : tie.After-k Inv-loop μ-loop) → let l = c .before .before .before .before .before .before .loop in
     (l .before < c .k .given .0 .0) × (c .k .given .0 .0 ≤ c .before .before .before .before .before .before .before .before .args .job .«part_count»)
@@ -84,9 +78,6 @@ known c = part-gives _ _ _ _ _ _ _ (got-value (number (c .before .before)) (ap r
 
 sub-j : tie.Need-sub-j Inv-loop μ-loop
 sub-j c = omega (arith, known (c .before))
-
-cast-j : tie.Need-cast-j Inv-loop μ-loop
-cast-j c = search needs
 
 mul-row : tie.Need-mul-row Inv-loop μ-loop
 mul-row c = omega (arith, known (c .before), c .before .before .before .before .before .before .before .before .before .pre .1)
@@ -132,9 +123,6 @@ loop-again c =
           (count s) (omega (arith, s .pre .1)) low high (v .marked) (c .mark .ensures);
     }
 
-enum-known-k-2 : tie.Need-enum-known-k-2 Inv-loop μ-loop
-enum-known-k-2 c = search needs
-
 returns : tie.Need-returns Inv-loop μ-loop
 unfolding ended
 returns c =
@@ -163,26 +151,6 @@ returns-2 c =
 pub read-changes-spec : {M : Type 1} → statement M
 read-changes-spec =
     tie.close
-    (tie.spec
-    Inv-loop
-    μ-loop
-    loop-holds
-    sub-read-number
-    part-read-number-start
-    part-read-number-end
-    read-number-requires
-    advance-requires
-    enum-known-k
-    sub-j
-    cast-j
-    mul-row
-    array-copy-out-row
-    mark-requires
-    mul-marks
-    array-set-from-marks
-    add-i
-    loop-less
-    loop-again
-    enum-known-k-2
-    returns
-    returns-2)
+    (tie.spec Inv-loop μ-loop loop-holds sub-read-number part-read-number-start (λ c. search needs)
+    read-number-requires advance-requires (λ c. search needs) sub-j (λ c. search needs) mul-row array-copy-out-row
+    mark-requires mul-marks array-set-from-marks add-i loop-less loop-again (λ c. search needs) returns returns-2)

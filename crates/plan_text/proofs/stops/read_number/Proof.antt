@@ -10,14 +10,8 @@ use Rattle.plan_text.specs.Grammar.{part}
 use Rattle.plan_text.proofs.stops.read_number.Statement.{statement}
 use Rattle.plan_text.proofs.stops.read_number.Tie as tie
 
-slice-aggregate-read-field : tie.Need-slice-aggregate-read-field
-slice-aggregate-read-field c = search needs
-
 read-field-requires : tie.Need-read-field-requires
 read-field-requires c κs = search needs
-
-enum-known-part : tie.Need-enum-known-part
-enum-known-part c = search needs
 
 -- the row that was read
 found : (c : tie.After-part) → let a = c .before .before .before .before .before .args in LineRead (row "part=" 1 16) (a .s .now) (Value (c .part .given .0 .0) (c .part .given .0 .1 .0))
@@ -28,15 +22,9 @@ returns : tie.Need-returns
 unfolding part
 returns c = line-broken _ _ _ _ (found (c .before .before)) (rising-low _ _ _ (c .if1 .taken))
 
-cast-if2 : tie.Need-cast-if2
-cast-if2 c = search needs
-
 returns-2 : tie.Need-returns-2
 unfolding part
 returns-2 c = line-broken _ _ _ _ (found (c .before .before .before)) (rising-high _ _ _ (c .before .if1 .left) (c .if2 .taken))
-
-enum-known-k : tie.Need-enum-known-k
-enum-known-k c = search needs
 
 returns-3 : tie.Need-returns-3
 unfolding part
@@ -49,13 +37,5 @@ returns-4 c = line-fault _ _ _ _ (row-line _ 1 16 _ (sym (c .before .k .given .1
 pub read-number-spec : {M : Type 1} → statement M
 read-number-spec =
     tie.close
-    (tie.spec
-    slice-aggregate-read-field
-    read-field-requires
-    enum-known-part
-    returns
-    cast-if2
-    returns-2
-    enum-known-k
-    returns-3
-    returns-4)
+    (tie.spec (λ c. search needs) read-field-requires (λ c. search needs) returns (λ c. search needs) returns-2
+    (λ c. search needs) returns-3 returns-4)

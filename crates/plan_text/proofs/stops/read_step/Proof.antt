@@ -14,14 +14,8 @@ use Rattle.plan_text.specs.Grammar.{isOpening}
 use Rattle.plan_text.proofs.stops.read_step.Statement.{statement}
 use Rattle.plan_text.proofs.stops.read_step.Tie as tie
 
-slice-aggregate-read-field : tie.Need-slice-aggregate-read-field
-slice-aggregate-read-field c = search needs
-
 read-field-requires : tie.Need-read-field-requires
 read-field-requires c κs = search needs
-
-enum-known-step : tie.Need-enum-known-step
-enum-known-step c = search needs
 
 -- the row that was read
 found : (c : tie.After-step) → let a = c .before .before .before .before .before .args in LineRead (row "stop=" 1 365) (a .s .now) (Value (c .step .given .0 .0) (c .step .given .0 .1 .0))
@@ -42,9 +36,6 @@ tested c = rw (lt-ltb _ _ (c .before .if1 .left)) (sym (c .is-opening .ensures))
 returns-2 : tie.Need-returns-2
 returns-2 c = line-ruled _ _ _ _ (found (c .before .before .before .before)) (tested (c .before) ∙ c .if2 .taken)
 
-enum-known-k : tie.Need-enum-known-k
-enum-known-k c = search needs
-
 returns-3 : tie.Need-returns-3
 returns-3 c = line-broken _ _ _ _ (found (c .before .before .before .before)) (tested (c .before) ∙ c .if2 .left)
 
@@ -55,13 +46,5 @@ returns-4 c = line-fault _ _ _ _ (row-line _ 1 365 _ (sym (c .before .k .given .
 pub read-step-spec : {M : Type 1} → statement M
 read-step-spec =
     tie.close
-    (tie.spec
-    slice-aggregate-read-field
-    read-field-requires
-    enum-known-step
-    returns
-    is-opening-requires
-    returns-2
-    enum-known-k
-    returns-3
-    returns-4)
+    (tie.spec (λ c. search needs) read-field-requires (λ c. search needs) returns is-opening-requires returns-2
+    (λ c. search needs) returns-3 returns-4)

@@ -15,15 +15,6 @@ use Rattle.jobs.proofs.Jobs.{part-count}
 use Rattle.plan_text.proofs.stops.read_visit.Statement.{statement}
 use Rattle.plan_text.proofs.stops.read_visit.Tie as tie
 
-sub-read-step : tie.Need-sub-read-step
-sub-read-step c = search needs
-
-part-read-step-start : tie.Need-part-read-step-start
-part-read-step-start c = search needs
-
-part-read-step-end : tie.Need-part-read-step-end
-part-read-step-end c = search needs
-
 read-step-requires : tie.Need-read-step-requires
 read-step-requires c κs = search needs
 
@@ -31,9 +22,6 @@ advance-requires : tie.Need-advance-requires
 advance-requires c κs =
     let st = c .before .before .before in
     (st .pre .0, line-inside _ (st .args .p) (c .read-step .ensures) (st .pre .0))
-
-enum-known-step : tie.Need-enum-known-step
-enum-known-step c = search needs
 
 -- the stop's line, read in the whole text
 step : (c : tie.After-advance) → let a = c .before .before .before .before .args in
@@ -49,40 +37,22 @@ sub-read-field c = stood (c .before) .inside
 part-read-field-start : tie.Need-part-read-field-start
 part-read-field-start c = stood (c .before) .inside
 
-part-read-field-end : tie.Need-part-read-field-end
-part-read-field-end c = search needs
-
-slice-aggregate-read-field : tie.Need-slice-aggregate-read-field
-slice-aggregate-read-field c = search needs
-
 read-field-requires : tie.Need-read-field-requires
 read-field-requires c κs = search needs
 
 advance-requires-2 : tie.Need-advance-requires-2
 advance-requires-2 c κs = let s = stood (c .before .before .before .before) in (s, line-inside _ (c .before .before .before .before .step .given .0 .1 .0) (row-line _ 0 16 _ (c .read-field .ensures)) s)
 
-enum-known-n : tie.Need-enum-known-n
-enum-known-n c = search needs
-
 -- the count's line, read in the whole text
 count : (c : tie.After-advance2) → let q = c .before .before .before .before .before .step .given .0 .1 .0 in let text = c .before .before .before .before .before .before .before .before .before .before .before .args .text .now in Reads text (rowAnswer (c .advance2 .result)) (row "count=" 0 16 (drop (q .at) text) (q .line))
 unfolding bytes
 count c = line-reads _ (c .before .before .before .before .before .step .given .0 .1 .0) (row-line _ 0 16 _ (c .before .read-field .ensures)) (c .advance2 .ensures)
-
-cast-read-changes : tie.Need-cast-read-changes
-cast-read-changes c = search needs
 
 read-changes-requires : tie.Need-read-changes-requires
 read-changes-requires c κs = (got-place (count (c .before .before .before .before .before)) (ap rowAnswer (c .before .before .before .n .given .1)), c .before .before .before .before .before .before .before .before .before .before .before .before .before .before .before .before .pre .1)
 
 mark-requires : tie.Need-mark-requires
 mark-requires c κs = c .before .before .before .before .before .before .before .before .before .before .before .before .before .before .before .before .before .before .pre .1
-
-enum-known-k : tie.Need-enum-known-k
-enum-known-k c = search needs
-
-enum-known-k-2 : tie.Need-enum-known-k-2
-enum-known-k-2 c = search needs
 
 returns : tie.Need-returns
 unfolding visit return withVisit
@@ -128,25 +98,7 @@ returns-3 c =
 pub read-visit-spec : {M : Type 1} → statement M
 read-visit-spec =
     tie.close
-    (tie.spec
-    sub-read-step
-    part-read-step-start
-    part-read-step-end
-    read-step-requires
-    advance-requires
-    enum-known-step
-    sub-read-field
-    part-read-field-start
-    part-read-field-end
-    slice-aggregate-read-field
-    read-field-requires
-    advance-requires-2
-    enum-known-n
-    cast-read-changes
-    read-changes-requires
-    mark-requires
-    enum-known-k
-    enum-known-k-2
-    returns
-    returns-2
-    returns-3)
+    (tie.spec (λ c. search needs) (λ c. search needs) (λ c. search needs) read-step-requires advance-requires
+    (λ c. search needs) sub-read-field part-read-field-start (λ c. search needs) (λ c. search needs)
+    read-field-requires advance-requires-2 (λ c. search needs) (λ c. search needs) read-changes-requires
+    mark-requires (λ c. search needs) (λ c. search needs) returns returns-2 returns-3)

@@ -54,9 +54,6 @@ loop-holds c =
 read-visit-requires : tie.Need-read-visit-requires Inv-loop μ-loop
 read-visit-requires c κs = (c .before .loop .inv .stands, c .before .before .before .before .pre .1)
 
-enum-known-end : tie.Need-enum-known-end Inv-loop μ-loop
-enum-known-end c = search needs
-
 add-i : tie.Need-add-i Inv-loop μ-loop
 add-i c = omega (arith, c .before .before .before .before .before .before)
 
@@ -82,9 +79,6 @@ loop-again c =
           ∙ ap (λ (b : ℕ). behind (v .vs ++ read .v ∷ []) (chain (visit job) stepOf (s .args .n - (l .i + 1)) b (drop (q .at) (s .args .text .now)) (q .line))) (sym (marks .0));
       makes = marks .1 ∙ ap (withVisit job (read .v)) (v .makes) ∙ visit-more job (v .vs) (read .v);
     }
-
-enum-known-end-2 : tie.Need-enum-known-end-2 Inv-loop μ-loop
-enum-known-end-2 c = search needs
 
 returns : tie.Need-returns Inv-loop μ-loop
 unfolding ended
@@ -114,16 +108,5 @@ returns-2 c =
 pub read-visits-spec : {M : Type 1} → statement M
 read-visits-spec =
     tie.close
-    (tie.spec
-    Inv-loop
-    μ-loop
-    empty-requires
-    loop-holds
-    read-visit-requires
-    enum-known-end
-    add-i
-    loop-less
-    loop-again
-    enum-known-end-2
-    returns
-    returns-2)
+    (tie.spec Inv-loop μ-loop empty-requires loop-holds read-visit-requires (λ c. search needs) add-i loop-less
+    loop-again (λ c. search needs) returns returns-2)

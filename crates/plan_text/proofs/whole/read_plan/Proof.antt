@@ -48,11 +48,5 @@ returns-3 c =
 pub read-plan-spec : {M : Type 1} → statement M
 read-plan-spec =
     tie.close
-    (tie.spec
-    empty-requires
-    returns
-    empty-requires-2
-    returns-2
-    read-plan-lines-requires
-    close-text-requires
+    (tie.spec empty-requires returns empty-requires-2 returns-2 read-plan-lines-requires close-text-requires
     returns-3)

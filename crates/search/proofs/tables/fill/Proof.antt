@@ -26,9 +26,6 @@ numbered c = c .before .before .before .before .before .before .before
 fours-of-requires : tie.Need-fours-of-requires
 fours-of-requires c κs = search needs
 
-mul-lanes : tie.Need-mul-lanes
-mul-lanes c = search needs
-
 fill-lanes-requires : tie.Need-fill-lanes-requires
 fill-lanes-requires c κs =
     let b = c .before .before .before .before .before .before .before .before .before in
@@ -37,9 +34,6 @@ fill-lanes-requires c κs =
 
 put-fees-requires : tie.Need-put-fees-requires
 put-fees-requires c κs = search needs
-
-cast-put-number : tie.Need-cast-put-number
-cast-put-number c = search needs
 
 put-number-requires : tie.Need-put-number-requires
 put-number-requires c κs = search needs
@@ -66,9 +60,6 @@ put-terms-requires c κs =
 same-length : tie.Need-same-length
 same-length c = c .before .before .before .before .put-terms .kept .1 .1 .1 .1 .1 .1 .0 ∙ lanes (numbered c) .fill-lanes .kept .1 .1 .1 .1 .1 .1 .1 .0
 
-same-length-2 : tie.Need-same-length-2
-same-length-2 c = search needs
-
 returns : tie.Need-returns
 returns c =
     let k = numbered c in
@@ -90,16 +81,6 @@ returns c =
 pub fill-spec : {M : Type 1} → statement M
 fill-spec =
     tie.close
-    (tie.spec
-    fours-of-requires
-    mul-lanes
-    fill-lanes-requires
-    put-fees-requires
-    cast-put-number
-    put-number-requires
-    cast-put-number-2
-    put-number-requires-2
-    put-terms-requires
-    same-length
-    same-length-2
+    (tie.spec fours-of-requires (λ c. search needs) fill-lanes-requires put-fees-requires (λ c. search needs)
+    put-number-requires cast-put-number-2 put-number-requires-2 put-terms-requires same-length (λ c. search needs)
     returns)

@@ -11,9 +11,6 @@ use Rattle.search.proofs.Filling.{all-true, all-length, lane-done, fill
 use Rattle.search.proofs.tables.fill_lane.Statement.{statement}
 use Rattle.search.proofs.tables.fill_lane.Tie as tie
 
-array-share-prefix-all : tie.Need-array-share-prefix-all
-array-share-prefix-all c = search needs
-
 slice-aggregate-fill : tie.Need-slice-aggregate-fill
 slice-aggregate-fill c = let b = c .before .before .before .before in sym (all-length (length (b .args .positions .now)) 64 (b .pre .room .few))
 
@@ -26,9 +23,6 @@ fill-requires c κs =
       late = small-back (b .args .end) (b .pre .late);
     }
 
-add-put-suffixes : tie.Need-add-put-suffixes
-add-put-suffixes c = search needs
-
 put-suffixes-requires : tie.Need-put-suffixes-requires
 put-suffixes-requires c κs = search needs
 
@@ -39,12 +33,6 @@ put-reaches-requires c κs =
 
 put-prices-requires : tie.Need-put-prices-requires
 put-prices-requires c κs = search needs
-
-same-length : tie.Need-same-length
-same-length c = search needs
-
-same-length-2 : tie.Need-same-length-2
-same-length-2 c = search needs
 
 returns : tie.Need-returns
 returns c =
@@ -61,14 +49,5 @@ returns c =
 pub fill-lane-spec : {M : Type 1} → statement M
 fill-lane-spec =
     tie.close
-    (tie.spec
-    array-share-prefix-all
-    slice-aggregate-fill
-    fill-requires
-    add-put-suffixes
-    put-suffixes-requires
-    put-reaches-requires
-    put-prices-requires
-    same-length
-    same-length-2
-    returns)
+    (tie.spec (λ c. search needs) slice-aggregate-fill fill-requires (λ c. search needs) put-suffixes-requires
+    put-reaches-requires put-prices-requires (λ c. search needs) (λ c. search needs) returns)

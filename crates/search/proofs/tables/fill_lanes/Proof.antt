@@ -29,12 +29,6 @@ fill-part-requires c κs =
     let l = c .before .before .before .loop in
     (ready-back (b .fits .end) (b .pre .0 .arrays) (omega (arith, b .pre .0 .room, l .inv .1)), record { lane = omega (arith, b .pre .2, c .before .before .loop-test .taken); size = l .inv .2 .size })
 
-add-q : tie.Need-add-q Inv-loop μ-loop
-add-q c = search needs
-
-loop-less : tie.Need-loop-less Inv-loop μ-loop
-loop-less c = search needs
-
 loop-again : tie.Need-loop-again Inv-loop μ-loop
 loop-again c =
     let b = c .before .before .before .before .before .before .before .before .before .before .before .before .before .before .before in
@@ -44,12 +38,6 @@ loop-again c =
       c .before .before .before .before .fill-part .kept .1 .1 .1 .1 .1 .1 .1 .0 ∙ l .inv .1,
       lanes-more (toZ w32 (ofZ w32 (a .end))) (a .positions .now) (a .lives .now) (a .lefts .now) (a .prices .now) (l .t) (c .before .before .before .before .fill-part .last .1 .1 .1 .1 .1 .1 .1 .1 .0) (l .q) (b .pre .0 .arrays .few) (omega (arith, b .pre .2, c .before .before .before .before .before .before .before .loop-test .taken)) (c .before .before .before .before .fill-part .ensures) (l .inv .2),
     )
-
-same-length : tie.Need-same-length Inv-loop μ-loop
-same-length c = search needs
-
-same-length-2 : tie.Need-same-length-2 Inv-loop μ-loop
-same-length-2 c = search needs
 
 returns : tie.Need-returns Inv-loop μ-loop
 returns c =
@@ -63,14 +51,5 @@ returns c =
 pub fill-lanes-spec : {M : Type 1} → statement M
 fill-lanes-spec =
     tie.close
-    (tie.spec
-    Inv-loop
-    μ-loop
-    loop-holds
-    fill-part-requires
-    add-q
-    loop-less
-    loop-again
-    same-length
-    same-length-2
-    returns)
+    (tie.spec Inv-loop μ-loop loop-holds fill-part-requires (λ c. search needs) (λ c. search needs) loop-again
+    (λ c. search needs) (λ c. search needs) returns)

@@ -21,27 +21,6 @@ start c = c .before .before .before .before .before .before .before
 lane-life-requires : tie.Need-lane-life-requires
 lane-life-requires c κs = search needs
 
-mul-fill-lane : tie.Need-mul-fill-lane
-mul-fill-lane c = search needs
-
-mul-fill-lane-2 : tie.Need-mul-fill-lane-2
-mul-fill-lane-2 c = search needs
-
-add-fill-lane : tie.Need-add-fill-lane
-add-fill-lane c = search needs
-
-mul-fill-lane-3 : tie.Need-mul-fill-lane-3
-mul-fill-lane-3 c = search needs
-
-sub-fill-lane : tie.Need-sub-fill-lane
-sub-fill-lane c = search needs
-
-part-fill-lane-start : tie.Need-part-fill-lane-start
-part-fill-lane-start c = search needs
-
-part-fill-lane-end : tie.Need-part-fill-lane-end
-part-fill-lane-end c = search needs
-
 fill-lane-requires : tie.Need-fill-lane-requires
 fill-lane-requires c κs =
     let v = c .before .before .before .before .before in
@@ -59,12 +38,6 @@ fill-lane-requires c κs =
       lane = lane;
     }
 
-same-length : tie.Need-same-length
-same-length c = search needs
-
-same-length-2 : tie.Need-same-length-2
-same-length-2 c = search needs
-
 returns : tie.Need-returns
 returns c =
     let v = c .before .before .before .before .before .before .before .before .before .before in
@@ -81,16 +54,6 @@ returns c =
 pub fill-part-spec : {M : Type 1} → statement M
 fill-part-spec =
     tie.close
-    (tie.spec
-    lane-life-requires
-    mul-fill-lane
-    mul-fill-lane-2
-    add-fill-lane
-    mul-fill-lane-3
-    sub-fill-lane
-    part-fill-lane-start
-    part-fill-lane-end
-    fill-lane-requires
-    same-length
-    same-length-2
-    returns)
+    (tie.spec lane-life-requires (λ c. search needs) (λ c. search needs) (λ c. search needs) (λ c. search needs)
+    (λ c. search needs) (λ c. search needs) (λ c. search needs) fill-lane-requires (λ c. search needs)
+    (λ c. search needs) returns)

@@ -6,15 +6,6 @@ use Rattle.model.proofs.Bools.{there}
 use Rattle.search.proofs.tables.lane_value.Statement.{statement}
 use Rattle.search.proofs.tables.lane_value.Tie as tie
 
-mul-result : tie.Need-mul-result
-mul-result c = search needs
-
-shared-slice-read-result : tie.Need-shared-slice-read-result
-shared-slice-read-result c = search needs
-
-shared-slice-read-result-2 : tie.Need-shared-slice-read-result-2
-shared-slice-read-result-2 c = search needs
-
 returns : tie.Need-returns
 returns c = let a = c .before .before .args in there (a .values .now) (a .q) 0 (getD (a .values .now) 0 0) (c .before .if1 .taken)
 
@@ -22,4 +13,4 @@ returns-2 : tie.Need-returns-2
 returns-2 c = let a = c .before .before .args in sym (List·getD-eq-default (a .values .now) (getD (a .values .now) 0 0) {n = a .q} (c .before .if1 .left))
 
 pub lane-value-spec : {M : Type 1} → statement M
-lane-value-spec = tie.close (tie.spec mul-result shared-slice-read-result shared-slice-read-result-2 returns returns-2)
+lane-value-spec = tie.close (tie.spec (λ c. search needs) (λ c. search needs) (λ c. search needs) returns returns-2)

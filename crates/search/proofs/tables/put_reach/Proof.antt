@@ -23,9 +23,6 @@ abbrev μ-loop : tie.MeasureT-loop
 row-of-requires : tie.Need-row-of-requires Inv-loop μ-loop
 row-of-requires c κs = omega arith
 
-add-i-end : tie.Need-add-i-end Inv-loop μ-loop
-add-i-end c = search needs
-
 loop-holds : tie.Need-loop-holds Inv-loop μ-loop
 loop-holds c = (refl, omega arith, filled-none)
 
@@ -39,37 +36,13 @@ inside c =
 reach-requires : tie.Need-reach-requires Inv-loop μ-loop
 reach-requires c κs = let b = c .before .before .before .before in (omega arith, b .pre .0, rw (toZ-ofZ (b .fits .first)) (b .pre .2))
 
-mul-t : tie.Need-mul-t Inv-loop μ-loop
-mul-t c = search needs
-
-add-t : tie.Need-add-t Inv-loop μ-loop
-add-t c = search needs
-
-mul-t-2 : tie.Need-mul-t-2 Inv-loop μ-loop
-mul-t-2 c = search needs
-
-add-t-2 : tie.Need-add-t-2 Inv-loop μ-loop
-add-t-2 c = search needs
-
-add-t-3 : tie.Need-add-t-3 Inv-loop μ-loop
-add-t-3 c = search needs
-
 slice-write-t : tie.Need-slice-write-t Inv-loop μ-loop
 slice-write-t c = let b = c .before .before .before .before .before in omega (arith, inside (c .before), b .pre .3 .lane, b .pre .3 .size, c .before .before .loop .inv .2 .size)
-
-add-i : tie.Need-add-i Inv-loop μ-loop
-add-i c = search needs
-
-loop-less : tie.Need-loop-less Inv-loop μ-loop
-loop-less c = search needs
 
 loop-again : tie.Need-loop-again Inv-loop μ-loop
 loop-again c =
     let b = c .before .before .before .before .before in
     (refl, omega arith, filled-more (c .reach .result) (omega (arith, inside (c .before), b .pre .3 .lane, b .pre .3 .size)) (λ y h e. omega (arith, e)) (c .reach .ensures) (c .before .before .loop .inv .2))
-
-same-length : tie.Need-same-length Inv-loop μ-loop
-same-length c = search needs
 
 returns : tie.Need-returns Inv-loop μ-loop
 returns c =
@@ -81,21 +54,6 @@ returns c =
 pub put-reach-spec : {M : Type 1} → statement M
 put-reach-spec =
     tie.close
-    (tie.spec
-    Inv-loop
-    μ-loop
-    row-of-requires
-    add-i-end
-    loop-holds
-    reach-requires
-    add-t
-    mul-t
-    add-t-2
-    add-t-3
-    mul-t-2
-    slice-write-t
-    add-i
-    loop-less
-    loop-again
-    same-length
-    returns)
+    (tie.spec Inv-loop μ-loop row-of-requires (λ c. search needs) loop-holds reach-requires (λ c. search needs)
+    (λ c. search needs) (λ c. search needs) (λ c. search needs) (λ c. search needs) slice-write-t
+    (λ c. search needs) (λ c. search needs) loop-again (λ c. search needs) returns)

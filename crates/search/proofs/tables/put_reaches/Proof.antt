@@ -30,12 +30,6 @@ put-reach-requires c κs =
     let p = s .pre in
     (c .before .loop-test .taken, p .0, rw (toZ-ofZ (s .fits .first)) (p .1), record { lane = p .2 .lane; size = l .loop .inv .1 .size ∙ p .2 .size })
 
-add-j : tie.Need-add-j Inv-loop μ-loop
-add-j c = search needs
-
-loop-less : tie.Need-loop-less Inv-loop μ-loop
-loop-less c = search needs
-
 loop-again : tie.Need-loop-again Inv-loop μ-loop
 loop-again c =
     let l = c .before .before .before .before .before in
@@ -45,9 +39,6 @@ loop-again c =
       omega (arith, c .before .before .before .before .loop-test .taken),
       triangle-more (reachOf (toZ w32 (ofZ w32 (a .life))) (toZ w32 (ofZ w32 (a .first))) (a .positions .now) (l .loop .j)) (λ i h. refl) (λ j i k x b d e. omega (arith, e, row-below j i (l .loop .j) x b, h)) (c .before .before .put-reach .ensures) (l .loop .inv .1),
     )
-
-same-length : tie.Need-same-length Inv-loop μ-loop
-same-length c = search needs
 
 returns : tie.Need-returns Inv-loop μ-loop
 returns c =
@@ -59,13 +50,5 @@ returns c =
 pub put-reaches-spec : {M : Type 1} → statement M
 put-reaches-spec =
     tie.close
-    (tie.spec
-    Inv-loop
-    μ-loop
-    loop-holds
-    put-reach-requires
-    add-j
-    loop-less
-    loop-again
-    same-length
-    returns)
+    (tie.spec Inv-loop μ-loop loop-holds put-reach-requires (λ c. search needs) (λ c. search needs) loop-again
+    (λ c. search needs) returns)

@@ -20,9 +20,6 @@ abbrev μ-loop : tie.MeasureT-loop
 row-of-requires : tie.Need-row-of-requires Inv-loop μ-loop
 row-of-requires c κs = omega arith
 
-add-i-end : tie.Need-add-i-end Inv-loop μ-loop
-add-i-end c = search needs
-
 loop-holds : tie.Need-loop-holds Inv-loop μ-loop
 loop-holds c = (refl, omega arith, filled-none)
 
@@ -33,52 +30,16 @@ inside c =
     let l = c .before .loop in
     omega (arith, row-inside (s .args .j) (l .i) markCount (omega (arith, c .loop-test .taken, l .inv .0)) (omega (arith, s .pre .0)), c .before .before .row-of .ensures .0)
 
-mul-capped : tie.Need-mul-capped Inv-loop μ-loop
-mul-capped c = search needs
-
-add-capped : tie.Need-add-capped Inv-loop μ-loop
-add-capped c = search needs
-
-mul-capped-2 : tie.Need-mul-capped-2 Inv-loop μ-loop
-mul-capped-2 c = search needs
-
-shared-slice-read-capped : tie.Need-shared-slice-read-capped Inv-loop μ-loop
-shared-slice-read-capped c = search needs
-
 capped-requires : tie.Need-capped-requires Inv-loop μ-loop
 capped-requires c κs = tt
 
-mul-t : tie.Need-mul-t Inv-loop μ-loop
-mul-t c = search needs
-
-add-t : tie.Need-add-t Inv-loop μ-loop
-add-t c = search needs
-
-mul-t-2 : tie.Need-mul-t-2 Inv-loop μ-loop
-mul-t-2 c = search needs
-
-add-t-2 : tie.Need-add-t-2 Inv-loop μ-loop
-add-t-2 c = search needs
-
-add-t-3 : tie.Need-add-t-3 Inv-loop μ-loop
-add-t-3 c = search needs
-
 slice-write-t : tie.Need-slice-write-t Inv-loop μ-loop
 slice-write-t c = let b = c .before .before .before .before .before .before .before in omega (arith, inside (c .before .before), b .pre .2 .lane, b .pre .2 .size, c .before .before .before .loop .inv .2 .size)
-
-add-i : tie.Need-add-i Inv-loop μ-loop
-add-i c = search needs
-
-loop-less : tie.Need-loop-less Inv-loop μ-loop
-loop-less c = search needs
 
 loop-again : tie.Need-loop-again Inv-loop μ-loop
 loop-again c =
     let b = c .before .before .before .before .before .before .before in
     (refl, omega arith, filled-more (c .capped .result) (omega (arith, inside (c .before .before), b .pre .2 .lane, b .pre .2 .size)) (λ y h e. omega (arith, e)) (c .capped .ensures) (c .before .before .before .loop .inv .2))
-
-same-length : tie.Need-same-length Inv-loop μ-loop
-same-length c = search needs
 
 returns : tie.Need-returns Inv-loop μ-loop
 returns c =
@@ -90,25 +51,7 @@ returns c =
 pub put-suffix-spec : {M : Type 1} → statement M
 put-suffix-spec =
     tie.close
-    (tie.spec
-    Inv-loop
-    μ-loop
-    row-of-requires
-    add-i-end
-    loop-holds
-    mul-capped
-    add-capped
-    mul-capped-2
-    shared-slice-read-capped
-    capped-requires
-    add-t
-    mul-t
-    add-t-2
-    add-t-3
-    mul-t-2
-    slice-write-t
-    add-i
-    loop-less
-    loop-again
-    same-length
-    returns)
+    (tie.spec Inv-loop μ-loop row-of-requires (λ c. search needs) loop-holds (λ c. search needs) (λ c. search needs)
+    (λ c. search needs) (λ c. search needs) capped-requires (λ c. search needs) (λ c. search needs)
+    (λ c. search needs) (λ c. search needs) (λ c. search needs) slice-write-t (λ c. search needs)
+    (λ c. search needs) loop-again (λ c. search needs) returns)

@@ -25,12 +25,6 @@ put-suffix-requires c κs =
     let p = l .before .before .before .pre in
     (omega (arith, p .0, c .before .loop-test .taken), p .1, record { lane = p .2 .lane; size = l .loop .inv .1 .size ∙ p .2 .size })
 
-add-j : tie.Need-add-j Inv-loop μ-loop
-add-j c = search needs
-
-loop-less : tie.Need-loop-less Inv-loop μ-loop
-loop-less c = search needs
-
 loop-again : tie.Need-loop-again Inv-loop μ-loop
 loop-again c =
     let l = c .before .before .before .before .before in
@@ -39,9 +33,6 @@ loop-again c =
       omega (arith, c .before .before .before .before .loop-test .taken),
       triangle-more (ownOf (s .args .tab .now) (l .loop .j)) (λ i h. refl) (λ j i k a b d e. omega (arith, e, row-below j i (l .loop .j) a b, s .pre .2 .lane)) (c .before .before .put-suffix .ensures) (l .loop .inv .1),
     )
-
-same-length : tie.Need-same-length Inv-loop μ-loop
-same-length c = search needs
 
 returns : tie.Need-returns Inv-loop μ-loop
 returns c =
@@ -53,13 +44,5 @@ returns c =
 pub put-suffixes-spec : {M : Type 1} → statement M
 put-suffixes-spec =
     tie.close
-    (tie.spec
-    Inv-loop
-    μ-loop
-    loop-holds
-    put-suffix-requires
-    add-j
-    loop-less
-    loop-again
-    same-length
-    returns)
+    (tie.spec Inv-loop μ-loop loop-holds put-suffix-requires (λ c. search needs) (λ c. search needs) loop-again
+    (λ c. search needs) returns)

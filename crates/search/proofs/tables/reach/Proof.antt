@@ -15,12 +15,6 @@ use Rattle.search.proofs.tables.reach.Tie as tie
 mark-requires : tie.Need-mark-requires
 mark-requires c κs = search needs
 
-mul-in-reach : tie.Need-mul-in-reach
-mul-in-reach c = search needs
-
-shared-slice-copy-out-in-reach : tie.Need-shared-slice-copy-out-in-reach
-shared-slice-copy-out-in-reach c = search needs
-
 in-reach-requires : tie.Need-in-reach-requires
 in-reach-requires c κs =
     let b = c .before .before in
@@ -44,4 +38,4 @@ returns-2 : tie.Need-returns-2
 returns-2 c = rw (sym (near (c .before)) ∙ c .if1 .left)
 
 pub reach-spec : {M : Type 1} → statement M
-reach-spec = tie.close (tie.spec mark-requires mul-in-reach shared-slice-copy-out-in-reach in-reach-requires returns returns-2)
+reach-spec = tie.close (tie.spec mark-requires (λ c. search needs) (λ c. search needs) in-reach-requires returns returns-2)

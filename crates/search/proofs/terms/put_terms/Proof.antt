@@ -24,9 +24,6 @@ Inv-loop end positions fees lives lefts prices tab₀ t₀ q₀ tab t q = (q ≤
 abbrev μ-loop : tie.MeasureT-loop
 μ-loop end positions fees lives lefts prices tab₀ t₀ q₀ tab t q = length lives - q
 
-add-row-of : tie.Need-add-row-of Inv-loop μ-loop
-add-row-of c = search needs
-
 row-of-requires : tie.Need-row-of-requires Inv-loop μ-loop
 row-of-requires c κs = omega (arith, c .before .before .before .before .before .before .pre .0 .arrays .few)
 
@@ -54,12 +51,6 @@ raise-part-requires c κs =
     let l = c .before .before .before .loop in
     (ready-back (b .fits .end) (b .pre .0 .arrays) (omega (arith, b .pre .0 .room, l .inv .1)), l .inv .2 .size ∙ c .before .before .before .before .before .before .clear .ensures .size ∙ b .pre .1)
 
-add-q : tie.Need-add-q Inv-loop μ-loop
-add-q c = search needs
-
-loop-less : tie.Need-loop-less Inv-loop μ-loop
-loop-less c = search needs
-
 loop-again : tie.Need-loop-again Inv-loop μ-loop
 loop-again c =
     let b = c .before .before .before .before .before .before .before .before .before .before .before .before .before .before .before .before .before .before .before .before in
@@ -81,12 +72,6 @@ loop-again c =
           (subst (λ (col : Column). Raised sheet col (l .t) v) (sym is) (c .before .before .before .before .raise-part .ensures)) (l .inv .2),
     )
 
-same-length : tie.Need-same-length Inv-loop μ-loop
-same-length c = search needs
-
-same-length-2 : tie.Need-same-length-2 Inv-loop μ-loop
-same-length-2 c = search needs
-
 returns : tie.Need-returns Inv-loop μ-loop
 returns c =
     let b = c .before .before .before .before .before .before .before .before .before .before .before .before .before in
@@ -101,17 +86,5 @@ returns c =
 pub put-terms-spec : {M : Type 1} → statement M
 put-terms-spec =
     tie.close
-    (tie.spec
-    Inv-loop
-    μ-loop
-    add-row-of
-    row-of-requires
-    clear-requires
-    loop-holds
-    raise-part-requires
-    add-q
-    loop-less
-    loop-again
-    same-length
-    same-length-2
-    returns)
+    (tie.spec Inv-loop μ-loop (λ c. search needs) row-of-requires clear-requires loop-holds raise-part-requires
+    (λ c. search needs) (λ c. search needs) loop-again (λ c. search needs) (λ c. search needs) returns)

@@ -21,9 +21,6 @@ abbrev μ-loop : tie.MeasureT-loop
 row-of-requires : tie.Need-row-of-requires Inv-loop μ-loop
 row-of-requires c κs = omega arith
 
-add-i-end : tie.Need-add-i-end Inv-loop μ-loop
-add-i-end c = search needs
-
 loop-holds : tie.Need-loop-holds Inv-loop μ-loop
 loop-holds c = (refl, omega arith, filled-none)
 
@@ -34,29 +31,8 @@ inside c =
     let l = c .before .loop in
     omega (arith, row-inside (s .args .j) (l .i) markCount (omega (arith, c .loop-test .taken, l .inv .0)) (omega (arith, s .pre .0)), c .before .before .row-of .ensures .0)
 
-add-at : tie.Need-add-at Inv-loop μ-loop
-add-at c = search needs
-
-add-at-2 : tie.Need-add-at-2 Inv-loop μ-loop
-add-at-2 c = search needs
-
-mul-larger : tie.Need-mul-larger Inv-loop μ-loop
-mul-larger c = search needs
-
 slice-read-larger : tie.Need-slice-read-larger Inv-loop μ-loop
 slice-read-larger c = omega (arith, inside (c .before), c .before .before .before .before .before .before .pre .2, c .before .before .loop .inv .2 .size)
-
-mul-capped : tie.Need-mul-capped Inv-loop μ-loop
-mul-capped c = search needs
-
-add-capped : tie.Need-add-capped Inv-loop μ-loop
-add-capped c = search needs
-
-mul-capped-2 : tie.Need-mul-capped-2 Inv-loop μ-loop
-mul-capped-2 c = search needs
-
-shared-slice-read-capped : tie.Need-shared-slice-read-capped Inv-loop μ-loop
-shared-slice-read-capped c = search needs
 
 capped-requires : tie.Need-capped-requires Inv-loop μ-loop
 capped-requires c κs = tt
@@ -64,17 +40,8 @@ capped-requires c κs = tt
 larger-requires : tie.Need-larger-requires Inv-loop μ-loop
 larger-requires c κs = tt
 
-mul-t : tie.Need-mul-t Inv-loop μ-loop
-mul-t c = search needs
-
 slice-write-t : tie.Need-slice-write-t Inv-loop μ-loop
 slice-write-t c = omega (arith, inside (c .before .before .before .before), c .before .before .before .before .before .before .before .before .before .pre .2, c .before .before .before .before .before .loop .inv .2 .size)
-
-add-i : tie.Need-add-i Inv-loop μ-loop
-add-i c = search needs
-
-loop-less : tie.Need-loop-less Inv-loop μ-loop
-loop-less c = search needs
 
 loop-again : tie.Need-loop-again Inv-loop μ-loop
 loop-again c =
@@ -86,9 +53,6 @@ loop-again c =
           (c .larger .ensures ∙ ap₂ max (l .inv .2 .rest (termBase + (row + l .i)) (λ k h e. omega (arith, e))) (c .before .capped .ensures)) (l .inv .2),
     )
 
-same-length : tie.Need-same-length Inv-loop μ-loop
-same-length c = search needs
-
 returns : tie.Need-returns Inv-loop μ-loop
 returns c =
     let l = c .before .loop in
@@ -98,26 +62,7 @@ returns c =
 pub raise-spec : {M : Type 1} → statement M
 raise-spec =
     tie.close
-    (tie.spec
-    Inv-loop
-    μ-loop
-    row-of-requires
-    add-i-end
-    loop-holds
-    add-at
-    add-at-2
-    mul-larger
-    slice-read-larger
-    mul-capped
-    add-capped
-    mul-capped-2
-    shared-slice-read-capped
-    capped-requires
-    larger-requires
-    mul-t
-    slice-write-t
-    add-i
-    loop-less
-    loop-again
-    same-length
-    returns)
+    (tie.spec Inv-loop μ-loop row-of-requires (λ c. search needs) loop-holds (λ c. search needs) (λ c. search needs)
+    (λ c. search needs) slice-read-larger (λ c. search needs) (λ c. search needs) (λ c. search needs)
+    (λ c. search needs) capped-requires larger-requires (λ c. search needs) slice-write-t (λ c. search needs)
+    (λ c. search needs) loop-again (λ c. search needs) returns)

@@ -1,6 +1,6 @@
 -- `cost_of`: the fees, the prices and the removals, which fit by the job's ranges.
 use native.Mathlib.Omega.{arith}
-use Prim.Native.Nat.{ℕ, _+_, _≤_}
+use Prim.Native.Nat.{_+_, _≤_}
 use Rattle.jobs.specs.Views.{jobOf, planFor}
 use Rattle.verdict.specs.Ranges.{dearestPlan}
 use Rattle.verdict.proofs.Limits.{cost-most}
@@ -35,10 +35,4 @@ returns c = omega (arith, c .before .before .fees-of .ensures, c .before .prices
 pub cost-of-spec : {M : Type 1} → statement M
 cost-of-spec =
     tie.close
-    (tie.spec
-    fees-of-requires
-    prices-of-requires
-    removals-paid-requires
-    add-result
-    add-result-2
-    returns)
+    (tie.spec fees-of-requires prices-of-requires removals-paid-requires add-result add-result-2 returns)

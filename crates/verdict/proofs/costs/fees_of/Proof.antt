@@ -36,9 +36,6 @@ marked c = getD-take (c .before .before .args .t1 .«opening_count») (c .before
 loop-holds : tie.Need-loop-holds Inv-loop μ-loop
 loop-holds c = (omega arith, summed-none (fees c) (stops c) (c .args .t1 .«opening_count») (omega (arith, size c)))
 
-sub-k : tie.Need-sub-k Inv-loop μ-loop
-sub-k c = omega arith
-
 array-read-if1 : tie.Need-array-read-if1 Inv-loop μ-loop
 array-read-if1 c = omega (arith, c .before .before .pre .sized)
 
@@ -54,9 +51,6 @@ plus-requires c κs =
     let s = l .before in
     summed-most (fees s) (stops s) (l .loop .k) (l .loop .sum) (l .loop .inv .1) (omega (arith, s .pre .sized, size s)) (cheap-fees (jobOf (s .args .t1) .openings) (s .pre .valid .openings))
 
-loop-less : tie.Need-loop-less Inv-loop μ-loop
-loop-less c = omega arith
-
 loop-again : tie.Need-loop-again Inv-loop μ-loop
 loop-again c =
     let b = c .before .before .before in
@@ -66,9 +60,6 @@ loop-again c =
       summed-take (fees s) (stops s) (l .k) (l .sum) (l .inv .1) (c .plus .result) (b .loop-test .taken) (omega (arith, size s)) (marked b ∙ c .before .before .if1 .taken)
           (c .plus .ensures ∙ ap (λ (x : ℕ). x + l .sum) (sym (seen-at (s .args .t1) (s .pre .sized) (s .good .0) feeOf 0 (l .k - 1) (omega arith)))),
     )
-
-loop-less-2 : tie.Need-loop-less-2 Inv-loop μ-loop
-loop-less-2 c = omega arith
 
 loop-again-2 : tie.Need-loop-again-2 Inv-loop μ-loop
 loop-again-2 c =
@@ -86,17 +77,5 @@ returns c =
 pub fees-of-spec : {M : Type 1} → statement M
 fees-of-spec =
     tie.close
-    (tie.spec
-    Inv-loop
-    μ-loop
-    loop-holds
-    sub-k
-    array-read-if1
-    mul-o
-    element-copy-out-o
-    plus-requires
-    loop-less
-    loop-again
-    loop-less-2
-    loop-again-2
-    returns)
+    (tie.spec Inv-loop μ-loop loop-holds (λ c. omega arith) array-read-if1 mul-o element-copy-out-o plus-requires
+    (λ c. omega arith) loop-again (λ c. omega arith) loop-again-2 returns)

@@ -1,17 +1,10 @@
 -- `part_prices`: the sum over the part's prices.
-use Prim.Native.Nat.{_≤_}
 use native.Mathlib.Omega.{arith}
 use lib.ListN.{take, length-take}
 use Rattle.verdict.proofs.Sums.{cheap-prices}
 use borrow.Author.Needs.{needs}
 use Rattle.verdict.proofs.costs.part_prices.Statement.{statement}
 use Rattle.verdict.proofs.costs.part_prices.Tie as tie
-
-slice-aggregate-sum-at : tie.Need-slice-aggregate-sum-at
-slice-aggregate-sum-at c = search needs
-
-slice-aggregate-sum-at-2 : tie.Need-slice-aggregate-sum-at-2
-slice-aggregate-sum-at-2 c = search needs
 
 sum-at-requires : tie.Need-sum-at-requires
 sum-at-requires c κs =
@@ -25,4 +18,4 @@ returns c = search needs
 
 pub part-prices-spec : {M : Type 1} → statement M
 part-prices-spec =
-    tie.close (tie.spec slice-aggregate-sum-at slice-aggregate-sum-at-2 sum-at-requires returns)
+    tie.close (tie.spec (λ c. search needs) (λ c. search needs) sum-at-requires returns)

@@ -62,9 +62,6 @@ loop-holds c =
     let s = c .before in
     (omega arith, priced-none (parts s) (changes s) (s .args .job .«part_count») (omega (arith, count s)))
 
-sub-k : tie.Need-sub-k Inv-loop μ-loop
-sub-k c = omega arith
-
 part-of-requires : tie.Need-part-of-requires Inv-loop μ-loop
 part-of-requires c κs = (inside c, s c .pre .sized .parts)
 
@@ -89,9 +86,6 @@ add-sum c =
       priced-most (parts (s b)) (changes (s b)) (l .k) (l .sum) (l .inv .1) (n p) (s b .pre .sized .openings) (valid-parts (j p) (s b .pre .sized) (s b .good .0) (s b .pre .valid)) (s b .pre .valid .few-parts),
     )
 
-loop-less : tie.Need-loop-less Inv-loop μ-loop
-loop-less c = omega arith
-
 loop-again : tie.Need-loop-again Inv-loop μ-loop
 loop-again c =
     let p = c .before .before .before in
@@ -113,16 +107,5 @@ returns c =
 pub prices-of-spec : {M : Type 1} → statement M
 prices-of-spec =
     tie.close
-    (tie.spec
-    Inv-loop
-    μ-loop
-    loop-holds
-    sub-k
-    part-of-requires
-    mul-changed
-    element-copy-out-changed
-    part-prices-requires
-    add-sum
-    loop-less
-    loop-again
-    returns)
+    (tie.spec Inv-loop μ-loop loop-holds (λ c. omega arith) part-of-requires mul-changed element-copy-out-changed
+    part-prices-requires add-sum (λ c. omega arith) loop-again returns)

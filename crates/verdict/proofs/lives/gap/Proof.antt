@@ -17,9 +17,6 @@ tested c =
     let s = c .before in
     rw (toZ-ofZ (s .fits .prev), toZ-ofZ (s .fits .next), life-bits (s .args .life) (s .pre .life-high)) at (c .in-reach .ensures)
 
-cast-in-reach : tie.Need-cast-in-reach
-cast-in-reach c = search needs
-
 in-reach-requires : tie.Need-in-reach-requires
 in-reach-requires c κs =
     rw (toZ-ofZ (c .fits .prev), toZ-ofZ (c .fits .next))
@@ -35,4 +32,4 @@ returns-2 : tie.Need-returns-2
 returns-2 c = rw (sym (tested (c .before .before)) ∙ c .before .if1 .left) (ap too-long (rw (toZ-ofZ (c .before .before .before .fits .prev)) at (c .due-of .ensures)))
 
 pub gap-spec : {M : Type 1} → statement M
-gap-spec = tie.close (tie.spec cast-in-reach in-reach-requires due-of-requires returns returns-2)
+gap-spec = tie.close (tie.spec (λ c. search needs) in-reach-requires due-of-requires returns returns-2)

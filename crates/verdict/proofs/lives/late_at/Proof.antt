@@ -3,12 +3,6 @@ use borrow.Author.Needs.{needs}
 use Rattle.verdict.proofs.lives.late_at.Statement.{statement}
 use Rattle.verdict.proofs.lives.late_at.Tie as tie
 
-enum-told : tie.Need-enum-told
-enum-told c = search needs
-
-enum-known-gaps : tie.Need-enum-known-gaps
-enum-known-gaps c = search needs
-
 returns : tie.Need-returns
 returns c = search needs
 
@@ -16,4 +10,4 @@ returns-2 : tie.Need-returns-2
 returns-2 c = rw (c .before .gaps .given .1)
 
 pub late-at-spec : {M : Type 1} → statement M
-late-at-spec = tie.close (tie.spec enum-told enum-known-gaps returns returns-2)
+late-at-spec = tie.close (tie.spec (λ c. search needs) (λ c. search needs) returns returns-2)

@@ -97,9 +97,6 @@ first-long-requires c κs = search needs
 add-i : tie.Need-add-i Inv-loop μ-loop
 add-i c = omega (arith, c .before .before .before .before .pre .0 .sized)
 
-loop-less : tie.Need-loop-less Inv-loop μ-loop
-loop-less c = omega arith
-
 loop-again : tie.Need-loop-again Inv-loop μ-loop
 loop-again c =
     let b = c .before in
@@ -153,19 +150,6 @@ returns c =
 pub late-of-spec : {M : Type 1} → statement M
 late-of-spec =
     tie.close
-    (tie.spec
-    Inv-loop
-    μ-loop
-    last-change-requires
-    loop-holds
-    array-read-if1
-    mul-next
-    element-copy-out-next
-    gap-requires
-    first-long-requires
-    add-i
-    loop-less
-    loop-again
-    gap-requires-2
-    first-long-requires-2
+    (tie.spec Inv-loop μ-loop last-change-requires loop-holds array-read-if1 mul-next element-copy-out-next
+    gap-requires first-long-requires add-i (λ c. omega arith) loop-again gap-requires-2 first-long-requires-2
     returns)

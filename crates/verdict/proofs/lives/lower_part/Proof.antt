@@ -3,12 +3,6 @@ use borrow.Author.Needs.{needs}
 use Rattle.verdict.proofs.lives.lower_part.Statement.{statement}
 use Rattle.verdict.proofs.lives.lower_part.Tie as tie
 
-enum-told : tie.Need-enum-told
-enum-told c = search needs
-
-enum-known-a : tie.Need-enum-known-a
-enum-known-a c = search needs
-
 returns : tie.Need-returns
 returns c = search needs
 
@@ -16,4 +10,4 @@ returns-2 : tie.Need-returns-2
 returns-2 c = rw (c .before .a .given .1)
 
 pub lower-part-spec : {M : Type 1} → statement M
-lower-part-spec = tie.close (tie.spec enum-told enum-known-a returns returns-2)
+lower-part-spec = tie.close (tie.spec (λ c. search needs) (λ c. search needs) returns returns-2)

@@ -59,9 +59,6 @@ lower-part-requires c κs = search needs
 add-k : tie.Need-add-k Inv-loop μ-loop
 add-k c = omega (arith, start (c .before .before .before .before .before .before) .pre .sized)
 
-loop-less : tie.Need-loop-less Inv-loop μ-loop
-loop-less c = omega arith
-
 loop-again : tie.Need-loop-again Inv-loop μ-loop
 loop-again c =
     let late-at = c .before in
@@ -90,20 +87,6 @@ returns c =
 pub verdict-of-spec : {M : Type 1} → statement M
 verdict-of-spec =
     tie.close
-    (tie.spec
-    Inv-loop
-    μ-loop
-    positions-of-requires
-    loop-holds
-    part-of-requires
-    mul-changed
-    element-copy-out-changed
-    late-of-requires
-    cast-late-at
-    add-late-at
-    late-at-requires
-    lower-part-requires
-    add-k
-    loop-less
-    loop-again
-    returns)
+    (tie.spec Inv-loop μ-loop positions-of-requires loop-holds part-of-requires mul-changed element-copy-out-changed
+    late-of-requires cast-late-at add-late-at late-at-requires lower-part-requires add-k (λ c. omega arith)
+    loop-again returns)

@@ -22,23 +22,8 @@ abbrev μ-loop : tie.MeasureT-loop
 loop-holds : tie.Need-loop-holds Inv-loop μ-loop
 loop-holds c = (omega arith, row-none false (λ x. getD (getD (c .args .t1) x blankChanges .at) (c .args .k) false))
 
-mul-changed : tie.Need-mul-changed Inv-loop μ-loop
-mul-changed c = search needs
-
-array-copy-out-changed : tie.Need-array-copy-out-changed Inv-loop μ-loop
-array-copy-out-changed c = search needs
-
 array-read-row : tie.Need-array-read-row Inv-loop μ-loop
 array-read-row c = omega (arith, c .before .before .before .before .pre)
-
-array-write-row : tie.Need-array-write-row Inv-loop μ-loop
-array-write-row c = search needs
-
-add-i : tie.Need-add-i Inv-loop μ-loop
-add-i c = search needs
-
-loop-less : tie.Need-loop-less Inv-loop μ-loop
-loop-less c = omega arith
 
 loop-again : tie.Need-loop-again Inv-loop μ-loop
 loop-again c =
@@ -57,15 +42,5 @@ returns c =
 pub changed-at-spec : {M : Type 1} → statement M
 changed-at-spec =
     tie.close
-    (tie.spec
-    Inv-loop
-    μ-loop
-    loop-holds
-    mul-changed
-    array-copy-out-changed
-    array-read-row
-    array-write-row
-    add-i
-    loop-less
-    loop-again
-    returns)
+    (tie.spec Inv-loop μ-loop loop-holds (λ c. search needs) (λ c. search needs) array-read-row (λ c. search needs)
+    (λ c. search needs) (λ c. omega arith) loop-again returns)

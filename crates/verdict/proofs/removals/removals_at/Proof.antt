@@ -4,7 +4,6 @@ use mathlib.Core.Path.{_≡_, sym, ap, subst, _∙_}
 use native.Mathlib.Omega.{arith}
 use borrow.Author.Needs.{needs}
 use lib.ListN.{length, take, length-take}
-use Rattle.model.specs.Limits.{mostParts}
 use Rattle.model.specs.Model.{Job, comesOut, sum}
 use Rattle.coming_out.specs.Rows.{Rows}
 use Rattle.coming_out.specs.Places.{Removals}
@@ -34,20 +33,11 @@ one c =
 loop-holds : tie.Need-loop-holds Inv-loop μ-loop
 loop-holds c = let a = c .before .args in (omega arith, omega arith, λ job p r s. paid-none (a .n) (paidAt job (a .m) (a .n) (a .plan .changes)))
 
-sub-k : tie.Need-sub-k Inv-loop μ-loop
-sub-k c = omega arith
-
 changed-at-requires : tie.Need-changed-at-requires Inv-loop μ-loop
 changed-at-requires c κs = omega (arith, start c .pre .1)
 
 union-requires : tie.Need-union-requires Inv-loop μ-loop
 union-requires c κs = start (c .before) .pre .0
-
-slice-aggregate-sum-at : tie.Need-slice-aggregate-sum-at Inv-loop μ-loop
-slice-aggregate-sum-at c = search needs
-
-slice-aggregate-sum-at-2 : tie.Need-slice-aggregate-sum-at-2 Inv-loop μ-loop
-slice-aggregate-sum-at-2 c = search needs
 
 sum-at-requires : tie.Need-sum-at-requires Inv-loop μ-loop
 sum-at-requires c κs =
@@ -58,9 +48,6 @@ add-sum : tie.Need-add-sum Inv-loop μ-loop
 add-sum c =
     let i = c .before .before .before .before .before in
     omega (arith, one c, i .before .loop .inv .1, start i .pre .1)
-
-loop-less : tie.Need-loop-less Inv-loop μ-loop
-loop-less c = omega arith
 
 loop-again : tie.Need-loop-again Inv-loop μ-loop
 loop-again c =
@@ -89,17 +76,5 @@ returns c job p o r v =
 pub removals-at-spec : {M : Type 1} → statement M
 removals-at-spec =
     tie.close
-    (tie.spec
-    Inv-loop
-    μ-loop
-    loop-holds
-    sub-k
-    changed-at-requires
-    union-requires
-    slice-aggregate-sum-at
-    slice-aggregate-sum-at-2
-    sum-at-requires
-    add-sum
-    loop-less
-    loop-again
-    returns)
+    (tie.spec Inv-loop μ-loop loop-holds (λ c. omega arith) changed-at-requires union-requires (λ c. search needs)
+    (λ c. search needs) sum-at-requires add-sum (λ c. omega arith) loop-again returns)

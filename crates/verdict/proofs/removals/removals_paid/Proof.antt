@@ -1,5 +1,4 @@
 -- `removals_paid`: nothing where all removals sum up to 0, else the sum over the openings.
-use Prim.Native.Nat.{ℕ, _≤_}
 use mathlib.Core.Path.{_≡_, sym, subst, _∙_}
 use mathlib.Core.List.{map}
 use native.Mathlib.Omega.{arith}
@@ -29,12 +28,6 @@ cheap c =
 
 removals-of-requires : tie.Need-removals-of-requires
 removals-of-requires c κs = search needs
-
-slice-aggregate-sum-at : tie.Need-slice-aggregate-sum-at
-slice-aggregate-sum-at c = search needs
-
-slice-aggregate-sum-at-2 : tie.Need-slice-aggregate-sum-at-2
-slice-aggregate-sum-at-2 c = search needs
 
 sum-at-requires : tie.Need-sum-at-requires
 sum-at-requires c κs =
@@ -72,13 +65,5 @@ returns-2 c =
 pub removals-paid-spec : {M : Type 1} → statement M
 removals-paid-spec =
     tie.close
-    (tie.spec
-    removals-of-requires
-    slice-aggregate-sum-at
-    slice-aggregate-sum-at-2
-    sum-at-requires
-    returns
-    holders-of-requires
-    come-out-requires
-    removals-at-requires
-    returns-2)
+    (tie.spec removals-of-requires (λ c. search needs) (λ c. search needs) sum-at-requires returns holders-of-requires
+    come-out-requires removals-at-requires returns-2)

@@ -36,9 +36,6 @@ first c l d = getD-take (start (c .before) .args .n) l (c .before .loop .k - 1) 
 loop-holds : tie.Need-loop-holds Inv-loop μ-loop
 loop-holds c = let s = c .before .before in (omega arith, summed-none (numbers s) (marks s) (s .args .n) (omega (arith, size s)))
 
-sub-k : tie.Need-sub-k Inv-loop μ-loop
-sub-k c = omega arith
-
 shared-slice-read-if1 : tie.Need-shared-slice-read-if1 Inv-loop μ-loop
 shared-slice-read-if1 c = omega (arith, start (c .before .before) .pre .2)
 
@@ -54,9 +51,6 @@ plus-requires c κs =
     let s = start l in
     summed-most (numbers s) (marks s) (l .loop .k) (l .loop .sum) (l .loop .inv .1) (omega (arith, s .pre .0, size s)) (s .pre .3)
 
-loop-less : tie.Need-loop-less Inv-loop μ-loop
-loop-less c = omega arith
-
 loop-again : tie.Need-loop-again Inv-loop μ-loop
 loop-again c =
     let t = c .before .before in
@@ -67,9 +61,6 @@ loop-again c =
       summed-take (numbers s) (marks s) (l .k) (l .sum) (l .inv .1) (c .plus .result) (b .loop-test .taken) (omega (arith, size s)) (first b (s .args .marks .now) false ∙ t .if1 .taken)
           (c .plus .ensures ∙ ap (λ (x : ℕ). x + l .sum) (sym (first b (s .args .numbers .now) 0))),
     )
-
-loop-less-2 : tie.Need-loop-less-2 Inv-loop μ-loop
-loop-less-2 c = omega arith
 
 loop-again-2 : tie.Need-loop-again-2 Inv-loop μ-loop
 loop-again-2 c =
@@ -87,17 +78,5 @@ returns c =
 pub sum-at-spec : {M : Type 1} → statement M
 sum-at-spec =
     tie.close
-    (tie.spec
-    Inv-loop
-    μ-loop
-    loop-holds
-    sub-k
-    shared-slice-read-if1
-    mul-plus
-    shared-slice-read-plus
-    plus-requires
-    loop-less
-    loop-again
-    loop-less-2
-    loop-again-2
-    returns)
+    (tie.spec Inv-loop μ-loop loop-holds (λ c. omega arith) shared-slice-read-if1 mul-plus shared-slice-read-plus
+    plus-requires (λ c. omega arith) loop-again (λ c. omega arith) loop-again-2 returns)
