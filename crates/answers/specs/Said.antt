@@ -7,8 +7,8 @@ use lib.Dec.{ltb}
 use lib.ListN.{length, drop}
 use Rattle.lines.specs.Text.{line, lineOf}
 use Rattle.lines.specs.Wrote.{Counted}
-use Rattle.lines.specs.Fault.{nowhere, faultLine, faultSpan, Cuts}
-use Rattle.lines.specs.declared.fault.Span.{Span}
+use Rattle.fault_lines.specs.Fault.{nowhere, faultLine, faultSpan, Cuts}
+use Rattle.fault_lines.specs.declared.fault.Span.{Span}
 use Rattle.answers.specs.declared.Answer.{Answer}
 
 -- O10, O13. an answer: the result number; the text at fault and its line (0 and 0 if there is none); where that line stands; the bytes written

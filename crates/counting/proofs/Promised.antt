@@ -8,7 +8,7 @@ use native.Mathlib.Omega.{arith}
 use lib.ListN.{length}
 use Rattle.lines.specs.Parser.{Outcome, accepted, refused}
 use Rattle.lines.proofs.Outcomes.{one-value, one-fault, not-both}
-use Rattle.lines.proofs.Breaks.{span-cuts}
+use Rattle.fault_lines.proofs.Breaks.{span-cuts}
 use Rattle.model.specs.Model.{Part, Job, hasHolder, HasPlan}
 use Rattle.model.specs.Limits.{mostCount}
 use Rattle.model.specs.Promise.{nodesOf, resultOf, wholeCount, answerOf}

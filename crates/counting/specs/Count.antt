@@ -3,7 +3,7 @@ use Prim.Native.Nat.{ℕ}
 use mathlib.Core.Bool.{cond}
 use mathlib.Core.List.{List}
 use Rattle.lines.specs.Parser.{Outcome, accepted, refused}
-use Rattle.lines.specs.Fault.{faultSpan}
+use Rattle.fault_lines.specs.Fault.{faultSpan}
 use Rattle.model.specs.Model.{Job, hasHolder}
 use Rattle.model.specs.Count.{openCount}
 use Rattle.job_text.specs.Grammar.{Given, readJob}

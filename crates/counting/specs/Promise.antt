@@ -6,7 +6,7 @@ use mathlib.Core.List.{List}
 use mathlib.Core.Logic.{_⊎_, _↔_}
 use lib.ListN.{length}
 use Rattle.lines.specs.Parser.{accepted, refused}
-use Rattle.lines.specs.Fault.{faultLine, Cuts}
+use Rattle.fault_lines.specs.Fault.{faultLine, Cuts}
 use Rattle.model.specs.Model.{Job, hasHolder, HasPlan}
 use Rattle.model.specs.Limits.{mostCount}
 use Rattle.model.specs.Promise.{nodesOf, resultOf, wholeCount, answerOf}

@@ -7,7 +7,7 @@ use jobs::Part;
 use least::in_reach;
 use least::last_change;
 use least::mark;
-use lines::fault::fault_span;
+use fault_lines::fault::fault_span;
 use lines::rows::WholeText;
 use part_records::part_of;
 ghost use mathlib.Core.Path.{_≡_};

@@ -9,7 +9,7 @@ use borrow.Author.Tests.{lt-ltb, le-ltb}
 use mathlib.Core.Logic.{⊎-elim}
 use lib.ListN.{length, length-map}
 use Rattle.lines.specs.Parser.{accepted, refused, good, fault, return, end as ends, finish, whole}
-use Rattle.lines.specs.Fault.{nowhere, skipped, afterBreak, faultSpan, spanIn}
+use Rattle.fault_lines.specs.Fault.{nowhere, skipped, afterBreak, faultSpan, spanIn}
 use Rattle.lines.proofs.Parsing.{bind-good, bind-fault, text-fits}
 use Rattle.lines.proofs.Outcomes.{one-value, one-fault, not-both}
 use Rattle.lines.proofs.Readback.{Readback, back, broken}

@@ -5,7 +5,7 @@ use mathlib.Core.List.{List, [], _∷_, map}
 use mathlib.Core.Logic.{_↔_, _⊎_}
 use lib.ListN.{length}
 use Rattle.lines.specs.Text.{texts, Optional, missing, present}
-use Rattle.lines.specs.Fault.{nowhere}
+use Rattle.fault_lines.specs.Fault.{nowhere}
 use Rattle.lines.specs.Parser.{accepted, refused, finish, whole}
 use Rattle.model.specs.Model.{Opening}
 use Rattle.model.specs.Limits.{lastStep, dearest, mostOpenings, mostParts, mostWalk}

@@ -5,7 +5,7 @@ use job_text::whole::JobText;
 use jobs::Job;
 use jobs::Opening;
 use jobs::Part;
-use lines::write::put_line;
+use line_writing::write::put_line;
 ghost use Prim.Native.Nat.{_+_, _≤_};
 ghost use lib.ListN.{length};
 ghost use Rattle.lines.specs.Text.{line, texts, optionalText};

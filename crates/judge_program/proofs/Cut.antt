@@ -4,7 +4,7 @@ use mathlib.Core.Path.{_≡_, refl, sym, ap, _∙_}
 use mathlib.Core.List.{List}
 use mathlib.Core.Logic.{⊎-elim}
 use lib.ListN.{length, take}
-use Rattle.lines.specs.Fault.{faultSpan}
+use Rattle.fault_lines.specs.Fault.{faultSpan}
 use Rattle.lines.specs.Parser.{Outcome, accepted, refused}
 use Rattle.lines.proofs.Parsing.{text-long}
 use Rattle.job_text.specs.Grammar.{JobText, Given, jobLines, meaning, readJob}

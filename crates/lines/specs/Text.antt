@@ -1,6 +1,6 @@
 -- How numbers and lines are written: G5. "Numbers in texts are decimal", X1. "Key=value lines in this order, each ended by byte 10".
 use Prim.Native.Nat.{ℕ, zero, suc, _+_, _/_, _%_}
-use Prim.Native.String.{String, [] as none}
+use Prim.Native.String.{String, [] as none, _∷_ as _then_}
 use Prim.Native.Char.{code}
 use mathlib.Core.List.{List, [], _∷_, _++_}
 use mathlib.Core.Bool.{true, false}

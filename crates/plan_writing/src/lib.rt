@@ -1,8 +1,8 @@
 // The lines of a plan, written into a lent slice.
 use jobs::Job;
 use jobs::Plan;
-use lines::marks::counted;
-use lines::write::put_line;
+use line_writing::marks::counted;
+use line_writing::write::put_line;
 ghost use mathlib.Core.Path.{_≡_};
 ghost use mathlib.Core.Bool.{cond, false};
 ghost use mathlib.Core.List.{[]};

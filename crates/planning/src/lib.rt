@@ -8,7 +8,7 @@ use job_text::whole::read_job;
 use jobs::Job;
 use jobs::Plan;
 use lines::rows::WholeText;
-use lines::write::put_line;
+use line_writing::write::put_line;
 use plan_writing::put_plan;
 use search::Found;
 ghost use mathlib.Core.Path.{_≡_};

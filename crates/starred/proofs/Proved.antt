@@ -3,7 +3,7 @@ use mathlib.Core.Path.{refl}
 use Rattle.lines.specs.Text.{bytes, decimalIn, line, joined}
 use Rattle.lines.specs.Line.{digits, numberFrom, startsWith, readValue, readLine}
 use Rattle.lines.specs.Parser.{_>>=_, return, inRange, readField, taken, rowAt, optionalAt, ifPresent, checked, chain, times, end, whole, readText}
-use Rattle.lines.specs.Fault.{beforeBreak, afterBreak, skipped, faultLine, faultSpan}
+use Rattle.fault_lines.specs.Fault.{beforeBreak, afterBreak, skipped, faultLine, faultSpan}
 use Rattle.branch.specs.Search.{walk, limited}
 use Rattle.branch.specs.Questions.{askFrom}
 use Rattle.model.specs.Model.{idle, running, clock, within, kept, lastWithin, dueOf, listed, table as places, holdsOne, rounds, comesOut, holding, outBy, select, sumAt, sum, anyHeld}

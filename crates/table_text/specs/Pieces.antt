@@ -7,7 +7,7 @@ use lib.ListN.{length, drop}
 use Rattle.lines.specs.Line.{readLine}
 use Rattle.lines.specs.declared.read.Line.{Line}
 use Rattle.lines.specs.declared.read.Line.the-variants.{Value, Bad}
-use Rattle.lines.specs.declared.fault.Span.{Span}
+use Rattle.fault_lines.specs.declared.fault.Span.{Span}
 use Rattle.table_text.specs.declared.Head.{Head}
 
 -- the line that was read at a place of a table of so many bytes

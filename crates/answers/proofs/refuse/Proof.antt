@@ -1,7 +1,7 @@
 -- `refuse`: an output that is too short stays; else the lines of the fault are written, and the span is where its line stands.
 use mathlib.Core.Path.{ap}
 use native.Mathlib.Omega.{arith}
-use Rattle.lines.specs.declared.fault.Span.{Span}
+use Rattle.fault_lines.specs.declared.fault.Span.{Span}
 use Rattle.answers.specs.Said.{refusal}
 use Rattle.answers.proofs.Lengths.{fault-short}
 use Rattle.answers.proofs.Replies.{replied, no-room}

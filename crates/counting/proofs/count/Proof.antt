@@ -2,7 +2,7 @@
 use mathlib.Core.Path.{_≡_, sym, ap, _∙_}
 use native.Mathlib.Omega.{arith}
 use Rattle.lines.specs.Parser.{accepted, refused}
-use Rattle.lines.specs.declared.fault.Span.{Span}
+use Rattle.fault_lines.specs.declared.fault.Span.{Span}
 use Rattle.lines.proofs.Outcomes.{told}
 use Rattle.job_text.specs.Grammar.{readJob}
 use Rattle.job_text.specs.Views.{givenOf}
