@@ -7,8 +7,8 @@ use lib.ListN.{length, replicate}
 use Rattle.lines.specs.Text.{missing}
 use Rattle.lines.specs.Parser.{accepted}
 use Rattle.jobs.specs.Valid.{All}
-use Rattle.job_text.specs.Grammar.{Given}
-use Rattle.job_text.specs.Grammar as today
+use Rattle.job_grammar.specs.Grammar.{Given}
+use Rattle.job_grammar.specs.Grammar as today
 use Rattle.plan_text.specs.Grammar.{Stated}
 use Rattle.plan_text.specs.Grammar as plans
 use Rattle.answers.specs.Said.{lent}

@@ -9,9 +9,9 @@ use Rattle.lines.specs.Text.{lineOf, texts, Optional, optionalText}
 use Rattle.lines.specs.Parser.{Outcome, accepted, refused, Parser, _>>=_, return, row, checked, times, upTo, finish, whole, readText}
 use Rattle.model.specs.Model.{Opening, Part, Job}
 use Rattle.model.specs.Limits.{lastStep, longestLife, dearest, mostOpenings, mostParts, mostWalk}
-use Rattle.job_text.specs.Grammar.{Given, idleIn, idles, openings}
-use Rattle.job_text.specs.Views.{idleLines}
-use Rattle.job_text.specs.Rendering.{idlesText, openingText}
+use Rattle.job_grammar.specs.Grammar.{Given, idleIn, idles, openings}
+use Rattle.job_grammar.specs.Optionals.{idleLines}
+use Rattle.job_grammar.specs.Rendering.{idlesText, openingText}
 use Rattle.plan_text.specs.Grammar.{Stated, visits, planOf}
 use Rattle.form_lists.specs.Facts.{paired, feesAgree, countOf}
 use Rattle.form.specs.Form.{idleCountText}

@@ -18,10 +18,10 @@ use Rattle.model.specs.Count as model
 use Rattle.model.proofs.Counted.{nodes-most, count-promise}
 use Rattle.model.proofs.NoHolders.{none-held}
 use Rattle.jobs.specs.Valid.{All, ValidPart, ValidJob}
-use Rattle.job_text.specs.Grammar.{Given, readJob}
-use Rattle.job_text.specs.Valid.{Valid}
-use Rattle.job_text.proofs.Accepted.{valid}
-use Rattle.job_text.proofs.Numbered.{fault-some, fault}
+use Rattle.job_grammar.specs.Grammar.{Given, readJob}
+use Rattle.job_grammar.specs.Valid.{Valid}
+use Rattle.job_grammar.proofs.Accepted.{valid}
+use Rattle.job_grammar.proofs.Numbered.{fault-some, fault}
 use Rattle.counting.specs.declared.Counted.{Counted}
 use Rattle.counting.specs.Count.{countOf, refusalOf, holderRefusal, countedJob, onJob, countSaid}
 use Rattle.counting.specs.Promise.{Reading, jobIn, CountPromise}

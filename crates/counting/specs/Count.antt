@@ -6,7 +6,7 @@ use Rattle.lines.specs.Parser.{Outcome, accepted, refused}
 use Rattle.fault_lines.specs.Fault.{faultSpan}
 use Rattle.model.specs.Model.{Job, hasHolder}
 use Rattle.model.specs.Count.{openCount}
-use Rattle.job_text.specs.Grammar.{Given, readJob}
+use Rattle.job_grammar.specs.Grammar.{Given, readJob}
 use Rattle.counting.specs.declared.Counted.{Counted}
 
 -- an accepted job's count

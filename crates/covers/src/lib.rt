@@ -1,6 +1,7 @@
 // What a part's lines of removal say: what it costs to remove the part, and which parts hold it. Read from a cursor on, and written.
 use line_writing::marks::count_marks;
 use line_writing::marks::put_marks;
+use line_writing::write::put_line;
 use lines::read::Field;
 use lines::read::OptionalField;
 use lines::read::read_field;
@@ -10,7 +11,6 @@ use lines::rows::Cursor;
 use lines::rows::End;
 use lines::rows::Row;
 use lines::rows::advance;
-use line_writing::write::put_line;
 ghost use mathlib.Core.Path.{_≡_};
 ghost use mathlib.Core.Bool.{false};
 ghost use Prim.Native.Nat.{_+_, _≤_};

@@ -12,9 +12,9 @@ use Rattle.lines.specs.Text.{bytes, lineOf, texts, Optional, present, optionalT
 use Rattle.lines.specs.Parser.{Parsed, good, fault, _>>=_, return, row, optional, ifPresent}
 use Rattle.lines.proofs.Parsing.{bind-good, bind-fault, optional-there, optional-missing}
 use Rattle.lines.proofs.Sound.{chain-gives}
-use Rattle.job_text.specs.Grammar.{idle, idleSteps, idles}
-use Rattle.job_text.specs.Views.{idleLines}
-use Rattle.job_text.proofs.Views.{some-idles}
+use Rattle.job_grammar.specs.Grammar.{idle, idleSteps, idles}
+use Rattle.job_grammar.specs.Optionals.{idleLines}
+use Rattle.job_grammar.proofs.Optionals.{some-idles}
 use Rattle.form_lists.specs.Facts.{countOf}
 use Rattle.form_lists.specs.Checks.{found}
 use Rattle.form_lists.specs.declared.check.Check.{Check}

@@ -13,12 +13,12 @@ use Rattle.fault_lines.specs.Fault.{nowhere, skipped, afterBreak, faultSpan, sp
 use Rattle.lines.proofs.Parsing.{bind-good, bind-fault, text-fits}
 use Rattle.lines.proofs.Outcomes.{one-value, one-fault, not-both}
 use Rattle.lines.proofs.Readback.{Readback, back, broken}
-use Rattle.job_text.specs.Grammar.{JobText, meantPart, jobLines, maxBytes, readJobText}
-use Rattle.job_text.specs.Rendering.{jobText}
-use Rattle.job_text.proofs.Views.{idle-steps}
-use Rattle.job_text.proofs.Accepted.{lines-tell, valid-text, text-is}
-use Rattle.job_text.proofs.Lengths as lengths
-use Rattle.job_text.proofs.Complete.{read-back}
+use Rattle.job_grammar.specs.Grammar.{JobText, meantPart, jobLines, maxBytes, readJobText}
+use Rattle.job_grammar.specs.Rendering.{jobText}
+use Rattle.job_grammar.proofs.Optionals.{idle-steps}
+use Rattle.job_grammar.proofs.Accepted.{lines-tell, valid-text, text-is}
+use Rattle.job_grammar.proofs.Lengths as lengths
+use Rattle.job_grammar.proofs.Complete.{read-back}
 use Rattle.answers.specs.Said.{Said, plainly, refusal, lent}
 use Rattle.answers.proofs.Replies as replies
 use Rattle.form_lists.proofs.Places.{paired-size, parts-size}

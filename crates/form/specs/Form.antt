@@ -6,9 +6,9 @@ use lib.ListN.{length}
 use Rattle.lines.specs.Text.{lineOf, texts, optionalText}
 use Rattle.lines.specs.Parser.{Outcome, finish, whole}
 use Rattle.model.specs.Limits.{lastStep, mostOpenings}
-use Rattle.job_text.specs.Grammar.{JobText, jobLines}
-use Rattle.job_text.specs.Views.{idleLines}
-use Rattle.job_text.specs.Rendering.{openingText}
+use Rattle.job_grammar.specs.Grammar.{JobText, jobLines}
+use Rattle.job_grammar.specs.Optionals.{idleLines}
+use Rattle.job_grammar.specs.Rendering.{openingText}
 use Rattle.form_lists.specs.Facts.{PartLists, partLists, paired, partsOf, feesAgree, countOf, countedText}
 
 -- the facts of a job text as lists of numbers

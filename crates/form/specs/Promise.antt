@@ -11,8 +11,8 @@ use Rattle.model.specs.Model.{Opening}
 use Rattle.model.specs.Limits.{lastStep, dearest, mostOpenings, mostParts, mostWalk}
 use Rattle.model.specs.Windows.{Rising}
 use Rattle.jobs.specs.Valid.{All}
-use Rattle.job_text.specs.Grammar.{PartText, JobText, idleIn, jobLines, readJobText}
-use Rattle.job_text.specs.Rendering.{jobText}
+use Rattle.job_grammar.specs.Grammar.{PartText, JobText, idleIn, jobLines, readJobText}
+use Rattle.job_grammar.specs.Rendering.{jobText}
 use Rattle.covers.specs.Grammar.{Cover}
 use Rattle.form_lists.specs.Facts.{PartLists, PartsAgree}
 use Rattle.answers.specs.Said.{Said, Refuses}

@@ -11,8 +11,8 @@ use Rattle.lines.specs.Parser.{Parsed, good, fault, Parser, _>>=_, row}
 use Rattle.model.specs.Limits.{mostParts}
 use Rattle.covers.specs.Views.{linesOf}
 use Rattle.jobs.specs.Views.{partOf}
-use Rattle.job_text.specs.Grammar.{PartText, parts}
-use Rattle.job_text.specs.Views.{partsLines}
+use Rattle.job_grammar.specs.Grammar.{PartText, parts}
+use Rattle.job_grammar.specs.Optionals.{partsLines}
 use Rattle.form_lists.specs.Facts.{PartLists, PartsAgree, countedText}
 use Rattle.form_lists.specs.declared.check.Check.{Check}
 use Rattle.form_lists.specs.declared.check.Check.the-variants.{Good, Fault}

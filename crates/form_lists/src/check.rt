@@ -6,8 +6,8 @@ ghost use mathlib.Core.List.{List};
 ghost use Rattle.lines.specs.Text.{line};
 ghost use Rattle.lines.specs.Parser.{rowAt, checked, rising, upTo};
 ghost use Rattle.jobs.specs.Views.{openingOf};
-ghost use Rattle.job_text.specs.Grammar.{opening};
-ghost use Rattle.job_text.specs.Rendering.{openingText};
+ghost use Rattle.job_grammar.specs.Grammar.{opening};
+ghost use Rattle.job_grammar.specs.Rendering.{openingText};
 ghost use Rattle.form_lists.specs.Checks.{ReadsAs};
 ghost use Rattle.model.specs.Limits.{longestLife};
 

@@ -13,8 +13,9 @@ ghost use Rattle.lines.specs.Wrote.{Wrote};
 ghost use Rattle.jobs.specs.Views.{openingOf, partOf, jobOf, Sized};
 ghost use Rattle.covers.specs.Rendering.{coverText};
 ghost use Rattle.covers.specs.Views.{linesOf};
-ghost use Rattle.job_text.specs.Views.{idleLines, partLines, textOf};
-ghost use Rattle.job_text.specs.Rendering.{idlesText, openingText, partText, bodyText, jobText};
+ghost use Rattle.job_grammar.specs.Optionals.{idleLines, partLines};
+ghost use Rattle.job_text.specs.Views.{textOf};
+ghost use Rattle.job_grammar.specs.Rendering.{idlesText, openingText, partText, bodyText, jobText};
 ghost use Rattle.job_writing.specs.Lines.{coverIn, linesFor};
 
 // Puts the line of a key and each value.

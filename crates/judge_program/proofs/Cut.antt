@@ -7,7 +7,7 @@ use lib.ListN.{length, take}
 use Rattle.fault_lines.specs.Fault.{faultSpan}
 use Rattle.lines.specs.Parser.{Outcome, accepted, refused}
 use Rattle.lines.proofs.Parsing.{text-long}
-use Rattle.job_text.specs.Grammar.{JobText, Given, jobLines, meaning, readJob}
+use Rattle.job_grammar.specs.Grammar.{JobText, Given, jobLines, meaning, readJob}
 use Rattle.plan_text.proofs.Nothing.{read-long}
 use Rattle.judging.specs.Judge.{onJob, onPlan, judgeSaid}
 use Rattle.whole_input.specs.declared.Text.the-variants.{Job, Plan}

@@ -12,9 +12,9 @@ use Rattle.model.specs.Model.{KeepsLives, costOf}
 use Rattle.model.specs.Verdict as verdict
 use Rattle.model.specs.Verdict.{Judgement, accepts, unkept, wrongCost, numberOf, judgedOf, AllKept}
 use Rattle.model.proofs.Verdicts.{judge, lives-kept, kept-lives}
-use Rattle.job_text.specs.Grammar.{Given, readJob}
-use Rattle.job_text.proofs.Numbered as job
-use Rattle.job_text.proofs.Published.{text-due}
+use Rattle.job_grammar.specs.Grammar.{Given, readJob}
+use Rattle.job_grammar.proofs.Numbered as job
+use Rattle.job_grammar.proofs.Published.{text-due}
 use Rattle.plan_text.specs.Grammar.{Stated, readPlan}
 use Rattle.plan_text.proofs.Numbered as plan
 use Rattle.plan_text.proofs.Shapes.{shaped}

@@ -9,9 +9,9 @@ use Rattle.lines.specs.Parser.{accepted}
 use Rattle.model.specs.Model.{Job, Plan}
 use Rattle.model.specs.Promise.{PlannerAnswer, no-plan, cut-none, cut, optimum, Any, BestPlan, Walked, Promise}
 use Rattle.model.proofs.Verdicts.{lives-shaped, best-accepted}
-use Rattle.job_text.specs.Grammar.{Given, readJob}
+use Rattle.job_grammar.specs.Grammar.{Given, readJob}
 use Rattle.jobs.specs.Valid.{ValidJob}
-use Rattle.job_text.proofs.Accepted.{valid}
+use Rattle.job_grammar.proofs.Accepted.{valid}
 use Rattle.plan_text.specs.Grammar.{readPlan}
 use Rattle.plan_text.specs.Rendering.{planLinesOf}
 use Rattle.plan_text.proofs.Printed.{read-back}

@@ -5,7 +5,7 @@ use Rattle.lines.specs.Text.{lineOf}
 use Rattle.lines.specs.Parser.{Outcome, accepted, refused}
 use Rattle.model.specs.Model.{Job, Plan}
 use Rattle.model.specs.Promise.{PlannerAnswer, no-plan, cut-none, cut, optimum, resultOf, answerOf}
-use Rattle.job_text.specs.Grammar.{Given, readJob}
+use Rattle.job_grammar.specs.Grammar.{Given, readJob}
 use Rattle.plan_text.specs.Rendering.{planLinesOf}
 use Rattle.answers.specs.Said.{Said, plainly, refusal}
 

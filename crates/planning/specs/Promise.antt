@@ -7,7 +7,7 @@ use Rattle.lines.specs.Parser.{accepted, refused}
 use Rattle.model.specs.Model.{Job, Plan, HasPlan}
 use Rattle.model.specs.Promise.{PlannerAnswer, no-plan, cut-none, cut, optimum, wholeCount}
 use Rattle.model.specs.Promise as model
-use Rattle.job_text.specs.Grammar.{Given, readJob}
+use Rattle.job_grammar.specs.Grammar.{Given, readJob}
 use Rattle.plan_text.specs.Grammar.{readPlan}
 use Rattle.answers.specs.Said.{Said, Refuses, plainly, lent}
 use Rattle.judging.specs.Judge.{costLines, judgeSaid}

@@ -11,7 +11,7 @@ use Rattle.model.specs.Decisions.{heldFrom, covered}
 use Rattle.model.specs.LowerBound.{leastOf, choiceOf, offers, blocks, stopCost, undecidedFees, boundOf}
 use Rattle.model.specs.Promise.{answerOf}
 use Rattle.model.specs.Verdict.{firstLate, verdictFrom, judgedOf}
-use Rattle.job_text.specs.Grammar as job
+use Rattle.job_grammar.specs.Grammar as job
 use Rattle.plan_text.specs.Grammar as plan
 use Rattle.lines.specs.Chosen.{chosen}
 use Rattle.plan_text.specs.Rendering.{visitText, planText, visitsOf, planLinesOf}

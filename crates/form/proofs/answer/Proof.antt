@@ -1,5 +1,5 @@
 -- `answer`: an output that is too short stays; else the job text is written.
-use Rattle.job_text.specs.Rendering.{jobText}
+use Rattle.job_grammar.specs.Rendering.{jobText}
 use Rattle.job_text.specs.Views.{textOf}
 use Rattle.answers.specs.Said.{plainly}
 use Rattle.answers.proofs.Replies.{replied, no-room}

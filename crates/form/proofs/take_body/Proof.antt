@@ -8,8 +8,8 @@ use Rattle.lines.specs.Parser.{good, return, row}
 use Rattle.lines.proofs.Parsing.{bind-good, bind-fault}
 use Rattle.jobs.specs.Views.{openingOf, partOf}
 use Rattle.model.specs.Model.{Opening}
-use Rattle.job_text.specs.Grammar.{PartText, JobText, openings, parts, body}
-use Rattle.job_text.specs.Views.{idleLines, partsLines}
+use Rattle.job_grammar.specs.Grammar.{PartText, JobText, openings, parts, body}
+use Rattle.job_grammar.specs.Optionals.{idleLines, partsLines}
 use Rattle.form_lists.specs.Facts.{PartLists, partLists, countedText}
 use Rattle.form_lists.specs.Checks.{found, countedParts}
 use Rattle.form_lists.proofs.Checks.{passed, failed}

@@ -6,8 +6,8 @@ use native.Mathlib.Omega.{arith}
 use lib.ListN.{length, take}
 use Rattle.lines.specs.Text.{lineOf, texts}
 use Rattle.lines.specs.Parser.{good}
-use Rattle.job_text.specs.Views.{idleLines}
-use Rattle.job_text.proofs.Complete.{walk-next}
+use Rattle.job_grammar.specs.Optionals.{idleLines}
+use Rattle.job_grammar.proofs.Complete.{walk-next}
 use Rattle.form_lists.specs.Checks.{found}
 use Rattle.form_lists.specs.declared.check.Check.{Check}
 use Rattle.form_lists.proofs.Checks.{passed, failed}

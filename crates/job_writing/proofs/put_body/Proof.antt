@@ -7,7 +7,7 @@ use Rattle.lines.specs.Text.{bytes, lineOf, texts}
 use Rattle.lines.proofs.Writing.{then, kept, same}
 use Rattle.jobs.specs.Views.{jobOf}
 use Rattle.jobs.proofs.Jobs.{part-count}
-use Rattle.job_text.specs.Rendering.{openingText, partText, bodyText}
+use Rattle.job_grammar.specs.Rendering.{openingText, partText, bodyText}
 use Rattle.job_writing.specs.Lines.{linesFor}
 use Rattle.job_writing.proofs.Lines.{lines-count}
 use borrow.Author.Needs.{needs}

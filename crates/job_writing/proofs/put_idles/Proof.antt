@@ -6,8 +6,8 @@ use native.Mathlib.Omega.{arith}
 use lib.ListN.{length, length-append}
 use Rattle.lines.specs.Text.{bytes, lineOf, texts, optionalText}
 use Rattle.lines.proofs.Writing.{none, then, kept, same}
-use Rattle.job_text.specs.Rendering.{idlesText}
-use Rattle.job_text.specs.Views.{idleLines}
+use Rattle.job_grammar.specs.Rendering.{idlesText}
+use Rattle.job_grammar.specs.Optionals.{idleLines}
 use borrow.Author.Needs.{needs}
 use Rattle.job_writing.proofs.put_idles.Statement.{statement}
 use Rattle.job_writing.proofs.put_idles.Tie as tie

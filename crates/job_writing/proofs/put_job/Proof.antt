@@ -8,8 +8,9 @@ use Rattle.lines.specs.Text.{bytes, lineOf, optionalText}
 use Rattle.lines.proofs.Writing.{then, kept, same}
 use Rattle.jobs.specs.Views.{jobOf}
 use Rattle.jobs.proofs.Jobs.{idles-long, opening-count}
-use Rattle.job_text.specs.Rendering.{idlesText, bodyText, jobText}
-use Rattle.job_text.specs.Views.{idleLines, textOf}
+use Rattle.job_grammar.specs.Rendering.{idlesText, bodyText, jobText}
+use Rattle.job_grammar.specs.Optionals.{idleLines}
+use Rattle.job_text.specs.Views.{textOf}
 use borrow.Author.Needs.{needs}
 use Rattle.job_writing.proofs.put_job.Statement.{statement}
 use Rattle.job_writing.proofs.put_job.Tie as tie

@@ -3,7 +3,7 @@ use native.Mathlib.Omega.{arith}
 use lib.ListN.{length-append}
 use Rattle.lines.specs.Text.{bytes}
 use Rattle.lines.proofs.Writing.{then, kept}
-use Rattle.job_text.specs.Rendering.{openingText}
+use Rattle.job_grammar.specs.Rendering.{openingText}
 use borrow.Author.Needs.{needs}
 use Rattle.job_writing.proofs.put_opening.Statement.{statement}
 use Rattle.job_writing.proofs.put_opening.Tie as tie

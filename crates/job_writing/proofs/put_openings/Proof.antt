@@ -11,7 +11,7 @@ use Rattle.lines.proofs.Texts.{texts-map, texts-more, texts-room}
 use Rattle.jobs.specs.Views.{openingOf, jobOf}
 use Rattle.jobs.specs.declared.Opening.{Opening}
 use Rattle.jobs.proofs.Jobs.{blankOpening, openings-long}
-use Rattle.job_text.specs.Rendering.{openingText}
+use Rattle.job_grammar.specs.Rendering.{openingText}
 use borrow.Author.Needs.{needs}
 use Rattle.job_writing.proofs.put_openings.Statement.{statement}
 use Rattle.job_writing.proofs.put_openings.Tie as tie

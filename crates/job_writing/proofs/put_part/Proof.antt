@@ -8,7 +8,7 @@ use Rattle.lines.specs.Text.{bytes, lineOf, texts, optionalText}
 use Rattle.lines.proofs.Writing.{then, kept}
 use Rattle.covers.specs.Rendering.{coverText}
 use Rattle.covers.specs.Views.{linesOf}
-use Rattle.job_text.specs.Rendering.{partText}
+use Rattle.job_grammar.specs.Rendering.{partText}
 use Rattle.job_writing.specs.Lines.{coverIn}
 use borrow.Author.Needs.{needs}
 use Rattle.job_writing.proofs.put_part.Statement.{statement}

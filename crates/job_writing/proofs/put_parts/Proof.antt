@@ -13,9 +13,9 @@ use Rattle.lines.proofs.Texts.{texts-more, texts-room}
 use Rattle.jobs.specs.Views.{partOf, jobOf}
 use Rattle.jobs.proofs.Jobs.{partAt, part-count}
 use Rattle.model.specs.Verdict.{noPart}
-use Rattle.job_text.specs.Grammar.{PartText}
-use Rattle.job_text.specs.Rendering.{partText}
-use Rattle.job_text.specs.Views.{partLines}
+use Rattle.job_grammar.specs.Grammar.{PartText}
+use Rattle.job_grammar.specs.Rendering.{partText}
+use Rattle.job_grammar.specs.Optionals.{partLines}
 use Rattle.job_writing.specs.Lines.{linesFor}
 use Rattle.job_writing.proofs.Lines.{lines-count, line-at}
 use borrow.Author.Needs.{needs}

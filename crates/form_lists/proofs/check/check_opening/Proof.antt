@@ -6,8 +6,8 @@ use native.Mathlib.Omega.{arith}
 use Rattle.lines.specs.Text.{bytes, lineOf}
 use Rattle.lines.specs.Parser.{row}
 use Rattle.lines.proofs.Parsing.{bind-good, bind-fault}
-use Rattle.job_text.specs.Grammar.{opening}
-use Rattle.job_text.specs.Rendering.{openingText}
+use Rattle.job_grammar.specs.Grammar.{opening}
+use Rattle.job_grammar.specs.Rendering.{openingText}
 use Rattle.model.specs.Model.{Opening}
 use Rattle.form_lists.specs.Checks.{found}
 use Rattle.form_lists.proofs.Checks.{passed, failed, found-map}

@@ -10,8 +10,8 @@ use Rattle.model.specs.Model as model
 use Rattle.jobs.specs.Views.{openingOf}
 use Rattle.jobs.specs.declared.Opening.{Opening}
 use Rattle.jobs.proofs.Jobs.{blankOpening}
-use Rattle.job_text.specs.Grammar.{opening, openings}
-use Rattle.job_text.specs.Rendering.{openingText}
+use Rattle.job_grammar.specs.Grammar.{opening, openings}
+use Rattle.job_grammar.specs.Rendering.{openingText}
 use Rattle.form_lists.specs.Facts.{paired}
 use Rattle.form_lists.specs.Checks.{found}
 use Rattle.form_lists.proofs.Checks.{passed, failed}

@@ -6,7 +6,7 @@ use lib.ListN.{length, getD, take, length-set}
 use Rattle.lines.specs.Text.{bytes, lineOf}
 use Rattle.lines.specs.Parser.{good}
 use Rattle.lines.proofs.Arrays.{take-more}
-use Rattle.job_text.specs.Grammar.{idle, idleSteps}
+use Rattle.job_grammar.specs.Grammar.{idle, idleSteps}
 use Rattle.form_lists.specs.Checks.{found}
 use Rattle.form_lists.proofs.Checks.{passed, failed}
 use Rattle.form_lists.proofs.Loops.{Going, going-start, going-more, going-fault, going-end}

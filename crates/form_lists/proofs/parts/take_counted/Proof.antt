@@ -9,8 +9,8 @@ use Rattle.lines.specs.Text.{texts}
 use Rattle.lines.specs.Parser.{row}
 use Rattle.lines.proofs.Parsing.{bind-good, bind-fault}
 use Rattle.jobs.specs.Views.{partOf}
-use Rattle.job_text.specs.Rendering.{partText}
-use Rattle.job_text.specs.Views.{partsLines}
+use Rattle.job_grammar.specs.Rendering.{partText}
+use Rattle.job_grammar.specs.Optionals.{partsLines}
 use Rattle.form_lists.specs.Facts.{PartLists, partLists, partsOf, partsAgree, countedText}
 use Rattle.form_lists.specs.Checks.{found}
 use Rattle.form_lists.specs.declared.check.Check.{Check}

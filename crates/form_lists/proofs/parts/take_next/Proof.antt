@@ -8,9 +8,9 @@ use lib.ListN.{length, getD, take, drop, length-drop}
 use lib.Seq.{length-take-le}
 use Rattle.covers.specs.Views.{linesOf}
 use Rattle.jobs.specs.Views.{partOf}
-use Rattle.job_text.specs.Grammar.{PartText, part}
-use Rattle.job_text.specs.Rendering.{partText}
-use Rattle.job_text.specs.Views.{partLines}
+use Rattle.job_grammar.specs.Grammar.{PartText, part}
+use Rattle.job_grammar.specs.Rendering.{partText}
+use Rattle.job_grammar.specs.Optionals.{partLines}
 use Rattle.form_lists.specs.Facts.{PartLists, partLists}
 use Rattle.form_lists.specs.Checks.{found}
 use Rattle.form_lists.proofs.Steps.{markAt, thereAt, partAt, Known, known, step-taken, first-is}

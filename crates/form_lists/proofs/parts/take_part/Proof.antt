@@ -10,9 +10,9 @@ use Rattle.lines.proofs.Parsing.{bind-good, bind-fault}
 use Rattle.jobs.specs.Views.{partOf}
 use Rattle.covers.specs.Rendering.{coverText}
 use Rattle.covers.specs.Views.{linesOf}
-use Rattle.job_text.specs.Grammar.{PartText, afterLeft, part}
-use Rattle.job_text.specs.Rendering.{partText}
-use Rattle.job_text.specs.Views.{partLines}
+use Rattle.job_grammar.specs.Grammar.{PartText, afterLeft, part}
+use Rattle.job_grammar.specs.Rendering.{partText}
+use Rattle.job_grammar.specs.Optionals.{partLines}
 use Rattle.form_lists.specs.Checks.{found}
 use Rattle.form_lists.specs.declared.check.Check.{Check}
 use Rattle.form_lists.proofs.Checks.{passed, failed}

@@ -4,7 +4,7 @@ use mathlib.Core.Path.{refl}
 use native.Mathlib.Omega.{arith}
 use lib.ListN.{length}
 use Rattle.jobs.specs.Views.{partOf}
-use Rattle.job_text.specs.Views.{partLines}
+use Rattle.job_grammar.specs.Optionals.{partLines}
 use Rattle.form_lists.specs.Facts.{PartLists, partLists}
 use Rattle.form_lists.specs.Checks.{found}
 use Rattle.form_lists.proofs.Checks.{passed, failed}

@@ -11,9 +11,9 @@ use Rattle.jobs.specs.Views.{partOf}
 use Rattle.covers.specs.Grammar.{cover}
 use Rattle.covers.specs.Rendering.{coverText}
 use Rattle.covers.specs.Views.{coverOf, linesOf}
-use Rattle.job_text.specs.Grammar.{PartText, afterLeft}
-use Rattle.job_text.specs.Views.{partLines}
-use Rattle.job_text.proofs.Complete.{prices-next}
+use Rattle.job_grammar.specs.Grammar.{PartText, afterLeft}
+use Rattle.job_grammar.specs.Optionals.{partLines}
+use Rattle.job_grammar.proofs.Complete.{prices-next}
 use Rattle.form_lists.specs.Checks.{found}
 use Rattle.form_lists.specs.declared.check.Check.{Check}
 use Rattle.form_lists.proofs.Checks.{passed, failed, found-map}

@@ -6,7 +6,7 @@ use Rattle.lines.specs.Text.{bytes}
 use Rattle.lines.specs.Parser.{row}
 use Rattle.lines.specs.Cursor.{Stands, Reads, rowAnswer}
 use Rattle.lines.proofs.Parsing.{bind-good, bind-fault, row-line, line-inside, line-reads, got-value, got-fault, got-place, got-most, end-value, end-fault, end-place, map-read}
-use Rattle.job_text.specs.Grammar.{PartText, JobText, parts, body}
+use Rattle.job_grammar.specs.Grammar.{PartText, JobText, parts, body}
 use Rattle.job_text.specs.Views.{textOf}
 use Rattle.job_text.specs.declared.whole.JobText as code
 use Rattle.job_text.proofs.Views.{refuse, text-means}

@@ -5,7 +5,7 @@ use Rattle.lines.specs.Text.{bytes}
 use Rattle.lines.specs.Parser.{row}
 use Rattle.lines.specs.Cursor.{Reads, rowAnswer}
 use Rattle.lines.proofs.Parsing.{bind-good, bind-fault, row-line, line-inside, line-reads, got-value, got-fault, got-place, end-value, end-fault, end-place}
-use Rattle.job_text.specs.Grammar.{jobLines}
+use Rattle.job_grammar.specs.Grammar.{jobLines}
 use Rattle.job_text.proofs.Views.{refuse}
 use borrow.Author.Needs.{needs}
 use Rattle.job_text.proofs.whole.read_job_lines.Statement.{statement}
