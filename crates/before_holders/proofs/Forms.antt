@@ -13,7 +13,7 @@ use Rattle.job_grammar.specs.Grammar.{PartText, jobLines}
 use Rattle.job_grammar.specs.Optionals.{idleLines}
 use Rattle.job_grammar.specs.Rendering.{openingText, partText}
 use Rattle.answers.specs.Said.{plainly}
-use Rattle.form_lists.specs.Facts.{paired, feesAgree, coversOf, grouped, total, allMarks, coversAgree, partsAgree, countOf, countedText}
+use Rattle.form_facts.specs.Facts.{paired, feesAgree, coversOf, grouped, total, allMarks, coversAgree, partsAgree, countOf, countedText}
 use Rattle.form.specs.Form.{idleCountText, bodyOf, restOf, formText, readForm}
 use Rattle.form.specs.Write.{saidFor, writeSaid}
 use Rattle.before_holders.specs.Texts as before

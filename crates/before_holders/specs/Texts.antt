@@ -13,7 +13,7 @@ use Rattle.job_grammar.specs.Grammar.{Given, idleIn, idles, openings}
 use Rattle.job_grammar.specs.Optionals.{idleLines}
 use Rattle.job_grammar.specs.Rendering.{idlesText, openingText}
 use Rattle.plan_text.specs.Grammar.{Stated, visits, planOf}
-use Rattle.form_lists.specs.Facts.{paired, feesAgree, countOf}
+use Rattle.form_facts.specs.Facts.{paired, feesAgree, countOf}
 use Rattle.form.specs.Form.{idleCountText}
 
 -- ---- the job text

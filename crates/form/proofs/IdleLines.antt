@@ -15,11 +15,11 @@ use Rattle.lines.proofs.Sound.{chain-gives}
 use Rattle.job_grammar.specs.Grammar.{idle, idleSteps, idles}
 use Rattle.job_grammar.specs.Optionals.{idleLines}
 use Rattle.job_grammar.proofs.Optionals.{some-idles}
-use Rattle.form_lists.specs.Facts.{countOf}
-use Rattle.form_lists.specs.Checks.{found}
-use Rattle.form_lists.specs.declared.check.Check.{Check}
-use Rattle.form_lists.specs.declared.check.Check.the-variants.{Good, Fault}
-use Rattle.form_lists.proofs.CoverLines.{starts-line}
+use Rattle.form_facts.specs.Facts.{countOf}
+use Rattle.form_checks.specs.Checks.{found}
+use Rattle.form_checks.specs.declared.check.Check.{Check}
+use Rattle.form_checks.specs.declared.check.Check.the-variants.{Good, Fault}
+use Rattle.form_checks.proofs.CoverLines.{starts-line}
 use Rattle.form.specs.Form.{idleCountText}
 use Rattle.form.specs.Checks.{lineAfter}
 

@@ -21,7 +21,7 @@ use Rattle.job_grammar.proofs.Lengths as lengths
 use Rattle.job_grammar.proofs.Complete.{read-back}
 use Rattle.answers.specs.Said.{Said, plainly, refusal, lent}
 use Rattle.answers.proofs.Replies as replies
-use Rattle.form_lists.proofs.Places.{paired-size, parts-size}
+use Rattle.form_facts.proofs.Facts.{paired-size, parts-size}
 use Rattle.form.specs.Form.{Form, stated, formText, readForm}
 use Rattle.form.specs.Write.{saidFor, writeSaid, writeRoom}
 use Rattle.form.specs.Promise.{Agree, Few, FormFault, formOf, WritePromise}

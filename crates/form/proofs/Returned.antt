@@ -17,9 +17,9 @@ use Rattle.job_grammar.specs.Valid.{Some, ValidText}
 use Rattle.job_grammar.specs.Rendering.{idlesText, openingText, partText, bodyText, jobText}
 use Rattle.job_grammar.specs.Optionals.{idleLines}
 use Rattle.job_grammar.proofs.Optionals.{some-idles}
-use Rattle.form_lists.specs.Facts.{paired, coversOf, grouped, partsOf, total, feesAgree, partsAgree, PartsAgree, countOf, countedText}
-use Rattle.form_lists.proofs.CountLines.{count-is}
-use Rattle.form_lists.proofs.Places.{paired-size, parts-size, says-agree}
+use Rattle.form_facts.specs.Facts.{paired, coversOf, grouped, partsOf, total, feesAgree, partsAgree, PartsAgree, countOf, countedText}
+use Rattle.form_facts.proofs.CountLines.{count-is}
+use Rattle.form_facts.proofs.Facts.{paired-size, parts-size, says-agree}
 use Rattle.form.specs.Form.{Form, stated, idleCountText, bodyOf, restOf, formText}
 use Rattle.form.specs.Promise.{Agree, Few, markOf, removalsOf, insidesOf, holdersOf, listsOf, formOf}
 

@@ -10,7 +10,7 @@ use Rattle.jobs.specs.Views.{openingOf, partOf, Sized}
 use Rattle.job_grammar.specs.Optionals.{idleLines, partsLines}
 use Rattle.job_text.specs.Views.{textOf}
 use Rattle.job_grammar.specs.Grammar.{JobText}
-use Rattle.form_lists.specs.Checks.{found}
+use Rattle.form_checks.specs.Checks.{found}
 use Rattle.form_lists.specs.declared.lists.Idles.{Idles}
 use Rattle.form_lists.specs.declared.lists.Openings.{Openings}
 use Rattle.form_lists.specs.declared.parts.Parts.{Parts}

@@ -9,7 +9,7 @@ use Rattle.model.specs.Limits.{lastStep, mostOpenings}
 use Rattle.job_grammar.specs.Grammar.{JobText, jobLines}
 use Rattle.job_grammar.specs.Optionals.{idleLines}
 use Rattle.job_grammar.specs.Rendering.{openingText}
-use Rattle.form_lists.specs.Facts.{PartLists, partLists, paired, partsOf, feesAgree, countOf, countedText}
+use Rattle.form_facts.specs.Facts.{PartLists, partLists, paired, partsOf, feesAgree, countOf, countedText}
 
 -- the facts of a job text as lists of numbers
 pub record Form : Type 0 where

@@ -14,7 +14,7 @@ use Rattle.jobs.specs.Valid.{All}
 use Rattle.job_grammar.specs.Grammar.{PartText, JobText, idleIn, jobLines, readJobText}
 use Rattle.job_grammar.specs.Rendering.{jobText}
 use Rattle.covers.specs.Grammar.{Cover}
-use Rattle.form_lists.specs.Facts.{PartLists, PartsAgree}
+use Rattle.form_facts.specs.Facts.{PartLists, PartsAgree}
 use Rattle.answers.specs.Said.{Said, Refuses}
 use Rattle.form.specs.Form.{Form, stated, readForm}
 use Rattle.form.specs.Write.{writeRoom}

@@ -1,10 +1,10 @@
 // The order form: a job text written from lists of numbers.
 use answers::Answer;
 use answers::refuse;
-use form_lists::check::Check;
-use form_lists::check::check_value;
-use form_lists::counts::check_idle_count;
-use form_lists::counts::check_opening_count;
+use form_checks::check::Check;
+use form_checks::check::check_value;
+use form_facts::counts::check_idle_count;
+use form_facts::counts::check_opening_count;
 use form_lists::lists::Idles;
 use form_lists::lists::Openings;
 use form_lists::lists::take_openings;
@@ -26,8 +26,8 @@ ghost use Rattle.job_grammar.specs.Rendering.{jobText};
 ghost use Rattle.job_grammar.specs.Optionals.{idleLines};
 ghost use Rattle.job_text.specs.Views.{textOf};
 ghost use Rattle.answers.specs.Said.{lent, plainly, refusal, Replied};
-ghost use Rattle.form_lists.specs.Facts.{partLists};
-ghost use Rattle.form_lists.specs.Checks.{found};
+ghost use Rattle.form_facts.specs.Facts.{partLists};
+ghost use Rattle.form_checks.specs.Checks.{found};
 ghost use Rattle.form.specs.Form.{filled, idleCountText, bodyOf, restOf, formText};
 ghost use Rattle.form.specs.Write.{writeSaid, writeRoom};
 ghost use Rattle.form.specs.Promise.{WritePromise};

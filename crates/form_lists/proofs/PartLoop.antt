@@ -16,8 +16,8 @@ use Rattle.job_grammar.specs.Rendering.{partText}
 use Rattle.job_grammar.specs.Optionals.{partLines, partsLines}
 use Rattle.job_grammar.proofs.Optionals.{lines-more}
 use Rattle.job_grammar.proofs.Complete as complete
-use Rattle.form_lists.specs.Facts.{PartLists, grouped, partsOf, PartsAgree}
-use Rattle.form_lists.specs.Checks.{after, firstPart, behindFirst, Standing, StepTaken}
+use Rattle.form_facts.specs.Facts.{PartLists, grouped, partsOf, PartsAgree}
+use Rattle.form_lists.specs.Places.{after, firstPart, behindFirst, Standing, StepTaken}
 use Rattle.form_lists.specs.declared.parts.Place.{Place}
 use Rattle.form_lists.proofs.Places.{parts-next}
 

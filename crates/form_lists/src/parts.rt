@@ -1,10 +1,10 @@
 // The parts of a form, checked line by line and taken into a job's array.
-use crate::check::Check;
-use crate::check::check_left;
-use crate::check::check_value;
-use crate::counts::check_part_count;
 use crate::lists::take_prices;
-use crate::removal::take_cover;
+use form_checks::check::Check;
+use form_checks::check::check_left;
+use form_checks::check::check_value;
+use form_checks::removal::take_cover;
+use form_facts::counts::check_part_count;
 use job_sections::parts::blank_part;
 use jobs::Part;
 ghost use mathlib.Core.Path.{_≡_};
@@ -19,8 +19,9 @@ ghost use Rattle.covers.specs.Views.{linesOf};
 ghost use Rattle.job_grammar.specs.Grammar as grammar;
 ghost use Rattle.job_grammar.specs.Rendering.{partText};
 ghost use Rattle.job_grammar.specs.Optionals.{partLines, partsLines};
-ghost use Rattle.form_lists.specs.Facts.{partLists, partsOf, PartsAgree};
-ghost use Rattle.form_lists.specs.Checks.{found, ReadsCover, after, firstPart, Standing, StepTaken, PartsTaken};
+ghost use Rattle.form_facts.specs.Facts.{partLists, partsOf, PartsAgree};
+ghost use Rattle.form_checks.specs.Checks.{found, ReadsCover};
+ghost use Rattle.form_lists.specs.Places.{after, firstPart, Standing, StepTaken, PartsTaken};
 ghost use Rattle.model.specs.Limits.{mostOpenings, mostParts};
 
 // Part `number` of `count` as the lists state it, but for its holders and prices; `there` says whether its lines of removal stand.

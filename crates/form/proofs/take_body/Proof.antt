@@ -10,9 +10,10 @@ use Rattle.jobs.specs.Views.{openingOf, partOf}
 use Rattle.model.specs.Model.{Opening}
 use Rattle.job_grammar.specs.Grammar.{PartText, JobText, openings, parts, body}
 use Rattle.job_grammar.specs.Optionals.{idleLines, partsLines}
-use Rattle.form_lists.specs.Facts.{PartLists, partLists, countedText}
-use Rattle.form_lists.specs.Checks.{found, countedParts}
-use Rattle.form_lists.proofs.Checks.{passed, failed}
+use Rattle.form_facts.specs.Facts.{PartLists, partLists, countedText}
+use Rattle.form_checks.specs.Checks.{found}
+use Rattle.form_lists.specs.Places.{countedParts}
+use Rattle.form_checks.proofs.Checks.{passed, failed}
 use Rattle.form.specs.Form.{bodyOf}
 use Rattle.form.proofs.Refusals.{refuse, bind-then}
 use borrow.Author.Needs.{needs}

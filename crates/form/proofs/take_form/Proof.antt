@@ -9,10 +9,10 @@ use Rattle.lines.specs.Parser.{row}
 use Rattle.lines.proofs.Parsing.{bind-good, bind-fault}
 use Rattle.job_grammar.specs.Grammar.{idles, rest, jobLines}
 use Rattle.job_grammar.specs.Optionals.{idleLines}
-use Rattle.form_lists.specs.Facts.{partLists, feesAgree, countOf}
+use Rattle.form_facts.specs.Facts.{partLists, feesAgree, countOf}
 use Rattle.form.specs.Form.{idleCountText, bodyOf, restOf, formText}
 use Rattle.form.specs.Checks.{lineAfter}
-use Rattle.form_lists.proofs.Checks.{passed, failed}
+use Rattle.form_checks.proofs.Checks.{passed, failed}
 use Rattle.form.proofs.Refusals.{refuse}
 use Rattle.form.proofs.IdleLines.{after-small}
 use borrow.Author.Needs.{needs}

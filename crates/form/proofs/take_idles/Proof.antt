@@ -8,9 +8,9 @@ use Rattle.lines.specs.Text.{lineOf, texts}
 use Rattle.lines.specs.Parser.{good}
 use Rattle.job_grammar.specs.Optionals.{idleLines}
 use Rattle.job_grammar.proofs.Complete.{walk-next}
-use Rattle.form_lists.specs.Checks.{found}
-use Rattle.form_lists.specs.declared.check.Check.{Check}
-use Rattle.form_lists.proofs.Checks.{passed, failed}
+use Rattle.form_checks.specs.Checks.{found}
+use Rattle.form_checks.specs.declared.check.Check.{Check}
+use Rattle.form_checks.proofs.Checks.{passed, failed}
 use Rattle.form.specs.Checks.{lineAfter}
 use Rattle.form.proofs.IdleLines.{after-some, idles-none, idles-fault, idles-some, steps-found}
 use borrow.Author.Needs.{needs}

@@ -9,9 +9,9 @@ use Rattle.lines.specs.Parser.{row}
 use Rattle.lines.proofs.Parsing.{bind-good, bind-fault}
 use Rattle.job_grammar.specs.Grammar.{body, rest}
 use Rattle.job_grammar.specs.Optionals.{idleLines}
-use Rattle.form_lists.specs.Facts.{partLists, feesAgree, countOf}
+use Rattle.form_facts.specs.Facts.{partLists, feesAgree, countOf}
 use Rattle.form.specs.Form.{bodyOf, restOf}
-use Rattle.form_lists.proofs.Checks.{passed, failed}
+use Rattle.form_checks.proofs.Checks.{passed, failed}
 use Rattle.form.proofs.Refusals.{refuse}
 use borrow.Author.Needs.{needs}
 use Rattle.form.proofs.take_rest.Statement.{statement}

@@ -9,7 +9,7 @@ use Rattle.form.specs.Form.{Form, filled, readForm}
 use Rattle.form.specs.Write.{writeSaid, writeRoom}
 use Rattle.form.specs.Promise.{WritePromise}
 use Rattle.answers.specs.Said.{lent}
-use Rattle.form_lists.proofs.Checks.{passed, failed}
+use Rattle.form_checks.proofs.Checks.{passed, failed}
 use Rattle.form.proofs.Stated.{Held}
 use Rattle.form.proofs.Promised.{form-accepted, form-refused, fits-room, promised}
 use borrow.Author.Needs.{needs}

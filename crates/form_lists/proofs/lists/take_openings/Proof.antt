@@ -12,11 +12,11 @@ use Rattle.jobs.specs.declared.Opening.{Opening}
 use Rattle.jobs.proofs.Jobs.{blankOpening}
 use Rattle.job_grammar.specs.Grammar.{opening, openings}
 use Rattle.job_grammar.specs.Rendering.{openingText}
-use Rattle.form_lists.specs.Facts.{paired}
-use Rattle.form_lists.specs.Checks.{found}
-use Rattle.form_lists.proofs.Checks.{passed, failed}
-use Rattle.form_lists.proofs.Loops.{Going, going-start, going-more, going-fault, going-end}
-use Rattle.form_lists.proofs.Places.{paired-size, paired-at}
+use Rattle.form_facts.specs.Facts.{paired}
+use Rattle.form_checks.specs.Checks.{found}
+use Rattle.form_checks.proofs.Checks.{passed, failed}
+use Rattle.form_checks.proofs.Loops.{Going, going-start, going-more, going-fault, going-end}
+use Rattle.form_facts.proofs.Facts.{paired-size, paired-at}
 use borrow.Author.Needs.{needs}
 use Rattle.form_lists.proofs.lists.take_openings.Statement.{statement}
 use Rattle.form_lists.proofs.lists.take_openings.Tie as tie

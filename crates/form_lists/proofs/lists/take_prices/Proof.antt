@@ -6,9 +6,9 @@ use lib.ListN.{length, getD, take, length-set}
 use Rattle.lines.specs.Text.{bytes, lineOf}
 use Rattle.lines.specs.Parser.{Parser, good, row, times}
 use Rattle.lines.proofs.Arrays.{take-more}
-use Rattle.form_lists.specs.Checks.{found}
-use Rattle.form_lists.proofs.Checks.{passed, failed}
-use Rattle.form_lists.proofs.Loops.{Going, going-start, going-more, going-fault, going-end}
+use Rattle.form_checks.specs.Checks.{found}
+use Rattle.form_checks.proofs.Checks.{passed, failed}
+use Rattle.form_checks.proofs.Loops.{Going, going-start, going-more, going-fault, going-end}
 use borrow.Author.Needs.{needs}
 use Rattle.form_lists.proofs.lists.take_prices.Statement.{statement}
 use Rattle.form_lists.proofs.lists.take_prices.Tie as tie

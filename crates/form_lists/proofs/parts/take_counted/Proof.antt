@@ -11,11 +11,11 @@ use Rattle.lines.proofs.Parsing.{bind-good, bind-fault}
 use Rattle.jobs.specs.Views.{partOf}
 use Rattle.job_grammar.specs.Rendering.{partText}
 use Rattle.job_grammar.specs.Optionals.{partsLines}
-use Rattle.form_lists.specs.Facts.{PartLists, partLists, partsOf, partsAgree, countedText}
-use Rattle.form_lists.specs.Checks.{found}
-use Rattle.form_lists.specs.declared.check.Check.{Check}
-use Rattle.form_lists.proofs.Checks.{passed, failed, not-good}
-use Rattle.form_lists.proofs.Places.{agree-says}
+use Rattle.form_facts.specs.Facts.{PartLists, partLists, partsOf, partsAgree, countedText}
+use Rattle.form_checks.specs.Checks.{found}
+use Rattle.form_checks.specs.declared.check.Check.{Check}
+use Rattle.form_checks.proofs.Checks.{passed, failed, not-good}
+use Rattle.form_facts.proofs.Facts.{agree-says}
 use borrow.Author.Needs.{needs}
 use Rattle.form_lists.proofs.parts.take_counted.Statement.{statement}
 use Rattle.form_lists.proofs.parts.take_counted.Tie as tie

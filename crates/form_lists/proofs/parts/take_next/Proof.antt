@@ -11,8 +11,8 @@ use Rattle.jobs.specs.Views.{partOf}
 use Rattle.job_grammar.specs.Grammar.{PartText, part}
 use Rattle.job_grammar.specs.Rendering.{partText}
 use Rattle.job_grammar.specs.Optionals.{partLines}
-use Rattle.form_lists.specs.Facts.{PartLists, partLists}
-use Rattle.form_lists.specs.Checks.{found}
+use Rattle.form_facts.specs.Facts.{PartLists, partLists}
+use Rattle.form_checks.specs.Checks.{found}
 use Rattle.form_lists.proofs.Steps.{markAt, thereAt, partAt, Known, known, step-taken, first-is}
 use borrow.Author.Needs.{needs}
 use Rattle.form_lists.proofs.parts.take_next.Statement.{statement}

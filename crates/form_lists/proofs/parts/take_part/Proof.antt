@@ -13,9 +13,9 @@ use Rattle.covers.specs.Views.{linesOf}
 use Rattle.job_grammar.specs.Grammar.{PartText, afterLeft, part}
 use Rattle.job_grammar.specs.Rendering.{partText}
 use Rattle.job_grammar.specs.Optionals.{partLines}
-use Rattle.form_lists.specs.Checks.{found}
-use Rattle.form_lists.specs.declared.check.Check.{Check}
-use Rattle.form_lists.proofs.Checks.{passed, failed}
+use Rattle.form_checks.specs.Checks.{found}
+use Rattle.form_checks.specs.declared.check.Check.{Check}
+use Rattle.form_checks.proofs.Checks.{passed, failed}
 use borrow.Author.Needs.{needs}
 use Rattle.form_lists.proofs.parts.take_part.Statement.{statement}
 use Rattle.form_lists.proofs.parts.take_part.Tie as tie

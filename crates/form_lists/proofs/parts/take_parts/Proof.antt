@@ -5,9 +5,9 @@ use native.Mathlib.Omega.{arith}
 use lib.ListN.{length}
 use Rattle.jobs.specs.Views.{partOf}
 use Rattle.job_grammar.specs.Optionals.{partLines}
-use Rattle.form_lists.specs.Facts.{PartLists, partLists}
-use Rattle.form_lists.specs.Checks.{found}
-use Rattle.form_lists.proofs.Checks.{passed, failed}
+use Rattle.form_facts.specs.Facts.{PartLists, partLists}
+use Rattle.form_checks.specs.Checks.{found}
+use Rattle.form_checks.proofs.Checks.{passed, failed}
 use Rattle.form_lists.proofs.PartLoop.{Taking, taking-start, taking-more, taking-fault, taking-end}
 use borrow.Author.Needs.{needs}
 use Rattle.form_lists.proofs.parts.take_parts.Statement.{statement}

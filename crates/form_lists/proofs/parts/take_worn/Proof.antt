@@ -14,9 +14,9 @@ use Rattle.covers.specs.Views.{coverOf, linesOf}
 use Rattle.job_grammar.specs.Grammar.{PartText, afterLeft}
 use Rattle.job_grammar.specs.Optionals.{partLines}
 use Rattle.job_grammar.proofs.Complete.{prices-next}
-use Rattle.form_lists.specs.Checks.{found}
-use Rattle.form_lists.specs.declared.check.Check.{Check}
-use Rattle.form_lists.proofs.Checks.{passed, failed, found-map}
+use Rattle.form_checks.specs.Checks.{found}
+use Rattle.form_checks.specs.declared.check.Check.{Check}
+use Rattle.form_checks.proofs.Checks.{passed, failed, found-map}
 use borrow.Author.Needs.{needs}
 use Rattle.form_lists.proofs.parts.take_worn.Statement.{statement}
 use Rattle.form_lists.proofs.parts.take_worn.Tie as tie
