@@ -34,7 +34,7 @@ use Rattle.held_places.proofs.Held.{opened, nodes-are, held-size, choice-is}
 use Rattle.held_rows.specs.Held.{HeldSheet, held, heldBound, SheetOf}
 use Rattle.held_rows.proofs.Sheets.{held-bound}
 use Rattle.walk.specs.declared.Solved.{Solved}
-use Rattle.stop_walk.specs.State as stop
+use Rattle.stop_nodes.specs.State as stop
 use Rattle.held_search.specs.Solved.{limitedBy, Solves, noRow, Chooses}
 
 -- ---- the rows of changes, part by part

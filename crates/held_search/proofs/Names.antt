@@ -13,7 +13,7 @@ use Rattle.model.specs.Decisions.{joined}
 use Rattle.held_rows.proofs.Seen.{joined-more}
 use Rattle.walk.specs.State.{bits}
 use Rattle.walk.proofs.Nodes.{bits-length}
-use Rattle.stop_walk.specs.State.{blocksOf}
+use Rattle.stop_nodes.specs.State.{blocksOf}
 use Rattle.held_search.specs.Solved.{blockOf}
 
 -- ---- decisions behind others

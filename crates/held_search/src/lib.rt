@@ -13,7 +13,7 @@ ghost use Rattle.search.specs.Found.{saidIn};
 ghost use Rattle.held_places.specs.Arrays.{pricesAt, Lanes, Holds};
 ghost use Rattle.held_places.specs.Changes.{placesOf, laneChoice};
 ghost use Rattle.held_tables.specs.Sheet.{HeldArrays, HeldReady};
-ghost use Rattle.stop_walk.specs.State.{bestName};
+ghost use Rattle.stop_nodes.specs.State.{bestName};
 ghost use Rattle.held_search.specs.Solved.{Solves, Chooses};
 use held_lanes::ASIDE;
 use held_lanes::HELD;

@@ -18,9 +18,9 @@ use Rattle.held_lanes.specs.Places.{asideSize}
 use Rattle.held_lanes.specs.Tables.{HeldTables}
 use Rattle.walk.specs.declared.Search.{Search}
 use Rattle.walk.specs.State.{noCost}
-use Rattle.stop_walk.specs.State.{bestName, view, treeAt, At, Solves}
+use Rattle.stop_nodes.specs.State.{bestName, view, treeAt, At, Solves}
 use Rattle.walk.proofs.Trees.{DueAt, Opened, closed, opened}
-use Rattle.stop_walk.proofs.Root.{rootN, bound-first, root-due, root-given, fresh, root-ends}
+use Rattle.stop_nodes.proofs.Root.{rootN, bound-first, root-due, root-given, fresh, root-ends}
 use Rattle.stop_walk.proofs.solve.Statement.{statement}
 use Rattle.stop_walk.proofs.solve.Tie as tie
 

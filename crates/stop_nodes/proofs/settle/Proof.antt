@@ -2,8 +2,8 @@
 use mathlib.Core.Path.{refl, sym, _∙_}
 use mathlib.Core.Bool.{false≢true}
 use native.Mathlib.Omega.{arith}
-use Rattle.stop_walk.proofs.settle.Statement.{statement}
-use Rattle.stop_walk.proofs.settle.Tie as tie
+use Rattle.stop_nodes.proofs.settle.Statement.{statement}
+use Rattle.stop_nodes.proofs.settle.Tie as tie
 
 settle-stop-requires : tie.Need-settle-stop-requires
 settle-stop-requires c κs = c .before .before .before .pre (c .before .before .if1 .taken)

@@ -17,9 +17,9 @@ use Rattle.held_lanes.specs.Places.{lastPlace, removedPlace, bestPlace, pending
 use Rattle.held_stops.specs.Stops.{Pended}
 use Rattle.walk.specs.State.{viewOf}
 use Rattle.walk.specs.declared.Search.{Search}
-use Rattle.stop_walk.specs.declared.Node.{Node}
-use Rattle.stop_walk.specs.State.{removalsIn, bestIn, view, written, seesAt, Written, Pending, At, Aside, Frame}
-use Rattle.stop_walk.proofs.Blocks.{blocks-same}
+use Rattle.stop_nodes.specs.declared.Node.{Node}
+use Rattle.stop_nodes.specs.State.{removalsIn, bestIn, view, written, seesAt, Written, Pending, At, Aside, Frame}
+use Rattle.stop_nodes.proofs.Blocks.{blocks-same}
 
 pub aside-none : (v : List ℕ) (n k : ℕ) → Aside v v n k
 aside-none v n k = record { size = refl; lasts = λ i c l m. refl; removals = λ i l. refl; rows = λ i q l m. refl; ready = λ i l. refl }

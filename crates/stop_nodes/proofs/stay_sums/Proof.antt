@@ -11,11 +11,11 @@ use Rattle.lane_rows.specs.Rows.{sumLanes}
 use Rattle.lane_rows.proofs.Lanes.{where-some}
 use Rattle.lane_rows.proofs.Memory.{recalled-none}
 use Rattle.held_stops.specs.Stops.{stopLane}
-use Rattle.stop_walk.proofs.Given.{stop-most}
+use Rattle.stop_nodes.proofs.Given.{stop-most}
 use Rattle.walk.specs.State.{openS}
-use Rattle.stop_walk.proofs.Given.{sums-low}
-use Rattle.stop_walk.proofs.stay_sums.Statement.{statement}
-use Rattle.stop_walk.proofs.stay_sums.Tie as tie
+use Rattle.stop_nodes.proofs.Given.{sums-low}
+use Rattle.stop_nodes.proofs.stay_sums.Statement.{statement}
+use Rattle.stop_nodes.proofs.stay_sums.Tie as tie
 
 -- the lanes' sum
 abbrev sum : tie.Start → ℕ

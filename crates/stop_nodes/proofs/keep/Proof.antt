@@ -7,8 +7,8 @@ use lib.ListN.{getD}
 use Rattle.least.specs.Filled.{FilledBy}
 use Rattle.least.proofs.Filled.{filled-none, filled-more}
 use Rattle.held_lanes.specs.Places.{removedPlace, bestPlace}
-use Rattle.stop_walk.proofs.keep.Statement.{statement}
-use Rattle.stop_walk.proofs.keep.Tie as tie
+use Rattle.stop_nodes.proofs.keep.Statement.{statement}
+use Rattle.stop_nodes.proofs.keep.Tie as tie
 
 abbrev Inv-loop : tie.InvT-loop
 Inv-loop v₀ i₀ v i = (i ≤ 64) × FilledBy bestPlace (λ (k : ℕ). getD v₀ (removedPlace k) 0) i v₀ v

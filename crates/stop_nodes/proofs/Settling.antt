@@ -17,11 +17,11 @@ use Rattle.held_lanes.specs.Tables.{Lasts, NoteAsks, noted}
 use Rattle.held_stops.specs.Stops.{SettleAsks, StopPut, StopNoted}
 use Rattle.held_stops.proofs.Settled.{stop-settled, lasts-settled}
 use Rattle.walk.specs.State.{bits}
-use Rattle.stop_walk.specs.declared.Node.{Node}
-use Rattle.stop_walk.specs.State.{blocksOf, removalsIn, bestIn, settledN, written, seesAt, Written, Pending, StopAt, At, Aside, Frame, NodeSettled}
-use Rattle.stop_walk.proofs.Blocks.{blocks-same, blocks-stop}
-use Rattle.stop_walk.proofs.Frames.{aside-none, pended-kept}
-use Rattle.stop_walk.proofs.Given.{rows-few, owing-stop, note-asks}
+use Rattle.stop_nodes.specs.declared.Node.{Node}
+use Rattle.stop_nodes.specs.State.{blocksOf, removalsIn, bestIn, settledN, written, seesAt, Written, Pending, StopAt, At, Aside, Frame, NodeSettled}
+use Rattle.stop_nodes.proofs.Blocks.{blocks-same, blocks-stop}
+use Rattle.stop_nodes.proofs.Frames.{aside-none, pended-kept}
+use Rattle.stop_nodes.proofs.Given.{rows-few, owing-stop, note-asks}
 
 -- the blocks with one more
 more-size : (bs : List (List Bool)) (b : List Bool) → length (bs ++ (b ∷ [])) ≡ length bs + 1

@@ -10,8 +10,8 @@ use Rattle.lane_rows.specs.Tables.{sumWhere}
 use Rattle.lane_rows.proofs.Lanes.{where-some, where-none, value-sum, value-missing}
 use Rattle.walk.specs.State.{openS}
 use Rattle.walk.proofs.Nodes.{open-none, open-drops}
-use Rattle.stop_walk.proofs.tested.Statement.{statement}
-use Rattle.stop_walk.proofs.tested.Tie as tie
+use Rattle.stop_nodes.proofs.tested.Statement.{statement}
+use Rattle.stop_nodes.proofs.tested.Tie as tie
 
 -- the term is there
 there : (c : tie.After-g) → (c .before .before .before .args .h ≡ c .g .given .0 .0) × (c .g .given .0 .0 < inf)

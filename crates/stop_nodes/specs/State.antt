@@ -20,7 +20,7 @@ use Rattle.held_stops.specs.Stops.{ShutSet, Pended, StopPut, StopNoted}
 use Rattle.walk.specs.declared.Search.{Search}
 use Rattle.walk.specs.declared.Solved.{Solved}
 use Rattle.walk.specs.State.{bits, viewOf}
-use Rattle.stop_walk.specs.declared.Node.{Node}
+use Rattle.stop_nodes.specs.declared.Node.{Node}
 
 -- ---- decisions in numbers
 

@@ -11,9 +11,9 @@ use Rattle.lane_rows.specs.Rows.{lane, sumLanes}
 use Rattle.lane_rows.proofs.Lanes.{where-some, lane-most}
 use Rattle.lane_rows.proofs.Memory.{recalled-none}
 use Rattle.walk.specs.State.{openS}
-use Rattle.stop_walk.proofs.Given.{sums-low}
-use Rattle.stop_walk.proofs.no_sums.Statement.{statement}
-use Rattle.stop_walk.proofs.no_sums.Tie as tie
+use Rattle.stop_nodes.proofs.Given.{sums-low}
+use Rattle.stop_nodes.proofs.no_sums.Statement.{statement}
+use Rattle.stop_nodes.proofs.no_sums.Tie as tie
 
 -- the lanes' sum
 abbrev sum : tie.Start → ℕ

@@ -31,11 +31,11 @@ use Rattle.held_stops.proofs.Children.{boundIn, Told, stays-told}
 use Rattle.held_stops.proofs.Names.{stop-more, stop-joined, stop-bound}
 use Rattle.walk.specs.State.{noCost}
 use Rattle.walk.proofs.Nodes.{bits-length, bits-no, bits-yes, mask-next}
-use Rattle.stop_walk.specs.declared.Node.{Node}
-use Rattle.stop_walk.specs.State.{staysN, outN, treeAt, StopAt, At}
-use Rattle.stop_walk.proofs.Blocks.{written-whole}
+use Rattle.stop_nodes.specs.declared.Node.{Node}
+use Rattle.stop_nodes.specs.State.{staysN, outN, treeAt, StopAt, At}
+use Rattle.stop_nodes.proofs.Blocks.{written-whole}
 use Rattle.walk.proofs.Trees.{DueAt, due-there, due-where}
-use Rattle.stop_walk.proofs.Given.{coded-there, term-asks, looks-stop}
+use Rattle.stop_nodes.proofs.Given.{coded-there, term-asks, looks-stop}
 
 -- the blocks of the two
 abbrev pub moreBlocks : List (List Bool) → List Bool → Bool → List (List Bool)

@@ -32,10 +32,10 @@ use Rattle.held_stops.proofs.Children.{boundIn}
 use Rattle.held_stops.proofs.Names.{opening-bound}
 use Rattle.walk.specs.declared.Search.{Search}
 use Rattle.walk.specs.State.{noCost, solvedS}
-use Rattle.stop_walk.specs.declared.Node.{Node}
-use Rattle.stop_walk.specs.State.{blocksOf, view, treeAt, At, Solves}
+use Rattle.stop_nodes.specs.declared.Node.{Node}
+use Rattle.stop_nodes.specs.State.{blocksOf, view, treeAt, At, Solves}
 use Rattle.walk.proofs.Trees.{DueAt, where-there}
-use Rattle.stop_walk.proofs.Given.{sums-low}
+use Rattle.stop_nodes.proofs.Given.{sums-low}
 
 -- ---- nothing decided is as without holders
 

@@ -21,7 +21,7 @@ use Rattle.held_rows.proofs.Rows.{stack-at}
 use Rattle.held_lanes.specs.Places.{bitAt, asideSize}
 use Rattle.held_lanes.specs.Tables.{HeldTables, TermAsks, NoteAsks}
 use Rattle.held_stops.specs.Stops.{stopLane, LooksAtStop}
-use Rattle.stop_walk.specs.State.{seesAt, Written}
+use Rattle.stop_nodes.specs.State.{seesAt, Written}
 
 -- ---- numbers
 

@@ -14,11 +14,11 @@ use Rattle.lane_rows.specs.Rows.{Recalled}
 use Rattle.held_rows.specs.Held.{HeldSheet, held}
 use Rattle.walk.specs.declared.Search.{Search}
 use Rattle.walk.specs.State.{countedS, reachedS, openS}
-use Rattle.stop_walk.specs.declared.Node.{Node}
-use Rattle.stop_walk.specs.State.{bestIn, bestName, view, settledN, written, treeAt, Pending, At, Frame, Walked}
+use Rattle.stop_nodes.specs.declared.Node.{Node}
+use Rattle.stop_nodes.specs.State.{bestIn, bestName, view, settledN, written, treeAt, Pending, At, Frame, Walked}
 use Rattle.walk.proofs.Trees.{DueAt, closed, opened}
-use Rattle.stop_walk.proofs.Frames.{frame-then, frame-looked, pended-kept, best-kept, at-kept}
-use Rattle.stop_walk.proofs.Settling.{Rests}
+use Rattle.stop_nodes.proofs.Frames.{frame-then, frame-looked, pended-kept, best-kept, at-kept}
+use Rattle.stop_nodes.proofs.Settling.{Rests}
 
 -- ---- numbers of a node
 

@@ -11,7 +11,7 @@ use Rattle.held_rows.specs.Held.{HeldSheet, held}
 use Rattle.held_rows.proofs.Seen.{wholes-more}
 use Rattle.walk.specs.State.{bits}
 use Rattle.walk.proofs.Nodes.{bits-length}
-use Rattle.stop_walk.specs.State.{blocksOf, removalsIn, Written}
+use Rattle.stop_nodes.specs.State.{blocksOf, removalsIn, Written}
 
 pub blocks-same : (h : ℕ) (f g : ℕ → ℕ) (k m : ℕ) → ((i : ℕ) → i < k → f i ≡ g i) → blocksOf h f k m ≡ blocksOf h g k m
 unfolding blocksOf

@@ -36,12 +36,12 @@ use Rattle.held_stops.proofs.Names.{no-joined, stop-joined, opening-bound, no-b
 use Rattle.walk.specs.declared.Search.{Search}
 use Rattle.walk.specs.State.{bits, noCost, keptS}
 use Rattle.walk.proofs.Nodes.{mask-next}
-use Rattle.stop_walk.specs.declared.Node.{Node}
-use Rattle.stop_walk.specs.State.{blocksOf, removalsIn, bestIn, view, noN, yesN, written, treeAt, seesAt, Written, At, Walked}
-use Rattle.stop_walk.proofs.Blocks.{blocks-same, blocks-no, written-whole}
-use Rattle.stop_walk.proofs.Frames.{keep-frame}
+use Rattle.stop_nodes.specs.declared.Node.{Node}
+use Rattle.stop_nodes.specs.State.{blocksOf, removalsIn, bestIn, view, noN, yesN, written, treeAt, seesAt, Written, At, Walked}
+use Rattle.stop_nodes.proofs.Blocks.{blocks-same, blocks-no, written-whole}
+use Rattle.stop_nodes.proofs.Frames.{keep-frame}
 use Rattle.walk.proofs.Trees.{DueAt, due-there, due-where}
-use Rattle.stop_walk.proofs.Given.{coded-there, term-there, term-asks, looks-at}
+use Rattle.stop_nodes.proofs.Given.{coded-there, term-there, term-asks, looks-at}
 
 -- the blocks of the two
 abbrev pub noBlocks : List (List Bool) → List (List Bool)
