@@ -13,7 +13,7 @@ use Rattle.model.proofs.Unheld.{Plain, plain-unheld, answer-before, cost-before
 use Rattle.jobs.specs.Valid.{All, ValidPart}
 use Rattle.job_grammar.specs.Grammar.{Given, readJob}
 use Rattle.job_grammar.proofs.Accepted.{valid}
-use Rattle.plan_text.specs.Grammar.{Stated}
+use Rattle.plan_grammar.specs.Grammar.{Stated}
 use Rattle.answers.specs.Said.{lent}
 use Rattle.planning.specs.Plan as planning
 use Rattle.judging.specs.Judge as judging

@@ -8,7 +8,7 @@ use Rattle.model.specs.Unheld.{plainAnswer, plainCost}
 use Rattle.model.specs.Verdict.{judged, verdictOf}
 use Rattle.model.specs.Count.{openCount}
 use Rattle.job_grammar.specs.Grammar.{Given}
-use Rattle.plan_text.specs.Grammar.{Stated}
+use Rattle.plan_grammar.specs.Grammar.{Stated}
 use Rattle.answers.specs.Said.{Said, plainly, refusal}
 use Rattle.planning.specs.Plan as planning
 use Rattle.judging.specs.Judge as judging

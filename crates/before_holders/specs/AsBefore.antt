@@ -9,8 +9,8 @@ use Rattle.lines.specs.Parser.{accepted}
 use Rattle.jobs.specs.Valid.{All}
 use Rattle.job_grammar.specs.Grammar.{Given}
 use Rattle.job_grammar.specs.Grammar as today
-use Rattle.plan_text.specs.Grammar.{Stated}
-use Rattle.plan_text.specs.Grammar as plans
+use Rattle.plan_grammar.specs.Grammar.{Stated}
+use Rattle.plan_grammar.specs.Grammar as plans
 use Rattle.answers.specs.Said.{lent}
 use Rattle.planning.specs.Plan.{planSaid, planRoom}
 use Rattle.judging.specs.Judge.{judgeSaid, judgeRoom}

@@ -12,7 +12,7 @@ use Rattle.model.specs.Limits.{lastStep, longestLife, dearest, mostOpenings, mo
 use Rattle.job_grammar.specs.Grammar.{Given, idleIn, idles, openings}
 use Rattle.job_grammar.specs.Optionals.{idleLines}
 use Rattle.job_grammar.specs.Rendering.{idlesText, openingText}
-use Rattle.plan_text.specs.Grammar.{Stated, visits, planOf}
+use Rattle.plan_grammar.specs.Grammar.{Stated, visits, planOf}
 use Rattle.form_facts.specs.Facts.{paired, feesAgree, countOf}
 use Rattle.form.specs.Form.{idleCountText}
 

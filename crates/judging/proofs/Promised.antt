@@ -15,9 +15,9 @@ use Rattle.model.proofs.Verdicts.{judge, lives-kept, kept-lives}
 use Rattle.job_grammar.specs.Grammar.{Given, readJob}
 use Rattle.job_grammar.proofs.Numbered as job
 use Rattle.job_grammar.proofs.Published.{text-due}
-use Rattle.plan_text.specs.Grammar.{Stated, readPlan}
-use Rattle.plan_text.proofs.Numbered as plan
-use Rattle.plan_text.proofs.Shapes.{shaped}
+use Rattle.plan_grammar.specs.Grammar.{Stated, readPlan}
+use Rattle.plan_grammar.proofs.Numbered as plan
+use Rattle.plan_grammar.proofs.Shapes.{shaped}
 use Rattle.answers.specs.Said.{plainly, lent}
 use Rattle.answers.proofs.Replies.{refuses}
 use Rattle.judging.specs.Judge.{costLines, unkeptLines, saidOf, onPlan, onJob, judgeSaid, judgeRoom}

@@ -6,7 +6,7 @@ use Rattle.lines.specs.Parser.{Outcome, accepted, refused}
 use Rattle.model.specs.Model.{Job}
 use Rattle.model.specs.Verdict.{Judgement, accepts, unkept, wrongCost, numberOf, judgedOf}
 use Rattle.job_grammar.specs.Grammar.{Given, readJob}
-use Rattle.plan_text.specs.Grammar.{Stated, readPlan}
+use Rattle.plan_grammar.specs.Grammar.{Stated, readPlan}
 use Rattle.answers.specs.Said.{Said, plainly, refusal}
 
 -- O4. "Judge 0: `result`, `cost`." O6. "Number 11: `result`, `cost` (the true one)."

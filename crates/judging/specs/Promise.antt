@@ -8,7 +8,7 @@ use Rattle.model.specs.Model.{Job, Plan, KeepsLives, costOf}
 use Rattle.model.specs.Verdict.{LowestUnkept}
 use Rattle.model.specs.Due.{DueIs}
 use Rattle.job_grammar.specs.Grammar.{Given, readJob}
-use Rattle.plan_text.specs.Grammar.{Stated, readPlan}
+use Rattle.plan_grammar.specs.Grammar.{Stated, readPlan}
 use Rattle.answers.specs.Said.{Said, Refuses}
 use Rattle.judging.specs.Judge.{costLines, unkeptLines, judgeRoom}
 

@@ -8,11 +8,11 @@ use lib.Seq.{getD-take}
 use Rattle.lines.specs.Chosen.{chosen}
 use Rattle.lines.proofs.Chosen.{chosen-same}
 use Rattle.model.specs.Model.{Job}
-use Rattle.plan_text.specs.Rendering.{changesAt, partsAt, visitAt, visitsOf}
+use Rattle.plan_grammar.specs.Rendering.{changesAt, partsAt, visitAt, visitsOf}
 use Rattle.jobs.specs.Views.{modelPlan}
 use Rattle.plan_text.specs.Views.{numbersAt}
 use Rattle.jobs.specs.declared.Plan.{Plan}
-use Rattle.plan_text.proofs.Marks.{none, changes-length, changes-at}
+use Rattle.plan_stops.proofs.Marks.{none, changes-length, changes-at}
 
 -- the parts changed at an opening of the code's plan are those of the model's
 pub numbers-are : (n m : ℕ) (p : Plan) (i : ℕ) → m ≤ length (p .changes) → i < n → numbersAt p m i ≡ partsAt (modelPlan n m p) i

@@ -6,7 +6,7 @@ use Rattle.lines.specs.Parser.{Outcome, accepted, refused}
 use Rattle.model.specs.Model.{Job, Plan}
 use Rattle.model.specs.Promise.{PlannerAnswer, no-plan, cut-none, cut, optimum, resultOf, answerOf}
 use Rattle.job_grammar.specs.Grammar.{Given, readJob}
-use Rattle.plan_text.specs.Rendering.{planLinesOf}
+use Rattle.plan_grammar.specs.Rendering.{planLinesOf}
 use Rattle.answers.specs.Said.{Said, plainly, refusal}
 
 -- O3. "Planner 0 and 7: `result`, `nodes` (points walked), `floor`, then the plan lines; with 7 and no plan it ends after `floor`."

@@ -12,9 +12,9 @@ use Rattle.model.specs.LowerBound.{leastOf, choiceOf, offers, blocks, stopCost,
 use Rattle.model.specs.Promise.{answerOf}
 use Rattle.model.specs.Verdict.{firstLate, verdictFrom, judgedOf}
 use Rattle.job_grammar.specs.Grammar as job
-use Rattle.plan_text.specs.Grammar as plan
+use Rattle.plan_grammar.specs.Grammar as plan
 use Rattle.lines.specs.Chosen.{chosen}
-use Rattle.plan_text.specs.Rendering.{visitText, planText, visitsOf, planLinesOf}
+use Rattle.plan_grammar.specs.Rendering.{visitText, planText, visitsOf, planLinesOf}
 use Rattle.answers.specs.Said.{faultLines}
 use Rattle.judging.specs.Judge.{costLines, unkeptLines, judgeSaid}
 use Rattle.planning.specs.Plan.{searchLines, plannedLines, planSaid}

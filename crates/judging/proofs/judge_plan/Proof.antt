@@ -4,9 +4,9 @@ use native.Mathlib.Omega.{arith}
 use Rattle.lines.specs.Parser.{accepted, refused}
 use Rattle.lines.proofs.Outcomes.{told}
 use Rattle.jobs.specs.Views.{jobOf, planFor}
-use Rattle.plan_text.specs.Grammar.{readPlan}
+use Rattle.plan_grammar.specs.Grammar.{readPlan}
 use Rattle.plan_text.specs.Views.{statedFor}
-use Rattle.plan_text.proofs.Numbered.{fault}
+use Rattle.plan_grammar.proofs.Numbered.{fault}
 use Rattle.verdict.proofs.Limits.{judged-limited}
 use borrow.Author.Needs.{needs}
 use Rattle.judging.proofs.judge_plan.Statement.{statement}

@@ -8,7 +8,7 @@ use lib.ListN.{length, getD}
 use Rattle.lines.specs.Text.{joined}
 use Rattle.jobs.specs.Views.{jobOf, planFor}
 use Rattle.lines.specs.Chosen.{chosen}
-use Rattle.plan_text.specs.Rendering.{visitAt}
+use Rattle.plan_grammar.specs.Rendering.{visitAt}
 use Rattle.jobs.specs.declared.Plan.{Plan}
 use Rattle.jobs.proofs.Jobs.{opening-count}
 use Rattle.lines.proofs.Chosen.{chosen-count, chosen-few, chosen-length}

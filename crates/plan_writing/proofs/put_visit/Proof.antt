@@ -9,9 +9,9 @@ use Rattle.lines.specs.Text.{bytes, lineOf, texts}
 use Rattle.lines.proofs.Writing.{then, kept, same}
 use Rattle.jobs.specs.Views.{jobOf, changedIn, planFor}
 use Rattle.jobs.proofs.Jobs.{openingAt}
-use Rattle.plan_text.specs.Rendering.{visitAt, visitText}
+use Rattle.plan_grammar.specs.Rendering.{visitAt, visitText}
 use Rattle.plan_text.specs.Views.{numbersAt}
-use Rattle.plan_text.proofs.Jobs.{step-at}
+use Rattle.plan_grammar.proofs.Jobs.{step-at}
 use Rattle.lines.proofs.Chosen.{chosen-few}
 use Rattle.plan_text.proofs.Chosen.{numbers-are}
 use Rattle.plan_writing.proofs.put_visit.Statement.{statement}

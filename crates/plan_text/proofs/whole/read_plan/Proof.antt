@@ -8,10 +8,10 @@ use Rattle.lines.specs.declared.rows.WholeText.{WholeText}
 use Rattle.lines.proofs.Parsing.{close-read, text-fits}
 use Rattle.model.specs.Model as model
 use Rattle.jobs.specs.Views.{jobOf}
-use Rattle.plan_text.specs.Grammar.{Stated, maxBytes, planLines}
+use Rattle.plan_grammar.specs.Grammar.{Stated, maxBytes, planLines}
 use Rattle.plan_text.specs.Views.{statedFor}
-use Rattle.plan_text.proofs.Marks.{empty-made}
-use Rattle.plan_text.proofs.Nothing.{read-none, read-lines, read-long}
+use Rattle.plan_stops.proofs.Marks.{empty-made}
+use Rattle.plan_grammar.proofs.Nothing.{read-none, read-lines, read-long}
 use Rattle.plan_text.proofs.whole.read_plan.Statement.{statement}
 use Rattle.plan_text.proofs.whole.read_plan.Tie as tie
 

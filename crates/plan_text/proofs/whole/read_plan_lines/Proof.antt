@@ -9,7 +9,7 @@ use Rattle.lines.specs.Cursor.{Stands, Reads, rowAnswer, ended}
 use Rattle.lines.proofs.Parsing.{bind-good, bind-fault, row-line, line-inside, line-reads, got-value, got-fault, got-place, map-read, fault-read}
 use Rattle.model.specs.Model as model
 use Rattle.jobs.specs.Views.{jobOf}
-use Rattle.plan_text.specs.Grammar.{Visit, Stated, visits, planOf, planLines}
+use Rattle.plan_grammar.specs.Grammar.{Visit, Stated, visits, planOf, planLines}
 use Rattle.plan_text.proofs.whole.read_plan_lines.Statement.{statement}
 use Rattle.plan_text.proofs.whole.read_plan_lines.Tie as tie
 
