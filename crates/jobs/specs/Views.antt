@@ -45,6 +45,10 @@ pub record Sized (j : Job) : Type 0 where
 
 -- ---- a plan
 
+-- what stands past the end of an array of change sets
+abbrev pub blankChanges : Changes
+blankChanges = record { at = [] }
+
 -- the changes of the first m parts at the first n openings
 abbrev pub changesOf : ℕ → ℕ → List Changes → List (List Bool)
 changesOf n m cs = map (λ (c : Changes). take n (c .at)) (take m cs)
@@ -59,7 +63,7 @@ emptyPlan n m = record { stops = replicate n false; changes = replicate m (repli
 
 -- part k + 1 is changed at opening i
 abbrev pub changedIn : Plan → ℕ → ℕ → Bool
-changedIn p i k = getD (getD (p .changes) k (record { at = [] }) .at) i false
+changedIn p i k = getD (getD (p .changes) k blankChanges .at) i false
 
 -- for the openings and parts that a job counts
 abbrev pub changesFor : Job → List Changes → List (List Bool)

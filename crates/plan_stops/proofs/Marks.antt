@@ -6,16 +6,16 @@ use mathlib.Core.Bool.{Bool, true, false, cond, _&&_, _||_, or-assoc, or-self, o
 use native.Mathlib.Omega.{arith}
 use borrow.Author.Tests.{eq-eqb, ne-eqb}
 use lib.Dec.{eqb}
-use lib.ListN.{length, getD, take, set, replicate, length-map, List·getD-map, length-replicate, getD-replicate}
-use lib.Seq.{take-set-lt, getD-take, length-take-le}
+use lib.ListN.{length, getD, take, set, replicate, length-replicate, getD-replicate}
+use lib.Seq.{take-set-lt}
 use Rattle.model.specs.Model.{Job}
-use Rattle.model.proofs.Bools.{there}
 use Rattle.plan_grammar.specs.Grammar.{Visit, any, among, visited, changed, tabulate, openingsAt, planOf}
 use Rattle.plan_grammar.specs.Rendering.{stepAt}
 use Rattle.model.specs.Limits.{mostOpenings, mostParts}
 use Rattle.jobs.specs.declared.Job as code
 use Rattle.jobs.specs.declared.Plan.{Plan}
-use Rattle.jobs.specs.Views.{jobOf, Sized, changesOf, modelPlan, emptyPlan, planFor}
+use Rattle.jobs.specs.Views.{jobOf, Sized, changesOf, modelPlan, emptyPlan, planFor, blankChanges}
+use Rattle.jobs.proofs.Plans.{changes-at}
 use Rattle.jobs.proofs.Jobs.{Whole, opening-count, part-count}
 use Rattle.plan_stops.specs.Marks.{withStep, withParts, withVisit}
 use Rattle.jobs.specs.declared.Changes.{Changes}
@@ -125,28 +125,15 @@ visit-none job n m p q = λ i. record { stops = nowhere i; changes = never i }
 pub changes-set : (n m : ℕ) (cs : List Changes) (j : ℕ) (c : Changes) → j < m → changesOf n m (set cs j c) ≡ set (changesOf n m cs) j (take n (c .at))
 changes-set n m cs j c h = ap (map (λ (x : Changes). take n (x .at))) (take-set-lt m cs j c h) ∙ map-set (λ (x : Changes). take n (x .at)) (take m cs) j c
 
-pub changes-length : (n m : ℕ) (cs : List Changes) → m ≤ length cs → length (changesOf n m cs) ≡ m
-changes-length n m cs h = simp length-map (length-take-le m cs h)
-
-pub changes-at : (n m : ℕ) (cs : List Changes) (j : ℕ) (d : Changes) → m ≤ length cs → j < m → getD (changesOf n m cs) j [] ≡ take n (getD cs j d .at)
-changes-at n m cs j d l h =
-    there (changesOf n m cs) j [] (take n (d .at)) (omega (arith, changes-length n m cs l))
-    ∙ List·getD-map (λ (x : Changes). take n (x .at)) (take m cs) j d
-    ∙ ap (λ (x : Changes). take n (x .at)) (getD-take m cs j d h)
-
--- what stands past the end of an array of changes
-abbrev pub none : Changes
-none = record { at = [] }
-
 -- part k is marked at a step
 pub changes-more : (job : Job) (n m step : ℕ) (rows : List (List Bool)) (cs : List Changes) (ks : List ℕ) (k : ℕ) (next : List Bool)
     → length (job .parts) ≡ m → m ≤ length cs → 1 ≤ k → k ≤ m
-    → changesOf n m cs ≡ withParts job step ks rows → take n next ≡ withStep job step (take n (getD cs (k - 1) none .at))
+    → changesOf n m cs ≡ withParts job step ks rows → take n next ≡ withStep job step (take n (getD cs (k - 1) blankChanges .at))
     → changesOf n m (set cs (k - 1) (record { at = next })) ≡ withParts job step (ks ++ k ∷ []) rows
 changes-more job n m step rows cs ks k next count l low high h e =
     changes-set n m cs (k - 1) (record { at = next }) (omega arith)
     ∙ ap₂ (λ (xs : List (List Bool)) (x : List Bool). set xs (k - 1) x) h
-    (e ∙ ap (withStep job step) (sym (changes-at n m cs (k - 1) none l (omega arith)) ∙ ap (λ (xs : List (List Bool)). getD xs (k - 1) []) h))
+    (e ∙ ap (withStep job step) (sym (changes-at n m cs l (k - 1) (omega arith)) ∙ ap (λ (xs : List (List Bool)). getD xs (k - 1) []) h))
     ∙ part-more job step rows ks k low (omega arith)
 
 -- which the code's empty plan is

@@ -15,7 +15,7 @@ use Rattle.job_grammar.proofs.Accepted.{valid}
 use Rattle.plan_grammar.specs.Grammar.{readPlan}
 use Rattle.plan_grammar.specs.Rendering.{planLinesOf}
 use Rattle.plan_grammar.proofs.Printed.{read-back}
-use Rattle.verdict.proofs.Limits.{cost-most}
+use Rattle.plan_costs.proofs.Dearest.{cost-most}
 use Rattle.answers.specs.Said.{plainly}
 use Rattle.judging.specs.Judge.{costLines, judgeSaid}
 use Rattle.planning.specs.Plan.{plannedLines, saidFor}

@@ -16,7 +16,8 @@ use Rattle.plan_stops.specs.Marks.{withParts}
 use Rattle.jobs.specs.declared.Changes.{Changes}
 use Rattle.jobs.proofs.Jobs.{part-count}
 use Rattle.plan_grammar.proofs.Valid.{part-gives}
-use Rattle.plan_stops.proofs.Marks.{parts-none, changes-length, changes-more}
+use Rattle.plan_stops.proofs.Marks.{parts-none, changes-more}
+use Rattle.jobs.proofs.Plans.{changes-size}
 use Rattle.plan_stops.proofs.stops.read_changes.Statement.{statement}
 use Rattle.plan_stops.proofs.stops.read_changes.Tie as tie
 
@@ -51,7 +52,7 @@ loop-holds c =
       ks = [];
       read = chain-start _ _ _ _ _ _;
       marked = parts-none (jobOf (s .args .job)) (s .args .step) (changesFor (s .args .job) (s .args .changes))
-          (changes-length (s .args .job .«opening_count») _ (s .args .changes) (omega (arith, s .pre .1)) ∙ sym (count s));
+          (changes-size (s .args .job .«opening_count») _ (s .args .changes) (omega (arith, s .pre .1)) ∙ sym (count s));
     }
 
 sub-read-number : tie.Need-sub-read-number Inv-loop μ-loop
