@@ -30,7 +30,7 @@ use least::TABLE;
 use name::NAMES;
 use name::name_of;
 use search::Found;
-use search::tables::fill;
+use search_tables::tables::fill;
 use stop_walk::solve;
 use walk::Solved;
 

@@ -11,7 +11,7 @@ use Rattle.least.specs.Filled.{Filled, FilledBy}
 use Rattle.lane_rows.specs.Layout.{laneCount, markCount, top, blockSize}
 use Rattle.lane_rows.specs.Tables.{Coded}
 use Rattle.lane_rows.proofs.Rising.{row-inside}
-use Rattle.search.specs.Arrays.{sheetOf}
+use Rattle.search_tables.specs.Arrays.{sheetOf}
 use Rattle.held_rows.specs.Held.{HeldSheet, noLane, classFee, largestTo}
 use Rattle.held_lanes.specs.Places.{bitAt, mostTo, classPlace, topPlace, removalPlace, needLanesPlace, needCountPlace, needClassPlace, maskBase, maskPlace, leadPlace, classesPlace, holdsPlace, heldSize}
 use Rattle.held_lanes.specs.Tables.{needing, Masks, HeldTables}

@@ -23,8 +23,8 @@ use Rattle.lane_rows.specs.Sheet.{Column, Sheet}
 use Rattle.lane_rows.specs.Tables.{Coded, feeFrom}
 use Rattle.lane_rows.proofs.Lanes.{coded-larger}
 use Rattle.lane_rows.proofs.Rising.{row-inside}
-use Rattle.search.specs.Fill.{Triangle, ownOf}
-use Rattle.search.proofs.Filling.{coded, offers-all}
+use Rattle.search_tables.specs.Fill.{Triangle, ownOf}
+use Rattle.search_tables.proofs.Filling.{coded, offers-all}
 use Rattle.held_rows.specs.Held.{HeldColumn, noLane}
 use Rattle.held_lanes.specs.Places.{classPlace, heldSize}
 use Rattle.held_tables.specs.Fill.{Small, Raised, inClass, Terms}

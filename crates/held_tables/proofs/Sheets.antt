@@ -16,8 +16,8 @@ use Rattle.model.proofs.Bools.{there}
 use Rattle.lane_rows.specs.Layout.{lanesIn}
 use Rattle.lane_rows.specs.Sheet.{Column, noColumn}
 use Rattle.lane_rows.specs.Tables.{Alike, Tables}
-use Rattle.search.specs.Arrays.{priceStride, laneValue, foursOf, sheetOf}
-use Rattle.search.proofs.Filling.{past, own-each}
+use Rattle.search_tables.specs.Arrays.{priceStride, laneValue, foursOf, sheetOf}
+use Rattle.search_tables.proofs.Filling.{past, own-each}
 use Rattle.held_places.specs.Arrays.{needStride, needsAt, Lanes, Holds}
 use Rattle.held_rows.specs.Held.{HeldColumn, HeldSheet, columnIn, plain, noLane, needsOf, Classed, Laid, Fills, SheetOf}
 use Rattle.held_lanes.specs.Tables.{needing}

@@ -19,7 +19,7 @@ use Rattle.jobs.proofs.Lists.{map-at}
 use Rattle.jobs.proofs.Jobs.{Whole, opening-count, part-count}
 use Rattle.clock.proofs.Places.{places-are}
 use Rattle.coming_out.specs.Places.{Removals}
-use Rattle.search.specs.Arrays.{priceStride, lanePart, Holds}
+use Rattle.search_tables.specs.Arrays.{priceStride, lanePart, Holds}
 use Rattle.search.specs.declared.Found.{Found}
 use Rattle.search.specs.Found.{Finds, saidIn}
 use Rattle.search.proofs.Answered.{said}

@@ -8,7 +8,7 @@ use mir.Syntax.{w32}
 use mir.Val.{toZ, ofZ}
 use Rattle.lane_rows.specs.Sheet.{Sheet}
 use Rattle.lane_rows.specs.Tables.{Tables}
-use Rattle.search.proofs.Filling.{ready-back}
+use Rattle.search_tables.proofs.Filling.{ready-back}
 use Rattle.held_places.specs.Arrays.{Holds}
 use Rattle.held_places.proofs.Parts.{read-back}
 use Rattle.held_places.proofs.Held.{opened, holding}

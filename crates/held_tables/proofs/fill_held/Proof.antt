@@ -3,8 +3,8 @@ use mathlib.Core.Path.{subst, _∙_}
 use lib.ListN.{length}
 use lib.IntN.{ℤ}
 use mir.Facts.{toZ-ofZ}
-use Rattle.search.specs.Arrays.{sheetOf}
-use Rattle.search.proofs.Filling.{ready-back}
+use Rattle.search_tables.specs.Arrays.{sheetOf}
+use Rattle.search_tables.proofs.Filling.{ready-back}
 use Rattle.held_tables.specs.Sheet.{lanesOf}
 use Rattle.held_tables.specs.Fill.{Terms}
 use Rattle.held_tables.proofs.Filled.{held-filled}

@@ -9,7 +9,7 @@ use mir.Val.{toZ, ofZ}
 use Rattle.model.specs.Unheld.{chargedJob}
 use Rattle.jobs.specs.Views.{jobOf}
 use Rattle.clock.proofs.Ranges.{position-bits}
-use Rattle.search.specs.Arrays.{Holds}
+use Rattle.search_tables.specs.Arrays.{Holds}
 use Rattle.job_numbers.proofs.Counts.{long-enough, Counted, counted}
 use Rattle.job_search.proofs.Plain.{job-said, removed-range, holds-charged}
 use Rattle.job_search.proofs.search_plain.Statement.{statement}

@@ -5,9 +5,9 @@ use borrow.Author.Needs.{needs}
 use lib.ListN.{length, take}
 use lib.IntN.{ℤ}
 use mir.Facts.{toZ-ofZ}
-use Rattle.search.specs.Arrays.{sheetOf}
+use Rattle.search_tables.specs.Arrays.{sheetOf}
 use Rattle.search.specs.Plan.{Chooses}
-use Rattle.search.proofs.Filling.{ready-back}
+use Rattle.search_tables.proofs.Filling.{ready-back}
 use Rattle.search.proofs.Answered.{stops-length, finds}
 use Rattle.search.proofs.search.Statement.{statement}
 use Rattle.walk.specs.State.{Solves}

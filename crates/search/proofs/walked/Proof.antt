@@ -3,8 +3,8 @@ use borrow.Author.Needs.{needs}
 use mir.Syntax.{w32}
 use mir.Val.{toZ, ofZ}
 use mir.Facts.{toZ-ofZ}
-use Rattle.search.specs.Arrays.{sheetOf}
-use Rattle.search.proofs.Filling.{ready-back}
+use Rattle.search_tables.specs.Arrays.{sheetOf}
+use Rattle.search_tables.proofs.Filling.{ready-back}
 use Rattle.search.proofs.walked.Statement.{statement}
 use Rattle.search.proofs.walked.Tie as tie
 

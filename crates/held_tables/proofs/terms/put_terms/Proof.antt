@@ -6,8 +6,8 @@ use lib.IntN.{ℤ}
 use mir.Syntax.{w32}
 use mir.Val.{toZ, ofZ}
 use mir.Facts.{toZ-ofZ}
-use Rattle.search.specs.Arrays.{foursOf, sheetOf}
-use Rattle.search.proofs.Filling.{ready-back}
+use Rattle.search_tables.specs.Arrays.{foursOf, sheetOf}
+use Rattle.search_tables.proofs.Filling.{ready-back}
 use Rattle.held_rows.specs.Held.{HeldColumn, noLane}
 use Rattle.held_tables.specs.Sheet.{lanesOf}
 use Rattle.held_tables.specs.Fill.{Raised, Terms}

@@ -6,7 +6,7 @@ use Rattle.least.specs.Filled.{FilledBy}
 use Rattle.least.proofs.Filled.{filled-none, filled-more}
 use Rattle.lane_rows.specs.Layout.{markCount, blockSize}
 use Rattle.lane_rows.proofs.Rising.{row-inside}
-use Rattle.search.specs.Fill.{ownOf}
+use Rattle.search_tables.specs.Fill.{ownOf}
 use Rattle.held_lanes.specs.Places.{offset}
 use Rattle.held_tables.specs.Fill.{Small}
 use Rattle.held_tables.proofs.Raising.{small-set}

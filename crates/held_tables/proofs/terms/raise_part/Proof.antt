@@ -10,8 +10,8 @@ use mir.Val.{toZ, ofZ}
 use mir.Facts.{toZ-ofZ}
 use Rattle.least.specs.Suffix.{Suffixes}
 use Rattle.least.proofs.Diff.{small-back}
-use Rattle.search.specs.Arrays.{lanePart, columnOf, sheetOf}
-use Rattle.search.proofs.Filling.{all-true, all-length, marks-small, lived-back}
+use Rattle.search_tables.specs.Arrays.{lanePart, columnOf, sheetOf}
+use Rattle.search_tables.proofs.Filling.{all-true, all-length, marks-small, lived-back}
 use Rattle.held_tables.proofs.Raising.{raised-by}
 use Rattle.held_tables.proofs.terms.raise_part.Statement.{statement}
 use Rattle.held_tables.proofs.terms.raise_part.Tie as tie

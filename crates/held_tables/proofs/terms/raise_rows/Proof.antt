@@ -3,8 +3,8 @@ use Prim.Native.Nat.{ℕ, _-_, _≤_, max}
 use mathlib.Core.Path.{_≡_, ap, subst, _∙_}
 use lib.ListN.{getD}
 use Rattle.lane_rows.proofs.Rising.{row-below}
-use Rattle.search.specs.Fill.{Triangle, ownOf}
-use Rattle.search.proofs.Triangles.{triangle-none, triangle-more}
+use Rattle.search_tables.specs.Fill.{Triangle, ownOf}
+use Rattle.search_tables.proofs.Triangles.{triangle-none, triangle-more}
 use Rattle.held_lanes.specs.Places.{classPlace}
 use Rattle.held_tables.specs.Fill.{Small}
 use native.Mathlib.Omega.{arith}

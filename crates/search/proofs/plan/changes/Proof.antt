@@ -9,7 +9,7 @@ use mir.Syntax.{w32}
 use mir.Val.{toZ, ofZ}
 use mir.Facts.{toZ-ofZ}
 use Rattle.search.specs.Plan.{Chooses}
-use Rattle.search.proofs.Filling.{ready-back}
+use Rattle.search_tables.proofs.Filling.{ready-back}
 use Rattle.search.proofs.Stops.{chooses-none, chooses-more}
 use Rattle.search.proofs.plan.changes.Statement.{statement}
 use Rattle.search.proofs.plan.changes.Tie as tie

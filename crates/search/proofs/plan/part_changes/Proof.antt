@@ -9,7 +9,7 @@ use lib.ListN.{length, replicate}
 use mir.Facts.{toZ-ofZ}
 use Rattle.model.specs.LowerBound.{offers, choiceOf}
 use Rattle.least.proofs.Diff.{small-back}
-use Rattle.search.proofs.Filling.{own-is, own-length, marks-small, lived-back}
+use Rattle.search_tables.proofs.Filling.{own-is, own-length, marks-small, lived-back}
 use Rattle.search.proofs.plan.part_changes.Statement.{statement}
 use Rattle.search.proofs.plan.part_changes.Tie as tie
 
