@@ -3,6 +3,7 @@ use crate::check::Check;
 use crate::check::check_rising;
 use crate::check::check_value;
 use covers::Cover;
+use jobs::Part;
 ghost use mathlib.Core.Path.{_≡_};
 ghost use mathlib.Core.List.{_++_};
 ghost use Prim.Native.Nat.{_+_, _≤_, _<_};
@@ -32,7 +33,7 @@ pub struct Covered {
 fn check_holder(v: u32, m: u32, k: u32, before: u32, at: u32) -> Check
     ensures { λ r. ⌜ ReadsAs (grammar.holder m k before) (lineOf "holder=" v) at r v (at + 1) ⌝ }
 {
-    match check_rising(v, Cover::MAX_HOLDER, before, m, 12, at) {
+    match check_rising(v, Part::MAX_HOLDER, before, m, 12, at) {
         Check::Good => {
             if v == k {
                 return Check::Fault {
@@ -98,7 +99,7 @@ fn take_inside(removal: u32, holders: &[u32], m: u32, k: u32, at: u32) -> Covere
     ensures { λ r. ⌜ r .next ≤ at + 16 ⌝ }
 {
     let n = holders.len() as u32;
-    match check_value(n, 0, Cover::MAX_INSIDE, at) {
+    match check_value(n, 0, Part::MAX_INSIDE, at) {
         Check::Good => {
             let hs = take_holders(holders, m, k, at + 1);
             let check = hs.check;
@@ -126,7 +127,7 @@ pub fn take_cover(there: bool, removal: u32, holders: &[u32], m: u32, k: u32, at
     if !there {
         return no_cover(Check::Good, at);
     }
-    match check_value(removal, 0, Cover::MAX_REMOVAL, at) {
+    match check_value(removal, 0, Part::MAX_REMOVAL, at) {
         Check::Good => take_inside(removal, holders, m, k, at + 1),
         Check::Fault { number: j, line: l } => no_cover(Check::Fault { number: j, line: l }, at),
     }

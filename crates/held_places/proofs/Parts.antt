@@ -14,7 +14,7 @@ use Rattle.model.specs.Decisions.{allows}
 use Rattle.model.specs.LowerBound.{offers, blocks}
 use Rattle.model.specs.Limits.{mostOpenings, mostParts}
 use Rattle.model.proofs.Bools.{after-one}
-use Rattle.model.proofs.Blocks.{covered-none}
+use Rattle.model.proofs.Blocks.{accessible-none}
 use Rattle.least.specs.Marks.{markOf, Bits31}
 use Rattle.least.specs.Suffix.{PartUntil}
 use Rattle.least.proofs.Diff.{mag-sub, back, small-back}
@@ -39,7 +39,7 @@ pub places-are : (n h : ℕ) (nd : List Bool) (q : ℕ) (name r : List Bool) →
     → (k : ℕ) → k < n → getD (take n r) k true ≡ getD (placesOf n h nd q name) k true
 places-are n h nd q name r e k l =
     getD-take n r k true l ∙ e .at k l ∙ sym (List·getD-map (allows (needsAt h nd q)) (blocks h n name) k [])
-    ∙ ap (getD (placesOf n h nd q name) k) (covered-none (needsAt h nd q))
+    ∙ ap (getD (placesOf n h nd q name) k) (accessible-none (needsAt h nd q))
 
 -- ---- one part's own windows
 

@@ -4,7 +4,7 @@ use mathlib.Core.Path.{_≡_}
 use mathlib.Core.List.{List, [], _∷_}
 use lib.ListN.{length}
 use Rattle.model.specs.Model.{Opening, Part, Job}
-use Rattle.model.specs.Limits.{lastStep, longestLife, dearest, mostOpenings, mostParts}
+use Rattle.model.specs.Limits.{lastStep, longestLife, dearest, mostOpenings, mostParts, mostInside}
 use Rattle.model.specs.Windows.{Rising, stepsOf}
 use Rattle.jobs.specs.declared.Job as code
 use Rattle.jobs.specs.Views.{jobOf, Sized}
@@ -35,7 +35,7 @@ pub record ValidPart (n : ℕ) (p : Part) : Type 0 where
   pub left-high : p .left ≤ p .life
   -- E7.2. "`removal` 0..1000000, `inside` 0..15"
   pub removal : p .removal ≤ dearest
-  pub few-holders : length (p .holders) ≤ 15
+  pub few-holders : length (p .holders) ≤ mostInside
   pub priced : length (p .prices) ≡ n
   pub prices : All ValidPrice (p .prices)
 

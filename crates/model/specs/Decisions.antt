@@ -44,13 +44,13 @@ heldParts job = heldFrom job 0 (job .parts)
 -- ---- the decisions at one opening, its block: no; or yes, and then a removal for each part that is somebody's holder, as far as decided
 
 -- every part that is needed is "removed or undecided"
-unfoldable pub covered : List Bool → List Bool → Bool
-covered [] removed = true
-covered (need ∷ needs) removed = (not need || getD removed 0 true) && covered needs (drop 1 removed)
+unfoldable pub accessible : List Bool → List Bool → Bool
+accessible [] removed = true
+accessible (need ∷ needs) removed = (not need || getD removed 0 true) && accessible needs (drop 1 removed)
 
 -- E7.6. "a part can be changed only where it and its holders are removed or undecided"
 abbrev pub allows : List Bool → List Bool → Bool
-allows needs block = getD block 0 true && covered needs (drop 1 block)
+allows needs block = getD block 0 true && accessible needs (drop 1 block)
 
 -- the openings at which blocks let a part be changed
 abbrev pub placesIn : Held → List (List Bool) → List Bool

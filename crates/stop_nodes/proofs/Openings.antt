@@ -15,7 +15,7 @@ use Rattle.branch.proofs.Bounds.{sum-inj}
 use Rattle.branch.proofs.Steps.{left-bound, on-full, on-opening}
 use Rattle.model.specs.Decisions.{joined}
 use Rattle.model.specs.LastYes.{lastYes}
-use Rattle.model.proofs.Blocks.{covered-none}
+use Rattle.model.proofs.Blocks.{accessible-none}
 use Rattle.model.proofs.LastYes.{last-no}
 use Rattle.least.specs.Filled.{FilledBy}
 use Rattle.lane_rows.specs.Layout.{laneCount, top, inf, suffixBase, feePlace, lanesIn}
@@ -238,7 +238,7 @@ module _ {sheet : HeldSheet} {ds : List (List Bool)} {t u w v : List ℕ} {p : N
               next = omega arith;
               removed = refl;
               small = omega arith;
-              shut = λ i l. bit-zero i ∙ ap not (sym (covered-none (needsOf sheet (getD (sheet .lanes) i noLane .class))));
+              shut = λ i l. bit-zero i ∙ ap not (sym (accessible-none (needsOf sheet (getD (sheet .lanes) i noLane .class))));
             };
             opening = λ q. absurd (false≢true (sym q));
           }

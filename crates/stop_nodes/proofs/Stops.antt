@@ -18,7 +18,7 @@ use Rattle.lane_rows.specs.Layout.{laneCount, top, inf, lanesIn}
 use Rattle.lane_rows.specs.Tables.{Coded, sumWhere}
 use Rattle.lane_rows.specs.Rows.{lane, sumLanes}
 use Rattle.held_rows.specs.Held.{HeldSheet, noLane, needsOf, held, paidIn, heldSums, heldTerm, heldBound}
-use Rattle.held_rows.proofs.Seen.{paid-removal, covered-removed}
+use Rattle.held_rows.proofs.Seen.{paid-removal, accessible-removed}
 use Rattle.held_rows.proofs.Sums.{sums-removed, term-removed}
 use Rattle.held_rows.proofs.Numbers.{stop-sums, stays-rises}
 use Rattle.held_rows.proofs.Numbers as numbers
@@ -244,7 +244,7 @@ module _ {sheet : HeldSheet} {ds : List (List Bool)} {t u w v : List ℕ} {p : N
               next = omega arith;
               removed = bits-yes (p .next) (p .removed) ∙ ap (λ (l : List Bool). snoc l true) (stop .removed);
               small = mask-next (p .next) (p .removed) (stop .small);
-              shut = λ i l. stop .shut i l ∙ ap not (sym (covered-removed (needsOf sheet (getD (sheet .lanes) i noLane .class)) rs));
+              shut = λ i l. stop .shut i l ∙ ap not (sym (accessible-removed (needsOf sheet (getD (sheet .lanes) i noLane .class)) rs));
             };
             opening = λ q. absurd (false≢true (sym q));
           }
