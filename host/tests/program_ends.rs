@@ -10,6 +10,7 @@ use std::io::{self, Read, Write};
 use std::os::unix::process::ExitStatusExt;
 use std::path::{Path, PathBuf};
 use std::process::{Child, Command, Stdio};
+use std::sync::mpsc;
 use std::thread::{self, sleep};
 use std::time::Duration;
 
@@ -73,7 +74,7 @@ fn judged() -> Folder {
     folder
 }
 
-/// Stops the process, waits until it is stopped, and lets it go on.
+/// Stops the process, waits until it is stopped (or has ended), and lets it go on.
 fn interrupt(child: &Child) {
     let signal = |name: &str| {
         let sent = Command::new("kill").args([name, &child.id().to_string()]).status().expect("kill runs");
@@ -81,7 +82,7 @@ fn interrupt(child: &Child) {
     };
     let state = || std::fs::read_to_string(format!("/proc/{}/stat", child.id())).expect("the process is there");
     signal("-STOP");
-    while !state().contains(") T ") {
+    while ![") T ", ") Z "].iter().any(|own| state().contains(own)) {
         sleep(Duration::from_millis(1));
     }
     signal("-CONT");
@@ -181,6 +182,7 @@ fn an_output_that_is_read_slowly() {
         let filled = PIPE - 4_096;
         let path = reader.path.clone();
         let input = text.clone();
+        let (waits, waiting) = mpsc::channel();
         let writing = thread::spawn(move || {
             to.write_all(&vec![b'x'; filled]).expect("the pipe takes it");
             let mut child = reader.start(Stdio::piped(), to.into());
@@ -188,9 +190,11 @@ fn an_output_that_is_read_slowly() {
             sleep(Duration::from_millis(300));
             interrupt(&child);
             interrupt(&child);
+            let _ = waits.send(());
             ended_well(child);
         });
-        sleep(Duration::from_millis(800));
+        // A pipe that takes less than usual is not even full yet, and must be read.
+        let _ = waiting.recv_timeout(Duration::from_secs(5));
         let read = read_slowly(from, |so_far| if so_far < filled { 4_096 } else { 61 });
         writing.join().expect("the program ended well");
         assert_eq!(read[filled..], answer, "{path:?}");
