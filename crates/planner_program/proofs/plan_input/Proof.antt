@@ -15,18 +15,22 @@ read-whole-requires c κs = search needs
 plan-requires : tie.Need-plan-requires
 plan-requires c κs = search needs
 
-write-all-requires : tie.Need-write-all-requires
-write-all-requires c κs = search needs
+print-answer-requires : tie.Need-print-answer-requires
+print-answer-requires c κs = search needs
 
 returns : tie.Need-returns
-returns c = record {
-  job = take (c .before .before .before .before .before .before .before .read-whole .result) (c .before .before .before .before .before .before .before .read-whole .last .1 .1 .0);
-  read = omega (arith, c .before .before .before .before .before .before .before .read-whole .ensures .0, c .before .before .before .before .before .before .job2 .given);
-  says = λ input kept. c .before .before .before .plan .ensures .0 .numbers-are ∙ ap numbers (ap planSaid (sym kept) ∙ same input);
-}
+returns c =
+    let called = c .before .before .before .before in
+    let cut = called .before .before .before in
+    let read = cut .before in
+    record {
+      job = take (read .read-whole .result) (read .read-whole .last .1 .1 .0);
+      read = omega (arith, read .read-whole .ensures .0, cut .job2 .given);
+      says = λ input kept. called .plan .ensures .0 .numbers-are ∙ ap numbers (ap planSaid (sym kept) ∙ same input);
+    }
 
 pub plan-input-spec : {M : Type 1} → statement M
 plan-input-spec =
     tie.close
     (tie.spec (λ c. search needs) read-whole-requires (λ c. search needs) (λ c. search needs) (λ c. search needs)
-    plan-requires (λ c. search needs) (λ c. search needs) write-all-requires returns)
+    plan-requires (λ c. search needs) (λ c. search needs) (λ c. search needs) print-answer-requires returns)
