@@ -114,19 +114,22 @@ fn inputs_that_are_closed_or_no_files() {
     }
 }
 
-/// These two have no exit status but 0 and say nothing elsewhere: an answer that can't be written is lost, as their pages say.
+/// These two have no exit status but 0: that an answer can't be written they say on standard error, as their pages say.
 #[test]
 fn answers_that_cannot_be_written() {
     let Some(programs) = programs() else { return };
     let folder = judged();
     let texts = || (folder.names(), folder.read("job.txt"), folder.read("plan.txt"));
     let before = texts();
-    for (program, input) in [("planner", "job.txt"), ("judge", "/dev/null")] {
-        let program = programs.join(program);
-        for output in ["> /dev/full", ">&-", "<&- >&-", "<&- >&- 2>&-"] {
+    for (name, input) in [("planner", "job.txt"), ("judge", "/dev/null")] {
+        let program = programs.join(name);
+        for (output, why) in [("> /dev/full", "No space left on device"), (">&-", "Bad file descriptor"), ("<&- >&-", "Bad file descriptor")] {
             let ran = folder.shell(&format!("'{}' < {input} {output}", program.display()));
-            assert_eq!((ran.status, ran.out.as_str(), ran.err.as_str()), (0, "", ""), "{program:?} {output}");
+            let said = format!("{name}: the answer can't be written: {why}\n");
+            assert_eq!((ran.status, ran.out.as_str(), ran.err), (0, "", said), "{program:?} {output}");
         }
+        let ran = folder.shell(&format!("'{}' <&- >&- 2>&-", program.display()));
+        assert_eq!((ran.status, ran.out.as_str(), ran.err.as_str()), (0, "", ""), "{program:?}");
         let (reader, writer) = io::pipe().expect("a pipe");
         let mut command = Command::new(program);
         command.current_dir(&folder.0).stdin(File::open(folder.0.join("job.txt")).expect("the job")).stdout(writer);
