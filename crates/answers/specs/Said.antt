@@ -23,6 +23,7 @@ pub record Said : Type 0 where
 abbrev pub twoLines : ℕ → List ℕ → ℕ → List ℕ
 twoLines number key value = lineOf "result=" number ++ line key value
 
+-- the latter: two values, each under its key
 abbrev pub threeLines : ℕ → List ℕ → ℕ → List ℕ → ℕ → List ℕ
 threeLines number key value next more = twoLines number key value ++ line next more
 
@@ -71,6 +72,7 @@ handed s n = record {
   «fault_length» = s .fault .length;
 }
 
+-- O9. the same, where the written length is that of the answer's bytes
 abbrev pub numbers : Said → Answer
 numbers s = handed s (length (s .bytes))
 

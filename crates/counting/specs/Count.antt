@@ -32,9 +32,11 @@ holderRefusal = record { result = 12; text = 0; line = 0; count = 0; «fault_sta
 unfoldable pub countedJob : Job → Counted
 countedJob job = cond (hasHolder job) holderRefusal (countOf (openCount job))
 
+-- by what the job text reads as: what an accepted job gives, or the fault
 abbrev pub onJob : List ℕ → Outcome Given → Counted
 onJob text (accepted given) = countedJob (given .job)
 onJob text (refused number line) = refusalOf text number line
 
+-- the whole answer, by the text alone: nothing is written, so no room is asked for
 unfoldable pub countSaid : List ℕ → Counted
 countSaid text = onJob text (readJob text)

@@ -34,6 +34,7 @@ module _ {text : List ℕ} where
   abbrev pub NoHolder : Reading text → Type 0
   NoHolder r = hasHolder (jobIn r) ≡ false
 
+-- what is promised of the numbers c that are handed over for a text
 pub record CountPromise (text : List ℕ) (c : Counted) : Type 0 where
   -- 0 exactly if the job is accepted and has no holder
   pub says-0 : (c .result ≡ 0) ↔ ((r : Reading text) × NoHolder r)

@@ -20,6 +20,7 @@ other k h = not (eqb h k)
 unfoldable pub holder : ℕ → ℕ → ℕ → Parser ℕ
 holder m k before = checked 12 (other k) (checked 12 (rising before m) (row "holder=" 1 mostParts))
 
+-- all n holders of part k of m, each after the one before
 unfoldable pub holders : ℕ → ℕ → ℕ → Parser (List ℕ)
 holders m k n = chain (holder m k) (λ _ h. h) n 0
 

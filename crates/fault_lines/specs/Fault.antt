@@ -12,6 +12,7 @@ unfoldable pub beforeBreak : List ℕ → List ℕ
 beforeBreak [] = []
 beforeBreak (b ∷ bs) = elim (eqb b 10) [ true ↦ [] | false ↦ b ∷ beforeBreak bs ]
 
+-- what follows the first line; nothing if no byte 10 ends it
 unfoldable pub afterBreak : List ℕ → List ℕ
 afterBreak [] = []
 afterBreak (b ∷ bs) = elim (eqb b 10) [ true ↦ bs | false ↦ afterBreak bs ]

@@ -36,6 +36,7 @@ idleCountText is = lineOf "idles=" (countOf lastStep true (length is)) ++ texts 
 unfoldable pub bodyOf : List ℕ → List ℕ → PartLists → List ℕ
 bodyOf os fs x = texts openingText (paired os fs) ++ countedText (length os) x
 
+-- from the `walk` line on; E2.2. the number of openings is out of its range where the fees are not as many
 unfoldable pub restOf : ℕ → List ℕ → List ℕ → PartLists → List ℕ
 restOf w os fs x = lineOf "walk=" w ++ (lineOf "openings=" (countOf mostOpenings (feesAgree os fs) (length os)) ++ bodyOf os fs x)
 

@@ -59,14 +59,17 @@ abbrev pub markOf : Optional Cover → ℕ
 markOf missing = 0
 markOf (present c) = 1
 
+-- a part's entry of `removals`; none where its lines don't stand
 abbrev pub removalsOf : Optional Cover → List ℕ
 removalsOf missing = []
 removalsOf (present c) = c .removal ∷ []
 
+-- its entry of `insides`: how many holders it names
 abbrev pub insidesOf : Optional Cover → List ℕ
 insidesOf missing = []
 insidesOf (present c) = length (c .holders) ∷ []
 
+-- its entries of `holders`, as many as that
 abbrev pub holdersOf : Optional Cover → List ℕ
 holdersOf missing = []
 holdersOf (present c) = c .holders
@@ -98,6 +101,7 @@ formOf t = record {
 abbrev pub FormFault : ℕ → Type 0
 FormFault n = ((3 ≤ n) × (n ≤ 5)) ⊎ (n ≡ 12)
 
+-- E2. what is promised of the answer s to a form, where the output has `room` bytes
 pub record WritePromise (f : Form) (room : ℕ) (s : Said) : Type 0 where
   -- "8 if the output has less than 32,768 bytes"
   pub says-8 : (s .result ≡ 8) ↔ (room < writeRoom)

@@ -78,6 +78,7 @@ coversAgree m cs v is h = eqb (length cs) m && (allMarks cs && (eqb v (total cs)
 abbrev pub sizesAgree : ℕ → ℕ → ℕ → ℕ → Bool
 sizesAgree m l p n = eqb l m && eqb p (m * n)
 
+-- E2.2. both, of the lists of the parts where there are n openings
 abbrev pub partsAgree : ℕ → PartLists → Bool
 partsAgree n x =
     sizesAgree (length (x .lives)) (length (x .lefts)) (length (x .prices)) n && coversAgree (length (x .lives)) (x .covered) (length (x .removals)) (x .insides) (length (x .holders))

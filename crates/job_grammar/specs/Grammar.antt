@@ -40,6 +40,7 @@ idleIn (present is) = is
 abbrev pub meantPart : PartText → Part
 meantPart p = record { life = p .life; left = p .left; removal = meantCover (p .cover) .removal; holders = meantCover (p .cover) .holders; prices = p .prices }
 
+-- the job and the walk number that the lines mean
 abbrev pub meant : JobText → Given
 meant t = record { walk = t .walk; job = record { horizon = t .horizon; idles = idleIn (t .idles); openings = t .openings; parts = map meantPart (t .parts) } }
 
@@ -47,6 +48,7 @@ meant t = record { walk = t .walk; job = record { horizon = t .horizon; idles = 
 unfoldable pub idle : ℕ → ℕ → Parser ℕ
 idle h before = checked 4 (rising before h) (row "idle=" 1 lastStep)
 
+-- E1.2. n idle steps, each after the one before
 unfoldable pub idleSteps : ℕ → ℕ → Parser (List ℕ)
 idleSteps h n = chain (idle h) (λ _ i. i) n 0
 
@@ -63,6 +65,7 @@ opening h before = do
   f ← row "fee=" 0 dearest
   return (record { step = o; fee = f })
 
+-- X5. n openings with their fees, each after the one before
 unfoldable pub openings : ℕ → ℕ → Parser (List Opening)
 openings h n = chain (opening h) (λ _ o. o .step) n 0
 
@@ -118,6 +121,7 @@ maxBytes = 32768
 abbrev pub readJobText : List ℕ → Outcome JobText
 readJobText s = readText maxBytes jobLines s
 
+-- what a text without a fault means; a fault stays as it is
 abbrev pub meaning : Outcome JobText → Outcome Given
 meaning (accepted t) = accepted (meant t)
 meaning (refused n l) = refused n l

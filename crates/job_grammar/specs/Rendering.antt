@@ -11,9 +11,11 @@ use Rattle.job_grammar.specs.Grammar.{PartText, JobText}
 unfoldable pub idlesText : List ℕ → List ℕ
 idlesText is = lineOf "idles=" (length is) ++ texts (lineOf "idle=") is
 
+-- X3. the pair of lines of an opening
 unfoldable pub openingText : Opening → List ℕ
 openingText o = lineOf "opening=" (o .step) ++ lineOf "fee=" (o .fee)
 
+-- X3, E7.2. a part's lines; those of removal where they stand
 unfoldable pub partText : PartText → List ℕ
 partText p = lineOf "life=" (p .life) ++ lineOf "left=" (p .left) ++ optionalText coverText (p .cover) ++ texts (lineOf "price=") (p .prices)
 

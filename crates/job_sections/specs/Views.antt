@@ -25,6 +25,7 @@ pub record IdlesRead {A : Type 0} (f : List ℕ → A) (s : List ℕ) (r : Idles
   pub reads : Reads s (ended (r .end) (f (idlesOf r))) x
   pub sized : r .count ≤ lastStep
 
+-- what the code answers for an opening and its fee, in the parsers' terms
 abbrev pub openingAnswer : OpeningRow → ReadAt model.Opening
 openingAnswer (Value o p) = got (openingOf o) p
 openingAnswer (Fault n l) = no-good n l

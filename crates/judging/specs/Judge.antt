@@ -32,6 +32,7 @@ abbrev pub onPlan : List ℕ → Job → Outcome Stated → Said
 onPlan plan job (accepted stated) = saidOf (judgedOf job (stated .cost) (stated .plan))
 onPlan plan job (refused number line) = refusal 2 plan number line
 
+-- by what the job text reads as: R20. "then the job text [..]; then the plan text"
 abbrev pub onJob : List ℕ → List ℕ → Outcome Given → Said
 onJob job plan (accepted given) = onPlan plan (given .job) (readPlan (given .job) plan)
 onJob job plan (refused number line) = refusal 1 job number line

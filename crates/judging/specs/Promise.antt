@@ -35,6 +35,7 @@ module _ {job plan : List ℕ} where
 abbrev pub Overdue : Job → Plan → ℕ → ℕ → Type 0
 Overdue job plan part due = (late : LowestUnkept job plan part due) × DueIs job plan part due late
 
+-- what is promised of the answer s to the two texts, where the output has `room` bytes
 pub record JudgePromise (job plan : List ℕ) (room : ℕ) (s : Said) : Type 0 where
   -- R8. "8: the output is shorter than 16,384 bytes."
   pub says-8 : (s .result ≡ 8) ↔ (room < judgeRoom)

@@ -13,6 +13,7 @@ afterOne x (suc i) = suc (suc i)
 afterOne true zero = 1
 afterOne false zero = 0
 
+-- the first decision counts only where none after it is a yes
 unfoldable pub lastYes : List Bool → ℕ
 lastYes [] = 0
 lastYes (x ∷ p) = afterOne x (lastYes p)

@@ -34,6 +34,7 @@ among ks k = any (λ (j : ℕ). eqb j k) ks
 abbrev pub isOpening : Job → ℕ → Bool
 isOpening job step = any (λ (o : Opening). eqb (o .step) step) (job .openings)
 
+-- both: it comes after the step before, and is an opening
 abbrev pub mayStop : Job → ℕ → ℕ → Bool
 mayStop job before step = ltb before step && isOpening job step
 
@@ -41,6 +42,7 @@ mayStop job before step = ltb before step && isOpening job step
 unfoldable pub part : ℕ → ℕ → Parser ℕ
 part m before = checked 9 (rising before m) (row "part=" 1 mostParts)
 
+-- the n parts of a stop, each after the one before
 unfoldable pub parts : ℕ → ℕ → Parser (List ℕ)
 parts m n = chain (part m) (λ _ k. k) n 0
 
@@ -52,6 +54,7 @@ visit job before = do
   ks ← parts (length (job .parts)) n
   return (record { step = step; parts = ks })
 
+-- X6. n stops, each after the one before
 unfoldable pub visits : Job → ℕ → Parser (List Visit)
 visits job n = chain (visit job) (λ _ v. v .step) n 0
 

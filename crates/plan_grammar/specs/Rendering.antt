@@ -10,9 +10,11 @@ use Rattle.plan_grammar.specs.Grammar.{Visit}
 
 -- ---- the lines of visits; the counts are the lists' lengths
 
+-- X4. the lines `stop` and `count`, and a line `part` for each part changed there
 unfoldable pub visitText : Visit → List ℕ
 visitText v = lineOf "stop=" (v .step) ++ lineOf "count=" (length (v .parts)) ++ texts (lineOf "part=") (v .parts)
 
+-- X4. the lines `cost` and `stops`, and those of each stop
 unfoldable pub planText : ℕ → List Visit → List ℕ
 planText cost vs = lineOf "cost=" cost ++ lineOf "stops=" (length vs) ++ texts visitText vs
 
@@ -30,6 +32,7 @@ partsAt plan i = chosen (changesAt plan i) (λ k. k + 1) (length (plan .changes)
 abbrev pub stepAt : Job → ℕ → ℕ
 stepAt job i = getD (map (λ (o : Opening). o .step) (job .openings)) i 0
 
+-- what the plan does at opening i, if it stops there
 abbrev pub visitAt : Job → Plan → ℕ → Visit
 visitAt job plan i = record { step = stepAt job i; parts = partsAt plan i }
 

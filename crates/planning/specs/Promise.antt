@@ -48,6 +48,7 @@ pub record Reports (text : List ℕ) (given : Given) (s : Said) : Type 0 where
   pub says : s ≡ saidFor (given .job) answer
   pub prints : Prints text (given .job) s answer
 
+-- what is promised of the answer s to a text, where the output has `room` bytes
 pub record PlanPromise (text : List ℕ) (room : ℕ) (s : Said) : Type 0 where
   -- R8. "8: the output is shorter than 16,384 bytes."
   pub says-8 : (s .result ≡ 8) ↔ (room < planRoom)

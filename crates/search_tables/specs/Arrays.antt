@@ -17,6 +17,7 @@ use Rattle.model.specs.Limits.{lastPosition, longestLife, mostOpenings}
 abbrev pub priceStride : ℕ
 priceStride = 64
 
+-- room for the prices of sixteen lanes
 abbrev pub priceSize : ℕ
 priceSize = 1024
 
@@ -46,6 +47,7 @@ columnsFrom n ls rs ps q (suc k) = columnOf (lanePart n ls rs ps q) ∷ columnsF
 abbrev pub foursOf : ℕ → ℕ
 foursOf n = (n + 3) / 4
 
+-- the sheet that the arrays make: e the end, ss positions, fs fees, ls lives, rs first lives, ps prices
 abbrev pub sheetOf : ℤ → List ℤ → List ℕ → List ℕ → List ℕ → List ℕ → Sheet
 sheetOf e ss fs ls rs ps = record { end = e; positions = ss; fees = fs; parts = length ls; columns = columnsFrom (length ss) ls rs ps 0 (foursOf (length ls) * 4) }
 

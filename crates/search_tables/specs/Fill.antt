@@ -33,6 +33,7 @@ ownOf tab j i = min (getD tab (cell j i) 0) inf
 abbrev pub reachOf : ℤ → ℤ → List ℤ → ℕ → ℕ → ℕ
 reachOf life first ss j i = cond (within life (markOf first ss i) (getD ss j (pos 0))) 0 inf
 
+-- the column of one part, by its life, the position of the change before the first, and its prices
 abbrev pub column : ℤ → ℤ → List ℕ → Column
 column life first ps = record { life = life; first = first; prices = ps }
 

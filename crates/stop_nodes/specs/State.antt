@@ -33,6 +33,7 @@ blocksOf h f (suc k) m = blocksOf h f k (m / 2) ++ (cond (eqb (m % 2) 1) (true �
 abbrev pub removalsIn : List ℕ → ℕ → ℕ
 removalsIn v i = getD v (removedPlace i) 0
 
+-- of the incumbent, the removals of the stop at opening i
 abbrev pub bestIn : List ℕ → ℕ → ℕ
 bestIn v i = getD v (bestPlace i) 0
 
@@ -50,6 +51,7 @@ view limit sheet v s = viewOf limit (bestName (held sheet) (length (sheet .posit
 abbrev pub noN : Node → ℕ → Node
 noN p r = record { at = p .at + 1; rows = r; next = p .next; owed = false; shut = 0; removed = 0; spent = p .spent; mask = p .mask * 2 }
 
+-- a stop: its row is still owed, and no removal is decided yet; `paid` has its fee
 abbrev pub yesN : Node → ℕ → ℕ → Node
 yesN p r paid = record { at = p .at + 1; rows = r; next = 0; owed = true; shut = 0; removed = 0; spent = paid; mask = p .mask * 2 + 1 }
 
@@ -57,6 +59,7 @@ yesN p r paid = record { at = p .at + 1; rows = r; next = 0; owed = true; shut =
 abbrev pub staysN : Node → ℕ → Node
 staysN p set = record { at = p .at; rows = p .rows; next = p .next + 1; owed = true; shut = set; removed = p .removed * 2; spent = p .spent; mask = p .mask }
 
+-- it is removed: no further lane is shut, and `paid` has its removal
 abbrev pub outN : Node → ℕ → Node
 outN p paid = record { at = p .at; rows = p .rows; next = p .next + 1; owed = true; shut = p .shut; removed = p .removed * 2 + 1; spent = paid; mask = p .mask }
 
@@ -138,6 +141,7 @@ pub record Aside (v v' : List ℕ) (n k : ℕ) : Type 0 where
   pub rows : (i q : ℕ) → i < n → q < laneCount → getD v' (pendingPlace i q) 0 ≡ getD v (pendingPlace i q) 0
   pub ready : (i : ℕ) → i < n → getD v' (readyPlace i) 0 ≡ getD v (readyPlace i) 0
 
+-- what is kept of the stack and beside it: the first n rows with their memo, and the removals of the first k openings
 pub record Frame (t w w' v v' : List ℕ) (n k : ℕ) : Type 0 where
   pub recalled : Recalled t w w' n
   pub aside : Aside v v' n k

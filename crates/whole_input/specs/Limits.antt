@@ -5,6 +5,7 @@ use Rattle.plan_grammar.specs.Grammar as plan
 use Rattle.whole_input.specs.declared.Text.{Text}
 use Rattle.whole_input.specs.declared.Text.the-variants.{Job, Plan}
 
+-- X7. the job's text and the plan's, each by its own grammar
 abbrev pub limitOf : Text → ℕ
 limitOf Job = job.maxBytes
 limitOf Plan = plan.maxBytes
