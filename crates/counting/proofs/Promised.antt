@@ -24,7 +24,8 @@ use Rattle.job_grammar.proofs.Accepted.{valid}
 use Rattle.job_grammar.proofs.Numbered.{fault-some, fault}
 use Rattle.counting.specs.declared.Counted.{Counted}
 use Rattle.counting.specs.Count.{countOf, refusalOf, holderRefusal, countedJob, onJob, countSaid}
-use Rattle.counting.specs.Promise.{Reading, jobIn, CountPromise}
+use Rattle.job_grammar.specs.Reading.{Reading, jobIn}
+use Rattle.counting.specs.Promise.{CountPromise}
 
 -- a valid job's numbers are in order
 lefts : (n : ℕ) (parts : List Part) → All (ValidPart n) parts → Lefts parts

@@ -24,6 +24,7 @@ module _ {job plan : List ℕ} where
   abbrev pub Keeps : Reading job plan → Type 0
   Keeps r = KeepsLives (r .given .job) (r .stated .plan)
 
+  -- what the plan costs
   abbrev pub trueCost : Reading job plan → ℕ
   trueCost r = costOf (r .given .job) (r .stated .plan)
 

@@ -52,7 +52,7 @@ pub record Reads {A : Type 0} (s : List ℕ) (r : ReadAt A) (x : Parsed A) : Typ
   pub is : parsed s r ≡ x
   pub stands : Stood s r
 
--- the code's answers
+-- the answer of a reader of one line
 abbrev pub rowAnswer : Row → ReadAt ℕ
 rowAnswer (Value v p) = got v p
 rowAnswer (Fault n l) = no-good n l

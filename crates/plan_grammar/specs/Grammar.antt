@@ -30,11 +30,11 @@ among ks k = any (λ (j : ℕ). eqb j k) ks
 
 -- ---- lines
 
--- X6, R9. "Stops rise and are openings", else number 9
+-- a step has an opening
 abbrev pub isOpening : Job → ℕ → Bool
 isOpening job step = any (λ (o : Opening). eqb (o .step) step) (job .openings)
 
--- both: it comes after the step before, and is an opening
+-- X6, R9. "Stops rise and are openings", else number 9
 abbrev pub mayStop : Job → ℕ → ℕ → Bool
 mayStop job before step = ltb before step && isOpening job step
 

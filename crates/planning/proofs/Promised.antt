@@ -17,7 +17,8 @@ use Rattle.answers.specs.Said.{plainly, lent}
 use Rattle.answers.proofs.Replies.{refuses}
 use Rattle.planning.specs.Plan.{saidFor, onJob, planSaid, planRoom}
 use Rattle.planning.proofs.ReadBack.{prints}
-use Rattle.planning.specs.Promise.{Reading, jobIn, walkIn, Reports, PlanPromise}
+use Rattle.job_grammar.specs.Reading.{Reading, jobIn, walkIn}
+use Rattle.planning.specs.Promise.{Reports, PlanPromise}
 
 not-8 : (a : PlannerAnswer) → resultOf a ≡ 8 → ⊥
 not-8 no-plan e = omega arith

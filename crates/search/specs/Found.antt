@@ -40,7 +40,7 @@ pub record Finds (job : Job) (limit : ℕ) (r : Found) : Type 0 where
   pub floor : r .floor ≡ plainBound job []
   pub changes : changesIn (length (job .openings)) (length (job .parts)) r ≡ map (λ (part : Part). plainPartChoice job part (stopsIn (length (job .openings)) r)) (job .parts)
 
--- the planner's answer, read off what the code holds
+-- the plan that the code holds
 abbrev pub planFound : ℕ → ℕ → Found → Plan
 planFound n m r = record { stops = stopsIn n r; changes = changesIn n m r }
 
@@ -56,6 +56,6 @@ abbrev pub saidAt : ℕ → ℕ → Found → Bound → PlannerAnswer
 saidAt n m r Missing = no-plan
 saidAt n m r (Sum floor) = saidBy n m floor r (r .over) (r .found)
 
--- where there are n openings and m parts
+-- the planner's answer, read off what the code holds, where there are n openings and m parts
 abbrev pub saidIn : ℕ → ℕ → Found → PlannerAnswer
 saidIn n m r = saidAt n m r (r .floor)

@@ -22,7 +22,8 @@ use Rattle.model.specs.Count.{eachReaches, eachKept, countFrom, openCount}
 use Rattle.counting.specs.Count.{countedJob, countSaid}
 use Rattle.covers.specs.Grammar as cover
 use Rattle.covers.specs.Views.{meantCover}
-use Rattle.starred.specs.Table.{All, Holds, Counts, table, counts}
+use Rattle.jobs.specs.Valid.{All}
+use Rattle.starred.specs.Table.{Holds, Counts, table, counts}
 
 pub proved : All Holds table × All Counts counts
 unfolding table counts bytes decimalIn line joined digits numberFrom startsWith readValue readLine _>>=_ return inRange readField taken rowAt optionalAt ifPresent checked chain times end whole readText beforeBreak afterBreak skipped faultLine faultSpan walk limited askFrom idle running clock within kept lastWithin dueOf listed places holdsOne rounds comesOut holding outBy select sumAt sum anyHeld heldFrom covered leastOf choiceOf offers blocks stopCost undecidedFees boundOf answerOf firstLate verdictFrom judgedOf job.idle job.idleSteps job.idles job.opening job.openings cover.holder cover.holders cover.inside cover.cover meantCover job.afterLeft job.part job.parts job.body job.rest job.jobLines plan.any plan.part plan.parts plan.visit plan.visits plan.planOf plan.planLines plan.readPlan visitText planText chosen visitsOf planLinesOf faultLines searchLines plannedLines costLines unkeptLines judgeSaid planSaid eachReaches eachKept countFrom openCount countedJob countSaid

@@ -67,11 +67,6 @@ Counts c =
     × (said .count ≡ c .count)
     × (take (said .«fault_length») (drop (said .«fault_start») (c .job)) ≡ c .fault)
 
--- every case of a table holds
-abbrev pub All : {A : Type 0} → (A → Type 0) → List A → Type 0
-All holds [] = Unit {0}
-All holds (a ∷ rest) = holds a × All holds rest
-
 -- C1 to C12, and cases of ours of E1, E5 and E7
 unfoldable pub table : List Case
 table =

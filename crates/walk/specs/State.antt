@@ -63,7 +63,7 @@ keptS s c m = record { count = s .count; cost = c; mask = m }
 abbrev pub reachedS : ℕ → Search → Search
 reachedS limit s = cond (overS limit s) s (countedS s)
 
--- the part sums of a node that is walked on, with its fees and its part sums: its bound is less than the incumbent's cost, and it is within the limit
+-- the part sums of a node that is walked on, with its fees and its part sums: its bound is less than the incumbent's cost
 abbrev pub undropped : ℕ → Bound → Search → Bound
 undropped spent Missing s = Missing
 undropped spent (Sum x) s = cond (viewed (spent + x) s) (Sum x) Missing
