@@ -202,6 +202,18 @@ fn first_place(line: u32) -> Place
     }
 }
 
+// Parts that have a fault.
+fn no_parts(k: u32, line: u32) -> Parts
+    ensures { λ r. ⌜ r .check ≡ Check.Fault k line ⌝ }
+{
+    let blank = blank_part();
+    Parts {
+        check: Check::Fault { number: k, line },
+        covered: [false; 16],
+        parts: [blank; 16],
+    }
+}
+
 // The parts, each with its lines of removal where they stand and the next n prices, from line `at` on.
 pub fn take_parts(
     lives: &[u32],
@@ -247,31 +259,13 @@ pub fn take_parts(
                 p = step.place;
                 k += 1;
             }
-            Check::Fault { number: j, line: l } => {
-                return Parts {
-                    check: Check::Fault { number: j, line: l },
-                    covered: marks,
-                    parts: taken,
-                };
-            }
+            Check::Fault { number: j, line: l } => return no_parts(j, l),
         }
     }
     Parts {
         check: Check::Good,
         covered: marks,
         parts: taken,
-    }
-}
-
-// Parts that have a fault.
-fn no_parts(k: u32, line: u32) -> Parts
-    ensures { λ r. ⌜ r .check ≡ Check.Fault k line ⌝ }
-{
-    let blank = blank_part();
-    Parts {
-        check: Check::Fault { number: k, line },
-        covered: [false; 16],
-        parts: [blank; 16],
     }
 }
 

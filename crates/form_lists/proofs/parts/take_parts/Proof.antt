@@ -64,16 +64,22 @@ loop-again c =
     taking-more (a .n) (a .at) (lists (c .before .before .before .before .before .before .before .before .before .before .before .before .before .before .before .before)) (l .marks) (l .taken) (l .p) (l .k) (l .inv) (c .before .before .before .before .before .loop-test .taken) (r .result .place) (r .result .there) (r .result .part) (r .ensures .1)
     (λ s h. passed part s (r .result .place .line) (r .ensures .0 s h) (c .before .before .enum-told .given .1)) (c .before .before .before .before .before .before .before .before .before .before .before .before .before .before .before .before .pre .1 .0)
 
+no-parts-requires : tie.Need-no-parts-requires Inv-loop μ-loop
+no-parts-requires c κs = search needs
+
 returns : tie.Need-returns Inv-loop μ-loop
 unfolding found
 returns c =
-    let a = c .before .before .before .before .before .before .before .before .before .before .before .before .before .before .before .args in
-    let l = c .before .before .before .before .before .loop in
-    let r = c .before .before .before .take-next in
+    let told = c .before in
+    let start = told .before .before .before .before .before .before .before .before .before .before .before .before .before .before .before in
+    let a = start .args in
+    let l = told .before .before .before .before .before .loop in
+    let r = told .before .before .before .take-next in
     let part = partLines (r .result .there) (partOf (a .n) (r .result .part)) in (
       0,
-      taking-fault (a .n) (a .at) (lists (c .before .before .before .before .before .before .before .before .before .before .before .before .before .before .before)) (l .marks) (l .taken) (l .p) (l .k) (l .inv) (c .before .before .before .before .loop-test .taken)
-          (λ s h. failed part s (r .result .place .line) (r .ensures .0 s h) (c .before .check .given .1)),
+      rw (c .no-parts .ensures)
+          (taking-fault (a .n) (a .at) (lists start) (l .marks) (l .taken) (l .p) (l .k) (l .inv) (told .before .before .before .before .loop-test .taken)
+          (λ s h. failed part s (r .result .place .line) (r .ensures .0 s h) (told .before .check .given .1))),
     )
 
 returns-2 : tie.Need-returns-2 Inv-loop μ-loop
@@ -88,4 +94,4 @@ take-parts-spec =
     tie.close
     (tie.spec Inv-loop μ-loop blank-part-requires first-place-requires loop-holds take-next-requires
     (λ c. search needs) mul-taken array-set-from-taken array-write-marks add-k loop-less loop-again
-    (λ c. search needs) returns returns-2)
+    (λ c. search needs) no-parts-requires returns returns-2)
