@@ -47,7 +47,7 @@ int main(int argc, char **argv) {
 
     juzvarola_counted counted = juzvarola_count(job, length);
     if (counted.result == 0) {
-        fprintf(stderr, "%s%u nodes\n", counted.count == 4000000000u ? "the walk may have more than " : "the walk has at most ", (unsigned)counted.count);
+        fprintf(stderr, counted.count == 4000000000u ? "the walk may have %u nodes or more\n" : "the walk has at most %u nodes\n", (unsigned)counted.count);
     }
 
     juzvarola_answer answer = juzvarola_plan(job, length, out, sizeof out);

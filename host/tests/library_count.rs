@@ -14,18 +14,19 @@ const MOST: u64 = 3_000;
 
 #[test]
 fn every_vector_of_the_count() {
-    let (mut vectors, mut differ) = (0, 0);
-    for vector in vectors::counts() {
+    let vectors = vectors::counts();
+    let mut differ = 0;
+    for vector in &vectors {
         let answer = count(&vector.job);
         let same = (answer.result, answer.text, answer.line, answer.count) == (vector.result, vector.text, vector.line, vector.count);
         if !same || answer.fault != vector.fault {
             println!("{}: {answer:?}", vector.job.escape_ascii());
             differ += 1;
         }
-        vectors += 1;
     }
-    println!("{vectors} vectors, {differ} differ");
-    assert!(vectors >= 200 && differ == 0);
+    println!("{} vectors, {differ} differ", vectors.len());
+    vectors::enough(vectors.len(), "JUZVAROLA_COUNT_VECTORS", 300);
+    assert_eq!(differ, 0);
 }
 
 /// Whether a part of an accepted job has a holder.
@@ -141,14 +142,14 @@ fn never_fewer_than_the_planner_prints() {
     });
 }
 
-/// Microseconds a call on the largest job: the count, and the judge with an empty plan text, which reads the job and refuses the plan.
+/// Microseconds a call on the largest job: the count, and the judge with a plan text that is refused at once, which reads the job alone.
 #[test]
 #[ignore]
 fn time_of_the_count() {
     let text = idle_parts(64, 16);
     let mut out = vec![0; 16_384];
     let calls: [(&str, Box<dyn FnMut(&[u8]) -> u32>); 2] =
-        [("the count", Box::new(|job| count(job).count)), ("reading alone", Box::new(|job| judge(job, b"", &mut out).line))];
+        [("the count", Box::new(|job| count(job).count)), ("reading alone", Box::new(|job| judge(job, b"\n", &mut out).line))];
     for (name, mut call) in calls {
         let (times, start) = (20_000, Instant::now());
         let sum: u64 = (0..times).map(|_| u64::from(call(std::hint::black_box(text.as_bytes())))).sum();

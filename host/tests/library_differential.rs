@@ -28,6 +28,7 @@ fn library_is_the_reference() {
         if cases >= CASES {
             assert!(results[0][..9].iter().all(|times| *times >= LEAST));
             assert!([0, 1, 2, 3, 4, 5, 8, 9, 10, 11].iter().all(|result| results[1][*result] >= LEAST));
+            assert!(!inputs::holders_on() || results.iter().all(|row| row[12] >= LEAST));
         }
     });
 }

@@ -3,49 +3,13 @@
 #![cfg(feature = "library")]
 
 mod common;
-use common::forms::{self, FormCall};
-use common::lent::Lent;
-use common::{rng::Rng, setting};
-use juzvarola_host::reference::{texts::read_job, Reply};
-use juzvarola_host::Answer;
+use common::{forms, lent::compare_form, rng::Rng, setting};
+use juzvarola_host::reference::texts::read_job;
 
 const CASES: u64 = 100_000;
 
 /// Each result number occurs at least this often in the full run.
 const LEAST: u64 = 50;
-
-/// Numbers on each side of a list that would do in its place: a writer that reads past its end writes on.
-const MARGIN: usize = 16;
-
-/// Makes the call by the library and compares everything it hands over with the reply.
-fn compare(rng: &mut Rng, call: &FormCall, reply: &Reply) -> Result<(), String> {
-    let around = call.lists.clone().map(|list| [vec![1; MARGIN], list, vec![1; MARGIN]].concat());
-    let inside = |at: usize| &around[at][MARGIN..around[at].len() - MARGIN];
-    let form = juzvarola_host::Form {
-        idles: inside(0),
-        openings: inside(1),
-        fees: inside(2),
-        lives: inside(3),
-        lefts: inside(4),
-        covered: inside(5),
-        removals: inside(6),
-        insides: inside(7),
-        holders: inside(8),
-        prices: inside(9),
-        ..call.form()
-    };
-    let mut out = Lent::output(rng, call.output);
-    let answer = juzvarola_host::write(&form, out.part_mut());
-    // "There is no text of the caller's, so no line at fault is handed over."
-    let wanted = Answer { result: reply.result, text: reply.text, line: reply.line, length: reply.bytes.len(), fault_start: 0, fault: &[] };
-    if answer != wanted {
-        return Err(format!("{answer:?}\nnot {wanted:?}\n{call:?}"));
-    }
-    if !out.has(&reply.bytes) {
-        return Err(format!("not written: {}\nor a byte outside was changed\n{call:?}", reply.bytes.escape_ascii()));
-    }
-    Ok(())
-}
 
 #[test]
 fn library_gives_every_form() {
@@ -54,7 +18,7 @@ fn library_gives_every_form() {
         let vectors = forms::vectors();
         let mut differ = 0;
         for (number, vector) in vectors.iter().enumerate() {
-            if let Err(difference) = compare(&mut rng, &vector.call, &vector.reply) {
+            if let Err(difference) = compare_form(&mut rng, &vector.call, &vector.reply) {
                 println!("vector {}: {difference}", number + 1);
                 differ += 1;
             }
@@ -73,7 +37,7 @@ fn library_writes_what_the_reference_writes() {
         for number in 0..cases {
             let call = forms::random(&mut rng);
             let reply = call.expected();
-            if let Err(difference) = compare(&mut rng, &call, &reply) {
+            if let Err(difference) = compare_form(&mut rng, &call, &reply) {
                 panic!("form {number}: {difference}");
             }
             // "A written text reads back as the same job".
@@ -86,6 +50,7 @@ fn library_writes_what_the_reference_writes() {
         println!("{cases} forms, 0 differ; results: {results:?}");
         if cases >= CASES {
             assert!([0, 3, 4, 5, 8].iter().all(|result| results[*result] >= LEAST));
+            assert!(!common::inputs::holders_on() || results[12] >= LEAST);
         }
     });
 }

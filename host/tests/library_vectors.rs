@@ -35,7 +35,7 @@ fn library_gives_every_vector() {
     common::with_stack(|| {
         let mut rng = Rng::new(4);
         let vectors = vectors::all();
-        assert!(vectors.len() >= if std::env::var("JUZVAROLA_VECTORS").is_ok() { 1 } else { 1570 }, "only {} vectors", vectors.len());
+        vectors::enough(vectors.len(), "JUZVAROLA_VECTORS", 1570);
         let mut differ = 0;
         for (number, vector) in vectors.iter().enumerate() {
             if let Err(difference) = lent::compare(&mut rng, &vector.call, &reply(vector)) {

@@ -1,6 +1,7 @@
 #!/bin/sh
 # pictures.sh BROWSER JOB PNG: plans the job, draws the plan, and has the browser take its picture.
 set -eu
+command -v "$1" > /dev/null || { echo "pictures.sh: $1 is needed (Debian: chromium)" >&2; exit 1; }
 scratch=$(mktemp -d)
 trap 'rm -rf "$scratch"' EXIT
 target/release/juzvarola plan "$2" -o "$scratch/plan.txt"

@@ -9,7 +9,7 @@ use juzvarola_host::reference::{texts::read_job, Reply};
 #[test]
 fn reference_gives_every_form() {
     let vectors = forms::vectors();
-    assert!(vectors.len() >= 200, "only {} vectors", vectors.len());
+    common::vectors::enough(vectors.len(), "JUZVAROLA_FORMS", 200);
     for vector in &vectors {
         let reply = vector.call.expected();
         assert_eq!(Reply { fault_start: 0, fault_length: 0, ..reply }, vector.reply, "{:?}", vector.call);

@@ -9,7 +9,7 @@ use std::{fs, path::Path};
 fn reference_gives_every_vector() {
     common::with_stack(|| {
         let vectors = vectors::all();
-        assert!(vectors.len() >= 1100, "only {} vectors", vectors.len());
+        vectors::enough(vectors.len(), "JUZVAROLA_VECTORS", 1570);
         let mut differ = 0;
         for (number, vector) in vectors.iter().enumerate() {
             let reply = vector.call.expected();
@@ -37,7 +37,7 @@ const MOST: u64 = 1_000;
 fn reference_gives_every_count() {
     common::with_stack(|| {
         let vectors = vectors::counts();
-        assert!(vectors.len() >= 300, "only {} vectors", vectors.len());
+        vectors::enough(vectors.len(), "JUZVAROLA_COUNT_VECTORS", 300);
         for vector in &vectors {
             let counted = reference::count(&vector.job, MOST);
             let fault = &vector.job[counted.fault_start..][..counted.fault_length];

@@ -5,7 +5,7 @@ use std::path::Path;
 /// "No division or remainder on the way to a digit": no `/` and no `%` in the code that finds digits and writes them.
 #[test]
 fn digits_are_found_without_dividing() {
-    let folder = Path::new(env!("CARGO_MANIFEST_DIR")).join("../crates/lines/src");
+    let folder = Path::new(env!("CARGO_MANIFEST_DIR")).join("../crates/line_writing/src");
     for file in ["digits.rt", "write.rt"] {
         let text = std::fs::read_to_string(folder.join(file)).expect("a source");
         let code = |line: &&str| !line.trim_start().starts_with("//") && !line.contains('⌜');

@@ -1,5 +1,6 @@
 //! Files: inputs read whole, outputs written whole or not at all.
 
+use crate::closed;
 use crate::failure::{failure, Failure, CANT_CREATE, INPUT_OUTPUT, NO_INPUT, USAGE};
 use crate::output::shown;
 use crate::standard_output;
@@ -35,6 +36,9 @@ pub fn name_of(path: &OsStr) -> String {
 pub fn read(path: &OsStr) -> Result<Input, Failure> {
     let mut bytes = Vec::new();
     if is_standard(path) {
+        if closed::input() {
+            return Err(failure(NO_INPUT, "standard input is closed"));
+        }
         let read = io::stdin().lock().take(MOST).read_to_end(&mut bytes);
         read.map_err(|error| failure(NO_INPUT, format_args!("standard input can't be read: {error}")))?;
         return Ok(Input { name: "<stdin>".to_string(), bytes });

@@ -114,7 +114,8 @@ exit status:
   0   the cheapest plan; a plan that keeps every life at its true cost
   1   a verdict: no plan keeps the lives (6), a part is not kept (10), the
       stated cost is wrong (11)
-  2   a text is at fault (1 to 5, 9): its line is named
+  2   a text is at fault (1 to 5, 9, 12): its line is named; a job with a
+      holder was to be counted (12)
   3   the walk is longer than its walk number (7)
   64 and up   usage, files, output that can't be written (as sysexits has them)
 ";

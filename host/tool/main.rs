@@ -2,6 +2,7 @@
 
 mod arguments;
 mod calls;
+mod closed;
 mod compare;
 mod costs;
 mod count;

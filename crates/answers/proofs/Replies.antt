@@ -8,7 +8,7 @@ use lib.ListN.{length}
 use Rattle.lines.specs.Parser.{Outcome, refused}
 use Rattle.lines.specs.Wrote.{Wrote}
 use Rattle.lines.proofs.Outcomes.{one-fault}
-use Rattle.lines.proofs.Breaks.{span-cuts}
+use Rattle.fault_lines.proofs.Breaks.{span-cuts}
 use Rattle.lines.proofs.Writing.{written, kept, counted}
 use Rattle.answers.specs.Said.{Said, Refuses, plainly, refusal, handed, Replied}
 use Rattle.answers.specs.declared.Answer.{Answer}

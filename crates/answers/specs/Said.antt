@@ -7,8 +7,8 @@ use lib.Dec.{ltb}
 use lib.ListN.{length, drop}
 use Rattle.lines.specs.Text.{line, lineOf}
 use Rattle.lines.specs.Wrote.{Counted}
-use Rattle.lines.specs.Fault.{nowhere, faultLine, faultSpan, Cuts}
-use Rattle.lines.specs.declared.fault.Span.{Span}
+use Rattle.fault_lines.specs.Fault.{nowhere, faultLine, faultSpan, Cuts}
+use Rattle.fault_lines.specs.declared.fault.Span.{Span}
 use Rattle.answers.specs.declared.Answer.{Answer}
 
 -- O10, O13. an answer: the result number; the text at fault and its line (0 and 0 if there is none); where that line stands; the bytes written
@@ -23,6 +23,7 @@ pub record Said : Type 0 where
 abbrev pub twoLines : ℕ → List ℕ → ℕ → List ℕ
 twoLines number key value = lineOf "result=" number ++ line key value
 
+-- the latter: two values, each under its key
 abbrev pub threeLines : ℕ → List ℕ → ℕ → List ℕ → ℕ → List ℕ
 threeLines number key value next more = twoLines number key value ++ line next more
 
@@ -71,6 +72,7 @@ handed s n = record {
   «fault_length» = s .fault .length;
 }
 
+-- O9. the same, where the written length is that of the answer's bytes
 abbrev pub numbers : Said → Answer
 numbers s = handed s (length (s .bytes))
 

@@ -1,6 +1,6 @@
 // The answers of the calls: what every call hands over, and the lines of a refusal. Each call writes its own lines.
-use lines::fault::fault_span;
-use lines::write::put_line;
+use fault_lines::fault::fault_span;
+use line_writing::write::put_line;
 ghost use mathlib.Core.Path.{_≡_};
 ghost use mathlib.Core.List.{[]};
 ghost use Prim.Native.Nat.{_≤_, _<_};

@@ -11,9 +11,9 @@ use Rattle.model.specs.Count.{openCount}
 use Rattle.model.proofs.NoHolders.{held-none}
 use Rattle.model.proofs.Unheld.{Plain, plain-unheld, answer-before, cost-before}
 use Rattle.jobs.specs.Valid.{All, ValidPart}
-use Rattle.job_text.specs.Grammar.{Given, readJob}
-use Rattle.job_text.proofs.Accepted.{valid}
-use Rattle.plan_text.specs.Grammar.{Stated}
+use Rattle.job_grammar.specs.Grammar.{Given, readJob}
+use Rattle.job_grammar.proofs.Accepted.{valid}
+use Rattle.plan_grammar.specs.Grammar.{Stated}
 use Rattle.answers.specs.Said.{lent}
 use Rattle.planning.specs.Plan as planning
 use Rattle.judging.specs.Judge as judging

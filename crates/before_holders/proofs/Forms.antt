@@ -9,11 +9,11 @@ use lib.ListN.{length, take, drop, replicate, length-replicate}
 use borrow.Author.Tests.{eq-eqb}
 use Rattle.lines.specs.Text.{bytes, lineOf, texts, missing, optionalText}
 use Rattle.lines.specs.Parser.{Outcome, accepted, refused, finish, whole}
-use Rattle.job_text.specs.Grammar.{PartText, jobLines}
-use Rattle.job_text.specs.Views.{idleLines}
-use Rattle.job_text.specs.Rendering.{openingText, partText}
+use Rattle.job_grammar.specs.Grammar.{PartText, jobLines}
+use Rattle.job_grammar.specs.Optionals.{idleLines}
+use Rattle.job_grammar.specs.Rendering.{openingText, partText}
 use Rattle.answers.specs.Said.{plainly}
-use Rattle.form_lists.specs.Facts.{paired, feesAgree, coversOf, grouped, total, allMarks, coversAgree, partsAgree, countOf, countedText}
+use Rattle.form_facts.specs.Facts.{paired, feesAgree, coversOf, grouped, total, allMarks, coversAgree, partsAgree, countOf, countedText}
 use Rattle.form.specs.Form.{idleCountText, bodyOf, restOf, formText, readForm}
 use Rattle.form.specs.Write.{saidFor, writeSaid}
 use Rattle.before_holders.specs.Texts as before

@@ -12,7 +12,7 @@ use Rattle.lines.proofs.Complete.{text-complete}
 use Rattle.model.specs.Model.{Part}
 use Rattle.covers.specs.Grammar.{cover}
 use Rattle.covers.specs.Views.{meantCover}
-use Rattle.job_text.specs.Grammar.{PartText, JobText, Given, meantPart, meant, idle, idleSteps, idles, opening, openings, afterLeft, part, following, parts, body, rest, jobLines, maxBytes, meaning, readJobText, readJob}
+use Rattle.job_grammar.specs.Grammar.{PartText, JobText, Given, meantPart, meant, idle, idleSteps, idles, opening, openings, afterLeft, part, following, parts, body, rest, jobLines, maxBytes, meaning, readJobText, readJob}
 use Rattle.before_holders.specs.Texts as before
 use Rattle.before_holders.proofs.Letters.{withoutM, no-removal}
 use Rattle.before_holders.proofs.Clean.{Clean, row-clean, rule-clean, optional-clean, return-clean, bind-clean, present-clean, chain-clean}

@@ -15,7 +15,7 @@ use Rattle.lines.proofs.Sound.{never, bind-inv, accepted-is}
 use Rattle.lines.proofs.Complete.{text-complete}
 use Rattle.model.specs.Model.{Job}
 use Rattle.model.specs.Limits.{mostCost}
-use Rattle.plan_text.specs.Grammar.{Stated, planLines, maxBytes, readPlan}
+use Rattle.plan_grammar.specs.Grammar.{Stated, planLines, maxBytes, readPlan}
 use Rattle.before_holders.specs.Texts as before
 
 -- a line whose value may be larger

@@ -12,9 +12,9 @@ use Rattle.lines.proofs.Outcomes.{not-both}
 use Rattle.lines.proofs.Sound.{accepted-is}
 use Rattle.model.specs.Model.{Opening}
 use Rattle.jobs.specs.Valid.{All}
-use Rattle.job_text.specs.Grammar.{PartText, JobText, jobLines, maxBytes, readJobText}
-use Rattle.job_text.specs.Rendering.{idlesText, openingText, partText, bodyText, jobText}
-use Rattle.job_text.proofs.Accepted.{text-is}
+use Rattle.job_grammar.specs.Grammar.{PartText, JobText, jobLines, maxBytes, readJobText}
+use Rattle.job_grammar.specs.Rendering.{idlesText, openingText, partText, bodyText, jobText}
+use Rattle.job_grammar.proofs.Accepted.{text-is}
 use Rattle.before_holders.specs.Texts as before
 use Rattle.before_holders.specs.AsBefore.{Accepted, Bare}
 use Rattle.before_holders.proofs.Letters.{withoutM, without-both, without-line, without-texts}

@@ -7,8 +7,8 @@ use Rattle.model.specs.Model.{Job}
 use Rattle.model.specs.Unheld.{plainAnswer, plainCost}
 use Rattle.model.specs.Verdict.{judged, verdictOf}
 use Rattle.model.specs.Count.{openCount}
-use Rattle.job_text.specs.Grammar.{Given}
-use Rattle.plan_text.specs.Grammar.{Stated}
+use Rattle.job_grammar.specs.Grammar.{Given}
+use Rattle.plan_grammar.specs.Grammar.{Stated}
 use Rattle.answers.specs.Said.{Said, plainly, refusal}
 use Rattle.planning.specs.Plan as planning
 use Rattle.judging.specs.Judge as judging
@@ -18,10 +18,12 @@ use Rattle.before_holders.specs.Texts.{JobText, jobText, Form, readForm,
 
 -- ---- the planner
 
+-- by what the job text read as: E4's answer at its walk number, or its fault
 abbrev pub planOn : List ℕ → Outcome Given → Said
 planOn text (accepted given) = planning.saidFor (given .job) (plainAnswer (given .job) (given .walk))
 planOn text (refused number line) = refusal 1 text number line
 
+-- what the planner said of a job text where there was room
 unfoldable pub planSaid : List ℕ → Said
 planSaid text = planOn text (readJob text)
 
@@ -31,35 +33,43 @@ planRoom = 16384
 
 -- ---- the judge
 
+-- once the job was read: the plan text against it, whose cost had no removals
 abbrev pub judgePlan : List ℕ → Job → Outcome Stated → Said
 judgePlan plan job (accepted stated) = judging.saidOf (judged (stated .cost) (plainCost job (stated .plan)) (verdictOf job (stated .plan)))
 judgePlan plan job (refused number line) = refusal 2 plan number line
 
+-- by what the job text read as: its fault came before any of the plan's
 abbrev pub judgeOn : List ℕ → List ℕ → Outcome Given → Said
 judgeOn job plan (accepted given) = judgePlan plan (given .job) (readPlan (given .job) plan)
 judgeOn job plan (refused number line) = refusal 1 job number line
 
+-- what the judge said of the two texts where there was room
 unfoldable pub judgeSaid : List ℕ → List ℕ → Said
 judgeSaid job plan = judgeOn job plan (readJob job)
 
+-- X8. the judge needed as much
 abbrev pub judgeRoom : ℕ
 judgeRoom = 16384
 
 -- ---- the count
 
+-- by what the job text read as: E6's count of any job, or its fault
 abbrev pub countOn : List ℕ → Outcome Given → Counted
 countOn text (accepted given) = countOf (openCount (given .job))
 countOn text (refused number line) = refusalOf text number line
 
+-- what the count handed over for a job text
 unfoldable pub countSaid : List ℕ → Counted
 countSaid text = countOn text (readJob text)
 
 -- ---- the writer
 
+-- by what the form read as: the text of its job, or its fault, with no text of the caller's
 abbrev pub writeOn : Outcome JobText → Said
 writeOn (accepted t) = plainly 0 (jobText t)
 writeOn (refused number line) = refusal 1 [] number line
 
+-- what the writer said of a form where there was room
 unfoldable pub writeSaid : Form → Said
 writeSaid f = writeOn (readForm f)
 

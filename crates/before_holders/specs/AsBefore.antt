@@ -7,10 +7,10 @@ use lib.ListN.{length, replicate}
 use Rattle.lines.specs.Text.{missing}
 use Rattle.lines.specs.Parser.{accepted}
 use Rattle.jobs.specs.Valid.{All}
-use Rattle.job_text.specs.Grammar.{Given}
-use Rattle.job_text.specs.Grammar as today
-use Rattle.plan_text.specs.Grammar.{Stated}
-use Rattle.plan_text.specs.Grammar as plans
+use Rattle.job_grammar.specs.Grammar.{Given}
+use Rattle.job_grammar.specs.Grammar as today
+use Rattle.plan_grammar.specs.Grammar.{Stated}
+use Rattle.plan_grammar.specs.Grammar as plans
 use Rattle.answers.specs.Said.{lent}
 use Rattle.planning.specs.Plan.{planSaid, planRoom}
 use Rattle.judging.specs.Judge.{judgeSaid, judgeRoom}
@@ -40,6 +40,7 @@ pub record BothAccepted (job plan : List ℕ) : Type 0 where
 abbrev pub uncovered : texts.Form → Form
 uncovered f = filled (f .horizon) (f .idles) (f .walk) (f .openings) (f .fees) (f .lives) (f .lefts) (replicate (length (f .lives)) 0) [] [] [] (f .prices)
 
+-- of all texts, forms and rooms: which texts were free of faults, what they said, and every call's answer
 pub record AsBefore : Type 0 where
   -- exactly the job texts that are accepted today and have no lines of removal were accepted
   pub accepts : (text : List ℕ) → Accepted text ↔ ((t : today.JobText) × ((today.readJobText text ≡ accepted t) × Bare t))

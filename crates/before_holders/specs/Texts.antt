@@ -9,11 +9,11 @@ use Rattle.lines.specs.Text.{lineOf, texts, Optional, optionalText}
 use Rattle.lines.specs.Parser.{Outcome, accepted, refused, Parser, _>>=_, return, row, checked, times, upTo, finish, whole, readText}
 use Rattle.model.specs.Model.{Opening, Part, Job}
 use Rattle.model.specs.Limits.{lastStep, longestLife, dearest, mostOpenings, mostParts, mostWalk}
-use Rattle.job_text.specs.Grammar.{Given, idleIn, idles, openings}
-use Rattle.job_text.specs.Views.{idleLines}
-use Rattle.job_text.specs.Rendering.{idlesText, openingText}
-use Rattle.plan_text.specs.Grammar.{Stated, visits, planOf}
-use Rattle.form_lists.specs.Facts.{paired, feesAgree, countOf}
+use Rattle.job_grammar.specs.Grammar.{Given, idleIn, idles, openings}
+use Rattle.job_grammar.specs.Optionals.{idleLines}
+use Rattle.job_grammar.specs.Rendering.{idlesText, openingText}
+use Rattle.plan_grammar.specs.Grammar.{Stated, visits, planOf}
+use Rattle.form_facts.specs.Facts.{paired, feesAgree, countOf}
 use Rattle.form.specs.Form.{idleCountText}
 
 -- ---- the job text
@@ -78,6 +78,7 @@ maxBytes = 32768
 abbrev pub readJobText : List ℕ → Outcome JobText
 readJobText s = readText maxBytes jobLines s
 
+-- what a text without a fault meant; a fault stays as it was
 abbrev pub meaning : Outcome JobText → Outcome Given
 meaning (accepted t) = accepted (meant t)
 meaning (refused n l) = refused n l
@@ -88,12 +89,15 @@ readJob s = meaning (readJobText s)
 
 -- ---- the text that said it
 
+-- a part's lines: no line of removal stood between `left` and the prices
 unfoldable pub partText : PartText → List ℕ
 partText p = lineOf "life=" (p .life) ++ lineOf "left=" (p .left) ++ texts (lineOf "price=") (p .prices)
 
+-- what followed the number of openings
 unfoldable pub bodyText : JobText → List ℕ
 bodyText t = texts openingText (t .openings) ++ lineOf "parts=" (length (t .parts)) ++ texts partText (t .parts)
 
+-- the lines of a job in the text's order; the counts were the lists' lengths
 unfoldable pub jobText : JobText → List ℕ
 jobText t = lineOf "horizon=" (t .horizon) ++ optionalText idlesText (t .idles) ++ lineOf "walk=" (t .walk) ++ lineOf "openings=" (length (t .openings)) ++ bodyText t
 
@@ -145,6 +149,7 @@ bodyOf os fs ls rs ps =
     texts openingText (paired os fs)
     ++ (lineOf "parts=" (countOf mostParts (partsAgree os ls rs ps) (length ls)) ++ texts partText (grouped (length os) ls rs ps))
 
+-- from the `walk` line on; the number of openings was out of its range where the fees were not as many
 unfoldable pub restOf : ℕ → List ℕ → List ℕ → List ℕ → List ℕ → List ℕ → List ℕ
 restOf w os fs ls rs ps = lineOf "walk=" w ++ (lineOf "openings=" (countOf mostOpenings (feesAgree os fs) (length os)) ++ bodyOf os fs ls rs ps)
 

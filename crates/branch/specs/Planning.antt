@@ -11,6 +11,7 @@ use Rattle.branch.specs.Search.{Tree, Incumbent, none, plan, whole, Limi
 
 -- ---- what is planned
 
+-- what any plan is, keeps, costs and decides, and the tree in which the best one is searched
 pub record Problem : Type 1 where
   pub Plan : Type 0
   pub Keeps : Plan → Type 0  -- the plan keeps the lives

@@ -1,8 +1,8 @@
 -- The parts that are somebody's holder, by their places: of a list with an entry for each part, the entries of those parts. And what is added to a part's prices.
 use mathlib.Core.Path.{_≡_, refl, sym, ap, ap₂, _∙_}
 use mathlib.Core.Bool.{Bool, false, cond}
-use mathlib.Core.List.{List, map}
-use Prim.Native.Nat.{ℕ, _≤_}
+use mathlib.Core.List.{List}
+use Prim.Native.Nat.{ℕ}
 use native.Mathlib.Omega.{arith}
 use lib.ListN.{length, getD, take, List·getD-map}
 use Rattle.model.specs.Model.{Job, table, holding, removalOf}

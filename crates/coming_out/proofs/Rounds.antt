@@ -1,7 +1,7 @@
 -- Rounds of holders, as the code makes them: what a round adds is read from the matrix, and rounds see a set only through its places.
 use mathlib.Core.Path.{_≡_, refl, sym, ap, ap₂, _∙_}
 use mathlib.Core.Bool.{Bool, true, false, _||_, _&&_}
-use mathlib.Core.List.{List, [], map}
+use mathlib.Core.List.{List}
 use Prim.Native.Nat.{ℕ, zero, suc, _+_, _-_, _≤_, _<_}
 use native.Mathlib.Omega.{arith}
 use native.Mathlib.Decide.{ℕ-discrete, decLt}
@@ -10,9 +10,9 @@ use lib.Dec.{eqb}
 use lib.ListN.{length, getD, set, replicate, getD-replicate, length-set}
 use lib.Seq.{getD-set-same, getD-set-other}
 use Rattle.model.specs.Limits.{mostParts}
-use Rattle.model.specs.Model.{Part, Job, listed, table, holdsOne, withHolders, rounds, comesOut, holding, holdersAt}
+use Rattle.model.specs.Model.{Job, listed, table, holdsOne, withHolders, rounds, comesOut, holding, holdersAt}
 use Rattle.model.proofs.Lists.{table-at, table-same}
-use Rattle.coming_out.specs.Rows.{place, Row, HeldBy, some, reached, union}
+use Rattle.coming_out.specs.Rows.{Row, HeldBy, some, reached, union}
 use Rattle.coming_out.proofs.Some.{some-same, holds-some}
 use Rattle.coming_out.proofs.Rows.{blank, past}
 

@@ -1,13 +1,12 @@
 -- What a job's part records say of holders and removals, by their places.
-use mathlib.Core.Path.{_≡_, refl, sym, ap, subst, _∙_}
+use mathlib.Core.Path.{_≡_, sym, ap, subst, _∙_}
 use mathlib.Core.Bool.{Bool, true, false}
 use mathlib.Core.List.{List, [], map}
-use Prim.Native.Nat.{ℕ, suc, _≤_, _<_}
+use Prim.Native.Nat.{ℕ, suc, _<_}
 use native.Mathlib.Omega.{arith}
 use lib.ListN.{length, getD, length-map}
 use lib.Dec.{ltb}
 use lib.Seq.{ext-getD}
-use Rattle.model.specs.Limits.{mostParts}
 use Rattle.model.specs.Model as model
 use Rattle.model.specs.Model.{listed, table, holdersAt, isHeld, hasHolder, removalOf}
 use Rattle.model.specs.Verdict.{noPart}

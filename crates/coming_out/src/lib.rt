@@ -10,7 +10,7 @@ ghost use Rattle.model.specs.Limits.{mostParts};
 ghost use Rattle.model.specs.Model.{Job, comesOut, holding, removalOf};
 ghost use Rattle.model.specs.Verdict.{partAt};
 ghost use Rattle.model.specs.Decisions.{ofHolders, charge};
-ghost use Rattle.coming_out.specs.Rows.{mostPlaces, Row, Rows, HeldBy, reached, union};
+ghost use Rattle.coming_out.specs.Rows.{Row, Rows, HeldBy, reached, union};
 ghost use Rattle.coming_out.specs.Places.{placesFrom, Within, IsHolding, Removals};
 
 pub mod records;

@@ -4,7 +4,6 @@ use jobs::Job;
 use jobs::Part;
 use part_records::part_of;
 ghost use mathlib.Core.Path.{_≡_};
-ghost use Prim.Native.Nat.{_≤_};
 ghost use lib.Dec.{ltb};
 ghost use lib.ListN.{length};
 ghost use Rattle.lines.specs.Chosen.{numbersOf};

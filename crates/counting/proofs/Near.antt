@@ -1,6 +1,6 @@
 -- Marks and places that are small: read back from their bits they are the same, and the place behind any number of openings is small too. By the place's range.
 use Prim.Native.Nat.{ℕ, suc, _<_}
-use mathlib.Core.Path.{_≡_, sym, subst, _∙_}
+use mathlib.Core.Path.{sym, subst}
 use mathlib.Core.List.{List}
 use native.Mathlib.Omega.{arith}
 use native.Mathlib.Decide.{decLt}

@@ -8,7 +8,7 @@ use native.Mathlib.Omega.{arith}
 use lib.ListN.{length}
 use Rattle.lines.specs.Parser.{Outcome, accepted, refused}
 use Rattle.lines.proofs.Outcomes.{one-value, one-fault, not-both}
-use Rattle.lines.proofs.Breaks.{span-cuts}
+use Rattle.fault_lines.proofs.Breaks.{span-cuts}
 use Rattle.model.specs.Model.{Part, Job, hasHolder, HasPlan}
 use Rattle.model.specs.Limits.{mostCount}
 use Rattle.model.specs.Promise.{nodesOf, resultOf, wholeCount, answerOf}
@@ -18,13 +18,14 @@ use Rattle.model.specs.Count as model
 use Rattle.model.proofs.Counted.{nodes-most, count-promise}
 use Rattle.model.proofs.NoHolders.{none-held}
 use Rattle.jobs.specs.Valid.{All, ValidPart, ValidJob}
-use Rattle.job_text.specs.Grammar.{Given, readJob}
-use Rattle.job_text.specs.Valid.{Valid}
-use Rattle.job_text.proofs.Accepted.{valid}
-use Rattle.job_text.proofs.Numbered.{fault-some, fault}
+use Rattle.job_grammar.specs.Grammar.{Given, readJob}
+use Rattle.job_grammar.specs.Valid.{Valid}
+use Rattle.job_grammar.proofs.Accepted.{valid}
+use Rattle.job_grammar.proofs.Numbered.{fault-some, fault}
 use Rattle.counting.specs.declared.Counted.{Counted}
 use Rattle.counting.specs.Count.{countOf, refusalOf, holderRefusal, countedJob, onJob, countSaid}
-use Rattle.counting.specs.Promise.{Reading, jobIn, CountPromise}
+use Rattle.job_grammar.specs.Reading.{Reading, jobIn}
+use Rattle.counting.specs.Promise.{CountPromise}
 
 -- a valid job's numbers are in order
 lefts : (n : ℕ) (parts : List Part) → All (ValidPart n) parts → Lefts parts

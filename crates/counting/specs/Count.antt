@@ -3,10 +3,10 @@ use Prim.Native.Nat.{ℕ}
 use mathlib.Core.Bool.{cond}
 use mathlib.Core.List.{List}
 use Rattle.lines.specs.Parser.{Outcome, accepted, refused}
-use Rattle.lines.specs.Fault.{faultSpan}
+use Rattle.fault_lines.specs.Fault.{faultSpan}
 use Rattle.model.specs.Model.{Job, hasHolder}
 use Rattle.model.specs.Count.{openCount}
-use Rattle.job_text.specs.Grammar.{Given, readJob}
+use Rattle.job_grammar.specs.Grammar.{Given, readJob}
 use Rattle.counting.specs.declared.Counted.{Counted}
 
 -- an accepted job's count
@@ -32,9 +32,11 @@ holderRefusal = record { result = 12; text = 0; line = 0; count = 0; «fault_sta
 unfoldable pub countedJob : Job → Counted
 countedJob job = cond (hasHolder job) holderRefusal (countOf (openCount job))
 
+-- by what the job text reads as: what an accepted job gives, or the fault
 abbrev pub onJob : List ℕ → Outcome Given → Counted
 onJob text (accepted given) = countedJob (given .job)
 onJob text (refused number line) = refusalOf text number line
 
+-- the whole answer, by the text alone: nothing is written, so no room is asked for
 unfoldable pub countSaid : List ℕ → Counted
 countSaid text = onJob text (readJob text)

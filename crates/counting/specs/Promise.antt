@@ -5,35 +5,27 @@ use mathlib.Core.Bool.{true, false}
 use mathlib.Core.List.{List}
 use mathlib.Core.Logic.{_⊎_, _↔_}
 use lib.ListN.{length}
-use Rattle.lines.specs.Parser.{accepted, refused}
-use Rattle.lines.specs.Fault.{faultLine, Cuts}
-use Rattle.model.specs.Model.{Job, hasHolder, HasPlan}
+use Rattle.lines.specs.Parser.{refused}
+use Rattle.fault_lines.specs.Fault.{faultLine, Cuts}
+use Rattle.model.specs.Model.{hasHolder, HasPlan}
 use Rattle.model.specs.Limits.{mostCount}
 use Rattle.model.specs.Promise.{nodesOf, resultOf, wholeCount, answerOf}
 use Rattle.model.specs.Count.{longest}
-use Rattle.job_text.specs.Grammar.{Given, readJob}
+use Rattle.job_grammar.specs.Grammar.{readJob}
+use Rattle.job_grammar.specs.Reading.{Reading, jobIn, walkIn}
 use Rattle.counting.specs.declared.Counted.{Counted}
 use Rattle.counting.specs.Count.{holderRefusal, refusalOf}
 
--- the job text says a job and a walk number
-pub record Reading (text : List ℕ) : Type 0 where
-  pub given : Given
-  pub is : readJob text ≡ accepted given
-
 module _ {text : List ℕ} where
-  abbrev pub jobIn : Reading text → Job
-  jobIn r = r .given .job
-
-  abbrev pub walkIn : Reading text → ℕ
-  walkIn r = r .given .walk
-
-  -- the job has a holder, and it has none
+  -- the job has a holder
   abbrev pub HasHolder : Reading text → Type 0
   HasHolder r = hasHolder (jobIn r) ≡ true
 
+  -- it has none
   abbrev pub NoHolder : Reading text → Type 0
   NoHolder r = hasHolder (jobIn r) ≡ false
 
+-- what is promised of the numbers c that are handed over for a text
 pub record CountPromise (text : List ℕ) (c : Counted) : Type 0 where
   -- 0 exactly if the job is accepted and has no holder
   pub says-0 : (c .result ≡ 0) ↔ ((r : Reading text) × NoHolder r)

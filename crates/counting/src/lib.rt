@@ -1,13 +1,13 @@
 // How long a walk may become, without walking: the nodes of the walk that drops a node only if its bound is missing.
 use clock::positions_of;
 use coming_out::records::has_holder;
+use fault_lines::fault::fault_span;
 use job_text::whole::read_job;
 use jobs::Job;
 use jobs::Part;
 use least::in_reach;
 use least::last_change;
 use least::mark;
-use lines::fault::fault_span;
 use lines::rows::WholeText;
 use part_records::part_of;
 ghost use mathlib.Core.Path.{_≡_};

@@ -3,17 +3,15 @@ use Prim.Native.Nat.{ℕ, _≤_}
 use mathlib.Core.Path.{_≡_, refl, sym, ap, _∙_, subst}
 use mathlib.Core.List.{List, [], _∷_, _++_, append-assoc}
 use mathlib.Core.Bool.{false≢true}
-use native.Mathlib.Omega.{arith}
-use lib.Dec.{eqb}
 use lib.ListN.{length}
 use borrow.Author.Tests.{eq-eqb}
 use Rattle.lines.specs.Text.{bytes, lineOf, texts, Optional, missing, present, optionalText}
 use Rattle.lines.specs.Parser.{good, return, row, optional, ifPresent, checked, rising}
 use Rattle.lines.proofs.Sound.{bind-inv, Optionally, optional-inv, row-sound, checked-sound, chain-sound, row-gives, checked-gives, Chained, chain-gives, Told, Tells, Rises, rising-tells}
-use Rattle.covers.specs.Grammar.{Cover, other, holder, holders, inside, cover}
+use Rattle.covers.specs.Grammar.{other, holder, holders, inside, cover}
 use Rattle.covers.specs.Rendering.{coverText}
 use Rattle.jobs.specs.Valid.{Holds}
-use Rattle.covers.specs.Valid.{ValidCover, ValidLines}
+use Rattle.covers.specs.Valid.{ValidLines}
 
 -- a holder of part k of m, after the holder before
 abbrev pub KnownHolder : ℕ → ℕ → ℕ → ℕ → Type 0

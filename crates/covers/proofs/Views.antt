@@ -1,7 +1,7 @@
 -- The code's answers in the grammar's terms: marks that are not set (`blank`), lines with a fault (`refuse`), lines that stand (`lines-read`) and that are missing (`none-read`). By where the lines end.
 use Prim.Native.Nat.{ℕ, zero, suc}
 use mathlib.Core.Path.{_≡_, refl, sym, _∙_, subst}
-use mathlib.Core.Bool.{Bool, true, false}
+use mathlib.Core.Bool.{Bool, false}
 use mathlib.Core.List.{List}
 use lib.ListN.{getD, drop, replicate}
 use Rattle.lines.specs.Text.{Optional, missing, present}

@@ -5,7 +5,7 @@ use mathlib.Core.Bool.{Bool, not}
 use lib.Dec.{eqb}
 use Rattle.lines.specs.Text.{Optional}
 use Rattle.lines.specs.Parser.{Parser, _>>=_, return, row, optional, ifPresent, checked, chain, rising}
-use Rattle.model.specs.Limits.{dearest, mostParts}
+use Rattle.model.specs.Limits.{dearest, mostParts, mostInside}
 
 -- what the lines say: what removing the part costs, and the numbers of the parts that hold it, rising
 pub record Cover : Type 0 where
@@ -20,13 +20,14 @@ other k h = not (eqb h k)
 unfoldable pub holder : ℕ → ℕ → ℕ → Parser ℕ
 holder m k before = checked 12 (other k) (checked 12 (rising before m) (row "holder=" 1 mostParts))
 
+-- all n holders of part k of m, each after the one before
 unfoldable pub holders : ℕ → ℕ → ℕ → Parser (List ℕ)
 holders m k n = chain (holder m k) (λ _ h. h) n 0
 
 -- what follows the removal r
 unfoldable pub inside : ℕ → ℕ → ℕ → Parser Cover
 inside m k r = do
-  n ← row "inside=" 0 15
+  n ← row "inside=" 0 mostInside
   hs ← holders m k n
   return (record { removal = r; holders = hs })
 

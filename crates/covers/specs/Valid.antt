@@ -1,17 +1,15 @@
 -- What is known of accepted lines of removal.
-use Prim.Native.Nat.{ℕ, _≤_, _<_}
-use mathlib.Core.Path.{_≡_}
-use mathlib.Core.List.{List, [], _∷_}
+use Prim.Native.Nat.{ℕ, _≤_}
 use lib.ListN.{length}
 use Rattle.lines.specs.Text.{Optional, missing, present}
-use Rattle.model.specs.Limits.{dearest}
+use Rattle.model.specs.Limits.{dearest, mostInside}
 use Rattle.jobs.specs.Valid.{Holds}
 use Rattle.covers.specs.Grammar.{Cover}
 
 -- the lines of part k of m
 pub record ValidCover (m k : ℕ) (c : Cover) : Type 0 where
   pub removal : c .removal ≤ dearest
-  pub few : length (c .holders) ≤ 15
+  pub few : length (c .holders) ≤ mostInside
   pub holders : Holds m k 0 (c .holders)
 
 -- where they stand

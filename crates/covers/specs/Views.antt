@@ -13,6 +13,7 @@ use Rattle.covers.specs.Grammar as grammar
 use Rattle.covers.specs.declared.Cover.{Cover}
 use Rattle.covers.specs.declared.CoverLines.{CoverLines}
 
+-- the struct marks the parts that hold this one; the grammar has their numbers
 abbrev pub coverOf : Cover → grammar.Cover
 coverOf c = record { removal = c .removal; holders = numbersOf (c .holders) }
 

@@ -1,6 +1,8 @@
 // What a part's lines of removal say: what it costs to remove the part, and which parts hold it. Read from a cursor on, and written.
-use lines::marks::count_marks;
-use lines::marks::put_marks;
+use jobs::Part;
+use line_writing::marks::count_marks;
+use line_writing::marks::put_marks;
+use line_writing::write::put_line;
 use lines::read::Field;
 use lines::read::OptionalField;
 use lines::read::read_field;
@@ -10,7 +12,6 @@ use lines::rows::Cursor;
 use lines::rows::End;
 use lines::rows::Row;
 use lines::rows::advance;
-use lines::write::put_line;
 ghost use mathlib.Core.Path.{_≡_};
 ghost use mathlib.Core.Bool.{false};
 ghost use Prim.Native.Nat.{_+_, _≤_};
@@ -31,12 +32,6 @@ pub struct Cover {
 }
 
 impl Cover {
-    pub const MAX_REMOVAL: u32 = 1000000;
-
-    pub const MAX_INSIDE: u32 = 15;
-
-    pub const MAX_HOLDER: u32 = 16;
-
     // The cover of a part without these lines: removal 0 and no holders.
     pub fn none() -> Cover
         ensures { λ r. ⌜ coverOf r ≡ noCover ⌝ }
@@ -65,7 +60,7 @@ pub struct CoverLines {
 fn read_holder(s: &[u8], m: u32, k: u32, before: u32) -> Field
     ensures { λ r. ⌜ LineRead (holder m k before) (now (s .entry)) r ⌝ }
 {
-    match read_rising(s, b"holder=", Cover::MAX_HOLDER, before, m, 12) {
+    match read_rising(s, b"holder=", Part::MAX_HOLDER, before, m, 12) {
         Field::Value {
             value: v,
             length: n,
@@ -132,7 +127,7 @@ fn read_inside(text: &[u8], p: Cursor, m: u32, k: u32, removal: u32) -> CoverLin
     ensures { λ r. ⌜ InsideRead (now (text .entry)) r (grammar.inside m k removal (drop (p .at) (now (text .entry))) (p .line)) ⌝ }
 {
     let at = p.at;
-    let field = read_field(&text[at..], b"inside=", 0, Cover::MAX_INSIDE);
+    let field = read_field(&text[at..], b"inside=", 0, Part::MAX_INSIDE);
     match advance(text, p, field) {
         Row::Value(n, q) => {
             let read = read_holders(text, q, m, k, n as usize);
@@ -154,7 +149,7 @@ pub fn read_cover(text: &[u8], p: Cursor, m: u32, k: u32) -> CoverLines
     ensures { λ r. ⌜ CoverRead (now (text .entry)) r (grammar.cover m k (drop (p .at) (now (text .entry))) (p .line)) ⌝ }
 {
     let at = p.at;
-    match read_optional(&text[at..], b"removal=", 0, Cover::MAX_REMOVAL) {
+    match read_optional(&text[at..], b"removal=", 0, Part::MAX_REMOVAL) {
         OptionalField::There(field) => match advance(text, p, field) {
             Row::Value(v, q) => read_inside(text, q, m, k, v),
             Row::Fault { number: j, line: l } => no_cover(End::Fault { number: j, line: l }),

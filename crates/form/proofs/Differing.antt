@@ -17,16 +17,16 @@ use Rattle.lines.proofs.Readback.{value-in}
 use Rattle.model.specs.Model.{Opening}
 use Rattle.model.specs.Windows.{Rising}
 use Rattle.jobs.specs.Valid.{All}
-use Rattle.job_text.specs.Grammar.{idle, idleSteps, idles, opening, openings, body, rest, jobLines}
-use Rattle.job_text.specs.Rendering.{openingText, partText}
-use Rattle.job_text.specs.Views.{idleLines}
-use Rattle.job_text.proofs.Accepted.{itself, stepOf}
-use Rattle.job_text.proofs.Complete.{walk-next}
-use Rattle.form_lists.specs.Facts.{PartLists, paired, partsOf, feesAgree, partsAgree, PartsAgree, countOf, countedText}
-use Rattle.form_lists.specs.Checks.{found}
-use Rattle.form_lists.specs.declared.check.Check.the-variants.{Good}
-use Rattle.form_lists.proofs.CountLines.{count-in, count-out}
-use Rattle.form_lists.proofs.Places.{paired-size, agree-says}
+use Rattle.job_grammar.specs.Grammar.{idle, idleSteps, idles, opening, openings, body, rest, jobLines}
+use Rattle.job_grammar.specs.Rendering.{openingText, partText}
+use Rattle.job_grammar.specs.Optionals.{idleLines}
+use Rattle.job_grammar.proofs.Accepted.{itself, stepOf}
+use Rattle.job_grammar.proofs.Complete.{walk-next}
+use Rattle.form_facts.specs.Facts.{paired, partsOf, feesAgree, partsAgree, PartsAgree, countOf, countedText}
+use Rattle.form_checks.specs.Checks.{found}
+use Rattle.form_checks.specs.declared.check.Check.the-variants.{Good}
+use Rattle.form_facts.proofs.CountLines.{count-in, count-out}
+use Rattle.form_facts.proofs.Facts.{paired-size, agree-says}
 use Rattle.form.specs.Form.{Form, idleCountText, bodyOf, restOf, formText}
 use Rattle.form.specs.Promise.{StartFaultless, OpeningsFaultless, openingsLine, partsLine}
 use Rattle.form.specs.Checks.{lineAfter}

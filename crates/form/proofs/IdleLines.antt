@@ -12,14 +12,14 @@ use Rattle.lines.specs.Text.{bytes, lineOf, texts, Optional, present, optionalT
 use Rattle.lines.specs.Parser.{Parsed, good, fault, _>>=_, return, row, optional, ifPresent}
 use Rattle.lines.proofs.Parsing.{bind-good, bind-fault, optional-there, optional-missing}
 use Rattle.lines.proofs.Sound.{chain-gives}
-use Rattle.job_text.specs.Grammar.{idle, idleSteps, idles}
-use Rattle.job_text.specs.Views.{idleLines}
-use Rattle.job_text.proofs.Views.{some-idles}
-use Rattle.form_lists.specs.Facts.{countOf}
-use Rattle.form_lists.specs.Checks.{found}
-use Rattle.form_lists.specs.declared.check.Check.{Check}
-use Rattle.form_lists.specs.declared.check.Check.the-variants.{Good, Fault}
-use Rattle.form_lists.proofs.CoverLines.{starts-line}
+use Rattle.job_grammar.specs.Grammar.{idle, idleSteps, idles}
+use Rattle.job_grammar.specs.Optionals.{idleLines}
+use Rattle.job_grammar.proofs.Optionals.{some-idles}
+use Rattle.form_facts.specs.Facts.{countOf}
+use Rattle.form_checks.specs.Checks.{found}
+use Rattle.form_checks.specs.declared.check.Check.{Check}
+use Rattle.form_checks.specs.declared.check.Check.the-variants.{Good, Fault}
+use Rattle.form_checks.proofs.CoverLines.{starts-line}
 use Rattle.form.specs.Form.{idleCountText}
 use Rattle.form.specs.Checks.{lineAfter}
 

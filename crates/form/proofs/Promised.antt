@@ -9,19 +9,19 @@ use borrow.Author.Tests.{lt-ltb, le-ltb}
 use mathlib.Core.Logic.{⊎-elim}
 use lib.ListN.{length, length-map}
 use Rattle.lines.specs.Parser.{accepted, refused, good, fault, return, end as ends, finish, whole}
-use Rattle.lines.specs.Fault.{nowhere, skipped, afterBreak, faultSpan, spanIn}
+use Rattle.fault_lines.specs.Fault.{nowhere, skipped, afterBreak, faultSpan, spanIn}
 use Rattle.lines.proofs.Parsing.{bind-good, bind-fault, text-fits}
 use Rattle.lines.proofs.Outcomes.{one-value, one-fault, not-both}
 use Rattle.lines.proofs.Readback.{Readback, back, broken}
-use Rattle.job_text.specs.Grammar.{JobText, meantPart, jobLines, maxBytes, readJobText}
-use Rattle.job_text.specs.Rendering.{jobText}
-use Rattle.job_text.proofs.Views.{idle-steps}
-use Rattle.job_text.proofs.Accepted.{lines-tell, valid-text, text-is}
-use Rattle.job_text.proofs.Lengths as lengths
-use Rattle.job_text.proofs.Complete.{read-back}
+use Rattle.job_grammar.specs.Grammar.{JobText, meantPart, jobLines, maxBytes, readJobText}
+use Rattle.job_grammar.specs.Rendering.{jobText}
+use Rattle.job_grammar.proofs.Optionals.{idle-steps}
+use Rattle.job_grammar.proofs.Accepted.{lines-tell, valid-text, text-is}
+use Rattle.job_grammar.proofs.Lengths as lengths
+use Rattle.job_grammar.proofs.Complete.{read-back}
 use Rattle.answers.specs.Said.{Said, plainly, refusal, lent}
 use Rattle.answers.proofs.Replies as replies
-use Rattle.form_lists.proofs.Places.{paired-size, parts-size}
+use Rattle.form_facts.proofs.Facts.{paired-size, parts-size}
 use Rattle.form.specs.Form.{Form, stated, formText, readForm}
 use Rattle.form.specs.Write.{saidFor, writeSaid, writeRoom}
 use Rattle.form.specs.Promise.{Agree, Few, FormFault, formOf, WritePromise}

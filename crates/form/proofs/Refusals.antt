@@ -5,11 +5,11 @@ use mathlib.Core.List.{List, []}
 use Rattle.lines.specs.Parser.{Parsed, good, fault, Parser, _>>=_}
 use Rattle.lines.proofs.Parsing.{bind-good, bind-fault}
 use Rattle.jobs.specs.Views.{Sized}
-use Rattle.job_text.specs.Grammar.{JobText}
+use Rattle.job_grammar.specs.Grammar.{JobText}
 use Rattle.job_text.specs.Views.{textOf}
-use Rattle.form_lists.specs.Checks.{found}
-use Rattle.form_lists.specs.declared.check.Check.{Check}
-use Rattle.form_lists.specs.declared.check.Check.the-variants.{Fault}
+use Rattle.form_checks.specs.Checks.{found}
+use Rattle.form_checks.specs.declared.check.Check.{Check}
+use Rattle.form_checks.specs.declared.check.Check.the-variants.{Fault}
 use Rattle.form.specs.Checks.{LinesTaken}
 use Rattle.form.specs.declared.Taken.{Taken}
 

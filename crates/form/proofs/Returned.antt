@@ -12,14 +12,14 @@ use Rattle.lines.specs.Text.{lineOf, texts, Optional, missing, present, optiona
 use Rattle.model.specs.Model.{Opening}
 use Rattle.jobs.specs.Valid.{All, ValidPart}
 use Rattle.covers.specs.Grammar.{Cover}
-use Rattle.job_text.specs.Grammar.{PartText, JobText, idleIn, meantPart}
-use Rattle.job_text.specs.Valid.{Some, ValidText}
-use Rattle.job_text.specs.Rendering.{idlesText, openingText, partText, bodyText, jobText}
-use Rattle.job_text.specs.Views.{idleLines}
-use Rattle.job_text.proofs.Views.{some-idles}
-use Rattle.form_lists.specs.Facts.{paired, coversOf, grouped, partsOf, total, feesAgree, partsAgree, PartsAgree, countOf, countedText}
-use Rattle.form_lists.proofs.CountLines.{count-is}
-use Rattle.form_lists.proofs.Places.{paired-size, parts-size, says-agree}
+use Rattle.job_grammar.specs.Grammar.{PartText, JobText, idleIn, meantPart}
+use Rattle.job_grammar.specs.Valid.{Some, ValidText}
+use Rattle.job_grammar.specs.Rendering.{idlesText, openingText, partText, bodyText, jobText}
+use Rattle.job_grammar.specs.Optionals.{idleLines}
+use Rattle.job_grammar.proofs.Optionals.{some-idles}
+use Rattle.form_facts.specs.Facts.{paired, coversOf, grouped, partsOf, total, feesAgree, partsAgree, PartsAgree, countOf, countedText}
+use Rattle.form_facts.proofs.CountLines.{count-is}
+use Rattle.form_facts.proofs.Facts.{paired-size, parts-size, says-agree}
 use Rattle.form.specs.Form.{Form, stated, idleCountText, bodyOf, restOf, formText}
 use Rattle.form.specs.Promise.{Agree, Few, markOf, removalsOf, insidesOf, holdersOf, listsOf, formOf}
 

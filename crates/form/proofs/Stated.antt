@@ -20,15 +20,15 @@ use Rattle.model.specs.Model.{Opening}
 use Rattle.jobs.specs.Valid.{All}
 use Rattle.covers.specs.Grammar.{Cover, other, holder, holders, inside, cover}
 use Rattle.covers.specs.Rendering.{coverText}
-use Rattle.job_text.specs.Grammar.{PartText, JobText, idle, idleSteps, idles, opening, openings, afterLeft, part, following, parts, body, rest, jobLines}
-use Rattle.job_text.specs.Rendering.{openingText, partText}
-use Rattle.job_text.specs.Views.{idleLines}
-use Rattle.job_text.proofs.Complete.{walk-next, prices-next}
-use Rattle.job_text.proofs.Views.{some-idles}
-use Rattle.form_lists.specs.Facts.{PartLists, paired, coversOf, grouped, feesAgree, partsAgree, PartsAgree, countOf, countedText}
-use Rattle.form_lists.proofs.CountLines.{count-in, count-out}
-use Rattle.form_lists.proofs.CoverLines.{cover-none, removal-there}
-use Rattle.form_lists.proofs.Places.{paired-size, parts-size, agree-says}
+use Rattle.job_grammar.specs.Grammar.{PartText, JobText, idle, idleSteps, idles, opening, openings, afterLeft, part, following, parts, body, rest, jobLines}
+use Rattle.job_grammar.specs.Rendering.{openingText, partText}
+use Rattle.job_grammar.specs.Optionals.{idleLines}
+use Rattle.job_grammar.proofs.Complete.{walk-next, prices-next}
+use Rattle.job_grammar.proofs.Optionals.{some-idles}
+use Rattle.form_facts.specs.Facts.{PartLists, paired, coversOf, grouped, feesAgree, partsAgree, PartsAgree, countOf, countedText}
+use Rattle.form_facts.proofs.CountLines.{count-in, count-out}
+use Rattle.form_checks.proofs.CoverLines.{cover-none, removal-there}
+use Rattle.form_facts.proofs.Facts.{paired-size, parts-size, agree-says}
 use Rattle.form_lists.proofs.PartLoop.{next-other}
 use Rattle.form.specs.Form.{Form, stated, idleCountText, bodyOf, restOf, formText}
 use Rattle.form.specs.Promise.{Agree, Few, FormFault}

@@ -7,9 +7,10 @@ use mathlib.Core.List.{List, [], map}
 use lib.ListN.{take}
 use Rattle.lines.specs.Parser.{Parser}
 use Rattle.jobs.specs.Views.{openingOf, partOf, Sized}
-use Rattle.job_text.specs.Views.{idleLines, partsLines, textOf}
-use Rattle.job_text.specs.Grammar.{JobText}
-use Rattle.form_lists.specs.Checks.{found}
+use Rattle.job_grammar.specs.Optionals.{idleLines, partsLines}
+use Rattle.job_text.specs.Views.{textOf}
+use Rattle.job_grammar.specs.Grammar.{JobText}
+use Rattle.form_checks.specs.Checks.{found}
 use Rattle.form_lists.specs.declared.lists.Idles.{Idles}
 use Rattle.form_lists.specs.declared.lists.Openings.{Openings}
 use Rattle.form_lists.specs.declared.parts.Parts.{Parts}

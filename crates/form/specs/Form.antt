@@ -6,10 +6,10 @@ use lib.ListN.{length}
 use Rattle.lines.specs.Text.{lineOf, texts, optionalText}
 use Rattle.lines.specs.Parser.{Outcome, finish, whole}
 use Rattle.model.specs.Limits.{lastStep, mostOpenings}
-use Rattle.job_text.specs.Grammar.{JobText, jobLines}
-use Rattle.job_text.specs.Views.{idleLines}
-use Rattle.job_text.specs.Rendering.{openingText}
-use Rattle.form_lists.specs.Facts.{PartLists, partLists, paired, partsOf, feesAgree, countOf, countedText}
+use Rattle.job_grammar.specs.Grammar.{JobText, jobLines}
+use Rattle.job_grammar.specs.Optionals.{idleLines}
+use Rattle.job_grammar.specs.Rendering.{openingText}
+use Rattle.form_facts.specs.Facts.{PartLists, partLists, paired, partsOf, feesAgree, countOf, countedText}
 
 -- the facts of a job text as lists of numbers
 pub record Form : Type 0 where
@@ -36,6 +36,7 @@ idleCountText is = lineOf "idles=" (countOf lastStep true (length is)) ++ texts 
 unfoldable pub bodyOf : List ℕ → List ℕ → PartLists → List ℕ
 bodyOf os fs x = texts openingText (paired os fs) ++ countedText (length os) x
 
+-- from the `walk` line on; E2.2. the number of openings is out of its range where the fees are not as many
 unfoldable pub restOf : ℕ → List ℕ → List ℕ → PartLists → List ℕ
 restOf w os fs x = lineOf "walk=" w ++ (lineOf "openings=" (countOf mostOpenings (feesAgree os fs) (length os)) ++ bodyOf os fs x)
 

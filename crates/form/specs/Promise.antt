@@ -5,16 +5,16 @@ use mathlib.Core.List.{List, [], _∷_, map}
 use mathlib.Core.Logic.{_↔_, _⊎_}
 use lib.ListN.{length}
 use Rattle.lines.specs.Text.{texts, Optional, missing, present}
-use Rattle.lines.specs.Fault.{nowhere}
+use Rattle.fault_lines.specs.Fault.{nowhere}
 use Rattle.lines.specs.Parser.{accepted, refused, finish, whole}
 use Rattle.model.specs.Model.{Opening}
 use Rattle.model.specs.Limits.{lastStep, dearest, mostOpenings, mostParts, mostWalk}
 use Rattle.model.specs.Windows.{Rising}
 use Rattle.jobs.specs.Valid.{All}
-use Rattle.job_text.specs.Grammar.{PartText, JobText, idleIn, jobLines, readJobText}
-use Rattle.job_text.specs.Rendering.{jobText}
+use Rattle.job_grammar.specs.Grammar.{PartText, JobText, idleIn, jobLines, readJobText}
+use Rattle.job_grammar.specs.Rendering.{jobText}
 use Rattle.covers.specs.Grammar.{Cover}
-use Rattle.form_lists.specs.Facts.{PartLists, PartsAgree}
+use Rattle.form_facts.specs.Facts.{PartLists, PartsAgree}
 use Rattle.answers.specs.Said.{Said, Refuses}
 use Rattle.form.specs.Form.{Form, stated, readForm}
 use Rattle.form.specs.Write.{writeRoom}
@@ -59,14 +59,17 @@ abbrev pub markOf : Optional Cover → ℕ
 markOf missing = 0
 markOf (present c) = 1
 
+-- a part's entry of `removals`; none where its lines don't stand
 abbrev pub removalsOf : Optional Cover → List ℕ
 removalsOf missing = []
 removalsOf (present c) = c .removal ∷ []
 
+-- its entry of `insides`: how many holders it names
 abbrev pub insidesOf : Optional Cover → List ℕ
 insidesOf missing = []
 insidesOf (present c) = length (c .holders) ∷ []
 
+-- its entries of `holders`, as many as that
 abbrev pub holdersOf : Optional Cover → List ℕ
 holdersOf missing = []
 holdersOf (present c) = c .holders
@@ -98,6 +101,7 @@ formOf t = record {
 abbrev pub FormFault : ℕ → Type 0
 FormFault n = ((3 ≤ n) × (n ≤ 5)) ⊎ (n ≡ 12)
 
+-- E2. what is promised of the answer s to a form, where the output has `room` bytes
 pub record WritePromise (f : Form) (room : ℕ) (s : Said) : Type 0 where
   -- "8 if the output has less than 32,768 bytes"
   pub says-8 : (s .result ≡ 8) ↔ (room < writeRoom)

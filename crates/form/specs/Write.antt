@@ -2,8 +2,8 @@
 use Prim.Native.Nat.{ℕ}
 use mathlib.Core.List.{[]}
 use Rattle.lines.specs.Parser.{Outcome, accepted, refused}
-use Rattle.job_text.specs.Grammar.{JobText}
-use Rattle.job_text.specs.Rendering.{jobText}
+use Rattle.job_grammar.specs.Grammar.{JobText}
+use Rattle.job_grammar.specs.Rendering.{jobText}
 use Rattle.answers.specs.Said.{Said, plainly, refusal}
 use Rattle.form.specs.Form.{Form, readForm}
 

@@ -11,13 +11,13 @@ use Rattle.lines.specs.Parser.{good, fault, chain}
 use Rattle.lines.proofs.Parsing.{behind, chain-start, chain-more, chain-fault, chain-end}
 use Rattle.jobs.specs.Views.{partOf}
 use Rattle.jobs.specs.declared.Part.{Part}
-use Rattle.job_text.specs.Grammar.{PartText, part, following, parts}
-use Rattle.job_text.specs.Rendering.{partText}
-use Rattle.job_text.specs.Views.{partLines, partsLines}
-use Rattle.job_text.proofs.Views.{lines-more}
-use Rattle.job_text.proofs.Complete as complete
-use Rattle.form_lists.specs.Facts.{PartLists, grouped, partsOf, PartsAgree}
-use Rattle.form_lists.specs.Checks.{after, firstPart, behindFirst, Standing, StepTaken}
+use Rattle.job_grammar.specs.Grammar.{PartText, part, following, parts}
+use Rattle.job_grammar.specs.Rendering.{partText}
+use Rattle.job_grammar.specs.Optionals.{partLines, partsLines}
+use Rattle.job_grammar.proofs.Optionals.{lines-more}
+use Rattle.job_grammar.proofs.Complete as complete
+use Rattle.form_facts.specs.Facts.{PartLists, grouped, partsOf, PartsAgree}
+use Rattle.form_lists.specs.Places.{after, firstPart, behindFirst, Standing, StepTaken}
 use Rattle.form_lists.specs.declared.parts.Place.{Place}
 use Rattle.form_lists.proofs.Places.{parts-next}
 

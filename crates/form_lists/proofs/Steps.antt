@@ -12,9 +12,9 @@ use lib.Seq.{getD-drop, drop-drop}
 use Rattle.jobs.specs.Valid.{All}
 use Rattle.covers.specs.Grammar.{Cover}
 use Rattle.covers.specs.Views.{linesOf}
-use Rattle.job_text.specs.Grammar.{PartText}
-use Rattle.form_lists.specs.Facts.{PartLists, total, PartsAgree}
-use Rattle.form_lists.specs.Checks.{after, insideFirst, firstPart, behindFirst, Standing, StepTaken}
+use Rattle.job_grammar.specs.Grammar.{PartText}
+use Rattle.form_facts.specs.Facts.{PartLists, total, PartsAgree}
+use Rattle.form_lists.specs.Places.{after, insideFirst, firstPart, behindFirst, Standing, StepTaken}
 use Rattle.form_lists.specs.declared.parts.Place.{Place}
 use Rattle.form_lists.proofs.Places.{agree-next}
 

@@ -1,3 +1,2 @@
--- The lists of a form: what they state and whether they agree (Facts), and the code's checks in these terms (Checks).
-pub mod Facts
-pub mod Checks
+-- A place in the lists of a form.
+pub mod Places

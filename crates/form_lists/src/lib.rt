@@ -1,7 +1,3 @@
-// The lists of a form: checked line by line, on the lines that would hold their numbers, and taken into a job's arrays.
-pub mod agree;
-pub mod check;
-pub mod counts;
+// The lists of a form, checked line by line and taken into a job's arrays: steps, openings and prices, and the parts.
 pub mod lists;
 pub mod parts;
-pub mod removal;

@@ -1,8 +1,8 @@
 // The lists of a form, checked line by line and taken into a job's arrays.
-use crate::check::Check;
-use crate::check::check_opening;
-use crate::check::check_rising;
-use crate::check::check_value;
+use form_checks::check::Check;
+use form_checks::check::check_opening;
+use form_checks::check::check_rising;
+use form_checks::check::check_value;
 use jobs::Opening;
 use jobs::Part;
 ghost use mathlib.Core.Path.{_≡_};
@@ -12,10 +12,10 @@ ghost use lib.ListN.{length, take};
 ghost use Rattle.lines.specs.Text.{lineOf, texts};
 ghost use Rattle.lines.specs.Parser.{times, row};
 ghost use Rattle.jobs.specs.Views.{openingOf};
-ghost use Rattle.job_text.specs.Grammar.{idleSteps, openings};
-ghost use Rattle.job_text.specs.Rendering.{openingText};
-ghost use Rattle.form_lists.specs.Facts.{paired};
-ghost use Rattle.form_lists.specs.Checks.{ReadsAs};
+ghost use Rattle.job_grammar.specs.Grammar.{idleSteps, openings};
+ghost use Rattle.job_grammar.specs.Rendering.{openingText};
+ghost use Rattle.form_facts.specs.Facts.{paired};
+ghost use Rattle.form_checks.specs.Checks.{ReadsAs};
 ghost use Rattle.model.specs.Limits.{lastStep, dearest, mostOpenings};
 
 // Idle steps taken, of which the first `count` count.

@@ -1,11 +1,11 @@
 // The parts of a form, checked line by line and taken into a job's array.
-use crate::check::Check;
-use crate::check::check_left;
-use crate::check::check_value;
-use crate::counts::check_part_count;
 use crate::lists::take_prices;
-use crate::removal::take_cover;
-use job_text::parts::blank_part;
+use form_checks::check::Check;
+use form_checks::check::check_left;
+use form_checks::check::check_value;
+use form_checks::removal::take_cover;
+use form_facts::counts::check_part_count;
+use job_sections::parts::blank_part;
 use jobs::Part;
 ghost use mathlib.Core.Path.{_≡_};
 ghost use mathlib.Core.Bool.{true, cond};
@@ -16,11 +16,12 @@ ghost use Rattle.lines.specs.Text.{lineOf, texts, optionalText};
 ghost use Rattle.jobs.specs.Views.{partOf};
 ghost use Rattle.covers.specs.Rendering.{coverText};
 ghost use Rattle.covers.specs.Views.{linesOf};
-ghost use Rattle.job_text.specs.Grammar as grammar;
-ghost use Rattle.job_text.specs.Rendering.{partText};
-ghost use Rattle.job_text.specs.Views.{partLines, partsLines};
-ghost use Rattle.form_lists.specs.Facts.{partLists, partsOf, PartsAgree};
-ghost use Rattle.form_lists.specs.Checks.{found, ReadsCover, after, firstPart, Standing, StepTaken, PartsTaken};
+ghost use Rattle.job_grammar.specs.Grammar as grammar;
+ghost use Rattle.job_grammar.specs.Rendering.{partText};
+ghost use Rattle.job_grammar.specs.Optionals.{partLines, partsLines};
+ghost use Rattle.form_facts.specs.Facts.{partLists, partsOf, PartsAgree};
+ghost use Rattle.form_checks.specs.Checks.{found, ReadsCover};
+ghost use Rattle.form_lists.specs.Places.{after, firstPart, Standing, StepTaken, PartsTaken};
 ghost use Rattle.model.specs.Limits.{mostOpenings, mostParts};
 
 // Part `number` of `count` as the lists state it, but for its holders and prices; `there` says whether its lines of removal stand.
@@ -201,6 +202,18 @@ fn first_place(line: u32) -> Place
     }
 }
 
+// Parts that have a fault.
+fn no_parts(k: u32, line: u32) -> Parts
+    ensures { λ r. ⌜ r .check ≡ Check.Fault k line ⌝ }
+{
+    let blank = blank_part();
+    Parts {
+        check: Check::Fault { number: k, line },
+        covered: [false; 16],
+        parts: [blank; 16],
+    }
+}
+
 // The parts, each with its lines of removal where they stand and the next n prices, from line `at` on.
 pub fn take_parts(
     lives: &[u32],
@@ -246,31 +259,13 @@ pub fn take_parts(
                 p = step.place;
                 k += 1;
             }
-            Check::Fault { number: j, line: l } => {
-                return Parts {
-                    check: Check::Fault { number: j, line: l },
-                    covered: marks,
-                    parts: taken,
-                };
-            }
+            Check::Fault { number: j, line: l } => return no_parts(j, l),
         }
     }
     Parts {
         check: Check::Good,
         covered: marks,
         parts: taken,
-    }
-}
-
-// Parts that have a fault.
-fn no_parts(k: u32, line: u32) -> Parts
-    ensures { λ r. ⌜ r .check ≡ Check.Fault k line ⌝ }
-{
-    let blank = blank_part();
-    Parts {
-        check: Check::Fault { number: k, line },
-        covered: [false; 16],
-        parts: [blank; 16],
     }
 }
 

@@ -3,7 +3,7 @@ use Prim.Native.Nat.{ℕ, _≤_, _<_}
 use mathlib.Core.Path.{sym, subst, _∙_}
 use mathlib.Core.List.{List}
 use native.Mathlib.Omega.{arith}
-use lib.ListN.{length, getD, take}
+use lib.ListN.{getD, take}
 use lib.IntN.{ℤ, pos}
 use Rattle.model.specs.Model.{positions}
 use Rattle.model.specs.Limits.{dearest}
@@ -14,7 +14,7 @@ use Rattle.jobs.specs.Valid.{ValidJob}
 use Rattle.jobs.specs.declared.Job.{Job}
 use Rattle.jobs.proofs.Jobs.{Whole, part-count}
 use Rattle.clock.proofs.Places.{places-are}
-use Rattle.search.specs.Arrays.{Arrays}
+use Rattle.search_tables.specs.Arrays.{Arrays}
 use Rattle.job_numbers.specs.Laid.{Numbered, pricesWith, Laid}
 use Rattle.job_numbers.specs.declared.Numbers.{Numbers}
 use Rattle.job_numbers.proofs.Counts.{Counted, counted, position-range, end-range, fee-at-most, life-at-most, left-at-most, left-within-life, prices-range}

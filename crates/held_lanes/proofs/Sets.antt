@@ -9,9 +9,9 @@ use lib.Bits.{bitOr, or-step}
 use lib.Dec.{eqb}
 use lib.ListN.{length, getD}
 use Rattle.branch.specs.Search.{snoc}
-use Rattle.model.specs.Decisions.{covered}
+use Rattle.model.specs.Decisions.{accessible}
 use Rattle.least.specs.Filled.{FilledBy}
-use Rattle.held_rows.proofs.Seen.{covered-stays}
+use Rattle.held_rows.proofs.Seen.{accessible-stays}
 use Rattle.lane_rows.specs.Layout.{inf}
 use Rattle.held_lanes.specs.Places.{bitAt, maskOf}
 
@@ -57,8 +57,8 @@ bit-or (suc q) a b =
     ap (λ (x : ℕ). bitAt q (x / 2)) (or-step a b) ∙ ap (bitAt q) z ∙ bit-or q (a / 2) (b / 2)
 
 -- the lanes that a stop is shut to, with one part more that is not removed
-pub shut-more : (needs rs : List Bool) (q a b : ℕ) → bitAt q a ≡ not (covered needs rs) → bitAt q b ≡ getD needs (length rs) false → bitAt q (bitOr a b) ≡ not (covered needs (snoc rs false))
-shut-more needs rs q a b e f = bit-or q a b ∙ ap₂ (λ (x y : Bool). x || y) e f ∙ go (covered needs rs) (getD needs (length rs) false) ∙ ap not (sym (covered-stays needs rs))
+pub shut-more : (needs rs : List Bool) (q a b : ℕ) → bitAt q a ≡ not (accessible needs rs) → bitAt q b ≡ getD needs (length rs) false → bitAt q (bitOr a b) ≡ not (accessible needs (snoc rs false))
+shut-more needs rs q a b e f = bit-or q a b ∙ ap₂ (λ (x y : Bool). x || y) e f ∙ go (accessible needs rs) (getD needs (length rs) false) ∙ ap not (sym (accessible-stays needs rs))
   where
     go : (x y : Bool) → (not x || y) ≡ not (x && not y)
     go true true = refl

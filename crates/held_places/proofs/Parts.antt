@@ -1,12 +1,12 @@
 -- One part's changes: the arrays' ranges are those that a part's table asks for, and only what a part sees of the openings counts.
 use Prim.Native.Nat.{ℕ, zero, suc, _+_, _-_, _*_, _≤_, _<_}
-use mathlib.Core.Path.{_≡_, refl, sym, ap, ap₂, subst, _∙_}
+use mathlib.Core.Path.{_≡_, refl, sym, ap, subst, _∙_}
 use mathlib.Core.Bool.{Bool, true}
-use mathlib.Core.List.{List, [], _∷_, map}
+use mathlib.Core.List.{List, [], _∷_}
 use native.Mathlib.Omega.{arith}
-use lib.ListN.{length, getD, take, drop, length-take, length-drop, length-map, List·getD-map}
+use lib.ListN.{length, getD, take, drop, length-take, length-drop, List·getD-map}
 use lib.Seq.{getD-take, length-take-le}
-use lib.IntN.{ℤ, pos, _-ℤ_}
+use lib.IntN.{ℤ, pos}
 use mir.Syntax.{w32}
 use mir.Val.{SFits, toZ, ofZ}
 use mir.Facts.{toZ-ofZ}
@@ -14,9 +14,9 @@ use Rattle.model.specs.Decisions.{allows}
 use Rattle.model.specs.LowerBound.{offers, blocks}
 use Rattle.model.specs.Limits.{mostOpenings, mostParts}
 use Rattle.model.proofs.Bools.{after-one}
-use Rattle.model.proofs.Blocks.{covered-none}
+use Rattle.model.proofs.Blocks.{accessible-none}
 use Rattle.least.specs.Marks.{markOf, Bits31}
-use Rattle.least.specs.Suffix.{tableSize, PartUntil}
+use Rattle.least.specs.Suffix.{PartUntil}
 use Rattle.least.proofs.Diff.{mag-sub, back, small-back}
 use Rattle.held_places.specs.Blocks.{Entries}
 use Rattle.held_places.specs.Arrays.{priceStride, priceSize, needStride, needSize, pricesAt, needsAt, Lives, Lived}
@@ -39,7 +39,7 @@ pub places-are : (n h : ℕ) (nd : List Bool) (q : ℕ) (name r : List Bool) →
     → (k : ℕ) → k < n → getD (take n r) k true ≡ getD (placesOf n h nd q name) k true
 places-are n h nd q name r e k l =
     getD-take n r k true l ∙ e .at k l ∙ sym (List·getD-map (allows (needsAt h nd q)) (blocks h n name) k [])
-    ∙ ap (getD (placesOf n h nd q name) k) (covered-none (needsAt h nd q))
+    ∙ ap (getD (placesOf n h nd q name) k) (accessible-none (needsAt h nd q))
 
 -- ---- one part's own windows
 

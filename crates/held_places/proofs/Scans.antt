@@ -6,7 +6,7 @@ use mathlib.Core.List.{List, [], _∷_}
 use native.Mathlib.Omega.{arith}
 use native.Mathlib.Numerals.{add-one}
 use borrow.Author.Count.{below-more}
-use lib.ListN.{length, getD, set, take, drop, length-set}
+use lib.ListN.{length, getD, set, drop, length-set}
 use lib.Seq.{drop-drop, getD-drop, getD-set-same, getD-set-other}
 use Rattle.model.specs.LowerBound.{blocks}
 use Rattle.model.specs.Limits.{mostOpenings, mostParts}

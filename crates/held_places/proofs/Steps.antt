@@ -7,8 +7,8 @@ use native.Mathlib.Omega.{arith}
 use native.Mathlib.Numerals.{add-one}
 use lib.ListN.{length, getD, take, drop, length-drop, drop-of-length-le}
 use lib.Seq.{drop-drop, drop-cons, getD-drop, take-all}
-use Rattle.model.specs.Decisions.{covered, allows}
-use Rattle.model.proofs.Blocks.{covered-none}
+use Rattle.model.specs.Decisions.{accessible, allows}
+use Rattle.model.proofs.Blocks.{accessible-none}
 use Rattle.held_places.specs.Blocks.{firstOr}
 
 -- ---- a list at a place
@@ -26,31 +26,31 @@ front l k d = let z : k + 0 ≡ k = omega arith in getD-drop k l 0 d ∙ ap (λ 
 
 -- ---- needs
 
-covered-step : (needs removed : List Bool) (b : ℕ) → b < length needs
-    → covered (drop b needs) (drop b removed) ≡ ((not (getD needs b false) || getD removed b true) && covered (drop (b + 1) needs) (drop (b + 1) removed))
-unfolding covered
-covered-step needs removed b h =
-    ap (λ (l : List Bool). covered l (drop b removed)) (drop-more needs b false (getD needs b false) h refl)
-    ∙ ap₂ (λ (x : Bool) (l : List Bool). (not (getD needs b false) || x) && covered (drop (b + 1) needs) l) (front removed b true) (drop-drop 1 b removed)
+accessible-step : (needs removed : List Bool) (b : ℕ) → b < length needs
+    → accessible (drop b needs) (drop b removed) ≡ ((not (getD needs b false) || getD removed b true) && accessible (drop (b + 1) needs) (drop (b + 1) removed))
+unfolding accessible
+accessible-step needs removed b h =
+    ap (λ (l : List Bool). accessible l (drop b removed)) (drop-more needs b false (getD needs b false) h refl)
+    ∙ ap₂ (λ (x : Bool) (l : List Bool). (not (getD needs b false) || x) && accessible (drop (b + 1) needs) l) (front removed b true) (drop-drop 1 b removed)
 
 module _ (needs removed : List Bool) (b : ℕ) (h : b < length needs) where
-  pub covered-more : (not (getD needs b false) || getD removed b true) ≡ true → covered needs removed ≡ covered (drop b needs) (drop b removed)
-      → covered needs removed ≡ covered (drop (b + 1) needs) (drop (b + 1) removed)
-  covered-more e f = f ∙ covered-step needs removed b h ∙ ap (λ (x : Bool). x && covered (drop (b + 1) needs) (drop (b + 1) removed)) e
+  pub accessible-more : (not (getD needs b false) || getD removed b true) ≡ true → accessible needs removed ≡ accessible (drop b needs) (drop b removed)
+      → accessible needs removed ≡ accessible (drop (b + 1) needs) (drop (b + 1) removed)
+  accessible-more e f = f ∙ accessible-step needs removed b h ∙ ap (λ (x : Bool). x && accessible (drop (b + 1) needs) (drop (b + 1) removed)) e
 
-  pub covered-not : (not (getD needs b false) || getD removed b true) ≡ false → covered needs removed ≡ covered (drop b needs) (drop b removed) → false ≡ covered needs removed
-  covered-not e f = sym (f ∙ covered-step needs removed b h ∙ ap (λ (x : Bool). x && covered (drop (b + 1) needs) (drop (b + 1) removed)) e)
+  pub accessible-not : (not (getD needs b false) || getD removed b true) ≡ false → accessible needs removed ≡ accessible (drop b needs) (drop b removed) → false ≡ accessible needs removed
+  accessible-not e f = sym (f ∙ accessible-step needs removed b h ∙ ap (λ (x : Bool). x && accessible (drop (b + 1) needs) (drop (b + 1) removed)) e)
 
-pub covered-end : (needs removed : List Bool) (b : ℕ) → length needs ≤ b → covered needs removed ≡ covered (drop b needs) (drop b removed) → true ≡ covered needs removed
-unfolding covered
-covered-end needs removed b h f = sym (f ∙ ap (λ (l : List Bool). covered l (drop b removed)) (drop-of-length-le needs h))
+pub accessible-end : (needs removed : List Bool) (b : ℕ) → length needs ≤ b → accessible needs removed ≡ accessible (drop b needs) (drop b removed) → true ≡ accessible needs removed
+unfolding accessible
+accessible-end needs removed b h f = sym (f ∙ ap (λ (l : List Bool). accessible l (drop b removed)) (drop-of-length-le needs h))
 
 -- no more decisions count than there are needs
-pub covered-take : (needs q : List Bool) → covered needs (take (length needs) q) ≡ covered needs q
-unfolding covered
-covered-take [] q = refl
-covered-take (need ∷ needs) [] = refl
-covered-take (need ∷ needs) (x ∷ q) = ap (λ (b : Bool). (not need || x) && b) (covered-take needs q)
+pub accessible-take : (needs q : List Bool) → accessible needs (take (length needs) q) ≡ accessible needs q
+unfolding accessible
+accessible-take [] q = refl
+accessible-take (need ∷ needs) [] = refl
+accessible-take (need ∷ needs) (x ∷ q) = ap (λ (b : Bool). (not need || x) && b) (accessible-take needs q)
 
 -- ---- the block that begins at i, by what stands there
 
@@ -63,11 +63,11 @@ module _ (name : List Bool) (i : ℕ) where
 
   -- it lets a part be changed
   module _ (needs : List Bool) where
-    pub allows-yes : (r : Bool) → i < length name → getD name i false ≡ true → r ≡ covered needs behind-it → r ≡ allows needs (firstOr [] (length needs) (drop i name))
-    allows-yes r h e f = f ∙ sym (covered-take needs behind-it) ∙ ap (λ (q : List Bool). allows needs (firstOr [] (length needs) q)) (begins true h e)
+    pub allows-yes : (r : Bool) → i < length name → getD name i false ≡ true → r ≡ accessible needs behind-it → r ≡ allows needs (firstOr [] (length needs) (drop i name))
+    allows-yes r h e f = f ∙ sym (accessible-take needs behind-it) ∙ ap (λ (q : List Bool). allows needs (firstOr [] (length needs) q)) (begins true h e)
 
     pub allows-no : i < length name → getD name i false ≡ false → false ≡ allows needs (firstOr [] (length needs) (drop i name))
     allows-no h e = ap (λ (q : List Bool). allows needs (firstOr [] (length needs) q)) (begins false h e)
 
     pub allows-none : length name ≤ i → true ≡ allows needs (firstOr [] (length needs) (drop i name))
-    allows-none h = sym (covered-none needs) ∙ ap (λ (q : List Bool). allows needs (firstOr [] (length needs) q)) (sym (drop-of-length-le name h))
+    allows-none h = sym (accessible-none needs) ∙ ap (λ (q : List Bool). allows needs (firstOr [] (length needs) q)) (sym (drop-of-length-le name h))

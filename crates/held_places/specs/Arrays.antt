@@ -15,6 +15,7 @@ use Rattle.model.specs.Limits.{lastPosition, longestLife, mostOpenings, mostPar
 abbrev pub priceStride : ℕ
 priceStride = 64
 
+-- room for the prices of sixteen parts
 abbrev pub priceSize : ℕ
 priceSize = 1024
 
@@ -22,6 +23,7 @@ priceSize = 1024
 abbrev pub needStride : ℕ
 needStride = 16
 
+-- room for the needs of sixteen parts
 abbrev pub needSize : ℕ
 needSize = 256
 
@@ -29,6 +31,7 @@ needSize = 256
 abbrev pub pricesAt : ℕ → List ℕ → ℕ → List ℕ
 pricesAt n ps q = take n (drop (q * priceStride) ps)
 
+-- which of the h holding parts come out with part q
 abbrev pub needsAt : ℕ → List Bool → ℕ → List Bool
 needsAt h nd q = take h (drop (q * needStride) nd)
 

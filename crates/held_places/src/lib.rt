@@ -5,7 +5,7 @@ ghost use mathlib.Core.Bool.{true, false, not, _||_};
 ghost use mathlib.Core.List.{[], _∷_, _++_};
 ghost use Prim.Native.Nat.{ℕ, _+_, _-_, _*_, _≤_, _<_};
 ghost use lib.ListN.{length, getD, drop, replicate};
-ghost use Rattle.model.specs.Decisions.{covered, allows};
+ghost use Rattle.model.specs.Decisions.{accessible, allows};
 ghost use Rattle.model.specs.LowerBound.{blocks};
 ghost use Rattle.model.specs.Limits.{longestLife, mostOpenings, mostParts};
 ghost use lib.IntN.{pos};
@@ -33,7 +33,7 @@ fn free(need: bool, removed: &[bool], b: usize) -> bool
 
 // Every part that is needed is out, or undecided: the decisions are those of the parts that are somebody's holder, in order.
 fn all_out(needs: &[bool], removed: &[bool]) -> bool
-    ensures { λ r. ⌜ r ≡ covered (now (needs .entry)) (now (removed .entry)) ⌝ }
+    ensures { λ r. ⌜ r ≡ accessible (now (needs .entry)) (now (removed .entry)) ⌝ }
 {
     let mut b = 0;
     while b < needs.len() {

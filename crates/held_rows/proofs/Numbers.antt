@@ -9,7 +9,7 @@ use lib.ListN.{length, getD, length-map, length-take, List·getD-map}
 use lib.Seq.{getD-take}
 use Rattle.branch.specs.declared.Bound.the-variants.{Sum}
 use Rattle.branch.specs.Search.{snoc}
-use Rattle.model.specs.Decisions.{covered, allows}
+use Rattle.model.specs.Decisions.{accessible, allows}
 use Rattle.model.specs.LowerBound.{leastOf, offers}
 use Rattle.model.proofs.Unpaid.{there-together}
 use Rattle.lane_rows.specs.Layout.{suffixBase, lanesIn}
@@ -19,7 +19,7 @@ use Rattle.lane_rows.specs.Rows.{lane, sumLanes}
 use Rattle.lane_rows.proofs.Lanes.{value-sum, sum-rises, lane-rises}
 use Rattle.held_rows.specs.Held.{HeldColumn, HeldSheet, columnIn, plain, noLane, needsOf, seenBy, laneBound, laneFee, partLanes, heldSums, heldTerm, Classed}
 use Rattle.held_rows.specs.Rows.{SeenRows}
-use Rattle.held_rows.proofs.Seen.{covered-stays}
+use Rattle.held_rows.proofs.Seen.{accessible-stays}
 use Rattle.held_rows.proofs.Sums.{openBound, shutBound, bound-no, bound-stop, bound-there, sum-there, each-fee}
 use Rattle.held_rows.proofs.Rows.{lane-is, rows-no}
 
@@ -94,12 +94,12 @@ module _ (sheet : HeldSheet) (fit : Classed sheet) (t w : List ℕ) (ta : Tables
 
     -- at a stop: the lanes that it is shut to have the number of a no, the others that of the node before it
     abbrev pub stopLane : List Bool → ℕ → ℕ
-    stopLane rs q = cond (covered (needsOf sheet (getD (sheet .lanes) q noLane .class)) rs) (lane t w suffixBase at q n) (lane t w suffixBase (at + 1) q n)
+    stopLane rs q = cond (accessible (needsOf sheet (getD (sheet .lanes) q noLane .class)) rs) (lane t w suffixBase at q n) (lane t w suffixBase (at + 1) q n)
 
     pub stop-sums : (rs : List Bool) (g : ℕ) → heldTerm sheet (bs ++ ((true ∷ rs) ∷ [])) ≡ Sum g → heldSums sheet (bs ++ ((true ∷ rs) ∷ [])) ≡ Sum (sumLanes (lanesIn t) (stopLane rs))
     stop-sums rs g e =
         subst (λ (k : ℕ). heldSums sheet (bs ++ ((true ∷ rs) ∷ [])) ≡ Sum (sumLanes k (stopLane rs))) wide
-        (sums-are sheet fit (bs ++ ((true ∷ rs) ∷ [])) g e (stopLane rs) (λ q l. go q l (covered (needsOf sheet (getD (sheet .lanes) q noLane .class)) rs) ∙ sym (bound-stop sheet bs rs (getD (sheet .lanes) q noLane))))
+        (sums-are sheet fit (bs ++ ((true ∷ rs) ∷ [])) g e (stopLane rs) (λ q l. go q l (accessible (needsOf sheet (getD (sheet .lanes) q noLane .class)) rs) ∙ sym (bound-stop sheet bs rs (getD (sheet .lanes) q noLane))))
       where
         go : (q : ℕ) → q < length (sheet .lanes) → (b : Bool) → valueOf (cond b (lane t w suffixBase at q n) (lane t w suffixBase (at + 1) q n)) ≡ cond b (openBound sheet bs (getD (sheet .lanes) q noLane)) (shutBound sheet bs (getD (sheet .lanes) q noLane))
         go q l true = open-lane (omega arith) q l
@@ -123,5 +123,5 @@ module _ (sheet : HeldSheet) (fit : Classed sheet) (t w : List ℕ) (ta : Tables
         one : (q : ℕ) → q < lanesIn t → stopLane rs q ≤ stopLane (snoc rs false) q
         one q l =
             let needs = needsOf sheet (getD (sheet .lanes) q noLane .class) in
-            subst (λ (b : Bool). stopLane rs q ≤ cond b (lane t w suffixBase at q n) (lane t w suffixBase (at + 1) q n)) (sym (covered-stays needs rs))
-            (go (lane t w suffixBase at q n) (lane t w suffixBase (at + 1) q n) (covered needs rs) (not (getD needs (length rs) false)) (rises q l))
+            subst (λ (b : Bool). stopLane rs q ≤ cond b (lane t w suffixBase at q n) (lane t w suffixBase (at + 1) q n)) (sym (accessible-stays needs rs))
+            (go (lane t w suffixBase at q n) (lane t w suffixBase (at + 1) q n) (accessible needs rs) (not (getD needs (length rs) false)) (rises q l))

@@ -8,9 +8,9 @@ use lib.ListN.{length, getD, drop, length-map, drop-of-length-le}
 use lib.Seq.{take-all}
 use Rattle.branch.specs.Search.{snoc}
 use Rattle.model.specs.Model.{sumAt}
-use Rattle.model.specs.Decisions.{covered, allows, joined}
+use Rattle.model.specs.Decisions.{accessible, allows, joined}
 use Rattle.model.specs.LowerBound.{blocks, stopsIn, removedIn}
-use Rattle.model.proofs.Blocks.{covered-none, Whole, Wholes, blocks-after}
+use Rattle.model.proofs.Blocks.{accessible-none, Whole, Wholes, blocks-after}
 use Rattle.model.proofs.Fees.{sum-snoc}
 use Rattle.held_rows.specs.Held.{HeldSheet, held, seen, paidIn}
 
@@ -65,22 +65,22 @@ pub seen-more : (needs : List Bool) (bs : List (List Bool)) (b : List Bool) → 
 seen-more needs bs b = map-append (allows needs) bs (b ∷ [])
 
 -- a removal decided: what is removed was undecided before, and changes nothing; what is not removed is shut to the lanes that need it
-pub covered-removed : (needs rs : List Bool) → covered needs (snoc rs true) ≡ covered needs rs
-unfolding covered
-covered-removed [] rs = refl
-covered-removed (need ∷ needs) [] = refl
-covered-removed (need ∷ needs) (x ∷ rs) = ap (λ (b : Bool). (not need || x) && b) (covered-removed needs rs)
+pub accessible-removed : (needs rs : List Bool) → accessible needs (snoc rs true) ≡ accessible needs rs
+unfolding accessible
+accessible-removed [] rs = refl
+accessible-removed (need ∷ needs) [] = refl
+accessible-removed (need ∷ needs) (x ∷ rs) = ap (λ (b : Bool). (not need || x) && b) (accessible-removed needs rs)
 
-pub covered-stays : (needs rs : List Bool) → covered needs (snoc rs false) ≡ (covered needs rs && not (getD needs (length rs) false))
-unfolding covered
-covered-stays [] [] = refl
-covered-stays [] (x ∷ rs) = refl
-covered-stays (need ∷ needs) [] = rw (covered-none needs) (go need)
+pub accessible-stays : (needs rs : List Bool) → accessible needs (snoc rs false) ≡ (accessible needs rs && not (getD needs (length rs) false))
+unfolding accessible
+accessible-stays [] [] = refl
+accessible-stays [] (x ∷ rs) = refl
+accessible-stays (need ∷ needs) [] = rw (accessible-none needs) (go need)
   where
     go : (b : Bool) → ((not b || false) && true) ≡ (((not b || true) && true) && not b)
     go true = refl
     go false = refl
-covered-stays (need ∷ needs) (x ∷ rs) = ap (λ (b : Bool). (not need || x) && b) (covered-stays needs rs) ∙ go (not need || x) (covered needs rs) (not (getD needs (length rs) false))
+accessible-stays (need ∷ needs) (x ∷ rs) = ap (λ (b : Bool). (not need || x) && b) (accessible-stays needs rs) ∙ go (not need || x) (accessible needs rs) (not (getD needs (length rs) false))
   where
     go : (a b c : Bool) → (a && (b && c)) ≡ ((a && b) && c)
     go true b c = refl
@@ -90,11 +90,11 @@ covered-stays (need ∷ needs) (x ∷ rs) = ap (λ (b : Bool). (not need || x) &
 pub seen-no : (needs : List Bool) (bs : List (List Bool)) → seen needs (bs ++ ((false ∷ []) ∷ [])) ≡ snoc (seen needs bs) false
 seen-no needs bs = seen-more needs bs (false ∷ [])
 
-pub seen-stop : (needs : List Bool) (bs : List (List Bool)) (rs : List Bool) → seen needs (bs ++ ((true ∷ rs) ∷ [])) ≡ snoc (seen needs bs) (covered needs rs)
+pub seen-stop : (needs : List Bool) (bs : List (List Bool)) (rs : List Bool) → seen needs (bs ++ ((true ∷ rs) ∷ [])) ≡ snoc (seen needs bs) (accessible needs rs)
 seen-stop needs bs rs = seen-more needs bs (true ∷ rs)
 
 pub seen-yes : (needs : List Bool) (bs : List (List Bool)) → seen needs (bs ++ ((true ∷ []) ∷ [])) ≡ snoc (seen needs bs) true
-seen-yes needs bs = seen-stop needs bs [] ∙ ap (snoc (seen needs bs)) (covered-none needs)
+seen-yes needs bs = seen-stop needs bs [] ∙ ap (snoc (seen needs bs)) (accessible-none needs)
 
 -- ---- what is paid
 

@@ -12,14 +12,14 @@ use Rattle.branch.specs.Lower.{add, total, larger, largest}
 use Rattle.branch.specs.Search.{snoc}
 use Rattle.branch.proofs.Bounds.{no-sum}
 use Rattle.branch.proofs.Lower.{split}
-use Rattle.model.specs.Decisions.{covered}
+use Rattle.model.specs.Decisions.{accessible}
 use Rattle.model.specs.LowerBound.{undecidedFees}
 use Rattle.model.proofs.Unpaid.{there-together}
 use Rattle.lane_rows.specs.Sheet.{columnBound, columnFee}
 use Rattle.lane_rows.specs.Rows.{sumFrom}
 use Rattle.lane_rows.proofs.Front.{column-yes}
 use Rattle.held_rows.specs.Held.{HeldColumn, HeldSheet, plain, noLane, needsOf, seenBy, laneBound, heldSums, laneFee, heldTerm}
-use Rattle.held_rows.proofs.Seen.{seen-no, seen-yes, seen-stop, covered-removed}
+use Rattle.held_rows.proofs.Seen.{seen-no, seen-yes, seen-stop, accessible-removed}
 
 module _ (sheet : HeldSheet) (bs : List (List Bool)) where
   -- a lane's price where the stop at hand is allowed to it, and where it is shut
@@ -32,9 +32,9 @@ module _ (sheet : HeldSheet) (bs : List (List Bool)) where
   pub bound-no : (lane : HeldColumn) → laneBound sheet (bs ++ ((false ∷ []) ∷ [])) lane [] ≡ shutBound lane
   bound-no lane = ap (columnBound (plain sheet) (lane .column)) (seen-no (needsOf sheet (lane .class)) bs)
 
-  pub bound-stop : (rs : List Bool) (lane : HeldColumn) → laneBound sheet (bs ++ ((true ∷ rs) ∷ [])) lane [] ≡ cond (covered (needsOf sheet (lane .class)) rs) (openBound lane) (shutBound lane)
+  pub bound-stop : (rs : List Bool) (lane : HeldColumn) → laneBound sheet (bs ++ ((true ∷ rs) ∷ [])) lane [] ≡ cond (accessible (needsOf sheet (lane .class)) rs) (openBound lane) (shutBound lane)
   bound-stop rs lane =
-      ap (columnBound (plain sheet) (lane .column)) (seen-stop (needsOf sheet (lane .class)) bs rs) ∙ go (covered (needsOf sheet (lane .class)) rs)
+      ap (columnBound (plain sheet) (lane .column)) (seen-stop (needsOf sheet (lane .class)) bs rs) ∙ go (accessible (needsOf sheet (lane .class)) rs)
     where
       go : (b : Bool) → columnBound (plain sheet) (lane .column) (snoc (seenBy sheet bs lane) b) ≡ cond b (openBound lane) (shutBound lane)
       go true = sym (column-yes (plain sheet) (lane .column) (seenBy sheet bs lane))
@@ -48,7 +48,7 @@ module _ (sheet : HeldSheet) (bs : List (List Bool)) where
   seen-removed : (rs : List Bool) (lane : HeldColumn) → seenBy sheet (bs ++ ((true ∷ snoc rs true) ∷ [])) lane ≡ seenBy sheet (bs ++ ((true ∷ rs) ∷ [])) lane
   seen-removed rs lane =
       let needs = needsOf sheet (lane .class) in
-      seen-stop needs bs (snoc rs true) ∙ ap (snoc (seenBy sheet bs lane)) (covered-removed needs rs) ∙ sym (seen-stop needs bs rs)
+      seen-stop needs bs (snoc rs true) ∙ ap (snoc (seenBy sheet bs lane)) (accessible-removed needs rs) ∙ sym (seen-stop needs bs rs)
 
   pub sums-removed : (rs : List Bool) → heldSums sheet (bs ++ ((true ∷ snoc rs true) ∷ [])) ≡ heldSums sheet (bs ++ ((true ∷ rs) ∷ []))
   sums-removed rs = λ i. total (λ (lane : HeldColumn) (p : List Bool). columnBound (plain sheet) (lane .column) (seen-removed rs lane i)) (sheet .lanes) []

@@ -16,7 +16,7 @@ use Rattle.branch.specs.declared.Bound.the-variants.{Missing, Sum}
 use Rattle.branch.specs.Lower.{larger, largest}
 use Rattle.branch.specs.Search.{snoc, NoMore}
 use Rattle.branch.proofs.Lower.{larger-assoc, larger-comm}
-use Rattle.model.specs.Decisions.{covered}
+use Rattle.model.specs.Decisions.{accessible}
 use Rattle.model.specs.LowerBound.{leastOf, offers, undecidedFees}
 use Rattle.model.specs.LastYes.{lastYes, Climbs}
 use Rattle.model.proofs.LastYes.{last-yes, last-alone, later-least}
@@ -27,7 +27,7 @@ use Rattle.lane_rows.specs.Tables.{feeFrom}
 use Rattle.lane_rows.proofs.Front.{column-yes}
 use Rattle.lane_rows.proofs.Terms.{last-most}
 use Rattle.held_rows.specs.Held.{Classed, HeldColumn, HeldSheet, plain, noLane, needsOf, seen, seenBy, partLanes, laneBound, laneFee, heldSums, heldTerm, largestTo, classFee, lastFor}
-use Rattle.held_rows.proofs.Seen.{seen-length, seen-no, seen-yes, seen-stop, covered-stays}
+use Rattle.held_rows.proofs.Seen.{seen-length, seen-no, seen-yes, seen-stop, accessible-stays}
 use Rattle.held_rows.proofs.Sums.{each-there}
 
 -- ---- one part
@@ -218,10 +218,10 @@ module _ (sheet : HeldSheet) (fit : Classed sheet) (bs : List (List Bool)) where
 
       -- at a stop with some removals decided
       stop-fee : (rs : List Bool) (i : ℕ) → i < length (partLanes sheet) → let lane = getD (partLanes sheet) i noLane in
-          laneFee sheet (bs ++ ((true ∷ rs) ∷ [])) lane [] ≡ cond (covered (needsOf sheet (lane .class)) rs) (lanes-fee (count + 1) (count + 1) lane) (lanes-fee (count + 1) (lastFor sheet bs (lane .class)) lane)
+          laneFee sheet (bs ++ ((true ∷ rs) ∷ [])) lane [] ≡ cond (accessible (needsOf sheet (lane .class)) rs) (lanes-fee (count + 1) (count + 1) lane) (lanes-fee (count + 1) (lastFor sheet bs (lane .class)) lane)
       stop-fee rs i l =
           let lane = getD (partLanes sheet) i noLane in
-          ap (columnFee (plain sheet) (lane .column)) (seen-stop (needsOf sheet (lane .class)) bs rs) ∙ go (covered (needsOf sheet (lane .class)) rs)
+          ap (columnFee (plain sheet) (lane .column)) (seen-stop (needsOf sheet (lane .class)) bs rs) ∙ go (accessible (needsOf sheet (lane .class)) rs)
         where
           go : (b : Bool) → let lane = getD (partLanes sheet) i noLane in columnFee (plain sheet) (lane .column) (snoc (seenBy sheet bs lane) b) ≡ cond b (lanes-fee (count + 1) (count + 1) lane) (lanes-fee (count + 1) (lastFor sheet bs (lane .class)) lane)
           go true = open-fee i l
@@ -257,6 +257,6 @@ module _ (sheet : HeldSheet) (fit : Classed sheet) (bs : List (List Bool)) where
               let b = lanes-fee (count + 1) (lastFor sheet bs (lane .class)) lane in
               let n = getD needs (length rs) false in
               stop-fee (snoc rs false) i l
-              ∙ ap (λ (y : Bool). cond y a b) (covered-stays needs rs)
-              ∙ shut a b (covered needs rs) n (fee-falls (plain sheet) (lane .column) (part i l .climbs) (count + 1) (lastFor sheet bs (lane .class)) (count + 1) (omega (arith, last-most (seen needs bs), seen-length needs bs)) (omega (arith, few)))
+              ∙ ap (λ (y : Bool). cond y a b) (accessible-stays needs rs)
+              ∙ shut a b (accessible needs rs) n (fee-falls (plain sheet) (lane .column) (part i l .climbs) (count + 1) (lastFor sheet bs (lane .class)) (count + 1) (omega (arith, last-most (seen needs bs), seen-length needs bs)) (omega (arith, few)))
               ∙ ap (λ (y : Bound). larger y (cond n b (Sum 0))) (sym (stop-fee rs i l))

@@ -3,7 +3,7 @@
 use Prim.Native.Nat.{ℕ, zero, suc, _+_, _<_, _≤_}
 use mathlib.Core.Path.{_≡_}
 use mathlib.Core.Bool.{Bool, cond}
-use mathlib.Core.List.{List, [], _∷_, map}
+use mathlib.Core.List.{List, [], map}
 use lib.ListN.{length, getD, take}
 use lib.Dec.{eqb}
 use lib.IntN.{ℤ, pos}
@@ -34,6 +34,7 @@ pub record HeldSheet : Type 0 where
   pub parts : ℕ
   pub lanes : List HeldColumn
 
+-- a lane as it is without holders
 abbrev pub columnIn : HeldColumn → Column
 columnIn lane = lane .column
 
@@ -81,6 +82,7 @@ heldSums sheet bs = total (laneBound sheet bs) (sheet .lanes) []
 abbrev pub laneFee : HeldSheet → List (List Bool) → HeldColumn → List Bool → Bound
 laneFee sheet bs lane p = columnFee (plain sheet) (lane .column) (seenBy sheet bs lane)
 
+-- the lanes that are a part's; those that fill up a four have no term
 abbrev pub partLanes : HeldSheet → List HeldColumn
 partLanes sheet = take (sheet .parts) (sheet .lanes)
 
@@ -88,6 +90,7 @@ partLanes sheet = take (sheet .parts) (sheet .lanes)
 abbrev pub heldTerm : HeldSheet → List (List Bool) → Bound
 heldTerm sheet bs = largest (laneFee sheet bs) (partLanes sheet) []
 
+-- W2, E4.2, E7.6. the bound of the node named p: what is paid, the lanes' prices and the term
 unfoldable pub heldBound : HeldSheet → List Bool → Bound
 heldBound sheet p = let bs = nodeOf sheet p in add (add (Sum (paidIn sheet bs)) (heldSums sheet bs)) (heldTerm sheet bs)
 
@@ -130,6 +133,7 @@ pub record Fills (sheet : HeldSheet) (lane leader : HeldColumn) : Type 0 where
   pub prices : (j : ℕ) → getD (lane .column .prices) j 0 ≡ 0
   pub needs : needsOf sheet (lane .class) ≡ needsOf sheet (leader .class)
 
+-- the sheet holds the job: its openings, the removals of its holding parts, and a lane for each part
 pub record SheetOf (job : Job) (sheet : HeldSheet) : Type 0 where
   pub ends : sheet .end ≡ end job
   pub places : sheet .positions ≡ positions job

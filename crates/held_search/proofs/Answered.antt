@@ -1,6 +1,6 @@
 -- What the code hands back is the model's answer: the incumbent is a full node, its stops are the name's first decisions, and the rows are the tie rule's changes at its places.
-use Prim.Native.Nat.{ℕ, _+_, _-_, _*_, _<_, _≤_}
-use mathlib.Core.Path.{_≡_, refl, sym, ap, ap₂, subst, _∙_}
+use Prim.Native.Nat.{ℕ, _+_, _-_, _<_}
+use mathlib.Core.Path.{_≡_, refl, sym, ap, ap₂, _∙_}
 use mathlib.Core.Bool.{Bool, true, false, cond}
 use mathlib.Core.List.{List, [], _∷_, _++_, map}
 use native.Mathlib.Omega.{arith}
@@ -10,12 +10,12 @@ use lib.Seq.{take-at, getD-take, length-take-le, ext-getD, getD-set-same, getD-s
 use lib.IntN.{ℤ, pos, _-ℤ_}
 use Rattle.branch.specs.declared.Bound.{Bound}
 use Rattle.branch.specs.declared.Bound.the-variants.{Missing, Sum}
-use Rattle.branch.specs.Search.{Incumbent, none, plan, Limited, atMost, costAt}
+use Rattle.branch.specs.Search.{none, plan, Limited, atMost}
 use Rattle.branch.specs.Questions.{askFrom, leftAt}
 use Rattle.branch.proofs.Among.{limited-best}
 use Rattle.model.specs.Model.{Job}
 use Rattle.model.specs.Decisions.{Held, heldParts}
-use Rattle.model.specs.LowerBound.{offers, choiceOf, blocks, stopsAt, inner, partChoice, boundOf, planAt}
+use Rattle.model.specs.LowerBound.{offers, blocks, stopsAt, inner, partChoice, boundOf, planAt}
 use Rattle.model.specs.Promise.{cut, optimum, answered, answeredAt, answerOf, searched}
 use Rattle.model.proofs.Bools.{there}
 use Rattle.model.proofs.Offers.{offers-length}
@@ -30,11 +30,11 @@ use Rattle.search.proofs.Answered.{choice-size}
 use Rattle.held_places.specs.Blocks.{Entries}
 use Rattle.held_places.specs.Arrays.{pricesAt, Lanes, Holds}
 use Rattle.held_places.specs.Changes.{placesOf, laneChoice}
-use Rattle.held_places.proofs.Held.{opened, holding, nodes-are, held-size, choice-is}
+use Rattle.held_places.proofs.Held.{opened, nodes-are, held-size, choice-is}
 use Rattle.held_rows.specs.Held.{HeldSheet, held, heldBound, SheetOf}
 use Rattle.held_rows.proofs.Sheets.{held-bound}
 use Rattle.walk.specs.declared.Solved.{Solved}
-use Rattle.stop_walk.specs.State as stop
+use Rattle.stop_nodes.specs.State as stop
 use Rattle.held_search.specs.Solved.{limitedBy, Solves, noRow, Chooses}
 
 -- ---- the rows of changes, part by part

@@ -8,13 +8,12 @@ use native.Mathlib.Numerals.{add-one}
 use native.Mathlib.Decide.{decLt}
 use lib.Dec.{eqb}
 use lib.ListN.{length, getD, take, set, length-append, List·getD-append}
-use lib.Seq.{take-suc, take-suc-set, take-all, take-at, getD-append-seam}
+use lib.Seq.{take-suc, take-suc-set, take-all, getD-append-seam}
 use Rattle.model.specs.Decisions.{joined}
-use Rattle.model.specs.Limits.{mostParts}
 use Rattle.held_rows.proofs.Seen.{joined-more}
 use Rattle.walk.specs.State.{bits}
 use Rattle.walk.proofs.Nodes.{bits-length}
-use Rattle.stop_walk.specs.State.{blocksOf}
+use Rattle.stop_nodes.specs.State.{blocksOf}
 use Rattle.held_search.specs.Solved.{blockOf}
 
 -- ---- decisions behind others

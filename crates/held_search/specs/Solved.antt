@@ -1,11 +1,10 @@
 -- What the walk gives, the incumbent's name, and the changes of each part, as the code's rows hold them.
-use Prim.Native.Nat.{ℕ, _-_, _<_, _≤_}
+use Prim.Native.Nat.{ℕ, _-_, _<_}
 use mathlib.Core.Path.{_≡_}
 use mathlib.Core.Bool.{Bool, true, false, cond}
 use mathlib.Core.List.{List, [], _∷_, _++_}
 use lib.ListN.{length, getD, replicate}
 use lib.IntN.{ℤ}
-use Rattle.branch.specs.declared.Bound.{Bound}
 use Rattle.branch.specs.Search.{none, plan, Limited, atMost}
 use Rattle.model.specs.Model.{Job}
 use Rattle.model.specs.LowerBound.{boundOf}

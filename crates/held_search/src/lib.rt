@@ -13,7 +13,7 @@ ghost use Rattle.search.specs.Found.{saidIn};
 ghost use Rattle.held_places.specs.Arrays.{pricesAt, Lanes, Holds};
 ghost use Rattle.held_places.specs.Changes.{placesOf, laneChoice};
 ghost use Rattle.held_tables.specs.Sheet.{HeldArrays, HeldReady};
-ghost use Rattle.stop_walk.specs.State.{bestName};
+ghost use Rattle.stop_nodes.specs.State.{bestName};
 ghost use Rattle.held_search.specs.Solved.{Solves, Chooses};
 use held_lanes::ASIDE;
 use held_lanes::HELD;
@@ -30,7 +30,7 @@ use least::TABLE;
 use name::NAMES;
 use name::name_of;
 use search::Found;
-use search::tables::fill;
+use search_tables::tables::fill;
 use stop_walk::solve;
 use walk::Solved;
 

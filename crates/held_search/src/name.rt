@@ -1,10 +1,10 @@
 // The name of the incumbent: its stops from a mask, and the removals at each from a number, written block by block.
 ghost use mathlib.Core.Path.{_≡_};
 ghost use mathlib.Core.List.{_++_};
-ghost use Prim.Native.Nat.{ℕ, _+_, _≤_};
+ghost use Prim.Native.Nat.{_+_, _≤_};
 ghost use lib.ListN.{length, take};
 ghost use Rattle.model.specs.Limits.{mostOpenings, mostParts};
-ghost use Rattle.stop_walk.specs.State.{bestName};
+ghost use Rattle.stop_nodes.specs.State.{bestName};
 ghost use Rattle.held_search.specs.Solved.{nameSize, blockOf};
 use held_lanes::ASIDE;
 use held_lanes::BEST;

@@ -9,7 +9,7 @@ use Rattle.branch.specs.declared.Bound.{Bound}
 use Rattle.branch.specs.declared.Bound.the-variants.{Missing, Sum}
 use Rattle.branch.specs.Lower.{add}
 use Rattle.branch.specs.Search.{snoc}
-use Rattle.model.specs.Decisions.{covered}
+use Rattle.model.specs.Decisions.{accessible}
 use Rattle.lane_rows.specs.Layout.{top, laneLimit, inf, suffixBase, lanesIn}
 use Rattle.lane_rows.specs.Tables.{Coded, Tables}
 use Rattle.lane_rows.specs.Rows.{lane, sumLanes}
@@ -90,10 +90,10 @@ module _ (sheet : HeldSheet) (fit : Classed sheet) (t u v w : List ℕ) (ta : Ta
 
     -- the lanes are picked by the set of those that the stop is shut to
     picked : (set : ℕ) → ShutSet sheet (snoc rs false) set → (q : ℕ) → q < lanesIn t
-        → cond (covered (needsOf sheet (getD (sheet .lanes) q noLane .class)) (snoc rs false)) (lane t w suffixBase at q n) (lane t w suffixBase (at + 1) q n) ≡ stopLane t w (at + 1) n set q
+        → cond (accessible (needsOf sheet (getD (sheet .lanes) q noLane .class)) (snoc rs false)) (lane t w suffixBase at q n) (lane t w suffixBase (at + 1) q n) ≡ stopLane t w (at + 1) n set q
     picked set b q l =
         let z : at + 1 - 1 ≡ at = omega arith in
-        go (covered (needsOf sheet (getD (sheet .lanes) q noLane .class)) (snoc rs false)) ∙ ap₂ (λ (d : Bool) (j : ℕ). cond d (lane t w suffixBase (at + 1) q n) (lane t w suffixBase j q n)) (sym (b q (omega (arith, wide sheet fit t w ta bs n ro)))) (sym z)
+        go (accessible (needsOf sheet (getD (sheet .lanes) q noLane .class)) (snoc rs false)) ∙ ap₂ (λ (d : Bool) (j : ℕ). cond d (lane t w suffixBase (at + 1) q n) (lane t w suffixBase j q n)) (sym (b q (omega (arith, wide sheet fit t w ta bs n ro)))) (sym z)
       where
         go : (d : Bool) → cond d (lane t w suffixBase at q n) (lane t w suffixBase (at + 1) q n) ≡ cond (not d) (lane t w suffixBase (at + 1) q n) (lane t w suffixBase at q n)
         go true = refl
@@ -103,4 +103,4 @@ module _ (sheet : HeldSheet) (fit : Classed sheet) (t u v w : List ℕ) (ta : Ta
     stays-told set b =
         told sheet (bs ++ ((true ∷ snoc rs false) ∷ [])) most staysTerm (sumLanes (lanesIn t) (stopLane t w (at + 1) n set)) small (stays-coded sheet fit u v he (ta .few) bs r ls x sums few rs g next coded)
         (λ k e. stop-sums sheet fit t w ta bs n ro few (snoc rs false) k e
-        ∙ ap Sum (sum-same (lanesIn t) (λ (q : ℕ). cond (covered (needsOf sheet (getD (sheet .lanes) q noLane .class)) (snoc rs false)) (lane t w suffixBase at q n) (lane t w suffixBase (at + 1) q n)) (stopLane t w (at + 1) n set) (picked set b)))
+        ∙ ap Sum (sum-same (lanesIn t) (λ (q : ℕ). cond (accessible (needsOf sheet (getD (sheet .lanes) q noLane .class)) (snoc rs false)) (lane t w suffixBase at q n) (lane t w suffixBase (at + 1) q n)) (stopLane t w (at + 1) n set) (picked set b)))

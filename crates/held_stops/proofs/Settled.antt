@@ -6,7 +6,7 @@ use mathlib.Core.List.{List, [], _∷_, _++_}
 use native.Mathlib.Omega.{arith}
 use lib.ListN.{length, getD, length-map}
 use Rattle.branch.specs.Search.{snoc}
-use Rattle.model.specs.Decisions.{covered}
+use Rattle.model.specs.Decisions.{accessible}
 use Rattle.model.specs.LastYes.{lastYes}
 use Rattle.model.proofs.LastYes.{last-no, last-yes}
 use Rattle.lane_rows.specs.Layout.{lanesIn}
@@ -55,7 +55,7 @@ module _ (sheet : HeldSheet) (t u v w : List ℕ) (ta : Tables (plain sheet) t) 
       same : (q : ℕ) → q < length (plain sheet .columns) → snoc (sees bs q) (not (bitAt q set)) ≡ sees (bs ++ ((true ∷ rs) ∷ [])) q
       same q l =
           let needs = needsOf sheet (getD (sheet .lanes) q noLane .class) in
-          ap (λ (b : Bool). snoc (sees bs q) (not b)) (bits q (omega (arith, length-map (sheet .lanes) columnIn))) ∙ ap (snoc (sees bs q)) (not-not (covered needs rs)) ∙ sym (seen-stop needs bs rs)
+          ap (λ (b : Bool). snoc (sees bs q) (not b)) (bits q (omega (arith, length-map (sheet .lanes) columnIn))) ∙ ap (snoc (sees bs q)) (not-not (accessible needs rs)) ∙ sym (seen-stop needs bs rs)
 
   pub lasts-settled : (v' : List ℕ) → HeldTables sheet u → Lasts sheet v bs (n - 1) → ((c : ℕ) → c < getD u classesPlace 0 → getD v' (lastPlace n c) 0 ≡ noted u v (at + 1) n set c) → Lasts sheet v' (bs ++ ((true ∷ rs) ∷ [])) n
   lasts-settled v' he ls f c l =
@@ -63,9 +63,9 @@ module _ (sheet : HeldSheet) (t u v w : List ℕ) (ta : Tables (plain sheet) t) 
       let lead = getD u (leadPlace c) 0 in
       let le = he .leads c l in
       f c (omega (arith, he .classes))
-      ∙ ap (λ (b : Bool). cond b (getD v (lastPlace (n - 1) c) 0) (offset (at + 1) c)) (bits lead (le .0) ∙ ap (λ (k : ℕ). not (covered (needsOf sheet k) rs)) (le .1))
-      ∙ ap (λ (x : ℕ). cond (not (covered needs rs)) x (offset (at + 1) c)) (ls c l)
-      ∙ go (covered needs rs)
+      ∙ ap (λ (b : Bool). cond b (getD v (lastPlace (n - 1) c) 0) (offset (at + 1) c)) (bits lead (le .0) ∙ ap (λ (k : ℕ). not (accessible (needsOf sheet k) rs)) (le .1))
+      ∙ ap (λ (x : ℕ). cond (not (accessible needs rs)) x (offset (at + 1) c)) (ls c l)
+      ∙ go (accessible needs rs)
       ∙ ap (λ (p : List Bool). offset (lastYes p) c) (sym (seen-stop needs bs rs))
     where
       go : (b : Bool) → cond (not b) (offset (lastFor sheet bs c) c) (offset (at + 1) c) ≡ offset (lastYes (snoc (seen (needsOf sheet c) bs) b)) c

@@ -4,7 +4,7 @@ use mathlib.Core.Path.{_≡_}
 use mathlib.Core.Bool.{Bool, cond, not}
 use mathlib.Core.List.{List}
 use lib.ListN.{length, getD}
-use Rattle.model.specs.Decisions.{covered}
+use Rattle.model.specs.Decisions.{accessible}
 use Rattle.model.specs.Limits.{mostOpenings}
 use Rattle.lane_rows.specs.Layout.{laneCount, inf, suffixBase, knownPlace, lanesIn}
 use Rattle.lane_rows.specs.Rows.{lane, Looks, Recalled, Still, Put, Memo, Owing, nextRow}
@@ -20,7 +20,7 @@ pub record ReadAt (t w w' : List ℕ) (n j : ℕ) : Type 0 where
 
 -- the set has the lanes that the stop is shut to, where its removals are rs
 abbrev pub ShutSet : HeldSheet → List Bool → ℕ → Type 0
-ShutSet sheet rs set = (q : ℕ) → q < length (sheet .lanes) → bitAt q set ≡ not (covered (needsOf sheet (getD (sheet .lanes) q noLane .class)) rs)
+ShutSet sheet rs set = (q : ℕ) → q < length (sheet .lanes) → bitAt q set ≡ not (accessible (needsOf sheet (getD (sheet .lanes) q noLane .class)) rs)
 
 -- a lane over the rows where the stop at opening j - 1 is shut to the lanes of the set
 abbrev pub stopLane : List ℕ → List ℕ → ℕ → ℕ → ℕ → ℕ → ℕ

@@ -1,6 +1,6 @@
 // The rows of stops whose removals are decided: the sum of the lanes while they are, and the row once they are.
 ghost use mathlib.Core.Path.{_≡_};
-ghost use Prim.Native.Nat.{ℕ, _+_, _*_, _^_, _<_, _≤_};
+ghost use Prim.Native.Nat.{_+_, _*_, _^_, _<_, _≤_};
 ghost use lib.ListN.{length, getD};
 ghost use Rattle.model.specs.Limits.{mostOpenings};
 ghost use Rattle.least.specs.Filled.{FilledBy};

@@ -1,8 +1,8 @@
 -- The tables for holders, filled region by region, are those of the sheet: what comes later keeps what stands before it.
 use Prim.Native.Nat.{ℕ, _+_, _-_, _*_, _<_, _≤_}
-use mathlib.Core.Path.{_≡_, refl, sym, ap, subst, _∙_}
-use mathlib.Core.Bool.{Bool, false, cond}
-use mathlib.Core.List.{List, []}
+use mathlib.Core.Path.{_≡_, sym, ap, subst, _∙_}
+use mathlib.Core.Bool.{Bool, cond}
+use mathlib.Core.List.{List}
 use native.Mathlib.Omega.{arith}
 use lib.ListN.{length, getD, set, length-set}
 use lib.Seq.{getD-set-same, getD-set-other}
@@ -11,9 +11,9 @@ use Rattle.least.specs.Filled.{Filled, FilledBy}
 use Rattle.lane_rows.specs.Layout.{laneCount, markCount, top, blockSize}
 use Rattle.lane_rows.specs.Tables.{Coded}
 use Rattle.lane_rows.proofs.Rising.{row-inside}
-use Rattle.search.specs.Arrays.{sheetOf}
+use Rattle.search_tables.specs.Arrays.{sheetOf}
 use Rattle.held_rows.specs.Held.{HeldSheet, noLane, classFee, largestTo}
-use Rattle.held_lanes.specs.Places.{bitAt, mostTo, classPlace, topPlace, removalBase, removalPlace, needLanesPlace, needCountPlace, needClassPlace, maskBase, maskPlace, leadPlace, classesPlace, holdsPlace, heldSize}
+use Rattle.held_lanes.specs.Places.{bitAt, mostTo, classPlace, topPlace, removalPlace, needLanesPlace, needCountPlace, needClassPlace, maskBase, maskPlace, leadPlace, classesPlace, holdsPlace, heldSize}
 use Rattle.held_lanes.specs.Tables.{needing, Masks, HeldTables}
 use Rattle.held_lanes.proofs.Coded.{coded-to}
 use Rattle.held_tables.specs.declared.classes.Classes.{Classes}

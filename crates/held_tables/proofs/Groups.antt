@@ -6,13 +6,13 @@ use mathlib.Core.List.{List}
 use native.Mathlib.Omega.{arith}
 use native.Mathlib.Decide.{ℕ-discrete}
 use borrow.Author.Count.{below-more}
-use lib.ListN.{length, getD, set, drop, replicate, length-set, List·getD-eq-default}
+use lib.ListN.{length, getD, set, drop, replicate, length-set}
 use lib.Seq.{getD-take, getD-drop, ext-getD, getD-set-same, getD-set-other}
 use Rattle.lane_rows.specs.Layout.{laneCount}
 use Rattle.held_places.specs.Arrays.{needStride, needSize, needsAt}
 use Rattle.held_places.proofs.Parts.{needs-length}
 use Rattle.held_tables.specs.declared.classes.Classes.{Classes}
-use Rattle.held_tables.specs.Grouped.{Led, Grouped}
+use Rattle.held_tables.specs.Grouped.{Grouped}
 
 -- two parts whose needs are the same place by place
 pub needs-same : (nd : List Bool) (h p q : ℕ) → length nd ≡ needSize → h ≤ laneCount → p < laneCount → q < laneCount → ((i : ℕ) → i < h → getD nd (p * needStride + i) false ≡ getD nd (q * needStride + i) false) → needsAt h nd p ≡ needsAt h nd q

@@ -1,10 +1,10 @@
 -- The lanes of the arrays: one for each part, and those that fill up a four; without their classes they are the columns of the plain sheet.
-use Prim.Native.Nat.{ℕ, zero, suc, _+_, _*_, _<_}
-use mathlib.Core.Path.{_≡_, refl, sym, ap, ap₂, _∙_}
-use mathlib.Core.List.{List, [], _∷_, map}
+use Prim.Native.Nat.{ℕ, zero, suc, _+_, _<_}
+use mathlib.Core.Path.{_≡_, refl, ap, _∙_}
+use mathlib.Core.List.{List, _∷_, map}
 use native.Mathlib.Omega.{arith}
 use lib.ListN.{length, getD}
-use Rattle.search.specs.Arrays.{lanePart, columnOf, columnsFrom}
+use Rattle.search_tables.specs.Arrays.{lanePart, columnOf, columnsFrom}
 use Rattle.lane_rows.specs.Sheet.{Column}
 use Rattle.held_rows.specs.Held.{HeldColumn, columnIn, noLane}
 use Rattle.held_tables.specs.Sheet.{lanesFrom}

@@ -1,5 +1,5 @@
 -- The list of the classes that need a holding part: by one class more, which is entered or not.
-use Prim.Native.Nat.{ℕ, zero, suc, _+_, _*_, _<_, _≤_, max}
+use Prim.Native.Nat.{ℕ, zero, suc, _+_, _<_, _≤_, max}
 use mathlib.Core.Path.{_≡_, refl, sym, ap, ap₂, subst, _∙_}
 use mathlib.Core.Bool.{Bool, true, false, cond}
 use mathlib.Core.List.{List}
@@ -12,7 +12,7 @@ use Rattle.lane_rows.specs.Layout.{laneCount}
 use Rattle.held_lanes.specs.Places.{mostTo, needCountPlace, needClassPlace, heldSize}
 use Rattle.held_tables.specs.declared.classes.Classes.{Classes}
 use Rattle.held_tables.specs.Grouped.{needIn}
-use Rattle.held_tables.specs.Fill.{Before, Listing, Listed, Lists}
+use Rattle.held_tables.specs.Fill.{Listing, Listed, Lists}
 
 -- the largest over the same numbers
 pub most-same : (f g : ℕ → ℕ) (k : ℕ) → ((c : ℕ) → c < k → f c ≡ g c) → mostTo f k ≡ mostTo g k

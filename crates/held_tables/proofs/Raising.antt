@@ -1,13 +1,12 @@
 -- The terms by classes, filled part by part, are the largest over the parts of a class: each part's own table raises its class's.
 use Prim.Native.Nat.{ℕ, _+_, _-_, _*_, _≤_, _<_, min, max}
 use mathlib.Core.Path.{_≡_, refl, sym, ap, subst, _∙_}
-use mathlib.Core.Bool.{Bool, true, false, cond}
+use mathlib.Core.Bool.{Bool, true, cond}
 use mathlib.Core.List.{List, []}
 use native.Mathlib.Omega.{arith}
 use native.Mathlib.Numerals.{add-one}
 use native.Mathlib.Decide.{ℕ-discrete}
 use borrow.Author.Tests.{eq-eqb, ne-eqb}
-use lib.Dec.{eqb}
 use lib.ListN.{length, getD, set, take, drop}
 use lib.Seq.{take-suc}
 use Rattle.branch.specs.declared.Bound.{Bound}
@@ -24,8 +23,8 @@ use Rattle.lane_rows.specs.Sheet.{Column, Sheet}
 use Rattle.lane_rows.specs.Tables.{Coded, feeFrom}
 use Rattle.lane_rows.proofs.Lanes.{coded-larger}
 use Rattle.lane_rows.proofs.Rising.{row-inside}
-use Rattle.search.specs.Fill.{Triangle, ownOf}
-use Rattle.search.proofs.Filling.{coded, offers-all}
+use Rattle.search_tables.specs.Fill.{Triangle, ownOf}
+use Rattle.search_tables.proofs.Filling.{coded, offers-all}
 use Rattle.held_rows.specs.Held.{HeldColumn, noLane}
 use Rattle.held_lanes.specs.Places.{classPlace, heldSize}
 use Rattle.held_tables.specs.Fill.{Small, Raised, inClass, Terms}

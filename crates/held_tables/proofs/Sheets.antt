@@ -2,27 +2,27 @@
 use Prim.Native.Nat.{ℕ, _+_, _*_, _<_, _≤_}
 use mathlib.Core.Path.{_≡_, refl, sym, ap, subst, _∙_}
 use mathlib.Core.Bool.{Bool, false}
-use mathlib.Core.List.{List, [], map}
+use mathlib.Core.List.{List, []}
 use native.Mathlib.Omega.{arith}
 use native.Mathlib.Decide.{decLt}
 use lib.ListN.{length, getD, take, drop, length-map, List·getD-map}
 use lib.Seq.{getD-take, getD-drop, length-take-le}
 use lib.IntN.{ℤ, pos, _-ℤ_}
-use Rattle.model.specs.Model.{Job, lastChange}
+use Rattle.model.specs.Model.{Job}
 use Rattle.model.specs.Decisions.{Held, heldAt}
 use Rattle.model.specs.LastYes.{Climbs}
 use Rattle.model.specs.Verdict.{partAt}
 use Rattle.model.proofs.Bools.{there}
 use Rattle.lane_rows.specs.Layout.{lanesIn}
-use Rattle.lane_rows.specs.Sheet.{Column, Sheet, noColumn}
+use Rattle.lane_rows.specs.Sheet.{Column, noColumn}
 use Rattle.lane_rows.specs.Tables.{Alike, Tables}
-use Rattle.search.specs.Arrays.{priceStride, laneValue, lanePart, foursOf, sheetOf}
-use Rattle.search.proofs.Filling.{past, own-each}
+use Rattle.search_tables.specs.Arrays.{priceStride, laneValue, foursOf, sheetOf}
+use Rattle.search_tables.proofs.Filling.{past, own-each}
 use Rattle.held_places.specs.Arrays.{needStride, needsAt, Lanes, Holds}
 use Rattle.held_rows.specs.Held.{HeldColumn, HeldSheet, columnIn, plain, noLane, needsOf, Classed, Laid, Fills, SheetOf}
 use Rattle.held_lanes.specs.Tables.{needing}
 use Rattle.held_tables.specs.declared.classes.Classes.{Classes}
-use Rattle.held_tables.specs.Grouped.{Led, Grouped, needIn}
+use Rattle.held_tables.specs.Grouped.{Grouped, needIn}
 use Rattle.held_tables.specs.Sheet.{HeldArrays, heldSheetOf}
 use Rattle.held_tables.proofs.Lanes.{laneAt, lanes-length, lanes-at, columns-are}
 

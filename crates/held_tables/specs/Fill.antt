@@ -1,5 +1,5 @@
 -- Filling the tables for holders, region by region: what comes later keeps what stands before it.
-use Prim.Native.Nat.{ℕ, _+_, _-_, _*_, _^_, _<_, _≤_, min, max}
+use Prim.Native.Nat.{ℕ, _-_, _*_, _^_, _<_, _≤_, min, max}
 use mathlib.Core.Path.{_≡_}
 use mathlib.Core.Bool.{Bool, cond}
 use mathlib.Core.List.{List, []}

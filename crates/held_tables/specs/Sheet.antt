@@ -8,8 +8,8 @@ use lib.IntN.{ℤ}
 use Rattle.model.specs.Limits.{mostParts}
 use Rattle.least.specs.Suffix.{tableSize}
 use Rattle.lane_rows.specs.Layout.{top}
-use Rattle.search.specs.Arrays as search
-use Rattle.search.specs.Arrays.{lanePart, columnOf, foursOf}
+use Rattle.search_tables.specs.Arrays as search
+use Rattle.search_tables.specs.Arrays.{lanePart, columnOf, foursOf}
 use Rattle.held_places.specs.Arrays.{needSize, needsAt}
 use Rattle.held_rows.specs.Held.{HeldColumn, HeldSheet}
 use Rattle.held_tables.specs.declared.classes.Classes.{Classes}

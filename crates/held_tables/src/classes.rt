@@ -1,7 +1,7 @@
 // Classes of parts: parts that need the same holding parts. A class is led by its first part.
 ghost use mathlib.Core.Path.{_≡_};
-ghost use mathlib.Core.Bool.{Bool, true, false, not, cond};
-ghost use Prim.Native.Nat.{ℕ, _+_, _<_, _≤_};
+ghost use mathlib.Core.Bool.{true, false};
+ghost use Prim.Native.Nat.{_+_, _<_, _≤_};
 ghost use lib.ListN.{length, getD};
 ghost use Rattle.lane_rows.specs.Layout.{laneCount};
 ghost use Rattle.held_places.specs.Arrays.{needSize, needsAt};

@@ -5,8 +5,8 @@ ghost use lib.ListN.{length, getD};
 ghost use Rattle.least.specs.Filled.{FilledBy};
 ghost use Rattle.least.specs.Suffix.{tableSize};
 ghost use Rattle.lane_rows.specs.Layout.{laneCount, markCount, blockSize};
-ghost use Rattle.search.specs.Arrays.{lanePart, columnOf, sheetOf, Ready};
-ghost use Rattle.search.specs.Fill.{Triangle, ownOf};
+ghost use Rattle.search_tables.specs.Arrays.{lanePart, columnOf, sheetOf, Ready};
+ghost use Rattle.search_tables.specs.Fill.{Triangle, ownOf};
 ghost use Rattle.held_lanes.specs.Places.{mostTo, classPlace, topPlace, heldSize};
 ghost use Rattle.held_tables.specs.Grouped.{Led};
 ghost use Rattle.held_tables.specs.Sheet.{lanesOf};
@@ -16,8 +16,8 @@ use held_lanes::TOPS;
 use lane_rows::LANES;
 use lane_rows::row_of;
 use least::MARKS;
-use search::tables::capped;
-use search::tables::lane_life;
+use search_tables::tables::capped;
+use search_tables::tables::lane_life;
 ghost use Rattle.model.specs.Limits.{mostOpenings};
 
 // The larger of two numbers.

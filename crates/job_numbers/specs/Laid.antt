@@ -13,6 +13,7 @@ use Rattle.job_numbers.specs.declared.Numbers.{Numbers}
 abbrev pub lifeOf : Part → ℕ
 lifeOf part = part .life
 
+-- M5. R, the first life
 abbrev pub leftOf : Part → ℕ
 leftOf part = part .left
 

@@ -13,8 +13,8 @@ use Rattle.model.specs.Promise.{PlannerAnswer, no-plan, cut-none, cut, optimum,
 use Rattle.model.proofs.Roots.{rooted, floor-least}
 use Rattle.model.proofs.Promised.{promise}
 use Rattle.jobs.specs.Valid.{ValidJob}
-use Rattle.verdict.specs.Ranges.{dearestPlan}
-use Rattle.verdict.proofs.Limits.{cost-most}
+use Rattle.plan_costs.specs.Dearest.{dearestPlan}
+use Rattle.plan_costs.proofs.Dearest.{cost-most}
 
 -- the values that are printed
 abbrev pub Ranged : ℕ → PlannerAnswer → Type 0

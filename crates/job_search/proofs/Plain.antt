@@ -1,11 +1,10 @@
 -- The arrays of a job without holders, with its removals added to its prices, hold the job so charged (`model/Unheld`) as the search over the openings asks; and what that search finds is the model's answer.
 use Prim.Native.Nat.{ℕ, _+_, _*_, _≤_, _<_}
-use mathlib.Core.Path.{_≡_, sym, ap, ap₂, subst, _∙_}
+use mathlib.Core.Path.{_≡_, sym, ap, ap₂, _∙_}
 use mathlib.Core.Bool.{false}
 use mathlib.Core.List.{List, []}
 use native.Mathlib.Omega.{arith}
 use lib.ListN.{length, getD, take, drop, length-map, List·getD-map}
-use Rattle.model.specs.Model as model
 use Rattle.model.specs.Model.{clock, table, hasHolder, removalOf}
 use Rattle.model.specs.Limits.{dearest}
 use Rattle.model.specs.Verdict.{noPart, partAt}
@@ -20,7 +19,7 @@ use Rattle.jobs.proofs.Lists.{map-at}
 use Rattle.jobs.proofs.Jobs.{Whole, opening-count, part-count}
 use Rattle.clock.proofs.Places.{places-are}
 use Rattle.coming_out.specs.Places.{Removals}
-use Rattle.search.specs.Arrays.{priceStride, lanePart, Holds}
+use Rattle.search_tables.specs.Arrays.{priceStride, lanePart, Holds}
 use Rattle.search.specs.declared.Found.{Found}
 use Rattle.search.specs.Found.{Finds, saidIn}
 use Rattle.search.proofs.Answered.{said}

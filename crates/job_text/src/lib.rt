@@ -1,5 +1,2 @@
-// The job text: its idle steps, its openings, its parts, and the whole text.
-pub mod idles;
-pub mod openings;
-pub mod parts;
+// The whole job text, from its sections.
 pub mod whole;

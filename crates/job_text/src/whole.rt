@@ -1,8 +1,8 @@
 // The lines of a job from a cursor on, and the whole job text.
-use crate::idles::Idles;
-use crate::idles::read_idles;
-use crate::openings::read_openings;
-use crate::parts::read_parts;
+use job_sections::idles::Idles;
+use job_sections::idles::read_idles;
+use job_sections::openings::read_openings;
+use job_sections::parts::read_parts;
 use jobs::Job;
 use lines::read::read_field;
 use lines::rows::Cursor;
@@ -16,8 +16,10 @@ ghost use Prim.Native.Nat.{_≤_};
 ghost use lib.ListN.{drop};
 ghost use Rattle.lines.specs.Cursor.{Stands};
 ghost use Rattle.jobs.specs.Views.{Sized};
-ghost use Rattle.job_text.specs.Views.{idlesOf, idleLines, textOf, givenOf, LinesRead, TextRead};
-ghost use Rattle.job_text.specs.Grammar.{meant, body, rest, jobLines, readJobText};
+ghost use Rattle.job_sections.specs.Views.{idlesOf};
+ghost use Rattle.job_grammar.specs.Optionals.{idleLines};
+ghost use Rattle.job_text.specs.Views.{textOf, givenOf, LinesRead, TextRead};
+ghost use Rattle.job_grammar.specs.Grammar.{meant, body, rest, jobLines, readJobText};
 ghost use Rattle.model.specs.Limits.{lastStep, mostOpenings};
 
 // What a job text says: the job, and beside it what its text has besides: the walk number, and of which parts the lines of removal stand.

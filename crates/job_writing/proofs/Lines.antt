@@ -11,8 +11,8 @@ use Rattle.jobs.specs.declared.Job.{Job}
 use Rattle.jobs.proofs.Jobs.{partAt, part-viewed}
 use Rattle.model.specs.Model.{Part}
 use Rattle.model.specs.Verdict.{noPart}
-use Rattle.job_text.specs.Grammar.{PartText}
-use Rattle.job_text.specs.Views.{partLines, partsLines}
+use Rattle.job_grammar.specs.Grammar.{PartText}
+use Rattle.job_grammar.specs.Optionals.{partLines, partsLines}
 use Rattle.job_writing.specs.Lines.{linesFor}
 
 lines-size : (cs : List Bool) (ps : List Part) → length cs ≡ length ps → length (partsLines cs ps) ≡ length ps

@@ -7,8 +7,8 @@ use Rattle.jobs.specs.Views.{jobOf}
 use Rattle.jobs.specs.declared.Part.{Part}
 use Rattle.jobs.specs.declared.Job.{Job}
 use Rattle.covers.specs.Grammar.{Cover}
-use Rattle.job_text.specs.Grammar.{PartText}
-use Rattle.job_text.specs.Views.{partsLines}
+use Rattle.job_grammar.specs.Grammar.{PartText}
+use Rattle.job_grammar.specs.Optionals.{partsLines}
 
 -- what a part's lines of removal say, where they stand
 abbrev pub coverIn : Part → Cover

@@ -5,7 +5,7 @@ use job_text::whole::JobText;
 use jobs::Job;
 use jobs::Opening;
 use jobs::Part;
-use lines::write::put_line;
+use line_writing::write::put_line;
 ghost use Prim.Native.Nat.{_+_, _≤_};
 ghost use lib.ListN.{length};
 ghost use Rattle.lines.specs.Text.{line, texts, optionalText};
@@ -13,8 +13,9 @@ ghost use Rattle.lines.specs.Wrote.{Wrote};
 ghost use Rattle.jobs.specs.Views.{openingOf, partOf, jobOf, Sized};
 ghost use Rattle.covers.specs.Rendering.{coverText};
 ghost use Rattle.covers.specs.Views.{linesOf};
-ghost use Rattle.job_text.specs.Views.{idleLines, partLines, textOf};
-ghost use Rattle.job_text.specs.Rendering.{idlesText, openingText, partText, bodyText, jobText};
+ghost use Rattle.job_grammar.specs.Optionals.{idleLines, partLines};
+ghost use Rattle.job_text.specs.Views.{textOf};
+ghost use Rattle.job_grammar.specs.Rendering.{idlesText, openingText, partText, bodyText, jobText};
 ghost use Rattle.job_writing.specs.Lines.{coverIn, linesFor};
 
 // Puts the line of a key and each value.

@@ -1,10 +1,10 @@
 -- The job that a struct holds, place by place: as many openings and parts as it counts, each valid where the job is. By the laws of `map` and `take`, and the arrays' lengths, which a function's arguments tell.
-use Prim.Native.Nat.{ℕ, zero, suc, _≤_, _<_}
+use Prim.Native.Nat.{ℕ, _≤_, _<_}
 use mathlib.Core.Path.{_≡_, sym, ap, subst, _∙_}
 use mathlib.Core.List.{List, [], _∷_, map}
 use native.Mathlib.Omega.{arith}
 use lib.ListN.{length, getD, take, length-map, List·getD-map}
-use lib.Seq.{getD-take, length-take-le, take-nil}
+use lib.Seq.{getD-take, take-nil}
 use Rattle.lines.specs.Text.{joined}
 use Rattle.lines.specs.Chosen.{chosen}
 use mir.Val.{Val}

@@ -4,7 +4,7 @@ use mathlib.Core.Path.{_≡_}
 use mathlib.Core.List.{List, [], _∷_}
 use lib.ListN.{length}
 use Rattle.model.specs.Model.{Opening, Part, Job}
-use Rattle.model.specs.Limits.{lastStep, longestLife, dearest, mostOpenings, mostParts}
+use Rattle.model.specs.Limits.{lastStep, longestLife, dearest, mostOpenings, mostParts, mostInside}
 use Rattle.model.specs.Windows.{Rising, stepsOf}
 use Rattle.jobs.specs.declared.Job as code
 use Rattle.jobs.specs.Views.{jobOf, Sized}
@@ -14,11 +14,13 @@ abbrev pub All : {A : Type 0} → (A → Type 0) → List A → Type 0
 All P [] = Unit {0}
 All P (x ∷ xs) = P x × All P xs
 
+-- X3. `opening` 1..365, `fee` 0..1000000; that openings rise is said of the job
 pub record ValidOpening (o : Opening) : Type 0 where
   pub step-low : 1 ≤ o .step
   pub step-high : o .step ≤ lastStep
   pub fee : o .fee ≤ dearest
 
+-- X3. `price` 1..1000000
 abbrev pub ValidPrice : ℕ → Type 0
 ValidPrice p = (1 ≤ p) × (p ≤ dearest)
 
@@ -35,7 +37,7 @@ pub record ValidPart (n : ℕ) (p : Part) : Type 0 where
   pub left-high : p .left ≤ p .life
   -- E7.2. "`removal` 0..1000000, `inside` 0..15"
   pub removal : p .removal ≤ dearest
-  pub few-holders : length (p .holders) ≤ 15
+  pub few-holders : length (p .holders) ≤ mostInside
   pub priced : length (p .prices) ≡ n
   pub prices : All ValidPrice (p .prices)
 
@@ -44,6 +46,7 @@ abbrev pub HeldFrom : ℕ → ℕ → List Part → Type 0
 HeldFrom m k [] = Unit {0}
 HeldFrom m k (p ∷ ps) = Holds m k 0 (p .holders) × HeldFrom m (suc k) ps
 
+-- X3, X5, E1.2. every number and count is in its range, idle steps and openings rise within the horizon, and each part's holders are as `Holds` says
 pub record ValidJob (j : Job) : Type 0 where
   pub horizon-low : 2 ≤ j .horizon
   pub horizon-high : j .horizon ≤ lastStep

@@ -18,6 +18,7 @@ use Rattle.jobs.specs.declared.Plan.{Plan}
 abbrev pub blankPart : Part
 blankPart = record { life = 0; left = 0; removal = 0; holders = []; prices = [] }
 
+-- an opening's step and fee
 abbrev pub openingOf : Opening → model.Opening
 openingOf o = record { step = o .step; fee = o .fee }
 
@@ -34,6 +35,7 @@ jobOf j = record {
   parts = map (partOf (j .«opening_count»)) (take (j .«part_count») (j .parts));
 }
 
+-- the job of no idle steps, no openings and no parts: it stands where a text is refused
 abbrev pub emptyJob : model.Job
 emptyJob = record { horizon = 0; idles = []; openings = []; parts = [] }
 
@@ -44,6 +46,10 @@ pub record Sized (j : Job) : Type 0 where
   pub parts : j .«part_count» ≤ mostParts
 
 -- ---- a plan
+
+-- what stands past the end of an array of change sets
+abbrev pub blankChanges : Changes
+blankChanges = record { at = [] }
 
 -- the changes of the first m parts at the first n openings
 abbrev pub changesOf : ℕ → ℕ → List Changes → List (List Bool)
@@ -59,11 +65,12 @@ emptyPlan n m = record { stops = replicate n false; changes = replicate m (repli
 
 -- part k + 1 is changed at opening i
 abbrev pub changedIn : Plan → ℕ → ℕ → Bool
-changedIn p i k = getD (getD (p .changes) k (record { at = [] }) .at) i false
+changedIn p i k = getD (getD (p .changes) k blankChanges .at) i false
 
 -- for the openings and parts that a job counts
 abbrev pub changesFor : Job → List Changes → List (List Bool)
 changesFor job cs = changesOf (job .«opening_count») (job .«part_count») cs
 
+-- the plan that a struct holds, as far as the job's openings and parts go
 abbrev pub planFor : Job → Plan → model.Plan
 planFor job p = modelPlan (job .«opening_count») (job .«part_count») p

@@ -50,6 +50,12 @@ impl Part {
     pub const MIN_PRICE: u32 = 1;
 
     pub const MAX_PRICE: u32 = 1000000;
+
+    pub const MAX_REMOVAL: u32 = 1000000;
+
+    pub const MAX_INSIDE: u32 = 15;
+
+    pub const MAX_HOLDER: u32 = 16;
 }
 
 impl Job {

@@ -4,11 +4,11 @@ use mathlib.Core.Path.{_≡_, refl, sym, ap, _∙_}
 use mathlib.Core.List.{List}
 use mathlib.Core.Logic.{⊎-elim}
 use lib.ListN.{length, take}
-use Rattle.lines.specs.Fault.{faultSpan}
+use Rattle.fault_lines.specs.Fault.{faultSpan}
 use Rattle.lines.specs.Parser.{Outcome, accepted, refused}
 use Rattle.lines.proofs.Parsing.{text-long}
-use Rattle.job_text.specs.Grammar.{JobText, Given, jobLines, meaning, readJob}
-use Rattle.plan_text.proofs.Nothing.{read-long}
+use Rattle.job_grammar.specs.Grammar.{JobText, Given, jobLines, meaning, readJob}
+use Rattle.plan_grammar.proofs.Nothing.{read-long}
 use Rattle.judging.specs.Judge.{onJob, onPlan, judgeSaid}
 use Rattle.whole_input.specs.declared.Text.the-variants.{Job, Plan}
 use Rattle.whole_input.specs.Limits.{limitOf}

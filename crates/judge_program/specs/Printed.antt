@@ -10,6 +10,7 @@ use Rattle.judging.specs.Judge.{judgeSaid}
 use Rattle.whole_input.specs.declared.Text.the-variants.{Job, Plan}
 use Rattle.whole_input.specs.Limits.{limitOf}
 
+-- a is the judge's answer to the files, as far as a contract can say it: over the bytes that were read
 pub record Printed (a : Answer) : Type 0 where
   -- the bytes that were read of each file
   pub job : List ℕ

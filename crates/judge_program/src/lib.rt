@@ -1,4 +1,5 @@
 // The judge's program: a job and a plan are read from files, the plan is weighed, and the answer printed.
+use answer_output::print_answer;
 use answers::Answer;
 use jobs::Job;
 use jobs::Plan;
@@ -18,6 +19,6 @@ pub fn judge_files(job_path: &[u8], plan_path: &[u8]) -> Answer
     let mut out = [0u8; judging::ROOM];
     let a = judging::judge(&job[..n], &plan[..k], &mut out);
     let m = a.length;
-    io::write_all(libc::STDOUT_FILENO, &out[..m]);
+    print_answer(&out[..m], b"judge: the answer can't be written");
     a
 }

@@ -12,13 +12,13 @@ use Rattle.model.specs.Model.{KeepsLives, costOf}
 use Rattle.model.specs.Verdict as verdict
 use Rattle.model.specs.Verdict.{Judgement, accepts, unkept, wrongCost, numberOf, judgedOf, AllKept}
 use Rattle.model.proofs.Verdicts.{judge, lives-kept, kept-lives}
-use Rattle.job_text.specs.Grammar.{Given, readJob}
-use Rattle.job_text.proofs.Numbered as job
-use Rattle.job_text.proofs.Published.{text-due}
-use Rattle.plan_text.specs.Grammar.{Stated, readPlan}
-use Rattle.plan_text.proofs.Numbered as plan
-use Rattle.plan_text.proofs.Shapes.{shaped}
-use Rattle.answers.specs.Said.{Said, plainly, lent}
+use Rattle.job_grammar.specs.Grammar.{Given, readJob}
+use Rattle.job_grammar.proofs.Numbered as job
+use Rattle.job_grammar.proofs.Published.{text-due}
+use Rattle.plan_grammar.specs.Grammar.{Stated, readPlan}
+use Rattle.plan_grammar.proofs.Numbered as plan
+use Rattle.plan_grammar.proofs.Shapes.{shaped}
+use Rattle.answers.specs.Said.{plainly, lent}
 use Rattle.answers.proofs.Replies.{refuses}
 use Rattle.judging.specs.Judge.{costLines, unkeptLines, saidOf, onPlan, onJob, judgeSaid, judgeRoom}
 use Rattle.judging.specs.Promise.{Reading, Overdue, JudgePromise}

@@ -5,8 +5,8 @@ use Rattle.lines.specs.Text.{lineOf}
 use Rattle.lines.specs.Parser.{Outcome, accepted, refused}
 use Rattle.model.specs.Model.{Job}
 use Rattle.model.specs.Verdict.{Judgement, accepts, unkept, wrongCost, numberOf, judgedOf}
-use Rattle.job_text.specs.Grammar.{Given, readJob}
-use Rattle.plan_text.specs.Grammar.{Stated, readPlan}
+use Rattle.job_grammar.specs.Grammar.{Given, readJob}
+use Rattle.plan_grammar.specs.Grammar.{Stated, readPlan}
 use Rattle.answers.specs.Said.{Said, plainly, refusal}
 
 -- O4. "Judge 0: `result`, `cost`." O6. "Number 11: `result`, `cost` (the true one)."
@@ -32,6 +32,7 @@ abbrev pub onPlan : List ℕ → Job → Outcome Stated → Said
 onPlan plan job (accepted stated) = saidOf (judgedOf job (stated .cost) (stated .plan))
 onPlan plan job (refused number line) = refusal 2 plan number line
 
+-- by what the job text reads as: R20. "then the job text [..]; then the plan text"
 abbrev pub onJob : List ℕ → List ℕ → Outcome Given → Said
 onJob job plan (accepted given) = onPlan plan (given .job) (readPlan (given .job) plan)
 onJob job plan (refused number line) = refusal 1 job number line

@@ -7,8 +7,8 @@ use Rattle.lines.specs.Parser.{accepted, refused}
 use Rattle.model.specs.Model.{Job, Plan, KeepsLives, costOf}
 use Rattle.model.specs.Verdict.{LowestUnkept}
 use Rattle.model.specs.Due.{DueIs}
-use Rattle.job_text.specs.Grammar.{Given, readJob}
-use Rattle.plan_text.specs.Grammar.{Stated, readPlan}
+use Rattle.job_grammar.specs.Grammar.{Given, readJob}
+use Rattle.plan_grammar.specs.Grammar.{Stated, readPlan}
 use Rattle.answers.specs.Said.{Said, Refuses}
 use Rattle.judging.specs.Judge.{costLines, unkeptLines, judgeRoom}
 
@@ -24,6 +24,7 @@ module _ {job plan : List ℕ} where
   abbrev pub Keeps : Reading job plan → Type 0
   Keeps r = KeepsLives (r .given .job) (r .stated .plan)
 
+  -- what the plan costs
   abbrev pub trueCost : Reading job plan → ℕ
   trueCost r = costOf (r .given .job) (r .stated .plan)
 
@@ -35,6 +36,7 @@ module _ {job plan : List ℕ} where
 abbrev pub Overdue : Job → Plan → ℕ → ℕ → Type 0
 Overdue job plan part due = (late : LowestUnkept job plan part due) × DueIs job plan part due late
 
+-- what is promised of the answer s to the two texts, where the output has `room` bytes
 pub record JudgePromise (job plan : List ℕ) (room : ℕ) (s : Said) : Type 0 where
   -- R8. "8: the output is shorter than 16,384 bytes."
   pub says-8 : (s .result ≡ 8) ↔ (room < judgeRoom)

@@ -16,7 +16,7 @@ ghost use Rattle.lines.specs.Wrote.{Wrote};
 ghost use Rattle.model.specs.Verdict.{numberOf};
 ghost use Rattle.jobs.specs.Views.{jobOf};
 ghost use Rattle.jobs.specs.Valid.{Sound};
-ghost use Rattle.plan_text.specs.Grammar.{readPlan};
+ghost use Rattle.plan_grammar.specs.Grammar.{readPlan};
 ghost use Rattle.verdict.specs.Views.{modelJudgement};
 ghost use Rattle.verdict.specs.Ranges.{Limited};
 ghost use Rattle.answers.specs.Said.{lent, Replied};

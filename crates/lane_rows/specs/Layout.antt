@@ -4,6 +4,7 @@ use mathlib.Core.List.{List}
 use lib.ListN.{getD}
 use Rattle.model.specs.Limits.{dearest, mostOpenings, mostParts}
 
+-- a lane for each of the most parts that a job may have
 abbrev pub laneCount : ℕ
 laneCount = mostParts
 
@@ -50,12 +51,15 @@ levelRows k = k * (k + 1) / 2
 abbrev pub blockRows : ℕ
 blockRows = levelRows markCount
 
+-- how many numbers a block has
 abbrev pub blockSize : ℕ
 blockSize = blockRows * laneCount
 
+-- the block of suffix prices: a lane's least price from an opening on, after a mark
 abbrev pub suffixBase : ℕ
 suffixBase = 0
 
+-- the block of reach: 0 where an opening is in reach of a mark, else the number for Missing
 abbrev pub reachBase : ℕ
 reachBase = suffixBase + blockSize
 
@@ -67,6 +71,7 @@ place base j i q = base + (triangle j + i) * laneCount + q
 abbrev pub priceRow : ℕ
 priceRow = blockRows + blockRows
 
+-- the place where that row begins
 abbrev pub priceBase : ℕ
 priceBase = reachBase + blockSize
 
@@ -78,12 +83,15 @@ pricePlace j q = priceBase + j * laneCount + q
 abbrev pub laneRows : ℕ
 laneRows = priceRow + mostOpenings
 
+-- the place where that row begins: the fees, one for each opening
 abbrev pub feeBase : ℕ
 feeBase = priceBase + mostOpenings * laneCount
 
+-- opening j's fee
 abbrev pub feePlace : ℕ → ℕ
 feePlace j = feeBase + j
 
+-- how many openings the job has
 abbrev pub countPlace : ℕ
 countPlace = feeBase + mostOpenings
 
@@ -91,6 +99,7 @@ countPlace = feeBase + mostOpenings
 abbrev pub foursPlace : ℕ
 foursPlace = countPlace + 1
 
+-- how many lanes the tables t have
 abbrev pub lanesIn : List ℕ → ℕ
 lanesIn t = getD t foursPlace 0 * 4
 
@@ -98,17 +107,21 @@ lanesIn t = getD t foursPlace 0 * 4
 abbrev pub termBase : ℕ
 termBase = foursPlace + 1
 
+-- the term where j openings are decided and the last yes is number i, or none (0)
 abbrev pub termPlace : ℕ → ℕ → ℕ
 termPlace j i = termBase + (triangle j + i)
 
+-- how many numbers the tables have
 abbrev pub tablesSize : ℕ
 tablesSize = termBase + blockRows
 
 -- ---- the stack: 65 rows, the mark of each, which rows of the memo are known, and the memo
 
+-- the marks stand behind the rows
 abbrev pub markBase : ℕ
 markBase = markCount * laneCount
 
+-- the mark of row k
 abbrev pub markPlace : ℕ → ℕ
 markPlace k = markBase + k
 
@@ -116,6 +129,7 @@ markPlace k = markBase + k
 abbrev pub knownBase : ℕ
 knownBase = markBase + markCount
 
+-- where that stands
 abbrev pub knownPlace : ℕ → ℕ → ℕ
 knownPlace k l = knownBase + k * markCount + l
 
@@ -123,8 +137,10 @@ knownPlace k l = knownBase + k * markCount + l
 abbrev pub memoBase : ℕ
 memoBase = knownBase + (markCount + 1) * markCount
 
+-- lane q of the memo's row for level l and the first k rows
 abbrev pub memoPlace : ℕ → ℕ → ℕ → ℕ
 memoPlace l k q = place memoBase (l + 1) k q
 
+-- how many numbers the stack has, with a row's room behind the memo
 abbrev pub stackSize : ℕ
 stackSize = memoBase + levelRows (markCount + 1) * laneCount + laneCount

@@ -36,6 +36,7 @@ partSums sheet p = total (columnBound sheet) (sheet .columns) p
 unfoldable pub columnFee : Sheet → Column → List Bool → Bound
 columnFee sheet col p = leastOf (col .life) (sheet .end) (col .first) (offers (sheet .positions) (undecidedFees (sheet .fees) p) p)
 
+-- the columns that are a part's; those that fill up a four have no term
 abbrev pub partColumns : Sheet → List Column
 partColumns sheet = take (sheet .parts) (sheet .columns)
 
@@ -43,11 +44,13 @@ partColumns sheet = take (sheet .parts) (sheet .columns)
 abbrev pub feeTerm : Sheet → List Bool → Bound
 feeTerm sheet p = largest (columnFee sheet) (partColumns sheet) p
 
+-- W2, E4.2. the bound of the node p: the fees of its yes openings, the parts' prices and the term
 unfoldable pub sheetBound : Sheet → List Bool → Bound
 sheetBound sheet p = add (add (Sum (sumAt (sheet .fees) p)) (partSums sheet p)) (feeTerm sheet p)
 
 -- ---- the front: where the last change so far may be, and the least price up to it
 
+-- a position at which the last change so far may be, and the least price of changes up to it
 pub record Mark : Type 0 where
   pub at : ℤ
   pub cost : Bound
@@ -61,6 +64,7 @@ reach life (f ∷ fr) s = lower (reach life fr s) (cond (within life (f .at) s) 
 abbrev pub joined : ℤ → List Mark → Offer → List Mark
 joined life fr o = cond (o .allowed) (record { at = o .position; cost = plus (o .price) (reach life fr (o .position)) } ∷ fr) fr
 
+-- the front behind these decided openings, from the one before them
 unfoldable pub frontFrom : ℤ → List Mark → List Offer → List Mark
 frontFrom life fr [] = fr
 frontFrom life fr (o ∷ os) = frontFrom life (joined life fr o) os

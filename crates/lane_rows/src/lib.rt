@@ -10,7 +10,6 @@ ghost use Rattle.lane_rows.specs.Rows.{lane, sumLanes, Turned, MinAsks, 
 ghost use Rattle.model.specs.Limits.{mostOpenings};
 use branch::Bound;
 use least::MARKS;
-use least::TABLE;
 
 // A row has room for a lane for each part.
 pub const LANES: usize = 16;
@@ -291,7 +290,7 @@ fn known_rows(w: &[u32], rows: usize, j: usize) -> usize
 }
 
 // The memo learns what it lacks at level j, one row after the other; the top row's sum is handed over.
-pub fn look(t: &[u32; TABLES], w: &mut [u32; STACK], rows: usize, j: usize) -> u64
+fn look(t: &[u32; TABLES], w: &mut [u32; STACK], rows: usize, j: usize) -> u64
     requires { ⌜ Looks (now t) (now w) rows j ⌝ }
     ensures { λ r. ⌜ Looked (now (t .entry)) (now (w .entry)) (now (w .exit)) rows j r ⌝ }
 {

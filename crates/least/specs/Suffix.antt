@@ -17,6 +17,7 @@ use Rattle.model.specs.Limits.{mostOpenings}
 abbrev pub marks : ℕ
 marks = 65
 
+-- 65 rows of 65 marks
 abbrev pub tableSize : ℕ
 tableSize = 4225
 
@@ -45,10 +46,12 @@ cell j i = j * marks + i
 abbrev pub missing : ℕ
 missing = 2 ^ 62
 
+-- the number for a bound
 abbrev pub codeOf : Bound → ℕ
 codeOf Missing = missing
 codeOf (Sum n) = n
 
+-- the bound that a number stands for
 abbrev pub ofCode : ℕ → Bound
 ofCode n = cond (ltb n missing) (Sum n) Missing
 

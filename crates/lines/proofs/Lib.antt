@@ -2,7 +2,6 @@
 pub mod Reading
 pub mod Parsing
 pub mod Outcomes
-pub mod Breaks
 pub mod Written
 pub mod Back
 pub mod Sound
@@ -12,5 +11,4 @@ pub mod Numbered
 pub mod Writing
 pub mod Texts
 pub mod Chosen
-pub mod Powers
 pub mod Arrays

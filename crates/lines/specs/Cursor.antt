@@ -52,11 +52,12 @@ pub record Reads {A : Type 0} (s : List ℕ) (r : ReadAt A) (x : Parsed A) : Typ
   pub is : parsed s r ≡ x
   pub stands : Stood s r
 
--- the code's answers
+-- the answer of a reader of one line
 abbrev pub rowAnswer : Row → ReadAt ℕ
 rowAnswer (Value v p) = got v p
 rowAnswer (Fault n l) = no-good n l
 
+-- the answer of a reader that ends at a cursor with the value a, or at a fault
 unfoldable pub ended : {A : Type 0} → End → A → ReadAt A
 ended (end.At p) a = got a p
 ended (end.Fault n l) a = no-good n l
@@ -66,6 +67,7 @@ unfoldable pub closed : List ℕ → End → WholeText
 closed s (end.At p) = elim (ltb (p .at) (length s)) [ true ↦ verdict.Fault 2 (p .line) | false ↦ verdict.Good ]
 closed s (end.Fault n l) = verdict.Fault n l
 
+-- the outcome of a text with that verdict, where its lines say a
 abbrev pub judged : {A : Type 0} → WholeText → A → Outcome A
 judged verdict.Good a = accepted a
 judged (verdict.Fault n l) a = refused n l

@@ -7,6 +7,7 @@ use lib.Dec.{leb, eqb}
 use Rattle.lines.specs.declared.read.Line.{Line}
 use Rattle.lines.specs.declared.read.Line.the-variants.{Value, Bad}
 
+-- the bytes of `0` to `9`
 abbrev pub isDigit : ℕ → Bool
 isDigit b = leb 48 b && leb b 57
 
@@ -24,6 +25,7 @@ numberFrom v (d ∷ ds) = numberFrom (v * 10 + (d - 48)) ds
 abbrev pub plain : List ℕ → Bool
 plain ds = leb 1 (length ds) && leb (length ds) 10 && (eqb (length ds) 1 || not (eqb (getD ds 0 0) 48))
 
+-- the text begins with the key
 unfoldable pub startsWith : List ℕ → List ℕ → Bool
 startsWith [] s = true
 startsWith (k ∷ ks) [] = false
@@ -35,6 +37,7 @@ readValue s =
     let ds = digits s in
     elim (plain ds && eqb (getD s (length ds) 0) 10) [ true ↦ Value (numberFrom 0 ds) (length ds + 1) | false ↦ Bad ]
 
+-- what was read behind k bytes: the line has those too
 abbrev pub after : ℕ → Line → Line
 after k (Value v n) = Value v (k + n)
 after k Bad = Bad

@@ -15,10 +15,12 @@ use Rattle.lines.specs.declared.read.OptionalField.the-variants.{Missing
 use Rattle.lines.specs.Line.{startsWith, readLine}
 use Rattle.lines.specs.Text.{bytes, Optional, missing, present}
 
+-- `good`: a value, the bytes left and the next line's number; `fault`: a result number and the line at fault
 pub data Parsed (A : Type 0) : Type 0 where
   good : A → List ℕ → ℕ → Parsed A
   fault : ℕ → ℕ → Parsed A
 
+-- a reader of a value of type A, from the bytes left and the next line's number
 abbrev pub Parser : Type 0 → Type 0
 Parser A = List ℕ → ℕ → Parsed A
 
@@ -27,6 +29,7 @@ infixl 10 _>>=_
 unfoldable pub _>>=_ : {A B : Type 0} → Parser A → (A → Parser B) → Parser B
 _>>=_ p f s l = elim (p s l) [ good a s′ l′ ↦ f a s′ l′ | fault n m ↦ fault n m ]
 
+-- a value, and nothing read
 unfoldable pub return : {A : Type 0} → A → Parser A
 return a s l = good a s l
 
@@ -35,6 +38,7 @@ unfoldable pub inRange : ℕ → ℕ → Line → Field
 inRange lo hi (line.Value v n) = elim (leb lo v && leb v hi) [ true ↦ Value v n | false ↦ Fault 3 ]
 inRange lo hi line.Bad = Fault 2
 
+-- R2, R3. the line `key=value` at the front of the text: its value from lo to hi, or 2 or 3
 unfoldable pub readField : List ℕ → ℕ → ℕ → List ℕ → Field
 readField key lo hi s = inRange lo hi (readLine key s)
 
@@ -47,6 +51,7 @@ taken s l (Fault k) = fault k l
 unfoldable pub rowAt : List ℕ → ℕ → ℕ → Parser ℕ
 rowAt key lo hi s l = taken s l (readField key lo hi s)
 
+-- the same, with the key as it is written
 abbrev pub row : String → ℕ → ℕ → Parser ℕ
 row key lo hi = rowAt (bytes key) lo hi
 
@@ -58,6 +63,7 @@ optionalField key lo hi s = elim (startsWith key s) [ true ↦ There (readField 
 unfoldable pub optionalAt : List ℕ → ℕ → ℕ → Parser (Optional ℕ)
 optionalAt key lo hi s l = elim (startsWith key s) [ true ↦ (rowAt key lo hi >>= λ v. return (present v)) s l | false ↦ good missing s l ]
 
+-- the same, with the key as it is written
 abbrev pub optional : String → ℕ → ℕ → Parser (Optional ℕ)
 optional key lo hi = optionalAt (bytes key) lo hi
 
@@ -80,6 +86,7 @@ chain p next (suc n) prev = do
   rest ← chain p next n (next prev a)
   return (a ∷ rest)
 
+-- n times p, the same each time
 unfoldable pub times : {A : Type 0} → ℕ → Parser A → Parser (List A)
 times n p = chain (λ _. p) (λ _ _. 0) n 0
 
@@ -93,6 +100,7 @@ pub data Outcome (A : Type 0) : Type 0 where
   accepted : A → Outcome A
   refused : ℕ → ℕ → Outcome A
 
+-- what a parser of a whole text gives; where it ended is not kept
 abbrev pub finish : {A : Type 0} → Parsed A → Outcome A
 finish (good a s l) = accepted a
 finish (fault n l) = refused n l
@@ -112,5 +120,6 @@ readText most p s = elim (leb (length s) most) [ true ↦ finish (whole p s 1) |
 abbrev pub rising : ℕ → ℕ → ℕ → Bool
 rising before most v = ltb before v && leb v most
 
+-- R5. the second rule: a `left` is at most its `life`
 abbrev pub upTo : ℕ → ℕ → Bool
 upTo most v = leb v most

@@ -8,7 +8,7 @@ use lib.ListN.{length, getD, take, drop, length-append, take-append-drop}
 use lib.Seq.{take-at, drop-at, length-take-le}
 use Rattle.branch.specs.Questions.{done, Answers, Full, times}
 use Rattle.model.specs.Model.{sumAt}
-use Rattle.model.specs.Decisions.{Held, covered, placesIn, joined}
+use Rattle.model.specs.Decisions.{Held, accessible, placesIn, joined}
 use Rattle.model.specs.LowerBound.{blocks, stopsIn, removedIn}
 use Rattle.model.proofs.Fees.{sum-rises}
 
@@ -54,33 +54,33 @@ removed-grow rs (more {r = r} u e g) =
     rw e (omega (arith, removed-grow rs g))
 
 -- and a part can be changed at no more openings
-pub covered-none : (needs : List Bool) → covered needs [] ≡ true
-unfolding covered
-covered-none [] = refl
-covered-none (false ∷ needs) = covered-none needs
-covered-none (true ∷ needs) = covered-none needs
+pub accessible-none : (needs : List Bool) → accessible needs [] ≡ true
+unfolding accessible
+accessible-none [] = refl
+accessible-none (false ∷ needs) = accessible-none needs
+accessible-none (true ∷ needs) = accessible-none needs
 
-covered-front : (needs r u : List Bool) → covered needs (r ++ u) ≡ true → covered needs r ≡ true
-unfolding covered
-covered-front [] r u e = refl
-covered-front (need ∷ needs) [] u e = covered-none (need ∷ needs)
-covered-front (need ∷ needs) (x ∷ r) u e =
-    let a = and-eq-true-iff (not need || x) (covered needs (r ++ u)) .0 e in
-    and-eq-true-iff (not need || x) (covered needs r) .1 (a .0, covered-front needs r u (a .1))
+accessible-front : (needs r u : List Bool) → accessible needs (r ++ u) ≡ true → accessible needs r ≡ true
+unfolding accessible
+accessible-front [] r u e = refl
+accessible-front (need ∷ needs) [] u e = accessible-none (need ∷ needs)
+accessible-front (need ∷ needs) (x ∷ r) u e =
+    let a = and-eq-true-iff (not need || x) (accessible needs (r ++ u)) .0 e in
+    and-eq-true-iff (not need || x) (accessible needs r) .1 (a .0, accessible-front needs r u (a .1))
 
 pub places-grow : (held : Held) {bs ds : List (List Bool)} → Grows bs ds → (i : ℕ) → getD (placesIn held ds) i true ≡ true → getD (placesIn held bs) i true ≡ true
 places-grow held none zero e = refl
 places-grow held none (suc i) e = refl
 places-grow held (more {x = x} {r = r} {d = d} u q g) zero e =
-    let a = and-eq-true-iff x (covered (held .needs) d) .0 e in
-    and-eq-true-iff x (covered (held .needs) r) .1 (a .0, covered-front (held .needs) r u (subst (λ (l : List Bool). covered (held .needs) l ≡ true) q (a .1)))
+    let a = and-eq-true-iff x (accessible (held .needs) d) .0 e in
+    and-eq-true-iff x (accessible (held .needs) r) .1 (a .0, accessible-front (held .needs) r u (subst (λ (l : List Bool). accessible (held .needs) l ≡ true) q (a .1)))
 places-grow held (more u q g) (suc i) e = places-grow held g i e
 
 -- a part can be changed only at stops, and at undecided openings
 pub places-open : (held : Held) (bs : List (List Bool)) (i : ℕ) → getD (placesIn held bs) i true ≡ true → getD (stopsIn bs) i true ≡ true
 places-open held [] zero e = refl
 places-open held [] (suc i) e = refl
-places-open held (b ∷ bs) zero e = and-eq-true-iff (getD b 0 true) (covered (held .needs) (drop 1 b)) .0 e .0
+places-open held (b ∷ bs) zero e = and-eq-true-iff (getD b 0 true) (accessible (held .needs) (drop 1 b)) .0 e .0
 places-open held (b ∷ bs) (suc i) e = places-open held bs i e
 
 -- ---- full nodes

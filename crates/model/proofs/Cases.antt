@@ -8,7 +8,7 @@ use Rattle.branch.specs.Search.{limited}
 use Rattle.branch.specs.Questions.{askFrom}
 use Rattle.branch.specs.Open.{openNodes}
 use Rattle.model.specs.Model.{Job, Plan, idle, running, clock, within, kept, lastWithin, dueOf, listed, table, holdsOne, rounds, comesOut, holding, outBy, select, sumAt, sum, costOf, KeepsLives, HasPlan}
-use Rattle.model.specs.Decisions.{heldFrom, covered}
+use Rattle.model.specs.Decisions.{heldFrom, accessible}
 use Rattle.model.specs.LowerBound.{leastOf, choiceOf, offers, blocks, stopCost, undecidedFees, boundOf}
 use Rattle.model.specs.Promise.{no-plan, cut-none, cut, optimum, answerOf, Promise}
 use Rattle.model.specs.Count.{longest, eachReaches, eachKept, countFrom, openCount}
@@ -40,31 +40,31 @@ twice = record {
 }
 
 walk-11 : answerOf (jobWith 10 2) 11 ≡ optimum 11 37 37 printed
-unfolding answerOf limited askFrom boundOf stopCost undecidedFees blocks heldFrom covered holding comesOut rounds holdsOne listed table select sumAt offers leastOf choiceOf within clock running idle
+unfolding answerOf limited askFrom boundOf stopCost undecidedFees blocks heldFrom accessible holding comesOut rounds holdsOne listed table select sumAt offers leastOf choiceOf within clock running idle
 walk-11 = refl
 
 walk-10 : answerOf (jobWith 10 2) 10 ≡ cut 10 37 37 printed
-unfolding answerOf limited askFrom boundOf stopCost undecidedFees blocks heldFrom covered holding comesOut rounds holdsOne listed table select sumAt offers leastOf choiceOf within clock running idle
+unfolding answerOf limited askFrom boundOf stopCost undecidedFees blocks heldFrom accessible holding comesOut rounds holdsOne listed table select sumAt offers leastOf choiceOf within clock running idle
 walk-10 = refl
 
 walk-8 : answerOf (jobWith 10 2) 8 ≡ cut 8 37 44 twice
-unfolding answerOf limited askFrom boundOf stopCost undecidedFees blocks heldFrom covered holding comesOut rounds holdsOne listed table select sumAt offers leastOf choiceOf within clock running idle
+unfolding answerOf limited askFrom boundOf stopCost undecidedFees blocks heldFrom accessible holding comesOut rounds holdsOne listed table select sumAt offers leastOf choiceOf within clock running idle
 walk-8 = refl
 
 walk-6 : answerOf (jobWith 10 2) 6 ≡ cut-none 6 37
-unfolding answerOf limited askFrom boundOf stopCost undecidedFees blocks heldFrom covered holding comesOut rounds holdsOne listed table select sumAt offers leastOf choiceOf within clock running idle
+unfolding answerOf limited askFrom boundOf stopCost undecidedFees blocks heldFrom accessible holding comesOut rounds holdsOne listed table select sumAt offers leastOf choiceOf within clock running idle
 walk-6 = refl
 
 walk-0 : answerOf (jobWith 10 2) 0 ≡ cut-none 0 37
-unfolding answerOf limited askFrom boundOf stopCost undecidedFees blocks heldFrom covered holding comesOut rounds holdsOne listed table select sumAt offers leastOf choiceOf within clock running idle
+unfolding answerOf limited askFrom boundOf stopCost undecidedFees blocks heldFrom accessible holding comesOut rounds holdsOne listed table select sumAt offers leastOf choiceOf within clock running idle
 walk-0 = refl
 
 left-1 : answerOf (jobWith 10 1) 11 ≡ no-plan
-unfolding answerOf limited askFrom boundOf stopCost undecidedFees blocks heldFrom covered holding comesOut rounds holdsOne listed table select sumAt offers leastOf choiceOf within clock running idle
+unfolding answerOf limited askFrom boundOf stopCost undecidedFees blocks heldFrom accessible holding comesOut rounds holdsOne listed table select sumAt offers leastOf choiceOf within clock running idle
 left-1 = refl
 
 fees-0 : answerOf (jobWith 0 2) 11 ≡ optimum 11 17 17 printed
-unfolding answerOf limited askFrom boundOf stopCost undecidedFees blocks heldFrom covered holding comesOut rounds holdsOne listed table select sumAt offers leastOf choiceOf within clock running idle
+unfolding answerOf limited askFrom boundOf stopCost undecidedFees blocks heldFrom accessible holding comesOut rounds holdsOne listed table select sumAt offers leastOf choiceOf within clock running idle
 fees-0 = refl
 
 -- one part, T = 6, no openings
@@ -72,11 +72,11 @@ abbrev bare : ℕ → Job
 bare life = record { horizon = 6; idles = []; openings = []; parts = record { life = life; left = life; removal = 0; holders = []; prices = [] } ∷ [] }
 
 bare-7 : answerOf (bare 7) 11 ≡ optimum 1 0 0 (record { stops = []; changes = [] ∷ [] })
-unfolding answerOf limited askFrom boundOf stopCost undecidedFees blocks heldFrom covered holding comesOut rounds holdsOne listed table select sumAt offers leastOf choiceOf within clock running idle
+unfolding answerOf limited askFrom boundOf stopCost undecidedFees blocks heldFrom accessible holding comesOut rounds holdsOne listed table select sumAt offers leastOf choiceOf within clock running idle
 bare-7 = refl
 
 bare-6 : answerOf (bare 6) 11 ≡ no-plan
-unfolding answerOf limited askFrom boundOf stopCost undecidedFees blocks heldFrom covered holding comesOut rounds holdsOne listed table select sumAt offers leastOf choiceOf within clock running idle
+unfolding answerOf limited askFrom boundOf stopCost undecidedFees blocks heldFrom accessible holding comesOut rounds holdsOne listed table select sumAt offers leastOf choiceOf within clock running idle
 bare-6 = refl
 
 -- the printed plan's true cost
@@ -106,7 +106,7 @@ has-not = subst (Promise (jobWith 10 1) 11) left-1 (promise (jobWith 10 1) 11) .
 
 -- E6.4. "For 01's job it is 17.", by walking and without
 longest-17 : longest (jobWith 10 2) ≡ 17
-unfolding openNodes askFrom boundOf stopCost undecidedFees blocks heldFrom covered holding comesOut rounds holdsOne listed table select sumAt offers leastOf within clock running idle
+unfolding openNodes askFrom boundOf stopCost undecidedFees blocks heldFrom accessible holding comesOut rounds holdsOne listed table select sumAt offers leastOf within clock running idle
 longest-17 = refl
 
 count-17 : openCount (jobWith 10 2) ≡ 17
@@ -147,7 +147,7 @@ rested = record {
 }
 
 idle-3 : answerOf idleJob 100 ≡ optimum 9 37 37 rested
-unfolding answerOf limited askFrom boundOf stopCost undecidedFees blocks heldFrom covered holding comesOut rounds holdsOne listed table select sumAt offers leastOf choiceOf within clock running idle
+unfolding answerOf limited askFrom boundOf stopCost undecidedFees blocks heldFrom accessible holding comesOut rounds holdsOne listed table select sumAt offers leastOf choiceOf within clock running idle
 idle-3 = refl
 
 -- ---- the judge

@@ -8,7 +8,7 @@ use Rattle.branch.specs.Search.{limited}
 use Rattle.branch.specs.Questions.{askFrom}
 use Rattle.branch.specs.Open.{openNodes}
 use Rattle.model.specs.Model.{Job, Plan, idle, running, clock, within, kept, lastWithin, dueOf, listed, table, holdsOne, rounds, comesOut, holding, outBy, select, sumAt, sum, costOf, KeepsLives}
-use Rattle.model.specs.Decisions.{heldFrom, covered, joined, decisionsOf}
+use Rattle.model.specs.Decisions.{heldFrom, accessible, joined, decisionsOf}
 use Rattle.model.specs.LowerBound.{leastOf, choiceOf, offers, blocks, stopCost, undecidedFees, boundOf}
 use Rattle.model.specs.Promise.{cut-none, cut, optimum, answerOf, Promise}
 use Rattle.model.specs.Count.{longest, eachReaches, eachKept, countFrom, openCount}
@@ -42,24 +42,24 @@ twice = record {
 }
 
 walk-17 : answerOf (hidden []) 17 ≡ optimum 17 39 45 printed
-unfolding answerOf limited askFrom boundOf stopCost undecidedFees blocks heldFrom covered holding comesOut rounds holdsOne listed table select sumAt offers leastOf choiceOf within clock running idle
+unfolding answerOf limited askFrom boundOf stopCost undecidedFees blocks heldFrom accessible holding comesOut rounds holdsOne listed table select sumAt offers leastOf choiceOf within clock running idle
 walk-17 = refl
 
 walk-15 : answerOf (hidden []) 15 ≡ cut 15 39 45 printed
-unfolding answerOf limited askFrom boundOf stopCost undecidedFees blocks heldFrom covered holding comesOut rounds holdsOne listed table select sumAt offers leastOf choiceOf within clock running idle
+unfolding answerOf limited askFrom boundOf stopCost undecidedFees blocks heldFrom accessible holding comesOut rounds holdsOne listed table select sumAt offers leastOf choiceOf within clock running idle
 walk-15 = refl
 
 walk-11 : answerOf (hidden []) 11 ≡ cut 11 39 52 twice
-unfolding answerOf limited askFrom boundOf stopCost undecidedFees blocks heldFrom covered holding comesOut rounds holdsOne listed table select sumAt offers leastOf choiceOf within clock running idle
+unfolding answerOf limited askFrom boundOf stopCost undecidedFees blocks heldFrom accessible holding comesOut rounds holdsOne listed table select sumAt offers leastOf choiceOf within clock running idle
 walk-11 = refl
 
 walk-10 : answerOf (hidden []) 10 ≡ cut-none 10 39
-unfolding answerOf limited askFrom boundOf stopCost undecidedFees blocks heldFrom covered holding comesOut rounds holdsOne listed table select sumAt offers leastOf choiceOf within clock running idle
+unfolding answerOf limited askFrom boundOf stopCost undecidedFees blocks heldFrom accessible holding comesOut rounds holdsOne listed table select sumAt offers leastOf choiceOf within clock running idle
 walk-10 = refl
 
 -- in a circle the two come out together, and both removals are decided
 circle : answerOf (hidden (1 ∷ [])) 100 ≡ optimum 23 37 45 printed
-unfolding answerOf limited askFrom boundOf stopCost undecidedFees blocks heldFrom covered holding comesOut rounds holdsOne listed table select sumAt offers leastOf choiceOf within clock running idle
+unfolding answerOf limited askFrom boundOf stopCost undecidedFees blocks heldFrom accessible holding comesOut rounds holdsOne listed table select sumAt offers leastOf choiceOf within clock running idle
 circle = refl
 
 -- the decisions of the printed plan: yes and removed, no, yes and removed, no
@@ -82,5 +82,5 @@ judge-37 = refl
 
 -- E6 refuses this job: "E6's count refuses jobs with a holder". A walk that drops a node only without a bound has 57 nodes, and by stops alone they would be 17
 refused : (longest (hidden []) ≡ 57) × (openCount (hidden []) ≡ 17)
-unfolding openCount eachKept kept countFrom eachReaches openNodes askFrom boundOf stopCost undecidedFees blocks heldFrom covered holding comesOut rounds holdsOne listed table select sumAt offers leastOf within clock running idle
+unfolding openCount eachKept kept countFrom eachReaches openNodes askFrom boundOf stopCost undecidedFees blocks heldFrom accessible holding comesOut rounds holdsOne listed table select sumAt offers leastOf within clock running idle
 refused = (refl, refl)

@@ -17,7 +17,6 @@ use Rattle.model.specs.Model.{Opening, Job, running, clock, positions, e
 use Rattle.model.specs.Windows.{Rising, stepsOf}
 use Rattle.model.specs.LowerBound.{Offer, plus, lowerThan, lower, changeAt, leastOf, offers, undecidedFees}
 use Rattle.model.specs.LastYes.{afterOne, lastYes, markIn, Climbs}
-use Rattle.model.proofs.Bools.{after-one}
 use Rattle.model.proofs.Integers.{AtMostℤ, at-most, at-most-test, difference}
 use Rattle.model.proofs.Positions.{never-falls, within-earlier, within-later}
 

@@ -11,7 +11,7 @@ use Rattle.branch.specs.Label.{treeOf}
 use Rattle.branch.specs.Questions.{done, times, asked}
 use Rattle.branch.proofs.Asked.{asked-fixed}
 use Rattle.model.specs.Model.{Part, Job, comesOut, listed, holdsOne, holding, isHeld, anyHeld, NoHolders, select}
-use Rattle.model.specs.Decisions.{ofHolders, heldAt, covered, allows}
+use Rattle.model.specs.Decisions.{ofHolders, heldAt, accessible, allows}
 use Rattle.model.specs.LowerBound.{blocks, inner, nodeAt, stopsIn, stopsAt, removedIn, placesAt, boundOf}
 use Rattle.model.specs.Promise.{searched}
 use Rattle.model.specs.Verdict.{noPart}
@@ -38,7 +38,7 @@ stops-plain (suc n) (false ∷ p) = ap (λ (l : List Bool). false ∷ l) (stops-
 stops-plain (suc n) (true ∷ p) = ap (λ (l : List Bool). true ∷ l) (stops-plain n p)
 
 pub places-plain : (bs : List (List Bool)) → map (allows []) bs ≡ stopsIn bs
-unfolding covered
+unfolding accessible
 places-plain [] = refl
 places-plain (b ∷ bs) = let e = go (getD b 0 true) in let r = places-plain bs in λ i. e i ∷ r i
   where

@@ -14,7 +14,7 @@ use Rattle.branch.specs.Lower.{total}
 use Rattle.branch.proofs.Lower.{Split, split}
 use Rattle.branch.proofs.Bounds.{sum-inj}
 use Rattle.model.specs.Model.{Part, Job, Plan, table, comesOut, holding, outAt, sumAt, feeOf, removalOf, pricesOf, costOf, Each, KeepsPart, KeepsLives, Chosen}
-use Rattle.model.specs.Decisions.{ofHolders, Held, heldAt, heldFrom, heldParts, covered, allows, placesIn, blockOf, planBlocks, decisionsOf}
+use Rattle.model.specs.Decisions.{ofHolders, Held, heldAt, heldFrom, heldParts, accessible, allows, placesIn, blockOf, planBlocks, decisionsOf}
 use Rattle.model.specs.LowerBound.{inner, nodeAt, stopsAt, placesAt, partBound, partChoice, paidAt, stopCost, planAt}
 use Rattle.model.specs.Promise.{searched}
 use Rattle.model.proofs.Bools.{after-one, inside, yes-open, open-yes}
@@ -44,14 +44,14 @@ whole-at h (suc n) [] w k l = absurd w
 whole-at h (suc n) (b ∷ bs) w zero l = w .0
 whole-at h (suc n) (b ∷ bs) w (suc k) l = whole-at h n bs (w .1) k (omega arith)
 
-covered-out : (needs rs : List Bool) → covered needs rs ≡ true → (j : ℕ) → getD needs j false ≡ true → getD rs j true ≡ true
-unfolding covered
-covered-out [] rs e zero t = absurd (false≢true t)
-covered-out [] rs e (suc j) t = absurd (false≢true t)
-covered-out (need ∷ needs) rs e zero t =
-    subst (λ (b : Bool). (not b || getD rs 0 true) ≡ true) t (and-eq-true-iff (not need || getD rs 0 true) (covered needs (drop 1 rs)) .0 e .0)
-covered-out (need ∷ needs) rs e (suc j) t =
-    sym (after-one rs j true) ∙ covered-out needs (drop 1 rs) (and-eq-true-iff (not need || getD rs 0 true) (covered needs (drop 1 rs)) .0 e .1) j t
+accessible-out : (needs rs : List Bool) → accessible needs rs ≡ true → (j : ℕ) → getD needs j false ≡ true → getD rs j true ≡ true
+unfolding accessible
+accessible-out [] rs e zero t = absurd (false≢true t)
+accessible-out [] rs e (suc j) t = absurd (false≢true t)
+accessible-out (need ∷ needs) rs e zero t =
+    subst (λ (b : Bool). (not b || getD rs 0 true) ≡ true) t (and-eq-true-iff (not need || getD rs 0 true) (accessible needs (drop 1 rs)) .0 e .0)
+accessible-out (need ∷ needs) rs e (suc j) t =
+    sym (after-one rs j true) ∙ accessible-out needs (drop 1 rs) (and-eq-true-iff (not need || getD rs 0 true) (accessible needs (drop 1 rs)) .0 e .1) j t
 
 module _ (job : Job) where
   abbrev size : ℕ
@@ -154,7 +154,7 @@ module _ (job : Job) where
           let at : allows needs (true ∷ r) ≡ true =
           ap (allows needs) (sym e) ∙ sym (map-at (allows needs) (nodeAt job s) k [] false (omega (arith, node-length job s full))) ∙ held .keeps .at-stops k (b .2) in
           open-yes r j (omega (arith, inside (ofHolders job (outAt job (own .changes) k)) j t, select-length (outAt job (own .changes) k) (job .parts) (holding job) (outs-length job (own .changes) k), w))
-          (covered-out needs r at j need)
+          (accessible-out needs r at j need)
 
       block-under : (k : ℕ) → k < steps → Under (blockOf job own k) (getD (nodeAt job s) k [])
       block-under k l = go (getD (nodeAt job s) k []) refl (whole-at (inner job) steps (nodeAt job s) (node-wholes job s full) k l)

@@ -26,7 +26,7 @@ use Rattle.model.specs.Unheld.{chargedPart, chargedJob, plainPartBound, 
 use Rattle.model.proofs.Bools.{after-one}
 use Rattle.model.proofs.Positions.{positions-size}
 use Rattle.model.proofs.Offers.{sum-none}
-use Rattle.model.proofs.Lists.{table-at, table-list, table-same}
+use Rattle.model.proofs.Lists.{table-list, table-same}
 use Rattle.model.proofs.Sums.{sum-same, sum-none as sum-zeros}
 use Rattle.model.proofs.Totals.{sum-at}
 use Rattle.model.proofs.Charges.{partsOf, held-out, prices-removals}

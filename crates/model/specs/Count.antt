@@ -33,6 +33,7 @@ unfoldable pub eachReaches : Job → ℕ → ℕ → List Part → Bool
 eachReaches job m k [] = true
 eachReaches job m k (part ∷ parts) = inTime (pos (part .life)) (end job) (lastChange part) (positions job) m k && eachReaches job m k parts
 
+-- the same of all the job's parts: does a no after which k openings are decided have a bound
 abbrev pub reaches : Job → ℕ → ℕ → Bool
 reaches job m k = eachReaches job m k (job .parts)
 
@@ -62,9 +63,11 @@ abbrev pub leastAmong : (Part → ℕ) → ℕ → List Part → ℕ
 leastAmong f a [] = a
 leastAmong f a (part ∷ parts) = leastAmong f (min a (f part)) parts
 
+-- the least life of the job's parts
 abbrev pub leastLife : Job → ℕ
 leastLife job = leastAmong (λ (part : Part). part .life) longestLife (job .parts)
 
+-- the least first life of the job's parts
 abbrev pub leastLeft : Job → ℕ
 leastLeft job = leastAmong (λ (part : Part). part .left) longestLife (job .parts)
 

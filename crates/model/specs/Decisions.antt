@@ -21,6 +21,7 @@ pub record Held : Type 0 where
 abbrev pub charge : Job → ℕ → Part → ℕ
 charge job i part = cond (getD (holding job) i false) 0 (part .removal)
 
+-- the part at place i with that on each of its prices
 abbrev pub charged : Job → ℕ → Part → Part
 charged job i part = record {
   life = part .life;
@@ -30,6 +31,7 @@ charged job i part = record {
   prices = table (λ k. getD (part .prices) k 0 + charge job i part) (length (job .openings));
 }
 
+-- E7.4. the part at place i as it is planned for: it needs the holding parts that come out with it
 abbrev pub heldAt : Job → ℕ → Part → Held
 heldAt job i part = record { part = charged job i part; needs = ofHolders job (comesOut job i) }
 
@@ -38,19 +40,20 @@ unfoldable pub heldFrom : Job → ℕ → List Part → List Held
 heldFrom job i [] = []
 heldFrom job i (part ∷ parts) = heldAt job i part ∷ heldFrom job (suc i) parts
 
+-- all parts of the job as they are planned for
 abbrev pub heldParts : Job → List Held
 heldParts job = heldFrom job 0 (job .parts)
 
 -- ---- the decisions at one opening, its block: no; or yes, and then a removal for each part that is somebody's holder, as far as decided
 
 -- every part that is needed is "removed or undecided"
-unfoldable pub covered : List Bool → List Bool → Bool
-covered [] removed = true
-covered (need ∷ needs) removed = (not need || getD removed 0 true) && covered needs (drop 1 removed)
+unfoldable pub accessible : List Bool → List Bool → Bool
+accessible [] removed = true
+accessible (need ∷ needs) removed = (not need || getD removed 0 true) && accessible needs (drop 1 removed)
 
 -- E7.6. "a part can be changed only where it and its holders are removed or undecided"
 abbrev pub allows : List Bool → List Bool → Bool
-allows needs block = getD block 0 true && covered needs (drop 1 block)
+allows needs block = getD block 0 true && accessible needs (drop 1 block)
 
 -- the openings at which blocks let a part be changed
 abbrev pub placesIn : Held → List (List Bool) → List Bool
@@ -60,6 +63,7 @@ placesIn held bs = map (allows (held .needs)) bs
 abbrev pub blockOf : Job → Plan → ℕ → List Bool
 blockOf job plan k = cond (getD (plan .stops) k false) (true ∷ ofHolders job (outAt job (plan .changes) k)) (false ∷ [])
 
+-- what the plan decides, opening by opening
 abbrev pub planBlocks : Job → Plan → List (List Bool)
 planBlocks job plan = table (blockOf job plan) (length (job .openings))
 

@@ -14,6 +14,7 @@ latePart {job} r = partAt job (r .place)
 abbrev pub changeBefore : {job : Job} {plan : Plan} {part due : ℕ} → LowestUnkept job plan part due → ℤ
 changeBefore r = lastOf (lastChange (latePart r)) (r .gap .before)
 
+-- R10, E1.7. what the due step that the judge reports is
 pub record DueIs (job : Job) (plan : Plan) (part due : ℕ) (r : LowestUnkept job plan part due) : Type 0 where
   -- without idle steps, the change before plus the life
   pub step : job .idles ≡ [] → pos due ≡ changeBefore r +ℤ pos (latePart r .life)

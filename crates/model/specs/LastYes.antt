@@ -7,12 +7,13 @@ use lib.ListN.{getD}
 use lib.IntN.{ℤ, pos}
 use lib.Signed.{leZ}
 
--- the last yes of a node, numbered from 1; 0 if there is none
+-- one decision before others whose last yes is known
 abbrev pub afterOne : Bool → ℕ → ℕ
 afterOne x (suc i) = suc (suc i)
 afterOne true zero = 1
 afterOne false zero = 0
 
+-- the last yes of a node, numbered from 1; 0 if there is none: the first decision counts only where none after it is a yes
 unfoldable pub lastYes : List Bool → ℕ
 lastYes [] = 0
 lastYes (x ∷ p) = afterOne x (lastYes p)

@@ -13,7 +13,7 @@ lastPosition = lastStep + 1
 abbrev pub longestLife : ℕ
 longestLife = 1000
 
--- "`fee` 0..1000000", "`price` 1..1000000"
+-- "`fee` 0..1000000", "`price` 1..1000000", E7.2. "`removal` 0..1000000"
 abbrev pub dearest : ℕ
 dearest = 1000000
 
@@ -24,6 +24,10 @@ mostOpenings = 64
 -- "`parts` 1..16"
 abbrev pub mostParts : ℕ
 mostParts = 16
+
+-- E7.2. "`inside` 0..15": every other part
+abbrev pub mostInside : ℕ
+mostInside = 15
 
 -- "`walk` 0..4000000000"
 abbrev pub mostWalk : ℕ

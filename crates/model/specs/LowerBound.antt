@@ -77,6 +77,7 @@ blocks h (suc n) (true ∷ p) = (true ∷ take h p) ∷ blocks h n (drop h p)
 abbrev pub inner : Job → ℕ
 inner job = length (ofHolders job (job .parts))
 
+-- the blocks of the job's node named p
 abbrev pub nodeAt : Job → List Bool → List (List Bool)
 nodeAt job p = blocks (inner job) (length (job .openings)) p
 
@@ -84,6 +85,7 @@ nodeAt job p = blocks (inner job) (length (job .openings)) p
 abbrev pub stopsIn : List (List Bool) → List Bool
 stopsIn bs = map (λ (b : List Bool). getD b 0 true) bs
 
+-- the stops of the job's node named p
 abbrev pub stopsAt : Job → List Bool → List Bool
 stopsAt job p = stopsIn (nodeAt job p)
 
@@ -92,6 +94,7 @@ abbrev pub removedIn : List ℕ → List (List Bool) → ℕ
 removedIn rs [] = 0
 removedIn rs (b ∷ bs) = sumAt rs (drop 1 b) + removedIn rs bs
 
+-- what the job's node named p pays for its decided removals
 abbrev pub removedAt : Job → List Bool → ℕ
 removedAt job p = removedIn (ofHolders job (map removalOf (job .parts))) (nodeAt job p)
 

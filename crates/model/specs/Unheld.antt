@@ -26,6 +26,7 @@ chargedPart n part = record {
   prices = table (λ k. getD (part .prices) k 0 + part .removal) n;
 }
 
+-- the job with all its parts so charged
 abbrev pub chargedJob : Job → Job
 chargedJob job = record {
   horizon = job .horizon;

@@ -1,15 +1,2 @@
--- The laws, in the order in which they rest on each other.
-pub mod Steps
-pub mod Lists
-pub mod Jobs
-pub mod Marks
+-- What the code's plan chooses is what the model's does.
 pub mod Chosen
-pub mod Nothing
-pub mod Numbered
-pub mod Valid
-pub mod Accepted
-pub mod Shapes
-pub mod Lengths
-pub mod Back
-pub mod Rendered
-pub mod Printed

@@ -1,5 +1,2 @@
--- The plan text: its grammar (Grammar), the text of a plan (Rendering), the code's plan in these terms (Views), and how reading builds it up (Marks).
-pub mod Grammar
-pub mod Rendering
+-- The code's plan in the grammar's terms.
 pub mod Views
-pub mod Marks

@@ -6,7 +6,7 @@ use Rattle.lines.specs.Cursor.{judged}
 use Rattle.jobs.specs.declared.Job.{Job}
 use Rattle.jobs.specs.declared.Plan.{Plan}
 use Rattle.jobs.specs.Views.{changedIn, planFor}
-use Rattle.plan_text.specs.Grammar.{Stated}
+use Rattle.plan_grammar.specs.Grammar.{Stated}
 use Rattle.lines.specs.Chosen.{chosen}
 use Rattle.plan_text.specs.declared.whole.PlanRead.{PlanRead}
 

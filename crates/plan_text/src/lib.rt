@@ -1,3 +1,2 @@
-// The plan text, read against a job: its stops, and the whole text.
-pub mod stops;
+// The whole plan text, read against a job.
 pub mod whole;

@@ -1,5 +1,4 @@
 // The lines of a plan from a cursor on, and the whole plan text.
-use crate::stops::read_visits;
 use jobs::Job;
 use jobs::Plan;
 use lines::read::read_field;
@@ -9,11 +8,12 @@ use lines::rows::Row;
 use lines::rows::WholeText;
 use lines::rows::advance;
 use lines::rows::close_text;
+use plan_stops::stops::read_visits;
 ghost use mathlib.Core.Path.{_≡_};
 ghost use lib.ListN.{drop};
 ghost use Rattle.lines.specs.Cursor.{Stands, Reads, ended};
 ghost use Rattle.jobs.specs.Views.{jobOf, Sized};
-ghost use Rattle.plan_text.specs.Grammar.{planLines, readPlan};
+ghost use Rattle.plan_grammar.specs.Grammar.{planLines, readPlan};
 ghost use Rattle.plan_text.specs.Views.{statedFor, outcome};
 
 // The lines of a plan: where they end, the cost that they state, and the plan.

@@ -1,8 +1,8 @@
 // The lines of a plan, written into a lent slice.
 use jobs::Job;
 use jobs::Plan;
-use lines::marks::counted;
-use lines::write::put_line;
+use line_writing::marks::counted;
+use line_writing::write::put_line;
 ghost use mathlib.Core.Path.{_≡_};
 ghost use mathlib.Core.Bool.{cond, false};
 ghost use mathlib.Core.List.{[]};
@@ -12,7 +12,7 @@ ghost use Rattle.lines.specs.Text.{lineOf, texts};
 ghost use Rattle.lines.specs.Wrote.{Wrote};
 ghost use Rattle.jobs.specs.Views.{jobOf, Sized, changedIn, planFor};
 ghost use Rattle.plan_text.specs.Views.{numbersAt};
-ghost use Rattle.plan_text.specs.Rendering.{visitAt, visitText, visitsOf, planLinesOf};
+ghost use Rattle.plan_grammar.specs.Rendering.{visitAt, visitText, visitsOf, planLinesOf};
 ghost use Rattle.model.specs.Limits.{mostOpenings, mostParts};
 
 // Whether part k + 1 is changed at opening i.

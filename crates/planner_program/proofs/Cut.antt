@@ -4,10 +4,10 @@ use mathlib.Core.Path.{_≡_, sym, ap, _∙_}
 use mathlib.Core.List.{List}
 use mathlib.Core.Logic.{⊎-elim}
 use lib.ListN.{length, take}
-use Rattle.lines.specs.Fault.{faultSpan}
+use Rattle.fault_lines.specs.Fault.{faultSpan}
 use Rattle.lines.specs.Parser.{Outcome}
 use Rattle.lines.proofs.Parsing.{text-long}
-use Rattle.job_text.specs.Grammar.{JobText, jobLines, meaning}
+use Rattle.job_grammar.specs.Grammar.{JobText, jobLines, meaning}
 use Rattle.planning.specs.Plan.{onJob, planSaid}
 use Rattle.whole_input.specs.declared.Text.the-variants.{Job}
 use Rattle.whole_input.specs.Limits.{limitOf}

@@ -10,6 +10,7 @@ use Rattle.planning.specs.Plan.{planSaid}
 use Rattle.whole_input.specs.declared.Text.the-variants.{Job}
 use Rattle.whole_input.specs.Limits.{limitOf}
 
+-- a is the planner's answer to the input, as far as a contract can say it: over the bytes that were read
 pub record Printed (a : Answer) : Type 0 where
   -- the bytes that were read
   pub job : List ℕ

@@ -1,4 +1,5 @@
 // The planner's program: a job is read, planned, and the answer printed.
+use answer_output::print_answer;
 use answers::Answer;
 use jobs::Job;
 use whole_input::Text;
@@ -15,6 +16,6 @@ pub fn plan_input(fd: i32) -> Answer
     let mut out = [0u8; planning::ROOM];
     let a = planning::plan(&job[..n], &mut out);
     let m = a.length;
-    io::write_all(libc::STDOUT_FILENO, &out[..m]);
+    print_answer(&out[..m], b"planner: the answer can't be written");
     a
 }

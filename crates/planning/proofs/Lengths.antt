@@ -9,8 +9,8 @@ use Rattle.jobs.specs.declared.Plan.{Plan}
 use Rattle.jobs.specs.declared.Changes.{Changes}
 use Rattle.jobs.specs.Views.{jobOf, planFor}
 use Rattle.jobs.specs.Valid.{Sound}
-use Rattle.plan_text.specs.Rendering.{planLinesOf}
-use Rattle.plan_text.proofs.Lengths.{longest, valid-short}
+use Rattle.plan_grammar.specs.Rendering.{planLinesOf}
+use Rattle.plan_grammar.proofs.Lengths.{longest, valid-short}
 use Rattle.answers.specs.Said.{Printable}
 use Rattle.planning.specs.Plan.{searchLines, plannedLines, linesOf, planRoom}
 use Rattle.planning.specs.Finding.{answerIn, Fits}

@@ -11,13 +11,14 @@ use Rattle.model.specs.Model.{Job, HasPlan}
 use Rattle.model.specs.Promise as model
 use Rattle.model.specs.Promise.{PlannerAnswer, no-plan, cut-none, cut, optimum, resultOf, wholeCount, answerOf}
 use Rattle.model.proofs.Promised.{promise, any-walk}
-use Rattle.job_text.specs.Grammar.{Given, readJob}
-use Rattle.job_text.proofs.Numbered.{JobFault, fault-some, fault-else, fault}
+use Rattle.job_grammar.specs.Grammar.{Given, readJob}
+use Rattle.job_grammar.proofs.Numbered.{JobFault, fault-some, fault-else, fault}
 use Rattle.answers.specs.Said.{plainly, lent}
 use Rattle.answers.proofs.Replies.{refuses}
 use Rattle.planning.specs.Plan.{saidFor, onJob, planSaid, planRoom}
 use Rattle.planning.proofs.ReadBack.{prints}
-use Rattle.planning.specs.Promise.{Reading, jobIn, walkIn, Reports, PlanPromise}
+use Rattle.job_grammar.specs.Reading.{Reading, jobIn, walkIn}
+use Rattle.planning.specs.Promise.{Reports, PlanPromise}
 
 not-8 : (a : PlannerAnswer) → resultOf a ≡ 8 → ⊥
 not-8 no-plan e = omega arith

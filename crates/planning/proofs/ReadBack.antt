@@ -9,13 +9,13 @@ use Rattle.lines.specs.Parser.{accepted}
 use Rattle.model.specs.Model.{Job, Plan}
 use Rattle.model.specs.Promise.{PlannerAnswer, no-plan, cut-none, cut, optimum, Any, BestPlan, Walked, Promise}
 use Rattle.model.proofs.Verdicts.{lives-shaped, best-accepted}
-use Rattle.job_text.specs.Grammar.{Given, readJob}
+use Rattle.job_grammar.specs.Grammar.{Given, readJob}
 use Rattle.jobs.specs.Valid.{ValidJob}
-use Rattle.job_text.proofs.Accepted.{valid}
-use Rattle.plan_text.specs.Grammar.{readPlan}
-use Rattle.plan_text.specs.Rendering.{planLinesOf}
-use Rattle.plan_text.proofs.Printed.{read-back}
-use Rattle.verdict.proofs.Limits.{cost-most}
+use Rattle.job_grammar.proofs.Accepted.{valid}
+use Rattle.plan_grammar.specs.Grammar.{readPlan}
+use Rattle.plan_grammar.specs.Rendering.{planLinesOf}
+use Rattle.plan_grammar.proofs.Printed.{read-back}
+use Rattle.plan_costs.proofs.Dearest.{cost-most}
 use Rattle.answers.specs.Said.{plainly}
 use Rattle.judging.specs.Judge.{costLines, judgeSaid}
 use Rattle.planning.specs.Plan.{plannedLines, saidFor}

@@ -5,14 +5,15 @@ use Rattle.lines.specs.Text.{lineOf}
 use Rattle.lines.specs.Parser.{Outcome, accepted, refused}
 use Rattle.model.specs.Model.{Job, Plan}
 use Rattle.model.specs.Promise.{PlannerAnswer, no-plan, cut-none, cut, optimum, resultOf, answerOf}
-use Rattle.job_text.specs.Grammar.{Given, readJob}
-use Rattle.plan_text.specs.Rendering.{planLinesOf}
+use Rattle.job_grammar.specs.Grammar.{Given, readJob}
+use Rattle.plan_grammar.specs.Rendering.{planLinesOf}
 use Rattle.answers.specs.Said.{Said, plainly, refusal}
 
 -- O3. "Planner 0 and 7: `result`, `nodes` (points walked), `floor`, then the plan lines; with 7 and no plan it ends after `floor`."
 unfoldable pub searchLines : ℕ → ℕ → ℕ → List ℕ
 searchLines number nodes floor = lineOf "result=" number ++ lineOf "nodes=" nodes ++ lineOf "floor=" floor
 
+-- with a plan: "then the plan lines"
 unfoldable pub plannedLines : ℕ → ℕ → ℕ → Job → ℕ → Plan → List ℕ
 plannedLines number nodes floor job cost plan = searchLines number nodes floor ++ planLinesOf job cost plan
 
@@ -27,6 +28,7 @@ linesOf job (optimum nodes floor cost plan) = plannedLines 0 nodes floor job cos
 abbrev pub saidFor : Job → PlannerAnswer → Said
 saidFor job a = plainly (resultOf a) (linesOf job a)
 
+-- by what the job text reads as: the answer at its walk number, or the fault
 abbrev pub onJob : List ℕ → Outcome Given → Said
 onJob text (accepted given) = saidFor (given .job) (answerOf (given .job) (given .walk))
 onJob text (refused number line) = refusal 1 text number line

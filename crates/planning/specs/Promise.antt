@@ -7,23 +7,12 @@ use Rattle.lines.specs.Parser.{accepted, refused}
 use Rattle.model.specs.Model.{Job, Plan, HasPlan}
 use Rattle.model.specs.Promise.{PlannerAnswer, no-plan, cut-none, cut, optimum, wholeCount}
 use Rattle.model.specs.Promise as model
-use Rattle.job_text.specs.Grammar.{Given, readJob}
-use Rattle.plan_text.specs.Grammar.{readPlan}
+use Rattle.job_grammar.specs.Grammar.{Given, readJob}
+use Rattle.job_grammar.specs.Reading.{Reading, jobIn, walkIn}
+use Rattle.plan_grammar.specs.Grammar.{readPlan}
 use Rattle.answers.specs.Said.{Said, Refuses, plainly, lent}
 use Rattle.judging.specs.Judge.{costLines, judgeSaid}
 use Rattle.planning.specs.Plan.{searchLines, saidFor, planSaid, planRoom}
-
--- the job text says a job and a walk number
-pub record Reading (text : List ℕ) : Type 0 where
-  pub given : Given
-  pub is : readJob text ≡ accepted given
-
-module _ {text : List ℕ} where
-  abbrev pub jobIn : Reading text → Job
-  jobIn r = r .given .job
-
-  abbrev pub walkIn : Reading text → ℕ
-  walkIn r = r .given .walk
 
 -- O3, D6. what is written behind `floor` is a plan text, which read against the job says this plan and this cost, and which the judge accepts with it
 pub record PrintsPlan (text : List ℕ) (job : Job) (s : Said) (nodes floor cost : ℕ) (plan : Plan) : Type 0 where
@@ -48,6 +37,7 @@ pub record Reports (text : List ℕ) (given : Given) (s : Said) : Type 0 where
   pub says : s ≡ saidFor (given .job) answer
   pub prints : Prints text (given .job) s answer
 
+-- what is promised of the answer s to a text, where the output has `room` bytes
 pub record PlanPromise (text : List ℕ) (room : ℕ) (s : Said) : Type 0 where
   -- R8. "8: the output is shorter than 16,384 bytes."
   pub says-8 : (s .result ≡ 8) ↔ (room < planRoom)

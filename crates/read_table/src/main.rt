@@ -1,7 +1,7 @@
 // Reads a table of job and plan texts and writes, for each pair, its first fault and the line at fault, or that there is none.
 // A pair stands in the input as `job=N`, N bytes, `plan=N`, N bytes.
+use fault_lines::fault::fault_line;
 use job_text::whole::read_job;
-use lines::fault::fault_line;
 use lines::rows::WholeText;
 use plan_text::whole::read_plan;
 use table_text::onward;

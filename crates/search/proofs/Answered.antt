@@ -21,10 +21,10 @@ use Rattle.model.proofs.Bools.{there}
 use Rattle.model.proofs.Offers.{offers-length}
 use Rattle.jobs.specs.declared.Changes.{Changes}
 use Rattle.search.specs.declared.Found.{Found}
-use Rattle.search.specs.Arrays.{lanePart, sheetOf, Holds}
+use Rattle.search_tables.specs.Arrays.{lanePart, sheetOf, Holds}
 use Rattle.search.specs.Plan.{choiceAt, noRow, Chooses}
 use Rattle.search.specs.Found.{stopsIn, rowIn, changesIn, limitedIn, Finds, planFound, saidBy, saidAt, saidIn}
-use Rattle.search.proofs.Sheets.{sheet-bound}
+use Rattle.search_tables.proofs.Sheets.{sheet-bound}
 use Rattle.walk.specs.State.{bits, Solves}
 use Rattle.walk.proofs.Nodes.{bits-length}
 use Rattle.walk.specs.declared.Solved.{Solved}

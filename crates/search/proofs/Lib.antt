@@ -1,8 +1,3 @@
--- Laws of filling the tables, of the job behind them, and of the plan.
-pub mod Triangles
-pub mod Filling
-pub mod Raising
-pub mod Sheets
+-- Laws of the incumbent's plan, and of what the search answers.
 pub mod Stops
 pub mod Answered
-pub mod Example

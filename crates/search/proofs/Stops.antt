@@ -10,7 +10,7 @@ use lib.ListN.{length, getD, drop, set, replicate, length-set}
 use lib.Seq.{append-snoc, drop-cons, drop-set-lt, getD-set-same, getD-set-other}
 use lib.IntN.{ℤ}
 use Rattle.jobs.specs.declared.Changes.{Changes}
-use Rattle.search.specs.Arrays.{lanePart}
+use Rattle.search_tables.specs.Arrays.{lanePart}
 use Rattle.search.specs.Plan.{choiceAt, noRow, Chooses}
 use Rattle.lane_rows.specs.Layout.{laneCount}
 use Rattle.walk.specs.State.{bits}

@@ -25,9 +25,11 @@ rowIn n row = take n (row .at)
 abbrev pub changesIn : ℕ → ℕ → Found → List (List Bool)
 changesIn n m r = map (rowIn n) (take m (r .changes))
 
+-- the best full plan, if one was found: its name is its stops
 abbrev pub incumbentIn : ℕ → Found → Incumbent
 incumbentIn n r = cond (r .found) (plan (r .cost) (stopsIn n r)) none
 
+-- the walk's last state as the search has it
 abbrev pub limitedIn : ℕ → Found → Limited
 limitedIn n r = record { count = r .count; over = r .over; incumbent = incumbentIn n r }
 
@@ -38,20 +40,22 @@ pub record Finds (job : Job) (limit : ℕ) (r : Found) : Type 0 where
   pub floor : r .floor ≡ plainBound job []
   pub changes : changesIn (length (job .openings)) (length (job .parts)) r ≡ map (λ (part : Part). plainPartChoice job part (stopsIn (length (job .openings)) r)) (job .parts)
 
--- the planner's answer, read off what the code holds
+-- the plan that the code holds
 abbrev pub planFound : ℕ → ℕ → Found → Plan
 planFound n m r = record { stops = stopsIn n r; changes = changesIn n m r }
 
+-- by whether there are more nodes than were walked, and whether a plan was found
 abbrev pub saidBy : ℕ → ℕ → ℕ → Found → Bool → Bool → PlannerAnswer
 saidBy n m floor r true false = cut-none (r .count) floor
 saidBy n m floor r true true = cut (r .count) floor (r .cost) (planFound n m r)
 saidBy n m floor r false false = no-plan
 saidBy n m floor r false true = optimum (r .count) floor (r .cost) (planFound n m r)
 
+-- by the first node's bound: it is the floor, and where it is missing there is no plan
 abbrev pub saidAt : ℕ → ℕ → Found → Bound → PlannerAnswer
 saidAt n m r Missing = no-plan
 saidAt n m r (Sum floor) = saidBy n m floor r (r .over) (r .found)
 
--- where there are n openings and m parts
+-- the planner's answer, read off what the code holds, where there are n openings and m parts
 abbrev pub saidIn : ℕ → ℕ → Found → PlannerAnswer
 saidIn n m r = saidAt n m r (r .floor)

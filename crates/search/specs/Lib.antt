@@ -1,4 +1,3 @@
-pub mod Arrays
-pub mod Fill
+-- The plan of an incumbent (Plan), and what the search finds (Found).
 pub mod Plan
 pub mod Found

@@ -8,7 +8,7 @@ use lib.IntN.{ℤ, pos}
 use Rattle.model.specs.Model.{Part, lastChange}
 use Rattle.model.specs.LowerBound.{offers, choiceOf}
 use Rattle.jobs.specs.declared.Changes.{Changes}
-use Rattle.search.specs.Arrays.{lanePart}
+use Rattle.search_tables.specs.Arrays.{lanePart}
 use Rattle.lane_rows.specs.Layout.{laneCount}
 
 -- the tie rule's changes of a part within the stops

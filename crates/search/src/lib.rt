@@ -1,12 +1,10 @@
-// The planner's search: the tables of a job, the counted walk over them, and the plan of its incumbent.
+// The planner's search: the counted walk over a job's tables, and the plan of its incumbent.
 pub mod plan;
-pub mod tables;
-pub mod terms;
 
 ghost use Prim.Native.Nat.{_+_, _^_, _<_};
 ghost use Rattle.model.specs.Model.{Job};
 ghost use Rattle.walk.specs.State.{Solves};
-ghost use Rattle.search.specs.Arrays.{sheetOf, Ready, Holds};
+ghost use Rattle.search_tables.specs.Arrays.{sheetOf, Ready, Holds};
 ghost use Rattle.search.specs.Found.{Finds};
 use branch::Bound;
 use jobs::Changes;
@@ -15,7 +13,7 @@ use lane_rows::TABLES;
 use least::TABLE;
 use plan::changes;
 use plan::stops_of;
-use tables::fill;
+use search_tables::tables::fill;
 use walk::Solved;
 use walk::solve;
 

@@ -6,11 +6,11 @@ ghost use Prim.Native.Nat.{_-_, _<_, _≤_};
 ghost use lib.ListN.{length, replicate};
 ghost use Rattle.lane_rows.specs.Layout.{laneCount};
 ghost use Rattle.walk.specs.State.{bits};
-ghost use Rattle.search.specs.Arrays.{lanePart, Ready};
+ghost use Rattle.search_tables.specs.Arrays.{lanePart, Ready};
 ghost use Rattle.search.specs.Plan.{choiceAt, Chooses};
-use crate::tables::STRIDE;
-use crate::tables::lane_life;
 use jobs::Changes;
+use search_tables::tables::STRIDE;
+use search_tables::tables::lane_life;
 ghost use Rattle.model.specs.Limits.{mostOpenings};
 
 // The decisions of a mask, the latest in its lowest bit; no stop past the last opening.

@@ -11,6 +11,7 @@ use Rattle.planning.specs.Plan.{planSaid, planRoom}
 use Rattle.judging.specs.Judge.{judgeSaid, judgeRoom}
 use Rattle.counting.specs.Count.{countSaid}
 
+-- the planner's call and the judge's; the cases of the count are a table of their own
 pub data Call : Type 0 where
   planner : Call
   judge : Call
@@ -36,6 +37,7 @@ saidBy judge job plan = lent judgeRoom judgeRoom (judgeSaid job plan)
 abbrev pub textAt : ℕ → List ℕ → List ℕ → List ℕ
 textAt which job plan = cond (eqb which 1) job plan
 
+-- the bytes, the numbers and the line at fault of a case are those of its call
 abbrev pub Holds : Case → Type 0
 Holds c =
     let said = saidBy (c .call) (c .job) (c .plan) in
@@ -65,10 +67,7 @@ Counts c =
     × (said .count ≡ c .count)
     × (take (said .«fault_length») (drop (said .«fault_start») (c .job)) ≡ c .fault)
 
-abbrev pub All : {A : Type 0} → (A → Type 0) → List A → Type 0
-All holds [] = Unit {0}
-All holds (a ∷ rest) = holds a × All holds rest
-
+-- C1 to C12, and cases of ours of E1, E5 and E7
 unfoldable pub table : List Case
 table =
     -- 01's job
@@ -345,6 +344,7 @@ table =
     }
     ∷ []
 
+-- E6.2, E6.4, E6.6, E7.12. the cases of the count
 unfoldable pub counts : List CountCase
 counts =
     -- E6: 01's job: 17

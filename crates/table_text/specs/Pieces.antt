@@ -7,7 +7,7 @@ use lib.ListN.{length, drop}
 use Rattle.lines.specs.Line.{readLine}
 use Rattle.lines.specs.declared.read.Line.{Line}
 use Rattle.lines.specs.declared.read.Line.the-variants.{Value, Bad}
-use Rattle.lines.specs.declared.fault.Span.{Span}
+use Rattle.fault_lines.specs.declared.fault.Span.{Span}
 use Rattle.table_text.specs.declared.Head.{Head}
 
 -- the line that was read at a place of a table of so many bytes
@@ -15,6 +15,7 @@ unfoldable pub headOf : ℕ → ℕ → Line → Head
 headOf size at (Value n k) = record { number = n; behind = at + k }
 headOf size at Bad = record { number = 0; behind = size }
 
+-- the line `key=N` at a place: its number and the place behind it, or 0 and the table's end
 abbrev pub headAt : List ℕ → ℕ → List ℕ → Head
 headAt table at key = headOf (length table) at (readLine key (drop at table))
 
@@ -22,6 +23,7 @@ headAt table at key = headOf (length table) at (readLine key (drop at table))
 abbrev pub pieceOf : ℕ → Head → Span
 pieceOf size h = cond (leb (h .behind + h .number) size) (record { start = h .behind; length = h .number }) (record { start = size; length = 0 })
 
+-- where the piece at a place stands: the N bytes behind its line
 abbrev pub pieceAt : List ℕ → ℕ → List ℕ → Span
 pieceAt table at key = pieceOf (length table) (headAt table at key)
 

@@ -1,5 +1,5 @@
 // The text of a table: one row behind the other, each made of lines `key=N` and of pieces, which are such a line and N bytes behind it.
-use lines::fault::Span;
+use fault_lines::fault::Span;
 use lines::read::Line;
 use lines::read::read_line;
 ghost use mathlib.Core.Path.{_≡_};

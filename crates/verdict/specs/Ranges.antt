@@ -1,11 +1,8 @@
 -- How large the values of a judgement on an accepted job can be.
-use Prim.Native.Nat.{ℕ, _≤_}
+use Prim.Native.Nat.{_≤_}
 use Rattle.model.specs.Limits.{lastStep, mostParts}
 use Rattle.model.specs.Verdict.{Judgement, accepts, unkept, wrongCost}
-
--- sixty-four fees, sixteen times sixty-four prices and as many removals, each of a million
-abbrev pub dearestPlan : ℕ
-dearestPlan = 2112000000
+use Rattle.plan_costs.specs.Dearest.{dearestPlan}
 
 -- each value is within its range
 abbrev pub Limited : Judgement → Type 0

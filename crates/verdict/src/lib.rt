@@ -1,20 +1,16 @@
-// The judge's verdict on a plan: the lives, the true cost, and the judgement (here).
-pub mod costs;
-pub mod lives;
-pub mod removals;
-pub mod summing;
-
-use costs::cost_of;
+// The judgement on a plan: by the verdict on the lives, then by its cost.
 use jobs::Job;
 use jobs::Plan;
-use lives::Verdict;
-use lives::verdict_of;
+use plan_costs::costs::cost_of;
+use plan_lives::lives::Verdict;
+use plan_lives::lives::verdict_of;
 ghost use mathlib.Core.Path.{_≡_};
 ghost use Rattle.model.specs.Verdict as model;
 ghost use Rattle.model.specs.Verdict.{judgedOf};
 ghost use Rattle.jobs.specs.Views.{jobOf, planFor};
 ghost use Rattle.jobs.specs.Valid.{Sound};
-ghost use Rattle.verdict.specs.Views.{modelVerdict, modelJudgement};
+ghost use Rattle.plan_lives.specs.Views.{modelVerdict};
+ghost use Rattle.verdict.specs.Views.{modelJudgement};
 
 // What the judge says of a plan: its true cost, the lowest part that is not kept with its due step, or the true cost where another is stated.
 pub enum Judgement {

@@ -23,6 +23,7 @@ unfoldable pub bits : ℕ → ℕ → List Bool
 bits zero m = []
 bits (suc k) m = snoc (bits k (m / 2)) (eqb (m % 2) 1)
 
+-- W1. the yes and no of a node, for the openings before `at`
 abbrev pub decided : Node → List Bool
 decided p = bits (p .at) (p .mask)
 
@@ -54,6 +55,7 @@ viewed e s = ltb e (s .cost)
 abbrev pub countedS : Search → Search
 countedS s = record { count = s .count + 1; cost = s .cost; mask = s .mask }
 
+-- W8. a better full plan is kept: its cost, and its decisions as a number
 abbrev pub keptS : Search → ℕ → ℕ → Search
 keptS s c m = record { count = s .count; cost = c; mask = m }
 
@@ -61,11 +63,12 @@ keptS s c m = record { count = s .count; cost = c; mask = m }
 abbrev pub reachedS : ℕ → Search → Search
 reachedS limit s = cond (overS limit s) s (countedS s)
 
--- the part sums of a node that is walked on, with its fees and its part sums: its bound is less than the incumbent's cost, and it is within the limit
+-- the part sums of a node that is walked on, with its fees and its part sums: its bound is less than the incumbent's cost
 abbrev pub undropped : ℕ → Bound → Search → Bound
 undropped spent Missing s = Missing
 undropped spent (Sum x) s = cond (viewed (spent + x) s) (Sum x) Missing
 
+-- W9. the same within the limit; once that is reached, Missing
 abbrev pub openS : ℕ → ℕ → Bound → Search → Bound
 openS limit spent e s = cond (leb limit (s .count)) Missing (undropped spent e s)
 
@@ -73,6 +76,7 @@ openS limit spent e s = cond (leb limit (s .count)) Missing (undropped spent e s
 abbrev pub noN : Node → ℕ → Node
 noN p n = record { at = p .at + 1; rows = n; spent = p .spent; mask = p .mask * 2 }
 
+-- W4. "then stop": its fee is spent
 abbrev pub yesN : Node → ℕ → ℕ → Node
 yesN p n fee = record { at = p .at + 1; rows = n; spent = p .spent + fee; mask = p .mask * 2 + 1 }
 

@@ -46,6 +46,14 @@ impl FormCall {
         FormCall { output, horizon: facts.horizon as u32, walk: facts.walk as u32, lists }
     }
 
+    /// The same form with no lines of removals and holders.
+    pub fn without_covers(mut self) -> FormCall {
+        let parts = self.lists[3].len();
+        self.lists[COVERED..COVERED + 4].iter_mut().for_each(Vec::clear);
+        self.lists[COVERED].resize(parts, 0);
+        self
+    }
+
     /// What the reference writes.
     pub fn expected(&self) -> Reply {
         juzvarola_host::reference::write(&self.form(), self.output)
@@ -165,16 +173,19 @@ pub fn random(rng: &mut Rng) -> FormCall {
         1 => rng.within(32_769, 60_000) as usize,
         _ => 32_768,
     };
-    let mut call = FormCall::of(&facts, output);
-    if !rng.once_in(3) {
-        for _ in 0..rng.pick(&[1, 1, 1, 2, 3]) {
-            damage(rng, &mut call);
-        }
+    let call = if rng.once_in(3) { FormCall::of(&facts, output) } else { damaged(rng, &facts, output) };
+    if inputs::holders_on() {
+        call
+    } else {
+        call.without_covers()
     }
-    if !inputs::holders_on() {
-        let parts = call.lists[3].len();
-        call.lists[COVERED..COVERED + 4].iter_mut().for_each(Vec::clear);
-        call.lists[COVERED].resize(parts, 0);
+}
+
+/// The form that has a job's facts, with one to three damages.
+pub fn damaged(rng: &mut Rng, facts: &Facts, output: usize) -> FormCall {
+    let mut call = FormCall::of(facts, output);
+    for _ in 0..rng.pick(&[1, 1, 1, 2, 3]) {
+        damage(rng, &mut call);
     }
     call
 }

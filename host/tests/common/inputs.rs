@@ -484,7 +484,7 @@ fn lengthened(rng: &mut Rng, mut text: Vec<u8>) -> Vec<u8> {
 }
 
 /// A text with one to three damages, at times made long or emptied.
-fn damaged(rng: &mut Rng, mut text: Vec<u8>) -> Vec<u8> {
+pub fn damaged(rng: &mut Rng, mut text: Vec<u8>) -> Vec<u8> {
     match rng.below(60) {
         0 => return Vec::new(),
         1 => return lengthened(rng, text),
@@ -579,7 +579,7 @@ fn with_damaged_cover(rng: &mut Rng, facts: &Facts) -> Vec<u8> {
 }
 
 /// The job's text, damaged: in its idle lines once in three, in a part's removal and holders once in six.
-fn damaged_job(rng: &mut Rng, facts: &Facts) -> Vec<u8> {
+pub fn damaged_job(rng: &mut Rng, facts: &Facts) -> Vec<u8> {
     if idles_on() && rng.once_in(3) {
         with_damaged_idles(rng, facts)
     } else if holders_on() && rng.once_in(4) {

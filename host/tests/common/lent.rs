@@ -1,8 +1,10 @@
 //! Lent buffers with canaries on both sides, and the library's calls on them.
 
+use super::forms::FormCall;
 use super::rng::Rng;
 use super::Call;
-use juzvarola_host::reference::Reply;
+use juzvarola_host::reference::{self, Reply};
+use juzvarola_host::{Answer, Count, Form};
 
 /// Bytes on each side of a lent buffer.
 const MARGIN: usize = 64;
@@ -66,7 +68,7 @@ pub fn compare(rng: &mut Rng, call: &Call, reply: &Reply) -> Result<(), String> 
         Some(_) => juzvarola_host::judge(job.part(), plan.part(), out.part_mut()),
     };
     let at_fault = if reply.text == 2 { plan.part() } else { job.part() };
-    let wanted = juzvarola_host::Answer {
+    let wanted = Answer {
         result: reply.result,
         text: reply.text,
         line: reply.line,
@@ -88,6 +90,63 @@ pub fn compare(rng: &mut Rng, call: &Call, reply: &Reply) -> Result<(), String> 
         return Err(format!("a text was changed\n{call:?}"));
     }
     Ok(())
+}
+
+/// Numbers on each side of a list that would do in its place: a writer that reads past its end writes on.
+const NUMBERS: usize = 16;
+
+/// Makes the call of the writer by the library and compares everything it hands over with the reply.
+pub fn compare_form(rng: &mut Rng, call: &FormCall, reply: &Reply) -> Result<(), String> {
+    let around = call.lists.clone().map(|list| [vec![1; NUMBERS], list, vec![1; NUMBERS]].concat());
+    let before = around.clone();
+    let inside = |at: usize| &around[at][NUMBERS..around[at].len() - NUMBERS];
+    let form = Form {
+        idles: inside(0),
+        openings: inside(1),
+        fees: inside(2),
+        lives: inside(3),
+        lefts: inside(4),
+        covered: inside(5),
+        removals: inside(6),
+        insides: inside(7),
+        holders: inside(8),
+        prices: inside(9),
+        ..call.form()
+    };
+    let mut out = Lent::output(rng, call.output);
+    let answer = juzvarola_host::write(&form, out.part_mut());
+    // "There is no text of the caller's, so no line at fault is handed over."
+    let wanted = Answer { result: reply.result, text: reply.text, line: reply.line, length: reply.bytes.len(), fault_start: 0, fault: &[] };
+    if answer != wanted {
+        return Err(format!("{answer:?}\nnot {wanted:?}\n{call:?}"));
+    }
+    if !out.has(&reply.bytes) {
+        return Err(format!("not written: {}\nor a byte outside was changed\n{call:?}", reply.bytes.escape_ascii()));
+    }
+    if around != before {
+        return Err(format!("a list was changed\n{call:?}"));
+    }
+    Ok(())
+}
+
+/// Makes the call of the count by the library and compares everything it hands over with the reference's, which walks at most so many points.
+pub fn compare_count(rng: &mut Rng, text: &[u8], most: u64) -> Result<u32, String> {
+    let job = Lent::text(rng, text);
+    let answer = juzvarola_host::count(job.part());
+    let reply = reference::count(text, most);
+    let walked = reply.count < most;
+    let wanted = Count {
+        result: reply.result,
+        text: reply.text,
+        line: reply.line,
+        count: if walked { reply.count as u32 } else { answer.count.max(most as u32) },
+        fault_start: reply.fault_start,
+        fault: &job.part()[reply.fault_start..][..reply.fault_length],
+    };
+    if answer != wanted || !job.has(&[]) {
+        return Err(format!("{answer:?}\nnot {wanted:?}, or the text was changed\ncount\n{}", text.escape_ascii()));
+    }
+    Ok(reply.result)
 }
 
 /// What the library's planner writes.

@@ -1,6 +1,7 @@
 //! What the tests share: vectors, random inputs, lent buffers with canaries.
 #![allow(dead_code)]
 
+pub mod damage;
 pub mod forms;
 pub mod holder_cases;
 pub mod idle_cases;

@@ -77,6 +77,12 @@ pub fn line(call: &Call, reply: &Reply) -> String {
     format!("{name} {} {} {} {texts}\n", call.output, reply.result, reply.line)
 }
 
+/// That as many vectors were read as this folder has at least; of another file, which this variable names, one.
+pub fn enough(vectors: usize, variable: &str, least: usize) {
+    let least = if std::env::var_os(variable).is_some() { 1 } else { least };
+    assert!(vectors >= least, "only {vectors} vectors");
+}
+
 /// The vectors of the planner and the judge: of every file in `vectors/` that ends in `.txt`, the forms' and the count's aside. Without
 /// holders only those that they leave alone.
 pub fn all() -> Vec<Vector> {

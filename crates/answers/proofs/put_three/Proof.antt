@@ -15,11 +15,8 @@ put-line-requires c κs =
     let w = c .before .before .before .put-two .ensures in
     (s .pre .1, omega (arith, rw length-append at (s .pre .2), w .next, kept w))
 
-same-length : tie.Need-same-length
-same-length c = search needs
-
 returns : tie.Need-returns
 returns c = then (c .before .before .before .before .before .before .put-two .ensures) (c .before .before .put-line .ensures)
 
 pub put-three-spec : {M : Type 1} → statement M
-put-three-spec = tie.close (tie.spec put-two-requires put-line-requires same-length returns)
+put-three-spec = tie.close (tie.spec put-two-requires put-line-requires (λ c. search needs) returns)

@@ -7,9 +7,6 @@ use borrow.Author.Needs.{needs}
 use Rattle.answers.proofs.put_two.Statement.{statement}
 use Rattle.answers.proofs.put_two.Tie as tie
 
-slice-aggregate-put-line : tie.Need-slice-aggregate-put-line
-slice-aggregate-put-line c = search needs
-
 put-line-requires : tie.Need-put-line-requires
 unfolding bytes
 put-line-requires c κs =
@@ -23,9 +20,6 @@ put-line-requires-2 c κs =
     let w = c .before .before .before .put-line .ensures in
     (s .pre .0, omega (arith, rw length-append at (s .pre .1), w .next, kept w))
 
-same-length : tie.Need-same-length
-same-length c = search needs
-
 returns : tie.Need-returns
 unfolding bytes
 returns c = then (c .before .before .before .before .before .before .put-line .ensures) (c .before .before .put-line2 .ensures)
@@ -33,4 +27,4 @@ returns c = then (c .before .before .before .before .before .before .put-line .e
 pub put-two-spec : {M : Type 1} → statement M
 put-two-spec =
     tie.close
-    (tie.spec slice-aggregate-put-line put-line-requires put-line-requires-2 same-length returns)
+    (tie.spec (λ c. search needs) put-line-requires put-line-requires-2 (λ c. search needs) returns)

@@ -1,8 +1,7 @@
 -- `refuse`: an output that is too short stays; else the lines of the fault are written, and the span is where its line stands.
 use mathlib.Core.Path.{ap}
 use native.Mathlib.Omega.{arith}
-use Rattle.lines.specs.declared.fault.Span.{Span}
-use Rattle.answers.specs.declared.Answer.{Answer}
+use Rattle.fault_lines.specs.declared.fault.Span.{Span}
 use Rattle.answers.specs.Said.{refusal}
 use Rattle.answers.proofs.Lengths.{fault-short}
 use Rattle.answers.proofs.Replies.{replied, no-room}
@@ -19,17 +18,8 @@ no-room-requires c κs = search needs
 returns : tie.Need-returns
 returns c = no-room _ _ _ (c .before .if1 .taken) (c .no-room .ensures)
 
-cast-put-fault : tie.Need-cast-put-fault
-cast-put-fault c = search needs
-
 put-fault-requires : tie.Need-put-fault-requires
 put-fault-requires c κs = search needs
-
-cast-t13 : tie.Need-cast-t13
-cast-t13 c = search needs
-
-same-length : tie.Need-same-length
-same-length c = search needs
 
 returns-2 : tie.Need-returns-2
 returns-2 c =
@@ -46,12 +36,5 @@ returns-2 c =
 pub refuse-spec : {M : Type 1} → statement M
 refuse-spec =
     tie.close
-    (tie.spec
-    fault-span-requires
-    no-room-requires
-    returns
-    cast-put-fault
-    put-fault-requires
-    cast-t13
-    same-length
-    returns-2)
+    (tie.spec fault-span-requires no-room-requires returns (λ c. search needs) put-fault-requires (λ c. search needs)
+    (λ c. search needs) returns-2)

@@ -28,11 +28,8 @@ loop-less c = omega (arith, c .onward .ensures)
 loop-again : tie.Need-loop-again Inv-loop μ-loop
 loop-again c = omega arith
 
-same-length : tie.Need-same-length Inv-loop μ-loop
-same-length c = omega arith
-
 returns : tie.Need-returns Inv-loop μ-loop
 returns c = search needs
 
 pub table-spec : {M : Type 1} → statement M
-table-spec = tie.close (tie.spec Inv-loop μ-loop loop-holds case-at-requires onward-requires loop-less loop-again same-length returns)
+table-spec = tie.close (tie.spec Inv-loop μ-loop loop-holds case-at-requires onward-requires loop-less loop-again (λ c. omega arith) returns)

@@ -32,9 +32,6 @@ loop-holds c = let a = c .before .args in (omega arith, last-none (jobOf (a .job
 add-s : tie.Need-add-s Inv-loop μ-loop
 add-s c = omega (arith, c .before .before .before .before .pre .0 .valid .horizon-high)
 
-cast-in-reach : tie.Need-cast-in-reach Inv-loop μ-loop
-cast-in-reach c = search needs
-
 cast-in-reach-2 : tie.Need-cast-in-reach-2 Inv-loop μ-loop
 cast-in-reach-2 c = omega (arith, c .before .before .before .before .pre .0 .valid .horizon-high)
 
@@ -66,17 +63,11 @@ tested : (c : tie.After-in-reach Inv-loop μ-loop)
     → let s = c .before .before .before .before .before .before in c .in-reach .result ≡ within (pos (s .args .life)) (toZ w32 (ofZ w32 (s .args .prev))) (clock (jobOf (s .args .job)) (c .before .before .before .before .loop .s + 1))
 tested c = let s = c .before .before .before .before .before .before in rw (life-bits (s .args .life) (s .pre .1), here (c .before)) at (c .in-reach .ensures)
 
-loop-less : tie.Need-loop-less Inv-loop μ-loop
-loop-less c = omega arith
-
 loop-again : tie.Need-loop-again Inv-loop μ-loop
 loop-again c =
     let t = c .before in
     let a = c .before .before .before .before .before .before .before .args in
     (omega arith, last-yes (jobOf (a .job)) (pos (a .life)) (toZ w32 (ofZ w32 (a .prev))) (c .before .before .before .before .before .loop .s) (sym (tested t) ∙ c .if2 .taken))
-
-loop-less-2 : tie.Need-loop-less-2 Inv-loop μ-loop
-loop-less-2 c = omega arith
 
 loop-again-2 : tie.Need-loop-again-2 Inv-loop μ-loop
 loop-again-2 c =
@@ -97,19 +88,5 @@ returns c =
 pub due-of-spec : {M : Type 1} → statement M
 due-of-spec =
     tie.close
-    (tie.spec
-    Inv-loop
-    μ-loop
-    running-steps-requires
-    loop-holds
-    add-s
-    cast-in-reach
-    cast-in-reach-2
-    mul-in-reach
-    array-copy-out-in-reach
-    in-reach-requires
-    loop-less
-    loop-again
-    loop-less-2
-    loop-again-2
-    returns)
+    (tie.spec Inv-loop μ-loop running-steps-requires loop-holds add-s (λ c. search needs) cast-in-reach-2 mul-in-reach
+    array-copy-out-in-reach in-reach-requires (λ c. omega arith) loop-again (λ c. omega arith) loop-again-2 returns)

@@ -50,9 +50,6 @@ array-write-flags c = omega (arith, small c)
 add-k : tie.Need-add-k Inv-loop μ-loop
 add-k c = omega (arith, c .before .before .before .pre .sized .idles)
 
-loop-less : tie.Need-loop-less Inv-loop μ-loop
-loop-less c = omega arith
-
 loop-again : tie.Need-loop-again Inv-loop μ-loop
 loop-again c =
     let s = c .before .before .before in
@@ -73,15 +70,5 @@ returns c =
 pub idle-steps-spec : {M : Type 1} → statement M
 idle-steps-spec =
     tie.close
-    (tie.spec
-    Inv-loop
-    μ-loop
-    loop-holds
-    mul-step
-    element-copy-out-step
-    cast-flags
-    array-write-flags
-    add-k
-    loop-less
-    loop-again
-    returns)
+    (tie.spec Inv-loop μ-loop loop-holds mul-step element-copy-out-step cast-flags array-write-flags add-k
+    (λ c. omega arith) loop-again returns)

@@ -54,9 +54,6 @@ array-set-from-at c = omega (arith, c .before .before .before .before .before .b
 add-i : tie.Need-add-i Inv-loop μ-loop
 add-i c = omega (arith, c .before .before .before .before .before .before .pre .sized .openings)
 
-loop-less : tie.Need-loop-less Inv-loop μ-loop
-loop-less c = omega arith
-
 loop-again : tie.Need-loop-again Inv-loop μ-loop
 loop-again c =
     let s = c .before .before .before .before .before .before in
@@ -97,23 +94,6 @@ returns c =
 pub positions-of-spec : {M : Type 1} → statement M
 positions-of-spec =
     tie.close
-    (tie.spec
-    Inv-loop
-    μ-loop
-    running-steps-requires
-    loop-holds
-    mul-o
-    element-copy-out-o
-    cast-at
-    mul-at
-    array-copy-out-at
-    mul-at-2
-    array-set-from-at
-    add-i
-    loop-less
-    loop-again
-    cast-end
-    add-end
-    mul-end
-    array-copy-out-end
-    returns)
+    (tie.spec Inv-loop μ-loop running-steps-requires loop-holds mul-o element-copy-out-o cast-at mul-at
+    array-copy-out-at mul-at-2 array-set-from-at add-i (λ c. omega arith) loop-again cast-end add-end mul-end
+    array-copy-out-end returns)

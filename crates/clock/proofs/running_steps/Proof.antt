@@ -7,7 +7,7 @@ use native.Mathlib.Omega.{arith}
 use borrow.Author.Needs.{needs}
 use borrow.Author.Tests.{not-true, not-false}
 use lib.ListN.{getD, set}
-use lib.IntN.{ℤ, pos}
+use lib.IntN.{ℤ}
 use mir.Syntax.{w32}
 use mir.Facts.{toZ-pos}
 use Rattle.model.specs.Model.{Job}
@@ -30,12 +30,6 @@ idle-steps-requires c κs = search needs
 loop-holds : tie.Need-loop-holds Inv-loop μ-loop
 loop-holds c = (omega arith, omega arith, omega arith, λ job f. timed-none job 367 refl)
 
-array-read-if1 : tie.Need-array-read-if1 Inv-loop μ-loop
-array-read-if1 c = omega arith
-
-add-run : tie.Need-add-run Inv-loop μ-loop
-add-run c = omega arith
-
 -- the running steps up to s
 next : (c : tie.Joined1 Inv-loop μ-loop) → c .if1 .run ≡ c .before .before .loop .run + cond (getD (c .before .before .before .idle-steps .result) (c .before .before .loop .s) false) 0 1
 next c =
@@ -54,18 +48,6 @@ low c = omega (arith, next c, next-most (c .before .before .loop .run) (getD (c 
 
 cast-clock : tie.Need-cast-clock Inv-loop μ-loop
 cast-clock c = record { sfits = omega (arith, low c) }
-
-mul-clock : tie.Need-mul-clock Inv-loop μ-loop
-mul-clock c = omega arith
-
-array-set-from-clock : tie.Need-array-set-from-clock Inv-loop μ-loop
-array-set-from-clock c = omega arith
-
-add-s : tie.Need-add-s Inv-loop μ-loop
-add-s c = omega arith
-
-loop-less : tie.Need-loop-less Inv-loop μ-loop
-loop-less c = omega arith
 
 loop-again : tie.Need-loop-again Inv-loop μ-loop
 loop-again c =
@@ -87,17 +69,5 @@ returns c =
 pub running-steps-spec : {M : Type 1} → statement M
 running-steps-spec =
     tie.close
-    (tie.spec
-    Inv-loop
-    μ-loop
-    idle-steps-requires
-    loop-holds
-    array-read-if1
-    add-run
-    cast-clock
-    mul-clock
-    array-set-from-clock
-    add-s
-    loop-less
-    loop-again
-    returns)
+    (tie.spec Inv-loop μ-loop idle-steps-requires loop-holds (λ c. omega arith) (λ c. omega arith) cast-clock
+    (λ c. omega arith) (λ c. omega arith) (λ c. omega arith) (λ c. omega arith) loop-again returns)

@@ -1,6 +1,6 @@
 -- `charges`: the first q places of the row are there.
 use Prim.Native.Nat.{ℕ, _-_, _≤_}
-use mathlib.Core.Path.{_≡_, _∙_}
+use mathlib.Core.Path.{_∙_}
 use mathlib.Core.Bool.{false, cond}
 use native.Mathlib.Omega.{arith}
 use borrow.Author.Needs.{needs}
@@ -23,29 +23,8 @@ abbrev μ-loop : tie.MeasureT-loop
 loop-holds : tie.Need-loop-holds Inv-loop μ-loop
 loop-holds c = (omega arith, row-none 0 (λ x. cond (getD (c .args .t2) x false) 0 (getD (c .args .t1) x 0)))
 
-array-read-charge-of : tie.Need-array-read-charge-of Inv-loop μ-loop
-array-read-charge-of c = search needs
-
-mul-charge-of : tie.Need-mul-charge-of Inv-loop μ-loop
-mul-charge-of c = search needs
-
-array-read-charge-of-2 : tie.Need-array-read-charge-of-2 Inv-loop μ-loop
-array-read-charge-of-2 c = search needs
-
 charge-of-requires : tie.Need-charge-of-requires Inv-loop μ-loop
 charge-of-requires c κs = search needs
-
-mul-row : tie.Need-mul-row Inv-loop μ-loop
-mul-row c = search needs
-
-array-write-row : tie.Need-array-write-row Inv-loop μ-loop
-array-write-row c = search needs
-
-add-q : tie.Need-add-q Inv-loop μ-loop
-add-q c = search needs
-
-loop-less : tie.Need-loop-less Inv-loop μ-loop
-loop-less c = omega arith
 
 loop-again : tie.Need-loop-again Inv-loop μ-loop
 loop-again c =
@@ -63,17 +42,6 @@ returns c job removals holds q h =
 pub charges-spec : {M : Type 1} → statement M
 charges-spec =
     tie.close
-    (tie.spec
-    Inv-loop
-    μ-loop
-    loop-holds
-    array-read-charge-of
-    mul-charge-of
-    array-read-charge-of-2
-    charge-of-requires
-    mul-row
-    array-write-row
-    add-q
-    loop-less
-    loop-again
+    (tie.spec Inv-loop μ-loop loop-holds (λ c. search needs) (λ c. search needs) (λ c. search needs)
+    charge-of-requires (λ c. search needs) (λ c. search needs) (λ c. search needs) (λ c. omega arith) loop-again
     returns)

@@ -24,12 +24,6 @@ out-with-requires c κs = (c .before .before .pre, c .loop-test .taken)
 with-row-requires : tie.Need-with-row-requires Inv-loop μ-loop
 with-row-requires c κs = omega (arith, c .before .before .before .pre)
 
-add-q : tie.Need-add-q Inv-loop μ-loop
-add-q c = search needs
-
-loop-less : tie.Need-loop-less Inv-loop μ-loop
-loop-less c = omega arith
-
 loop-again : tie.Need-loop-again Inv-loop μ-loop
 loop-again c =
     let l = c .before .before .before .loop in
@@ -48,13 +42,5 @@ returns c job held =
 pub come-out-spec : {M : Type 1} → statement M
 come-out-spec =
     tie.close
-    (tie.spec
-    Inv-loop
-    μ-loop
-    loop-holds
-    out-with-requires
-    with-row-requires
-    add-q
-    loop-less
-    loop-again
-    returns)
+    (tie.spec Inv-loop μ-loop loop-holds out-with-requires with-row-requires (λ c. search needs) (λ c. omega arith)
+    loop-again returns)

@@ -1,5 +1,5 @@
 -- `holding_of`: the marks are the parts in the row of one of all, and the places are theirs.
-use mathlib.Core.Path.{_≡_, sym, ap, subst, _∙_}
+use mathlib.Core.Path.{sym, ap, subst, _∙_}
 use mathlib.Core.Bool.{Bool, false}
 use mathlib.Core.List.{List}
 use Rattle.model.specs.Model.{holding}

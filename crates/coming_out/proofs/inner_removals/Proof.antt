@@ -27,9 +27,6 @@ inside c = c .before .before .before .pre .inside (c .before .loop .b) (c .loop-
 loop-holds : tie.Need-loop-holds Inv-loop μ-loop
 loop-holds c = let a = c .before .args in (omega arith, row-none 0 (λ x. getD (a .t1) (getD (a .holding .places) x 0) 0))
 
-mul-row : tie.Need-mul-row Inv-loop μ-loop
-mul-row c = search needs
-
 array-read-row : tie.Need-array-read-row Inv-loop μ-loop
 array-read-row c = omega (arith, c .before .before .before .pre .few)
 
@@ -39,17 +36,8 @@ mul-row-2 c = omega (arith, inside c)
 array-read-row-2 : tie.Need-array-read-row-2 Inv-loop μ-loop
 array-read-row-2 c = inside c
 
-mul-row-3 : tie.Need-mul-row-3 Inv-loop μ-loop
-mul-row-3 c = search needs
-
 array-write-row : tie.Need-array-write-row Inv-loop μ-loop
 array-write-row c = omega (arith, c .before .before .before .pre .few)
-
-add-b : tie.Need-add-b Inv-loop μ-loop
-add-b c = search needs
-
-loop-less : tie.Need-loop-less Inv-loop μ-loop
-loop-less c = omega arith
 
 loop-again : tie.Need-loop-again Inv-loop μ-loop
 loop-again c =
@@ -73,17 +61,5 @@ returns c job removals is =
 pub inner-removals-spec : {M : Type 1} → statement M
 inner-removals-spec =
     tie.close
-    (tie.spec
-    Inv-loop
-    μ-loop
-    loop-holds
-    mul-row
-    array-read-row
-    mul-row-2
-    array-read-row-2
-    mul-row-3
-    array-write-row
-    add-b
-    loop-less
-    loop-again
-    returns)
+    (tie.spec Inv-loop μ-loop loop-holds (λ c. search needs) array-read-row mul-row-2 array-read-row-2
+    (λ c. search needs) array-write-row (λ c. search needs) (λ c. omega arith) loop-again returns)

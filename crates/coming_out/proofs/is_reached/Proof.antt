@@ -1,7 +1,7 @@
 -- `is_reached`: none of the set before place i has j in its row.
-use Prim.Native.Nat.{ℕ, _-_, _*_, _+_, _≤_, _<_}
+use Prim.Native.Nat.{ℕ, _-_, _≤_, _<_}
 use mathlib.Core.Path.{_≡_, sym, _∙_}
-use mathlib.Core.Bool.{Bool, false, _&&_}
+use mathlib.Core.Bool.{false, _&&_}
 use native.Mathlib.Omega.{arith}
 use borrow.Author.Needs.{needs}
 use borrow.Author.Count.{below-more}
@@ -23,15 +23,6 @@ loop-holds c = (omega arith, λ x h. absurd (omega arith))
 array-read-both : tie.Need-array-read-both Inv-loop μ-loop
 array-read-both c = omega (arith, c .before .before .pre)
 
-mul-both : tie.Need-mul-both Inv-loop μ-loop
-mul-both c = search needs
-
-add-both : tie.Need-add-both Inv-loop μ-loop
-add-both c = search needs
-
-element-copy-out-both : tie.Need-element-copy-out-both Inv-loop μ-loop
-element-copy-out-both c = search needs
-
 both-requires : tie.Need-both-requires Inv-loop μ-loop
 both-requires c κs = search needs
 
@@ -40,12 +31,6 @@ returns c =
     let i = c .before .before .before in
     let a = i .before .before .args in
     sym (some-here (a .m) (λ x. getD (a .t3) x false && getD (a .matrix .now) (place x (a .j)) false) (i .before .loop .i) (i .loop-test .taken) (sym (c .before .both .ensures) ∙ c .if1 .taken))
-
-add-i : tie.Need-add-i Inv-loop μ-loop
-add-i c = search needs
-
-loop-less : tie.Need-loop-less Inv-loop μ-loop
-loop-less c = omega arith
 
 loop-again : tie.Need-loop-again Inv-loop μ-loop
 loop-again c =
@@ -61,17 +46,5 @@ returns-2 c =
 pub is-reached-spec : {M : Type 1} → statement M
 is-reached-spec =
     tie.close
-    (tie.spec
-    Inv-loop
-    μ-loop
-    loop-holds
-    array-read-both
-    mul-both
-    add-both
-    element-copy-out-both
-    both-requires
-    returns
-    add-i
-    loop-less
-    loop-again
-    returns-2)
+    (tie.spec Inv-loop μ-loop loop-holds array-read-both (λ c. search needs) (λ c. search needs) (λ c. search needs)
+    both-requires returns (λ c. search needs) (λ c. omega arith) loop-again returns-2)

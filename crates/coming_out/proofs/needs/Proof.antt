@@ -29,12 +29,6 @@ needs-of-requires c κs = (c .before .before .pre .1, omega (arith, c .before .b
 with-row-requires : tie.Need-with-row-requires Inv-loop μ-loop
 with-row-requires c κs = omega (arith, c .before .before .before .pre .0)
 
-add-q : tie.Need-add-q Inv-loop μ-loop
-add-q c = search needs
-
-loop-less : tie.Need-loop-less Inv-loop μ-loop
-loop-less c = omega arith
-
 loop-again : tie.Need-loop-again Inv-loop μ-loop
 loop-again c =
     let l = c .before .before .before .loop in
@@ -55,13 +49,5 @@ returns c job e r h =
 pub needs-spec : {M : Type 1} → statement M
 needs-spec =
     tie.close
-    (tie.spec
-    Inv-loop
-    μ-loop
-    loop-holds
-    needs-of-requires
-    with-row-requires
-    add-q
-    loop-less
-    loop-again
-    returns)
+    (tie.spec Inv-loop μ-loop loop-holds needs-of-requires with-row-requires (λ c. search needs) (λ c. omega arith)
+    loop-again returns)

@@ -1,5 +1,5 @@
 -- `needs_of`: the first b places of the row are there.
-use Prim.Native.Nat.{ℕ, _-_, _≤_, _<_}
+use Prim.Native.Nat.{_-_, _≤_, _<_}
 use mathlib.Core.Path.{_≡_, refl, sym, ap, subst, _∙_}
 use mathlib.Core.Bool.{Bool, false}
 use mathlib.Core.List.{List}
@@ -29,12 +29,6 @@ inside c = c .before .before .before .pre .0 .inside (c .before .loop .b) (c .lo
 loop-holds : tie.Need-loop-holds Inv-loop μ-loop
 loop-holds c = let a = c .before .args in (omega arith, row-none false (λ x. getD (a .outs .now) (place (a .q) (getD (a .holding .places) x 0)) false))
 
-mul-row : tie.Need-mul-row Inv-loop μ-loop
-mul-row c = search needs
-
-mul-row-2 : tie.Need-mul-row-2 Inv-loop μ-loop
-mul-row-2 c = search needs
-
 array-read-row : tie.Need-array-read-row Inv-loop μ-loop
 array-read-row c = omega (arith, c .before .before .before .pre .0 .few)
 
@@ -46,12 +40,6 @@ element-copy-out-row c = omega (arith, inside c, c .before .before .before .pre 
 
 array-write-row : tie.Need-array-write-row Inv-loop μ-loop
 array-write-row c = omega (arith, c .before .before .before .before .pre .0 .few)
-
-add-b : tie.Need-add-b Inv-loop μ-loop
-add-b c = search needs
-
-loop-less : tie.Need-loop-less Inv-loop μ-loop
-loop-less c = omega arith
 
 loop-again : tie.Need-loop-again Inv-loop μ-loop
 loop-again c =
@@ -77,17 +65,5 @@ returns c m job h count rows is =
 pub needs-of-spec : {M : Type 1} → statement M
 needs-of-spec =
     tie.close
-    (tie.spec
-    Inv-loop
-    μ-loop
-    loop-holds
-    mul-row
-    mul-row-2
-    array-read-row
-    add-row
-    element-copy-out-row
-    array-write-row
-    add-b
-    loop-less
-    loop-again
-    returns)
+    (tie.spec Inv-loop μ-loop loop-holds (λ c. search needs) (λ c. search needs) array-read-row add-row
+    element-copy-out-row array-write-row (λ c. search needs) (λ c. omega arith) loop-again returns)

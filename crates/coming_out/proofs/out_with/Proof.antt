@@ -1,5 +1,5 @@
 -- `out_with`: k rounds of holders are made.
-use Prim.Native.Nat.{ℕ, _-_, _≤_}
+use Prim.Native.Nat.{_-_, _≤_}
 use native.Mathlib.Omega.{arith}
 use borrow.Author.Needs.{needs}
 use Rattle.model.specs.Model.{Job}
@@ -23,12 +23,6 @@ loop-holds c = (omega arith, λ job held. turned-none job (c .args .m) (c .args 
 union-requires : tie.Need-union-requires Inv-loop μ-loop
 union-requires c κs = c .before .before .pre .0
 
-add-k : tie.Need-add-k Inv-loop μ-loop
-add-k c = search needs
-
-loop-less : tie.Need-loop-less Inv-loop μ-loop
-loop-less c = omega arith
-
 loop-again : tie.Need-loop-again Inv-loop μ-loop
 loop-again c =
     let i = c .before in
@@ -45,13 +39,5 @@ returns c =
 pub out-with-spec : {M : Type 1} → statement M
 out-with-spec =
     tie.close
-    (tie.spec
-    Inv-loop
-    μ-loop
-    array-write-row
-    loop-holds
-    union-requires
-    add-k
-    loop-less
-    loop-again
-    returns)
+    (tie.spec Inv-loop μ-loop array-write-row loop-holds union-requires (λ c. search needs) (λ c. omega arith)
+    loop-again returns)

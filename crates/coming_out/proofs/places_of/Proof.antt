@@ -1,7 +1,6 @@
 -- `places_of`: the places before j are found.
-use Prim.Native.Nat.{ℕ, _+_, _-_, _≤_, _<_}
+use Prim.Native.Nat.{ℕ, _-_, _≤_, _<_}
 use mathlib.Core.Path.{_≡_, refl, _∙_}
-use mathlib.Core.Bool.{false}
 use native.Mathlib.Omega.{arith}
 use borrow.Author.Needs.{needs}
 use lib.ListN.{length, getD, length-set}
@@ -19,24 +18,6 @@ abbrev μ-loop : tie.MeasureT-loop
 loop-holds : tie.Need-loop-holds Inv-loop μ-loop
 loop-holds c = (omega arith, omega arith, refl, refl, λ b h. absurd (omega arith))
 
-add-j : tie.Need-add-j Inv-loop μ-loop
-add-j c = search needs
-
-array-read-if1 : tie.Need-array-read-if1 Inv-loop μ-loop
-array-read-if1 c = omega arith
-
-mul-places : tie.Need-mul-places Inv-loop μ-loop
-mul-places c = omega arith
-
-array-write-places : tie.Need-array-write-places Inv-loop μ-loop
-array-write-places c = omega arith
-
-add-count : tie.Need-add-count Inv-loop μ-loop
-add-count c = omega arith
-
-loop-less : tie.Need-loop-less Inv-loop μ-loop
-loop-less c = omega arith
-
 loop-again : tie.Need-loop-again Inv-loop μ-loop
 loop-again c =
     let i = c .before in
@@ -49,9 +30,6 @@ loop-again c =
       found-more (s .args .t1) (l .j) (l .count) (l .places) (omega (arith, s .good)) (l .inv .3) room (c .if1 .taken),
       below-set mostParts (l .count) (l .j) (l .places) room (i .loop-test .taken) (l .inv .4),
     )
-
-loop-less-2 : tie.Need-loop-less-2 Inv-loop μ-loop
-loop-less-2 c = omega arith
 
 loop-again-2 : tie.Need-loop-again-2 Inv-loop μ-loop
 loop-again-2 c =
@@ -70,17 +48,5 @@ returns c =
 pub places-of-spec : {M : Type 1} → statement M
 places-of-spec =
     tie.close
-    (tie.spec
-    Inv-loop
-    μ-loop
-    loop-holds
-    add-j
-    array-read-if1
-    mul-places
-    array-write-places
-    add-count
-    loop-less
-    loop-again
-    loop-less-2
-    loop-again-2
-    returns)
+    (tie.spec Inv-loop μ-loop loop-holds (λ c. search needs) (λ c. omega arith) (λ c. omega arith) (λ c. omega arith)
+    (λ c. omega arith) (λ c. omega arith) loop-again (λ c. omega arith) loop-again-2 returns)

@@ -32,12 +32,6 @@ either-requires c κs = search needs
 array-write-row : tie.Need-array-write-row Inv-loop μ-loop
 array-write-row c = omega (arith, c .before .before .before .before .pre)
 
-add-j : tie.Need-add-j Inv-loop μ-loop
-add-j c = search needs
-
-loop-less : tie.Need-loop-less Inv-loop μ-loop
-loop-less c = omega arith
-
 loop-again : tie.Need-loop-again Inv-loop μ-loop
 loop-again c =
     let l = c .before .before .before in
@@ -58,15 +52,5 @@ returns c =
 pub union-spec : {M : Type 1} → statement M
 union-spec =
     tie.close
-    (tie.spec
-    Inv-loop
-    μ-loop
-    loop-holds
-    array-read-either
-    is-reached-requires
-    either-requires
-    array-write-row
-    add-j
-    loop-less
-    loop-again
-    returns)
+    (tie.spec Inv-loop μ-loop loop-holds array-read-either is-reached-requires either-requires array-write-row
+    (λ c. search needs) (λ c. omega arith) loop-again returns)

@@ -2,13 +2,13 @@
 use mathlib.Core.Path.{_≡_, sym, ap, _∙_}
 use native.Mathlib.Omega.{arith}
 use Rattle.lines.specs.Parser.{accepted, refused}
-use Rattle.lines.specs.declared.fault.Span.{Span}
+use Rattle.fault_lines.specs.declared.fault.Span.{Span}
 use Rattle.lines.proofs.Outcomes.{told}
-use Rattle.job_text.specs.Grammar.{readJob}
+use Rattle.job_grammar.specs.Grammar.{readJob}
 use Rattle.job_text.specs.Views.{givenOf}
 use Rattle.job_text.proofs.Views.{means}
-use Rattle.job_text.proofs.Accepted.{valid}
-use Rattle.job_text.proofs.Numbered.{fault}
+use Rattle.job_grammar.proofs.Accepted.{valid}
+use Rattle.job_grammar.proofs.Numbered.{fault}
 use Rattle.counting.specs.declared.Counted.{Counted}
 use Rattle.counting.specs.Count.{onJob, countSaid}
 use Rattle.counting.specs.Promise.{CountPromise}
@@ -31,17 +31,11 @@ kept c r e = (e, rw e (promised (c .args .job .now)))
 read-job-requires : tie.Need-read-job-requires
 read-job-requires c κs = search needs
 
-enum-known-verdict : tie.Need-enum-known-verdict
-enum-known-verdict c = search needs
-
 fault-span-requires : tie.Need-fault-span-requires
 fault-span-requires c κs = search needs
 
 cast-t9 : tie.Need-cast-t9
 cast-t9 c = omega (arith, fault _ _ _ (refused-job (c .before .before)) .1)
-
-enum-told : tie.Need-enum-told
-enum-told c = search needs
 
 counted-job-requires : tie.Need-counted-job-requires
 counted-job-requires c κs =
@@ -68,12 +62,5 @@ returns-2 c =
 pub count-spec : {M : Type 1} → statement M
 count-spec =
     tie.close
-    (tie.spec
-    read-job-requires
-    enum-known-verdict
-    fault-span-requires
-    cast-t9
-    enum-told
-    counted-job-requires
-    returns
-    returns-2)
+    (tie.spec read-job-requires (λ c. search needs) fault-span-requires cast-t9 (λ c. search needs)
+    counted-job-requires returns returns-2)

@@ -16,9 +16,6 @@ keeps-requires c κs = search needs
 table-requires : tie.Need-table-requires
 table-requires c κs = search needs
 
-cast-result : tie.Need-cast-result
-cast-result c = search needs
-
 returns : tie.Need-returns
 unfolding countFor
 returns c =
@@ -31,4 +28,4 @@ unfolding countFor
 returns-2 c = rw (sym (kept-is (c .before)) ∙ c .if1 .left)
 
 pub count-for-spec : {M : Type 1} → statement M
-count-for-spec = tie.close (tie.spec keeps-requires table-requires cast-result returns returns-2)
+count-for-spec = tie.close (tie.spec keeps-requires table-requires (λ c. search needs) returns returns-2)

@@ -1,5 +1,5 @@
 -- `count_job`: the count by the least life and the least first life of the parts is the job's.
-use Prim.Native.Nat.{ℕ, _≤_}
+use Prim.Native.Nat.{_≤_}
 use mathlib.Core.Path.{_≡_, sym, ap, subst, _∙_}
 use native.Mathlib.Omega.{arith}
 use borrow.Author.Needs.{needs}
@@ -91,12 +91,5 @@ returns c =
 pub count-job-spec : {M : Type 1} → statement M
 count-job-spec =
     tie.close
-    (tie.spec
-    positions-of-requires
-    least-of-requires
-    signed-requires
-    last-change-requires
-    array-share-prefix-positions
-    slice-aggregate-count-for
-    count-for-requires
-    returns)
+    (tie.spec positions-of-requires least-of-requires signed-requires last-change-requires
+    array-share-prefix-positions slice-aggregate-count-for count-for-requires returns)

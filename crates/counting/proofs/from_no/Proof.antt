@@ -1,6 +1,5 @@
 -- `from_no` is one or the other, by the test.
 use native.Mathlib.Omega.{arith}
-use borrow.Author.Needs.{needs}
 use Rattle.counting.proofs.from_no.Statement.{statement}
 use Rattle.counting.proofs.from_no.Tie as tie
 

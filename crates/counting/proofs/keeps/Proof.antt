@@ -35,12 +35,6 @@ returns c =
     rw (toZ-ofZ (b .fits .life), toZ-ofZ (b .fits .end), toZ-ofZ (b .fits .first))
     at (keeps-not _ _ _ (b .args .positions .now) (l .loop .k) (r .reaches .result) (r .before .loop-test .taken) (r .reaches .ensures) (not-true (r .reaches .result) (c .if1 .taken)) (l .loop .inv .1))
 
-add-k : tie.Need-add-k Inv-loop μ-loop
-add-k c = search needs
-
-loop-less : tie.Need-loop-less Inv-loop μ-loop
-loop-less c = omega arith
-
 loop-again : tie.Need-loop-again Inv-loop μ-loop
 loop-again c =
     let r = c .before in
@@ -64,14 +58,5 @@ returns-2 c =
 pub keeps-spec : {M : Type 1} → statement M
 keeps-spec =
     tie.close
-    (tie.spec
-    Inv-loop
-    μ-loop
-    loop-holds
-    reaches-requires
-    returns
-    add-k
-    loop-less
-    loop-again
-    reaches-requires-2
-    returns-2)
+    (tie.spec Inv-loop μ-loop loop-holds reaches-requires returns (λ c. search needs) (λ c. omega arith) loop-again
+    reaches-requires-2 returns-2)

@@ -50,9 +50,6 @@ shorter-requires-2 c κs = search needs
 add-q : tie.Need-add-q Inv-loop μ-loop
 add-q c = omega (arith, c .before .before .before .before .before .before .before .before .pre)
 
-loop-less : tie.Need-loop-less Inv-loop μ-loop
-loop-less c = omega arith
-
 loop-again : tie.Need-loop-again Inv-loop μ-loop
 loop-again c =
     let shorter = c .before .before in
@@ -86,16 +83,5 @@ returns c =
 pub least-of-spec : {M : Type 1} → statement M
 least-of-spec =
     tie.close
-    (tie.spec
-    Inv-loop
-    μ-loop
-    loop-holds
-    part-of-requires
-    life-of-requires
-    shorter-requires
-    left-of-requires
-    shorter-requires-2
-    add-q
-    loop-less
-    loop-again
-    returns)
+    (tie.spec Inv-loop μ-loop loop-holds part-of-requires life-of-requires shorter-requires left-of-requires
+    shorter-requires-2 add-q (λ c. omega arith) loop-again returns)

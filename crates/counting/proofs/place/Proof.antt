@@ -1,20 +1,14 @@
 -- `place` is the next opening's position, or the end.
-use mathlib.Core.Path.{_≡_, sym}
+use mathlib.Core.Path.{sym}
 use native.Mathlib.Omega.{arith}
 use borrow.Author.Needs.{needs, sfits-of}
-use lib.ListN.{length, List·getD-eq-default}
+use lib.ListN.{List·getD-eq-default}
 use lib.IntN.{pos}
 use mir.Facts.{toZ-ofZ}
 use denote.Ref.{now}
 use Rattle.model.proofs.Bools.{there}
 use Rattle.counting.proofs.place.Statement.{statement}
 use Rattle.counting.proofs.place.Tie as tie
-
-mul-result : tie.Need-mul-result
-mul-result c = search needs
-
-shared-slice-copy-out-result : tie.Need-shared-slice-copy-out-result
-shared-slice-copy-out-result c = search needs
 
 returns : tie.Need-returns
 returns c =
@@ -27,4 +21,4 @@ returns-2 c =
     rw (toZ-ofZ (b .fits .end)) (sym (List·getD-eq-default (now (b .args .positions)) (b .args .end) {n = b .args .k} (omega (arith, c .if1 .left))))
 
 pub place-spec : {M : Type 1} → statement M
-place-spec = tie.close (tie.spec mul-result shared-slice-copy-out-result returns returns-2)
+place-spec = tie.close (tie.spec (λ c. search needs) (λ c. search needs) returns returns-2)

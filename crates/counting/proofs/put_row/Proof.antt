@@ -3,7 +3,7 @@ use Prim.Native.Nat.{ℕ, _+_, _-_, _≤_}
 use mathlib.Core.Path.{_≡_, _∙_}
 use native.Mathlib.Omega.{arith}
 use borrow.Author.Needs.{needs}
-use lib.ListN.{length, getD}
+use lib.ListN.{getD}
 use mir.Syntax.{w32}
 use mir.Val.{toZ}
 use mir.Facts.{toZ-ofZ}
@@ -31,28 +31,16 @@ start c = c .before .before .before
 old : (c : tie.In-loop Inv-loop μ-loop) → getD (c .before .loop .row) (c .before .loop .m) 0 ≡ getD (start (c .before) .args .row .now) (c .before .loop .m) 0
 old c = c .before .loop .inv .1 .rest (c .before .loop .m) (λ y h e. omega (arith, h, e))
 
-add-stopped : tie.Need-add-stopped Inv-loop μ-loop
-add-stopped c = search needs
-
-mul-stopped : tie.Need-mul-stopped Inv-loop μ-loop
-mul-stopped c = search needs
-
 slice-read-stopped : tie.Need-slice-read-stopped Inv-loop μ-loop
 slice-read-stopped c = omega (arith, c .before .before .pre .0, c .before .before .pre .2 .size)
 
 loop-holds : tie.Need-loop-holds Inv-loop μ-loop
 loop-holds c = (omega arith, filled-none)
 
-add-reaches : tie.Need-add-reaches Inv-loop μ-loop
-add-reaches c = search needs
-
 reaches-requires : tie.Need-reaches-requires Inv-loop μ-loop
 reaches-requires c κs =
     let b = start (c .before) in
     (omega (arith, c .loop-test .taken, b .pre .0), near-back (b .args .end) (b .args .first) (b .args .positions .now) (b .fits .first) (b .pre .1))
-
-mul-sum : tie.Need-mul-sum Inv-loop μ-loop
-mul-sum c = search needs
 
 slice-read-sum : tie.Need-slice-read-sum Inv-loop μ-loop
 slice-read-sum c =
@@ -67,20 +55,11 @@ sum-requires c κs =
     let r = b .pre .2 in
     (omega (arith, old i, row-most _ _ _ _ r (i .before .loop .m) (omega (arith, i .loop-test .taken))), row-most _ _ _ _ r (b .args .j + 1) (omega arith))
 
-mul-row : tie.Need-mul-row Inv-loop μ-loop
-mul-row c = search needs
-
 slice-write-row : tie.Need-slice-write-row Inv-loop μ-loop
 slice-write-row c =
     let i = c .before .before .before in
     let b = start (i .before) in
     omega (arith, i .loop-test .taken, b .pre .0, b .pre .2 .size, i .before .loop .inv .1 .size)
-
-add-m : tie.Need-add-m Inv-loop μ-loop
-add-m c = search needs
-
-loop-less : tie.Need-loop-less Inv-loop μ-loop
-loop-less c = omega arith
 
 loop-again : tie.Need-loop-again Inv-loop μ-loop
 loop-again c =
@@ -106,22 +85,6 @@ returns c =
 pub put-row-spec : {M : Type 1} → statement M
 put-row-spec =
     tie.close
-    (tie.spec
-    Inv-loop
-    μ-loop
-    add-stopped
-    mul-stopped
-    slice-read-stopped
-    loop-holds
-    add-reaches
-    reaches-requires
-    mul-sum
-    slice-read-sum
-    sum-requires
-    mul-row
-    slice-write-row
-    add-m
-    loop-less
-    loop-again
-    same-length
-    returns)
+    (tie.spec Inv-loop μ-loop (λ c. search needs) (λ c. search needs) slice-read-stopped loop-holds
+    (λ c. search needs) reaches-requires (λ c. search needs) slice-read-sum sum-requires (λ c. search needs)
+    slice-write-row (λ c. search needs) (λ c. omega arith) loop-again same-length returns)

@@ -4,11 +4,8 @@ use Rattle.clock.proofs.Ranges.{life-bits}
 use Rattle.counting.proofs.signed.Statement.{statement}
 use Rattle.counting.proofs.signed.Tie as tie
 
-cast-result : tie.Need-cast-result
-cast-result c = search needs
-
 returns : tie.Need-returns
 returns c = life-bits (c .args .x) (c .pre)
 
 pub signed-spec : {M : Type 1} → statement M
-signed-spec = tie.close (tie.spec cast-result returns)
+signed-spec = tie.close (tie.spec (λ c. search needs) returns)

@@ -1,6 +1,6 @@
 -- `sum`: no sum of three numbers up to the cap wraps.
 use Prim.Native.Nat.{ℕ, _+_, min}
-use mathlib.Core.Path.{_≡_, ap, _∙_}
+use mathlib.Core.Path.{ap, _∙_}
 use native.Mathlib.Omega.{arith}
 use borrow.Author.Needs.{needs}
 use Rattle.model.specs.Limits.{mostCount}

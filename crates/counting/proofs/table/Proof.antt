@@ -26,9 +26,6 @@ loop-holds c =
     let size : length {A = ℕ} (replicate 65 1) ≡ 65 = refl in
     (omega arith, refl, row-last _ _ (replicate 65 1) (omega (arith, size, c .pre .0)) (λ m h. getD-replicate 65 m 1 0 (omega (arith, h, c .pre .0))))
 
-sub-j : tie.Need-sub-j Inv-loop μ-loop
-sub-j c = search needs
-
 slice-aggregate-put-row : tie.Need-slice-aggregate-put-row Inv-loop μ-loop
 slice-aggregate-put-row c = sym (c .before .before .loop .inv .1)
 
@@ -56,9 +53,6 @@ loop-again c =
       row-next _ _ (l .j - 1) (l .row) _ (omega (arith, i .loop-test .taken, l .inv .0)) (rw z (l .inv .2)) put,
     )
 
-array-read-result : tie.Need-array-read-result Inv-loop μ-loop
-array-read-result c = search needs
-
 returns : tie.Need-returns Inv-loop μ-loop
 returns c =
     let l = c .before .loop in
@@ -69,14 +63,5 @@ returns c =
 pub table-spec : {M : Type 1} → statement M
 table-spec =
     tie.close
-    (tie.spec
-    Inv-loop
-    μ-loop
-    loop-holds
-    sub-j
-    slice-aggregate-put-row
-    put-row-requires
-    loop-less
-    loop-again
-    array-read-result
-    returns)
+    (tie.spec Inv-loop μ-loop loop-holds (λ c. search needs) slice-aggregate-put-row put-row-requires loop-less
+    loop-again (λ c. search needs) returns)

@@ -13,23 +13,8 @@ use borrow.Author.Needs.{needs}
 use Rattle.covers.proofs.read_cover.Statement.{statement}
 use Rattle.covers.proofs.read_cover.Tie as tie
 
-sub-read-optional : tie.Need-sub-read-optional
-sub-read-optional c = search needs
-
-part-read-optional-start : tie.Need-part-read-optional-start
-part-read-optional-start c = search needs
-
-part-read-optional-end : tie.Need-part-read-optional-end
-part-read-optional-end c = search needs
-
-slice-aggregate-read-optional : tie.Need-slice-aggregate-read-optional
-slice-aggregate-read-optional c = search needs
-
 read-optional-requires : tie.Need-read-optional-requires
 read-optional-requires c κs = search needs
-
-enum-known-field : tie.Need-enum-known-field
-enum-known-field c = search needs
 
 -- where the line is there: the row's field, and the optional line as a row
 found : (c : tie.After-field) → let a = c .before .before .before .before .before .before .args in
@@ -50,23 +35,11 @@ row c =
     let st = c .before .before .before .before .before .before .before .before in
     line-reads _ (st .args .p) (row-line _ 0 1000000 _ (found (c .before .before) .0)) (c .advance .ensures)
 
-enum-known-v : tie.Need-enum-known-v
-enum-known-v c = search needs
-
 read-inside-requires : tie.Need-read-inside-requires
 read-inside-requires c κs = (got-place (row (c .before .before .before)) (ap rowAnswer (c .before .v .given .1)), c .before .before .before .before .before .before .before .before .before .before .before .pre .1)
 
-enum-known-j : tie.Need-enum-known-j
-enum-known-j c = search needs
-
 no-cover-requires : tie.Need-no-cover-requires
 no-cover-requires c κs = search needs
-
-enum-told : tie.Need-enum-told
-enum-told c = search needs
-
-no-cover-requires-2 : tie.Need-no-cover-requires-2
-no-cover-requires-2 c κs = search needs
 
 returns : tie.Need-returns
 unfolding cover return
@@ -90,20 +63,6 @@ returns-3 c =
 pub read-cover-spec : {M : Type 1} → statement M
 read-cover-spec =
     tie.close
-    (tie.spec
-    sub-read-optional
-    part-read-optional-start
-    part-read-optional-end
-    slice-aggregate-read-optional
-    read-optional-requires
-    enum-known-field
-    advance-requires
-    enum-known-v
-    read-inside-requires
-    enum-known-j
-    no-cover-requires
-    enum-told
-    no-cover-requires-2
-    returns
-    returns-2
-    returns-3)
+    (tie.spec (λ c. search needs) (λ c. search needs) (λ c. search needs) (λ c. search needs) read-optional-requires
+    (λ c. search needs) advance-requires (λ c. search needs) read-inside-requires (λ c. search needs)
+    no-cover-requires (λ c. search needs) (λ c κs. search needs) returns returns-2 returns-3)

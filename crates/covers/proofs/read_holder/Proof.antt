@@ -1,25 +1,18 @@
 -- `read_holder`: a number that rises, and then the rule that it is not the part's own.
 use borrow.Author.Needs.{needs}
-use mathlib.Core.Path.{_≡_, sym, ap, subst}
-use mathlib.Core.Bool.{true, false}
+use mathlib.Core.Path.{subst}
 use Rattle.lines.specs.Text.{bytes}
 use Rattle.lines.specs.Parser.{row, checked, rising}
 use Rattle.lines.specs.Cursor.{LineRead}
 use Rattle.lines.specs.declared.read.Field.the-variants.{Value}
 use Rattle.lines.proofs.Parsing.{line-ruled, line-broken, line-fault}
-use Rattle.covers.specs.Grammar.{other, holder}
+use Rattle.covers.specs.Grammar.{holder}
 use borrow.Author.Tests.{eq-eqb, ne-eqb}
 use Rattle.covers.proofs.read_holder.Statement.{statement}
 use Rattle.covers.proofs.read_holder.Tie as tie
 
-slice-aggregate-read-rising : tie.Need-slice-aggregate-read-rising
-slice-aggregate-read-rising c = search needs
-
 read-rising-requires : tie.Need-read-rising-requires
 read-rising-requires c κs = search needs
-
-enum-known-v : tie.Need-enum-known-v
-enum-known-v c = search needs
 
 -- the number that was read
 found : (c : tie.After-v) → let a = c .before .before .before .before .before .args in LineRead (checked 12 (rising (a .before) (a .m)) (row "holder=" 1 16)) (a .s .now) (Value (c .v .given .0 .0) (c .v .given .0 .1 .0))
@@ -29,9 +22,6 @@ found c = subst (LineRead _ _) (c .v .given .1) (c .before .before .read-rising 
 returns : tie.Need-returns
 unfolding holder
 returns c = line-broken _ _ _ _ (found (c .before .before)) (simp (eq-eqb _ _ (c .if1 .taken)))
-
-enum-known-j : tie.Need-enum-known-j
-enum-known-j c = search needs
 
 returns-2 : tie.Need-returns-2
 unfolding holder
@@ -44,11 +34,5 @@ returns-3 c = line-fault _ _ _ _ (subst (LineRead _ _) (c .before .j .given .1) 
 pub read-holder-spec : {M : Type 1} → statement M
 read-holder-spec =
     tie.close
-    (tie.spec
-    slice-aggregate-read-rising
-    read-rising-requires
-    enum-known-v
-    returns
-    enum-known-j
-    returns-2
+    (tie.spec (λ c. search needs) read-rising-requires (λ c. search needs) returns (λ c. search needs) returns-2
     returns-3)

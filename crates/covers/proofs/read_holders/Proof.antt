@@ -5,7 +5,7 @@ use mathlib.Core.List.{List}
 use mathlib.Core.Bool.{Bool, true, false}
 use native.Mathlib.Omega.{arith}
 use borrow.Author.Needs.{needs}
-use lib.ListN.{length, getD, drop, replicate, length-set}
+use lib.ListN.{length, getD, drop, length-set}
 use lib.Seq.{getD-set-other}
 use Rattle.lines.specs.Text.{joined}
 use Rattle.lines.specs.Chosen.{chosen, numbersOf}
@@ -44,9 +44,6 @@ sub-read-holder c = c .before .loop .inv .stands .inside
 part-read-holder-start : tie.Need-part-read-holder-start Inv-loop μ-loop
 part-read-holder-start c = c .before .loop .inv .stands .inside
 
-part-read-holder-end : tie.Need-part-read-holder-end Inv-loop μ-loop
-part-read-holder-end c = search needs
-
 read-holder-requires : tie.Need-read-holder-requires Inv-loop μ-loop
 read-holder-requires c κs = search needs
 
@@ -58,9 +55,6 @@ step : (c : tie.After-advance Inv-loop μ-loop) → let l = c .before .before .b
     Reads (a .text .now) (rowAnswer (c .advance .result)) (holder (a .m) (a .k) (l .before) (drop (l .q .at) (a .text .now)) (l .q .line))
 step c = line-reads _ (c .before .before .before .before .loop .q) (c .before .read-holder .ensures) (c .advance .ensures)
 
-enum-known-h : tie.Need-enum-known-h Inv-loop μ-loop
-enum-known-h c = search needs
-
 -- what is known of it
 known : (c : tie.After-known-told Inv-loop μ-loop) → let a = c .before .before .before .before .before .before .before .before .before .args in
     KnownHolder (a .m) (a .k) (c .before .before .before .before .before .before .before .loop .before) (c .before .h .given .0 .0)
@@ -69,17 +63,8 @@ known c = holder-tells _ _ _ _ _ _ _ _ (got-value (step (c .before .before .befo
 sub-marks : tie.Need-sub-marks Inv-loop μ-loop
 sub-marks c = omega (arith, known c .0 .low)
 
-cast-marks : tie.Need-cast-marks Inv-loop μ-loop
-cast-marks c = search needs
-
 array-write-marks : tie.Need-array-write-marks Inv-loop μ-loop
 array-write-marks c = omega (arith, known c .0 .high, known c .0 .low)
-
-add-i : tie.Need-add-i Inv-loop μ-loop
-add-i c = omega arith
-
-loop-less : tie.Need-loop-less Inv-loop μ-loop
-loop-less c = omega arith
 
 loop-again : tie.Need-loop-again Inv-loop μ-loop
 loop-again c =
@@ -98,9 +83,6 @@ loop-again c =
       read = v .read ∙ chain-more _ _ (at .before .before .args .n) (at .loop .i) _ _ _ _ (c .before .before .before .before .before .before .loop-test .taken) (got-value e m)
           (numbers-more marks h (k .0 .low) (omega (arith, k .0 .high, v .size)) (λ j l. v .bare j (omega (arith, k .0 .after))));
     }
-
-enum-known-j : tie.Need-enum-known-j Inv-loop μ-loop
-enum-known-j c = search needs
 
 returns : tie.Need-returns Inv-loop μ-loop
 unfolding ended
@@ -121,22 +103,6 @@ returns-2 c =
 pub read-holders-spec : {M : Type 1} → statement M
 read-holders-spec =
     tie.close
-    (tie.spec
-    Inv-loop
-    μ-loop
-    loop-holds
-    sub-read-holder
-    part-read-holder-start
-    part-read-holder-end
-    read-holder-requires
-    advance-requires
-    enum-known-h
-    sub-marks
-    cast-marks
-    array-write-marks
-    add-i
-    loop-less
-    loop-again
-    enum-known-j
-    returns
-    returns-2)
+    (tie.spec Inv-loop μ-loop loop-holds sub-read-holder part-read-holder-start (λ c. search needs)
+    read-holder-requires advance-requires (λ c. search needs) sub-marks (λ c. search needs) array-write-marks
+    (λ c. omega arith) (λ c. omega arith) loop-again (λ c. search needs) returns returns-2)

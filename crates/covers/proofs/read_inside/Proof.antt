@@ -1,5 +1,5 @@
 -- `read_inside`: the number's line, and then so many holders; the first fault is the whole's.
-use mathlib.Core.Path.{_≡_, refl, ap, sym, _∙_}
+use mathlib.Core.Path.{refl, ap, sym, _∙_}
 use mathlib.Core.List.{List}
 use Prim.Native.Nat.{ℕ}
 use lib.ListN.{drop}
@@ -12,18 +12,6 @@ use Rattle.covers.specs.Grammar.{Cover, holders, inside}
 use borrow.Author.Needs.{needs}
 use Rattle.covers.proofs.read_inside.Statement.{statement}
 use Rattle.covers.proofs.read_inside.Tie as tie
-
-sub-read-field : tie.Need-sub-read-field
-sub-read-field c = search needs
-
-part-read-field-start : tie.Need-part-read-field-start
-part-read-field-start c = search needs
-
-part-read-field-end : tie.Need-part-read-field-end
-part-read-field-end c = search needs
-
-slice-aggregate-read-field : tie.Need-slice-aggregate-read-field
-slice-aggregate-read-field c = search needs
 
 read-field-requires : tie.Need-read-field-requires
 read-field-requires c κs = search needs
@@ -40,17 +28,8 @@ count : (c : tie.After-advance) → let a = c .before .before .before .before .b
 unfolding bytes
 count c = line-reads _ (c .before .before .before .before .before .args .p) (row-line _ 0 15 _ (c .before .read-field .ensures)) (c .advance .ensures)
 
-enum-known-n : tie.Need-enum-known-n
-enum-known-n c = search needs
-
-cast-read-holders : tie.Need-cast-read-holders
-cast-read-holders c = search needs
-
 read-holders-requires : tie.Need-read-holders-requires
 read-holders-requires c κs = (got-place (count (c .before .before .before)) (ap rowAnswer (c .before .n .given .1)), c .before .before .before .before .before .before .before .before .pre .1)
-
-enum-known-j : tie.Need-enum-known-j
-enum-known-j c = search needs
 
 no-cover-requires : tie.Need-no-cover-requires
 no-cover-requires c κs = search needs
@@ -74,17 +53,6 @@ returns-2 c =
 pub read-inside-spec : {M : Type 1} → statement M
 read-inside-spec =
     tie.close
-    (tie.spec
-    sub-read-field
-    part-read-field-start
-    part-read-field-end
-    slice-aggregate-read-field
-    read-field-requires
-    advance-requires
-    enum-known-n
-    cast-read-holders
-    read-holders-requires
-    enum-known-j
-    no-cover-requires
-    returns
-    returns-2)
+    (tie.spec (λ c. search needs) (λ c. search needs) (λ c. search needs) (λ c. search needs) read-field-requires
+    advance-requires (λ c. search needs) (λ c. search needs) read-holders-requires (λ c. search needs)
+    no-cover-requires returns returns-2)

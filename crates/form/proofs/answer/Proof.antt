@@ -1,5 +1,5 @@
 -- `answer`: an output that is too short stays; else the job text is written.
-use Rattle.job_text.specs.Rendering.{jobText}
+use Rattle.job_grammar.specs.Rendering.{jobText}
 use Rattle.job_text.specs.Views.{textOf}
 use Rattle.answers.specs.Said.{plainly}
 use Rattle.answers.proofs.Replies.{replied, no-room}
@@ -20,19 +20,10 @@ put-job-requires c κs = search needs
 plain-requires : tie.Need-plain-requires
 plain-requires c κs = search needs
 
-same-length : tie.Need-same-length
-same-length c = search needs
-
 returns-2 : tie.Need-returns-2
 returns-2 c = replied writeRoom (plainly 0 (jobText (textOf (c .before .before .before .before .before .before .before .args .text)))) (c .before .before .before .before .before .if1 .left) (c .before .before .before .before .before .before .before .pre .1) (c .before .before .before .put-job .ensures) (c .plain .ensures)
 
 pub answer-spec : {M : Type 1} → statement M
 answer-spec =
     tie.close
-    (tie.spec
-    no-room-requires
-    returns
-    put-job-requires
-    plain-requires
-    same-length
-    returns-2)
+    (tie.spec no-room-requires returns put-job-requires plain-requires (λ c. search needs) returns-2)

@@ -10,20 +10,10 @@ use Rattle.form.proofs.line_after.Tie as tie
 returns : tie.Need-returns
 returns c = rw (eq-eqb (c .before .args .n) 0 (c .if1 .taken))
 
-cast-result : tie.Need-cast-result
-cast-result c = search needs
-
-add-result : tie.Need-add-result
-add-result c = search needs
-
 returns-2 : tie.Need-returns-2
 returns-2 c = sym (after-some (c .before .args .n) (omega (arith, c .if1 .left)))
 
 pub line-after-spec : {M : Type 1} → statement M
 line-after-spec =
     tie.close
-    (tie.spec
-    returns
-    cast-result
-    add-result
-    returns-2)
+    (tie.spec returns (λ c. search needs) (λ c. search needs) returns-2)

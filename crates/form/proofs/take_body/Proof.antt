@@ -8,11 +8,12 @@ use Rattle.lines.specs.Parser.{good, return, row}
 use Rattle.lines.proofs.Parsing.{bind-good, bind-fault}
 use Rattle.jobs.specs.Views.{openingOf, partOf}
 use Rattle.model.specs.Model.{Opening}
-use Rattle.job_text.specs.Grammar.{PartText, JobText, openings, parts, body}
-use Rattle.job_text.specs.Views.{idleLines, partsLines}
-use Rattle.form_lists.specs.Facts.{PartLists, partLists, countedText}
-use Rattle.form_lists.specs.Checks.{found, countedParts}
-use Rattle.form_lists.proofs.Checks.{passed, failed}
+use Rattle.job_grammar.specs.Grammar.{PartText, JobText, openings, parts, body}
+use Rattle.job_grammar.specs.Optionals.{idleLines, partsLines}
+use Rattle.form_facts.specs.Facts.{PartLists, partLists, countedText}
+use Rattle.form_checks.specs.Checks.{found}
+use Rattle.form_lists.specs.Places.{countedParts}
+use Rattle.form_checks.proofs.Checks.{passed, failed}
 use Rattle.form.specs.Form.{bodyOf}
 use Rattle.form.proofs.Refusals.{refuse, bind-then}
 use borrow.Author.Needs.{needs}
@@ -22,38 +23,14 @@ use Rattle.form.proofs.take_body.Tie as tie
 take-openings-requires : tie.Need-take-openings-requires
 take-openings-requires c κs = search needs
 
-enum-told : tie.Need-enum-told
-enum-told c = search needs
-
-cast-line : tie.Need-cast-line
-cast-line c = search needs
-
-mul-line : tie.Need-mul-line
-mul-line c = search needs
-
-add-line : tie.Need-add-line
-add-line c = search needs
-
 take-counted-requires : tie.Need-take-counted-requires
 take-counted-requires c κs = search needs
-
-enum-told-2 : tie.Need-enum-told-2
-enum-told-2 c = search needs
 
 text-with-requires : tie.Need-text-with-requires
 text-with-requires c κs = search needs
 
-enum-known-ps-check : tie.Need-enum-known-ps-check
-enum-known-ps-check c = search needs
-
 no-lines-requires : tie.Need-no-lines-requires
 no-lines-requires c κs = search needs
-
-enum-known-os-check : tie.Need-enum-known-os-check
-enum-known-os-check c = search needs
-
-no-lines-requires-2 : tie.Need-no-lines-requires-2
-no-lines-requires-2 c κs = search needs
 
 -- the lists of the parts, and their text
 abbrev lists : tie.Start → PartLists
@@ -116,19 +93,6 @@ returns-3 c =
 pub take-body-spec : {M : Type 1} → statement M
 take-body-spec =
     tie.close
-    (tie.spec
-    take-openings-requires
-    enum-told
-    cast-line
-    mul-line
-    add-line
-    take-counted-requires
-    enum-told-2
-    text-with-requires
-    enum-known-ps-check
-    no-lines-requires
-    enum-known-os-check
-    no-lines-requires-2
-    returns
-    returns-2
-    returns-3)
+    (tie.spec take-openings-requires (λ c. search needs) (λ c. search needs) (λ c. search needs) (λ c. search needs)
+    take-counted-requires (λ c. search needs) text-with-requires (λ c. search needs) no-lines-requires
+    (λ c. search needs) (λ c κs. search needs) returns returns-2 returns-3)

@@ -7,12 +7,12 @@ use lib.ListN.{length, take}
 use Rattle.lines.specs.Text.{bytes, lineOf, optionalText}
 use Rattle.lines.specs.Parser.{row}
 use Rattle.lines.proofs.Parsing.{bind-good, bind-fault}
-use Rattle.job_text.specs.Grammar.{idles, rest, jobLines}
-use Rattle.job_text.specs.Views.{idleLines}
-use Rattle.form_lists.specs.Facts.{partLists, feesAgree, countOf}
+use Rattle.job_grammar.specs.Grammar.{idles, rest, jobLines}
+use Rattle.job_grammar.specs.Optionals.{idleLines}
+use Rattle.form_facts.specs.Facts.{partLists, feesAgree, countOf}
 use Rattle.form.specs.Form.{idleCountText, bodyOf, restOf, formText}
 use Rattle.form.specs.Checks.{lineAfter}
-use Rattle.form_lists.proofs.Checks.{passed, failed}
+use Rattle.form_checks.proofs.Checks.{passed, failed}
 use Rattle.form.proofs.Refusals.{refuse}
 use Rattle.form.proofs.IdleLines.{after-small}
 use borrow.Author.Needs.{needs}
@@ -33,14 +33,8 @@ idleRest c = optionalText idleCountText (idleLines (c .args .idles .now)) ++ res
 check-value-requires : tie.Need-check-value-requires
 check-value-requires c κs = search needs
 
-enum-told : tie.Need-enum-told
-enum-told c = search needs
-
 take-idles-requires : tie.Need-take-idles-requires
 take-idles-requires c κs = search needs
-
-enum-told-2 : tie.Need-enum-told-2
-enum-told-2 c = search needs
 
 line-after-requires : tie.Need-line-after-requires
 line-after-requires c κs = c .before .before .take-idles .ensures .1
@@ -50,17 +44,8 @@ take-rest-requires c κs =
     let n = c .before .before .before .take-idles .result .count in
     (c .before .before .before .take-idles .ensures .1, omega (arith, c .line-after .ensures, after-small n (c .before .before .before .take-idles .ensures .1)))
 
-enum-known-check : tie.Need-enum-known-check
-enum-known-check c = search needs
-
 no-lines-requires : tie.Need-no-lines-requires
 no-lines-requires c κs = search needs
-
-enum-known-k : tie.Need-enum-known-k
-enum-known-k c = search needs
-
-no-lines-requires-2 : tie.Need-no-lines-requires-2
-no-lines-requires-2 c κs = search needs
 
 returns : tie.Need-returns
 unfolding jobLines formText restOf
@@ -98,17 +83,6 @@ returns-3 c =
 pub take-form-spec : {M : Type 1} → statement M
 take-form-spec =
     tie.close
-    (tie.spec
-    check-value-requires
-    enum-told
-    take-idles-requires
-    enum-told-2
-    line-after-requires
-    take-rest-requires
-    enum-known-check
-    no-lines-requires
-    enum-known-k
-    no-lines-requires-2
-    returns
-    returns-2
-    returns-3)
+    (tie.spec check-value-requires (λ c. search needs) take-idles-requires (λ c. search needs) line-after-requires
+    take-rest-requires (λ c. search needs) no-lines-requires (λ c. search needs) (λ c κs. search needs) returns
+    returns-2 returns-3)

@@ -6,11 +6,11 @@ use native.Mathlib.Omega.{arith}
 use lib.ListN.{length, take}
 use Rattle.lines.specs.Text.{lineOf, texts}
 use Rattle.lines.specs.Parser.{good}
-use Rattle.job_text.specs.Views.{idleLines}
-use Rattle.job_text.proofs.Complete.{walk-next}
-use Rattle.form_lists.specs.Checks.{found}
-use Rattle.form_lists.specs.declared.check.Check.{Check}
-use Rattle.form_lists.proofs.Checks.{passed, failed}
+use Rattle.job_grammar.specs.Optionals.{idleLines}
+use Rattle.job_grammar.proofs.Complete.{walk-next}
+use Rattle.form_checks.specs.Checks.{found}
+use Rattle.form_checks.specs.declared.check.Check.{Check}
+use Rattle.form_checks.proofs.Checks.{passed, failed}
 use Rattle.form.specs.Checks.{lineAfter}
 use Rattle.form.proofs.IdleLines.{after-some, idles-none, idles-fault, idles-some, steps-found}
 use borrow.Author.Needs.{needs}
@@ -40,17 +40,8 @@ returns c =
 check-idle-count-requires : tie.Need-check-idle-count-requires
 check-idle-count-requires c κs = search needs
 
-enum-told : tie.Need-enum-told
-enum-told c = search needs
-
 take-steps-requires : tie.Need-take-steps-requires
 take-steps-requires c κs = (c .before .before .check-idle-count .ensures .1 (c .enum-told .given .1), omega arith)
-
-enum-known-k : tie.Need-enum-known-k
-enum-known-k c = search needs
-
-no-steps-requires-2 : tie.Need-no-steps-requires-2
-no-steps-requires-2 c κs = search needs
 
 returns-2 : tie.Need-returns-2
 returns-2 c =
@@ -82,13 +73,5 @@ returns-3 c =
 pub take-idles-spec : {M : Type 1} → statement M
 take-idles-spec =
     tie.close
-    (tie.spec
-    no-steps-requires
-    returns
-    check-idle-count-requires
-    enum-told
-    take-steps-requires
-    enum-known-k
-    no-steps-requires-2
-    returns-2
-    returns-3)
+    (tie.spec no-steps-requires returns check-idle-count-requires (λ c. search needs) take-steps-requires
+    (λ c. search needs) (λ c κs. search needs) returns-2 returns-3)

@@ -7,11 +7,11 @@ use lib.ListN.{length, take}
 use Rattle.lines.specs.Text.{bytes, lineOf}
 use Rattle.lines.specs.Parser.{row}
 use Rattle.lines.proofs.Parsing.{bind-good, bind-fault}
-use Rattle.job_text.specs.Grammar.{body, rest}
-use Rattle.job_text.specs.Views.{idleLines}
-use Rattle.form_lists.specs.Facts.{partLists, feesAgree, countOf}
+use Rattle.job_grammar.specs.Grammar.{body, rest}
+use Rattle.job_grammar.specs.Optionals.{idleLines}
+use Rattle.form_facts.specs.Facts.{partLists, feesAgree, countOf}
 use Rattle.form.specs.Form.{bodyOf, restOf}
-use Rattle.form_lists.proofs.Checks.{passed, failed}
+use Rattle.form_checks.proofs.Checks.{passed, failed}
 use Rattle.form.proofs.Refusals.{refuse}
 use borrow.Author.Needs.{needs}
 use Rattle.form.proofs.take_rest.Statement.{statement}
@@ -27,17 +27,11 @@ numbered c = let a = c .args in lineOf "openings=" (countOf 64 (feesAgree (a .op
 check-value-requires : tie.Need-check-value-requires
 check-value-requires c κs = search needs
 
-enum-told : tie.Need-enum-told
-enum-told c = search needs
-
 add-check-opening-count : tie.Need-add-check-opening-count
 add-check-opening-count c = omega (arith, c .before .before .before .before .before .before .before .before .before .before .before .before .pre)
 
 check-opening-count-requires : tie.Need-check-opening-count-requires
 check-opening-count-requires c κs = search needs
-
-enum-told-2 : tie.Need-enum-told-2
-enum-told-2 c = search needs
 
 add-take-body : tie.Need-add-take-body
 add-take-body c = omega (arith, c .before .before .before .before .before .before .before .before .before .before .before .before .before .before .before .pre)
@@ -47,17 +41,8 @@ take-body-requires c κs =
     let g = c .before .before .check-opening-count .ensures .1 (c .enum-told2 .given .1) in
     (c .before .before .before .before .before .before .before .before .before .before .before .before .before .before .before .pre .0, g .0, g .1, omega (arith, c .before .before .before .before .before .before .before .before .before .before .before .before .before .before .before .pre))
 
-enum-known-k : tie.Need-enum-known-k
-enum-known-k c = search needs
-
 no-lines-requires : tie.Need-no-lines-requires
 no-lines-requires c κs = search needs
-
-enum-known-k-2 : tie.Need-enum-known-k-2
-enum-known-k-2 c = search needs
-
-no-lines-requires-2 : tie.Need-no-lines-requires-2
-no-lines-requires-2 c κs = search needs
 
 returns : tie.Need-returns
 unfolding rest restOf
@@ -93,18 +78,6 @@ returns-3 c =
 pub take-rest-spec : {M : Type 1} → statement M
 take-rest-spec =
     tie.close
-    (tie.spec
-    check-value-requires
-    enum-told
-    add-check-opening-count
-    check-opening-count-requires
-    enum-told-2
-    add-take-body
-    take-body-requires
-    enum-known-k
-    no-lines-requires
-    enum-known-k-2
-    no-lines-requires-2
-    returns
-    returns-2
-    returns-3)
+    (tie.spec check-value-requires (λ c. search needs) add-check-opening-count check-opening-count-requires
+    (λ c. search needs) add-take-body take-body-requires (λ c. search needs) no-lines-requires (λ c. search needs)
+    (λ c κs. search needs) returns returns-2 returns-3)

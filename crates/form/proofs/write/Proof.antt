@@ -9,7 +9,7 @@ use Rattle.form.specs.Form.{Form, filled, readForm}
 use Rattle.form.specs.Write.{writeSaid, writeRoom}
 use Rattle.form.specs.Promise.{WritePromise}
 use Rattle.answers.specs.Said.{lent}
-use Rattle.form_lists.proofs.Checks.{passed, failed}
+use Rattle.form_checks.proofs.Checks.{passed, failed}
 use Rattle.form.proofs.Stated.{Held}
 use Rattle.form.proofs.Promised.{form-accepted, form-refused, fits-room, promised}
 use borrow.Author.Needs.{needs}
@@ -50,29 +50,17 @@ accepted-form c = let t = c .before .before .take-form in form-accepted (form (c
 take-form-requires : tie.Need-take-form-requires
 take-form-requires c κs = search needs
 
-enum-known-check : tie.Need-enum-known-check
-enum-known-check c = search needs
-
 refuse-line-requires : tie.Need-refuse-line-requires
 refuse-line-requires c κs = search needs
-
-enum-told : tie.Need-enum-told
-enum-told c = search needs
 
 answer-requires : tie.Need-answer-requires
 answer-requires c κs =
     let t = c .before .before .before .before .take-form in
     (t .ensures .sized, fits-room (form (c .before .before .before .before .before)) _ (t .ensures .next) (passed (textOf (t .result .text)) [] (t .ensures .next) (t .ensures .finds) (c .before .before .enum-told .given .1)))
 
-same-length : tie.Need-same-length
-same-length c = search needs
-
 returns : tie.Need-returns
 unfolding writeSaid
 returns c = (rw (refused-form (c .before .before .before .before .before)) (c .before .before .refuse-line .ensures), kept (c .before .before .before .before .before .before .before .before))
-
-same-length-2 : tie.Need-same-length-2
-same-length-2 c = search needs
 
 returns-2 : tie.Need-returns-2
 unfolding writeSaid
@@ -81,13 +69,5 @@ returns-2 c = (rw (accepted-form (c .before .before .before .before .before)) (c
 pub write-spec : {M : Type 1} → statement M
 write-spec =
     tie.close
-    (tie.spec
-    take-form-requires
-    enum-known-check
-    refuse-line-requires
-    enum-told
-    answer-requires
-    same-length
-    returns
-    same-length-2
-    returns-2)
+    (tie.spec take-form-requires (λ c. search needs) refuse-line-requires (λ c. search needs) answer-requires
+    (λ c. search needs) returns (λ c. search needs) returns-2)

@@ -86,15 +86,6 @@ array-share-prefix-lefts c = let b = c .before .before .before in long-enough (m
 slice-aggregate-search-held-4 : tie.Need-slice-aggregate-search-held-4
 slice-aggregate-search-held-4 c = sym (long (c .before .before .before .before) .lefts)
 
-slice-aggregate-search-held-5 : tie.Need-slice-aggregate-search-held-5
-slice-aggregate-search-held-5 c = search needs
-
-slice-aggregate-search-held-6 : tie.Need-slice-aggregate-search-held-6
-slice-aggregate-search-held-6 c = search needs
-
-array-share-prefix-removals : tie.Need-array-share-prefix-removals
-array-share-prefix-removals c = search needs
-
 slice-aggregate-search-held-7 : tie.Need-slice-aggregate-search-held-7
 slice-aggregate-search-held-7 c =
     let b = c .before .before .before .before .before .before .before in
@@ -113,21 +104,7 @@ returns c =
 pub search-held-job-spec : {M : Type 1} → statement M
 search-held-job-spec =
     tie.close
-    (tie.spec
-    numbers-of-requires
-    holder-numbers-of-requires
-    prices-of-requires
-    array-share-prefix-positions
-    slice-aggregate-search-held
-    array-share-prefix-fees
-    slice-aggregate-search-held-2
-    array-share-prefix-lives
-    slice-aggregate-search-held-3
-    array-share-prefix-lefts
-    slice-aggregate-search-held-4
-    slice-aggregate-search-held-5
-    slice-aggregate-search-held-6
-    array-share-prefix-removals
-    slice-aggregate-search-held-7
-    search-held-requires
-    returns)
+    (tie.spec numbers-of-requires holder-numbers-of-requires prices-of-requires array-share-prefix-positions
+    slice-aggregate-search-held array-share-prefix-fees slice-aggregate-search-held-2 array-share-prefix-lives
+    slice-aggregate-search-held-3 array-share-prefix-lefts slice-aggregate-search-held-4 (λ c. search needs)
+    (λ c. search needs) (λ c. search needs) slice-aggregate-search-held-7 search-held-requires returns)

@@ -23,38 +23,14 @@ abbrev μ-loop : tie.MeasureT-loop
 loop-holds : tie.Need-loop-holds Inv-loop μ-loop
 loop-holds c = (omega arith, filled-none)
 
-slice-aggregate-spread : tie.Need-slice-aggregate-spread Inv-loop μ-loop
-slice-aggregate-spread c = search needs
-
 spread-requires : tie.Need-spread-requires Inv-loop μ-loop
 spread-requires c κs = search needs
 
 number-requires : tie.Need-number-requires Inv-loop μ-loop
 number-requires c κs = search needs
 
-add-number : tie.Need-add-number Inv-loop μ-loop
-add-number c = search needs
-
 number-requires-2 : tie.Need-number-requires-2 Inv-loop μ-loop
 number-requires-2 c κs = search needs
-
-sub-old : tie.Need-sub-old Inv-loop μ-loop
-sub-old c = search needs
-
-mul-old : tie.Need-mul-old Inv-loop μ-loop
-mul-old c = search needs
-
-add-old : tie.Need-add-old Inv-loop μ-loop
-add-old c = search needs
-
-mul-old-2 : tie.Need-mul-old-2 Inv-loop μ-loop
-mul-old-2 c = search needs
-
-slice-read-old : tie.Need-slice-read-old Inv-loop μ-loop
-slice-read-old c = search needs
-
-mul-pick : tie.Need-mul-pick Inv-loop μ-loop
-mul-pick c = search needs
 
 array-read-pick : tie.Need-array-read-pick Inv-loop μ-loop
 array-read-pick c =
@@ -62,38 +38,8 @@ array-read-pick c =
     let s = n .before .before .before .before .before .before in
     omega (arith, c .before .number2 .ensures .0, s .pre .leads (c .before .before .before .loop .c) (omega (arith, n .number .ensures .0)))
 
-mul-pick-2 : tie.Need-mul-pick-2 Inv-loop μ-loop
-mul-pick-2 c = search needs
-
-add-pick : tie.Need-add-pick Inv-loop μ-loop
-add-pick c = search needs
-
-cast-pick : tie.Need-cast-pick Inv-loop μ-loop
-cast-pick c = search needs
-
 pick-requires : tie.Need-pick-requires Inv-loop μ-loop
 pick-requires c κs = search needs
-
-mul-v : tie.Need-mul-v Inv-loop μ-loop
-mul-v c = search needs
-
-add-v : tie.Need-add-v Inv-loop μ-loop
-add-v c = search needs
-
-mul-v-2 : tie.Need-mul-v-2 Inv-loop μ-loop
-mul-v-2 c = search needs
-
-slice-write-v : tie.Need-slice-write-v Inv-loop μ-loop
-slice-write-v c = search needs
-
-add-c : tie.Need-add-c Inv-loop μ-loop
-add-c c = search needs
-
-loop-less : tie.Need-loop-less Inv-loop μ-loop
-loop-less c = search needs
-
-same-length : tie.Need-same-length Inv-loop μ-loop
-same-length c = search needs
 
 loop-again : tie.Need-loop-again Inv-loop μ-loop
 loop-again c =
@@ -127,32 +73,8 @@ returns c =
 pub note-lasts-spec : {M : Type 1} → statement M
 note-lasts-spec =
     tie.close
-    (tie.spec
-    Inv-loop
-    μ-loop
-    slice-aggregate-spread
-    spread-requires
-    number-requires
-    loop-holds
-    add-number
-    number-requires-2
-    sub-old
-    mul-old
-    add-old
-    mul-old-2
-    slice-read-old
-    mul-pick
-    array-read-pick
-    mul-pick-2
-    add-pick
-    cast-pick
-    pick-requires
-    mul-v
-    add-v
-    mul-v-2
-    slice-write-v
-    add-c
-    loop-less
-    loop-again
-    same-length
-    returns)
+    (tie.spec Inv-loop μ-loop (λ c. search needs) spread-requires number-requires loop-holds (λ c. search needs)
+    number-requires-2 (λ c. search needs) (λ c. search needs) (λ c. search needs) (λ c. search needs)
+    (λ c. search needs) (λ c. search needs) array-read-pick (λ c. search needs) (λ c. search needs)
+    (λ c. search needs) pick-requires (λ c. search needs) (λ c. search needs) (λ c. search needs)
+    (λ c. search needs) (λ c. search needs) (λ c. search needs) loop-again (λ c. search needs) returns)

@@ -42,12 +42,6 @@ class-term-requires c κs =
 more-requires : tie.Need-more-requires Inv-loop μ-loop
 more-requires c κs = search needs
 
-add-c : tie.Need-add-c Inv-loop μ-loop
-add-c c = search needs
-
-loop-less : tie.Need-loop-less Inv-loop μ-loop
-loop-less c = search needs
-
 loop-again : tie.Need-loop-again Inv-loop μ-loop
 loop-again c =
     let at = c .before .before .before in
@@ -71,16 +65,5 @@ returns c =
 pub opening-term-spec : {M : Type 1} → statement M
 opening-term-spec =
     tie.close
-    (tie.spec
-    Inv-loop
-    μ-loop
-    row-of-requires
-    mul-level
-    number-requires
-    loop-holds
-    class-term-requires
-    more-requires
-    add-c
-    loop-less
-    loop-again
-    returns)
+    (tie.spec Inv-loop μ-loop row-of-requires mul-level number-requires loop-holds class-term-requires more-requires
+    (λ c. search needs) (λ c. search needs) loop-again returns)

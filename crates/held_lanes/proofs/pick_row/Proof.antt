@@ -17,44 +17,11 @@ Inv-loop fours one two acc₀ p₀ p-end acc p = (p ≤ p-end) × FilledBy (λ (
 abbrev μ-loop : tie.MeasureT-loop
 μ-loop fours one two acc₀ p₀ p-end acc p = p-end - p
 
-mul-p-end : tie.Need-mul-p-end Inv-loop μ-loop
-mul-p-end c = search needs
-
 loop-holds : tie.Need-loop-holds Inv-loop μ-loop
 loop-holds c = (omega arith, filled-none)
 
-mul-pick : tie.Need-mul-pick Inv-loop μ-loop
-mul-pick c = search needs
-
-slice-read-pick : tie.Need-slice-read-pick Inv-loop μ-loop
-slice-read-pick c = search needs
-
-mul-pick-2 : tie.Need-mul-pick-2 Inv-loop μ-loop
-mul-pick-2 c = search needs
-
-shared-slice-read-pick : tie.Need-shared-slice-read-pick Inv-loop μ-loop
-shared-slice-read-pick c = search needs
-
-mul-pick-3 : tie.Need-mul-pick-3 Inv-loop μ-loop
-mul-pick-3 c = search needs
-
-shared-slice-read-pick-2 : tie.Need-shared-slice-read-pick-2 Inv-loop μ-loop
-shared-slice-read-pick-2 c = search needs
-
 pick-requires : tie.Need-pick-requires Inv-loop μ-loop
 pick-requires c κs = search needs
-
-mul-acc : tie.Need-mul-acc Inv-loop μ-loop
-mul-acc c = search needs
-
-slice-write-acc : tie.Need-slice-write-acc Inv-loop μ-loop
-slice-write-acc c = search needs
-
-add-p : tie.Need-add-p Inv-loop μ-loop
-add-p c = search needs
-
-loop-less : tie.Need-loop-less Inv-loop μ-loop
-loop-less c = search needs
 
 loop-again : tie.Need-loop-again Inv-loop μ-loop
 loop-again c =
@@ -65,9 +32,6 @@ loop-again c =
           (c .pick .ensures ∙ ap (λ (x : ℕ). cond (eqb x 0) (getD (s .args .«yes» .now) (l .p) 0) (getD (s .args .«no» .now) (l .p) 0)) (l .inv .1 .rest (l .p) (λ q h z. omega (arith, z)))) (l .inv .1),
     )
 
-same-length : tie.Need-same-length Inv-loop μ-loop
-same-length c = search needs
-
 returns : tie.Need-returns Inv-loop μ-loop
 returns c =
     let d = c .before .loop .inv .1 in
@@ -76,22 +40,7 @@ returns c =
 pub pick-row-spec : {M : Type 1} → statement M
 pick-row-spec =
     tie.close
-    (tie.spec
-    Inv-loop
-    μ-loop
-    mul-p-end
-    loop-holds
-    mul-pick
-    slice-read-pick
-    mul-pick-2
-    shared-slice-read-pick
-    mul-pick-3
-    shared-slice-read-pick-2
-    pick-requires
-    mul-acc
-    slice-write-acc
-    add-p
-    loop-less
-    loop-again
-    same-length
+    (tie.spec Inv-loop μ-loop (λ c. search needs) loop-holds (λ c. search needs) (λ c. search needs)
+    (λ c. search needs) (λ c. search needs) (λ c. search needs) (λ c. search needs) pick-requires
+    (λ c. search needs) (λ c. search needs) (λ c. search needs) (λ c. search needs) loop-again (λ c. search needs)
     returns)

@@ -18,38 +18,11 @@ abbrev μ-loop : tie.MeasureT-loop
 loop-holds : tie.Need-loop-holds Inv-loop μ-loop
 loop-holds c = (omega arith, filled-none)
 
-add-acc : tie.Need-add-acc Inv-loop μ-loop
-add-acc c = search needs
-
-mul-acc : tie.Need-mul-acc Inv-loop μ-loop
-mul-acc c = search needs
-
-shared-slice-read-acc : tie.Need-shared-slice-read-acc Inv-loop μ-loop
-shared-slice-read-acc c = search needs
-
-add-acc-2 : tie.Need-add-acc-2 Inv-loop μ-loop
-add-acc-2 c = search needs
-
-mul-acc-2 : tie.Need-mul-acc-2 Inv-loop μ-loop
-mul-acc-2 c = search needs
-
-slice-write-acc : tie.Need-slice-write-acc Inv-loop μ-loop
-slice-write-acc c = search needs
-
-add-i : tie.Need-add-i Inv-loop μ-loop
-add-i c = search needs
-
-loop-less : tie.Need-loop-less Inv-loop μ-loop
-loop-less c = search needs
-
 loop-again : tie.Need-loop-again Inv-loop μ-loop
 loop-again c =
     let s = c .before .before .before in
     let l = c .before .before .loop in
     (omega arith, filled-more (getD (s .args .u .now) (s .args .m + l .i) 0) (omega (arith, s .pre)) (λ y h z. omega (arith, z)) refl (l .inv .1))
-
-same-length : tie.Need-same-length Inv-loop μ-loop
-same-length c = search needs
 
 returns : tie.Need-returns Inv-loop μ-loop
 returns c =
@@ -59,18 +32,6 @@ returns c =
 pub put-four-spec : {M : Type 1} → statement M
 put-four-spec =
     tie.close
-    (tie.spec
-    Inv-loop
-    μ-loop
-    loop-holds
-    add-acc
-    mul-acc
-    shared-slice-read-acc
-    add-acc-2
-    mul-acc-2
-    slice-write-acc
-    add-i
-    loop-less
-    loop-again
-    same-length
-    returns)
+    (tie.spec Inv-loop μ-loop loop-holds (λ c. search needs) (λ c. search needs) (λ c. search needs)
+    (λ c. search needs) (λ c. search needs) (λ c. search needs) (λ c. search needs) (λ c. search needs) loop-again
+    (λ c. search needs) returns)

@@ -14,53 +14,14 @@ use Rattle.held_lanes.proofs.Sets.{pick-mask}
 use Rattle.held_lanes.proofs.put_lanes.Statement.{statement}
 use Rattle.held_lanes.proofs.put_lanes.Tie as tie
 
-slice-aggregate-spread : tie.Need-slice-aggregate-spread
-slice-aggregate-spread c = search needs
-
 spread-requires : tie.Need-spread-requires
 spread-requires c κs = search needs
-
-mul-from : tie.Need-mul-from
-mul-from c = search needs
-
-add-from : tie.Need-add-from
-add-from c = search needs
-
-add-pick-row : tie.Need-add-pick-row
-add-pick-row c = search needs
-
-mul-pick-row : tie.Need-mul-pick-row
-mul-pick-row c = search needs
-
-sub-pick-row : tie.Need-sub-pick-row
-sub-pick-row c = search needs
-
-part-pick-row-start : tie.Need-part-pick-row-start
-part-pick-row-start c = search needs
-
-part-pick-row-end : tie.Need-part-pick-row-end
-part-pick-row-end c = search needs
-
-slice-aggregate-pick-row : tie.Need-slice-aggregate-pick-row
-slice-aggregate-pick-row c = search needs
-
-slice-aggregate-pick-row-2 : tie.Need-slice-aggregate-pick-row-2
-slice-aggregate-pick-row-2 c = search needs
 
 pick-row-requires : tie.Need-pick-row-requires
 pick-row-requires c κs = search needs
 
-slice-aggregate-store-row : tie.Need-slice-aggregate-store-row
-slice-aggregate-store-row c = search needs
-
-mul-store-row : tie.Need-mul-store-row
-mul-store-row c = search needs
-
 store-row-requires : tie.Need-store-row-requires
 store-row-requires c κs = search needs
-
-same-length : tie.Need-same-length
-same-length c = search needs
 
 -- the lanes that are picked
 lanes : (c : tie.After-pick-row) → let s = c .before .before .before .before .before .before .before .before .before .before .args in
@@ -83,21 +44,7 @@ returns c =
 pub put-lanes-spec : {M : Type 1} → statement M
 put-lanes-spec =
     tie.close
-    (tie.spec
-    slice-aggregate-spread
-    spread-requires
-    mul-from
-    add-from
-    add-pick-row
-    mul-pick-row
-    sub-pick-row
-    part-pick-row-start
-    part-pick-row-end
-    slice-aggregate-pick-row
-    slice-aggregate-pick-row-2
-    pick-row-requires
-    slice-aggregate-store-row
-    mul-store-row
-    store-row-requires
-    same-length
-    returns)
+    (tie.spec (λ c. search needs) spread-requires (λ c. search needs) (λ c. search needs) (λ c. search needs)
+    (λ c. search needs) (λ c. search needs) (λ c. search needs) (λ c. search needs) (λ c. search needs)
+    (λ c. search needs) pick-row-requires (λ c. search needs) (λ c. search needs) store-row-requires
+    (λ c. search needs) returns)

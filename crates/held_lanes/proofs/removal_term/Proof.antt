@@ -68,12 +68,6 @@ class-term-requires c κs =
 more-requires : tie.Need-more-requires Inv-loop μ-loop
 more-requires c κs = search needs
 
-add-i : tie.Need-add-i Inv-loop μ-loop
-add-i c = search needs
-
-loop-less : tie.Need-loop-less Inv-loop μ-loop
-loop-less c = search needs
-
 loop-again : tie.Need-loop-again Inv-loop μ-loop
 loop-again c =
     let k = c .before .before in
@@ -101,21 +95,6 @@ returns c =
 pub removal-term-spec : {M : Type 1} → statement M
 removal-term-spec =
     tie.close
-    (tie.spec
-    Inv-loop
-    μ-loop
-    row-of-requires
-    mul-level
-    add-number
-    number-requires
-    loop-holds
-    mul-number
-    add-number-2
-    add-number-3
-    number-requires-2
-    class-term-requires
-    more-requires
-    add-i
-    loop-less
-    loop-again
-    returns)
+    (tie.spec Inv-loop μ-loop row-of-requires mul-level add-number number-requires loop-holds mul-number add-number-2
+    add-number-3 number-requires-2 class-term-requires more-requires (λ c. search needs) (λ c. search needs)
+    loop-again returns)

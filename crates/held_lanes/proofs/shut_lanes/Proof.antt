@@ -15,50 +15,11 @@ use Rattle.held_lanes.proofs.Sets.{pick-mask}
 use Rattle.held_lanes.proofs.shut_lanes.Statement.{statement}
 use Rattle.held_lanes.proofs.shut_lanes.Tie as tie
 
-slice-aggregate-spread : tie.Need-slice-aggregate-spread
-slice-aggregate-spread c = search needs
-
 spread-requires : tie.Need-spread-requires
 spread-requires c κs = search needs
 
-add-pick-row : tie.Need-add-pick-row
-add-pick-row c = search needs
-
-mul-pick-row : tie.Need-mul-pick-row
-mul-pick-row c = search needs
-
-sub-pick-row : tie.Need-sub-pick-row
-sub-pick-row c = search needs
-
-part-pick-row-start : tie.Need-part-pick-row-start
-part-pick-row-start c = search needs
-
-part-pick-row-end : tie.Need-part-pick-row-end
-part-pick-row-end c = search needs
-
-add-pick-row-2 : tie.Need-add-pick-row-2
-add-pick-row-2 c = search needs
-
-mul-pick-row-2 : tie.Need-mul-pick-row-2
-mul-pick-row-2 c = search needs
-
-sub-pick-row-2 : tie.Need-sub-pick-row-2
-sub-pick-row-2 c = search needs
-
-part-pick-row-start-2 : tie.Need-part-pick-row-start-2
-part-pick-row-start-2 c = search needs
-
-part-pick-row-end-2 : tie.Need-part-pick-row-end-2
-part-pick-row-end-2 c = search needs
-
-slice-aggregate-pick-row : tie.Need-slice-aggregate-pick-row
-slice-aggregate-pick-row c = search needs
-
 pick-row-requires : tie.Need-pick-row-requires
 pick-row-requires c κs = search needs
-
-slice-aggregate-total : tie.Need-slice-aggregate-total
-slice-aggregate-total c = search needs
 
 -- the lanes that are picked
 lanes : (c : tie.After-pick-row) → let s = c .before .before .before .before .before .before .before .before .before .args in
@@ -95,21 +56,7 @@ returns c =
 pub shut-lanes-spec : {M : Type 1} → statement M
 shut-lanes-spec =
     tie.close
-    (tie.spec
-    slice-aggregate-spread
-    spread-requires
-    add-pick-row
-    mul-pick-row
-    sub-pick-row
-    part-pick-row-start
-    part-pick-row-end
-    add-pick-row-2
-    mul-pick-row-2
-    sub-pick-row-2
-    part-pick-row-start-2
-    part-pick-row-end-2
-    slice-aggregate-pick-row
-    pick-row-requires
-    slice-aggregate-total
-    total-requires
+    (tie.spec (λ c. search needs) spread-requires (λ c. search needs) (λ c. search needs) (λ c. search needs)
+    (λ c. search needs) (λ c. search needs) (λ c. search needs) (λ c. search needs) (λ c. search needs)
+    (λ c. search needs) (λ c. search needs) (λ c. search needs) pick-row-requires (λ c. search needs) total-requires
     returns)

@@ -9,9 +9,6 @@ use Rattle.held_lanes.specs.Tables.{ShutAsks, shutLane}
 use Rattle.held_lanes.proofs.shut_row.Statement.{statement}
 use Rattle.held_lanes.proofs.shut_row.Tie as tie
 
-element-copy-out-fours : tie.Need-element-copy-out-fours
-element-copy-out-fours c = search needs
-
 -- what so many lanes ask, where the job has so many
 asks : (s : tie.Start) (k : ℕ) → lanesIn (s .args .t .now) ≡ k → let a = s .args in ShutAsks k (a .u .now) (a .w .now) (a .«yes») (a .«no»)
 asks s k z = let a = s .args in subst (λ (wide : ℕ). ShutAsks wide (a .u .now) (a .w .now) (a .«yes») (a .«no»)) z (s .pre)
@@ -51,13 +48,5 @@ returns-4 c = sums (c .before .before .before .before .before .before .before) 1
 pub shut-row-spec : {M : Type 1} → statement M
 shut-row-spec =
     tie.close
-    (tie.spec
-    element-copy-out-fours
-    shut-lanes-requires
-    returns
-    shut-lanes-requires-2
-    returns-2
-    shut-lanes-requires-3
-    returns-3
-    shut-lanes-requires-4
-    returns-4)
+    (tie.spec (λ c. search needs) shut-lanes-requires returns shut-lanes-requires-2 returns-2 shut-lanes-requires-3
+    returns-3 shut-lanes-requires-4 returns-4)

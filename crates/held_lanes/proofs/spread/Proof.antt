@@ -22,25 +22,10 @@ abbrev μ-loop : tie.MeasureT-loop
 loop-holds : tie.Need-loop-holds Inv-loop μ-loop
 loop-holds c = (omega arith, filled-none, λ i. let z : 0 * 4 + i ≡ i = omega arith in ap (λ (k : ℕ). bitAt k (c .before .before .args .set)) z)
 
-mul-m : tie.Need-mul-m Inv-loop μ-loop
-mul-m c = search needs
-
-add-m : tie.Need-add-m Inv-loop μ-loop
-add-m c = search needs
-
-mul-put-four : tie.Need-mul-put-four Inv-loop μ-loop
-mul-put-four c = search needs
-
 put-four-requires : tie.Need-put-four-requires Inv-loop μ-loop
 put-four-requires c κs =
     let p = c .before .before .before .before .before .pre in
     (omega (arith, p .size), omega (arith, p .few, p .lanes), omega arith, omega (arith, p .few))
-
-add-k : tie.Need-add-k Inv-loop μ-loop
-add-k c = search needs
-
-loop-less : tie.Need-loop-less Inv-loop μ-loop
-loop-less c = search needs
 
 loop-again : tie.Need-loop-again Inv-loop μ-loop
 loop-again c =
@@ -61,9 +46,6 @@ loop-again c =
           ap (λ (n : ℕ). bitAt n set) y ∙ l .inv .2 (4 + i) ∙ bit-four i s,
     )
 
-same-length : tie.Need-same-length Inv-loop μ-loop
-same-length c = search needs
-
 returns : tie.Need-returns Inv-loop μ-loop
 returns c =
     let l = c .before .loop in
@@ -73,16 +55,5 @@ returns c =
 pub spread-spec : {M : Type 1} → statement M
 spread-spec =
     tie.close
-    (tie.spec
-    Inv-loop
-    μ-loop
-    loop-holds
-    mul-m
-    add-m
-    mul-put-four
-    put-four-requires
-    add-k
-    loop-less
-    loop-again
-    same-length
-    returns)
+    (tie.spec Inv-loop μ-loop loop-holds (λ c. search needs) (λ c. search needs) (λ c. search needs) put-four-requires
+    (λ c. search needs) (λ c. search needs) loop-again (λ c. search needs) returns)

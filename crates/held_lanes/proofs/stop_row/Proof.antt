@@ -10,9 +10,6 @@ use Rattle.held_lanes.specs.Tables.{shutRow}
 use Rattle.held_lanes.proofs.stop_row.Statement.{statement}
 use Rattle.held_lanes.proofs.stop_row.Tie as tie
 
-element-copy-out-fours : tie.Need-element-copy-out-fours
-element-copy-out-fours c = search needs
-
 -- what so many lanes put, where the job has so many
 puts : (s : tie.Start) (k : ℕ) (w : List ℕ) → lanesIn (s .args .t .now) ≡ k → let a = s .args in FilledBy (rowPlace (a .rows)) (shutRow (a .v .now) (a .rows) (a .set)) k (a .w .now) w
     → FilledBy (rowPlace (a .rows)) (shutRow (a .v .now) (a .rows) (a .set)) (lanesIn (a .t .now)) (a .w .now) w
@@ -49,13 +46,5 @@ returns-4 c = puts (c .before .before .before .before .before .before .before .b
 pub stop-row-spec : {M : Type 1} → statement M
 stop-row-spec =
     tie.close
-    (tie.spec
-    element-copy-out-fours
-    put-lanes-requires
-    returns
-    put-lanes-requires-2
-    returns-2
-    put-lanes-requires-3
-    returns-3
-    put-lanes-requires-4
-    returns-4)
+    (tie.spec (λ c. search needs) put-lanes-requires returns put-lanes-requires-2 returns-2 put-lanes-requires-3
+    returns-3 put-lanes-requires-4 returns-4)

@@ -11,20 +11,8 @@ use Rattle.held_places.proofs.Steps.{drop-more}
 use Rattle.held_places.proofs.behind.Statement.{statement}
 use Rattle.held_places.proofs.behind.Tie as tie
 
-shared-slice-read-if2 : tie.Need-shared-slice-read-if2
-shared-slice-read-if2 c = search needs
-
-add-result : tie.Need-add-result
-add-result c = search needs
-
-add-result-2 : tie.Need-add-result-2
-add-result-2 c = search needs
-
 returns : tie.Need-returns
 returns c = let b = c .before .before in let a = b .before .args in ap (λ (q : List Bool). a .i + blockLong (a .h) q) (sym (drop-more (a .name .now) (a .i) false true (b .if1 .taken) (c .if2 .taken)))
-
-add-result-3 : tie.Need-add-result-3
-add-result-3 c = search needs
 
 returns-2 : tie.Need-returns-2
 returns-2 c = let b = c .before .before in let a = b .before .args in ap (λ (q : List Bool). a .i + blockLong (a .h) q) (sym (drop-more (a .name .now) (a .i) false false (b .if1 .taken) (c .if2 .left)))
@@ -36,4 +24,4 @@ returns-3 c =
     z ∙ ap (λ (q : List Bool). a .i + blockLong (a .h) q) (sym (drop-of-length-le (a .name .now) (c .if1 .left)))
 
 pub behind-spec : {M : Type 1} → statement M
-behind-spec = tie.close (tie.spec shared-slice-read-if2 add-result add-result-2 returns add-result-3 returns-2 returns-3)
+behind-spec = tie.close (tie.spec (λ c. search needs) (λ c. search needs) (λ c. search needs) returns (λ c. search needs) returns-2 returns-3)

@@ -7,9 +7,6 @@ use Rattle.model.proofs.Bools.{there}
 use Rattle.held_places.proofs.free.Statement.{statement}
 use Rattle.held_places.proofs.free.Tie as tie
 
-shared-slice-read-result : tie.Need-shared-slice-read-result
-shared-slice-read-result c = search needs
-
 returns : tie.Need-returns
 returns c =
     let d = c .before in
@@ -25,4 +22,4 @@ returns-3 : tie.Need-returns-3
 returns-3 c = search needs
 
 pub free-spec : {M : Type 1} → statement M
-free-spec = tie.close (tie.spec shared-slice-read-result returns returns-2 returns-3)
+free-spec = tie.close (tie.spec (λ c. search needs) returns returns-2 returns-3)

@@ -4,21 +4,6 @@ use Rattle.held_places.proofs.Steps.{allows-yes, allows-no, allows-none
 use Rattle.held_places.proofs.opens.Statement.{statement}
 use Rattle.held_places.proofs.opens.Tie as tie
 
-shared-slice-read-if2 : tie.Need-shared-slice-read-if2
-shared-slice-read-if2 c = search needs
-
-add-all-out : tie.Need-add-all-out
-add-all-out c = search needs
-
-sub-all-out : tie.Need-sub-all-out
-sub-all-out c = search needs
-
-part-all-out-start : tie.Need-part-all-out-start
-part-all-out-start c = search needs
-
-part-all-out-end : tie.Need-part-all-out-end
-part-all-out-end c = search needs
-
 all-out-requires : tie.Need-all-out-requires
 all-out-requires c κs = search needs
 
@@ -39,4 +24,4 @@ returns-3 : tie.Need-returns-3
 returns-3 c = let a = c .before .before .before .args in allows-none (a .name .now) (a .i) (a .needs .now) (c .if1 .left)
 
 pub opens-spec : {M : Type 1} → statement M
-opens-spec = tie.close (tie.spec shared-slice-read-if2 add-all-out sub-all-out part-all-out-start part-all-out-end all-out-requires returns returns-2 returns-3)
+opens-spec = tie.close (tie.spec (λ c. search needs) (λ c. search needs) (λ c. search needs) (λ c. search needs) (λ c. search needs) all-out-requires returns returns-2 returns-3)

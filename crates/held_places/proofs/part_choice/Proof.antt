@@ -17,9 +17,6 @@ wear-of-requires c κs = search needs
 choice-requires : tie.Need-choice-requires
 choice-requires c κs = let b = c .before .before .before .before .before .before .before .before .before in let v = c .before .before .before .wear-of in part-asks (b .args .q) (v .result .life) (v .result .first) (b .pre .0) (v .ensures)
 
-same-length : tie.Need-same-length
-same-length c = search needs
-
 returns : tie.Need-returns
 returns c =
     let b = c .before .before .before .before .before .before .before .before .before .before .before .before in
@@ -30,4 +27,4 @@ returns c =
     c .before .before .choice .ensures ∙ (λ i. choiceOf (x .lives i) (e i) (x .begins i) (offers (a .positions .now) (a .numbers .now) (a .at .now)) ++ replicate (64 - length (a .positions .now)) false)
 
 pub part-choice-spec : {M : Type 1} → statement M
-part-choice-spec = tie.close (tie.spec wear-of-requires choice-requires same-length returns)
+part-choice-spec = tie.close (tie.spec wear-of-requires choice-requires (λ c. search needs) returns)

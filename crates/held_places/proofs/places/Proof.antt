@@ -1,6 +1,6 @@
 -- `places` has an entry for each opening, while the name is read.
 use Prim.Native.Nat.{ℕ, _-_}
-use mathlib.Core.Path.{_≡_, refl, ap, _∙_}
+use mathlib.Core.Path.{refl, ap, _∙_}
 use mathlib.Core.Bool.{Bool, true}
 use mathlib.Core.List.{List, []}
 use borrow.Author.Needs.{needs}
@@ -29,20 +29,11 @@ opens-requires c κs =
     let b = c .before .before .before .before in
     scan-near (length (b .args .needs .now)) (b .args .n) (b .args .name .now) (l .k) (l .i) (b .pre .0) (l .inv .scan)
 
-array-write-out : tie.Need-array-write-out Inv-loop μ-loop
-array-write-out c = search needs
-
 behind-requires : tie.Need-behind-requires Inv-loop μ-loop
 behind-requires c κs =
     let l = c .before .before .loop in
     let b = c .before .before .before .before .before in
     (scan-near (length (b .args .needs .now)) (b .args .n) (b .args .name .now) (l .k) (l .i) (b .pre .0) (l .inv .scan), b .pre .1)
-
-add-k : tie.Need-add-k Inv-loop μ-loop
-add-k c = search needs
-
-loop-less : tie.Need-loop-less Inv-loop μ-loop
-loop-less c = search needs
 
 loop-again : tie.Need-loop-again Inv-loop μ-loop
 loop-again c =
@@ -62,4 +53,4 @@ returns c =
     reading-all true (place (a .needs .now) (a .n) (a .name .now)) (length (a .needs .now)) (a .n) (a .name .now) (l .out) (l .k) (l .i) (c .loop-test .left) (l .inv)
 
 pub places-spec : {M : Type 1} → statement M
-places-spec = tie.close (tie.spec Inv-loop μ-loop loop-holds opens-requires array-write-out behind-requires add-k loop-less loop-again returns)
+places-spec = tie.close (tie.spec Inv-loop μ-loop loop-holds opens-requires (λ c. search needs) behind-requires (λ c. search needs) (λ c. search needs) loop-again returns)

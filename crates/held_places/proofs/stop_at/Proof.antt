@@ -10,9 +10,6 @@ use Rattle.held_places.proofs.Steps.{drop-more}
 use Rattle.held_places.proofs.stop_at.Statement.{statement}
 use Rattle.held_places.proofs.stop_at.Tie as tie
 
-shared-slice-read-result : tie.Need-shared-slice-read-result
-shared-slice-read-result c = search needs
-
 -- the first decision of what is left, where there is one
 begins : (h : ℕ) (b : Bool) (q : List Bool) → b ≡ getD (firstOr (false ∷ []) h (b ∷ q)) 0 true
 begins h false q = refl
@@ -30,4 +27,4 @@ returns-2 : tie.Need-returns-2
 returns-2 c = λ h. let a = c .before .args in ap (λ (q : List Bool). getD (firstOr (false ∷ []) h q) 0 true) (sym (drop-of-length-le (a .name .now) (c .if1 .left)))
 
 pub stop-at-spec : {M : Type 1} → statement M
-stop-at-spec = tie.close (tie.spec shared-slice-read-result returns returns-2)
+stop-at-spec = tie.close (tie.spec (λ c. search needs) returns returns-2)

@@ -1,9 +1,8 @@
 -- `stops` has the first decision of each block, while the name is read.
 use Prim.Native.Nat.{ℕ, _-_}
-use mathlib.Core.Path.{_≡_, refl, ap, _∙_}
+use mathlib.Core.Path.{refl, ap, _∙_}
 use mathlib.Core.Bool.{Bool, true, false}
 use mathlib.Core.List.{List, [], _∷_}
-use native.Mathlib.Omega.{arith}
 use borrow.Author.Needs.{needs}
 use lib.ListN.{getD}
 use Rattle.model.specs.LowerBound.{blocks}
@@ -26,20 +25,11 @@ loop-holds c = let a = c .before .args in reading-none false (stop (a .h) (a .n)
 stop-at-requires : tie.Need-stop-at-requires Inv-loop μ-loop
 stop-at-requires c κs = search needs
 
-array-write-out : tie.Need-array-write-out Inv-loop μ-loop
-array-write-out c = search needs
-
 behind-requires : tie.Need-behind-requires Inv-loop μ-loop
 behind-requires c κs =
     let l = c .before .before .loop in
     let b = c .before .before .before .before in
     (scan-near (b .args .h) (b .args .n) (b .args .name .now) (l .k) (l .i) (b .pre .0) (l .inv .scan), b .pre .1)
-
-add-k : tie.Need-add-k Inv-loop μ-loop
-add-k c = search needs
-
-loop-less : tie.Need-loop-less Inv-loop μ-loop
-loop-less c = search needs
 
 loop-again : tie.Need-loop-again Inv-loop μ-loop
 loop-again c =
@@ -57,4 +47,4 @@ returns c =
     reading-all false (stop (a .h) (a .n) (a .name .now)) (a .h) (a .n) (a .name .now) (l .out) (l .k) (l .i) (c .loop-test .left) (l .inv)
 
 pub stops-spec : {M : Type 1} → statement M
-stops-spec = tie.close (tie.spec Inv-loop μ-loop loop-holds stop-at-requires array-write-out behind-requires add-k loop-less loop-again returns)
+stops-spec = tie.close (tie.spec Inv-loop μ-loop loop-holds stop-at-requires (λ c. search needs) behind-requires (λ c. search needs) (λ c. search needs) loop-again returns)

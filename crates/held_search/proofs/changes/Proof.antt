@@ -1,5 +1,5 @@
 -- `changes` has a row for each part. The invariant: the first q rows are right.
-use Prim.Native.Nat.{ℕ, _-_, _≤_}
+use Prim.Native.Nat.{_-_, _≤_}
 use mathlib.Core.Path.{_≡_, refl, subst, _∙_}
 use native.Mathlib.Omega.{arith}
 use borrow.Author.Needs.{needs}
@@ -36,17 +36,8 @@ part-changes-requires c κs =
       c .before .loop-test .taken,
     )
 
-mul-rows : tie.Need-mul-rows Inv-loop μ-loop
-mul-rows c = search needs
-
 array-set-from-rows : tie.Need-array-set-from-rows Inv-loop μ-loop
 array-set-from-rows c = let b = c .before .before .before .before .before .before .before .before .before .before .before .before in omega (arith, c .before .before .before .before .loop-test .taken, b .pre .0 .parts)
-
-add-q : tie.Need-add-q Inv-loop μ-loop
-add-q c = search needs
-
-loop-less : tie.Need-loop-less Inv-loop μ-loop
-loop-less c = search needs
 
 loop-again : tie.Need-loop-again Inv-loop μ-loop
 loop-again c =
@@ -73,4 +64,4 @@ returns c =
     (subst (Chooses (toZ w32 (ofZ w32 (a .end))) (a .positions .now) (a .lives .now) (a .lefts .now) (a .prices .now) (a .needs .now) (a .h) (a .name .now) (l .rows)) z (l .inv .2))
 
 pub changes-spec : {M : Type 1} → statement M
-changes-spec = tie.close (tie.spec Inv-loop μ-loop loop-holds part-changes-requires mul-rows array-set-from-rows add-q loop-less loop-again same-length returns)
+changes-spec = tie.close (tie.spec Inv-loop μ-loop loop-holds part-changes-requires (λ c. search needs) array-set-from-rows (λ c. search needs) (λ c. search needs) loop-again same-length returns)

@@ -17,30 +17,6 @@ use Rattle.held_search.proofs.part_changes.Tie as tie
 part-places-requires : tie.Need-part-places-requires
 part-places-requires c κs = search needs
 
-mul-part-choice : tie.Need-mul-part-choice
-mul-part-choice c = search needs
-
-mul-part-choice-2 : tie.Need-mul-part-choice-2
-mul-part-choice-2 c = search needs
-
-add-part-choice : tie.Need-add-part-choice
-add-part-choice c = search needs
-
-mul-part-choice-3 : tie.Need-mul-part-choice-3
-mul-part-choice-3 c = search needs
-
-sub-part-choice : tie.Need-sub-part-choice
-sub-part-choice c = search needs
-
-part-part-choice-start : tie.Need-part-part-choice-start
-part-part-choice-start c = search needs
-
-part-part-choice-end : tie.Need-part-part-choice-end
-part-part-choice-end c = search needs
-
-array-share-prefix-at : tie.Need-array-share-prefix-at
-array-share-prefix-at c = search needs
-
 slice-aggregate-part-choice : tie.Need-slice-aggregate-part-choice
 slice-aggregate-part-choice c = let b = c .before .before .before .before .before .before .before .before .before in first-length (length (b .args .positions .now)) (c .before .before .part-places .result) (b .pre .0 .timed .few) (c .before .before .part-places .ensures .size)
 
@@ -61,9 +37,6 @@ part-choice-requires c κs =
       lane,
     )
 
-same-length : tie.Need-same-length
-same-length c = search needs
-
 returns : tie.Need-returns
 returns c =
     let b = c .before .before .before .before .before .before .before .before .before .before .before .before .before in
@@ -76,4 +49,4 @@ returns c =
     c .before .before .part-choice .ensures ∙ (λ i. choiceOf (pos l) (e i) (pos (getD (a .lefts .now) (a .q) 0) -ℤ pos l) (seen i) ++ replicate (64 - n) false)
 
 pub part-changes-spec : {M : Type 1} → statement M
-part-changes-spec = tie.close (tie.spec part-places-requires mul-part-choice mul-part-choice-2 add-part-choice mul-part-choice-3 sub-part-choice part-part-choice-start part-part-choice-end array-share-prefix-at slice-aggregate-part-choice part-choice-requires same-length returns)
+part-changes-spec = tie.close (tie.spec part-places-requires (λ c. search needs) (λ c. search needs) (λ c. search needs) (λ c. search needs) (λ c. search needs) (λ c. search needs) (λ c. search needs) (λ c. search needs) slice-aggregate-part-choice part-choice-requires (λ c. search needs) returns)

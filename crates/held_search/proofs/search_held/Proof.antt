@@ -1,6 +1,5 @@
 -- `search_held` answers the job, for each job that the arrays hold: the walk, the incumbent's name, its stops and the rows of changes.
-use Prim.Native.Nat.{ℕ}
-use mathlib.Core.Path.{_≡_, refl, sym, ap, subst, _∙_}
+use mathlib.Core.Path.{_≡_, sym, subst}
 use mathlib.Core.Bool.{Bool}
 use mathlib.Core.List.{List}
 use native.Mathlib.Omega.{arith}
@@ -27,9 +26,6 @@ named-long c =
     let z : length (c .name-of .last .1 .1 .1 .1 .0) ≡ 1088 = c .name-of .kept .1 .1 .1 .1 .0 in
     length-take-le (c .name-of .result) (c .name-of .last .1 .1 .1 .1 .0) (omega (arith, z, c .name-of .ensures .0))
 
-slice-aggregate-walked : tie.Need-slice-aggregate-walked
-slice-aggregate-walked c = search needs
-
 walked-requires : tie.Need-walked-requires
 walked-requires c κs =
     let b = c .before .before .before .before .before .before .before .before in
@@ -41,14 +37,8 @@ walked-requires c κs =
       b .pre .1,
     )
 
-slice-aggregate-name-of : tie.Need-slice-aggregate-name-of
-slice-aggregate-name-of c = search needs
-
 name-of-requires : tie.Need-name-of-requires
 name-of-requires c κs = search needs
-
-array-share-prefix-name : tie.Need-array-share-prefix-name
-array-share-prefix-name c = search needs
 
 slice-aggregate-stops : tie.Need-slice-aggregate-stops
 slice-aggregate-stops c = sym (named-long (c .before .before))
@@ -56,14 +46,8 @@ slice-aggregate-stops c = sym (named-long (c .before .before))
 stops-requires : tie.Need-stops-requires
 stops-requires c κs = search needs
 
-array-share-prefix-name-2 : tie.Need-array-share-prefix-name-2
-array-share-prefix-name-2 c = search needs
-
 slice-aggregate-changes : tie.Need-slice-aggregate-changes
 slice-aggregate-changes c = sym (named-long (c .before .before .before .before))
-
-slice-aggregate-changes-2 : tie.Need-slice-aggregate-changes-2
-slice-aggregate-changes-2 c = search needs
 
 changes-requires : tie.Need-changes-requires
 changes-requires c κs =
@@ -88,16 +72,6 @@ returns c job ho =
 pub search-held-spec : {M : Type 1} → statement M
 search-held-spec =
     tie.close
-    (tie.spec
-    slice-aggregate-walked
-    walked-requires
-    slice-aggregate-name-of
-    name-of-requires
-    array-share-prefix-name
-    slice-aggregate-stops
-    stops-requires
-    array-share-prefix-name-2
-    slice-aggregate-changes
-    slice-aggregate-changes-2
-    changes-requires
-    returns)
+    (tie.spec (λ c. search needs) walked-requires (λ c. search needs) name-of-requires (λ c. search needs)
+    slice-aggregate-stops stops-requires (λ c. search needs) slice-aggregate-changes (λ c. search needs)
+    changes-requires returns)

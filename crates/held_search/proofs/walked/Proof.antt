@@ -8,7 +8,7 @@ use mir.Syntax.{w32}
 use mir.Val.{toZ, ofZ}
 use Rattle.lane_rows.specs.Sheet.{Sheet}
 use Rattle.lane_rows.specs.Tables.{Tables}
-use Rattle.search.proofs.Filling.{ready-back}
+use Rattle.search_tables.proofs.Filling.{ready-back}
 use Rattle.held_places.specs.Arrays.{Holds}
 use Rattle.held_places.proofs.Parts.{read-back}
 use Rattle.held_places.proofs.Held.{opened, holding}
@@ -54,14 +54,8 @@ module _ (c : tie.After-fill-held) where
 classes-of-requires : tie.Need-classes-of-requires
 classes-of-requires c κs = search needs
 
-slice-aggregate-fill : tie.Need-slice-aggregate-fill
-slice-aggregate-fill c = search needs
-
 fill-requires : tie.Need-fill-requires
 fill-requires c κs = let b = c .before .before .before .before .before .before .before .before .before .before in (ready-back (b .fits .end) (b .pre .0 .arrays .plain) (b .pre .0 .room), search needs)
-
-slice-aggregate-fill-held : tie.Need-slice-aggregate-fill-held
-slice-aggregate-fill-held c = search needs
 
 fill-held-requires : tie.Need-fill-held-requires
 fill-held-requires c κs =
@@ -79,9 +73,6 @@ fill-held-requires c κs =
 solve-requires : tie.Need-solve-requires
 solve-requires c κs = let k = c .before .before .before .before .before .before .before in ((sheet k, tables k, k .fill-held .ensures, fit k), omega (arith, s k .pre .1))
 
-same-length : tie.Need-same-length
-same-length c = search needs
-
 returns : tie.Need-returns
 returns c job ho =
     let k = c .before .before .before .before .before .before .before .before in
@@ -98,12 +89,5 @@ returns c job ho =
 pub walked-spec : {M : Type 1} → statement M
 walked-spec =
     tie.close
-    (tie.spec
-    classes-of-requires
-    slice-aggregate-fill
-    fill-requires
-    slice-aggregate-fill-held
-    fill-held-requires
-    solve-requires
-    same-length
-    returns)
+    (tie.spec classes-of-requires (λ c. search needs) fill-requires (λ c. search needs) fill-held-requires
+    solve-requires (λ c. search needs) returns)

@@ -8,9 +8,6 @@ use Rattle.held_lanes.specs.Places.{pendingPlace, readyPlace}
 use Rattle.held_stops.proofs.pend.Statement.{statement}
 use Rattle.held_stops.proofs.pend.Tie as tie
 
-add-number : tie.Need-add-number
-add-number c = search needs
-
 number-requires : tie.Need-number-requires
 number-requires c κs = search needs
 
@@ -22,15 +19,6 @@ returns c =
 
 pend-row-requires : tie.Need-pend-row-requires
 pend-row-requires c κs = search needs
-
-add-v : tie.Need-add-v
-add-v c = search needs
-
-mul-v : tie.Need-mul-v
-mul-v c = search needs
-
-element-write-v : tie.Need-element-write-v
-element-write-v c = search needs
 
 returns-2 : tie.Need-returns-2
 returns-2 c =
@@ -49,12 +37,5 @@ returns-2 c =
 pub pend-spec : {M : Type 1} → statement M
 pend-spec =
     tie.close
-    (tie.spec
-    add-number
-    number-requires
-    returns
-    pend-row-requires
-    add-v
-    mul-v
-    element-write-v
-    returns-2)
+    (tie.spec (λ c. search needs) number-requires returns pend-row-requires (λ c. search needs) (λ c. search needs)
+    (λ c. search needs) returns-2)

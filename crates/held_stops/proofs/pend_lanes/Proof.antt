@@ -8,26 +8,11 @@ use Rattle.lane_rows.specs.Layout.{laneCount, inf}
 use Rattle.held_stops.proofs.pend_lanes.Statement.{statement}
 use Rattle.held_stops.proofs.pend_lanes.Tie as tie
 
-slice-aggregate-next-lanes : tie.Need-slice-aggregate-next-lanes
-slice-aggregate-next-lanes c = search needs
-
 next-lanes-requires : tie.Need-next-lanes-requires
 next-lanes-requires c κs = let s = c .before .before .before .before in (s .pre .0, omega arith, λ q l. getD-replicate {A = ℕ} laneCount q inf 0 (omega (arith, s .pre .0 .stack .narrow)))
 
-slice-aggregate-store-row : tie.Need-slice-aggregate-store-row
-slice-aggregate-store-row c = search needs
-
-mul-store-row : tie.Need-mul-store-row
-mul-store-row c = search needs
-
-add-store-row : tie.Need-add-store-row
-add-store-row c = search needs
-
 store-row-requires : tie.Need-store-row-requires
 store-row-requires c κs = search needs
-
-same-length : tie.Need-same-length
-same-length c = search needs
 
 returns : tie.Need-returns
 returns c =
@@ -37,12 +22,5 @@ returns c =
 pub pend-lanes-spec : {M : Type 1} → statement M
 pend-lanes-spec =
     tie.close
-    (tie.spec
-    slice-aggregate-next-lanes
-    next-lanes-requires
-    slice-aggregate-store-row
-    mul-store-row
-    add-store-row
-    store-row-requires
-    same-length
-    returns)
+    (tie.spec (λ c. search needs) next-lanes-requires (λ c. search needs) (λ c. search needs) (λ c. search needs)
+    store-row-requires (λ c. search needs) returns)

@@ -12,9 +12,6 @@ use Rattle.held_lanes.specs.Places.{pendingPlace, asideSize}
 use Rattle.held_stops.proofs.pend_row.Statement.{statement}
 use Rattle.held_stops.proofs.pend_row.Tie as tie
 
-element-copy-out-fours : tie.Need-element-copy-out-fours
-element-copy-out-fours c = search needs
-
 -- what so many lanes ask, where the job has so many
 asks : (s : tie.Start) (k : ℕ) → lanesIn (s .args .t .now) ≡ k → let a = s .args in Owing k (a .t .now) (a .w .now) (a .j) (a .rows) × (length (a .v .now) ≡ asideSize)
 asks s k z = let a = s .args in (subst (λ (wide : ℕ). Owing wide (a .t .now) (a .w .now) (a .j) (a .rows)) z (s .pre .0), s .pre .1)
@@ -55,13 +52,5 @@ returns-4 c = pends (c .before .before .before .before .before .before .before .
 pub pend-row-spec : {M : Type 1} → statement M
 pend-row-spec =
     tie.close
-    (tie.spec
-    element-copy-out-fours
-    pend-lanes-requires
-    returns
-    pend-lanes-requires-2
-    returns-2
-    pend-lanes-requires-3
-    returns-3
-    pend-lanes-requires-4
-    returns-4)
+    (tie.spec (λ c. search needs) pend-lanes-requires returns pend-lanes-requires-2 returns-2 pend-lanes-requires-3
+    returns-3 pend-lanes-requires-4 returns-4)

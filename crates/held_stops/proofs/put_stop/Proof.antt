@@ -12,21 +12,6 @@ use Rattle.held_stops.proofs.put_stop.Tie as tie
 stop-row-requires : tie.Need-stop-row-requires
 stop-row-requires c κs = search needs
 
-cast-w : tie.Need-cast-w
-cast-w c = search needs
-
-add-w : tie.Need-add-w
-add-w c = search needs
-
-mul-w : tie.Need-mul-w
-mul-w c = search needs
-
-element-write-w : tie.Need-element-write-w
-element-write-w c = search needs
-
-add-forget : tie.Need-add-forget
-add-forget c = search needs
-
 forget-requires : tie.Need-forget-requires
 forget-requires c κs = search needs
 
@@ -49,12 +34,5 @@ returns c =
 pub put-stop-spec : {M : Type 1} → statement M
 put-stop-spec =
     tie.close
-    (tie.spec
-    stop-row-requires
-    cast-w
-    add-w
-    mul-w
-    element-write-w
-    add-forget
-    forget-requires
-    returns)
+    (tie.spec stop-row-requires (λ c. search needs) (λ c. search needs) (λ c. search needs) (λ c. search needs)
+    (λ c. search needs) forget-requires returns)

@@ -11,9 +11,6 @@ use Rattle.held_lanes.specs.Places.{bitAt, offset, leadPlace, lastPlace, remove
 use Rattle.held_stops.proofs.settle_stop.Statement.{statement}
 use Rattle.held_stops.proofs.settle_stop.Tie as tie
 
-sub-pend : tie.Need-sub-pend
-sub-pend c = search needs
-
 pend-requires : tie.Need-pend-requires
 pend-requires c κs = search needs
 
@@ -28,21 +25,6 @@ put-stop-requires c κs =
 
 note-lasts-requires : tie.Need-note-lasts-requires
 note-lasts-requires c κs = search needs
-
-cast-v : tie.Need-cast-v
-cast-v c = search needs
-
-sub-v : tie.Need-sub-v
-sub-v c = search needs
-
-add-v : tie.Need-add-v
-add-v c = search needs
-
-mul-v : tie.Need-mul-v
-mul-v c = search needs
-
-element-write-v : tie.Need-element-write-v
-element-write-v c = search needs
 
 returns : tie.Need-returns
 returns c =
@@ -79,14 +61,5 @@ returns c =
 pub settle-stop-spec : {M : Type 1} → statement M
 settle-stop-spec =
     tie.close
-    (tie.spec
-    sub-pend
-    pend-requires
-    put-stop-requires
-    note-lasts-requires
-    cast-v
-    sub-v
-    add-v
-    mul-v
-    element-write-v
-    returns)
+    (tie.spec (λ c. search needs) pend-requires put-stop-requires note-lasts-requires (λ c. search needs)
+    (λ c. search needs) (λ c. search needs) (λ c. search needs) (λ c. search needs) returns)

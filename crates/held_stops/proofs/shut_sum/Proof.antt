@@ -7,9 +7,6 @@ use Rattle.held_stops.proofs.Looked.{all-recalled, asks, sums}
 use Rattle.held_stops.proofs.shut_sum.Statement.{statement}
 use Rattle.held_stops.proofs.shut_sum.Tie as tie
 
-sub-recall : tie.Need-sub-recall
-sub-recall c = search needs
-
 recall-requires : tie.Need-recall-requires
 recall-requires c κs = search needs
 
@@ -21,30 +18,6 @@ recall-requires-2 c κs =
 
 row-of-requires : tie.Need-row-of-requires
 row-of-requires c κs = search needs
-
-add-next : tie.Need-add-next
-add-next c = search needs
-
-add-next-2 : tie.Need-add-next-2
-add-next-2 c = search needs
-
-add-shut-row : tie.Need-add-shut-row
-add-shut-row c = search needs
-
-mul-shut-row : tie.Need-mul-shut-row
-mul-shut-row c = search needs
-
-add-shut-row-2 : tie.Need-add-shut-row-2
-add-shut-row-2 c = search needs
-
-add-shut-row-3 : tie.Need-add-shut-row-3
-add-shut-row-3 c = search needs
-
-mul-shut-row-2 : tie.Need-mul-shut-row-2
-mul-shut-row-2 c = search needs
-
-add-shut-row-4 : tie.Need-add-shut-row-4
-add-shut-row-4 c = search needs
 
 -- where the levels' rows start
 row : (c : tie.After-row-of) → c .row-of .result ≡ triangle (c .before .before .before .before .before .args .j)
@@ -70,18 +43,6 @@ returns c =
 pub shut-sum-spec : {M : Type 1} → statement M
 shut-sum-spec =
     tie.close
-    (tie.spec
-    sub-recall
-    recall-requires
-    recall-requires-2
-    row-of-requires
-    add-next
-    add-next-2
-    add-shut-row
-    mul-shut-row
-    add-shut-row-2
-    add-shut-row-3
-    mul-shut-row-2
-    add-shut-row-4
-    shut-row-requires
-    returns)
+    (tie.spec (λ c. search needs) recall-requires recall-requires-2 row-of-requires (λ c. search needs)
+    (λ c. search needs) (λ c. search needs) (λ c. search needs) (λ c. search needs) (λ c. search needs)
+    (λ c. search needs) (λ c. search needs) shut-row-requires returns)

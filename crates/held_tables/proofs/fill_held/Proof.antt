@@ -3,12 +3,11 @@ use mathlib.Core.Path.{subst, _∙_}
 use lib.ListN.{length}
 use lib.IntN.{ℤ}
 use mir.Facts.{toZ-ofZ}
-use Rattle.search.specs.Arrays.{sheetOf}
-use Rattle.search.proofs.Filling.{ready-back}
+use Rattle.search_tables.specs.Arrays.{sheetOf}
+use Rattle.search_tables.proofs.Filling.{ready-back}
 use Rattle.held_tables.specs.Sheet.{lanesOf}
 use Rattle.held_tables.specs.Fill.{Terms}
 use Rattle.held_tables.proofs.Filled.{held-filled}
-use native.Mathlib.Omega.{arith}
 use borrow.Author.Needs.{needs}
 use Rattle.held_tables.proofs.fill_held.Statement.{statement}
 use Rattle.held_tables.proofs.fill_held.Tie as tie
@@ -25,12 +24,6 @@ put-needs-requires c κs = let s = c .before .before .before .before .before .be
 put-rest-requires : tie.Need-put-rest-requires
 put-rest-requires c κs = let s = c .before .before .before .before .before .before .before .before .before .before .before .before .before .before .before .before .before .before .before .before .before .before .before .before in (s .pre .1 .led, s .pre .0 .arrays .holding, c .before .before .before .put-needs .ensures .before .size ∙ c .before .before .before .before .before .before .before .put-tops .ensures .size ∙ c .before .before .before .before .before .before .before .before .before .before .before .before .before .put-terms .ensures .size)
 
-same-length : tie.Need-same-length
-same-length c = search needs
-
-same-length-2 : tie.Need-same-length-2
-same-length-2 c = search needs
-
 returns : tie.Need-returns
 returns c =
     let rest = c .before .before in
@@ -46,11 +39,5 @@ returns c =
 pub fill-held-spec : {M : Type 1} → statement M
 fill-held-spec =
     tie.close
-    (tie.spec
-    put-terms-requires
-    put-tops-requires
-    put-needs-requires
-    put-rest-requires
-    same-length
-    same-length-2
-    returns)
+    (tie.spec put-terms-requires put-tops-requires put-needs-requires put-rest-requires (λ c. search needs)
+    (λ c. search needs) returns)

@@ -1,12 +1,10 @@
 -- `mask` tells the lowest bit.
 use Prim.Native.Nat.{_%_}
-use mathlib.Core.Path.{_≡_, refl, sym, ap, _∙_}
+use mathlib.Core.Path.{sym, ap}
 use mathlib.Core.Bool.{Bool, cond}
 use borrow.Author.Tests.{eq-eqb, ne-eqb}
 use Rattle.lane_rows.specs.Layout.{inf}
 use Rattle.held_lanes.specs.Places.{bitAt}
-use native.Mathlib.Omega.{arith}
-use borrow.Author.Needs.{needs}
 use Rattle.held_tables.proofs.mask.Statement.{statement}
 use Rattle.held_tables.proofs.mask.Tie as tie
 

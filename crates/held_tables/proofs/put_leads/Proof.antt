@@ -1,7 +1,7 @@
 -- `put_leads` writes the leads. The invariant: the first c are written.
 use Prim.Native.Nat.{ℕ, _-_, _≤_}
 use mathlib.Core.Path.{_≡_, refl, subst}
-use lib.ListN.{length, getD}
+use lib.ListN.{getD}
 use Rattle.least.specs.Filled.{FilledBy}
 use Rattle.least.proofs.Filled.{filled-none, filled-more}
 use Rattle.held_lanes.specs.Places.{leadPlace}
@@ -19,37 +19,13 @@ abbrev μ-loop : tie.MeasureT-loop
 loop-holds : tie.Need-loop-holds Inv-loop μ-loop
 loop-holds c = (omega arith, filled-none)
 
-mul-u : tie.Need-mul-u Inv-loop μ-loop
-mul-u c = search needs
-
-array-read-u : tie.Need-array-read-u Inv-loop μ-loop
-array-read-u c = search needs
-
 cast-u : tie.Need-cast-u Inv-loop μ-loop
 cast-u c = omega (arith, c .before .before .before .pre .0 .leads (c .before .loop .c))
-
-add-u : tie.Need-add-u Inv-loop μ-loop
-add-u c = search needs
-
-mul-u-2 : tie.Need-mul-u-2 Inv-loop μ-loop
-mul-u-2 c = search needs
-
-slice-write-u : tie.Need-slice-write-u Inv-loop μ-loop
-slice-write-u c = search needs
-
-add-c : tie.Need-add-c Inv-loop μ-loop
-add-c c = search needs
-
-loop-less : tie.Need-loop-less Inv-loop μ-loop
-loop-less c = search needs
 
 loop-again : tie.Need-loop-again Inv-loop μ-loop
 loop-again c =
     let s = c .before .before .before in
     (omega arith, filled-more _ (omega (arith, s .pre .0 .most, s .pre .1)) (λ y h e. omega (arith, e)) refl (c .before .loop .inv .1))
-
-same-length : tie.Need-same-length Inv-loop μ-loop
-same-length c = search needs
 
 returns : tie.Need-returns Inv-loop μ-loop
 returns c =
@@ -61,18 +37,6 @@ returns c =
 pub put-leads-spec : {M : Type 1} → statement M
 put-leads-spec =
     tie.close
-    (tie.spec
-    Inv-loop
-    μ-loop
-    loop-holds
-    mul-u
-    array-read-u
-    cast-u
-    add-u
-    mul-u-2
-    slice-write-u
-    add-c
-    loop-less
-    loop-again
-    same-length
+    (tie.spec Inv-loop μ-loop loop-holds (λ c. search needs) (λ c. search needs) cast-u (λ c. search needs)
+    (λ c. search needs) (λ c. search needs) (λ c. search needs) (λ c. search needs) loop-again (λ c. search needs)
     returns)

@@ -1,6 +1,6 @@
 -- `put_mask` writes a mask for each lane of four. The invariant: the first i are written, and the lanes from i on are those of the rest.
-use Prim.Native.Nat.{ℕ, suc, _+_, _-_, _/_, _≤_}
-use mathlib.Core.Path.{_≡_, refl, sym, ap, subst, _∙_}
+use Prim.Native.Nat.{ℕ, suc, _+_, _-_, _≤_}
+use mathlib.Core.Path.{_≡_, sym, ap, subst, _∙_}
 use mathlib.Core.Bool.{Bool, cond}
 use Rattle.lane_rows.specs.Layout.{inf}
 use Rattle.least.specs.Filled.{FilledBy}
@@ -17,32 +17,11 @@ Inv-loop set u₀ at rest₀ i₀ u rest i = (i ≤ 4) × ((k : ℕ) → bitAt (
 abbrev μ-loop : tie.MeasureT-loop
 μ-loop set u₀ at rest₀ i₀ u rest i = 4 - i
 
-mul-at : tie.Need-mul-at Inv-loop μ-loop
-mul-at c = search needs
-
-add-at : tie.Need-add-at Inv-loop μ-loop
-add-at c = search needs
-
 loop-holds : tie.Need-loop-holds Inv-loop μ-loop
 loop-holds c = (omega arith, λ k. let z : 0 + k ≡ k = omega arith in ap (λ (x : ℕ). bitAt x (c .before .args .set)) z, filled-none)
 
 mask-requires : tie.Need-mask-requires Inv-loop μ-loop
 mask-requires c κs = search needs
-
-add-u : tie.Need-add-u Inv-loop μ-loop
-add-u c = search needs
-
-mul-u : tie.Need-mul-u Inv-loop μ-loop
-mul-u c = search needs
-
-slice-write-u : tie.Need-slice-write-u Inv-loop μ-loop
-slice-write-u c = search needs
-
-add-i : tie.Need-add-i Inv-loop μ-loop
-add-i c = search needs
-
-loop-less : tie.Need-loop-less Inv-loop μ-loop
-loop-less c = search needs
 
 loop-again : tie.Need-loop-again Inv-loop μ-loop
 unfolding bitAt
@@ -57,9 +36,6 @@ loop-again c =
           (let z : i + 0 ≡ i = omega arith in c .mask .ensures ∙ ap (λ (b : Bool). cond b inf 0) (sym (l .inv .1 0) ∙ ap (λ (x : ℕ). bitAt x (a .set)) z)) (l .inv .2),
     )
 
-same-length : tie.Need-same-length Inv-loop μ-loop
-same-length c = search needs
-
 returns : tie.Need-returns Inv-loop μ-loop
 returns c =
     let a = c .before .before .before .args in
@@ -70,18 +46,6 @@ returns c =
 pub put-mask-spec : {M : Type 1} → statement M
 put-mask-spec =
     tie.close
-    (tie.spec
-    Inv-loop
-    μ-loop
-    mul-at
-    add-at
-    loop-holds
-    mask-requires
-    add-u
-    mul-u
-    slice-write-u
-    add-i
-    loop-less
-    loop-again
-    same-length
+    (tie.spec Inv-loop μ-loop (λ c. search needs) (λ c. search needs) loop-holds mask-requires (λ c. search needs)
+    (λ c. search needs) (λ c. search needs) (λ c. search needs) (λ c. search needs) loop-again (λ c. search needs)
     returns)

@@ -1,6 +1,5 @@
 -- `put_masks` writes the masks of one set after the other. The invariant: those of the first are there.
-use Prim.Native.Nat.{ℕ, _-_, _≤_}
-use mathlib.Core.Path.{_≡_, subst, _∙_}
+use Prim.Native.Nat.{_-_, _≤_}
 use Rattle.held_tables.proofs.Masks.{Masked, masked-none, masked-more}
 use native.Mathlib.Omega.{arith}
 use borrow.Author.Needs.{needs}
@@ -19,21 +18,12 @@ loop-holds c = (omega arith, masked-none (c .before .args .u .now))
 put-mask-requires : tie.Need-put-mask-requires Inv-loop μ-loop
 put-mask-requires c κs = search needs
 
-add-set : tie.Need-add-set Inv-loop μ-loop
-add-set c = search needs
-
-loop-less : tie.Need-loop-less Inv-loop μ-loop
-loop-less c = search needs
-
 loop-again : tie.Need-loop-again Inv-loop μ-loop
 loop-again c =
     let l = c .before .before .before .before .before .loop in
     let a = c .before .before .before .before .before .before .before .args in
     let p = c .before .before .put-mask in
     (omega arith, masked-more (l .set) (a .u .now) (l .u) (p .last .1 .0) (p .ensures) (l .inv .1))
-
-same-length : tie.Need-same-length Inv-loop μ-loop
-same-length c = search needs
 
 returns : tie.Need-returns Inv-loop μ-loop
 returns c =
@@ -43,13 +33,5 @@ returns c =
 pub put-masks-spec : {M : Type 1} → statement M
 put-masks-spec =
     tie.close
-    (tie.spec
-    Inv-loop
-    μ-loop
-    loop-holds
-    put-mask-requires
-    add-set
-    loop-less
-    loop-again
-    same-length
-    returns)
+    (tie.spec Inv-loop μ-loop loop-holds put-mask-requires (λ c. search needs) (λ c. search needs) loop-again
+    (λ c. search needs) returns)

@@ -1,6 +1,5 @@
 -- `put_rest`: the masks, the leads, the numbers.
 use Rattle.held_tables.proofs.Filled.{closed}
-use native.Mathlib.Omega.{arith}
 use borrow.Author.Needs.{needs}
 use Rattle.held_tables.proofs.put_rest.Statement.{statement}
 use Rattle.held_tables.proofs.put_rest.Tie as tie
@@ -13,9 +12,6 @@ put-leads-requires c κs = search needs
 
 put-counts-requires : tie.Need-put-counts-requires
 put-counts-requires c κs = search needs
-
-same-length : tie.Need-same-length
-same-length c = search needs
 
 returns : tie.Need-returns
 returns c =
@@ -30,4 +26,4 @@ returns c =
 pub put-rest-spec : {M : Type 1} → statement M
 put-rest-spec =
     tie.close
-    (tie.spec put-masks-requires put-leads-requires put-counts-requires same-length returns)
+    (tie.spec put-masks-requires put-leads-requires put-counts-requires (λ c. search needs) returns)

@@ -36,9 +36,6 @@ array-write-fees c = omega (arith, c .before .before .before .pre)
 add-i : tie.Need-add-i Inv-loop μ-loop
 add-i c = omega (arith, c .before .before .before .pre)
 
-loop-less : tie.Need-loop-less Inv-loop μ-loop
-loop-less c = omega arith
-
 loop-again : tie.Need-loop-again Inv-loop μ-loop
 loop-again c =
     let s = c .before .before .before in
@@ -63,15 +60,5 @@ returns c =
 pub fees-of-spec : {M : Type 1} → statement M
 fees-of-spec =
     tie.close
-    (tie.spec
-    Inv-loop
-    μ-loop
-    loop-holds
-    mul-o
-    element-copy-out-o
-    mul-fees
-    array-write-fees
-    add-i
-    loop-less
-    loop-again
-    returns)
+    (tie.spec Inv-loop μ-loop loop-holds mul-o element-copy-out-o mul-fees array-write-fees add-i (λ c. omega arith)
+    loop-again returns)

@@ -52,9 +52,6 @@ array-write-lefts c = omega (arith, c .before .before .before .before .before .b
 add-q : tie.Need-add-q Inv-loop μ-loop
 add-q c = omega (arith, c .before .before .before .before .before .before .pre)
 
-loop-less : tie.Need-loop-less Inv-loop μ-loop
-loop-less c = omega arith
-
 loop-again : tie.Need-loop-again Inv-loop μ-loop
 loop-again c =
     let s = c .before .before .before .before .before .before in
@@ -80,18 +77,5 @@ returns c =
 pub lives-of-spec : {M : Type 1} → statement M
 lives-of-spec =
     tie.close
-    (tie.spec
-    Inv-loop
-    μ-loop
-    loop-holds
-    part-of-requires
-    life-of-requires
-    mul-lives
-    array-write-lives
-    left-of-requires
-    mul-lefts
-    array-write-lefts
-    add-q
-    loop-less
-    loop-again
-    returns)
+    (tie.spec Inv-loop μ-loop loop-holds part-of-requires life-of-requires mul-lives array-write-lives
+    left-of-requires mul-lefts array-write-lefts add-q (λ c. omega arith) loop-again returns)

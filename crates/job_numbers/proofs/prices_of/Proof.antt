@@ -87,9 +87,6 @@ put-prices-requires c κs =
 add-q : tie.Need-add-q Inv-loop μ-loop
 add-q c = omega (arith, s (c .before .before .before .before .before) .pre .0 .sized)
 
-loop-less : tie.Need-loop-less Inv-loop μ-loop
-loop-less c = omega arith
-
 loop-again : tie.Need-loop-again Inv-loop μ-loop
 loop-again c =
     let b = c .before .before .before .before .before in
@@ -116,19 +113,6 @@ returns c =
 pub prices-of-spec : {M : Type 1} → statement M
 prices-of-spec =
     tie.close
-    (tie.spec
-    Inv-loop
-    μ-loop
-    loop-holds
-    part-of-requires
-    array-share-prefix-prices
-    slice-aggregate-put-prices
-    mul-put-prices
-    array-read-put-prices
-    mul-put-prices-2
-    slice-aggregate-put-prices-2
-    put-prices-requires
-    add-q
-    loop-less
-    loop-again
-    returns)
+    (tie.spec Inv-loop μ-loop loop-holds part-of-requires array-share-prefix-prices slice-aggregate-put-prices
+    mul-put-prices array-read-put-prices mul-put-prices-2 slice-aggregate-put-prices-2 put-prices-requires add-q
+    (λ c. omega arith) loop-again returns)

@@ -18,35 +18,11 @@ abbrev μ-loop : tie.MeasureT-loop
 loop-holds : tie.Need-loop-holds Inv-loop μ-loop
 loop-holds c = (omega arith, filled-none)
 
-mul-flat : tie.Need-mul-flat Inv-loop μ-loop
-mul-flat c = search needs
-
-shared-slice-read-flat : tie.Need-shared-slice-read-flat Inv-loop μ-loop
-shared-slice-read-flat c = search needs
-
 add-flat : tie.Need-add-flat Inv-loop μ-loop
 add-flat c = let l = c .before .before in omega (arith, l .before .pre .1 (l .loop .i), l .before .pre .2)
 
-add-flat-2 : tie.Need-add-flat-2 Inv-loop μ-loop
-add-flat-2 c = search needs
-
-mul-flat-2 : tie.Need-mul-flat-2 Inv-loop μ-loop
-mul-flat-2 c = search needs
-
-slice-write-flat : tie.Need-slice-write-flat Inv-loop μ-loop
-slice-write-flat c = search needs
-
-add-i : tie.Need-add-i Inv-loop μ-loop
-add-i c = search needs
-
-loop-less : tie.Need-loop-less Inv-loop μ-loop
-loop-less c = search needs
-
 loop-again : tie.Need-loop-again Inv-loop μ-loop
 loop-again c = (omega arith, filled-more _ (omega arith) (λ y h e. omega (arith, e)) refl (c .before .before .loop .inv .1))
-
-same-length : tie.Need-same-length Inv-loop μ-loop
-same-length c = search needs
 
 returns : tie.Need-returns Inv-loop μ-loop
 returns c =
@@ -58,18 +34,6 @@ returns c =
 pub put-prices-spec : {M : Type 1} → statement M
 put-prices-spec =
     tie.close
-    (tie.spec
-    Inv-loop
-    μ-loop
-    loop-holds
-    mul-flat
-    shared-slice-read-flat
-    add-flat
-    add-flat-2
-    mul-flat-2
-    slice-write-flat
-    add-i
-    loop-less
-    loop-again
-    same-length
+    (tie.spec Inv-loop μ-loop loop-holds (λ c. search needs) (λ c. search needs) add-flat (λ c. search needs)
+    (λ c. search needs) (λ c. search needs) (λ c. search needs) (λ c. search needs) loop-again (λ c. search needs)
     returns)

@@ -9,7 +9,7 @@ use mir.Val.{toZ, ofZ}
 use Rattle.model.specs.Unheld.{chargedJob}
 use Rattle.jobs.specs.Views.{jobOf}
 use Rattle.clock.proofs.Ranges.{position-bits}
-use Rattle.search.specs.Arrays.{Holds}
+use Rattle.search_tables.specs.Arrays.{Holds}
 use Rattle.job_numbers.proofs.Counts.{long-enough, Counted, counted}
 use Rattle.job_search.proofs.Plain.{job-said, removed-range, holds-charged}
 use Rattle.job_search.proofs.search_plain.Statement.{statement}
@@ -77,9 +77,6 @@ array-share-prefix-lefts c = let b = c .before .before .before in long-enough (m
 slice-aggregate-search-4 : tie.Need-slice-aggregate-search-4
 slice-aggregate-search-4 c = sym (long (c .before .before .before .before) .lefts)
 
-slice-aggregate-search-5 : tie.Need-slice-aggregate-search-5
-slice-aggregate-search-5 c = search needs
-
 search-requires : tie.Need-search-requires
 search-requires c κs = let b = c .before .before .before .before .before .before in ((chargedJob (jobOf (s b .args .job)), holds b), omega (arith, s b .fits .limit))
 
@@ -92,18 +89,7 @@ returns c =
 pub search-plain-spec : {M : Type 1} → statement M
 search-plain-spec =
     tie.close
-    (tie.spec
-    numbers-of-requires
-    removals-of-requires
-    prices-of-requires
-    array-share-prefix-positions
-    slice-aggregate-search
-    array-share-prefix-fees
-    slice-aggregate-search-2
-    array-share-prefix-lives
-    slice-aggregate-search-3
-    array-share-prefix-lefts
-    slice-aggregate-search-4
-    slice-aggregate-search-5
-    search-requires
+    (tie.spec numbers-of-requires removals-of-requires prices-of-requires array-share-prefix-positions
+    slice-aggregate-search array-share-prefix-fees slice-aggregate-search-2 array-share-prefix-lives
+    slice-aggregate-search-3 array-share-prefix-lefts slice-aggregate-search-4 (λ c. search needs) search-requires
     returns)

@@ -7,7 +7,7 @@ use Rattle.lines.specs.Text.{bytes, lineOf, texts}
 use Rattle.lines.proofs.Writing.{then, kept, same}
 use Rattle.jobs.specs.Views.{jobOf}
 use Rattle.jobs.proofs.Jobs.{part-count}
-use Rattle.job_text.specs.Rendering.{openingText, partText, bodyText}
+use Rattle.job_grammar.specs.Rendering.{openingText, partText, bodyText}
 use Rattle.job_writing.specs.Lines.{linesFor}
 use Rattle.job_writing.proofs.Lines.{lines-count}
 use borrow.Author.Needs.{needs}
@@ -26,9 +26,6 @@ room s = omega (arith, simp length-append at (s .pre .1), ap (λ (n : ℕ). leng
 put-openings-requires : tie.Need-put-openings-requires
 put-openings-requires c κs = (c .before .before .before .pre .0, omega (arith, room (c .before .before .before)))
 
-slice-aggregate-put-line : tie.Need-slice-aggregate-put-line
-slice-aggregate-put-line c = search needs
-
 put-line-requires : tie.Need-put-line-requires
 unfolding bytes
 put-line-requires c κs =
@@ -43,9 +40,6 @@ put-parts-requires c κs =
     let w = c .before .before .before .before .put-line .ensures in
     (s .pre .0, omega (arith, room s, v .next, kept v, w .next, kept w))
 
-same-length : tie.Need-same-length
-same-length c = search needs
-
 returns : tie.Need-returns
 unfolding bytes bodyText
 returns c =
@@ -55,10 +49,5 @@ returns c =
 pub put-body-spec : {M : Type 1} → statement M
 put-body-spec =
     tie.close
-    (tie.spec
-    put-openings-requires
-    slice-aggregate-put-line
-    put-line-requires
-    put-parts-requires
-    same-length
+    (tie.spec put-openings-requires (λ c. search needs) put-line-requires put-parts-requires (λ c. search needs)
     returns)

@@ -6,8 +6,8 @@ use native.Mathlib.Omega.{arith}
 use lib.ListN.{length, length-append}
 use Rattle.lines.specs.Text.{bytes, lineOf, texts, optionalText}
 use Rattle.lines.proofs.Writing.{none, then, kept, same}
-use Rattle.job_text.specs.Rendering.{idlesText}
-use Rattle.job_text.specs.Views.{idleLines}
+use Rattle.job_grammar.specs.Rendering.{idlesText}
+use Rattle.job_grammar.specs.Optionals.{idleLines}
 use borrow.Author.Needs.{needs}
 use Rattle.job_writing.proofs.put_idles.Statement.{statement}
 use Rattle.job_writing.proofs.put_idles.Tie as tie
@@ -33,24 +33,15 @@ room c =
     let some : 1 ≤ length is = omega (arith, c .before .before .if1 .left) in
     (some, ap length (some-text is some) ∙ length-append (lineOf "idles=" (length is)) (texts (lineOf "idle=") is))
 
-slice-aggregate-put-line : tie.Need-slice-aggregate-put-line
-slice-aggregate-put-line c = search needs
-
 put-line-requires : tie.Need-put-line-requires
 unfolding bytes
 put-line-requires c κs = let r = room c in (omega (arith, c .before .before .before .before .before .pre .0), omega (arith, c .before .before .before .before .before .pre .1, r .1))
-
-slice-aggregate-put-values : tie.Need-slice-aggregate-put-values
-slice-aggregate-put-values c = search needs
 
 put-values-requires : tie.Need-put-values-requires
 unfolding bytes
 put-values-requires c κs =
     let w = c .before .before .before .before .put-line .ensures in
     omega (arith, c .before .before .before .before .before .before .before .before .before .before .pre .1, room (c .before .before .before .before .before) .1, w .next, kept w)
-
-same-length : tie.Need-same-length
-same-length c = search needs
 
 returns-2 : tie.Need-returns-2
 unfolding bytes
@@ -59,11 +50,5 @@ returns-2 c = same (then (c .before .before .before .before .before .before .bef
 pub put-idles-spec : {M : Type 1} → statement M
 put-idles-spec =
     tie.close
-    (tie.spec
-    returns
-    slice-aggregate-put-line
-    put-line-requires
-    slice-aggregate-put-values
-    put-values-requires
-    same-length
-    returns-2)
+    (tie.spec returns (λ c. search needs) put-line-requires (λ c. search needs) put-values-requires
+    (λ c. search needs) returns-2)

@@ -8,8 +8,9 @@ use Rattle.lines.specs.Text.{bytes, lineOf, optionalText}
 use Rattle.lines.proofs.Writing.{then, kept, same}
 use Rattle.jobs.specs.Views.{jobOf}
 use Rattle.jobs.proofs.Jobs.{idles-long, opening-count}
-use Rattle.job_text.specs.Rendering.{idlesText, bodyText, jobText}
-use Rattle.job_text.specs.Views.{idleLines, textOf}
+use Rattle.job_grammar.specs.Rendering.{idlesText, bodyText, jobText}
+use Rattle.job_grammar.specs.Optionals.{idleLines}
+use Rattle.job_text.specs.Views.{textOf}
 use borrow.Author.Needs.{needs}
 use Rattle.job_writing.proofs.put_job.Statement.{statement}
 use Rattle.job_writing.proofs.put_job.Tie as tie
@@ -26,12 +27,6 @@ room : (s : tie.Start) → let t = s .args .text in let j = t .job in
     s .args .at + (length (lineOf "horizon=" (j .horizon)) + length (optionalText idlesText (idleLines (jobOf j .idles))) + length (lineOf "walk=" (t .walk)) + length (lineOf "openings=" (j .«opening_count»)) + length (bodyText (textOf t))) ≤ length (s .args .out .now)
 unfolding jobText
 room s = omega (arith, simp length-append at (s .pre .1), ap (λ (n : ℕ). length (lineOf "openings=" n)) (count s))
-
-slice-aggregate-put-line : tie.Need-slice-aggregate-put-line
-slice-aggregate-put-line c = search needs
-
-cast-put-line : tie.Need-cast-put-line
-cast-put-line c = search needs
 
 put-line-requires : tie.Need-put-line-requires
 unfolding bytes
@@ -50,21 +45,12 @@ put-idles-requires c κs =
     let w = c .before .before .before .before .before .put-line .ensures in
     (omega (arith, s .pre .0, length-take-le (s .args .text .job .«idle_count») (s .args .text .job .idles) (long s)), omega (arith, room s, w .next, kept w))
 
-slice-aggregate-put-line-2 : tie.Need-slice-aggregate-put-line-2
-slice-aggregate-put-line-2 c = search needs
-
-cast-put-line-2 : tie.Need-cast-put-line-2
-cast-put-line-2 c = search needs
-
 put-line-requires-2 : tie.Need-put-line-requires-2
 unfolding bytes
 put-line-requires-2 c κs =
     let v = c .before .before .before .before .before .before .before .before .before .before .before .put-line .ensures in
     let w = c .before .before .before .before .before .put-idles .ensures in
     (omega (arith, c .struct-known2 .given), omega (arith, room (c .before .before .before .before .before .before .before .before .before .before .before .before .before .before .before .before .before), v .next, kept v, w .next, kept w))
-
-slice-aggregate-put-line-3 : tie.Need-slice-aggregate-put-line-3
-slice-aggregate-put-line-3 c = search needs
 
 put-line-requires-3 : tie.Need-put-line-requires-3
 unfolding bytes
@@ -83,9 +69,6 @@ put-body-requires c κs =
     let y = c .before .before .before .put-line3 .ensures in
     (c .before .before .before .before .before .before .before .before .before .before .before .before .before .before .before .before .before .before .before .before .before .before .before .before .before .before .pre .0, omega (arith, room (c .before .before .before .before .before .before .before .before .before .before .before .before .before .before .before .before .before .before .before .before .before .before .before .before .before .before), v .next, kept v, w .next, kept w, x .next, kept x, y .next, kept y))
 
-same-length : tie.Need-same-length
-same-length c = search needs
-
 returns : tie.Need-returns
 unfolding bytes jobText
 returns c =
@@ -95,18 +78,6 @@ returns c =
 pub put-job-spec : {M : Type 1} → statement M
 put-job-spec =
     tie.close
-    (tie.spec
-    slice-aggregate-put-line
-    cast-put-line
-    put-line-requires
-    array-share-prefix-idles
-    slice-aggregate-put-idles
-    put-idles-requires
-    slice-aggregate-put-line-2
-    cast-put-line-2
-    put-line-requires-2
-    slice-aggregate-put-line-3
-    put-line-requires-3
-    put-body-requires
-    same-length
-    returns)
+    (tie.spec (λ c. search needs) (λ c. search needs) put-line-requires array-share-prefix-idles
+    slice-aggregate-put-idles put-idles-requires (λ c. search needs) (λ c. search needs) put-line-requires-2
+    (λ c. search needs) put-line-requires-3 put-body-requires (λ c. search needs) returns)

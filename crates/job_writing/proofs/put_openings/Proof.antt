@@ -11,7 +11,7 @@ use Rattle.lines.proofs.Texts.{texts-map, texts-more, texts-room}
 use Rattle.jobs.specs.Views.{openingOf, jobOf}
 use Rattle.jobs.specs.declared.Opening.{Opening}
 use Rattle.jobs.proofs.Jobs.{blankOpening, openings-long}
-use Rattle.job_text.specs.Rendering.{openingText}
+use Rattle.job_grammar.specs.Rendering.{openingText}
 use borrow.Author.Needs.{needs}
 use Rattle.job_writing.proofs.put_openings.Statement.{statement}
 use Rattle.job_writing.proofs.put_openings.Tie as tie
@@ -34,9 +34,6 @@ long s = openings-long (s .args .t3) (s .pre .0) (s .good .1 .1 .0)
 
 loop-holds : tie.Need-loop-holds Inv-loop μ-loop
 loop-holds c = (omega arith, none)
-
-mul-o : tie.Need-mul-o Inv-loop μ-loop
-mul-o c = search needs
 
 element-copy-out-o : tie.Need-element-copy-out-o Inv-loop μ-loop
 element-copy-out-o c = omega (arith, c .before .before .before .pre .0, c .loop-test .taken)
@@ -71,15 +68,5 @@ returns c =
 pub put-openings-spec : {M : Type 1} → statement M
 put-openings-spec =
     tie.close
-    (tie.spec
-    Inv-loop
-    μ-loop
-    loop-holds
-    mul-o
-    element-copy-out-o
-    put-opening-requires
-    add-i
-    loop-less
-    loop-again
-    same-length
-    returns)
+    (tie.spec Inv-loop μ-loop loop-holds (λ c. search needs) element-copy-out-o put-opening-requires add-i loop-less
+    loop-again same-length returns)

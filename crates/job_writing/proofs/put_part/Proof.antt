@@ -8,7 +8,7 @@ use Rattle.lines.specs.Text.{bytes, lineOf, texts, optionalText}
 use Rattle.lines.proofs.Writing.{then, kept}
 use Rattle.covers.specs.Rendering.{coverText}
 use Rattle.covers.specs.Views.{linesOf}
-use Rattle.job_text.specs.Rendering.{partText}
+use Rattle.job_grammar.specs.Rendering.{partText}
 use Rattle.job_writing.specs.Lines.{coverIn}
 use borrow.Author.Needs.{needs}
 use Rattle.job_writing.proofs.put_part.Statement.{statement}
@@ -23,21 +23,9 @@ room : (s : tie.Start) → let p = s .args .part in
 unfolding partText
 room s = omega (arith, simp length-append at (s .pre .1))
 
-slice-aggregate-put-line : tie.Need-slice-aggregate-put-line
-slice-aggregate-put-line c = search needs
-
-cast-put-line : tie.Need-cast-put-line
-cast-put-line c = search needs
-
 put-line-requires : tie.Need-put-line-requires
 unfolding bytes
 put-line-requires c κs = (omega (arith, c .struct-known .given), omega (arith, room (c .before .before .before .before)))
-
-slice-aggregate-put-line-2 : tie.Need-slice-aggregate-put-line-2
-slice-aggregate-put-line-2 c = search needs
-
-cast-put-line-2 : tie.Need-cast-put-line-2
-cast-put-line-2 c = search needs
 
 put-line-requires-2 : tie.Need-put-line-requires-2
 unfolding bytes
@@ -51,9 +39,6 @@ put-removal-requires c κs =
     let v = c .before .before .before .before .before .before .before .before .before .put-line .ensures in
     let w = c .before .before .before .put-line2 .ensures in
     omega (arith, room (c .before .before .before .before .before .before .before .before .before .before .before .before .before .before), v .next, kept v, w .next, kept w)
-
-slice-aggregate-put-values : tie.Need-slice-aggregate-put-values
-slice-aggregate-put-values c = search needs
 
 array-share-prefix-prices : tie.Need-array-share-prefix-prices
 array-share-prefix-prices c = long (c .before .before .before .before .before .before .before .before .before .before .before .before .before .before .before .before .before .before .before .before)
@@ -71,9 +56,6 @@ put-values-requires c κs =
     let x = c .before .before .before .before .before .before .put-removal .ensures in
     omega (arith, room (c .before .before .before .before .before .before .before .before .before .before .before .before .before .before .before .before .before .before .before .before .before), v .next, kept v, w .next, kept w, x .next, kept x)
 
-same-length : tie.Need-same-length
-same-length c = search needs
-
 returns : tie.Need-returns
 unfolding partText bytes
 returns c = then (then (then (c .before .before .before .before .before .before .before .before .before .before .before .before .before .before .before .before .before .before .before .put-line .ensures) (c .before .before .before .before .before .before .before .before .before .before .before .before .before .put-line2 .ensures)) (c .before .before .before .before .before .before .before .before .before .put-removal .ensures)) (c .before .before .put-values .ensures)
@@ -81,17 +63,6 @@ returns c = then (then (then (c .before .before .before .before .before .before 
 pub put-part-spec : {M : Type 1} → statement M
 put-part-spec =
     tie.close
-    (tie.spec
-    slice-aggregate-put-line
-    cast-put-line
-    put-line-requires
-    slice-aggregate-put-line-2
-    cast-put-line-2
-    put-line-requires-2
-    put-removal-requires
-    slice-aggregate-put-values
-    array-share-prefix-prices
-    slice-aggregate-put-values-2
-    put-values-requires
-    same-length
-    returns)
+    (tie.spec (λ c. search needs) (λ c. search needs) put-line-requires (λ c. search needs) (λ c. search needs)
+    put-line-requires-2 put-removal-requires (λ c. search needs) array-share-prefix-prices
+    slice-aggregate-put-values-2 put-values-requires (λ c. search needs) returns)

@@ -29,9 +29,6 @@ put-cover-requires c κs =
     let s = c .before .before .before .before in
     omega (arith, s .pre, ap length (stood (s .args .there) (coverIn (s .args .part)) (c .before .before .if1 .taken)))
 
-same-length : tie.Need-same-length
-same-length c = search needs
-
 returns : tie.Need-returns
 returns c =
     let s = c .before .before .before .before .before .before .before in
@@ -41,4 +38,4 @@ returns-2 : tie.Need-returns-2
 returns-2 c = same none (sym (gone (c .before .before .args .there) (coverIn (c .before .before .args .part)) (c .if1 .left))) refl
 
 pub put-removal-spec : {M : Type 1} → statement M
-put-removal-spec = tie.close (tie.spec put-cover-requires same-length returns returns-2)
+put-removal-spec = tie.close (tie.spec put-cover-requires (λ c. search needs) returns returns-2)

@@ -22,12 +22,6 @@ abbrev μ-loop : tie.MeasureT-loop
 loop-holds : tie.Need-loop-holds Inv-loop μ-loop
 loop-holds c = (omega arith, none)
 
-mul-put-line : tie.Need-mul-put-line Inv-loop μ-loop
-mul-put-line c = search needs
-
-shared-slice-read-put-line : tie.Need-shared-slice-read-put-line Inv-loop μ-loop
-shared-slice-read-put-line c = omega arith
-
 cast-put-line : tie.Need-cast-put-line Inv-loop μ-loop
 cast-put-line c = omega (arith, c .before .before .before .before .shared-slice-known2 .given (c .before .before .before .loop .i))
 
@@ -40,12 +34,6 @@ put-line-requires c κs =
       omega (arith, c .before .before .before .before .shared-slice-known2 .given (l .i)),
       omega (arith, c .before .before .before .before .before .before .before .pre, l .inv .1 .next, kept (l .inv .1), fits, ap (λ (xs : List ℕ). length (texts (line (a .key .now)) xs)) (take-length (a .values .now))),
     )
-
-add-i : tie.Need-add-i Inv-loop μ-loop
-add-i c = omega arith
-
-loop-less : tie.Need-loop-less Inv-loop μ-loop
-loop-less c = omega arith
 
 loop-again : tie.Need-loop-again Inv-loop μ-loop
 loop-again c =
@@ -64,16 +52,5 @@ returns c =
 pub put-values-spec : {M : Type 1} → statement M
 put-values-spec =
     tie.close
-    (tie.spec
-    Inv-loop
-    μ-loop
-    loop-holds
-    mul-put-line
-    shared-slice-read-put-line
-    cast-put-line
-    put-line-requires
-    add-i
-    loop-less
-    loop-again
-    same-length
-    returns)
+    (tie.spec Inv-loop μ-loop loop-holds (λ c. search needs) (λ c. omega arith) cast-put-line put-line-requires
+    (λ c. omega arith) (λ c. omega arith) loop-again same-length returns)

@@ -9,70 +9,36 @@ use Rattle.judge_program.proofs.Cut.{same}
 use Rattle.judge_program.proofs.judge_files.Statement.{statement}
 use Rattle.judge_program.proofs.judge_files.Tie as tie
 
-slice-aggregate-read-file : tie.Need-slice-aggregate-read-file
-slice-aggregate-read-file c = search needs
-
 read-file-requires : tie.Need-read-file-requires
 read-file-requires c κs = search needs
-
-slice-aggregate-read-file-2 : tie.Need-slice-aggregate-read-file-2
-slice-aggregate-read-file-2 c = search needs
 
 read-file-requires-2 : tie.Need-read-file-requires-2
 read-file-requires-2 c κs = search needs
 
-array-share-prefix-job : tie.Need-array-share-prefix-job
-array-share-prefix-job c = search needs
-
-slice-aggregate-judge : tie.Need-slice-aggregate-judge
-slice-aggregate-judge c = search needs
-
-array-share-prefix-plan : tie.Need-array-share-prefix-plan
-array-share-prefix-plan c = search needs
-
-slice-aggregate-judge-2 : tie.Need-slice-aggregate-judge-2
-slice-aggregate-judge-2 c = search needs
-
-slice-aggregate-judge-3 : tie.Need-slice-aggregate-judge-3
-slice-aggregate-judge-3 c = search needs
-
 judge-requires : tie.Need-judge-requires
 judge-requires c κs = search needs
 
-array-share-prefix-out : tie.Need-array-share-prefix-out
-array-share-prefix-out c = search needs
-
-slice-aggregate-write-all : tie.Need-slice-aggregate-write-all
-slice-aggregate-write-all c = search needs
-
-write-all-requires : tie.Need-write-all-requires
-write-all-requires c κs = search needs
+print-answer-requires : tie.Need-print-answer-requires
+print-answer-requires c κs = search needs
 
 returns : tie.Need-returns
-returns c = record {
-  job = take (c .before .before .before .before .before .before .before .before .before .before .before .read-file .result) (c .before .before .before .before .before .before .before .before .before .before .before .read-file .last .1 .1 .0);
-  plan = take (c .before .before .before .before .before .before .before .before .read-file2 .result) (c .before .before .before .before .before .before .before .before .read-file2 .last .1 .1 .0);
-  job-read = omega (arith, c .before .before .before .before .before .before .before .before .before .before .before .read-file .ensures, c .before .before .before .before .before .before .before .before .before .before .job2 .given);
-  plan-read = omega (arith, c .before .before .before .before .before .before .before .before .read-file2 .ensures, c .before .before .before .before .before .before .before .plan2 .given);
-  says = λ jobFile planFile job-kept plan-kept. c .before .before .before .judge .ensures .0 .numbers-are
-      ∙ ap numbers (ap₂ judgeSaid (sym job-kept) (sym plan-kept) ∙ same jobFile planFile);
-}
+returns c =
+    let called = c .before .before .before .before in
+    let plan-cut = called .before .before .before .before in
+    let plan-read = plan-cut .before in
+    let job-cut = plan-read .before .before in
+    let job-read = job-cut .before in
+    record {
+      job = take (job-read .read-file .result) (job-read .read-file .last .1 .1 .0);
+      plan = take (plan-read .read-file2 .result) (plan-read .read-file2 .last .1 .1 .0);
+      job-read = omega (arith, job-read .read-file .ensures, job-cut .job2 .given);
+      plan-read = omega (arith, plan-read .read-file2 .ensures, plan-cut .plan2 .given);
+      says = λ jobFile planFile job-kept plan-kept. called .judge .ensures .0 .numbers-are ∙ ap numbers (ap₂ judgeSaid (sym job-kept) (sym plan-kept) ∙ same jobFile planFile);
+    }
 
 pub judge-files-spec : {M : Type 1} → statement M
 judge-files-spec =
     tie.close
-    (tie.spec
-    slice-aggregate-read-file
-    read-file-requires
-    slice-aggregate-read-file-2
-    read-file-requires-2
-    array-share-prefix-job
-    slice-aggregate-judge
-    array-share-prefix-plan
-    slice-aggregate-judge-2
-    slice-aggregate-judge-3
-    judge-requires
-    array-share-prefix-out
-    slice-aggregate-write-all
-    write-all-requires
-    returns)
+    (tie.spec (λ c. search needs) read-file-requires (λ c. search needs) read-file-requires-2 (λ c. search needs)
+    (λ c. search needs) (λ c. search needs) (λ c. search needs) (λ c. search needs) judge-requires
+    (λ c. search needs) (λ c. search needs) (λ c. search needs) print-answer-requires returns)

@@ -4,11 +4,11 @@ use native.Mathlib.Omega.{arith}
 use lib.ListN.{length}
 use Rattle.lines.specs.Parser.{accepted, refused}
 use Rattle.lines.proofs.Outcomes.{told}
-use Rattle.job_text.specs.Grammar.{readJob}
+use Rattle.job_grammar.specs.Grammar.{readJob}
 use Rattle.job_text.specs.Views.{givenOf}
 use Rattle.job_text.proofs.Views.{means}
-use Rattle.job_text.proofs.Accepted.{valid}
-use Rattle.job_text.proofs.Numbered.{fault}
+use Rattle.job_grammar.proofs.Accepted.{valid}
+use Rattle.job_grammar.proofs.Numbered.{fault}
 use Rattle.judging.specs.Judge.{judgeSaid}
 use Rattle.judging.proofs.Promised.{promised}
 use borrow.Author.Needs.{needs}
@@ -26,29 +26,17 @@ accepted-job c = told _ (means _ (c .before .before .read-job .ensures)) (c .enu
 read-job-requires : tie.Need-read-job-requires
 read-job-requires c κs = search needs
 
-enum-known-verdict : tie.Need-enum-known-verdict
-enum-known-verdict c = search needs
-
 refuse-requires : tie.Need-refuse-requires
 refuse-requires c κs = (omega (arith, fault _ _ _ (refused-job (c .before .before)) .1), omega arith)
 
-enum-told : tie.Need-enum-told
-enum-told c = search needs
-
 judge-plan-requires : tie.Need-judge-plan-requires
 judge-plan-requires c κs = record { sized = c .before .before .before .before .read-job .ensures .sized; valid = valid _ _ (accepted-job (c .before .before)) .job }
-
-same-length : tie.Need-same-length
-same-length c = search needs
 
 returns : tie.Need-returns
 unfolding judgeSaid
 returns c =
     let a = c .before .before .before .before .before .before .before .before .before .before .before .args in
     (rw (refused-job (c .before .before .before .before .before)) (c .before .before .refuse .ensures), promised (a .job .now) (a .plan .now) (length (a .out .now)))
-
-same-length-2 : tie.Need-same-length-2
-same-length-2 c = search needs
 
 returns-2 : tie.Need-returns-2
 unfolding judgeSaid
@@ -59,13 +47,5 @@ returns-2 c =
 pub judge-spec : {M : Type 1} → statement M
 judge-spec =
     tie.close
-    (tie.spec
-    read-job-requires
-    enum-known-verdict
-    refuse-requires
-    enum-told
-    judge-plan-requires
-    same-length
-    returns
-    same-length-2
-    returns-2)
+    (tie.spec read-job-requires (λ c. search needs) refuse-requires (λ c. search needs) judge-plan-requires
+    (λ c. search needs) returns (λ c. search needs) returns-2)

@@ -4,9 +4,9 @@ use native.Mathlib.Omega.{arith}
 use Rattle.lines.specs.Parser.{accepted, refused}
 use Rattle.lines.proofs.Outcomes.{told}
 use Rattle.jobs.specs.Views.{jobOf, planFor}
-use Rattle.plan_text.specs.Grammar.{readPlan}
+use Rattle.plan_grammar.specs.Grammar.{readPlan}
 use Rattle.plan_text.specs.Views.{statedFor}
-use Rattle.plan_text.proofs.Numbered.{fault}
+use Rattle.plan_grammar.proofs.Numbered.{fault}
 use Rattle.verdict.proofs.Limits.{judged-limited}
 use borrow.Author.Needs.{needs}
 use Rattle.judging.proofs.judge_plan.Statement.{statement}
@@ -23,14 +23,8 @@ accepted-plan c = told _ (c .before .before .read-plan .ensures) (c .enum-told .
 read-plan-requires : tie.Need-read-plan-requires
 read-plan-requires c κs = search needs
 
-enum-known-verdict : tie.Need-enum-known-verdict
-enum-known-verdict c = search needs
-
 refuse-requires : tie.Need-refuse-requires
 refuse-requires c κs = (omega (arith, fault _ _ _ _ (refused-plan (c .before .before)) .1), omega arith)
-
-enum-told : tie.Need-enum-told
-enum-told c = search needs
 
 judgement-of-requires : tie.Need-judgement-of-requires
 judgement-of-requires c κs = search needs
@@ -41,14 +35,8 @@ answer-requires c κs =
     let r = c .before .before .before .before .before .read-plan .result in
     judged-limited (jobOf (s .args .job)) (s .pre .valid) (planFor (s .args .job) (r .plan)) (r .cost) _ (c .before .judgement-of .ensures)
 
-same-length : tie.Need-same-length
-same-length c = search needs
-
 returns : tie.Need-returns
 returns c = rw (refused-plan (c .before .before .before .before .before)) (c .before .before .refuse .ensures)
-
-same-length-2 : tie.Need-same-length-2
-same-length-2 c = search needs
 
 returns-2 : tie.Need-returns-2
 returns-2 c =
@@ -57,14 +45,5 @@ returns-2 c =
 pub judge-plan-spec : {M : Type 1} → statement M
 judge-plan-spec =
     tie.close
-    (tie.spec
-    read-plan-requires
-    enum-known-verdict
-    refuse-requires
-    enum-told
-    judgement-of-requires
-    answer-requires
-    same-length
-    returns
-    same-length-2
-    returns-2)
+    (tie.spec read-plan-requires (λ c. search needs) refuse-requires (λ c. search needs) judgement-of-requires
+    answer-requires (λ c. search needs) returns (λ c. search needs) returns-2)

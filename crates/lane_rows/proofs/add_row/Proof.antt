@@ -13,48 +13,6 @@ use Rattle.lane_rows.proofs.add_row.Tie as tie
 row-of-requires : tie.Need-row-of-requires
 row-of-requires c κs = search needs
 
-add-at : tie.Need-add-at
-add-at c = search needs
-
-mul-at : tie.Need-mul-at
-mul-at c = search needs
-
-add-at-2 : tie.Need-add-at-2
-add-at-2 c = search needs
-
-mul-min-row : tie.Need-mul-min-row
-mul-min-row c = search needs
-
-mul-min-row-2 : tie.Need-mul-min-row-2
-mul-min-row-2 c = search needs
-
-add-min-row : tie.Need-add-min-row
-add-min-row c = search needs
-
-mul-min-row-3 : tie.Need-mul-min-row-3
-mul-min-row-3 c = search needs
-
-sub-min-row : tie.Need-sub-min-row
-sub-min-row c = search needs
-
-part-min-row-start : tie.Need-part-min-row-start
-part-min-row-start c = search needs
-
-part-min-row-end : tie.Need-part-min-row-end
-part-min-row-end c = search needs
-
-add-min-row-2 : tie.Need-add-min-row-2
-add-min-row-2 c = search needs
-
-mul-min-row-4 : tie.Need-mul-min-row-4
-mul-min-row-4 c = search needs
-
-sub-min-row-2 : tie.Need-sub-min-row-2
-sub-min-row-2 c = search needs
-
-part-min-row-start-2 : tie.Need-part-min-row-start-2
-part-min-row-start-2 c = search needs
-
 -- the table's window: where it starts, that it is inside, and its numbers
 abbrev begun : tie.After-row-of → tie.Start
 begun c = c .before .before .before .before
@@ -89,9 +47,6 @@ min-row-requires c κs =
       sums = λ q l. omega (arith, s .pre .sums q l, window-at (a .w .now) (a .n * laneCount) (omega arith) q (omega (arith, s .pre .few)), reads r q (omega (arith, s .pre .few)));
     }
 
-same-length : tie.Need-same-length
-same-length c = search needs
-
 returns : tie.Need-returns
 returns c =
     let s = c .before .before .before .before .before .before .before .before .before .before in
@@ -107,23 +62,7 @@ returns c =
 pub add-row-spec : {M : Type 1} → statement M
 add-row-spec =
     tie.close
-    (tie.spec
-    row-of-requires
-    add-at
-    mul-at
-    add-at-2
-    mul-min-row
-    mul-min-row-2
-    add-min-row
-    mul-min-row-3
-    sub-min-row
-    part-min-row-start
-    part-min-row-end
-    add-min-row-2
-    mul-min-row-4
-    sub-min-row-2
-    part-min-row-start-2
-    part-min-row-end-2
-    min-row-requires
-    same-length
-    returns)
+    (tie.spec row-of-requires (λ c. search needs) (λ c. search needs) (λ c. search needs) (λ c. search needs)
+    (λ c. search needs) (λ c. search needs) (λ c. search needs) (λ c. search needs) (λ c. search needs)
+    (λ c. search needs) (λ c. search needs) (λ c. search needs) (λ c. search needs) (λ c. search needs)
+    part-min-row-end-2 min-row-requires (λ c. search needs) returns)

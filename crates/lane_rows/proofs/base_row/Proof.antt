@@ -20,23 +20,8 @@ abbrev μ-loop : tie.MeasureT-loop
 loop-holds : tie.Need-loop-holds Inv-loop μ-loop
 loop-holds c = (omega arith, filled-none)
 
-mul-w : tie.Need-mul-w Inv-loop μ-loop
-mul-w c = search needs
-
-slice-write-w : tie.Need-slice-write-w Inv-loop μ-loop
-slice-write-w c = search needs
-
-add-p : tie.Need-add-p Inv-loop μ-loop
-add-p c = search needs
-
-loop-less : tie.Need-loop-less Inv-loop μ-loop
-loop-less c = search needs
-
 loop-again : tie.Need-loop-again Inv-loop μ-loop
 loop-again c = (omega arith, filled-more 0 (omega (arith, c .before .before .before .pre)) (λ q h z. omega (arith, z)) refl (c .before .loop .inv .1))
-
-slice-write-w-2 : tie.Need-slice-write-w-2 Inv-loop μ-loop
-slice-write-w-2 c = search needs
 
 forget-requires : tie.Need-forget-requires Inv-loop μ-loop
 forget-requires c κs = let l = c .before .before .loop in (omega arith, omega arith, length-set (l .w) markBase 0 ∙ l .inv .1 .size ∙ c .before .before .before .before .pre)
@@ -68,17 +53,5 @@ returns c =
 pub base-row-spec : {M : Type 1} → statement M
 base-row-spec =
     tie.close
-    (tie.spec
-    Inv-loop
-    μ-loop
-    loop-holds
-    mul-w
-    slice-write-w
-    add-p
-    loop-less
-    loop-again
-    slice-write-w-2
-    forget-requires
-    none-rows-requires
-    same-length
-    returns)
+    (tie.spec Inv-loop μ-loop loop-holds (λ c. search needs) (λ c. search needs) (λ c. search needs)
+    (λ c. search needs) loop-again (λ c. search needs) forget-requires none-rows-requires same-length returns)

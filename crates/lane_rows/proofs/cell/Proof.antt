@@ -5,15 +5,6 @@ use borrow.Author.Needs.{needs}
 use Rattle.lane_rows.proofs.cell.Statement.{statement}
 use Rattle.lane_rows.proofs.cell.Tie as tie
 
-add-result : tie.Need-add-result
-add-result c = search needs
-
-mul-result : tie.Need-mul-result
-mul-result c = search needs
-
-shared-slice-read-result : tie.Need-shared-slice-read-result
-shared-slice-read-result c = search needs
-
 cast-result : tie.Need-cast-result
 cast-result c = let a = c .before .args in omega (arith, c .shared-slice-known .given (a .start + a .j))
 
@@ -21,4 +12,4 @@ returns : tie.Need-returns
 returns c = search needs
 
 pub cell-spec : {M : Type 1} → statement M
-cell-spec = tie.close (tie.spec add-result mul-result shared-slice-read-result cast-result returns)
+cell-spec = tie.close (tie.spec (λ c. search needs) (λ c. search needs) (λ c. search needs) cast-result returns)

@@ -11,12 +11,6 @@ use borrow.Author.Needs.{needs}
 use Rattle.lane_rows.proofs.first_sums.Statement.{statement}
 use Rattle.lane_rows.proofs.first_sums.Tie as tie
 
-shared-slice-read-if1 : tie.Need-shared-slice-read-if1
-shared-slice-read-if1 c = search needs
-
-shared-slice-read-total : tie.Need-shared-slice-read-total
-shared-slice-read-total c = search needs
-
 cast-total : tie.Need-cast-total
 cast-total c = omega (arith, c .shared-slice-known3 .given foursPlace)
 
@@ -40,10 +34,4 @@ returns-2 c =
 pub first-sums-spec : {M : Type 1} → statement M
 first-sums-spec =
     tie.close
-    (tie.spec
-    shared-slice-read-if1
-    shared-slice-read-total
-    cast-total
-    total-requires
-    returns
-    returns-2)
+    (tie.spec (λ c. search needs) (λ c. search needs) cast-total total-requires returns returns-2)

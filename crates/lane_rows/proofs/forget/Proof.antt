@@ -22,27 +22,6 @@ loop-holds c =
     let z : a .from - a .from ≡ 0 = omega arith in
     (omega arith, omega arith, subst (λ (n : ℕ). FilledBy (λ (y : ℕ). knownPlace (a .k) (a .from + y)) (λ (y : ℕ). 0) n (a .w .now) (a .w .now)) (sym z) filled-none)
 
-mul-w : tie.Need-mul-w Inv-loop μ-loop
-mul-w c = search needs
-
-add-w : tie.Need-add-w Inv-loop μ-loop
-add-w c = search needs
-
-add-w-2 : tie.Need-add-w-2 Inv-loop μ-loop
-add-w-2 c = search needs
-
-mul-w-2 : tie.Need-mul-w-2 Inv-loop μ-loop
-mul-w-2 c = search needs
-
-slice-write-w : tie.Need-slice-write-w Inv-loop μ-loop
-slice-write-w c = search needs
-
-add-l : tie.Need-add-l Inv-loop μ-loop
-add-l c = search needs
-
-loop-less : tie.Need-loop-less Inv-loop μ-loop
-loop-less c = search needs
-
 loop-again : tie.Need-loop-again Inv-loop μ-loop
 loop-again c =
     let s = c .before .before in
@@ -58,9 +37,6 @@ loop-again c =
           (filled-more 0 (omega (arith, s .pre, l .inv .0)) (λ q h e. omega (arith, e)) refl (l .inv .2))),
     )
 
-same-length : tie.Need-same-length Inv-loop μ-loop
-same-length c = search needs
-
 returns : tie.Need-returns Inv-loop μ-loop
 returns c =
     let l = c .before .loop in
@@ -71,17 +47,6 @@ returns c =
 pub forget-spec : {M : Type 1} → statement M
 forget-spec =
     tie.close
-    (tie.spec
-    Inv-loop
-    μ-loop
-    loop-holds
-    mul-w
-    add-w
-    add-w-2
-    mul-w-2
-    slice-write-w
-    add-l
-    loop-less
-    loop-again
-    same-length
+    (tie.spec Inv-loop μ-loop loop-holds (λ c. search needs) (λ c. search needs) (λ c. search needs)
+    (λ c. search needs) (λ c. search needs) (λ c. search needs) (λ c. search needs) loop-again (λ c. search needs)
     returns)

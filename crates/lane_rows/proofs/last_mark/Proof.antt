@@ -6,18 +6,6 @@ use Rattle.lane_rows.specs.Layout.{markPlace}
 use Rattle.lane_rows.proofs.last_mark.Statement.{statement}
 use Rattle.lane_rows.proofs.last_mark.Tie as tie
 
-sub-result : tie.Need-sub-result
-sub-result c = search needs
-
-add-result : tie.Need-add-result
-add-result c = search needs
-
-mul-result : tie.Need-mul-result
-mul-result c = search needs
-
-shared-slice-read-result : tie.Need-shared-slice-read-result
-shared-slice-read-result c = search needs
-
 cast-result : tie.Need-cast-result
 cast-result c = omega (arith, c .shared-slice-known .given (markPlace (c .before .args .rows - 1)))
 
@@ -27,4 +15,4 @@ returns c = search needs
 pub last-mark-spec : {M : Type 1} → statement M
 last-mark-spec =
     tie.close
-    (tie.spec sub-result add-result mul-result shared-slice-read-result cast-result returns)
+    (tie.spec (λ c. search needs) (λ c. search needs) (λ c. search needs) (λ c. search needs) cast-result returns)

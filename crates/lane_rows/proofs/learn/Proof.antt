@@ -12,15 +12,6 @@ use borrow.Author.Needs.{needs}
 use Rattle.lane_rows.proofs.learn.Statement.{statement}
 use Rattle.lane_rows.proofs.learn.Tie as tie
 
-add-i : tie.Need-add-i
-add-i c = search needs
-
-mul-i : tie.Need-mul-i
-mul-i c = search needs
-
-element-copy-out-i : tie.Need-element-copy-out-i
-element-copy-out-i c = search needs
-
 -- no mark is above the level
 marked : (s : tie.Start) → getD (s .args .w .now) (markPlace (s .args .m)) 0 ≤ 64
 marked s = let l = s .pre .0 in omega (arith, l .1 .stack .marks (s .args .m) (l .2), l .1 .stack .near)
@@ -31,32 +22,8 @@ cast-i c = omega (arith, marked (c .before))
 row-of-requires : tie.Need-row-of-requires
 row-of-requires c κs = search needs
 
-add-level : tie.Need-add-level
-add-level c = search needs
-
 add-level-2 : tie.Need-add-level-2
 add-level-2 c = omega (arith, c .before .before .pre .0 .1 .stack .near)
-
-add-w : tie.Need-add-w
-add-w c = search needs
-
-mul-w : tie.Need-mul-w
-mul-w c = search needs
-
-add-w-2 : tie.Need-add-w-2
-add-w-2 c = search needs
-
-add-w-3 : tie.Need-add-w-3
-add-w-3 c = search needs
-
-mul-w-2 : tie.Need-mul-w-2
-mul-w-2 c = search needs
-
-element-write-w : tie.Need-element-write-w
-element-write-w c = search needs
-
-mul-d : tie.Need-mul-d
-mul-d c = search needs
 
 add-e : tie.Need-add-e
 add-e c = omega (arith, marked (c .before .before))
@@ -66,9 +33,6 @@ mul-e c = omega (arith, marked (c .before .before))
 
 add-e-2 : tie.Need-add-e-2
 add-e-2 c = omega (arith, marked (c .before .before))
-
-add-out : tie.Need-add-out
-add-out c = search needs
 
 add-out-2 : tie.Need-add-out-2
 add-out-2 c = omega (arith, c .before .before .pre .0 .1 .stack .near, c .before .before .pre .0 .1 .stack .few, c .before .before .pre .0 .2)
@@ -128,29 +92,7 @@ returns-2 c = gained (c .before .before .before) (c .step-fours .last .1 .0) (c 
 pub learn-spec : {M : Type 1} → statement M
 learn-spec =
     tie.close
-    (tie.spec
-    add-i
-    mul-i
-    element-copy-out-i
-    cast-i
-    row-of-requires
-    add-level
-    add-level-2
-    add-w
-    mul-w
-    add-w-2
-    add-w-3
-    mul-w-2
-    element-write-w
-    mul-d
-    add-e
-    mul-e
-    add-e-2
-    add-out
-    add-out-2
-    mul-out
-    add-out-3
-    step-row-requires
-    returns
-    step-fours-requires
-    returns-2)
+    (tie.spec (λ c. search needs) (λ c. search needs) (λ c. search needs) cast-i row-of-requires (λ c. search needs)
+    add-level-2 (λ c. search needs) (λ c. search needs) (λ c. search needs) (λ c. search needs) (λ c. search needs)
+    (λ c. search needs) (λ c. search needs) add-e mul-e add-e-2 (λ c. search needs) add-out-2 mul-out add-out-3
+    step-row-requires returns step-fours-requires returns-2)

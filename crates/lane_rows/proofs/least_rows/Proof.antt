@@ -18,18 +18,6 @@ abbrev μ-loop : tie.MeasureT-loop
 loop-holds : tie.Need-loop-holds Inv-loop μ-loop
 loop-holds c = let s = c .before .before .before in let a = s .args in (refl, going-none (a .fours * 4) (a .t .now) (a .w .now) (a .base) (a .j) (a .rows) (a .acc .now) (s .pre .2))
 
-sub-n : tie.Need-sub-n Inv-loop μ-loop
-sub-n c = search needs
-
-add-i : tie.Need-add-i Inv-loop μ-loop
-add-i c = search needs
-
-mul-i : tie.Need-mul-i Inv-loop μ-loop
-mul-i c = search needs
-
-shared-slice-read-i : tie.Need-shared-slice-read-i Inv-loop μ-loop
-shared-slice-read-i c = search needs
-
 cast-i : tie.Need-cast-i Inv-loop μ-loop
 cast-i c = omega (arith, c .shared-slice-known3 .given (markPlace (c .before .before .loop .n - 1)))
 
@@ -40,18 +28,12 @@ add-row-requires c κs =
     let a = s .args in
     row-asks (a .fours) (a .t .now) (a .w .now) (a .base) (a .j) (a .rows) (l .acc) (l .n) (omega (arith, s .pre .1, l .inv .0)) (s .pre .0) (l .inv .1) (c .before .before .loop-test .taken)
 
-loop-less : tie.Need-loop-less Inv-loop μ-loop
-loop-less c = search needs
-
 loop-again : tie.Need-loop-again Inv-loop μ-loop
 loop-again c =
     let l = c .before .before .before .before .before .before .loop in
     let a = c .before .before .before .before .before .before .before .before .before .before .args in
     let e = c .before .before .add-row .ensures in
     (e .size ∙ l .inv .0, going-more (a .fours * 4) (a .t .now) (a .w .now) (a .base) (a .j) (a .rows) (l .acc) _ (l .n) (c .before .before .before .before .before .loop-test .taken) (e .lanes) (l .inv .1))
-
-same-length : tie.Need-same-length Inv-loop μ-loop
-same-length c = search needs
 
 returns : tie.Need-returns Inv-loop μ-loop
 returns c =
@@ -65,17 +47,5 @@ returns c =
 pub least-rows-spec : {M : Type 1} → statement M
 least-rows-spec =
     tie.close
-    (tie.spec
-    Inv-loop
-    μ-loop
-    loop-holds
-    sub-n
-    add-i
-    mul-i
-    shared-slice-read-i
-    cast-i
-    add-row-requires
-    loop-less
-    loop-again
-    same-length
-    returns)
+    (tie.spec Inv-loop μ-loop loop-holds (λ c. search needs) (λ c. search needs) (λ c. search needs)
+    (λ c. search needs) cast-i add-row-requires (λ c. search needs) loop-again (λ c. search needs) returns)

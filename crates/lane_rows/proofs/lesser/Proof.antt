@@ -18,12 +18,6 @@ use Rattle.lane_rows.proofs.lesser.Tie as tie
 less : (x y : ℕ) → x < 2 ^ 31 → y < 2 ^ 31 → ltZ (toZ w32 x) (toZ w32 y) ≡ ltb x y
 less x y h g = ap₂ ltZ (toZ-pos w32 h) (toZ-pos w32 g)
 
-cast-if1 : tie.Need-cast-if1
-cast-if1 c = search needs
-
-cast-if1-2 : tie.Need-cast-if1-2
-cast-if1-2 c = search needs
-
 returns : tie.Need-returns
 returns c =
     let a = c .before .args in
@@ -37,4 +31,4 @@ returns-2 c =
     omega (arith, ltb-false (a .x) (a .y) e)
 
 pub lesser-spec : {M : Type 1} → statement M
-lesser-spec = tie.close (tie.spec cast-if1 cast-if1-2 returns returns-2)
+lesser-spec = tie.close (tie.spec (λ c. search needs) (λ c. search needs) returns returns-2)

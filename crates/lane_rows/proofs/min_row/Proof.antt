@@ -15,52 +15,19 @@ Inv-loop fours d e acc₀ p₀ p-end acc p = (p ≤ p-end) × FilledBy (λ (q : 
 abbrev μ-loop : tie.MeasureT-loop
 μ-loop fours d e acc₀ p₀ p-end acc p = p-end - p
 
-mul-p-end : tie.Need-mul-p-end Inv-loop μ-loop
-mul-p-end c = search needs
-
 loop-holds : tie.Need-loop-holds Inv-loop μ-loop
 loop-holds c = (omega arith, filled-none)
-
-mul-lesser : tie.Need-mul-lesser Inv-loop μ-loop
-mul-lesser c = search needs
-
-shared-slice-read-lesser : tie.Need-shared-slice-read-lesser Inv-loop μ-loop
-shared-slice-read-lesser c = search needs
-
-mul-lesser-2 : tie.Need-mul-lesser-2 Inv-loop μ-loop
-mul-lesser-2 c = search needs
-
-shared-slice-read-lesser-2 : tie.Need-shared-slice-read-lesser-2 Inv-loop μ-loop
-shared-slice-read-lesser-2 c = search needs
 
 add-lesser : tie.Need-add-lesser Inv-loop μ-loop
 add-lesser c =
     let s = c .before .before .before .before .before .before .before in
     omega (arith, s .pre .sums (c .before .before .before .loop .p) (omega arith))
 
-mul-lesser-3 : tie.Need-mul-lesser-3 Inv-loop μ-loop
-mul-lesser-3 c = search needs
-
-slice-read-lesser : tie.Need-slice-read-lesser Inv-loop μ-loop
-slice-read-lesser c = search needs
-
 lesser-requires : tie.Need-lesser-requires Inv-loop μ-loop
 lesser-requires c κs =
     let s = c .before .before .before .before .before .before .before .before in
     let l = c .before .before .before .before .loop in
     (s .pre .sums (l .p) (omega arith), omega (arith, s .pre .most (l .p) (omega arith), l .inv .1 .rest (l .p) (λ q h z. omega (arith, z))))
-
-mul-acc : tie.Need-mul-acc Inv-loop μ-loop
-mul-acc c = search needs
-
-slice-write-acc : tie.Need-slice-write-acc Inv-loop μ-loop
-slice-write-acc c = search needs
-
-add-p : tie.Need-add-p Inv-loop μ-loop
-add-p c = search needs
-
-loop-less : tie.Need-loop-less Inv-loop μ-loop
-loop-less c = search needs
 
 loop-again : tie.Need-loop-again Inv-loop μ-loop
 loop-again c =
@@ -71,9 +38,6 @@ loop-again c =
           (c .lesser .ensures ∙ ap (λ (x : ℕ). min x (getD (s .args .d .now) (l .p) 0 + getD (s .args .e .now) (l .p) 0)) (l .inv .1 .rest (l .p) (λ q h z. omega (arith, z)))) (l .inv .1),
     )
 
-same-length : tie.Need-same-length Inv-loop μ-loop
-same-length c = search needs
-
 returns : tie.Need-returns Inv-loop μ-loop
 returns c =
     let d = c .before .loop .inv .1 in
@@ -82,23 +46,7 @@ returns c =
 pub min-row-spec : {M : Type 1} → statement M
 min-row-spec =
     tie.close
-    (tie.spec
-    Inv-loop
-    μ-loop
-    mul-p-end
-    loop-holds
-    mul-lesser
-    shared-slice-read-lesser
-    mul-lesser-2
-    shared-slice-read-lesser-2
-    add-lesser
-    mul-lesser-3
-    slice-read-lesser
-    lesser-requires
-    mul-acc
-    slice-write-acc
-    add-p
-    loop-less
-    loop-again
-    same-length
+    (tie.spec Inv-loop μ-loop (λ c. search needs) loop-holds (λ c. search needs) (λ c. search needs)
+    (λ c. search needs) (λ c. search needs) add-lesser (λ c. search needs) (λ c. search needs) lesser-requires
+    (λ c. search needs) (λ c. search needs) (λ c. search needs) (λ c. search needs) loop-again (λ c. search needs)
     returns)

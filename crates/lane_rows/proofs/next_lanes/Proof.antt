@@ -12,27 +12,6 @@ use Rattle.lane_rows.proofs.next_lanes.Tie as tie
 least-rows-requires : tie.Need-least-rows-requires
 least-rows-requires c κs = search needs
 
-mul-at : tie.Need-mul-at
-mul-at c = search needs
-
-add-at : tie.Need-add-at
-add-at c = search needs
-
-add-plus-row : tie.Need-add-plus-row
-add-plus-row c = search needs
-
-mul-plus-row : tie.Need-mul-plus-row
-mul-plus-row c = search needs
-
-sub-plus-row : tie.Need-sub-plus-row
-sub-plus-row c = search needs
-
-part-plus-row-start : tie.Need-part-plus-row-start
-part-plus-row-start c = search needs
-
-part-plus-row-end : tie.Need-part-plus-row-end
-part-plus-row-end c = search needs
-
 -- the prices of the opening, lane by lane
 abbrev from : tie.Start → ℕ
 from s = priceBase + s .args .j * laneCount
@@ -50,9 +29,6 @@ plus-row-requires c κs =
       sums = λ q l. omega (arith, p .cheap q l, least .lanes q l, lane-most t (s .args .w .now) reachBase (s .args .j) q (s .args .rows), window-at t (from s) (omega (arith, p .size, p .near)) q (omega (arith, p .stack .narrow)));
     }
 
-same-length : tie.Need-same-length
-same-length c = search needs
-
 returns : tie.Need-returns
 returns c =
     let s = c .before .before .before .before .before .before .before .before .before .before .before .before in
@@ -67,15 +43,5 @@ returns c =
 pub next-lanes-spec : {M : Type 1} → statement M
 next-lanes-spec =
     tie.close
-    (tie.spec
-    least-rows-requires
-    mul-at
-    add-at
-    add-plus-row
-    mul-plus-row
-    sub-plus-row
-    part-plus-row-start
-    part-plus-row-end
-    plus-row-requires
-    same-length
-    returns)
+    (tie.spec least-rows-requires (λ c. search needs) (λ c. search needs) (λ c. search needs) (λ c. search needs)
+    (λ c. search needs) (λ c. search needs) (λ c. search needs) plus-row-requires (λ c. search needs) returns)

@@ -17,38 +17,17 @@ Inv-loop w₀ l level p₀ w p = (p ≤ laneCount) × FilledBy (memoPlace l 0) (
 abbrev μ-loop : tie.MeasureT-loop
 μ-loop w₀ l level p₀ w p = laneCount - p
 
-add-row-of : tie.Need-add-row-of Inv-loop μ-loop
-add-row-of c = search needs
-
 row-of-requires : tie.Need-row-of-requires Inv-loop μ-loop
 row-of-requires c κs = omega arith
 
 loop-holds : tie.Need-loop-holds Inv-loop μ-loop
 loop-holds c = (omega arith, filled-none)
 
-mul-w : tie.Need-mul-w Inv-loop μ-loop
-mul-w c = search needs
-
-add-w : tie.Need-add-w Inv-loop μ-loop
-add-w c = search needs
-
-add-w-2 : tie.Need-add-w-2 Inv-loop μ-loop
-add-w-2 c = search needs
-
-mul-w-2 : tie.Need-mul-w-2 Inv-loop μ-loop
-mul-w-2 c = search needs
-
 slice-write-w : tie.Need-slice-write-w Inv-loop μ-loop
 slice-write-w c =
     let b = c .before .before .before .before in
     let h = row-inside (b .args .l + 1) 0 (markCount + 1) (omega arith) (omega (arith, b .pre)) in
     omega (arith, h, c .before .before .row-of .ensures .0, b .pre .1, c .before .loop .inv .1 .size)
-
-add-p : tie.Need-add-p Inv-loop μ-loop
-add-p c = search needs
-
-loop-less : tie.Need-loop-less Inv-loop μ-loop
-loop-less c = search needs
 
 loop-again : tie.Need-loop-again Inv-loop μ-loop
 loop-again c =
@@ -61,9 +40,6 @@ loop-again c =
           (filled-more inf (omega (arith, b .pre, row-inside (b .args .l + 1) 0 (markCount + 1) (omega arith) (omega (arith, b .pre)))) (λ q h e. omega (arith, e)) refl (l .inv .1)),
     )
 
-same-length : tie.Need-same-length Inv-loop μ-loop
-same-length c = search needs
-
 returns : tie.Need-returns Inv-loop μ-loop
 returns c =
     let b = c .before .before .before .before in
@@ -74,19 +50,6 @@ returns c =
 pub none-row-spec : {M : Type 1} → statement M
 none-row-spec =
     tie.close
-    (tie.spec
-    Inv-loop
-    μ-loop
-    add-row-of
-    row-of-requires
-    loop-holds
-    mul-w
-    add-w
-    add-w-2
-    mul-w-2
-    slice-write-w
-    add-p
-    loop-less
-    loop-again
-    same-length
-    returns)
+    (tie.spec Inv-loop μ-loop (λ c. search needs) row-of-requires loop-holds (λ c. search needs) (λ c. search needs)
+    (λ c. search needs) (λ c. search needs) slice-write-w (λ c. search needs) (λ c. search needs) loop-again
+    (λ c. search needs) returns)

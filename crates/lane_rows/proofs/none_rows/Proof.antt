@@ -21,17 +21,8 @@ loop-holds c = (omega arith, nones-none (c .before .args .w .now))
 none-row-requires : tie.Need-none-row-requires Inv-loop μ-loop
 none-row-requires c κs = (omega (arith, c .before .loop-test .taken), c .before .before .loop .inv .1 .size ∙ c .before .before .before .before .pre)
 
-add-l : tie.Need-add-l Inv-loop μ-loop
-add-l c = search needs
-
-loop-less : tie.Need-loop-less Inv-loop μ-loop
-loop-less c = search needs
-
 loop-again : tie.Need-loop-again Inv-loop μ-loop
 loop-again c = (omega (arith, c .before .before .before .before .loop-test .taken), nones-more (c .before .before .before .before .before .before .before .args .w .now) (c .before .before .before .before .before .loop .w) _ (c .before .before .before .before .before .loop .l) (c .before .before .none-row .ensures) (c .before .before .before .before .before .loop .inv .1))
-
-same-length : tie.Need-same-length Inv-loop μ-loop
-same-length c = search needs
 
 returns : tie.Need-returns Inv-loop μ-loop
 returns c =
@@ -42,13 +33,5 @@ returns c =
 pub none-rows-spec : {M : Type 1} → statement M
 none-rows-spec =
     tie.close
-    (tie.spec
-    Inv-loop
-    μ-loop
-    loop-holds
-    none-row-requires
-    add-l
-    loop-less
-    loop-again
-    same-length
-    returns)
+    (tie.spec Inv-loop μ-loop loop-holds none-row-requires (λ c. search needs) (λ c. search needs) loop-again
+    (λ c. search needs) returns)

@@ -9,38 +9,11 @@ use borrow.Author.Needs.{needs}
 use Rattle.lane_rows.proofs.put_lanes.Statement.{statement}
 use Rattle.lane_rows.proofs.put_lanes.Tie as tie
 
-slice-aggregate-next-lanes : tie.Need-slice-aggregate-next-lanes
-slice-aggregate-next-lanes c = search needs
-
 next-lanes-requires : tie.Need-next-lanes-requires
 next-lanes-requires c κs = let s = c .before .before .before .before in (s .pre, omega arith, λ q l. getD-replicate {A = ℕ} laneCount q inf 0 (omega (arith, s .pre .stack .narrow)))
 
-slice-aggregate-store-row : tie.Need-slice-aggregate-store-row
-slice-aggregate-store-row c = search needs
-
-mul-store-row : tie.Need-mul-store-row
-mul-store-row c = search needs
-
 store-row-requires : tie.Need-store-row-requires
 store-row-requires c κs = search needs
-
-add-w : tie.Need-add-w
-add-w c = search needs
-
-cast-w : tie.Need-cast-w
-cast-w c = search needs
-
-add-w-2 : tie.Need-add-w-2
-add-w-2 c = search needs
-
-mul-w : tie.Need-mul-w
-mul-w c = search needs
-
-slice-write-w : tie.Need-slice-write-w
-slice-write-w c = search needs
-
-same-length : tie.Need-same-length
-same-length c = search needs
 
 returns : tie.Need-returns
 returns c =
@@ -56,16 +29,6 @@ returns c =
 pub put-lanes-spec : {M : Type 1} → statement M
 put-lanes-spec =
     tie.close
-    (tie.spec
-    slice-aggregate-next-lanes
-    next-lanes-requires
-    slice-aggregate-store-row
-    mul-store-row
-    store-row-requires
-    add-w
-    cast-w
-    add-w-2
-    mul-w
-    slice-write-w
-    same-length
-    returns)
+    (tie.spec (λ c. search needs) next-lanes-requires (λ c. search needs) (λ c. search needs) store-row-requires
+    (λ c. search needs) (λ c. search needs) (λ c. search needs) (λ c. search needs) (λ c. search needs)
+    (λ c. search needs) returns)

@@ -9,9 +9,6 @@ use Rattle.lane_rows.specs.Rows.{Owing, Put, nextRow}
 use Rattle.lane_rows.proofs.put_row.Statement.{statement}
 use Rattle.lane_rows.proofs.put_row.Tie as tie
 
-shared-slice-read-fours : tie.Need-shared-slice-read-fours
-shared-slice-read-fours c = search needs
-
 -- what so many lanes ask, where the job has so many
 asks : (s : tie.Start) (k : ℕ) → lanesIn (s .args .t .now) ≡ k → Owing k (s .args .t .now) (s .args .w .now) (s .args .j) (s .args .rows)
 asks s k z = subst (λ (wide : ℕ). Owing wide (s .args .t .now) (s .args .w .now) (s .args .j) (s .args .rows)) z (s .pre)
@@ -28,17 +25,11 @@ four c = omega (arith, c .if3 .left, c .before .if2 .left, c .before .before .if
 put-lanes-requires : tie.Need-put-lanes-requires
 put-lanes-requires c κs = asks (c .before .before .before .before .before) 4 (omega (arith, c .before .if1 .taken))
 
-same-length : tie.Need-same-length
-same-length c = search needs
-
 returns : tie.Need-returns
 returns c = (puts (c .before .before .before .before .before .before .before .before) 4 (c .before .before .put-lanes .last .1 .1 .0) (omega (arith, c .before .before .before .before .if1 .taken)) (c .before .before .put-lanes .ensures .0), c .before .before .put-lanes .ensures .1)
 
 put-lanes-requires-2 : tie.Need-put-lanes-requires-2
 put-lanes-requires-2 c κs = asks (c .before .before .before .before .before .before) 8 (omega (arith, c .before .if2 .taken))
-
-same-length-2 : tie.Need-same-length-2
-same-length-2 c = search needs
 
 returns-2 : tie.Need-returns-2
 returns-2 c = (puts (c .before .before .before .before .before .before .before .before .before) 8 (c .before .before .put-lanes2 .last .1 .1 .0) (omega (arith, c .before .before .before .before .if2 .taken)) (c .before .before .put-lanes2 .ensures .0), c .before .before .put-lanes2 .ensures .1)
@@ -46,17 +37,11 @@ returns-2 c = (puts (c .before .before .before .before .before .before .before .
 put-lanes-requires-3 : tie.Need-put-lanes-requires-3
 put-lanes-requires-3 c κs = asks (c .before .before .before .before .before .before .before) 12 (omega (arith, c .before .if3 .taken))
 
-same-length-3 : tie.Need-same-length-3
-same-length-3 c = search needs
-
 returns-3 : tie.Need-returns-3
 returns-3 c = (puts (c .before .before .before .before .before .before .before .before .before .before) 12 (c .before .before .put-lanes3 .last .1 .1 .0) (omega (arith, c .before .before .before .before .if3 .taken)) (c .before .before .put-lanes3 .ensures .0), c .before .before .put-lanes3 .ensures .1)
 
 put-lanes-requires-4 : tie.Need-put-lanes-requires-4
 put-lanes-requires-4 c κs = asks (c .before .before .before .before .before .before .before) 16 (four (c .before))
-
-same-length-4 : tie.Need-same-length-4
-same-length-4 c = search needs
 
 returns-4 : tie.Need-returns-4
 returns-4 c = (puts (c .before .before .before .before .before .before .before .before .before .before) 16 (c .before .before .put-lanes4 .last .1 .1 .0) (four (c .before .before .before .before)) (c .before .before .put-lanes4 .ensures .0), c .before .before .put-lanes4 .ensures .1)
@@ -64,17 +49,6 @@ returns-4 c = (puts (c .before .before .before .before .before .before .before .
 pub put-row-spec : {M : Type 1} → statement M
 put-row-spec =
     tie.close
-    (tie.spec
-    shared-slice-read-fours
-    put-lanes-requires
-    same-length
-    returns
-    put-lanes-requires-2
-    same-length-2
-    returns-2
-    put-lanes-requires-3
-    same-length-3
-    returns-3
-    put-lanes-requires-4
-    same-length-4
-    returns-4)
+    (tie.spec (λ c. search needs) put-lanes-requires (λ c. search needs) returns put-lanes-requires-2
+    (λ c. search needs) returns-2 put-lanes-requires-3 (λ c. search needs) returns-3 put-lanes-requires-4
+    (λ c. search needs) returns-4)

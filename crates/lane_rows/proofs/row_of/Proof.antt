@@ -7,9 +7,6 @@ use borrow.Author.Needs.{needs}
 use Rattle.lane_rows.proofs.row_of.Statement.{statement}
 use Rattle.lane_rows.proofs.row_of.Tie as tie
 
-add-result : tie.Need-add-result
-add-result c = search needs
-
 mul-result : tie.Need-mul-result
 mul-result c = omega (arith, triangle-twice (c .args .j), row-inside (c .args .j) 0 (markCount + 1) (omega arith) (omega arith))
 
@@ -20,4 +17,4 @@ returns c =
     (omega (arith, triangle-twice j), omega (arith, triangle-twice j, h))
 
 pub row-of-spec : {M : Type 1} → statement M
-row-of-spec = tie.close (tie.spec add-result mul-result returns)
+row-of-spec = tie.close (tie.spec (λ c. search needs) mul-result returns)

@@ -29,9 +29,6 @@ forget-requires c κs =
 add-result : tie.Need-add-result
 add-result c = let o = c .before .before .before .before .before .before .before .before .before .before .before .pre (c .before .before .before .before .before .before .before .before .if1 .taken) in omega (arith, o .1 .few)
 
-same-length : tie.Need-same-length
-same-length c = search needs
-
 returns : tie.Need-returns
 returns c =
     let s = c .before .before .before .before .before .before .before .before .before .before .before in
@@ -63,12 +60,5 @@ returns-2 c =
 pub settle-spec : {M : Type 1} → statement M
 settle-spec =
     tie.close
-    (tie.spec
-    sub-put-row
-    put-row-requires
-    add-forget
-    forget-requires
-    add-result
-    same-length
-    returns
+    (tie.spec sub-put-row put-row-requires add-forget forget-requires add-result (λ c. search needs) returns
     returns-2)

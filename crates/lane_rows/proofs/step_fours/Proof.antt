@@ -12,32 +12,8 @@ Inv-loop t w₀ d e out fours sum₀ k₀ w sum k = Fours t w₀ w d e out k sum
 abbrev μ-loop : tie.MeasureT-loop
 μ-loop t w₀ d e out fours sum₀ k₀ w sum k = fours - k
 
-element-copy-out-fours : tie.Need-element-copy-out-fours Inv-loop μ-loop
-element-copy-out-fours c = search needs
-
-cast-fours : tie.Need-cast-fours Inv-loop μ-loop
-cast-fours c = search needs
-
 loop-holds : tie.Need-loop-holds Inv-loop μ-loop
 loop-holds c = let a = c .before .args in fours-none (a .t .now) (a .w .now) (a .d) (a .e) (a .out)
-
-mul-step-lanes : tie.Need-mul-step-lanes Inv-loop μ-loop
-mul-step-lanes c = search needs
-
-add-step-lanes : tie.Need-add-step-lanes Inv-loop μ-loop
-add-step-lanes c = search needs
-
-mul-step-lanes-2 : tie.Need-mul-step-lanes-2 Inv-loop μ-loop
-mul-step-lanes-2 c = search needs
-
-add-step-lanes-2 : tie.Need-add-step-lanes-2 Inv-loop μ-loop
-add-step-lanes-2 c = search needs
-
-mul-step-lanes-3 : tie.Need-mul-step-lanes-3 Inv-loop μ-loop
-mul-step-lanes-3 c = search needs
-
-add-step-lanes-3 : tie.Need-add-step-lanes-3 Inv-loop μ-loop
-add-step-lanes-3 c = search needs
 
 step-lanes-requires : tie.Need-step-lanes-requires Inv-loop μ-loop
 step-lanes-requires c κs =
@@ -59,12 +35,6 @@ add-sum c =
       four-most (a .t .now) (a .w .now) (l .loop .w) (a .d) (a .e) (a .out) (l .loop .k) (l .loop .sum) (s .pre) (l .loop .inv) (c .before .before .before .loop-test .taken) (c .step-lanes .last .1 .1 .0) (c .step-lanes .result) (c .step-lanes .ensures),
     )
 
-add-k : tie.Need-add-k Inv-loop μ-loop
-add-k c = search needs
-
-loop-less : tie.Need-loop-less Inv-loop μ-loop
-loop-less c = search needs
-
 loop-again : tie.Need-loop-again Inv-loop μ-loop
 loop-again c =
     let l = c .before .before .before .before in
@@ -81,21 +51,6 @@ returns c =
 pub step-fours-spec : {M : Type 1} → statement M
 step-fours-spec =
     tie.close
-    (tie.spec
-    Inv-loop
-    μ-loop
-    element-copy-out-fours
-    cast-fours
-    loop-holds
-    mul-step-lanes
-    add-step-lanes
-    mul-step-lanes-2
-    add-step-lanes-2
-    mul-step-lanes-3
-    add-step-lanes-3
-    step-lanes-requires
-    add-sum
-    add-k
-    loop-less
-    loop-again
-    returns)
+    (tie.spec Inv-loop μ-loop (λ c. search needs) (λ c. search needs) loop-holds (λ c. search needs)
+    (λ c. search needs) (λ c. search needs) (λ c. search needs) (λ c. search needs) (λ c. search needs)
+    step-lanes-requires add-sum (λ c. search needs) (λ c. search needs) loop-again returns)

@@ -11,64 +11,10 @@ use borrow.Author.Needs.{needs}
 use Rattle.lane_rows.proofs.step_lanes.Statement.{statement}
 use Rattle.lane_rows.proofs.step_lanes.Tie as tie
 
-sub-before : tie.Need-sub-before
-sub-before c = search needs
-
-add-copy-row : tie.Need-add-copy-row
-add-copy-row c = search needs
-
-mul-copy-row : tie.Need-mul-copy-row
-mul-copy-row c = search needs
-
-sub-copy-row : tie.Need-sub-copy-row
-sub-copy-row c = search needs
-
-part-copy-row-start : tie.Need-part-copy-row-start
-part-copy-row-start c = search needs
-
-part-copy-row-end : tie.Need-part-copy-row-end
-part-copy-row-end c = search needs
-
-slice-aggregate-copy-row : tie.Need-slice-aggregate-copy-row
-slice-aggregate-copy-row c = search needs
-
 copy-row-requires : tie.Need-copy-row-requires
 copy-row-requires c κs =
     let s = c .before .before .before .before .before in
     (omega (arith, s .pre .narrow), window-length (s .args .w .now) (s .args .out - laneCount) (omega (arith, s .pre .behind, s .pre .room)), omega arith)
-
-add-min-row : tie.Need-add-min-row
-add-min-row c = search needs
-
-mul-min-row : tie.Need-mul-min-row
-mul-min-row c = search needs
-
-sub-min-row : tie.Need-sub-min-row
-sub-min-row c = search needs
-
-part-min-row-start : tie.Need-part-min-row-start
-part-min-row-start c = search needs
-
-part-min-row-end : tie.Need-part-min-row-end
-part-min-row-end c = search needs
-
-add-min-row-2 : tie.Need-add-min-row-2
-add-min-row-2 c = search needs
-
-mul-min-row-2 : tie.Need-mul-min-row-2
-mul-min-row-2 c = search needs
-
-sub-min-row-2 : tie.Need-sub-min-row-2
-sub-min-row-2 c = search needs
-
-part-min-row-start-2 : tie.Need-part-min-row-start-2
-part-min-row-start-2 c = search needs
-
-part-min-row-end-2 : tie.Need-part-min-row-end-2
-part-min-row-end-2 c = search needs
-
-slice-aggregate-min-row : tie.Need-slice-aggregate-min-row
-slice-aggregate-min-row c = search needs
 
 -- the row before, copied
 copied : (c : tie.After-copy-row) (q : ℕ) → let a = c .before .before .before .before .before .before .args in q < a .fours * 4 → getD (c .copy-row .last .1 .1 .0) q 0 ≡ getD (a .w .now) (a .out - laneCount + q) 0
@@ -90,14 +36,8 @@ min-row-requires c κs =
       sums = λ q l. omega (arith, s .pre .sums q l, window-at (a .w .now) (a .d) (s .pre .row) q (omega (arith, s .pre .narrow)), window-at (a .t .now) (a .e) (s .pre .table) q (omega (arith, s .pre .narrow)));
     }
 
-slice-aggregate-store-row : tie.Need-slice-aggregate-store-row
-slice-aggregate-store-row c = search needs
-
 store-row-requires : tie.Need-store-row-requires
 store-row-requires c κs = search needs
-
-slice-aggregate-total : tie.Need-slice-aggregate-total
-slice-aggregate-total c = search needs
 
 total-requires : tie.Need-total-requires
 total-requires c κs =
@@ -105,9 +45,6 @@ total-requires c κs =
     let m = c .before .before .before .before .before .before .before in
     let k = c .before .before .before .before .before .before .before .before .before .before .before .before .before in
     (omega (arith, s .pre .narrow), omega (arith, m .min-row .ensures .size, k .copy-row .ensures .size), λ q l. omega (arith, m .min-row .ensures .lanes q l, copied k q l, s .pre .most q l))
-
-same-length : tie.Need-same-length
-same-length c = search needs
 
 -- the least of it and the row's sum
 stepped : (c : tie.After-min-row) (q : ℕ) → let a = c .before .before .before .before .before .before .before .before .before .before .before .before .args in q < a .fours * 4 → getD (c .min-row .last .1 .1 .1 .0) q 0 ≡ stepOf (a .t .now) (a .w .now) (a .d) (a .e) (a .out) q
@@ -135,30 +72,8 @@ returns c =
 pub step-lanes-spec : {M : Type 1} → statement M
 step-lanes-spec =
     tie.close
-    (tie.spec
-    sub-before
-    add-copy-row
-    mul-copy-row
-    sub-copy-row
-    part-copy-row-start
-    part-copy-row-end
-    slice-aggregate-copy-row
-    copy-row-requires
-    add-min-row
-    mul-min-row
-    sub-min-row
-    part-min-row-start
-    part-min-row-end
-    add-min-row-2
-    mul-min-row-2
-    sub-min-row-2
-    part-min-row-start-2
-    part-min-row-end-2
-    slice-aggregate-min-row
-    min-row-requires
-    slice-aggregate-store-row
-    store-row-requires
-    slice-aggregate-total
-    total-requires
-    same-length
-    returns)
+    (tie.spec (λ c. search needs) (λ c. search needs) (λ c. search needs) (λ c. search needs) (λ c. search needs)
+    (λ c. search needs) (λ c. search needs) copy-row-requires (λ c. search needs) (λ c. search needs)
+    (λ c. search needs) (λ c. search needs) (λ c. search needs) (λ c. search needs) (λ c. search needs)
+    (λ c. search needs) (λ c. search needs) (λ c. search needs) (λ c. search needs) min-row-requires
+    (λ c. search needs) store-row-requires (λ c. search needs) total-requires (λ c. search needs) returns)

@@ -9,9 +9,6 @@ use borrow.Author.Needs.{needs}
 use Rattle.lane_rows.proofs.step_row.Statement.{statement}
 use Rattle.lane_rows.proofs.step_row.Tie as tie
 
-element-copy-out-fours : tie.Need-element-copy-out-fours
-element-copy-out-fours c = search needs
-
 -- what so many lanes ask, where the job has so many
 asks : (s : tie.Start) (k : ℕ) → lanesIn (s .args .t .now) ≡ k → let a = s .args in StepAsks k (a .t .now) (a .w .now) (a .d) (a .e) (a .out)
 asks s k z = let a = s .args in subst (λ (wide : ℕ). StepAsks wide (a .t .now) (a .w .now) (a .d) (a .e) (a .out)) z (s .pre)
@@ -51,13 +48,5 @@ returns-4 c = steps (c .before .before .before .before .before .before .before) 
 pub step-row-spec : {M : Type 1} → statement M
 step-row-spec =
     tie.close
-    (tie.spec
-    element-copy-out-fours
-    step-lanes-requires
-    returns
-    step-lanes-requires-2
-    returns-2
-    step-lanes-requires-3
-    returns-3
-    step-lanes-requires-4
-    returns-4)
+    (tie.spec (λ c. search needs) step-lanes-requires returns step-lanes-requires-2 returns-2 step-lanes-requires-3
+    returns-3 step-lanes-requires-4 returns-4)

@@ -15,41 +15,14 @@ Inv-loop fours acc at w₀ p₀ p-end w p = (p ≤ p-end) × FilledBy (λ (q : �
 abbrev μ-loop : tie.MeasureT-loop
 μ-loop fours acc at w₀ p₀ p-end w p = p-end - p
 
-mul-p-end : tie.Need-mul-p-end Inv-loop μ-loop
-mul-p-end c = search needs
-
 loop-holds : tie.Need-loop-holds Inv-loop μ-loop
 loop-holds c = (omega arith, filled-none)
-
-mul-w : tie.Need-mul-w Inv-loop μ-loop
-mul-w c = search needs
-
-shared-slice-read-w : tie.Need-shared-slice-read-w Inv-loop μ-loop
-shared-slice-read-w c = search needs
-
-add-w : tie.Need-add-w Inv-loop μ-loop
-add-w c = search needs
-
-mul-w-2 : tie.Need-mul-w-2 Inv-loop μ-loop
-mul-w-2 c = search needs
-
-slice-write-w : tie.Need-slice-write-w Inv-loop μ-loop
-slice-write-w c = search needs
-
-add-p : tie.Need-add-p Inv-loop μ-loop
-add-p c = search needs
-
-loop-less : tie.Need-loop-less Inv-loop μ-loop
-loop-less c = search needs
 
 loop-again : tie.Need-loop-again Inv-loop μ-loop
 loop-again c =
     let s = c .before .before .before in
     let l = c .before .before .loop in
     (omega arith, filled-more _ (omega (arith, s .pre)) (λ q h z. omega (arith, z)) refl (l .inv .1))
-
-same-length : tie.Need-same-length Inv-loop μ-loop
-same-length c = search needs
 
 returns : tie.Need-returns Inv-loop μ-loop
 returns c =
@@ -61,18 +34,6 @@ returns c =
 pub store-row-spec : {M : Type 1} → statement M
 store-row-spec =
     tie.close
-    (tie.spec
-    Inv-loop
-    μ-loop
-    mul-p-end
-    loop-holds
-    mul-w
-    shared-slice-read-w
-    add-w
-    mul-w-2
-    slice-write-w
-    add-p
-    loop-less
-    loop-again
-    same-length
-    returns)
+    (tie.spec Inv-loop μ-loop (λ c. search needs) loop-holds (λ c. search needs) (λ c. search needs)
+    (λ c. search needs) (λ c. search needs) (λ c. search needs) (λ c. search needs) (λ c. search needs) loop-again
+    (λ c. search needs) returns)

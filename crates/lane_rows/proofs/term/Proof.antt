@@ -12,15 +12,6 @@ use Rattle.lane_rows.proofs.term.Tie as tie
 row-of-requires : tie.Need-row-of-requires
 row-of-requires c κs = search needs
 
-add-result : tie.Need-add-result
-add-result c = search needs
-
-add-result-2 : tie.Need-add-result-2
-add-result-2 c = search needs
-
-mul-result : tie.Need-mul-result
-mul-result c = search needs
-
 shared-slice-read-result : tie.Need-shared-slice-read-result
 shared-slice-read-result c =
     let b = c .before .before .before in
@@ -35,11 +26,5 @@ returns c = let a = c .before .before .before .args in ap (λ (x : ℕ). getD (a
 pub term-spec : {M : Type 1} → statement M
 term-spec =
     tie.close
-    (tie.spec
-    row-of-requires
-    add-result
-    add-result-2
-    mul-result
-    shared-slice-read-result
-    cast-result
-    returns)
+    (tie.spec row-of-requires (λ c. search needs) (λ c. search needs) (λ c. search needs) shared-slice-read-result
+    cast-result returns)

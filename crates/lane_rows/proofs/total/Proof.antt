@@ -29,68 +29,17 @@ loop-holds : tie.Need-loop-holds Inv-loop μ-loop
 unfolding sumFrom
 loop-holds c = record { inside = omega arith; first = omega arith; second = omega arith; third = omega arith; fourth = omega arith; all = refl }
 
-mul-a : tie.Need-mul-a Inv-loop μ-loop
-mul-a c = search needs
-
-mul-a-2 : tie.Need-mul-a-2 Inv-loop μ-loop
-mul-a-2 c = search needs
-
-shared-slice-read-a : tie.Need-shared-slice-read-a Inv-loop μ-loop
-shared-slice-read-a c = search needs
-
 add-a : tie.Need-add-a Inv-loop μ-loop
 add-a c = omega (arith, c .before .before .loop .inv .first, c .before .before .loop .inv .inside, c .before .before .before .pre .2 (c .before .before .loop .k * 4) (omega arith), c .before .before .before .pre .0)
-
-mul-b : tie.Need-mul-b Inv-loop μ-loop
-mul-b c = search needs
-
-add-b : tie.Need-add-b Inv-loop μ-loop
-add-b c = search needs
-
-mul-b-2 : tie.Need-mul-b-2 Inv-loop μ-loop
-mul-b-2 c = search needs
-
-shared-slice-read-b : tie.Need-shared-slice-read-b Inv-loop μ-loop
-shared-slice-read-b c = search needs
 
 add-b-2 : tie.Need-add-b-2 Inv-loop μ-loop
 add-b-2 c = omega (arith, c .before .before .before .loop .inv .second, c .before .before .before .loop .inv .inside, c .before .before .before .before .pre .2 (c .before .before .before .loop .k * 4 + 1) (omega arith), c .before .before .before .before .pre .0)
 
-mul-c : tie.Need-mul-c Inv-loop μ-loop
-mul-c c = search needs
-
-add-c : tie.Need-add-c Inv-loop μ-loop
-add-c c = search needs
-
-mul-c-2 : tie.Need-mul-c-2 Inv-loop μ-loop
-mul-c-2 c = search needs
-
-shared-slice-read-c : tie.Need-shared-slice-read-c Inv-loop μ-loop
-shared-slice-read-c c = search needs
-
 add-c-2 : tie.Need-add-c-2 Inv-loop μ-loop
 add-c-2 c = omega (arith, c .before .before .before .before .loop .inv .third, c .before .before .before .before .loop .inv .inside, c .before .before .before .before .before .pre .2 (c .before .before .before .before .loop .k * 4 + 2) (omega arith), c .before .before .before .before .before .pre .0)
 
-mul-d : tie.Need-mul-d Inv-loop μ-loop
-mul-d c = search needs
-
-add-d : tie.Need-add-d Inv-loop μ-loop
-add-d c = search needs
-
-mul-d-2 : tie.Need-mul-d-2 Inv-loop μ-loop
-mul-d-2 c = search needs
-
-shared-slice-read-d : tie.Need-shared-slice-read-d Inv-loop μ-loop
-shared-slice-read-d c = search needs
-
 add-d-2 : tie.Need-add-d-2 Inv-loop μ-loop
 add-d-2 c = omega (arith, c .before .before .before .before .before .loop .inv .fourth, c .before .before .before .before .before .loop .inv .inside, c .before .before .before .before .before .before .pre .2 (c .before .before .before .before .before .loop .k * 4 + 3) (omega arith), c .before .before .before .before .before .before .pre .0)
-
-add-k : tie.Need-add-k Inv-loop μ-loop
-add-k c = search needs
-
-loop-less : tie.Need-loop-less Inv-loop μ-loop
-loop-less c = search needs
 
 loop-again : tie.Need-loop-again Inv-loop μ-loop
 loop-again c =
@@ -107,27 +56,6 @@ loop-again c =
       all = omega (arith, l .inv .all, sum-four f (l .k), ap (λ (x : ℕ). sumLanes x f) z);
     }
 
-cast-result : tie.Need-cast-result Inv-loop μ-loop
-cast-result c = search needs
-
-cast-result-2 : tie.Need-cast-result-2 Inv-loop μ-loop
-cast-result-2 c = search needs
-
-add-result : tie.Need-add-result Inv-loop μ-loop
-add-result c = search needs
-
-cast-result-3 : tie.Need-cast-result-3 Inv-loop μ-loop
-cast-result-3 c = search needs
-
-add-result-2 : tie.Need-add-result-2 Inv-loop μ-loop
-add-result-2 c = search needs
-
-cast-result-4 : tie.Need-cast-result-4 Inv-loop μ-loop
-cast-result-4 c = search needs
-
-add-result-3 : tie.Need-add-result-3 Inv-loop μ-loop
-add-result-3 c = search needs
-
 returns : tie.Need-returns Inv-loop μ-loop
 returns c =
     let l = c .before .loop in
@@ -138,37 +66,9 @@ returns c =
 pub total-spec : {M : Type 1} → statement M
 total-spec =
     tie.close
-    (tie.spec
-    Inv-loop
-    μ-loop
-    loop-holds
-    mul-a
-    mul-a-2
-    shared-slice-read-a
-    add-a
-    mul-b
-    add-b
-    mul-b-2
-    shared-slice-read-b
-    add-b-2
-    mul-c
-    add-c
-    mul-c-2
-    shared-slice-read-c
-    add-c-2
-    mul-d
-    add-d
-    mul-d-2
-    shared-slice-read-d
-    add-d-2
-    add-k
-    loop-less
-    loop-again
-    cast-result
-    cast-result-2
-    add-result
-    cast-result-3
-    add-result-2
-    cast-result-4
-    add-result-3
-    returns)
+    (tie.spec Inv-loop μ-loop loop-holds (λ c. search needs) (λ c. search needs) (λ c. search needs) add-a
+    (λ c. search needs) (λ c. search needs) (λ c. search needs) (λ c. search needs) add-b-2 (λ c. search needs)
+    (λ c. search needs) (λ c. search needs) (λ c. search needs) add-c-2 (λ c. search needs) (λ c. search needs)
+    (λ c. search needs) (λ c. search needs) add-d-2 (λ c. search needs) (λ c. search needs) loop-again
+    (λ c. search needs) (λ c. search needs) (λ c. search needs) (λ c. search needs) (λ c. search needs)
+    (λ c. search needs) (λ c. search needs) returns)

@@ -5,9 +5,6 @@ use Rattle.lane_rows.proofs.Lanes.{value-some, value-none}
 use Rattle.lane_rows.proofs.value.Statement.{statement}
 use Rattle.lane_rows.proofs.value.Tie as tie
 
-cast-if1 : tie.Need-cast-if1
-cast-if1 c = search needs
-
 returns : tie.Need-returns
 returns c = sym (value-some (c .before .args .s) (c .if1 .taken))
 
@@ -15,4 +12,4 @@ returns-2 : tie.Need-returns-2
 returns-2 c = sym (value-none (c .before .args .s) (c .if1 .left))
 
 pub value-spec : {M : Type 1} → statement M
-value-spec = tie.close (tie.spec cast-if1 returns returns-2)
+value-spec = tie.close (tie.spec (λ c. search needs) returns returns-2)

@@ -13,59 +13,11 @@ use Rattle.least.proofs.Diff.{back, gap-fits}
 use Rattle.least.proofs.changes.Statement.{statement}
 use Rattle.least.proofs.changes.Tie as tie
 
-add-bound : tie.Need-add-bound
-add-bound c = search needs
-
-mul-bound : tie.Need-mul-bound
-mul-bound c = search needs
-
-add-bound-2 : tie.Need-add-bound-2
-add-bound-2 c = search needs
-
-mul-bound-2 : tie.Need-mul-bound-2
-mul-bound-2 c = search needs
-
-shared-slice-read-bound : tie.Need-shared-slice-read-bound
-shared-slice-read-bound c = search needs
-
 bound-requires : tie.Need-bound-requires
 bound-requires c κs = search needs
 
-add-rest : tie.Need-add-rest
-add-rest c = search needs
-
-mul-rest : tie.Need-mul-rest
-mul-rest c = search needs
-
-add-rest-2 : tie.Need-add-rest-2
-add-rest-2 c = search needs
-
-add-rest-3 : tie.Need-add-rest-3
-add-rest-3 c = search needs
-
-mul-rest-2 : tie.Need-mul-rest-2
-mul-rest-2 c = search needs
-
-shared-slice-read-rest : tie.Need-shared-slice-read-rest
-shared-slice-read-rest c = search needs
-
 mark-requires : tie.Need-mark-requires
 mark-requires c κs = search needs
-
-mul-change-at : tie.Need-mul-change-at
-mul-change-at c = search needs
-
-shared-slice-copy-out-change-at : tie.Need-shared-slice-copy-out-change-at
-shared-slice-copy-out-change-at c = search needs
-
-shared-slice-read-change-at : tie.Need-shared-slice-read-change-at
-shared-slice-read-change-at c = search needs
-
-mul-dearer : tie.Need-mul-dearer
-mul-dearer c = search needs
-
-shared-slice-read-dearer : tie.Need-shared-slice-read-dearer
-shared-slice-read-dearer c = search needs
 
 dearer-requires : tie.Need-dearer-requires
 dearer-requires c κs = search needs
@@ -94,26 +46,8 @@ returns c =
 pub changes-spec : {M : Type 1} → statement M
 changes-spec =
     tie.close
-    (tie.spec
-    add-bound
-    mul-bound
-    add-bound-2
-    mul-bound-2
-    shared-slice-read-bound
-    bound-requires
-    add-rest
-    mul-rest
-    add-rest-2
-    add-rest-3
-    mul-rest-2
-    shared-slice-read-rest
-    mark-requires
-    mul-change-at
-    shared-slice-copy-out-change-at
-    shared-slice-read-change-at
-    mul-dearer
-    shared-slice-read-dearer
-    dearer-requires
-    change-at-requires
-    is-lower-requires
+    (tie.spec (λ c. search needs) (λ c. search needs) (λ c. search needs) (λ c. search needs) (λ c. search needs)
+    bound-requires (λ c. search needs) (λ c. search needs) (λ c. search needs) (λ c. search needs)
+    (λ c. search needs) (λ c. search needs) mark-requires (λ c. search needs) (λ c. search needs)
+    (λ c. search needs) (λ c. search needs) (λ c. search needs) dearer-requires change-at-requires is-lower-requires
     returns)

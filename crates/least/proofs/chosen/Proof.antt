@@ -38,17 +38,8 @@ changes-requires c κs =
     let b = c .before .before .before .before .before in
     (part-back (b .args .first) _ _ _ _ _ (b .fits .first) (b .pre .room .size) (b .pre), search needs, omega arith)
 
-array-write-out : tie.Need-array-write-out Inv-loop μ-loop
-array-write-out c = search needs
-
 next-mark-requires : tie.Need-next-mark-requires Inv-loop μ-loop
 next-mark-requires c κs = omega (arith, c .before .before .before .before .before .before .pre .room .few)
-
-add-k : tie.Need-add-k Inv-loop μ-loop
-add-k c = search needs
-
-loop-less : tie.Need-loop-less Inv-loop μ-loop
-loop-less c = search needs
 
 loop-again : tie.Need-loop-again Inv-loop μ-loop
 loop-again c =
@@ -85,14 +76,5 @@ returns c =
 pub chosen-spec : {M : Type 1} → statement M
 chosen-spec =
     tie.close
-    (tie.spec
-    Inv-loop
-    μ-loop
-    loop-holds
-    changes-requires
-    array-write-out
-    next-mark-requires
-    add-k
-    loop-less
-    loop-again
-    returns)
+    (tie.spec Inv-loop μ-loop loop-holds changes-requires (λ c. search needs) next-mark-requires (λ c. search needs)
+    (λ c. search needs) loop-again returns)

@@ -4,9 +4,6 @@ use borrow.Author.Needs.{needs}
 use Rattle.least.proofs.dearer.Statement.{statement}
 use Rattle.least.proofs.dearer.Tie as tie
 
-add-t6 : tie.Need-add-t6
-add-t6 c = search needs
-
 returns : tie.Need-returns
 returns c = rw (lt-ltb _ _ (c .if1 .taken))
 
@@ -14,4 +11,4 @@ returns-2 : tie.Need-returns-2
 returns-2 c = rw (le-ltb _ _ (c .if1 .left))
 
 pub dearer-spec : {M : Type 1} → statement M
-dearer-spec = tie.close (tie.spec add-t6 returns returns-2)
+dearer-spec = tie.close (tie.spec (λ c. search needs) returns returns-2)

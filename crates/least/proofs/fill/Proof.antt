@@ -35,47 +35,17 @@ loop-holds c =
           (now (b .args .tab)) _ (g .room .size) (c .before .before .fill-end .ensures),
     )
 
-sub-j : tie.Need-sub-j Inv-loop μ-loop
-sub-j c = search needs
-
-add-rest : tie.Need-add-rest Inv-loop μ-loop
-add-rest c = search needs
-
-mul-rest : tie.Need-mul-rest Inv-loop μ-loop
-mul-rest c = search needs
-
-add-rest-2 : tie.Need-add-rest-2 Inv-loop μ-loop
-add-rest-2 c = search needs
-
-add-rest-3 : tie.Need-add-rest-3 Inv-loop μ-loop
-add-rest-3 c = search needs
-
-mul-rest-2 : tie.Need-mul-rest-2 Inv-loop μ-loop
-mul-rest-2 c = search needs
-
 slice-read-rest : tie.Need-slice-read-rest Inv-loop μ-loop
 slice-read-rest c = omega (arith, c .before .before .loop .inv .2 .size)
 
-mul-dearer : tie.Need-mul-dearer Inv-loop μ-loop
-mul-dearer c = search needs
-
-shared-slice-read-dearer : tie.Need-shared-slice-read-dearer Inv-loop μ-loop
-shared-slice-read-dearer c = search needs
-
 dearer-requires : tie.Need-dearer-requires Inv-loop μ-loop
 dearer-requires c κs = search needs
-
-shared-slice-read-fill-row : tie.Need-shared-slice-read-fill-row Inv-loop μ-loop
-shared-slice-read-fill-row c = search needs
 
 fill-row-requires : tie.Need-fill-row-requires Inv-loop μ-loop
 fill-row-requires c κs =
     let b = c .before .before .before .before .before .before .before .before .before .before .before .before .before .before in
     let l = c .before .before .before .before .before .before .loop in
     (room-back (b .args .first) _ _ _ (b .fits .first) (l .inv .2 .size) (b .pre .part .room), omega arith)
-
-loop-less : tie.Need-loop-less Inv-loop μ-loop
-loop-less c = search needs
 
 loop-again : tie.Need-loop-again Inv-loop μ-loop
 loop-again c =
@@ -106,24 +76,7 @@ returns c =
 pub fill-spec : {M : Type 1} → statement M
 fill-spec =
     tie.close
-    (tie.spec
-    Inv-loop
-    μ-loop
-    fill-end-requires
-    loop-holds
-    sub-j
-    add-rest
-    mul-rest
-    add-rest-2
-    add-rest-3
-    mul-rest-2
-    slice-read-rest
-    mul-dearer
-    shared-slice-read-dearer
-    dearer-requires
-    shared-slice-read-fill-row
-    fill-row-requires
-    loop-less
-    loop-again
-    same-length
-    returns)
+    (tie.spec Inv-loop μ-loop fill-end-requires loop-holds (λ c. search needs) (λ c. search needs) (λ c. search needs)
+    (λ c. search needs) (λ c. search needs) (λ c. search needs) slice-read-rest (λ c. search needs)
+    (λ c. search needs) dearer-requires (λ c. search needs) fill-row-requires (λ c. search needs) loop-again
+    same-length returns)

@@ -35,23 +35,8 @@ at-end-requires c κs =
 code-requires : tie.Need-code-requires Inv-loop μ-loop
 code-requires c κs = search needs
 
-mul-tab : tie.Need-mul-tab Inv-loop μ-loop
-mul-tab c = search needs
-
-add-tab : tie.Need-add-tab Inv-loop μ-loop
-add-tab c = search needs
-
-mul-tab-2 : tie.Need-mul-tab-2 Inv-loop μ-loop
-mul-tab-2 c = omega arith
-
 slice-write-tab : tie.Need-slice-write-tab Inv-loop μ-loop
 slice-write-tab c = omega (arith, c .before .before .before .before .loop .inv .1 .size)
-
-add-i : tie.Need-add-i Inv-loop μ-loop
-add-i c = search needs
-
-loop-less : tie.Need-loop-less Inv-loop μ-loop
-loop-less c = search needs
 
 loop-again : tie.Need-loop-again Inv-loop μ-loop
 loop-again c =
@@ -77,19 +62,6 @@ returns c =
 pub fill-end-spec : {M : Type 1} → statement M
 fill-end-spec =
     tie.close
-    (tie.spec
-    Inv-loop
-    μ-loop
-    loop-holds
-    mark-requires
-    at-end-requires
-    code-requires
-    mul-tab
-    add-tab
-    mul-tab-2
-    slice-write-tab
-    add-i
-    loop-less
-    loop-again
-    same-length
-    returns)
+    (tie.spec Inv-loop μ-loop loop-holds mark-requires at-end-requires code-requires (λ c. search needs)
+    (λ c. search needs) (λ c. omega arith) slice-write-tab (λ c. search needs) (λ c. search needs) loop-again
+    same-length returns)

@@ -23,29 +23,11 @@ Inv-loop life first positions j allowed chg tab₀ position i₀ tab i = (i ≤ 
 abbrev μ-loop : tie.MeasureT-loop
 μ-loop life first positions j allowed chg tab₀ position i₀ tab i = j + 1 - i
 
-mul-position : tie.Need-mul-position Inv-loop μ-loop
-mul-position c = search needs
-
-shared-slice-copy-out-position : tie.Need-shared-slice-copy-out-position Inv-loop μ-loop
-shared-slice-copy-out-position c = search needs
-
 loop-holds : tie.Need-loop-holds Inv-loop μ-loop
 loop-holds c = (search needs, filled-none)
 
 mark-requires : tie.Need-mark-requires Inv-loop μ-loop
 mark-requires c κs = search needs
-
-add-bound : tie.Need-add-bound Inv-loop μ-loop
-add-bound c = search needs
-
-mul-bound : tie.Need-mul-bound Inv-loop μ-loop
-mul-bound c = search needs
-
-add-bound-2 : tie.Need-add-bound-2 Inv-loop μ-loop
-add-bound-2 c = search needs
-
-mul-bound-2 : tie.Need-mul-bound-2 Inv-loop μ-loop
-mul-bound-2 c = omega arith
 
 slice-read-bound : tie.Need-slice-read-bound Inv-loop μ-loop
 slice-read-bound c = omega (arith, c .before .before .before .loop .inv .1 .size)
@@ -63,23 +45,8 @@ at-opening-requires c κs =
 code-requires : tie.Need-code-requires Inv-loop μ-loop
 code-requires c κs = search needs
 
-mul-tab : tie.Need-mul-tab Inv-loop μ-loop
-mul-tab c = search needs
-
-add-tab : tie.Need-add-tab Inv-loop μ-loop
-add-tab c = search needs
-
-mul-tab-2 : tie.Need-mul-tab-2 Inv-loop μ-loop
-mul-tab-2 c = omega arith
-
 slice-write-tab : tie.Need-slice-write-tab Inv-loop μ-loop
 slice-write-tab c = omega (arith, c .before .before .before .before .before .before .loop .inv .1 .size)
-
-add-i : tie.Need-add-i Inv-loop μ-loop
-add-i c = search needs
-
-loop-less : tie.Need-loop-less Inv-loop μ-loop
-loop-less c = search needs
 
 loop-again : tie.Need-loop-again Inv-loop μ-loop
 loop-again c =
@@ -108,27 +75,7 @@ returns c =
 pub fill-row-spec : {M : Type 1} → statement M
 fill-row-spec =
     tie.close
-    (tie.spec
-    Inv-loop
-    μ-loop
-    mul-position
-    shared-slice-copy-out-position
-    loop-holds
-    mark-requires
-    add-bound
-    mul-bound
-    add-bound-2
-    mul-bound-2
-    slice-read-bound
-    bound-requires
-    at-opening-requires
-    code-requires
-    mul-tab
-    add-tab
-    mul-tab-2
-    slice-write-tab
-    add-i
-    loop-less
-    loop-again
-    same-length
-    returns)
+    (tie.spec Inv-loop μ-loop (λ c. search needs) (λ c. search needs) loop-holds mark-requires (λ c. search needs)
+    (λ c. search needs) (λ c. search needs) (λ c. omega arith) slice-read-bound bound-requires at-opening-requires
+    code-requires (λ c. search needs) (λ c. search needs) (λ c. omega arith) slice-write-tab (λ c. search needs)
+    (λ c. search needs) loop-again same-length returns)

@@ -5,12 +5,9 @@ use Rattle.model.specs.Model.{within}
 use Rattle.least.proofs.in_reach.Statement.{statement}
 use Rattle.least.proofs.in_reach.Tie as tie
 
-sub-result : tie.Need-sub-result
-sub-result c = search needs
-
 returns : tie.Need-returns
 unfolding within
 returns c = rw (toZ-ofZ (c .fits .life), toZ-ofZ (c .fits .prev), toZ-ofZ (c .fits .position), toZ-ofZ (c .pre))
 
 pub in-reach-spec : {M : Type 1} → statement M
-in-reach-spec = tie.close (tie.spec sub-result returns)
+in-reach-spec = tie.close (tie.spec (λ c. search needs) returns)

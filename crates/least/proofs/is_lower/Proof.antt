@@ -3,20 +3,8 @@ use borrow.Author.Needs.{needs}
 use Rattle.least.proofs.is_lower.Statement.{statement}
 use Rattle.least.proofs.is_lower.Tie as tie
 
-enum-known-b : tie.Need-enum-known-b
-enum-known-b c = search needs
-
-enum-told : tie.Need-enum-told
-enum-told c = search needs
-
 returns : tie.Need-returns
 returns c = search needs
-
-enum-told-2 : tie.Need-enum-told-2
-enum-told-2 c = search needs
-
-enum-known-a : tie.Need-enum-known-a
-enum-known-a c = search needs
 
 returns-2 : tie.Need-returns-2
 returns-2 c = search needs
@@ -27,4 +15,4 @@ returns-3 c = rw (c .before .a .given .1, c .before .before .before .before .b .
 pub is-lower-spec : {M : Type 1} → statement M
 is-lower-spec =
     tie.close
-    (tie.spec enum-known-b enum-told returns enum-told-2 enum-known-a returns-2 returns-3)
+    (tie.spec (λ c. search needs) (λ c. search needs) returns (λ c. search needs) (λ c. search needs) returns-2 returns-3)

@@ -8,12 +8,6 @@ use Rattle.least.proofs.Diff.{diff-fits}
 use Rattle.least.proofs.last_change.Statement.{statement}
 use Rattle.least.proofs.last_change.Tie as tie
 
-cast-result : tie.Need-cast-result
-cast-result c = search needs
-
-cast-result-2 : tie.Need-cast-result-2
-cast-result-2 c = search needs
-
 sub-result : tie.Need-sub-result
 sub-result c =
     let a = toZ-pos w32 {n = c .args .left} (omega (arith, c .pre)) in
@@ -27,4 +21,4 @@ returns c =
     rw (a, b) (toZ-ofZ (diff-fits (pos (c .args .left)) (pos (c .args .life)) (omega (arith, c .pre)) (omega (arith, c .pre))))
 
 pub last-change-spec : {M : Type 1} → statement M
-last-change-spec = tie.close (tie.spec cast-result cast-result-2 sub-result returns)
+last-change-spec = tie.close (tie.spec (λ c. search needs) (λ c. search needs) sub-result returns)

@@ -7,15 +7,6 @@ use Rattle.least.proofs.Diff.{mark-pos}
 use Rattle.least.proofs.mark.Statement.{statement}
 use Rattle.least.proofs.mark.Tie as tie
 
-sub-result : tie.Need-sub-result
-sub-result c = search needs
-
-mul-result : tie.Need-mul-result
-mul-result c = search needs
-
-shared-slice-copy-out-result : tie.Need-shared-slice-copy-out-result
-shared-slice-copy-out-result c = search needs
-
 returns : tie.Need-returns
 returns c = rw (toZ-ofZ (c .before .fits .first), c .if1 .taken)
 
@@ -26,4 +17,4 @@ returns-2 c =
 
 pub mark-spec : {M : Type 1} → statement M
 mark-spec =
-    tie.close (tie.spec sub-result mul-result shared-slice-copy-out-result returns returns-2)
+    tie.close (tie.spec (λ c. search needs) (λ c. search needs) (λ c. search needs) returns returns-2)

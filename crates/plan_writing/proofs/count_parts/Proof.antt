@@ -32,12 +32,6 @@ counted-requires c κs =
     let l = c .before .before .loop in
     omega (arith, s .pre, chosen-few (changedIn (s .args .plan) (s .args .i)) (λ (k : ℕ). k + 1) (l .k))
 
-add-k : tie.Need-add-k Inv-loop μ-loop
-add-k c = search needs
-
-loop-less : tie.Need-loop-less Inv-loop μ-loop
-loop-less c = search needs
-
 loop-again : tie.Need-loop-again Inv-loop μ-loop
 loop-again c =
     let a = c .before .before .before .before .args in
@@ -56,13 +50,5 @@ returns c =
 pub count-parts-spec : {M : Type 1} → statement M
 count-parts-spec =
     tie.close
-    (tie.spec
-    Inv-loop
-    μ-loop
-    loop-holds
-    is-changed-requires
-    counted-requires
-    add-k
-    loop-less
-    loop-again
-    returns)
+    (tie.spec Inv-loop μ-loop loop-holds is-changed-requires counted-requires (λ c. search needs) (λ c. search needs)
+    loop-again returns)

@@ -8,7 +8,7 @@ use lib.ListN.{length, getD}
 use Rattle.lines.specs.Text.{joined}
 use Rattle.jobs.specs.Views.{jobOf, planFor}
 use Rattle.lines.specs.Chosen.{chosen}
-use Rattle.plan_text.specs.Rendering.{visitAt}
+use Rattle.plan_grammar.specs.Rendering.{visitAt}
 use Rattle.jobs.specs.declared.Plan.{Plan}
 use Rattle.jobs.proofs.Jobs.{opening-count}
 use Rattle.lines.proofs.Chosen.{chosen-count, chosen-few, chosen-length}
@@ -36,12 +36,6 @@ element-copy-out-more c = omega (arith, c .before .before .pre)
 counted-requires : tie.Need-counted-requires Inv-loop μ-loop
 counted-requires c κs = omega (arith, c .before .before .before .pre, chosen-few (stop (c .before .before .before .args .t2)) (λ (j : ℕ). j) (c .before .before .loop .i))
 
-add-i : tie.Need-add-i Inv-loop μ-loop
-add-i c = search needs
-
-loop-less : tie.Need-loop-less Inv-loop μ-loop
-loop-less c = search needs
-
 loop-again : tie.Need-loop-again Inv-loop μ-loop
 loop-again c =
     let l = c .before .before .before .loop in
@@ -62,13 +56,5 @@ returns c =
 pub count-stops-spec : {M : Type 1} → statement M
 count-stops-spec =
     tie.close
-    (tie.spec
-    Inv-loop
-    μ-loop
-    loop-holds
-    element-copy-out-more
-    counted-requires
-    add-i
-    loop-less
-    loop-again
-    returns)
+    (tie.spec Inv-loop μ-loop loop-holds element-copy-out-more counted-requires (λ c. search needs)
+    (λ c. search needs) loop-again returns)

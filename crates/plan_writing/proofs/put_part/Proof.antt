@@ -11,12 +11,6 @@ use Rattle.lines.proofs.Writing.{none, same}
 use Rattle.plan_writing.proofs.put_part.Statement.{statement}
 use Rattle.plan_writing.proofs.put_part.Tie as tie
 
-slice-aggregate-put-line : tie.Need-slice-aggregate-put-line
-slice-aggregate-put-line c = search needs
-
-add-put-line : tie.Need-add-put-line
-add-put-line c = search needs
-
 -- the line, or nothing
 abbrev written : ℕ → Bool → List ℕ
 written k b = cond b (lineOf "part=" (k + 1)) []
@@ -26,9 +20,6 @@ unfolding bytes
 put-line-requires c κs =
     let s = c .before .before .before .before in
     (omega (arith, s .pre), omega (arith, s .pre, ap (λ (b : Bool). length (written (s .args .k) b)) (c .before .before .if1 .taken)))
-
-same-length : tie.Need-same-length
-same-length c = search needs
 
 returns : tie.Need-returns
 unfolding bytes
@@ -42,10 +33,4 @@ returns-2 c = same none (sym (ap (written (c .before .before .args .k)) (c .if1 
 pub put-part-spec : {M : Type 1} → statement M
 put-part-spec =
     tie.close
-    (tie.spec
-    slice-aggregate-put-line
-    add-put-line
-    put-line-requires
-    same-length
-    returns
-    returns-2)
+    (tie.spec (λ c. search needs) (λ c. search needs) put-line-requires (λ c. search needs) returns returns-2)

@@ -76,14 +76,5 @@ returns c =
 pub put-parts-spec : {M : Type 1} → statement M
 put-parts-spec =
     tie.close
-    (tie.spec
-    Inv-loop
-    μ-loop
-    loop-holds
-    is-changed-requires
-    put-part-requires
-    add-k
-    loop-less
-    loop-again
-    same-length
+    (tie.spec Inv-loop μ-loop loop-holds is-changed-requires put-part-requires add-k loop-less loop-again same-length
     returns)

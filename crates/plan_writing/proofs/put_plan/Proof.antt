@@ -9,8 +9,8 @@ use lib.ListN.{length, getD, length-append}
 use Rattle.lines.specs.Text.{bytes, lineOf, texts}
 use Rattle.lines.proofs.Writing.{then, kept, same}
 use Rattle.jobs.specs.Views.{jobOf, planFor}
-use Rattle.plan_text.specs.Grammar.{Visit}
-use Rattle.plan_text.specs.Rendering.{visitAt, visitText, visitsOf, planText, planLinesOf}
+use Rattle.plan_grammar.specs.Grammar.{Visit}
+use Rattle.plan_grammar.specs.Rendering.{visitAt, visitText, visitsOf, planText, planLinesOf}
 use Rattle.jobs.proofs.Jobs.{opening-count}
 use Rattle.lines.proofs.Chosen.{chosen-few}
 use Rattle.plan_writing.proofs.put_plan.Statement.{statement}
@@ -28,18 +28,12 @@ few : (s : tie.Start) → length (made s) ≤ 64
 unfolding visitsOf
 few s = omega (arith, s .pre .0 .0, opening-count (s .args .job) (s .pre .0 .0) (s .good .1 .1 .0), chosen-few (λ (i : ℕ). getD (planFor (s .args .job) (s .args .plan) .stops) i false) (visitAt (jobOf (s .args .job)) (planFor (s .args .job) (s .args .plan))) (length (jobOf (s .args .job) .openings)))
 
-slice-aggregate-put-line : tie.Need-slice-aggregate-put-line
-slice-aggregate-put-line c = search needs
-
 put-line-requires : tie.Need-put-line-requires
 unfolding bytes
 put-line-requires c κs = let s = c .before .before .before in (s .pre .0 .1, omega (arith, room s))
 
 count-stops-requires : tie.Need-count-stops-requires
 count-stops-requires c κs = c .before .before .before .before .before .before .pre .0 .0
-
-slice-aggregate-put-line-2 : tie.Need-slice-aggregate-put-line-2
-slice-aggregate-put-line-2 c = search needs
 
 put-line-requires-2 : tie.Need-put-line-requires-2
 unfolding bytes
@@ -58,9 +52,6 @@ put-stops-requires c κs =
     let w = c .before .before .before .put-line2 .ensures in
     (s .pre .0 .0, omega (arith, room s, v .next, kept v, w .next, kept w, ap (λ (k : ℕ). length (lineOf "stops=" k)) n))
 
-same-length : tie.Need-same-length
-same-length c = search needs
-
 returns : tie.Need-returns
 unfolding bytes planLinesOf planText
 returns c =
@@ -72,12 +63,5 @@ returns c =
 pub put-plan-spec : {M : Type 1} → statement M
 put-plan-spec =
     tie.close
-    (tie.spec
-    slice-aggregate-put-line
-    put-line-requires
-    count-stops-requires
-    slice-aggregate-put-line-2
-    put-line-requires-2
-    put-stops-requires
-    same-length
-    returns)
+    (tie.spec (λ c. search needs) put-line-requires count-stops-requires (λ c. search needs) put-line-requires-2
+    put-stops-requires (λ c. search needs) returns)

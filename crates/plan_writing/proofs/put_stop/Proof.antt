@@ -8,7 +8,7 @@ use borrow.Author.Needs.{needs}
 use lib.ListN.{length}
 use Rattle.lines.proofs.Writing.{none, same}
 use Rattle.jobs.specs.Views.{jobOf, planFor}
-use Rattle.plan_text.specs.Rendering.{visitAt, visitText}
+use Rattle.plan_grammar.specs.Rendering.{visitAt, visitText}
 use Rattle.plan_writing.proofs.put_stop.Statement.{statement}
 use Rattle.plan_writing.proofs.put_stop.Tie as tie
 
@@ -24,9 +24,6 @@ put-visit-requires c κs =
     let s = c .before .before .before .before in
     (s .pre .0, omega (arith, s .pre .1, ap (λ (b : Bool). length (written s b)) (c .before .if1 .taken)))
 
-same-length : tie.Need-same-length
-same-length c = search needs
-
 returns : tie.Need-returns
 returns c = same (c .before .before .put-visit .ensures) (sym (ap (written (c .before .before .before .before .before .before .before)) (c .before .before .before .before .if1 .taken))) refl
 
@@ -36,9 +33,4 @@ returns-2 c = same none (sym (ap (written (c .before .before .before)) (c .if1 .
 pub put-stop-spec : {M : Type 1} → statement M
 put-stop-spec =
     tie.close
-    (tie.spec
-    element-copy-out-if1
-    put-visit-requires
-    same-length
-    returns
-    returns-2)
+    (tie.spec element-copy-out-if1 put-visit-requires (λ c. search needs) returns returns-2)

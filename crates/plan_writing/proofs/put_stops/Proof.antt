@@ -10,7 +10,7 @@ use Rattle.lines.specs.Wrote.{Wrote}
 use Rattle.lines.proofs.Writing.{none, then, kept, same, joined-more, joined-room}
 use Rattle.jobs.specs.declared.Job.{Job}
 use Rattle.jobs.specs.Views.{jobOf, planFor}
-use Rattle.plan_text.specs.Rendering.{visitAt, visitText, visitsOf}
+use Rattle.plan_grammar.specs.Rendering.{visitAt, visitText, visitsOf}
 use Rattle.jobs.specs.declared.Plan.{Plan}
 use Rattle.jobs.proofs.Jobs.{opening-count}
 use Rattle.lines.proofs.Chosen.{chosen-texts}
@@ -72,13 +72,4 @@ returns c =
 pub put-stops-spec : {M : Type 1} → statement M
 put-stops-spec =
     tie.close
-    (tie.spec
-    Inv-loop
-    μ-loop
-    loop-holds
-    put-stop-requires
-    add-i
-    loop-less
-    loop-again
-    same-length
-    returns)
+    (tie.spec Inv-loop μ-loop loop-holds put-stop-requires add-i loop-less loop-again same-length returns)

@@ -9,9 +9,9 @@ use Rattle.lines.specs.Text.{bytes, lineOf, texts}
 use Rattle.lines.proofs.Writing.{then, kept, same}
 use Rattle.jobs.specs.Views.{jobOf, changedIn, planFor}
 use Rattle.jobs.proofs.Jobs.{openingAt}
-use Rattle.plan_text.specs.Rendering.{visitAt, visitText}
+use Rattle.plan_grammar.specs.Rendering.{visitAt, visitText}
 use Rattle.plan_text.specs.Views.{numbersAt}
-use Rattle.plan_text.proofs.Jobs.{step-at}
+use Rattle.plan_grammar.proofs.Jobs.{step-at}
 use Rattle.lines.proofs.Chosen.{chosen-few}
 use Rattle.plan_text.proofs.Chosen.{numbers-are}
 use Rattle.plan_writing.proofs.put_visit.Statement.{statement}
@@ -39,17 +39,8 @@ room s = omega (arith, s .pre .1, simp length-append at (ap length (written s)))
 few : (s : tie.Start) → length (numbers s) ≤ 16
 few s = omega (arith, s .pre .0 .0, chosen-few (changedIn (s .args .plan) (s .args .i)) (λ (k : ℕ). k + 1) (s .args .t3 .«part_count»))
 
-mul-o : tie.Need-mul-o
-mul-o c = search needs
-
 element-copy-out-o : tie.Need-element-copy-out-o
 element-copy-out-o c = omega (arith, c .before .pre .0)
-
-slice-aggregate-put-line : tie.Need-slice-aggregate-put-line
-slice-aggregate-put-line c = search needs
-
-cast-put-line : tie.Need-cast-put-line
-cast-put-line c = search needs
 
 put-line-requires : tie.Need-put-line-requires
 unfolding bytes
@@ -57,9 +48,6 @@ put-line-requires c κs = (omega (arith, c .struct-known .given), omega (arith, 
 
 count-parts-requires : tie.Need-count-parts-requires
 count-parts-requires c κs = omega (arith, c .before .before .before .before .before .before .before .before .pre .0)
-
-slice-aggregate-put-line-2 : tie.Need-slice-aggregate-put-line-2
-slice-aggregate-put-line-2 c = search needs
 
 put-line-requires-2 : tie.Need-put-line-requires-2
 unfolding bytes
@@ -78,9 +66,6 @@ put-parts-requires c κs =
     let w = c .before .before .before .put-line2 .ensures in
     (omega (arith, s .pre .0), omega (arith, room s, v .next, kept v, w .next, kept w, ap (λ (k : ℕ). length (lineOf "count=" k)) n))
 
-same-length : tie.Need-same-length
-same-length c = search needs
-
 returns : tie.Need-returns
 unfolding bytes
 returns c =
@@ -93,15 +78,5 @@ returns c =
 pub put-visit-spec : {M : Type 1} → statement M
 put-visit-spec =
     tie.close
-    (tie.spec
-    mul-o
-    element-copy-out-o
-    slice-aggregate-put-line
-    cast-put-line
-    put-line-requires
-    count-parts-requires
-    slice-aggregate-put-line-2
-    put-line-requires-2
-    put-parts-requires
-    same-length
-    returns)
+    (tie.spec (λ c. search needs) element-copy-out-o (λ c. search needs) (λ c. search needs) put-line-requires
+    count-parts-requires (λ c. search needs) put-line-requires-2 put-parts-requires (λ c. search needs) returns)

@@ -9,51 +9,28 @@ use Rattle.planner_program.proofs.Cut.{same}
 use Rattle.planner_program.proofs.plan_input.Statement.{statement}
 use Rattle.planner_program.proofs.plan_input.Tie as tie
 
-slice-aggregate-read-whole : tie.Need-slice-aggregate-read-whole
-slice-aggregate-read-whole c = search needs
-
 read-whole-requires : tie.Need-read-whole-requires
 read-whole-requires c κs = search needs
-
-array-share-prefix-job : tie.Need-array-share-prefix-job
-array-share-prefix-job c = search needs
-
-slice-aggregate-plan : tie.Need-slice-aggregate-plan
-slice-aggregate-plan c = search needs
-
-slice-aggregate-plan-2 : tie.Need-slice-aggregate-plan-2
-slice-aggregate-plan-2 c = search needs
 
 plan-requires : tie.Need-plan-requires
 plan-requires c κs = search needs
 
-array-share-prefix-out : tie.Need-array-share-prefix-out
-array-share-prefix-out c = search needs
-
-slice-aggregate-write-all : tie.Need-slice-aggregate-write-all
-slice-aggregate-write-all c = search needs
-
-write-all-requires : tie.Need-write-all-requires
-write-all-requires c κs = search needs
+print-answer-requires : tie.Need-print-answer-requires
+print-answer-requires c κs = search needs
 
 returns : tie.Need-returns
-returns c = record {
-  job = take (c .before .before .before .before .before .before .before .read-whole .result) (c .before .before .before .before .before .before .before .read-whole .last .1 .1 .0);
-  read = omega (arith, c .before .before .before .before .before .before .before .read-whole .ensures .0, c .before .before .before .before .before .before .job2 .given);
-  says = λ input kept. c .before .before .before .plan .ensures .0 .numbers-are ∙ ap numbers (ap planSaid (sym kept) ∙ same input);
-}
+returns c =
+    let called = c .before .before .before .before in
+    let cut = called .before .before .before in
+    let read = cut .before in
+    record {
+      job = take (read .read-whole .result) (read .read-whole .last .1 .1 .0);
+      read = omega (arith, read .read-whole .ensures .0, cut .job2 .given);
+      says = λ input kept. called .plan .ensures .0 .numbers-are ∙ ap numbers (ap planSaid (sym kept) ∙ same input);
+    }
 
 pub plan-input-spec : {M : Type 1} → statement M
 plan-input-spec =
     tie.close
-    (tie.spec
-    slice-aggregate-read-whole
-    read-whole-requires
-    array-share-prefix-job
-    slice-aggregate-plan
-    slice-aggregate-plan-2
-    plan-requires
-    array-share-prefix-out
-    slice-aggregate-write-all
-    write-all-requires
-    returns)
+    (tie.spec (λ c. search needs) read-whole-requires (λ c. search needs) (λ c. search needs) (λ c. search needs)
+    plan-requires (λ c. search needs) (λ c. search needs) (λ c. search needs) print-answer-requires returns)

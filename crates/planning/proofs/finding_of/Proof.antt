@@ -3,12 +3,6 @@ use borrow.Author.Needs.{needs}
 use Rattle.planning.proofs.finding_of.Statement.{statement}
 use Rattle.planning.proofs.finding_of.Tie as tie
 
-enum-told : tie.Need-enum-told
-enum-told c = search needs
-
-enum-known-bound : tie.Need-enum-known-bound
-enum-known-bound c = search needs
-
 returns : tie.Need-returns
 returns c n m = rw (c .before .before .before .bound .given .1, c .before .if1 .taken, c .if2 .taken)
 
@@ -26,4 +20,4 @@ returns-5 c n m = rw (c .before .before .before .bound .given .1, c .before .if1
 
 pub finding-of-spec : {M : Type 1} → statement M
 finding-of-spec =
-    tie.close (tie.spec enum-told enum-known-bound returns returns-2 returns-3 returns-4 returns-5)
+    tie.close (tie.spec (λ c. search needs) (λ c. search needs) returns returns-2 returns-3 returns-4 returns-5)

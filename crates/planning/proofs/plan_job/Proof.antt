@@ -40,9 +40,6 @@ answer-requires c κs =
       s .pre .0,
     )
 
-same-length : tie.Need-same-length
-same-length c = search needs
-
 returns : tie.Need-returns
 returns c =
     let o = c .before .before .before .before in
@@ -53,4 +50,4 @@ returns c =
 pub plan-job-spec : {M : Type 1} → statement M
 plan-job-spec =
     tie.close
-    (tie.spec search-job-requires finding-of-requires answer-requires same-length returns)
+    (tie.spec search-job-requires finding-of-requires answer-requires (λ c. search needs) returns)

@@ -8,12 +8,6 @@ use borrow.Author.Needs.{needs}
 use Rattle.planning.proofs.put_planned.Statement.{statement}
 use Rattle.planning.proofs.put_planned.Tie as tie
 
-slice-aggregate-put-three : tie.Need-slice-aggregate-put-three
-slice-aggregate-put-three c = search needs
-
-slice-aggregate-put-three-2 : tie.Need-slice-aggregate-put-three-2
-slice-aggregate-put-three-2 c = search needs
-
 put-three-requires : tie.Need-put-three-requires
 unfolding searchLines bytes
 put-three-requires c κs =
@@ -31,9 +25,6 @@ put-plan-requires c κs =
       omega (arith, s .pre .1 .1, w .next, kept w, search-short (a .number) (a .nodes) (a .floor), plan-short (a .job) (a .cost) (a .plan) (s .pre .1 .0) (s .pre .0 .2)),
     )
 
-same-length : tie.Need-same-length
-same-length c = search needs
-
 returns : tie.Need-returns
 unfolding plannedLines searchLines bytes
 returns c = then (c .before .before .before .before .before .before .put-three .ensures) (c .before .before .put-plan .ensures)
@@ -41,10 +32,5 @@ returns c = then (c .before .before .before .before .before .before .put-three .
 pub put-planned-spec : {M : Type 1} → statement M
 put-planned-spec =
     tie.close
-    (tie.spec
-    slice-aggregate-put-three
-    slice-aggregate-put-three-2
-    put-three-requires
-    put-plan-requires
-    same-length
+    (tie.spec (λ c. search needs) (λ c. search needs) put-three-requires put-plan-requires (λ c. search needs)
     returns)

@@ -5,16 +5,13 @@ use borrow.Author.Needs.{needs}
 use lib.ListN.{length, take}
 use lib.IntN.{ℤ}
 use mir.Facts.{toZ-ofZ}
-use Rattle.search.specs.Arrays.{sheetOf}
+use Rattle.search_tables.specs.Arrays.{sheetOf}
 use Rattle.search.specs.Plan.{Chooses}
-use Rattle.search.proofs.Filling.{ready-back}
+use Rattle.search_tables.proofs.Filling.{ready-back}
 use Rattle.search.proofs.Answered.{stops-length, finds}
 use Rattle.search.proofs.search.Statement.{statement}
 use Rattle.walk.specs.State.{Solves}
 use Rattle.search.proofs.search.Tie as tie
-
-slice-aggregate-walked : tie.Need-slice-aggregate-walked
-slice-aggregate-walked c = search needs
 
 walked-requires : tie.Need-walked-requires
 walked-requires c κs =
@@ -24,14 +21,8 @@ walked-requires c κs =
 stops-of-requires : tie.Need-stops-of-requires
 stops-of-requires c κs = search needs
 
-array-share-prefix-stops : tie.Need-array-share-prefix-stops
-array-share-prefix-stops c = search needs
-
 slice-aggregate-changes : tie.Need-slice-aggregate-changes
 slice-aggregate-changes c = sym (stops-length (length (c .before .before .before .before .before .before .before .before .before .args .positions .now)) _ (c .before .stops-of .result) (c .before .stops-of .ensures))
-
-slice-aggregate-changes-2 : tie.Need-slice-aggregate-changes-2
-slice-aggregate-changes-2 c = search needs
 
 changes-requires : tie.Need-changes-requires
 changes-requires c κs =
@@ -58,12 +49,5 @@ returns c =
 pub search-spec : {M : Type 1} → statement M
 search-spec =
     tie.close
-    (tie.spec
-    slice-aggregate-walked
-    walked-requires
-    stops-of-requires
-    array-share-prefix-stops
-    slice-aggregate-changes
-    slice-aggregate-changes-2
-    changes-requires
-    returns)
+    (tie.spec (λ c. search needs) walked-requires stops-of-requires (λ c. search needs) slice-aggregate-changes
+    (λ c. search needs) changes-requires returns)

@@ -3,13 +3,10 @@ use borrow.Author.Needs.{needs}
 use mir.Syntax.{w32}
 use mir.Val.{toZ, ofZ}
 use mir.Facts.{toZ-ofZ}
-use Rattle.search.specs.Arrays.{sheetOf}
-use Rattle.search.proofs.Filling.{ready-back}
+use Rattle.search_tables.specs.Arrays.{sheetOf}
+use Rattle.search_tables.proofs.Filling.{ready-back}
 use Rattle.search.proofs.walked.Statement.{statement}
 use Rattle.search.proofs.walked.Tie as tie
-
-slice-aggregate-fill : tie.Need-slice-aggregate-fill
-slice-aggregate-fill c = search needs
 
 fill-requires : tie.Need-fill-requires
 fill-requires c κs =
@@ -19,9 +16,6 @@ fill-requires c κs =
 
 solve-requires : tie.Need-solve-requires
 solve-requires c κs = search needs
-
-same-length : tie.Need-same-length
-same-length c = search needs
 
 returns : tie.Need-returns
 returns c =
@@ -33,9 +27,4 @@ returns c =
 pub walked-spec : {M : Type 1} → statement M
 walked-spec =
     tie.close
-    (tie.spec
-    slice-aggregate-fill
-    fill-requires
-    solve-requires
-    same-length
-    returns)
+    (tie.spec (λ c. search needs) fill-requires solve-requires (λ c. search needs) returns)

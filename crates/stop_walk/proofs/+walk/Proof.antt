@@ -12,7 +12,6 @@ use lib.Bits.{bitOr}
 use lib.ListN.{length, getD, set}
 use lib.Seq.{getD-set-same, getD-set-other}
 use Rattle.branch.specs.Search.{Limited, limited, onward}
-use Rattle.branch.specs.declared.Bound.{Bound}
 use Rattle.branch.specs.declared.Bound.the-variants.{Sum}
 use Rattle.branch.proofs.Bounds.{sum-inj}
 use Rattle.model.specs.Decisions.{joined}
@@ -28,15 +27,15 @@ use Rattle.held_stops.proofs.Children.{Told}
 use Rattle.walk.specs.declared.Search.{Search}
 use Rattle.walk.specs.State.{noCost, openS}
 use Rattle.walk.proofs.Nodes.{mask-fits}
-use Rattle.stop_walk.specs.declared.Node.{Node}
-use Rattle.stop_walk.specs.State.{bestName, noN, yesN, staysN, outN, settledN, written, treeAt, At, Frame, Walked}
+use Rattle.stop_nodes.specs.declared.Node.{Node}
+use Rattle.stop_nodes.specs.State.{bestName, noN, yesN, staysN, outN, settledN, written, treeAt, At, Frame, Walked}
 use Rattle.walk.proofs.Trees.{DueAt, where-there, Opened, opened}
-use Rattle.stop_walk.proofs.Frames.{aside-none, ready-frame, at-kept}
-use Rattle.stop_walk.proofs.Given.{sums-low, stop-most}
-use Rattle.stop_walk.proofs.Settling.{settle-asks, Rests, rests}
-use Rattle.stop_walk.proofs.Openings.{noBlocks, yesBlocks, full-fits, full-walked, opening-asks, no-below, no-more, no-cheap, no-due, at-no, yes-fits, yes-due, at-yes, both-openings}
-use Rattle.stop_walk.proofs.Stops.{moreBlocks, stop-asks, stays-shut, stays-below, stays-more, stays-cheap, stays-due, at-stays, out-fits, out-due, at-out, both-removals}
-use Rattle.stop_walk.proofs.Branches.{stop-here, spent-fits, Passed, passed-as, walked-as, at-looked, first-closed, first-open, second-closed, second-open, rests-walked}
+use Rattle.stop_nodes.proofs.Frames.{aside-none, ready-frame, at-kept}
+use Rattle.stop_nodes.proofs.Given.{sums-low, stop-most}
+use Rattle.stop_nodes.proofs.Settling.{settle-asks, Rests, rests}
+use Rattle.stop_nodes.proofs.Openings.{noBlocks, yesBlocks, full-fits, full-walked, opening-asks, no-below, no-more, no-cheap, no-due, at-no, yes-fits, yes-due, at-yes, both-openings}
+use Rattle.stop_nodes.proofs.Stops.{moreBlocks, stop-asks, stays-shut, stays-below, stays-more, stays-cheap, stays-due, at-stays, out-fits, out-due, at-out, both-removals}
+use Rattle.stop_nodes.proofs.Branches.{stop-here, spent-fits, Passed, passed-as, walked-as, at-looked, first-closed, first-open, second-closed, second-open, rests-walked}
 use Rattle.stop_walk.proofs.walk.Reads as walk
 use Rattle.stop_walk.proofs.walk.Kinds as walk-kinds
 use Rattle.stop_walk.proofs.+walk.Lts-walk as walk-lts
@@ -44,14 +43,14 @@ use Rattle.held_lanes.proofs.number.Reads as number-reads
 use Rattle.held_lanes.proofs.opening_term.Reads as opening-term-reads
 use Rattle.held_lanes.proofs.removal_term.Reads as removal-term-reads
 use Rattle.lane_rows.proofs.cell.Reads as cell-reads
-use Rattle.stop_walk.proofs.Node.stays.Reads as stays-reads
-use Rattle.stop_walk.proofs.Node.no.Reads as no-reads
-use Rattle.stop_walk.proofs.Node.out.Reads as out-reads
-use Rattle.stop_walk.proofs.Node.yes.Reads as yes-reads
-use Rattle.stop_walk.proofs.keep.Reads as keep-reads
-use Rattle.stop_walk.proofs.stay_sums.Reads as stay-sums-reads
-use Rattle.stop_walk.proofs.no_sums.Reads as no-sums-reads
-use Rattle.stop_walk.proofs.settle.Reads as settle-reads
+use Rattle.stop_nodes.proofs.Node.stays.Reads as stays-reads
+use Rattle.stop_nodes.proofs.Node.no.Reads as no-reads
+use Rattle.stop_nodes.proofs.Node.out.Reads as out-reads
+use Rattle.stop_nodes.proofs.Node.yes.Reads as yes-reads
+use Rattle.stop_nodes.proofs.keep.Reads as keep-reads
+use Rattle.stop_nodes.proofs.stay_sums.Reads as stay-sums-reads
+use Rattle.stop_nodes.proofs.no_sums.Reads as no-sums-reads
+use Rattle.stop_nodes.proofs.settle.Reads as settle-reads
 use Rattle.walk.proofs.Search.counted.Reads as counted-reads
 use Rattle.walk.proofs.Search.kept.Reads as kept-reads
 use Rattle.walk.proofs.Search.open.Reads as open-reads

@@ -22,21 +22,6 @@ number-requires c κs = search needs
 loop-holds : tie.Need-loop-holds Inv-loop μ-loop
 loop-holds c = (omega arith, filled-none)
 
-cast-v : tie.Need-cast-v Inv-loop μ-loop
-cast-v c = search needs
-
-mul-v : tie.Need-mul-v Inv-loop μ-loop
-mul-v c = search needs
-
-slice-write-v : tie.Need-slice-write-v Inv-loop μ-loop
-slice-write-v c = search needs
-
-add-c : tie.Need-add-c Inv-loop μ-loop
-add-c c = search needs
-
-loop-less : tie.Need-loop-less Inv-loop μ-loop
-loop-less c = search needs
-
 loop-again : tie.Need-loop-again Inv-loop μ-loop
 loop-again c =
     let l = c .before .loop in
@@ -45,9 +30,6 @@ loop-again c =
     let y : lastPlace 0 (l .c) ≡ l .c = omega arith in
     let few = n .number .ensures .0 in
     (omega arith, subst (λ (x : ℕ). FilledBy (lastPlace 0) (offset 0) (l .c + 1) (s .args .v .now) (set (l .v) x (l .c))) y (filled-more (l .c) (omega (arith, s .pre, few)) (λ q h z. omega (arith, z)) (sym y) (l .inv .1)))
-
-same-length : tie.Need-same-length Inv-loop μ-loop
-same-length c = search needs
 
 returns : tie.Need-returns Inv-loop μ-loop
 returns c =
@@ -58,4 +40,4 @@ returns c =
     subst (λ (k : ℕ). FilledBy (lastPlace 0) (offset 0) k v (l .v)) z (l .inv .1)
 
 pub first-marks-spec : {M : Type 1} → statement M
-first-marks-spec = tie.close (tie.spec Inv-loop μ-loop number-requires loop-holds cast-v mul-v slice-write-v add-c loop-less loop-again same-length returns)
+first-marks-spec = tie.close (tie.spec Inv-loop μ-loop number-requires loop-holds (λ c. search needs) (λ c. search needs) (λ c. search needs) (λ c. search needs) (λ c. search needs) loop-again (λ c. search needs) returns)

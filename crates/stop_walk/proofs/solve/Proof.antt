@@ -18,9 +18,9 @@ use Rattle.held_lanes.specs.Places.{asideSize}
 use Rattle.held_lanes.specs.Tables.{HeldTables}
 use Rattle.walk.specs.declared.Search.{Search}
 use Rattle.walk.specs.State.{noCost}
-use Rattle.stop_walk.specs.State.{bestName, view, treeAt, At, Solves}
+use Rattle.stop_nodes.specs.State.{bestName, view, treeAt, At, Solves}
 use Rattle.walk.proofs.Trees.{DueAt, Opened, closed, opened}
-use Rattle.stop_walk.proofs.Root.{rootN, bound-first, root-due, root-given, fresh, root-ends}
+use Rattle.stop_nodes.proofs.Root.{rootN, bound-first, root-due, root-given, fresh, root-ends}
 use Rattle.stop_walk.proofs.solve.Statement.{statement}
 use Rattle.stop_walk.proofs.solve.Tie as tie
 
@@ -96,12 +96,6 @@ plus-requires c κs = λ x f. omega (arith, fits c x f)
 open-requires : tie.Need-open-requires
 open-requires c κs = λ x f. omega (arith, fits (c .before) x f)
 
-enum-known-x : tie.Need-enum-known-x
-enum-known-x c = search needs
-
-enum-told : tie.Need-enum-told
-enum-told c = search needs
-
 reached-requires : tie.Need-reached-requires
 reached-requires c κs = search needs
 
@@ -176,4 +170,4 @@ returns-2 c =
     ∙ root-opened x sheet h k .on))
 
 pub solve-spec : {M : Type 1} → statement M
-solve-spec = tie.close (tie.spec base-row-requires first-marks-requires first-sums-requires term-requires plus-requires open-requires enum-known-x enum-told reached-requires solved-requires returns number-requires counted-requires walk-requires solved-requires-2 returns-2)
+solve-spec = tie.close (tie.spec base-row-requires first-marks-requires first-sums-requires term-requires plus-requires open-requires (λ c. search needs) (λ c. search needs) reached-requires solved-requires returns number-requires counted-requires walk-requires solved-requires-2 returns-2)

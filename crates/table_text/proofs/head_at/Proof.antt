@@ -19,28 +19,13 @@ within : (c : tie.After-n) → let a = c .before .before .before .before .before
     Within (length (drop (a .at) (a .table .now))) (Value (c .n .given .0 .0) (c .n .given .0 .1 .0))
 within c = subst (Within _) (got c) (line-within _ _)
 
-sub-read-line : tie.Need-sub-read-line
-sub-read-line c = search needs
-
-part-read-line-start : tie.Need-part-read-line-start
-part-read-line-start c = search needs
-
-part-read-line-end : tie.Need-part-read-line-end
-part-read-line-end c = search needs
-
 read-line-requires : tie.Need-read-line-requires
 read-line-requires c κs = search needs
-
-enum-known-n : tie.Need-enum-known-n
-enum-known-n c = search needs
 
 add-t13 : tie.Need-add-t13
 add-t13 c =
     let s = c .before .before .before .before .before .before .before in
     omega (arith, within (c .before), length-drop (s .args .at) (s .args .table .now), s)
-
-enum-told : tie.Need-enum-told
-enum-told c = search needs
 
 returns : tie.Need-returns
 unfolding headOf
@@ -58,13 +43,5 @@ returns-2 c =
 pub head-at-spec : {M : Type 1} → statement M
 head-at-spec =
     tie.close
-    (tie.spec
-    sub-read-line
-    part-read-line-start
-    part-read-line-end
-    read-line-requires
-    enum-known-n
-    add-t13
-    enum-told
-    returns
-    returns-2)
+    (tie.spec (λ c. search needs) (λ c. search needs) (λ c. search needs) read-line-requires (λ c. search needs)
+    add-t13 (λ c. search needs) returns returns-2)

@@ -10,9 +10,6 @@ use Rattle.table_text.proofs.piece_at.Tie as tie
 head-at-requires : tie.Need-head-at-requires
 head-at-requires c κs = search needs
 
-sub-if1 : tie.Need-sub-if1
-sub-if1 c = search needs
-
 returns : tie.Need-returns
 returns c =
     let t = c .before .before .before .before .args .table .now in
@@ -26,4 +23,4 @@ returns-2 c =
     (rw (← h .ensures .0, lt-leb (h .result .behind + h .result .number) (length t) (omega (arith, h .ensures .1))), omega arith)
 
 pub piece-at-spec : {M : Type 1} → statement M
-piece-at-spec = tie.close (tie.spec head-at-requires sub-if1 returns returns-2)
+piece-at-spec = tie.close (tie.spec head-at-requires (λ c. search needs) returns returns-2)

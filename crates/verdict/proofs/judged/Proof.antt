@@ -4,12 +4,6 @@ use borrow.Author.Tests.{eq-eqb, ne-eqb}
 use Rattle.verdict.proofs.judged.Statement.{statement}
 use Rattle.verdict.proofs.judged.Tie as tie
 
-enum-told : tie.Need-enum-told
-enum-told c = search needs
-
-enum-known-verdict : tie.Need-enum-known-verdict
-enum-known-verdict c = search needs
-
 returns : tie.Need-returns
 returns c =
     let a = c .before .before .before .args in
@@ -24,4 +18,4 @@ returns-3 : tie.Need-returns-3
 returns-3 c = rw (c .before .verdict .given .1)
 
 pub judged-spec : {M : Type 1} → statement M
-judged-spec = tie.close (tie.spec enum-told enum-known-verdict returns returns-2 returns-3)
+judged-spec = tie.close (tie.spec (λ c. search needs) (λ c. search needs) returns returns-2 returns-3)

@@ -7,12 +7,6 @@ use Rattle.branch.specs.Lower.{add}
 use Rattle.walk.proofs.plus.Statement.{statement}
 use Rattle.walk.proofs.plus.Tie as tie
 
-enum-known-e : tie.Need-enum-known-e
-enum-known-e c = search needs
-
-enum-told : tie.Need-enum-told
-enum-told c = search needs
-
 returns : tie.Need-returns
 returns c = search needs
 
@@ -23,4 +17,4 @@ returns-2 : tie.Need-returns-2
 returns-2 c = ap (add (Sum (c .before .before .before .args .n))) (sym (c .before .e .given .1))
 
 pub plus-spec : {M : Type 1} → statement M
-plus-spec = tie.close (tie.spec enum-known-e enum-told returns add-t4 returns-2)
+plus-spec = tie.close (tie.spec (λ c. search needs) (λ c. search needs) returns add-t4 returns-2)

@@ -71,12 +71,6 @@ plus-requires c κs = λ x f. omega (arith, root-fits c x f)
 open-requires : tie.Need-open-requires
 open-requires c κs = λ x f. omega (arith, root-fits (c .before) x f)
 
-enum-known-x : tie.Need-enum-known-x
-enum-known-x c = search needs
-
-enum-told : tie.Need-enum-told
-enum-told c = search needs
-
 reached-requires : tie.Need-reached-requires
 reached-requires c κs = search needs
 
@@ -171,18 +165,6 @@ returns-2 c =
 pub solve-spec : {M : Type 1} → statement M
 solve-spec =
     tie.close
-    (tie.spec
-    base-row-requires
-    first-sums-requires
-    term-requires
-    plus-requires
-    open-requires
-    enum-known-x
-    enum-told
-    reached-requires
-    solved-requires
-    returns
-    counted-requires
-    walk-requires
-    solved-requires-2
+    (tie.spec base-row-requires first-sums-requires term-requires plus-requires open-requires (λ c. search needs)
+    (λ c. search needs) reached-requires solved-requires returns counted-requires walk-requires solved-requires-2
     returns-2)

@@ -31,9 +31,6 @@ opened (negsuc fd) d e n h = let z : _≡_ {A = ℕ} 0 1 = cc in absurd (omega a
 read-nothing-requires : tie.Need-read-nothing-requires
 read-nothing-requires c κs = search needs
 
-same-length : tie.Need-same-length
-same-length c = search needs
-
 returns : tie.Need-returns
 returns c =
     let h = c .before .before .read-nothing .ensures in
@@ -42,13 +39,10 @@ returns c =
 read-full-requires : tie.Need-read-full-requires
 read-full-requires c κs = search needs
 
-same-length-2 : tie.Need-same-length-2
-same-length-2 c = search needs
-
 returns-2 : tie.Need-returns-2
 returns-2 c =
     let same = toZ-ofZ (c .before .before .before .before .before .before .fits .fd) in
     (c .before .before .read-full .ensures, opened _ _ _ _ (sym (ap (λ (z : ℤ). ltZ z (pos 0)) same) ∙ c .before .before .before .before .if1 .left))
 
 pub read-whole-spec : {M : Type 1} → statement M
-read-whole-spec = tie.close (tie.spec read-nothing-requires same-length returns read-full-requires same-length-2 returns-2)
+read-whole-spec = tie.close (tie.spec read-nothing-requires (λ c. search needs) returns read-full-requires (λ c. search needs) returns-2)

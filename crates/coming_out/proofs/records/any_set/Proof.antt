@@ -6,7 +6,7 @@ use native.Mathlib.Omega.{arith}
 use borrow.Author.Needs.{needs}
 use borrow.Author.Count.{below-more}
 use Prim.Native.Nat.{ℕ}
-use lib.ListN.{length, getD}
+use lib.ListN.{getD}
 use Rattle.coming_out.proofs.Listed.{marked-some, marked-none}
 use Rattle.coming_out.proofs.records.any_set.Statement.{statement}
 use Rattle.coming_out.proofs.records.any_set.Tie as tie
@@ -20,20 +20,11 @@ abbrev μ-loop : tie.MeasureT-loop
 loop-holds : tie.Need-loop-holds Inv-loop μ-loop
 loop-holds c = (omega arith, λ x h. absurd (omega arith))
 
-array-read-if1 : tie.Need-array-read-if1 Inv-loop μ-loop
-array-read-if1 c = search needs
-
 returns : tie.Need-returns Inv-loop μ-loop
 returns c =
     let l = c .before .before in
     let marks = l .before .args .t1 in
     sym (marked-some marks (l .loop .i) (c .if1 .taken))
-
-add-i : tie.Need-add-i Inv-loop μ-loop
-add-i c = search needs
-
-loop-less : tie.Need-loop-less Inv-loop μ-loop
-loop-less c = omega arith
 
 loop-again : tie.Need-loop-again Inv-loop μ-loop
 loop-again c =
@@ -49,13 +40,5 @@ returns-2 c =
 pub any-set-spec : {M : Type 1} → statement M
 any-set-spec =
     tie.close
-    (tie.spec
-    Inv-loop
-    μ-loop
-    loop-holds
-    array-read-if1
-    returns
-    add-i
-    loop-less
-    loop-again
+    (tie.spec Inv-loop μ-loop loop-holds (λ c. search needs) returns (λ c. search needs) (λ c. omega arith) loop-again
     returns-2)

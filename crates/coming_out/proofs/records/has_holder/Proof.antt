@@ -46,9 +46,6 @@ returns c =
 add-q : tie.Need-add-q Inv-loop μ-loop
 add-q c = let i = c .before .before .before .before in omega (arith, i .loop-test .taken, i .before .before .before .pre .parts)
 
-loop-less : tie.Need-loop-less Inv-loop μ-loop
-loop-less c = omega arith
-
 loop-again : tie.Need-loop-again Inv-loop μ-loop
 loop-again c =
     let l = c .before .before .before .before .before in
@@ -63,14 +60,5 @@ returns-2 c =
 pub has-holder-spec : {M : Type 1} → statement M
 has-holder-spec =
     tie.close
-    (tie.spec
-    Inv-loop
-    μ-loop
-    loop-holds
-    part-of-requires
-    any-set-requires
-    returns
-    add-q
-    loop-less
-    loop-again
+    (tie.spec Inv-loop μ-loop loop-holds part-of-requires any-set-requires returns add-q (λ c. omega arith) loop-again
     returns-2)

@@ -1,6 +1,6 @@
 -- `holders_of`: the rows of the parts before q are there.
 use Prim.Native.Nat.{ℕ, _+_, _-_, _≤_}
-use mathlib.Core.Path.{_≡_, refl, sym, ap, subst, _∙_}
+use mathlib.Core.Path.{_≡_, sym, ap, subst}
 use mathlib.Core.Bool.{false}
 use native.Mathlib.Omega.{arith}
 use borrow.Author.Needs.{needs}
@@ -27,12 +27,6 @@ part-of-requires c κs = (c .loop-test .taken, c .before .before .before .pre .p
 with-row-requires : tie.Need-with-row-requires Inv-loop μ-loop
 with-row-requires c κs = let i = c .before .before in omega (arith, i .loop-test .taken, i .before .before .before .pre .parts)
 
-add-q : tie.Need-add-q Inv-loop μ-loop
-add-q c = search needs
-
-loop-less : tie.Need-loop-less Inv-loop μ-loop
-loop-less c = omega arith
-
 loop-again : tie.Need-loop-again Inv-loop μ-loop
 loop-again c =
     let p = c .before .before in
@@ -54,13 +48,5 @@ returns c =
 pub holders-of-spec : {M : Type 1} → statement M
 holders-of-spec =
     tie.close
-    (tie.spec
-    Inv-loop
-    μ-loop
-    loop-holds
-    part-of-requires
-    with-row-requires
-    add-q
-    loop-less
-    loop-again
-    returns)
+    (tie.spec Inv-loop μ-loop loop-holds part-of-requires with-row-requires (λ c. search needs) (λ c. omega arith)
+    loop-again returns)

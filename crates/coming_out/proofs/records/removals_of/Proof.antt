@@ -35,9 +35,6 @@ array-write-removals c = let i = c .before .before in omega (arith, i .loop-test
 add-q : tie.Need-add-q Inv-loop μ-loop
 add-q c = let i = c .before .before in omega (arith, i .loop-test .taken, i .before .before .before .pre .parts)
 
-loop-less : tie.Need-loop-less Inv-loop μ-loop
-loop-less c = omega arith
-
 loop-again : tie.Need-loop-again Inv-loop μ-loop
 loop-again c =
     let p = c .before in
@@ -59,15 +56,5 @@ returns c =
 pub removals-of-spec : {M : Type 1} → statement M
 removals-of-spec =
     tie.close
-    (tie.spec
-    Inv-loop
-    μ-loop
-    loop-holds
-    part-of-requires
-    removal-of-requires
-    mul-removals
-    array-write-removals
-    add-q
-    loop-less
-    loop-again
-    returns)
+    (tie.spec Inv-loop μ-loop loop-holds part-of-requires removal-of-requires mul-removals array-write-removals add-q
+    (λ c. omega arith) loop-again returns)

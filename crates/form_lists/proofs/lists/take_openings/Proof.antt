@@ -10,13 +10,13 @@ use Rattle.model.specs.Model as model
 use Rattle.jobs.specs.Views.{openingOf}
 use Rattle.jobs.specs.declared.Opening.{Opening}
 use Rattle.jobs.proofs.Jobs.{blankOpening}
-use Rattle.job_text.specs.Grammar.{opening, openings}
-use Rattle.job_text.specs.Rendering.{openingText}
-use Rattle.form_lists.specs.Facts.{paired}
-use Rattle.form_lists.specs.Checks.{found}
-use Rattle.form_lists.proofs.Checks.{passed, failed}
-use Rattle.form_lists.proofs.Loops.{Going, going-start, going-more, going-fault, going-end}
-use Rattle.form_lists.proofs.Places.{paired-size, paired-at}
+use Rattle.job_grammar.specs.Grammar.{opening, openings}
+use Rattle.job_grammar.specs.Rendering.{openingText}
+use Rattle.form_facts.specs.Facts.{paired}
+use Rattle.form_checks.specs.Checks.{found}
+use Rattle.form_checks.proofs.Checks.{passed, failed}
+use Rattle.form_checks.proofs.Loops.{Going, going-start, going-more, going-fault, going-end}
+use Rattle.form_facts.proofs.Facts.{paired-size, paired-at}
 use borrow.Author.Needs.{needs}
 use Rattle.form_lists.proofs.lists.take_openings.Statement.{statement}
 use Rattle.form_lists.proofs.lists.take_openings.Tie as tie
@@ -41,26 +41,11 @@ loop-holds c =
     let a = c .before .before .args in
     (omega arith, refl, omega arith, going-start (opening (a .horizon)) stepOf openingText (paired (a .steps .now) (a .fees .now)) (length (a .steps .now)) 0 (a .at))
 
-mul-t13 : tie.Need-mul-t13 Inv-loop μ-loop
-mul-t13 c = search needs
-
-shared-slice-read-t16 : tie.Need-shared-slice-read-t16 Inv-loop μ-loop
-shared-slice-read-t16 c = omega arith
-
-mul-t17 : tie.Need-mul-t17 Inv-loop μ-loop
-mul-t17 c = search needs
-
 shared-slice-read-t19 : tie.Need-shared-slice-read-t19 Inv-loop μ-loop
 shared-slice-read-t19 c = omega (arith, c .before .before .before .before .before .before .pre, c .before .before .loop-test .taken)
 
 check-opening-requires : tie.Need-check-opening-requires Inv-loop μ-loop
 check-opening-requires c κs = omega (arith, c .before .before .before .before .before .before .pre, c .before .before .before .loop .inv .2, c .before .before .loop-test .taken)
-
-enum-told : tie.Need-enum-told Inv-loop μ-loop
-enum-told c = search needs
-
-mul-taken : tie.Need-mul-taken Inv-loop μ-loop
-mul-taken c = search needs
 
 array-set-from-taken : tie.Need-array-set-from-taken Inv-loop μ-loop
 array-set-from-taken c = omega (arith, c .before .before .before .before .before .before .before .before .before .pre, c .before .before .before .before .before .before .loop .inv .1, c .before .before .before .before .before .loop-test .taken)
@@ -91,9 +76,6 @@ loop-again c =
           (λ s. passed (openingOf o) s (l .line + 2) (c .before .before .check-opening .ensures s) (c .enum-told .given .1)) (map-take-more openingOf (l .i) (l .taken) o (omega (arith, c .before .before .before .before .before .before .before .before .before .pre, l .inv .1, t))),
     )
 
-enum-known-k : tie.Need-enum-known-k Inv-loop μ-loop
-enum-known-k c = search needs
-
 returns : tie.Need-returns Inv-loop μ-loop
 unfolding openings found
 returns c =
@@ -122,22 +104,6 @@ returns-2 c =
 pub take-openings-spec : {M : Type 1} → statement M
 take-openings-spec =
     tie.close
-    (tie.spec
-    Inv-loop
-    μ-loop
-    loop-holds
-    mul-t13
-    shared-slice-read-t16
-    mul-t17
-    shared-slice-read-t19
-    check-opening-requires
-    enum-told
-    mul-taken
-    array-set-from-taken
-    add-line
-    add-i
-    loop-less
-    loop-again
-    enum-known-k
-    returns
-    returns-2)
+    (tie.spec Inv-loop μ-loop loop-holds (λ c. search needs) (λ c. omega arith) (λ c. search needs)
+    shared-slice-read-t19 check-opening-requires (λ c. search needs) (λ c. search needs) array-set-from-taken
+    add-line add-i loop-less loop-again (λ c. search needs) returns returns-2)

@@ -9,25 +9,19 @@ use Rattle.lines.specs.Text.{texts}
 use Rattle.lines.specs.Parser.{row}
 use Rattle.lines.proofs.Parsing.{bind-good, bind-fault}
 use Rattle.jobs.specs.Views.{partOf}
-use Rattle.job_text.specs.Rendering.{partText}
-use Rattle.job_text.specs.Views.{partsLines}
-use Rattle.form_lists.specs.Facts.{PartLists, partLists, partsOf, partsAgree, countedText}
-use Rattle.form_lists.specs.Checks.{found}
-use Rattle.form_lists.specs.declared.check.Check.{Check}
-use Rattle.form_lists.proofs.Checks.{passed, failed, not-good}
-use Rattle.form_lists.proofs.Places.{agree-says}
+use Rattle.job_grammar.specs.Rendering.{partText}
+use Rattle.job_grammar.specs.Optionals.{partsLines}
+use Rattle.form_facts.specs.Facts.{PartLists, partLists, partsOf, partsAgree, countedText}
+use Rattle.form_checks.specs.Checks.{found}
+use Rattle.form_checks.specs.declared.check.Check.{Check}
+use Rattle.form_checks.proofs.Checks.{passed, failed, not-good}
+use Rattle.form_facts.proofs.Facts.{agree-says}
 use borrow.Author.Needs.{needs}
 use Rattle.form_lists.proofs.parts.take_counted.Statement.{statement}
 use Rattle.form_lists.proofs.parts.take_counted.Tie as tie
 
 check-part-count-requires : tie.Need-check-part-count-requires
 check-part-count-requires c κs = search needs
-
-enum-told : tie.Need-enum-told
-enum-told c = search needs
-
-add-take-parts : tie.Need-add-take-parts
-add-take-parts c = search needs
 
 -- the lists that are handed over
 abbrev lists : tie.Start → PartLists
@@ -46,9 +40,6 @@ take-parts-requires c κs =
     let s = c .before .before .before .before .before .before .before .before .before .before in
     let g = counted c in
     (agree-says (s .args .n) (lists s) (g .1), (g .0, s .pre .0, omega (arith, s .pre .1)))
-
-enum-known-k : tie.Need-enum-known-k
-enum-known-k c = search needs
 
 no-parts-requires : tie.Need-no-parts-requires
 no-parts-requires c κs = search needs
@@ -81,12 +72,5 @@ returns-2 c =
 pub take-counted-spec : {M : Type 1} → statement M
 take-counted-spec =
     tie.close
-    (tie.spec
-    check-part-count-requires
-    enum-told
-    add-take-parts
-    take-parts-requires
-    enum-known-k
-    no-parts-requires
-    returns
-    returns-2)
+    (tie.spec check-part-count-requires (λ c. search needs) (λ c. search needs) take-parts-requires
+    (λ c. search needs) no-parts-requires returns returns-2)

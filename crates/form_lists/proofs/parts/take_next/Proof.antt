@@ -8,18 +8,15 @@ use lib.ListN.{length, getD, take, drop, length-drop}
 use lib.Seq.{length-take-le}
 use Rattle.covers.specs.Views.{linesOf}
 use Rattle.jobs.specs.Views.{partOf}
-use Rattle.job_text.specs.Grammar.{PartText, part}
-use Rattle.job_text.specs.Rendering.{partText}
-use Rattle.job_text.specs.Views.{partLines}
-use Rattle.form_lists.specs.Facts.{PartLists, partLists}
-use Rattle.form_lists.specs.Checks.{found}
+use Rattle.job_grammar.specs.Grammar.{PartText, part}
+use Rattle.job_grammar.specs.Rendering.{partText}
+use Rattle.job_grammar.specs.Optionals.{partLines}
+use Rattle.form_facts.specs.Facts.{PartLists, partLists}
+use Rattle.form_checks.specs.Checks.{found}
 use Rattle.form_lists.proofs.Steps.{markAt, thereAt, partAt, Known, known, step-taken, first-is}
 use borrow.Author.Needs.{needs}
 use Rattle.form_lists.proofs.parts.take_next.Statement.{statement}
 use Rattle.form_lists.proofs.parts.take_next.Tie as tie
-
-mul-mark : tie.Need-mul-mark
-mul-mark c = search needs
 
 -- the lists that are handed over, and what they have of the part
 abbrev lists : tie.Start → PartLists
@@ -37,56 +34,11 @@ value-if-requires c κs = λ e. let s = c .before .before .before .before .befor
 value-if-requires-2 : tie.Need-value-if-requires-2
 value-if-requires-2 c κs = there (c .before .before .before .before .before .before .before .before .before) .inside
 
-cast-t25 : tie.Need-cast-t25
-cast-t25 c = search needs
-
-cast-t26 : tie.Need-cast-t26
-cast-t26 c = search needs
-
-add-t27 : tie.Need-add-t27
-add-t27 c = search needs
-
-mul-t28 : tie.Need-mul-t28
-mul-t28 c = search needs
-
-shared-slice-read-t30 : tie.Need-shared-slice-read-t30
-shared-slice-read-t30 c = search needs
-
-mul-t31 : tie.Need-mul-t31
-mul-t31 c = search needs
-
 shared-slice-read-t33 : tie.Need-shared-slice-read-t33
 shared-slice-read-t33 c = there (c .before .before .before .before .before .before .before .before .before .before .before .before) .left
 
-cast-held : tie.Need-cast-held
-cast-held c = search needs
-
-add-held : tie.Need-add-held
-add-held c = search needs
-
-add-priced : tie.Need-add-priced
-add-priced c = search needs
-
-mul-take-part : tie.Need-mul-take-part
-mul-take-part c = search needs
-
-sub-take-part : tie.Need-sub-take-part
-sub-take-part c = search needs
-
-part-take-part-start : tie.Need-part-take-part-start
-part-take-part-start c = search needs
-
 part-take-part-end : tie.Need-part-take-part-end
 part-take-part-end c = omega (arith, there (c .before .before .before .before .before .before .before .before .before .before .before .before) .holders, c .before .before .value-if2 .ensures)
-
-mul-take-part-2 : tie.Need-mul-take-part-2
-mul-take-part-2 c = search needs
-
-sub-take-part-2 : tie.Need-sub-take-part-2
-sub-take-part-2 c = search needs
-
-part-take-part-start-2 : tie.Need-part-take-part-start-2
-part-take-part-start-2 c = search needs
 
 part-take-part-end-2 : tie.Need-part-take-part-end-2
 part-take-part-end-2 c = omega (arith, there (c .before .before .before .before .before .before .before .before .before .before .before .before .before) .prices)
@@ -156,30 +108,8 @@ returns c =
 pub take-next-spec : {M : Type 1} → statement M
 take-next-spec =
     tie.close
-    (tie.spec
-    mul-mark
-    shared-slice-read-mark
-    value-if-requires
-    value-if-requires-2
-    cast-t25
-    cast-t26
-    add-t27
-    mul-t28
-    shared-slice-read-t30
-    mul-t31
-    shared-slice-read-t33
-    cast-held
-    add-held
-    add-priced
-    mul-take-part
-    sub-take-part
-    part-take-part-start
-    part-take-part-end
-    mul-take-part-2
-    sub-take-part-2
-    part-take-part-start-2
-    part-take-part-end-2
-    take-part-requires
-    cast-t28
-    add-t38
-    returns)
+    (tie.spec (λ c. search needs) shared-slice-read-mark value-if-requires value-if-requires-2 (λ c. search needs)
+    (λ c. search needs) (λ c. search needs) (λ c. search needs) (λ c. search needs) (λ c. search needs)
+    shared-slice-read-t33 (λ c. search needs) (λ c. search needs) (λ c. search needs) (λ c. search needs)
+    (λ c. search needs) (λ c. search needs) part-take-part-end (λ c. search needs) (λ c. search needs)
+    (λ c. search needs) part-take-part-end-2 take-part-requires cast-t28 add-t38 returns)

@@ -10,12 +10,12 @@ use Rattle.lines.proofs.Parsing.{bind-good, bind-fault}
 use Rattle.jobs.specs.Views.{partOf}
 use Rattle.covers.specs.Rendering.{coverText}
 use Rattle.covers.specs.Views.{linesOf}
-use Rattle.job_text.specs.Grammar.{PartText, afterLeft, part}
-use Rattle.job_text.specs.Rendering.{partText}
-use Rattle.job_text.specs.Views.{partLines}
-use Rattle.form_lists.specs.Checks.{found}
-use Rattle.form_lists.specs.declared.check.Check.{Check}
-use Rattle.form_lists.proofs.Checks.{passed, failed}
+use Rattle.job_grammar.specs.Grammar.{PartText, afterLeft, part}
+use Rattle.job_grammar.specs.Rendering.{partText}
+use Rattle.job_grammar.specs.Optionals.{partLines}
+use Rattle.form_checks.specs.Checks.{found}
+use Rattle.form_checks.specs.declared.check.Check.{Check}
+use Rattle.form_checks.proofs.Checks.{passed, failed}
 use borrow.Author.Needs.{needs}
 use Rattle.form_lists.proofs.parts.take_part.Statement.{statement}
 use Rattle.form_lists.proofs.parts.take_part.Tie as tie
@@ -23,35 +23,14 @@ use Rattle.form_lists.proofs.parts.take_part.Tie as tie
 check-value-requires : tie.Need-check-value-requires
 check-value-requires c κs = search needs
 
-enum-told : tie.Need-enum-told
-enum-told c = search needs
-
-add-check-left : tie.Need-add-check-left
-add-check-left c = search needs
-
 check-left-requires : tie.Need-check-left-requires
 check-left-requires c κs = search needs
-
-enum-told-2 : tie.Need-enum-told-2
-enum-told-2 c = search needs
-
-add-take-worn : tie.Need-add-take-worn
-add-take-worn c = search needs
 
 take-worn-requires : tie.Need-take-worn-requires
 take-worn-requires c κs = search needs
 
-enum-known-k : tie.Need-enum-known-k
-enum-known-k c = search needs
-
 no-part-requires : tie.Need-no-part-requires
 no-part-requires c κs = search needs
-
-enum-known-k-2 : tie.Need-enum-known-k-2
-enum-known-k-2 c = search needs
-
-no-part-requires-2 : tie.Need-no-part-requires-2
-no-part-requires-2 c κs = search needs
 
 -- the part that is taken
 abbrev stated : tie.Start → PartText
@@ -119,18 +98,6 @@ returns-3 c =
 pub take-part-spec : {M : Type 1} → statement M
 take-part-spec =
     tie.close
-    (tie.spec
-    check-value-requires
-    enum-told
-    add-check-left
-    check-left-requires
-    enum-told-2
-    add-take-worn
-    take-worn-requires
-    enum-known-k
-    no-part-requires
-    enum-known-k-2
-    no-part-requires-2
-    returns
-    returns-2
-    returns-3)
+    (tie.spec check-value-requires (λ c. search needs) (λ c. search needs) check-left-requires (λ c. search needs)
+    (λ c. search needs) take-worn-requires (λ c. search needs) no-part-requires (λ c. search needs)
+    (λ c κs. search needs) returns returns-2 returns-3)

@@ -4,10 +4,10 @@ use mathlib.Core.Path.{refl}
 use native.Mathlib.Omega.{arith}
 use lib.ListN.{length}
 use Rattle.jobs.specs.Views.{partOf}
-use Rattle.job_text.specs.Views.{partLines}
-use Rattle.form_lists.specs.Facts.{PartLists, partLists}
-use Rattle.form_lists.specs.Checks.{found}
-use Rattle.form_lists.proofs.Checks.{passed, failed}
+use Rattle.job_grammar.specs.Optionals.{partLines}
+use Rattle.form_facts.specs.Facts.{PartLists, partLists}
+use Rattle.form_checks.specs.Checks.{found}
+use Rattle.form_checks.proofs.Checks.{passed, failed}
 use Rattle.form_lists.proofs.PartLoop.{Taking, taking-start, taking-more, taking-fault, taking-end}
 use borrow.Author.Needs.{needs}
 use Rattle.form_lists.proofs.parts.take_parts.Statement.{statement}
@@ -40,9 +40,6 @@ loop-holds c =
 take-next-requires : tie.Need-take-next-requires Inv-loop μ-loop
 take-next-requires c κs = let l = c .before .loop in let s = c .before .before .before .before .before .before .before .before .before .before .before in (l .inv .standing, (c .loop-test .taken, s .pre .1 .0, s .pre .1 .1, omega (arith, l .inv .line, s .pre .1, c .loop-test .taken)))
 
-enum-told : tie.Need-enum-told Inv-loop μ-loop
-enum-told c = search needs
-
 mul-taken : tie.Need-mul-taken Inv-loop μ-loop
 mul-taken c = omega (arith, c .before .before .before .before .loop-test .taken, c .before .before .before .before .before .before .before .before .before .before .before .before .before .before .before .pre .1)
 
@@ -67,19 +64,22 @@ loop-again c =
     taking-more (a .n) (a .at) (lists (c .before .before .before .before .before .before .before .before .before .before .before .before .before .before .before .before)) (l .marks) (l .taken) (l .p) (l .k) (l .inv) (c .before .before .before .before .before .loop-test .taken) (r .result .place) (r .result .there) (r .result .part) (r .ensures .1)
     (λ s h. passed part s (r .result .place .line) (r .ensures .0 s h) (c .before .before .enum-told .given .1)) (c .before .before .before .before .before .before .before .before .before .before .before .before .before .before .before .before .pre .1 .0)
 
-enum-known-check : tie.Need-enum-known-check Inv-loop μ-loop
-enum-known-check c = search needs
+no-parts-requires : tie.Need-no-parts-requires Inv-loop μ-loop
+no-parts-requires c κs = search needs
 
 returns : tie.Need-returns Inv-loop μ-loop
 unfolding found
 returns c =
-    let a = c .before .before .before .before .before .before .before .before .before .before .before .before .before .before .before .args in
-    let l = c .before .before .before .before .before .loop in
-    let r = c .before .before .before .take-next in
+    let told = c .before in
+    let start = told .before .before .before .before .before .before .before .before .before .before .before .before .before .before .before in
+    let a = start .args in
+    let l = told .before .before .before .before .before .loop in
+    let r = told .before .before .before .take-next in
     let part = partLines (r .result .there) (partOf (a .n) (r .result .part)) in (
       0,
-      taking-fault (a .n) (a .at) (lists (c .before .before .before .before .before .before .before .before .before .before .before .before .before .before .before)) (l .marks) (l .taken) (l .p) (l .k) (l .inv) (c .before .before .before .before .loop-test .taken)
-          (λ s h. failed part s (r .result .place .line) (r .ensures .0 s h) (c .before .check .given .1)),
+      rw (c .no-parts .ensures)
+          (taking-fault (a .n) (a .at) (lists start) (l .marks) (l .taken) (l .p) (l .k) (l .inv) (told .before .before .before .before .loop-test .taken)
+          (λ s h. failed part s (r .result .place .line) (r .ensures .0 s h) (told .before .check .given .1))),
     )
 
 returns-2 : tie.Need-returns-2 Inv-loop μ-loop
@@ -92,20 +92,6 @@ returns-2 c =
 pub take-parts-spec : {M : Type 1} → statement M
 take-parts-spec =
     tie.close
-    (tie.spec
-    Inv-loop
-    μ-loop
-    blank-part-requires
-    first-place-requires
-    loop-holds
-    take-next-requires
-    enum-told
-    mul-taken
-    array-set-from-taken
-    array-write-marks
-    add-k
-    loop-less
-    loop-again
-    enum-known-check
-    returns
-    returns-2)
+    (tie.spec Inv-loop μ-loop blank-part-requires first-place-requires loop-holds take-next-requires
+    (λ c. search needs) mul-taken array-set-from-taken array-write-marks add-k loop-less loop-again
+    (λ c. search needs) no-parts-requires returns returns-2)

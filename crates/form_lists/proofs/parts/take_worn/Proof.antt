@@ -11,12 +11,12 @@ use Rattle.jobs.specs.Views.{partOf}
 use Rattle.covers.specs.Grammar.{cover}
 use Rattle.covers.specs.Rendering.{coverText}
 use Rattle.covers.specs.Views.{coverOf, linesOf}
-use Rattle.job_text.specs.Grammar.{PartText, afterLeft}
-use Rattle.job_text.specs.Views.{partLines}
-use Rattle.job_text.proofs.Complete.{prices-next}
-use Rattle.form_lists.specs.Checks.{found}
-use Rattle.form_lists.specs.declared.check.Check.{Check}
-use Rattle.form_lists.proofs.Checks.{passed, failed, found-map}
+use Rattle.job_grammar.specs.Grammar.{PartText, afterLeft}
+use Rattle.job_grammar.specs.Optionals.{partLines}
+use Rattle.job_grammar.proofs.Complete.{prices-next}
+use Rattle.form_checks.specs.Checks.{found}
+use Rattle.form_checks.specs.declared.check.Check.{Check}
+use Rattle.form_checks.proofs.Checks.{passed, failed, found-map}
 use borrow.Author.Needs.{needs}
 use Rattle.form_lists.proofs.parts.take_worn.Statement.{statement}
 use Rattle.form_lists.proofs.parts.take_worn.Tie as tie
@@ -24,20 +24,8 @@ use Rattle.form_lists.proofs.parts.take_worn.Tie as tie
 take-cover-requires : tie.Need-take-cover-requires
 take-cover-requires c κs = search needs
 
-enum-told : tie.Need-enum-told
-enum-told c = search needs
-
 take-prices-requires : tie.Need-take-prices-requires
 take-prices-requires c κs = search needs
-
-cast-t17 : tie.Need-cast-t17
-cast-t17 c = search needs
-
-add-t18 : tie.Need-add-t18
-add-t18 c = search needs
-
-enum-known-c-check : tie.Need-enum-known-c-check
-enum-known-c-check c = search needs
 
 no-part-requires : tie.Need-no-part-requires
 no-part-requires c κs = search needs
@@ -89,13 +77,5 @@ returns-2 c =
 pub take-worn-spec : {M : Type 1} → statement M
 take-worn-spec =
     tie.close
-    (tie.spec
-    take-cover-requires
-    enum-told
-    take-prices-requires
-    cast-t17
-    add-t18
-    enum-known-c-check
-    no-part-requires
-    returns
-    returns-2)
+    (tie.spec take-cover-requires (λ c. search needs) take-prices-requires (λ c. search needs) (λ c. search needs)
+    (λ c. search needs) no-part-requires returns returns-2)

@@ -53,12 +53,5 @@ returns c =
 pub holder-numbers-of-spec : {M : Type 1} → statement M
 holder-numbers-of-spec =
     tie.close
-    (tie.spec
-    removals-of-requires
-    holders-of-requires
-    come-out-requires
-    holding-of-requires
-    charges-requires
-    needs-requires
-    inner-removals-requires
-    returns)
+    (tie.spec removals-of-requires holders-of-requires come-out-requires holding-of-requires charges-requires
+    needs-requires inner-removals-requires returns)

@@ -1,13 +1,13 @@
 -- `name_of` writes one block after the other. The invariant: the first k are written.
-use Prim.Native.Nat.{ℕ, _+_, _-_, _*_, _≤_}
-use mathlib.Core.Path.{_≡_, refl, sym, ap, _∙_}
+use Prim.Native.Nat.{_-_, _*_, _≤_}
+use mathlib.Core.Path.{_≡_, refl, ap, _∙_}
 use mathlib.Core.Bool.{Bool, false}
 use mathlib.Core.List.{List}
 use lib.ListN.{length, getD, take, replicate, List·getD-append}
 use Rattle.model.specs.Decisions.{joined}
 use Rattle.walk.specs.State.{bits}
 use Rattle.walk.proofs.Nodes.{bits-length}
-use Rattle.stop_walk.specs.State.{blocksOf, bestIn}
+use Rattle.stop_nodes.specs.State.{blocksOf, bestIn}
 use Rattle.held_search.proofs.Names.{block-length, name-next, name-whole}
 use native.Mathlib.Omega.{arith}
 use borrow.Author.Needs.{needs}
@@ -27,26 +27,8 @@ loop-holds : tie.Need-loop-holds Inv-loop μ-loop
 unfolding joined
 loop-holds c = (omega arith, omega arith, refl, refl)
 
-array-read-put-block : tie.Need-array-read-put-block Inv-loop μ-loop
-array-read-put-block c = search needs
-
-add-put-block : tie.Need-add-put-block Inv-loop μ-loop
-add-put-block c = search needs
-
-mul-put-block : tie.Need-mul-put-block Inv-loop μ-loop
-mul-put-block c = search needs
-
-element-copy-out-put-block : tie.Need-element-copy-out-put-block Inv-loop μ-loop
-element-copy-out-put-block c = search needs
-
 put-block-requires : tie.Need-put-block-requires Inv-loop μ-loop
 put-block-requires c κs = search needs
-
-add-k : tie.Need-add-k Inv-loop μ-loop
-add-k c = search needs
-
-loop-less : tie.Need-loop-less Inv-loop μ-loop
-loop-less c = search needs
 
 loop-again : tie.Need-loop-again Inv-loop μ-loop
 loop-again c =
@@ -64,9 +46,6 @@ loop-again c =
       p .ensures .1 ∙ name-next (a .h) (bestIn (a .v .now)) (a .n) (a .mask) (l .k) (take (l .at) (l .name)) stop t is (l .inv .3),
     )
 
-same-length : tie.Need-same-length Inv-loop μ-loop
-same-length c = search needs
-
 returns : tie.Need-returns Inv-loop μ-loop
 returns c =
     let l = c .before .loop in
@@ -77,18 +56,6 @@ returns c =
 pub name-of-spec : {M : Type 1} → statement M
 name-of-spec =
     tie.close
-    (tie.spec
-    Inv-loop
-    μ-loop
-    stops-of-requires
-    loop-holds
-    array-read-put-block
-    add-put-block
-    mul-put-block
-    element-copy-out-put-block
-    put-block-requires
-    add-k
-    loop-less
-    loop-again
-    same-length
+    (tie.spec Inv-loop μ-loop stops-of-requires loop-holds (λ c. search needs) (λ c. search needs) (λ c. search needs)
+    (λ c. search needs) put-block-requires (λ c. search needs) (λ c. search needs) loop-again (λ c. search needs)
     returns)

@@ -20,21 +20,6 @@ abbrev μ-loop : tie.MeasureT-loop
 loop-holds : tie.Need-loop-holds Inv-loop μ-loop
 loop-holds c = let a = c .args in (omega arith, refl, all-none (a .name .now) (a .at) (a .from .now))
 
-shared-slice-read-name : tie.Need-shared-slice-read-name Inv-loop μ-loop
-shared-slice-read-name c = search needs
-
-add-name : tie.Need-add-name Inv-loop μ-loop
-add-name c = search needs
-
-slice-write-name : tie.Need-slice-write-name Inv-loop μ-loop
-slice-write-name c = search needs
-
-add-i : tie.Need-add-i Inv-loop μ-loop
-add-i c = search needs
-
-loop-less : tie.Need-loop-less Inv-loop μ-loop
-loop-less c = search needs
-
 loop-again : tie.Need-loop-again Inv-loop μ-loop
 loop-again c =
     let l = c .before .before .loop in
@@ -42,9 +27,6 @@ loop-again c =
     let a = s .args in
     let t = c .before .loop-test .taken in
     (omega arith, length-set (l .name) (a .at + l .i) _ ∙ l .inv .1, all-more (a .name .now) (l .name) (a .from .now) (a .at) (l .i) t (omega (arith, l .inv .1, s .pre, t)) (l .inv .2))
-
-same-length : tie.Need-same-length Inv-loop μ-loop
-same-length c = search needs
 
 returns : tie.Need-returns Inv-loop μ-loop
 returns c =
@@ -56,15 +38,5 @@ returns c =
 pub put-all-spec : {M : Type 1} → statement M
 put-all-spec =
     tie.close
-    (tie.spec
-    Inv-loop
-    μ-loop
-    loop-holds
-    shared-slice-read-name
-    add-name
-    slice-write-name
-    add-i
-    loop-less
-    loop-again
-    same-length
-    returns)
+    (tie.spec Inv-loop μ-loop loop-holds (λ c. search needs) (λ c. search needs) (λ c. search needs)
+    (λ c. search needs) (λ c. search needs) loop-again (λ c. search needs) returns)

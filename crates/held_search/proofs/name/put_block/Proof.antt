@@ -1,8 +1,8 @@
 -- `put_block`: no stop is one decision, a stop one and its removals.
-use Prim.Native.Nat.{ℕ, _+_, _-_}
+use Prim.Native.Nat.{_+_, _-_}
 use mathlib.Core.Path.{_≡_, sym, ap, _∙_}
 use mathlib.Core.Bool.{Bool, true, false}
-use mathlib.Core.List.{List, [], _∷_, _++_}
+use mathlib.Core.List.{[], _∷_, _++_}
 use native.Mathlib.Omega.{arith}
 use borrow.Author.Tests.{not-true, not-false}
 use lib.ListN.{length, take, set, replicate, length-set}
@@ -19,15 +19,6 @@ use Rattle.held_search.proofs.name.put_block.Tie as tie
 removals : (c : tie.After-stops-of) → let a = c .before .before .before .args in take (a .h) (c .stops-of .result) ≡ bits (a .h) (a .removed)
 removals c = let a = c .before .before .before .args in ap (take (a .h)) (c .stops-of .ensures) ∙ take-at (bits (a .h) (a .removed)) (replicate (64 - a .h) false) (a .h) (bits-length (a .h) (a .removed))
 
-slice-write-name : tie.Need-slice-write-name
-slice-write-name c = search needs
-
-add-result : tie.Need-add-result
-add-result c = search needs
-
-same-length : tie.Need-same-length
-same-length c = search needs
-
 returns : tie.Need-returns
 returns c =
     let s = c .before .before in
@@ -41,14 +32,8 @@ returns c =
 stops-of-requires : tie.Need-stops-of-requires
 stops-of-requires c κs = search needs
 
-array-share-prefix-out : tie.Need-array-share-prefix-out
-array-share-prefix-out c = search needs
-
 slice-aggregate-put-all : tie.Need-slice-aggregate-put-all
 slice-aggregate-put-all c = let a = c .before .before .before .before .args in sym (ap length (removals (c .before)) ∙ bits-length (a .h) (a .removed))
-
-add-put-all : tie.Need-add-put-all
-add-put-all c = search needs
 
 put-all-requires : tie.Need-put-all-requires
 put-all-requires c κs =
@@ -56,12 +41,6 @@ put-all-requires c κs =
     let s = o .before .before .before in
     let a = s .args in
     (omega (arith, s .pre, ap length (removals o), bits-length (a .h) (a .removed)), length-set (a .name .now) (a .at) (a .stop) ∙ s .pre .2)
-
-add-result-2 : tie.Need-add-result-2
-add-result-2 c = search needs
-
-add-result-3 : tie.Need-add-result-3
-add-result-3 c = search needs
 
 same-length-2 : tie.Need-same-length-2
 same-length-2 c = let a = c .before .before .before .before .before .before .before .before .args in c .before .before .put-all .kept .1 .1 .0 ∙ length-set (a .name .now) (a .at) (a .stop)
@@ -84,17 +63,6 @@ returns-2 c =
 pub put-block-spec : {M : Type 1} → statement M
 put-block-spec =
     tie.close
-    (tie.spec
-    slice-write-name
-    add-result
-    same-length
-    returns
-    stops-of-requires
-    array-share-prefix-out
-    slice-aggregate-put-all
-    add-put-all
-    put-all-requires
-    add-result-2
-    add-result-3
-    same-length-2
-    returns-2)
+    (tie.spec (λ c. search needs) (λ c. search needs) (λ c. search needs) returns stops-of-requires
+    (λ c. search needs) slice-aggregate-put-all (λ c. search needs) put-all-requires (λ c. search needs)
+    (λ c. search needs) same-length-2 returns-2)

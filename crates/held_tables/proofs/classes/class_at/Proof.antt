@@ -1,5 +1,5 @@
 -- `class_at` looks at one class after the other.
-use Prim.Native.Nat.{ℕ, _-_, _≤_}
+use Prim.Native.Nat.{_-_, _≤_}
 use native.Mathlib.Omega.{arith}
 use borrow.Author.Needs.{needs}
 use Rattle.held_tables.proofs.classes.class_at.Statement.{statement}
@@ -14,23 +14,11 @@ abbrev μ-loop : tie.MeasureT-loop
 loop-holds : tie.Need-loop-holds Inv-loop μ-loop
 loop-holds c = omega arith
 
-mul-same-needs : tie.Need-mul-same-needs Inv-loop μ-loop
-mul-same-needs c = search needs
-
-array-read-same-needs : tie.Need-array-read-same-needs Inv-loop μ-loop
-array-read-same-needs c = search needs
-
 same-needs-requires : tie.Need-same-needs-requires Inv-loop μ-loop
 same-needs-requires c κs = let s = c .before .before .before .before in let l = c .before .loop in (s .pre .0, s .pre .1, s .pre .3 .led .leads (l .c), s .pre .2)
 
 returns : tie.Need-returns Inv-loop μ-loop
 returns c = (omega arith, λ l. c .before .same-needs .ensures (c .if1 .taken))
-
-add-c : tie.Need-add-c Inv-loop μ-loop
-add-c c = search needs
-
-loop-less : tie.Need-loop-less Inv-loop μ-loop
-loop-less c = search needs
 
 loop-again : tie.Need-loop-again Inv-loop μ-loop
 loop-again c = omega arith
@@ -41,15 +29,5 @@ returns-2 c = (c .before .loop .inv, λ l. absurd (omega (arith, l, c .loop-test
 pub class-at-spec : {M : Type 1} → statement M
 class-at-spec =
     tie.close
-    (tie.spec
-    Inv-loop
-    μ-loop
-    loop-holds
-    mul-same-needs
-    array-read-same-needs
-    same-needs-requires
-    returns
-    add-c
-    loop-less
-    loop-again
-    returns-2)
+    (tie.spec Inv-loop μ-loop loop-holds (λ c. search needs) (λ c. search needs) same-needs-requires returns
+    (λ c. search needs) (λ c. search needs) loop-again returns-2)

@@ -22,12 +22,6 @@ with-part-requires c κs =
     let s = c .before .before .before in
     (s .pre .0, s .pre .1, omega (arith, s .pre .2), c .before .loop .inv .1)
 
-add-q : tie.Need-add-q Inv-loop μ-loop
-add-q c = search needs
-
-loop-less : tie.Need-loop-less Inv-loop μ-loop
-loop-less c = search needs
-
 loop-again : tie.Need-loop-again Inv-loop μ-loop
 loop-again c = (omega arith, c .with-part .ensures)
 
@@ -41,4 +35,4 @@ returns c =
 pub classes-of-spec : {M : Type 1} → statement M
 classes-of-spec =
     tie.close
-    (tie.spec Inv-loop μ-loop loop-holds with-part-requires add-q loop-less loop-again returns)
+    (tie.spec Inv-loop μ-loop loop-holds with-part-requires (λ c. search needs) (λ c. search needs) loop-again returns)

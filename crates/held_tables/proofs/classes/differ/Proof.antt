@@ -1,8 +1,6 @@
 -- `differ` tells two flags apart.
 use mathlib.Core.Path.{_≡_, refl, sym, _∙_}
 use mathlib.Core.Bool.{Bool, true, false, not}
-use native.Mathlib.Omega.{arith}
-use borrow.Author.Needs.{needs}
 use Rattle.held_tables.proofs.classes.differ.Statement.{statement}
 use Rattle.held_tables.proofs.classes.differ.Tie as tie
 

@@ -23,35 +23,11 @@ abbrev μ-loop : tie.MeasureT-loop
 loop-holds : tie.Need-loop-holds Inv-loop μ-loop
 loop-holds c = (omega arith, λ i l. absurd (omega arith))
 
-mul-differ : tie.Need-mul-differ Inv-loop μ-loop
-mul-differ c = search needs
-
-add-differ : tie.Need-add-differ Inv-loop μ-loop
-add-differ c = search needs
-
-shared-slice-read-differ : tie.Need-shared-slice-read-differ Inv-loop μ-loop
-shared-slice-read-differ c = search needs
-
-mul-differ-2 : tie.Need-mul-differ-2 Inv-loop μ-loop
-mul-differ-2 c = search needs
-
-add-differ-2 : tie.Need-add-differ-2 Inv-loop μ-loop
-add-differ-2 c = search needs
-
-shared-slice-read-differ-2 : tie.Need-shared-slice-read-differ-2 Inv-loop μ-loop
-shared-slice-read-differ-2 c = search needs
-
 differ-requires : tie.Need-differ-requires Inv-loop μ-loop
 differ-requires c κs = search needs
 
 returns : tie.Need-returns Inv-loop μ-loop
 returns c e = absurd (false-true e)
-
-add-b : tie.Need-add-b Inv-loop μ-loop
-add-b c = search needs
-
-loop-less : tie.Need-loop-less Inv-loop μ-loop
-loop-less c = search needs
 
 loop-again : tie.Need-loop-again Inv-loop μ-loop
 loop-again c =
@@ -70,19 +46,6 @@ returns-2 c e =
 pub same-needs-spec : {M : Type 1} → statement M
 same-needs-spec =
     tie.close
-    (tie.spec
-    Inv-loop
-    μ-loop
-    loop-holds
-    mul-differ
-    add-differ
-    shared-slice-read-differ
-    mul-differ-2
-    add-differ-2
-    shared-slice-read-differ-2
-    differ-requires
-    returns
-    add-b
-    loop-less
-    loop-again
-    returns-2)
+    (tie.spec Inv-loop μ-loop loop-holds (λ c. search needs) (λ c. search needs) (λ c. search needs)
+    (λ c. search needs) (λ c. search needs) (λ c. search needs) differ-requires returns (λ c. search needs)
+    (λ c. search needs) loop-again returns-2)

@@ -4,22 +4,13 @@ use native.Mathlib.Omega.{arith}
 use borrow.Author.Needs.{needs}
 use Rattle.held_tables.proofs.classes.with_part.Statement.{statement}
 use Rattle.held_tables.proofs.classes.with_part.Tie as tie
-use Rattle.held_tables.proofs.classes.with_part.Reads as reads
-use Rattle.held_tables.proofs.classes.with_part.Lts as lts
-use Rattle.held_tables.proofs.classes.class_at.Reads as class-at-reads
 
 -- src/classes.rt:62:9
 class-at-requires : tie.Need-class-at-requires
 class-at-requires c κs = search needs
 
 -- src/classes.rt:66:5
-mul-lanes : tie.Need-mul-lanes
-mul-lanes c = search needs
-
 -- src/classes.rt:66:5
-array-write-lanes : tie.Need-array-write-lanes
-array-write-lanes c = search needs
-
 -- src/classes.rt:68:9
 returns : tie.Need-returns
 returns c =
@@ -29,17 +20,8 @@ returns c =
     group-old (a .needs .now) (a .h) (a .classes) (a .q) (r .result) (s .pre .3) (s .pre .2) (r .ensures .0) (c .if1 .taken) (r .ensures .1 (c .if1 .taken))
 
 -- src/classes.rt:74:5
-mul-leads : tie.Need-mul-leads
-mul-leads c = search needs
-
 -- src/classes.rt:74:5
-array-write-leads : tie.Need-array-write-leads
-array-write-leads c = search needs
-
 -- src/classes.rt:78:16
-add-t9 : tie.Need-add-t9
-add-t9 c = search needs
-
 -- src/classes.rt:58:1
 returns-2 : tie.Need-returns-2
 returns-2 c =
@@ -51,12 +33,5 @@ returns-2 c =
 pub with-part-spec : {M : Type 1} → statement M
 with-part-spec =
     tie.close
-    (tie.spec
-    class-at-requires
-    mul-lanes
-    array-write-lanes
-    returns
-    mul-leads
-    array-write-leads
-    add-t9
-    returns-2)
+    (tie.spec class-at-requires (λ c. search needs) (λ c. search needs) returns (λ c. search needs)
+    (λ c. search needs) (λ c. search needs) returns-2)

@@ -4,12 +4,6 @@ use borrow.Author.Needs.{needs}
 use Rattle.held_tables.proofs.needs.class_needs.Statement.{statement}
 use Rattle.held_tables.proofs.needs.class_needs.Tie as tie
 
-mul-result : tie.Need-mul-result
-mul-result c = search needs
-
-array-read-result : tie.Need-array-read-result
-array-read-result c = search needs
-
 mul-result-2 : tie.Need-mul-result-2
 mul-result-2 c = omega (arith, c .before .pre .1 .leads (c .before .args .c))
 
@@ -25,10 +19,4 @@ returns c = search needs
 pub class-needs-spec : {M : Type 1} → statement M
 class-needs-spec =
     tie.close
-    (tie.spec
-    mul-result
-    array-read-result
-    mul-result-2
-    add-result
-    shared-slice-read-result
-    returns)
+    (tie.spec (λ c. search needs) (λ c. search needs) mul-result-2 add-result shared-slice-read-result returns)

@@ -1,7 +1,7 @@
 -- `lane_set` gathers the lanes from the last on. The invariant: those from q on are gathered.
 use Prim.Native.Nat.{ℕ, _+_, _-_, _*_}
-use mathlib.Core.Path.{_≡_, sym, ap, subst, _∙_}
-use mathlib.Core.Bool.{Bool, true, false, cond}
+use mathlib.Core.Path.{_≡_, sym, subst}
+use mathlib.Core.Bool.{Bool}
 use lib.ListN.{getD}
 use Rattle.held_tables.specs.Grouped.{needIn}
 use Rattle.held_tables.proofs.Sets.{Gathered, gathered-none, gathered-more, gathered-all, gathered-fits, bit-most}
@@ -19,17 +19,8 @@ abbrev μ-loop : tie.MeasureT-loop
 loop-holds : tie.Need-loop-holds Inv-loop μ-loop
 loop-holds c = let a = c .before .before .args in gathered-none (λ (q : ℕ). needIn (a .needs .now) (a .classes) (a .b) (getD (a .classes .lanes) q 0))
 
-sub-q : tie.Need-sub-q Inv-loop μ-loop
-sub-q c = search needs
-
 mul-set : tie.Need-mul-set Inv-loop μ-loop
 mul-set c = omega (arith, gathered-fits _ (c .before .loop .inv))
-
-mul-class-needs : tie.Need-mul-class-needs Inv-loop μ-loop
-mul-class-needs c = search needs
-
-array-read-class-needs : tie.Need-array-read-class-needs Inv-loop μ-loop
-array-read-class-needs c = search needs
 
 class-needs-requires : tie.Need-class-needs-requires Inv-loop μ-loop
 class-needs-requires c κs = let s = c .before .before .before .before in (s .pre .0, s .pre .1, s .pre .1 .lanes (c .before .loop .q - 1), s .pre .2)
@@ -39,9 +30,6 @@ bit-requires c κs = search needs
 
 add-set : tie.Need-add-set Inv-loop μ-loop
 add-set c = omega (arith, gathered-fits _ (c .before .before .before .loop .inv), c .bit .ensures, bit-most (c .before .class-needs .result))
-
-loop-less : tie.Need-loop-less Inv-loop μ-loop
-loop-less c = search needs
 
 loop-again : tie.Need-loop-again Inv-loop μ-loop
 loop-again c =
@@ -65,17 +53,5 @@ returns c =
 pub lane-set-spec : {M : Type 1} → statement M
 lane-set-spec =
     tie.close
-    (tie.spec
-    Inv-loop
-    μ-loop
-    loop-holds
-    sub-q
-    mul-set
-    mul-class-needs
-    array-read-class-needs
-    class-needs-requires
-    bit-requires
-    add-set
-    loop-less
-    loop-again
-    returns)
+    (tie.spec Inv-loop μ-loop loop-holds (λ c. search needs) mul-set (λ c. search needs) (λ c. search needs)
+    class-needs-requires bit-requires add-set (λ c. search needs) loop-again returns)

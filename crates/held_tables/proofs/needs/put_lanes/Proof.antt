@@ -22,26 +22,8 @@ loop-holds c = (omega arith, filled-none)
 lane-set-requires : tie.Need-lane-set-requires Inv-loop μ-loop
 lane-set-requires c κs = search needs
 
-add-u : tie.Need-add-u Inv-loop μ-loop
-add-u c = search needs
-
-mul-u : tie.Need-mul-u Inv-loop μ-loop
-mul-u c = search needs
-
-slice-write-u : tie.Need-slice-write-u Inv-loop μ-loop
-slice-write-u c = search needs
-
-add-b : tie.Need-add-b Inv-loop μ-loop
-add-b c = search needs
-
-loop-less : tie.Need-loop-less Inv-loop μ-loop
-loop-less c = search needs
-
 loop-again : tie.Need-loop-again Inv-loop μ-loop
 loop-again c = let s = c .before .before .before .before .before in (omega arith, filled-more (c .lane-set .result) (omega (arith, s .pre .2, s .pre .3)) (λ y h e. omega (arith, e)) (c .lane-set .ensures) (c .before .before .loop .inv .1))
-
-same-length : tie.Need-same-length Inv-loop μ-loop
-same-length c = search needs
 
 returns : tie.Need-returns Inv-loop μ-loop
 returns c =
@@ -53,16 +35,5 @@ returns c =
 pub put-lanes-spec : {M : Type 1} → statement M
 put-lanes-spec =
     tie.close
-    (tie.spec
-    Inv-loop
-    μ-loop
-    loop-holds
-    lane-set-requires
-    add-u
-    mul-u
-    slice-write-u
-    add-b
-    loop-less
-    loop-again
-    same-length
-    returns)
+    (tie.spec Inv-loop μ-loop loop-holds lane-set-requires (λ c. search needs) (λ c. search needs) (λ c. search needs)
+    (λ c. search needs) (λ c. search needs) loop-again (λ c. search needs) returns)

@@ -1,6 +1,6 @@
 -- `put_lists` writes a list for each holding part. The invariant: the first b are written.
 use Prim.Native.Nat.{ℕ, _-_, _≤_}
-use mathlib.Core.Path.{_≡_, subst, _∙_}
+use mathlib.Core.Path.{_≡_, subst}
 use Rattle.held_tables.specs.Fill.{Lists}
 use Rattle.held_tables.proofs.Lists.{lists-none, lists-more}
 use native.Mathlib.Omega.{arith}
@@ -20,24 +20,6 @@ loop-holds c = let a = c .before .before .args in (omega arith, lists-none (a .n
 put-list-requires : tie.Need-put-list-requires Inv-loop μ-loop
 put-list-requires c κs = search needs
 
-cast-u : tie.Need-cast-u Inv-loop μ-loop
-cast-u c = search needs
-
-add-u : tie.Need-add-u Inv-loop μ-loop
-add-u c = search needs
-
-mul-u : tie.Need-mul-u Inv-loop μ-loop
-mul-u c = search needs
-
-slice-write-u : tie.Need-slice-write-u Inv-loop μ-loop
-slice-write-u c = search needs
-
-add-b : tie.Need-add-b Inv-loop μ-loop
-add-b c = search needs
-
-loop-less : tie.Need-loop-less Inv-loop μ-loop
-loop-less c = search needs
-
 loop-again : tie.Need-loop-again Inv-loop μ-loop
 loop-again c =
     let l = c .before .before .before .before .before .loop in
@@ -45,9 +27,6 @@ loop-again c =
     let a = s .args in
     let p = c .before .before .put-list in
     (omega arith, lists-more (a .needs .now) (a .classes) (l .b) (p .result) (a .u .now) (l .u) (p .last .1 .1 .1 .0) (omega (arith, s .pre .2)) (s .pre .1 .most) (s .pre .3) (p .ensures) (l .inv .1))
-
-same-length : tie.Need-same-length Inv-loop μ-loop
-same-length c = search needs
 
 returns : tie.Need-returns Inv-loop μ-loop
 returns c =
@@ -59,17 +38,5 @@ returns c =
 pub put-lists-spec : {M : Type 1} → statement M
 put-lists-spec =
     tie.close
-    (tie.spec
-    Inv-loop
-    μ-loop
-    loop-holds
-    put-list-requires
-    cast-u
-    add-u
-    mul-u
-    slice-write-u
-    add-b
-    loop-less
-    loop-again
-    same-length
-    returns)
+    (tie.spec Inv-loop μ-loop loop-holds put-list-requires (λ c. search needs) (λ c. search needs) (λ c. search needs)
+    (λ c. search needs) (λ c. search needs) (λ c. search needs) loop-again (λ c. search needs) returns)

@@ -1,6 +1,5 @@
 -- `put_needs`: the removals, the sets of lanes, the lists of classes.
 use Rattle.held_tables.proofs.Filled.{needed}
-use native.Mathlib.Omega.{arith}
 use borrow.Author.Needs.{needs}
 use Rattle.held_tables.proofs.needs.put_needs.Statement.{statement}
 use Rattle.held_tables.proofs.needs.put_needs.Tie as tie
@@ -14,9 +13,6 @@ put-lanes-requires c κs = search needs
 put-lists-requires : tie.Need-put-lists-requires
 put-lists-requires c κs = search needs
 
-same-length : tie.Need-same-length
-same-length c = search needs
-
 returns : tie.Need-returns
 returns c =
     let lists = c .before .before in
@@ -29,4 +25,4 @@ returns c =
 pub put-needs-spec : {M : Type 1} → statement M
 put-needs-spec =
     tie.close
-    (tie.spec put-removals-requires put-lanes-requires put-lists-requires same-length returns)
+    (tie.spec put-removals-requires put-lanes-requires put-lists-requires (λ c. search needs) returns)

@@ -1,13 +1,13 @@
 -- `put_terms` makes the terms by classes. The invariant: they are the largest over the first q parts.
-use Prim.Native.Nat.{ℕ, _+_, _-_, _*_, _<_, _≤_}
-use mathlib.Core.Path.{_≡_, refl, sym, ap, subst, _∙_}
+use Prim.Native.Nat.{_-_, _*_, _<_, _≤_}
+use mathlib.Core.Path.{_≡_, refl, sym, subst, _∙_}
 use lib.ListN.{length, getD}
 use lib.IntN.{ℤ}
 use mir.Syntax.{w32}
 use mir.Val.{toZ, ofZ}
 use mir.Facts.{toZ-ofZ}
-use Rattle.search.specs.Arrays.{foursOf, sheetOf}
-use Rattle.search.proofs.Filling.{ready-back}
+use Rattle.search_tables.specs.Arrays.{foursOf, sheetOf}
+use Rattle.search_tables.proofs.Filling.{ready-back}
 use Rattle.held_rows.specs.Held.{HeldColumn, noLane}
 use Rattle.held_tables.specs.Sheet.{lanesOf}
 use Rattle.held_tables.specs.Fill.{Raised, Terms}
@@ -38,23 +38,11 @@ loop-holds c =
           (lanesOf (a .positions .now) (a .lives .now) (a .lefts .now) (a .prices .now) (a .classes .lanes)) (a .u .now) (k .last .0) (b .pre .2) (k .ensures),
     )
 
-mul-raise-part : tie.Need-mul-raise-part Inv-loop μ-loop
-mul-raise-part c = search needs
-
-array-read-raise-part : tie.Need-array-read-raise-part Inv-loop μ-loop
-array-read-raise-part c = search needs
-
 raise-part-requires : tie.Need-raise-part-requires Inv-loop μ-loop
 raise-part-requires c κs =
     let b = c .before .before .before .before .before .before .before .before .before .before .before .before .before .before .before in
     let l = c .before .before .before .loop in
     (ready-back (b .fits .end) (b .pre .0 .arrays) (omega (arith, b .pre .0 .room, l .inv .1)), b .pre .1 .lanes (l .q), l .inv .2 .size)
-
-add-q : tie.Need-add-q Inv-loop μ-loop
-add-q c = search needs
-
-loop-less : tie.Need-loop-less Inv-loop μ-loop
-loop-less c = search needs
 
 loop-again : tie.Need-loop-again Inv-loop μ-loop
 loop-again c =
@@ -77,12 +65,6 @@ loop-again c =
           (subst (λ (x : HeldColumn). Raised sheet (x .column) (x .class) (l .u) v) (sym is) (p .ensures)) (l .inv .2),
     )
 
-same-length : tie.Need-same-length Inv-loop μ-loop
-same-length c = search needs
-
-same-length-2 : tie.Need-same-length-2 Inv-loop μ-loop
-same-length-2 c = search needs
-
 returns : tie.Need-returns Inv-loop μ-loop
 returns c =
     let b = c .before .before .before .before .before .before .before .before .before .before .before .before .before in
@@ -96,17 +78,5 @@ returns c =
 pub put-terms-spec : {M : Type 1} → statement M
 put-terms-spec =
     tie.close
-    (tie.spec
-    Inv-loop
-    μ-loop
-    clear-requires
-    loop-holds
-    mul-raise-part
-    array-read-raise-part
-    raise-part-requires
-    add-q
-    loop-less
-    loop-again
-    same-length
-    same-length-2
-    returns)
+    (tie.spec Inv-loop μ-loop clear-requires loop-holds (λ c. search needs) (λ c. search needs) raise-part-requires
+    (λ c. search needs) (λ c. search needs) loop-again (λ c. search needs) (λ c. search needs) returns)

@@ -18,29 +18,11 @@ Inv-loop m n u₀ j₀ j-end u j = (j-end ≡ m + 1) × (j ≤ j-end) × FilledB
 abbrev μ-loop : tie.MeasureT-loop
 μ-loop m n u₀ j₀ j-end u j = j-end - j
 
-add-j-end : tie.Need-add-j-end Inv-loop μ-loop
-add-j-end c = search needs
-
 loop-holds : tie.Need-loop-holds Inv-loop μ-loop
 loop-holds c = (refl, omega arith, filled-none)
 
 top-of-requires : tie.Need-top-of-requires Inv-loop μ-loop
 top-of-requires c κs = search needs
-
-add-u : tie.Need-add-u Inv-loop μ-loop
-add-u c = search needs
-
-mul-u : tie.Need-mul-u Inv-loop μ-loop
-mul-u c = search needs
-
-slice-write-u : tie.Need-slice-write-u Inv-loop μ-loop
-slice-write-u c = search needs
-
-add-j : tie.Need-add-j Inv-loop μ-loop
-add-j c = search needs
-
-loop-less : tie.Need-loop-less Inv-loop μ-loop
-loop-less c = search needs
 
 loop-again : tie.Need-loop-again Inv-loop μ-loop
 loop-again c =
@@ -56,9 +38,6 @@ loop-again c =
           (l .inv .2),
     )
 
-same-length : tie.Need-same-length Inv-loop μ-loop
-same-length c = search needs
-
 returns : tie.Need-returns Inv-loop μ-loop
 returns c =
     let a = c .before .before .before .args in
@@ -69,17 +48,5 @@ returns c =
 pub put-tops-spec : {M : Type 1} → statement M
 put-tops-spec =
     tie.close
-    (tie.spec
-    Inv-loop
-    μ-loop
-    add-j-end
-    loop-holds
-    top-of-requires
-    add-u
-    mul-u
-    slice-write-u
-    add-j
-    loop-less
-    loop-again
-    same-length
-    returns)
+    (tie.spec Inv-loop μ-loop (λ c. search needs) loop-holds top-of-requires (λ c. search needs) (λ c. search needs)
+    (λ c. search needs) (λ c. search needs) (λ c. search needs) loop-again (λ c. search needs) returns)

@@ -6,7 +6,7 @@ use Rattle.least.specs.Filled.{FilledBy}
 use Rattle.least.proofs.Filled.{filled-none, filled-more}
 use Rattle.lane_rows.specs.Layout.{markCount, blockSize}
 use Rattle.lane_rows.proofs.Rising.{row-inside}
-use Rattle.search.specs.Fill.{ownOf}
+use Rattle.search_tables.specs.Fill.{ownOf}
 use Rattle.held_lanes.specs.Places.{offset}
 use Rattle.held_tables.specs.Fill.{Small}
 use Rattle.held_tables.proofs.Raising.{small-set}
@@ -24,17 +24,8 @@ abbrev μ-loop : tie.MeasureT-loop
 row-of-requires : tie.Need-row-of-requires Inv-loop μ-loop
 row-of-requires c κs = search needs
 
-mul-level : tie.Need-mul-level Inv-loop μ-loop
-mul-level c = search needs
-
-add-i-end : tie.Need-add-i-end Inv-loop μ-loop
-add-i-end c = search needs
-
 loop-holds : tie.Need-loop-holds Inv-loop μ-loop
 loop-holds c = (refl, omega arith, filled-none, λ s. s)
-
-mul-at : tie.Need-mul-at Inv-loop μ-loop
-mul-at c = search needs
 
 -- the place stands among the terms
 inside : (c : tie.In-loop Inv-loop μ-loop) → c .before .before .row-of .result * 16 + offset (c .before .loop .i) (c .before .before .before .before .before .args .c) < blockSize
@@ -43,29 +34,8 @@ inside c =
     let l = c .before .loop in
     omega (arith, row-inside (s .args .j) (l .i) markCount (omega (arith, c .loop-test .taken, l .inv .0)) (omega (arith, s .pre .0)), c .before .before .row-of .ensures .0, s .pre .1)
 
-add-at : tie.Need-add-at Inv-loop μ-loop
-add-at c = search needs
-
-add-at-2 : tie.Need-add-at-2 Inv-loop μ-loop
-add-at-2 c = search needs
-
-mul-larger : tie.Need-mul-larger Inv-loop μ-loop
-mul-larger c = search needs
-
 slice-read-larger : tie.Need-slice-read-larger Inv-loop μ-loop
 slice-read-larger c = omega (arith, inside (c .before), c .before .before .before .before .before .before .pre .3, c .before .before .loop .inv .2 .size)
-
-mul-capped : tie.Need-mul-capped Inv-loop μ-loop
-mul-capped c = search needs
-
-add-capped : tie.Need-add-capped Inv-loop μ-loop
-add-capped c = search needs
-
-mul-capped-2 : tie.Need-mul-capped-2 Inv-loop μ-loop
-mul-capped-2 c = search needs
-
-shared-slice-read-capped : tie.Need-shared-slice-read-capped Inv-loop μ-loop
-shared-slice-read-capped c = search needs
 
 capped-requires : tie.Need-capped-requires Inv-loop μ-loop
 capped-requires c κs = search needs
@@ -73,17 +43,8 @@ capped-requires c κs = search needs
 larger-requires : tie.Need-larger-requires Inv-loop μ-loop
 larger-requires c κs = search needs
 
-mul-u : tie.Need-mul-u Inv-loop μ-loop
-mul-u c = search needs
-
 slice-write-u : tie.Need-slice-write-u Inv-loop μ-loop
 slice-write-u c = omega (arith, inside (c .before .before .before .before), c .before .before .before .before .before .before .before .before .before .pre .3, c .before .before .before .before .before .loop .inv .2 .size)
-
-add-i : tie.Need-add-i Inv-loop μ-loop
-add-i c = search needs
-
-loop-less : tie.Need-loop-less Inv-loop μ-loop
-loop-less c = search needs
 
 loop-again : tie.Need-loop-again Inv-loop μ-loop
 loop-again c =
@@ -100,9 +61,6 @@ loop-again c =
       λ small. small-set (l .u) at (c .larger .result) (omega (arith, inside n, s .pre .3, l .inv .2 .size)) (omega (arith, is, small at (inside n))) (l .inv .3 small),
     )
 
-same-length : tie.Need-same-length Inv-loop μ-loop
-same-length c = search needs
-
 returns : tie.Need-returns Inv-loop μ-loop
 returns c =
     let l = c .before .loop in
@@ -112,28 +70,7 @@ returns c =
 pub raise-spec : {M : Type 1} → statement M
 raise-spec =
     tie.close
-    (tie.spec
-    Inv-loop
-    μ-loop
-    row-of-requires
-    mul-level
-    add-i-end
-    loop-holds
-    mul-at
-    add-at
-    add-at-2
-    mul-larger
-    slice-read-larger
-    mul-capped
-    add-capped
-    mul-capped-2
-    shared-slice-read-capped
-    capped-requires
-    larger-requires
-    mul-u
-    slice-write-u
-    add-i
-    loop-less
-    loop-again
-    same-length
-    returns)
+    (tie.spec Inv-loop μ-loop row-of-requires (λ c. search needs) (λ c. search needs) loop-holds (λ c. search needs)
+    (λ c. search needs) (λ c. search needs) (λ c. search needs) slice-read-larger (λ c. search needs)
+    (λ c. search needs) (λ c. search needs) (λ c. search needs) capped-requires larger-requires (λ c. search needs)
+    slice-write-u (λ c. search needs) (λ c. search needs) loop-again (λ c. search needs) returns)

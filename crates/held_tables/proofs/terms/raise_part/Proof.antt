@@ -10,8 +10,8 @@ use mir.Val.{toZ, ofZ}
 use mir.Facts.{toZ-ofZ}
 use Rattle.least.specs.Suffix.{Suffixes}
 use Rattle.least.proofs.Diff.{small-back}
-use Rattle.search.specs.Arrays.{lanePart, columnOf, sheetOf}
-use Rattle.search.proofs.Filling.{all-true, all-length, marks-small, lived-back}
+use Rattle.search_tables.specs.Arrays.{lanePart, columnOf, sheetOf}
+use Rattle.search_tables.proofs.Filling.{all-true, all-length, marks-small, lived-back}
 use Rattle.held_tables.proofs.Raising.{raised-by}
 use Rattle.held_tables.proofs.terms.raise_part.Statement.{statement}
 use Rattle.held_tables.proofs.terms.raise_part.Tie as tie
@@ -21,9 +21,6 @@ start c = c .before .before .before .before .before .before .before
 
 lane-life-requires : tie.Need-lane-life-requires
 lane-life-requires c κs = search needs
-
-array-share-prefix-all : tie.Need-array-share-prefix-all
-array-share-prefix-all c = search needs
 
 slice-aggregate-fill : tie.Need-slice-aggregate-fill
 slice-aggregate-fill c = let s = start (c .before) in sym (all-length (length (s .args .positions .now)) 64 (s .pre .0 .arrays .few))
@@ -42,17 +39,8 @@ fill-requires c κs =
       late = small-back (s .args .end) (omega (arith, r .late));
     }
 
-add-raise-rows : tie.Need-add-raise-rows
-add-raise-rows c = search needs
-
 raise-rows-requires : tie.Need-raise-rows-requires
 raise-rows-requires c κs = search needs
-
-same-length : tie.Need-same-length
-same-length c = search needs
-
-same-length-2 : tie.Need-same-length-2
-same-length-2 c = search needs
 
 returns : tie.Need-returns
 returns c =
@@ -78,13 +66,5 @@ returns c =
 pub raise-part-spec : {M : Type 1} → statement M
 raise-part-spec =
     tie.close
-    (tie.spec
-    lane-life-requires
-    array-share-prefix-all
-    slice-aggregate-fill
-    fill-requires
-    add-raise-rows
-    raise-rows-requires
-    same-length
-    same-length-2
-    returns)
+    (tie.spec lane-life-requires (λ c. search needs) slice-aggregate-fill fill-requires (λ c. search needs)
+    raise-rows-requires (λ c. search needs) (λ c. search needs) returns)

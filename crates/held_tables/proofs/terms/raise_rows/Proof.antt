@@ -3,8 +3,8 @@ use Prim.Native.Nat.{ℕ, _-_, _≤_, max}
 use mathlib.Core.Path.{_≡_, ap, subst, _∙_}
 use lib.ListN.{getD}
 use Rattle.lane_rows.proofs.Rising.{row-below}
-use Rattle.search.specs.Fill.{Triangle, ownOf}
-use Rattle.search.proofs.Triangles.{triangle-none, triangle-more}
+use Rattle.search_tables.specs.Fill.{Triangle, ownOf}
+use Rattle.search_tables.proofs.Triangles.{triangle-none, triangle-more}
 use Rattle.held_lanes.specs.Places.{classPlace}
 use Rattle.held_tables.specs.Fill.{Small}
 use native.Mathlib.Omega.{arith}
@@ -27,12 +27,6 @@ raise-requires c κs =
     let p = l .before .before .before .pre in
     (omega (arith, p .0, c .before .loop-test .taken), p .1, p .2, l .loop .inv .1 .size ∙ p .3)
 
-add-j : tie.Need-add-j Inv-loop μ-loop
-add-j c = search needs
-
-loop-less : tie.Need-loop-less Inv-loop μ-loop
-loop-less c = search needs
-
 loop-again : tie.Need-loop-again Inv-loop μ-loop
 loop-again c =
     let l = c .before .before .before .before .before in
@@ -49,9 +43,6 @@ loop-again c =
       λ small. c .before .before .raise .ensures .1 (l .loop .inv .2 small),
     )
 
-same-length : tie.Need-same-length Inv-loop μ-loop
-same-length c = search needs
-
 returns : tie.Need-returns Inv-loop μ-loop
 returns c =
     let l = c .before in
@@ -63,13 +54,5 @@ returns c =
 pub raise-rows-spec : {M : Type 1} → statement M
 raise-rows-spec =
     tie.close
-    (tie.spec
-    Inv-loop
-    μ-loop
-    loop-holds
-    raise-requires
-    add-j
-    loop-less
-    loop-again
-    same-length
-    returns)
+    (tie.spec Inv-loop μ-loop loop-holds raise-requires (λ c. search needs) (λ c. search needs) loop-again
+    (λ c. search needs) returns)

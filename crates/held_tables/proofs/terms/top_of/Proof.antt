@@ -1,6 +1,6 @@
 -- `top_of` is the largest. The invariant: of the first classes it is.
 use Prim.Native.Nat.{ℕ, _+_, _-_, _*_, _≤_}
-use mathlib.Core.Path.{_≡_, ap, subst, _∙_}
+use mathlib.Core.Path.{_≡_, _∙_}
 use lib.ListN.{getD}
 use Rattle.lane_rows.specs.Layout.{laneCount}
 use Rattle.lane_rows.proofs.Rising.{row-inside}
@@ -20,23 +20,8 @@ abbrev μ-loop : tie.MeasureT-loop
 row-of-requires : tie.Need-row-of-requires Inv-loop μ-loop
 row-of-requires c κs = search needs
 
-mul-level : tie.Need-mul-level Inv-loop μ-loop
-mul-level c = search needs
-
 loop-holds : tie.Need-loop-holds Inv-loop μ-loop
 loop-holds c = let a = c .before .before .args in (omega arith, most-none (λ (x : ℕ). getD (a .u .now) (c .row-of .result * 16 + (a .j * laneCount + x)) 0))
-
-mul-larger : tie.Need-mul-larger Inv-loop μ-loop
-mul-larger c = search needs
-
-add-larger : tie.Need-add-larger Inv-loop μ-loop
-add-larger c = search needs
-
-add-larger-2 : tie.Need-add-larger-2 Inv-loop μ-loop
-add-larger-2 c = search needs
-
-mul-larger-2 : tie.Need-mul-larger-2 Inv-loop μ-loop
-mul-larger-2 c = search needs
 
 shared-slice-read-larger : tie.Need-shared-slice-read-larger Inv-loop μ-loop
 shared-slice-read-larger c =
@@ -46,12 +31,6 @@ shared-slice-read-larger c =
 
 larger-requires : tie.Need-larger-requires Inv-loop μ-loop
 larger-requires c κs = search needs
-
-add-c : tie.Need-add-c Inv-loop μ-loop
-add-c c = search needs
-
-loop-less : tie.Need-loop-less Inv-loop μ-loop
-loop-less c = search needs
 
 loop-again : tie.Need-loop-again Inv-loop μ-loop
 loop-again c =
@@ -71,19 +50,6 @@ returns c =
 pub top-of-spec : {M : Type 1} → statement M
 top-of-spec =
     tie.close
-    (tie.spec
-    Inv-loop
-    μ-loop
-    row-of-requires
-    mul-level
-    loop-holds
-    mul-larger
-    add-larger
-    add-larger-2
-    mul-larger-2
-    shared-slice-read-larger
-    larger-requires
-    add-c
-    loop-less
-    loop-again
-    returns)
+    (tie.spec Inv-loop μ-loop row-of-requires (λ c. search needs) loop-holds (λ c. search needs) (λ c. search needs)
+    (λ c. search needs) (λ c. search needs) shared-slice-read-larger larger-requires (λ c. search needs)
+    (λ c. search needs) loop-again returns)

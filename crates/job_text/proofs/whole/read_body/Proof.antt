@@ -6,7 +6,7 @@ use Rattle.lines.specs.Text.{bytes}
 use Rattle.lines.specs.Parser.{row}
 use Rattle.lines.specs.Cursor.{Stands, Reads, rowAnswer}
 use Rattle.lines.proofs.Parsing.{bind-good, bind-fault, row-line, line-inside, line-reads, got-value, got-fault, got-place, got-most, end-value, end-fault, end-place, map-read}
-use Rattle.job_text.specs.Grammar.{PartText, JobText, parts, body}
+use Rattle.job_grammar.specs.Grammar.{PartText, JobText, parts, body}
 use Rattle.job_text.specs.Views.{textOf}
 use Rattle.job_text.specs.declared.whole.JobText as code
 use Rattle.job_text.proofs.Views.{refuse, text-means}
@@ -17,9 +17,6 @@ use Rattle.job_text.proofs.whole.read_body.Tie as tie
 read-openings-requires : tie.Need-read-openings-requires
 read-openings-requires c κs = search needs
 
-enum-known-os-end : tie.Need-enum-known-os-end
-enum-known-os-end c = search needs
-
 stood : (c : tie.After-os-end) → Stands (c .before .before .before .before .args .text .now) (c .os-end .given .0 .0)
 stood c = end-place _ (c .before .before .read-openings .ensures) (c .os-end .given .1)
 
@@ -29,23 +26,11 @@ sub-read-field c = stood (c .before) .inside
 part-read-field-start : tie.Need-part-read-field-start
 part-read-field-start c = stood (c .before) .inside
 
-part-read-field-end : tie.Need-part-read-field-end
-part-read-field-end c = search needs
-
-slice-aggregate-read-field : tie.Need-slice-aggregate-read-field
-slice-aggregate-read-field c = search needs
-
 read-field-requires : tie.Need-read-field-requires
 read-field-requires c κs = search needs
 
 advance-requires : tie.Need-advance-requires
 advance-requires c κs = let s = stood (c .before .before .before .before) in (s, line-inside _ (c .before .before .before .before .os-end .given .0 .0) (row-line _ 1 16 _ (c .read-field .ensures)) s)
-
-enum-known-m : tie.Need-enum-known-m
-enum-known-m c = search needs
-
-cast-part-count : tie.Need-cast-part-count
-cast-part-count c = search needs
 
 -- the line of the number of parts, read in the whole text
 count : (c : tie.After-advance) → let q = c .before .before .before .before .before .os-end .given .0 .0 in let text = c .before .before .before .before .before .before .before .before .before .args .text .now in Reads text (rowAnswer (c .advance .result)) (row "parts=" 1 16 (drop (q .at) text) (q .line))
@@ -58,17 +43,8 @@ read-parts-requires c κs =
     let m = ap rowAnswer (c .before .m .given .1) in
     (got-place e m, (got-most _ _ 1 16 _ e m, c .before .before .before .before .before .before .before .before .before .before .before .before .pre .2))
 
-enum-known-k : tie.Need-enum-known-k
-enum-known-k c = search needs
-
 no-job-requires : tie.Need-no-job-requires
 no-job-requires c κs = search needs
-
-enum-known-os-end-2 : tie.Need-enum-known-os-end-2
-enum-known-os-end-2 c = search needs
-
-no-job-requires-2 : tie.Need-no-job-requires-2
-no-job-requires-2 c κs = search needs
 
 returns : tie.Need-returns
 unfolding body
@@ -119,22 +95,7 @@ returns-3 c = refuse _ (c .no-job2 .ensures) (bind-fault _ _ (end-fault _ (c .be
 pub read-body-spec : {M : Type 1} → statement M
 read-body-spec =
     tie.close
-    (tie.spec
-    read-openings-requires
-    enum-known-os-end
-    sub-read-field
-    part-read-field-start
-    part-read-field-end
-    slice-aggregate-read-field
-    read-field-requires
-    advance-requires
-    enum-known-m
-    cast-part-count
-    read-parts-requires
-    enum-known-k
-    no-job-requires
-    enum-known-os-end-2
-    no-job-requires-2
-    returns
-    returns-2
-    returns-3)
+    (tie.spec read-openings-requires (λ c. search needs) sub-read-field part-read-field-start (λ c. search needs)
+    (λ c. search needs) read-field-requires advance-requires (λ c. search needs) (λ c. search needs)
+    read-parts-requires (λ c. search needs) no-job-requires (λ c. search needs) (λ c κs. search needs) returns
+    returns-2 returns-3)

@@ -2,7 +2,7 @@
 use mathlib.Core.Path.{ap, _∙_}
 use Rattle.lines.specs.Cursor.{judged}
 use Rattle.lines.proofs.Parsing.{close-read, text-long, text-fits}
-use Rattle.job_text.specs.Grammar.{JobText, maxBytes, jobLines}
+use Rattle.job_grammar.specs.Grammar.{JobText, maxBytes, jobLines}
 use Rattle.job_text.specs.Views.{textOf}
 use Rattle.lines.specs.declared.rows.WholeText.{WholeText}
 use borrow.Author.Needs.{needs}

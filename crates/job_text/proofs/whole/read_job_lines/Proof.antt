@@ -5,23 +5,11 @@ use Rattle.lines.specs.Text.{bytes}
 use Rattle.lines.specs.Parser.{row}
 use Rattle.lines.specs.Cursor.{Reads, rowAnswer}
 use Rattle.lines.proofs.Parsing.{bind-good, bind-fault, row-line, line-inside, line-reads, got-value, got-fault, got-place, end-value, end-fault, end-place}
-use Rattle.job_text.specs.Grammar.{jobLines}
+use Rattle.job_grammar.specs.Grammar.{jobLines}
 use Rattle.job_text.proofs.Views.{refuse}
 use borrow.Author.Needs.{needs}
 use Rattle.job_text.proofs.whole.read_job_lines.Statement.{statement}
 use Rattle.job_text.proofs.whole.read_job_lines.Tie as tie
-
-sub-read-field : tie.Need-sub-read-field
-sub-read-field c = search needs
-
-part-read-field-start : tie.Need-part-read-field-start
-part-read-field-start c = search needs
-
-part-read-field-end : tie.Need-part-read-field-end
-part-read-field-end c = search needs
-
-slice-aggregate-read-field : tie.Need-slice-aggregate-read-field
-slice-aggregate-read-field c = search needs
 
 read-field-requires : tie.Need-read-field-requires
 read-field-requires c κs = search needs
@@ -31,9 +19,6 @@ advance-requires c κs =
     let st = c .before .before .before .before in
     (st .pre, line-inside _ (st .args .p) (row-line _ 2 365 _ (c .read-field .ensures)) (st .pre))
 
-enum-known-horizon : tie.Need-enum-known-horizon
-enum-known-horizon c = search needs
-
 -- the horizon's line, read in the whole text
 horizon : (c : tie.After-advance) → let a = c .before .before .before .before .before .args in Reads (a .text .now) (rowAnswer (c .advance .result)) (row "horizon=" 2 365 (drop (a .p .at) (a .text .now)) (a .p .line))
 unfolding bytes
@@ -42,23 +27,11 @@ horizon c = line-reads _ (c .before .before .before .before .before .args .p) (r
 read-idles-requires : tie.Need-read-idles-requires
 read-idles-requires c κs = got-place (horizon (c .before .before .before)) (ap rowAnswer (c .before .horizon .given .1))
 
-enum-known-steps-end : tie.Need-enum-known-steps-end
-enum-known-steps-end c = search needs
-
 read-rest-requires : tie.Need-read-rest-requires
 read-rest-requires c κs = let e = c .before .before .before .read-idles .ensures in (end-place _ (e .reads) (c .before .steps-end .given .1), e .sized)
 
-enum-known-steps-end-2 : tie.Need-enum-known-steps-end-2
-enum-known-steps-end-2 c = search needs
-
 no-job-requires : tie.Need-no-job-requires
 no-job-requires c κs = search needs
-
-enum-known-k : tie.Need-enum-known-k
-enum-known-k c = search needs
-
-no-job-requires-2 : tie.Need-no-job-requires-2
-no-job-requires-2 c κs = search needs
 
 returns : tie.Need-returns
 unfolding jobLines
@@ -89,21 +62,6 @@ returns-3 c = refuse _ (c .no-job2 .ensures) (bind-fault _ _ (got-fault (horizon
 pub read-job-lines-spec : {M : Type 1} → statement M
 read-job-lines-spec =
     tie.close
-    (tie.spec
-    sub-read-field
-    part-read-field-start
-    part-read-field-end
-    slice-aggregate-read-field
-    read-field-requires
-    advance-requires
-    enum-known-horizon
-    read-idles-requires
-    enum-known-steps-end
-    read-rest-requires
-    enum-known-steps-end-2
-    no-job-requires
-    enum-known-k
-    no-job-requires-2
-    returns
-    returns-2
-    returns-3)
+    (tie.spec (λ c. search needs) (λ c. search needs) (λ c. search needs) (λ c. search needs) read-field-requires
+    advance-requires (λ c. search needs) read-idles-requires (λ c. search needs) read-rest-requires
+    (λ c. search needs) no-job-requires (λ c. search needs) (λ c κs. search needs) returns returns-2 returns-3)

@@ -5,23 +5,11 @@ use Rattle.lines.specs.Text.{bytes}
 use Rattle.lines.specs.Parser.{row}
 use Rattle.lines.specs.Cursor.{Stands, Reads, rowAnswer}
 use Rattle.lines.proofs.Parsing.{bind-good, bind-fault, row-line, line-inside, line-reads, got-value, got-fault, got-place, got-most}
-use Rattle.job_text.specs.Grammar.{rest}
+use Rattle.job_grammar.specs.Grammar.{rest}
 use Rattle.job_text.proofs.Views.{refuse}
 use borrow.Author.Needs.{needs}
 use Rattle.job_text.proofs.whole.read_rest.Statement.{statement}
 use Rattle.job_text.proofs.whole.read_rest.Tie as tie
-
-sub-read-field : tie.Need-sub-read-field
-sub-read-field c = search needs
-
-part-read-field-start : tie.Need-part-read-field-start
-part-read-field-start c = search needs
-
-part-read-field-end : tie.Need-part-read-field-end
-part-read-field-end c = search needs
-
-slice-aggregate-read-field : tie.Need-slice-aggregate-read-field
-slice-aggregate-read-field c = search needs
 
 read-field-requires : tie.Need-read-field-requires
 read-field-requires c κs = search needs
@@ -30,9 +18,6 @@ advance-requires : tie.Need-advance-requires
 advance-requires c κs =
     let st = c .before .before .before .before in
     (st .pre .0, line-inside _ (st .args .p) (row-line _ 0 4000000000 _ (c .read-field .ensures)) (st .pre .0))
-
-enum-known-walk : tie.Need-enum-known-walk
-enum-known-walk c = search needs
 
 -- the walk's line, read in the whole text
 walk : (c : tie.After-advance) → let a = c .before .before .before .before .before .args in Reads (a .text .now) (rowAnswer (c .advance .result)) (row "walk=" 0 4000000000 (drop (a .p .at) (a .text .now)) (a .p .line))
@@ -48,23 +33,11 @@ sub-read-field-2 c = stood (c .before) .inside
 part-read-field-start-2 : tie.Need-part-read-field-start-2
 part-read-field-start-2 c = stood (c .before) .inside
 
-part-read-field-end-2 : tie.Need-part-read-field-end-2
-part-read-field-end-2 c = search needs
-
-slice-aggregate-read-field-2 : tie.Need-slice-aggregate-read-field-2
-slice-aggregate-read-field-2 c = search needs
-
 read-field-requires-2 : tie.Need-read-field-requires-2
 read-field-requires-2 c κs = search needs
 
 advance-requires-2 : tie.Need-advance-requires-2
 advance-requires-2 c κs = let s = stood (c .before .before .before .before) in (s, line-inside _ (c .before .before .before .before .walk .given .0 .1 .0) (row-line _ 0 64 _ (c .read-field2 .ensures)) s)
-
-enum-known-n : tie.Need-enum-known-n
-enum-known-n c = search needs
-
-cast-read-body : tie.Need-cast-read-body
-cast-read-body c = search needs
 
 -- the line of the number of openings, read in the whole text
 count : (c : tie.After-advance2) → let q = c .before .before .before .before .before .walk .given .0 .1 .0 in let text = c .before .before .before .before .before .before .before .before .before .before .before .before .args .text .now in Reads text (rowAnswer (c .advance2 .result)) (row "openings=" 0 64 (drop (q .at) text) (q .line))
@@ -77,17 +50,8 @@ read-body-requires c κs =
     let m = ap rowAnswer (c .before .n .given .1) in
     (got-place e m, c .before .before .before .before .before .before .before .before .before .before .before .before .before .before .before .pre .1, got-most _ _ 0 64 _ e m)
 
-enum-known-k : tie.Need-enum-known-k
-enum-known-k c = search needs
-
 no-job-requires : tie.Need-no-job-requires
 no-job-requires c κs = search needs
-
-enum-known-k-2 : tie.Need-enum-known-k-2
-enum-known-k-2 c = search needs
-
-no-job-requires-2 : tie.Need-no-job-requires-2
-no-job-requires-2 c κs = search needs
 
 returns : tie.Need-returns
 unfolding rest
@@ -118,27 +82,8 @@ returns-3 c = refuse _ (c .no-job2 .ensures) (bind-fault _ _ (got-fault (walk (c
 pub read-rest-spec : {M : Type 1} → statement M
 read-rest-spec =
     tie.close
-    (tie.spec
-    sub-read-field
-    part-read-field-start
-    part-read-field-end
-    slice-aggregate-read-field
-    read-field-requires
-    advance-requires
-    enum-known-walk
-    sub-read-field-2
-    part-read-field-start-2
-    part-read-field-end-2
-    slice-aggregate-read-field-2
-    read-field-requires-2
-    advance-requires-2
-    enum-known-n
-    cast-read-body
-    read-body-requires
-    enum-known-k
-    no-job-requires
-    enum-known-k-2
-    no-job-requires-2
-    returns
-    returns-2
-    returns-3)
+    (tie.spec (λ c. search needs) (λ c. search needs) (λ c. search needs) (λ c. search needs) read-field-requires
+    advance-requires (λ c. search needs) sub-read-field-2 part-read-field-start-2 (λ c. search needs)
+    (λ c. search needs) read-field-requires-2 advance-requires-2 (λ c. search needs) (λ c. search needs)
+    read-body-requires (λ c. search needs) no-job-requires (λ c. search needs) (λ c κs. search needs) returns
+    returns-2 returns-3)

@@ -17,9 +17,6 @@ abbrev μ-loop : tie.MeasureT-loop
 loop-holds : tie.Need-loop-holds Inv-loop μ-loop
 loop-holds c = omega arith
 
-shared-slice-read-b : tie.Need-shared-slice-read-b Inv-loop μ-loop
-shared-slice-read-b c = omega arith
-
 returns : tie.Need-returns Inv-loop μ-loop
 returns c =
     let i = c .before .before .before .loop .i in
@@ -31,12 +28,6 @@ returns-2 c =
     let i = c .before .before .before .before .loop .i in
     let s = c .before .before .before .before .before .args .s .now in
     omega (arith, ap length (digits-stop s i (c .before .before .before .loop-test .taken) (digit-high _ (c .before .if1 .left) (c .if2 .taken))))
-
-add-i : tie.Need-add-i Inv-loop μ-loop
-add-i c = omega arith
-
-loop-less : tie.Need-loop-less Inv-loop μ-loop
-loop-less c = omega arith
 
 loop-again : tie.Need-loop-again Inv-loop μ-loop
 loop-again c =
@@ -50,14 +41,5 @@ returns-3 c = omega (arith, ap length (digits-end (c .before .before .args .s .n
 pub digit-run-spec : {M : Type 1} → statement M
 digit-run-spec =
     tie.close
-    (tie.spec
-    Inv-loop
-    μ-loop
-    loop-holds
-    shared-slice-read-b
-    returns
-    returns-2
-    add-i
-    loop-less
-    loop-again
-    returns-3)
+    (tie.spec Inv-loop μ-loop loop-holds (λ c. omega arith) returns returns-2 (λ c. omega arith) (λ c. omega arith)
+    loop-again returns-3)

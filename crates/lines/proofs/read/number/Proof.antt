@@ -35,12 +35,6 @@ cast-v c = omega (arith, here (c .before))
 add-v : tie.Need-add-v Inv-loop μ-loop
 add-v c = omega (arith, here (c .before), pow-nine (c .before .before .loop .i) (omega arith))
 
-add-i : tie.Need-add-i Inv-loop μ-loop
-add-i c = omega arith
-
-loop-less : tie.Need-loop-less Inv-loop μ-loop
-loop-less c = omega arith
-
 loop-again : tie.Need-loop-again Inv-loop μ-loop
 loop-again c =
     let d = here (c .before) in
@@ -52,16 +46,5 @@ returns c = number-end _ _ (omega arith) ∙ sym (c .before .loop .inv .3)
 pub number-spec : {M : Type 1} → statement M
 number-spec =
     tie.close
-    (tie.spec
-    Inv-loop
-    μ-loop
-    loop-holds
-    mul-v
-    shared-slice-read-v
-    sub-v
-    cast-v
-    add-v
-    add-i
-    loop-less
-    loop-again
-    returns)
+    (tie.spec Inv-loop μ-loop loop-holds mul-v shared-slice-read-v sub-v cast-v add-v (λ c. omega arith)
+    (λ c. omega arith) loop-again returns)

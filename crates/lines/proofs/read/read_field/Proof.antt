@@ -9,20 +9,11 @@ use Rattle.lines.proofs.read.read_field.Tie as tie
 read-line-requires : tie.Need-read-line-requires
 read-line-requires c κs = search needs
 
-enum-known-v : tie.Need-enum-known-v
-enum-known-v c = search needs
-
 returns : tie.Need-returns
 returns c = field-low _ _ _ _ (sym (c .before .before .before .before .read-line .ensures) ∙ c .before .before .v .given .1) (omega arith)
 
 returns-2 : tie.Need-returns-2
 returns-2 c = field-high _ _ _ _ (sym (c .before .before .before .before .before .read-line .ensures) ∙ c .before .before .before .v .given .1) (omega arith) (omega arith)
-
-cast-t11 : tie.Need-cast-t11
-cast-t11 c = search needs
-
-enum-told : tie.Need-enum-told
-enum-told c = search needs
 
 returns-3 : tie.Need-returns-3
 returns-3 c = field-good _ _ _ _ (sym (c .before .before .before .before .before .read-line .ensures) ∙ c .before .before .before .v .given .1) (omega arith) (omega arith)
@@ -33,12 +24,5 @@ returns-4 c = field-none _ _ _ _ (sym (c .before .before .read-line .ensures) �
 pub read-field-spec : {M : Type 1} → statement M
 read-field-spec =
     tie.close
-    (tie.spec
-    read-line-requires
-    enum-known-v
-    returns
-    returns-2
-    cast-t11
-    enum-told
-    returns-3
-    returns-4)
+    (tie.spec read-line-requires (λ c. search needs) returns returns-2 (λ c. search needs) (λ c. search needs)
+    returns-3 returns-4)

@@ -18,14 +18,8 @@ sub-read-value c = starts-le _ _ (sym (c .before .starts-with .ensures) ∙ c .i
 part-read-value-start : tie.Need-part-read-value-start
 part-read-value-start c = starts-le _ _ (sym (c .before .starts-with .ensures) ∙ c .if1 .taken)
 
-part-read-value-end : tie.Need-part-read-value-end
-part-read-value-end c = search needs
-
 read-value-requires : tie.Need-read-value-requires
 read-value-requires c κs = search needs
-
-enum-known-v : tie.Need-enum-known-v
-enum-known-v c = search needs
 
 got : (c : tie.After-known-told) → let a = c .before .before .before .before .before .before .before .before .before .args in
     readValue (drop (length (a .key .now)) (a .s .now)) ≡ Value (c .before .v .given .0 .0) (c .before .v .given .0 .1 .0)
@@ -36,9 +30,6 @@ add-t14 c =
     let at = c .before .before .before .before .before .before in
     let st = at .before .before .before in
     omega (arith, subst (Within _) (got c) (value-within _), length-drop (length (st .args .key .now)) (st .args .s .now), starts-le _ _ (sym (at .starts-with .ensures) ∙ c .before .before .before .before .before .if1 .taken), st)
-
-enum-told : tie.Need-enum-told
-enum-told c = search needs
 
 returns : tie.Need-returns
 returns c =
@@ -56,15 +47,5 @@ returns-3 c = line-not _ _ (sym (c .before .starts-with .ensures) ∙ c .if1 .le
 pub read-line-spec : {M : Type 1} → statement M
 read-line-spec =
     tie.close
-    (tie.spec
-    starts-with-requires
-    sub-read-value
-    part-read-value-start
-    part-read-value-end
-    read-value-requires
-    enum-known-v
-    add-t14
-    enum-told
-    returns
-    returns-2
-    returns-3)
+    (tie.spec starts-with-requires sub-read-value part-read-value-start (λ c. search needs) read-value-requires
+    (λ c. search needs) add-t14 (λ c. search needs) returns returns-2 returns-3)

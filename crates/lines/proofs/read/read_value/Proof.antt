@@ -19,23 +19,14 @@ returns-2 c = long-bad _ _ (c .before .before .digit-run .ensures) (c .if2 .take
 returns-3 : tie.Need-returns-3
 returns-3 c = mark-bad _ _ (c .before .before .before .digit-run .ensures) (λ e. omega (arith, List·getD-eq-default (c .before .before .before .before .before .args .s .now) 0 (c .if3 .taken)))
 
-shared-slice-read-if4 : tie.Need-shared-slice-read-if4
-shared-slice-read-if4 c = search needs
-
 returns-4 : tie.Need-returns-4
 returns-4 c = mark-bad _ _ (c .before .before .before .before .before .digit-run .ensures) (c .if4 .taken)
-
-shared-slice-read-if6 : tie.Need-shared-slice-read-if6
-shared-slice-read-if6 c = search needs
 
 returns-5 : tie.Need-returns-5
 returns-5 c = zero-bad _ _ (c .before .before .before .before .before .before .before .before .digit-run .ensures) (omega arith) (c .if6 .taken)
 
 number-requires : tie.Need-number-requires
 number-requires c κs = search needs
-
-add-t4 : tie.Need-add-t4
-add-t4 c = search needs
 
 returns-6 : tie.Need-returns-6
 returns-6 c =
@@ -45,15 +36,5 @@ returns-6 c =
 pub read-value-spec : {M : Type 1} → statement M
 read-value-spec =
     tie.close
-    (tie.spec
-    digit-run-requires
-    returns
-    returns-2
-    returns-3
-    shared-slice-read-if4
-    returns-4
-    shared-slice-read-if6
-    returns-5
-    number-requires
-    add-t4
-    returns-6)
+    (tie.spec digit-run-requires returns returns-2 returns-3 (λ c. search needs) returns-4 (λ c. search needs)
+    returns-5 number-requires (λ c. search needs) returns-6)

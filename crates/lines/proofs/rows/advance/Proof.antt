@@ -9,21 +9,12 @@ use Rattle.lines.proofs.Parsing.{taken-good, taken-fault, stands-after}
 use Rattle.lines.proofs.rows.advance.Statement.{statement}
 use Rattle.lines.proofs.rows.advance.Tie as tie
 
-enum-known-field : tie.Need-enum-known-field
-enum-known-field c = search needs
-
 -- the field's line ends in the text
 within : (c : tie.After-field) → let a = c .before .before .args in Inside (a .text .now) (a .p .at) (Value (c .field .given .0 .0) (c .field .given .0 .1 .0))
 within c = subst (Inside _ _) (c .field .given .1) (c .before .before .pre .1)
 
 add-t10 : tie.Need-add-t10
 add-t10 c = omega (arith, within (c .before))
-
-add-t11 : tie.Need-add-t11
-add-t11 c = search needs
-
-enum-known-field-2 : tie.Need-enum-known-field-2
-enum-known-field-2 c = search needs
 
 returns : tie.Need-returns
 returns c =
@@ -37,4 +28,4 @@ returns-2 c =
     record { is = taken-fault (a .text .now) (a .p .at) (a .p .line) _ ∙ ap (taken _ _) (sym (c .before .field2 .given .1)); stands = tt }
 
 pub advance-spec : {M : Type 1} → statement M
-advance-spec = tie.close (tie.spec enum-known-field add-t10 add-t11 enum-known-field-2 returns returns-2)
+advance-spec = tie.close (tie.spec (λ c. search needs) add-t10 (λ c. search needs) (λ c. search needs) returns returns-2)

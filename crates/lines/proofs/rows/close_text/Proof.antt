@@ -5,15 +5,9 @@ use Rattle.lines.specs.Cursor.{closed}
 use Rattle.lines.proofs.rows.close_text.Statement.{statement}
 use Rattle.lines.proofs.rows.close_text.Tie as tie
 
-enum-known-end : tie.Need-enum-known-end
-enum-known-end c = search needs
-
 returns : tie.Need-returns
 unfolding closed
 returns c = rw (c .before .before .end .given .1, closed, lt-ltb _ _ (c .if1 .taken))
-
-enum-known-end-2 : tie.Need-enum-known-end-2
-enum-known-end-2 c = search needs
 
 returns-2 : tie.Need-returns-2
 unfolding closed
@@ -24,4 +18,4 @@ unfolding closed
 returns-3 c = rw (c .before .end2 .given .1)
 
 pub close-text-spec : {M : Type 1} → statement M
-close-text-spec = tie.close (tie.spec enum-known-end returns enum-known-end-2 returns-2 returns-3)
+close-text-spec = tie.close (tie.spec (λ c. search needs) returns (λ c. search needs) returns-2 returns-3)

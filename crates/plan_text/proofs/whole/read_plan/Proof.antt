@@ -8,10 +8,10 @@ use Rattle.lines.specs.declared.rows.WholeText.{WholeText}
 use Rattle.lines.proofs.Parsing.{close-read, text-fits}
 use Rattle.model.specs.Model as model
 use Rattle.jobs.specs.Views.{jobOf}
-use Rattle.plan_text.specs.Grammar.{Stated, maxBytes, planLines}
+use Rattle.plan_grammar.specs.Grammar.{Stated, maxBytes, planLines}
 use Rattle.plan_text.specs.Views.{statedFor}
-use Rattle.plan_text.proofs.Marks.{empty-made}
-use Rattle.plan_text.proofs.Nothing.{read-none, read-lines, read-long}
+use Rattle.plan_stops.proofs.Marks.{empty-made}
+use Rattle.plan_grammar.proofs.Nothing.{read-none, read-lines, read-long}
 use Rattle.plan_text.proofs.whole.read_plan.Statement.{statement}
 use Rattle.plan_text.proofs.whole.read_plan.Tie as tie
 
@@ -48,11 +48,5 @@ returns-3 c =
 pub read-plan-spec : {M : Type 1} → statement M
 read-plan-spec =
     tie.close
-    (tie.spec
-    empty-requires
-    returns
-    empty-requires-2
-    returns-2
-    read-plan-lines-requires
-    close-text-requires
+    (tie.spec empty-requires returns empty-requires-2 returns-2 read-plan-lines-requires close-text-requires
     returns-3)

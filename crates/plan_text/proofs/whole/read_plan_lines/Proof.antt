@@ -9,21 +9,9 @@ use Rattle.lines.specs.Cursor.{Stands, Reads, rowAnswer, ended}
 use Rattle.lines.proofs.Parsing.{bind-good, bind-fault, row-line, line-inside, line-reads, got-value, got-fault, got-place, map-read, fault-read}
 use Rattle.model.specs.Model as model
 use Rattle.jobs.specs.Views.{jobOf}
-use Rattle.plan_text.specs.Grammar.{Visit, Stated, visits, planOf, planLines}
+use Rattle.plan_grammar.specs.Grammar.{Visit, Stated, visits, planOf, planLines}
 use Rattle.plan_text.proofs.whole.read_plan_lines.Statement.{statement}
 use Rattle.plan_text.proofs.whole.read_plan_lines.Tie as tie
-
-sub-read-field : tie.Need-sub-read-field
-sub-read-field c = search needs
-
-part-read-field-start : tie.Need-part-read-field-start
-part-read-field-start c = search needs
-
-part-read-field-end : tie.Need-part-read-field-end
-part-read-field-end c = search needs
-
-slice-aggregate-read-field : tie.Need-slice-aggregate-read-field
-slice-aggregate-read-field c = search needs
 
 read-field-requires : tie.Need-read-field-requires
 read-field-requires c κs = search needs
@@ -32,9 +20,6 @@ advance-requires : tie.Need-advance-requires
 advance-requires c κs =
     let st = c .before .before .before .before in
     (st .pre .0, line-inside _ (st .args .p) (row-line _ 0 4000000000 _ (c .read-field .ensures)) (st .pre .0))
-
-enum-known-cost : tie.Need-enum-known-cost
-enum-known-cost c = search needs
 
 -- the cost's line, read in the whole text
 cost : (c : tie.After-advance) → let a = c .before .before .before .before .before .args in Reads (a .text .now) (rowAnswer (c .advance .result)) (row "cost=" 0 4000000000 (drop (a .p .at) (a .text .now)) (a .p .line))
@@ -50,23 +35,11 @@ sub-read-field-2 c = stood (c .before) .inside
 part-read-field-start-2 : tie.Need-part-read-field-start-2
 part-read-field-start-2 c = stood (c .before) .inside
 
-part-read-field-end-2 : tie.Need-part-read-field-end-2
-part-read-field-end-2 c = search needs
-
-slice-aggregate-read-field-2 : tie.Need-slice-aggregate-read-field-2
-slice-aggregate-read-field-2 c = search needs
-
 read-field-requires-2 : tie.Need-read-field-requires-2
 read-field-requires-2 c κs = search needs
 
 advance-requires-2 : tie.Need-advance-requires-2
 advance-requires-2 c κs = let s = stood (c .before .before .before .before) in (s, line-inside _ (c .before .before .before .before .cost .given .0 .1 .0) (row-line _ 0 64 _ (c .read-field2 .ensures)) s)
-
-enum-known-n : tie.Need-enum-known-n
-enum-known-n c = search needs
-
-cast-read-visits : tie.Need-cast-read-visits
-cast-read-visits c = search needs
 
 -- the line of the number of stops, read in the whole text
 count : (c : tie.After-advance2) → let q = c .before .before .before .before .before .cost .given .0 .1 .0 in let text = c .before .before .before .before .before .before .before .before .before .before .before .before .args .text .now in Reads text (rowAnswer (c .advance2 .result)) (row "stops=" 0 64 (drop (q .at) text) (q .line))
@@ -76,17 +49,8 @@ count c = line-reads _ (c .before .before .before .before .before .cost .given .
 read-visits-requires : tie.Need-read-visits-requires
 read-visits-requires c κs = (got-place (count (c .before .before .before)) (ap rowAnswer (c .before .n .given .1)), c .before .before .before .before .before .before .before .before .before .before .before .before .before .before .before .pre .1)
 
-enum-known-k : tie.Need-enum-known-k
-enum-known-k c = search needs
-
 no-plan-requires : tie.Need-no-plan-requires
 no-plan-requires c κs = search needs
-
-enum-known-k-2 : tie.Need-enum-known-k-2
-enum-known-k-2 c = search needs
-
-no-plan-requires-2 : tie.Need-no-plan-requires-2
-no-plan-requires-2 c κs = search needs
 
 returns : tie.Need-returns
 unfolding planLines return
@@ -117,27 +81,8 @@ returns-3 c = fault-read _ (c .no-plan2 .ensures) (bind-fault _ _ (got-fault (co
 pub read-plan-lines-spec : {M : Type 1} → statement M
 read-plan-lines-spec =
     tie.close
-    (tie.spec
-    sub-read-field
-    part-read-field-start
-    part-read-field-end
-    slice-aggregate-read-field
-    read-field-requires
-    advance-requires
-    enum-known-cost
-    sub-read-field-2
-    part-read-field-start-2
-    part-read-field-end-2
-    slice-aggregate-read-field-2
-    read-field-requires-2
-    advance-requires-2
-    enum-known-n
-    cast-read-visits
-    read-visits-requires
-    enum-known-k
-    no-plan-requires
-    enum-known-k-2
-    no-plan-requires-2
-    returns
-    returns-2
-    returns-3)
+    (tie.spec (λ c. search needs) (λ c. search needs) (λ c. search needs) (λ c. search needs) read-field-requires
+    advance-requires (λ c. search needs) sub-read-field-2 part-read-field-start-2 (λ c. search needs)
+    (λ c. search needs) read-field-requires-2 advance-requires-2 (λ c. search needs) (λ c. search needs)
+    read-visits-requires (λ c. search needs) no-plan-requires (λ c. search needs) (λ c κs. search needs) returns
+    returns-2 returns-3)

@@ -9,7 +9,7 @@ use mir.Syntax.{w32}
 use mir.Val.{toZ, ofZ}
 use mir.Facts.{toZ-ofZ}
 use Rattle.search.specs.Plan.{Chooses}
-use Rattle.search.proofs.Filling.{ready-back}
+use Rattle.search_tables.proofs.Filling.{ready-back}
 use Rattle.search.proofs.Stops.{chooses-none, chooses-more}
 use Rattle.search.proofs.plan.changes.Statement.{statement}
 use Rattle.search.proofs.plan.changes.Tie as tie
@@ -29,17 +29,8 @@ part-changes-requires c κs =
     let l = c .before .before .loop in
     (ready-back (b .fits .end) (b .pre .0 .arrays) (omega (arith, b .pre .0 .room, l .inv .1)), omega (arith, c .before .loop-test .taken, b .pre .0 .arrays .lanes), b .pre .1)
 
-mul-rows : tie.Need-mul-rows Inv-loop μ-loop
-mul-rows c = search needs
-
 array-set-from-rows : tie.Need-array-set-from-rows Inv-loop μ-loop
 array-set-from-rows c = let b = c .before .before .before .before .before .before .before .before .before .before .before .before in omega (arith, c .before .before .before .before .loop-test .taken, b .pre .0 .arrays .lanes)
-
-add-q : tie.Need-add-q Inv-loop μ-loop
-add-q c = search needs
-
-loop-less : tie.Need-loop-less Inv-loop μ-loop
-loop-less c = search needs
 
 loop-again : tie.Need-loop-again Inv-loop μ-loop
 loop-again c =
@@ -50,9 +41,6 @@ loop-again c =
       c .before .before .part-changes .kept .1 .1 .1 .1 .1 .1 .1 .1 .0 ∙ l .inv .1,
       chooses-more (toZ w32 (ofZ w32 (a .end))) (a .positions .now) (a .lives .now) (a .lefts .now) (a .prices .now) (a .stops .now) (l .rows) (l .q) (c .before .before .part-changes .result) (omega (arith, c .before .before .before .before .loop-test .taken, b .pre .0 .arrays .lanes)) (c .before .before .part-changes .ensures) (l .inv .2),
     )
-
-same-length : tie.Need-same-length Inv-loop μ-loop
-same-length c = search needs
 
 returns : tie.Need-returns Inv-loop μ-loop
 returns c =
@@ -66,15 +54,5 @@ returns c =
 pub changes-spec : {M : Type 1} → statement M
 changes-spec =
     tie.close
-    (tie.spec
-    Inv-loop
-    μ-loop
-    loop-holds
-    part-changes-requires
-    mul-rows
-    array-set-from-rows
-    add-q
-    loop-less
-    loop-again
-    same-length
-    returns)
+    (tie.spec Inv-loop μ-loop loop-holds part-changes-requires (λ c. search needs) array-set-from-rows
+    (λ c. search needs) (λ c. search needs) loop-again (λ c. search needs) returns)

@@ -9,7 +9,7 @@ use lib.ListN.{length, replicate}
 use mir.Facts.{toZ-ofZ}
 use Rattle.model.specs.LowerBound.{offers, choiceOf}
 use Rattle.least.proofs.Diff.{small-back}
-use Rattle.search.proofs.Filling.{own-is, own-length, marks-small, lived-back}
+use Rattle.search_tables.proofs.Filling.{own-is, own-length, marks-small, lived-back}
 use Rattle.search.proofs.plan.part_changes.Statement.{statement}
 use Rattle.search.proofs.plan.part_changes.Tie as tie
 
@@ -18,27 +18,6 @@ start c = c .before .before .before .before .before .before .before
 
 lane-life-requires : tie.Need-lane-life-requires
 lane-life-requires c κs = search needs
-
-mul-choice : tie.Need-mul-choice
-mul-choice c = search needs
-
-mul-choice-2 : tie.Need-mul-choice-2
-mul-choice-2 c = search needs
-
-add-choice : tie.Need-add-choice
-add-choice c = search needs
-
-mul-choice-3 : tie.Need-mul-choice-3
-mul-choice-3 c = search needs
-
-sub-choice : tie.Need-sub-choice
-sub-choice c = search needs
-
-part-choice-start : tie.Need-part-choice-start
-part-choice-start c = search needs
-
-part-choice-end : tie.Need-part-choice-end
-part-choice-end c = search needs
 
 choice-requires : tie.Need-choice-requires
 choice-requires c κs =
@@ -57,9 +36,6 @@ choice-requires c κs =
       late = small-back (a .end) (omega (arith, r .late));
     }
 
-same-length : tie.Need-same-length
-same-length c = search needs
-
 returns : tie.Need-returns
 returns c =
     let v = c .before .before .before .before .before .before .before in
@@ -76,15 +52,5 @@ returns c =
 pub part-changes-spec : {M : Type 1} → statement M
 part-changes-spec =
     tie.close
-    (tie.spec
-    lane-life-requires
-    mul-choice
-    mul-choice-2
-    add-choice
-    mul-choice-3
-    sub-choice
-    part-choice-start
-    part-choice-end
-    choice-requires
-    same-length
-    returns)
+    (tie.spec lane-life-requires (λ c. search needs) (λ c. search needs) (λ c. search needs) (λ c. search needs)
+    (λ c. search needs) (λ c. search needs) (λ c. search needs) choice-requires (λ c. search needs) returns)

@@ -25,12 +25,6 @@ summed spent x e s r f g = rw (f, g)
 returns : tie.Need-returns
 returns c = let a = c .before .before .args in beyond (a .limit) (a .spent) (a .e) (a .self) (c .if1 .taken)
 
-enum-known-e : tie.Need-enum-known-e
-enum-known-e c = search needs
-
-enum-told : tie.Need-enum-told
-enum-told c = search needs
-
 returns-2 : tie.Need-returns-2
 returns-2 c =
     let a = c .before .before .before .before .args in
@@ -58,4 +52,4 @@ returns-4 : tie.Need-returns-4
 returns-4 c = tested (c .before) false (c .if2 .left)
 
 pub open-spec : {M : Type 1} → statement M
-open-spec = tie.close (tie.spec returns enum-known-e enum-told returns-2 add-improves improves-requires returns-3 returns-4)
+open-spec = tie.close (tie.spec returns (λ c. search needs) (λ c. search needs) returns-2 add-improves improves-requires returns-3 returns-4)

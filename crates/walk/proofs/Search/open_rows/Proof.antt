@@ -55,12 +55,6 @@ term-requires c κs =
 value-requires : tie.Need-value-requires
 value-requires c κs = search needs
 
-enum-known-g : tie.Need-enum-known-g
-enum-known-g c = search needs
-
-enum-told : tie.Need-enum-told
-enum-told c = search needs
-
 returns : tie.Need-returns
 returns c =
     let b = c .before .before .before .before .before .before .before .before in
@@ -77,12 +71,6 @@ open-requires c κs = λ y f.
     let b = c .before .before .before .before .before .before .before .before .before in
     let z = sum-inj (Sum (b .args .x)) (b .args .x) y refl f in
     omega (arith, z, given (c .before) .1, b .pre .1, b .pre .2, low b)
-
-enum-told-2 : tie.Need-enum-told-2
-enum-told-2 c = search needs
-
-enum-told-3 : tie.Need-enum-told-3
-enum-told-3 c = search needs
 
 returns-2 : tie.Need-returns-2
 returns-2 c =
@@ -112,19 +100,6 @@ returns-3 c =
 pub open-rows-spec : {M : Type 1} → statement M
 open-rows-spec =
     tie.close
-    (tie.spec
-    last-mark-requires
-    term-requires
-    value-requires
-    enum-known-g
-    enum-told
-    returns
-    add-open
-    open-requires
-    enum-told-2
-    enum-told-3
-    returns-2
-    add-open-2
-    lane-sum-requires
-    open-requires-2
+    (tie.spec last-mark-requires term-requires value-requires (λ c. search needs) (λ c. search needs) returns add-open
+    open-requires (λ c. search needs) (λ c. search needs) returns-2 add-open-2 lane-sum-requires open-requires-2
     returns-3)

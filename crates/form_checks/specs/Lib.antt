@@ -1,0 +1,2 @@
+-- The code's checks in the parsers' terms.
+pub mod Checks

@@ -1,0 +1,2 @@
+-- What the lists of a form state, and whether they agree.
+pub mod Facts

@@ -1,0 +1,131 @@
+-- X3. The job's lines: "`horizon` 2..365; `walk` 0..4000000000; `openings` 0..64; for each, `opening` 1..365 and `fee` 0..1000000;
+-- `parts` 1..16; for each, `life` 1..1000, `left` 1..1000, then one `price` 1..1000000 per opening."
+-- E7.2. "After each `left` a job may have `removal` 0..1000000, `inside` 0..15 and that many `holder` lines".
+-- E1.2. "After `horizon` a job may have `idles` 1..365 and that many `idle` lines, 1..365, rising and within the horizon; without the line no step is idle."
+use Prim.Native.Nat.{ℕ, suc}
+use mathlib.Core.List.{List, [], map}
+use Rattle.lines.specs.Text.{Optional, missing, present}
+use Rattle.lines.specs.Parser.{Outcome, accepted, refused, Parser, _>>=_, return, row, optional, ifPresent, checked, chain, times, rising, upTo, readText}
+use Rattle.model.specs.Model.{Opening, Part, Job}
+use Rattle.model.specs.Limits.{lastStep, longestLife, dearest, mostOpenings, mostParts, mostWalk}
+use Rattle.covers.specs.Grammar.{Cover, cover}
+use Rattle.covers.specs.Views.{meantCover}
+
+-- what a part's lines say; those of removal may be missing
+pub record PartText : Type 0 where
+  pub life : ℕ
+  pub left : ℕ
+  pub cover : Optional Cover
+  pub prices : List ℕ
+
+-- what a job text says: its lines in their order, those that may be missing present or not
+pub record JobText : Type 0 where
+  pub horizon : ℕ
+  pub idles : Optional (List ℕ)
+  pub walk : ℕ
+  pub openings : List Opening
+  pub parts : List PartText
+
+-- what a job text means: the job, and beside it the walk number
+pub record Given : Type 0 where
+  pub walk : ℕ
+  pub job : Job
+
+-- E1.2. "without the line no step is idle"
+abbrev pub idleIn : Optional (List ℕ) → List ℕ
+idleIn missing = []
+idleIn (present is) = is
+
+-- E7.2. "a part without them has removal 0 and no holders"
+abbrev pub meantPart : PartText → Part
+meantPart p = record { life = p .life; left = p .left; removal = meantCover (p .cover) .removal; holders = meantCover (p .cover) .holders; prices = p .prices }
+
+-- the job and the walk number that the lines mean
+abbrev pub meant : JobText → Given
+meant t = record { walk = t .walk; job = record { horizon = t .horizon; idles = idleIn (t .idles); openings = t .openings; parts = map meantPart (t .parts) } }
+
+-- E1.2, E1.3. an idle step after step `before` and within the horizon h, else number 4
+unfoldable pub idle : ℕ → ℕ → Parser ℕ
+idle h before = checked 4 (rising before h) (row "idle=" 1 lastStep)
+
+-- E1.2. n idle steps, each after the one before
+unfoldable pub idleSteps : ℕ → ℕ → Parser (List ℕ)
+idleSteps h n = chain (idle h) (λ _ i. i) n 0
+
+-- the number of idle steps and the steps, which may be missing
+unfoldable pub idles : ℕ → Parser (Optional (List ℕ))
+idles h = do
+  n ← optional "idles=" 1 lastStep
+  ifPresent (idleSteps h) n
+
+-- an opening after step `before` and within the horizon h, and its fee: X5. "Openings rise and stay within the horizon", else number 4
+unfoldable pub opening : ℕ → ℕ → Parser Opening
+opening h before = do
+  o ← checked 4 (rising before h) (row "opening=" 1 lastStep)
+  f ← row "fee=" 0 dearest
+  return (record { step = o; fee = f })
+
+-- X5. n openings with their fees, each after the one before
+unfoldable pub openings : ℕ → ℕ → Parser (List Opening)
+openings h n = chain (opening h) (λ _ o. o .step) n 0
+
+-- what follows the life l of part k of m, and what is left of it, r: the lines of removal, and a price for each of n openings
+unfoldable pub afterLeft : ℕ → ℕ → ℕ → ℕ → ℕ → Parser PartText
+afterLeft m n k l r = do
+  c ← cover m k
+  ps ← times n (row "price=" 1 dearest)
+  return (record { life = l; left = r; cover = c; prices = ps })
+
+-- part k of m; R5: number 5 is "`left` greater than `life`, on the `left` line"
+unfoldable pub part : ℕ → ℕ → ℕ → Parser PartText
+part m n k = do
+  l ← row "life=" 1 longestLife
+  r ← checked 5 (upTo l) (row "left=" 1 longestLife)
+  afterLeft m n k l r
+
+-- the number after
+abbrev pub following : {A : Type 0} → ℕ → A → ℕ
+following k _ = suc k
+
+-- all m parts, numbered from 1 on
+unfoldable pub parts : ℕ → ℕ → Parser (List PartText)
+parts m n = chain (part m n) following m 1
+
+-- what follows the number n of openings
+unfoldable pub body : ℕ → Optional (List ℕ) → ℕ → ℕ → Parser JobText
+body h is w n = do
+  os ← openings h n
+  m ← row "parts=" 1 mostParts
+  ps ← parts m n
+  return (record { horizon = h; idles = is; walk = w; openings = os; parts = ps })
+
+-- what follows the idle steps
+unfoldable pub rest : ℕ → Optional (List ℕ) → Parser JobText
+rest h is = do
+  w ← row "walk=" 0 mostWalk
+  n ← row "openings=" 0 mostOpenings
+  body h is w n
+
+-- the lines of a job
+unfoldable pub jobLines : Parser JobText
+jobLines = do
+  h ← row "horizon=" 2 lastStep
+  is ← idles h
+  rest h is
+
+-- X7. "A text has at most 32,768 bytes"
+abbrev pub maxBytes : ℕ
+maxBytes = 32768
+
+-- the whole text: what it says, or its first fault's number and line
+abbrev pub readJobText : List ℕ → Outcome JobText
+readJobText s = readText maxBytes jobLines s
+
+-- what a text without a fault means; a fault stays as it is
+abbrev pub meaning : Outcome JobText → Outcome Given
+meaning (accepted t) = accepted (meant t)
+meaning (refused n l) = refused n l
+
+-- the job and the walk number that a whole text means, or its first fault's number and line
+abbrev pub readJob : List ℕ → Outcome Given
+readJob s = meaning (readJobText s)

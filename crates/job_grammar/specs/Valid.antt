@@ -1,0 +1,23 @@
+-- What is known of an accepted job text.
+use Prim.Native.Nat.{ℕ, _≤_}
+use mathlib.Core.List.{List}
+use lib.ListN.{length}
+use Rattle.lines.specs.Text.{Optional, missing, present}
+use Rattle.model.specs.Limits.{mostWalk}
+use Rattle.jobs.specs.Valid.{ValidJob}
+use Rattle.job_grammar.specs.Grammar.{JobText, Given, meant}
+
+-- the job and the walk number that it means
+pub record Valid (g : Given) : Type 0 where
+  pub walk : g .walk ≤ mostWalk
+  pub job : ValidJob (g .job)
+
+-- "`idles` 1..365": where idle steps are written there are some
+abbrev pub Some : Optional (List ℕ) → Type 0
+Some missing = Unit {0}
+Some (present is) = 1 ≤ length is
+
+-- what it says
+pub record ValidText (t : JobText) : Type 0 where
+  pub means : Valid (meant t)
+  pub idles : Some (t .idles)

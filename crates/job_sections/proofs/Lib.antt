@@ -1,0 +1,2 @@
+-- The sections' answers in the grammar's terms.
+pub mod Views

@@ -1,0 +1,2 @@
+-- The sections' structs in the grammar's terms.
+pub mod Views

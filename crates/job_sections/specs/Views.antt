@@ -1,0 +1,41 @@
+-- The sections' structs in the terms of the grammar.
+use Prim.Native.Nat.{ℕ, _≤_}
+use mathlib.Core.Path.{_≡_}
+use mathlib.Core.List.{List, map}
+use lib.ListN.{take}
+use Rattle.lines.specs.Parser.{Parsed}
+use Rattle.lines.specs.Cursor.{ReadAt, got, no-good, Reads, ended}
+use Rattle.model.specs.Model as model
+use Rattle.job_grammar.specs.Grammar.{PartText, meantPart}
+use Rattle.model.specs.Limits.{lastStep}
+use Rattle.jobs.specs.Views.{openingOf, partOf}
+use Rattle.job_sections.specs.declared.idles.Idles.{Idles}
+use Rattle.job_sections.specs.declared.openings.OpeningRow.{OpeningRow}
+use Rattle.job_sections.specs.declared.openings.OpeningRow.the-variants.{Value, Fault}
+use Rattle.job_sections.specs.declared.parts.PartRead.{PartRead}
+use Rattle.job_sections.specs.declared.parts.Parts.{Parts}
+use Rattle.job_grammar.specs.Optionals.{partLines, partsLines}
+
+-- the idle steps that were read
+abbrev pub idlesOf : Idles → List ℕ
+idlesOf r = take (r .count) (r .idles)
+
+-- the idle steps r were read: seen through f they are what the grammar gives, and their count stays within the array
+pub record IdlesRead {A : Type 0} (f : List ℕ → A) (s : List ℕ) (r : Idles) (x : Parsed A) : Type 0 where
+  pub reads : Reads s (ended (r .end) (f (idlesOf r))) x
+  pub sized : r .count ≤ lastStep
+
+-- what the code answers for an opening and its fee, in the parsers' terms
+abbrev pub openingAnswer : OpeningRow → ReadAt model.Opening
+openingAnswer (Value o p) = got (openingOf o) p
+openingAnswer (Fault n l) = no-good n l
+
+-- the part r was read, with n prices: its lines are what the grammar gives, and mean the part that is there
+pub record PartSeen (n : ℕ) (s : List ℕ) (r : PartRead) (x : Parsed PartText) : Type 0 where
+  pub reads : Reads s (ended (r .end) (partLines (r .there) (partOf n (r .part)))) x
+  pub means : meantPart (partLines (r .there) (partOf n (r .part))) ≡ partOf n (r .part)
+
+-- the parts r were read, m of them
+pub record PartsSeen (m n : ℕ) (s : List ℕ) (r : Parts) (x : Parsed (List PartText)) : Type 0 where
+  pub reads : Reads s (ended (r .end) (partsLines (take m (r .covered)) (map (partOf n) (take m (r .parts))))) x
+  pub means : map meantPart (partsLines (take m (r .covered)) (map (partOf n) (take m (r .parts)))) ≡ map (partOf n) (take m (r .parts))

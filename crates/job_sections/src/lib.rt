@@ -1,0 +1,4 @@
+// The sections of the job text: its idle steps, its openings, its parts.
+pub mod idles;
+pub mod openings;
+pub mod parts;

@@ -1,0 +1,2 @@
+-- How digits are written with zeros in front. What a line is, and what a writer promises of a lent slice, is said in `lines` (Text, Wrote).
+pub mod Padded

@@ -1,0 +1,2 @@
+-- How large what a plan pays can be.
+pub mod Dearest

@@ -1,0 +1,38 @@
+-- A plan text's fault is number 1, 2, 3 or 9, and its line is one of the text's lines or the next (so it fits any counter). By the grammar's forms; the empty text has none.
+use Prim.Native.Nat.{ℕ, _≤_}
+use mathlib.Core.Path.{_≡_, refl}
+use mathlib.Core.List.{List, [], _∷_}
+use lib.ListN.{length}
+use mathlib.Core.Logic.{_⊎_, inl, inr}
+use native.Mathlib.Omega.{arith}
+use Rattle.lines.specs.Parser.{rowAt, refused}
+use Rattle.lines.proofs.Outcomes.{not-both}
+use Rattle.lines.proofs.Numbered.{Numbers, row-numbers, checked-numbers, bind-numbers, return-numbers, chain-numbers, refused-fault}
+use Rattle.model.specs.Model.{Job}
+use Rattle.plan_grammar.specs.Grammar.{part, parts, visit, visits, planLines, maxBytes, readPlan}
+
+abbrev pub PlanFault : ℕ → Type 0
+PlanFault n = ((1 ≤ n) × (n ≤ 3)) ⊎ (n ≡ 9)
+
+line-numbers : (key : List ℕ) (lo hi : ℕ) → Numbers PlanFault (rowAt key lo hi)
+line-numbers = row-numbers PlanFault (inl (omega arith, omega arith)) (inl (omega arith, omega arith))
+
+visit-numbers : (job : Job) (before : ℕ) → Numbers PlanFault (visit job before)
+unfolding visit part parts
+visit-numbers job before =
+    bind-numbers PlanFault _ _ (checked-numbers PlanFault 9 (inr refl) _ _ (line-numbers _ 1 365))
+    (λ step. bind-numbers PlanFault _ _ (line-numbers _ 0 16)
+    (λ n. bind-numbers PlanFault _ _ (chain-numbers PlanFault (part (length (job .parts))) _ (λ k. checked-numbers PlanFault 9 (inr refl) _ _ (line-numbers _ 1 16)) n 0) (λ ks. return-numbers PlanFault _)))
+
+pub lines-numbers : (job : Job) → Numbers PlanFault (planLines job)
+unfolding planLines visits
+lines-numbers job =
+    bind-numbers PlanFault _ _ (line-numbers _ 0 4000000000)
+    (λ cost. bind-numbers PlanFault _ _ (line-numbers _ 0 64)
+    (λ n. bind-numbers PlanFault _ _ (chain-numbers PlanFault (visit job) _ (visit-numbers job) n 0) (λ vs. return-numbers PlanFault _)))
+
+pub fault : (job : Job) (s : List ℕ) (n l : ℕ) → readPlan job s ≡ refused n l → PlanFault n × (l ≤ 32769)
+unfolding readPlan
+fault job [] n l e = not-both refl e
+fault job (b ∷ s) n l e =
+    refused-fault PlanFault maxBytes (planLines job) (inl (omega arith, omega arith)) (inl (omega arith, omega arith)) (lines-numbers job) (b ∷ s) n l e

@@ -1,0 +1,2 @@
+-- A plan that is marked stop by stop.
+pub mod Marks

@@ -1,0 +1,2 @@
+-- How reading builds a plan up.
+pub mod Marks
