@@ -1,15 +1,16 @@
 -- Accepted lines of a part's prices are the rendering of what they say, and that is valid (`rule-tells`, `prices-tells`). By the grammar's lines, one after the other.
 use Prim.Native.Nat.{ℕ, _≤_}
 use mathlib.Core.Path.{_≡_, refl, sym, ap, _∙_, subst}
-use mathlib.Core.List.{List, [], _∷_, _++_, append-assoc}
+use mathlib.Core.List.{List, _++_, append-assoc}
 use Rattle.lines.specs.Text.{bytes, lineOf, texts, Optional, missing, present, optionalText}
 use Rattle.lines.specs.Parser.{good, return, row, optional, ifPresent, times}
-use Rattle.lines.proofs.Sound.{bind-inv, Optionally, optional-inv, row-sound, chain-sound, row-gives, Chained, chain-gives, Told, Tells}
-use Rattle.jobs.specs.Valid.{All, ValidPrice}
+use Rattle.lines.proofs.Sound.{bind-inv, Optionally, optional-inv, row-sound, chain-sound, row-gives, chain-gives, Told, Tells}
+use Rattle.jobs.specs.Valid.{ValidPrice}
 use Rattle.price_rules.specs.Rule.{Rule}
 use Rattle.price_rules.specs.Grammar.{afterBase, rule, listed, ruled, unlessRuled, prices}
 use Rattle.price_rules.specs.Rendering.{ruleText, pricesText}
 use Rattle.price_rules.specs.Valid.{ValidLines, ValidPrices}
+use Rattle.jobs.proofs.Lists.{chained-each}
 
 -- what is known of the lines behind the base b
 abbrev KnownAfter : ℕ → Rule → Type 0
@@ -55,11 +56,6 @@ rule-tells s s′ l l′ o e =
               ∙ ap (λ (u : List ℕ). lineOf "base=" (d .a .base) ++ u) (t .text ∙ append-assoc (lineOf "drop=" (d .a .drop)) (lineOf "least=" (d .a .least)) (d .mid) ∙ ap (λ (u : List ℕ). lineOf "drop=" (d .a .drop) ++ (lineOf "least=" (d .a .least) ++ u)) y));
         })
 
--- a chain that hands nothing on
-each : {A : Type 0} (P : A → Type 0) (before : ℕ) (xs : List A) → Chained (λ (k : ℕ). P) (λ (k : ℕ) (x : A). 0) before xs → All P xs
-each P before [] c = tt
-each P before (x ∷ xs) c = (c .0, each P 0 xs (c .1))
-
 pub prices-tells : (n : ℕ) → Tells (prices n) (ValidPrices n) pricesText
 unfolding prices unlessRuled times return
 prices-tells n s s′ l l′ p e =
@@ -74,7 +70,7 @@ prices-tells n s s′ l l′ p e =
         let y : d .mid ≡ s′ = cc (d .second) in
         let g = chain-gives (λ _. price) (λ _ _. 0) (λ _. ValidPrice) (λ _. row-gives _ 1 1000000) n 0 mid (d .mid) at (d .at) (d .a) (d .first) in
         subst (Told (ValidPrices n) pricesText s s′) x (record {
-          known = (g .0, each ValidPrice 0 (d .a) (g .1));
+          known = (g .0, chained-each ValidPrice 0 (d .a) (g .1));
           text = none .text ∙ chain-sound (λ _. price) (λ _ _. 0) (lineOf "price=") (λ _. row-sound _ 1 1000000) n 0 mid (d .mid) at (d .at) (d .a) (d .first) ∙ ap (λ (u : List ℕ). texts (lineOf "price=") (d .a) ++ u) y;
         })
     go (present r) mid at some e =

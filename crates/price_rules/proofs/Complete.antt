@@ -8,13 +8,13 @@ use Rattle.lines.specs.Line.{startsWith}
 use Rattle.lines.specs.Text.{bytes, line, lineOf, texts, Optional, missing, present, optionalText}
 use Rattle.lines.specs.Parser.{good, return, row, optional, ifPresent, times}
 use Rattle.lines.proofs.Parsing.{bind-good, optional-missing}
-use Rattle.lines.proofs.Sound.{Chained}
 use Rattle.lines.proofs.Complete.{row-complete, optional-present, chain-complete}
-use Rattle.jobs.specs.Valid.{All, ValidPrice}
+use Rattle.jobs.specs.Valid.{ValidPrice}
 use Rattle.price_rules.specs.Rule.{Rule}
 use Rattle.price_rules.specs.Grammar.{afterBase, rule, Prices, listed, ruled, unlessRuled, prices}
 use Rattle.price_rules.specs.Rendering.{ruleText, pricesText}
 use Rattle.price_rules.specs.Valid.{ValidLines, ValidPrices}
+use Rattle.jobs.proofs.Lists.{each-chained}
 
 -- what follows them does not begin with their key
 pub rule-complete : (o : Optional Rule) → ValidLines o → (s : List ℕ) (l : ℕ) → startsWith (bytes "base=") s ≡ false → (l′ : ℕ) × (rule (optionalText ruleText o ++ s) l ≡ good o s l′)
@@ -31,11 +31,6 @@ rule-complete (present r) v s l e =
           ∙ bind-good (optional "base=" 1 1000000) _ (a .1)
           ∙ bind-good (afterBase (r .base)) _ (bind-good (row "drop=" 0 1000000) _ (b .1) ∙ bind-good (row "least=" 1 1000000) _ (c .1)),
     )
-
--- a chain that hands nothing on
-each-chained : {A : Type 0} (P : A → Type 0) (before : ℕ) (xs : List A) → All P xs → Chained (λ (k : ℕ). P) (λ (k : ℕ) (x : A). 0) before xs
-each-chained P before [] v = tt
-each-chained P before (x ∷ xs) v = (v .0, each-chained P 0 xs (v .1))
 
 -- where there is no rule, prices or what follows them are next
 list-next : (ps s : List ℕ) → startsWith (bytes "base=") s ≡ false → startsWith (bytes "base=") (texts (lineOf "price=") ps ++ s) ≡ false
