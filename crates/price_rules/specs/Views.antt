@@ -9,6 +9,7 @@ use Rattle.price_rules.specs.Rule as rule
 use Rattle.price_rules.specs.declared.Rule.{Rule}
 use Rattle.price_rules.specs.declared.RuleLines.{RuleLines}
 
+-- the rule that a struct holds
 abbrev pub ruleOf : Rule → rule.Rule
 ruleOf r = record { base = r .base; drop = r .drop; least = r .least }
 
