@@ -30,6 +30,7 @@ use least::TABLE;
 use name::NAMES;
 use name::name_of;
 use search::Found;
+use search::found_by;
 use search_tables::tables::fill;
 use stop_walk::solve;
 use walk::Solved;
@@ -162,7 +163,6 @@ pub fn search_held(
         &mut tab,
         &mut v,
     );
-    let floor = solved.floor;
     let n = positions.len();
     let h = removals.len();
     let size = name_of(solved.mask, &v, n, h, &mut name);
@@ -178,13 +178,5 @@ pub fn search_held(
         &name[..size],
         &mut tab,
     );
-    Found {
-        count: solved.count,
-        over: solved.over,
-        found: solved.found,
-        cost: solved.cost,
-        floor,
-        stops: at,
-        changes: rows,
-    }
+    found_by(solved, at, rows)
 }

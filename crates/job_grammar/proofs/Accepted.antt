@@ -20,6 +20,7 @@ use Rattle.covers.specs.Valid.{ValidLines}
 use Rattle.covers.specs.Views.{meantCover}
 use Rattle.covers.proofs.Accepted.{cover-tells}
 use Rattle.job_grammar.specs.Valid.{Valid, Some, ValidText}
+use Rattle.jobs.proofs.Lists.{chained-each}
 
 -- ---- steps that rise
 
@@ -102,11 +103,6 @@ chained-rising h before (o ∷ os) c =
 
 -- ---- parts
 
--- a chain that hands nothing on
-each : {A : Type 0} (P : A → Type 0) (before : ℕ) (xs : List A) → Chained (λ (k : ℕ). P) (λ (k : ℕ) (x : A). 0) before xs → All P xs
-each P before [] c = tt
-each P before (x ∷ xs) c = (c .0, each P 0 xs (c .1))
-
 -- what is known of the lines of removal, where they stand, is known of what they mean
 cover-known : (m k : ℕ) (o : Optional Cover) → ValidLines m k o → (meantCover o .removal ≤ 1000000) × (length (meantCover o .holders) ≤ 15) × Holds m k 0 (meantCover o .holders)
 unfolding meantCover
@@ -153,7 +149,7 @@ part-tells m n k s s′ l l′ p e =
           removal = k₃ .0;
           few-holders = k₃ .1;
           priced = k₄ .0;
-          prices = each ValidPrice 0 (f .a) (k₄ .1);
+          prices = chained-each ValidPrice 0 (f .a) (k₄ .1);
         },
         k₃ .2,
       );

@@ -24,6 +24,7 @@ use Rattle.job_grammar.specs.Rendering.{idlesText, openingText, partText
 use Rattle.job_grammar.specs.Valid.{Some, ValidText}
 use Rattle.job_grammar.proofs.Accepted.{KnownStep, itself, KnownOpening, stepOf, KnownPart, known-cover, parts-chained, valid-text, text-is}
 use Rattle.job_grammar.proofs.Lengths.{text-fits}
+use Rattle.jobs.proofs.Lists.{each-chained}
 
 -- ---- idle steps
 
@@ -63,11 +64,6 @@ openings-chained h before (o ∷ os) v r =
     ((record { low = v .0 .step-low; high = v .0 .step-high; after = r .0; within = r .1 }, v .0 .fee), openings-chained h (o .step) os (v .1) (r .2))
 
 -- ---- parts
-
--- a chain that hands nothing on
-each-chained : {A : Type 0} (P : A → Type 0) (before : ℕ) (xs : List A) → All P xs → Chained (λ (k : ℕ). P) (λ (k : ℕ) (x : A). 0) before xs
-each-chained P before [] v = tt
-each-chained P before (x ∷ xs) v = (v .0, each-chained P 0 xs (v .1))
 
 -- what follows the lines of removal, if any, are prices, the next part, or what follows the parts
 pub prices-next : (ps s : List ℕ) → startsWith (bytes "removal=") s ≡ false → startsWith (bytes "removal=") (texts (lineOf "price=") ps ++ s) ≡ false

@@ -7,6 +7,7 @@ use lib.ListN.{length, getD, take, replicate, length-map, List·getD-map}
 use lib.Seq.{getD-take, length-take-le}
 use Rattle.model.proofs.Bools.{there}
 use Rattle.jobs.specs.Valid.{All}
+use Rattle.lines.proofs.Sound.{Chained}
 
 -- what holds of each holds at each place
 pub all-at : {A : Type 0} (P : A → Type 0) (l : List A) (d : A) (i : ℕ) → All P l → i < length l → P (getD l i d)
@@ -33,3 +34,13 @@ pub take-replicate : {A : Type 0} (n k : ℕ) (a : A) → n ≤ k → take n (re
 take-replicate zero k a h = refl
 take-replicate (suc n) zero a h = absurd (omega arith)
 take-replicate (suc n) (suc k) a h = ap (λ (xs : List _). a ∷ xs) (take-replicate n k a (omega arith))
+
+-- a chain that hands nothing on says the same of each
+module _ {A : Type 0} (P : A → Type 0) where
+  pub chained-each : (before : ℕ) (xs : List A) → Chained (λ (k : ℕ). P) (λ (k : ℕ) (x : A). 0) before xs → All P xs
+  chained-each before [] c = tt
+  chained-each before (x ∷ xs) c = (c .0, chained-each 0 xs (c .1))
+
+  pub each-chained : (before : ℕ) (xs : List A) → All P xs → Chained (λ (k : ℕ). P) (λ (k : ℕ) (x : A). 0) before xs
+  each-chained before [] v = tt
+  each-chained before (x ∷ xs) v = (v .0, each-chained 0 xs (v .1))

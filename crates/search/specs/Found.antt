@@ -11,7 +11,12 @@ use Rattle.model.specs.Model.{Job, Part, Plan}
 use Rattle.model.specs.Promise.{PlannerAnswer, no-plan, cut-none, cut, optimum}
 use Rattle.model.specs.Unheld.{plainPartChoice, plainBound, plainTree}
 use Rattle.jobs.specs.declared.Changes.{Changes}
+use Rattle.walk.specs.declared.Solved.{Solved}
 use Rattle.search.specs.declared.Found.{Found}
+
+-- what a walk found, with these stops and changes
+abbrev pub foundBy : Solved → List Bool → List Changes → Found
+foundBy s stops changes = record { count = s .count; over = s .over; found = s .found; cost = s .cost; floor = s .floor; stops = stops; changes = changes }
 
 -- the stops, where there are n openings
 abbrev pub stopsIn : ℕ → Found → List Bool

@@ -5,7 +5,8 @@ ghost use Prim.Native.Nat.{_+_, _^_, _<_};
 ghost use Rattle.model.specs.Model.{Job};
 ghost use Rattle.walk.specs.State.{Solves};
 ghost use Rattle.search_tables.specs.Arrays.{sheetOf, Ready, Holds};
-ghost use Rattle.search.specs.Found.{Finds};
+ghost use mathlib.Core.Path.{_≡_};
+ghost use Rattle.search.specs.Found.{foundBy, Finds};
 use branch::Bound;
 use jobs::Changes;
 use lane_rows::STACK;
@@ -26,6 +27,22 @@ pub struct Found {
     pub floor: Bound,
     pub stops: [bool; 64],
     pub changes: [Changes; 16],
+}
+
+// What a walk found, with the plan of its incumbent.
+pub fn found_by(solved: Solved, stops: [bool; 64], changes: [Changes; 16]) -> Found
+    ensures { λ r. ⌜ r ≡ foundBy solved stops changes ⌝ }
+{
+    let floor = solved.floor;
+    Found {
+        count: solved.count,
+        over: solved.over,
+        found: solved.found,
+        cost: solved.cost,
+        floor,
+        stops,
+        changes,
+    }
 }
 
 // The floor and the walk's last state. The tables stand on the stack of this call.
@@ -63,7 +80,6 @@ pub fn search(
 {
     let mut tab = [0; TABLE];
     let solved = walked(end, positions, fees, lives, lefts, prices, limit, &mut tab);
-    let floor = solved.floor;
     let n = positions.len();
     let stops = stops_of(solved.mask, n);
     let rows = changes(
@@ -76,13 +92,5 @@ pub fn search(
         &stops[..n],
         &mut tab,
     );
-    Found {
-        count: solved.count,
-        over: solved.over,
-        found: solved.found,
-        cost: solved.cost,
-        floor,
-        stops,
-        changes: rows,
-    }
+    found_by(solved, stops, rows)
 }

@@ -11,6 +11,9 @@ use Rattle.held_places.specs.Arrays.{Lanes, Holds}
 use Rattle.held_places.proofs.Parts.{read-back}
 use Rattle.held_tables.specs.Sheet.{HeldArrays}
 use Rattle.held_tables.proofs.Sheets.{lanes-are}
+use Rattle.model.specs.Promise.{answerOf}
+use Rattle.search.specs.declared.Found.{Found}
+use Rattle.search.specs.Found.{saidIn}
 use Rattle.held_search.specs.Solved.{Solves, Chooses}
 use Rattle.held_search.proofs.Answered.{said}
 use borrow.Author.Needs.{needs}
@@ -56,22 +59,28 @@ changes-requires c κs =
     let z : length (c .before .before .before .before .before .before .before .before .before .walked .last .1 .1 .1 .1 .1 .1 .1 .1 .1 .0) ≡ 4225 = c .before .before .before .before .before .before .before .before .before .walked .kept .1 .1 .1 .1 .1 .1 .1 .1 .1 .0 in
     (read-back (λ (e : ℤ). Lanes e (a .positions .now) (a .lives .now) (a .lefts .now) (a .prices .now) (a .needs .now) (length (a .removals .now))) (b .fits .end) (lanes-are (b .pre .0)), omega (arith, z))
 
+found-by-requires : tie.Need-found-by-requires
+found-by-requires c κs = search needs
+
 returns : tie.Need-returns
 returns c job ho =
-    let b = c .before .before .before .before .before .before .before .before .before .before .before .before .before .before .before .before .before .before .before .before in
+    let called = c .before .before in
+    let b = called .before .before .before .before .before .before .before .before .before .before .before .before .before .before .before .before .before .before .before in
     let a = b .args in
-    let w = c .before .before .before .before .before .before .before .before .before .before .before .walked in
-    let o = c .before .before .before .before .before .before .before in
+    let w = called .before .before .before .before .before .before .before .before .before .before .walked in
+    let o = called .before .before .before .before .before .before in
+    let t = called .before .before .before .stops in
     let e = toZ-ofZ (b .fits .end) in
-    said job (a .end) (a .positions .now) (a .fees .now) (a .lives .now) (a .lefts .now) (a .prices .now) (a .needs .now) (a .removals .now) (lanes-are (b .pre .0)) ho (a .limit) (named o) (w .result)
+    subst (λ (r : Found). saidIn (length (job .openings)) (length (job .parts)) r ≡ answerOf job (a .limit)) (sym (c .found-by .ensures))
+    (said job (a .end) (a .positions .now) (a .fees .now) (a .lives .now) (a .lefts .now) (a .prices .now) (a .needs .now) (a .removals .now) (lanes-are (b .pre .0)) ho (a .limit) (named o) (w .result)
     (subst (λ (xs : List Bool). Solves job (a .limit) xs (w .result)) (sym (o .name-of .ensures .1))
     (w .ensures job (read-back (λ (e : ℤ). Holds job e (a .positions .now) (a .fees .now) (a .lives .now) (a .lefts .now) (a .prices .now) (a .needs .now) (a .removals .now)) (b .fits .end) ho)))
-    (c .before .before .before .before .stops .result) (c .before .before .before .before .stops .ensures) (c .before .changes .result)
-    (subst (λ (x : ℤ). Chooses x (a .positions .now) (a .lives .now) (a .lefts .now) (a .prices .now) (a .needs .now) (length (a .removals .now)) (named o) (c .before .changes .result) (length (a .lives .now))) e (c .before .changes .ensures))
+    (t .result) (t .ensures) (called .changes .result)
+    (subst (λ (x : ℤ). Chooses x (a .positions .now) (a .lives .now) (a .lefts .now) (a .prices .now) (a .needs .now) (length (a .removals .now)) (named o) (called .changes .result) (length (a .lives .now))) e (called .changes .ensures)))
 
 pub search-held-spec : {M : Type 1} → statement M
 search-held-spec =
     tie.close
     (tie.spec (λ c. search needs) walked-requires (λ c. search needs) name-of-requires (λ c. search needs)
     slice-aggregate-stops stops-requires (λ c. search needs) slice-aggregate-changes (λ c. search needs)
-    changes-requires returns)
+    changes-requires found-by-requires returns)

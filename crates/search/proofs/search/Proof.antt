@@ -6,6 +6,8 @@ use lib.ListN.{length, take}
 use lib.IntN.{ℤ}
 use mir.Facts.{toZ-ofZ}
 use Rattle.search_tables.specs.Arrays.{sheetOf}
+use Rattle.search.specs.declared.Found.{Found}
+use Rattle.search.specs.Found.{Finds}
 use Rattle.search.specs.Plan.{Chooses}
 use Rattle.search_tables.proofs.Filling.{ready-back}
 use Rattle.search.proofs.Answered.{stops-length, finds}
@@ -32,22 +34,26 @@ changes-requires c κs =
       stops-length (length (a .positions .now)) _ (c .before .before .stops-of .result) (c .before .before .stops-of .ensures),
     )
 
+found-by-requires : tie.Need-found-by-requires
+found-by-requires c κs = search needs
+
 returns : tie.Need-returns
-returns c =
-    λ job h.
-    let b = c .before .before .before .before .before .before .before .before .before .before .before .before in
+returns c job h =
+    let called = c .before .before in
+    let b = called .before .before .before .before .before .before .before .before .before .before .before in
     let a = b .args in
     let n = length (a .positions .now) in
     let e = toZ-ofZ (b .fits .end) in
-    let s = c .before .before .before .before .before .before .walked .result in
-    let t = c .before .before .before .before .stops-of .result in
-    finds job (a .end) (a .positions .now) (a .fees .now) (a .lives .now) (a .lefts .now) (a .prices .now) h (a .limit) s
-    (subst (λ (x : ℤ). Solves (sheetOf x (a .positions .now) (a .fees .now) (a .lives .now) (a .lefts .now) (a .prices .now)) (a .limit) s) e (c .before .before .before .before .before .before .walked .ensures))
-    t (c .before .before .before .before .stops-of .ensures) (c .before .changes .result)
-    (subst (λ (x : ℤ). Chooses x (a .positions .now) (a .lives .now) (a .lefts .now) (a .prices .now) (take n t) (c .before .changes .result) (length (a .lives .now))) e (c .before .changes .ensures))
+    let w = called .before .before .before .before .before .walked in
+    let t = called .before .before .before .stops-of in
+    subst (λ (r : Found). Finds job (a .limit) r) (sym (c .found-by .ensures))
+    (finds job (a .end) (a .positions .now) (a .fees .now) (a .lives .now) (a .lefts .now) (a .prices .now) h (a .limit) (w .result)
+    (subst (λ (x : ℤ). Solves (sheetOf x (a .positions .now) (a .fees .now) (a .lives .now) (a .lefts .now) (a .prices .now)) (a .limit) (w .result)) e (w .ensures))
+    (t .result) (t .ensures) (called .changes .result)
+    (subst (λ (x : ℤ). Chooses x (a .positions .now) (a .lives .now) (a .lefts .now) (a .prices .now) (take n (t .result)) (called .changes .result) (length (a .lives .now))) e (called .changes .ensures)))
 
 pub search-spec : {M : Type 1} → statement M
 search-spec =
     tie.close
     (tie.spec (λ c. search needs) walked-requires stops-of-requires (λ c. search needs) slice-aggregate-changes
-    (λ c. search needs) changes-requires returns)
+    (λ c. search needs) changes-requires found-by-requires returns)

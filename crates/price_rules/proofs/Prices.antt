@@ -1,0 +1,66 @@
+-- Laws of a rule's prices: each is the clause's integer (`rule-is`) and a price (`rule-valid`); what the base has dropped to at the next opening (`base-next`); prices mean one for each opening, and each is a price
+-- (`meant-length`, `meant-valid`), and written out they mean the same (`written-out`). By the number of openings.
+use Prim.Native.Nat.{ℕ, zero, suc, _+_, _-_, _*_, max}
+use mathlib.Core.Path.{_≡_, refl, ap}
+use mathlib.Core.Bool.{Bool, true, false, cond}
+use mathlib.Core.List.{List, [], _∷_, _++_}
+use native.Mathlib.Omega.{arith}
+use native.Mathlib.Numerals.{add-one}
+use native.Mathlib.Nat.{suc-mul}
+use lib.ListN.{length, length-append}
+use lib.IntN.{ℤ, pos, negsuc, _-ℤ_, _*ℤ_}
+use lib.Signed.{leZ}
+use borrow.Author.Tests.{leb-true, leb-false}
+use Rattle.lines.specs.Text.{joined}
+use Rattle.model.proofs.Integers.{up, down, difference}
+use Rattle.jobs.specs.Valid.{All, ValidPrice}
+use Rattle.price_rules.specs.Rule.{Rule, rulePrice, rulePrices, larger, statedPrice}
+use Rattle.price_rules.specs.Grammar.{Prices, listed, ruled, meantPrices, writtenOut}
+use Rattle.price_rules.specs.Valid.{ValidRule, ValidPrices}
+
+-- the larger of a difference z = a − b and a number, by whether the difference is below 0
+larger-is : (a b m : ℕ) (z : ℤ) → up z + b ≡ down z + a → pos (max (a - b) m) ≡ larger z (pos m)
+larger-is a b m (pos n) e = go (leZ (pos n) (pos m)) refl
+  where
+    go : (t : Bool) → leZ (pos n) (pos m) ≡ t → pos (max (a - b) m) ≡ cond t (pos m) (pos n)
+    go true q = ap pos (let y : max (a - b) m ≡ m = omega (arith, e, leb-true n m q) in y)
+    go false q = ap pos (let y : max (a - b) m ≡ n = omega (arith, e, leb-false n m q) in y)
+larger-is a b m (negsuc n) e = ap pos (let y : max (a - b) m ≡ m = omega (arith, e) in y)
+
+-- E8.2. the price is the larger of base minus k times drop, as an integer, and least
+pub rule-is : (r : Rule) (k : ℕ) → pos (rulePrice r k) ≡ statedPrice r k
+rule-is r k = larger-is (r .base) (k * r .drop) (r .least) (pos (r .base) -ℤ pos k *ℤ pos (r .drop)) (let e = difference (pos (r .base)) (pos (k * r .drop)) in omega (arith, e))
+
+pub rule-valid : (r : Rule) (k : ℕ) → ValidRule r → ValidPrice (rulePrice r k)
+rule-valid r k v = (omega (arith, v), omega (arith, v))
+
+-- one opening on
+pub base-next : (base drop k : ℕ) → base - k * drop - drop ≡ base - (k + 1) * drop
+base-next base drop k = omega (arith, suc-mul k drop, ap (λ (i : ℕ). i * drop) (add-one k))
+
+rule-length : (r : Rule) (n : ℕ) → length (rulePrices r n) ≡ n
+unfolding joined
+rule-length r zero = refl
+rule-length r (suc n) = rw length-append (omega (arith, rule-length r n))
+
+all-then : {A : Type 0} (P : A → Type 0) (xs : List A) (x : A) → All P xs → P x → All P (xs ++ x ∷ [])
+all-then P [] x v p = (p, tt)
+all-then P (y ∷ xs) x v p = (v .0, all-then P xs x (v .1) p)
+
+rule-all : (r : Rule) (n : ℕ) → ValidRule r → All ValidPrice (rulePrices r n)
+unfolding joined
+rule-all r zero v = tt
+rule-all r (suc n) v = all-then ValidPrice (rulePrices r n) (rulePrice r n) (rule-all r n v) (rule-valid r n v)
+
+-- "one price per opening", listed or by a rule
+pub meant-length : (n : ℕ) (p : Prices) → ValidPrices n p → length (meantPrices n p) ≡ n
+meant-length n (listed ps) v = v .0
+meant-length n (ruled r) v = rule-length r n
+
+pub meant-valid : (n : ℕ) (p : Prices) → ValidPrices n p → All ValidPrice (meantPrices n p)
+meant-valid n (listed ps) v = v .1
+meant-valid n (ruled r) v = rule-all r n v
+
+-- E8.5. with the lines written out they are accepted too, and mean the same
+pub written-out : (n : ℕ) (p : Prices) → ValidPrices n p → ValidPrices n (writtenOut n p) × (meantPrices n (writtenOut n p) ≡ meantPrices n p)
+written-out n p v = ((meant-length n p v, meant-valid n p v), refl)

@@ -1,0 +1,15 @@
+-- The lines that say a part's prices.
+use Prim.Native.Nat.{ℕ}
+use mathlib.Core.List.{List, _++_}
+use Rattle.lines.specs.Text.{lineOf, texts}
+use Rattle.price_rules.specs.Rule.{Rule}
+use Rattle.price_rules.specs.Grammar.{Prices, listed, ruled}
+
+-- E8.1. a rule's three lines
+unfoldable pub ruleText : Rule → List ℕ
+ruleText r = lineOf "base=" (r .base) ++ lineOf "drop=" (r .drop) ++ lineOf "least=" (r .least)
+
+-- those of a part's prices: a line for each, or the rule's
+abbrev pub pricesText : Prices → List ℕ
+pricesText (listed ps) = texts (lineOf "price=") ps
+pricesText (ruled r) = ruleText r
