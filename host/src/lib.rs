@@ -4,6 +4,7 @@
 pub mod fast;
 #[cfg(feature = "library")]
 mod library;
+pub mod ranges;
 pub mod reference;
 
 #[cfg(feature = "library")]

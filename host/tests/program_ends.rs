@@ -123,7 +123,9 @@ fn answers_that_cannot_be_written() {
     let before = texts();
     for (name, input) in [("planner", "job.txt"), ("judge", "/dev/null")] {
         let program = programs.join(name);
-        for (output, why) in [("> /dev/full", "No space left on device"), (">&-", "Bad file descriptor"), ("<&- >&-", "Bad file descriptor")] {
+        for (output, why) in
+            [("> /dev/full", "No space left on device"), (">&-", "Bad file descriptor"), ("<&- >&-", "Bad file descriptor")]
+        {
             let ran = folder.shell(&format!("'{}' < {input} {output}", program.display()));
             let said = format!("{name}: the answer can't be written: {why}\n");
             assert_eq!((ran.status, ran.out.as_str(), ran.err), (0, "", said), "{program:?} {output}");

@@ -6,6 +6,7 @@ use crate::failure::{status_of, Failure};
 use crate::files::Input;
 use crate::numbers::grouped;
 use crate::output::shown_line;
+use juzvarola_host::ranges::RANGES;
 
 /// The words for a fault by its number and the key of its line; an empty key stands for every other.
 const WORDS: &[(u32, &str, &str)] = &[
@@ -22,29 +23,6 @@ const WORDS: &[(u32, &str, &str)] = &[
     (9, "", "the plan does not fit the job"),
     (12, "holder", "holder is above the job's number of parts, is the part itself, or does not come after the holder before"),
     (0, "", "the text is at fault"),
-];
-
-/// The range of a value by its key.
-const RANGES: &[(&str, u64, u64)] = &[
-    ("horizon", 2, 365),
-    ("idles", 1, 365),
-    ("idle", 1, 365),
-    ("walk", 0, 4_000_000_000),
-    ("openings", 0, 64),
-    ("opening", 1, 365),
-    ("fee", 0, 1_000_000),
-    ("parts", 1, 16),
-    ("life", 1, 1000),
-    ("left", 1, 1000),
-    ("removal", 0, 1_000_000),
-    ("inside", 0, 15),
-    ("holder", 1, 16),
-    ("price", 1, 1_000_000),
-    ("cost", 0, 4_000_000_000),
-    ("stops", 0, 64),
-    ("stop", 1, 365),
-    ("count", 0, 16),
-    ("part", 1, 16),
 ];
 
 /// The failure that a refusal is: its words with the number, and the line at fault as it stands in the caller's file.

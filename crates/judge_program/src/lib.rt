@@ -18,7 +18,5 @@ pub fn judge_files(job_path: &[u8], plan_path: &[u8]) -> Answer
     let k = read_file(plan_path, Text::Plan, &mut plan);
     let mut out = [0u8; judging::ROOM];
     let a = judging::judge(&job[..n], &plan[..k], &mut out);
-    let m = a.length;
-    print_answer(&out[..m], b"judge: the answer can't be written");
-    a
+    print_answer(a, &out, b"judge: the answer can't be written")
 }

@@ -15,7 +15,5 @@ pub fn plan_input(fd: i32) -> Answer
     let n = read_whole(fd, Text::Job, &mut job);
     let mut out = [0u8; planning::ROOM];
     let a = planning::plan(&job[..n], &mut out);
-    let m = a.length;
-    print_answer(&out[..m], b"planner: the answer can't be written");
-    a
+    print_answer(a, &out, b"planner: the answer can't be written")
 }

@@ -4,30 +4,8 @@
 use super::inputs::{self, Facts};
 use super::rng::Rng;
 use super::Call;
+use juzvarola_host::ranges::RANGES;
 use juzvarola_host::reference::texts::read_job;
-
-/// The keys of both texts with the least and the most of their values.
-const LIMITS: &[(&str, u64, u64)] = &[
-    ("horizon", 2, 365),
-    ("idles", 1, 365),
-    ("idle", 1, 365),
-    ("walk", 0, 4_000_000_000),
-    ("openings", 0, 64),
-    ("opening", 1, 365),
-    ("fee", 0, 1_000_000),
-    ("parts", 1, 16),
-    ("life", 1, 1000),
-    ("left", 1, 1000),
-    ("removal", 0, 1_000_000),
-    ("inside", 0, 15),
-    ("holder", 1, 16),
-    ("price", 1, 1_000_000),
-    ("cost", 0, 4_000_000_000),
-    ("stops", 0, 64),
-    ("stop", 1, 365),
-    ("count", 0, 16),
-    ("part", 1, 16),
-];
 
 /// What other systems and other alphabets put into a text: NUL, line ends, a byte order mark, letters and digits beyond ASCII.
 const FOREIGN: &[&[u8]] = &[
@@ -59,7 +37,7 @@ const MOST_NODES: u64 = 400;
 /// A value at a limit of its key or one past it; the one before and the one after the limits too where they are numbers.
 fn at_limit(rng: &mut Rng, line: &str) -> String {
     let key = line.split('=').next().unwrap_or("");
-    let Some((_, least, most)) = LIMITS.iter().find(|(own, _, _)| *own == key) else { return format!("{line}0") };
+    let Some((_, least, most)) = RANGES.iter().find(|(own, _, _)| *own == key) else { return format!("{line}0") };
     let value = rng.pick(&[*least, least.saturating_sub(1), least + 1, *most, most + 1, most - 1, most + 1]);
     format!("{key}={value}")
 }

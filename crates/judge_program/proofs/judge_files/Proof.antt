@@ -33,7 +33,7 @@ returns c =
       plan = take (plan-read .read-file2 .result) (plan-read .read-file2 .last .1 .1 .0);
       job-read = omega (arith, job-read .read-file .ensures, job-cut .job2 .given);
       plan-read = omega (arith, plan-read .read-file2 .ensures, plan-cut .plan2 .given);
-      says = λ jobFile planFile job-kept plan-kept. called .judge .ensures .0 .numbers-are ∙ ap numbers (ap₂ judgeSaid (sym job-kept) (sym plan-kept) ∙ same jobFile planFile);
+      says = λ jobFile planFile job-kept plan-kept. c .print-answer .ensures ∙ called .judge .ensures .0 .numbers-are ∙ ap numbers (ap₂ judgeSaid (sym job-kept) (sym plan-kept) ∙ same jobFile planFile);
     }
 
 pub judge-files-spec : {M : Type 1} → statement M
@@ -41,4 +41,4 @@ judge-files-spec =
     tie.close
     (tie.spec (λ c. search needs) read-file-requires (λ c. search needs) read-file-requires-2 (λ c. search needs)
     (λ c. search needs) (λ c. search needs) (λ c. search needs) (λ c. search needs) judge-requires
-    (λ c. search needs) (λ c. search needs) (λ c. search needs) print-answer-requires returns)
+    (λ c. search needs) (λ c. search needs) print-answer-requires returns)

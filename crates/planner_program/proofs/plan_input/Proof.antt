@@ -26,11 +26,11 @@ returns c =
     record {
       job = take (read .read-whole .result) (read .read-whole .last .1 .1 .0);
       read = omega (arith, read .read-whole .ensures .0, cut .job2 .given);
-      says = λ input kept. called .plan .ensures .0 .numbers-are ∙ ap numbers (ap planSaid (sym kept) ∙ same input);
+      says = λ input kept. c .print-answer .ensures ∙ called .plan .ensures .0 .numbers-are ∙ ap numbers (ap planSaid (sym kept) ∙ same input);
     }
 
 pub plan-input-spec : {M : Type 1} → statement M
 plan-input-spec =
     tie.close
     (tie.spec (λ c. search needs) read-whole-requires (λ c. search needs) (λ c. search needs) (λ c. search needs)
-    plan-requires (λ c. search needs) (λ c. search needs) (λ c. search needs) print-answer-requires returns)
+    plan-requires (λ c. search needs) (λ c. search needs) print-answer-requires returns)
