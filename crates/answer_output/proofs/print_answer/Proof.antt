@@ -22,7 +22,7 @@ put-bytes-requires : tie.Need-put-bytes-requires
 put-bytes-requires c κs = let s = c .before .before .before .before in omega (arith, whole s, s .pre .1)
 
 slice-aggregate-hand-out : tie.Need-slice-aggregate-hand-out
-slice-aggregate-hand-out c = sym (whole (c .before .before .before .before .before .before .before))
+slice-aggregate-hand-out c = omega (arith, whole (c .before .before .before .before .before .before .before))
 
 -- the copy has them
 same : (c : tie.After-hand-out-arg) → let s = c .before .before .before .before .before .before .before in take (s .args .a .length) (s .args .out .now) ≡ take (s .args .a .length) (c .before .before .put-bytes .last .0)
