@@ -21,10 +21,8 @@ use Rattle.counting.specs.Count as counting
 use Rattle.before_holders.specs.Texts as texts
 use Rattle.before_holders.specs.Answers as before
 use Rattle.before_holders.specs.AsBefore.{Accepted, AsBefore}
-use Rattle.before_holders.proofs.Jobs.{said, job-before}
+use Rattle.before_holders.proofs.Jobs.{said, job-before, accepted-before}
 use Rattle.before_holders.proofs.Plans.{plan-before}
-use Rattle.before_holders.proofs.Rendered.{exactly}
-use Rattle.before_holders.proofs.Forms.{writer-before}
 
 -- ---- the job: no holders, removals of 0 and a price for each opening
 
@@ -78,11 +76,10 @@ module _ (text : List ℕ) (a : Accepted text) where
 
 pub as-before : AsBefore
 as-before = record {
-  accepts = exactly;
+  accepts = accepted-before;
   job-text = today;
   plan-text = λ job plan a. plan-before (a .job-text .given .job) plan (a .stated) (a .is);
   planner = λ text a room. ap (lent 16384 room) (planner-before text a);
   judge = λ job plan a room. ap (lent 16384 room) (judge-before job (a .job-text) plan (a .stated) (a .is));
   count = count-before;
-  writer = λ f room. ap (lent 32768 room) (writer-before f);
 }

@@ -1,67 +1,32 @@
--- Job texts: on a text without the letter m the two grammars say the same, values and faults alike (`lines-same`, `job-same`); and an accepted text was without it (`was-without`), so it is accepted today and means the same (`job-before`).
-use Prim.Native.Nat.{ℕ, zero, suc}
-use mathlib.Core.Path.{_≡_, refl, sym, ap, _∙_}
-use mathlib.Core.List.{List, [], _∷_, map}
-use mathlib.Core.Bool.{true}
-use Rattle.lines.specs.Text.{bytes, Optional, missing}
-use Rattle.lines.specs.Parser.{Parsed, good, fault, Parser, _>>=_, return, row, optional, ifPresent, checked, chain, times, rising, upTo, Outcome, accepted, refused, finish, whole, end as ends}
-use Rattle.lines.proofs.Parsing.{bind-good, bind-fault, optional-missing}
+-- Job texts: what the grammar before E7 read is the text that says the same today, in which no part has lines of removal, and it read all such texts (`lines-exact`). So a text that was accepted is accepted still and means the same (`job-before`), and those that were are exactly the accepted ones without lines of removal (`accepted-before`).
+use Prim.Native.Nat.{ℕ, suc, _≤_}
+use mathlib.Core.Path.{_≡_, refl, sym, ap, _∙_, subst}
+use mathlib.Core.List.{List, [], _∷_, _++_, map, append-assoc, append-nil}
+use mathlib.Core.Bool.{true, false}
+use mathlib.Core.Logic.{_↔_}
+use native.Mathlib.Omega.{arith}
+use lib.ListN.{length, length-map}
+use borrow.Author.Tests.{leb-true}
+use Rattle.lines.specs.Line.{startsWith}
+use Rattle.lines.specs.Text.{bytes, line, lineOf, texts, Optional, missing, optionalText}
+use Rattle.lines.specs.Parser.{row, checked, times, upTo, Outcome, accepted, refused}
+use Rattle.lines.proofs.Parsing.{upTo-yes}
 use Rattle.lines.proofs.Outcomes.{one-value, not-both}
-use Rattle.lines.proofs.Sound.{never, accepted-is}
+use Rattle.lines.proofs.Sound.{Chained, accepted-is}
 use Rattle.lines.proofs.Complete.{text-complete}
-use Rattle.model.specs.Model.{Part}
-use Rattle.covers.specs.Grammar.{cover}
+use Rattle.model.specs.Model.{Opening, Part}
+use Rattle.model.specs.Windows.{Rising, stepsOf}
+use Rattle.jobs.specs.Valid.{All, ValidOpening, ValidPrice, ValidPart, HeldFrom}
+use Rattle.jobs.proofs.Lists.{chained-each, each-chained}
 use Rattle.covers.specs.Views.{meantCover}
-use Rattle.job_grammar.specs.Grammar.{PartText, JobText, Given, meantPart, meant, idle, idleSteps, idles, opening, openings, afterLeft, part, following, parts, body, rest, jobLines, maxBytes, meaning, readJobText, readJob}
+use Rattle.job_grammar.specs.Grammar.{PartText, JobText, Given, meantPart, meant, idles, opening, openings, jobLines, maxBytes, meaning, readJobText, readJob}
+use Rattle.job_grammar.specs.Rendering.{idlesText, openingText, partText, bodyText, jobText}
+use Rattle.job_grammar.specs.Valid.{ValidText}
+use Rattle.job_grammar.proofs.Accepted.{KnownIdles, idles-tell, KnownOpening, opening-tells, stepOf, chained-rising, valid-text, text-is}
+use Rattle.job_grammar.proofs.Complete.{idles-complete, opening-complete, openings-chained, read-back}
 use Rattle.before_holders.specs.Texts as before
-use Rattle.before_holders.proofs.Letters.{withoutM, no-removal}
-use Rattle.before_holders.proofs.Clean.{Clean, row-clean, rule-clean, optional-clean, return-clean, bind-clean, present-clean, chain-clean}
-
--- ---- a value that is put into another
-
-abbrev pub mapped : {A B : Type 0} → (A → B) → Parsed A → Parsed B
-mapped f (good a s l) = good (f a) s l
-mapped f (fault n l) = fault n l
-
--- on texts without the letter q says what p says, put by f
-abbrev pub Same : {A B : Type 0} → (A → B) → Parser A → Parser B → Type 0
-Same f p q = (s : List ℕ) (l : ℕ) → withoutM s ≡ true → q s l ≡ mapped f (p s l)
-
-itself : {A : Type 0} (p : Parser A) → Same (λ (a : A). a) p p
-itself {A} p s l e = go (p s l)
-  where
-    go : (x : Parsed A) → x ≡ mapped (λ (a : A). a) x
-    go (good a t m) = refl
-    go (fault n m) = refl
-
-return-same : {A B : Type 0} (f : A → B) (a : A) → Same f (return a) (return (f a))
-unfolding return
-return-same f a s l e = refl
-
-bind-same : {A B C D : Type 0} (f : A → B) (g : C → D) (p : Parser A) (q : Parser B) (u : A → Parser C) (v : B → Parser D)
-    → Clean p → Same f p q → ((a : A) → Same g (u a) (v (f a))) → Same g (p >>= u) (q >>= v)
-bind-same {A} f g p q u v clean first second s l e = go (p s l) refl
-  where
-    go : (x : Parsed A) → p s l ≡ x → (q >>= v) s l ≡ mapped g ((p >>= u) s l)
-    go (good a t m) h =
-        bind-good q v (first s l e ∙ ap (mapped f) h)
-        ∙ second a t m (sym (clean s t l m a h) ∙ e)
-        ∙ sym (ap (mapped g) (bind-good p u h))
-    go (fault n m) h = bind-fault q v (first s l e ∙ ap (mapped f) h) ∙ sym (ap (mapped g) (bind-fault p u h))
-
--- something that is read as it was, and then p and q
-as-it-was : {A C D : Type 0} (g : C → D) (p : Parser A) (u : A → Parser C) (v : A → Parser D) → Clean p → ((a : A) → Same g (u a) (v a)) → Same g (p >>= u) (p >>= v)
-as-it-was {A} g p u v clean = bind-same (λ (a : A). a) g p p u v clean (itself p)
-
--- a chain whose numbers do not matter to p
-chain-same : {A B : Type 0} (f : A → B) (p : Parser A) (q : ℕ → Parser B) (next : ℕ → B → ℕ) → Clean p → ((k : ℕ) → Same f p (q k))
-    → (n j k : ℕ) → Same (map f) (chain (λ _. p) (λ _ _. 0) n j) (chain q next n k)
-unfolding chain
-chain-same f p q next clean h zero j k = return-same (map f) []
-chain-same f p q next clean h (suc n) j k =
-    bind-same f (map f) p (q k) _ _ clean (h k) (λ a.
-    bind-same (map f) (map f) (chain (λ _. p) (λ _ _. 0) n 0) (chain q next n (next k (f a))) _ _ (chain-clean (λ _. p) (λ _ _. 0) (λ _. clean) n 0)
-    (chain-same f p q next clean h n 0 (next k (f a))) (λ xs. return-same (map f) (a ∷ xs)))
+use Rattle.before_holders.specs.AsBefore.{Accepted, Bare}
+use Rattle.before_holders.proofs.Exact.{Exact, Any, exactly, row-exact, checked-exact, chain-exact, return-exact, bind-exact, exact-as}
 
 -- ---- what a text said, as it is said today: no part has lines of removal
 
@@ -71,7 +36,7 @@ uncovered p = record { life = p .life; left = p .left; cover = missing; prices =
 abbrev pub today : before.JobText → JobText
 today t = record { horizon = t .horizon; idles = t .idles; walk = t .walk; openings = t .openings; parts = map uncovered (t .parts) }
 
-pub means-same : (t : before.JobText) → meant (today t) ≡ before.meant t
+means-same : (t : before.JobText) → meant (today t) ≡ before.meant t
 unfolding meantCover
 means-same t = let e = go (t .parts) in λ i. record { walk = t .walk; job = record { horizon = t .horizon; idles = before.meant t .job .idles; openings = t .openings; parts = e i } }
   where
@@ -79,126 +44,233 @@ means-same t = let e = go (t .parts) in λ i. record { walk = t .walk; job = rec
     go [] = refl
     go (p ∷ ps) = ap (λ (qs : List Part). before.meantPart p ∷ qs) (go ps)
 
+-- what a text says without lines of removal, as it was said
+told : JobText → before.JobText
+told t = record { horizon = t .horizon; idles = t .idles; walk = t .walk; openings = t .openings; parts = map (λ (p : PartText). record { life = p .life; left = p .left; prices = p .prices }) (t .parts) }
+
+today-told : (t : JobText) → Bare t → today (told t) ≡ t
+unfolding told
+today-told t bare = let e = go (t .parts) bare in λ i. record { horizon = t .horizon; idles = t .idles; walk = t .walk; openings = t .openings; parts = e i }
+  where
+    go : (ps : List PartText) → All (λ (p : PartText). p .cover ≡ missing) ps → map uncovered (map (λ (p : PartText). record { life = p .life; left = p .left; prices = p .prices }) ps) ≡ ps
+    go [] b = refl
+    go (p ∷ ps) b = let c = b .0 in let r = go ps (b .1) in λ i. record { life = p .life; left = p .left; cover = sym c i; prices = p .prices } ∷ r i
+
+today-bare : (ps : List before.PartText) → All (λ (p : PartText). p .cover ≡ missing) (map uncovered ps)
+today-bare [] = tt
+today-bare (p ∷ ps) = (refl, today-bare ps)
+
 -- ---- parts
 
-prices-clean : (n : ℕ) → Clean (times n (row "price=" 1 1000000))
-unfolding times withoutM bytes
-prices-clean n = chain-clean (λ _. row "price=" 1 1000000) (λ _ _. 0) (λ _. row-clean (bytes "price=") 1 1000000 refl) n 0
+module _ (n : ℕ) where
+  abbrev Priced : List ℕ → Type 0
+  Priced ps = (length ps ≡ n) × Chained (λ (k : ℕ). ValidPrice) (λ (k x : ℕ). 0) 0 ps
 
-left-clean : (l : ℕ) → Clean (checked 5 (upTo l) (row "left=" 1 1000))
-unfolding withoutM bytes
-left-clean l = rule-clean 5 (upTo l) (bytes "left=") 1 1000 refl
+  -- a part of a known life and left, of a known life, and any
+  abbrev PartOf : ℕ → ℕ → before.PartText → Type 0
+  PartOf l r p = Priced (p .prices) × (_≡_ {A = before.PartText} (record { life = l; left = r; prices = p .prices }) p)
 
-life-clean : Clean (row "life=" 1 1000)
-unfolding withoutM bytes
-life-clean = row-clean (bytes "life=") 1 1000 refl
+  abbrev PartFor : ℕ → before.PartText → Type 0
+  PartFor l p = (((1 ≤ p .left) × (p .left ≤ 1000)) × (upTo l (p .left) ≡ true)) × PartOf l (p .left) p
 
-part-clean : (n : ℕ) → Clean (before.part n)
-unfolding before.part
-part-clean n = bind-clean (row "life=" 1 1000) _ life-clean (λ l. bind-clean (checked 5 (upTo l) (row "left=" 1 1000)) _ (left-clean l) (λ r. bind-clean (times n (row "price=" 1 1000000)) _ (prices-clean n) (λ ps. return-clean _)))
+  abbrev AnyPart : before.PartText → Type 0
+  AnyPart p = ((1 ≤ p .life) × (p .life ≤ 1000)) × PartFor (p .life) p
 
--- where the lines of removal may stand they do not
-cover-none : (m k : ℕ) (s : List ℕ) (l : ℕ) → withoutM s ≡ true → cover m k s l ≡ good missing s l
-unfolding cover ifPresent return
-cover-none m k s l e = bind-good (optional "removal=" 0 1000000) _ (optional-missing (bytes "removal=") 0 1000000 s l (no-removal s e))
+  prices-exact : Exact Any (times n (row "price=" 1 1000000)) Priced (texts (lineOf "price="))
+  unfolding times
+  prices-exact = chain-exact (λ (k : ℕ). row "price=" 1 1000000) (λ (k x : ℕ). 0) (λ (k : ℕ). ValidPrice) (lineOf "price=") (λ k. row-exact (bytes "price=") 1 1000000 (omega arith)) n 0
 
-part-same : (m n k : ℕ) → Same uncovered (before.part n) (part m n k)
-unfolding before.part part afterLeft
-part-same m n k =
-    as-it-was uncovered (row "life=" 1 1000) _ _ life-clean (λ l.
-    as-it-was uncovered (checked 5 (upTo l) (row "left=" 1 1000)) _ _ (left-clean l) (λ r. behind l r))
-  where
-    prices : Parser (List ℕ)
-    prices = times n (row "price=" 1 1000000)
+  part-read : Exact Any (before.part n) AnyPart (λ p. lineOf "life=" (p .life) ++ (lineOf "left=" (p .left) ++ (texts (lineOf "price=") (p .prices) ++ [])))
+  unfolding before.part
+  part-read =
+      bind-exact (λ (p : before.PartText). p .life) Any (row "life=" 1 1000) _ _ PartFor (lineOf "life=") _ (row-exact (bytes "life=") 1 1000 (omega arith))
+      (λ l _. bind-exact (λ (p : before.PartText). p .left) Any (checked 5 (upTo l) (row "left=" 1 1000)) _ _ (PartOf l) (lineOf "left=") _
+      (checked-exact 5 (upTo l) (row "left=" 1 1000) _ (lineOf "left=") (row-exact (bytes "left=") 1 1000 (omega arith)))
+      (λ r _. bind-exact (λ (p : before.PartText). p .prices) Any (times n (row "price=" 1 1000000)) _ Priced (λ (ps : List ℕ) (p : before.PartText). record { life = l; left = r; prices = ps } ≡ p) (texts (lineOf "price=")) _ prices-exact
+      (λ ps _. return-exact (record { life = l; left = r; prices = ps })) (λ ps p e. sym (ap (λ (q : before.PartText). q .prices) e)) (λ p s. tt))
+      (λ r p k. sym (ap (λ (q : before.PartText). q .left) (k .1))) (λ p s. tt))
+      (λ l p k. sym (ap (λ (q : before.PartText). q .life) (k .1 .1))) (λ p s. tt)
 
-    behind : (l r : ℕ) → Same uncovered (prices >>= λ ps. return (record { life = l; left = r; prices = ps })) (afterLeft m n k l r)
-    behind l r s at e =
-        bind-good (cover m k) _ (cover-none m k s at e)
-        ∙ as-it-was uncovered prices (λ ps. return (record { life = l; left = r; prices = ps })) _ (prices-clean n) (λ ps. return-same uncovered (record { life = l; left = r; prices = ps })) s at e
+  part-exact : Exact Any (before.part n) (λ p. ValidPart n (meantPart (uncovered p))) (λ p. partText (uncovered p))
+  unfolding partText meantCover
+  part-exact =
+      exact-as AnyPart (λ p. ValidPart n (meantPart (uncovered p))) _ _ part-read
+      (λ p k. record {
+        life-low = k .0 .0;
+        life-high = k .0 .1;
+        left-low = k .1 .0 .0 .0;
+        left-high = leb-true (p .left) (p .life) (k .1 .0 .1);
+        removal = omega arith;
+        few-holders = omega arith;
+        priced = k .1 .1 .0 .0;
+        prices = chained-each ValidPrice 0 (p .prices) (k .1 .1 .0 .1);
+      })
+      (λ p v. ((v .life-low, v .life-high), (((v .left-low, omega (arith, v .left-high, v .life-high)), upTo-yes (p .life) (p .left) (v .left-high)), ((v .priced, each-chained ValidPrice 0 (p .prices) (v .prices)), refl))))
+      (λ p. simp (append-assoc, append-nil))
 
 -- ---- the whole
 
-idles-clean : (h : ℕ) → Clean (idles h)
-unfolding idles idleSteps idle withoutM bytes
-idles-clean h =
-    bind-clean (optional "idles=" 1 365) _ (optional-clean (bytes "idles=") 1 365 refl)
-    (present-clean (idleSteps h) (λ n. chain-clean (idle h) (λ _ i. i) (λ before. rule-clean 4 (rising before h) (bytes "idle=") 1 365 refl) n 0))
+openings-exact : (h n : ℕ) → Exact Any (openings h n) (λ os. (length os ≡ n) × (All ValidOpening os × Rising 0 h (stepsOf os))) (texts openingText)
+unfolding openings
+openings-exact h n =
+    exact-as _ (λ os. (length os ≡ n) × (All ValidOpening os × Rising 0 h (stepsOf os))) (texts openingText) (texts openingText)
+    (chain-exact (opening h) stepOf (KnownOpening h) openingText (λ k. exactly (opening h k) _ openingText (opening-tells h k) (opening-complete h k)) n 0)
+    (λ os k. (k .0, chained-rising h 0 os (k .1))) (λ os k. (k .0, openings-chained h 0 os (k .1 .0) (k .1 .1))) (λ os. refl)
 
-openings-clean : (h n : ℕ) → Clean (openings h n)
-unfolding openings opening withoutM bytes
-openings-clean h n =
-    chain-clean (opening h) (λ _ o. o .step)
-    (λ before. bind-clean (checked 4 (rising before h) (row "opening=" 1 365)) _ (rule-clean 4 (rising before h) (bytes "opening=") 1 365 refl)
-    (λ o. bind-clean (row "fee=" 0 1000000) _ (row-clean (bytes "fee=") 0 1000000 refl) (λ f. return-clean _))) n 0
+-- what is known where the lines up to the number of parts are read, up to the openings, their number, the walk number, the idle steps, the horizon, and of any text
+module _ (h : ℕ) (is : Optional (List ℕ)) (w n : ℕ) where
+  abbrev PartsIn : List Opening → ℕ → before.JobText → Type 0
+  PartsIn os m t = ((length (t .parts) ≡ m) × All (λ (p : before.PartText). ValidPart n (meantPart (uncovered p))) (t .parts)) × (_≡_ {A = before.JobText} (record { horizon = h; idles = is; walk = w; openings = os; parts = t .parts }) t)
 
-parts-clean : (m n : ℕ) → Clean (times m (before.part n))
-unfolding times
-parts-clean m n = chain-clean (λ _. before.part n) (λ _ _. 0) (λ _. part-clean n) m 0
+  abbrev CountedIn : List Opening → before.JobText → Type 0
+  CountedIn os t = ((1 ≤ length (t .parts)) × (length (t .parts) ≤ 16)) × PartsIn os (length (t .parts)) t
 
-body-clean : (h : ℕ) (is : Optional (List ℕ)) (w n : ℕ) → Clean (before.body h is w n)
-unfolding before.body withoutM bytes
-body-clean h is w n =
-    bind-clean (openings h n) _ (openings-clean h n)
-    (λ os. bind-clean (row "parts=" 1 16) _ (row-clean (bytes "parts=") 1 16 refl) (λ m. bind-clean (times m (before.part n)) _ (parts-clean m n) (λ ps. return-clean _)))
+  abbrev OpeningsIn : before.JobText → Type 0
+  OpeningsIn t = ((length (t .openings) ≡ n) × (All ValidOpening (t .openings) × Rising 0 h (stepsOf (t .openings)))) × CountedIn (t .openings) t
 
-lines-clean : Clean before.jobLines
-unfolding before.jobLines before.rest withoutM bytes
-lines-clean =
-    bind-clean (row "horizon=" 2 365) _ (row-clean (bytes "horizon=") 2 365 refl)
-    (λ h. bind-clean (idles h) _ (idles-clean h)
-    (λ is. bind-clean (row "walk=" 0 4000000000) _ (row-clean (bytes "walk=") 0 4000000000 refl)
-    (λ w. bind-clean (row "openings=" 0 64) _ (row-clean (bytes "openings=") 0 64 refl) (λ n. body-clean h is w n))))
+  -- the parts, behind the openings and their number
+  abbrev partsText : before.JobText → List ℕ
+  partsText t = texts openingText (t .openings) ++ (lineOf "parts=" (length (t .parts)) ++ (texts (λ (p : before.PartText). partText (uncovered p)) (t .parts) ++ []))
 
-body-same : (h : ℕ) (is : Optional (List ℕ)) (w n : ℕ) → Same today (before.body h is w n) (body h is w n)
-unfolding before.body body parts times withoutM bytes
-body-same h is w n =
-    as-it-was today (openings h n) _ _ (openings-clean h n) (λ os.
-    as-it-was today (row "parts=" 1 16) _ _ (row-clean (bytes "parts=") 1 16 refl) (λ m.
-    bind-same (map uncovered) today (times m (before.part n)) (parts m n) (λ ps. return (record { horizon = h; idles = is; walk = w; openings = os; parts = ps })) _ (parts-clean m n)
-    (chain-same uncovered (before.part n) (part m n) following (part-clean n) (part-same m n) m 0 1)
-    (λ ps. return-same today (record { horizon = h; idles = is; walk = w; openings = os; parts = ps }))))
+  parts-exact : (m : ℕ) → Exact Any (times m (before.part n)) (λ ps. (length ps ≡ m) × All (λ (p : before.PartText). ValidPart n (meantPart (uncovered p))) ps) (texts (λ (p : before.PartText). partText (uncovered p)))
+  unfolding times
+  parts-exact m =
+      exact-as _ (λ ps. (length ps ≡ m) × All (λ (p : before.PartText). ValidPart n (meantPart (uncovered p))) ps) _ _
+      (chain-exact (λ (k : ℕ). before.part n) (λ (k : ℕ) (p : before.PartText). 0) (λ (k : ℕ) (p : before.PartText). ValidPart n (meantPart (uncovered p))) _ (λ k. part-exact n) m 0)
+      (λ ps k. (k .0, chained-each _ 0 ps (k .1))) (λ ps k. (k .0, each-chained _ 0 ps (k .1))) (λ ps. refl)
 
-pub lines-same : Same today before.jobLines jobLines
-unfolding before.jobLines before.rest jobLines rest withoutM bytes
-lines-same =
-    as-it-was today (row "horizon=" 2 365) _ _ (row-clean (bytes "horizon=") 2 365 refl) (λ h.
-    as-it-was today (idles h) _ _ (idles-clean h) (λ is.
-    as-it-was today (row "walk=" 0 4000000000) _ _ (row-clean (bytes "walk=") 0 4000000000 refl) (λ w.
-    as-it-was today (row "openings=" 0 64) _ _ (row-clean (bytes "openings=") 0 64 refl) (λ n. body-same h is w n))))
+  body-read : Exact Any (before.body h is w n) OpeningsIn partsText
+  unfolding before.body
+  body-read =
+      bind-exact (λ (t : before.JobText). t .openings) Any (openings h n) _ _ CountedIn (texts openingText) _ (openings-exact h n)
+      (λ os _. bind-exact (λ (t : before.JobText). length (t .parts)) Any (row "parts=" 1 16) _ _ (PartsIn os) (lineOf "parts=") _ (row-exact (bytes "parts=") 1 16 (omega arith))
+      (λ m _. bind-exact (λ (t : before.JobText). t .parts) Any (times m (before.part n)) _ _ (λ (ps : List before.PartText) (t : before.JobText). record { horizon = h; idles = is; walk = w; openings = os; parts = ps } ≡ t) _ _ (parts-exact m)
+      (λ ps _. return-exact (record { horizon = h; idles = is; walk = w; openings = os; parts = ps })) (λ ps t e. sym (ap (λ (u : before.JobText). u .parts) e)) (λ t s. tt))
+      (λ m t k. k .0 .0) (λ t s. tt))
+      (λ os t k. sym (ap (λ (u : before.JobText). u .openings) (k .1 .1))) (λ t s. tt)
+
+-- the number of openings and what follows it; the walk number; the idle steps; the horizon
+abbrev NumberedIn : ℕ → Optional (List ℕ) → ℕ → before.JobText → Type 0
+NumberedIn h is w t = ((0 ≤ length (t .openings)) × (length (t .openings) ≤ 64)) × OpeningsIn h is w (length (t .openings)) t
+
+abbrev WalkedIn : ℕ → Optional (List ℕ) → before.JobText → Type 0
+WalkedIn h is t = ((0 ≤ t .walk) × (t .walk ≤ 4000000000)) × NumberedIn h is (t .walk) t
+
+abbrev IdledIn : ℕ → before.JobText → Type 0
+IdledIn h t = KnownIdles h (t .idles) × WalkedIn h (t .idles) t
+
+abbrev Known : before.JobText → Type 0
+Known t = ((2 ≤ t .horizon) × (t .horizon ≤ 365)) × IdledIn (t .horizon) t
+
+abbrev restText : before.JobText → List ℕ
+restText t = lineOf "walk=" (t .walk) ++ (lineOf "openings=" (length (t .openings)) ++ partsText 0 missing 0 0 t)
+
+rest-read : (h : ℕ) (is : Optional (List ℕ)) → Exact Any (before.rest h is) (WalkedIn h is) restText
+unfolding before.rest
+rest-read h is =
+    bind-exact (λ (t : before.JobText). t .walk) Any (row "walk=" 0 4000000000) _ _ (NumberedIn h is) (lineOf "walk=") _ (row-exact (bytes "walk=") 0 4000000000 (omega arith))
+    (λ w _. bind-exact (λ (t : before.JobText). length (t .openings)) Any (row "openings=" 0 64) _ _ (OpeningsIn h is w) (lineOf "openings=") _ (row-exact (bytes "openings=") 0 64 (omega arith))
+    (λ n _. body-read h is w n) (λ n t k. k .0 .0) (λ t s. tt))
+    (λ w t k. sym (ap (λ (u : before.JobText). u .walk) (k .1 .1 .1 .1))) (λ t s. tt)
+
+-- no line of idle steps stands behind them
+abbrev NoIdles : List ℕ → Type 0
+NoIdles s = startsWith (bytes "idles=") s ≡ false
+
+rest-next : (t : before.JobText) (s : List ℕ) → NoIdles (restText t ++ s)
+unfolding startsWith line bytes
+rest-next t s = refl
+
+idles-exact : (h : ℕ) → h ≤ 365 → Exact NoIdles (idles h) (KnownIdles h) (optionalText idlesText)
+idles-exact h high = record { tells = idles-tell h; back = λ is k s l next. idles-complete h is high (k .0) (k .1) (k .2) s l next }
+
+lines-read : Exact Any before.jobLines Known (λ t. lineOf "horizon=" (t .horizon) ++ (optionalText idlesText (t .idles) ++ restText t))
+unfolding before.jobLines
+lines-read =
+    bind-exact (λ (t : before.JobText). t .horizon) Any (row "horizon=" 2 365) _ _ IdledIn (lineOf "horizon=") _ (row-exact (bytes "horizon=") 2 365 (omega arith))
+    (λ h k. bind-exact (λ (t : before.JobText). t .idles) NoIdles (idles h) _ _ (WalkedIn h) (optionalText idlesText) _ (idles-exact h (k .1))
+    (λ is _. rest-read h is) (λ is t k. sym (ap (λ (u : before.JobText). u .idles) (k .1 .1 .1 .1 .1))) rest-next)
+    (λ h t k. sym (ap (λ (u : before.JobText). u .horizon) (k .1 .1 .1 .1 .1 .1))) (λ t s. tt)
+
+-- ---- what is known of it, and its text, as today
+
+parts-today : (n : ℕ) (ps : List before.PartText) → All (λ (p : before.PartText). ValidPart n (meantPart (uncovered p))) ps → All (ValidPart n) (map meantPart (map uncovered ps))
+parts-today n [] v = tt
+parts-today n (p ∷ ps) v = (v .0, parts-today n ps (v .1))
+
+parts-then : (n : ℕ) (ps : List before.PartText) → All (ValidPart n) (map meantPart (map uncovered ps)) → All (λ (p : before.PartText). ValidPart n (meantPart (uncovered p))) ps
+parts-then n [] v = tt
+parts-then n (p ∷ ps) v = (v .0, parts-then n ps (v .1))
+
+none-held : (m k : ℕ) (ps : List before.PartText) → HeldFrom m k (map meantPart (map uncovered ps))
+unfolding meantCover
+none-held m k [] = tt
+none-held m k (p ∷ ps) = (tt, none-held m (suc k) ps)
+
+count-same : (ps : List before.PartText) → length (map meantPart (map uncovered ps)) ≡ length ps
+count-same ps = length-map (map uncovered ps) meantPart ∙ length-map ps uncovered
+
+known-valid : (t : before.JobText) → Known t → ValidText (today t)
+known-valid t k =
+    let count = count-same (t .parts) in
+    record {
+      means = record {
+        walk = k .1 .1 .0 .1;
+        job = record {
+          horizon-low = k .0 .0;
+          horizon-high = k .0 .1;
+          few-idles = k .1 .0 .0;
+          idles = k .1 .0 .1;
+          few-openings = k .1 .1 .1 .0 .1;
+          openings = k .1 .1 .1 .1 .0 .1 .0;
+          rising = k .1 .1 .1 .1 .0 .1 .1;
+          some-part = omega (arith, count, k .1 .1 .1 .1 .1 .0 .0);
+          few-parts = omega (arith, count, k .1 .1 .1 .1 .1 .0 .1);
+          parts = parts-today (length (t .openings)) (t .parts) (k .1 .1 .1 .1 .1 .1 .0 .1);
+          holders = none-held _ 1 (t .parts);
+        };
+      };
+      idles = k .1 .0 .2;
+    }
+
+valid-known : (t : before.JobText) → ValidText (today t) → Known t
+valid-known t v =
+    let j = v .means .job in
+    let n = length (t .openings) in
+    let count = count-same (t .parts) in
+    let parts : PartsIn (t .horizon) (t .idles) (t .walk) n (t .openings) (length (t .parts)) t = ((refl, parts-then n (t .parts) (j .parts)), refl) in
+    let opened : OpeningsIn (t .horizon) (t .idles) (t .walk) n t = ((refl, (j .openings, j .rising)), ((omega (arith, count, j .some-part), omega (arith, count, j .few-parts)), parts)) in
+    ((j .horizon-low, j .horizon-high), ((j .few-idles, j .idles, v .idles), ((omega arith, v .means .walk), ((omega arith, j .few-openings), opened))))
+
+texts-map : (ps : List before.PartText) → texts (λ (p : before.PartText). partText (uncovered p)) ps ≡ texts partText (map uncovered ps)
+texts-map [] = refl
+texts-map (p ∷ ps) = ap (λ (s : List ℕ). partText (uncovered p) ++ s) (texts-map ps)
+
+text-same : (t : before.JobText) → lineOf "horizon=" (t .horizon) ++ (optionalText idlesText (t .idles) ++ restText t) ≡ jobText (today t)
+unfolding jobText bodyText
+text-same t = simp (append-assoc, append-nil, length-map, texts-map)
+
+pub lines-exact : Exact Any before.jobLines (λ t. ValidText (today t)) (λ t. jobText (today t))
+lines-exact = exact-as Known (λ t. ValidText (today t)) _ _ lines-read known-valid valid-known text-same
 
 -- ---- the text
 
--- what a whole text gives, put into another
-abbrev pub outcome : {A B : Type 0} → (A → B) → Outcome A → Outcome B
-outcome f (accepted a) = accepted (f a)
-outcome f (refused n l) = refused n l
-
-end-clean : Clean ends
-unfolding ends
-end-clean [] s′ l l′ u h = let e : [] ≡ s′ = cc in ap withoutM e
-end-clean (b ∷ s) s′ l l′ u h = never h
-
--- however long it is
-pub whole-same : (s : List ℕ) → withoutM s ≡ true → finish (whole jobLines s 1) ≡ outcome today (finish (whole before.jobLines s 1))
-unfolding whole
-whole-same s e =
-    ap finish (bind-same today today before.jobLines jobLines _ _ lines-clean lines-same (λ t. as-it-was today ends _ _ end-clean (λ _. return-same today t)) s 1 e)
-    ∙ go (whole before.jobLines s 1)
-  where
-    go : (x : Parsed before.JobText) → finish (mapped today x) ≡ outcome today (finish x)
-    go (good t r l) = refl
-    go (fault n l) = refl
-
--- a text that was accepted was without the letter
-pub was-without : (s : List ℕ) (t : before.JobText) → before.readJobText s ≡ accepted t → withoutM s ≡ true
-unfolding withoutM
-was-without s t e = let a = accepted-is before.maxBytes before.jobLines s t e in lines-clean s [] 1 (a .last) t (a .lines)
-
--- and is accepted still, and says the same
+-- one that was accepted is accepted still, and says the same
 pub text-before : (s : List ℕ) (t : before.JobText) → before.readJobText s ≡ accepted t → readJobText s ≡ accepted (today t)
 text-before s t e =
     let a = accepted-is before.maxBytes before.jobLines s t e in
-    text-complete maxBytes jobLines s (today t) (a .last) (a .few) (lines-same s 1 (was-without s t e) ∙ ap (mapped today) (a .lines))
+    let k = lines-exact .tells s [] 1 (a .last) t (a .lines) in
+    ap readJobText (k .text ∙ append-nil (jobText (today t))) ∙ read-back (today t) (k .known)
+
+-- one that is accepted and has no lines of removal was accepted
+pub was-accepted : (s : List ℕ) (t : JobText) → readJobText s ≡ accepted t → Bare t → Accepted s
+was-accepted s t e bare =
+    let u = told t in
+    let same : today u ≡ t = today-told t bare in
+    let b = lines-exact .back u (subst ValidText (sym same) (valid-text s t e)) [] 1 tt in
+    let written : s ≡ jobText (today u) ++ [] = text-is s t e ∙ ap jobText (sym same) ∙ sym (append-nil (jobText (today u))) in
+    let r = text-complete before.maxBytes before.jobLines s u (b .0) (accepted-is maxBytes jobLines s t e .few) (ap (λ (x : List ℕ). before.jobLines x 1) written ∙ b .1) in
+    record { given = before.meant u; is = ap before.meaning r }
 
 -- ---- what it means
 
@@ -218,3 +290,7 @@ pub job-before : (s : List ℕ) (g : Given) → before.readJob s ≡ accepted g 
 job-before s g e =
     let t = said s g e in
     ap meaning (text-before s (t .text) (t .is)) ∙ ap accepted (means-same (t .text) ∙ t .means)
+
+-- exactly which texts were accepted
+pub accepted-before : (s : List ℕ) → Accepted s ↔ ((t : JobText) × ((readJobText s ≡ accepted t) × Bare t))
+accepted-before s = (λ a. let u = said s (a .given) (a .is) in (today (u .text), (text-before s (u .text) (u .is), today-bare (u .text .parts))), λ r. was-accepted s (r .0) (r .1 .0) (r .1 .1))

@@ -1,7 +1,7 @@
 -- What the calls said before E7. It stays for one theorem alone, `AsBefore`: no code and no other promise rests on it.
 -- What E7 left as it was is cited: the lines of an answer, refusals, the verdict on the lives, the count; E4's answer and a plan's cost without removals (`model/Unheld`).
 use Prim.Native.Nat.{ℕ}
-use mathlib.Core.List.{List, []}
+use mathlib.Core.List.{List}
 use Rattle.lines.specs.Parser.{Outcome, accepted, refused}
 use Rattle.model.specs.Model.{Job}
 use Rattle.model.specs.Unheld.{plainAnswer, plainCost}
@@ -9,12 +9,12 @@ use Rattle.model.specs.Verdict.{judged, verdictOf}
 use Rattle.model.specs.Count.{openCount}
 use Rattle.job_grammar.specs.Grammar.{Given}
 use Rattle.plan_grammar.specs.Grammar.{Stated}
-use Rattle.answers.specs.Said.{Said, plainly, refusal}
+use Rattle.answers.specs.Said.{Said, refusal}
 use Rattle.planning.specs.Plan as planning
 use Rattle.judging.specs.Judge as judging
 use Rattle.counting.specs.Count.{countOf, refusalOf}
 use Rattle.counting.specs.declared.Counted.{Counted}
-use Rattle.before_holders.specs.Texts.{JobText, jobText, Form, readForm, readJob, readPlan}
+use Rattle.before_holders.specs.Texts.{readJob, readPlan}
 
 -- ---- the planner
 
@@ -61,18 +61,3 @@ countOn text (refused number line) = refusalOf text number line
 -- what the count handed over for a job text
 unfoldable pub countSaid : List ℕ → Counted
 countSaid text = countOn text (readJob text)
-
--- ---- the writer
-
--- by what the form read as: the text of its job, or its fault, with no text of the caller's
-abbrev pub writeOn : Outcome JobText → Said
-writeOn (accepted t) = plainly 0 (jobText t)
-writeOn (refused number line) = refusal 1 [] number line
-
--- what the writer said of a form where there was room
-unfoldable pub writeSaid : Form → Said
-writeSaid f = writeOn (readForm f)
-
--- "8 if the output has less than 32,768 bytes"
-abbrev pub writeRoom : ℕ
-writeRoom = 32768

@@ -1,9 +1,8 @@
 -- E7.13. "With no holders and removals of 0, every printed answer to texts that were free of faults before is the one given before."
 use Prim.Native.Nat.{ℕ}
 use mathlib.Core.Path.{_≡_}
-use mathlib.Core.List.{List, []}
+use mathlib.Core.List.{List}
 use mathlib.Core.Logic.{_↔_}
-use lib.ListN.{length, replicate}
 use Rattle.lines.specs.Text.{missing}
 use Rattle.lines.specs.Parser.{accepted}
 use Rattle.jobs.specs.Valid.{All}
@@ -15,10 +14,7 @@ use Rattle.answers.specs.Said.{lent}
 use Rattle.planning.specs.Plan.{planSaid, planRoom}
 use Rattle.judging.specs.Judge.{judgeSaid, judgeRoom}
 use Rattle.counting.specs.Count.{countSaid}
-use Rattle.form.specs.Form.{Form, filled}
-use Rattle.form.specs.Write.{writeSaid, writeRoom}
 use Rattle.before_holders.specs.Texts.{readJob, readPlan}
-use Rattle.before_holders.specs.Texts as texts
 use Rattle.before_holders.specs.Answers as before
 
 -- a job text was free of faults
@@ -36,11 +32,7 @@ pub record BothAccepted (job plan : List ℕ) : Type 0 where
   pub stated : Stated
   pub is : readPlan (job-text .given .job) plan ≡ accepted stated
 
--- a form of the writer's before E7, as it is filled in today: no part is covered, and the other three lists are empty
-abbrev pub uncovered : texts.Form → Form
-uncovered f = filled (f .horizon) (f .idles) (f .walk) (f .openings) (f .fees) (f .lives) (f .lefts) (replicate (length (f .lives)) 0) [] [] [] (f .prices)
-
--- of all texts, forms and rooms: which texts were free of faults, what they said, and every call's answer
+-- of all texts and rooms: which texts were free of faults, what they said, and every call's answer
 pub record AsBefore : Type 0 where
   -- exactly the job texts that are accepted today and have no lines of removal were accepted
   pub accepts : (text : List ℕ) → Accepted text ↔ ((t : today.JobText) × ((today.readJobText text ≡ accepted t) × Bare t))
@@ -51,5 +43,3 @@ pub record AsBefore : Type 0 where
   pub planner : (text : List ℕ) → Accepted text → (room : ℕ) → lent planRoom room (planSaid text) ≡ lent before.planRoom room (before.planSaid text)
   pub judge : (job plan : List ℕ) → BothAccepted job plan → (room : ℕ) → lent judgeRoom room (judgeSaid job plan) ≡ lent before.judgeRoom room (before.judgeSaid job plan)
   pub count : (text : List ℕ) → Accepted text → countSaid text ≡ before.countSaid text
-  -- of the writer also every refusal
-  pub writer : (f : texts.Form) (room : ℕ) → lent writeRoom room (writeSaid (uncovered f)) ≡ lent before.writeRoom room (before.writeSaid f)

@@ -23,14 +23,11 @@ use Rattle.job_grammar.specs.Optionals.{idleLines}
 use Rattle.job_grammar.proofs.Accepted.{itself, stepOf}
 use Rattle.job_grammar.proofs.Complete.{walk-next}
 use Rattle.form_facts.specs.Facts.{paired, partsOf, feesAgree, partsAgree, PartsAgree, countOf, countedText}
-use Rattle.form_checks.specs.Checks.{found}
-use Rattle.form_checks.specs.declared.check.Check.the-variants.{Good}
 use Rattle.form_facts.proofs.CountLines.{count-in, count-out}
 use Rattle.form_facts.proofs.Facts.{paired-size, agree-says}
 use Rattle.form.specs.Form.{Form, idleCountText, bodyOf, restOf, formText}
-use Rattle.form.specs.Promise.{StartFaultless, OpeningsFaultless, openingsLine, partsLine}
-use Rattle.form.specs.Checks.{lineAfter}
-use Rattle.form.proofs.IdleLines.{after-none, after-some, idles-none, idles-some, steps-found}
+use Rattle.form.specs.Promise.{StartFaultless, OpeningsFaultless, openingsLine, partsLine, lineAfter}
+use Rattle.form.proofs.IdleLines.{after-none, after-some, idles-none, idles-some, steps-in}
 
 -- ---- lines without a fault
 
@@ -65,15 +62,15 @@ idles-chained h before (i ∷ is) r = ((r .0, r .1), idles-chained h i is (r .2)
 -- the lines of the idle steps, from line 2 on
 idles-in : (h : ℕ) (is t : List ℕ) → h ≤ 365 → length is ≤ 365 → Rising 0 h is → startsWith (bytes "idles=") t ≡ false
     → idles h (optionalText idleCountText (idleLines is) ++ t) 2 ≡ good (idleLines is) t (lineAfter (length is))
-unfolding idleSteps idle found
+unfolding idleSteps idle
 idles-in h is t high few rise other = go (decLt 0 (length is))
   where
     go : Dec (0 < length is) → idles h (optionalText idleCountText (idleLines is) ++ t) 2 ≡ good (idleLines is) t (lineAfter (length is))
-    go (no m) = let e : length is ≡ 0 = omega (arith, m) in idles-none h 2 is t e other ∙ ap (good (idleLines is) t) (sym (after-none (length is) e))
+    go (no m) = let e : length is ≡ 0 = omega (arith, m) in idles-none idleCountText h 2 is t e other ∙ ap (good (idleLines is) t) (sym (after-none (length is) e))
     go (yes m) =
         let next : 3 + length is * 1 ≡ lineAfter (length is) = omega (arith, after-some (length is) m) in
         idles-some h 2 is t m (count-in (bytes "idles=") 1 365 (omega arith) true (length is) (texts (lineOf "idle=") is ++ t) 2 m few refl)
-        ∙ steps-found h (length is) 3 Good is (texts (lineOf "idle=") is ++ t) t (3 + length is * 1) (lineAfter (length is)) m next
+        ∙ steps-in h (length is) 3 is (texts (lineOf "idle=") is ++ t) t (3 + length is * 1) (lineAfter (length is)) m next
         (chain-in (idle h) itself (lineOf "idle=") (Within h) 1 (λ before i k s l. step-in (bytes "idle=") h before i high (k .0) (k .1) s l) 0 is (idles-chained h 0 is rise) t 3)
 
 -- ---- openings

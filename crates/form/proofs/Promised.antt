@@ -1,18 +1,19 @@
 -- The writer's answer keeps its promise on every form and every room (`promised`): what it writes reads back as what the form states (`written-reads`), and the numbers read from an accepted text
 -- make that text again (`read-writes`). By what the form's text is read as.
 use Prim.Native.Nat.{ℕ, zero, suc, _≤_, _<_}
-use mathlib.Core.Path.{_≡_, refl, sym, ap, subst, _∙_}
-use mathlib.Core.List.{List, []}
+use mathlib.Core.Path.{_≡_, refl, sym, ap, ap₂, subst, _∙_}
+use mathlib.Core.List.{List, [], _∷_, _++_}
 use native.Mathlib.Omega.{arith}
 use native.Mathlib.Decide.{decLt}
 use borrow.Author.Tests.{lt-ltb, le-ltb}
 use mathlib.Core.Logic.{⊎-elim}
-use lib.ListN.{length, length-map}
+use lib.ListN.{length, take, drop, length-map}
+use Rattle.lines.specs.Wrote.{Wrote}
+use Rattle.lines.proofs.Writing as wrote
 use Rattle.lines.specs.Parser.{accepted, refused, good, fault, return, end as ends, finish, whole}
 use Rattle.fault_lines.specs.Fault.{nowhere, skipped, afterBreak, faultSpan, spanIn}
 use Rattle.lines.proofs.Parsing.{bind-good, bind-fault, text-fits}
 use Rattle.lines.proofs.Outcomes.{one-value, one-fault, not-both}
-use Rattle.lines.proofs.Readback.{Readback, back, broken}
 use Rattle.job_grammar.specs.Grammar.{JobText, meantPart, jobLines, maxBytes, readJobText}
 use Rattle.job_grammar.specs.Rendering.{jobText}
 use Rattle.job_grammar.proofs.Optionals.{idle-steps}
@@ -26,7 +27,8 @@ use Rattle.form.specs.Form.{Form, stated, formText, readForm}
 use Rattle.form.specs.Write.{saidFor, writeSaid, writeRoom}
 use Rattle.form.specs.Promise.{Agree, Few, FormFault, formOf, WritePromise}
 use Rattle.form.proofs.Differing.{fees-out, parts-out}
-use Rattle.form.proofs.Stated.{Held, form-back}
+use Rattle.form.proofs.Readback.{Readback, back, broken}
+use Rattle.form.proofs.Stated.{Held, cut, form-back}
 use Rattle.form.proofs.Returned.{same-text, agrees, fits, returned}
 
 -- ---- what the lines give is what the form is read as
@@ -39,9 +41,26 @@ pub form-refused : (f : Form) (n l : ℕ) → jobLines (formText f) 1 ≡ fault 
 unfolding readForm whole
 form-refused f n l e = ap finish (bind-fault jobLines _ e)
 
--- lines that are read to their end say something valid, which fits
-pub fits-room : (f : Form) (t : JobText) (l : ℕ) → jobLines (formText f) 1 ≡ good t [] l → length (jobText t) ≤ writeRoom
-fits-room f t l e = lengths.text-fits t (lines-tell (formText f) [] 1 l t e .known)
+-- and the text that is written to be read gives the same
+pub cut-reads : (f : Form) (held : Held f) → finish (whole jobLines (cut f) 1) ≡ readForm f
+unfolding readForm whole ends return
+cut-reads f held = go (form-back f held)
+  where
+    go : Readback FormFault (Agree f × Few f) (stated f) [] [] (jobLines (formText f) 1) (jobLines (cut f) 1) → finish (whole jobLines (cut f) 1) ≡ readForm f
+    go (back g l h i) = ap finish (bind-good jobLines _ i ∙ bind-good ends _ refl) ∙ sym (form-accepted f (stated f) l h)
+    go (broken n m w h i) = ap finish (bind-fault jobLines _ i) ∙ sym (form-refused f n m h)
+
+pub cut-says : (f : Form) → Held f → length (cut f) ≤ writeRoom → saidFor (readJobText (cut f)) ≡ writeSaid f
+unfolding writeSaid
+cut-says f held few = ap saidFor (sym (text-fits maxBytes jobLines (cut f) few) ∙ cut-reads f held)
+
+-- what was written from the start on is the front
+front : (xs ys : List ℕ) → take (length xs) (xs ++ ys) ≡ xs
+front [] ys = refl
+front (x ∷ xs) ys = ap (λ (l : List ℕ). x ∷ l) (front xs ys)
+
+pub written-front : {d xs e : List ℕ} {n : ℕ} → length xs ≤ length d → Wrote d 0 xs e n → take n e ≡ xs
+written-front {d} {xs} h w = let v = wrote.written h w in ap₂ (λ (k : ℕ) (l : List ℕ). take k l) (v .1) (v .0) ∙ front xs (drop (length xs) d)
 
 -- ---- the two directions
 
@@ -49,11 +68,11 @@ fits-room f t l e = lengths.text-fits t (lines-tell (formText f) [] 1 l t e .kno
 pub written-reads : (f : Form) → Held f → (t : JobText) → readForm f ≡ accepted t → (t ≡ stated f) × (readJobText (jobText t) ≡ accepted t)
 written-reads f held t e = go (form-back f held)
   where
-    go : Readback FormFault (Agree f × Few f) (stated f) [] (jobLines (formText f) 1) → (t ≡ stated f) × (readJobText (jobText t) ≡ accepted t)
-    go (back g l h) =
+    go : Readback FormFault (Agree f × Few f) (stated f) [] [] (jobLines (formText f) 1) (jobLines (cut f) 1) → (t ≡ stated f) × (readJobText (jobText t) ≡ accepted t)
+    go (back g l h i) =
         let same : t ≡ stated f = one-value (form-accepted f (stated f) l h) e in
         (same, subst (λ (u : JobText). readJobText (jobText u) ≡ accepted u) (sym same) (read-back (stated f) (lines-tell (formText f) [] 1 l (stated f) h .known)))
-    go (broken n m w h) = not-both e (form-refused f n m h)
+    go (broken n m w h i) = not-both e (form-refused f n m h)
 
 -- an accepted text, read and written, comes out byte for byte
 pub read-writes : (text : List ℕ) (t : JobText) → readJobText text ≡ accepted t → writeSaid (formOf t) ≡ plainly 0 text
@@ -162,9 +181,9 @@ module _ (f : Form) (held : Held f) (room : ℕ) where
       said : writeSaid f ≡ refusal 1 [] n m
       said = ap saidFor read
 
-  on-lines : writeRoom ≤ room → Readback FormFault (Agree f × Few f) (stated f) [] (jobLines (formText f) 1) → WritePromise f room (writeSaid f)
-  on-lines h (back g l e) = written h l (g .0) e
-  on-lines h (broken n m w e) = refused-line h n m w e
+  on-lines : writeRoom ≤ room → Readback FormFault (Agree f × Few f) (stated f) [] [] (jobLines (formText f) 1) (jobLines (cut f) 1) → WritePromise f room (writeSaid f)
+  on-lines h (back g l e i) = written h l (g .0) e
+  on-lines h (broken n m w e i) = refused-line h n m w e
 
   pub promised : WritePromise f room (lent writeRoom room (writeSaid f))
   promised = go (decLt room writeRoom)

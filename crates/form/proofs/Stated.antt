@@ -1,7 +1,7 @@
--- A form's text is read as what the form states, and then its lists agree and are not too long; or it has a fault of number 3, 4, 5 or 12 (`form-back`). By the grammar's lines, one after the other.
+-- A form's text is read as what the form states, and then its lists agree and are not too long; or it has a fault of number 3, 4, 5 or 12; and the text that is written to be read gives the same (`form-back`). By the grammar's lines, one after the other.
 use Prim.Native.Nat.{ℕ, zero, suc, _+_, _*_, _^_, _≤_, _<_}
 use mathlib.Core.Path.{_≡_, refl, sym, ap, ap₂, subst, _∙_}
-use mathlib.Core.Bool.{Bool, true, false, _&&_, and-eq-true-iff, false≢true}
+use mathlib.Core.Bool.{Bool, true, false, _&&_, cond, and-eq-true-iff, false≢true}
 use mathlib.Core.List.{List, [], _∷_, _++_, append-assoc}
 use mathlib.Core.Logic.{inl, inr}
 use native.Mathlib.Omega.{arith}
@@ -13,9 +13,9 @@ use lib.ListN.{length, getD, take, drop, length-take, length-drop}
 use lib.Seq.{getD-drop, length-take-le}
 use Rattle.lines.specs.Line.{startsWith}
 use Rattle.lines.specs.Text.{bytes, line, lineOf, texts, Optional, missing, present, optionalText}
-use Rattle.lines.specs.Parser.{Parsed, return, row, rowAt, checked, chain, times, rising, upTo, ifPresent}
+use Rattle.lines.specs.Parser.{Parsed, good, return, row, rowAt, checked, chain, times, rising, upTo, ifPresent}
 use Rattle.lines.proofs.Sound.{Chained}
-use Rattle.lines.proofs.Readback.{Readback, back, broken, same-back, bind-back, return-back, row-back, checked-back, chain-back}
+use Rattle.lines.proofs.Readback.{value-in, value-high}
 use Rattle.model.specs.Model.{Opening}
 use Rattle.jobs.specs.Valid.{All}
 use Rattle.covers.specs.Grammar.{Cover, other, holder, holders, inside, cover}
@@ -27,12 +27,13 @@ use Rattle.job_grammar.proofs.Complete.{walk-next, prices-next}
 use Rattle.job_grammar.proofs.Optionals.{some-idles}
 use Rattle.form_facts.specs.Facts.{PartLists, paired, coversOf, grouped, feesAgree, partsAgree, PartsAgree, countOf, countedText}
 use Rattle.form_facts.proofs.CountLines.{count-in, count-out}
-use Rattle.form_checks.proofs.CoverLines.{cover-none, removal-there}
 use Rattle.form_facts.proofs.Facts.{paired-size, parts-size, agree-says}
-use Rattle.form_lists.proofs.PartLoop.{next-other}
+use Rattle.form_writing.specs.Cut.{countedCut, insideCut, coverCut, partCut, idlesCut, partsCut, bodyCut, restCut, formCut}
 use Rattle.form.specs.Form.{Form, stated, idleCountText, bodyOf, restOf, formText}
 use Rattle.form.specs.Promise.{Agree, Few, FormFault}
-use Rattle.form.proofs.IdleLines.{idles-none, number-there}
+use Rattle.form.proofs.Readback.{Readback, back, broken, same-back, bind-back, return-back, row-back, checked-back, chain-back}
+use Rattle.form.proofs.CoverLines.{cover-none, removal-there, next-other, cut-next}
+use Rattle.form.proofs.IdleLines.{text-some, stepsIf, cut-some, idles-none, number-there}
 
 -- the writer's refusals of a line
 three : FormFault 3
@@ -75,56 +76,78 @@ small-chained next prev (x ∷ xs) h = (omega (arith, h 0), small-chained next (
 
 -- ---- one line
 
-value-back : (key : List ℕ) (lo hi v : ℕ) → Short v → (s : List ℕ) (l : ℕ) → Readback FormFault (Unit {0}) v s (rowAt key lo hi (line key v ++ s) l)
+value-back : (key : List ℕ) (lo hi v : ℕ) → Short v → (s t : List ℕ) (l : ℕ) → Readback FormFault (Unit {0}) v s t (rowAt key lo hi (line key v ++ s) l) (rowAt key lo hi (line key v ++ t) l)
 value-back = row-back FormFault three
 
-step-back : (key : List ℕ) (h before v : ℕ) → Short v → (s : List ℕ) (l : ℕ) → Readback FormFault (Unit {0}) v s (checked 4 (rising before h) (rowAt key 1 365) (line key v ++ s) l)
-step-back key h before v few s l = checked-back FormFault 4 four (rising before h) (rowAt key 1 365) v (line key v ++ s) s l (value-back key 1 365 v few s l)
+step-back : (key : List ℕ) (h before v : ℕ) → Short v → (s t : List ℕ) (l : ℕ)
+    → Readback FormFault (Unit {0}) v s t (checked 4 (rising before h) (rowAt key 1 365) (line key v ++ s) l) (checked 4 (rising before h) (rowAt key 1 365) (line key v ++ t) l)
+step-back key h before v few s t l = checked-back FormFault 4 four (rising before h) (rowAt key 1 365) v l (value-back key 1 365 v few s t l)
 
-count-back : (key : List ℕ) (lo most : ℕ) → suc most < 10 ^ 10 → (agree : Bool) (n : ℕ) (s : List ℕ) (l : ℕ)
-    → Readback FormFault ((n ≤ most) × (agree ≡ true)) n s (rowAt key lo most (line key (countOf most agree n) ++ s) l)
-count-back key lo most few agree n s l = go (leb n most && agree) refl (decLt n lo)
+-- a count, behind which the second text has what it counts only if it's in range
+count-back : (key : List ℕ) (lo most : ℕ) → suc most < 10 ^ 10 → (agree : Bool) (n : ℕ) (s : List ℕ) (r : Bool → List ℕ) (l : ℕ)
+    → Readback FormFault ((n ≤ most) × (agree ≡ true)) n s (r true) (rowAt key lo most (line key (countOf most agree n) ++ s) l) (rowAt key lo most (line key (countOf most agree n) ++ r (leb n most && agree)) l)
+count-back key lo most few agree n s r l = go (leb n most && agree) refl (decLt n lo)
   where
-    out : (lo ≤ n → n ≤ most → agree ≡ true → ⊥) → Readback FormFault ((n ≤ most) × (agree ≡ true)) n s (rowAt key lo most (line key (countOf most agree n) ++ s) l)
-    out no-good = broken 3 l three (count-out key lo most few agree n s l no-good)
+    Both : Type 0
+    Both = Readback FormFault ((n ≤ most) × (agree ≡ true)) n s (r true) (rowAt key lo most (line key (countOf most agree n) ++ s) l) (rowAt key lo most (line key (countOf most agree n) ++ r (leb n most && agree)) l)
 
-    go : (b : Bool) → (leb n most && agree) ≡ b → Dec (n < lo) → Readback FormFault ((n ≤ most) × (agree ≡ true)) n s (rowAt key lo most (line key (countOf most agree n) ++ s) l)
+    out : (lo ≤ n → n ≤ most → agree ≡ true → ⊥) → Both
+    out no-good = broken 3 l three (count-out key lo most few agree n s l no-good) (count-out key lo most few agree n (r (leb n most && agree)) l no-good)
+
+    go : (b : Bool) → (leb n most && agree) ≡ b → Dec (n < lo) → Both
     go true e (yes h) = out (λ low high a. omega arith)
     go true e (no h) =
         let w = and-eq-true-iff (leb n most) agree .0 e in
         let high : n ≤ most = leb-true n most (w .0) in
-        back (high, w .1) (l + 1) (count-in key lo most few agree n s l (omega (arith, h)) high (w .1))
+        let low : lo ≤ n = omega (arith, h) in
+        back (high, w .1) (l + 1) (count-in key lo most few agree n s l low high (w .1))
+        (count-in key lo most few agree n (r (leb n most && agree)) l low high (w .1) ∙ ap (λ (b : Bool). good n (r b) (l + 1)) e)
     go false e d = out (λ low high a. false≢true (sym e ∙ ap₂ _&&_ (le-leb n most high) a))
+
+-- the same of a number that is written as it is
+bound-back : (key : List ℕ) (most n : ℕ) → Short n → (s : List ℕ) (r : Bool → List ℕ) (l : ℕ)
+    → Readback FormFault (Unit {0}) n s (r true) (rowAt key 0 most (line key n ++ s) l) (rowAt key 0 most (line key n ++ r (leb n most)) l)
+bound-back key most n few s r l = go (decLt most n)
+  where
+    go : Dec (most < n) → Readback FormFault (Unit {0}) n s (r true) (rowAt key 0 most (line key n ++ s) l) (rowAt key 0 most (line key n ++ r (leb n most)) l)
+    go (yes h) = broken 3 l three (value-high key 0 most n few s l (omega arith) h) (value-high key 0 most n few (r (leb n most)) l (omega arith) h)
+    go (no h) =
+        let high : n ≤ most = omega (arith, h) in
+        back tt (l + 1) (value-in key 0 most n few s l (omega arith) high) (value-in key 0 most n few (r (leb n most)) l (omega arith) high ∙ ap (λ (b : Bool). good n (r b) (l + 1)) (le-leb n most high))
 
 -- ---- idle steps
 
-idles-back : (h l : ℕ) (is t : List ℕ) → Small is → startsWith (bytes "idles=") t ≡ false
-    → Readback FormFault (length is ≤ 365) (idleLines is) t (idles h (optionalText idleCountText (idleLines is) ++ t) l)
+idles-back : (h l : ℕ) (is s t : List ℕ) → Small is → startsWith (bytes "idles=") s ≡ false → startsWith (bytes "idles=") t ≡ false
+    → Readback FormFault (length is ≤ 365) (idleLines is) s t (idles h (optionalText idleCountText (idleLines is) ++ s) l) (idles h (optionalText idlesCut (idleLines is) ++ t) l)
 unfolding idleSteps idle ifPresent
-idles-back h l is t small other = go (decLt 0 (length is))
+idles-back h l is s t small other other′ = go (decLt 0 (length is))
   where
-    go : Dec (0 < length is) → Readback FormFault (length is ≤ 365) (idleLines is) t (idles h (optionalText idleCountText (idleLines is) ++ t) l)
-    go (no m) = let e : length is ≡ 0 = omega (arith, m) in back (omega arith) l (idles-none h l is t e other)
+    go : Dec (0 < length is) → Readback FormFault (length is ≤ 365) (idleLines is) s t (idles h (optionalText idleCountText (idleLines is) ++ s) l) (idles h (optionalText idlesCut (idleLines is) ++ t) l)
+    go (no m) = let e : length is ≡ 0 = omega (arith, m) in back (omega arith) l (idles-none idleCountText h l is s e other) (idles-none idlesCut h l is t e other′)
     go (yes m) =
-        same-back (number-there h l is t m)
+        let c = countOf 365 true (length is) in
+        let ts = texts (lineOf "idle=") is in
+        same-back (ap (λ (x : List ℕ). idles h x l) (text-some is s m) ∙ number-there h l c (ts ++ s)) (ap (λ (x : List ℕ). idles h x l) (cut-some is t m) ∙ number-there h l c (stepsIf is t (leb (length is) 365 && true)))
         (bind-back _ (ifPresent (idleSteps h))
-        (bind-back (row "idles=" 1 365) (λ v. return (present v)) (count-back (bytes "idles=") 1 365 (omega arith) true (length is) (texts (lineOf "idle=") is ++ t) l)
-        (λ few k. return-back (present (length is)) (texts (lineOf "idle=") is ++ t) k (few .0)))
+        (bind-back (row "idles=" 1 365) (λ v. return (present v)) (count-back (bytes "idles=") 1 365 (omega arith) true (length is) (ts ++ s) (stepsIf is t) l)
+        (λ few k. return-back (present (length is)) (ts ++ s) (ts ++ t) k (few .0)))
         (λ few k. bind-back (idleSteps h (length is)) (λ x. return (present x))
-        (chain-back FormFault (idle h) (λ (before i : ℕ). i) (lineOf "idle=") Short (λ before v v-few s j. step-back (bytes "idle=") h before v v-few s j) 0 is (small-chained (λ (before i : ℕ). i) 0 is small) t k)
-        (λ _ j. subst (λ (o : Optional (List ℕ)). Readback FormFault (length is ≤ 365) o t (return (present is) t j)) (some-idles is m) (return-back (present is) t j few))))
+        (chain-back FormFault (idle h) (λ (before i : ℕ). i) (lineOf "idle=") Short (λ before v v-few u v′ j. step-back (bytes "idle=") h before v v-few u v′ j) 0 is (small-chained (λ (before i : ℕ). i) 0 is small) s t k)
+        (λ _ j. subst (λ (o : Optional (List ℕ)). Readback FormFault (length is ≤ 365) o s t (return (present is) s j) (return (present is) t j)) (some-idles is m) (return-back (present is) s t j few))))
 
 -- ---- openings
 
 abbrev ShortOpening : Opening → Type 0
 ShortOpening o = Short (o .step) × Short (o .fee)
 
-opening-back : (h before : ℕ) (o : Opening) → ShortOpening o → (s : List ℕ) (l : ℕ) → Readback FormFault (Unit {0}) o s (opening h before (openingText o ++ s) l)
+opening-back : (h before : ℕ) (o : Opening) → ShortOpening o → (s t : List ℕ) (l : ℕ) → Readback FormFault (Unit {0}) o s t (opening h before (openingText o ++ s) l) (opening h before (openingText o ++ t) l)
 unfolding opening openingText
-opening-back h before o few s l =
-    same-back (ap (λ (t : List ℕ). opening h before t l) (append-assoc (lineOf "opening=" (o .step)) (lineOf "fee=" (o .fee)) s))
-    (bind-back _ _ (step-back (bytes "opening=") h before (o .step) (few .0) (lineOf "fee=" (o .fee) ++ s) l)
-    (λ _ k. bind-back (row "fee=" 0 1000000) _ (value-back (bytes "fee=") 0 1000000 (o .fee) (few .1) s k) (λ _ j. return-back o s j tt)))
+opening-back h before o few s t l =
+    let a = lineOf "opening=" (o .step) in
+    let b = lineOf "fee=" (o .fee) in
+    same-back (ap (λ (u : List ℕ). opening h before u l) (append-assoc a b s)) (ap (λ (u : List ℕ). opening h before u l) (append-assoc a b t))
+    (bind-back _ _ (step-back (bytes "opening=") h before (o .step) (few .0) (b ++ s) (b ++ t) l)
+    (λ _ k. bind-back (row "fee=" 0 1000000) _ (value-back (bytes "fee=") 0 1000000 (o .fee) (few .1) s t k) (λ _ j. return-back o s t j tt)))
 
 abbrev stepOf : ℕ → Opening → ℕ
 stepOf before o = o .step
@@ -145,32 +168,41 @@ ShortCover (present c) = Short (c .removal) × Short (length (c .holders)) × Sm
 abbrev itself : ℕ → ℕ → ℕ
 itself before h = h
 
-holder-back : (m k before v : ℕ) → Short v → (s : List ℕ) (l : ℕ) → Readback FormFault (Unit {0}) v s (holder m k before (lineOf "holder=" v ++ s) l)
+holder-back : (m k before v : ℕ) → Short v → (s t : List ℕ) (l : ℕ) → Readback FormFault (Unit {0}) v s t (holder m k before (lineOf "holder=" v ++ s) l) (holder m k before (lineOf "holder=" v ++ t) l)
 unfolding holder
-holder-back m k before v few s l =
-    checked-back FormFault 12 twelve (other k) (checked 12 (rising before m) (row "holder=" 1 16)) v (lineOf "holder=" v ++ s) s l
-    (checked-back FormFault 12 twelve (rising before m) (row "holder=" 1 16) v (lineOf "holder=" v ++ s) s l (value-back (bytes "holder=") 1 16 v few s l))
+holder-back m k before v few s t l =
+    checked-back FormFault 12 twelve (other k) (checked 12 (rising before m) (row "holder=" 1 16)) v l
+    (checked-back FormFault 12 twelve (rising before m) (row "holder=" 1 16) v l (value-back (bytes "holder=") 1 16 v few s t l))
 
-inside-back : (m k : ℕ) (c : Cover) → ShortCover (present c) → (s : List ℕ) (l : ℕ)
-    → Readback FormFault (Unit {0}) c s (inside m k (c .removal) (lineOf "inside=" (length (c .holders)) ++ (texts (lineOf "holder=") (c .holders) ++ s)) l)
+-- the holders of the second text, where they are not too many
+abbrev holdersIf : List ℕ → List ℕ → Bool → List ℕ
+holdersIf hs t b = cond b (texts (lineOf "holder=") hs) [] ++ t
+
+inside-back : (m k : ℕ) (c : Cover) → ShortCover (present c) → (s t : List ℕ) (l : ℕ) → let n = length (c .holders) in
+    Readback FormFault (Unit {0}) c s t (inside m k (c .removal) (lineOf "inside=" n ++ (texts (lineOf "holder=") (c .holders) ++ s)) l) (inside m k (c .removal) (lineOf "inside=" n ++ holdersIf (c .holders) t (leb n 15)) l)
 unfolding inside holders
-inside-back m k c few s l =
-    bind-back (row "inside=" 0 15) _ (value-back (bytes "inside=") 0 15 (length (c .holders)) (few .1) (texts (lineOf "holder=") (c .holders) ++ s) l)
+inside-back m k c few s t l =
+    let hs = texts (lineOf "holder=") (c .holders) in
+    bind-back (row "inside=" 0 15) _ (bound-back (bytes "inside=") 15 (length (c .holders)) (few .1) (hs ++ s) (holdersIf (c .holders) t) l)
     (λ _ i. bind-back (holders m k (length (c .holders))) _
-    (chain-back FormFault (holder m k) itself (lineOf "holder=") Short (holder-back m k) 0 (c .holders) (small-chained itself 0 (c .holders) (few .2)) s i)
-    (λ _ j. return-back c s j tt))
+    (chain-back FormFault (holder m k) itself (lineOf "holder=") Short (holder-back m k) 0 (c .holders) (small-chained itself 0 (c .holders) (few .2)) s t i)
+    (λ _ j. return-back c s t j tt))
 
-cover-back : (m k : ℕ) (o : Optional Cover) → ShortCover o → (s : List ℕ) (l : ℕ) → startsWith (bytes "removal=") s ≡ false → Readback FormFault (Unit {0}) o s (cover m k (optionalText coverText o ++ s) l)
-unfolding coverText ifPresent
-cover-back m k missing few s l other = back tt l (cover-none m k s l other)
-cover-back m k (present c) few s l other =
+cover-back : (m k : ℕ) (o : Optional Cover) → ShortCover o → (s t : List ℕ) (l : ℕ) → startsWith (bytes "removal=") s ≡ false → startsWith (bytes "removal=") t ≡ false
+    → Readback FormFault (Unit {0}) o s t (cover m k (optionalText coverText o ++ s) l) (cover m k (optionalText coverCut o ++ t) l)
+unfolding coverText coverCut insideCut ifPresent
+cover-back m k missing few s t l other other′ = back tt l (cover-none m k s l other) (cover-none m k t l other′)
+cover-back m k (present c) few s t l other other′ =
+    let n = length (c .holders) in
     let a = lineOf "removal=" (c .removal) in
-    let b = lineOf "inside=" (length (c .holders)) in
+    let b = lineOf "inside=" n in
     let d = texts (lineOf "holder=") (c .holders) in
-    same-back (ap (λ (t : List ℕ). cover m k t l) (append-assoc (a ++ b) d s ∙ append-assoc a b (d ++ s)) ∙ removal-there m k (c .removal) (b ++ (d ++ s)) l)
+    let d′ = cond (leb n 15) d [] in
+    same-back (ap (λ (u : List ℕ). cover m k u l) (append-assoc (a ++ b) d s ∙ append-assoc a b (d ++ s)) ∙ removal-there m k (c .removal) (b ++ (d ++ s)) l)
+    (ap (λ (u : List ℕ). cover m k u l) (append-assoc a (b ++ d′) t ∙ ap (λ (u : List ℕ). a ++ u) (append-assoc b d′ t)) ∙ removal-there m k (c .removal) (b ++ (d′ ++ t)) l)
     (bind-back _ (ifPresent (inside m k))
-    (bind-back (row "removal=" 0 1000000) (λ v. return (present v)) (value-back (bytes "removal=") 0 1000000 (c .removal) (few .0) (b ++ (d ++ s)) l) (λ known i. return-back (present (c .removal)) (b ++ (d ++ s)) i known))
-    (λ _ i. bind-back (inside m k (c .removal)) (λ x. return (present x)) (inside-back m k c few s i) (λ _ j. return-back (present c) s j tt)))
+    (bind-back (row "removal=" 0 1000000) (λ v. return (present v)) (value-back (bytes "removal=") 0 1000000 (c .removal) (few .0) (b ++ (d ++ s)) (b ++ (d′ ++ t)) l) (λ known i. return-back (present (c .removal)) (b ++ (d ++ s)) (b ++ (d′ ++ t)) i known))
+    (λ _ i. bind-back (inside m k (c .removal)) (λ x. return (present x)) (inside-back m k c few s t i) (λ _ j. return-back (present c) s t j tt)))
 
 -- ---- parts
 
@@ -182,30 +214,34 @@ pub record ShortPart (n : ℕ) (p : PartText) : Type 0 where
   pub priced : length (p .prices) ≡ n
   pub prices : Small (p .prices)
 
-part-back : (m n k : ℕ) (p : PartText) → ShortPart n p → (s : List ℕ) (l : ℕ) → startsWith (bytes "removal=") s ≡ false → Readback FormFault (Unit {0}) p s (part m n k (partText p ++ s) l)
-unfolding part afterLeft partText times
-part-back m n k p few s l other =
+part-back : (m n k : ℕ) (p : PartText) → ShortPart n p → (s t : List ℕ) (l : ℕ) → startsWith (bytes "removal=") s ≡ false → startsWith (bytes "removal=") t ≡ false
+    → Readback FormFault (Unit {0}) p s t (part m n k (partText p ++ s) l) (part m n k (partCut p ++ t) l)
+unfolding part afterLeft partText partCut times
+part-back m n k p few s t l other other′ =
     let a = lineOf "life=" (p .life) in
     let b = lineOf "left=" (p .left) in
     let d = optionalText coverText (p .cover) in
+    let d′ = optionalText coverCut (p .cover) in
     let c = texts (lineOf "price=") (p .prices) in
-    same-back (ap (λ (t : List ℕ). part m n k t l) (append-assoc (a ++ b ++ d) c s ∙ append-assoc (a ++ b) d (c ++ s) ∙ append-assoc a b (d ++ (c ++ s))))
-    (bind-back (row "life=" 1 1000) _ (value-back (bytes "life=") 1 1000 (p .life) (few .life) (b ++ (d ++ (c ++ s))) l)
+    same-back (ap (λ (u : List ℕ). part m n k u l) (append-assoc (a ++ b ++ d) c s ∙ append-assoc (a ++ b) d (c ++ s) ∙ append-assoc a b (d ++ (c ++ s))))
+    (ap (λ (u : List ℕ). part m n k u l) (append-assoc (a ++ b ++ d′) c t ∙ append-assoc (a ++ b) d′ (c ++ t) ∙ append-assoc a b (d′ ++ (c ++ t))))
+    (bind-back (row "life=" 1 1000) _ (value-back (bytes "life=") 1 1000 (p .life) (few .life) (b ++ (d ++ (c ++ s))) (b ++ (d′ ++ (c ++ t))) l)
     (λ _ i. bind-back (checked 5 (upTo (p .life)) (row "left=" 1 1000)) _
-    (checked-back FormFault 5 five (upTo (p .life)) (row "left=" 1 1000) (p .left) (b ++ (d ++ (c ++ s))) (d ++ (c ++ s)) i (value-back (bytes "left=") 1 1000 (p .left) (few .left) (d ++ (c ++ s)) i))
-    (λ _ j. bind-back (cover m k) _ (cover-back m k (p .cover) (few .cover) (c ++ s) j (prices-next (p .prices) s other))
+    (checked-back FormFault 5 five (upTo (p .life)) (row "left=" 1 1000) (p .left) i (value-back (bytes "left=") 1 1000 (p .left) (few .left) (d ++ (c ++ s)) (d′ ++ (c ++ t)) i))
+    (λ _ j. bind-back (cover m k) _ (cover-back m k (p .cover) (few .cover) (c ++ s) (c ++ t) j (prices-next (p .prices) s other) (prices-next (p .prices) t other′))
     (λ _ h. bind-back (times n (row "price=" 1 1000000)) _
-    (subst (λ (q : ℕ). Readback FormFault (Unit {0}) (p .prices) s (times q (row "price=" 1 1000000) (c ++ s) h)) (few .priced)
-    (chain-back FormFault (λ _. row "price=" 1 1000000) (λ _ _. 0) (lineOf "price=") Short (λ _ v v-few t q. value-back (bytes "price=") 1 1000000 v v-few t q) 0 (p .prices) (small-chained (λ _ _. 0) 0 (p .prices) (few .prices)) s h))
-    (λ _ q. return-back p s q tt)))))
+    (subst (λ (q : ℕ). Readback FormFault (Unit {0}) (p .prices) s t (times q (row "price=" 1 1000000) (c ++ s) h) (times q (row "price=" 1 1000000) (c ++ t) h)) (few .priced)
+    (chain-back FormFault (λ _. row "price=" 1 1000000) (λ _ _. 0) (lineOf "price=") Short (λ _ v v-few u v′ q. value-back (bytes "price=") 1 1000000 v v-few u v′ q) 0 (p .prices) (small-chained (λ _ _. 0) 0 (p .prices) (few .prices)) s t h))
+    (λ _ q. return-back p s t q tt)))))
 
 -- parts with nothing behind them
-all-back : (m n k : ℕ) (ps : List PartText) → All (ShortPart n) ps → (l : ℕ) → Readback FormFault (Unit {0}) ps [] (chain (part m n) following (length ps) k (texts partText ps) l)
+all-back : (m n k : ℕ) (ps : List PartText) → All (ShortPart n) ps → (l : ℕ)
+    → Readback FormFault (Unit {0}) ps [] [] (chain (part m n) following (length ps) k (texts partText ps) l) (chain (part m n) following (length ps) k (texts partCut ps) l)
 unfolding chain
-all-back m n k [] h l = return-back [] [] l tt
+all-back m n k [] h l = return-back [] [] [] l tt
 all-back m n k (p ∷ ps) h l =
-    bind-back (part m n k) _ (part-back m n k p (h .0) (texts partText ps) l (next-other ps))
-    (λ _ i. bind-back (chain (part m n) following (length ps) (suc k)) _ (all-back m n (suc k) ps (h .1) i) (λ _ j. return-back (p ∷ ps) [] j tt))
+    bind-back (part m n k) _ (part-back m n k p (h .0) (texts partText ps) (texts partCut ps) l (next-other ps) (cut-next ps))
+    (λ _ i. bind-back (chain (part m n) following (length ps) (suc k)) _ (all-back m n (suc k) ps (h .1) i) (λ _ j. return-back (p ∷ ps) [] [] j tt))
 
 small-take : (n : ℕ) (ps : List ℕ) → Small ps → Small (take n ps)
 small-take zero ps h i = omega arith
@@ -238,6 +274,10 @@ grouped-short n (l ∷ ls) (r ∷ rs) (o ∷ cs) ps a b d c e =
 
 -- ---- the whole
 
+-- the text that is written to be read
+abbrev pub cut : Form → List ℕ
+cut f = formCut (f .horizon) (f .idles) (f .walk) (f .openings) (f .fees) (f .parts)
+
 module _ (f : Form) (held : Held f) where
   abbrev os : List ℕ
   os = f .openings
@@ -259,45 +299,54 @@ module _ (f : Form) (held : Held f) where
       grouped-short n (x .lives) (x .lefts) (coversOf (x .covered) (x .removals) (x .insides) (x .holders)) (x .prices) (held .lives) (held .lefts)
       (covers-short (x .covered) (x .removals) (x .insides) (x .holders) (held .removals) (held .insides) (held .holders)) (held .prices) (agree .prices)
 
-  parts-back : PartsAgree n x → (l : ℕ) → Readback FormFault (Unit {0}) (said .parts) [] (parts m n (texts partText (said .parts)) l)
+  parts-back : PartsAgree n x → (l : ℕ) → Readback FormFault (Unit {0}) (said .parts) [] [] (parts m n (texts partText (said .parts)) l) (parts m n (texts partCut (said .parts)) l)
   unfolding parts
   parts-back agree l =
       let size = parts-size n x agree in
-      subst (λ (k : ℕ). Readback FormFault (Unit {0}) (said .parts) [] (chain (part m n) following k 1 (texts partText (said .parts)) l)) size (all-back m n 1 (said .parts) (parts-short agree) l)
+      subst (λ (k : ℕ). Readback FormFault (Unit {0}) (said .parts) [] [] (chain (part m n) following k 1 (texts partText (said .parts)) l) (chain (part m n) following k 1 (texts partCut (said .parts)) l)) size (all-back m n 1 (said .parts) (parts-short agree) l)
 
-  body-back : length (f .fees) ≡ n → (l : ℕ) → Readback FormFault ((m ≤ 16) × PartsAgree n x) said [] (body (f .horizon) (said .idles) (f .walk) n (bodyOf os (f .fees) x) l)
-  unfolding body openings bodyOf countedText
+  body-back : length (f .fees) ≡ n → (l : ℕ)
+      → Readback FormFault ((m ≤ 16) × PartsAgree n x) said [] [] (body (f .horizon) (said .idles) (f .walk) n (bodyOf os (f .fees) x) l) (body (f .horizon) (said .idles) (f .walk) n (bodyCut os (f .fees) x) l)
+  unfolding body openings bodyOf bodyCut countedText partsCut countedCut
   body-back agree l =
       let c = lineOf "parts=" (countOf 16 (partsAgree n x) m) in
       let ps = texts partText (said .parts) in
+      let qs : Bool → List ℕ = λ b. cond b (texts partCut (said .parts)) [] in
+      let cut = qs (leb m 16 && partsAgree n x) in
       bind-back (openings (f .horizon) n) _
-      (subst (λ (k : ℕ). Readback FormFault (Unit {0}) (said .openings) (c ++ ps) (openings (f .horizon) k (texts openingText (said .openings) ++ (c ++ ps)) l)) (paired-size os (f .fees) agree)
-      (chain-back FormFault (opening (f .horizon)) stepOf openingText ShortOpening (λ before o few s j. opening-back (f .horizon) before o few s j) 0 (said .openings) (paired-short 0 os (f .fees) (held .openings) (held .fees)) (c ++ ps) l))
-      (λ _ k. bind-back (row "parts=" 1 16) _ (count-back (bytes "parts=") 1 16 (omega arith) (partsAgree n x) m ps k)
+      (subst (λ (k : ℕ). Readback FormFault (Unit {0}) (said .openings) (c ++ ps) (c ++ cut) (openings (f .horizon) k (texts openingText (said .openings) ++ (c ++ ps)) l) (openings (f .horizon) k (texts openingText (said .openings) ++ (c ++ cut)) l)) (paired-size os (f .fees) agree)
+      (chain-back FormFault (opening (f .horizon)) stepOf openingText ShortOpening (λ before o few s t j. opening-back (f .horizon) before o few s t j) 0 (said .openings) (paired-short 0 os (f .fees) (held .openings) (held .fees)) (c ++ ps) (c ++ cut) l))
+      (λ _ k. bind-back (row "parts=" 1 16) _ (count-back (bytes "parts=") 1 16 (omega arith) (partsAgree n x) m ps qs k)
       (λ few j. bind-back (parts m n) _ (parts-back (agree-says n x (few .1)) j)
-      (λ _ i. return-back said [] i (few .0, agree-says n x (few .1)))))
+      (λ _ i. return-back said [] [] i (few .0, agree-says n x (few .1)))))
 
   -- what the lists must be like once everything is read
   abbrev Fits : Type 0
   Fits = Agree f × Few f
 
-  rest-back : length (f .idles) ≤ 365 → (l : ℕ) → Readback FormFault Fits said [] (rest (f .horizon) (said .idles) (restOf (f .walk) os (f .fees) x) l)
-  unfolding rest restOf
+  rest-back : length (f .idles) ≤ 365 → (l : ℕ)
+      → Readback FormFault Fits said [] [] (rest (f .horizon) (said .idles) (restOf (f .walk) os (f .fees) x) l) (rest (f .horizon) (said .idles) (restCut (f .walk) os (f .fees) x) l)
+  unfolding rest restOf restCut countedCut
   rest-back few l =
       let b = bodyOf os (f .fees) x in
+      let q : Bool → List ℕ = λ g. cond g (bodyCut os (f .fees) x) [] in
       let c = lineOf "openings=" (countOf 64 (feesAgree os (f .fees)) n) in
-      bind-back (row "walk=" 0 4000000000) _ (value-back (bytes "walk=") 0 4000000000 (f .walk) (omega (arith, held .walk)) (c ++ b) l)
-      (λ _ k. bind-back (row "openings=" 0 64) _ (count-back (bytes "openings=") 0 64 (omega arith) (feesAgree os (f .fees)) n b k)
+      bind-back (row "walk=" 0 4000000000) _ (value-back (bytes "walk=") 0 4000000000 (f .walk) (omega (arith, held .walk)) (c ++ b) (c ++ q (leb n 64 && feesAgree os (f .fees))) l)
+      (λ _ k. bind-back (row "openings=" 0 64) _ (count-back (bytes "openings=") 0 64 (omega arith) (feesAgree os (f .fees)) n b q k)
       (λ g j. with-fees g (body-back (eqb-true (length (f .fees)) n (g .1)) j)))
     where
-      with-fees : {x : Parsed JobText} → (n ≤ 64) × (feesAgree os (f .fees) ≡ true) → Readback FormFault ((m ≤ 16) × PartsAgree n (f .parts)) said [] x → Readback FormFault Fits said [] x
-      with-fees g (back h j e) = back (record { fees = eqb-true (length (f .fees)) n (g .1); parts = h .1 }, record { idles = few; openings = g .0; parts = h .0 }) j e
-      with-fees g (broken i j h e) = broken i j h e
+      with-fees : {y z : Parsed JobText} → (n ≤ 64) × (feesAgree os (f .fees) ≡ true) → Readback FormFault ((m ≤ 16) × PartsAgree n (f .parts)) said [] [] y z → Readback FormFault Fits said [] [] y z
+      with-fees g (back h j e e′) = back (record { fees = eqb-true (length (f .fees)) n (g .1); parts = h .1 }, record { idles = few; openings = g .0; parts = h .0 }) j e e′
+      with-fees g (broken i j h e e′) = broken i j h e e′
 
-  pub form-back : Readback FormFault Fits said [] (jobLines (formText f) 1)
-  unfolding jobLines formText restOf
+  pub form-back : Readback FormFault Fits said [] [] (jobLines (formText f) 1) (jobLines (cut f) 1)
+  unfolding jobLines formText formCut restOf restCut
   form-back =
       let r = restOf (f .walk) os (f .fees) x in
+      let q = restCut (f .walk) os (f .fees) x in
+      let a = lineOf "horizon=" (f .horizon) in
       let is = optionalText idleCountText (idleLines (f .idles)) in
-      bind-back (row "horizon=" 2 365) _ (value-back (bytes "horizon=") 2 365 (f .horizon) (omega (arith, held .horizon)) (is ++ r) 1)
-      (λ _ k. bind-back (idles (f .horizon)) _ (idles-back (f .horizon) k (f .idles) r (held .idles) (walk-next (f .walk) _)) (λ few j. rest-back few j))
+      let js = optionalText idlesCut (idleLines (f .idles)) in
+      same-back refl (ap (λ (u : List ℕ). jobLines u 1) (append-assoc a js q))
+      (bind-back (row "horizon=" 2 365) _ (value-back (bytes "horizon=") 2 365 (f .horizon) (omega (arith, held .horizon)) (is ++ r) (js ++ q) 1)
+      (λ _ k. bind-back (idles (f .horizon)) _ (idles-back (f .horizon) k (f .idles) r q (held .idles) (walk-next (f .walk) _) (walk-next (f .walk) _)) (λ few j. rest-back few j)))

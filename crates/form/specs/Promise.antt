@@ -1,8 +1,10 @@
 -- What the writer promises, over the form, the room lent and the answer.
 use Prim.Native.Nat.{ℕ, _+_, _*_, _≤_, _<_}
 use mathlib.Core.Path.{_≡_}
+use mathlib.Core.Bool.{cond}
 use mathlib.Core.List.{List, [], _∷_, map}
 use mathlib.Core.Logic.{_↔_, _⊎_}
+use lib.Dec.{eqb}
 use lib.ListN.{length}
 use Rattle.lines.specs.Text.{texts, Optional, missing, present}
 use Rattle.fault_lines.specs.Fault.{nowhere}
@@ -18,7 +20,6 @@ use Rattle.form_facts.specs.Facts.{PartLists, PartsAgree}
 use Rattle.answers.specs.Said.{Said, Refuses}
 use Rattle.form.specs.Form.{Form, stated, readForm}
 use Rattle.form.specs.Write.{writeRoom}
-use Rattle.form.specs.Checks.{lineAfter}
 
 -- the lists agree in length: a fee for each opening, and those of the parts as `PartsAgree` says
 pub record Agree (f : Form) : Type 0 where
@@ -45,6 +46,10 @@ pub record OpeningsFaultless (f : Form) : Type 0 where
   pub as-many : length (f .fees) ≡ length (f .openings)
   pub openings : Rising 0 (f .horizon) (f .openings)
   pub fees : All (λ (fee : ℕ). fee ≤ dearest) (f .fees)
+
+-- the line after the n idle steps and their number, if there are some; the horizon's line is line 1
+abbrev pub lineAfter : ℕ → ℕ
+lineAfter n = cond (eqb n 0) 2 (3 + n)
 
 -- the number of the `openings` line: the one after the `walk` line, which follows the idle steps
 abbrev pub openingsLine : Form → ℕ

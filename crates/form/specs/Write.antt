@@ -2,7 +2,7 @@
 use Prim.Native.Nat.{ℕ}
 use mathlib.Core.List.{[]}
 use Rattle.lines.specs.Parser.{Outcome, accepted, refused}
-use Rattle.job_grammar.specs.Grammar.{JobText}
+use Rattle.job_grammar.specs.Grammar.{JobText, maxBytes}
 use Rattle.job_grammar.specs.Rendering.{jobText}
 use Rattle.answers.specs.Said.{Said, plainly, refusal}
 use Rattle.form.specs.Form.{Form, readForm}
@@ -16,6 +16,6 @@ saidFor (refused number line) = refusal 1 [] number line
 unfoldable pub writeSaid : Form → Said
 writeSaid f = saidFor (readForm f)
 
--- "8 if the output has less than 32,768 bytes"
+-- "8 if the output has less than 32,768 bytes": as much as a text may have
 abbrev pub writeRoom : ℕ
-writeRoom = 32768
+writeRoom = maxBytes

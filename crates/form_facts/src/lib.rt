@@ -1,3 +1,2 @@
-// Whether the lists of a form agree in length, and the lines of their counts.
+// Whether the lists of a form agree in length.
 pub mod agree;
-pub mod counts;

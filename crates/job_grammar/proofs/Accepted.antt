@@ -31,7 +31,7 @@ KnownStep h before v = Rises 365 h before v
 -- ---- idle steps
 
 -- at most 365, which rise and stay within the horizon h; and some where they are written
-abbrev KnownIdles : ℕ → Optional (List ℕ) → Type 0
+abbrev pub KnownIdles : ℕ → Optional (List ℕ) → Type 0
 KnownIdles h is = (length (idleIn is) ≤ 365) × Rising 0 h (idleIn is) × Some is
 
 -- the number that an idle step hands on
@@ -42,7 +42,7 @@ steps-rise : (h before : ℕ) (is : List ℕ) → Chained (KnownStep h) itself b
 steps-rise h before [] c = tt
 steps-rise h before (i ∷ is) c = (c .0 .after, c .0 .within, steps-rise h i is (c .1))
 
-idles-tell : (h : ℕ) → Tells (idles h) (KnownIdles h) (optionalText idlesText)
+pub idles-tell : (h : ℕ) → Tells (idles h) (KnownIdles h) (optionalText idlesText)
 unfolding idles idleSteps idle ifPresent return idlesText
 idles-tell h s s′ l l′ is e =
     let b = bind-inv (optional "idles=" 1 365) _ s s′ l l′ is e in
@@ -75,7 +75,7 @@ idles-tell h s s′ l l′ is e =
 abbrev pub KnownOpening : ℕ → ℕ → Opening → Type 0
 KnownOpening h before o = KnownStep h before (o .step) × (o .fee ≤ 1000000)
 
-opening-tells : (h before : ℕ) → Tells (opening h before) (KnownOpening h before) openingText
+pub opening-tells : (h before : ℕ) → Tells (opening h before) (KnownOpening h before) openingText
 unfolding opening return openingText
 opening-tells h before s s′ l l′ o e =
     let b = bind-inv (checked 4 (rising before h) (row "opening=" 1 365)) _ s s′ l l′ o e in
@@ -94,7 +94,7 @@ opening-tells h before s s′ l l′ o e =
 abbrev pub stepOf : ℕ → Opening → ℕ
 stepOf before o = o .step
 
-chained-rising : (h before : ℕ) (os : List Opening) → Chained (KnownOpening h) stepOf before os → All ValidOpening os × Rising before h (stepsOf os)
+pub chained-rising : (h before : ℕ) (os : List Opening) → Chained (KnownOpening h) stepOf before os → All ValidOpening os × Rising before h (stepsOf os)
 chained-rising h before [] c = (tt, tt)
 chained-rising h before (o ∷ os) c =
     let r = chained-rising h (o .step) os (c .1) in

@@ -32,7 +32,7 @@ rise-chained : (h before : ℕ) (is : List ℕ) → h ≤ 365 → Rising before 
 rise-chained h before [] high r = tt
 rise-chained h before (i ∷ is) high r = (record { low = omega (arith, r .0); high = omega (arith, r .1); after = r .0; within = r .1 }, rise-chained h i is high (r .2))
 
-idles-complete : (h : ℕ) (o : Optional (List ℕ)) → h ≤ 365 → length (idleIn o) ≤ 365 → Rising 0 h (idleIn o) → Some o → (s : List ℕ) (l : ℕ) → startsWith (bytes "idles=") s ≡ false
+pub idles-complete : (h : ℕ) (o : Optional (List ℕ)) → h ≤ 365 → length (idleIn o) ≤ 365 → Rising 0 h (idleIn o) → Some o → (s : List ℕ) (l : ℕ) → startsWith (bytes "idles=") s ≡ false
     → (l′ : ℕ) × (idles h (optionalText idlesText o ++ s) l ≡ good o s l′)
 unfolding idles idleSteps idle ifPresent return idlesText
 idles-complete h missing high few r some s l e = (l, bind-good (optional "idles=" 1 365) _ (optional-missing _ 1 365 s l e))
@@ -47,7 +47,7 @@ idles-complete h (present is) high few r some s l e =
 
 -- ---- openings
 
-opening-complete : (h before : ℕ) → Complete (opening h before) openingText (KnownOpening h before)
+pub opening-complete : (h before : ℕ) → Complete (opening h before) openingText (KnownOpening h before)
 unfolding opening return openingText
 opening-complete h before o k s l =
     let f = lineOf "fee=" (o .fee) in
@@ -58,7 +58,7 @@ opening-complete h before o k s l =
           ∙ bind-good (checked 4 (rising before h) (row "opening=" 1 365)) _ (a .1) ∙ bind-good (row "fee=" 0 1000000) _ (b .1),
     )
 
-openings-chained : (h before : ℕ) (os : List Opening) → All ValidOpening os → Rising before h (stepsOf os) → Chained (KnownOpening h) stepOf before os
+pub openings-chained : (h before : ℕ) (os : List Opening) → All ValidOpening os → Rising before h (stepsOf os) → Chained (KnownOpening h) stepOf before os
 openings-chained h before [] v r = tt
 openings-chained h before (o ∷ os) v r =
     ((record { low = v .0 .step-low; high = v .0 .step-high; after = r .0; within = r .1 }, v .0 .fee), openings-chained h (o .step) os (v .1) (r .2))

@@ -1,28 +1,30 @@
--- `write`: the first fault of the form's lines is refused; else the text of what they say is written. The promise holds of the defined answer.
-use mathlib.Core.Path.{_≡_}
-use mathlib.Core.List.{[]}
+-- `write`: the text that the form's lists make is written and read, and gives what the form is read as. The promise holds of the defined answer.
+use Prim.Native.Nat.{ℕ, _≤_}
+use mathlib.Core.Path.{_≡_, sym, ap, subst, _∙_}
+use mathlib.Core.List.{List}
 use native.Mathlib.Omega.{arith}
-use lib.ListN.{length}
-use Rattle.lines.specs.Parser.{accepted, refused}
-use Rattle.job_text.specs.Views.{textOf}
-use Rattle.form.specs.Form.{Form, filled, readForm}
-use Rattle.form.specs.Write.{writeSaid, writeRoom}
-use Rattle.form.specs.Promise.{WritePromise}
-use Rattle.answers.specs.Said.{lent}
-use Rattle.form_checks.proofs.Checks.{passed, failed}
-use Rattle.form.proofs.Stated.{Held}
-use Rattle.form.proofs.Promised.{form-accepted, form-refused, fits-room, promised}
+use lib.ListN.{length, take}
+use lib.Seq.{length-take-le}
+use Rattle.lines.specs.Wrote.{Wrote}
+use Rattle.lines.proofs.Writing.{kept}
+use Rattle.form_writing.proofs.Lengths.{cut-short}
+use Rattle.job_grammar.specs.Grammar.{readJobText}
+use Rattle.answers.specs.Said.{Said, Replied}
+use Rattle.form.specs.Form.{Form, filled}
+use Rattle.form.specs.Write.{saidFor, writeSaid, writeRoom}
+use Rattle.form.proofs.Stated.{Held, cut}
+use Rattle.form.proofs.Promised.{promised, cut-says, written-front}
 use borrow.Author.Needs.{needs}
 use Rattle.form.proofs.write.Statement.{statement}
 use Rattle.form.proofs.write.Tie as tie
 
 -- the form that is handed over
-abbrev form : (c : tie.After-slice-known) → Form
-form c = let a = c .before .before .before .before .before .before .before .before .before .before .before .args in
+abbrev form : (c : tie.Start) → Form
+form c = let a = c .args in
     filled (a .horizon) (a .idles .now) (a .walk) (a .openings .now) (a .fees .now) (a .lives .now) (a .lefts .now) (a .covered .now) (a .removals .now) (a .insides .now) (a .holders .now) (a .prices .now)
 
 -- its numbers have 32 bits
-held : (c : tie.After-slice-known) → Held (form c)
+held : (c : tie.After-slice-known) → Held (form (c .before .before .before .before .before .before .before .before .before .before .before))
 held c = record {
   horizon = omega (arith, c .before .before .before .before .before .before .before .before .before .before .before .fits .horizon .fits);
   walk = omega (arith, c .before .before .before .before .before .before .before .before .before .before .before .fits .walk .fits);
@@ -37,37 +39,34 @@ held c = record {
   prices = λ i. omega (arith, c .before .shared-slice-known10 .given i);
 }
 
-kept : (c : tie.After-slice-known) → let room = length (c .before .before .before .before .before .before .before .before .before .before .before .args .out .now) in WritePromise (form c) room (lent writeRoom room (writeSaid (form c)))
-kept c = promised (form c) (held c) (length (c .before .before .before .before .before .before .before .before .before .before .before .args .out .now))
+short : (c : tie.Start) → length (cut (form c)) ≤ 30937
+short c = let f = form c in cut-short (f .horizon) (f .idles) (f .walk) (f .openings) (f .fees) (f .parts)
 
--- what the form is read as, by the verdict on its lines
-refused-form : (c : tie.After-check) → readForm (form (c .before .before .before)) ≡ refused (c .check .given .0 .0) (c .check .given .0 .1 .0)
-refused-form c = let t = c .before .before .take-form in form-refused (form (c .before .before .before)) _ _ (failed (textOf (t .result .text)) [] (t .ensures .next) (t .ensures .finds) (c .check .given .1))
+put-form-requires : tie.Need-put-form-requires
+put-form-requires c κs = omega (arith, short (c .before .before .before .before .before .before .before .before .before .before .before .before))
 
-accepted-form : (c : tie.After-enum-told) → readForm (form (c .before .before .before)) ≡ accepted (textOf (c .before .before .take-form .result .text))
-accepted-form c = let t = c .before .before .take-form in form-accepted (form (c .before .before .before)) _ (t .ensures .next) (passed (textOf (t .result .text)) [] (t .ensures .next) (t .ensures .finds) (c .enum-told .given .1))
+array-share-prefix-text : tie.Need-array-share-prefix-text
+array-share-prefix-text c = let w = c .before .put-form .ensures in omega (arith, short (c .before .before .before .before .before .before .before .before .before .before .before .before .before .before), w .next, kept w)
 
-take-form-requires : tie.Need-take-form-requires
-take-form-requires c κs = search needs
+-- the text that is lent
+text-lent : (c : tie.After-text2) → take (c .before .put-form .result) (c .before .put-form .last .0) ≡ cut (form (c .before .before .before .before .before .before .before .before .before .before .before .before .before .before))
+text-lent c = let w = c .before .put-form .ensures in written-front (omega (arith, short (c .before .before .before .before .before .before .before .before .before .before .before .before .before .before))) w
 
-refuse-line-requires : tie.Need-refuse-line-requires
-refuse-line-requires c κs = search needs
+slice-aggregate-answer-text : tie.Need-slice-aggregate-answer-text
+slice-aggregate-answer-text c = sym (length-take-le (c .before .before .put-form .result) (c .before .before .put-form .last .0) (array-share-prefix-text (c .before)))
 
-answer-requires : tie.Need-answer-requires
-answer-requires c κs =
-    let t = c .before .before .before .before .take-form in
-    (t .ensures .sized, fits-room (form (c .before .before .before .before .before)) _ (t .ensures .next) (passed (textOf (t .result .text)) [] (t .ensures .next) (t .ensures .finds) (c .before .before .enum-told .given .1)))
+answer-text-requires : tie.Need-answer-text-requires
+answer-text-requires c κs = omega (arith, short (c .before .before .before .before .before .before .before .before .before .before .before .before .before .before .before .before), ap length (text-lent (c .before .before)))
 
 returns : tie.Need-returns
-unfolding writeSaid
-returns c = (rw (refused-form (c .before .before .before .before .before)) (c .before .before .refuse-line .ensures), kept (c .before .before .before .before .before .before .before .before))
-
-returns-2 : tie.Need-returns-2
-unfolding writeSaid
-returns-2 c = (rw (accepted-form (c .before .before .before .before .before)) (c .before .before .answer .ensures), kept (c .before .before .before .before .before .before .before .before))
+returns c =
+    let s = c .before .before .before .before .before .before .before .before .before .before .before .before .before .before .before .before .before .before .before in
+    let f = form s in
+    let r = c .before .before .answer-text in
+    let same = ap (λ (xs : List ℕ). saidFor (readJobText xs)) (text-lent (c .before .before .before .before .before)) ∙ cut-says f (held (c .before .before .before .before .before .before .before .before)) (omega (arith, short s)) in
+    (subst (λ (said : Said). Replied writeRoom said (s .args .out .now) (r .last .1 .0) (r .result)) same (r .ensures), promised f (held (c .before .before .before .before .before .before .before .before)) (length (s .args .out .now)))
 
 pub write-spec : {M : Type 1} → statement M
 write-spec =
     tie.close
-    (tie.spec take-form-requires (λ c. search needs) refuse-line-requires (λ c. search needs) answer-requires
-    (λ c. search needs) returns (λ c. search needs) returns-2)
+    (tie.spec (λ c. search needs) put-form-requires array-share-prefix-text slice-aggregate-answer-text answer-text-requires (λ c. search needs) returns)

@@ -1,0 +1,2 @@
+-- Two job texts that every call answers alike (Alike).
+pub mod Alike

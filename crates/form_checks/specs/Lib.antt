@@ -1,2 +1,0 @@
--- The code's checks in the parsers' terms.
-pub mod Checks

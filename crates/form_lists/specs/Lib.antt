@@ -1,2 +1,0 @@
--- A place in the lists of a form.
-pub mod Places

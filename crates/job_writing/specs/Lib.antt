@@ -1,2 +1,0 @@
--- A job's parts as the lines that say them (Lines).
-pub mod Lines
