@@ -1,0 +1,3 @@
+-- Laws of the rows where shares are owed.
+pub mod Prices
+pub mod Lanes
