@@ -3,6 +3,7 @@
 // A case stands in the input as `room=N`, `job=N`, N bytes, `plan=N`, N bytes; a case of the planner has `none=0` in place of the plan;
 // other bytes stand behind the last case.
 use answers::Answer;
+use fault_lines::fault::fault_line;
 use table_text::head_at;
 use table_text::onward;
 use table_text::piece_at;
@@ -31,14 +32,9 @@ fn kept(out: &[u8], from: usize) -> bool {
     true
 }
 
-// Writes the line at fault of a text: the part that the answer's span cuts out.
-fn write_fault(text: &[u8], start: usize, size: usize) {
-    if start <= text.len() {
-        if size <= text.len() - start {
-            let end = start + size;
-            io::write_all(libc::STDOUT_FILENO, &text[start..end]);
-        }
-    }
+// Writes the line at fault of a text.
+fn write_fault(text: &[u8], line: u32) {
+    io::write_all(libc::STDOUT_FILENO, fault_line(text, line as usize));
     io::write_all(libc::STDOUT_FILENO, b"\n");
 }
 
@@ -52,9 +48,9 @@ fn report(a: Answer, out: &[u8], job: &[u8], plan: &[u8]) {
     write_number(b"= line ", a.line as u64);
     write_number(b"= length ", m as u64);
     if a.text == 2 {
-        write_fault(plan, a.fault_start, a.fault_length);
+        write_fault(plan, a.line);
     } else {
-        write_fault(job, a.fault_start, a.fault_length);
+        write_fault(job, a.line);
     }
     if kept(out, m) {
         io::write_all(libc::STDOUT_FILENO, b"kept\n");

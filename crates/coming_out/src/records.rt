@@ -1,8 +1,8 @@
 // Who holds whom, whether anybody does, and the removals, from a job's part records.
 use crate::with_row;
 use jobs::Job;
-use jobs::Part;
 use part_records::part_of;
+use part_records::removal_of;
 ghost use mathlib.Core.Path.{_≡_};
 ghost use lib.Dec.{ltb};
 ghost use lib.ListN.{length};
@@ -62,13 +62,6 @@ pub fn has_holder(job: Job) -> bool
         q += 1;
     }
     false
-}
-
-// A part's removal.
-fn removal_of(part: Part) -> u32
-    ensures { λ r. ⌜ r ≡ part .removal ⌝ }
-{
-    part.removal
 }
 
 // The removal of each part.

@@ -9,6 +9,8 @@ use least::in_reach;
 use least::last_change;
 use least::mark;
 use lines::rows::WholeText;
+use part_records::left_of;
+use part_records::life_of;
 use part_records::part_of;
 ghost use mathlib.Core.Path.{_≡_};
 ghost use mathlib.Core.Bool.{cond};
@@ -51,20 +53,6 @@ fn shorter(a: u32, b: u32) -> u32
     ensures { λ r. ⌜ r ≡ min a b ⌝ }
 {
     if b < a { b } else { a }
-}
-
-// A part's life.
-fn life_of(part: Part) -> u32
-    ensures { λ r. ⌜ r ≡ part .life ⌝ }
-{
-    part.life
-}
-
-// What is left of a part's first life.
-fn left_of(part: Part) -> u32
-    ensures { λ r. ⌜ r ≡ part .left ⌝ }
-{
-    part.left
 }
 
 // The least lives of an accepted job.

@@ -1,11 +1,11 @@
 // Classes of parts: parts that need the same holding parts. A class is led by its first part.
 ghost use mathlib.Core.Path.{_≡_};
-ghost use mathlib.Core.Bool.{true, false};
+ghost use mathlib.Core.Bool.{not, Bool·beq};
 ghost use Prim.Native.Nat.{_+_, _<_, _≤_};
-ghost use lib.ListN.{length, getD};
+ghost use lib.ListN.{length};
 ghost use Rattle.lane_rows.specs.Layout.{laneCount};
-ghost use Rattle.held_places.specs.Arrays.{needSize, needsAt};
-ghost use Rattle.held_tables.specs.Grouped.{Grouped};
+ghost use Rattle.held_places.specs.Arrays.{needSize};
+ghost use Rattle.held_tables.specs.Grouped.{sameNeeds, classAt, Grouped};
 use held_places::PARTS;
 
 // The class of each lane, the first part of each class, and how many classes there are.
@@ -17,7 +17,7 @@ pub struct Classes {
 
 // One is so and the other is not.
 fn differ(x: bool, y: bool) -> bool
-    ensures { λ r. ⌜ (r ≡ false → x ≡ y) ⌝ }
+    ensures { λ r. ⌜ r ≡ not (Bool·beq x y) ⌝ }
 {
     if x { !y } else { y }
 }
@@ -25,7 +25,7 @@ fn differ(x: bool, y: bool) -> bool
 // Parts p and q need the same of h holding parts.
 fn same_needs(needs: &[bool], h: usize, p: usize, q: usize) -> bool
     requires { ⌜ (length (now needs) ≡ needSize) × (h ≤ laneCount) × (p < laneCount) × (q < laneCount) ⌝ }
-    ensures { λ r. ⌜ (r ≡ true → needsAt h (now (needs .entry)) p ≡ needsAt h (now (needs .entry)) q) ⌝ }
+    ensures { λ r. ⌜ r ≡ sameNeeds (now (needs .entry)) h p q ⌝ }
 {
     let mut b: usize = 0;
     while b < h {
@@ -40,7 +40,7 @@ fn same_needs(needs: &[bool], h: usize, p: usize, q: usize) -> bool
 // The first class that needs what part q needs; where there is none, the number of classes.
 fn class_at(needs: &[bool], h: usize, classes: Classes, q: usize) -> usize
     requires { ⌜ (length (now needs) ≡ needSize) × (h ≤ laneCount) × (q < laneCount) × Grouped (now needs) h q classes ⌝ }
-    ensures { λ r. ⌜ (r ≤ classes .count) × (r < classes .count → needsAt h (now (needs .entry)) (getD (classes .leads) r 0) ≡ needsAt h (now (needs .entry)) q) ⌝ }
+    ensures { λ r. ⌜ (r ≡ classAt (now (needs .entry)) h classes q) × (r ≤ classes .count) ⌝ }
 {
     let leads = classes.leads;
     let count = classes.count;

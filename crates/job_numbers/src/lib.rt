@@ -3,7 +3,8 @@ use clock::Positions;
 use clock::positions_of;
 use held_places::STRIDE;
 use jobs::Job;
-use jobs::Part;
+use part_records::left_of;
+use part_records::life_of;
 use part_records::part_of;
 ghost use mathlib.Core.Path.{_≡_};
 ghost use mathlib.Core.List.{map};
@@ -36,20 +37,6 @@ fn fees_of(job: Job) -> [u32; 64]
         i += 1;
     }
     fees
-}
-
-// A part's life.
-fn life_of(part: Part) -> u32
-    ensures { λ r. ⌜ r ≡ part .life ⌝ }
-{
-    part.life
-}
-
-// What is left of a part's first life.
-fn left_of(part: Part) -> u32
-    ensures { λ r. ⌜ r ≡ part .left ⌝ }
-{
-    part.left
 }
 
 // The lives of the parts.

@@ -1,14 +1,14 @@
 // The judge's program: a job and a plan are read from files, the plan is weighed, and the answer printed.
+use answer_output::Printout;
 use answer_output::print_answer;
-use answers::Answer;
 use jobs::Job;
 use jobs::Plan;
 use whole_input::Text;
 use whole_input::read_file;
 ghost use Rattle.judge_program.specs.Printed.{Printed};
 
-// Reads a job text and a plan text from the files of these names, and prints the answer on standard output and hands it back (`Printed`).
-pub fn judge_files(job_path: &[u8], plan_path: &[u8]) -> Answer
+// Reads a job text and a plan text from the files of these names, and prints the judge's answer on standard output (`Printed`).
+pub fn judge_files(job_path: &[u8], plan_path: &[u8]) -> Printout
     ensures { λ r. ⌜ Printed r ⌝ }
 {
     // One byte more than a text may have, so that a longer one is told.

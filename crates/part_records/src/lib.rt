@@ -1,4 +1,4 @@
-// "A part has a life L and a first life R": the parts as a lent slice of records, from which one is taken out by value.
+// "A part has a life L and a first life R": the parts as a lent slice of records, from which one is taken out by value; and the numbers of one.
 // Place i holds part number i + 1.
 use jobs::Part;
 ghost use mathlib.Core.Path.{_≡_};
@@ -21,4 +21,25 @@ pub fn part_of(parts: [Part; 16], count: usize, i: usize) -> Part
     ensures { λ r. ⌜ (r ≡ recordAt parts i) × (i < length parts) ⌝ }
 {
     part_at(&parts[..count], i)
+}
+
+// A part's life.
+pub fn life_of(part: Part) -> u32
+    ensures { λ r. ⌜ r ≡ part .life ⌝ }
+{
+    part.life
+}
+
+// What is left of a part's first life.
+pub fn left_of(part: Part) -> u32
+    ensures { λ r. ⌜ r ≡ part .left ⌝ }
+{
+    part.left
+}
+
+// What a part's removal costs.
+pub fn removal_of(part: Part) -> u32
+    ensures { λ r. ⌜ r ≡ part .removal ⌝ }
+{
+    part.removal
 }

@@ -1,13 +1,13 @@
 // The planner's program: a job is read, planned, and the answer printed.
+use answer_output::Printout;
 use answer_output::print_answer;
-use answers::Answer;
 use jobs::Job;
 use whole_input::Text;
 use whole_input::read_whole;
 ghost use Rattle.planner_program.specs.Printed.{Printed};
 
-// Reads a job text from a descriptor, and prints its answer on standard output and hands it back (`Printed`).
-pub fn plan_input(fd: i32) -> Answer
+// Reads a job text from a descriptor, and prints the planner's answer on standard output (`Printed`).
+pub fn plan_input(fd: i32) -> Printout
     ensures { λ r. ⌜ Printed r ⌝ }
 {
     // One byte more than a text may have, so that a longer one is told.

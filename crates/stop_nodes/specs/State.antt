@@ -5,12 +5,13 @@ use mathlib.Core.Bool.{Bool, true, false, cond}
 use mathlib.Core.List.{List, [], _∷_, _++_}
 use lib.Dec.{eqb}
 use lib.ListN.{length, getD}
-use Rattle.branch.specs.declared.Bound.the-variants.{Sum}
+use Rattle.branch.specs.declared.Bound.{Bound}
+use Rattle.branch.specs.declared.Bound.the-variants.{Missing, Sum}
 use Rattle.branch.specs.Search.{Tree, none, plan, Limited, onward, atMost}
 use Rattle.branch.specs.Questions.{leftAt}
 use Rattle.model.specs.Decisions.{joined}
 use Rattle.lane_rows.specs.Layout.{laneCount, top, inf}
-use Rattle.lane_rows.specs.Tables.{Tables}
+use Rattle.lane_rows.specs.Tables.{sumWhere, Tables}
 use Rattle.lane_rows.specs.Rows.{Memo, Recalled}
 use Rattle.held_rows.specs.Held.{HeldSheet, plain, noLane, held, seenBy, paidIn, heldSums, heldTerm, heldBound, Classed}
 use Rattle.held_rows.specs.Rows.{SeenRows}
@@ -19,7 +20,7 @@ use Rattle.held_lanes.specs.Tables.{HeldTables, Lasts}
 use Rattle.held_stops.specs.Stops.{ShutSet, Pended, StopPut, StopNoted}
 use Rattle.walk.specs.declared.Search.{Search}
 use Rattle.walk.specs.declared.Solved.{Solved}
-use Rattle.walk.specs.State.{bits, viewOf}
+use Rattle.walk.specs.State.{bits, viewOf, openS}
 use Rattle.stop_nodes.specs.declared.Node.{Node}
 
 -- ---- decisions in numbers
@@ -153,6 +154,15 @@ pub record Walked (sheet : HeldSheet) (ds : List (List Bool)) (t w w' v v' : Lis
   pub pending : Pending t w' v' p
 
 -- ---- what the functions beside it ask and do
+
+-- another number in the place of one that is there
+unfoldable pub instead : ℕ → Bound → Bound
+instead d Missing = Missing
+instead d (Sum x) = Sum d
+
+-- the fees, removals and term h of a node, if its term is there and part sums of x do not drop it
+abbrev pub dueS : ℕ → ℕ → ℕ → ℕ → Search → Bound
+dueS limit spent h x s = instead (spent + h) (openS limit (spent + h) (sumWhere h x) s)
 
 -- a node is settled: at an opening nothing moves, a stop has its row and its marks written
 pub record NodeSettled (t u w w' v v' : List ℕ) (p : Node) (r : ℕ) : Type 0 where

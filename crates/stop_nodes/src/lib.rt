@@ -3,8 +3,6 @@ ghost use mathlib.Core.Path.{_≡_};
 ghost use mathlib.Core.Bool.{true, false};
 ghost use Prim.Native.Nat.{ℕ, _+_, _-_, _*_, _^_, _<_, _≤_};
 ghost use lib.ListN.{length, getD};
-ghost use Rattle.branch.specs.declared.Bound.{Bound};
-ghost use Rattle.branch.specs.declared.Bound.the-variants.{Missing, Sum};
 ghost use Rattle.least.specs.Filled.{FilledBy};
 ghost use Rattle.lane_rows.specs.Layout.{laneCount, inf, suffixBase, lanesIn};
 ghost use Rattle.lane_rows.specs.Tables.{sumWhere};
@@ -12,7 +10,7 @@ ghost use Rattle.lane_rows.specs.Rows.{lane, sumLanes, Looks, Recalled};
 ghost use Rattle.held_lanes.specs.Places.{removedPlace, bestPlace, asideSize};
 ghost use Rattle.held_stops.specs.Stops.{stopLane, LooksAtStop, SettleAsks};
 ghost use Rattle.walk.specs.State.{openS};
-ghost use Rattle.stop_nodes.specs.State.{noN, yesN, staysN, outN, NodeSettled};
+ghost use Rattle.stop_nodes.specs.State.{noN, yesN, staysN, outN, NodeSettled, dueS};
 use branch::Bound;
 use held_lanes::ASIDE;
 use held_lanes::BEST;
@@ -140,8 +138,7 @@ pub fn settle(
 // The fees, removals and term of a node, if it is walked on by what is known before any lane is summed: its term h is there, and part sums of x, which are no more than its own, do not drop it.
 pub fn tested(limit: u64, spent: u64, h: usize, x: u64, s: Search) -> Bound
     requires { ⌜ (spent + inf + laneCount * inf < 2 ^ 64) × (x ≤ laneCount * inf) ⌝ }
-    ensures none { λ r. ⌜ (r ≡ Missing → (y : ℕ) → (h < inf → x ≤ y) → openS limit (spent + h) (sumWhere h y) s ≡ Missing) ⌝ }
-    ensures some { λ r. ⌜ ((d : ℕ) → r ≡ Sum d → (d ≡ spent + h) × (h < inf)) ⌝ }
+    ensures { λ r. ⌜ r ≡ dueS limit spent h x s ⌝ }
 {
     let Bound::Sum(g) = value(h as u64) else {
         return Bound::Missing;

@@ -1,9 +1,11 @@
 -- `judge_files`: the answer is that of the call on what was read, whose output has the room asked; `same` leads to the whole files.
-use mathlib.Core.Path.{sym, ap, ap₂, _∙_}
+use mathlib.Core.Path.{sym, ap₂, subst, _∙_}
 use native.Mathlib.Omega.{arith}
 use borrow.Author.Needs.{needs}
 use lib.ListN.{take}
-use Rattle.answers.specs.Said.{numbers}
+use Rattle.answers.specs.Said.{Said}
+use Rattle.answer_output.specs.Prints.{Prints}
+use Rattle.answer_output.proofs.Printing.{prints}
 use Rattle.judging.specs.Judge.{judgeSaid}
 use Rattle.judge_program.proofs.Cut.{same}
 use Rattle.judge_program.proofs.judge_files.Statement.{statement}
@@ -33,7 +35,9 @@ returns c =
       plan = take (plan-read .read-file2 .result) (plan-read .read-file2 .last .1 .1 .0);
       job-read = omega (arith, job-read .read-file .ensures, job-cut .job2 .given);
       plan-read = omega (arith, plan-read .read-file2 .ensures, plan-cut .plan2 .given);
-      says = λ jobFile planFile job-kept plan-kept. c .print-answer .ensures ∙ called .judge .ensures .0 .numbers-are ∙ ap numbers (ap₂ judgeSaid (sym job-kept) (sym plan-kept) ∙ same jobFile planFile);
+      says = λ jobWhole planWhole job-kept plan-kept.
+          subst (λ (s : Said). Prints s (c .print-answer .result)) (ap₂ judgeSaid (sym job-kept) (sym plan-kept) ∙ same jobWhole planWhole)
+          (prints (omega arith) (called .judge .ensures .0) (c .print-answer .ensures));
     }
 
 pub judge-files-spec : {M : Type 1} → statement M

@@ -1,9 +1,11 @@
 -- `plan_input`: the answer is that of the call on what was read, whose output has the room asked; `same` leads to the whole input.
-use mathlib.Core.Path.{sym, ap, _∙_}
+use mathlib.Core.Path.{sym, ap, subst, _∙_}
 use native.Mathlib.Omega.{arith}
 use borrow.Author.Needs.{needs}
 use lib.ListN.{take}
-use Rattle.answers.specs.Said.{numbers}
+use Rattle.answers.specs.Said.{Said}
+use Rattle.answer_output.specs.Prints.{Prints}
+use Rattle.answer_output.proofs.Printing.{prints}
 use Rattle.planning.specs.Plan.{planSaid}
 use Rattle.planner_program.proofs.Cut.{same}
 use Rattle.planner_program.proofs.plan_input.Statement.{statement}
@@ -26,7 +28,9 @@ returns c =
     record {
       job = take (read .read-whole .result) (read .read-whole .last .1 .1 .0);
       read = omega (arith, read .read-whole .ensures .0, cut .job2 .given);
-      says = λ input kept. c .print-answer .ensures ∙ called .plan .ensures .0 .numbers-are ∙ ap numbers (ap planSaid (sym kept) ∙ same input);
+      says = λ input kept.
+          subst (λ (s : Said). Prints s (c .print-answer .result)) (ap planSaid (sym kept) ∙ same input)
+          (prints (omega arith) (called .plan .ensures .0) (c .print-answer .ensures));
     }
 
 pub plan-input-spec : {M : Type 1} → statement M

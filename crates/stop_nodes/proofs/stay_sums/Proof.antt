@@ -14,6 +14,7 @@ use Rattle.held_stops.specs.Stops.{stopLane}
 use Rattle.stop_nodes.proofs.Given.{stop-most}
 use Rattle.walk.specs.State.{openS}
 use Rattle.stop_nodes.proofs.Given.{sums-low}
+use Rattle.stop_nodes.proofs.Dues.{due-none, due-some}
 use Rattle.stop_nodes.proofs.stay_sums.Statement.{statement}
 use Rattle.stop_nodes.proofs.stay_sums.Tie as tie
 
@@ -26,7 +27,9 @@ low s = let a = s .args in sums-low (stopLane (a .t .now) (a .w .now) (a .j) (a 
 
 -- what is due
 due : (c : tie.After-due) → let a = c .before .before .before .args in (c .due .given .0 .0 ≡ a .spent + a .h) × (a .h < inf)
-due c = c .before .before .tested .ensures .1 (c .due .given .0 .0) (c .due .given .1)
+due c =
+    let a = c .before .before .before .args in
+    due-some (a .limit) (a .spent) (a .h) (a .x) (a .s) (c .due .given .0 .0) (c .before .before .tested .ensures) (c .due .given .1)
 
 tested-requires : tie.Need-tested-requires
 tested-requires c κs = search needs
@@ -35,7 +38,7 @@ returns : tie.Need-returns
 returns c =
     let s = c .before .before .before in
     let a = s .args in
-    (sym (c .before .before .tested .ensures .0 (c .enum-told .given .1) (sum s) (s .pre .1)), recalled-none (a .t .now) (a .w .now) (a .rows) (s .pre .0 .shut .memo))
+    (sym (due-none (a .limit) (a .spent) (a .h) (a .x) (a .s) (c .before .before .tested .ensures) (c .enum-told .given .1) (sum s) (s .pre .1)), recalled-none (a .t .now) (a .w .now) (a .rows) (s .pre .0 .shut .memo))
 
 shut-sum-requires : tie.Need-shut-sum-requires
 shut-sum-requires c κs = search needs

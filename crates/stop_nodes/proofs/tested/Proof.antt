@@ -1,15 +1,16 @@
 -- `tested` drops a node whose term is Missing, and one that smaller part sums drop; else it hands over its fees, removals and term.
 use Prim.Native.Nat.{_+_, _<_}
-use mathlib.Core.Path.{_≡_, refl, sym, _∙_}
+use mathlib.Core.Path.{_≡_, refl, sym, ap, _∙_}
 use native.Mathlib.Omega.{arith}
 use borrow.Author.Needs.{needs}
+use Rattle.branch.specs.declared.Bound.{Bound}
 use Rattle.branch.specs.declared.Bound.the-variants.{Missing, Sum}
-use Rattle.branch.proofs.Bounds.{no-sum, sum-inj}
+use Rattle.branch.proofs.Bounds.{sum-inj}
 use Rattle.lane_rows.specs.Layout.{inf}
-use Rattle.lane_rows.specs.Tables.{sumWhere}
-use Rattle.lane_rows.proofs.Lanes.{where-some, where-none, value-sum, value-missing}
+use Rattle.lane_rows.proofs.Lanes.{value-sum, value-missing}
 use Rattle.walk.specs.State.{openS}
-use Rattle.walk.proofs.Nodes.{open-none, open-drops}
+use Rattle.stop_nodes.specs.State.{instead, dueS}
+use Rattle.stop_nodes.proofs.Dues.{due-missing, due-there}
 use Rattle.stop_nodes.proofs.tested.Statement.{statement}
 use Rattle.stop_nodes.proofs.tested.Tie as tie
 
@@ -23,8 +24,7 @@ value-requires c κs = search needs
 returns : tie.Need-returns
 returns c =
     let a = c .before .before .before .args in
-    let m = value-missing (a .h) (sym (c .before .before .value .ensures) ∙ c .enum-told .given .1) in
-    (λ f y k. sym (open-none (a .limit) (a .spent + a .h) (a .s) (sumWhere (a .h) y) (where-none (a .h) y m)), λ d f. absurd (no-sum Missing d refl f))
+    due-missing (a .limit) (a .spent) (a .h) (a .x) (a .s) (value-missing (a .h) (sym (c .before .before .value .ensures) ∙ c .enum-told .given .1))
 
 add-open : tie.Need-add-open
 add-open c = omega (arith, there (c .before), c .before .before .before .before .pre)
@@ -35,28 +35,26 @@ open-requires c κs = λ y f.
     let z = sum-inj (Sum (s .args .x)) (s .args .x) y refl f in
     omega (arith, z, there (c .before), s .pre)
 
-returns-2 : tie.Need-returns-2
-returns-2 c =
-    let g = c .before .before .before .before in
+-- what was tested
+opened : (g : tie.After-g) (r : Bound) → openS (g .before .before .before .args .limit) (g .before .before .before .args .spent + g .g .given .0 .0) (Sum (g .before .before .before .args .x)) (g .before .before .before .args .s) ≡ r
+    → instead (g .before .before .before .args .spent + g .g .given .0 .0) r ≡ (let a = g .before .before .before .args in dueS (a .limit) (a .spent) (a .h) (a .x) (a .s))
+opened g r f =
     let a = g .before .before .before .args in
     let e = there g in
-    let z : a .h < inf = omega (arith, e) in (
-      λ f y k.
-          (λ i. openS (a .limit) (a .spent + e .0 i) (where-some (a .h) y z i) (a .s))
-          ∙ sym (open-drops (a .limit) (a .spent + g .g .given .0 .0) (a .s) (a .x) y (k z) (sym (c .before .before .«open» .ensures) ∙ c .enum-told3 .given .1)),
-      λ d f. absurd (no-sum Missing d refl f),
-    )
+    sym (due-there (a .limit) (a .spent) (a .h) (a .x) (a .s) (omega (arith, e))
+    ∙ (λ i. instead (a .spent + e .0 i) (openS (a .limit) (a .spent + e .0 i) (Sum (a .x)) (a .s)))
+    ∙ ap (instead (a .spent + g .g .given .0 .0)) f)
+
+returns-2 : tie.Need-returns-2
+unfolding instead
+returns-2 c = opened (c .before .before .before .before) Missing (sym (c .before .before .«open» .ensures) ∙ c .enum-told3 .given .1)
 
 add-t8 : tie.Need-add-t8
 add-t8 c = let g = c .before .before .before .before in omega (arith, there g, g .before .before .before .pre)
 
 returns-3 : tie.Need-returns-3
-returns-3 c =
-    let g = c .before .before .before .before in
-    let a = g .before .before .before .args in
-    let n = a .spent + g .g .given .0 .0 in
-    let e = there g in
-    (λ f. absurd (no-sum (Sum n) n f refl), λ d f. (omega (arith, sum-inj (Sum n) n d refl f, e), omega (arith, e)))
+unfolding instead
+returns-3 c = opened (c .before .before .before .before) (Sum (c .enum-told2 .given .0 .0)) (sym (c .before .before .«open» .ensures) ∙ c .enum-told2 .given .1)
 
 pub tested-spec : {M : Type 1} → statement M
 tested-spec = tie.close (tie.spec value-requires (λ c. search needs) (λ c. search needs) returns add-open open-requires (λ c. search needs) (λ c. search needs) returns-2 add-t8 returns-3)

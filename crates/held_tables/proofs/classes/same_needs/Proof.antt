@@ -1,47 +1,49 @@
 -- `same_needs` looks at one need after the other. The invariant: the first are the same.
-use Prim.Native.Nat.{ℕ, _+_, _-_, _*_, _≤_, _<_}
-use mathlib.Core.Path.{_≡_, ap}
-use mathlib.Core.Bool.{Bool, true, false, cond}
-use lib.ListN.{getD}
-use borrow.Author.Count.{below-more}
-use Rattle.held_places.specs.Arrays.{needStride}
-use Rattle.held_tables.proofs.Groups.{needs-same}
+use Prim.Native.Nat.{ℕ, _+_, _-_, _≤_, _<_}
+use mathlib.Core.Path.{_≡_, refl, sym, ap, subst, _∙_}
+use mathlib.Core.Bool.{Bool, true, false, not, Bool·beq}
+use native.Mathlib.Numerals.{add-one}
+use Rattle.held_tables.specs.Grouped.{needAt, sameNeeds}
+use Rattle.held_tables.proofs.Groups.{same-none, same-more, same-not}
 use native.Mathlib.Omega.{arith}
 use borrow.Author.Needs.{needs}
 use Rattle.held_tables.proofs.classes.same_needs.Statement.{statement}
 use Rattle.held_tables.proofs.classes.same_needs.Tie as tie
 
-false-true : _≡_ {A = Bool} false true → ⊥
-false-true e = let z : _≡_ {A = ℕ} 0 1 = ap (λ (b : Bool). cond b 1 0) e in omega arith
+turned : (x y : Bool) → not x ≡ y → x ≡ not y
+turned true y e = ap not e
+turned false y e = ap not e
 
 abbrev Inv-loop : tie.InvT-loop
-Inv-loop needs h p q b₀ b = (b ≤ h) × ((i : ℕ) → i < b → getD needs (p * needStride + i) false ≡ getD needs (q * needStride + i) false)
+Inv-loop needs h p q b₀ b = (b ≤ h) × (sameNeeds needs b p q ≡ true)
 
 abbrev μ-loop : tie.MeasureT-loop
 μ-loop needs h p q b₀ b = h - b
 
 loop-holds : tie.Need-loop-holds Inv-loop μ-loop
-loop-holds c = (omega arith, λ i l. absurd (omega arith))
+loop-holds c = let a = c .before .args in (omega arith, same-none (a .needs .now) (a .p) (a .q))
 
 differ-requires : tie.Need-differ-requires Inv-loop μ-loop
 differ-requires c κs = search needs
 
 returns : tie.Need-returns Inv-loop μ-loop
-returns c e = absurd (false-true e)
+returns c =
+    let l = c .before .before .before .before .before .loop in
+    let a = c .before .before .before .before .before .before .before .args in
+    sym (same-not (a .needs .now) (a .p) (a .q) (a .h) (l .b) (omega arith) (turned _ true (sym (c .before .differ .ensures) ∙ c .if1 .taken)))
 
 loop-again : tie.Need-loop-again Inv-loop μ-loop
 loop-again c =
     let l = c .before .before .before .before .before .loop in
     let a = c .before .before .before .before .before .before .before .args in
-    (omega arith, below-more (λ (i : ℕ). getD (a .needs .now) (a .p * needStride + i) false ≡ getD (a .needs .now) (a .q * needStride + i) false) (l .b) (l .inv .1) (c .before .differ .ensures (c .if1 .left)))
+    (omega arith, ap (λ (b : ℕ). sameNeeds (a .needs .now) b (a .p) (a .q)) (add-one (l .b)) ∙ same-more (a .needs .now) (a .p) (a .q) (l .b) (l .inv .1) (turned _ false (sym (c .before .differ .ensures) ∙ c .if1 .left)))
 
 returns-2 : tie.Need-returns-2 Inv-loop μ-loop
-returns-2 c e =
+returns-2 c =
     let l = c .before .loop in
-    let s = c .before .before .before in
-    let a = s .args in
+    let a = c .before .before .before .args in
     let z : l .b ≡ a .h = omega arith in
-    needs-same (a .needs .now) (a .h) (a .p) (a .q) (s .pre .0) (s .pre .1) (s .pre .2) (s .pre .3) (λ i g. l .inv .1 i (omega arith))
+    sym (l .inv .1) ∙ ap (λ (b : ℕ). sameNeeds (a .needs .now) b (a .p) (a .q)) z
 
 pub same-needs-spec : {M : Type 1} → statement M
 same-needs-spec =

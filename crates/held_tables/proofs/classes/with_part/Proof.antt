@@ -5,30 +5,22 @@ use borrow.Author.Needs.{needs}
 use Rattle.held_tables.proofs.classes.with_part.Statement.{statement}
 use Rattle.held_tables.proofs.classes.with_part.Tie as tie
 
--- src/classes.rt:62:9
 class-at-requires : tie.Need-class-at-requires
 class-at-requires c κs = search needs
 
--- src/classes.rt:66:5
--- src/classes.rt:66:5
--- src/classes.rt:68:9
 returns : tie.Need-returns
 returns c =
     let s = c .before .before .before .before .before in
     let a = s .args in
     let r = c .before .before .before .class-at in
-    group-old (a .needs .now) (a .h) (a .classes) (a .q) (r .result) (s .pre .3) (s .pre .2) (r .ensures .0) (c .if1 .taken) (r .ensures .1 (c .if1 .taken))
+    group-old (a .needs .now) (a .h) (a .classes) (a .q) (r .result) (s .pre .0) (s .pre .1) (s .pre .3) (s .pre .2) (r .ensures .0) (c .if1 .taken)
 
--- src/classes.rt:74:5
--- src/classes.rt:74:5
--- src/classes.rt:78:16
--- src/classes.rt:58:1
 returns-2 : tie.Need-returns-2
 returns-2 c =
     let s = c .before .before .before .before .before in
     let a = s .args in
     let r = c .before .before .before .class-at in
-    group-new (a .needs .now) (a .h) (a .classes) (a .q) (r .result) (s .pre .3) (s .pre .2) (r .ensures .0) (omega (arith, c .if1 .left))
+    group-new (a .needs .now) (a .h) (a .classes) (a .q) (r .result) (s .pre .0) (s .pre .1) (s .pre .3) (s .pre .2) (r .ensures .0) (omega (arith, c .if1 .left))
 
 pub with-part-spec : {M : Type 1} → statement M
 with-part-spec =

@@ -1,14 +1,22 @@
 -- `lines::digit_count` meets its contract. The invariant: n is below the power after k, so k + 1 digits are enough.
 use Prim.Native.Nat.{ℕ, suc, _≤_, _<_, _-_, _^_}
 use mathlib.Core.Path.{_≡_, refl, ap, _∙_, subst}
+use mathlib.Core.List.{[], _∷_}
 use borrow.Author.Needs.{needs}
 use native.Mathlib.Omega.{arith}
 use native.Mathlib.Numerals.{add-one}
 use Rattle.lines.specs.Text.{decimal, decimalIn}
 use Rattle.lines.proofs.Writing.{digits-more}
 use Rattle.line_writing.proofs.Powers.{one-padded, decimal-padded}
+use Rattle.line_writing.specs.Undivided.{Undivided}
+use Rattle.line_writing.proofs.digits.power_of_ten.Key.{name as #power-of-ten}
+use Rattle.line_writing.proofs.digits.digit_count.Code as code
 use Rattle.line_writing.proofs.digits.digit_count.Statement.{statement}
 use Rattle.line_writing.proofs.digits.digit_count.Tie as tie
+
+-- E3. it divides nowhere, and neither does what it calls
+undivided : Undivided (#power-of-ten ∷ []) code.function
+undivided = record { divides-nowhere = tt; calls = tt }
 
 abbrev Inv-loop : tie.InvT-loop
 Inv-loop n k₀ k = (k ≤ 9) × (n < 10 ^ suc k) × (decimal n ≡ decimalIn (suc k) n)

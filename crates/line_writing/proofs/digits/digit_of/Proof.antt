@@ -1,12 +1,19 @@
 -- `lines::digit_of` meets its contract. The invariant: the digit times the power, and the rest, are n.
 use Prim.Native.Nat.{_<_, _+_, _*_, _-_}
 use mathlib.Core.Path.{_≡_}
+use mathlib.Core.List.{[]}
 use borrow.Author.Needs.{needs}
 use native.Mathlib.Omega.{arith}
 use native.Mathlib.Numerals.{add-one}
 use native.Mathlib.Nat.{suc-mul, zero-mul, lt-of-mul-lt-mul-right}
+use Rattle.line_writing.specs.Undivided.{Undivided}
+use Rattle.line_writing.proofs.digits.digit_of.Code as code
 use Rattle.line_writing.proofs.digits.digit_of.Statement.{statement}
 use Rattle.line_writing.proofs.digits.digit_of.Tie as tie
+
+-- E3. it divides nowhere, and neither does what it calls
+undivided : Undivided ([]) code.function
+undivided = record { divides-nowhere = tt; calls = tt }
 
 abbrev Inv-loop : tie.InvT-loop
 Inv-loop n power digit₀ rest₀ digit rest = (n ≡ digit * power + rest) × (digit < 10)

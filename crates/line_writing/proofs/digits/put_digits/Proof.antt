@@ -1,7 +1,7 @@
 -- `lines::put_digits` meets its contract. The invariant: what is written, with the rest's last `left` digits behind it, are n's digits.
 use Prim.Native.Nat.{ℕ, suc, _≤_, _<_, _+_, _*_, _-_, _^_}
 use mathlib.Core.Path.{_≡_, refl, sym, ap, _∙_, subst}
-use mathlib.Core.List.{_∷_}
+use mathlib.Core.List.{_∷_, []}
 use borrow.Author.Needs.{needs}
 use native.Mathlib.Omega.{arith}
 use native.Mathlib.Numerals.{add-one}
@@ -10,8 +10,16 @@ use lib.ListN.{length, length-set}
 use lib.Seq.{sets}
 use Rattle.line_writing.specs.Padded.{padded}
 use Rattle.line_writing.proofs.Powers.{power-positive, padded-length, padded-first}
+use Rattle.line_writing.specs.Undivided.{Undivided}
+use Rattle.line_writing.proofs.digits.digit_of.Key.{name as #digit-of}
+use Rattle.line_writing.proofs.digits.power_of_ten.Key.{name as #power-of-ten}
+use Rattle.line_writing.proofs.digits.put_digits.Code as code
 use Rattle.line_writing.proofs.digits.put_digits.Statement.{statement}
 use Rattle.line_writing.proofs.digits.put_digits.Tie as tie
+
+-- E3. it divides nowhere, and neither does what it calls
+undivided : Undivided (#digit-of ∷ #power-of-ten ∷ []) code.function
+undivided = record { divides-nowhere = tt; calls = tt }
 
 abbrev Inv-loop : tie.InvT-loop
 Inv-loop out₀ at n count rest₀ left₀ end₀ out rest left end =

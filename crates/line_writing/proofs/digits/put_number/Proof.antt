@@ -1,12 +1,21 @@
 -- `lines::put_number` meets its contract: as many digits as `digit_count` says are n's decimal digits.
 use mathlib.Core.Path.{refl, sym, ap}
+use mathlib.Core.List.{[], _∷_}
 use borrow.Author.Needs.{needs}
 use native.Mathlib.Omega.{arith}
 use lib.ListN.{length}
 use Rattle.lines.proofs.Writing.{same}
 use Rattle.line_writing.proofs.Powers.{padded-length}
+use Rattle.line_writing.specs.Undivided.{Undivided}
+use Rattle.line_writing.proofs.digits.digit_count.Key.{name as #digit-count}
+use Rattle.line_writing.proofs.digits.put_digits.Key.{name as #put-digits}
+use Rattle.line_writing.proofs.digits.put_number.Code as code
 use Rattle.line_writing.proofs.digits.put_number.Statement.{statement}
 use Rattle.line_writing.proofs.digits.put_number.Tie as tie
+
+-- E3. it divides nowhere, and neither does what it calls
+undivided : Undivided (#digit-count ∷ #put-digits ∷ []) code.function
+undivided = record { divides-nowhere = tt; calls = tt }
 
 digit-count-requires : tie.Need-digit-count-requires
 digit-count-requires c κs = search needs
