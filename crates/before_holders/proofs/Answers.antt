@@ -60,7 +60,7 @@ module _ (text : List ℕ) (a : Accepted text) where
   unfolding counting.countSaid counting.countedJob before.countSaid
   count-before =
       ap (counting.onJob text) today
-      ∙ ap (λ (t : Bool). cond t counting.holderRefusal (counting.countOf (openCount job))) (held-none (job .parts) (plain-unheld (length (job .openings)) (job .parts) plain))
+      ∙ ap (λ (t : Bool). cond t counting.holderRefusal (counting.countGiven (openCount job))) (held-none (job .parts) (plain-unheld (length (job .openings)) (job .parts) plain))
       ∙ sym (ap (before.countOn text) (a .is))
 
   pub judge-before : (plan : List ℕ) (stated : Stated) → texts.readPlan job plan ≡ accepted stated → judging.judgeSaid text plan ≡ before.judgeSaid text plan

@@ -12,7 +12,7 @@ use Rattle.plan_grammar.specs.Grammar.{Stated}
 use Rattle.answers.specs.Said.{Said, refusal}
 use Rattle.planning.specs.Plan as planning
 use Rattle.judging.specs.Judge as judging
-use Rattle.counting.specs.Count.{countOf, refusalOf}
+use Rattle.counting.specs.Count.{countGiven, refusalOf}
 use Rattle.counting.specs.declared.Counted.{Counted}
 use Rattle.before_holders.specs.Texts.{readJob, readPlan}
 
@@ -55,7 +55,7 @@ judgeRoom = 16384
 
 -- by what the job text read as: E6's count of any job, or its fault
 abbrev pub countOn : List ℕ → Outcome Given → Counted
-countOn text (accepted given) = countOf (openCount (given .job))
+countOn text (accepted given) = countGiven (openCount (given .job))
 countOn text (refused number line) = refusalOf text number line
 
 -- what the count handed over for a job text

@@ -9,7 +9,7 @@ use lib.ListN.{length, length-append}
 use lib.Dec.{leb}
 use Rattle.branch.specs.declared.Bound.{Bound}
 use Rattle.branch.specs.declared.Bound.the-variants.{Missing, Sum}
-use Rattle.branch.specs.Search.{Tree, full, ask, Incumbent, below, snoc, Walk, alone, through, walk, Limited, counted, kept, stopped, limited}
+use Rattle.branch.specs.Search.{Tree, full, ask, Incumbent, below, snoc, Walk, alone, through, walk, Limited, counted, withBest, stopped, limited}
 use Rattle.branch.specs.Open.{present, openNodes}
 use Rattle.branch.proofs.Bounds.{no-sum}
 use Rattle.branch.proofs.Steps.{boundAt}
@@ -78,7 +78,7 @@ pub limited-most : (L : ℕ) (t : Tree) (p : List Bool) (st : Limited) → limit
 unfolding limited
 limited-most L (full e) p st = go (leb L (st .count)) (below e (st .incumbent))
   where
-    go : (s a : Bool) → cond {A = Limited} s (stopped st) (cond {A = Limited} a (kept e p (counted st)) (counted st)) .count ≤ st .count + openNodes (full e)
+    go : (s a : Bool) → cond {A = Limited} s (stopped st) (cond {A = Limited} a (withBest e p (counted st)) (counted st)) .count ≤ st .count + openNodes (full e)
     go true a = omega arith
     go false true = omega (arith, open-one (full e))
     go false false = omega (arith, open-one (full e))

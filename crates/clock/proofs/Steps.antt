@@ -11,7 +11,7 @@ use lib.Dec.{eqb}
 use lib.ListN.{length, getD, take, set, replicate, length-replicate, length-set}
 use lib.Seq.{take-suc, getD-set-same, getD-set-other}
 use lib.IntN.{ℤ, pos}
-use Rattle.model.specs.Model.{Job, idle, running, clock, within, lastWithin}
+use Rattle.model.specs.Model.{Job, listed, running, clock, within, lastWithin}
 use Rattle.clock.specs.Placed.{Flags}
 use Rattle.model.specs.Limits.{lastPosition}
 
@@ -26,17 +26,17 @@ or-true true = refl
 or-true false = refl
 
 -- one idle step more, at the end
-idle-snoc : (is : List ℕ) (i s : ℕ) → idle (is ++ i ∷ []) s ≡ (idle is s || eqb i s)
-unfolding idle
+idle-snoc : (is : List ℕ) (i s : ℕ) → listed (is ++ i ∷ []) s ≡ (listed is s || eqb i s)
+unfolding listed
 idle-snoc [] i s = or-false (eqb i s)
 idle-snoc (j ∷ is) i s = go (eqb j s) (idle-snoc is i s)
   where
-    go : (b : Bool) → idle (is ++ i ∷ []) s ≡ (idle is s || eqb i s) → (b || idle (is ++ i ∷ []) s) ≡ ((b || idle is s) || eqb i s)
+    go : (b : Bool) → listed (is ++ i ∷ []) s ≡ (listed is s || eqb i s) → (b || listed (is ++ i ∷ []) s) ≡ ((b || listed is s) || eqb i s)
     go true e = refl
     go false e = e
 
-none-idle : (s : ℕ) → idle [] s ≡ false
-unfolding idle
+none-idle : (s : ℕ) → listed [] s ≡ false
+unfolding listed
 none-idle s = refl
 
 -- a list of one value, read anywhere
@@ -50,14 +50,14 @@ flags-none n s h = same-each false n s ∙ sym (none-idle s)
 
 pub flags-more : (l : List ℕ) (flags : List Bool) (k : ℕ) → k < length l → getD l k 0 < length flags → Flags (take k l) flags → Flags (take (k + 1) l) (set flags (getD l k 0) true)
 flags-more l flags k h g f s m =
-    go (ℕ-discrete i s) ∙ sym (ap (λ (is : List ℕ). idle is s) (ap (λ (n : ℕ). take n l) (add-one k) ∙ take-suc l k 0 h) ∙ idle-snoc (take k l) i s)
+    go (ℕ-discrete i s) ∙ sym (ap (λ (is : List ℕ). listed is s) (ap (λ (n : ℕ). take n l) (add-one k) ∙ take-suc l k 0 h) ∙ idle-snoc (take k l) i s)
   where
     i : ℕ
     i = getD l k 0
 
-    go : Dec (i ≡ s) → getD (set flags i true) s false ≡ (idle (take k l) s || eqb i s)
-    go (yes e) = ap (λ (x : ℕ). getD (set flags i true) x false) (sym e) ∙ getD-set-same flags i true false g ∙ sym (ap (λ (b : Bool). idle (take k l) s || b) (eq-eqb i s e) ∙ or-true (idle (take k l) s))
-    go (no n) = getD-set-other flags i s true false (λ e. n (sym e)) ∙ f s m ∙ sym (ap (λ (b : Bool). idle (take k l) s || b) (ne-eqb i s n) ∙ or-false (idle (take k l) s))
+    go : Dec (i ≡ s) → getD (set flags i true) s false ≡ (listed (take k l) s || eqb i s)
+    go (yes e) = ap (λ (x : ℕ). getD (set flags i true) x false) (sym e) ∙ getD-set-same flags i true false g ∙ sym (ap (λ (b : Bool). listed (take k l) s || b) (eq-eqb i s e) ∙ or-true (listed (take k l) s))
+    go (no n) = getD-set-other flags i s true false (λ e. n (sym e)) ∙ f s m ∙ sym (ap (λ (b : Bool). listed (take k l) s || b) (ne-eqb i s n) ∙ or-false (listed (take k l) s))
 
 -- ---- running steps
 
@@ -81,11 +81,11 @@ no-run : (is : List ℕ) → 0 ≡ running is 0
 unfolding running
 no-run is = refl
 
-one-more : (is : List ℕ) (s : ℕ) → 0 < s → running is s ≡ running is (s - 1) + cond (idle is s) 0 1
+one-more : (is : List ℕ) (s : ℕ) → 0 < s → running is s ≡ running is (s - 1) + cond (listed is s) 0 1
 unfolding running
-one-more is s h = let z : s ≡ suc (s - 1) = omega arith in subst (λ (k : ℕ). running is k ≡ running is (s - 1) + cond (idle is k) 0 1) (sym z) (by (s - 1))
+one-more is s h = let z : s ≡ suc (s - 1) = omega arith in subst (λ (k : ℕ). running is k ≡ running is (s - 1) + cond (listed is k) 0 1) (sym z) (by (s - 1))
   where
-    by : (k : ℕ) → running is (suc k) ≡ running is k + cond (idle is (suc k)) 0 1
+    by : (k : ℕ) → running is (suc k) ≡ running is k + cond (listed is (suc k)) 0 1
     by k = refl
 
 module _ (job : Job) where
@@ -99,7 +99,7 @@ module _ (job : Job) where
   }
 
   -- one step more: it runs, or it is idle
-  pub timed-more : (at : List ℤ) (run s next : ℕ) → s ≤ lastPosition → next ≡ run + cond (idle (job .idles) s) 0 1 → Timed job at run s → Timed job (set at s (pos next)) next (s + 1)
+  pub timed-more : (at : List ℤ) (run s next : ℕ) → s ≤ lastPosition → next ≡ run + cond (listed (job .idles) s) 0 1 → Timed job at run s → Timed job (set at s (pos next)) next (s + 1)
   timed-more at run s next h e t = record {
     some = omega arith;
     most = omega arith;
@@ -109,7 +109,7 @@ module _ (job : Job) where
   }
     where
       next-is : next ≡ running (job .idles) s
-      next-is = e ∙ ap (λ (k : ℕ). k + cond (idle (job .idles) s) 0 1) (t .run-is) ∙ sym (one-more (job .idles) s (t .some))
+      next-is = e ∙ ap (λ (k : ℕ). k + cond (listed (job .idles) s) 0 1) (t .run-is) ∙ sym (one-more (job .idles) s (t .some))
 
       back : s ≡ s + 1 - 1
       back = omega arith

@@ -5,7 +5,7 @@ use mathlib.Core.Bool.{Bool, false}
 use mathlib.Core.List.{List}
 use lib.ListN.{length, getD, take}
 use lib.IntN.{ℤ, pos, _-ℤ_}
-use Rattle.model.specs.Model.{Job, idle, clock, positions, end}
+use Rattle.model.specs.Model.{Job, listed, clock, positions, end}
 use Rattle.clock.specs.declared.Positions.{Positions}
 use Rattle.model.specs.Limits.{lastPosition, longestLife}
 
@@ -19,7 +19,7 @@ Begins life prev = (a : ℕ) × (prev ≡ pos a -ℤ pos life) × (a ≤ lastPos
 
 -- a flag for each step up to the last position: it is idle
 abbrev pub Flags : List ℕ → List Bool → Type 0
-Flags is flags = (s : ℕ) → s ≤ lastPosition → getD flags s false ≡ idle is s
+Flags is flags = (s : ℕ) → s ≤ lastPosition → getD flags s false ≡ listed is s
 
 -- the position of each step up to the last
 abbrev pub Clocks : Job → List ℤ → Type 0

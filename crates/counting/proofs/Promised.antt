@@ -13,8 +13,8 @@ use Rattle.model.specs.Model.{Part, Job, hasHolder, HasPlan}
 use Rattle.model.specs.Limits.{mostCount}
 use Rattle.model.specs.Promise.{nodesOf, resultOf, wholeCount, answerOf}
 use Rattle.model.specs.Ordered.{Lefts, Ordered}
-use Rattle.model.specs.Count.{longest, openCount}
-use Rattle.model.specs.Count as model
+use Rattle.model.specs.Longest.{longest, JobCountPromise}
+use Rattle.model.specs.Count.{openCount}
 use Rattle.model.proofs.Counted.{nodes-most, count-promise}
 use Rattle.model.proofs.NoHolders.{none-held}
 use Rattle.jobs.specs.Valid.{All, ValidPart, ValidJob}
@@ -23,7 +23,7 @@ use Rattle.job_grammar.specs.Valid.{Valid}
 use Rattle.job_grammar.proofs.Accepted.{valid}
 use Rattle.job_grammar.proofs.Numbered.{fault-some, fault}
 use Rattle.counting.specs.declared.Counted.{Counted}
-use Rattle.counting.specs.Count.{countOf, refusalOf, holderRefusal, countedJob, onJob, countSaid}
+use Rattle.counting.specs.Count.{countGiven, refusalOf, holderRefusal, countedJob, onJob, countSaid}
 use Rattle.job_grammar.specs.Reading.{Reading, jobIn}
 use Rattle.counting.specs.Promise.{CountPromise}
 
@@ -101,10 +101,10 @@ module _ (text : List ℕ) where
       abbrev n : ℕ
       n = openCount (g .job)
 
-      c : model.CountPromise (g .job) n
+      c : JobCountPromise (g .job) n
       c = count-promise (g .job) (ordered (g .job) (limited .job)) (none-held (g .job .parts) none)
 
-      unheld-job : CountPromise text (countOf n)
+      unheld-job : CountPromise text (countGiven n)
       unheld-job = record {
         says-0 = (λ e. (here, none), λ r. refl);
         holders = (λ e. let z : _≡_ {A = ℕ} 0 12 = ap (λ (c : Counted). c .result) e in absurd (omega arith), λ r. absurd (false≢true (sym none ∙ moved-back (held true) (r .0) (r .1))));
@@ -124,7 +124,7 @@ module _ (text : List ℕ) where
     unfolding countedJob
     accepted-job = go (hasHolder (g .job)) refl
       where
-        go : (t : Bool) → hasHolder (g .job) ≡ t → CountPromise text (cond t holderRefusal (countOf (openCount (g .job))))
+        go : (t : Bool) → hasHolder (g .job) ≡ t → CountPromise text (cond t holderRefusal (countGiven (openCount (g .job))))
         go true e = held-job e
         go false e = unheld-job e
 

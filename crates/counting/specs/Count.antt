@@ -10,8 +10,8 @@ use Rattle.job_grammar.specs.Grammar.{Given, readJob}
 use Rattle.counting.specs.declared.Counted.{Counted}
 
 -- an accepted job's count
-abbrev pub countOf : ℕ → Counted
-countOf n = record { result = 0; text = 0; line = 0; count = n; «fault_start» = 0; «fault_length» = 0 }
+abbrev pub countGiven : ℕ → Counted
+countGiven n = record { result = 0; text = 0; line = 0; count = n; «fault_start» = 0; «fault_length» = 0 }
 
 -- a fault of the job text, on a line of it
 abbrev pub refusalOf : List ℕ → ℕ → ℕ → Counted
@@ -30,7 +30,7 @@ holderRefusal = record { result = 12; text = 0; line = 0; count = 0; «fault_sta
 
 -- what is handed over for an accepted job
 unfoldable pub countedJob : Job → Counted
-countedJob job = cond (hasHolder job) holderRefusal (countOf (openCount job))
+countedJob job = cond (hasHolder job) holderRefusal (countGiven (openCount job))
 
 -- by what the job text reads as: what an accepted job gives, or the fault
 abbrev pub onJob : List ℕ → Outcome Given → Counted

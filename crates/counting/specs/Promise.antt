@@ -10,7 +10,7 @@ use Rattle.fault_lines.specs.Fault.{faultLine, Cuts}
 use Rattle.model.specs.Model.{hasHolder, HasPlan}
 use Rattle.model.specs.Limits.{mostCount}
 use Rattle.model.specs.Promise.{nodesOf, resultOf, wholeCount, answerOf}
-use Rattle.model.specs.Count.{longest}
+use Rattle.model.specs.Longest.{longest}
 use Rattle.job_grammar.specs.Grammar.{readJob}
 use Rattle.job_grammar.specs.Reading.{Reading, jobIn, walkIn}
 use Rattle.counting.specs.declared.Counted.{Counted}

@@ -5,7 +5,8 @@ use mathlib.Core.Bool.{Bool, cond}
 use mathlib.Core.List.{List}
 use lib.ListN.{length, getD}
 use lib.IntN.{ℤ}
-use Rattle.model.specs.Count.{capped, countFrom}
+use Rattle.model.specs.Longest.{capped}
+use Rattle.model.specs.Count.{countFrom}
 use Rattle.least.specs.Marks.{markOf, Bits31}
 
 -- the marks, and the end, are small: their differences stay within an i32

@@ -17,11 +17,11 @@ use Rattle.job_grammar.specs.Valid.{Some, ValidText}
 use Rattle.job_grammar.specs.Rendering.{idlesText, openingText, partText, bodyText, jobText}
 use Rattle.job_grammar.specs.Optionals.{idleLines}
 use Rattle.job_grammar.proofs.Optionals.{some-idles}
-use Rattle.form_facts.specs.Facts.{paired, coversOf, grouped, partsOf, total, feesAgree, partsAgree, PartsAgree, countOf, countedText}
+use Rattle.form_facts.specs.Facts.{paired, coversOf, grouped, partsOf, sumAll, feesAgree, partsAgree, PartsAgree, countOf, countedText}
 use Rattle.form_facts.proofs.CountLines.{count-is}
 use Rattle.form_facts.proofs.Facts.{paired-size, parts-size, says-agree}
 use Rattle.form.specs.Form.{Form, stated, idleCountText, bodyOf, restOf, formText}
-use Rattle.form.specs.Promise.{Agree, Few, markOf, removalsOf, insidesOf, holdersOf, listsOf, formOf}
+use Rattle.form.specs.Promise.{Agree, Few, markOf, removalIn, insidesOf, holdersOf, listsOf, formOf}
 
 -- ---- the text
 
@@ -90,7 +90,7 @@ priced n [] v = tt
 priced n (p ∷ ps) v = (v .0 .priced, priced n ps (v .1))
 
 -- the lines of removal that the first numbers state
-covers-more : (o : Optional Cover) (cs vs is hs : List ℕ) → coversOf (markOf o ∷ cs) (removalsOf o ++ vs) (insidesOf o ++ is) (holdersOf o ++ hs) ≡ o ∷ coversOf cs vs is hs
+covers-more : (o : Optional Cover) (cs vs is hs : List ℕ) → coversOf (markOf o ∷ cs) (removalIn o ++ vs) (insidesOf o ++ is) (holdersOf o ++ hs) ≡ o ∷ coversOf cs vs is hs
 unfolding coversOf
 covers-more missing cs vs is hs = refl
 covers-more (present c) cs vs is hs =
@@ -122,7 +122,7 @@ mark-small : (o : Optional Cover) → markOf o ≤ 1
 mark-small missing = omega arith
 mark-small (present c) = omega arith
 
-removal-more : (o : Optional Cover) (vs : List ℕ) → length (removalsOf o ++ vs) ≡ markOf o + length vs
+removal-more : (o : Optional Cover) (vs : List ℕ) → length (removalIn o ++ vs) ≡ markOf o + length vs
 removal-more missing vs = omega arith
 removal-more (present c) vs = omega arith
 
@@ -130,7 +130,7 @@ inside-more : (o : Optional Cover) (is : List ℕ) → length (insidesOf o ++ is
 inside-more missing is = omega arith
 inside-more (present c) is = omega arith
 
-holders-more : (o : Optional Cover) (is hs : List ℕ) → length hs ≡ total is → length (holdersOf o ++ hs) ≡ total (insidesOf o ++ is)
+holders-more : (o : Optional Cover) (is hs : List ℕ) → length hs ≡ sumAll is → length (holdersOf o ++ hs) ≡ sumAll (insidesOf o ++ is)
 holders-more missing is hs e = e
 holders-more (present c) is hs e = length-append (c .holders) hs ∙ ap (λ (i : ℕ). length (c .holders) + i) e
 
@@ -138,15 +138,15 @@ marks-small : (ps : List PartText) → All (λ (c : ℕ). c ≤ 1) (listsOf ps .
 marks-small [] = tt
 marks-small (p ∷ ps) = (mark-small (p .cover), marks-small ps)
 
-removals-size : (ps : List PartText) → length (listsOf ps .removals) ≡ total (listsOf ps .covered)
+removals-size : (ps : List PartText) → length (listsOf ps .removals) ≡ sumAll (listsOf ps .covered)
 removals-size [] = refl
 removals-size (p ∷ ps) = removal-more (p .cover) (listsOf ps .removals) ∙ ap (λ (i : ℕ). markOf (p .cover) + i) (removals-size ps)
 
-insides-size : (ps : List PartText) → length (listsOf ps .insides) ≡ total (listsOf ps .covered)
+insides-size : (ps : List PartText) → length (listsOf ps .insides) ≡ sumAll (listsOf ps .covered)
 insides-size [] = refl
 insides-size (p ∷ ps) = inside-more (p .cover) (listsOf ps .insides) ∙ ap (λ (i : ℕ). markOf (p .cover) + i) (insides-size ps)
 
-holders-size : (ps : List PartText) → length (listsOf ps .holders) ≡ total (listsOf ps .insides)
+holders-size : (ps : List PartText) → length (listsOf ps .holders) ≡ sumAll (listsOf ps .insides)
 holders-size [] = refl
 holders-size (p ∷ ps) = holders-more (p .cover) (listsOf ps .insides) (listsOf ps .holders) (holders-size ps)
 

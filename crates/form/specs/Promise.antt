@@ -65,9 +65,9 @@ markOf missing = 0
 markOf (present c) = 1
 
 -- a part's entry of `removals`; none where its lines don't stand
-abbrev pub removalsOf : Optional Cover → List ℕ
-removalsOf missing = []
-removalsOf (present c) = c .removal ∷ []
+abbrev pub removalIn : Optional Cover → List ℕ
+removalIn missing = []
+removalIn (present c) = c .removal ∷ []
 
 -- its entry of `insides`: how many holders it names
 abbrev pub insidesOf : Optional Cover → List ℕ
@@ -85,7 +85,7 @@ listsOf ps = record {
   lives = map (λ (p : PartText). p .life) ps;
   lefts = map (λ (p : PartText). p .left) ps;
   covered = map (λ (p : PartText). markOf (p .cover)) ps;
-  removals = texts (λ (p : PartText). removalsOf (p .cover)) ps;
+  removals = texts (λ (p : PartText). removalIn (p .cover)) ps;
   insides = texts (λ (p : PartText). insidesOf (p .cover)) ps;
   holders = texts (λ (p : PartText). holdersOf (p .cover)) ps;
   prices = texts (λ (p : PartText). p .prices) ps;

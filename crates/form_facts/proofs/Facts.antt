@@ -12,7 +12,7 @@ use Rattle.lines.specs.Text.{Optional}
 use Rattle.model.specs.Model.{Opening}
 use Rattle.jobs.specs.Valid.{All}
 use Rattle.covers.specs.Grammar.{Cover}
-use Rattle.form_facts.specs.Facts.{PartLists, paired, coversOf, grouped, partsOf, total, allMarks, sizesAgree, coversAgree, partsAgree, PartsAgree}
+use Rattle.form_facts.specs.Facts.{PartLists, paired, coversOf, grouped, partsOf, sumAll, allMarks, sizesAgree, coversAgree, partsAgree, PartsAgree}
 
 pub paired-size : (os fs : List ℕ) → length fs ≡ length os → length (paired os fs) ≡ length os
 unfolding paired
@@ -57,11 +57,11 @@ all-marks [] h = refl
 all-marks (c ∷ cs) h = ap₂ _&&_ (le-leb c 1 (h .0)) (all-marks cs (h .1))
 
 -- marks that are 1 are at most as many as the marks
-pub marks-few : (cs : List ℕ) → All (λ (c : ℕ). c ≤ 1) cs → total cs ≤ length cs
+pub marks-few : (cs : List ℕ) → All (λ (c : ℕ). c ≤ 1) cs → sumAll cs ≤ length cs
 marks-few [] h = omega arith
 marks-few (c ∷ cs) h = omega (arith, h .0, marks-few cs (h .1))
 
-pub marks-known : (cs : List ℕ) → allMarks cs ≡ true → total cs ≤ length cs
+pub marks-known : (cs : List ℕ) → allMarks cs ≡ true → sumAll cs ≤ length cs
 marks-known cs e = marks-few cs (marks-all cs e)
 
 pub agree-says : (n : ℕ) (x : PartLists) → partsAgree n x ≡ true → PartsAgree n x
@@ -71,8 +71,8 @@ agree-says n x e =
     let s = and-eq-true-iff (eqb (length (x .lefts)) m) (eqb (length (x .prices)) (m * n)) .0 (w .0) in
     let a = and-eq-true-iff (eqb (length (x .covered)) m) _ .0 (w .1) in
     let b = and-eq-true-iff (allMarks (x .covered)) _ .0 (a .1) in
-    let c = and-eq-true-iff (eqb (length (x .removals)) (total (x .covered))) _ .0 (b .1) in
-    let d = and-eq-true-iff (eqb (length (x .insides)) (total (x .covered))) _ .0 (c .1) in
+    let c = and-eq-true-iff (eqb (length (x .removals)) (sumAll (x .covered))) _ .0 (b .1) in
+    let d = and-eq-true-iff (eqb (length (x .insides)) (sumAll (x .covered))) _ .0 (c .1) in
     record {
       lefts = eqb-true _ _ (s .0);
       prices = eqb-true _ _ (s .1);

@@ -57,9 +57,9 @@ partsOf n x = grouped n (x .lives) (x .lefts) (coversOf (x .covered) (x .removal
 -- ---- whether they agree
 
 -- the sum of numbers; of marks, how many are 1
-abbrev pub total : List ℕ → ℕ
-total [] = 0
-total (v ∷ vs) = v + total vs
+abbrev pub sumAll : List ℕ → ℕ
+sumAll [] = 0
+sumAll (v ∷ vs) = v + sumAll vs
 
 -- each is 0 or 1
 abbrev pub allMarks : List ℕ → Bool
@@ -72,7 +72,7 @@ feesAgree os fs = eqb (length fs) (length os)
 
 -- E7. a mark 0 or 1 for each of m parts, v removals and as many insides as marks that are 1, and h holders, as many as the insides say in sum; else 3 "on the `parts` line"
 abbrev pub coversAgree : ℕ → List ℕ → ℕ → List ℕ → ℕ → Bool
-coversAgree m cs v is h = eqb (length cs) m && (allMarks cs && (eqb v (total cs) && (eqb (length is) (total cs) && eqb h (total is))))
+coversAgree m cs v is h = eqb (length cs) m && (allMarks cs && (eqb v (sumAll cs) && (eqb (length is) (sumAll cs) && eqb h (sumAll is))))
 
 -- "lefts not as many as lives, prices not parts times openings [..], on the `parts` line", of m lives, l lefts, p prices and n openings
 abbrev pub sizesAgree : ℕ → ℕ → ℕ → ℕ → Bool
@@ -89,9 +89,9 @@ pub record PartsAgree (n : ℕ) (x : PartLists) : Type 0 where
   pub prices : length (x .prices) ≡ length (x .lives) * n
   pub covered : length (x .covered) ≡ length (x .lives)
   pub marks : All (λ (c : ℕ). c ≤ 1) (x .covered)
-  pub removals : length (x .removals) ≡ total (x .covered)
-  pub insides : length (x .insides) ≡ total (x .covered)
-  pub holders : length (x .holders) ≡ total (x .insides)
+  pub removals : length (x .removals) ≡ sumAll (x .covered)
+  pub insides : length (x .insides) ≡ sumAll (x .covered)
+  pub holders : length (x .holders) ≡ sumAll (x .insides)
 
 -- the value of a count's line: the length n of its list. Where n is above its limit, or the lists that n counts disagree, it is the limit's successor,
 -- which is out of range on any such line

@@ -3,13 +3,13 @@ ghost use mathlib.Core.Path.{_≡_};
 ghost use mathlib.Core.Bool.{_&&_};
 ghost use Prim.Native.Nat.{_≤_};
 ghost use lib.ListN.{length};
-ghost use Rattle.form_facts.specs.Facts.{total, allMarks, coversAgree, sizesAgree};
+ghost use Rattle.form_facts.specs.Facts.{sumAll, allMarks, coversAgree, sizesAgree};
 ghost use Rattle.model.specs.Limits.{mostParts, mostOpenings};
 
 // The sum of at most 16 numbers.
 fn sum(values: &[u32]) -> u64
     requires { ⌜ length (now values) ≤ mostParts ⌝ }
-    ensures { λ r. ⌜ r ≡ total (now (values .entry)) ⌝ }
+    ensures { λ r. ⌜ r ≡ sumAll (now (values .entry)) ⌝ }
 {
     let mut sum: u64 = 0;
     let mut i: usize = 0;

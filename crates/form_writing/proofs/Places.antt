@@ -9,7 +9,7 @@ use lib.Dec.{eqb}
 use lib.ListN.{length, getD, drop, length-drop}
 use Rattle.jobs.specs.Valid.{All}
 use Rattle.covers.specs.Views.{linesOf}
-use Rattle.form_facts.specs.Facts.{PartLists, coversOf, grouped, partsOf, total, PartsAgree}
+use Rattle.form_facts.specs.Facts.{PartLists, coversOf, grouped, partsOf, sumAll, PartsAgree}
 use Rattle.form_writing.specs.Places.{firstPart, behindFirst}
 
 -- the lists of the first part, by its mark
@@ -31,16 +31,16 @@ parts-next n x h some = go (x .lives) (x .lefts) (x .covered) (h .lefts) (h .cov
     go (l ∷ ls) (r ∷ rs) (c ∷ cs) e f m some = next n l r c ls rs cs (x .removals) (x .insides) (x .holders) (x .prices) (m .0)
 
 -- what is left of the holders
-held : (c : ℕ) (is hs : List ℕ) → c ≤ 1 → c ≤ length is → length hs ≡ total is → length (drop (cond (eqb c 1) (getD is 0 0) 0) hs) ≡ total (drop c is)
+held : (c : ℕ) (is hs : List ℕ) → c ≤ 1 → c ≤ length is → length hs ≡ sumAll is → length (drop (cond (eqb c 1) (getD is 0 0) 0) hs) ≡ sumAll (drop c is)
 held zero is hs h i e = e
 held (suc zero) [] hs h i e = absurd (omega arith)
-held (suc zero) (v ∷ is) hs h i e = length-drop v hs ∙ (let q : length hs ≡ v + total is = e in omega (arith, q))
+held (suc zero) (v ∷ is) hs h i e = length-drop v hs ∙ (let q : length hs ≡ v + sumAll is = e in omega (arith, q))
 held (suc (suc c)) is hs h i e = absurd (omega arith)
 
 pub agree-next : (n : ℕ) (x : PartLists) → PartsAgree n x → 0 < length (x .lives) → PartsAgree n (behindFirst n x)
 agree-next n x h some = go (x .lives) (x .lefts) (x .covered) (h .lefts) (h .covered) (h .marks) (h .removals) (h .insides) (h .prices) some
   where
-    go : (ls rs cs : List ℕ) → length rs ≡ length ls → length cs ≡ length ls → All (λ (c : ℕ). c ≤ 1) cs → length (x .removals) ≡ total cs → length (x .insides) ≡ total cs → length (x .prices) ≡ length ls * n → 0 < length ls
+    go : (ls rs cs : List ℕ) → length rs ≡ length ls → length cs ≡ length ls → All (λ (c : ℕ). c ≤ 1) cs → length (x .removals) ≡ sumAll cs → length (x .insides) ≡ sumAll cs → length (x .prices) ≡ length ls * n → 0 < length ls
         → PartsAgree n (behindFirst n (record { lives = ls; lefts = rs; covered = cs; removals = x .removals; insides = x .insides; holders = x .holders; prices = x .prices }))
     go [] rs cs e f m a b p some = absurd (omega arith)
     go (l ∷ ls) [] cs e f m a b p some = absurd (omega arith)

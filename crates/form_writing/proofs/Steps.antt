@@ -13,7 +13,7 @@ use Rattle.jobs.specs.Valid.{All}
 use Rattle.covers.specs.Grammar.{Cover}
 use Rattle.covers.specs.Views.{linesOf}
 use Rattle.job_grammar.specs.Grammar.{PartText}
-use Rattle.form_facts.specs.Facts.{PartLists, total, PartsAgree}
+use Rattle.form_facts.specs.Facts.{PartLists, sumAll, PartsAgree}
 use Rattle.form_writing.specs.Places.{after, insideFirst, firstPart, behindFirst, Standing, StepPut}
 use Rattle.form_writing.specs.declared.parts.Place.{Place}
 use Rattle.form_writing.proofs.Places.{agree-next}
@@ -30,23 +30,23 @@ pub record First (n : ℕ) (x : PartLists) : Type 0 where
   pub holders : insideFirst x ≤ length (x .holders)
   pub prices : n ≤ length (x .prices)
 
-held-first : (c : ℕ) (is hs : List ℕ) → c ≤ 1 → c ≤ length is → length hs ≡ total is → cond (eqb c 1) (getD is 0 0) 0 ≤ length hs
+held-first : (c : ℕ) (is hs : List ℕ) → c ≤ 1 → c ≤ length is → length hs ≡ sumAll is → cond (eqb c 1) (getD is 0 0) 0 ≤ length hs
 held-first zero is hs h i e = omega arith
 held-first (suc zero) [] hs h i e = absurd (omega arith)
-held-first (suc zero) (v ∷ is) hs h i e = let q : length hs ≡ v + total is = e in omega (arith, q)
+held-first (suc zero) (v ∷ is) hs h i e = let q : length hs ≡ v + sumAll is = e in omega (arith, q)
 held-first (suc (suc c)) is hs h i e = absurd (omega arith)
 
 first-known : (n : ℕ) (x : PartLists) → PartsAgree n x → 0 < length (x .lives) → First n x
 first-known n x h some = go (x .lives) (x .covered) some (h .lefts) (h .covered) (h .marks) (h .removals) (h .insides) (h .prices)
   where
-    go : (ls cs : List ℕ) → 0 < length ls → length (x .lefts) ≡ length ls → length cs ≡ length ls → All (λ (c : ℕ). c ≤ 1) cs → length (x .removals) ≡ total cs → length (x .insides) ≡ total cs → length (x .prices) ≡ length ls * n
+    go : (ls cs : List ℕ) → 0 < length ls → length (x .lefts) ≡ length ls → length cs ≡ length ls → All (λ (c : ℕ). c ≤ 1) cs → length (x .removals) ≡ sumAll cs → length (x .insides) ≡ sumAll cs → length (x .prices) ≡ length ls * n
         → First n (record { lives = ls; lefts = x .lefts; covered = cs; removals = x .removals; insides = x .insides; holders = x .holders; prices = x .prices })
     go [] cs some e f m a b p = absurd (omega arith)
     go (l ∷ ls) [] some e f m a b p = absurd (omega arith)
     go (l ∷ ls) (c ∷ cs) some e f m a b p =
         let q : length (x .prices) ≡ length ls * n + n = p ∙ suc-mul (length ls) n in
-        let v : length (x .removals) ≡ c + total cs = a in
-        let i : length (x .insides) ≡ c + total cs = b in
+        let v : length (x .removals) ≡ c + sumAll cs = a in
+        let i : length (x .insides) ≡ c + sumAll cs = b in
         record {
           mark = m .0;
           left = omega (arith, e);

@@ -13,7 +13,7 @@ use Rattle.branch.specs.declared.Bound.the-variants.{Missing, Sum}
 use Rattle.branch.specs.Search.{Tree, full, snoc}
 use Rattle.branch.proofs.Bounds.{no-sum, sum-inj}
 use Rattle.branch.proofs.Steps.{boundAt, left-bound}
-use Rattle.model.specs.Decisions.{joined}
+use Rattle.model.specs.Decisions.{concat}
 use Rattle.lane_rows.specs.Layout.{laneCount, top, inf, suffixBase, feePlace, lanesIn}
 use Rattle.lane_rows.specs.Tables.{sumWhere}
 use Rattle.lane_rows.specs.Rows.{lane, sumLanes, Looks, Recalled}
@@ -47,7 +47,7 @@ use Rattle.hall_lines.proofs.Levels.{levels-none, levels-then, level-sa
 -- ---- a node below, tested
 
 -- what one line's walk knows of its node below is what is asked of a line of the hall
-own-due : {sheet : HeldSheet} {ds : List (List Bool)} {x : Bool} {e : Bound} {due : ℕ} (T : Tree) → boundAt T ≡ heldBound sheet (snoc (joined ds) x) → DueAt T e due → ((y : ℕ) → e ≡ Sum y → due + y ≤ 17648000000)
+own-due : {sheet : HeldSheet} {ds : List (List Bool)} {x : Bool} {e : Bound} {due : ℕ} (T : Tree) → boundAt T ≡ heldBound sheet (snoc (concat ds) x) → DueAt T e due → ((y : ℕ) → e ≡ Sum y → due + y ≤ 17648000000)
     → OwnDue sheet ds x e due
 own-due T b d low = record { none = λ f. sym b ∙ d .none f; some = λ y f. sym b ∙ d .some y f; low = low }
 
@@ -116,7 +116,7 @@ module _ (sheet : HeldSheet) (ds : List (List Bool)) (t u w v n : List ℕ) (at 
     no-own : OwnDue sheet ds false (sumWhere h noSum) (paid + h)
     no-own =
         own-due (treeAt sheet (noN (levelNode (held sheet) n at paid) (rowsIn n at)) (noBlocks ds))
-        (left-bound (heldBound sheet) 0 (held sheet) (held sheet - held sheet) (length (sheet .positions) - (at + 1)) (joined (noBlocks ds)) ∙ ap (heldBound sheet) (sym (no-joined ds))) no-tree
+        (left-bound (heldBound sheet) 0 (held sheet) (held sheet - held sheet) (length (sheet .positions) - (at + 1)) (concat (noBlocks ds)) ∙ ap (heldBound sheet) (sym (no-joined ds))) no-tree
         (λ y f. let z = where-there h noSum y f in omega (arith, z .1, no-low, no-cheap a refl (op .less) h noSum term refl (z .0), a .poor, a .inside, a .tables .few, a .holders .parts))
 
     pub no-fits : (limit rest : ℕ) (s : Search) (y : ℕ) → rest + inf + laneCount * inf + inf < 2 ^ 64 → openS limit (rest + h) (sumWhere h noSum) s ≡ Sum y → (h < inf) × (noSum ≡ y)
@@ -199,7 +199,7 @@ module _ (sheet : HeldSheet) (ds : List (List Bool)) (t u w v n : List ℕ) (at 
   stop-own =
       let T = treeAt sheet (yesN (levelNode (held sheet) n at paid) (rowsIn n at) (paid + fee)) (yesBlocks ds) in
       let z : paid + fee + most ≡ paid + stopDue t u at = omega arith in
-      own-due T (left-bound (heldBound sheet) 0 (held sheet) (held sheet - 0) (length (sheet .positions) - (at + 1)) (joined (yesBlocks ds)) ∙ ap (heldBound sheet) (sym (stop-joined ds [])))
+      own-due T (left-bound (heldBound sheet) 0 (held sheet) (held sheet - 0) (length (sheet .positions) - (at + 1)) (concat (yesBlocks ds)) ∙ ap (heldBound sheet) (sym (stop-joined ds [])))
       (subst (DueAt T (Sum (sumsIn n at))) z (yes-due a refl (op .less) most (paid + fee) refl refl (rowsIn n at)))
       (λ y f. let k = sum-inj (Sum (sumsIn n at)) (sumsIn n at) y refl f in omega (arith, k, stop-cheap))
 
@@ -271,7 +271,7 @@ module _ (sheet : HeldSheet) (ds : List (List Bool)) (t u w v n : List ℕ) (at 
     stays-own : OwnDue sheet ds false (sumWhere h staysSum) (paid + h)
     stays-own =
         own-due (treeAt sheet (staysN (stopNode n at paid p) staysSet) (moreBlocks before removed false))
-        (left-bound (heldBound sheet) 0 (held sheet) (held sheet - (p .next + 1)) (length (sheet .positions) - (at + 1)) (joined (moreBlocks before removed false)) ∙ ap (heldBound sheet) (more-name at-stop b refl (re .left) false))
+        (left-bound (heldBound sheet) 0 (held sheet) (held sheet - (p .next + 1)) (length (sheet .positions) - (at + 1)) (concat (moreBlocks before removed false)) ∙ ap (heldBound sheet) (more-name at-stop b refl (re .left) false))
         (stays-due b refl (re .left) staysSet h staysSum (stays-below b refl (re .left) staysSet h staysSum refl term refl) (stays-cheap b refl (re .left) staysSet h staysSum refl term refl) stays-low)
         (λ y f. let z = where-there h staysSum y f in omega (arith, z .1, stays-low, stays-cheap b refl (re .left) staysSet h staysSum refl term refl (z .0), b .poor, b .inside, b .tables .few, few-next))
 
@@ -331,7 +331,7 @@ module _ (sheet : HeldSheet) (ds : List (List Bool)) (t u w v n : List ℕ) (at 
       let T = treeAt sheet (outN (stopNode n at paid p) (paid + price)) (moreBlocks before removed true) in
       let z : paid + price + p .term ≡ paid + (price + p .term) = omega arith in
       own-due T
-      (left-bound (heldBound sheet) 0 (held sheet) (held sheet - (p .next + 1)) (length (sheet .positions) - (at + 1)) (joined (moreBlocks before removed true)) ∙ ap (heldBound sheet) (more-name at-stop b refl (re .left) true))
+      (left-bound (heldBound sheet) 0 (held sheet) (held sheet - (p .next + 1)) (length (sheet .positions) - (at + 1)) (concat (moreBlocks before removed true)) ∙ ap (heldBound sheet) (more-name at-stop b refl (re .left) true))
       (subst (DueAt T (Sum (p .sums))) z (out-due b refl (re .left) (paid + price) refl))
       (λ y f. let k = sum-inj (Sum (p .sums)) (p .sums) y refl f in omega (arith, k, out-cheap))
 

@@ -8,7 +8,7 @@ use lib.ListN.{length, getD}
 use Rattle.branch.specs.declared.Bound.{Bound}
 use Rattle.branch.specs.declared.Bound.the-variants.{Missing, Sum}
 use Rattle.branch.specs.Search.{snoc}
-use Rattle.model.specs.Decisions.{joined}
+use Rattle.model.specs.Decisions.{concat}
 use Rattle.lane_rows.specs.Layout.{laneCount, inf, feePlace}
 use Rattle.lane_rows.specs.Tables.{sumWhere}
 use Rattle.held_rows.specs.Held.{HeldSheet, held, heldBound}
@@ -54,8 +54,8 @@ pub record Decided (sheet : HeldSheet) (ds : List (List Bool)) (t u w v n : List
 
 -- the line's own node below, where the decision x is taken: its part sums are e, and `due` are its fees, removals and term
 pub record OwnDue (sheet : HeldSheet) (ds : List (List Bool)) (x : Bool) (e : Bound) (due : ℕ) : Type 0 where
-  pub none : e ≡ Missing → heldBound sheet (snoc (joined ds) x) ≡ Missing
-  pub some : (y : ℕ) → e ≡ Sum y → heldBound sheet (snoc (joined ds) x) ≡ Sum (due + y)
+  pub none : e ≡ Missing → heldBound sheet (snoc (concat ds) x) ≡ Missing
+  pub some : (y : ℕ) → e ≡ Sum y → heldBound sheet (snoc (concat ds) x) ≡ Sum (due + y)
   pub low : (y : ℕ) → e ≡ Sum y → due + y ≤ 17648000000
 
 -- the code's test of it, where `due` is the hall's: the answer is the hall's estimate, if it is walked on

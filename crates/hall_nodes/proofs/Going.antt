@@ -6,7 +6,7 @@ use mathlib.Core.List.{List, [], _∷_, _++_}
 use native.Mathlib.Omega.{arith}
 use lib.Bits.{bitOr}
 use lib.ListN.{length, getD, set}
-use Rattle.model.specs.Decisions.{joined}
+use Rattle.model.specs.Decisions.{concat}
 use Rattle.lane_rows.specs.Layout.{laneCount, inf, suffixBase, feePlace, lanesIn}
 use Rattle.lane_rows.specs.Rows.{lane, sumLanes, Recalled}
 use Rattle.held_rows.specs.Held.{held}
@@ -79,8 +79,8 @@ module _ (s : Slot) (a : Given s) (o : s .node .owed ≡ true) (next : s .node .
   removed = a .stop o .rs
 
   -- the name of a node below
-  pub more-name : (x : Bool) → joined (before ++ ((true ∷ snoc removed x) ∷ [])) ≡ snoc (joined (s .blocks)) x
-  more-name x = sym (stop-joined before (snoc removed x)) ∙ sym (stop-more before removed x) ∙ ap (λ (l : List Bool). snoc l x) (stop-joined before removed ∙ ap joined (sym (a .stop o .same)))
+  pub more-name : (x : Bool) → concat (before ++ ((true ∷ snoc removed x) ∷ [])) ≡ snoc (concat (s .blocks)) x
+  more-name x = sym (stop-joined before (snoc removed x)) ∙ sym (stop-more before removed x) ∙ ap (λ (l : List Bool). snoc l x) (stop-joined before removed ∙ ap concat (sym (a .stop o .same)))
 
   pub stays-goes : (shut h y : ℕ) → shut ≡ bitOr (s .node .shut) (getD (s .u) (needLanesPlace (s .node .next)) 0)
       → h ≡ max (s .term) (mostTo (λ (i : ℕ). termOf (s .u) (s .v) (s .node .at) (s .node .rows - 1) (getD (s .u) (needClassPlace (s .node .next) i) 0)) (getD (s .u) (needCountPlace (s .node .next)) 0))

@@ -8,7 +8,7 @@ use lib.ListN.{length, getD, drop, length-map, drop-of-length-le}
 use lib.Seq.{take-all}
 use Rattle.branch.specs.Search.{snoc}
 use Rattle.model.specs.Model.{sumAt}
-use Rattle.model.specs.Decisions.{accessible, allows, joined}
+use Rattle.model.specs.Decisions.{accessible, allows, concat}
 use Rattle.model.specs.LowerBound.{blocks, stopsIn, removedIn}
 use Rattle.model.proofs.Blocks.{accessible-none, Whole, Wholes, blocks-after}
 use Rattle.model.proofs.Fees.{sum-snoc}
@@ -16,10 +16,10 @@ use Rattle.held_rows.specs.Held.{HeldSheet, held, seen, paidIn}
 
 -- ---- the blocks of a node: whole ones, and at a stop whose removals are not all decided one that is open
 
-pub joined-more : (bs : List (List Bool)) (b : List Bool) → joined (bs ++ (b ∷ [])) ≡ joined bs ++ b
-unfolding joined
+pub joined-more : (bs : List (List Bool)) (b : List Bool) → concat (bs ++ (b ∷ [])) ≡ concat bs ++ b
+unfolding concat
 joined-more [] b = append-nil b
-joined-more (d ∷ bs) b = ap (λ (l : List Bool). d ++ l) (joined-more bs b) ∙ sym (append-assoc d (joined bs) b)
+joined-more (d ∷ bs) b = ap (λ (l : List Bool). d ++ l) (joined-more bs b) ∙ sym (append-assoc d (concat bs) b)
 
 pub wholes-more : (h k : ℕ) (bs : List (List Bool)) (b : List Bool) → Wholes h k bs → Whole h b → Wholes h (suc k) (bs ++ (b ∷ []))
 wholes-more h zero [] b w v = (v, tt)
@@ -34,23 +34,23 @@ no-blocks h (suc n) = refl
 
 module _ (h n k : ℕ) (bs : List (List Bool)) (w : Wholes h k bs) where
   -- at an opening
-  pub blocks-whole : k ≤ n → blocks h n (joined bs) ≡ bs
+  pub blocks-whole : k ≤ n → blocks h n (concat bs) ≡ bs
   blocks-whole l =
       let z : n ≡ k + (n - k) = omega arith in
-      ap₂ (blocks h) z (sym (append-nil (joined bs))) ∙ blocks-after h k (n - k) bs [] w ∙ ap (λ (ds : List (List Bool)). bs ++ ds) (no-blocks h (n - k)) ∙ append-nil bs
+      ap₂ (blocks h) z (sym (append-nil (concat bs))) ∙ blocks-after h k (n - k) bs [] w ∙ ap (λ (ds : List (List Bool)). bs ++ ds) (no-blocks h (n - k)) ∙ append-nil bs
 
-  behind : (p : List Bool) → k < n → blocks h n (joined bs ++ p) ≡ bs ++ blocks h (suc (n - suc k)) p
+  behind : (p : List Bool) → k < n → blocks h n (concat bs ++ p) ≡ bs ++ blocks h (suc (n - suc k)) p
   behind p l =
       let z : n ≡ k + suc (n - suc k) = omega arith in
-      ap (λ (m : ℕ). blocks h m (joined bs ++ p)) z ∙ blocks-after h k (suc (n - suc k)) bs p w
+      ap (λ (m : ℕ). blocks h m (concat bs ++ p)) z ∙ blocks-after h k (suc (n - suc k)) bs p w
 
   -- after a no
-  pub blocks-no : k < n → blocks h n (snoc (joined bs) false) ≡ bs ++ ((false ∷ []) ∷ [])
+  pub blocks-no : k < n → blocks h n (snoc (concat bs) false) ≡ bs ++ ((false ∷ []) ∷ [])
   unfolding blocks
   blocks-no l = behind (false ∷ []) l ∙ ap (λ (ds : List (List Bool)). bs ++ ((false ∷ []) ∷ ds)) (no-blocks h (n - suc k))
 
   -- after a yes and some of its removals
-  pub blocks-stop : (rs : List Bool) → k < n → length rs ≤ h → blocks h n (joined bs ++ (true ∷ rs)) ≡ bs ++ ((true ∷ rs) ∷ [])
+  pub blocks-stop : (rs : List Bool) → k < n → length rs ≤ h → blocks h n (concat bs ++ (true ∷ rs)) ≡ bs ++ ((true ∷ rs) ∷ [])
   unfolding blocks
   blocks-stop rs l g =
       behind (true ∷ rs) l

@@ -9,7 +9,7 @@ use native.Mathlib.Decide.{decLt}
 use lib.Dec.{eqb}
 use lib.ListN.{length, getD, take, set, length-append, List·getD-append}
 use lib.Seq.{take-suc, take-suc-set, take-all, getD-append-seam}
-use Rattle.model.specs.Decisions.{joined}
+use Rattle.model.specs.Decisions.{concat}
 use Rattle.held_rows.proofs.Seen.{joined-more}
 use Rattle.walk.specs.State.{bits}
 use Rattle.walk.proofs.Nodes.{bits-length}
@@ -75,11 +75,11 @@ module _ (h : ℕ) (f : ℕ → ℕ) where
           ∙ ap (λ (b : Bool). blockOf h b (f k)) (sym (ap (λ (i : ℕ). getD (bits n (m / 2) ++ (eqb (m % 2) 1 ∷ [])) i false) y ∙ getD-append-seam (bits n (m / 2)) (eqb (m % 2) 1) [] false))
 
   -- the name so far, with one block more
-  pub name-next : (n m k : ℕ) (name : List Bool) (stop : Bool) → k < n → stop ≡ getD (bits n m) k false → name ≡ joined (take k (blocksOf h f n m)) → name ++ blockOf h stop (f k) ≡ joined (take (k + 1) (blocksOf h f n m))
+  pub name-next : (n m k : ℕ) (name : List Bool) (stop : Bool) → k < n → stop ≡ getD (bits n m) k false → name ≡ concat (take k (blocksOf h f n m)) → name ++ blockOf h stop (f k) ≡ concat (take (k + 1) (blocksOf h f n m))
   name-next n m k name stop l e g =
       ap₂ _++_ g (ap (λ (b : Bool). blockOf h b (f k)) e ∙ sym (block-at n m k l))
       ∙ sym (joined-more (take k (blocksOf h f n m)) (getD (blocksOf h f n m) k []))
-      ∙ ap joined (sym (ap (λ (i : ℕ). take i (blocksOf h f n m)) (add-one k) ∙ take-suc (blocksOf h f n m) k [] (omega (arith, blocks-length n m))))
+      ∙ ap concat (sym (ap (λ (i : ℕ). take i (blocksOf h f n m)) (add-one k) ∙ take-suc (blocksOf h f n m) k [] (omega (arith, blocks-length n m))))
 
-  pub name-whole : (n m k : ℕ) (name : List Bool) → k ≡ n → name ≡ joined (take k (blocksOf h f n m)) → name ≡ joined (blocksOf h f n m)
-  name-whole n m k name z g = g ∙ ap joined (take-all k (blocksOf h f n m) (omega (arith, z, blocks-length n m)))
+  pub name-whole : (n m k : ℕ) (name : List Bool) → k ≡ n → name ≡ concat (take k (blocksOf h f n m)) → name ≡ concat (blocksOf h f n m)
+  name-whole n m k name z g = g ∙ ap concat (take-all k (blocksOf h f n m) (omega (arith, z, blocks-length n m)))

@@ -5,7 +5,7 @@ use mathlib.Core.Bool.{Bool, true, false}
 use mathlib.Core.List.{List, [], _∷_, _++_, append-assoc}
 use lib.ListN.{length}
 use Rattle.branch.specs.Search.{snoc}
-use Rattle.model.specs.Decisions.{joined}
+use Rattle.model.specs.Decisions.{concat}
 use Rattle.model.proofs.Blocks.{Wholes}
 use Rattle.held_rows.specs.Held.{HeldSheet, held, heldBound}
 use Rattle.held_rows.proofs.Seen.{joined-more, blocks-whole, blocks-no, blocks-stop}
@@ -13,25 +13,25 @@ use Rattle.held_stops.proofs.Children.{boundIn}
 
 -- at a stop: the name of the blocks before it, a yes, and its removals
 abbrev pub stopName : List (List Bool) → List Bool → List Bool
-stopName bs rs = joined bs ++ (true ∷ rs)
+stopName bs rs = concat bs ++ (true ∷ rs)
 
 -- a removal more
 pub stop-more : (bs : List (List Bool)) (rs : List Bool) (x : Bool) → snoc (stopName bs rs) x ≡ stopName bs (snoc rs x)
-stop-more bs rs x = append-assoc (joined bs) (true ∷ rs) (x ∷ [])
+stop-more bs rs x = append-assoc (concat bs) (true ∷ rs) (x ∷ [])
 
 -- once they are all decided the stop is one of the blocks, and so is a no at once
-pub stop-joined : (bs : List (List Bool)) (rs : List Bool) → stopName bs rs ≡ joined (bs ++ ((true ∷ rs) ∷ []))
+pub stop-joined : (bs : List (List Bool)) (rs : List Bool) → stopName bs rs ≡ concat (bs ++ ((true ∷ rs) ∷ []))
 stop-joined bs rs = sym (joined-more bs (true ∷ rs))
 
-pub no-joined : (bs : List (List Bool)) → snoc (joined bs) false ≡ joined (bs ++ ((false ∷ []) ∷ []))
+pub no-joined : (bs : List (List Bool)) → snoc (concat bs) false ≡ concat (bs ++ ((false ∷ []) ∷ []))
 no-joined bs = sym (joined-more bs (false ∷ []))
 
 module _ (sheet : HeldSheet) (k : ℕ) (bs : List (List Bool)) (w : Wholes (held sheet) k bs) where
-  pub opening-bound : k ≤ length (sheet .positions) → heldBound sheet (joined bs) ≡ boundIn sheet bs
+  pub opening-bound : k ≤ length (sheet .positions) → heldBound sheet (concat bs) ≡ boundIn sheet bs
   unfolding heldBound
   opening-bound h = ap (boundIn sheet) (blocks-whole (held sheet) (length (sheet .positions)) k bs w h)
 
-  pub no-bound : k < length (sheet .positions) → heldBound sheet (snoc (joined bs) false) ≡ boundIn sheet (bs ++ ((false ∷ []) ∷ []))
+  pub no-bound : k < length (sheet .positions) → heldBound sheet (snoc (concat bs) false) ≡ boundIn sheet (bs ++ ((false ∷ []) ∷ []))
   unfolding heldBound
   no-bound h = ap (boundIn sheet) (blocks-no (held sheet) (length (sheet .positions)) k bs w h)
 

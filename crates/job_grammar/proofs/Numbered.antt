@@ -9,10 +9,8 @@ use Rattle.lines.specs.Text.{Optional}
 use Rattle.lines.proofs.Outcomes.{one-fault, not-both}
 use Rattle.lines.proofs.Numbered.{Numbers, row-numbers, optional-numbers, present-numbers, checked-numbers, bind-numbers, return-numbers, chain-numbers, times-numbers, refused-fault}
 use Rattle.covers.proofs.Numbered.{cover-numbers}
+pub use Rattle.job_grammar.specs.Faults.{JobFault}
 use Rattle.job_grammar.specs.Grammar.{JobText, idle, idleSteps, idles, opening, openings, afterLeft, part, following, parts, body, rest, jobLines, maxBytes, readJobText, meaning, readJob}
-
-abbrev pub JobFault : ℕ → Type 0
-JobFault n = ((1 ≤ n) × (n ≤ 5)) ⊎ (n ≡ 12)
 
 -- it is at least 1, and none of 6 to 11
 pub fault-some : (n : ℕ) → JobFault n → 1 ≤ n

@@ -8,6 +8,7 @@ use Rattle.lines.specs.Text.{Optional, missing, present}
 use Rattle.lines.specs.Parser.{Outcome, accepted, refused, Parser, _>>=_, return, row, optional, ifPresent, checked, chain, times, rising, upTo, readText}
 use Rattle.model.specs.Model.{Opening, Part, Job}
 use Rattle.model.specs.Limits.{lastStep, longestLife, dearest, mostOpenings, mostParts, mostWalk}
+pub use Rattle.model.specs.Limits.{maxBytes}
 use Rattle.covers.specs.Grammar.{Cover, cover}
 use Rattle.covers.specs.Views.{meantCover}
 
@@ -113,11 +114,7 @@ jobLines = do
   is ← idles h
   rest h is
 
--- X7. "A text has at most 32,768 bytes"
-abbrev pub maxBytes : ℕ
-maxBytes = 32768
-
--- the whole text: what it says, or its first fault's number and line
+-- X7. "A text has at most 32,768 bytes". The whole text: what it says, or its first fault's number and line
 abbrev pub readJobText : List ℕ → Outcome JobText
 readJobText s = readText maxBytes jobLines s
 

@@ -120,7 +120,7 @@ module _ (jobText planText : List ℕ) (room : ℕ) where
     abbrev stating : Given → Stated → Type 0
     stating x y = y .cost ≡ costOf (x .job) (y .plan)
 
-    judged : verdict.JudgePromise (g .job) (st .cost) (st .plan) (judgedOf (g .job) (st .cost) (st .plan))
+    judged : verdict.JudgementPromise (g .job) (st .cost) (st .plan) (judgedOf (g .job) (st .cost) (st .plan))
     judged = judge (g .job) (st .plan) (st .cost)
 
     all-kept : KeepsLives (g .job) (st .plan) → AllKept (g .job) (st .plan)
@@ -153,7 +153,7 @@ module _ (jobText planText : List ℕ) (room : ℕ) where
     not-8 (unkept p d) e = omega arith
     not-8 (wrongCost c) e = omega arith
 
-    read : (j : Judgement) → judgedOf (g .job) (st .cost) (st .plan) ≡ j → verdict.JudgePromise (g .job) (st .cost) (st .plan) j → JudgePromise jobText planText room (saidOf j)
+    read : (j : Judgement) → judgedOf (g .job) (st .cost) (st .plan) ≡ j → verdict.JudgementPromise (g .job) (st .cost) (st .plan) j → JudgePromise jobText planText room (saidOf j)
     read j is p = record {
       says-8 = (λ e. absurd (not-8 j e), λ e. absurd (omega arith));
       says-0 = (

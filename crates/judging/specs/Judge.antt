@@ -4,6 +4,7 @@ use mathlib.Core.List.{List, _++_}
 use Rattle.lines.specs.Text.{lineOf}
 use Rattle.lines.specs.Parser.{Outcome, accepted, refused}
 use Rattle.model.specs.Model.{Job}
+use Rattle.model.specs.Limits.{answerRoom}
 use Rattle.model.specs.Verdict.{Judgement, accepts, unkept, wrongCost, numberOf, judgedOf}
 use Rattle.job_grammar.specs.Grammar.{Given, readJob}
 use Rattle.plan_grammar.specs.Grammar.{Stated, readPlan}
@@ -43,4 +44,4 @@ judgeSaid job plan = onJob job plan (readJob job)
 
 -- X8. "The lent output has at least 16,384."
 abbrev pub judgeRoom : ℕ
-judgeRoom = 16384
+judgeRoom = answerRoom

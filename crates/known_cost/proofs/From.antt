@@ -11,7 +11,7 @@ use lib.Dec.{ltb, leb}
 use lib.ListN.{length, length-append}
 use borrow.Author.Tests.{ltb-true, ltb-false, le-leb, lt-leb, leb-true, leb-false}
 use Rattle.branch.specs.declared.Bound.the-variants.{Missing, Sum}
-use Rattle.branch.specs.Search.{Tree, full, ask, costAt, NoMore, Bounded, Incumbent, none, plan, below, keep, visit, snoc, Walk, alone, through, walk, Limited, counted, kept, stopped, limited}
+use Rattle.branch.specs.Search.{Tree, full, ask, costAt, NoMore, Bounded, Incumbent, none, plan, below, keep, visit, snoc, Walk, alone, through, walk, Limited, counted, withBest, stopped, limited}
 use Rattle.branch.proofs.Bounds.{not-both, below-mono}
 use Rattle.branch.proofs.Steps.{limited-stop}
 
@@ -107,7 +107,7 @@ module _ (L : ℕ) where
   unfolding limited walk
   limited-fits (full e) p st h = rw (lt-leb L (st .count) (omega arith)) (go (below e (st .incumbent)))
     where
-      go : (a : Bool) → cond a (kept e p (counted st)) (counted st) ≡ record { count = st .count + 1; over = st .over; incumbent = cond a (keep e p (st .incumbent)) (st .incumbent) }
+      go : (a : Bool) → cond a (withBest e p (counted st)) (counted st) ≡ record { count = st .count + 1; over = st .over; incumbent = cond a (keep e p (st .incumbent)) (st .incumbent) }
       go true = refl
       go false = refl
   limited-fits (ask e t) p st h =

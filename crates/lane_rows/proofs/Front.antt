@@ -17,7 +17,7 @@ use Rattle.model.specs.LowerBound.{Offer, plus, lower, leastOf, offers}
 use Rattle.branch.specs.Search.{snoc}
 use Rattle.model.proofs.Bools.{after-one}
 use Rattle.model.proofs.Offers.{offers-yes}
-use Rattle.lane_rows.specs.Sheet.{Column, Sheet, columnBound, Mark, reach, joined, frontFrom, decidedOffers, front}
+use Rattle.lane_rows.specs.Sheet.{Column, Sheet, columnBound, Mark, reach, frontWith, frontFrom, decidedOffers, front}
 
 -- ---- the lower of two is a minimum
 
@@ -116,7 +116,7 @@ front-step life end (f ∷ fr) o os =
     ap (λ (x : Bound). lower x (add (f .cost) (leastOf life end (f .at) (o ∷ os)))) (front-step life end fr o os)
     ∙ one-mark (over life end fr os) (f .cost) (leastOf life end (f .at) os) (leastOf life end (o .position) os) (o .price) (reach life fr (o .position)) (o .allowed) (within life (f .at) (o .position))
 
-over-joined : (life end : ℤ) (fr : List Mark) (o : Offer) (os : List Offer) → over life end (markAt life fr o ∷ fr) os ≡ over life end (joined life fr o) os
+over-joined : (life end : ℤ) (fr : List Mark) (o : Offer) (os : List Offer) → over life end (markAt life fr o ∷ fr) os ≡ over life end (frontWith life fr o) os
 over-joined life end fr o os = go (o .allowed)
   where
     go : (b : Bool) → lower (over life end fr os) (add (cond b (plus (o .price) (reach life fr (o .position))) Missing) (leastOf life end (o .position) os))
@@ -127,7 +127,7 @@ over-joined life end fr o os = go (o .allowed)
 over-front : (life end : ℤ) (ds : List Offer) (fr : List Mark) (os : List Offer) → over life end fr (ds ++ os) ≡ over life end (frontFrom life fr ds) os
 unfolding frontFrom
 over-front life end [] fr os = refl
-over-front life end (o ∷ ds) fr os = front-step life end fr o (ds ++ os) ∙ over-joined life end fr o (ds ++ os) ∙ over-front life end ds (joined life fr o) os
+over-front life end (o ∷ ds) fr os = front-step life end fr o (ds ++ os) ∙ over-joined life end fr o (ds ++ os) ∙ over-front life end ds (frontWith life fr o) os
 
 -- ---- a node
 
@@ -185,12 +185,12 @@ decided-snoc (s ∷ ss) ns (d ∷ p) b h =
     (decided-snoc ss (drop 1 ns) p b (omega arith)
     ∙ ap (λ (x : ℕ). decidedOffers ss (drop 1 ns) p ++ (record { position = getD ss (length p) (pos 0); price = x; allowed = b } ∷ [])) (after-one ns (length p) 0))
 
-front-from-snoc : (life : ℤ) (fr : List Mark) (ds : List Offer) (o : Offer) → frontFrom life fr (ds ++ (o ∷ [])) ≡ joined life (frontFrom life fr ds) o
+front-from-snoc : (life : ℤ) (fr : List Mark) (ds : List Offer) (o : Offer) → frontFrom life fr (ds ++ (o ∷ [])) ≡ frontWith life (frontFrom life fr ds) o
 unfolding frontFrom
 front-from-snoc life fr [] o = refl
-front-from-snoc life fr (d ∷ ds) o = front-from-snoc life (joined life fr d) ds o
+front-from-snoc life fr (d ∷ ds) o = front-from-snoc life (frontWith life fr d) ds o
 
-pub front-snoc : (ss : List ℤ) (col : Column) (p : List Bool) (b : Bool) → length p < length ss → front ss col (p ++ (b ∷ [])) ≡ joined (col .life) (front ss col p) (offerIs ss (col .prices) b (length p))
+pub front-snoc : (ss : List ℤ) (col : Column) (p : List Bool) (b : Bool) → length p < length ss → front ss col (p ++ (b ∷ [])) ≡ frontWith (col .life) (front ss col p) (offerIs ss (col .prices) b (length p))
 front-snoc ss col p b h =
     ap (frontFrom (col .life) (record { at = col .first; cost = Sum 0 } ∷ [])) (decided-snoc ss (col .prices) p b h)
     ∙ front-from-snoc (col .life) (record { at = col .first; cost = Sum 0 } ∷ []) (decidedOffers ss (col .prices) p) (offerIs ss (col .prices) b (length p))

@@ -24,7 +24,7 @@ use Rattle.model.proofs.LastYes.{last-no, last-yes}
 use Rattle.least.specs.Marks.{markOf}
 use Rattle.least.proofs.Table.{least-cons, offerAt, offers-drop}
 use Rattle.lane_rows.specs.Layout.{laneCount, dear, laneLimit, inf, triangle, suffixBase, reachBase, place, rowPlace, pricePlace, markBase, markPlace, lanesIn}
-use Rattle.lane_rows.specs.Sheet.{Column, Sheet, partSums, Mark, reach, joined, frontFrom, front, solid, noColumn, columnBound}
+use Rattle.lane_rows.specs.Sheet.{Column, Sheet, partSums, Mark, reach, frontWith, frontFrom, front, solid, noColumn, columnBound}
 use Rattle.lane_rows.specs.Tables.{valueOf, sumWhere, Coded, Lane, Tables}
 use Rattle.lane_rows.specs.Rows.{lane, sumFrom, sumLanes, marksIn, Level, SeenRows, Rows, Kept, Put, Stack, FirstRow, nextRow, shutTo, stopRow}
 use Rattle.lane_rows.proofs.Front.{over, offerIs, front-snoc, decided-nil, column-front}
@@ -344,10 +344,10 @@ module _ (sheet : Sheet) (t w : List ℕ) (at : ℕ) (sees : ℕ → List Bool) 
     snoc-at q b l = simp length-append (omega (arith, ro .decided q l))
 
     front-at : (q : ℕ) (b : Bool) → q < length (sheet .columns)
-        → front (sheet .positions) (columnAt sheet q) (snoc (sees q) b) ≡ joined (columnAt sheet q .life) (front (sheet .positions) (columnAt sheet q) (sees q)) (offerIs (sheet .positions) (columnAt sheet q .prices) b at)
+        → front (sheet .positions) (columnAt sheet q) (snoc (sees q) b) ≡ frontWith (columnAt sheet q .life) (front (sheet .positions) (columnAt sheet q) (sees q)) (offerIs (sheet .positions) (columnAt sheet q .prices) b at)
     front-at q b l =
         front-snoc (sheet .positions) (columnAt sheet q) (sees q) b (omega (arith, ro .decided q l))
-        ∙ ap (λ (j : ℕ). joined (columnAt sheet q .life) (front (sheet .positions) (columnAt sheet q) (sees q)) (offerIs (sheet .positions) (columnAt sheet q .prices) b j)) (ro .decided q l)
+        ∙ ap (λ (j : ℕ). frontWith (columnAt sheet q .life) (front (sheet .positions) (columnAt sheet q) (sees q)) (offerIs (sheet .positions) (columnAt sheet q .prices) b j)) (ro .decided q l)
 
     -- a no
     pub seen-no : SeenRows sheet w (at + 1) (λ (q : ℕ). snoc (sees q) false) n

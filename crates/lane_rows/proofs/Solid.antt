@@ -9,7 +9,7 @@ use Rattle.branch.specs.declared.Bound.the-variants.{Missing, Sum}
 use Rattle.branch.specs.Lower.{add}
 use Rattle.model.specs.Model.{within}
 use Rattle.model.specs.LowerBound.{Offer, plus, lower, leastOf}
-use Rattle.lane_rows.specs.Sheet.{Mark, reach, joined, solidThen, solid}
+use Rattle.lane_rows.specs.Sheet.{Mark, reach, frontWith, solidThen, solid}
 use Rattle.lane_rows.proofs.Front.{over}
 
 module _ (life : ℤ) where
@@ -43,7 +43,7 @@ module _ (life : ℤ) where
   over-same end fr gr os e = sym (over-solid end fr os) ∙ ap (λ (l : List Mark). over life end l os) e ∙ over-solid end gr os
 
   -- one stop more: its mark costs what it costs where it is allowed, and Missing where it is shut
-  pub joined-solid : (fr gr : List Mark) (o : Offer) → solid fr ≡ solid gr → solid (record { at = o .position; cost = cond (o .allowed) (plus (o .price) (reach life gr (o .position))) Missing } ∷ fr) ≡ solid (joined life gr o)
+  pub joined-solid : (fr gr : List Mark) (o : Offer) → solid fr ≡ solid gr → solid (record { at = o .position; cost = cond (o .allowed) (plus (o .price) (reach life gr (o .position))) Missing } ∷ fr) ≡ solid (frontWith life gr o)
   unfolding solid
   joined-solid fr gr o e = go (o .allowed)
     where

@@ -61,13 +61,13 @@ reach life [] s = Missing
 reach life (f ∷ fr) s = lower (reach life fr s) (cond (within life (f .at) s) (f .cost) Missing)
 
 -- a decided opening's mark joins the front where the decision is yes
-abbrev pub joined : ℤ → List Mark → Offer → List Mark
-joined life fr o = cond (o .allowed) (record { at = o .position; cost = plus (o .price) (reach life fr (o .position)) } ∷ fr) fr
+abbrev pub frontWith : ℤ → List Mark → Offer → List Mark
+frontWith life fr o = cond (o .allowed) (record { at = o .position; cost = plus (o .price) (reach life fr (o .position)) } ∷ fr) fr
 
 -- the front behind these decided openings, from the one before them
 unfoldable pub frontFrom : ℤ → List Mark → List Offer → List Mark
 frontFrom life fr [] = fr
-frontFrom life fr (o ∷ os) = frontFrom life (joined life fr o) os
+frontFrom life fr (o ∷ os) = frontFrom life (frontWith life fr o) os
 
 -- the decided openings of the node p
 unfoldable pub decidedOffers : List ℤ → List ℕ → List Bool → List Offer

@@ -6,9 +6,9 @@ use Prim.Native.Nat.{ℕ, zero, suc, _+_, _≤_}
 use native.Mathlib.Omega.{arith}
 use lib.ListN.{length, getD, take, drop, length-append, take-append-drop}
 use lib.Seq.{take-at, drop-at, length-take-le}
-use Rattle.branch.specs.Questions.{done, Answers, Full, times}
+use Rattle.branch.specs.Questions.{done, Answers, Full, repeated}
 use Rattle.model.specs.Model.{sumAt}
-use Rattle.model.specs.Decisions.{Held, accessible, placesIn, joined}
+use Rattle.model.specs.Decisions.{Held, accessible, placesIn, concat}
 use Rattle.model.specs.LowerBound.{blocks, stopsIn, removedIn}
 use Rattle.model.proofs.Fees.{sum-rises}
 
@@ -105,32 +105,32 @@ wholes-length h (suc n) [] w = absurd w
 wholes-length h (suc n) (b ∷ bs) w = ap suc (wholes-length h n bs (w .1))
 
 -- the h questions after a yes are answered by any h decisions
-pub inner-answered : (h : ℕ) (P : List Bool → Type 0) (s : List Bool) → Answers (times h done done) P s → (h ≤ length s) × P (drop h s)
+pub inner-answered : (h : ℕ) (P : List Bool → Type 0) (s : List Bool) → Answers (repeated h done done) P s → (h ≤ length s) × P (drop h s)
 inner-answered zero P s a = (omega arith, a)
 inner-answered (suc h) P [] a = absurd a
 inner-answered (suc h) P (false ∷ s) a = let r = inner-answered h P s a in (omega (arith, r .0), r .1)
 inner-answered (suc h) P (true ∷ s) a = let r = inner-answered h P s a in (omega (arith, r .0), r .1)
 
-pub inner-answers : (h : ℕ) (P : List Bool → Type 0) (s : List Bool) → h ≤ length s → P (drop h s) → Answers (times h done done) P s
+pub inner-answers : (h : ℕ) (P : List Bool → Type 0) (s : List Bool) → h ≤ length s → P (drop h s) → Answers (repeated h done done) P s
 inner-answers zero P s l a = a
 inner-answers (suc h) P [] l a = absurd (omega arith)
 inner-answers (suc h) P (false ∷ s) l a = inner-answers h P s (omega arith) a
 inner-answers (suc h) P (true ∷ s) l a = inner-answers h P s (omega arith) a
 
 -- the name of a full node is its blocks joined, and they are whole
-pub full-blocks : (h n : ℕ) (s : List Bool) → Full (times n (times h done done) done) s → Wholes h n (blocks h n s) × (joined (blocks h n s) ≡ s)
-unfolding blocks joined
+pub full-blocks : (h n : ℕ) (s : List Bool) → Full (repeated n (repeated h done done) done) s → Wholes h n (blocks h n s) × (concat (blocks h n s) ≡ s)
+unfolding blocks concat
 full-blocks h zero s a = (tt, sym a)
 full-blocks h (suc n) [] a = absurd a
 full-blocks h (suc n) (false ∷ s) a = let r = full-blocks h n s a in ((refl, r .0), ap (λ (l : List Bool). false ∷ l) (r .1))
 full-blocks h (suc n) (true ∷ s) a =
-    let i = inner-answered h (Full (times n (times h done done) done)) s a in
+    let i = inner-answered h (Full (repeated n (repeated h done done) done)) s a in
     let r = full-blocks h n (drop h s) (i .1) in
     ((length-take-le h s (i .0), r .0), ap (λ (l : List Bool). true ∷ (take h s ++ l)) (r .1) ∙ ap (λ (l : List Bool). true ∷ l) (take-append-drop h s))
 
 -- whole blocks joined are the name of a full node, with these blocks
-pub blocks-full : (h n : ℕ) (bs : List (List Bool)) → Wholes h n bs → Full (times n (times h done done) done) (joined bs) × (blocks h n (joined bs) ≡ bs)
-unfolding blocks joined
+pub blocks-full : (h n : ℕ) (bs : List (List Bool)) → Wholes h n bs → Full (repeated n (repeated h done done) done) (concat bs) × (blocks h n (concat bs) ≡ bs)
+unfolding blocks concat
 blocks-full h zero [] w = (refl, refl)
 blocks-full h zero (b ∷ bs) w = absurd w
 blocks-full h (suc n) [] w = absurd w
@@ -139,16 +139,16 @@ blocks-full h (suc n) ((false ∷ []) ∷ bs) w = let r = blocks-full h n bs (w 
 blocks-full h (suc n) ((false ∷ x ∷ q) ∷ bs) w = absurd (omega (arith, ap length (w .0)))
 blocks-full h (suc n) ((true ∷ q) ∷ bs) w =
     let r = blocks-full h n bs (w .1) in
-    let d : drop h (q ++ joined bs) ≡ joined bs = drop-at q (joined bs) h (w .0) in
-    let t : take h (q ++ joined bs) ≡ q = take-at q (joined bs) h (w .0) in (
-      inner-answers h (Full (times n (times h done done) done)) (q ++ joined bs) (omega (arith, length-append q (joined bs), w .0))
-          (subst (Full (times n (times h done done) done)) (sym d) (r .0)),
+    let d : drop h (q ++ concat bs) ≡ concat bs = drop-at q (concat bs) h (w .0) in
+    let t : take h (q ++ concat bs) ≡ q = take-at q (concat bs) h (w .0) in (
+      inner-answers h (Full (repeated n (repeated h done done) done)) (q ++ concat bs) (omega (arith, length-append q (concat bs), w .0))
+          (subst (Full (repeated n (repeated h done done) done)) (sym d) (r .0)),
       λ i. (true ∷ t i) ∷ (ap (blocks h n) d ∙ r .1) i,
     )
 
 -- behind whole blocks, the blocks of what is left: so a decision more makes a block more, or lets the last one grow
-pub blocks-after : (h k n : ℕ) (bs : List (List Bool)) (p : List Bool) → Wholes h k bs → blocks h (k + n) (joined bs ++ p) ≡ bs ++ blocks h n p
-unfolding blocks joined
+pub blocks-after : (h k n : ℕ) (bs : List (List Bool)) (p : List Bool) → Wholes h k bs → blocks h (k + n) (concat bs ++ p) ≡ bs ++ blocks h n p
+unfolding blocks concat
 blocks-after h zero n [] p w = let z : 0 + n ≡ n = omega arith in rw z
 blocks-after h zero n (b ∷ bs) p w = absurd w
 blocks-after h (suc k) n [] p w = absurd w
@@ -159,7 +159,7 @@ blocks-after h (suc k) n ((false ∷ []) ∷ bs) p w =
 blocks-after h (suc k) n ((false ∷ x ∷ q) ∷ bs) p w = absurd (omega (arith, ap length (w .0)))
 blocks-after h (suc k) n ((true ∷ q) ∷ bs) p w =
     let z : suc k + n ≡ suc (k + n) = omega arith in
-    let a : q ++ joined bs ++ p ≡ q ++ (joined bs ++ p) = append-assoc q (joined bs) p in
-    let t : take h (q ++ joined bs ++ p) ≡ q = ap (take h) a ∙ take-at q (joined bs ++ p) h (w .0) in
-    let d : drop h (q ++ joined bs ++ p) ≡ joined bs ++ p = ap (drop h) a ∙ drop-at q (joined bs ++ p) h (w .0) in
+    let a : q ++ concat bs ++ p ≡ q ++ (concat bs ++ p) = append-assoc q (concat bs) p in
+    let t : take h (q ++ concat bs ++ p) ≡ q = ap (take h) a ∙ take-at q (concat bs ++ p) h (w .0) in
+    let d : drop h (q ++ concat bs ++ p) ≡ concat bs ++ p = ap (drop h) a ∙ drop-at q (concat bs ++ p) h (w .0) in
     rw z (λ i. (true ∷ t i) ∷ (ap (blocks h (k + n)) d ∙ blocks-after h k n bs p (w .1)) i)

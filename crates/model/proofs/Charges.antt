@@ -7,7 +7,7 @@ use Prim.Native.Nat.{ℕ, zero, suc, _+_, _<_}
 use native.Mathlib.Omega.{arith}
 use lib.ListN.{length, length-map, getD, drop}
 use Rattle.model.specs.Model.{Part, Job, Plan, table, holding, sumAt, sum, feeOf, removalOf, pricesOf, outAt, removalsOf, costOf, Each, KeepsPart, KeepsLives}
-use Rattle.model.specs.Decisions.{ofHolders, Held, charge, charged, heldFrom, heldParts, blockOf, planBlocks, joined, decisionsOf}
+use Rattle.model.specs.Decisions.{ofHolders, Held, charge, charged, heldFrom, heldParts, blockOf, planBlocks, concat, decisionsOf}
 use Rattle.model.specs.LowerBound.{inner, nodeAt, stopsIn, removedIn}
 use Rattle.model.proofs.Lists.{table-at, table-same, table-map, table-list}
 use Rattle.model.proofs.Sums.{sum-same, sum-both, sum-shift, sum-swap}
@@ -162,7 +162,7 @@ module _ (job : Job) where
     wholes f zero h = tt
     wholes f (suc n) h = (h 0, wholes (λ k. f (suc k)) n (λ k. h (suc k)))
 
-    abbrev known : FullNode job (joined (planBlocks job plan)) × (nodeAt job (joined (planBlocks job plan)) ≡ planBlocks job plan)
+    abbrev known : FullNode job (concat (planBlocks job plan)) × (nodeAt job (concat (planBlocks job plan)) ≡ planBlocks job plan)
     known = blocks-full (inner job) steps (planBlocks job plan) (wholes (blockOf job plan) steps block-whole)
 
     -- they are a full node, with the plan's blocks

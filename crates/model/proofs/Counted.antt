@@ -18,7 +18,8 @@ use Rattle.model.specs.LowerBound.{boundOf}
 use Rattle.model.specs.LastYes.{lastYes}
 use Rattle.model.specs.Promise.{nodesOf, searched, wholeCount, answeredAt, answerOf}
 use Rattle.model.specs.Ordered.{Ordered}
-use Rattle.model.specs.Count.{longest, capped, reaches, eachKept, countFrom, entry, openCount, CountPromise}
+use Rattle.model.specs.Longest.{longest, capped, JobCountPromise}
+use Rattle.model.specs.Count.{reaches, eachKept, countFrom, entry, openCount}
 use Rattle.model.proofs.Roots.{rooted, has-plan}
 use Rattle.model.proofs.Promised.{promise}
 use Rattle.model.proofs.LastYes.{last-no, last-yes}
@@ -124,7 +125,7 @@ module _ (job : Job) where
   -- ---- the promise
 
   module _ (o : Ordered job) (none-held : NoHolders (job .parts)) where
-    pub count-promise : CountPromise job (openCount job)
+    pub count-promise : JobCountPromise job (openCount job)
     count-promise = record {
       counts = counted o none-held;
       most = λ l. omega (arith, counted o none-held, whole-most);

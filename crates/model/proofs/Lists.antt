@@ -1,8 +1,9 @@
 -- Laws of `table`: the values of a function at the places from 0 on. By recursion over their number.
 use mathlib.Core.Path.{_≡_, refl, sym, ap, _∙_}
 use mathlib.Core.Bool.{Bool, true, false}
-use mathlib.Core.List.{List, [], _∷_, map}
-use Prim.Native.Nat.{ℕ, zero, suc, _<_}
+use mathlib.Core.List.{List, [], _∷_, _++_, map}
+use Prim.Native.Nat.{ℕ, zero, suc, _+_, _<_}
+use native.Mathlib.Numerals.{add-one}
 use native.Mathlib.Omega.{arith}
 use lib.ListN.{length, getD}
 use Rattle.model.specs.Model.{table}
@@ -27,6 +28,15 @@ module _ {A : Type 0} where
       let x = h 0 (omega arith) in
       let y = table-same (λ i. f (suc i)) (λ i. g (suc i)) n (λ k l. h (suc k) (omega arith)) in
       λ i. x i ∷ y i
+
+  -- one value more, at the end
+  more : (f : ℕ → A) (n : ℕ) → table f (suc n) ≡ table f n ++ f n ∷ []
+  unfolding table
+  more f zero = refl
+  more f (suc n) = ap (λ (l : List A). f 0 ∷ l) (more (λ i. f (suc i)) n)
+
+  pub table-more : (f : ℕ → A) (n : ℕ) → table f (n + 1) ≡ table f n ++ f n ∷ []
+  table-more f n = rw add-one (more f n)
 
   pub table-map : {B : Type 0} (g : A → B) (f : ℕ → A) (n : ℕ) → map g (table f n) ≡ table (λ k. g (f k)) n
   unfolding table

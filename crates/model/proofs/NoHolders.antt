@@ -8,7 +8,7 @@ use lib.ListN.{length, getD, take, drop, replicate}
 use lib.Dec.{ltb}
 use borrow.Author.Tests.{ltb-false}
 use Rattle.branch.specs.Label.{treeOf}
-use Rattle.branch.specs.Questions.{done, times, asked}
+use Rattle.branch.specs.Questions.{done, repeated, asked}
 use Rattle.branch.proofs.Asked.{asked-fixed}
 use Rattle.model.specs.Model.{Part, Job, comesOut, listed, holdsOne, holding, isHeld, anyHeld, NoHolders, select}
 use Rattle.model.specs.Decisions.{ofHolders, heldAt, accessible, allows}
@@ -114,4 +114,4 @@ module _ (job : Job) (none : NoHolders (job .parts)) where
 
   -- no removal is asked for, so the tree is that of W4
   pub plain-tree : searched job ≡ treeOf (boundOf job) (length (job .openings)) []
-  plain-tree = ap (λ (h : ℕ). asked (boundOf job) (times (length (job .openings)) (times h done done) done)) nothing-inner ∙ asked-fixed (boundOf job) (length (job .openings))
+  plain-tree = ap (λ (h : ℕ). asked (boundOf job) (repeated (length (job .openings)) (repeated h done done) done)) nothing-inner ∙ asked-fixed (boundOf job) (length (job .openings))

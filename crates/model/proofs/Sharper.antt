@@ -1,5 +1,5 @@
 -- E4 against the bound before it, which was `stopCost`: missing exactly where that was missing, and never less. "On every job the new walk has no more points than the old one and,
--- if both finish, the plan is the same." By `fixed-fewer` and `fixed-end` of branch. The old bound, its tree and its answer stand here for these theorems alone.
+-- if both finish, the plan is the same." By `fewer` and `same-end` of branch, over the walk before (`specs/Earlier`).
 use mathlib.Core.Path.{_≡_, refl, sym, ap, _∙_}
 use mathlib.Core.Bool.{Bool, true, false}
 use mathlib.Core.List.{List, [], _++_, map}
@@ -21,6 +21,7 @@ use Rattle.branch.proofs.Limit.{cut as limits}
 use Rattle.model.specs.Model.{Job, Plan, feeOf}
 use Rattle.model.specs.Decisions.{heldParts}
 use Rattle.model.specs.LowerBound.{inner, stopsAt, placesAt, partBound, paidAt, stopCost, undecidedFees, partFee, boundOf, planAt}
+use Rattle.model.specs.Earlier.{oldTree, oldAnswer}
 use Rattle.model.specs.Promise.{PlannerAnswer, no-plan, cut-none, cut, optimum, resultOf, questions, searched, wholeCount, answered, answeredAt, answerOf}
 use Rattle.model.proofs.Blocks.{grows, places-grow}
 use Rattle.model.proofs.Bounded.{part-mono, least-there, paid-rises, full-bound, tree-bounds}
@@ -36,11 +37,7 @@ module _ (job : Job) where
       (total-mono (partBound job) (heldParts job) p (p ++ t)
       (λ held. part-mono job (held .part) (held .part .prices) (placesAt job held p) (placesAt job held (p ++ t)) (places-grow held (grows (inner job) (length (job .openings)) p t))))
 
-  -- the tree of the walk before
-  abbrev pub oldTree : Tree
-  oldTree = asked (stopCost job) (questions job)
-
-  old-bounds : Bounded oldTree
+  old-bounds : Bounded (oldTree job)
   old-bounds = asked-bounded (stopCost job) (questions job) (λ p s _. stop-rises p s)
 
   -- ---- the two
@@ -67,21 +64,17 @@ module _ (job : Job) where
       by : stopCost job p ≡ Missing → boundOf job p ≡ Missing
       by e = unfold boundOf in rw e
 
-  sharper : Sharper oldTree (searched job)
+  sharper : Sharper (oldTree job) (searched job)
   sharper = asked-sharper (stopCost job) (boundOf job) never-less (questions job) (λ s full. sym (full-bound job s full))
 
   -- "On every job the new walk has no more points than the old one"
-  pub fewer : wholeCount job ≤ length (whole oldTree .nodes)
-  fewer = sharper-fewer oldTree (searched job) [] none sharper old-bounds (tree-bounds job)
+  pub fewer : wholeCount job ≤ length (whole (oldTree job) .nodes)
+  fewer = sharper-fewer (oldTree job) (searched job) [] none sharper old-bounds (tree-bounds job)
 
-  same-end : whole (searched job) .incumbent ≡ whole oldTree .incumbent
-  same-end = sharper-end oldTree (searched job) [] none sharper old-bounds (tree-bounds job)
+  same-end : whole (searched job) .incumbent ≡ whole (oldTree job) .incumbent
+  same-end = sharper-end (oldTree job) (searched job) [] none sharper old-bounds (tree-bounds job)
 
   -- ---- the answers
-
-  -- the answer of the walk before
-  unfoldable pub oldAnswer : ℕ → PlannerAnswer
-  oldAnswer limit = answeredAt job (stopCost job []) (atMost limit oldTree)
 
   -- an answer 0, taken apart
   record Ended (x : Bound) (l : Limited) (n f c : ℕ) (p : Plan) : Type 0 where
@@ -109,12 +102,12 @@ module _ (job : Job) where
           record { floor = ap Sum z; count = cc; over = q; name = s; incumbent = r ∙ ap (λ (k : ℕ). plan k s) w; printed = cc }
 
   -- "and, if both finish, the plan is the same": where the old one finishes so does the new one
-  pub same-plan : (limit n f c : ℕ) (p : Plan) → oldAnswer limit ≡ optimum n f c p → (m g : ℕ) × (answerOf job limit ≡ optimum m g c p) × (m ≤ n) × (f ≤ g)
+  pub same-plan : (limit n f c : ℕ) (p : Plan) → oldAnswer job limit ≡ optimum n f c p → (m g : ℕ) × (answerOf job limit ≡ optimum m g c p) × (m ≤ n) × (f ≤ g)
   unfolding oldAnswer answerOf
   same-plan limit n f c p e =
-      let o = ended (stopCost job []) (atMost limit oldTree) n f c p e in
-      let old = limits oldTree limit in
-      let fits = ltb-false limit (length (whole oldTree .nodes)) (sym (old .over) ∙ o .over) in
+      let o = ended (stopCost job []) (atMost limit (oldTree job)) n f c p e in
+      let old = limits (oldTree job) limit in
+      let fits = ltb-false limit (length (whole (oldTree job) .nodes)) (sym (old .over) ∙ o .over) in
       let t = there-too [] f (o .floor) in
       let new = limits (searched job) limit .within (omega (arith, fewer)) in
       let last = same-end ∙ ap (λ (l : Limited). l .incumbent) (sym (old .within fits)) ∙ o .incumbent in

@@ -18,7 +18,7 @@ use Rattle.branch.specs.Planning.{answered, answeredAt}
 use Rattle.branch.proofs.Among.{limited-best}
 use Rattle.branch.proofs.Labels.{full-size}
 use Rattle.model.specs.Model.{Part, Job, Plan, positions, end, lastChange, clock, table, holding, NoHolders, sumAt, sum, feeOf, removalOf, pricesOf, outAt, costOf}
-use Rattle.model.specs.Decisions.{ofHolders, Held, charge, charged, heldAt, heldFrom, blockOf, joined, decisionsOf}
+use Rattle.model.specs.Decisions.{ofHolders, Held, charge, charged, heldAt, heldFrom, blockOf, concat, decisionsOf}
 use Rattle.model.specs.LowerBound.{Offer, leastOf, choiceOf, offers, nodeAt, stopsAt, removedIn, placesAt, partBound, partChoice, paidAt, stopCost, undecidedFees, partFee, boundOf, planAt}
 use Rattle.model.specs.Promise.{cut, optimum, searched, answerOf}
 use Rattle.model.specs.Verdict.{judged, judgedOf, verdictOf, Shaped}
@@ -67,8 +67,8 @@ offers-same (s ∷ ss) ns ms p q f g =
     λ i. record { position = s; price = n i; allowed = b i } ∷ r i
 
 -- blocks of a stop alone
-single : (f : ℕ → List Bool) (g : ℕ → Bool) (n : ℕ) → ((k : ℕ) → f k ≡ g k ∷ []) → joined (table f n) ≡ table g n
-unfolding joined table
+single : (f : ℕ → List Bool) (g : ℕ → Bool) (n : ℕ) → ((k : ℕ) → f k ≡ g k ∷ []) → concat (table f n) ≡ table g n
+unfolding concat table
 single f g zero h = refl
 single f g (suc n) h = let r = single (λ k. f (suc k)) (λ k. g (suc k)) n (λ k. h (suc k)) in λ i. h 0 i ++ r i
 

@@ -1,27 +1,14 @@
--- E6. "How long may this walk become?" The count that is asked for, and the same "worked out without walking". A node with a bound has its fate in two numbers: j, how many openings
+-- E6.1. "How long may this walk become?", "worked out without walking". A node with a bound has its fate in two numbers: j, how many openings
 -- are decided, and m, the last yes, numbered from 1, or 0 if there is none.
-use mathlib.Core.Path.{_≡_}
 use mathlib.Core.Bool.{Bool, true, cond, _&&_}
 use mathlib.Core.List.{List, [], _∷_}
-use mathlib.Core.Logic.{_⊎_, _↔_}
-use Prim.Native.Nat.{ℕ, zero, suc, _+_, _-_, _≤_, _<_, min}
+use Prim.Native.Nat.{ℕ, zero, suc, _+_, _-_, min}
 use lib.ListN.{length, getD}
 use lib.IntN.{ℤ, pos}
-use Rattle.branch.specs.Open.{openNodes}
-use Rattle.model.specs.Model.{Part, Job, positions, lastChange, end, within, kept, HasPlan}
-use Rattle.model.specs.Limits.{longestLife, mostWalk, mostCount}
+use Rattle.model.specs.Model.{Part, Job, positions, lastChange, end, within, kept}
+use Rattle.model.specs.Limits.{longestLife}
 use Rattle.model.specs.LastYes.{markIn}
-use Rattle.model.specs.Promise.{nodesOf, resultOf, searched, wholeCount, answerOf}
-
--- E6.1. "the number of points of a walk that drops a point only if its estimate is missing"
-abbrev pub longest : Job → ℕ
-longest job = openNodes (searched job)
-
--- E6.3. "The count stops at 4000000000, which then means that or more."
-abbrev pub capped : ℕ → ℕ
-capped n = min mostCount n
-
--- ---- without walking
+use Rattle.model.specs.Longest.{capped}
 
 -- a part with this life was changed at `prev` before the openings, which are at ss, and then at every yes, of which number m is the last: is it still kept
 -- if its next change is behind k openings, or at the end where no opening is left
@@ -74,17 +61,3 @@ leastLeft job = leastAmong (λ (part : Part). part .left) longestLife (job .part
 -- the count for a part with this life that was changed at `prev` before the openings
 unfoldable pub countFor : ℤ → ℤ → ℤ → List ℤ → ℕ
 countFor life end prev ss = cond (kept life end prev ss) (countFrom (inTime life end prev ss) (length ss) 0 0) 1
-
--- ---- the promise
-
--- what is promised of the count n
-pub record CountPromise (job : Job) (n : ℕ) : Type 0 where
-  -- E6.1, E6.3. "the number of points of a walk that drops a point only if its estimate is missing"; "The count stops at 4000000000, which then means that or more."
-  pub counts : n ≡ capped (longest job)
-  -- E6.5. "No walk ever has more points than this count below the cap."
-  pub most : n < mostCount → wholeCount job ≤ n
-  -- so no answer's `nodes` is above it, whatever the walk number, and with a walk number of the count or more none is 7
-  pub nodes : (limit : ℕ) → limit ≤ mostWalk → nodesOf (answerOf job limit) ≤ n
-  pub enough : (limit : ℕ) → n < mostCount → n ≤ limit → resultOf (answerOf job limit) ≡ 7 → ⊥
-  -- E6.6. "A job with no plan has result 0 and count 1."; a job without openings has count 1 too, and no other has
-  pub one : (n ≡ 1) ↔ ((HasPlan job → ⊥) ⊎ (length (job .openings) ≡ 0))

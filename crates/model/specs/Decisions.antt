@@ -68,13 +68,13 @@ abbrev pub planBlocks : Job → Plan → List (List Bool)
 planBlocks job plan = table (blockOf job plan) (length (job .openings))
 
 -- blocks one after the other
-unfoldable pub joined : List (List Bool) → List Bool
-joined [] = []
-joined (b ∷ bs) = b ++ joined bs
+unfoldable pub concat : List (List Bool) → List Bool
+concat [] = []
+concat (b ∷ bs) = b ++ concat bs
 
 -- the plan's decisions in walk order
 unfoldable pub decisionsOf : Job → Plan → List Bool
-decisionsOf job plan = joined (planBlocks job plan)
+decisionsOf job plan = concat (planBlocks job plan)
 
 -- ---- within the decisions
 

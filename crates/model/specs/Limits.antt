@@ -1,4 +1,4 @@
--- X3. The limits that the texts set to a job's numbers; the tables and sums of the code rest on them.
+-- X3. The limits that the texts set to a job's numbers, on which the tables and sums of the code rest; and those of the texts and outputs themselves.
 use Prim.Native.Nat.{ℕ, _+_}
 
 -- "`horizon` 2..365", "`opening` 1..365", "`idle` lines, 1..365": the last step that there can be
@@ -40,3 +40,11 @@ mostCost = 4000000000
 -- E6.3. "The count stops at 4000000000"
 abbrev pub mostCount : ℕ
 mostCount = 4000000000
+
+-- X7. "A text has at most 32,768 bytes"
+abbrev pub maxBytes : ℕ
+maxBytes = 32768
+
+-- X8. "The lent output has at least 16,384"
+abbrev pub answerRoom : ℕ
+answerRoom = 16384

@@ -16,9 +16,9 @@ use Rattle.lines.proofs.Sound.{Chained}
 use Rattle.model.specs.Model.{Opening, Job, Plan}
 use Rattle.model.specs.Verdict.{Shaped}
 use Rattle.jobs.specs.Valid.{All, ValidJob}
-use Rattle.plan_grammar.specs.Grammar.{Visit, any, among, isOpening, visited, changed, tabulate, openingsAt, planOf}
+use Rattle.plan_grammar.specs.Grammar.{Visit, any, among, isOpening, visited, changed, table, openingsAt, planOf}
 use Rattle.lines.specs.Chosen.{chosen}
-use Rattle.plan_grammar.specs.Rendering.{changesAt, partsAt, stepAt, visitAt, visitsOf}
+use Rattle.plan_grammar.specs.Rendering.{isChanged, partsAt, stepAt, visitAt, visitsOf}
 use Rattle.lines.proofs.Chosen.{chosen-front}
 use Rattle.plan_grammar.proofs.Lists.{any-append, any-index, table-at, table-is}
 use Rattle.plan_grammar.proofs.Steps.{openings-table}
@@ -128,7 +128,7 @@ opening-at job t e =
     (r .0, r .1, step-is job (r .0) ∙ eqb-true _ t (r .2))
 
 -- what the made plan says of opening i and part k + 1
-made-at : (job : Job) (vs : List Visit) (i k : ℕ) → i < length (job .openings) → k < length (job .parts) → changesAt (planOf job vs) i k ≡ changed vs (k + 1) (stepAt job i)
+made-at : (job : Job) (vs : List Visit) (i k : ℕ) → i < length (job .openings) → k < length (job .parts) → isChanged (planOf job vs) i k ≡ changed vs (k + 1) (stepAt job i)
 unfolding planOf
 made-at job vs i k h l =
     ap (λ (r : List Bool). getD r i false) (table-at (λ k. openingsAt job (changed vs (k + 1))) (length (job .parts)) k [] l)
@@ -142,8 +142,8 @@ visit-back job vs v i h e ok own = λ j. record { step = e j; parts = parts j }
   where
     parts : partsAt (planOf job vs) i ≡ v .parts
     parts =
-        ap (chosen (changesAt (planOf job vs) i) (λ k. k + 1)) (made-shaped job vs .parts)
-        ∙ parts-back (length (job .parts)) (changesAt (planOf job vs) i) (v .parts) ok (λ k l. made-at job vs i k h l ∙ ap (changed vs (k + 1)) e ∙ own (k + 1))
+        ap (chosen (isChanged (planOf job vs) i) (λ k. k + 1)) (made-shaped job vs .parts)
+        ∙ parts-back (length (job .parts)) (isChanged (planOf job vs) i) (v .parts) ok (λ k l. made-at job vs i k h l ∙ ap (changed vs (k + 1)) e ∙ own (k + 1))
 
 visits-found : (job : Job) (vs : List Visit) (before : ℕ) (us : List Visit) → Chained (ValidVisit job) (λ _. stepOf) before us → All (Own vs) us
     → Chained (Found stepOf (visitAt job (planOf job vs)) (length (job .openings))) (λ _. stepOf) before us
@@ -207,24 +207,24 @@ module _ (job : Job) (ok : ValidJob job) (plan : Plan) (shape : Shaped job plan)
       ∙ and-true (getD (plan .stops) i false)
 
   -- part k + 1 is among the parts changed there if the plan changes it
-  part-back : (i k : ℕ) → k < length (job .parts) → among (partsAt plan i) (k + 1) ≡ changesAt plan i k
+  part-back : (i k : ℕ) → k < length (job .parts) → among (partsAt plan i) (k + 1) ≡ isChanged plan i k
   part-back i k h =
-      any-one (λ (j : ℕ). eqb j (k + 1)) (changesAt plan i) (λ j. j + 1) (length (plan .changes)) k (omega (arith, shape .parts)) (λ j l d. ne-eqb (j + 1) (k + 1) (λ e. d (omega arith)))
-      ∙ ap (λ (b : Bool). changesAt plan i k && b) (eq-eqb (k + 1) (k + 1) refl)
-      ∙ and-true (changesAt plan i k)
+      any-one (λ (j : ℕ). eqb j (k + 1)) (isChanged plan i) (λ j. j + 1) (length (plan .changes)) k (omega (arith, shape .parts)) (λ j l d. ne-eqb (j + 1) (k + 1) (λ e. d (omega arith)))
+      ∙ ap (λ (b : Bool). isChanged plan i k && b) (eq-eqb (k + 1) (k + 1) refl)
+      ∙ and-true (isChanged plan i k)
 
   -- a change is at a stop
-  at-stop : (i k : ℕ) → k < length (job .parts) → (b : Bool) → changesAt plan i k ≡ b → (getD (plan .stops) i false && b) ≡ b
+  at-stop : (i k : ℕ) → k < length (job .parts) → (b : Bool) → isChanged plan i k ≡ b → (getD (plan .stops) i false && b) ≡ b
   at-stop i k h true e = and-true (getD (plan .stops) i false) ∙ shape .at-stops k i h e
   at-stop i k h false e = and-false (getD (plan .stops) i false)
 
-  change-back : (i k : ℕ) → i < length (job .openings) → k < length (job .parts) → changed (visitsOf job plan) (k + 1) (stepAt job i) ≡ changesAt plan i k
+  change-back : (i k : ℕ) → i < length (job .openings) → k < length (job .parts) → changed (visitsOf job plan) (k + 1) (stepAt job i) ≡ isChanged plan i k
   unfolding visitsOf
   change-back i k h l =
       any-one (λ (v : Visit). eqb (v .step) (stepAt job i) && among (v .parts) (k + 1)) (λ j. getD (plan .stops) j false) (visitAt job plan) (length (job .openings)) i h
       (λ j m d. ap (λ (b : Bool). b && among (partsAt plan j) (k + 1)) (step-differs i j h m d))
       ∙ ap (λ (b : Bool). getD (plan .stops) i false && b) (ap (λ (b : Bool). b && among (partsAt plan i) (k + 1)) (eq-eqb (stepAt job i) (stepAt job i) refl) ∙ part-back i k l)
-      ∙ at-stop i k l (changesAt plan i k) refl
+      ∙ at-stop i k l (isChanged plan i k) refl
 
   pub plan-back : planOf job (visitsOf job plan) ≡ plan
   unfolding planOf
@@ -239,5 +239,5 @@ module _ (job : Job) (ok : ValidJob job) (plan : Plan) (shape : Shaped job plan)
       row : (k : ℕ) → k < length (job .parts) → openingsAt job (changed (visitsOf job plan) (k + 1)) ≡ getD (plan .changes) k []
       row k l = openings-table job (changed (visitsOf job plan) (k + 1)) ∙ sym (table-is (getD (plan .changes) k []) false _ n (shape .sizes k l) (λ i h. sym (change-back i k h l)))
 
-      changes : tabulate (λ k. openingsAt job (changed (visitsOf job plan) (k + 1))) (length (job .parts)) ≡ plan .changes
+      changes : table (λ k. openingsAt job (changed (visitsOf job plan) (k + 1))) (length (job .parts)) ≡ plan .changes
       changes = sym (table-is (plan .changes) [] _ (length (job .parts)) (shape .parts) (λ k l. sym (row k l)))

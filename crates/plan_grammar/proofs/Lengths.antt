@@ -10,7 +10,7 @@ use Rattle.lines.specs.Text.{bytes, decimalIn, line, lineOf, texts, joined}
 use Rattle.lines.proofs.Writing.{line-short, joined-grows, joined-short}
 use Rattle.model.specs.Model.{Job, Plan}
 use Rattle.lines.specs.Chosen.{chosen}
-use Rattle.plan_grammar.specs.Rendering.{visitText, planText, changesAt, partsAt, stepAt, visitAt, visitsOf, planLinesOf}
+use Rattle.plan_grammar.specs.Rendering.{visitText, planText, isChanged, partsAt, stepAt, visitAt, visitsOf, planLinesOf}
 use Rattle.jobs.specs.Valid.{ValidJob}
 use Rattle.lines.proofs.Chosen.{chosen-few, chosen-texts}
 use Rattle.plan_grammar.proofs.Steps.{step-small}
@@ -61,8 +61,8 @@ visit-short job plan i h m =
       arith,
       key-length,
       line-short (bytes "stop=") 2 (stepAt job i) h,
-      line-short (bytes "count=") 1 (length (partsAt plan i)) (omega (arith, chosen-few (changesAt plan i) (λ (k : ℕ). k + 1) (length (plan .changes)))),
-      parts-short (changesAt plan i) (length (plan .changes)) m,
+      line-short (bytes "count=") 1 (length (partsAt plan i)) (omega (arith, chosen-few (isChanged plan i) (λ (k : ℕ). k + 1) (length (plan .changes)))),
+      parts-short (isChanged plan i) (length (plan .changes)) m,
     ))
 
 visits-short : (job : Job) (plan : Plan) → ((i : ℕ) → stepAt job i < 1000) → length (plan .changes) ≤ 16 → length (texts visitText (visitsOf job plan)) ≤ length (job .openings) * 137

@@ -1,17 +1,15 @@
 -- Laws of tests of lists and of tables, by recursion over the list and by index.
 use Prim.Native.Nat.{ℕ, zero, suc, _<_}
-use mathlib.Core.Path.{_≡_, refl, sym, ap, ap₂, _∙_}
+use mathlib.Core.Path.{_≡_, refl, sym, ap, _∙_}
 use mathlib.Core.List.{List, [], _∷_, _++_, map}
 use mathlib.Core.Bool.{Bool, true, false, _||_, or-assoc, or-true, or-false, false≢true}
-use mathlib.Core.Logic.{⊎-elim}
-use native.Mathlib.Nat.{eq-or-lt-of-le, le-of-suc-le-suc}
 use native.Mathlib.Omega.{arith}
 use borrow.Author.Tests.{eqb-true, eqb-false}
 use lib.Dec.{eqb}
-use lib.ListN.{length, getD, set, replicate, length-append, length-set, length-map, List·getD-append, List·getD-map}
-use lib.Seq.{getD-at, getD-set-same, getD-set-other, ext-getD}
-use Rattle.lines.specs.Text.{joined}
-use Rattle.plan_grammar.specs.Grammar.{any, tabulate}
+use lib.ListN.{length, getD, set, replicate, length-set, length-map, List·getD-map}
+use lib.Seq.{getD-set-same, getD-set-other, ext-getD}
+pub use Rattle.model.proofs.Lists.{table-length, table-at, table-same}
+use Rattle.plan_grammar.specs.Grammar.{any, table}
 
 -- ---- some element passes, or none does
 
@@ -49,45 +47,26 @@ module _ {A : Type 0} (test : A → Bool) where
 -- ---- tables
 
 module _ {A : Type 0} where
-  pub table-length : (f : ℕ → A) (n : ℕ) → length (tabulate f n) ≡ n
-  unfolding joined
-  table-length f zero = refl
-  table-length f (suc n) = rw length-append (omega (arith, table-length f n))
-
-  pub table-at : (f : ℕ → A) (n i : ℕ) (d : A) → i < n → getD (tabulate f n) i d ≡ f i
-  unfolding joined
-  table-at f zero i d h = absurd (omega arith)
-  table-at f (suc n) i d h =
-      ⊎-elim
-      (λ (e : i ≡ n). ap (λ (j : ℕ). getD (tabulate f n ++ f n ∷ []) j d) e ∙ getD-at (tabulate f n) (f n) [] d n (table-length f n) ∙ ap f (sym e))
-      (λ (l : i < n). List·getD-append (tabulate f n) (f n ∷ []) d i (omega (arith, table-length f n)) ∙ table-at f n i d l)
-      (eq-or-lt-of-le (le-of-suc-le-suc h))
-
-  pub table-same : (f g : ℕ → A) (n : ℕ) → ((i : ℕ) → i < n → f i ≡ g i) → tabulate f n ≡ tabulate g n
-  unfolding joined
-  table-same f g zero h = refl
-  table-same f g (suc n) h = ap₂ (λ (xs : List A) (x : A). xs ++ x ∷ []) (table-same f g n (λ i l. h i (omega arith))) (h n (omega arith))
-
   -- a list of n elements is a table
-  pub table-is : (xs : List A) (d : A) (f : ℕ → A) (n : ℕ) → length xs ≡ n → ((i : ℕ) → i < n → getD xs i d ≡ f i) → xs ≡ tabulate f n
+  pub table-is : (xs : List A) (d : A) (f : ℕ → A) (n : ℕ) → length xs ≡ n → ((i : ℕ) → i < n → getD xs i d ≡ f i) → xs ≡ table f n
   table-is xs d f n l h =
-      ext-getD d xs (tabulate f n) (l ∙ sym (table-length f n)) (λ i m. let k : i < n = omega arith in h i k ∙ sym (table-at f n i d k))
+      ext-getD d xs (table f n) (l ∙ sym (table-length f n)) (λ i m. let k : i < n = omega arith in h i k ∙ sym (table-at f n i d k))
 
   -- one entry is stored
-  pub table-set : (f g : ℕ → A) (n j : ℕ) (x : A) → j < n → x ≡ g j → ((i : ℕ) → i < n → (i ≡ j → ⊥) → f i ≡ g i) → set (tabulate f n) j x ≡ tabulate g n
-  table-set f g n j x h e o = table-is (set (tabulate f n) j x) x g n (length-set (tabulate f n) j x ∙ table-length f n) each
+  pub table-set : (f g : ℕ → A) (n j : ℕ) (x : A) → j < n → x ≡ g j → ((i : ℕ) → i < n → (i ≡ j → ⊥) → f i ≡ g i) → set (table f n) j x ≡ table g n
+  table-set f g n j x h e o = table-is (set (table f n) j x) x g n (length-set (table f n) j x ∙ table-length f n) each
     where
-      each : (i : ℕ) → i < n → getD (set (tabulate f n) j x) i x ≡ g i
+      each : (i : ℕ) → i < n → getD (set (table f n) j x) i x ≡ g i
       each i l = go (eqb i j) refl
         where
-          go : (t : Bool) → eqb i j ≡ t → getD (set (tabulate f n) j x) i x ≡ g i
+          go : (t : Bool) → eqb i j ≡ t → getD (set (table f n) j x) i x ≡ g i
           go true q =
               let p = eqb-true i j q in
-              ap (λ (k : ℕ). getD (set (tabulate f n) j x) k x) p ∙ getD-set-same (tabulate f n) j x x (omega (arith, table-length f n)) ∙ e ∙ ap g (sym p)
-          go false q = let p = eqb-false i j q in getD-set-other (tabulate f n) j i x x p ∙ table-at f n i x l ∙ o i l p
+              ap (λ (k : ℕ). getD (set (table f n) j x) k x) p ∙ getD-set-same (table f n) j x x (omega (arith, table-length f n)) ∙ e ∙ ap g (sym p)
+          go false q = let p = eqb-false i j q in getD-set-other (table f n) j i x x p ∙ table-at f n i x l ∙ o i l p
 
 module _ {A B : Type 0} (f : A → B) where
-  pub map-table : (xs : List A) (d : A) → map f xs ≡ tabulate (λ i. f (getD xs i d)) (length xs)
+  pub map-table : (xs : List A) (d : A) → map f xs ≡ table (λ i. f (getD xs i d)) (length xs)
   map-table xs d = table-is (map f xs) (f d) (λ i. f (getD xs i d)) (length xs) (length-map xs f) (λ i h. List·getD-map f xs i d)
 
   pub map-set : (xs : List A) (i : ℕ) (x : A) → map f (set xs i x) ≡ set (map f xs) i (f x)

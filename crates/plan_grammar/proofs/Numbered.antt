@@ -9,10 +9,8 @@ use Rattle.lines.specs.Parser.{rowAt, refused}
 use Rattle.lines.proofs.Outcomes.{not-both}
 use Rattle.lines.proofs.Numbered.{Numbers, row-numbers, checked-numbers, bind-numbers, return-numbers, chain-numbers, refused-fault}
 use Rattle.model.specs.Model.{Job}
+pub use Rattle.plan_grammar.specs.Faults.{PlanFault}
 use Rattle.plan_grammar.specs.Grammar.{part, parts, visit, visits, planLines, maxBytes, readPlan}
-
-abbrev pub PlanFault : ℕ → Type 0
-PlanFault n = ((1 ≤ n) × (n ≤ 3)) ⊎ (n ≡ 9)
 
 line-numbers : (key : List ℕ) (lo hi : ℕ) → Numbers PlanFault (rowAt key lo hi)
 line-numbers = row-numbers PlanFault (inl (omega arith, omega arith)) (inl (omega arith, omega arith))

@@ -17,7 +17,7 @@ use Rattle.model.specs.Verdict.{Shaped}
 use Rattle.jobs.specs.Valid.{ValidJob}
 use Rattle.plan_grammar.specs.Grammar.{Visit, isOpening, mayStop, part, parts, visit, visits, planOf, planLines, maxBytes, readPlan}
 use Rattle.lines.specs.Chosen.{chosen}
-use Rattle.plan_grammar.specs.Rendering.{visitText, planText, changesAt, partsAt, stepAt, visitAt, visitsOf, planLinesOf}
+use Rattle.plan_grammar.specs.Rendering.{visitText, planText, isChanged, partsAt, stepAt, visitAt, visitsOf, planLinesOf}
 use Rattle.plan_grammar.proofs.Lists.{any-at}
 use Rattle.plan_grammar.proofs.Nothing.{read-lines}
 use Rattle.lines.proofs.Chosen.{chosen-few, chosen-front}
@@ -101,7 +101,7 @@ visits-valid job ok plan shape = record {
     later = l;
     high = step-high job ok i h;
     opening = is-opening job i h;
-    few = omega (arith, ok .few-parts, shape .parts, chosen-few (changesAt plan i) (λ (k : ℕ). k + 1) (length (plan .changes)));
+    few = omega (arith, ok .few-parts, shape .parts, chosen-few (isChanged plan i) (λ (k : ℕ). k + 1) (length (plan .changes)));
     parts = parts i;
   });
 }
@@ -110,7 +110,7 @@ visits-valid job ok plan shape = record {
     stop i = getD (plan .stops) i false
 
     parts : (i : ℕ) → ValidParts (length (job .parts)) (partsAt plan i)
-    parts i = chosen-chained (ValidPart (length (job .parts))) (λ (k : ℕ). k) (length (plan .changes)) (changesAt plan i) (λ k. k + 1) 0 (λ i j h l. omega arith) (λ k h. omega arith) (λ k b h l. (l, omega (arith, shape .parts)))
+    parts i = chosen-chained (ValidPart (length (job .parts))) (λ (k : ℕ). k) (length (plan .changes)) (isChanged plan i) (λ k. k + 1) 0 (λ i j h l. omega arith) (λ k h. omega arith) (λ k b h l. (l, omega (arith, shape .parts)))
 
 -- ---- the plan
 

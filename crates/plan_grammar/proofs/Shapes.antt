@@ -10,7 +10,7 @@ use Rattle.lines.specs.Parser.{accepted}
 use Rattle.model.specs.Model.{Opening, Job}
 use Rattle.model.specs.Verdict.{Shaped}
 use Rattle.model.proofs.Bools.{inside}
-use Rattle.plan_grammar.specs.Grammar.{Visit, Stated, any, among, visited, changed, tabulate, openingsAt, planOf, readPlan}
+use Rattle.plan_grammar.specs.Grammar.{Visit, Stated, any, among, visited, changed, table, openingsAt, planOf, readPlan}
 use Rattle.plan_grammar.specs.Rendering.{stepAt}
 use Rattle.plan_grammar.proofs.Lists.{table-length, table-at}
 use Rattle.plan_grammar.proofs.Steps.{openings-table}
@@ -46,7 +46,7 @@ made-shaped job vs = record {
     row : ℕ → List Bool
     row k = openingsAt job (changed vs (k + 1))
 
-    at-stops : (k i : ℕ) → k < m → getD (getD (tabulate row m) k []) i false ≡ true → getD (openingsAt job (visited vs)) i false ≡ true
+    at-stops : (k i : ℕ) → k < m → getD (getD (table row m) k []) i false ≡ true → getD (openingsAt job (visited vs)) i false ≡ true
     at-stops k i k< e =
         let f : getD (row k) i false ≡ true = sym (ap (λ (r : List Bool). getD r i false) (table-at row m k [] k<)) ∙ e in
         let i< : i < length (job .openings) = omega (arith, inside (row k) i f, length-map (job .openings) (λ (o : Opening). changed vs (k + 1) (o .step))) in

@@ -10,7 +10,7 @@ use Rattle.model.proofs.Positions.{rising-above, rising-rises}
 use Rattle.jobs.specs.Valid.{ValidOpening, ValidJob}
 use Rattle.jobs.proofs.Lists.{all-at}
 use Rattle.plan_grammar.specs.Rendering.{stepAt}
-use Rattle.plan_grammar.specs.Grammar.{tabulate, openingsAt}
+use Rattle.plan_grammar.specs.Grammar.{table, openingsAt}
 use Rattle.plan_grammar.proofs.Lists.{table-same, map-table}
 use mathlib.Core.Bool.{Bool}
 
@@ -40,7 +40,7 @@ module _ (job : Job) (v : ValidJob job) where
       go (no n) = omega (arith, List·getD-eq-default (stepsOf (job .openings)) 0 {n = i} (omega (arith, n, length-map (job .openings) (λ (o : Opening). o .step))))
 
 -- the openings by index
-pub openings-table : (job : Job) (test : ℕ → Bool) → openingsAt job test ≡ tabulate (λ i. test (stepAt job i)) (length (job .openings))
+pub openings-table : (job : Job) (test : ℕ → Bool) → openingsAt job test ≡ table (λ i. test (stepAt job i)) (length (job .openings))
 openings-table job test =
     map-table (λ (o : Opening). test (o .step)) (job .openings) noOpening
     ∙ table-same _ _ (length (job .openings)) (λ i h. ap test (sym (step-is job i)))

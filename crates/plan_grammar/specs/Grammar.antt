@@ -4,10 +4,11 @@ use mathlib.Core.List.{List, [], _∷_, map}
 use mathlib.Core.Bool.{Bool, false, _&&_, _||_}
 use lib.ListN.{length}
 use lib.Dec.{ltb, eqb}
-use Rattle.lines.specs.Text.{joined}
 use Rattle.lines.specs.Parser.{Parser, _>>=_, return, row, checked, chain, rising, Outcome, accepted, readText}
 use Rattle.model.specs.Model.{Opening, Job, Plan}
 use Rattle.model.specs.Limits.{lastStep, mostOpenings, mostParts, mostCost}
+pub use Rattle.model.specs.Model.{table}
+pub use Rattle.model.specs.Limits.{maxBytes}
 
 -- a stop as the text has it: its step, and the numbers of the parts changed there
 pub record Visit : Type 0 where
@@ -68,10 +69,6 @@ visited vs step = any (λ (v : Visit). eqb (v .step) step) vs
 abbrev pub changed : List Visit → ℕ → ℕ → Bool
 changed vs k step = any (λ (v : Visit). eqb (v .step) step && among (v .parts) k) vs
 
--- f 0, f 1, .. f (n - 1)
-abbrev pub tabulate : {A : Type 0} → (ℕ → A) → ℕ → List A
-tabulate f n = joined (λ i. f i ∷ []) n
-
 -- a set of openings, by their steps
 abbrev pub openingsAt : Job → (ℕ → Bool) → List Bool
 openingsAt job test = map (λ (o : Opening). test (o .step)) (job .openings)
@@ -80,7 +77,7 @@ openingsAt job test = map (λ (o : Opening). test (o .step)) (job .openings)
 unfoldable pub planOf : Job → List Visit → Plan
 planOf job vs = record {
   stops = openingsAt job (visited vs);
-  changes = tabulate (λ k. openingsAt job (changed vs (k + 1))) (length (job .parts));
+  changes = table (λ k. openingsAt job (changed vs (k + 1))) (length (job .parts));
 }
 
 -- ---- the text
@@ -93,15 +90,11 @@ planLines job = do
   vs ← visits job n
   return (record { cost = cost; plan = planOf job vs })
 
--- X7. "A text has at most 32,768 bytes"
-abbrev pub maxBytes : ℕ
-maxBytes = 32768
-
 -- E5. "An empty plan text shall mean a plan of no stops and cost 0."
 abbrev pub nothing : Job → Stated
 nothing job = record { cost = 0; plan = planOf job [] }
 
--- the whole text: what it states, or its first fault's number and line
+-- X7. "A text has at most 32,768 bytes". The whole text: what it states, or its first fault's number and line
 unfoldable pub readPlan : Job → List ℕ → Outcome Stated
 readPlan job [] = accepted (nothing job)
 readPlan job (b ∷ s) = readText maxBytes (planLines job) (b ∷ s)

@@ -21,12 +21,12 @@ planText cost vs = lineOf "cost=" cost ++ lineOf "stops=" (length vs) ++ texts v
 -- ---- the visits of a plan
 
 -- part k + 1 is changed at opening i
-abbrev pub changesAt : Plan → ℕ → ℕ → Bool
-changesAt plan i k = getD (getD (plan .changes) k []) i false
+abbrev pub isChanged : Plan → ℕ → ℕ → Bool
+isChanged plan i k = getD (getD (plan .changes) k []) i false
 
 -- the numbers of the parts changed at opening i
 abbrev pub partsAt : Plan → ℕ → List ℕ
-partsAt plan i = chosen (changesAt plan i) (λ k. k + 1) (length (plan .changes))
+partsAt plan i = chosen (isChanged plan i) (λ k. k + 1) (length (plan .changes))
 
 -- the step of opening i
 abbrev pub stepAt : Job → ℕ → ℕ

@@ -9,7 +9,7 @@ use lib.Dec.{eqb}
 use lib.ListN.{length, getD, take, set, replicate, length-replicate, getD-replicate}
 use lib.Seq.{take-set-lt}
 use Rattle.model.specs.Model.{Job}
-use Rattle.plan_grammar.specs.Grammar.{Visit, any, among, visited, changed, tabulate, openingsAt, planOf}
+use Rattle.plan_grammar.specs.Grammar.{Visit, any, among, visited, changed, table, openingsAt, planOf}
 use Rattle.plan_grammar.specs.Rendering.{stepAt}
 use Rattle.model.specs.Limits.{mostOpenings, mostParts}
 use Rattle.jobs.specs.declared.Job as code
@@ -68,7 +68,7 @@ module _ (job : Job) (step : ℕ) (sets : List (List Bool)) where
       named : among (ks ++ k ∷ []) (k - 1 + 1) ≡ true
       named = any-snoc (λ (j : ℕ). eqb j (k - 1 + 1)) ks k ∙ ap (λ (b : Bool). among ks (k - 1 + 1) || b) (eq-eqb k (k - 1 + 1) (omega arith)) ∙ or-true (among ks (k - 1 + 1))
 
-      here : withStep job step (getD (tabulate (setOf ks) (length (job .parts))) (k - 1) []) ≡ setOf (ks ++ k ∷ []) (k - 1)
+      here : withStep job step (getD (table (setOf ks) (length (job .parts))) (k - 1) []) ≡ setOf (ks ++ k ∷ []) (k - 1)
       here =
           ap (withStep job step) (table-at (setOf ks) (length (job .parts)) (k - 1) [] (omega arith))
           ∙ again (among ks (k - 1 + 1)) (getD sets (k - 1) [])
@@ -104,8 +104,8 @@ visit-more job vs v = λ i. record { stops = stops i; changes = changes i }
         ∙ table-same _ _ (length (job .openings)) (λ i h. let t = stepAt job i in sym (more k t ∙ ap (λ (b : Bool). changed vs (k + 1) t || b) (ap (λ (b : Bool). eqb (v .step) t && b) e ∙ and-false (eqb (v .step) t)) ∙ or-false (changed vs (k + 1) t)))
         ∙ sym (openings-table job (changed (vs ++ v ∷ []) (k + 1)))
 
-    changes : tabulate (λ k. cond (among (v .parts) (k + 1)) (withStep job (v .step) (getD (tabulate row m) k [])) (getD (tabulate row m) k [])) m
-        ≡ tabulate (λ k. openingsAt job (changed (vs ++ v ∷ []) (k + 1))) m
+    changes : table (λ k. cond (among (v .parts) (k + 1)) (withStep job (v .step) (getD (table row m) k [])) (getD (table row m) k [])) m
+        ≡ table (λ k. openingsAt job (changed (vs ++ v ∷ []) (k + 1))) m
     changes = table-same _ _ m (λ k h. ap (λ (s : List Bool). cond (among (v .parts) (k + 1)) (withStep job (v .step) s) s) (table-at row m k [] h) ∙ part k (among (v .parts) (k + 1)) refl)
 
 -- no visit at all
@@ -116,7 +116,7 @@ visit-none job n m p q = λ i. record { stops = nowhere i; changes = never i }
     nowhere : replicate n false ≡ openingsAt job (visited [])
     nowhere = ap (λ (k : ℕ). replicate k false) (sym p) ∙ sym (map-constant (job .openings) false)
 
-    never : replicate m (replicate n false) ≡ tabulate (λ k. openingsAt job (changed [] (k + 1))) (length (job .parts))
+    never : replicate m (replicate n false) ≡ table (λ k. openingsAt job (changed [] (k + 1))) (length (job .parts))
     never = ap₂ (λ (k : ℕ) (s : List Bool). replicate k s) (sym q) nowhere ∙ table-is _ [] (λ k. openingsAt job (visited [])) (length (job .parts)) (length-replicate (length (job .parts)) _) (λ i h. getD-replicate (length (job .parts)) i (openingsAt job (visited [])) [] h)
 
 -- ---- the code's changes

@@ -13,7 +13,7 @@ use Rattle.model.specs.Model.{Plan}
 use Rattle.model.specs.Model as model
 use Rattle.jobs.specs.declared.Job.{Job}
 use Rattle.jobs.specs.Views.{jobOf, changesFor, planFor}
-use Rattle.plan_grammar.specs.Grammar.{Visit, among, tabulate, planOf}
+use Rattle.plan_grammar.specs.Grammar.{Visit, among, table, planOf}
 use Rattle.plan_grammar.specs.Rendering.{stepAt}
 use Rattle.jobs.specs.declared.Changes.{Changes}
 use Rattle.jobs.specs.declared.Plan as code
@@ -23,11 +23,11 @@ use Rattle.plan_stops.specs.declared.stops.VisitsRead.{VisitsRead}
 
 -- a set of openings, with those at a step
 unfoldable pub withStep : model.Job → ℕ → List Bool → List Bool
-withStep job step set = tabulate (λ i. getD set i false || eqb step (stepAt job i)) (length (job .openings))
+withStep job step set = table (λ i. getD set i false || eqb step (stepAt job i)) (length (job .openings))
 
 -- the changes, with those of the parts ks at a step
 unfoldable pub withParts : model.Job → ℕ → List ℕ → List (List Bool) → List (List Bool)
-withParts job step ks sets = tabulate (λ k. cond (among ks (k + 1)) (withStep job step (getD sets k [])) (getD sets k [])) (length (job .parts))
+withParts job step ks sets = table (λ k. cond (among ks (k + 1)) (withStep job step (getD sets k [])) (getD sets k [])) (length (job .parts))
 
 -- a plan, with one visit more
 unfoldable pub withVisit : model.Job → Visit → Plan → Plan

@@ -8,7 +8,7 @@ use lib.Seq.{getD-take}
 use Rattle.lines.specs.Chosen.{chosen}
 use Rattle.lines.proofs.Chosen.{chosen-same}
 use Rattle.model.specs.Model.{Job}
-use Rattle.plan_grammar.specs.Rendering.{changesAt, partsAt, visitAt, visitsOf}
+use Rattle.plan_grammar.specs.Rendering.{isChanged, partsAt, visitAt, visitsOf}
 use Rattle.jobs.specs.Views.{modelPlan, blankChanges}
 use Rattle.plan_text.specs.Views.{numbersAt}
 use Rattle.jobs.specs.declared.Plan.{Plan}
@@ -17,10 +17,10 @@ use Rattle.jobs.proofs.Plans.{changes-size, changes-at}
 -- the parts changed at an opening of the code's plan are those of the model's
 pub numbers-are : (n m : ℕ) (p : Plan) (i : ℕ) → m ≤ length (p .changes) → i < n → numbersAt p m i ≡ partsAt (modelPlan n m p) i
 numbers-are n m p i l h =
-    chosen-same _ (changesAt (modelPlan n m p) i) _ (λ k. k + 1) m
+    chosen-same _ (isChanged (modelPlan n m p) i) _ (λ k. k + 1) m
     (λ k k<. sym (ap (λ (r : List Bool). getD r i false) (changes-at n m (p .changes) l k k<) ∙ getD-take n (getD (p .changes) k blankChanges .at) i false h))
     (λ k k<. refl)
-    ∙ ap (chosen (changesAt (modelPlan n m p) i) (λ k. k + 1)) (sym (changes-size n m (p .changes) l))
+    ∙ ap (chosen (isChanged (modelPlan n m p) i) (λ k. k + 1)) (sym (changes-size n m (p .changes) l))
 
 -- its stops at the openings that a job counts, too
 pub stops-are : (job : Job) (n m : ℕ) (p : Plan) → length (job .openings) ≡ n

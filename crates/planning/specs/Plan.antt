@@ -4,6 +4,7 @@ use mathlib.Core.List.{List, _++_}
 use Rattle.lines.specs.Text.{lineOf}
 use Rattle.lines.specs.Parser.{Outcome, accepted, refused}
 use Rattle.model.specs.Model.{Job, Plan}
+use Rattle.model.specs.Limits.{answerRoom}
 use Rattle.model.specs.Promise.{PlannerAnswer, no-plan, cut-none, cut, optimum, resultOf, answerOf}
 use Rattle.job_grammar.specs.Grammar.{Given, readJob}
 use Rattle.plan_grammar.specs.Rendering.{planLinesOf}
@@ -39,4 +40,4 @@ planSaid text = onJob text (readJob text)
 
 -- X8. "The lent output has at least 16,384."
 abbrev pub planRoom : ℕ
-planRoom = 16384
+planRoom = answerRoom

@@ -10,7 +10,7 @@ use lib.ListN.{length, getD, drop, replicate}
 use lib.Seq.{getD-drop}
 use lib.IntN.{ℤ, pos}
 use lib.Signed.{mag}
-use Rattle.model.specs.Model.{Job, idle, running, clock}
+use Rattle.model.specs.Model.{Job, listed, running, clock}
 use Rattle.model.specs.Verdict.{noPart}
 use Rattle.search_tables.specs.Arrays.{priceStride, lanePart, Holds}
 use Rattle.lane_rows.specs.Layout.{top, dear}
@@ -78,7 +78,7 @@ own (suc zero) h = refl
 own (suc (suc q)) h = absurd (omega arith)
 
 pub held : Holds job (pos 7) places fees lives lefts flat
-unfolding clock running idle
+unfolding clock running listed
 held =
     record {
       arrays = record {

@@ -25,7 +25,7 @@ use Rattle.shares.specs.Shares.{Shares, things, takes, bears, owes, chargedFor,
 use Rattle.shares.proofs.Owed.{owes-no, owes-yes}
 use Rattle.least.specs.Marks.{markOf}
 use Rattle.lane_rows.specs.Layout.{laneCount, dear, inf, suffixBase, reachBase, place, rowPlace, pricePlace, markPlace, markBase, lanesIn}
-use Rattle.lane_rows.specs.Sheet.{Column, Mark, columnBound, reach, joined, frontFrom, front, solid}
+use Rattle.lane_rows.specs.Sheet.{Column, Mark, columnBound, reach, frontWith, frontFrom, front, solid}
 use Rattle.lane_rows.specs.Tables.{valueOf}
 use Rattle.lane_rows.specs.Rows.{lane, sumFrom, sumLanes, marksIn, Level, Kept, Put, Stack, Looks, Memo, Owing, FirstRow, nextRow}
 use Rattle.lane_rows.proofs.Front.{over, offerIs, front-snoc, decided-nil, column-front}
@@ -311,8 +311,8 @@ module _ (job : Job) (shares : Shares) (lanes : List Held) where
             ∙ ap solid (sym
             (ap (front ss (column all q)) (seen-stop (part q .needs) bs rs)
             ∙ front-snoc ss (column all q) (placesIn (part q) bs) a (omega (arith, places-length q bs, positions-length))
-            ∙ ap (λ (k : ℕ). joined life (front ss (column all q) (placesIn (part q) bs)) (offerIs ss (column all q .prices) a k)) (places-length q bs)
-            ∙ ap₂ (λ (fr : List Mark) (c : ℕ). joined life fr (record { position = getD ss (length bs) (pos 0); price = c; allowed = a })) (front-same job shares q (part q) bs (true ∷ rs) (placesIn (part q) bs) (omega (arith, places-length q bs))) same))
+            ∙ ap (λ (k : ℕ). frontWith life (front ss (column all q) (placesIn (part q) bs)) (offerIs ss (column all q .prices) a k)) (places-length q bs)
+            ∙ ap₂ (λ (fr : List Mark) (c : ℕ). frontWith life fr (record { position = getD ss (length bs) (pos 0); price = c; allowed = a })) (front-same job shares q (part q) bs (true ∷ rs) (placesIn (part q) bs) (omega (arith, places-length q bs))) same))
 
   -- ---- the first node
 

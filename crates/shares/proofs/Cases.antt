@@ -7,7 +7,7 @@ use lib.ListN.{getD}
 use Rattle.branch.specs.declared.Bound.the-variants.{Sum}
 use Rattle.branch.specs.Search.{limited}
 use Rattle.branch.specs.Questions.{askFrom}
-use Rattle.model.specs.Model.{Job, Opening, Plan, idle, running, clock, within, listed, table, holdsOne, rounds, comesOut, holding, select, sumAt, sum}
+use Rattle.model.specs.Model.{Job, Opening, Plan, listed, running, clock, within, table, holdsOne, rounds, comesOut, holding, select, sumAt, sum}
 use Rattle.model.specs.Decisions.{heldFrom, accessible}
 use Rattle.model.specs.LowerBound.{leastOf, choiceOf, offers, blocks, stopCost, undecidedFees, boundOf}
 use Rattle.model.specs.Promise.{optimum, answerOf}
@@ -46,30 +46,30 @@ twice = record {
 }
 
 pub fair : isFair job halves ≡ true
-unfolding allBelow borne heldFrom accessible holding comesOut rounds holdsOne listed table select sumAt offers leastOf choiceOf within clock running idle
+unfolding allBelow borne heldFrom accessible holding comesOut rounds holdsOne listed table select sumAt offers leastOf choiceOf within clock running
 fair = refl
 
 unfair : isFair job (alike ((0 ∷ 0 ∷ []) ∷ (4 ∷ 5 ∷ []) ∷ (3 ∷ 3 ∷ []) ∷ [])) ≡ false
-unfolding allBelow borne heldFrom accessible holding comesOut rounds holdsOne listed table select sumAt offers leastOf choiceOf within clock running idle
+unfolding allBelow borne heldFrom accessible holding comesOut rounds holdsOne listed table select sumAt offers leastOf choiceOf within clock running
 unfair = refl
 
 -- a share of a removal that the part does not need counts nothing
 not-needed : isFair job (alike ((0 ∷ 0 ∷ []) ∷ (4 ∷ 5 ∷ []) ∷ (2 ∷ 3 ∷ []) ∷ (0 ∷ 7 ∷ []) ∷ [])) ≡ true
-unfolding allBelow borne heldFrom accessible holding comesOut rounds holdsOne listed table select sumAt offers leastOf choiceOf within clock running idle
+unfolding allBelow borne heldFrom accessible holding comesOut rounds holdsOne listed table select sumAt offers leastOf choiceOf within clock running
 not-needed = refl
 
 floor-by-fees : boundOf job [] ≡ Sum 25
-unfolding boundOf stopCost undecidedFees blocks heldFrom accessible holding comesOut rounds holdsOne listed table select sumAt offers leastOf choiceOf within clock running idle
+unfolding boundOf stopCost undecidedFees blocks heldFrom accessible holding comesOut rounds holdsOne listed table select sumAt offers leastOf choiceOf within clock running
 floor-by-fees = refl
 
 floor-by-shares : sharedBound job halves [] ≡ Sum 41
-unfolding estimate sharedParts sum blocks heldFrom accessible holding comesOut rounds holdsOne listed table select sumAt offers leastOf choiceOf within clock running idle
+unfolding estimate sharedParts sum blocks heldFrom accessible holding comesOut rounds holdsOne listed table select sumAt offers leastOf choiceOf within clock running
 floor-by-shares = refl
 
 planned : answerOf job 4000 ≡ optimum 19 25 42 twice
-unfolding answerOf limited askFrom boundOf stopCost undecidedFees blocks heldFrom accessible holding comesOut rounds holdsOne listed table select sumAt offers leastOf choiceOf within clock running idle
+unfolding answerOf limited askFrom boundOf stopCost undecidedFees blocks heldFrom accessible holding comesOut rounds holdsOne listed table select sumAt offers leastOf choiceOf within clock running
 planned = refl
 
 shared : sharedAnswer job halves 4000 ≡ optimum 13 41 42 twice
-unfolding limited askFrom estimate sharedParts sum blocks heldFrom accessible holding comesOut rounds holdsOne listed table select sumAt offers leastOf choiceOf within clock running idle
+unfolding limited askFrom estimate sharedParts sum blocks heldFrom accessible holding comesOut rounds holdsOne listed table select sumAt offers leastOf choiceOf within clock running
 shared = refl

@@ -13,7 +13,7 @@ use Rattle.branch.specs.declared.Bound.{Bound}
 use Rattle.branch.specs.declared.Bound.the-variants.{Missing, Sum}
 use Rattle.branch.specs.Lower.{add}
 use Rattle.branch.specs.Search.{Tree, NoMore, Bounded, costAt, Incumbent, none, plan, whole, Limited}
-use Rattle.branch.specs.Questions.{Full, done, times, asked}
+use Rattle.branch.specs.Questions.{Full, done, repeated, asked}
 use Rattle.branch.proofs.Asked.{asked-cost, asked-bounded}
 use Rattle.branch.proofs.First.{correct}
 use Rattle.branch.proofs.Lower.{add-zero, add-mono}
@@ -168,4 +168,4 @@ module _ (job : Job) (shares : Shares) (fair : FairShares job shares) where
   pub first-tree : (lift : ℕ → ℕ) → sourcedTree job shares lift 0 (firstLife job shares) ≡ treeBy job (liftedBound job shares lift)
   first-tree lift =
       let z : n - 0 ≡ n = omega arith in
-      λ i. asked (λ p. first-bound lift p i) (times (z i) (times h done done) done)
+      λ i. asked (λ p. first-bound lift p i) (repeated (z i) (repeated h done done) done)

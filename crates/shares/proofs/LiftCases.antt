@@ -8,7 +8,7 @@ use lib.ListN.{length, getD}
 use Rattle.branch.specs.declared.Bound.the-variants.{Sum}
 use Rattle.branch.specs.Search.{plan, limited}
 use Rattle.branch.specs.Questions.{askFrom}
-use Rattle.model.specs.Model.{idle, running, clock, within, listed, table, holdsOne, rounds, comesOut, holding, select, sumAt, sum}
+use Rattle.model.specs.Model.{listed, running, clock, within, table, holdsOne, rounds, comesOut, holding, select, sumAt, sum}
 use Rattle.model.specs.Decisions.{heldFrom, accessible}
 use Rattle.model.specs.LowerBound.{leastOf, choiceOf, offers, blocks, planAt}
 use Rattle.shares.specs.Shares.{sharedParts, estimate, FairShares}
@@ -25,25 +25,25 @@ use Rattle.shares.proofs.Cases.{job, halves, twice, fair}
 
 -- what the estimate has at most, over all last changes of each part
 tops-0 : tops job halves 0 ≡ 41
-unfolding highest topsFrom sum blocks heldFrom accessible holding comesOut rounds holdsOne listed table select sumAt offers leastOf within clock running idle
+unfolding highest topsFrom sum blocks heldFrom accessible holding comesOut rounds holdsOne listed table select sumAt offers leastOf within clock running
 tops-0 = refl
 
 tops-1 : tops job halves 1 ≡ 34
-unfolding highest topsFrom sum blocks heldFrom accessible holding comesOut rounds holdsOne listed table select sumAt offers leastOf within clock running idle
+unfolding highest topsFrom sum blocks heldFrom accessible holding comesOut rounds holdsOne listed table select sumAt offers leastOf within clock running
 tops-1 = refl
 
 -- level 1, from the cutoff 34 + 1: nothing is found
 search-1 : walkUnder (freeTree job halves (λ k. 0) 1) 35 4000 .incumbent ≡ plan 35 []
-unfolding limited askFrom leastFrom sourcedParts estimateFrom freeUpTo highest topsFrom sum blocks heldFrom accessible holding comesOut rounds holdsOne listed table select sumAt offers leastOf within clock running idle
+unfolding limited askFrom leastFrom sourcedParts estimateFrom freeUpTo highest topsFrom sum blocks heldFrom accessible holding comesOut rounds holdsOne listed table select sumAt offers leastOf within clock running
 search-1 = refl
 
 search-1-ends : walkUnder (freeTree job halves (λ k. 0) 1) 35 4000 .over ≡ false
-unfolding limited askFrom leastFrom sourcedParts estimateFrom freeUpTo highest topsFrom sum blocks heldFrom accessible holding comesOut rounds holdsOne listed table select sumAt offers leastOf within clock running idle
+unfolding limited askFrom leastFrom sourcedParts estimateFrom freeUpTo highest topsFrom sum blocks heldFrom accessible holding comesOut rounds holdsOne listed table select sumAt offers leastOf within clock running
 search-1-ends = refl
 
 -- a level behind: a completion at the estimate is found, so there is nothing to lift
 search-2 : walkUnder (freeTree job halves (λ k. 0) 2) 23 4000 .incumbent ≡ plan 22 (true ∷ true ∷ false ∷ [])
-unfolding limited askFrom leastFrom sourcedParts estimateFrom freeUpTo highest topsFrom sum blocks heldFrom accessible holding comesOut rounds holdsOne listed table select sumAt offers leastOf within clock running idle
+unfolding limited askFrom leastFrom sourcedParts estimateFrom freeUpTo highest topsFrom sum blocks heldFrom accessible holding comesOut rounds holdsOne listed table select sumAt offers leastOf within clock running
 search-2 = refl
 
 abbrev lift : ℕ → ℕ
@@ -75,23 +75,23 @@ lifts = record { each = at; last = refl }
 
 -- the floor is the cost, which is certified at the first node; with shares alone that takes more
 floor-lifted : liftedBound job halves lift [] ≡ Sum 42
-unfolding estimate sharedParts sum blocks heldFrom accessible holding comesOut rounds holdsOne listed table select sumAt offers leastOf choiceOf within clock running idle
+unfolding estimate sharedParts sum blocks heldFrom accessible holding comesOut rounds holdsOne listed table select sumAt offers leastOf choiceOf within clock running
 floor-lifted = refl
 
 certified-lifted : certify (treeBy job (liftedBound job halves lift)) (planAt job) 42 4000 ≡ least 1
-unfolding limited askFrom estimate sharedParts sum blocks heldFrom accessible holding comesOut rounds holdsOne listed table select sumAt offers leastOf choiceOf within clock running idle
+unfolding limited askFrom estimate sharedParts sum blocks heldFrom accessible holding comesOut rounds holdsOne listed table select sumAt offers leastOf choiceOf within clock running
 certified-lifted = refl
 
 certified-shared : certify (treeBy job (sharedBound job halves)) (planAt job) 42 4000 ≡ least 7
-unfolding limited askFrom estimate sharedParts sum blocks heldFrom accessible holding comesOut rounds holdsOne listed table select sumAt offers leastOf choiceOf within clock running idle
+unfolding limited askFrom estimate sharedParts sum blocks heldFrom accessible holding comesOut rounds holdsOne listed table select sumAt offers leastOf choiceOf within clock running
 certified-shared = refl
 
 -- from one more the plan is found
 found-lifted : certify (treeBy job (liftedBound job halves lift)) (planAt job) 43 4000 ≡ cheaper 13 42 twice
-unfolding limited askFrom estimate sharedParts sum blocks heldFrom accessible holding comesOut rounds holdsOne listed table select sumAt offers leastOf choiceOf within clock running idle
+unfolding limited askFrom estimate sharedParts sum blocks heldFrom accessible holding comesOut rounds holdsOne listed table select sumAt offers leastOf choiceOf within clock running
 found-lifted = refl
 
 -- so cutoffs from below pass 42, and end with it
 risen : rising job (liftedBound job halves lift) 4000 (42 ∷ 44 ∷ []) ≡ found 42 twice
-unfolding rising limited askFrom estimate sharedParts sum blocks heldFrom accessible holding comesOut rounds holdsOne listed table select sumAt offers leastOf choiceOf within clock running idle
+unfolding rising limited askFrom estimate sharedParts sum blocks heldFrom accessible holding comesOut rounds holdsOne listed table select sumAt offers leastOf choiceOf within clock running
 risen = refl

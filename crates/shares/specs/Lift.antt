@@ -8,7 +8,7 @@ use Rattle.branch.specs.declared.Bound.{Bound}
 use Rattle.branch.specs.declared.Bound.the-variants.{Sum}
 use Rattle.branch.specs.Lower.{add}
 use Rattle.branch.specs.Search.{NoMore}
-use Rattle.branch.specs.Questions.{Full, done, times}
+use Rattle.branch.specs.Questions.{Full, done, repeated}
 use Rattle.model.specs.Model.{Job}
 use Rattle.model.specs.LowerBound.{inner, nodeAt, stopCost}
 use Rattle.model.specs.Promise.{PlannerAnswer, questions}
@@ -17,7 +17,7 @@ use Rattle.shares.specs.Optimum.{sharedBound, answerBy}
 
 -- the name of a node at level l: the first l openings are decided, with all their removals, and nothing else
 abbrev pub Level : Job → ℕ → List Bool → Type 0
-Level job l p = Full (times l (times (inner job) done done) done) p
+Level job l p = Full (repeated l (repeated (inner job) done done) done) p
 
 -- every full node below a node at level l costs at least f more than that node's estimate
 abbrev pub Lifts : Job → Shares → ℕ → ℕ → Type 0

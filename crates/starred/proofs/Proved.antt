@@ -6,7 +6,7 @@ use Rattle.lines.specs.Parser.{_>>=_, return, inRange, readField, taken, rowAt,
 use Rattle.fault_lines.specs.Fault.{beforeBreak, afterBreak, skipped, faultLine, faultSpan}
 use Rattle.branch.specs.Search.{walk, limited}
 use Rattle.branch.specs.Questions.{askFrom}
-use Rattle.model.specs.Model.{idle, running, clock, within, kept, lastWithin, dueOf, listed, table as places, holdsOne, rounds, comesOut, holding, outBy, select, sumAt, sum, anyHeld}
+use Rattle.model.specs.Model.{listed, running, clock, within, kept, lastWithin, dueOf, table as places, holdsOne, rounds, comesOut, holding, outBy, select, sumAt, sum, anyHeld}
 use Rattle.model.specs.Decisions.{heldFrom, accessible}
 use Rattle.model.specs.LowerBound.{leastOf, choiceOf, offers, blocks, stopCost, undecidedFees, boundOf}
 use Rattle.model.specs.Promise.{answerOf}
@@ -23,10 +23,10 @@ use Rattle.counting.specs.Count.{countedJob, countSaid}
 use Rattle.covers.specs.Grammar as cover
 use Rattle.covers.specs.Views.{meantCover}
 use Rattle.jobs.specs.Valid.{All}
-use Rattle.starred.specs.Table.{Holds, Counts, table, counts}
+use Rattle.starred.specs.Table.{Holds, Counts, cases, counts}
 
-pub proved : All Holds table × All Counts counts
-unfolding table counts bytes decimalIn line joined digits numberFrom startsWith readValue readLine _>>=_ return inRange readField taken rowAt optionalAt ifPresent checked chain times end whole readText beforeBreak afterBreak skipped faultLine faultSpan walk limited askFrom idle running clock within kept lastWithin dueOf listed places holdsOne rounds comesOut holding outBy select sumAt sum anyHeld heldFrom accessible leastOf choiceOf offers blocks stopCost undecidedFees boundOf answerOf firstLate verdictFrom judgedOf job.idle job.idleSteps job.idles job.opening job.openings cover.holder cover.holders cover.inside cover.cover meantCover job.afterLeft job.part job.parts job.body job.rest job.jobLines plan.any plan.part plan.parts plan.visit plan.visits plan.planOf plan.planLines plan.readPlan visitText planText chosen visitsOf planLinesOf faultLines searchLines plannedLines costLines unkeptLines judgeSaid planSaid eachReaches eachKept countFrom openCount countedJob countSaid
+pub proved : All Holds cases × All Counts counts
+unfolding cases counts bytes decimalIn line joined digits numberFrom startsWith readValue readLine _>>=_ return inRange readField taken rowAt optionalAt ifPresent checked chain times end whole readText beforeBreak afterBreak skipped faultLine faultSpan walk limited askFrom listed running clock within kept lastWithin dueOf places holdsOne rounds comesOut holding outBy select sumAt sum anyHeld heldFrom accessible leastOf choiceOf offers blocks stopCost undecidedFees boundOf answerOf firstLate verdictFrom judgedOf job.idle job.idleSteps job.idles job.opening job.openings cover.holder cover.holders cover.inside cover.cover meantCover job.afterLeft job.part job.parts job.body job.rest job.jobLines plan.any plan.part plan.parts plan.visit plan.visits plan.planOf plan.planLines plan.readPlan visitText planText chosen visitsOf planLinesOf faultLines searchLines plannedLines costLines unkeptLines judgeSaid planSaid eachReaches eachKept countFrom openCount countedJob countSaid
 proved = (
   ((refl, refl, refl, refl, refl, refl), ((refl, refl, refl, refl, refl, refl), ((refl, refl, refl, refl, refl, refl), ((refl, refl, refl, refl, refl, refl), ((refl, refl, refl, refl, refl, refl), ((refl, refl, refl, refl, refl, refl), ((refl, refl, refl, refl, refl, refl), ((refl, refl, refl, refl, refl, refl), ((refl, refl, refl, refl, refl, refl), ((refl, refl, refl, refl, refl, refl), ((refl, refl, refl, refl, refl, refl), ((refl, refl, refl, refl, refl, refl), ((refl, refl, refl, refl, refl, refl), ((refl, refl, refl, refl, refl, refl), ((refl, refl, refl, refl, refl, refl), ((refl, refl, refl, refl, refl, refl), ((refl, refl, refl, refl, refl, refl), ((refl, refl, refl, refl, refl, refl), ((refl, refl, refl, refl, refl, refl), ((refl, refl, refl, refl, refl, refl), ((refl, refl, refl, refl, refl, refl), tt))))))))))))))))))))),
   ((refl, refl, refl, refl, refl), ((refl, refl, refl, refl, refl), ((refl, refl, refl, refl, refl), ((refl, refl, refl, refl, refl), ((refl, refl, refl, refl, refl), ((refl, refl, refl, refl, refl), tt)))))),

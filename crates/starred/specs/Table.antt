@@ -68,8 +68,8 @@ Counts c =
     × (take (said .«fault_length») (drop (said .«fault_start») (c .job)) ≡ c .fault)
 
 -- C1 to C12, and cases of ours of E1, E5 and E7
-unfoldable pub table : List Case
-table =
+unfoldable pub cases : List Case
+cases =
     -- 01's job
     record {
       call = planner;

@@ -8,7 +8,7 @@ use lib.ListN.{length}
 use Rattle.branch.specs.declared.Bound.{Bound}
 use Rattle.branch.specs.declared.Bound.the-variants.{Missing, Sum}
 use Rattle.branch.specs.Search.{Tree, Limited, limited, onward}
-use Rattle.model.specs.Decisions.{joined}
+use Rattle.model.specs.Decisions.{concat}
 use Rattle.lane_rows.specs.Layout.{laneCount, inf}
 use Rattle.lane_rows.specs.Rows.{Recalled}
 use Rattle.held_rows.specs.Held.{HeldSheet, held}
@@ -71,10 +71,10 @@ module _ {sheet : HeldSheet} {ds : List (List Bool)} {t u w v : List ℕ} {p : N
   -- it is walked on from
   pub first-open : {q : Node} {left : List (List Bool)} {e : Bound} {due : ℕ} (d : DueAt (treeAt sheet q left) e due) (L : ℕ) (s r : Search) (y : ℕ) {w'' v'' : List ℕ}
       → openS L due e s ≡ Sum y → Walked sheet left t w' w'' v v'' L q (countedS s) r → q .rows ≡ p .rows → written p ≤ written q → (Pending t w'' v'' q → Pending t w'' v'' p)
-      → Passed sheet t w w'' v v'' p L (treeAt sheet q left) (joined left) s r
+      → Passed sheet t w w'' v v'' p L (treeAt sheet q left) (concat left) s r
   first-open {q} {left} d L s r y {w''} {v''} f z e h pe =
       record {
-        search = z .search ∙ opened d (joined left) L (bestName (held sheet) (length (sheet .positions)) v) s y f .on;
+        search = z .search ∙ opened d (concat left) L (bestName (held sheet) (length (sheet .positions)) v) s y f .on;
         frame = frame-then (omega (arith, e)) h (frame-looked v (written p) k) (z .frame);
         pending = pe (z .pending);
       }
@@ -82,12 +82,12 @@ module _ {sheet : HeldSheet} {ds : List (List Bool)} {t u w v : List ℕ} {p : N
 -- ---- both branches
 
 module _ {sheet : HeldSheet} {ds : List (List Bool)} {t w w' v v' : List ℕ} {p : Node} {x L : ℕ} {T : Tree} {name : List Bool} {s r : Search} (z : Passed sheet t w w' v v' p L T name s r) (q : Node) (right : List (List Bool)) {due : ℕ}
-    (d : DueAt (treeAt sheet q right) (Sum x) due) (both : (st : Limited) → onward L (treeAt sheet p ds) (joined ds) st ≡ limited L (treeAt sheet q right) (joined right) (limited L T name st)) where
+    (d : DueAt (treeAt sheet q right) (Sum x) due) (both : (st : Limited) → onward L (treeAt sheet p ds) (concat ds) st ≡ limited L (treeAt sheet q right) (concat right) (limited L T name st)) where
   -- the second node is passed by
   pub second-closed : openS L due (Sum x) r ≡ Missing → Walked sheet ds t w w' v v' L p s (reachedS L r)
   second-closed f =
       record {
-        search = closed d (joined right) L (bestName (held sheet) (length (sheet .positions)) v') r f ∙ ap (limited L (treeAt sheet q right) (joined right)) (z .search) ∙ sym (both (view L sheet v s));
+        search = closed d (concat right) L (bestName (held sheet) (length (sheet .positions)) v') r f ∙ ap (limited L (treeAt sheet q right) (concat right)) (z .search) ∙ sym (both (view L sheet v s));
         frame = z .frame;
         pending = z .pending;
       }
@@ -98,9 +98,9 @@ module _ {sheet : HeldSheet} {ds : List (List Bool)} {t w w' v v' : List ℕ} {p
   second-open y r' {w''} {v₁} {v''} f fr same k e h pe =
       record {
         search = k .search
-            ∙ ap (onward L (treeAt sheet q right) (joined right)) (best-kept L sheet v' v₁ (countedS r) same)
-            ∙ opened d (joined right) L (bestName (held sheet) (length (sheet .positions)) v') r y f .on
-            ∙ ap (limited L (treeAt sheet q right) (joined right)) (z .search) ∙ sym (both (view L sheet v s));
+            ∙ ap (onward L (treeAt sheet q right) (concat right)) (best-kept L sheet v' v₁ (countedS r) same)
+            ∙ opened d (concat right) L (bestName (held sheet) (length (sheet .positions)) v') r y f .on
+            ∙ ap (limited L (treeAt sheet q right) (concat right)) (z .search) ∙ sym (both (view L sheet v s));
         frame = frame-then (omega arith) (omega arith) (z .frame) (frame-then (omega (arith, e)) h fr (k .frame));
         pending = pe (k .pending);
       }
@@ -111,7 +111,7 @@ pub rests-walked : {sheet : HeldSheet} {ds : List (List Bool)} {t u w w' w'' v v
     → Walked sheet ds t w' w'' v' v'' L (settledN p n) s r → Walked sheet ds t w w'' v v'' L p s r
 rests-walked {sheet} {ds} {t} {u} {w} {w'} {w''} {v} {v'} {v''} {p} {x} {g} {n} {L} {s} a same z =
     record {
-      search = z .search ∙ ap (onward L (treeAt sheet p ds) (joined ds)) (best-kept L sheet v v' s same);
+      search = z .search ∙ ap (onward L (treeAt sheet p ds) (concat ds)) (best-kept L sheet v v' s same);
       frame = frame-then (a .rows) (a .wrote) (a .frame) (z .frame);
       pending = a .after w'' v'' (z .frame);
     }

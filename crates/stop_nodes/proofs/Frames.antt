@@ -7,7 +7,7 @@ use native.Mathlib.Omega.{arith}
 use lib.ListN.{length, getD, set, length-set}
 use lib.Seq.{getD-set-other}
 use Rattle.least.specs.Filled.{FilledBy}
-use Rattle.model.specs.Decisions.{joined}
+use Rattle.model.specs.Decisions.{concat}
 use Rattle.lane_rows.specs.Layout.{laneCount, reachBase, pricePlace, lanesIn}
 use Rattle.lane_rows.specs.Rows.{Kept, Memo, Recalled}
 use Rattle.lane_rows.proofs.Memory.{lane-kept, recalled-none, recalled-then}
@@ -80,7 +80,7 @@ keep-frame t w v v' n k f m h g e =
 pub best-kept : (limit : ℕ) (sheet : HeldSheet) (v v' : List ℕ) (s : Search) → ((i : ℕ) → i < length (sheet .positions) → bestIn v' i ≡ bestIn v i) → view limit sheet v' s ≡ view limit sheet v s
 best-kept limit sheet v v' s e =
     let r = blocks-same (held sheet) (bestIn v') (bestIn v) (length (sheet .positions)) (s .mask) e in
-    ap (λ (l : List (List Bool)). viewOf limit (λ (m : ℕ). joined l) s) r
+    ap (λ (l : List (List Bool)). viewOf limit (λ (m : ℕ). concat l) s) r
 
 pub written-kept : {sheet : HeldSheet} {bs : List (List Bool)} {t w w' v v' : List ℕ} {rows at m : ℕ} → length (sheet .needs) ≤ laneCount → Frame t w w' v v' rows at → Written sheet bs t w v rows at m → Written sheet bs t w' v' rows at m
 written-kept {sheet} {bs} {t} {w} {w'} {v} {v'} {rows} {at} {m} few f a =

@@ -9,11 +9,11 @@ use lib.ListN.{length, getD, length-append}
 use Rattle.branch.specs.declared.Bound.{Bound}
 use Rattle.branch.specs.declared.Bound.the-variants.{Sum}
 use Rattle.branch.specs.Lower.{add}
-use Rattle.branch.specs.Search.{none, plan, Limited, kept, limited, onward}
+use Rattle.branch.specs.Search.{none, plan, Limited, withBest, limited, onward}
 use Rattle.branch.specs.Questions.{leftAt}
 use Rattle.branch.proofs.Bounds.{sum-inj}
 use Rattle.branch.proofs.Steps.{left-bound, on-full, on-opening}
-use Rattle.model.specs.Decisions.{joined}
+use Rattle.model.specs.Decisions.{concat}
 use Rattle.model.specs.LastYes.{lastYes}
 use Rattle.model.proofs.Blocks.{accessible-none}
 use Rattle.model.proofs.LastYes.{last-no}
@@ -59,7 +59,7 @@ module _ {sheet : HeldSheet} {ds : List (List Bool)} {t u w v : List ℕ} {p : N
 
   -- ---- a full node
 
-  pub full-bound : p .at ≡ length (sheet .positions) → heldBound sheet (joined ds) ≡ Sum (p .spent + x)
+  pub full-bound : p .at ≡ length (sheet .positions) → heldBound sheet (concat ds) ≡ Sum (p .spent + x)
   full-bound e =
       let z : paidIn sheet ds + x + g ≡ p .spent + x = omega (arith, a .spent, a .cheap, e) in
       opening-bound sheet (p .at) ds (written-whole wr) (a .inside) ∙ (λ i. add (add (Sum (paidIn sheet ds)) (a .sums i)) (a .term i)) ∙ ap Sum z
@@ -68,7 +68,7 @@ module _ {sheet : HeldSheet} {ds : List (List Bool)} {t u w v : List ℕ} {p : N
   full-fits = omega (arith, a .low, a .poor, a .inside, a .tables .few, a .opening o .next, a .holders .parts)
 
   pub full-kept : (v' : List ℕ) (L : ℕ) (s : Search) → p .at ≡ length (sheet .positions) → FilledBy bestPlace (λ (i : ℕ). getD v (removedPlace i) 0) 64 v v'
-      → view L sheet v' (keptS s (p .spent + x) (p .mask)) ≡ onward L (treeAt sheet p ds) (joined ds) (view L sheet v s)
+      → view L sheet v' (keptS s (p .spent + x) (p .mask)) ≡ onward L (treeAt sheet p ds) (concat ds) (view L sheet v s)
   full-kept v' L s e f =
       let h = held sheet in
       let n = length (sheet .positions) in
@@ -77,9 +77,9 @@ module _ {sheet : HeldSheet} {ds : List (List Bool)} {t u w v : List ℕ} {p : N
       let left : h - p .next ≡ 0 = omega (arith, a .opening o .next) in
       let end : n - p .at ≡ 0 = omega (arith, e) in
       let st = view L sheet v s in
-      (λ i. record { count = st .count; over = st .over; incumbent = cond (lt-ltb (p .spent + x) noCost full-fits i) (plan (p .spent + x) (joined (same i))) none })
-      ∙ ap (λ (b : Bound). kept b (joined ds) st) (sym (full-bound e))
-      ∙ sym (ap₂ (λ (k m : ℕ). onward L (leftAt (heldBound sheet) h k m (joined ds)) (joined ds) st) left end ∙ on-full (heldBound sheet) L h (joined ds) st)
+      (λ i. record { count = st .count; over = st .over; incumbent = cond (lt-ltb (p .spent + x) noCost full-fits i) (plan (p .spent + x) (concat (same i))) none })
+      ∙ ap (λ (b : Bound). withBest b (concat ds) st) (sym (full-bound e))
+      ∙ sym (ap₂ (λ (k m : ℕ). onward L (leftAt (heldBound sheet) h k m (concat ds)) (concat ds) st) left end ∙ on-full (heldBound sheet) L h (concat ds) st)
 
   pub full-walked : (v' : List ℕ) (L : ℕ) (s : Search) → p .at ≡ length (sheet .positions) → FilledBy bestPlace (λ (i : ℕ). getD v (removedPlace i) 0) 64 v v' → Walked sheet ds t w w v v' L p s (keptS s (p .spent + x) (p .mask))
   full-walked v' L s e f =
@@ -138,7 +138,7 @@ module _ {sheet : HeldSheet} {ds : List (List Bool)} {t u w v : List ℕ} {p : N
     -- its fees, removals and term
     pub no-due : (h y r : ℕ) → Told sheet (noBlocks ds) h y → (h < inf → h ≤ top * (length (sheet .positions) - (p .at + 1))) → y ≤ laneCount * inf → DueAt (treeAt sheet (noN p r) (noBlocks ds)) (sumWhere h y) (p .spent + h)
     no-due h y r told cheap low =
-        let b = left-bound (heldBound sheet) 0 (held sheet) (held sheet - p .next) (length (sheet .positions) - (p .at + 1)) (joined (noBlocks ds)) ∙ ap (heldBound sheet) (sym (no-joined ds)) ∙ no-bound sheet (p .at) ds (written-whole wr) less in
+        let b = left-bound (heldBound sheet) 0 (held sheet) (held sheet - p .next) (length (sheet .positions) - (p .at + 1)) (concat (noBlocks ds)) ∙ ap (heldBound sheet) (sym (no-joined ds)) ∙ no-bound sheet (p .at) ds (written-whole wr) less in
         due-where (treeAt sheet (noN p r) (noBlocks ds)) (p .spent + h) h y
         (λ l. b ∙ told .none l)
         (λ l. b ∙ told .bound l ∙ ap Sum (omega (arith, no-paid)))
@@ -203,7 +203,7 @@ module _ {sheet : HeldSheet} {ds : List (List Bool)} {t u w v : List ℕ} {p : N
       yes-due r =
           let z : paidIn sheet (yesBlocks ds) + x + k ≡ paying + k + x = omega (arith, yes-paid) in
           due-there (treeAt sheet (yesN p r paying) (yesBlocks ds)) (paying + k) x
-          (left-bound (heldBound sheet) 0 (held sheet) (held sheet - 0) (length (sheet .positions) - (p .at + 1)) (joined (yesBlocks ds)) ∙ ap (heldBound sheet) (sym (stop-joined ds [])) ∙ stop-bound sheet (p .at) ds (written-whole wr) [] less (omega arith)
+          (left-bound (heldBound sheet) 0 (held sheet) (held sheet - 0) (length (sheet .positions) - (p .at + 1)) (concat (yesBlocks ds)) ∙ ap (heldBound sheet) (sym (stop-joined ds [])) ∙ stop-bound sheet (p .at) ds (written-whole wr) [] less (omega arith)
           ∙ (λ i. add (add (Sum (paidIn sheet (yesBlocks ds))) ((sums-yes sheet ds ∙ a .sums) i)) (yes-coded-at .0 i)) ∙ ap Sum z)
           yes-fits
 
@@ -244,8 +244,8 @@ module _ {sheet : HeldSheet} {ds : List (List Bool)} {t u w v : List ℕ} {p : N
           }
 
     -- the search of both
-    pub both-openings : (L r paying : ℕ) (st : Limited) → onward L (treeAt sheet p ds) (joined ds) st
-        ≡ limited L (treeAt sheet (yesN p r paying) (yesBlocks ds)) (joined (yesBlocks ds)) (limited L (treeAt sheet (noN p r) (noBlocks ds)) (joined (noBlocks ds)) st)
+    pub both-openings : (L r paying : ℕ) (st : Limited) → onward L (treeAt sheet p ds) (concat ds) st
+        ≡ limited L (treeAt sheet (yesN p r paying) (yesBlocks ds)) (concat (yesBlocks ds)) (limited L (treeAt sheet (noN p r) (noBlocks ds)) (concat (noBlocks ds)) st)
     both-openings L r paying st =
         let h = held sheet in
         let n = length (sheet .positions) - (p .at + 1) in
@@ -253,6 +253,6 @@ module _ {sheet : HeldSheet} {ds : List (List Bool)} {t u w v : List ℕ} {p : N
         let more : length (sheet .positions) - p .at ≡ suc n = omega arith in
         let all : h - 0 ≡ h = omega arith in
         let B = heldBound sheet in
-        ap₂ (λ (k m : ℕ). onward L (leftAt B h k m (joined ds)) (joined ds) st) left more
-        ∙ on-opening B L h n (joined ds) st
+        ap₂ (λ (k m : ℕ). onward L (leftAt B h k m (concat ds)) (concat ds) st) left more
+        ∙ on-opening B L h n (concat ds) st
         ∙ (λ i. limited L (leftAt B h (sym all i) n (stop-joined ds [] i)) (stop-joined ds [] i) (limited L (leftAt B h (sym left i) n (no-joined ds i)) (no-joined ds i) st))

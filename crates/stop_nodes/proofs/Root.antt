@@ -14,7 +14,7 @@ use Rattle.branch.specs.Questions.{leftAt}
 use Rattle.branch.proofs.Steps.{left-bound}
 use Rattle.model.specs.Model.{sumAt}
 use Rattle.model.specs.LowerBound.{blocks}
-use Rattle.model.specs.Decisions.{joined}
+use Rattle.model.specs.Decisions.{concat}
 use Rattle.model.specs.LastYes.{lastYes}
 use Rattle.least.specs.Filled.{FilledBy}
 use Rattle.lane_rows.specs.Layout.{laneCount, top, inf, suffixBase, termPlace, lanesIn}
@@ -87,7 +87,7 @@ module _ (sheet : HeldSheet) (t u w : List ℕ) (ta : Tables (plain sheet) t) (h
 
   -- its bound
   pub bound-first : heldBound sheet [] ≡ add (Sum due) (sumWhere due firsts)
-  unfolding joined
+  unfolding concat
   bound-first = opening-bound sheet 0 [] tt (omega arith) ∙ go (sumWhere due firsts) refl
     where
       go : (b : Bound) → sumWhere due firsts ≡ b → boundIn sheet [] ≡ add (Sum due) b
@@ -95,7 +95,7 @@ module _ (sheet : HeldSheet) (t u w : List ℕ) (ta : Tables (plain sheet) t) (h
       go (Sum x) e = (λ i. add (add (Sum (paid-first sheet i)) ((sums-are ∙ e) i)) (term-is x e .0 i)) ∙ ap Sum (omega arith)
 
   pub root-due : (h : ℕ) → DueAt (treeAt sheet (rootN h) []) (sumWhere due firsts) due
-  unfolding joined
+  unfolding concat
   root-due h =
       let b = left-bound (heldBound sheet) 0 (held sheet) (held sheet - h) (length (sheet .positions) - 0) [] ∙ bound-first in
       record {
@@ -147,9 +147,9 @@ fresh-view limit sheet v =
     λ i. record { count = z i; over = le-ltb limit 0 (omega arith) i; incumbent = none }
 
 -- what is handed over of a last state
-pub root-ends : (limit : ℕ) (sheet : HeldSheet) (v v' : List ℕ) (h : ℕ) (s : Search) (floor : Bound) → h ≡ held sheet → floor ≡ heldBound sheet [] → view limit sheet v' s ≡ limited limit (treeAt sheet (rootN h) []) (joined []) (view limit sheet v fresh)
+pub root-ends : (limit : ℕ) (sheet : HeldSheet) (v v' : List ℕ) (h : ℕ) (s : Search) (floor : Bound) → h ≡ held sheet → floor ≡ heldBound sheet [] → view limit sheet v' s ≡ limited limit (treeAt sheet (rootN h) []) (concat []) (view limit sheet v fresh)
     → Solves sheet limit v' (solvedS floor limit s)
-unfolding joined
+unfolding concat
 root-ends limit sheet v v' h s floor n f e =
     let z : held sheet - h ≡ 0 = omega (arith, n) in
     let y : length (sheet .positions) - 0 ≡ length (sheet .positions) = omega arith in

@@ -12,7 +12,7 @@ use Rattle.branch.specs.Search.{snoc, Limited, limited, onward}
 use Rattle.branch.specs.Questions.{leftAt}
 use Rattle.branch.proofs.Bounds.{sum-inj}
 use Rattle.branch.proofs.Steps.{left-bound, on-decision}
-use Rattle.model.specs.Decisions.{joined}
+use Rattle.model.specs.Decisions.{concat}
 use Rattle.model.proofs.Blocks.{Wholes}
 use Rattle.lane_rows.specs.Layout.{laneCount, top, inf, lanesIn}
 use Rattle.lane_rows.specs.Tables.{Coded, sumWhere}
@@ -85,7 +85,7 @@ module _ {sheet : HeldSheet} {ds : List (List Bool)} {t u w v : List ℕ} {p : N
   wholes = subst (λ (k : ℕ). Wholes (held sheet) k bs) (sym (stop .before .size)) (written-whole (stop .before))
 
   -- the name of a node below
-  more-name : (b : Bool) → snoc (joined here) b ≡ joined (moreBlocks bs rs b)
+  more-name : (b : Bool) → snoc (concat here) b ≡ concat (moreBlocks bs rs b)
   more-name b = ap (λ (l : List Bool). snoc l b) (sym (stop-joined bs rs)) ∙ stop-more bs rs b ∙ stop-joined bs (snoc rs b)
 
   -- what is asked to look at it
@@ -105,7 +105,7 @@ module _ {sheet : HeldSheet} {ds : List (List Bool)} {t u w v : List ℕ} {p : N
     more-rs : (b : Bool) → length (snoc rs b) ≤ held sheet
     more-rs b = simp length-append (omega (arith, open-rs))
 
-    more-bound : (b : Bool) → heldBound sheet (joined (moreBlocks bs rs b)) ≡ boundIn sheet (moreBlocks bs rs b)
+    more-bound : (b : Bool) → heldBound sheet (concat (moreBlocks bs rs b)) ≡ boundIn sheet (moreBlocks bs rs b)
     more-bound b = ap (heldBound sheet) (sym (stop-joined bs (snoc rs b))) ∙ stop-bound sheet (length bs) bs wholes (snoc rs b) few (more-rs b)
 
     -- ---- not removed
@@ -155,7 +155,7 @@ module _ {sheet : HeldSheet} {ds : List (List Bool)} {t u w v : List ℕ} {p : N
 
     pub stays-due : (set h y : ℕ) → Told sheet (moreBlocks bs rs false) h y → (h < inf → h ≤ top * (length (sheet .positions) - p .at)) → y ≤ laneCount * inf → DueAt (treeAt sheet (staysN p set) (moreBlocks bs rs false)) (sumWhere h y) (p .spent + h)
     stays-due set h y told cheap low =
-        let b = left-bound (heldBound sheet) 0 (held sheet) (held sheet - (p .next + 1)) (length (sheet .positions) - p .at) (joined (moreBlocks bs rs false)) ∙ more-bound false in
+        let b = left-bound (heldBound sheet) 0 (held sheet) (held sheet - (p .next + 1)) (length (sheet .positions) - p .at) (concat (moreBlocks bs rs false)) ∙ more-bound false in
         due-where (treeAt sheet (staysN p set) (moreBlocks bs rs false)) (p .spent + h) h y
         (λ l. b ∙ told .none l)
         (λ l. b ∙ told .bound l ∙ ap Sum (omega (arith, stays-paid)))
@@ -212,7 +212,7 @@ module _ {sheet : HeldSheet} {ds : List (List Bool)} {t u w v : List ℕ} {p : N
       out-due =
           let z : paidIn sheet (moreBlocks bs rs true) + x + g ≡ paying + g + x = omega (arith, out-paid) in
           due-there (treeAt sheet (outN p paying) (moreBlocks bs rs true)) (paying + g) x
-          (left-bound (heldBound sheet) 0 (held sheet) (held sheet - (p .next + 1)) (length (sheet .positions) - p .at) (joined (moreBlocks bs rs true)) ∙ more-bound true
+          (left-bound (heldBound sheet) 0 (held sheet) (held sheet - (p .next + 1)) (length (sheet .positions) - p .at) (concat (moreBlocks bs rs true)) ∙ more-bound true
           ∙ (λ i. add (add (Sum (paidIn sheet (moreBlocks bs rs true))) ((sums-removed sheet bs rs ∙ sums-here) i)) ((term-removed sheet bs rs ∙ term-here) i)) ∙ ap Sum z)
           out-fits
 
@@ -250,14 +250,14 @@ module _ {sheet : HeldSheet} {ds : List (List Bool)} {t u w v : List ℕ} {p : N
           }
 
     -- the search of both
-    pub both-removals : (L set paying : ℕ) (st : Limited) → onward L (treeAt sheet p ds) (joined ds) st
-        ≡ limited L (treeAt sheet (outN p paying) (moreBlocks bs rs true)) (joined (moreBlocks bs rs true)) (limited L (treeAt sheet (staysN p set) (moreBlocks bs rs false)) (joined (moreBlocks bs rs false)) st)
+    pub both-removals : (L set paying : ℕ) (st : Limited) → onward L (treeAt sheet p ds) (concat ds) st
+        ≡ limited L (treeAt sheet (outN p paying) (moreBlocks bs rs true)) (concat (moreBlocks bs rs true)) (limited L (treeAt sheet (staysN p set) (moreBlocks bs rs false)) (concat (moreBlocks bs rs false)) st)
     both-removals L set paying st =
         let h = held sheet in
         let n = length (sheet .positions) - p .at in
         let k = h - (p .next + 1) in
         let more : h - p .next ≡ suc k = omega arith in
         let B = heldBound sheet in
-        (λ i. onward L (leftAt B h (more i) n (joined (stop .same i))) (joined (stop .same i)) st)
-        ∙ on-decision B L h k n (joined here) st
+        (λ i. onward L (leftAt B h (more i) n (concat (stop .same i))) (concat (stop .same i)) st)
+        ∙ on-decision B L h k n (concat here) st
         ∙ (λ i. limited L (leftAt B h k n (more-name true i)) (more-name true i) (limited L (leftAt B h k n (more-name false i)) (more-name false i) st))

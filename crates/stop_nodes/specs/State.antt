@@ -9,7 +9,7 @@ use Rattle.branch.specs.declared.Bound.{Bound}
 use Rattle.branch.specs.declared.Bound.the-variants.{Missing, Sum}
 use Rattle.branch.specs.Search.{Tree, none, plan, Limited, onward, atMost}
 use Rattle.branch.specs.Questions.{leftAt}
-use Rattle.model.specs.Decisions.{joined}
+use Rattle.model.specs.Decisions.{concat}
 use Rattle.lane_rows.specs.Layout.{laneCount, top, inf}
 use Rattle.lane_rows.specs.Tables.{sumWhere, Tables}
 use Rattle.lane_rows.specs.Rows.{Memo, Recalled}
@@ -40,7 +40,7 @@ bestIn v i = getD v (bestPlace i) 0
 
 -- the incumbent's name
 abbrev pub bestName : ℕ → ℕ → List ℕ → ℕ → List Bool
-bestName h n v m = joined (blocksOf h (bestIn v) n m)
+bestName h n v m = concat (blocksOf h (bestIn v) n m)
 
 -- the state as the search has it, with a limit, where there are n openings and h removals at each stop
 abbrev pub view : ℕ → HeldSheet → List ℕ → Search → Limited
@@ -74,7 +74,7 @@ written p = cond (p .owed) (p .at - 1) (p .at)
 
 -- what is left to ask at a node whose blocks are ds
 abbrev pub treeAt : HeldSheet → Node → List (List Bool) → Tree
-treeAt sheet p ds = leftAt (heldBound sheet) (held sheet) (held sheet - p .next) (length (sheet .positions) - p .at) (joined ds)
+treeAt sheet p ds = leftAt (heldBound sheet) (held sheet) (held sheet - p .next) (length (sheet .positions) - p .at) (concat ds)
 
 -- ---- what the walk is given
 
@@ -149,7 +149,7 @@ pub record Frame (t w w' v v' : List ℕ) (n k : ℕ) : Type 0 where
 
 -- the walk on from the node p, whose blocks are ds: the search's, and what it keeps
 pub record Walked (sheet : HeldSheet) (ds : List (List Bool)) (t w w' v v' : List ℕ) (limit : ℕ) (p : Node) (s r : Search) : Type 0 where
-  pub search : view limit sheet v' r ≡ onward limit (treeAt sheet p ds) (joined ds) (view limit sheet v s)
+  pub search : view limit sheet v' r ≡ onward limit (treeAt sheet p ds) (concat ds) (view limit sheet v s)
   pub frame : Frame t w w' v v' (p .rows) (written p)
   pub pending : Pending t w' v' p
 

@@ -12,7 +12,7 @@ use lib.ListN.{length, getD, length-append}
 use Rattle.branch.specs.declared.Bound.{Bound}
 use Rattle.branch.specs.declared.Bound.the-variants.{Missing, Sum}
 use Rattle.branch.specs.Lower.{add, total}
-use Rattle.branch.specs.Search.{snoc, Limited, kept, onward}
+use Rattle.branch.specs.Search.{snoc, Limited, withBest, onward}
 use Rattle.branch.specs.Label.{treeOf, limitedFrom, openFrom}
 use Rattle.branch.proofs.Bounds.{no-sum, sum-inj}
 use Rattle.branch.proofs.Steps.{boundAt, open-full, open-both}
@@ -260,7 +260,7 @@ fits sheet t w p stop x h = omega (arith, h .low x refl, h .poor, h .inside, h .
 pub full-walked : (est : List Bool → Bound) (L n e : ℕ) (p : Node) (s : Search) → est (decided p) ≡ Sum e → e < noCost → p .at ≡ n
     → view L n (keptS s e (p .mask)) ≡ openFrom est L (n - p .at) (decided p) (view L n s)
 full-walked est L n e p s f h q =
-    rw (sym q, lt-ltb e noCost h) (sym (open-full est L (p .at - p .at) (decided p) (view L (p .at) s) (omega arith) ∙ ap (λ (b : Bound). kept b (decided p) (view L (p .at) s)) f))
+    rw (sym q, lt-ltb e noCost h) (sym (open-full est L (p .at - p .at) (decided p) (view L (p .at) s) (omega arith) ∙ ap (λ (b : Bound). withBest b (decided p) (view L (p .at) s)) f))
 
 -- both children walked, from what the two calls say
 pub both-walked : (est : List Bool → Bound) (L n : ℕ) (p : Node) (r fee : ℕ) (s r₁ r₂ : Limited) → p .at < n

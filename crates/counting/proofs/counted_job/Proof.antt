@@ -1,7 +1,7 @@
 -- `counted_job`: a job with a holder is refused, and any other counted. By the test.
 use mathlib.Core.Path.{refl, sym, ap, _∙_}
 use borrow.Author.Needs.{needs}
-use Rattle.counting.specs.Count.{countOf, countedJob}
+use Rattle.counting.specs.Count.{countGiven, countedJob}
 use Rattle.counting.proofs.counted_job.Statement.{statement}
 use Rattle.counting.proofs.counted_job.Tie as tie
 
@@ -17,7 +17,7 @@ count-job-requires c κs = search needs
 
 returns-2 : tie.Need-returns-2
 unfolding countedJob
-returns-2 c = let e = sym (c .before .before .has-holder .ensures) ∙ c .before .if1 .left in rw e (ap countOf (c .count-job .ensures))
+returns-2 c = let e = sym (c .before .before .has-holder .ensures) ∙ c .before .if1 .left in rw e (ap countGiven (c .count-job .ensures))
 
 pub counted-job-spec : {M : Type 1} → statement M
 counted-job-spec = tie.close (tie.spec has-holder-requires returns count-job-requires returns-2)

@@ -14,7 +14,7 @@ use lib.Seq.{getD-set-same, getD-set-other}
 use Rattle.branch.specs.Search.{Limited, limited, onward}
 use Rattle.branch.specs.declared.Bound.the-variants.{Sum}
 use Rattle.branch.proofs.Bounds.{sum-inj}
-use Rattle.model.specs.Decisions.{joined}
+use Rattle.model.specs.Decisions.{concat}
 use Rattle.lane_rows.specs.Layout.{laneCount, top, inf, suffixBase, feePlace, lanesIn}
 use Rattle.lane_rows.specs.Tables.{sumWhere}
 use Rattle.lane_rows.specs.Rows.{lane, sumLanes}
@@ -263,7 +263,7 @@ module _ (t : ℕ) (c : Tested t) (sheet : HeldSheet) (ds : List (List Bool)) (h
 
   -- what the first branch does
   abbrev Passing : List ℕ → List ℕ → Search → Type 0
-  Passing w v r = let a = start t c .args in Passed sheet (a .t .now) (a .w .now) w (a .v .now) v (a .p) (a .limit) (treeAt sheet (staysN (a .p) (shut t (termed t c))) (more false)) (joined (more false)) (a .s) r
+  Passing w v r = let a = start t c .args in Passed sheet (a .t .now) (a .w .now) w (a .v .now) v (a .p) (a .limit) (treeAt sheet (staysN (a .p) (shut t (termed t c))) (more false)) (concat (more false)) (a .s) r
 
   wrote : written (start t c .args .p) ≤ start t c .args .p .at - 1
   wrote = let p = start t c .args .p in omega (arith, ap (λ (b : Bool). cond b (p .at - 1) (p .at)) owed)
@@ -289,11 +289,11 @@ stays-opened : (t : ℕ) (c : walk-lts.After-y (claims t) (walk-at t) walk.Post)
     → let e = c .before .before in
     let a = start t e .args in
     (h : Given t (start t e) sheet ds)
-    → Opened (stays-owes t e sheet ds h) (joined (more t e sheet ds h false)) (a .limit) (bestName (held sheet) (length (sheet .positions)) (a .v .now)) (a .s) (c .y .given .0 .0)
+    → Opened (stays-owes t e sheet ds h) (concat (more t e sheet ds h false)) (a .limit) (bestName (held sheet) (length (sheet .positions)) (a .v .now)) (a .s) (c .y .given .0 .0)
 stays-opened t c sheet ds h =
     let e = c .before .before in
     let a = start t e .args in
-    opened (stays-owes t e sheet ds h) (joined (more t e sheet ds h false)) (a .limit) (bestName (held sheet) (length (sheet .positions)) (a .v .now)) (a .s) (c .y .given .0 .0) (stays-opens t c)
+    opened (stays-owes t e sheet ds h) (concat (more t e sheet ds h false)) (a .limit) (bestName (held sheet) (length (sheet .positions)) (a .v .now)) (a .s) (c .y .given .0 .0) (stays-opens t c)
 
 walk-counted-requires : (t : ℕ) → walk-lts.Need-counted-requires (claims t) (walk-at t) walk.Post
 walk-counted-requires t c κs =
@@ -343,7 +343,7 @@ stays-passed t c sheet ds h =
     let e = c .before .before .before in
     let a = start t e .args in
     passed-as refl refl (c .reached .ensures)
-    (first-closed h (e .stay-sums .last .1 .1 .0) (e .stay-sums .ensures .1) (stays-owes t e sheet ds h) (joined (more t e sheet ds h false)) (a .limit) (a .s) (sym (e .stay-sums .ensures .0) ∙ c .before .enum-told .given .1))
+    (first-closed h (e .stay-sums .last .1 .1 .0) (e .stay-sums .ensures .1) (stays-owes t e sheet ds h) (concat (more t e sheet ds h false)) (a .limit) (a .s) (sym (e .stay-sums .ensures .0) ∙ c .before .enum-told .given .1))
 
 -- the first branch, either way
 stays-first : (t : ℕ) (c : First t) (sheet : HeldSheet) (ds : List (List Bool)) (h : Given t (start t (c .before)) sheet ds) → Passing t (c .before) sheet ds h (c .match .w) (c .match .v) (c .match .a)
@@ -409,8 +409,8 @@ module _ (t : ℕ) (c : Paid t) (sheet : HeldSheet) (ds : List (List Bool)) (h :
   out-owes : let a = start t (first t c .before) .args in DueAt (treeAt sheet (outN (a .p) (paying t c)) out-blocks) (Sum (a .x)) (paying t c + a .g)
   out-owes = let e = first t c .before in out-due h (owed t e sheet ds h) (next t e sheet ds h) (paying t c) (cost t c)
 
-  both-out : let a = start t (first t c .before) .args in (st : Limited) → onward (a .limit) (treeAt sheet (a .p) ds) (joined ds) st
-      ≡ limited (a .limit) (treeAt sheet (outN (a .p) (paying t c)) out-blocks) (joined out-blocks) (limited (a .limit) (treeAt sheet (staysN (a .p) (shut t (termed t (first t c .before)))) (more t (first t c .before) sheet ds h false)) (joined (more t (first t c .before) sheet ds h false)) st)
+  both-out : let a = start t (first t c .before) .args in (st : Limited) → onward (a .limit) (treeAt sheet (a .p) ds) (concat ds) st
+      ≡ limited (a .limit) (treeAt sheet (outN (a .p) (paying t c)) out-blocks) (concat out-blocks) (limited (a .limit) (treeAt sheet (staysN (a .p) (shut t (termed t (first t c .before)))) (more t (first t c .before) sheet ds h false)) (concat (more t (first t c .before) sheet ds h false)) st)
   both-out st = let e = first t c .before in both-removals h (owed t e sheet ds h) (next t e sheet ds h) (start t e .args .limit) (shut t (termed t e)) (paying t c) st
 
   -- it is given after the first branch
@@ -440,12 +440,12 @@ out-opened : (t : ℕ) (c : walk-lts.After-y2 (claims t) (walk-at t) walk.Post) 
     let f = first t q in
     let a = start t (f .before) .args in
     (h : Given t (start t (f .before)) sheet ds)
-    → Opened (out-owes t q sheet ds h) (joined (out-blocks t q sheet ds h)) (a .limit) (bestName (held sheet) (length (sheet .positions)) (f .match .v)) (f .match .a) (c .y2 .given .0 .0)
+    → Opened (out-owes t q sheet ds h) (concat (out-blocks t q sheet ds h)) (a .limit) (bestName (held sheet) (length (sheet .positions)) (f .match .v)) (f .match .a) (c .y2 .given .0 .0)
 out-opened t c sheet ds h =
     let q = c .before .before .before in
     let f = first t q in
     let a = start t (f .before) .args in
-    opened (out-owes t q sheet ds h) (joined (out-blocks t q sheet ds h)) (a .limit) (bestName (held sheet) (length (sheet .positions)) (f .match .v)) (f .match .a) (c .y2 .given .0 .0) (out-opens t c)
+    opened (out-owes t q sheet ds h) (concat (out-blocks t q sheet ds h)) (a .limit) (bestName (held sheet) (length (sheet .positions)) (f .match .v)) (f .match .a) (c .y2 .given .0 .0) (out-opens t c)
 
 walk-out-requires : (t : ℕ) → walk-lts.Need-out-requires (claims t) (walk-at t) walk.Post
 walk-out-requires t c κs =
@@ -689,7 +689,7 @@ module _ (t : ℕ) (c : Judged t) (sheet : HeldSheet) (ds : List (List Bool)) (h
   Resting w v r =
       let d = rested t c in
       let a = settling t d .args in
-      Passed sheet (a .t .now) (rows-in t d) w (aside-in t d) v (node-in t d) (a .limit) (treeAt sheet (noN (a .p) (d .settle .result)) (noBlocks ds)) (joined (noBlocks ds)) (a .s) r
+      Passed sheet (a .t .now) (rows-in t d) w (aside-in t d) v (node-in t d) (a .limit) (treeAt sheet (noN (a .p) (d .settle .result)) (noBlocks ds)) (concat (noBlocks ds)) (a .s) r
 
 walk-enum-known-y-3 : (t : ℕ) → walk-lts.Need-enum-known-y-3 (claims t) (walk-at t) walk.Post
 walk-enum-known-y-3 t c = search needs
@@ -709,11 +709,11 @@ no-opened : (t : ℕ) (c : walk-lts.After-y3 (claims t) (walk-at t) walk.Post) (
     → let e = c .before .before in
     let a = start-o t e .args in
     (h : Given t (start-o t e) sheet ds)
-    → Opened (no-owes t e sheet ds h) (joined (noBlocks ds)) (a .limit) (bestName (held sheet) (length (sheet .positions)) (aside-in t (rested t e))) (a .s) (c .y3 .given .0 .0)
+    → Opened (no-owes t e sheet ds h) (concat (noBlocks ds)) (a .limit) (bestName (held sheet) (length (sheet .positions)) (aside-in t (rested t e))) (a .s) (c .y3 .given .0 .0)
 no-opened t c sheet ds h =
     let e = c .before .before in
     let a = start-o t e .args in
-    opened (no-owes t e sheet ds h) (joined (noBlocks ds)) (a .limit) (bestName (held sheet) (length (sheet .positions)) (aside-in t (rested t e))) (a .s) (c .y3 .given .0 .0) (no-opens t c)
+    opened (no-owes t e sheet ds h) (concat (noBlocks ds)) (a .limit) (bestName (held sheet) (length (sheet .positions)) (aside-in t (rested t e))) (a .s) (c .y3 .given .0 .0) (no-opens t c)
 
 walk-counted-requires-3 : (t : ℕ) → walk-lts.Need-counted-requires-3 (claims t) (walk-at t) walk.Post
 walk-counted-requires-3 t c κs =
@@ -762,7 +762,7 @@ no-passed t c sheet ds h =
     let e = c .before .before .before in
     let a = start-o t e .args in
     passed-as refl refl (c .reached3 .ensures)
-    (first-closed (rest t e sheet ds h .given) (e .no-sums .last .1 .0) (e .no-sums .ensures .1) (no-owes t e sheet ds h) (joined (noBlocks ds)) (a .limit) (a .s) (sym (e .no-sums .ensures .0) ∙ c .before .enum-told3 .given .1))
+    (first-closed (rest t e sheet ds h .given) (e .no-sums .last .1 .0) (e .no-sums .ensures .1) (no-owes t e sheet ds h) (concat (noBlocks ds)) (a .limit) (a .s) (sym (e .no-sums .ensures .0) ∙ c .before .enum-told3 .given .1))
 
 no-first : (t : ℕ) (c : Second t) (sheet : HeldSheet) (ds : List (List Bool)) (h : Given t (start-o t (c .before)) sheet ds) → Resting t (c .before) sheet ds h (c .match3 .w) (c .match3 .v) (c .match3 .a)
 no-first t c sheet ds h =
@@ -841,8 +841,8 @@ module _ (t : ℕ) (c : Owed t) (sheet : HeldSheet) (ds : List (List Bool)) (h :
   yes-owes : let a = start-o t (second t c .before) .args in DueAt (treeAt sheet (yesN (a .p) top-row (fees t c)) (yesBlocks ds)) (Sum (a .x)) (fees t c + c .number4 .result)
   yes-owes = let e = second t c .before in yes-due (rest t e sheet ds h .given) refl (under t e sheet ds h) (c .number4 .result) (fees t c) (c .number4 .ensures .0) (fee-is t (c .before .before .before)) top-row
 
-  both-yes : let e = second t c .before in let a = start-o t e .args in (st : Limited) → onward (a .limit) (treeAt sheet (node-in t (rested t e)) ds) (joined ds) st
-      ≡ limited (a .limit) (treeAt sheet (yesN (a .p) top-row (fees t c)) (yesBlocks ds)) (joined (yesBlocks ds)) (limited (a .limit) (treeAt sheet (noN (a .p) top-row) (noBlocks ds)) (joined (noBlocks ds)) st)
+  both-yes : let e = second t c .before in let a = start-o t e .args in (st : Limited) → onward (a .limit) (treeAt sheet (node-in t (rested t e)) ds) (concat ds) st
+      ≡ limited (a .limit) (treeAt sheet (yesN (a .p) top-row (fees t c)) (yesBlocks ds)) (concat (yesBlocks ds)) (limited (a .limit) (treeAt sheet (noN (a .p) top-row) (noBlocks ds)) (concat (noBlocks ds)) st)
   both-yes st = let e = second t c .before in both-openings (rest t e sheet ds h .given) refl (under t e sheet ds h) (start-o t e .args .limit) top-row (fees t c) st
 
   few-rows : (top-row ≤ 64) × (start-o t (second t c .before) .args .p .at ≤ 64)
@@ -901,12 +901,12 @@ yes-opened : (t : ℕ) (c : walk-lts.After-y4 (claims t) (walk-at t) walk.Post) 
     let f = second t q in
     let a = start-o t (f .before) .args in
     (h : Given t (start-o t (f .before)) sheet ds)
-    → Opened (yes-owes t q sheet ds h) (joined (yesBlocks ds)) (a .limit) (bestName (held sheet) (length (sheet .positions)) (f .match3 .v)) (f .match3 .a) (c .y4 .given .0 .0)
+    → Opened (yes-owes t q sheet ds h) (concat (yesBlocks ds)) (a .limit) (bestName (held sheet) (length (sheet .positions)) (f .match3 .v)) (f .match3 .a) (c .y4 .given .0 .0)
 yes-opened t c sheet ds h =
     let q = c .before .before .before in
     let f = second t q in
     let a = start-o t (f .before) .args in
-    opened (yes-owes t q sheet ds h) (joined (yesBlocks ds)) (a .limit) (bestName (held sheet) (length (sheet .positions)) (f .match3 .v)) (f .match3 .a) (c .y4 .given .0 .0) (yes-opens t c)
+    opened (yes-owes t q sheet ds h) (concat (yesBlocks ds)) (a .limit) (bestName (held sheet) (length (sheet .positions)) (f .match3 .v)) (f .match3 .a) (c .y4 .given .0 .0) (yes-opens t c)
 
 walk-yes-requires : (t : ℕ) → walk-lts.Need-yes-requires (claims t) (walk-at t) walk.Post
 walk-yes-requires t c κs =

@@ -9,7 +9,7 @@ use Rattle.branch.specs.Search.{onward}
 use Rattle.branch.specs.Lower.{add}
 use Rattle.branch.specs.declared.Bound.{Bound}
 use Rattle.branch.specs.declared.Bound.the-variants.{Sum}
-use Rattle.model.specs.Decisions.{joined}
+use Rattle.model.specs.Decisions.{concat}
 use Rattle.lane_rows.specs.Layout.{termPlace}
 use Rattle.lane_rows.specs.Tables.{Tables}
 use Rattle.lane_rows.proofs.Lanes.{first-most}
@@ -112,7 +112,7 @@ returns c =
     let k : Given (begun (g .before .before)) sheet = record { tables = ta; holders = he; fit = fit } in
     subst (Solves sheet limit v) (sym (c .solved .ensures))
     (root-ends limit sheet v v (held sheet) (c .before .reached .result) (o .before .plus .result) refl (o .before .plus .ensures ∙ floor-is g sheet k)
-    (ap (view limit sheet v) (c .before .reached .ensures) ∙ closed (owes g sheet k (held sheet)) (joined []) limit (bestName (held sheet) (length (sheet .positions)) v) fresh (sym (o .«open» .ensures) ∙ c .before .before .enum-told .given .1)))
+    (ap (view limit sheet v) (c .before .reached .ensures) ∙ closed (owes g sheet k (held sheet)) (concat []) limit (bestName (held sheet) (length (sheet .positions)) v) fresh (sym (o .«open» .ensures) ∙ c .before .before .enum-told .given .1)))
 
 number-requires : tie.Need-number-requires
 number-requires c κs = search needs
@@ -124,11 +124,11 @@ counted-requires c κs = search needs
 root-opened : (c : tie.After-x) (sheet : HeldSheet) (h : ℕ)
     → let g = c .before .before .before .before in
     let b = begun (g .before .before) in
-    (k : Given b sheet) → Opened (owes g sheet k h) (joined []) (b .args .limit) (bestName (held sheet) (length (sheet .positions)) (marks (g .before .before))) fresh (c .x .given .0 .0)
+    (k : Given b sheet) → Opened (owes g sheet k h) (concat []) (b .args .limit) (bestName (held sheet) (length (sheet .positions)) (marks (g .before .before))) fresh (c .x .given .0 .0)
 root-opened c sheet h k =
     let g = c .before .before .before .before in
     let b = begun (g .before .before) in
-    opened (owes g sheet k h) (joined []) (b .args .limit) (bestName (held sheet) (length (sheet .positions)) (marks (g .before .before))) fresh (c .x .given .0 .0) (sym (c .before .before .«open» .ensures) ∙ c .x .given .1)
+    opened (owes g sheet k h) (concat []) (b .args .limit) (bestName (held sheet) (length (sheet .positions)) (marks (g .before .before))) fresh (c .x .given .0 .0) (sym (c .before .before .«open» .ensures) ∙ c .x .given .1)
 
 -- so it is what the call is given
 root-child : (c : tie.After-number) (sheet : HeldSheet)
@@ -166,7 +166,7 @@ returns-2 c =
     subst (Solves sheet limit v) (sym (c .solved2 .ensures))
     (root-ends limit sheet (marks s) v h (c .before .walk .result) (x .before .before .before .plus .result) (n .number .ensures .0 ∙ he .holds) (x .before .before .before .plus .ensures ∙ floor-is g sheet k)
     (c .before .walk .ensures sheet [] (root-child n sheet k) .search
-    ∙ ap (λ (q : Search). onward limit (treeAt sheet (rootN h) []) (joined []) (view limit sheet (marks s) q)) (r .counted .ensures)
+    ∙ ap (λ (q : Search). onward limit (treeAt sheet (rootN h) []) (concat []) (view limit sheet (marks s) q)) (r .counted .ensures)
     ∙ root-opened x sheet h k .on))
 
 pub solve-spec : {M : Type 1} → statement M

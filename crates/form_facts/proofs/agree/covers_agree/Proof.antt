@@ -6,7 +6,7 @@ use borrow.Author.Tests.{eq-eqb, ne-eqb, not-true, not-false}
 use borrow.Author.Needs.{needs}
 use lib.Dec.{eqb}
 use lib.ListN.{length}
-use Rattle.form_facts.specs.Facts.{total, allMarks}
+use Rattle.form_facts.specs.Facts.{sumAll, allMarks}
 use Rattle.form_facts.proofs.Facts.{marks-known}
 use Rattle.form_facts.proofs.agree.covers_agree.Statement.{statement}
 use Rattle.form_facts.proofs.agree.covers_agree.Tie as tie
@@ -39,20 +39,20 @@ marked c = sym (c .before .are-marks .ensures) ∙ not-false _ (c .if2 .left)
 returns-3 : tie.Need-returns-3
 returns-3 c =
     let a = c .before .before .before .before .before .before .before .args in
-    let other : eqb (a .removals) (total (a .covered .now)) ≡ false = ne-eqb (a .removals) (total (a .covered .now)) (λ e. omega (arith, e, c .before .sum .ensures, c .if3 .taken)) in
+    let other : eqb (a .removals) (sumAll (a .covered .now)) ≡ false = ne-eqb (a .removals) (sumAll (a .covered .now)) (λ e. omega (arith, e, c .before .sum .ensures, c .if3 .taken)) in
     rw (size-is (c .before .before .before .before), marked (c .before .before), other)
 
-removed : (c : tie.Else3) → let a = c .before .before .before .before .before .before .before .args in eqb (a .removals) (total (a .covered .now)) ≡ true
-removed c = let a = c .before .before .before .before .before .before .before .args in eq-eqb (a .removals) (total (a .covered .now)) (omega (arith, c .before .sum .ensures, c .if3 .left))
+removed : (c : tie.Else3) → let a = c .before .before .before .before .before .before .before .args in eqb (a .removals) (sumAll (a .covered .now)) ≡ true
+removed c = let a = c .before .before .before .before .before .before .before .args in eq-eqb (a .removals) (sumAll (a .covered .now)) (omega (arith, c .before .sum .ensures, c .if3 .left))
 
 returns-4 : tie.Need-returns-4
 returns-4 c =
     let a = c .before .before .before .before .before .before .before .before .args in
-    let other : eqb (length (a .insides .now)) (total (a .covered .now)) ≡ false = ne-eqb (length (a .insides .now)) (total (a .covered .now)) (λ e. omega (arith, e, c .before .before .sum .ensures, c .if4 .taken)) in
+    let other : eqb (length (a .insides .now)) (sumAll (a .covered .now)) ≡ false = ne-eqb (length (a .insides .now)) (sumAll (a .covered .now)) (λ e. omega (arith, e, c .before .before .sum .ensures, c .if4 .taken)) in
     rw (size-is (c .before .before .before .before .before), marked (c .before .before .before), removed (c .before), other)
 
 -- as many insides as marks that are 1
-counted : (c : tie.Else4) → let a = c .before .before .before .before .before .before .before .before .args in length (a .insides .now) ≡ total (a .covered .now)
+counted : (c : tie.Else4) → let a = c .before .before .before .before .before .before .before .before .args in length (a .insides .now) ≡ sumAll (a .covered .now)
 counted c = omega (arith, c .before .before .sum .ensures, c .if4 .left)
 
 sum-requires-2 : tie.Need-sum-requires-2
@@ -63,7 +63,7 @@ sum-requires-2 c κs =
 returns-5 : tie.Need-returns-5
 returns-5 c =
     let a = c .before .before .before .before .before .before .before .before .before .args in
-    let same : eqb (length (a .insides .now)) (total (a .covered .now)) ≡ true = eq-eqb (length (a .insides .now)) (total (a .covered .now)) (counted (c .before)) in
+    let same : eqb (length (a .insides .now)) (sumAll (a .covered .now)) ≡ true = eq-eqb (length (a .insides .now)) (sumAll (a .covered .now)) (counted (c .before)) in
     rw (size-is (c .before .before .before .before .before .before), marked (c .before .before .before .before), removed (c .before .before), same) (ap (eqb (a .holders)) (c .sum2 .ensures))
 
 pub covers-agree-spec : {M : Type 1} → statement M

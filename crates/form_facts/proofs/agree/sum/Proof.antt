@@ -4,12 +4,12 @@ use mathlib.Core.Path.{_≡_, ap}
 use native.Mathlib.Omega.{arith}
 use lib.ListN.{length, getD, drop, drop-of-length-le}
 use Rattle.lines.proofs.Reading.{drop-step}
-use Rattle.form_facts.specs.Facts.{total}
+use Rattle.form_facts.specs.Facts.{sumAll}
 use Rattle.form_facts.proofs.agree.sum.Statement.{statement}
 use Rattle.form_facts.proofs.agree.sum.Tie as tie
 
 abbrev Inv-loop : tie.InvT-loop
-Inv-loop values sum₀ i₀ sum i = (i ≤ length values) × (sum ≤ 4294967296 * i) × (sum + total (drop i values) ≡ total values)
+Inv-loop values sum₀ i₀ sum i = (i ≤ length values) × (sum ≤ 4294967296 * i) × (sum + sumAll (drop i values) ≡ sumAll values)
 
 abbrev μ-loop : tie.MeasureT-loop
 μ-loop values sum₀ i₀ sum i = length values - i
@@ -37,14 +37,14 @@ loop-again c =
     let l = c .before .before .loop in
     let vs = c .before .before .before .args .values .now in
     let t = c .before .loop-test .taken in
-    let more : total (drop (l .i) vs) ≡ getD vs (l .i) 0 + total (drop (l .i + 1) vs) = ap total (drop-step vs (l .i) t) in
+    let more : sumAll (drop (l .i) vs) ≡ getD vs (l .i) 0 + sumAll (drop (l .i + 1) vs) = ap sumAll (drop-step vs (l .i) t) in
     (omega (arith, t), omega (arith, c .shared-slice-known .given (l .i), l .inv .1), omega (arith, more, l .inv .2))
 
 returns : tie.Need-returns Inv-loop μ-loop
 returns c =
     let l = c .before .loop in
     let vs = c .before .before .args .values .now in
-    let none : total (drop (l .i) vs) ≡ 0 = ap total (drop-of-length-le vs (c .loop-test .left)) in
+    let none : sumAll (drop (l .i) vs) ≡ 0 = ap sumAll (drop-of-length-le vs (c .loop-test .left)) in
     omega (arith, none, l .inv .2)
 
 pub sum-spec : {M : Type 1} → statement M

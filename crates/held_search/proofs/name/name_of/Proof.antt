@@ -4,7 +4,7 @@ use mathlib.Core.Path.{_≡_, refl, ap, _∙_}
 use mathlib.Core.Bool.{Bool, false}
 use mathlib.Core.List.{List}
 use lib.ListN.{length, getD, take, replicate, List·getD-append}
-use Rattle.model.specs.Decisions.{joined}
+use Rattle.model.specs.Decisions.{concat}
 use Rattle.walk.specs.State.{bits}
 use Rattle.walk.proofs.Nodes.{bits-length}
 use Rattle.stop_nodes.specs.State.{blocksOf, bestIn}
@@ -15,7 +15,7 @@ use Rattle.held_search.proofs.name.name_of.Statement.{statement}
 use Rattle.held_search.proofs.name.name_of.Tie as tie
 
 abbrev Inv-loop : tie.InvT-loop
-Inv-loop mask v n h name₀ stops at₀ k₀ name at k = (k ≤ n) × (at ≤ k * 17) × (length name ≡ length name₀) × (take at name ≡ joined (take k (blocksOf h (bestIn v) n mask)))
+Inv-loop mask v n h name₀ stops at₀ k₀ name at k = (k ≤ n) × (at ≤ k * 17) × (length name ≡ length name₀) × (take at name ≡ concat (take k (blocksOf h (bestIn v) n mask)))
 
 abbrev μ-loop : tie.MeasureT-loop
 μ-loop mask v n h name₀ stops at₀ k₀ name at k = n - k
@@ -24,7 +24,7 @@ stops-of-requires : tie.Need-stops-of-requires Inv-loop μ-loop
 stops-of-requires c κs = search needs
 
 loop-holds : tie.Need-loop-holds Inv-loop μ-loop
-unfolding joined
+unfolding concat
 loop-holds c = (omega arith, omega arith, refl, refl)
 
 put-block-requires : tie.Need-put-block-requires Inv-loop μ-loop

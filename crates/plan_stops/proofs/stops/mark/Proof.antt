@@ -8,12 +8,11 @@ use borrow.Author.Needs.{needs}
 use lib.Dec.{eqb}
 use lib.ListN.{length, getD, take, length-set}
 use lib.Seq.{getD-take}
-use Rattle.lines.specs.Text.{joined}
 use Rattle.lines.proofs.Arrays.{take-more}
-use Rattle.lines.proofs.Writing.{joined-more}
+use Rattle.model.proofs.Lists.{table-more}
 use Rattle.model.specs.Model as model
 use Rattle.jobs.specs.Views.{jobOf}
-use Rattle.plan_grammar.specs.Grammar.{tabulate}
+use Rattle.model.specs.Model.{table}
 use Rattle.plan_grammar.specs.Rendering.{stepAt}
 use Rattle.plan_stops.specs.Marks.{withStep}
 use Rattle.jobs.proofs.Jobs.{opening-count}
@@ -26,13 +25,13 @@ abbrev entry : model.Job → ℕ → List Bool → ℕ → Bool
 entry job step set i = getD set i false || eqb step (stepAt job i)
 
 abbrev Inv-loop : tie.InvT-loop
-Inv-loop step set job n marks₀ i₀ marks i = (i ≤ n) × (length marks ≡ 64) × (take i marks ≡ tabulate (entry (jobOf job) step (take n set)) i)
+Inv-loop step set job n marks₀ i₀ marks i = (i ≤ n) × (length marks ≡ 64) × (take i marks ≡ table (entry (jobOf job) step (take n set)) i)
 
 abbrev μ-loop : tie.MeasureT-loop
 μ-loop step set job n marks₀ i₀ marks i = n - i
 
 loop-holds : tie.Need-loop-holds Inv-loop μ-loop
-unfolding joined
+unfolding table
 loop-holds c = (omega arith, refl, refl)
 
 element-copy-out-o : tie.Need-element-copy-out-o Inv-loop μ-loop
@@ -63,7 +62,7 @@ loop-again c =
     let h : l .i < length (l .marks) = omega (arith, s .pre) in (
       omega arith,
       simp length-set (l .inv .1),
-      take-more (l .i) (l .marks) _ h ∙ ap₂ (λ (xs : List Bool) (b : Bool). xs ++ b ∷ []) (l .inv .2) (stored c) ∙ sym (joined-more _ (l .i)),
+      take-more (l .i) (l .marks) _ h ∙ ap₂ (λ (xs : List Bool) (b : Bool). xs ++ b ∷ []) (l .inv .2) (stored c) ∙ sym (table-more _ (l .i)),
     )
 
 returns : tie.Need-returns Inv-loop μ-loop
@@ -72,8 +71,8 @@ returns c =
     let s = c .before .before in
     let a = s .args in
     let same : c .before .loop .i ≡ a .t2 .«opening_count» = omega arith in
-    let table : ℕ → List Bool = tabulate (entry (jobOf (a .t2)) (a .step) (take (a .t2 .«opening_count») (a .t1))) in
-    ap (λ (k : ℕ). take k (c .before .loop .marks)) (sym same) ∙ c .before .loop .inv .2 ∙ ap table (same ∙ sym (opening-count (a .t2) (s .pre) (s .good .1 .0)))
+    let marked : ℕ → List Bool = table (entry (jobOf (a .t2)) (a .step) (take (a .t2 .«opening_count») (a .t1))) in
+    ap (λ (k : ℕ). take k (c .before .loop .marks)) (sym same) ∙ c .before .loop .inv .2 ∙ ap marked (same ∙ sym (opening-count (a .t2) (s .pre) (s .good .1 .0)))
 
 pub mark-spec : {M : Type 1} → statement M
 mark-spec =
