@@ -7,7 +7,7 @@ use lib.Dec.{ltb}
 use lib.ListN.{length, getD, set, replicate}
 use Rattle.lane_rows.specs.Layout.{laneCount}
 use Rattle.held_places.specs.Arrays.{needStride, needsAt}
-use Rattle.held_tables.specs.declared.classes.Classes.{Classes}
+use Rattle.part_classes.specs.declared.Classes.{Classes}
 
 -- part q needs the holding part b
 abbrev pub needAt : List Bool → ℕ → ℕ → Bool

@@ -7,10 +7,10 @@ use native.Mathlib.Omega.{arith}
 use native.Mathlib.Nat.{sub-zero}
 use borrow.Author.Needs.{needs}
 use lib.ListN.{getD}
-use Rattle.held_tables.specs.Grouped.{sameNeeds, firstFrom}
-use Rattle.held_tables.proofs.Groups.{first-not, first-here, first-end}
-use Rattle.held_tables.proofs.classes.class_at.Statement.{statement}
-use Rattle.held_tables.proofs.classes.class_at.Tie as tie
+use Rattle.part_classes.specs.Grouped.{sameNeeds, firstFrom}
+use Rattle.part_classes.proofs.Groups.{first-not, first-here, first-end}
+use Rattle.part_classes.proofs.class_at.Statement.{statement}
+use Rattle.part_classes.proofs.class_at.Tie as tie
 
 -- the lead of class d needs what part q needs
 abbrev like : List Bool → ℕ → ℕ → List ℕ → ℕ → Bool

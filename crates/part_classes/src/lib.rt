@@ -5,7 +5,7 @@ ghost use Prim.Native.Nat.{_+_, _<_, _≤_};
 ghost use lib.ListN.{length};
 ghost use Rattle.lane_rows.specs.Layout.{laneCount};
 ghost use Rattle.held_places.specs.Arrays.{needSize};
-ghost use Rattle.held_tables.specs.Grouped.{sameNeeds, classAt, Grouped};
+ghost use Rattle.part_classes.specs.Grouped.{sameNeeds, classAt, Grouped};
 use held_places::PARTS;
 
 // The class of each lane, the first part of each class, and how many classes there are.

@@ -1,9 +1,9 @@
 -- `with_part`: the class that is there, or a new one.
-use Rattle.held_tables.proofs.Groups.{group-old, group-new}
+use Rattle.part_classes.proofs.Groups.{group-old, group-new}
 use native.Mathlib.Omega.{arith}
 use borrow.Author.Needs.{needs}
-use Rattle.held_tables.proofs.classes.with_part.Statement.{statement}
-use Rattle.held_tables.proofs.classes.with_part.Tie as tie
+use Rattle.part_classes.proofs.with_part.Statement.{statement}
+use Rattle.part_classes.proofs.with_part.Tie as tie
 
 class-at-requires : tie.Need-class-at-requires
 class-at-requires c κs = search needs

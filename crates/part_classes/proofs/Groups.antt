@@ -14,8 +14,8 @@ use lib.Seq.{getD-take, getD-drop, ext-getD, getD-set-same, getD-set-other}
 use Rattle.lane_rows.specs.Layout.{laneCount}
 use Rattle.held_places.specs.Arrays.{needStride, needSize, needsAt}
 use Rattle.held_places.proofs.Parts.{needs-length}
-use Rattle.held_tables.specs.declared.classes.Classes.{Classes}
-use Rattle.held_tables.specs.Grouped.{needAt, sameNeeds, firstFrom, classAt, put, classesOf, Grouped}
+use Rattle.part_classes.specs.declared.Classes.{Classes}
+use Rattle.part_classes.specs.Grouped.{needAt, sameNeeds, firstFrom, classAt, put, classesOf, Grouped}
 
 -- ---- needs that are the same
 

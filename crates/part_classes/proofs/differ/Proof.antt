@@ -1,8 +1,8 @@
 -- `differ` tells two flags apart.
 use mathlib.Core.Path.{_≡_, refl, sym, ap, _∙_}
 use mathlib.Core.Bool.{Bool, true, false, not, Bool·beq}
-use Rattle.held_tables.proofs.classes.differ.Statement.{statement}
-use Rattle.held_tables.proofs.classes.differ.Tie as tie
+use Rattle.part_classes.proofs.differ.Statement.{statement}
+use Rattle.part_classes.proofs.differ.Tie as tie
 
 so : (y : Bool) → not y ≡ not (Bool·beq true y)
 so true = refl

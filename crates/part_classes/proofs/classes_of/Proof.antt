@@ -1,12 +1,12 @@
 -- `classes_of` takes in one part after the other. The invariant: the first q have their classes.
 use Prim.Native.Nat.{ℕ, _-_, _≤_}
 use mathlib.Core.Path.{_≡_, subst}
-use Rattle.held_tables.specs.Grouped.{Grouped}
-use Rattle.held_tables.proofs.Groups.{group-none}
+use Rattle.part_classes.specs.Grouped.{Grouped}
+use Rattle.part_classes.proofs.Groups.{group-none}
 use native.Mathlib.Omega.{arith}
 use borrow.Author.Needs.{needs}
-use Rattle.held_tables.proofs.classes.classes_of.Statement.{statement}
-use Rattle.held_tables.proofs.classes.classes_of.Tie as tie
+use Rattle.part_classes.proofs.classes_of.Statement.{statement}
+use Rattle.part_classes.proofs.classes_of.Tie as tie
 
 abbrev Inv-loop : tie.InvT-loop
 Inv-loop needs h m classes₀ q₀ classes q = (q ≤ m) × Grouped needs h q classes

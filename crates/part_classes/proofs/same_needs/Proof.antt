@@ -3,12 +3,12 @@ use Prim.Native.Nat.{ℕ, _+_, _-_, _≤_, _<_}
 use mathlib.Core.Path.{_≡_, refl, sym, ap, subst, _∙_}
 use mathlib.Core.Bool.{Bool, true, false, not, Bool·beq}
 use native.Mathlib.Numerals.{add-one}
-use Rattle.held_tables.specs.Grouped.{needAt, sameNeeds}
-use Rattle.held_tables.proofs.Groups.{same-none, same-more, same-not}
+use Rattle.part_classes.specs.Grouped.{needAt, sameNeeds}
+use Rattle.part_classes.proofs.Groups.{same-none, same-more, same-not}
 use native.Mathlib.Omega.{arith}
 use borrow.Author.Needs.{needs}
-use Rattle.held_tables.proofs.classes.same_needs.Statement.{statement}
-use Rattle.held_tables.proofs.classes.same_needs.Tie as tie
+use Rattle.part_classes.proofs.same_needs.Statement.{statement}
+use Rattle.part_classes.proofs.same_needs.Tie as tie
 
 turned : (x y : Bool) → not x ≡ y → x ≡ not y
 turned true y e = ap not e
