@@ -6,8 +6,8 @@
 #include "juzvarola.h"
 
 /* One byte more than a text may have: a longer file is refused just as well by these bytes. */
-static uint8_t job[32768 + 1];
-static uint8_t out[16384];
+static uint8_t job[JUZVAROLA_MOST_TEXT + 1];
+static uint8_t out[JUZVAROLA_ROOM];
 
 #define COUNT(list) (sizeof(list) / sizeof((list)[0]))
 
@@ -25,10 +25,14 @@ static juzvarola_answer fill_in(void) {
 
 int main(int argc, char **argv) {
     size_t length;
+    if (juzvarola_version() != JUZVAROLA_VERSION) {
+        fprintf(stderr, "the library is of another version than its header\n");
+        return 20;
+    }
     if (argc == 1) {
         juzvarola_answer written = fill_in();
         length = written.length;
-        if (written.result != 0) {
+        if (written.result != JUZVAROLA_OK) {
             fwrite(job, 1, length, stdout);
             return (int)written.result;
         }
@@ -46,8 +50,8 @@ int main(int argc, char **argv) {
     }
 
     juzvarola_counted counted = juzvarola_count(job, length);
-    if (counted.result == 0) {
-        fprintf(stderr, counted.count == 4000000000u ? "the walk may have %u nodes or more\n" : "the walk has at most %u nodes\n", (unsigned)counted.count);
+    if (counted.result == JUZVAROLA_OK) {
+        fprintf(stderr, counted.count == JUZVAROLA_MOST_WALK ? "the walk may have %u nodes or more\n" : "the walk has at most %u nodes\n", (unsigned)counted.count);
     }
 
     juzvarola_answer answer = juzvarola_plan(job, length, out, sizeof out);

@@ -9,6 +9,44 @@
 extern "C" {
 #endif
 
+/* The version of these declarations. It moves with every change of a declaration, a text or an answer; JUZVAROLA_VERSION is what juzvarola_version
+ * answers where header and library are of one version. */
+#define JUZVAROLA_VERSION_MAJOR 0
+#define JUZVAROLA_VERSION_MINOR 8
+#define JUZVAROLA_VERSION_PATCH 0
+#define JUZVAROLA_VERSION (JUZVAROLA_VERSION_MAJOR * 1000000u + JUZVAROLA_VERSION_MINOR * 1000u + JUZVAROLA_VERSION_PATCH)
+
+/* The results by name. */
+enum {
+    JUZVAROLA_OK = 0,            /* the cheapest plan; a plan that keeps every life at its true cost; a job text; a count */
+    JUZVAROLA_TOO_LONG = 1,      /* a text has over JUZVAROLA_MOST_TEXT bytes */
+    JUZVAROLA_BAD_LINE = 2,      /* a line is not the one that is due, or is not well formed */
+    JUZVAROLA_OUT_OF_RANGE = 3,  /* a value is outside its range */
+    JUZVAROLA_NOT_RISING = 4,    /* an opening or an idle step doesn't rise, or is past the horizon */
+    JUZVAROLA_LEFT_TOO_LONG = 5, /* left is greater than life */
+    JUZVAROLA_NO_PLAN = 6,       /* no plan keeps the lives */
+    JUZVAROLA_CUT_SHORT = 7,     /* the walk is longer than its walk number */
+    JUZVAROLA_NO_ROOM = 8,       /* the lent output is too short */
+    JUZVAROLA_BAD_STOP = 9,      /* a stop or a part of the plan doesn't fit the job */
+    JUZVAROLA_NOT_KEPT = 10,     /* a part is not kept */
+    JUZVAROLA_WRONG_COST = 11,   /* the stated cost is wrong */
+    JUZVAROLA_BAD_HOLDER = 12    /* a holder doesn't rise, is above parts or is the part itself; from juzvarola_count with text 0, the job has a holder */
+};
+
+/* What `text` says: the text at fault. */
+enum { JUZVAROLA_NO_TEXT = 0, JUZVAROLA_JOB_TEXT = 1, JUZVAROLA_PLAN_TEXT = 2 };
+
+/* The most bytes of a text, the bytes that an output needs, that of juzvarola_write, and the greatest walk number and count. */
+#define JUZVAROLA_MOST_TEXT 32768
+#define JUZVAROLA_ROOM 16384
+#define JUZVAROLA_WRITE_ROOM 32768
+#define JUZVAROLA_MOST_WALK 4000000000u
+/* The stack that serves every call, in bytes. */
+#define JUZVAROLA_STACK 2097152
+
+/* The library's version: JUZVAROLA_VERSION of the header that it was made with. Compare the two before the first call. */
+uint32_t juzvarola_version(void);
+
 /* The answer of a call. The lines that go with it are the first `length` bytes of the lent output.
  *
  * result        0 to 12, as in the specification.

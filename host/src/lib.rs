@@ -4,11 +4,43 @@
 pub mod fast;
 #[cfg(feature = "library")]
 mod library;
+mod plans;
 pub mod ranges;
 pub mod reference;
 
 #[cfg(feature = "library")]
-pub use library::{count, judge, plan, write};
+pub use library::{check_version, count, judge, plan, plan_parsed, version, write};
+pub use plans::{Plan, Planned, Stop};
+
+/// The version of the interface that this package is made for, which is its own: as one number, like JUZVAROLA_VERSION of the header.
+pub const VERSION: u32 = number(env!("CARGO_PKG_VERSION_MAJOR")) * 1_000_000
+    + number(env!("CARGO_PKG_VERSION_MINOR")) * 1000
+    + number(env!("CARGO_PKG_VERSION_PATCH"));
+
+/// A number by its digits.
+const fn number(digits: &str) -> u32 {
+    let (bytes, mut at, mut sum) = (digits.as_bytes(), 0, 0);
+    while at < bytes.len() {
+        sum = sum * 10 + (bytes[at] - b'0') as u32;
+        at += 1;
+    }
+    sum
+}
+
+/// A library of another version than [`VERSION`] is linked: its calls may take other arguments, and none is made.
+#[derive(Debug, Clone, Copy, PartialEq, Eq)]
+pub struct WrongVersion {
+    pub linked: u32,
+}
+
+impl std::fmt::Display for WrongVersion {
+    fn fmt(&self, f: &mut std::fmt::Formatter<'_>) -> std::fmt::Result {
+        let dotted = |number: u32| format!("{}.{}.{}", number / 1_000_000, number / 1000 % 1000, number % 1000);
+        write!(f, "the library libjuzvarola is version {}, and this program is made for {}", dotted(self.linked), dotted(VERSION))
+    }
+}
+
+impl std::error::Error for WrongVersion {}
 
 /// What a call answers. `'t` is the life of the caller's texts.
 #[derive(Debug, Clone, Copy, PartialEq, Eq)]

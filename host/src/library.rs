@@ -1,7 +1,11 @@
 //! The static library, as `include/juzvarola.h` declares it, behind safe functions.
 
-use crate::{Answer, Count, Form};
+use crate::{Answer, Count, Form, Planned, WrongVersion, VERSION};
 use std::mem::{offset_of, size_of};
+use std::sync::OnceLock;
+
+/// JUZVAROLA_ROOM: the output that the planner and the judge need.
+const ROOM: usize = 16_384;
 
 /// `juzvarola_answer`.
 #[repr(C)]
@@ -60,17 +64,51 @@ extern "C" {
         out_len: usize,
     ) -> Numbers;
     fn juzvarola_count(job: *const u8, job_len: usize) -> Counted;
+    fn juzvarola_version() -> u32;
+}
+
+/// The version of the library that is linked.
+pub fn version() -> u32 {
+    // SAFETY: it takes nothing and answers a number.
+    unsafe { juzvarola_version() }
+}
+
+/// Whether the library that is linked is the one that the declarations above are of. A program asks this when it starts.
+pub fn check_version() -> Result<(), WrongVersion> {
+    match version() {
+        VERSION => Ok(()),
+        linked => Err(WrongVersion { linked }),
+    }
+}
+
+/// Looks at the version before the first call: with another one the declarations may be wrong, and no call is made.
+fn start() {
+    static CHECKED: OnceLock<()> = OnceLock::new();
+    CHECKED.get_or_init(|| {
+        if let Err(wrong) = check_version() {
+            panic!("{wrong}");
+        }
+    });
 }
 
 /// Plans a job. The answer's lines are the first `length` bytes of `out`.
 pub fn plan<'t>(job: &'t [u8], out: &mut [u8]) -> Answer<'t> {
+    start();
     // SAFETY: a slice's pointer is not null and is good for its length; `out` is lent alone, so it overlaps no text.
     let numbers = unsafe { juzvarola_plan(job.as_ptr(), job.len(), out.as_mut_ptr(), out.len()) };
     answer(numbers, job, &[])
 }
 
+/// Plans a job and parses what is answered; the output is lent here.
+pub fn plan_parsed(job: &[u8]) -> Planned<'_> {
+    let mut out = vec![0; ROOM];
+    let answer = plan(job, &mut out);
+    Planned::of(answer, &out[..answer.length])
+}
+
 /// Judges a plan of a job. The answer's lines are the first `length` bytes of `out`.
 pub fn judge<'t>(job: &'t [u8], plan: &'t [u8], out: &mut [u8]) -> Answer<'t> {
+    start();
     // SAFETY: as for `plan`.
     let numbers = unsafe { juzvarola_judge(job.as_ptr(), job.len(), plan.as_ptr(), plan.len(), out.as_mut_ptr(), out.len()) };
     answer(numbers, job, plan)
@@ -79,6 +117,7 @@ pub fn judge<'t>(job: &'t [u8], plan: &'t [u8], out: &mut [u8]) -> Answer<'t> {
 /// Writes the job text of a form into `out`: its first `length` bytes. No line at fault is handed over, since there is no text of the caller's.
 pub fn write(form: &Form, out: &mut [u8]) -> Answer<'static> {
     let Form { horizon, idles, walk, openings, fees, lives, lefts, covered, removals, insides, holders, prices } = *form;
+    start();
     // SAFETY: as for `plan`; the lists are only read.
     let numbers = unsafe {
         juzvarola_write(
@@ -113,6 +152,7 @@ pub fn write(form: &Form, out: &mut [u8]) -> Answer<'static> {
 
 /// How many nodes the walk of a job can have at most.
 pub fn count(job: &[u8]) -> Count<'_> {
+    start();
     // SAFETY: a slice's pointer is not null and is good for its length.
     let Counted { result, text, line, count, fault_start, fault_length } = unsafe { juzvarola_count(job.as_ptr(), job.len()) };
     Count { result, text, line, count, fault_start, fault: &job[fault_start..][..fault_length] }

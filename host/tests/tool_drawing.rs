@@ -16,6 +16,8 @@ struct Drawn {
     job: Job,
     plan: Plan,
     stated: u64,
+    /// The cost of the cheapest plan, where a short walk finds it.
+    least: Option<u64>,
 }
 
 impl Drawn {
@@ -51,13 +53,19 @@ fn draw(job: &[u8], plan: &[u8], name: &str) -> Drawn {
     let ran = folder.run(&["draw", "job.txt", "plan.txt", "-o", name]);
     assert!((0..=1).contains(&ran.status), "{ran:?}");
     let judged = folder.run(&["judge", "job.txt", "plan.txt"]);
-    assert_eq!((ran.status, ran.err), (judged.status, judged.err));
+    assert_eq!((ran.status, ran.err.as_str()), (judged.status, ""), "the verdict goes to standard output");
+    let words = judged.out.rsplit_once(" (").expect("a verdict").0;
+    assert!(ran.out.starts_with(words) && ran.out.lines().count() == 1, "{ran:?} {judged:?}");
+    let checked = folder.shell(&format!("xmllint --noout '{name}'"));
+    assert_eq!((checked.status, checked.err.as_str()), (0, ""), "xmllint (Debian: libxml2-utils) finds no fault");
     let picture = folder.read(name);
     let bare = picture.replace("xmlns=\"http://www.w3.org/2000/svg\"", "");
     assert!(!["<script", "http", "href", "@import", "src="].iter().any(|word| bare.contains(word)), "nothing is fetched or run");
+    let planned = folder.run(&["plan", "job.txt", "--walk", "20000000", "--once"]);
+    let least = Some(planned.out).filter(|_| planned.status == 0).and_then(|text| number_after(&text, "cost="));
     let job = read_job(job).expect("an accepted job");
     let (plan, stated) = read_plan(&job, plan).expect("an accepted plan");
-    Drawn { elements: elements(&picture), job, plan, stated }
+    Drawn { elements: elements(&picture), job, plan, stated, least }
 }
 
 fn close(first: f64, second: f64) -> bool {
@@ -135,12 +143,34 @@ fn check_marks(drawn: &Drawn) {
     }
     let changes: usize = drawn.plan.changes.iter().flatten().filter(|changed| **changed).count();
     assert_eq!(drawn.all("change").len(), changes);
+    check_hollow(drawn);
     let idle: Vec<i64> = drawn.all("idle").iter().flat_map(|run| run.number("data-from") as i64..=run.number("data-to") as i64).collect();
     assert_eq!(idle, drawn.job.idles);
     for run in drawn.all("idle") {
         assert!(close(run.number("x"), drawn.x(run.number("data-from") as i64 - 1)));
         assert!(close(run.number("x") + run.number("width"), drawn.x(run.number("data-to") as i64)));
     }
+}
+
+/// A hollow mark for each part that comes out at a stop and stays in use, on its row, and "behind" under each part that has holders.
+fn check_hollow(drawn: &Drawn) {
+    let mut expected = Vec::new();
+    for (at, opening) in drawn.job.openings.iter().enumerate() {
+        let changed: Vec<usize> = (0..drawn.job.parts.len()).filter(|part| drawn.plan.changes[*part][at]).collect();
+        let mut out = changed.clone();
+        let mut next = 0;
+        while let Some(part) = out.get(next).copied() {
+            out.extend(drawn.job.parts[part].holders.clone().into_iter().filter(|holder| !out.contains(holder)).collect::<Vec<_>>());
+            next += 1;
+        }
+        out.sort_unstable();
+        expected.extend(out.into_iter().filter(|part| !changed.contains(part)).map(|part| (opening.step, part + 1)));
+    }
+    let marks: Vec<(i64, usize)> =
+        drawn.all("back").iter().map(|mark| (mark.number("data-step") as i64, mark.number("data-part") as usize)).collect();
+    assert_eq!(marks, expected);
+    let held = drawn.job.parts.iter().filter(|part| !part.holders.is_empty()).count();
+    assert_eq!(drawn.words().matches("behind ").count(), held);
 }
 
 /// Fees above their stops, costs beneath, and all words on the sheet.
@@ -154,8 +184,7 @@ fn check_words(drawn: &Drawn) {
     let line = format!("Fees {fees} \u{b7} Parts {prices}{removals} \u{b7} Total {cost}").replace(" \u{b7} ", "  \u{b7}  ");
     assert!(words.contains(&line), "{words}");
     assert_eq!(words.contains("Stated "), cost != drawn.stated);
-    let floor = drawn.job.floor();
-    assert_eq!(number_after(&words, "No plan costs less than "), floor);
+    check_standing(drawn, &words, cost);
     let labels: Vec<(String, String)> = match drawn.all("up") {
         up if up.is_empty() => {
             drawn.all("step").iter().zip(drawn.all("fee")).map(|(step, fee)| (step.text.clone(), fee.text.clone())).collect()
@@ -175,6 +204,17 @@ fn check_words(drawn: &Drawn) {
         let (left, right) = if element.is("end") { (x - width, x) } else { (x, x) };
         assert!(left >= 0.0 && right < sheet.number("width") && (0.0..sheet.number("height")).contains(&y), "on the sheet: {element:?}");
     }
+}
+
+/// How the plan stands to the cheapest one: by the program's own plan of the job, which these jobs' walks find; nothing where a life is not kept.
+fn check_standing(drawn: &Drawn, words: &str, cost: u64) {
+    let refused = words.contains("REFUSED: part ");
+    let least = drawn.least.filter(|_| !refused);
+    assert_eq!(words.contains("The cheapest possible (proved)"), least == Some(cost), "{words}");
+    let more = least.filter(|least| *least < cost).map(|least| format!("{} more than the cheapest", cost - least));
+    assert!(more.is_none_or(|more| words.contains(&more)), "{words}");
+    assert_eq!(words.contains(" could still be saved"), !refused && drawn.least.is_none(), "{words}");
+    assert!(!words.contains("No plan costs less"), "no floor under a proved cost: {words}");
 }
 
 /// Labels of stops do not stand on each other.
@@ -258,7 +298,65 @@ fn a_refused_plan_is_drawn_with_its_verdict() {
     }
     let drawn = draw(&text(JOB), &planned(&text(JOB)), "kept.svg");
     assert!(drawn.words().contains("Verdict: every part's life is kept and the cost is true: 37."), "{}", drawn.words());
+    assert!(drawn.words().contains("Total 37  \u{b7}  The cheapest possible (proved)"), "{}", drawn.words());
     assert_eq!(drawn.all("late").len(), 0);
+    let drawn = draw(&text(JOB), b"", "nothing.svg");
+    assert!(drawn.words().contains("too late; nor is part 2."), "every part that fails is named: {}", drawn.words());
+}
+
+/// Removals stand in the page's tables, so that fees, prices and removals add up to the total.
+#[test]
+fn tables_of_a_page_add_up() {
+    let text = job("38_week8_guard_shutdown");
+    let folder = Folder::new();
+    folder.write("job.txt", &text);
+    assert_eq!(folder.run(&["plan", "job.txt", "-o", "plan.txt"]).status, 3);
+    let drawn = draw(&text, folder.read("plan.txt").as_bytes(), "page.html");
+    let cells: Vec<&str> = drawn.elements.iter().filter(|element| element.name == "td").map(|element| element.text.as_str()).collect();
+    let number = |cell: &str| plain(cell).parse::<u64>().unwrap_or_else(|_| panic!("{cell:?} is a number"));
+    let (stops, parts) = (drawn.steps(true).len(), drawn.job.parts.len());
+    assert_eq!(cells.len(), (stops + 1) * 7 + (parts + 1) * 5);
+    let rows: Vec<&[&str]> = cells[..(stops + 1) * 7].chunks(7).collect();
+    for column in 2..=4 {
+        let sum: u64 = rows[..stops].iter().map(|row| number(row[column])).sum();
+        assert_eq!(number(rows[stops][column]), sum, "column {column}");
+    }
+    let total: u64 = (2..=4).map(|column| number(rows[stops][column])).sum();
+    assert_eq!((rows[stops][6], total), (format!("total {}", cells_grouped(total)).as_str(), drawn.job.cost(&drawn.plan)));
+    let rows: Vec<&[&str]> = cells[(stops + 1) * 7..].chunks(5).collect();
+    for column in 1..=3 {
+        let sum: u64 = rows[..parts].iter().map(|row| number(row[column])).sum();
+        assert_eq!(number(rows[parts][column]), sum, "column {column}");
+    }
+    assert!(drawn.all("back").len() > 10 && drawn.words().contains("behind 2"), "holders are drawn");
+}
+
+/// A number below a million with its comma.
+fn cells_grouped(number: u64) -> String {
+    if number < 1000 {
+        number.to_string()
+    } else {
+        format!("{},{:03}", number / 1000, number % 1000)
+    }
+}
+
+/// Names that cannot be told from numbers, that have quotes, commas and letters of other alphabets; dates of weeks.
+#[test]
+fn names_and_dates_are_drawn() {
+    let text = job("13_shutdown");
+    let folder = Folder::new();
+    folder.write("job.txt", &text);
+    folder.write("plan.txt", &planned(&text));
+    folder.write("names.csv", "part,name,order\n1,\"Valve, <seat> & \"\"ring\"\"\",VS-204\n3,D\u{fc}se,\n".as_bytes());
+    for name in ["a.svg", "a.html"] {
+        let ran =
+            folder.run(&["draw", "job.txt", "plan.txt", "-o", name, "--from", "2027-01-04", "--step", "week", "--names", "names.csv"]);
+        assert_eq!(ran.status, 0, "{ran:?}");
+        let words: String = elements(&folder.read(name)).into_iter().map(|element| element.text + "\n").collect();
+        assert!(words.contains("\n1 Valve, <seat> &") && words.contains("3 D\u{fc}se\n") && words.contains("Part 2\n"), "{words}");
+        assert!(words.contains("2027-01-25") && words.contains("step 1 begins on 2027-01-04"), "{words}");
+    }
+    assert!(folder.read("a.html").contains("<td>VS-204</td>"));
 }
 
 #[test]
@@ -285,6 +383,6 @@ fn pages_have_their_lists() {
     let drawn = draw(&text, &plan, "page.html");
     let cells = drawn.elements.iter().filter(|element| element.name == "td").count();
     let stops = drawn.steps(true).len();
-    assert_eq!(cells, stops * 5 + 16 * 4);
+    assert_eq!(cells, (stops + 1) * 5 + (16 + 1) * 4, "with the sums beneath");
     assert!(drawn.elements.iter().any(|element| element.name == "meta" && element.get("charset") == Some("utf-8")));
 }

@@ -89,7 +89,7 @@ fn lines_that_are_not_well_formed() {
     assert_eq!(of_job("fee=10", "fee="), format!("job.txt:5: fee {digits}\n    fee=\n"));
     assert_eq!(of_job("fee=10", "fee=12345678901"), format!("job.txt:5: fee {digits}\n    fee=12345678901\n"));
     assert_eq!(of_job("horizon=6", "horizon=6 idles=x"), format!("job.txt:2: idles {digits}\n    idles=x\n"));
-    assert_eq!(of_plan("part=1", "part=1.5"), format!("plan.txt:5: part {digits}\n    part=1.5\n"));
+    assert_eq!(of_plan("part=1", "part=1x"), format!("plan.txt:5: part {digits}\n    part=1x\n"));
     assert_eq!(of_job("walk=11", "work=11"), "job.txt:2: `walk=` (or `idles=`) is due here (2)\n    work=11\n");
     assert_eq!(of_job("fee=10 opening=3", "opening=3"), "job.txt:5: `fee=` is due here (2)\n    opening=3\n");
     assert_eq!(of_job("openings=4", "openings=5"), "job.txt:12: `opening=` is due here (2)\n    parts=2\n");
@@ -111,7 +111,8 @@ fn ends_of_texts_and_of_lines() {
     assert_eq!(said(short, b""), "job.txt:24: the last line is not ended by a line feed (2)\n    price=7\n");
     assert_eq!(said(&job[..job.len() - 8], b""), "job.txt:24: the text ends, and `price=` is due (2)\n");
     assert_eq!(said(b"", b""), "job.txt:1: the text ends, and `horizon=` is due (2)\n");
-    assert_eq!(said(&job, b"\n"), "plan.txt:1: `cost=` is due here (2)\n");
+    let nothing = "the plan is one empty line; doing nothing is a file of no bytes, or the lines cost=0 and stops=0 (2)";
+    assert_eq!(said(&job, b"\n"), format!("plan.txt:1: {nothing}\n"));
     let windows = String::from_utf8(job.clone()).expect("text").replace('\n', "\r\n");
     let words =
         "job.txt:1: the line ends with a carriage return, as Windows writes it; a line feed alone ends a line (2)\n    horizon=6\\x0d\n";
@@ -129,4 +130,68 @@ fn long_texts_and_odd_bytes() {
     assert_eq!(said(&line, b""), format!("job.txt:1: `horizon=` is due here (2)\n    {} .. (400 bytes)\n", "z".repeat(160)));
     let words = "job.txt:1: `horizon=` is due here (2)\n    \\x1b[2J\\x00\\xff\u{e9}\n";
     assert_eq!(said(b"\x1b[2J\0\xff\xc3\xa9\n", b""), words);
+}
+
+/// A job whose first `old` line is this one; what is said of it, without the file's name, the line's number and the fault's.
+fn slip(old: &str, new: &str) -> String {
+    let job = String::from_utf8(text(JOB)).expect("text").replacen(&format!("{old}\n"), &format!("{new}\n"), 1);
+    let words = said(job.as_bytes(), b"");
+    let first = words.lines().next().expect("words");
+    first.splitn(3, ':').nth(2).and_then(|rest| rest.strip_suffix(" (2)")).unwrap_or_else(|| panic!("{words}")).trim_start().to_string()
+}
+
+#[test]
+fn slips_are_named_for_what_they_are() {
+    let whole = "(prices and fees are whole numbers, for example of cents)";
+    let cases = [
+        ("fee=10", "fee=10 ", "a blank stands at the line's end".to_string()),
+        ("fee=10", "fee=10\t", "a blank stands at the line's end".to_string()),
+        ("fee=10", " fee=10", "a blank stands before `fee`".to_string()),
+        ("fee=10", "fee = 10", "blanks stand around `=`, and there are none: fee=value".to_string()),
+        ("fee=10", "fee= 10", "blanks stand around `=`, and there are none: fee=value".to_string()),
+        ("fee=10", "fee: 10", "`=` stands between `fee` and its value: fee=value".to_string()),
+        ("fee=10", "fee 10", "`=` stands between `fee` and its value: fee=value".to_string()),
+        ("fee=10", "fee=10,", "a comma stands at the line's end".to_string()),
+        ("fee=10", "fee=1,000", format!("a comma stands in the value of `fee`, which is digits alone {whole}")),
+        ("price=5", "price=12.50", format!("price is not a whole number {whole}")),
+        ("price=5", "price=12,50", format!("a comma stands in the value of `price`, which is digits alone {whole}")),
+        ("price=5", "price=-5", "price has a sign, and is digits alone".to_string()),
+        ("fee=10", "fee=\"10\"", "quotes stand around the value of `fee`, and the texts have none".to_string()),
+        ("fee=10", "\"fee=10\"", "quotes stand around `fee`, and the texts have none".to_string()),
+        ("fee=10", "\"fee\"=10", "quotes stand around `fee`, and the texts have none".to_string()),
+        ("fee=10", "Fee=10", "`fee` is written in small letters".to_string()),
+        ("horizon=6", "HORIZON=6", "`horizon` is written in small letters".to_string()),
+        ("fee=10", "# the fee", "this is a comment, and the texts have none".to_string()),
+        ("fee=10", "fee=10 # the fee", "a comment stands behind the value, and the texts have none".to_string()),
+        ("fee=10", "", "the line is empty, and no line may be".to_string()),
+        ("fee=10", "   ", "the line has only blanks".to_string()),
+        ("walk=11", "Idles=1", "`idles` is written in small letters".to_string()),
+        ("left=2", "left=2\nRemoval=1", "`removal` is written in small letters".to_string()),
+        ("fee=10", "fees=10", "`fee=` is due here".to_string()),
+    ];
+    for (old, new, words) in cases {
+        assert_eq!(slip(old, new), words, "{new:?}");
+    }
+}
+
+#[test]
+fn texts_of_another_kind_are_named() {
+    let (job, plan) = (text(JOB), text(PLAN));
+    let exchanged = "are the two files exchanged? (2)";
+    assert_eq!(said(&plan, &job), format!("job.txt:1: this is a plan, and a job is due; {exchanged}\n    cost=37\n"));
+    assert_eq!(said(&job, &job), format!("plan.txt:1: this is a job, and a plan is due; {exchanged}\n    horizon=6\n"));
+    let answer = [b"result=0\nnodes=11\nfloor=37\n", &plan[..]].concat();
+    assert_eq!(
+        said(&job, &answer),
+        "plan.txt:1: this is a planner's whole answer; the plan is its lines from `cost=` on (2)\n    result=0\n"
+    );
+    assert_eq!(said(&answer, &plan), "job.txt:1: this is a planner's answer, and a job is due (2)\n    result=0\n");
+    for order in [u16::to_le_bytes, u16::to_be_bytes] {
+        let wide = |mark: &str| {
+            String::from_utf8(job.clone()).map(|job| (mark.to_string() + &job).encode_utf16().flat_map(order).collect::<Vec<u8>>())
+        };
+        for text in [wide("\u{feff}").expect("text"), wide("").expect("text")] {
+            assert!(said(&text, b"").starts_with("job.txt:1: the text is UTF-16, as some editors save it"), "{}", said(&text, b""));
+        }
+    }
 }

@@ -5,7 +5,7 @@ mod common;
 use common::inputs::{self, Facts};
 use common::paper::{text, JOB};
 use common::rng::Rng;
-use common::tool::{job, plain, Folder};
+use common::tool::{job, number_after, plain, Folder};
 use juzvarola_host::reference::model::{Job, Plan};
 use juzvarola_host::reference::texts::{read_job, read_plan};
 
@@ -97,7 +97,8 @@ fn comma_separated_values_add_up() {
             let every = rng.within(1, 40);
             let ran = folder.run(&["list", "job", "plan", "--csv", "--every", &every.to_string()]);
             let judged = folder.run(&["judge", "job", "plan"]);
-            assert_eq!((ran.status, &ran.err), (judged.status, &judged.err));
+            let words = judged.out.rsplit_once(" (").expect("a verdict").0;
+            assert!(ran.status == judged.status && ran.err.starts_with(words), "{ran:?} {judged:?}");
             check_rows(&rows(&ran.out), &job, &read, every);
         }
     });
@@ -107,6 +108,7 @@ fn comma_separated_values_add_up() {
 const LISTS: &str = "\
 Plan plan.txt of job job.txt
 every part's life is kept and the cost is true: 37 (result 0)
+the cheapest possible (proved)
 
 Parts to buy
   part  count  prices  at steps
@@ -135,7 +137,6 @@ Costs
   fees       20
   parts      17
   total      37
-  floor      37
 ";
 
 #[test]
@@ -145,7 +146,7 @@ fn lists_of_the_specifications_plan() {
     folder.write("plan.txt", &text("cost=37 stops=2 stop=2 count=1 part=1 stop=4 count=2 part=1 part=2"));
     let ran = folder.run(&["list", "job.txt", "plan.txt", "--every", "3"]);
     assert_eq!((ran.status, ran.out.as_str()), (0, LISTS));
-    assert_eq!(ran.err, "plan.txt: every part's life is kept and the cost is true: 37 (0)\n");
+    assert_eq!(ran.err, "plan.txt: every part's life is kept and the cost is true: 37; the cheapest possible (proved) (0)\n");
 }
 
 #[test]
@@ -177,8 +178,8 @@ fn long_lists_are_broken_and_lose_nothing() {
 /// That plan beside another.
 const COMPARISON: &str = "\
 Two plans of job job.txt
-A  best.txt: every part's life is kept and the cost is true: 37 (result 0)
-B  other.txt: every part's life is kept and the cost is true: 44 (result 0)
+A  best.txt: every part's life is kept and the cost is true: 37; the cheapest possible (proved) (result 0)
+B  other.txt: every part's life is kept and the cost is true: 44; 7 more than the cheapest (result 0)
 
 Costs
   of            A   B  B less A
@@ -188,7 +189,6 @@ Costs
   parts        17  24        +7
   total        37  44        +7
   stated cost  37  44        +7
-  floor        37  37
 
 Where they differ: parts changed
   step  A     B
@@ -217,4 +217,115 @@ fn comparisons() {
     let ran = folder.run(&["compare", "job.txt", "best.txt", "fault.txt"]);
     assert_eq!((ran.status, ran.out.as_str()), (2, ""));
     assert!(ran.err.contains("fault.txt:3: stop is no opening"), "{}", ran.err);
+}
+
+/// Where a short walk does not find the cheapest plan, the list says what could still be saved, and the floor.
+#[test]
+fn what_could_still_be_saved() {
+    let folder = Folder::new();
+    folder.write("job.txt", &job("14_full64_4"));
+    assert_eq!(folder.run(&["plan", "job.txt", "-o", "plan.txt"]).status, 3);
+    let ran = folder.run(&["list", "job.txt", "plan.txt"]);
+    let saved = number_after(&ran.out, "at most ").expect("what could be saved");
+    let (total, floor) = (number_after(&ran.out, "  total ").expect("a total"), number_after(&ran.out, "  floor ").expect("a floor"));
+    assert_eq!((ran.status, saved), (0, total - floor), "{}", ran.out);
+    let share = format!("at most {saved} ({:.0} %) could still be saved", saved as f64 * 100.0 / total as f64);
+    assert!(plain(&ran.out).contains(&share), "{}", ran.out);
+    folder.write("nothing.txt", b"");
+    let ran = folder.run(&["compare", "job.txt", "plan.txt", "nothing.txt"]);
+    assert!(ran.out.contains("floor") && ran.out.matches("could still be saved").count() == 1, "{}", ran.out);
+}
+
+/// On a terminal the verdict is shown once; where the list goes elsewhere it is said beside it too.
+#[test]
+fn the_verdict_stands_once_on_a_terminal() {
+    let folder = Folder::new();
+    folder.write("job.txt", &text(JOB));
+    folder.write("plan.txt", &text("cost=37 stops=2 stop=2 count=1 part=1 stop=4 count=2 part=1 part=2"));
+    for (words, verdicts) in [
+        ("list job.txt plan.txt", 1),
+        ("judge job.txt plan.txt", 1),
+        ("compare job.txt plan.txt plan.txt", 2),
+        ("list job.txt plan.txt --csv", 1),
+    ] {
+        let ran = folder.shell(&format!("script -qec '\"$juzvarola\" {words}' /dev/null"));
+        assert_eq!((ran.status, ran.out.matches("every part's life is kept").count()), (0, verdicts), "{words}: {ran:?}");
+    }
+    let ran = folder.shell("\"$juzvarola\" judge job.txt plan.txt > v.txt");
+    assert_eq!(
+        (ran.err.as_str(), folder.read("v.txt").as_str()),
+        ("", "plan.txt: every part's life is kept and the cost is true: 37 (0)\n")
+    );
+    let ran = folder.run(&["draw", "job.txt", "plan.txt", "-o", "-"]);
+    assert!(ran.out.starts_with("<?xml") && ran.err.starts_with("plan.txt: every part's life is kept"), "{}", ran.err);
+}
+
+/// Dates and names in all lists; the columns of the values grow by them.
+#[test]
+fn dates_and_names() {
+    let folder = Folder::new();
+    folder.write("job.txt", &text(JOB));
+    folder.write("plan.txt", &text("cost=37 stops=2 stop=2 count=1 part=1 stop=4 count=2 part=1 part=2"));
+    folder.write("names.csv", "\u{feff}1;\"Seal; lower\";S-1\r\n2;=Ring;\r\n".as_bytes());
+    let dated = ["--from", "2027-01-31", "--step", "month", "--names", "names.csv"];
+    let ran = folder.run(&[&["list", "job.txt", "plan.txt", "--every", "3"], &dated[..]].concat());
+    assert_eq!(ran.status, 0, "{ran:?}");
+    for words in [
+        "2 (2027-02-28), 4 (2027-04-30)",
+        "1 Seal; lower",
+        "S-1",
+        "1 (2027-01-31) to 3 (2027-03-31)",
+        "1 of part 2 =Ring",
+        "step 1 begins on 2027-01-31",
+    ] {
+        assert!(ran.out.contains(words), "{words}: {}", ran.out);
+    }
+    let ran = folder.run(&[&["list", "job.txt", "plan.txt", "--csv"], &dated[..]].concat());
+    assert!(ran.out.starts_with("record,step,from,to,part,count,price,amount,running,date,name,order\n"), "{}", ran.out);
+    assert!(ran.out.contains("\nchange,2,,,1,1,5,5,,2027-02-28,\"Seal; lower\",S-1\n"), "{}", ran.out);
+    assert!(ran.out.contains("\nchange,4,,,2,1,7,7,,2027-04-30,'=Ring,\n"), "a formula is none: {}", ran.out);
+    let ran = folder.run(&[&["compare", "job.txt", "plan.txt", "/dev/null"], &dated[..]].concat());
+    assert!(
+        ran.out.contains("2 (2027-02-28)  1 Seal; lower")
+            && ran.out.contains("part 1 Seal; lower is not kept: it is due by step 2 (2027-02-28)"),
+        "{}",
+        ran.out
+    );
+    for (names, words) in [
+        ("17,x\n", "cell A1: '17' is not a part's number"),
+        ("1,x\n1,y\n", "cell A2: part 1 is named twice"),
+        ("3,x\n", "part 3 is named, and the job has 2 parts"),
+    ] {
+        folder.write("bad.csv", names.as_bytes());
+        let ran = folder.run(&["list", "job.txt", "plan.txt", "--names", "bad.csv"]);
+        assert!(ran.status == 2 && ran.err.contains(words), "{ran:?}");
+    }
+}
+
+/// The stops for a calendar program: an event for each stop, lines of at most 75 bytes that end as the standard says.
+#[test]
+fn calendars() {
+    let folder = Folder::new();
+    folder.write("job.txt", &job("13_shutdown"));
+    assert_eq!(folder.run(&["plan", "job.txt", "-o", "plan.txt"]).status, 0);
+    folder.write(
+        "names.csv",
+        "1,\"A name, with \u{e4} comma; and more of it, so that the line must be broken somewhere in it\"\n".as_bytes(),
+    );
+    let ran =
+        folder.run(&["draw", "job.txt", "plan.txt", "-o", "plan.ics", "--from", "2027-01-04", "--step", "week", "--names", "names.csv"]);
+    assert_eq!(ran.status, 0, "{ran:?}");
+    let text = folder.read("plan.ics");
+    assert!(text.ends_with("\r\n") && text.split("\r\n").all(|line| line.len() <= 75 && !line.contains('\n')), "{text}");
+    let whole = text.replace("\r\n ", "");
+    let lines: Vec<&str> = whole.split("\r\n").collect();
+    let stops = folder.read("plan.txt").lines().filter(|line| line.starts_with("stop=")).count();
+    for (line, count) in [("BEGIN:VEVENT", stops), ("END:VEVENT", stops), ("BEGIN:VCALENDAR", 1), ("END:VCALENDAR", 1), ("VERSION:2.0", 1)]
+    {
+        assert_eq!(lines.iter().filter(|own| **own == line).count(), count, "{line}");
+    }
+    assert!(lines.contains(&"DTSTART;VALUE=DATE:20270125") && lines.contains(&"DTEND;VALUE=DATE:20270201"), "{whole}");
+    assert!(whole.contains("SUMMARY:Stop 1: change 1 A name\\, with \u{e4} comma\\; and more"), "{whole}");
+    let ran = folder.run(&["draw", "job.txt", "plan.txt", "-o", "plan.ics"]);
+    assert!(ran.status == 64 && ran.err.contains("needs --from DATE"), "{ran:?}");
 }

@@ -78,13 +78,19 @@ fn check(folder: &Folder, call: &common::Call) -> u32 {
     match reply.text {
         1 => check_refusal(&ran, &reply, &call.job, "a job.txt"),
         2 => check_refusal(&ran, &reply, call.plan.as_deref().unwrap_or_default(), "its plan.txt"),
+        _ if call.plan.is_some() => assert!(ran.out.ends_with(&format!(" ({})\n", reply.result)) && ran.err.is_empty(), "{ran:?}"),
         _ => assert!(ran.err.contains(&format!(" ({})\n", reply.result)), "{ran:?}"),
     }
-    assert_eq!(ran.out, if call.plan.is_none() { plan_lines(&reply) } else { String::new() });
+    if call.plan.is_none() || reply.text != 0 {
+        assert_eq!(ran.out, if call.plan.is_none() { plan_lines(&reply) } else { String::new() });
+    }
     if call.plan.is_none() && matches!(reply.result, 0 | 7) {
-        assert_eq!(number_after(&ran.err, "no plan costs less than "), value(&reply, "floor"));
-        let nodes = value(&reply, "nodes").expect("nodes");
-        assert!(plain(&ran.err).contains(&format!("; {nodes} nodes were walked (")), "{ran:?}");
+        let (nodes, floor) = (value(&reply, "nodes").expect("nodes"), value(&reply, "floor").expect("floor"));
+        assert!(plain(&ran.err).contains(&format!("{nodes} nodes were walked (")), "{ran:?}");
+        let cost = value(&reply, "cost").filter(|_| reply.result == 7);
+        assert_eq!(number_after(&ran.err, "no plan costs less than "), cost.map(|_| floor), "{ran:?}");
+        assert_eq!(number_after(&ran.err, "at most ").filter(|_| cost.is_some()), cost.map(|cost| cost - floor), "{ran:?}");
+        assert_eq!(ran.err.contains("; proved, "), reply.result == 0, "{ran:?}");
     }
     reply.result
 }
@@ -115,7 +121,7 @@ fn plans_of_jobs_are_those_of_the_table() {
         assert_eq!(number_after(&ran.err, "the cheapest plan costs "), Some(row.cost), "{}", row.name);
         let words = plain(&ran.err);
         assert!(
-            words.contains(&format!("no plan costs less than {} (the floor); {} nodes were walked (0)", row.floor, row.nodes)),
+            words.contains(&format!("; proved, {} nodes were walked (0)", row.nodes)) && !words.contains("no plan costs less"),
             "{words}"
         );
         let fees = number_after(&ran.err, "(fees ").expect("fees");
@@ -123,7 +129,7 @@ fn plans_of_jobs_are_those_of_the_table() {
         assert_eq!(fees + parts, row.cost);
         let judged = folder.run(&["judge", "job.txt", "plan.txt"]);
         assert_eq!(judged.status, 0);
-        assert_eq!(number_after(&judged.err, "the cost is true: "), Some(row.cost));
+        assert_eq!(number_after(&judged.out, "the cost is true: "), Some(row.cost));
     }
 }
 
@@ -162,9 +168,19 @@ fn lateness_is_worn_step_by_step() {
             folder.write("plan", &plan);
             let ran = folder.run(&["judge", "job", "plan"]);
             let (part, due) = (value(&reply, "part").expect("part"), value(&reply, "due").expect("due"));
-            assert!(ran.err.contains(&format!("part {part} is not kept: it is due by step {due} ")), "{ran:?}");
-            let said: Vec<&str> = ran.err.split(" running step").next().expect("words").rsplit(' ').collect();
+            assert!(ran.out.contains(&format!("part {part} is not kept: it is due by step {due} ")), "{ran:?}");
+            let said: Vec<&str> = ran.out.split(" running step").next().expect("words").rsplit(' ').collect();
             assert_eq!(plain(said[0]).parse().ok(), worn_too_long(&job, &plan, part as usize), "{ran:?}");
+            let all = folder.run(&["judge", "job", "plan", "-v"]);
+            let failing = (1..=facts.parts.len())
+                .filter(|part| worn_too_long(&job, &plan, *part).is_some())
+                .map(|part| format!("part {part} is not kept"));
+            let named: Vec<String> = all
+                .out
+                .lines()
+                .map(|line| line[line.find("part ").expect("a part")..].split(':').next().expect("words").to_string())
+                .collect();
+            assert_eq!(named, failing.collect::<Vec<_>>(), "every part that fails: {all:?}");
         }
     });
 }
@@ -181,7 +197,10 @@ fn plan_of(lines: &str) -> (Ran, bool) {
 fn cut_walks_and_hopeless_jobs() {
     let (ran, made) = plan_of(&altered("walk=11", "walk=8"));
     assert_eq!((ran.status, made), (3, true));
-    assert!(ran.err.contains("the best plan so far, which may not be the cheapest, costs 44"), "{}", ran.err);
+    let words =
+        "the walk is longer than its walk number, 8; the best plan so far costs 44 (fees 20, parts 24), with 2 stops and 4 changes; \
+                 at most 7 (16 %) could still be saved, as no plan costs less than 37; 8 nodes were walked (7)";
+    assert!(ran.err.contains(words), "{}", ran.err);
     let (ran, made) = plan_of(&altered("walk=11", "walk=6"));
     assert_eq!((ran.status, made), (3, false));
     assert!(ran.err.contains("no plan was found so far") && ran.err.contains("plan.txt is not written"), "{}", ran.err);
@@ -201,7 +220,8 @@ fn verdict(plan: &str) -> (i32, String) {
     folder.write("job.txt", &text(JOB));
     folder.write("plan.txt", &text(plan));
     let ran = folder.run(&["judge", "job.txt", "plan.txt"]);
-    (ran.status, ran.err)
+    assert_eq!(ran.err, "");
+    (ran.status, ran.out)
 }
 
 #[test]
@@ -237,13 +257,58 @@ fn counts() {
     let folder = Folder::new();
     folder.write("job.txt", &text(JOB));
     let ran = folder.run(&["count", "job.txt"]);
-    let words = "job.txt: the walk has at most 17 nodes; its walk number, 11, is less, so the planner may answer 7\n";
+    let words = "job.txt: the walk has at most 17 nodes, which take at most 0.1 s here; its walk number, 11, is less, so the planner may answer 7\n";
     assert_eq!((ran.status, ran.out.as_str(), ran.err.as_str()), (0, words, ""));
     folder.write("job.txt", &text(&altered("walk=11", "walk=17")));
-    assert_eq!(folder.run(&["count", "job.txt"]).out, "job.txt: the walk has at most 17 nodes; its walk number, 17, is enough\n");
+    assert!(folder.run(&["count", "job.txt"]).out.ends_with("; its walk number, 17, is enough\n"));
     folder.write("job.txt", &common::tool::job("14_full64_4"));
-    assert_eq!(folder.run(&["count", "job.txt"]).out, "job.txt: the walk may have 4,000,000,000 nodes or more\n");
+    let out = folder.run(&["count", "job.txt"]).out;
+    assert!(out.starts_with("job.txt: the walk may have 4,000,000,000 nodes or more, which take "), "{out}");
+    assert!(out.contains(" s here; ") || out.contains(" min here; "), "{out}");
     folder.write("job.txt", &text(&altered("left=2", "left=4")));
     let ran = folder.run(&["count", "job.txt"]);
+    assert_eq!((ran.status, ran.out.as_str(), ran.err.as_str()), (2, "", "job.txt:14: left is greater than life (5)\n    left=4\n"));
+}
+
+/// A count of 1 says "no plan" where it means it: not for a job that needs no stop.
+#[test]
+fn counts_of_one() {
+    let folder = Folder::new();
+    for (lines, words) in [
+        (altered("left=2", "left=1"), "no plan keeps the lives, so there is nothing to walk"),
+        ("horizon=6 walk=11 openings=0 parts=1 life=6 left=6".to_string(), "no plan keeps the lives, so there is nothing to walk"),
+        (
+            "horizon=6 walk=11 openings=0 parts=1 life=7 left=7".to_string(),
+            "the walk has at most 1 node, which takes at most 0.1 s here; its walk number, 11, is enough",
+        ),
+    ] {
+        folder.write("job.txt", &text(&lines));
+        let ran = folder.run(&["count", "job.txt"]);
+        assert_eq!((ran.status, ran.out), (0, format!("job.txt: {words}\n")), "{lines}");
+    }
+}
+
+/// What the longest walk would take, where this one was cut short.
+#[test]
+fn a_longer_walk_is_offered() {
+    let folder = Folder::new();
+    folder.write("job.txt", &common::tool::job("14_full64_4"));
+    let ran = folder.run(&["plan", "job.txt", "-o", "plan.txt"]);
+    let words = "    the greatest walk number, --walk 4000000000, takes about ";
+    assert!(
+        ran.status == 3 && ran.err.lines().nth(1).is_some_and(|line| line.starts_with(words) && line.ends_with(" here at most")),
+        "{ran:?}"
+    );
+}
+
+#[test]
+fn jobs_are_checked() {
+    let folder = Folder::new();
+    folder.write("job.txt", &common::tool::job("38_week8_guard_shutdown"));
+    let ran = folder.run(&["check", "job.txt"]);
+    let words = "job.txt: a job without faults: 52 steps, 52 openings, 8 parts, 3 idle steps, 7 parts behind others (0)\n";
+    assert_eq!((ran.status, ran.out.as_str(), ran.err.as_str()), (0, words, ""));
+    folder.write("job.txt", &text(&altered("left=2", "left=4")));
+    let ran = folder.run(&["check", "job.txt"]);
     assert_eq!((ran.status, ran.out.as_str(), ran.err.as_str()), (2, "", "job.txt:14: left is greater than life (5)\n    left=4\n"));
 }

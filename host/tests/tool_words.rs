@@ -4,7 +4,7 @@
 mod common;
 use common::tool::{Folder, Ran};
 
-const COMMANDS: [&str; 6] = ["plan", "judge", "list", "draw", "compare", "count"];
+const COMMANDS: [&str; 9] = ["plan", "judge", "list", "draw", "compare", "count", "write", "check", "completion"];
 
 /// A usage error: status 64, these words on standard error, nothing on standard output.
 fn refused(words: &[&str], message: &str) {
@@ -25,7 +25,7 @@ fn help_and_version() {
         let asked = [folder.run(&[command, "--help"]), folder.run(&["help", command]), folder.run(&[command, "no file", "-h"])];
         for Ran { status, out, err } in asked {
             assert_eq!((status, err.as_str()), (0, ""));
-            assert!(out.starts_with(&format!("usage: juzvarola {command} ")), "{out}");
+            assert!(out.starts_with(&format!("usage: juzvarola {command}")), "{out}");
             assert!(out.contains("exit status:"), "{out}");
         }
     }
@@ -36,6 +36,7 @@ fn help_and_version() {
 #[test]
 fn help_fits_a_terminal() {
     let folder = Folder::new();
+    assert!(folder.run(&["help"]).out.lines().all(|line| line.chars().count() <= 86));
     for command in COMMANDS {
         let out = folder.run(&["help", command]).out;
         assert!(out.lines().all(|line| line.chars().count() <= 80), "{out}");
@@ -65,7 +66,16 @@ fn files_and_values_are_counted() {
     refused(&["judge", "-", "-"], "standard input (-) can be read for one file only");
     refused(&["plan", "a", "-o"], "-o needs a value");
     refused(&["draw", "a", "b"], "draw needs -o FILE");
-    refused(&["draw", "a", "b", "-o", "c.png"], "ends neither in .svg nor in .html");
+    refused(&["draw", "a", "b", "-o", "c.png"], "ends neither in .svg nor in .html nor in .ics");
+    refused(&["list", "a", "b", "--csv", "--json"], "give one of them");
+    refused(&["list", "a", "b", "--step", "week"], "needs --from DATE");
+    for date in ["2027-02-29", "04.01.2027", "2027-1-4"] {
+        refused(&["list", "a", "b", "--from", date], "--from takes a date such as 2027-01-04");
+    }
+    refused(&["list", "a", "b", "--from", "2027-01-04", "--step", "year"], "--step takes day, week or month");
+    refused(&["plan", "a", "--for", "soon"], "--for takes a time such as 60s, 5m or 1h");
+    refused(&["plan", "a", "--walk", "4000000001"], "--walk takes a number of nodes from 0 to 4000000000");
+    refused(&["list", "-", "b", "--names", "-"], "standard input (-) can be read for one file only");
     refused(&["list", "a", "b", "--csv=yes"], "--csv takes no value");
     for steps in ["0", "366", "x", "-1", ""] {
         refused(&["list", "a", "b", "--every", steps], "--every takes a number of steps from 1 to 365");
@@ -82,4 +92,24 @@ fn options_stand_anywhere_and_end_at_two_dashes() {
         assert!(folder.read("a").starts_with("cost=37\n"));
         std::fs::remove_file(folder.0.join("a")).expect("the plan");
     }
+}
+
+/// bash completes commands, options and files by the program's own script.
+#[test]
+fn words_are_completed() {
+    let folder = Folder::new();
+    folder.write("a job.txt", b"");
+    let complete = |words: &str| {
+        let count = words.split('|').count();
+        let list = words.split('|').map(|word| format!("'{word}' ")).collect::<String>();
+        let line = format!("bash -c 'eval \"$(\"$juzvarola\" completion)\"; COMP_WORDS=(juzvarola \"$@\"); COMP_CWORD={count}; _juzvarola; printf \"%s\\n\" \"${{COMPREPLY[@]}}\"' x {list}");
+        let ran = folder.shell(&line);
+        assert_eq!(ran.status, 0, "{ran:?}");
+        ran.out.lines().map(str::to_string).collect::<Vec<_>>()
+    };
+    assert_eq!(complete("co"), ["compare", "count", "completion"]);
+    assert_eq!(complete("list|--e"), ["--every"]);
+    assert_eq!(complete("list|a|b|--step|w"), ["week"]);
+    assert_eq!(complete("plan|--q"), ["--quiet"]);
+    assert_eq!(complete("plan|a"), ["a job.txt"]);
 }

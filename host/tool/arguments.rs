@@ -1,9 +1,13 @@
 //! The words of the command line.
 
+use crate::calls::MOST_WALK;
+use crate::dates::{Date, Step};
 use crate::failure::{failure, Failure, USAGE};
 use crate::files::{is_standard, name_of};
-use crate::help;
+use crate::naming::NamingOrder;
+use crate::{completion, help};
 use std::ffi::{OsStr, OsString};
+use std::time::Duration;
 
 /// A job and a plan of it.
 pub struct Pair {
@@ -11,30 +15,66 @@ pub struct Pair {
     pub plan: OsString,
 }
 
-/// `plan`: the job, where its plan goes, and whether progress is left out.
+/// `plan`: the job, where its plan goes, the walk number if one is given, and how the walk is made.
 pub struct PlanOrder {
     pub job: OsString,
-    pub output: OsString,
+    pub output: Option<OsString>,
+    pub walk: Option<u64>,
+    pub limit: Option<Duration>,
+    pub once: bool,
     pub quiet: bool,
+    pub json: bool,
 }
 
-/// `list`: a plan, as comma-separated values or not, by periods of this many steps or not.
+/// `judge`: a plan, and whether every part that fails is named.
+pub struct JudgeOrder {
+    pub pair: Pair,
+    pub verbose: bool,
+    pub json: bool,
+    pub naming: NamingOrder,
+}
+
+/// How a list is written.
+#[derive(Debug, Clone, Copy, PartialEq, Eq)]
+pub enum Form {
+    Text,
+    Csv,
+    Json,
+}
+
+/// `list`: a plan, in one of the forms, by periods of this many steps or not.
 pub struct ListOrder {
     pub pair: Pair,
-    pub csv: bool,
+    pub form: Form,
     pub every: Option<u64>,
+    pub naming: NamingOrder,
 }
 
 /// `draw`: a plan and the picture's file.
 pub struct DrawOrder {
     pub pair: Pair,
     pub output: OsString,
+    pub naming: NamingOrder,
 }
 
 /// `compare`: two plans of a job.
 pub struct CompareOrder {
     pub job: OsString,
     pub plans: [OsString; 2],
+    pub json: bool,
+    pub naming: NamingOrder,
+}
+
+/// `count`: a job.
+pub struct CountOrder {
+    pub job: OsString,
+    pub json: bool,
+}
+
+/// `write`: a table, and where the job text goes.
+pub struct WriteOrder {
+    pub table: OsString,
+    pub output: OsString,
 }
 
 /// What the words ask for.
@@ -42,11 +82,27 @@ pub enum Command {
     /// A text of the program's own, such as help.
     Print(String),
     Plan(PlanOrder),
-    Judge(Pair),
+    Judge(JudgeOrder),
     List(ListOrder),
     Draw(DrawOrder),
     Compare(CompareOrder),
-    Count(OsString),
+    Count(CountOrder),
+    Write(WriteOrder),
+    Check(OsString),
+}
+
+impl Command {
+    /// The command's name where its answers are asked for as JSON.
+    pub fn json(&self) -> Option<&'static str> {
+        match self {
+            Command::Plan(order) if order.json => Some("plan"),
+            Command::Judge(order) if order.json => Some("judge"),
+            Command::List(order) if order.form == Form::Json => Some("list"),
+            Command::Compare(order) if order.json => Some("compare"),
+            Command::Count(order) if order.json => Some("count"),
+            _ => None,
+        }
+    }
 }
 
 /// The options of all commands together, as far as they were given, and the files.
@@ -55,15 +111,23 @@ struct Given {
     files: Vec<OsString>,
     output: Option<OsString>,
     every: Option<u64>,
+    walk: Option<u64>,
+    limit: Option<Duration>,
+    from: Option<Date>,
+    step: Option<Step>,
+    names: Option<OsString>,
     csv: bool,
+    json: bool,
+    once: bool,
     quiet: bool,
+    verbose: bool,
     help: bool,
 }
 
 /// Reads the words.
 pub fn read(words: &[OsString]) -> Result<Command, Failure> {
     let Some((first, rest)) = words.split_first() else {
-        return Err(Failure { status: USAGE, message: help::usage() });
+        return Err(Failure { status: USAGE, message: help::usage(), fault: None });
     };
     let name = first.to_str().unwrap_or("");
     match name {
@@ -81,7 +145,11 @@ pub fn read(words: &[OsString]) -> Result<Command, Failure> {
     }
     let wanted = page.files.len();
     if given.files.len() != wanted {
-        let files = if wanted == 1 { "one file".to_string() } else { format!("{wanted} files") };
+        let files = match wanted {
+            0 => "no file".to_string(),
+            1 => "one file".to_string(),
+            more => format!("{more} files"),
+        };
         return Err(failure(USAGE, format_args!("{name} takes {files}, not {}\nusage: {}", given.files.len(), page.usage)));
     }
     if given.files.iter().filter(|file| is_standard(file)).count() > 1 {
@@ -103,22 +171,80 @@ fn asked_help(rest: &[OsString]) -> Result<Command, Failure> {
 
 /// The command with its files, whose number is right.
 fn command(page: &help::Page, given: Given) -> Result<Command, Failure> {
-    let Given { files, output, every, csv, quiet, .. } = given;
+    let naming = given.naming()?;
+    let form = given.form()?;
+    let Given { files, output, every, walk, limit, json, once, quiet, verbose, .. } = given;
     let mut files = files.into_iter();
     let mut next = || files.next().unwrap_or_default();
-    let job = next();
+    let first = next();
+    let mut pair = |job| Pair { job, plan: next() };
     Ok(match page.name {
-        "plan" => Command::Plan(PlanOrder { job, output: output.unwrap_or_else(|| "-".into()), quiet }),
-        "judge" => Command::Judge(Pair { job, plan: next() }),
-        "list" => Command::List(ListOrder { pair: Pair { job, plan: next() }, csv, every }),
+        "plan" => Command::Plan(PlanOrder { job: first, output, walk, limit, once, quiet, json }),
+        "judge" => Command::Judge(JudgeOrder { pair: pair(first), verbose, json, naming }),
+        "list" => Command::List(ListOrder { pair: pair(first), form, every, naming }),
         "draw" => {
-            let output =
-                output.ok_or_else(|| failure(USAGE, format_args!("draw needs -o FILE, ending in .svg or .html\nusage: {}", page.usage)))?;
-            Command::Draw(DrawOrder { pair: Pair { job, plan: next() }, output })
+            let needs = format!("draw needs -o FILE, ending in .svg, .html or .ics\nusage: {}", page.usage);
+            let output = output.ok_or_else(|| failure(USAGE, needs))?;
+            Command::Draw(DrawOrder { pair: pair(first), output, naming })
         }
-        "compare" => Command::Compare(CompareOrder { job, plans: [next(), next()] }),
-        _ => Command::Count(job),
+        "compare" => Command::Compare(CompareOrder { job: first, plans: [next(), next()], json, naming }),
+        "write" => Command::Write(WriteOrder { table: first, output: output.unwrap_or_else(|| "-".into()) }),
+        "check" => Command::Check(first),
+        "completion" => Command::Print(completion::bash()),
+        _ => Command::Count(CountOrder { job: first, json }),
     })
+}
+
+impl Given {
+    /// How steps and parts are to be called.
+    fn naming(&self) -> Result<NamingOrder, Failure> {
+        if self.step.is_some() && self.from.is_none() {
+            return Err(failure(USAGE, "--step says how long a step is, and needs --from DATE, the first step's"));
+        }
+        if self.names.as_ref().is_some_and(|names| is_standard(names)) && self.files.iter().any(|file| is_standard(file)) {
+            return Err(failure(USAGE, "standard input (-) can be read for one file only"));
+        }
+        Ok(NamingOrder { from: self.from, step: self.step.unwrap_or_default(), names: self.names.clone() })
+    }
+
+    /// The form of a list.
+    fn form(&self) -> Result<Form, Failure> {
+        match (self.csv, self.json) {
+            (true, true) => Err(failure(USAGE, "--csv and --json are two forms of one list: give one of them")),
+            (true, false) => Ok(Form::Csv),
+            (false, true) => Ok(Form::Json),
+            (false, false) => Ok(Form::Text),
+        }
+    }
+
+    /// Takes an option with its value; false where it is none that has one.
+    fn take(&mut self, name: &str, value: &mut dyn FnMut() -> Result<OsString, Failure>) -> Result<bool, Failure> {
+        match name {
+            "-o" | "--output" => self.output = Some(value()?),
+            "--names" => self.names = Some(value()?),
+            "--every" => self.every = Some(read_as(name, "a number of steps from 1 to 365", &value()?, |word| within(word, 1, 365))?),
+            "--walk" => {
+                self.walk = Some(read_as(name, "a number of nodes from 0 to 4000000000", &value()?, |word| within(word, 0, MOST_WALK))?)
+            }
+            "--for" => self.limit = Some(read_as(name, "a time such as 60s, 5m or 1h", &value()?, duration)?),
+            "--from" => self.from = Some(read_as(name, "a date such as 2027-01-04", &value()?, Date::read)?),
+            "--step" => self.step = Some(read_as(name, "day, week or month", &value()?, Step::read)?),
+            _ => return Ok(false),
+        }
+        Ok(true)
+    }
+
+    /// Takes an option without a value.
+    fn set(&mut self, name: &str) {
+        match name {
+            "--csv" => self.csv = true,
+            "--json" => self.json = true,
+            "--once" => self.once = true,
+            "--quiet" | "-q" => self.quiet = true,
+            "--verbose" | "-v" => self.verbose = true,
+            _ => self.help = true,
+        }
+    }
 }
 
 /// Sorts a command's words into files and its options.
@@ -144,14 +270,13 @@ fn gather(page: &help::Page, words: &[OsString]) -> Result<Given, Failure> {
             Some(value) => Ok(OsString::from(value)),
             None => rest.next().cloned().ok_or_else(|| failure(USAGE, format_args!("{name} needs a value\nusage: {}", page.usage))),
         };
-        match name {
-            "-o" | "--output" => given.output = Some(value()?),
-            "--every" => given.every = Some(steps(&value()?)?),
-            _ if attached.is_some() => return Err(failure(USAGE, format_args!("{name} takes no value\nusage: {}", page.usage))),
-            "--csv" => given.csv = true,
-            "--quiet" | "-q" => given.quiet = true,
-            _ => given.help = true,
+        if given.take(name, &mut value)? {
+            continue;
         }
+        if attached.is_some() {
+            return Err(failure(USAGE, format_args!("{name} takes no value\nusage: {}", page.usage)));
+        }
+        given.set(name);
     }
     Ok(given)
 }
@@ -164,10 +289,28 @@ fn name_and_value(word: &str) -> (&str, Option<&str>) {
     }
 }
 
-/// The number of steps of `--every`.
-fn steps(word: &OsStr) -> Result<u64, Failure> {
-    let number = word.to_str().and_then(|word| word.parse().ok()).filter(|steps| (1..=365).contains(steps));
-    number.ok_or_else(|| failure(USAGE, format_args!("--every takes a number of steps from 1 to 365, not '{}'", name_of(word))))
+/// An option's value, or what it should have been.
+fn read_as<T>(name: &str, wanted: &str, word: &OsStr, read: impl Fn(&str) -> Option<T>) -> Result<T, Failure> {
+    let value = word.to_str().and_then(read);
+    value.ok_or_else(|| failure(USAGE, format_args!("{name} takes {wanted}, not '{}'", name_of(word))))
+}
+
+/// A number within these limits.
+fn within(word: &str, low: u64, high: u64) -> Option<u64> {
+    let digits = !word.is_empty() && word.bytes().all(|byte| byte.is_ascii_digit());
+    word.parse().ok().filter(|number| digits && (low..=high).contains(number))
+}
+
+/// A time: seconds, minutes or hours, or seconds where nothing is said.
+fn duration(word: &str) -> Option<Duration> {
+    let (number, unit) = word.split_at(word.find(|letter: char| !letter.is_ascii_digit()).unwrap_or(word.len()));
+    let seconds = match unit {
+        "" | "s" => 1,
+        "m" | "min" => 60,
+        "h" => 3600,
+        _ => return None,
+    };
+    within(number, 1, 1_000_000).map(|number| Duration::from_secs(number * seconds))
 }
 
 /// A word that is none of those known, with the one that it is likest.

@@ -9,6 +9,10 @@ use std::thread;
 const STACK: usize = 4 << 20;
 /// The output that the header asks for.
 const OUTPUT: usize = 16_384;
+/// The output that the header asks for where a job text is written.
+const WRITTEN: usize = 32_768;
+/// The greatest walk number.
+pub const MOST_WALK: u64 = 4_000_000_000;
 
 /// What a call answered: its numbers, the line at fault, and the lines written.
 #[derive(Debug, Clone)]
@@ -54,11 +58,22 @@ fn on_own_stack<T: Send>(call: impl FnOnce() -> T + Send) -> Result<T, Failure> 
     })
 }
 
-/// The planner's call, on this thread.
-pub fn plan_here(job: &[u8]) -> Reply {
+/// The walk number that an accepted job is planned with where the words give none: its own.
+pub fn own_walk(job: &[u8]) -> u64 {
+    texts::job(job).walk.unwrap_or(MOST_WALK)
+}
+
+/// The planner's call for an accepted job with this walk number, on this thread: the one place that hands a walk number to the library.
+pub fn plan_here(job: &[u8], walk: u64) -> Reply {
+    let text = texts::with_walk(job, walk).unwrap_or_else(|| job.to_vec());
     let mut out = vec![0; OUTPUT];
-    let answer = library::plan(job, &mut out);
+    let answer = library::plan(&text, &mut out);
     Reply::of(answer, out)
+}
+
+/// The planner's call for an accepted job with this walk number.
+pub fn plan(job: &[u8], walk: u64) -> Result<Reply, Failure> {
+    on_own_stack(|| plan_here(job, walk))
 }
 
 /// The judge's call.
@@ -78,10 +93,17 @@ pub fn count(job: &[u8]) -> Result<(Reply, u32), Failure> {
     })
 }
 
-/// The floor of an accepted job, which the planner says at any walk number, 0 included. None where no plan keeps the lives.
-pub fn floor(job: &[u8]) -> Result<Option<u64>, Failure> {
-    match texts::with_walk(job, 0) {
-        Some(text) => on_own_stack(|| plan_here(&text).value("floor")),
-        None => Ok(None),
-    }
+/// The fault of a job text, if it has one. The count's call reads the text and walks nothing; its refusal of holders is no fault of the text.
+pub fn job_fault(job: &[u8]) -> Result<Option<Reply>, Failure> {
+    let (reply, _) = count(job)?;
+    Ok(Some(reply).filter(|reply| reply.result != 0 && reply.text != 0))
+}
+
+/// The writer's call: the job text of a form is in its lines.
+pub fn write(form: &library::Form) -> Result<Reply, Failure> {
+    on_own_stack(|| {
+        let mut out = vec![0; WRITTEN];
+        let answer = library::write(form, &mut out);
+        Reply::of(answer, out)
+    })
 }

@@ -1,5 +1,6 @@
 //! What a plan costs, part by part and stop by stop.
 
+use crate::json::Value;
 use crate::texts::{Job, Plan, Stop};
 
 /// The costs of a plan. `removals` is what taking parts out costs, each once a stop; `other` what the judge counts besides, for forms of the job text
@@ -25,6 +26,18 @@ impl Costs {
         self.fees + self.parts + self.removals + self.other
     }
 
+    /// The same for programs.
+    pub fn json(&self) -> Value {
+        let of = |amount| Value::Number(amount);
+        Value::object([
+            ("fees", of(self.fees)),
+            ("parts", of(self.parts)),
+            ("removals", of(self.removals)),
+            ("other", of(self.other)),
+            ("total", of(self.total())),
+        ])
+    }
+
     /// The costs that not every job has, by name, where there are some.
     pub fn further(&self) -> impl Iterator<Item = (&'static str, u64)> {
         [("removals", self.removals), ("other", self.other)].into_iter().filter(|(_, amount)| *amount > 0)
@@ -44,4 +57,10 @@ pub fn removals(job: &Job, stop: &Stop) -> u64 {
 /// The prices of all changes of a part.
 pub fn prices_of_part(job: &Job, plan: &Plan, part: u64) -> u64 {
     plan.changes(part).into_iter().filter_map(|step| job.price(part, step)).sum()
+}
+
+/// What taking a part out costs over all stops at which it comes out.
+pub fn removals_of_part(job: &Job, plan: &Plan, part: u64) -> u64 {
+    let out = plan.stops.iter().filter(|stop| job.removed(stop).contains(&part));
+    out.count() as u64 * job.removal(part)
 }

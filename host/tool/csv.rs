@@ -2,6 +2,7 @@
 
 use crate::costs::prices_of_part;
 use crate::list::{bought, periods};
+use crate::naming::Naming;
 use crate::texts::{Job, Plan};
 use crate::verdicts::Judged;
 
@@ -22,11 +23,36 @@ struct Row {
 }
 
 impl Row {
-    fn text(&self) -> String {
+    /// The row's line. Where steps have dates there is a column `date`, that of the step or of the period's first; where parts have names, `name` and `order`.
+    fn text(&self, naming: &Naming) -> String {
         let (from, to) = (self.period.map(|period| period.0), self.period.map(|period| period.1));
         let cells = [self.step, from, to, self.part, self.count, self.price, self.amount, self.running];
-        let cells = cells.map(|cell| cell.map_or(String::new(), |number| number.to_string()));
+        let mut cells = cells.map(|cell| cell.map_or(String::new(), |number| number.to_string())).to_vec();
+        if naming.has_dates() {
+            cells.push(self.step.or(from).and_then(|step| naming.date(step)).unwrap_or_default());
+        }
+        if naming.has_names() {
+            cells.push(quoted(self.part.and_then(|part| naming.name(part))));
+            cells.push(quoted(self.part.and_then(|part| naming.order(part))));
+        }
         format!("{},{}\n", self.record, cells.join(","))
+    }
+}
+
+/// The heads of all columns.
+fn head(naming: &Naming) -> String {
+    let dates = if naming.has_dates() { ",date" } else { "" };
+    let names = if naming.has_names() { ",name,order" } else { "" };
+    format!("{HEAD}{dates}{names}\n")
+}
+
+/// A cell of words: in quotes where it has a comma, quotes or line ends. One that a spreadsheet would take for a formula gets an apostrophe first.
+fn quoted(words: Option<String>) -> String {
+    let words = words.unwrap_or_default();
+    let words = if words.starts_with(['=', '+', '-', '@']) { format!("'{words}") } else { words };
+    match words.contains([',', '"', '\n', '\r', ';']) {
+        true => format!("\"{}\"", words.replace('"', "\"\"")),
+        false => words,
     }
 }
 
@@ -46,8 +72,8 @@ pub fn list(judged: &Judged, every: Option<u64>) -> String {
     rows.extend([sum("fees", Some(judged.costs.fees)), sum("parts", Some(judged.costs.parts))]);
     rows.extend(judged.costs.further().map(|(name, amount)| sum(name, Some(amount))));
     rows.extend([sum("total", Some(judged.costs.total())), sum("stated", Some(plan.cost))]);
-    rows.extend(judged.floor.map(|floor| sum("floor", Some(floor))));
-    rows.iter().fold(format!("{HEAD}\n"), |text, row| text + &row.text())
+    rows.extend(judged.floor().map(|floor| sum("floor", Some(floor))));
+    rows.iter().fold(head(&judged.naming), |text, row| text + &row.text(&judged.naming))
 }
 
 /// The period of a step.

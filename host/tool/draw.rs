@@ -1,29 +1,40 @@
-//! `draw`: the plan as a calendar, an SVG picture or a page.
+//! `draw`: the plan as a calendar, an SVG picture or a page; or its stops for a calendar program.
 
 use crate::arguments::DrawOrder;
 use crate::failure::{failure, status_of, Failure, USAGE};
-use crate::verdicts;
-use crate::{drawing, files, output};
+use crate::naming::Naming;
+use crate::{drawing, files, ics, output, standard_output, verdicts};
 use std::ffi::OsStr;
 use std::path::Path;
 
 /// What is drawn.
+#[derive(PartialEq)]
 enum Form {
     Picture,
     Page,
+    Calendar,
 }
 
-/// Judges the plan, then draws it.
+/// Judges the plan, then draws it. The verdict is said on standard output, where the picture doesn't go there.
 pub fn run(order: &DrawOrder) -> Result<u8, Failure> {
     let form = form_of(&order.output)?;
-    let judged = verdicts::judge_files(&order.pair)?;
-    files::not_among(&order.output, &[&order.pair.job, &order.pair.plan])?;
-    output::say(&judged.message());
+    if form == Form::Calendar && order.naming.from.is_none() {
+        return Err(failure(USAGE, "a calendar (.ics) needs --from DATE, the first step's"));
+    }
+    let judged = verdicts::stand_files(&order.pair, &Naming::read(&order.naming)?)?;
+    let names = order.naming.names.as_deref();
+    let inputs: Vec<&OsStr> = [Some(&*order.pair.job), Some(&*order.pair.plan), names].into_iter().flatten().collect();
+    files::not_among(&order.output, &inputs)?;
     let text = match form {
         Form::Picture => drawing::picture(&judged),
         Form::Page => drawing::page(&judged),
+        Form::Calendar => ics::calendar(&judged),
     };
     files::write(&order.output, text.as_bytes())?;
+    match files::is_standard(&order.output) {
+        true => output::say(&judged.message()),
+        false => standard_output::write(judged.message().as_bytes())?,
+    }
     Ok(status_of(judged.result))
 }
 
@@ -34,7 +45,11 @@ fn form_of(path: &OsStr) -> Result<Form, Failure> {
     match ending.as_deref() {
         Some("svg") => Ok(Form::Picture),
         Some("html" | "htm") => Ok(Form::Page),
+        Some("ics") => Ok(Form::Calendar),
         _ if files::is_standard(path) || (place.exists() && !place.is_file() && !place.is_dir()) => Ok(Form::Picture),
-        _ => Err(failure(USAGE, format_args!("{} ends neither in .svg nor in .html; the ending says what is drawn", files::name_of(path)))),
+        _ => Err(failure(
+            USAGE,
+            format_args!("{} ends neither in .svg nor in .html nor in .ics; the ending says what is drawn", files::name_of(path)),
+        )),
     }
 }

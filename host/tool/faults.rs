@@ -2,10 +2,11 @@
 
 use crate::calls::Reply;
 use crate::due_keys::{self, Due};
-use crate::failure::{status_of, Failure};
+use crate::failure::{status_of, Failure, Fault};
 use crate::files::Input;
 use crate::numbers::grouped;
 use crate::output::shown_line;
+use crate::slips;
 use juzvarola_host::ranges::RANGES;
 
 /// The words for a fault by its number and the key of its line; an empty key stands for every other.
@@ -29,24 +30,32 @@ const WORDS: &[(u32, &str, &str)] = &[
 pub fn refusal(reply: &Reply, job: &Input, plan: Option<&Input>) -> Failure {
     let at_fault = plan.filter(|_| reply.text == 2).unwrap_or(job);
     let words = words_for(reply, &at_fault.bytes);
+    let shown = shown_line(&reply.fault);
     let mut message = match reply.line {
         0 => format!("{}: {words} ({})\n", at_fault.name, reply.result),
         line => format!("{}:{line}: {words} ({})\n", at_fault.name, reply.result),
     };
-    if !reply.fault.is_empty() {
-        message += &format!("    {}\n", shown_line(&reply.fault));
+    if !shown.is_empty() {
+        message += &format!("    {shown}\n");
     }
-    Failure { status: status_of(reply.result), message }
+    let fault = Fault { file: at_fault.name.clone(), result: reply.result, text: reply.text, line: reply.line, words, shown };
+    Failure { status: status_of(reply.result), message, fault: Some(fault) }
 }
 
 /// What the fault's number means at its line.
 fn words_for(reply: &Reply, text: &[u8]) -> String {
     let key = std::str::from_utf8(reply.fault.split(|byte| *byte == b'=').next().unwrap_or(b"")).unwrap_or("");
-    let range = RANGES.iter().find(|(own, ..)| *own == key);
-    match (reply.result, range) {
-        (2, _) => shape(reply, text),
+    match reply.result {
+        2 => shape(reply, text),
+        number => meaning(number, key),
+    }
+}
+
+/// What a fault's number means at the line of a key: any but 2, which is about the line's shape.
+pub fn meaning(number: u32, key: &str) -> String {
+    match (number, RANGES.iter().find(|(own, ..)| *own == key)) {
         (3, Some((_, low, high))) => format!("{key} is not a number from {} to {}", grouped(*low), grouped(*high)),
-        (number, _) => from_table(number, key).to_string(),
+        _ => from_table(number, key).to_string(),
     }
 }
 
@@ -61,23 +70,17 @@ fn shape(reply: &Reply, text: &[u8]) -> String {
     let fault = &reply.fault[..];
     let lines = text.split(|byte| *byte == b'\n').count() as u32;
     let unended = reply.line == lines;
+    if let Some(words) = slips::of_text(text, reply.text, reply.line) {
+        return words.to_string();
+    }
     match due_on(reply, text) {
         Due::End => "the text goes on after its last line".to_string(),
-        _ if fault.starts_with(b"\xef\xbb\xbf") => {
-            "the text begins with a byte order mark, as Windows writes it; it begins with its first line".to_string()
-        }
         due if fault.is_empty() && reply.line >= lines => format!("the text ends, and {} is due", named(due, text, reply.line)),
-        _ if fault.ends_with(b"\r") => {
-            "the line ends with a carriage return, as Windows writes it; a line feed alone ends a line".to_string()
+        Due::Key(key) if fault.starts_with(format!("{key}=").as_bytes()) && unended && well_formed(&fault[key.len() + 1..]) => {
+            "the last line is not ended by a line feed".to_string()
         }
-        Due::Key(key) if fault.starts_with(format!("{key}=").as_bytes()) => {
-            if unended && well_formed(&fault[key.len() + 1..]) {
-                "the last line is not ended by a line feed".to_string()
-            } else {
-                format!("{key} is not 1 to 10 digits without a leading zero")
-            }
-        }
-        due @ Due::Key(_) => format!("{} is due here", named(due, text, reply.line)),
+        Due::Key(key) => slips::of_line(fault, &possible(key, text, reply.line))
+            .unwrap_or_else(|| format!("{} is due here", named(Due::Key(key), text, reply.line))),
         Due::Unknown => from_table(2, "").to_string(),
     }
 }
@@ -92,6 +95,15 @@ fn due_on(reply: &Reply, text: &[u8]) -> Due {
     }
 }
 
+/// The keys that a line may have had where this one is due.
+fn possible(key: &'static str, text: &[u8], line: u32) -> Vec<&'static str> {
+    match key {
+        "walk" if line == 2 => vec!["walk", "idles"],
+        _ if due_keys::may_be_removed(text, line) => vec![key, "removal"],
+        _ => vec![key],
+    }
+}
+
 /// The line that is due, as a message names it, with the one that may stand before it.
 fn named(due: Due, text: &[u8], line: u32) -> String {
     match due {
@@ -103,7 +115,7 @@ fn named(due: Due, text: &[u8], line: u32) -> String {
 }
 
 /// Whether a value is 1 to 10 digits with no leading zero.
-fn well_formed(value: &[u8]) -> bool {
+pub fn well_formed(value: &[u8]) -> bool {
     (1..=10).contains(&value.len()) && value.iter().all(u8::is_ascii_digit) && (value.len() == 1 || value[0] != b'0')
 }
 

@@ -1,7 +1,7 @@
 //! Files: inputs read whole, outputs written whole or not at all.
 
 use crate::closed;
-use crate::failure::{failure, Failure, CANT_CREATE, INPUT_OUTPUT, NO_INPUT, USAGE};
+use crate::failure::{failure, reason, Failure, CANT_CREATE, INPUT_OUTPUT, NO_INPUT, USAGE};
 use crate::output::shown;
 use crate::standard_output;
 use std::ffi::OsStr;
@@ -40,15 +40,15 @@ pub fn read(path: &OsStr) -> Result<Input, Failure> {
             return Err(failure(NO_INPUT, "standard input is closed"));
         }
         let read = io::stdin().lock().take(MOST).read_to_end(&mut bytes);
-        read.map_err(|error| failure(NO_INPUT, format_args!("standard input can't be read: {error}")))?;
+        read.map_err(|error| failure(NO_INPUT, format_args!("standard input can't be read: {}", reason(&error))))?;
         return Ok(Input { name: "<stdin>".to_string(), bytes });
     }
     let name = name_of(path);
     let read = File::open(path).and_then(|file| file.take(MOST).read_to_end(&mut bytes));
     match read {
         Ok(_) => Ok(Input { name, bytes }),
-        Err(error) if Path::new(path).is_dir() => Err(failure(NO_INPUT, format_args!("{name} is a folder, not a file ({error})"))),
-        Err(error) => Err(failure(NO_INPUT, format_args!("{name} can't be read: {error}"))),
+        Err(_) if Path::new(path).is_dir() => Err(failure(NO_INPUT, format_args!("{name} is a folder, not a file"))),
+        Err(error) => Err(failure(NO_INPUT, format_args!("{name} can't be read: {}", reason(&error)))),
     }
 }
 
@@ -80,7 +80,7 @@ pub fn ready(path: &OsStr) -> Result<(), Failure> {
         Way::Replaced(real, _) => match fs::metadata(folder_of(&real)) {
             Ok(found) if found.is_dir() => Ok(()),
             Ok(_) => Err(cant_make(path, "Not a directory")),
-            Err(error) => Err(cant_make(path, error)),
+            Err(error) => Err(cant_make(path, reason(&error))),
         },
     }
 }
@@ -91,8 +91,8 @@ pub fn write(path: &OsStr, bytes: &[u8]) -> Result<(), Failure> {
     match way(path)? {
         Way::Standard => standard_output::write(bytes),
         Way::InPlace => {
-            let mut file = OpenOptions::new().write(true).open(path).map_err(|error| cant_make(path, error))?;
-            file.write_all(bytes).map_err(|error| cant_write(path, error))
+            let mut file = OpenOptions::new().write(true).open(path).map_err(|error| cant_make(path, reason(&error)))?;
+            file.write_all(bytes).map_err(|error| cant_write(path, reason(&error)))
         }
         Way::Replaced(real, permissions) => replace(path, &real, bytes, permissions),
     }
@@ -109,10 +109,10 @@ fn way(path: &OsStr) -> Result<Way, Failure> {
         Ok(found) if found.is_file() => {
             // A file that may not be written is not replaced either.
             let opened = OpenOptions::new().write(true).open(place).and_then(|_| fs::canonicalize(place));
-            opened.map(|real| Way::Replaced(real, Some(found.permissions()))).map_err(|error| cant_make(path, error))
+            opened.map(|real| Way::Replaced(real, Some(found.permissions()))).map_err(|error| cant_make(path, reason(&error)))
         }
         Ok(_) => Ok(Way::InPlace),
-        Err(error) if error.kind() != io::ErrorKind::NotFound => Err(cant_make(path, error)),
+        Err(error) if error.kind() != io::ErrorKind::NotFound => Err(cant_make(path, reason(&error))),
         Err(_) if place.file_name().is_none() || path.as_bytes().ends_with(b"/") => Err(cant_make(path, "it names no file")),
         Err(_) => Ok(Way::Replaced(behind_links(place), None)),
     }
@@ -154,12 +154,12 @@ fn temporary(folder: &Path) -> io::Result<(PathBuf, File)> {
 
 /// Writes beside the file and renames; whatever fails, the file stays as it was and nothing half-written is left.
 fn replace(path: &OsStr, real: &Path, bytes: &[u8], permissions: Option<fs::Permissions>) -> Result<(), Failure> {
-    let (name, mut file) = temporary(folder_of(real)).map_err(|error| cant_make(path, error))?;
+    let (name, mut file) = temporary(folder_of(real)).map_err(|error| cant_make(path, reason(&error)))?;
     let own = |file: &File| permissions.map_or(Ok(()), |own| file.set_permissions(own));
     let written = file.write_all(bytes).and_then(|()| own(&file)).and_then(|()| file.sync_all());
     drop(file);
     written.and_then(|()| fs::rename(&name, real)).map_err(|error| {
         let _ = fs::remove_file(&name);
-        cant_write(path, error)
+        cant_write(path, reason(&error))
     })
 }

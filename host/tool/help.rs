@@ -14,87 +14,169 @@ pub struct Page {
 pub const PAGES: &[Page] = &[
     Page {
         name: "plan",
-        usage: "juzvarola plan JOB [-o PLAN] [--quiet]",
+        usage: "juzvarola plan JOB [-o PLAN] [--walk N] [--for TIME] [--once] [--quiet]\n       [--json]",
         summary: "the cheapest plan that keeps every part's life",
         files: &["JOB"],
-        options: &["-o", "--output", "--quiet", "-q"],
+        options: &["-o", "--output", "--walk", "--for", "--once", "--quiet", "-q", "--json"],
         body: "\
-Writes the plan text to PLAN, or to standard output; its cost, the nodes
-walked and the floor (no plan costs less) are said on standard error.
-If the walk has more nodes than the job's walk number, the best plan so far
-is written and called such; if there is none, no file is made. Prefer -o to >:
+Writes the plan text to PLAN, or to standard output; what it costs, and whether
+that is proved the least, is said on standard error. If the walk has more nodes
+than its walk number, the best plan so far is written and called such, with
+what could still be saved; if there is none, no file is made. Prefer -o to >:
 a shell makes an empty file first, which is the plan of doing nothing.
 
   -o, --output PLAN   where the plan goes; - is standard output
+      --walk N        at most N nodes, in place of the job's walk number
+      --for TIME      no longer than this: 60s, 5m, 1h
+      --once          one call and no growing walks: least time, but nothing
+                      is shown and nothing is kept of a walk that is ended
   -q, --quiet         no progress, however long the walk
+      --json          the answer as JSON on standard output; the plan text
+                      too, to PLAN, where -o names one
 
-A walk of more than a second shows its progress where standard error is a
-terminal: nodes, the best cost so far, the floor and the gap between them.
+The walk is made with growing walk numbers. Where it takes more than a second
+and standard error is a terminal, the nodes and the best cost so far are shown.
+Ctrl-C, SIGTERM and the end of --for write the best plan so far (status 3).
 ",
     },
     Page {
         name: "judge",
-        usage: "juzvarola judge JOB PLAN",
+        usage: "juzvarola judge JOB PLAN [--verbose] [--json] [--from DATE]\n       [--step day|week|month] [--names FILE]",
         summary: "whether a plan keeps every life, and whether its cost is true",
         files: &["JOB", "PLAN"],
-        options: &[],
+        options: &["--verbose", "-v", "--json", "--from", "--step", "--names"],
         body: "\
-Says the verdict on standard error: which part fails, by when it was due and
+Says the verdict on standard output: which part fails, by when it was due and
 how much too late its change comes; or the true cost and the difference.
 An empty PLAN is the plan of doing nothing.
+
+  -v, --verbose       every part that fails, not the first alone
+      --json          the verdict as JSON
+      --from DATE     dates beside the steps: step 1 begins on 2027-01-04, say
+      --step LENGTH   how long a step is: day, week or month
+      --names FILE    names of parts: rows of number, name and order number
 ",
     },
     Page {
         name: "list",
-        usage: "juzvarola list JOB PLAN [--csv] [--every N]",
+        usage: "juzvarola list JOB PLAN [--csv | --json] [--every N] [--from DATE]\n       [--step day|week|month] [--names FILE]",
         summary: "what to buy and when, and when the line stops",
         files: &["JOB", "PLAN"],
-        options: &["--csv", "--every"],
+        options: &["--csv", "--json", "--every", "--from", "--step", "--names"],
         body: "\
 For the buyer: how many of each part, when, at which prices, by stop and by
 period. For production: the stops with their fees and the running steps
-between them. The plan is judged first, and the verdict stands on top.
+between them. The plan is judged first, and the verdict stands on top, with
+what could still be saved as far as a walk of a fraction of a second tells.
 
-  --every N   totals by periods of N steps too
-  --csv       comma-separated values: one row for each change, stop, period,
-              part and sum, told apart by the column `record`
+      --every N       totals by periods of N steps too
+      --csv           comma-separated values: one row for each change, stop,
+                      period, part and sum, told apart by the column `record`
+      --json          the lists as JSON
+      --from DATE     dates beside the steps: step 1 begins on 2027-01-04, say
+      --step LENGTH   how long a step is: day, week or month
+      --names FILE    names of parts: rows of number, name and order number
 ",
     },
     Page {
         name: "draw",
-        usage: "juzvarola draw JOB PLAN -o FILE",
+        usage: "juzvarola draw JOB PLAN -o FILE [--from DATE] [--step day|week|month]\n       [--names FILE]",
         summary: "the plan as a calendar to hang on the wall",
         files: &["JOB", "PLAN"],
-        options: &["-o", "--output"],
+        options: &["-o", "--output", "--from", "--step", "--names"],
         body: "\
 Draws a row for each part, its lives as bars that fill as the part wears, the
-stops with their fees, openings not used, idle steps, and the costs. The plan
-is judged first, and the verdict stands on top.
+stops with their fees, openings not used, idle steps, parts that come out and
+stay in use, and the costs. The plan is judged first, and the verdict stands
+on top, with what could still be saved.
 
   -o, --output FILE   an SVG picture if FILE ends in .svg (or is - or a
-                      device); a page with lists beneath if in .html or .htm
+                      device); a page with lists beneath if in .html or .htm;
+                      the stops for a calendar program if in .ics
+      --from DATE     dates beside the steps: step 1 begins on 2027-01-04, say
+                      (.ics needs it)
+      --step LENGTH   how long a step is: day, week or month
+      --names FILE    names of parts: rows of number, name and order number
 ",
     },
     Page {
         name: "compare",
-        usage: "juzvarola compare JOB PLAN PLAN",
+        usage: "juzvarola compare JOB PLAN PLAN [--json] [--from DATE]\n       [--step day|week|month] [--names FILE]",
         summary: "two plans side by side, and where they differ",
         files: &["JOB", "PLAN", "PLAN"],
-        options: &[],
+        options: &["--json", "--from", "--step", "--names"],
         body: "\
-Judges both plans, sets their costs side by side, and lists the steps at which
-one stops or changes a part and the other does not.
+Judges both plans, sets their costs side by side, says what each could still
+save, and lists the steps at which one stops or changes a part and the other
+does not.
+
+      --json          the comparison as JSON
+      --from DATE     dates beside the steps: step 1 begins on 2027-01-04, say
+      --step LENGTH   how long a step is: day, week or month
+      --names FILE    names of parts: rows of number, name and order number
 ",
     },
     Page {
         name: "count",
-        usage: "juzvarola count JOB",
+        usage: "juzvarola count JOB [--json]",
         summary: "how long the walk of a job may become, without walking",
+        files: &["JOB"],
+        options: &["--json"],
+        body: "\
+Says the most nodes that the walk of the job can have, and about how many
+seconds they take on this machine (found by a short walk). With a walk number
+of that or more the planner always finishes. Jobs without holders only.
+
+      --json          the count as JSON
+",
+    },
+    Page {
+        name: "write",
+        usage: "juzvarola write TABLE [-o JOB]",
+        summary: "a job text from a spreadsheet's table",
+        files: &["TABLE"],
+        options: &["-o", "--output"],
+        body: "\
+Writes the text of the job that TABLE describes to JOB, or to standard output.
+TABLE is a spreadsheet saved as CSV (cells separated by commas, semicolons or
+tabs), laid out like this; juzvarola-table(5) says more:
+
+  horizon,52
+  walk,1000000
+  idle,30,31
+  opening,10,20,40
+  fee,60
+  part,life,left,removal,holders,prices
+  1,12,9,,,40,40,45
+  2,26,26,15,1,70
+
+A single fee or price stands for every opening; the rows idle and walk and the
+cells of removal and holders may be left out. A fault is named by its cell and
+by the line of the text that would have held it.
+
+  -o, --output JOB    where the job text goes; - is standard output
+",
+    },
+    Page {
+        name: "check",
+        usage: "juzvarola check JOB",
+        summary: "whether a job text is well formed, and what it says",
         files: &["JOB"],
         options: &[],
         body: "\
-Says the most nodes that the walk of the job can have. With a walk number of
-that or more the planner always finishes.
+Says how many steps, openings and parts the job has, or which line is at
+fault. Nothing is planned.
+",
+    },
+    Page {
+        name: "completion",
+        usage: "juzvarola completion",
+        summary: "a script that has bash complete the words",
+        files: &[],
+        options: &[],
+        body: "\
+Writes the script to standard output; put eval \"$(juzvarola completion)\" into
+~/.bashrc, or have make install put it where bash looks.
 ",
     },
 ];
@@ -106,7 +188,7 @@ compares such plans. Every plan and every verdict is a proved library's.
 
 const TEXTS: &str = "\
 A file named - is standard input. juzvarola-job(5) and juzvarola-plan(5)
-describe the texts.
+describe the texts, juzvarola-json(5) the keys of --json.
 ";
 
 const STATUSES: &str = "\
@@ -116,7 +198,7 @@ exit status:
       stated cost is wrong (11)
   2   a text is at fault (1 to 5, 9, 12): its line is named; a job with a
       holder was to be counted (12)
-  3   the walk is longer than its walk number (7)
+  3   the walk is longer than its walk number or was ended (7)
   64 and up   usage, files, output that can't be written (as sysexits has them)
 ";
 
@@ -135,7 +217,8 @@ impl Page {
 
 /// The commands, one to a line.
 fn commands() -> String {
-    PAGES.iter().map(|page| format!("  {:<45}  {}\n", page.usage.trim_start_matches("juzvarola "), page.summary)).collect()
+    let line = |page: &Page| format!("{} {}", page.name, page.files.join(" "));
+    PAGES.iter().map(|page| format!("  {:<22} {}\n", line(page), page.summary)).collect()
 }
 
 /// What is said to somebody who gave no words.
@@ -146,5 +229,8 @@ pub fn usage() -> String {
 /// The help of the whole program.
 pub fn all() -> String {
     let commands = commands();
-    format!("usage: juzvarola COMMAND FILES\n{INTRODUCTION}\ncommands:\n{commands}  help [COMMAND], --help, --version\n\n{STATUSES}")
+    format!(
+        "usage: juzvarola COMMAND FILES\n{INTRODUCTION}\ncommands:\n{commands}  help [COMMAND], --help, --version\n\n\
+         juzvarola COMMAND --help says more, and names the options.\n\n{STATUSES}"
+    )
 }

@@ -24,7 +24,30 @@ impl Life {
     }
 }
 
+/// Where a part first goes past its life: due by which step, changed when if at all, how many running steps too late.
+#[derive(Debug, Clone, Copy, PartialEq, Eq)]
+pub struct Late {
+    pub part: u64,
+    pub due: u64,
+    pub next: Option<u64>,
+    pub steps: u64,
+}
+
+impl Late {
+    /// A part that the judge calls late, with the step that it was due by.
+    pub fn named(job: &Job, plan: &Plan, part: u64, due: u64) -> Late {
+        let next = plan.changes(part).into_iter().find(|step| *step > due);
+        Late { part, due, next, steps: job.runs(due, next.unwrap_or(job.end())) }
+    }
+}
+
 impl Job {
+    /// Where a part, counted from 1, first goes past its life under a plan, if it does.
+    pub fn late(&self, plan: &Plan, part: u64) -> Option<Late> {
+        let life = self.lives(plan, part).into_iter().find(|life| life.too_long() > 0)?;
+        Some(Late::named(self, plan, part, self.due(&life)))
+    }
+
     /// How many of the steps up to this one run.
     pub fn running(&self, step: u64) -> u64 {
         step.saturating_sub(self.idles.partition_point(|idle| *idle <= step) as u64)

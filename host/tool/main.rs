@@ -2,11 +2,14 @@
 
 mod arguments;
 mod calls;
+mod check;
 mod closed;
 mod compare;
+mod completion;
 mod costs;
 mod count;
 mod csv;
+mod dates;
 mod draw;
 mod drawing;
 mod due_keys;
@@ -14,17 +17,25 @@ mod failure;
 mod faults;
 mod files;
 mod help;
+mod ics;
+mod json;
 mod judge;
 mod list;
 mod lives;
+mod naming;
 mod numbers;
 mod output;
 mod plan;
-mod progress;
+mod sheets;
+mod signals;
+mod slips;
 mod standard_output;
+mod standing;
 mod tables;
 mod texts;
 mod verdicts;
+mod walks;
+mod write;
 
 use arguments::Command;
 use failure::Failure;
@@ -42,15 +53,31 @@ fn main() -> ExitCode {
     ExitCode::from(status)
 }
 
-/// Reads the words and makes the command; its exit status, or what went wrong.
+/// Reads the words and makes the command; its exit status, or what went wrong. Who asked for JSON is told of a text at fault so too.
 fn run(words: &[OsString]) -> Result<u8, Failure> {
-    match arguments::read(words)? {
+    juzvarola_host::check_version().map_err(|wrong| failure::failure(failure::SOFTWARE, wrong))?;
+    let command = arguments::read(words)?;
+    let asked = command.json();
+    match (make(command), asked) {
+        (Err(Failure { status, fault: Some(fault), .. }), Some(name)) => {
+            standard_output::write(fault.json(name).document().as_bytes())?;
+            Ok(status)
+        }
+        (made, _) => made,
+    }
+}
+
+/// Makes the command.
+fn make(command: Command) -> Result<u8, Failure> {
+    match command {
         Command::Print(text) => standard_output::write(text.as_bytes()).map(|()| 0),
         Command::Plan(order) => plan::run(&order),
-        Command::Judge(pair) => judge::run(&pair),
+        Command::Judge(order) => judge::run(&order),
         Command::List(order) => list::run(&order),
         Command::Draw(order) => draw::run(&order),
         Command::Compare(order) => compare::run(&order),
-        Command::Count(job) => count::run(&job),
+        Command::Count(order) => count::run(&order),
+        Command::Write(order) => write::run(&order),
+        Command::Check(job) => check::run(&job),
     }
 }

@@ -32,3 +32,36 @@ pub fn joined(numbers: impl IntoIterator<Item = u64>) -> String {
     let words: Vec<String> = numbers.into_iter().map(|number| number.to_string()).collect();
     words.join(", ")
 }
+
+/// How much a number is of another: `(33 %)`, `(0.4 %)`.
+pub fn percent(number: u64, of: u64) -> String {
+    let share = if of == 0 { 0.0 } else { number as f64 * 100.0 / of as f64 };
+    if share == 0.0 || share >= 9.95 {
+        format!("({share:.0} %)")
+    } else {
+        format!("({share:.1} %)")
+    }
+}
+
+/// About so many seconds, as people say it: `0.2 s`, `40 s`, `3 min`.
+pub fn seconds(seconds: f64) -> String {
+    match seconds {
+        under if under < 0.1 => "0.1 s".to_string(),
+        under if under < 9.95 => format!("{under:.1} s"),
+        under if under < 99.5 => format!("{under:.0} s"),
+        more => format!("{:.0} min", more / 60.0),
+    }
+}
+
+/// Rising numbers, three and more in a row as the first and the last: `1-4, 6`.
+pub fn runs(numbers: &[u64]) -> String {
+    let mut words: Vec<String> = Vec::new();
+    let mut rest = numbers;
+    while let Some((first, _)) = rest.split_first() {
+        let length = rest.iter().zip(*first..).take_while(|(own, due)| *own == due).count();
+        let length = if length < 3 { 1 } else { length };
+        words.push(if length == 1 { first.to_string() } else { format!("{first}-{}", rest[length - 1]) });
+        rest = &rest[length..];
+    }
+    words.join(", ")
+}

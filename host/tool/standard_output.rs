@@ -1,8 +1,8 @@
 //! Standard output, which may be closed, a pipe that nobody reads any more, or a full disk.
 
 use crate::closed;
-use crate::failure::{failure, Failure, INPUT_OUTPUT};
-use std::io::{self, Write};
+use crate::failure::{failure, reason, Failure, INPUT_OUTPUT};
+use std::io::{self, IsTerminal, Write};
 
 /// Refuses a standard output that is closed.
 pub fn ready() -> Result<(), Failure> {
@@ -17,5 +17,10 @@ pub fn write(bytes: &[u8]) -> Result<(), Failure> {
     ready()?;
     let mut out = io::stdout().lock();
     let written = out.write_all(bytes).and_then(|()| out.flush());
-    written.map_err(|error| failure(INPUT_OUTPUT, format_args!("standard output can't be written: {error}")))
+    written.map_err(|error| failure(INPUT_OUTPUT, format_args!("standard output can't be written: {}", reason(&error))))
+}
+
+/// Whether somebody reads it as it comes.
+pub fn is_terminal() -> bool {
+    io::stdout().is_terminal()
 }

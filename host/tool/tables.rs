@@ -5,13 +5,13 @@ const WRAP: usize = 60;
 
 /// A table: its heading, its columns' heads, and rows of as many cells. Numbers stand to the right; a head that begins with `<` is of a
 /// column of words.
-pub struct Table<'h> {
+pub struct Table {
     pub title: String,
-    pub heads: &'h [&'h str],
+    pub heads: Vec<&'static str>,
     pub rows: Vec<Vec<String>>,
 }
 
-impl Table<'_> {
+impl Table {
     /// The table's lines, with an empty one after them.
     pub fn text(&self) -> String {
         let heads: Vec<String> = self.heads.iter().map(|head| head.trim_start_matches('<').to_string()).collect();
@@ -27,7 +27,7 @@ impl Table<'_> {
     /// One line of it.
     fn line(&self, row: &[String], widths: &[usize]) -> String {
         let mut line = String::new();
-        for ((cell, width), head) in row.iter().zip(widths).zip(self.heads) {
+        for ((cell, width), head) in row.iter().zip(widths).zip(&self.heads) {
             let space = " ".repeat(width.saturating_sub(cell.chars().count()));
             line += if head.starts_with('<') { "  " } else { &space };
             line += if head.starts_with('<') { "" } else { "  " };

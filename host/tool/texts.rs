@@ -73,6 +73,16 @@ impl Job {
         out
     }
 
+    /// The parts that come out at a stop and stay in use: holders that are not changed there.
+    pub fn put_back(&self, stop: &Stop) -> Vec<u64> {
+        self.removed(stop).into_iter().filter(|part| !stop.parts.contains(part)).collect()
+    }
+
+    /// Whether some part has a removal or a holder.
+    pub fn has_removals(&self) -> bool {
+        self.parts.iter().any(|part| part.removal > 0 || !part.holders.is_empty())
+    }
+
     /// What taking a part out costs.
     pub fn removal(&self, part: u64) -> u64 {
         self.part(part).map_or(0, |part| part.removal)

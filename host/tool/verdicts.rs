@@ -6,7 +6,11 @@ use crate::costs::Costs;
 use crate::failure::{failure, Failure, SOFTWARE};
 use crate::faults;
 use crate::files::{self, Input};
+use crate::json::Value;
+use crate::lives::Late;
+use crate::naming::Naming;
 use crate::numbers::{counted, grouped};
+use crate::standing::Bounds;
 use crate::texts::{self, Job, Plan};
 use std::ffi::OsStr;
 
@@ -20,46 +24,93 @@ pub struct Judged {
     /// The verdict in words, without its number.
     pub words: String,
     pub costs: Costs,
-    /// No plan costs less than this; none where no plan keeps the lives.
-    pub floor: Option<u64>,
+    /// What is known of the cheapest plan; none where it was not asked for.
+    pub bounds: Option<Bounds>,
+    /// How steps and parts are called.
+    pub naming: Naming,
 }
 
 impl Judged {
-    /// The verdict as it is said on standard error.
+    /// The verdict as it is said to people.
     pub fn message(&self) -> String {
-        format!("{}: {} ({})\n", self.plan_name, self.words, self.result)
+        format!("{}: {} ({})\n", self.plan_name, self.sentence(), self.result)
+    }
+
+    /// The verdict, and how the plan stands to the cheapest one where that was asked and the plan may be used.
+    pub fn sentence(&self) -> String {
+        match self.standing() {
+            Some(standing) => format!("{}; {standing}", self.words),
+            None => self.words.clone(),
+        }
+    }
+
+    /// How the plan stands to the cheapest one: by its true cost, and only if it keeps every life.
+    pub fn standing(&self) -> Option<String> {
+        self.bounds.filter(|_| matches!(self.result, 0 | 11))?.words(self.costs.total())
+    }
+
+    /// The floor, where the cheapest plan is not known.
+    pub fn floor(&self) -> Option<u64> {
+        self.bounds?.floor()
+    }
+
+    /// Every part that is not kept: where it first fails.
+    pub fn failing(&self) -> Vec<Late> {
+        (1..=self.job.parts.len() as u64).filter_map(|part| self.job.late(&self.plan, part)).collect()
+    }
+
+    /// What programs are told of the verdict.
+    pub fn json(&self) -> Vec<(&'static str, Value)> {
+        vec![
+            ("job", Value::text(&self.job_name)),
+            ("plan", Value::text(&self.plan_name)),
+            ("result", Value::Number(u64::from(self.result))),
+            ("words", Value::text(self.sentence())),
+            ("fault", Value::Null),
+            ("kept", Value::Bool(self.result != 10)),
+            ("stated", Value::Number(self.plan.cost)),
+            ("costs", self.costs.json()),
+            ("failing", Value::list(self.failing().iter().map(|late| late.json(&self.naming)))),
+        ]
     }
 }
 
 /// Reads both texts and judges.
-pub fn judge_files(pair: &Pair) -> Result<Judged, Failure> {
+pub fn judge_files(pair: &Pair, naming: &Naming) -> Result<Judged, Failure> {
     let job = files::read(&pair.job)?;
-    judge_plan(&job, &pair.plan)
+    judge_plan(&job, &pair.plan, naming)
+}
+
+/// Reads both texts, judges, and asks how the plan stands to the cheapest one.
+pub fn stand_files(pair: &Pair, naming: &Naming) -> Result<Judged, Failure> {
+    let job = files::read(&pair.job)?;
+    let judged = judge_plan(&job, &pair.plan, naming)?;
+    Ok(Judged { bounds: Bounds::of_job(&job.bytes)?, ..judged })
 }
 
 /// Reads a plan and judges it.
-pub fn judge_plan(job: &Input, plan: &OsStr) -> Result<Judged, Failure> {
-    judge(job, &files::read(plan)?)
+pub fn judge_plan(job: &Input, plan: &OsStr, naming: &Naming) -> Result<Judged, Failure> {
+    judge(job, &files::read(plan)?, naming)
 }
 
 /// Judges a plan of a job; a text at fault is a failure, with its line.
-fn judge(job_text: &Input, plan_text: &Input) -> Result<Judged, Failure> {
+fn judge(job_text: &Input, plan_text: &Input, naming: &Naming) -> Result<Judged, Failure> {
     let reply = calls::judge(&job_text.bytes, &plan_text.bytes)?;
     if reply.text != 0 || !matches!(reply.result, 0 | 10 | 11) {
         return Err(faults::refusal(&reply, job_text, Some(plan_text)));
     }
     let (job, plan) = (texts::job(&job_text.bytes), texts::plan(&plan_text.bytes));
-    let words = words(&reply, &job, &plan).ok_or_else(|| failure(SOFTWARE, "the judge's answer is not complete"))?;
+    naming.check(&job)?;
+    let words = words(&reply, &job, &plan, naming).ok_or_else(|| failure(SOFTWARE, "the judge's answer is not complete"))?;
     let costs = Costs::of(&job, &plan, reply.value("cost"));
-    let floor = calls::floor(&job_text.bytes)?;
     let (job_name, plan_name) = (job_text.name.clone(), plan_text.name.clone());
-    Ok(Judged { job_name, plan_name, job, plan, result: reply.result, words, costs, floor })
+    Ok(Judged { job_name, plan_name, job, plan, result: reply.result, words, costs, bounds: None, naming: naming.clone() })
 }
 
 /// The verdict in words: 0, 10 or 11.
-fn words(reply: &Reply, job: &Job, plan: &Plan) -> Option<String> {
+fn words(reply: &Reply, job: &Job, plan: &Plan, naming: &Naming) -> Option<String> {
     match reply.result {
-        10 => Some(late(job, plan, reply.value("part")?, reply.value("due")?)),
+        10 => Some(Late::named(job, plan, reply.value("part")?, reply.value("due")?).words(job, naming)),
         0 => Some(format!("every part's life is kept and the cost is true: {}", grouped(reply.value("cost")?))),
         _ => {
             let cost = reply.value("cost")?;
@@ -73,14 +124,32 @@ fn words(reply: &Reply, job: &Job, plan: &Plan) -> Option<String> {
     }
 }
 
-/// A part that is not kept: due when, changed when, how much too late.
-fn late(job: &Job, plan: &Plan, part: u64, due: u64) -> String {
-    let next = plan.changes(part).into_iter().find(|step| *step > due);
-    let steps = job.runs(due, next.unwrap_or(job.end()));
-    let late = format!("{} too late", counted(steps, "running step"));
-    let due = format!("part {part} is not kept: it is due by step {due}");
-    match next {
-        Some(next) => format!("{due} and changed only at step {next}, {late}"),
-        None => format!("{due} and not changed any more; at the end, after step {}, that is {late}", job.horizon),
+impl Late {
+    /// A part that is not kept: due when, changed when, how much too late.
+    pub fn words(&self, job: &Job, naming: &Naming) -> String {
+        let late = format!("{} too late", counted(self.steps, "running step"));
+        let due = format!("part {} is not kept: it is due by step {}", naming.part(self.part), naming.step(self.due));
+        match self.next {
+            Some(next) => format!("{due} and changed only at step {}, {late}", naming.step(next)),
+            None => format!("{due} and not changed any more; at the end, after step {}, that is {late}", naming.step(job.horizon)),
+        }
     }
+
+    /// The same for programs.
+    pub fn json(&self, naming: &Naming) -> Value {
+        Value::object([
+            ("part", Value::Number(self.part)),
+            ("name", Value::maybe(naming.name(self.part))),
+            ("due", Value::Number(self.due)),
+            ("due_date", Value::maybe(naming.date(self.due))),
+            ("next", Value::number(self.next)),
+            ("late", Value::Number(self.steps)),
+        ])
+    }
+}
+
+/// Members that every answer to a program begins with, before its own.
+pub fn headed(command: &'static str, members: Vec<(&'static str, Value)>) -> Vec<(&'static str, Value)> {
+    let head = [("juzvarola", Value::text(env!("CARGO_PKG_VERSION"))), ("command", Value::text(command))];
+    head.into_iter().chain(members).collect()
 }

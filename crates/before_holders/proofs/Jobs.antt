@@ -19,8 +19,10 @@ use Rattle.model.specs.Windows.{Rising, stepsOf}
 use Rattle.jobs.specs.Valid.{All, ValidOpening, ValidPrice, ValidPart, HeldFrom}
 use Rattle.jobs.proofs.Lists.{chained-each, each-chained}
 use Rattle.covers.specs.Views.{meantCover}
-use Rattle.job_grammar.specs.Grammar.{PartText, JobText, Given, meantPart, meant, idles, opening, openings, jobLines, maxBytes, meaning, readJobText, readJob}
-use Rattle.job_grammar.specs.Rendering.{idlesText, openingText, partText, bodyText, jobText}
+use Rattle.job_grammar.specs.Grammar.{JobText, Given, meant, idles, opening, openings, jobLines, maxBytes, meaning, readJobText, readJob}
+use Rattle.part_lines.specs.Grammar.{PartText, meantPart}
+use Rattle.job_grammar.specs.Rendering.{idlesText, openingText, bodyText, jobText}
+use Rattle.part_lines.specs.Rendering.{partText}
 use Rattle.job_grammar.specs.Valid.{ValidText}
 use Rattle.job_grammar.proofs.Accepted.{KnownIdles, idles-tell, KnownOpening, opening-tells, stepOf, chained-rising, valid-text, text-is}
 use Rattle.job_grammar.proofs.Complete.{idles-complete, opening-complete, openings-chained, read-back}

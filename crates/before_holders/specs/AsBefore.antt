@@ -8,6 +8,7 @@ use Rattle.lines.specs.Parser.{accepted}
 use Rattle.jobs.specs.Valid.{All}
 use Rattle.job_grammar.specs.Grammar.{Given}
 use Rattle.job_grammar.specs.Grammar as today
+use Rattle.part_lines.specs.Grammar.{PartText}
 use Rattle.plan_grammar.specs.Grammar.{Stated}
 use Rattle.plan_grammar.specs.Grammar as plans
 use Rattle.answers.specs.Said.{lent}
@@ -24,7 +25,7 @@ pub record Accepted (text : List ℕ) : Type 0 where
 
 -- what it says today has no lines of removal
 abbrev pub Bare : today.JobText → Type 0
-Bare t = All (λ (p : today.PartText). p .cover ≡ missing) (t .parts)
+Bare t = All (λ (p : PartText). p .cover ≡ missing) (t .parts)
 
 -- a job text and a plan text were
 pub record BothAccepted (job plan : List ℕ) : Type 0 where

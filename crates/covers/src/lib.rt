@@ -1,8 +1,5 @@
-// What a part's lines of removal say: what it costs to remove the part, and which parts hold it. Read from a cursor on, and written.
+// What a part's lines of removal say: what it costs to remove the part, and which parts hold it. Read from a cursor on.
 use jobs::Part;
-use line_writing::marks::count_marks;
-use line_writing::marks::put_marks;
-use line_writing::write::put_line;
 use lines::read::Field;
 use lines::read::OptionalField;
 use lines::read::read_field;
@@ -14,14 +11,12 @@ use lines::rows::Row;
 use lines::rows::advance;
 ghost use mathlib.Core.Path.{_≡_};
 ghost use mathlib.Core.Bool.{false};
-ghost use Prim.Native.Nat.{_+_, _≤_};
-ghost use lib.ListN.{length, drop};
-ghost use Rattle.lines.specs.Wrote.{Wrote};
+ghost use Prim.Native.Nat.{_≤_};
+ghost use lib.ListN.{drop};
 ghost use Rattle.lines.specs.Chosen.{numbersOf};
 ghost use Rattle.lines.specs.Cursor.{Stands, LineRead, Reads, ended};
 ghost use Rattle.covers.specs.Grammar.{holder, holders};
 ghost use Rattle.covers.specs.Grammar as grammar;
-ghost use Rattle.covers.specs.Rendering.{coverText};
 ghost use Rattle.covers.specs.Views.{coverOf, noCover, InsideRead, CoverRead};
 ghost use Rattle.model.specs.Limits.{mostParts};
 
@@ -156,16 +151,4 @@ pub fn read_cover(text: &[u8], p: Cursor, m: u32, k: u32) -> CoverLines
         },
         OptionalField::Missing => no_cover(End::At(p)),
     }
-}
-
-// Puts a part's lines of removal.
-pub fn put_cover(out: &mut [u8], at: usize, cover: Cover) -> usize
-    requires { ⌜ at + length (coverText (coverOf cover)) ≤ length (now out) ⌝ }
-    ensures { λ r. ⌜ Wrote (now (out .entry)) at (coverText (coverOf cover)) (now (out .exit)) r ⌝ }
-{
-    let a = put_line(out, at, b"removal=", cover.removal as u64);
-    let holders = cover.holders;
-    let n = count_marks(&holders[..]);
-    let b = put_line(out, a, b"inside=", n);
-    put_marks(out, b, b"holder=", &holders[..])
 }

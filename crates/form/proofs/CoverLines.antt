@@ -1,4 +1,4 @@
--- A part's lines of removal, read: none (`cover-none`), and those that stand (`removal-there`); what follows a part has none (`next-other`). By the optional line of the removal.
+-- A part's lines of removal, read: none (`cover-none`), and those that stand (`removal-there`); what follows a part has none (`cut-next`). By the optional line of the removal.
 use Prim.Native.Nat.{ℕ}
 use mathlib.Core.Path.{_≡_, refl, ap, _∙_}
 use mathlib.Core.Bool.{true, false}
@@ -9,8 +9,9 @@ use Rattle.lines.specs.Parser.{Parsed, good, fault, _>>=_, return, row, optiona
 use Rattle.lines.proofs.Parsing.{bind-good, optional-there, optional-missing}
 use Rattle.lines.proofs.Back.{starts-own}
 use Rattle.covers.specs.Grammar.{inside, cover}
-use Rattle.job_grammar.specs.Grammar.{PartText}
-use Rattle.job_grammar.specs.Rendering.{partText}
+use Rattle.part_lines.specs.Grammar.{PartText}
+use Rattle.part_lines.specs.Behind.{Behind}
+use Rattle.part_lines.proofs.Behind.{behind-none}
 use Rattle.form_writing.specs.Cut.{partCut}
 
 -- a line begins with its key
@@ -30,13 +31,8 @@ module _ (m k r : ℕ) (t : List ℕ) (l : ℕ) where
       ap (λ (y : Parsed (Optional ℕ)). elim y [ good a s i ↦ ifPresent (inside m k) a s i | fault n i ↦ fault n i ])
       (optional-there (bytes "removal=") 0 1000000 (lineOf "removal=" r ++ t) l (starts-line (bytes "removal=") r t))
 
--- what follows a part does not begin with a line of removal
-pub cut-next : (ps : List PartText) → startsWith (bytes "removal=") (texts partCut ps) ≡ false
+-- what follows a part may stand behind its lines
+pub cut-next : (ps : List PartText) → Behind (texts partCut ps)
 unfolding startsWith line bytes partCut
-cut-next [] = refl
-cut-next (p ∷ ps) = refl
-
-pub next-other : (ps : List PartText) → startsWith (bytes "removal=") (texts partText ps) ≡ false
-unfolding startsWith line bytes partText
-next-other [] = refl
-next-other (p ∷ ps) = refl
+cut-next [] = behind-none
+cut-next (p ∷ ps) = record { removal = refl }

@@ -13,12 +13,13 @@ use Rattle.lines.specs.Text.{bytes, line, lineOf, texts, optionalText}
 use Rattle.lines.specs.Parser.{Parser, good, fault, _>>=_, return, row, rowAt, checked, chain, rising}
 use Rattle.lines.proofs.Parsing.{bind-good, bind-fault, checked-good, rising-yes}
 use Rattle.lines.proofs.Sound.{Chained}
-use Rattle.lines.proofs.Readback.{value-in}
+use Rattle.lines.proofs.ValueLines.{value-in}
 use Rattle.model.specs.Model.{Opening}
 use Rattle.model.specs.Windows.{Rising}
 use Rattle.jobs.specs.Valid.{All}
 use Rattle.job_grammar.specs.Grammar.{idle, idleSteps, idles, opening, openings, body, rest, jobLines}
-use Rattle.job_grammar.specs.Rendering.{openingText, partText}
+use Rattle.job_grammar.specs.Rendering.{openingText}
+use Rattle.part_lines.specs.Rendering.{partText}
 use Rattle.job_grammar.specs.Optionals.{idleLines}
 use Rattle.job_grammar.proofs.Accepted.{itself, stepOf}
 use Rattle.job_grammar.proofs.Complete.{walk-next}

@@ -14,7 +14,8 @@ use Rattle.lines.specs.Parser.{accepted, refused, good, fault, return, end as e
 use Rattle.fault_lines.specs.Fault.{nowhere, skipped, afterBreak, faultSpan, spanIn}
 use Rattle.lines.proofs.Parsing.{bind-good, bind-fault, text-fits}
 use Rattle.lines.proofs.Outcomes.{one-value, one-fault, not-both}
-use Rattle.job_grammar.specs.Grammar.{JobText, meantPart, jobLines, maxBytes, readJobText}
+use Rattle.job_grammar.specs.Grammar.{JobText, jobLines, maxBytes, readJobText}
+use Rattle.part_lines.specs.Grammar.{meantPart}
 use Rattle.job_grammar.specs.Rendering.{jobText}
 use Rattle.job_grammar.proofs.Optionals.{idle-steps}
 use Rattle.job_grammar.proofs.Accepted.{lines-tell, valid-text, text-is}

@@ -9,7 +9,7 @@ use lib.ListN.{length}
 use Rattle.lines.specs.Parser.{Parsed, good, fault, Parser, _>>=_, return, rowAt, checked, chain}
 use Rattle.lines.specs.Text.{line, texts}
 use Rattle.lines.proofs.Parsing.{bind-good, bind-fault, checked-good, checked-not, checked-fault}
-use Rattle.lines.proofs.Readback.{value-in, value-low, value-high}
+use Rattle.lines.proofs.ValueLines.{value-in, value-low, value-high}
 use Rattle.lines.proofs.Sound.{Chained}
 
 -- the parser's answers x and y to two texts are both the value a, with s and with t behind it, and then G holds; or they are the same fault, whose number has F

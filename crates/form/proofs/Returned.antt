@@ -12,9 +12,11 @@ use Rattle.lines.specs.Text.{lineOf, texts, Optional, missing, present, optiona
 use Rattle.model.specs.Model.{Opening}
 use Rattle.jobs.specs.Valid.{All, ValidPart}
 use Rattle.covers.specs.Grammar.{Cover}
-use Rattle.job_grammar.specs.Grammar.{PartText, JobText, idleIn, meantPart}
+use Rattle.job_grammar.specs.Grammar.{JobText, idleIn}
+use Rattle.part_lines.specs.Grammar.{PartText, meantPart}
 use Rattle.job_grammar.specs.Valid.{Some, ValidText}
-use Rattle.job_grammar.specs.Rendering.{idlesText, openingText, partText, bodyText, jobText}
+use Rattle.job_grammar.specs.Rendering.{idlesText, openingText, bodyText, jobText}
+use Rattle.part_lines.specs.Rendering.{partText}
 use Rattle.job_grammar.specs.Optionals.{idleLines}
 use Rattle.job_grammar.proofs.Optionals.{some-idles}
 use Rattle.form_facts.specs.Facts.{paired, coversOf, grouped, partsOf, sumAll, feesAgree, partsAgree, PartsAgree, countOf, countedText}

@@ -15,15 +15,19 @@ use Rattle.lines.specs.Line.{startsWith}
 use Rattle.lines.specs.Text.{bytes, line, lineOf, texts, Optional, missing, present, optionalText}
 use Rattle.lines.specs.Parser.{Parsed, good, return, row, rowAt, checked, chain, times, rising, upTo, ifPresent}
 use Rattle.lines.proofs.Sound.{Chained}
-use Rattle.lines.proofs.Readback.{value-in, value-high}
+use Rattle.lines.proofs.ValueLines.{value-in, value-high}
 use Rattle.model.specs.Model.{Opening}
 use Rattle.jobs.specs.Valid.{All}
 use Rattle.covers.specs.Grammar.{Cover, other, holder, holders, inside, cover}
 use Rattle.covers.specs.Rendering.{coverText}
-use Rattle.job_grammar.specs.Grammar.{PartText, JobText, idle, idleSteps, idles, opening, openings, afterLeft, part, following, parts, body, rest, jobLines}
-use Rattle.job_grammar.specs.Rendering.{openingText, partText}
+use Rattle.job_grammar.specs.Grammar.{JobText, idle, idleSteps, idles, opening, openings, parts, body, rest, jobLines}
+use Rattle.part_lines.specs.Grammar.{PartText, afterLeft, part, following}
+use Rattle.job_grammar.specs.Rendering.{openingText}
+use Rattle.part_lines.specs.Rendering.{partText}
 use Rattle.job_grammar.specs.Optionals.{idleLines}
-use Rattle.job_grammar.proofs.Complete.{walk-next, prices-next}
+use Rattle.job_grammar.proofs.Complete.{walk-next}
+use Rattle.part_lines.specs.Behind.{Behind}
+use Rattle.part_lines.proofs.Behind.{prices-behind, parts-last}
 use Rattle.job_grammar.proofs.Optionals.{some-idles}
 use Rattle.form_facts.specs.Facts.{PartLists, paired, coversOf, grouped, feesAgree, partsAgree, PartsAgree, countOf, countedText}
 use Rattle.form_facts.proofs.CountLines.{count-in, count-out}
@@ -32,7 +36,7 @@ use Rattle.form_writing.specs.Cut.{countedCut, insideCut, coverCut, partCut, id
 use Rattle.form.specs.Form.{Form, stated, idleCountText, bodyOf, restOf, formText}
 use Rattle.form.specs.Promise.{Agree, Few, FormFault}
 use Rattle.form.proofs.Readback.{Readback, back, broken, same-back, bind-back, return-back, row-back, checked-back, chain-back}
-use Rattle.form.proofs.CoverLines.{cover-none, removal-there, next-other, cut-next}
+use Rattle.form.proofs.CoverLines.{cover-none, removal-there, cut-next}
 use Rattle.form.proofs.IdleLines.{text-some, stepsIf, cut-some, idles-none, number-there}
 
 -- the writer's refusals of a line
@@ -46,7 +50,7 @@ five : FormFault 5
 five = inl (omega arith, omega arith)
 
 twelve : FormFault 12
-twelve = inr refl
+twelve = inr (omega arith, omega arith)
 
 -- a number can be written: it has at most ten digits
 abbrev Short : ℕ → Type 0
@@ -214,7 +218,7 @@ pub record ShortPart (n : ℕ) (p : PartText) : Type 0 where
   pub priced : length (p .prices) ≡ n
   pub prices : Small (p .prices)
 
-part-back : (m n k : ℕ) (p : PartText) → ShortPart n p → (s t : List ℕ) (l : ℕ) → startsWith (bytes "removal=") s ≡ false → startsWith (bytes "removal=") t ≡ false
+part-back : (m n k : ℕ) (p : PartText) → ShortPart n p → (s t : List ℕ) (l : ℕ) → Behind s → Behind t
     → Readback FormFault (Unit {0}) p s t (part m n k (partText p ++ s) l) (part m n k (partCut p ++ t) l)
 unfolding part afterLeft partText partCut times
 part-back m n k p few s t l other other′ =
@@ -228,7 +232,7 @@ part-back m n k p few s t l other other′ =
     (bind-back (row "life=" 1 1000) _ (value-back (bytes "life=") 1 1000 (p .life) (few .life) (b ++ (d ++ (c ++ s))) (b ++ (d′ ++ (c ++ t))) l)
     (λ _ i. bind-back (checked 5 (upTo (p .life)) (row "left=" 1 1000)) _
     (checked-back FormFault 5 five (upTo (p .life)) (row "left=" 1 1000) (p .left) i (value-back (bytes "left=") 1 1000 (p .left) (few .left) (d ++ (c ++ s)) (d′ ++ (c ++ t)) i))
-    (λ _ j. bind-back (cover m k) _ (cover-back m k (p .cover) (few .cover) (c ++ s) (c ++ t) j (prices-next (p .prices) s other) (prices-next (p .prices) t other′))
+    (λ _ j. bind-back (cover m k) _ (cover-back m k (p .cover) (few .cover) (c ++ s) (c ++ t) j (prices-behind (p .prices) s other .removal) (prices-behind (p .prices) t other′ .removal))
     (λ _ h. bind-back (times n (row "price=" 1 1000000)) _
     (subst (λ (q : ℕ). Readback FormFault (Unit {0}) (p .prices) s t (times q (row "price=" 1 1000000) (c ++ s) h) (times q (row "price=" 1 1000000) (c ++ t) h)) (few .priced)
     (chain-back FormFault (λ _. row "price=" 1 1000000) (λ _ _. 0) (lineOf "price=") Short (λ _ v v-few u v′ q. value-back (bytes "price=") 1 1000000 v v-few u v′ q) 0 (p .prices) (small-chained (λ _ _. 0) 0 (p .prices) (few .prices)) s t h))
@@ -240,7 +244,7 @@ all-back : (m n k : ℕ) (ps : List PartText) → All (ShortPart n) ps → (l : 
 unfolding chain
 all-back m n k [] h l = return-back [] [] [] l tt
 all-back m n k (p ∷ ps) h l =
-    bind-back (part m n k) _ (part-back m n k p (h .0) (texts partText ps) (texts partCut ps) l (next-other ps) (cut-next ps))
+    bind-back (part m n k) _ (part-back m n k p (h .0) (texts partText ps) (texts partCut ps) l (parts-last ps) (cut-next ps))
     (λ _ i. bind-back (chain (part m n) following (length ps) (suc k)) _ (all-back m n (suc k) ps (h .1) i) (λ _ j. return-back (p ∷ ps) [] [] j tt))
 
 small-take : (n : ℕ) (ps : List ℕ) → Small ps → Small (take n ps)

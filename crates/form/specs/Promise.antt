@@ -13,7 +13,9 @@ use Rattle.model.specs.Model.{Opening}
 use Rattle.model.specs.Limits.{lastStep, dearest, mostOpenings, mostParts, mostWalk}
 use Rattle.model.specs.Windows.{Rising}
 use Rattle.jobs.specs.Valid.{All}
-use Rattle.job_grammar.specs.Grammar.{PartText, JobText, idleIn, jobLines, readJobText}
+use Rattle.job_grammar.specs.Grammar.{JobText, idleIn, jobLines, readJobText}
+use Rattle.job_grammar.specs.Faults.{lastFault}
+use Rattle.part_lines.specs.Grammar.{PartText}
 use Rattle.job_grammar.specs.Rendering.{jobText}
 use Rattle.covers.specs.Grammar.{Cover}
 use Rattle.form_facts.specs.Facts.{PartLists, PartsAgree}
@@ -102,9 +104,9 @@ formOf t = record {
   parts = listsOf (t .parts);
 }
 
--- "3, 4, 5" and E7's 12: the writer's refusals of a line
+-- "3, 4, 5", and E7's 12 to the last number of a job text's line: the writer's refusals of a line
 abbrev pub FormFault : ℕ → Type 0
-FormFault n = ((3 ≤ n) × (n ≤ 5)) ⊎ (n ≡ 12)
+FormFault n = ((3 ≤ n) × (n ≤ 5)) ⊎ ((12 ≤ n) × (n ≤ lastFault))
 
 -- E2. what is promised of the answer s to a form, where the output has `room` bytes
 pub record WritePromise (f : Form) (room : ℕ) (s : Said) : Type 0 where
@@ -114,7 +116,7 @@ pub record WritePromise (f : Form) (room : ℕ) (s : Said) : Type 0 where
   pub says-0 : (s .result ≡ 0) ↔ ((writeRoom ≤ room) × (Agree f × (readJobText (jobText (stated f)) ≡ accepted (stated f))))
   -- the bytes are that job's text: "A written text reads back as the same job"
   pub writes-0 : s .result ≡ 0 → (s .bytes ≡ jobText (stated f)) × (readJobText (s .bytes) ≡ accepted (stated f))
-  -- every refusal: 3, 4, 5 or 12, text 1, its line, and no line at fault, "there is no text of the caller's"
+  -- every refusal: 3, 4, 5 or from 12 on, text 1, its line, and no line at fault, "there is no text of the caller's"
   pub refuses : writeRoom ≤ room → (number line : ℕ) → readForm f ≡ refused number line
       → Refuses 1 [] number line s × (s .fault ≡ nowhere) × FormFault number
   -- "Fees not as many as openings give 3 on the `openings` line"

@@ -9,7 +9,7 @@ use borrow.Author.Tests.{leb-true, le-leb}
 use lib.Dec.{leb}
 use Rattle.lines.specs.Text.{line}
 use Rattle.lines.specs.Parser.{Parsed, good, fault, rowAt}
-use Rattle.lines.proofs.Readback.{value-in, value-low, value-high}
+use Rattle.lines.proofs.ValueLines.{value-in, value-low, value-high}
 use Rattle.form_facts.specs.Facts.{countOf}
 
 pub count-is : (most : ℕ) (agree : Bool) (n : ℕ) → n ≤ most → agree ≡ true → countOf most agree n ≡ n

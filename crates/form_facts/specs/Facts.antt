@@ -11,8 +11,8 @@ use Rattle.model.specs.Model.{Opening}
 use Rattle.jobs.specs.Valid.{All}
 use Rattle.covers.specs.Grammar.{Cover}
 use Rattle.model.specs.Limits.{mostParts}
-use Rattle.job_grammar.specs.Grammar.{PartText}
-use Rattle.job_grammar.specs.Rendering.{partText}
+use Rattle.part_lines.specs.Grammar.{PartText}
+use Rattle.part_lines.specs.Rendering.{partText}
 
 -- ---- what the lists state
 

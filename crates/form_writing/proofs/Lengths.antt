@@ -15,7 +15,7 @@ use Rattle.lines.proofs.Writing.{line-most}
 use Rattle.model.specs.Model.{Opening}
 use Rattle.jobs.specs.Valid.{All}
 use Rattle.covers.specs.Grammar.{Cover}
-use Rattle.job_grammar.specs.Grammar.{PartText}
+use Rattle.part_lines.specs.Grammar.{PartText}
 use Rattle.job_grammar.specs.Rendering.{openingText}
 use Rattle.job_grammar.specs.Optionals.{idleLines}
 use Rattle.form_facts.specs.Facts.{PartLists, paired, coversOf, grouped, partsOf, feesAgree, partsAgree}

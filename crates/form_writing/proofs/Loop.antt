@@ -7,7 +7,7 @@ use lib.ListN.{length, length-drop, length-append}
 use Rattle.lines.specs.Text.{texts}
 use Rattle.lines.specs.Wrote.{Wrote}
 use Rattle.lines.proofs.Writing.{none, then, kept, same}
-use Rattle.job_grammar.specs.Grammar.{PartText}
+use Rattle.part_lines.specs.Grammar.{PartText}
 use Rattle.form_facts.specs.Facts.{PartLists, grouped, partsOf, PartsAgree}
 use Rattle.form_writing.specs.Cut.{partCut}
 use Rattle.form_writing.specs.Places.{after, firstPart, behindFirst, Standing, StepPut}

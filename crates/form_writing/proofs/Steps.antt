@@ -12,7 +12,7 @@ use lib.Seq.{getD-drop, drop-drop}
 use Rattle.jobs.specs.Valid.{All}
 use Rattle.covers.specs.Grammar.{Cover}
 use Rattle.covers.specs.Views.{linesOf}
-use Rattle.job_grammar.specs.Grammar.{PartText}
+use Rattle.part_lines.specs.Grammar.{PartText}
 use Rattle.form_facts.specs.Facts.{PartLists, sumAll, PartsAgree}
 use Rattle.form_writing.specs.Places.{after, insideFirst, firstPart, behindFirst, Standing, StepPut}
 use Rattle.form_writing.specs.declared.parts.Place.{Place}

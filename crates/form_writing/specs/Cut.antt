@@ -8,7 +8,7 @@ use lib.ListN.{length}
 use Rattle.lines.specs.Text.{lineOf, texts, optionalText}
 use Rattle.model.specs.Limits.{lastStep, mostOpenings, mostParts, mostInside}
 use Rattle.covers.specs.Grammar.{Cover}
-use Rattle.job_grammar.specs.Grammar.{PartText}
+use Rattle.part_lines.specs.Grammar.{PartText}
 use Rattle.job_grammar.specs.Rendering.{openingText}
 use Rattle.job_grammar.specs.Optionals.{idleLines}
 use Rattle.form_facts.specs.Facts.{PartLists, paired, partsOf, feesAgree, partsAgree, countOf}

@@ -5,7 +5,7 @@ use mathlib.Core.Path.{_≡_}
 use lib.ListN.{length, getD, take, drop}
 use lib.Dec.{eqb}
 use Rattle.covers.specs.Views.{linesOf}
-use Rattle.job_grammar.specs.Grammar.{PartText}
+use Rattle.part_lines.specs.Grammar.{PartText}
 use Rattle.form_facts.specs.Facts.{PartLists, PartsAgree}
 use Rattle.form_writing.specs.declared.parts.Place.{Place}
 

@@ -4,23 +4,20 @@ use mathlib.Core.Path.{_≡_, refl, sym, ap, _∙_, subst}
 use mathlib.Core.List.{List, [], _∷_, _++_, map, append-assoc, append-nil}
 use native.Mathlib.Omega.{arith}
 use lib.ListN.{length, length-map}
-use borrow.Author.Tests.{leb-true}
 use Rattle.lines.specs.Text.{bytes, lineOf, texts, Optional, missing, present, optionalText}
-use Rattle.lines.specs.Parser.{good, Outcome, accepted, refused, return, row, optional, ifPresent, checked, times, rising, upTo}
+use Rattle.lines.specs.Parser.{good, Outcome, accepted, refused, return, row, optional, ifPresent, checked, rising}
 use Rattle.lines.proofs.Outcomes.{one-value, not-both}
-use Rattle.lines.proofs.Sound.{Told, Tells, Rises, rising-tells, bind-inv, Optionally, optional-inv, row-sound, checked-sound, chain-sound, row-gives, checked-gives, Chained, chain-gives, accepted-is}
+use Rattle.lines.proofs.Sound.{Told, Tells, Rises, rising-tells, bind-inv, Optionally, optional-inv, row-sound, chain-sound, row-gives, Chained, chain-gives, accepted-is}
 use Rattle.model.specs.Model.{Opening}
 use Rattle.model.specs.Windows.{Rising, stepsOf}
-use Rattle.job_grammar.specs.Grammar.{PartText, JobText, Given, idleIn, meantPart, meant, idle, idleSteps, idles, opening, openings, afterLeft, part, following, parts, body, rest, jobLines, maxBytes, readJobText, meaning, readJob}
-use Rattle.job_grammar.specs.Rendering.{idlesText, openingText, partText, bodyText, jobText}
-use Rattle.jobs.specs.Valid.{All, ValidOpening, ValidPrice, Holds, ValidPart, HeldFrom, ValidJob}
-use Rattle.covers.specs.Grammar.{Cover, cover}
-use Rattle.covers.specs.Rendering.{coverText}
-use Rattle.covers.specs.Valid.{ValidLines}
-use Rattle.covers.specs.Views.{meantCover}
-use Rattle.covers.proofs.Accepted.{cover-tells}
+use Rattle.job_grammar.specs.Grammar.{JobText, Given, idleIn, meant, idle, idleSteps, idles, opening, openings, parts, body, rest, jobLines, maxBytes, readJobText, meaning, readJob}
+use Rattle.job_grammar.specs.Rendering.{idlesText, openingText, bodyText, jobText}
+use Rattle.jobs.specs.Valid.{All, ValidOpening, ValidPart, HeldFrom, ValidJob}
+use Rattle.part_lines.specs.Grammar.{PartText, meantPart, part, following}
+use Rattle.part_lines.specs.Rendering.{partText}
+use Rattle.part_lines.specs.Valid.{KnownPart}
+use Rattle.part_lines.proofs.Accepted.{part-tells}
 use Rattle.job_grammar.specs.Valid.{Valid, Some, ValidText}
-use Rattle.jobs.proofs.Lists.{chained-each}
 
 -- ---- steps that rise
 
@@ -102,67 +99,6 @@ chained-rising h before (o ∷ os) c =
     ((record { step-low = k .low; step-high = k .high; fee = c .0 .1 }, r .0), (k .after, k .within, r .1))
 
 -- ---- parts
-
--- what is known of the lines of removal, where they stand, is known of what they mean
-cover-known : (m k : ℕ) (o : Optional Cover) → ValidLines m k o → (meantCover o .removal ≤ 1000000) × (length (meantCover o .holders) ≤ 15) × Holds m k 0 (meantCover o .holders)
-unfolding meantCover
-cover-known m k missing v = (omega arith, omega arith, tt)
-cover-known m k (present c) v = (v .removal, v .few, v .holders)
-
--- part k of m, with n prices
-abbrev pub KnownPart : ℕ → ℕ → ℕ → PartText → Type 0
-KnownPart m n k p = ValidPart n (meantPart p) × Holds m k 0 (meantPart p .holders)
-
--- and back
-pub known-cover : (m n k : ℕ) (p : PartText) → KnownPart m n k p → ValidLines m k (p .cover)
-unfolding meantCover
-known-cover m n k p v = go (p .cover) (v .0 .removal) (v .0 .few-holders) (v .1)
-  where
-    go : (o : Optional Cover) → meantCover o .removal ≤ 1000000 → length (meantCover o .holders) ≤ 15 → Holds m k 0 (meantCover o .holders) → ValidLines m k o
-    go missing r f h = tt
-    go (present c) r f h = record { removal = r; few = f; holders = h }
-
-part-tells : (m n k : ℕ) → Tells (part m n k) (KnownPart m n k) partText
-unfolding part afterLeft times return partText
-part-tells m n k s s′ l l′ p e =
-    let p₁ = row "life=" 1 1000 in
-    let p₂ = row "left=" 1 1000 in
-    let price = row "price=" 1 1000000 in
-    let b = bind-inv p₁ _ s s′ l l′ p e in
-    let d = bind-inv (checked 5 (upTo (b .a)) p₂) _ (b .mid) s′ (b .at) l′ p (b .second) in
-    let g = bind-inv (cover m k) _ (d .mid) s′ (d .at) l′ p (d .second) in
-    let f = bind-inv (times n price) _ (g .mid) s′ (g .at) l′ p (g .second) in
-    let x : record { life = b .a; left = d .a; cover = g .a; prices = f .a } ≡ p = cc (f .second) in
-    let y : f .mid ≡ s′ = cc (f .second) in
-    let k₁ = row-gives _ 1 1000 s (b .mid) l (b .at) (b .a) (b .first) in
-    let k₂ = checked-gives 5 (upTo (b .a)) p₂ _ (row-gives _ 1 1000) (b .mid) (d .mid) (b .at) (d .at) (d .a) (d .first) in
-    let told = cover-tells m k (d .mid) (g .mid) (d .at) (g .at) (g .a) (g .first) in
-    let k₃ = cover-known m k (g .a) (told .known) in
-    let k₄ = chain-gives (λ _. price) (λ _ _. 0) (λ _. ValidPrice) (λ _. row-gives _ 1 1000000) n 0 (g .mid) (f .mid) (g .at) (f .at) (f .a) (f .first) in
-    subst (Told (KnownPart m n k) partText s s′) x (record {
-      known = (
-        record {
-          life-low = k₁ .0;
-          life-high = k₁ .1;
-          left-low = k₂ .0 .0;
-          left-high = leb-true (d .a) (b .a) (k₂ .1);
-          removal = k₃ .0;
-          few-holders = k₃ .1;
-          priced = k₄ .0;
-          prices = chained-each ValidPrice 0 (f .a) (k₄ .1);
-        },
-        k₃ .2,
-      );
-      text = simp append-assoc
-          (row-sound _ 1 1000 s (b .mid) l (b .at) (b .a) (b .first)
-          ∙ ap (λ (r : List ℕ). lineOf "life=" (b .a) ++ r)
-          (checked-sound 5 (upTo (b .a)) p₂ (lineOf "left=") (row-sound _ 1 1000) (b .mid) (d .mid) (b .at) (d .at) (d .a) (d .first)
-          ∙ ap (λ (r : List ℕ). lineOf "left=" (d .a) ++ r)
-          (told .text
-          ∙ ap (λ (r : List ℕ). optionalText coverText (g .a) ++ r)
-          (chain-sound (λ _. price) (λ _ _. 0) (lineOf "price=") (λ _. row-sound _ 1 1000000) n 0 (g .mid) (f .mid) (g .at) (f .at) (f .a) (f .first)
-          ∙ ap (λ (r : List ℕ). texts (lineOf "price=") (f .a) ++ r) y))));
-    })
 
 -- numbered parts, in the model's terms
 chained-parts : (m n k : ℕ) (ps : List PartText) → Chained (KnownPart m n) following k ps → All (ValidPart n) (map meantPart ps) × HeldFrom m k (map meantPart ps)

@@ -9,22 +9,24 @@ use native.Mathlib.Omega.{arith}
 use lib.ListN.{length, length-map}
 use Rattle.lines.specs.Line.{startsWith}
 use Rattle.lines.specs.Text.{bytes, line, lineOf, texts, Optional, missing, present, optionalText}
-use Rattle.lines.specs.Parser.{good, accepted, return, row, optional, ifPresent, checked, chain, times, rising, upTo}
-use Rattle.lines.proofs.Parsing.{bind-good, upTo-yes, optional-missing}
+use Rattle.lines.specs.Parser.{good, accepted, return, row, optional, ifPresent, checked, chain, rising}
+use Rattle.lines.proofs.Parsing.{bind-good, optional-missing}
 use Rattle.lines.proofs.Sound.{Chained}
-use Rattle.lines.proofs.Complete.{Complete, row-complete, rising-complete, optional-present, checked-complete, chain-complete, text-complete}
+use Rattle.lines.proofs.Complete.{Complete, row-complete, rising-complete, optional-present, chain-complete, text-complete}
 use Rattle.model.specs.Model.{Opening}
 use Rattle.model.specs.Windows.{Rising, stepsOf}
-use Rattle.jobs.specs.Valid.{All, ValidOpening, ValidPrice}
-use Rattle.covers.specs.Grammar.{cover}
-use Rattle.covers.specs.Rendering.{coverText}
-use Rattle.covers.proofs.Complete.{cover-complete}
-use Rattle.job_grammar.specs.Grammar.{PartText, JobText, idleIn, meantPart, idle, idleSteps, idles, opening, openings, afterLeft, part, following, parts, body, rest, jobLines, maxBytes, readJobText}
-use Rattle.job_grammar.specs.Rendering.{idlesText, openingText, partText, bodyText, jobText}
+use Rattle.jobs.specs.Valid.{All, ValidOpening}
+use Rattle.part_lines.specs.Grammar.{PartText, meantPart, part, following}
+use Rattle.part_lines.specs.Rendering.{partText}
+use Rattle.part_lines.specs.Valid.{KnownPart}
+use Rattle.part_lines.specs.Behind.{Behind}
+use Rattle.part_lines.proofs.Behind.{behind-none, parts-behind}
+use Rattle.part_lines.proofs.Complete.{part-complete}
+use Rattle.job_grammar.specs.Grammar.{JobText, idleIn, idle, idleSteps, idles, opening, openings, parts, body, rest, jobLines, maxBytes, readJobText}
+use Rattle.job_grammar.specs.Rendering.{idlesText, openingText, bodyText, jobText}
 use Rattle.job_grammar.specs.Valid.{Some, ValidText}
-use Rattle.job_grammar.proofs.Accepted.{KnownStep, itself, KnownOpening, stepOf, KnownPart, known-cover, parts-chained, valid-text, text-is}
+use Rattle.job_grammar.proofs.Accepted.{KnownStep, itself, KnownOpening, stepOf, parts-chained, valid-text, text-is}
 use Rattle.job_grammar.proofs.Lengths.{text-fits}
-use Rattle.jobs.proofs.Lists.{each-chained}
 
 -- ---- idle steps
 
@@ -65,44 +67,13 @@ openings-chained h before (o ∷ os) v r =
 
 -- ---- parts
 
--- what follows the lines of removal, if any, are prices, the next part, or what follows the parts
-pub prices-next : (ps s : List ℕ) → startsWith (bytes "removal=") s ≡ false → startsWith (bytes "removal=") (texts (lineOf "price=") ps ++ s) ≡ false
-unfolding startsWith line bytes
-prices-next [] s e = e
-prices-next (p ∷ ps) s e = refl
-
-pub parts-next : (ps : List PartText) (s : List ℕ) → startsWith (bytes "removal=") s ≡ false → startsWith (bytes "removal=") (texts partText ps ++ s) ≡ false
-unfolding startsWith line bytes partText
-parts-next [] s e = e
-parts-next (p ∷ ps) s e = refl
-
-part-complete : (m n k : ℕ) → m ≤ 16 → (p : PartText) → KnownPart m n k p → (s : List ℕ) (l : ℕ) → startsWith (bytes "removal=") s ≡ false → (l′ : ℕ) × (part m n k (partText p ++ s) l ≡ good p s l′)
-unfolding part afterLeft times return partText
-part-complete m n k most p known s l next =
-    let v = known .0 in
-    let price = row "price=" 1 1000000 in
-    let life = lineOf "life=" (p .life) in
-    let left = lineOf "left=" (p .left) in
-    let cs = optionalText coverText (p .cover) in
-    let ts = texts (lineOf "price=") (p .prices) in
-    let a = row-complete (bytes "life=") 1 1000 (omega arith) (p .life) (v .life-low, v .life-high) (left ++ (cs ++ (ts ++ s))) l in
-    let b = checked-complete 5 (upTo (p .life)) (row "left=" 1 1000) (lineOf "left=") _ (row-complete _ 1 1000 (omega arith)) (p .left)
-    ((v .left-low, omega (arith, v .left-high, v .life-high)), upTo-yes (p .life) (p .left) (v .left-high)) (cs ++ (ts ++ s)) (a .0) in
-    let d = cover-complete m k most (p .cover) (known-cover m n k p known) (ts ++ s) (b .0) (prices-next (p .prices) s next) in
-    let c = chain-complete (λ _. price) (λ _ _. 0) (lineOf "price=") (λ _. ValidPrice) (λ _. row-complete _ 1 1000000 (omega arith)) 0 (p .prices) (each-chained ValidPrice 0 (p .prices) (v .prices)) s (d .0) in (
-      c .0,
-      ap (λ (x : List ℕ). part m n k x l) (append-assoc (life ++ left ++ cs) ts s ∙ append-assoc (life ++ left) cs (ts ++ s) ∙ append-assoc life left (cs ++ (ts ++ s)))
-          ∙ bind-good (row "life=" 1 1000) _ (a .1) ∙ bind-good (checked 5 (upTo (p .life)) (row "left=" 1 1000)) _ (b .1) ∙ bind-good (cover m k) _ (d .1)
-          ∙ bind-good (times n price) _ (ap (λ (m : ℕ). times m price (ts ++ s) (d .0)) (sym (v .priced)) ∙ c .1),
-    )
-
 -- the parts from part k of m on
-parts-complete : (m n k : ℕ) → m ≤ 16 → (ps : List PartText) → Chained (KnownPart m n) following k ps → (s : List ℕ) (l : ℕ) → startsWith (bytes "removal=") s ≡ false
+parts-complete : (m n k : ℕ) → m ≤ 16 → (ps : List PartText) → Chained (KnownPart m n) following k ps → (s : List ℕ) (l : ℕ) → Behind s
     → (l′ : ℕ) × (chain (part m n) following (length ps) k (texts partText ps ++ s) l ≡ good ps s l′)
 unfolding chain return
 parts-complete m n k most [] h s l next = (l, refl)
 parts-complete m n k most (p ∷ ps) h s l next =
-    let a = part-complete m n k most p (h .0) (texts partText ps ++ s) l (parts-next ps s next) in
+    let a = part-complete m n k most p (h .0) (texts partText ps ++ s) l (parts-behind ps s next) in
     let b = parts-complete m n (suc k) most ps (h .1) s (a .0) next in (
       b .0,
       ap (λ (r : List ℕ). chain (part m n) following (length (p ∷ ps)) k r l) (append-assoc (partText p) (texts partText ps) s)
@@ -111,7 +82,7 @@ parts-complete m n k most (p ∷ ps) h s l next =
 
 -- ---- the whole
 
-body-complete : (t : JobText) → ValidText t → (s : List ℕ) (l : ℕ) → startsWith (bytes "removal=") s ≡ false → (l′ : ℕ) × (body (t .horizon) (t .idles) (t .walk) (length (t .openings)) (bodyText t ++ s) l ≡ good t s l′)
+body-complete : (t : JobText) → ValidText t → (s : List ℕ) (l : ℕ) → Behind s → (l′ : ℕ) × (body (t .horizon) (t .idles) (t .walk) (length (t .openings)) (bodyText t ++ s) l ≡ good t s l′)
 unfolding body openings parts return bodyText
 body-complete t v s l next =
     let j = v .means .job in
@@ -136,8 +107,8 @@ pub walk-next : (w : ℕ) (s : List ℕ) → startsWith (bytes "idles=") (lineOf
 unfolding startsWith line bytes
 walk-next w s = refl
 
--- with anything behind its lines that does not begin as lines of removal do
-pub lines-back : (t : JobText) → ValidText t → (s : List ℕ) (l : ℕ) → startsWith (bytes "removal=") s ≡ false → (l′ : ℕ) × (jobLines (jobText t ++ s) l ≡ good t s l′)
+-- with anything behind its lines that may stand behind a part's
+pub lines-back : (t : JobText) → ValidText t → (s : List ℕ) (l : ℕ) → Behind s → (l′ : ℕ) × (jobLines (jobText t ++ s) l ≡ good t s l′)
 unfolding jobLines rest jobText
 lines-back t v s l next =
     let j = v .means .job in
@@ -158,9 +129,8 @@ lines-back t v s l next =
     )
 
 pub read-back : (t : JobText) → ValidText t → readJobText (jobText t) ≡ accepted t
-unfolding startsWith bytes
 read-back t v =
-    let r = lines-back t v [] 1 refl in
+    let r = lines-back t v [] 1 behind-none in
     text-complete maxBytes jobLines (jobText t) t (r .0) (text-fits t v) (ap (λ (x : List ℕ). jobLines x 1) (sym (append-nil (jobText t))) ∙ r .1)
 
 -- the accepted texts are those of the valid records, each read as its own

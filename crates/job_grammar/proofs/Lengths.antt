@@ -11,15 +11,16 @@ use Rattle.lines.proofs.Writing.{line-short, joined-grows}
 use Rattle.lines.proofs.Texts.{rising-room}
 use Rattle.model.specs.Model.{Opening}
 use Rattle.model.specs.Windows.{Rising}
-use Rattle.jobs.specs.Valid.{All, ValidOpening, ValidPrice}
-use Rattle.covers.specs.Grammar.{Cover}
-use Rattle.covers.specs.Rendering.{coverText}
-use Rattle.covers.specs.Valid.{ValidLines}
-use Rattle.covers.proofs.Lengths.{holderLine, all-holders, cover-short}
-use Rattle.job_grammar.specs.Grammar.{PartText, JobText, idleIn, meantPart, following, maxBytes}
-use Rattle.job_grammar.specs.Rendering.{idlesText, openingText, partText, bodyText, jobText}
+use Rattle.jobs.specs.Valid.{All, ValidOpening}
+use Rattle.covers.proofs.Lengths.{holderLine, all-holders}
+use Rattle.part_lines.specs.Grammar.{PartText, meantPart, following}
+use Rattle.part_lines.specs.Rendering.{partText}
+use Rattle.part_lines.specs.Valid.{KnownPart}
+use Rattle.part_lines.proofs.Lengths.{mostPart, texts-short, part-short}
+use Rattle.job_grammar.specs.Grammar.{JobText, idleIn, maxBytes}
+use Rattle.job_grammar.specs.Rendering.{idlesText, openingText, bodyText, jobText}
 use Rattle.job_grammar.specs.Valid.{ValidText}
-use Rattle.job_grammar.proofs.Accepted.{KnownPart, known-cover, parts-chained}
+use Rattle.job_grammar.proofs.Accepted.{parts-chained}
 
 -- the longest job text
 abbrev pub longest : ℕ
@@ -29,18 +30,13 @@ key-length : (length (bytes "horizon=") ≡ 8) × (length (bytes "idles=") ≡ 6
 unfolding bytes
 key-length = (refl, refl, refl, refl, refl)
 
-piece-length : (length (bytes "opening=") ≡ 8) × (length (bytes "fee=") ≡ 4) × (length (bytes "life=") ≡ 5) × (length (bytes "left=") ≡ 5) × (length (bytes "price=") ≡ 6)
+piece-length : (length (bytes "opening=") ≡ 8) × (length (bytes "fee=") ≡ 4)
 unfolding bytes
-piece-length = (refl, refl, refl, refl, refl)
+piece-length = (refl, refl)
 
 holder-length : length (bytes "holder=") ≡ 7
 unfolding bytes
 holder-length = refl
-
--- texts of at most m bytes each
-texts-short : {A : Type 0} (P : A → Type 0) (w : A → List ℕ) (m : ℕ) → ((x : A) → P x → length (w x) ≤ m) → (xs : List A) → All P xs → length (texts w xs) ≤ length xs * m
-texts-short P w m h [] v = omega arith
-texts-short P w m h (x ∷ xs) v = rw (length-append (w x)) (omega (arith, h x (v .0), texts-short P w m h xs (v .1)))
 
 -- ---- idle steps
 
@@ -77,37 +73,12 @@ opening-short o v =
     rw (length-append (lineOf "opening=" (o .step)))
     (omega (arith, piece-length, line-short (bytes "opening=") 2 (o .step) (omega (arith, v)), line-short (bytes "fee=") 6 (o .fee) (omega (arith, v))))
 
-price-short : (p : ℕ) → ValidPrice p → length (lineOf "price=" p) ≤ 14
-price-short p v = omega (arith, piece-length, line-short (bytes "price=") 6 p (omega (arith, v)))
-
--- the lines of removal of part k of m, if any, with the line of its own number, which no holder has
-lines-short : (m k : ℕ) (o : Optional Cover) → m ≤ 16 → 1 ≤ k → k ≤ 16 → ValidLines m k o → length (optionalText coverText o) + length (lineOf "holder=" k) ≤ 177
-lines-short m k missing few low high v = omega (arith, holder-length, line-short (bytes "holder=") 1 k (omega arith))
-lines-short m k (present c) few low high v = cover-short m k c few low high v
-
-part-short : (m n k : ℕ) (p : PartText) → n ≤ 64 → m ≤ 16 → 1 ≤ k → k ≤ 16 → KnownPart m n k p → length (partText p) + length (lineOf "holder=" k) ≤ 1093
-unfolding partText
-part-short m n k p few most low high v =
-    let life = lineOf "life=" (p .life) in
-    let left = lineOf "left=" (p .left) in
-    let cover = optionalText coverText (p .cover) in
-    rw (length-append (life ++ left ++ cover), length-append (life ++ left), length-append life)
-    (omega (
-      arith,
-      piece-length,
-      line-short (bytes "life=") 3 (p .life) (omega (arith, v .0 .life-high)),
-      line-short (bytes "left=") 3 (p .left) (omega (arith, v .0 .life-high, v .0 .left-high)),
-      lines-short m k (p .cover) most low high (known-cover m n k p v),
-      texts-short ValidPrice (lineOf "price=") 14 price-short (p .prices) (v .0 .prices),
-      v .0 .priced,
-    ))
-
 next-number : (i : ℕ) → length (joined holderLine (suc i)) ≡ length (joined holderLine i) + length (lineOf "holder=" (i + 1))
 unfolding joined holderLine
 next-number i = length-append (joined holderLine i) (holderLine i)
 
 -- the lines of the d numbers after i
-numbers-short : (i d : ℕ) → i + d ≤ 16 → length (joined holderLine (i + d)) ≤ length (joined holderLine i) + d * 1093
+numbers-short : (i d : ℕ) → i + d ≤ 16 → length (joined holderLine (i + d)) ≤ length (joined holderLine i) + d * mostPart
 numbers-short i zero h =
     let z : i + 0 ≡ i = omega arith in
     let e = ap (λ (j : ℕ). length (joined holderLine j)) z in
@@ -117,9 +88,9 @@ numbers-short i (suc d) h =
     let e = ap (λ (j : ℕ). length (joined holderLine j)) z in
     omega (arith, e, next-number (i + d), holder-length, line-short (bytes "holder=") 1 (i + d + 1) (omega arith), numbers-short i d (omega arith))
 
--- the parts after part i of m: no more than 1,093 bytes for each up to sixteen, without the lines of their own numbers
+-- the parts after part i of m: no more than `mostPart` bytes for each up to sixteen, without the lines of their own numbers
 parts-short : (m n i : ℕ) (ps : List PartText) → n ≤ 64 → m ≤ 16 → i + length ps ≤ 16 → Chained (KnownPart m n) following (suc i) ps
-    → length (texts partText ps) + length (joined holderLine 16) ≤ (16 - i) * 1093 + length (joined holderLine i)
+    → length (texts partText ps) + length (joined holderLine 16) ≤ (16 - i) * mostPart + length (joined holderLine i)
 parts-short m n i [] few most h v =
     let e : i + (16 - i) ≡ 16 = omega arith in
     let same = ap (λ (j : ℕ). length (joined holderLine j)) e in

@@ -14,8 +14,10 @@ use Rattle.model.specs.Windows.{Rising, stepsOf}
 use Rattle.jobs.specs.Valid.{All, ValidOpening, ValidPrice, Holds, ValidPart, HeldFrom}
 use Rattle.covers.specs.Rendering.{coverText}
 use Rattle.covers.specs.Views.{meantCover}
-use Rattle.job_grammar.specs.Grammar.{PartText, JobText, meantPart}
-use Rattle.job_grammar.specs.Rendering.{idlesText, openingText, partText, bodyText, jobText}
+use Rattle.part_lines.specs.Grammar.{PartText, meantPart}
+use Rattle.part_lines.specs.Rendering.{partText}
+use Rattle.job_grammar.specs.Grammar.{JobText}
+use Rattle.job_grammar.specs.Rendering.{idlesText, openingText, bodyText, jobText}
 use Rattle.job_grammar.specs.Valid.{ValidText}
 use Rattle.job_grammar.proofs.Lengths.{longest}
 

@@ -1,4 +1,4 @@
--- A job text's fault is number 1 to 5 or 12, and its line is one of the text's lines or the next (so it fits any counter). By the grammar's forms.
+-- A job text's fault is number 1 to 5, or one of 12 to the last (`lastFault`), and its line is one of the text's lines or the next (so it fits any counter). By the grammar's forms.
 use Prim.Native.Nat.{ℕ, _+_, _≤_, _<_}
 use mathlib.Core.Path.{_≡_, refl, ap, ap₂, _∙_}
 use mathlib.Core.List.{List}
@@ -7,10 +7,11 @@ use mathlib.Core.Logic.{_⊎_, inl, inr}
 use Rattle.lines.specs.Parser.{rowAt, checked, rising, Outcome, accepted, refused}
 use Rattle.lines.specs.Text.{Optional}
 use Rattle.lines.proofs.Outcomes.{one-fault, not-both}
-use Rattle.lines.proofs.Numbered.{Numbers, row-numbers, optional-numbers, present-numbers, checked-numbers, bind-numbers, return-numbers, chain-numbers, times-numbers, refused-fault}
-use Rattle.covers.proofs.Numbered.{cover-numbers}
+use Rattle.lines.proofs.Numbered.{Numbers, row-numbers, optional-numbers, present-numbers, checked-numbers, bind-numbers, return-numbers, chain-numbers, refused-fault}
+use Rattle.part_lines.specs.Grammar.{part, following}
+use Rattle.part_lines.proofs.Numbered.{part-numbers}
 pub use Rattle.job_grammar.specs.Faults.{JobFault}
-use Rattle.job_grammar.specs.Grammar.{JobText, idle, idleSteps, idles, opening, openings, afterLeft, part, following, parts, body, rest, jobLines, maxBytes, readJobText, meaning, readJob}
+use Rattle.job_grammar.specs.Grammar.{JobText, idle, idleSteps, idles, opening, openings, parts, body, rest, jobLines, maxBytes, readJobText, meaning, readJob}
 
 -- it is at least 1, and none of 6 to 11
 pub fault-some : (n : ℕ) → JobFault n → 1 ≤ n
@@ -30,6 +31,9 @@ two = low 2 (omega arith) (omega arith)
 three : JobFault 3
 three = low 3 (omega arith) (omega arith)
 
+twelve : JobFault 12
+twelve = inr (omega arith, omega arith)
+
 line-numbers : (key : List ℕ) (lo hi : ℕ) → Numbers JobFault (rowAt key lo hi)
 line-numbers = row-numbers JobFault two three
 
@@ -47,20 +51,12 @@ unfolding opening
 opening-numbers h before =
     bind-numbers JobFault _ _ (step-numbers _ h before) (λ o. bind-numbers JobFault _ _ (line-numbers _ 0 1000000) (λ f. return-numbers JobFault _))
 
-part-numbers : (m n k : ℕ) → Numbers JobFault (part m n k)
-unfolding part afterLeft
-part-numbers m n k =
-    bind-numbers JobFault _ _ (line-numbers _ 1 1000)
-    (λ l. bind-numbers JobFault _ _ (checked-numbers JobFault 5 (low 5 (omega arith) (omega arith)) _ _ (line-numbers _ 1 1000))
-    (λ r. bind-numbers JobFault _ _ (cover-numbers JobFault two three (inr refl) m k)
-    (λ c. bind-numbers JobFault _ _ (times-numbers JobFault n _ (line-numbers _ 1 1000000)) (λ ps. return-numbers JobFault _))))
-
 body-numbers : (h : ℕ) (is : Optional (List ℕ)) (w n : ℕ) → Numbers JobFault (body h is w n)
 unfolding body openings parts
 body-numbers h is w n =
     bind-numbers JobFault _ _ (chain-numbers JobFault (opening h) _ (opening-numbers h) n 0)
     (λ os. bind-numbers JobFault _ _ (line-numbers _ 1 16)
-    (λ m. bind-numbers JobFault _ _ (chain-numbers JobFault (part m n) following (part-numbers m n) m 1) (λ ps. return-numbers JobFault _)))
+    (λ m. bind-numbers JobFault _ _ (chain-numbers JobFault (part m n) following (part-numbers JobFault two three (low 5 (omega arith) (omega arith)) twelve m n) m 1) (λ ps. return-numbers JobFault _)))
 
 pub lines-numbers : Numbers JobFault jobLines
 unfolding jobLines rest

@@ -1,23 +1,14 @@
 -- X3. The job's lines: "`horizon` 2..365; `walk` 0..4000000000; `openings` 0..64; for each, `opening` 1..365 and `fee` 0..1000000;
--- `parts` 1..16; for each, `life` 1..1000, `left` 1..1000, then one `price` 1..1000000 per opening."
--- E7.2. "After each `left` a job may have `removal` 0..1000000, `inside` 0..15 and that many `holder` lines".
+-- `parts` 1..16; for each" the lines of a part (`part_lines`).
 -- E1.2. "After `horizon` a job may have `idles` 1..365 and that many `idle` lines, 1..365, rising and within the horizon; without the line no step is idle."
-use Prim.Native.Nat.{ℕ, suc}
+use Prim.Native.Nat.{ℕ}
 use mathlib.Core.List.{List, [], map}
 use Rattle.lines.specs.Text.{Optional, missing, present}
-use Rattle.lines.specs.Parser.{Outcome, accepted, refused, Parser, _>>=_, return, row, optional, ifPresent, checked, chain, times, rising, upTo, readText}
-use Rattle.model.specs.Model.{Opening, Part, Job}
-use Rattle.model.specs.Limits.{lastStep, longestLife, dearest, mostOpenings, mostParts, mostWalk}
+use Rattle.lines.specs.Parser.{Outcome, accepted, refused, Parser, _>>=_, return, row, optional, ifPresent, checked, chain, rising, readText}
+use Rattle.model.specs.Model.{Opening, Job}
+use Rattle.model.specs.Limits.{lastStep, dearest, mostOpenings, mostParts, mostWalk}
 pub use Rattle.model.specs.Limits.{maxBytes}
-use Rattle.covers.specs.Grammar.{Cover, cover}
-use Rattle.covers.specs.Views.{meantCover}
-
--- what a part's lines say; those of removal may be missing
-pub record PartText : Type 0 where
-  pub life : ℕ
-  pub left : ℕ
-  pub cover : Optional Cover
-  pub prices : List ℕ
+use Rattle.part_lines.specs.Grammar.{PartText, meantPart, part, following}
 
 -- what a job text says: its lines in their order, those that may be missing present or not
 pub record JobText : Type 0 where
@@ -36,10 +27,6 @@ pub record Given : Type 0 where
 abbrev pub idleIn : Optional (List ℕ) → List ℕ
 idleIn missing = []
 idleIn (present is) = is
-
--- E7.2. "a part without them has removal 0 and no holders"
-abbrev pub meantPart : PartText → Part
-meantPart p = record { life = p .life; left = p .left; removal = meantCover (p .cover) .removal; holders = meantCover (p .cover) .holders; prices = p .prices }
 
 -- the job and the walk number that the lines mean
 abbrev pub meant : JobText → Given
@@ -69,24 +56,6 @@ opening h before = do
 -- X5. n openings with their fees, each after the one before
 unfoldable pub openings : ℕ → ℕ → Parser (List Opening)
 openings h n = chain (opening h) (λ _ o. o .step) n 0
-
--- what follows the life l of part k of m, and what is left of it, r: the lines of removal, and a price for each of n openings
-unfoldable pub afterLeft : ℕ → ℕ → ℕ → ℕ → ℕ → Parser PartText
-afterLeft m n k l r = do
-  c ← cover m k
-  ps ← times n (row "price=" 1 dearest)
-  return (record { life = l; left = r; cover = c; prices = ps })
-
--- part k of m; R5: number 5 is "`left` greater than `life`, on the `left` line"
-unfoldable pub part : ℕ → ℕ → ℕ → Parser PartText
-part m n k = do
-  l ← row "life=" 1 longestLife
-  r ← checked 5 (upTo l) (row "left=" 1 longestLife)
-  afterLeft m n k l r
-
--- the number after
-abbrev pub following : {A : Type 0} → ℕ → A → ℕ
-following k _ = suc k
 
 -- all m parts, numbered from 1 on
 unfoldable pub parts : ℕ → ℕ → Parser (List PartText)

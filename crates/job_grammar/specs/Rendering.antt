@@ -4,8 +4,8 @@ use mathlib.Core.List.{List, _++_}
 use lib.ListN.{length}
 use Rattle.lines.specs.Text.{lineOf, texts, optionalText}
 use Rattle.model.specs.Model.{Opening}
-use Rattle.covers.specs.Rendering.{coverText}
-use Rattle.job_grammar.specs.Grammar.{PartText, JobText}
+use Rattle.part_lines.specs.Rendering.{partText}
+use Rattle.job_grammar.specs.Grammar.{JobText}
 
 -- the number of idle steps and the steps
 unfoldable pub idlesText : List ℕ → List ℕ
@@ -14,10 +14,6 @@ idlesText is = lineOf "idles=" (length is) ++ texts (lineOf "idle=") is
 -- X3. the pair of lines of an opening
 unfoldable pub openingText : Opening → List ℕ
 openingText o = lineOf "opening=" (o .step) ++ lineOf "fee=" (o .fee)
-
--- X3, E7.2. a part's lines; those of removal where they stand
-unfoldable pub partText : PartText → List ℕ
-partText p = lineOf "life=" (p .life) ++ lineOf "left=" (p .left) ++ optionalText coverText (p .cover) ++ texts (lineOf "price=") (p .prices)
 
 -- what follows the number of openings
 unfoldable pub bodyText : JobText → List ℕ

@@ -1,7 +1,6 @@
 -- The sections' answers in the grammar's terms: idle steps that are written or not (`idles-read`, `none-read`), and parts that are what their lines mean (`Meant`, `lines-mean`). By the steps' end and the parts.
 use Prim.Native.Nat.{ℕ, zero, suc, _≤_, _<_}
 use mathlib.Core.Path.{_≡_, refl, ap₂, subst}
-use mathlib.Core.Bool.{Bool, false}
 use mathlib.Core.List.{List, [], _∷_, map}
 use native.Mathlib.Omega.{arith}
 use native.Mathlib.Decide.{ℕ-discrete}
@@ -18,12 +17,14 @@ use Rattle.lines.specs.declared.rows.WholeText.the-variants.{Fault}
 use Rattle.lines.proofs.Parsing.{end-value, map-read}
 use Rattle.lines.proofs.Sound.{chain-gives}
 use Rattle.covers.specs.Views.{linesOf, meantCover}
-use Rattle.covers.proofs.Views.{blank}
-use Rattle.job_grammar.specs.Grammar.{meantPart, idle, idleSteps}
+use Rattle.job_grammar.specs.Grammar.{idle, idleSteps}
+use Rattle.part_lines.specs.Grammar.{meantPart}
+use Rattle.part_lines.specs.Views.{blankSaid, partLines, partsLines}
+use Rattle.part_lines.specs.declared.PartSaid.{PartSaid}
 use Rattle.jobs.specs.Views.{blankPart, partOf}
 use Rattle.jobs.specs.declared.Part.{Part}
 use Rattle.job_sections.specs.declared.idles.Idles.{Idles}
-use Rattle.job_grammar.specs.Optionals.{idleLines, partLines, partsLines}
+use Rattle.job_grammar.specs.Optionals.{idleLines}
 use Rattle.job_sections.specs.Views.{idlesOf}
 use Rattle.job_grammar.proofs.Optionals.{some-idles}
 
@@ -41,29 +42,31 @@ unfolding ifPresent return ended idleLines
 none-read h r e stands = rw (e .0, e .1) (record { is = refl; stands = stands })
 
 -- the part at each place is what its lines mean
-abbrev pub Meant : ℕ → List Bool → List Part → Type 0
-Meant n cs ps = (k : ℕ) → meantPart (partLines (getD cs k false) (partOf n (getD ps k blankPart))) ≡ partOf n (getD ps k blankPart)
+abbrev pub Meant : ℕ → List PartSaid → List Part → Type 0
+Meant n cs ps = (k : ℕ) → meantPart (partLines (getD cs k blankSaid) (partOf n (getD ps k blankPart))) ≡ partOf n (getD ps k blankPart)
 
 -- one record at all places, or what stands past them
-alike-at : (P : Part → Type 0) (b k : ℕ) (p : Part) → P p → P blankPart → P (getD (replicate b p) k blankPart)
-alike-at P zero k p h d = d
-alike-at P (suc b) zero p h d = h
-alike-at P (suc b) (suc k) p h d = alike-at P b k p h d
+alike-at : {A : Type 0} (P : A → Type 0) (b k : ℕ) (x y : A) → P x → P y → P (getD (replicate b x) k y)
+alike-at P zero k x y h d = d
+alike-at P (suc b) zero x y h d = h
+alike-at P (suc b) (suc k) x y h d = alike-at P b k x y h d
 
 -- no lines of removal, and no removal and no holders
-pub blanks-mean : (n : ℕ) (p : Part) → meantPart (partLines false (partOf n p)) ≡ partOf n p → Meant n (replicate 16 false) (replicate 16 p)
+pub blanks-mean : (n : ℕ) (s : PartSaid) (p : Part) → s ≡ blankSaid → meantPart (partLines blankSaid (partOf n p)) ≡ partOf n p → Meant n (replicate 16 s) (replicate 16 p)
 unfolding linesOf meantCover chosen joined
-blanks-mean n p e k = rw (blank k) (alike-at (λ (q : Part). meantPart (partLines false (partOf n q)) ≡ partOf n q) 16 k p e refl)
+blanks-mean n s p said e k =
+    rw (alike-at (λ (t : PartSaid). t ≡ blankSaid) 16 k s blankSaid said refl)
+    (alike-at (λ (q : Part). meantPart (partLines blankSaid (partOf n q)) ≡ partOf n q) 16 k p blankPart e refl)
 
-pub meant-set : (n i : ℕ) (cs : List Bool) (ps : List Part) (c : Bool) (p : Part) → i < length cs → i < length ps → Meant n cs ps → meantPart (partLines c (partOf n p)) ≡ partOf n p → Meant n (set cs i c) (set ps i p)
+pub meant-set : (n i : ℕ) (cs : List PartSaid) (ps : List Part) (c : PartSaid) (p : Part) → i < length cs → i < length ps → Meant n cs ps → meantPart (partLines c (partOf n p)) ≡ partOf n p → Meant n (set cs i c) (set ps i p)
 meant-set n i cs ps c p h m old new k = go (ℕ-discrete k i)
   where
-    go : Dec (k ≡ i) → meantPart (partLines (getD (set cs i c) k false) (partOf n (getD (set ps i p) k blankPart))) ≡ partOf n (getD (set ps i p) k blankPart)
-    go (yes e) = rw (e, getD-set-same cs i c false h, getD-set-same ps i p blankPart m) new
-    go (no e) = rw (getD-set-other cs i k c false e, getD-set-other ps i k p blankPart e) (old k)
+    go : Dec (k ≡ i) → meantPart (partLines (getD (set cs i c) k blankSaid) (partOf n (getD (set ps i p) k blankPart))) ≡ partOf n (getD (set ps i p) k blankPart)
+    go (yes e) = rw (e, getD-set-same cs i c blankSaid h, getD-set-same ps i p blankPart m) new
+    go (no e) = rw (getD-set-other cs i k c blankSaid e, getD-set-other ps i k p blankPart e) (old k)
 
 -- so the first of them are
-pub lines-mean : (n m : ℕ) (cs : List Bool) (ps : List Part) → m ≤ length cs → Meant n cs ps → map meantPart (partsLines (take m cs) (map (partOf n) (take m ps))) ≡ map (partOf n) (take m ps)
+pub lines-mean : (n m : ℕ) (cs : List PartSaid) (ps : List Part) → m ≤ length cs → Meant n cs ps → map meantPart (partsLines (take m cs) (map (partOf n) (take m ps))) ≡ map (partOf n) (take m ps)
 unfolding partsLines
 lines-mean n zero cs ps h v = refl
 lines-mean n (suc m) [] ps h v = absurd (omega arith)

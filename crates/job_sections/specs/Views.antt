@@ -6,15 +6,14 @@ use lib.ListN.{take}
 use Rattle.lines.specs.Parser.{Parsed}
 use Rattle.lines.specs.Cursor.{ReadAt, got, no-good, Reads, ended}
 use Rattle.model.specs.Model as model
-use Rattle.job_grammar.specs.Grammar.{PartText, meantPart}
+use Rattle.part_lines.specs.Grammar.{PartText, meantPart}
+use Rattle.part_lines.specs.Views.{partsLines}
 use Rattle.model.specs.Limits.{lastStep}
 use Rattle.jobs.specs.Views.{openingOf, partOf}
 use Rattle.job_sections.specs.declared.idles.Idles.{Idles}
 use Rattle.job_sections.specs.declared.openings.OpeningRow.{OpeningRow}
 use Rattle.job_sections.specs.declared.openings.OpeningRow.the-variants.{Value, Fault}
-use Rattle.job_sections.specs.declared.parts.PartRead.{PartRead}
 use Rattle.job_sections.specs.declared.parts.Parts.{Parts}
-use Rattle.job_grammar.specs.Optionals.{partLines, partsLines}
 
 -- the idle steps that were read
 abbrev pub idlesOf : Idles → List ℕ
@@ -30,12 +29,7 @@ abbrev pub openingAnswer : OpeningRow → ReadAt model.Opening
 openingAnswer (Value o p) = got (openingOf o) p
 openingAnswer (Fault n l) = no-good n l
 
--- the part r was read, with n prices: its lines are what the grammar gives, and mean the part that is there
-pub record PartSeen (n : ℕ) (s : List ℕ) (r : PartRead) (x : Parsed PartText) : Type 0 where
-  pub reads : Reads s (ended (r .end) (partLines (r .there) (partOf n (r .part)))) x
-  pub means : meantPart (partLines (r .there) (partOf n (r .part))) ≡ partOf n (r .part)
-
--- the parts r were read, m of them
+-- the parts r were read, m of them, with n prices each: their lines are what the grammar gives, and mean the parts that are there
 pub record PartsSeen (m n : ℕ) (s : List ℕ) (r : Parts) (x : Parsed (List PartText)) : Type 0 where
-  pub reads : Reads s (ended (r .end) (partsLines (take m (r .covered)) (map (partOf n) (take m (r .parts))))) x
-  pub means : map meantPart (partsLines (take m (r .covered)) (map (partOf n) (take m (r .parts)))) ≡ map (partOf n) (take m (r .parts))
+  pub reads : Reads s (ended (r .end) (partsLines (take m (r .said)) (map (partOf n) (take m (r .parts))))) x
+  pub means : map meantPart (partsLines (take m (r .said)) (map (partOf n) (take m (r .parts)))) ≡ map (partOf n) (take m (r .parts))

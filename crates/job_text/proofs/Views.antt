@@ -1,7 +1,6 @@
 -- The whole text's answers in the grammar's terms: lines with a fault (`refuse`), and what a text means (`text-means`, `means`). By the parts and the verdict.
 use Prim.Native.Nat.{ℕ}
 use mathlib.Core.Path.{_≡_, refl, sym, ap, _∙_}
-use mathlib.Core.Bool.{Bool}
 use mathlib.Core.List.{List, [], _∷_, map}
 use lib.ListN.{take}
 use Rattle.lines.specs.Parser.{Parsed, fault, Outcome}
@@ -11,12 +10,14 @@ use Rattle.lines.specs.declared.rows.WholeText.{WholeText}
 use Rattle.lines.specs.declared.rows.WholeText.the-variants.{Good, Fault}
 use Rattle.lines.proofs.Parsing.{fault-read}
 use Rattle.model.specs.Model as model
-use Rattle.job_grammar.specs.Grammar.{JobText, meantPart, meant, meaning}
+use Rattle.job_grammar.specs.Grammar.{JobText, meant, meaning}
+use Rattle.part_lines.specs.Grammar.{meantPart}
+use Rattle.part_lines.specs.Views.{partsLines}
+use Rattle.part_lines.specs.declared.PartSaid.{PartSaid}
 use Rattle.jobs.specs.Views.{jobOf, emptyJob, Sized}
 use Rattle.job_text.specs.declared.whole.JobText as code
 use Rattle.job_text.specs.declared.whole.JobLines.{JobLines}
 use Rattle.job_text.specs.declared.whole.JobRead.{JobRead}
-use Rattle.job_grammar.specs.Optionals.{partsLines}
 use Rattle.job_grammar.proofs.Optionals.{idle-steps}
 use Rattle.job_text.specs.Views.{textOf, givenOf, LinesRead, TextRead}
 
@@ -31,13 +32,13 @@ text-means t e =
 -- no parts, and no lines of them
 pub none-mean : (t : code.JobText) → jobOf (t .job) ≡ emptyJob → meant (textOf t) ≡ givenOf t
 unfolding partsLines
-none-mean t e = text-means t (go (take (t .job .«part_count») (t .covered)) (ap (λ (j : model.Job). j .parts) e))
+none-mean t e = text-means t (go (take (t .job .«part_count») (t .said)) (ap (λ (j : model.Job). j .parts) e))
   where
-    none : (cs : List Bool) → partsLines cs [] ≡ []
+    none : (cs : List PartSaid) → partsLines cs [] ≡ []
     none [] = refl
     none (c ∷ cs) = refl
 
-    go : (cs : List Bool) → jobOf (t .job) .parts ≡ [] → map meantPart (partsLines cs (jobOf (t .job) .parts)) ≡ jobOf (t .job) .parts
+    go : (cs : List PartSaid) → jobOf (t .job) .parts ≡ [] → map meantPart (partsLines cs (jobOf (t .job) .parts)) ≡ jobOf (t .job) .parts
     go cs f = rw f (ap (map meantPart) (none cs))
 
 -- what a struct means is what its text means

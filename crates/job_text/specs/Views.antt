@@ -11,7 +11,8 @@ use Rattle.jobs.specs.Views.{jobOf, Sized}
 use Rattle.job_text.specs.declared.whole.JobText.{JobText}
 use Rattle.job_text.specs.declared.whole.JobLines.{JobLines}
 use Rattle.job_text.specs.declared.whole.JobRead.{JobRead}
-use Rattle.job_grammar.specs.Optionals.{idleLines, partsLines}
+use Rattle.job_grammar.specs.Optionals.{idleLines}
+use Rattle.part_lines.specs.Views.{partsLines}
 
 -- what a text says that the struct holds
 abbrev pub textOf : JobText → grammar.JobText
@@ -20,7 +21,7 @@ textOf t = record {
   idles = idleLines (jobOf (t .job) .idles);
   walk = t .walk;
   openings = jobOf (t .job) .openings;
-  parts = partsLines (take (t .job .«part_count») (t .covered)) (jobOf (t .job) .parts);
+  parts = partsLines (take (t .job .«part_count») (t .said)) (jobOf (t .job) .parts);
 }
 
 -- and what it means

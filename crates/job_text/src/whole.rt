@@ -11,6 +11,7 @@ use lines::rows::Row;
 use lines::rows::WholeText;
 use lines::rows::advance;
 use lines::rows::close_text;
+use part_lines::PartSaid;
 ghost use mathlib.Core.Path.{_≡_};
 ghost use Prim.Native.Nat.{_≤_};
 ghost use lib.ListN.{drop};
@@ -22,10 +23,10 @@ ghost use Rattle.job_text.specs.Views.{textOf, givenOf, LinesRead, TextR
 ghost use Rattle.job_grammar.specs.Grammar.{meant, body, rest, jobLines, readJobText};
 ghost use Rattle.model.specs.Limits.{lastStep, mostOpenings};
 
-// What a job text says: the job, and beside it what its text has besides: the walk number, and of which parts the lines of removal stand.
+// What a job text says: the walk number, what its parts' lines say, and the job that it means.
 pub struct JobText {
     pub walk: u32,
-    pub covered: [bool; 16],
+    pub said: [PartSaid; 16],
     pub job: Job,
 }
 
@@ -45,9 +46,10 @@ pub struct JobRead {
 fn no_text() -> JobText
     ensures { λ r. ⌜ (meant (textOf r) ≡ givenOf r) × Sized (r .job) ⌝ }
 {
+    let nothing = PartSaid::nothing();
     JobText {
         walk: 0,
-        covered: [false; 16],
+        said: [nothing; 16],
         job: Job::empty(),
     }
 }
@@ -90,10 +92,10 @@ fn read_body(text: &[u8], p: Cursor, horizon: u32, steps: Idles, walk: u32, n: u
                         part_count,
                         parts,
                     };
-                    let covered = ps.covered;
+                    let said = ps.said;
                     JobLines {
                         end,
-                        text: JobText { walk, covered, job },
+                        text: JobText { walk, said, job },
                     }
                 }
                 Row::Fault { number: k, line: l } => no_job(k, l),

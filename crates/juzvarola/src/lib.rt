@@ -13,6 +13,22 @@ ghost use Rattle.judging.specs.Judge.{judgeSaid, judgeRoom};
 ghost use Rattle.judging.specs.Promise.{JudgePromise};
 ghost use Rattle.planning.specs.Plan.{planSaid, planRoom};
 ghost use Rattle.planning.specs.Promise.{PlanPromise};
+ghost use Rattle.juzvarola.specs.Version.{versionNumber};
+
+// The version's three numbers, as the header's macros have them.
+const MAJOR: u32 = 0;
+
+const MINOR: u32 = 8;
+
+const PATCH: u32 = 0;
+
+// The library's version as one number: the major a million fold, the minor a thousand fold, the patch.
+#[no_mangle]
+pub extern "C" fn juzvarola_version() -> u32
+    ensures { λ r. ⌜ r ≡ versionNumber ⌝ }
+{
+    MAJOR * 1000000 + MINOR * 1000 + PATCH
+}
 
 // Plans a job text.
 #[no_mangle]

@@ -1,4 +1,3 @@
 // Decimal numbers and key=value lines, written into a lent slice.
 pub mod digits;
-pub mod marks;
 pub mod write;

@@ -34,7 +34,7 @@ optional-present key lo hi few v h s l =
     let e : startsWith key (line key v ++ s) ≡ true = ap (startsWith key) (append-assoc key (decimal v ++ 10 ∷ []) s) ∙ starts-own key ((decimal v ++ 10 ∷ []) ++ s) in
     (r .0, optional-there key lo hi (line key v ++ s) l e ∙ bind-good (rowAt key lo hi) _ (r .1))
 
-pub checked-complete : (k : ℕ) (ok : ℕ → Bool) (p : Parser ℕ) (w : ℕ → List ℕ) (P : ℕ → Type 0) → Complete p w P → Complete (checked k ok p) w (λ v. P v × (ok v ≡ true))
+pub checked-complete : {A : Type 0} (k : ℕ) (ok : A → Bool) (p : Parser A) (w : A → List ℕ) (P : A → Type 0) → Complete p w P → Complete (checked k ok p) w (λ v. P v × (ok v ≡ true))
 checked-complete k ok p w P c v h s l = let r = c v (h .0) s l in (r .0, checked-good k ok p (w v ++ s) l (r .1) (h .1))
 
 -- a number that rises and stays within a bound
@@ -43,8 +43,8 @@ rising-complete n key hi most few before v k s l =
     checked-complete n (rising before most) (rowAt key 1 hi) (line key) _ (row-complete key 1 hi few) v ((k .low, k .high), rising-yes before most v (k .after) (k .within)) s l
 
 -- a chain: as many as there are
-pub chain-complete : {A : Type 0} (p : ℕ → Parser A) (next : ℕ → A → ℕ) (w : A → List ℕ) (P : ℕ → A → Type 0) → ((prev : ℕ) → Complete (p prev) w (P prev))
-    → (prev : ℕ) (xs : List A) → Chained P next prev xs → (s : List ℕ) (l : ℕ) → (l′ : ℕ) × (chain p next (length xs) prev (texts w xs ++ s) l ≡ good xs s l′)
+pub chain-complete : {A S : Type 0} (p : S → Parser A) (next : S → A → S) (w : A → List ℕ) (P : S → A → Type 0) → ((prev : S) → Complete (p prev) w (P prev))
+    → (prev : S) (xs : List A) → Chained P next prev xs → (s : List ℕ) (l : ℕ) → (l′ : ℕ) × (chain p next (length xs) prev (texts w xs ++ s) l ≡ good xs s l′)
 unfolding chain return
 chain-complete p next w P c prev [] h s l = (l, refl)
 chain-complete p next w P c prev (x ∷ xs) h s l =

@@ -6,7 +6,7 @@ pub mod Written
 pub mod Back
 pub mod Sound
 pub mod Complete
-pub mod Readback
+pub mod ValueLines
 pub mod Numbered
 pub mod Writing
 pub mod Texts

@@ -35,15 +35,15 @@ module _ (P : ℕ → Type 0) where
       go (Fault k) (inl e) = (subst P (sym e) two, omega arith)
       go (Fault k) (inr e) = (subst P (sym e) three, omega arith)
 
-  pub checked-numbers : (k : ℕ) → P k → (ok : ℕ → Bool) (p : Parser ℕ) → Numbers P p → Numbers P (checked k ok p)
+  pub checked-numbers : {A : Type 0} (k : ℕ) → P k → (ok : A → Bool) (p : Parser A) → Numbers P p → Numbers P (checked k ok p)
   unfolding checked
-  checked-numbers k is ok p h s l = go (p s l) (h s l)
+  checked-numbers {A} k is ok p h s l = go (p s l) (h s l)
     where
-      pick : (t : Bool) (v m : ℕ) (r : List ℕ) → NumberIn P (length s) l (good v r m) → NumberIn {A = ℕ} P (length s) l (elim t [ true ↦ good v r m | false ↦ fault k l ])
+      pick : (t : Bool) (v : A) (m : ℕ) (r : List ℕ) → NumberIn P (length s) l (good v r m) → NumberIn {A = A} P (length s) l (elim t [ true ↦ good v r m | false ↦ fault k l ])
       pick true v m r q = q
       pick false v m r q = (is, omega arith)
 
-      go : (x : Parsed ℕ) → NumberIn P (length s) l x → NumberIn {A = ℕ} P (length s) l (elim x [ good v r m ↦ elim (ok v) [ true ↦ good v r m | false ↦ fault k l ] | fault n m ↦ fault n m ])
+      go : (x : Parsed A) → NumberIn P (length s) l x → NumberIn {A = A} P (length s) l (elim x [ good v r m ↦ elim (ok v) [ true ↦ good v r m | false ↦ fault k l ] | fault n m ↦ fault n m ])
       go (good v r m) q = pick (ok v) v m r q
       go (fault n m) q = q
 
@@ -76,7 +76,7 @@ module _ (P : ℕ → Type 0) where
   present-numbers f h missing = return-numbers missing
   present-numbers f h (present a) = bind-numbers (f a) _ (h a) (λ b. return-numbers (present b))
 
-  pub chain-numbers : {A : Type 0} (p : ℕ → Parser A) (next : ℕ → A → ℕ) → ((k : ℕ) → Numbers P (p k)) → (n before : ℕ) → Numbers P (chain p next n before)
+  pub chain-numbers : {A S : Type 0} (p : S → Parser A) (next : S → A → S) → ((k : S) → Numbers P (p k)) → (n : ℕ) (before : S) → Numbers P (chain p next n before)
   unfolding chain
   chain-numbers p next h zero before = return-numbers []
   chain-numbers p next h (suc n) before =
@@ -84,7 +84,7 @@ module _ (P : ℕ → Type 0) where
 
   pub times-numbers : {A : Type 0} (n : ℕ) (p : Parser A) → Numbers P p → Numbers P (times n p)
   unfolding times
-  times-numbers n p h = chain-numbers (λ _. p) (λ _ _. 0) (λ _. h) n 0
+  times-numbers n p h = chain-numbers {S = ℕ} (λ _. p) (λ _ _. 0) (λ _. h) n 0
 
   end-numbers : P 2 → Numbers P ends
   unfolding ends

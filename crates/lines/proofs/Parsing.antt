@@ -116,12 +116,12 @@ pub stands-after : (s : List ℕ) (p : Cursor) (n : ℕ) → Stands s p → 1 �
 stands-after s p n h l m = record { inside = m; lines = omega (arith, h) }
 
 -- a further rule
-module _ (k : ℕ) (ok : ℕ → Bool) (p : Parser ℕ) (s : List ℕ) (l : ℕ) where
-  pub checked-good : {v l′ : ℕ} {s′ : List ℕ} → p s l ≡ good v s′ l′ → ok v ≡ true → checked k ok p s l ≡ good v s′ l′
+module _ {A : Type 0} (k : ℕ) (ok : A → Bool) (p : Parser A) (s : List ℕ) (l : ℕ) where
+  pub checked-good : {v : A} {l′ : ℕ} {s′ : List ℕ} → p s l ≡ good v s′ l′ → ok v ≡ true → checked k ok p s l ≡ good v s′ l′
   unfolding checked
   checked-good e t = rw (checked, e, t)
 
-  pub checked-not : {v l′ : ℕ} {s′ : List ℕ} → p s l ≡ good v s′ l′ → ok v ≡ false → checked k ok p s l ≡ fault k l
+  pub checked-not : {v : A} {l′ : ℕ} {s′ : List ℕ} → p s l ≡ good v s′ l′ → ok v ≡ false → checked k ok p s l ≡ fault k l
   unfolding checked
   checked-not e t = rw (checked, e, t)
 
@@ -183,7 +183,7 @@ behind xs (good ys s l) = good (xs ++ ys) s l
 behind xs (fault n l) = fault n l
 
 -- a loop over a chain: one more, a fault, and the end. i of n are read, in xs
-module _ {A : Type 0} (p : ℕ → Parser A) (next : ℕ → A → ℕ) (n i : ℕ) (xs : List A) (prev : ℕ) (s : List ℕ) (l : ℕ) where
+module _ {A S : Type 0} (p : S → Parser A) (next : S → A → S) (n i : ℕ) (xs : List A) (prev : S) (s : List ℕ) (l : ℕ) where
   later : i < n → n - i ≡ suc (n - (i + 1))
   later h = omega arith
 
@@ -212,7 +212,7 @@ module _ {A : Type 0} (p : ℕ → Parser A) (next : ℕ → A → ℕ) (n i : �
       ap (λ (k : ℕ). behind xs (chain p next k prev s l)) z
       ∙ ap (λ (zs : List A). good zs s l) (append-nil xs)
 
-pub chain-start : {A : Type 0} (p : ℕ → Parser A) (next : ℕ → A → ℕ) (n prev : ℕ) (s : List ℕ) (l : ℕ) → chain p next n prev s l ≡ behind [] (chain p next (n - 0) prev s l)
+pub chain-start : {A S : Type 0} (p : S → Parser A) (next : S → A → S) (n : ℕ) (prev : S) (s : List ℕ) (l : ℕ) → chain p next n prev s l ≡ behind [] (chain p next (n - 0) prev s l)
 chain-start {A} p next n prev s l = rw sub-zero (same (chain p next n prev s l))
   where
     same : (y : Parsed (List A)) → y ≡ behind [] y

@@ -74,11 +74,11 @@ optional-inv key lo hi s s′ l l′ o h = go (startsWith key s) refl
         let y : s ≡ s′ = cc in
         subst (Optionally key lo hi s s′ l l′) x y
 
-pub checked-sound : (k : ℕ) (ok : ℕ → Bool) (p : Parser ℕ) (w : ℕ → List ℕ) → Sound p w → Sound (checked k ok p) w
+pub checked-sound : {A : Type 0} (k : ℕ) (ok : A → Bool) (p : Parser A) (w : A → List ℕ) → Sound p w → Sound (checked k ok p) w
 unfolding checked
-checked-sound k ok p w so s s′ l l′ a h = go (p s l) refl
+checked-sound {A} k ok p w so s s′ l l′ a h = go (p s l) refl
   where
-    go : (x : Parsed ℕ) → p s l ≡ x → s ≡ w a ++ s′
+    go : (x : Parsed A) → p s l ≡ x → s ≡ w a ++ s′
     go (good v t m) e = pick (ok v) refl
       where
         pick : (b : Bool) → ok v ≡ b → s ≡ w a ++ s′
@@ -89,7 +89,7 @@ checked-sound k ok p w so s s′ l l′ a h = go (p s l) refl
     go (fault n m) e = never (rw (checked, e) at h)
 
 -- a chain: each of its values in turn, as many as it says
-pub chain-sound : {A : Type 0} (p : ℕ → Parser A) (next : ℕ → A → ℕ) (w : A → List ℕ) → ((prev : ℕ) → Sound (p prev) w) → (n prev : ℕ) → Sound (chain p next n prev) (texts w)
+pub chain-sound : {A S : Type 0} (p : S → Parser A) (next : S → A → S) (w : A → List ℕ) → ((prev : S) → Sound (p prev) w) → (n : ℕ) (prev : S) → Sound (chain p next n prev) (texts w)
 unfolding chain return
 chain-sound p next w so zero prev s s′ l l′ xs h =
     let x : [] ≡ xs = cc in
@@ -113,11 +113,11 @@ Gives {A} p P = (s s′ : List ℕ) (l l′ : ℕ) (a : A) → p s l ≡ good a 
 pub row-gives : (key : List ℕ) (lo hi : ℕ) → Gives (rowAt key lo hi) (λ v. (lo ≤ v) × (v ≤ hi))
 row-gives key lo hi s s′ l l′ a e = subst (InRow lo hi) e (row-in key lo hi s l)
 
-pub checked-gives : (k : ℕ) (ok : ℕ → Bool) (p : Parser ℕ) (P : ℕ → Type 0) → Gives p P → Gives (checked k ok p) (λ v. P v × (ok v ≡ true))
+pub checked-gives : {A : Type 0} (k : ℕ) (ok : A → Bool) (p : Parser A) (P : A → Type 0) → Gives p P → Gives (checked k ok p) (λ v. P v × (ok v ≡ true))
 unfolding checked
-checked-gives k ok p P gives s s′ l l′ a h = go (p s l) refl
+checked-gives {A} k ok p P gives s s′ l l′ a h = go (p s l) refl
   where
-    go : (x : Parsed ℕ) → p s l ≡ x → P a × (ok a ≡ true)
+    go : (x : Parsed A) → p s l ≡ x → P a × (ok a ≡ true)
     go (good v t m) e = pick (ok v) refl
       where
         pick : (b : Bool) → ok v ≡ b → P a × (ok a ≡ true)
@@ -128,12 +128,12 @@ checked-gives k ok p P gives s s′ l l′ a h = go (p s l) refl
         pick false y = never (rw (checked, e, y) at h)
     go (fault n m) e = never (rw (checked, e) at h)
 
--- each of a chain's values, with the number that the one before left
-abbrev pub Chained : {A : Type 0} → (ℕ → A → Type 0) → (ℕ → A → ℕ) → ℕ → List A → Type 0
+-- each of a chain's values, with the state that the one before left
+abbrev pub Chained : {A S : Type 0} → (S → A → Type 0) → (S → A → S) → S → List A → Type 0
 Chained P next prev [] = Unit {0}
 Chained P next prev (x ∷ xs) = P prev x × Chained P next (next prev x) xs
 
-pub chain-gives : {A : Type 0} (p : ℕ → Parser A) (next : ℕ → A → ℕ) (P : ℕ → A → Type 0) → ((prev : ℕ) → Gives (p prev) (P prev)) → (n prev : ℕ)
+pub chain-gives : {A S : Type 0} (p : S → Parser A) (next : S → A → S) (P : S → A → Type 0) → ((prev : S) → Gives (p prev) (P prev)) → (n : ℕ) (prev : S)
     → Gives (chain p next n prev) (λ xs. (length xs ≡ n) × Chained P next prev xs)
 unfolding chain return
 chain-gives {A} p next P gives zero prev s s′ l l′ xs h =

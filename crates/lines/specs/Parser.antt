@@ -74,12 +74,12 @@ ifPresent f (present a) = do
   b ← f a
   return (present b)
 
--- R20. p, and a further rule of its value whose fault k is on p's own line
-unfoldable pub checked : ℕ → (ℕ → Bool) → Parser ℕ → Parser ℕ
+-- R20. p, and a further rule of its value whose fault k is on the line where p began
+unfoldable pub checked : {A : Type 0} → ℕ → (A → Bool) → Parser A → Parser A
 checked k ok p s l = elim (p s l) [ good v s′ l′ ↦ elim (ok v) [ true ↦ good v s′ l′ | false ↦ fault k l ] | fault n m ↦ fault n m ]
 
--- n times p, each given a number: what the one before leaves of its own number and its value
-unfoldable pub chain : {A : Type 0} → (ℕ → Parser A) → (ℕ → A → ℕ) → ℕ → ℕ → Parser (List A)
+-- n times p, each given a state: what the one before leaves of its own state and its value
+unfoldable pub chain : {A S : Type 0} → (S → Parser A) → (S → A → S) → ℕ → S → Parser (List A)
 chain p next zero prev = return []
 chain p next (suc n) prev = do
   a ← p prev
@@ -88,7 +88,7 @@ chain p next (suc n) prev = do
 
 -- n times p, the same each time
 unfoldable pub times : {A : Type 0} → ℕ → Parser A → Parser (List A)
-times n p = chain (λ _. p) (λ _ _. 0) n 0
+times n p = chain {S = ℕ} (λ _. p) (λ _ _. 0) n 0
 
 -- nothing more
 unfoldable pub end : Parser (Unit {0})

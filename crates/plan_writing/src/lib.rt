@@ -1,7 +1,6 @@
 // The lines of a plan, written into a lent slice.
 use jobs::Job;
 use jobs::Plan;
-use line_writing::marks::counted;
 use line_writing::write::put_line;
 ghost use mathlib.Core.Path.{_≡_};
 ghost use mathlib.Core.Bool.{cond, false};
@@ -22,6 +21,17 @@ fn is_changed(plan: Plan, i: usize, k: usize) -> bool
 {
     let row = plan.changes[k];
     row.at[i]
+}
+
+// One more if so.
+fn counted(n: u64, more: bool) -> u64
+    requires { ⌜ n < mostOpenings ⌝ }
+    ensures { λ r. ⌜ r ≡ n + cond more 1 0 ⌝ }
+{
+    if more {
+        return n + 1;
+    }
+    n
 }
 
 // How many of the first m parts are changed at opening i.

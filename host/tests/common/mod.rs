@@ -7,6 +7,7 @@ pub mod holder_cases;
 pub mod idle_cases;
 pub mod inputs;
 pub mod jobs;
+pub mod json;
 #[cfg(feature = "library")]
 pub mod lent;
 pub mod paper;

@@ -13,9 +13,15 @@ pub fn foot(marks: &mut Marks, sheet: &Sheet, judged: &Judged) {
     words.extend((costs.other > 0).then(|| format!("Other {}", grouped(costs.other))));
     words.push(format!("Total {}", grouped(costs.total())));
     words.extend(Some(judged.plan.cost).filter(|stated| *stated != costs.total()).map(|stated| format!("Stated {}", grouped(stated))));
-    words.extend(judged.floor.map(|floor| format!("No plan costs less than {}", grouped(floor))));
-    marks.words("cost", (16.0, sheet.bottom + 62.0), &words.join("  \u{b7}  "));
-    legend(marks, sheet.bottom + 92.0, judged);
+    words.extend(judged.standing().map(|standing| capital(&standing)));
+    marks.words("cost", (16.0, sheet.foot + 62.0), &words.join("  \u{b7}  "));
+    legend(marks, sheet.foot + 92.0, judged);
+}
+
+/// Words that begin a sentence.
+fn capital(words: &str) -> String {
+    let mut letters = words.chars();
+    letters.next().map_or(String::new(), |first| first.to_uppercase().collect::<String>() + letters.as_str())
 }
 
 /// What the marks mean, those that occur.
@@ -36,6 +42,16 @@ fn legend(marks: &mut Marks, y: f64, judged: &Judged) {
         &|marks, x| marks.polygon("change-key", &[(x + 14.0, y - 10.0), (x + 20.0, y - 4.0), (x + 14.0, y + 2.0), (x + 8.0, y - 4.0)], &[]),
         "part changed",
     );
+    if judged.plan.stops.iter().any(|stop| !judged.job.put_back(stop).is_empty()) {
+        let hollow = |marks: &mut Marks, x: f64| {
+            marks.polygon(
+                "back-key",
+                &[(x + 14.0, y - 10.0), (x + 20.0, y - 4.0), (x + 14.0, y + 2.0), (x + 8.0, y - 4.0)],
+                &[("fill", "#fff".to_string()), ("stroke", "#000".to_string())],
+            )
+        };
+        entry(marks, &hollow, "part out and back in");
+    }
     entry(marks, &|marks, x| marks.line("lead", (x + 14.0, y - 12.0), (x + 14.0, y + 3.0), &[]), "stop");
     entry(
         marks,

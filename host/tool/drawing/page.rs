@@ -2,8 +2,8 @@
 
 use super::calendar::svg;
 use super::marks::escaped;
-use crate::costs::{prices, prices_of_part};
-use crate::numbers::{grouped, joined};
+use crate::costs::{prices, prices_of_part, removals, removals_of_part};
+use crate::numbers::grouped;
 use crate::verdicts::Judged;
 
 const STYLE: &str = "\
@@ -37,32 +37,59 @@ fn table(caption: &str, heads: &[&str], rows: &[Vec<String>]) -> String {
     )
 }
 
-/// The stops: how long the line runs before each, what it costs, which parts are changed.
+/// The stops: how long the line runs before each, what it costs, which parts are changed and which come out and stay in use. The sums stand beneath.
 fn stops(judged: &Judged) -> String {
-    let (job, plan) = (&judged.job, &judged.plan);
+    let Judged { job, plan, naming, costs, .. } = judged;
+    let held = job.has_removals();
     let mut before = 0;
     let mut rows = Vec::new();
     for stop in &plan.stops {
-        let runs = job.runs(before, stop.step).to_string();
-        rows.push(vec![
-            stop.step.to_string(),
-            runs,
-            grouped(job.fee(stop.step)),
-            grouped(prices(job, stop)),
-            joined(stop.parts.iter().copied()),
-        ]);
+        let mut row =
+            vec![naming.step(stop.step), job.runs(before, stop.step).to_string(), grouped(job.fee(stop.step)), grouped(prices(job, stop))];
+        if held {
+            row.extend([grouped(removals(job, stop)), naming.parts(job.put_back(stop))]);
+        }
+        row.push(naming.parts(stop.parts.iter().copied()));
+        rows.push(row);
         before = stop.step;
     }
-    table("Stops of the line", &["step", "running steps before", "fee", "prices", "parts changed"], &rows)
+    let mut sums = vec!["all".to_string(), job.runs(0, before).to_string(), grouped(costs.fees), grouped(costs.parts)];
+    if held {
+        sums.extend([grouped(costs.removals), String::new()]);
+    }
+    sums.push(format!("total {}", grouped(costs.total())));
+    rows.push(sums);
+    let heads: &[&str] = match held {
+        true => &["step", "running steps before", "fee", "prices", "removals", "out and back in", "parts changed"],
+        false => &["step", "running steps before", "fee", "prices", "parts changed"],
+    };
+    table("Stops of the line", heads, &rows)
 }
 
-/// The parts to buy.
+/// The parts to buy, and what taking them out costs.
 fn parts(judged: &Judged) -> String {
-    let (job, plan) = (&judged.job, &judged.plan);
+    let Judged { job, plan, naming, costs, .. } = judged;
+    let held = job.has_removals();
     let row = |part: u64| {
         let steps = plan.changes(part);
-        vec![part.to_string(), steps.len().to_string(), grouped(prices_of_part(job, plan, part)), joined(steps)]
+        let mut row = vec![naming.part(part)];
+        row.extend(naming.has_names().then(|| naming.order(part).unwrap_or_default()));
+        row.extend([steps.len().to_string(), grouped(prices_of_part(job, plan, part))]);
+        row.extend(held.then(|| grouped(removals_of_part(job, plan, part))));
+        row.push(naming.steps(steps));
+        row
     };
-    let rows: Vec<Vec<String>> = (1..=job.parts.len() as u64).map(row).collect();
-    table("Parts to buy", &["part", "count", "prices", "at steps"], &rows)
+    let mut rows: Vec<Vec<String>> = (1..=job.parts.len() as u64).map(row).collect();
+    let mut sums = vec!["all".to_string()];
+    sums.extend(naming.has_names().then(String::new));
+    sums.extend([plan.change_count().to_string(), grouped(costs.parts)]);
+    sums.extend(held.then(|| grouped(costs.removals)));
+    sums.push(String::new());
+    rows.push(sums);
+    let mut heads = vec!["part"];
+    heads.extend(naming.has_names().then_some("order"));
+    heads.extend(["count", "prices"]);
+    heads.extend(held.then_some("removals"));
+    heads.push("at steps");
+    table("Parts to buy", &heads, &rows)
 }

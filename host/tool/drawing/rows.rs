@@ -2,10 +2,14 @@
 
 use super::marks::Marks;
 use super::sheet::Sheet;
-use crate::costs::prices_of_part;
+use crate::costs::{prices_of_part, removals_of_part};
 use crate::lives::Life;
-use crate::numbers::{counted, grouped};
+use crate::numbers::{counted, grouped, runs};
 use crate::texts::{Job, Plan};
+use crate::verdicts::Judged;
+
+/// Rows lower than this have room for two lines of words only.
+const LOW: f64 = 46.0;
 
 /// A part's lives as bars, with a dotted line where a stop leaves it in.
 pub fn bars(marks: &mut Marks, sheet: &Sheet, job: &Job, plan: &Plan, part: u64) {
@@ -18,18 +22,48 @@ pub fn bars(marks: &mut Marks, sheet: &Sheet, job: &Job, plan: &Plan, part: u64)
     }
 }
 
-/// The words of a part's row: its name, what is used of each life, and what its changes cost.
-pub fn words(marks: &mut Marks, sheet: &Sheet, job: &Job, plan: &Plan, part: u64) {
+/// The most letters of a name that are shown.
+const NAME: usize = 17;
+
+/// The words of a part's row: its name, which parts hold it, what is used of each life, and what its changes cost.
+pub fn words(marks: &mut Marks, sheet: &Sheet, judged: &Judged, part: u64) {
+    let Judged { job, plan, naming, .. } = judged;
     let middle = sheet.y(part) + sheet.row / 2.0;
     let Some(own) = (part as usize).checked_sub(1).and_then(|at| job.parts.get(at)) else { return };
-    marks.words("part", (16.0, middle - 1.0), &format!("Part {part}"));
-    marks.words("small", (16.0, middle + 13.0), &format!("life {}, left {}", own.life, own.left));
+    marks.words("part", (16.0, middle - 1.0), &naming.name(part).map_or(format!("Part {part}"), |name| format!("{part} {}", cut(&name))));
+    let behind = if own.holders.is_empty() { String::new() } else { format!("behind {}", runs(&own.holders)) };
+    let life = format!("life {}, left {}", own.life, own.left);
+    // Where rows are low the two stand side by side, if they can.
+    let beside = sheet.row < LOW && !behind.is_empty() && behind.len() + life.len() <= 30;
+    let lines = if beside { [format!("{life}, {behind}"), String::new()] } else { [life, behind] };
+    two_lines(marks, (16.0, middle), &lines);
     for life in job.lives(plan, part) {
         used(marks, sheet, job, part, &life);
     }
     let count = plan.changes(part).len() as u64;
     marks.words("part", (sheet.right + 12.0, middle - 1.0), &counted(count, "change"));
-    marks.words("small", (sheet.right + 12.0, middle + 13.0), &format!("prices {}", grouped(prices_of_part(job, plan, part))));
+    let (prices, removals) = (grouped(prices_of_part(job, plan, part)), removals_of_part(job, plan, part));
+    let lines = match removals {
+        0 => [format!("prices {prices}"), String::new()],
+        out if sheet.row < LOW => [format!("{prices} + {} removals", grouped(out)), String::new()],
+        out => [format!("prices {prices}"), format!("removals {}", grouped(out))],
+    };
+    two_lines(marks, (sheet.right + 12.0, middle), &lines);
+}
+
+/// Small words beneath a part's or a sum's own; an empty line is left out.
+fn two_lines(marks: &mut Marks, (x, middle): (f64, f64), lines: &[String; 2]) {
+    for (words, below) in lines.iter().zip([12.0, 24.0]).filter(|(words, _)| !words.is_empty()) {
+        marks.words("small", (x, middle + below), words);
+    }
+}
+
+/// A name as long as there is room for.
+fn cut(name: &str) -> String {
+    match name.char_indices().nth(NAME) {
+        Some((at, _)) => format!("{}..", &name[..at]),
+        None => name.to_string(),
+    }
 }
 
 /// A life: a bar from change to change that fills as the part wears; what goes past the life is black.

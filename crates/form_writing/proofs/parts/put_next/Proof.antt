@@ -7,7 +7,7 @@ use borrow.Author.Tests.{eqb-true}
 use lib.ListN.{length, getD, take, drop}
 use Rattle.lines.proofs.Writing.{same}
 use Rattle.covers.specs.Views.{linesOf}
-use Rattle.job_grammar.specs.Grammar.{PartText}
+use Rattle.part_lines.specs.Grammar.{PartText}
 use Rattle.form_facts.specs.Facts.{PartLists, partLists}
 use Rattle.form_writing.specs.Cut.{partCut}
 use Rattle.form_writing.specs.Places.{after, firstPart}

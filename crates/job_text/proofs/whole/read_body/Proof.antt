@@ -6,7 +6,8 @@ use Rattle.lines.specs.Text.{bytes}
 use Rattle.lines.specs.Parser.{row}
 use Rattle.lines.specs.Cursor.{Stands, Reads, rowAnswer}
 use Rattle.lines.proofs.Parsing.{bind-good, bind-fault, row-line, line-inside, line-reads, got-value, got-fault, got-place, got-most, end-value, end-fault, end-place, map-read}
-use Rattle.job_grammar.specs.Grammar.{PartText, JobText, parts, body}
+use Rattle.job_grammar.specs.Grammar.{JobText, parts, body}
+use Rattle.part_lines.specs.Grammar.{PartText}
 use Rattle.job_text.specs.Views.{textOf}
 use Rattle.job_text.specs.declared.whole.JobText as code
 use Rattle.job_text.proofs.Views.{refuse, text-means}
@@ -57,7 +58,7 @@ returns c =
     let ps = c .before .before .before .before .read-parts in
     let t : code.JobText = record {
       walk = a .walk;
-      covered = ps .result .covered;
+      said = ps .result .said;
       job = record {
         horizon = a .horizon;
         «idle_count» = a .steps .count;

@@ -1,0 +1,7 @@
+-- The laws: what accepted lines are (Accepted), which faults there are (Numbered), how long lines are (Lengths), what stands behind them (Behind), that written lines are accepted (Complete), and the lines of one part more (Lines).
+pub mod Accepted
+pub mod Numbered
+pub mod Lengths
+pub mod Behind
+pub mod Complete
+pub mod Lines
