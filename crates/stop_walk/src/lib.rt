@@ -94,7 +94,7 @@ pub fn walk(
 }
 
 // The last mark of each class before the first opening.
-fn first_marks(u: &[u32], v: &mut [u32])
+pub fn first_marks(u: &[u32], v: &mut [u32])
     requires { ⌜ (length (now u) ≡ heldSize) × (length (now v) ≡ asideSize) × (getD (now u) classesPlace 0 ≤ laneCount) ⌝ }
     ensures { λ _. ⌜ FilledBy (lastPlace 0) (offset 0) (getD (now (u .entry)) classesPlace 0) (now (v .entry)) (now (v .exit)) ⌝ }
 {
