@@ -9,13 +9,13 @@ ghost use Rattle.held_places.specs.Arrays.{needSize};
 ghost use Rattle.held_lanes.specs.Places.{removalPlace, needLanesPlace, heldSize};
 ghost use Rattle.part_classes.specs.Grouped.{Led, needIn};
 ghost use Rattle.held_tables.specs.Fill.{LaneSet, Listed, Lists, Needed};
-use part_classes::Classes;
 use held_lanes::NEED_CLASSES;
 use held_lanes::NEED_COUNTS;
 use held_lanes::NEED_LANES;
 use held_lanes::REMOVALS;
 use held_places::PARTS;
 use lane_rows::LANES;
+use part_classes::Classes;
 
 // The removals.
 fn put_removals(removals: &[u32], u: &mut [u32])

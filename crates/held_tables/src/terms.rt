@@ -11,11 +11,11 @@ ghost use Rattle.held_lanes.specs.Places.{mostTo, classPlace, topPlace, heldSiz
 ghost use Rattle.part_classes.specs.Grouped.{Led};
 ghost use Rattle.held_tables.specs.Sheet.{lanesOf};
 ghost use Rattle.held_tables.specs.Fill.{Small, Raised, Terms};
-use part_classes::Classes;
 use held_lanes::TOPS;
 use lane_rows::LANES;
 use lane_rows::row_of;
 use least::MARKS;
+use part_classes::Classes;
 use search_tables::tables::capped;
 use search_tables::tables::lane_life;
 ghost use Rattle.model.specs.Limits.{mostOpenings};
