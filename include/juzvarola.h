@@ -1,4 +1,4 @@
-/* Juzvarola: plans the stops and part changes of a filling line, judges such plans, and writes job texts from order forms. */
+/* Juzvarola: plans the stops and part changes of a filling line, judges such plans, changes parts as late as given stops allow, and writes job texts from order forms. */
 #ifndef JUZVAROLA_H
 #define JUZVAROLA_H
 
@@ -94,6 +94,17 @@ juzvarola_answer juzvarola_plan(const uint8_t *job, size_t job_len, uint8_t *out
  * A host that hands over a file that it could not open as an empty text gets this answer and no fault: look at the file first.
  */
 juzvarola_answer juzvarola_judge(const uint8_t *job, size_t job_len, const uint8_t *plan, size_t plan_len, uint8_t *out, size_t out_len);
+
+/* Changes each part of a job at the last stop of a plan that still serves: results 0 to 6, 8, 9 and 12.
+ *
+ * Of the plan text only the stops count. It is checked whole, as juzvarola_judge checks it (a part line that does not fit the job is result 9), and its changes
+ * and its cost are set aside. A plan text of length 0 means no stops.
+ * Result 6: no changes at these stops keep every part.
+ * Result 0: `result`, then the plan lines with all those stops, the changes and the true cost. A stop at which nothing is changed has `count=0`. The plan
+ * keeps every life, so juzvarola_judge says 0 of it, and each change was forced: the next stop, or the step after the horizon, comes too late after the change before.
+ * Where no part's price rises from one of the stops to the next and the job has no holders, no changes at these stops cost less.
+ */
+juzvarola_answer juzvarola_latest(const uint8_t *job, size_t job_len, const uint8_t *plan, size_t plan_len, uint8_t *out, size_t out_len);
 
 /* Writes the text of a job from the lists of an order form: results 0, 3, 4, 5, 8 and 12.
  *

@@ -9,7 +9,7 @@ pub mod ranges;
 pub mod reference;
 
 #[cfg(feature = "library")]
-pub use library::{check_version, count, judge, plan, plan_parsed, version, write};
+pub use library::{check_version, count, judge, latest, plan, plan_parsed, version, write};
 pub use plans::{Plan, Planned, Stop};
 
 /// The version of the interface that this package is made for, which is its own: as one number, like JUZVAROLA_VERSION of the header.

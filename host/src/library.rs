@@ -37,6 +37,7 @@ const _: () = assert!(size_of::<Counted>() == 32 && offset_of!(Counted, fault_st
 extern "C" {
     fn juzvarola_plan(job: *const u8, job_len: usize, out: *mut u8, out_len: usize) -> Numbers;
     fn juzvarola_judge(job: *const u8, job_len: usize, plan: *const u8, plan_len: usize, out: *mut u8, out_len: usize) -> Numbers;
+    fn juzvarola_latest(job: *const u8, job_len: usize, plan: *const u8, plan_len: usize, out: *mut u8, out_len: usize) -> Numbers;
     fn juzvarola_write(
         horizon: u32,
         idles: *const u32,
@@ -111,6 +112,15 @@ pub fn judge<'t>(job: &'t [u8], plan: &'t [u8], out: &mut [u8]) -> Answer<'t> {
     start();
     // SAFETY: as for `plan`.
     let numbers = unsafe { juzvarola_judge(job.as_ptr(), job.len(), plan.as_ptr(), plan.len(), out.as_mut_ptr(), out.len()) };
+    answer(numbers, job, plan)
+}
+
+/// Changes each part of a job at the last stop of a plan that still serves; of the plan only the stops count. The answer's lines are the
+/// first `length` bytes of `out`.
+pub fn latest<'t>(job: &'t [u8], plan: &'t [u8], out: &mut [u8]) -> Answer<'t> {
+    start();
+    // SAFETY: as for `plan`.
+    let numbers = unsafe { juzvarola_latest(job.as_ptr(), job.len(), plan.as_ptr(), plan.len(), out.as_mut_ptr(), out.len()) };
     answer(numbers, job, plan)
 }
 

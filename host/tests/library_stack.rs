@@ -1,7 +1,7 @@
 //! The calls on a thread with the stack that the header promises to be enough, at the limits: an overflow ends the test with the process.
 #![cfg(feature = "library")]
 
-use juzvarola_host::{judge, plan, write, Form};
+use juzvarola_host::{judge, latest, plan, write, Form};
 use std::thread;
 
 /// "Less than 1.5 MB".
@@ -49,6 +49,8 @@ fn the_deepest_searches_fit() {
             let mut judged = vec![0; 16_384];
             let answer = judge(text.as_bytes(), plan.as_bytes(), &mut judged);
             assert_eq!((answer.result, &judged[..answer.length]), (0, &b"result=0\ncost=2112000000\n"[..]));
+            let answer = latest(text.as_bytes(), plan.as_bytes(), &mut judged);
+            assert_eq!((answer.result, &judged[..answer.length]), (0, [b"result=0\n", plan.as_bytes()].concat().as_slice()));
         });
     }
 }

@@ -3,32 +3,7 @@
 
 mod common;
 use common::paper::{self, Case};
-use common::vectors::{self, Vector};
-use common::{idle_cases, lent, rng::Rng};
-use juzvarola_host::reference::Reply;
-
-/// Where the line with this number starts; 0 if it is missing.
-fn start_of(text: &[u8], line: u32) -> usize {
-    let before = text.split_inclusive(|byte| *byte == 10).take(line as usize - 1).map(<[u8]>::len).sum();
-    if before < text.len() {
-        before
-    } else {
-        0
-    }
-}
-
-/// What the vector expects, as a reply.
-fn reply(vector: &Vector) -> Reply {
-    let text: &[u8] = if vector.text() == 2 { vector.call.plan.as_deref().unwrap_or_default() } else { &vector.call.job };
-    Reply {
-        result: vector.result,
-        text: vector.text(),
-        line: vector.line,
-        bytes: vector.bytes.clone(),
-        fault_start: if vector.line == 0 { 0 } else { start_of(text, vector.line) },
-        fault_length: vector.fault.len(),
-    }
-}
+use common::{idle_cases, lent, rng::Rng, vectors};
 
 #[test]
 fn library_gives_every_vector() {
@@ -38,7 +13,7 @@ fn library_gives_every_vector() {
         vectors::enough(vectors.len(), "JUZVAROLA_VECTORS", 1570);
         let mut differ = 0;
         for (number, vector) in vectors.iter().enumerate() {
-            if let Err(difference) = lent::compare(&mut rng, &vector.call, &reply(vector)) {
+            if let Err(difference) = lent::compare(&mut rng, &vector.call, &vector.reply()) {
                 println!("vector {}: {difference}", number + 1);
                 differ += 1;
             }

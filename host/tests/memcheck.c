@@ -116,9 +116,10 @@ static int as_expected(void) {
         answer.result = counted.result;
         answer.line = counted.line;
     } else {
-        answer = strcmp(call, "plan") == 0    ? juzvarola_plan(job.at, job.length, out.at, out.length)
-                 : strcmp(call, "judge") == 0 ? juzvarola_judge(job.at, job.length, plan.at, plan.length, out.at, out.length)
-                                              : write_form(&out);
+        answer = strcmp(call, "plan") == 0     ? juzvarola_plan(job.at, job.length, out.at, out.length)
+                 : strcmp(call, "judge") == 0  ? juzvarola_judge(job.at, job.length, plan.at, plan.length, out.at, out.length)
+                 : strcmp(call, "latest") == 0 ? juzvarola_latest(job.at, job.length, plan.at, plan.length, out.at, out.length)
+                                               : write_form(&out);
         VALGRIND_CHECK_MEM_IS_DEFINED(&answer.result, 3 * sizeof answer.result);
         VALGRIND_CHECK_MEM_IS_DEFINED(&answer.length, 3 * sizeof answer.length);
         VALGRIND_CHECK_MEM_IS_DEFINED(out.at, answer.length);

@@ -9,6 +9,8 @@ use Rattle.planning.specs.Plan.{planSaid}
 use Rattle.planning.specs.Plan as planning
 use Rattle.judging.specs.Judge.{judgeSaid}
 use Rattle.judging.specs.Judge as judging
+use Rattle.serving.specs.Serve.{latestSaid}
+use Rattle.serving.specs.Serve as serving
 use Rattle.counting.specs.Count.{countSaid}
 use Rattle.counting.specs.Count as counting
 use Rattle.alike.specs.Alike.{AnsweredAlike}
@@ -23,6 +25,10 @@ module _ (s s′ : List ℕ) (g : Given) (e : readJob s ≡ accepted g) (e′ : 
   unfolding judgeSaid
   judge-alike plan = ap (judging.onJob s plan) e ∙ sym (ap (judging.onJob s′ plan) e′)
 
+  latest-alike : (plan : List ℕ) → latestSaid s plan ≡ latestSaid s′ plan
+  unfolding latestSaid
+  latest-alike plan = ap (serving.onJob s plan) e ∙ sym (ap (serving.onJob s′ plan) e′)
+
   count-alike : countSaid s ≡ countSaid s′
   unfolding countSaid
   count-alike = ap (counting.onJob s) e ∙ sym (ap (counting.onJob s′) e′)
@@ -31,6 +37,7 @@ module _ (s s′ : List ℕ) (g : Given) (e : readJob s ≡ accepted g) (e′ : 
   all-alike = record {
     planner = λ room. ap (lent 16384 room) planner-alike;
     judge = λ plan room. ap (lent 16384 room) (judge-alike plan);
+    latest = λ plan room. ap (lent 16384 room) (latest-alike plan);
     count = count-alike;
   }
 

@@ -27,12 +27,12 @@ use Rattle.counting.specs.Count.{countGiven, refusalOf, holderRefusal, c
 use Rattle.job_grammar.specs.Reading.{Reading, jobIn}
 use Rattle.counting.specs.Promise.{CountPromise}
 
--- a valid job's numbers are in order
 lefts : (n : ℕ) (parts : List Part) → All (ValidPart n) parts → Lefts parts
 lefts n [] h = tt
 lefts n (part ∷ parts) h = (h .0 .left-high, lefts n parts (h .1))
 
-ordered : (job : Job) → ValidJob job → Ordered job
+-- a valid job's numbers are in order
+pub ordered : (job : Job) → ValidJob job → Ordered job
 ordered job v = record { rising = v .rising; lefts = lefts _ (job .parts) (v .parts) }
 
 module _ (text : List ℕ) where

@@ -1,13 +1,12 @@
 -- The judge's answer keeps its promise on every pair of texts and every room (`promised`). By what each text reads as, and then by the judgement.
 use Prim.Native.Nat.{ℕ, _≤_, _<_}
-use mathlib.Core.Path.{_≡_, refl, sym, ap, _∙_, subst}
+use mathlib.Core.Path.{_≡_, refl, sym, ap, _∙_}
 use mathlib.Core.List.{List, []}
-use mathlib.Core.Logic.{inl, inr}
 use native.Mathlib.Omega.{arith}
 use native.Mathlib.Decide.{decLt}
 use borrow.Author.Tests.{lt-ltb, le-ltb}
 use Rattle.lines.specs.Parser.{Outcome, accepted, refused}
-use Rattle.lines.proofs.Outcomes.{one-value, not-both}
+use Rattle.lines.proofs.Outcomes.{not-both}
 use Rattle.model.specs.Model.{KeepsLives, costOf}
 use Rattle.model.specs.Verdict as verdict
 use Rattle.model.specs.Verdict.{Judgement, accepts, unkept, wrongCost, numberOf, judgedOf, AllKept}
@@ -22,6 +21,7 @@ use Rattle.answers.specs.Said.{plainly, lent}
 use Rattle.answers.proofs.Replies.{refuses}
 use Rattle.judging.specs.Judge.{costLines, unkeptLines, saidOf, onPlan, onJob, judgeSaid, judgeRoom}
 use Rattle.judging.specs.Promise.{Reading, Overdue, JudgePromise}
+use Rattle.judging.proofs.Readings.{other-plan, moved}
 
 module _ (jobText planText : List ℕ) (room : ℕ) where
   -- ---- no room
@@ -40,10 +40,6 @@ module _ (jobText planText : List ℕ) (room : ℕ) where
   }
 
   -- ---- a text's fault
-
-  -- the plan text reads the same against any job that the job text reads as
-  other-plan : {g h : Given} → readJob jobText ≡ accepted g → readJob jobText ≡ accepted h → readPlan (g .job) planText ≡ readPlan (h .job) planText
-  other-plan e f = ap (λ (x : Given). readPlan (x .job) planText) (one-value f e)
 
   refused-job : judgeRoom ≤ room → (n l : ℕ) → readJob jobText ≡ refused n l → JudgePromise jobText planText room (onJob jobText planText (refused n l))
   refused-job h n l e = record {
@@ -67,52 +63,28 @@ module _ (jobText planText : List ℕ) (room : ℕ) where
   refused-plan : judgeRoom ≤ room → (g : Given) → readJob jobText ≡ accepted g → (n l : ℕ) → readPlan (g .job) planText ≡ refused n l
       → JudgePromise jobText planText room (onPlan planText (g .job) (refused n l))
   refused-plan h g eg n l e = record {
-    says-8 = (λ f. absurd (other 8 (omega arith) (omega arith) f), λ f. absurd (omega arith));
-    says-0 = (λ f. absurd (low f), λ r. no (r .1 .0));
-    says-10 = (λ f. absurd (other 10 (omega arith) (omega arith) f), λ r. no (r .1 .0));
-    says-11 = (λ f. absurd (other 11 (omega arith) (omega arith) f), λ r. no (r .1 .0));
+    says-8 = (λ f. absurd (plan.fault-else n 8 k (omega arith) (omega arith) f), λ f. absurd (omega arith));
+    says-0 = (λ f. absurd (omega (arith, plan.fault-some n k)), λ r. no (r .1 .0));
+    says-10 = (λ f. absurd (plan.fault-else n 10 k (omega arith) (omega arith) f), λ r. no (r .1 .0));
+    says-11 = (λ f. absurd (plan.fault-else n 11 k (omega arith) (omega arith) f), λ r. no (r .1 .0));
     writes-0 = λ r f. no r;
     writes-10 = λ r f. no r;
     writes-11 = λ r f. no r;
     job-fault = λ m i j f. not-both eg f;
-    plan-fault = λ m g′ f i j q. refuses 2 planText e (other-plan eg f ∙ q);
+    plan-fault = λ m g′ f i j q. refuses 2 planText e (other-plan jobText planText eg f ∙ q);
   }
     where
       k : plan.PlanFault n
       k = plan.fault (g .job) planText n l e .0
 
-      cases : {X : Type 0} → ((1 ≤ n) × (n ≤ 3) → X) → (n ≡ 9 → X) → plan.PlanFault n → X
-      cases a b (inl x) = a x
-      cases a b (inr x) = b x
-
-      other : (i : ℕ) → 3 < i → (i ≡ 9 → ⊥) → n ≡ i → ⊥
-      other i a b f = cases (λ x. omega (arith, x)) (λ x. b (sym f ∙ x)) k
-
-      low : n ≡ 0 → ⊥
-      low f = cases (λ x. omega (arith, x)) (λ x. omega arith) k
-
       no : {X : Type 0} → Reading jobText planText → X
-      no r = not-both (r .plan-read) (sym (other-plan eg (r .job-read)) ∙ e)
+      no r = not-both (r .plan-read) (sym (other-plan jobText planText eg (r .job-read)) ∙ e)
 
   -- ---- two texts that read
 
   module _ (h : judgeRoom ≤ room) (g : Given) (eg : readJob jobText ≡ accepted g) (st : Stated) (es : readPlan (g .job) planText ≡ accepted st) where
     abbrev here : Reading jobText planText
     here = record { given = g; stated = st; job-read = eg; plan-read = es }
-
-    -- any reading is this one
-    given-is : (r : Reading jobText planText) → r .given ≡ g
-    given-is r = one-value eg (r .job-read)
-
-    stated-is : (r : Reading jobText planText) → r .stated ≡ st
-    stated-is r = one-value es (other-plan eg (r .job-read) ∙ r .plan-read)
-
-    -- what holds of a reading holds of this one, and back
-    moved : (P : Given → Stated → Type 0) (r : Reading jobText planText) → P (r .given) (r .stated) → P g st
-    moved P r p = subst (λ (x : Given). P x st) (given-is r) (subst (P (r .given)) (stated-is r) p)
-
-    moved-back : (P : Given → Stated → Type 0) (r : Reading jobText planText) → P g st → P (r .given) (r .stated)
-    moved-back P r p = subst (P (r .given)) (sym (stated-is r)) (subst (λ (x : Given). P x st) (sym (given-is r)) p)
 
     abbrev kept : Given → Stated → Type 0
     kept x y = KeepsLives (x .job) (y .plan)
@@ -158,22 +130,22 @@ module _ (jobText planText : List ℕ) (room : ℕ) where
       says-8 = (λ e. absurd (not-8 j e), λ e. absurd (omega arith));
       says-0 = (
         λ e. let x = p .says-0 .0 e in (h, (here, (keeps (x .0), x .1))),
-        λ r. p .says-0 .1 (all-kept (moved kept (r .1 .0) (r .1 .1 .0)), moved stating (r .1 .0) (r .1 .1 .1)),
+        λ r. p .says-0 .1 (all-kept (moved kept (r .1 .0) here (r .1 .1 .0)), moved stating (r .1 .0) here (r .1 .1 .1)),
       );
       says-10 = (
         λ e. (h, (here, λ k. p .says-10 .0 e (all-kept k))),
-        λ r. p .says-10 .1 (λ k. r .1 .1 (moved-back kept (r .1 .0) (keeps k))),
+        λ r. p .says-10 .1 (λ k. r .1 .1 (moved kept here (r .1 .0) (keeps k))),
       );
       says-11 = (
         λ e. let x = p .says-11 .0 e in (h, (here, (keeps (x .0), x .1))),
-        λ r. p .says-11 .1 (all-kept (moved kept (r .1 .0) (r .1 .1 .0)), λ c. r .1 .1 .1 (moved-back stating (r .1 .0) c)),
+        λ r. p .says-11 .1 (all-kept (moved kept (r .1 .0) here (r .1 .1 .0)), λ c. r .1 .1 .1 (moved stating here (r .1 .0) c)),
       );
-      writes-0 = λ r e. moved-back (λ x y. saidOf j .bytes ≡ costLines 0 (costOf (x .job) (y .plan))) r (writes-0 j (p .values) e);
-      writes-10 = λ r e. moved-back
-          (λ x y. (part : ℕ) × ((due : ℕ) × (Overdue (x .job) (y .plan) part due × (saidOf j .bytes ≡ unkeptLines part due)))) r (writes-10 j is e);
-      writes-11 = λ r e. moved-back (λ x y. saidOf j .bytes ≡ costLines 11 (costOf (x .job) (y .plan))) r (writes-11 j (p .values) e);
+      writes-0 = λ r e. moved (λ x y. saidOf j .bytes ≡ costLines 0 (costOf (x .job) (y .plan))) here r (writes-0 j (p .values) e);
+      writes-10 = λ r e. moved
+          (λ x y. (part : ℕ) × ((due : ℕ) × (Overdue (x .job) (y .plan) part due × (saidOf j .bytes ≡ unkeptLines part due)))) here r (writes-10 j is e);
+      writes-11 = λ r e. moved (λ x y. saidOf j .bytes ≡ costLines 11 (costOf (x .job) (y .plan))) here r (writes-11 j (p .values) e);
       job-fault = λ m n l e. not-both eg e;
-      plan-fault = λ m g′ f n l e. not-both es (other-plan eg f ∙ e);
+      plan-fault = λ m g′ f n l e. not-both es (other-plan jobText planText eg f ∙ e);
     }
 
   -- ---- all together

@@ -2,13 +2,14 @@
 use Prim.Native.Nat.{ℕ}
 use mathlib.Core.List.{List, _++_}
 use Rattle.lines.specs.Text.{lineOf}
-use Rattle.lines.specs.Parser.{Outcome, accepted, refused}
+use Rattle.lines.specs.Parser.{Outcome}
 use Rattle.model.specs.Model.{Job}
 use Rattle.model.specs.Limits.{answerRoom}
 use Rattle.model.specs.Verdict.{Judgement, accepts, unkept, wrongCost, numberOf, judgedOf}
 use Rattle.job_grammar.specs.Grammar.{Given, readJob}
 use Rattle.plan_grammar.specs.Grammar.{Stated, readPlan}
-use Rattle.answers.specs.Said.{Said, plainly, refusal}
+use Rattle.answers.specs.Said.{Said, plainly}
+use Rattle.answers.specs.Texts.{onText, onTexts}
 
 -- O4. "Judge 0: `result`, `cost`." O6. "Number 11: `result`, `cost` (the true one)."
 unfoldable pub costLines : ℕ → ℕ → List ℕ
@@ -28,15 +29,17 @@ linesOf (wrongCost cost) = costLines 11 cost
 abbrev pub saidOf : Judgement → Said
 saidOf j = plainly (numberOf j) (linesOf j)
 
+-- what is said of an accepted job and of a plan stated with its cost
+abbrev pub weighed : Job → Stated → Said
+weighed job stated = saidOf (judgedOf job (stated .cost) (stated .plan))
+
 -- once the job is read: the plan text against it
 abbrev pub onPlan : List ℕ → Job → Outcome Stated → Said
-onPlan plan job (accepted stated) = saidOf (judgedOf job (stated .cost) (stated .plan))
-onPlan plan job (refused number line) = refusal 2 plan number line
+onPlan plan job = onText 2 plan (weighed job)
 
--- by what the job text reads as: R20. "then the job text [..]; then the plan text"
+-- by what the job text reads as
 abbrev pub onJob : List ℕ → List ℕ → Outcome Given → Said
-onJob job plan (accepted given) = onPlan plan (given .job) (readPlan (given .job) plan)
-onJob job plan (refused number line) = refusal 1 job number line
+onJob job plan = onTexts job plan (λ given. readPlan (given .job) plan) (λ given. weighed (given .job))
 
 -- the judge's answer where there is room for it
 unfoldable pub judgeSaid : List ℕ → List ℕ → Said

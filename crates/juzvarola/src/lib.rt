@@ -11,6 +11,8 @@ ghost use Rattle.counting.specs.Count.{countSaid};
 ghost use Rattle.counting.specs.Promise.{CountPromise};
 ghost use Rattle.judging.specs.Judge.{judgeSaid, judgeRoom};
 ghost use Rattle.judging.specs.Promise.{JudgePromise};
+ghost use Rattle.serving.specs.Serve.{latestSaid, latestRoom};
+ghost use Rattle.serving.specs.Promise.{ServePromise};
 ghost use Rattle.planning.specs.Plan.{planSaid, planRoom};
 ghost use Rattle.planning.specs.Promise.{PlanPromise};
 ghost use Rattle.juzvarola.specs.Version.{versionNumber};
@@ -47,6 +49,16 @@ pub extern "C" fn juzvarola_judge(job: &[u8], plan: &[u8], out: &mut [u8]) -> An
         (lent judgeRoom (length (now (out .entry))) (judgeSaid (now (job .entry)) (now (plan .entry)))) ⌝ }
 {
     judging::judge(job, plan, out)
+}
+
+// Changes each part of a job text at the last stop of a plan text that still serves.
+#[no_mangle]
+pub extern "C" fn juzvarola_latest(job: &[u8], plan: &[u8], out: &mut [u8]) -> Answer
+    ensures { λ r. ⌜ Replied latestRoom (latestSaid (now (job .entry)) (now (plan .entry))) (now (out .entry)) (now (out .exit)) r ⌝ }
+    ensures { λ _. ⌜ ServePromise (now (job .entry)) (now (plan .entry)) (length (now (out .entry)))
+        (lent latestRoom (length (now (out .entry))) (latestSaid (now (job .entry)) (now (plan .entry)))) ⌝ }
+{
+    serving::latest(job, plan, out)
 }
 
 // Writes the job text of a form.

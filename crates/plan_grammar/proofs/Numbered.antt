@@ -1,6 +1,6 @@
 -- A plan text's fault is number 1, 2, 3 or 9, and its line is one of the text's lines or the next (so it fits any counter). By the grammar's forms; the empty text has none.
-use Prim.Native.Nat.{ℕ, _≤_}
-use mathlib.Core.Path.{_≡_, refl}
+use Prim.Native.Nat.{ℕ, _≤_, _<_}
+use mathlib.Core.Path.{_≡_, refl, sym, _∙_}
 use mathlib.Core.List.{List, [], _∷_}
 use lib.ListN.{length}
 use mathlib.Core.Logic.{_⊎_, inl, inr}
@@ -11,6 +11,15 @@ use Rattle.lines.proofs.Numbered.{Numbers, row-numbers, checked-numbers, bind-n
 use Rattle.model.specs.Model.{Job}
 pub use Rattle.plan_grammar.specs.Faults.{PlanFault}
 use Rattle.plan_grammar.specs.Grammar.{part, parts, visit, visits, planLines, maxBytes, readPlan}
+
+-- it is at least 1, and of those above 3 only 9
+pub fault-some : (n : ℕ) → PlanFault n → 1 ≤ n
+fault-some n (inl k) = k .0
+fault-some n (inr k) = omega (arith, k)
+
+pub fault-else : (n i : ℕ) → PlanFault n → 3 < i → (i ≡ 9 → ⊥) → n ≡ i → ⊥
+fault-else n i (inl k) l m e = omega (arith, k)
+fault-else n i (inr k) l m e = m (sym e ∙ k)
 
 line-numbers : (key : List ℕ) (lo hi : ℕ) → Numbers PlanFault (rowAt key lo hi)
 line-numbers = row-numbers PlanFault (inl (omega arith, omega arith)) (inl (omega arith, omega arith))

@@ -1,17 +1,14 @@
 -- The lines of an answer fit the room, 16,384 bytes: the longest has 8,836, 43 before the plan's 8,793. By the keys, and the digits that a number can have.
 use Prim.Native.Nat.{ℕ, _≤_}
 use native.Mathlib.Omega.{arith}
-use lib.ListN.{length, take, length-append, length-map, length-take}
+use lib.ListN.{length, length-append}
 use Rattle.lines.specs.Text.{bytes}
 use Rattle.lines.proofs.Writing.{line-most}
 use Rattle.jobs.specs.declared.Job.{Job}
 use Rattle.jobs.specs.declared.Plan.{Plan}
-use Rattle.jobs.specs.declared.Changes.{Changes}
 use Rattle.jobs.specs.Views.{jobOf, planFor}
 use Rattle.jobs.specs.Valid.{Sound}
-use Rattle.plan_grammar.specs.Rendering.{planLinesOf}
-use Rattle.plan_grammar.proofs.Lengths.{longest, valid-short}
-use Rattle.answers.specs.Said.{Printable}
+use Rattle.plan_writing.proofs.Lengths.{plan-short}
 use Rattle.planning.specs.Plan.{searchLines, plannedLines, linesOf, planRoom}
 use Rattle.planning.specs.Finding.{answerIn, Fits}
 use Rattle.planning.specs.declared.Finding.{Finding}
@@ -20,12 +17,6 @@ use Rattle.planning.specs.declared.Finding.the-variants.{NoPlan, Optimum
 pub search-short : (n m f : ℕ) → length (searchLines n m f) ≤ 52
 unfolding searchLines bytes
 search-short n m f = simp length-append (omega (arith, line-most (bytes "result=") n, line-most (bytes "nodes=") m, line-most (bytes "floor=") f))
-
--- the lines of the code's plan for an accepted job
-pub plan-short : (j : Job) (cost : ℕ) (p : Plan) → Sound j → Printable cost → length (planLinesOf (jobOf j) cost (planFor j p)) ≤ longest
-plan-short j cost p w small =
-    valid-short (jobOf j) (w .valid) cost (planFor j p) small
-    (omega (arith, w .sized .parts, length-map (take (j .«part_count») (p .changes)) (λ (c : Changes). take (j .«opening_count») (c .at)), length-take (j .«part_count») (p .changes)))
 
 pub lines-short : (f : Finding) (j : Job) (p : Plan) → Fits f → Sound j → length (linesOf (jobOf j) (answerIn (planFor j p) f)) ≤ planRoom
 unfolding plannedLines bytes

@@ -9,12 +9,14 @@ use Rattle.lines.specs.Text.{bytes}
 use Rattle.answers.specs.Said.{Said, lent, numbers}
 use Rattle.planning.specs.Plan.{planSaid, planRoom}
 use Rattle.judging.specs.Judge.{judgeSaid, judgeRoom}
+use Rattle.serving.specs.Serve.{latestSaid, latestRoom}
 use Rattle.counting.specs.Count.{countSaid}
 
--- the planner's call and the judge's; the cases of the count are a table of their own
+-- the planner's call, the judge's and the latest-time habit's; the cases of the count are a table of their own
 pub data Call : Type 0 where
   planner : Call
   judge : Call
+  latest : Call
 
 -- a case: the call and its texts; the bytes written, the numbers handed over, and the line at fault
 pub record Case : Type 0 where
@@ -32,6 +34,7 @@ pub record Case : Type 0 where
 abbrev pub saidBy : Call → List ℕ → List ℕ → Said
 saidBy planner job plan = lent planRoom planRoom (planSaid job)
 saidBy judge job plan = lent judgeRoom judgeRoom (judgeSaid job plan)
+saidBy latest job plan = lent latestRoom latestRoom (latestSaid job plan)
 
 -- the text at fault: 1 the job, 2 the plan
 abbrev pub textAt : ℕ → List ℕ → List ℕ → List ℕ
@@ -67,7 +70,7 @@ Counts c =
     × (said .count ≡ c .count)
     × (take (said .«fault_length») (drop (said .«fault_start») (c .job)) ≡ c .fault)
 
--- C1 to C12, and cases of ours of E1, E5 and E7
+-- C1 to C12, and cases of ours of E1, E5, E7 and E9
 unfoldable pub cases : List Case
 cases =
     -- 01's job
@@ -341,6 +344,32 @@ cases =
       line = 11;
       length = 25;
       fault = bytes "holder=1";
+    }
+    ∷
+    -- E9: 01's job at the stops 2 and 4, whatever is changed there and at whatever cost: the planner's plan
+    record {
+      call = latest;
+      job = bytes "horizon=6\nwalk=11\nopenings=4\nopening=2\nfee=10\nopening=3\nfee=10\nopening=4\nfee=10\nopening=5\nfee=10\nparts=2\nlife=3\nleft=2\nprice=5\nprice=5\nprice=5\nprice=5\nlife=4\nleft=4\nprice=7\nprice=7\nprice=7\nprice=7\n";
+      plan = bytes "cost=1\nstops=2\nstop=2\ncount=1\npart=2\nstop=4\ncount=0\n";
+      written = bytes "result=0\ncost=37\nstops=2\nstop=2\ncount=1\npart=1\nstop=4\ncount=2\npart=1\npart=2\n";
+      result = 0;
+      text = 0;
+      line = 0;
+      length = 76;
+      fault = bytes "";
+    }
+    ∷
+    -- at the stops 2 and 5: both parts at both, cost 44
+    record {
+      call = latest;
+      job = bytes "horizon=6\nwalk=11\nopenings=4\nopening=2\nfee=10\nopening=3\nfee=10\nopening=4\nfee=10\nopening=5\nfee=10\nparts=2\nlife=3\nleft=2\nprice=5\nprice=5\nprice=5\nprice=5\nlife=4\nleft=4\nprice=7\nprice=7\nprice=7\nprice=7\n";
+      plan = bytes "cost=0\nstops=2\nstop=2\ncount=0\nstop=5\ncount=0\n";
+      written = bytes "result=0\ncost=44\nstops=2\nstop=2\ncount=2\npart=1\npart=2\nstop=5\ncount=2\npart=1\npart=2\n";
+      result = 0;
+      text = 0;
+      line = 0;
+      length = 83;
+      fault = bytes "";
     }
     ∷ []
 

@@ -1,6 +1,7 @@
 //! The planner's, the judge's and the count's answers, in the order of the result numbers.
 
 use super::lines::Fault;
+use super::model::{Job, Plan};
 use super::texts::{plan_lines, read_job, read_plan};
 
 /// "The lent output has at least 16,384."
@@ -19,7 +20,7 @@ pub struct Reply {
 
 impl Reply {
     /// The reply with this result and the lines after `result`.
-    fn new(result: u32, more: &str) -> Reply {
+    pub(super) fn new(result: u32, more: &str) -> Reply {
         Reply { result, bytes: format!("result={result}\n{more}").into_bytes(), ..Reply::default() }
     }
 
@@ -58,18 +59,22 @@ pub fn plan(job_text: &[u8], output: usize) -> Reply {
     Reply::new(if walk.more { 7 } else { 0 }, &format!("nodes={}\nfloor={floor}\n{lines}", walk.nodes))
 }
 
+/// What a job text and a plan text say, the plan with the cost that it states, or the reply to a fault. "Order: 8; then the job text [..];
+/// then the plan text the same way with 9 last".
+pub(super) fn two_texts(job_text: &[u8], plan_text: &[u8], output: usize) -> Result<(Job, Plan, u64), Reply> {
+    if output < LEAST_OUTPUT {
+        return Err(Reply::short_output());
+    }
+    let job = read_job(job_text).map_err(|fault| Reply::fault(1, fault))?;
+    let (plan, stated) = read_plan(&job, plan_text).map_err(|fault| Reply::fault(2, fault))?;
+    Ok((job, plan, stated))
+}
+
 /// The judge, with an output of this length.
 pub fn judge(job_text: &[u8], plan_text: &[u8], output: usize) -> Reply {
-    if output < LEAST_OUTPUT {
-        return Reply::short_output();
-    }
-    let job = match read_job(job_text) {
-        Ok(job) => job,
-        Err(fault) => return Reply::fault(1, fault),
-    };
-    let (plan, stated) = match read_plan(&job, plan_text) {
+    let (job, plan, stated) = match two_texts(job_text, plan_text, output) {
         Ok(read) => read,
-        Err(fault) => return Reply::fault(2, fault),
+        Err(reply) => return reply,
     };
     // "10: a part is not kept. Lowest such part, and its due step."
     for (part, changes) in plan.changes.iter().enumerate() {

@@ -60,13 +60,22 @@ impl Lent {
 
 /// Makes the call by the library and compares everything it hands over with the reply.
 pub fn compare(rng: &mut Rng, call: &Call, reply: &Reply) -> Result<(), String> {
+    compare_by(rng, call, reply, |job, plan, out| match call.plan {
+        None => juzvarola_host::plan(job, out),
+        Some(_) => juzvarola_host::judge(job, plan, out),
+    })
+}
+
+/// The same of the latest-time habit, on the call's texts.
+pub fn compare_latest(rng: &mut Rng, call: &Call, reply: &Reply) -> Result<(), String> {
+    compare_by(rng, call, reply, |job, plan, out| juzvarola_host::latest(job, plan, out))
+}
+
+fn compare_by(rng: &mut Rng, call: &Call, reply: &Reply, by: impl for<'t> Fn(&'t [u8], &'t [u8], &mut [u8]) -> Answer<'t>) -> Result<(), String> {
     let job = Lent::text(rng, &call.job);
     let plan = Lent::text(rng, call.plan.as_deref().unwrap_or_default());
     let mut out = Lent::output(rng, call.output);
-    let answer = match call.plan {
-        None => juzvarola_host::plan(job.part(), out.part_mut()),
-        Some(_) => juzvarola_host::judge(job.part(), plan.part(), out.part_mut()),
-    };
+    let answer = by(job.part(), plan.part(), out.part_mut());
     let at_fault = if reply.text == 2 { plan.part() } else { job.part() };
     let wanted = Answer {
         result: reply.result,
@@ -153,6 +162,13 @@ pub fn compare_count(rng: &mut Rng, text: &[u8], most: u64) -> Result<u32, Strin
 pub fn planned(job: &[u8]) -> String {
     let mut out = vec![0xAA; 16_384];
     let answer = juzvarola_host::plan(job, &mut out);
+    String::from_utf8(out[..answer.length].to_vec()).expect("answers are ASCII")
+}
+
+/// What the library writes for the latest-time habit.
+pub fn latest(job: &[u8], plan: &[u8]) -> String {
+    let mut out = vec![0xAA; 16_384];
+    let answer = juzvarola_host::latest(job, plan, &mut out);
     String::from_utf8(out[..answer.length].to_vec()).expect("answers are ASCII")
 }
 

@@ -8,6 +8,7 @@ pub mod idle_cases;
 pub mod inputs;
 pub mod jobs;
 pub mod json;
+pub mod latest_cases;
 #[cfg(feature = "library")]
 pub mod lent;
 pub mod paper;

@@ -18,6 +18,29 @@ impl Vector {
         let lines = std::str::from_utf8(&self.bytes).expect("answers are ASCII").lines();
         lines.filter_map(|line| line.strip_prefix("text=")).map(|value| value.parse().expect("a number")).next().unwrap_or(0)
     }
+
+    /// What the vector expects, as a reply.
+    pub fn reply(&self) -> Reply {
+        let text: &[u8] = if self.text() == 2 { self.call.plan.as_deref().unwrap_or_default() } else { &self.call.job };
+        Reply {
+            result: self.result,
+            text: self.text(),
+            line: self.line,
+            bytes: self.bytes.clone(),
+            fault_start: if self.line == 0 { 0 } else { start_of(text, self.line) },
+            fault_length: self.fault.len(),
+        }
+    }
+}
+
+/// Where the line with this number starts; 0 if it is missing.
+fn start_of(text: &[u8], line: u32) -> usize {
+    let before = text.split_inclusive(|byte| *byte == 10).take(line as usize - 1).map(<[u8]>::len).sum();
+    if before < text.len() {
+        before
+    } else {
+        0
+    }
 }
 
 pub fn hex(field: &str) -> Vec<u8> {
@@ -39,7 +62,7 @@ fn vector(line: &str) -> Vector {
     let fields: Vec<&str> = line.split(' ').collect();
     let judge = match fields[0] {
         "plan" => false,
-        "judge" => true,
+        "judge" | "latest" => true,
         other => panic!("no call: {other}"),
     };
     let (names, places) = (["out", "result", "line", "job", "plan", "written", "fault"], [1, 2, 3, 4, 5, 6, 7]);
@@ -83,7 +106,7 @@ pub fn enough(vectors: usize, variable: &str, least: usize) {
     assert!(vectors >= least, "only {vectors} vectors");
 }
 
-/// The vectors of the planner and the judge: of every file in `vectors/` that ends in `.txt`, the forms' and the count's aside. Without
+/// The vectors of the planner and the judge: of every file in `vectors/` that ends in `.txt`, other calls' aside. Without
 /// holders only those that they leave alone.
 pub fn all() -> Vec<Vector> {
     let files = match std::env::var("JUZVAROLA_VECTORS") {
@@ -100,11 +123,19 @@ fn kept() -> Vec<PathBuf> {
     let mut files: Vec<_> = std::fs::read_dir(folder).expect("the vectors").map(|entry| entry.expect("an entry").path()).collect();
     files.retain(|file| {
         let stem = file.file_stem().expect("a name").to_string_lossy();
-        let other = ["write", "count"].iter().any(|call| stem.starts_with(call));
+        let other = ["write", "count", "latest"].iter().any(|call| stem.starts_with(call));
         file.extension().is_some_and(|extension| extension == "txt") && !other
     });
     files.sort();
     files
+}
+
+/// The vectors of the latest-time habit: `vectors/latest9.txt`. Without holders only those that they leave alone.
+pub fn latest() -> Vec<Vector> {
+    let kept = Path::new(env!("CARGO_MANIFEST_DIR")).join("vectors/latest9.txt");
+    let file = std::env::var("JUZVAROLA_LATEST_VECTORS").map_or(kept, PathBuf::from);
+    let vectors = std::fs::read_to_string(file).expect("a file").lines().map(vector).collect::<Vec<_>>();
+    vectors.into_iter().filter(|vector| inputs::holders_on() || !vector.call.is_of_holders()).collect()
 }
 
 /// A vector of the count: a job, what it answers, and the line at fault.

@@ -3,7 +3,8 @@ use native.Mathlib.Omega.{arith}
 use Rattle.lines.specs.Text.{bytes}
 use Rattle.lines.proofs.Writing.{then, kept}
 use Rattle.planning.specs.Plan.{searchLines, plannedLines}
-use Rattle.planning.proofs.Lengths.{search-short, plan-short}
+use Rattle.plan_writing.proofs.Lengths.{plan-short}
+use Rattle.planning.proofs.Lengths.{search-short}
 use borrow.Author.Needs.{needs}
 use Rattle.planning.proofs.put_planned.Statement.{statement}
 use Rattle.planning.proofs.put_planned.Tie as tie

@@ -1,0 +1,2 @@
+-- The stops after each opening as the code holds them (Stops).
+pub mod Stops

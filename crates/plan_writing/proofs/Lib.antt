@@ -1,0 +1,2 @@
+-- How long a plan's lines can be (Lengths).
+pub mod Lengths
