@@ -9,6 +9,9 @@
 static uint8_t job[JUZVAROLA_MOST_TEXT + 1];
 static uint8_t out[JUZVAROLA_ROOM];
 
+/* As far as a search may walk. */
+#define MOST_WALK 4000000000u
+
 #define COUNT(list) (sizeof(list) / sizeof((list)[0]))
 
 /* Writes the specification's job text into `job` from lists of numbers: 6 steps, four openings, two parts. */
@@ -19,7 +22,7 @@ static juzvarola_answer fill_in(void) {
     static const uint32_t covered[] = {0, 0};
     /* No step is idle: the list has length 0, and its pointer may be any that is not null. */
     static const uint32_t none[] = {0};
-    return juzvarola_write(6, none, 0, 11, openings, COUNT(openings), fees, COUNT(fees), lives, COUNT(lives), lefts, COUNT(lefts), covered,
+    return juzvarola_write(6, none, 0, openings, COUNT(openings), fees, COUNT(fees), lives, COUNT(lives), lefts, COUNT(lefts), covered,
                            COUNT(covered), none, 0, none, 0, none, 0, prices, COUNT(prices), job, sizeof job);
 }
 
@@ -54,7 +57,7 @@ int main(int argc, char **argv) {
         fprintf(stderr, counted.count == JUZVAROLA_MOST_WALK ? "the walk may have %u nodes or more\n" : "the walk has at most %u nodes\n", (unsigned)counted.count);
     }
 
-    juzvarola_answer answer = juzvarola_plan(job, length, out, sizeof out);
+    juzvarola_answer answer = juzvarola_plan(job, length, MOST_WALK, out, sizeof out);
     fwrite(out, 1, answer.length, stdout);
     if (answer.text != 0) {
         fprintf(stderr, "%s:%u: ", argc == 2 ? argv[1] : "form", (unsigned)answer.line);

@@ -12,7 +12,7 @@ extern "C" {
 /* The version of these declarations. It moves with every change of a declaration, a text or an answer; JUZVAROLA_VERSION is what juzvarola_version
  * answers where header and library are of one version. */
 #define JUZVAROLA_VERSION_MAJOR 0
-#define JUZVAROLA_VERSION_MINOR 8
+#define JUZVAROLA_VERSION_MINOR 9
 #define JUZVAROLA_VERSION_PATCH 0
 #define JUZVAROLA_VERSION (JUZVAROLA_VERSION_MAJOR * 1000000u + JUZVAROLA_VERSION_MINOR * 1000u + JUZVAROLA_VERSION_PATCH)
 
@@ -85,8 +85,12 @@ typedef struct {
  *   search goes deepest (64 openings, sixteen parts that hold each other); juzvarola_judge at 52 KB, juzvarola_write and juzvarola_count at 36 KB.
  */
 
-/* Plans a job: results 0 to 8 and 12. */
-juzvarola_answer juzvarola_plan(const uint8_t *job, size_t job_len, uint8_t *out, size_t out_len);
+/* Plans a job: results 0 to 8 and 12.
+ *
+ * walk          the walk number: how many nodes the search may walk. With more the result is 7. A number above 4000000000 counts as 4000000000.
+ * A `walk` line that a job text still has is checked and set aside: it changes no answer of any call.
+ */
+juzvarola_answer juzvarola_plan(const uint8_t *job, size_t job_len, uint64_t walk, uint8_t *out, size_t out_len);
 
 /* Judges a plan of a job: results 0 to 5 and 8 to 12. The plan may state a cost of up to 4000000000; 12 is a fault of the job text only.
  *
@@ -119,12 +123,12 @@ juzvarola_answer juzvarola_latest(const uint8_t *job, size_t job_len, const uint
  * For a job without these lines `covered` is a 0 for each part, and the other three have length 0.
  *
  * Result 0: the first `length` bytes of `out` are the job text, with no `result` line before it. It reads back as the same job, and the numbers of
- * an accepted text give that text again, byte for byte.
+ * an accepted text without a `walk` line give that text again, byte for byte. A `walk` line is never written.
  * Results 3, 4, 5 and 12: the fault that the text would have had, with `text` 1 and the line that would have held it. Fees not as many as openings give
  * 3 on the `openings` line; lefts not as many as lives, prices not parts times openings, one of the four lists with a wrong length, and a `covered` that is
  * neither 0 nor 1, on the `parts` line. There is no text of the caller's, so no line at fault is handed over.
  */
-juzvarola_answer juzvarola_write(uint32_t horizon, const uint32_t *idles, size_t idles_len, uint32_t walk, const uint32_t *openings, size_t openings_len,
+juzvarola_answer juzvarola_write(uint32_t horizon, const uint32_t *idles, size_t idles_len, const uint32_t *openings, size_t openings_len,
                                  const uint32_t *fees, size_t fees_len, const uint32_t *lives, size_t lives_len, const uint32_t *lefts, size_t lefts_len,
                                  const uint32_t *covered, size_t covered_len, const uint32_t *removals, size_t removals_len, const uint32_t *insides,
                                  size_t insides_len, const uint32_t *holders, size_t holders_len, const uint32_t *prices, size_t prices_len, uint8_t *out,

@@ -1,6 +1,6 @@
 //! Time a node of the library and of the walk in Rust, on the jobs of `jobs/`, in one run: the microseconds of a call with walk number 1
 //! (reading, tables, one node), and the nanoseconds of each node after the first, which are the whole call's less those.
-//! `bench [--walk N] [NAME ..]`: N nodes at most in place of each job's own walk number; NAME picks the jobs whose names begin with it.
+//! `bench [--walk N] [NAME ..]`: N nodes at most in place of those of TABLE.md; NAME picks the jobs whose names begin with it.
 
 use juzvarola_host::fast::{self, Unit};
 use std::hint::black_box;
@@ -24,12 +24,12 @@ struct Outcome {
 /// The CPU seconds of a call, and what it says.
 type Timed = (f64, Outcome);
 
-type Solver = (String, fn(&[u8]) -> Timed);
+type Solver = (String, fn(&[u8], u64) -> Timed);
 
 #[cfg(feature = "library")]
-fn library(job: &[u8]) -> Timed {
+fn library(job: &[u8], walk: u64) -> Timed {
     let mut out = [0; 16_384];
-    let (time, answer) = timed(|| juzvarola_host::plan(job, &mut out));
+    let (time, answer) = timed(|| juzvarola_host::plan(job, walk, &mut out));
     assert!(matches!(answer.result, 0 | 7), "result {}", answer.result);
     let lines = std::str::from_utf8(&out[..answer.length]).expect("answers are ASCII");
     let value = |key: &str| {
@@ -39,8 +39,8 @@ fn library(job: &[u8]) -> Timed {
     (time, Outcome { nodes: value("nodes").expect("nodes"), floor: value("floor").expect("a floor"), cost: value("cost") })
 }
 
-fn rust(job: &[u8], unit: Unit) -> Timed {
-    let (time, found) = timed(|| fast::Job::read(job).solve(unit).expect("the job has a plan"));
+fn rust(job: &[u8], walk: u64, unit: Unit) -> Timed {
+    let (time, found) = timed(|| fast::Job::read(job, walk).solve(unit).expect("the job has a plan"));
     (time, Outcome { nodes: found.nodes, floor: found.floor, cost: found.best.map(|best| best.cost) })
 }
 
@@ -50,12 +50,12 @@ fn solvers(held: bool) -> Vec<Solver> {
     #[cfg(feature = "library")]
     solvers.push(("library".into(), library));
     for unit in if held { vec![Unit::Holders] } else { Unit::all() } {
-        let solve: fn(&[u8]) -> Timed = match unit {
-            Unit::Plain => |job| rust(job, Unit::Plain),
-            Unit::Recursive => |job| rust(job, Unit::Recursive),
-            Unit::Sse2 => |job| rust(job, Unit::Sse2),
-            Unit::Avx2 => |job| rust(job, Unit::Avx2),
-            Unit::Holders => |job| rust(job, Unit::Holders),
+        let solve: fn(&[u8], u64) -> Timed = match unit {
+            Unit::Plain => |job, walk| rust(job, walk, Unit::Plain),
+            Unit::Recursive => |job, walk| rust(job, walk, Unit::Recursive),
+            Unit::Sse2 => |job, walk| rust(job, walk, Unit::Sse2),
+            Unit::Avx2 => |job, walk| rust(job, walk, Unit::Avx2),
+            Unit::Holders => |job, walk| rust(job, walk, Unit::Holders),
         };
         solvers.push((format!("{unit:?}"), solve));
     }
@@ -99,27 +99,18 @@ fn expected(table: &str, name: &str) -> Option<Outcome> {
     Some(Outcome { nodes: cells[0], floor: cells[1], cost: Some(cells[2]) })
 }
 
-/// The text with another walk number, where that is less than its own.
-fn with_walk(text: &str, walk: Option<u64>) -> String {
-    let line = |line: &str| match (line.strip_prefix("walk="), walk) {
-        (Some(own), Some(walk)) => format!("walk={}\n", walk.min(own.parse().expect("a number"))),
-        _ => format!("{line}\n"),
-    };
-    text.lines().map(line).collect()
-}
-
 /// Runs the solvers in turn with walk number 1 and in turn with the whole walk, so that each has the same one before it both times.
 /// The least times of each, and the outcomes.
-fn measure(solvers: &[Solver], first: &str, whole: &str) -> [Vec<Timed>; 2] {
-    let jobs = [first.as_bytes(), whole.as_bytes()];
-    let mut least = jobs.map(|job| solvers.iter().map(|(_, solve)| solve(job)).collect::<Vec<Timed>>());
+fn measure(solvers: &[Solver], job: &[u8], walk: u64) -> [Vec<Timed>; 2] {
+    let walks = [1, walk];
+    let mut least = walks.map(|walk| solvers.iter().map(|(_, solve)| solve(job, walk)).collect::<Vec<Timed>>());
     let longest = least[1].iter().map(|(time, _)| *time).fold(1e-7, f64::max);
     let runs = if longest > SECONDS { 0 } else { ((SECONDS / longest) as u64).clamp(2, 1000) };
     for run in 0..runs.max(FIRST_RUNS) {
-        let repeated = if run < runs { &jobs[..] } else { &jobs[..1] };
-        for (least, job) in least.iter_mut().zip(repeated) {
+        let repeated = if run < runs { &walks[..] } else { &walks[..1] };
+        for (least, walk) in least.iter_mut().zip(repeated) {
             for (least, (_, solve)) in least.iter_mut().zip(solvers) {
-                let (time, outcome) = solve(job);
+                let (time, outcome) = solve(job, *walk);
                 assert_eq!(outcome, least.1, "two runs differ");
                 least.0 = least.0.min(time);
             }
@@ -199,9 +190,9 @@ fn compare(solvers: &[Solver], files: &[PathBuf], table: &str, walk: Option<u64>
     let mut wrong = 0;
     for file in files {
         let name = stem(file);
-        let job = fs::read_to_string(file).expect("a job");
-        let [first, measured] = measure(solvers, &with_walk(&job, Some(1)), &with_walk(&job, walk));
+        let job = fs::read(file).expect("a job");
         let wanted = expected(table, &name).expect("a row of TABLE.md");
+        let [first, measured] = measure(solvers, &job, walk.unwrap_or(wanted.nodes).min(wanted.nodes));
         let whole = walk.is_none_or(|walk| walk >= wanted.nodes);
         let reference = if whole { wanted } else { measured[0].1 };
         wrong += differing(&name, solvers, &first, first[0].1) + differing(&name, solvers, &measured, reference);

@@ -10,7 +10,7 @@ const STEP: usize = 4;
 
 /// The largest job: 64 openings and 16 parts with the longest numbers. The life says how far the walk goes down.
 fn job(life: u32) -> String {
-    let mut text = String::from("horizon=365\nwalk=4000000000\nopenings=64\n");
+    let mut text = String::from("horizon=365\nopenings=64\n");
     for step in 301..365 {
         text += &format!("opening={step}\nfee=1000000\n");
     }
@@ -24,7 +24,7 @@ fn job(life: u32) -> String {
 /// The job whose walk goes deepest: 64 openings in a row, sixteen parts that last one step and hold each other. Every stop is made and every part
 /// is removed at each, decided one by one: 64 times 17 decisions.
 fn deepest() -> String {
-    let mut text = String::from("horizon=64\nwalk=4000000000\nopenings=64\n");
+    let mut text = String::from("horizon=64\nopenings=64\n");
     for step in 1..=64 {
         text += &format!("opening={step}\nfee=1000000\n");
     }
@@ -55,7 +55,6 @@ fn longest() -> Form<'static> {
     Form {
         horizon: 365,
         idles: steps,
-        walk: 4_000_000_000,
         openings: &steps[301..],
         fees: alike(64, 1_000_000),
         lives: alike(16, 1000),
@@ -72,11 +71,11 @@ fn longest() -> Form<'static> {
 fn call(name: &str) -> u32 {
     let mut out = vec![0; 32_768];
     match name {
-        "plan, no stop" => juzvarola_host::plan(job(1000).as_bytes(), &mut out).result,
-        "plan, one stop" => juzvarola_host::plan(job(364).as_bytes(), &mut out).result,
-        "plan, no plan" => juzvarola_host::plan(job(1).as_bytes(), &mut out).result,
-        "plan, all removed" => juzvarola_host::plan(deepest().as_bytes(), &mut out).result,
-        "plan, a fault" => juzvarola_host::plan(b"horizon=1\n", &mut out).result,
+        "plan, no stop" => juzvarola_host::plan(job(1000).as_bytes(), juzvarola_host::MOST_WALK, &mut out).result,
+        "plan, one stop" => juzvarola_host::plan(job(364).as_bytes(), juzvarola_host::MOST_WALK, &mut out).result,
+        "plan, no plan" => juzvarola_host::plan(job(1).as_bytes(), juzvarola_host::MOST_WALK, &mut out).result,
+        "plan, all removed" => juzvarola_host::plan(deepest().as_bytes(), juzvarola_host::MOST_WALK, &mut out).result,
+        "plan, a fault" => juzvarola_host::plan(b"horizon=1\n", juzvarola_host::MOST_WALK, &mut out).result,
         "judge, the longest plan" => juzvarola_host::judge(job(1000).as_bytes(), plan().as_bytes(), &mut out).result,
         "judge, all removed" => juzvarola_host::judge(deepest().as_bytes(), all_from(1, 2_112_000_000).as_bytes(), &mut out).result,
         "judge, a fault" => juzvarola_host::judge(job(1000).as_bytes(), b"cost=1\nstops=65\n", &mut out).result,

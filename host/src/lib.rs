@@ -42,6 +42,9 @@ impl std::fmt::Display for WrongVersion {
 
 impl std::error::Error for WrongVersion {}
 
+/// The largest walk number: one above it counts as this.
+pub const MOST_WALK: u64 = 4_000_000_000;
+
 /// What a call answers. `'t` is the life of the caller's texts.
 #[derive(Debug, Clone, Copy, PartialEq, Eq)]
 pub struct Answer<'t> {
@@ -65,7 +68,6 @@ pub struct Answer<'t> {
 pub struct Form<'f> {
     pub horizon: u32,
     pub idles: &'f [u32],
-    pub walk: u32,
     pub openings: &'f [u32],
     pub fees: &'f [u32],
     pub lives: &'f [u32],

@@ -35,14 +35,13 @@ struct Counted {
 const _: () = assert!(size_of::<Counted>() == 32 && offset_of!(Counted, fault_start) == 16);
 
 extern "C" {
-    fn juzvarola_plan(job: *const u8, job_len: usize, out: *mut u8, out_len: usize) -> Numbers;
+    fn juzvarola_plan(job: *const u8, job_len: usize, walk: u64, out: *mut u8, out_len: usize) -> Numbers;
     fn juzvarola_judge(job: *const u8, job_len: usize, plan: *const u8, plan_len: usize, out: *mut u8, out_len: usize) -> Numbers;
     fn juzvarola_latest(job: *const u8, job_len: usize, plan: *const u8, plan_len: usize, out: *mut u8, out_len: usize) -> Numbers;
     fn juzvarola_write(
         horizon: u32,
         idles: *const u32,
         idles_len: usize,
-        walk: u32,
         openings: *const u32,
         openings_len: usize,
         fees: *const u32,
@@ -92,11 +91,12 @@ fn start() {
     });
 }
 
-/// Plans a job. The answer's lines are the first `length` bytes of `out`.
-pub fn plan<'t>(job: &'t [u8], out: &mut [u8]) -> Answer<'t> {
+/// Plans a job, walking at most `walk` nodes (a number above `MOST_WALK` counts as that). The answer's lines are the first `length` bytes
+/// of `out`.
+pub fn plan<'t>(job: &'t [u8], walk: u64, out: &mut [u8]) -> Answer<'t> {
     start();
     // SAFETY: a slice's pointer is not null and is good for its length; `out` is lent alone, so it overlaps no text.
-    let numbers = unsafe { juzvarola_plan(job.as_ptr(), job.len(), out.as_mut_ptr(), out.len()) };
+    let numbers = unsafe { juzvarola_plan(job.as_ptr(), job.len(), walk, out.as_mut_ptr(), out.len()) };
     answer(numbers, job, &[])
 }
 
@@ -126,7 +126,7 @@ pub fn latest<'t>(job: &'t [u8], plan: &'t [u8], out: &mut [u8]) -> Answer<'t> {
 
 /// Writes the job text of a form into `out`: its first `length` bytes. No line at fault is handed over, since there is no text of the caller's.
 pub fn write(form: &Form, out: &mut [u8]) -> Answer<'static> {
-    let Form { horizon, idles, walk, openings, fees, lives, lefts, covered, removals, insides, holders, prices } = *form;
+    let Form { horizon, idles, openings, fees, lives, lefts, covered, removals, insides, holders, prices } = *form;
     start();
     // SAFETY: as for `plan`; the lists are only read.
     let numbers = unsafe {
@@ -134,7 +134,6 @@ pub fn write(form: &Form, out: &mut [u8]) -> Answer<'static> {
             horizon,
             idles.as_ptr(),
             idles.len(),
-            walk,
             openings.as_ptr(),
             openings.len(),
             fees.as_ptr(),

@@ -19,10 +19,10 @@ fn best_of(job: &model::Job, (cost, point): (u64, Vec<Decision>)) -> Best {
     best
 }
 
-fn by_reference(text: &[u8]) -> Option<Found> {
+fn by_reference(text: &[u8], walk: u64) -> Option<Found> {
     let job = texts::read_job(text).expect("a job without faults");
     let floor = job.floor()?;
-    let walk = job.walk(job.walk);
+    let walk = job.walk(walk);
     Some(Found { nodes: walk.nodes, more: walk.more, floor, best: walk.best.map(|best| best_of(&job, best)) })
 }
 
@@ -38,9 +38,10 @@ fn fast_walk_is_the_references() {
         let mut rng = Rng::new(setting("JUZVAROLA_SEED", 3));
         let (mut held, mut points) = (0, 0);
         for _ in 0..setting("JUZVAROLA_CASES", 20_000) {
-            let text = inputs::job(&mut rng).text();
-            let wanted = by_reference(&text);
-            let job = fast::Job::read(&text);
+            let facts = inputs::job(&mut rng);
+            let text = facts.text();
+            let wanted = by_reference(&text, facts.walk);
+            let job = fast::Job::read(&text, facts.walk);
             for unit in units(&job) {
                 assert_eq!(job.solve(unit), wanted, "{unit:?}\n{}", String::from_utf8_lossy(&text));
             }
@@ -59,7 +60,7 @@ fn fast_walk_gives_the_table() {
         let jobs = jobs::up_to(20_000_000);
         assert!(jobs.len() >= 25, "only {} jobs", jobs.len());
         for row in jobs {
-            let job = fast::Job::read(&row.text);
+            let job = fast::Job::read(&row.text, row.nodes);
             for unit in units(&job) {
                 let found = job.solve(unit).expect("a plan");
                 let cost = found.best.expect("a plan").cost;

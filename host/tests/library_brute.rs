@@ -5,6 +5,7 @@ mod common;
 use common::lent::{judged, planned};
 use common::{inputs, rng::Rng, setting};
 use juzvarola_host::reference::{brute, model::Plan, texts};
+use juzvarola_host::MOST_WALK;
 
 /// 6 exactly where no plan keeps the lives; else the plan of least cost, by the tie rule, which the judge accepts.
 #[test]
@@ -14,7 +15,7 @@ fn library_prints_the_least_plan_of_all() {
         for _ in 0..setting("JUZVAROLA_CASES", 3000) {
             let text = inputs::facts(&mut rng, inputs::TINY).text();
             let job = texts::read_job(&text).expect("a job without faults");
-            let written = planned(&text);
+            let written = planned(&text, MOST_WALK);
             let Some((cost, plan)) = brute::best_plan(&job) else {
                 assert_eq!(written, "result=6\n", "{job:?}");
                 continue;

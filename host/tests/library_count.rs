@@ -70,7 +70,7 @@ fn random_jobs_against_a_walk() {
 
 /// A job of these openings, one a step, whose parts outlast the horizon.
 fn idle_parts(openings: u32, parts: u32) -> String {
-    let mut text = format!("horizon=365\nwalk=1\nopenings={openings}\n");
+    let mut text = format!("horizon=365\nopenings={openings}\n");
     (1..=openings).for_each(|step| text += &format!("opening={step}\nfee=1\n"));
     text += &format!("parts={parts}\n");
     (0..parts).for_each(|_| text += &format!("life=1000\nleft=1000\n{}", "price=1\n".repeat(openings as usize)));
@@ -132,8 +132,9 @@ fn never_fewer_than_the_planner_prints() {
         let mut rng = Rng::new(setting("JUZVAROLA_SEED", 13));
         let mut out = vec![0; 16_384];
         for _ in 0..2_000 {
-            let text = inputs::job(&mut rng).text();
-            let answer = plan(&text, &mut out);
+            let facts = inputs::job(&mut rng);
+            let text = facts.text();
+            let answer = plan(&text, facts.walk, &mut out);
             let lines = std::str::from_utf8(&out[..answer.length]).expect("ASCII");
             let nodes =
                 lines.lines().find_map(|line| line.strip_prefix("nodes=")).map_or(0, |value| value.parse::<u32>().expect("a number"));

@@ -55,9 +55,9 @@ fn accepted(rng: &mut Rng) -> (Facts, Vec<u8>) {
 }
 
 /// The planner and the judge on these texts, where they are of the kind that is asked for.
-fn check_call(rng: &mut Rng, tally: &mut Tally, job: &[u8], plan: Option<&[u8]>) -> Result<(), String> {
-    let call = damage::call(rng, job, plan);
-    if (plan.is_none() && !damage::is_short(job)) || (!inputs::holders_on() && call.is_of_holders()) {
+fn check_call(rng: &mut Rng, tally: &mut Tally, job: &[u8], plan: Option<&[u8]>, walk: u64) -> Result<(), String> {
+    let call = damage::call(rng, job, plan, walk);
+    if (plan.is_none() && !damage::is_short(job, walk)) || (!inputs::holders_on() && call.is_of_holders()) {
         return Ok(());
     }
     let reply = call.expected();
@@ -66,9 +66,9 @@ fn check_call(rng: &mut Rng, tally: &mut Tally, job: &[u8], plan: Option<&[u8]>)
 }
 
 /// A damaged job text: to the planner, to the judge with a plan, and to the count.
-fn check_job(rng: &mut Rng, tally: &mut Tally, job: &[u8], plan: &[u8]) -> Result<(), String> {
-    check_call(rng, tally, job, None)?;
-    check_call(rng, tally, job, Some(plan))?;
+fn check_job(rng: &mut Rng, tally: &mut Tally, job: &[u8], plan: &[u8], walk: u64) -> Result<(), String> {
+    check_call(rng, tally, job, None, walk)?;
+    check_call(rng, tally, job, Some(plan), walk)?;
     if inputs::holders_on() || !job.windows(8).any(|window| window == b"removal=") {
         tally.add(2, lent::compare_count(rng, job, MOST)?);
     }
@@ -90,15 +90,15 @@ fn check(rng: &mut Rng, tally: &mut Tally, facts: &Facts, plan: &[u8]) -> Result
     match rng.below(10) {
         0..=3 => {
             let job = damage::job(rng, facts);
-            check_job(rng, tally, &job, plan)
+            check_job(rng, tally, &job, plan, facts.walk)
         }
         4..=6 => {
             let plan = damage::plan(rng, plan);
-            check_call(rng, tally, &facts.text(), Some(&plan))
+            check_call(rng, tally, &facts.text(), Some(&plan), facts.walk)
         }
         7 => {
             let (job, plan) = (damage::job(rng, facts), damage::plan(rng, plan));
-            check_call(rng, tally, &job, Some(&plan))
+            check_call(rng, tally, &job, Some(&plan), facts.walk)
         }
         _ => check_form(rng, tally, facts),
     }

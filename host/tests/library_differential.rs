@@ -62,7 +62,7 @@ fn library_is_the_reference_on_every_cut_and_every_byte() {
         let job = common::paper::text(&format!("horizon=6 {idles} {lines}"));
         let plan = common::paper::text("cost=25 stops=2 stop=2 count=1 part=1 stop=4 count=1 part=1");
         let mut check = |job: &[u8], plan: Option<&[u8]>| {
-            let call = Call { job: job.to_vec(), plan: plan.map(<[u8]>::to_vec), output: 16_384 };
+            let call = Call { job: job.to_vec(), plan: plan.map(<[u8]>::to_vec), walk: 11, output: 16_384 };
             if let Err(difference) = lent::compare(&mut rng, &call, &call.expected()) {
                 panic!("{difference}");
             }

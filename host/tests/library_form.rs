@@ -43,7 +43,7 @@ fn library_writes_what_the_reference_writes() {
             // "A written text reads back as the same job".
             if reply.result == 0 {
                 let job = read_job(&reply.bytes).expect("a written text has no fault");
-                assert_eq!((job.horizon as u32, job.walk as u32, job.parts.len()), (call.horizon, call.walk, call.lists[3].len()));
+                assert_eq!((job.horizon as u32, job.walk, job.parts.len()), (call.horizon, None, call.lists[3].len()));
             }
             results[reply.result as usize] += 1;
         }

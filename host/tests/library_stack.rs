@@ -1,7 +1,7 @@
 //! The calls on a thread with the stack that the header promises to be enough, at the limits: an overflow ends the test with the process.
 #![cfg(feature = "library")]
 
-use juzvarola_host::{judge, latest, plan, write, Form};
+use juzvarola_host::{judge, latest, plan, write, Form, MOST_WALK};
 use std::thread;
 
 /// "Less than 1.5 MB".
@@ -10,7 +10,7 @@ const STACK: usize = 3 << 19;
 /// 64 openings in a row and sixteen parts that last one step, held by these parts: every stop is made and, where a part holds another, every
 /// removal is decided, 64 times 17 decisions.
 fn job(holders: impl Fn(u32) -> Vec<u32>) -> String {
-    let mut text = String::from("horizon=64\nwalk=4000000000\nopenings=64\n");
+    let mut text = String::from("horizon=64\nopenings=64\n");
     (1..=64).for_each(|step| text += &format!("opening={step}\nfee=1000000\n"));
     text += "parts=16\n";
     for part in 1..=16 {
@@ -41,7 +41,7 @@ fn the_deepest_searches_fit() {
     for text in [job(circle), job(all), job(|_| Vec::new())] {
         on_that_stack(move || {
             let mut out = vec![0; 16_384];
-            let answer = plan(text.as_bytes(), &mut out);
+            let answer = plan(text.as_bytes(), MOST_WALK, &mut out);
             assert_eq!(answer.result, 0);
             let lines = String::from_utf8(out[..answer.length].to_vec()).expect("text");
             assert!(lines.contains("\ncost=2112000000\nstops=64\n"), "{}", &lines[..80]);
@@ -65,7 +65,6 @@ fn the_longest_text_fits() {
         let form = Form {
             horizon: 365,
             idles: &steps,
-            walk: 4_000_000_000,
             openings: &steps[301..],
             fees: &alike(64, 1_000_000),
             lives: &alike(16, 1000),
@@ -77,6 +76,6 @@ fn the_longest_text_fits() {
             prices: &alike(1024, 1_000_000),
         };
         let answer = write(&form, &mut out);
-        assert_eq!((answer.result, answer.length), (0, 22_109));
+        assert_eq!((answer.result, answer.length), (0, 22_093));
     });
 }

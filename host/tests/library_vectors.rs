@@ -38,7 +38,7 @@ fn gives(cases: Vec<Case>) {
         for case in cases {
             let mut out = vec![0xAA; case.call.output];
             let answer = match &case.call.plan {
-                None => juzvarola_host::plan(&case.call.job, &mut out),
+                None => juzvarola_host::plan(&case.call.job, case.call.walk, &mut out),
                 Some(plan) => juzvarola_host::judge(&case.call.job, plan, &mut out),
             };
             let written = &out[..answer.length];

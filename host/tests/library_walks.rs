@@ -35,8 +35,8 @@ fn library_walks_as_far_as_the_fast_walk() {
             let mut job = inputs::facts(&mut rng, if number % 2 == 0 { inputs::MIDDLE } else { inputs::LARGE });
             job.walk = rng.within(LIMIT / 2, LIMIT);
             let text = job.text();
-            let found = fast::Job::read(&text).solve(if job.is_held() { Unit::Holders } else { Unit::Plain });
-            let written = planned(&text);
+            let found = fast::Job::read(&text, job.walk).solve(if job.is_held() { Unit::Holders } else { Unit::Plain });
+            let written = planned(&text, job.walk);
             let changes = |line: &&str| !line.starts_with("count=") && !line.starts_with("part=");
             let kept: String = written.lines().filter(changes).map(|line| format!("{line}\n")).collect();
             assert_eq!(kept, lines_of(&job, found), "{}", String::from_utf8_lossy(&text));
@@ -55,7 +55,7 @@ fn library_walks_as_far_as_the_fast_walk() {
 fn library_gives_the_table() {
     common::with_stack(|| {
         for row in jobs::up_to(4_000_000).into_iter().filter(|row| inputs::holders_on() || !row.is_held()) {
-            let written = planned(&row.text);
+            let written = planned(&row.text, row.nodes);
             let head = format!("result=0\nnodes={}\nfloor={}\ncost={}\n", row.nodes, row.floor, row.cost);
             assert!(written.starts_with(&head), "{}: {written}", row.name);
             let plan = &written[written.find("cost=").expect("a plan")..];

@@ -92,13 +92,38 @@ static juzvarola_answer write_form(const bytes *out) {
         l[at] = list(names[at], at == COVERED ? l[LIVES].length : 0);
     }
     juzvarola_answer answer = juzvarola_write(
-        (uint32_t)number("horizon", 0), l[0].at, l[0].length, (uint32_t)number("walk", 0), l[1].at, l[1].length, l[2].at, l[2].length, l[3].at,
+        (uint32_t)number("horizon", 0), l[0].at, l[0].length, l[1].at, l[1].length, l[2].at, l[2].length, l[3].at,
         l[3].length, l[4].at, l[4].length, l[5].at, l[5].length, l[6].at, l[6].length, l[7].at, l[7].length, l[8].at, l[8].length, l[9].at,
         l[9].length, out->at, out->length);
     for (int at = 0; at < LISTS; at++) {
         free(l[at].at);
     }
     return answer;
+}
+
+/* The walk number of a planner's line; where it has none, the number on the text's walk line, or the largest. */
+static uint64_t walk_number(const bytes *job) {
+    const char *own = named("walk");
+    uint64_t walk = own ? strtoull(own, NULL, 10) : 4000000000u;
+    for (size_t at = 0; !own && at + 5 <= job->length; at++) {
+        if ((at == 0 || job->at[at - 1] == '\n') && memcmp(job->at + at, "walk=", 5) == 0) {
+            walk = 0;
+            for (at += 5; at < job->length && job->at[at] >= '0' && job->at[at] <= '9' && walk <= 4000000000u; at++) {
+                walk = 10 * walk + (job->at[at] - '0');
+            }
+            return walk;
+        }
+    }
+    return walk;
+}
+
+/* Whether the line is of before the walk number came with the call, and has another answer now: a form with a walk number, or a job that was refused for
+ * want of the walk line, where `openings` stood in its place. */
+static int of_before(void) {
+    if (strcmp(fields[0], "write") == 0) {
+        return named("walk") != NULL;
+    }
+    return number("result", 2) == 2 && strncmp(field("fault", 7), "6f70656e696e67733d", 18) == 0 && !strstr(field("job", 4), "0a77616c6b3d");
 }
 
 /* Makes the call of the line's fields; whether it answered as the vector says. */
@@ -116,7 +141,7 @@ static int as_expected(void) {
         answer.result = counted.result;
         answer.line = counted.line;
     } else {
-        answer = strcmp(call, "plan") == 0     ? juzvarola_plan(job.at, job.length, out.at, out.length)
+        answer = strcmp(call, "plan") == 0     ? juzvarola_plan(job.at, job.length, walk_number(&job), out.at, out.length)
                  : strcmp(call, "judge") == 0  ? juzvarola_judge(job.at, job.length, plan.at, plan.length, out.at, out.length)
                  : strcmp(call, "latest") == 0 ? juzvarola_latest(job.at, job.length, plan.at, plan.length, out.at, out.length)
                                                : write_form(&out);
@@ -142,6 +167,9 @@ int main(void) {
         field_count = 0;
         for (char *own; field_count < FIELDS && (own = strsep(&rest, " \n")); field_count++) {
             fields[field_count] = own;
+        }
+        if (of_before()) {
+            continue;
         }
         calls++;
         if (!as_expected()) {

@@ -4,7 +4,7 @@
 
 mod common;
 use common::tool::{job, Folder, PROGRAM};
-use juzvarola_host::reference;
+use juzvarola_host::{reference, MOST_WALK};
 use std::fs::{File, OpenOptions};
 use std::io::{self, Read, Write};
 use std::os::unix::process::ExitStatusExt;
@@ -35,7 +35,7 @@ fn programs() -> Option<PathBuf> {
 fn longest() -> Vec<u8> {
     let openings: String = (1..=64).map(|step| format!("opening={step}\nfee=1\n")).collect();
     let parts = format!("life=1\nleft=1\n{}", "price=1\n".repeat(64)).repeat(16);
-    format!("horizon=64\nwalk=1000\nopenings=64\n{openings}parts=16\n{parts}").into_bytes()
+    format!("horizon=64\nopenings=64\n{openings}parts=16\n{parts}").into_bytes()
 }
 
 /// A program that reads a job from standard input and writes its plan.
@@ -49,7 +49,7 @@ struct Reader {
 impl Reader {
     /// What it writes for this job, which has no fault.
     fn answer(&self, job: &[u8]) -> Vec<u8> {
-        let answer = reference::plan(job, OUTPUT).bytes;
+        let answer = reference::plan(job, MOST_WALK, OUTPUT).bytes;
         let plan = answer.windows(5).position(|window| window == b"cost=").expect("a plan");
         answer[if self.bare { plan } else { 0 }..].to_vec()
     }
@@ -211,7 +211,7 @@ fn an_output_that_is_read_slowly() {
 fn an_input_that_grows() {
     let text = job("00_example");
     let Some(programs) = programs() else { return };
-    let answers: Vec<Vec<u8>> = (0..=text.len()).map(|length| reference::plan(&text[..length], OUTPUT).bytes).collect();
+    let answers: Vec<Vec<u8>> = (0..=text.len()).map(|length| reference::plan(&text[..length], MOST_WALK, OUTPUT).bytes).collect();
     let folder = Folder::new();
     for round in 0..40 {
         folder.write("job", b"");

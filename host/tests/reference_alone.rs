@@ -44,7 +44,7 @@ fn check(call: &common::Call, reply: &Reply) {
         assert_eq!((reply.fault_start, reply.fault_length), (0, 0), "{call:?}");
     }
     if call.plan.is_none() && reply.result == 0 {
-        let plan = inputs::printed_plan(&call.job).expect("a plan is printed");
+        let plan = inputs::printed_plan(&call.job, call.walk).expect("a plan is printed");
         let judged = reference::judge(&call.job, &plan, 16_384).bytes;
         let cost = line_of(&plan, 1);
         assert_eq!(judged, [b"result=0\n", cost, b"\n"].concat(), "{call:?}");

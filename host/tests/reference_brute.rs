@@ -4,6 +4,7 @@ mod common;
 use common::{inputs, rng::Rng, setting};
 use juzvarola_host::reference::walk::Point;
 use juzvarola_host::reference::{brute, model::Job, texts};
+use juzvarola_host::MOST_WALK;
 
 fn jobs_of(size: inputs::Size, count: u64) -> impl Iterator<Item = Job> {
     let mut rng = Rng::new(setting("JUZVAROLA_SEED", 2));
@@ -25,7 +26,7 @@ fn planner_prints_the_least_plan_of_all() {
     let (mut with, mut without, mut held) = (0, 0, 0);
     for job in small_jobs(10_000).chain(jobs_of(inputs::NESTED, 10_000)) {
         held += u64::from(!brute::holding(&job).is_empty());
-        let walk = job.walk(job.walk);
+        let walk = job.walk(MOST_WALK);
         match brute::best_plan(&job) {
             None => {
                 assert_eq!((job.floor(), walk.best), (None, None), "{job:?}");

@@ -14,11 +14,12 @@ fn no_more_points_and_the_same_plan() {
     let (mut fewer, mut higher, mut cut) = (0, 0, 0);
     let cases = setting("JUZVAROLA_CASES", 20_000);
     for _ in 0..cases {
-        let job = texts::read_job(&inputs::job(&mut rng).text()).expect("a job without faults");
+        let facts = inputs::job(&mut rng);
+        let job = texts::read_job(&facts.text()).expect("a job without faults");
         let old_floor = job.old_estimate(&[]);
         assert_eq!(job.floor().is_none(), old_floor.is_none(), "{job:?}");
         assert!(job.floor() >= old_floor, "{job:?}");
-        for limit in [job.walk, LIMIT] {
+        for limit in [facts.walk, LIMIT] {
             let (new, old) = (job.walk(limit), job.walk_by(limit, Job::old_estimate));
             assert!(new.nodes <= old.nodes && (old.more || !new.more), "{job:?}");
             if !old.more {

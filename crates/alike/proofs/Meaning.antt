@@ -1,9 +1,11 @@
--- Two accepted job texts that mean the same are answered alike (`by-meaning`): once a job text is accepted, what a call says is a function of what it means.
-use mathlib.Core.Path.{_≡_, sym, ap, _∙_}
+-- Two accepted job texts that mean the same are answered alike (`by-meaning`), and so are two that differ in the `walk` line alone (`walk-set-aside`): once a job text is accepted, what a call says is a function of what it means.
+use mathlib.Core.Path.{_≡_, refl, sym, ap, _∙_}
 use mathlib.Core.List.{List}
 use Prim.Native.Nat.{ℕ}
 use Rattle.lines.specs.Parser.{accepted}
 use Rattle.job_grammar.specs.Grammar.{JobText, Given, meant, meaning, readJobText, readJob}
+use Rattle.job_grammar.proofs.Accepted.{valid-text}
+use Rattle.job_grammar.proofs.Complete.{read-back}
 use Rattle.answers.specs.Said.{lent}
 use Rattle.planning.specs.Plan.{planSaid}
 use Rattle.planning.specs.Plan as planning
@@ -13,13 +15,13 @@ use Rattle.serving.specs.Serve.{latestSaid}
 use Rattle.serving.specs.Serve as serving
 use Rattle.counting.specs.Count.{countSaid}
 use Rattle.counting.specs.Count as counting
-use Rattle.alike.specs.Alike.{AnsweredAlike}
+use Rattle.alike.specs.Alike.{AnsweredAlike, withWalk, WalkSetAside}
 
 -- both texts are read as the same meaning
 module _ (s s′ : List ℕ) (g : Given) (e : readJob s ≡ accepted g) (e′ : readJob s′ ≡ accepted g) where
-  planner-alike : planSaid s ≡ planSaid s′
+  planner-alike : (walk : ℕ) → planSaid s walk ≡ planSaid s′ walk
   unfolding planSaid
-  planner-alike = ap (planning.onJob s) e ∙ sym (ap (planning.onJob s′) e′)
+  planner-alike walk = ap (planning.onJob s walk) e ∙ sym (ap (planning.onJob s′ walk) e′)
 
   judge-alike : (plan : List ℕ) → judgeSaid s plan ≡ judgeSaid s′ plan
   unfolding judgeSaid
@@ -35,7 +37,7 @@ module _ (s s′ : List ℕ) (g : Given) (e : readJob s ≡ accepted g) (e′ : 
 
   all-alike : AnsweredAlike s s′
   all-alike = record {
-    planner = λ room. ap (lent 16384 room) planner-alike;
+    planner = λ walk room. ap (lent 16384 room) (planner-alike walk);
     judge = λ plan room. ap (lent 16384 room) (judge-alike plan);
     latest = λ plan room. ap (lent 16384 room) (latest-alike plan);
     count = count-alike;
@@ -43,3 +45,9 @@ module _ (s s′ : List ℕ) (g : Given) (e : readJob s ≡ accepted g) (e′ : 
 
 pub by-meaning : (s s′ : List ℕ) (t t′ : JobText) → readJobText s ≡ accepted t → readJobText s′ ≡ accepted t′ → meant t ≡ meant t′ → AnsweredAlike s s′
 by-meaning s s′ t t′ e e′ same = all-alike s s′ (meant t) (ap meaning e) (ap meaning e′ ∙ ap accepted (sym same))
+
+pub walk-set-aside : WalkSetAside
+walk-set-aside = record {
+  alike = λ s s′ t o e e′. by-meaning s s′ t (withWalk o t) e e′ refl;
+  accepts = λ s t e o allowed. let v = valid-text s t e in read-back (withWalk o t) (record { means = v .means; idles = v .idles; walk = allowed });
+}

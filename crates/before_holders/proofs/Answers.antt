@@ -3,15 +3,17 @@ use Prim.Native.Nat.{ℕ}
 use mathlib.Core.Path.{_≡_, refl, sym, ap, _∙_, subst}
 use mathlib.Core.Bool.{Bool, cond}
 use mathlib.Core.List.{List, [], _∷_, map}
+use native.Mathlib.Omega.{arith}
 use lib.ListN.{length}
 use Rattle.lines.specs.Parser.{accepted}
 use Rattle.model.specs.Model.{Job}
+use Rattle.model.specs.Promise.{answerOf}
 use Rattle.model.specs.Verdict.{judged, judgedOf, verdictOf}
 use Rattle.model.specs.Count.{openCount}
 use Rattle.model.proofs.NoHolders.{held-none}
 use Rattle.model.proofs.Unheld.{Plain, plain-unheld, answer-before, cost-before}
 use Rattle.jobs.specs.Valid.{All, ValidPart}
-use Rattle.job_grammar.specs.Grammar.{Given, readJob}
+use Rattle.job_grammar.specs.Grammar.{readJob}
 use Rattle.job_grammar.proofs.Accepted.{valid}
 use Rattle.plan_grammar.specs.Grammar.{Stated}
 use Rattle.answers.specs.Said.{lent}
@@ -20,8 +22,8 @@ use Rattle.judging.specs.Judge as judging
 use Rattle.counting.specs.Count as counting
 use Rattle.before_holders.specs.Texts as texts
 use Rattle.before_holders.specs.Answers as before
-use Rattle.before_holders.specs.AsBefore.{Accepted, AsBefore}
-use Rattle.before_holders.proofs.Jobs.{said, job-before, accepted-before}
+use Rattle.before_holders.specs.AsBefore.{Accepted, asToday, AsBefore}
+use Rattle.before_holders.proofs.Jobs.{said, job-before, walk-before, accepted-before}
 use Rattle.before_holders.proofs.Plans.{plan-before}
 
 -- ---- the job: no holders, removals of 0 and a price for each opening
@@ -30,11 +32,11 @@ parts-plain : (n : ℕ) (ps : List texts.PartText) → All (ValidPart n) (map te
 parts-plain n [] v = tt
 parts-plain n (p ∷ ps) v = (refl, refl, v .0 .priced, parts-plain n ps (v .1))
 
-job-plain : (text : List ℕ) (g : Given) → texts.readJob text ≡ accepted g → Plain (length (g .job .openings)) (g .job .parts)
+job-plain : (text : List ℕ) (g : texts.Given) → texts.readJob text ≡ accepted g → Plain (length (g .job .openings)) (g .job .parts)
 job-plain text g e =
     let t = said text g e in
-    let v = valid text g (job-before text g e) .job .parts in
-    subst (λ (h : Given). All (ValidPart (length (h .job .openings))) (h .job .parts) → Plain (length (h .job .openings)) (h .job .parts)) (t .means)
+    let v = valid text (asToday g) (job-before text g e) .job .parts in
+    subst (λ (h : texts.Given). All (ValidPart (length (h .job .openings))) (h .job .parts) → Plain (length (h .job .openings)) (h .job .parts)) (t .means)
     (parts-plain (length (t .text .openings)) (t .text .parts)) v
 
 -- ---- the answers
@@ -46,13 +48,16 @@ module _ (text : List ℕ) (a : Accepted text) where
   plain : Plain (length (job .openings)) (job .parts)
   plain = job-plain text (a .given) (a .is)
 
-  today : readJob text ≡ accepted (a .given)
+  today : readJob text ≡ accepted (asToday (a .given))
   today = job-before text (a .given) (a .is)
 
-  pub planner-before : planning.planSaid text ≡ before.planSaid text
+  pub planner-before : planning.planSaid text (a .given .walk) ≡ before.planSaid text
   unfolding planning.planSaid before.planSaid
   planner-before =
-      ap (planning.onJob text) today
+      let few = walk-before text (a .given) (a .is) in
+      let same : planning.walkNumber (a .given .walk) ≡ a .given .walk = omega (arith, few) in
+      ap (planning.onJob text (a .given .walk)) today
+      ∙ ap (λ (n : ℕ). planning.saidFor job (answerOf job n)) same
       ∙ ap (planning.saidFor job) (answer-before job plain (a .given .walk))
       ∙ sym (ap (before.planOn text) (a .is))
 

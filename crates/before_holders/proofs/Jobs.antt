@@ -1,4 +1,4 @@
--- Job texts: what the grammar before E7 read is the text that says the same today, in which no part has lines of removal, and it read all such texts (`lines-exact`). So a text that was accepted is accepted still and means the same (`job-before`), and those that were are exactly the accepted ones without lines of removal (`accepted-before`).
+-- Job texts: what the grammar before E7 read is the text that says the same today, in which the walk line stands and no part has lines of removal, and it read all such texts (`lines-exact`). So a text that was accepted is accepted still and means the same (`job-before`), and those that were are exactly the accepted ones with the walk line and without lines of removal (`accepted-before`).
 use Prim.Native.Nat.{ℕ, suc, _≤_}
 use mathlib.Core.Path.{_≡_, refl, sym, ap, _∙_, subst}
 use mathlib.Core.List.{List, [], _∷_, _++_, map, append-assoc, append-nil}
@@ -8,7 +8,7 @@ use native.Mathlib.Omega.{arith}
 use lib.ListN.{length, length-map}
 use borrow.Author.Tests.{leb-true}
 use Rattle.lines.specs.Line.{startsWith}
-use Rattle.lines.specs.Text.{bytes, line, lineOf, texts, Optional, missing, optionalText}
+use Rattle.lines.specs.Text.{bytes, line, lineOf, texts, Optional, missing, present, optionalText}
 use Rattle.lines.specs.Parser.{row, checked, times, upTo, Outcome, accepted, refused}
 use Rattle.lines.proofs.Parsing.{upTo-yes}
 use Rattle.lines.proofs.Outcomes.{one-value, not-both}
@@ -19,7 +19,7 @@ use Rattle.model.specs.Windows.{Rising, stepsOf}
 use Rattle.jobs.specs.Valid.{All, ValidOpening, ValidPrice, ValidPart, HeldFrom}
 use Rattle.jobs.proofs.Lists.{chained-each, each-chained}
 use Rattle.covers.specs.Views.{meantCover}
-use Rattle.job_grammar.specs.Grammar.{JobText, Given, meant, idles, opening, openings, jobLines, maxBytes, meaning, readJobText, readJob}
+use Rattle.job_grammar.specs.Grammar.{JobText, meant, idles, opening, openings, jobLines, maxBytes, meaning, readJobText, readJob}
 use Rattle.part_lines.specs.Grammar.{PartText, meantPart}
 use Rattle.job_grammar.specs.Rendering.{idlesText, openingText, bodyText, jobText}
 use Rattle.part_lines.specs.Rendering.{partText}
@@ -27,32 +27,32 @@ use Rattle.job_grammar.specs.Valid.{ValidText}
 use Rattle.job_grammar.proofs.Accepted.{KnownIdles, idles-tell, KnownOpening, opening-tells, stepOf, chained-rising, valid-text, text-is}
 use Rattle.job_grammar.proofs.Complete.{idles-complete, opening-complete, openings-chained, read-back}
 use Rattle.before_holders.specs.Texts as before
-use Rattle.before_holders.specs.AsBefore.{Accepted, Bare}
+use Rattle.before_holders.specs.AsBefore.{Accepted, asToday, Bare}
 use Rattle.before_holders.proofs.Exact.{Exact, Any, exactly, row-exact, checked-exact, chain-exact, return-exact, bind-exact, exact-as}
 
--- ---- what a text said, as it is said today: no part has lines of removal
+-- ---- what a text said, as it is said today: the walk line stands, and no part has lines of removal
 
 abbrev pub uncovered : before.PartText → PartText
 uncovered p = record { life = p .life; left = p .left; cover = missing; prices = p .prices }
 
 abbrev pub today : before.JobText → JobText
-today t = record { horizon = t .horizon; idles = t .idles; walk = t .walk; openings = t .openings; parts = map uncovered (t .parts) }
+today t = record { horizon = t .horizon; idles = t .idles; walk = present (t .walk); openings = t .openings; parts = map uncovered (t .parts) }
 
-means-same : (t : before.JobText) → meant (today t) ≡ before.meant t
+means-same : (t : before.JobText) → meant (today t) ≡ asToday (before.meant t)
 unfolding meantCover
-means-same t = let e = go (t .parts) in λ i. record { walk = t .walk; job = record { horizon = t .horizon; idles = before.meant t .job .idles; openings = t .openings; parts = e i } }
+means-same t = let e = go (t .parts) in λ i. record { job = record { horizon = t .horizon; idles = before.meant t .job .idles; openings = t .openings; parts = e i } }
   where
     go : (ps : List before.PartText) → map meantPart (map uncovered ps) ≡ map before.meantPart ps
     go [] = refl
     go (p ∷ ps) = ap (λ (qs : List Part). before.meantPart p ∷ qs) (go ps)
 
--- what a text says without lines of removal, as it was said
-told : JobText → before.JobText
-told t = record { horizon = t .horizon; idles = t .idles; walk = t .walk; openings = t .openings; parts = map (λ (p : PartText). record { life = p .life; left = p .left; prices = p .prices }) (t .parts) }
+-- what a text says with this walk number and without lines of removal, as it was said
+told : ℕ → JobText → before.JobText
+told w t = record { horizon = t .horizon; idles = t .idles; walk = w; openings = t .openings; parts = map (λ (p : PartText). record { life = p .life; left = p .left; prices = p .prices }) (t .parts) }
 
-today-told : (t : JobText) → Bare t → today (told t) ≡ t
+today-told : (t : JobText) (b : Bare t) → today (told (b .walk) t) ≡ t
 unfolding told
-today-told t bare = let e = go (t .parts) bare in λ i. record { horizon = t .horizon; idles = t .idles; walk = t .walk; openings = t .openings; parts = e i }
+today-told t bare = let e = go (t .parts) (bare .parts) in λ i. record { horizon = t .horizon; idles = t .idles; walk = sym (bare .there) i; openings = t .openings; parts = e i }
   where
     go : (ps : List PartText) → All (λ (p : PartText). p .cover ≡ missing) ps → map uncovered (map (λ (p : PartText). record { life = p .life; left = p .left; prices = p .prices }) ps) ≡ ps
     go [] b = refl
@@ -217,7 +217,6 @@ known-valid t k =
     let count = count-same (t .parts) in
     record {
       means = record {
-        walk = k .1 .1 .0 .1;
         job = record {
           horizon-low = k .0 .0;
           horizon-high = k .0 .1;
@@ -233,6 +232,7 @@ known-valid t k =
         };
       };
       idles = k .1 .0 .2;
+      walk = k .1 .1 .0 .1;
     }
 
 valid-known : (t : before.JobText) → ValidText (today t) → Known t
@@ -242,7 +242,7 @@ valid-known t v =
     let count = count-same (t .parts) in
     let parts : PartsIn (t .horizon) (t .idles) (t .walk) n (t .openings) (length (t .parts)) t = ((refl, parts-then n (t .parts) (j .parts)), refl) in
     let opened : OpeningsIn (t .horizon) (t .idles) (t .walk) n t = ((refl, (j .openings, j .rising)), ((omega (arith, count, j .some-part), omega (arith, count, j .few-parts)), parts)) in
-    ((j .horizon-low, j .horizon-high), ((j .few-idles, j .idles, v .idles), ((omega arith, v .means .walk), ((omega arith, j .few-openings), opened))))
+    ((j .horizon-low, j .horizon-high), ((j .few-idles, j .idles, v .idles), ((omega arith, v .walk), ((omega arith, j .few-openings), opened))))
 
 texts-map : (ps : List before.PartText) → texts (λ (p : before.PartText). partText (uncovered p)) ps ≡ texts partText (map uncovered ps)
 texts-map [] = refl
@@ -267,7 +267,7 @@ text-before s t e =
 -- one that is accepted and has no lines of removal was accepted
 pub was-accepted : (s : List ℕ) (t : JobText) → readJobText s ≡ accepted t → Bare t → Accepted s
 was-accepted s t e bare =
-    let u = told t in
+    let u = told (bare .walk) t in
     let same : today u ≡ t = today-told t bare in
     let b = lines-exact .back u (subst ValidText (sym same) (valid-text s t e)) [] 1 tt in
     let written : s ≡ jobText (today u) ++ [] = text-is s t e ∙ ap jobText (sym same) ∙ sym (append-nil (jobText (today u))) in
@@ -276,23 +276,30 @@ was-accepted s t e bare =
 
 -- ---- what it means
 
-pub record Said (s : List ℕ) (g : Given) : Type 0 where
+pub record Said (s : List ℕ) (g : before.Given) : Type 0 where
   pub text : before.JobText
   pub is : before.readJobText s ≡ accepted text
   pub means : before.meant text ≡ g
 
-pub said : (s : List ℕ) (g : Given) → before.readJob s ≡ accepted g → Said s g
+pub said : (s : List ℕ) (g : before.Given) → before.readJob s ≡ accepted g → Said s g
 said s g e = go (before.readJobText s) refl
   where
     go : (x : Outcome before.JobText) → before.readJobText s ≡ x → Said s g
     go (accepted t) f = record { text = t; is = f; means = one-value e (ap before.meaning f) }
     go (refused n l) f = not-both e (ap before.meaning f)
 
-pub job-before : (s : List ℕ) (g : Given) → before.readJob s ≡ accepted g → readJob s ≡ accepted g
+pub job-before : (s : List ℕ) (g : before.Given) → before.readJob s ≡ accepted g → readJob s ≡ accepted (asToday g)
 job-before s g e =
     let t = said s g e in
-    ap meaning (text-before s (t .text) (t .is)) ∙ ap accepted (means-same (t .text) ∙ t .means)
+    ap meaning (text-before s (t .text) (t .is)) ∙ ap accepted (means-same (t .text) ∙ ap asToday (t .means))
+
+-- its walk number was in its range
+pub walk-before : (s : List ℕ) (g : before.Given) → before.readJob s ≡ accepted g → g .walk ≤ 4000000000
+walk-before s g e =
+    let t = said s g e in
+    let a = accepted-is before.maxBytes before.jobLines s (t .text) (t .is) in
+    subst (λ (h : before.Given). h .walk ≤ 4000000000) (t .means) (lines-exact .tells s [] 1 (a .last) (t .text) (a .lines) .known .walk)
 
 -- exactly which texts were accepted
 pub accepted-before : (s : List ℕ) → Accepted s ↔ ((t : JobText) × ((readJobText s ≡ accepted t) × Bare t))
-accepted-before s = (λ a. let u = said s (a .given) (a .is) in (today (u .text), (text-before s (u .text) (u .is), today-bare (u .text .parts))), λ r. was-accepted s (r .0) (r .1 .0) (r .1 .1))
+accepted-before s = (λ a. let u = said s (a .given) (a .is) in (today (u .text), (text-before s (u .text) (u .is), record { walk = u .text .walk; there = refl; parts = today-bare (u .text .parts) })), λ r. was-accepted s (r .0) (r .1 .0) (r .1 .1))

@@ -7,14 +7,13 @@ use Rattle.model.specs.Model.{Job}
 use Rattle.model.specs.Unheld.{plainAnswer, plainCost}
 use Rattle.model.specs.Verdict.{judged, verdictOf}
 use Rattle.model.specs.Count.{openCount}
-use Rattle.job_grammar.specs.Grammar.{Given}
 use Rattle.plan_grammar.specs.Grammar.{Stated}
 use Rattle.answers.specs.Said.{Said, refusal}
 use Rattle.planning.specs.Plan as planning
 use Rattle.judging.specs.Judge as judging
 use Rattle.counting.specs.Count.{countGiven, refusalOf}
 use Rattle.counting.specs.declared.Counted.{Counted}
-use Rattle.before_holders.specs.Texts.{readJob, readPlan}
+use Rattle.before_holders.specs.Texts.{Given, readJob, readPlan}
 
 -- ---- the planner
 

@@ -3,10 +3,9 @@ use Prim.Native.Nat.{ℕ}
 use mathlib.Core.Path.{_≡_}
 use mathlib.Core.List.{List}
 use mathlib.Core.Logic.{_↔_}
-use Rattle.lines.specs.Text.{missing}
+use Rattle.lines.specs.Text.{missing, present}
 use Rattle.lines.specs.Parser.{accepted}
 use Rattle.jobs.specs.Valid.{All}
-use Rattle.job_grammar.specs.Grammar.{Given}
 use Rattle.job_grammar.specs.Grammar as today
 use Rattle.part_lines.specs.Grammar.{PartText}
 use Rattle.plan_grammar.specs.Grammar.{Stated}
@@ -15,7 +14,7 @@ use Rattle.answers.specs.Said.{lent}
 use Rattle.planning.specs.Plan.{planSaid, planRoom}
 use Rattle.judging.specs.Judge.{judgeSaid, judgeRoom}
 use Rattle.counting.specs.Count.{countSaid}
-use Rattle.before_holders.specs.Texts.{readJob, readPlan}
+use Rattle.before_holders.specs.Texts.{Given, readJob, readPlan}
 use Rattle.before_holders.specs.Answers as before
 
 -- a job text was free of faults
@@ -23,9 +22,15 @@ pub record Accepted (text : List ℕ) : Type 0 where
   pub given : Given
   pub is : readJob text ≡ accepted given
 
--- what it says today has no lines of removal
-abbrev pub Bare : today.JobText → Type 0
-Bare t = All (λ (p : PartText). p .cover ≡ missing) (t .parts)
+-- what it meant, as it is meant today: without the walk number
+abbrev pub asToday : Given → today.Given
+asToday g = record { job = g .job }
+
+-- what it says today has the walk line and no lines of removal
+pub record Bare (t : today.JobText) : Type 0 where
+  pub walk : ℕ
+  pub there : t .walk ≡ present walk
+  pub parts : All (λ (p : PartText). p .cover ≡ missing) (t .parts)
 
 -- a job text and a plan text were
 pub record BothAccepted (job plan : List ℕ) : Type 0 where
@@ -35,12 +40,12 @@ pub record BothAccepted (job plan : List ℕ) : Type 0 where
 
 -- of all texts and rooms: which texts were free of faults, what they said, and every call's answer
 pub record AsBefore : Type 0 where
-  -- exactly the job texts that are accepted today and have no lines of removal were accepted
+  -- exactly the job texts that are accepted today, with the walk line and without lines of removal, were accepted
   pub accepts : (text : List ℕ) → Accepted text ↔ ((t : today.JobText) × ((today.readJobText text ≡ accepted t) × Bare t))
   -- the texts say what they said
-  pub job-text : (text : List ℕ) (a : Accepted text) → today.readJob text ≡ accepted (a .given)
+  pub job-text : (text : List ℕ) (a : Accepted text) → today.readJob text ≡ accepted (asToday (a .given))
   pub plan-text : (job plan : List ℕ) (a : BothAccepted job plan) → plans.readPlan (a .job-text .given .job) plan ≡ accepted (a .stated)
-  -- every number handed over and every byte written is as before, in any room
-  pub planner : (text : List ℕ) → Accepted text → (room : ℕ) → lent planRoom room (planSaid text) ≡ lent before.planRoom room (before.planSaid text)
+  -- every number handed over and every byte written is as before, in any room; the planner's where the call has the text's own walk number
+  pub planner : (text : List ℕ) (a : Accepted text) (room : ℕ) → lent planRoom room (planSaid text (a .given .walk)) ≡ lent before.planRoom room (before.planSaid text)
   pub judge : (job plan : List ℕ) → BothAccepted job plan → (room : ℕ) → lent judgeRoom room (judgeSaid job plan) ≡ lent before.judgeRoom room (before.judgeSaid job plan)
   pub count : (text : List ℕ) → Accepted text → countSaid text ≡ before.countSaid text

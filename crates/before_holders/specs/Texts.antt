@@ -6,7 +6,7 @@ use Rattle.lines.specs.Text.{Optional}
 use Rattle.lines.specs.Parser.{Outcome, accepted, refused, Parser, _>>=_, return, row, checked, times, upTo, readText}
 use Rattle.model.specs.Model.{Opening, Part, Job}
 use Rattle.model.specs.Limits.{lastStep, longestLife, dearest, mostOpenings, mostParts, mostWalk}
-use Rattle.job_grammar.specs.Grammar.{Given, idleIn, idles, openings}
+use Rattle.job_grammar.specs.Grammar.{idleIn, idles, openings}
 use Rattle.plan_grammar.specs.Grammar.{Stated, visits, planOf}
 
 -- ---- the job text
@@ -24,6 +24,11 @@ pub record JobText : Type 0 where
   pub walk : ℕ
   pub openings : List Opening
   pub parts : List PartText
+
+-- what a job text meant: the job, and beside it the walk number
+pub record Given : Type 0 where
+  pub walk : ℕ
+  pub job : Job
 
 -- the part: there were no removals and no holders
 abbrev pub meantPart : PartText → Part

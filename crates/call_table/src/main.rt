@@ -1,7 +1,7 @@
 // Runs the planner and the judge on a table of texts and writes, for each case, what the call hands over: the bytes written, its numbers,
 // the line at fault, and whether the bytes past the written length kept their values.
-// A case stands in the input as `room=N`, `job=N`, N bytes, `plan=N`, N bytes; a case of the planner has `none=0` in place of the plan;
-// other bytes stand behind the last case.
+// A case stands in the input as `call=N` with the call's number and `room=N`; behind them the planner's (1) has `walk=N`, `job=N` and N bytes,
+// the judge's (2) `job=N`, N bytes, `plan=N`, N bytes. Other bytes stand behind the last case.
 use answers::Answer;
 use fault_lines::fault::fault_line;
 use table_text::head_at;
@@ -69,9 +69,9 @@ fn fill(out: &mut [u8]) {
 }
 
 // One case of the planner.
-fn run_planner(job: &[u8], out: &mut [u8]) {
+fn run_planner(job: &[u8], walk: u64, out: &mut [u8]) {
     fill(out);
-    let a = planning::plan(job, out);
+    let a = planning::plan(job, walk, out);
     report(a, out, job, b"");
 }
 
@@ -82,38 +82,63 @@ fn run_judge(job: &[u8], plan: &[u8], out: &mut [u8]) {
     report(a, out, job, plan);
 }
 
-// The case at a place, and the place behind it.
-fn case_at(buf: &[u8], at: usize, space: &mut [u8]) -> usize
+// The planner's case whose room is told at a place, and the place behind it.
+fn planner_at(buf: &[u8], at: usize, space: &mut [u8]) -> usize
     requires { ⌜ at ≤ length (now buf) ⌝ }
     ensures { λ r. ⌜ r ≤ length (now (buf .entry)) ⌝ }
 {
     let room = head_at(buf, at, b"room=");
-    let from = room.behind;
-    if buf.len() <= from {
-        return from;
-    }
-    let job = piece_at(buf, from, b"job=");
-    let job_start = job.start;
-    let job_end = job_start + job.length;
+    let walk = head_at(buf, room.behind, b"walk=");
+    let job = piece_at(buf, walk.behind, b"job=");
+    let start = job.start;
+    let end = start + job.length;
     let lent = room.number;
     if space.len() < lent {
         return buf.len();
     }
-    let none = head_at(buf, job_end, b"none=");
-    let behind = none.behind;
-    if behind < buf.len() {
-        run_planner(&buf[job_start..job_end], &mut space[0..lent]);
-        return behind;
-    }
-    let plan = piece_at(buf, job_end, b"plan=");
+    run_planner(&buf[start..end], walk.number as u64, &mut space[0..lent]);
+    end
+}
+
+// The judge's case whose room is told at a place, and the place behind it.
+fn judge_at(buf: &[u8], at: usize, space: &mut [u8]) -> usize
+    requires { ⌜ at ≤ length (now buf) ⌝ }
+    ensures { λ r. ⌜ r ≤ length (now (buf .entry)) ⌝ }
+{
+    let room = head_at(buf, at, b"room=");
+    let job = piece_at(buf, room.behind, b"job=");
+    let start = job.start;
+    let end = start + job.length;
+    let plan = piece_at(buf, end, b"plan=");
     let plan_start = plan.start;
     let plan_end = plan_start + plan.length;
+    let lent = room.number;
+    if space.len() < lent {
+        return buf.len();
+    }
     run_judge(
-        &buf[job_start..job_end],
+        &buf[start..end],
         &buf[plan_start..plan_end],
         &mut space[0..lent],
     );
     plan_end
+}
+
+// The case at a place, by its call's number, and the place behind it; where no call is told, the table's end.
+fn case_at(buf: &[u8], at: usize, space: &mut [u8]) -> usize
+    requires { ⌜ at ≤ length (now buf) ⌝ }
+    ensures { λ r. ⌜ r ≤ length (now (buf .entry)) ⌝ }
+{
+    let call = head_at(buf, at, b"call=");
+    let number = call.number;
+    let behind = call.behind;
+    if number == 1 {
+        return planner_at(buf, behind, space);
+    }
+    if number == 2 {
+        return judge_at(buf, behind, space);
+    }
+    buf.len()
 }
 
 // Every case of the table.

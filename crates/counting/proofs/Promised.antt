@@ -10,7 +10,7 @@ use Rattle.lines.specs.Parser.{Outcome, accepted, refused}
 use Rattle.lines.proofs.Outcomes.{one-value, one-fault, not-both}
 use Rattle.fault_lines.proofs.Breaks.{span-cuts}
 use Rattle.model.specs.Model.{Part, Job, hasHolder, HasPlan}
-use Rattle.model.specs.Limits.{mostCount}
+use Rattle.model.specs.Limits.{mostWalk, mostCount}
 use Rattle.model.specs.Promise.{nodesOf, resultOf, wholeCount, answerOf}
 use Rattle.model.specs.Ordered.{Lefts, Ordered}
 use Rattle.model.specs.Longest.{longest, JobCountPromise}
@@ -112,7 +112,7 @@ module _ (text : List ℕ) where
         cap = λ r u. moved (λ x. (n ≡ mostCount) ↔ (mostCount ≤ longest (x .job))) ((λ e. omega (arith, c .counts)), λ l. omega (arith, c .counts)) r;
         most = omega (arith, c .counts);
         whole = λ r u. moved (λ x. n < mostCount → wholeCount (x .job) ≤ n) (c .most) r;
-        nodes = λ r u. moved (λ x. nodesOf (answerOf (x .job) (x .walk)) ≤ n) (c .nodes (g .walk) (limited .walk)) r;
+        nodes = λ r u. moved (λ x. (walk : ℕ) → walk ≤ mostWalk → nodesOf (answerOf (x .job) walk) ≤ n) (c .nodes) r;
         any-nodes = λ r u. moved (λ x. n < mostCount → (limit : ℕ) → nodesOf (answerOf (x .job) limit) ≤ n) (λ l limit. omega (arith, c .counts, nodes-most (g .job) limit)) r;
         enough = λ r u. moved (λ x. n < mostCount → (limit : ℕ) → n ≤ limit → resultOf (answerOf (x .job) limit) ≡ 7 → ⊥) (λ l limit m e. c .enough limit l m e) r;
         one = λ r u. moved (λ x. (n ≡ 1) ↔ ((HasPlan (x .job) → ⊥) ⊎ (length (x .job .openings) ≡ 0))) (c .one) r;

@@ -8,11 +8,11 @@ use lib.ListN.{length}
 use Rattle.lines.specs.Parser.{refused}
 use Rattle.fault_lines.specs.Fault.{faultLine, Cuts}
 use Rattle.model.specs.Model.{hasHolder, HasPlan}
-use Rattle.model.specs.Limits.{mostCount}
+use Rattle.model.specs.Limits.{mostWalk, mostCount}
 use Rattle.model.specs.Promise.{nodesOf, resultOf, wholeCount, answerOf}
 use Rattle.model.specs.Longest.{longest}
 use Rattle.job_grammar.specs.Grammar.{readJob}
-use Rattle.job_grammar.specs.Reading.{Reading, jobIn, walkIn}
+use Rattle.job_grammar.specs.Reading.{Reading, jobIn}
 use Rattle.counting.specs.declared.Counted.{Counted}
 use Rattle.counting.specs.Count.{holderRefusal, refusalOf}
 
@@ -36,9 +36,9 @@ pub record CountPromise (text : List ℕ) (c : Counted) : Type 0 where
   -- E6.3. "The count stops at 4000000000, which then means that or more."
   pub cap : (r : Reading text) → NoHolder r → (c .count ≡ mostCount) ↔ (mostCount ≤ longest (jobIn r))
   pub most : c .count ≤ mostCount
-  -- E6.5. "No walk ever has more points than this count below the cap": not the whole walk, nor that of the planner's answer to this text, nor that of an answer with another walk number
+  -- E6.5. "No walk ever has more points than this count below the cap": not the whole walk, nor that of the planner's answer with any walk number up to the limit, nor that of an answer with a larger one
   pub whole : (r : Reading text) → NoHolder r → c .count < mostCount → wholeCount (jobIn r) ≤ c .count
-  pub nodes : (r : Reading text) → NoHolder r → nodesOf (answerOf (jobIn r) (walkIn r)) ≤ c .count
+  pub nodes : (r : Reading text) → NoHolder r → (walk : ℕ) → walk ≤ mostWalk → nodesOf (answerOf (jobIn r) walk) ≤ c .count
   pub any-nodes : (r : Reading text) → NoHolder r → c .count < mostCount → (limit : ℕ) → nodesOf (answerOf (jobIn r) limit) ≤ c .count
   -- so with a walk number of the count or more the planner never says 7
   pub enough : (r : Reading text) → NoHolder r → c .count < mostCount → (limit : ℕ) → c .count ≤ limit → resultOf (answerOf (jobIn r) limit) ≡ 7 → ⊥

@@ -28,7 +28,7 @@ use Rattle.plan_grammar.proofs.Numbered as plans
 use Rattle.plan_grammar.proofs.Nothing.{nothing-is}
 use Rattle.hall.proofs.Promised.{promise as hall-promise}
 use Rattle.hall.proofs.Unique.{only as hall-only}
-use Rattle.alike.proofs.Meaning.{by-meaning}
+use Rattle.alike.proofs.Meaning.{by-meaning, walk-set-aside}
 use Rattle.before_holders.proofs.Answers.{as-before}
 use Rattle.starred.proofs.Proved.{proved}
 use Prim.Native.Nat.{ℕ, _≤_}
@@ -79,6 +79,7 @@ delivered = record {
   E7-11-table-2 = judge-4100;
   D9-table-3 = judge-5180;
   D9-table-4 = judge-11690;
+  E10-aside = walk-set-aside;
   E14-9-hall = hall-promise;
   D1-hall = hall-only;
 }

@@ -8,13 +8,13 @@ use Rattle.model.specs.Model.{Job, Plan, HasPlan}
 use Rattle.model.specs.Published.{PublishedRunning, Tied, objective}
 use Rattle.model.specs.Promise.{PlannerAnswer, no-plan, cut-none, cut, optimum, resultOf, Promise}
 use Rattle.job_grammar.specs.Grammar.{Given}
-use Rattle.job_grammar.specs.Reading.{Reading, jobIn, walkIn}
+use Rattle.job_grammar.specs.Reading.{Reading, jobIn}
 use Rattle.job_grammar.proofs.Published.{text-published-running}
 use Rattle.answers.specs.Said.{Said, lent}
 use Rattle.judging.specs.Judge.{judgeSaid, judgeRoom}
 use Rattle.judging.specs.Promise as judging
 use Rattle.judging.proofs.Promised as judged
-use Rattle.planning.specs.Plan.{searchLines, saidFor, planSaid, planRoom}
+use Rattle.planning.specs.Plan.{searchLines, saidFor, walkNumber, planSaid, planRoom}
 use Rattle.planning.specs.Promise.{Prints, PlanPromise}
 use Rattle.planning.proofs.Promised as planned
 use Rattle.delivered.specs.Terms.{Meets, StatesObjective, Feasible, Cheapest}
@@ -37,15 +37,15 @@ module _ (job plan : List ℕ) (room : ℕ) where
 
 -- ---- the planner
 
-module _ (text : List ℕ) (room : ℕ) where
+module _ (text : List ℕ) (walk room : ℕ) where
   tied : (r : Reading text) (plan : Plan) → Tied (jobIn r) plan (PublishedRunning (jobIn r) plan)
   tied r plan = text-published-running text (r .given) (r .is) plan
 
   abbrev said : Said
-  said = lent planRoom room (planSaid text)
+  said = lent planRoom room (planSaid text walk)
 
-  abbrev promises : PlanPromise text room said
-  promises = planned.promised text room
+  abbrev promises : PlanPromise text walk room said
+  promises = planned.promised text walk room
 
   feasible : (r : Reading text) → HasPlan (jobIn r) ↔ Feasible (jobIn r)
   feasible r = ((λ h. (h .0, tied r (h .0) .keeps .0 (h .1))), λ h. (h .0, tied r (h .0) .keeps .1 (h .1)))
@@ -58,7 +58,7 @@ module _ (text : List ℕ) (room : ℕ) where
   )
 
   -- the plan of an answer 0
-  cheapest : (r : Reading text) (s : Said) (a : PlannerAnswer) → Promise (jobIn r) (walkIn r) a → s ≡ saidFor (jobIn r) a → Prints text (jobIn r) s a → s .result ≡ 0 → Cheapest (jobIn r) s
+  cheapest : (r : Reading text) (s : Said) (a : PlannerAnswer) → Promise (jobIn r) (walkNumber walk) a → s ≡ saidFor (jobIn r) a → Prints text (jobIn r) s a → s .result ≡ 0 → Cheapest (jobIn r) s
   cheapest r s no-plan p e q z = let w : s .result ≡ 6 = ap (λ (t : Said). t .result) e in absurd (omega (arith, w, z))
   cheapest r s (cut-none n f) p e q z = let w : s .result ≡ 7 = ap (λ (t : Said). t .result) e in absurd (omega (arith, w, z))
   cheapest r s (cut n f c plan) p e q z = let w : s .result ≡ 7 = ap (λ (t : Said). t .result) e in absurd (omega (arith, w, z))

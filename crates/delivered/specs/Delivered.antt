@@ -37,7 +37,7 @@ use Rattle.judging.specs.Promise as judging
 use Rattle.planning.specs.Plan.{planSaid, planRoom}
 use Rattle.hall.specs.Hall.{Hall, Proper}
 use Rattle.hall.specs.Promise.{HallAnswer, hallAnswer, HallPromise}
-use Rattle.alike.specs.Alike.{AnsweredAlike}
+use Rattle.alike.specs.Alike.{AnsweredAlike, WalkSetAside}
 use Rattle.before_holders.specs.AsBefore.{AsBefore}
 use Rattle.starred.specs.Table.{Holds, Counts, cases, counts}
 use Rattle.delivered.specs.Terms.{SomeLost, Meets, StatesObjective, Feasible, Cheapest}
@@ -59,9 +59,9 @@ pub record Delivered : Type 0 where
   pub D5-judge : (job plan : List ℕ) (room : ℕ)
       → (lent judgeRoom room (judgeSaid job plan) .result ≡ 0) ↔ ((judgeRoom ≤ room) × ((r : judging.Reading job plan) × (Meets r × StatesObjective r)))
   -- D5. "The planner says 6 exactly if the job is accepted and has no plan."
-  pub D5-planner : (text : List ℕ) (room : ℕ) → (lent planRoom room (planSaid text) .result ≡ 6) ↔ ((planRoom ≤ room) × ((r : Reading text) × (Feasible (jobIn r) → ⊥)))
+  pub D5-planner : (text : List ℕ) (walk room : ℕ) → (lent planRoom room (planSaid text walk) .result ≡ 6) ↔ ((planRoom ≤ room) × ((r : Reading text) × (Feasible (jobIn r) → ⊥)))
   -- D6, D7. "result 0, and a plan that keeps every life, states its true cost, is of least cost": "Least cost is over all plans of the model"
-  pub D6-least : (text : List ℕ) (room : ℕ) → lent planRoom room (planSaid text) .result ≡ 0 → (r : Reading text) → Cheapest (jobIn r) (lent planRoom room (planSaid text))
+  pub D6-least : (text : List ℕ) (walk room : ℕ) → lent planRoom room (planSaid text walk) .result ≡ 0 → (r : Reading text) → Cheapest (jobIn r) (lent planRoom room (planSaid text walk))
   -- D1. "for each input, every byte and number handed over": no other answer keeps the model's promise of the planner, nor that of the judge
   pub D1-planner : (job : Job) (limit : ℕ) (answer : PlannerAnswer) → Promise job limit answer → answer ≡ answerOf job limit
   pub D1-judge : (job : Job) (plan : Plan) (cost : ℕ) (j : Judgement) → JudgementPromise job cost plan j → j ≡ judgedOf job cost plan  -- D1. an accepted job text is answered by what it means: two that mean the same are answered alike
@@ -129,6 +129,8 @@ pub record Delivered : Type 0 where
   -- D9. "the plan tables 2, 3 and 4 of 001 (4100, 5180, 11690)"
   pub D9-table-3 : judgedOf (table1 100) 5180 table3 ≡ accepts 5180
   pub D9-table-4 : judgedOf (table1 1000) 11690 table4 ≡ accepts 11690
+  -- E10. "A job's `walk` line, if it still stands, is checked as before and set aside."
+  pub E10-aside : WalkSetAside
   -- ---- a hall, which no call plans yet
 
   -- E14.6 to E14.9. 6 exactly if some line has no plan; 0, or 7 exactly if the whole walk has more points; the best hall plan; with call 0 "the sum of the lines' own least costs"

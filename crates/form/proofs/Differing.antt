@@ -9,9 +9,9 @@ use native.Mathlib.Nat.{suc-mul, zero-mul}
 use borrow.Author.Tests.{eq-eqb, eqb-true}
 use lib.ListN.{length}
 use Rattle.lines.specs.Line.{startsWith}
-use Rattle.lines.specs.Text.{bytes, line, lineOf, texts, optionalText}
-use Rattle.lines.specs.Parser.{Parser, good, fault, _>>=_, return, row, rowAt, checked, chain, rising}
-use Rattle.lines.proofs.Parsing.{bind-good, bind-fault, checked-good, rising-yes}
+use Rattle.lines.specs.Text.{bytes, line, lineOf, texts, missing, optionalText}
+use Rattle.lines.specs.Parser.{Parser, good, fault, _>>=_, return, row, rowAt, optional, checked, chain, rising}
+use Rattle.lines.proofs.Parsing.{bind-good, bind-fault, checked-good, rising-yes, optional-missing}
 use Rattle.lines.proofs.Sound.{Chained}
 use Rattle.lines.proofs.ValueLines.{value-in}
 use Rattle.model.specs.Model.{Opening}
@@ -22,7 +22,7 @@ use Rattle.job_grammar.specs.Rendering.{openingText}
 use Rattle.part_lines.specs.Rendering.{partText}
 use Rattle.job_grammar.specs.Optionals.{idleLines}
 use Rattle.job_grammar.proofs.Accepted.{itself, stepOf}
-use Rattle.job_grammar.proofs.Complete.{walk-next}
+use Rattle.job_grammar.proofs.Complete.{walk-next, openings-next}
 use Rattle.form_facts.specs.Facts.{paired, partsOf, feesAgree, partsAgree, PartsAgree, countOf, countedText}
 use Rattle.form_facts.proofs.CountLines.{count-in, count-out}
 use Rattle.form_facts.proofs.Facts.{paired-size, agree-says}
@@ -123,15 +123,14 @@ module _ (f : Form) (start : StartFaultless f) where
   abbrev openingCount : List ℕ
   openingCount = lineOf "openings=" (countOf 64 (feesAgree os fs) n)
 
-  start-in : jobLines (formText f) 1 ≡ (row "openings=" 0 64 >>= body (f .horizon) (idleLines (f .idles)) (f .walk)) (openingCount ++ bodyOf os fs (f .parts)) (openingsLine f)
+  start-in : jobLines (formText f) 1 ≡ (row "openings=" 0 64 >>= body (f .horizon) (idleLines (f .idles)) missing) (openingCount ++ bodyOf os fs (f .parts)) (openingsLine f)
   unfolding jobLines rest formText restOf
   start-in =
       let after = openingCount ++ bodyOf os fs (f .parts) in
-      let walked = lineOf "walk=" (f .walk) ++ after in
       let is = optionalText idleCountText (idleLines (f .idles)) in
-      bind-good (row "horizon=" 2 365) _ (value-in (bytes "horizon=") 2 365 (f .horizon) (omega (arith, start .horizon-high)) (is ++ walked) 1 (start .horizon-low) (start .horizon-high))
-      ∙ bind-good (idles (f .horizon)) _ (idles-in (f .horizon) (f .idles) walked (start .horizon-high) (start .few-idles) (start .idles) (walk-next (f .walk) after))
-      ∙ bind-good (row "walk=" 0 4000000000) _ (value-in (bytes "walk=") 0 4000000000 (f .walk) (omega (arith, start .walk)) after (lineAfter (length (f .idles))) (omega arith) (start .walk))
+      bind-good (row "horizon=" 2 365) _ (value-in (bytes "horizon=") 2 365 (f .horizon) (omega (arith, start .horizon-high)) (is ++ after) 1 (start .horizon-low) (start .horizon-high))
+      ∙ bind-good (idles (f .horizon)) _ (idles-in (f .horizon) (f .idles) after (start .horizon-high) (start .few-idles) (start .idles) (walk-next missing (countOf 64 (feesAgree os fs) n) (bodyOf os fs (f .parts))))
+      ∙ bind-good (optional "walk=" 0 4000000000) _ (optional-missing (bytes "walk=") 0 4000000000 after (openingsLine f) (openings-next (countOf 64 (feesAgree os fs) n) (bodyOf os fs (f .parts))))
 
   -- ---- the two numbers
 

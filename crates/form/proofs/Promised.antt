@@ -8,6 +8,7 @@ use native.Mathlib.Decide.{decLt}
 use borrow.Author.Tests.{lt-ltb, le-ltb}
 use mathlib.Core.Logic.{⊎-elim}
 use lib.ListN.{length, take, drop, length-map}
+use Rattle.lines.specs.Text.{missing}
 use Rattle.lines.specs.Wrote.{Wrote}
 use Rattle.lines.proofs.Writing as wrote
 use Rattle.lines.specs.Parser.{accepted, refused, good, fault, return, end as ends, finish, whole}
@@ -75,12 +76,12 @@ written-reads f held t e = go (form-back f held)
         (same, subst (λ (u : JobText). readJobText (jobText u) ≡ accepted u) (sym same) (read-back (stated f) (lines-tell (formText f) [] 1 l (stated f) h .known)))
     go (broken n m w h i) = not-both e (form-refused f n m h)
 
--- an accepted text, read and written, comes out byte for byte
-pub read-writes : (text : List ℕ) (t : JobText) → readJobText text ≡ accepted t → writeSaid (formOf t) ≡ plainly 0 text
+-- an accepted text without the line of the walk number, read and written, comes out byte for byte
+pub read-writes : (text : List ℕ) (t : JobText) → readJobText text ≡ accepted t → t .walk ≡ missing → writeSaid (formOf t) ≡ plainly 0 text
 unfolding writeSaid readForm
-read-writes text t e =
+read-writes text t e none =
     let v = valid-text text t e in
-    let same : formText (formOf t) ≡ text = same-text (formOf t) (agrees t v) (fits t v) ∙ ap jobText (returned t v) ∙ sym (text-is text t e) in
+    let same : formText (formOf t) ≡ text = same-text (formOf t) (agrees t v) (fits t v) ∙ ap jobText (returned t v none) ∙ sym (text-is text t e) in
     ap saidFor (ap (λ (s : List ℕ). finish (whole jobLines s 1)) same ∙ text-fits maxBytes jobLines text (subst (λ (s : List ℕ). length s ≤ maxBytes) (sym (text-is text t e)) (lengths.text-fits t v)) ∙ e)
     ∙ ap (plainly 0) (sym (text-is text t e))
 
@@ -126,8 +127,8 @@ module _ (f : Form) (held : Held f) (room : ℕ) where
   accepts agree e = reads agree (few-of agree e) ∙ text-fits maxBytes jobLines (jobText (stated f)) (lengths.text-fits (stated f) (valid-text (jobText (stated f)) (stated f) e)) ∙ e
 
   -- an accepted text's numbers make it again
-  again : (text : List ℕ) (t : JobText) → readJobText text ≡ accepted t → f ≡ formOf t → writeSaid f ≡ plainly 0 text
-  again text t e same = ap writeSaid same ∙ read-writes text t e
+  again : (text : List ℕ) (t : JobText) → readJobText text ≡ accepted t → t .walk ≡ missing → f ≡ formOf t → writeSaid f ≡ plainly 0 text
+  again text t e none same = ap writeSaid same ∙ read-writes text t e none
 
   short : room < writeRoom → WritePromise f room (plainly 8 [])
   short h = record {
@@ -151,7 +152,7 @@ module _ (f : Form) (held : Held f) (room : ℕ) where
     fees-differ = λ q start differ. absurd (differ (agree .fees));
     parts-differ = λ q start known differ. absurd (differ (agree .parts));
     reads = reads;
-    returns = λ q text t r same. (refl, ap (λ (s : Said). s .bytes) (sym said ∙ again text t r same));
+    returns = λ q text t r none same. (refl, ap (λ (s : Said). s .bytes) (sym said ∙ again text t r none same));
   })
     where
       read : readForm f ≡ accepted (stated f)
@@ -173,7 +174,7 @@ module _ (f : Form) (held : Held f) (room : ℕ) where
     fees-differ = λ q start differ. replies.refuses 1 [] read (form-refused f 3 _ (fees-out f start differ));
     parts-differ = λ q start known differ. replies.refuses 1 [] read (form-refused f 3 _ (parts-out f start known differ));
     reads = reads;
-    returns = λ q text t r same. let z : n ≡ 0 = ap (λ (s : Said). s .result) (sym said ∙ again text t r same) in absurd (not-0 n w z);
+    returns = λ q text t r none same. let z : n ≡ 0 = ap (λ (s : Said). s .result) (sym said ∙ again text t r none same) in absurd (not-0 n w z);
   })
     where
       read : readForm f ≡ refused n m

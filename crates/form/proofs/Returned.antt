@@ -2,7 +2,7 @@
 use Prim.Native.Nat.{ℕ, _+_, _*_, _≤_}
 use mathlib.Core.Path.{_≡_, refl, sym, ap, ap₂, _∙_, subst}
 use mathlib.Core.Bool.{true}
-use mathlib.Core.List.{List, [], _∷_, _++_, map, append-assoc}
+use mathlib.Core.List.{List, [], _∷_, _++_, map, append-assoc, append-nil}
 use native.Mathlib.Omega.{arith}
 use native.Mathlib.Nat.{suc-mul, zero-mul, add-comm}
 use borrow.Author.Tests.{eq-eqb}
@@ -51,16 +51,15 @@ module _ (f : Form) (agree : Agree f) (few : Few f) where
   same-text =
       let h = lineOf "horizon=" (f .horizon) in
       let is = optionalText idlesText (said .idles) in
-      let w = lineOf "walk=" (f .walk) in
       let n = lineOf "openings=" (length (said .openings)) in
       let os = texts openingText (said .openings) in
       let m = lineOf "parts=" (length (said .parts)) in
       let ps = texts partText (said .parts) in
-      ap (λ (t : List ℕ). h ++ (t ++ (w ++ (lineOf "openings=" (countOf 64 (feesAgree (f .openings) (f .fees)) (length (f .openings)))
-      ++ (os ++ (lineOf "parts=" (countOf 16 (partsAgree (length (f .openings)) (f .parts)) (length (f .parts .lives))) ++ ps)))))) (same-idles (f .idles) (few .idles))
-      ∙ ap₂ (λ (i j : ℕ). h ++ (is ++ (w ++ (lineOf "openings=" i ++ (os ++ (lineOf "parts=" j ++ ps)))))) opening-count part-count
-      ∙ sym (append-assoc (h ++ is ++ w) n (os ++ m ++ ps) ∙ append-assoc (h ++ is) w (n ++ (os ++ m ++ ps)) ∙ append-assoc h is (w ++ (n ++ (os ++ m ++ ps)))
-      ∙ ap (λ (t : List ℕ). h ++ (is ++ (w ++ (n ++ t)))) (append-assoc os m ps))
+      ap (λ (t : List ℕ). h ++ (t ++ (lineOf "openings=" (countOf 64 (feesAgree (f .openings) (f .fees)) (length (f .openings)))
+      ++ (os ++ (lineOf "parts=" (countOf 16 (partsAgree (length (f .openings)) (f .parts)) (length (f .parts .lives))) ++ ps))))) (same-idles (f .idles) (few .idles))
+      ∙ ap₂ (λ (i j : ℕ). h ++ (is ++ (lineOf "openings=" i ++ (os ++ (lineOf "parts=" j ++ ps))))) opening-count part-count
+      ∙ sym (ap (λ (t : List ℕ). t ++ n ++ (os ++ m ++ ps)) (append-nil (h ++ is)) ∙ append-assoc (h ++ is) n (os ++ m ++ ps) ∙ append-assoc h is (n ++ (os ++ m ++ ps))
+      ∙ ap (λ (t : List ℕ). h ++ (is ++ (n ++ t))) (append-assoc os m ps))
 
 -- ---- the form of a text
 
@@ -188,11 +187,12 @@ module _ (t : JobText) (v : ValidText t) where
     parts = omega (arith, length-map (t .parts) lifeOf, length-map (t .parts) meantPart, v .means .job .few-parts);
   }
 
-  pub returned : stated (formOf t) ≡ t
-  returned = λ i. record {
+  -- a text without the line of the walk number
+  pub returned : t .walk ≡ missing → stated (formOf t) ≡ t
+  returned none = λ i. record {
     horizon = t .horizon;
     idles = idles-back (t .idles) (v .idles) i;
-    walk = t .walk;
+    walk = sym none i;
     openings = paired-back (t .openings) i;
     parts = (ap (λ (n : ℕ). partsOf n (listsOf (t .parts))) (sym stepsOf) ∙ parts-back (length (t .openings)) (t .parts) prices-are) i;
   }

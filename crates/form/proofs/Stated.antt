@@ -13,7 +13,8 @@ use lib.ListN.{length, getD, take, drop, length-take, length-drop}
 use lib.Seq.{getD-drop, length-take-le}
 use Rattle.lines.specs.Line.{startsWith}
 use Rattle.lines.specs.Text.{bytes, line, lineOf, texts, Optional, missing, present, optionalText}
-use Rattle.lines.specs.Parser.{Parsed, good, return, row, rowAt, checked, chain, times, rising, upTo, ifPresent}
+use Rattle.lines.specs.Parser.{Parsed, good, return, row, rowAt, optional, checked, chain, times, rising, upTo, ifPresent}
+use Rattle.lines.proofs.Parsing.{optional-missing}
 use Rattle.lines.proofs.Sound.{Chained}
 use Rattle.lines.proofs.ValueLines.{value-in, value-high}
 use Rattle.model.specs.Model.{Opening}
@@ -25,7 +26,7 @@ use Rattle.part_lines.specs.Grammar.{PartText, afterLeft, part, following}
 use Rattle.job_grammar.specs.Rendering.{openingText}
 use Rattle.part_lines.specs.Rendering.{partText}
 use Rattle.job_grammar.specs.Optionals.{idleLines}
-use Rattle.job_grammar.proofs.Complete.{walk-next}
+use Rattle.job_grammar.proofs.Complete.{walk-next, openings-next}
 use Rattle.part_lines.specs.Behind.{Behind}
 use Rattle.part_lines.proofs.Behind.{prices-behind, parts-last}
 use Rattle.job_grammar.proofs.Optionals.{some-idles}
@@ -63,7 +64,6 @@ Small xs = (i : ℕ) → getD xs i 0 < 4294967296
 -- and all of a form, whose numbers have 32 bits
 pub record Held (f : Form) : Type 0 where
   pub horizon : f .horizon < 4294967296
-  pub walk : f .walk < 4294967296
   pub idles : Small (f .idles)
   pub openings : Small (f .openings)
   pub fees : Small (f .fees)
@@ -280,7 +280,7 @@ grouped-short n (l ∷ ls) (r ∷ rs) (o ∷ cs) ps a b d c e =
 
 -- the text that is written to be read
 abbrev pub cut : Form → List ℕ
-cut f = formCut (f .horizon) (f .idles) (f .walk) (f .openings) (f .fees) (f .parts)
+cut f = formCut (f .horizon) (f .idles) (f .openings) (f .fees) (f .parts)
 
 module _ (f : Form) (held : Held f) where
   abbrev os : List ℕ
@@ -310,7 +310,7 @@ module _ (f : Form) (held : Held f) where
       subst (λ (k : ℕ). Readback FormFault (Unit {0}) (said .parts) [] [] (chain (part m n) following k 1 (texts partText (said .parts)) l) (chain (part m n) following k 1 (texts partCut (said .parts)) l)) size (all-back m n 1 (said .parts) (parts-short agree) l)
 
   body-back : length (f .fees) ≡ n → (l : ℕ)
-      → Readback FormFault ((m ≤ 16) × PartsAgree n x) said [] [] (body (f .horizon) (said .idles) (f .walk) n (bodyOf os (f .fees) x) l) (body (f .horizon) (said .idles) (f .walk) n (bodyCut os (f .fees) x) l)
+      → Readback FormFault ((m ≤ 16) × PartsAgree n x) said [] [] (body (f .horizon) (said .idles) missing n (bodyOf os (f .fees) x) l) (body (f .horizon) (said .idles) missing n (bodyCut os (f .fees) x) l)
   unfolding body openings bodyOf bodyCut countedText partsCut countedCut
   body-back agree l =
       let c = lineOf "parts=" (countOf 16 (partsAgree n x) m) in
@@ -329,13 +329,17 @@ module _ (f : Form) (held : Held f) where
   Fits = Agree f × Few f
 
   rest-back : length (f .idles) ≤ 365 → (l : ℕ)
-      → Readback FormFault Fits said [] [] (rest (f .horizon) (said .idles) (restOf (f .walk) os (f .fees) x) l) (rest (f .horizon) (said .idles) (restCut (f .walk) os (f .fees) x) l)
+      → Readback FormFault Fits said [] [] (rest (f .horizon) (said .idles) (restOf os (f .fees) x) l) (rest (f .horizon) (said .idles) (restCut os (f .fees) x) l)
   unfolding rest restOf restCut countedCut
   rest-back few l =
       let b = bodyOf os (f .fees) x in
       let q : Bool → List ℕ = λ g. cond g (bodyCut os (f .fees) x) [] in
       let c = lineOf "openings=" (countOf 64 (feesAgree os (f .fees)) n) in
-      bind-back (row "walk=" 0 4000000000) _ (value-back (bytes "walk=") 0 4000000000 (f .walk) (omega (arith, held .walk)) (c ++ b) (c ++ q (leb n 64 && feesAgree os (f .fees))) l)
+      let count = countOf 64 (feesAgree os (f .fees)) n in
+      let d = q (leb n 64 && feesAgree os (f .fees)) in
+      let none : Readback FormFault (Unit {0}) missing (c ++ b) (c ++ d) (optional "walk=" 0 4000000000 (c ++ b) l) (optional "walk=" 0 4000000000 (c ++ d) l) =
+      back tt l (optional-missing (bytes "walk=") 0 4000000000 (c ++ b) l (openings-next count b)) (optional-missing (bytes "walk=") 0 4000000000 (c ++ d) l (openings-next count d)) in
+      bind-back (optional "walk=" 0 4000000000) _ none
       (λ _ k. bind-back (row "openings=" 0 64) _ (count-back (bytes "openings=") 0 64 (omega arith) (feesAgree os (f .fees)) n b q k)
       (λ g j. with-fees g (body-back (eqb-true (length (f .fees)) n (g .1)) j)))
     where
@@ -344,13 +348,13 @@ module _ (f : Form) (held : Held f) where
       with-fees g (broken i j h e e′) = broken i j h e e′
 
   pub form-back : Readback FormFault Fits said [] [] (jobLines (formText f) 1) (jobLines (cut f) 1)
-  unfolding jobLines formText formCut restOf restCut
+  unfolding jobLines formText formCut restOf restCut countedCut
   form-back =
-      let r = restOf (f .walk) os (f .fees) x in
-      let q = restCut (f .walk) os (f .fees) x in
+      let r = restOf os (f .fees) x in
+      let q = restCut os (f .fees) x in
       let a = lineOf "horizon=" (f .horizon) in
       let is = optionalText idleCountText (idleLines (f .idles)) in
       let js = optionalText idlesCut (idleLines (f .idles)) in
       same-back refl (ap (λ (u : List ℕ). jobLines u 1) (append-assoc a js q))
       (bind-back (row "horizon=" 2 365) _ (value-back (bytes "horizon=") 2 365 (f .horizon) (omega (arith, held .horizon)) (is ++ r) (js ++ q) 1)
-      (λ _ k. bind-back (idles (f .horizon)) _ (idles-back (f .horizon) k (f .idles) r q (held .idles) (walk-next (f .walk) _) (walk-next (f .walk) _)) (λ few j. rest-back few j)))
+      (λ _ k. bind-back (idles (f .horizon)) _ (idles-back (f .horizon) k (f .idles) r q (held .idles) (walk-next missing (countOf 64 (feesAgree os (f .fees)) n) _) (walk-next missing (countOf 64 (feesAgree os (f .fees)) n) _)) (λ few j. rest-back few j)))

@@ -10,7 +10,7 @@ use Rattle.lines.specs.Text.{texts, Optional, missing, present}
 use Rattle.fault_lines.specs.Fault.{nowhere}
 use Rattle.lines.specs.Parser.{accepted, refused, finish, whole}
 use Rattle.model.specs.Model.{Opening}
-use Rattle.model.specs.Limits.{lastStep, dearest, mostOpenings, mostParts, mostWalk}
+use Rattle.model.specs.Limits.{lastStep, dearest, mostOpenings, mostParts}
 use Rattle.model.specs.Windows.{Rising}
 use Rattle.jobs.specs.Valid.{All}
 use Rattle.job_grammar.specs.Grammar.{JobText, idleIn, jobLines, readJobText}
@@ -40,7 +40,6 @@ pub record StartFaultless (f : Form) : Type 0 where
   pub horizon-high : f .horizon ≤ lastStep
   pub few-idles : length (f .idles) ≤ lastStep
   pub idles : Rising 0 (f .horizon) (f .idles)
-  pub walk : f .walk ≤ mostWalk
 
 -- nor has the `openings` line, nor those of the openings and fees: they are not too many, as many as each other, rise within the horizon, and no fee is too high
 pub record OpeningsFaultless (f : Form) : Type 0 where
@@ -53,9 +52,9 @@ pub record OpeningsFaultless (f : Form) : Type 0 where
 abbrev pub lineAfter : ℕ → ℕ
 lineAfter n = cond (eqb n 0) 2 (3 + n)
 
--- the number of the `openings` line: the one after the `walk` line, which follows the idle steps
+-- the number of the `openings` line: the one after the idle steps
 abbrev pub openingsLine : Form → ℕ
-openingsLine f = lineAfter (length (f .idles)) + 1
+openingsLine f = lineAfter (length (f .idles))
 
 -- the number of the `parts` line: the one after the lines of the openings, two for each
 abbrev pub partsLine : Form → ℕ
@@ -98,7 +97,6 @@ abbrev pub formOf : JobText → Form
 formOf t = record {
   horizon = t .horizon;
   idles = idleIn (t .idles);
-  walk = t .walk;
   openings = map (λ (o : Opening). o .step) (t .openings);
   fees = map (λ (o : Opening). o .fee) (t .openings);
   parts = listsOf (t .parts);
@@ -125,5 +123,5 @@ pub record WritePromise (f : Form) (room : ℕ) (s : Said) : Type 0 where
   pub parts-differ : writeRoom ≤ room → StartFaultless f → OpeningsFaultless f → (PartsAgree (length (f .openings)) (f .parts) → ⊥) → Refuses 1 [] 3 (partsLine f) s
   -- "for the same faults": of lists that agree and are not too long, what is read is the very text of the job that they state
   pub reads : Agree f → Few f → readForm f ≡ finish (whole jobLines (jobText (stated f)) 1)
-  -- "an accepted text, read and written, comes out byte for byte"
-  pub returns : writeRoom ≤ room → (text : List ℕ) (t : JobText) → readJobText text ≡ accepted t → f ≡ formOf t → (s .result ≡ 0) × (s .bytes ≡ text)
+  -- "an accepted text, read and written, comes out byte for byte"; E10. "a byte-for-byte return is owed to texts without the line" of the walk number
+  pub returns : writeRoom ≤ room → (text : List ℕ) (t : JobText) → readJobText text ≡ accepted t → t .walk ≡ missing → f ≡ formOf t → (s .result ≡ 0) × (s .bytes ≡ text)

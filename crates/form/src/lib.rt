@@ -43,11 +43,10 @@ fn answer_text(text: &[u8], out: &mut [u8]) -> Answer
 }
 
 // Writes the job text of a form: every number that is handed over and every byte of the output are the defined ones (`Replied`);
-// the text reads back as what the form states, and an accepted text comes back byte for byte (`WritePromise`).
+// the text reads back as what the form states, and an accepted text without a walk line comes back byte for byte (`WritePromise`).
 pub fn write(
     horizon: u32,
     idles: &[u32],
-    walk: u32,
     openings: &[u32],
     fees: &[u32],
     lives: &[u32],
@@ -59,16 +58,15 @@ pub fn write(
     prices: &[u32],
     out: &mut [u8],
 ) -> Answer
-    ensures { λ r. ⌜ Replied writeRoom (writeSaid (filled horizon (now (idles .entry)) walk (now (openings .entry)) (now (fees .entry)) (now (lives .entry)) (now (lefts .entry)) (now (covered .entry)) (now (removals .entry)) (now (insides .entry)) (now (holders .entry)) (now (prices .entry)))) (now (out .entry)) (now (out .exit)) r ⌝ }
-    ensures { λ _. ⌜ WritePromise (filled horizon (now (idles .entry)) walk (now (openings .entry)) (now (fees .entry)) (now (lives .entry)) (now (lefts .entry)) (now (covered .entry)) (now (removals .entry)) (now (insides .entry)) (now (holders .entry)) (now (prices .entry))) (length (now (out .entry)))
-        (lent writeRoom (length (now (out .entry))) (writeSaid (filled horizon (now (idles .entry)) walk (now (openings .entry)) (now (fees .entry)) (now (lives .entry)) (now (lefts .entry)) (now (covered .entry)) (now (removals .entry)) (now (insides .entry)) (now (holders .entry)) (now (prices .entry))))) ⌝ }
+    ensures { λ r. ⌜ Replied writeRoom (writeSaid (filled horizon (now (idles .entry)) (now (openings .entry)) (now (fees .entry)) (now (lives .entry)) (now (lefts .entry)) (now (covered .entry)) (now (removals .entry)) (now (insides .entry)) (now (holders .entry)) (now (prices .entry)))) (now (out .entry)) (now (out .exit)) r ⌝ }
+    ensures { λ _. ⌜ WritePromise (filled horizon (now (idles .entry)) (now (openings .entry)) (now (fees .entry)) (now (lives .entry)) (now (lefts .entry)) (now (covered .entry)) (now (removals .entry)) (now (insides .entry)) (now (holders .entry)) (now (prices .entry))) (length (now (out .entry)))
+        (lent writeRoom (length (now (out .entry))) (writeSaid (filled horizon (now (idles .entry)) (now (openings .entry)) (now (fees .entry)) (now (lives .entry)) (now (lefts .entry)) (now (covered .entry)) (now (removals .entry)) (now (insides .entry)) (now (holders .entry)) (now (prices .entry))))) ⌝ }
 {
     let mut text = [0u8; ROOM];
     let n = put_form(
         &mut text,
         horizon,
         idles,
-        walk,
         openings,
         fees,
         lives,

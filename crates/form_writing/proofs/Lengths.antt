@@ -88,24 +88,23 @@ opening-short : (o : Opening) → length (openingText o) ≤ 34
 unfolding openingText bytes
 opening-short o = omega (arith, length-append (lineOf "opening=" (o .step)) (lineOf "fee=" (o .fee)), short "opening=" 8 (o .step) refl, short "fee=" 4 (o .fee) refl)
 
-rest-short : (w : ℕ) (os fs : List ℕ) (x : PartLists) → length (restCut w os fs x) ≤ 25061
+rest-short : (os fs : List ℕ) (x : PartLists) → length (restCut os fs x) ≤ 25045
 unfolding restCut bodyCut bytes
-rest-short w os fs x =
-    let body = counted-short "openings=" 9 refl 64 (feesAgree os fs) (length os) (bodyCut os fs x) 25025 (λ low a. omega (
+rest-short os fs x =
+    counted-short "openings=" 9 refl 64 (feesAgree os fs) (length os) (bodyCut os fs x) 25025 (λ low a. omega (
       arith,
       low,
       length-append (texts openingText (paired os fs)) (partsCut (length os) x),
       paired-size os fs (eqb-true (length fs) (length os) a),
       texts-short (λ _. Unit {0}) openingText 34 (λ o _. opening-short o) (paired os fs) (all-any (paired os fs)),
       parts-short (length os) x low,
-    )) in
-    omega (arith, length-append (lineOf "walk=" w) (countedCut "openings=" 64 (feesAgree os fs) (length os) (bodyCut os fs x)), short "walk=" 5 w refl, body)
+    ))
 
 idles-short : (is : List ℕ) → length (optionalText idlesCut (idleLines is)) ≤ 5857
 unfolding idleLines idlesCut bytes
 idles-short [] = omega arith
 idles-short (i ∷ is) = counted-short "idles=" 6 refl 365 true (length (i ∷ is)) (texts (lineOf "idle=") (i ∷ is)) 5840 (λ low a. omega (arith, low, lines-short "idle=" 5 refl (i ∷ is)))
 
-pub cut-short : (h : ℕ) (is : List ℕ) (w : ℕ) (os fs : List ℕ) (x : PartLists) → length (formCut h is w os fs x) ≤ longestCut
+pub cut-short : (h : ℕ) (is os fs : List ℕ) (x : PartLists) → length (formCut h is os fs x) ≤ longestCut
 unfolding formCut bytes
-cut-short h is w os fs x = simp length-append (omega (arith, short "horizon=" 8 h refl, idles-short is, rest-short w os fs x))
+cut-short h is os fs x = simp length-append (omega (arith, short "horizon=" 8 h refl, idles-short is, rest-short os fs x))

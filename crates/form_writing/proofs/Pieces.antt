@@ -77,11 +77,11 @@ module _ (n : ℕ) (x : PartLists) where
 
 -- ---- openings
 
-module _ (w : ℕ) (os fs : List ℕ) (x : PartLists) where
-  pub rest-in : length os ≤ 64 → length fs ≡ length os → restCut w os fs x ≡ lineOf "walk=" w ++ (lineOf "openings=" (length os) ++ bodyCut os fs x)
+module _ (os fs : List ℕ) (x : PartLists) where
+  pub rest-in : length os ≤ 64 → length fs ≡ length os → restCut os fs x ≡ lineOf "openings=" (length os) ++ bodyCut os fs x
   unfolding restCut
-  rest-in few e = ap (λ (t : List ℕ). lineOf "walk=" w ++ t) (counted-in "openings=" 64 (feesAgree os fs) (length os) (bodyCut os fs x) few (eq-eqb (length fs) (length os) e))
+  rest-in few e = counted-in "openings=" 64 (feesAgree os fs) (length os) (bodyCut os fs x) few (eq-eqb (length fs) (length os) e)
 
-  pub rest-out : (length os ≤ 64 → length fs ≡ length os → ⊥) → restCut w os fs x ≡ lineOf "walk=" w ++ lineOf "openings=" 65
+  pub rest-out : (length os ≤ 64 → length fs ≡ length os → ⊥) → restCut os fs x ≡ lineOf "openings=" 65
   unfolding restCut
-  rest-out no-good = ap (λ (t : List ℕ). lineOf "walk=" w ++ t) (counted-out "openings=" 64 (feesAgree os fs) (length os) (bodyCut os fs x) (λ few e. no-good few (eqb-true (length fs) (length os) e)))
+  rest-out no-good = counted-out "openings=" 64 (feesAgree os fs) (length os) (bodyCut os fs x) (λ few e. no-good few (eqb-true (length fs) (length os) e))

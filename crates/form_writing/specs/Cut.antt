@@ -41,14 +41,14 @@ partsCut n x = countedCut "parts=" mostParts (partsAgree n x) (length (x .lives)
 unfoldable pub bodyCut : List ℕ → List ℕ → PartLists → List ℕ
 bodyCut os fs x = texts openingText (paired os fs) ++ partsCut (length os) x
 
--- from the `walk` line on
-unfoldable pub restCut : ℕ → List ℕ → List ℕ → PartLists → List ℕ
-restCut w os fs x = lineOf "walk=" w ++ countedCut "openings=" mostOpenings (feesAgree os fs) (length os) (bodyCut os fs x)
+-- from the `openings` line on
+unfoldable pub restCut : List ℕ → List ℕ → PartLists → List ℕ
+restCut os fs x = countedCut "openings=" mostOpenings (feesAgree os fs) (length os) (bodyCut os fs x)
 
 -- the whole
-unfoldable pub formCut : ℕ → List ℕ → ℕ → List ℕ → List ℕ → PartLists → List ℕ
-formCut h is w os fs x = lineOf "horizon=" h ++ optionalText idlesCut (idleLines is) ++ restCut w os fs x
+unfoldable pub formCut : ℕ → List ℕ → List ℕ → List ℕ → PartLists → List ℕ
+formCut h is os fs x = lineOf "horizon=" h ++ optionalText idlesCut (idleLines is) ++ restCut os fs x
 
 -- the most bytes that it has
 abbrev pub longestCut : ℕ
-longestCut = 30937
+longestCut = 30921

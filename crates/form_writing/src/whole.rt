@@ -45,11 +45,10 @@ fn put_body(
     )
 }
 
-// Puts the text from the walk number on: the number of openings, and what follows it if they are not too many and have as many fees.
+// Puts the text from the number of openings on: the number, and what follows it if they are not too many and have as many fees.
 fn put_rest(
     out: &mut [u8],
     at: usize,
-    walk: u32,
     openings: &[u32],
     fees: &[u32],
     lives: &[u32],
@@ -60,21 +59,20 @@ fn put_rest(
     holders: &[u32],
     prices: &[u32],
 ) -> usize
-    requires { ⌜ at + length (restCut walk (now openings) (now fees) (partLists (now lives) (now lefts) (now covered) (now removals) (now insides) (now holders) (now prices))) ≤ length (now out) ⌝ }
-    ensures { λ r. ⌜ Wrote (now (out .entry)) at (restCut walk (now (openings .entry)) (now (fees .entry)) (partLists (now (lives .entry)) (now (lefts .entry)) (now (covered .entry)) (now (removals .entry)) (now (insides .entry)) (now (holders .entry)) (now (prices .entry)))) (now (out .exit)) r ⌝ }
+    requires { ⌜ at + length (restCut (now openings) (now fees) (partLists (now lives) (now lefts) (now covered) (now removals) (now insides) (now holders) (now prices))) ≤ length (now out) ⌝ }
+    ensures { λ r. ⌜ Wrote (now (out .entry)) at (restCut (now (openings .entry)) (now (fees .entry)) (partLists (now (lives .entry)) (now (lefts .entry)) (now (covered .entry)) (now (removals .entry)) (now (insides .entry)) (now (holders .entry)) (now (prices .entry)))) (now (out .exit)) r ⌝ }
 {
-    let a = put_line(out, at, b"walk=", walk as u64);
     let n = openings.len();
     if (Job::MAX_OPENINGS as usize) < n {
-        return put_line(out, a, b"openings=", 65);
+        return put_line(out, at, b"openings=", 65);
     }
     if fees.len() != n {
-        return put_line(out, a, b"openings=", 65);
+        return put_line(out, at, b"openings=", 65);
     }
-    let b = put_line(out, a, b"openings=", n as u64);
+    let a = put_line(out, at, b"openings=", n as u64);
     put_body(
         out,
-        b,
+        a,
         openings,
         fees,
         lives,
@@ -92,7 +90,6 @@ pub fn put_form(
     out: &mut [u8],
     horizon: u32,
     idles: &[u32],
-    walk: u32,
     openings: &[u32],
     fees: &[u32],
     lives: &[u32],
@@ -103,15 +100,14 @@ pub fn put_form(
     holders: &[u32],
     prices: &[u32],
 ) -> usize
-    requires { ⌜ length (formCut horizon (now idles) walk (now openings) (now fees) (partLists (now lives) (now lefts) (now covered) (now removals) (now insides) (now holders) (now prices))) ≤ length (now out) ⌝ }
-    ensures { λ r. ⌜ Wrote (now (out .entry)) 0 (formCut horizon (now (idles .entry)) walk (now (openings .entry)) (now (fees .entry)) (partLists (now (lives .entry)) (now (lefts .entry)) (now (covered .entry)) (now (removals .entry)) (now (insides .entry)) (now (holders .entry)) (now (prices .entry)))) (now (out .exit)) r ⌝ }
+    requires { ⌜ length (formCut horizon (now idles) (now openings) (now fees) (partLists (now lives) (now lefts) (now covered) (now removals) (now insides) (now holders) (now prices))) ≤ length (now out) ⌝ }
+    ensures { λ r. ⌜ Wrote (now (out .entry)) 0 (formCut horizon (now (idles .entry)) (now (openings .entry)) (now (fees .entry)) (partLists (now (lives .entry)) (now (lefts .entry)) (now (covered .entry)) (now (removals .entry)) (now (insides .entry)) (now (holders .entry)) (now (prices .entry)))) (now (out .exit)) r ⌝ }
 {
     let a = put_line(out, 0, b"horizon=", horizon as u64);
     let b = put_idles(out, a, idles);
     put_rest(
         out,
         b,
-        walk,
         openings,
         fees,
         lives,

@@ -17,7 +17,7 @@ use Rattle.part_lines.specs.Grammar.{PartText, meantPart, part, following}
 use Rattle.part_lines.specs.Rendering.{partText}
 use Rattle.part_lines.specs.Valid.{KnownPart}
 use Rattle.part_lines.proofs.Accepted.{part-tells}
-use Rattle.job_grammar.specs.Valid.{Valid, Some, ValidText}
+use Rattle.job_grammar.specs.Valid.{Valid, Some, Allowed, ValidText}
 
 -- ---- steps that rise
 
@@ -113,11 +113,11 @@ parts-chained m n k (p ∷ ps) v h = ((v .0, h .0), parts-chained m n (suc k) ps
 
 -- ---- the whole
 
-abbrev KnownJob : ℕ → Optional (List ℕ) → ℕ → ℕ → JobText → Type 0
+abbrev KnownJob : ℕ → Optional (List ℕ) → Optional ℕ → ℕ → JobText → Type 0
 KnownJob h is w n t =
     (2 ≤ h → h ≤ 365 → KnownIdles h is → n ≤ 64 → ValidJob (meant t .job)) × (t .walk ≡ w) × (t .horizon ≡ h) × (t .idles ≡ is) × (length (t .openings) ≡ n)
 
-body-tells : (h : ℕ) (is : Optional (List ℕ)) (w n : ℕ) → Tells (body h is w n) (KnownJob h is w n) bodyText
+body-tells : (h : ℕ) (is : Optional (List ℕ)) (w : Optional ℕ) (n : ℕ) → Tells (body h is w n) (KnownJob h is w n) bodyText
 unfolding body openings parts return bodyText
 body-tells h is w n s s′ l l′ g e =
     let b = bind-inv (openings h n) _ s s′ l l′ g e in
@@ -162,16 +162,23 @@ body-tells h is w n s s′ l l′ g e =
           ∙ ap (λ (r : List ℕ). texts partText (f .a) ++ r) y)));
     })
 
+walk-tells : Tells (optional "walk=" 0 4000000000) Allowed (optionalText (lineOf "walk="))
+walk-tells s s′ l l′ o e = go o (optional-inv _ 0 4000000000 s s′ l l′ o e)
+  where
+    go : (o : Optional ℕ) → Optionally (bytes "walk=") 0 4000000000 s s′ l l′ o → Told Allowed (optionalText (lineOf "walk=")) s s′ o
+    go missing f = record { known = tt; text = f }
+    go (present w) f = record { known = row-gives _ 0 4000000000 s s′ l l′ w f .1; text = row-sound _ 0 4000000000 s s′ l l′ w f }
+
 pub lines-tell : Tells jobLines ValidText jobText
 unfolding jobLines rest jobText
 lines-tell s s′ l l′ g e =
     let b = bind-inv (row "horizon=" 2 365) _ s s′ l l′ g e in
     let c = bind-inv (idles (b .a)) _ (b .mid) s′ (b .at) l′ g (b .second) in
-    let d = bind-inv (row "walk=" 0 4000000000) _ (c .mid) s′ (c .at) l′ g (c .second) in
+    let d = bind-inv (optional "walk=" 0 4000000000) _ (c .mid) s′ (c .at) l′ g (c .second) in
     let f = bind-inv (row "openings=" 0 64) _ (d .mid) s′ (d .at) l′ g (d .second) in
     let k₁ = row-gives _ 2 365 s (b .mid) l (b .at) (b .a) (b .first) in
     let steps = idles-tell (b .a) (b .mid) (c .mid) (b .at) (c .at) (c .a) (c .first) in
-    let k₂ = row-gives _ 0 4000000000 (c .mid) (d .mid) (c .at) (d .at) (d .a) (d .first) in
+    let line = walk-tells (c .mid) (d .mid) (c .at) (d .at) (d .a) (d .first) in
     let k₃ = row-gives _ 0 64 (d .mid) (f .mid) (d .at) (f .at) (f .a) (f .first) in
     let t = body-tells (b .a) (c .a) (d .a) (f .a) (f .mid) s′ (f .at) l′ g (f .second) in
     let h : b .a ≡ g .horizon = sym (t .known .2) in
@@ -180,8 +187,9 @@ lines-tell s s′ l l′ g e =
     let n : f .a ≡ length (g .openings) = sym (t .known .4) in
     record {
       known = record {
-        means = record { walk = subst (λ (m : ℕ). m ≤ 4000000000) w (k₂ .1); job = t .known .0 (k₁ .0) (k₁ .1) (steps .known) (k₃ .1) };
+        means = record { job = t .known .0 (k₁ .0) (k₁ .1) (steps .known) (k₃ .1) };
         idles = subst Some is (steps .known .2);
+        walk = subst Allowed w (line .known);
       };
       text = simp append-assoc
           (row-sound _ 2 365 s (b .mid) l (b .at) (b .a) (b .first)
@@ -190,9 +198,9 @@ lines-tell s s′ l l′ g e =
           (steps .text
           ∙ ap (λ (xs : Optional (List ℕ)). optionalText idlesText xs ++ c .mid) is
           ∙ ap (λ (r : List ℕ). optionalText idlesText (g .idles) ++ r)
-          (row-sound _ 0 4000000000 (c .mid) (d .mid) (c .at) (d .at) (d .a) (d .first)
-          ∙ ap (λ (m : ℕ). lineOf "walk=" m ++ d .mid) w
-          ∙ ap (λ (r : List ℕ). lineOf "walk=" (g .walk) ++ r)
+          (line .text
+          ∙ ap (λ (o : Optional ℕ). optionalText (lineOf "walk=") o ++ d .mid) w
+          ∙ ap (λ (r : List ℕ). optionalText (lineOf "walk=") (g .walk) ++ r)
           (row-sound _ 0 64 (d .mid) (f .mid) (d .at) (f .at) (f .a) (f .first)
           ∙ ap (λ (m : ℕ). lineOf "openings=" m ++ f .mid) n
           ∙ ap (λ (r : List ℕ). lineOf "openings=" (length (g .openings)) ++ r) (t .text)))));

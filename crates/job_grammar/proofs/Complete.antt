@@ -24,7 +24,7 @@ use Rattle.part_lines.proofs.Behind.{behind-none, parts-behind}
 use Rattle.part_lines.proofs.Complete.{part-complete}
 use Rattle.job_grammar.specs.Grammar.{JobText, idleIn, idle, idleSteps, idles, opening, openings, parts, body, rest, jobLines, maxBytes, readJobText}
 use Rattle.job_grammar.specs.Rendering.{idlesText, openingText, bodyText, jobText}
-use Rattle.job_grammar.specs.Valid.{Some, ValidText}
+use Rattle.job_grammar.specs.Valid.{Some, Allowed, ValidText}
 use Rattle.job_grammar.proofs.Accepted.{KnownStep, itself, KnownOpening, stepOf, parts-chained, valid-text, text-is}
 use Rattle.job_grammar.proofs.Lengths.{text-fits}
 
@@ -102,10 +102,20 @@ body-complete t v s l next =
           ∙ bind-good (openings h n) _ (a .1) ∙ bind-good (row "parts=" 1 16) _ (b .1) ∙ bind-good (parts (length (t .parts)) n) _ (c .1),
     )
 
--- what follows the idle steps, if any, is the walk line
-pub walk-next : (w : ℕ) (s : List ℕ) → startsWith (bytes "idles=") (lineOf "walk=" w ++ s) ≡ false
+-- what follows the idle steps, if any, is the walk line or the number of openings
+pub walk-next : (w : Optional ℕ) (n : ℕ) (s : List ℕ) → startsWith (bytes "idles=") (optionalText (lineOf "walk=") w ++ (lineOf "openings=" n ++ s)) ≡ false
 unfolding startsWith line bytes
-walk-next w s = refl
+walk-next missing n s = refl
+walk-next (present w) n s = refl
+
+-- and what follows the walk line, if any, is the number of openings
+pub openings-next : (n : ℕ) (s : List ℕ) → startsWith (bytes "walk=") (lineOf "openings=" n ++ s) ≡ false
+unfolding startsWith line bytes
+openings-next n s = refl
+
+walk-complete : (o : Optional ℕ) → Allowed o → (s : List ℕ) (l : ℕ) → startsWith (bytes "walk=") s ≡ false → (l′ : ℕ) × (optional "walk=" 0 4000000000 (optionalText (lineOf "walk=") o ++ s) l ≡ good o s l′)
+walk-complete missing v s l e = (l, optional-missing _ 0 4000000000 s l e)
+walk-complete (present w) v s l e = optional-present (bytes "walk=") 0 4000000000 (omega arith) w (omega arith, v) s l
 
 -- with anything behind its lines that may stand behind a part's
 pub lines-back : (t : JobText) → ValidText t → (s : List ℕ) (l : ℕ) → Behind s → (l′ : ℕ) × (jobLines (jobText t ++ s) l ≡ good t s l′)
@@ -114,18 +124,18 @@ lines-back t v s l next =
     let j = v .means .job in
     let h = lineOf "horizon=" (t .horizon) in
     let is = optionalText idlesText (t .idles) in
-    let w = lineOf "walk=" (t .walk) in
+    let w = optionalText (lineOf "walk=") (t .walk) in
     let n = lineOf "openings=" (length (t .openings)) in
     let r = bodyText t in
     let a = row-complete (bytes "horizon=") 2 365 (omega arith) (t .horizon) (j .horizon-low, j .horizon-high) (is ++ (w ++ (n ++ (r ++ s)))) l in
-    let b = idles-complete (t .horizon) (t .idles) (j .horizon-high) (j .few-idles) (j .idles) (v .idles) (w ++ (n ++ (r ++ s))) (a .0) (walk-next (t .walk) (n ++ (r ++ s))) in
-    let c = row-complete (bytes "walk=") 0 4000000000 (omega arith) (t .walk) (omega arith, v .means .walk) (n ++ (r ++ s)) (b .0) in
+    let b = idles-complete (t .horizon) (t .idles) (j .horizon-high) (j .few-idles) (j .idles) (v .idles) (w ++ (n ++ (r ++ s))) (a .0) (walk-next (t .walk) (length (t .openings)) (r ++ s)) in
+    let c = walk-complete (t .walk) (v .walk) (n ++ (r ++ s)) (b .0) (openings-next (length (t .openings)) (r ++ s)) in
     let d = row-complete (bytes "openings=") 0 64 (omega arith) (length (t .openings)) (omega arith, j .few-openings) (r ++ s) (c .0) in
     let f = body-complete t v s (d .0) next in (
       f .0,
       ap (λ (x : List ℕ). jobLines x l) (append-assoc (h ++ is ++ w ++ n) r s ∙ append-assoc (h ++ is ++ w) n (r ++ s) ∙ append-assoc (h ++ is) w (n ++ (r ++ s)) ∙ append-assoc h is (w ++ (n ++ (r ++ s))))
           ∙ bind-good (row "horizon=" 2 365) _ (a .1) ∙ bind-good (idles (t .horizon)) _ (b .1)
-          ∙ bind-good (row "walk=" 0 4000000000) _ (c .1) ∙ bind-good (row "openings=" 0 64) _ (d .1) ∙ f .1,
+          ∙ bind-good (optional "walk=" 0 4000000000) _ (c .1) ∙ bind-good (row "openings=" 0 64) _ (d .1) ∙ f .1,
     )
 
 pub read-back : (t : JobText) → ValidText t → readJobText (jobText t) ≡ accepted t

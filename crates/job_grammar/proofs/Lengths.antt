@@ -19,7 +19,7 @@ use Rattle.part_lines.specs.Valid.{KnownPart}
 use Rattle.part_lines.proofs.Lengths.{mostPart, texts-short, part-short}
 use Rattle.job_grammar.specs.Grammar.{JobText, idleIn, maxBytes}
 use Rattle.job_grammar.specs.Rendering.{idlesText, openingText, bodyText, jobText}
-use Rattle.job_grammar.specs.Valid.{ValidText}
+use Rattle.job_grammar.specs.Valid.{Allowed, ValidText}
 use Rattle.job_grammar.proofs.Accepted.{parts-chained}
 
 -- the longest job text
@@ -102,13 +102,17 @@ parts-short m n i (p ∷ ps) few most h v =
 
 -- ---- the text
 
+walk-short : (o : Optional ℕ) → Allowed o → length (optionalText (lineOf "walk=") o) ≤ 16
+walk-short missing v = omega arith
+walk-short (present w) v = omega (arith, key-length, line-short (bytes "walk=") 9 w (omega (arith, v)))
+
 pub text-short : (t : JobText) → ValidText t → length (jobText t) ≤ longest
 unfolding jobText bodyText joined
 text-short t v =
     let j = v .means .job in
     let h = lineOf "horizon=" (t .horizon) in
     let is = optionalText idlesText (t .idles) in
-    let w = lineOf "walk=" (t .walk) in
+    let w = optionalText (lineOf "walk=") (t .walk) in
     let n = lineOf "openings=" (length (t .openings)) in
     let os = texts openingText (t .openings) in
     let m = lineOf "parts=" (length (t .parts)) in
@@ -120,7 +124,7 @@ text-short t v =
       key-length,
       line-short (bytes "horizon=") 2 (t .horizon) (omega (arith, j .horizon-high)),
       idles-short (t .horizon) (t .idles) (j .horizon-high) (j .few-idles) (j .idles),
-      line-short (bytes "walk=") 9 (t .walk) (omega (arith, v .means .walk)),
+      walk-short (t .walk) (v .walk),
       line-short (bytes "openings=") 1 (length (t .openings)) (omega (arith, j .few-openings)),
       texts-short ValidOpening openingText 24 opening-short (t .openings) (j .openings),
       line-short (bytes "parts=") 1 (length (t .parts)) (omega (arith, j .few-parts, size)),

@@ -47,7 +47,7 @@ partsAfter before (suc n) = longestPart (suc before) ∷ partsAfter (suc before)
 
 -- every step idle, the last 64 steps openings, sixteen parts
 pub longestText : JobText
-longestText = record { horizon = 365; idles = present (stepsAfter 0 365); walk = 4000000000; openings = openingsAfter 301 64; parts = partsAfter 0 16 }
+longestText = record { horizon = 365; idles = present (stepsAfter 0 365); walk = present 4000000000; openings = openingsAfter 301 64; parts = partsAfter 0 16 }
 
 pub reached : length (jobText longestText) ≡ longest
 unfolding longestText longestPart partsAfter others stepsAfter openingsAfter jobText bodyText idlesText openingText partText coverText line bytes decimalIn
@@ -125,7 +125,6 @@ pub longest-valid : ValidText longestText
 unfolding longestText partsAfter stepsAfter openingsAfter
 longest-valid = record {
   means = record {
-    walk = omega arith;
     job = record {
       horizon-low = omega arith;
       horizon-high = omega arith;
@@ -141,4 +140,5 @@ longest-valid = record {
     };
   };
   idles = omega arith;
+  walk = omega arith;
 }

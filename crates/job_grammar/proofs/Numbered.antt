@@ -51,7 +51,7 @@ unfolding opening
 opening-numbers h before =
     bind-numbers JobFault _ _ (step-numbers _ h before) (λ o. bind-numbers JobFault _ _ (line-numbers _ 0 1000000) (λ f. return-numbers JobFault _))
 
-body-numbers : (h : ℕ) (is : Optional (List ℕ)) (w n : ℕ) → Numbers JobFault (body h is w n)
+body-numbers : (h : ℕ) (is : Optional (List ℕ)) (w : Optional ℕ) (n : ℕ) → Numbers JobFault (body h is w n)
 unfolding body openings parts
 body-numbers h is w n =
     bind-numbers JobFault _ _ (chain-numbers JobFault (opening h) _ (opening-numbers h) n 0)
@@ -63,7 +63,7 @@ unfolding jobLines rest
 lines-numbers =
     bind-numbers JobFault _ _ (line-numbers _ 2 365)
     (λ h. bind-numbers JobFault _ _ (idles-numbers h)
-    (λ is. bind-numbers JobFault _ _ (line-numbers _ 0 4000000000)
+    (λ is. bind-numbers JobFault _ _ (optional-numbers JobFault two three _ 0 4000000000)
     (λ w. bind-numbers JobFault _ _ (line-numbers _ 0 64) (λ n. body-numbers h is w n))))
 
 pub fault : (s : List ℕ) (n l : ℕ) → readJob s ≡ refused n l → JobFault n × (l ≤ maxBytes + 1)

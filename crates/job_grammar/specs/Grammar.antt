@@ -1,5 +1,6 @@
 -- X3. The job's lines: "`horizon` 2..365; `walk` 0..4000000000; `openings` 0..64; for each, `opening` 1..365 and `fee` 0..1000000;
 -- `parts` 1..16; for each" the lines of a part (`part_lines`).
+-- E10. "A job's `walk` line, if it still stands, is checked as before and set aside."
 -- E1.2. "After `horizon` a job may have `idles` 1..365 and that many `idle` lines, 1..365, rising and within the horizon; without the line no step is idle."
 use Prim.Native.Nat.{ℕ}
 use mathlib.Core.List.{List, [], map}
@@ -14,13 +15,12 @@ use Rattle.part_lines.specs.Grammar.{PartText, meantPart, part, following}
 pub record JobText : Type 0 where
   pub horizon : ℕ
   pub idles : Optional (List ℕ)
-  pub walk : ℕ
+  pub walk : Optional ℕ
   pub openings : List Opening
   pub parts : List PartText
 
--- what a job text means: the job, and beside it the walk number
+-- what a job text means: the job. E10. a `walk` line is "set aside"
 pub record Given : Type 0 where
-  pub walk : ℕ
   pub job : Job
 
 -- E1.2. "without the line no step is idle"
@@ -28,9 +28,9 @@ abbrev pub idleIn : Optional (List ℕ) → List ℕ
 idleIn missing = []
 idleIn (present is) = is
 
--- the job and the walk number that the lines mean
+-- the job that the lines mean
 abbrev pub meant : JobText → Given
-meant t = record { walk = t .walk; job = record { horizon = t .horizon; idles = idleIn (t .idles); openings = t .openings; parts = map meantPart (t .parts) } }
+meant t = record { job = record { horizon = t .horizon; idles = idleIn (t .idles); openings = t .openings; parts = map meantPart (t .parts) } }
 
 -- E1.2, E1.3. an idle step after step `before` and within the horizon h, else number 4
 unfoldable pub idle : ℕ → ℕ → Parser ℕ
@@ -62,7 +62,7 @@ unfoldable pub parts : ℕ → ℕ → Parser (List PartText)
 parts m n = chain (part m n) following m 1
 
 -- what follows the number n of openings
-unfoldable pub body : ℕ → Optional (List ℕ) → ℕ → ℕ → Parser JobText
+unfoldable pub body : ℕ → Optional (List ℕ) → Optional ℕ → ℕ → Parser JobText
 body h is w n = do
   os ← openings h n
   m ← row "parts=" 1 mostParts
@@ -72,7 +72,7 @@ body h is w n = do
 -- what follows the idle steps
 unfoldable pub rest : ℕ → Optional (List ℕ) → Parser JobText
 rest h is = do
-  w ← row "walk=" 0 mostWalk
+  w ← optional "walk=" 0 mostWalk
   n ← row "openings=" 0 mostOpenings
   body h is w n
 
@@ -92,6 +92,6 @@ abbrev pub meaning : Outcome JobText → Outcome Given
 meaning (accepted t) = accepted (meant t)
 meaning (refused n l) = refused n l
 
--- the job and the walk number that a whole text means, or its first fault's number and line
+-- the job that a whole text means, or its first fault's number and line
 abbrev pub readJob : List ℕ → Outcome Given
 readJob s = meaning (readJobText s)

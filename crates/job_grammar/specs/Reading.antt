@@ -6,7 +6,7 @@ use Rattle.lines.specs.Parser.{accepted}
 use Rattle.model.specs.Model.{Job}
 use Rattle.job_grammar.specs.Grammar.{Given, readJob}
 
--- the job text says a job and a walk number
+-- the job text says a job
 pub record Reading (text : List ℕ) : Type 0 where
   pub given : Given
   pub is : readJob text ≡ accepted given
@@ -15,7 +15,3 @@ module _ {text : List ℕ} where
   -- the job that it says
   abbrev pub jobIn : Reading text → Job
   jobIn r = r .given .job
-
-  -- its walk number
-  abbrev pub walkIn : Reading text → ℕ
-  walkIn r = r .given .walk

@@ -19,6 +19,6 @@ openingText o = lineOf "opening=" (o .step) ++ lineOf "fee=" (o .fee)
 unfoldable pub bodyText : JobText → List ℕ
 bodyText t = texts openingText (t .openings) ++ lineOf "parts=" (length (t .parts)) ++ texts partText (t .parts)
 
--- the lines of a job in the text's order; the counts are the lists' lengths
+-- the lines of a job in the text's order, that of the walk number where it stands; the counts are the lists' lengths
 unfoldable pub jobText : JobText → List ℕ
-jobText t = lineOf "horizon=" (t .horizon) ++ optionalText idlesText (t .idles) ++ lineOf "walk=" (t .walk) ++ lineOf "openings=" (length (t .openings)) ++ bodyText t
+jobText t = lineOf "horizon=" (t .horizon) ++ optionalText idlesText (t .idles) ++ optionalText (lineOf "walk=") (t .walk) ++ lineOf "openings=" (length (t .openings)) ++ bodyText t

@@ -7,9 +7,8 @@ use Rattle.model.specs.Limits.{mostWalk}
 use Rattle.jobs.specs.Valid.{ValidJob}
 use Rattle.job_grammar.specs.Grammar.{JobText, Given, meant}
 
--- the job and the walk number that it means
+-- the job that it means
 pub record Valid (g : Given) : Type 0 where
-  pub walk : g .walk ≤ mostWalk
   pub job : ValidJob (g .job)
 
 -- "`idles` 1..365": where idle steps are written there are some
@@ -17,7 +16,13 @@ abbrev pub Some : Optional (List ℕ) → Type 0
 Some missing = Unit {0}
 Some (present is) = 1 ≤ length is
 
+-- E10. "checked as before": a walk number that is written is in its range
+abbrev pub Allowed : Optional ℕ → Type 0
+Allowed missing = Unit {0}
+Allowed (present w) = w ≤ mostWalk
+
 -- what it says
 pub record ValidText (t : JobText) : Type 0 where
   pub means : Valid (meant t)
   pub idles : Some (t .idles)
+  pub walk : Allowed (t .walk)

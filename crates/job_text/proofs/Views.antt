@@ -27,7 +27,7 @@ refuse r h e = record { reads = fault-read _ (h .0) e; means = h .1; sized = h .
 pub text-means : (t : code.JobText) → map meantPart (textOf t .parts) ≡ jobOf (t .job) .parts → meant (textOf t) ≡ givenOf t
 text-means t e =
     let f = sym (idle-steps (jobOf (t .job) .idles)) in
-    λ i. record { walk = t .walk; job = record { horizon = t .job .horizon; idles = f i; openings = jobOf (t .job) .openings; parts = e i } }
+    λ i. record { job = record { horizon = t .job .horizon; idles = f i; openings = jobOf (t .job) .openings; parts = e i } }
 
 -- no parts, and no lines of them
 pub none-mean : (t : code.JobText) → jobOf (t .job) ≡ emptyJob → meant (textOf t) ≡ givenOf t

@@ -11,7 +11,7 @@ use Rattle.jobs.specs.Views.{jobOf, Sized}
 use Rattle.job_text.specs.declared.whole.JobText.{JobText}
 use Rattle.job_text.specs.declared.whole.JobLines.{JobLines}
 use Rattle.job_text.specs.declared.whole.JobRead.{JobRead}
-use Rattle.job_grammar.specs.Optionals.{idleLines}
+use Rattle.job_grammar.specs.Optionals.{idleLines, walkLine}
 use Rattle.part_lines.specs.Views.{partsLines}
 
 -- what a text says that the struct holds
@@ -19,14 +19,14 @@ abbrev pub textOf : JobText → grammar.JobText
 textOf t = record {
   horizon = t .job .horizon;
   idles = idleLines (jobOf (t .job) .idles);
-  walk = t .walk;
+  walk = walkLine (t .«walk_there») (t .walk);
   openings = jobOf (t .job) .openings;
   parts = partsLines (take (t .job .«part_count») (t .said)) (jobOf (t .job) .parts);
 }
 
 -- and what it means
 abbrev pub givenOf : JobText → Given
-givenOf t = record { walk = t .walk; job = jobOf (t .job) }
+givenOf t = record { job = jobOf (t .job) }
 
 -- the lines r were read: they are what the grammar gives, and mean the job that is there
 pub record LinesRead (s : List ℕ) (r : JobLines) (x : Parsed grammar.JobText) : Type 0 where

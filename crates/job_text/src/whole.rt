@@ -3,6 +3,8 @@ use job_sections::idles::Idles;
 use job_sections::idles::read_idles;
 use job_sections::openings::read_openings;
 use job_sections::parts::read_parts;
+use job_sections::walk::WalkRead;
+use job_sections::walk::read_walk;
 use jobs::Job;
 use lines::read::read_field;
 use lines::rows::Cursor;
@@ -18,13 +20,14 @@ ghost use lib.ListN.{drop};
 ghost use Rattle.lines.specs.Cursor.{Stands};
 ghost use Rattle.jobs.specs.Views.{Sized};
 ghost use Rattle.job_sections.specs.Views.{idlesOf};
-ghost use Rattle.job_grammar.specs.Optionals.{idleLines};
+ghost use Rattle.job_grammar.specs.Optionals.{idleLines, walkLine};
 ghost use Rattle.job_text.specs.Views.{textOf, givenOf, LinesRead, TextRead};
 ghost use Rattle.job_grammar.specs.Grammar.{meant, body, rest, jobLines, readJobText};
 ghost use Rattle.model.specs.Limits.{lastStep, mostOpenings};
 
-// What a job text says: the walk number, what its parts' lines say, and the job that it means.
+// What a job text says: whether a walk line stands and its number, what its parts' lines say, and the job that it means.
 pub struct JobText {
+    pub walk_there: bool,
     pub walk: u32,
     pub said: [PartSaid; 16],
     pub job: Job,
@@ -48,6 +51,7 @@ fn no_text() -> JobText
 {
     let nothing = PartSaid::nothing();
     JobText {
+        walk_there: false,
         walk: 0,
         said: [nothing; 16],
         job: Job::empty(),
@@ -65,9 +69,16 @@ fn no_job(k: u32, line: usize) -> JobLines
 }
 
 // What follows the number n of openings.
-fn read_body(text: &[u8], p: Cursor, horizon: u32, steps: Idles, walk: u32, n: usize) -> JobLines
+fn read_body(
+    text: &[u8],
+    p: Cursor,
+    horizon: u32,
+    steps: Idles,
+    line: WalkRead,
+    n: usize,
+) -> JobLines
     requires { ⌜ Stands (now text) p × (steps .count ≤ lastStep) × (n ≤ mostOpenings) ⌝ }
-    ensures { λ r. ⌜ LinesRead (now (text .entry)) r (body horizon (idleLines (idlesOf steps)) walk n (drop (p .at) (now (text .entry))) (p .line)) ⌝ }
+    ensures { λ r. ⌜ LinesRead (now (text .entry)) r (body horizon (idleLines (idlesOf steps)) (walkLine (line .there) (line .walk)) n (drop (p .at) (now (text .entry))) (p .line)) ⌝ }
 {
     let os = read_openings(text, p, horizon, n);
     let os_end = os.end;
@@ -95,7 +106,12 @@ fn read_body(text: &[u8], p: Cursor, horizon: u32, steps: Idles, walk: u32, n: u
                     let said = ps.said;
                     JobLines {
                         end,
-                        text: JobText { walk, said, job },
+                        text: JobText {
+                            walk_there: line.there,
+                            walk: line.walk,
+                            said,
+                            job,
+                        },
                     }
                 }
                 Row::Fault { number: k, line: l } => no_job(k, l),
@@ -110,18 +126,18 @@ fn read_rest(text: &[u8], p: Cursor, horizon: u32, steps: Idles) -> JobLines
     requires { ⌜ Stands (now text) p × (steps .count ≤ lastStep) ⌝ }
     ensures { λ r. ⌜ LinesRead (now (text .entry)) r (rest horizon (idleLines (idlesOf steps)) (drop (p .at) (now (text .entry))) (p .line)) ⌝ }
 {
-    let at = p.at;
-    let field = read_field(&text[at..], b"walk=", 0, Job::MAX_WALK);
-    match advance(text, p, field) {
-        Row::Value(walk, q) => {
+    let line = read_walk(text, p);
+    let line_end = line.end;
+    match line_end {
+        End::At(q) => {
             let at = q.at;
             let field = read_field(&text[at..], b"openings=", 0, Job::MAX_OPENINGS);
             match advance(text, q, field) {
-                Row::Value(n, r) => read_body(text, r, horizon, steps, walk, n as usize),
+                Row::Value(n, r) => read_body(text, r, horizon, steps, line, n as usize),
                 Row::Fault { number: k, line: l } => no_job(k, l),
             }
         }
-        Row::Fault { number: k, line: l } => no_job(k, l),
+        End::Fault { number: k, line: l } => no_job(k, l),
     }
 }
 

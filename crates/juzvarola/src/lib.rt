@@ -20,7 +20,7 @@ ghost use Rattle.juzvarola.specs.Version.{versionNumber};
 // The version's three numbers, as the header's macros have them.
 const MAJOR: u32 = 0;
 
-const MINOR: u32 = 8;
+const MINOR: u32 = 9;
 
 const PATCH: u32 = 0;
 
@@ -32,13 +32,13 @@ pub extern "C" fn juzvarola_version() -> u32
     MAJOR * 1000000 + MINOR * 1000 + PATCH
 }
 
-// Plans a job text.
+// Plans a job text, walked up to a walk number.
 #[no_mangle]
-pub extern "C" fn juzvarola_plan(job: &[u8], out: &mut [u8]) -> Answer
-    ensures { λ r. ⌜ Replied planRoom (planSaid (now (job .entry))) (now (out .entry)) (now (out .exit)) r ⌝ }
-    ensures { λ _. ⌜ PlanPromise (now (job .entry)) (length (now (out .entry))) (lent planRoom (length (now (out .entry))) (planSaid (now (job .entry)))) ⌝ }
+pub extern "C" fn juzvarola_plan(job: &[u8], walk: u64, out: &mut [u8]) -> Answer
+    ensures { λ r. ⌜ Replied planRoom (planSaid (now (job .entry)) walk) (now (out .entry)) (now (out .exit)) r ⌝ }
+    ensures { λ _. ⌜ PlanPromise (now (job .entry)) walk (length (now (out .entry))) (lent planRoom (length (now (out .entry))) (planSaid (now (job .entry)) walk)) ⌝ }
 {
-    planning::plan(job, out)
+    planning::plan(job, walk, out)
 }
 
 // Weighs a plan text against a job text.
@@ -66,7 +66,6 @@ pub extern "C" fn juzvarola_latest(job: &[u8], plan: &[u8], out: &mut [u8]) -> A
 pub extern "C" fn juzvarola_write(
     horizon: u32,
     idles: &[u32],
-    walk: u32,
     openings: &[u32],
     fees: &[u32],
     lives: &[u32],
@@ -78,14 +77,13 @@ pub extern "C" fn juzvarola_write(
     prices: &[u32],
     out: &mut [u8],
 ) -> Answer
-    ensures { λ r. ⌜ Replied writeRoom (writeSaid (filled horizon (now (idles .entry)) walk (now (openings .entry)) (now (fees .entry)) (now (lives .entry)) (now (lefts .entry)) (now (covered .entry)) (now (removals .entry)) (now (insides .entry)) (now (holders .entry)) (now (prices .entry)))) (now (out .entry)) (now (out .exit)) r ⌝ }
-    ensures { λ _. ⌜ WritePromise (filled horizon (now (idles .entry)) walk (now (openings .entry)) (now (fees .entry)) (now (lives .entry)) (now (lefts .entry)) (now (covered .entry)) (now (removals .entry)) (now (insides .entry)) (now (holders .entry)) (now (prices .entry))) (length (now (out .entry)))
-        (lent writeRoom (length (now (out .entry))) (writeSaid (filled horizon (now (idles .entry)) walk (now (openings .entry)) (now (fees .entry)) (now (lives .entry)) (now (lefts .entry)) (now (covered .entry)) (now (removals .entry)) (now (insides .entry)) (now (holders .entry)) (now (prices .entry))))) ⌝ }
+    ensures { λ r. ⌜ Replied writeRoom (writeSaid (filled horizon (now (idles .entry)) (now (openings .entry)) (now (fees .entry)) (now (lives .entry)) (now (lefts .entry)) (now (covered .entry)) (now (removals .entry)) (now (insides .entry)) (now (holders .entry)) (now (prices .entry)))) (now (out .entry)) (now (out .exit)) r ⌝ }
+    ensures { λ _. ⌜ WritePromise (filled horizon (now (idles .entry)) (now (openings .entry)) (now (fees .entry)) (now (lives .entry)) (now (lefts .entry)) (now (covered .entry)) (now (removals .entry)) (now (insides .entry)) (now (holders .entry)) (now (prices .entry))) (length (now (out .entry)))
+        (lent writeRoom (length (now (out .entry))) (writeSaid (filled horizon (now (idles .entry)) (now (openings .entry)) (now (fees .entry)) (now (lives .entry)) (now (lefts .entry)) (now (covered .entry)) (now (removals .entry)) (now (insides .entry)) (now (holders .entry)) (now (prices .entry))))) ⌝ }
 {
     form::write(
         horizon,
         idles,
-        walk,
         openings,
         fees,
         lives,

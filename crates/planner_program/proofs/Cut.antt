@@ -14,11 +14,11 @@ use Rattle.whole_input.specs.Limits.{limitOf}
 use Rattle.whole_input.proofs.Cut.{cut}
 
 -- number 1 of the job text, which has no line: of all texts over the limit
-over : (s t : List ℕ) → limitOf Job < length s → limitOf Job < length t → planSaid s ≡ planSaid t
+over : (s t : List ℕ) (walk : ℕ) → limitOf Job < length s → limitOf Job < length t → planSaid s walk ≡ planSaid t walk
 unfolding planSaid faultSpan
-over s t h k =
-    ap (λ (x : Outcome JobText). onJob s (meaning x)) (sym (text-long (limitOf Job) jobLines s h))
-    ∙ ap (λ (x : Outcome JobText). onJob t (meaning x)) (text-long (limitOf Job) jobLines t k)
+over s t walk h k =
+    ap (λ (x : Outcome JobText). onJob s walk (meaning x)) (sym (text-long (limitOf Job) jobLines s h))
+    ∙ ap (λ (x : Outcome JobText). onJob t walk (meaning x)) (text-long (limitOf Job) jobLines t k)
 
-pub same : (s : List ℕ) → planSaid (take (suc (limitOf Job)) s) ≡ planSaid s
-same s = ⊎-elim (λ e. ap planSaid e) (λ h. over _ s (h .0) (h .1)) (cut (limitOf Job) s)
+pub same : (s : List ℕ) (walk : ℕ) → planSaid (take (suc (limitOf Job)) s) walk ≡ planSaid s walk
+same s walk = ⊎-elim (λ e. ap (λ (t : List ℕ). planSaid t walk) e) (λ h. over _ s walk (h .0) (h .1)) (cut (limitOf Job) s)

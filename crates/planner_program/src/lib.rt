@@ -1,4 +1,4 @@
-// The planner's program: a job is read, planned, and the answer printed.
+// The planner's program: a job is read, planned with the largest walk number, and the answer printed.
 use answer_output::Printout;
 use answer_output::print_answer;
 use jobs::Job;
@@ -14,6 +14,6 @@ pub fn plan_input(fd: i32) -> Printout
     let mut job = [0u8; Job::MAX_BYTES + 1];
     let n = read_whole(fd, Text::Job, &mut job);
     let mut out = [0u8; planning::ROOM];
-    let a = planning::plan(&job[..n], &mut out);
+    let a = planning::plan(&job[..n], Job::MAX_WALK as u64, &mut out);
     print_answer(a, &out, b"planner: the answer can't be written")
 }

@@ -42,16 +42,16 @@ module _ (text : List ℕ) (given : Given) (is : readJob text ≡ accepted given
       rw (is) (rw (reads-back) (rw (best-accepted job Among cost plan best) refl))
 
 -- what is written for an answer that keeps the promise: behind `floor` its plan
-module _ (text : List ℕ) (given : Given) (is : readJob text ≡ accepted given) where
-  pub prints : (a : PlannerAnswer) → Promise (given .job) (given .walk) a → Prints text (given .job) (saidFor (given .job) a) a
+module _ (text : List ℕ) (given : Given) (is : readJob text ≡ accepted given) (limit : ℕ) where
+  pub prints : (a : PlannerAnswer) → Promise (given .job) limit a → Prints text (given .job) (saidFor (given .job) a) a
   unfolding plannedLines
   prints no-plan p = tt
   prints (cut-none n f) p = refl
   prints (cut n f c q) p = record {
     lines = planLinesOf (given .job) c q;
     written = refl;
-    reads-back = reads-back text given is (Walked (given .job) (given .walk)) c q (p .plan-for);
-    judged = judge-accepts text given is (Walked (given .job) (given .walk)) c q (p .plan-for);
+    reads-back = reads-back text given is (Walked (given .job) limit) c q (p .plan-for);
+    judged = judge-accepts text given is (Walked (given .job) limit) c q (p .plan-for);
   }
   prints (optimum n f c q) p = record {
     lines = planLinesOf (given .job) c q;

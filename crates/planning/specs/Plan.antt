@@ -1,8 +1,9 @@
--- What the planner says of a job text. R20. "Order: 8; then the job text [..]; then 6 before 7".
-use Prim.Native.Nat.{ℕ}
+-- What the planner says of a job text and the walk number of the call. R20. "Order: 8; then the job text [..]; then 6 before 7".
+use Prim.Native.Nat.{ℕ, min}
 use mathlib.Core.List.{List, _++_}
 use Rattle.lines.specs.Text.{lineOf}
 use Rattle.lines.specs.Parser.{Outcome, accepted, refused}
+use Rattle.model.specs.Limits.{mostWalk}
 use Rattle.model.specs.Model.{Job, Plan}
 use Rattle.model.specs.Limits.{answerRoom}
 use Rattle.model.specs.Promise.{PlannerAnswer, no-plan, cut-none, cut, optimum, resultOf, answerOf}
@@ -29,14 +30,18 @@ linesOf job (optimum nodes floor cost plan) = plannedLines 0 nodes floor job cos
 abbrev pub saidFor : Job → PlannerAnswer → Said
 saidFor job a = plainly (resultOf a) (linesOf job a)
 
--- by what the job text reads as: the answer at its walk number, or the fault
-abbrev pub onJob : List ℕ → Outcome Given → Said
-onJob text (accepted given) = saidFor (given .job) (answerOf (given .job) (given .walk))
-onJob text (refused number line) = refusal 1 text number line
+-- E10. the walk number that the host gives with the call: "a number above 4000000000 counts as 4000000000"
+abbrev pub walkNumber : ℕ → ℕ
+walkNumber walk = min walk mostWalk
+
+-- by what the job text reads as: the answer at the walk number of the call, or the fault
+abbrev pub onJob : List ℕ → ℕ → Outcome Given → Said
+onJob text walk (accepted given) = saidFor (given .job) (answerOf (given .job) (walkNumber walk))
+onJob text walk (refused number line) = refusal 1 text number line
 
 -- the planner's answer where there is room for it
-unfoldable pub planSaid : List ℕ → Said
-planSaid text = onJob text (readJob text)
+unfoldable pub planSaid : List ℕ → ℕ → Said
+planSaid text walk = onJob text walk (readJob text)
 
 -- X8. "The lent output has at least 16,384."
 abbrev pub planRoom : ℕ

@@ -22,7 +22,7 @@ ghost use Rattle.jobs.specs.Views.{jobOf, planFor};
 ghost use Rattle.jobs.specs.Valid.{Sound};
 ghost use Rattle.search.specs.Found.{planFound, saidIn};
 ghost use Rattle.answers.specs.Said.{Printable, lent, Replied};
-ghost use Rattle.planning.specs.Plan.{plannedLines, linesOf, saidFor, planSaid, planRoom};
+ghost use Rattle.planning.specs.Plan.{plannedLines, linesOf, saidFor, walkNumber, planSaid, planRoom};
 ghost use Rattle.planning.specs.Finding.{answerIn, Fits};
 ghost use Rattle.planning.specs.Promise.{PlanPromise};
 
@@ -122,6 +122,16 @@ fn answer(f: Finding, job: Job, plan: Plan, out: &mut [u8]) -> Answer
     Answer::plain(number_of(f), n)
 }
 
+// The walk number of a call: above the limit it counts as the limit.
+fn walk_number(walk: u64) -> u32
+    ensures { λ r. ⌜ r ≡ walkNumber walk ⌝ }
+{
+    if (Job::MAX_WALK as u64) < walk {
+        return Job::MAX_WALK;
+    }
+    walk as u32
+}
+
 // The plan of an accepted job.
 fn plan_job(job: Job, walk: u32, out: &mut [u8]) -> Answer
     requires { ⌜ Sound job × (walk ≤ mostWalk) ⌝ }
@@ -133,12 +143,12 @@ fn plan_job(job: Job, walk: u32, out: &mut [u8]) -> Answer
     answer(finding_of(found), job, Plan { stops, changes }, out)
 }
 
-// The plan of a job text: every number that is handed over and every byte of the output are the defined ones (`Replied`). The answer is 6 exactly if
-// the job is accepted and has no plan, 7 exactly if it has one and its whole walk has more nodes than its walk number; with 0 the plan printed keeps
+// The plan of a job text, walked up to the walk number of the call: every number that is handed over and every byte of the output are the defined ones (`Replied`). The answer is 6 exactly if
+// the job is accepted and has no plan, 7 exactly if it has one and its whole walk has more nodes than the walk number; with 0 the plan printed keeps
 // every life, states its true cost, costs no more than any plan of the model that keeps every life, and is the tie rule's choice (`PlanPromise`).
-pub fn plan(job: &[u8], out: &mut [u8]) -> Answer
-    ensures { λ r. ⌜ Replied planRoom (planSaid (now (job .entry))) (now (out .entry)) (now (out .exit)) r ⌝ }
-    ensures { λ _. ⌜ PlanPromise (now (job .entry)) (length (now (out .entry))) (lent planRoom (length (now (out .entry))) (planSaid (now (job .entry)))) ⌝ }
+pub fn plan(job: &[u8], walk: u64, out: &mut [u8]) -> Answer
+    ensures { λ r. ⌜ Replied planRoom (planSaid (now (job .entry)) walk) (now (out .entry)) (now (out .exit)) r ⌝ }
+    ensures { λ _. ⌜ PlanPromise (now (job .entry)) walk (length (now (out .entry))) (lent planRoom (length (now (out .entry))) (planSaid (now (job .entry)) walk)) ⌝ }
 {
     let read = read_job(job);
     let verdict = read.verdict;
@@ -146,7 +156,7 @@ pub fn plan(job: &[u8], out: &mut [u8]) -> Answer
         WholeText::Fault { number, line } => refuse(job, 1, number, line, ROOM, out),
         WholeText::Good => {
             let accepted = read.text.job;
-            plan_job(accepted, read.text.walk, out)
+            plan_job(accepted, walk_number(walk), out)
         }
     }
 }

@@ -18,9 +18,10 @@ pub data Call : Type 0 where
   judge : Call
   latest : Call
 
--- a case: the call and its texts; the bytes written, the numbers handed over, and the line at fault
+-- a case: the call, its walk number (the planner's) and its texts; the bytes written, the numbers handed over, and the line at fault
 pub record Case : Type 0 where
   pub call : Call
+  pub walk : ℕ
   pub job : List ℕ
   pub plan : List ℕ
   pub written : List ℕ
@@ -31,10 +32,10 @@ pub record Case : Type 0 where
   pub fault : List ℕ
 
 -- what the public contracts say of the call, with just the room that it needs
-abbrev pub saidBy : Call → List ℕ → List ℕ → Said
-saidBy planner job plan = lent planRoom planRoom (planSaid job)
-saidBy judge job plan = lent judgeRoom judgeRoom (judgeSaid job plan)
-saidBy latest job plan = lent latestRoom latestRoom (latestSaid job plan)
+abbrev pub saidBy : Call → ℕ → List ℕ → List ℕ → Said
+saidBy planner walk job plan = lent planRoom planRoom (planSaid job walk)
+saidBy judge walk job plan = lent judgeRoom judgeRoom (judgeSaid job plan)
+saidBy latest walk job plan = lent latestRoom latestRoom (latestSaid job plan)
 
 -- the text at fault: 1 the job, 2 the plan
 abbrev pub textAt : ℕ → List ℕ → List ℕ → List ℕ
@@ -43,7 +44,7 @@ textAt which job plan = cond (eqb which 1) job plan
 -- the bytes, the numbers and the line at fault of a case are those of its call
 abbrev pub Holds : Case → Type 0
 Holds c =
-    let said = saidBy (c .call) (c .job) (c .plan) in
+    let said = saidBy (c .call) (c .walk) (c .job) (c .plan) in
     (said .bytes ≡ c .written)
     × (numbers said .result ≡ c .result)
     × (numbers said .text ≡ c .text)
@@ -70,12 +71,13 @@ Counts c =
     × (said .count ≡ c .count)
     × (take (said .«fault_length») (drop (said .«fault_start») (c .job)) ≡ c .fault)
 
--- C1 to C12, and cases of ours of E1, E5, E7 and E9
+-- C1 to C12, and cases of ours of E1, E5, E7, E9 and E10
 unfoldable pub cases : List Case
 cases =
     -- 01's job
     record {
       call = planner;
+      walk = 11;
       job = bytes "horizon=6\nwalk=11\nopenings=4\nopening=2\nfee=10\nopening=3\nfee=10\nopening=4\nfee=10\nopening=5\nfee=10\nparts=2\nlife=3\nleft=2\nprice=5\nprice=5\nprice=5\nprice=5\nlife=4\nleft=4\nprice=7\nprice=7\nprice=7\nprice=7\n";
       plan = bytes "";
       written = bytes "result=0\nnodes=11\nfloor=37\ncost=37\nstops=2\nstop=2\ncount=1\npart=1\nstop=4\ncount=2\npart=1\npart=2\n";
@@ -86,10 +88,11 @@ cases =
       fault = bytes "";
     }
     ∷
-    -- `walk=10`: 7, nodes 10, floor 17 (37 by E4), the same plan
+    -- walk number 10: 7, nodes 10, floor 17 (37 by E4), the same plan
     record {
       call = planner;
-      job = bytes "horizon=6\nwalk=10\nopenings=4\nopening=2\nfee=10\nopening=3\nfee=10\nopening=4\nfee=10\nopening=5\nfee=10\nparts=2\nlife=3\nleft=2\nprice=5\nprice=5\nprice=5\nprice=5\nlife=4\nleft=4\nprice=7\nprice=7\nprice=7\nprice=7\n";
+      walk = 10;
+      job = bytes "horizon=6\nwalk=11\nopenings=4\nopening=2\nfee=10\nopening=3\nfee=10\nopening=4\nfee=10\nopening=5\nfee=10\nparts=2\nlife=3\nleft=2\nprice=5\nprice=5\nprice=5\nprice=5\nlife=4\nleft=4\nprice=7\nprice=7\nprice=7\nprice=7\n";
       plan = bytes "";
       written = bytes "result=7\nnodes=10\nfloor=37\ncost=37\nstops=2\nstop=2\ncount=1\npart=1\nstop=4\ncount=2\npart=1\npart=2\n";
       result = 7;
@@ -99,10 +102,11 @@ cases =
       fault = bytes "";
     }
     ∷
-    -- `walk=8`: 7, cost 44, both parts at 2 and 5
+    -- walk number 8: 7, cost 44, both parts at 2 and 5
     record {
       call = planner;
-      job = bytes "horizon=6\nwalk=8\nopenings=4\nopening=2\nfee=10\nopening=3\nfee=10\nopening=4\nfee=10\nopening=5\nfee=10\nparts=2\nlife=3\nleft=2\nprice=5\nprice=5\nprice=5\nprice=5\nlife=4\nleft=4\nprice=7\nprice=7\nprice=7\nprice=7\n";
+      walk = 8;
+      job = bytes "horizon=6\nwalk=11\nopenings=4\nopening=2\nfee=10\nopening=3\nfee=10\nopening=4\nfee=10\nopening=5\nfee=10\nparts=2\nlife=3\nleft=2\nprice=5\nprice=5\nprice=5\nprice=5\nlife=4\nleft=4\nprice=7\nprice=7\nprice=7\nprice=7\n";
       plan = bytes "";
       written = bytes "result=7\nnodes=8\nfloor=37\ncost=44\nstops=2\nstop=2\ncount=2\npart=1\npart=2\nstop=5\ncount=2\npart=1\npart=2\n";
       result = 7;
@@ -112,10 +116,11 @@ cases =
       fault = bytes "";
     }
     ∷
-    -- `walk=6`: 7, no plan
+    -- walk number 6: 7, no plan
     record {
       call = planner;
-      job = bytes "horizon=6\nwalk=6\nopenings=4\nopening=2\nfee=10\nopening=3\nfee=10\nopening=4\nfee=10\nopening=5\nfee=10\nparts=2\nlife=3\nleft=2\nprice=5\nprice=5\nprice=5\nprice=5\nlife=4\nleft=4\nprice=7\nprice=7\nprice=7\nprice=7\n";
+      walk = 6;
+      job = bytes "horizon=6\nwalk=11\nopenings=4\nopening=2\nfee=10\nopening=3\nfee=10\nopening=4\nfee=10\nopening=5\nfee=10\nparts=2\nlife=3\nleft=2\nprice=5\nprice=5\nprice=5\nprice=5\nlife=4\nleft=4\nprice=7\nprice=7\nprice=7\nprice=7\n";
       plan = bytes "";
       written = bytes "result=7\nnodes=6\nfloor=37\n";
       result = 7;
@@ -125,9 +130,38 @@ cases =
       fault = bytes "";
     }
     ∷
+    -- E10: no walk line, and a walk number above the limit, which counts as the limit and not modulo 2³²
+    record {
+      call = planner;
+      walk = 4294967296;
+      job = bytes "horizon=6\nopenings=0\nparts=1\nlife=7\nleft=7\n";
+      plan = bytes "";
+      written = bytes "result=0\nnodes=1\nfloor=0\ncost=0\nstops=0\n";
+      result = 0;
+      text = 0;
+      line = 0;
+      length = 40;
+      fault = bytes "";
+    }
+    ∷
+    -- E10: a walk line is "checked as before": 3 on its line
+    record {
+      call = planner;
+      walk = 11;
+      job = bytes "horizon=6\nwalk=4000000001\nopenings=4\nopening=2\nfee=10\nopening=3\nfee=10\nopening=4\nfee=10\nopening=5\nfee=10\nparts=2\nlife=3\nleft=2\nprice=5\nprice=5\nprice=5\nprice=5\nlife=4\nleft=4\nprice=7\nprice=7\nprice=7\nprice=7\n";
+      plan = bytes "";
+      written = bytes "result=3\ntext=1\nline=2\n";
+      result = 3;
+      text = 1;
+      line = 2;
+      length = 23;
+      fault = bytes "walk=4000000001";
+    }
+    ∷
     -- `left=1` for part 1: 6
     record {
       call = planner;
+      walk = 11;
       job = bytes "horizon=6\nwalk=11\nopenings=4\nopening=2\nfee=10\nopening=3\nfee=10\nopening=4\nfee=10\nopening=5\nfee=10\nparts=2\nlife=3\nleft=1\nprice=5\nprice=5\nprice=5\nprice=5\nlife=4\nleft=4\nprice=7\nprice=7\nprice=7\nprice=7\n";
       plan = bytes "";
       written = bytes "result=6\n";
@@ -141,6 +175,7 @@ cases =
     -- all fees 0: cost 17, the same changes
     record {
       call = planner;
+      walk = 11;
       job = bytes "horizon=6\nwalk=11\nopenings=4\nopening=2\nfee=0\nopening=3\nfee=0\nopening=4\nfee=0\nopening=5\nfee=0\nparts=2\nlife=3\nleft=2\nprice=5\nprice=5\nprice=5\nprice=5\nlife=4\nleft=4\nprice=7\nprice=7\nprice=7\nprice=7\n";
       plan = bytes "";
       written = bytes "result=0\nnodes=11\nfloor=17\ncost=17\nstops=2\nstop=2\ncount=1\npart=1\nstop=4\ncount=2\npart=1\npart=2\n";
@@ -154,6 +189,7 @@ cases =
     -- `left=4` for part 1: 5, line 14
     record {
       call = planner;
+      walk = 11;
       job = bytes "horizon=6\nwalk=11\nopenings=4\nopening=2\nfee=10\nopening=3\nfee=10\nopening=4\nfee=10\nopening=5\nfee=10\nparts=2\nlife=3\nleft=4\nprice=5\nprice=5\nprice=5\nprice=5\nlife=4\nleft=4\nprice=7\nprice=7\nprice=7\nprice=7\n";
       plan = bytes "";
       written = bytes "result=5\ntext=1\nline=14\n";
@@ -167,6 +203,7 @@ cases =
     -- second opening 2: 4, line 6
     record {
       call = planner;
+      walk = 11;
       job = bytes "horizon=6\nwalk=11\nopenings=4\nopening=2\nfee=10\nopening=2\nfee=10\nopening=4\nfee=10\nopening=5\nfee=10\nparts=2\nlife=3\nleft=2\nprice=5\nprice=5\nprice=5\nprice=5\nlife=4\nleft=4\nprice=7\nprice=7\nprice=7\nprice=7\n";
       plan = bytes "";
       written = bytes "result=4\ntext=1\nline=6\n";
@@ -180,6 +217,7 @@ cases =
     -- judge, part 1 at 2, parts 1 and 2 at 3: 10, part 1, due 6
     record {
       call = judge;
+      walk = 0;
       job = bytes "horizon=6\nwalk=11\nopenings=4\nopening=2\nfee=10\nopening=3\nfee=10\nopening=4\nfee=10\nopening=5\nfee=10\nparts=2\nlife=3\nleft=2\nprice=5\nprice=5\nprice=5\nprice=5\nlife=4\nleft=4\nprice=7\nprice=7\nprice=7\nprice=7\n";
       plan = bytes "cost=0\nstops=2\nstop=2\ncount=1\npart=1\nstop=3\ncount=2\npart=1\npart=2\n";
       written = bytes "result=10\npart=1\ndue=6\n";
@@ -193,6 +231,7 @@ cases =
     -- judge, the printed plan with cost 36: 11, cost 37
     record {
       call = judge;
+      walk = 0;
       job = bytes "horizon=6\nwalk=11\nopenings=4\nopening=2\nfee=10\nopening=3\nfee=10\nopening=4\nfee=10\nopening=5\nfee=10\nparts=2\nlife=3\nleft=2\nprice=5\nprice=5\nprice=5\nprice=5\nlife=4\nleft=4\nprice=7\nprice=7\nprice=7\nprice=7\n";
       plan = bytes "cost=36\nstops=2\nstop=2\ncount=1\npart=1\nstop=4\ncount=2\npart=1\npart=2\n";
       written = bytes "result=11\ncost=37\n";
@@ -206,6 +245,7 @@ cases =
     -- one part, T = 6, no openings, life and left 7: cost 0, nodes 1, stops 0
     record {
       call = planner;
+      walk = 11;
       job = bytes "horizon=6\nwalk=11\nopenings=0\nparts=1\nlife=7\nleft=7\n";
       plan = bytes "";
       written = bytes "result=0\nnodes=1\nfloor=0\ncost=0\nstops=0\n";
@@ -219,6 +259,7 @@ cases =
     -- the same with life and left 6: 6
     record {
       call = planner;
+      walk = 11;
       job = bytes "horizon=6\nwalk=11\nopenings=0\nparts=1\nlife=6\nleft=6\n";
       plan = bytes "";
       written = bytes "result=6\n";
@@ -232,6 +273,7 @@ cases =
     -- E1: 01's job with step 3 idle: the tie rule's stops are 3 and 5
     record {
       call = planner;
+      walk = 15;
       job = bytes "horizon=6\nidles=1\nidle=3\nwalk=15\nopenings=4\nopening=2\nfee=10\nopening=3\nfee=10\nopening=4\nfee=10\nopening=5\nfee=10\nparts=2\nlife=3\nleft=2\nprice=5\nprice=5\nprice=5\nprice=5\nlife=4\nleft=4\nprice=7\nprice=7\nprice=7\nprice=7\n";
       plan = bytes "";
       written = bytes "result=0\nnodes=9\nfloor=37\ncost=37\nstops=2\nstop=3\ncount=1\npart=1\nstop=5\ncount=2\npart=1\npart=2\n";
@@ -245,6 +287,7 @@ cases =
     -- the plan of doing nothing: part 1 is due at the idle step
     record {
       call = judge;
+      walk = 0;
       job = bytes "horizon=6\nidles=1\nidle=3\nwalk=15\nopenings=4\nopening=2\nfee=10\nopening=3\nfee=10\nopening=4\nfee=10\nopening=5\nfee=10\nparts=2\nlife=3\nleft=2\nprice=5\nprice=5\nprice=5\nprice=5\nlife=4\nleft=4\nprice=7\nprice=7\nprice=7\nprice=7\n";
       plan = bytes "cost=0\nstops=0\n";
       written = bytes "result=10\npart=1\ndue=3\n";
@@ -258,6 +301,7 @@ cases =
     -- an idle line past the horizon is number 4, on its line
     record {
       call = planner;
+      walk = 15;
       job = bytes "horizon=6\nidles=1\nidle=7\nwalk=15\nopenings=0\nparts=1\nlife=7\nleft=7\n";
       plan = bytes "";
       written = bytes "result=4\ntext=1\nline=3\n";
@@ -271,6 +315,7 @@ cases =
     -- E5: 01's job and an empty plan text: 10, part 1, due 2
     record {
       call = judge;
+      walk = 0;
       job = bytes "horizon=6\nwalk=11\nopenings=4\nopening=2\nfee=10\nopening=3\nfee=10\nopening=4\nfee=10\nopening=5\nfee=10\nparts=2\nlife=3\nleft=2\nprice=5\nprice=5\nprice=5\nprice=5\nlife=4\nleft=4\nprice=7\nprice=7\nprice=7\nprice=7\n";
       plan = bytes "";
       written = bytes "result=10\npart=1\ndue=2\n";
@@ -284,6 +329,7 @@ cases =
     -- an empty plan text for a job whose parts all outlive the horizon: 0, cost 0
     record {
       call = judge;
+      walk = 0;
       job = bytes "horizon=6\nwalk=11\nopenings=1\nopening=2\nfee=10\nparts=2\nlife=7\nleft=7\nprice=5\nlife=9\nleft=8\nprice=7\n";
       plan = bytes "";
       written = bytes "result=0\ncost=0\n";
@@ -297,6 +343,7 @@ cases =
     -- E7: part 1 inside part 2, whose removal is decided: the floor is the root's, without it
     record {
       call = planner;
+      walk = 100000;
       job = bytes "horizon=4\nwalk=100000\nopenings=1\nopening=3\nfee=0\nparts=2\nlife=4\nleft=4\nremoval=6\ninside=1\nholder=2\nprice=6\nlife=4\nleft=3\nremoval=1\ninside=0\nprice=3\n";
       plan = bytes "";
       written = bytes "result=0\nnodes=5\nfloor=15\ncost=16\nstops=1\nstop=3\ncount=2\npart=1\npart=2\n";
@@ -310,6 +357,7 @@ cases =
     -- two parts that hold each other come out together
     record {
       call = planner;
+      walk = 38;
       job = bytes "horizon=2\nwalk=38\nopenings=1\nopening=1\nfee=0\nparts=2\nlife=7\nleft=1\nremoval=1\ninside=1\nholder=2\nprice=2\nlife=4\nleft=4\nremoval=0\ninside=1\nholder=1\nprice=1\n";
       plan = bytes "";
       written = bytes "result=0\nnodes=7\nfloor=2\ncost=3\nstops=1\nstop=1\ncount=1\npart=1\n";
@@ -323,6 +371,7 @@ cases =
     -- part 3 inside 2 inside 1: all three come out, and 66, by the direct rule, is not the cost
     record {
       call = judge;
+      walk = 0;
       job = bytes "horizon=2\nwalk=1\nopenings=1\nopening=1\nfee=1\nparts=3\nlife=3\nleft=3\nremoval=10\ninside=0\nprice=5\nlife=3\nleft=3\nremoval=20\ninside=1\nholder=1\nprice=5\nlife=3\nleft=1\nremoval=40\ninside=1\nholder=2\nprice=5\n";
       plan = bytes "cost=66\nstops=1\nstop=1\ncount=1\npart=3\n";
       written = bytes "result=11\ncost=76\n";
@@ -336,6 +385,7 @@ cases =
     -- a part that is its own holder: 12, on its line
     record {
       call = planner;
+      walk = 100000;
       job = bytes "horizon=4\nwalk=100000\nopenings=1\nopening=3\nfee=0\nparts=2\nlife=4\nleft=4\nremoval=6\ninside=1\nholder=1\nprice=6\nlife=4\nleft=3\nremoval=1\ninside=0\nprice=3\n";
       plan = bytes "";
       written = bytes "result=12\ntext=1\nline=11\n";
@@ -349,6 +399,7 @@ cases =
     -- E9: 01's job at the stops 2 and 4, whatever is changed there and at whatever cost: the planner's plan
     record {
       call = latest;
+      walk = 0;
       job = bytes "horizon=6\nwalk=11\nopenings=4\nopening=2\nfee=10\nopening=3\nfee=10\nopening=4\nfee=10\nopening=5\nfee=10\nparts=2\nlife=3\nleft=2\nprice=5\nprice=5\nprice=5\nprice=5\nlife=4\nleft=4\nprice=7\nprice=7\nprice=7\nprice=7\n";
       plan = bytes "cost=1\nstops=2\nstop=2\ncount=1\npart=2\nstop=4\ncount=0\n";
       written = bytes "result=0\ncost=37\nstops=2\nstop=2\ncount=1\npart=1\nstop=4\ncount=2\npart=1\npart=2\n";
@@ -362,6 +413,7 @@ cases =
     -- at the stops 2 and 5: both parts at both, cost 44
     record {
       call = latest;
+      walk = 0;
       job = bytes "horizon=6\nwalk=11\nopenings=4\nopening=2\nfee=10\nopening=3\nfee=10\nopening=4\nfee=10\nopening=5\nfee=10\nparts=2\nlife=3\nleft=2\nprice=5\nprice=5\nprice=5\nprice=5\nlife=4\nleft=4\nprice=7\nprice=7\nprice=7\nprice=7\n";
       plan = bytes "cost=0\nstops=2\nstop=2\ncount=0\nstop=5\ncount=0\n";
       written = bytes "result=0\ncost=44\nstops=2\nstop=2\ncount=2\npart=1\npart=2\nstop=5\ncount=2\npart=1\npart=2\n";

@@ -85,16 +85,15 @@ impl Unit {
 }
 
 impl Job {
-    /// Reads a job text that has no fault.
-    pub fn read(text: &[u8]) -> Job {
-        let mut job = Job::default();
+    /// Reads a job text that has no fault, for a walk of at most `walk` nodes.
+    pub fn read(text: &[u8], walk: u64) -> Job {
+        let mut job = Job { walk, ..Job::default() };
         for line in text.split(|byte| *byte == b'\n').filter(|line| !line.is_empty()) {
             let equals = line.iter().position(|byte| *byte == b'=').expect("key=value");
             let value = line[equals + 1..].iter().fold(0u64, |value, digit| value * 10 + u64::from(digit - b'0'));
             match &line[..equals] {
                 b"horizon" => job.horizon = value as i32,
                 b"idle" => job.idles.push(value as i32),
-                b"walk" => job.walk = value,
                 b"opening" => job.steps.push(value as i32),
                 b"fee" => job.fees.push(value as u32),
                 b"life" => job.parts.push(Part { life: value as i32, ..Part::default() }),

@@ -38,8 +38,8 @@ impl Reply {
     }
 }
 
-/// The planner, with an output of this length.
-pub fn plan(job_text: &[u8], output: usize) -> Reply {
+/// The planner with the walk number of the call and an output of this length. "A number above 4000000000 counts as 4000000000".
+pub fn plan(job_text: &[u8], walk: u64, output: usize) -> Reply {
     if output < LEAST_OUTPUT {
         return Reply::short_output();
     }
@@ -53,7 +53,7 @@ pub fn plan(job_text: &[u8], output: usize) -> Reply {
     };
     // "7: the walk has more points than `walk`." "Planner 0 and 7: `result`, `nodes` (points walked), `floor`, then the plan lines; with
     // 7 and no plan it ends after `floor`."
-    let walk = job.walk(job.walk);
+    let walk = job.walk(walk.min(4_000_000_000));
     let plan = walk.best.and_then(|(_, point)| job.plan_at(&point));
     let lines = plan.map_or(String::new(), |plan| plan_lines(&job, &plan));
     Reply::new(if walk.more { 7 } else { 0 }, &format!("nodes={}\nfloor={floor}\n{lines}", walk.nodes))

@@ -83,7 +83,6 @@ fn lines(form: &Form) -> Result<Text, Fault> {
             text.put_step("idle", *step, before(form.idles, at), form.horizon)?;
         }
     }
-    text.put("walk", u64::from(form.walk), 0, 4_000_000_000)?;
 
     text.put("openings", form.openings.len() as u64, 0, 64)?;
     // "Fees not as many as openings give 3 on the `openings` line".

@@ -26,7 +26,8 @@ pub struct Job {
     pub horizon: i64,
     /// The steps that don't run, rising.
     pub idles: Vec<i64>,
-    pub walk: u64,
+    /// The number of the `walk` line, which is set aside; none where no such line stands.
+    pub walk: Option<u64>,
     pub openings: Vec<Opening>,
     pub parts: Vec<Part>,
 }

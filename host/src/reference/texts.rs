@@ -9,7 +9,8 @@ pub fn read_job(text: &[u8]) -> Result<Job, Fault> {
     let mut lines = Lines::new(text)?;
     let horizon = lines.value("horizon", 2, 365)? as i64;
     let idles = read_idles(&mut lines, horizon)?;
-    let walk = lines.value("walk", 0, 4_000_000_000)?;
+    // "A job's `walk` line, if it still stands, is checked as before and set aside."
+    let walk = if lines.begins("walk=") { Some(lines.value("walk", 0, 4_000_000_000)?) } else { None };
 
     let count = lines.value("openings", 0, 64)?;
     let mut openings: Vec<Opening> = Vec::new();

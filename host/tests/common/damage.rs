@@ -140,8 +140,8 @@ pub fn plan(rng: &mut Rng, plan: &[u8]) -> Vec<u8> {
 }
 
 /// Whether a job text may be planned: refused, or of a walk that the reference walks in a short time.
-pub fn is_short(job: &[u8]) -> bool {
-    read_job(job).map_or(true, |job| job.walk <= MOST_NODES || !job.walk(MOST_NODES).more)
+pub fn is_short(job: &[u8], walk: u64) -> bool {
+    read_job(job).map_or(true, |job| walk <= MOST_NODES || !job.walk(MOST_NODES).more)
 }
 
 /// The length of an output: enough, now and then too short or longer.
@@ -153,7 +153,7 @@ pub fn room(rng: &mut Rng, enough: usize) -> usize {
     }
 }
 
-/// A call of the judge on these texts, of the planner where there is no plan.
-pub fn call(rng: &mut Rng, job: &[u8], plan: Option<&[u8]>) -> Call {
-    Call { job: job.to_vec(), plan: plan.map(<[u8]>::to_vec), output: room(rng, 16_384) }
+/// A call of the judge on these texts, of the planner with this walk number where there is no plan.
+pub fn call(rng: &mut Rng, job: &[u8], plan: Option<&[u8]>, walk: u64) -> Call {
+    Call { job: job.to_vec(), plan: plan.map(<[u8]>::to_vec), walk, output: room(rng, 16_384) }
 }

@@ -17,14 +17,13 @@ const COVERED: usize = 5;
 pub struct FormCall {
     pub output: usize,
     pub horizon: u32,
-    pub walk: u32,
     pub lists: [Vec<u32>; 10],
 }
 
 impl FormCall {
     pub fn form(&self) -> Form<'_> {
         let [idles, openings, fees, lives, lefts, covered, removals, insides, holders, prices] = &self.lists;
-        Form { horizon: self.horizon, idles, walk: self.walk, openings, fees, lives, lefts, covered, removals, insides, holders, prices }
+        Form { horizon: self.horizon, idles, openings, fees, lives, lefts, covered, removals, insides, holders, prices }
     }
 
     /// The form that has a job's facts.
@@ -43,7 +42,7 @@ impl FormCall {
             numbers(covers().flat_map(|cover| cover.1.clone()).collect()),
             numbers(facts.parts.iter().flat_map(|part| part.prices.clone()).collect()),
         ];
-        FormCall { output, horizon: facts.horizon as u32, walk: facts.walk as u32, lists }
+        FormCall { output, horizon: facts.horizon as u32, lists }
     }
 
     /// The same form with no lines of removals and holders.
@@ -135,8 +134,7 @@ fn damage(rng: &mut Rng, call: &mut FormCall) {
     let at = rng.below(LISTS.len() as u64) as usize;
     match rng.below(8) {
         0 => call.horizon = value(rng),
-        1 => call.walk = value(rng),
-        2 | 3 => resize(rng, &mut call.lists[at]),
+        1..=3 => resize(rng, &mut call.lists[at]),
         4 if call.lists[at].len() > 1 => {
             let place = rng.below(call.lists[at].len() as u64 - 1) as usize;
             call.lists[at].swap(place, place + 1);
@@ -166,8 +164,7 @@ pub fn random(rng: &mut Rng) -> FormCall {
         1..=5 => SIZES[1],
         _ => SIZES[0],
     };
-    let mut facts = inputs::facts(rng, size);
-    facts.walk = u64::from(rng.next() as u32) % (inputs::MOST_WALK + 1);
+    let facts = inputs::facts(rng, size);
     let output = match rng.below(12) {
         0 => rng.pick(&[0, 1, 100, 16_384, 32_766, 32_767]),
         1 => rng.within(32_769, 60_000) as usize,
@@ -190,7 +187,7 @@ pub fn damaged(rng: &mut Rng, facts: &Facts, output: usize) -> FormCall {
     call
 }
 
-/// A vector of `vectors/write.txt` or `vectors/write7.txt`: a call, and what it answers.
+/// A vector of `vectors/write*.txt`: a call, and what it answers.
 pub struct FormVector {
     pub call: FormCall,
     pub reply: Reply,
@@ -211,7 +208,7 @@ fn vector(line: &str) -> FormVector {
         lists[COVERED] = vec![0; lists[3].len()];
     }
     FormVector {
-        call: FormCall { output: number("out") as usize, horizon: number("horizon"), walk: number("walk"), lists },
+        call: FormCall { output: number("out") as usize, horizon: number("horizon"), lists },
         reply: Reply {
             result: number("result"),
             text: number("text"),
@@ -222,13 +219,36 @@ fn vector(line: &str) -> FormVector {
     }
 }
 
+/// A vector of before the walk number came with the call, without the walk line that the writer wrote then; none where the fault was that line's.
+fn without_walk(line: &str) -> Option<FormVector> {
+    let FormVector { call, mut reply } = vector(line);
+    if !line.contains(" walk=") {
+        return Some(FormVector { call, reply });
+    }
+    let idles = call.lists[0].len() as u32;
+    let own = if idles == 0 { 2 } else { 3 + idles };
+    let text = String::from_utf8(reply.bytes).expect("answers are ASCII");
+    reply.bytes = match reply.result {
+        0 => text.split_inclusive('\n').filter(|line| !line.starts_with("walk=")).collect::<String>(),
+        8 => text,
+        _ if reply.line == own => return None,
+        _ => {
+            let before = reply.line;
+            reply.line -= u32::from(before > own);
+            text.replace(&format!("\nline={before}\n"), &format!("\nline={}\n", reply.line))
+        }
+    }
+    .into_bytes();
+    Some(FormVector { call, reply })
+}
+
 pub fn vectors() -> Vec<FormVector> {
     let folder = Path::new(env!("CARGO_MANIFEST_DIR")).join("vectors");
-    let kept = if inputs::holders_on() { &["write.txt", "write7.txt"][..] } else { &["write.txt"] };
+    let kept = if inputs::holders_on() { &["write.txt", "write7.txt", "writewalk10.txt"][..] } else { &["write.txt"] };
     let files = match std::env::var("JUZVAROLA_FORMS") {
         Ok(file) => vec![file.into()],
         Err(_) => kept.iter().map(|file| folder.join(file)).collect::<Vec<PathBuf>>(),
     };
-    let read = |file: PathBuf| std::fs::read_to_string(file).expect("the forms' vectors").lines().map(vector).collect::<Vec<_>>();
+    let read = |file: PathBuf| std::fs::read_to_string(file).expect("the forms' vectors").lines().filter_map(without_walk).collect::<Vec<_>>();
     files.into_iter().flat_map(read).collect()
 }

@@ -1,10 +1,10 @@
 //! Cases of jobs with holders: the plans of tables 2, 3 and 4 of source document 001, and small ones worked out by hand.
 
 use super::paper::{text, Case};
-use super::Call;
+use super::{walk_of, Call};
 
 fn case(name: &'static str, job: &str, plan: Option<&str>, line: u32, answer: &'static str) -> Case {
-    Case { name, call: Call { job: text(job), plan: plan.map(text), output: 16_384 }, line, answer }
+    Case { name, call: Call { job: text(job), plan: plan.map(text), walk: walk_of(&text(job)), output: 16_384 }, line, answer }
 }
 
 /// Table 1 of 001: 50 steps, five parts, this fee.

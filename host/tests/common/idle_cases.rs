@@ -1,7 +1,7 @@
 //! Cases of jobs with idle steps, worked out by hand.
 
 use super::paper::{text, Case};
-use super::Call;
+use super::{walk_of, Call};
 
 /// The specification's job with steps 3 and 4 idle: openings 2, 3 and 4 come after two running steps, 5 after three.
 const JOB: &str = "horizon=6 idles=2 idle=3 idle=4 walk=9 openings=4 opening=2 fee=10 opening=3 fee=10 opening=4 fee=10 \
@@ -18,7 +18,7 @@ const EARLY: &str = "horizon=4 idles=2 idle=1 idle=2 walk=9 openings=1 opening=2
 const STILL: &str = "horizon=3 idles=3 idle=1 idle=2 idle=3 walk=9 openings=1 opening=2 fee=5 parts=1 life=1 left=1 price=4";
 
 fn case(name: &'static str, job: &str, plan: Option<&str>, line: u32, answer: &'static str) -> Case {
-    Case { name, call: Call { job: text(job), plan: plan.map(text), output: 16_384 }, line, answer }
+    Case { name, call: Call { job: text(job), plan: plan.map(text), walk: walk_of(&text(job)), output: 16_384 }, line, answer }
 }
 
 /// The job with the first `old` replaced.

@@ -2,10 +2,9 @@
 
 use super::rng::Rng;
 use super::{setting, Call};
-use juzvarola_host::reference;
+use juzvarola_host::{reference, MOST_WALK};
 use std::collections::BTreeSet;
 
-pub const MOST_WALK: u64 = 4_000_000_000;
 const OUTPUT: usize = 16_384;
 
 /// The facts of a job, and the text that states them.
@@ -14,7 +13,10 @@ pub struct Facts {
     pub horizon: u64,
     /// The idle steps, rising.
     pub idles: Vec<u64>,
+    /// The walk number of the call.
     pub walk: u64,
+    /// The number on the walk line, where it stands.
+    pub line: Option<u64>,
     /// Step and fee.
     pub openings: Vec<(u64, u64)>,
     pub parts: Vec<PartFacts>,
@@ -43,9 +45,10 @@ impl Facts {
         format!("idles={}\n{lines}", self.idles.len())
     }
 
-    /// The text with these lines after `horizon` and after `walk`.
+    /// The text with these lines after `horizon` and after the walk line, if any.
     fn text_with(&self, after_horizon: &str, after_walk: &str) -> Vec<u8> {
-        let mut text = format!("horizon={}\n{after_horizon}walk={}\n{after_walk}", self.horizon, self.walk);
+        let walk = self.line.map_or(String::new(), |walk| format!("walk={walk}\n"));
+        let mut text = format!("horizon={}\n{after_horizon}{walk}{after_walk}", self.horizon);
         text += &format!("openings={}\n", self.openings.len());
         for (step, fee) in &self.openings {
             text += &format!("opening={step}\nfee={fee}\n");
@@ -200,7 +203,7 @@ fn cover(rng: &mut Rng, parts: &mut [PartFacts]) {
     }
 }
 
-/// A job without faults; most have a plan. Its walk number is the largest.
+/// A job without faults; most have a plan. Its walk number is the largest, and half of the texts have a walk line.
 pub fn facts(rng: &mut Rng, size: Size) -> Facts {
     let horizon = rng.within(2, size.horizon);
     let mut steps: Vec<u64> = (1..=horizon).collect();
@@ -212,7 +215,8 @@ pub fn facts(rng: &mut Rng, size: Size) -> Facts {
     let idles = idle_steps(rng, horizon, &steps);
     let fees = amounts(rng, count, 0);
     let openings: Vec<(u64, u64)> = steps.into_iter().zip(fees).collect();
-    let mut facts = Facts { horizon, idles, walk: MOST_WALK, openings, parts: Vec::new() };
+    let line = rng.once_in(2).then(|| rng.pick(&[0, 1, 11, MOST_WALK]));
+    let mut facts = Facts { horizon, idles, walk: MOST_WALK, line, openings, parts: Vec::new() };
     let gap = facts.longest_gap();
     for _ in 0..rng.within(1, size.parts) {
         let life = match rng.below(12) {
@@ -257,7 +261,7 @@ fn largest(rng: &mut Rng) -> Facts {
     let most = 1_000_000;
     let openings: Vec<(u64, u64)> = (1..=64).map(|step| (step, most)).collect();
     let part = PartFacts { life: 1000, left: rng.within(60, 1000), cover: None, prices: vec![most; 64] };
-    let mut facts = Facts { horizon: rng.within(64, 70), idles: Vec::new(), walk: rng.within(0, 80), openings, parts: vec![part; 16] };
+    let mut facts = Facts { horizon: rng.within(64, 70), idles: Vec::new(), walk: rng.within(0, 80), line: None, openings, parts: vec![part; 16] };
     if holders_on() {
         facts.parts.iter_mut().zip(holders(rng, 16)).for_each(|(part, holders)| part.cover = Some((most, holders)));
     }
@@ -284,8 +288,8 @@ pub fn job(rng: &mut Rng) -> Facts {
 }
 
 /// The plan lines that the planner prints for the job, if there are any.
-pub fn printed_plan(job: &[u8]) -> Option<Vec<u8>> {
-    let bytes = reference::plan(job, OUTPUT).bytes;
+pub fn printed_plan(job: &[u8], walk: u64) -> Option<Vec<u8>> {
+    let bytes = reference::plan(job, walk, OUTPUT).bytes;
     let at = bytes.windows(5).position(|window| window == b"cost=")?;
     Some(bytes[at..].to_vec())
 }
@@ -300,7 +304,7 @@ fn random_plan(rng: &mut Rng, facts: &Facts, often: u64) -> Vec<u8> {
 
 /// A plan text for the job: printed by the planner or random, its cost at times not the true one.
 pub fn plan(rng: &mut Rng, facts: &Facts) -> Vec<u8> {
-    let printed = if rng.once_in(3) { printed_plan(&facts.text()) } else { None };
+    let printed = if rng.once_in(3) { printed_plan(&facts.text(), facts.walk) } else { None };
     let plan = printed.unwrap_or_else(|| {
         let often = rng.pick(&[5, 8, 9, 10, 10]);
         random_plan(rng, facts, often)
@@ -594,7 +598,7 @@ pub fn call_on_nothing(rng: &mut Rng) -> Call {
     let facts = job(rng);
     let job = if rng.once_in(4) { damaged_job(rng, &facts) } else { facts.text() };
     let output = if rng.once_in(10) { rng.pick(&[0, 1, 16_383]) } else { OUTPUT };
-    Call { job, plan: Some(Vec::new()), output }
+    Call { job, plan: Some(Vec::new()), walk: 0, output }
 }
 
 /// A call: the planner or the judge, on texts with or without faults, now and then with a short or a long output.
@@ -625,5 +629,5 @@ fn any_call(rng: &mut Rng) -> Call {
             (damaged_job(rng, &facts), Some(damaged(rng, plan)))
         }
     };
-    Call { job, plan, output }
+    Call { job, plan, walk: facts.walk, output }
 }

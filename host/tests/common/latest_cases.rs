@@ -5,7 +5,7 @@ use super::Call;
 
 pub fn cases() -> Vec<Case> {
     let case = |name, job: &str, plan: &str, line, answer| {
-        let call = Call { job: text(job), plan: Some(text(plan)), output: 16_384 };
+        let call = Call { job: text(job), plan: Some(text(plan)), walk: 0, output: 16_384 };
         Case { name, call, line, answer }
     };
     let bare = "cost=0 stops=2 stop=2 count=0 stop=4 count=0";

@@ -61,7 +61,7 @@ impl Lent {
 /// Makes the call by the library and compares everything it hands over with the reply.
 pub fn compare(rng: &mut Rng, call: &Call, reply: &Reply) -> Result<(), String> {
     compare_by(rng, call, reply, |job, plan, out| match call.plan {
-        None => juzvarola_host::plan(job, out),
+        None => juzvarola_host::plan(job, call.walk, out),
         Some(_) => juzvarola_host::judge(job, plan, out),
     })
 }
@@ -158,10 +158,10 @@ pub fn compare_count(rng: &mut Rng, text: &[u8], most: u64) -> Result<u32, Strin
     Ok(reply.result)
 }
 
-/// What the library's planner writes.
-pub fn planned(job: &[u8]) -> String {
+/// What the library's planner writes with this walk number.
+pub fn planned(job: &[u8], walk: u64) -> String {
     let mut out = vec![0xAA; 16_384];
-    let answer = juzvarola_host::plan(job, &mut out);
+    let answer = juzvarola_host::plan(job, walk, &mut out);
     String::from_utf8(out[..answer.length].to_vec()).expect("answers are ASCII")
 }
 

@@ -41,12 +41,22 @@ pub fn setting(name: &str, default: u64) -> u64 {
 pub struct Call {
     pub job: Vec<u8>,
     pub plan: Option<Vec<u8>>,
+    /// The planner's walk number.
+    pub walk: u64,
     pub output: usize,
+}
+
+/// The number on the walk line of a job text, which calls of before were made with; the largest where there is none.
+pub fn walk_of(job: &[u8]) -> u64 {
+    let lines = job.split(|byte| *byte == b'\n');
+    let number = |line: &[u8]| std::str::from_utf8(line.strip_prefix(b"walk=")?).ok()?.parse().ok();
+    lines.filter_map(number).next().unwrap_or(juzvarola_host::MOST_WALK)
 }
 
 impl std::fmt::Debug for Call {
     fn fmt(&self, f: &mut std::fmt::Formatter<'_>) -> std::fmt::Result {
         writeln!(f, "{} with an output of {} bytes", if self.plan.is_some() { "judge" } else { "plan" }, self.output)?;
+        writeln!(f, "walk number {}", self.walk)?;
         writeln!(f, "--- job ({} bytes)\n{}", self.job.len(), self.job.escape_ascii().to_string().replace("\\n", "\n"))?;
         let plan = self.plan.as_deref().unwrap_or_default();
         writeln!(f, "--- plan ({} bytes)\n{}", plan.len(), plan.escape_ascii().to_string().replace("\\n", "\n"))
@@ -70,7 +80,7 @@ impl Call {
     pub fn expected(&self) -> juzvarola_host::reference::Reply {
         use juzvarola_host::reference;
         match &self.plan {
-            None => reference::plan(&self.job, self.output),
+            None => reference::plan(&self.job, self.walk, self.output),
             Some(plan) => reference::judge(&self.job, plan, self.output),
         }
     }

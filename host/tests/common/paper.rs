@@ -1,6 +1,6 @@
 //! The cases that the specification gives.
 
-use super::Call;
+use super::{walk_of, Call};
 
 #[derive(Clone)]
 pub struct Case {
@@ -28,6 +28,9 @@ pub const JOB: &str = "horizon=6 walk=11 openings=4 opening=2 fee=10 opening=3 f
 
 const PLANNED: &str = "result=0 nodes=11 floor=37 cost=37 stops=2 stop=2 count=1 part=1 stop=4 count=2 part=1 part=2";
 
+/// The same plan, cut at 10 nodes.
+const CUT: &str = "result=7 nodes=10 floor=37 cost=37 stops=2 stop=2 count=1 part=1 stop=4 count=2 part=1 part=2";
+
 /// The text of these lines.
 pub fn text(lines: &str) -> Vec<u8> {
     lines.split_whitespace().map(|line| format!("{line}\n")).collect::<String>().into_bytes()
@@ -40,26 +43,37 @@ pub fn altered(old: &str, new: &str) -> String {
 }
 
 pub fn cases() -> Vec<Case> {
-    let plan = |name, job: &str, line, answer| Case { name, call: Call { job: text(job), plan: None, output: 16_384 }, line, answer };
+    let walked = |name, walk, job: &str, line, answer| Case { name, call: Call { job: text(job), plan: None, walk, output: 16_384 }, line, answer };
+    let plan = |name, job: &str, line, answer| walked(name, walk_of(&text(job)), job, line, answer);
     let judge = |name, lines: &str, answer| {
-        let call = Call { job: text(JOB), plan: Some(text(lines)), output: 16_384 };
+        let call = Call { job: text(JOB), plan: Some(text(lines)), walk: 0, output: 16_384 };
         Case { name, call, line: 0, answer }
     };
     vec![
         plan("the job", JOB, 0, PLANNED),
-        plan(
+        walked(
             "walk 10",
-            &altered("walk=11", "walk=10"),
+            10,
+            JOB,
             0,
-            "result=7 nodes=10 floor=37 cost=37 stops=2 stop=2 count=1 part=1 stop=4 count=2 part=1 part=2",
+            CUT,
         ),
-        plan(
+        walked(
             "walk 8",
-            &altered("walk=11", "walk=8"),
+            8,
+            JOB,
             0,
             "result=7 nodes=8 floor=37 cost=44 stops=2 stop=2 count=2 part=1 part=2 stop=5 count=2 part=1 part=2",
         ),
-        plan("walk 6", &altered("walk=11", "walk=6"), 0, "result=7 nodes=6 floor=37"),
+        walked("walk 6", 6, JOB, 0, "result=7 nodes=6 floor=37"),
+        walked("no walk line", 11, &altered("walk=11 ", ""), 0, PLANNED),
+        walked("no walk line, walk 10", 10, &altered("walk=11 ", ""), 0, CUT),
+        walked("another walk line", 11, &altered("walk=11", "walk=0"), 0, PLANNED),
+        walked("a walk number above the limit", 4_294_967_296 + 6, JOB, 0, PLANNED),
+        walked("the largest number", u64::MAX, JOB, 0, PLANNED),
+        walked("a walk line out of range", 11, &altered("walk=11", "walk=4000000001"), 2, "result=3 text=1 line=2"),
+        walked("a walk line that is none", 11, &altered("walk=11", "walk=011"), 2, "result=2 text=1 line=2"),
+        walked("two walk lines", 11, &altered("walk=11", "walk=11 walk=11"), 3, "result=2 text=1 line=3"),
         plan("left 1 for part 1", &altered("left=2", "left=1"), 0, "result=6"),
         plan(
             "all fees 0",

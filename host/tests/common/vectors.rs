@@ -1,6 +1,6 @@
 //! The vectors of `vectors/`; its `README.md` has the format.
 
-use super::{inputs, Call};
+use super::{inputs, walk_of, Call};
 use juzvarola_host::reference::Reply;
 use std::path::{Path, PathBuf};
 
@@ -74,8 +74,11 @@ fn vector(line: &str) -> Vector {
         false => fields[places[n]],
     });
     let number = |value: &str| value.parse::<u32>().expect("a number");
+    // A call of before the walk number came with it is made with the number of the text's walk line.
+    let own = fields.iter().find_map(|field| field.strip_prefix("walk="));
+    let walk = own.map_or_else(|| walk_of(&hex(job)), |walk| walk.parse().expect("a number"));
     Vector {
-        call: Call { job: hex(job), plan: judge.then(|| hex(plan)), output: number(output) as usize },
+        call: Call { job: hex(job), plan: judge.then(|| hex(plan)), walk, output: number(output) as usize },
         result: number(result),
         line: number(at),
         bytes: hex(bytes),
@@ -106,6 +109,11 @@ pub fn enough(vectors: usize, variable: &str, least: usize) {
     assert!(vectors >= least, "only {vectors} vectors");
 }
 
+/// Whether a call of before the walk number came with it was refused for want of the walk line: the text has none, and `openings` stood in its place.
+fn wants_walk(job: &[u8], result: u32, fault: &[u8]) -> bool {
+    result == 2 && fault.starts_with(b"openings=") && !job.split(|byte| *byte == b'\n').any(|line| line.starts_with(b"walk="))
+}
+
 /// The vectors of the planner and the judge: of every file in `vectors/` that ends in `.txt`, other calls' aside. Without
 /// holders only those that they leave alone.
 pub fn all() -> Vec<Vector> {
@@ -114,7 +122,8 @@ pub fn all() -> Vec<Vector> {
         Err(_) => kept(),
     };
     let read = |file: PathBuf| std::fs::read_to_string(file).expect("a file").lines().map(vector).collect::<Vec<_>>();
-    files.into_iter().flat_map(read).filter(|vector| inputs::holders_on() || !vector.call.is_of_holders()).collect()
+    let all = files.into_iter().flat_map(read).filter(|vector| !wants_walk(&vector.call.job, vector.result, &vector.fault));
+    all.filter(|vector| inputs::holders_on() || !vector.call.is_of_holders()).collect()
 }
 
 /// The files of `vectors/` with calls of the planner and the judge.
@@ -162,5 +171,5 @@ pub fn counts() -> Vec<CountVector> {
         CountVector { job: hex(field(line, "job")), result, text, line: at, count, fault: hex(field(line, "fault")) }
     };
     let read = |file: PathBuf| std::fs::read_to_string(file).expect("a file").lines().map(vector).collect::<Vec<_>>();
-    files.into_iter().flat_map(read).collect()
+    files.into_iter().flat_map(read).filter(|vector| !wants_walk(&vector.job, vector.result, &vector.fault)).collect()
 }

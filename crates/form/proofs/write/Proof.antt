@@ -21,13 +21,12 @@ use Rattle.form.proofs.write.Tie as tie
 -- the form that is handed over
 abbrev form : (c : tie.Start) → Form
 form c = let a = c .args in
-    filled (a .horizon) (a .idles .now) (a .walk) (a .openings .now) (a .fees .now) (a .lives .now) (a .lefts .now) (a .covered .now) (a .removals .now) (a .insides .now) (a .holders .now) (a .prices .now)
+    filled (a .horizon) (a .idles .now) (a .openings .now) (a .fees .now) (a .lives .now) (a .lefts .now) (a .covered .now) (a .removals .now) (a .insides .now) (a .holders .now) (a .prices .now)
 
 -- its numbers have 32 bits
 held : (c : tie.After-slice-known) → Held (form (c .before .before .before .before .before .before .before .before .before .before .before))
 held c = record {
   horizon = omega (arith, c .before .before .before .before .before .before .before .before .before .before .before .fits .horizon .fits);
-  walk = omega (arith, c .before .before .before .before .before .before .before .before .before .before .before .fits .walk .fits);
   idles = λ i. omega (arith, c .before .before .before .before .before .before .before .before .before .before .shared-slice-known .given i);
   openings = λ i. omega (arith, c .before .before .before .before .before .before .before .before .before .shared-slice-known2 .given i);
   fees = λ i. omega (arith, c .before .before .before .before .before .before .before .before .shared-slice-known3 .given i);
@@ -39,8 +38,8 @@ held c = record {
   prices = λ i. omega (arith, c .before .shared-slice-known10 .given i);
 }
 
-short : (c : tie.Start) → length (cut (form c)) ≤ 30937
-short c = let f = form c in cut-short (f .horizon) (f .idles) (f .walk) (f .openings) (f .fees) (f .parts)
+short : (c : tie.Start) → length (cut (form c)) ≤ 30921
+short c = let f = form c in cut-short (f .horizon) (f .idles) (f .openings) (f .fees) (f .parts)
 
 put-form-requires : tie.Need-put-form-requires
 put-form-requires c κs = omega (arith, short (c .before .before .before .before .before .before .before .before .before .before .before .before))

@@ -1,5 +1,7 @@
 -- `plan_input`: the answer is that of the call on what was read, whose output has the room asked; `same` leads to the whole input.
+use Prim.Native.Nat.{ℕ}
 use mathlib.Core.Path.{sym, ap, subst, _∙_}
+use mathlib.Core.List.{List}
 use native.Mathlib.Omega.{arith}
 use borrow.Author.Needs.{needs}
 use lib.ListN.{take}
@@ -29,7 +31,7 @@ returns c =
       job = take (read .read-whole .result) (read .read-whole .last .1 .1 .0);
       read = omega (arith, read .read-whole .ensures .0, cut .job2 .given);
       says = λ input kept.
-          subst (λ (s : Said). Prints s (c .print-answer .result)) (ap planSaid (sym kept) ∙ same input)
+          subst (λ (s : Said). Prints s (c .print-answer .result)) (ap (λ (s : List ℕ). planSaid s 4000000000) (sym kept) ∙ same input 4000000000)
           (prints (omega arith) (called .plan .ensures .0) (c .print-answer .ensures));
     }
 

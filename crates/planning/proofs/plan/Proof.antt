@@ -1,5 +1,5 @@
 -- `plan`: a fault of the job text is refused; else the job is planned. The promise holds of the defined answer.
-use mathlib.Core.Path.{_≡_}
+use mathlib.Core.Path.{_≡_, sym}
 use native.Mathlib.Omega.{arith}
 use lib.ListN.{length}
 use Rattle.lines.specs.Parser.{accepted, refused}
@@ -29,25 +29,29 @@ read-job-requires c κs = search needs
 refuse-requires : tie.Need-refuse-requires
 refuse-requires c κs = (omega (arith, fault _ _ _ (refused-job (c .before .before)) .1), omega arith)
 
+walk-number-requires : tie.Need-walk-number-requires
+walk-number-requires c κs = search needs
+
 plan-job-requires : tie.Need-plan-job-requires
 plan-job-requires c κs =
-    let v = valid _ _ (accepted-job (c .before .before)) in
-    (record { sized = c .before .before .before .before .read-job .ensures .sized; valid = v .job }, v .walk)
+    let v = valid _ _ (accepted-job (c .before .before .before)) in
+    (record { sized = c .before .before .before .before .before .read-job .ensures .sized; valid = v .job }, omega (arith, c .before .walk-number .ensures))
 
 returns : tie.Need-returns
 unfolding planSaid
 returns c =
     let a = c .before .before .before .before .before .before .before .before .before .before .args in
-    (rw (refused-job (c .before .before .before .before .before)) (c .before .before .refuse .ensures), promised (a .job .now) (length (a .out .now)))
+    (rw (refused-job (c .before .before .before .before .before)) (c .before .before .refuse .ensures), promised (a .job .now) (a .walk) (length (a .out .now)))
 
 returns-2 : tie.Need-returns-2
 unfolding planSaid
 returns-2 c =
-    let a = c .before .before .before .before .before .before .before .before .before .before .args in
-    (rw (accepted-job (c .before .before .before .before .before)) (c .before .before .plan-job .ensures), promised (a .job .now) (length (a .out .now)))
+    let a = c .before .before .before .before .before .before .before .before .before .before .before .args in
+    let walked = c .before .before .before .before .walk-number .ensures in
+    (rw (accepted-job (c .before .before .before .before .before .before), sym walked) (c .before .before .plan-job .ensures), promised (a .job .now) (a .walk) (length (a .out .now)))
 
 pub plan-spec : {M : Type 1} → statement M
 plan-spec =
     tie.close
-    (tie.spec read-job-requires (λ c. search needs) refuse-requires (λ c. search needs) plan-job-requires
-    (λ c. search needs) returns (λ c. search needs) returns-2)
+    (tie.spec read-job-requires (λ c. search needs) refuse-requires (λ c. search needs) walk-number-requires
+    plan-job-requires (λ c. search needs) returns (λ c. search needs) returns-2)

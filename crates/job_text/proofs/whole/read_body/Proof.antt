@@ -57,7 +57,8 @@ returns c =
     let told = c .before .before .before .before .before .before .m .given in
     let ps = c .before .before .before .before .read-parts in
     let t : code.JobText = record {
-      walk = a .walk;
+      «walk_there» = a .line .there;
+      walk = a .line .walk;
       said = ps .result .said;
       job = record {
         horizon = a .horizon;
@@ -69,7 +70,7 @@ returns c =
         parts = ps .result .parts;
       };
     } in
-    let make : List PartText → JobText = λ qs. record { horizon = a .horizon; idles = textOf t .idles; walk = a .walk; openings = textOf t .openings; parts = qs } in
+    let make : List PartText → JobText = λ qs. record { horizon = a .horizon; idles = textOf t .idles; walk = textOf t .walk; openings = textOf t .openings; parts = qs } in
     let r = map-read make (parts (told .0 .0) (a .n)) (ps .result .end) (textOf t .parts) (ps .ensures .reads) in
     let m = ap rowAnswer (told .1) in
     record {
