@@ -123,7 +123,7 @@ fn picture() -> String {
     let rows = rows(&lines);
     let places = places(&rows);
     let foot = HEAD + rows.len() * ROW;
-    let high = foot + 22 * headings.len().div_ceil(2) + 10;
+    let high = foot + 22 * headings.len() + 10;
     let mut text = format!(
         "<svg xmlns=\"http://www.w3.org/2000/svg\" viewBox=\"0 0 {WIDTH} {high}\" font-family=\"DejaVu Sans Mono, monospace\" font-size=\"11\">\n<title>The crates in layers</title>\n<rect width=\"{WIDTH}\" height=\"{high}\" fill=\"#ffffff\"/>\n<g fill=\"none\" stroke=\"#9a9a9a\" stroke-width=\"0.8\">\n"
     );
@@ -146,7 +146,7 @@ fn picture() -> String {
     }
     text += "</g>\n<g fill=\"#1d1d1d\">\n";
     for (i, heading) in headings.iter().enumerate() {
-        let (x, y) = (20 + i % 2 * WIDTH / 2, foot + 22 * (i / 2));
+        let (x, y) = (20, foot + 22 * i);
         let colour = COLOURS[i % COLOURS.len()];
         text += &format!("<rect x=\"{x}\" y=\"{y}\" width=\"14\" height=\"14\" fill=\"{colour}\" stroke=\"#6b6b6b\"/><text x=\"{}\" y=\"{}\">{heading}</text>\n", x + 22, y + 11);
     }
