@@ -16,8 +16,8 @@ use Rattle.held_rows.specs.Held.{HeldSheet, noLane, classFee, largestTo}
 use Rattle.held_lanes.specs.Places.{bitAt, mostTo, classPlace, topPlace, removalPlace, needLanesPlace, needCountPlace, needClassPlace, maskBase, maskPlace, leadPlace, classesPlace, holdsPlace, heldSize}
 use Rattle.held_lanes.specs.Tables.{needing, Masks, HeldTables}
 use Rattle.held_lanes.proofs.Coded.{coded-to}
-use Rattle.held_tables.specs.declared.classes.Classes.{Classes}
-use Rattle.held_tables.specs.Grouped.{Led, Grouped, needIn}
+use Rattle.part_classes.specs.declared.Classes.{Classes}
+use Rattle.part_classes.specs.Grouped.{Led, Grouped, needIn}
 use Rattle.held_tables.specs.Sheet.{HeldArrays, lanesOf, heldSheetOf}
 use Rattle.held_tables.specs.Fill.{Before, Terms, LaneSet, Listing, Lists, Needed, Closed}
 use Rattle.held_tables.proofs.Lists.{most-same, listing-kept}

@@ -1,5 +1,4 @@
--- Laws of the classes, of filling the tables for holders, and of the job behind them.
-pub mod Groups
+-- Laws of filling the tables for holders, and of the job behind them.
 pub mod Sets
 pub mod Lists
 pub mod Masks

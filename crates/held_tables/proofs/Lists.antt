@@ -10,8 +10,8 @@ use lib.ListN.{length, getD, set, length-set}
 use lib.Seq.{getD-set-same, getD-set-other}
 use Rattle.lane_rows.specs.Layout.{laneCount}
 use Rattle.held_lanes.specs.Places.{mostTo, needCountPlace, needClassPlace, heldSize}
-use Rattle.held_tables.specs.declared.classes.Classes.{Classes}
-use Rattle.held_tables.specs.Grouped.{needIn}
+use Rattle.part_classes.specs.declared.Classes.{Classes}
+use Rattle.part_classes.specs.Grouped.{needIn}
 use Rattle.held_tables.specs.Fill.{Listing, Listed, Lists}
 
 -- the largest over the same numbers

@@ -28,7 +28,7 @@ use Rattle.search_tables.proofs.Filling.{coded, offers-all}
 use Rattle.held_rows.specs.Held.{HeldColumn, noLane}
 use Rattle.held_lanes.specs.Places.{classPlace, heldSize}
 use Rattle.held_tables.specs.Fill.{Small, Raised, inClass, Terms}
-use Rattle.held_tables.proofs.Groups.{set-at}
+use Rattle.part_classes.proofs.Groups.{set-at}
 
 -- one number more that is none above Missing's
 pub small-set : (u : List ℕ) (at v : ℕ) → at < length u → v ≤ inf → Small u → Small (set u at v)

@@ -21,8 +21,8 @@ use Rattle.search_tables.proofs.Filling.{past, own-each}
 use Rattle.held_places.specs.Arrays.{needStride, needsAt, Lanes, Holds}
 use Rattle.held_rows.specs.Held.{HeldColumn, HeldSheet, columnIn, plain, noLane, needsOf, Classed, Laid, Fills, SheetOf}
 use Rattle.held_lanes.specs.Tables.{needing}
-use Rattle.held_tables.specs.declared.classes.Classes.{Classes}
-use Rattle.held_tables.specs.Grouped.{Grouped, needIn}
+use Rattle.part_classes.specs.declared.Classes.{Classes}
+use Rattle.part_classes.specs.Grouped.{Grouped, needIn}
 use Rattle.held_tables.specs.Sheet.{HeldArrays, heldSheetOf}
 use Rattle.held_tables.proofs.Lanes.{laneAt, lanes-length, lanes-at, columns-are}
 

@@ -15,8 +15,8 @@ use Rattle.lane_rows.specs.Tables.{Coded, feeFrom}
 use Rattle.held_rows.specs.Held.{HeldColumn}
 use Rattle.held_lanes.specs.Places.{bitAt, mostTo, classPlace, removalBase, removalPlace, needLanesPlace, needCountPlace, needClassPlace, maskBase, leadPlace, classesPlace, holdsPlace, heldSize}
 use Rattle.held_lanes.specs.Tables.{Masks}
-use Rattle.held_tables.specs.declared.classes.Classes.{Classes}
-use Rattle.held_tables.specs.Grouped.{needIn}
+use Rattle.part_classes.specs.declared.Classes.{Classes}
+use Rattle.part_classes.specs.Grouped.{needIn}
 
 -- nothing before a place moved
 pub record Before (start : ℕ) (u u' : List ℕ) : Type 0 where

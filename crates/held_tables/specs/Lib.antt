@@ -1,3 +1,2 @@
-pub mod Grouped
 pub mod Sheet
 pub mod Fill

@@ -12,7 +12,7 @@ use Rattle.search_tables.specs.Arrays as search
 use Rattle.search_tables.specs.Arrays.{lanePart, columnOf, foursOf}
 use Rattle.held_places.specs.Arrays.{needSize, needsAt}
 use Rattle.held_rows.specs.Held.{HeldColumn, HeldSheet}
-use Rattle.held_tables.specs.declared.classes.Classes.{Classes}
+use Rattle.part_classes.specs.declared.Classes.{Classes}
 
 -- the arrays of the search over openings alone, nd needs and rm removals of the holding parts
 pub record HeldArrays (e : ℤ) (ss : List ℤ) (fs ls rs ps : List ℕ) (nd : List Bool) (rm : List ℕ) : Type 0 where

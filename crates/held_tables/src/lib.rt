@@ -1,5 +1,4 @@
 // The tables of the walk of a job with holders: the terms by classes of parts, and who needs whom.
-pub mod classes;
 pub mod needs;
 pub mod terms;
 
@@ -10,16 +9,16 @@ ghost use Rattle.least.specs.Filled.{FilledBy};
 ghost use Rattle.lane_rows.specs.Layout.{laneCount};
 ghost use Rattle.held_lanes.specs.Places.{maskOf, maskBase, maskPlace, leadPlace, classesPlace, holdsPlace, heldSize};
 ghost use Rattle.held_lanes.specs.Tables.{Masks, HeldTables};
-ghost use Rattle.held_tables.specs.Grouped.{Led, Grouped};
+ghost use Rattle.part_classes.specs.Grouped.{Led, Grouped};
 ghost use Rattle.held_tables.specs.Sheet.{heldSheetOf, HeldReady};
 ghost use Rattle.held_tables.specs.Fill.{Before, Closed};
-use classes::Classes;
 use held_lanes::CLASSES;
 use held_lanes::HOLDS;
 use held_lanes::LEADS;
 use held_lanes::MASKS;
 use lane_rows::INF;
 use needs::put_needs;
+use part_classes::Classes;
 use terms::put_terms;
 use terms::put_tops;
 

@@ -13,7 +13,7 @@ use Rattle.held_places.specs.Arrays.{Holds}
 use Rattle.held_places.proofs.Parts.{read-back}
 use Rattle.held_places.proofs.Held.{opened, holding}
 use Rattle.held_rows.specs.Held.{HeldSheet, plain, Classed}
-use Rattle.held_tables.specs.declared.classes.Classes.{Classes}
+use Rattle.part_classes.specs.declared.Classes.{Classes}
 use Rattle.held_tables.specs.Sheet.{HeldArrays, heldSheetOf}
 use Rattle.held_tables.proofs.Sheets.{plain-is, classed, sheet-of}
 use Rattle.held_search.proofs.Answered.{solves-job}

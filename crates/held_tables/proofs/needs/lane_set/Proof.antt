@@ -3,7 +3,7 @@ use Prim.Native.Nat.{ℕ, _+_, _-_, _*_}
 use mathlib.Core.Path.{_≡_, sym, subst}
 use mathlib.Core.Bool.{Bool}
 use lib.ListN.{getD}
-use Rattle.held_tables.specs.Grouped.{needIn}
+use Rattle.part_classes.specs.Grouped.{needIn}
 use Rattle.held_tables.proofs.Sets.{Gathered, gathered-none, gathered-more, gathered-all, gathered-fits, bit-most}
 use native.Mathlib.Omega.{arith}
 use borrow.Author.Needs.{needs}

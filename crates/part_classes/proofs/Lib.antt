@@ -1,0 +1,2 @@
+-- Laws of the classes (Groups).
+pub mod Groups

@@ -1,0 +1,2 @@
+-- Classes of parts, and what they are (Grouped).
+pub mod Grouped
