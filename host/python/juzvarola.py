@@ -28,7 +28,7 @@ from typing import Iterable, Optional, Sequence, Tuple, Union
 __all__ = ["Count", "Fault", "Form", "Plan", "Planned", "Result", "Stop", "Verdict", "Written", "count", "judge", "plan", "version", "write"]
 
 #: The version of the library's interface that this module is made for.
-VERSION: Tuple[int, int, int] = (0, 8, 0)
+VERSION: Tuple[int, int, int] = (0, 9, 0)
 
 _NAME = "libjuzvarola.so.0"
 _ROOM = 16_384
@@ -147,7 +147,6 @@ class Form:
     """
 
     horizon: int
-    walk: int
     openings: Sequence[int]
     fees: Sequence[int]
     lives: Sequence[int]
@@ -197,9 +196,9 @@ def _load() -> ctypes.CDLL:
     text, numbers = (ctypes.c_char_p, ctypes.c_size_t), (ctypes.POINTER(ctypes.c_uint32), ctypes.c_size_t)
     out = (ctypes.c_void_p, ctypes.c_size_t)
     for name, result, words in (
-        ("juzvarola_plan", _Answer, text + out),
+        ("juzvarola_plan", _Answer, text + (ctypes.c_uint64,) + out),
         ("juzvarola_judge", _Answer, text + text + out),
-        ("juzvarola_write", _Answer, (ctypes.c_uint32,) + numbers + (ctypes.c_uint32,) + numbers * 9 + out),
+        ("juzvarola_write", _Answer, (ctypes.c_uint32,) + numbers * 10 + out),
         ("juzvarola_count", _Counted, text),
     ):
         call = getattr(library, name)
@@ -236,10 +235,10 @@ def version() -> Tuple[int, int, int]:
     return number // 1_000_000, number // 1000 % 1000, number % 1000
 
 
-def plan(job: Text) -> Planned:
-    """Plans a job."""
+def plan(job: Text, walk: int = _MOST) -> Planned:
+    """Plans a job, walking at most so many nodes; a number above 4000000000 counts as that."""
     data, out = _bytes(job), ctypes.create_string_buffer(_ROOM)
-    answer = _library.juzvarola_plan(data, len(data), out, _ROOM)
+    answer = _library.juzvarola_plan(data, len(data), min(walk, _MOST), out, _ROOM)
     lines = out.raw[: answer.length]
     fault = _fault(answer, data)
     values = dict(_pairs(lines)) if fault is None else {}
@@ -262,7 +261,7 @@ def write(form: Form) -> Written:
     """Writes the job text of a form. A number that 32 bits can't hold raises ValueError."""
     covered = [0] * len(form.lives) if form.covered is None else form.covered
     lists = (form.openings, form.fees, form.lives, form.lefts, covered, form.removals, form.insides, form.holders, form.prices)
-    words: list = [_number(form.horizon), *_numbers(form.idles), _number(form.walk)]
+    words: list = [_number(form.horizon), *_numbers(form.idles)]
     for own in lists:
         words.extend(_numbers(own))
     out = ctypes.create_string_buffer(_WRITE_ROOM)

@@ -15,7 +15,7 @@ from juzvarola import Form, Plan, Result, Stop
 HOST = Path(__file__).resolve().parents[1]
 JOBS = sorted((HOST.parent / "jobs").glob("*.txt"))
 EXAMPLE = (HOST.parent / "jobs/00_example.txt").read_bytes()
-FORM = Form(horizon=6, walk=11, openings=[2, 3, 4, 5], fees=[10] * 4, lives=[3, 4], lefts=[2, 4], prices=[5] * 4 + [7] * 4)
+FORM = Form(horizon=6, openings=[2, 3, 4, 5], fees=[10] * 4, lives=[3, 4], lefts=[2, 4], prices=[5] * 4 + [7] * 4)
 
 
 class Calls(unittest.TestCase):
@@ -30,6 +30,8 @@ class Calls(unittest.TestCase):
         self.assertEqual((verdict.result, verdict.part, verdict.due), (Result.NOT_KEPT, 1, 2))
         verdict = juzvarola.judge(EXAMPLE, planned.plan.text.replace(b"cost=37", b"cost=36"))
         self.assertEqual((verdict.result, verdict.cost), (Result.WRONG_COST, 37))
+        self.assertEqual(juzvarola.plan(EXAMPLE, 8).result, Result.CUT_SHORT)
+        self.assertEqual((juzvarola.plan(EXAMPLE, 6).plan, juzvarola.plan(EXAMPLE, 1 << 40)), (None, planned))
         counted = juzvarola.count(EXAMPLE)
         self.assertEqual((counted.result, counted.count, counted.or_more), (Result.OK, 17, False))
 
@@ -58,7 +60,7 @@ class Calls(unittest.TestCase):
 
     def test_plans_of_all_jobs(self):
         for path in JOBS:
-            planned = juzvarola.plan(path.read_bytes())
+            planned = juzvarola.plan(path.read_bytes(), 5_000_000)
             self.assertIn(planned.result, (Result.OK, Result.CUT_SHORT), path)
             self.assertEqual(juzvarola.judge(path.read_bytes(), planned.plan).result, Result.OK, path)
             self.assertEqual(Plan.parse(planned.plan.text), planned.plan)

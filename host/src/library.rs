@@ -100,10 +100,10 @@ pub fn plan<'t>(job: &'t [u8], walk: u64, out: &mut [u8]) -> Answer<'t> {
     answer(numbers, job, &[])
 }
 
-/// Plans a job and parses what is answered; the output is lent here.
-pub fn plan_parsed(job: &[u8]) -> Planned<'_> {
+/// Plans a job, walking at most `walk` nodes, and parses what is answered; the output is lent here.
+pub fn plan_parsed(job: &[u8], walk: u64) -> Planned<'_> {
     let mut out = vec![0; ROOM];
-    let answer = plan(job, &mut out);
+    let answer = plan(job, walk, &mut out);
     Planned::of(answer, &out[..answer.length])
 }
 

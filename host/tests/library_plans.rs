@@ -14,8 +14,9 @@ fn plans_come_parsed() {
         let (mut plans, mut none) = (0, 0);
         for _ in 0..600 {
             let text = inputs::job(&mut rng).text();
-            let expected = reference::plan(&text, 16_384);
-            let planned = plan_parsed(&text);
+            let walk = rng.within(0, 400);
+            let expected = reference::plan(&text, walk, 16_384);
+            let planned = plan_parsed(&text, walk);
             assert_eq!(planned.answer.result, expected.result);
             let Some(plan) = planned.plan else {
                 assert!(!String::from_utf8_lossy(&expected.bytes).contains("cost="));

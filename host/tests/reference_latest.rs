@@ -85,6 +85,8 @@ fn habit_is_the_least_where_no_price_rises() {
             }
         }
     }
-    println!("{served} stop sets serve, {unserved} don't; {least} parts whose price never rises, {dearer} changed at more than the least price");
+    println!(
+        "{served} stop sets serve, {unserved} don't; {least} parts whose price never rises, {dearer} changed at more than the least price"
+    );
     assert!(served >= 1000 && unserved >= 1000 && least >= 1000 && dearer >= 100);
 }

@@ -310,7 +310,7 @@ fn tables_of_a_page_add_up() {
     let text = job("38_week8_guard_shutdown");
     let folder = Folder::new();
     folder.write("job.txt", &text);
-    assert_eq!(folder.run(&["plan", "job.txt", "-o", "plan.txt"]).status, 3);
+    assert_eq!(folder.run(&["plan", "job.txt", "--walk", "20000000", "-o", "plan.txt"]).status, 3);
     let drawn = draw(&text, folder.read("plan.txt").as_bytes(), "page.html");
     let cells: Vec<&str> = drawn.elements.iter().filter(|element| element.name == "td").map(|element| element.text.as_str()).collect();
     let number = |cell: &str| plain(cell).parse::<u64>().unwrap_or_else(|_| panic!("{cell:?} is a number"));

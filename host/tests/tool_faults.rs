@@ -90,7 +90,7 @@ fn lines_that_are_not_well_formed() {
     assert_eq!(of_job("fee=10", "fee=12345678901"), format!("job.txt:5: fee {digits}\n    fee=12345678901\n"));
     assert_eq!(of_job("horizon=6", "horizon=6 idles=x"), format!("job.txt:2: idles {digits}\n    idles=x\n"));
     assert_eq!(of_plan("part=1", "part=1x"), format!("plan.txt:5: part {digits}\n    part=1x\n"));
-    assert_eq!(of_job("walk=11", "work=11"), "job.txt:2: `walk=` (or `idles=`) is due here (2)\n    work=11\n");
+    assert_eq!(of_job("walk=11", "work=11"), "job.txt:2: `openings=` (or `idles=`) is due here (2)\n    work=11\n");
     assert_eq!(of_job("fee=10 opening=3", "opening=3"), "job.txt:5: `fee=` is due here (2)\n    opening=3\n");
     assert_eq!(of_job("openings=4", "openings=5"), "job.txt:12: `opening=` is due here (2)\n    parts=2\n");
     assert_eq!(of_job("price=5 life=4", "life=4"), "job.txt:18: `price=` is due here (2)\n    life=4\n");
@@ -166,6 +166,8 @@ fn slips_are_named_for_what_they_are() {
         ("fee=10", "", "the line is empty, and no line may be".to_string()),
         ("fee=10", "   ", "the line has only blanks".to_string()),
         ("walk=11", "Idles=1", "`idles` is written in small letters".to_string()),
+        ("walk=11", "Walk=11", "`walk` is written in small letters".to_string()),
+        ("walk=11", "Openings=4", "`openings` is written in small letters".to_string()),
         ("left=2", "left=2\nRemoval=1", "`removal` is written in small letters".to_string()),
         ("fee=10", "fees=10", "`fee=` is due here".to_string()),
     ];

@@ -84,6 +84,8 @@ fn outputs_that_cannot_be_written() {
         failed(&folder, &before, &folder.shell(&format!("\"$juzvarola\" {words} >&-")), 74, "standard output is closed");
     }
     failed(&folder, &before, &folder.run(&["draw", "a job.txt", "its plan.txt", "-o", "a folder.svg"]), 73, "is a folder, not a file");
+    let ran = folder.shell("\"$juzvarola\" draw 'a job.txt' 'its plan.txt' -o /dev/null >&-");
+    assert!(ran.status == 0 && ran.err.contains("every part's life is kept"), "the verdict goes where somebody hears: {ran:?}");
     failed(&folder, &before, &folder.run(&["plan", "a job.txt", "-o", "."]), 73, ". is a folder");
     failed(&folder, &before, &folder.run(&["plan", "a job.txt", "-o", "no such/plan"]), 73, "can't be made: No such file");
     failed(&folder, &before, &folder.run(&["plan", "a job.txt", "-o", "a job.txt/plan"]), 73, "can't be made: Not a directory");
@@ -94,8 +96,7 @@ fn outputs_that_cannot_be_written() {
 #[test]
 fn outputs_are_looked_at_before_a_long_walk() {
     let folder = folder();
-    let text = String::from_utf8(job("14_full64_4")).expect("text").replace("walk=5000000\n", "walk=4000000000\n");
-    folder.write("long.txt", text.as_bytes());
+    folder.write("long.txt", &job("14_full64_4"));
     let before = folder.names();
     failed(&folder, &before, &folder.run(&["plan", "long.txt", "-o", "no such/plan"]), 73, "can't be made: No such file");
     failed(&folder, &before, &folder.run(&["plan", "long.txt", "-o", "long.txt/plan"]), 73, "can't be made: Not a directory");

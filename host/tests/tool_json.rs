@@ -32,7 +32,7 @@ const LIST: &[&str] = &[
     "words",
 ];
 const COMPARE: &[&str] = &["bounds", "command", "differences", "fault", "job", "juzvarola", "plans", "result", "words"];
-const COUNT: &[&str] = &["command", "count", "fault", "job", "juzvarola", "milliseconds", "no_plan", "or_more", "result", "walk", "words"];
+const COUNT: &[&str] = &["command", "count", "fault", "job", "juzvarola", "milliseconds", "no_plan", "or_more", "result", "words"];
 const REFUSED: &[&str] = &["command", "fault", "juzvarola", "result", "words"];
 
 /// A name that JSON must escape.
@@ -77,7 +77,7 @@ fn answers_have_their_keys() {
     assert_eq!((status, json.at("plans").list()[1].at("result").number(), json.at("result").number()), (1, 10, 10));
     assert_eq!((json.at("differences").list()[0].at("a").list().len(), json.at("differences").list()[0].at("b")), (1, &Json::Null));
     let (status, json) = run(&folder, &["count", NAME], COUNT);
-    assert_eq!((status, json.at("count").number(), json.at("walk").number(), json.at("or_more")), (0, 17, 11, &Json::Bool(false)));
+    assert_eq!((status, json.at("count").number(), json.at("or_more")), (0, 17, &Json::Bool(false)));
 }
 
 #[test]
@@ -106,6 +106,8 @@ fn walks_cut_short_and_hopeless_jobs() {
     assert_eq!((status, json.at("result").number(), json.at("proved"), json.at("ended").text()), (3, 7, &Json::Bool(false), "by itself"));
     assert_eq!((json.at("bounds").at("floor").number(), json.at("bounds").at("best").number(), json.at("walk").number()), (37, 44, 8));
     assert_eq!(json.at("text").text(), folder.read("cut"));
+    let (_, again) = run(&folder, &["plan", NAME, "--walk", "8", "-o", "-"], PLAN);
+    assert_eq!(again.at("text"), json.at("text"), "standard output gets one answer");
     let (status, json) = run(&folder, &["plan", NAME, "--walk", "6"], PLAN);
     assert_eq!((status, json.at("costs"), json.at("stops"), json.at("text")), (3, &Json::Null, &Json::Null, &Json::Null));
     folder.write("hopeless", &text(&altered("left=2", "left=1")));

@@ -224,7 +224,7 @@ fn comparisons() {
 fn what_could_still_be_saved() {
     let folder = Folder::new();
     folder.write("job.txt", &job("14_full64_4"));
-    assert_eq!(folder.run(&["plan", "job.txt", "-o", "plan.txt"]).status, 3);
+    assert_eq!(folder.run(&["plan", "job.txt", "--walk", "5000000", "-o", "plan.txt"]).status, 3);
     let ran = folder.run(&["list", "job.txt", "plan.txt"]);
     let saved = number_after(&ran.out, "at most ").expect("what could be saved");
     let (total, floor) = (number_after(&ran.out, "  total ").expect("a total"), number_after(&ran.out, "  floor ").expect("a floor"));
@@ -291,6 +291,9 @@ fn dates_and_names() {
         "{}",
         ran.out
     );
+    folder.write("odd.csv", b"1,\x1b[2Jred\n");
+    let ran = folder.run(&["list", "job.txt", "plan.txt", "--names", "odd.csv"]);
+    assert!(ran.out.contains("1 \\x1b[2Jred"), "what could harm a terminal is shown as such: {}", ran.out);
     for (names, words) in [
         ("17,x\n", "cell A1: '17' is not a part's number"),
         ("1,x\n1,y\n", "cell A2: part 1 is named twice"),

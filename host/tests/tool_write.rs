@@ -12,7 +12,6 @@ use juzvarola_host::reference::texts::read_job;
 /// The specification's job as a table.
 const TABLE: &str = "\
 horizon,6
-walk,11
 opening,2,3,4,5
 fee,10,10,10,10
 part,life,left,removal,holders,prices
@@ -24,7 +23,7 @@ part,life,left,removal,holders,prices
 fn table(job: &Job, between: &str) -> String {
     let row = |cells: Vec<String>| cells.join(between) + "\n";
     let numbers = |name: &str, numbers: Vec<String>| row([vec![name.to_string()], numbers].concat());
-    let mut text = numbers("horizon", vec![job.horizon.to_string()]) + &numbers("Walk", vec![job.walk.to_string()]);
+    let mut text = numbers("horizon", vec![job.horizon.to_string()]);
     if !job.idles.is_empty() {
         text += &numbers("idle", job.idles.iter().map(i64::to_string).collect());
     }
@@ -40,6 +39,12 @@ fn table(job: &Job, between: &str) -> String {
     text
 }
 
+/// A job text without its walk line, which is not written any more.
+fn without_walk(text: &[u8]) -> String {
+    let text = std::str::from_utf8(text).expect("text");
+    text.split_inclusive('\n').filter(|line| !line.starts_with("walk=")).collect()
+}
+
 /// Writes a table's job text.
 fn write(table: &str) -> common::tool::Ran {
     let folder = Folder::new();
@@ -49,7 +54,7 @@ fn write(table: &str) -> common::tool::Ran {
 
 #[test]
 fn tables_become_job_texts() {
-    let expected = String::from_utf8(text(JOB)).expect("text");
+    let expected = without_walk(&text(JOB));
     let ran = write(TABLE);
     assert_eq!((ran.status, ran.out.as_str(), ran.err.as_str()), (0, expected.as_str(), ""));
     let single = TABLE.replace("fee,10,10,10,10", "fee,10").replace("5,5,5,5", "5").replace("7,7,7,7", "7");
@@ -58,7 +63,6 @@ fn tables_become_job_texts() {
     assert_eq!(write(&windows).out, expected);
     let quoted = TABLE.replace("horizon,6", "\"horizon\",\" 6 \"") + "\n,,,\n";
     assert_eq!(write(&quoted).out, expected);
-    assert!(write(&TABLE.replace("walk,11\n", "")).out.contains("walk=4000000000\n"), "no walk number: the greatest");
 }
 
 #[test]
@@ -73,7 +77,7 @@ fn every_job_comes_back_byte_for_byte() {
             folder.write("form.csv", table(&read, [",", ";", "\t"][at % 3]).as_bytes());
             let ran = folder.run(&["write", "form.csv", "-o", "job.txt"]);
             assert_eq!(ran.status, 0, "{ran:?}");
-            assert_eq!(folder.read("job.txt").as_bytes(), text, "{}", folder.read("form.csv"));
+            assert_eq!(folder.read("job.txt"), without_walk(&text), "{}", folder.read("form.csv"));
             assert_eq!(folder.run(&["check", "job.txt"]).status, 0);
         }
     });
@@ -83,29 +87,29 @@ fn every_job_comes_back_byte_for_byte() {
 fn faults_are_named_by_cell_and_line() {
     let cases = [
         ("horizon,6", "horizon,366", "cell B1: horizon is not a number from 2 to 365; line 1 of the text (3)"),
-        ("opening,2,3,4,5", "opening,2,2,4,5", "cell C3: opening does not come after the opening before, or is past the horizon; line 6 of the text (4)"),
-        ("1,3,2,,", "1,3,4,,", "cell C6: left is greater than life; line 14 of the text (5)"),
-        ("7,7,7,7", "7,7,0,7", "cell H7: price is not a number from 1 to 1,000,000; line 23 of the text (3)"),
-        ("1,3,2,,", "1,3,2,9,1", "cell E6: holder is above the job's number of parts, is the part itself, or does not come after the holder before; line 17 of the text (12)"),
-        ("1,3,2,,", "1,3,2,99999999999,", "cell D6: removal is not a number from 0 to 1,000,000; line 15 of the text (3)"),
-        ("fee,10,10,10,10", "fee,10,10,10", "there are 4 openings and 3 fees; line 3 of the text (3)"),
-        ("7,7,7,7", "7,7,7", "part 2 has 3 prices, and there are 4 openings; line 12 of the text (3)"),
+        ("opening,2,3,4,5", "opening,2,2,4,5", "cell C2: opening does not come after the opening before, or is past the horizon; line 5 of the text (4)"),
+        ("1,3,2,,", "1,3,4,,", "cell C5: left is greater than life; line 13 of the text (5)"),
+        ("7,7,7,7", "7,7,0,7", "cell H6: price is not a number from 1 to 1,000,000; line 22 of the text (3)"),
+        ("1,3,2,,", "1,3,2,9,1", "cell E5: holder is above the job's number of parts, is the part itself, or does not come after the holder before; line 16 of the text (12)"),
+        ("1,3,2,,", "1,3,2,99999999999,", "cell D5: removal is not a number from 0 to 1,000,000; line 14 of the text (3)"),
+        ("fee,10,10,10,10", "fee,10,10,10", "there are 4 openings and 3 fees; line 2 of the text (3)"),
+        ("7,7,7,7", "7,7,7", "part 2 has 3 prices, and there are 4 openings; line 11 of the text (3)"),
     ];
     for (old, new, words) in cases {
         let ran = write(&TABLE.replacen(old, new, 1));
         assert_eq!((ran.status, ran.out.as_str(), ran.err), (2, "", format!("form.csv: {words}\n")), "{new}");
     }
     let cases = [
-        ("fee,10,10,10,10", "fee,10,ten,10,10", "cell C4: fee: 'ten' is not a whole number"),
-        ("fee,10,10,10,10", "fee,10,,10,10", "cell C4: fee: the cell is empty"),
-        ("5,5,5,5", "5,5,5.5,5", "cell H6: price: '5.5' is not a whole number"),
-        ("2,4,4,,", "3,4,4,,", "cell A7: part 2 is due here"),
-        ("walk,11", "work,11", "cell A2: 'work' is none of horizon, walk, idle, opening, fee, part"),
-        ("walk,11", "horizon,11", "cell A2: there is another row `horizon` above"),
+        ("fee,10,10,10,10", "fee,10,ten,10,10", "cell C3: fee: 'ten' is not a whole number"),
+        ("fee,10,10,10,10", "fee,10,,10,10", "cell C3: fee: the cell is empty"),
+        ("5,5,5,5", "5,5,5.5,5", "cell H5: price: '5.5' is not a whole number"),
+        ("2,4,4,,", "3,4,4,,", "cell A6: part 2 is due here"),
+        ("fee,10", "walk,11\nfee,10", "cell A3: 'walk' is none of horizon, idle, opening, fee, part"),
+        ("fee,10", "horizon,11\nfee,10", "cell A3: there is another row `horizon` above"),
         ("horizon,6\n", "", "there is no row `horizon`"),
         ("horizon,6", "horizon,6,7", "cell A1: `horizon` has one number behind it"),
         ("part,", "parts,", "there is no row that begins with `part`, the heads of the parts' rows"),
-        ("1,3,2", "1,\"3,2", "cell B6: the quotes do not end"),
+        ("1,3,2", "1,\"3,2", "cell B5: the quotes do not end"),
     ];
     for (old, new, words) in cases {
         let ran = write(&TABLE.replacen(old, new, 1));
@@ -123,5 +127,5 @@ fn a_faulty_table_makes_no_file() {
     let ran = folder.run(&["write", "form.csv", "-o", "form.csv"]);
     assert!(ran.status == 64 && folder.read("form.csv") == TABLE, "{ran:?}");
     let ran = folder.run(&["write", "form.csv", "-o", "job.txt"]);
-    assert_eq!((ran.out.as_str(), ran.err.as_str()), ("", "form.csv: 24 lines are written to job.txt (0)\n"));
+    assert_eq!((ran.out.as_str(), ran.err.as_str()), ("", "form.csv: 23 lines are written to job.txt (0)\n"));
 }

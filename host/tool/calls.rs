@@ -12,7 +12,7 @@ const OUTPUT: usize = 16_384;
 /// The output that the header asks for where a job text is written.
 const WRITTEN: usize = 32_768;
 /// The greatest walk number.
-pub const MOST_WALK: u64 = 4_000_000_000;
+pub use library::MOST_WALK;
 
 /// What a call answered: its numbers, the line at fault, and the lines written.
 #[derive(Debug, Clone)]
@@ -58,20 +58,14 @@ fn on_own_stack<T: Send>(call: impl FnOnce() -> T + Send) -> Result<T, Failure> 
     })
 }
 
-/// The walk number that an accepted job is planned with where the words give none: its own.
-pub fn own_walk(job: &[u8]) -> u64 {
-    texts::job(job).walk.unwrap_or(MOST_WALK)
-}
-
-/// The planner's call for an accepted job with this walk number, on this thread: the one place that hands a walk number to the library.
+/// The planner's call with this walk number, on this thread: the one place that hands a walk number to the library.
 pub fn plan_here(job: &[u8], walk: u64) -> Reply {
-    let text = texts::with_walk(job, walk).unwrap_or_else(|| job.to_vec());
     let mut out = vec![0; OUTPUT];
-    let answer = library::plan(&text, &mut out);
+    let answer = library::plan(job, walk, &mut out);
     Reply::of(answer, out)
 }
 
-/// The planner's call for an accepted job with this walk number.
+/// The planner's call with this walk number.
 pub fn plan(job: &[u8], walk: u64) -> Result<Reply, Failure> {
     on_own_stack(|| plan_here(job, walk))
 }

@@ -6,7 +6,7 @@ use crate::failure::{status_of, Failure, Fault};
 use crate::json::Value;
 use crate::numbers::{grouped, seconds};
 use crate::verdicts::headed;
-use crate::{faults, files, standard_output, texts};
+use crate::{faults, files, standard_output};
 use std::time::Instant;
 
 /// Where the count stops: that many or more.
@@ -23,7 +23,6 @@ struct Counted {
     name: String,
     result: u32,
     count: u32,
-    own: Option<u64>,
     no_plan: bool,
     seconds: f64,
 }
@@ -43,8 +42,7 @@ pub fn run(order: &CountOrder) -> Result<u8, Failure> {
     }
     let no_plan = count == 1 && calls::plan(&input.bytes, 0)?.result == 6;
     let seconds = node(&input.bytes, u64::from(count))? * f64::from(count);
-    let own = texts::job(&input.bytes).walk;
-    let counted = Counted { name: input.name, result: reply.result, count, own, no_plan, seconds };
+    let counted = Counted { name: input.name, result: reply.result, count, no_plan, seconds };
     let text = if order.json {
         Value::object(headed("count", counted.json())).document()
     } else {
@@ -63,7 +61,7 @@ fn node(job: &[u8], most: u64) -> Result<f64, Failure> {
 }
 
 impl Counted {
-    /// The count in words, and what the job's own walk number means beside it.
+    /// The count in words.
     fn words(&self) -> String {
         let nodes = grouped(u64::from(self.count));
         let time = seconds(self.seconds);
@@ -73,13 +71,8 @@ impl Counted {
         if self.count >= CAP {
             return format!("the walk may have {nodes} nodes or more, which take {time} here; the greatest walk number is {nodes}");
         }
-        let walk = match self.own {
-            Some(walk) if walk >= u64::from(self.count) => format!("; its walk number, {}, is enough", grouped(walk)),
-            Some(walk) => format!("; its walk number, {}, is less, so the planner may answer 7", grouped(walk)),
-            None => String::new(),
-        };
         let plural = if self.count == 1 { " node, which takes" } else { " nodes, which take" };
-        format!("the walk has at most {nodes}{plural} at most {time} here{walk}")
+        format!("the walk has at most {nodes}{plural} at most {time} here")
     }
 
     /// The same for programs.
@@ -92,7 +85,6 @@ impl Counted {
             ("count", Value::Number(u64::from(self.count))),
             ("or_more", Value::Bool(self.count >= CAP)),
             ("no_plan", Value::Bool(self.no_plan)),
-            ("walk", Value::number(self.own)),
             ("milliseconds", Value::Number((self.seconds * 1000.0).ceil() as u64)),
         ]
     }

@@ -3,7 +3,7 @@
 use crate::arguments::DrawOrder;
 use crate::failure::{failure, status_of, Failure, USAGE};
 use crate::naming::Naming;
-use crate::{drawing, files, ics, output, standard_output, verdicts};
+use crate::{closed, drawing, files, ics, output, standard_output, verdicts};
 use std::ffi::OsStr;
 use std::path::Path;
 
@@ -15,7 +15,7 @@ enum Form {
     Calendar,
 }
 
-/// Judges the plan, then draws it. The verdict is said on standard output, where the picture doesn't go there.
+/// Judges the plan, then draws it. The verdict is said on standard output, where the picture doesn't go there and somebody hears.
 pub fn run(order: &DrawOrder) -> Result<u8, Failure> {
     let form = form_of(&order.output)?;
     if form == Form::Calendar && order.naming.from.is_none() {
@@ -31,7 +31,7 @@ pub fn run(order: &DrawOrder) -> Result<u8, Failure> {
         Form::Calendar => ics::calendar(&judged),
     };
     files::write(&order.output, text.as_bytes())?;
-    match files::is_standard(&order.output) {
+    match files::is_standard(&order.output) || closed::output() {
         true => output::say(&judged.message()),
         false => standard_output::write(judged.message().as_bytes())?,
     }

@@ -56,8 +56,8 @@ pub fn of_job(text: &[u8], line: u32) -> Due {
     }
     match last {
         b"" => Due::Key("horizon"),
-        b"horizon" => Due::Key("walk"),
-        b"idles" | b"idle" => Due::Key(if idles.more() { "idle" } else { "walk" }),
+        b"horizon" => Due::Key("openings"),
+        b"idles" | b"idle" => Due::Key(if idles.more() { "idle" } else { "openings" }),
         b"walk" => Due::Key("openings"),
         b"opening" => Due::Key("fee"),
         b"openings" | b"fee" => Due::Key(if openings.more() { "opening" } else { "parts" }),
@@ -70,6 +70,11 @@ pub fn of_job(text: &[u8], line: u32) -> Due {
         b"left" | b"inside" | b"holder" | b"price" => Due::End,
         _ => Due::Unknown,
     }
+}
+
+/// Whether a `walk` line may stand on this line of a job text: where the `openings` line is due and no other stands before.
+pub fn may_be_walked(text: &[u8], line: u32) -> bool {
+    of_job(text, line) == Due::Key("openings") && pairs(before(text, line)).all(|(key, _)| key != b"walk")
 }
 
 /// Whether a `removal` line may stand on this line of a job text: right behind a `left` line.

@@ -85,11 +85,13 @@ fn shape(reply: &Reply, text: &[u8]) -> String {
     }
 }
 
-/// What is due on the line at fault. A second line that begins with `idles=` is meant as one, and so is one behind a `left` line that begins with `removal=`.
+/// What is due on the line at fault. A second line that begins with `idles=` is meant as one; so is one that begins with `walk=` where such a line may
+/// stand, and one behind a `left` line that begins with `removal=`.
 fn due_on(reply: &Reply, text: &[u8]) -> Due {
     match reply.text {
         2 => due_keys::of_plan(text, reply.line),
         _ if reply.line == 2 && reply.fault.starts_with(b"idles=") => Due::Key("idles"),
+        _ if reply.fault.starts_with(b"walk=") && due_keys::may_be_walked(text, reply.line) => Due::Key("walk"),
         _ if reply.fault.starts_with(b"removal=") && due_keys::may_be_removed(text, reply.line) => Due::Key("removal"),
         _ => due_keys::of_job(text, reply.line),
     }
@@ -98,7 +100,8 @@ fn due_on(reply: &Reply, text: &[u8]) -> Due {
 /// The keys that a line may have had where this one is due.
 fn possible(key: &'static str, text: &[u8], line: u32) -> Vec<&'static str> {
     match key {
-        "walk" if line == 2 => vec!["walk", "idles"],
+        "openings" if line == 2 => vec![key, "walk", "idles"],
+        "openings" if due_keys::may_be_walked(text, line) => vec![key, "walk"],
         _ if due_keys::may_be_removed(text, line) => vec![key, "removal"],
         _ => vec![key],
     }
@@ -107,7 +110,7 @@ fn possible(key: &'static str, text: &[u8], line: u32) -> Vec<&'static str> {
 /// The line that is due, as a message names it, with the one that may stand before it.
 fn named(due: Due, text: &[u8], line: u32) -> String {
     match due {
-        Due::Key("walk") if line == 2 => "`walk=` (or `idles=`)".to_string(),
+        Due::Key("openings") if line == 2 => "`openings=` (or `idles=`)".to_string(),
         Due::Key(key) if due_keys::may_be_removed(text, line) => format!("`{key}=` (or `removal=`)"),
         Due::Key(key) => format!("`{key}=`"),
         Due::End | Due::Unknown => "another line".to_string(),

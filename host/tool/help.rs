@@ -26,7 +26,7 @@ what could still be saved; if there is none, no file is made. Prefer -o to >:
 a shell makes an empty file first, which is the plan of doing nothing.
 
   -o, --output PLAN   where the plan goes; - is standard output
-      --walk N        at most N nodes, in place of the job's walk number
+      --walk N        at most N nodes, 0 to 4000000000, which it is without
       --for TIME      no longer than this: 60s, 5m, 1h
       --once          one call and no growing walks: least time, but nothing
                       is shown and nothing is kept of a walk that is ended
@@ -142,7 +142,6 @@ TABLE is a spreadsheet saved as CSV (cells separated by commas, semicolons or
 tabs), laid out like this; juzvarola-table(5) says more:
 
   horizon,52
-  walk,1000000
   idle,30,31
   opening,10,20,40
   fee,60
@@ -150,9 +149,9 @@ tabs), laid out like this; juzvarola-table(5) says more:
   1,12,9,,,40,40,45
   2,26,26,15,1,70
 
-A single fee or price stands for every opening; the rows idle and walk and the
-cells of removal and holders may be left out. A fault is named by its cell and
-by the line of the text that would have held it.
+A single fee or price stands for every opening; the row idle and the cells of
+removal and holders may be left out. A fault is named by its cell and by the
+line of the text that would have held it.
 
   -o, --output JOB    where the job text goes; - is standard output
 ",

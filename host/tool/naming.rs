@@ -3,6 +3,7 @@
 use crate::dates::{Date, Step};
 use crate::failure::{failure, Failure, TEXT};
 use crate::files;
+use crate::output::shown;
 use crate::sheets::{self, Cell};
 use crate::texts::Job;
 use std::collections::BTreeMap;
@@ -112,7 +113,7 @@ fn bad(file: &str, why: &str) -> Failure {
 fn names(bytes: &[u8]) -> Result<BTreeMap<u64, Called>, String> {
     let mut parts = BTreeMap::new();
     for (at, row) in sheets::rows(bytes)?.into_iter().enumerate() {
-        let text = |column: usize| row.get(column).map_or(String::new(), |cell: &Cell| cell.text.clone());
+        let text = |column: usize| row.get(column).map_or(String::new(), |cell: &Cell| shown(cell.text.as_bytes()));
         match text(0).parse::<u64>() {
             Ok(part) if (1..=16).contains(&part) => {
                 if parts.insert(part, Called { name: text(1), order: text(2) }).is_some() {
@@ -120,13 +121,7 @@ fn names(bytes: &[u8]) -> Result<BTreeMap<u64, Called>, String> {
                 }
             }
             Err(_) if at == 0 => {}
-            _ => {
-                return Err(format!(
-                    "cell {}: '{}' is not a part's number, 1 to 16",
-                    row[0].name(),
-                    crate::output::shown(text(0).as_bytes())
-                ))
-            }
+            _ => return Err(format!("cell {}: '{}' is not a part's number, 1 to 16", row[0].name(), text(0))),
         }
     }
     Ok(parts)

@@ -18,7 +18,9 @@ use std::ffi::OsStr;
 pub fn run(order: &PlanOrder) -> Result<u8, Failure> {
     let input = files::read(&order.job)?;
     let standard = OsStr::new("-");
-    let path = order.output.as_deref().or(Some(standard).filter(|_| !order.json));
+    // With JSON on standard output the plan text does not go there too: it stands in it.
+    let path = order.output.as_deref().unwrap_or(standard);
+    let path = Some(path).filter(|path| !(order.json && files::is_standard(path)));
     for path in path.into_iter().chain(order.json.then_some(standard)) {
         files::not_among(path, &[&order.job])?;
         files::ready(path)?;
@@ -26,7 +28,7 @@ pub fn run(order: &PlanOrder) -> Result<u8, Failure> {
     if let Some(reply) = calls::job_fault(&input.bytes)? {
         return Err(faults::refusal(&reply, &input, None));
     }
-    let walk = order.walk.unwrap_or_else(|| calls::own_walk(&input.bytes));
+    let walk = order.walk.unwrap_or(MOST_WALK);
     let walked = walks::plan(&input.bytes, &walks::Order { walk, quiet: order.quiet, once: order.once, limit: order.limit })?;
     let job = texts::job(&input.bytes);
     let found = Found { input: &input, job: &job, walk, walked: &walked };

@@ -1,6 +1,6 @@
 //! How a plan stands to the cheapest one, as far as a bounded walk tells.
 
-use crate::calls::{self, MOST_WALK};
+use crate::calls;
 use crate::failure::Failure;
 use crate::json::Value;
 use crate::numbers::{grouped, percent};
@@ -32,12 +32,7 @@ impl Bounds {
 
     /// What a bounded walk finds for an accepted job.
     pub fn of_job(job: &[u8]) -> Result<Option<Bounds>, Failure> {
-        let found = Bounds::of_reply(&calls::plan(job, BOUND.min(MOST_WALK))?);
-        match found {
-            Some(bounds) => Ok(Some(bounds)),
-            // A text so long that another walk number has no room in it is asked with its own.
-            None => Ok(Bounds::of_reply(&calls::plan(job, calls::own_walk(job).min(BOUND))?)),
-        }
+        Ok(Bounds::of_reply(&calls::plan(job, BOUND)?))
     }
 
     /// The floor, where the cheapest plan is not known: beside a cost that is proved least it would read as something still to be saved.

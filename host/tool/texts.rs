@@ -22,7 +22,6 @@ pub struct Part {
 pub struct Job {
     pub horizon: u64,
     pub idles: Vec<u64>,
-    pub walk: Option<u64>,
     pub openings: Vec<Opening>,
     pub parts: Vec<Part>,
 }
@@ -127,7 +126,6 @@ pub fn job(text: &[u8]) -> Job {
         match key {
             b"horizon" => job.horizon = value,
             b"idle" => job.idles.push(value),
-            b"walk" => job.walk = Some(value),
             b"opening" => job.openings.push(Opening { step: value, fee: 0 }),
             b"fee" => job.openings.last_mut().into_iter().for_each(|opening| opening.fee = value),
             b"life" => job.parts.push(Part { life: value, ..Part::default() }),
@@ -155,13 +153,6 @@ pub fn plan(text: &[u8]) -> Plan {
     plan
 }
 
-/// A job text with another walk number; none where it has no walk line.
-pub fn with_walk(text: &[u8], walk: u64) -> Option<Vec<u8>> {
-    let start = line_starts(text).find(|start| text[*start..].starts_with(b"walk="))?;
-    let length = text[start..].iter().position(|byte| *byte == b'\n')?;
-    Some([&text[..start], format!("walk={walk}").as_bytes(), &text[start + length..]].concat())
-}
-
 #[cfg(test)]
 mod tests {
     use super::*;
@@ -175,7 +166,7 @@ mod tests {
         let more = JOB.replace("left=2\n", "left=2\nlater=9\n").replace("fee=10\n", "fee=10\ncrew=4\n");
         assert_eq!(format!("{:?}", job(more.as_bytes())), format!("{:?}", job(JOB.as_bytes())));
         let read = job(more.as_bytes());
-        assert_eq!((read.horizon, read.walk, &read.idles[..]), (6, Some(11), &[3][..]));
+        assert_eq!((read.horizon, &read.idles[..]), (6, &[3][..]));
         assert_eq!((read.openings[0], read.parts.len()), (Opening { step: 2, fee: 10 }, 2));
         assert_eq!(
             (read.price(1, 2), read.price(2, 2), read.price(3, 2), read.price(0, 2), read.price(1, 3)),
@@ -198,12 +189,5 @@ mod tests {
     fn unknown_prices_are_missing() {
         let read = job(JOB.replace("price=5\n", "base=9\ndrop=1\nleast=1\n").as_bytes());
         assert_eq!((read.price(1, 2), read.price(2, 2)), (None, Some(7)));
-    }
-
-    /// Only the walk line is replaced; a text without one has none to replace.
-    #[test]
-    fn the_walk_number_is_replaced() {
-        assert_eq!(with_walk(JOB.as_bytes(), 40), Some(JOB.replace("walk=11", "walk=40").into_bytes()));
-        assert_eq!(with_walk(JOB.replace("walk=11\n", "").as_bytes(), 40), None);
     }
 }

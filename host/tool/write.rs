@@ -1,7 +1,7 @@
 //! `write`: a job text from a spreadsheet's table. The layout is that of juzvarola-table(5).
 
 use crate::arguments::WriteOrder;
-use crate::calls::{self, MOST_WALK};
+use crate::calls;
 use crate::failure::{status_of, Failure, TEXT};
 use crate::faults::meaning;
 use crate::output::shown;
@@ -50,7 +50,6 @@ struct Part {
 struct Table {
     horizon: Entry,
     idles: Vec<Entry>,
-    walk: Entry,
     openings: Vec<Entry>,
     fees: Vec<Entry>,
     parts: Vec<Part>,
@@ -91,11 +90,11 @@ impl Table {
                 (first, None) => Ok(first),
             }
         };
-        let known = ["horizon", "walk", "idle", "opening", "fee"];
+        let known = ["horizon", "idle", "opening", "fee"];
         let other = rows[..parts_at].iter().find(|row| !known.iter().any(|name| row[0].text.eq_ignore_ascii_case(name)));
         if let Some(row) = other {
             return Err(format!(
-                "cell {}: '{}' is none of horizon, walk, idle, opening, fee, part",
+                "cell {}: '{}' is none of horizon, idle, opening, fee, part",
                 row[0].name(),
                 shown(row[0].text.as_bytes())
             ));
@@ -111,11 +110,9 @@ impl Table {
             }
         };
         let openings = list("opening")?;
-        let unlimited = Entry { number: MOST_WALK as u32, cell: String::new() };
         Ok(Table {
             horizon: one("horizon")?.ok_or("there is no row `horizon`")?,
             idles: list("idle")?,
-            walk: one("walk")?.unwrap_or(unlimited),
             fees: each(list("fee")?, openings.len()),
             parts: rows[parts_at + 1..].iter().enumerate().map(|(at, row)| part(row, at + 1, openings.len())).collect::<Result<_, _>>()?,
             openings,
@@ -129,7 +126,6 @@ impl Table {
         calls::write(&Form {
             horizon: self.horizon.number,
             idles: &numbers(&self.idles),
-            walk: self.walk.number,
             openings: &numbers(&self.openings),
             fees: &numbers(&self.fees),
             lives: &self.parts.iter().map(|part| part.life.number).collect::<Vec<_>>(),
@@ -152,7 +148,7 @@ impl Table {
             lines.push(("idles", ""));
             lines.extend(each("idle", &self.idles));
         }
-        lines.extend([("walk", self.walk.cell.as_str()), ("openings", "")]);
+        lines.push(("openings", ""));
         for (at, opening) in self.openings.iter().enumerate() {
             lines.extend([("opening", opening.cell.as_str()), ("fee", self.fees.get(at).map_or("", |fee| &fee.cell))]);
         }

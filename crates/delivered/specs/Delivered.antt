@@ -64,7 +64,8 @@ pub record Delivered : Type 0 where
   pub D6-least : (text : List ℕ) (walk room : ℕ) → lent planRoom room (planSaid text walk) .result ≡ 0 → (r : Reading text) → Cheapest (jobIn r) (lent planRoom room (planSaid text walk))
   -- D1. "for each input, every byte and number handed over": no other answer keeps the model's promise of the planner, nor that of the judge
   pub D1-planner : (job : Job) (limit : ℕ) (answer : PlannerAnswer) → Promise job limit answer → answer ≡ answerOf job limit
-  pub D1-judge : (job : Job) (plan : Plan) (cost : ℕ) (j : Judgement) → JudgementPromise job cost plan j → j ≡ judgedOf job cost plan  -- D1. an accepted job text is answered by what it means: two that mean the same are answered alike
+  pub D1-judge : (job : Job) (plan : Plan) (cost : ℕ) (j : Judgement) → JudgementPromise job cost plan j → j ≡ judgedOf job cost plan
+  -- D1. an accepted job text is answered by what it means: two that mean the same are answered alike
   pub D1-by-meaning : (s s′ : List ℕ) (t t′ : JobText) → readJobText s ≡ accepted t → readJobText s′ ≡ accepted t′ → meant t ≡ meant t′ → AnsweredAlike s s′
   -- ---- the estimate
 
@@ -118,7 +119,8 @@ pub record Delivered : Type 0 where
   pub E7-4-cost : (job : Job) (plan : Plan) (outs : ℕ → List Bool) → ((k : ℕ) → k < length (job .openings) → Dismounts job (plan .changes) k (outs k))
       → costOf job plan ≤ sumAt (map feeOf (job .openings)) (plan .stops) + pricesOf (job .parts) (plan .changes) + sum 0 (length (job .openings)) (λ k. sumAt (map removalOf (job .parts)) (outs k))
   -- E7.9. "Holders may run in a circle; they then come out together."
-  pub E7-9-together : (job : Job) (i j : ℕ) → i < length (job .parts) → j < length (job .parts) → Chain job i j → Chain job j i → comesOut job i ≡ comesOut job j  -- E7.13. "With no holders and removals of 0, every printed answer to texts that were free of faults before is the one given before."
+  pub E7-9-together : (job : Job) (i j : ℕ) → i < length (job .parts) → j < length (job .parts) → Chain job i j → Chain job j i → comesOut job i ≡ comesOut job j
+  -- E7.13. "With no holders and removals of 0, every printed answer to texts that were free of faults before is the one given before."
   pub E7-13-as-before : AsBefore
   -- ---- cases
 

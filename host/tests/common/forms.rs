@@ -249,6 +249,7 @@ pub fn vectors() -> Vec<FormVector> {
         Ok(file) => vec![file.into()],
         Err(_) => kept.iter().map(|file| folder.join(file)).collect::<Vec<PathBuf>>(),
     };
-    let read = |file: PathBuf| std::fs::read_to_string(file).expect("the forms' vectors").lines().filter_map(without_walk).collect::<Vec<_>>();
+    let read =
+        |file: PathBuf| std::fs::read_to_string(file).expect("the forms' vectors").lines().filter_map(without_walk).collect::<Vec<_>>();
     files.into_iter().flat_map(read).collect()
 }

@@ -261,7 +261,8 @@ fn largest(rng: &mut Rng) -> Facts {
     let most = 1_000_000;
     let openings: Vec<(u64, u64)> = (1..=64).map(|step| (step, most)).collect();
     let part = PartFacts { life: 1000, left: rng.within(60, 1000), cover: None, prices: vec![most; 64] };
-    let mut facts = Facts { horizon: rng.within(64, 70), idles: Vec::new(), walk: rng.within(0, 80), line: None, openings, parts: vec![part; 16] };
+    let mut facts =
+        Facts { horizon: rng.within(64, 70), idles: Vec::new(), walk: rng.within(0, 80), line: None, openings, parts: vec![part; 16] };
     if holders_on() {
         facts.parts.iter_mut().zip(holders(rng, 16)).for_each(|(part, holders)| part.cover = Some((most, holders)));
     }

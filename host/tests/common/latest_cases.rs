@@ -31,8 +31,13 @@ pub fn cases() -> Vec<Case> {
         case("an empty plan text that serves", "horizon=6 walk=11 openings=0 parts=1 life=7 left=7", "", 0, "result=0 cost=0 stops=0"),
         case("a fault of the job text", &altered("left=2", "left=4"), bare, 14, "result=5 text=1 line=14"),
         case("a part line that is set aside is checked", JOB, "cost=0 stops=1 stop=2 count=1 part=3", 5, "result=9 text=2 line=5"),
-        case("a price that rises", &altered("price=5 price=5 price=5 price=5", "price=5 price=5 price=5 price=9"), all, 0,
-            "result=0 cost=61 stops=4 stop=2 count=1 part=1 stop=3 count=0 stop=4 count=1 part=2 stop=5 count=1 part=1"),
+        case(
+            "a price that rises",
+            &altered("price=5 price=5 price=5 price=5", "price=5 price=5 price=5 price=9"),
+            all,
+            0,
+            "result=0 cost=61 stops=4 stop=2 count=1 part=1 stop=3 count=0 stop=4 count=1 part=2 stop=5 count=1 part=1",
+        ),
         case(
             "stops at one position: the last is taken",
             "horizon=4 idles=1 idle=3 walk=0 openings=2 opening=2 fee=0 opening=3 fee=0 parts=1 life=2 left=2 price=5 price=5",

@@ -71,7 +71,12 @@ pub fn compare_latest(rng: &mut Rng, call: &Call, reply: &Reply) -> Result<(), S
     compare_by(rng, call, reply, |job, plan, out| juzvarola_host::latest(job, plan, out))
 }
 
-fn compare_by(rng: &mut Rng, call: &Call, reply: &Reply, by: impl for<'t> Fn(&'t [u8], &'t [u8], &mut [u8]) -> Answer<'t>) -> Result<(), String> {
+fn compare_by(
+    rng: &mut Rng,
+    call: &Call,
+    reply: &Reply,
+    by: impl for<'t> Fn(&'t [u8], &'t [u8], &mut [u8]) -> Answer<'t>,
+) -> Result<(), String> {
     let job = Lent::text(rng, &call.job);
     let plan = Lent::text(rng, call.plan.as_deref().unwrap_or_default());
     let mut out = Lent::output(rng, call.output);

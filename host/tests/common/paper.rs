@@ -43,7 +43,8 @@ pub fn altered(old: &str, new: &str) -> String {
 }
 
 pub fn cases() -> Vec<Case> {
-    let walked = |name, walk, job: &str, line, answer| Case { name, call: Call { job: text(job), plan: None, walk, output: 16_384 }, line, answer };
+    let walked =
+        |name, walk, job: &str, line, answer| Case { name, call: Call { job: text(job), plan: None, walk, output: 16_384 }, line, answer };
     let plan = |name, job: &str, line, answer| walked(name, walk_of(&text(job)), job, line, answer);
     let judge = |name, lines: &str, answer| {
         let call = Call { job: text(JOB), plan: Some(text(lines)), walk: 0, output: 16_384 };
@@ -51,20 +52,8 @@ pub fn cases() -> Vec<Case> {
     };
     vec![
         plan("the job", JOB, 0, PLANNED),
-        walked(
-            "walk 10",
-            10,
-            JOB,
-            0,
-            CUT,
-        ),
-        walked(
-            "walk 8",
-            8,
-            JOB,
-            0,
-            "result=7 nodes=8 floor=37 cost=44 stops=2 stop=2 count=2 part=1 part=2 stop=5 count=2 part=1 part=2",
-        ),
+        walked("walk 10", 10, JOB, 0, CUT),
+        walked("walk 8", 8, JOB, 0, "result=7 nodes=8 floor=37 cost=44 stops=2 stop=2 count=2 part=1 part=2 stop=5 count=2 part=1 part=2"),
         walked("walk 6", 6, JOB, 0, "result=7 nodes=6 floor=37"),
         walked("no walk line", 11, &altered("walk=11 ", ""), 0, PLANNED),
         walked("no walk line, walk 10", 10, &altered("walk=11 ", ""), 0, CUT),

@@ -8,7 +8,7 @@ int main(void) {
         return 99;
     }
     size_t length = fread(job, 1, sizeof job, stdin);
-    juzvarola_answer answer = juzvarola_plan(job, length, out, sizeof out);
+    juzvarola_answer answer = juzvarola_plan(job, length, JUZVAROLA_MOST_WALK, out, sizeof out);
     fwrite(out, 1, answer.length, stdout);
     return answer.result == JUZVAROLA_OK ? 0 : (int)answer.result;
 }
