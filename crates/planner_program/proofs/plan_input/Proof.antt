@@ -39,4 +39,4 @@ pub plan-input-spec : {M : Type 1} → statement M
 plan-input-spec =
     tie.close
     (tie.spec (λ c. search needs) read-whole-requires (λ c. search needs) (λ c. search needs) (λ c. search needs)
-    plan-requires (λ c. search needs) (λ c. search needs) print-answer-requires returns)
+    (λ c. search needs) plan-requires (λ c. search needs) (λ c. search needs) print-answer-requires returns)
