@@ -38,7 +38,7 @@ class Calls(unittest.TestCase):
     def test_faults(self):
         planned = juzvarola.plan(EXAMPLE.replace(b"left=2", b"left=9", 1))
         self.assertEqual((planned.result, planned.plan), (Result.LEFT_TOO_LONG, None))
-        self.assertEqual((planned.fault.text, planned.fault.line, planned.fault.shown), (1, 14, b"left=9"))
+        self.assertEqual((planned.fault.text, planned.fault.line, planned.fault.shown), (1, 13, b"left=9"))
         verdict = juzvarola.judge(EXAMPLE, "cost=0\nstops=1\nstop=1\n")
         self.assertEqual((verdict.result, verdict.fault.text, verdict.fault.shown), (Result.BAD_STOP, 2, b"stop=1"))
         self.assertEqual(juzvarola.plan(b"a" * 40000).result, Result.TOO_LONG)
@@ -50,7 +50,7 @@ class Calls(unittest.TestCase):
     def test_forms(self):
         self.assertEqual(juzvarola.write(FORM).text, EXAMPLE)
         written = juzvarola.write(Form(**{**FORM.__dict__, "lefts": [4, 4]}))
-        self.assertEqual((written.result, written.text, written.line), (Result.LEFT_TOO_LONG, None, 14))
+        self.assertEqual((written.result, written.text, written.line), (Result.LEFT_TOO_LONG, None, 13))
         covered = Form(**{**FORM.__dict__, "covered": [1, 0], "removals": [9], "insides": [1], "holders": [2]})
         self.assertIn(b"left=2\nremoval=9\ninside=1\nholder=2\nprice=5\n", juzvarola.write(covered).text)
         self.assertEqual(juzvarola.write(Form(**{**FORM.__dict__, "fees": [10]})).result, Result.OUT_OF_RANGE)

@@ -101,9 +101,11 @@ fn interrupted(folder: &Folder, signal: &str, words: &[&str]) -> Ran {
 
 /// The same after so many seconds.
 fn interrupted_after(folder: &Folder, signal: &str, words: &[&str], seconds: u64) -> Ran {
-    let mut command = Command::new(PROGRAM);
-    command.args(words).current_dir(&folder.0).stdin(Stdio::null()).stdout(Stdio::piped()).stderr(Stdio::piped());
-    let child = command.spawn().expect("the program runs");
+    // The tests themselves may run where signals are ignored, as under nohup.
+    let mut command = Command::new("env");
+    command.args(["--default-signal=HUP,INT,TERM", PROGRAM]).args(words);
+    command.current_dir(&folder.0).stdin(Stdio::null()).stdout(Stdio::piped()).stderr(Stdio::piped());
+    let child = command.spawn().expect("env (Debian: coreutils) runs the program");
     std::thread::sleep(Duration::from_secs(seconds));
     let sent = Command::new("kill").args([signal, &child.id().to_string()]).status().expect("kill runs");
     assert!(sent.success(), "it still walks");
