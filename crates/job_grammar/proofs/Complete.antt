@@ -91,11 +91,11 @@ body-complete t v s l next =
     let os = texts openingText (t .openings) in
     let m = lineOf "parts=" (length (t .parts)) in
     let ps = texts partText (t .parts) in
-    let count = length (map meantPart (t .parts)) in
-    let size = length-map (t .parts) meantPart in
+    let count = length (map (meantPart n) (t .parts)) in
+    let size = length-map (t .parts) (meantPart n) in
     let a = chain-complete (opening h) stepOf openingText (KnownOpening h) (opening-complete h) 0 (t .openings) (openings-chained h 0 (t .openings) (j .openings) (j .rising)) (m ++ (ps ++ s)) l in
     let b = row-complete (bytes "parts=") 1 16 (omega arith) (length (t .parts)) (omega (arith, j .some-part, size), omega (arith, j .few-parts, size)) (ps ++ s) (a .0) in
-    let known = subst (λ (i : ℕ). Chained (KnownPart i n) following 1 (t .parts)) size (parts-chained count n 1 (t .parts) (j .parts) (j .holders)) in
+    let known = subst (λ (i : ℕ). Chained (KnownPart i n) following 1 (t .parts)) size (parts-chained count n 1 (t .parts) (j .parts) (j .holders) (v .lines)) in
     let c = parts-complete (length (t .parts)) n 1 (omega (arith, j .few-parts, size)) (t .parts) known s (b .0) next in (
       c .0,
       ap (λ (x : List ℕ). body h (t .idles) (t .walk) n x l) (append-assoc (os ++ m) ps s ∙ append-assoc os m (ps ++ s))

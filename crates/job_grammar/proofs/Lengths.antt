@@ -116,8 +116,9 @@ text-short t v =
     let n = lineOf "openings=" (length (t .openings)) in
     let os = texts openingText (t .openings) in
     let m = lineOf "parts=" (length (t .parts)) in
-    let count = length (map meantPart (t .parts)) in
-    let size = length-map (t .parts) meantPart in
+    let means = meantPart (length (t .openings)) in
+    let count = length (map means (t .parts)) in
+    let size = length-map (t .parts) means in
     rw (length-append (h ++ is ++ w ++ n), length-append (h ++ is ++ w), length-append (h ++ is), length-append h, length-append (os ++ m), length-append os)
     (omega (
       arith,
@@ -128,7 +129,7 @@ text-short t v =
       line-short (bytes "openings=") 1 (length (t .openings)) (omega (arith, j .few-openings)),
       texts-short ValidOpening openingText 24 opening-short (t .openings) (j .openings),
       line-short (bytes "parts=") 1 (length (t .parts)) (omega (arith, j .few-parts, size)),
-      parts-short count (length (t .openings)) 0 (t .parts) (j .few-openings) (j .few-parts) (omega (arith, j .few-parts, size)) (parts-chained count (length (t .openings)) 1 (t .parts) (j .parts) (j .holders)),
+      parts-short count (length (t .openings)) 0 (t .parts) (j .few-openings) (j .few-parts) (omega (arith, j .few-parts, size)) (parts-chained count (length (t .openings)) 1 (t .parts) (j .parts) (j .holders) (v .lines)),
       all-holders,
       j .few-openings,
       j .few-parts,

@@ -16,6 +16,8 @@ use Rattle.covers.specs.Rendering.{coverText}
 use Rattle.covers.specs.Views.{meantCover}
 use Rattle.part_lines.specs.Grammar.{PartText, meantPart}
 use Rattle.part_lines.specs.Rendering.{partText}
+use Rattle.part_lines.specs.Valid.{Spelt}
+use Rattle.price_rules.specs.Grammar.{byList}
 use Rattle.job_grammar.specs.Grammar.{JobText}
 use Rattle.job_grammar.specs.Rendering.{idlesText, openingText, bodyText, jobText}
 use Rattle.job_grammar.specs.Valid.{ValidText}
@@ -38,7 +40,7 @@ others k before (suc n) = cond (eqb (suc before) k) (others k (suc before) n) (s
 
 -- part k of sixteen, held by the fifteen others
 longestPart : ℕ → PartText
-longestPart k = record { life = 1000; left = 1000; cover = present (record { removal = 1000000; holders = others k 0 16 }); prices = replicate 64 1000000 }
+longestPart k = record { life = 1000; left = 1000; cover = present (record { removal = 1000000; holders = others k 0 16 }); prices = byList (replicate 64 1000000) }
 
 -- the n parts after part `before`
 partsAfter : ℕ → ℕ → List PartText
@@ -104,12 +106,12 @@ others-few k before (suc n) l h = go (ℕ-discrete (suc before) k) (λ e. others
     go (yes e) later = rw (eq-eqb (suc before) k e) (omega (arith, others-most k (suc before) n))
     go (no e) later = rw (ne-eqb (suc before) k e) (omega (arith, later e))
 
-parts-valid : (before n : ℕ) → before + n ≤ 16 → All (ValidPart 64) (map meantPart (partsAfter before n)) × HeldFrom 16 (suc before) (map meantPart (partsAfter before n))
+parts-valid : (before n : ℕ) → before + n ≤ 16 → All (ValidPart 64) (map (meantPart 64) (partsAfter before n)) × HeldFrom 16 (suc before) (map (meantPart 64) (partsAfter before n)) × All (Spelt 64) (partsAfter before n)
 unfolding partsAfter longestPart meantCover
-parts-valid before zero m = (tt, tt)
+parts-valid before zero m = (tt, tt, tt)
 parts-valid before (suc n) m =
     let r = parts-valid (suc before) n (omega arith) in
-    let p : ValidPart 64 (meantPart (longestPart (suc before))) = record {
+    let p : ValidPart 64 (meantPart 64 (longestPart (suc before))) = record {
       life-low = omega arith;
       life-high = omega arith;
       left-low = omega arith;
@@ -119,7 +121,7 @@ parts-valid before (suc n) m =
       priced = refl;
       prices = all-alike ValidPrice 64 1000000 (omega arith, omega arith);
     } in
-    ((p, r .0), (others-hold 16 (suc before) 0 0 16 (omega arith) (omega arith), r .1))
+    ((p, r .0), (others-hold 16 (suc before) 0 0 16 (omega arith) (omega arith), r .1), ((refl, all-alike ValidPrice 64 1000000 (omega arith, omega arith)), r .2))
 
 pub longest-valid : ValidText longestText
 unfolding longestText partsAfter stepsAfter openingsAfter
@@ -141,4 +143,5 @@ longest-valid = record {
   };
   idles = omega arith;
   walk = omega arith;
+  lines = parts-valid 0 16 (omega arith) .2;
 }

@@ -4,6 +4,7 @@
 -- E1.2. "After `horizon` a job may have `idles` 1..365 and that many `idle` lines, 1..365, rising and within the horizon; without the line no step is idle."
 use Prim.Native.Nat.{ℕ}
 use mathlib.Core.List.{List, [], map}
+use lib.ListN.{length}
 use Rattle.lines.specs.Text.{Optional, missing, present}
 use Rattle.lines.specs.Parser.{Outcome, accepted, refused, Parser, _>>=_, return, row, optional, ifPresent, checked, chain, rising, readText}
 use Rattle.model.specs.Model.{Opening, Job}
@@ -30,7 +31,7 @@ idleIn (present is) = is
 
 -- the job that the lines mean
 abbrev pub meant : JobText → Given
-meant t = record { job = record { horizon = t .horizon; idles = idleIn (t .idles); openings = t .openings; parts = map meantPart (t .parts) } }
+meant t = record { job = record { horizon = t .horizon; idles = idleIn (t .idles); openings = t .openings; parts = map (meantPart (length (t .openings))) (t .parts) } }
 
 -- E1.2, E1.3. an idle step after step `before` and within the horizon h, else number 4
 unfoldable pub idle : ℕ → ℕ → Parser ℕ

@@ -4,7 +4,8 @@ use mathlib.Core.List.{List}
 use lib.ListN.{length}
 use Rattle.lines.specs.Text.{Optional, missing, present}
 use Rattle.model.specs.Limits.{mostWalk}
-use Rattle.jobs.specs.Valid.{ValidJob}
+use Rattle.jobs.specs.Valid.{All, ValidJob}
+use Rattle.part_lines.specs.Valid.{Spelt}
 use Rattle.job_grammar.specs.Grammar.{JobText, Given, meant}
 
 -- the job that it means
@@ -26,3 +27,4 @@ pub record ValidText (t : JobText) : Type 0 where
   pub means : Valid (meant t)
   pub idles : Some (t .idles)
   pub walk : Allowed (t .walk)
+  pub lines : All (Spelt (length (t .openings))) (t .parts)

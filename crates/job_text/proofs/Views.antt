@@ -2,7 +2,7 @@
 use Prim.Native.Nat.{ℕ}
 use mathlib.Core.Path.{_≡_, refl, sym, ap, _∙_}
 use mathlib.Core.List.{List, [], _∷_, map}
-use lib.ListN.{take}
+use lib.ListN.{length, take}
 use Rattle.lines.specs.Parser.{Parsed, fault, Outcome}
 use Rattle.lines.specs.Cursor.{judged}
 use Rattle.lines.specs.declared.rows.End.the-variants as end
@@ -24,7 +24,7 @@ use Rattle.job_text.specs.Views.{textOf, givenOf, LinesRead, TextRead}
 pub refuse : {s : List ℕ} {k l : ℕ} {x : Parsed JobText} (r : JobLines) → (r .end ≡ end.Fault k l) × (meant (textOf (r .text)) ≡ givenOf (r .text)) × Sized (r .text .job) → x ≡ fault k l → LinesRead s r x
 refuse r h e = record { reads = fault-read _ (h .0) e; means = h .1; sized = h .2 }
 
-pub text-means : (t : code.JobText) → map meantPart (textOf t .parts) ≡ jobOf (t .job) .parts → meant (textOf t) ≡ givenOf t
+pub text-means : (t : code.JobText) → map (meantPart (length (jobOf (t .job) .openings))) (textOf t .parts) ≡ jobOf (t .job) .parts → meant (textOf t) ≡ givenOf t
 text-means t e =
     let f = sym (idle-steps (jobOf (t .job) .idles)) in
     λ i. record { job = record { horizon = t .job .horizon; idles = f i; openings = jobOf (t .job) .openings; parts = e i } }
@@ -38,8 +38,8 @@ none-mean t e = text-means t (go (take (t .job .«part_count») (t .said)) (ap (
     none [] = refl
     none (c ∷ cs) = refl
 
-    go : (cs : List PartSaid) → jobOf (t .job) .parts ≡ [] → map meantPart (partsLines cs (jobOf (t .job) .parts)) ≡ jobOf (t .job) .parts
-    go cs f = rw f (ap (map meantPart) (none cs))
+    go : (cs : List PartSaid) → jobOf (t .job) .parts ≡ [] → map (meantPart (length (jobOf (t .job) .openings))) (partsLines cs (jobOf (t .job) .parts)) ≡ jobOf (t .job) .parts
+    go cs f = rw f (ap (map (meantPart (length (jobOf (t .job) .openings)))) (none cs))
 
 -- what a struct means is what its text means
 given-is : (t : code.JobText) (v : WholeText) → meant (textOf t) ≡ givenOf t → judged v (givenOf t) ≡ meaning (judged v (textOf t))

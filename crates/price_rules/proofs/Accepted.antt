@@ -7,7 +7,7 @@ use Rattle.lines.specs.Parser.{good, return, row, optional, ifPresent, times}
 use Rattle.lines.proofs.Sound.{bind-inv, Optionally, optional-inv, row-sound, chain-sound, row-gives, chain-gives, Told, Tells}
 use Rattle.jobs.specs.Valid.{ValidPrice}
 use Rattle.price_rules.specs.Rule.{Rule}
-use Rattle.price_rules.specs.Grammar.{afterBase, rule, listed, ruled, unlessRuled, prices}
+use Rattle.price_rules.specs.Grammar.{afterBase, rule, byList, byRule, unlessRuled, prices}
 use Rattle.price_rules.specs.Rendering.{ruleText, pricesText}
 use Rattle.price_rules.specs.Valid.{ValidLines, ValidPrices}
 use Rattle.jobs.proofs.Lists.{chained-each}
@@ -66,7 +66,7 @@ prices-tells n s s′ l l′ p e =
     go missing mid at none e =
         let price = row "price=" 1 1000000 in
         let d = bind-inv (times n price) _ mid s′ at l′ p e in
-        let x : listed (d .a) ≡ p = cc (d .second) in
+        let x : byList (d .a) ≡ p = cc (d .second) in
         let y : d .mid ≡ s′ = cc (d .second) in
         let g = chain-gives (λ _. price) (λ _ _. 0) (λ _. ValidPrice) (λ _. row-gives _ 1 1000000) n 0 mid (d .mid) at (d .at) (d .a) (d .first) in
         subst (Told (ValidPrices n) pricesText s s′) x (record {
@@ -74,6 +74,6 @@ prices-tells n s s′ l l′ p e =
           text = none .text ∙ chain-sound (λ _. price) (λ _ _. 0) (lineOf "price=") (λ _. row-sound _ 1 1000000) n 0 mid (d .mid) at (d .at) (d .a) (d .first) ∙ ap (λ (u : List ℕ). texts (lineOf "price=") (d .a) ++ u) y;
         })
     go (present r) mid at some e =
-        let x : ruled r ≡ p = cc in
+        let x : byRule r ≡ p = cc in
         let y : mid ≡ s′ = cc in
         subst (Told (ValidPrices n) pricesText s s′) x (record { known = some .known; text = some .text ∙ ap (λ (u : List ℕ). ruleText r ++ u) y })

@@ -12,7 +12,7 @@ use Rattle.lines.proofs.Parsing.{bind-good, bind-fault, optional-missing}
 use Rattle.lines.proofs.Complete.{optional-present}
 use Rattle.jobs.specs.Valid.{ValidPrice}
 use Rattle.price_rules.specs.Rule.{Rule, rulePrices, statedPrice}
-use Rattle.price_rules.specs.Grammar.{afterBase, rule, listed, unlessRuled, prices}
+use Rattle.price_rules.specs.Grammar.{afterBase, rule, byList, unlessRuled, prices}
 use Rattle.price_rules.specs.Valid.{ValidRule}
 
 -- base 10, drop 3, least 5
@@ -46,7 +46,7 @@ unfolding joined
 least-above-base = (record { base-low = omega arith; base-high = omega arith; drop = omega arith; least-low = omega arith; least-high = omega arith }, refl)
 
 -- without `base` at the front the lines are prices, as before rules
-pub without-base : (n : ℕ) (s : List ℕ) (l : ℕ) → startsWith (bytes "base=") s ≡ false → prices n s l ≡ (times n (row "price=" 1 1000000) >>= λ ps. return (listed ps)) s l
+pub without-base : (n : ℕ) (s : List ℕ) (l : ℕ) → startsWith (bytes "base=") s ≡ false → prices n s l ≡ (times n (row "price=" 1 1000000) >>= λ ps. return (byList ps)) s l
 unfolding prices rule unlessRuled ifPresent return
 without-base n s l e = bind-good rule _ (bind-good (optional "base=" 1 1000000) _ (optional-missing _ 1 1000000 s l e))
 

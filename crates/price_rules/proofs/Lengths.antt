@@ -8,7 +8,7 @@ use Rattle.lines.specs.Text.{bytes, decimalIn, line, lineOf, texts}
 use Rattle.lines.proofs.Writing.{line-short}
 use Rattle.jobs.specs.Valid.{All, ValidPrice}
 use Rattle.price_rules.specs.Rule.{Rule}
-use Rattle.price_rules.specs.Grammar.{Prices, listed, ruled}
+use Rattle.price_rules.specs.Grammar.{Prices, byList, byRule}
 use Rattle.price_rules.specs.Rendering.{ruleText, pricesText}
 use Rattle.price_rules.specs.Valid.{ValidRule, ValidPrices}
 
@@ -38,5 +38,5 @@ list-short (p ∷ ps) v = rw (length-append (lineOf "price=" p)) (omega (arith, 
 
 -- so no job text is longer for a rule
 pub prices-short : (n : ℕ) (p : Prices) → n ≤ 64 → ValidPrices n p → length (pricesText p) ≤ 896
-prices-short n (listed ps) few v = omega (arith, list-short ps (v .1), v .0)
-prices-short n (ruled r) few v = omega (arith, rule-short r v)
+prices-short n (byList ps) few v = omega (arith, list-short ps (v .1), v .0)
+prices-short n (byRule r) few v = omega (arith, rule-short r v)

@@ -15,7 +15,7 @@ use Rattle.lines.specs.Text.{joined}
 use Rattle.model.proofs.Integers.{up, down, difference}
 use Rattle.jobs.specs.Valid.{All, ValidPrice}
 use Rattle.price_rules.specs.Rule.{Rule, rulePrice, rulePrices, larger, statedPrice}
-use Rattle.price_rules.specs.Grammar.{Prices, listed, ruled, meantPrices, writtenOut}
+use Rattle.price_rules.specs.Grammar.{Prices, byList, byRule, meantPrices, writtenOut}
 use Rattle.price_rules.specs.Valid.{ValidRule, ValidPrices}
 
 -- the larger of a difference z = a − b and a number, by whether the difference is below 0
@@ -54,12 +54,12 @@ rule-all r (suc n) v = all-then ValidPrice (rulePrices r n) (rulePrice r n) (rul
 
 -- "one price per opening", listed or by a rule
 pub meant-length : (n : ℕ) (p : Prices) → ValidPrices n p → length (meantPrices n p) ≡ n
-meant-length n (listed ps) v = v .0
-meant-length n (ruled r) v = rule-length r n
+meant-length n (byList ps) v = v .0
+meant-length n (byRule r) v = rule-length r n
 
 pub meant-valid : (n : ℕ) (p : Prices) → ValidPrices n p → All ValidPrice (meantPrices n p)
-meant-valid n (listed ps) v = v .1
-meant-valid n (ruled r) v = rule-all r n v
+meant-valid n (byList ps) v = v .1
+meant-valid n (byRule r) v = rule-all r n v
 
 -- E8.5. with the lines written out they are accepted too, and mean the same
 pub written-out : (n : ℕ) (p : Prices) → ValidPrices n p → ValidPrices n (writtenOut n p) × (meantPrices n (writtenOut n p) ≡ meantPrices n p)

@@ -21,15 +21,15 @@ rule = do
 
 -- a part's prices: a list of them, or a rule in its place
 pub data Prices : Type 0 where
-  listed : List ℕ → Prices
-  ruled : Rule → Prices
+  byList : List ℕ → Prices
+  byRule : Rule → Prices
 
 -- a rule in place of the prices, and where there is none a price for each of n openings
 unfoldable pub unlessRuled : ℕ → Optional Rule → Parser Prices
 unlessRuled n missing = do
   ps ← times n (row "price=" 1 dearest)
-  return (listed ps)
-unlessRuled n (present r) = return (ruled r)
+  return (byList ps)
+unlessRuled n (present r) = return (byRule r)
 
 -- the lines of a part's prices, with n openings
 unfoldable pub prices : ℕ → Parser Prices
@@ -39,9 +39,9 @@ prices n = do
 
 -- the price at each of n openings that they mean
 abbrev pub meantPrices : ℕ → Prices → List ℕ
-meantPrices n (listed ps) = ps
-meantPrices n (ruled r) = rulePrices r n
+meantPrices n (byList ps) = ps
+meantPrices n (byRule r) = rulePrices r n
 
 -- E8.5. "with the lines written out": a price line for each opening
 abbrev pub writtenOut : ℕ → Prices → Prices
-writtenOut n p = listed (meantPrices n p)
+writtenOut n p = byList (meantPrices n p)

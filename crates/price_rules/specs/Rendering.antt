@@ -3,7 +3,7 @@ use Prim.Native.Nat.{ℕ}
 use mathlib.Core.List.{List, _++_}
 use Rattle.lines.specs.Text.{lineOf, texts}
 use Rattle.price_rules.specs.Rule.{Rule}
-use Rattle.price_rules.specs.Grammar.{Prices, listed, ruled}
+use Rattle.price_rules.specs.Grammar.{Prices, byList, byRule}
 
 -- E8.1. a rule's three lines
 unfoldable pub ruleText : Rule → List ℕ
@@ -11,5 +11,5 @@ ruleText r = lineOf "base=" (r .base) ++ lineOf "drop=" (r .drop) ++ lineOf "lea
 
 -- those of a part's prices: a line for each, or the rule's
 abbrev pub pricesText : Prices → List ℕ
-pricesText (listed ps) = texts (lineOf "price=") ps
-pricesText (ruled r) = ruleText r
+pricesText (byList ps) = texts (lineOf "price=") ps
+pricesText (byRule r) = ruleText r

@@ -1,8 +1,5 @@
 -- The code's structs in the terms of the grammar.
-use Prim.Native.Nat.{ℕ}
 use mathlib.Core.Bool.{Bool, true, false}
-use mathlib.Core.List.{List}
-use lib.ListN.{getD}
 use Rattle.lines.specs.Text.{Optional, missing, present}
 use Rattle.lines.specs.Cursor.{ReadAt, ended}
 use Rattle.price_rules.specs.Rule as rule
@@ -25,7 +22,3 @@ ruleAnswer r = ended (r .end) (linesOf (r .there) (ruleOf (r .rule)))
 -- what stands past the end of an array of rules
 abbrev pub blankRule : Rule
 blankRule = record { base = 0; drop = 0; least = 0 }
-
--- the rule of part q, counted from 0, where its mark is set
-abbrev pub ruleIn : List Rule → List Bool → ℕ → Optional rule.Rule
-ruleIn rules ruled q = linesOf (getD ruled q false) (ruleOf (getD rules q blankRule))
