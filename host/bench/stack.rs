@@ -63,6 +63,10 @@ fn longest() -> Form<'static> {
         removals: alike(16, 1_000_000),
         insides: alike(16, 15),
         holders: (1..=16).flat_map(|part| (1..=16).filter(move |other| *other != part)).collect::<Vec<_>>().leak(),
+        ruled: alike(16, 0),
+        bases: &[],
+        drops: &[],
+        leasts: &[],
         prices: alike(1024, 1_000_000),
     }
 }

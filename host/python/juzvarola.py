@@ -46,7 +46,7 @@ __all__ = [
 ]
 
 #: The version of the library's interface that this module is made for.
-VERSION: Tuple[int, int, int] = (0, 9, 0)
+VERSION: Tuple[int, int, int] = (0, 10, 0)
 
 _NAME = "libjuzvarola.so.0"
 _ROOM = 16_384
@@ -172,7 +172,8 @@ class Written:
 class Form:
     """An order form: the facts of a job as lists of numbers, in the job text's order; the prices part by part, one for each opening.
 
-    Of the last four lists, covered has a 1 for each part whose lines of removal stand, else 0; where it is left out no part has them.
+    covered has a 1 for each part whose lines of removal stand, else 0; where it is left out no part has them. ruled has a 1 for each part whose
+    prices are given by a rule, else 0; where it is left out none are. bases, drops and leasts have one for each such part, and prices none.
     """
 
     horizon: int
@@ -186,6 +187,10 @@ class Form:
     removals: Sequence[int] = ()
     insides: Sequence[int] = ()
     holders: Sequence[int] = ()
+    ruled: Optional[Sequence[int]] = None
+    bases: Sequence[int] = ()
+    drops: Sequence[int] = ()
+    leasts: Sequence[int] = ()
 
 
 class _Answer(ctypes.Structure):
@@ -228,7 +233,7 @@ def _load() -> ctypes.CDLL:
         ("juzvarola_plan", _Answer, text + (ctypes.c_uint64,) + out),
         ("juzvarola_judge", _Answer, text + text + out),
         ("juzvarola_latest", _Answer, text + text + out),
-        ("juzvarola_write", _Answer, (ctypes.c_uint32,) + numbers * 10 + out),
+        ("juzvarola_write", _Answer, (ctypes.c_uint32,) + numbers * 14 + out),
         ("juzvarola_count", _Counted, text),
     ):
         call = getattr(library, name)
@@ -307,10 +312,11 @@ def latest(job: Text, plan: Union[Text, Plan]) -> Latest:
 
 def write(form: Form) -> Written:
     """Writes the job text of a form. A number that 32 bits can't hold raises ValueError."""
-    covered = [0] * len(form.lives) if form.covered is None else form.covered
-    lists = (form.openings, form.fees, form.lives, form.lefts, covered, form.removals, form.insides, form.holders, form.prices)
-    words: list = [_number(form.horizon), *_numbers(form.idles)]
-    for own in lists:
+    none = [0] * len(form.lives)
+    covers = (none if form.covered is None else form.covered, form.removals, form.insides, form.holders)
+    rules = (none if form.ruled is None else form.ruled, form.bases, form.drops, form.leasts)
+    words: list = [_number(form.horizon)]
+    for own in (form.idles, form.openings, form.fees, form.lives, form.lefts, *covers, *rules, form.prices):
         words.extend(_numbers(own))
     out = ctypes.create_string_buffer(_WRITE_ROOM)
     answer = _library.juzvarola_write(*words, out, _WRITE_ROOM)

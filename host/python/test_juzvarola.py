@@ -69,6 +69,12 @@ class Calls(unittest.TestCase):
         covered = Form(**{**FORM.__dict__, "covered": [1, 0], "removals": [9], "insides": [1], "holders": [2]})
         self.assertIn(b"left=2\nremoval=9\ninside=1\nholder=2\nprice=5\n", juzvarola.write(covered).text)
         self.assertEqual(juzvarola.write(Form(**{**FORM.__dict__, "fees": [10]})).result, Result.OUT_OF_RANGE)
+        rule = {"ruled": [0, 1], "bases": [9], "drops": [1], "leasts": [7], "prices": [5] * 4}
+        ruled = juzvarola.write(Form(**{**FORM.__dict__, **rule})).text
+        self.assertTrue(ruled.endswith(b"life=4\nleft=4\nbase=9\ndrop=1\nleast=7\n"), ruled)
+        listed = juzvarola.write(Form(**{**FORM.__dict__, "prices": [5] * 4 + [9, 8, 7, 7]})).text
+        self.assertEqual(juzvarola.plan(ruled), juzvarola.plan(listed))
+        self.assertEqual(juzvarola.write(Form(**{**FORM.__dict__, "ruled": [0, 2]})).line, 11)
         for wrong in (-1, 1 << 32):
             with self.assertRaises(ValueError):
                 juzvarola.write(Form(**{**FORM.__dict__, "horizon": wrong}))

@@ -4,8 +4,8 @@
 pub mod fast;
 #[cfg(feature = "library")]
 mod library;
+pub mod lines;
 mod plans;
-pub mod ranges;
 pub mod reference;
 
 #[cfg(feature = "library")]
@@ -63,7 +63,7 @@ pub struct Answer<'t> {
 }
 
 /// An order form: the facts of a job as lists of numbers, in the job text's order. The prices stand part by part, one for each opening.
-/// A part's lines `removal`, `inside` and `holder` may be left out.
+/// A part's lines `removal`, `inside` and `holder` may be left out, and lines `base`, `drop` and `least` may stand in place of its prices.
 #[derive(Debug, Clone, Copy, PartialEq, Eq)]
 pub struct Form<'f> {
     pub horizon: u32,
@@ -80,6 +80,15 @@ pub struct Form<'f> {
     pub insides: &'f [u32],
     /// The numbers of all holders, part after part.
     pub holders: &'f [u32],
+    /// For each part 1 where its prices are given by a rule, else 0.
+    pub ruled: &'f [u32],
+    /// The price at the first opening, one for each part with a rule.
+    pub bases: &'f [u32],
+    /// By how much it falls from opening to opening, one for each part with a rule.
+    pub drops: &'f [u32],
+    /// What it never falls below, one for each part with a rule.
+    pub leasts: &'f [u32],
+    /// Those of the parts without a rule.
     pub prices: &'f [u32],
 }
 

@@ -73,6 +73,10 @@ fn the_longest_text_fits() {
             removals: &alike(16, 1_000_000),
             insides: &alike(16, 15),
             holders: &holders,
+            ruled: &alike(16, 0),
+            bases: &[],
+            drops: &[],
+            leasts: &[],
             prices: &alike(1024, 1_000_000),
         };
         let answer = write(&form, &mut out);

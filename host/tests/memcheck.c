@@ -9,7 +9,7 @@
 
 #include "juzvarola.h"
 
-enum { FIELDS = 32, LISTS = 10, COVERED = 5, LIVES = 3 };
+enum { FIELDS = 32, LISTS = 14, COVERED = 5, RULED = 9, LIVES = 3 };
 
 static char *fields[FIELDS];
 static int field_count;
@@ -86,15 +86,17 @@ static int untouched(const bytes *out, size_t from) {
 }
 
 static juzvarola_answer write_form(const bytes *out) {
-    static const char *names[LISTS] = {"idles", "openings", "fees", "lives", "lefts", "covered", "removals", "insides", "holders", "prices"};
+    static const char *names[LISTS] = {"idles", "openings", "fees", "lives", "lefts", "covered", "removals", "insides", "holders",
+                                        "ruled", "bases",    "drops", "leasts", "prices"};
     numbers l[LISTS];
     for (int at = 0; at < LISTS; at++) {
-        l[at] = list(names[at], at == COVERED ? l[LIVES].length : 0);
+        l[at] = list(names[at], at == COVERED || at == RULED ? l[LIVES].length : 0);
     }
-    juzvarola_answer answer = juzvarola_write(
-        (uint32_t)number("horizon", 0), l[0].at, l[0].length, l[1].at, l[1].length, l[2].at, l[2].length, l[3].at,
-        l[3].length, l[4].at, l[4].length, l[5].at, l[5].length, l[6].at, l[6].length, l[7].at, l[7].length, l[8].at, l[8].length, l[9].at,
-        l[9].length, out->at, out->length);
+    juzvarola_form form = {
+        (uint32_t)number("horizon", 0), l[0].at, l[0].length, l[1].at, l[1].length, l[2].at, l[2].length, l[3].at, l[3].length, l[4].at, l[4].length,
+        l[5].at, l[5].length, l[6].at, l[6].length, l[7].at, l[7].length, l[8].at, l[8].length, l[9].at, l[9].length, l[10].at, l[10].length,
+        l[11].at, l[11].length, l[12].at, l[12].length, l[13].at, l[13].length};
+    juzvarola_answer answer = juzvarola_write_form(&form, out->at, out->length);
     for (int at = 0; at < LISTS; at++) {
         free(l[at].at);
     }

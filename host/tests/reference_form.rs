@@ -35,6 +35,7 @@ fn facts_of(text: &[u8]) -> Facts {
                 life: part.life as u64,
                 left: part.left as u64,
                 cover: part.covered.then(|| (part.removal, part.holders.iter().map(|holder| *holder as u64 + 1).collect())),
+                rule: part.rule,
                 prices: part.prices.clone(),
             })
             .collect(),

@@ -43,6 +43,9 @@ fn values_outside_their_range() {
         ("left=2", "left=2 removal=1000001 inside=0", "job.txt:15: removal is not a number from 0 to 1,000,000 (3)\n    removal=1000001\n"),
         ("left=2", "left=2 removal=0 inside=16", "job.txt:16: inside is not a number from 0 to 15 (3)\n    inside=16\n"),
         ("left=2", "left=2 removal=0 inside=1 holder=17", "job.txt:17: holder is not a number from 1 to 16 (3)\n    holder=17\n"),
+        ("left=2", "left=2 base=0", "job.txt:15: base is not a number from 1 to 1,000,000 (3)\n    base=0\n"),
+        ("left=2", "left=2 base=1 drop=1000001", "job.txt:16: drop is not a number from 0 to 1,000,000 (3)\n    drop=1000001\n"),
+        ("left=2", "left=2 base=1 drop=0 least=0", "job.txt:17: least is not a number from 1 to 1,000,000 (3)\n    least=0\n"),
         ("price=5", "price=0", "job.txt:15: price is not a number from 1 to 1,000,000 (3)\n    price=0\n"),
         ("horizon=6", "horizon=6 idles=0", "job.txt:2: idles is not a number from 1 to 365 (3)\n    idles=0\n"),
         ("horizon=6", "horizon=6 idles=1 idle=366", "job.txt:3: idle is not a number from 1 to 365 (3)\n    idle=366\n"),
@@ -94,7 +97,11 @@ fn lines_that_are_not_well_formed() {
     assert_eq!(of_job("fee=10 opening=3", "opening=3"), "job.txt:5: `fee=` is due here (2)\n    opening=3\n");
     assert_eq!(of_job("openings=4", "openings=5"), "job.txt:12: `opening=` is due here (2)\n    parts=2\n");
     assert_eq!(of_job("price=5 life=4", "life=4"), "job.txt:18: `price=` is due here (2)\n    life=4\n");
-    assert_eq!(of_job("left=2", "left=2 inside=0"), "job.txt:15: `price=` (or `removal=`) is due here (2)\n    inside=0\n");
+    assert_eq!(of_job("left=2", "left=2 inside=0"), "job.txt:15: `price=` (or `removal=` or `base=`) is due here (2)\n    inside=0\n");
+    assert_eq!(of_job("left=2", "left=2 removal=1 inside=0 least=1"), "job.txt:17: `price=` (or `base=`) is due here (2)\n    least=1\n");
+    assert_eq!(of_job("left=2", "left=2 base=x"), format!("job.txt:15: base {digits}\n    base=x\n"));
+    assert_eq!(of_job("left=2", "left=2 base=1"), "job.txt:16: `drop=` is due here (2)\n    price=5\n");
+    assert_eq!(of_job("left=2", "left=2 base=1 drop=1 least=1"), "job.txt:18: `life=` is due here (2)\n    price=5\n");
     assert_eq!(of_job("left=2", "left=2 removal=x"), format!("job.txt:15: removal {digits}\n    removal=x\n"));
     assert_eq!(of_job("left=2", "left=2 removal=1"), "job.txt:16: `inside=` is due here (2)\n    price=5\n");
     assert_eq!(of_job("left=2", "left=2 removal=1 inside=1"), "job.txt:17: `holder=` is due here (2)\n    price=5\n");
@@ -169,6 +176,7 @@ fn slips_are_named_for_what_they_are() {
         ("walk=11", "Walk=11", "`walk` is written in small letters".to_string()),
         ("walk=11", "Openings=4", "`openings` is written in small letters".to_string()),
         ("left=2", "left=2\nRemoval=1", "`removal` is written in small letters".to_string()),
+        ("left=2", "left=2\nbase: 9", "`=` stands between `base` and its value: base=value".to_string()),
         ("fee=10", "fees=10", "`fee=` is due here".to_string()),
     ];
     for (old, new, words) in cases {

@@ -34,7 +34,11 @@ fn table(job: &Job, between: &str) -> String {
         let holders: Vec<String> = part.holders.iter().map(|holder| (holder + 1).to_string()).collect();
         let removal = if part.covered { part.removal.to_string() } else { String::new() };
         let cells = [(at + 1).to_string(), part.life.to_string(), part.left.to_string(), removal, holders.join(" ")];
-        text += &row([cells.to_vec(), part.prices.iter().map(u64::to_string).collect()].concat());
+        let prices = match part.rule {
+            Some(rule) => format!("base {} drop {} least {}", rule.base, rule.drop, rule.least).split(' ').map(str::to_string).collect(),
+            None => part.prices.iter().map(u64::to_string).collect(),
+        };
+        text += &row([cells.to_vec(), prices].concat());
     }
     text
 }
@@ -63,6 +67,24 @@ fn tables_become_job_texts() {
     assert_eq!(write(&windows).out, expected);
     let quoted = TABLE.replace("horizon,6", "\"horizon\",\" 6 \"") + "\n,,,\n";
     assert_eq!(write(&quoted).out, expected);
+}
+
+#[test]
+fn tables_may_have_rules() {
+    let ruled = TABLE.replace("7,7,7,7", "base,9,Drop,1,least,7");
+    let expected = without_walk(&text(JOB)).replace("price=7\nprice=7\nprice=7\nprice=7\n", "base=9\ndrop=1\nleast=7\n");
+    let ran = write(&ruled);
+    assert_eq!((ran.status, ran.out.as_str(), ran.err.as_str()), (0, expected.as_str(), ""));
+    for (row, words) in [
+        ("base,9,drop,1", "cell F6: a rule is the cells base, drop and least, each with its number behind it"),
+        ("base,9,least,1,drop,7", "cell H6: the word `drop` is due here"),
+        ("base,9,drop,1,least,7,8", "cell L6: nothing stands behind a rule"),
+        ("base,9,drop,x,least,7", "cell I6: drop: 'x' is not a whole number"),
+        ("base,0,drop,1,least,7", "cell G6: base is not a number from 1 to 1,000,000; line 20 of the text (3)"),
+    ] {
+        let ran = write(&TABLE.replace("7,7,7,7", row));
+        assert_eq!((ran.status, ran.err.as_str()), (2, format!("form.csv: {words}\n").as_str()));
+    }
 }
 
 #[test]

@@ -12,7 +12,6 @@ mod csv;
 mod dates;
 mod draw;
 mod drawing;
-mod due_keys;
 mod failure;
 mod faults;
 mod files;

@@ -7,14 +7,31 @@ pub struct Opening {
     pub fee: u64,
 }
 
-/// A part: its life, what is left of its first, what it costs to take it out, the parts that hold it, its price at each opening.
+/// A part: its life, what is left of its first, what it costs to take it out, the parts that hold it, its price at each opening, and the rule that
+/// gives the prices where there is one.
 #[derive(Debug, Clone, Default)]
 pub struct Part {
     pub life: u64,
     pub left: u64,
     pub removal: u64,
     pub holders: Vec<u64>,
+    pub rule: Option<Rule>,
     pub prices: Vec<u64>,
+}
+
+/// Prices by a rule: the first opening's, by how much each further one's is lower, and what none is below.
+#[derive(Debug, Clone, Copy, Default, PartialEq, Eq)]
+pub struct Rule {
+    pub base: u64,
+    pub drop: u64,
+    pub least: u64,
+}
+
+impl Rule {
+    /// The price at an opening, counted from 0.
+    fn price(&self, opening: usize) -> u64 {
+        self.base.saturating_sub(self.drop.saturating_mul(opening as u64)).max(self.least)
+    }
 }
 
 /// A job as its text says it.
@@ -129,14 +146,35 @@ pub fn job(text: &[u8]) -> Job {
             b"opening" => job.openings.push(Opening { step: value, fee: 0 }),
             b"fee" => job.openings.last_mut().into_iter().for_each(|opening| opening.fee = value),
             b"life" => job.parts.push(Part { life: value, ..Part::default() }),
-            b"left" => job.parts.last_mut().into_iter().for_each(|part| part.left = value),
-            b"removal" => job.parts.last_mut().into_iter().for_each(|part| part.removal = value),
-            b"holder" => job.parts.last_mut().into_iter().for_each(|part| part.holders.push(value)),
-            b"price" => job.parts.last_mut().into_iter().for_each(|part| part.prices.push(value)),
+            _ => job.parts.last_mut().into_iter().for_each(|part| part.put(key, value)),
+        }
+    }
+    let openings = job.openings.len();
+    job.parts.iter_mut().for_each(|part| part.follow_rule(openings));
+    job
+}
+
+impl Part {
+    /// Reads a line behind the part's first.
+    fn put(&mut self, key: &[u8], value: u64) {
+        match key {
+            b"left" => self.left = value,
+            b"removal" => self.removal = value,
+            b"holder" => self.holders.push(value),
+            b"base" => self.rule = Some(Rule { base: value, ..Rule::default() }),
+            b"drop" => self.rule.iter_mut().for_each(|rule| rule.drop = value),
+            b"least" => self.rule.iter_mut().for_each(|rule| rule.least = value),
+            b"price" => self.prices.push(value),
             _ => {}
         }
     }
-    job
+
+    /// The rule's price for each opening, where there is a rule.
+    fn follow_rule(&mut self, openings: usize) {
+        if let Some(rule) = self.rule {
+            self.prices = (0..openings).map(|opening| rule.price(opening)).collect();
+        }
+    }
 }
 
 /// Reads an accepted plan text. The empty one is the plan of doing nothing.
@@ -187,7 +225,31 @@ mod tests {
     /// Prices in a form that is not known are missing, and not zero.
     #[test]
     fn unknown_prices_are_missing() {
-        let read = job(JOB.replace("price=5\n", "base=9\ndrop=1\nleast=1\n").as_bytes());
+        let read = job(JOB.replace("price=5\n", "tariff=9\n").as_bytes());
         assert_eq!((read.price(1, 2), read.price(2, 2)), (None, Some(7)));
+    }
+
+    /// A rule gives a price for each opening: falling, and none below its least.
+    #[test]
+    fn rules_give_prices() {
+        let text = "openings=4\nopening=1\nopening=2\nopening=3\nopening=5\nparts=2\nlife=3\nleft=2\nbase=9\ndrop=3\nleast=4\nlife=3\nleft=3\nbase=2\ndrop=0\nleast=7\n";
+        let read = job(text.as_bytes());
+        assert_eq!((&read.parts[0].prices[..], &read.parts[1].prices[..]), (&[9, 6, 4, 4][..], &[7; 4][..]));
+        assert_eq!((read.price(1, 5), read.price(2, 1)), (Some(4), Some(7)));
+    }
+
+    /// Every line of a job says something of it, but for counts and the walk line.
+    #[test]
+    fn every_line_of_the_table_is_read() {
+        let aside = ["idles", "walk", "openings", "parts", "inside"];
+        let rule = ["base", "drop", "least"];
+        let lines = juzvarola_host::lines::JOB.iter().filter(|line| !rule.contains(&line.key));
+        let text: String = lines.map(|line| format!("{}=3\n", line.key)).collect();
+        let text = text + "life=4\nbase=3\ndrop=3\nleast=3\n";
+        let whole = format!("{:?}", job(text.as_bytes()));
+        for line in juzvarola_host::lines::JOB {
+            let without = text.replace(&format!("{}=3\n", line.key), "");
+            assert_eq!(format!("{:?}", job(without.as_bytes())) == whole, aside.contains(&line.key), "{}", line.key);
+        }
     }
 }

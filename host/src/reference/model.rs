@@ -18,7 +18,30 @@ pub struct Part {
     pub removal: u64,
     /// The places of its holders among the parts, from 0, rising.
     pub holders: Vec<usize>,
+    /// The rule that its prices were given by, where the lines `base`, `drop` and `least` stand.
+    pub rule: Option<Rule>,
     pub prices: Vec<u64>,
+}
+
+/// "In place of its `price` lines a part may have `base` 1..1000000, `drop` 0..1000000 and `least` 1..1000000."
+#[derive(Debug, Clone, Copy, PartialEq, Eq)]
+pub struct Rule {
+    pub base: u64,
+    pub drop: u64,
+    pub least: u64,
+}
+
+impl Rule {
+    /// "Opening number k, counted from 0, then has price base minus k times drop, or least if that is larger."
+    pub fn price(&self, k: u64) -> u64 {
+        let fallen = self.base as i64 - k as i64 * self.drop as i64;
+        fallen.max(self.least as i64) as u64
+    }
+
+    /// "A generator writes the table of prices": those of so many openings.
+    pub fn prices(&self, openings: u64) -> Vec<u64> {
+        (0..openings).map(|k| self.price(k)).collect()
+    }
 }
 
 #[derive(Debug, Clone, PartialEq, Eq)]

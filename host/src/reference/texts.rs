@@ -1,7 +1,8 @@
-//! "The texts": the job's lines with its idle lines and the lines of parts that others hold, the plan's lines, and how a plan is printed.
+//! "The texts": the job's lines with its idle lines, the lines of parts that others hold and of prices by a rule, the plan's lines, and how
+//! a plan is printed.
 
 use super::lines::{Fault, Lines};
-use super::model::{Job, Opening, Part, Plan};
+use super::model::{Job, Opening, Part, Plan, Rule};
 
 /// "Job: `horizon` 2..365; `walk` 0..4000000000; `openings` 0..64; for each, `opening` 1..365 and `fee` 0..1000000; `parts` 1..16; for
 /// each, `life` 1..1000, `left` 1..1000, then one `price` 1..1000000 per opening." The optional lines stand where the requests put them.
@@ -41,11 +42,21 @@ fn read_part(lines: &mut Lines, own: usize, parts: usize, openings: u64) -> Resu
     }
     let covered = lines.begins("removal=");
     let (removal, holders) = if covered { read_cover(lines, own, parts)? } else { (0, Vec::new()) };
-    let mut prices = Vec::new();
-    for _ in 0..openings {
-        prices.push(lines.value("price", 1, 1_000_000)?);
-    }
-    Ok(Part { life, left, covered, removal, holders, prices })
+    let rule = if lines.begins("base=") { Some(read_rule(lines)?) } else { None };
+    let prices = match &rule {
+        Some(rule) => rule.prices(openings),
+        None => (0..openings).map(|_| lines.value("price", 1, 1_000_000)).collect::<Result<Vec<u64>, Fault>>()?,
+    };
+    Ok(Part { life, left, covered, removal, holders, rule, prices })
+}
+
+/// "In place of its `price` lines a part may have `base` 1..1000000, `drop` 0..1000000 and `least` 1..1000000." They are there exactly if
+/// the next line begins with `base=`, also where there are no openings and so no `price` lines.
+fn read_rule(lines: &mut Lines) -> Result<Rule, Fault> {
+    let base = lines.value("base", 1, 1_000_000)?;
+    let drop = lines.value("drop", 0, 1_000_000)?;
+    let least = lines.value("least", 1, 1_000_000)?;
+    Ok(Rule { base, drop, least })
 }
 
 /// "After each `left` a job may have `removal` 0..1000000, `inside` 0..15 and that many `holder` lines, 1..16, rising". They are there

@@ -4,7 +4,7 @@
 use super::inputs::{self, Facts};
 use super::rng::Rng;
 use super::Call;
-use juzvarola_host::ranges::RANGES;
+use juzvarola_host::lines;
 use juzvarola_host::reference::texts::read_job;
 
 /// What other systems and other alphabets put into a text: NUL, line ends, a byte order mark, letters and digits beyond ASCII.
@@ -37,7 +37,7 @@ const MOST_NODES: u64 = 400;
 /// A value at a limit of its key or one past it; the one before and the one after the limits too where they are numbers.
 fn at_limit(rng: &mut Rng, line: &str) -> String {
     let key = line.split('=').next().unwrap_or("");
-    let Some((_, least, most)) = RANGES.iter().find(|(own, _, _)| *own == key) else { return format!("{line}0") };
+    let Some(lines::Line { least, most, .. }) = lines::find(key) else { return format!("{line}0") };
     let value = rng.pick(&[*least, least.saturating_sub(1), least + 1, *most, most + 1, most - 1, most + 1]);
     format!("{key}={value}")
 }

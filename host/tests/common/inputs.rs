@@ -2,7 +2,8 @@
 
 use super::rng::Rng;
 use super::{setting, Call};
-use juzvarola_host::{reference, MOST_WALK};
+use juzvarola_host::reference::{self, model::Rule};
+use juzvarola_host::MOST_WALK;
 use std::collections::BTreeSet;
 
 const OUTPUT: usize = 16_384;
@@ -28,6 +29,8 @@ pub struct PartFacts {
     pub left: u64,
     /// The removal and the numbers of the holders, where their lines stand.
     pub cover: Option<(u64, Vec<u64>)>,
+    /// The rule that gives the prices, where its lines stand in their place.
+    pub rule: Option<Rule>,
     pub prices: Vec<u64>,
 }
 
@@ -57,9 +60,7 @@ impl Facts {
         for part in &self.parts {
             text += &format!("life={}\nleft={}\n", part.life, part.left);
             text += &part.cover_lines();
-            for price in &part.prices {
-                text += &format!("price={price}\n");
-            }
+            text += &part.price_lines();
         }
         text.into_bytes()
     }
@@ -87,6 +88,20 @@ impl PartFacts {
         let Some((removal, holders)) = &self.cover else { return String::new() };
         let lines: String = holders.iter().map(|holder| format!("holder={holder}\n")).collect();
         format!("removal={removal}\ninside={}\n{lines}", holders.len())
+    }
+
+    /// The lines of its prices: the rule's where there is one, else one for each opening.
+    fn price_lines(&self) -> String {
+        match self.rule {
+            Some(Rule { base, drop, least }) => format!("base={base}\ndrop={drop}\nleast={least}\n"),
+            None => self.prices.iter().map(|price| format!("price={price}\n")).collect(),
+        }
+    }
+
+    /// The same part with its prices listed, the highest first.
+    pub fn fall(&mut self) {
+        self.rule = None;
+        self.prices.sort_by(|a, b| b.cmp(a));
     }
 }
 
@@ -208,6 +223,42 @@ fn cover(rng: &mut Rng, parts: &mut [PartFacts]) {
     }
 }
 
+/// Whether jobs have prices by a rule: JUZVAROLA_RULES=0 gives none.
+pub fn rules_on() -> bool {
+    setting("JUZVAROLA_RULES", 1) != 0
+}
+
+/// A rule: prices that don't fall, fall slowly, fall at once to the least, or stay at a least above the base.
+fn rule(rng: &mut Rng) -> Rule {
+    let most = 1_000_000;
+    let base = rng.pick(&[1, 2, 9, 20, 100, 999_999, most]);
+    let drop = match rng.below(5) {
+        0 => 0,
+        1 => rng.pick(&[1, base / 2, base - 1, base, most]),
+        _ => rng.within(0, (base / 4).max(2)),
+    };
+    let least = match rng.below(4) {
+        0 => rng.pick(&[1, base, (base + 1).min(most), most]),
+        _ => rng.within(1, (base / 2).max(2)),
+    };
+    Rule { base, drop, least }
+}
+
+/// Gives the parts of about a third of the jobs prices by a rule, all of them or some.
+fn give_rules(rng: &mut Rng, facts: &mut Facts) {
+    if !rules_on() || !rng.once_in(3) {
+        return;
+    }
+    let all = rng.once_in(3);
+    let openings = facts.openings.len() as u64;
+    for part in &mut facts.parts {
+        if all || rng.once_in(2) {
+            let rule = rule(rng);
+            (part.rule, part.prices) = (Some(rule), rule.prices(openings));
+        }
+    }
+}
+
 /// A job without faults; most have a plan. Its walk number is the largest, and half of the texts have a walk line.
 pub fn facts(rng: &mut Rng, size: Size) -> Facts {
     let horizon = rng.within(2, size.horizon);
@@ -235,9 +286,10 @@ pub fn facts(rng: &mut Rng, size: Size) -> Facts {
             1 => life,
             _ => rng.within(gap.min(life), life),
         };
-        facts.parts.push(PartFacts { life, left, cover: None, prices: amounts(rng, count, 1) });
+        facts.parts.push(PartFacts { life, left, cover: None, rule: None, prices: amounts(rng, count, 1) });
     }
     cover(rng, &mut facts.parts);
+    give_rules(rng, &mut facts);
     facts
 }
 
@@ -265,7 +317,7 @@ fn with_walk(rng: &mut Rng, mut facts: Facts, most: u64, whole: bool) -> Facts {
 fn largest(rng: &mut Rng) -> Facts {
     let most = 1_000_000;
     let openings: Vec<(u64, u64)> = (1..=64).map(|step| (step, most)).collect();
-    let part = PartFacts { life: 1000, left: rng.within(60, 1000), cover: None, prices: vec![most; 64] };
+    let part = PartFacts { life: 1000, left: rng.within(60, 1000), cover: None, rule: None, prices: vec![most; 64] };
     let mut facts =
         Facts { horizon: rng.within(64, 70), idles: Vec::new(), walk: rng.within(0, 80), line: None, openings, parts: vec![part; 16] };
     if holders_on() {
@@ -386,7 +438,7 @@ const NO_VALUES: &[&str] = &[
 
 const KEYS: &[&str] = &[
     "horizon", "walk", "openings", "opening", "fee", "parts", "life", "left", "price", "cost", "stops", "stop", "count", "part", "", "Fee",
-    " fee", "fee ", "pric", "prices", "result", "removal", "inside", "holder", "idles", "idle",
+    " fee", "fee ", "pric", "prices", "result", "removal", "inside", "holder", "base", "drop", "least", "idles", "idle",
 ];
 
 /// How many of the keys at the end are for idle lines.
@@ -581,20 +633,57 @@ fn with_damaged_cover(rng: &mut Rng, facts: &Facts) -> Vec<u8> {
     let section = part.cover_lines();
     let mut lines: Vec<String> = section.lines().map(str::to_string).collect();
     damage_cover(rng, &mut lines, own + 1, count);
+    with_lines(&facts, own as usize, &section, &lines)
+}
+
+/// A damage to the lines of a part's rule, with a price for each of `openings` to stand in their place or behind them.
+fn damage_rule(rng: &mut Rng, lines: &mut Vec<String>, openings: usize) {
+    let at = rng.below(3) as usize;
+    let value = |key: &str, rng: &mut Rng| format!("{key}={}", rng.pick(&[0, 1, 1_000_000, 1_000_001, 4_294_967_296u64]));
+    let prices = |rng: &mut Rng, count: usize| (0..count).map(|_| format!("price={}", rng.within(1, 9))).collect::<Vec<String>>();
+    match rng.below(9) {
+        0..=2 => lines[at] = value(["base", "drop", "least"][at], rng),
+        // A line missing, doubled or exchanged with another.
+        3 => drop(lines.remove(at)),
+        4 => lines.insert(at, lines[at].clone()),
+        5 => lines.swap(at, (at + 1) % 3),
+        // Prices behind the rule, some of them in its place, or the rule behind the prices.
+        6 => lines.extend(prices(rng, openings.max(1))),
+        7 => drop(lines.splice(at..3, prices(rng, openings))),
+        _ => drop(lines.splice(0..0, prices(rng, openings.max(1)))),
+    }
+}
+
+/// The job's text with a damage to the lines of one part's rule.
+fn with_damaged_rule(rng: &mut Rng, facts: &Facts) -> Vec<u8> {
+    let mut facts = facts.clone();
+    let own = rng.below(facts.parts.len() as u64) as usize;
+    let rule = facts.parts[own].rule.unwrap_or_else(|| rule(rng));
+    facts.parts[own].rule = Some(rule);
+    let section = facts.parts[own].price_lines();
+    let mut lines: Vec<String> = section.lines().map(str::to_string).collect();
+    damage_rule(rng, &mut lines, facts.openings.len());
+    with_lines(&facts, own, &section, &lines)
+}
+
+/// The job's text with other lines in place of a part's own ones.
+fn with_lines(facts: &Facts, part: usize, section: &str, lines: &[String]) -> Vec<u8> {
     let text = String::from_utf8(facts.text()).expect("ASCII");
     // The part's own lines: those after the `life` line with its number.
-    let life = text.match_indices("life=").nth(own as usize).expect("a part").0;
-    let at = life + text[life..].find(&section).expect("its lines");
+    let life = text.match_indices("life=").nth(part).expect("a part").0;
+    let at = life + text[life..].find(section).expect("its lines");
     let lines: String = lines.iter().map(|line| format!("{line}\n")).collect();
     [&text[..at], &lines, &text[at + section.len()..]].concat().into_bytes()
 }
 
-/// The job's text, damaged: in its idle lines once in three, in a part's removal and holders once in six.
+/// The job's text, damaged: in its idle lines once in three, in a part's removal and holders once in six, in its rule once in ten.
 pub fn damaged_job(rng: &mut Rng, facts: &Facts) -> Vec<u8> {
     if idles_on() && rng.once_in(3) {
         with_damaged_idles(rng, facts)
     } else if holders_on() && rng.once_in(4) {
         with_damaged_cover(rng, facts)
+    } else if rules_on() && rng.once_in(5) {
+        with_damaged_rule(rng, facts)
     } else {
         damaged(rng, facts.text())
     }
