@@ -148,10 +148,12 @@ tabs), laid out like this; juzvarola-table(5) says more:
   part,life,left,removal,holders,prices
   1,12,9,,,40,40,45
   2,26,26,15,1,70
+  3,20,8,,,base,90,drop,5,least,70
 
 A single fee or price stands for every opening; the row idle and the cells of
-removal and holders may be left out. A fault is named by its cell and by the
-line of the text that would have held it.
+removal and holders may be left out. A rule in place of the prices: the first
+opening's, how much less each further one's is, and what none is below. A fault
+is named by its cell and by the line of the text that would have held it.
 
   -o, --output JOB    where the job text goes; - is standard output
 ",

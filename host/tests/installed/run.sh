@@ -18,7 +18,7 @@ plain="$scratch/prefix"
 export MAKEFLAGS=--no-print-directory
 make -s install PREFIX="$plain" DESTDIR=
 make -s install PREFIX=/usr DESTDIR="$prefix"
-calls=$(sed -n 's/^\(static inline \)*[a-z][a-z0-9_]* \(juzvarola_[a-z_]*\)(.*/\2/p' ../include/juzvarola.h)
+calls=$(sed -n 's/^\(static inline \)*[a-z][a-z0-9_]* \(juzvarola_[a-z_]*\).*/\2/p' ../include/juzvarola.h)
 installed="bin/juzvarola bin/juzvarola-judge bin/juzvarola-planner include/juzvarola.h lib/libjuzvarola.a lib/libjuzvarola.so.0 lib/pkgconfig/juzvarola.pc
 lib/cmake/juzvarola/juzvarola-config.cmake lib/cmake/juzvarola/juzvarola-config-version.cmake lib/python3/dist-packages/juzvarola.py
 share/bash-completion/completions/juzvarola share/man/man1/juzvarola-judge.1 share/man/man1/juzvarola.1 share/man/man1/juzvarola-planner.1
