@@ -304,7 +304,10 @@ pub fn solve(
     limit: u64,
 ) -> State
     requires { ⌜ ((job : Job) × (shares : Split) × (lanes : List Held) × Solvable job shares lanes (now t) (now x)) × (cost ≤ inf) × (limit < 2 ^ 63) × (length (now w) ≡ stackSize) × (length (now name) ≡ nameSize) × (length (now best) ≡ nameSize) ⌝ }
-    ensures { λ r. ⌜ ((job : Job) (shares : Split) (lanes : List Held) → Solvable job shares lanes (now (t .entry)) (now (x .entry)) → view r (now (best .exit)) ≡ walkUnder (treeBy job (sharedBound job shares)) cost limit) ⌝ }
+    ensures search { λ r. ⌜ ((job : Job) (shares : Split) (lanes : List Held) → Solvable job shares lanes (now (t .entry)) (now (x .entry)) → view r (now (best .exit)) ≡ walkUnder (treeBy job (sharedBound job shares)) cost limit) ⌝ }
+    ensures stack { λ _. ⌜ length (now (w .exit)) ≡ stackSize ⌝ }
+    ensures names { λ _. ⌜ length (now (name .exit)) ≡ nameSize ⌝ }
+    ensures found { λ _. ⌜ length (now (best .exit)) ≡ nameSize ⌝ }
 {
     base_row(w);
     let root = Node {
