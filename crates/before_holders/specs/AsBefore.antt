@@ -1,5 +1,5 @@
 -- E7.13. "With no holders and removals of 0, every printed answer to texts that were free of faults before is the one given before."
-use Prim.Native.Nat.{ℕ}
+use Prim.Native.Nat.{ℕ, _≤_}
 use mathlib.Core.Path.{_≡_}
 use mathlib.Core.List.{List}
 use mathlib.Core.Logic.{_↔_}
@@ -27,13 +27,14 @@ pub record Accepted (text : List ℕ) : Type 0 where
 abbrev pub asToday : Given → today.Given
 asToday g = record { job = g .job }
 
--- a part without lines of removal, whose prices are listed
+-- a part without lines of removal, whose prices are listed, and of whose life something is left
 pub record BarePart (p : PartText) : Type 0 where
+  pub left : 1 ≤ p .left
   pub cover : p .cover ≡ missing
   pub prices : List ℕ
   pub listed : p .prices ≡ byList prices
 
--- what it says today has the walk line, no lines of removal and no rule
+-- what it says today has the walk line, no lines of removal, no rule and no left of 0
 pub record Bare (t : today.JobText) : Type 0 where
   pub walk : ℕ
   pub there : t .walk ≡ present walk
@@ -47,7 +48,7 @@ pub record BothAccepted (job plan : List ℕ) : Type 0 where
 
 -- of all texts and rooms: which texts were free of faults, what they said, and every call's answer
 pub record AsBefore : Type 0 where
-  -- exactly the job texts that are accepted today, with the walk line and without lines of removal or a rule, were accepted
+  -- exactly the job texts that are accepted today, with the walk line and without lines of removal, a rule or a left of 0, were accepted
   pub accepts : (text : List ℕ) → Accepted text ↔ ((t : today.JobText) × ((today.readJobText text ≡ accepted t) × Bare t))
   -- the texts say what they said
   pub job-text : (text : List ℕ) (a : Accepted text) → today.readJob text ≡ accepted (asToday (a .given))
