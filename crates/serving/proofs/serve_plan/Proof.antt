@@ -4,6 +4,7 @@ use native.Mathlib.Omega.{arith}
 use Rattle.lines.specs.Parser.{accepted, refused}
 use Rattle.lines.proofs.Outcomes.{told}
 use Rattle.jobs.specs.Views.{jobOf}
+use Rattle.job_text.proofs.Views.{sound-job}
 use Rattle.plan_grammar.specs.Grammar.{readPlan}
 use Rattle.plan_text.specs.Views.{statedFor}
 use Rattle.plan_grammar.proofs.Numbered.{fault}
@@ -12,15 +13,15 @@ use Rattle.serving.proofs.serve_plan.Statement.{statement}
 use Rattle.serving.proofs.serve_plan.Tie as tie
 
 -- what the plan text reads as, by the verdict on it
-refused-plan : (c : tie.After-verdict) → let a = c .before .before .before .before .before .args in readPlan (jobOf (a .job)) (a .plan .now) ≡ refused (c .verdict .given .0 .0) (c .verdict .given .0 .1 .0)
+refused-plan : (c : tie.After-verdict) → let a = c .before .before .before .before .before .before .args in readPlan (jobOf (a .text .job)) (a .plan .now) ≡ refused (c .verdict .given .0 .0) (c .verdict .given .0 .1 .0)
 refused-plan c = told _ (c .before .before .read-plan .ensures) (c .verdict .given .1)
 
-accepted-plan : (c : tie.After-enum-told) → let a = c .before .before .before .before .before .args in let r = c .before .before .read-plan .result in
-    readPlan (jobOf (a .job)) (a .plan .now) ≡ accepted (statedFor (a .job) (r .cost) (r .plan))
+accepted-plan : (c : tie.After-enum-told) → let a = c .before .before .before .before .before .before .args in let r = c .before .before .read-plan .result in
+    readPlan (jobOf (a .text .job)) (a .plan .now) ≡ accepted (statedFor (a .text .job) (r .cost) (r .plan))
 accepted-plan c = told _ (c .before .before .read-plan .ensures) (c .enum-told .given .1)
 
 read-plan-requires : tie.Need-read-plan-requires
-read-plan-requires c κs = search needs
+read-plan-requires c κs = let s = c .before .before in sound-job (s .args .text) (s .pre)
 
 refuse-requires : tie.Need-refuse-requires
 refuse-requires c κs = (omega (arith, fault _ _ _ _ (refused-plan (c .before .before)) .1), omega arith)
