@@ -12,7 +12,7 @@ extern "C" {
 /* The version of these declarations. It moves with every change of a declaration, a text or an answer; JUZVAROLA_VERSION is what juzvarola_version
  * answers where header and library are of one version. */
 #define JUZVAROLA_VERSION_MAJOR 0
-#define JUZVAROLA_VERSION_MINOR 9
+#define JUZVAROLA_VERSION_MINOR 10
 #define JUZVAROLA_VERSION_PATCH 0
 #define JUZVAROLA_VERSION (JUZVAROLA_VERSION_MAJOR * 1000000u + JUZVAROLA_VERSION_MINOR * 1000u + JUZVAROLA_VERSION_PATCH)
 
@@ -113,7 +113,7 @@ juzvarola_answer juzvarola_latest(const uint8_t *job, size_t job_len, const uint
 
 /* Writes the text of a job from the lists of an order form: results 0, 3, 4, 5, 8 and 12.
  *
- * The lists stand in the text's order: a fee for each opening, a left for each life, and for each part one price per opening, part by part.
+ * The lists stand in the text's order: a fee for each opening, a left for each life, and for each part without a rule one price per opening, part by part.
  * The counts in the text are the lists' lengths; there is no `idles` line if there are no idles. A list may have any length.
  *
  * Four lists are for a part's lines `removal`, `inside` and `holder`, which may be left out:
@@ -123,17 +123,69 @@ juzvarola_answer juzvarola_latest(const uint8_t *job, size_t job_len, const uint
  * holders       the numbers of all holders, part after part: as many as the insides say together.
  * For a job without these lines `covered` is a 0 for each part, and the other three have length 0.
  *
+ * Four more are for a part's lines `base`, `drop` and `least`, a rule in place of its prices:
+ * ruled         for each part 1 where it has a rule, else 0.
+ * bases, drops, leasts
+ *               one each for each part with a rule.
+ * For a job without rules `ruled` is a 0 for each part, and the other three have length 0.
+ *
  * Result 0: the first `length` bytes of `out` are the job text, with no `result` line before it. It reads back as the same job, and the numbers of
  * an accepted text without a `walk` line give that text again, byte for byte. A `walk` line is never written.
  * Results 3, 4, 5 and 12: the fault that the text would have had, with `text` 1 and the line that would have held it. Fees not as many as openings give
- * 3 on the `openings` line; lefts not as many as lives, prices not parts times openings, one of the four lists with a wrong length, and a `covered` that is
- * neither 0 nor 1, on the `parts` line. There is no text of the caller's, so no line at fault is handed over.
+ * 3 on the `openings` line; lefts not as many as lives, prices not parts without a rule times openings, one of the eight lists with a wrong length, and a
+ * `covered` or `ruled` that is neither 0 nor 1, on the `parts` line. There is no text of the caller's, so no line at fault is handed over.
  */
 juzvarola_answer juzvarola_write(uint32_t horizon, const uint32_t *idles, size_t idles_len, const uint32_t *openings, size_t openings_len,
                                  const uint32_t *fees, size_t fees_len, const uint32_t *lives, size_t lives_len, const uint32_t *lefts, size_t lefts_len,
                                  const uint32_t *covered, size_t covered_len, const uint32_t *removals, size_t removals_len, const uint32_t *insides,
-                                 size_t insides_len, const uint32_t *holders, size_t holders_len, const uint32_t *prices, size_t prices_len, uint8_t *out,
-                                 size_t out_len);
+                                 size_t insides_len, const uint32_t *holders, size_t holders_len, const uint32_t *ruled, size_t ruled_len,
+                                 const uint32_t *bases, size_t bases_len, const uint32_t *drops, size_t drops_len, const uint32_t *leasts,
+                                 size_t leasts_len, const uint32_t *prices, size_t prices_len, uint8_t *out, size_t out_len);
+
+/* The lists of an order form by name, in the order of juzvarola_write. A list that is left out is null with length 0, so a form set to zeros
+ * needs only the lists that it has. */
+typedef struct {
+    uint32_t horizon;
+    const uint32_t *idles;
+    size_t idles_len;
+    const uint32_t *openings;
+    size_t openings_len;
+    const uint32_t *fees;
+    size_t fees_len;
+    const uint32_t *lives;
+    size_t lives_len;
+    const uint32_t *lefts;
+    size_t lefts_len;
+    const uint32_t *covered;
+    size_t covered_len;
+    const uint32_t *removals;
+    size_t removals_len;
+    const uint32_t *insides;
+    size_t insides_len;
+    const uint32_t *holders;
+    size_t holders_len;
+    const uint32_t *ruled;
+    size_t ruled_len;
+    const uint32_t *bases;
+    size_t bases_len;
+    const uint32_t *drops;
+    size_t drops_len;
+    const uint32_t *leasts;
+    size_t leasts_len;
+    const uint32_t *prices;
+    size_t prices_len;
+} juzvarola_form;
+
+/* Writes the text of a job from a form: juzvarola_write of its lists. */
+static inline juzvarola_answer juzvarola_write_form(const juzvarola_form *form, uint8_t *out, size_t out_len) {
+    static const uint32_t none = 0;
+#define JUZVAROLA_LIST(name) form->name ? form->name : &none, form->name ? form->name##_len : 0
+    return juzvarola_write(form->horizon, JUZVAROLA_LIST(idles), JUZVAROLA_LIST(openings), JUZVAROLA_LIST(fees), JUZVAROLA_LIST(lives),
+                           JUZVAROLA_LIST(lefts), JUZVAROLA_LIST(covered), JUZVAROLA_LIST(removals), JUZVAROLA_LIST(insides),
+                           JUZVAROLA_LIST(holders), JUZVAROLA_LIST(ruled), JUZVAROLA_LIST(bases), JUZVAROLA_LIST(drops), JUZVAROLA_LIST(leasts),
+                           JUZVAROLA_LIST(prices), out, out_len);
+#undef JUZVAROLA_LIST
+}
 
 /* Says how long the walk of a job may become, without walking: results 0 to 5 and 12. Below 4000000000 no walk of the job has more nodes than
  * `count`, whatever its walk number, so that with a walk number of `count` or more the planner never answers 7. */

@@ -1,4 +1,5 @@
-"""Juzvarola from Python: plans the stops and part changes of a filling line, judges such plans, writes job texts and counts.
+"""Juzvarola from Python: plans the stops and part changes of a filling line, judges such plans, changes parts as late as given stops allow,
+writes job texts and counts.
 
 Every answer is that of the proved library, libjuzvarola.so.0, called by ctypes; nothing else is needed. The texts are those of
 juzvarola-job(5) and juzvarola-plan(5), the results those of juzvarola(3).
@@ -25,7 +26,24 @@ from enum import IntEnum
 from pathlib import Path
 from typing import Iterable, Optional, Sequence, Tuple, Union
 
-__all__ = ["Count", "Fault", "Form", "Plan", "Planned", "Result", "Stop", "Verdict", "Written", "count", "judge", "plan", "version", "write"]
+__all__ = [
+    "Count",
+    "Fault",
+    "Form",
+    "Latest",
+    "Plan",
+    "Planned",
+    "Result",
+    "Stop",
+    "Verdict",
+    "Written",
+    "count",
+    "judge",
+    "latest",
+    "plan",
+    "version",
+    "write",
+]
 
 #: The version of the library's interface that this module is made for.
 VERSION: Tuple[int, int, int] = (0, 9, 0)
@@ -121,6 +139,17 @@ class Verdict:
 
 
 @dataclass(frozen=True)
+class Latest:
+    """The habit's answer: with OK the plan with all the stops given, each part changed at the last one that still serves; NO_PLAN where they can't
+    keep some part."""
+
+    result: Result
+    plan: Optional[Plan]
+    fault: Optional[Fault]
+    lines: bytes
+
+
+@dataclass(frozen=True)
 class Count:
     """The count: no walk of the job has more nodes, where or_more is false. None for a job with a fault or a holder."""
 
@@ -198,6 +227,7 @@ def _load() -> ctypes.CDLL:
     for name, result, words in (
         ("juzvarola_plan", _Answer, text + (ctypes.c_uint64,) + out),
         ("juzvarola_judge", _Answer, text + text + out),
+        ("juzvarola_latest", _Answer, text + text + out),
         ("juzvarola_write", _Answer, (ctypes.c_uint32,) + numbers * 10 + out),
         ("juzvarola_count", _Counted, text),
     ):
@@ -212,6 +242,11 @@ _library = _load()
 def _bytes(text: Text) -> bytes:
     """A text as bytes."""
     return text.encode() if isinstance(text, str) else bytes(text)
+
+
+def _plan_text(plan: Union[Text, Plan]) -> bytes:
+    """The text of a plan."""
+    return plan.text if isinstance(plan, Plan) else _bytes(plan)
 
 
 def _pairs(data: bytes) -> Iterable[Tuple[str, int]]:
@@ -235,6 +270,12 @@ def version() -> Tuple[int, int, int]:
     return number // 1_000_000, number // 1000 % 1000, number % 1000
 
 
+def _plan_in(lines: bytes) -> Optional[Plan]:
+    """The plan that an answer's lines end with, if any."""
+    start = lines.find(b"\ncost=") + 1
+    return Plan.parse(lines[start:]) if start > 0 else None
+
+
 def plan(job: Text, walk: int = _MOST) -> Planned:
     """Plans a job, walking at most so many nodes; a number above 4000000000 counts as that."""
     data, out = _bytes(job), ctypes.create_string_buffer(_ROOM)
@@ -242,19 +283,26 @@ def plan(job: Text, walk: int = _MOST) -> Planned:
     lines = out.raw[: answer.length]
     fault = _fault(answer, data)
     values = dict(_pairs(lines)) if fault is None else {}
-    start = lines.find(b"\ncost=") + 1
-    found = Plan.parse(lines[start:]) if start > 0 else None
-    return Planned(Result(answer.result), values.get("nodes"), values.get("floor"), found, fault, lines)
+    return Planned(Result(answer.result), values.get("nodes"), values.get("floor"), _plan_in(lines), fault, lines)
 
 
 def judge(job: Text, plan: Union[Text, Plan]) -> Verdict:
     """Judges a plan of a job, given as a text or as one that the planner handed over. An empty text is the plan of doing nothing."""
-    data, weighed, out = _bytes(job), plan.text if isinstance(plan, Plan) else _bytes(plan), ctypes.create_string_buffer(_ROOM)
+    data, weighed, out = _bytes(job), _plan_text(plan), ctypes.create_string_buffer(_ROOM)
     answer = _library.juzvarola_judge(data, len(data), weighed, len(weighed), out, _ROOM)
     lines = out.raw[: answer.length]
     fault = _fault(answer, data, weighed)
     values = dict(_pairs(lines)) if fault is None else {}
     return Verdict(Result(answer.result), values.get("cost"), values.get("part"), values.get("due"), fault, lines)
+
+
+def latest(job: Text, plan: Union[Text, Plan]) -> Latest:
+    """Changes each part of a job at the last stop of a plan that still serves. Of the plan, a text or one handed over, only the stops count; an
+    empty text means no stops."""
+    data, given, out = _bytes(job), _plan_text(plan), ctypes.create_string_buffer(_ROOM)
+    answer = _library.juzvarola_latest(data, len(data), given, len(given), out, _ROOM)
+    lines = out.raw[: answer.length]
+    return Latest(Result(answer.result), _plan_in(lines), _fault(answer, data, given), lines)
 
 
 def write(form: Form) -> Written:

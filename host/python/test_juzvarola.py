@@ -35,6 +35,21 @@ class Calls(unittest.TestCase):
         counted = juzvarola.count(EXAMPLE)
         self.assertEqual((counted.result, counted.count, counted.or_more), (Result.OK, 17, False))
 
+    def test_the_latest_time_habit(self):
+        habit = juzvarola.latest(EXAMPLE, juzvarola.plan(EXAMPLE).plan)
+        self.assertEqual((habit.result, habit.fault, habit.plan.cost), (Result.OK, None, 37))
+        self.assertEqual(habit.plan.stops, (Stop(2, (1,)), Stop(4, (1, 2))))
+        # All openings: part 1 at 2 and 5, part 2 at 4; the stop at 3 stays, with nothing changed. The stated cost is set aside.
+        stops = "cost=0\nstops=4\n" + "".join(f"stop={step}\ncount=0\n" for step in (2, 3, 4, 5))
+        habit = juzvarola.latest(EXAMPLE.decode(), stops)
+        self.assertEqual(habit.plan.stops, (Stop(2, (1,)), Stop(3, ()), Stop(4, (2,)), Stop(5, (1,))))
+        self.assertEqual((habit.plan.cost, juzvarola.judge(EXAMPLE, habit.plan).result), (57, Result.OK))
+        habit = juzvarola.latest(EXAMPLE, "")
+        self.assertEqual((habit.result, habit.plan, habit.lines), (Result.NO_PLAN, None, b"result=6\n"))
+        habit = juzvarola.latest(EXAMPLE, "cost=0\nstops=1\nstop=6\n")
+        self.assertEqual((habit.result, habit.fault.text, habit.fault.shown), (Result.BAD_STOP, 2, b"stop=6"))
+        self.assertEqual(juzvarola.latest(b"", "").fault.text, 1)
+
     def test_faults(self):
         planned = juzvarola.plan(EXAMPLE.replace(b"left=2", b"left=9", 1))
         self.assertEqual((planned.result, planned.plan), (Result.LEFT_TOO_LONG, None))
@@ -65,6 +80,9 @@ class Calls(unittest.TestCase):
             self.assertEqual(juzvarola.judge(path.read_bytes(), planned.plan).result, Result.OK, path)
             self.assertEqual(Plan.parse(planned.plan.text), planned.plan)
             self.assertTrue(planned.lines.endswith(planned.plan.text))
+            habit = juzvarola.latest(path.read_bytes(), planned.plan)
+            self.assertEqual([stop.step for stop in habit.plan.stops], [stop.step for stop in planned.plan.stops], path)
+            self.assertEqual(juzvarola.judge(path.read_bytes(), habit.plan).result, Result.OK, path)
 
 
 class Threads(unittest.TestCase):

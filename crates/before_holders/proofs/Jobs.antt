@@ -1,4 +1,4 @@
--- Job texts: what the grammar before E7 read is the text that says the same today, in which the walk line stands and no part has lines of removal, and it read all such texts (`lines-exact`). So a text that was accepted is accepted still and means the same (`job-before`), and those that were are exactly the accepted ones with the walk line and without lines of removal (`accepted-before`).
+-- Job texts: what the grammar before E7 read is the text that says the same today, in which the walk line stands and no part has lines of removal or a rule, and it read all such texts (`lines-exact`). So a text that was accepted is accepted still and means the same (`job-before`), and those that were are exactly the accepted ones with the walk line and without lines of removal or a rule (`accepted-before`).
 use Prim.Native.Nat.{ℕ, suc, _≤_}
 use mathlib.Core.Path.{_≡_, refl, sym, ap, _∙_, subst}
 use mathlib.Core.List.{List, [], _∷_, _++_, map, append-assoc, append-nil}
@@ -20,20 +20,22 @@ use Rattle.jobs.specs.Valid.{All, ValidOpening, ValidPrice, ValidPart, HeldFrom
 use Rattle.jobs.proofs.Lists.{chained-each, each-chained}
 use Rattle.covers.specs.Views.{meantCover}
 use Rattle.job_grammar.specs.Grammar.{JobText, meant, idles, opening, openings, jobLines, maxBytes, meaning, readJobText, readJob}
+use Rattle.price_rules.specs.Grammar.{Prices, byList, meantPrices}
 use Rattle.part_lines.specs.Grammar.{PartText, meantPart}
+use Rattle.part_lines.specs.Valid.{Spelt}
 use Rattle.job_grammar.specs.Rendering.{idlesText, openingText, bodyText, jobText}
 use Rattle.part_lines.specs.Rendering.{partText}
 use Rattle.job_grammar.specs.Valid.{ValidText}
 use Rattle.job_grammar.proofs.Accepted.{KnownIdles, idles-tell, KnownOpening, opening-tells, stepOf, chained-rising, valid-text, text-is}
 use Rattle.job_grammar.proofs.Complete.{idles-complete, opening-complete, openings-chained, read-back}
 use Rattle.before_holders.specs.Texts as before
-use Rattle.before_holders.specs.AsBefore.{Accepted, asToday, Bare}
+use Rattle.before_holders.specs.AsBefore.{Accepted, asToday, BarePart, Bare}
 use Rattle.before_holders.proofs.Exact.{Exact, Any, exactly, row-exact, checked-exact, chain-exact, return-exact, bind-exact, exact-as}
 
--- ---- what a text said, as it is said today: the walk line stands, and no part has lines of removal
+-- ---- what a text said, as it is said today: the walk line stands, no part has lines of removal, and prices are listed
 
 abbrev pub uncovered : before.PartText → PartText
-uncovered p = record { life = p .life; left = p .left; cover = missing; prices = p .prices }
+uncovered p = record { life = p .life; left = p .left; cover = missing; prices = byList (p .prices) }
 
 abbrev pub today : before.JobText → JobText
 today t = record { horizon = t .horizon; idles = t .idles; walk = present (t .walk); openings = t .openings; parts = map uncovered (t .parts) }
@@ -42,25 +44,33 @@ means-same : (t : before.JobText) → meant (today t) ≡ asToday (before.meant 
 unfolding meantCover
 means-same t = let e = go (t .parts) in λ i. record { job = record { horizon = t .horizon; idles = before.meant t .job .idles; openings = t .openings; parts = e i } }
   where
-    go : (ps : List before.PartText) → map meantPart (map uncovered ps) ≡ map before.meantPart ps
+    go : (ps : List before.PartText) → map (meantPart (length (t .openings))) (map uncovered ps) ≡ map before.meantPart ps
     go [] = refl
     go (p ∷ ps) = ap (λ (qs : List Part). before.meantPart p ∷ qs) (go ps)
 
+-- what a part's lines say without those of removal, as it was said
+abbrev toldPart : PartText → before.PartText
+toldPart p = record { life = p .life; left = p .left; prices = meantPrices 0 (p .prices) }
+
 -- what a text says with this walk number and without lines of removal, as it was said
 told : ℕ → JobText → before.JobText
-told w t = record { horizon = t .horizon; idles = t .idles; walk = w; openings = t .openings; parts = map (λ (p : PartText). record { life = p .life; left = p .left; prices = p .prices }) (t .parts) }
+told w t = record { horizon = t .horizon; idles = t .idles; walk = w; openings = t .openings; parts = map toldPart (t .parts) }
 
 today-told : (t : JobText) (b : Bare t) → today (told (b .walk) t) ≡ t
 unfolding told
 today-told t bare = let e = go (t .parts) (bare .parts) in λ i. record { horizon = t .horizon; idles = t .idles; walk = sym (bare .there) i; openings = t .openings; parts = e i }
   where
-    go : (ps : List PartText) → All (λ (p : PartText). p .cover ≡ missing) ps → map uncovered (map (λ (p : PartText). record { life = p .life; left = p .left; prices = p .prices }) ps) ≡ ps
+    go : (ps : List PartText) → All BarePart ps → map uncovered (map toldPart ps) ≡ ps
     go [] b = refl
-    go (p ∷ ps) b = let c = b .0 in let r = go ps (b .1) in λ i. record { life = p .life; left = p .left; cover = sym c i; prices = p .prices } ∷ r i
+    go (p ∷ ps) b =
+        let c = b .0 .cover in
+        let e : byList (meantPrices 0 (p .prices)) ≡ p .prices = ap (λ (x : Prices). byList (meantPrices 0 x)) (b .0 .listed) ∙ sym (b .0 .listed) in
+        let r = go ps (b .1) in
+        λ i. record { life = p .life; left = p .left; cover = sym c i; prices = e i } ∷ r i
 
-today-bare : (ps : List before.PartText) → All (λ (p : PartText). p .cover ≡ missing) (map uncovered ps)
+today-bare : (ps : List before.PartText) → All BarePart (map uncovered ps)
 today-bare [] = tt
-today-bare (p ∷ ps) = (refl, today-bare ps)
+today-bare (p ∷ ps) = (record { cover = refl; prices = p .prices; listed = refl }, today-bare ps)
 
 -- ---- parts
 
@@ -93,10 +103,10 @@ module _ (n : ℕ) where
       (λ r p k. sym (ap (λ (q : before.PartText). q .left) (k .1))) (λ p s. tt))
       (λ l p k. sym (ap (λ (q : before.PartText). q .life) (k .1 .1))) (λ p s. tt)
 
-  part-exact : Exact Any (before.part n) (λ p. ValidPart n (meantPart (uncovered p))) (λ p. partText (uncovered p))
+  part-exact : Exact Any (before.part n) (λ p. ValidPart n (meantPart n (uncovered p))) (λ p. partText (uncovered p))
   unfolding partText meantCover
   part-exact =
-      exact-as AnyPart (λ p. ValidPart n (meantPart (uncovered p))) _ _ part-read
+      exact-as AnyPart (λ p. ValidPart n (meantPart n (uncovered p))) _ _ part-read
       (λ p k. record {
         life-low = k .0 .0;
         life-high = k .0 .1;
@@ -122,7 +132,7 @@ openings-exact h n =
 -- what is known where the lines up to the number of parts are read, up to the openings, their number, the walk number, the idle steps, the horizon, and of any text
 module _ (h : ℕ) (is : Optional (List ℕ)) (w n : ℕ) where
   abbrev PartsIn : List Opening → ℕ → before.JobText → Type 0
-  PartsIn os m t = ((length (t .parts) ≡ m) × All (λ (p : before.PartText). ValidPart n (meantPart (uncovered p))) (t .parts)) × (_≡_ {A = before.JobText} (record { horizon = h; idles = is; walk = w; openings = os; parts = t .parts }) t)
+  PartsIn os m t = ((length (t .parts) ≡ m) × All (λ (p : before.PartText). ValidPart n (meantPart n (uncovered p))) (t .parts)) × (_≡_ {A = before.JobText} (record { horizon = h; idles = is; walk = w; openings = os; parts = t .parts }) t)
 
   abbrev CountedIn : List Opening → before.JobText → Type 0
   CountedIn os t = ((1 ≤ length (t .parts)) × (length (t .parts) ≤ 16)) × PartsIn os (length (t .parts)) t
@@ -134,11 +144,11 @@ module _ (h : ℕ) (is : Optional (List ℕ)) (w n : ℕ) where
   abbrev partsText : before.JobText → List ℕ
   partsText t = texts openingText (t .openings) ++ (lineOf "parts=" (length (t .parts)) ++ (texts (λ (p : before.PartText). partText (uncovered p)) (t .parts) ++ []))
 
-  parts-exact : (m : ℕ) → Exact Any (times m (before.part n)) (λ ps. (length ps ≡ m) × All (λ (p : before.PartText). ValidPart n (meantPart (uncovered p))) ps) (texts (λ (p : before.PartText). partText (uncovered p)))
+  parts-exact : (m : ℕ) → Exact Any (times m (before.part n)) (λ ps. (length ps ≡ m) × All (λ (p : before.PartText). ValidPart n (meantPart n (uncovered p))) ps) (texts (λ (p : before.PartText). partText (uncovered p)))
   unfolding times
   parts-exact m =
-      exact-as _ (λ ps. (length ps ≡ m) × All (λ (p : before.PartText). ValidPart n (meantPart (uncovered p))) ps) _ _
-      (chain-exact (λ (k : ℕ). before.part n) (λ (k : ℕ) (p : before.PartText). 0) (λ (k : ℕ) (p : before.PartText). ValidPart n (meantPart (uncovered p))) _ (λ k. part-exact n) m 0)
+      exact-as _ (λ ps. (length ps ≡ m) × All (λ (p : before.PartText). ValidPart n (meantPart n (uncovered p))) ps) _ _
+      (chain-exact (λ (k : ℕ). before.part n) (λ (k : ℕ) (p : before.PartText). 0) (λ (k : ℕ) (p : before.PartText). ValidPart n (meantPart n (uncovered p))) _ (λ k. part-exact n) m 0)
       (λ ps k. (k .0, chained-each _ 0 ps (k .1))) (λ ps k. (k .0, each-chained _ 0 ps (k .1))) (λ ps. refl)
 
   body-read : Exact Any (before.body h is w n) OpeningsIn partsText
@@ -196,25 +206,29 @@ lines-read =
 
 -- ---- what is known of it, and its text, as today
 
-parts-today : (n : ℕ) (ps : List before.PartText) → All (λ (p : before.PartText). ValidPart n (meantPart (uncovered p))) ps → All (ValidPart n) (map meantPart (map uncovered ps))
+parts-today : (n : ℕ) (ps : List before.PartText) → All (λ (p : before.PartText). ValidPart n (meantPart n (uncovered p))) ps → All (ValidPart n) (map (meantPart n) (map uncovered ps))
 parts-today n [] v = tt
 parts-today n (p ∷ ps) v = (v .0, parts-today n ps (v .1))
 
-parts-then : (n : ℕ) (ps : List before.PartText) → All (ValidPart n) (map meantPart (map uncovered ps)) → All (λ (p : before.PartText). ValidPart n (meantPart (uncovered p))) ps
+parts-then : (n : ℕ) (ps : List before.PartText) → All (ValidPart n) (map (meantPart n) (map uncovered ps)) → All (λ (p : before.PartText). ValidPart n (meantPart n (uncovered p))) ps
 parts-then n [] v = tt
 parts-then n (p ∷ ps) v = (v .0, parts-then n ps (v .1))
 
-none-held : (m k : ℕ) (ps : List before.PartText) → HeldFrom m k (map meantPart (map uncovered ps))
-unfolding meantCover
-none-held m k [] = tt
-none-held m k (p ∷ ps) = (tt, none-held m (suc k) ps)
+parts-spelt : (n : ℕ) (ps : List before.PartText) → All (λ (p : before.PartText). ValidPart n (meantPart n (uncovered p))) ps → All (Spelt n) (map uncovered ps)
+parts-spelt n [] v = tt
+parts-spelt n (p ∷ ps) v = ((v .0 .priced, v .0 .prices), parts-spelt n ps (v .1))
 
-count-same : (ps : List before.PartText) → length (map meantPart (map uncovered ps)) ≡ length ps
-count-same ps = length-map (map uncovered ps) meantPart ∙ length-map ps uncovered
+none-held : (n m k : ℕ) (ps : List before.PartText) → HeldFrom m k (map (meantPart n) (map uncovered ps))
+unfolding meantCover
+none-held n m k [] = tt
+none-held n m k (p ∷ ps) = (tt, none-held n m (suc k) ps)
+
+count-same : (n : ℕ) (ps : List before.PartText) → length (map (meantPart n) (map uncovered ps)) ≡ length ps
+count-same n ps = length-map (map uncovered ps) (meantPart n) ∙ length-map ps uncovered
 
 known-valid : (t : before.JobText) → Known t → ValidText (today t)
 known-valid t k =
-    let count = count-same (t .parts) in
+    let count = count-same (length (t .openings)) (t .parts) in
     record {
       means = record {
         job = record {
@@ -228,18 +242,19 @@ known-valid t k =
           some-part = omega (arith, count, k .1 .1 .1 .1 .1 .0 .0);
           few-parts = omega (arith, count, k .1 .1 .1 .1 .1 .0 .1);
           parts = parts-today (length (t .openings)) (t .parts) (k .1 .1 .1 .1 .1 .1 .0 .1);
-          holders = none-held _ 1 (t .parts);
+          holders = none-held (length (t .openings)) _ 1 (t .parts);
         };
       };
       idles = k .1 .0 .2;
       walk = k .1 .1 .0 .1;
+      lines = parts-spelt (length (t .openings)) (t .parts) (k .1 .1 .1 .1 .1 .1 .0 .1);
     }
 
 valid-known : (t : before.JobText) → ValidText (today t) → Known t
 valid-known t v =
     let j = v .means .job in
     let n = length (t .openings) in
-    let count = count-same (t .parts) in
+    let count = count-same (length (t .openings)) (t .parts) in
     let parts : PartsIn (t .horizon) (t .idles) (t .walk) n (t .openings) (length (t .parts)) t = ((refl, parts-then n (t .parts) (j .parts)), refl) in
     let opened : OpeningsIn (t .horizon) (t .idles) (t .walk) n t = ((refl, (j .openings, j .rising)), ((omega (arith, count, j .some-part), omega (arith, count, j .few-parts)), parts)) in
     ((j .horizon-low, j .horizon-high), ((j .few-idles, j .idles, v .idles), ((omega arith, v .walk), ((omega arith, j .few-openings), opened))))
@@ -264,7 +279,7 @@ text-before s t e =
     let k = lines-exact .tells s [] 1 (a .last) t (a .lines) in
     ap readJobText (k .text ∙ append-nil (jobText (today t))) ∙ read-back (today t) (k .known)
 
--- one that is accepted and has no lines of removal was accepted
+-- one that is accepted and has no lines of removal and no rule was accepted
 pub was-accepted : (s : List ℕ) (t : JobText) → readJobText s ≡ accepted t → Bare t → Accepted s
 was-accepted s t e bare =
     let u = told (bare .walk) t in

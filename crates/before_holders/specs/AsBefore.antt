@@ -7,6 +7,7 @@ use Rattle.lines.specs.Text.{missing, present}
 use Rattle.lines.specs.Parser.{accepted}
 use Rattle.jobs.specs.Valid.{All}
 use Rattle.job_grammar.specs.Grammar as today
+use Rattle.price_rules.specs.Grammar.{byList}
 use Rattle.part_lines.specs.Grammar.{PartText}
 use Rattle.plan_grammar.specs.Grammar.{Stated}
 use Rattle.plan_grammar.specs.Grammar as plans
@@ -26,11 +27,17 @@ pub record Accepted (text : List ℕ) : Type 0 where
 abbrev pub asToday : Given → today.Given
 asToday g = record { job = g .job }
 
--- what it says today has the walk line and no lines of removal
+-- a part without lines of removal, whose prices are listed
+pub record BarePart (p : PartText) : Type 0 where
+  pub cover : p .cover ≡ missing
+  pub prices : List ℕ
+  pub listed : p .prices ≡ byList prices
+
+-- what it says today has the walk line, no lines of removal and no rule
 pub record Bare (t : today.JobText) : Type 0 where
   pub walk : ℕ
   pub there : t .walk ≡ present walk
-  pub parts : All (λ (p : PartText). p .cover ≡ missing) (t .parts)
+  pub parts : All BarePart (t .parts)
 
 -- a job text and a plan text were
 pub record BothAccepted (job plan : List ℕ) : Type 0 where
@@ -40,7 +47,7 @@ pub record BothAccepted (job plan : List ℕ) : Type 0 where
 
 -- of all texts and rooms: which texts were free of faults, what they said, and every call's answer
 pub record AsBefore : Type 0 where
-  -- exactly the job texts that are accepted today, with the walk line and without lines of removal, were accepted
+  -- exactly the job texts that are accepted today, with the walk line and without lines of removal or a rule, were accepted
   pub accepts : (text : List ℕ) → Accepted text ↔ ((t : today.JobText) × ((today.readJobText text ≡ accepted t) × Bare t))
   -- the texts say what they said
   pub job-text : (text : List ℕ) (a : Accepted text) → today.readJob text ≡ accepted (asToday (a .given))

@@ -1,8 +1,8 @@
 // Who holds whom, whether anybody does, and the removals, from a job's part records.
 use crate::with_row;
 use jobs::Job;
+use part_records::lent_removal;
 use part_records::part_of;
-use part_records::removal_of;
 ghost use mathlib.Core.Path.{_≡_};
 ghost use lib.Dec.{ltb};
 ghost use lib.ListN.{length};
@@ -74,8 +74,7 @@ pub fn removals_of(job: Job) -> [u32; 16]
     let mut removals = [0u32; 16];
     let mut q: usize = 0;
     while q < m {
-        let part = part_of(parts, m, q);
-        removals[q] = removal_of(part);
+        removals[q] = lent_removal(parts, m, q);
         q += 1;
     }
     removals

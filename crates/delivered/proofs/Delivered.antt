@@ -28,7 +28,9 @@ use Rattle.plan_grammar.proofs.Numbered as plans
 use Rattle.plan_grammar.proofs.Nothing.{nothing-is}
 use Rattle.hall.proofs.Promised.{promise as hall-promise}
 use Rattle.hall.proofs.Unique.{only as hall-only}
+use Rattle.price_rules.proofs.Prices.{rule-is}
 use Rattle.alike.proofs.Meaning.{by-meaning, walk-set-aside}
+use Rattle.alike.proofs.Rules.{rules-out}
 use Rattle.before_holders.proofs.Answers.{as-before}
 use Rattle.starred.proofs.Proved.{proved}
 use Prim.Native.Nat.{ℕ, _≤_}
@@ -80,6 +82,8 @@ delivered = record {
   D9-table-3 = judge-5180;
   D9-table-4 = judge-11690;
   E10-aside = walk-set-aside;
+  E8-2-price = rule-is;
+  E8-5-written-out = rules-out;
   E14-9-hall = hall-promise;
   D1-hall = hall-only;
 }

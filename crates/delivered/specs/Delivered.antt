@@ -23,6 +23,7 @@ use Rattle.model.specs.Dismounting.{Dismounts}
 use Rattle.model.specs.Published.{Published, PublishedRunning, Tied}
 use Rattle.model.specs.Tables.{table1, table2, table3, table4}
 use Rattle.jobs.specs.Valid.{All}
+use Rattle.price_rules.specs.Rule.{Rule, rulePrice, statedPrice}
 use Rattle.job_grammar.specs.Grammar.{JobText, meant, readJob, readJobText}
 use Rattle.job_grammar.specs.Rendering.{jobText}
 use Rattle.job_grammar.specs.Valid.{ValidText}
@@ -37,7 +38,7 @@ use Rattle.judging.specs.Promise as judging
 use Rattle.planning.specs.Plan.{planSaid, planRoom}
 use Rattle.hall.specs.Hall.{Hall, Proper}
 use Rattle.hall.specs.Promise.{HallAnswer, hallAnswer, HallPromise}
-use Rattle.alike.specs.Alike.{AnsweredAlike, WalkSetAside}
+use Rattle.alike.specs.Alike.{AnsweredAlike, WalkSetAside, RulesOut}
 use Rattle.before_holders.specs.AsBefore.{AsBefore}
 use Rattle.starred.specs.Table.{Holds, Counts, cases, counts}
 use Rattle.delivered.specs.Terms.{SomeLost, Meets, StatesObjective, Feasible, Cheapest}
@@ -133,6 +134,10 @@ pub record Delivered : Type 0 where
   pub D9-table-4 : judgedOf (table1 1000) 11690 table4 ≡ accepts 11690
   -- E10. "A job's `walk` line, if it still stands, is checked as before and set aside."
   pub E10-aside : WalkSetAside
+  -- E8.2. "Opening number k, counted from 0, then has price base minus k times drop, or least if that is larger.": the clause in integers
+  pub E8-2-price : (r : Rule) (k : ℕ) → pos (rulePrice r k) ≡ statedPrice r k
+  -- E8.5. "plans and verdicts are those of the job with the lines written out"
+  pub E8-5-written-out : RulesOut
   -- ---- a hall, which no call plans yet
 
   -- E14.6 to E14.9. 6 exactly if some line has no plan; 0, or 7 exactly if the whole walk has more points; the best hall plan; with call 0 "the sum of the lines' own least costs"

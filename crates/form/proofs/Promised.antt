@@ -119,7 +119,7 @@ module _ (f : Form) (held : Held f) (room : ℕ) where
       record {
         idles = omega (arith, j .few-idles, ap length (idle-steps (f .idles)));
         openings = omega (arith, j .few-openings, paired-size (f .openings) (f .fees) (agree .fees));
-        parts = omega (arith, j .few-parts, length-map (stated f .parts) meantPart, parts-size (length (f .openings)) (f .parts) (agree .parts));
+        parts = omega (arith, j .few-parts, length-map (stated f .parts) (meantPart (length (stated f .openings))), parts-size (length (f .openings)) (f .parts) (agree .parts));
       }
 
   -- and so it is what the form is read as

@@ -1,29 +1,33 @@
 -- Lists that agree and are not too long make the very text of the job that they state (`same-text`); and the form that holds an accepted text's numbers states what the text says (`returned`). By the laws of the lists.
-use Prim.Native.Nat.{ℕ, _+_, _*_, _≤_}
+use Prim.Native.Nat.{ℕ, suc, _+_, _-_, _*_, _≤_}
 use mathlib.Core.Path.{_≡_, refl, sym, ap, ap₂, _∙_, subst}
 use mathlib.Core.Bool.{true}
 use mathlib.Core.List.{List, [], _∷_, _++_, map, append-assoc, append-nil}
 use native.Mathlib.Omega.{arith}
-use native.Mathlib.Nat.{suc-mul, zero-mul, add-comm}
+use native.Mathlib.Nat.{suc-mul, zero-mul}
 use borrow.Author.Tests.{eq-eqb}
-use lib.ListN.{length, length-append, length-map}
+use lib.ListN.{length, drop, length-append, length-map}
 use lib.Seq.{take-at, drop-at}
 use Rattle.lines.specs.Text.{lineOf, texts, Optional, missing, present, optionalText}
 use Rattle.model.specs.Model.{Opening}
-use Rattle.jobs.specs.Valid.{All, ValidPart}
+use Rattle.jobs.specs.Valid.{All}
 use Rattle.covers.specs.Grammar.{Cover}
 use Rattle.job_grammar.specs.Grammar.{JobText, idleIn}
+use Rattle.price_rules.specs.Rule.{Rule}
+use Rattle.price_rules.specs.Grammar.{Prices, byList, byRule}
+use Rattle.price_rules.specs.Valid.{ValidPrices}
 use Rattle.part_lines.specs.Grammar.{PartText, meantPart}
+use Rattle.part_lines.specs.Valid.{Spelt}
 use Rattle.job_grammar.specs.Valid.{Some, ValidText}
 use Rattle.job_grammar.specs.Rendering.{idlesText, openingText, bodyText, jobText}
 use Rattle.part_lines.specs.Rendering.{partText}
 use Rattle.job_grammar.specs.Optionals.{idleLines}
 use Rattle.job_grammar.proofs.Optionals.{some-idles}
-use Rattle.form_facts.specs.Facts.{paired, coversOf, grouped, partsOf, sumAll, feesAgree, partsAgree, PartsAgree, countOf, countedText}
+use Rattle.form_facts.specs.Facts.{paired, coversOf, rulesOf, countedFor, pricesFrom, grouped, partsOf, sumAll, feesAgree, partsAgree, PartsAgree, countOf, countedText}
 use Rattle.form_facts.proofs.CountLines.{count-is}
-use Rattle.form_facts.proofs.Facts.{paired-size, parts-size, says-agree}
+use Rattle.form_facts.proofs.Facts.{paired-size, parts-size, marks-few, says-agree}
 use Rattle.form.specs.Form.{Form, stated, idleCountText, bodyOf, restOf, formText}
-use Rattle.form.specs.Promise.{Agree, Few, markOf, removalIn, insidesOf, holdersOf, listsOf, formOf}
+use Rattle.form.specs.Promise.{Agree, Few, markOf, removalIn, insidesOf, holdersOf, ruleMark, basesOf, dropsOf, leastsOf, listedIn, listsOf, formOf}
 
 -- ---- the text
 
@@ -79,16 +83,19 @@ leftOf p = p .left
 abbrev coverOf : PartText → Optional Cover
 coverOf p = p .cover
 
-abbrev pricesOf : PartText → List ℕ
+abbrev pricesOf : PartText → Prices
 pricesOf p = p .prices
 
--- each part has n prices
-abbrev Priced : ℕ → List PartText → Type 0
-Priced n ps = All (λ (p : PartText). length (p .prices) ≡ n) ps
+-- the rule that prices stand by
+abbrev ruleIn : Prices → Optional Rule
+ruleIn (byList ps) = missing
+ruleIn (byRule r) = present r
 
-priced : (n : ℕ) (ps : List PartText) → All (ValidPart n) (map meantPart ps) → Priced n ps
-priced n [] v = tt
-priced n (p ∷ ps) v = (v .0 .priced, priced n ps (v .1))
+abbrev ruleOf : PartText → Optional Rule
+ruleOf p = ruleIn (p .prices)
+
+abbrev listOf : PartText → List ℕ
+listOf p = listedIn (p .prices)
 
 -- the lines of removal that the first numbers state
 covers-more : (o : Optional Cover) (cs vs is hs : List ℕ) → coversOf (markOf o ∷ cs) (removalIn o ++ vs) (insidesOf o ++ is) (holdersOf o ++ hs) ≡ o ∷ coversOf cs vs is hs
@@ -102,21 +109,73 @@ unfolding coversOf
 covers-back [] = refl
 covers-back (p ∷ ps) = let x = listsOf ps in covers-more (p .cover) (x .covered) (x .removals) (x .insides) (x .holders) ∙ ap (λ (os : List (Optional Cover)). p .cover ∷ os) (covers-back ps)
 
-grouped-back : (n : ℕ) (ps : List PartText) → Priced n ps → grouped n (map lifeOf ps) (map leftOf ps) (map coverOf ps) (texts pricesOf ps) ≡ ps
+-- the rule that the first numbers state
+rules-more : (p : Prices) (us bs ds ms : List ℕ) → rulesOf (ruleMark p ∷ us) (basesOf p ++ bs) (dropsOf p ++ ds) (leastsOf p ++ ms) ≡ ruleIn p ∷ rulesOf us bs ds ms
+unfolding rulesOf
+rules-more (byList ps) us bs ds ms = refl
+rules-more (byRule r) us bs ds ms = refl
+
+rules-back : (ps : List PartText) → let x = listsOf ps in rulesOf (x .ruled) (x .bases) (x .drops) (x .leasts) ≡ map ruleOf ps
+unfolding rulesOf
+rules-back [] = refl
+rules-back (p ∷ ps) = let x = listsOf ps in rules-more (p .prices) (x .ruled) (x .bases) (x .drops) (x .leasts) ∙ ap (λ (us : List (Optional Rule)). ruleOf p ∷ us) (rules-back ps)
+
+-- a part's prices from the list, and what is left of it
+prices-more : (n : ℕ) (p : Prices) (rest : List ℕ) → ValidPrices n p → (pricesFrom n (ruleIn p) (listedIn p ++ rest) ≡ p) × (drop (countedFor n (ruleIn p)) (listedIn p ++ rest) ≡ rest)
+prices-more n (byList ps) rest v = (ap byList (take-at ps rest n (v .0)), drop-at ps rest n (v .0))
+prices-more n (byRule r) rest v = (refl, refl)
+
+grouped-back : (n : ℕ) (ps : List PartText) → All (Spelt n) ps → grouped n (map lifeOf ps) (map leftOf ps) (map coverOf ps) (map ruleOf ps) (texts listOf ps) ≡ ps
 unfolding grouped
 grouped-back n [] v = refl
 grouped-back n (p ∷ ps) v =
-    ap₂ (λ (qs rest : List ℕ). record { life = p .life; left = p .left; cover = p .cover; prices = qs } ∷ grouped n (map lifeOf ps) (map leftOf ps) (map coverOf ps) rest)
-    (take-at (p .prices) (texts pricesOf ps) n (v .0)) (drop-at (p .prices) (texts pricesOf ps) n (v .0))
+    let q = prices-more n (p .prices) (texts listOf ps) (v .0) in
+    ap₂ (λ (x : Prices) (rest : List ℕ). record { life = p .life; left = p .left; cover = p .cover; prices = x } ∷ grouped n (map lifeOf ps) (map leftOf ps) (map coverOf ps) (map ruleOf ps) rest) (q .0) (q .1)
     ∙ ap (λ (xs : List PartText). p ∷ xs) (grouped-back n ps (v .1))
 
-parts-back : (n : ℕ) (ps : List PartText) → Priced n ps → partsOf n (listsOf ps) ≡ ps
-parts-back n ps v = ap (λ (os : List (Optional Cover)). grouped n (map lifeOf ps) (map leftOf ps) os (texts pricesOf ps)) (covers-back ps) ∙ grouped-back n ps v
+parts-back : (n : ℕ) (ps : List PartText) → All (Spelt n) ps → partsOf n (listsOf ps) ≡ ps
+parts-back n ps v =
+    ap₂ (λ (os : List (Optional Cover)) (us : List (Optional Rule)). grouped n (map lifeOf ps) (map leftOf ps) os us (texts listOf ps)) (covers-back ps) (rules-back ps) ∙ grouped-back n ps v
 
-prices-size : (n : ℕ) (ps : List PartText) → Priced n ps → length (texts pricesOf ps) ≡ length ps * n
+-- one part more, by whether it has a rule
+rule-small : (p : Prices) → ruleMark p ≤ 1
+rule-small (byList ps) = omega arith
+rule-small (byRule r) = omega arith
+
+rules-small : (ps : List PartText) → All (λ (u : ℕ). u ≤ 1) (listsOf ps .ruled)
+rules-small [] = tt
+rules-small (p ∷ ps) = (rule-small (p .prices), rules-small ps)
+
+-- a list with one number for each rule
+of-rules : (w : Prices → List ℕ) → ((p : Prices) → length (w p) ≡ ruleMark p) → (ps : List PartText) → length (texts (λ (p : PartText). w (p .prices)) ps) ≡ sumAll (listsOf ps .ruled)
+of-rules w one [] = refl
+of-rules w one (p ∷ ps) = length-append (w (p .prices)) (texts (λ (q : PartText). w (q .prices)) ps) ∙ ap₂ _+_ (one (p .prices)) (of-rules w one ps)
+
+one-base : (p : Prices) → length (basesOf p) ≡ ruleMark p
+one-base (byList ps) = refl
+one-base (byRule r) = refl
+
+one-drop : (p : Prices) → length (dropsOf p) ≡ ruleMark p
+one-drop (byList ps) = refl
+one-drop (byRule r) = refl
+
+one-least : (p : Prices) → length (leastsOf p) ≡ ruleMark p
+one-least (byList ps) = refl
+one-least (byRule r) = refl
+
+-- the prices of one part more, of m parts of which k have a rule
+listed-more : (n m k rest : ℕ) (p : Prices) → ValidPrices n p → k ≤ m → rest ≡ (m - k) * n → length (listedIn p) + rest ≡ (suc m - (ruleMark p + k)) * n
+listed-more n m k rest (byList ps) v few e =
+    let z : suc m - (0 + k) ≡ suc (m - k) = omega arith in
+    let q : (suc m - (0 + k)) * n ≡ (m - k) * n + n = ap (λ (i : ℕ). i * n) z ∙ suc-mul (m - k) n in
+    omega (arith, q, e, v .0)
+listed-more n m k rest (byRule r) v few e = let z : suc m - (1 + k) ≡ m - k = omega arith in omega (arith, e, ap (λ (i : ℕ). i * n) z)
+
+prices-size : (n : ℕ) (ps : List PartText) → All (Spelt n) ps → length (texts listOf ps) ≡ (length ps - sumAll (listsOf ps .ruled)) * n
 prices-size n [] v = sym (zero-mul n)
 prices-size n (p ∷ ps) v =
-    length-append (p .prices) (texts pricesOf ps) ∙ ap₂ _+_ (v .0) (prices-size n ps (v .1)) ∙ add-comm n (length ps * n) ∙ sym (suc-mul (length ps) n)
+    length-append (listOf p) (texts listOf ps)
+    ∙ listed-more n (length ps) (sumAll (listsOf ps .ruled)) (length (texts listOf ps)) (p .prices) (v .0) (omega (arith, marks-few (listsOf ps .ruled) (rules-small ps), length-map ps (λ (q : PartText). ruleMark (q .prices)))) (prices-size n ps (v .1))
 
 -- one part more, by whether its lines of removal stand
 mark-small : (o : Optional Cover) → markOf o ≤ 1
@@ -151,15 +210,20 @@ holders-size : (ps : List PartText) → length (listsOf ps .holders) ≡ sumAll 
 holders-size [] = refl
 holders-size (p ∷ ps) = holders-more (p .cover) (listsOf ps .insides) (listsOf ps .holders) (holders-size ps)
 
-lists-agree : (n : ℕ) (ps : List PartText) → Priced n ps → PartsAgree n (listsOf ps)
+lists-agree : (n : ℕ) (ps : List PartText) → All (Spelt n) ps → PartsAgree n (listsOf ps)
 lists-agree n ps v = record {
   lefts = length-map ps leftOf ∙ sym (length-map ps lifeOf);
-  prices = prices-size n ps v ∙ ap (λ (m : ℕ). m * n) (sym (length-map ps lifeOf));
   covered = length-map ps (λ (p : PartText). markOf (p .cover)) ∙ sym (length-map ps lifeOf);
   marks = marks-small ps;
   removals = removals-size ps;
   insides = insides-size ps;
   holders = holders-size ps;
+  ruled = length-map ps (λ (p : PartText). ruleMark (p .prices)) ∙ sym (length-map ps lifeOf);
+  rule-marks = rules-small ps;
+  bases = of-rules basesOf one-base ps;
+  drops = of-rules dropsOf one-drop ps;
+  leasts = of-rules leastsOf one-least ps;
+  prices = prices-size n ps v ∙ ap (λ (m : ℕ). (m - sumAll (listsOf ps .ruled)) * n) (sym (length-map ps lifeOf));
 }
 
 idles-back : (o : Optional (List ℕ)) → Some o → idleLines (idleIn o) ≡ o
@@ -171,20 +235,17 @@ module _ (t : JobText) (v : ValidText t) where
   stepsOf : length (t .openings) ≡ length (map (λ (o : Opening). o .step) (t .openings))
   stepsOf = sym (length-map (t .openings) (λ (o : Opening). o .step))
 
-  prices-are : Priced (length (t .openings)) (t .parts)
-  prices-are = priced (length (t .openings)) (t .parts) (v .means .job .parts)
-
   pub agrees : Agree (formOf t)
   agrees = record {
     fees = length-map (t .openings) (λ (o : Opening). o .fee) ∙ stepsOf;
-    parts = subst (λ (n : ℕ). PartsAgree n (listsOf (t .parts))) stepsOf (lists-agree (length (t .openings)) (t .parts) prices-are);
+    parts = subst (λ (n : ℕ). PartsAgree n (listsOf (t .parts))) stepsOf (lists-agree (length (t .openings)) (t .parts) (v .lines));
   }
 
   pub fits : Few (formOf t)
   fits = record {
     idles = v .means .job .few-idles;
     openings = rw length-map (v .means .job .few-openings);
-    parts = omega (arith, length-map (t .parts) lifeOf, length-map (t .parts) meantPart, v .means .job .few-parts);
+    parts = omega (arith, length-map (t .parts) lifeOf, length-map (t .parts) (meantPart (length (t .openings))), v .means .job .few-parts);
   }
 
   -- a text without the line of the walk number
@@ -194,5 +255,5 @@ module _ (t : JobText) (v : ValidText t) where
     idles = idles-back (t .idles) (v .idles) i;
     walk = sym none i;
     openings = paired-back (t .openings) i;
-    parts = (ap (λ (n : ℕ). partsOf n (listsOf (t .parts))) (sym stepsOf) ∙ parts-back (length (t .openings)) (t .parts) prices-are) i;
+    parts = (ap (λ (n : ℕ). partsOf n (listsOf (t .parts))) (sym stepsOf) ∙ parts-back (length (t .openings)) (t .parts) (v .lines)) i;
   }

@@ -19,9 +19,9 @@ pub record Form : Type 0 where
   pub fees : List ℕ
   pub parts : PartLists
 
--- the form of a call's arguments; E7: `covered`, `removals`, `insides` and `holders` stand between the lefts and the prices
-abbrev pub filled : ℕ → List ℕ → List ℕ → List ℕ → List ℕ → List ℕ → List ℕ → List ℕ → List ℕ → List ℕ → List ℕ → Form
-filled h is os fs ls rs cs vs ns hs ps = record { horizon = h; idles = is; openings = os; fees = fs; parts = partLists ls rs cs vs ns hs ps }
+-- the form of a call's arguments; E7: `covered`, `removals`, `insides` and `holders` stand behind the lefts; E8: `ruled`, `bases`, `drops` and `leasts` between those and the prices
+abbrev pub filled : ℕ → List ℕ → List ℕ → List ℕ → List ℕ → List ℕ → List ℕ → List ℕ → List ℕ → List ℕ → List ℕ → List ℕ → List ℕ → List ℕ → List ℕ → Form
+filled h is os fs ls rs cs vs ns hs us bs ds ms ps = record { horizon = h; idles = is; openings = os; fees = fs; parts = partLists ls rs cs vs ns hs us bs ds ms ps }
 
 -- what a form states, "with no `idles` line if there are none"; E10. "The writer no longer writes" the `walk` line
 abbrev pub stated : Form → JobText

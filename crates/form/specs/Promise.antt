@@ -18,6 +18,7 @@ use Rattle.job_grammar.specs.Faults.{lastFault}
 use Rattle.part_lines.specs.Grammar.{PartText}
 use Rattle.job_grammar.specs.Rendering.{jobText}
 use Rattle.covers.specs.Grammar.{Cover}
+use Rattle.price_rules.specs.Grammar.{Prices, byList, byRule}
 use Rattle.form_facts.specs.Facts.{PartLists, PartsAgree}
 use Rattle.answers.specs.Said.{Said, Refuses}
 use Rattle.form.specs.Form.{Form, stated, readForm}
@@ -80,6 +81,31 @@ abbrev pub holdersOf : Optional Cover → List ℕ
 holdersOf missing = []
 holdersOf (present c) = c .holders
 
+-- E8. the numbers of a part's prices: whether they stand by a rule, and what that or their list says
+abbrev pub ruleMark : Prices → ℕ
+ruleMark (byList ps) = 0
+ruleMark (byRule r) = 1
+
+-- its entry of `bases`; none where its prices are listed
+abbrev pub basesOf : Prices → List ℕ
+basesOf (byList ps) = []
+basesOf (byRule r) = r .base ∷ []
+
+-- its entry of `drops`
+abbrev pub dropsOf : Prices → List ℕ
+dropsOf (byList ps) = []
+dropsOf (byRule r) = r .drop ∷ []
+
+-- its entry of `leasts`
+abbrev pub leastsOf : Prices → List ℕ
+leastsOf (byList ps) = []
+leastsOf (byRule r) = r .least ∷ []
+
+-- its entries of `prices`; "no prices for such a part" as has a rule
+abbrev pub listedIn : Prices → List ℕ
+listedIn (byList ps) = ps
+listedIn (byRule r) = []
+
 -- the numbers that parts hold, as lists
 abbrev pub listsOf : List PartText → PartLists
 listsOf ps = record {
@@ -89,7 +115,11 @@ listsOf ps = record {
   removals = texts (λ (p : PartText). removalIn (p .cover)) ps;
   insides = texts (λ (p : PartText). insidesOf (p .cover)) ps;
   holders = texts (λ (p : PartText). holdersOf (p .cover)) ps;
-  prices = texts (λ (p : PartText). p .prices) ps;
+  ruled = map (λ (p : PartText). ruleMark (p .prices)) ps;
+  bases = texts (λ (p : PartText). basesOf (p .prices)) ps;
+  drops = texts (λ (p : PartText). dropsOf (p .prices)) ps;
+  leasts = texts (λ (p : PartText). leastsOf (p .prices)) ps;
+  prices = texts (λ (p : PartText). listedIn (p .prices)) ps;
 }
 
 -- the numbers that a job text holds, as a form

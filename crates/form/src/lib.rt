@@ -55,12 +55,16 @@ pub fn write(
     removals: &[u32],
     insides: &[u32],
     holders: &[u32],
+    ruled: &[u32],
+    bases: &[u32],
+    drops: &[u32],
+    leasts: &[u32],
     prices: &[u32],
     out: &mut [u8],
 ) -> Answer
-    ensures { λ r. ⌜ Replied writeRoom (writeSaid (filled horizon (now (idles .entry)) (now (openings .entry)) (now (fees .entry)) (now (lives .entry)) (now (lefts .entry)) (now (covered .entry)) (now (removals .entry)) (now (insides .entry)) (now (holders .entry)) (now (prices .entry)))) (now (out .entry)) (now (out .exit)) r ⌝ }
-    ensures { λ _. ⌜ WritePromise (filled horizon (now (idles .entry)) (now (openings .entry)) (now (fees .entry)) (now (lives .entry)) (now (lefts .entry)) (now (covered .entry)) (now (removals .entry)) (now (insides .entry)) (now (holders .entry)) (now (prices .entry))) (length (now (out .entry)))
-        (lent writeRoom (length (now (out .entry))) (writeSaid (filled horizon (now (idles .entry)) (now (openings .entry)) (now (fees .entry)) (now (lives .entry)) (now (lefts .entry)) (now (covered .entry)) (now (removals .entry)) (now (insides .entry)) (now (holders .entry)) (now (prices .entry))))) ⌝ }
+    ensures { λ r. ⌜ Replied writeRoom (writeSaid (filled horizon (now (idles .entry)) (now (openings .entry)) (now (fees .entry)) (now (lives .entry)) (now (lefts .entry)) (now (covered .entry)) (now (removals .entry)) (now (insides .entry)) (now (holders .entry)) (now (ruled .entry)) (now (bases .entry)) (now (drops .entry)) (now (leasts .entry)) (now (prices .entry)))) (now (out .entry)) (now (out .exit)) r ⌝ }
+    ensures { λ _. ⌜ WritePromise (filled horizon (now (idles .entry)) (now (openings .entry)) (now (fees .entry)) (now (lives .entry)) (now (lefts .entry)) (now (covered .entry)) (now (removals .entry)) (now (insides .entry)) (now (holders .entry)) (now (ruled .entry)) (now (bases .entry)) (now (drops .entry)) (now (leasts .entry)) (now (prices .entry))) (length (now (out .entry)))
+        (lent writeRoom (length (now (out .entry))) (writeSaid (filled horizon (now (idles .entry)) (now (openings .entry)) (now (fees .entry)) (now (lives .entry)) (now (lefts .entry)) (now (covered .entry)) (now (removals .entry)) (now (insides .entry)) (now (holders .entry)) (now (ruled .entry)) (now (bases .entry)) (now (drops .entry)) (now (leasts .entry)) (now (prices .entry))))) ⌝ }
 {
     let mut text = [0u8; ROOM];
     let n = put_form(
@@ -75,6 +79,10 @@ pub fn write(
         removals,
         insides,
         holders,
+        ruled,
+        bases,
+        drops,
+        leasts,
         prices,
     );
     answer_text(&text[..n], out)

@@ -1,19 +1,18 @@
--- The text's pieces by their tests: a count in its range and what it counts (`counted-in`), or one out of it alone (`counted-out`); idle steps, and lines of removal. By the value of the test.
+-- The text's pieces by their tests: a count in its range and what it counts (`counted-in`), or one out of it alone (`counted-out`); and idle steps. By the value of the test.
 use Prim.Native.Nat.{ℕ, suc, _≤_, _<_}
 use Prim.Native.String.{String}
 use mathlib.Core.Path.{_≡_, refl, ap}
 use mathlib.Core.Bool.{Bool, true, false, _&&_, and-eq-true-iff}
 use mathlib.Core.List.{List, [], _∷_, _++_, append-nil}
 use native.Mathlib.Omega.{arith}
-use borrow.Author.Tests.{leb-true, le-leb, lt-leb, eq-eqb, eqb-true}
+use borrow.Author.Tests.{leb-true, le-leb, eq-eqb, eqb-true}
 use lib.Dec.{leb}
 use lib.ListN.{length}
 use Rattle.lines.specs.Text.{lineOf, texts, optionalText}
-use Rattle.covers.specs.Grammar.{Cover}
-use Rattle.covers.specs.Views.{linesOf}
 use Rattle.job_grammar.specs.Optionals.{idleLines}
 use Rattle.form_facts.specs.Facts.{PartLists, partsOf, feesAgree, partsAgree}
-use Rattle.form_writing.specs.Cut.{countedCut, insideCut, coverCut, partCut, idlesCut, partsCut, bodyCut, restCut}
+use Rattle.part_writing.specs.Cut.{partCut}
+use Rattle.form_writing.specs.Cut.{countedCut, idlesCut, partsCut, bodyCut, restCut}
 
 module _ (key : String) (most : ℕ) (agree : Bool) (n : ℕ) (t : List ℕ) where
   pub counted-in : n ≤ most → agree ≡ true → countedCut key most agree n t ≡ lineOf key n ++ t
@@ -44,25 +43,6 @@ pub idles-some : (is : List ℕ) → 1 ≤ length is → length is ≤ 365 → o
 unfolding idleLines idlesCut
 idles-some [] h few = absurd (omega arith)
 idles-some (i ∷ is) h few = counted-in "idles=" 365 true (length (i ∷ is)) (texts (lineOf "idle=") (i ∷ is)) few refl
-
--- ---- lines of removal
-
-pub inside-many : (hs : List ℕ) → 15 < length hs → insideCut hs ≡ lineOf "inside=" (length hs)
-unfolding insideCut
-inside-many hs h = rw (lt-leb (length hs) 15 h) (append-nil (lineOf "inside=" (length hs)))
-
-pub inside-few : (hs : List ℕ) → length hs ≤ 15 → insideCut hs ≡ lineOf "inside=" (length hs) ++ texts (lineOf "holder=") hs
-unfolding insideCut
-inside-few hs h = rw (le-leb (length hs) 15 h)
-
--- lines that stand, and lines that don't
-pub cover-there : (there : Bool) (c : Cover) → there ≡ true → optionalText coverCut (linesOf there c) ≡ coverCut c
-unfolding linesOf
-cover-there there c e = rw e refl
-
-pub cover-gone : (there : Bool) (c : Cover) → there ≡ false → optionalText coverCut (linesOf there c) ≡ []
-unfolding linesOf
-cover-gone there c e = rw e refl
 
 -- ---- parts
 

@@ -1,10 +1,10 @@
 -- A place in the lists of the parts: what is known there (`Known`), the part that begins there (`first-is`), and the place after it (`step-put`). By the lists from that place on.
-use Prim.Native.Nat.{ℕ, zero, suc, _+_, _*_, _≤_, _<_}
+use Prim.Native.Nat.{ℕ, zero, suc, _+_, _-_, _*_, _≤_, _<_}
 use mathlib.Core.Path.{_≡_, refl, sym, ap, ap₂, _∙_, subst}
 use mathlib.Core.Bool.{Bool, true, false, cond}
 use mathlib.Core.List.{List, [], _∷_}
 use native.Mathlib.Omega.{arith}
-use native.Mathlib.Nat.{suc-mul, add-zero}
+use native.Mathlib.Nat.{add-zero}
 use borrow.Author.Tests.{eqb-true}
 use lib.Dec.{eqb}
 use lib.ListN.{length, getD, take, drop, length-drop}
@@ -12,11 +12,15 @@ use lib.Seq.{getD-drop, drop-drop}
 use Rattle.jobs.specs.Valid.{All}
 use Rattle.covers.specs.Grammar.{Cover}
 use Rattle.covers.specs.Views.{linesOf}
+use Rattle.price_rules.specs.Rule.{Rule}
+use Rattle.price_rules.specs.Grammar.{byRule}
 use Rattle.part_lines.specs.Grammar.{PartText}
+use Rattle.part_lines.specs.Views.{pricesSaid}
 use Rattle.form_facts.specs.Facts.{PartLists, sumAll, PartsAgree}
-use Rattle.form_writing.specs.Places.{after, insideFirst, firstPart, behindFirst, Standing, StepPut}
+use Rattle.form_facts.proofs.Facts.{marks-few}
+use Rattle.form_writing.specs.Places.{after, insideFirst, listedFirst, ruleFirst, firstPart, behindFirst, Standing, StepPut}
 use Rattle.form_writing.specs.declared.parts.Place.{Place}
-use Rattle.form_writing.proofs.Places.{agree-next}
+use Rattle.form_writing.proofs.Places.{listed-here, agree-next}
 
 -- ---- lists with a first part
 
@@ -28,7 +32,12 @@ pub record First (n : ℕ) (x : PartLists) : Type 0 where
   pub removal : getD (x .covered) 0 0 ≤ length (x .removals)
   pub inside : getD (x .covered) 0 0 ≤ length (x .insides)
   pub holders : insideFirst x ≤ length (x .holders)
-  pub prices : n ≤ length (x .prices)
+  pub rule-mark : getD (x .ruled) 0 0 ≤ 1
+  pub ruled : 1 ≤ length (x .ruled)
+  pub base : getD (x .ruled) 0 0 ≤ length (x .bases)
+  pub drop : getD (x .ruled) 0 0 ≤ length (x .drops)
+  pub least : getD (x .ruled) 0 0 ≤ length (x .leasts)
+  pub prices : listedFirst n x ≤ length (x .prices)
 
 held-first : (c : ℕ) (is hs : List ℕ) → c ≤ 1 → c ≤ length is → length hs ≡ sumAll is → cond (eqb c 1) (getD is 0 0) 0 ≤ length hs
 held-first zero is hs h i e = omega arith
@@ -37,24 +46,30 @@ held-first (suc zero) (v ∷ is) hs h i e = let q : length hs ≡ v + sumAll is 
 held-first (suc (suc c)) is hs h i e = absurd (omega arith)
 
 first-known : (n : ℕ) (x : PartLists) → PartsAgree n x → 0 < length (x .lives) → First n x
-first-known n x h some = go (x .lives) (x .covered) some (h .lefts) (h .covered) (h .marks) (h .removals) (h .insides) (h .prices)
+first-known n x h some = go (x .lives) (x .covered) (x .ruled) some (h .lefts) (h .covered) (h .ruled) (h .marks) (h .rule-marks) (h .removals) (h .insides) (h .bases) (h .drops) (h .leasts) (h .prices)
   where
-    go : (ls cs : List ℕ) → 0 < length ls → length (x .lefts) ≡ length ls → length cs ≡ length ls → All (λ (c : ℕ). c ≤ 1) cs → length (x .removals) ≡ sumAll cs → length (x .insides) ≡ sumAll cs → length (x .prices) ≡ length ls * n
-        → First n (record { lives = ls; lefts = x .lefts; covered = cs; removals = x .removals; insides = x .insides; holders = x .holders; prices = x .prices })
-    go [] cs some e f m a b p = absurd (omega arith)
-    go (l ∷ ls) [] some e f m a b p = absurd (omega arith)
-    go (l ∷ ls) (c ∷ cs) some e f m a b p =
-        let q : length (x .prices) ≡ length ls * n + n = p ∙ suc-mul (length ls) n in
-        let v : length (x .removals) ≡ c + sumAll cs = a in
-        let i : length (x .insides) ≡ c + sumAll cs = b in
+    go : (ls cs us : List ℕ) → 0 < length ls → length (x .lefts) ≡ length ls → length cs ≡ length ls → length us ≡ length ls → All (λ (c : ℕ). c ≤ 1) cs → All (λ (u : ℕ). u ≤ 1) us
+        → length (x .removals) ≡ sumAll cs → length (x .insides) ≡ sumAll cs → length (x .bases) ≡ sumAll us → length (x .drops) ≡ sumAll us → length (x .leasts) ≡ sumAll us
+        → length (x .prices) ≡ (length ls - sumAll us) * n
+        → First n (record { lives = ls; lefts = x .lefts; covered = cs; removals = x .removals; insides = x .insides; holders = x .holders; ruled = us; bases = x .bases; drops = x .drops; leasts = x .leasts; prices = x .prices })
+    go [] cs us some e f g m q a b i j k p = absurd (omega arith)
+    go (l ∷ ls) [] us some e f g m q a b i j k p = absurd (omega arith)
+    go (l ∷ ls) (c ∷ cs) [] some e f g m q a b i j k p = absurd (omega arith)
+    go (l ∷ ls) (c ∷ cs) (u ∷ us) some e f g m q a b i j k p =
+        let covers : length (x .insides) ≡ c + sumAll cs = b in
         record {
           mark = m .0;
           left = omega (arith, e);
           covered = omega arith;
-          removal = omega (arith, v);
-          inside = omega (arith, i);
-          holders = held-first c (x .insides) (x .holders) (m .0) (omega (arith, i)) (h .holders);
-          prices = omega (arith, q);
+          removal = let w : length (x .removals) ≡ c + sumAll cs = a in omega (arith, w);
+          inside = omega (arith, covers);
+          holders = held-first c (x .insides) (x .holders) (m .0) (omega (arith, covers)) (h .holders);
+          rule-mark = q .0;
+          ruled = omega arith;
+          base = let w : length (x .bases) ≡ u + sumAll us = i in omega (arith, w);
+          drop = let w : length (x .drops) ≡ u + sumAll us = j in omega (arith, w);
+          least = let w : length (x .leasts) ≡ u + sumAll us = k in omega (arith, w);
+          prices = listed-here n u (length ls) (sumAll us) (length (x .prices)) (q .0) (omega (arith, marks-few us (q .1), g)) p .0;
         }
 
 -- ---- a place
@@ -69,6 +84,11 @@ unfolding linesOf
 lines-if true c d e = ap (linesOf true) (e refl)
 lines-if false c d e = refl
 
+said-if : (b : Bool) (r s : Rule) (ps : List ℕ) → (b ≡ true → r ≡ s) → pricesSaid b r ps ≡ pricesSaid b s ps
+unfolding pricesSaid
+said-if true r s ps e = ap byRule (e refl)
+said-if false r s ps e = refl
+
 module _ (n : ℕ) (x : PartLists) (k : ℕ) (p : Place) where
   abbrev pub markAt : ℕ
   markAt = getD (x .covered) k 0
@@ -79,6 +99,19 @@ module _ (n : ℕ) (x : PartLists) (k : ℕ) (p : Place) where
   abbrev pub insideAt : ℕ
   insideAt = cond thereAt (getD (x .insides) (p .covers) 0) 0
 
+  abbrev pub ruleMarkAt : ℕ
+  ruleMarkAt = getD (x .ruled) k 0
+
+  abbrev pub ruledAt : Bool
+  ruledAt = eqb ruleMarkAt 1
+
+  abbrev pub listedAt : ℕ
+  listedAt = cond ruledAt 0 n
+
+  -- the numbers of its rule, where it has one
+  abbrev pub ruleAt : Rule
+  ruleAt = record { base = cond ruledAt (getD (x .bases) (p .rules) 0) 0; drop = cond ruledAt (getD (x .drops) (p .rules) 0) 0; least = cond ruledAt (getD (x .leasts) (p .rules) 0) 0 }
+
   -- what the lists have of the part at a place
   pub record Known : Type 0 where
     pub mark : markAt ≤ 1
@@ -87,10 +120,18 @@ module _ (n : ℕ) (x : PartLists) (k : ℕ) (p : Place) where
     pub removal : p .covers + markAt ≤ length (x .removals)
     pub inside : thereAt ≡ true → p .covers < length (x .insides)
     pub holders : p .holders + insideAt ≤ length (x .holders)
-    pub prices : p .prices + n ≤ length (x .prices)
+    pub ruled : k < length (x .ruled)
+    pub rules : p .rules + ruleMarkAt ≤ length (x .bases)
+    pub rule-mark : ruleMarkAt ≤ 1
+    pub drop : ruledAt ≡ true → p .rules < length (x .drops)
+    pub least : ruledAt ≡ true → p .rules < length (x .leasts)
+    pub prices : p .prices + listedAt ≤ length (x .prices)
 
   inside-is : insideFirst (after k p x) ≡ insideAt
   inside-is = ap₂ (λ (c i : ℕ). cond (eqb c 1) i 0) (from k (x .covered)) (from (p .covers) (x .insides))
+
+  listed-is : listedFirst n (after k p x) ≡ listedAt
+  listed-is = ap (λ (u : ℕ). cond (eqb u 1) 0 n) (from k (x .ruled))
 
   module _ (standing : Standing n x k p) (some : k < length (x .lives)) where
     some-after : 0 < length (after k p x .lives)
@@ -107,14 +148,20 @@ module _ (n : ℕ) (x : PartLists) (k : ℕ) (p : Place) where
       removal = omega (arith, first .removal, length-drop (p .covers) (x .removals), from k (x .covered), standing .covers);
       inside = λ e. omega (arith, eqb-true markAt 1 e, first .inside, length-drop (p .covers) (x .insides), from k (x .covered));
       holders = omega (arith, first .holders, inside-is, length-drop (p .holders) (x .holders), standing .holders);
-      prices = omega (arith, first .prices, length-drop (p .prices) (x .prices), standing .prices);
+      ruled = omega (arith, first .ruled, length-drop k (x .ruled));
+      rules = omega (arith, first .base, length-drop (p .rules) (x .bases), from k (x .ruled), standing .rules);
+      rule-mark = omega (arith, first .rule-mark, from k (x .ruled));
+      drop = λ e. omega (arith, eqb-true ruleMarkAt 1 e, first .drop, length-drop (p .rules) (x .drops), from k (x .ruled));
+      least = λ e. omega (arith, eqb-true ruleMarkAt 1 e, first .least, length-drop (p .rules) (x .leasts), from k (x .ruled));
+      prices = omega (arith, first .prices, listed-is, length-drop (p .prices) (x .prices), standing .prices);
     }
 
-    pub step-put : (q : Place) → q .covers ≡ p .covers + markAt → q .holders ≡ p .holders + insideAt → q .prices ≡ p .prices + n → StepPut n x k p q
-    step-put q a b c = record {
+    pub step-put : (q : Place) → q .covers ≡ p .covers + markAt → q .holders ≡ p .holders + insideAt → q .rules ≡ p .rules + ruleMarkAt → q .prices ≡ p .prices + listedAt → StepPut n x k p q
+    step-put q a b d c = record {
       standing = record {
         covers = omega (arith, a, known .removal);
         holders = omega (arith, b, known .holders);
+        rules = omega (arith, d, known .rules);
         prices = omega (arith, c, known .prices);
         agree = subst (PartsAgree n) (sym rest) (agree-next n (after k p x) (standing .agree) some-after);
       };
@@ -125,6 +172,9 @@ module _ (n : ℕ) (x : PartLists) (k : ℕ) (p : Place) where
         on : (j i d : ℕ) (xs : List ℕ) → j ≡ i + d → drop j xs ≡ drop d (drop i xs)
         on j i d xs e = ap (λ (m : ℕ). drop m xs) e ∙ sym (drop-drop d i xs)
 
+        ruled-on : q .rules ≡ p .rules + getD (drop k (x .ruled)) 0 0
+        ruled-on = d ∙ ap (λ (m : ℕ). p .rules + m) (sym (from k (x .ruled)))
+
         rest : after (k + 1) q x ≡ behindFirst n (after k p x)
         rest = λ i. record {
           lives = on (k + 1) k 1 (x .lives) refl i;
@@ -133,7 +183,11 @@ module _ (n : ℕ) (x : PartLists) (k : ℕ) (p : Place) where
           removals = on (q .covers) (p .covers) (getD (drop k (x .covered)) 0 0) (x .removals) (a ∙ ap (λ (m : ℕ). p .covers + m) (sym (from k (x .covered)))) i;
           insides = on (q .covers) (p .covers) (getD (drop k (x .covered)) 0 0) (x .insides) (a ∙ ap (λ (m : ℕ). p .covers + m) (sym (from k (x .covered)))) i;
           holders = on (q .holders) (p .holders) (insideFirst (after k p x)) (x .holders) (b ∙ ap (λ (m : ℕ). p .holders + m) (sym inside-is)) i;
-          prices = on (q .prices) (p .prices) n (x .prices) c i;
+          ruled = on (k + 1) k 1 (x .ruled) refl i;
+          bases = on (q .rules) (p .rules) (getD (drop k (x .ruled)) 0 0) (x .bases) ruled-on i;
+          drops = on (q .rules) (p .rules) (getD (drop k (x .ruled)) 0 0) (x .drops) ruled-on i;
+          leasts = on (q .rules) (p .rules) (getD (drop k (x .ruled)) 0 0) (x .leasts) ruled-on i;
+          prices = on (q .prices) (p .prices) (listedFirst n (after k p x)) (x .prices) (c ∙ ap (λ (m : ℕ). p .prices + m) (sym listed-is)) i;
         }
 
   -- the part that begins there
@@ -142,11 +196,11 @@ module _ (n : ℕ) (x : PartLists) (k : ℕ) (p : Place) where
     life = getD (x .lives) k 0;
     left = getD (x .lefts) k 0;
     cover = linesOf thereAt (record { removal = cond thereAt (getD (x .removals) (p .covers) 0) 0; holders = take insideAt (drop (p .holders) (x .holders)) });
-    prices = take n (drop (p .prices) (x .prices));
+    prices = pricesSaid ruledAt ruleAt (take listedAt (drop (p .prices) (x .prices)));
   }
 
   pub first-is : firstPart n (after k p x) ≡ partAt
-  first-is = λ i. record { life = from k (x .lives) i; left = from k (x .lefts) i; cover = cover i; prices = take n (drop (p .prices) (x .prices)) }
+  first-is = λ i. record { life = from k (x .lives) i; left = from k (x .lefts) i; cover = cover i; prices = prices i }
     where
       held : ℕ → List ℕ
       held i = take i (drop (p .holders) (x .holders))
@@ -155,3 +209,15 @@ module _ (n : ℕ) (x : PartLists) (k : ℕ) (p : Place) where
       cover =
           ap (λ (c : ℕ). linesOf (eqb c 1) (record { removal = getD (drop (p .covers) (x .removals)) 0 0; holders = held (insideFirst (after k p x)) })) (from k (x .covered))
           ∙ lines-if thereAt _ _ (λ e. ap₂ (λ (v i : ℕ). record { removal = v; holders = held i }) (from (p .covers) (x .removals) ∙ sym (ap (λ (b : Bool). cond b (getD (x .removals) (p .covers) 0) 0) e)) inside-is)
+
+      listed : ℕ → List ℕ
+      listed i = take i (drop (p .prices) (x .prices))
+
+      -- a number of the rule's lists
+      number : (xs : List ℕ) → ruledAt ≡ true → getD (drop (p .rules) xs) 0 0 ≡ cond ruledAt (getD xs (p .rules) 0) 0
+      number xs e = from (p .rules) xs ∙ sym (ap (λ (b : Bool). cond b (getD xs (p .rules) 0) 0) e)
+
+      prices : firstPart n (after k p x) .prices ≡ pricesSaid ruledAt ruleAt (listed listedAt)
+      prices =
+          ap (λ (u : ℕ). pricesSaid (eqb u 1) (ruleFirst (after k p x)) (listed (cond (eqb u 1) 0 n))) (from k (x .ruled))
+          ∙ said-if ruledAt _ _ (listed listedAt) (λ e i. record { base = number (x .bases) e i; drop = number (x .drops) e i; least = number (x .leasts) e i })

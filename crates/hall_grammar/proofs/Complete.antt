@@ -28,7 +28,7 @@ use Rattle.hall_grammar.proofs.Accepted.{valid-hall, text-is}
 jobs-next : (ts : List JobText) (s : List ℕ) → Behind s → Behind (texts jobText ts ++ s)
 unfolding startsWith line bytes jobText
 jobs-next [] s e = e
-jobs-next (t ∷ ts) s e = record { removal = refl }
+jobs-next (t ∷ ts) s e = record { removal = refl; base = refl }
 
 jobs-back : (ts : List JobText) (before : List Job) → Joined before ts → (s : List ℕ) (l : ℕ) → Behind s → (l′ : ℕ) × (jobsBehind (length ts) before (texts jobText ts ++ s) l ≡ good ts s l′)
 unfolding jobsBehind jobBehind return

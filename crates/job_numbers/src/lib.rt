@@ -3,8 +3,8 @@ use clock::Positions;
 use clock::positions_of;
 use held_places::STRIDE;
 use jobs::Job;
-use part_records::left_of;
-use part_records::life_of;
+use part_records::lent_left;
+use part_records::lent_life;
 use part_records::part_of;
 ghost use mathlib.Core.Path.{_≡_};
 ghost use mathlib.Core.List.{map};
@@ -50,9 +50,8 @@ fn lives_of(job: Job) -> Lives
     let mut lefts = [0u32; 16];
     let mut q: usize = 0;
     while q < count {
-        let part = part_of(parts, count, q);
-        lives[q] = life_of(part);
-        lefts[q] = left_of(part);
+        lives[q] = lent_life(parts, count, q);
+        lefts[q] = lent_left(parts, count, q);
         q += 1;
     }
     Lives { lives, lefts }

@@ -12,6 +12,7 @@ use Rattle.model.specs.LowerBound.{leastOf, choiceOf, offers, blocks, stopCost,
 use Rattle.model.specs.Promise.{answerOf}
 use Rattle.model.specs.Verdict.{firstLate, verdictFrom, judgedOf}
 use Rattle.job_grammar.specs.Grammar as job
+use Rattle.price_rules.specs.Grammar as price
 use Rattle.part_lines.specs.Grammar as own
 use Rattle.plan_grammar.specs.Grammar as plan
 use Rattle.lines.specs.Chosen.{chosen}
@@ -29,8 +30,8 @@ use Rattle.jobs.specs.Valid.{All}
 use Rattle.starred.specs.Table.{Holds, Counts, cases, counts}
 
 pub proved : All Holds cases × All Counts counts
-unfolding cases counts bytes decimalIn line joined digits numberFrom startsWith readValue readLine _>>=_ return inRange readField taken rowAt optionalAt ifPresent checked chain times end whole readText beforeBreak afterBreak skipped faultLine faultSpan walk limited askFrom listed running clock within kept lastWithin dueOf places holdsOne rounds comesOut holding outBy select sumAt sum anyHeld heldFrom accessible leastOf choiceOf offers blocks stopCost undecidedFees boundOf answerOf firstLate verdictFrom judgedOf job.idle job.idleSteps job.idles job.opening job.openings cover.holder cover.holders cover.inside cover.cover meantCover own.afterLeft own.part job.parts job.body job.rest job.jobLines plan.any plan.part plan.parts plan.visit plan.visits plan.planOf plan.planLines plan.readPlan visitText planText chosen visitsOf planLinesOf faultLines searchLines plannedLines costLines unkeptLines judgeSaid planSaid eachReaches eachKept countFrom openCount countedJob countSaid eachServed latestAnswerOf latestFrom latestSaid servedLines
+unfolding cases counts bytes decimalIn line joined digits numberFrom startsWith readValue readLine _>>=_ return inRange readField taken rowAt optionalAt ifPresent checked chain times end whole readText beforeBreak afterBreak skipped faultLine faultSpan walk limited askFrom listed running clock within kept lastWithin dueOf places holdsOne rounds comesOut holding outBy select sumAt sum anyHeld heldFrom accessible leastOf choiceOf offers blocks stopCost undecidedFees boundOf answerOf firstLate verdictFrom judgedOf job.idle job.idleSteps job.idles job.opening job.openings cover.holder cover.holders cover.inside cover.cover meantCover price.afterBase price.rule price.unlessRuled price.prices own.afterLeft own.part job.parts job.body job.rest job.jobLines plan.any plan.part plan.parts plan.visit plan.visits plan.planOf plan.planLines plan.readPlan visitText planText chosen visitsOf planLinesOf faultLines searchLines plannedLines costLines unkeptLines judgeSaid planSaid eachReaches eachKept countFrom openCount countedJob countSaid eachServed latestAnswerOf latestFrom latestSaid servedLines
 proved = (
-  ((refl, refl, refl, refl, refl, refl), ((refl, refl, refl, refl, refl, refl), ((refl, refl, refl, refl, refl, refl), ((refl, refl, refl, refl, refl, refl), ((refl, refl, refl, refl, refl, refl), ((refl, refl, refl, refl, refl, refl), ((refl, refl, refl, refl, refl, refl), ((refl, refl, refl, refl, refl, refl), ((refl, refl, refl, refl, refl, refl), ((refl, refl, refl, refl, refl, refl), ((refl, refl, refl, refl, refl, refl), ((refl, refl, refl, refl, refl, refl), ((refl, refl, refl, refl, refl, refl), ((refl, refl, refl, refl, refl, refl), ((refl, refl, refl, refl, refl, refl), ((refl, refl, refl, refl, refl, refl), ((refl, refl, refl, refl, refl, refl), ((refl, refl, refl, refl, refl, refl), ((refl, refl, refl, refl, refl, refl), ((refl, refl, refl, refl, refl, refl), ((refl, refl, refl, refl, refl, refl), ((refl, refl, refl, refl, refl, refl), ((refl, refl, refl, refl, refl, refl), ((refl, refl, refl, refl, refl, refl), ((refl, refl, refl, refl, refl, refl), tt))))))))))))))))))))))))),
+  ((refl, refl, refl, refl, refl, refl), ((refl, refl, refl, refl, refl, refl), ((refl, refl, refl, refl, refl, refl), ((refl, refl, refl, refl, refl, refl), ((refl, refl, refl, refl, refl, refl), ((refl, refl, refl, refl, refl, refl), ((refl, refl, refl, refl, refl, refl), ((refl, refl, refl, refl, refl, refl), ((refl, refl, refl, refl, refl, refl), ((refl, refl, refl, refl, refl, refl), ((refl, refl, refl, refl, refl, refl), ((refl, refl, refl, refl, refl, refl), ((refl, refl, refl, refl, refl, refl), ((refl, refl, refl, refl, refl, refl), ((refl, refl, refl, refl, refl, refl), ((refl, refl, refl, refl, refl, refl), ((refl, refl, refl, refl, refl, refl), ((refl, refl, refl, refl, refl, refl), ((refl, refl, refl, refl, refl, refl), ((refl, refl, refl, refl, refl, refl), ((refl, refl, refl, refl, refl, refl), ((refl, refl, refl, refl, refl, refl), ((refl, refl, refl, refl, refl, refl), ((refl, refl, refl, refl, refl, refl), ((refl, refl, refl, refl, refl, refl), ((refl, refl, refl, refl, refl, refl), ((refl, refl, refl, refl, refl, refl), tt))))))))))))))))))))))))))),
   ((refl, refl, refl, refl, refl), ((refl, refl, refl, refl, refl), ((refl, refl, refl, refl, refl), ((refl, refl, refl, refl, refl), ((refl, refl, refl, refl, refl), ((refl, refl, refl, refl, refl), tt)))))),
 )

@@ -71,7 +71,7 @@ Counts c =
     × (said .count ≡ c .count)
     × (take (said .«fault_length») (drop (said .«fault_start») (c .job)) ≡ c .fault)
 
--- C1 to C12, and cases of ours of E1, E5, E7, E9 and E10
+-- C1 to C12, and cases of ours of E1, E5 and E7 to E10
 unfoldable pub cases : List Case
 cases =
     -- 01's job
@@ -422,6 +422,34 @@ cases =
       line = 0;
       length = 83;
       fault = bytes "";
+    }
+    ∷
+    -- E8: the prices 4 and 3 by a rule
+    record {
+      call = planner;
+      walk = 3000;
+      job = bytes "horizon=6\nopenings=2\nopening=1\nfee=0\nopening=3\nfee=0\nparts=1\nlife=6\nleft=3\nbase=4\ndrop=1\nleast=3\n";
+      plan = bytes "";
+      written = bytes "result=0\nnodes=5\nfloor=3\ncost=3\nstops=1\nstop=3\ncount=1\npart=1\n";
+      result = 0;
+      text = 0;
+      line = 0;
+      length = 62;
+      fault = bytes "";
+    }
+    ∷
+    -- E8: with no openings the rule's lines may stand, and behind `base` `drop` must
+    record {
+      call = judge;
+      walk = 0;
+      job = bytes "horizon=2\nopenings=0\nparts=1\nlife=3\nleft=3\nbase=4\nleast=3\n";
+      plan = bytes "";
+      written = bytes "result=2\ntext=1\nline=7\n";
+      result = 2;
+      text = 1;
+      line = 7;
+      length = 23;
+      fault = bytes "least=3";
     }
     ∷ []
 

@@ -69,6 +69,11 @@ impl Facts {
         self.parts.iter().filter_map(|part| part.cover.as_ref()).any(|(removal, holders)| *removal > 0 || !holders.is_empty())
     }
 
+    /// Whether this is the largest job, where all parts at all openings cost more than 2000000000.
+    fn is_largest(&self) -> bool {
+        self.openings.len() == 64 && self.parts.iter().all(|part| part.cover.as_ref().is_some_and(|(removal, _)| *removal == 1_000_000))
+    }
+
     /// The most running steps between neighbours among step 0, the openings and step T + 1.
     fn longest_gap(&self) -> u64 {
         let steps = [0].into_iter().chain(self.openings.iter().map(|o| o.0)).chain([self.horizon + 1]);
@@ -303,11 +308,12 @@ fn random_plan(rng: &mut Rng, facts: &Facts, often: u64) -> Vec<u8> {
     reference::texts::plan_lines(&job, &reference::model::Plan { stops, changes }).into_bytes()
 }
 
-/// A plan text for the job: printed by the planner or random, its cost at times not the true one.
+/// A plan text for the job: printed by the planner or random, for the largest job all parts at all openings; its cost at times not the
+/// true one.
 pub fn plan(rng: &mut Rng, facts: &Facts) -> Vec<u8> {
-    let printed = if rng.once_in(3) { printed_plan(&facts.text(), facts.walk) } else { None };
+    let printed = if !facts.is_largest() && rng.once_in(3) { printed_plan(&facts.text(), facts.walk) } else { None };
     let plan = printed.unwrap_or_else(|| {
-        let often = rng.pick(&[5, 8, 9, 10, 10]);
+        let often = if facts.is_largest() { 10 } else { rng.pick(&[5, 8, 9, 10, 10]) };
         random_plan(rng, facts, often)
     });
     if !rng.once_in(4) {

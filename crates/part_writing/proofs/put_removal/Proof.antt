@@ -7,11 +7,11 @@ use lib.ListN.{length, length-append}
 use Rattle.lines.specs.Text.{bytes, lineOf}
 use Rattle.lines.proofs.Writing.{none, then, kept, same}
 use Rattle.covers.specs.Grammar.{Cover}
-use Rattle.form_writing.specs.Cut.{insideCut, coverCut}
-use Rattle.form_writing.proofs.Pieces.{cover-there, cover-gone}
+use Rattle.part_writing.specs.Cut.{insideCut, coverCut}
+use Rattle.part_writing.proofs.Pieces.{cover-there, cover-gone}
 use borrow.Author.Needs.{needs}
-use Rattle.form_writing.proofs.parts.put_removal.Statement.{statement}
-use Rattle.form_writing.proofs.parts.put_removal.Tie as tie
+use Rattle.part_writing.proofs.put_removal.Statement.{statement}
+use Rattle.part_writing.proofs.put_removal.Tie as tie
 
 -- what the lines say
 abbrev said : tie.Start → Cover

@@ -10,8 +10,8 @@ use Rattle.lines.specs.Wrote.{Wrote}
 use Rattle.lines.proofs.Writing.{none, then, kept, same}
 use Rattle.lines.proofs.Texts.{texts-more, texts-room}
 use borrow.Author.Needs.{needs}
-use Rattle.form_writing.proofs.lists.put_values.Statement.{statement}
-use Rattle.form_writing.proofs.lists.put_values.Tie as tie
+use Rattle.part_writing.proofs.put_values.Statement.{statement}
+use Rattle.part_writing.proofs.put_values.Tie as tie
 
 abbrev Inv-loop : tie.InvT-loop
 Inv-loop out₀ at key values end₀ i₀ out end i = (i ≤ length values) × Wrote out₀ at (texts (line key) (take i values)) out end

@@ -5,11 +5,11 @@ use native.Mathlib.Omega.{arith}
 use lib.ListN.{length, length-append}
 use Rattle.lines.specs.Text.{bytes, lineOf, texts}
 use Rattle.lines.proofs.Writing.{then, kept, same}
-use Rattle.form_writing.specs.Cut.{insideCut}
-use Rattle.form_writing.proofs.Pieces.{inside-many, inside-few}
+use Rattle.part_writing.specs.Cut.{insideCut}
+use Rattle.part_writing.proofs.Pieces.{inside-many, inside-few}
 use borrow.Author.Needs.{needs}
-use Rattle.form_writing.proofs.parts.put_inside.Statement.{statement}
-use Rattle.form_writing.proofs.parts.put_inside.Tie as tie
+use Rattle.part_writing.proofs.put_inside.Statement.{statement}
+use Rattle.part_writing.proofs.put_inside.Tie as tie
 
 put-line-requires : tie.Need-put-line-requires
 unfolding bytes insideCut
