@@ -57,8 +57,8 @@ module _ (job : Job) where
 
   removals-same : (cs : List (List Bool)) → removalsOf (unpriced job) cs ≡ removalsOf job cs
   removals-same cs = λ i.
-    let m = same-count (job .parts) i in
-    sum 0 (length (job .openings)) (λ k. sumAt (same-removals (job .parts) i) (table (outBy (table (λ j. out-same j i) m) cs k) m))
+      let m = same-count (job .parts) i in
+      sum 0 (length (job .openings)) (λ k. sumAt (same-removals (job .parts) i) (table (outBy (table (λ j. out-same j i) m) cs k) m))
 
 -- ---- costs
 
@@ -66,7 +66,7 @@ cost-rises : (job other : Job) (plan : Plan) → UpTo job other → costOf job p
 cost-rises job other plan h =
     let fees : sumAt (map feeOf (job .openings)) (plan .stops) ≡ sumAt (map feeOf (other .openings)) (plan .stops) = ap (λ (j : Job). sumAt (map feeOf (j .openings)) (plan .stops)) (h .same) in
     let removals : removalsOf job (plan .changes) ≡ removalsOf other (plan .changes) =
-        sym (removals-same job (plan .changes)) ∙ ap (λ (j : Job). removalsOf j (plan .changes)) (h .same) ∙ removals-same other (plan .changes) in
+    sym (removals-same job (plan .changes)) ∙ ap (λ (j : Job). removalsOf j (plan .changes)) (h .same) ∙ removals-same other (plan .changes) in
     omega (arith, fees, removals, prices-rise (job .parts) (other .parts) (plan .changes) (h .prices))
 
 -- ---- the ends

@@ -133,17 +133,17 @@ pub longest-valid : ValidText longestText
 unfolding longestText partsAfter stepsAfter openingsAfter
 longest-valid = record {
   means = meant-valid longestText (record {
-      horizon-low = omega arith;
-      horizon-high = omega arith;
-      few-idles = omega arith;
-      idles = steps-rise 0 365 365 (omega arith);
-      few-openings = omega arith;
-      openings = openings-valid 301 64 (omega arith);
-      rising = openings-rise 0 301 64 365 (omega arith) (omega arith);
-      some-part = omega arith;
-      few-parts = omega arith;
-      parts = parts-valid 0 16 (omega arith) .0;
-      holders = parts-valid 0 16 (omega arith) .1;
+    horizon-low = omega arith;
+    horizon-high = omega arith;
+    few-idles = omega arith;
+    idles = steps-rise 0 365 365 (omega arith);
+    few-openings = omega arith;
+    openings = openings-valid 301 64 (omega arith);
+    rising = openings-rise 0 301 64 365 (omega arith) (omega arith);
+    some-part = omega arith;
+    few-parts = omega arith;
+    parts = parts-valid 0 16 (omega arith) .0;
+    holders = parts-valid 0 16 (omega arith) .1;
   }) (parts-valid 0 16 (omega arith) .2);
   idles = omega arith;
   walk = omega arith;

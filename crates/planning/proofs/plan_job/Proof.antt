@@ -27,7 +27,7 @@ said : (c : tie.After-finding-of) → let j = start c .args .text .job in
 said c = c .finding-of .ensures _ _ ∙ c .before .before .before .search-job .ensures
 
 search-job-requires : tie.Need-search-job-requires
-search-job-requires c κs = let s = c .before in sound-job (s .args .text) (s .pre .0)
+search-job-requires c κs = let s = c .before .before in sound-job (s .args .text) (s .pre .0)
 
 finding-of-requires : tie.Need-finding-of-requires
 finding-of-requires c κs = search needs

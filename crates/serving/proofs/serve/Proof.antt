@@ -12,10 +12,10 @@ use Rattle.serving.proofs.serve.Statement.{statement}
 use Rattle.serving.proofs.serve.Tie as tie
 
 latest-plan-requires : tie.Need-latest-plan-requires
-latest-plan-requires c κs = let s = c .before .before in sound-job (s .args .text) (s .pre)
+latest-plan-requires c κs = let s = c .before .before .before in sound-job (s .args .text) (s .pre)
 
 serving-of-requires : tie.Need-serving-of-requires
-serving-of-requires c κs = let s = c .before .before .before in sound-job (s .args .text) (s .pre)
+serving-of-requires c κs = let s = c .before .before .before .before in sound-job (s .args .text) (s .pre)
 
 answer-requires : tie.Need-answer-requires
 answer-requires c κs =

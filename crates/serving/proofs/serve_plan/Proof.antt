@@ -4,7 +4,6 @@ use native.Mathlib.Omega.{arith}
 use Rattle.lines.specs.Parser.{accepted, refused}
 use Rattle.lines.proofs.Outcomes.{told}
 use Rattle.jobs.specs.Views.{jobOf}
-use Rattle.job_text.proofs.Views.{sound-job}
 use Rattle.plan_grammar.specs.Grammar.{readPlan}
 use Rattle.plan_text.specs.Views.{statedFor}
 use Rattle.plan_grammar.proofs.Numbered.{fault}
@@ -21,7 +20,7 @@ accepted-plan : (c : tie.After-enum-told) → let a = c .before .before .before 
 accepted-plan c = told _ (c .before .before .read-plan .ensures) (c .enum-told .given .1)
 
 read-plan-requires : tie.Need-read-plan-requires
-read-plan-requires c κs = let s = c .before .before in sound-job (s .args .text) (s .pre)
+read-plan-requires c κs = c .before .before .before .pre .sized
 
 refuse-requires : tie.Need-refuse-requires
 refuse-requires c κs = (omega (arith, fault _ _ _ _ (refused-plan (c .before .before)) .1), omega arith)

@@ -1,8 +1,8 @@
 -- `value_if`: by whether the value is there.
 use native.Mathlib.Omega.{arith}
 use borrow.Author.Needs.{needs}
-use Rattle.form_writing.proofs.parts.value_if.Statement.{statement}
-use Rattle.form_writing.proofs.parts.value_if.Tie as tie
+use Rattle.quote_writing.proofs.value_if.Statement.{statement}
+use Rattle.quote_writing.proofs.value_if.Tie as tie
 
 mul-result : tie.Need-mul-result
 mul-result c = omega (arith, c .before .pre (c .if1 .taken), c .before .good)
