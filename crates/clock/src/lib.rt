@@ -4,11 +4,11 @@ use least::in_reach;
 ghost use mathlib.Core.Path.{_≡_};
 ghost use Prim.Native.Nat.{_≤_};
 ghost use lib.IntN.{pos};
-ghost use Rattle.model.specs.Model.{dueOf};
+ghost use Rattle.model.specs.Model.{clock, dueOf};
 ghost use Rattle.jobs.specs.Views.{jobOf};
 ghost use Rattle.jobs.specs.Valid.{Sound};
-ghost use Rattle.clock.specs.Placed.{Begins, Flags, Clocks, Placed};
-ghost use Rattle.model.specs.Limits.{longestLife};
+ghost use Rattle.clock.specs.Placed.{Position, Begins, Flags, Clocks, Placed};
+ghost use Rattle.model.specs.Limits.{lastPosition, longestLife};
 
 // The steps from 0 to the one after the longest horizon.
 const STEPS: usize = 367;
@@ -52,6 +52,15 @@ fn running_steps(job: Job) -> [i32; STEPS]
         s += 1;
     }
     clock
+}
+
+// The position of a step.
+pub fn position_of(job: Job, step: u32) -> i32
+    requires { ⌜ Sound job × (step ≤ lastPosition) ⌝ }
+    ensures { λ r. ⌜ (r ≡ clock (jobOf job) step) × Position r ⌝ }
+{
+    let at = running_steps(job);
+    at[step as usize]
 }
 
 // The positions of an accepted job.

@@ -21,7 +21,8 @@ use Rattle.model.proofs.Lists.{table-yes}
 
 -- ---- lists
 
-select-off : {A : Type 0} (xs : List A) (ms : List Bool) → ((j : ℕ) → getD ms j false ≡ true → ⊥) → select xs ms ≡ []
+-- an empty set selects nothing
+pub select-off : {A : Type 0} (xs : List A) (ms : List Bool) → ((j : ℕ) → getD ms j false ≡ true → ⊥) → select xs ms ≡ []
 unfolding select
 select-off [] ms f = refl
 select-off (x ∷ xs) [] f = refl
