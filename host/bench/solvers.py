@@ -43,7 +43,7 @@ def read_job(text):
             parts[-1][3] = value
         elif key == "holder":
             parts[-1][4].append(value - 1)
-        elif key == "price":
+        elif key in ("price", "high"):
             parts[-1][2].append(value)
         elif key == "base":
             base = value

@@ -46,11 +46,11 @@ __all__ = [
 ]
 
 #: The version of the library's interface that this module is made for.
-VERSION: Tuple[int, int, int] = (0, 10, 0)
+VERSION: Tuple[int, int, int] = (0, 11, 0)
 
 _NAME = "libjuzvarola.so.0"
 _ROOM = 16_384
-_WRITE_ROOM = 32_768
+_WRITE_ROOM = 40_960
 _MOST = 4_000_000_000
 
 Text = Union[bytes, bytearray, str]
@@ -72,6 +72,7 @@ class Result(IntEnum):
     NOT_KEPT = 10
     WRONG_COST = 11
     BAD_HOLDER = 12
+    BAD_BAND = 13
 
 
 @dataclass(frozen=True)
@@ -116,7 +117,10 @@ class Plan:
 
 @dataclass(frozen=True)
 class Planned:
-    """The planner's answer. With OK the plan is the cheapest of all; with CUT_SHORT it is the best found, if any; no plan costs less than floor."""
+    """The planner's answer. With OK the plan is the cheapest of all; with CUT_SHORT it is the best found, if any; no plan costs less than floor.
+
+    Where prices are bands, all this is at their high ends, and cost_low is what the plan costs at the low ones.
+    """
 
     result: Result
     nodes: Optional[int]
@@ -124,6 +128,7 @@ class Planned:
     plan: Optional[Plan]
     fault: Optional[Fault]
     lines: bytes
+    cost_low: Optional[int] = None
 
 
 @dataclass(frozen=True)
@@ -141,12 +146,13 @@ class Verdict:
 @dataclass(frozen=True)
 class Latest:
     """The habit's answer: with OK the plan with all the stops given, each part changed at the last one that still serves; NO_PLAN where they can't
-    keep some part."""
+    keep some part. Where prices are bands, cost_low is what the plan costs at their low ends."""
 
     result: Result
     plan: Optional[Plan]
     fault: Optional[Fault]
     lines: bytes
+    cost_low: Optional[int] = None
 
 
 @dataclass(frozen=True)
@@ -174,6 +180,7 @@ class Form:
 
     covered has a 1 for each part whose lines of removal stand, else 0; where it is left out no part has them. ruled has a 1 for each part whose
     prices are given by a rule, else 0; where it is left out none are. bases, drops and leasts have one for each such part, and prices none.
+    banded has a 1 for each of the prices that is the high end of a band, else 0; where it is left out none is. lows has the low ends.
     """
 
     horizon: int
@@ -191,6 +198,8 @@ class Form:
     bases: Sequence[int] = ()
     drops: Sequence[int] = ()
     leasts: Sequence[int] = ()
+    banded: Optional[Sequence[int]] = None
+    lows: Sequence[int] = ()
 
 
 class _Answer(ctypes.Structure):
@@ -233,7 +242,7 @@ def _load() -> ctypes.CDLL:
         ("juzvarola_plan", _Answer, text + (ctypes.c_uint64,) + out),
         ("juzvarola_judge", _Answer, text + text + out),
         ("juzvarola_latest", _Answer, text + text + out),
-        ("juzvarola_write", _Answer, (ctypes.c_uint32,) + numbers * 14 + out),
+        ("juzvarola_write", _Answer, (ctypes.c_uint32,) + numbers * 16 + out),
         ("juzvarola_count", _Counted, text),
     ):
         call = getattr(library, name)
@@ -288,7 +297,7 @@ def plan(job: Text, walk: int = _MOST) -> Planned:
     lines = out.raw[: answer.length]
     fault = _fault(answer, data)
     values = dict(_pairs(lines)) if fault is None else {}
-    return Planned(Result(answer.result), values.get("nodes"), values.get("floor"), _plan_in(lines), fault, lines)
+    return Planned(Result(answer.result), values.get("nodes"), values.get("floor"), _plan_in(lines), fault, lines, values.get("costlow"))
 
 
 def judge(job: Text, plan: Union[Text, Plan]) -> Verdict:
@@ -307,7 +316,9 @@ def latest(job: Text, plan: Union[Text, Plan]) -> Latest:
     data, given, out = _bytes(job), _plan_text(plan), ctypes.create_string_buffer(_ROOM)
     answer = _library.juzvarola_latest(data, len(data), given, len(given), out, _ROOM)
     lines = out.raw[: answer.length]
-    return Latest(Result(answer.result), _plan_in(lines), _fault(answer, data, given), lines)
+    fault = _fault(answer, data, given)
+    low = dict(_pairs(lines)).get("costlow") if fault is None else None
+    return Latest(Result(answer.result), _plan_in(lines), fault, lines, low)
 
 
 def write(form: Form) -> Written:
@@ -315,8 +326,9 @@ def write(form: Form) -> Written:
     none = [0] * len(form.lives)
     covers = (none if form.covered is None else form.covered, form.removals, form.insides, form.holders)
     rules = (none if form.ruled is None else form.ruled, form.bases, form.drops, form.leasts)
+    bands = ([0] * len(form.prices) if form.banded is None else form.banded, form.lows)
     words: list = [_number(form.horizon)]
-    for own in (form.idles, form.openings, form.fees, form.lives, form.lefts, *covers, *rules, form.prices):
+    for own in (form.idles, form.openings, form.fees, form.lives, form.lefts, *covers, *rules, *bands, form.prices):
         words.extend(_numbers(own))
     out = ctypes.create_string_buffer(_WRITE_ROOM)
     answer = _library.juzvarola_write(*words, out, _WRITE_ROOM)

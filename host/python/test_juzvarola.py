@@ -56,7 +56,7 @@ class Calls(unittest.TestCase):
         self.assertEqual((planned.fault.text, planned.fault.line, planned.fault.shown), (1, 13, b"left=9"))
         verdict = juzvarola.judge(EXAMPLE, "cost=0\nstops=1\nstop=1\n")
         self.assertEqual((verdict.result, verdict.fault.text, verdict.fault.shown), (Result.BAD_STOP, 2, b"stop=1"))
-        self.assertEqual(juzvarola.plan(b"a" * 40000).result, Result.TOO_LONG)
+        self.assertEqual(juzvarola.plan(b"a" * 40961).result, Result.TOO_LONG)
         self.assertEqual(juzvarola.plan(EXAMPLE.replace(b"left=2", b"left=1", 1)).result, Result.NO_PLAN)
         held = (HOST.parent / "jobs/38_week8_guard_shutdown.txt").read_bytes()
         counted = juzvarola.count(held)
@@ -75,6 +75,23 @@ class Calls(unittest.TestCase):
         listed = juzvarola.write(Form(**{**FORM.__dict__, "prices": [5] * 4 + [9, 8, 7, 7]})).text
         self.assertEqual(juzvarola.plan(ruled), juzvarola.plan(listed))
         self.assertEqual(juzvarola.write(Form(**{**FORM.__dict__, "ruled": [0, 2]})).line, 11)
+        band = {"banded": [0] * 4 + [1, 0, 1, 0], "lows": [4, 6]}
+        written = juzvarola.write(Form(**{**FORM.__dict__, **band}))
+        self.assertTrue(written.text.endswith(b"left=4\nlow=4\nhigh=7\nprice=7\nlow=6\nhigh=7\nprice=7\n"), written)
+        self.assertEqual(juzvarola.write(Form(**{**FORM.__dict__, "banded": [0]})).line, 11)
+        written = juzvarola.write(Form(**{**FORM.__dict__, **band, "lows": [4, 8]}))
+        self.assertEqual((written.result, written.line), (Result.BAD_BAND, 24))
+
+    def test_bands(self):
+        banded = EXAMPLE.replace(b"price=7", b"low=4\nhigh=7")
+        planned = juzvarola.plan(banded)
+        self.assertEqual((planned.cost_low, planned.plan.cost), (34, 37))
+        self.assertEqual(planned.plan, juzvarola.plan(EXAMPLE).plan)
+        self.assertEqual((juzvarola.plan(EXAMPLE).cost_low, juzvarola.latest(EXAMPLE, planned.plan).cost_low), (None, None))
+        self.assertEqual(juzvarola.latest(banded, planned.plan).cost_low, 34)
+        self.assertEqual(juzvarola.judge(banded, planned.plan).cost, 37)
+        planned = juzvarola.plan(EXAMPLE.replace(b"price=7", b"low=8\nhigh=7", 1))
+        self.assertEqual((planned.result, planned.fault.line, planned.fault.shown), (Result.BAD_BAND, 21, b"high=7"))
         for wrong in (-1, 1 << 32):
             with self.assertRaises(ValueError):
                 juzvarola.write(Form(**{**FORM.__dict__, "horizon": wrong}))

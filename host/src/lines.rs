@@ -11,10 +11,21 @@ pub struct Line {
     /// The keys of the lines that may follow, in their order; an empty one is the text's end.
     pub next: &'static [&'static str],
     pub stands: Stands,
-    /// The line whose value says how many there are, and the line since which they are counted.
-    pub counted: Option<(&'static str, &'static str)>,
+    /// How many there are, where a count says it.
+    pub counted: Option<Counted>,
     /// What a fault's number means here, where the number alone does not say it.
     pub words: &'static [(u32, &'static str)],
+}
+
+/// A count of lines.
+#[derive(Debug, Clone, Copy)]
+pub struct Counted {
+    /// The line whose value says how many there are.
+    by: &'static str,
+    /// The line since which they are counted.
+    since: &'static str,
+    /// The lines that are counted: these keys.
+    keys: &'static [&'static str],
 }
 
 /// Whether a line has to stand where it may.
@@ -39,8 +50,8 @@ impl Line {
         Line { stands, ..self }
     }
 
-    const fn counted(self, by: &'static str, since: &'static str) -> Line {
-        Line { counted: Some((by, since)), ..self }
+    const fn counted(self, by: &'static str, since: &'static str, keys: &'static [&'static str]) -> Line {
+        Line { counted: Some(Counted { by, since, keys }), ..self }
     }
 
     const fn words(self, words: &'static [(u32, &'static str)]) -> Line {
@@ -52,31 +63,36 @@ const STEP: (u64, u64) = (1, 365);
 const AMOUNT: (u64, u64) = (0, 1_000_000);
 const PRICE: (u64, u64) = (1, 1_000_000);
 
+/// The lines that end an opening's price.
+const PRICES: &[&str] = &["price", "high"];
+
 /// The lines of a job text, the first one first.
 pub const JOB: &[Line] = &[
     line("horizon", (2, 365), &["idles", "walk", "openings"]),
     line("idles", STEP, &["idle"]).standing(Stands::Maybe),
     line("idle", STEP, &["idle", "walk", "openings"])
-        .counted("idles", "idles")
+        .counted("idles", "idles", &["idle"])
         .words(&[(4, "idle does not come after the idle step before, or is past the horizon")]),
     line("walk", (0, 4_000_000_000), &["openings"]).standing(Stands::Still),
     line("openings", (0, 64), &["opening", "parts"]),
     line("opening", STEP, &["fee"])
-        .counted("openings", "openings")
+        .counted("openings", "openings", &["opening"])
         .words(&[(4, "opening does not come after the opening before, or is past the horizon")]),
     line("fee", AMOUNT, &["opening", "parts"]),
     line("parts", (1, 16), &["life"]),
-    line("life", (1, 1000), &["left"]).counted("parts", "parts"),
-    line("left", (1, 1000), &["removal", "base", "price", "life", END]).words(&[(5, "left is greater than life")]),
+    line("life", (1, 1000), &["left"]).counted("parts", "parts", &["life"]),
+    line("left", (1, 1000), &["removal", "base", "low", "price", "life", END]).words(&[(5, "left is greater than life")]),
     line("removal", AMOUNT, &["inside"]).standing(Stands::Maybe),
-    line("inside", (0, 15), &["holder", "base", "price", "life", END]),
-    line("holder", (1, 16), &["holder", "base", "price", "life", END])
-        .counted("inside", "inside")
+    line("inside", (0, 15), &["holder", "base", "low", "price", "life", END]),
+    line("holder", (1, 16), &["holder", "base", "low", "price", "life", END])
+        .counted("inside", "inside", &["holder"])
         .words(&[(12, "holder is above the job's number of parts, is the part itself, or does not come after the holder before")]),
     line("base", PRICE, &["drop"]).standing(Stands::Maybe),
     line("drop", AMOUNT, &["least"]),
     line("least", PRICE, &["life", END]),
-    line("price", PRICE, &["price", "life", END]).counted("openings", "life"),
+    line("low", PRICE, &["high"]).standing(Stands::Maybe).counted("openings", "life", PRICES),
+    line("high", PRICE, &["low", "price", "life", END]).words(&[(13, "the price's low end is above its high end")]),
+    line("price", PRICE, &["low", "price", "life", END]).counted("openings", "life", PRICES),
 ];
 
 /// The lines of a plan text, the first one first.
@@ -84,11 +100,11 @@ pub const PLAN: &[Line] = &[
     line("cost", (0, 4_000_000_000), &["stops"]),
     line("stops", (0, 64), &["stop", END]),
     line("stop", STEP, &["count"])
-        .counted("stops", "stops")
+        .counted("stops", "stops", &["stop"])
         .words(&[(9, "stop is no opening of the job, or does not come after the stop before")]),
     line("count", (0, 16), &["part", "stop", END]),
     line("part", (1, 16), &["part", "stop", END])
-        .counted("count", "count")
+        .counted("count", "count", &["part"])
         .words(&[(9, "part is above the job's number of parts, or does not come after the part before")]),
 ];
 
@@ -105,7 +121,7 @@ pub fn following(table: &'static [Line], before: &[(&[u8], u64)]) -> Option<Vec<
     let mut may = Vec::new();
     for key in own(last)?.next {
         let Some(line) = own(key.as_bytes()) else { return Some(may) };
-        if line.counted.is_some_and(|counted| !more(line.key, counted, before)) {
+        if line.counted.is_some_and(|counted| !counted.more(before)) {
             continue;
         }
         may.push(line);
@@ -116,11 +132,15 @@ pub fn following(table: &'static [Line], before: &[(&[u8], u64)]) -> Option<Vec<
     None
 }
 
-/// Whether fewer lines of this key stand than the value of another says.
-fn more(key: &str, (by, since): (&str, &str), before: &[(&[u8], u64)]) -> bool {
-    let due = before.iter().rev().find(|(own, _)| *own == by.as_bytes()).map_or(0, |(_, value)| *value);
-    let seen = before.iter().rev().take_while(|(own, _)| *own != since.as_bytes()).filter(|(own, _)| *own == key.as_bytes()).count();
-    (seen as u64) < due
+impl Counted {
+    /// Whether fewer stand than there are to be.
+    fn more(&self, before: &[(&[u8], u64)]) -> bool {
+        let is = |own: &[u8], key: &str| own == key.as_bytes();
+        let due = before.iter().rev().find(|(own, _)| is(own, self.by)).map_or(0, |(_, value)| *value);
+        let behind = before.iter().rev().take_while(|(own, _)| !is(own, self.since));
+        let seen = behind.filter(|(own, _)| self.keys.iter().any(|key| is(own, key))).count();
+        (seen as u64) < due
+    }
 }
 
 #[cfg(test)]
@@ -160,14 +180,17 @@ mod tests {
             ("horizon=6 idles=1 idle=1", &["walk", "openings"]),
             ("openings=1 opening=2 fee=3", &["parts"]),
             ("openings=2 opening=2 fee=3", &["opening"]),
-            ("openings=1 parts=1 life=3 left=2", &["removal", "base", "price"]),
+            ("openings=1 parts=1 life=3 left=2", &["removal", "base", "low", "price"]),
             ("openings=0 parts=2 life=3 left=2", &["removal", "base", "life"]),
             ("openings=0 parts=1 life=3 left=2", &["removal", "base"]),
-            ("openings=1 parts=2 life=3 left=2 price=4 life=3 left=2", &["removal", "base", "price"]),
-            ("openings=1 parts=2 life=3 left=2 removal=0 inside=1 holder=2", &["base", "price"]),
+            ("openings=1 parts=2 life=3 left=2 price=4 life=3 left=2", &["removal", "base", "low", "price"]),
+            ("openings=1 parts=2 life=3 left=2 removal=0 inside=1 holder=2", &["base", "low", "price"]),
             ("openings=1 parts=2 life=3 left=2 base=9 drop=1 least=1", &["life"]),
             ("openings=1 parts=1 life=3 left=2 base=9 drop=1 least=1", none),
-            ("openings=2 parts=1 life=3 left=2 price=9", &["price"]),
+            ("openings=2 parts=1 life=3 left=2 price=9", &["low", "price"]),
+            ("openings=2 parts=1 life=3 left=2 low=1", &["high"]),
+            ("openings=2 parts=1 life=3 left=2 low=1 high=9", &["low", "price"]),
+            ("openings=2 parts=2 life=3 left=2 low=1 high=9 price=3", &["life"]),
         ];
         for (lines, keys) in cases {
             assert_eq!(behind(lines), *keys, "{lines}");

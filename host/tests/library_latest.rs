@@ -60,7 +60,7 @@ fn library_is_the_reference() {
     common::with_stack(|| {
         let mut rng = Rng::new(setting("JUZVAROLA_SEED", 15));
         let cases = setting("JUZVAROLA_CASES", CASES);
-        let mut results = [0u64; 13];
+        let mut results = [0u64; 14];
         for number in 0..cases {
             let call = random_call(&mut rng);
             let reply = reference::latest(&call.job, call.plan.as_deref().unwrap_or_default(), call.output);

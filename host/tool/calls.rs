@@ -10,7 +10,7 @@ const STACK: usize = 4 << 20;
 /// The output that the header asks for.
 const OUTPUT: usize = 16_384;
 /// The output that the header asks for where a job text is written.
-const WRITTEN: usize = 32_768;
+const WRITTEN: usize = 40_960;
 /// The greatest walk number.
 pub use library::MOST_WALK;
 

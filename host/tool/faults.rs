@@ -10,7 +10,6 @@ use juzvarola_host::lines::{self, Line, Stands};
 
 /// The words for a fault by its number, where its line has none of its own.
 const WORDS: &[(u32, &str)] = &[
-    (1, "the text has over 32,768 bytes"),
     (2, "the line is not well formed"),
     (3, "the value is outside its range"),
     (4, "the step does not rise or is past the horizon"),
@@ -39,6 +38,7 @@ pub fn refusal(reply: &Reply, job: &Input, plan: Option<&Input>) -> Failure {
 fn words_for(reply: &Reply, text: &[u8]) -> String {
     let key = std::str::from_utf8(reply.fault.split(|byte| *byte == b'=').next().unwrap_or(b"")).unwrap_or("");
     match reply.result {
+        1 => format!("the text has over {} bytes", if reply.text == 2 { "32,768" } else { "40,960" }),
         2 => shape(reply, text),
         number => meaning(number, key),
     }

@@ -147,11 +147,12 @@ tabs), laid out like this; juzvarola-table(5) says more:
   fee,60
   part,life,left,removal,holders,prices
   1,12,9,,,40,40,45
-  2,26,26,15,1,70
+  2,26,26,15,1,70 to 80
   3,20,8,,,base,90,drop,5,least,70
 
 A single fee or price stands for every opening; the row idle and the cells of
-removal and holders may be left out. A rule in place of the prices: the first
+removal and holders may be left out. A price may go from a low end to a high
+one. A rule in place of the prices: the first
 opening's, how much less each further one's is, and what none is below. A fault
 is named by its cell and by the line of the text that would have held it.
 
@@ -197,7 +198,7 @@ exit status:
   0   the cheapest plan; a plan that keeps every life at its true cost
   1   a verdict: no plan keeps the lives (6), a part is not kept (10), the
       stated cost is wrong (11)
-  2   a text is at fault (1 to 5, 9, 12): its line is named; a job with a
+  2   a text is at fault (1 to 5, 9, 12, 13): its line is named; a job with a
       holder was to be counted (12)
   3   the walk is longer than its walk number or was ended (7)
   64 and up   usage, files, output that can't be written (as sysexits has them)

@@ -108,7 +108,8 @@ impl Found<'_> {
         let (fees, parts) = (costs.fees, costs.parts);
         let further: String = costs.further().map(|(name, amount)| format!(", {name} {}", grouped(amount))).collect();
         let (stops, changes) = (counted(plan.stops.len() as u64, "stop"), counted(plan.change_count(), "change"));
-        Some(format!("{} (fees {}, parts {}{further}), with {stops} and {changes}", grouped(plan.cost), grouped(fees), grouped(parts)))
+        let low = costs.low.map_or(String::new(), |low| format!(" at the high prices, {} at the low ones", grouped(low)));
+        Some(format!("{}{low} (fees {}, parts {}{further}), with {stops} and {changes}", grouped(plan.cost), grouped(fees), grouped(parts)))
     }
 
     /// Further lines: how long the longest walk would take; where there is no plan, which part stands in its way and that no file was made.

@@ -7,8 +7,8 @@ pub struct Opening {
     pub fee: u64,
 }
 
-/// A part: its life, what is left of its first, what it costs to take it out, the parts that hold it, its price at each opening, and the rule that
-/// gives the prices where there is one.
+/// A part: its life, what is left of its first, what it costs to take it out, the parts that hold it, its price at each opening (the high end where
+/// it is a band, with the low end beside it), and the rule that gives the prices where there is one.
 #[derive(Debug, Clone, Default)]
 pub struct Part {
     pub life: u64,
@@ -17,6 +17,9 @@ pub struct Part {
     pub holders: Vec<u64>,
     pub rule: Option<Rule>,
     pub prices: Vec<u64>,
+    pub lows: Vec<u64>,
+    /// How many of the prices are bands.
+    pub bands: u64,
 }
 
 /// Prices by a rule: the first opening's, by how much each further one's is lower, and what none is below.
@@ -63,11 +66,24 @@ impl Job {
         self.openings.iter().find(|opening| opening.step == step).map_or(0, |opening| opening.fee)
     }
 
-    /// The price of a part, counted from 1, at this step; none where the text gives it in a form that this reader does not know.
+    /// The price of a part, counted from 1, at this step, a band's high end; none where the text gives it in a form that this reader does not know.
     pub fn price(&self, part: u64, step: u64) -> Option<u64> {
-        let part = self.part(part)?;
-        let opening = self.openings.iter().position(|opening| opening.step == step)?;
-        part.prices.get(opening).copied()
+        self.part(part)?.prices.get(self.opening(step)?).copied()
+    }
+
+    /// The low end of that price.
+    pub fn low_price(&self, part: u64, step: u64) -> Option<u64> {
+        self.part(part)?.lows.get(self.opening(step)?).copied()
+    }
+
+    /// The place of the opening at this step.
+    fn opening(&self, step: u64) -> Option<usize> {
+        self.openings.iter().position(|opening| opening.step == step)
+    }
+
+    /// Whether some price is a band.
+    pub fn has_bands(&self) -> bool {
+        self.parts.iter().any(|part| part.bands > 0)
     }
 }
 
@@ -164,15 +180,19 @@ impl Part {
             b"base" => self.rule = Some(Rule { base: value, ..Rule::default() }),
             b"drop" => self.rule.iter_mut().for_each(|rule| rule.drop = value),
             b"least" => self.rule.iter_mut().for_each(|rule| rule.least = value),
-            b"price" => self.prices.push(value),
+            b"low" => self.lows.push(value),
+            b"high" => self.prices.push(value),
+            b"price" => [&mut self.prices, &mut self.lows].into_iter().for_each(|list| list.push(value)),
             _ => {}
         }
+        self.bands += u64::from(key == b"low");
     }
 
     /// The rule's price for each opening, where there is a rule.
     fn follow_rule(&mut self, openings: usize) {
         if let Some(rule) = self.rule {
             self.prices = (0..openings).map(|opening| rule.price(opening)).collect();
+            self.lows = self.prices.clone();
         }
     }
 }
@@ -236,6 +256,14 @@ mod tests {
         let read = job(text.as_bytes());
         assert_eq!((&read.parts[0].prices[..], &read.parts[1].prices[..]), (&[9, 6, 4, 4][..], &[7; 4][..]));
         assert_eq!((read.price(1, 5), read.price(2, 1)), (Some(4), Some(7)));
+    }
+
+    /// A band is priced at its high end, and its low end is kept.
+    #[test]
+    fn bands_have_two_ends() {
+        let read = job(JOB.replace("price=5\n", "low=3\nhigh=5\n").as_bytes());
+        assert_eq!((read.price(1, 2), read.low_price(1, 2), read.low_price(2, 2)), (Some(5), Some(3), Some(7)));
+        assert_eq!((read.has_bands(), read.parts[0].bands, job(JOB.as_bytes()).has_bands()), (true, 1, false));
     }
 
     /// Every line of a job says something of it, but for counts and the walk line.

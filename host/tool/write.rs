@@ -44,7 +44,14 @@ struct Part {
     removal: Option<(Entry, Vec<Entry>)>,
     /// Where a rule gives the prices: base, drop and least.
     rule: Option<[Entry; 3]>,
-    prices: Vec<Entry>,
+    prices: Vec<Price>,
+}
+
+/// A price, or the high end of a band with its low end.
+#[derive(Debug, Clone)]
+struct Price {
+    low: Option<Entry>,
+    high: Entry,
 }
 
 /// The words of a rule's cells, each before its number.
@@ -74,8 +81,18 @@ fn entry(cell: &Cell, key: &str) -> Result<Entry, String> {
     Ok(Entry { number: cell.text.parse().unwrap_or(u32::MAX), cell: cell.name() })
 }
 
+/// A cell's price: a number, or two with the word `to` between them.
+fn price(cell: &Cell) -> Result<Price, String> {
+    let words: Vec<&str> = cell.text.split_whitespace().collect();
+    let number = |text: &str, key: &str| entry(&Cell { text: text.to_string(), ..cell.clone() }, key);
+    match words[..] {
+        [low, to, high] if to.eq_ignore_ascii_case("to") => Ok(Price { low: Some(number(low, "low")?), high: number(high, "high")? }),
+        _ => Ok(Price { low: None, high: entry(cell, "price")? }),
+    }
+}
+
 /// One entry for each opening: a single one stands for all.
-fn each(entries: Vec<Entry>, openings: usize) -> Vec<Entry> {
+fn each<T: Clone>(entries: Vec<T>, openings: usize) -> Vec<T> {
     match &entries[..] {
         [one] => vec![one.clone(); openings],
         _ => entries,
@@ -128,6 +145,7 @@ impl Table {
     fn write(&self) -> Result<calls::Reply, Failure> {
         let numbers = |entries: &[Entry]| -> Vec<u32> { entries.iter().map(|entry| entry.number).collect() };
         let covers: Vec<&(Entry, Vec<Entry>)> = self.parts.iter().filter_map(|part| part.removal.as_ref()).collect();
+        let prices: Vec<&Price> = self.parts.iter().flat_map(|part| &part.prices).collect();
         let rules = |at: usize| -> Vec<u32> { self.parts.iter().filter_map(|part| Some(part.rule.as_ref()?[at].number)).collect() };
         calls::write(&Form {
             horizon: self.horizon.number,
@@ -144,7 +162,9 @@ impl Table {
             bases: &rules(0),
             drops: &rules(1),
             leasts: &rules(2),
-            prices: &self.parts.iter().flat_map(|part| numbers(&part.prices)).collect::<Vec<_>>(),
+            banded: &prices.iter().map(|price| u32::from(price.low.is_some())).collect::<Vec<_>>(),
+            lows: &prices.iter().filter_map(|price| Some(price.low.as_ref()?.number)).collect::<Vec<_>>(),
+            prices: &prices.iter().map(|price| price.high.number).collect::<Vec<_>>(),
         })
     }
 
@@ -172,7 +192,10 @@ impl Table {
             for (key, entry) in RULE.into_iter().zip(part.rule.iter().flatten()) {
                 lines.push((key, entry.cell.as_str()));
             }
-            lines.extend(each("price", &part.prices));
+            for Price { low, high } in &part.prices {
+                lines.extend(low.iter().map(|low| ("low", low.cell.as_str())));
+                lines.push((if low.is_some() { "high" } else { "price" }, high.cell.as_str()));
+            }
         }
         lines
     }
@@ -238,6 +261,6 @@ fn part(row: &[Cell], number: usize, openings: usize) -> Result<Part, String> {
     let ruled = behind.first().is_some_and(|cell| cell.text.eq_ignore_ascii_case(RULE[0]));
     let rule = if ruled { Some(rule(behind)?) } else { None };
     let prices = if ruled { &[][..] } else { behind };
-    let prices: Vec<Entry> = prices.iter().map(|cell| entry(cell, "price")).collect::<Result<_, _>>()?;
+    let prices: Vec<Price> = prices.iter().map(price).collect::<Result<_, _>>()?;
     Ok(Part { life: entry(&cell(1), "life")?, left: entry(&cell(2), "left")?, removal: cover, rule, prices: each(prices, openings) })
 }

@@ -44,7 +44,7 @@ rulesOut t = record { horizon = t .horizon; idles = t .idles; walk = t .walk; op
 -- E8. "plans and verdicts are those of the job with the lines written out"
 pub record RulesOut : Type 0 where
   -- what is said means the same
-  pub means : (t : JobText) → meant t ≡ meant (rulesOut t)
+  pub means : (s : List ℕ) (t : JobText) → readJobText s ≡ accepted t → meant t ≡ meant (rulesOut t)
   -- the text with the lines written out is accepted, and says so
   pub accepts : (s : List ℕ) (t : JobText) → readJobText s ≡ accepted t → readJobText (jobText (rulesOut t)) ≡ accepted (rulesOut t)
   -- and both are answered alike

@@ -57,8 +57,8 @@ module _ (text : List ℕ) (a : Accepted text) where
       let few = walk-before text (a .given) (a .is) in
       let same : planning.walkNumber (a .given .walk) ≡ a .given .walk = omega (arith, few) in
       ap (planning.onJob text (a .given .walk)) today
-      ∙ ap (λ (n : ℕ). planning.saidFor job (answerOf job n)) same
-      ∙ ap (planning.saidFor job) (answer-before job plain (a .given .walk))
+      ∙ ap (λ (n : ℕ). planning.saidFor (before.unbanded job) (answerOf job n)) same
+      ∙ ap (planning.saidFor (before.unbanded job)) (answer-before job plain (a .given .walk))
       ∙ sym (ap (before.planOn text) (a .is))
 
   pub count-before : counting.countSaid text ≡ before.countSaid text

@@ -1,8 +1,8 @@
--- Job texts: what the grammar before E7 read is the text that says the same today, in which the walk line stands and no part has lines of removal, a rule or a left of 0, and it read all such texts (`lines-exact`). So a text that was accepted is accepted still and means the same (`job-before`), and those that were are exactly the accepted ones with the walk line and without lines of removal, a rule or a left of 0 (`accepted-before`).
+-- Job texts: what the grammar before E7 read is the text that says the same today, in which the walk line stands and no part has lines of removal, a rule, a pair or a left of 0, and it read all such texts (`lines-exact`). So a text that was accepted is accepted still and means the same (`job-before`), and those that were are exactly the accepted ones with the walk line and without lines of removal, a rule, a pair or a left of 0, up to the length of then (`accepted-before`).
 use Prim.Native.Nat.{ℕ, suc, _≤_}
-use mathlib.Core.Path.{_≡_, refl, sym, ap, _∙_, subst}
+use mathlib.Core.Path.{_≡_, refl, sym, ap, ap₂, _∙_, subst}
 use mathlib.Core.List.{List, [], _∷_, _++_, map, append-assoc, append-nil}
-use mathlib.Core.Bool.{true, false}
+use mathlib.Core.Bool.{true, false, _||_}
 use mathlib.Core.Logic.{_↔_}
 use native.Mathlib.Omega.{arith}
 use lib.ListN.{length, length-map}
@@ -19,34 +19,73 @@ use Rattle.model.specs.Windows.{Rising, stepsOf}
 use Rattle.jobs.specs.Valid.{All, ValidOpening, ValidPrice, ValidPart, HeldFrom}
 use Rattle.jobs.proofs.Lists.{chained-each, each-chained}
 use Rattle.covers.specs.Views.{meantCover}
-use Rattle.job_grammar.specs.Grammar.{JobText, meant, idles, opening, openings, jobLines, maxBytes, meaning, readJobText, readJob}
+use Rattle.job_grammar.specs.Grammar.{JobText, jobWith, meant, idles, opening, openings, jobLines, meaning, readJobText, readJob}
+use Rattle.quotes.specs.Grammar.{single, highEnd, lowEnd, anyPair}
+use Rattle.quotes.specs.Rendering.{quoteText}
+use Rattle.quotes.specs.Valid.{ValidQuote}
 use Rattle.price_rules.specs.Grammar.{Prices, byList, meantPrices}
-use Rattle.part_lines.specs.Grammar.{PartText, meantPart}
+use Rattle.part_lines.specs.Grammar.{PartText, meantPart, lowPart, anyBanded}
 use Rattle.part_lines.specs.Valid.{Spelt}
 use Rattle.job_grammar.specs.Rendering.{idlesText, openingText, bodyText, jobText}
 use Rattle.part_lines.specs.Rendering.{partText}
 use Rattle.job_grammar.specs.Valid.{ValidText}
 use Rattle.job_grammar.proofs.Accepted.{KnownIdles, idles-tell, KnownOpening, opening-tells, stepOf, chained-rising, valid-text, text-is}
+use Rattle.job_grammar.proofs.Lows.{meant-valid}
 use Rattle.job_grammar.proofs.Complete.{idles-complete, opening-complete, openings-chained, read-back}
 use Rattle.before_holders.specs.Texts as before
 use Rattle.before_holders.specs.AsBefore.{Accepted, asToday, BarePart, Bare}
 use Rattle.before_holders.proofs.Exact.{Exact, Any, exactly, row-exact, checked-exact, chain-exact, return-exact, bind-exact, exact-as}
 
--- ---- what a text said, as it is said today: the walk line stands, no part has lines of removal, and prices are listed
+-- ---- what a text said, as it is said today: the walk line stands, no part has lines of removal, and prices are listed, each a single one
+
+-- single prices: their ends are the prices, none is a pair, and they are written as they were
+highs : (ps : List ℕ) → map highEnd (map single ps) ≡ ps
+highs [] = refl
+highs (p ∷ ps) = ap (λ (qs : List ℕ). p ∷ qs) (highs ps)
+
+lows : (ps : List ℕ) → map lowEnd (map single ps) ≡ ps
+lows [] = refl
+lows (p ∷ ps) = ap (λ (qs : List ℕ). p ∷ qs) (lows ps)
+
+no-pair : (ps : List ℕ) → anyPair (map single ps) ≡ false
+unfolding anyPair
+no-pair [] = refl
+no-pair (p ∷ ps) = no-pair ps
+
+singles-text : (ps : List ℕ) → texts quoteText (map single ps) ≡ texts (lineOf "price=") ps
+unfolding quoteText
+singles-text [] = refl
+singles-text (p ∷ ps) = ap (λ (s : List ℕ). lineOf "price=" p ++ s) (singles-text ps)
+
+singles-valid : (ps : List ℕ) → All ValidPrice ps → All ValidQuote (map single ps)
+singles-valid [] v = tt
+singles-valid (p ∷ ps) v = (record { low = v .0; high = v .0; ordered = omega arith }, singles-valid ps (v .1))
 
 abbrev pub uncovered : before.PartText → PartText
-uncovered p = record { life = p .life; left = p .left; cover = missing; prices = byList (p .prices) }
+uncovered p = record { life = p .life; left = p .left; cover = missing; prices = byList (map single (p .prices)) }
 
 abbrev pub today : before.JobText → JobText
 today t = record { horizon = t .horizon; idles = t .idles; walk = present (t .walk); openings = t .openings; parts = map uncovered (t .parts) }
 
 means-same : (t : before.JobText) → meant (today t) ≡ asToday (before.meant t)
-unfolding meantCover
-means-same t = let e = go (t .parts) in λ i. record { job = record { horizon = t .horizon; idles = before.meant t .job .idles; openings = t .openings; parts = e i } }
+unfolding meantCover anyBanded
+means-same t =
+    let h = high (t .parts) in
+    let l = low (t .parts) in
+    let b = plain (t .parts) in
+    λ i. record { job = jobWith (today t) (h i); low = jobWith (today t) (l i); banded = b i }
   where
-    go : (ps : List before.PartText) → map (meantPart (length (t .openings))) (map uncovered ps) ≡ map before.meantPart ps
-    go [] = refl
-    go (p ∷ ps) = ap (λ (qs : List Part). before.meantPart p ∷ qs) (go ps)
+    high : (ps : List before.PartText) → map (meantPart (length (t .openings))) (map uncovered ps) ≡ map before.meantPart ps
+    high [] = refl
+    high (p ∷ ps) = let e = highs (p .prices) in let r = high ps in λ i. record { life = p .life; left = p .left; removal = 0; holders = []; prices = e i } ∷ r i
+
+    low : (ps : List before.PartText) → map (lowPart (length (t .openings))) (map uncovered ps) ≡ map before.meantPart ps
+    low [] = refl
+    low (p ∷ ps) = let e = lows (p .prices) in let r = low ps in λ i. record { life = p .life; left = p .left; removal = 0; holders = []; prices = e i } ∷ r i
+
+    plain : (ps : List before.PartText) → anyBanded (map uncovered ps) ≡ false
+    plain [] = refl
+    plain (p ∷ ps) = ap₂ _||_ (no-pair (p .prices)) (plain ps)
 
 -- something is left of each part's life
 abbrev Lefts : List before.PartText → Type 0
@@ -68,7 +107,7 @@ today-told t bare = let e = go (t .parts) (bare .parts) in λ i. record { horizo
     go [] b = refl
     go (p ∷ ps) b =
         let c = b .0 .cover in
-        let e : byList (meantPrices 0 (p .prices)) ≡ p .prices = ap (λ (x : Prices). byList (meantPrices 0 x)) (b .0 .listed) ∙ sym (b .0 .listed) in
+        let e : byList (map single (meantPrices 0 (p .prices))) ≡ p .prices = ap (λ (x : Prices). byList (map single (meantPrices 0 x))) (b .0 .listed) ∙ ap (λ (qs : List ℕ). byList (map single qs)) (highs (b .0 .prices)) ∙ sym (b .0 .listed) in
         let r = go ps (b .1) in
         λ i. record { life = p .life; left = p .left; cover = sym c i; prices = e i } ∷ r i
 
@@ -126,13 +165,13 @@ module _ (n : ℕ) where
           left-high = leb-true (p .left) (p .life) (k .1 .0 .1);
           removal = omega arith;
           few-holders = omega arith;
-          priced = k .1 .1 .0 .0;
-          prices = chained-each ValidPrice 0 (p .prices) (k .1 .1 .0 .1);
+          priced = ap length (highs (p .prices)) ∙ k .1 .1 .0 .0;
+          prices = subst (All ValidPrice) (sym (highs (p .prices))) (chained-each ValidPrice 0 (p .prices) (k .1 .1 .0 .1));
         },
         k .1 .0 .0 .0,
       ))
-      (λ p w. let v = w .0 in ((v .life-low, v .life-high), (((w .1, omega (arith, v .left-high, v .life-high)), upTo-yes (p .life) (p .left) (v .left-high)), ((v .priced, each-chained ValidPrice 0 (p .prices) (v .prices)), refl))))
-      (λ p. simp (append-assoc, append-nil))
+      (λ p w. let v = w .0 in ((v .life-low, v .life-high), (((w .1, omega (arith, v .left-high, v .life-high)), upTo-yes (p .life) (p .left) (v .left-high)), ((sym (ap length (highs (p .prices))) ∙ v .priced, each-chained ValidPrice 0 (p .prices) (subst (All ValidPrice) (highs (p .prices)) (v .prices))), refl))))
+      (λ p. simp (append-assoc, append-nil, singles-text))
 
 -- ---- the whole
 
@@ -234,7 +273,9 @@ parts-left n (p ∷ ps) v = (v .0 .1, parts-left n ps (v .1))
 
 parts-spelt : (n : ℕ) (ps : List before.PartText) → All (WasPart n) ps → All (Spelt n) (map uncovered ps)
 parts-spelt n [] v = tt
-parts-spelt n (p ∷ ps) v = ((v .0 .0 .priced, v .0 .0 .prices), parts-spelt n ps (v .1))
+parts-spelt n (p ∷ ps) v =
+    let e = highs (p .prices) in
+    ((length-map (p .prices) single ∙ sym (ap length e) ∙ v .0 .0 .priced, singles-valid (p .prices) (subst (All ValidPrice) e (v .0 .0 .prices))), parts-spelt n ps (v .1))
 
 none-held : (n m k : ℕ) (ps : List before.PartText) → HeldFrom m k (map (meantPart n) (map uncovered ps))
 unfolding meantCover
@@ -249,32 +290,31 @@ pub record Held (t : before.JobText) : Type 0 where
   pub valid : ValidText (today t)
   pub lefts : Lefts (t .parts)
 
+text-valid : (t : before.JobText) → Known t → ValidText (today t)
+text-valid t k =
+    let count = count-same (length (t .openings)) (t .parts) in
+    let lines = parts-spelt (length (t .openings)) (t .parts) (k .1 .1 .1 .1 .1 .1 .0 .1) in
+    record {
+      means = meant-valid (today t) (record {
+        horizon-low = k .0 .0;
+        horizon-high = k .0 .1;
+        few-idles = k .1 .0 .0;
+        idles = k .1 .0 .1;
+        few-openings = k .1 .1 .1 .0 .1;
+        openings = k .1 .1 .1 .1 .0 .1 .0;
+        rising = k .1 .1 .1 .1 .0 .1 .1;
+        some-part = omega (arith, count, k .1 .1 .1 .1 .1 .0 .0);
+        few-parts = omega (arith, count, k .1 .1 .1 .1 .1 .0 .1);
+        parts = parts-today (length (t .openings)) (t .parts) (k .1 .1 .1 .1 .1 .1 .0 .1);
+        holders = none-held (length (t .openings)) _ 1 (t .parts);
+      }) lines;
+      idles = k .1 .0 .2;
+      walk = k .1 .1 .0 .1;
+      lines = lines;
+    }
+
 known-valid : (t : before.JobText) → Known t → Held t
 known-valid t k = record { valid = text-valid t k; lefts = parts-left (length (t .openings)) (t .parts) (k .1 .1 .1 .1 .1 .1 .0 .1) }
-  where
-    text-valid : (t : before.JobText) → Known t → ValidText (today t)
-    text-valid t k =
-        let count = count-same (length (t .openings)) (t .parts) in
-        record {
-          means = record {
-            job = record {
-              horizon-low = k .0 .0;
-              horizon-high = k .0 .1;
-              few-idles = k .1 .0 .0;
-              idles = k .1 .0 .1;
-              few-openings = k .1 .1 .1 .0 .1;
-              openings = k .1 .1 .1 .1 .0 .1 .0;
-              rising = k .1 .1 .1 .1 .0 .1 .1;
-              some-part = omega (arith, count, k .1 .1 .1 .1 .1 .0 .0);
-              few-parts = omega (arith, count, k .1 .1 .1 .1 .1 .0 .1);
-              parts = parts-today (length (t .openings)) (t .parts) (k .1 .1 .1 .1 .1 .1 .0 .1);
-              holders = none-held (length (t .openings)) _ 1 (t .parts);
-            };
-          };
-          idles = k .1 .0 .2;
-          walk = k .1 .1 .0 .1;
-          lines = parts-spelt (length (t .openings)) (t .parts) (k .1 .1 .1 .1 .1 .1 .0 .1);
-        }
 
 valid-known : (t : before.JobText) → Held t → Known t
 valid-known t held =
@@ -309,15 +349,15 @@ text-before s t e =
     let k = lines-exact .tells s [] 1 (a .last) t (a .lines) in
     ap readJobText (k .text ∙ append-nil (jobText (today t))) ∙ read-back (today t) (k .known .valid)
 
--- one that is accepted and has no lines of removal, no rule and no left of 0 was accepted
-pub was-accepted : (s : List ℕ) (t : JobText) → readJobText s ≡ accepted t → Bare t → Accepted s
+-- one that is accepted and has no lines of removal, no rule, no pair and no left of 0 was accepted, if it is not too long
+pub was-accepted : (s : List ℕ) → length s ≤ before.maxBytes → (t : JobText) → readJobText s ≡ accepted t → Bare t → Accepted s
 unfolding told
-was-accepted s t e bare =
+was-accepted s few t e bare =
     let u = told (bare .walk) t in
     let same : today u ≡ t = today-told t bare in
     let b = lines-exact .back u (record { valid = subst ValidText (sym same) (valid-text s t e); lefts = told-left (t .parts) (bare .parts) }) [] 1 tt in
     let written : s ≡ jobText (today u) ++ [] = text-is s t e ∙ ap jobText (sym same) ∙ sym (append-nil (jobText (today u))) in
-    let r = text-complete before.maxBytes before.jobLines s u (b .0) (accepted-is maxBytes jobLines s t e .few) (ap (λ (x : List ℕ). before.jobLines x 1) written ∙ b .1) in
+    let r = text-complete before.maxBytes before.jobLines s u (b .0) few (ap (λ (x : List ℕ). before.jobLines x 1) written ∙ b .1) in
     record { given = before.meant u; is = ap before.meaning r }
 
 -- ---- what it means
@@ -347,5 +387,12 @@ walk-before s g e =
     subst (λ (h : before.Given). h .walk ≤ 4000000000) (t .means) (lines-exact .tells s [] 1 (a .last) (t .text) (a .lines) .known .valid .walk)
 
 -- exactly which texts were accepted
-pub accepted-before : (s : List ℕ) → Accepted s ↔ ((t : JobText) × ((readJobText s ≡ accepted t) × Bare t))
-accepted-before s = (λ a. let u = said s (a .given) (a .is) in (today (u .text), (text-before s (u .text) (u .is), record { walk = u .text .walk; there = refl; parts = today-bare (u .text .parts) (was-held s (u .text) (u .is) .lefts) })), λ r. was-accepted s (r .0) (r .1 .0) (r .1 .1))
+pub accepted-before : (s : List ℕ) → Accepted s ↔ ((length s ≤ before.maxBytes) × (t : JobText) × ((readJobText s ≡ accepted t) × Bare t))
+accepted-before s = (
+  λ a. let u = said s (a .given) (a .is) in (
+    accepted-is before.maxBytes before.jobLines s (u .text) (u .is) .few,
+    today (u .text),
+    (text-before s (u .text) (u .is), record { walk = u .text .walk; there = refl; parts = today-bare (u .text .parts) (was-held s (u .text) (u .is) .lefts) }),
+  ),
+  λ r. was-accepted s (r .0) (r .1) (r .2 .0) (r .2 .1),
+)

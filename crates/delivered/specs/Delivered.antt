@@ -22,9 +22,11 @@ use Rattle.model.specs.Due.{latePart, changeBefore}
 use Rattle.model.specs.Dismounting.{Dismounts}
 use Rattle.model.specs.Published.{Published, PublishedRunning, Tied}
 use Rattle.model.specs.Tables.{table1, table2, table3, table4}
+use Rattle.bands.specs.Bands.{CostBand}
 use Rattle.jobs.specs.Valid.{All}
 use Rattle.price_rules.specs.Rule.{Rule, rulePrice, statedPrice}
 use Rattle.job_grammar.specs.Grammar.{JobText, meant, readJob, readJobText}
+use Rattle.job_grammar.specs.Grammar as job
 use Rattle.job_grammar.specs.Rendering.{jobText}
 use Rattle.job_grammar.specs.Valid.{ValidText}
 use Rattle.job_grammar.specs.Reading.{Reading, jobIn}
@@ -62,7 +64,7 @@ pub record Delivered : Type 0 where
   -- D5. "The planner says 6 exactly if the job is accepted and has no plan."
   pub D5-planner : (text : List ℕ) (walk room : ℕ) → (lent planRoom room (planSaid text walk) .result ≡ 6) ↔ ((planRoom ≤ room) × ((r : Reading text) × (Feasible (jobIn r) → ⊥)))
   -- D6, D7. "result 0, and a plan that keeps every life, states its true cost, is of least cost": "Least cost is over all plans of the model"
-  pub D6-least : (text : List ℕ) (walk room : ℕ) → lent planRoom room (planSaid text walk) .result ≡ 0 → (r : Reading text) → Cheapest (jobIn r) (lent planRoom room (planSaid text walk))
+  pub D6-least : (text : List ℕ) (walk room : ℕ) → lent planRoom room (planSaid text walk) .result ≡ 0 → (r : Reading text) → Cheapest (r .given) (lent planRoom room (planSaid text walk))
   -- D1. "for each input, every byte and number handed over": no other answer keeps the model's promise of the planner, nor that of the judge
   pub D1-planner : (job : Job) (limit : ℕ) (answer : PlannerAnswer) → Promise job limit answer → answer ≡ answerOf job limit
   pub D1-judge : (job : Job) (plan : Plan) (cost : ℕ) (j : Judgement) → JudgementPromise job cost plan j → j ≡ judgedOf job cost plan
@@ -93,11 +95,11 @@ pub record Delivered : Type 0 where
   -- X4. and the lines of any plan of the job are accepted, and read as that plan
   pub X4-back : (text : List ℕ) (r : Reading text) (cost : ℕ) (plan : Plan) → cost ≤ mostCost → Shaped (jobIn r) plan
       → readPlan (jobIn r) (planLinesOf (jobIn r) cost plan) ≡ accepted (record { cost = cost; plan = plan })
-  -- E2.5. "The longest has 22,109 bytes."
-  pub E2-5-longest : (text : List ℕ) (t : JobText) → readJobText text ≡ accepted t → length text ≤ 22109
-  pub E2-5-reached : (text : List ℕ) × (t : JobText) × (readJobText text ≡ accepted t) × (length text ≡ 22109)
+  -- E2.5. "The longest has 22,109 bytes.": with E11's pairs 33,373
+  pub E2-5-longest : (text : List ℕ) (t : JobText) → readJobText text ≡ accepted t → length text ≤ 33373
+  pub E2-5-reached : (text : List ℕ) × (t : JobText) × (readJobText text ≡ accepted t) × (length text ≡ 33373)
   -- R1 to R5, R12. a job text's faults: no other number, and no line beyond the one after the text's last
-  pub R1-job-fault : (text : List ℕ) (number line : ℕ) → readJob text ≡ refused number line → JobFault number × (line ≤ maxBytes + 1)
+  pub R1-job-fault : (text : List ℕ) (number line : ℕ) → readJob text ≡ refused number line → JobFault number × (line ≤ job.maxBytes + 1)
   -- R1 to R3, R9. a plan text's
   pub R1-plan-fault : (job : Job) (text : List ℕ) (number line : ℕ) → readPlan job text ≡ refused number line → PlanFault number × (line ≤ maxBytes + 1)
   -- E5.1. "An empty plan text means a plan of no stops and cost 0."
@@ -138,6 +140,8 @@ pub record Delivered : Type 0 where
   pub E8-2-price : (r : Rule) (k : ℕ) → pos (rulePrice r k) ≡ statedPrice r k
   -- E8.5. "plans and verdicts are those of the job with the lines written out"
   pub E8-5-written-out : RulesOut
+  -- E11. "For every choice of prices within the bands the plan's cost lies between the two.": of every accepted text and every plan
+  pub E11-band : (text : List ℕ) (t : JobText) → readJobText text ≡ accepted t → (plan : Plan) → CostBand (meant t .low) (meant t .job) plan
   -- E12.4. "From here on `left` may be 0: change before the next running step; if step 1 runs, `due` is then 0."
   pub E12-4-due : (text : List ℕ) (r : Reading text) (plan : Plan) (part due : ℕ) (late : LowestUnkept (jobIn r) plan part due) → latePart late .left ≡ 0 → listed (jobIn r .idles) 1 ≡ false → due ≡ 0
   -- E12.4. and then no plan keeps the part

@@ -52,9 +52,9 @@ cut-reads f held = go (form-back f held)
     go (back g l h i) = ap finish (bind-good jobLines _ i ∙ bind-good ends _ refl) ∙ sym (form-accepted f (stated f) l h)
     go (broken n m w h i) = ap finish (bind-fault jobLines _ i) ∙ sym (form-refused f n m h)
 
-pub cut-says : (f : Form) → Held f → length (cut f) ≤ writeRoom → saidFor (readJobText (cut f)) ≡ writeSaid f
+pub cut-says : (f : Form) → Held f → saidFor (finish (whole jobLines (cut f) 1)) ≡ writeSaid f
 unfolding writeSaid
-cut-says f held few = ap saidFor (sym (text-fits maxBytes jobLines (cut f) few) ∙ cut-reads f held)
+cut-says f held = ap saidFor (cut-reads f held)
 
 -- what was written from the start on is the front
 front : (xs ys : List ℕ) → take (length xs) (xs ++ ys) ≡ xs

@@ -1,4 +1,4 @@
--- A form's text is read as what the form states, and then its lists agree and are not too long; or it has a fault of number 3, 4, 5 or 12; and the text that is written to be read gives the same (`form-back`). By the grammar's lines, one after the other.
+-- A form's text is read as what the form states, and then its lists agree and are not too long; or it has a fault of number 3, 4, 5, 12 or 13; and the text that is written to be read gives the same (`form-back`). By the grammar's lines, one after the other.
 use Prim.Native.Nat.{ℕ, zero, suc, _+_, _-_, _*_, _^_, _≤_, _<_}
 use mathlib.Core.Path.{_≡_, refl, sym, ap, ap₂, subst, _∙_}
 use mathlib.Core.Bool.{Bool, true, false, _&&_, cond, and-eq-true-iff, false≢true}
@@ -19,8 +19,11 @@ use Rattle.lines.proofs.Sound.{Chained}
 use Rattle.lines.proofs.ValueLines.{value-in, value-high}
 use Rattle.model.specs.Model.{Opening}
 use Rattle.jobs.specs.Valid.{All}
+use Rattle.jobs.proofs.Lists.{each-chained}
 use Rattle.covers.specs.Grammar.{Cover, other, holder, holders, inside, cover}
 use Rattle.covers.specs.Rendering.{coverText}
+use Rattle.quotes.specs.Grammar.{Quote, single, pair, atLeast, unlessLow, quote}
+use Rattle.quotes.specs.Rendering.{quoteText}
 use Rattle.price_rules.specs.Rule.{Rule}
 use Rattle.price_rules.specs.Grammar.{afterBase, rule, Prices, byList, byRule, unlessRuled, prices}
 use Rattle.price_rules.specs.Rendering.{ruleText, pricesText}
@@ -34,9 +37,9 @@ use Rattle.job_grammar.proofs.Complete.{walk-next, openings-next}
 use Rattle.part_lines.specs.Behind.{Behind}
 use Rattle.part_lines.proofs.Behind.{prices-next, parts-last}
 use Rattle.job_grammar.proofs.Optionals.{some-idles}
-use Rattle.form_facts.specs.Facts.{PartLists, paired, coversOf, rulesOf, countedFor, pricesFrom, grouped, sumAll, feesAgree, partsAgree, PartsAgree, countOf, countedText}
+use Rattle.form_facts.specs.Facts.{PartLists, paired, coversOf, rulesOf, quotesFrom, quotesIn, countedFor, pricesFrom, grouped, sumAll, feesAgree, partsAgree, PartsAgree, countOf, countedText}
 use Rattle.form_facts.proofs.CountLines.{count-in, count-out}
-use Rattle.form_facts.proofs.Facts.{paired-size, parts-size, marks-few, agree-says}
+use Rattle.form_facts.proofs.Facts.{paired-size, parts-size, quotes-size, marks-few, agree-says}
 use Rattle.part_writing.specs.Cut.{insideCut, coverCut, partCut}
 use Rattle.form_writing.specs.Cut.{countedCut, idlesCut, partsCut, bodyCut, restCut, formCut}
 use Rattle.form.specs.Form.{Form, stated, idleCountText, bodyOf, restOf, formText}
@@ -57,6 +60,9 @@ five = inl (omega arith, omega arith)
 
 twelve : FormFault 12
 twelve = inr (omega arith, omega arith)
+
+thirteen : FormFault 13
+thirteen = inr (omega arith, omega arith)
 
 -- a number can be written: it has at most ten digits
 abbrev Short : ℕ → Type 0
@@ -80,6 +86,7 @@ pub record Held (f : Form) : Type 0 where
   pub bases : Small (f .parts .bases)
   pub drops : Small (f .parts .drops)
   pub leasts : Small (f .parts .leasts)
+  pub lows : Small (f .parts .lows)
   pub prices : Small (f .parts .prices)
 
 small-chained : (next : ℕ → ℕ → ℕ) (prev : ℕ) (xs : List ℕ) → Small xs → Chained (λ _. Short) next prev xs
@@ -218,9 +225,14 @@ cover-back m k (present c) few s t l other other′ =
 
 -- ---- parts
 
--- numbers of a part's prices that can be written: of a rule, or n listed ones
+-- numbers of a price that can be written
+abbrev pub ShortQuote : Quote → Type 0
+ShortQuote (single p) = Short p
+ShortQuote (pair l h) = Short l × Short h
+
+-- those of a part's prices: of a rule, or n listed ones
 abbrev pub ShortPrices : ℕ → Prices → Type 0
-ShortPrices n (byList ps) = (length ps ≡ n) × Small ps
+ShortPrices n (byList qs) = (length qs ≡ n) × All ShortQuote qs
 ShortPrices n (byRule r) = Short (r .base) × Short (r .drop) × Short (r .least)
 
 -- where a rule stands, the base's line decides first
@@ -251,14 +263,49 @@ rule-back r few s t l =
     (bind-back (row "base=" 1 1000000) (λ v. return (present v)) (value-back (bytes "base=") 1 1000000 (r .base) (few .0) (b ++ (c ++ s)) (b ++ (c ++ t)) l) (λ known i. return-back (present (r .base)) (b ++ (c ++ s)) (b ++ (c ++ t)) i known))
     (λ _ i. bind-back (afterBase (r .base)) (λ x. return (present x)) (base-back r few s t i) (λ _ j. return-back (present r) s t j tt)))
 
+-- a single price has no low end
+no-low : (p : ℕ) (s : List ℕ) (l : ℕ) → optional "low=" 1 1000000 (lineOf "price=" p ++ s) l ≡ good missing (lineOf "price=" p ++ s) l
+unfolding startsWith line bytes
+no-low p s l = optional-missing _ 1 1000000 (lineOf "price=" p ++ s) l refl
+
+-- a pair's low end decides first
+low-there : (v : ℕ) (t : List ℕ) (l : ℕ) → quote (lineOf "low=" v ++ t) l ≡ ((row "low=" 1 1000000 >>= λ v. return (present v)) >>= unlessLow) (lineOf "low=" v ++ t) l
+unfolding quote _>>=_
+low-there v t l =
+    ap (λ (y : Parsed (Optional ℕ)). elim y [ good a s i ↦ unlessLow a s i | fault n i ↦ fault n i ])
+    (optional-there (bytes "low=") 1 1000000 (lineOf "low=" v ++ t) l (starts-line (bytes "low=") v t))
+
+-- the high end behind it
+high-back : (m h : ℕ) → Short h → (s t : List ℕ) (l : ℕ) → Readback FormFault (Unit {0}) (pair m h) s t (unlessLow (present m) (lineOf "high=" h ++ s) l) (unlessLow (present m) (lineOf "high=" h ++ t) l)
+unfolding unlessLow
+high-back m h few s t l =
+    bind-back (checked 13 (atLeast m) (row "high=" 1 1000000)) _
+    (checked-back FormFault 13 thirteen (atLeast m) (row "high=" 1 1000000) h l (value-back (bytes "high=") 1 1000000 h few s t l)) (λ _ j. return-back (pair m h) s t j tt)
+
+-- a price
+quote-back : (q : Quote) → ShortQuote q → (s t : List ℕ) (l : ℕ) → Readback FormFault (Unit {0}) q s t (quote (quoteText q ++ s) l) (quote (quoteText q ++ t) l)
+unfolding quote unlessLow quoteText
+quote-back (single p) few s t l =
+    let c = lineOf "price=" p in
+    let none : Readback FormFault (Unit {0}) missing (c ++ s) (c ++ t) (optional "low=" 1 1000000 (c ++ s) l) (optional "low=" 1 1000000 (c ++ t) l) = back tt l (no-low p s l) (no-low p t l) in
+    bind-back (optional "low=" 1 1000000) _ none
+    (λ _ i. bind-back (row "price=" 1 1000000) _ (value-back (bytes "price=") 1 1000000 p few s t i) (λ _ j. return-back (single p) s t j tt))
+quote-back (pair m h) few s t l =
+    let a = lineOf "low=" m in
+    let b = lineOf "high=" h in
+    same-back (ap (λ (u : List ℕ). quote u l) (append-assoc a b s) ∙ low-there m (b ++ s) l) (ap (λ (u : List ℕ). quote u l) (append-assoc a b t) ∙ low-there m (b ++ t) l)
+    (bind-back _ unlessLow
+    (bind-back (row "low=" 1 1000000) (λ v. return (present v)) (value-back (bytes "low=") 1 1000000 m (few .0) (b ++ s) (b ++ t) l) (λ known i. return-back (present m) (b ++ s) (b ++ t) i known))
+    (λ _ i. high-back m h (few .1) s t i))
+
 -- a list of n prices
-list-back : (n : ℕ) (ps : List ℕ) → length ps ≡ n → Small ps → (s t : List ℕ) (l : ℕ)
-    → Readback FormFault (Unit {0}) ps s t (times n (row "price=" 1 1000000) (texts (lineOf "price=") ps ++ s) l) (times n (row "price=" 1 1000000) (texts (lineOf "price=") ps ++ t) l)
+list-back : (n : ℕ) (qs : List Quote) → length qs ≡ n → All ShortQuote qs → (s t : List ℕ) (l : ℕ)
+    → Readback FormFault (Unit {0}) qs s t (times n quote (texts quoteText qs ++ s) l) (times n quote (texts quoteText qs ++ t) l)
 unfolding times
-list-back n ps e few s t l =
-    let c = texts (lineOf "price=") ps in
-    subst (λ (q : ℕ). Readback FormFault (Unit {0}) ps s t (times q (row "price=" 1 1000000) (c ++ s) l) (times q (row "price=" 1 1000000) (c ++ t) l)) e
-    (chain-back FormFault (λ _. row "price=" 1 1000000) (λ _ _. 0) (lineOf "price=") Short (λ _ v v-few u v′ q. value-back (bytes "price=") 1 1000000 v v-few u v′ q) 0 ps (small-chained (λ _ _. 0) 0 ps few) s t l)
+list-back n qs e few s t l =
+    let c = texts quoteText qs in
+    subst (λ (q : ℕ). Readback FormFault (Unit {0}) qs s t (times q quote (c ++ s) l) (times q quote (c ++ t) l)) e
+    (chain-back FormFault (λ _. quote) (λ _ _. 0) quoteText ShortQuote (λ _. quote-back) 0 qs (each-chained ShortQuote 0 qs few) s t l)
 
 no-rule : (s : List ℕ) (l : ℕ) → startsWith (bytes "base=") s ≡ false → rule s l ≡ good missing s l
 unfolding rule ifPresent return
@@ -268,11 +315,11 @@ no-rule s l e = bind-good (optional "base=" 1 1000000) _ (optional-missing _ 1 1
 prices-back : (n : ℕ) (p : Prices) → ShortPrices n p → (s t : List ℕ) (l : ℕ) → Behind s → Behind t
     → Readback FormFault (Unit {0}) p s t (prices n (pricesText p ++ s) l) (prices n (pricesText p ++ t) l)
 unfolding prices unlessRuled
-prices-back n (byList ps) few s t l other other′ =
-    let c = texts (lineOf "price=") ps in
-    let none : Readback FormFault (Unit {0}) missing (c ++ s) (c ++ t) (rule (c ++ s) l) (rule (c ++ t) l) = back tt l (no-rule (c ++ s) l (list-next ps s (other .base))) (no-rule (c ++ t) l (list-next ps t (other′ .base))) in
+prices-back n (byList qs) few s t l other other′ =
+    let c = texts quoteText qs in
+    let none : Readback FormFault (Unit {0}) missing (c ++ s) (c ++ t) (rule (c ++ s) l) (rule (c ++ t) l) = back tt l (no-rule (c ++ s) l (list-next qs s (other .base))) (no-rule (c ++ t) l (list-next qs t (other′ .base))) in
     bind-back rule _ none
-    (λ _ i. bind-back (times n (row "price=" 1 1000000)) _ (list-back n ps (few .0) (few .1) s t i) (λ _ j. return-back (byList ps) s t j tt))
+    (λ _ i. bind-back (times n quote) _ (list-back n qs (few .0) (few .1) s t i) (λ _ j. return-back (byList qs) s t j tt))
 prices-back n (byRule r) few s t l other other′ = bind-back rule _ (rule-back r few s t l) (λ _ i. return-back (byRule r) s t i tt)
 
 -- a part with n openings
@@ -343,11 +390,29 @@ abbrev counted : ℕ → List (Optional Rule) → ℕ
 counted n [] = 0
 counted n (u ∷ us) = countedFor n u + counted n us
 
-prices-short : (n : ℕ) (u : Optional Rule) (ps : List ℕ) → ShortRule u → Small ps → countedFor n u ≤ length ps → ShortPrices n (pricesFrom n u ps)
-prices-short n missing ps r c h = (length-take-le n ps h, small-take n ps c)
-prices-short n (present u) ps r c h = r
+-- prices from lists whose numbers can be written
+quotes-short : (zs ws ps : List ℕ) → Small ws → Small ps → All ShortQuote (quotesFrom zs ws ps)
+unfolding quotesFrom
+quotes-short [] ws ps a b = tt
+quotes-short (z ∷ zs) ws [] a b = tt
+quotes-short (zero ∷ zs) ws (p ∷ ps) a b = (omega (arith, b 0), quotes-short zs ws ps a (λ i. b (suc i)))
+quotes-short (suc z ∷ zs) ws (p ∷ ps) a b = ((omega (arith, a 0), omega (arith, b 0)), quotes-short zs (drop 1 ws) ps (small-drop 1 ws a) (λ i. b (suc i)))
 
-grouped-short : (n : ℕ) (ls rs : List ℕ) (cs : List (Optional Cover)) (us : List (Optional Rule)) (ps : List ℕ) → Small ls → Small rs → All ShortCover cs → All ShortRule us → Small ps → counted n us ≤ length ps
+all-take : (n : ℕ) (qs : List Quote) → All ShortQuote qs → All ShortQuote (take n qs)
+all-take zero qs v = tt
+all-take (suc n) [] v = tt
+all-take (suc n) (q ∷ qs) v = (v .0, all-take n qs (v .1))
+
+all-drop : (n : ℕ) (qs : List Quote) → All ShortQuote qs → All ShortQuote (drop n qs)
+all-drop zero qs v = v
+all-drop (suc n) [] v = tt
+all-drop (suc n) (q ∷ qs) v = all-drop n qs (v .1)
+
+prices-short : (n : ℕ) (u : Optional Rule) (qs : List Quote) → ShortRule u → All ShortQuote qs → countedFor n u ≤ length qs → ShortPrices n (pricesFrom n u qs)
+prices-short n missing qs r c h = (length-take-le n qs h, all-take n qs c)
+prices-short n (present u) qs r c h = r
+
+grouped-short : (n : ℕ) (ls rs : List ℕ) (cs : List (Optional Cover)) (us : List (Optional Rule)) (ps : List Quote) → Small ls → Small rs → All ShortCover cs → All ShortRule us → All ShortQuote ps → counted n us ≤ length ps
     → All (ShortPart n) (grouped n ls rs cs us ps)
 unfolding grouped
 grouped-short n [] rs cs us ps a b d r c e = tt
@@ -357,7 +422,7 @@ grouped-short n (l ∷ ls) (k ∷ rs) (o ∷ cs) [] ps a b d r c e = tt
 grouped-short n (l ∷ ls) (k ∷ rs) (o ∷ cs) (u ∷ us) ps a b d r c e =
     let here : countedFor n u + counted n us ≤ length ps = e in (
       record { life = omega (arith, a 0); left = omega (arith, b 0); cover = d .0; prices = prices-short n u ps (r .0) c (omega (arith, here)) },
-      grouped-short n ls rs cs us (drop (countedFor n u) ps) (λ i. a (suc i)) (λ i. b (suc i)) (d .1) (r .1) (small-drop (countedFor n u) ps c) (omega (arith, here, length-drop (countedFor n u) ps)),
+      grouped-short n ls rs cs us (drop (countedFor n u) ps) (λ i. a (suc i)) (λ i. b (suc i)) (d .1) (r .1) (all-drop (countedFor n u) ps c) (omega (arith, here, length-drop (countedFor n u) ps)),
     )
 
 -- those of m marks
@@ -400,9 +465,10 @@ module _ (f : Form) (held : Held f) where
   parts-short agree =
       let listed = rules-counted n (x .ruled) (x .bases) (x .drops) (x .leasts) (agree .rule-marks) in
       let same : (length (x .ruled) - sumAll (x .ruled)) * n ≡ length (x .prices) = ap (λ (m : ℕ). (m - sumAll (x .ruled)) * n) (agree .ruled) ∙ sym (agree .prices) in
-      grouped-short n (x .lives) (x .lefts) (coversOf (x .covered) (x .removals) (x .insides) (x .holders)) (rulesOf (x .ruled) (x .bases) (x .drops) (x .leasts)) (x .prices) (held .lives) (held .lefts)
+      grouped-short n (x .lives) (x .lefts) (coversOf (x .covered) (x .removals) (x .insides) (x .holders)) (rulesOf (x .ruled) (x .bases) (x .drops) (x .leasts)) (quotesIn x) (held .lives) (held .lefts)
       (covers-short (x .covered) (x .removals) (x .insides) (x .holders) (held .removals) (held .insides) (held .holders))
-      (rules-short (x .ruled) (x .bases) (x .drops) (x .leasts) (held .bases) (held .drops) (held .leasts)) (held .prices) (omega (arith, listed, same))
+      (rules-short (x .ruled) (x .bases) (x .drops) (x .leasts) (held .bases) (held .drops) (held .leasts))
+      (quotes-short (x .banded) (x .lows) (x .prices) (held .lows) (held .prices)) (omega (arith, listed, same, quotes-size (x .banded) (x .lows) (x .prices) (agree .banded)))
 
   parts-back : PartsAgree n x → (l : ℕ) → Readback FormFault (Unit {0}) (said .parts) [] [] (parts m n (texts partText (said .parts)) l) (parts m n (texts partCut (said .parts)) l)
   unfolding parts

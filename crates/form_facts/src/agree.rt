@@ -1,15 +1,15 @@
 // Whether the lists of a form's parts agree in length.
 ghost use mathlib.Core.Path.{_≡_};
 ghost use mathlib.Core.Bool.{_&&_};
-ghost use Prim.Native.Nat.{_≤_};
+ghost use Prim.Native.Nat.{_*_, _≤_};
 ghost use lib.Dec.{eqb};
 ghost use lib.ListN.{length};
-ghost use Rattle.form_facts.specs.Facts.{sumAll, allMarks, coversAgree, pricesAgree};
+ghost use Rattle.form_facts.specs.Facts.{sumAll, allMarks, coversAgree, pricesAgree, bandsAgree};
 ghost use Rattle.model.specs.Limits.{mostParts, mostOpenings};
 
-// The sum of at most 16 numbers.
-fn sum(values: &[u32]) -> u64
-    requires { ⌜ length (now values) ≤ mostParts ⌝ }
+// The sum of at most 1,024 numbers.
+pub fn sum(values: &[u32]) -> u64
+    requires { ⌜ length (now values) ≤ mostParts * mostOpenings ⌝ }
     ensures { λ r. ⌜ r ≡ sumAll (now (values .entry)) ⌝ }
 {
     let mut sum: u64 = 0;
@@ -88,7 +88,21 @@ fn prices_agree(
     prices == (m - count as usize) * n
 }
 
-// Whether there is a left for each of m parts, and the lists of their covers and of their prices agree.
+// Whether there are a mark for each price, and as many low ends as marks that are 1.
+fn bands_agree(banded: &[u32], lows: usize, prices: usize) -> bool
+    requires { ⌜ prices ≤ mostParts * mostOpenings ⌝ }
+    ensures { λ r. ⌜ r ≡ bandsAgree (now (banded .entry)) lows prices ⌝ }
+{
+    if banded.len() != prices {
+        return false;
+    }
+    if !are_marks(banded) {
+        return false;
+    }
+    lows as u64 == sum(banded)
+}
+
+// Whether there is a left for each of m parts, and the lists of their covers, of their prices and of pairs agree.
 pub fn parts_agree(
     m: usize,
     lefts: usize,
@@ -100,11 +114,13 @@ pub fn parts_agree(
     bases: usize,
     drops: usize,
     leasts: usize,
+    banded: &[u32],
+    lows: usize,
     prices: usize,
     n: usize,
 ) -> bool
     requires { ⌜ (m ≤ mostParts) × (n ≤ mostOpenings) ⌝ }
-    ensures { λ r. ⌜ r ≡ (eqb lefts m && (coversAgree m (now (covered .entry)) removals (now (insides .entry)) holders && pricesAgree m (now (ruled .entry)) bases drops leasts prices n)) ⌝ }
+    ensures { λ r. ⌜ r ≡ (eqb lefts m && (coversAgree m (now (covered .entry)) removals (now (insides .entry)) holders && (pricesAgree m (now (ruled .entry)) bases drops leasts prices n && bandsAgree (now (banded .entry)) lows prices))) ⌝ }
 {
     if lefts != m {
         return false;
@@ -112,5 +128,8 @@ pub fn parts_agree(
     if !covers_agree(m, covered, removals, insides, holders) {
         return false;
     }
-    prices_agree(m, ruled, bases, drops, leasts, prices, n)
+    if !prices_agree(m, ruled, bases, drops, leasts, prices, n) {
+        return false;
+    }
+    bands_agree(banded, lows, prices)
 }

@@ -1,4 +1,4 @@
--- The text has at most 30,937 bytes, whatever the lists (`cut-short`): 365 idle steps, 64 openings and sixteen parts with fifteen holders each, every number with ten digits. By the lengths of the lines.
+-- The text has at most 45,257 bytes, whatever the lists (`cut-short`): 365 idle steps, 64 openings and sixteen parts with fifteen holders and 64 pairs each, every number with ten digits. By the lengths of the lines.
 use Prim.Native.Nat.{ℕ, suc, _+_, _≤_}
 use Prim.Native.String.{String}
 use mathlib.Core.Path.{_≡_, refl, sym, ap, ap₂, _∙_}
@@ -13,11 +13,12 @@ use Rattle.lines.specs.Text.{bytes, lineOf, texts, Optional, missing, present, 
 use Rattle.model.specs.Model.{Opening}
 use Rattle.jobs.specs.Valid.{All}
 use Rattle.covers.specs.Grammar.{Cover}
+use Rattle.quotes.specs.Grammar.{Quote}
 use Rattle.price_rules.specs.Rule.{Rule}
 use Rattle.part_lines.specs.Grammar.{PartText}
 use Rattle.job_grammar.specs.Rendering.{openingText}
 use Rattle.job_grammar.specs.Optionals.{idleLines}
-use Rattle.form_facts.specs.Facts.{PartLists, paired, coversOf, rulesOf, countedFor, pricesFrom, grouped, partsOf, feesAgree, partsAgree}
+use Rattle.form_facts.specs.Facts.{PartLists, paired, coversOf, rulesOf, quotesIn, countedFor, pricesFrom, grouped, partsOf, feesAgree, partsAgree}
 use Rattle.form_facts.proofs.Facts.{paired-size, parts-size, agree-says}
 use Rattle.part_lines.proofs.Lengths.{texts-short}
 use Rattle.part_writing.specs.Cut.{partCut}
@@ -37,11 +38,11 @@ counted-short key k e most agree n t m few = go (leb n most && agree) refl
     go false h = omega (arith, ap length (counted-out key most agree n t (λ low a. false≢true (sym h ∙ ap₂ _&&_ (le-leb n most low) a))), short key k (suc most) e)
 
 -- a part lists no more prices than there are openings
-listed-few : (n : ℕ) → n ≤ 64 → (u : Optional Rule) (ps : List ℕ) → FewListed 64 (pricesFrom n u ps)
+listed-few : (n : ℕ) → n ≤ 64 → (u : Optional Rule) (ps : List Quote) → FewListed 64 (pricesFrom n u ps)
 listed-few n few missing ps = omega (arith, few, length-take n ps, min-le-left n (length ps))
 listed-few n few (present r) ps = tt
 
-priced : (n : ℕ) → n ≤ 64 → (ls rs : List ℕ) (cs : List (Optional Cover)) (us : List (Optional Rule)) (ps : List ℕ) → All (λ (p : PartText). FewListed 64 (p .prices)) (grouped n ls rs cs us ps)
+priced : (n : ℕ) → n ≤ 64 → (ls rs : List ℕ) (cs : List (Optional Cover)) (us : List (Optional Rule)) (ps : List Quote) → All (λ (p : PartText). FewListed 64 (p .prices)) (grouped n ls rs cs us ps)
 unfolding grouped
 priced n few [] rs cs us ps = tt
 priced n few (l ∷ ls) [] cs us ps = tt
@@ -49,23 +50,23 @@ priced n few (l ∷ ls) (r ∷ rs) [] us ps = tt
 priced n few (l ∷ ls) (r ∷ rs) (c ∷ cs) [] ps = tt
 priced n few (l ∷ ls) (r ∷ rs) (c ∷ cs) (u ∷ us) ps = (listed-few n few u ps, priced n few ls rs cs us (drop (countedFor n u) ps))
 
-parts-short : (n : ℕ) (x : PartLists) → n ≤ 64 → length (partsCut n x) ≤ 22849
+parts-short : (n : ℕ) (x : PartLists) → n ≤ 64 → length (partsCut n x) ≤ 37185
 unfolding partsCut bytes
-parts-short n x few = counted-short "parts=" 6 refl 16 (partsAgree n x) (length (x .lives)) (texts partCut (partsOf n x)) 22832 (λ low a. omega (
+parts-short n x few = counted-short "parts=" 6 refl 16 (partsAgree n x) (length (x .lives)) (texts partCut (partsOf n x)) 37168 (λ low a. omega (
   arith,
   low,
   parts-size n x (agree-says n x a),
-  texts-short _ partCut 1427 part-short (partsOf n x) (priced n few (x .lives) (x .lefts) (coversOf (x .covered) (x .removals) (x .insides) (x .holders)) (rulesOf (x .ruled) (x .bases) (x .drops) (x .leasts)) (x .prices)),
+  texts-short _ partCut 2323 part-short (partsOf n x) (priced n few (x .lives) (x .lefts) (coversOf (x .covered) (x .removals) (x .insides) (x .holders)) (rulesOf (x .ruled) (x .bases) (x .drops) (x .leasts)) (quotesIn x)),
 ))
 
 opening-short : (o : Opening) → length (openingText o) ≤ 34
 unfolding openingText bytes
 opening-short o = omega (arith, length-append (lineOf "opening=" (o .step)) (lineOf "fee=" (o .fee)), short "opening=" 8 (o .step) refl, short "fee=" 4 (o .fee) refl)
 
-rest-short : (os fs : List ℕ) (x : PartLists) → length (restCut os fs x) ≤ 25045
+rest-short : (os fs : List ℕ) (x : PartLists) → length (restCut os fs x) ≤ 39381
 unfolding restCut bodyCut bytes
 rest-short os fs x =
-    counted-short "openings=" 9 refl 64 (feesAgree os fs) (length os) (bodyCut os fs x) 25025 (λ low a. omega (
+    counted-short "openings=" 9 refl 64 (feesAgree os fs) (length os) (bodyCut os fs x) 39361 (λ low a. omega (
       arith,
       low,
       length-append (texts openingText (paired os fs)) (partsCut (length os) x),

@@ -26,17 +26,17 @@ no-parts : (n : ℕ) (x : PartLists) → length (x .lives) ≡ 0 → partsOf n x
 unfolding grouped
 no-parts n x e = go (x .lives) e
   where
-    go : (ls : List ℕ) → length ls ≡ 0 → partsOf n (record { lives = ls; lefts = x .lefts; covered = x .covered; removals = x .removals; insides = x .insides; holders = x .holders; ruled = x .ruled; bases = x .bases; drops = x .drops; leasts = x .leasts; prices = x .prices }) ≡ []
+    go : (ls : List ℕ) → length ls ≡ 0 → partsOf n (record { lives = ls; lefts = x .lefts; covered = x .covered; removals = x .removals; insides = x .insides; holders = x .holders; ruled = x .ruled; bases = x .bases; drops = x .drops; leasts = x .leasts; banded = x .banded; lows = x .lows; prices = x .prices }) ≡ []
     go [] e = refl
     go (l ∷ ls) e = absurd (omega arith)
 
 module _ (n : ℕ) (x : PartLists) (d : List ℕ) (at : ℕ) where
-  pub putting-start : (p : Place) → PartsAgree n x → p .at ≡ at → p .covers ≡ 0 → p .holders ≡ 0 → p .rules ≡ 0 → p .prices ≡ 0 → Putting n x d at d p 0
-  putting-start p h l i j r q =
-      let same-lists : after 0 p x ≡ x = ap (λ (y : Place). after 0 y x) (λ t. record { at = p .at; covers = i t; holders = j t; rules = r t; prices = q t }) in
+  pub putting-start : (p : Place) → PartsAgree n x → n ≤ 64 → p .at ≡ at → p .covers ≡ 0 → p .holders ≡ 0 → p .rules ≡ 0 → p .lows ≡ 0 → p .prices ≡ 0 → Putting n x d at d p 0
+  putting-start p h few l i j r w q =
+      let same-lists : after 0 p x ≡ x = ap (λ (y : Place). after 0 y x) (λ t. record { at = p .at; covers = i t; holders = j t; rules = r t; lows = w t; prices = q t }) in
       record {
         few = omega arith;
-        standing = record { covers = omega (arith, i); holders = omega (arith, j); rules = omega (arith, r); prices = omega (arith, q); agree = subst (PartsAgree n) (sym same-lists) h };
+        standing = record { covers = omega (arith, i); holders = omega (arith, j); rules = omega (arith, r); lows = omega (arith, w); prices = omega (arith, q); banded = omega (arith, q); few = few; agree = subst (PartsAgree n) (sym same-lists) h };
         done = [];
         wrote = same none refl (sym l);
         whole = ap (λ (y : PartLists). texts partCut (partsOf n y)) (sym same-lists);

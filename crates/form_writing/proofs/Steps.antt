@@ -8,17 +8,18 @@ use native.Mathlib.Nat.{add-zero}
 use borrow.Author.Tests.{eqb-true}
 use lib.Dec.{eqb}
 use lib.ListN.{length, getD, take, drop, length-drop}
-use lib.Seq.{getD-drop, drop-drop}
+use lib.Seq.{getD-drop, drop-drop, length-take-le}
 use Rattle.jobs.specs.Valid.{All}
 use Rattle.covers.specs.Grammar.{Cover}
 use Rattle.covers.specs.Views.{linesOf}
+use Rattle.quotes.specs.Grammar.{Quote}
 use Rattle.price_rules.specs.Rule.{Rule}
 use Rattle.price_rules.specs.Grammar.{byRule}
 use Rattle.part_lines.specs.Grammar.{PartText}
 use Rattle.part_lines.specs.Views.{pricesSaid}
-use Rattle.form_facts.specs.Facts.{PartLists, sumAll, PartsAgree}
-use Rattle.form_facts.proofs.Facts.{marks-few}
-use Rattle.form_writing.specs.Places.{after, insideFirst, listedFirst, ruleFirst, firstPart, behindFirst, Standing, StepPut}
+use Rattle.form_facts.specs.Facts.{PartLists, quotesFrom, quotesIn, sumAll, Marked, PartsAgree}
+use Rattle.form_facts.proofs.Facts.{marks-few, sum-part, quotes-take}
+use Rattle.form_writing.specs.Places.{after, insideFirst, listedFirst, pairsFirst, ruleFirst, firstPart, behindFirst, Standing, StepPut}
 use Rattle.form_writing.specs.declared.parts.Place.{Place}
 use Rattle.form_writing.proofs.Places.{listed-here, agree-next}
 
@@ -38,6 +39,9 @@ pub record First (n : ℕ) (x : PartLists) : Type 0 where
   pub drop : getD (x .ruled) 0 0 ≤ length (x .drops)
   pub least : getD (x .ruled) 0 0 ≤ length (x .leasts)
   pub prices : listedFirst n x ≤ length (x .prices)
+  pub banded : length (x .banded) ≡ length (x .prices)
+  pub band-marks : All (λ (z : ℕ). z ≤ 1) (x .banded)
+  pub lows : pairsFirst n x ≤ length (x .lows)
 
 held-first : (c : ℕ) (is hs : List ℕ) → c ≤ 1 → c ≤ length is → length hs ≡ sumAll is → cond (eqb c 1) (getD is 0 0) 0 ≤ length hs
 held-first zero is hs h i e = omega arith
@@ -51,7 +55,7 @@ first-known n x h some = go (x .lives) (x .covered) (x .ruled) some (h .lefts) (
     go : (ls cs us : List ℕ) → 0 < length ls → length (x .lefts) ≡ length ls → length cs ≡ length ls → length us ≡ length ls → All (λ (c : ℕ). c ≤ 1) cs → All (λ (u : ℕ). u ≤ 1) us
         → length (x .removals) ≡ sumAll cs → length (x .insides) ≡ sumAll cs → length (x .bases) ≡ sumAll us → length (x .drops) ≡ sumAll us → length (x .leasts) ≡ sumAll us
         → length (x .prices) ≡ (length ls - sumAll us) * n
-        → First n (record { lives = ls; lefts = x .lefts; covered = cs; removals = x .removals; insides = x .insides; holders = x .holders; ruled = us; bases = x .bases; drops = x .drops; leasts = x .leasts; prices = x .prices })
+        → First n (record { lives = ls; lefts = x .lefts; covered = cs; removals = x .removals; insides = x .insides; holders = x .holders; ruled = us; bases = x .bases; drops = x .drops; leasts = x .leasts; banded = x .banded; lows = x .lows; prices = x .prices })
     go [] cs us some e f g m q a b i j k p = absurd (omega arith)
     go (l ∷ ls) [] us some e f g m q a b i j k p = absurd (omega arith)
     go (l ∷ ls) (c ∷ cs) [] some e f g m q a b i j k p = absurd (omega arith)
@@ -70,6 +74,9 @@ first-known n x h some = go (x .lives) (x .covered) (x .ruled) some (h .lefts) (
           drop = let w : length (x .drops) ≡ u + sumAll us = j in omega (arith, w);
           least = let w : length (x .leasts) ≡ u + sumAll us = k in omega (arith, w);
           prices = listed-here n u (length ls) (sumAll us) (length (x .prices)) (q .0) (omega (arith, marks-few us (q .1), g)) p .0;
+          banded = h .banded;
+          band-marks = h .band-marks;
+          lows = omega (arith, h .lows, sum-part (cond (eqb u 1) 0 n) (x .banded));
         }
 
 -- ---- a place
@@ -84,7 +91,7 @@ unfolding linesOf
 lines-if true c d e = ap (linesOf true) (e refl)
 lines-if false c d e = refl
 
-said-if : (b : Bool) (r s : Rule) (ps : List ℕ) → (b ≡ true → r ≡ s) → pricesSaid b r ps ≡ pricesSaid b s ps
+said-if : (b : Bool) (r s : Rule) (ps : List Quote) → (b ≡ true → r ≡ s) → pricesSaid b r ps ≡ pricesSaid b s ps
 unfolding pricesSaid
 said-if true r s ps e = ap byRule (e refl)
 said-if false r s ps e = refl
@@ -108,6 +115,20 @@ module _ (n : ℕ) (x : PartLists) (k : ℕ) (p : Place) where
   abbrev pub listedAt : ℕ
   listedAt = cond ruledAt 0 n
 
+  -- the marks of its prices, and how many of them are pairs
+  abbrev pub marksAt : List ℕ
+  marksAt = take listedAt (drop (p .prices) (x .banded))
+
+  abbrev pub pairsAt : ℕ
+  pairsAt = sumAll marksAt
+
+  -- the low ends from there on, and its prices
+  abbrev pub lowsAt : List ℕ
+  lowsAt = drop (p .lows) (x .lows)
+
+  abbrev pub highsAt : List ℕ
+  highsAt = take listedAt (drop (p .prices) (x .prices))
+
   -- the numbers of its rule, where it has one
   abbrev pub ruleAt : Rule
   ruleAt = record { base = cond ruledAt (getD (x .bases) (p .rules) 0) 0; drop = cond ruledAt (getD (x .drops) (p .rules) 0) 0; least = cond ruledAt (getD (x .leasts) (p .rules) 0) 0 }
@@ -125,13 +146,29 @@ module _ (n : ℕ) (x : PartLists) (k : ℕ) (p : Place) where
     pub rule-mark : ruleMarkAt ≤ 1
     pub drop : ruledAt ≡ true → p .rules < length (x .drops)
     pub least : ruledAt ≡ true → p .rules < length (x .leasts)
+    pub few : listedAt ≤ 64
     pub prices : p .prices + listedAt ≤ length (x .prices)
+    pub banded : p .prices + listedAt ≤ length (x .banded)
+    pub lows : p .lows + pairsAt ≤ length (x .lows)
+    pub marked : Marked marksAt lowsAt highsAt
 
   inside-is : insideFirst (after k p x) ≡ insideAt
   inside-is = ap₂ (λ (c i : ℕ). cond (eqb c 1) i 0) (from k (x .covered)) (from (p .covers) (x .insides))
 
   listed-is : listedFirst n (after k p x) ≡ listedAt
   listed-is = ap (λ (u : ℕ). cond (eqb u 1) 0 n) (from k (x .ruled))
+
+  pairs-is : pairsFirst n (after k p x) ≡ pairsAt
+  pairs-is = ap (λ (i : ℕ). sumAll (take i (drop (p .prices) (x .banded)))) listed-is
+
+  listed-low : (b : Bool) → n ≤ 64 → cond b 0 n ≤ 64
+  listed-low true h = omega arith
+  listed-low false h = h
+
+  all-take : (i : ℕ) (zs : List ℕ) → All (λ (z : ℕ). z ≤ 1) zs → All (λ (z : ℕ). z ≤ 1) (take i zs)
+  all-take zero zs m = tt
+  all-take (suc i) [] m = tt
+  all-take (suc i) (z ∷ zs) m = (m .0, all-take i zs (m .1))
 
   module _ (standing : Standing n x k p) (some : k < length (x .lives)) where
     some-after : 0 < length (after k p x .lives)
@@ -153,16 +190,33 @@ module _ (n : ℕ) (x : PartLists) (k : ℕ) (p : Place) where
       rule-mark = omega (arith, first .rule-mark, from k (x .ruled));
       drop = λ e. omega (arith, eqb-true ruleMarkAt 1 e, first .drop, length-drop (p .rules) (x .drops), from k (x .ruled));
       least = λ e. omega (arith, eqb-true ruleMarkAt 1 e, first .least, length-drop (p .rules) (x .leasts), from k (x .ruled));
-      prices = omega (arith, first .prices, listed-is, length-drop (p .prices) (x .prices), standing .prices);
+      few = listed-low ruledAt (standing .few);
+      prices = prices-in;
+      banded = banded-in;
+      lows = omega (arith, first .lows, pairs-is, length-drop (p .lows) (x .lows), standing .lows);
+      marked = record {
+        size = length-take-le listedAt (drop (p .prices) (x .banded)) (omega (arith, banded-in, length-drop (p .prices) (x .banded))) ∙ sym (length-take-le listedAt (drop (p .prices) (x .prices)) (omega (arith, prices-in, length-drop (p .prices) (x .prices))));
+        marks = all-take listedAt (drop (p .prices) (x .banded)) (first .band-marks);
+        lows = omega (arith, first .lows, pairs-is);
+      };
     }
+      where
+        prices-in : p .prices + listedAt ≤ length (x .prices)
+        prices-in = omega (arith, first .prices, listed-is, length-drop (p .prices) (x .prices), standing .prices)
 
-    pub step-put : (q : Place) → q .covers ≡ p .covers + markAt → q .holders ≡ p .holders + insideAt → q .rules ≡ p .rules + ruleMarkAt → q .prices ≡ p .prices + listedAt → StepPut n x k p q
-    step-put q a b d c = record {
+        banded-in : p .prices + listedAt ≤ length (x .banded)
+        banded-in = omega (arith, first .prices, first .banded, listed-is, length-drop (p .prices) (x .banded), length-drop (p .prices) (x .prices), standing .prices, standing .banded)
+
+    pub step-put : (q : Place) → q .covers ≡ p .covers + markAt → q .holders ≡ p .holders + insideAt → q .rules ≡ p .rules + ruleMarkAt → q .lows ≡ p .lows + pairsAt → q .prices ≡ p .prices + listedAt → StepPut n x k p q
+    step-put q a b d w c = record {
       standing = record {
         covers = omega (arith, a, known .removal);
         holders = omega (arith, b, known .holders);
         rules = omega (arith, d, known .rules);
+        lows = omega (arith, w, known .lows);
         prices = omega (arith, c, known .prices);
+        banded = omega (arith, c, known .banded);
+        few = standing .few;
         agree = subst (PartsAgree n) (sym rest) (agree-next n (after k p x) (standing .agree) some-after);
       };
       rest = rest;
@@ -174,6 +228,9 @@ module _ (n : ℕ) (x : PartLists) (k : ℕ) (p : Place) where
 
         ruled-on : q .rules ≡ p .rules + getD (drop k (x .ruled)) 0 0
         ruled-on = d ∙ ap (λ (m : ℕ). p .rules + m) (sym (from k (x .ruled)))
+
+        listed-on : q .prices ≡ p .prices + listedFirst n (after k p x)
+        listed-on = c ∙ ap (λ (m : ℕ). p .prices + m) (sym listed-is)
 
         rest : after (k + 1) q x ≡ behindFirst n (after k p x)
         rest = λ i. record {
@@ -187,7 +244,9 @@ module _ (n : ℕ) (x : PartLists) (k : ℕ) (p : Place) where
           bases = on (q .rules) (p .rules) (getD (drop k (x .ruled)) 0 0) (x .bases) ruled-on i;
           drops = on (q .rules) (p .rules) (getD (drop k (x .ruled)) 0 0) (x .drops) ruled-on i;
           leasts = on (q .rules) (p .rules) (getD (drop k (x .ruled)) 0 0) (x .leasts) ruled-on i;
-          prices = on (q .prices) (p .prices) (listedFirst n (after k p x)) (x .prices) (c ∙ ap (λ (m : ℕ). p .prices + m) (sym listed-is)) i;
+          banded = on (q .prices) (p .prices) (listedFirst n (after k p x)) (x .banded) listed-on i;
+          lows = on (q .lows) (p .lows) (pairsFirst n (after k p x)) (x .lows) (w ∙ ap (λ (m : ℕ). p .lows + m) (sym pairs-is)) i;
+          prices = on (q .prices) (p .prices) (listedFirst n (after k p x)) (x .prices) listed-on i;
         }
 
   -- the part that begins there
@@ -196,7 +255,7 @@ module _ (n : ℕ) (x : PartLists) (k : ℕ) (p : Place) where
     life = getD (x .lives) k 0;
     left = getD (x .lefts) k 0;
     cover = linesOf thereAt (record { removal = cond thereAt (getD (x .removals) (p .covers) 0) 0; holders = take insideAt (drop (p .holders) (x .holders)) });
-    prices = pricesSaid ruledAt ruleAt (take listedAt (drop (p .prices) (x .prices)));
+    prices = pricesSaid ruledAt ruleAt (quotesFrom marksAt lowsAt highsAt);
   }
 
   pub first-is : firstPart n (after k p x) ≡ partAt
@@ -210,14 +269,15 @@ module _ (n : ℕ) (x : PartLists) (k : ℕ) (p : Place) where
           ap (λ (c : ℕ). linesOf (eqb c 1) (record { removal = getD (drop (p .covers) (x .removals)) 0 0; holders = held (insideFirst (after k p x)) })) (from k (x .covered))
           ∙ lines-if thereAt _ _ (λ e. ap₂ (λ (v i : ℕ). record { removal = v; holders = held i }) (from (p .covers) (x .removals) ∙ sym (ap (λ (b : Bool). cond b (getD (x .removals) (p .covers) 0) 0) e)) inside-is)
 
-      listed : ℕ → List ℕ
-      listed i = take i (drop (p .prices) (x .prices))
+      quotes : List Quote
+      quotes = quotesFrom marksAt lowsAt highsAt
 
       -- a number of the rule's lists
       number : (xs : List ℕ) → ruledAt ≡ true → getD (drop (p .rules) xs) 0 0 ≡ cond ruledAt (getD xs (p .rules) 0) 0
       number xs e = from (p .rules) xs ∙ sym (ap (λ (b : Bool). cond b (getD xs (p .rules) 0) 0) e)
 
-      prices : firstPart n (after k p x) .prices ≡ pricesSaid ruledAt ruleAt (listed listedAt)
+      prices : firstPart n (after k p x) .prices ≡ pricesSaid ruledAt ruleAt quotes
       prices =
-          ap (λ (u : ℕ). pricesSaid (eqb u 1) (ruleFirst (after k p x)) (listed (cond (eqb u 1) 0 n))) (from k (x .ruled))
-          ∙ said-if ruledAt _ _ (listed listedAt) (λ e i. record { base = number (x .bases) e i; drop = number (x .drops) e i; least = number (x .leasts) e i })
+          ap (λ (u : ℕ). pricesSaid (eqb u 1) (ruleFirst (after k p x)) (take (cond (eqb u 1) 0 n) (quotesIn (after k p x)))) (from k (x .ruled))
+          ∙ ap (pricesSaid ruledAt (ruleFirst (after k p x))) (sym (quotes-take listedAt (drop (p .prices) (x .banded)) (drop (p .lows) (x .lows)) (drop (p .prices) (x .prices))))
+          ∙ said-if ruledAt _ _ quotes (λ e i. record { base = number (x .bases) e i; drop = number (x .drops) e i; least = number (x .leasts) e i })

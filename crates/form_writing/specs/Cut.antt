@@ -38,4 +38,4 @@ formCut h is os fs x = lineOf "horizon=" h ++ optionalText idlesCut (idleLines i
 
 -- the most bytes that it has
 abbrev pub longestCut : ℕ
-longestCut = 30921
+longestCut = 45257

@@ -8,10 +8,11 @@ use Rattle.covers.specs.Views.{linesOf}
 use Rattle.price_rules.specs.Rule.{Rule}
 use Rattle.part_lines.specs.Grammar.{PartText}
 use Rattle.part_lines.specs.Views.{pricesSaid}
-use Rattle.form_facts.specs.Facts.{PartLists, PartsAgree}
+use Rattle.form_facts.specs.Facts.{PartLists, quotesIn, sumAll, PartsAgree}
+use Rattle.model.specs.Limits.{mostOpenings}
 use Rattle.form_writing.specs.declared.parts.Place.{Place}
 
--- the lists from part k on, whose removals, holders, rules and prices begin at a place
+-- the lists from part k on, whose removals, holders, rules, low ends and prices begin at a place
 abbrev pub after : ℕ → Place → PartLists → PartLists
 after k p x = record {
   lives = drop k (x .lives);
@@ -24,6 +25,8 @@ after k p x = record {
   bases = drop (p .rules) (x .bases);
   drops = drop (p .rules) (x .drops);
   leasts = drop (p .rules) (x .leasts);
+  banded = drop (p .prices) (x .banded);
+  lows = drop (p .lows) (x .lows);
   prices = drop (p .prices) (x .prices);
 }
 
@@ -35,6 +38,10 @@ insideFirst x = cond (eqb (getD (x .covered) 0 0) 1) (getD (x .insides) 0 0) 0
 abbrev pub listedFirst : ℕ → PartLists → ℕ
 listedFirst n x = cond (eqb (getD (x .ruled) 0 0) 1) 0 n
 
+-- how many of these are pairs
+abbrev pub pairsFirst : ℕ → PartLists → ℕ
+pairsFirst n x = sumAll (take (listedFirst n x) (x .banded))
+
 -- the first rule
 abbrev pub ruleFirst : PartLists → Rule
 ruleFirst x = record { base = getD (x .bases) 0 0; drop = getD (x .drops) 0 0; least = getD (x .leasts) 0 0 }
@@ -45,7 +52,7 @@ firstPart n x = record {
   life = getD (x .lives) 0 0;
   left = getD (x .lefts) 0 0;
   cover = linesOf (eqb (getD (x .covered) 0 0) 1) (record { removal = getD (x .removals) 0 0; holders = take (insideFirst x) (x .holders) });
-  prices = pricesSaid (eqb (getD (x .ruled) 0 0) 1) (ruleFirst x) (take (listedFirst n x) (x .prices));
+  prices = pricesSaid (eqb (getD (x .ruled) 0 0) 1) (ruleFirst x) (take (listedFirst n x) (quotesIn x));
 }
 
 -- the lists behind it
@@ -61,6 +68,8 @@ behindFirst n x = record {
   bases = drop (getD (x .ruled) 0 0) (x .bases);
   drops = drop (getD (x .ruled) 0 0) (x .drops);
   leasts = drop (getD (x .ruled) 0 0) (x .leasts);
+  banded = drop (listedFirst n x) (x .banded);
+  lows = drop (pairsFirst n x) (x .lows);
   prices = drop (listedFirst n x) (x .prices);
 }
 
@@ -69,7 +78,10 @@ pub record Standing (n : ℕ) (x : PartLists) (k : ℕ) (p : Place) : Type 0 whe
   pub covers : p .covers ≤ length (x .removals)
   pub holders : p .holders ≤ length (x .holders)
   pub rules : p .rules ≤ length (x .bases)
+  pub lows : p .lows ≤ length (x .lows)
   pub prices : p .prices ≤ length (x .prices)
+  pub banded : p .prices ≤ length (x .banded)
+  pub few : n ≤ mostOpenings
   pub agree : PartsAgree n (after k p x)
 
 -- the part after k others was put at place p: what is left of the lists from the next place q on is what is behind the part

@@ -1,10 +1,12 @@
 // The lines of a form's parts, written into a lent slice.
 use form_facts::agree::parts_agree;
+use form_facts::agree::sum;
 use jobs::Job;
 use line_writing::write::put_line;
 use part_lines::list_length;
 use part_writing::put_part;
 use price_rules::Rule;
+use quote_writing::value_if;
 ghost use mathlib.Core.Path.{_≡_};
 ghost use mathlib.Core.Bool.{true, cond};
 ghost use Prim.Native.Nat.{_+_, _≤_, _<_};
@@ -18,24 +20,14 @@ ghost use Rattle.form_writing.specs.Cut.{partsCut};
 ghost use Rattle.form_writing.specs.Places.{after, firstPart, Standing, StepPut};
 ghost use Rattle.model.specs.Limits.{mostOpenings};
 
-// The places at which a part's lines begin in the output, and its covers, holders, rules and prices in their lists.
+// The places at which a part's lines begin in the output, and its covers, holders, rules, low ends and prices in their lists.
 pub struct Place {
     pub at: usize,
     pub covers: usize,
     pub holders: usize,
     pub rules: usize,
+    pub lows: usize,
     pub prices: usize,
-}
-
-// The number at place i of a list that has one there, else 0.
-fn value_if(there: bool, values: &[u32], i: usize) -> u32
-    requires { ⌜ (there ≡ true → i < length (now values)) ⌝ }
-    ensures { λ r. ⌜ r ≡ cond there (getD (now (values .entry)) i 0) 0 ⌝ }
-{
-    if there {
-        return values[i];
-    }
-    0
 }
 
 // The rule at place i of the lists, if there is one; else 0s.
@@ -62,16 +54,18 @@ fn put_next(
     bases: &[u32],
     drops: &[u32],
     leasts: &[u32],
+    banded: &[u32],
+    lows: &[u32],
     prices: &[u32],
     n: usize,
     k: usize,
     p: Place,
 ) -> Place
-    requires { ⌜ Standing n (partLists (now lives) (now lefts) (now covered) (now removals) (now insides) (now holders) (now ruled) (now bases) (now drops) (now leasts) (now prices)) k p ⌝ }
+    requires { ⌜ Standing n (partLists (now lives) (now lefts) (now covered) (now removals) (now insides) (now holders) (now ruled) (now bases) (now drops) (now leasts) (now banded) (now lows) (now prices)) k p ⌝ }
     requires { ⌜ k < length (now lives) ⌝ }
-    requires { ⌜ p .at + length (partCut (firstPart n (after k p (partLists (now lives) (now lefts) (now covered) (now removals) (now insides) (now holders) (now ruled) (now bases) (now drops) (now leasts) (now prices))))) ≤ length (now out) ⌝ }
-    ensures { λ r. ⌜ Wrote (now (out .entry)) (p .at) (partCut (firstPart n (after k p (partLists (now (lives .entry)) (now (lefts .entry)) (now (covered .entry)) (now (removals .entry)) (now (insides .entry)) (now (holders .entry)) (now (ruled .entry)) (now (bases .entry)) (now (drops .entry)) (now (leasts .entry)) (now (prices .entry)))))) (now (out .exit)) (r .at) ⌝ }
-    ensures { λ r. ⌜ StepPut n (partLists (now (lives .entry)) (now (lefts .entry)) (now (covered .entry)) (now (removals .entry)) (now (insides .entry)) (now (holders .entry)) (now (ruled .entry)) (now (bases .entry)) (now (drops .entry)) (now (leasts .entry)) (now (prices .entry))) k p r ⌝ }
+    requires { ⌜ p .at + length (partCut (firstPart n (after k p (partLists (now lives) (now lefts) (now covered) (now removals) (now insides) (now holders) (now ruled) (now bases) (now drops) (now leasts) (now banded) (now lows) (now prices))))) ≤ length (now out) ⌝ }
+    ensures { λ r. ⌜ Wrote (now (out .entry)) (p .at) (partCut (firstPart n (after k p (partLists (now (lives .entry)) (now (lefts .entry)) (now (covered .entry)) (now (removals .entry)) (now (insides .entry)) (now (holders .entry)) (now (ruled .entry)) (now (bases .entry)) (now (drops .entry)) (now (leasts .entry)) (now (banded .entry)) (now (lows .entry)) (now (prices .entry)))))) (now (out .exit)) (r .at) ⌝ }
+    ensures { λ r. ⌜ StepPut n (partLists (now (lives .entry)) (now (lefts .entry)) (now (covered .entry)) (now (removals .entry)) (now (insides .entry)) (now (holders .entry)) (now (ruled .entry)) (now (bases .entry)) (now (drops .entry)) (now (leasts .entry)) (now (banded .entry)) (now (lows .entry)) (now (prices .entry))) k p r ⌝ }
 {
     let mark = covered[k];
     let there = mark == 1;
@@ -84,6 +78,8 @@ fn put_next(
     let start = p.prices;
     let held = first + (inside as usize);
     let priced = start + list_length(by_rule, n);
+    let pairs = sum(&banded[start..priced]);
+    let low = p.lows;
     let end = put_part(
         out,
         p.at,
@@ -94,6 +90,8 @@ fn put_next(
         &holders[first..held],
         by_rule,
         rule,
+        &banded[start..priced],
+        &lows[low..],
         &prices[start..priced],
     );
     Place {
@@ -101,19 +99,21 @@ fn put_next(
         covers: p.covers + (mark as usize),
         holders: held,
         rules: p.rules + (rule_mark as usize),
+        lows: low + (pairs as usize),
         prices: priced,
     }
 }
 
 // The place of the first part.
 fn first_place(at: usize) -> Place
-    ensures { λ r. ⌜ (r .at ≡ at) × (r .covers ≡ 0) × (r .holders ≡ 0) × (r .rules ≡ 0) × (r .prices ≡ 0) ⌝ }
+    ensures { λ r. ⌜ (r .at ≡ at) × (r .covers ≡ 0) × (r .holders ≡ 0) × (r .rules ≡ 0) × (r .lows ≡ 0) × (r .prices ≡ 0) ⌝ }
 {
     Place {
         at,
         covers: 0,
         holders: 0,
         rules: 0,
+        lows: 0,
         prices: 0,
     }
 }
@@ -132,12 +132,14 @@ fn put_parts(
     bases: &[u32],
     drops: &[u32],
     leasts: &[u32],
+    banded: &[u32],
+    lows: &[u32],
     prices: &[u32],
     n: usize,
 ) -> usize
-    requires { ⌜ PartsAgree n (partLists (now lives) (now lefts) (now covered) (now removals) (now insides) (now holders) (now ruled) (now bases) (now drops) (now leasts) (now prices)) ⌝ }
-    requires { ⌜ at + length (texts partCut (partsOf n (partLists (now lives) (now lefts) (now covered) (now removals) (now insides) (now holders) (now ruled) (now bases) (now drops) (now leasts) (now prices)))) ≤ length (now out) ⌝ }
-    ensures { λ r. ⌜ Wrote (now (out .entry)) at (texts partCut (partsOf n (partLists (now (lives .entry)) (now (lefts .entry)) (now (covered .entry)) (now (removals .entry)) (now (insides .entry)) (now (holders .entry)) (now (ruled .entry)) (now (bases .entry)) (now (drops .entry)) (now (leasts .entry)) (now (prices .entry))))) (now (out .exit)) r ⌝ }
+    requires { ⌜ (n ≤ mostOpenings) × PartsAgree n (partLists (now lives) (now lefts) (now covered) (now removals) (now insides) (now holders) (now ruled) (now bases) (now drops) (now leasts) (now banded) (now lows) (now prices)) ⌝ }
+    requires { ⌜ at + length (texts partCut (partsOf n (partLists (now lives) (now lefts) (now covered) (now removals) (now insides) (now holders) (now ruled) (now bases) (now drops) (now leasts) (now banded) (now lows) (now prices)))) ≤ length (now out) ⌝ }
+    ensures { λ r. ⌜ Wrote (now (out .entry)) at (texts partCut (partsOf n (partLists (now (lives .entry)) (now (lefts .entry)) (now (covered .entry)) (now (removals .entry)) (now (insides .entry)) (now (holders .entry)) (now (ruled .entry)) (now (bases .entry)) (now (drops .entry)) (now (leasts .entry)) (now (banded .entry)) (now (lows .entry)) (now (prices .entry))))) (now (out .exit)) r ⌝ }
 {
     let mut p = first_place(at);
     let mut k: usize = 0;
@@ -154,6 +156,8 @@ fn put_parts(
             bases,
             drops,
             leasts,
+            banded,
+            lows,
             prices,
             n,
             k,
@@ -178,12 +182,14 @@ pub fn put_counted(
     bases: &[u32],
     drops: &[u32],
     leasts: &[u32],
+    banded: &[u32],
+    lows: &[u32],
     prices: &[u32],
     n: usize,
 ) -> usize
     requires { ⌜ n ≤ mostOpenings ⌝ }
-    requires { ⌜ at + length (partsCut n (partLists (now lives) (now lefts) (now covered) (now removals) (now insides) (now holders) (now ruled) (now bases) (now drops) (now leasts) (now prices))) ≤ length (now out) ⌝ }
-    ensures { λ r. ⌜ Wrote (now (out .entry)) at (partsCut n (partLists (now (lives .entry)) (now (lefts .entry)) (now (covered .entry)) (now (removals .entry)) (now (insides .entry)) (now (holders .entry)) (now (ruled .entry)) (now (bases .entry)) (now (drops .entry)) (now (leasts .entry)) (now (prices .entry)))) (now (out .exit)) r ⌝ }
+    requires { ⌜ at + length (partsCut n (partLists (now lives) (now lefts) (now covered) (now removals) (now insides) (now holders) (now ruled) (now bases) (now drops) (now leasts) (now banded) (now lows) (now prices))) ≤ length (now out) ⌝ }
+    ensures { λ r. ⌜ Wrote (now (out .entry)) at (partsCut n (partLists (now (lives .entry)) (now (lefts .entry)) (now (covered .entry)) (now (removals .entry)) (now (insides .entry)) (now (holders .entry)) (now (ruled .entry)) (now (bases .entry)) (now (drops .entry)) (now (leasts .entry)) (now (banded .entry)) (now (lows .entry)) (now (prices .entry)))) (now (out .exit)) r ⌝ }
 {
     let m = lives.len();
     if (Job::MAX_PARTS as usize) < m {
@@ -200,6 +206,8 @@ pub fn put_counted(
         bases.len(),
         drops.len(),
         leasts.len(),
+        banded,
+        lows.len(),
         prices.len(),
         n,
     ) {
@@ -219,6 +227,8 @@ pub fn put_counted(
         bases,
         drops,
         leasts,
+        banded,
+        lows,
         prices,
         n,
     )

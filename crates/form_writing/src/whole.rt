@@ -28,11 +28,13 @@ fn put_body(
     bases: &[u32],
     drops: &[u32],
     leasts: &[u32],
+    banded: &[u32],
+    lows: &[u32],
     prices: &[u32],
 ) -> usize
     requires { ⌜ (length (now openings) ≤ mostOpenings) × (length (now fees) ≡ length (now openings)) ⌝ }
-    requires { ⌜ at + length (bodyCut (now openings) (now fees) (partLists (now lives) (now lefts) (now covered) (now removals) (now insides) (now holders) (now ruled) (now bases) (now drops) (now leasts) (now prices))) ≤ length (now out) ⌝ }
-    ensures { λ r. ⌜ Wrote (now (out .entry)) at (bodyCut (now (openings .entry)) (now (fees .entry)) (partLists (now (lives .entry)) (now (lefts .entry)) (now (covered .entry)) (now (removals .entry)) (now (insides .entry)) (now (holders .entry)) (now (ruled .entry)) (now (bases .entry)) (now (drops .entry)) (now (leasts .entry)) (now (prices .entry)))) (now (out .exit)) r ⌝ }
+    requires { ⌜ at + length (bodyCut (now openings) (now fees) (partLists (now lives) (now lefts) (now covered) (now removals) (now insides) (now holders) (now ruled) (now bases) (now drops) (now leasts) (now banded) (now lows) (now prices))) ≤ length (now out) ⌝ }
+    ensures { λ r. ⌜ Wrote (now (out .entry)) at (bodyCut (now (openings .entry)) (now (fees .entry)) (partLists (now (lives .entry)) (now (lefts .entry)) (now (covered .entry)) (now (removals .entry)) (now (insides .entry)) (now (holders .entry)) (now (ruled .entry)) (now (bases .entry)) (now (drops .entry)) (now (leasts .entry)) (now (banded .entry)) (now (lows .entry)) (now (prices .entry)))) (now (out .exit)) r ⌝ }
 {
     let a = put_openings(out, at, openings, fees);
     put_counted(
@@ -48,6 +50,8 @@ fn put_body(
         bases,
         drops,
         leasts,
+        banded,
+        lows,
         prices,
         openings.len(),
     )
@@ -69,10 +73,12 @@ fn put_rest(
     bases: &[u32],
     drops: &[u32],
     leasts: &[u32],
+    banded: &[u32],
+    lows: &[u32],
     prices: &[u32],
 ) -> usize
-    requires { ⌜ at + length (restCut (now openings) (now fees) (partLists (now lives) (now lefts) (now covered) (now removals) (now insides) (now holders) (now ruled) (now bases) (now drops) (now leasts) (now prices))) ≤ length (now out) ⌝ }
-    ensures { λ r. ⌜ Wrote (now (out .entry)) at (restCut (now (openings .entry)) (now (fees .entry)) (partLists (now (lives .entry)) (now (lefts .entry)) (now (covered .entry)) (now (removals .entry)) (now (insides .entry)) (now (holders .entry)) (now (ruled .entry)) (now (bases .entry)) (now (drops .entry)) (now (leasts .entry)) (now (prices .entry)))) (now (out .exit)) r ⌝ }
+    requires { ⌜ at + length (restCut (now openings) (now fees) (partLists (now lives) (now lefts) (now covered) (now removals) (now insides) (now holders) (now ruled) (now bases) (now drops) (now leasts) (now banded) (now lows) (now prices))) ≤ length (now out) ⌝ }
+    ensures { λ r. ⌜ Wrote (now (out .entry)) at (restCut (now (openings .entry)) (now (fees .entry)) (partLists (now (lives .entry)) (now (lefts .entry)) (now (covered .entry)) (now (removals .entry)) (now (insides .entry)) (now (holders .entry)) (now (ruled .entry)) (now (bases .entry)) (now (drops .entry)) (now (leasts .entry)) (now (banded .entry)) (now (lows .entry)) (now (prices .entry)))) (now (out .exit)) r ⌝ }
 {
     let n = openings.len();
     if (Job::MAX_OPENINGS as usize) < n {
@@ -97,6 +103,8 @@ fn put_rest(
         bases,
         drops,
         leasts,
+        banded,
+        lows,
         prices,
     )
 }
@@ -118,10 +126,12 @@ pub fn put_form(
     bases: &[u32],
     drops: &[u32],
     leasts: &[u32],
+    banded: &[u32],
+    lows: &[u32],
     prices: &[u32],
 ) -> usize
-    requires { ⌜ length (formCut horizon (now idles) (now openings) (now fees) (partLists (now lives) (now lefts) (now covered) (now removals) (now insides) (now holders) (now ruled) (now bases) (now drops) (now leasts) (now prices))) ≤ length (now out) ⌝ }
-    ensures { λ r. ⌜ Wrote (now (out .entry)) 0 (formCut horizon (now (idles .entry)) (now (openings .entry)) (now (fees .entry)) (partLists (now (lives .entry)) (now (lefts .entry)) (now (covered .entry)) (now (removals .entry)) (now (insides .entry)) (now (holders .entry)) (now (ruled .entry)) (now (bases .entry)) (now (drops .entry)) (now (leasts .entry)) (now (prices .entry)))) (now (out .exit)) r ⌝ }
+    requires { ⌜ length (formCut horizon (now idles) (now openings) (now fees) (partLists (now lives) (now lefts) (now covered) (now removals) (now insides) (now holders) (now ruled) (now bases) (now drops) (now leasts) (now banded) (now lows) (now prices))) ≤ length (now out) ⌝ }
+    ensures { λ r. ⌜ Wrote (now (out .entry)) 0 (formCut horizon (now (idles .entry)) (now (openings .entry)) (now (fees .entry)) (partLists (now (lives .entry)) (now (lefts .entry)) (now (covered .entry)) (now (removals .entry)) (now (insides .entry)) (now (holders .entry)) (now (ruled .entry)) (now (bases .entry)) (now (drops .entry)) (now (leasts .entry)) (now (banded .entry)) (now (lows .entry)) (now (prices .entry)))) (now (out .exit)) r ⌝ }
 {
     let a = put_line(out, 0, b"horizon=", horizon as u64);
     let b = put_idles(out, a, idles);
@@ -140,6 +150,8 @@ pub fn put_form(
         bases,
         drops,
         leasts,
+        banded,
+        lows,
         prices,
     )
 }

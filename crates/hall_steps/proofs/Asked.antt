@@ -1,16 +1,16 @@
 -- What the walk asks of the lines at a step: it goes on with the next line that is open there, and where none is left it is over.
 use Prim.Native.Nat.{ℕ, zero, suc, _+_, _<_, _≤_}
-use mathlib.Core.Path.{_≡_, refl, sym, ap, _∙_}
+use mathlib.Core.Path.{_≡_, refl, ap, _∙_}
 use mathlib.Core.Bool.{Bool, true, false, cond}
 use mathlib.Core.List.{List, [], _∷_}
 use native.Mathlib.Omega.{arith}
+use native.Mathlib.Decide.{ℕ-discrete}
 use lib.ListN.{length, drop}
 use Rattle.model.specs.Model.{Job}
-use Rattle.model.specs.LowerBound.{inner}
-use Rattle.hall.specs.Hall.{Placed, openAt}
-use Rattle.hall.specs.Agenda.{line, Agenda, over, raise, removals, linesAsked}
-use Rattle.hall.proofs.Steps.{lines-open, lines-shut, lines-end}
-use Rattle.hall_steps.specs.Steps.{openIn, nextOpen}
+use Rattle.hall.specs.Hall.{Placed}
+use Rattle.hall.specs.Agenda.{linesAsked}
+use Rattle.hall.proofs.Steps.{lines-shut}
+use Rattle.hall_steps.specs.Steps.{openIn, nextOpen, Tells}
 
 -- ---- the places that the code goes over
 
@@ -36,45 +36,45 @@ next-within ats k d (suc m) = go (openIn ats k d) (next-within ats k (suc d) m)
     go true r = (omega arith, omega arith)
     go false r = (omega (arith, r .0), omega (arith, r .1))
 
+-- it is open there, if it is a line's
+pub next-opens : (ats : List ℕ) (k d m : ℕ) → nextOpen ats k d m < d + m → openIn ats k (nextOpen ats k d m) ≡ true
+unfolding nextOpen
+next-opens ats k d zero l = absurd (omega (arith, l))
+next-opens ats k d (suc m) l = go (openIn ats k d) refl l (next-opens ats k (suc d) m)
+  where
+    go : (b : Bool) → openIn ats k d ≡ b → cond b d (nextOpen ats k (suc d) m) < d + suc m → (nextOpen ats k (suc d) m < suc d + m → openIn ats k (nextOpen ats k (suc d) m) ≡ true) → openIn ats k (cond b d (nextOpen ats k (suc d) m)) ≡ true
+    go true e h r = e
+    go false e h r = r (omega (arith, h))
+
+-- and none before it is
+pub next-shut : (ats : List ℕ) (k d m e : ℕ) → d ≤ e → e < nextOpen ats k d m → openIn ats k e ≡ false
+unfolding nextOpen
+next-shut ats k d zero e g l = absurd (omega (arith, g, l))
+next-shut ats k d (suc m) e g l = go (openIn ats k d) refl l (next-shut ats k (suc d) m e)
+  where
+    later : (suc d ≤ e → openIn ats k e ≡ false) → Dec (e ≡ d) → openIn ats k d ≡ false → openIn ats k e ≡ false
+    later r (yes z) f = ap (openIn ats k) z ∙ f
+    later r (no z) f = r (omega (arith, g, z))
+
+    go : (b : Bool) → openIn ats k d ≡ b → e < cond b d (nextOpen ats k (suc d) m) → (suc d ≤ e → e < nextOpen ats k (suc d) m → openIn ats k e ≡ false) → openIn ats k e ≡ false
+    go true f h r = absurd (omega (arith, g, h))
+    go false f h r = later (λ u. r u h) (ℕ-discrete e d) f
+
 -- ---- what is asked
 
--- the lines of these jobs from place d on: which are open at the step, as the table says
-abbrev TellsFrom : List Job → List ℕ → ℕ → ℕ → ℕ → Type 0
-TellsFrom js ats k step d = (i : ℕ) (job : Job) → Placed js i job → openAt job step ≡ openIn ats k (d + i)
+-- the line at a place, and the lines behind it
+pub drop-line : (jobs : List Job) (d : ℕ) → d < length jobs → (job : Job) × Placed jobs d job × (drop d jobs ≡ job ∷ drop (suc d) jobs)
+drop-line [] d l = absurd (omega (arith, l))
+drop-line (job ∷ jobs) zero l = (job, refl, refl)
+drop-line (job ∷ jobs) (suc d) l = drop-line jobs d (omega (arith, l))
 
--- what is asked from place d on is what is asked of the next line that is open, with the lines behind it; or nothing
-pub record Next (js : List Job) (ats : List ℕ) (k step d : ℕ) : Type 0 where
-  pub ends : nextOpen ats k d (length js) ≡ d + length js → linesAsked step d js ≡ over
-  pub asks : nextOpen ats k d (length js) < d + length js → (job : Job) × (behind : List Job) × (i : ℕ) × (nextOpen ats k d (length js) ≡ d + i) × Placed js i job × (behind ≡ drop (suc i) js)
-      × (linesAsked step d js ≡ raise (line (d + i)) (removals (d + i) (inner job)) (linesAsked step (suc (d + i)) behind))
-
-pub next-asked : (js : List Job) (ats : List ℕ) (k step d : ℕ) → TellsFrom js ats k step d → Next js ats k step d
+-- what is asked from place d on is what is asked from the next line on that is open, or nothing
+pub next-asked : (jobs : List Job) (ats : List ℕ) (k step : ℕ) → Tells jobs ats k step → (d m : ℕ) → d + m ≡ length jobs → linesAsked step d (drop d jobs) ≡ linesAsked step (nextOpen ats k d m) (drop (nextOpen ats k d m) jobs)
 unfolding nextOpen
-next-asked [] ats k step d tells = record { ends = λ _. lines-end step d; asks = λ l. absurd (omega (arith, l)) }
-next-asked (job ∷ js) ats k step d tells = go (openIn ats k d) refl (next-asked js ats k step (suc d) below)
+next-asked jobs ats k step tells d zero n = refl
+next-asked jobs ats k step tells d (suc m) n = go (openIn ats k d) refl (drop-line jobs d (omega (arith, n))) (next-asked jobs ats k step tells (suc d) m (omega (arith, n)))
   where
-    here : openAt job step ≡ openIn ats k d
-    here = let z : d + 0 ≡ d = omega arith in tells 0 job refl ∙ ap (openIn ats k) z
-
-    below : (i : ℕ) (x : Job) → Placed js i x → openAt x step ≡ openIn ats k (suc d + i)
-    below i x p = let z : d + suc i ≡ suc d + i = omega arith in tells (suc i) x p ∙ ap (openIn ats k) z
-
-    go : (b : Bool) → openIn ats k d ≡ b → Next js ats k step (suc d) → Next (job ∷ js) ats k step d
-    go true e r = record {
-      ends = λ f. absurd (omega (arith, f, next-here ats k d (length js) e));
-      asks = λ _. let z : d + 0 ≡ d = omega arith in (job, js, 0, next-here ats k d (length js) e ∙ sym z, refl, refl, lines-open step d job js (here ∙ e) ∙ (λ i. raise (line (sym z i)) (removals (sym z i) (inner job)) (linesAsked step (suc (sym z i)) js)));
-    }
-    go false e r = record {
-      ends = λ f. lines-shut step d job js (here ∙ e) ∙ r .ends (omega (arith, f, next-past ats k d (length js) e));
-      asks = λ l.
-          let m = r .asks (omega (arith, l, next-past ats k d (length js) e)) in
-          let z : suc d + m .2 ≡ d + suc (m .2) = omega arith in (
-            m .0,
-            m .1,
-            suc (m .2),
-            next-past ats k d (length js) e ∙ m .3 ∙ z,
-            m .4,
-            m .5,
-            lines-shut step d job js (here ∙ e) ∙ m .6 ∙ (λ i. raise (line (z i)) (removals (z i) (inner (m .0))) (linesAsked step (suc (z i)) (m .1))),
-          );
-    }
+    go : (b : Bool) → openIn ats k d ≡ b → (job : Job) × Placed jobs d job × (drop d jobs ≡ job ∷ drop (suc d) jobs) → linesAsked step (suc d) (drop (suc d) jobs) ≡ linesAsked step (nextOpen ats k (suc d) m) (drop (nextOpen ats k (suc d) m) jobs)
+        → linesAsked step d (drop d jobs) ≡ linesAsked step (cond b d (nextOpen ats k (suc d) m)) (drop (cond b d (nextOpen ats k (suc d) m)) jobs)
+    go true e h r = refl
+    go false e h r = ap (linesAsked step d) (h .2) ∙ lines-shut step d (h .0) (drop (suc d) jobs) (tells d (h .0) (h .1) ∙ e) ∙ r

@@ -106,7 +106,7 @@ fn part_changes(
 }
 
 // Each part's changes at the node of this name.
-fn changes(
+pub fn changes(
     end: i32,
     positions: &[i32],
     lives: &[u32],

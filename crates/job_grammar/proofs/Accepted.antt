@@ -18,6 +18,7 @@ use Rattle.part_lines.specs.Rendering.{partText}
 use Rattle.part_lines.specs.Valid.{Spelt, KnownPart}
 use Rattle.part_lines.proofs.Accepted.{part-tells}
 use Rattle.job_grammar.specs.Valid.{Valid, Some, Allowed, ValidText}
+use Rattle.job_grammar.proofs.Lows.{meant-valid}
 
 -- ---- steps that rise
 
@@ -192,7 +193,7 @@ lines-tell s s′ l l′ g e =
     let n : f .a ≡ length (g .openings) = sym (t .known .4) in
     record {
       known = record {
-        means = record { job = t .known .0 (k₁ .0) (k₁ .1) (steps .known) (k₃ .1) };
+        means = meant-valid g (t .known .0 (k₁ .0) (k₁ .1) (steps .known) (k₃ .1)) (t .known .5);
         idles = subst Some is (steps .known .2);
         walk = subst Allowed w (line .known);
         lines = t .known .5;

@@ -1,4 +1,4 @@
--- A job text has at most 22,109 bytes, so it fits (`text-short`): 365 idle steps, 64 openings and sixteen parts, each held by the fifteen others, each number with its most digits. By the lengths of the lines; idle steps rise, so they are among 1 to 365.
+-- A job text has at most 33,373 bytes, so it fits (`text-short`): 365 idle steps, 64 openings and sixteen parts, each held by the fifteen others, each number with its most digits. By the lengths of the lines; idle steps rise, so they are among 1 to 365.
 use Prim.Native.Nat.{ℕ, zero, suc, _+_, _-_, _*_, _≤_, _<_}
 use mathlib.Core.Path.{_≡_, refl, ap}
 use mathlib.Core.List.{List, [], _∷_, _++_, map}
@@ -24,7 +24,7 @@ use Rattle.job_grammar.proofs.Accepted.{parts-chained}
 
 -- the longest job text
 abbrev pub longest : ℕ
-longest = 22109
+longest = 33373
 
 key-length : (length (bytes "horizon=") ≡ 8) × (length (bytes "idles=") ≡ 6) × (length (bytes "walk=") ≡ 5) × (length (bytes "openings=") ≡ 9) × (length (bytes "parts=") ≡ 6)
 unfolding bytes

@@ -11,16 +11,21 @@ use lib.ListN.{length, replicate}
 use Rattle.lines.specs.Text.{bytes, decimalIn, line, present}
 use Rattle.model.specs.Model.{Opening}
 use Rattle.model.specs.Windows.{Rising, stepsOf}
-use Rattle.jobs.specs.Valid.{All, ValidOpening, ValidPrice, Holds, ValidPart, HeldFrom}
+use Rattle.jobs.specs.Valid.{All, ValidOpening, Holds, ValidPart, HeldFrom}
 use Rattle.covers.specs.Rendering.{coverText}
 use Rattle.covers.specs.Views.{meantCover}
 use Rattle.part_lines.specs.Grammar.{PartText, meantPart}
 use Rattle.part_lines.specs.Rendering.{partText}
 use Rattle.part_lines.specs.Valid.{Spelt}
+use Rattle.quotes.specs.Grammar.{pair}
+use Rattle.quotes.specs.Rendering.{quoteText}
+use Rattle.quotes.specs.Valid.{ValidQuote}
 use Rattle.price_rules.specs.Grammar.{byList}
+use Rattle.price_rules.proofs.Prices.{meant-valid as prices-valid}
 use Rattle.job_grammar.specs.Grammar.{JobText}
 use Rattle.job_grammar.specs.Rendering.{idlesText, openingText, bodyText, jobText}
 use Rattle.job_grammar.specs.Valid.{ValidText}
+use Rattle.job_grammar.proofs.Lows.{meant-valid}
 use Rattle.job_grammar.proofs.Lengths.{longest}
 
 -- the n steps after step `before`
@@ -40,7 +45,7 @@ others k before (suc n) = cond (eqb (suc before) k) (others k (suc before) n) (s
 
 -- part k of sixteen, held by the fifteen others
 longestPart : ℕ → PartText
-longestPart k = record { life = 1000; left = 1000; cover = present (record { removal = 1000000; holders = others k 0 16 }); prices = byList (replicate 64 1000000) }
+longestPart k = record { life = 1000; left = 1000; cover = present (record { removal = 1000000; holders = others k 0 16 }); prices = byList (replicate 64 (pair 1000000 1000000)) }
 
 -- the n parts after part `before`
 partsAfter : ℕ → ℕ → List PartText
@@ -52,7 +57,7 @@ pub longestText : JobText
 longestText = record { horizon = 365; idles = present (stepsAfter 0 365); walk = present 4000000000; openings = openingsAfter 301 64; parts = partsAfter 0 16 }
 
 pub reached : length (jobText longestText) ≡ longest
-unfolding longestText longestPart partsAfter others stepsAfter openingsAfter jobText bodyText idlesText openingText partText coverText line bytes decimalIn
+unfolding longestText longestPart partsAfter others stepsAfter openingsAfter jobText bodyText idlesText openingText partText coverText quoteText line bytes decimalIn
 reached = refl
 
 -- ---- it is valid
@@ -111,6 +116,7 @@ unfolding partsAfter longestPart meantCover
 parts-valid before zero m = (tt, tt, tt)
 parts-valid before (suc n) m =
     let r = parts-valid (suc before) n (omega arith) in
+    let s : Spelt 64 (longestPart (suc before)) = (refl, all-alike ValidQuote 64 (pair 1000000 1000000) (record { low = (omega arith, omega arith); high = (omega arith, omega arith); ordered = omega arith })) in
     let p : ValidPart 64 (meantPart 64 (longestPart (suc before))) = record {
       life-low = omega arith;
       life-high = omega arith;
@@ -118,28 +124,26 @@ parts-valid before (suc n) m =
       removal = omega arith;
       few-holders = omega (arith, others-few (suc before) 0 16 (omega arith) (omega arith));
       priced = refl;
-      prices = all-alike ValidPrice 64 1000000 (omega arith, omega arith);
+      prices = prices-valid 64 (longestPart (suc before) .prices) s;
     } in
-    ((p, r .0), (others-hold 16 (suc before) 0 0 16 (omega arith) (omega arith), r .1), ((refl, all-alike ValidPrice 64 1000000 (omega arith, omega arith)), r .2))
+    ((p, r .0), (others-hold 16 (suc before) 0 0 16 (omega arith) (omega arith), r .1), (s, r .2))
 
 pub longest-valid : ValidText longestText
 unfolding longestText partsAfter stepsAfter openingsAfter
 longest-valid = record {
-  means = record {
-    job = record {
-      horizon-low = omega arith;
-      horizon-high = omega arith;
-      few-idles = omega arith;
-      idles = steps-rise 0 365 365 (omega arith);
-      few-openings = omega arith;
-      openings = openings-valid 301 64 (omega arith);
-      rising = openings-rise 0 301 64 365 (omega arith) (omega arith);
-      some-part = omega arith;
-      few-parts = omega arith;
-      parts = parts-valid 0 16 (omega arith) .0;
-      holders = parts-valid 0 16 (omega arith) .1;
-    };
-  };
+  means = meant-valid longestText (record {
+    horizon-low = omega arith;
+    horizon-high = omega arith;
+    few-idles = omega arith;
+    idles = steps-rise 0 365 365 (omega arith);
+    few-openings = omega arith;
+    openings = openings-valid 301 64 (omega arith);
+    rising = openings-rise 0 301 64 365 (omega arith) (omega arith);
+    some-part = omega arith;
+    few-parts = omega arith;
+    parts = parts-valid 0 16 (omega arith) .0;
+    holders = parts-valid 0 16 (omega arith) .1;
+  }) (parts-valid 0 16 (omega arith) .2);
   idles = omega arith;
   walk = omega arith;
   lines = parts-valid 0 16 (omega arith) .2;

@@ -34,6 +34,9 @@ three = low 3 (omega arith) (omega arith)
 twelve : JobFault 12
 twelve = inr (omega arith, omega arith)
 
+thirteen : JobFault 13
+thirteen = inr (omega arith, omega arith)
+
 line-numbers : (key : List ℕ) (lo hi : ℕ) → Numbers JobFault (rowAt key lo hi)
 line-numbers = row-numbers JobFault two three
 
@@ -56,7 +59,7 @@ unfolding body openings parts
 body-numbers h is w n =
     bind-numbers JobFault _ _ (chain-numbers JobFault (opening h) _ (opening-numbers h) n 0)
     (λ os. bind-numbers JobFault _ _ (line-numbers _ 1 16)
-    (λ m. bind-numbers JobFault _ _ (chain-numbers JobFault (part m n) following (part-numbers JobFault two three (low 5 (omega arith) (omega arith)) twelve m n) m 1) (λ ps. return-numbers JobFault _)))
+    (λ m. bind-numbers JobFault _ _ (chain-numbers JobFault (part m n) following (part-numbers JobFault two three (low 5 (omega arith) (omega arith)) twelve thirteen m n) m 1) (λ ps. return-numbers JobFault _)))
 
 pub lines-numbers : Numbers JobFault jobLines
 unfolding jobLines rest

@@ -17,10 +17,12 @@ use Rattle.lines.specs.declared.rows.End.the-variants as end
 use Rattle.lines.specs.declared.rows.WholeText.the-variants.{Fault}
 use Rattle.lines.proofs.Parsing.{end-value, map-read}
 use Rattle.lines.proofs.Sound.{chain-gives}
-use Rattle.covers.specs.Views.{linesOf, meantCover}
+use Rattle.covers.specs.Views.{linesOf}
+use Rattle.quotes.specs.Views.{quotesOf}
 use Rattle.job_grammar.specs.Grammar.{idle, idleSteps}
 use Rattle.part_lines.specs.Grammar.{meantPart}
-use Rattle.part_lines.specs.Views.{blankSaid, pricesSaid, partLines, partsLines, priced}
+use Rattle.part_lines.specs.Views.{blankSaid, pricesSaid, partLines, partsLines, Unsaid, Bare, priced}
+use Rattle.part_lines.proofs.Prices.{unsaid-means}
 use Rattle.price_rules.specs.Rule.{Rule, rulePrices}
 use Rattle.price_rules.specs.Views.{ruleOf}
 use Rattle.model.specs.Model as model
@@ -52,11 +54,10 @@ alike-at P (suc b) zero x y h d = h
 alike-at P (suc b) (suc k) x y h d = alike-at P b k x y h d
 
 -- no lines of removal, and no removal and no holders
-pub blanks-mean : (n : ℕ) (s : PartSaid) (p : Part) → s ≡ blankSaid → meantPart n (partLines blankSaid (partOf n p)) ≡ partOf n p → Meant n (replicate 16 s) (replicate 16 p)
-unfolding linesOf meantCover pricesSaid chosen joined
+pub blanks-mean : (n : ℕ) (s : PartSaid) (p : Part) → Unsaid s → Bare p → Meant n (replicate 16 s) (replicate 16 p)
+unfolding chosen joined
 blanks-mean n s p said e k =
-    rw (alike-at (λ (t : PartSaid). t ≡ blankSaid) 16 k s blankSaid said refl)
-    (alike-at (λ (q : Part). meantPart n (partLines blankSaid (partOf n q)) ≡ partOf n q) 16 k p blankPart e refl)
+    unsaid-means n (getD (replicate 16 s) k blankSaid) (getD (replicate 16 p) k blankPart) (alike-at Unsaid 16 k s blankSaid said (refl, refl)) (alike-at Bare 16 k p blankPart e (refl, refl))
 
 pub meant-set : (n i : ℕ) (cs : List PartSaid) (ps : List Part) (c : PartSaid) (p : Part) → i < length cs → i < length ps → Meant n cs ps → meantPart n (partLines c (partOf n p)) ≡ priced n c (partOf n p) → Meant n (set cs i c) (set ps i p)
 meant-set n i cs ps c p h m old new k = go (ℕ-discrete k i)
@@ -72,7 +73,7 @@ lines-priced : (n : ℕ) (s : PartSaid) (p : model.Part) → partLines s (priced
 unfolding pricesSaid
 lines-priced n s p = go (s .ruled) refl
   where
-    same : (b : Bool) (r : Rule) (xs ys : List ℕ) → pricesSaid b r (cond b xs ys) ≡ pricesSaid b r ys
+    same : (b : Bool) (r : Rule) (xs ys : List ℕ) → pricesSaid b r (quotesOf (s .banded) (s .lows) (cond b xs ys)) ≡ pricesSaid b r (quotesOf (s .banded) (s .lows) ys)
     same true r xs ys = refl
     same false r xs ys = refl
 

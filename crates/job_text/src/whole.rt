@@ -25,6 +25,9 @@ ghost use Rattle.job_text.specs.Views.{textOf, givenOf, LinesRead, TextR
 ghost use Rattle.job_grammar.specs.Grammar.{meant, body, rest, jobLines, readJobText};
 ghost use Rattle.model.specs.Limits.{lastStep, mostOpenings};
 
+// The most bytes of a job text.
+pub const MAX_BYTES: usize = 40960;
+
 // What a job text says: whether a walk line stands and its number, what its parts' lines say, and the job that it means.
 pub struct JobText {
     pub walk_there: bool,
@@ -165,7 +168,7 @@ pub fn read_job_lines(text: &[u8], p: Cursor) -> JobLines
 pub fn read_job(text: &[u8]) -> JobRead
     ensures { λ r. ⌜ TextRead r (readJobText (now (text .entry))) ⌝ }
 {
-    if Job::MAX_BYTES < text.len() {
+    if MAX_BYTES < text.len() {
         return JobRead {
             verdict: WholeText::Fault { number: 1, line: 0 },
             text: no_text(),

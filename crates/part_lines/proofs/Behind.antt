@@ -5,6 +5,8 @@ use mathlib.Core.Bool.{false}
 use mathlib.Core.List.{List, [], _∷_, _++_, append-nil}
 use Rattle.lines.specs.Line.{startsWith}
 use Rattle.lines.specs.Text.{bytes, line, texts}
+use Rattle.quotes.specs.Grammar.{single, pair}
+use Rattle.quotes.specs.Rendering.{quoteText}
 use Rattle.price_rules.specs.Grammar.{Prices, byList, byRule}
 use Rattle.price_rules.specs.Rendering.{ruleText, pricesText}
 use Rattle.part_lines.specs.Grammar.{PartText}
@@ -17,9 +19,10 @@ behind-none = record { removal = refl; base = refl }
 
 -- behind the lines of removal: prices, a rule, or what follows them
 pub prices-next : (p : Prices) (s : List ℕ) → Behind s → startsWith (bytes "removal=") (pricesText p ++ s) ≡ false
-unfolding startsWith line bytes ruleText
+unfolding startsWith line bytes ruleText quoteText
 prices-next (byList []) s b = b .removal
-prices-next (byList (p ∷ ps)) s b = refl
+prices-next (byList (single p ∷ qs)) s b = refl
+prices-next (byList (pair l h ∷ qs)) s b = refl
 prices-next (byRule r) s b = refl
 
 -- the next part, or what follows the parts

@@ -7,30 +7,38 @@ use native.Mathlib.Omega.{arith}
 use borrow.Author.Count.{below-more}
 use lib.ListN.{length, getD, take, set, length-set}
 use lib.Seq.{getD-set-same, getD-set-other}
-use Rattle.lines.specs.Parser.{_>>=_, row, times, chain, return}
+use Rattle.lines.specs.Parser.{_>>=_, times, chain, return}
 use Rattle.lines.specs.Cursor.{Reads, ended}
 use Rattle.lines.specs.declared.rows.End.{End}
 use Rattle.lines.proofs.Parsing.{map-read}
+use Rattle.quotes.specs.Grammar.{Quote, quote}
+use Rattle.quotes.specs.Views.{quotesOf}
+use Rattle.quotes.proofs.Quoted.{highs-are}
 use Rattle.price_rules.specs.Rule.{Rule, rulePrices}
 use Rattle.price_rules.specs.Grammar.{byList, byRule, unlessRuled, meantPrices}
 use Rattle.price_rules.specs.Views.{ruleOf, linesOf}
 use Rattle.model.specs.Model.{Part}
 use Rattle.jobs.specs.Views.{blankPart, partOf}
 use Rattle.jobs.specs.declared.Part as code
-use Rattle.part_lines.specs.Views.{blankSaid, pricesSaid, priced, Tabled}
+use Rattle.lines.specs.Chosen.{numbersOf}
+use Rattle.covers.specs.Grammar.{Cover}
+use Rattle.covers.specs.Views as covers
+use Rattle.covers.specs.Views.{meantCover}
+use Rattle.part_lines.specs.Grammar.{meantPart}
+use Rattle.part_lines.specs.Views.{blankSaid, pricesSaid, partLines, Unsaid, Bare, priced, Tabled}
 use Rattle.part_lines.specs.declared.PartSaid.{PartSaid}
 
 -- behind a rule's lines no price is listed, else n are
-pub ruled-read : (b : Bool) (r : Rule) (n : ℕ) {s : List ℕ} (t : List ℕ) (l : ℕ) (e : End) (ps : List ℕ) → Reads s (ended e (take (cond b 0 n) ps)) (times (cond b 0 n) (row "price=" 1 1000000) t l)
-    → Reads s (ended e (pricesSaid b r (take n ps))) (unlessRuled n (linesOf b r) t l)
-unfolding linesOf unlessRuled pricesSaid times chain return _>>=_
-ruled-read false r n t l e ps h = map-read byList (times n (row "price=" 1 1000000)) e (take n ps) h
-ruled-read true r n t l e ps h = map-read (λ (qs : List ℕ). byRule r) (times 0 (row "price=" 1 1000000)) e [] h
+pub ruled-read : (b : Bool) (r : Rule) (n : ℕ) {s : List ℕ} (t : List ℕ) (l : ℕ) (e : End) (bs : List Bool) (ls hs : List ℕ) → Reads s (ended e (quotesOf bs ls (take (cond b 0 n) hs))) (times (cond b 0 n) quote t l)
+    → Reads s (ended e (pricesSaid b r (quotesOf bs ls (take n hs)))) (unlessRuled n (linesOf b r) t l)
+unfolding linesOf unlessRuled pricesSaid quotesOf times chain return _>>=_
+ruled-read false r n t l e bs ls hs h = map-read byList (times n quote) e (quotesOf bs ls (take n hs)) h
+ruled-read true r n t l e bs ls hs h = map-read (λ (qs : List Quote). byRule r) (times 0 quote) e [] h
 
-pub meant-said : (b : Bool) (r : Rule) (n : ℕ) (ps : List ℕ) → meantPrices n (pricesSaid b r ps) ≡ cond b (rulePrices r n) ps
+pub meant-said : (b : Bool) (r : Rule) (n : ℕ) (bs : List Bool) (ls ps : List ℕ) → meantPrices n (pricesSaid b r (quotesOf bs ls ps)) ≡ cond b (rulePrices r n) ps
 unfolding pricesSaid
-meant-said true r n ps = refl
-meant-said false r n ps = refl
+meant-said true r n bs ls ps = refl
+meant-said false r n bs ls ps = highs-are bs ls ps
 
 -- no more prices are listed than there are openings
 pub list-few : (b : Bool) (n most : ℕ) → n ≤ most → cond b 0 n ≤ most
@@ -46,6 +54,16 @@ pub priced-ruled : (n : ℕ) (s : PartSaid) (p : Part) (ps : List ℕ) → s .ru
 priced-ruled n s p ps e f =
     let g : ps ≡ cond (s .ruled) (rulePrices (ruleOf (s .rule)) n) (p .prices) = f ∙ ap (λ (b : Bool). cond b (rulePrices (ruleOf (s .rule)) n) (p .prices)) (sym e) in
     λ i. record { life = p .life; left = p .left; removal = p .removal; holders = p .holders; prices = g i }
+
+-- what says nothing of removal and has no rule means a part without removal as it is
+pub unsaid-means : (n : ℕ) (s : PartSaid) (p : code.Part) → Unsaid s → Bare p → meantPart n (partLines s (partOf n p)) ≡ priced n s (partOf n p)
+unfolding covers.linesOf meantCover
+unsaid-means n s p u b =
+    let c : Cover = record { removal = p .removal; holders = numbersOf (p .holders) } in
+    let r : meantCover (covers.linesOf (s .covered) c) .removal ≡ p .removal = ap (λ (t : Bool). meantCover (covers.linesOf t c) .removal) (u .0) ∙ sym (b .0) in
+    let h : meantCover (covers.linesOf (s .covered) c) .holders ≡ numbersOf (p .holders) = ap (λ (t : Bool). meantCover (covers.linesOf t c) .holders) (u .0) ∙ sym (b .1) in
+    let f = meant-said (s .ruled) (ruleOf (s .rule)) n (s .banded) (s .lows) (take n (p .prices)) in
+    λ i. record { life = p .life; left = p .left; removal = r i; holders = h i; prices = f i }
 
 -- ---- the generator: none yet, and one part more
 

@@ -6,10 +6,13 @@ use mathlib.Core.List.{List, [], _∷_}
 use lib.ListN.{length, getD}
 use Rattle.lines.specs.Parser.{Parsed}
 use Rattle.lines.specs.Cursor.{Reads, ended}
+use Rattle.lines.specs.Chosen.{numbersOf}
 use Rattle.model.specs.Model as model
 use Rattle.jobs.specs.Views.{blankPart, partOf}
 use Rattle.jobs.specs.declared.Part.{Part}
 use Rattle.covers.specs.Views.{linesOf}
+use Rattle.quotes.specs.Grammar.{Quote}
+use Rattle.quotes.specs.Views.{quotesOf}
 use Rattle.price_rules.specs.Rule as rule
 use Rattle.price_rules.specs.Grammar.{Prices, byList, byRule}
 use Rattle.price_rules.specs.Views.{ruleOf, blankRule}
@@ -19,12 +22,12 @@ use Rattle.part_lines.specs.declared.PartRead.{PartRead}
 
 -- what stands past the end of an array of what parts' lines say
 abbrev pub blankSaid : PartSaid
-blankSaid = record { covered = false; ruled = false; rule = blankRule }
+blankSaid = record { covered = false; ruled = false; rule = blankRule; banded = []; lows = [] }
 
 -- prices that stand in a list, or by a rule
-unfoldable pub pricesSaid : Bool → rule.Rule → List ℕ → Prices
-pricesSaid true r ps = byRule r
-pricesSaid false r ps = byList ps
+unfoldable pub pricesSaid : Bool → rule.Rule → List Quote → Prices
+pricesSaid true r qs = byRule r
+pricesSaid false r qs = byList qs
 
 -- what a part's lines say, besides what they mean
 abbrev pub partLines : PartSaid → model.Part → PartText
@@ -32,8 +35,16 @@ partLines s p = record {
   life = p .life;
   left = p .left;
   cover = linesOf (s .covered) (record { removal = p .removal; holders = p .holders });
-  prices = pricesSaid (s .ruled) (ruleOf (s .rule)) (p .prices);
+  prices = pricesSaid (s .ruled) (ruleOf (s .rule)) (quotesOf (s .banded) (s .lows) (p .prices));
 }
+
+-- lines of which none is one of removal, and no rule
+abbrev pub Unsaid : PartSaid → Type 0
+Unsaid s = (s .covered ≡ false) × (s .ruled ≡ false)
+
+-- a part with removal 0 and no holders
+abbrev pub Bare : Part → Type 0
+Bare p = (p .removal ≡ 0) × (numbersOf (p .holders) ≡ [])
 
 -- the lines of parts, one after the other
 unfoldable pub partsLines : List PartSaid → List model.Part → List PartText

@@ -10,30 +10,34 @@ use lines::rows::advance;
 use price_rules::Rule;
 use price_rules::read_rule;
 use price_rules::rule_prices;
+use quotes::read_quotes;
 ghost use mathlib.Core.Path.{_≡_};
 ghost use mathlib.Core.Bool.{cond};
 ghost use Prim.Native.Nat.{ℕ, _≤_};
 ghost use lib.ListN.{drop, take};
-ghost use Rattle.lines.specs.Parser.{times, row, checked, upTo};
+ghost use Rattle.lines.specs.Parser.{row, checked, upTo};
 ghost use Rattle.lines.specs.Cursor.{Stands, LineRead, Reads, ended};
 ghost use Rattle.jobs.specs.Views.{partOf};
 ghost use Rattle.part_lines.specs.Grammar.{meantPart, afterLeft, part};
-ghost use Rattle.part_lines.specs.Views.{blankSaid, pricesSaid, partLines, priced, PartSeen, Tabled};
+ghost use Rattle.part_lines.specs.Views.{pricesSaid, partLines, Unsaid, Bare, priced, PartSeen, Tabled};
 ghost use Rattle.price_rules.specs.Grammar.{prices};
 ghost use Rattle.price_rules.specs.Views.{ruleOf};
-ghost use Rattle.model.specs.Limits.{longestLife, dearest, mostOpenings, mostParts};
+ghost use Rattle.quotes.specs.Views.{quotesOf};
+ghost use Rattle.model.specs.Limits.{longestLife, mostOpenings, mostParts};
 
-// What a part's lines say, besides the part that they mean: whether its lines of removal stand, and whether its prices stand by a rule, and by which.
+// What a part's lines say, besides the part that they mean: whether its lines of removal stand; whether its prices stand by a rule, and by which; and which of them are pairs, with the low ends of these.
 pub struct PartSaid {
     pub covered: bool,
     pub ruled: bool,
     pub rule: Rule,
+    pub banded: [bool; 64],
+    pub lows: [u32; 64],
 }
 
 impl PartSaid {
     // What stands where no part is read.
     pub fn nothing() -> PartSaid
-        ensures { λ r. ⌜ r ≡ blankSaid ⌝ }
+        ensures { λ r. ⌜ Unsaid r ⌝ }
     {
         let rule = Rule {
             base: 0,
@@ -44,21 +48,19 @@ impl PartSaid {
             covered: false,
             ruled: false,
             rule,
+            banded: [false; 64],
+            lows: [0u32; 64],
         }
     }
 }
 
-// Listed prices read, and where they end.
-pub struct Listed {
-    pub end: End,
-    pub prices: [u32; 64],
-}
-
-// A part's prices read: a rule where its lines stand, else those that are listed; and where they end.
+// A part's prices read: a rule where its lines stand, else those that are listed, with marks of the pairs and their low ends; and where they end.
 pub struct PriceLines {
     pub end: End,
     pub ruled: bool,
     pub rule: Rule,
+    pub banded: [bool; 64],
+    pub lows: [u32; 64],
     pub prices: [u32; 64],
 }
 
@@ -90,44 +92,6 @@ fn read_left(s: &[u8], life: u32) -> Field
     }
 }
 
-// One price.
-fn read_price(s: &[u8]) -> Field
-    ensures { λ r. ⌜ LineRead (row "price=" 1 dearest) (now (s .entry)) r ⌝ }
-{
-    read_field(s, b"price=", Part::MIN_PRICE, Part::MAX_PRICE)
-}
-
-// The listed prices of a part, n of them.
-fn read_prices(text: &[u8], p: Cursor, n: usize) -> Listed
-    requires { ⌜ Stands (now text) p × (n ≤ mostOpenings) ⌝ }
-    ensures { λ r. ⌜ Reads (now (text .entry)) (ended (r .end) (take n (r .prices))) (times n (row "price=" 1 dearest) (drop (p .at) (now (text .entry))) (p .line)) ⌝ }
-{
-    let mut prices = [0u32; 64];
-    let mut q = p;
-    let mut i: usize = 0;
-    while i < n {
-        let at = q.at;
-        let field = read_price(&text[at..]);
-        match advance(text, q, field) {
-            Row::Value(v, r) => {
-                prices[i] = v;
-                q = r;
-                i += 1;
-            }
-            Row::Fault { number: k, line: l } => {
-                return Listed {
-                    end: End::Fault { number: k, line: l },
-                    prices,
-                };
-            }
-        }
-    }
-    Listed {
-        end: End::At(q),
-        prices,
-    }
-}
-
 // How many prices are listed: one for each of n openings, and none where there is a rule.
 pub fn list_length(ruled: bool, n: usize) -> usize
     ensures { λ r. ⌜ r ≡ cond ruled 0 n ⌝ }
@@ -138,7 +102,7 @@ pub fn list_length(ruled: bool, n: usize) -> usize
 // A part's prices: a rule where its lines stand, else n listed ones.
 fn read_price_lines(text: &[u8], p: Cursor, n: usize) -> PriceLines
     requires { ⌜ Stands (now text) p × (n ≤ mostOpenings) ⌝ }
-    ensures { λ r. ⌜ Reads (now (text .entry)) (ended (r .end) (pricesSaid (r .ruled) (ruleOf (r .rule)) (take n (r .prices)))) (prices n (drop (p .at) (now (text .entry))) (p .line)) ⌝ }
+    ensures { λ r. ⌜ Reads (now (text .entry)) (ended (r .end) (pricesSaid (r .ruled) (ruleOf (r .rule)) (quotesOf (r .banded) (r .lows) (take n (r .prices))))) (prices n (drop (p .at) (now (text .entry))) (p .line)) ⌝ }
 {
     let lines = read_rule(text, p);
     let ruled = lines.there;
@@ -146,13 +110,17 @@ fn read_price_lines(text: &[u8], p: Cursor, n: usize) -> PriceLines
     let lines_end = lines.end;
     match lines_end {
         End::At(q) => {
-            let read = read_prices(text, q, list_length(ruled, n));
+            let read = read_quotes(text, q, list_length(ruled, n));
             let end = read.end;
-            let prices = read.prices;
+            let banded = read.banded;
+            let lows = read.lows;
+            let prices = read.highs;
             PriceLines {
                 end,
                 ruled,
                 rule,
+                banded,
+                lows,
                 prices,
             }
         }
@@ -160,6 +128,8 @@ fn read_price_lines(text: &[u8], p: Cursor, n: usize) -> PriceLines
             end: End::Fault { number: k, line: l },
             ruled,
             rule,
+            banded: [false; 64],
+            lows: [0u32; 64],
             prices: [0u32; 64],
         },
     }
@@ -167,7 +137,7 @@ fn read_price_lines(text: &[u8], p: Cursor, n: usize) -> PriceLines
 
 // What stands where no part is read: removal 0 and no holders, which no line says.
 pub fn blank_part() -> Part
-    ensures { λ r. ⌜ ((n : ℕ) → meantPart n (partLines blankSaid (partOf n r)) ≡ partOf n r) ⌝ }
+    ensures { λ r. ⌜ Bare r ⌝ }
 {
     Part {
         life: 0,
@@ -212,6 +182,8 @@ fn read_after_left(
             let end = read.end;
             let ruled = read.ruled;
             let rule = read.rule;
+            let banded = read.banded;
+            let lows = read.lows;
             let prices = read.prices;
             let covered = lines.there;
             let cover = lines.cover;
@@ -223,6 +195,8 @@ fn read_after_left(
                     covered,
                     ruled,
                     rule,
+                    banded,
+                    lows,
                 },
                 part: Part {
                     life,

@@ -1,4 +1,4 @@
--- How long a part's text is, whatever its numbers (`part-short`): fifteen holders and 64 prices, every number with ten digits. By the lengths of the lines.
+-- How long a part's text is, whatever its numbers (`part-short`): fifteen holders and 64 pairs, every number with ten digits. By the lengths of the lines.
 use Prim.Native.Nat.{ℕ, _+_, _*_, _≤_, _<_}
 use Prim.Native.String.{String}
 use mathlib.Core.Path.{_≡_, refl, ap}
@@ -10,6 +10,8 @@ use Rattle.lines.specs.Text.{bytes, lineOf, texts, Optional, missing, present, 
 use Rattle.lines.proofs.Writing.{line-most}
 use Rattle.jobs.specs.Valid.{All}
 use Rattle.covers.specs.Grammar.{Cover}
+use Rattle.quotes.specs.Grammar.{Quote, single, pair}
+use Rattle.quotes.specs.Rendering.{quoteText}
 use Rattle.price_rules.specs.Grammar.{Prices, byList, byRule}
 use Rattle.price_rules.specs.Rendering.{ruleText, pricesText}
 use Rattle.part_lines.specs.Grammar.{PartText}
@@ -44,14 +46,19 @@ cover-short (present c) = omega (arith, length-append (lineOf "removal=" (c .rem
 
 -- prices that are listed are no more than n
 abbrev pub FewListed : ℕ → Prices → Type 0
-FewListed n (byList ps) = length ps ≤ n
+FewListed n (byList qs) = length qs ≤ n
 FewListed n (byRule r) = Unit {0}
 
-prices-short : (p : Prices) → FewListed 64 p → length (pricesText p) ≤ 1088
+quote-short : (q : Quote) → length (quoteText q) ≤ 31
+unfolding quoteText bytes
+quote-short (single p) = omega (arith, short "price=" 6 p refl)
+quote-short (pair l h) = omega (arith, length-append (lineOf "low=" l) (lineOf "high=" h), short "low=" 4 l refl, short "high=" 5 h refl)
+
+prices-short : (p : Prices) → FewListed 64 p → length (pricesText p) ≤ 1984
 unfolding ruleText bytes
-prices-short (byList ps) few = omega (arith, few, lines-short "price=" 6 refl ps)
+prices-short (byList qs) few = omega (arith, few, texts-short (λ _. Unit {0}) quoteText 31 (λ q _. quote-short q) qs (all-any qs))
 prices-short (byRule r) few = simp length-append (omega (arith, short "base=" 5 (r .base) refl, short "drop=" 5 (r .drop) refl, short "least=" 6 (r .least) refl))
 
-pub part-short : (p : PartText) → FewListed 64 (p .prices) → length (partCut p) ≤ 1427
+pub part-short : (p : PartText) → FewListed 64 (p .prices) → length (partCut p) ≤ 2323
 unfolding partCut bytes
 part-short p few = simp length-append (omega (arith, short "life=" 5 (p .life) refl, short "left=" 5 (p .left) refl, cover-short (p .cover), prices-short (p .prices) few))

@@ -9,6 +9,8 @@ use lib.ListN.{length}
 use Rattle.lines.specs.Text.{lineOf, texts, optionalText}
 use Rattle.covers.specs.Grammar.{Cover}
 use Rattle.covers.specs.Views.{linesOf}
+use Rattle.quotes.specs.Grammar.{Quote}
+use Rattle.quotes.specs.Rendering.{quoteText}
 use Rattle.price_rules.specs.Rule.{Rule}
 use Rattle.price_rules.specs.Rendering.{ruleText, pricesText}
 use Rattle.part_lines.specs.Views.{pricesSaid}
@@ -35,10 +37,10 @@ cover-gone there c e = rw e refl
 
 -- ---- prices
 
-pub said-ruled : (ruled : Bool) (r : Rule) (ps : List ℕ) → ruled ≡ true → pricesText (pricesSaid ruled r ps) ≡ ruleText r
+pub said-ruled : (ruled : Bool) (r : Rule) (qs : List Quote) → ruled ≡ true → pricesText (pricesSaid ruled r qs) ≡ ruleText r
 unfolding pricesSaid
-said-ruled ruled r ps e = rw e refl
+said-ruled ruled r qs e = rw e refl
 
-pub said-listed : (ruled : Bool) (r : Rule) (ps : List ℕ) → ruled ≡ false → pricesText (pricesSaid ruled r ps) ≡ texts (lineOf "price=") ps
+pub said-listed : (ruled : Bool) (r : Rule) (qs : List Quote) → ruled ≡ false → pricesText (pricesSaid ruled r qs) ≡ texts quoteText qs
 unfolding pricesSaid
-said-listed ruled r ps e = rw e refl
+said-listed ruled r qs e = rw e refl

@@ -2,6 +2,7 @@
 use line_writing::write::put_line;
 use price_rules::Rule;
 use price_rules::put_rule;
+use quote_writing::put_quotes;
 ghost use mathlib.Core.Path.{_≡_};
 ghost use Prim.Native.Nat.{_+_, _≤_, _<_};
 ghost use lib.ListN.{length};
@@ -11,6 +12,7 @@ ghost use Rattle.covers.specs.Views.{linesOf};
 ghost use Rattle.price_rules.specs.Rendering.{pricesText};
 ghost use Rattle.price_rules.specs.Views.{ruleOf};
 ghost use Rattle.part_lines.specs.Views.{pricesSaid};
+ghost use Rattle.form_facts.specs.Facts.{quotesFrom, Marked};
 ghost use Rattle.part_writing.specs.Cut.{insideCut, coverCut, partCut};
 
 // Puts the line of a key and each value.
@@ -52,15 +54,24 @@ fn put_removal(out: &mut [u8], at: usize, there: bool, removal: u32, holders: &[
     put_inside(out, a, holders)
 }
 
-// Puts the lines of a part's prices: the rule's where there is one, else a line for each price.
-fn put_price_lines(out: &mut [u8], at: usize, ruled: bool, rule: Rule, prices: &[u32]) -> usize
-    requires { ⌜ at + length (pricesText (pricesSaid ruled (ruleOf rule) (now prices))) ≤ length (now out) ⌝ }
-    ensures { λ r. ⌜ Wrote (now (out .entry)) at (pricesText (pricesSaid ruled (ruleOf rule) (now (prices .entry)))) (now (out .exit)) r ⌝ }
+// Puts the lines of a part's prices: the rule's where there is one, else those of each price.
+fn put_price_lines(
+    out: &mut [u8],
+    at: usize,
+    ruled: bool,
+    rule: Rule,
+    banded: &[u32],
+    lows: &[u32],
+    prices: &[u32],
+) -> usize
+    requires { ⌜ Marked (now banded) (now lows) (now prices) ⌝ }
+    requires { ⌜ at + length (pricesText (pricesSaid ruled (ruleOf rule) (quotesFrom (now banded) (now lows) (now prices)))) ≤ length (now out) ⌝ }
+    ensures { λ r. ⌜ Wrote (now (out .entry)) at (pricesText (pricesSaid ruled (ruleOf rule) (quotesFrom (now (banded .entry)) (now (lows .entry)) (now (prices .entry))))) (now (out .exit)) r ⌝ }
 {
     if ruled {
         return put_rule(out, at, rule);
     }
-    put_values(out, at, b"price=", prices)
+    put_quotes(out, at, banded, lows, prices)
 }
 
 // Puts the lines of a part.
@@ -74,13 +85,16 @@ pub fn put_part(
     holders: &[u32],
     ruled: bool,
     rule: Rule,
+    banded: &[u32],
+    lows: &[u32],
     prices: &[u32],
 ) -> usize
-    requires { ⌜ (length (now holders) < 4294967296) × (at + length (partCut (record { life = life; left = left; cover = linesOf there (record { removal = removal; holders = now holders }); prices = pricesSaid ruled (ruleOf rule) (now prices) })) ≤ length (now out)) ⌝ }
-    ensures { λ r. ⌜ Wrote (now (out .entry)) at (partCut (record { life = life; left = left; cover = linesOf there (record { removal = removal; holders = now (holders .entry) }); prices = pricesSaid ruled (ruleOf rule) (now (prices .entry)) })) (now (out .exit)) r ⌝ }
+    requires { ⌜ (length (now holders) < 4294967296) × Marked (now banded) (now lows) (now prices) ⌝ }
+    requires { ⌜ at + length (partCut (record { life = life; left = left; cover = linesOf there (record { removal = removal; holders = now holders }); prices = pricesSaid ruled (ruleOf rule) (quotesFrom (now banded) (now lows) (now prices)) })) ≤ length (now out) ⌝ }
+    ensures { λ r. ⌜ Wrote (now (out .entry)) at (partCut (record { life = life; left = left; cover = linesOf there (record { removal = removal; holders = now (holders .entry) }); prices = pricesSaid ruled (ruleOf rule) (quotesFrom (now (banded .entry)) (now (lows .entry)) (now (prices .entry))) })) (now (out .exit)) r ⌝ }
 {
     let a = put_line(out, at, b"life=", life as u64);
     let b = put_line(out, a, b"left=", left as u64);
     let c = put_removal(out, b, there, removal, holders);
-    put_price_lines(out, c, ruled, rule, prices)
+    put_price_lines(out, c, ruled, rule, banded, lows, prices)
 }

@@ -12,6 +12,7 @@ use Rattle.model.specs.LowerBound.{leastOf, choiceOf, offers, blocks, stopCost,
 use Rattle.model.specs.Promise.{answerOf}
 use Rattle.model.specs.Verdict.{firstLate, verdictFrom, judgedOf}
 use Rattle.job_grammar.specs.Grammar as job
+use Rattle.quotes.specs.Grammar as quotes
 use Rattle.price_rules.specs.Grammar as price
 use Rattle.part_lines.specs.Grammar as own
 use Rattle.plan_grammar.specs.Grammar as plan
@@ -19,6 +20,7 @@ use Rattle.lines.specs.Chosen.{chosen}
 use Rattle.plan_grammar.specs.Rendering.{visitText, planText, visitsOf, planLinesOf}
 use Rattle.answers.specs.Said.{faultLines}
 use Rattle.judging.specs.Judge.{costLines, unkeptLines, judgeSaid}
+use Rattle.plan_printing.specs.Printed.{lowLines, printedLines}
 use Rattle.planning.specs.Plan.{searchLines, plannedLines, planSaid}
 use Rattle.latest.specs.Latest.{latestFrom, eachServed, latestAnswerOf}
 use Rattle.serving.specs.Serve.{servedLines, latestSaid}
@@ -30,8 +32,8 @@ use Rattle.jobs.specs.Valid.{All}
 use Rattle.starred.specs.Table.{Holds, Counts, cases, counts}
 
 pub proved : All Holds cases × All Counts counts
-unfolding cases counts bytes decimalIn line joined digits numberFrom startsWith readValue readLine _>>=_ return inRange readField taken rowAt optionalAt ifPresent checked chain times end whole readText beforeBreak afterBreak skipped faultLine faultSpan walk limited askFrom listed running clock within kept lastWithin dueOf places holdsOne rounds comesOut holding outBy select sumAt sum anyHeld heldFrom accessible leastOf choiceOf offers blocks stopCost undecidedFees boundOf answerOf firstLate verdictFrom judgedOf job.idle job.idleSteps job.idles job.opening job.openings cover.holder cover.holders cover.inside cover.cover meantCover price.afterBase price.rule price.unlessRuled price.prices own.afterLeft own.part job.parts job.body job.rest job.jobLines plan.any plan.part plan.parts plan.visit plan.visits plan.planOf plan.planLines plan.readPlan visitText planText chosen visitsOf planLinesOf faultLines searchLines plannedLines costLines unkeptLines judgeSaid planSaid eachReaches eachKept countFrom openCount countedJob countSaid eachServed latestAnswerOf latestFrom latestSaid servedLines
+unfolding cases counts bytes decimalIn line joined digits numberFrom startsWith readValue readLine _>>=_ return inRange readField taken rowAt optionalAt ifPresent checked chain times end whole readText beforeBreak afterBreak skipped faultLine faultSpan walk limited askFrom listed running clock within kept lastWithin dueOf places holdsOne rounds comesOut holding outBy select sumAt sum anyHeld heldFrom accessible leastOf choiceOf offers blocks stopCost undecidedFees boundOf answerOf firstLate verdictFrom judgedOf job.idle job.idleSteps job.idles job.opening job.openings cover.holder cover.holders cover.inside cover.cover meantCover price.afterBase price.rule price.unlessRuled price.prices quotes.unlessLow quotes.quote quotes.anyPair own.anyBanded own.afterLeft own.part job.parts job.body job.rest job.jobLines plan.any plan.part plan.parts plan.visit plan.visits plan.planOf plan.planLines plan.readPlan visitText planText chosen visitsOf planLinesOf faultLines searchLines lowLines printedLines plannedLines costLines unkeptLines judgeSaid planSaid eachReaches eachKept countFrom openCount countedJob countSaid eachServed latestAnswerOf latestFrom latestSaid servedLines
 proved = (
-  ((refl, refl, refl, refl, refl, refl), ((refl, refl, refl, refl, refl, refl), ((refl, refl, refl, refl, refl, refl), ((refl, refl, refl, refl, refl, refl), ((refl, refl, refl, refl, refl, refl), ((refl, refl, refl, refl, refl, refl), ((refl, refl, refl, refl, refl, refl), ((refl, refl, refl, refl, refl, refl), ((refl, refl, refl, refl, refl, refl), ((refl, refl, refl, refl, refl, refl), ((refl, refl, refl, refl, refl, refl), ((refl, refl, refl, refl, refl, refl), ((refl, refl, refl, refl, refl, refl), ((refl, refl, refl, refl, refl, refl), ((refl, refl, refl, refl, refl, refl), ((refl, refl, refl, refl, refl, refl), ((refl, refl, refl, refl, refl, refl), ((refl, refl, refl, refl, refl, refl), ((refl, refl, refl, refl, refl, refl), ((refl, refl, refl, refl, refl, refl), ((refl, refl, refl, refl, refl, refl), ((refl, refl, refl, refl, refl, refl), ((refl, refl, refl, refl, refl, refl), ((refl, refl, refl, refl, refl, refl), ((refl, refl, refl, refl, refl, refl), ((refl, refl, refl, refl, refl, refl), ((refl, refl, refl, refl, refl, refl), tt))))))))))))))))))))))))))),
+  ((refl, refl, refl, refl, refl, refl), ((refl, refl, refl, refl, refl, refl), ((refl, refl, refl, refl, refl, refl), ((refl, refl, refl, refl, refl, refl), ((refl, refl, refl, refl, refl, refl), ((refl, refl, refl, refl, refl, refl), ((refl, refl, refl, refl, refl, refl), ((refl, refl, refl, refl, refl, refl), ((refl, refl, refl, refl, refl, refl), ((refl, refl, refl, refl, refl, refl), ((refl, refl, refl, refl, refl, refl), ((refl, refl, refl, refl, refl, refl), ((refl, refl, refl, refl, refl, refl), ((refl, refl, refl, refl, refl, refl), ((refl, refl, refl, refl, refl, refl), ((refl, refl, refl, refl, refl, refl), ((refl, refl, refl, refl, refl, refl), ((refl, refl, refl, refl, refl, refl), ((refl, refl, refl, refl, refl, refl), ((refl, refl, refl, refl, refl, refl), ((refl, refl, refl, refl, refl, refl), ((refl, refl, refl, refl, refl, refl), ((refl, refl, refl, refl, refl, refl), ((refl, refl, refl, refl, refl, refl), ((refl, refl, refl, refl, refl, refl), ((refl, refl, refl, refl, refl, refl), ((refl, refl, refl, refl, refl, refl), ((refl, refl, refl, refl, refl, refl), ((refl, refl, refl, refl, refl, refl), tt))))))))))))))))))))))))))))),
   ((refl, refl, refl, refl, refl), ((refl, refl, refl, refl, refl), ((refl, refl, refl, refl, refl), ((refl, refl, refl, refl, refl), ((refl, refl, refl, refl, refl), ((refl, refl, refl, refl, refl), tt)))))),
 )

@@ -101,7 +101,7 @@ impl Job {
                 b"left" => job.parts.last_mut().expect("a part").left = value as i32,
                 b"removal" => job.parts.last_mut().expect("a part").removal = value as u32,
                 b"holder" => job.parts.last_mut().expect("a part").holders.push(value as usize - 1),
-                b"price" => job.parts.last_mut().expect("a part").prices.push(value as u32),
+                b"price" | b"high" => job.parts.last_mut().expect("a part").prices.push(value as u32),
                 b"base" => base = value,
                 b"drop" => drop = value,
                 b"least" => {

@@ -20,7 +20,12 @@ pub struct Part {
     pub holders: Vec<usize>,
     /// The rule that its prices were given by, where the lines `base`, `drop` and `least` stand.
     pub rule: Option<Rule>,
+    /// The high ends. "The planner's finished plan is the least-cost one at the high ends."
     pub prices: Vec<u64>,
+    /// The low ends. "A single price is a band with equal ends."
+    pub lows: Vec<u64>,
+    /// For each opening whether the price is a pair `low` and `high`.
+    pub pairs: Vec<bool>,
 }
 
 /// "In place of its `price` lines a part may have `base` 1..1000000, `drop` 0..1000000 and `least` 1..1000000."
@@ -150,6 +155,17 @@ impl Job {
     pub fn cost(&self, plan: &Plan) -> u64 {
         let removals = (0..self.openings.len()).map(|opening| self.removals(plan, opening));
         self.fees(&plan.stops) + self.prices(plan) + removals.sum::<u64>()
+    }
+
+    /// Whether "the job has a `low` line".
+    pub fn is_banded(&self) -> bool {
+        self.parts.iter().any(|part| part.pairs.contains(&true))
+    }
+
+    /// The same job with the low ends as its prices.
+    pub fn at_low_ends(&self) -> Job {
+        let low = |part: &Part| Part { prices: part.lows.clone(), ..part.clone() };
+        Job { parts: self.parts.iter().map(low).collect(), ..self.clone() }
     }
 
     /// The change set of least sum of these prices that keeps the part over the allowed openings, with that sum, or none.

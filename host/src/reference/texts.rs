@@ -1,13 +1,14 @@
 //! "The texts": the job's lines with its idle lines, the lines of parts that others hold and of prices by a rule, the plan's lines, and how
 //! a plan is printed.
 
-use super::lines::{Fault, Lines};
+use super::lines::{Fault, Lines, MAX_JOB, MAX_TEXT};
 use super::model::{Job, Opening, Part, Plan, Rule};
 
 /// "Job: `horizon` 2..365; `walk` 0..4000000000; `openings` 0..64; for each, `opening` 1..365 and `fee` 0..1000000; `parts` 1..16; for
 /// each, `life` 1..1000, `left` 1..1000, then one `price` 1..1000000 per opening." The optional lines stand where the requests put them.
+/// "A job text may now have 40,960 bytes".
 pub fn read_job(text: &[u8]) -> Result<Job, Fault> {
-    let mut lines = Lines::new(text)?;
+    let mut lines = Lines::new(text, MAX_JOB)?;
     let horizon = lines.value("horizon", 2, 365)? as i64;
     let idles = read_idles(&mut lines, horizon)?;
     // "A job's `walk` line, if it still stands, is checked as before and set aside."
@@ -43,11 +44,33 @@ fn read_part(lines: &mut Lines, own: usize, parts: usize, openings: u64) -> Resu
     let covered = lines.begins("removal=");
     let (removal, holders) = if covered { read_cover(lines, own, parts)? } else { (0, Vec::new()) };
     let rule = if lines.begins("base=") { Some(read_rule(lines)?) } else { None };
-    let prices = match &rule {
-        Some(rule) => rule.prices(openings),
-        None => (0..openings).map(|_| lines.value("price", 1, 1_000_000)).collect::<Result<Vec<u64>, Fault>>()?,
-    };
-    Ok(Part { life, left, covered, removal, holders, rule, prices })
+    let (mut prices, mut lows, mut pairs) = (Vec::new(), Vec::new(), Vec::new());
+    for k in 0..openings {
+        // "E8's rule gives single prices only".
+        let (low, high) = match &rule {
+            Some(rule) => (None, rule.price(k)),
+            None => read_price(lines)?,
+        };
+        prices.push(high);
+        lows.push(low.unwrap_or(high));
+        pairs.push(low.is_some());
+    }
+    Ok(Part { life, left, covered, removal, holders, rule, prices, lows, pairs })
+}
+
+/// "Each price may be a pair `low` and `high`, both 1..1000000". It is one exactly if the next line begins with `low=`. The low end where
+/// there is one, and the high end.
+fn read_price(lines: &mut Lines) -> Result<(Option<u64>, u64), Fault> {
+    if !lines.begins("low=") {
+        return Ok((None, lines.value("price", 1, 1_000_000)?));
+    }
+    let low = lines.value("low", 1, 1_000_000)?;
+    let high = lines.value("high", 1, 1_000_000)?;
+    // "13 for low above high, on the `high` line after 3".
+    if low > high {
+        return Err(lines.fault(13));
+    }
+    Ok((Some(low), high))
 }
 
 /// "In place of its `price` lines a part may have `base` 1..1000000, `drop` 0..1000000 and `least` 1..1000000." They are there exactly if
@@ -102,7 +125,7 @@ pub fn read_plan(job: &Job, text: &[u8]) -> Result<(Plan, u64), Fault> {
     if text.is_empty() {
         return Ok((plan, 0));
     }
-    let mut lines = Lines::new(text)?;
+    let mut lines = Lines::new(text, MAX_TEXT)?;
     let cost = lines.value("cost", 0, 4_000_000_000)?;
 
     let mut step_before = 0;
@@ -130,6 +153,13 @@ pub fn read_plan(job: &Job, text: &[u8]) -> Result<(Plan, u64), Fault> {
 
     lines.end()?;
     Ok((plan, cost))
+}
+
+/// The plan lines of a plan as the planner and the latest-time habit print them: "If the job has a `low` line [..], a `costlow` line stands
+/// before the plan lines; `costlow` and `cost` are the plan at all low and all high ends."
+pub fn printed_lines(job: &Job, plan: &Plan) -> String {
+    let low = if job.is_banded() { format!("costlow={}\n", job.at_low_ends().cost(plan)) } else { String::new() };
+    low + &plan_lines(job, plan)
 }
 
 /// The plan lines of a plan, with its cost.

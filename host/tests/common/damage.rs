@@ -28,8 +28,8 @@ const FOREIGN: &[&[u8]] = &[
     "\u{a0}".as_bytes(),
 ];
 
-/// The bytes that a text may have at most.
-const MOST_BYTES: usize = 32_768;
+/// The bytes that a plan text and a job text may have at most.
+const MOST_BYTES: [usize; 2] = [32_768, 40_960];
 
 /// The most nodes of a walk that a damaged job is planned with.
 const MOST_NODES: u64 = 400;
@@ -98,7 +98,7 @@ fn damage_bytes(rng: &mut Rng, mut text: Vec<u8>) -> Vec<u8> {
 /// The text with bytes behind it, up to the most bytes of a text or to one more.
 fn filled(rng: &mut Rng, mut text: Vec<u8>) -> Vec<u8> {
     let fill = rng.pick(&[b'\n', b'0', b' ', 0]);
-    text.resize(MOST_BYTES + rng.below(2) as usize, fill);
+    text.resize(rng.pick(&MOST_BYTES) + rng.below(2) as usize, fill);
     text
 }
 

@@ -9,15 +9,16 @@ use std::path::{Path, PathBuf};
 /// The lists of a form, in the job text's order.
 pub const LISTS: [&str; COUNT] = [
     "idles", "openings", "fees", "lives", "lefts", "covered", "removals", "insides", "holders", "ruled", "bases", "drops", "leasts",
-    "prices",
+    "banded", "lows", "prices",
 ];
 
 /// How many there are.
-pub const COUNT: usize = 14;
+pub const COUNT: usize = 16;
 
-/// The places of `covered` and of `ruled`.
+/// The places of `covered`, of `ruled` and of `banded`.
 const COVERED: usize = 5;
 const RULED: usize = 9;
+const BANDED: usize = 13;
 
 /// A call of the writer, with lists of its own.
 #[derive(Debug, Clone, Default)]
@@ -29,8 +30,27 @@ pub struct FormCall {
 
 /// The form of these lists.
 pub fn form(horizon: u32, lists: [&[u32]; COUNT]) -> Form<'_> {
-    let [idles, openings, fees, lives, lefts, covered, removals, insides, holders, ruled, bases, drops, leasts, prices] = lists;
-    Form { horizon, idles, openings, fees, lives, lefts, covered, removals, insides, holders, ruled, bases, drops, leasts, prices }
+    let [idles, openings, fees, lives, lefts, covered, removals, insides, holders, ruled, bases, drops, leasts, banded, lows, prices] =
+        lists;
+    Form {
+        horizon,
+        idles,
+        openings,
+        fees,
+        lives,
+        lefts,
+        covered,
+        removals,
+        insides,
+        holders,
+        ruled,
+        bases,
+        drops,
+        leasts,
+        banded,
+        lows,
+        prices,
+    }
 }
 
 impl FormCall {
@@ -43,6 +63,7 @@ impl FormCall {
         let numbers = |values: Vec<u64>| values.into_iter().map(|value| value as u32).collect();
         let covers = || facts.parts.iter().filter_map(|part| part.cover.as_ref());
         let rules = || facts.parts.iter().filter_map(|part| part.rule);
+        let listed = || facts.parts.iter().filter(|part| part.rule.is_none());
         let lists = [
             numbers(facts.idles.clone()),
             numbers(facts.openings.iter().map(|opening| opening.0).collect()),
@@ -57,7 +78,9 @@ impl FormCall {
             numbers(rules().map(|rule| rule.base).collect()),
             numbers(rules().map(|rule| rule.drop).collect()),
             numbers(rules().map(|rule| rule.least).collect()),
-            numbers(facts.parts.iter().filter(|part| part.rule.is_none()).flat_map(|part| part.prices.clone()).collect()),
+            numbers(listed().flat_map(|part| part.lows.iter().map(|low| u64::from(low.is_some()))).collect()),
+            numbers(listed().flat_map(|part| part.lows.iter().flatten().copied()).collect()),
+            numbers(listed().flat_map(|part| part.prices.clone()).collect()),
         ];
         FormCall { output, horizon: facts.horizon as u32, lists }
     }
@@ -75,6 +98,14 @@ impl FormCall {
         let parts = self.lists[3].len();
         self.lists[RULED..RULED + 4].iter_mut().for_each(Vec::clear);
         self.lists[RULED].resize(parts, 0);
+        self
+    }
+
+    /// The same form with single prices only.
+    pub fn without_bands(mut self) -> FormCall {
+        let prices = self.lists[COUNT - 1].len();
+        self.lists[BANDED..BANDED + 2].iter_mut().for_each(Vec::clear);
+        self.lists[BANDED].resize(prices, 0);
         self
     }
 
@@ -155,7 +186,7 @@ fn damage_covers(rng: &mut Rng, call: &mut FormCall) {
 /// A damage to what the lists say of rules.
 fn damage_rules(rng: &mut Rng, call: &mut FormCall) {
     let openings = call.lists[1].len();
-    let [.., ruled, bases, drops, leasts, prices] = &mut call.lists;
+    let [.., ruled, bases, drops, leasts, banded, lows, prices] = &mut call.lists;
     if ruled.is_empty() {
         return;
     }
@@ -176,6 +207,10 @@ fn damage_rules(rng: &mut Rng, call: &mut FormCall) {
             let from = ((part - before) * openings).min(prices.len());
             let to = if rng.once_in(4) { from } else { (from + openings).min(prices.len()) };
             prices.drain(from..to);
+            let bands = banded.get(from..to).map_or(0, |own| own.iter().filter(|stands| **stands == 1).count());
+            let first = banded.iter().take(from).filter(|stands| **stands == 1).count();
+            banded.drain(from.min(banded.len())..to.min(banded.len()));
+            lows.drain(first.min(lows.len())..(first + bands).min(lows.len()));
         }
         _ => {
             let list = [bases, drops, leasts].into_iter().nth(rng.below(3) as usize).expect("three lists");
@@ -187,12 +222,40 @@ fn damage_rules(rng: &mut Rng, call: &mut FormCall) {
     }
 }
 
+/// A damage to what the lists say of bands.
+fn damage_bands(rng: &mut Rng, call: &mut FormCall) {
+    let [.., banded, lows, prices] = &mut call.lists;
+    if banded.is_empty() {
+        return;
+    }
+    let at = rng.below(banded.len() as u64) as usize;
+    let before = banded[..at].iter().filter(|stands| **stands == 1).count();
+    match rng.below(6) {
+        // One band more or less, with the low ends as they were or with one of its own.
+        0 => banded[at] ^= 1,
+        1 => banded[at] = rng.pick(&[2, 3, u32::MAX]),
+        2 | 3 if banded[at] == 0 => {
+            banded[at] = 1;
+            let high = prices.get(at).copied().unwrap_or(1);
+            lows.insert(before.min(lows.len()), rng.pick(&[1, high, high.saturating_add(1), 0, 1_000_001]));
+        }
+        _ if before < lows.len() => {
+            let high = prices.get(at).copied().unwrap_or(1);
+            lows[before] = rng.pick(&[0, 1, high, high.saturating_add(1), 1_000_000, 1_000_001, u32::MAX]);
+        }
+        _ => {}
+    }
+}
+
 fn damage(rng: &mut Rng, call: &mut FormCall) {
     if inputs::holders_on() && rng.once_in(4) {
         return damage_covers(rng, call);
     }
     if inputs::rules_on() && rng.once_in(5) {
         return damage_rules(rng, call);
+    }
+    if inputs::bands_on() && rng.once_in(5) {
+        return damage_bands(rng, call);
     }
     let at = rng.below(LISTS.len() as u64) as usize;
     match rng.below(8) {
@@ -229,16 +292,17 @@ pub fn random(rng: &mut Rng) -> FormCall {
     };
     let facts = inputs::facts(rng, size);
     let output = match rng.below(12) {
-        0 => rng.pick(&[0, 1, 100, 16_384, 32_766, 32_767]),
-        1 => rng.within(32_769, 60_000) as usize,
-        _ => 32_768,
+        0 => rng.pick(&[0, 1, 100, 16_384, 32_768, 40_958, 40_959]),
+        1 => rng.within(40_961, 60_000) as usize,
+        _ => 40_960,
     };
     let call = if rng.once_in(3) { FormCall::of(&facts, output) } else { damaged(rng, &facts, output) };
     let call = if inputs::holders_on() { call } else { call.without_covers() };
-    if inputs::rules_on() {
+    let call = if inputs::rules_on() { call } else { call.without_rules() };
+    if inputs::bands_on() {
         call
     } else {
-        call.without_rules()
+        call.without_bands()
     }
 }
 
@@ -257,7 +321,8 @@ pub struct FormVector {
     pub reply: Reply,
 }
 
-/// A form that does not speak of removals and holders has none, and one that does not speak of rules has none.
+/// A form that does not speak of removals and holders has none, and one that does not speak of rules or of bands has none. It is then of
+/// before a job text could have 40,960 bytes, and an output that was long enough is made so long.
 fn vector(line: &str) -> FormVector {
     let field = |name: &str| super::vectors::field(line, name);
     let number = |name: &str| field(name).parse::<u32>().expect("a number");
@@ -271,8 +336,14 @@ fn vector(line: &str) -> FormVector {
             lists[stands] = vec![0; lists[3].len()];
         }
     }
+    let older = !line.contains(&format!(" {}=", LISTS[BANDED]));
+    if older {
+        lists[BANDED] = vec![0; lists[COUNT - 1].len()];
+    }
+    let output = number("out") as usize;
+    let output = if older && output >= 32_768 { output.max(40_960) } else { output };
     FormVector {
-        call: FormCall { output: number("out") as usize, horizon: number("horizon"), lists },
+        call: FormCall { output, horizon: number("horizon"), lists },
         reply: Reply {
             result: number("result"),
             text: number("text"),
@@ -308,7 +379,11 @@ fn without_walk(line: &str) -> Option<FormVector> {
 
 pub fn vectors() -> Vec<FormVector> {
     let folder = Path::new(env!("CARGO_MANIFEST_DIR")).join("vectors");
-    let kept = if inputs::holders_on() { &["write.txt", "write7.txt", "writewalk10.txt", "write10.txt"][..] } else { &["write.txt"] };
+    let kept = if inputs::holders_on() {
+        &["write.txt", "write7.txt", "writewalk10.txt", "write10.txt", "write11.txt"][..]
+    } else {
+        &["write.txt"]
+    };
     let files = match std::env::var("JUZVAROLA_FORMS") {
         Ok(file) => vec![file.into()],
         Err(_) => kept.iter().map(|file| folder.join(file)).collect::<Vec<PathBuf>>(),

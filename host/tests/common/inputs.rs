@@ -31,7 +31,10 @@ pub struct PartFacts {
     pub cover: Option<(u64, Vec<u64>)>,
     /// The rule that gives the prices, where its lines stand in their place.
     pub rule: Option<Rule>,
+    /// The prices, the high ends where they are bands.
     pub prices: Vec<u64>,
+    /// For each price its low end where it is a band.
+    pub lows: Vec<Option<u64>>,
 }
 
 impl Facts {
@@ -94,14 +97,23 @@ impl PartFacts {
     fn price_lines(&self) -> String {
         match self.rule {
             Some(Rule { base, drop, least }) => format!("base={base}\ndrop={drop}\nleast={least}\n"),
-            None => self.prices.iter().map(|price| format!("price={price}\n")).collect(),
+            None => self.prices.iter().zip(&self.lows).map(|(price, low)| price_line(*price, *low)).collect(),
         }
     }
 
-    /// The same part with its prices listed, the highest first.
+    /// The same part with its prices listed, single ones, the highest first.
     pub fn fall(&mut self) {
         self.rule = None;
+        self.lows = vec![None; self.prices.len()];
         self.prices.sort_by(|a, b| b.cmp(a));
+    }
+}
+
+/// The line of a price, or the two of a band.
+fn price_line(price: u64, low: Option<u64>) -> String {
+    match low {
+        Some(low) => format!("low={low}\nhigh={price}\n"),
+        None => format!("price={price}\n"),
     }
 }
 
@@ -259,6 +271,28 @@ fn give_rules(rng: &mut Rng, facts: &mut Facts) {
     }
 }
 
+/// Whether jobs have bands of prices: JUZVAROLA_BANDS=0 gives none.
+pub fn bands_on() -> bool {
+    setting("JUZVAROLA_BANDS", 1) != 0
+}
+
+/// Gives the prices of about a third of the jobs low ends, all of them or some: anywhere below, at the high end, at 1.
+fn give_bands(rng: &mut Rng, parts: &mut [PartFacts]) {
+    if !bands_on() || !rng.once_in(3) {
+        return;
+    }
+    let often = rng.pick(&[1, 2, 2, 10]);
+    for part in parts.iter_mut().filter(|part| part.rule.is_none()) {
+        for (price, low) in part.prices.iter().zip(&mut part.lows) {
+            let end = match rng.below(4) {
+                0 => rng.pick(&[1, *price]),
+                _ => rng.within(1, *price),
+            };
+            *low = rng.once_in(often).then_some(end);
+        }
+    }
+}
+
 /// A job without faults; most have a plan. Its walk number is the largest, and half of the texts have a walk line.
 pub fn facts(rng: &mut Rng, size: Size) -> Facts {
     let horizon = rng.within(2, size.horizon);
@@ -286,10 +320,11 @@ pub fn facts(rng: &mut Rng, size: Size) -> Facts {
             1 => life,
             _ => rng.within(gap.min(life), life),
         };
-        facts.parts.push(PartFacts { life, left, cover: None, rule: None, prices: amounts(rng, count, 1) });
+        facts.parts.push(PartFacts { life, left, cover: None, rule: None, prices: amounts(rng, count, 1), lows: vec![None; count] });
     }
     cover(rng, &mut facts.parts);
     give_rules(rng, &mut facts);
+    give_bands(rng, &mut facts.parts);
     facts
 }
 
@@ -317,7 +352,7 @@ fn with_walk(rng: &mut Rng, mut facts: Facts, most: u64, whole: bool) -> Facts {
 fn largest(rng: &mut Rng) -> Facts {
     let most = 1_000_000;
     let openings: Vec<(u64, u64)> = (1..=64).map(|step| (step, most)).collect();
-    let part = PartFacts { life: 1000, left: rng.within(60, 1000), cover: None, rule: None, prices: vec![most; 64] };
+    let part = PartFacts { life: 1000, left: rng.within(60, 1000), cover: None, rule: None, prices: vec![most; 64], lows: vec![None; 64] };
     let mut facts =
         Facts { horizon: rng.within(64, 70), idles: Vec::new(), walk: rng.within(0, 80), line: None, openings, parts: vec![part; 16] };
     if holders_on() {
@@ -438,7 +473,7 @@ const NO_VALUES: &[&str] = &[
 
 const KEYS: &[&str] = &[
     "horizon", "walk", "openings", "opening", "fee", "parts", "life", "left", "price", "cost", "stops", "stop", "count", "part", "", "Fee",
-    " fee", "fee ", "pric", "prices", "result", "removal", "inside", "holder", "base", "drop", "least", "idles", "idle",
+    " fee", "fee ", "pric", "prices", "result", "removal", "inside", "holder", "base", "drop", "least", "low", "high", "idles", "idle",
 ];
 
 /// How many of the keys at the end are for idle lines.
@@ -532,7 +567,7 @@ fn nudge(rng: &mut Rng, text: &mut Vec<u8>, equals: usize, stop: usize) {
 
 /// The text made long, to about the most bytes a text may have.
 fn lengthened(rng: &mut Rng, mut text: Vec<u8>) -> Vec<u8> {
-    let length = rng.pick(&[32_767, 32_768, 32_769, 32_770, 40_000, 65_536, 70_000]);
+    let length = rng.pick(&[32_767, 32_768, 32_769, 40_000, 40_959, 40_960, 40_961, 40_962, 65_536, 70_000]);
     let at = rng.pick(&bounds(&text)).0;
     let missing = length - text.len().min(length);
     let fill: Vec<u8> = match rng.below(4) {
@@ -666,6 +701,52 @@ fn with_damaged_rule(rng: &mut Rng, facts: &Facts) -> Vec<u8> {
     with_lines(&facts, own, &section, &lines)
 }
 
+/// A damage to the lines of a band.
+fn damage_band(rng: &mut Rng, lines: &mut Vec<String>) {
+    let at = rng.below(2) as usize;
+    let key = ["low", "high"][at];
+    match rng.below(9) {
+        // A low end above the high one, most often by little.
+        0 | 1 => exchange_values(lines),
+        2 => lines[at] = format!("{key}={}", rng.pick(&[0, 1, 1_000_000, 1_000_001, 4_294_967_296u64])),
+        3 => lines[0] = format!("low={}", rng.within(1, 1_000_000)),
+        // A line missing, doubled, exchanged with the other, or another one.
+        4 => drop(lines.remove(at)),
+        5 => lines.insert(at, lines[at].clone()),
+        6 => lines.swap(0, 1),
+        7 => lines.push(format!("price={}", rng.within(1, 9))),
+        _ => lines[at] = format!("price={}", rng.within(1, 9)),
+    }
+}
+
+/// The two lines of a band with each other's value.
+fn exchange_values(lines: &mut [String]) {
+    let value = |line: &str| line.split('=').nth(1).unwrap_or("").to_string();
+    let (low, high) = (value(&lines[0]), value(&lines[1]));
+    (lines[0], lines[1]) = (format!("low={high}"), format!("high={low}"));
+}
+
+/// The job's text with a damage to the lines of one band.
+fn with_damaged_band(rng: &mut Rng, facts: &Facts) -> Vec<u8> {
+    let mut facts = facts.clone();
+    let own = rng.below(facts.parts.len() as u64) as usize;
+    let part = &mut facts.parts[own];
+    if part.prices.is_empty() {
+        return damaged(rng, facts.text());
+    }
+    part.rule = None;
+    let at = rng.below(part.prices.len() as u64) as usize;
+    part.lows[at].get_or_insert((part.prices[at] / 2).max(1));
+    let section = part.price_lines();
+    let own_lines = price_line(part.prices[at], part.lows[at]);
+    let mut lines: Vec<String> = own_lines.lines().map(str::to_string).collect();
+    damage_band(rng, &mut lines);
+    let before: String = part.prices.iter().zip(&part.lows).take(at).map(|(price, low)| price_line(*price, *low)).collect();
+    let behind = section[before.len() + own_lines.len()..].lines().map(str::to_string);
+    let lines: Vec<String> = before.lines().map(str::to_string).chain(lines).chain(behind).collect();
+    with_lines(&facts, own, &section, &lines)
+}
+
 /// The job's text with other lines in place of a part's own ones.
 fn with_lines(facts: &Facts, part: usize, section: &str, lines: &[String]) -> Vec<u8> {
     let text = String::from_utf8(facts.text()).expect("ASCII");
@@ -676,7 +757,8 @@ fn with_lines(facts: &Facts, part: usize, section: &str, lines: &[String]) -> Ve
     [&text[..at], &lines, &text[at + section.len()..]].concat().into_bytes()
 }
 
-/// The job's text, damaged: in its idle lines once in three, in a part's removal and holders once in six, in its rule once in ten.
+/// The job's text, damaged: in its idle lines once in three, in a part's removal and holders once in six, in its rule or a band once in
+/// ten.
 pub fn damaged_job(rng: &mut Rng, facts: &Facts) -> Vec<u8> {
     if idles_on() && rng.once_in(3) {
         with_damaged_idles(rng, facts)
@@ -684,6 +766,8 @@ pub fn damaged_job(rng: &mut Rng, facts: &Facts) -> Vec<u8> {
         with_damaged_cover(rng, facts)
     } else if rules_on() && rng.once_in(5) {
         with_damaged_rule(rng, facts)
+    } else if bands_on() && rng.once_in(4) {
+        with_damaged_band(rng, facts)
     } else {
         damaged(rng, facts.text())
     }

@@ -114,6 +114,11 @@ fn wants_walk(job: &[u8], result: u32, fault: &[u8]) -> bool {
     result == 2 && fault.starts_with(b"openings=") && !job.split(|byte| *byte == b'\n').any(|line| line.starts_with(b"walk="))
 }
 
+/// Whether a call of before a job text could have 40,960 bytes was refused for its length, and is not any more.
+fn was_too_long(job: &[u8], result: u32, text: u32) -> bool {
+    result == 1 && text == 1 && job.len() <= 40_960
+}
+
 /// The vectors of the planner and the judge: of every file in `vectors/` that ends in `.txt`, other calls' aside. Without
 /// holders only those that they leave alone.
 pub fn all() -> Vec<Vector> {
@@ -123,6 +128,7 @@ pub fn all() -> Vec<Vector> {
     };
     let read = |file: PathBuf| std::fs::read_to_string(file).expect("a file").lines().map(vector).collect::<Vec<_>>();
     let all = files.into_iter().flat_map(read).filter(|vector| !wants_walk(&vector.call.job, vector.result, &vector.fault));
+    let all = all.filter(|vector| !was_too_long(&vector.call.job, vector.result, vector.text()));
     all.filter(|vector| inputs::holders_on() || !vector.call.is_of_holders()).collect()
 }
 
@@ -139,12 +145,16 @@ fn kept() -> Vec<PathBuf> {
     files
 }
 
-/// The vectors of the latest-time habit: `vectors/latest9.txt`. Without holders only those that they leave alone.
+/// The vectors of the latest-time habit: `vectors/latest9.txt` and `vectors/latest11.txt`. Without holders only those that they leave alone.
 pub fn latest() -> Vec<Vector> {
-    let kept = Path::new(env!("CARGO_MANIFEST_DIR")).join("vectors/latest9.txt");
-    let file = std::env::var("JUZVAROLA_LATEST_VECTORS").map_or(kept, PathBuf::from);
-    let vectors = std::fs::read_to_string(file).expect("a file").lines().map(vector).collect::<Vec<_>>();
-    vectors.into_iter().filter(|vector| inputs::holders_on() || !vector.call.is_of_holders()).collect()
+    let folder = Path::new(env!("CARGO_MANIFEST_DIR")).join("vectors");
+    let files = match std::env::var("JUZVAROLA_LATEST_VECTORS") {
+        Ok(file) => vec![file.into()],
+        Err(_) => ["latest9.txt", "latest11.txt"].map(|file| folder.join(file)).to_vec(),
+    };
+    let read = |file: PathBuf| std::fs::read_to_string(file).expect("a file").lines().map(vector).collect::<Vec<_>>();
+    let vectors = files.into_iter().flat_map(read).filter(|vector| !was_too_long(&vector.call.job, vector.result, vector.text()));
+    vectors.filter(|vector| inputs::holders_on() || !vector.call.is_of_holders()).collect()
 }
 
 /// A vector of the count: a job, what it answers, and the line at fault.
@@ -171,5 +181,9 @@ pub fn counts() -> Vec<CountVector> {
         CountVector { job: hex(field(line, "job")), result, text, line: at, count, fault: hex(field(line, "fault")) }
     };
     let read = |file: PathBuf| std::fs::read_to_string(file).expect("a file").lines().map(vector).collect::<Vec<_>>();
-    files.into_iter().flat_map(read).filter(|vector| !wants_walk(&vector.job, vector.result, &vector.fault)).collect()
+    files
+        .into_iter()
+        .flat_map(read)
+        .filter(|vector| !wants_walk(&vector.job, vector.result, &vector.fault) && !was_too_long(&vector.job, vector.result, vector.text))
+        .collect()
 }

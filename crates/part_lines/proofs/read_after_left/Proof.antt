@@ -5,6 +5,7 @@ use lib.ListN.{take}
 use Rattle.lines.specs.Cursor.{Stands}
 use Rattle.lines.proofs.Parsing.{bind-good, bind-fault, end-value, end-fault, end-place, map-read, fault-read}
 use Rattle.covers.specs.Views.{coverOf, linesOf, meantCover}
+use Rattle.quotes.specs.Views.{quotesOf}
 use Rattle.price_rules.specs.Grammar.{Prices, prices}
 use Rattle.price_rules.specs.Views.{ruleOf}
 use Rattle.part_lines.specs.Grammar.{PartText, afterLeft}
@@ -30,8 +31,8 @@ no-part-requires c κs = search needs
 returns : tie.Need-returns
 unfolding afterLeft
 returns c =
-    let said = c .before .before .before .before .read-price-lines in
-    let d = c .before .before .before .before .before .before in
+    let said = c .before .before .before .before .before .before .read-price-lines in
+    let d = c .before .before .before .before .before .before .before .before in
     let a = d .before .before .before .before .args in
     let r = d .before .before .read-cover in
     let lines = linesOf (r .result .there) (coverOf (r .result .cover)) in
@@ -39,8 +40,10 @@ returns c =
     let ps = take (a .n) (said .result .prices) in
     let b = said .result .ruled in
     let r₁ = ruleOf (said .result .rule) in
-    let f = meant-said b r₁ (a .n) ps in
-    let told = map-read make (prices (a .n)) (said .result .end) (pricesSaid b r₁ ps) (said .ensures) in
+    let bs = said .result .banded in
+    let ls = said .result .lows in
+    let f = meant-said b r₁ (a .n) bs ls ps in
+    let told = map-read make (prices (a .n)) (said .result .end) (pricesSaid b r₁ (quotesOf bs ls ps)) (said .ensures) in
     let same : meantCover lines ≡ coverOf (r .result .cover) = r .ensures .means (d .lines-end .given .0 .0) (d .lines-end .given .1) in
     record {
       reads = record {

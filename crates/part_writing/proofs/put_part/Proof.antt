@@ -8,30 +8,31 @@ use Rattle.covers.specs.Views.{linesOf}
 use Rattle.price_rules.specs.Rendering.{pricesText}
 use Rattle.price_rules.specs.Views.{ruleOf}
 use Rattle.part_lines.specs.Views.{pricesSaid}
+use Rattle.form_facts.specs.Facts.{quotesFrom}
 use Rattle.part_writing.specs.Cut.{coverCut, partCut}
 use borrow.Author.Needs.{needs}
 use Rattle.part_writing.proofs.put_part.Statement.{statement}
 use Rattle.part_writing.proofs.put_part.Tie as tie
 
 room : (s : tie.Start) → let a = s .args in
-    a .at + (length (lineOf "life=" (a .life)) + length (lineOf "left=" (a .left)) + length (optionalText coverCut (linesOf (a .there) (record { removal = a .removal; holders = a .holders .now }))) + length (pricesText (pricesSaid (a .ruled) (ruleOf (a .rule)) (a .prices .now)))) ≤ length (a .out .now)
+    a .at + (length (lineOf "life=" (a .life)) + length (lineOf "left=" (a .left)) + length (optionalText coverCut (linesOf (a .there) (record { removal = a .removal; holders = a .holders .now }))) + length (pricesText (pricesSaid (a .ruled) (ruleOf (a .rule)) (quotesFrom (a .banded .now) (a .lows .now) (a .prices .now))))) ≤ length (a .out .now)
 unfolding partCut
 room s = omega (arith, simp length-append at (s .pre .1))
 
 put-line-requires : tie.Need-put-line-requires
 unfolding bytes
-put-line-requires c κs = (omega arith, omega (arith, room (c .before .before .before .before .before)))
+put-line-requires c κs = (omega arith, omega (arith, room (c .before .before .before .before .before .before .before)))
 
 put-line-requires-2 : tie.Need-put-line-requires-2
 unfolding bytes
-put-line-requires-2 c κs = let w = c .before .before .before .before .put-line .ensures in (omega arith, omega (arith, room (c .before .before .before .before .before .before .before .before .before .before), w .next, kept w))
+put-line-requires-2 c κs = let w = c .before .before .before .before .put-line .ensures in (omega arith, omega (arith, room (c .before .before .before .before .before .before .before .before .before .before .before .before), w .next, kept w))
 
 put-removal-requires : tie.Need-put-removal-requires
 unfolding bytes
 put-removal-requires c κs =
     let v = c .before .before .before .before .before .before .before .before .put-line .ensures in
     let w = c .before .before .before .put-line2 .ensures in
-    (c .before .before .before .before .before .before .before .before .before .before .before .before .before .before .pre .0, omega (arith, room (c .before .before .before .before .before .before .before .before .before .before .before .before .before .before), v .next, kept v, w .next, kept w))
+    (c .before .before .before .before .before .before .before .before .before .before .before .before .before .before .before .before .pre .0 .0, omega (arith, room (c .before .before .before .before .before .before .before .before .before .before .before .before .before .before .before .before), v .next, kept v, w .next, kept w))
 
 put-price-lines-requires : tie.Need-put-price-lines-requires
 unfolding bytes
@@ -39,7 +40,8 @@ put-price-lines-requires c κs =
     let v = c .before .before .before .before .before .before .before .before .before .before .before .before .put-line .ensures in
     let w = c .before .before .before .before .before .before .before .put-line2 .ensures in
     let x = c .before .before .before .put-removal .ensures in
-    omega (arith, room (c .before .before .before .before .before .before .before .before .before .before .before .before .before .before .before .before .before .before), v .next, kept v, w .next, kept w, x .next, kept x)
+    let s = c .before .before .before .before .before .before .before .before .before .before .before .before .before .before .before .before .before .before .before .before in
+    (s .pre .0 .1, omega (arith, room (c .before .before .before .before .before .before .before .before .before .before .before .before .before .before .before .before .before .before .before .before), v .next, kept v, w .next, kept w, x .next, kept x))
 
 returns : tie.Need-returns
 unfolding partCut bytes

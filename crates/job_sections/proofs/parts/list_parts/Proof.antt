@@ -39,7 +39,7 @@ unfolding parts partsLines
 loop-holds c =
     let s = c .before .before .before in
     let blank = c .before .blank-part in
-    (omega arith, refl, refl, s .pre .0, blanks-mean (s .args .n) (c .nothing .result) (blank .result) (c .nothing .ensures) (blank .ensures (s .args .n)), chain-start _ _ _ _ _ _)
+    (omega arith, refl, refl, s .pre .0, blanks-mean (s .args .n) (c .nothing .result) (blank .result) (c .nothing .ensures) (blank .ensures), chain-start _ _ _ _ _ _)
 
 cast-read-part : tie.Need-cast-read-part Inv-loop μ-loop
 cast-read-part c = omega (arith, c .before .before .before .before .before .pre .1 .0)

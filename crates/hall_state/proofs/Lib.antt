@@ -1,0 +1,4 @@
+pub mod Courses
+pub mod Left
+pub mod Moves
+pub mod Spots

@@ -1,0 +1,3 @@
+pub mod Courses
+pub mod Spots
+pub mod Moves
