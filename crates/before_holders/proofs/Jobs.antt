@@ -1,4 +1,4 @@
--- Job texts: what the grammar before E7 read is the text that says the same today, in which the walk line stands and no part has lines of removal, a rule or a pair, and it read all such texts (`lines-exact`). So a text that was accepted is accepted still and means the same (`job-before`), and those that were are exactly the accepted ones with the walk line and without lines of removal, a rule or a pair, up to the length of then (`accepted-before`).
+-- Job texts: what the grammar before E7 read is the text that says the same today, in which the walk line stands and no part has lines of removal, a rule, a pair or a left of 0, and it read all such texts (`lines-exact`). So a text that was accepted is accepted still and means the same (`job-before`), and those that were are exactly the accepted ones with the walk line and without lines of removal, a rule, a pair or a left of 0, up to the length of then (`accepted-before`).
 use Prim.Native.Nat.{ℕ, suc, _≤_}
 use mathlib.Core.Path.{_≡_, refl, sym, ap, ap₂, _∙_, subst}
 use mathlib.Core.List.{List, [], _∷_, _++_, map, append-assoc, append-nil}
@@ -87,6 +87,10 @@ means-same t =
     plain [] = refl
     plain (p ∷ ps) = ap₂ _||_ (no-pair (p .prices)) (plain ps)
 
+-- something is left of each part's life
+abbrev Lefts : List before.PartText → Type 0
+Lefts ps = All (λ (p : before.PartText). 1 ≤ p .left) ps
+
 -- what a part's lines say without those of removal, as it was said
 abbrev toldPart : PartText → before.PartText
 toldPart p = record { life = p .life; left = p .left; prices = meantPrices 0 (p .prices) }
@@ -107,9 +111,13 @@ today-told t bare = let e = go (t .parts) (bare .parts) in λ i. record { horizo
         let r = go ps (b .1) in
         λ i. record { life = p .life; left = p .left; cover = sym c i; prices = e i } ∷ r i
 
-today-bare : (ps : List before.PartText) → All BarePart (map uncovered ps)
-today-bare [] = tt
-today-bare (p ∷ ps) = (record { cover = refl; prices = p .prices; listed = refl }, today-bare ps)
+today-bare : (ps : List before.PartText) → Lefts ps → All BarePart (map uncovered ps)
+today-bare [] l = tt
+today-bare (p ∷ ps) l = (record { left = l .0; cover = refl; prices = p .prices; listed = refl }, today-bare ps (l .1))
+
+told-left : (ps : List PartText) → All BarePart ps → Lefts (map toldPart ps)
+told-left [] b = tt
+told-left (p ∷ ps) b = (b .0 .left, told-left ps (b .1))
 
 -- ---- parts
 
@@ -142,21 +150,27 @@ module _ (n : ℕ) where
       (λ r p k. sym (ap (λ (q : before.PartText). q .left) (k .1))) (λ p s. tt))
       (λ l p k. sym (ap (λ (q : before.PartText). q .life) (k .1 .1))) (λ p s. tt)
 
-  part-exact : Exact Any (before.part n) (λ p. ValidPart n (meantPart n (uncovered p))) (λ p. partText (uncovered p))
+  -- what is known of an accepted part
+  abbrev WasPart : before.PartText → Type 0
+  WasPart p = ValidPart n (meantPart n (uncovered p)) × (1 ≤ p .left)
+
+  part-exact : Exact Any (before.part n) WasPart (λ p. partText (uncovered p))
   unfolding partText meantCover
   part-exact =
-      exact-as AnyPart (λ p. ValidPart n (meantPart n (uncovered p))) _ _ part-read
-      (λ p k. record {
-        life-low = k .0 .0;
-        life-high = k .0 .1;
-        left-low = k .1 .0 .0 .0;
-        left-high = leb-true (p .left) (p .life) (k .1 .0 .1);
-        removal = omega arith;
-        few-holders = omega arith;
-        priced = ap length (highs (p .prices)) ∙ k .1 .1 .0 .0;
-        prices = subst (All ValidPrice) (sym (highs (p .prices))) (chained-each ValidPrice 0 (p .prices) (k .1 .1 .0 .1));
-      })
-      (λ p v. ((v .life-low, v .life-high), (((v .left-low, omega (arith, v .left-high, v .life-high)), upTo-yes (p .life) (p .left) (v .left-high)), ((sym (ap length (highs (p .prices))) ∙ v .priced, each-chained ValidPrice 0 (p .prices) (subst (All ValidPrice) (highs (p .prices)) (v .prices))), refl))))
+      exact-as AnyPart WasPart _ _ part-read
+      (λ p k. (
+        record {
+          life-low = k .0 .0;
+          life-high = k .0 .1;
+          left-high = leb-true (p .left) (p .life) (k .1 .0 .1);
+          removal = omega arith;
+          few-holders = omega arith;
+          priced = ap length (highs (p .prices)) ∙ k .1 .1 .0 .0;
+          prices = subst (All ValidPrice) (sym (highs (p .prices))) (chained-each ValidPrice 0 (p .prices) (k .1 .1 .0 .1));
+        },
+        k .1 .0 .0 .0,
+      ))
+      (λ p w. let v = w .0 in ((v .life-low, v .life-high), (((w .1, omega (arith, v .left-high, v .life-high)), upTo-yes (p .life) (p .left) (v .left-high)), ((sym (ap length (highs (p .prices))) ∙ v .priced, each-chained ValidPrice 0 (p .prices) (subst (All ValidPrice) (highs (p .prices)) (v .prices))), refl))))
       (λ p. simp (append-assoc, append-nil, singles-text))
 
 -- ---- the whole
@@ -171,7 +185,7 @@ openings-exact h n =
 -- what is known where the lines up to the number of parts are read, up to the openings, their number, the walk number, the idle steps, the horizon, and of any text
 module _ (h : ℕ) (is : Optional (List ℕ)) (w n : ℕ) where
   abbrev PartsIn : List Opening → ℕ → before.JobText → Type 0
-  PartsIn os m t = ((length (t .parts) ≡ m) × All (λ (p : before.PartText). ValidPart n (meantPart n (uncovered p))) (t .parts)) × (_≡_ {A = before.JobText} (record { horizon = h; idles = is; walk = w; openings = os; parts = t .parts }) t)
+  PartsIn os m t = ((length (t .parts) ≡ m) × All (WasPart n) (t .parts)) × (_≡_ {A = before.JobText} (record { horizon = h; idles = is; walk = w; openings = os; parts = t .parts }) t)
 
   abbrev CountedIn : List Opening → before.JobText → Type 0
   CountedIn os t = ((1 ≤ length (t .parts)) × (length (t .parts) ≤ 16)) × PartsIn os (length (t .parts)) t
@@ -183,11 +197,11 @@ module _ (h : ℕ) (is : Optional (List ℕ)) (w n : ℕ) where
   abbrev partsText : before.JobText → List ℕ
   partsText t = texts openingText (t .openings) ++ (lineOf "parts=" (length (t .parts)) ++ (texts (λ (p : before.PartText). partText (uncovered p)) (t .parts) ++ []))
 
-  parts-exact : (m : ℕ) → Exact Any (times m (before.part n)) (λ ps. (length ps ≡ m) × All (λ (p : before.PartText). ValidPart n (meantPart n (uncovered p))) ps) (texts (λ (p : before.PartText). partText (uncovered p)))
+  parts-exact : (m : ℕ) → Exact Any (times m (before.part n)) (λ ps. (length ps ≡ m) × All (WasPart n) ps) (texts (λ (p : before.PartText). partText (uncovered p)))
   unfolding times
   parts-exact m =
-      exact-as _ (λ ps. (length ps ≡ m) × All (λ (p : before.PartText). ValidPart n (meantPart n (uncovered p))) ps) _ _
-      (chain-exact (λ (k : ℕ). before.part n) (λ (k : ℕ) (p : before.PartText). 0) (λ (k : ℕ) (p : before.PartText). ValidPart n (meantPart n (uncovered p))) _ (λ k. part-exact n) m 0)
+      exact-as _ (λ ps. (length ps ≡ m) × All (WasPart n) ps) _ _
+      (chain-exact (λ (k : ℕ). before.part n) (λ (k : ℕ) (p : before.PartText). 0) (λ (k : ℕ). WasPart n) _ (λ k. part-exact n) m 0)
       (λ ps k. (k .0, chained-each _ 0 ps (k .1))) (λ ps k. (k .0, each-chained _ 0 ps (k .1))) (λ ps. refl)
 
   body-read : Exact Any (before.body h is w n) OpeningsIn partsText
@@ -245,19 +259,23 @@ lines-read =
 
 -- ---- what is known of it, and its text, as today
 
-parts-today : (n : ℕ) (ps : List before.PartText) → All (λ (p : before.PartText). ValidPart n (meantPart n (uncovered p))) ps → All (ValidPart n) (map (meantPart n) (map uncovered ps))
+parts-today : (n : ℕ) (ps : List before.PartText) → All (WasPart n) ps → All (ValidPart n) (map (meantPart n) (map uncovered ps))
 parts-today n [] v = tt
-parts-today n (p ∷ ps) v = (v .0, parts-today n ps (v .1))
+parts-today n (p ∷ ps) v = (v .0 .0, parts-today n ps (v .1))
 
-parts-then : (n : ℕ) (ps : List before.PartText) → All (ValidPart n) (map (meantPart n) (map uncovered ps)) → All (λ (p : before.PartText). ValidPart n (meantPart n (uncovered p))) ps
-parts-then n [] v = tt
-parts-then n (p ∷ ps) v = (v .0, parts-then n ps (v .1))
+parts-then : (n : ℕ) (ps : List before.PartText) → All (ValidPart n) (map (meantPart n) (map uncovered ps)) → Lefts ps → All (WasPart n) ps
+parts-then n [] v l = tt
+parts-then n (p ∷ ps) v l = ((v .0, l .0), parts-then n ps (v .1) (l .1))
 
-parts-spelt : (n : ℕ) (ps : List before.PartText) → All (λ (p : before.PartText). ValidPart n (meantPart n (uncovered p))) ps → All (Spelt n) (map uncovered ps)
+parts-left : (n : ℕ) (ps : List before.PartText) → All (WasPart n) ps → Lefts ps
+parts-left n [] v = tt
+parts-left n (p ∷ ps) v = (v .0 .1, parts-left n ps (v .1))
+
+parts-spelt : (n : ℕ) (ps : List before.PartText) → All (WasPart n) ps → All (Spelt n) (map uncovered ps)
 parts-spelt n [] v = tt
 parts-spelt n (p ∷ ps) v =
     let e = highs (p .prices) in
-    ((length-map (p .prices) single ∙ sym (ap length e) ∙ v .0 .priced, singles-valid (p .prices) (subst (All ValidPrice) e (v .0 .prices))), parts-spelt n ps (v .1))
+    ((length-map (p .prices) single ∙ sym (ap length e) ∙ v .0 .0 .priced, singles-valid (p .prices) (subst (All ValidPrice) e (v .0 .0 .prices))), parts-spelt n ps (v .1))
 
 none-held : (n m k : ℕ) (ps : List before.PartText) → HeldFrom m k (map (meantPart n) (map uncovered ps))
 unfolding meantCover
@@ -267,8 +285,13 @@ none-held n m k (p ∷ ps) = (tt, none-held n m (suc k) ps)
 count-same : (n : ℕ) (ps : List before.PartText) → length (map (meantPart n) (map uncovered ps)) ≡ length ps
 count-same n ps = length-map (map uncovered ps) (meantPart n) ∙ length-map ps uncovered
 
-known-valid : (t : before.JobText) → Known t → ValidText (today t)
-known-valid t k =
+-- what is known of one that was accepted, in today's terms
+pub record Held (t : before.JobText) : Type 0 where
+  pub valid : ValidText (today t)
+  pub lefts : Lefts (t .parts)
+
+text-valid : (t : before.JobText) → Known t → ValidText (today t)
+text-valid t k =
     let count = count-same (length (t .openings)) (t .parts) in
     let lines = parts-spelt (length (t .openings)) (t .parts) (k .1 .1 .1 .1 .1 .1 .0 .1) in
     record {
@@ -290,12 +313,16 @@ known-valid t k =
       lines = lines;
     }
 
-valid-known : (t : before.JobText) → ValidText (today t) → Known t
-valid-known t v =
+known-valid : (t : before.JobText) → Known t → Held t
+known-valid t k = record { valid = text-valid t k; lefts = parts-left (length (t .openings)) (t .parts) (k .1 .1 .1 .1 .1 .1 .0 .1) }
+
+valid-known : (t : before.JobText) → Held t → Known t
+valid-known t held =
+    let v = held .valid in
     let j = v .means .job in
     let n = length (t .openings) in
     let count = count-same (length (t .openings)) (t .parts) in
-    let parts : PartsIn (t .horizon) (t .idles) (t .walk) n (t .openings) (length (t .parts)) t = ((refl, parts-then n (t .parts) (j .parts)), refl) in
+    let parts : PartsIn (t .horizon) (t .idles) (t .walk) n (t .openings) (length (t .parts)) t = ((refl, parts-then n (t .parts) (j .parts) (held .lefts)), refl) in
     let opened : OpeningsIn (t .horizon) (t .idles) (t .walk) n t = ((refl, (j .openings, j .rising)), ((omega (arith, count, j .some-part), omega (arith, count, j .few-parts)), parts)) in
     ((j .horizon-low, j .horizon-high), ((j .few-idles, j .idles, v .idles), ((omega arith, v .walk), ((omega arith, j .few-openings), opened))))
 
@@ -307,24 +334,28 @@ text-same : (t : before.JobText) → lineOf "horizon=" (t .horizon) ++ (optional
 unfolding jobText bodyText
 text-same t = simp (append-assoc, append-nil, length-map, texts-map)
 
-pub lines-exact : Exact Any before.jobLines (λ t. ValidText (today t)) (λ t. jobText (today t))
-lines-exact = exact-as Known (λ t. ValidText (today t)) _ _ lines-read known-valid valid-known text-same
+pub lines-exact : Exact Any before.jobLines Held (λ t. jobText (today t))
+lines-exact = exact-as Known Held _ _ lines-read known-valid valid-known text-same
 
 -- ---- the text
+
+was-held : (s : List ℕ) (t : before.JobText) → before.readJobText s ≡ accepted t → Held t
+was-held s t e = let a = accepted-is before.maxBytes before.jobLines s t e in lines-exact .tells s [] 1 (a .last) t (a .lines) .known
 
 -- one that was accepted is accepted still, and says the same
 pub text-before : (s : List ℕ) (t : before.JobText) → before.readJobText s ≡ accepted t → readJobText s ≡ accepted (today t)
 text-before s t e =
     let a = accepted-is before.maxBytes before.jobLines s t e in
     let k = lines-exact .tells s [] 1 (a .last) t (a .lines) in
-    ap readJobText (k .text ∙ append-nil (jobText (today t))) ∙ read-back (today t) (k .known)
+    ap readJobText (k .text ∙ append-nil (jobText (today t))) ∙ read-back (today t) (k .known .valid)
 
--- one that is accepted and has no lines of removal, no rule and no pair was accepted, if it is not too long
+-- one that is accepted and has no lines of removal, no rule, no pair and no left of 0 was accepted, if it is not too long
 pub was-accepted : (s : List ℕ) → length s ≤ before.maxBytes → (t : JobText) → readJobText s ≡ accepted t → Bare t → Accepted s
+unfolding told
 was-accepted s few t e bare =
     let u = told (bare .walk) t in
     let same : today u ≡ t = today-told t bare in
-    let b = lines-exact .back u (subst ValidText (sym same) (valid-text s t e)) [] 1 tt in
+    let b = lines-exact .back u (record { valid = subst ValidText (sym same) (valid-text s t e); lefts = told-left (t .parts) (bare .parts) }) [] 1 tt in
     let written : s ≡ jobText (today u) ++ [] = text-is s t e ∙ ap jobText (sym same) ∙ sym (append-nil (jobText (today u))) in
     let r = text-complete before.maxBytes before.jobLines s u (b .0) few (ap (λ (x : List ℕ). before.jobLines x 1) written ∙ b .1) in
     record { given = before.meant u; is = ap before.meaning r }
@@ -353,7 +384,7 @@ pub walk-before : (s : List ℕ) (g : before.Given) → before.readJob s ≡ acc
 walk-before s g e =
     let t = said s g e in
     let a = accepted-is before.maxBytes before.jobLines s (t .text) (t .is) in
-    subst (λ (h : before.Given). h .walk ≤ 4000000000) (t .means) (lines-exact .tells s [] 1 (a .last) (t .text) (a .lines) .known .walk)
+    subst (λ (h : before.Given). h .walk ≤ 4000000000) (t .means) (lines-exact .tells s [] 1 (a .last) (t .text) (a .lines) .known .valid .walk)
 
 -- exactly which texts were accepted
 pub accepted-before : (s : List ℕ) → Accepted s ↔ ((length s ≤ before.maxBytes) × (t : JobText) × ((readJobText s ≡ accepted t) × Bare t))
@@ -361,7 +392,7 @@ accepted-before s = (
   λ a. let u = said s (a .given) (a .is) in (
     accepted-is before.maxBytes before.jobLines s (u .text) (u .is) .few,
     today (u .text),
-    (text-before s (u .text) (u .is), record { walk = u .text .walk; there = refl; parts = today-bare (u .text .parts) }),
+    (text-before s (u .text) (u .is), record { walk = u .text .walk; there = refl; parts = today-bare (u .text .parts) (was-held s (u .text) (u .is) .lefts) }),
   ),
   λ r. was-accepted s (r .0) (r .1) (r .2 .0) (r .2 .1),
 )

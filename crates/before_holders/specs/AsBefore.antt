@@ -29,13 +29,14 @@ pub record Accepted (text : List ℕ) : Type 0 where
 abbrev pub asToday : Given → today.Given
 asToday g = before.unbanded (g .job)
 
--- a part without lines of removal, whose prices are listed, each a single one
+-- a part without lines of removal, whose prices are listed, each a single one, and of whose life something is left
 pub record BarePart (p : PartText) : Type 0 where
+  pub left : 1 ≤ p .left
   pub cover : p .cover ≡ missing
   pub prices : List ℕ
   pub listed : p .prices ≡ byList (map single prices)
 
--- what it says today has the walk line, no lines of removal, no rule and no pair
+-- what it says today has the walk line, no lines of removal, no rule, no pair and no left of 0
 pub record Bare (t : today.JobText) : Type 0 where
   pub walk : ℕ
   pub there : t .walk ≡ present walk
@@ -49,7 +50,7 @@ pub record BothAccepted (job plan : List ℕ) : Type 0 where
 
 -- of all texts and rooms: which texts were free of faults, what they said, and every call's answer
 pub record AsBefore : Type 0 where
-  -- exactly the job texts that are accepted today, with the walk line and without lines of removal, a rule or a pair, and not longer than a text might be, were accepted
+  -- exactly the job texts that are accepted today, with the walk line and without lines of removal, a rule, a pair or a left of 0, and not longer than a text might be, were accepted
   pub accepts : (text : List ℕ) → Accepted text ↔ ((length text ≤ maxBytes) × (t : today.JobText) × ((today.readJobText text ≡ accepted t) × Bare t))
   -- the texts say what they said
   pub job-text : (text : List ℕ) (a : Accepted text) → today.readJob text ≡ accepted (asToday (a .given))

@@ -28,6 +28,7 @@ use Rattle.plan_grammar.proofs.Rendered.{text-is}
 use Rattle.plan_grammar.proofs.Printed as printed
 use Rattle.plan_grammar.proofs.Numbered as plans
 use Rattle.plan_grammar.proofs.Nothing.{nothing-is}
+use Rattle.carry.proofs.Worn.{judge-worn, worn-no-plan}
 use Rattle.hall.proofs.Promised.{promise as hall-promise}
 use Rattle.hall.proofs.Unique.{only as hall-only}
 use Rattle.price_rules.proofs.Prices.{rule-is}
@@ -87,6 +88,8 @@ delivered = record {
   E8-2-price = rule-is;
   E8-5-written-out = rules-out;
   E11-band = λ text t e plan. cost-band (meant t .low) (meant t .job) plan (valid-text text t e .means .ordered);
+  E12-4-due = λ text r plan part due late worn runs. judge-worn (r .given .job) plan part due (r .given .job .horizon) late worn runs (valid text (r .given) (r .is) .job .rising);
+  E12-4-no-plan = λ text r i inside worn runs has. worn-no-plan (r .given .job) i (r .given .job .horizon) inside worn runs (valid text (r .given) (r .is) .job .rising) has;
   E14-9-hall = hall-promise;
   D1-hall = hall-only;
 }

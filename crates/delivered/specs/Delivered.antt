@@ -10,14 +10,14 @@ use Rattle.branch.specs.declared.Bound.the-variants.{Missing, Sum}
 use Rattle.branch.specs.Search.{whole}
 use Rattle.lines.specs.Text.{bytes}
 use Rattle.lines.specs.Parser.{accepted, refused}
-use Rattle.model.specs.Model.{Part, Job, Plan, running, clock, end, within, comesOut, Chain, outAt, sumAt, sum, feeOf, removalOf, pricesOf, costOf, KeepsPart, KeepsLives}
+use Rattle.model.specs.Model.{Part, Job, Plan, running, clock, end, within, comesOut, Chain, outAt, sumAt, sum, feeOf, removalOf, pricesOf, costOf, KeepsPart, KeepsLives, HasPlan, listed}
 use Rattle.model.specs.Limits.{maxBytes, mostCost}
 use Rattle.model.specs.Decisions.{Held}
 use Rattle.model.specs.LowerBound.{stopsAt, placesAt, partBound, undecidedFees, partFee, boundOf}
 use Rattle.model.specs.Estimate.{LeastOver}
 use Rattle.model.specs.Earlier.{oldTree, oldAnswer}
 use Rattle.model.specs.Promise.{PlannerAnswer, optimum, wholeCount, answerOf, Promise}
-use Rattle.model.specs.Verdict.{Judgement, accepts, judgedOf, JudgementPromise, LowestUnkept, Shaped}
+use Rattle.model.specs.Verdict.{Judgement, accepts, judgedOf, JudgementPromise, partAt, LowestUnkept, Shaped}
 use Rattle.model.specs.Due.{latePart, changeBefore}
 use Rattle.model.specs.Dismounting.{Dismounts}
 use Rattle.model.specs.Published.{Published, PublishedRunning, Tied}
@@ -142,6 +142,10 @@ pub record Delivered : Type 0 where
   pub E8-5-written-out : RulesOut
   -- E11. "For every choice of prices within the bands the plan's cost lies between the two.": of every accepted text and every plan
   pub E11-band : (text : List ℕ) (t : JobText) → readJobText text ≡ accepted t → (plan : Plan) → CostBand (meant t .low) (meant t .job) plan
+  -- E12.4. "From here on `left` may be 0: change before the next running step; if step 1 runs, `due` is then 0."
+  pub E12-4-due : (text : List ℕ) (r : Reading text) (plan : Plan) (part due : ℕ) (late : LowestUnkept (jobIn r) plan part due) → latePart late .left ≡ 0 → listed (jobIn r .idles) 1 ≡ false → due ≡ 0
+  -- E12.4. and then no plan keeps the part
+  pub E12-4-no-plan : (text : List ℕ) (r : Reading text) (i : ℕ) → i < length (jobIn r .parts) → partAt (jobIn r) i .left ≡ 0 → listed (jobIn r .idles) 1 ≡ false → HasPlan (jobIn r) → ⊥
   -- ---- a hall, which no call plans yet
 
   -- E14.6 to E14.9. 6 exactly if some line has no plan; 0, or 7 exactly if the whole walk has more points; the best hall plan; with call 0 "the sum of the lines' own least costs"

@@ -341,8 +341,8 @@ part-back m n k p few s t l other other′ =
     same-back (ap (λ (u : List ℕ). part m n k u l) (append-assoc (a ++ b ++ d) c s ∙ append-assoc (a ++ b) d (c ++ s) ∙ append-assoc a b (d ++ (c ++ s))))
     (ap (λ (u : List ℕ). part m n k u l) (append-assoc (a ++ b ++ d′) c t ∙ append-assoc (a ++ b) d′ (c ++ t) ∙ append-assoc a b (d′ ++ (c ++ t))))
     (bind-back (row "life=" 1 1000) _ (value-back (bytes "life=") 1 1000 (p .life) (few .life) (b ++ (d ++ (c ++ s))) (b ++ (d′ ++ (c ++ t))) l)
-    (λ _ i. bind-back (checked 5 (upTo (p .life)) (row "left=" 1 1000)) _
-    (checked-back FormFault 5 five (upTo (p .life)) (row "left=" 1 1000) (p .left) i (value-back (bytes "left=") 1 1000 (p .left) (few .left) (d ++ (c ++ s)) (d′ ++ (c ++ t)) i))
+    (λ _ i. bind-back (checked 5 (upTo (p .life)) (row "left=" 0 1000)) _
+    (checked-back FormFault 5 five (upTo (p .life)) (row "left=" 0 1000) (p .left) i (value-back (bytes "left=") 0 1000 (p .left) (few .left) (d ++ (c ++ s)) (d′ ++ (c ++ t)) i))
     (λ _ j. bind-back (cover m k) _ (cover-back m k (p .cover) (few .cover) (c ++ s) (c ++ t) j (prices-next (p .prices) s other) (prices-next (p .prices) t other′))
     (λ _ h. bind-back (prices n) _ (prices-back n (p .prices) (few .prices) s t h other other′)
     (λ _ q. return-back p s t q tt)))))

@@ -120,7 +120,6 @@ parts-valid before (suc n) m =
     let p : ValidPart 64 (meantPart 64 (longestPart (suc before))) = record {
       life-low = omega arith;
       life-high = omega arith;
-      left-low = omega arith;
       left-high = omega arith;
       removal = omega arith;
       few-holders = omega (arith, others-few (suc before) 0 16 (omega arith) (omega arith));

@@ -21,7 +21,6 @@ module _ (n : ℕ) where
         record {
           life-low = w .life-low;
           life-high = w .life-high;
-          left-low = w .left-low;
           left-high = w .left-high;
           removal = w .removal;
           few-holders = w .few-holders;

@@ -29,11 +29,10 @@ abbrev pub Holds : ℕ → ℕ → ℕ → List ℕ → Type 0
 Holds m k before [] = Unit {0}
 Holds m k before (h ∷ hs) = (before < h) × (h ≤ m) × (h ≡ k → ⊥) × Holds m k h hs
 
--- X3, M5. a part of a job with n openings: "one price per opening", "R at most L"
+-- X3, M5. a part of a job with n openings: "one price per opening", "R at most L"; E12.4. "`left` may be 0"
 pub record ValidPart (n : ℕ) (p : Part) : Type 0 where
   pub life-low : 1 ≤ p .life
   pub life-high : p .life ≤ longestLife
-  pub left-low : 1 ≤ p .left
   pub left-high : p .left ≤ p .life
   -- E7.2. "`removal` 0..1000000, `inside` 0..15"
   pub removal : p .removal ≤ dearest

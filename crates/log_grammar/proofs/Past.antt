@@ -83,7 +83,6 @@ module _ (n : ℕ) where
     record {
       life-low = v .0 .life-low;
       life-high = v .0 .life-high;
-      left-low = v .0 .left-low;
       left-high = v .0 .left-high;
       removal = v .0 .removal;
       few-holders = v .0 .few-holders;

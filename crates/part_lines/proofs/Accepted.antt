@@ -41,7 +41,7 @@ pub part-tells : (m n k : ℕ) → Tells (part m n k) (KnownPart m n k) partText
 unfolding part afterLeft return partText
 part-tells m n k s s′ l l′ p e =
     let p₁ = row "life=" 1 1000 in
-    let p₂ = row "left=" 1 1000 in
+    let p₂ = row "left=" 0 1000 in
     let b = bind-inv p₁ _ s s′ l l′ p e in
     let d = bind-inv (checked 5 (upTo (b .a)) p₂) _ (b .mid) s′ (b .at) l′ p (b .second) in
     let g = bind-inv (cover m k) _ (d .mid) s′ (d .at) l′ p (d .second) in
@@ -49,7 +49,7 @@ part-tells m n k s s′ l l′ p e =
     let x : record { life = b .a; left = d .a; cover = g .a; prices = f .a } ≡ p = cc (f .second) in
     let y : f .mid ≡ s′ = cc (f .second) in
     let k₁ = row-gives _ 1 1000 s (b .mid) l (b .at) (b .a) (b .first) in
-    let k₂ = checked-gives 5 (upTo (b .a)) p₂ _ (row-gives _ 1 1000) (b .mid) (d .mid) (b .at) (d .at) (d .a) (d .first) in
+    let k₂ = checked-gives 5 (upTo (b .a)) p₂ _ (row-gives _ 0 1000) (b .mid) (d .mid) (b .at) (d .at) (d .a) (d .first) in
     let told = cover-tells m k (d .mid) (g .mid) (d .at) (g .at) (g .a) (g .first) in
     let k₃ = cover-known m k (g .a) (told .known) in
     let k₄ = prices-tells n (g .mid) (f .mid) (g .at) (f .at) (f .a) (f .first) in
@@ -58,7 +58,6 @@ part-tells m n k s s′ l l′ p e =
         record {
           life-low = k₁ .0;
           life-high = k₁ .1;
-          left-low = k₂ .0 .0;
           left-high = leb-true (d .a) (b .a) (k₂ .1);
           removal = k₃ .0;
           few-holders = k₃ .1;
@@ -71,7 +70,7 @@ part-tells m n k s s′ l l′ p e =
       text = simp append-assoc
           (row-sound _ 1 1000 s (b .mid) l (b .at) (b .a) (b .first)
           ∙ ap (λ (r : List ℕ). lineOf "life=" (b .a) ++ r)
-          (checked-sound 5 (upTo (b .a)) p₂ (lineOf "left=") (row-sound _ 1 1000) (b .mid) (d .mid) (b .at) (d .at) (d .a) (d .first)
+          (checked-sound 5 (upTo (b .a)) p₂ (lineOf "left=") (row-sound _ 0 1000) (b .mid) (d .mid) (b .at) (d .at) (d .a) (d .first)
           ∙ ap (λ (r : List ℕ). lineOf "left=" (d .a) ++ r)
           (told .text
           ∙ ap (λ (r : List ℕ). optionalText coverText (g .a) ++ r)

@@ -29,12 +29,12 @@ part-complete m n k most p known s l next =
     let cs = optionalText coverText (p .cover) in
     let ts = pricesText (p .prices) in
     let a = row-complete (bytes "life=") 1 1000 (omega arith) (p .life) (v .life-low, v .life-high) (left ++ (cs ++ (ts ++ s))) l in
-    let b = checked-complete 5 (upTo (p .life)) (row "left=" 1 1000) (lineOf "left=") _ (row-complete _ 1 1000 (omega arith)) (p .left)
-    ((v .left-low, omega (arith, v .left-high, v .life-high)), upTo-yes (p .life) (p .left) (v .left-high)) (cs ++ (ts ++ s)) (a .0) in
+    let b = checked-complete 5 (upTo (p .life)) (row "left=" 0 1000) (lineOf "left=") _ (row-complete _ 0 1000 (omega arith)) (p .left)
+    ((omega arith, omega (arith, v .left-high, v .life-high)), upTo-yes (p .life) (p .left) (v .left-high)) (cs ++ (ts ++ s)) (a .0) in
     let d = cover-complete m k most (p .cover) (known-cover m n k p known) (ts ++ s) (b .0) (prices-next (p .prices) s next) in
     let c = prices-complete n (p .prices) (known .2) s (d .0) (next .base) in (
       c .0,
       ap (λ (x : List ℕ). part m n k x l) (append-assoc (life ++ left ++ cs) ts s ∙ append-assoc (life ++ left) cs (ts ++ s) ∙ append-assoc life left (cs ++ (ts ++ s)))
-          ∙ bind-good (row "life=" 1 1000) _ (a .1) ∙ bind-good (checked 5 (upTo (p .life)) (row "left=" 1 1000)) _ (b .1) ∙ bind-good (cover m k) _ (d .1)
+          ∙ bind-good (row "life=" 1 1000) _ (a .1) ∙ bind-good (checked 5 (upTo (p .life)) (row "left=" 0 1000)) _ (b .1) ∙ bind-good (cover m k) _ (d .1)
           ∙ bind-good (prices n) _ (c .1),
     )

@@ -10,6 +10,6 @@ module _ (P : ℕ → Type 0) (two : P 2) (three : P 3) (five : P 5) (twelve : P
   unfolding part afterLeft
   part-numbers m n k =
       bind-numbers P _ _ (row-numbers P two three _ 1 1000)
-      (λ l. bind-numbers P _ _ (checked-numbers P 5 five _ _ (row-numbers P two three _ 1 1000))
+      (λ l. bind-numbers P _ _ (checked-numbers P 5 five _ _ (row-numbers P two three _ 0 1000))
       (λ r. bind-numbers P _ _ (cover-numbers P two three twelve m k)
       (λ c. bind-numbers P _ _ (prices-numbers P two three thirteen n) (λ ps. return-numbers P _))))

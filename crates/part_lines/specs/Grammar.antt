@@ -1,4 +1,4 @@
--- X3. A part's lines: "`life` 1..1000, `left` 1..1000, then one `price` 1..1000000 per opening."
+-- X3. A part's lines: "`life` 1..1000, `left` 1..1000, then one `price` 1..1000000 per opening." E12.4. "From here on `left` may be 0".
 -- E7.2. "After each `left` a job may have `removal` 0..1000000, `inside` 0..15 and that many `holder` lines".
 -- E11. "Each price may be a pair `low` and `high`". E8.1. "In place of its `price` lines a part may have `base` 1..1000000, `drop` 0..1000000 and `least` 1..1000000."
 use Prim.Native.Nat.{ℕ, suc}
@@ -43,7 +43,7 @@ afterLeft m n k l r = do
 unfoldable pub part : ℕ → ℕ → ℕ → Parser PartText
 part m n k = do
   l ← row "life=" 1 longestLife
-  r ← checked 5 (upTo l) (row "left=" 1 longestLife)
+  r ← checked 5 (upTo l) (row "left=" 0 longestLife)
   afterLeft m n k l r
 
 -- the number after

@@ -73,7 +73,7 @@ pub struct PartRead {
 
 // What is left of a part's first life: no more than its life, else fault 5.
 fn read_left(s: &[u8], life: u32) -> Field
-    ensures { λ r. ⌜ LineRead (checked 5 (upTo life) (row "left=" 1 longestLife)) (now (s .entry)) r ⌝ }
+    ensures { λ r. ⌜ LineRead (checked 5 (upTo life) (row "left=" 0 longestLife)) (now (s .entry)) r ⌝ }
 {
     match read_field(s, b"left=", Part::MIN_LEFT, Part::MAX_LEFT) {
         Field::Value {
