@@ -61,6 +61,7 @@ singles-valid : (ps : List ℕ) → All ValidPrice ps → All ValidQuote (map si
 singles-valid [] v = tt
 singles-valid (p ∷ ps) v = (record { low = v .0; high = v .0; ordered = omega arith }, singles-valid ps (v .1))
 
+-- a part of a text before holders as today's text has it, without lines of removal
 abbrev pub uncovered : before.PartText → PartText
 uncovered p = record { life = p .life; left = p .left; cover = missing; prices = byList (map single (p .prices)) }
 
@@ -287,7 +288,9 @@ count-same n ps = length-map (map uncovered ps) (meantPart n) ∙ length-map ps 
 
 -- what is known of one that was accepted, in today's terms
 pub record Held (t : before.JobText) : Type 0 where
+  -- the text that says the same today is valid
   pub valid : ValidText (today t)
+  -- something is left of the life of each of the text's parts
   pub lefts : Lefts (t .parts)
 
 text-valid : (t : before.JobText) → Known t → ValidText (today t)
@@ -367,6 +370,7 @@ pub record Said (s : List ℕ) (g : before.Given) : Type 0 where
   pub is : before.readJobText s ≡ accepted text
   pub means : before.meant text ≡ g
 
+-- a job text accepted before holders was read as lines of that grammar, which mean the job
 pub said : (s : List ℕ) (g : before.Given) → before.readJob s ≡ accepted g → Said s g
 said s g e = go (before.readJobText s) refl
   where

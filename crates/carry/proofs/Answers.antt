@@ -52,6 +52,7 @@ module _ (job : Job) (step : ℕ) (life prev : ℤ) where
 
 -- ---- one part
 
+-- the job as far as a step ends at that step's position
 pub end-until : (job : Job) (step : ℕ) → 1 ≤ step → end (until job step) ≡ clock job step
 unfolding clock
 end-until job step one = let z : step - 1 + 1 ≡ step = omega arith in ap (clock job) z
@@ -165,6 +166,7 @@ module _ (job : Job) (log : Log) (logged : Logged job log) where
         values = x .values ∙ e;
       }
 
+  -- the call's answer to a job and a log keeps all that is promised of it
   pub log-promise : LogPromise job log (answerTo job log)
   log-promise = promised (judgedOf (until job (log .step)) (log .cost) (log .plan)) (judge (until job (log .step)) (log .plan) (log .cost))
 

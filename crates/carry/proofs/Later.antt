@@ -18,6 +18,7 @@ use Rattle.carry.proofs.Splits.{map-drop}
 
 -- ---- how many steps are up to a step
 
+-- no more of some steps are up to a step than there are steps
 pub count-most : (step : ℕ) (ss : List ℕ) → countTo step ss ≤ length ss
 unfolding countTo
 count-most step [] = omega arith
@@ -79,6 +80,7 @@ module _ (step : ℕ) where
   rising-after from T [] h r = tt
   rising-after from T (s ∷ ss) h r = (omega (arith, r .0), rising-after s T ss (omega (arith, r .0)) (r .2))
 
+  -- of steps that rise, those left behind the count up to a step are all after that step
   pub left-after : (from T : ℕ) (ss : List ℕ) → Rising from T ss → After (drop (countTo step ss) ss)
   unfolding countTo
   left-after from T [] r = tt
@@ -126,6 +128,7 @@ idle-beyond step (i ∷ is) k = ap₂ (λ (a b : Bool). a || b) (same (ℕ-discr
     same (yes e) = let f : i - step ≡ suc k = omega arith in eq-eqb (i - step) (suc k) f ∙ sym (eq-eqb i (step + suc k) e)
     same (no e) = ne-eqb (i - step) (suc k) (λ f. e (omega arith)) ∙ sym (ne-eqb i (step + suc k) e)
 
+-- a step of the new job is among the renumbered idles exactly where the old step was an idle
 pub idle-later : (step : ℕ) (is : List ℕ) (k : ℕ) → listed (later step is) (suc k) ≡ listed is (step + suc k)
 unfolding countTo listed
 idle-later step [] k = refl

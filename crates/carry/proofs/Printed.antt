@@ -20,6 +20,7 @@ use Rattle.carry.proofs.Joined.{joined-logged, joined-accepts, same-job
 -- ---- "If the log is the start of a plan the planner printed with 0, the least cost of the new job is that plan's remaining cost."
 
 module _ (job : Job) (rising : Rising 0 (job .horizon) (stepsOf (job .openings))) where
+  -- if a log with its true cost starts a best plan, the new job's least cost is the plan's remaining cost
   pub best-remains : (log : Log) → Logged job log → (cost : ℕ) (plan : Plan) → BestPlan job Any cost plan → Starts job log plan → log .cost ≡ costOf job (log .plan) → Remaining job log cost plan
   best-remains log l cost plan b s h = record {
     told = accepted-goes-on job log l (best-accepts job log rising l cost plan b s h);
@@ -28,6 +29,7 @@ module _ (job : Job) (rising : Rising 0 (job .horizon) (stepsOf (job .openings))
     printed = rest-printed job log rising l cost plan b s h;
   }
 
+  -- if a log with its true cost starts a printed optimum, the new job's least cost is that plan's remaining cost
   pub printed-remains : (log : Log) → Logged job log → (limit nodes floor cost : ℕ) (plan : Plan) → answerOf job limit ≡ optimum nodes floor cost plan → Starts job log plan
       → log .cost ≡ costOf job (log .plan) → Remaining job log cost plan
   printed-remains log l limit nodes floor cost plan e s h =
@@ -50,6 +52,7 @@ module _ (job : Job) (rising : Rising 0 (job .horizon) (stepsOf (job .openings))
       told-job d (goes-on j) = j
       told-job d (refused j) = d
 
+  -- carrying on by the joined log answers the job that carrying on by the first and then the second does
   pub one-or-two : (first second : Log) → Logged job first → (next : Job) → answerTo job first ≡ goes-on next → Logged next second → (last : Job) → answerTo next second ≡ goes-on last
       → answerTo job (joinedLog job first second) ≡ goes-on last
   one-or-two first second l next e m last f =

@@ -19,6 +19,7 @@ use Rattle.model.proofs.MoreChanges.{select-empty}
 
 -- ---- lists
 
+-- a function of each that stands behind place n is what stands behind it of the function of all
 pub map-drop : {A B : Type 0} (f : A → B) (n : ℕ) (l : List A) → map f (drop n l) ≡ drop n (map f l)
 map-drop f zero l = refl
 map-drop f (suc n) [] = refl
@@ -28,6 +29,7 @@ map-drop f (suc n) (x ∷ l) = map-drop f n l
 pub at-front : {A : Type 0} (u v : List A) (n k : ℕ) (d : A) → length u ≡ n → k < n → getD (u ++ v) k d ≡ getD u k d
 at-front u v n k d h l = List·getD-append u v d k (omega arith)
 
+-- behind the cut, two lists in a row have what the second has
 pub at-back : {A : Type 0} (u v : List A) (n k : ℕ) (d : A) → length u ≡ n → getD (u ++ v) (n + k) d ≡ getD v k d
 at-back u v n k d h = ap (λ (m : ℕ). getD (u ++ v) (m + k) d) (sym h) ∙ getD-append-add u v k d
 
@@ -42,6 +44,7 @@ pub quiet-after : (l : List Bool) (n : ℕ) → ((k : ℕ) → getD l k false �
 quiet-after l n h k e = absurd (omega (arith, h (n + k) (sym (getD-drop n l k false) ∙ e)))
 
 module _ {A : Type 0} where
+  -- what two sets in a row choose is what the first chooses, and then the second behind it
   pub select-append : (xs : List A) (u v : List Bool) → select xs (u ++ v) ≡ select xs u ++ select (drop (length u) xs) v
   unfolding select
   select-append xs [] v = ap (λ (l : List A). l ++ select xs v) (sym (select-empty xs))
@@ -56,6 +59,7 @@ module _ {A : Type 0} where
       ∙ ap (λ (l : List A). select xs (take n cs) ++ l) (select-off (drop (length (take n cs)) xs) (drop n cs) (quiet-after cs n h))
       ∙ append-nil (select xs (take n cs))
 
+-- choosing from what a function makes of a list is what it makes of the chosen
 pub select-map : {A B : Type 0} (f : A → B) (xs : List A) (cs : List Bool) → select (map f xs) cs ≡ map f (select xs cs)
 unfolding select
 select-map f [] cs = refl
@@ -63,6 +67,7 @@ select-map f (x ∷ xs) [] = refl
 select-map f (x ∷ xs) (false ∷ cs) = select-map f xs cs
 select-map {B = B} f (x ∷ xs) (true ∷ cs) = ap (λ (l : List B). f x ∷ l) (select-map f xs cs)
 
+-- the sum at two sets in a row is the sum at the first and that at the second behind it
 pub sum-append : (ns : List ℕ) (u v : List Bool) → sumAt ns (u ++ v) ≡ sumAt ns u + sumAt (drop (length u) ns) v
 unfolding sumAt
 sum-append ns [] v = omega arith
@@ -72,6 +77,7 @@ sum-append (n ∷ ns) (true ∷ u) v = omega (arith, sum-append ns u v)
 
 -- ---- tables
 
+-- a table of n + m places is that of the first n and then that of the m behind them
 pub table-append : {A : Type 0} (f : ℕ → A) (n m : ℕ) → table f (n + m) ≡ table f n ++ table (λ k. f (n + k)) m
 unfolding table
 table-append f zero m = ap (table f) (zero-add m) ∙ table-same f (λ k. f (0 + k)) m (λ k l. ap f (sym (zero-add k)))
@@ -91,6 +97,7 @@ sum-cut-at f (suc n) m =
     let z = sum-same m 0 (λ k. f (suc (n + k))) (λ k. f (suc n + k)) (λ k _ _. ap f (sym (suc-add n k))) in
     omega (arith, e, s, t, r, z)
 
+-- the blocks of two lists in a row, joined, are the first's joined and then the second's
 pub concat-append : (bs ds : List (List Bool)) → concat (bs ++ ds) ≡ concat bs ++ concat ds
 unfolding concat
 concat-append [] ds = refl
@@ -98,9 +105,11 @@ concat-append (b ∷ bs) ds = ap (λ (l : List Bool). b ++ l) (concat-append bs 
 
 -- ---- one set in another
 
+-- the first set is in the second: what is in the one is in the other
 abbrev pub Sub : List Bool → List Bool → Type 0
 Sub cs ds = (k : ℕ) → getD cs k false ≡ true → getD ds k false ≡ true
 
+-- two sets in a row are in two others of the same cut where each is in its own
 pub sub-append : (u v cs ds : List Bool) → length u ≡ length v → Sub u v → Sub cs ds → Sub (u ++ cs) (v ++ ds)
 sub-append [] [] cs ds h s t k e = t k e
 sub-append [] (y ∷ v) cs ds h s t k e = absurd (omega arith)
@@ -108,12 +117,14 @@ sub-append (x ∷ u) [] cs ds h s t k e = absurd (omega arith)
 sub-append (x ∷ u) (y ∷ v) cs ds h s t zero e = s 0 e
 sub-append (x ∷ u) (y ∷ v) cs ds h s t (suc k) e = sub-append u v cs ds (omega arith) (λ k. s (suc k)) t k e
 
+-- where two sets in a row are in two others of the same cut, the second is in the second
 pub sub-back : (u v cs ds : List Bool) → length u ≡ length v → Sub (u ++ cs) (v ++ ds) → Sub cs ds
 sub-back [] [] cs ds h s k e = s k e
 sub-back [] (y ∷ v) cs ds h s k e = absurd (omega arith)
 sub-back (x ∷ u) [] cs ds h s k e = absurd (omega arith)
 sub-back (x ∷ u) (y ∷ v) cs ds h s k e = sub-back u v cs ds (omega arith) (λ k. s (suc k)) k e
 
+-- where a set is in another, its first n places are in the other's
 pub sub-take : (n : ℕ) (cs ds : List Bool) → Sub cs ds → Sub (take n cs) (take n ds)
 sub-take zero cs ds s k e = e
 sub-take (suc n) [] ds s k e = absurd (false≢true e)
@@ -128,6 +139,7 @@ sub-take (suc n) (c ∷ cs) [] s (suc k) e = absurd (false≢true (s (suc k) (re
 sub-take (suc n) (c ∷ cs) (d ∷ ds) s zero e = s 0 e
 sub-take (suc n) (c ∷ cs) (d ∷ ds) s (suc k) e = sub-take n cs ds (λ k. s (suc k)) k e
 
+-- where two sets in a row are in two others of the same cut, the first is in the first
 pub sub-front : (u v cs ds : List Bool) → length u ≡ length v → Sub (u ++ cs) (v ++ ds) → Sub u v
 sub-front [] [] cs ds h s k e = e
 sub-front [] (y ∷ v) cs ds h s k e = absurd (omega arith)
@@ -137,6 +149,7 @@ sub-front (x ∷ u) (y ∷ v) cs ds h s (suc k) e = sub-front u v cs ds (omega a
 
 -- ---- the tie rule's order behind a common front
 
+-- where one of two sets with a common front is before the other, so is what follows the front
 pub before-back : (u s t : List Bool) → Before (u ++ s) (u ++ t) → Before s t
 before-back [] s t h = h
 before-back (x ∷ u) s t (there h) = before-back u s t h
@@ -145,10 +158,12 @@ before-back (x ∷ u) s t (there h) = before-back u s t h
 pub first-back : (u s t : List Bool) → (u ++ t ≡ u ++ s) ⊎ Before (u ++ s) (u ++ t) → (t ≡ s) ⊎ Before s t
 first-back u s t = ⊎-elim (λ e. inl (sym (drop-append-seam u t) ∙ ap (drop (length u)) e ∙ drop-append-seam u s)) (λ b. inr (before-back u s t b))
 
+-- a function of each of two lists in a row is that of the first and then of the second
 pub map-append : {A B : Type 0} (f : A → B) (l m : List A) → map f (l ++ m) ≡ map f l ++ map f m
 map-append f [] m = refl
 map-append {B = B} f (x ∷ l) m = ap (λ (r : List B). f x ∷ r) (map-append f l m)
 
+-- a function of each of the first n is the first n of what it makes of all
 pub map-take : {A B : Type 0} (f : A → B) (n : ℕ) (l : List A) → map f (take n l) ≡ take n (map f l)
 map-take f zero l = refl
 map-take f (suc n) [] = refl

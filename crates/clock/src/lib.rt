@@ -1,6 +1,7 @@
 // Positions: how far a step is along the lives, in running steps. Only here do steps become positions, and positions due steps.
 use jobs::Job;
 use least::in_reach;
+use model::OPENINGS;
 ghost use mathlib.Core.Path.{_≡_};
 ghost use Prim.Native.Nat.{_≤_};
 ghost use lib.IntN.{pos};
@@ -15,7 +16,7 @@ const STEPS: usize = 367;
 
 // The positions of a job's openings, and of the end of its lives, the step after the horizon.
 pub struct Positions {
-    pub at: [i32; 64],
+    pub at: [i32; OPENINGS],
     pub end: i32,
 }
 
@@ -70,7 +71,7 @@ pub fn positions_of(job: Job) -> Positions
 {
     let n = job.opening_count;
     let clock = running_steps(job);
-    let mut at = [0i32; 64];
+    let mut at = [0i32; OPENINGS];
     let mut i: usize = 0;
     while i < n {
         let o = job.openings[i];

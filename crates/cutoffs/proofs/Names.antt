@@ -13,6 +13,7 @@ take-past zero (b ∷ l) h = absurd (omega arith)
 take-past (suc n) [] h = refl
 take-past (suc n) (b ∷ l) h = ap (λ (x : List Bool). b ∷ x) (take-past n l (omega arith))
 
+-- a list of n has the same first s where s is cut to at most n
 pub take-min : (s n : ℕ) (l : List Bool) → length l ≡ n → take (min s n) l ≡ take s l
 take-min s n l e = go (decLe s n)
   where

@@ -42,7 +42,7 @@ use Rattle.hall.specs.Hall.{Hall, Proper}
 use Rattle.hall.specs.Promise.{HallAnswer, hallAnswer, HallPromise}
 use Rattle.alike.specs.Alike.{AnsweredAlike, WalkSetAside, RulesOut}
 use Rattle.before_holders.specs.AsBefore.{AsBefore}
-use Rattle.starred.specs.Table.{Holds, Counts, cases, counts}
+use Rattle.starred.specs.Table.{CaseHolds, Counts, cases, counts}
 use Rattle.delivered.specs.Terms.{SomeLost, Meets, StatesObjective, Feasible, Cheapest}
 
 pub record Delivered : Type 0 where
@@ -128,7 +128,7 @@ pub record Delivered : Type 0 where
   -- ---- cases
 
   -- D9, C1 to C12, E4.3, E6.4. "the starred ones and the job above form one table of definitions with one proof"
-  pub D9-cases : All Holds cases × All Counts counts
+  pub D9-cases : All CaseHolds cases × All Counts counts
   -- E7.11. "The judge must price the plan of Table 2 in 001 at 4100."
   pub E7-11-table-2 : judgedOf (table1 10) 4100 table2 ≡ accepts 4100
   -- D9. "the plan tables 2, 3 and 4 of 001 (4100, 5180, 11690)"

@@ -23,6 +23,7 @@ filled-as e d = record { size = d .size; done = λ y l. d .done y l ∙ e y l; r
 room-small : (price things : ℕ) → roomOf price things ≤ dear
 room-small price things = omega (arith, div-le-self (dear - price) things)
 
+-- what is offered for a lane is no more than its room beside the price
 pub offer-room : (raw x ps : List ℕ) (things r q : ℕ) → offer raw x ps things r q ≤ roomOf (priceIn ps r q) things
 offer-room raw x ps things r q = go (eqb (getD x (takePlace (r / 64) q) 0) 0)
   where
@@ -30,6 +31,7 @@ offer-room raw x ps things r q = go (eqb (getD x (takePlace (r / 64) q) 0) 0)
     go true = omega arith
     go false = omega arith
 
+-- what is offered for a lane is no more than the highest price
 pub offer-small : (raw x ps : List ℕ) (things r q : ℕ) → offer raw x ps things r q ≤ dear
 offer-small raw x ps things r q = omega (arith, offer-room raw x ps things r q, room-small (priceIn ps r q) things)
 
@@ -38,15 +40,18 @@ pub offer-same : (raw x y ps : List ℕ) (things r : ℕ) → ((i : ℕ) → tak
 offer-same raw x y ps things r e q =
     ap (λ (v : ℕ). cond (eqb v 0) 0 (min (getD raw (rowStart r + q) 0) (roomOf (priceIn ps r q) things))) (e (takePlace (r / 64) q) (omega arith))
 
+-- the same is kept of two rows that offer the same for each lane
 pub keep-same : (cost : ℕ) (f g : ℕ → ℕ) → ((q : ℕ) → f q ≡ g q) → (q : ℕ) → keep cost f q ≡ keep cost g q
 keep-same cost f g e q = λ i. cond (leb (sum-same laneCount f g (λ q l. e q) i) cost) (e q i) 0
 
 -- ---- row by row
 
 module _ (raw ps fs rm : List ℕ) (things : ℕ) (x : List ℕ) where
+  -- before any row is checked, none is kept and nothing has moved
   pub kept-none : Kept raw ps fs rm things x x 0
   kept-none = record { size = refl; row = λ r q l. absurd (omega arith); rest = λ y l. refl }
 
+  -- where the first n rows are kept and the next is filled with what is kept of it, n + 1 are
   pub kept-more : (y z : List ℕ) (n : ℕ) → n < 1088 → Kept raw ps fs rm things x y n → FilledBy (λ (q : ℕ). rowStart n + q) (kept raw y ps fs rm things n) laneCount y z → Kept raw ps fs rm things x z (n + 1)
   kept-more y z n few k f =
       record {
@@ -64,6 +69,7 @@ module _ (raw ps fs rm : List ℕ) (things : ℕ) (x : List ℕ) where
 
 -- ---- the table but for the shares
 
+-- a table filled with what each lane takes, the removals and their number is marked, but for the shares
 pub marked-by : (nd : List Bool) (parts : ℕ) (rm x y z : List ℕ) → length x ≡ shareSize → length rm ≤ 16 → FilledBy (λ (i : ℕ). takeBase + i) (λ (i : ℕ). taken nd parts (i / 16) (i % 16)) ((length rm + 1) * 16) x y
     → FilledBy removalPlace (λ (b : ℕ). getD rm b 0) (length rm) y z → Marked nd parts rm (set z holdsPlace (length rm))
 marked-by nd parts rm x y z s few f g =

@@ -310,12 +310,14 @@ module _ (t : JobText) (v : ValidText t) where
   stepsOf : length (t .openings) ≡ length (map (λ (o : Opening). o .step) (t .openings))
   stepsOf = sym (length-map (t .openings) (λ (o : Opening). o .step))
 
+  -- the lists of a form that holds a valid text's numbers agree in length
   pub agrees : Agree (formOf t)
   agrees = record {
     fees = length-map (t .openings) (λ (o : Opening). o .fee) ∙ stepsOf;
     parts = subst (λ (n : ℕ). PartsAgree n (listsOf (t .parts))) stepsOf (lists-agree (length (t .openings)) (t .parts) (v .lines));
   }
 
+  -- the lists of a form that holds a valid text's numbers are not too long
   pub fits : Few (formOf t)
   fits = record {
     idles = v .means .job .few-idles;

@@ -74,19 +74,32 @@ Small xs = (i : ℕ) → getD xs i 0 < 4294967296
 
 -- and all of a form, whose numbers have 32 bits
 pub record Held (f : Form) : Type 0 where
+  -- the horizon that the form gives has 32 bits
   pub horizon : f .horizon < 4294967296
+  -- each idle step that the form gives has 32 bits
   pub idles : Small (f .idles)
   pub openings : Small (f .openings)
+  -- each fee that the form gives has 32 bits
   pub fees : Small (f .fees)
+  -- each life that the form gives has 32 bits
   pub lives : Small (f .parts .lives)
+  -- each first life that the form gives has 32 bits
   pub lefts : Small (f .parts .lefts)
+  -- each removal that the form gives has 32 bits
   pub removals : Small (f .parts .removals)
+  -- each number of holders that the form gives has 32 bits
   pub insides : Small (f .parts .insides)
+  -- each holder's number that the form gives has 32 bits
   pub holders : Small (f .parts .holders)
+  -- each base of a rule that the form gives has 32 bits
   pub bases : Small (f .parts .bases)
+  -- each drop of a rule that the form gives has 32 bits
   pub drops : Small (f .parts .drops)
+  -- each least price of a rule that the form gives has 32 bits
   pub leasts : Small (f .parts .leasts)
+  -- each low end that the form gives has 32 bits
   pub lows : Small (f .parts .lows)
+  -- each price that the form gives has 32 bits
   pub prices : Small (f .parts .prices)
 
 small-chained : (next : ℕ → ℕ → ℕ) (prev : ℕ) (xs : List ℕ) → Small xs → Chained (λ _. Short) next prev xs
@@ -324,9 +337,13 @@ prices-back n (byRule r) few s t l other other′ = bind-back rule _ (rule-back 
 
 -- a part with n openings
 pub record ShortPart (n : ℕ) (p : PartText) : Type 0 where
+  -- the part's life can be written, with at most ten digits
   pub life : Short (p .life)
+  -- the part's first life can be written, with at most ten digits
   pub left : Short (p .left)
+  -- what the part's lines of removal say can be written
   pub cover : ShortCover (p .cover)
+  -- each of the part's prices has 32 bits, and can be written
   pub prices : ShortPrices n (p .prices)
 
 part-back : (m n k : ℕ) (p : PartText) → ShortPart n p → (s t : List ℕ) (l : ℕ) → Behind s → Behind t

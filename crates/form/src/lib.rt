@@ -2,8 +2,8 @@
 use answers::Answer;
 use answers::refuse;
 use form_writing::whole::put_form;
-use job_text::whole::MAX_BYTES;
 use job_text::whole::read_job_lines;
+use jobs::Job;
 use line_writing::write::put_bytes;
 use lines::rows::Cursor;
 use lines::rows::WholeText;
@@ -19,7 +19,7 @@ ghost use Rattle.form.specs.Write.{saidFor, writeSaid, writeRoom};
 ghost use Rattle.form.specs.Promise.{WritePromise};
 
 // The room that a job text must have: as much as a text may have bytes.
-pub const ROOM: usize = MAX_BYTES;
+pub const ROOM: usize = Job::MAX_BYTES;
 
 // The most bytes of the text that is read: more than a job text may have, where numbers are out of their ranges.
 const LONGEST: usize = 45257;

@@ -33,18 +33,21 @@ paired-at (o ∷ os) [] e i d h = absurd (omega arith)
 paired-at (o ∷ os) (f ∷ fs) e zero d h = refl
 paired-at (o ∷ os) (f ∷ fs) e (suc i) d h = paired-at os fs (omega arith) i d (omega arith)
 
+-- there are lines of removal, or none, for each of the marks
 pub covers-size : (cs vs is hs : List ℕ) → length (coversOf cs vs is hs) ≡ length cs
 unfolding coversOf
 covers-size [] vs is hs = refl
 covers-size (zero ∷ cs) vs is hs = ap suc (covers-size cs vs is hs)
 covers-size (suc c ∷ cs) vs is hs = ap suc (covers-size cs (drop 1 vs) (drop 1 is) (drop (getD is 0 0) hs))
 
+-- there are as many rules, stated or not, as marks
 pub rules-size : (us bs ds ms : List ℕ) → length (rulesOf us bs ds ms) ≡ length us
 unfolding rulesOf
 rules-size [] bs ds ms = refl
 rules-size (zero ∷ us) bs ds ms = ap suc (rules-size us bs ds ms)
 rules-size (suc u ∷ us) bs ds ms = ap suc (rules-size us (drop 1 bs) (drop 1 ds) (drop 1 ms))
 
+-- there is a part for each life, where first lives and lines of removal are as many
 pub grouped-size : (n : ℕ) (ls rs : List ℕ) (cs : List (Optional Cover)) (us : List (Optional Rule)) (qs : List Quote) → length rs ≡ length ls → length cs ≡ length ls → length us ≡ length ls
     → length (grouped n ls rs cs us qs) ≡ length ls
 unfolding grouped
@@ -80,6 +83,7 @@ quotes-take (suc i) (z ∷ zs) ws [] = refl
 quotes-take (suc i) (zero ∷ zs) ws (p ∷ ps) = ap (λ (qs : List Quote). single p ∷ qs) (quotes-take i zs ws ps)
 quotes-take (suc i) (suc z ∷ zs) ws (p ∷ ps) = ap (λ (qs : List Quote). pair (getD ws 0 0) p ∷ qs) (quotes-take i zs (drop 1 ws) ps)
 
+-- there are as many prices, single or pairs, as listed ones where each has a mark
 pub quotes-size : (zs ws ps : List ℕ) → length zs ≡ length ps → length (quotesFrom zs ws ps) ≡ length ps
 unfolding quotesFrom
 quotes-size [] ws ps e = e
@@ -113,6 +117,7 @@ sum-next i zs h = ap (λ (k : ℕ). sumAll (take k zs)) (add-one i) ∙ go i zs 
     go zero (z ∷ zs) h = omega arith
     go (suc i) (z ∷ zs) h = omega (arith, go i zs (omega arith))
 
+-- the sum of the first i of a list is at most the sum of all
 pub sum-part : (i : ℕ) (zs : List ℕ) → sumAll (take i zs) ≤ sumAll zs
 sum-part zero zs = omega arith
 sum-part (suc i) [] = omega arith
@@ -135,6 +140,7 @@ pub marks-few : (cs : List ℕ) → All (λ (c : ℕ). c ≤ 1) cs → sumAll cs
 marks-few [] h = omega arith
 marks-few (c ∷ cs) h = omega (arith, h .0, marks-few cs (h .1))
 
+-- of marks that are each 0 or 1, no more are 1 than there are marks
 pub marks-known : (cs : List ℕ) → allMarks cs ≡ true → sumAll cs ≤ length cs
 marks-known cs e = marks-few cs (marks-all cs e)
 

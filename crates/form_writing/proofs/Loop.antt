@@ -16,10 +16,15 @@ use Rattle.form_writing.proofs.Places.{parts-next}
 
 -- k parts of the lists are put, and the next begins at p
 pub record Putting (n : ℕ) (x : PartLists) (d : List ℕ) (at : ℕ) (e : List ℕ) (p : Place) (k : ℕ) : Type 0 where
+  -- no more parts are put than the lists have lives
   pub few : k ≤ length (x .lives)
+  -- the place of the next part stands in the lists, and what is left of them agrees
   pub standing : Standing n x k p
+  -- the bytes of the k parts that are put
   pub done : List ℕ
+  -- these bytes stand in the lent slice from `at` up to the place of the next part
   pub wrote : Wrote d at done e (p .at)
+  -- the text of all parts is those bytes and the text of the parts that are left
   pub whole : texts partCut (partsOf n x) ≡ done ++ texts partCut (partsOf n (after k p x))
 
 no-parts : (n : ℕ) (x : PartLists) → length (x .lives) ≡ 0 → partsOf n x ≡ []

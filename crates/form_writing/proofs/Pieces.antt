@@ -29,16 +29,19 @@ module _ (key : String) (most : ℕ) (agree : Bool) (n : ℕ) (t : List ℕ) whe
 
 -- ---- idle steps
 
+-- where there are no idle steps, nothing is written for them
 pub idles-none : (is : List ℕ) → length is ≡ 0 → optionalText idlesCut (idleLines is) ≡ []
 unfolding idleLines
 idles-none [] h = refl
 idles-none (i ∷ is) h = absurd (omega arith)
 
+-- more than 365 idle steps are written as the line `idles=366` alone
 pub idles-many : (is : List ℕ) → 365 < length is → optionalText idlesCut (idleLines is) ≡ lineOf "idles=" 366
 unfolding idleLines idlesCut
 idles-many [] h = absurd (omega arith)
 idles-many (i ∷ is) h = counted-out "idles=" 365 true (length (i ∷ is)) (texts (lineOf "idle=") (i ∷ is)) (λ few e. omega arith)
 
+-- 1 to 365 idle steps are written as the line of their number and a line for each
 pub idles-some : (is : List ℕ) → 1 ≤ length is → length is ≤ 365 → optionalText idlesCut (idleLines is) ≡ lineOf "idles=" (length is) ++ texts (lineOf "idle=") is
 unfolding idleLines idlesCut
 idles-some [] h few = absurd (omega arith)
@@ -47,10 +50,12 @@ idles-some (i ∷ is) h few = counted-in "idles=" 365 true (length (i ∷ is)) (
 -- ---- parts
 
 module _ (n : ℕ) (x : PartLists) where
+  -- up to 16 parts whose lists agree are written as their number's line and their own lines
   pub parts-in : length (x .lives) ≤ 16 → partsAgree n x ≡ true → partsCut n x ≡ lineOf "parts=" (length (x .lives)) ++ texts partCut (partsOf n x)
   unfolding partsCut
   parts-in few e = counted-in "parts=" 16 (partsAgree n x) (length (x .lives)) (texts partCut (partsOf n x)) few e
 
+  -- too many parts, or lists that disagree, are written as the line `parts=17` alone
   pub parts-out : (length (x .lives) ≤ 16 → partsAgree n x ≡ true → ⊥) → partsCut n x ≡ lineOf "parts=" 17
   unfolding partsCut
   parts-out no-good = counted-out "parts=" 16 (partsAgree n x) (length (x .lives)) (texts partCut (partsOf n x)) no-good
@@ -58,10 +63,12 @@ module _ (n : ℕ) (x : PartLists) where
 -- ---- openings
 
 module _ (os fs : List ℕ) (x : PartLists) where
+  -- up to 64 openings with as many fees are written as their number's line and what follows it
   pub rest-in : length os ≤ 64 → length fs ≡ length os → restCut os fs x ≡ lineOf "openings=" (length os) ++ bodyCut os fs x
   unfolding restCut
   rest-in few e = counted-in "openings=" 64 (feesAgree os fs) (length os) (bodyCut os fs x) few (eq-eqb (length fs) (length os) e)
 
+  -- too many openings, or fees not as many, are written as the line `openings=65` alone
   pub rest-out : (length os ≤ 64 → length fs ≡ length os → ⊥) → restCut os fs x ≡ lineOf "openings=" 65
   unfolding restCut
   rest-out no-good = counted-out "openings=" 64 (feesAgree os fs) (length os) (bodyCut os fs x) (λ few e. no-good few (eqb-true (length fs) (length os) e))

@@ -8,7 +8,7 @@ use native.Mathlib.Nat.{suc-mul}
 use lib.Dec.{eqb}
 use lib.ListN.{length, getD, take, drop, length-drop}
 use Rattle.jobs.specs.Valid.{All}
-use Rattle.covers.specs.Views.{linesOf}
+use Rattle.covers.specs.Views.{coverThere}
 use Rattle.quotes.specs.Grammar.{Quote}
 use Rattle.part_lines.specs.Grammar.{PartText}
 use Rattle.part_lines.specs.Views.{pricesSaid}
@@ -24,7 +24,7 @@ rest n x qs = let y = behindFirst n x in grouped n (y .lives) (y .lefts) (covers
 next : (n l r c u : ℕ) (ls rs cs vs is hs us bs ds ms zs ws ps : List ℕ) → c ≤ 1 → u ≤ 1
     → let x : PartLists = record { lives = l ∷ ls; lefts = r ∷ rs; covered = c ∷ cs; removals = vs; insides = is; holders = hs; ruled = u ∷ us; bases = bs; drops = ds; leasts = ms; banded = zs; lows = ws; prices = ps } in
     partsOf n x ≡ firstPart n x ∷ rest n x (drop (listedFirst n x) (quotesIn x))
-unfolding grouped coversOf rulesOf linesOf pricesSaid
+unfolding grouped coversOf rulesOf coverThere pricesSaid
 next n l r zero zero ls rs cs vs is hs us bs ds ms zs ws ps h g = refl
 next n l r (suc zero) zero ls rs cs vs is hs us bs ds ms zs ws ps h g = refl
 next n l r zero (suc zero) ls rs cs vs is hs us bs ds ms zs ws ps h g = refl

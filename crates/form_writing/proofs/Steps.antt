@@ -11,7 +11,7 @@ use lib.ListN.{length, getD, take, drop, length-drop}
 use lib.Seq.{getD-drop, drop-drop, length-take-le}
 use Rattle.jobs.specs.Valid.{All}
 use Rattle.covers.specs.Grammar.{Cover}
-use Rattle.covers.specs.Views.{linesOf}
+use Rattle.covers.specs.Views.{coverThere}
 use Rattle.quotes.specs.Grammar.{Quote}
 use Rattle.price_rules.specs.Rule.{Rule}
 use Rattle.price_rules.specs.Grammar.{byRule}
@@ -27,20 +27,35 @@ use Rattle.form_writing.proofs.Places.{listed-here, agree-next}
 
 -- what they have of it
 pub record First (n : ℕ) (x : PartLists) : Type 0 where
+  -- the first part's mark of its lines of removal is 0 or 1
   pub mark : getD (x .covered) 0 0 ≤ 1
+  -- the lists have a first life for the first part
   pub left : 1 ≤ length (x .lefts)
+  -- the lists have a mark of lines of removal for the first part
   pub covered : 1 ≤ length (x .covered)
+  -- the lists have a removal for the first part, if its lines of removal stand
   pub removal : getD (x .covered) 0 0 ≤ length (x .removals)
+  -- the lists have a number of holders for the first part, if its lines of removal stand
   pub inside : getD (x .covered) 0 0 ≤ length (x .insides)
+  -- the lists have as many holders as the first part's lines say
   pub holders : insideFirst x ≤ length (x .holders)
+  -- the first part's mark of its rule of prices is 0 or 1
   pub rule-mark : getD (x .ruled) 0 0 ≤ 1
+  -- the lists have a mark of its rule of prices for the first part
   pub ruled : 1 ≤ length (x .ruled)
+  -- the lists have a base for the first part, if its prices are said by a rule
   pub base : getD (x .ruled) 0 0 ≤ length (x .bases)
+  -- the lists have a drop for the first part, if its prices are said by a rule
   pub drop : getD (x .ruled) 0 0 ≤ length (x .drops)
+  -- the lists have a least price for the first part, if its prices are said by a rule
   pub least : getD (x .ruled) 0 0 ≤ length (x .leasts)
+  -- the lists have a price of the first part for each of n openings
   pub prices : listedFirst n x ≤ length (x .prices)
+  -- the lists have as many marks of pairs as listed prices
   pub banded : length (x .banded) ≡ length (x .prices)
+  -- each mark of a price's pair is 0 or 1
   pub band-marks : All (λ (z : ℕ). z ≤ 1) (x .banded)
+  -- the lists have a low end for each of the first part's prices that is a pair
   pub lows : pairsFirst n x ≤ length (x .lows)
 
 held-first : (c : ℕ) (is hs : List ℕ) → c ≤ 1 → c ≤ length is → length hs ≡ sumAll is → cond (eqb c 1) (getD is 0 0) 0 ≤ length hs
@@ -86,9 +101,9 @@ from : (k : ℕ) (xs : List ℕ) → getD (drop k xs) 0 0 ≡ getD xs k 0
 from k xs = getD-drop k xs 0 0 ∙ ap (λ (i : ℕ). getD xs i 0) (add-zero k)
 
 -- what does not stand is the same whatever it says
-lines-if : (b : Bool) (c d : Cover) → (b ≡ true → c ≡ d) → linesOf b c ≡ linesOf b d
-unfolding linesOf
-lines-if true c d e = ap (linesOf true) (e refl)
+lines-if : (b : Bool) (c d : Cover) → (b ≡ true → c ≡ d) → coverThere b c ≡ coverThere b d
+unfolding coverThere
+lines-if true c d e = ap (coverThere true) (e refl)
 lines-if false c d e = refl
 
 said-if : (b : Bool) (r s : Rule) (ps : List Quote) → (b ≡ true → r ≡ s) → pricesSaid b r ps ≡ pricesSaid b s ps
@@ -97,21 +112,27 @@ said-if true r s ps e = ap byRule (e refl)
 said-if false r s ps e = refl
 
 module _ (n : ℕ) (x : PartLists) (k : ℕ) (p : Place) where
+  -- the mark of part k: 1 if its lines of removal stand, else 0
   abbrev pub markAt : ℕ
   markAt = getD (x .covered) k 0
 
+  -- the lines of removal of part k stand: its mark is 1
   abbrev pub thereAt : Bool
   thereAt = eqb markAt 1
 
+  -- how many holders part k has; none where its lines of removal don't stand
   abbrev pub insideAt : ℕ
   insideAt = cond thereAt (getD (x .insides) (p .covers) 0) 0
 
+  -- the mark of part k that says whether its prices are said by a rule
   abbrev pub ruleMarkAt : ℕ
   ruleMarkAt = getD (x .ruled) k 0
 
+  -- the prices of part k are said by a rule: its mark is 1
   abbrev pub ruledAt : Bool
   ruledAt = eqb ruleMarkAt 1
 
+  -- how many prices of part k are listed: none where a rule says them, otherwise one for each opening
   abbrev pub listedAt : ℕ
   listedAt = cond ruledAt 0 n
 
@@ -119,6 +140,7 @@ module _ (n : ℕ) (x : PartLists) (k : ℕ) (p : Place) where
   abbrev pub marksAt : List ℕ
   marksAt = take listedAt (drop (p .prices) (x .banded))
 
+  -- how many of the listed prices of part k are pairs, with a low end
   abbrev pub pairsAt : ℕ
   pairsAt = sumAll marksAt
 
@@ -126,6 +148,7 @@ module _ (n : ℕ) (x : PartLists) (k : ℕ) (p : Place) where
   abbrev pub lowsAt : List ℕ
   lowsAt = drop (p .lows) (x .lows)
 
+  -- the listed prices of part k, from the place on
   abbrev pub highsAt : List ℕ
   highsAt = take listedAt (drop (p .prices) (x .prices))
 
@@ -135,21 +158,37 @@ module _ (n : ℕ) (x : PartLists) (k : ℕ) (p : Place) where
 
   -- what the lists have of the part at a place
   pub record Known : Type 0 where
+    -- the mark of part k is 0 or 1, as marks are to be
     pub mark : markAt ≤ 1
+    -- part k has a first life in the lists
     pub left : k < length (x .lefts)
+    -- part k has a mark of its lines of removal in the lists
     pub covered : k < length (x .covered)
+    -- the removals go on past the place by one, if part k's lines of removal stand
     pub removal : p .covers + markAt ≤ length (x .removals)
+    -- part k has a number of holders at the place, if its lines of removal stand
     pub inside : thereAt ≡ true → p .covers < length (x .insides)
+    -- the holders go on past the place by as many as part k has
     pub holders : p .holders + insideAt ≤ length (x .holders)
+    -- part k has a mark of its rule of prices in the lists
     pub ruled : k < length (x .ruled)
+    -- the bases go on past the place by one, if part k's prices are said by a rule
     pub rules : p .rules + ruleMarkAt ≤ length (x .bases)
+    -- the mark of part k's rule of prices is 0 or 1
     pub rule-mark : ruleMarkAt ≤ 1
+    -- part k has a drop at the place, if its prices are said by a rule
     pub drop : ruledAt ≡ true → p .rules < length (x .drops)
+    -- part k has a least price at the place, if its prices are said by a rule
     pub least : ruledAt ≡ true → p .rules < length (x .leasts)
+    -- part k has at most 64 listed prices
     pub few : listedAt ≤ 64
+    -- the prices go on past the place by one for each of n openings
     pub prices : p .prices + listedAt ≤ length (x .prices)
+    -- the marks of pairs go on past the place by one for each listed price of part k
     pub banded : p .prices + listedAt ≤ length (x .banded)
+    -- the low ends go on past the place by one for each of part k's pairs
     pub lows : p .lows + pairsAt ≤ length (x .lows)
+    -- each listed price of part k has a mark 0 or 1, and there are low ends for all its pairs
     pub marked : Marked marksAt lowsAt highsAt
 
   inside-is : insideFirst (after k p x) ≡ insideAt
@@ -254,7 +293,7 @@ module _ (n : ℕ) (x : PartLists) (k : ℕ) (p : Place) where
   partAt = record {
     life = getD (x .lives) k 0;
     left = getD (x .lefts) k 0;
-    cover = linesOf thereAt (record { removal = cond thereAt (getD (x .removals) (p .covers) 0) 0; holders = take insideAt (drop (p .holders) (x .holders)) });
+    cover = coverThere thereAt (record { removal = cond thereAt (getD (x .removals) (p .covers) 0) 0; holders = take insideAt (drop (p .holders) (x .holders)) });
     prices = pricesSaid ruledAt ruleAt (quotesFrom marksAt lowsAt highsAt);
   }
 
@@ -264,9 +303,9 @@ module _ (n : ℕ) (x : PartLists) (k : ℕ) (p : Place) where
       held : ℕ → List ℕ
       held i = take i (drop (p .holders) (x .holders))
 
-      cover : firstPart n (after k p x) .cover ≡ linesOf thereAt (record { removal = cond thereAt (getD (x .removals) (p .covers) 0) 0; holders = held insideAt })
+      cover : firstPart n (after k p x) .cover ≡ coverThere thereAt (record { removal = cond thereAt (getD (x .removals) (p .covers) 0) 0; holders = held insideAt })
       cover =
-          ap (λ (c : ℕ). linesOf (eqb c 1) (record { removal = getD (drop (p .covers) (x .removals)) 0 0; holders = held (insideFirst (after k p x)) })) (from k (x .covered))
+          ap (λ (c : ℕ). coverThere (eqb c 1) (record { removal = getD (drop (p .covers) (x .removals)) 0 0; holders = held (insideFirst (after k p x)) })) (from k (x .covered))
           ∙ lines-if thereAt _ _ (λ e. ap₂ (λ (v i : ℕ). record { removal = v; holders = held i }) (from (p .covers) (x .removals) ∙ sym (ap (λ (b : Bool). cond b (getD (x .removals) (p .covers) 0) 0) e)) inside-is)
 
       quotes : List Quote

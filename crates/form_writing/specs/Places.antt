@@ -4,7 +4,7 @@ use mathlib.Core.Bool.{cond}
 use mathlib.Core.Path.{_≡_}
 use lib.ListN.{length, getD, take, drop}
 use lib.Dec.{eqb}
-use Rattle.covers.specs.Views.{linesOf}
+use Rattle.covers.specs.Views.{coverThere}
 use Rattle.price_rules.specs.Rule.{Rule}
 use Rattle.part_lines.specs.Grammar.{PartText}
 use Rattle.part_lines.specs.Views.{pricesSaid}
@@ -51,7 +51,7 @@ abbrev pub firstPart : ℕ → PartLists → PartText
 firstPart n x = record {
   life = getD (x .lives) 0 0;
   left = getD (x .lefts) 0 0;
-  cover = linesOf (eqb (getD (x .covered) 0 0) 1) (record { removal = getD (x .removals) 0 0; holders = take (insideFirst x) (x .holders) });
+  cover = coverThere (eqb (getD (x .covered) 0 0) 1) (record { removal = getD (x .removals) 0 0; holders = take (insideFirst x) (x .holders) });
   prices = pricesSaid (eqb (getD (x .ruled) 0 0) 1) (ruleFirst x) (take (listedFirst n x) (quotesIn x));
 }
 

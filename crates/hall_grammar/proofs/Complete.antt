@@ -57,6 +57,7 @@ lines-back t v s l next =
           ∙ bind-good (row "machines=" 1 mostLines) _ (a .1) ∙ bind-good (row "call=" 0 dearestCall) _ (b .1) ∙ bind-good (jobsBehind (length (t .jobs)) []) _ (d .1),
     )
 
+-- the text of a valid hall record, if it is not too long, is accepted and read back as that record
 pub read-back : (t : HallText) → ValidHall t → length (hallText t) ≤ mostHallBytes → readHallText (hallText t) ≡ accepted t
 read-back t v short =
     let r = lines-back t v [] 1 behind-none in

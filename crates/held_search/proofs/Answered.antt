@@ -28,14 +28,14 @@ use Rattle.search.specs.declared.Found.{Found}
 use Rattle.search.specs.Found.{rowIn, planFound, saidBy, saidAt, saidIn}
 use Rattle.search.proofs.Answered.{choice-size}
 use Rattle.held_places.specs.Blocks.{Entries}
-use Rattle.held_places.specs.Arrays.{pricesAt, Lanes, Holds}
+use Rattle.held_places.specs.Arrays.{pricesAt, Lanes, HeldArrays}
 use Rattle.held_places.specs.Changes.{placesOf, laneChoice}
 use Rattle.held_places.proofs.Held.{opened, nodes-are, held-size, choice-is}
 use Rattle.held_rows.specs.Held.{HeldSheet, held, heldBound, SheetOf}
 use Rattle.held_rows.proofs.Sheets.{held-bound}
 use Rattle.walk.specs.declared.Solved.{Solved}
-use Rattle.stop_nodes.specs.State as stop
-use Rattle.held_search.specs.Solved.{limitedBy, Solves, noRow, Chooses}
+use Rattle.held_nodes.specs.State as stop
+use Rattle.held_search.specs.Solved.{limitedBy, SolvesJob, noRow, Chooses}
 
 -- ---- the rows of changes, part by part
 
@@ -43,9 +43,11 @@ module _ (e : ℤ) (ss : List ℤ) (ls rs ps : List ℕ) (nd : List Bool) (h : �
   abbrev chosen : ℕ → List Bool
   chosen q = laneChoice e ss (getD ls q 0) (getD rs q 0) (pricesAt (length ss) ps q) (placesOf (length ss) h nd q name) ++ replicate (64 - length ss) false
 
+  -- before the first part there is no row of changes to be right
   pub chooses-none : (rows : List Changes) → length rows ≡ 16 → Chooses e ss ls rs ps nd h name rows 0
   chooses-none rows s = record { size = s; row = λ q l. absurd (omega arith) }
 
+  -- with part q's changes in its row, the rows of one part more are right
   pub chooses-more : (rows : List Changes) (q : ℕ) (v : List Bool) → q < 16 → v ≡ chosen q → Chooses e ss ls rs ps nd h name rows q → Chooses e ss ls rs ps nd h name (set rows q (record { at = v })) (q + 1)
   chooses-more rows q v l f c =
       record {
@@ -57,8 +59,9 @@ module _ (e : ℤ) (ss : List ℤ) (ls rs ps : List ℕ) (nd : List Bool) (h : �
 
 -- ---- the walk over the sheet is the search of the job
 
-pub solves-job : (job : Job) (sheet : HeldSheet) (limit : ℕ) (v : List ℕ) (r : Solved) → SheetOf job sheet → held sheet ≡ inner job → length (sheet .positions) ≡ length (job .openings) → stop.Solves sheet limit v r
-    → Solves job limit (stop.bestName (held sheet) (length (sheet .positions)) v (r .mask)) r
+-- what the walk over a job's sheet gives is what the search of the job gives
+pub solves-job : (job : Job) (sheet : HeldSheet) (limit : ℕ) (v : List ℕ) (r : Solved) → SheetOf job sheet → held sheet ≡ inner job → length (sheet .positions) ≡ length (job .openings) → stop.HeldSolves sheet limit v r
+    → SolvesJob job limit (stop.bestName (held sheet) (length (sheet .positions)) v (r .mask)) r
 unfolding askFrom
 solves-job job sheet limit v r so h n s =
     let bound : heldBound sheet ≡ boundOf job = λ i p. held-bound job sheet so p i in
@@ -66,7 +69,7 @@ solves-job job sheet limit v r so h n s =
 
 -- ---- the plan of a name: its stops and the rows of changes
 
-module _ (job : Job) (e : ℤ) (ss : List ℤ) (fs ls rs ps : List ℕ) (nd : List Bool) (rm : List ℕ) (ar : Lanes e ss ls rs ps nd (length rm)) (ho : Holds job e ss fs ls rs ps nd rm) (name : List Bool)
+module _ (job : Job) (e : ℤ) (ss : List ℤ) (fs ls rs ps : List ℕ) (nd : List Bool) (rm : List ℕ) (ar : Lanes e ss ls rs ps nd (length rm)) (ho : HeldArrays job e ss fs ls rs ps nd rm) (name : List Bool)
     (stops : List Bool) (st : Entries false (λ (k : ℕ). getD (getD (blocks (length rm) (length ss) name) k (false ∷ [])) 0 true) (length ss) stops)
     (rows : List Changes) (ch : Chooses e ss ls rs ps nd (length rm) name rows (length ls)) where
   abbrev n : ℕ
@@ -126,11 +129,12 @@ module _ (job : Job) (e : ℤ) (ss : List ℤ) (fs ls rs ps : List ℕ) (nd : Li
 
 -- ---- what the code holds, as it is handed back
 
+-- what is handed over: the solved search's numbers with the stops and the rows of changes
 abbrev pub handed : Solved → List Bool → List Changes → Found
 handed s stops rows = record { count = s .count; over = s .over; found = s .found; cost = s .cost; floor = s .floor; stops = stops; changes = rows }
 
-module _ (job : Job) (e : ℤ) (ss : List ℤ) (fs ls rs ps : List ℕ) (nd : List Bool) (rm : List ℕ) (ar : Lanes e ss ls rs ps nd (length rm)) (ho : Holds job e ss fs ls rs ps nd rm) (limit : ℕ) (name : List Bool) (s : Solved)
-    (so : Solves job limit name s) (stops : List Bool) (st : Entries false (λ (k : ℕ). getD (getD (blocks (length rm) (length ss) name) k (false ∷ [])) 0 true) (length ss) stops)
+module _ (job : Job) (e : ℤ) (ss : List ℤ) (fs ls rs ps : List ℕ) (nd : List Bool) (rm : List ℕ) (ar : Lanes e ss ls rs ps nd (length rm)) (ho : HeldArrays job e ss fs ls rs ps nd rm) (limit : ℕ) (name : List Bool) (s : Solved)
+    (so : SolvesJob job limit name s) (stops : List Bool) (st : Entries false (λ (k : ℕ). getD (getD (blocks (length rm) (length ss) name) k (false ∷ [])) 0 true) (length ss) stops)
     (rows : List Changes) (ch : Chooses e ss ls rs ps nd (length rm) name rows (length ls)) where
   abbrev r : Found
   r = handed s stops rows
@@ -159,6 +163,7 @@ module _ (job : Job) (e : ℤ) (ss : List ℤ) (fs ls rs ps : List ℕ) (nd : Li
   at-floor Missing = refl
   at-floor (Sum floor) = by floor (r .over) (r .found) refl
 
+  -- what the code hands over says the model's answer for the job and the limit
   pub said : saidIn all parts r ≡ answerOf job limit
   unfolding answerOf
   said = at-floor (r .floor) ∙ ap₂ (answeredAt job) (so .floor) (so .walked)

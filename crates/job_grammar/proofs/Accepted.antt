@@ -40,6 +40,7 @@ steps-rise : (h before : ℕ) (is : List ℕ) → Chained (KnownStep h) itself b
 steps-rise h before [] c = tt
 steps-rise h before (i ∷ is) c = (c .0 .after, c .0 .within, steps-rise h i is (c .1))
 
+-- accepted lines of idle steps have at most 365, rising within the horizon, and are written for them
 pub idles-tell : (h : ℕ) → Tells (idles h) (KnownIdles h) (optionalText idlesText)
 unfolding idles idleSteps idle ifPresent return idlesText
 idles-tell h s s′ l l′ is e =
@@ -70,6 +71,7 @@ idles-tell h s s′ l l′ is e =
 
 -- ---- openings
 
+-- an opening whose step comes after `before` and within the horizon h, with its fee in range
 abbrev pub KnownOpening : ℕ → ℕ → Opening → Type 0
 KnownOpening h before o = KnownStep h before (o .step) × (o .fee ≤ 1000000)
 
@@ -89,9 +91,11 @@ opening-tells h before s s′ l l′ o e =
           ∙ ap (λ (r : List ℕ). lineOf "opening=" (b .a) ++ r) (row-sound _ 0 1000000 (b .mid) (d .mid) (b .at) (d .at) (d .a) (d .first) ∙ ap (λ (r : List ℕ). lineOf "fee=" (d .a) ++ r) y));
     })
 
+-- the step that an opening hands on to the one after it
 abbrev pub stepOf : ℕ → Opening → ℕ
 stepOf before o = o .step
 
+-- openings that are each known after the one before are valid, and rise within the horizon
 pub chained-rising : (h before : ℕ) (os : List Opening) → Chained (KnownOpening h) stepOf before os → All ValidOpening os × Rising before h (stepsOf os)
 chained-rising h before [] c = (tt, tt)
 chained-rising h before (o ∷ os) c =
@@ -112,6 +116,7 @@ chained-parts m n k (p ∷ ps) c =
     let r = chained-parts m n (suc k) ps (c .1) in
     ((c .0 .0, r .0), (c .0 .1, r .1), (c .0 .2, r .2))
 
+-- parts that mean valid parts with holders in order are known along the chain of their numbers
 pub parts-chained : (m n k : ℕ) (ps : List PartText) → All (ValidPart n) (map (meantPart n) ps) → HeldFrom m k (map (meantPart n) ps) → All (Spelt n) ps → Chained (KnownPart m n) following k ps
 parts-chained m n k [] v h s = tt
 parts-chained m n k (p ∷ ps) v h s = ((v .0, h .0, s .0), parts-chained m n (suc k) ps (v .1) (h .1) (s .1))
@@ -175,6 +180,7 @@ walk-tells s s′ l l′ o e = go o (optional-inv _ 0 4000000000 s s′ l l′ o
     go missing f = record { known = tt; text = f }
     go (present w) f = record { known = row-gives _ 0 4000000000 s s′ l l′ w f .1; text = row-sound _ 0 4000000000 s s′ l l′ w f }
 
+-- an accepted job's lines say a valid text, and are what is written for it
 pub lines-tell : Tells jobLines ValidText jobText
 unfolding jobLines rest jobText
 lines-tell s s′ l l′ g e =

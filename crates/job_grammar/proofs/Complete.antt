@@ -34,6 +34,7 @@ rise-chained : (h before : ℕ) (is : List ℕ) → h ≤ 365 → Rising before 
 rise-chained h before [] high r = tt
 rise-chained h before (i ∷ is) high r = (record { low = omega (arith, r .0); high = omega (arith, r .1); after = r .0; within = r .1 }, rise-chained h i is high (r .2))
 
+-- idle steps in order, or none, are read back from their lines if no other `idles` line follows
 pub idles-complete : (h : ℕ) (o : Optional (List ℕ)) → h ≤ 365 → length (idleIn o) ≤ 365 → Rising 0 h (idleIn o) → Some o → (s : List ℕ) (l : ℕ) → startsWith (bytes "idles=") s ≡ false
     → (l′ : ℕ) × (idles h (optionalText idlesText o ++ s) l ≡ good o s l′)
 unfolding idles idleSteps idle ifPresent return idlesText

@@ -135,5 +135,6 @@ text-short t v =
       j .few-parts,
     ))
 
+-- the text of a valid record of a job has no more bytes than a text may have
 pub text-fits : (t : JobText) → ValidText t → length (jobText t) ≤ maxBytes
 text-fits t v = omega (arith, text-short t v)

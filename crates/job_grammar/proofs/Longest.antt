@@ -11,7 +11,7 @@ use lib.ListN.{length, replicate}
 use Rattle.lines.specs.Text.{bytes, decimalIn, line, present}
 use Rattle.model.specs.Model.{Opening}
 use Rattle.model.specs.Windows.{Rising, stepsOf}
-use Rattle.jobs.specs.Valid.{All, ValidOpening, Holds, ValidPart, HeldFrom}
+use Rattle.jobs.specs.Valid.{All, ValidOpening, ValidHolders, ValidPart, HeldFrom}
 use Rattle.covers.specs.Rendering.{coverText}
 use Rattle.covers.specs.Views.{meantCover}
 use Rattle.part_lines.specs.Grammar.{PartText, meantPart}
@@ -82,13 +82,13 @@ all-alike P zero x h = tt
 all-alike P (suc n) x h = (h, all-alike P n x h)
 
 -- the others rise, are within m, and are not k
-others-hold : (m k least before n : ℕ) → least ≤ before → before + n ≤ m → Holds m k least (others k before n)
+others-hold : (m k least before n : ℕ) → least ≤ before → before + n ≤ m → ValidHolders m k least (others k before n)
 unfolding others
 others-hold m k least before zero l h = tt
 others-hold m k least before (suc n) l h =
     go (ℕ-discrete (suc before) k) (others-hold m k least (suc before) n (omega arith) (omega arith)) (others-hold m k (suc before) (suc before) n (omega arith) (omega arith))
   where
-    go : Dec (suc before ≡ k) → Holds m k least (others k (suc before) n) → Holds m k (suc before) (others k (suc before) n) → Holds m k least (others k before (suc n))
+    go : Dec (suc before ≡ k) → ValidHolders m k least (others k (suc before) n) → ValidHolders m k (suc before) (others k (suc before) n) → ValidHolders m k least (others k before (suc n))
     go (yes e) without after = rw (eq-eqb (suc before) k e) without
     go (no e) without after = rw (ne-eqb (suc before) k e) (omega arith, omega arith, e, after)
 
@@ -128,6 +128,7 @@ parts-valid before (suc n) m =
     } in
     ((p, r .0), (others-hold 16 (suc before) 0 0 16 (omega arith) (omega arith), r .1), (s, r .2))
 
+-- the longest text says what a valid job text may say
 pub longest-valid : ValidText longestText
 unfolding longestText partsAfter stepsAfter openingsAfter
 longest-valid = record {

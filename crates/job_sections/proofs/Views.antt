@@ -17,7 +17,7 @@ use Rattle.lines.specs.declared.rows.End.the-variants as end
 use Rattle.lines.specs.declared.rows.WholeText.the-variants.{Fault}
 use Rattle.lines.proofs.Parsing.{end-value, map-read}
 use Rattle.lines.proofs.Sound.{chain-gives}
-use Rattle.covers.specs.Views.{linesOf}
+use Rattle.covers.specs.Views.{coverThere}
 use Rattle.quotes.specs.Views.{quotesOf}
 use Rattle.job_grammar.specs.Grammar.{idle, idleSteps}
 use Rattle.part_lines.specs.Grammar.{meantPart}
@@ -59,6 +59,7 @@ unfolding chosen joined
 blanks-mean n s p said e k =
     unsaid-means n (getD (replicate 16 s) k blankSaid) (getD (replicate 16 p) k blankPart) (alike-at Unsaid 16 k s blankSaid said (refl, refl)) (alike-at Bare 16 k p blankPart e (refl, refl))
 
+-- parts that are what their lines mean stay so when one is stored with lines that mean it
 pub meant-set : (n i : ℕ) (cs : List PartSaid) (ps : List Part) (c : PartSaid) (p : Part) → i < length cs → i < length ps → Meant n cs ps → meantPart n (partLines c (partOf n p)) ≡ priced n c (partOf n p) → Meant n (set cs i c) (set ps i p)
 meant-set n i cs ps c p h m old new k = go (ℕ-discrete k i)
   where
@@ -80,7 +81,7 @@ lines-priced n s p = go (s .ruled) refl
     go : (b : Bool) → s .ruled ≡ b → partLines s (priced n s p) ≡ partLines s p
     go b e =
         let f = same (s .ruled) (ruleOf (s .rule)) (rulePrices (ruleOf (s .rule)) n) (p .prices) in
-        λ i. record { life = p .life; left = p .left; cover = linesOf (s .covered) (record { removal = p .removal; holders = p .holders }); prices = f i }
+        λ i. record { life = p .life; left = p .left; cover = coverThere (s .covered) (record { removal = p .removal; holders = p .holders }); prices = f i }
 
 -- the first of them have the prices of their rules
 abbrev Done : ℕ → ℕ → List PartSaid → List Part → List Part → Type 0

@@ -2,6 +2,7 @@
 use jobs::Part;
 use lines::rows::Cursor;
 use lines::rows::End;
+use model::PARTS;
 use part_lines::PartSaid;
 use part_lines::blank_part;
 use part_lines::put_rule_prices;
@@ -16,8 +17,8 @@ ghost use Rattle.model.specs.Limits.{mostOpenings, mostParts};
 // Parts read: what their lines say and mean, and where they end.
 pub struct Parts {
     pub end: End,
-    pub said: [PartSaid; 16],
-    pub parts: [Part; 16],
+    pub said: [PartSaid; PARTS],
+    pub parts: [Part; PARTS],
 }
 
 // The lines of the parts, m of them, with n openings: all but the prices of their rules.
@@ -26,9 +27,9 @@ fn list_parts(text: &[u8], p: Cursor, m: usize, n: usize) -> Parts
     ensures { λ r. ⌜ PartsListed m n (now (text .entry)) r (grammar.parts m n (drop (p .at) (now (text .entry))) (p .line)) ⌝ }
 {
     let blank = blank_part();
-    let mut parts = [blank; 16];
+    let mut parts = [blank; PARTS];
     let nothing = PartSaid::nothing();
-    let mut said = [nothing; 16];
+    let mut said = [nothing; PARTS];
     let mut q = p;
     let mut i: usize = 0;
     while i < m {

@@ -13,6 +13,7 @@ use lines::rows::Row;
 use lines::rows::WholeText;
 use lines::rows::advance;
 use lines::rows::close_text;
+use model::PARTS;
 use part_lines::PartSaid;
 ghost use mathlib.Core.Path.{_≡_};
 ghost use Prim.Native.Nat.{_≤_};
@@ -25,14 +26,11 @@ ghost use Rattle.job_text.specs.Views.{textOf, givenOf, LinesRead, TextR
 ghost use Rattle.job_grammar.specs.Grammar.{meant, body, rest, jobLines, readJobText};
 ghost use Rattle.model.specs.Limits.{lastStep, mostOpenings};
 
-// The most bytes of a job text.
-pub const MAX_BYTES: usize = 40960;
-
 // What a job text says: whether a walk line stands and its number, what its parts' lines say, and the job that it means.
 pub struct JobText {
     pub walk_there: bool,
     pub walk: u32,
-    pub said: [PartSaid; 16],
+    pub said: [PartSaid; PARTS],
     pub job: Job,
 }
 
@@ -56,7 +54,7 @@ fn no_text() -> JobText
     JobText {
         walk_there: false,
         walk: 0,
-        said: [nothing; 16],
+        said: [nothing; PARTS],
         job: Job::empty(),
     }
 }
@@ -168,7 +166,7 @@ pub fn read_job_lines(text: &[u8], p: Cursor) -> JobLines
 pub fn read_job(text: &[u8]) -> JobRead
     ensures { λ r. ⌜ TextRead r (readJobText (now (text .entry))) ⌝ }
 {
-    if MAX_BYTES < text.len() {
+    if Job::MAX_BYTES < text.len() {
         return JobRead {
             verdict: WholeText::Fault { number: 1, line: 0 },
             text: no_text(),

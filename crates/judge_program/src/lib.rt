@@ -1,7 +1,7 @@
 // The judge's program: a job and a plan are read from files, the plan is weighed, and the answer printed.
 use answer_output::Printout;
 use answer_output::print_answer;
-use job_text::whole::MAX_BYTES;
+use jobs::Job;
 use jobs::Plan;
 use whole_input::Text;
 use whole_input::read_file;
@@ -12,7 +12,7 @@ pub fn judge_files(job_path: &[u8], plan_path: &[u8]) -> Printout
     ensures { λ r. ⌜ Printed r ⌝ }
 {
     // One byte more than a text may have, so that a longer one is told.
-    let mut job = [0u8; MAX_BYTES + 1];
+    let mut job = [0u8; Job::MAX_BYTES + 1];
     let n = read_file(job_path, Text::Job, &mut job);
     let mut plan = [0u8; Plan::MAX_BYTES + 1];
     let k = read_file(plan_path, Text::Plan, &mut plan);

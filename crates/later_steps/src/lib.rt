@@ -1,5 +1,7 @@
 // The steps after a step, renumbered: idle steps and openings of the job that is left.
 use jobs::Job;
+use model::OPENINGS;
+use model::STEPS;
 ghost use mathlib.Core.Path.{_≡_};
 ghost use mathlib.Core.List.{map};
 ghost use Prim.Native.Nat.{ℕ, _-_, _≤_};
@@ -26,11 +28,11 @@ pub fn count_to(steps: &[u32], step: u32) -> usize
 }
 
 // The steps behind the first n, which are after the step, renumbered.
-pub fn renumbered(steps: &[u32], n: usize, step: u32) -> [u32; 365]
+pub fn renumbered(steps: &[u32], n: usize, step: u32) -> [u32; STEPS]
     requires { ⌜ (length (now steps) ≤ lastStep) × (n ≤ length (now steps)) × After step (drop n (now steps)) ⌝ }
     ensures { λ r. ⌜ take (length (now (steps .entry)) - n) r ≡ map (λ (s : ℕ). s - step) (drop n (now (steps .entry))) ⌝ }
 {
-    let mut later = [0u32; 365];
+    let mut later = [0u32; STEPS];
     let mut i: usize = n;
     while i < steps.len() {
         later[i - n] = steps[i] - step;
@@ -41,8 +43,8 @@ pub fn renumbered(steps: &[u32], n: usize, step: u32) -> [u32; 365]
 
 // The steps of a job's openings, and their fees.
 pub struct OpeningLists {
-    pub steps: [u32; 64],
-    pub fees: [u32; 64],
+    pub steps: [u32; OPENINGS],
+    pub fees: [u32; OPENINGS],
 }
 
 // The openings of a job as lists.
@@ -51,8 +53,8 @@ pub fn opening_lists(job: Job) -> OpeningLists
     ensures { λ r. ⌜ (take (job .«opening_count») (r .steps) ≡ stepsOf (jobOf job .openings)) × (take (job .«opening_count») (r .fees) ≡ map feeOf (jobOf job .openings)) ⌝ }
 {
     let n = job.opening_count;
-    let mut steps = [0u32; 64];
-    let mut fees = [0u32; 64];
+    let mut steps = [0u32; OPENINGS];
+    let mut fees = [0u32; OPENINGS];
     let mut i: usize = 0;
     while i < n {
         let o = job.openings[i];

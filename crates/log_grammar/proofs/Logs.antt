@@ -93,9 +93,12 @@ module _ (job : Job) (n : ℕ) (fits : n ≤ length (job .openings)) (plan : Pla
 
 -- what an accepted log text means: a log of the job, within the range of its cost, whose text it is; and that the plan of its lines is that log's, as far as the openings that are past
 pub record Tells (job : Job) (s : List ℕ) (t : LogText) : Type 0 where
+  -- the log that the text means is one of the job, as the grammar guarantees
   pub logged : Logged job (logOf job t)
+  -- the stated cost is at most 4,000,000,000
   pub cost : t .stated .cost ≤ 4000000000
   pub text : s ≡ logText job (logOf job t)
+  -- the log's plan at the openings that are past is the plan of the text's lines
   pub front : planFront (passed job (t .step)) (logOf job t .plan) ≡ t .stated .plan
 
 pub log-tells : (job : Job) → ValidJob job → (s : List ℕ) (t : LogText) → readLog job s ≡ accepted t → Tells job s t

@@ -18,5 +18,6 @@ log-numbers job =
     bind-numbers PlanFault _ _ (row-numbers PlanFault (inl (omega arith, omega arith)) (inl (omega arith, omega arith)) _ 1 (job .horizon - 2))
     (λ step. bind-numbers PlanFault _ _ (lines-numbers (pastJob job step)) (λ stated. return-numbers PlanFault _))
 
+-- a refused log's fault is number 1, 2, 3 or 9, and its line is at most 32,769
 pub log-fault : (job : Job) (s : List ℕ) (n l : ℕ) → readLog job s ≡ refused n l → PlanFault n × (l ≤ 32769)
 log-fault job s n l e = refused-fault PlanFault maxBytes (logLines job) (inl (omega arith, omega arith)) (inl (omega arith, omega arith)) (log-numbers job) s n l e

@@ -21,6 +21,7 @@ use Rattle.log_grammar.specs.Rendering.{planFront}
 
 -- ---- sets of the first openings, and of all
 
+-- a set that nothing is in says no at each of its places
 pub quiet-is : (l : List Bool) → Quiet l → l ≡ replicate (length l) false
 quiet-is [] q = refl
 quiet-is (false ∷ l) q = ap (λ (r : List Bool). false ∷ r) (quiet-is l (λ k. q (suc k)))
@@ -34,9 +35,11 @@ front-padded m n l h fits q =
     ∙ ap (λ (r : List Bool). take n l ++ r) (sym (quiet-is (drop n l) (quiet-after l n q)))
     ∙ take-append-drop n l
 
+-- a set of the first openings, as a set of all m, has m places
 pub padded-length : (m : ℕ) (l : List Bool) → length l ≤ m → length (padded m l) ≡ m
 padded-length m l h = omega (arith, length-append l (replicate (m - length l) false), length-replicate (m - length l) false)
 
+-- a set of the first openings, as a set of all, has that set as its front
 pub padded-front : (m : ℕ) (l : List Bool) → take (length l) (padded m l) ≡ l
 padded-front m l = take-append-seam l (replicate (m - length l) false)
 
@@ -56,6 +59,7 @@ padded-had m (x ∷ l) (suc k) e = go l (m - length (x ∷ l)) k e
     go (y ∷ l) r zero e = e
     go (y ∷ l) r (suc k) e = go l r k e
 
+-- what is in a set of the first openings is in that set as one of all
 pub padded-has : (m : ℕ) (l : List Bool) (k : ℕ) → getD l k false ≡ true → getD (padded m l) k false ≡ true
 padded-has m l k e = go l (m - length l) k e
   where
@@ -103,6 +107,7 @@ module _ (n : ℕ) where
     part-count : length (map (partTo n) (job .parts)) ≡ length (job .parts)
     part-count = length-map (job .parts) (partTo n)
 
+    -- a valid job is valid with its first n openings alone
     pub to-valid : ValidJob job → ValidJob (jobTo n job)
     to-valid v = record {
       horizon-low = v .horizon-low;
@@ -127,6 +132,7 @@ module _ (n : ℕ) where
       sets : length (plan .changes) ≡ length (job .parts)
       sets = shaped .parts
 
+      -- a plan of the right shape, at the first n openings, has the shape of the job with these alone
       pub front-shaped : Shaped (jobTo n job) (planFront n plan)
       front-shaped = record {
         stops = length-take-le n (plan .stops) (omega (arith, shaped .stops)) ∙ sym opening-count;

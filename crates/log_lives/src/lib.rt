@@ -4,6 +4,7 @@ use clock::positions_of;
 use jobs::Job;
 use jobs::Plan;
 use least::in_reach;
+use model::PARTS;
 use part_records::part_of;
 use plan_costs::costs::cost_of;
 use plan_lives::lives::late_to;
@@ -48,7 +49,7 @@ fn left_at(life: u32, last: i32, now: i32) -> u32
 }
 
 // The life not yet used of each part at the step.
-pub fn lefts_at(past: Job, step: u32, plan: Plan) -> [u32; 16]
+pub fn lefts_at(past: Job, step: u32, plan: Plan) -> [u32; PARTS]
     requires { ⌜ Sound past × (step ≤ lastPosition) ⌝ }
     ensures { λ r. ⌜ take (past .«part_count») r ≡ leftsAt (jobOf past) step (planFor past plan) ⌝ }
 {
@@ -56,7 +57,7 @@ pub fn lefts_at(past: Job, step: u32, plan: Plan) -> [u32; 16]
     let to = position_of(past, step);
     let m = past.part_count;
     let parts = past.parts;
-    let mut lefts = [0u32; 16];
+    let mut lefts = [0u32; PARTS];
     let mut k: usize = 0;
     while k < m {
         let part = part_of(parts, m, k);

@@ -29,6 +29,7 @@ count-all step (s ∷ ss) f = rw (le-leb s step (f 0 (omega arith))) (ap suc (co
 pub openings-to : (n m : ℕ) (os : List Opening) → n ≤ m → map openingOf (take n os) ≡ take n (map openingOf (take m os))
 openings-to n m os h = ap (map openingOf) (sym (take-take n m os h)) ∙ map-take openingOf n (take m os)
 
+-- the parts held with n prices are those with m, cut to the first n, where n is at most m
 pub parts-to : (n m : ℕ) (ps : List Part) → n ≤ m → map (partOf n) ps ≡ map (partTo n) (map (partOf m) ps)
 parts-to n m [] h = refl
 parts-to n m (p ∷ ps) h =

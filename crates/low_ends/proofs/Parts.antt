@@ -90,6 +90,7 @@ pub ruled-plain : (s : PartSaid) (highs : List ℕ) → s .ruled ≡ true → ba
 unfolding pricesSaid
 ruled-plain s highs e = ap (λ (b : Bool). bandedPrices (pricesSaid b (ruleOf (s .rule)) (quotesOf (s .banded) (s .lows) highs))) e
 
+-- a part without a rule has a `low` line exactly where one of its prices is a pair
 pub quoted-banded : (s : PartSaid) (highs : List ℕ) → s .ruled ≡ false → bandedPrices (pricesSaid (s .ruled) (ruleOf (s .rule)) (quotesOf (s .banded) (s .lows) highs)) ≡ anyPair (quotesOf (s .banded) (s .lows) highs)
 unfolding pricesSaid
 quoted-banded s highs e = ap (λ (b : Bool). bandedPrices (pricesSaid b (ruleOf (s .rule)) (quotesOf (s .banded) (s .lows) highs))) e

@@ -30,6 +30,7 @@ lows-next k bs ls hs h = ap (λ (i : ℕ). lowsOf bs ls (take i hs)) (add-one k)
 
 -- ---- marks
 
+-- whether one of three holds does not depend on which two are joined first
 pub or-assoc : (a b c : Bool) → (a || (b || c)) ≡ ((a || b) || c)
 or-assoc true b c = refl
 or-assoc false b c = refl

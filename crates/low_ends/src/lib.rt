@@ -1,6 +1,8 @@
 // A job at the low ends of its prices, and whether its parts' lines have a `low` line.
 use jobs::Job;
 use jobs::Part;
+use model::OPENINGS;
+use model::PARTS;
 use part_lines::PartSaid;
 ghost use mathlib.Core.Path.{_≡_};
 ghost use mathlib.Core.Bool.{_||_, cond};
@@ -27,11 +29,16 @@ fn low_end(banded: bool, low: u32, high: u32) -> u32
 }
 
 // The first n prices at their low ends, with marks of the pairs and their low ends.
-fn low_prices(banded: [bool; 64], lows: [u32; 64], highs: [u32; 64], n: usize) -> [u32; 64]
+fn low_prices(
+    banded: [bool; OPENINGS],
+    lows: [u32; OPENINGS],
+    highs: [u32; OPENINGS],
+    n: usize,
+) -> [u32; OPENINGS]
     requires { ⌜ n ≤ mostOpenings ⌝ }
     ensures { λ r. ⌜ take n r ≡ lowsOf banded lows (take n highs) ⌝ }
 {
-    let mut ends = [0u32; 64];
+    let mut ends = [0u32; OPENINGS];
     let mut k: usize = 0;
     while k < n {
         ends[k] = low_end(banded[k], lows[k], highs[k]);
@@ -63,7 +70,7 @@ fn low_part(said: PartSaid, part: Part, n: usize) -> Part
 }
 
 // The first m parts at the low ends of their prices at n openings.
-fn low_parts(said: [PartSaid; 16], parts: [Part; 16], m: usize, n: usize) -> [Part; 16]
+fn low_parts(said: [PartSaid; PARTS], parts: [Part; PARTS], m: usize, n: usize) -> [Part; PARTS]
     requires { ⌜ (m ≤ mostParts) × (n ≤ mostOpenings) × (map (meantPart n) (partsLines (take m said) (map (partOf n) (take m parts))) ≡ map (partOf n) (take m parts)) ⌝ }
     ensures { λ r. ⌜ map (partOf n) (take m r) ≡ map (lowPart n) (partsLines (take m said) (map (partOf n) (take m parts))) ⌝ }
 {
@@ -80,7 +87,7 @@ fn low_parts(said: [PartSaid; 16], parts: [Part; 16], m: usize, n: usize) -> [Pa
 }
 
 // The job at the low ends of its prices, where these lines say its parts.
-pub fn low_job(said: [PartSaid; 16], job: Job) -> Job
+pub fn low_job(said: [PartSaid; PARTS], job: Job) -> Job
     requires { ⌜ Sized job × (map (meantPart (length (jobOf job .openings))) (linesIn said job) ≡ jobOf job .parts) ⌝ }
     ensures { λ r. ⌜ LowJob said job r ⌝ }
 {
@@ -107,7 +114,7 @@ fn either(a: bool, b: bool) -> bool
 }
 
 // One of the first n marks is set.
-fn one_marked(marks: [bool; 64], n: usize) -> bool
+fn one_marked(marks: [bool; OPENINGS], n: usize) -> bool
     requires { ⌜ n ≤ mostOpenings ⌝ }
     ensures { λ r. ⌜ r ≡ oneOf (take n marks) ⌝ }
 {
@@ -133,7 +140,7 @@ fn is_part_banded(said: PartSaid, n: usize) -> bool
 }
 
 // Whether the lines of the first m parts have a `low` line, with n openings.
-fn one_banded(said: [PartSaid; 16], m: usize, n: usize) -> bool
+fn one_banded(said: [PartSaid; PARTS], m: usize, n: usize) -> bool
     requires { ⌜ (m ≤ mostParts) × (n ≤ mostOpenings) ⌝ }
     ensures { λ r. ⌜ ((parts : List code.Part) → Long m n parts → r ≡ anyBanded (partsLines (take m said) (map (partOf n) (take m parts)))) ⌝ }
 {
@@ -148,7 +155,7 @@ fn one_banded(said: [PartSaid; 16], m: usize, n: usize) -> bool
 }
 
 // Whether the lines of a job's parts have a `low` line.
-pub fn is_banded(said: [PartSaid; 16], job: Job) -> bool
+pub fn is_banded(said: [PartSaid; PARTS], job: Job) -> bool
     requires { ⌜ Sound job ⌝ }
     ensures { λ r. ⌜ r ≡ anyBanded (linesIn said job) ⌝ }
 {

@@ -8,7 +8,7 @@ use borrow.Author.Tests.{leb-true}
 use Rattle.lines.specs.Text.{lineOf, Optional, missing, present, optionalText}
 use Rattle.lines.specs.Parser.{return, row, checked, upTo}
 use Rattle.lines.proofs.Sound.{Told, Tells, bind-inv, row-sound, checked-sound, row-gives, checked-gives}
-use Rattle.jobs.specs.Valid.{Holds}
+use Rattle.jobs.specs.Valid.{ValidHolders}
 use Rattle.price_rules.specs.Grammar.{prices}
 use Rattle.price_rules.specs.Rendering.{pricesText}
 use Rattle.price_rules.proofs.Accepted.{prices-tells}
@@ -23,7 +23,7 @@ use Rattle.part_lines.specs.Rendering.{partText}
 use Rattle.part_lines.specs.Valid.{KnownPart}
 
 -- what is known of the lines of removal, where they stand, is known of what they mean
-cover-known : (m k : ℕ) (o : Optional Cover) → ValidLines m k o → (meantCover o .removal ≤ 1000000) × (length (meantCover o .holders) ≤ 15) × Holds m k 0 (meantCover o .holders)
+cover-known : (m k : ℕ) (o : Optional Cover) → ValidLines m k o → (meantCover o .removal ≤ 1000000) × (length (meantCover o .holders) ≤ 15) × ValidHolders m k 0 (meantCover o .holders)
 unfolding meantCover
 cover-known m k missing v = (omega arith, omega arith, tt)
 cover-known m k (present c) v = (v .removal, v .few, v .holders)
@@ -33,7 +33,7 @@ pub known-cover : (m n k : ℕ) (p : PartText) → KnownPart m n k p → ValidLi
 unfolding meantCover
 known-cover m n k p v = go (p .cover) (v .0 .removal) (v .0 .few-holders) (v .1)
   where
-    go : (o : Optional Cover) → meantCover o .removal ≤ 1000000 → length (meantCover o .holders) ≤ 15 → Holds m k 0 (meantCover o .holders) → ValidLines m k o
+    go : (o : Optional Cover) → meantCover o .removal ≤ 1000000 → length (meantCover o .holders) ≤ 15 → ValidHolders m k 0 (meantCover o .holders) → ValidLines m k o
     go missing r f h = tt
     go (present c) r f h = record { removal = r; few = f; holders = h }
 

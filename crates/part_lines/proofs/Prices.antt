@@ -16,7 +16,7 @@ use Rattle.quotes.specs.Views.{quotesOf}
 use Rattle.quotes.proofs.Quoted.{highs-are}
 use Rattle.price_rules.specs.Rule.{Rule, rulePrices}
 use Rattle.price_rules.specs.Grammar.{byList, byRule, unlessRuled, meantPrices}
-use Rattle.price_rules.specs.Views.{ruleOf, linesOf}
+use Rattle.price_rules.specs.Views.{ruleOf, ruleThere}
 use Rattle.model.specs.Model.{Part}
 use Rattle.jobs.specs.Views.{blankPart, partOf}
 use Rattle.jobs.specs.declared.Part as code
@@ -30,8 +30,8 @@ use Rattle.part_lines.specs.declared.PartSaid.{PartSaid}
 
 -- behind a rule's lines no price is listed, else n are
 pub ruled-read : (b : Bool) (r : Rule) (n : ℕ) {s : List ℕ} (t : List ℕ) (l : ℕ) (e : End) (bs : List Bool) (ls hs : List ℕ) → Reads s (ended e (quotesOf bs ls (take (cond b 0 n) hs))) (times (cond b 0 n) quote t l)
-    → Reads s (ended e (pricesSaid b r (quotesOf bs ls (take n hs)))) (unlessRuled n (linesOf b r) t l)
-unfolding linesOf unlessRuled pricesSaid quotesOf times chain return _>>=_
+    → Reads s (ended e (pricesSaid b r (quotesOf bs ls (take n hs)))) (unlessRuled n (ruleThere b r) t l)
+unfolding ruleThere unlessRuled pricesSaid quotesOf times chain return _>>=_
 ruled-read false r n t l e bs ls hs h = map-read byList (times n quote) e (quotesOf bs ls (take n hs)) h
 ruled-read true r n t l e bs ls hs h = map-read (λ (qs : List Quote). byRule r) (times 0 quote) e [] h
 
@@ -49,6 +49,7 @@ list-few false n most h = h
 pub priced-listed : (n : ℕ) (s : PartSaid) (p : Part) → s .ruled ≡ false → priced n s p ≡ p
 priced-listed n s p e = λ i. record { life = p .life; left = p .left; removal = p .removal; holders = p .holders; prices = cond (e i) (rulePrices (ruleOf (s .rule)) n) (p .prices) }
 
+-- a part with a rule, given the prices of that rule, is the part as its lines price it
 pub priced-ruled : (n : ℕ) (s : PartSaid) (p : Part) (ps : List ℕ) → s .ruled ≡ true → ps ≡ rulePrices (ruleOf (s .rule)) n
     → record { life = p .life; left = p .left; removal = p .removal; holders = p .holders; prices = ps } ≡ priced n s p
 priced-ruled n s p ps e f =
@@ -57,11 +58,11 @@ priced-ruled n s p ps e f =
 
 -- what says nothing of removal and has no rule means a part without removal as it is
 pub unsaid-means : (n : ℕ) (s : PartSaid) (p : code.Part) → Unsaid s → Bare p → meantPart n (partLines s (partOf n p)) ≡ priced n s (partOf n p)
-unfolding covers.linesOf meantCover
+unfolding covers.coverThere meantCover
 unsaid-means n s p u b =
     let c : Cover = record { removal = p .removal; holders = numbersOf (p .holders) } in
-    let r : meantCover (covers.linesOf (s .covered) c) .removal ≡ p .removal = ap (λ (t : Bool). meantCover (covers.linesOf t c) .removal) (u .0) ∙ sym (b .0) in
-    let h : meantCover (covers.linesOf (s .covered) c) .holders ≡ numbersOf (p .holders) = ap (λ (t : Bool). meantCover (covers.linesOf t c) .holders) (u .0) ∙ sym (b .1) in
+    let r : meantCover (covers.coverThere (s .covered) c) .removal ≡ p .removal = ap (λ (t : Bool). meantCover (covers.coverThere t c) .removal) (u .0) ∙ sym (b .0) in
+    let h : meantCover (covers.coverThere (s .covered) c) .holders ≡ numbersOf (p .holders) = ap (λ (t : Bool). meantCover (covers.coverThere t c) .holders) (u .0) ∙ sym (b .1) in
     let f = meant-said (s .ruled) (ruleOf (s .rule)) n (s .banded) (s .lows) (take n (p .prices)) in
     λ i. record { life = p .life; left = p .left; removal = r i; holders = h i; prices = f i }
 

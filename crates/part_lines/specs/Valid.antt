@@ -1,6 +1,6 @@
 -- What is known of a part's accepted lines.
 use Prim.Native.Nat.{ℕ}
-use Rattle.jobs.specs.Valid.{Holds, ValidPart}
+use Rattle.jobs.specs.Valid.{ValidHolders, ValidPart}
 use Rattle.price_rules.specs.Valid.{ValidPrices}
 use Rattle.part_lines.specs.Grammar.{PartText, meantPart}
 
@@ -10,4 +10,4 @@ Spelt n p = ValidPrices n (p .prices)
 
 -- part k of m, with n openings
 abbrev pub KnownPart : ℕ → ℕ → ℕ → PartText → Type 0
-KnownPart m n k p = ValidPart n (meantPart n p) × Holds m k 0 (meantPart n p .holders) × Spelt n p
+KnownPart m n k p = ValidPart n (meantPart n p) × ValidHolders m k 0 (meantPart n p .holders) × Spelt n p

@@ -10,7 +10,7 @@ use Rattle.lines.specs.Chosen.{numbersOf}
 use Rattle.model.specs.Model as model
 use Rattle.jobs.specs.Views.{blankPart, partOf}
 use Rattle.jobs.specs.declared.Part.{Part}
-use Rattle.covers.specs.Views.{linesOf}
+use Rattle.covers.specs.Views.{coverThere}
 use Rattle.quotes.specs.Grammar.{Quote}
 use Rattle.quotes.specs.Views.{quotesOf}
 use Rattle.price_rules.specs.Rule as rule
@@ -34,7 +34,7 @@ abbrev pub partLines : PartSaid → model.Part → PartText
 partLines s p = record {
   life = p .life;
   left = p .left;
-  cover = linesOf (s .covered) (record { removal = p .removal; holders = p .holders });
+  cover = coverThere (s .covered) (record { removal = p .removal; holders = p .holders });
   prices = pricesSaid (s .ruled) (ruleOf (s .rule)) (quotesOf (s .banded) (s .lows) (p .prices));
 }
 

@@ -7,6 +7,8 @@ use lines::rows::Cursor;
 use lines::rows::End;
 use lines::rows::Row;
 use lines::rows::advance;
+use model::OPENINGS;
+use model::PARTS;
 use price_rules::Rule;
 use price_rules::read_rule;
 use price_rules::rule_prices;
@@ -30,8 +32,8 @@ pub struct PartSaid {
     pub covered: bool,
     pub ruled: bool,
     pub rule: Rule,
-    pub banded: [bool; 64],
-    pub lows: [u32; 64],
+    pub banded: [bool; OPENINGS],
+    pub lows: [u32; OPENINGS],
 }
 
 impl PartSaid {
@@ -48,8 +50,8 @@ impl PartSaid {
             covered: false,
             ruled: false,
             rule,
-            banded: [false; 64],
-            lows: [0u32; 64],
+            banded: [false; OPENINGS],
+            lows: [0u32; OPENINGS],
         }
     }
 }
@@ -59,9 +61,9 @@ pub struct PriceLines {
     pub end: End,
     pub ruled: bool,
     pub rule: Rule,
-    pub banded: [bool; 64],
-    pub lows: [u32; 64],
-    pub prices: [u32; 64],
+    pub banded: [bool; OPENINGS],
+    pub lows: [u32; OPENINGS],
+    pub prices: [u32; OPENINGS],
 }
 
 // A part read: what its lines say and mean, and where they end.
@@ -128,9 +130,9 @@ fn read_price_lines(text: &[u8], p: Cursor, n: usize) -> PriceLines
             end: End::Fault { number: k, line: l },
             ruled,
             rule,
-            banded: [false; 64],
-            lows: [0u32; 64],
-            prices: [0u32; 64],
+            banded: [false; OPENINGS],
+            lows: [0u32; OPENINGS],
+            prices: [0u32; OPENINGS],
         },
     }
 }
@@ -143,8 +145,8 @@ pub fn blank_part() -> Part
         life: 0,
         left: 0,
         removal: 0,
-        holders: [false; 16],
-        prices: [0u32; 64],
+        holders: [false; PARTS],
+        prices: [0u32; OPENINGS],
     }
 }
 
@@ -251,7 +253,12 @@ fn with_rule(said: PartSaid, part: Part, n: usize) -> Part
 }
 
 // The generator: of the first m parts, those with a rule get its prices at n openings.
-pub fn put_rule_prices(said: [PartSaid; 16], parts: [Part; 16], m: usize, n: usize) -> [Part; 16]
+pub fn put_rule_prices(
+    said: [PartSaid; PARTS],
+    parts: [Part; PARTS],
+    m: usize,
+    n: usize,
+) -> [Part; PARTS]
     requires { ⌜ (m ≤ mostParts) × (n ≤ mostOpenings) ⌝ }
     ensures { λ r. ⌜ Tabled m n said parts r ⌝ }
 {

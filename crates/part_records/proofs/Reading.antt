@@ -62,6 +62,7 @@ within (vfloat f x) = vnil
 within (vptr k o) = vnil
 within (vstruct vs) = vs
 
+-- the machine values of a part record's fields, one after the other
 abbrev pub spelt : Part → Parts
 spelt p = within (LL.val part.the-type part-laws.the-laws p)
 

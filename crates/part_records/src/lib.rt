@@ -1,6 +1,7 @@
 // "A part has a life L and a first life R": the parts as a lent slice of records, from which one is taken out by value; and the numbers of one.
 // Place i holds part number i + 1.
 use jobs::Part;
+use model::PARTS;
 ghost use mathlib.Core.Path.{_≡_};
 ghost use Prim.Native.Nat.{_<_, _≤_};
 ghost use lib.ListN.{length};
@@ -16,7 +17,7 @@ pub fn part_at(parts: &[Part], i: usize) -> Part
 }
 
 // The record at place i of the first count parts, which are lent to take it out. That there is one saves callers a proof of the length.
-pub fn part_of(parts: [Part; 16], count: usize, i: usize) -> Part
+pub fn part_of(parts: [Part; PARTS], count: usize, i: usize) -> Part
     requires { ⌜ (i < count) × (count ≤ mostParts) ⌝ }
     ensures { λ r. ⌜ (r ≡ recordAt parts i) × (i < length parts) ⌝ }
 {
@@ -51,7 +52,7 @@ pub fn removal_of(parts: &[Part], i: usize) -> u32
 }
 
 // The life of the part at place i of the first count parts, which are lent to read it.
-pub fn lent_life(parts: [Part; 16], count: usize, i: usize) -> u32
+pub fn lent_life(parts: [Part; PARTS], count: usize, i: usize) -> u32
     requires { ⌜ (i < count) × (count ≤ mostParts) ⌝ }
     ensures { λ r. ⌜ (r ≡ recordAt parts i .life) × (i < length parts) ⌝ }
 {
@@ -59,7 +60,7 @@ pub fn lent_life(parts: [Part; 16], count: usize, i: usize) -> u32
 }
 
 // What is left of the first life of the part at place i of the first count parts, which are lent to read it.
-pub fn lent_left(parts: [Part; 16], count: usize, i: usize) -> u32
+pub fn lent_left(parts: [Part; PARTS], count: usize, i: usize) -> u32
     requires { ⌜ (i < count) × (count ≤ mostParts) ⌝ }
     ensures { λ r. ⌜ (r ≡ recordAt parts i .left) × (i < length parts) ⌝ }
 {
@@ -67,7 +68,7 @@ pub fn lent_left(parts: [Part; 16], count: usize, i: usize) -> u32
 }
 
 // What removing the part at place i of the first count parts costs; they are lent to read it.
-pub fn lent_removal(parts: [Part; 16], count: usize, i: usize) -> u32
+pub fn lent_removal(parts: [Part; PARTS], count: usize, i: usize) -> u32
     requires { ⌜ (i < count) × (count ≤ mostParts) ⌝ }
     ensures { λ r. ⌜ (r ≡ recordAt parts i .removal) × (i < length parts) ⌝ }
 {

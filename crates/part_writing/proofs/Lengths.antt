@@ -23,6 +23,7 @@ use Rattle.part_writing.proofs.Pieces.{inside-many, inside-few}
 pub short : (key : String) (k v : ℕ) → length (bytes key) ≡ k → length (lineOf key v) ≤ k + 11
 short key k v e = omega (arith, line-most (bytes key) v, e)
 
+-- each member of any list has the property that always holds
 pub all-any : {A : Type 0} (xs : List A) → All (λ _. Unit {0}) xs
 all-any [] = tt
 all-any (x ∷ xs) = (tt, all-any xs)

@@ -8,7 +8,7 @@ use borrow.Author.Tests.{le-leb, lt-leb}
 use lib.ListN.{length}
 use Rattle.lines.specs.Text.{lineOf, texts, optionalText}
 use Rattle.covers.specs.Grammar.{Cover}
-use Rattle.covers.specs.Views.{linesOf}
+use Rattle.covers.specs.Views.{coverThere}
 use Rattle.quotes.specs.Grammar.{Quote}
 use Rattle.quotes.specs.Rendering.{quoteText}
 use Rattle.price_rules.specs.Rule.{Rule}
@@ -27,12 +27,12 @@ unfolding insideCut
 inside-few hs h = rw (le-leb (length hs) 15 h)
 
 -- lines that stand, and lines that don't
-pub cover-there : (there : Bool) (c : Cover) → there ≡ true → optionalText coverCut (linesOf there c) ≡ coverCut c
-unfolding linesOf
+pub cover-there : (there : Bool) (c : Cover) → there ≡ true → optionalText coverCut (coverThere there c) ≡ coverCut c
+unfolding coverThere
 cover-there there c e = rw e refl
 
-pub cover-gone : (there : Bool) (c : Cover) → there ≡ false → optionalText coverCut (linesOf there c) ≡ []
-unfolding linesOf
+pub cover-gone : (there : Bool) (c : Cover) → there ≡ false → optionalText coverCut (coverThere there c) ≡ []
+unfolding coverThere
 cover-gone there c e = rw e refl
 
 -- ---- prices

@@ -8,7 +8,7 @@ ghost use Prim.Native.Nat.{_+_, _≤_, _<_};
 ghost use lib.ListN.{length};
 ghost use Rattle.lines.specs.Text.{line, texts, optionalText};
 ghost use Rattle.lines.specs.Wrote.{Wrote};
-ghost use Rattle.covers.specs.Views.{linesOf};
+ghost use Rattle.covers.specs.Views.{coverThere};
 ghost use Rattle.price_rules.specs.Rendering.{pricesText};
 ghost use Rattle.price_rules.specs.Views.{ruleOf};
 ghost use Rattle.part_lines.specs.Views.{pricesSaid};
@@ -44,8 +44,8 @@ fn put_inside(out: &mut [u8], at: usize, holders: &[u32]) -> usize
 
 // Puts a part's lines of removal, where they stand.
 fn put_removal(out: &mut [u8], at: usize, there: bool, removal: u32, holders: &[u32]) -> usize
-    requires { ⌜ (length (now holders) < 4294967296) × (at + length (optionalText coverCut (linesOf there (record { removal = removal; holders = now holders }))) ≤ length (now out)) ⌝ }
-    ensures { λ r. ⌜ Wrote (now (out .entry)) at (optionalText coverCut (linesOf there (record { removal = removal; holders = now (holders .entry) }))) (now (out .exit)) r ⌝ }
+    requires { ⌜ (length (now holders) < 4294967296) × (at + length (optionalText coverCut (coverThere there (record { removal = removal; holders = now holders }))) ≤ length (now out)) ⌝ }
+    ensures { λ r. ⌜ Wrote (now (out .entry)) at (optionalText coverCut (coverThere there (record { removal = removal; holders = now (holders .entry) }))) (now (out .exit)) r ⌝ }
 {
     if !there {
         return at;
@@ -90,8 +90,8 @@ pub fn put_part(
     prices: &[u32],
 ) -> usize
     requires { ⌜ (length (now holders) < 4294967296) × Marked (now banded) (now lows) (now prices) ⌝ }
-    requires { ⌜ at + length (partCut (record { life = life; left = left; cover = linesOf there (record { removal = removal; holders = now holders }); prices = pricesSaid ruled (ruleOf rule) (quotesFrom (now banded) (now lows) (now prices)) })) ≤ length (now out) ⌝ }
-    ensures { λ r. ⌜ Wrote (now (out .entry)) at (partCut (record { life = life; left = left; cover = linesOf there (record { removal = removal; holders = now (holders .entry) }); prices = pricesSaid ruled (ruleOf rule) (quotesFrom (now (banded .entry)) (now (lows .entry)) (now (prices .entry))) })) (now (out .exit)) r ⌝ }
+    requires { ⌜ at + length (partCut (record { life = life; left = left; cover = coverThere there (record { removal = removal; holders = now holders }); prices = pricesSaid ruled (ruleOf rule) (quotesFrom (now banded) (now lows) (now prices)) })) ≤ length (now out) ⌝ }
+    ensures { λ r. ⌜ Wrote (now (out .entry)) at (partCut (record { life = life; left = left; cover = coverThere there (record { removal = removal; holders = now (holders .entry) }); prices = pricesSaid ruled (ruleOf rule) (quotesFrom (now (banded .entry)) (now (lows .entry)) (now (prices .entry))) })) (now (out .exit)) r ⌝ }
 {
     let a = put_line(out, at, b"life=", life as u64);
     let b = put_line(out, a, b"left=", left as u64);

@@ -20,6 +20,7 @@ module _ {A : Type 0} where
   select-none [] = refl
   select-none (x ∷ l) = refl
 
+  -- a place outside the set leaves the selection from there on as that from the next place
   pub select-skip : (l : List A) (cs : List Bool) (i : ℕ) → getD cs i false ≡ false → select (drop i l) (drop i cs) ≡ select (drop (suc i) l) (drop (suc i) cs)
   unfolding select
   select-skip [] cs i e = rw (drop-nil i)
@@ -28,6 +29,7 @@ module _ {A : Type 0} where
   select-skip (x ∷ l) (false ∷ cs) zero e = refl
   select-skip (x ∷ l) (c ∷ cs) (suc i) e = select-skip l cs i e
 
+  -- a place of the set puts its entry in front of the selection from the next place
   pub select-take : (l : List A) (cs : List Bool) (i : ℕ) (d : A) → i < length l → getD cs i false ≡ true → select (drop i l) (drop i cs) ≡ getD l i d ∷ select (drop (suc i) l) (drop (suc i) cs)
   unfolding select
   select-take [] cs i d h e = absurd (omega arith)
@@ -61,13 +63,16 @@ module _ (job : Job) (to life : ℤ) where
     pub gaps : firstLong late (gapsTo job to life prev (select (drop i (positions job)) (drop i cs))) ≡ gapsTo job to life first (select (positions job) cs)
     pub last : lastOf prev (select (drop i (positions job)) (drop i cs)) ≡ lastOf first (select (positions job) cs)
 
+  -- before any opening no gap is too long so far, and the last change is the one before them all
   pub follow-start : (cs : List Bool) (first : ℤ) → Follows cs first 0 first in-time
   follow-start cs first = record { gaps = refl; last = refl }
 
   module _ (cs : List Bool) (first : ℤ) (i : ℕ) (prev : ℤ) (late : Gaps) (f : Follows cs first i prev late) where
+    -- an opening without a change leaves the last change and the first long gap as they were
     pub follow-skip : getD cs i false ≡ false → Follows cs first (i + 1) prev late
     follow-skip e = record { gaps = rw (add-one, ← select-skip (positions job) cs i e) (f .gaps); last = rw (add-one, ← select-skip (positions job) cs i e) (f .last) }
 
+    -- an opening with a change adds the gap up to it, and is the last change from there on
     pub follow-change : (s : ℤ) (g : Gaps) → i < length (positions job) → getD cs i false ≡ true → s ≡ getD (positions job) i (pos 0)
         → g ≡ firstLong late (gapOf job life prev s) → Follows cs first (i + 1) s g
     follow-change s g h e p q =
@@ -84,8 +89,10 @@ module _ (job : Job) (to life : ℤ) where
     unfolding select
     none h = rw (drop-of-length-le (positions job) {i = i} h)
 
+    -- after all openings, the gap up to the end completes the first long gap of the part
     pub follow-end : length (positions job) ≤ i → firstLong late (gapOf job life prev to) ≡ gapsTo job to life first (select (positions job) cs)
     follow-end h = ap (firstLong late) (sym (ap (gapsTo job to life prev) (none h) ∙ gap-end prev)) ∙ f .gaps
 
+    -- after all openings, the change followed last is the last of the part's changes
     pub follow-last : length (positions job) ≤ i → prev ≡ lastOf first (select (positions job) cs)
     follow-last h = sym (ap (lastOf prev) (none h)) ∙ f .last

@@ -35,9 +35,11 @@ module _ (gaps : model.Part → List Bool → Gaps) (ps : List model.Part) (cs :
   unfolding lowestLate
   next k h = rw (drop-cons ps k noPart h, getD-drop k cs 0 [], add-zero k, drop-drop 1 k cs, add-one k) (ruled-lower (suc k) (gaps (getD ps k noPart) (getD cs k [])) (lowestLate gaps (suc k + 1) (drop (suc k) ps) (drop (suc k) cs)))
 
+  -- the verdict so far, or that on the next part where all so far are kept, is the verdict on one part more
   pub ruled-more : (k : ℕ) (v w : Verdict) → k < length ps → w ≡ lowerPart v (ruled (k + 1) (gaps (getD ps k noPart) (getD cs k [])) keeps) → Ruled k v → Ruled (k + 1) w
   ruled-more k v w h e r = rw e (sym (lower-assoc v _ _) ∙ ap (lowerPart v) (sym (next k h)) ∙ r)
 
+  -- after all parts, the verdict so far is the verdict on all of them
   pub ruled-all : (k : ℕ) (v : Verdict) → length ps ≤ k → Ruled k v → v ≡ lowestLate gaps 1 ps cs
   unfolding lowestLate
   ruled-all k v h r = sym (lower-keeps v) ∙ (rw (drop-of-length-le ps {i = k} h) at r)

@@ -7,6 +7,7 @@ use jobs::Part;
 use jobs::Plan;
 use least::in_reach;
 use least::last_change;
+use model::OPENINGS;
 use part_records::part_of;
 ghost use mathlib.Core.Path.{_≡_};
 ghost use lib.ListN.{take};
@@ -61,7 +62,13 @@ pub struct Followed {
 }
 
 // A part's changes, followed up to the position `to`. The change before begins at or below zero.
-pub fn late_to(job: Job, places: Positions, part: Part, changes: [bool; 64], to: i32) -> Followed
+pub fn late_to(
+    job: Job,
+    places: Positions,
+    part: Part,
+    changes: [bool; OPENINGS],
+    to: i32,
+) -> Followed
     requires { ⌜ Sound job × Placed (jobOf job) places × ValidPart (job .«opening_count») (partOf (job .«opening_count») part) × Position to ⌝ }
     ensures { λ r. ⌜ (modelGaps (r .late) ≡ lateTo (jobOf job) to (partOf (job .«opening_count») part) (take (job .«opening_count») changes))
         × (r .last ≡ lastOf (lastChange (partOf (job .«opening_count») part)) (select (positions (jobOf job)) (take (job .«opening_count») changes)))

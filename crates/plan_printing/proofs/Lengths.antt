@@ -28,6 +28,7 @@ low-short g plan = go (g .banded)
     go true = omega (arith, line-most (bytes "costlow=") (costOf (g .low) plan))
     go false = omega arith
 
+-- what is printed of a sound text's plan, with a cost below 10,000,000,000, is no longer than the longest
 pub printed-short : (t : JobText) (cost : ℕ) (p : Plan) → SoundText t → cost < 10000000000 → length (printedLines (givenOf t) cost (planFor (t .job) p)) ≤ longest
 unfolding printedLines
 printed-short t cost p w small =

@@ -39,6 +39,7 @@ module _ (t : JobText) (w : SoundText t) (r : Job) (l : LowJob (t .said) (t .job
   pub low-cost : (c : ℕ) (p : Plan) → c ≡ costOf (jobOf r) (planFor r p) → c ≡ costOf (givenOf t .low) (planFor (t .job) p)
   low-cost c p e = e ∙ ap₂ costOf low-is (low-plan p)
 
+  -- a plan's cost at the low ends is below 10,000,000,000
   pub low-small : (c : ℕ) (p : Plan) → c ≡ costOf (jobOf r) (planFor r p) → c < 10000000000
   low-small c p e = omega (arith, e, cost-most (jobOf r) (low-sound .valid) (planFor r p))
 

@@ -1,7 +1,6 @@
 // The planner's program: a job is read, planned with the largest walk number, and the answer printed.
 use answer_output::Printout;
 use answer_output::print_answer;
-use job_text::whole::MAX_BYTES;
 use jobs::Job;
 use whole_input::Text;
 use whole_input::read_whole;
@@ -12,7 +11,7 @@ pub fn plan_input(fd: i32) -> Printout
     ensures { λ r. ⌜ Printed r ⌝ }
 {
     // One byte more than a job text may have, so that a longer one is told.
-    let mut job = [0u8; MAX_BYTES + 1];
+    let mut job = [0u8; Job::MAX_BYTES + 1];
     let n = read_whole(fd, Text::Job, &mut job);
     let mut out = [0u8; planning::ROOM];
     let a = planning::plan(&job[..n], Job::MAX_WALK as u64, &mut out);

@@ -9,16 +9,18 @@ use Rattle.jobs.specs.Views.{planFor}
 use Rattle.job_text.specs.declared.whole.JobText.{JobText}
 use Rattle.job_text.specs.Views.{givenOf, SoundText}
 use Rattle.plan_printing.proofs.Lengths.{printed-short}
-use Rattle.planning.specs.Plan.{searchLines, plannedLines, linesOf, planRoom}
+use Rattle.planning.specs.Plan.{searchLines, plannedLines, plannerLines, planRoom}
 use Rattle.planning.specs.Finding.{answerIn, Fits}
 use Rattle.planning.specs.declared.Finding.{Finding}
 use Rattle.planning.specs.declared.Finding.the-variants.{NoPlan, Optimum, Cut, CutBare}
 
+-- the lines `result`, `nodes` and `floor` have at most 52 bytes together
 pub search-short : (n m f : ℕ) → length (searchLines n m f) ≤ 52
 unfolding searchLines bytes
 search-short n m f = simp length-append (omega (arith, line-most (bytes "result=") n, line-most (bytes "nodes=") m, line-most (bytes "floor=") f))
 
-pub lines-short : (f : Finding) (t : JobText) (p : Plan) → Fits f → SoundText t → length (linesOf (givenOf t) (answerIn (planFor (t .job) p) f)) ≤ planRoom
+-- the lines of a planner's answer that can be printed fit the room that the call asks for
+pub lines-short : (f : Finding) (t : JobText) (p : Plan) → Fits f → SoundText t → length (plannerLines (givenOf t) (answerIn (planFor (t .job) p) f)) ≤ planRoom
 unfolding plannedLines bytes
 lines-short NoPlan t p f w = omega (arith, line-most (bytes "result=") 6)
 lines-short (Optimum n m c) t p f w = rw length-append (omega (arith, search-short 0 n m, printed-short t c p w (f .2)))

@@ -20,15 +20,15 @@ unfoldable pub plannedLines : ℕ → ℕ → ℕ → Given → ℕ → Plan →
 plannedLines number nodes floor given cost plan = searchLines number nodes floor ++ printedLines given cost plan
 
 -- the lines of an answer to a job text; O2. "Number 6: `result`."
-abbrev pub linesOf : Given → PlannerAnswer → List ℕ
-linesOf given no-plan = lineOf "result=" 6
-linesOf given (cut-none nodes floor) = searchLines 7 nodes floor
-linesOf given (cut nodes floor cost plan) = plannedLines 7 nodes floor given cost plan
-linesOf given (optimum nodes floor cost plan) = plannedLines 0 nodes floor given cost plan
+abbrev pub plannerLines : Given → PlannerAnswer → List ℕ
+plannerLines given no-plan = lineOf "result=" 6
+plannerLines given (cut-none nodes floor) = searchLines 7 nodes floor
+plannerLines given (cut nodes floor cost plan) = plannedLines 7 nodes floor given cost plan
+plannerLines given (optimum nodes floor cost plan) = plannedLines 0 nodes floor given cost plan
 
 -- what is handed over and written for an answer to a job text: its number, and its lines
 abbrev pub saidFor : Given → PlannerAnswer → Said
-saidFor given a = plainly (resultOf a) (linesOf given a)
+saidFor given a = plainly (resultOf a) (plannerLines given a)
 
 -- E10. the walk number that the host gives with the call: "a number above 4000000000 counts as 4000000000"
 abbrev pub walkNumber : ℕ → ℕ

@@ -23,7 +23,7 @@ ghost use Rattle.jobs.specs.Views.{jobOf, planFor};
 ghost use Rattle.job_text.specs.Views.{givenOf, SoundText};
 ghost use Rattle.search.specs.Found.{planFound, saidIn};
 ghost use Rattle.answers.specs.Said.{Printable, lent, Replied};
-ghost use Rattle.planning.specs.Plan.{plannedLines, linesOf, saidFor, walkNumber, planSaid, planRoom};
+ghost use Rattle.planning.specs.Plan.{plannedLines, plannerLines, saidFor, walkNumber, planSaid, planRoom};
 ghost use Rattle.planning.specs.Finding.{answerIn, Fits};
 ghost use Rattle.planning.specs.Promise.{PlanPromise};
 
@@ -99,7 +99,7 @@ fn put_planned(
 // The lines of a finding and of its plan.
 fn put_finding(out: &mut [u8], f: Finding, text: JobText, plan: Plan) -> usize
     requires { ⌜ Fits f × SoundText text × (planRoom ≤ length (now out)) ⌝ }
-    ensures { λ r. ⌜ Wrote (now (out .entry)) 0 (linesOf (givenOf text) (answerIn (planFor (text .job) plan) f)) (now (out .exit)) r ⌝ }
+    ensures { λ r. ⌜ Wrote (now (out .entry)) 0 (plannerLines (givenOf text) (answerIn (planFor (text .job) plan) f)) (now (out .exit)) r ⌝ }
 {
     match f {
         Finding::NoPlan => put_line(out, 0, b"result=", 6),

@@ -20,6 +20,7 @@ use Rattle.price_rules.specs.Valid.{ValidRule}
 abbrev falling : Rule
 falling = record { base = 10; drop = 3; least = 5 }
 
+-- base 10, drop 3 and least 5 give the prices 10, 7, 5, 5 and 5 at five openings
 pub five-openings : rulePrices falling 5 ≡ 10 ∷ 7 ∷ 5 ∷ 5 ∷ 5 ∷ []
 unfolding joined
 five-openings = refl
@@ -42,6 +43,7 @@ drop-0 = refl
 abbrev high : Rule
 high = record { base = 10; drop = 3; least = 12 }
 
+-- a rule whose least 12 is above its base is valid, and all its prices are 12
 pub least-above-base : ValidRule high × (rulePrices high 3 ≡ 12 ∷ 12 ∷ 12 ∷ [])
 unfolding joined
 least-above-base = (record { base-low = omega arith; base-high = omega arith; drop = omega arith; least-low = omega arith; least-high = omega arith }, refl)

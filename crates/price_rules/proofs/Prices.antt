@@ -109,9 +109,12 @@ singles-plain (p ∷ ps) = singles-plain ps
 
 -- E8.5. with the lines written out they are accepted too, and mean the same
 pub record WrittenOut (n : ℕ) (p : Prices) : Type 0 where
+  -- the prices with a rule's lines written out are valid prices of n openings
   pub valid : ValidPrices n (writtenOut n p)
+  -- written out, the prices mean the same as before
   pub high : meantPrices n (writtenOut n p) ≡ meantPrices n p
   pub low : lowPrices n (writtenOut n p) ≡ lowPrices n p
+  -- written out, a `low` line stands among them exactly where one stood before
   pub banded : bandedPrices (writtenOut n p) ≡ bandedPrices p
 
 pub written-out : (n : ℕ) (p : Prices) → ValidPrices n p → WrittenOut n p

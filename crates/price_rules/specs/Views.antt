@@ -11,13 +11,13 @@ abbrev pub ruleOf : Rule → rule.Rule
 ruleOf r = record { base = r .base; drop = r .drop; least = r .least }
 
 -- what lines say that stand or not
-unfoldable pub linesOf : Bool → rule.Rule → Optional rule.Rule
-linesOf true r = present r
-linesOf false r = missing
+unfoldable pub ruleThere : Bool → rule.Rule → Optional rule.Rule
+ruleThere true r = present r
+ruleThere false r = missing
 
 -- a rule that was read
 abbrev pub ruleAnswer : RuleLines → ReadAt (Optional rule.Rule)
-ruleAnswer r = ended (r .end) (linesOf (r .there) (ruleOf (r .rule)))
+ruleAnswer r = ended (r .end) (ruleThere (r .there) (ruleOf (r .rule)))
 
 -- what stands past the end of an array of rules
 abbrev pub blankRule : Rule

@@ -7,6 +7,7 @@ use lines::rows::Cursor;
 use lines::rows::End;
 use lines::rows::Row;
 use lines::rows::advance;
+use model::OPENINGS;
 ghost use mathlib.Core.Path.{_≡_};
 ghost use mathlib.Core.Bool.{false};
 ghost use Prim.Native.Nat.{ℕ, _+_, _-_, _≤_, max};
@@ -144,11 +145,11 @@ fn put_prices(rule: Rule, n: usize, at: usize, flat: &mut [u32])
 }
 
 // A rule's prices at the first n openings, and 0 past the last.
-pub fn rule_prices(rule: Rule, n: usize) -> [u32; 64]
+pub fn rule_prices(rule: Rule, n: usize) -> [u32; OPENINGS]
     requires { ⌜ n ≤ mostOpenings ⌝ }
     ensures { λ r. ⌜ (take n r ≡ rulePrices (ruleOf rule) n) × (drop n r ≡ replicate (mostOpenings - n) 0) ⌝ }
 {
-    let mut prices = [0u32; 64];
+    let mut prices = [0u32; OPENINGS];
     put_prices(rule, n, 0, &mut prices);
     prices
 }

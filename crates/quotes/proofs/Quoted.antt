@@ -7,7 +7,7 @@ use native.Mathlib.Omega.{arith}
 use native.Mathlib.Numerals.{add-one}
 use lib.ListN.{length, getD, take, drop, set, length-take}
 use Rattle.lines.proofs.Arrays.{take-more}
-use Rattle.quotes.specs.Grammar.{Quote, highEnd, lowEnd, isPair, anyPair}
+use Rattle.quotes.specs.Grammar.{Quote, highEnd, lowEnd}
 use Rattle.quotes.specs.Views.{quoteOf, quotesOf, lowsOf}
 
 -- ---- one price more
@@ -62,11 +62,6 @@ low-is : (b : Bool) (l h : ℕ) → lowEnd (quoteOf b l h) ≡ cond b l h
 unfolding quoteOf
 low-is true l h = refl
 low-is false l h = refl
-
-pair-is : (b : Bool) (l h : ℕ) → isPair (quoteOf b l h) ≡ b
-unfolding quoteOf
-pair-is true l h = refl
-pair-is false l h = refl
 
 pub highs-are : (bs : List Bool) (ls hs : List ℕ) → map highEnd (quotesOf bs ls hs) ≡ hs
 unfolding quotesOf

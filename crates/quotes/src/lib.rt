@@ -8,6 +8,7 @@ use lines::rows::Cursor;
 use lines::rows::End;
 use lines::rows::Row;
 use lines::rows::advance;
+use model::OPENINGS;
 ghost use mathlib.Core.Path.{_≡_};
 ghost use Prim.Native.Nat.{_≤_};
 ghost use lib.ListN.{drop};
@@ -29,9 +30,9 @@ pub struct QuoteRead {
 // Prices read: which of them are pairs, the low ends of these, the high ends of all, and where their lines end.
 pub struct QuotesRead {
     pub end: End,
-    pub banded: [bool; 64],
-    pub lows: [u32; 64],
-    pub highs: [u32; 64],
+    pub banded: [bool; OPENINGS],
+    pub lows: [u32; OPENINGS],
+    pub highs: [u32; OPENINGS],
 }
 
 // A price that was not read.
@@ -123,9 +124,9 @@ pub fn read_quotes(text: &[u8], p: Cursor, n: usize) -> QuotesRead
     requires { ⌜ Stands (now text) p × (n ≤ mostOpenings) ⌝ }
     ensures { λ r. ⌜ Reads (now (text .entry)) (quotesAnswer n r) (times n quote (drop (p .at) (now (text .entry))) (p .line)) ⌝ }
 {
-    let mut banded = [false; 64];
-    let mut lows = [0u32; 64];
-    let mut highs = [0u32; 64];
+    let mut banded = [false; OPENINGS];
+    let mut lows = [0u32; OPENINGS];
+    let mut highs = [0u32; OPENINGS];
     let mut q = p;
     let mut i: usize = 0;
     while i < n {

@@ -9,12 +9,13 @@ use Rattle.jobs.specs.Views.{planFor}
 use Rattle.job_text.specs.declared.whole.JobText.{JobText}
 use Rattle.job_text.specs.Views.{givenOf, SoundText}
 use Rattle.plan_printing.proofs.Lengths.{printed-short}
-use Rattle.serving.specs.Serve.{servedLines, linesOf, latestRoom}
+use Rattle.serving.specs.Serve.{servedLines, latestLines, latestRoom}
 use Rattle.serving.specs.Serving.{answerIn, Fits}
 use Rattle.serving.specs.declared.Serving.{Serving}
 use Rattle.serving.specs.declared.Serving.the-variants.{Unserved, Serves}
 
-pub lines-short : (s : Serving) (t : JobText) (p : Plan) → Fits s → SoundText t → length (linesOf (givenOf t) (answerIn (planFor (t .job) p) s)) ≤ latestRoom
+-- the lines of an answer that can be printed fit the room that the call asks for
+pub lines-short : (s : Serving) (t : JobText) (p : Plan) → Fits s → SoundText t → length (latestLines (givenOf t) (answerIn (planFor (t .job) p) s)) ≤ latestRoom
 unfolding servedLines bytes
 lines-short Unserved t p f w = omega (arith, line-most (bytes "result=") 6)
 lines-short (Serves c) t p f w = rw length-append (omega (arith, line-most (bytes "result=") 0, printed-short t c p w f))

@@ -16,13 +16,13 @@ unfoldable pub servedLines : Given → ℕ → Plan → List ℕ
 servedLines given cost plan = lineOf "result=" 0 ++ printedLines given cost plan
 
 -- the lines of an answer to a job text; O2. "Number 6: `result`."
-abbrev pub linesOf : Given → LatestAnswer → List ℕ
-linesOf given unserved = lineOf "result=" 6
-linesOf given (serves cost plan) = servedLines given cost plan
+abbrev pub latestLines : Given → LatestAnswer → List ℕ
+latestLines given unserved = lineOf "result=" 6
+latestLines given (serves cost plan) = servedLines given cost plan
 
 -- what is handed over and written for an answer to a job text: its number, and its lines
 abbrev pub saidFor : Given → LatestAnswer → Said
-saidFor given a = plainly (numberOf a) (linesOf given a)
+saidFor given a = plainly (numberOf a) (latestLines given a)
 
 -- what is said of an accepted job text and of the plan that is stated, "of which only the stops count"
 abbrev pub served : Given → Stated → Said

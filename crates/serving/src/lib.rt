@@ -26,7 +26,7 @@ ghost use Rattle.job_text.specs.Views.{givenOf, SoundText};
 ghost use Rattle.plan_grammar.specs.Grammar.{readPlan};
 ghost use Rattle.answers.specs.Said.{lent, Replied};
 ghost use Rattle.latest.specs.Latest.{numberOf, latestPlanOf, latestAnswerOf};
-ghost use Rattle.serving.specs.Serve.{linesOf, saidFor, onPlan, latestSaid, latestRoom};
+ghost use Rattle.serving.specs.Serve.{latestLines, saidFor, onPlan, latestSaid, latestRoom};
 ghost use Rattle.serving.specs.Serving.{answerIn, Fits};
 ghost use Rattle.serving.specs.Promise.{ServePromise};
 
@@ -66,7 +66,7 @@ fn number_of(s: Serving) -> u32
 // The lines of the answer and of its plan.
 fn put_serving(out: &mut [u8], s: Serving, text: JobText, plan: Plan) -> usize
     requires { ⌜ Fits s × SoundText text × (latestRoom ≤ length (now out)) ⌝ }
-    ensures { λ r. ⌜ Wrote (now (out .entry)) 0 (linesOf (givenOf text) (answerIn (planFor (text .job) plan) s)) (now (out .exit)) r ⌝ }
+    ensures { λ r. ⌜ Wrote (now (out .entry)) 0 (latestLines (givenOf text) (answerIn (planFor (text .job) plan) s)) (now (out .exit)) r ⌝ }
 {
     match s {
         Serving::Unserved => put_line(out, 0, b"result=", 6),

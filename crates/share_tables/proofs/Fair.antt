@@ -18,7 +18,7 @@ use Rattle.model.proofs.Lists.{table-at}
 use Rattle.model.proofs.Sums.{sum-mono}
 use Rattle.model.proofs.Held.{held-at}
 use Rattle.shares.specs.Shares.{things, worth, takes, bears, borne, FairShares}
-use Rattle.held_places.specs.Arrays.{Holds}
+use Rattle.held_places.specs.Arrays.{HeldArrays}
 use Rattle.held_places.proofs.Held.{opened, holding, held-size}
 use Rattle.held_tables.specs.Sheet.{HeldArrays}
 use Rattle.lane_rows.specs.Layout.{laneCount, dear}
@@ -48,6 +48,7 @@ unfolding sum
 sum-times zero from c = omega arith
 sum-times (suc n) from c = omega (arith, sum-times n (suc from) c)
 
+-- a sum of n + 1 numbers is that of the first n and the last
 pub sum-last : (n from : ℕ) (f : ℕ → ℕ) → sum from (suc n) f ≡ sum from n f + f (from + n)
 unfolding sum
 sum-last zero from f = let z : from + 0 ≡ from = omega arith in rw z (omega arith)
@@ -77,6 +78,7 @@ keep-less cost f q = bears-less (leb (sumLanes laneCount f) cost) (f q)
 -- ---- any table
 
 module _ (ps fs rm raw x₁ x : List ℕ) (all : ℕ) (kp : Kept raw ps fs rm all x₁ x (all * 64)) where
+  -- the table's share of a lane in a thing at an opening is what is kept of the raw one
   pub share-is : (m k q : ℕ) → m < all → k < 64 → q < laneCount → getD x (bearPlace m k q) 0 ≡ kept raw x₁ ps fs rm all (m * 64 + k) q
   share-is m k q l h i = kp .row (m * 64 + k) q (omega arith) i
 
@@ -101,28 +103,34 @@ module _ (ps fs rm raw x₁ x : List ℕ) (all : ℕ) (kp : Kept raw ps fs rm al
 
 -- ---- a job's table
 
-module _ (job : Job) (e : ℤ) (ss : List ℤ) (fs ls rs ps : List ℕ) (nd : List Bool) (rm : List ℕ) (ar : HeldArrays e ss fs ls rs ps nd rm) (ho : Holds job e ss fs ls rs ps nd rm)
+module _ (job : Job) (e : ℤ) (ss : List ℤ) (fs ls rs ps : List ℕ) (nd : List Bool) (rm : List ℕ) (ar : HeldArrays e ss fs ls rs ps nd rm) (ho : HeldArrays job e ss fs ls rs ps nd rm)
     (raw x₁ x : List ℕ) (marked : Marked nd (length ls) rm x₁) (kp : Kept raw ps fs rm (length rm + 1) x₁ x ((length rm + 1) * 64)) where
   abbrev count : ℕ
   count = length rm + 1
 
+  -- the stop and the removals are as many as the things that are paid at an opening
   pub all-things : count ≡ things job
   all-things = omega (arith, holding job e ss fs ls rs ps nd rm ho)
 
+  -- the job has at most 64 openings
   pub few-openings : length (job .openings) ≤ 64
   few-openings = omega (arith, ar .plain .few, opened job e ss fs ls rs ps nd rm ho)
 
+  -- the job has at most 16 parts
   pub few-parts : length (heldParts job) ≤ 16
   few-parts = omega (arith, held-size job e ss fs ls rs ps nd rm ho, ar .plain .lanes)
 
   -- ---- the lanes
 
+  -- each of the sixteen lanes is the job's part at that place, or the spare part past the last
   pub lane-is : (q : ℕ) → q < laneCount → (d : Held) → getD (lanesOf job) q d ≡ getD (heldParts job) q spareHeld
   lane-is q l d = table-at (λ (q : ℕ). getD (heldParts job) q spareHeld) laneCount q d l
 
+  -- a lane below the number of parts is the job's part with that number
   pub lane-real : (q : ℕ) → q < length ls → laneAt (lanesOf job) q ≡ heldAt job q (partAt job q)
   lane-real q l = lane-is q (omega (arith, ar .plain .lanes)) _ ∙ held-at job q spareHeld (omega (arith, ho .parts))
 
+  -- a lane past the last part is the spare part that lasts to the end
   pub lane-spare : (q : ℕ) → length ls ≤ q → q < laneCount → laneAt (lanesOf job) q ≡ spareHeld
   lane-spare q l k = lane-is q k _ ∙ List·getD-eq-default (heldParts job) spareHeld {n = q} (omega (arith, held-size job e ss fs ls rs ps nd rm ho))
 
@@ -132,6 +140,7 @@ module _ (job : Job) (e : ℤ) (ss : List ℤ) (fs ls rs ps : List ℕ) (nd : Li
   need-is q b l k =
       sym (getD-drop (q * 16) nd b false) ∙ sym (getD-take (length rm) (drop (q * 16) nd) b false k) ∙ sym (ap (λ (n : List Bool). getD n b false) (ap (λ (h : Held). h .needs) (lane-real q l) ∙ ho .lane q l .needs))
 
+  -- the number that says whether a lane takes a thing is 1 where its part needs it, else 0
   pub taken-is : (m q : ℕ) → m < count → q < laneCount → taken nd (length ls) m q ≡ cond (getD (takes (laneAt (lanesOf job) q)) m false) 1 0
   taken-is zero q l k = refl
   taken-is (suc b) q l k = ap (λ (t : Bool). cond t 1 (cond (leb (length ls) q) 0 (cond (getD nd (q * 16 + (suc b - 1)) false) 1 0))) (ne-eqb (suc b) 0 (λ e. omega (arith, e))) ∙ go (decLt q (length ls))
@@ -145,6 +154,7 @@ module _ (job : Job) (e : ℤ) (ss : List ℤ) (fs ls rs ps : List ℕ) (nd : Li
           ap (λ (t : Bool). cond t 0 (cond (getD nd (q * 16 + (suc b - 1)) false) 1 0)) (le-leb (length ls) q (omega arith))
           ∙ sym (ap (λ (h : Held). cond (getD (h .needs) b false) 1 0) (lane-spare q (omega arith) k))
 
+  -- the number of the table for a thing and a lane is 1 where the lane takes the thing, else 0
   pub flag-is : (m q : ℕ) → m < count → q < laneCount → getD x (takePlace m q) 0 ≡ cond (getD (takes (laneAt (lanesOf job) q)) m false) 1 0
   flag-is m q l k = kp .rest (takePlace m q) (omega arith) ∙ marked .takes m q (omega arith) k ∙ taken-is m q l k
 

@@ -22,7 +22,7 @@ use Rattle.model.proofs.Sums.{sum-same}
 use Rattle.model.proofs.Integers.{at-most-test, difference}
 use Rattle.shares.specs.Shares.{bears, owes, sharedPrices, sharedPart}
 use Rattle.least.specs.Filled.{FilledBy}
-use Rattle.held_places.specs.Arrays.{Holds}
+use Rattle.held_places.specs.Arrays.{HeldArrays}
 use Rattle.held_places.proofs.Held.{opened, holding, held-size}
 use Rattle.held_tables.specs.Sheet.{HeldArrays}
 use Rattle.search_tables.specs.Arrays.{laneValue, lanePart, columnOf, sheetOf, Arrays}
@@ -62,6 +62,7 @@ padded-first ls rs long first e p r f q = go (decLt q laneCount) (decLt q (lengt
 -- ---- the arrays with sixteen lanes
 
 module _ (e : ℤ) (ss : List ℤ) (fs ls rs ps : List ℕ) (ar : Arrays e ss fs ls rs ps) (long first : List ℕ) (pl : Padded ls long) (pf : Padded rs first) where
+  -- the job's arrays with lives and first lives padded to sixteen lanes, and any prices in range, are arrays again
   pub wide-arrays : (qs : List ℕ) → length qs ≡ 1024 → ((j : ℕ) → getD qs j 0 ≤ dear) → Arrays e ss fs long first qs
   wide-arrays qs size cheap =
       record {
@@ -84,14 +85,17 @@ module _ (e : ℤ) (ss : List ℤ) (fs ls rs ps : List ℕ) (ar : Arrays e ss fs
         climbs = ar .climbs;
       }
 
+  -- a lane's life is its part's, and past the last part the longest
   pub lane-life : (q : ℕ) → q < laneCount → laneValue long q ≡ getD ls q longestLife
   lane-life q h = sym (there long q 0 (getD long 0 0) (omega (arith, pl .size))) ∙ pl .lives q h
 
+  -- a lane's first life is its part's, and past the last part the longest
   pub lane-left : (q : ℕ) → q < laneCount → laneValue first q ≡ getD rs q longestLife
   lane-left q h = sym (there first q 0 (getD first 0 0) (omega (arith, pf .size))) ∙ pf .lives q h
 
 -- ---- the prices with all shares are in range
 
+-- no price with all its shares is above the highest, where the shares leave room
 pub all-cheap : (ps x none all : List ℕ) (count : ℕ) → length none ≡ 1024 → FilledBy (λ (i : ℕ). i) (sharedIn ps x count) 1024 none all → Roomy ps x count → (j : ℕ) → getD all j 0 ≤ dear
 all-cheap ps x none all count size f r j = go (decLt j 1024)
   where
@@ -117,7 +121,7 @@ late-enough (negsuc n) h = at-most-test (negsuc n -ℤ pos 0) (pos longestLife) 
 
 -- ---- the tables
 
-module _ (job : Job) (e : ℤ) (ss : List ℤ) (fs ls rs ps : List ℕ) (nd : List Bool) (rm : List ℕ) (ar : HeldArrays e ss fs ls rs ps nd rm) (ho : Holds job e ss fs ls rs ps nd rm)
+module _ (job : Job) (e : ℤ) (ss : List ℤ) (fs ls rs ps : List ℕ) (nd : List Bool) (rm : List ℕ) (ar : HeldArrays e ss fs ls rs ps nd rm) (ho : HeldArrays job e ss fs ls rs ps nd rm)
     (raw x₁ x : List ℕ) (marked : Marked nd (length ls) rm x₁) (kp : Kept raw ps fs rm (length rm + 1) x₁ x ((length rm + 1) * 64))
     (long first : List ℕ) (pl : Padded ls long) (pf : Padded rs first)
     (none all : List ℕ) (fa : FilledBy (λ (i : ℕ). i) (sharedIn ps x (length rm + 1)) 1024 none all) (room : length none ≡ 1024)
@@ -251,6 +255,7 @@ module _ (job : Job) (e : ℤ) (ss : List ℤ) (fs ls rs ps : List ℕ) (nd : Li
             ∙ lasting (pos longestLife) (end job) (pos longestLife -ℤ pos longestLife) (late-enough (end job) (subst (λ (d : ℤ). mag d ≤ 366) (ho .ends) (ar .plain .late))) (offers (positions job) (sharedPrices job (sharesIn x) q spareHeld bs) (placesIn spareHeld bs)));
       }
 
+  -- the tables filled and the shares kept are those of the job's walk by fair shares
   pub prepared : Prepared job t x
   prepared =
       record {

@@ -5,7 +5,7 @@ ghost use lib.ListN.{length, getD};
 ghost use Rattle.least.specs.Filled.{FilledBy};
 ghost use Rattle.model.specs.Limits.{mostOpenings};
 ghost use Rattle.model.specs.Model.{Job};
-ghost use Rattle.held_places.specs.Arrays.{Holds};
+ghost use Rattle.held_places.specs.Arrays.{HeldArrays};
 ghost use Rattle.held_tables.specs.Sheet.{HeldReady};
 ghost use Rattle.lane_rows.specs.Layout.{laneCount, inf, tablesSize};
 ghost use Rattle.share_rows.specs.Places.{mostThings, shareSize};
@@ -18,6 +18,8 @@ use fair_shares::mark;
 use held_lanes::number;
 use lane_rows::LANES;
 use lane_rows::TABLES;
+use model::PARTS;
+use model::PRICES;
 use search_tables::tables::fill;
 use share_rows::SHARES;
 
@@ -32,10 +34,10 @@ fn life_at(values: &[u32], q: usize) -> u32
 }
 
 // The parts' lives or first lives, and past them the longest.
-fn padded(values: &[u32]) -> [u32; 16]
+fn padded(values: &[u32]) -> [u32; PARTS]
     ensures { λ r. ⌜ Padded (now (values .entry)) r ⌝ }
 {
-    let mut out = [0u32; 16];
+    let mut out = [0u32; PARTS];
     for q in 0..LANES {
         out[q] = life_at(values, q);
     }
@@ -97,7 +99,7 @@ pub fn prepare(
     x: &mut [u32; SHARES],
 ) -> u64
     requires { ⌜ (HeldReady end (now positions) (now fees) (now lives) (now lefts) (now prices) (now needs) (now removals) (now tab)) × (length (now t) ≡ tablesSize) × (length (now x) ≡ shareSize) ⌝ }
-    ensures tables { λ _. ⌜ ((job : Job) → Holds job end (now (positions .entry)) (now (fees .entry)) (now (lives .entry)) (now (lefts .entry)) (now (prices .entry)) (now (needs .entry)) (now (removals .entry))
+    ensures tables { λ _. ⌜ ((job : Job) → HeldArrays job end (now (positions .entry)) (now (fees .entry)) (now (lives .entry)) (now (lefts .entry)) (now (prices .entry)) (now (needs .entry)) (now (removals .entry))
         → Prepared job (now (t .exit)) (now (x .exit))) ⌝ }
     ensures value { λ r. ⌜ r ≤ laneCount * inf ⌝ }
 {
@@ -111,7 +113,7 @@ pub fn prepare(
     take_over(&found, &mut raw);
     let things = removals.len() + 1;
     check(&raw, prices, fees, removals, things, x);
-    let mut all = [0; 1024];
+    let mut all = [0; PRICES];
     put_shared(prices, x, things, &mut all);
     fill(end, positions, fees, &long, &first, &all, tab, t);
     value

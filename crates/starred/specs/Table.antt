@@ -42,8 +42,8 @@ abbrev pub textAt : ℕ → List ℕ → List ℕ → List ℕ
 textAt which job plan = cond (eqb which 1) job plan
 
 -- the bytes, the numbers and the line at fault of a case are those of its call
-abbrev pub Holds : Case → Type 0
-Holds c =
+abbrev pub CaseHolds : Case → Type 0
+CaseHolds c =
     let said = saidBy (c .call) (c .walk) (c .job) (c .plan) in
     (said .bytes ≡ c .written)
     × (numbers said .result ≡ c .result)

@@ -4,7 +4,7 @@ use mathlib.Core.Path.{_≡_, sym, _∙_}
 use lib.ListN.{take}
 use Rattle.lines.specs.Cursor.{Stands}
 use Rattle.lines.proofs.Parsing.{bind-good, bind-fault, end-value, end-fault, end-place, map-read, fault-read}
-use Rattle.covers.specs.Views.{coverOf, linesOf, meantCover}
+use Rattle.covers.specs.Views.{coverOf, coverThere, meantCover}
 use Rattle.quotes.specs.Views.{quotesOf}
 use Rattle.price_rules.specs.Grammar.{Prices, prices}
 use Rattle.price_rules.specs.Views.{ruleOf}
@@ -35,7 +35,7 @@ returns c =
     let d = c .before .before .before .before .before .before .before .before in
     let a = d .before .before .before .before .args in
     let r = d .before .before .read-cover in
-    let lines = linesOf (r .result .there) (coverOf (r .result .cover)) in
+    let lines = coverThere (r .result .there) (coverOf (r .result .cover)) in
     let make : Prices → PartText = λ ps. record { life = a .life; left = a .left; cover = lines; prices = ps } in
     let ps = take (a .n) (said .result .prices) in
     let b = said .result .ruled in

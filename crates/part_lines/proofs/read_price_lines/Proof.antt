@@ -8,7 +8,7 @@ use Rattle.lines.proofs.Parsing.{bind-good, bind-fault, end-value, end-fault, e
 use Rattle.quotes.specs.Grammar.{quote}
 use Rattle.quotes.specs.Views.{quotesOf}
 use Rattle.price_rules.specs.Grammar.{rule, prices}
-use Rattle.price_rules.specs.Views.{ruleOf, linesOf}
+use Rattle.price_rules.specs.Views.{ruleOf, ruleThere}
 use Rattle.part_lines.proofs.Prices.{ruled-read, list-few}
 use borrow.Author.Needs.{needs}
 use Rattle.part_lines.proofs.read_price_lines.Statement.{statement}
@@ -39,13 +39,13 @@ returns c =
     let text = s .args .text .now in
     let h = subst (λ (k : ℕ). Reads text (ended (x .end) (quotesOf (x .banded) (x .lows) (take k (x .highs)))) (times k quote (drop (q .at) text) (q .line))) (o .before .before .list-length .ensures) (ps .ensures) in
     let told = ruled-read (r .result .there) (ruleOf (r .result .rule)) (s .args .n) (drop (q .at) text) (q .line) (x .end) (x .banded) (x .lows) (x .highs) h in
-    record { is = told .is ∙ sym (bind-good rule _ (end-value (linesOf (r .result .there) (ruleOf (r .result .rule))) (r .ensures) (e .1))); stands = told .stands }
+    record { is = told .is ∙ sym (bind-good rule _ (end-value (ruleThere (r .result .there) (ruleOf (r .result .rule))) (r .ensures) (e .1))); stands = told .stands }
 
 returns-2 : tie.Need-returns-2
 unfolding prices
 returns-2 c =
     let r = c .before .before .before .before .read-rule in
-    fault-read _ refl (bind-fault rule _ (end-fault (linesOf (r .result .there) (ruleOf (r .result .rule))) (r .ensures) (c .before .lines-end2 .given .1)))
+    fault-read _ refl (bind-fault rule _ (end-fault (ruleThere (r .result .there) (ruleOf (r .result .rule))) (r .ensures) (c .before .lines-end2 .given .1)))
 
 pub read-price-lines-spec : {M : Type 1} → statement M
 read-price-lines-spec =

@@ -4,7 +4,7 @@ use native.Mathlib.Omega.{arith}
 use lib.ListN.{length, length-append}
 use Rattle.lines.specs.Text.{bytes, lineOf, optionalText}
 use Rattle.lines.proofs.Writing.{then, kept}
-use Rattle.covers.specs.Views.{linesOf}
+use Rattle.covers.specs.Views.{coverThere}
 use Rattle.price_rules.specs.Rendering.{pricesText}
 use Rattle.price_rules.specs.Views.{ruleOf}
 use Rattle.part_lines.specs.Views.{pricesSaid}
@@ -15,7 +15,7 @@ use Rattle.part_writing.proofs.put_part.Statement.{statement}
 use Rattle.part_writing.proofs.put_part.Tie as tie
 
 room : (s : tie.Start) → let a = s .args in
-    a .at + (length (lineOf "life=" (a .life)) + length (lineOf "left=" (a .left)) + length (optionalText coverCut (linesOf (a .there) (record { removal = a .removal; holders = a .holders .now }))) + length (pricesText (pricesSaid (a .ruled) (ruleOf (a .rule)) (quotesFrom (a .banded .now) (a .lows .now) (a .prices .now))))) ≤ length (a .out .now)
+    a .at + (length (lineOf "life=" (a .life)) + length (lineOf "left=" (a .left)) + length (optionalText coverCut (coverThere (a .there) (record { removal = a .removal; holders = a .holders .now }))) + length (pricesText (pricesSaid (a .ruled) (ruleOf (a .rule)) (quotesFrom (a .banded .now) (a .lows .now) (a .prices .now))))) ≤ length (a .out .now)
 unfolding partCut
 room s = omega (arith, simp length-append at (s .pre .1))
 

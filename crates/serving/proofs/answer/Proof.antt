@@ -5,7 +5,7 @@ use Rattle.jobs.specs.Views.{planFor}
 use Rattle.job_text.specs.Views.{givenOf}
 use Rattle.answers.specs.Said.{plainly, handed}
 use Rattle.answers.proofs.Replies.{replied, no-room}
-use Rattle.serving.specs.Serve.{linesOf, saidFor, latestRoom}
+use Rattle.serving.specs.Serve.{latestLines, saidFor, latestRoom}
 use Rattle.serving.specs.Serving.{answerIn}
 use Rattle.serving.proofs.Lengths.{lines-short}
 use borrow.Author.Needs.{needs}
@@ -34,7 +34,7 @@ returns-2 c =
     let plan = planFor (a .text .job) (a .plan) in
     let put = c .before .before .before .before .put-serving in
     replied latestRoom (saidFor (givenOf (a .text)) (answerIn plan (a .s))) (c .before .before .before .before .before .before .if1 .left) (lines-short (a .s) (a .text) (a .plan) (s .pre .0) (s .pre .1)) (put .ensures)
-    (c .plain .ensures ∙ ap (λ (n : ℕ). handed (plainly n (linesOf (givenOf (a .text)) (answerIn plan (a .s)))) (put .result)) (c .before .number-of .ensures plan))
+    (c .plain .ensures ∙ ap (λ (n : ℕ). handed (plainly n (latestLines (givenOf (a .text)) (answerIn plan (a .s)))) (put .result)) (c .before .number-of .ensures plan))
 
 pub answer-spec : {M : Type 1} → statement M
 answer-spec =

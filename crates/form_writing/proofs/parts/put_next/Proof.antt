@@ -7,7 +7,7 @@ use borrow.Author.Tests.{eqb-true}
 use lib.ListN.{length, getD, take, drop, length-take}
 use native.Mathlib.Nat.{min-le-left}
 use Rattle.lines.proofs.Writing.{same}
-use Rattle.covers.specs.Views.{linesOf}
+use Rattle.covers.specs.Views.{coverThere}
 use Rattle.price_rules.specs.Views.{ruleOf}
 use Rattle.part_lines.specs.Grammar.{PartText}
 use Rattle.part_lines.specs.Views.{pricesSaid}
@@ -128,7 +128,7 @@ abbrev stated : tie.After-put-part-arg5 → PartText
 stated c = let a = start c .args in record {
   life = getD (a .lives .now) (a .k) 0;
   left = getD (a .lefts .now) (a .k) 0;
-  cover = linesOf (thereAt (a .n) (lists (start c)) (a .k) (a .p)) (record { removal = c .before .before .before .before .before .before .before .before .before .before .before .before .before .value-if .result; holders = take (a .p .holders + c .before .before .before .before .before .before .before .before .before .before .before .before .value-if2 .result - a .p .holders) (drop (a .p .holders) (a .holders .now)) });
+  cover = coverThere (thereAt (a .n) (lists (start c)) (a .k) (a .p)) (record { removal = c .before .before .before .before .before .before .before .before .before .before .before .before .before .value-if .result; holders = take (a .p .holders + c .before .before .before .before .before .before .before .before .before .before .before .before .value-if2 .result - a .p .holders) (drop (a .p .holders) (a .holders .now)) });
   prices = pricesSaid (ruledAt (a .n) (lists (start c)) (a .k) (a .p)) (ruleOf (c .before .before .before .before .before .before .before .before .before .before .rule-if .result)) (quotesFrom (take (count c) (drop (a .p .prices) (a .banded .now))) (ends c) (take (count c) (drop (a .p .prices) (a .prices .now))));
 }
 
@@ -141,7 +141,7 @@ lent-is c =
     λ i. record {
       life = getD (a .lives .now) (a .k) 0;
       left = getD (a .lefts .now) (a .k) 0;
-      cover = linesOf (thereAt (a .n) x (a .k) (a .p)) (record { removal = sym (c .before .before .before .before .before .before .before .before .before .before .before .before .before .value-if .ensures) i; holders = take (sym (g ∙ h .ensures) i) (drop (a .p .holders) (a .holders .now)) });
+      cover = coverThere (thereAt (a .n) x (a .k) (a .p)) (record { removal = sym (c .before .before .before .before .before .before .before .before .before .before .before .before .before .value-if .ensures) i; holders = take (sym (g ∙ h .ensures) i) (drop (a .p .holders) (a .holders .now)) });
       prices = pricesSaid (ruledAt (a .n) x (a .k) (a .p)) (sym (c .before .before .before .before .before .before .before .before .before .before .rule-if .ensures) i) (quotesFrom (take (sym (counted c) i) (drop (a .p .prices) (a .banded .now))) (sym (ends-are c) i) (take (sym (counted c) i) (drop (a .p .prices) (a .prices .now))));
     }
 
