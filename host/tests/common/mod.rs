@@ -11,6 +11,7 @@ pub mod json;
 pub mod latest_cases;
 #[cfg(feature = "library")]
 pub mod lent;
+pub mod logs;
 pub mod paper;
 pub mod rng;
 #[cfg(feature = "library")]
