@@ -9,8 +9,16 @@ use super::model::{Job, Opening, Part, Plan, Rule};
 /// "A job text may now have 40,960 bytes".
 pub fn read_job(text: &[u8]) -> Result<Job, Fault> {
     let mut lines = Lines::new(text, MAX_JOB)?;
+    let (job, _) = read_job_lines(&mut lines)?;
+    lines.end()?;
+    Ok(job)
+}
+
+/// The lines of a job, with what may stand behind them; and its first line, as the place of a fault.
+pub fn read_job_lines(lines: &mut Lines) -> Result<(Job, Fault), Fault> {
     let horizon = lines.value("horizon", 2, 365)? as i64;
-    let idles = read_idles(&mut lines, horizon)?;
+    let first = lines.fault(0);
+    let idles = read_idles(lines, horizon)?;
     // "A job's `walk` line, if it still stands, is checked as before and set aside."
     let walk = if lines.begins("walk=") { Some(lines.value("walk", 0, 4_000_000_000)?) } else { None };
 
@@ -27,10 +35,8 @@ pub fn read_job(text: &[u8]) -> Result<Job, Fault> {
     }
 
     let parts = lines.value("parts", 1, 16)? as usize;
-    let parts = (0..parts).map(|own| read_part(&mut lines, own, parts, count)).collect::<Result<Vec<Part>, Fault>>()?;
-
-    lines.end()?;
-    Ok(Job { horizon, idles, walk, openings, parts })
+    let parts = (0..parts).map(|own| read_part(lines, own, parts, count)).collect::<Result<Vec<Part>, Fault>>()?;
+    Ok((Job { horizon, idles, walk, openings, parts }, first))
 }
 
 /// The lines of the part at place `own` of `parts`, with a price for each of `openings`.

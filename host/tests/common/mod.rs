@@ -3,6 +3,7 @@
 
 pub mod damage;
 pub mod forms;
+pub mod halls;
 pub mod holder_cases;
 pub mod idle_cases;
 pub mod inputs;

@@ -61,7 +61,7 @@ pub fn field<'l>(line: &'l str, name: &str) -> &'l str {
 fn vector(line: &str) -> Vector {
     let fields: Vec<&str> = line.split(' ').collect();
     let judge = match fields[0] {
-        "plan" => false,
+        "plan" | "hall" => false,
         "judge" | "latest" | "carry" => true,
         other => panic!("no call: {other}"),
     };
@@ -168,6 +168,13 @@ pub fn latest() -> Vec<Vector> {
 pub fn carries() -> Vec<Vector> {
     let kept = Path::new(env!("CARGO_MANIFEST_DIR")).join("vectors/carry12.txt");
     let file = std::env::var("JUZVAROLA_CARRY_VECTORS").map_or(kept, PathBuf::from);
+    std::fs::read_to_string(file).expect("a file").lines().map(vector).collect()
+}
+
+/// The vectors of the hall planner: `vectors/hall14.txt`.
+pub fn halls() -> Vec<Vector> {
+    let kept = Path::new(env!("CARGO_MANIFEST_DIR")).join("vectors/hall14.txt");
+    let file = std::env::var("JUZVAROLA_HALL_VECTORS").map_or(kept, PathBuf::from);
     std::fs::read_to_string(file).expect("a file").lines().map(vector).collect()
 }
 
