@@ -58,6 +58,29 @@ An empty PLAN is the plan of doing nothing.
 ",
     },
     Page {
+        name: "latest",
+        usage:
+            "juzvarola latest JOB (PLAN | --stops STEPS) [-o PLAN] [--json]\n       [--from DATE] [--step day|week|month] [--names FILE]",
+        summary: "each part changed as late as given stops allow, and why",
+        files: &["JOB", "PLAN"],
+        options: &["-o", "--output", "--stops", "--json", "--from", "--step", "--names"],
+        body: "\
+The foreman's habit. Of PLAN only the stops count; --stops names them in its
+place. Says what the habit costs, whether other changes at these stops cost
+less, what the cheapest plan costs, and why each change was made: by how much
+the next stop would have been too late. If the stops can't keep some part, that
+part is named (status 1).
+
+      --stops STEPS   the stops, rising, with commas between them: 2,10,18
+  -o, --output PLAN   where the plan goes; - is standard output, and the rest
+                      is then said on standard error
+      --json          the answer as JSON
+      --from DATE     dates beside the steps: step 1 begins on 2027-01-04, say
+      --step LENGTH   how long a step is: day, week or month
+      --names FILE    names of parts: rows of number, name and order number
+",
+    },
+    Page {
         name: "list",
         usage: "juzvarola list JOB PLAN [--csv | --json] [--every N] [--from DATE]\n       [--step day|week|month] [--names FILE]",
         summary: "what to buy and when, and when the line stops",
@@ -128,6 +151,45 @@ seconds they take on this machine (found by a short walk). With a walk number
 of that or more the planner always finishes. Jobs without holders only.
 
       --json          the count as JSON
+",
+    },
+    Page {
+        name: "worth",
+        usage: "juzvarola worth JOB [--json] [--names FILE]",
+        summary: "what a step of each part's life is worth",
+        files: &["JOB"],
+        options: &["--json", "--names"],
+        body: "\
+Says for each part by how much the least cost changes if its life were one
+running step shorter, and if it were one longer; what is left of the one that
+is in stays as it is. For the buyer who is offered a better seal. Where a walk
+of a fraction of a second does not prove a least cost, it is given from-to.
+
+      --json          the answer as JSON
+      --names FILE    names of parts: rows of number, name and order number
+",
+    },
+    Page {
+        name: "whatif",
+        usage: "juzvarola whatif JOB [PLAN] [--fee AMOUNT] [--left PART=N]\n       [--price PART=AMOUNT] [--close STEPS] [-o PLAN] [--save JOB] [--json]\n       [--from DATE] [--step day|week|month] [--names FILE]",
+        summary: "the plan of a changed job, and what the old plan would cost",
+        files: &["JOB", "PLAN"],
+        options: &["--fee", "--left", "--price", "--close", "-o", "--output", "--save", "--json", "--from", "--step", "--names"],
+        body: "\
+Plans the job as it would be, says what that costs beside the job as it is, and
+what PLAN would now cost, or why it would not do; without PLAN, the cheapest
+plan of the job as it is. Changes may be given several times and together.
+
+      --fee AMOUNT           every opening's fee: 120, +10, -5, +10%
+      --left PART=N          what is left of the part that is in
+      --price PART=AMOUNT    all prices of a part: 5=40, 5=+10%, 5=-3
+      --close STEPS          no stop at this step, or from one to another: 20-22
+  -o, --output PLAN          where the new plan goes; - is standard output
+      --save JOB             where the changed job goes
+      --json                 the answer as JSON
+      --from DATE            dates beside the steps
+      --step LENGTH          how long a step is: day, week or month
+      --names FILE           names of parts: rows of number, name and order
 ",
     },
     Page {
