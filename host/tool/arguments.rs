@@ -15,9 +15,14 @@ pub struct Pair {
     pub plan: OsString,
 }
 
-/// `plan`: the job, where its plan goes, the walk number if one is given, and how the walk is made.
+/// `plan`: the job, where its plan goes, the walk number if one is given, and how the walk is made. Many jobs with a folder for their plans, how many
+/// are planned at a time, and where their summary goes.
 pub struct PlanOrder {
     pub job: OsString,
+    pub jobs: Vec<OsString>,
+    pub into: Option<OsString>,
+    pub at_once: u64,
+    pub summary: Option<OsString>,
     pub output: Option<OsString>,
     pub walk: Option<u64>,
     pub limit: Option<Duration>,
@@ -166,6 +171,9 @@ struct Given {
     names: Option<OsString>,
     stops: Option<Vec<u64>>,
     save: Option<OsString>,
+    into: Option<OsString>,
+    at_once: Option<u64>,
+    summary: Option<OsString>,
     fee: Option<Amount>,
     lefts: Vec<(u64, u64)>,
     prices: Vec<(u64, Amount)>,
@@ -201,7 +209,12 @@ pub fn read(words: &[OsString]) -> Result<Command, Failure> {
     let wanted = page.files.len() - usize::from(given.stops.is_some());
     // The plan of before may be left out.
     let fewer = page.name == "whatif" && given.files.len() == 1;
-    if given.files.len() != wanted && !fewer {
+    // With a folder for their plans there may be many jobs.
+    let many = given.into.is_some() && !given.files.is_empty();
+    if given.into.is_none() && (given.at_once.is_some() || given.summary.is_some()) {
+        return Err(failure(USAGE, "-j and --summary are for many jobs, and need --into FOLDER"));
+    }
+    if given.files.len() != wanted && !fewer && !many {
         let files = match wanted {
             0 => "no file".to_string(),
             1 => "one file".to_string(),
@@ -233,7 +246,8 @@ fn command(page: &help::Page, given: Given) -> Result<Command, Failure> {
     if page.name == "whatif" {
         return Ok(Command::Whatif(given.whatif(naming)));
     }
-    let Given { files, output, every, walk, limit, stops, json, once, quiet, verbose, .. } = given;
+    let Given { files, output, every, walk, limit, stops, into, at_once, summary, json, once, quiet, verbose, .. } = given;
+    let jobs = files.clone();
     let mut files = files.into_iter();
     let mut next = || files.next().unwrap_or_default();
     let first = next();
@@ -243,7 +257,10 @@ fn command(page: &help::Page, given: Given) -> Result<Command, Failure> {
     }
     let mut pair = |job| Pair { job, plan: next() };
     Ok(match page.name {
-        "plan" => Command::Plan(PlanOrder { job: first, output, walk, limit, once, quiet, json }),
+        "plan" => {
+            let at_once = at_once.unwrap_or(1);
+            Command::Plan(PlanOrder { job: first, jobs, into, at_once, summary, output, walk, limit, once, quiet, json })
+        }
         "judge" => Command::Judge(JudgeOrder { pair: pair(first), verbose, json, naming }),
         "list" => Command::List(ListOrder { pair: pair(first), form, every, naming }),
         "draw" => {
@@ -296,6 +313,11 @@ impl Given {
             "-o" | "--output" => self.output = Some(value()?),
             "--names" => self.names = Some(value()?),
             "--save" => self.save = Some(value()?),
+            "--into" => self.into = Some(value()?),
+            "--summary" => self.summary = Some(value()?),
+            "-j" | "--jobs" => {
+                self.at_once = Some(read_as(name, "how many at a time, from 1 to 256", &value()?, |word| within(word, 1, 256))?)
+            }
             "--fee" => self.fee = Some(read_as(name, "an amount such as 120, +10, -5 or +10%", &value()?, amount)?),
             "--left" => self.lefts.push(read_as(name, "a part and what is left, such as 3=2", &value()?, |word| {
                 let (part, left) = word.split_once('=')?;
@@ -373,9 +395,10 @@ fn gather(page: &help::Page, words: &[OsString]) -> Result<Given, Failure> {
 
 /// An option's name and the value attached to it: `--every=7`, `-oFILE`.
 fn name_and_value(word: &str) -> (&str, Option<&str>) {
-    match word.strip_prefix("-o") {
-        Some(value) if !value.is_empty() => ("-o", Some(value)),
-        _ => word.split_once('=').map_or((word, None), |(name, value)| (name, Some(value))),
+    let attached = |letter: &'static str| word.strip_prefix(letter).filter(|value| !value.is_empty()).map(|value| (letter, Some(value)));
+    match attached("-o").or_else(|| attached("-j")) {
+        Some(own) => own,
+        None => word.split_once('=').map_or((word, None), |(name, value)| (name, Some(value))),
     }
 }
 

@@ -14,10 +14,10 @@ pub struct Page {
 pub const PAGES: &[Page] = &[
     Page {
         name: "plan",
-        usage: "juzvarola plan JOB [-o PLAN] [--walk N] [--for TIME] [--once] [--quiet]\n       [--json]",
+        usage: "juzvarola plan JOB [-o PLAN] [--walk N] [--for TIME] [--once] [--quiet]\n       [--json]\n       juzvarola plan JOB.. --into FOLDER [-j N] [--summary FILE] [--walk N]\n       [--for TIME] [--once] [--quiet] [--json]",
         summary: "the cheapest plan that keeps every part's life",
         files: &["JOB"],
-        options: &["-o", "--output", "--walk", "--for", "--once", "--quiet", "-q", "--json"],
+        options: &["-o", "--output", "--walk", "--for", "--once", "--quiet", "-q", "--json", "--into", "-j", "--jobs", "--summary"],
         body: "\
 Writes the plan text to PLAN, or to standard output; what it costs, and whether
 that is proved the least, is said on standard error. If the walk has more nodes
@@ -37,6 +37,15 @@ a shell makes an empty file first, which is the plan of doing nothing.
 The walk is made with growing walk numbers. Where it takes more than a second
 and standard error is a terminal, the nodes and the best cost so far are shown.
 Ctrl-C, SIGTERM and the end of --for write the best plan so far (status 3).
+
+Many jobs, a line for each; a job at fault stops nobody, and the exit status is
+the worst of all:
+
+      --into FOLDER   each job's plan goes there under the job's name; a plan
+                      that is there already and that the judge accepts is
+                      left alone
+  -j, --jobs N        so many at a time
+      --summary FILE  a table of all, as CSV
 ",
     },
     Page {

@@ -22,6 +22,7 @@ mod judge;
 mod latest;
 mod list;
 mod lives;
+mod many;
 mod naming;
 mod numbers;
 mod output;
