@@ -81,7 +81,7 @@ pub const JOB: &[Line] = &[
     line("fee", AMOUNT, &["opening", "parts"]),
     line("parts", (1, 16), &["life"]),
     line("life", (1, 1000), &["left"]).counted("parts", "parts", &["life"]),
-    line("left", (1, 1000), &["removal", "base", "low", "price", "life", END]).words(&[(5, "left is greater than life")]),
+    line("left", (0, 1000), &["removal", "base", "low", "price", "life", END]).words(&[(5, "left is greater than life")]),
     line("removal", AMOUNT, &["inside"]).standing(Stands::Maybe),
     line("inside", (0, 15), &["holder", "base", "low", "price", "life", END]),
     line("holder", (1, 16), &["holder", "base", "low", "price", "life", END])

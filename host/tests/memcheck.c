@@ -120,11 +120,29 @@ static uint64_t walk_number(const bytes *job) {
     return walk;
 }
 
+/* Whether a list of numbers has a 0. */
+static int has_zero(const char *list) {
+    for (const char *at = list; at; at = strchr(at, ',') ? strchr(at, ',') + 1 : NULL) {
+        if (at[0] == '0' && (at[1] == ',' || at[1] == 0)) {
+            return 1;
+        }
+    }
+    return 0;
+}
+
 /* Whether the line is of before and has another answer now: a form with a walk number, a job that was refused for want of the walk line, where
- * `openings` stood in its place, or one that was refused for its length and is not any more. */
+ * `openings` stood in its place, one that was refused for its length and is not any more, or one of
+ * before `left` could be 0 that was refused for that. */
 static int of_before(void) {
     if (strcmp(fields[0], "write") == 0) {
-        return named("walk") != NULL;
+        return named("walk") != NULL || (number("result", 2) == 3 && has_zero(named("lefts")));
+    }
+    if (number("result", 2) == 3 && strcmp(field("fault", 7), "6c6566743d30") == 0) {
+        return 1;
+    }
+    /* Calls that the library does not have. */
+    if (strcmp(fields[0], "carry") == 0 || strcmp(fields[0], "hall") == 0) {
+        return 1;
     }
     if (number("result", 2) == 1 && strlen(field("job", 4)) > 2 * 32768 && strlen(field("job", 4)) <= 2 * JUZVAROLA_MOST_JOB) {
         return 1;

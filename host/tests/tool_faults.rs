@@ -39,7 +39,7 @@ fn values_outside_their_range() {
         ("fee=10", "fee=1000001", "job.txt:5: fee is not a number from 0 to 1,000,000 (3)\n    fee=1000001\n"),
         ("parts=2", "parts=17", "job.txt:12: parts is not a number from 1 to 16 (3)\n    parts=17\n"),
         ("life=3", "life=1001", "job.txt:13: life is not a number from 1 to 1,000 (3)\n    life=1001\n"),
-        ("left=2", "left=0", "job.txt:14: left is not a number from 1 to 1,000 (3)\n    left=0\n"),
+        ("left=2", "left=1001", "job.txt:14: left is not a number from 0 to 1,000 (3)\n    left=1001\n"),
         ("left=2", "left=2 removal=1000001 inside=0", "job.txt:15: removal is not a number from 0 to 1,000,000 (3)\n    removal=1000001\n"),
         ("left=2", "left=2 removal=0 inside=16", "job.txt:16: inside is not a number from 0 to 15 (3)\n    inside=16\n"),
         ("left=2", "left=2 removal=0 inside=1 holder=17", "job.txt:17: holder is not a number from 1 to 16 (3)\n    holder=17\n"),

@@ -11,11 +11,14 @@ use crate::numbers::{counted, grouped, percent, seconds};
 use crate::standing::Bounds;
 use crate::texts::{self, Job};
 use crate::walks::{self, Ended, Walked};
-use crate::{faults, list, output, standard_output};
+use crate::{faults, list, many, output, standard_output};
 use std::ffi::OsStr;
 
 /// Plans, writes the plan text and says what it is.
 pub fn run(order: &PlanOrder) -> Result<u8, Failure> {
+    if let Some(folder) = &order.into {
+        return many::run(order, folder);
+    }
     let input = files::read(&order.job)?;
     let standard = OsStr::new("-");
     // With JSON on standard output the plan text does not go there too: it stands in it.

@@ -110,6 +110,40 @@ impl Job {
         self.removed(stop).into_iter().filter(|part| !stop.parts.contains(part)).collect()
     }
 
+    /// The text of a job, with a line for each price, or two where it is a band with two ends.
+    pub fn text(&self) -> String {
+        let mut text = format!("horizon={}\n", self.horizon);
+        if !self.idles.is_empty() {
+            text += &format!("idles={}\n", self.idles.len());
+            text.extend(self.idles.iter().map(|idle| format!("idle={idle}\n")));
+        }
+        text += &format!("openings={}\n", self.openings.len());
+        text.extend(self.openings.iter().map(|opening| format!("opening={}\nfee={}\n", opening.step, opening.fee)));
+        text += &format!("parts={}\n", self.parts.len());
+        for part in &self.parts {
+            text += &format!("life={}\nleft={}\n", part.life, part.left);
+            if part.removal > 0 || !part.holders.is_empty() {
+                text += &format!("removal={}\ninside={}\n", part.removal, part.holders.len());
+                text.extend(part.holders.iter().map(|holder| format!("holder={holder}\n")));
+            }
+            for (price, low) in part.prices.iter().zip(&part.lows) {
+                match part.bands > 0 && low != price {
+                    true => text += &format!("low={low}\nhigh={price}\n"),
+                    false => text += &format!("price={price}\n"),
+                }
+            }
+        }
+        text
+    }
+
+    /// The same job with those of its openings alone that are wanted.
+    pub fn only_open(&self, wanted: impl Fn(u64) -> bool) -> Job {
+        let kept: Vec<usize> = (0..self.openings.len()).filter(|at| wanted(self.openings[*at].step)).collect();
+        let own = |list: &[u64]| kept.iter().filter_map(|at| list.get(*at).copied()).collect();
+        let part = |part: &Part| Part { prices: own(&part.prices), lows: own(&part.lows), ..part.clone() };
+        Job { openings: kept.iter().map(|at| self.openings[*at]).collect(), parts: self.parts.iter().map(part).collect(), ..self.clone() }
+    }
+
     /// Whether some part has a removal or a holder.
     pub fn has_removals(&self) -> bool {
         self.parts.iter().any(|part| part.removal > 0 || !part.holders.is_empty())
@@ -126,6 +160,16 @@ impl Job {
 }
 
 impl Plan {
+    /// The plan's text, as the judge reads it.
+    pub fn text(&self) -> String {
+        let mut text = format!("cost={}\nstops={}\n", self.cost, self.stops.len());
+        for stop in &self.stops {
+            text += &format!("stop={}\ncount={}\n", stop.step, stop.parts.len());
+            text.extend(stop.parts.iter().map(|part| format!("part={part}\n")));
+        }
+        text
+    }
+
     /// The steps at which a part, counted from 1, is changed.
     pub fn changes(&self, part: u64) -> Vec<u64> {
         self.stops.iter().filter(|stop| stop.parts.contains(&part)).map(|stop| stop.step).collect()
@@ -232,6 +276,20 @@ mod tests {
         );
         let plan = plan(b"costlow=3\ncost=15\nstops=1\nstop=2\ncount=1\npart=1\n");
         assert_eq!((plan.cost, plan.stops), (15, vec![Stop { step: 2, parts: vec![1] }]));
+    }
+
+    /// A job's text reads back as the same job; with fewer openings each part keeps the prices of those that stay.
+    #[test]
+    fn texts_read_back() {
+        let more = JOB
+            .replace("left=2\n", "left=2\nremoval=9\ninside=1\nholder=2\n")
+            .replace("openings=1\nopening=2\nfee=10\n", "openings=2\nopening=2\nfee=10\nopening=4\nfee=3\n");
+        let more = more.replace("price=5\n", "price=5\nprice=6\n").replace("price=7\n", "price=7\nprice=8\n");
+        let read = job(more.as_bytes());
+        assert_eq!(format!("{:?}", job(read.text().as_bytes())), format!("{read:?}"));
+        assert_eq!(read.text(), more.replace("walk=11\n", ""));
+        let later = read.only_open(|step| step > 2);
+        assert_eq!((later.openings.len(), later.price(1, 4), later.price(2, 4), later.price(1, 2)), (1, Some(6), Some(8), None));
     }
 
     /// A part's lines of removal are read where they stand.

@@ -120,7 +120,7 @@ fn put_parts(text: &mut Text, form: &Form) -> Result<(), Fault> {
     let mut prices = form.prices.iter().zip(form.banded);
     for (part, life) in form.lives.iter().enumerate() {
         text.put("life", u64::from(*life), 1, 1000)?;
-        text.put("left", u64::from(form.lefts[part]), 1, 1000)?;
+        text.put("left", u64::from(form.lefts[part]), 0, 1000)?;
         // "5: `left` greater than `life`, on the `left` line."
         if form.lefts[part] > *life {
             return Err(text.fault(5));

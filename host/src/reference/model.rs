@@ -7,7 +7,7 @@ pub struct Opening {
     pub fee: u64,
 }
 
-/// "A part has a life L and a first life R ("left")." What its removal costs, the parts that come out before it, and its price at each
+/// "A part has a life L and a first life R ("left")." "From here on `left` may be 0: change before the next running step". What its removal costs, the parts that come out before it, and its price at each
 /// opening. "A part without them has removal 0 and no holders".
 #[derive(Debug, Clone, PartialEq, Eq)]
 pub struct Part {
@@ -94,9 +94,14 @@ impl Job {
     /// none) plus L is at least T + 1", all in running steps. "Its due step: at its first gap that is too long, the last step at which a
     /// change would still have kept it"; an idle step may be that.
     pub fn due(&self, part: &Part, changes: &Set) -> Option<i64> {
+        self.due_by(part, changes, self.horizon + 1)
+    }
+
+    /// The due step where the part is to last up to and including this step, after these changes; none where it does.
+    pub fn due_by(&self, part: &Part, changes: &Set, end: i64) -> Option<i64> {
         let mut before = part.first_change();
         let changed = self.openings.iter().zip(changes).filter(|(_, changed)| **changed).map(|(opening, _)| opening.step);
-        for next in changed.chain([self.horizon + 1]) {
+        for next in changed.chain([end]) {
             if self.distance(before, next) > part.life {
                 return (0..=self.horizon).rev().find(|step| self.distance(before, *step) <= part.life);
             }

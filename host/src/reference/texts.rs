@@ -9,8 +9,16 @@ use super::model::{Job, Opening, Part, Plan, Rule};
 /// "A job text may now have 40,960 bytes".
 pub fn read_job(text: &[u8]) -> Result<Job, Fault> {
     let mut lines = Lines::new(text, MAX_JOB)?;
+    let (job, _) = read_job_lines(&mut lines)?;
+    lines.end()?;
+    Ok(job)
+}
+
+/// The lines of a job, with what may stand behind them; and its first line, as the place of a fault.
+pub fn read_job_lines(lines: &mut Lines) -> Result<(Job, Fault), Fault> {
     let horizon = lines.value("horizon", 2, 365)? as i64;
-    let idles = read_idles(&mut lines, horizon)?;
+    let first = lines.fault(0);
+    let idles = read_idles(lines, horizon)?;
     // "A job's `walk` line, if it still stands, is checked as before and set aside."
     let walk = if lines.begins("walk=") { Some(lines.value("walk", 0, 4_000_000_000)?) } else { None };
 
@@ -27,16 +35,15 @@ pub fn read_job(text: &[u8]) -> Result<Job, Fault> {
     }
 
     let parts = lines.value("parts", 1, 16)? as usize;
-    let parts = (0..parts).map(|own| read_part(&mut lines, own, parts, count)).collect::<Result<Vec<Part>, Fault>>()?;
-
-    lines.end()?;
-    Ok(Job { horizon, idles, walk, openings, parts })
+    let parts = (0..parts).map(|own| read_part(lines, own, parts, count)).collect::<Result<Vec<Part>, Fault>>()?;
+    Ok((Job { horizon, idles, walk, openings, parts }, first))
 }
 
 /// The lines of the part at place `own` of `parts`, with a price for each of `openings`.
 fn read_part(lines: &mut Lines, own: usize, parts: usize, openings: u64) -> Result<Part, Fault> {
     let life = lines.value("life", 1, 1000)? as i64;
-    let left = lines.value("left", 1, 1000)? as i64;
+    // "From here on `left` may be 0".
+    let left = lines.value("left", 0, 1000)? as i64;
     // "5: `left` greater than `life`, on the `left` line."
     if left > life {
         return Err(lines.fault(5));
@@ -119,13 +126,22 @@ fn read_idles(lines: &mut Lines, horizon: i64) -> Result<Vec<i64>, Fault> {
 /// "Plan: `cost` [..]; `stops` 0..64; for each, `stop` 1..365 and `count` 0..16, then that many `part` 1..16." "The plan's `cost` may now
 /// be up to 4000000000." The plan and the cost that it states.
 pub fn read_plan(job: &Job, text: &[u8]) -> Result<(Plan, u64), Fault> {
-    let openings = job.openings.len();
-    let mut plan = Plan { stops: vec![false; openings], changes: vec![vec![false; openings]; job.parts.len()] };
     // "An empty plan text shall mean a plan of no stops and cost 0."
     if text.is_empty() {
-        return Ok((plan, 0));
+        return Ok((no_stops(job), 0));
     }
-    let mut lines = Lines::new(text, MAX_TEXT)?;
+    read_plan_lines(job, &mut Lines::new(text, MAX_TEXT)?, job.horizon)
+}
+
+/// The plan of doing nothing.
+fn no_stops(job: &Job) -> Plan {
+    let openings = job.openings.len();
+    Plan { stops: vec![false; openings], changes: vec![vec![false; openings]; job.parts.len()] }
+}
+
+/// The plan lines up to the text's end, with no stop after this step: the plan and the cost that it states.
+pub fn read_plan_lines(job: &Job, lines: &mut Lines, last: i64) -> Result<(Plan, u64), Fault> {
+    let mut plan = no_stops(job);
     let cost = lines.value("cost", 0, 4_000_000_000)?;
 
     let mut step_before = 0;
@@ -133,7 +149,7 @@ pub fn read_plan(job: &Job, text: &[u8]) -> Result<(Plan, u64), Fault> {
         let step = lines.value("stop", 1, 365)? as i64;
         // "9: a stop that is no opening or doesn't rise".
         let opening = job.openings.iter().position(|opening| opening.step == step);
-        let Some(opening) = opening.filter(|_| step > step_before) else {
+        let Some(opening) = opening.filter(|_| step > step_before && step <= last) else {
             return Err(lines.fault(9));
         };
         step_before = step;

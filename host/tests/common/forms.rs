@@ -388,7 +388,9 @@ pub fn vectors() -> Vec<FormVector> {
         Ok(file) => vec![file.into()],
         Err(_) => kept.iter().map(|file| folder.join(file)).collect::<Vec<PathBuf>>(),
     };
+    // A form of before `left` could be 0 was refused for that.
+    let refused = |vector: &FormVector| vector.reply.result == 3 && vector.call.lists[4].contains(&0);
     let read =
         |file: PathBuf| std::fs::read_to_string(file).expect("the forms' vectors").lines().filter_map(without_walk).collect::<Vec<_>>();
-    files.into_iter().flat_map(read).collect()
+    files.into_iter().flat_map(read).filter(|vector| !refused(vector)).collect()
 }

@@ -316,7 +316,7 @@ pub fn facts(rng: &mut Rng, size: Size) -> Facts {
             _ => rng.within(gap, (gap + horizon / 2).max(gap)),
         };
         let left = match rng.below(8) {
-            0 => rng.within(1, life),
+            0 => rng.within(0, life),
             1 => life,
             _ => rng.within(gap.min(life), life),
         };
@@ -567,7 +567,7 @@ fn nudge(rng: &mut Rng, text: &mut Vec<u8>, equals: usize, stop: usize) {
 
 /// The text made long, to about the most bytes a text may have.
 fn lengthened(rng: &mut Rng, mut text: Vec<u8>) -> Vec<u8> {
-    let length = rng.pick(&[32_767, 32_768, 32_769, 40_000, 40_959, 40_960, 40_961, 40_962, 65_536, 70_000]);
+    let length = rng.pick(&[32_768, 32_769, 40_959, 40_960, 40_961, 40_961, 40_962, 45_000, 65_536, 70_000]);
     let at = rng.pick(&bounds(&text)).0;
     let missing = length - text.len().min(length);
     let fill: Vec<u8> = match rng.below(4) {
@@ -585,7 +585,7 @@ fn lengthened(rng: &mut Rng, mut text: Vec<u8>) -> Vec<u8> {
 pub fn damaged(rng: &mut Rng, mut text: Vec<u8>) -> Vec<u8> {
     match rng.below(60) {
         0 => return Vec::new(),
-        1 => return lengthened(rng, text),
+        1..=3 => return lengthened(rng, text),
         _ => {}
     }
     for _ in 0..rng.pick(&[1, 1, 1, 1, 2, 3]) {
