@@ -6,7 +6,7 @@
 #include "juzvarola.h"
 
 /* One byte more than a text may have: a longer file is refused just as well by these bytes. */
-static uint8_t job[JUZVAROLA_MOST_TEXT + 1];
+static uint8_t job[JUZVAROLA_MOST_JOB + 1];
 static uint8_t out[JUZVAROLA_ROOM];
 
 /* As far as a search may walk. */
@@ -18,12 +18,20 @@ static uint8_t out[JUZVAROLA_ROOM];
 static juzvarola_answer fill_in(void) {
     static const uint32_t openings[] = {2, 3, 4, 5}, fees[] = {10, 10, 10, 10};
     static const uint32_t lives[] = {3, 4}, lefts[] = {2, 4}, prices[] = {5, 5, 5, 5, 7, 7, 7, 7};
-    /* No part has lines of removal, so that there are no removals, insides and holders. */
-    static const uint32_t covered[] = {0, 0};
-    /* No step is idle: the list has length 0, and its pointer may be any that is not null. */
-    static const uint32_t none[] = {0};
-    return juzvarola_write(6, none, 0, openings, COUNT(openings), fees, COUNT(fees), lives, COUNT(lives), lefts, COUNT(lefts), covered,
-                           COUNT(covered), none, 0, none, 0, none, 0, prices, COUNT(prices), job, sizeof job);
+    /* No part has lines of removal, none has its prices by a rule, and no price is a band. */
+    static const uint32_t no_part[] = {0, 0}, no_price[] = {0, 0, 0, 0, 0, 0, 0, 0};
+    juzvarola_form form = {0};
+    form.horizon = 6;
+    form.openings = openings, form.openings_len = COUNT(openings);
+    form.fees = fees, form.fees_len = COUNT(fees);
+    form.lives = lives, form.lives_len = COUNT(lives);
+    form.lefts = lefts, form.lefts_len = COUNT(lefts);
+    form.covered = no_part, form.covered_len = COUNT(no_part);
+    form.ruled = no_part, form.ruled_len = COUNT(no_part);
+    form.banded = no_price, form.banded_len = COUNT(no_price);
+    form.prices = prices, form.prices_len = COUNT(prices);
+    /* Every list that is left out, such as the idle steps, is empty. */
+    return juzvarola_write_form(&form, job, sizeof job);
 }
 
 int main(int argc, char **argv) {

@@ -29,7 +29,7 @@ fuzz() {
 }
 all=0
 for name in table names job plan; do mkdir -p $scratch/seeds-$name; done
-printf 'horizon,52\nidle,30\nopening,10,20,40\nfee,60\npart,life,left,removal,holders,prices\n1,12,9,,,40,40,45\n2,26,26,15,1,"70"\n' > $scratch/seeds-table/one
+printf 'horizon,52\nidle,30\nopening,10,20,40\nfee,60\npart,life,left,removal,holders,prices\n1,12,9,,,40,40,45\n2,26,26,15,1,"70 to 80"\n3,20,8,,,base,90,drop,5,least,70\n' > $scratch/seeds-table/one
 printf '\357\273\277part;name;order\r\n1;"Seal; lower";S-1\r\n2;Ring;\r\n' > $scratch/seeds-names/one
 cp $job $scratch/seeds-job/one
 printf 'horizon = 6\nFee: "1,0"\n# no\n' > $scratch/seeds-job/two

@@ -43,8 +43,14 @@ def read_job(text):
             parts[-1][3] = value
         elif key == "holder":
             parts[-1][4].append(value - 1)
-        elif key == "price":
+        elif key in ("price", "high"):
             parts[-1][2].append(value)
+        elif key == "base":
+            base = value
+        elif key == "drop":
+            drop = value
+        elif key == "least":
+            parts[-1][2] = [max(base - k * drop, value) for k in range(len(openings))]
     return horizon - len(idles), openings, parts
 
 

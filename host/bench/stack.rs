@@ -63,13 +63,19 @@ fn longest() -> Form<'static> {
         removals: alike(16, 1_000_000),
         insides: alike(16, 15),
         holders: (1..=16).flat_map(|part| (1..=16).filter(move |other| *other != part)).collect::<Vec<_>>().leak(),
+        ruled: alike(16, 0),
+        bases: &[],
+        drops: &[],
+        leasts: &[],
+        banded: alike(1024, 1),
+        lows: alike(1024, 1_000_000),
         prices: alike(1024, 1_000_000),
     }
 }
 
 /// The calls to try; each is made on a thread of its own.
 fn call(name: &str) -> u32 {
-    let mut out = vec![0; 32_768];
+    let mut out = vec![0; 40_960];
     match name {
         "plan, no stop" => juzvarola_host::plan(job(1000).as_bytes(), juzvarola_host::MOST_WALK, &mut out).result,
         "plan, one stop" => juzvarola_host::plan(job(364).as_bytes(), juzvarola_host::MOST_WALK, &mut out).result,

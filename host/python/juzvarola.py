@@ -1,4 +1,5 @@
-"""Juzvarola from Python: plans the stops and part changes of a filling line, judges such plans, writes job texts and counts.
+"""Juzvarola from Python: plans the stops and part changes of a filling line, judges such plans, changes parts as late as given stops allow,
+writes job texts and counts.
 
 Every answer is that of the proved library, libjuzvarola.so.0, called by ctypes; nothing else is needed. The texts are those of
 juzvarola-job(5) and juzvarola-plan(5), the results those of juzvarola(3).
@@ -25,14 +26,31 @@ from enum import IntEnum
 from pathlib import Path
 from typing import Iterable, Optional, Sequence, Tuple, Union
 
-__all__ = ["Count", "Fault", "Form", "Plan", "Planned", "Result", "Stop", "Verdict", "Written", "count", "judge", "plan", "version", "write"]
+__all__ = [
+    "Count",
+    "Fault",
+    "Form",
+    "Latest",
+    "Plan",
+    "Planned",
+    "Result",
+    "Stop",
+    "Verdict",
+    "Written",
+    "count",
+    "judge",
+    "latest",
+    "plan",
+    "version",
+    "write",
+]
 
 #: The version of the library's interface that this module is made for.
-VERSION: Tuple[int, int, int] = (0, 9, 0)
+VERSION: Tuple[int, int, int] = (0, 11, 0)
 
 _NAME = "libjuzvarola.so.0"
 _ROOM = 16_384
-_WRITE_ROOM = 32_768
+_WRITE_ROOM = 40_960
 _MOST = 4_000_000_000
 
 Text = Union[bytes, bytearray, str]
@@ -54,6 +72,7 @@ class Result(IntEnum):
     NOT_KEPT = 10
     WRONG_COST = 11
     BAD_HOLDER = 12
+    BAD_BAND = 13
 
 
 @dataclass(frozen=True)
@@ -98,7 +117,10 @@ class Plan:
 
 @dataclass(frozen=True)
 class Planned:
-    """The planner's answer. With OK the plan is the cheapest of all; with CUT_SHORT it is the best found, if any; no plan costs less than floor."""
+    """The planner's answer. With OK the plan is the cheapest of all; with CUT_SHORT it is the best found, if any; no plan costs less than floor.
+
+    Where prices are bands, all this is at their high ends, and cost_low is what the plan costs at the low ones.
+    """
 
     result: Result
     nodes: Optional[int]
@@ -106,6 +128,7 @@ class Planned:
     plan: Optional[Plan]
     fault: Optional[Fault]
     lines: bytes
+    cost_low: Optional[int] = None
 
 
 @dataclass(frozen=True)
@@ -118,6 +141,18 @@ class Verdict:
     due: Optional[int]
     fault: Optional[Fault]
     lines: bytes
+
+
+@dataclass(frozen=True)
+class Latest:
+    """The habit's answer: with OK the plan with all the stops given, each part changed at the last one that still serves; NO_PLAN where they can't
+    keep some part. Where prices are bands, cost_low is what the plan costs at their low ends."""
+
+    result: Result
+    plan: Optional[Plan]
+    fault: Optional[Fault]
+    lines: bytes
+    cost_low: Optional[int] = None
 
 
 @dataclass(frozen=True)
@@ -143,7 +178,9 @@ class Written:
 class Form:
     """An order form: the facts of a job as lists of numbers, in the job text's order; the prices part by part, one for each opening.
 
-    Of the last four lists, covered has a 1 for each part whose lines of removal stand, else 0; where it is left out no part has them.
+    covered has a 1 for each part whose lines of removal stand, else 0; where it is left out no part has them. ruled has a 1 for each part whose
+    prices are given by a rule, else 0; where it is left out none are. bases, drops and leasts have one for each such part, and prices none.
+    banded has a 1 for each of the prices that is the high end of a band, else 0; where it is left out none is. lows has the low ends.
     """
 
     horizon: int
@@ -157,6 +194,12 @@ class Form:
     removals: Sequence[int] = ()
     insides: Sequence[int] = ()
     holders: Sequence[int] = ()
+    ruled: Optional[Sequence[int]] = None
+    bases: Sequence[int] = ()
+    drops: Sequence[int] = ()
+    leasts: Sequence[int] = ()
+    banded: Optional[Sequence[int]] = None
+    lows: Sequence[int] = ()
 
 
 class _Answer(ctypes.Structure):
@@ -198,7 +241,8 @@ def _load() -> ctypes.CDLL:
     for name, result, words in (
         ("juzvarola_plan", _Answer, text + (ctypes.c_uint64,) + out),
         ("juzvarola_judge", _Answer, text + text + out),
-        ("juzvarola_write", _Answer, (ctypes.c_uint32,) + numbers * 10 + out),
+        ("juzvarola_latest", _Answer, text + text + out),
+        ("juzvarola_write", _Answer, (ctypes.c_uint32,) + numbers * 16 + out),
         ("juzvarola_count", _Counted, text),
     ):
         call = getattr(library, name)
@@ -212,6 +256,11 @@ _library = _load()
 def _bytes(text: Text) -> bytes:
     """A text as bytes."""
     return text.encode() if isinstance(text, str) else bytes(text)
+
+
+def _plan_text(plan: Union[Text, Plan]) -> bytes:
+    """The text of a plan."""
+    return plan.text if isinstance(plan, Plan) else _bytes(plan)
 
 
 def _pairs(data: bytes) -> Iterable[Tuple[str, int]]:
@@ -235,6 +284,12 @@ def version() -> Tuple[int, int, int]:
     return number // 1_000_000, number // 1000 % 1000, number % 1000
 
 
+def _plan_in(lines: bytes) -> Optional[Plan]:
+    """The plan that an answer's lines end with, if any."""
+    start = lines.find(b"\ncost=") + 1
+    return Plan.parse(lines[start:]) if start > 0 else None
+
+
 def plan(job: Text, walk: int = _MOST) -> Planned:
     """Plans a job, walking at most so many nodes; a number above 4000000000 counts as that."""
     data, out = _bytes(job), ctypes.create_string_buffer(_ROOM)
@@ -242,14 +297,12 @@ def plan(job: Text, walk: int = _MOST) -> Planned:
     lines = out.raw[: answer.length]
     fault = _fault(answer, data)
     values = dict(_pairs(lines)) if fault is None else {}
-    start = lines.find(b"\ncost=") + 1
-    found = Plan.parse(lines[start:]) if start > 0 else None
-    return Planned(Result(answer.result), values.get("nodes"), values.get("floor"), found, fault, lines)
+    return Planned(Result(answer.result), values.get("nodes"), values.get("floor"), _plan_in(lines), fault, lines, values.get("costlow"))
 
 
 def judge(job: Text, plan: Union[Text, Plan]) -> Verdict:
     """Judges a plan of a job, given as a text or as one that the planner handed over. An empty text is the plan of doing nothing."""
-    data, weighed, out = _bytes(job), plan.text if isinstance(plan, Plan) else _bytes(plan), ctypes.create_string_buffer(_ROOM)
+    data, weighed, out = _bytes(job), _plan_text(plan), ctypes.create_string_buffer(_ROOM)
     answer = _library.juzvarola_judge(data, len(data), weighed, len(weighed), out, _ROOM)
     lines = out.raw[: answer.length]
     fault = _fault(answer, data, weighed)
@@ -257,12 +310,25 @@ def judge(job: Text, plan: Union[Text, Plan]) -> Verdict:
     return Verdict(Result(answer.result), values.get("cost"), values.get("part"), values.get("due"), fault, lines)
 
 
+def latest(job: Text, plan: Union[Text, Plan]) -> Latest:
+    """Changes each part of a job at the last stop of a plan that still serves. Of the plan, a text or one handed over, only the stops count; an
+    empty text means no stops."""
+    data, given, out = _bytes(job), _plan_text(plan), ctypes.create_string_buffer(_ROOM)
+    answer = _library.juzvarola_latest(data, len(data), given, len(given), out, _ROOM)
+    lines = out.raw[: answer.length]
+    fault = _fault(answer, data, given)
+    low = dict(_pairs(lines)).get("costlow") if fault is None else None
+    return Latest(Result(answer.result), _plan_in(lines), fault, lines, low)
+
+
 def write(form: Form) -> Written:
     """Writes the job text of a form. A number that 32 bits can't hold raises ValueError."""
-    covered = [0] * len(form.lives) if form.covered is None else form.covered
-    lists = (form.openings, form.fees, form.lives, form.lefts, covered, form.removals, form.insides, form.holders, form.prices)
-    words: list = [_number(form.horizon), *_numbers(form.idles)]
-    for own in lists:
+    none = [0] * len(form.lives)
+    covers = (none if form.covered is None else form.covered, form.removals, form.insides, form.holders)
+    rules = (none if form.ruled is None else form.ruled, form.bases, form.drops, form.leasts)
+    bands = ([0] * len(form.prices) if form.banded is None else form.banded, form.lows)
+    words: list = [_number(form.horizon)]
+    for own in (form.idles, form.openings, form.fees, form.lives, form.lefts, *covers, *rules, *bands, form.prices):
         words.extend(_numbers(own))
     out = ctypes.create_string_buffer(_WRITE_ROOM)
     answer = _library.juzvarola_write(*words, out, _WRITE_ROOM)

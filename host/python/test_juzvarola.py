@@ -35,13 +35,28 @@ class Calls(unittest.TestCase):
         counted = juzvarola.count(EXAMPLE)
         self.assertEqual((counted.result, counted.count, counted.or_more), (Result.OK, 17, False))
 
+    def test_the_latest_time_habit(self):
+        habit = juzvarola.latest(EXAMPLE, juzvarola.plan(EXAMPLE).plan)
+        self.assertEqual((habit.result, habit.fault, habit.plan.cost), (Result.OK, None, 37))
+        self.assertEqual(habit.plan.stops, (Stop(2, (1,)), Stop(4, (1, 2))))
+        # All openings: part 1 at 2 and 5, part 2 at 4; the stop at 3 stays, with nothing changed. The stated cost is set aside.
+        stops = "cost=0\nstops=4\n" + "".join(f"stop={step}\ncount=0\n" for step in (2, 3, 4, 5))
+        habit = juzvarola.latest(EXAMPLE.decode(), stops)
+        self.assertEqual(habit.plan.stops, (Stop(2, (1,)), Stop(3, ()), Stop(4, (2,)), Stop(5, (1,))))
+        self.assertEqual((habit.plan.cost, juzvarola.judge(EXAMPLE, habit.plan).result), (57, Result.OK))
+        habit = juzvarola.latest(EXAMPLE, "")
+        self.assertEqual((habit.result, habit.plan, habit.lines), (Result.NO_PLAN, None, b"result=6\n"))
+        habit = juzvarola.latest(EXAMPLE, "cost=0\nstops=1\nstop=6\n")
+        self.assertEqual((habit.result, habit.fault.text, habit.fault.shown), (Result.BAD_STOP, 2, b"stop=6"))
+        self.assertEqual(juzvarola.latest(b"", "").fault.text, 1)
+
     def test_faults(self):
         planned = juzvarola.plan(EXAMPLE.replace(b"left=2", b"left=9", 1))
         self.assertEqual((planned.result, planned.plan), (Result.LEFT_TOO_LONG, None))
         self.assertEqual((planned.fault.text, planned.fault.line, planned.fault.shown), (1, 13, b"left=9"))
         verdict = juzvarola.judge(EXAMPLE, "cost=0\nstops=1\nstop=1\n")
         self.assertEqual((verdict.result, verdict.fault.text, verdict.fault.shown), (Result.BAD_STOP, 2, b"stop=1"))
-        self.assertEqual(juzvarola.plan(b"a" * 40000).result, Result.TOO_LONG)
+        self.assertEqual(juzvarola.plan(b"a" * 40961).result, Result.TOO_LONG)
         self.assertEqual(juzvarola.plan(EXAMPLE.replace(b"left=2", b"left=1", 1)).result, Result.NO_PLAN)
         held = (HOST.parent / "jobs/38_week8_guard_shutdown.txt").read_bytes()
         counted = juzvarola.count(held)
@@ -54,6 +69,29 @@ class Calls(unittest.TestCase):
         covered = Form(**{**FORM.__dict__, "covered": [1, 0], "removals": [9], "insides": [1], "holders": [2]})
         self.assertIn(b"left=2\nremoval=9\ninside=1\nholder=2\nprice=5\n", juzvarola.write(covered).text)
         self.assertEqual(juzvarola.write(Form(**{**FORM.__dict__, "fees": [10]})).result, Result.OUT_OF_RANGE)
+        rule = {"ruled": [0, 1], "bases": [9], "drops": [1], "leasts": [7], "prices": [5] * 4}
+        ruled = juzvarola.write(Form(**{**FORM.__dict__, **rule})).text
+        self.assertTrue(ruled.endswith(b"life=4\nleft=4\nbase=9\ndrop=1\nleast=7\n"), ruled)
+        listed = juzvarola.write(Form(**{**FORM.__dict__, "prices": [5] * 4 + [9, 8, 7, 7]})).text
+        self.assertEqual(juzvarola.plan(ruled), juzvarola.plan(listed))
+        self.assertEqual(juzvarola.write(Form(**{**FORM.__dict__, "ruled": [0, 2]})).line, 11)
+        band = {"banded": [0] * 4 + [1, 0, 1, 0], "lows": [4, 6]}
+        written = juzvarola.write(Form(**{**FORM.__dict__, **band}))
+        self.assertTrue(written.text.endswith(b"left=4\nlow=4\nhigh=7\nprice=7\nlow=6\nhigh=7\nprice=7\n"), written)
+        self.assertEqual(juzvarola.write(Form(**{**FORM.__dict__, "banded": [0]})).line, 11)
+        written = juzvarola.write(Form(**{**FORM.__dict__, **band, "lows": [4, 8]}))
+        self.assertEqual((written.result, written.line), (Result.BAD_BAND, 24))
+
+    def test_bands(self):
+        banded = EXAMPLE.replace(b"price=7", b"low=4\nhigh=7")
+        planned = juzvarola.plan(banded)
+        self.assertEqual((planned.cost_low, planned.plan.cost), (34, 37))
+        self.assertEqual(planned.plan, juzvarola.plan(EXAMPLE).plan)
+        self.assertEqual((juzvarola.plan(EXAMPLE).cost_low, juzvarola.latest(EXAMPLE, planned.plan).cost_low), (None, None))
+        self.assertEqual(juzvarola.latest(banded, planned.plan).cost_low, 34)
+        self.assertEqual(juzvarola.judge(banded, planned.plan).cost, 37)
+        planned = juzvarola.plan(EXAMPLE.replace(b"price=7", b"low=8\nhigh=7", 1))
+        self.assertEqual((planned.result, planned.fault.line, planned.fault.shown), (Result.BAD_BAND, 21, b"high=7"))
         for wrong in (-1, 1 << 32):
             with self.assertRaises(ValueError):
                 juzvarola.write(Form(**{**FORM.__dict__, "horizon": wrong}))
@@ -65,6 +103,9 @@ class Calls(unittest.TestCase):
             self.assertEqual(juzvarola.judge(path.read_bytes(), planned.plan).result, Result.OK, path)
             self.assertEqual(Plan.parse(planned.plan.text), planned.plan)
             self.assertTrue(planned.lines.endswith(planned.plan.text))
+            habit = juzvarola.latest(path.read_bytes(), planned.plan)
+            self.assertEqual([stop.step for stop in habit.plan.stops], [stop.step for stop in planned.plan.stops], path)
+            self.assertEqual(juzvarola.judge(path.read_bytes(), habit.plan).result, Result.OK, path)
 
 
 class Threads(unittest.TestCase):

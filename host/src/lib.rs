@@ -4,8 +4,8 @@
 pub mod fast;
 #[cfg(feature = "library")]
 mod library;
+pub mod lines;
 mod plans;
-pub mod ranges;
 pub mod reference;
 
 #[cfg(feature = "library")]
@@ -48,7 +48,7 @@ pub const MOST_WALK: u64 = 4_000_000_000;
 /// What a call answers. `'t` is the life of the caller's texts.
 #[derive(Debug, Clone, Copy, PartialEq, Eq)]
 pub struct Answer<'t> {
-    /// The result number, 0 to 12.
+    /// The result number, 0 to 13.
     pub result: u32,
     /// The text at fault: 1 the job, 2 the plan, 0 neither.
     pub text: u32,
@@ -63,7 +63,8 @@ pub struct Answer<'t> {
 }
 
 /// An order form: the facts of a job as lists of numbers, in the job text's order. The prices stand part by part, one for each opening.
-/// A part's lines `removal`, `inside` and `holder` may be left out.
+/// A part's lines `removal`, `inside` and `holder` may be left out, and lines `base`, `drop` and `least` may stand in place of its prices.
+/// A price may be a band, from a low end to a high one.
 #[derive(Debug, Clone, Copy, PartialEq, Eq)]
 pub struct Form<'f> {
     pub horizon: u32,
@@ -80,13 +81,26 @@ pub struct Form<'f> {
     pub insides: &'f [u32],
     /// The numbers of all holders, part after part.
     pub holders: &'f [u32],
+    /// For each part 1 where its prices are given by a rule, else 0.
+    pub ruled: &'f [u32],
+    /// The price at the first opening, one for each part with a rule.
+    pub bases: &'f [u32],
+    /// By how much it falls from opening to opening, one for each part with a rule.
+    pub drops: &'f [u32],
+    /// What it never falls below, one for each part with a rule.
+    pub leasts: &'f [u32],
+    /// For each of the prices 1 where it is the high end of a band, else 0.
+    pub banded: &'f [u32],
+    /// The low ends, one for each band.
+    pub lows: &'f [u32],
+    /// Those of the parts without a rule: single prices and high ends.
     pub prices: &'f [u32],
 }
 
 /// What `count` answers. `'t` is the life of the caller's text.
 #[derive(Debug, Clone, Copy, PartialEq, Eq)]
 pub struct Count<'t> {
-    /// The result number, 0 to 5 or 12; 12 with no text at fault says that the job has a holder, and that there is no count of it.
+    /// The result number, 0 to 5, 12 or 13; 12 with no text at fault says that the job has a holder, and that there is no count of it.
     pub result: u32,
     /// The text at fault: 1 the job, 0 none.
     pub text: u32,

@@ -58,6 +58,18 @@ extern "C" {
         insides_len: usize,
         holders: *const u32,
         holders_len: usize,
+        ruled: *const u32,
+        ruled_len: usize,
+        bases: *const u32,
+        bases_len: usize,
+        drops: *const u32,
+        drops_len: usize,
+        leasts: *const u32,
+        leasts_len: usize,
+        banded: *const u32,
+        banded_len: usize,
+        lows: *const u32,
+        lows_len: usize,
         prices: *const u32,
         prices_len: usize,
         out: *mut u8,
@@ -126,7 +138,8 @@ pub fn latest<'t>(job: &'t [u8], plan: &'t [u8], out: &mut [u8]) -> Answer<'t> {
 
 /// Writes the job text of a form into `out`: its first `length` bytes. No line at fault is handed over, since there is no text of the caller's.
 pub fn write(form: &Form, out: &mut [u8]) -> Answer<'static> {
-    let Form { horizon, idles, openings, fees, lives, lefts, covered, removals, insides, holders, prices } = *form;
+    let Form { horizon, idles, openings, fees, lives, lefts, covered, removals, insides, holders, .. } = *form;
+    let Form { ruled, bases, drops, leasts, banded, lows, prices, .. } = *form;
     start();
     // SAFETY: as for `plan`; the lists are only read.
     let numbers = unsafe {
@@ -150,6 +163,18 @@ pub fn write(form: &Form, out: &mut [u8]) -> Answer<'static> {
             insides.len(),
             holders.as_ptr(),
             holders.len(),
+            ruled.as_ptr(),
+            ruled.len(),
+            bases.as_ptr(),
+            bases.len(),
+            drops.as_ptr(),
+            drops.len(),
+            leasts.as_ptr(),
+            leasts.len(),
+            banded.as_ptr(),
+            banded.len(),
+            lows.as_ptr(),
+            lows.len(),
             prices.as_ptr(),
             prices.len(),
             out.as_mut_ptr(),

@@ -50,6 +50,8 @@ pub struct Planned<'t> {
     /// The nodes walked, and the cost that no plan is below: with results 0 and 7.
     pub nodes: Option<u32>,
     pub floor: Option<u32>,
+    /// What the plan costs at the low ends of all prices, where the job has bands; `cost` is at the high ends.
+    pub cost_low: Option<u32>,
     /// The cheapest plan with result 0, the best so far with 7, if there is one.
     pub plan: Option<Plan>,
 }
@@ -60,6 +62,6 @@ impl<'t> Planned<'t> {
         let text = std::str::from_utf8(lines).unwrap_or("");
         let value = |key: &str| text.lines().find_map(|line| line.strip_prefix(key)?.strip_prefix('=')?.parse().ok());
         let plan = text.find("cost=").filter(|_| matches!(answer.result, 0 | 7)).and_then(|at| Plan::parse(&lines[at..]));
-        Planned { answer, nodes: value("nodes"), floor: value("floor"), plan }
+        Planned { answer, nodes: value("nodes"), floor: value("floor"), cost_low: value("costlow"), plan }
     }
 }

@@ -76,6 +76,23 @@ fn the_build_is_quiet() {
     assert_eq!(ran.err, "What the prover said is in target/log/make.log\n");
 }
 
+/// The order form as a struct: the header's own function, compiled as C and as C++ with every warning an error.
+#[test]
+fn forms_from_c_and_from_cpp() {
+    let folder = Folder::new();
+    let archive = host().join("../target/staticlib/libjuzvarola.a");
+    for compiler in ["cc -x c -std=c11 -pedantic", "c++ -x c++ -std=c++17"] {
+        let words = format!(
+            "{compiler} -O2 -Wall -Wextra -Werror -I'{}' -o form '{}' -x none '{}' && ./form",
+            host().join("../include").display(),
+            host().join("tests/form.c").display(),
+            archive.display()
+        );
+        let ran = folder.shell(&words);
+        assert_eq!((ran.status, ran.out.as_str()), (0, "ok\n"), "{compiler}: {ran:?}");
+    }
+}
+
 /// A program that is built against a library of another version refuses to work.
 #[test]
 fn another_version_is_refused() {

@@ -25,7 +25,7 @@ const CALLS: [&str; 4] = ["planner", "judge", "count", "writer"];
 
 /// How often each call gave each result number.
 #[derive(Default)]
-struct Tally([[u64; 13]; 4]);
+struct Tally([[u64; 14]; 4]);
 
 impl Tally {
     fn add(&mut self, call: usize, result: u32) {
@@ -34,10 +34,14 @@ impl Tally {
 
     /// That each call gave each of its numbers often enough.
     fn is_full(&self) -> bool {
-        let numbers: [&[usize]; 4] =
-            [&[0, 1, 2, 3, 4, 5, 6, 7, 8, 12], &[0, 1, 2, 3, 4, 5, 8, 9, 10, 11, 12], &[0, 1, 2, 3, 4, 5, 12], &[0, 3, 4, 5, 8, 12]];
-        let held = inputs::holders_on();
-        self.0.iter().zip(numbers).all(|(row, own)| own.iter().filter(|number| held || **number != 12).all(|number| row[*number] >= LEAST))
+        let numbers: [&[usize]; 4] = [
+            &[0, 1, 2, 3, 4, 5, 6, 7, 8, 12, 13],
+            &[0, 1, 2, 3, 4, 5, 8, 9, 10, 11, 12, 13],
+            &[0, 1, 2, 3, 4, 5, 12, 13],
+            &[0, 3, 4, 5, 8, 12, 13],
+        ];
+        let asked = |number: &&usize| (inputs::holders_on() || **number != 12) && (inputs::bands_on() || **number != 13);
+        self.0.iter().zip(numbers).all(|(row, own)| own.iter().filter(asked).all(|number| row[*number] >= LEAST))
     }
 }
 
@@ -77,7 +81,7 @@ fn check_job(rng: &mut Rng, tally: &mut Tally, job: &[u8], plan: &[u8], walk: u6
 
 /// A damaged form, to the writer.
 fn check_form(rng: &mut Rng, tally: &mut Tally, facts: &Facts) -> Result<(), String> {
-    let room = damage::room(rng, 32_768);
+    let room = damage::room(rng, 40_960);
     let form = forms::damaged(rng, facts, room);
     let form = if inputs::holders_on() { form } else { form.without_covers() };
     let reply = form.expected();

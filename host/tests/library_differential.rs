@@ -15,7 +15,7 @@ fn library_is_the_reference() {
     common::with_stack(|| {
         let mut rng = Rng::new(setting("JUZVAROLA_SEED", 5));
         let cases = setting("JUZVAROLA_CASES", CASES);
-        let mut results = [[0u64; 13]; 2];
+        let mut results = [[0u64; 14]; 2];
         for number in 0..cases {
             let call = inputs::call(&mut rng);
             let reply = call.expected();
@@ -38,7 +38,7 @@ fn library_is_the_reference() {
 fn library_is_the_reference_on_an_empty_plan_text() {
     common::with_stack(|| {
         let mut rng = Rng::new(setting("JUZVAROLA_SEED", 9));
-        let mut results = [0u64; 13];
+        let mut results = [0u64; 14];
         for number in 0..CASES / 5 {
             let call = inputs::call_on_nothing(&mut rng);
             let reply = call.expected();

@@ -33,7 +33,7 @@ fn library_writes_what_the_reference_writes() {
     common::with_stack(|| {
         let mut rng = Rng::new(setting("JUZVAROLA_SEED", 8));
         let cases = setting("JUZVAROLA_CASES", CASES);
-        let mut results = [0u64; 13];
+        let mut results = [0u64; 14];
         for number in 0..cases {
             let call = forms::random(&mut rng);
             let reply = call.expected();
@@ -51,6 +51,7 @@ fn library_writes_what_the_reference_writes() {
         if cases >= CASES {
             assert!([0, 3, 4, 5, 8].iter().all(|result| results[*result] >= LEAST));
             assert!(!common::inputs::holders_on() || results[12] >= LEAST);
+            assert!(!common::inputs::bands_on() || results[13] >= LEAST);
         }
     });
 }

@@ -60,7 +60,7 @@ fn library_is_the_reference() {
     common::with_stack(|| {
         let mut rng = Rng::new(setting("JUZVAROLA_SEED", 15));
         let cases = setting("JUZVAROLA_CASES", CASES);
-        let mut results = [0u64; 13];
+        let mut results = [0u64; 14];
         for number in 0..cases {
             let call = random_call(&mut rng);
             let reply = reference::latest(&call.job, call.plan.as_deref().unwrap_or_default(), call.output);
@@ -87,7 +87,7 @@ fn library_prints_the_least_plan_with_these_stops() {
         let (mut served, mut unserved) = (0, 0);
         for _ in 0..setting("JUZVAROLA_CASES", 400) {
             let mut facts = inputs::facts(&mut rng, inputs::Size { horizon: 8, openings: 4, parts: 2 });
-            facts.parts.iter_mut().for_each(|part| part.prices.sort_by(|a, b| b.cmp(a)));
+            facts.parts.iter_mut().for_each(inputs::PartFacts::fall);
             facts.parts.iter_mut().for_each(|part| part.cover = part.cover.take().map(|(removal, _)| (removal, Vec::new())));
             let text = facts.text();
             let job = texts::read_job(&text).expect("a job without faults");

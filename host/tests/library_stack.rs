@@ -61,7 +61,7 @@ fn the_longest_text_fits() {
         let steps: Vec<u32> = (1..=365).collect();
         let alike = |count: usize, value: u32| vec![value; count];
         let holders: Vec<u32> = (1..=16).flat_map(all).collect();
-        let mut out = vec![0; 32_768];
+        let mut out = vec![0; 40_960];
         let form = Form {
             horizon: 365,
             idles: &steps,
@@ -73,9 +73,15 @@ fn the_longest_text_fits() {
             removals: &alike(16, 1_000_000),
             insides: &alike(16, 15),
             holders: &holders,
+            ruled: &alike(16, 0),
+            bases: &[],
+            drops: &[],
+            leasts: &[],
+            banded: &alike(1024, 1),
+            lows: &alike(1024, 1_000_000),
             prices: &alike(1024, 1_000_000),
         };
         let answer = write(&form, &mut out);
-        assert_eq!((answer.result, answer.length), (0, 22_093));
+        assert_eq!((answer.result, answer.length), (0, 33_357));
     });
 }

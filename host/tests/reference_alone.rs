@@ -36,8 +36,8 @@ fn check(call: &common::Call, reply: &Reply) {
         _ => &Vec::new(),
     };
     let fault = &text[reply.fault_start..][..reply.fault_length];
-    assert_eq!(reply.text != 0, matches!(reply.result, 1..=5 | 9 | 12), "{call:?}");
-    assert_eq!(reply.line != 0, matches!(reply.result, 2..=5 | 9 | 12), "{call:?}");
+    assert_eq!(reply.text != 0, matches!(reply.result, 1..=5 | 9 | 12 | 13), "{call:?}");
+    assert_eq!(reply.line != 0, matches!(reply.result, 2..=5 | 9 | 12 | 13), "{call:?}");
     if reply.line != 0 {
         assert_eq!(fault, line_of(text, reply.line), "{call:?}");
     } else {
@@ -55,7 +55,7 @@ fn check(call: &common::Call, reply: &Reply) {
 fn replies_are_consistent_and_every_result_occurs() {
     common::with_stack(|| {
         let mut rng = Rng::new(setting("JUZVAROLA_SEED", 1));
-        let mut results = [[0u64; 13]; 2];
+        let mut results = [[0u64; 14]; 2];
         let mut costly = 0;
         let cases = setting("JUZVAROLA_CASES", CASES);
         for _ in 0..cases {
@@ -70,7 +70,8 @@ fn replies_are_consistent_and_every_result_occurs() {
         if cases >= CASES {
             assert!(results[0][..9].iter().all(|times| *times >= 5));
             assert!([0, 1, 2, 3, 4, 5, 8, 9, 10, 11].iter().all(|result| results[1][*result] >= 5));
-            assert!(!inputs::holders_on() || (results[0][12] >= 5 && results[1][12] >= 5 && costly >= 1));
+            assert!(!inputs::holders_on() || (results[0][12] >= 5 && results[1][12] >= 5 && costly >= 5));
+            assert!(!inputs::bands_on() || (results[0][13] >= 5 && results[1][13] >= 5));
         }
     });
 }
@@ -80,7 +81,7 @@ fn replies_are_consistent_and_every_result_occurs() {
 fn an_empty_plan_text_is_doing_nothing() {
     common::with_stack(|| {
         let mut rng = Rng::new(setting("JUZVAROLA_SEED", 8));
-        let mut results = [0u64; 13];
+        let mut results = [0u64; 14];
         for _ in 0..CASES {
             let call = inputs::call_on_nothing(&mut rng);
             let reply = call.expected();

@@ -35,7 +35,9 @@ fn facts_of(text: &[u8]) -> Facts {
                 life: part.life as u64,
                 left: part.left as u64,
                 cover: part.covered.then(|| (part.removal, part.holders.iter().map(|holder| *holder as u64 + 1).collect())),
+                rule: part.rule,
                 prices: part.prices.clone(),
+                lows: part.lows.iter().zip(&part.pairs).map(|(low, pair)| pair.then_some(*low)).collect(),
             })
             .collect(),
     }
@@ -47,7 +49,7 @@ fn reference_returns_every_text() {
     for _ in 0..5_000 {
         // "A byte-for-byte return is owed to texts without the line."
         let text = Facts { line: None, ..inputs::job(&mut rng) }.text();
-        let call = FormCall::of(&facts_of(&text), 32_768);
+        let call = FormCall::of(&facts_of(&text), 40_960);
         assert_eq!(call.expected(), Reply { bytes: text, ..Reply::default() });
     }
 }

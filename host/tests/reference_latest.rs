@@ -59,7 +59,7 @@ fn habit_is_the_least_where_no_price_rises() {
     for number in 0..setting("JUZVAROLA_CASES", 2000) {
         let mut facts = inputs::facts(&mut rng, inputs::TINY);
         if number % 2 == 0 {
-            facts.parts.iter_mut().for_each(|part| part.prices.sort_by(|a, b| b.cmp(a)));
+            facts.parts.iter_mut().for_each(inputs::PartFacts::fall);
         }
         let job = texts::read_job(&facts.text()).expect("a job without faults");
         for stops in brute::all_sets(job.openings.len()) {

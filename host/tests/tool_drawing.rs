@@ -181,7 +181,9 @@ fn check_words(drawn: &Drawn) {
         0 => String::new(),
         removals => format!(" \u{b7} Removals {removals}"),
     };
-    let line = format!("Fees {fees} \u{b7} Parts {prices}{removals} \u{b7} Total {cost}").replace(" \u{b7} ", "  \u{b7}  ");
+    let low =
+        if drawn.job.is_banded() { format!(" \u{b7} At low prices {}", drawn.job.at_low_ends().cost(&drawn.plan)) } else { String::new() };
+    let line = format!("Fees {fees} \u{b7} Parts {prices}{removals} \u{b7} Total {cost}{low}").replace(" \u{b7} ", "  \u{b7}  ");
     assert!(words.contains(&line), "{words}");
     assert_eq!(words.contains("Stated "), cost != drawn.stated);
     check_standing(drawn, &words, cost);

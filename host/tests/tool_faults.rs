@@ -39,10 +39,15 @@ fn values_outside_their_range() {
         ("fee=10", "fee=1000001", "job.txt:5: fee is not a number from 0 to 1,000,000 (3)\n    fee=1000001\n"),
         ("parts=2", "parts=17", "job.txt:12: parts is not a number from 1 to 16 (3)\n    parts=17\n"),
         ("life=3", "life=1001", "job.txt:13: life is not a number from 1 to 1,000 (3)\n    life=1001\n"),
-        ("left=2", "left=0", "job.txt:14: left is not a number from 1 to 1,000 (3)\n    left=0\n"),
+        ("left=2", "left=1001", "job.txt:14: left is not a number from 0 to 1,000 (3)\n    left=1001\n"),
         ("left=2", "left=2 removal=1000001 inside=0", "job.txt:15: removal is not a number from 0 to 1,000,000 (3)\n    removal=1000001\n"),
         ("left=2", "left=2 removal=0 inside=16", "job.txt:16: inside is not a number from 0 to 15 (3)\n    inside=16\n"),
         ("left=2", "left=2 removal=0 inside=1 holder=17", "job.txt:17: holder is not a number from 1 to 16 (3)\n    holder=17\n"),
+        ("left=2", "left=2 base=0", "job.txt:15: base is not a number from 1 to 1,000,000 (3)\n    base=0\n"),
+        ("left=2", "left=2 base=1 drop=1000001", "job.txt:16: drop is not a number from 0 to 1,000,000 (3)\n    drop=1000001\n"),
+        ("left=2", "left=2 base=1 drop=0 least=0", "job.txt:17: least is not a number from 1 to 1,000,000 (3)\n    least=0\n"),
+        ("price=5", "low=0 high=5", "job.txt:15: low is not a number from 1 to 1,000,000 (3)\n    low=0\n"),
+        ("price=5", "low=9 high=1000001", "job.txt:16: high is not a number from 1 to 1,000,000 (3)\n    high=1000001\n"),
         ("price=5", "price=0", "job.txt:15: price is not a number from 1 to 1,000,000 (3)\n    price=0\n"),
         ("horizon=6", "horizon=6 idles=0", "job.txt:2: idles is not a number from 1 to 365 (3)\n    idles=0\n"),
         ("horizon=6", "horizon=6 idles=1 idle=366", "job.txt:3: idle is not a number from 1 to 365 (3)\n    idle=366\n"),
@@ -76,6 +81,8 @@ fn steps_lives_stops_and_parts() {
         let words = of_job("left=2", &format!("left=2 removal=4 {inside}"));
         assert_eq!(words, format!("job.txt:{line}: {holder}\n    holder={number}\n"));
     }
+    let band = "the price's low end is above its high end (13)";
+    assert_eq!(of_job("price=5", "low=6 high=5"), format!("job.txt:16: {band}\n    high=5\n"));
     let stop = "stop is no opening of the job, or does not come after the stop before (9)";
     assert_eq!(of_plan("stop=2", "stop=1"), format!("plan.txt:3: {stop}\n    stop=1\n"));
     let part = "part is above the job's number of parts, or does not come after the part before (9)";
@@ -93,8 +100,20 @@ fn lines_that_are_not_well_formed() {
     assert_eq!(of_job("walk=11", "work=11"), "job.txt:2: `openings=` (or `idles=`) is due here (2)\n    work=11\n");
     assert_eq!(of_job("fee=10 opening=3", "opening=3"), "job.txt:5: `fee=` is due here (2)\n    opening=3\n");
     assert_eq!(of_job("openings=4", "openings=5"), "job.txt:12: `opening=` is due here (2)\n    parts=2\n");
-    assert_eq!(of_job("price=5 life=4", "life=4"), "job.txt:18: `price=` is due here (2)\n    life=4\n");
-    assert_eq!(of_job("left=2", "left=2 inside=0"), "job.txt:15: `price=` (or `removal=`) is due here (2)\n    inside=0\n");
+    assert_eq!(of_job("price=5 life=4", "life=4"), "job.txt:18: `price=` (or `low=`) is due here (2)\n    life=4\n");
+    assert_eq!(
+        of_job("left=2", "left=2 inside=0"),
+        "job.txt:15: `price=` (or `removal=` or `base=` or `low=`) is due here (2)\n    inside=0\n"
+    );
+    assert_eq!(
+        of_job("left=2", "left=2 removal=1 inside=0 least=1"),
+        "job.txt:17: `price=` (or `base=` or `low=`) is due here (2)\n    least=1\n"
+    );
+    assert_eq!(of_job("price=5", "low=5"), "job.txt:16: `high=` is due here (2)\n    price=5\n");
+    assert_eq!(of_job("price=5", "high=5"), "job.txt:15: `price=` (or `removal=` or `base=` or `low=`) is due here (2)\n    high=5\n");
+    assert_eq!(of_job("left=2", "left=2 base=x"), format!("job.txt:15: base {digits}\n    base=x\n"));
+    assert_eq!(of_job("left=2", "left=2 base=1"), "job.txt:16: `drop=` is due here (2)\n    price=5\n");
+    assert_eq!(of_job("left=2", "left=2 base=1 drop=1 least=1"), "job.txt:18: `life=` is due here (2)\n    price=5\n");
     assert_eq!(of_job("left=2", "left=2 removal=x"), format!("job.txt:15: removal {digits}\n    removal=x\n"));
     assert_eq!(of_job("left=2", "left=2 removal=1"), "job.txt:16: `inside=` is due here (2)\n    price=5\n");
     assert_eq!(of_job("left=2", "left=2 removal=1 inside=1"), "job.txt:17: `holder=` is due here (2)\n    price=5\n");
@@ -109,7 +128,7 @@ fn ends_of_texts_and_of_lines() {
     let job = text(JOB);
     let short = &job[..job.len() - 1];
     assert_eq!(said(short, b""), "job.txt:24: the last line is not ended by a line feed (2)\n    price=7\n");
-    assert_eq!(said(&job[..job.len() - 8], b""), "job.txt:24: the text ends, and `price=` is due (2)\n");
+    assert_eq!(said(&job[..job.len() - 8], b""), "job.txt:24: the text ends, and `price=` (or `low=`) is due (2)\n");
     assert_eq!(said(b"", b""), "job.txt:1: the text ends, and `horizon=` is due (2)\n");
     let nothing = "the plan is one empty line; doing nothing is a file of no bytes, or the lines cost=0 and stops=0 (2)";
     assert_eq!(said(&job, b"\n"), format!("plan.txt:1: {nothing}\n"));
@@ -124,7 +143,8 @@ fn ends_of_texts_and_of_lines() {
 
 #[test]
 fn long_texts_and_odd_bytes() {
-    assert_eq!(said(&[b'a'; 32_769], b""), "job.txt: the text has over 32,768 bytes (1)\n");
+    assert_eq!(said(&[b'a'; 40_961], b""), "job.txt: the text has over 40,960 bytes (1)\n");
+    assert_eq!(said(&[b'a'; 40_960], b""), format!("job.txt:1: `horizon=` is due here (2)\n    {} .. (40960 bytes)\n", "a".repeat(160)));
     assert_eq!(said(&text(JOB), &[b'a'; 32_769]), "plan.txt: the text has over 32,768 bytes (1)\n");
     let line = [&[b'z'; 400][..], b"\n"].concat();
     assert_eq!(said(&line, b""), format!("job.txt:1: `horizon=` is due here (2)\n    {} .. (400 bytes)\n", "z".repeat(160)));
@@ -169,6 +189,7 @@ fn slips_are_named_for_what_they_are() {
         ("walk=11", "Walk=11", "`walk` is written in small letters".to_string()),
         ("walk=11", "Openings=4", "`openings` is written in small letters".to_string()),
         ("left=2", "left=2\nRemoval=1", "`removal` is written in small letters".to_string()),
+        ("left=2", "left=2\nbase: 9", "`=` stands between `base` and its value: base=value".to_string()),
         ("fee=10", "fees=10", "`fee=` is due here".to_string()),
     ];
     for (old, new, words) in cases {

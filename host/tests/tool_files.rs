@@ -188,9 +188,9 @@ fn huge_inputs() {
     let folder = folder();
     fs::File::create(folder.0.join("huge")).and_then(|file| file.set_len(8 << 30)).expect("a huge file");
     let before = folder.names();
-    let words = "the text has over 32,768 bytes (1)";
+    let (words, of_plan) = ("the text has over 40,960 bytes (1)", "the text has over 32,768 bytes (1)");
     failed(&folder, &before, &folder.run(&["plan", "huge"]), 2, &format!("huge: {words}"));
-    failed(&folder, &before, &folder.run(&["judge", "a job.txt", "huge"]), 2, &format!("huge: {words}"));
+    failed(&folder, &before, &folder.run(&["judge", "a job.txt", "huge"]), 2, &format!("huge: {of_plan}"));
     failed(&folder, &before, &folder.run(&["count", "/dev/zero"]), 2, &format!("/dev/zero: {words}"));
     failed(&folder, &before, &folder.run_on(&["plan", "-"], &vec![b'x'; 3 << 20]), 2, &format!("<stdin>: {words}"));
 }

@@ -63,6 +63,7 @@ fn check_rows(rows: &[Row], job: &Job, plan: &Plan, every: u64) {
     assert_eq!((amount(rows, "fees"), amount(rows, "parts"), amount(rows, "total")), (fees, prices, cost));
     assert_eq!((sum(rows, "removal", "amount"), sum(rows, "removals", "amount")), (cost - fees - prices, cost - fees - prices));
     assert!(!rows.iter().any(|row| row.get("record") == "other"));
+    assert_eq!(sum(rows, "low", "amount"), if job.is_banded() { job.at_low_ends().cost(plan) } else { 0 });
     let changes: usize = plan.changes.iter().map(|own| own.iter().filter(|changed| **changed).count()).sum();
     for record in ["change", "period", "part"] {
         assert_eq!((sum(rows, record, "count"), sum(rows, record, "amount")), (changes as u64, prices), "{record}");

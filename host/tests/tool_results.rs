@@ -101,7 +101,7 @@ fn program_says_what_the_reference_says() {
         let folder = Folder::new();
         let mut rng = Rng::new(setting("JUZVAROLA_SEED", 21));
         let cases = setting("JUZVAROLA_CASES", 1500);
-        let mut results = [0u64; 13];
+        let mut results = [0u64; 14];
         for _ in 0..cases {
             results[check(&folder, &inputs::call(&mut rng)) as usize] += 1;
         }

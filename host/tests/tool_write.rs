@@ -6,7 +6,7 @@ use common::inputs::{self, Facts};
 use common::paper::{text, JOB};
 use common::rng::Rng;
 use common::tool::{job, Folder};
-use juzvarola_host::reference::model::Job;
+use juzvarola_host::reference::model::{Job, Part};
 use juzvarola_host::reference::texts::read_job;
 
 /// The specification's job as a table.
@@ -18,6 +18,16 @@ part,life,left,removal,holders,prices
 1,3,2,,,5,5,5,5
 2,4,4,,,7,7,7,7
 ";
+
+/// The cell of a part's price.
+fn price(part: &Part, k: usize) -> String {
+    let high = part.prices[k];
+    if part.pairs[k] {
+        format!("{} to {high}", part.lows[k])
+    } else {
+        high.to_string()
+    }
+}
 
 /// The table of a job, with this between cells.
 fn table(job: &Job, between: &str) -> String {
@@ -34,7 +44,11 @@ fn table(job: &Job, between: &str) -> String {
         let holders: Vec<String> = part.holders.iter().map(|holder| (holder + 1).to_string()).collect();
         let removal = if part.covered { part.removal.to_string() } else { String::new() };
         let cells = [(at + 1).to_string(), part.life.to_string(), part.left.to_string(), removal, holders.join(" ")];
-        text += &row([cells.to_vec(), part.prices.iter().map(u64::to_string).collect()].concat());
+        let prices = match part.rule {
+            Some(rule) => format!("base {} drop {} least {}", rule.base, rule.drop, rule.least).split(' ').map(str::to_string).collect(),
+            None => (0..part.prices.len()).map(|k| price(part, k)).collect::<Vec<String>>(),
+        };
+        text += &row([cells.to_vec(), prices].concat());
     }
     text
 }
@@ -63,6 +77,43 @@ fn tables_become_job_texts() {
     assert_eq!(write(&windows).out, expected);
     let quoted = TABLE.replace("horizon,6", "\"horizon\",\" 6 \"") + "\n,,,\n";
     assert_eq!(write(&quoted).out, expected);
+}
+
+#[test]
+fn tables_may_have_rules() {
+    let ruled = TABLE.replace("7,7,7,7", "base,9,Drop,1,least,7");
+    let expected = without_walk(&text(JOB)).replace("price=7\nprice=7\nprice=7\nprice=7\n", "base=9\ndrop=1\nleast=7\n");
+    let ran = write(&ruled);
+    assert_eq!((ran.status, ran.out.as_str(), ran.err.as_str()), (0, expected.as_str(), ""));
+    for (row, words) in [
+        ("base,9,drop,1", "cell F6: a rule is the cells base, drop and least, each with its number behind it"),
+        ("base,9,least,1,drop,7", "cell H6: the word `drop` is due here"),
+        ("base,9,drop,1,least,7,8", "cell L6: nothing stands behind a rule"),
+        ("base,9,drop,x,least,7", "cell I6: drop: 'x' is not a whole number"),
+        ("base,0,drop,1,least,7", "cell G6: base is not a number from 1 to 1,000,000; line 20 of the text (3)"),
+    ] {
+        let ran = write(&TABLE.replace("7,7,7,7", row));
+        assert_eq!((ran.status, ran.err.as_str()), (2, format!("form.csv: {words}\n").as_str()));
+    }
+}
+
+#[test]
+fn tables_may_have_bands() {
+    let banded = TABLE.replace("7,7,7,7", "6 to 7,7,7 TO 7,7");
+    let band = "low=6\nhigh=7\nprice=7\nlow=7\nhigh=7\nprice=7\n";
+    let expected = without_walk(&text(JOB)).replace("price=7\nprice=7\nprice=7\nprice=7\n", band);
+    let ran = write(&banded);
+    assert_eq!((ran.status, ran.out.as_str(), ran.err.as_str()), (0, expected.as_str(), ""));
+    let single = write(&TABLE.replace("7,7,7,7", "6 to 7"));
+    assert_eq!(single.out, without_walk(&text(JOB)).replace("price=7\n", "low=6\nhigh=7\n"), "a single one stands for every opening");
+    for (row, words) in [
+        ("8 to 7,7,7,7", "cell F6: the price's low end is above its high end; line 21 of the text (13)"),
+        ("7,7,0 to 7,7", "cell H6: low is not a number from 1 to 1,000,000; line 22 of the text (3)"),
+        ("6 - 7,7,7,7", "cell F6: price: '6 - 7' is not a whole number"),
+    ] {
+        let ran = write(&TABLE.replace("7,7,7,7", row));
+        assert_eq!((ran.status, ran.err.as_str()), (2, format!("form.csv: {words}\n").as_str()));
+    }
 }
 
 #[test]

@@ -15,9 +15,14 @@ pub struct Pair {
     pub plan: OsString,
 }
 
-/// `plan`: the job, where its plan goes, the walk number if one is given, and how the walk is made.
+/// `plan`: the job, where its plan goes, the walk number if one is given, and how the walk is made. Many jobs with a folder for their plans, how many
+/// are planned at a time, and where their summary goes.
 pub struct PlanOrder {
     pub job: OsString,
+    pub jobs: Vec<OsString>,
+    pub into: Option<OsString>,
+    pub at_once: u64,
+    pub summary: Option<OsString>,
     pub output: Option<OsString>,
     pub walk: Option<u64>,
     pub limit: Option<Duration>,
@@ -30,6 +35,16 @@ pub struct PlanOrder {
 pub struct JudgeOrder {
     pub pair: Pair,
     pub verbose: bool,
+    pub json: bool,
+    pub naming: NamingOrder,
+}
+
+/// `latest`: a job, the stops by a plan or by their steps, and where the plan goes, if anywhere.
+pub struct LatestOrder {
+    pub job: OsString,
+    pub plan: Option<OsString>,
+    pub stops: Option<Vec<u64>>,
+    pub output: Option<OsString>,
     pub json: bool,
     pub naming: NamingOrder,
 }
@@ -71,6 +86,38 @@ pub struct CountOrder {
     pub json: bool,
 }
 
+/// `worth`: a job.
+pub struct WorthOrder {
+    pub job: OsString,
+    pub json: bool,
+    pub naming: NamingOrder,
+}
+
+/// Another amount in place of one: just this, so much more, so many percent more.
+#[derive(Debug, Clone, Copy, PartialEq, Eq)]
+pub enum Amount {
+    Just(u64),
+    More(i64),
+    Percent(i64),
+}
+
+/// `whatif`: a job, the changes to it, a plan of before if one is given, and where the new plan and the changed job go, if anywhere.
+pub struct WhatifOrder {
+    pub job: OsString,
+    pub plan: Option<OsString>,
+    pub fee: Option<Amount>,
+    /// Parts with what would be left of the one that is in.
+    pub lefts: Vec<(u64, u64)>,
+    /// Parts with their prices.
+    pub prices: Vec<(u64, Amount)>,
+    /// Steps from the first to the last.
+    pub closed: Vec<(u64, u64)>,
+    pub output: Option<OsString>,
+    pub save: Option<OsString>,
+    pub json: bool,
+    pub naming: NamingOrder,
+}
+
 /// `write`: a table, and where the job text goes.
 pub struct WriteOrder {
     pub table: OsString,
@@ -83,10 +130,13 @@ pub enum Command {
     Print(String),
     Plan(PlanOrder),
     Judge(JudgeOrder),
+    Latest(LatestOrder),
     List(ListOrder),
     Draw(DrawOrder),
     Compare(CompareOrder),
     Count(CountOrder),
+    Worth(WorthOrder),
+    Whatif(WhatifOrder),
     Write(WriteOrder),
     Check(OsString),
 }
@@ -97,9 +147,12 @@ impl Command {
         match self {
             Command::Plan(order) if order.json => Some("plan"),
             Command::Judge(order) if order.json => Some("judge"),
+            Command::Latest(order) if order.json => Some("latest"),
             Command::List(order) if order.form == Form::Json => Some("list"),
             Command::Compare(order) if order.json => Some("compare"),
             Command::Count(order) if order.json => Some("count"),
+            Command::Worth(order) if order.json => Some("worth"),
+            Command::Whatif(order) if order.json => Some("whatif"),
             _ => None,
         }
     }
@@ -116,6 +169,15 @@ struct Given {
     from: Option<Date>,
     step: Option<Step>,
     names: Option<OsString>,
+    stops: Option<Vec<u64>>,
+    save: Option<OsString>,
+    into: Option<OsString>,
+    at_once: Option<u64>,
+    summary: Option<OsString>,
+    fee: Option<Amount>,
+    lefts: Vec<(u64, u64)>,
+    prices: Vec<(u64, Amount)>,
+    closed: Vec<(u64, u64)>,
     csv: bool,
     json: bool,
     once: bool,
@@ -143,8 +205,16 @@ pub fn read(words: &[OsString]) -> Result<Command, Failure> {
     if given.help {
         return Ok(Command::Print(page.text()));
     }
-    let wanted = page.files.len();
-    if given.files.len() != wanted {
+    // The stops stand in the place of the last file.
+    let wanted = page.files.len() - usize::from(given.stops.is_some());
+    // The plan of before may be left out.
+    let fewer = page.name == "whatif" && given.files.len() == 1;
+    // With a folder for their plans there may be many jobs.
+    let many = given.into.is_some() && !given.files.is_empty();
+    if given.into.is_none() && (given.at_once.is_some() || given.summary.is_some()) {
+        return Err(failure(USAGE, "-j and --summary are for many jobs, and need --into FOLDER"));
+    }
+    if given.files.len() != wanted && !fewer && !many {
         let files = match wanted {
             0 => "no file".to_string(),
             1 => "one file".to_string(),
@@ -173,13 +243,24 @@ fn asked_help(rest: &[OsString]) -> Result<Command, Failure> {
 fn command(page: &help::Page, given: Given) -> Result<Command, Failure> {
     let naming = given.naming()?;
     let form = given.form()?;
-    let Given { files, output, every, walk, limit, json, once, quiet, verbose, .. } = given;
+    if page.name == "whatif" {
+        return Ok(Command::Whatif(given.whatif(naming)));
+    }
+    let Given { files, output, every, walk, limit, stops, into, at_once, summary, json, once, quiet, verbose, .. } = given;
+    let jobs = files.clone();
     let mut files = files.into_iter();
     let mut next = || files.next().unwrap_or_default();
     let first = next();
+    if page.name == "latest" {
+        let plan = stops.is_none().then(next);
+        return Ok(Command::Latest(LatestOrder { job: first, plan, stops, output, json, naming }));
+    }
     let mut pair = |job| Pair { job, plan: next() };
     Ok(match page.name {
-        "plan" => Command::Plan(PlanOrder { job: first, output, walk, limit, once, quiet, json }),
+        "plan" => {
+            let at_once = at_once.unwrap_or(1);
+            Command::Plan(PlanOrder { job: first, jobs, into, at_once, summary, output, walk, limit, once, quiet, json })
+        }
         "judge" => Command::Judge(JudgeOrder { pair: pair(first), verbose, json, naming }),
         "list" => Command::List(ListOrder { pair: pair(first), form, every, naming }),
         "draw" => {
@@ -188,6 +269,7 @@ fn command(page: &help::Page, given: Given) -> Result<Command, Failure> {
             Command::Draw(DrawOrder { pair: pair(first), output, naming })
         }
         "compare" => Command::Compare(CompareOrder { job: first, plans: [next(), next()], json, naming }),
+        "worth" => Command::Worth(WorthOrder { job: first, json, naming }),
         "write" => Command::Write(WriteOrder { table: first, output: output.unwrap_or_else(|| "-".into()) }),
         "check" => Command::Check(first),
         "completion" => Command::Print(completion::bash()),
@@ -207,6 +289,14 @@ impl Given {
         Ok(NamingOrder { from: self.from, step: self.step.unwrap_or_default(), names: self.names.clone() })
     }
 
+    /// The changed job that is asked for.
+    fn whatif(self, naming: NamingOrder) -> WhatifOrder {
+        let Given { files, output, save, fee, lefts, prices, closed, json, .. } = self;
+        let mut files = files.into_iter();
+        let job = files.next().unwrap_or_default();
+        WhatifOrder { job, plan: files.next(), fee, lefts, prices, closed, output, save, json, naming }
+    }
+
     /// The form of a list.
     fn form(&self) -> Result<Form, Failure> {
         match (self.csv, self.json) {
@@ -222,6 +312,28 @@ impl Given {
         match name {
             "-o" | "--output" => self.output = Some(value()?),
             "--names" => self.names = Some(value()?),
+            "--save" => self.save = Some(value()?),
+            "--into" => self.into = Some(value()?),
+            "--summary" => self.summary = Some(value()?),
+            "-j" | "--jobs" => {
+                self.at_once = Some(read_as(name, "how many at a time, from 1 to 256", &value()?, |word| within(word, 1, 256))?)
+            }
+            "--fee" => self.fee = Some(read_as(name, "an amount such as 120, +10, -5 or +10%", &value()?, amount)?),
+            "--left" => self.lefts.push(read_as(name, "a part and what is left, such as 3=2", &value()?, |word| {
+                let (part, left) = word.split_once('=')?;
+                Some((within(part, 1, 16)?, within(left, 0, 1000)?))
+            })?),
+            "--price" => self.prices.push(read_as(name, "a part and an amount, such as 5=+10%, 5=40 or 5=-3", &value()?, |word| {
+                let (part, price) = word.split_once('=')?;
+                Some((within(part, 1, 16)?, amount(price)?))
+            })?),
+            "--close" => self.closed.push(read_as(name, "a step or steps, such as 20 or 20-22", &value()?, |word| {
+                let (first, last) = word.split_once('-').unwrap_or((word, word));
+                Some((within(first, 1, 365)?, within(last, 1, 365)?)).filter(|(first, last)| first <= last)
+            })?),
+            "--stops" => {
+                self.stops = Some(read_as(name, "steps from 1 to 365 with commas between them, such as 2,10,18", &value()?, steps)?)
+            }
             "--every" => self.every = Some(read_as(name, "a number of steps from 1 to 365", &value()?, |word| within(word, 1, 365))?),
             "--walk" => {
                 self.walk = Some(read_as(name, "a number of nodes from 0 to 4000000000", &value()?, |word| within(word, 0, MOST_WALK))?)
@@ -283,9 +395,10 @@ fn gather(page: &help::Page, words: &[OsString]) -> Result<Given, Failure> {
 
 /// An option's name and the value attached to it: `--every=7`, `-oFILE`.
 fn name_and_value(word: &str) -> (&str, Option<&str>) {
-    match word.strip_prefix("-o") {
-        Some(value) if !value.is_empty() => ("-o", Some(value)),
-        _ => word.split_once('=').map_or((word, None), |(name, value)| (name, Some(value))),
+    let attached = |letter: &'static str| word.strip_prefix(letter).filter(|value| !value.is_empty()).map(|value| (letter, Some(value)));
+    match attached("-o").or_else(|| attached("-j")) {
+        Some(own) => own,
+        None => word.split_once('=').map_or((word, None), |(name, value)| (name, Some(value))),
     }
 }
 
@@ -299,6 +412,27 @@ fn read_as<T>(name: &str, wanted: &str, word: &OsStr, read: impl Fn(&str) -> Opt
 fn within(word: &str, low: u64, high: u64) -> Option<u64> {
     let digits = !word.is_empty() && word.bytes().all(|byte| byte.is_ascii_digit());
     word.parse().ok().filter(|number| digits && (low..=high).contains(number))
+}
+
+/// An amount: a number, a number with its sign, or so many percent with their sign.
+fn amount(word: &str) -> Option<Amount> {
+    let (number, percent) = word.strip_suffix('%').map_or((word, false), |number| (number, true));
+    let sign = match number.as_bytes().first()? {
+        b'+' => 1,
+        b'-' => -1,
+        _ if percent => return None,
+        _ => return within(number, 0, 1_000_000).map(Amount::Just),
+    };
+    let more = sign * within(&number[1..], 0, 1_000_000)? as i64;
+    Some(if percent { Amount::Percent(more) } else { Amount::More(more) })
+}
+
+/// Steps with commas between them; none for nothing.
+fn steps(word: &str) -> Option<Vec<u64>> {
+    if word.is_empty() {
+        return Some(Vec::new());
+    }
+    word.split(',').map(|step| within(step.trim(), 1, 365)).collect()
 }
 
 /// A time: seconds, minutes or hours, or seconds where nothing is said.

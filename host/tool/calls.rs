@@ -10,7 +10,7 @@ const STACK: usize = 4 << 20;
 /// The output that the header asks for.
 const OUTPUT: usize = 16_384;
 /// The output that the header asks for where a job text is written.
-const WRITTEN: usize = 32_768;
+const WRITTEN: usize = 40_960;
 /// The greatest walk number.
 pub use library::MOST_WALK;
 
@@ -30,7 +30,7 @@ impl Reply {
         texts::pairs(&self.lines).find(|(own, _)| *own == key.as_bytes()).map(|(_, value)| value)
     }
 
-    /// The plan text of the planner's answer: its lines from `cost` on.
+    /// The plan text of an answer of the planner or of the latest-time habit: its lines from `cost` on.
     pub fn plan_text(&self) -> Option<&[u8]> {
         let start = texts::line_starts(&self.lines).find(|start| self.lines[*start..].starts_with(b"cost="))?;
         Some(&self.lines[start..])
@@ -75,6 +75,15 @@ pub fn judge(job: &[u8], plan: &[u8]) -> Result<Reply, Failure> {
     on_own_stack(|| {
         let mut out = vec![0; OUTPUT];
         let answer = library::judge(job, plan, &mut out);
+        Reply::of(answer, out)
+    })
+}
+
+/// The latest-time habit's call.
+pub fn latest(job: &[u8], plan: &[u8]) -> Result<Reply, Failure> {
+    on_own_stack(|| {
+        let mut out = vec![0; OUTPUT];
+        let answer = library::latest(job, plan, &mut out);
         Reply::of(answer, out)
     })
 }

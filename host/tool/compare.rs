@@ -55,6 +55,9 @@ fn costs(first: &Judged, second: &Judged) -> Table {
             rows.push(vec![name.to_string(), grouped(first), grouped(second), signed(first, second)]);
         }
     }
+    if let (Some(own), Some(other)) = (first.costs.low, second.costs.low) {
+        rows.push(vec!["at low prices".to_string(), grouped(own), grouped(other), signed(own, other)]);
+    }
     if let Some(floor) = first.floor() {
         rows.push(vec!["floor".to_string(), grouped(floor), grouped(floor), String::new()]);
     }

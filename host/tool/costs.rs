@@ -3,14 +3,15 @@
 use crate::json::Value;
 use crate::texts::{Job, Plan, Stop};
 
-/// The costs of a plan. `removals` is what taking parts out costs, each once a stop; `other` what the judge counts besides, for forms of the job text
-/// that this program does not read.
+/// The costs of a plan, at the high ends where prices are bands. `removals` is what taking parts out costs, each once a stop; `other` what the judge
+/// counts besides, for forms of the job text that this program does not read; `low` what the whole costs at the low ends, where the job has bands.
 #[derive(Debug, Clone, Copy, PartialEq, Eq)]
 pub struct Costs {
     pub fees: u64,
     pub parts: u64,
     pub removals: u64,
     pub other: u64,
+    pub low: Option<u64>,
 }
 
 impl Costs {
@@ -19,7 +20,10 @@ impl Costs {
         let fees = plan.stops.iter().map(|stop| job.fee(stop.step)).sum();
         let parts = plan.stops.iter().map(|stop| prices(job, stop)).sum();
         let removals = plan.stops.iter().map(|stop| removals(job, stop)).sum();
-        Costs { fees, parts, removals, other: judged.unwrap_or(0).saturating_sub(fees + parts + removals) }
+        let other = judged.unwrap_or(0).saturating_sub(fees + parts + removals);
+        let lows: u64 = plan.stops.iter().map(|stop| low_prices(job, stop)).sum();
+        let low = job.has_bands().then_some(fees + lows + removals + other);
+        Costs { fees, parts, removals, other, low }
     }
 
     pub fn total(&self) -> u64 {
@@ -35,6 +39,7 @@ impl Costs {
             ("removals", of(self.removals)),
             ("other", of(self.other)),
             ("total", of(self.total())),
+            ("low", Value::number(self.low)),
         ])
     }
 
@@ -47,6 +52,11 @@ impl Costs {
 /// The prices of all parts changed at a stop.
 pub fn prices(job: &Job, stop: &Stop) -> u64 {
     stop.parts.iter().filter_map(|part| job.price(*part, stop.step)).sum()
+}
+
+/// The same at the low ends.
+fn low_prices(job: &Job, stop: &Stop) -> u64 {
+    stop.parts.iter().filter_map(|part| job.low_price(*part, stop.step)).sum()
 }
 
 /// What taking parts out costs at a stop: each part that comes out, once.

@@ -72,6 +72,7 @@ pub fn list(judged: &Judged, every: Option<u64>) -> String {
     rows.extend([sum("fees", Some(judged.costs.fees)), sum("parts", Some(judged.costs.parts))]);
     rows.extend(judged.costs.further().map(|(name, amount)| sum(name, Some(amount))));
     rows.extend([sum("total", Some(judged.costs.total())), sum("stated", Some(plan.cost))]);
+    rows.extend(judged.costs.low.map(|low| sum("low", Some(low))));
     rows.extend(judged.floor().map(|floor| sum("floor", Some(floor))));
     rows.iter().fold(head(&judged.naming), |text, row| text + &row.text(&judged.naming))
 }

@@ -1,29 +1,21 @@
 //! Faults of a text in words, with the line at fault beneath, as compilers do.
 
 use crate::calls::Reply;
-use crate::due_keys::{self, Due};
 use crate::failure::{status_of, Failure, Fault};
 use crate::files::Input;
 use crate::numbers::grouped;
 use crate::output::shown_line;
-use crate::slips;
-use juzvarola_host::ranges::RANGES;
+use crate::{slips, texts};
+use juzvarola_host::lines::{self, Line, Stands};
 
-/// The words for a fault by its number and the key of its line; an empty key stands for every other.
-const WORDS: &[(u32, &str, &str)] = &[
-    (1, "", "the text has over 32,768 bytes"),
-    (2, "", "the line is not well formed"),
-    (3, "", "the value is outside its range"),
-    (4, "opening", "opening does not come after the opening before, or is past the horizon"),
-    (4, "idle", "idle does not come after the idle step before, or is past the horizon"),
-    (4, "", "the step does not rise or is past the horizon"),
-    (5, "", "left is greater than life"),
-    (8, "", "the library was lent too short an output"),
-    (9, "stop", "stop is no opening of the job, or does not come after the stop before"),
-    (9, "part", "part is above the job's number of parts, or does not come after the part before"),
-    (9, "", "the plan does not fit the job"),
-    (12, "holder", "holder is above the job's number of parts, is the part itself, or does not come after the holder before"),
-    (0, "", "the text is at fault"),
+/// The words for a fault by its number, where its line has none of its own.
+const WORDS: &[(u32, &str)] = &[
+    (2, "the line is not well formed"),
+    (3, "the value is outside its range"),
+    (4, "the step does not rise or is past the horizon"),
+    (8, "the library was lent too short an output"),
+    (9, "the plan does not fit the job"),
+    (0, "the text is at fault"),
 ];
 
 /// The failure that a refusal is: its words with the number, and the line at fault as it stands in the caller's file.
@@ -46,6 +38,7 @@ pub fn refusal(reply: &Reply, job: &Input, plan: Option<&Input>) -> Failure {
 fn words_for(reply: &Reply, text: &[u8]) -> String {
     let key = std::str::from_utf8(reply.fault.split(|byte| *byte == b'=').next().unwrap_or(b"")).unwrap_or("");
     match reply.result {
+        1 => format!("the text has over {} bytes", if reply.text == 2 { "32,768" } else { "40,960" }),
         2 => shape(reply, text),
         number => meaning(number, key),
     }
@@ -53,67 +46,58 @@ fn words_for(reply: &Reply, text: &[u8]) -> String {
 
 /// What a fault's number means at the line of a key: any but 2, which is about the line's shape.
 pub fn meaning(number: u32, key: &str) -> String {
-    match (number, RANGES.iter().find(|(own, ..)| *own == key)) {
-        (3, Some((_, low, high))) => format!("{key} is not a number from {} to {}", grouped(*low), grouped(*high)),
-        _ => from_table(number, key).to_string(),
+    match (number, lines::find(key)) {
+        (3, Some(line)) => format!("{key} is not a number from {} to {}", grouped(line.least), grouped(line.most)),
+        (_, own) => own.and_then(|line| words_of(line.words, number)).unwrap_or_else(|| for_any(number)).to_string(),
     }
 }
 
-/// The table's words for a number at a key; for a number that is not in it, those for any fault.
-fn from_table(number: u32, key: &str) -> &'static str {
-    let find = |number, key| WORDS.iter().find(|(own, of, _)| *own == number && *of == key);
-    find(number, key).or_else(|| find(number, "")).or_else(|| find(0, "")).map_or("", |(.., words)| words)
+fn words_of(table: &[(u32, &'static str)], number: u32) -> Option<&'static str> {
+    table.iter().find(|(own, _)| *own == number).map(|(_, words)| *words)
+}
+
+/// The words for a number at any line; for a number that is not known, those for any fault.
+fn for_any(number: u32) -> &'static str {
+    words_of(WORDS, number).or_else(|| words_of(WORDS, 0)).unwrap_or_default()
 }
 
 /// What is wrong with the shape of a line (number 2): it is missing, too many, cut short, another one, or its value is no number.
 fn shape(reply: &Reply, text: &[u8]) -> String {
     let fault = &reply.fault[..];
     let lines = text.split(|byte| *byte == b'\n').count() as u32;
-    let unended = reply.line == lines;
     if let Some(words) = slips::of_text(text, reply.text, reply.line) {
         return words.to_string();
     }
-    match due_on(reply, text) {
-        Due::End => "the text goes on after its last line".to_string(),
-        due if fault.is_empty() && reply.line >= lines => format!("the text ends, and {} is due", named(due, text, reply.line)),
-        Due::Key(key) if fault.starts_with(format!("{key}=").as_bytes()) && unended && well_formed(&fault[key.len() + 1..]) => {
-            "the last line is not ended by a line feed".to_string()
-        }
-        Due::Key(key) => slips::of_line(fault, &possible(key, text, reply.line))
-            .unwrap_or_else(|| format!("{} is due here", named(Due::Key(key), text, reply.line))),
-        Due::Unknown => from_table(2, "").to_string(),
+    let Some(may) = may_stand(reply, text) else { return for_any(2).to_string() };
+    let meant = may.iter().find(|line| fault.starts_with(format!("{}=", line.key).as_bytes()));
+    let Some(due) = meant.or(may.last().filter(|line| line.stands == Stands::Always)) else {
+        return "the text goes on after its last line".to_string();
+    };
+    if fault.is_empty() && reply.line >= lines {
+        return format!("the text ends, and {} is due", named(due, &may));
     }
+    if meant.is_some() && reply.line == lines && well_formed(&fault[due.key.len() + 1..]) {
+        return "the last line is not ended by a line feed".to_string();
+    }
+    // The line that is meant or due before those that may be left out.
+    let keys: Vec<&str> = [due.key].into_iter().chain(may.iter().rev().map(|line| line.key)).collect();
+    slips::of_line(fault, &keys).unwrap_or_else(|| format!("{} is due here", named(due, &may)))
 }
 
-/// What is due on the line at fault. A second line that begins with `idles=` is meant as one; so is one that begins with `walk=` where such a line may
-/// stand, and one behind a `left` line that begins with `removal=`.
-fn due_on(reply: &Reply, text: &[u8]) -> Due {
-    match reply.text {
-        2 => due_keys::of_plan(text, reply.line),
-        _ if reply.line == 2 && reply.fault.starts_with(b"idles=") => Due::Key("idles"),
-        _ if reply.fault.starts_with(b"walk=") && due_keys::may_be_walked(text, reply.line) => Due::Key("walk"),
-        _ if reply.fault.starts_with(b"removal=") && due_keys::may_be_removed(text, reply.line) => Due::Key("removal"),
-        _ => due_keys::of_job(text, reply.line),
-    }
+/// The lines that may stand where the library found a fault; it found none in the lines before. None where these are not known here.
+fn may_stand(reply: &Reply, text: &[u8]) -> Option<Vec<&'static Line>> {
+    let before = texts::line_starts(text).nth(reply.line.saturating_sub(1) as usize).unwrap_or(text.len());
+    let table = if reply.text == 2 { lines::PLAN } else { lines::JOB };
+    lines::following(table, &texts::pairs(&text[..before]).collect::<Vec<_>>())
 }
 
-/// The keys that a line may have had where this one is due.
-fn possible(key: &'static str, text: &[u8], line: u32) -> Vec<&'static str> {
-    match key {
-        "openings" if line == 2 => vec![key, "walk", "idles"],
-        "openings" if due_keys::may_be_walked(text, line) => vec![key, "walk"],
-        _ if due_keys::may_be_removed(text, line) => vec![key, "removal"],
-        _ => vec![key],
-    }
-}
-
-/// The line that is due, as a message names it, with the one that may stand before it.
-fn named(due: Due, text: &[u8], line: u32) -> String {
-    match due {
-        Due::Key("openings") if line == 2 => "`openings=` (or `idles=`)".to_string(),
-        Due::Key(key) if due_keys::may_be_removed(text, line) => format!("`{key}=` (or `removal=`)"),
-        Due::Key(key) => format!("`{key}=`"),
-        Due::End | Due::Unknown => "another line".to_string(),
+/// The line that is due, as a message names it, with those that may stand in its place.
+fn named(due: &Line, may: &[&Line]) -> String {
+    let others = may.iter().filter(|line| line.stands == Stands::Maybe && line.key != due.key);
+    let others: Vec<String> = others.map(|line| format!("`{}=`", line.key)).collect();
+    match &others[..] {
+        [] => format!("`{}=`", due.key),
+        _ => format!("`{}=` (or {})", due.key, others.join(" or ")),
     }
 }
 

@@ -14,10 +14,10 @@ pub struct Page {
 pub const PAGES: &[Page] = &[
     Page {
         name: "plan",
-        usage: "juzvarola plan JOB [-o PLAN] [--walk N] [--for TIME] [--once] [--quiet]\n       [--json]",
+        usage: "juzvarola plan JOB [-o PLAN] [--walk N] [--for TIME] [--once] [--quiet]\n       [--json]\n       juzvarola plan JOB.. --into FOLDER [-j N] [--summary FILE] [--walk N]\n       [--for TIME] [--once] [--quiet] [--json]",
         summary: "the cheapest plan that keeps every part's life",
         files: &["JOB"],
-        options: &["-o", "--output", "--walk", "--for", "--once", "--quiet", "-q", "--json"],
+        options: &["-o", "--output", "--walk", "--for", "--once", "--quiet", "-q", "--json", "--into", "-j", "--jobs", "--summary"],
         body: "\
 Writes the plan text to PLAN, or to standard output; what it costs, and whether
 that is proved the least, is said on standard error. If the walk has more nodes
@@ -37,6 +37,15 @@ a shell makes an empty file first, which is the plan of doing nothing.
 The walk is made with growing walk numbers. Where it takes more than a second
 and standard error is a terminal, the nodes and the best cost so far are shown.
 Ctrl-C, SIGTERM and the end of --for write the best plan so far (status 3).
+
+Many jobs, a line for each; a job at fault stops nobody, and the exit status is
+the worst of all:
+
+      --into FOLDER   each job's plan goes there under the job's name; a plan
+                      that is there already and that the judge accepts is
+                      left alone
+  -j, --jobs N        so many at a time
+      --summary FILE  a table of all, as CSV
 ",
     },
     Page {
@@ -52,6 +61,29 @@ An empty PLAN is the plan of doing nothing.
 
   -v, --verbose       every part that fails, not the first alone
       --json          the verdict as JSON
+      --from DATE     dates beside the steps: step 1 begins on 2027-01-04, say
+      --step LENGTH   how long a step is: day, week or month
+      --names FILE    names of parts: rows of number, name and order number
+",
+    },
+    Page {
+        name: "latest",
+        usage:
+            "juzvarola latest JOB (PLAN | --stops STEPS) [-o PLAN] [--json]\n       [--from DATE] [--step day|week|month] [--names FILE]",
+        summary: "each part changed as late as given stops allow, and why",
+        files: &["JOB", "PLAN"],
+        options: &["-o", "--output", "--stops", "--json", "--from", "--step", "--names"],
+        body: "\
+The foreman's habit. Of PLAN only the stops count; --stops names them in its
+place. Says what the habit costs, whether other changes at these stops cost
+less, what the cheapest plan costs, and why each change was made: by how much
+the next stop would have been too late. If the stops can't keep some part, that
+part is named (status 1).
+
+      --stops STEPS   the stops, rising, with commas between them: 2,10,18
+  -o, --output PLAN   where the plan goes; - is standard output, and the rest
+                      is then said on standard error
+      --json          the answer as JSON
       --from DATE     dates beside the steps: step 1 begins on 2027-01-04, say
       --step LENGTH   how long a step is: day, week or month
       --names FILE    names of parts: rows of number, name and order number
@@ -131,6 +163,45 @@ of that or more the planner always finishes. Jobs without holders only.
 ",
     },
     Page {
+        name: "worth",
+        usage: "juzvarola worth JOB [--json] [--names FILE]",
+        summary: "what a step of each part's life is worth",
+        files: &["JOB"],
+        options: &["--json", "--names"],
+        body: "\
+Says for each part by how much the least cost changes if its life were one
+running step shorter, and if it were one longer; what is left of the one that
+is in stays as it is. For the buyer who is offered a better seal. Where a walk
+of a fraction of a second does not prove a least cost, it is given from-to.
+
+      --json          the answer as JSON
+      --names FILE    names of parts: rows of number, name and order number
+",
+    },
+    Page {
+        name: "whatif",
+        usage: "juzvarola whatif JOB [PLAN] [--fee AMOUNT] [--left PART=N]\n       [--price PART=AMOUNT] [--close STEPS] [-o PLAN] [--save JOB] [--json]\n       [--from DATE] [--step day|week|month] [--names FILE]",
+        summary: "the plan of a changed job, and what the old plan would cost",
+        files: &["JOB", "PLAN"],
+        options: &["--fee", "--left", "--price", "--close", "-o", "--output", "--save", "--json", "--from", "--step", "--names"],
+        body: "\
+Plans the job as it would be, says what that costs beside the job as it is, and
+what PLAN would now cost, or why it would not do; without PLAN, the cheapest
+plan of the job as it is. Changes may be given several times and together.
+
+      --fee AMOUNT           every opening's fee: 120, +10, -5, +10%
+      --left PART=N          what is left of the part that is in
+      --price PART=AMOUNT    all prices of a part: 5=40, 5=+10%, 5=-3
+      --close STEPS          no stop at this step, or from one to another: 20-22
+  -o, --output PLAN          where the new plan goes; - is standard output
+      --save JOB             where the changed job goes
+      --json                 the answer as JSON
+      --from DATE            dates beside the steps
+      --step LENGTH          how long a step is: day, week or month
+      --names FILE           names of parts: rows of number, name and order
+",
+    },
+    Page {
         name: "write",
         usage: "juzvarola write TABLE [-o JOB]",
         summary: "a job text from a spreadsheet's table",
@@ -147,11 +218,14 @@ tabs), laid out like this; juzvarola-table(5) says more:
   fee,60
   part,life,left,removal,holders,prices
   1,12,9,,,40,40,45
-  2,26,26,15,1,70
+  2,26,26,15,1,70 to 80
+  3,20,8,,,base,90,drop,5,least,70
 
 A single fee or price stands for every opening; the row idle and the cells of
-removal and holders may be left out. A fault is named by its cell and by the
-line of the text that would have held it.
+removal and holders may be left out. A price may go from a low end to a high
+one. A rule in place of the prices: the first
+opening's, how much less each further one's is, and what none is below. A fault
+is named by its cell and by the line of the text that would have held it.
 
   -o, --output JOB    where the job text goes; - is standard output
 ",
@@ -195,7 +269,7 @@ exit status:
   0   the cheapest plan; a plan that keeps every life at its true cost
   1   a verdict: no plan keeps the lives (6), a part is not kept (10), the
       stated cost is wrong (11)
-  2   a text is at fault (1 to 5, 9, 12): its line is named; a job with a
+  2   a text is at fault (1 to 5, 9, 12, 13): its line is named; a job with a
       holder was to be counted (12)
   3   the walk is longer than its walk number or was ended (7)
   64 and up   usage, files, output that can't be written (as sysexits has them)

@@ -148,7 +148,7 @@ fn costs(judged: &Judged) -> String {
     let costs = &judged.costs;
     let mut rows = vec![("fees", Some(costs.fees)), ("parts", Some(costs.parts))];
     rows.extend(costs.further().map(|(name, amount)| (name, Some(amount))));
-    rows.extend([("total", Some(costs.total())), ("floor", judged.floor())]);
+    rows.extend([("total", Some(costs.total())), ("at low prices", costs.low), ("floor", judged.floor())]);
     let rows = rows.into_iter().filter_map(|(name, value)| Some(vec![name.to_string(), grouped(value?)])).collect();
     Table { title: "Costs".to_string(), heads: vec!["<of", "amount"], rows }.text().trim_end().to_string() + "\n"
 }

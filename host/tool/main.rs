@@ -12,7 +12,6 @@ mod csv;
 mod dates;
 mod draw;
 mod drawing;
-mod due_keys;
 mod failure;
 mod faults;
 mod files;
@@ -20,8 +19,10 @@ mod help;
 mod ics;
 mod json;
 mod judge;
+mod latest;
 mod list;
 mod lives;
+mod many;
 mod naming;
 mod numbers;
 mod output;
@@ -35,6 +36,8 @@ mod tables;
 mod texts;
 mod verdicts;
 mod walks;
+mod whatif;
+mod worth;
 mod write;
 
 use arguments::Command;
@@ -73,10 +76,13 @@ fn make(command: Command) -> Result<u8, Failure> {
         Command::Print(text) => standard_output::write(text.as_bytes()).map(|()| 0),
         Command::Plan(order) => plan::run(&order),
         Command::Judge(order) => judge::run(&order),
+        Command::Latest(order) => latest::run(&order),
         Command::List(order) => list::run(&order),
         Command::Draw(order) => draw::run(&order),
         Command::Compare(order) => compare::run(&order),
         Command::Count(order) => count::run(&order),
+        Command::Worth(order) => worth::run(&order),
+        Command::Whatif(order) => whatif::run(&order),
         Command::Write(order) => write::run(&order),
         Command::Check(job) => check::run(&job),
     }

@@ -11,11 +11,14 @@ use crate::numbers::{counted, grouped, percent, seconds};
 use crate::standing::Bounds;
 use crate::texts::{self, Job};
 use crate::walks::{self, Ended, Walked};
-use crate::{faults, list, output, standard_output};
+use crate::{faults, list, many, output, standard_output};
 use std::ffi::OsStr;
 
 /// Plans, writes the plan text and says what it is.
 pub fn run(order: &PlanOrder) -> Result<u8, Failure> {
+    if let Some(folder) = &order.into {
+        return many::run(order, folder);
+    }
     let input = files::read(&order.job)?;
     let standard = OsStr::new("-");
     // With JSON on standard output the plan text does not go there too: it stands in it.
@@ -108,7 +111,8 @@ impl Found<'_> {
         let (fees, parts) = (costs.fees, costs.parts);
         let further: String = costs.further().map(|(name, amount)| format!(", {name} {}", grouped(amount))).collect();
         let (stops, changes) = (counted(plan.stops.len() as u64, "stop"), counted(plan.change_count(), "change"));
-        Some(format!("{} (fees {}, parts {}{further}), with {stops} and {changes}", grouped(plan.cost), grouped(fees), grouped(parts)))
+        let low = costs.low.map_or(String::new(), |low| format!(" at the high prices, {} at the low ones", grouped(low)));
+        Some(format!("{}{low} (fees {}, parts {}{further}), with {stops} and {changes}", grouped(plan.cost), grouped(fees), grouped(parts)))
     }
 
     /// Further lines: how long the longest walk would take; where there is no plan, which part stands in its way and that no file was made.

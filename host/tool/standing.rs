@@ -6,7 +6,7 @@ use crate::json::Value;
 use crate::numbers::{grouped, percent};
 
 /// As far as lists, drawings and comparisons walk by themselves: a fraction of a second.
-const BOUND: u64 = 20_000_000;
+pub const BOUND: u64 = 20_000_000;
 
 /// What is known of the cheapest plan of a job.
 #[derive(Debug, Clone, Copy, PartialEq, Eq)]

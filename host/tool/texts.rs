@@ -7,14 +7,34 @@ pub struct Opening {
     pub fee: u64,
 }
 
-/// A part: its life, what is left of its first, what it costs to take it out, the parts that hold it, its price at each opening.
+/// A part: its life, what is left of its first, what it costs to take it out, the parts that hold it, its price at each opening (the high end where
+/// it is a band, with the low end beside it), and the rule that gives the prices where there is one.
 #[derive(Debug, Clone, Default)]
 pub struct Part {
     pub life: u64,
     pub left: u64,
     pub removal: u64,
     pub holders: Vec<u64>,
+    pub rule: Option<Rule>,
     pub prices: Vec<u64>,
+    pub lows: Vec<u64>,
+    /// How many of the prices are bands.
+    pub bands: u64,
+}
+
+/// Prices by a rule: the first opening's, by how much each further one's is lower, and what none is below.
+#[derive(Debug, Clone, Copy, Default, PartialEq, Eq)]
+pub struct Rule {
+    pub base: u64,
+    pub drop: u64,
+    pub least: u64,
+}
+
+impl Rule {
+    /// The price at an opening, counted from 0.
+    fn price(&self, opening: usize) -> u64 {
+        self.base.saturating_sub(self.drop.saturating_mul(opening as u64)).max(self.least)
+    }
 }
 
 /// A job as its text says it.
@@ -46,11 +66,24 @@ impl Job {
         self.openings.iter().find(|opening| opening.step == step).map_or(0, |opening| opening.fee)
     }
 
-    /// The price of a part, counted from 1, at this step; none where the text gives it in a form that this reader does not know.
+    /// The price of a part, counted from 1, at this step, a band's high end; none where the text gives it in a form that this reader does not know.
     pub fn price(&self, part: u64, step: u64) -> Option<u64> {
-        let part = self.part(part)?;
-        let opening = self.openings.iter().position(|opening| opening.step == step)?;
-        part.prices.get(opening).copied()
+        self.part(part)?.prices.get(self.opening(step)?).copied()
+    }
+
+    /// The low end of that price.
+    pub fn low_price(&self, part: u64, step: u64) -> Option<u64> {
+        self.part(part)?.lows.get(self.opening(step)?).copied()
+    }
+
+    /// The place of the opening at this step.
+    fn opening(&self, step: u64) -> Option<usize> {
+        self.openings.iter().position(|opening| opening.step == step)
+    }
+
+    /// Whether some price is a band.
+    pub fn has_bands(&self) -> bool {
+        self.parts.iter().any(|part| part.bands > 0)
     }
 }
 
@@ -77,6 +110,40 @@ impl Job {
         self.removed(stop).into_iter().filter(|part| !stop.parts.contains(part)).collect()
     }
 
+    /// The text of a job, with a line for each price, or two where it is a band with two ends.
+    pub fn text(&self) -> String {
+        let mut text = format!("horizon={}\n", self.horizon);
+        if !self.idles.is_empty() {
+            text += &format!("idles={}\n", self.idles.len());
+            text.extend(self.idles.iter().map(|idle| format!("idle={idle}\n")));
+        }
+        text += &format!("openings={}\n", self.openings.len());
+        text.extend(self.openings.iter().map(|opening| format!("opening={}\nfee={}\n", opening.step, opening.fee)));
+        text += &format!("parts={}\n", self.parts.len());
+        for part in &self.parts {
+            text += &format!("life={}\nleft={}\n", part.life, part.left);
+            if part.removal > 0 || !part.holders.is_empty() {
+                text += &format!("removal={}\ninside={}\n", part.removal, part.holders.len());
+                text.extend(part.holders.iter().map(|holder| format!("holder={holder}\n")));
+            }
+            for (price, low) in part.prices.iter().zip(&part.lows) {
+                match part.bands > 0 && low != price {
+                    true => text += &format!("low={low}\nhigh={price}\n"),
+                    false => text += &format!("price={price}\n"),
+                }
+            }
+        }
+        text
+    }
+
+    /// The same job with those of its openings alone that are wanted.
+    pub fn only_open(&self, wanted: impl Fn(u64) -> bool) -> Job {
+        let kept: Vec<usize> = (0..self.openings.len()).filter(|at| wanted(self.openings[*at].step)).collect();
+        let own = |list: &[u64]| kept.iter().filter_map(|at| list.get(*at).copied()).collect();
+        let part = |part: &Part| Part { prices: own(&part.prices), lows: own(&part.lows), ..part.clone() };
+        Job { openings: kept.iter().map(|at| self.openings[*at]).collect(), parts: self.parts.iter().map(part).collect(), ..self.clone() }
+    }
+
     /// Whether some part has a removal or a holder.
     pub fn has_removals(&self) -> bool {
         self.parts.iter().any(|part| part.removal > 0 || !part.holders.is_empty())
@@ -93,6 +160,16 @@ impl Job {
 }
 
 impl Plan {
+    /// The plan's text, as the judge reads it.
+    pub fn text(&self) -> String {
+        let mut text = format!("cost={}\nstops={}\n", self.cost, self.stops.len());
+        for stop in &self.stops {
+            text += &format!("stop={}\ncount={}\n", stop.step, stop.parts.len());
+            text.extend(stop.parts.iter().map(|part| format!("part={part}\n")));
+        }
+        text
+    }
+
     /// The steps at which a part, counted from 1, is changed.
     pub fn changes(&self, part: u64) -> Vec<u64> {
         self.stops.iter().filter(|stop| stop.parts.contains(&part)).map(|stop| stop.step).collect()
@@ -129,14 +206,39 @@ pub fn job(text: &[u8]) -> Job {
             b"opening" => job.openings.push(Opening { step: value, fee: 0 }),
             b"fee" => job.openings.last_mut().into_iter().for_each(|opening| opening.fee = value),
             b"life" => job.parts.push(Part { life: value, ..Part::default() }),
-            b"left" => job.parts.last_mut().into_iter().for_each(|part| part.left = value),
-            b"removal" => job.parts.last_mut().into_iter().for_each(|part| part.removal = value),
-            b"holder" => job.parts.last_mut().into_iter().for_each(|part| part.holders.push(value)),
-            b"price" => job.parts.last_mut().into_iter().for_each(|part| part.prices.push(value)),
-            _ => {}
+            _ => job.parts.last_mut().into_iter().for_each(|part| part.put(key, value)),
         }
     }
+    let openings = job.openings.len();
+    job.parts.iter_mut().for_each(|part| part.follow_rule(openings));
     job
+}
+
+impl Part {
+    /// Reads a line behind the part's first.
+    fn put(&mut self, key: &[u8], value: u64) {
+        match key {
+            b"left" => self.left = value,
+            b"removal" => self.removal = value,
+            b"holder" => self.holders.push(value),
+            b"base" => self.rule = Some(Rule { base: value, ..Rule::default() }),
+            b"drop" => self.rule.iter_mut().for_each(|rule| rule.drop = value),
+            b"least" => self.rule.iter_mut().for_each(|rule| rule.least = value),
+            b"low" => self.lows.push(value),
+            b"high" => self.prices.push(value),
+            b"price" => [&mut self.prices, &mut self.lows].into_iter().for_each(|list| list.push(value)),
+            _ => {}
+        }
+        self.bands += u64::from(key == b"low");
+    }
+
+    /// The rule's price for each opening, where there is a rule.
+    fn follow_rule(&mut self, openings: usize) {
+        if let Some(rule) = self.rule {
+            self.prices = (0..openings).map(|opening| rule.price(opening)).collect();
+            self.lows = self.prices.clone();
+        }
+    }
 }
 
 /// Reads an accepted plan text. The empty one is the plan of doing nothing.
@@ -176,6 +278,20 @@ mod tests {
         assert_eq!((plan.cost, plan.stops), (15, vec![Stop { step: 2, parts: vec![1] }]));
     }
 
+    /// A job's text reads back as the same job; with fewer openings each part keeps the prices of those that stay.
+    #[test]
+    fn texts_read_back() {
+        let more = JOB
+            .replace("left=2\n", "left=2\nremoval=9\ninside=1\nholder=2\n")
+            .replace("openings=1\nopening=2\nfee=10\n", "openings=2\nopening=2\nfee=10\nopening=4\nfee=3\n");
+        let more = more.replace("price=5\n", "price=5\nprice=6\n").replace("price=7\n", "price=7\nprice=8\n");
+        let read = job(more.as_bytes());
+        assert_eq!(format!("{:?}", job(read.text().as_bytes())), format!("{read:?}"));
+        assert_eq!(read.text(), more.replace("walk=11\n", ""));
+        let later = read.only_open(|step| step > 2);
+        assert_eq!((later.openings.len(), later.price(1, 4), later.price(2, 4), later.price(1, 2)), (1, Some(6), Some(8), None));
+    }
+
     /// A part's lines of removal are read where they stand.
     #[test]
     fn removals_and_holders_are_read() {
@@ -187,7 +303,39 @@ mod tests {
     /// Prices in a form that is not known are missing, and not zero.
     #[test]
     fn unknown_prices_are_missing() {
-        let read = job(JOB.replace("price=5\n", "base=9\ndrop=1\nleast=1\n").as_bytes());
+        let read = job(JOB.replace("price=5\n", "tariff=9\n").as_bytes());
         assert_eq!((read.price(1, 2), read.price(2, 2)), (None, Some(7)));
+    }
+
+    /// A rule gives a price for each opening: falling, and none below its least.
+    #[test]
+    fn rules_give_prices() {
+        let text = "openings=4\nopening=1\nopening=2\nopening=3\nopening=5\nparts=2\nlife=3\nleft=2\nbase=9\ndrop=3\nleast=4\nlife=3\nleft=3\nbase=2\ndrop=0\nleast=7\n";
+        let read = job(text.as_bytes());
+        assert_eq!((&read.parts[0].prices[..], &read.parts[1].prices[..]), (&[9, 6, 4, 4][..], &[7; 4][..]));
+        assert_eq!((read.price(1, 5), read.price(2, 1)), (Some(4), Some(7)));
+    }
+
+    /// A band is priced at its high end, and its low end is kept.
+    #[test]
+    fn bands_have_two_ends() {
+        let read = job(JOB.replace("price=5\n", "low=3\nhigh=5\n").as_bytes());
+        assert_eq!((read.price(1, 2), read.low_price(1, 2), read.low_price(2, 2)), (Some(5), Some(3), Some(7)));
+        assert_eq!((read.has_bands(), read.parts[0].bands, job(JOB.as_bytes()).has_bands()), (true, 1, false));
+    }
+
+    /// Every line of a job says something of it, but for counts and the walk line.
+    #[test]
+    fn every_line_of_the_table_is_read() {
+        let aside = ["idles", "walk", "openings", "parts", "inside"];
+        let rule = ["base", "drop", "least"];
+        let lines = juzvarola_host::lines::JOB.iter().filter(|line| !rule.contains(&line.key));
+        let text: String = lines.map(|line| format!("{}=3\n", line.key)).collect();
+        let text = text + "life=4\nbase=3\ndrop=3\nleast=3\n";
+        let whole = format!("{:?}", job(text.as_bytes()));
+        for line in juzvarola_host::lines::JOB {
+            let without = text.replace(&format!("{}=3\n", line.key), "");
+            assert_eq!(format!("{:?}", job(without.as_bytes())) == whole, aside.contains(&line.key), "{}", line.key);
+        }
     }
 }

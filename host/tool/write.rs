@@ -42,8 +42,20 @@ struct Part {
     left: Entry,
     /// Where the part has lines of removal: what taking it out costs, and its holders.
     removal: Option<(Entry, Vec<Entry>)>,
-    prices: Vec<Entry>,
+    /// Where a rule gives the prices: base, drop and least.
+    rule: Option<[Entry; 3]>,
+    prices: Vec<Price>,
 }
+
+/// A price, or the high end of a band with its low end.
+#[derive(Debug, Clone)]
+struct Price {
+    low: Option<Entry>,
+    high: Entry,
+}
+
+/// The words of a rule's cells, each before its number.
+const RULE: [&str; 3] = ["base", "drop", "least"];
 
 /// The table's numbers.
 #[derive(Debug)]
@@ -69,8 +81,18 @@ fn entry(cell: &Cell, key: &str) -> Result<Entry, String> {
     Ok(Entry { number: cell.text.parse().unwrap_or(u32::MAX), cell: cell.name() })
 }
 
+/// A cell's price: a number, or two with the word `to` between them.
+fn price(cell: &Cell) -> Result<Price, String> {
+    let words: Vec<&str> = cell.text.split_whitespace().collect();
+    let number = |text: &str, key: &str| entry(&Cell { text: text.to_string(), ..cell.clone() }, key);
+    match words[..] {
+        [low, to, high] if to.eq_ignore_ascii_case("to") => Ok(Price { low: Some(number(low, "low")?), high: number(high, "high")? }),
+        _ => Ok(Price { low: None, high: entry(cell, "price")? }),
+    }
+}
+
 /// One entry for each opening: a single one stands for all.
-fn each(entries: Vec<Entry>, openings: usize) -> Vec<Entry> {
+fn each<T: Clone>(entries: Vec<T>, openings: usize) -> Vec<T> {
     match &entries[..] {
         [one] => vec![one.clone(); openings],
         _ => entries,
@@ -123,6 +145,8 @@ impl Table {
     fn write(&self) -> Result<calls::Reply, Failure> {
         let numbers = |entries: &[Entry]| -> Vec<u32> { entries.iter().map(|entry| entry.number).collect() };
         let covers: Vec<&(Entry, Vec<Entry>)> = self.parts.iter().filter_map(|part| part.removal.as_ref()).collect();
+        let prices: Vec<&Price> = self.parts.iter().flat_map(|part| &part.prices).collect();
+        let rules = |at: usize| -> Vec<u32> { self.parts.iter().filter_map(|part| Some(part.rule.as_ref()?[at].number)).collect() };
         calls::write(&Form {
             horizon: self.horizon.number,
             idles: &numbers(&self.idles),
@@ -134,7 +158,13 @@ impl Table {
             removals: &covers.iter().map(|(removal, _)| removal.number).collect::<Vec<_>>(),
             insides: &covers.iter().map(|(_, holders)| holders.len() as u32).collect::<Vec<_>>(),
             holders: &covers.iter().flat_map(|(_, holders)| numbers(holders)).collect::<Vec<_>>(),
-            prices: &self.parts.iter().flat_map(|part| numbers(&part.prices)).collect::<Vec<_>>(),
+            ruled: &self.parts.iter().map(|part| u32::from(part.rule.is_some())).collect::<Vec<_>>(),
+            bases: &rules(0),
+            drops: &rules(1),
+            leasts: &rules(2),
+            banded: &prices.iter().map(|price| u32::from(price.low.is_some())).collect::<Vec<_>>(),
+            lows: &prices.iter().filter_map(|price| Some(price.low.as_ref()?.number)).collect::<Vec<_>>(),
+            prices: &prices.iter().map(|price| price.high.number).collect::<Vec<_>>(),
         })
     }
 
@@ -159,7 +189,13 @@ impl Table {
                 lines.extend([("removal", removal.cell.as_str()), ("inside", "")]);
                 lines.extend(each("holder", holders));
             }
-            lines.extend(each("price", &part.prices));
+            for (key, entry) in RULE.into_iter().zip(part.rule.iter().flatten()) {
+                lines.push((key, entry.cell.as_str()));
+            }
+            for Price { low, high } in &part.prices {
+                lines.extend(low.iter().map(|low| ("low", low.cell.as_str())));
+                lines.push((if low.is_some() { "high" } else { "price" }, high.cell.as_str()));
+            }
         }
         lines
     }
@@ -171,7 +207,7 @@ impl Table {
             (3, "openings") if self.fees.len() != self.openings.len() => {
                 format!("there are {} openings and {} fees", self.openings.len(), self.fees.len())
             }
-            (3, "parts") => match self.parts.iter().position(|part| part.prices.len() != self.openings.len()) {
+            (3, "parts") => match self.parts.iter().position(|part| part.rule.is_none() && part.prices.len() != self.openings.len()) {
                 Some(at) => {
                     format!("part {} has {} prices, and there are {} openings", at + 1, self.parts[at].prices.len(), self.openings.len())
                 }
@@ -184,7 +220,28 @@ impl Table {
     }
 }
 
-/// A part's row: number, life, left, removal, holders, prices.
+/// The rule of these cells, which begin with the word `base`: base, drop and least, each word with its number behind it.
+fn rule(cells: &[Cell]) -> Result<[Entry; 3], String> {
+    let due = |at: usize| -> Result<&Cell, String> {
+        cells
+            .get(at)
+            .ok_or_else(|| format!("cell {}: a rule is the cells base, drop and least, each with its number behind it", cells[0].name()))
+    };
+    let own = |at: usize| -> Result<Entry, String> {
+        let word = due(2 * at)?;
+        if !word.text.eq_ignore_ascii_case(RULE[at]) {
+            return Err(format!("cell {}: the word `{}` is due here", word.name(), RULE[at]));
+        }
+        entry(due(2 * at + 1)?, RULE[at])
+    };
+    let rule = [own(0)?, own(1)?, own(2)?];
+    match cells.get(6) {
+        Some(cell) => Err(format!("cell {}: nothing stands behind a rule", cell.name())),
+        None => Ok(rule),
+    }
+}
+
+/// A part's row: number, life, left, removal, holders, prices or the rule that gives them.
 fn part(row: &[Cell], number: usize, openings: usize) -> Result<Part, String> {
     let missing = |column: usize| Cell { row: row[0].row, column: column + 1, text: String::new() };
     let cell = |column: usize| row.get(column).cloned().unwrap_or_else(|| missing(column));
@@ -200,6 +257,10 @@ fn part(row: &[Cell], number: usize, openings: usize) -> Result<Part, String> {
         (true, false) => Some((Entry { number: 0, cell: removal.name() }, holders)),
         (false, _) => Some((entry(&removal, "removal")?, holders)),
     };
-    let prices: Vec<Entry> = row.iter().skip(5).map(|cell| entry(cell, "price")).collect::<Result<_, _>>()?;
-    Ok(Part { life: entry(&cell(1), "life")?, left: entry(&cell(2), "left")?, removal: cover, prices: each(prices, openings) })
+    let behind = row.get(5..).unwrap_or_default();
+    let ruled = behind.first().is_some_and(|cell| cell.text.eq_ignore_ascii_case(RULE[0]));
+    let rule = if ruled { Some(rule(behind)?) } else { None };
+    let prices = if ruled { &[][..] } else { behind };
+    let prices: Vec<Price> = prices.iter().map(price).collect::<Result<_, _>>()?;
+    Ok(Part { life: entry(&cell(1), "life")?, left: entry(&cell(2), "left")?, removal: cover, rule, prices: each(prices, openings) })
 }

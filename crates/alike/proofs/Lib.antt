@@ -1,2 +1,3 @@
--- That texts which mean the same are answered alike, so texts that differ in the `walk` line alone are (Meaning).
+-- That texts which mean the same are answered alike, so texts that differ in the `walk` line alone are (Meaning), and a text with rules and the one with the lines written out (Rules).
 pub mod Meaning
+pub mod Rules

@@ -49,5 +49,5 @@ by-meaning s s′ t t′ e e′ same = all-alike s s′ (meant t) (ap meaning e)
 pub walk-set-aside : WalkSetAside
 walk-set-aside = record {
   alike = λ s s′ t o e e′. by-meaning s s′ t (withWalk o t) e e′ refl;
-  accepts = λ s t e o allowed. let v = valid-text s t e in read-back (withWalk o t) (record { means = v .means; idles = v .idles; walk = allowed });
+  accepts = λ s t e o allowed. let v = valid-text s t e in read-back (withWalk o t) (record { means = v .means; idles = v .idles; walk = allowed; lines = v .lines });
 }

@@ -1,10 +1,13 @@
--- Two job texts that every call answers alike: the same numbers are handed over and the same bytes written. So are texts that differ in the `walk` line alone.
+-- Two job texts that every call answers alike: the same numbers are handed over and the same bytes written. So are texts that differ in the `walk` line alone, and a text with rules and the one with the price lines written out.
 use Prim.Native.Nat.{ℕ}
 use mathlib.Core.Path.{_≡_}
-use mathlib.Core.List.{List}
+use mathlib.Core.List.{List, map}
+use lib.ListN.{length}
 use Rattle.lines.specs.Text.{Optional}
 use Rattle.lines.specs.Parser.{accepted}
-use Rattle.job_grammar.specs.Grammar.{JobText, readJobText}
+use Rattle.price_rules.specs.Grammar.{writtenOut}
+use Rattle.part_lines.specs.Grammar.{PartText}
+use Rattle.job_grammar.specs.Grammar.{JobText, meant, readJobText}
 use Rattle.job_grammar.specs.Rendering.{jobText}
 use Rattle.job_grammar.specs.Valid.{Allowed}
 use Rattle.answers.specs.Said.{lent}
@@ -30,3 +33,19 @@ pub record WalkSetAside : Type 0 where
   pub alike : (s s′ : List ℕ) (t : JobText) (o : Optional ℕ) → readJobText s ≡ accepted t → readJobText s′ ≡ accepted (withWalk o t) → AnsweredAlike s s′
   -- an accepted text with the line taken out, put in or changed within its range is accepted, and says so
   pub accepts : (s : List ℕ) (t : JobText) → readJobText s ≡ accepted t → (o : Optional ℕ) → Allowed o → readJobText (jobText (withWalk o t)) ≡ accepted (withWalk o t)
+
+-- E8. a part, and a text, "with the lines written out": a price line for each opening in place of a rule
+abbrev pub partOut : ℕ → PartText → PartText
+partOut n p = record { life = p .life; left = p .left; cover = p .cover; prices = writtenOut n (p .prices) }
+
+abbrev pub rulesOut : JobText → JobText
+rulesOut t = record { horizon = t .horizon; idles = t .idles; walk = t .walk; openings = t .openings; parts = map (partOut (length (t .openings))) (t .parts) }
+
+-- E8. "plans and verdicts are those of the job with the lines written out"
+pub record RulesOut : Type 0 where
+  -- what is said means the same
+  pub means : (s : List ℕ) (t : JobText) → readJobText s ≡ accepted t → meant t ≡ meant (rulesOut t)
+  -- the text with the lines written out is accepted, and says so
+  pub accepts : (s : List ℕ) (t : JobText) → readJobText s ≡ accepted t → readJobText (jobText (rulesOut t)) ≡ accepted (rulesOut t)
+  -- and both are answered alike
+  pub alike : (s : List ℕ) (t : JobText) → readJobText s ≡ accepted t → AnsweredAlike s (jobText (rulesOut t))

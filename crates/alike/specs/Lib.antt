@@ -1,2 +1,2 @@
--- Two job texts that every call answers alike, and those that differ in the `walk` line alone (Alike).
+-- Two job texts that every call answers alike, those that differ in the `walk` line alone, and those with rules written out (Alike).
 pub mod Alike

@@ -51,16 +51,18 @@ module _ (text : List ℕ) (a : Accepted text) where
   today : readJob text ≡ accepted (asToday (a .given))
   today = job-before text (a .given) (a .is)
 
+  -- given the text's own walk number, the planner says what it said before holders
   pub planner-before : planning.planSaid text (a .given .walk) ≡ before.planSaid text
   unfolding planning.planSaid before.planSaid
   planner-before =
       let few = walk-before text (a .given) (a .is) in
       let same : planning.walkNumber (a .given .walk) ≡ a .given .walk = omega (arith, few) in
       ap (planning.onJob text (a .given .walk)) today
-      ∙ ap (λ (n : ℕ). planning.saidFor job (answerOf job n)) same
-      ∙ ap (planning.saidFor job) (answer-before job plain (a .given .walk))
+      ∙ ap (λ (n : ℕ). planning.saidFor (before.unbanded job) (answerOf job n)) same
+      ∙ ap (planning.saidFor (before.unbanded job)) (answer-before job plain (a .given .walk))
       ∙ sym (ap (before.planOn text) (a .is))
 
+  -- the count says of an accepted text what it said before holders
   pub count-before : counting.countSaid text ≡ before.countSaid text
   unfolding counting.countSaid counting.countedJob before.countSaid
   count-before =
@@ -68,6 +70,7 @@ module _ (text : List ℕ) (a : Accepted text) where
       ∙ ap (λ (t : Bool). cond t counting.holderRefusal (counting.countGiven (openCount job))) (held-none (job .parts) (plain-unheld (length (job .openings)) (job .parts) plain))
       ∙ sym (ap (before.countOn text) (a .is))
 
+  -- the judge says of a text and an accepted plan what it said before holders
   pub judge-before : (plan : List ℕ) (stated : Stated) → texts.readPlan job plan ≡ accepted stated → judging.judgeSaid text plan ≡ before.judgeSaid text plan
   unfolding judging.judgeSaid before.judgeSaid judgedOf
   judge-before plan stated e =

@@ -12,6 +12,7 @@ use Rattle.lines.proofs.Complete.{Complete, row-complete, checked-complete, cha
 
 -- what is known of a value is P, what is written for it is w, and it is read back where what stands behind it is as Next says
 pub record Exact {A : Type 0} (Next : List ℕ → Type 0) (p : Parser A) (P : A → Type 0) (w : A → List ℕ) : Type 0 where
+  -- what the parser accepts has P, and is what is written for its value
   pub tells : Tells p P w
   pub back : (a : A) → P a → (s : List ℕ) (l : ℕ) → Next s → (l′ : ℕ) × (p (w a ++ s) l ≡ good a s l′)
 
@@ -23,10 +24,12 @@ Any s = Unit {0}
 pub exactly : {A : Type 0} (p : Parser A) (P : A → Type 0) (w : A → List ℕ) → Tells p P w → Complete p w P → Exact Any p P w
 exactly p P w t c = record { tells = t; back = λ a k s l _. c a k s l }
 
+-- a row reads exactly the lines of values from lo to hi, and reads these back
 pub row-exact : (key : List ℕ) (lo hi : ℕ) → hi < 10 ^ 10 → Exact Any (rowAt key lo hi) (λ v. (lo ≤ v) × (v ≤ hi)) (line key)
 row-exact key lo hi few =
     exactly (rowAt key lo hi) _ (line key) (λ s s′ l l′ v e. record { known = row-gives key lo hi s s′ l l′ v e; text = row-sound key lo hi s s′ l l′ v e }) (row-complete key lo hi few)
 
+-- with a further rule a parser reads exactly the values that pass it, and reads these back
 pub checked-exact : (k : ℕ) (ok : ℕ → Bool) (p : Parser ℕ) (P : ℕ → Type 0) (w : ℕ → List ℕ) → Exact Any p P w → Exact Any (checked k ok p) (λ v. P v × (ok v ≡ true)) w
 checked-exact k ok p P w x =
     exactly (checked k ok p) _ w
@@ -36,6 +39,7 @@ checked-exact k ok p P w x =
     })
     (checked-complete k ok p w P (λ v h s l. x .back v h s l tt))
 
+-- a repeated parser reads exactly the texts of its values one behind the other, and reads these back
 pub chain-exact : {A : Type 0} (p : ℕ → Parser A) (next : ℕ → A → ℕ) (P : ℕ → A → Type 0) (w : A → List ℕ) → ((k : ℕ) → Exact Any (p k) (P k) w)
     → (n k : ℕ) → Exact Any (chain p next n k) (λ xs. (length xs ≡ n) × Chained P next k xs) (texts w)
 chain-exact p next P w x n k =

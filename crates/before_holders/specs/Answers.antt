@@ -1,12 +1,14 @@
 -- What the calls said before E7. It stays for one theorem alone, `AsBefore`: no code and no other promise rests on it.
 -- What E7 left as it was is cited: the lines of an answer, refusals, the verdict on the lives, the count; E4's answer and a plan's cost without removals (`model/Unheld`).
 use Prim.Native.Nat.{ℕ}
+use mathlib.Core.Bool.{false}
 use mathlib.Core.List.{List}
 use Rattle.lines.specs.Parser.{Outcome, accepted, refused}
 use Rattle.model.specs.Model.{Job}
 use Rattle.model.specs.Unheld.{plainAnswer, plainCost}
 use Rattle.model.specs.Verdict.{judged, verdictOf}
 use Rattle.model.specs.Count.{openCount}
+use Rattle.job_grammar.specs.Grammar as today
 use Rattle.plan_grammar.specs.Grammar.{Stated}
 use Rattle.answers.specs.Said.{Said, refusal}
 use Rattle.planning.specs.Plan as planning
@@ -17,9 +19,13 @@ use Rattle.before_holders.specs.Texts.{Given, readJob, readPlan}
 
 -- ---- the planner
 
+-- E11. what a job without pairs means today
+abbrev pub unbanded : Job → today.Given
+unbanded job = record { job = job; low = job; banded = false }
+
 -- by what the job text read as: E4's answer at its walk number, or its fault
 abbrev pub planOn : List ℕ → Outcome Given → Said
-planOn text (accepted given) = planning.saidFor (given .job) (plainAnswer (given .job) (given .walk))
+planOn text (accepted given) = planning.saidFor (unbanded (given .job)) (plainAnswer (given .job) (given .walk))
 planOn text (refused number line) = refusal 1 text number line
 
 -- what the planner said of a job text where there was room

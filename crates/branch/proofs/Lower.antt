@@ -14,6 +14,7 @@ use Rattle.branch.proofs.Bounds.{no-sum}
 abbrev pub Rises : (List Bool → Bound) → Type 0
 Rises bound = (p t : List Bool) → NoMore (bound p) (bound (p ++ t))
 
+-- the sum of two bounds is no more than the sum of two that are each no less
 pub add-mono : (x₁ y₁ x₂ y₂ : Bound) → NoMore x₁ y₁ → NoMore x₂ y₂ → NoMore (add x₁ x₂) (add y₁ y₂)
 add-mono x₁ Missing x₂ y₂ h g = tt
 add-mono x₁ (Sum b) x₂ Missing h g = tt
@@ -21,6 +22,7 @@ add-mono Missing (Sum b) x₂ (Sum d) h g = absurd h
 add-mono (Sum a) (Sum b) Missing (Sum d) h g = absurd g
 add-mono (Sum a) (Sum b) (Sum c) (Sum d) h g = omega arith
 
+-- a sum over parts never falls where no part's bound does
 pub total-mono : {A : Type 0} (f : A → List Bool → Bound) (rest : List A) (p q : List Bool) → ((a : A) → NoMore (f a p) (f a q)) → NoMore (total f rest p) (total f rest q)
 total-mono f [] p q h = omega arith
 total-mono f (a ∷ rest) p q h = add-mono (f a p) (f a q) (total f rest p) (total f rest q) (h a) (total-mono f rest p q h)
@@ -29,20 +31,26 @@ total-mono f (a ∷ rest) p q h = add-mono (f a p) (f a q) (total f rest p) (tot
 
 pub record Split (x y : Bound) (n : ℕ) : Type 0 where
   pub a : ℕ
+  -- the number that the second of the two bounds is
   pub b : ℕ
+  -- the first bound is not missing but the sum a
   pub left : x ≡ Sum a
+  -- the second bound is not missing but the sum b
   pub right : y ≡ Sum b
   pub sum : a + b ≡ n
 
+-- where the sum of two bounds is there, both are, and their numbers add to it
 pub split : (x y : Bound) (n : ℕ) → add x y ≡ Sum n → Split x y n
 split Missing y n e = absurd (no-sum Missing n refl e)
 split (Sum a) Missing n e = absurd (no-sum Missing n refl e)
 split (Sum a) (Sum b) n e = record { a = a; b = b; left = refl; right = refl; sum = cc }
 
+-- a bound with 0 added is that bound
 pub add-zero : (x : Bound) → add x (Sum 0) ≡ x
 add-zero Missing = refl
 add-zero (Sum a) = ap Sum (omega arith)
 
+-- a number added to the first of two bounds may as well be added to the second
 pub add-swap : (m : ℕ) (x y : Bound) → add (add (Sum m) x) y ≡ add x (add (Sum m) y)
 add-swap m Missing y = refl
 add-swap m (Sum a) Missing = refl
@@ -58,6 +66,7 @@ larger-mono m n Missing y (Sum c) (Sum d) h g = absurd h
 larger-mono m n (Sum a) Missing (Sum c) (Sum d) h g = absurd g
 larger-mono m n (Sum a) (Sum b) (Sum c) (Sum d) h g = omega arith
 
+-- a number plus the largest over the parts never falls, where the number plus any one part's doesn't
 pub largest-mono : {A : Type 0} (f : A → List Bool → Bound) (m n : ℕ) (rest : List A) (p q : List Bool) → m ≤ n → ((a : A) → NoMore (add (Sum m) (f a p)) (add (Sum n) (f a q)))
     → NoMore (add (Sum m) (largest f rest p)) (add (Sum n) (largest f rest q))
 largest-mono f m n [] p q l h = omega arith
@@ -88,12 +97,14 @@ larger-assoc (Sum a) Missing z = refl
 larger-assoc (Sum a) (Sum b) Missing = refl
 larger-assoc (Sum a) (Sum b) (Sum c) = ap Sum (omega arith)
 
+-- the larger of two bounds is the same in either order
 pub larger-comm : (x y : Bound) → larger x y ≡ larger y x
 larger-comm Missing Missing = refl
 larger-comm Missing (Sum b) = refl
 larger-comm (Sum a) Missing = refl
 larger-comm (Sum a) (Sum b) = ap Sum (omega arith)
 
+-- the largest with one part more is the larger of the largest before and that part's
 pub largest-snoc : {A : Type 0} (f : A → List Bool → Bound) (rest : List A) (a : A) (p : List Bool) → largest f (rest ++ (a ∷ [])) p ≡ larger (largest f rest p) (f a p)
 largest-snoc f [] a p = larger-comm (f a p) (Sum 0)
 largest-snoc f (x ∷ rest) a p = ap (larger (f x p)) (largest-snoc f rest a p) ∙ larger-assoc (f x p) (largest f rest p) (f a p)

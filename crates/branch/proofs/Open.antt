@@ -37,6 +37,7 @@ pub open-both : (e : Bound) (t : Bool → Tree) → present e ≡ true → openN
 unfolding openNodes
 open-both e t h = rw h
 
+-- a bound is not present exactly if it is missing
 pub missing-not : (x : Bound) → (present x ≡ false) ↔ (x ≡ Missing)
 missing-not Missing = ((λ h. refl), λ h. refl)
 missing-not (Sum n) = ((λ h. absurd (true≢false h)), λ h. absurd (no-sum (Sum n) n h refl))

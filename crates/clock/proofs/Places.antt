@@ -26,9 +26,11 @@ module _ (j : Job) (sized : Sized j) (whole : Whole j) where
   abbrev clocks : model.Opening → ℤ
   clocks o = clock (jobOf j) (o .step)
 
+  -- there are as many positions as the job counts openings
   pub position-count : length (positions (jobOf j)) ≡ j .«opening_count»
   position-count = seen-count j sized whole clocks
 
+  -- the position of opening i is the clock at its step
   pub position-at : (i : ℕ) → i < j .«opening_count» → getD (positions (jobOf j)) i (pos 0) ≡ clock (jobOf j) (openingAt j i .step)
   position-at = seen-at j sized whole clocks (pos 0)
 
@@ -36,6 +38,7 @@ module _ (j : Job) (sized : Sized j) (whole : Whole j) where
   pub places-are : (p : Positions) → Placed (jobOf j) p → take (j .«opening_count») (p .at) ≡ positions (jobOf j)
   places-are p placed = subst (λ (k : ℕ). take k (p .at) ≡ positions (jobOf j)) (opening-count j sized whole) (placed .openings)
 
+  -- the array's first entries that count are as many as the job's openings
   pub place-count : (p : Positions) → Placed (jobOf j) p → length (take (j .«opening_count») (p .at)) ≡ j .«opening_count»
   place-count p placed = ap length (places-are p placed) ∙ position-count
 
@@ -44,6 +47,7 @@ module _ (j : Job) (sized : Sized j) (whole : Whole j) where
     pub here-range : (i : ℕ) → i < j .«opening_count» → Position (clock (jobOf j) (openingAt j i .step))
     here-range i h = clocked (jobOf j) (openingAt j i .step) (omega (arith, valid-opening j sized whole valid i h .step-high))
 
+    -- the end of a valid job's lives lies at most at the last position
     pub end-range : Position (end (jobOf j))
     end-range = clocked (jobOf j) (j .horizon + 1) (omega (arith, valid .horizon-high))
 

@@ -25,6 +25,7 @@ clocked job s h =
     let r = in-range job s in
     from-0 (clock job s) s h (r .0) (r .1)
 
+-- the size of a position is at most the last position
 pub position-small : (z : ℤ) → Position z → mag z ≤ lastPosition
 position-small z (k, e, l) = rw e l
 
@@ -47,9 +48,11 @@ mag-bound (pos n) a b e = omega arith
 mag-bound (negsuc n) a b e = omega arith
 
 module _ (life : ℕ) (prev : ℤ) (h : life ≤ longestLife) (b : Begins life prev) where
+  -- the change before lies at most the last position and two longest lives away from 0
   pub before-small : mag prev ≤ lastPosition + longestLife + longestLife
   before-small = rw (b .1) (omega (arith, b .2, mag-bound (pos (b .0) -ℤ pos life) (0 + life) (b .0 + 0) (difference (pos (b .0)) (pos life))))
 
+  -- the change before fits an i32: read back from its bits it is the same
   pub before-bits : toZ w32 (ofZ w32 prev) ≡ prev
   before-bits = toZ-ofZ (record { sfits = omega (arith, before-small) })
 

@@ -45,9 +45,11 @@ same-each x zero s = refl
 same-each x (suc n) zero = refl
 same-each x (suc n) (suc s) = same-each x n s
 
+-- with no idle steps, no flag is set
 pub flags-none : (n : ℕ) → Flags [] (replicate n false)
 flags-none n s h = same-each false n s ∙ sym (none-idle s)
 
+-- setting the flag of the next idle step gives the flags of one idle step more
 pub flags-more : (l : List ℕ) (flags : List Bool) (k : ℕ) → k < length l → getD l k 0 < length flags → Flags (take k l) flags → Flags (take (k + 1) l) (set flags (getD l k 0) true)
 flags-more l flags k h g f s m =
     go (ℕ-discrete i s) ∙ sym (ap (λ (is : List ℕ). listed is s) (ap (λ (n : ℕ). take n l) (add-one k) ∙ take-suc l k 0 h) ∙ idle-snoc (take k l) i s)
@@ -63,10 +65,15 @@ flags-more l flags k h g f s m =
 
 -- the positions of the steps before s, and the running steps of those before it
 pub record Timed (job : Job) (at : List ℤ) (run s : ℕ) : Type 0 where
+  -- the steps before s are one at least, step 0
   pub some : 0 < s
+  -- s is at most one past the last position
   pub most : s ≤ lastPosition + 1
+  -- the table has an entry for each step from 0 to the last position
   pub size : length at ≡ lastPosition + 1
+  -- `run` counts the running steps of those before s
   pub run-is : run ≡ running (job .idles) (s - 1)
+  -- the entries of the steps before s are their positions
   pub done : (u : ℕ) → u < s → getD at u (pos 0) ≡ clock job u
 
 at-0 : (job : Job) → clock job 0 ≡ pos 0
@@ -89,6 +96,7 @@ one-more is s h = let z : s ≡ suc (s - 1) = omega arith in subst (λ (k : ℕ)
     by k = refl
 
 module _ (job : Job) where
+  -- a table of zeros has the position of step 0, with no running step counted
   pub timed-none : (n : ℕ) → n ≡ lastPosition + 1 → Timed job (replicate n (pos 0)) 0 1
   timed-none n e = record {
     some = omega arith;
@@ -124,6 +132,7 @@ module _ (job : Job) where
 
 -- ---- due steps
 
+-- of no steps none is within the life, and the due step is 0
 pub last-none : (job : Job) (life prev : ℤ) → 0 ≡ lastWithin job life prev 0
 unfolding lastWithin
 last-none job life prev = refl
@@ -134,8 +143,10 @@ module _ (job : Job) (life prev : ℤ) (s : ℕ) where
   unfolding lastWithin
   last-is = rw (add-one s)
 
+  -- a step within the life is the last one so far at which a change keeps the part
   pub last-yes : within life prev (clock job (s + 1)) ≡ true → s + 1 ≡ lastWithin job life prev (s + 1)
   last-yes e = sym (last-is ∙ ap (λ (b : Bool). cond b (s + 1) (lastWithin job life prev s)) e)
 
+  -- a step not within the life leaves the last one so far as it was
   pub last-no : within life prev (clock job (s + 1)) ≡ false → lastWithin job life prev s ≡ lastWithin job life prev (s + 1)
   last-no e = sym (last-is ∙ ap (λ (b : Bool). cond b (s + 1) (lastWithin job life prev s)) e)

@@ -1,21 +1,22 @@
 // Positions: how far a step is along the lives, in running steps. Only here do steps become positions, and positions due steps.
 use jobs::Job;
 use least::in_reach;
+use model::OPENINGS;
 ghost use mathlib.Core.Path.{_≡_};
 ghost use Prim.Native.Nat.{_≤_};
 ghost use lib.IntN.{pos};
-ghost use Rattle.model.specs.Model.{dueOf};
+ghost use Rattle.model.specs.Model.{clock, dueOf};
 ghost use Rattle.jobs.specs.Views.{jobOf};
 ghost use Rattle.jobs.specs.Valid.{Sound};
-ghost use Rattle.clock.specs.Placed.{Begins, Flags, Clocks, Placed};
-ghost use Rattle.model.specs.Limits.{longestLife};
+ghost use Rattle.clock.specs.Placed.{Position, Begins, Flags, Clocks, Placed};
+ghost use Rattle.model.specs.Limits.{lastPosition, longestLife};
 
 // The steps from 0 to the one after the longest horizon.
 const STEPS: usize = 367;
 
 // The positions of a job's openings, and of the end of its lives, the step after the horizon.
 pub struct Positions {
-    pub at: [i32; 64],
+    pub at: [i32; OPENINGS],
     pub end: i32,
 }
 
@@ -54,6 +55,15 @@ fn running_steps(job: Job) -> [i32; STEPS]
     clock
 }
 
+// The position of a step.
+pub fn position_of(job: Job, step: u32) -> i32
+    requires { ⌜ Sound job × (step ≤ lastPosition) ⌝ }
+    ensures { λ r. ⌜ (r ≡ clock (jobOf job) step) × Position r ⌝ }
+{
+    let at = running_steps(job);
+    at[step as usize]
+}
+
 // The positions of an accepted job.
 pub fn positions_of(job: Job) -> Positions
     requires { ⌜ Sound job ⌝ }
@@ -61,7 +71,7 @@ pub fn positions_of(job: Job) -> Positions
 {
     let n = job.opening_count;
     let clock = running_steps(job);
-    let mut at = [0i32; 64];
+    let mut at = [0i32; OPENINGS];
     let mut i: usize = 0;
     while i < n {
         let o = job.openings[i];

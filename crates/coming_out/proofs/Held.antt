@@ -20,6 +20,7 @@ module _ (job : Job) (h : Holding) (within : Within h) where
       → ofHolders job xs ≡ table (λ b. getD xs (getD (h .places) b 0) d) (h .count)
   by-places found d xs e = select-places d xs (holding job) (h .count) (h .places) (omega (arith, e, holding-length job)) (omega (arith, within .few, within .size)) found
 
+  -- a list's entries for parts that are somebody's holder are found by the struct's places
   pub held-table : IsHolding job h → {A : Type 0} (d : A) (xs : List A) → length xs ≡ length (job .parts) → ofHolders job xs ≡ table (λ b. getD xs (getD (h .places) b 0) d) (h .count)
   held-table is = by-places (is .places)
 

@@ -46,6 +46,7 @@ marked b (true ∷ marks) (suc j) =
     ∙ ap (listed (from (suc b) marks)) z
     ∙ marked (suc b) marks j
 
+-- a number is on the list that marks stand for exactly if its mark is set
 pub numbers-listed : (marks : List Bool) (j : ℕ) → listed (numbersOf marks) (suc j) ≡ getD marks j false
 numbers-listed marks j = let z : suc j ≡ j + 1 = omega arith in ap (listed (numbersOf marks)) z ∙ marked 1 marks j
 
@@ -57,9 +58,11 @@ unfolding listed
 listed-some [] n e = absurd (false≢true e)
 listed-some (h ∷ hs) n e = lt-ltb 0 (length (h ∷ hs)) (omega arith)
 
+-- a mark that is set puts a number on the list
 pub marked-some : (marks : List Bool) (i : ℕ) → getD marks i false ≡ true → ltb 0 (length (numbersOf marks)) ≡ true
 marked-some marks i e = listed-some (numbersOf marks) (suc i) (numbers-listed marks i ∙ e)
 
+-- where no mark is set, there is no number on the list
 pub marked-none : (marks : List Bool) → ((i : ℕ) → i < length marks → getD marks i false ≡ false) → ltb 0 (length (numbersOf marks)) ≡ false
 unfolding chosen joined
 marked-none marks none = ap (λ (hs : List ℕ). ltb 0 (length hs)) (chosen-none-after (λ i. getD marks i false) (λ i. i + 1) 0 (length marks) (omega arith) (λ i _ h. none i h))

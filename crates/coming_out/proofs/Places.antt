@@ -56,14 +56,17 @@ module _ {A : Type 0} (d : A) where
 -- ---- the places found one after the other: those before j are there, n of them
 
 module _ (marks : List Bool) (j n : ℕ) (ps : List ℕ) where
+  -- the first n places found are the set's up to j, and those from j on are still to come
   abbrev pub Found : Type 0
   Found = placesFrom 0 marks ≡ take n ps ++ placesFrom j (drop j marks)
 
 module _ (marks : List Bool) (j n : ℕ) (ps : List ℕ) (h : j < length marks) (f : Found marks j n ps) where
+  -- a place whose mark is not set adds no place to those found
   pub found-skip : getD marks j false ≡ false → Found marks (j + 1) n ps
   unfolding placesFrom
   found-skip e = rw (add-one j) (f ∙ ap (λ (l : List Bool). take n ps ++ placesFrom j l) (drop-cons marks j false h) ∙ ap (λ (b : Bool). take n ps ++ placesFrom j (b ∷ drop (suc j) marks)) e)
 
+  -- a place whose mark is set is stored behind the n places found before it
   pub found-more : n < length ps → getD marks j false ≡ true → Found marks (j + 1) (n + 1) (set ps n j)
   unfolding placesFrom
   found-more l e =
@@ -74,6 +77,7 @@ module _ (marks : List Bool) (j n : ℕ) (ps : List ℕ) (h : j < length marks) 
       ∙ sym (append-assoc (take n ps) (j ∷ []) (placesFrom (suc j) (drop (suc j) marks)))
       ∙ ap (λ (t : List ℕ). t ++ placesFrom (suc j) (drop (suc j) marks)) (sym (take-suc-set ps n j l)))
 
+-- after the last mark, the places found are all of the set's places
 pub found-all : (marks : List Bool) (j n : ℕ) (ps : List ℕ) → j ≡ length marks → Found marks j n ps → take n ps ≡ placesFrom 0 marks
 unfolding placesFrom
 found-all marks j n ps e f =

@@ -67,6 +67,7 @@ module _ (job : Job) where
     abbrev pub Turned : ℕ → ℕ → List Bool → Type 0
     Turned q k row = (length row ≡ mostParts) × Same (rounds job (m - k) row) (comesOut job q)
 
+    -- before any round is made, the row that has the part alone leads to what comes out with it
     pub turned-none : (q : ℕ) → q < m → m ≤ mostParts → Turned q 0 (set (replicate mostParts false) q true)
     unfolding comesOut
     turned-none q h few = (length-set (replicate mostParts false) q true, λ j. (let z : m - 0 ≡ size = omega (arith, held .count) in ap (λ (n : ℕ). getD (rounds job n start) j false) z) ∙ rounds-same size start (table (λ j. eqb q j) size) alone j)
@@ -85,6 +86,7 @@ module _ (job : Job) where
         alone : Same start (table (λ j. eqb q j) size)
         alone j = go j (ℕ-discrete j q) (decLt j size)
 
+    -- one round made on the row by the matrix leaves one round less to what comes out
     pub turned-more : (q k : ℕ) (row next : List Bool) → k < m → Row false (union m matrix row row) next → Turned q k row → Turned q (k + 1) next
     unfolding rounds
     turned-more q k row next h n t = (n .size, λ j. again j)
@@ -96,6 +98,7 @@ module _ (job : Job) where
             ∙ ap (λ (n : ℕ). getD (rounds job n row) j false) (sym z)
             ∙ t .1 j
 
+    -- after as many rounds as parts, the row is what comes out with the part
     pub turned-all : (q k : ℕ) (row : List Bool) → m ≤ k → Turned q k row → Row false (comesOut job q) row
     unfolding rounds
     turned-all q k row h t =

@@ -20,6 +20,7 @@ module _ {A : Type 0} (d : A) where
   blank (suc n) zero = refl
   blank (suc n) (suc j) = blank n j
 
+  -- a row with no entry filled in holds the empty list
   pub row-none : (f : ℕ → A) → Row d (table f 0) (replicate mostParts d)
   unfolding table
   row-none f = record { size = length-replicate mostParts d; at = λ j. blank mostParts j ∙ sym (blank 0 j) }
@@ -28,6 +29,7 @@ module _ {A : Type 0} (d : A) where
   pub past : (f : ℕ → A) (n j : ℕ) → n ≤ j → getD (table f n) j d ≡ d
   past f n j h = List·getD-eq-default (table f n) d {n = j} (omega (arith, h, table-length f n))
 
+  -- a row with its next place filled in holds one entry more of the list
   pub row-more : (f : ℕ → A) (n : ℕ) (row : List A) (v : A) → n < mostParts → v ≡ f n → Row d (table f n) row → Row d (table f (n + 1)) (set row n v)
   row-more f n row v h e r = record { size = length-set row n v ∙ r .size; at = λ j. go j (decLt j n) (decLt n j) }
     where
@@ -44,9 +46,11 @@ row-take d xs row m e h r =
     let l : length (take m row) ≡ m = length-take-le m row (omega (arith, h, r .size)) in
     ext-getD d (take m row) xs (l ∙ sym e) (λ i g. getD-take m row i d (omega (arith, g, l)) ∙ r .at i)
 
+-- a matrix of no rows, with no mark set, holds none of the lists
 pub rows-none : (f : ℕ → List Bool) → Rows 0 f (replicate mostPlaces false)
 rows-none f = record { size = length-replicate mostPlaces false; at = λ q j h l. absurd (omega arith) }
 
+-- a row pasted behind the first q makes a matrix that holds one list more
 pub rows-more : (f : ℕ → List Bool) (q : ℕ) (matrix row : List Bool) → q < mostParts → Row false (f q) row → Rows q f matrix → Rows (q + 1) f (paste matrix (q * mostParts) row mostParts)
 rows-more f q matrix row h r s = record {
   size = length-paste matrix (q * mostParts) row mostParts (omega (arith, h, s .size)) (omega (arith, r .size)) ∙ s .size;

@@ -26,6 +26,7 @@ use Rattle.coming_out.proofs.Listed.{numbers-listed}
 abbrev pub marksAt : List Part → ℕ → List Bool
 marksAt parts q = getD parts q blankPart .holders
 
+-- the removal of the part at place q, as its record has it
 abbrev pub removalAt : List Part → ℕ → ℕ
 removalAt parts q = getD parts q blankPart .removal
 
@@ -34,6 +35,7 @@ module _ (job : Job) (sized : Sized job) (whole : Whole job) where
   seen : {B : Type 0} (g : model.Part → B) (e : B) (q : ℕ) → q < job .«part_count» → getD (map g (jobOf job .parts)) q e ≡ g (getD (jobOf job .parts) q noPart)
   seen g e q h = map-at g (jobOf job .parts) q noPart e (omega (arith, h, part-count job sized whole))
 
+  -- a matrix filled with the records' marks says who holds whom in the job
   pub held-by : (matrix : List Bool) → Rows (job .«part_count») (marksAt (job .parts)) matrix → HeldBy (jobOf job) (job .«part_count») matrix
   held-by matrix rows = record { count = part-count job sized whole; at = at }
     where
@@ -47,12 +49,15 @@ module _ (job : Job) (sized : Sized job) (whole : Whole job) where
   held-at : (q : ℕ) → q < job .«part_count» → isHeld (getD (jobOf job .parts) q noPart) ≡ ltb 0 (length (numbersOf (marksAt (job .parts) q)))
   held-at q h = ap isHeld (part-at job sized whole q h)
 
+  -- a record with a holder marked means that the job has a holder
   pub holder-here : (q : ℕ) → q < job .«part_count» → ltb 0 (length (numbersOf (marksAt (job .parts) q))) ≡ true → hasHolder (jobOf job) ≡ true
   holder-here q h e = held-here (jobOf job .parts) q (omega (arith, h, part-count job sized whole)) (held-at q h ∙ e)
 
+  -- if no record has a holder marked, the job has no holder
   pub holder-nowhere : ((q : ℕ) → q < job .«part_count» → ltb 0 (length (numbersOf (marksAt (job .parts) q))) ≡ false) → hasHolder (jobOf job) ≡ false
   holder-nowhere f = held-nowhere (jobOf job .parts) (λ q l. let h : q < job .«part_count» = omega (arith, l, part-count job sized whole) in held-at q h ∙ f q h)
 
+  -- a row filled with the records' removals holds the removals of the job's parts
   pub removals-by : (removals : List ℕ) → Row 0 (table (removalAt (job .parts)) (job .«part_count»)) removals → Removals (jobOf job) removals
   removals-by removals r = subst (λ (xs : List ℕ). Row 0 xs removals) same r
     where

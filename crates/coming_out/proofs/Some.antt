@@ -9,17 +9,20 @@ use Rattle.model.specs.Model.{Part, listed, holdsOne, outBy}
 use Rattle.model.proofs.Bools.{after-one, or-left, or-right}
 use Rattle.coming_out.specs.Rows.{some}
 
+-- if one of the first m places has it, the test for some says yes
 pub some-here : (m : ℕ) (f : ℕ → Bool) (i : ℕ) → i < m → f i ≡ true → some m f ≡ true
 unfolding some
 some-here zero f i h e = absurd (omega arith)
 some-here (suc m) f zero h e = or-left (f 0) (some m (λ i. f (suc i))) e
 some-here (suc m) f (suc i) h e = or-right (f 0) (some m (λ i. f (suc i))) (some-here m (λ i. f (suc i)) i (omega arith) e)
 
+-- if none of the first m places has it, the test for some says no
 pub some-none : (m : ℕ) (f : ℕ → Bool) → ((i : ℕ) → i < m → f i ≡ false) → some m f ≡ false
 unfolding some
 some-none zero f h = refl
 some-none (suc m) f h = ap₂ _||_ (h 0 (omega arith)) (some-none m (λ i. f (suc i)) (λ i l. h (suc i) (omega arith)))
 
+-- two tests that agree on the first m places say the same of them
 pub some-same : (m : ℕ) (f g : ℕ → Bool) → ((i : ℕ) → i < m → f i ≡ g i) → some m f ≡ some m g
 unfolding some
 some-same zero f g h = refl

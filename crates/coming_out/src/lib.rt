@@ -12,13 +12,10 @@ ghost use Rattle.model.specs.Verdict.{partAt};
 ghost use Rattle.model.specs.Decisions.{ofHolders, charge};
 ghost use Rattle.coming_out.specs.Rows.{Row, Rows, HeldBy, reached, union};
 ghost use Rattle.coming_out.specs.Places.{placesFrom, Within, IsHolding, Removals};
+use model::PAIRS;
+use model::PARTS;
 
 pub mod records;
-
-// The most parts of a job, and the places of a matrix.
-const PARTS: usize = 16;
-
-const PLACES: usize = 256;
 
 // The parts that are somebody's holder: which they are, their places by rising number, and how many there are.
 pub struct Holding {
@@ -42,7 +39,7 @@ fn either(a: bool, b: bool) -> bool
 }
 
 // The part at place j stands in the row of one of a set, of m parts.
-fn is_reached(matrix: &[bool; PLACES], m: usize, set: [bool; PARTS], j: usize) -> bool
+fn is_reached(matrix: &[bool; PAIRS], m: usize, set: [bool; PARTS], j: usize) -> bool
     requires { ⌜ (m ≤ mostParts) × (j < mostParts) ⌝ }
     ensures { λ r. ⌜ r ≡ reached m (now (matrix .entry)) set j ⌝ }
 {
@@ -58,7 +55,7 @@ fn is_reached(matrix: &[bool; PLACES], m: usize, set: [bool; PARTS], j: usize) -
 
 // The parts of `own`, and those that stand in the row of one of a set.
 pub fn union(
-    matrix: &[bool; PLACES],
+    matrix: &[bool; PAIRS],
     m: usize,
     own: [bool; PARTS],
     set: [bool; PARTS],
@@ -76,7 +73,7 @@ pub fn union(
 }
 
 // What comes out with the part at place q: as many rounds of holders as there are parts.
-fn out_with(holders: &[bool; PLACES], m: usize, q: usize) -> [bool; PARTS]
+fn out_with(holders: &[bool; PAIRS], m: usize, q: usize) -> [bool; PARTS]
     requires { ⌜ (m ≤ mostParts) × (q < m) ⌝ }
     ensures { λ r. ⌜ ((job : Job) → HeldBy job m (now (holders .entry)) → Row false (comesOut job q) r) ⌝ }
 {
@@ -92,7 +89,7 @@ fn out_with(holders: &[bool; PLACES], m: usize, q: usize) -> [bool; PARTS]
 }
 
 // The matrix with this row at q.
-pub fn with_row(matrix: [bool; PLACES], q: usize, row: [bool; PARTS]) -> [bool; PLACES]
+pub fn with_row(matrix: [bool; PAIRS], q: usize, row: [bool; PARTS]) -> [bool; PAIRS]
     requires { ⌜ q < mostParts ⌝ }
     ensures { λ r. ⌜ (r ≡ paste matrix (q * mostParts) row mostParts) × (length row ≡ mostParts) ⌝ }
 {
@@ -106,11 +103,11 @@ pub fn with_row(matrix: [bool; PLACES], q: usize, row: [bool; PARTS]) -> [bool; 
 }
 
 // What comes out with each part.
-pub fn come_out(holders: &[bool; PLACES], m: usize) -> [bool; PLACES]
+pub fn come_out(holders: &[bool; PAIRS], m: usize) -> [bool; PAIRS]
     requires { ⌜ m ≤ mostParts ⌝ }
     ensures { λ r. ⌜ ((job : Job) → HeldBy job m (now (holders .entry)) → Rows m (comesOut job) r) ⌝ }
 {
-    let mut outs = [false; PLACES];
+    let mut outs = [false; PAIRS];
     let mut q: usize = 0;
     while q < m {
         let row = out_with(holders, m, q);
@@ -144,7 +141,7 @@ fn places_of(marks: [bool; PARTS]) -> Holding
 }
 
 // The parts that are somebody's holder.
-pub fn holding_of(holders: &[bool; PLACES], m: usize) -> Holding
+pub fn holding_of(holders: &[bool; PAIRS], m: usize) -> Holding
     requires { ⌜ m ≤ mostParts ⌝ }
     ensures { λ r. ⌜ Within r × ((job : Job) → HeldBy job m (now (holders .entry)) → IsHolding job r) ⌝ }
 {
@@ -153,7 +150,7 @@ pub fn holding_of(holders: &[bool; PLACES], m: usize) -> Holding
 }
 
 // Of the parts that are somebody's holder, those in the row of the part at place q.
-fn needs_of(outs: &[bool; PLACES], holding: Holding, q: usize) -> [bool; PARTS]
+fn needs_of(outs: &[bool; PAIRS], holding: Holding, q: usize) -> [bool; PARTS]
     requires { ⌜ Within holding × (q < mostParts) ⌝ }
     ensures { λ r. ⌜ ((m : ℕ) (job : Job) → q < m → length (job .parts) ≡ m → Rows m (comesOut job) (now (outs .entry)) → IsHolding job holding → Row false (ofHolders job (comesOut job q)) r) ⌝ }
 {
@@ -169,11 +166,11 @@ fn needs_of(outs: &[bool; PLACES], holding: Holding, q: usize) -> [bool; PARTS]
 }
 
 // For each part, of the parts that are somebody's holder, those that come out with it.
-pub fn needs(outs: &[bool; PLACES], m: usize, holding: Holding) -> [bool; PLACES]
+pub fn needs(outs: &[bool; PAIRS], m: usize, holding: Holding) -> [bool; PAIRS]
     requires { ⌜ (m ≤ mostParts) × Within holding ⌝ }
     ensures { λ r. ⌜ ((job : Job) → length (job .parts) ≡ m → Rows m (comesOut job) (now (outs .entry)) → IsHolding job holding → Rows m (λ q. ofHolders job (comesOut job q)) r) ⌝ }
 {
-    let mut rows = [false; PLACES];
+    let mut rows = [false; PAIRS];
     let mut q: usize = 0;
     while q < m {
         let row = needs_of(outs, holding, q);

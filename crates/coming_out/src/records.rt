@@ -1,8 +1,10 @@
 // Who holds whom, whether anybody does, and the removals, from a job's part records.
 use crate::with_row;
 use jobs::Job;
+use model::PAIRS;
+use model::PARTS;
+use part_records::lent_removal;
 use part_records::part_of;
-use part_records::removal_of;
 ghost use mathlib.Core.Path.{_≡_};
 ghost use lib.Dec.{ltb};
 ghost use lib.ListN.{length};
@@ -13,13 +15,13 @@ ghost use Rattle.coming_out.specs.Rows.{HeldBy};
 ghost use Rattle.coming_out.specs.Places.{Removals};
 
 // The holders of each part.
-pub fn holders_of(job: Job) -> [bool; 256]
+pub fn holders_of(job: Job) -> [bool; PAIRS]
     requires { ⌜ Sized job ⌝ }
     ensures { λ r. ⌜ HeldBy (jobOf job) (job .«part_count») r ⌝ }
 {
     let m = job.part_count;
     let parts = job.parts;
-    let mut matrix = [false; 256];
+    let mut matrix = [false; PAIRS];
     let mut q: usize = 0;
     while q < m {
         let part = part_of(parts, m, q);
@@ -32,11 +34,11 @@ pub fn holders_of(job: Job) -> [bool; 256]
 }
 
 // One of the marks is set.
-fn any_set(marks: [bool; 16]) -> bool
+fn any_set(marks: [bool; PARTS]) -> bool
     ensures { λ r. ⌜ r ≡ ltb 0 (length (numbersOf marks)) ⌝ }
 {
     let mut i: usize = 0;
-    while i < 16 {
+    while i < PARTS {
         if marks[i] {
             return true;
         }
@@ -65,17 +67,16 @@ pub fn has_holder(job: Job) -> bool
 }
 
 // The removal of each part.
-pub fn removals_of(job: Job) -> [u32; 16]
+pub fn removals_of(job: Job) -> [u32; PARTS]
     requires { ⌜ Sized job ⌝ }
     ensures { λ r. ⌜ Removals (jobOf job) r ⌝ }
 {
     let m = job.part_count;
     let parts = job.parts;
-    let mut removals = [0u32; 16];
+    let mut removals = [0u32; PARTS];
     let mut q: usize = 0;
     while q < m {
-        let part = part_of(parts, m, q);
-        removals[q] = removal_of(part);
+        removals[q] = lent_removal(parts, m, q);
         q += 1;
     }
     removals

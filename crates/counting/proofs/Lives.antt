@@ -18,12 +18,15 @@ module _ (f : Part → ℕ) (parts : List Part) where
   abbrev pub Least : ℕ → ℕ → Type 0
   Least q a = leastAmong f a (drop q parts) ≡ leastAmong f longestLife parts
 
+  -- the smaller of the least so far and the next part's value is the least of one part more
   pub least-more : (q a x : ℕ) → q < length parts → x ≡ min a (f (getD parts q noPart)) → Least q a → Least (q + 1) x
   least-more q a x h e l = rw (add-one q, e) (sym (ap (leastAmong f a) (drop-cons parts q noPart h)) ∙ l)
 
+  -- after all parts, the least so far is the least of them all
   pub least-all : (q a : ℕ) → length parts ≤ q → Least q a → a ≡ leastAmong f longestLife parts
   least-all q a h l = sym (ap (leastAmong f a) (drop-of-length-le parts {i = q} h)) ∙ l
 
+-- the least of a number and of the parts' values is at most that number
 pub least-most : (f : Part → ℕ) (a : ℕ) (parts : List Part) → leastAmong f a parts ≤ a
 least-most f a [] = omega arith
 least-most f a (part ∷ parts) = omega (arith, least-most f (min a (f part)) parts)

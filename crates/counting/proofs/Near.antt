@@ -13,9 +13,11 @@ use Rattle.least.specs.Marks.{Bits31}
 use Rattle.least.proofs.Diff.{small-back, marks-back}
 use Rattle.counting.specs.Row.{Near}
 
+-- marks and an end that are small stay so when read back from their bits
 pub near-back : (end first : ℤ) (ss : List ℤ) → SFits w32 first → Near end first ss → Near (toZ w32 (ofZ w32 end)) (toZ w32 (ofZ w32 first)) ss
 near-back end first ss f near = record { late = small-back end (near .late); marks = marks-back first ss f (near .marks) }
 
+-- the place behind any number of openings is small, the end too
 pub place-small : (end first : ℤ) (ss : List ℤ) (k : ℕ) → Near end first ss → Bits31 (getD ss k end)
 place-small end first ss k near = go (decLt k (length ss))
   where

@@ -25,6 +25,7 @@ module _ (j : Job) (sized : Sized j) (whole : Whole j) (p : Positions) (placed :
   abbrev ss : List ℤ
   ss = take (j .«opening_count») (p .at)
 
+  -- the marks and the end of an accepted job are small, for any life and first life in range
   pub near-job : (life left : ℕ) → life ≤ longestLife → left ≤ longestLife → Near (p .end) (pos left -ℤ pos life) ss
   near-job life left h g = record { late = omega (arith, position-small (p .end) (placed .end-range)); marks = marks }
     where
@@ -38,6 +39,7 @@ module _ (j : Job) (sized : Sized j) (whole : Whole j) (p : Positions) (placed :
       marks zero = omega (arith, before-small life (pos left -ℤ pos life) h (begins-first life left g))
       marks (suc i) = by i (decLt i (j .«opening_count»))
 
+-- a valid job has a first part, whose life and first life are not above the longest
 pub brief : (job : model.Job) → ValidJob job → Brief job (job .parts)
 brief job v = go (job .parts) (v .some-part) (v .parts)
   where

@@ -9,9 +9,8 @@ use least::in_reach;
 use least::last_change;
 use least::mark;
 use lines::rows::WholeText;
-use part_records::left_of;
-use part_records::life_of;
-use part_records::part_of;
+use part_records::lent_left;
+use part_records::lent_life;
 ghost use mathlib.Core.Path.{_≡_};
 ghost use mathlib.Core.Bool.{cond};
 ghost use Prim.Native.Nat.{ℕ, _+_, _≤_, _<_, min};
@@ -66,9 +65,8 @@ fn least_of(job: Job) -> Least
     let mut left = Part::MAX_LEFT;
     let mut q: usize = 0;
     while q < count {
-        let part = part_of(parts, count, q);
-        life = shorter(life, life_of(part));
-        left = shorter(left, left_of(part));
+        life = shorter(life, lent_life(parts, count, q));
+        left = shorter(left, lent_left(parts, count, q));
         q += 1;
     }
     Least { life, left }

@@ -10,7 +10,7 @@ use Rattle.lines.specs.Parser.{good, return, row, optional, ifPresent, checked,
 use Rattle.lines.proofs.Sound.{bind-inv, Optionally, optional-inv, row-sound, checked-sound, chain-sound, row-gives, checked-gives, Chained, chain-gives, Told, Tells, Rises, rising-tells}
 use Rattle.covers.specs.Grammar.{other, holder, holders, inside, cover}
 use Rattle.covers.specs.Rendering.{coverText}
-use Rattle.jobs.specs.Valid.{Holds}
+use Rattle.jobs.specs.Valid.{ValidHolders}
 use Rattle.covers.specs.Valid.{ValidLines}
 
 -- a holder of part k of m, after the holder before
@@ -21,6 +21,7 @@ KnownHolder m k before h = Rises 16 m before h × (h ≡ k → ⊥)
 abbrev pub itself : ℕ → ℕ → ℕ
 itself before h = h
 
+-- an accepted `holder` line has another part of the job, after the holder before, and is written for it
 pub holder-tells : (m k before : ℕ) → Tells (holder m k before) (KnownHolder m k before) (lineOf "holder=")
 unfolding holder
 holder-tells m k before s s′ l l′ h e =
@@ -31,12 +32,12 @@ holder-tells m k before s s′ l l′ h e =
       text = checked-sound 12 (other k) p (lineOf "holder=") (λ s s′ l l′ h e. rising-tells 12 _ 16 m before s s′ l l′ h e .text) s s′ l l′ h e;
     }
 
-chained-holds : (m k before : ℕ) (hs : List ℕ) → Chained (KnownHolder m k) itself before hs → Holds m k before hs
+chained-holds : (m k before : ℕ) (hs : List ℕ) → Chained (KnownHolder m k) itself before hs → ValidHolders m k before hs
 chained-holds m k before [] c = tt
 chained-holds m k before (h ∷ hs) c = (c .0 .0 .after, c .0 .0 .within, c .0 .1, chained-holds m k h hs (c .1))
 
 -- the lines behind a removal of at most 1000000
-inside-tells : (m k r : ℕ) → Tells (inside m k r) (λ c. (c .removal ≡ r) × (length (c .holders) ≤ 15) × Holds m k 0 (c .holders)) (λ c. lineOf "inside=" (length (c .holders)) ++ texts (lineOf "holder=") (c .holders))
+inside-tells : (m k r : ℕ) → Tells (inside m k r) (λ c. (c .removal ≡ r) × (length (c .holders) ≤ 15) × ValidHolders m k 0 (c .holders)) (λ c. lineOf "inside=" (length (c .holders)) ++ texts (lineOf "holder=") (c .holders))
 unfolding inside holders return
 inside-tells m k r s s′ l l′ c e =
     let b = bind-inv (row "inside=" 0 15) _ s s′ l l′ c e in

@@ -14,7 +14,7 @@ use Rattle.lines.proofs.Sound.{Chained, Rises}
 use Rattle.lines.proofs.Complete.{Complete, row-complete, rising-complete, optional-present, checked-complete, chain-complete}
 use Rattle.covers.specs.Grammar.{Cover, other, holder, holders, inside, cover}
 use Rattle.covers.specs.Rendering.{coverText}
-use Rattle.jobs.specs.Valid.{Holds}
+use Rattle.jobs.specs.Valid.{ValidHolders}
 use Rattle.covers.specs.Valid.{ValidLines}
 use Rattle.covers.proofs.Accepted.{KnownHolder, itself}
 
@@ -24,7 +24,7 @@ holder-complete m k before h v s l =
     let apart : other k h ≡ true = simp (ne-eqb h k (v .1)) in
     checked-complete 12 (other k) (checked 12 (rising before m) (row "holder=" 1 16)) (lineOf "holder=") (Rises 16 m before) (rising-complete 12 _ 16 m (omega arith) before) h (v .0, apart) s l
 
-holds-chained : (m k before : ℕ) (hs : List ℕ) → m ≤ 16 → Holds m k before hs → Chained (KnownHolder m k) itself before hs
+holds-chained : (m k before : ℕ) (hs : List ℕ) → m ≤ 16 → ValidHolders m k before hs → Chained (KnownHolder m k) itself before hs
 holds-chained m k before [] few v = tt
 holds-chained m k before (h ∷ hs) few v =
     ((record { low = omega (arith, v .0); high = omega (arith, v .1); after = v .0; within = v .1 }, v .2), holds-chained m k h hs few (v .3))

@@ -15,7 +15,7 @@ use Rattle.lines.proofs.Writing.{line-short, joined-grows}
 use Rattle.lines.proofs.Texts.{rising-room}
 use Rattle.covers.specs.Grammar.{Cover}
 use Rattle.covers.specs.Rendering.{coverText}
-use Rattle.jobs.specs.Valid.{Holds}
+use Rattle.jobs.specs.Valid.{ValidHolders}
 use Rattle.covers.specs.Valid.{ValidCover}
 
 key-length : (length (bytes "removal=") ≡ 8) × (length (bytes "inside=") ≡ 7)
@@ -50,7 +50,7 @@ others-length i (suc n) h =
     (eq-or-lt-of-le (le-of-suc-le-suc h))
 
 -- holders are some of them
-holds-chained : (m k before : ℕ) (hs : List ℕ) → 1 ≤ k → Holds m k before hs → Chained (λ b h. (b < h) × (h ≤ m) × (length (lineOf "holder=" h) ≤ length (others (k - 1) (h - 1)))) (λ _ h. h) before hs
+holds-chained : (m k before : ℕ) (hs : List ℕ) → 1 ≤ k → ValidHolders m k before hs → Chained (λ b h. (b < h) × (h ≤ m) × (length (lineOf "holder=" h) ≤ length (others (k - 1) (h - 1)))) (λ _ h. h) before hs
 unfolding others holderLine
 holds-chained m k before [] low v = tt
 holds-chained m k before (h ∷ hs) low v =
@@ -58,7 +58,7 @@ holds-chained m k before (h ∷ hs) low v =
     let same = ap (λ (i : ℕ). length (lineOf "holder=" i)) e in
     ((v .0, v .1, rw (ne-eqb (h - 1) (k - 1) (λ q. v .2 (omega (arith, v .0)))) (omega (arith, same))), holds-chained m k h hs low (v .3))
 
-holders-short : (m k : ℕ) (hs : List ℕ) → m ≤ 16 → 1 ≤ k → k ≤ 16 → Holds m k 0 hs → length (texts (lineOf "holder=") hs) + length (lineOf "holder=" k) ≤ 151
+holders-short : (m k : ℕ) (hs : List ℕ) → m ≤ 16 → 1 ≤ k → k ≤ 16 → ValidHolders m k 0 hs → length (texts (lineOf "holder=") hs) + length (lineOf "holder=" k) ≤ 151
 unfolding holderLine
 holders-short m k hs few low high v =
     let e : k - 1 + 1 ≡ k = omega arith in

@@ -12,7 +12,7 @@ use Rattle.lines.specs.declared.rows.End.{End}
 use Rattle.lines.specs.declared.rows.End.the-variants as end
 use Rattle.lines.proofs.Parsing.{end-fault, fault-read, map-read, not-at}
 use Rattle.covers.specs.Grammar.{Cover, inside}
-use Rattle.covers.specs.Views.{coverOf, noCover, linesOf, meantCover, InsideRead, CoverRead}
+use Rattle.covers.specs.Views.{coverOf, noCover, coverThere, meantCover, InsideRead, CoverRead}
 use Rattle.covers.specs.declared.CoverLines.{CoverLines}
 
 -- no mark is set
@@ -30,7 +30,7 @@ refuse r e f = record { reads = fault-read _ e f; means = λ q g. not-at (sym e 
 
 -- what was read behind the removal's line
 pub lines-read : (m k v : ℕ) {s : List ℕ} (t : List ℕ) (l : ℕ) (r : CoverLines) → InsideRead s r (inside m k v t l) → CoverRead s r (ifPresent (inside m k) (present v) t l)
-unfolding ifPresent linesOf meantCover
+unfolding ifPresent coverThere meantCover
 lines-read m k v {s} t l r h = go (r .end) refl
   where
     stood : Reads s (ended (r .end) (present (coverOf (r .cover)))) (ifPresent (inside m k) (present v) t l)
@@ -40,7 +40,7 @@ lines-read m k v {s} t l r h = go (r .end) refl
     go (end.At q) e =
         let there = h .stands q e in
         record {
-          reads = subst (λ (b : Bool). Reads s (ended (r .end) (linesOf b (coverOf (r .cover)))) (ifPresent (inside m k) (present v) t l)) (sym there) stood;
+          reads = subst (λ (b : Bool). Reads s (ended (r .end) (coverThere b (coverOf (r .cover)))) (ifPresent (inside m k) (present v) t l)) (sym there) stood;
           means = λ _ _. rw there;
         }
     go (end.Fault j i) e = refuse r e (end-fault _ stood e)
@@ -48,5 +48,5 @@ lines-read m k v {s} t l r h = go (r .end) refl
 -- and where that line is missing
 pub none-read : (m k : ℕ) {s : List ℕ} {p : Cursor} (r : CoverLines) → (r .end ≡ end.At p) × (r .there ≡ false) × (coverOf (r .cover) ≡ noCover) → Stands s p
     → CoverRead s r (ifPresent (inside m k) missing (drop (p .at) s) (p .line))
-unfolding ifPresent return ended linesOf meantCover
+unfolding ifPresent return ended coverThere meantCover
 none-read m k r h stands = record { reads = rw (h .0, h .1) (record { is = refl; stands = stands }); means = λ _ _. rw (h .1) (sym (h .2)) }

@@ -22,9 +22,9 @@ abbrev pub noCover : grammar.Cover
 noCover = record { removal = 0; holders = [] }
 
 -- what lines say that stand or not
-unfoldable pub linesOf : Bool → grammar.Cover → Optional grammar.Cover
-linesOf true c = present c
-linesOf false c = missing
+unfoldable pub coverThere : Bool → grammar.Cover → Optional grammar.Cover
+coverThere true c = present c
+coverThere false c = missing
 
 -- what they mean
 unfoldable pub meantCover : Optional grammar.Cover → grammar.Cover
@@ -38,5 +38,5 @@ pub record InsideRead (s : List ℕ) (r : CoverLines) (x : Parsed grammar.Cover)
 
 -- the lines were read: they are what the grammar gives, and mean the cover that is there
 pub record CoverRead (s : List ℕ) (r : CoverLines) (x : Parsed (Optional grammar.Cover)) : Type 0 where
-  pub reads : Reads s (ended (r .end) (linesOf (r .there) (coverOf (r .cover)))) x
-  pub means : (q : Cursor) → r .end ≡ end.At q → meantCover (linesOf (r .there) (coverOf (r .cover))) ≡ coverOf (r .cover)
+  pub reads : Reads s (ended (r .end) (coverThere (r .there) (coverOf (r .cover)))) x
+  pub means : (q : Cursor) → r .end ≡ end.At q → meantCover (coverThere (r .there) (coverOf (r .cover))) ≡ coverOf (r .cover)

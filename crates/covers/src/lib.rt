@@ -9,6 +9,7 @@ use lines::rows::Cursor;
 use lines::rows::End;
 use lines::rows::Row;
 use lines::rows::advance;
+use model::PARTS;
 ghost use mathlib.Core.Path.{_≡_};
 ghost use mathlib.Core.Bool.{false};
 ghost use Prim.Native.Nat.{_≤_};
@@ -23,7 +24,7 @@ ghost use Rattle.model.specs.Limits.{mostParts};
 // What removing a part costs, and its holders: mark j says whether part j + 1 is one.
 pub struct Cover {
     pub removal: u32,
-    pub holders: [bool; 16],
+    pub holders: [bool; PARTS],
 }
 
 impl Cover {
@@ -33,7 +34,7 @@ impl Cover {
     {
         Cover {
             removal: 0,
-            holders: [false; 16],
+            holders: [false; PARTS],
         }
     }
 }
@@ -41,7 +42,7 @@ impl Cover {
 // Holders read, and where they end.
 pub struct Holders {
     pub end: End,
-    pub holders: [bool; 16],
+    pub holders: [bool; PARTS],
 }
 
 // A cover read, whether its lines stand, and where they end.
@@ -77,7 +78,7 @@ fn read_holders(text: &[u8], p: Cursor, m: u32, k: u32, n: usize) -> Holders
     requires { ⌜ Stands (now text) p × (m ≤ mostParts) ⌝ }
     ensures { λ r. ⌜ Reads (now (text .entry)) (ended (r .end) (numbersOf (r .holders))) (holders m k n (drop (p .at) (now (text .entry))) (p .line)) ⌝ }
 {
-    let mut marks = [false; 16];
+    let mut marks = [false; PARTS];
     let mut q = p;
     let mut before: u32 = 0;
     let mut i: usize = 0;

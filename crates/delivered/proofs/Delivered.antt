@@ -15,7 +15,9 @@ use Rattle.model.specs.Due.{latePart}
 use Rattle.model.specs.LowerBound.{stopsAt, placesAt, undecidedFees}
 use mathlib.Core.List.{map}
 use Rattle.job_grammar.specs.Rendering.{jobText}
-use Rattle.job_grammar.proofs.Accepted.{valid}
+use Rattle.bands.proofs.Monotone.{cost-band}
+use Rattle.job_grammar.specs.Grammar.{meant}
+use Rattle.job_grammar.proofs.Accepted.{valid, valid-text}
 use Rattle.job_grammar.proofs.Published.{text-published, text-published-running}
 use Rattle.job_grammar.proofs.Complete.{read-back, accepted-exactly}
 use Rattle.job_grammar.proofs.Lengths.{text-short}
@@ -26,9 +28,12 @@ use Rattle.plan_grammar.proofs.Rendered.{text-is}
 use Rattle.plan_grammar.proofs.Printed as printed
 use Rattle.plan_grammar.proofs.Numbered as plans
 use Rattle.plan_grammar.proofs.Nothing.{nothing-is}
+use Rattle.carry.proofs.Worn.{judge-worn, worn-no-plan}
 use Rattle.hall.proofs.Promised.{promise as hall-promise}
 use Rattle.hall.proofs.Unique.{only as hall-only}
+use Rattle.price_rules.proofs.Prices.{rule-is}
 use Rattle.alike.proofs.Meaning.{by-meaning, walk-set-aside}
+use Rattle.alike.proofs.Rules.{rules-out}
 use Rattle.before_holders.proofs.Answers.{as-before}
 use Rattle.starred.proofs.Proved.{proved}
 use Prim.Native.Nat.{ℕ, _≤_}
@@ -63,7 +68,7 @@ delivered = record {
   X3-exactly = accepted-exactly;
   X4-read = λ text r plan stated e. (shaped (r .given .job) plan stated e, text-is (r .given .job) (valid text (r .given) (r .is) .job) plan stated e);
   X4-back = λ text r cost plan h shape. printed.read-back (r .given .job) (valid text (r .given) (r .is) .job) cost plan h shape;
-  E2-5-longest = λ text t e. let a = accepted-exactly text t .0 e in subst (λ (s : List ℕ). length s ≤ 22109) (sym (a .1)) (text-short t (a .0));
+  E2-5-longest = λ text t e. let a = accepted-exactly text t .0 e in subst (λ (s : List ℕ). length s ≤ 33373) (sym (a .1)) (text-short t (a .0));
   E2-5-reached = (jobText longestText, longestText, read-back longestText longest-valid, reached);
   R1-job-fault = jobs.fault;
   R1-plan-fault = plans.fault;
@@ -80,6 +85,11 @@ delivered = record {
   D9-table-3 = judge-5180;
   D9-table-4 = judge-11690;
   E10-aside = walk-set-aside;
+  E8-2-price = rule-is;
+  E8-5-written-out = rules-out;
+  E11-band = λ text t e plan. cost-band (meant t .low) (meant t .job) plan (valid-text text t e .means .ordered);
+  E12-4-due = λ text r plan part due late worn runs. judge-worn (r .given .job) plan part due (r .given .job .horizon) late worn runs (valid text (r .given) (r .is) .job .rising);
+  E12-4-no-plan = λ text r i inside worn runs has. worn-no-plan (r .given .job) i (r .given .job .horizon) inside worn runs (valid text (r .given) (r .is) .job .rising) has;
   E14-9-hall = hall-promise;
   D1-hall = hall-only;
 }

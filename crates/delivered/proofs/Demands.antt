@@ -14,6 +14,7 @@ use Rattle.answers.specs.Said.{Said, lent}
 use Rattle.judging.specs.Judge.{judgeSaid, judgeRoom}
 use Rattle.judging.specs.Promise as judging
 use Rattle.judging.proofs.Promised as judged
+use Rattle.plan_printing.specs.Printed.{lowLines}
 use Rattle.planning.specs.Plan.{searchLines, saidFor, walkNumber, planSaid, planRoom}
 use Rattle.planning.specs.Promise.{Prints, PlanPromise}
 use Rattle.planning.proofs.Promised as planned
@@ -58,7 +59,7 @@ module _ (text : List ℕ) (walk room : ℕ) where
   )
 
   -- the plan of an answer 0
-  cheapest : (r : Reading text) (s : Said) (a : PlannerAnswer) → Promise (jobIn r) (walkNumber walk) a → s ≡ saidFor (jobIn r) a → Prints text (jobIn r) s a → s .result ≡ 0 → Cheapest (jobIn r) s
+  cheapest : (r : Reading text) (s : Said) (a : PlannerAnswer) → Promise (jobIn r) (walkNumber walk) a → s ≡ saidFor (r .given) a → Prints text (r .given) s a → s .result ≡ 0 → Cheapest (r .given) s
   cheapest r s no-plan p e q z = let w : s .result ≡ 6 = ap (λ (t : Said). t .result) e in absurd (omega (arith, w, z))
   cheapest r s (cut-none n f) p e q z = let w : s .result ≡ 7 = ap (λ (t : Said). t .result) e in absurd (omega (arith, w, z))
   cheapest r s (cut n f c plan) p e q z = let w : s .result ≡ 7 = ap (λ (t : Said). t .result) e in absurd (omega (arith, w, z))
@@ -68,7 +69,7 @@ module _ (text : List ℕ) (walk room : ℕ) where
     cost = c;
     plan = plan;
     lines = q .lines;
-    written = q .written ∙ ap (λ (k : ℕ). searchLines k n f ++ q .lines) z;
+    written = q .written ∙ ap (λ (k : ℕ). searchLines k n f ++ (lowLines (r .given) plan ++ q .lines)) z;
     reads-back = q .reads-back;
     meets = tied r plan .keeps .0 (p .plan-for .keeps);
     states = sym (p .plan-for .states) ∙ tied r plan .cost;
@@ -76,7 +77,7 @@ module _ (text : List ℕ) (walk room : ℕ) where
   }
 
   -- D6, D7, by the published constraints and objective
-  pub planner-0 : said .result ≡ 0 → (r : Reading text) → Cheapest (jobIn r) said
+  pub planner-0 : said .result ≡ 0 → (r : Reading text) → Cheapest (r .given) said
   planner-0 e r =
       let room-is = promises .says-0 .0 e .0 in
       let a = promises .answers room-is r in

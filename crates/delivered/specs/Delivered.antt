@@ -10,20 +10,23 @@ use Rattle.branch.specs.declared.Bound.the-variants.{Missing, Sum}
 use Rattle.branch.specs.Search.{whole}
 use Rattle.lines.specs.Text.{bytes}
 use Rattle.lines.specs.Parser.{accepted, refused}
-use Rattle.model.specs.Model.{Part, Job, Plan, running, clock, end, within, comesOut, Chain, outAt, sumAt, sum, feeOf, removalOf, pricesOf, costOf, KeepsPart, KeepsLives}
+use Rattle.model.specs.Model.{Part, Job, Plan, running, clock, end, within, comesOut, Chain, outAt, sumAt, sum, feeOf, removalOf, pricesOf, costOf, KeepsPart, KeepsLives, HasPlan, listed}
 use Rattle.model.specs.Limits.{maxBytes, mostCost}
 use Rattle.model.specs.Decisions.{Held}
 use Rattle.model.specs.LowerBound.{stopsAt, placesAt, partBound, undecidedFees, partFee, boundOf}
 use Rattle.model.specs.Estimate.{LeastOver}
 use Rattle.model.specs.Earlier.{oldTree, oldAnswer}
 use Rattle.model.specs.Promise.{PlannerAnswer, optimum, wholeCount, answerOf, Promise}
-use Rattle.model.specs.Verdict.{Judgement, accepts, judgedOf, JudgementPromise, LowestUnkept, Shaped}
+use Rattle.model.specs.Verdict.{Judgement, accepts, judgedOf, JudgementPromise, partAt, LowestUnkept, Shaped}
 use Rattle.model.specs.Due.{latePart, changeBefore}
 use Rattle.model.specs.Dismounting.{Dismounts}
 use Rattle.model.specs.Published.{Published, PublishedRunning, Tied}
 use Rattle.model.specs.Tables.{table1, table2, table3, table4}
+use Rattle.bands.specs.Bands.{CostBand}
 use Rattle.jobs.specs.Valid.{All}
+use Rattle.price_rules.specs.Rule.{Rule, rulePrice, statedPrice}
 use Rattle.job_grammar.specs.Grammar.{JobText, meant, readJob, readJobText}
+use Rattle.job_grammar.specs.Grammar as job
 use Rattle.job_grammar.specs.Rendering.{jobText}
 use Rattle.job_grammar.specs.Valid.{ValidText}
 use Rattle.job_grammar.specs.Reading.{Reading, jobIn}
@@ -37,9 +40,9 @@ use Rattle.judging.specs.Promise as judging
 use Rattle.planning.specs.Plan.{planSaid, planRoom}
 use Rattle.hall.specs.Hall.{Hall, Proper}
 use Rattle.hall.specs.Promise.{HallAnswer, hallAnswer, HallPromise}
-use Rattle.alike.specs.Alike.{AnsweredAlike, WalkSetAside}
+use Rattle.alike.specs.Alike.{AnsweredAlike, WalkSetAside, RulesOut}
 use Rattle.before_holders.specs.AsBefore.{AsBefore}
-use Rattle.starred.specs.Table.{Holds, Counts, cases, counts}
+use Rattle.starred.specs.Table.{CaseHolds, Counts, cases, counts}
 use Rattle.delivered.specs.Terms.{SomeLost, Meets, StatesObjective, Feasible, Cheapest}
 
 pub record Delivered : Type 0 where
@@ -61,7 +64,7 @@ pub record Delivered : Type 0 where
   -- D5. "The planner says 6 exactly if the job is accepted and has no plan."
   pub D5-planner : (text : List ℕ) (walk room : ℕ) → (lent planRoom room (planSaid text walk) .result ≡ 6) ↔ ((planRoom ≤ room) × ((r : Reading text) × (Feasible (jobIn r) → ⊥)))
   -- D6, D7. "result 0, and a plan that keeps every life, states its true cost, is of least cost": "Least cost is over all plans of the model"
-  pub D6-least : (text : List ℕ) (walk room : ℕ) → lent planRoom room (planSaid text walk) .result ≡ 0 → (r : Reading text) → Cheapest (jobIn r) (lent planRoom room (planSaid text walk))
+  pub D6-least : (text : List ℕ) (walk room : ℕ) → lent planRoom room (planSaid text walk) .result ≡ 0 → (r : Reading text) → Cheapest (r .given) (lent planRoom room (planSaid text walk))
   -- D1. "for each input, every byte and number handed over": no other answer keeps the model's promise of the planner, nor that of the judge
   pub D1-planner : (job : Job) (limit : ℕ) (answer : PlannerAnswer) → Promise job limit answer → answer ≡ answerOf job limit
   pub D1-judge : (job : Job) (plan : Plan) (cost : ℕ) (j : Judgement) → JudgementPromise job cost plan j → j ≡ judgedOf job cost plan
@@ -92,11 +95,11 @@ pub record Delivered : Type 0 where
   -- X4. and the lines of any plan of the job are accepted, and read as that plan
   pub X4-back : (text : List ℕ) (r : Reading text) (cost : ℕ) (plan : Plan) → cost ≤ mostCost → Shaped (jobIn r) plan
       → readPlan (jobIn r) (planLinesOf (jobIn r) cost plan) ≡ accepted (record { cost = cost; plan = plan })
-  -- E2.5. "The longest has 22,109 bytes."
-  pub E2-5-longest : (text : List ℕ) (t : JobText) → readJobText text ≡ accepted t → length text ≤ 22109
-  pub E2-5-reached : (text : List ℕ) × (t : JobText) × (readJobText text ≡ accepted t) × (length text ≡ 22109)
+  -- E2.5. "The longest has 22,109 bytes.": with E11's pairs 33,373
+  pub E2-5-longest : (text : List ℕ) (t : JobText) → readJobText text ≡ accepted t → length text ≤ 33373
+  pub E2-5-reached : (text : List ℕ) × (t : JobText) × (readJobText text ≡ accepted t) × (length text ≡ 33373)
   -- R1 to R5, R12. a job text's faults: no other number, and no line beyond the one after the text's last
-  pub R1-job-fault : (text : List ℕ) (number line : ℕ) → readJob text ≡ refused number line → JobFault number × (line ≤ maxBytes + 1)
+  pub R1-job-fault : (text : List ℕ) (number line : ℕ) → readJob text ≡ refused number line → JobFault number × (line ≤ job.maxBytes + 1)
   -- R1 to R3, R9. a plan text's
   pub R1-plan-fault : (job : Job) (text : List ℕ) (number line : ℕ) → readPlan job text ≡ refused number line → PlanFault number × (line ≤ maxBytes + 1)
   -- E5.1. "An empty plan text means a plan of no stops and cost 0."
@@ -125,7 +128,7 @@ pub record Delivered : Type 0 where
   -- ---- cases
 
   -- D9, C1 to C12, E4.3, E6.4. "the starred ones and the job above form one table of definitions with one proof"
-  pub D9-cases : All Holds cases × All Counts counts
+  pub D9-cases : All CaseHolds cases × All Counts counts
   -- E7.11. "The judge must price the plan of Table 2 in 001 at 4100."
   pub E7-11-table-2 : judgedOf (table1 10) 4100 table2 ≡ accepts 4100
   -- D9. "the plan tables 2, 3 and 4 of 001 (4100, 5180, 11690)"
@@ -133,6 +136,16 @@ pub record Delivered : Type 0 where
   pub D9-table-4 : judgedOf (table1 1000) 11690 table4 ≡ accepts 11690
   -- E10. "A job's `walk` line, if it still stands, is checked as before and set aside."
   pub E10-aside : WalkSetAside
+  -- E8.2. "Opening number k, counted from 0, then has price base minus k times drop, or least if that is larger.": the clause in integers
+  pub E8-2-price : (r : Rule) (k : ℕ) → pos (rulePrice r k) ≡ statedPrice r k
+  -- E8.5. "plans and verdicts are those of the job with the lines written out"
+  pub E8-5-written-out : RulesOut
+  -- E11. "For every choice of prices within the bands the plan's cost lies between the two.": of every accepted text and every plan
+  pub E11-band : (text : List ℕ) (t : JobText) → readJobText text ≡ accepted t → (plan : Plan) → CostBand (meant t .low) (meant t .job) plan
+  -- E12.4. "From here on `left` may be 0: change before the next running step; if step 1 runs, `due` is then 0."
+  pub E12-4-due : (text : List ℕ) (r : Reading text) (plan : Plan) (part due : ℕ) (late : LowestUnkept (jobIn r) plan part due) → latePart late .left ≡ 0 → listed (jobIn r .idles) 1 ≡ false → due ≡ 0
+  -- E12.4. and then no plan keeps the part
+  pub E12-4-no-plan : (text : List ℕ) (r : Reading text) (i : ℕ) → i < length (jobIn r .parts) → partAt (jobIn r) i .left ≡ 0 → listed (jobIn r .idles) 1 ≡ false → HasPlan (jobIn r) → ⊥
   -- ---- a hall, which no call plans yet
 
   -- E14.6 to E14.9. 6 exactly if some line has no plan; 0, or 7 exactly if the whole walk has more points; the best hall plan; with call 0 "the sum of the lines' own least costs"

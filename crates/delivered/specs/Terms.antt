@@ -13,6 +13,8 @@ use Rattle.model.specs.Published.{PublishedRunning, objective}
 use Rattle.plan_grammar.specs.Grammar.{readPlan}
 use Rattle.answers.specs.Said.{Said}
 use Rattle.judging.specs.Promise as judging
+use Rattle.job_grammar.specs.Grammar.{Given}
+use Rattle.plan_printing.specs.Printed.{lowLines}
 use Rattle.planning.specs.Plan.{searchLines}
 
 -- ---- the estimate
@@ -41,15 +43,16 @@ module _ {job plan : List ℕ} where
 abbrev pub Feasible : Job → Type 0
 Feasible job = (plan : Plan) × PublishedRunning job plan
 
--- D6, D7. what is printed with 0: behind `floor` a plan that meets the published constraints, its objective as its cost, and no plan that meets them has a smaller one
-pub record Cheapest (job : Job) (s : Said) : Type 0 where
+-- D6, D7. what is printed with 0: behind `floor`, E11. and behind the cost at the low ends where the job text has a `low` line, a plan that meets the published constraints, its objective as its cost, and no plan that meets
+-- them has a smaller one
+pub record Cheapest (given : Given) (s : Said) : Type 0 where
   pub nodes : ℕ
   pub floor : ℕ
   pub cost : ℕ
   pub plan : Plan
   pub lines : List ℕ
-  pub written : s .bytes ≡ searchLines 0 nodes floor ++ lines
-  pub reads-back : readPlan job lines ≡ accepted (record { cost = cost; plan = plan })
-  pub meets : PublishedRunning job plan
-  pub states : cost ≡ objective job plan
-  pub least : (other : Plan) → PublishedRunning job other → cost ≤ objective job other
+  pub written : s .bytes ≡ searchLines 0 nodes floor ++ (lowLines given plan ++ lines)
+  pub reads-back : readPlan (given .job) lines ≡ accepted (record { cost = cost; plan = plan })
+  pub meets : PublishedRunning (given .job) plan
+  pub states : cost ≡ objective (given .job) plan
+  pub least : (other : Plan) → PublishedRunning (given .job) other → cost ≤ objective (given .job) other

@@ -12,7 +12,7 @@ use Rattle.covers.specs.Grammar.{inside, cover}
 use Rattle.part_lines.specs.Grammar.{PartText}
 use Rattle.part_lines.specs.Behind.{Behind}
 use Rattle.part_lines.proofs.Behind.{behind-none}
-use Rattle.form_writing.specs.Cut.{partCut}
+use Rattle.part_writing.specs.Cut.{partCut}
 
 -- a line begins with its key
 pub starts-line : (key : List ℕ) (v : ℕ) (t : List ℕ) → startsWith key (line key v ++ t) ≡ true
@@ -35,4 +35,4 @@ module _ (m k r : ℕ) (t : List ℕ) (l : ℕ) where
 pub cut-next : (ps : List PartText) → Behind (texts partCut ps)
 unfolding startsWith line bytes partCut
 cut-next [] = behind-none
-cut-next (p ∷ ps) = record { removal = refl }
+cut-next (p ∷ ps) = record { removal = refl; base = refl }

@@ -23,9 +23,11 @@ use Rattle.form.specs.Form.{idleCountText}
 
 -- ---- the line after them
 
+-- where there are no idle steps, the line after them is line 2
 pub after-none : (n : ℕ) → n ≡ 0 → lineAfter n ≡ 2
 after-none n e = rw (eq-eqb n 0 e)
 
+-- where there are n idle steps, the line after them is line 3 + n
 pub after-some : (n : ℕ) → 1 ≤ n → lineAfter n ≡ 3 + n
 after-some n h = rw (ne-eqb n 0 (λ e. omega (arith, e)))
 
@@ -35,6 +37,7 @@ after-some n h = rw (ne-eqb n 0 (λ e. omega (arith, e)))
 abbrev pub numbered : List ℕ → List ℕ → List ℕ
 numbered is t = lineOf "idles=" (countOf 365 true (length is)) ++ (texts (lineOf "idle=") is ++ t)
 
+-- where there are idle steps, their text is the line of their number and their own lines
 pub text-some : (is t : List ℕ) → 1 ≤ length is → optionalText idleCountText (idleLines is) ++ t ≡ numbered is t
 unfolding idleLines idleCountText
 text-some [] t h = absurd (omega arith)
@@ -44,6 +47,7 @@ text-some (i ∷ is) t h = append-assoc (lineOf "idles=" (countOf 365 true (leng
 abbrev pub stepsIf : List ℕ → List ℕ → Bool → List ℕ
 stepsIf is t b = cond b (texts (lineOf "idle=") is) [] ++ t
 
+-- where there are idle steps, the cut text has their own lines only if they are not too many
 pub cut-some : (is t : List ℕ) → 1 ≤ length is → optionalText idlesCut (idleLines is) ++ t ≡ lineOf "idles=" (countOf 365 true (length is)) ++ stepsIf is t (leb (length is) 365 && true)
 unfolding idleLines idlesCut countedCut
 cut-some [] t h = absurd (omega arith)

@@ -35,10 +35,12 @@ use Rattle.form.proofs.Returned.{same-text, agrees, fits, returned}
 
 -- ---- what the lines give is what the form is read as
 
+-- a form whose lines say a text with nothing left behind is read as that text
 pub form-accepted : (f : Form) (t : JobText) (l : ℕ) → jobLines (formText f) 1 ≡ good t [] l → readForm f ≡ accepted t
 unfolding readForm whole ends return
 form-accepted f t l e = ap finish (bind-good jobLines _ e ∙ bind-good ends _ refl)
 
+-- a form whose lines have a fault is refused with its number and line
 pub form-refused : (f : Form) (n l : ℕ) → jobLines (formText f) 1 ≡ fault n l → readForm f ≡ refused n l
 unfolding readForm whole
 form-refused f n l e = ap finish (bind-fault jobLines _ e)
@@ -52,15 +54,17 @@ cut-reads f held = go (form-back f held)
     go (back g l h i) = ap finish (bind-good jobLines _ i ∙ bind-good ends _ refl) ∙ sym (form-accepted f (stated f) l h)
     go (broken n m w h i) = ap finish (bind-fault jobLines _ i) ∙ sym (form-refused f n m h)
 
-pub cut-says : (f : Form) → Held f → length (cut f) ≤ writeRoom → saidFor (readJobText (cut f)) ≡ writeSaid f
+-- what is said of the text written to be read is the writer's answer, if it fits
+pub cut-says : (f : Form) → Held f → saidFor (finish (whole jobLines (cut f) 1)) ≡ writeSaid f
 unfolding writeSaid
-cut-says f held few = ap saidFor (sym (text-fits maxBytes jobLines (cut f) few) ∙ cut-reads f held)
+cut-says f held = ap saidFor (cut-reads f held)
 
 -- what was written from the start on is the front
 front : (xs ys : List ℕ) → take (length xs) (xs ++ ys) ≡ xs
 front [] ys = refl
 front (x ∷ xs) ys = ap (λ (l : List ℕ). x ∷ l) (front xs ys)
 
+-- what was written from the start on is the front of the slice, up to the written length
 pub written-front : {d xs e : List ℕ} {n : ℕ} → length xs ≤ length d → Wrote d 0 xs e n → take n e ≡ xs
 written-front {d} {xs} h w = let v = wrote.written h w in ap₂ (λ (k : ℕ) (l : List ℕ). take k l) (v .1) (v .0) ∙ front xs (drop (length xs) d)
 
@@ -119,7 +123,7 @@ module _ (f : Form) (held : Held f) (room : ℕ) where
       record {
         idles = omega (arith, j .few-idles, ap length (idle-steps (f .idles)));
         openings = omega (arith, j .few-openings, paired-size (f .openings) (f .fees) (agree .fees));
-        parts = omega (arith, j .few-parts, length-map (stated f .parts) meantPart, parts-size (length (f .openings)) (f .parts) (agree .parts));
+        parts = omega (arith, j .few-parts, length-map (stated f .parts) (meantPart (length (stated f .openings))), parts-size (length (f .openings)) (f .parts) (agree .parts));
       }
 
   -- and so it is what the form is read as

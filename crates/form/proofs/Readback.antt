@@ -18,6 +18,7 @@ pub data Readback {A : Type 0} (F : ℕ → Type 0) (G : Type 0) (a : A) (s t : 
   broken : (n m : ℕ) → F n → x ≡ fault n m → y ≡ fault n m → Readback F G a s t x y
 
 module _ {A : Type 0} {F : ℕ → Type 0} {G : Type 0} {a : A} {s t : List ℕ} {x y x′ y′ : Parsed A} where
+  -- answers that are the same as two that read back, or fail alike, do so themselves
   pub same-back : x′ ≡ x → y′ ≡ y → Readback F G a s t x y → Readback F G a s t x′ y′
   same-back e f (back g l h i) = back g l (e ∙ h) (f ∙ i)
   same-back e f (broken n m w h i) = broken n m w (e ∙ h) (f ∙ i)
@@ -28,11 +29,13 @@ pub bind-back : {A B : Type 0} {F : ℕ → Type 0} {G H : Type 0} (p : Parser A
 bind-back p f (back g l h i) k = same-back (bind-good p f h) (bind-good p f i) (k g l)
 bind-back p f (broken n m w h i) k = broken n m w (bind-fault p f h) (bind-fault p f i)
 
+-- a value returned without reading leaves what is behind each of the two texts
 pub return-back : {A : Type 0} {F : ℕ → Type 0} {G : Type 0} (a : A) (s t : List ℕ) (l : ℕ) → G → Readback F G a s t (return a s l) (return a t l)
 unfolding return
 return-back a s t l g = back g l refl refl
 
 module _ (F : ℕ → Type 0) where
+  -- the line of a value is read back as the value, or is fault 3 in both texts
   pub row-back : F 3 → (key : List ℕ) (lo hi v : ℕ) → v < 10 ^ 10 → (s t : List ℕ) (l : ℕ) → Readback F (Unit {0}) v s t (rowAt key lo hi (line key v ++ s) l) (rowAt key lo hi (line key v ++ t) l)
   row-back f key lo hi v few s t l = go (decLt v lo) (decLt hi v)
     where
@@ -41,6 +44,7 @@ module _ (F : ℕ → Type 0) where
       go (no h) (yes g) = broken 3 l f (value-high key lo hi v few s l (omega (arith, h)) g) (value-high key lo hi v few t l (omega (arith, h)) g)
       go (no h) (no g) = back tt (l + 1) (value-in key lo hi v few s l (omega (arith, h)) (omega (arith, g))) (value-in key lo hi v few t l (omega (arith, h)) (omega (arith, g)))
 
+  -- with a further rule, a value is read back or is the same fault in both texts
   pub checked-back : (k : ℕ) → F k → (ok : ℕ → Bool) (p : Parser ℕ) (v : ℕ) {x y s t : List ℕ} (l : ℕ) → Readback F (Unit {0}) v s t (p x l) (p y l) → Readback F (Unit {0}) v s t (checked k ok p x l) (checked k ok p y l)
   checked-back k f ok p v {x} {y} {s} {t} l (back g m h i) = go (ok v) refl
     where

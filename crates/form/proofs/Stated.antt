@@ -1,26 +1,33 @@
--- A form's text is read as what the form states, and then its lists agree and are not too long; or it has a fault of number 3, 4, 5 or 12; and the text that is written to be read gives the same (`form-back`). By the grammar's lines, one after the other.
-use Prim.Native.Nat.{ℕ, zero, suc, _+_, _*_, _^_, _≤_, _<_}
+-- A form's text is read as what the form states, and then its lists agree and are not too long; or it has a fault of number 3, 4, 5, 12 or 13; and the text that is written to be read gives the same (`form-back`). By the grammar's lines, one after the other.
+use Prim.Native.Nat.{ℕ, zero, suc, _+_, _-_, _*_, _^_, _≤_, _<_}
 use mathlib.Core.Path.{_≡_, refl, sym, ap, ap₂, subst, _∙_}
 use mathlib.Core.Bool.{Bool, true, false, _&&_, cond, and-eq-true-iff, false≢true}
 use mathlib.Core.List.{List, [], _∷_, _++_, append-assoc}
 use mathlib.Core.Logic.{inl, inr}
 use native.Mathlib.Omega.{arith}
 use native.Mathlib.Decide.{decLt}
-use native.Mathlib.Nat.{suc-mul, min-le-left}
+use native.Mathlib.Nat.{suc-mul, zero-mul, min-le-left}
 use borrow.Author.Tests.{leb-true, le-leb, eqb-true}
 use lib.Dec.{leb}
 use lib.ListN.{length, getD, take, drop, length-take, length-drop}
 use lib.Seq.{getD-drop, length-take-le}
 use Rattle.lines.specs.Line.{startsWith}
 use Rattle.lines.specs.Text.{bytes, line, lineOf, texts, Optional, missing, present, optionalText}
-use Rattle.lines.specs.Parser.{Parsed, good, return, row, rowAt, optional, checked, chain, times, rising, upTo, ifPresent}
-use Rattle.lines.proofs.Parsing.{optional-missing}
+use Rattle.lines.specs.Parser.{Parsed, good, fault, _>>=_, return, row, rowAt, optional, checked, chain, times, rising, upTo, ifPresent}
+use Rattle.lines.proofs.Parsing.{bind-good, optional-there, optional-missing}
 use Rattle.lines.proofs.Sound.{Chained}
 use Rattle.lines.proofs.ValueLines.{value-in, value-high}
 use Rattle.model.specs.Model.{Opening}
 use Rattle.jobs.specs.Valid.{All}
+use Rattle.jobs.proofs.Lists.{each-chained}
 use Rattle.covers.specs.Grammar.{Cover, other, holder, holders, inside, cover}
 use Rattle.covers.specs.Rendering.{coverText}
+use Rattle.quotes.specs.Grammar.{Quote, single, pair, atLeast, unlessLow, quote}
+use Rattle.quotes.specs.Rendering.{quoteText}
+use Rattle.price_rules.specs.Rule.{Rule}
+use Rattle.price_rules.specs.Grammar.{afterBase, rule, Prices, byList, byRule, unlessRuled, prices}
+use Rattle.price_rules.specs.Rendering.{ruleText, pricesText}
+use Rattle.price_rules.proofs.Complete.{list-next}
 use Rattle.job_grammar.specs.Grammar.{JobText, idle, idleSteps, idles, opening, openings, parts, body, rest, jobLines}
 use Rattle.part_lines.specs.Grammar.{PartText, afterLeft, part, following}
 use Rattle.job_grammar.specs.Rendering.{openingText}
@@ -28,16 +35,17 @@ use Rattle.part_lines.specs.Rendering.{partText}
 use Rattle.job_grammar.specs.Optionals.{idleLines}
 use Rattle.job_grammar.proofs.Complete.{walk-next, openings-next}
 use Rattle.part_lines.specs.Behind.{Behind}
-use Rattle.part_lines.proofs.Behind.{prices-behind, parts-last}
+use Rattle.part_lines.proofs.Behind.{prices-next, parts-last}
 use Rattle.job_grammar.proofs.Optionals.{some-idles}
-use Rattle.form_facts.specs.Facts.{PartLists, paired, coversOf, grouped, feesAgree, partsAgree, PartsAgree, countOf, countedText}
+use Rattle.form_facts.specs.Facts.{PartLists, paired, coversOf, rulesOf, quotesFrom, quotesIn, countedFor, pricesFrom, grouped, sumAll, feesAgree, partsAgree, PartsAgree, countOf, countedText}
 use Rattle.form_facts.proofs.CountLines.{count-in, count-out}
-use Rattle.form_facts.proofs.Facts.{paired-size, parts-size, agree-says}
-use Rattle.form_writing.specs.Cut.{countedCut, insideCut, coverCut, partCut, idlesCut, partsCut, bodyCut, restCut, formCut}
+use Rattle.form_facts.proofs.Facts.{paired-size, parts-size, quotes-size, marks-few, agree-says}
+use Rattle.part_writing.specs.Cut.{insideCut, coverCut, partCut}
+use Rattle.form_writing.specs.Cut.{countedCut, idlesCut, partsCut, bodyCut, restCut, formCut}
 use Rattle.form.specs.Form.{Form, stated, idleCountText, bodyOf, restOf, formText}
 use Rattle.form.specs.Promise.{Agree, Few, FormFault}
 use Rattle.form.proofs.Readback.{Readback, back, broken, same-back, bind-back, return-back, row-back, checked-back, chain-back}
-use Rattle.form.proofs.CoverLines.{cover-none, removal-there, cut-next}
+use Rattle.form.proofs.CoverLines.{starts-line, cover-none, removal-there, cut-next}
 use Rattle.form.proofs.IdleLines.{text-some, stepsIf, cut-some, idles-none, number-there}
 
 -- the writer's refusals of a line
@@ -53,6 +61,9 @@ five = inl (omega arith, omega arith)
 twelve : FormFault 12
 twelve = inr (omega arith, omega arith)
 
+thirteen : FormFault 13
+thirteen = inr (omega arith, omega arith)
+
 -- a number can be written: it has at most ten digits
 abbrev Short : ℕ → Type 0
 Short v = v < 10 ^ 10
@@ -63,15 +74,32 @@ Small xs = (i : ℕ) → getD xs i 0 < 4294967296
 
 -- and all of a form, whose numbers have 32 bits
 pub record Held (f : Form) : Type 0 where
+  -- the horizon that the form gives has 32 bits
   pub horizon : f .horizon < 4294967296
+  -- each idle step that the form gives has 32 bits
   pub idles : Small (f .idles)
   pub openings : Small (f .openings)
+  -- each fee that the form gives has 32 bits
   pub fees : Small (f .fees)
+  -- each life that the form gives has 32 bits
   pub lives : Small (f .parts .lives)
+  -- each first life that the form gives has 32 bits
   pub lefts : Small (f .parts .lefts)
+  -- each removal that the form gives has 32 bits
   pub removals : Small (f .parts .removals)
+  -- each number of holders that the form gives has 32 bits
   pub insides : Small (f .parts .insides)
+  -- each holder's number that the form gives has 32 bits
   pub holders : Small (f .parts .holders)
+  -- each base of a rule that the form gives has 32 bits
+  pub bases : Small (f .parts .bases)
+  -- each drop of a rule that the form gives has 32 bits
+  pub drops : Small (f .parts .drops)
+  -- each least price of a rule that the form gives has 32 bits
+  pub leasts : Small (f .parts .leasts)
+  -- each low end that the form gives has 32 bits
+  pub lows : Small (f .parts .lows)
+  -- each price that the form gives has 32 bits
   pub prices : Small (f .parts .prices)
 
 small-chained : (next : ℕ → ℕ → ℕ) (prev : ℕ) (xs : List ℕ) → Small xs → Chained (λ _. Short) next prev xs
@@ -210,32 +238,130 @@ cover-back m k (present c) few s t l other other′ =
 
 -- ---- parts
 
--- a part with n prices
+-- numbers of a price that can be written
+abbrev pub ShortQuote : Quote → Type 0
+ShortQuote (single p) = Short p
+ShortQuote (pair l h) = Short l × Short h
+
+-- those of a part's prices: of a rule, or n listed ones
+abbrev pub ShortPrices : ℕ → Prices → Type 0
+ShortPrices n (byList qs) = (length qs ≡ n) × All ShortQuote qs
+ShortPrices n (byRule r) = Short (r .base) × Short (r .drop) × Short (r .least)
+
+-- where a rule stands, the base's line decides first
+base-there : (b : ℕ) (t : List ℕ) (l : ℕ) → rule (lineOf "base=" b ++ t) l ≡ ((row "base=" 1 1000000 >>= λ v. return (present v)) >>= ifPresent afterBase) (lineOf "base=" b ++ t) l
+unfolding rule _>>=_
+base-there b t l =
+    ap (λ (y : Parsed (Optional ℕ)). elim y [ good a s i ↦ ifPresent afterBase a s i | fault n i ↦ fault n i ])
+    (optional-there (bytes "base=") 1 1000000 (lineOf "base=" b ++ t) l (starts-line (bytes "base=") b t))
+
+-- the lines behind it
+base-back : (r : Rule) → ShortPrices 0 (byRule r) → (s t : List ℕ) (l : ℕ) → let u : List ℕ → List ℕ = λ v. lineOf "drop=" (r .drop) ++ (lineOf "least=" (r .least) ++ v) in
+    Readback FormFault (Unit {0}) r s t (afterBase (r .base) (u s) l) (afterBase (r .base) (u t) l)
+unfolding afterBase
+base-back r few s t l =
+    let c = lineOf "least=" (r .least) in
+    bind-back (row "drop=" 0 1000000) _ (value-back (bytes "drop=") 0 1000000 (r .drop) (few .1) (c ++ s) (c ++ t) l)
+    (λ _ j. bind-back (row "least=" 1 1000000) _ (value-back (bytes "least=") 1 1000000 (r .least) (few .2) s t j) (λ _ k. return-back r s t k tt))
+
+rule-back : (r : Rule) → ShortPrices 0 (byRule r) → (s t : List ℕ) (l : ℕ) → Readback FormFault (Unit {0}) (present r) s t (rule (ruleText r ++ s) l) (rule (ruleText r ++ t) l)
+unfolding ruleText ifPresent
+rule-back r few s t l =
+    let a = lineOf "base=" (r .base) in
+    let b = lineOf "drop=" (r .drop) in
+    let c = lineOf "least=" (r .least) in
+    same-back (ap (λ (u : List ℕ). rule u l) (append-assoc (a ++ b) c s ∙ append-assoc a b (c ++ s)) ∙ base-there (r .base) (b ++ (c ++ s)) l)
+    (ap (λ (u : List ℕ). rule u l) (append-assoc (a ++ b) c t ∙ append-assoc a b (c ++ t)) ∙ base-there (r .base) (b ++ (c ++ t)) l)
+    (bind-back _ (ifPresent afterBase)
+    (bind-back (row "base=" 1 1000000) (λ v. return (present v)) (value-back (bytes "base=") 1 1000000 (r .base) (few .0) (b ++ (c ++ s)) (b ++ (c ++ t)) l) (λ known i. return-back (present (r .base)) (b ++ (c ++ s)) (b ++ (c ++ t)) i known))
+    (λ _ i. bind-back (afterBase (r .base)) (λ x. return (present x)) (base-back r few s t i) (λ _ j. return-back (present r) s t j tt)))
+
+-- a single price has no low end
+no-low : (p : ℕ) (s : List ℕ) (l : ℕ) → optional "low=" 1 1000000 (lineOf "price=" p ++ s) l ≡ good missing (lineOf "price=" p ++ s) l
+unfolding startsWith line bytes
+no-low p s l = optional-missing _ 1 1000000 (lineOf "price=" p ++ s) l refl
+
+-- a pair's low end decides first
+low-there : (v : ℕ) (t : List ℕ) (l : ℕ) → quote (lineOf "low=" v ++ t) l ≡ ((row "low=" 1 1000000 >>= λ v. return (present v)) >>= unlessLow) (lineOf "low=" v ++ t) l
+unfolding quote _>>=_
+low-there v t l =
+    ap (λ (y : Parsed (Optional ℕ)). elim y [ good a s i ↦ unlessLow a s i | fault n i ↦ fault n i ])
+    (optional-there (bytes "low=") 1 1000000 (lineOf "low=" v ++ t) l (starts-line (bytes "low=") v t))
+
+-- the high end behind it
+high-back : (m h : ℕ) → Short h → (s t : List ℕ) (l : ℕ) → Readback FormFault (Unit {0}) (pair m h) s t (unlessLow (present m) (lineOf "high=" h ++ s) l) (unlessLow (present m) (lineOf "high=" h ++ t) l)
+unfolding unlessLow
+high-back m h few s t l =
+    bind-back (checked 13 (atLeast m) (row "high=" 1 1000000)) _
+    (checked-back FormFault 13 thirteen (atLeast m) (row "high=" 1 1000000) h l (value-back (bytes "high=") 1 1000000 h few s t l)) (λ _ j. return-back (pair m h) s t j tt)
+
+-- a price
+quote-back : (q : Quote) → ShortQuote q → (s t : List ℕ) (l : ℕ) → Readback FormFault (Unit {0}) q s t (quote (quoteText q ++ s) l) (quote (quoteText q ++ t) l)
+unfolding quote unlessLow quoteText
+quote-back (single p) few s t l =
+    let c = lineOf "price=" p in
+    let none : Readback FormFault (Unit {0}) missing (c ++ s) (c ++ t) (optional "low=" 1 1000000 (c ++ s) l) (optional "low=" 1 1000000 (c ++ t) l) = back tt l (no-low p s l) (no-low p t l) in
+    bind-back (optional "low=" 1 1000000) _ none
+    (λ _ i. bind-back (row "price=" 1 1000000) _ (value-back (bytes "price=") 1 1000000 p few s t i) (λ _ j. return-back (single p) s t j tt))
+quote-back (pair m h) few s t l =
+    let a = lineOf "low=" m in
+    let b = lineOf "high=" h in
+    same-back (ap (λ (u : List ℕ). quote u l) (append-assoc a b s) ∙ low-there m (b ++ s) l) (ap (λ (u : List ℕ). quote u l) (append-assoc a b t) ∙ low-there m (b ++ t) l)
+    (bind-back _ unlessLow
+    (bind-back (row "low=" 1 1000000) (λ v. return (present v)) (value-back (bytes "low=") 1 1000000 m (few .0) (b ++ s) (b ++ t) l) (λ known i. return-back (present m) (b ++ s) (b ++ t) i known))
+    (λ _ i. high-back m h (few .1) s t i))
+
+-- a list of n prices
+list-back : (n : ℕ) (qs : List Quote) → length qs ≡ n → All ShortQuote qs → (s t : List ℕ) (l : ℕ)
+    → Readback FormFault (Unit {0}) qs s t (times n quote (texts quoteText qs ++ s) l) (times n quote (texts quoteText qs ++ t) l)
+unfolding times
+list-back n qs e few s t l =
+    let c = texts quoteText qs in
+    subst (λ (q : ℕ). Readback FormFault (Unit {0}) qs s t (times q quote (c ++ s) l) (times q quote (c ++ t) l)) e
+    (chain-back FormFault (λ _. quote) (λ _ _. 0) quoteText ShortQuote (λ _. quote-back) 0 qs (each-chained ShortQuote 0 qs few) s t l)
+
+no-rule : (s : List ℕ) (l : ℕ) → startsWith (bytes "base=") s ≡ false → rule s l ≡ good missing s l
+unfolding rule ifPresent return
+no-rule s l e = bind-good (optional "base=" 1 1000000) _ (optional-missing _ 1 1000000 s l e)
+
+-- the lines of a part's prices
+prices-back : (n : ℕ) (p : Prices) → ShortPrices n p → (s t : List ℕ) (l : ℕ) → Behind s → Behind t
+    → Readback FormFault (Unit {0}) p s t (prices n (pricesText p ++ s) l) (prices n (pricesText p ++ t) l)
+unfolding prices unlessRuled
+prices-back n (byList qs) few s t l other other′ =
+    let c = texts quoteText qs in
+    let none : Readback FormFault (Unit {0}) missing (c ++ s) (c ++ t) (rule (c ++ s) l) (rule (c ++ t) l) = back tt l (no-rule (c ++ s) l (list-next qs s (other .base))) (no-rule (c ++ t) l (list-next qs t (other′ .base))) in
+    bind-back rule _ none
+    (λ _ i. bind-back (times n quote) _ (list-back n qs (few .0) (few .1) s t i) (λ _ j. return-back (byList qs) s t j tt))
+prices-back n (byRule r) few s t l other other′ = bind-back rule _ (rule-back r few s t l) (λ _ i. return-back (byRule r) s t i tt)
+
+-- a part with n openings
 pub record ShortPart (n : ℕ) (p : PartText) : Type 0 where
+  -- the part's life can be written, with at most ten digits
   pub life : Short (p .life)
+  -- the part's first life can be written, with at most ten digits
   pub left : Short (p .left)
+  -- what the part's lines of removal say can be written
   pub cover : ShortCover (p .cover)
-  pub priced : length (p .prices) ≡ n
-  pub prices : Small (p .prices)
+  -- each of the part's prices has 32 bits, and can be written
+  pub prices : ShortPrices n (p .prices)
 
 part-back : (m n k : ℕ) (p : PartText) → ShortPart n p → (s t : List ℕ) (l : ℕ) → Behind s → Behind t
     → Readback FormFault (Unit {0}) p s t (part m n k (partText p ++ s) l) (part m n k (partCut p ++ t) l)
-unfolding part afterLeft partText partCut times
+unfolding part afterLeft partText partCut
 part-back m n k p few s t l other other′ =
     let a = lineOf "life=" (p .life) in
     let b = lineOf "left=" (p .left) in
     let d = optionalText coverText (p .cover) in
     let d′ = optionalText coverCut (p .cover) in
-    let c = texts (lineOf "price=") (p .prices) in
+    let c = pricesText (p .prices) in
     same-back (ap (λ (u : List ℕ). part m n k u l) (append-assoc (a ++ b ++ d) c s ∙ append-assoc (a ++ b) d (c ++ s) ∙ append-assoc a b (d ++ (c ++ s))))
     (ap (λ (u : List ℕ). part m n k u l) (append-assoc (a ++ b ++ d′) c t ∙ append-assoc (a ++ b) d′ (c ++ t) ∙ append-assoc a b (d′ ++ (c ++ t))))
     (bind-back (row "life=" 1 1000) _ (value-back (bytes "life=") 1 1000 (p .life) (few .life) (b ++ (d ++ (c ++ s))) (b ++ (d′ ++ (c ++ t))) l)
-    (λ _ i. bind-back (checked 5 (upTo (p .life)) (row "left=" 1 1000)) _
-    (checked-back FormFault 5 five (upTo (p .life)) (row "left=" 1 1000) (p .left) i (value-back (bytes "left=") 1 1000 (p .left) (few .left) (d ++ (c ++ s)) (d′ ++ (c ++ t)) i))
-    (λ _ j. bind-back (cover m k) _ (cover-back m k (p .cover) (few .cover) (c ++ s) (c ++ t) j (prices-behind (p .prices) s other .removal) (prices-behind (p .prices) t other′ .removal))
-    (λ _ h. bind-back (times n (row "price=" 1 1000000)) _
-    (subst (λ (q : ℕ). Readback FormFault (Unit {0}) (p .prices) s t (times q (row "price=" 1 1000000) (c ++ s) h) (times q (row "price=" 1 1000000) (c ++ t) h)) (few .priced)
-    (chain-back FormFault (λ _. row "price=" 1 1000000) (λ _ _. 0) (lineOf "price=") Short (λ _ v v-few u v′ q. value-back (bytes "price=") 1 1000000 v v-few u v′ q) 0 (p .prices) (small-chained (λ _ _. 0) 0 (p .prices) (few .prices)) s t h))
+    (λ _ i. bind-back (checked 5 (upTo (p .life)) (row "left=" 0 1000)) _
+    (checked-back FormFault 5 five (upTo (p .life)) (row "left=" 0 1000) (p .left) i (value-back (bytes "left=") 0 1000 (p .left) (few .left) (d ++ (c ++ s)) (d′ ++ (c ++ t)) i))
+    (λ _ j. bind-back (cover m k) _ (cover-back m k (p .cover) (few .cover) (c ++ s) (c ++ t) j (prices-next (p .prices) s other) (prices-next (p .prices) t other′))
+    (λ _ h. bind-back (prices n) _ (prices-back n (p .prices) (few .prices) s t h other other′)
     (λ _ q. return-back p s t q tt)))))
 
 -- parts with nothing behind them
@@ -265,16 +391,70 @@ covers-short (suc m ∷ cs) vs is hs a b c = (
   covers-short cs (drop 1 vs) (drop 1 is) (drop (getD is 0 0) hs) (small-drop 1 vs a) (small-drop 1 is b) (small-drop (getD is 0 0) hs c),
 )
 
-grouped-short : (n : ℕ) (ls rs : List ℕ) (cs : List (Optional Cover)) (ps : List ℕ) → Small ls → Small rs → All ShortCover cs → Small ps → length ps ≡ length ls * n → All (ShortPart n) (grouped n ls rs cs ps)
+-- what a rule's lists state can be written
+abbrev pub ShortRule : Optional Rule → Type 0
+ShortRule missing = Unit {0}
+ShortRule (present r) = Short (r .base) × Short (r .drop) × Short (r .least)
+
+rules-short : (us bs ds ms : List ℕ) → Small bs → Small ds → Small ms → All ShortRule (rulesOf us bs ds ms)
+unfolding rulesOf
+rules-short [] bs ds ms a b c = tt
+rules-short (zero ∷ us) bs ds ms a b c = (tt, rules-short us bs ds ms a b c)
+rules-short (suc u ∷ us) bs ds ms a b c = ((omega (arith, a 0), omega (arith, b 0), omega (arith, c 0)), rules-short us (drop 1 bs) (drop 1 ds) (drop 1 ms) (small-drop 1 bs a) (small-drop 1 ds b) (small-drop 1 ms c))
+
+-- how many prices rules leave to be listed, with n openings
+abbrev counted : ℕ → List (Optional Rule) → ℕ
+counted n [] = 0
+counted n (u ∷ us) = countedFor n u + counted n us
+
+-- prices from lists whose numbers can be written
+quotes-short : (zs ws ps : List ℕ) → Small ws → Small ps → All ShortQuote (quotesFrom zs ws ps)
+unfolding quotesFrom
+quotes-short [] ws ps a b = tt
+quotes-short (z ∷ zs) ws [] a b = tt
+quotes-short (zero ∷ zs) ws (p ∷ ps) a b = (omega (arith, b 0), quotes-short zs ws ps a (λ i. b (suc i)))
+quotes-short (suc z ∷ zs) ws (p ∷ ps) a b = ((omega (arith, a 0), omega (arith, b 0)), quotes-short zs (drop 1 ws) ps (small-drop 1 ws a) (λ i. b (suc i)))
+
+all-take : (n : ℕ) (qs : List Quote) → All ShortQuote qs → All ShortQuote (take n qs)
+all-take zero qs v = tt
+all-take (suc n) [] v = tt
+all-take (suc n) (q ∷ qs) v = (v .0, all-take n qs (v .1))
+
+all-drop : (n : ℕ) (qs : List Quote) → All ShortQuote qs → All ShortQuote (drop n qs)
+all-drop zero qs v = v
+all-drop (suc n) [] v = tt
+all-drop (suc n) (q ∷ qs) v = all-drop n qs (v .1)
+
+prices-short : (n : ℕ) (u : Optional Rule) (qs : List Quote) → ShortRule u → All ShortQuote qs → countedFor n u ≤ length qs → ShortPrices n (pricesFrom n u qs)
+prices-short n missing qs r c h = (length-take-le n qs h, all-take n qs c)
+prices-short n (present u) qs r c h = r
+
+grouped-short : (n : ℕ) (ls rs : List ℕ) (cs : List (Optional Cover)) (us : List (Optional Rule)) (ps : List Quote) → Small ls → Small rs → All ShortCover cs → All ShortRule us → All ShortQuote ps → counted n us ≤ length ps
+    → All (ShortPart n) (grouped n ls rs cs us ps)
 unfolding grouped
-grouped-short n [] rs cs ps a b d c e = tt
-grouped-short n (l ∷ ls) [] cs ps a b d c e = tt
-grouped-short n (l ∷ ls) (r ∷ rs) [] ps a b d c e = tt
-grouped-short n (l ∷ ls) (r ∷ rs) (o ∷ cs) ps a b d c e =
-    let long : length ps ≡ length ls * n + n = e ∙ suc-mul (length ls) n in (
-      record { life = omega (arith, a 0); left = omega (arith, b 0); cover = d .0; priced = length-take-le n ps (omega (arith, long)); prices = small-take n ps c },
-      grouped-short n ls rs cs (drop n ps) (λ i. a (suc i)) (λ i. b (suc i)) (d .1) (small-drop n ps c) (length-drop n ps ∙ (let q : length (l ∷ ls) * n ≡ length ls * n + n = suc-mul (length ls) n in omega (arith, long))),
+grouped-short n [] rs cs us ps a b d r c e = tt
+grouped-short n (l ∷ ls) [] cs us ps a b d r c e = tt
+grouped-short n (l ∷ ls) (k ∷ rs) [] us ps a b d r c e = tt
+grouped-short n (l ∷ ls) (k ∷ rs) (o ∷ cs) [] ps a b d r c e = tt
+grouped-short n (l ∷ ls) (k ∷ rs) (o ∷ cs) (u ∷ us) ps a b d r c e =
+    let here : countedFor n u + counted n us ≤ length ps = e in (
+      record { life = omega (arith, a 0); left = omega (arith, b 0); cover = d .0; prices = prices-short n u ps (r .0) c (omega (arith, here)) },
+      grouped-short n ls rs cs us (drop (countedFor n u) ps) (λ i. a (suc i)) (λ i. b (suc i)) (d .1) (r .1) (all-drop (countedFor n u) ps c) (omega (arith, here, length-drop (countedFor n u) ps)),
     )
+
+-- those of m marks
+rules-counted : (n : ℕ) (us bs ds ms : List ℕ) → All (λ (u : ℕ). u ≤ 1) us → counted n (rulesOf us bs ds ms) ≡ (length us - sumAll us) * n
+unfolding rulesOf
+rules-counted n [] bs ds ms v = sym (zero-mul n)
+rules-counted n (zero ∷ us) bs ds ms v =
+    let few = marks-few us (v .1) in
+    let z : length (zero ∷ us) - sumAll (zero ∷ us) ≡ suc (length us - sumAll us) = omega (arith, few) in
+    let q : (length (zero ∷ us) - sumAll (zero ∷ us)) * n ≡ (length us - sumAll us) * n + n = ap (λ (i : ℕ). i * n) z ∙ suc-mul (length us - sumAll us) n in
+    omega (arith, q, rules-counted n us bs ds ms (v .1))
+rules-counted n (suc zero ∷ us) bs ds ms v =
+    let z : length (1 ∷ us) - sumAll (1 ∷ us) ≡ length us - sumAll us = omega arith in
+    omega (arith, rules-counted n us (drop 1 bs) (drop 1 ds) (drop 1 ms) (v .1), ap (λ (i : ℕ). i * n) z)
+rules-counted n (suc (suc u) ∷ us) bs ds ms v = absurd (omega (arith, v .0))
 
 -- ---- the whole
 
@@ -300,8 +480,12 @@ module _ (f : Form) (held : Held f) where
 
   parts-short : PartsAgree n x → All (ShortPart n) (said .parts)
   parts-short agree =
-      grouped-short n (x .lives) (x .lefts) (coversOf (x .covered) (x .removals) (x .insides) (x .holders)) (x .prices) (held .lives) (held .lefts)
-      (covers-short (x .covered) (x .removals) (x .insides) (x .holders) (held .removals) (held .insides) (held .holders)) (held .prices) (agree .prices)
+      let listed = rules-counted n (x .ruled) (x .bases) (x .drops) (x .leasts) (agree .rule-marks) in
+      let same : (length (x .ruled) - sumAll (x .ruled)) * n ≡ length (x .prices) = ap (λ (m : ℕ). (m - sumAll (x .ruled)) * n) (agree .ruled) ∙ sym (agree .prices) in
+      grouped-short n (x .lives) (x .lefts) (coversOf (x .covered) (x .removals) (x .insides) (x .holders)) (rulesOf (x .ruled) (x .bases) (x .drops) (x .leasts)) (quotesIn x) (held .lives) (held .lefts)
+      (covers-short (x .covered) (x .removals) (x .insides) (x .holders) (held .removals) (held .insides) (held .holders))
+      (rules-short (x .ruled) (x .bases) (x .drops) (x .leasts) (held .bases) (held .drops) (held .leasts))
+      (quotes-short (x .banded) (x .lows) (x .prices) (held .lows) (held .prices)) (omega (arith, listed, same, quotes-size (x .banded) (x .lows) (x .prices) (agree .banded)))
 
   parts-back : PartsAgree n x → (l : ℕ) → Readback FormFault (Unit {0}) (said .parts) [] [] (parts m n (texts partText (said .parts)) l) (parts m n (texts partCut (said .parts)) l)
   unfolding parts

@@ -19,9 +19,9 @@ pub record Form : Type 0 where
   pub fees : List ℕ
   pub parts : PartLists
 
--- the form of a call's arguments; E7: `covered`, `removals`, `insides` and `holders` stand between the lefts and the prices
-abbrev pub filled : ℕ → List ℕ → List ℕ → List ℕ → List ℕ → List ℕ → List ℕ → List ℕ → List ℕ → List ℕ → List ℕ → Form
-filled h is os fs ls rs cs vs ns hs ps = record { horizon = h; idles = is; openings = os; fees = fs; parts = partLists ls rs cs vs ns hs ps }
+-- the form of a call's arguments; E7: `covered`, `removals`, `insides` and `holders` stand behind the lefts; E8: `ruled`, `bases`, `drops` and `leasts` behind those; E11: `banded` and `lows` before the prices
+abbrev pub filled : ℕ → List ℕ → List ℕ → List ℕ → List ℕ → List ℕ → List ℕ → List ℕ → List ℕ → List ℕ → List ℕ → List ℕ → List ℕ → List ℕ → List ℕ → List ℕ → List ℕ → Form
+filled h is os fs ls rs cs vs ns hs us bs ds ms zs ws ps = record { horizon = h; idles = is; openings = os; fees = fs; parts = partLists ls rs cs vs ns hs us bs ds ms zs ws ps }
 
 -- what a form states, "with no `idles` line if there are none"; E10. "The writer no longer writes" the `walk` line
 abbrev pub stated : Form → JobText
@@ -43,7 +43,7 @@ restOf os fs x = lineOf "openings=" (countOf mostOpenings (feesAgree os fs) (len
 unfoldable pub formText : Form → List ℕ
 formText f = lineOf "horizon=" (f .horizon) ++ (optionalText idleCountText (idleLines (f .idles)) ++ restOf (f .openings) (f .fees) (f .parts))
 
--- what its lines say, or the first fault's number and line: "It gives 3, 4, 5 [..] for the same faults, with the line that would have held them", and E7's 12.
+-- what its lines say, or the first fault's number and line: "It gives 3, 4, 5 [..] for the same faults, with the line that would have held them", E7's 12 and E11's 13.
 -- The text is read by its lines alone, with no limit to its length
 unfoldable pub readForm : Form → Outcome JobText
 readForm f = finish (whole jobLines (formText f) 1)

@@ -18,6 +18,8 @@ use Rattle.job_grammar.specs.Faults.{lastFault}
 use Rattle.part_lines.specs.Grammar.{PartText}
 use Rattle.job_grammar.specs.Rendering.{jobText}
 use Rattle.covers.specs.Grammar.{Cover}
+use Rattle.quotes.specs.Grammar.{Quote, single, pair, highEnd}
+use Rattle.price_rules.specs.Grammar.{Prices, byList, byRule}
 use Rattle.form_facts.specs.Facts.{PartLists, PartsAgree}
 use Rattle.answers.specs.Said.{Said, Refuses}
 use Rattle.form.specs.Form.{Form, stated, readForm}
@@ -80,6 +82,50 @@ abbrev pub holdersOf : Optional Cover → List ℕ
 holdersOf missing = []
 holdersOf (present c) = c .holders
 
+-- E8. the numbers of a part's prices: whether they stand by a rule, and what that or their list says
+abbrev pub ruleMark : Prices → ℕ
+ruleMark (byList qs) = 0
+ruleMark (byRule r) = 1
+
+-- its entry of `bases`; none where its prices are listed
+abbrev pub basesOf : Prices → List ℕ
+basesOf (byList qs) = []
+basesOf (byRule r) = r .base ∷ []
+
+-- its entry of `drops`
+abbrev pub dropsOf : Prices → List ℕ
+dropsOf (byList qs) = []
+dropsOf (byRule r) = r .drop ∷ []
+
+-- its entry of `leasts`
+abbrev pub leastsOf : Prices → List ℕ
+leastsOf (byList qs) = []
+leastsOf (byRule r) = r .least ∷ []
+
+-- its entries of `prices`: the high end of each; "no prices for such a part" as has a rule
+abbrev pub listedIn : Prices → List ℕ
+listedIn (byList qs) = map highEnd qs
+listedIn (byRule r) = []
+
+-- E11. whether a price is a pair, and its low end then
+abbrev pub pairMark : Quote → ℕ
+pairMark (single p) = 0
+pairMark (pair l h) = 1
+
+abbrev pub lowIn : Quote → List ℕ
+lowIn (single p) = []
+lowIn (pair l h) = l ∷ []
+
+-- its entries of `banded`, one for each price
+abbrev pub bandedIn : Prices → List ℕ
+bandedIn (byList qs) = map pairMark qs
+bandedIn (byRule r) = []
+
+-- its entries of `lows`, one for each pair
+abbrev pub lowsIn : Prices → List ℕ
+lowsIn (byList qs) = texts lowIn qs
+lowsIn (byRule r) = []
+
 -- the numbers that parts hold, as lists
 abbrev pub listsOf : List PartText → PartLists
 listsOf ps = record {
@@ -89,7 +135,13 @@ listsOf ps = record {
   removals = texts (λ (p : PartText). removalIn (p .cover)) ps;
   insides = texts (λ (p : PartText). insidesOf (p .cover)) ps;
   holders = texts (λ (p : PartText). holdersOf (p .cover)) ps;
-  prices = texts (λ (p : PartText). p .prices) ps;
+  ruled = map (λ (p : PartText). ruleMark (p .prices)) ps;
+  bases = texts (λ (p : PartText). basesOf (p .prices)) ps;
+  drops = texts (λ (p : PartText). dropsOf (p .prices)) ps;
+  leasts = texts (λ (p : PartText). leastsOf (p .prices)) ps;
+  banded = texts (λ (p : PartText). bandedIn (p .prices)) ps;
+  lows = texts (λ (p : PartText). lowsIn (p .prices)) ps;
+  prices = texts (λ (p : PartText). listedIn (p .prices)) ps;
 }
 
 -- the numbers that a job text holds, as a form
@@ -102,13 +154,13 @@ formOf t = record {
   parts = listsOf (t .parts);
 }
 
--- "3, 4, 5", and E7's 12 to the last number of a job text's line: the writer's refusals of a line
+-- "3, 4, 5", E7's 12 and E11's 13, to the last number of a job text's line: the writer's refusals of a line
 abbrev pub FormFault : ℕ → Type 0
 FormFault n = ((3 ≤ n) × (n ≤ 5)) ⊎ ((12 ≤ n) × (n ≤ lastFault))
 
 -- E2. what is promised of the answer s to a form, where the output has `room` bytes
 pub record WritePromise (f : Form) (room : ℕ) (s : Said) : Type 0 where
-  -- "8 if the output has less than 32,768 bytes"
+  -- "8 if the output has less than 32,768 bytes", since E11 40,960
   pub says-8 : (s .result ≡ 8) ↔ (room < writeRoom)
   -- 0 exactly if the lists agree in length and state a job that the grammar accepts
   pub says-0 : (s .result ≡ 0) ↔ ((writeRoom ≤ room) × (Agree f × (readJobText (jobText (stated f)) ≡ accepted (stated f))))

@@ -16,6 +16,6 @@ saidFor (refused number line) = refusal 1 [] number line
 unfoldable pub writeSaid : Form → Said
 writeSaid f = saidFor (readForm f)
 
--- "8 if the output has less than 32,768 bytes": as much as a text may have
+-- E11. "A job text may now have 40,960 bytes, and a call that writes one needs that much output, else 8": as much as a text may have
 abbrev pub writeRoom : ℕ
 writeRoom = maxBytes

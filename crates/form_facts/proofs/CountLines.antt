@@ -12,6 +12,7 @@ use Rattle.lines.specs.Parser.{Parsed, good, fault, rowAt}
 use Rattle.lines.proofs.ValueLines.{value-in, value-low, value-high}
 use Rattle.form_facts.specs.Facts.{countOf}
 
+-- a count in range, of lists that agree, stands on its line as itself
 pub count-is : (most : ℕ) (agree : Bool) (n : ℕ) → n ≤ most → agree ≡ true → countOf most agree n ≡ n
 count-is most agree n h e = rw (le-leb n most h, e)
 

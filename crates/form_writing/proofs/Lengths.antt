@@ -1,44 +1,30 @@
--- The text has at most 30,937 bytes, whatever the lists (`cut-short`): 365 idle steps, 64 openings and sixteen parts with fifteen holders each, every number with ten digits. By the lengths of the lines.
-use Prim.Native.Nat.{ℕ, zero, suc, _+_, _*_, _≤_, _<_}
+-- The text has at most 45,257 bytes, whatever the lists (`cut-short`): 365 idle steps, 64 openings and sixteen parts with fifteen holders and 64 pairs each, every number with ten digits. By the lengths of the lines.
+use Prim.Native.Nat.{ℕ, suc, _+_, _≤_}
 use Prim.Native.String.{String}
 use mathlib.Core.Path.{_≡_, refl, sym, ap, ap₂, _∙_}
 use mathlib.Core.Bool.{Bool, true, false, _&&_, and-eq-true-iff, false≢true}
 use mathlib.Core.List.{List, [], _∷_, _++_}
 use native.Mathlib.Omega.{arith}
-use native.Mathlib.Decide.{decLt}
 use native.Mathlib.Nat.{min-le-left}
 use borrow.Author.Tests.{leb-true, le-leb, eqb-true}
 use lib.Dec.{leb}
 use lib.ListN.{length, take, drop, length-append, length-take}
 use Rattle.lines.specs.Text.{bytes, lineOf, texts, Optional, missing, present, optionalText}
-use Rattle.lines.proofs.Writing.{line-most}
 use Rattle.model.specs.Model.{Opening}
 use Rattle.jobs.specs.Valid.{All}
 use Rattle.covers.specs.Grammar.{Cover}
+use Rattle.quotes.specs.Grammar.{Quote}
+use Rattle.price_rules.specs.Rule.{Rule}
 use Rattle.part_lines.specs.Grammar.{PartText}
 use Rattle.job_grammar.specs.Rendering.{openingText}
 use Rattle.job_grammar.specs.Optionals.{idleLines}
-use Rattle.form_facts.specs.Facts.{PartLists, paired, coversOf, grouped, partsOf, feesAgree, partsAgree}
+use Rattle.form_facts.specs.Facts.{PartLists, paired, coversOf, rulesOf, quotesIn, countedFor, pricesFrom, grouped, partsOf, feesAgree, partsAgree}
 use Rattle.form_facts.proofs.Facts.{paired-size, parts-size, agree-says}
-use Rattle.form_writing.specs.Cut.{countedCut, insideCut, coverCut, partCut, idlesCut, partsCut, bodyCut, restCut, formCut, longestCut}
-use Rattle.form_writing.proofs.Pieces.{counted-in, counted-out, inside-many, inside-few}
-
--- a line of a key of k bytes
-short : (key : String) (k v : ℕ) → length (bytes key) ≡ k → length (lineOf key v) ≤ k + 11
-short key k v e = omega (arith, line-most (bytes key) v, e)
-
--- texts of at most m bytes each
-texts-short : {A : Type 0} (P : A → Type 0) (w : A → List ℕ) (m : ℕ) → ((x : A) → P x → length (w x) ≤ m) → (xs : List A) → All P xs → length (texts w xs) ≤ length xs * m
-texts-short P w m h [] v = omega arith
-texts-short P w m h (x ∷ xs) v = rw (length-append (w x)) (omega (arith, h x (v .0), texts-short P w m h xs (v .1)))
-
-all-any : {A : Type 0} (xs : List A) → All (λ _. Unit {0}) xs
-all-any [] = tt
-all-any (x ∷ xs) = (tt, all-any xs)
-
--- lines of a key
-lines-short : (key : String) (k : ℕ) → length (bytes key) ≡ k → (vs : List ℕ) → length (texts (lineOf key) vs) ≤ length vs * (k + 11)
-lines-short key k e vs = texts-short (λ _. Unit {0}) (lineOf key) (k + 11) (λ v _. short key k v e) vs (all-any vs)
+use Rattle.part_lines.proofs.Lengths.{texts-short}
+use Rattle.part_writing.specs.Cut.{partCut}
+use Rattle.part_writing.proofs.Lengths.{short, all-any, lines-short, FewListed, part-short}
+use Rattle.form_writing.specs.Cut.{countedCut, idlesCut, partsCut, bodyCut, restCut, formCut, longestCut}
+use Rattle.form_writing.proofs.Pieces.{counted-in, counted-out}
 
 -- a count and what it counts
 counted-short : (key : String) (k : ℕ) → length (bytes key) ≡ k → (most : ℕ) (agree : Bool) (n : ℕ) (t : List ℕ) (m : ℕ) → (n ≤ most → agree ≡ true → length t ≤ m) → length (countedCut key most agree n t) ≤ k + 11 + m
@@ -51,47 +37,36 @@ counted-short key k e most agree n t m few = go (leb n most && agree) refl
         omega (arith, ap length (counted-in key most agree n t low (w .1)), length-append (lineOf key n) t, short key k n e, few low (w .1))
     go false h = omega (arith, ap length (counted-out key most agree n t (λ low a. false≢true (sym h ∙ ap₂ _&&_ (le-leb n most low) a))), short key k (suc most) e)
 
-inside-short : (hs : List ℕ) → length (insideCut hs) ≤ 288
-unfolding bytes
-inside-short hs = go (decLt 15 (length hs))
-  where
-    go : Dec (15 < length hs) → length (insideCut hs) ≤ 288
-    go (yes h) = omega (arith, ap length (inside-many hs h), short "inside=" 7 (length hs) refl)
-    go (no h) = omega (arith, h, ap length (inside-few hs (omega (arith, h))), length-append (lineOf "inside=" (length hs)) (texts (lineOf "holder=") hs), short "inside=" 7 (length hs) refl, lines-short "holder=" 7 refl hs)
+-- a part lists no more prices than there are openings
+listed-few : (n : ℕ) → n ≤ 64 → (u : Optional Rule) (ps : List Quote) → FewListed 64 (pricesFrom n u ps)
+listed-few n few missing ps = omega (arith, few, length-take n ps, min-le-left n (length ps))
+listed-few n few (present r) ps = tt
 
-cover-short : (o : Optional Cover) → length (optionalText coverCut o) ≤ 307
-unfolding coverCut bytes
-cover-short missing = omega arith
-cover-short (present c) = omega (arith, length-append (lineOf "removal=" (c .removal)) (insideCut (c .holders)), short "removal=" 8 (c .removal) refl, inside-short (c .holders))
-
-part-short : (p : PartText) → length (p .prices) ≤ 64 → length (partCut p) ≤ 1427
-unfolding partCut bytes
-part-short p few = simp length-append (omega (arith, few, short "life=" 5 (p .life) refl, short "left=" 5 (p .left) refl, cover-short (p .cover), lines-short "price=" 6 refl (p .prices)))
-
-priced : (n : ℕ) → n ≤ 64 → (ls rs : List ℕ) (cs : List (Optional Cover)) (ps : List ℕ) → All (λ (p : PartText). length (p .prices) ≤ 64) (grouped n ls rs cs ps)
+priced : (n : ℕ) → n ≤ 64 → (ls rs : List ℕ) (cs : List (Optional Cover)) (us : List (Optional Rule)) (ps : List Quote) → All (λ (p : PartText). FewListed 64 (p .prices)) (grouped n ls rs cs us ps)
 unfolding grouped
-priced n few [] rs cs ps = tt
-priced n few (l ∷ ls) [] cs ps = tt
-priced n few (l ∷ ls) (r ∷ rs) [] ps = tt
-priced n few (l ∷ ls) (r ∷ rs) (c ∷ cs) ps = (omega (arith, few, length-take n ps, min-le-left n (length ps)), priced n few ls rs cs (drop n ps))
+priced n few [] rs cs us ps = tt
+priced n few (l ∷ ls) [] cs us ps = tt
+priced n few (l ∷ ls) (r ∷ rs) [] us ps = tt
+priced n few (l ∷ ls) (r ∷ rs) (c ∷ cs) [] ps = tt
+priced n few (l ∷ ls) (r ∷ rs) (c ∷ cs) (u ∷ us) ps = (listed-few n few u ps, priced n few ls rs cs us (drop (countedFor n u) ps))
 
-parts-short : (n : ℕ) (x : PartLists) → n ≤ 64 → length (partsCut n x) ≤ 22849
+parts-short : (n : ℕ) (x : PartLists) → n ≤ 64 → length (partsCut n x) ≤ 37185
 unfolding partsCut bytes
-parts-short n x few = counted-short "parts=" 6 refl 16 (partsAgree n x) (length (x .lives)) (texts partCut (partsOf n x)) 22832 (λ low a. omega (
+parts-short n x few = counted-short "parts=" 6 refl 16 (partsAgree n x) (length (x .lives)) (texts partCut (partsOf n x)) 37168 (λ low a. omega (
   arith,
   low,
   parts-size n x (agree-says n x a),
-  texts-short _ partCut 1427 part-short (partsOf n x) (priced n few (x .lives) (x .lefts) (coversOf (x .covered) (x .removals) (x .insides) (x .holders)) (x .prices)),
+  texts-short _ partCut 2323 part-short (partsOf n x) (priced n few (x .lives) (x .lefts) (coversOf (x .covered) (x .removals) (x .insides) (x .holders)) (rulesOf (x .ruled) (x .bases) (x .drops) (x .leasts)) (quotesIn x)),
 ))
 
 opening-short : (o : Opening) → length (openingText o) ≤ 34
 unfolding openingText bytes
 opening-short o = omega (arith, length-append (lineOf "opening=" (o .step)) (lineOf "fee=" (o .fee)), short "opening=" 8 (o .step) refl, short "fee=" 4 (o .fee) refl)
 
-rest-short : (os fs : List ℕ) (x : PartLists) → length (restCut os fs x) ≤ 25045
+rest-short : (os fs : List ℕ) (x : PartLists) → length (restCut os fs x) ≤ 39381
 unfolding restCut bodyCut bytes
 rest-short os fs x =
-    counted-short "openings=" 9 refl 64 (feesAgree os fs) (length os) (bodyCut os fs x) 25025 (λ low a. omega (
+    counted-short "openings=" 9 refl 64 (feesAgree os fs) (length os) (bodyCut os fs x) 39361 (λ low a. omega (
       arith,
       low,
       length-append (texts openingText (paired os fs)) (partsCut (length os) x),

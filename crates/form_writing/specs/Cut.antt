@@ -6,34 +6,21 @@ use mathlib.Core.List.{List, [], _++_}
 use lib.Dec.{leb}
 use lib.ListN.{length}
 use Rattle.lines.specs.Text.{lineOf, texts, optionalText}
-use Rattle.model.specs.Limits.{lastStep, mostOpenings, mostParts, mostInside}
-use Rattle.covers.specs.Grammar.{Cover}
-use Rattle.part_lines.specs.Grammar.{PartText}
+use Rattle.model.specs.Limits.{lastStep, mostOpenings, mostParts}
 use Rattle.job_grammar.specs.Rendering.{openingText}
 use Rattle.job_grammar.specs.Optionals.{idleLines}
+use Rattle.part_writing.specs.Cut.{partCut}
 use Rattle.form_facts.specs.Facts.{PartLists, paired, partsOf, feesAgree, partsAgree, countOf}
 
 -- the line of a count, and what it counts where it is in its range and the lists agree
 unfoldable pub countedCut : String → ℕ → Bool → ℕ → List ℕ → List ℕ
 countedCut key most agree n t = lineOf key (countOf most agree n) ++ cond (leb n most && agree) t []
 
--- the number of a part's holders, and the holders where they are not too many
-unfoldable pub insideCut : List ℕ → List ℕ
-insideCut hs = lineOf "inside=" (length hs) ++ cond (leb (length hs) mostInside) (texts (lineOf "holder=") hs) []
-
--- a part's lines of removal
-unfoldable pub coverCut : Cover → List ℕ
-coverCut c = lineOf "removal=" (c .removal) ++ insideCut (c .holders)
-
--- a part's lines
-unfoldable pub partCut : PartText → List ℕ
-partCut p = lineOf "life=" (p .life) ++ lineOf "left=" (p .left) ++ optionalText coverCut (p .cover) ++ texts (lineOf "price=") (p .prices)
-
 -- the number of idle steps and the steps
 unfoldable pub idlesCut : List ℕ → List ℕ
 idlesCut is = countedCut "idles=" lastStep true (length is) (texts (lineOf "idle=") is)
 
--- the number of parts and the parts, with n prices each
+-- the number of parts and the parts, with n openings
 unfoldable pub partsCut : ℕ → PartLists → List ℕ
 partsCut n x = countedCut "parts=" mostParts (partsAgree n x) (length (x .lives)) (texts partCut (partsOf n x))
 
@@ -51,4 +38,4 @@ formCut h is os fs x = lineOf "horizon=" h ++ optionalText idlesCut (idleLines i
 
 -- the most bytes that it has
 abbrev pub longestCut : ℕ
-longestCut = 30921
+longestCut = 45257

@@ -1,29 +1,16 @@
 // The lines of lists of numbers, written into a lent slice.
 use jobs::Job;
 use line_writing::write::put_line;
+use part_writing::put_values;
 ghost use Prim.Native.Nat.{_+_, _≤_};
 ghost use mathlib.Core.Path.{_≡_};
 ghost use lib.ListN.{length};
-ghost use Rattle.lines.specs.Text.{line, texts, optionalText};
+ghost use Rattle.lines.specs.Text.{texts, optionalText};
 ghost use Rattle.lines.specs.Wrote.{Wrote};
 ghost use Rattle.job_grammar.specs.Optionals.{idleLines};
 ghost use Rattle.job_grammar.specs.Rendering.{openingText};
 ghost use Rattle.form_facts.specs.Facts.{paired};
 ghost use Rattle.form_writing.specs.Cut.{idlesCut};
-
-// Puts the line of a key and each value.
-pub fn put_values(out: &mut [u8], at: usize, key: &[u8], values: &[u32]) -> usize
-    requires { ⌜ at + length (texts (line (now key)) (now values)) ≤ length (now out) ⌝ }
-    ensures { λ r. ⌜ Wrote (now (out .entry)) at (texts (line (now (key .entry))) (now (values .entry))) (now (out .exit)) r ⌝ }
-{
-    let mut end = at;
-    let mut i: usize = 0;
-    while i < values.len() {
-        end = put_line(out, end, key, values[i] as u64);
-        i += 1;
-    }
-    end
-}
 
 // Puts the number of idle steps, and the steps if there are not too many.
 pub fn put_idles(out: &mut [u8], at: usize, idles: &[u32]) -> usize

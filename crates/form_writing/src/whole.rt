@@ -24,11 +24,17 @@ fn put_body(
     removals: &[u32],
     insides: &[u32],
     holders: &[u32],
+    ruled: &[u32],
+    bases: &[u32],
+    drops: &[u32],
+    leasts: &[u32],
+    banded: &[u32],
+    lows: &[u32],
     prices: &[u32],
 ) -> usize
     requires { ⌜ (length (now openings) ≤ mostOpenings) × (length (now fees) ≡ length (now openings)) ⌝ }
-    requires { ⌜ at + length (bodyCut (now openings) (now fees) (partLists (now lives) (now lefts) (now covered) (now removals) (now insides) (now holders) (now prices))) ≤ length (now out) ⌝ }
-    ensures { λ r. ⌜ Wrote (now (out .entry)) at (bodyCut (now (openings .entry)) (now (fees .entry)) (partLists (now (lives .entry)) (now (lefts .entry)) (now (covered .entry)) (now (removals .entry)) (now (insides .entry)) (now (holders .entry)) (now (prices .entry)))) (now (out .exit)) r ⌝ }
+    requires { ⌜ at + length (bodyCut (now openings) (now fees) (partLists (now lives) (now lefts) (now covered) (now removals) (now insides) (now holders) (now ruled) (now bases) (now drops) (now leasts) (now banded) (now lows) (now prices))) ≤ length (now out) ⌝ }
+    ensures { λ r. ⌜ Wrote (now (out .entry)) at (bodyCut (now (openings .entry)) (now (fees .entry)) (partLists (now (lives .entry)) (now (lefts .entry)) (now (covered .entry)) (now (removals .entry)) (now (insides .entry)) (now (holders .entry)) (now (ruled .entry)) (now (bases .entry)) (now (drops .entry)) (now (leasts .entry)) (now (banded .entry)) (now (lows .entry)) (now (prices .entry)))) (now (out .exit)) r ⌝ }
 {
     let a = put_openings(out, at, openings, fees);
     put_counted(
@@ -40,6 +46,12 @@ fn put_body(
         removals,
         insides,
         holders,
+        ruled,
+        bases,
+        drops,
+        leasts,
+        banded,
+        lows,
         prices,
         openings.len(),
     )
@@ -57,10 +69,16 @@ fn put_rest(
     removals: &[u32],
     insides: &[u32],
     holders: &[u32],
+    ruled: &[u32],
+    bases: &[u32],
+    drops: &[u32],
+    leasts: &[u32],
+    banded: &[u32],
+    lows: &[u32],
     prices: &[u32],
 ) -> usize
-    requires { ⌜ at + length (restCut (now openings) (now fees) (partLists (now lives) (now lefts) (now covered) (now removals) (now insides) (now holders) (now prices))) ≤ length (now out) ⌝ }
-    ensures { λ r. ⌜ Wrote (now (out .entry)) at (restCut (now (openings .entry)) (now (fees .entry)) (partLists (now (lives .entry)) (now (lefts .entry)) (now (covered .entry)) (now (removals .entry)) (now (insides .entry)) (now (holders .entry)) (now (prices .entry)))) (now (out .exit)) r ⌝ }
+    requires { ⌜ at + length (restCut (now openings) (now fees) (partLists (now lives) (now lefts) (now covered) (now removals) (now insides) (now holders) (now ruled) (now bases) (now drops) (now leasts) (now banded) (now lows) (now prices))) ≤ length (now out) ⌝ }
+    ensures { λ r. ⌜ Wrote (now (out .entry)) at (restCut (now (openings .entry)) (now (fees .entry)) (partLists (now (lives .entry)) (now (lefts .entry)) (now (covered .entry)) (now (removals .entry)) (now (insides .entry)) (now (holders .entry)) (now (ruled .entry)) (now (bases .entry)) (now (drops .entry)) (now (leasts .entry)) (now (banded .entry)) (now (lows .entry)) (now (prices .entry)))) (now (out .exit)) r ⌝ }
 {
     let n = openings.len();
     if (Job::MAX_OPENINGS as usize) < n {
@@ -81,6 +99,12 @@ fn put_rest(
         removals,
         insides,
         holders,
+        ruled,
+        bases,
+        drops,
+        leasts,
+        banded,
+        lows,
         prices,
     )
 }
@@ -98,10 +122,16 @@ pub fn put_form(
     removals: &[u32],
     insides: &[u32],
     holders: &[u32],
+    ruled: &[u32],
+    bases: &[u32],
+    drops: &[u32],
+    leasts: &[u32],
+    banded: &[u32],
+    lows: &[u32],
     prices: &[u32],
 ) -> usize
-    requires { ⌜ length (formCut horizon (now idles) (now openings) (now fees) (partLists (now lives) (now lefts) (now covered) (now removals) (now insides) (now holders) (now prices))) ≤ length (now out) ⌝ }
-    ensures { λ r. ⌜ Wrote (now (out .entry)) 0 (formCut horizon (now (idles .entry)) (now (openings .entry)) (now (fees .entry)) (partLists (now (lives .entry)) (now (lefts .entry)) (now (covered .entry)) (now (removals .entry)) (now (insides .entry)) (now (holders .entry)) (now (prices .entry)))) (now (out .exit)) r ⌝ }
+    requires { ⌜ length (formCut horizon (now idles) (now openings) (now fees) (partLists (now lives) (now lefts) (now covered) (now removals) (now insides) (now holders) (now ruled) (now bases) (now drops) (now leasts) (now banded) (now lows) (now prices))) ≤ length (now out) ⌝ }
+    ensures { λ r. ⌜ Wrote (now (out .entry)) 0 (formCut horizon (now (idles .entry)) (now (openings .entry)) (now (fees .entry)) (partLists (now (lives .entry)) (now (lefts .entry)) (now (covered .entry)) (now (removals .entry)) (now (insides .entry)) (now (holders .entry)) (now (ruled .entry)) (now (bases .entry)) (now (drops .entry)) (now (leasts .entry)) (now (banded .entry)) (now (lows .entry)) (now (prices .entry)))) (now (out .exit)) r ⌝ }
 {
     let a = put_line(out, 0, b"horizon=", horizon as u64);
     let b = put_idles(out, a, idles);
@@ -116,6 +146,12 @@ pub fn put_form(
         removals,
         insides,
         holders,
+        ruled,
+        bases,
+        drops,
+        leasts,
+        banded,
+        lows,
         prices,
     )
 }

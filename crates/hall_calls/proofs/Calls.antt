@@ -69,9 +69,11 @@ module _ (hall : Hall) (g : Ground) (a : Arrays) (p : Spot) (name : List Bool) (
   abbrev still : p .removing ≡ false
   still = k .stood .formed .calling ec .2
 
+  -- a call is asked at one of the first 64 steps
   pub step-near : p .step < 64
   step-near = omega (arith, k .asked .call ec, k .crewed .table .few)
 
+  -- the question at the node of a call is on the crew at that step
   pub asks-call : Asks (agendaOf hall) name (crew (stepAt hall (p .step)))
   asks-call = subst (Asks (agendaOf hall) name) (cond-yes (crew (stepAt hall (p .step))) (line (p .line)) ec) (raised-asks (raised hall (g .ats) p (k .crewed .table) (k .stood .formed) (k .asked)) (agendaOf hall) name (k .stood .stands))
 
@@ -91,9 +93,11 @@ module _ (hall : Hall) (g : Ground) (a : Arrays) (p : Spot) (name : List Bool) (
   pub at-step : (e : ℕ) (c : Course) → OnCourse (g .ats) p e c → c .at ≡ levelIn (g .ats) (p .step) e
   at-step e c o = o .level ∙ cond-no (levelIn (g .ats) (p .step + 1) e) (levelIn (g .ats) (p .step) e) (ap (ltb e) at-zero ∙ le-ltb e 0 (omega arith))
 
+  -- where a call is asked no line's course is at a stop
   pub no-stop : (e : ℕ) (c : Course) → OnCourse (g .ats) p e c → c .stopped ≡ false
   no-stop e c o = o .stopped ∙ ap (λ (b : Bool). b && eqb e (p .line)) still
 
+  -- where a call is asked and nothing is written, all lines are kept
   pub self-all : Kept g a a cs
   self-all = record { size = record { w = refl; v = refl; n = refl }; each = λ e l. self-kept g a e (courseIn cs e) (line-given hall name g a cs e l (k .stood .at .lines)) }
 
@@ -142,9 +146,11 @@ module _ (hall : Hall) (g : Ground) (a : Arrays) (p : Spot) (name : List Bool) (
       measure = omega (arith, call-measure);
     }
 
+    -- where the estimate with the call's cost does not pass the test, the hall's node below a call is closed
     pub call-closed : (limit : ℕ) (s : Search) → openS limit total (Sum 0) s ≡ Missing → Below hall true g a a p (closedSpot p) name cs limit s
     call-closed limit s f = record { e = Sum 0; due = total; due-at = call-due; kept = self-all; same = same-all; closed = λ _. f; opened = λ t. absurd (false≢true t) }
 
+    -- where the estimate with the call's cost passes the test, the hall's node below a call is walked on
     pub call-open : (limit : ℕ) (s : Search) (y : ℕ) → openS limit total (Sum 0) s ≡ Sum y → Below hall true g a a p q name cs limit s
     call-open limit s y f = record { e = Sum 0; due = total; due-at = call-due; kept = self-all; same = same-all; closed = λ t. absurd (true≢false t); opened = λ _. (y, f, call-opens) }
 
@@ -190,6 +196,7 @@ module _ (hall : Hall) (g : Ground) (a : Arrays) (p : Spot) (name : List Bool) (
     formed-none : Formed hall (g .ats) n
     formed-none = record { calling = λ _. (omega (arith, k .asked .call ec), refl, refl); lines = λ e. absurd (true≢false e); stopped = λ e. absurd (false≢true e) }
 
+    -- the total of all lines past the step is due at the hall's node below no call, without part sums
     pub none-due : DueAt (treeFrom (hallBound hall) (leftBelow hall false p) (snoc name false)) (Sum 0) total
     none-due =
         all-due hall (snoc name false) (askedOf n) calls (slotsAt g a' 0 ds) uncalled (k .crewed .fits .few) (asked-near hall (g .ats) n (k .crewed) formed-none) (leftBelow hall false p) total 0 (omega (arith, r .total-is))
@@ -253,8 +260,10 @@ module _ (hall : Hall) (g : Ground) (a : Arrays) (p : Spot) (name : List Bool) (
       measure = omega (arith, call-measure, step-near);
     }
 
+    -- where the total of all lines past the step does not pass the test, the node below no call is closed
     pub none-drop : (limit : ℕ) (s : Search) → openS limit total (Sum 0) s ≡ Missing → Below hall false g a a' p (closedSpot p) name cs limit s
     none-drop limit s f = record { e = Sum 0; due = total; due-at = none-due; kept = r .kept; same = record { size = refl; sheet = λ e l. refl; best = best-none }; closed = λ _. f; opened = λ t. absurd (false≢true t) }
 
+    -- where the total of all lines past the step passes the test, the node below no call is walked on
     pub none-open : (limit : ℕ) (s : Search) (y : ℕ) → openS limit total (Sum 0) s ≡ Sum y → Below hall false g a a' p n name cs limit s
     none-open limit s y f = record { e = Sum 0; due = total; due-at = none-due; kept = r .kept; same = record { size = refl; sheet = λ e l. refl; best = best-none }; closed = λ t. absurd (true≢false t); opened = λ _. (y, f, none-opens) }

@@ -20,7 +20,7 @@ use Rattle.held_rows.specs.Held.{SheetOf, heldBound}
 use Rattle.held_rows.proofs.Sheets.{held-bound}
 use Rattle.walk.specs.declared.Search.{Search}
 use Rattle.walk.specs.State.{noCost, openS}
-use Rattle.stop_nodes.proofs.Root.{fresh}
+use Rattle.held_nodes.proofs.Root.{fresh}
 use Rattle.hall.specs.Hall.{Hall, openAt}
 use Rattle.hall.specs.Agenda.{Line, nameFor}
 use Rattle.hall.specs.LowerBound.{lineBound, hallBound}
@@ -114,6 +114,7 @@ module _ (hall : Hall) (g : Ground) (a₀ a : Arrays) (p : Spot) (name : List Bo
       let z = sum-most g a 0 ds (λ e l. let m : e ≡ 0 + e = omega arith in subst (λ (j : ℕ). slotBound (lineSlot g a j (courseIn ds e)) ≤ slotMost) m (low-each e l)) in
       omega (arith, z, r .size, k .stood .count, k .crewed .fits .few, r .total-is, k .stood .at .poor, asked-near hall (g .ats) p (k .crewed) (k .stood .formed))
 
+  -- what is within the hall's estimate so far is small, so what a line can add to it fits
   pub pass-room : (rest : ℕ) → rest ≤ total → roomy rest
   pass-room rest l = omega (arith, l, total-low)
 
@@ -158,9 +159,11 @@ module _ (hall : Hall) (g : Ground) (a₀ a : Arrays) (p : Spot) (name : List Bo
         }
 
     module _ (at : ℕ) (is : at ≡ levelIn (g .ats) (p .step) d) where
+      -- an opening is left to a line that is open at the step
       pub pass-opening : Opening (c .sheet) (c .blocks) (lineOf (g .t) d) (lineOf (g .u) d) (lineOf (a .w) d) (lineOf (a .v) d) (lineOf (a .n) d) at (c .paid)
       pass-opening = subst (λ (x : ℕ). Opening (c .sheet) (c .blocks) (lineOf (g .t) d) (lineOf (g .u) d) (lineOf (a .w) d) (lineOf (a .v) d) (lineOf (a .n) d) x (c .paid)) (at-level ∙ sym is) opening
 
+      -- the level of a line that is open at the step is below 64
       pub pass-near : at < 64
       pass-near = omega (arith, pass-opening .less, pass-opening .given .tables .few)
 
@@ -171,6 +174,7 @@ module _ (hall : Hall) (g : Ground) (a₀ a : Arrays) (p : Spot) (name : List Bo
       own-part : othersSum d (slotsAt g a 0 ds) + slotBound (lineSlot g a d c) ≡ linesSum (slotsAt g a 0 ds)
       own-part = subst (λ (x : Course). othersSum d (slotsAt g a 0 ds) + slotBound (lineSlot g a d x) ≡ linesSum (slotsAt g a 0 ds)) (r .rest d (omega arith)) (others-own d (slotsAt g a 0 ds) (lineSlot g a d (courseIn ds d)) (slot-in g a d ds (omega (arith, less, r .size))))
 
+      -- the part sums and the term of a line that is open at the step are within the hall's estimate so far
       pub pass-within : sumsIn (lineOf (a .n) d) at + termIn (lineOf (a .n) d) at ≤ total
       pass-within = omega (arith, own-bound, own-part, r .total-is)
 
@@ -202,6 +206,7 @@ module _ (hall : Hall) (g : Ground) (a₀ a : Arrays) (p : Spot) (name : List Bo
             go (yes z) = subst (λ (j : ℕ). LineKept g a a₁ j (courseIn cs j)) (sym z) own-kept
             go (no z) = untouched-kept g a a₁ e (courseIn cs e) (getD-set-other (a .w) d e w₁ [] z) refl (getD-set-other (a .n) d e n₁ [] z) (line-given hall name g a cs e l (k .stood .at .lines))
 
+        -- all lines are kept from the first arrays to those with this line's no written
         pub pass-kept : Kept g a₀ a₁ cs
         pass-kept = all-then g a₀ a a₁ cs (r .kept) (record { size = record { w = length-set (a .w) d w₁; v = refl; n = length-set (a .n) d n₁ }; each = kept-one })
 
@@ -263,6 +268,7 @@ module _ (hall : Hall) (g : Ground) (a₀ a : Arrays) (p : Spot) (name : List Bo
               let v = bound-kept (lineSlot g a d c) (lineSlot g a₁ d c) (own-kept .slot) in
               omega (arith, m, i, u, v, same-sum, own-is, own-bound, rest-is, r .total-is, found₁ .answers .opened z f .2)
 
+          -- where the line's own no finds a total, one line more has passed the step, with that total
           pub pass-some : Passing g a₀ a₁ (p .step) calls cs (d + 1) z
           pass-some = record {
             kept = pass-kept;

@@ -127,17 +127,21 @@ text-is s t e = let a = accepted-is mostHallBytes hallLines s t e in lines-tell 
 
 -- ---- what it means
 
+-- a valid hall text means a hall whose lines have the first one's horizon and idle steps
 pub valid-proper : (t : HallText) → ValidHall t → Proper (meantHall t)
 valid-proper t v = all-alike (t .jobs) (v .jobs)
 
+-- a valid hall text means a hall within the limits of lines, call, parts and openings
 pub valid-fits : (t : HallText) → ValidHall t → Fits (meantHall t)
 valid-fits t v =
     let sums = within [] (t .jobs) (omega arith) (omega arith) (v .jobs) in
     let many : length (map meantJob (t .jobs)) ≡ length (t .jobs) = length-map (t .jobs) meantJob in
     record { some = omega (arith, many, v .some); few = omega (arith, many, v .few); fair = v .fair; parts = omega (arith, sums .0); openings = omega (arith, sums .1) }
 
+-- an accepted hall text means a hall whose lines have the first one's horizon and idle steps
 pub accepted-proper : (s : List ℕ) (t : HallText) → readHallText s ≡ accepted t → Proper (meantHall t)
 accepted-proper s t e = valid-proper t (valid-hall s t e)
 
+-- an accepted hall text means a hall within the limits of lines, call, parts and openings
 pub accepted-fits : (s : List ℕ) (t : HallText) → readHallText s ≡ accepted t → Fits (meantHall t)
 accepted-fits s t e = valid-fits t (valid-hall s t e)

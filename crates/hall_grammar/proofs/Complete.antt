@@ -28,7 +28,7 @@ use Rattle.hall_grammar.proofs.Accepted.{valid-hall, text-is}
 jobs-next : (ts : List JobText) (s : List ℕ) → Behind s → Behind (texts jobText ts ++ s)
 unfolding startsWith line bytes jobText
 jobs-next [] s e = e
-jobs-next (t ∷ ts) s e = record { removal = refl }
+jobs-next (t ∷ ts) s e = record { removal = refl; base = refl }
 
 jobs-back : (ts : List JobText) (before : List Job) → Joined before ts → (s : List ℕ) (l : ℕ) → Behind s → (l′ : ℕ) × (jobsBehind (length ts) before (texts jobText ts ++ s) l ≡ good ts s l′)
 unfolding jobsBehind jobBehind return
@@ -57,6 +57,7 @@ lines-back t v s l next =
           ∙ bind-good (row "machines=" 1 mostLines) _ (a .1) ∙ bind-good (row "call=" 0 dearestCall) _ (b .1) ∙ bind-good (jobsBehind (length (t .jobs)) []) _ (d .1),
     )
 
+-- the text of a valid hall record, if it is not too long, is accepted and read back as that record
 pub read-back : (t : HallText) → ValidHall t → length (hallText t) ≤ mostHallBytes → readHallText (hallText t) ≡ accepted t
 read-back t v short =
     let r = lines-back t v [] 1 behind-none in

@@ -7,8 +7,8 @@ use native.Mathlib.Omega.{arith}
 use lib.ListN.{length, getD, set, length-set}
 use lib.Seq.{getD-set-same, getD-set-other}
 use Rattle.held_rows.specs.Held.{HeldSheet, held}
-use Rattle.stop_nodes.specs.declared.Node.{Node}
-use Rattle.stop_nodes.specs.State.{At}
+use Rattle.held_nodes.specs.declared.Node.{Node}
+use Rattle.held_nodes.specs.State.{At}
 use Rattle.hall_lines.specs.declared.Stop.{Stop}
 use Rattle.hall_lines.specs.Levels.{levelPlace, levelsSize, LevelsKept, LevelPut}
 use Rattle.hall_lines.specs.Lines.{openSlot, stopSlot}
@@ -38,6 +38,7 @@ module _ (n : List ℕ) (at rows sums term mask : ℕ) (size : length n ≡ leve
       let z : at * 4 + 0 ≡ at * 4 = omega arith in
       ap (λ (j : ℕ). getD n₁ j 0) z ∙ getD-set-same n (at * 4) rows 0 (omega (arith, size, few))
 
+  -- with its four numbers written one after the other a level stands, and the levels before it are kept
   pub level-put : LevelPut n (set n₃ (at * 4 + 3) mask) at rows sums term mask
   level-put = record {
     rows-are = getD-set-other n₃ (at * 4 + 3) (at * 4 + 0) mask 0 (λ z. omega (arith, z)) ∙ getD-set-other n₂ (at * 4 + 2) (at * 4 + 0) term 0 (λ z. omega (arith, z))
@@ -54,6 +55,7 @@ module _ (n : List ℕ) (at rows sums term mask : ℕ) (size : length n ≡ leve
     };
   }
 
+-- where nothing is written every level is kept
 pub levels-none : (n : List ℕ) (k : ℕ) → LevelsKept n n k
 levels-none n k = record { size = refl; below = λ i l. refl }
 
@@ -81,6 +83,7 @@ level-same sheet ds t u w v n n' at paid k =
       term = e2 i;
     }
 
+-- a line's numbers at a stop are the same where the levels up to it are kept
 pub stop-same : (sheet : HeldSheet) (ds : List (List Bool)) (t u w v n n' : List ℕ) (at paid : ℕ) (p : Stop) → LevelsKept n n' (at + 1) → stopSlot sheet ds t u w v n' at paid p ≡ stopSlot sheet ds t u w v n at paid p
 stop-same sheet ds t u w v n n' at paid p k =
     let e : (j : ℕ) → j < 4 → getD n' (levelPlace at j) 0 ≡ getD n (levelPlace at j) 0 = λ j l. k .below (levelPlace at j) (omega (arith, l)) in

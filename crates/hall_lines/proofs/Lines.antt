@@ -1,4 +1,4 @@
--- What a line's functions find: each node below from the laws of one line's walk (stop_nodes), as a slot of the hall (hall_nodes).
+-- What a line's functions find: each node below from the laws of one line's walk (held_nodes), as a slot of the hall (hall_nodes).
 use Prim.Native.Nat.{ℕ, _+_, _-_, _*_, _^_, _<_, _≤_, max}
 use mathlib.Core.Path.{_≡_, refl, sym, ap, subst, _∙_}
 use mathlib.Core.Bool.{Bool, true, false, false≢true, true≢false}
@@ -28,14 +28,14 @@ use Rattle.walk.specs.declared.Search.{Search}
 use Rattle.walk.specs.State.{noCost, openS}
 use Rattle.walk.proofs.Nodes.{mask-fits}
 use Rattle.walk.proofs.Trees.{DueAt, where-there, opened}
-use Rattle.stop_nodes.specs.declared.Node.{Node}
-use Rattle.stop_nodes.specs.State.{noN, yesN, staysN, outN, settledN, bestIn, treeAt, At, Frame, NodeSettled}
-use Rattle.stop_nodes.proofs.Given.{sums-low, stop-most}
-use Rattle.stop_nodes.proofs.Frames.{at-kept}
-use Rattle.stop_nodes.proofs.Branches.{at-looked}
-use Rattle.stop_nodes.proofs.Openings.{opening-asks, no-below, no-more, no-cheap, no-due, yes-due}
-use Rattle.stop_nodes.proofs.Stops.{stop-asks, stays-below, stays-more, stays-cheap, stays-due, out-due}
-use Rattle.stop_nodes.proofs.Settling.{settle-asks, Rests, rests}
+use Rattle.held_nodes.specs.declared.Node.{Node}
+use Rattle.held_nodes.specs.State.{noN, yesN, staysN, outN, settledN, bestIn, treeAt, At, Frame, NodeSettled}
+use Rattle.held_nodes.proofs.Given.{sums-low, stop-most}
+use Rattle.held_nodes.proofs.Frames.{at-kept}
+use Rattle.held_nodes.proofs.Branches.{at-looked}
+use Rattle.held_nodes.proofs.Openings.{opening-asks, no-below, no-more, no-cheap, no-due, yes-due}
+use Rattle.held_nodes.proofs.Stops.{stop-asks, stays-below, stays-more, stays-cheap, stays-due, out-due}
+use Rattle.held_nodes.proofs.Settling.{settle-asks, Rests, rests}
 use Rattle.hall_nodes.specs.Lines.{Slot, Given, Goes, SlotKept, withRows, settledSlot, noBlocks, yesBlocks, moreBlocks, noSlot, staysSlot, outSlot}
 use Rattle.hall_nodes.proofs.Going.{more-name, no-goes, yes-goes, stays-goes, out-goes, fresh-kept, looked-kept, settled-kept}
 use Rattle.hall_lines.specs.declared.Stop.{Stop}
@@ -63,6 +63,7 @@ open-sums limit due e s y fits f = go e refl
 pub answers-none : (limit due : ℕ) (e : Bound) (s : Search) → openS limit due e s ≡ Missing → Answers limit due e s Missing
 answers-none limit due e s f = record { closed = λ _. f; opened = λ z g. absurd (no-sum Missing z refl g) }
 
+-- a test that lets the node be walked on is answered by the hall's estimate
 pub answers-some : (limit due : ℕ) (e : Bound) (s : Search) (y total : ℕ) → openS limit due e s ≡ Sum y → total ≡ due + y → Answers limit due e s (Sum total)
 answers-some limit due e s y total f g = record { closed = λ h. absurd (no-sum (Sum total) total h refl); opened = λ z h. (y, f, sym (sum-inj (Sum total) total z refl h) ∙ g) }
 
@@ -90,12 +91,14 @@ module _ (sheet : HeldSheet) (ds : List (List Bool)) (t u w v n : List ℕ) (at 
   abbrev a : At sheet ds t u w v (levelNode (held sheet) n at paid) (sumsIn n at) (termIn n at)
   a = op .given
 
+  -- where an opening is left, fewer than 64 are decided
   pub near : at < 64
   near = omega (arith, op .less, a .tables .few)
 
   pub opening-needs : TermAsks u v (at + 1) (rowsIn n at - 1) × Looks t w (rowsIn n at) (at + 1) × (0 < rowsIn n at)
   opening-needs = opening-asks a refl (op .less)
 
+  -- the line's stops with one more decision fit in 64 bits
   pub next-mask : maskIn n at * 2 + 1 < 2 ^ 64
   next-mask = mask-fits at (maskIn n at) (a .mask) near
 
@@ -103,10 +106,12 @@ module _ (sheet : HeldSheet) (ds : List (List Bool)) (t u w v n : List ℕ) (at 
   abbrev pub noSum : ℕ
   noSum = sumLanes (lanesIn t) (λ (q : ℕ). lane t w suffixBase (at + 1) q (rowsIn n at))
 
+  -- the part sums of no stop are at most the number for Missing in every lane
   pub no-low : noSum ≤ laneCount * inf
   no-low = sums-low (λ (q : ℕ). lane t w suffixBase (at + 1) q (rowsIn n at)) (lanesIn t) noSum (a .tables .narrow) (λ q. lane-most t w suffixBase (at + 1) q (rowsIn n at)) refl
 
   module _ (h : ℕ) (term : h ≡ mostTo (termOf u v (at + 1) (rowsIn n at - 1)) (getD u classesPlace 0)) where
+    -- where the term is there, the part sums of no stop are no lower than the line's
     pub no-rises : h < inf → sumsIn n at ≤ noSum
     no-rises = no-more a refl (op .less) h noSum term refl
 
@@ -119,6 +124,7 @@ module _ (sheet : HeldSheet) (ds : List (List Bool)) (t u w v n : List ℕ) (at 
         (left-bound (heldBound sheet) 0 (held sheet) (held sheet - held sheet) (length (sheet .positions) - (at + 1)) (concat (noBlocks ds)) ∙ ap (heldBound sheet) (sym (no-joined ds))) no-tree
         (λ y f. let z = where-there h noSum y f in omega (arith, z .1, no-low, no-cheap a refl (op .less) h noSum term refl (z .0), a .poor, a .inside, a .tables .few, a .holders .parts))
 
+    -- a node without a stop that is walked on has its term, and the part sums found are its own
     pub no-fits : (limit rest : ℕ) (s : Search) (y : ℕ) → rest + inf + laneCount * inf + inf < 2 ^ 64 → openS limit (rest + h) (sumWhere h noSum) s ≡ Sum y → (h < inf) × (noSum ≡ y)
     no-fits limit rest s y roomy f = where-there h noSum y (open-sums limit (rest + h) (sumWhere h noSum) s y (λ z g. let k = where-there h noSum z g in omega (arith, roomy, k .0, k .1, no-low)) f)
 
@@ -176,6 +182,7 @@ module _ (sheet : HeldSheet) (ds : List (List Bool)) (t u w v n : List ℕ) (at 
   abbrev v⁰ : List ℕ
   v⁰ = set v (readyPlace (rowsIn n at)) 0
 
+  -- the line has at most 64 rows where an opening is left
   pub few-rows : rowsIn n at ≤ 64
   few-rows = let wr = a .opening refl .all in omega (arith, wr .rows-are .few, wr .size, op .less, a .tables .few)
 
@@ -233,18 +240,23 @@ module _ (sheet : HeldSheet) (ds : List (List Bool)) (t u w v n : List ℕ) (at 
   abbrev b : At sheet ds t u w v (stopNode n at paid p) (p .sums) (p .term)
   b = re .given
 
+  -- fewer than 16 removals are decided where one is open
   pub few-next : p .next < 16
   few-next = omega (arith, re .left, b .holders .parts)
 
+  -- at a stop fewer than 64 openings are decided before it
   pub stop-near : at < 64
   stop-near = omega (arith, b .inside, b .tables .few)
 
+  -- the removals of the stop with one more decision fit in 64 bits
   pub next-removed : p .removed * 2 + 1 < 2 ^ 64
   next-removed = mask-fits (p .next) (p .removed) (b .stop refl .small) (omega (arith, few-next))
 
+  -- the terms and both levels of the stop's rows may be looked up
   pub stop-needs : TermAsks u v (at + 1) (rowsIn n at - 1) × LooksAtStop t u w (rowsIn n at) (at + 1) × (0 < rowsIn n at)
   stop-needs = stop-asks b refl
 
+  -- the list of the classes that need the next holding part stands within the tables
   pub class-needs : (p .next < laneCount) × (getD u (needCountPlace (p .next)) 0 ≤ laneCount) × ((i : ℕ) → i < getD u (needCountPlace (p .next)) 0 → getD u (needClassPlace (p .next) i) 0 < getD u classesPlace 0)
   class-needs = (few-next, b .holders .need-count (p .next) (re .left), λ i l. omega (arith, b .holders .need-class (p .next) i (re .left) l, b .holders .classes))
 
@@ -252,9 +264,11 @@ module _ (sheet : HeldSheet) (ds : List (List Bool)) (t u w v n : List ℕ) (at 
   abbrev pub staysSet : ℕ
   staysSet = bitOr (p .shut) (getD u (needLanesPlace (p .next)) 0)
 
+  -- the part sums of the stop where the next holding part stays
   abbrev pub staysSum : ℕ
   staysSum = sumLanes (lanesIn t) (stopLane t w (at + 1) (rowsIn n at) staysSet)
 
+  -- the part sums where the next holding part stays are at most the number for Missing in every lane
   pub stays-low : staysSum ≤ laneCount * inf
   stays-low = sums-low (stopLane t w (at + 1) (rowsIn n at) staysSet) (lanesIn t) staysSum (b .tables .narrow) (stop-most t w (at + 1) (rowsIn n at) staysSet) refl
 
@@ -265,6 +279,7 @@ module _ (sheet : HeldSheet) (ds : List (List Bool)) (t u w v n : List ℕ) (at 
   removed = b .stop refl .rs
 
   module _ (h : ℕ) (term : h ≡ max (p .term) (mostTo (λ (i : ℕ). termOf u v (at + 1) (rowsIn n at - 1) (getD u (needClassPlace (p .next) i) 0)) (getD u (needCountPlace (p .next)) 0))) where
+    -- where the term is there, the part sums where the next holding part stays are no lower than the stop's
     pub stays-rises : h < inf → p .sums ≤ staysSum
     stays-rises = stays-more b refl (re .left) staysSet h staysSum refl term refl
 
@@ -275,6 +290,7 @@ module _ (sheet : HeldSheet) (ds : List (List Bool)) (t u w v n : List ℕ) (at 
         (stays-due b refl (re .left) staysSet h staysSum (stays-below b refl (re .left) staysSet h staysSum refl term refl) (stays-cheap b refl (re .left) staysSet h staysSum refl term refl) stays-low)
         (λ y f. let z = where-there h staysSum y f in omega (arith, z .1, stays-low, stays-cheap b refl (re .left) staysSet h staysSum refl term refl (z .0), b .poor, b .inside, b .tables .few, few-next))
 
+    -- a node where the holding part stays that is walked on has its term, and the part sums found are its own
     pub stays-fits : (limit rest : ℕ) (s : Search) (y : ℕ) → rest + inf + laneCount * inf + inf < 2 ^ 64 → openS limit (rest + h) (sumWhere h staysSum) s ≡ Sum y → (h < inf) × (staysSum ≡ y)
     stays-fits limit rest s y roomy f =
         where-there h staysSum y (open-sums limit (rest + h) (sumWhere h staysSum) s y (λ z g. let k = where-there h staysSum z g in omega (arith, roomy, k .0, k .1, stays-low)) f)
@@ -323,6 +339,7 @@ module _ (sheet : HeldSheet) (ds : List (List Bool)) (t u w v n : List ℕ) (at 
   outs : Goes true at-stop (outSlot at-stop before removed (paid + price))
   outs = out-goes at-stop b refl (re .left) (paid + price) refl
 
+  -- a line's estimate with the next holding part removed is at most the most that it can be
   pub out-cheap : paid + (price + p .term) + p .sums ≤ 17648000000
   out-cheap = let g = outs .given in omega (arith, g .poor, g .cheap, g .low, g .inside, b .tables .few, few-next)
 
@@ -361,20 +378,25 @@ module _ (sheet : HeldSheet) (ds : List (List Bool)) (t u w v n : List ℕ) (at 
   abbrev d : At sheet ds t u w v (stopNode n at paid p) (p .sums) (p .term)
   d = de .given
 
+  -- a stop whose removals are decided gives all that settling it asks, and its removals fit in 32 bits
   pub settle-needs : SettleAsks t u v w (at + 1) (rowsIn n at) × (p .removed < 2 ^ 32)
   settle-needs = settle-asks d (d .stop refl) (d .pending) refl
 
+  -- at a stop to be settled fewer than 64 openings are decided before it
   pub settle-near : at < 64
   settle-near = omega (arith, d .inside, d .tables .few)
 
+  -- at a stop to be settled the line has at most 64 rows
   pub settle-rows : rowsIn n at ≤ 64
   settle-rows = let wr = d .stop refl .before in omega (arith, wr .rows-are .few, wr .size, settle-near)
 
+  -- the line's stops with the stop to be settled fit in 64 bits
   pub settle-mask : maskIn n at * 2 + 1 < 2 ^ 64
   settle-mask =
       let z : 2 ^ (at + 1) ≤ 2 ^ 64 = pow-le-pow-right {n = 2} (omega arith) {i = at + 1} {j = 64} (omega (arith, settle-near)) in
       omega (arith, d .mask, z)
 
+  -- with the stop's row, marks and level written the line is given at the next level, and the levels before are kept
   pub line-settled : (w' v' n' : List ℕ) → StopPut t w w' (at + 1) (rowsIn n at) (p .shut) → StopNoted t u w v v' (at + 1) (rowsIn n at) (p .shut) (p .removed)
       → LevelPut n n' (at + 1) (rowsIn n at + 1) (p .sums) (p .term) (maskIn n at * 2 + 1) → LineSettled sheet ds t u w w' v v' n n' at paid p
   line-settled w' v' n' put noted level =

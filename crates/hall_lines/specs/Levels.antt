@@ -4,7 +4,7 @@ use mathlib.Core.Path.{_≡_}
 use mathlib.Core.Bool.{true, false}
 use mathlib.Core.List.{List}
 use lib.ListN.{length, getD}
-use Rattle.stop_nodes.specs.declared.Node.{Node}
+use Rattle.held_nodes.specs.declared.Node.{Node}
 use Rattle.hall_lines.specs.declared.Stop.{Stop}
 
 -- the place of a level's number

@@ -15,7 +15,7 @@ use Rattle.held_rows.specs.Held.{HeldSheet, held, heldBound}
 use Rattle.held_lanes.specs.Places.{topPlace, needLanesPlace, removalPlace}
 use Rattle.walk.specs.declared.Search.{Search}
 use Rattle.walk.specs.State.{noCost, openS}
-use Rattle.stop_nodes.specs.State.{bestIn}
+use Rattle.held_nodes.specs.State.{bestIn}
 use Rattle.hall_nodes.specs.Lines.{Slot, Given, Goes, SlotKept, noBlocks, yesBlocks}
 use Rattle.hall_lines.specs.declared.Stop.{Stop}
 use Rattle.hall_lines.specs.declared.Decision.{Decision}

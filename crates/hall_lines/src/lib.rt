@@ -18,13 +18,13 @@ use held_lanes::TOPS;
 use held_lanes::number;
 use held_lanes::opening_term;
 use held_lanes::removal_term;
+use held_nodes::no_sums;
+use held_nodes::stay_sums;
 use held_stops::settle_stop;
 use lane_rows::FEES;
 use lane_rows::STACK;
 use lane_rows::TABLES;
 use lane_rows::cell;
-use stop_nodes::no_sums;
-use stop_nodes::stay_sums;
 use walk::Search;
 
 // The numbers of all levels, and those of one: its rows, part sums, term and stops.

@@ -44,12 +44,15 @@ lines-size d (job ∷ jobs) = ap suc (lines-size (suc d) jobs)
 
 -- ---- one line's part written
 
+-- where the part of line d is written, line d has what was written
 pub at-same : (xs : List (List ℕ)) (d : ℕ) (x : List ℕ) → d < length xs → lineOf (set xs d x) d ≡ x
 at-same xs d x l = getD-set-same xs d x [] l
 
+-- writing the part of line d leaves the other lines as before
 pub others-set : (xs : List (List ℕ)) (d : ℕ) (x : List ℕ) → Others d xs (set xs d x)
 others-set xs d x = record { size = length-set xs d x; same = λ e n. getD-set-other xs d e x [] n }
 
+-- where nothing is written the lines but the one at place d are as before
 pub others-none : (xs : List (List ℕ)) (d : ℕ) → Others d xs xs
 others-none xs d = record { size = refl; same = λ e n. refl }
 
@@ -72,23 +75,28 @@ module _ (hall : Hall) (g : Ground) (a : Arrays) (p : Spot) (name : List Bool) (
   asks-line : p .calling ≡ false → Asks (agendaOf hall) name (line d)
   asks-line ec = subst (Asks (agendaOf hall) name) (cond-no (crew (stepAt hall (p .step))) (line d) ec) (raised-asks (raised hall (g .ats) p (k .crewed .table) (k .stood .formed) (k .asked)) (agendaOf hall) name (k .stood .stands))
 
+  -- after either answer, what the spot below leaves is what is left to ask there
   pub stands-after : (x : Bool) → Stands (agendaOf hall) (snoc name x) (leftBelow hall x p)
   stands-after false = raised-no (raised hall (g .ats) p (k .crewed .table) (k .stood .formed) (k .asked)) (agendaOf hall) name (k .stood .stands)
   stands-after true = raised-yes (raised hall (g .ats) p (k .crewed .table) (k .stood .formed) (k .asked)) (agendaOf hall) name (k .stood .stands)
 
   module _ (ec : p .calling ≡ false) (er : p .removing ≡ false) where
+    -- the line asked at a line's question has a course
     pub line-less : d < length cs
     line-less = omega (arith, k .asked .line ec er .0, k .stood .count)
 
+    -- the line asked at a line's question is one of four
     pub line-four : d < 4
     line-four = omega (arith, k .asked .line ec er .0, k .crewed .fits .few)
 
+    -- a line's question is asked at one of the first 64 steps
     pub line-step : p .step < 64
     line-step = omega (arith, k .stood .formed .lines ec .0, k .crewed .table .few)
 
     on : OnCourse (g .ats) p d c
     on = k .stood .courses d line-less
 
+    -- the line asked has decided as many openings as the step's table says of it
     pub line-level : c .at ≡ levelIn (g .ats) (p .step) d
     line-level = here-level hall (g .ats) p (k .crewed) (k .stood .formed) (k .asked) ec er c on
 
@@ -124,6 +132,7 @@ module _ (hall : Hall) (g : Ground) (a : Arrays) (p : Spot) (name : List Bool) (
         let y = ap (λ (x : ℕ). sumsIn (lineOf (a .n) d) x + termIn (lineOf (a .n) d) x) (is ∙ sym line-level) in
         omega (arith, y, z, k .stood .total, others-own d (slotsAt g a 0 cs) (lineSlot g a d c) (slot-in g a d cs line-less))
 
+    -- the level of the line asked is below 64
     pub level-near : (at : ℕ) → at ≡ levelIn (g .ats) (p .step) d → at < 64
     level-near at is = omega (arith, opening-at at is .less, opening-at at is .given .tables .few)
 
@@ -159,6 +168,7 @@ module _ (hall : Hall) (g : Ground) (a : Arrays) (p : Spot) (name : List Bool) (
         follows = no-follows hall (g .ats) p (k .crewed) (k .stood .formed) (k .asked) ec er z;
       }
 
+      -- where a line's no finds no bound, the hall's node below is closed
       pub no-closed : r ≡ Missing → Below hall false g a a₁ p (closedSpot p) name cs limit s
       no-closed f =
           line-below hall false g a a₁ p (closedSpot p) name calls cs d limit s (k .crewed) (k .stood) (asks-line ec) line-less
@@ -175,6 +185,7 @@ module _ (hall : Hall) (g : Ground) (a : Arrays) (p : Spot) (name : List Bool) (
             opened = λ t. absurd (false≢true t);
           }) (stands-after false)
 
+      -- where a line's no finds a total, the hall's node below is walked on from the next line, with that total
       pub no-open : (z : ℕ) → r ≡ Sum z → Below hall false g a a₁ p (lineSpot p (d + 1) z) name cs limit s
       no-open z f =
           line-below hall false g a a₁ p (lineSpot p (d + 1) z) name calls cs d limit s (k .crewed) (k .stood) (asks-line ec) line-less
@@ -224,6 +235,7 @@ module _ (hall : Hall) (g : Ground) (a : Arrays) (p : Spot) (name : List Bool) (
         follows = yes-follows hall (g .ats) p (k .crewed) (k .stood .formed) (k .asked) ec er stop₂ z refl;
       }
 
+      -- where a line's stop finds no bound, the hall's node below is closed
       pub yes-closed : r ≡ Missing → Below hall true g a a₂ p (closedSpot p) name cs limit s
       yes-closed f =
           line-below hall true g a a₂ p (closedSpot p) name calls cs d limit s (k .crewed) (k .stood) (asks-line ec) line-less
@@ -240,6 +252,7 @@ module _ (hall : Hall) (g : Ground) (a : Arrays) (p : Spot) (name : List Bool) (
             opened = λ t. absurd (false≢true t);
           }) (stands-after true)
 
+      -- where a line's stop finds a total, the hall's node below is walked on at that stop, with that total
       pub yes-open : (z : ℕ) → r ≡ Sum z → Below hall true g a a₂ p (stopSpot p (firstStop (lineOf (g .u) d) (lineOf (a .n) d) at) z) name cs limit s
       yes-open z f =
           subst (λ (x : ℕ). Below hall true g a a₂ p (stopSpot p (firstStop (lineOf (g .u) d) (lineOf (a .n) d) x) z) name cs limit s) (line-level ∙ sym is)
@@ -260,21 +273,25 @@ module _ (hall : Hall) (g : Ground) (a : Arrays) (p : Spot) (name : List Bool) (
   -- ---- at a removal
 
   module _ (er : p .removing ≡ true) where
+    -- the line at hand of a removal has a course
     pub stop-less : d < length cs
     stop-less = omega (arith, k .stood .formed .stopped er .1, k .stood .count)
 
+    -- the line at hand of a removal is one of four
     pub stop-four : d < 4
     stop-four = omega (arith, k .stood .formed .stopped er .1, k .crewed .fits .few)
 
     ec : p .calling ≡ false
     ec = not-calling hall (g .ats) p (k .stood .formed) (k .asked) er
 
+    -- a removal is asked at one of the first 64 steps
     pub stop-step : p .step < 64
     stop-step = omega (arith, k .stood .formed .lines ec .0, k .crewed .table .few)
 
     onr : OnCourse (g .ats) p d c
     onr = k .stood .courses d stop-less
 
+    -- the line at hand of a removal has decided as many openings as the step's table says of it
     pub stop-at : c .at ≡ levelIn (g .ats) (p .step) d
     stop-at = stop-level hall (g .ats) p (k .stood .formed) (k .asked) er c onr
 
@@ -305,6 +322,7 @@ module _ (hall : Hall) (g : Ground) (a : Arrays) (p : Spot) (name : List Bool) (
     stop-rest : (rest : ℕ) → rest + (p .stop .sums + p .stop .term) ≡ p .total → rest + slotBound (lineSlot g a d c) ≡ p .total + c .paid
     stop-rest rest e = let z = ap slotBound (is-stop a) in omega (arith, e, z)
 
+    -- the part sums and the term of the stop at hand are within the hall's estimate
     pub stop-most : p .stop .sums + p .stop .term ≤ p .total
     stop-most =
         let z = ap slotBound (is-stop a) in
@@ -323,6 +341,7 @@ module _ (hall : Hall) (g : Ground) (a : Arrays) (p : Spot) (name : List Bool) (
       found₃ = subst (λ (x : List ℕ). StayFound (c .sheet) (c .blocks) (lineOf (g .t) d) (lineOf (g .u) d) (lineOf (a .w) d) x (lineOf (a .v) d) (lineOf (a .n) d) (c .at) (c .paid) (p .stop) limit rest s r) (sym (at-same (a .w) d w₁ (omega (arith, lw, stop-four))))
           (subst (λ (x : ℕ). StayFound (c .sheet) (c .blocks) (lineOf (g .t) d) (lineOf (g .u) d) (lineOf (a .w) d) w₁ (lineOf (a .v) d) (lineOf (a .n) d) x (c .paid) (p .stop) limit rest s r) (is ∙ sym stop-at) found)
 
+      -- where a part is not removed, what the line finds is the hall's node below, tested
       pub stays-below : Below hall false g a a₃ p (decidedSpot p r) name cs limit s
       stays-below =
           line-below hall false g a a₃ p (decidedSpot p r) name calls cs d limit s (k .crewed) (k .stood) (asks-line ec) stop-less
@@ -359,6 +378,7 @@ module _ (hall : Hall) (g : Ground) (a : Arrays) (p : Spot) (name : List Bool) (
 
     module _ (limit rest : ℕ) (s : Search) (r : Decision) (rest-is : rest + (p .stop .sums + p .stop .term) ≡ p .total)
         (found : OutFound (c .sheet) (c .blocks) (lineOf (g .t) d) (lineOf (g .u) d) (lineOf (a .w) d) (lineOf (a .v) d) (lineOf (a .n) d) (c .at) (c .paid) (p .stop) limit rest s r) where
+      -- where a part is removed, what the line finds is the hall's node below, tested, with nothing written
       pub out-below : Below hall true g a a p (decidedSpot p r) name cs limit s
       out-below =
           let fee = getD (lineOf (g .u) d) (removalPlace (p .stop .next)) 0 in

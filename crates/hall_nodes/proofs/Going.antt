@@ -1,4 +1,4 @@
--- One line goes on, as in one line's walk: the laws of stop_nodes for the nodes below an opening and below a stop, said of slots. And a line that is settled, or looked at, or whose next row is noted as not ready.
+-- One line goes on, as in one line's walk: the laws of held_nodes for the nodes below an opening and below a stop, said of slots. And a line that is settled, or looked at, or whose next row is noted as not ready.
 use Prim.Native.Nat.{ℕ, _+_, _-_, _*_, _<_, _≤_, max}
 use mathlib.Core.Path.{_≡_, refl, sym, ap, subst, _∙_}
 use mathlib.Core.Bool.{Bool, true, false, cond, false≢true}
@@ -15,14 +15,14 @@ use Rattle.held_lanes.specs.Tables.{termOf}
 use Rattle.held_stops.specs.Stops.{stopLane}
 use Rattle.held_stops.proofs.Names.{no-joined, stop-joined, stop-more}
 use Rattle.branch.specs.Search.{snoc}
-use Rattle.stop_nodes.specs.declared.Node.{Node}
-use Rattle.stop_nodes.specs.State.{written, Pending, Frame, NodeSettled}
+use Rattle.held_nodes.specs.declared.Node.{Node}
+use Rattle.held_nodes.specs.State.{written, Pending, Frame, NodeSettled}
 use Rattle.lane_rows.proofs.Lanes.{kept-refl}
 use Rattle.lane_rows.proofs.Memory.{recalled-then}
-use Rattle.stop_nodes.proofs.Frames.{aside-none, aside-then, frame-then, frame-looked, pended-kept, ready-frame}
-use Rattle.stop_nodes.proofs.Settling.{Rests, rests}
-use Rattle.stop_nodes.proofs.Openings.{no-below, no-cheap, at-no, at-yes}
-use Rattle.stop_nodes.proofs.Stops.{stays-shut, stays-below, stays-cheap, at-stays, at-out}
+use Rattle.held_nodes.proofs.Frames.{aside-none, aside-then, frame-then, frame-looked, pended-kept, ready-frame}
+use Rattle.held_nodes.proofs.Settling.{Rests, rests}
+use Rattle.held_nodes.proofs.Openings.{no-below, no-cheap, at-no, at-yes}
+use Rattle.held_nodes.proofs.Stops.{stays-shut, stays-below, stays-cheap, at-stays, at-out}
 use Rattle.hall_nodes.specs.Lines.{Slot, Given, Goes, noSlot, yesSlot, staysSlot, outSlot, settledSlot, withRows, SlotKept}
 
 -- how many openings are written, by whether a stop is owed
@@ -32,6 +32,7 @@ written-by p b o = ap (λ (c : Bool). cond c (p .at - 1) (p .at)) o
 -- ---- below an opening
 
 module _ (s : Slot) (a : Given s) (o : s .node .owed ≡ false) (less : s .node .at < length (s .sheet .positions)) where
+  -- a line at an opening goes on without a stop, with the term and part sums found
   pub no-goes : (h y : ℕ) → h ≡ mostTo (termOf (s .u) (s .v) (s .node .at + 1) (s .node .rows - 1)) (getD (s .u) classesPlace 0)
       → y ≡ sumLanes (lanesIn (s .t)) (λ (q : ℕ). lane (s .t) (s .w) suffixBase (s .node .at + 1) q (s .node .rows)) → h < inf → y ≤ laneCount * inf → Goes false s (noSlot s y h)
   no-goes h y term sum l low = record {
@@ -56,6 +57,7 @@ module _ (s : Slot) (a : Given s) (o : s .node .owed ≡ false) (less : s .node 
         pending = λ q. absurd (false≢true (sym o ∙ q));
       }
 
+  -- a line at an opening goes on with a stop, its fee paid and its row noted as not ready
   pub yes-goes : (k paying : ℕ) → k ≡ getD (s .u) (topPlace (s .node .at + 1)) 0 → paying ≡ s .node .spent + getD (s .t) (feePlace (s .node .at)) 0 → getD (s .v) (readyPlace (s .node .rows)) 0 ≡ 0 → Goes true s (yesSlot s paying k)
   yes-goes k paying top cost fresh = record {
     sheet = refl;
@@ -72,9 +74,11 @@ module _ (s : Slot) (a : Given s) (o : s .node .owed ≡ false) (less : s .node 
 -- ---- below a stop
 
 module _ (s : Slot) (a : Given s) (o : s .node .owed ≡ true) (next : s .node .next < held (s .sheet)) where
+  -- the blocks before the stop at hand
   abbrev pub before : List (List Bool)
   before = a .stop o .bs
 
+  -- the removals decided so far at the stop at hand
   abbrev pub removed : List Bool
   removed = a .stop o .rs
 
@@ -82,6 +86,7 @@ module _ (s : Slot) (a : Given s) (o : s .node .owed ≡ true) (next : s .node .
   pub more-name : (x : Bool) → concat (before ++ ((true ∷ snoc removed x) ∷ [])) ≡ snoc (concat (s .blocks)) x
   more-name x = sym (stop-joined before (snoc removed x)) ∙ sym (stop-more before removed x) ∙ ap (λ (l : List Bool). snoc l x) (stop-joined before removed ∙ ap concat (sym (a .stop o .same)))
 
+  -- a line at a stop goes on with the next holding part not removed, with the term and part sums found
   pub stays-goes : (shut h y : ℕ) → shut ≡ bitOr (s .node .shut) (getD (s .u) (needLanesPlace (s .node .next)) 0)
       → h ≡ max (s .term) (mostTo (λ (i : ℕ). termOf (s .u) (s .v) (s .node .at) (s .node .rows - 1) (getD (s .u) (needClassPlace (s .node .next) i) 0)) (getD (s .u) (needCountPlace (s .node .next)) 0))
       → y ≡ sumLanes (lanesIn (s .t)) (stopLane (s .t) (s .w) (s .node .at) (s .node .rows) shut) → h < inf → y ≤ laneCount * inf → Goes false s (staysSlot s before removed shut y h)
@@ -97,6 +102,7 @@ module _ (s : Slot) (a : Given s) (o : s .node .owed ≡ true) (next : s .node .
     back = λ w v p q. p refl;
   }
 
+  -- a line at a stop goes on with the next holding part removed, its removal paid
   pub out-goes : (paying : ℕ) → paying ≡ s .node .spent + getD (s .u) (removalPlace (s .node .next)) 0 → Goes true s (outSlot s before removed paying)
   out-goes paying cost = record {
     sheet = refl;
@@ -150,6 +156,7 @@ goes-kept x s s' s'' g l =
 
 -- ---- a line that is settled
 
+-- a line whose stop is settled rests: its node is given, and what was written is kept
 pub settled-given : (s : Slot) → Given s → (w v : List ℕ) (r : ℕ) → held (s .sheet) ≤ s .node .next → NodeSettled (s .t) (s .u) (s .w) w (s .v) v (s .node) r → Rests (s .sheet) (s .blocks) (s .t) (s .u) (s .w) w (s .v) v (s .node) (s .sums) (s .term) r
 settled-given s a w v r done st = rests a done st
 

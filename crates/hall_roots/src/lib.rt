@@ -9,12 +9,12 @@ use hall_lines::LEVELS;
 use hall_lines::put_level;
 use held_lanes::ASIDE;
 use held_lanes::HELD;
+use held_walk::first_marks;
 use lane_rows::STACK;
 use lane_rows::TABLES;
 use lane_rows::base_row;
 use lane_rows::first_sums;
 use lane_rows::term;
-use stop_walk::first_marks;
 
 // The line's first level over its tables: its first row and marks, its part sums and its term. The line's floor, if it has a plan.
 pub fn begin_line(

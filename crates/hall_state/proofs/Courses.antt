@@ -39,6 +39,7 @@ module _ (g : Ground) where
       go true = stop-same (c .sheet) (c .blocks) (lineOf (g .t) d) (lineOf (g .u) d) (lineOf (a' .w) d) (lineOf (a' .v) d) (lineOf (a .n) d) (lineOf (a' .n) d) (c .at) (c .paid) (c .stop) k
       go false = level-same (c .sheet) (c .blocks) (lineOf (g .t) d) (lineOf (g .u) d) (lineOf (a' .w) d) (lineOf (a' .v) d) (lineOf (a .n) d) (lineOf (a' .n) d) (c .at) (c .paid) k
 
+  -- a line's slot has that line's rows of the arrays, at a stop or at a level
   pub slot-rows : (a : Arrays) (d : ℕ) (c : Course) → lineSlot g a d c .w ≡ lineOf (a .w) d
   slot-rows a d c = go (c .stopped)
     where
@@ -46,6 +47,7 @@ module _ (g : Ground) where
       go true = refl
       go false = refl
 
+  -- a line's slot has what the arrays hold beside that line's rows
   pub slot-aside : (a : Arrays) (d : ℕ) (c : Course) → lineSlot g a d c .v ≡ lineOf (a .v) d
   slot-aside a d c = go (c .stopped)
     where
@@ -53,6 +55,7 @@ module _ (g : Ground) where
       go true = refl
       go false = refl
 
+  -- a line's slot has the sheet of the line's course
   pub slot-sheet : (a : Arrays) (d : ℕ) (c : Course) → lineSlot g a d c .sheet ≡ c .sheet
   slot-sheet a d c = go (c .stopped)
     where
@@ -60,6 +63,7 @@ module _ (g : Ground) where
       go true = refl
       go false = refl
 
+  -- a line's slot has the blocks that the line's course has decided
   pub slot-blocks : (a : Arrays) (d : ℕ) (c : Course) → lineSlot g a d c .blocks ≡ c .blocks
   slot-blocks a d c = go (c .stopped)
     where
@@ -87,12 +91,14 @@ module _ (g : Ground) where
       go true f = looked-kept (stoppedSlot g a d c) f (lineOf (a .w) d) (recalled-none (lineOf (g .t) d) (lineOf (a .w) d) (stoppedSlot g a d c .node .rows) (f .stop refl .before .memo))
       go false f = looked-kept (levelSlot g a d c) f (lineOf (a .w) d) (recalled-none (lineOf (g .t) d) (lineOf (a .w) d) (levelSlot g a d c .node .rows) (f .opening refl .all .memo))
 
+  -- a given line is kept where its rows, what stands beside them and its levels are as before
   pub untouched-kept : (a a' : Arrays) (d : ℕ) (c : Course) → lineOf (a' .w) d ≡ lineOf (a .w) d → lineOf (a' .v) d ≡ lineOf (a .v) d → lineOf (a' .n) d ≡ lineOf (a .n) d → Given (lineSlot g a d c) → LineKept g a a' d c
   untouched-kept a a' d c ew ev en h = record {
     slot = subst (SlotKept (lineSlot g a d c)) (sym (line-same a a' d c ew ev en)) (self-kept a d c h .slot);
     levels = subst (λ (m : List ℕ). LevelsKept (lineOf (a .n) d) m (c .at + 1)) (sym en) (levels-none (lineOf (a .n) d) (c .at + 1));
   }
 
+  -- a line kept from the first arrays to the second and from those to the third is kept throughout
   pub line-then : (a a' a'' : Arrays) (d : ℕ) (c : Course) → LineKept g a a' d c → LineKept g a' a'' d c → LineKept g a a'' d c
   line-then a a' a'' d c k l = record {
     slot = slot-then (lineSlot g a d c) (lineSlot g a' d c) (lineSlot g a'' d c) (k .slot) (l .slot);
@@ -114,6 +120,7 @@ module _ (g : Ground) where
 size-then : (a a' a'' : Arrays) → SameSize a a' → SameSize a' a'' → SameSize a a''
 size-then a a' a'' k l = record { w = l .w ∙ k .w; v = l .v ∙ k .v; n = l .n ∙ k .n }
 
+-- lines kept from the first arrays to the second and from those to the third are all kept throughout
 pub all-then : (g : Ground) (a a' a'' : Arrays) (cs : List Course) → Kept g a a' cs → Kept g a' a'' cs → Kept g a a'' cs
 all-then g a a' a'' cs k l = record { size = size-then a a' a'' (k .size) (l .size); each = λ e h. line-then g a a' a'' e (courseIn cs e) (k .each e h) (l .each e h) }
 
@@ -127,6 +134,7 @@ module _ (g : Ground) where
         each-kept a a' (suc d) cs (λ e h. let y : d + suc e ≡ suc d + e = omega arith in subst (λ (j : ℕ). SlotKept (lineSlot g a j (courseIn cs e)) (lineSlot g a' j (courseIn cs e))) y (k (suc e) (omega (arith, h)))),
       )
 
+  -- where all lines are kept, each line's slot over the old arrays is kept over the new ones
   pub all-kept : (a a' : Arrays) (cs : List Course) → Kept g a a' cs → Each SlotKept (slotsAt g a 0 cs) (slotsAt g a' 0 cs)
   all-kept a a' cs k = each-kept a a' 0 cs (λ e h. let z : e ≡ 0 + e = omega arith in subst (λ (j : ℕ). SlotKept (lineSlot g a j (courseIn cs e)) (lineSlot g a' j (courseIn cs e))) z (k .each e h .slot))
 
@@ -146,6 +154,7 @@ module _ (g : Ground) where
         best-each a a' (suc d) cs cs' (omega (arith, n)) (λ e h. f (suc e) (omega (arith, h))) (λ e h. let y : d + suc e ≡ suc d + e = omega arith in subst (λ (j : ℕ). BestSame (lineOf (a .v) j) (lineOf (a' .v) j) (courseIn cs e .sheet)) y (k (suc e) (omega (arith, h)))),
       )
 
+  -- where the sheets and the incumbent's removals stay, each line's slots over both arrays share them
   pub same-best : (a a' : Arrays) (cs cs' : List Course) → SameCourses a a' cs cs' → Each SameBest (slotsAt g a 0 cs) (slotsAt g a' 0 cs')
   same-best a a' cs cs' k = best-each a a' 0 cs cs' (k .size) (k .sheet) (λ e h. let z : e ≡ 0 + e = omega arith in subst (λ (j : ℕ). BestSame (lineOf (a .v) j) (lineOf (a' .v) j) (courseIn cs e .sheet)) z (k .best e h))
 
@@ -156,6 +165,7 @@ module _ (g : Ground) where
   slot-from a d zero (c ∷ cs) h = let z : d ≡ d + 0 = omega arith in ap (λ (j : ℕ). lineSlot g a j c) z
   slot-from a d (suc i) (c ∷ cs) h = let z : suc d + i ≡ d + suc i = omega arith in subst (λ (j : ℕ). SlotIn i (slotsAt g a (suc d) cs) (lineSlot g a j (courseIn cs i))) z (slot-from a (suc d) i cs (omega (arith, h)))
 
+  -- the slot at place i is that of the line there, with its course
   pub slot-in : (a : Arrays) (i : ℕ) (cs : List Course) → i < length cs → SlotIn i (slotsAt g a 0 cs) (lineSlot g a i (courseIn cs i))
   slot-in a i cs h = let z : 0 + i ≡ i = omega arith in subst (λ (j : ℕ). SlotIn i (slotsAt g a 0 cs) (lineSlot g a j (courseIn cs i))) z (slot-from a 0 i cs h)
 
@@ -164,6 +174,7 @@ module _ (g : Ground) where
   goes-from a d zero x (c ∷ cs) c' h k = let z : d + 0 ≡ d = omega arith in (subst (λ (j : ℕ). Goes x (lineSlot g a j c) (lineSlot g a j c')) z k, refl)
   goes-from a d (suc i) x (c ∷ cs) c' h k = let z : d + suc i ≡ suc d + i = omega arith in (refl, goes-from a (suc d) i x cs c' (omega (arith, h)) (subst (λ (j : ℕ). Goes x (lineSlot g a j (courseIn cs i)) (lineSlot g a j c')) z k))
 
+  -- where the line at place i goes on to another course, the slots do so at that place only
   pub goes-in : (a : Arrays) (i : ℕ) (x : Bool) (cs : List Course) (c' : Course) → i < length cs → Goes x (lineSlot g a i (courseIn cs i)) (lineSlot g a i c') → GoesAt i x (slotsAt g a 0 cs) (slotsAt g a 0 (set cs i c'))
   goes-in a i x cs c' h k = let z : i ≡ 0 + i = omega arith in goes-from a 0 i x cs c' h (subst (λ (j : ℕ). Goes x (lineSlot g a j (courseIn cs i)) (lineSlot g a j c')) z k)
 
@@ -173,6 +184,7 @@ others-own i [] s h = absurd h
 others-own zero (s₀ ∷ ss) s h = let z = ap slotBound h in omega (arith, z)
 others-own (suc i) (s₀ ∷ ss) s h = omega (arith, others-own i ss s h)
 
+-- after the line at place i goes on, all lines' sum is the others' old sum and its new estimate
 pub others-goes : (i : ℕ) (x : Bool) (ss ss' : List Slot) (s' : Slot) → GoesAt i x ss ss' → SlotIn i ss' s' → othersSum i ss + slotBound s' ≡ linesSum ss'
 others-goes i x [] ss' s' k h = absurd k
 others-goes i x (s ∷ ss) [] s' k h = absurd h
@@ -183,6 +195,7 @@ others-goes (suc i) x (s ∷ ss) (s₀ ∷ ss') s' k h = let z = ap slotBound (k
 pub bound-kept : (s s' : Slot) → SlotKept s s' → slotBound s' ≡ slotBound s
 bound-kept s s' k = ap slotBound (k .same)
 
+-- slots that are each kept have the same sum of estimates
 pub sum-kept : (ss ss' : List Slot) → Each SlotKept ss ss' → linesSum ss' ≡ linesSum ss
 sum-kept [] [] k = refl
 sum-kept [] (s' ∷ ss') k = absurd k
@@ -191,10 +204,14 @@ sum-kept (s ∷ ss) (s' ∷ ss') k = omega (arith, bound-kept s s' (k .0), sum-k
 
 -- the line at place i, of the hall's
 pub record LineHere (hall : Hall) (jobs : List Job) (p : List Bool) (d i : ℕ) (s : Slot) : Type 0 where
+  -- the job of the line at place i
   pub job : Job
+  -- that job stands at place i among the jobs
   pub placed : Placed jobs i job
+  -- the slot is that job's slot, at its place in the hall, at this node
   pub slot-of : SlotOf hall p (record { place = d + i; job = job }) s
 
+-- where each line has its slot, the slot at place i belongs to the job at place i
 pub line-here : (hall : Hall) (p : List Bool) (g : Ground) (a : Arrays) (d i : ℕ) (jobs : List Job) (cs : List Course) → i < length cs → Each (SlotOf hall p) (linesFrom d jobs) (slotsAt g a d cs) → LineHere hall jobs p d i (lineSlot g a (d + i) (courseIn cs i))
 unfolding linesFrom
 line-here hall p g a d i jobs [] h e = absurd (omega (arith, h))
@@ -213,12 +230,17 @@ line-given hall p g a cs e l h = let z : 0 + e ≡ e = omega arith in subst (λ 
 
 -- its job: as many holding parts and openings as its sheet has
 pub record JobHere (hall : Hall) (d : ℕ) (sheet : HeldSheet) : Type 0 where
+  -- the job at place d of the hall
   pub job : Job
+  -- that job stands at place d among the hall's jobs
   pub placed : Placed (hall .jobs) d job
+  -- the sheet is that job's sheet
   pub sheet-of : SheetOf job sheet
+  -- the sheet has as many holding parts as the job
   pub holders : held sheet ≡ inner job
   pub openings : length (sheet .positions) ≡ length (job .openings)
 
+-- where each line has its slot, a line's sheet is that of the job at the same place
 pub job-here : (hall : Hall) (p : List Bool) (g : Ground) (a : Arrays) (cs : List Course) (e : ℕ) → e < length cs → Each (SlotOf hall p) (linesFrom 0 (hall .jobs)) (slotsAt g a 0 cs) → JobHere hall e (courseIn cs e .sheet)
 job-here hall p g a cs e l h =
     let r = line-here hall p g a 0 e (hall .jobs) cs l h in

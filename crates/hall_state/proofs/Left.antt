@@ -21,12 +21,16 @@ use Rattle.hall_state.specs.Spots.{innerAt, callLeft, lineLeft, leftOf, 
 
 -- asked the same way: what is heard, and the tree below
 pub record SameLeft (l l' : List Agenda) : Type 0 where
+  -- a node where the first list is what is left to ask is one where the second is
   pub stands : (all : Agenda) (p : List Bool) → Stands all p l → Stands all p l'
+  -- the trees below a name are equal for the two lists, with every bound
   pub tree : (bound : List Bool → Bound) (p : List Bool) → treeFrom bound l p ≡ treeFrom bound l' p
 
+-- equal lists of agendas are asked the same way
 pub same-path : {l l' : List Agenda} → l ≡ l' → SameLeft l l'
 same-path {l} {l'} e = record { stands = λ all p. subst (Stands all p) e; tree = λ bound p. ap (λ (m : List Agenda). treeFrom bound m p) e }
 
+-- where a list is asked the same way as a second and that as a third, the first is asked as the third
 pub same-then : {l l' l'' : List Agenda} → SameLeft l l' → SameLeft l' l'' → SameLeft l l''
 same-then a b = record { stands = λ all p s. b .stands all p (a .stands all p s); tree = λ bound p. a .tree bound p ∙ b .tree bound p }
 
@@ -42,20 +46,29 @@ over-on l = record { stands = λ all p s tells q. s tells q; tree = λ bound p. 
 
 -- the first question is on the topic t, and what is left after a no and after a yes
 pub record Raised (l none some : List Agenda) (t : Topic) : Type 0 where
+  -- the agenda that is asked first after a yes
   pub inner : Agenda
+  -- the agenda that is asked after a no, and after a yes behind the inner one
   pub next : Agenda
+  -- the agendas that are left behind this one
   pub rest : List Agenda
+  -- the list is asked as an agenda that raises the topic, with the rest behind it
   pub here : SameLeft l (raise t inner next ∷ rest)
+  -- what is left after a no is asked the same way as the next agenda and the rest
   pub after-no : SameLeft (next ∷ rest) none
+  -- what is left after a yes is asked the same way as the inner agenda, the next one and the rest
   pub after-yes : SameLeft (inner ∷ next ∷ rest) some
 
 module _ {l none some : List Agenda} {t : Topic} (r : Raised l none some t) (all : Agenda) (p : List Bool) where
+  -- at a node where this list is left to ask, the question is on the topic t
   pub raised-asks : Stands all p l → Asks all p t
   raised-asks s = stands-asks all p (r .rest) t (r .inner) (r .next) (r .here .stands all p s)
 
+  -- the node after a no has the list for a no left to ask
   pub raised-no : Stands all p l → Stands all (snoc p false) none
   raised-no s = r .after-no .stands all (snoc p false) (stands-no all p (r .rest) t (r .inner) (r .next) (r .here .stands all p s))
 
+  -- the node after a yes has the list for a yes left to ask
   pub raised-yes : Stands all p l → Stands all (snoc p true) some
   raised-yes s = r .after-yes .stands all (snoc p true) (stands-yes all p (r .rest) t (r .inner) (r .next) (r .here .stands all p s))
 
@@ -82,6 +95,7 @@ drop-all A [] (suc k) l = refl
 drop-all A (x ∷ xs) zero l = absurd (omega (arith, l))
 drop-all A (x ∷ xs) (suc k) l = drop-all A xs k (omega (arith, l))
 
+-- the holding parts at place d are those of the job that stands there
 pub inner-at : (jobs : List Job) (d : ℕ) (job : Job) → Placed jobs d job → innerAt jobs d ≡ inner job
 inner-at [] d job p = absurd p
 inner-at (j ∷ jobs) zero job p = ap inner p
@@ -146,6 +160,7 @@ module _ (hall : Hall) where
   on-line ats k j m t l n =
       same-then (quiet k j) (same-then (same-path (ap (λ (a : Agenda). a ∷ behind k) (next-asked (hall .jobs) ats k (stepAt hall k) (t .tells k l) j m n))) (silent k (nextOpen ats k j m)))
 
+  -- where no line is left at a step, what is left to ask begins with the next step's call
   pub on-step : (k d : ℕ) → length (hall .jobs) ≤ d → SameLeft (lineLeft hall k 0 d) (callLeft hall (k + 1))
   on-step k d l =
       same-then (quiet k d) (same-then (same-path (ap (λ (a : Agenda). a ∷ behind k) (ap (linesAsked (stepAt hall k) d) (drop-all Job (hall .jobs) d l) ∙ lines-end (stepAt hall k) d))) (over-off (behind k)))

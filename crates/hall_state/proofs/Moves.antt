@@ -36,31 +36,47 @@ use Rattle.hall_state.proofs.Courses.{slot-sheet, slot-blocks, untouche
 
 -- the spot q is the one below p where line d takes the decision x: nothing but that line's course moves
 pub record Follows (hall : Hall) (x : Bool) (ats : List ℕ) (p q : Spot) (d : ℕ) : Type 0 where
+  -- the spot below is one of the hall's
   pub formed : Formed hall ats q
+  -- as many steps are asked at the spot below as above
   pub asked : askedOf q ≡ askedOf p
+  -- what is left to ask at the spot below is what the decision leaves
   pub left : leftOf hall q ≡ leftBelow hall x p
   pub others : (e : ℕ) (c : Course) → (e ≡ d → ⊥) → OnCourse ats p e c → OnCourse ats q e c
+  -- less is left to decide at the spot below than above
   pub measure : measureOf q < measureOf p
 
 -- the line's course below
 pub record GoesOn (hall : Hall) (x : Bool) (g : Ground) (a' : Arrays) (p q : Spot) (cs : List Course) (d : ℕ) : Type 0 where
+  -- the course that the line has at the spot below
   pub course : Course
   pub goes : Goes x (lineSlot g a' d (courseIn cs d)) (lineSlot g a' d course)
+  -- the line's sheet is the same below as above
   pub sheet : course .sheet ≡ courseIn cs d .sheet
+  -- the line has decided at least as many openings below as above
   pub later : courseIn cs d .at ≤ course .at
   pub on : OnCourse (g .ats) q d course
+  -- the spot below follows where this line takes the decision, and no other line moves
   pub follows : Follows hall x (g .ats) p q d
 
 -- what a line's move finds: its own node below, tested with the rest of the hall's estimate
 pub record LineMoved (hall : Hall) (x : Bool) (g : Ground) (a a' : Arrays) (p q : Spot) (cs : List Course) (d limit : ℕ) (s : Search) : Type 0 where
   pub others : OthersSame d a a'
+  -- what the moving line stood on is kept in the new arrays
   pub own : LineKept g a a' d (courseIn cs d)
+  -- the incumbent's removals of the moving line are unmoved
   pub best : BestSame (lineOf (a .v) d) (lineOf (a' .v) d) (courseIn cs d .sheet)
+  -- the part sums of the line's own node below
   pub e : Bound
+  -- the line's fees, removals and term below, beyond what it has paid so far
   pub h : ℕ
+  -- the hall's estimate without the line's part sums and term
   pub rest : ℕ
+  -- the line's own node below has these part sums, with what it has paid and h due
   pub due : OwnDue (courseIn cs d .sheet) (courseIn cs d .blocks) x e (courseIn cs d .paid + h)
+  -- the rest and the line's estimate above are the spot's total and what the line has paid
   pub rest-is : rest + slotBound (lineSlot g a d (courseIn cs d)) ≡ p .total + courseIn cs d .paid
+  -- where the spot below is not walked on, the code's test of the node finds nothing
   pub closed : q .there ≡ false → openS limit (rest + h) e s ≡ Missing
   pub opened : q .there ≡ true → (y : ℕ) × (openS limit (rest + h) e s ≡ Sum y) × (q .total ≡ rest + h + y) × GoesOn hall x g a' p q cs d
 
@@ -194,6 +210,7 @@ module _ (hall : Hall) (x : Bool) (g : Ground) (a a' : Arrays) (p q : Spot) (nam
       measure = k .follows .measure;
     }
 
+  -- a line's move finds the hall's node below, tested as the code does, where the decision leaves its agendas
   pub line-below : Stands (agendaOf hall) (snoc name x) (leftBelow hall x p) → Below hall x g a a' p q name cs limit s
   line-below stands = record {
     e = m .e;

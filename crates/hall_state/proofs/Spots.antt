@@ -23,6 +23,7 @@ use Rattle.hall_state.proofs.Moves.{Follows}
 pub cond-no : {A : Type 0} {b : Bool} (x y : A) → b ≡ false → cond b x y ≡ y
 cond-no {A} {b} x y e = ap (λ (c : Bool). cond c x y) e
 
+-- the first of two is chosen where the test says true
 pub cond-yes : {A : Type 0} {b : Bool} (x y : A) → b ≡ true → cond b x y ≡ x
 cond-yes {A} {b} x y e = ap (λ (c : Bool). cond c x y) e
 
@@ -59,6 +60,7 @@ module _ (hall : Hall) (ats : List ℕ) (p : Spot) (crewed : Crewed hall ats) (f
   pub here-level : (c : Course) → OnCourse ats p (p .line) c → c .at ≡ levelIn ats (p .step) (p .line)
   here-level c o = o .level ∙ cond-no (levelIn ats (p .step + 1) (p .line)) (levelIn ats (p .step) (p .line)) (le-ltb (p .line) (p .line) (omega arith))
 
+  -- where a line's question is asked, no line's course is at a stop
   pub here-open : (d : ℕ) (c : Course) → OnCourse ats p d c → c .stopped ≡ false
   here-open d c o = o .stopped ∙ ap (λ (b : Bool). b && eqb d (p .line)) er
 
@@ -66,6 +68,7 @@ module _ (hall : Hall) (ats : List ℕ) (p : Spot) (crewed : Crewed hall ats) (f
   pub next-level : levelIn ats (p .step + 1) (p .line) ≡ levelIn ats (p .step) (p .line) + 1
   next-level = crewed .table .rises (p .step) (p .line) (f .lines ec .0) (a .line ec er .0) ∙ ap (λ (b : Bool). levelIn ats (p .step) (p .line) + cond b 1 0) (a .line ec er .1)
 
+  -- after a no the spot of the lines from the next place on follows, for the line at hand
   pub no-follows : (total : ℕ) → Follows hall false ats p (lineSpot p (p .line + 1) total) (p .line)
   no-follows total = record {
     formed = record { calling = λ e. absurd (false≢true e); lines = λ _. (f .lines ec .0, omega (arith, a .line ec er .0)); stopped = λ e. absurd (false≢true e) };
@@ -79,6 +82,7 @@ module _ (hall : Hall) (ats : List ℕ) (p : Spot) (crewed : Crewed hall ats) (f
     measure = omega (arith, line-measure, near-line);
   }
 
+  -- after a no the line at hand, one opening later and at no stop, is on course
   pub no-on : (total : ℕ) (c : Course) → OnCourse ats p (p .line) c → (c' : Course) → c' .at ≡ c .at + 1 → c' .stopped ≡ false → OnCourse ats (lineSpot p (p .line + 1) total) (p .line) c'
   no-on total c o c' e s = record {
     level = omega (arith, e, here-level c o, next-level) ∙ sym (cond-yes (levelIn ats (p .step + 1) (p .line)) (levelIn ats (p .step) (p .line)) (lt-ltb (p .line) (p .line + 1) (omega arith)));
@@ -86,6 +90,7 @@ module _ (hall : Hall) (ats : List ℕ) (p : Spot) (crewed : Crewed hall ats) (f
     stop = λ h. absurd (false≢true (sym s ∙ h));
   }
 
+  -- after a yes the spot of a stop with no removal decided follows, for the line at hand
   pub yes-follows : (stop : Stop) (total : ℕ) → stop .next ≡ 0 → Follows hall true ats p (stopSpot p stop total) (p .line)
   yes-follows stop total z = record {
     formed = record { calling = λ e. absurd (false≢true e); lines = λ _. f .lines ec; stopped = λ _. (refl, a .line ec er .0, a .line ec er .1) };
@@ -99,12 +104,14 @@ module _ (hall : Hall) (ats : List ℕ) (p : Spot) (crewed : Crewed hall ats) (f
     measure = omega (arith, line-measure, z);
   }
 
+  -- after a yes the line at hand, at the same level and at that stop, is on course
   pub yes-on : (stop : Stop) (total : ℕ) (c : Course) → OnCourse ats p (p .line) c → (c' : Course) → c' .at ≡ c .at → c' .stopped ≡ true → c' .stop ≡ stop → OnCourse ats (stopSpot p stop total) (p .line) c'
   yes-on stop total c o c' e s t = record { level = e ∙ o .level; stopped = s ∙ sym (eq-eqb (p .line) (p .line) refl); stop = λ _. t }
 
 -- ---- below a removal
 
 module _ (hall : Hall) (ats : List ℕ) (p : Spot) (f : Formed hall ats p) (a : Asked hall ats p) (er : p .removing ≡ true) where
+  -- where a removal is asked no call is
   pub not-calling : p .calling ≡ false
   not-calling = f .stopped er .0
 
@@ -117,12 +124,15 @@ module _ (hall : Hall) (ats : List ℕ) (p : Spot) (f : Formed hall ats p) (a : 
       (cond (er i) (lineLeft hall (p .step) (innerAt (hall .jobs) (p .line) - (p .stop .next + 1)) (p .line + 1))
       (cond x (lineLeft hall (p .step) (innerAt (hall .jobs) (p .line) - 0) (p .line + 1)) (lineLeft hall (p .step) 0 (p .line + 1))))
 
+  -- the line at hand of a removal has decided the openings of the step's level
   pub stop-level : (c : Course) → OnCourse ats p (p .line) c → c .at ≡ levelIn ats (p .step) (p .line)
   stop-level c o = o .level ∙ cond-no (levelIn ats (p .step + 1) (p .line)) (levelIn ats (p .step) (p .line)) (le-ltb (p .line) (p .line) (omega arith))
 
+  -- the line at hand of a removal is at a stop
   pub stop-stopped : (c : Course) → OnCourse ats p (p .line) c → c .stopped ≡ true
   stop-stopped c o = o .stopped ∙ (λ i. er i && eq-eqb (p .line) (p .line) refl i)
 
+  -- after either answer the spot with one removal more decided follows, for the line at hand
   pub removal-follows : (x : Bool) (r : Decision) → r .stop .next ≡ p .stop .next + 1 → p .stop .next < 16 → Follows hall x ats p (decidedSpot p r) (p .line)
   removal-follows x r z few = record {
     formed = record { calling = λ e. absurd (false≢true e); lines = λ _. f .lines not-calling; stopped = λ _. (refl, f .stopped er .1, f .stopped er .2) };
@@ -134,5 +144,6 @@ module _ (hall : Hall) (ats : List ℕ) (p : Spot) (f : Formed hall ats p) (a : 
     measure = omega (arith, removal-measure, z, few);
   }
 
+  -- after a removal is decided the line at hand, at the same level and the new stop, is on course
   pub removal-on : (r : Decision) (c : Course) → OnCourse ats p (p .line) c → (c' : Course) → c' .at ≡ c .at → c' .stopped ≡ true → c' .stop ≡ r .stop → OnCourse ats (decidedSpot p r) (p .line) c'
   removal-on r c o c' e s t = record { level = e ∙ o .level; stopped = s ∙ sym (eq-eqb (p .line) (p .line) refl); stop = λ _. t }

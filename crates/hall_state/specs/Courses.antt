@@ -6,7 +6,7 @@ use mathlib.Core.List.{List, [], _∷_}
 use lib.IntN.{pos}
 use lib.ListN.{length, getD}
 use Rattle.held_rows.specs.Held.{HeldSheet}
-use Rattle.stop_nodes.specs.State.{bestIn}
+use Rattle.held_nodes.specs.State.{bestIn}
 use Rattle.hall_nodes.specs.Lines.{Slot, SlotKept}
 use Rattle.hall_lines.specs.declared.Stop.{Stop}
 use Rattle.hall_lines.specs.Levels.{LevelsKept}

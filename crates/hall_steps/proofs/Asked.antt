@@ -14,14 +14,17 @@ use Rattle.hall_steps.specs.Steps.{openIn, nextOpen, Tells}
 
 -- ---- the places that the code goes over
 
+-- of no lines the next that is open is the place behind them
 pub next-none : (ats : List ℕ) (k d : ℕ) → nextOpen ats k d 0 ≡ d
 unfolding nextOpen
 next-none ats k d = refl
 
+-- where the line at place d is open, it is the next one
 pub next-here : (ats : List ℕ) (k d m : ℕ) → openIn ats k d ≡ true → nextOpen ats k d (suc m) ≡ d
 unfolding nextOpen
 next-here ats k d m e = ap (λ (b : Bool). cond b d (nextOpen ats k (suc d) m)) e
 
+-- where the line at place d is not open, the next one is sought behind it
 pub next-past : (ats : List ℕ) (k d m : ℕ) → openIn ats k d ≡ false → nextOpen ats k d (suc m) ≡ nextOpen ats k (suc d) m
 unfolding nextOpen
 next-past ats k d m e = ap (λ (b : Bool). cond b d (nextOpen ats k (suc d) m)) e

@@ -33,12 +33,15 @@ module _ (hall : Hall) (g : Ground) (a : Arrays) (p : Spot) (line : ℕ) (name :
   abbrev d : ℕ
   d = nextOpen (g .ats) (p .step) line (lines - line)
 
+  -- the step at hand is one of the hall's
   pub step-in : p .step < stepCount hall
   step-in = st .formed .lines refl .0
 
+  -- the line to go on from is at most the number of the hall's lines
   pub line-in : line ≤ lines
   line-in = st .formed .lines refl .1
 
+  -- the next line that is open is not before the line at hand, and at most the number of lines
   pub next-in : (line ≤ d) × (d ≤ lines)
   next-in = let r = next-within (g .ats) (p .step) line (lines - line) in (r .0, omega (arith, r .1, line-in))
 
@@ -79,6 +82,7 @@ module _ (hall : Hall) (g : Ground) (a : Arrays) (p : Spot) (line : ℕ) (name :
     same-line : SameLeft (leftOf hall q) (leftOf hall r)
     same-line = on-line hall (g .ats) (p .step) line (lines - line) (crewed .table) step-in (omega (arith, line-in))
 
+    -- where a line is still open at the step, the walk arrives at its question with nothing written
     pub onto-line : Arrived hall g a a q r name calls cs
     onto-line = record {
       courses = cs;
@@ -114,6 +118,7 @@ module _ (hall : Hall) (g : Ground) (a : Arrays) (p : Spot) (line : ℕ) (name :
     same-step : SameLeft (leftOf hall q) (leftOf hall n)
     same-step = same-then (on-line hall (g .ats) (p .step) line (lines - line) (crewed .table) step-in (omega (arith, line-in))) (on-step hall (p .step) d end)
 
+    -- where no line is open any more at the step, the walk arrives at the next step's call with nothing written
     pub onto-step : Arrived hall g a a q n name calls cs
     onto-step = record {
       courses = cs;

@@ -58,15 +58,18 @@ module _ (hall : Hall) (g : Ground) (a : Arrays) (p : Spot) (name : List Bool) (
   abbrev c : Course
   c = courseIn cs d
 
+  -- the line whose stop is settled has a course
   pub less : d < length cs
   less = omega (arith, st .formed .stopped er .1, st .count)
 
+  -- the line whose stop is settled is one of four
   pub four : d < 4
   four = omega (arith, st .formed .stopped er .1, crewed .fits .few)
 
   abbrev ec : p .calling ≡ false
   ec = st .formed .stopped er .0
 
+  -- a stop is settled at one of the first 64 steps
   pub near : p .step < 64
   near = omega (arith, st .formed .lines ec .0, crewed .table .few)
 
@@ -91,10 +94,12 @@ module _ (hall : Hall) (g : Ground) (a : Arrays) (p : Spot) (name : List Bool) (
   pub holds : held (c .sheet) ≡ innerAt (hall .jobs) d
   holds = let j = job-here hall name g a cs d less (st .at .lines) in j .holders ∙ sym (inner-at (hall .jobs) d (j .job) (j .placed))
 
+  -- the slot of the line at its stop is given
   pub given : Given (stopHere a)
   given = subst Given (is-stop a) (line-given hall name g a cs d less (st .at .lines))
 
   module _ (all : innerAt (hall .jobs) d ≤ p .stop .next) (at : ℕ) (is : at ≡ levelIn (g .ats) (p .step) d) where
+    -- where no holding part is left to ask, no removal of the line's stop is open, at the step's level
     pub settles : Decided (c .sheet) (c .blocks) (lineOf (g .t) d) (lineOf (g .u) d) (lineOf (a .w) d) (lineOf (a .v) d) (lineOf (a .n) d) at (c .paid) (p .stop)
     settles = subst (λ (x : ℕ). Decided (c .sheet) (c .blocks) (lineOf (g .t) d) (lineOf (g .u) d) (lineOf (a .w) d) (lineOf (a .v) d) (lineOf (a .n) d) x (c .paid) (p .stop)) (at-level ∙ sym is) (record { given = given; all = omega (arith, all, holds) })
 
@@ -172,6 +177,7 @@ module _ (hall : Hall) (g : Ground) (a : Arrays) (p : Spot) (name : List Bool) (
               subst (OnCourse (g .ats) m e) (sym (getD-set-other cs d e c₁ noCourse z))
               (record { level = o .level ∙ ap (λ (b : Bool). cond b (levelIn (g .ats) (p .step + 1) e) (levelIn (g .ats) (p .step) e)) (sym (before-next e d z)); stopped = s; stop = λ h. absurd (false≢true (sym s ∙ h)) })
 
+      -- the node with the stop settled stands at the spot of the lines from the next place on
       pub settled-stood : Stood hall g a₁ m name calls cs₁
       settled-stood = record {
         formed = record { calling = λ e. absurd (false≢true e); lines = λ _. (st .formed .lines ec .0, omega (arith, st .formed .stopped er .1)); stopped = λ e. absurd (false≢true e) };

@@ -27,6 +27,7 @@ module _ (hall : Hall) (g : Ground) (a : Arrays) (p : Spot) (name : List Bool) (
     there = there;
   }
 
+  -- where a call is asked the walk has arrived already, with nothing written
   pub stays-call : p .calling ≡ true → p .there ≡ true → Arrived hall g a a p p name calls cs
   stays-call ec there = stays there (λ f. record {
     call = λ _. more f (decLt (p .step) (stepCount hall));
@@ -38,6 +39,7 @@ module _ (hall : Hall) (g : Ground) (a : Arrays) (p : Spot) (name : List Bool) (
       more f (yes h) = h
       more f (no h) = absurd (f ec (omega (arith, h, st .formed .calling ec .0)))
 
+  -- where a removal of the stop at hand is open the walk has arrived already, with nothing written
   pub stays-removal : p .removing ≡ true → p .stop .next < innerAt (hall .jobs) (p .line) → p .there ≡ true → Arrived hall g a a p p name calls cs
   stays-removal er left there = stays there (λ _. record {
     call = λ e. absurd (true≢false (sym e ∙ st .formed .stopped er .0));

@@ -27,9 +27,9 @@ use held_lanes::ASIDE;
 use held_lanes::HELD;
 use held_lanes::HOLDS;
 use held_lanes::number;
+use held_nodes::keep;
 use lane_rows::STACK;
 use lane_rows::TABLES;
-use stop_nodes::keep;
 
 // The next line from this place on that is open at the step, or the next step.
 pub fn onto(ats: &[u32; CREW], p: Spot, line: usize) -> Spot

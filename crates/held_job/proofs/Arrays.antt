@@ -30,6 +30,7 @@ module _ (j : Job) (sized : Sized j) (whole : Whole j) (valid : ValidJob (jobOf 
     long : Counted n m r
     long = counted j sized whole r numbered
 
+    -- the job's numbers, with at most the dearest removal added to each price, are what the plain search asks for
     pub plain-arrays : Arrays (r .placed .end) (take n (r .placed .at)) (take n (r .fees)) (take m (r .lives)) (take m (r .lefts)) ps
     plain-arrays =
         record {

@@ -19,7 +19,7 @@ use Rattle.jobs.specs.declared.Job.{Job}
 use Rattle.jobs.proofs.Jobs.{Whole, part-count}
 use Rattle.clock.proofs.Places.{places-are}
 use Rattle.coming_out.proofs.Rows.{row-take}
-use Rattle.held_places.specs.Arrays.{needStride, pricesAt, needsAt, Lane, Holds}
+use Rattle.held_places.specs.Arrays.{needStride, pricesAt, needsAt, Lane, HeldArrays}
 use Rattle.held_tables.specs.Sheet.{HeldArrays}
 use Rattle.job_numbers.specs.Laid.{Numbered, pricesWith, Laid}
 use Rattle.held_job.specs.Removed.{HolderNumbersOf}
@@ -53,13 +53,16 @@ module _ (job : model.Job) (t : HolderNumbers) (holders : HolderNumbersOf job t)
   held-count : {A : Type 0} (xs : List A) → length xs ≡ length (job .parts) → length (ofHolders job xs) ≡ t .holding
   held-count xs e = select-length xs (job .parts) (holding job) e ∙ sym (holders .holding)
 
+  -- the first entries of the removals array are the removals of the parts that are somebody's holder
   pub removals-are : take (t .holding) (t .removals) ≡ ofHolders job (map removalOf (job .parts))
   removals-are =
       row-take 0 (ofHolders job (map removalOf (job .parts))) (t .removals) (t .holding) (held-count (map removalOf (job .parts)) (length-map (job .parts) removalOf)) (holders .few) (holders .removals)
 
+  -- there are as many removals as parts that are somebody's holder
   pub removals-long : length (take (t .holding) (t .removals)) ≡ t .holding
   removals-long = ap length removals-are ∙ held-count (map removalOf (job .parts)) (length-map (job .parts) removalOf)
 
+  -- what is added to a part's prices is at most the dearest removal
   pub charges-range : ValidJob job → (q : ℕ) → q < mostParts → getD (t .charges) q 0 ≤ dearest
   charges-range valid q h = subst (λ (x : ℕ). x ≤ dearest) (sym (holders .charges q h)) (charge-range job valid q)
 
@@ -110,7 +113,8 @@ module _ (j : Job) (sized : Sized j) (whole : Whole j) (valid : ValidJob (jobOf 
         needs = sym (ap (λ (k : ℕ). needsAt k (t .needs) q) (removals-long (jobOf j) t holders) ∙ needs-at (jobOf j) t holders q (omega (arith, h, part-count j sized whole)) (omega (arith, sized .parts, part-count j sized whole)));
       }
 
-  pub holds : Holds (jobOf j) (r .placed .end) (take n (r .placed .at)) (take n (r .fees)) (take m (r .lives)) (take m (r .lefts)) ps (t .needs) decided
+  -- the arrays hold the job: its openings, its removals, and each part's life, prices and needs
+  pub holds : HeldArrays (jobOf j) (r .placed .end) (take n (r .placed .at)) (take n (r .fees)) (take m (r .lives)) (take m (r .lefts)) ps (t .needs) decided
   holds =
       record {
         ends = numbered .placed .end;

@@ -7,14 +7,16 @@ use coming_out::needs;
 use coming_out::records::holders_of;
 use coming_out::records::removals_of;
 use jobs::Job;
+use model::PAIRS;
+use model::PARTS;
 ghost use Rattle.jobs.specs.Views.{jobOf, Sized};
 ghost use Rattle.held_job.specs.Removed.{HolderNumbersOf};
 
 // What is added to each part's prices; of the parts that are somebody's holder, those that come out with each part; their removals; and how many they are.
 pub struct HolderNumbers {
-    pub charges: [u32; 16],
-    pub needs: [bool; 256],
-    pub removals: [u32; 16],
+    pub charges: [u32; PARTS],
+    pub needs: [bool; PAIRS],
+    pub removals: [u32; PARTS],
     pub holding: usize,
 }
 

@@ -18,6 +18,7 @@ use Rattle.held_rows.proofs.Terms.{term-no, term-yes, term-stays}
 use Rattle.held_lanes.specs.Places.{mostTo, levelPlace, needCountPlace, needClassPlace, topPlace}
 use Rattle.held_lanes.specs.Tables.{needing, HeldTables, Lasts, termOf}
 
+-- where each of k numbers stands for its bound, their largest stands for the largest of the bounds
 pub coded-to : (b k : ℕ) (f : ℕ → ℕ) (F : ℕ → Bound) → b ≤ laneLimit → ((c : ℕ) → c < k → Coded b (f c) (F c)) → Coded b (mostTo f k) (largestTo F k)
 unfolding mostTo largestTo
 coded-to b zero f F h g = (refl, omega arith)
@@ -54,12 +55,15 @@ module _ (sheet : HeldSheet) (fit : Classed sheet) (u v : List ℕ) (he : HeldTa
 
   module _ (x : ℕ) (sums : heldSums sheet bs ≡ Sum x) where
     module _ (h : count < length (sheet .positions)) where
+      -- the largest number over the classes, one level on, stands for the term after a no
       pub no-coded : Coded (most (count + 1)) (mostTo (termOf u v (count + 1) r) (length (sheet .needs))) (heldTerm sheet (bs ++ ((false ∷ []) ∷ [])))
       no-coded = subst (Coded (most (count + 1)) (mostTo (termOf u v (count + 1) r) (length (sheet .needs)))) (sym (term-no sheet fit bs x sums h)) (all-terms (count + 1) (omega arith) (omega arith))
 
+      -- the table's top number of the next level stands for the term of a stop with no removal decided
       pub yes-coded : Coded (most (count + 1)) (getD u (topPlace (count + 1)) 0) (heldTerm sheet (bs ++ ((true ∷ []) ∷ [])))
       yes-coded = subst (Coded (most (count + 1)) (getD u (topPlace (count + 1)) 0)) (sym (term-yes sheet fit bs x sums h)) (he .tops (count + 1) (omega arith))
 
+      -- a stop's number, raised by those of the classes that need the next holding part, stands for the term where it stays
       pub stays-coded : (rs : List Bool) (g : ℕ) → length rs < held sheet → Coded (most (count + 1)) g (heldTerm sheet (bs ++ ((true ∷ rs) ∷ [])))
           → Coded (most (count + 1)) (max g (mostTo (λ (i : ℕ). termOf u v (count + 1) r (getD u (needClassPlace (length rs) i) 0)) (getD u (needCountPlace (length rs)) 0))) (heldTerm sheet (bs ++ ((true ∷ snoc rs false) ∷ [])))
       stays-coded rs g l c =

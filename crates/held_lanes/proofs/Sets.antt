@@ -32,6 +32,7 @@ bit-low (suc (suc zero)) s h = let z : s % 16 / 2 / 2 % 2 ≡ s / 2 / 2 % 2 = om
 bit-low (suc (suc (suc zero))) s h = let z : s % 16 / 2 / 2 / 2 % 2 ≡ s / 2 / 2 / 2 % 2 = omega arith in ap (λ (x : ℕ). eqb x 1) z
 bit-low (suc (suc (suc (suc i)))) s h = absurd (omega arith)
 
+-- no lane belongs to the empty set
 pub bit-zero : (q : ℕ) → bitAt q 0 ≡ false
 unfolding bitAt
 bit-zero zero = refl

@@ -11,21 +11,23 @@ use Rattle.model.specs.Verdict.{partAt}
 use Rattle.model.specs.LowerBound.{choiceOf, offers, blocks, inner, nodeAt, partChoice}
 use Rattle.model.proofs.Totals.{select-length}
 use Rattle.model.proofs.Held.{held-length}
-use Rattle.held_places.specs.Arrays.{pricesAt, Holds}
+use Rattle.held_places.specs.Arrays.{pricesAt, HeldArrays}
 use Rattle.held_places.specs.Changes.{placesOf, laneChoice}
 
 -- ---- the arrays hold the job
 
-module _ (job : Job) (e : ℤ) (ss : List ℤ) (fs ls rs ps : List ℕ) (nd : List Bool) (rm : List ℕ) (ho : Holds job e ss fs ls rs ps nd rm) where
+module _ (job : Job) (e : ℤ) (ss : List ℤ) (fs ls rs ps : List ℕ) (nd : List Bool) (rm : List ℕ) (ho : HeldArrays job e ss fs ls rs ps nd rm) where
   pub opened : length ss ≡ length (job .openings)
   opened = ap length (ho .places) ∙ length-map (job .openings) (λ (o : Opening). clock job (o .step))
 
   pub holding : length rm ≡ inner job
   holding = ap length (ho .removals) ∙ select-length (map removalOf (job .parts)) (job .parts) (Rattle.model.specs.Model.holding job) (length-map (job .parts) removalOf)
 
+  -- a name's blocks, by how many openings and removals the arrays have, are those of the job's node
   pub nodes-are : (p : List Bool) → blocks (length rm) (length ss) p ≡ nodeAt job p
   nodes-are p = ap₂ (λ (h n : ℕ). blocks h n p) holding opened
 
+  -- the job has as many parts to plan for as the arrays have lives
   pub held-size : length (heldParts job) ≡ length ls
   held-size = held-length job ∙ ho .parts
 

@@ -44,28 +44,35 @@ places-are n h nd q name r e k l =
 -- ---- one part's own windows
 
 module _ (ps : List ℕ) (n q : ℕ) where
+  -- the range of the price array that is cut out for part q has its prices at the n openings
   pub prices-are : take (q * priceStride + n - q * priceStride) (drop (q * priceStride) ps) ≡ pricesAt n ps q
   prices-are = let z : q * priceStride + n - q * priceStride ≡ n = omega arith in ap (λ (k : ℕ). take k (drop (q * priceStride) ps)) z
 
+  -- the price array has a price of each part for each of the n openings
   pub prices-length : n ≤ mostOpenings → q < mostParts → length ps ≡ priceSize → length (pricesAt n ps q) ≡ n
   prices-length l h s = simp (length-take, length-drop) (omega arith)
 
 module _ (nd : List Bool) (h q : ℕ) where
+  -- the range of the needs that is cut out for part q has its needs of the h holding parts
   pub needs-are : take (q * needStride + h - q * needStride) (drop (q * needStride) nd) ≡ needsAt h nd q
   needs-are = let z : q * needStride + h - q * needStride ≡ h = omega arith in ap (λ (k : ℕ). take k (drop (q * needStride) nd)) z
 
+  -- a part has an entry of its needs for each of the h holding parts
   pub needs-length : h ≤ mostParts → q < mostParts → length nd ≡ needSize → length (needsAt h nd q) ≡ h
   needs-length l m s = simp (length-take, length-drop) (omega arith)
 
+-- an array of 64 has n first entries, where n is at most the most openings
 pub first-length : {A : Type 0} (n : ℕ) (r : List A) → n ≤ mostOpenings → length r ≡ 64 → n ≡ length (take n r)
 first-length n r l s = sym (length-take-le n r (omega arith))
 
 -- ---- signed numbers, read back from their bits
 
 module _ {ls rs : List ℕ} (li : Lives ls rs) (q : ℕ) {life first : ℤ} (v : Lived (getD ls q 0) (getD rs q 0) life first) where
+  -- the position of a part's change before the first fits in 31 bits
   pub change-small : Bits31 first
   change-small = rw (v .begins) (omega (arith, mag-sub (pos (getD rs q 0)) (pos (getD ls q 0)), li .brief q, li .begun q))
 
+  -- a part's life and first change, read back from their bits as signed numbers, are the same
   pub lived-back : Lived (getD ls q 0) (getD rs q 0) (toZ w32 (ofZ w32 life)) (toZ w32 (ofZ w32 first))
   lived-back =
       let life-small : Bits31 life = rw (v .lives) (omega (arith, li .brief q)) in

@@ -35,14 +35,19 @@ long-most h (true ∷ q) l = omega arith
 -- ---- where k blocks of the name p are read, and the next begins at place i
 
 pub record Scan (h n : ℕ) (p : List Bool) (k i : ℕ) : Type 0 where
+  -- no more blocks are read than there are openings
   pub most : k ≤ n
+  -- the blocks read so far take at most 17 decisions each
   pub near : i ≤ k * 17
+  -- the blocks still to be read are those of what is left of the name
   pub rest : drop k (blocks h n p) ≡ blocks h (n - k) (drop i p)
 
 module _ (h n : ℕ) (p : List Bool) where
+  -- before a block is read the whole name is left
   pub scan-none : Scan h n p 0 0
   scan-none = let z : n - 0 ≡ n = omega arith in record { most = omega arith; near = omega arith; rest = ap (λ (m : ℕ). blocks h m p) (sym z) }
 
+  -- past the decisions of the next block one block more is read
   pub scan-more : (k i j : ℕ) → h ≤ mostParts → k < n → j ≡ i + blockLong h (drop i p) → Scan h n p k i → Scan h n p (k + 1) j
   scan-more k i j l m e s =
       let z : n - k ≡ suc (n - (k + 1)) = omega arith in
@@ -53,6 +58,7 @@ module _ (h n : ℕ) (p : List Bool) where
             ∙ ap (blocks h (n - (k + 1))) (drop-drop (blockLong h (drop i p)) i p ∙ ap (λ (m : ℕ). drop m p) (sym e));
       }
 
+  -- the first block of what is left of the name is block k of the node
   pub scan-at : (d : List Bool) (k i : ℕ) → k < n → Scan h n p k i → firstOr d h (drop i p) ≡ getD (blocks h n p) k d
   scan-at d k i l s =
       let z : n - k ≡ suc (n - (k + 1)) = omega arith in
@@ -68,14 +74,19 @@ module _ (h n : ℕ) (p : List Bool) where
 
 -- k entries are as f says, and the next block begins at place i
 pub record Reading {A : Type 0} (d : A) (f : ℕ → A) (h n : ℕ) (p : List Bool) (out : List A) (k i : ℕ) : Type 0 where
+  -- the array has an entry for each of the most openings
   pub size : length out ≡ 64
+  -- as many blocks of the name are read as entries are written
   pub scan : Scan h n p k i
+  -- the entries written so far are as they should be
   pub done : (j : ℕ) → j < k → getD out j d ≡ f j
 
 module _ {A : Type 0} (d : A) (f : ℕ → A) (h n : ℕ) (p : List Bool) where
+  -- before a block is read no entry is written
   pub reading-none : (out : List A) → length out ≡ 64 → Reading d f h n p out 0 0
   reading-none out e = record { size = e; scan = scan-none h n p; done = λ j l. absurd (omega arith) }
 
+  -- with its entry written and the block passed, one opening more is read
   pub reading-more : (out : List A) (k i j : ℕ) (v : A) → n ≤ mostOpenings → h ≤ mostParts → k < n → v ≡ f k → j ≡ i + blockLong h (drop i p) → Reading d f h n p out k i → Reading d f h n p (set out k v) (k + 1) j
   reading-more out k i j v few l m e g r =
       record {
@@ -86,5 +97,6 @@ module _ {A : Type 0} (d : A) (f : ℕ → A) (h n : ℕ) (p : List Bool) where
             (getD-set-same out k v d (omega (arith, r .size)) ∙ e);
       }
 
+  -- once all openings are read, the array has the entry of each
   pub reading-all : (out : List A) (k i : ℕ) → n ≤ k → Reading d f h n p out k i → Entries d f n out
   reading-all out k i l r = record { size = r .size; at = λ j m. r .done j (omega arith) }

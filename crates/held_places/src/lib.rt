@@ -12,12 +12,8 @@ ghost use lib.IntN.{pos};
 ghost use Rattle.held_places.specs.Blocks.{firstOr, blockLong, Entries};
 ghost use Rattle.held_places.specs.Arrays.{needSize, needsAt, Lives, Lived};
 ghost use Rattle.held_places.specs.Changes.{laneChoice, PartAsks};
-
-// The prices of part q stand from q * STRIDE on.
-pub const STRIDE: usize = 64;
-
-// The needs of part q stand from q * PARTS on.
-pub const PARTS: usize = 16;
+use model::OPENINGS;
+use model::PARTS;
 
 // A part that is needed is removed or undecided at place b of the decisions.
 fn free(need: bool, removed: &[bool], b: usize) -> bool
@@ -74,12 +70,12 @@ fn opens(needs: &[bool], name: &[bool], i: usize) -> bool
 }
 
 // The openings at which a part with these needs can be changed.
-pub fn places(needs: &[bool], name: &[bool], n: usize) -> [bool; 64]
+pub fn places(needs: &[bool], name: &[bool], n: usize) -> [bool; OPENINGS]
     requires { ⌜ (n ≤ mostOpenings) × (length (now needs) ≤ mostParts) ⌝ }
     ensures { λ r. ⌜ Entries true (λ (k : ℕ). allows (now (needs .entry)) (getD (blocks (length (now (needs .entry))) n (now (name .entry))) k [])) n r ⌝ }
 {
     let h = needs.len();
-    let mut out = [true; 64];
+    let mut out = [true; OPENINGS];
     let mut i = 0;
     let mut k = 0;
     while k < n {
@@ -117,7 +113,7 @@ fn wear_of(lives: &[u32], lefts: &[u32], q: usize) -> Wear
 }
 
 // The openings at which part q can be changed at the node of this name.
-pub fn part_places(needs: &[bool], h: usize, name: &[bool], n: usize, q: usize) -> [bool; 64]
+pub fn part_places(needs: &[bool], h: usize, name: &[bool], n: usize, q: usize) -> [bool; OPENINGS]
     requires { ⌜ (n ≤ mostOpenings) × (h ≤ mostParts) × (q < mostParts) × (length (now needs) ≡ needSize) ⌝ }
     ensures { λ r. ⌜ Entries true (λ (k : ℕ). allows (needsAt h (now (needs .entry)) q) (getD (blocks h n (now (name .entry))) k [])) n r ⌝ }
 {
@@ -134,7 +130,7 @@ pub fn part_choice(
     at: &[bool],
     q: usize,
     tab: &mut [u64],
-) -> [bool; 64]
+) -> [bool; OPENINGS]
     requires { ⌜ (PartAsks end (now positions) (now lives) (now lefts) (now numbers) (now at) (now tab)) × (q < length (now lives)) ⌝ }
     ensures { λ r. ⌜ r ≡ laneChoice end (now (positions .entry)) (getD (now (lives .entry)) q 0) (getD (now (lefts .entry)) q 0) (now (numbers .entry)) (now (at .entry)) ++ replicate (64 - length (now (positions .entry))) false ⌝ }
 {
@@ -150,11 +146,11 @@ fn stop_at(name: &[bool], i: usize) -> bool
 }
 
 // The stops of the node of this name.
-pub fn stops(name: &[bool], n: usize, h: usize) -> [bool; 64]
+pub fn stops(name: &[bool], n: usize, h: usize) -> [bool; OPENINGS]
     requires { ⌜ (n ≤ mostOpenings) × (h ≤ mostParts) ⌝ }
     ensures { λ r. ⌜ Entries false (λ (k : ℕ). getD (getD (blocks h n (now (name .entry))) k (false ∷ [])) 0 true) n r ⌝ }
 {
-    let mut out = [false; 64];
+    let mut out = [false; OPENINGS];
     let mut i = 0;
     let mut k = 0;
     while k < n {

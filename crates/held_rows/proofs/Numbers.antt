@@ -35,6 +35,7 @@ module _ (sheet : HeldSheet) (fit : Classed sheet) (ds : List (List Bool)) (g : 
       let f = each-fee (laneFee sheet ds) (partLanes sheet) g e q z in
       bound-there sheet ds (laneAt q) (f .0) (ap (λ (x : HeldColumn). laneFee sheet ds x []) (sym (getD-take (sheet .parts) (sheet .lanes) q noLane l)) ∙ f .1)
 
+  -- where the term of a node is there, each lane has a least price
   pub lane-there : (q : ℕ) → q < length (sheet .lanes) → (m : ℕ) × (laneBound sheet ds (laneAt q) [] ≡ Sum m)
   unfolding columnBound
   lane-there q l = go (decLt q (sheet .parts))
@@ -63,6 +64,7 @@ module _ (sheet : HeldSheet) (fit : Classed sheet) (t w : List ℕ) (ta : Tables
   abbrev at : ℕ
   at = length bs
 
+  -- the sheet has as many lanes as the tables
   pub wide : length (sheet .lanes) ≡ lanesIn t
   wide = sym (length-map (sheet .lanes) columnIn) ∙ ta .wide
 
@@ -96,6 +98,7 @@ module _ (sheet : HeldSheet) (fit : Classed sheet) (t w : List ℕ) (ta : Tables
     abbrev pub stopLane : List Bool → ℕ → ℕ
     stopLane rs q = cond (accessible (needsOf sheet (getD (sheet .lanes) q noLane .class)) rs) (lane t w suffixBase at q n) (lane t w suffixBase (at + 1) q n)
 
+    -- where a stop's term is there, its part sums are the sum of its lanes, shut or allowed by its removals
     pub stop-sums : (rs : List Bool) (g : ℕ) → heldTerm sheet (bs ++ ((true ∷ rs) ∷ [])) ≡ Sum g → heldSums sheet (bs ++ ((true ∷ rs) ∷ [])) ≡ Sum (sumLanes (lanesIn t) (stopLane rs))
     stop-sums rs g e =
         subst (λ (k : ℕ). heldSums sheet (bs ++ ((true ∷ rs) ∷ [])) ≡ Sum (sumLanes k (stopLane rs))) wide
@@ -109,9 +112,11 @@ module _ (sheet : HeldSheet) (fit : Classed sheet) (t w : List ℕ) (ta : Tables
     rises : (q : ℕ) → q < lanesIn t → lane t w suffixBase at q n ≤ lane t w suffixBase (at + 1) q n
     rises q l = lane-rises (sheet .end) (sheet .positions) (getD (plain sheet .columns) q noColumn) t q (ta .lanes q l) w at n h (ta .few) (ro .marks)
 
+    -- the lanes' sum after a no is no lower than before
     pub no-rises : sumLanes (lanesIn t) (λ (q : ℕ). lane t w suffixBase at q n) ≤ sumLanes (lanesIn t) (λ (q : ℕ). lane t w suffixBase (at + 1) q n)
     no-rises = sum-rises (lanesIn t) (λ (q : ℕ). lane t w suffixBase at q n) (λ (q : ℕ). lane t w suffixBase (at + 1) q n) rises
 
+    -- the lanes' sum of a stop does not fall where one holding part more stays
     pub stays-rises : (rs : List Bool) → sumLanes (lanesIn t) (stopLane rs) ≤ sumLanes (lanesIn t) (stopLane (snoc rs false))
     stays-rises rs = sum-rises (lanesIn t) (stopLane rs) (stopLane (snoc rs false)) one
       where

@@ -16,11 +16,13 @@ use Rattle.held_rows.specs.Held.{HeldSheet, held, seen, paidIn}
 
 -- ---- the blocks of a node: whole ones, and at a stop whose removals are not all decided one that is open
 
+-- the name of blocks and one more is their name followed by that block
 pub joined-more : (bs : List (List Bool)) (b : List Bool) → concat (bs ++ (b ∷ [])) ≡ concat bs ++ b
 unfolding concat
 joined-more [] b = append-nil b
 joined-more (d ∷ bs) b = ap (λ (l : List Bool). d ++ l) (joined-more bs b) ∙ sym (append-assoc d (concat bs) b)
 
+-- whole blocks with one whole block more are one more
 pub wholes-more : (h k : ℕ) (bs : List (List Bool)) (b : List Bool) → Wholes h k bs → Whole h b → Wholes h (suc k) (bs ++ (b ∷ []))
 wholes-more h zero [] b w v = (v, tt)
 wholes-more h zero (d ∷ bs) b w v = absurd w
@@ -58,9 +60,11 @@ module _ (h n k : ℕ) (bs : List (List Bool)) (w : Wholes h k bs) where
 
 -- ---- as a lane sees it
 
+-- a lane sees one decision for each opening that is decided
 pub seen-length : (needs : List Bool) (bs : List (List Bool)) → length (seen needs bs) ≡ length bs
 seen-length needs bs = length-map bs (allows needs)
 
+-- with one block more a lane sees one decision more: whether the block allows it
 pub seen-more : (needs : List Bool) (bs : List (List Bool)) (b : List Bool) → seen needs (bs ++ (b ∷ [])) ≡ snoc (seen needs bs) (allows needs b)
 seen-more needs bs b = map-append (allows needs) bs (b ∷ [])
 
@@ -71,6 +75,7 @@ accessible-removed [] rs = refl
 accessible-removed (need ∷ needs) [] = refl
 accessible-removed (need ∷ needs) (x ∷ rs) = ap (λ (b : Bool). (not need || x) && b) (accessible-removed needs rs)
 
+-- where the next holding part stays, the accessible are those that were and don't need it
 pub accessible-stays : (needs rs : List Bool) → accessible needs (snoc rs false) ≡ (accessible needs rs && not (getD needs (length rs) false))
 unfolding accessible
 accessible-stays [] [] = refl
@@ -90,9 +95,11 @@ accessible-stays (need ∷ needs) (x ∷ rs) = ap (λ (b : Bool). (not need || x
 pub seen-no : (needs : List Bool) (bs : List (List Bool)) → seen needs (bs ++ ((false ∷ []) ∷ [])) ≡ snoc (seen needs bs) false
 seen-no needs bs = seen-more needs bs (false ∷ [])
 
+-- a lane sees a stop as a yes exactly where the removals leave it accessible
 pub seen-stop : (needs : List Bool) (bs : List (List Bool)) (rs : List Bool) → seen needs (bs ++ ((true ∷ rs) ∷ [])) ≡ snoc (seen needs bs) (accessible needs rs)
 seen-stop needs bs rs = seen-more needs bs (true ∷ rs)
 
+-- a stop with no removal decided is a yes to every lane
 pub seen-yes : (needs : List Bool) (bs : List (List Bool)) → seen needs (bs ++ ((true ∷ []) ∷ [])) ≡ snoc (seen needs bs) true
 seen-yes needs bs = seen-stop needs bs [] ∙ ap (snoc (seen needs bs)) (accessible-none needs)
 
@@ -110,10 +117,12 @@ module _ (sheet : HeldSheet) (bs : List (List Bool)) (few : length bs < length (
       let s = sum-snoc (sheet .fees) (stopsIn bs) (getD b 0 true) (omega (arith, z)) in
       omega (arith, ap (sumAt (sheet .fees)) e, s, ap (λ (k : ℕ). cond (getD b 0 true) (getD (sheet .fees) k 0) 0) z, removed-more (sheet .removals) bs b)
 
+  -- no stop costs nothing: what is paid stays
   pub paid-no : paidIn sheet (bs ++ ((false ∷ []) ∷ [])) ≡ paidIn sheet bs
   unfolding sumAt
   paid-no = omega (arith, paid-more (false ∷ []))
 
+  -- a stop adds the fee of its opening to what is paid
   pub paid-yes : paidIn sheet (bs ++ ((true ∷ []) ∷ [])) ≡ paidIn sheet bs + getD (sheet .fees) (length bs) 0
   unfolding sumAt
   paid-yes = omega (arith, paid-more (true ∷ []))

@@ -140,6 +140,7 @@ module _ (job : Job) (sheet : HeldSheet) (so : SheetOf job sheet) (p : List Bool
   all-largest =
       ap (λ (n : ℕ). largest (laneFee sheet bs) (take n (sheet .lanes)) []) (so .parts) ∙ lanes-largest (sheet .lanes) (job .parts) 0 (omega arith) (omega arith) all-lanes all-parts
 
+  -- the bound of the sheet at a node is that of the job
   pub held-bound : heldBound sheet p ≡ boundOf job p
   unfolding heldBound boundOf stopCost
   held-bound =

@@ -26,12 +26,15 @@ module _ (sheet : HeldSheet) (bs : List (List Bool)) where
   abbrev pub openBound : HeldColumn → Bound
   openBound lane = columnBound (plain sheet) (lane .column) (seenBy sheet bs lane)
 
+  -- a lane's least price where the stop at hand is shut to it
   abbrev pub shutBound : HeldColumn → Bound
   shutBound lane = columnBound (plain sheet) (lane .column) (snoc (seenBy sheet bs lane) false)
 
+  -- after a no a lane has its price as of a stop that is shut to it
   pub bound-no : (lane : HeldColumn) → laneBound sheet (bs ++ ((false ∷ []) ∷ [])) lane [] ≡ shutBound lane
   bound-no lane = ap (columnBound (plain sheet) (lane .column)) (seen-no (needsOf sheet (lane .class)) bs)
 
+  -- at a stop a lane has its price as allowed or as shut, by whether the removals leave it accessible
   pub bound-stop : (rs : List Bool) (lane : HeldColumn) → laneBound sheet (bs ++ ((true ∷ rs) ∷ [])) lane [] ≡ cond (accessible (needsOf sheet (lane .class)) rs) (openBound lane) (shutBound lane)
   bound-stop rs lane =
       ap (columnBound (plain sheet) (lane .column)) (seen-stop (needsOf sheet (lane .class)) bs rs) ∙ go (accessible (needsOf sheet (lane .class)) rs)
@@ -50,20 +53,24 @@ module _ (sheet : HeldSheet) (bs : List (List Bool)) where
       let needs = needsOf sheet (lane .class) in
       seen-stop needs bs (snoc rs true) ∙ ap (snoc (seenBy sheet bs lane)) (accessible-removed needs rs) ∙ sym (seen-stop needs bs rs)
 
+  -- one removal more at a stop leaves the part sums as they are
   pub sums-removed : (rs : List Bool) → heldSums sheet (bs ++ ((true ∷ snoc rs true) ∷ [])) ≡ heldSums sheet (bs ++ ((true ∷ rs) ∷ []))
   sums-removed rs = λ i. total (λ (lane : HeldColumn) (p : List Bool). columnBound (plain sheet) (lane .column) (seen-removed rs lane i)) (sheet .lanes) []
 
+  -- one removal more at a stop leaves the term as it is
   pub term-removed : (rs : List Bool) → heldTerm sheet (bs ++ ((true ∷ snoc rs true) ∷ [])) ≡ heldTerm sheet (bs ++ ((true ∷ rs) ∷ []))
   term-removed rs = λ i. largest (λ (lane : HeldColumn) (p : List Bool). columnFee (plain sheet) (lane .column) (seen-removed rs lane i)) (take (sheet .parts) (sheet .lanes)) []
 
   -- ---- a lane has a least price exactly where it has a term
 
+  -- a lane that has a term has a least price
   pub bound-there : (lane : HeldColumn) (n : ℕ) → laneFee sheet bs lane [] ≡ Sum n → (m : ℕ) × (laneBound sheet bs lane [] ≡ Sum m)
   unfolding columnBound columnFee
   bound-there lane n e =
       let p = seenBy sheet bs lane in
       there-together (lane .column .life) (sheet .end) (lane .column .first) (sheet .positions) (undecidedFees (sheet .fees) p) (lane .column .prices) p n e
 
+  -- a lane that has a least price has a term
   pub fee-there : (lane : HeldColumn) (n : ℕ) → laneBound sheet bs lane [] ≡ Sum n → (m : ℕ) × (laneFee sheet bs lane [] ≡ Sum m)
   unfolding columnBound columnFee
   fee-there lane n e =

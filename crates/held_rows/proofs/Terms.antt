@@ -41,6 +41,7 @@ module _ (sheet : Sheet) (col : Column) (climbs : Climbs (sheet .end) (col .firs
       ∙ last-alone (col .life) (sheet .end) (col .first) (sheet .positions) (sheet .fees) (col .prices) p 0 n climbs (omega arith) e
       ∙ ap (λ (d : List Bool). feeFrom sheet (length d) (lastYes p) col []) (append-nil p)
 
+  -- where a part can be kept, its term after a no is that of its last yes with one opening more decided
   pub fee-no : length p < length (sheet .positions) → columnFee sheet col (snoc p false) ≡ feeFrom sheet (length p + 1) (lastYes p) col []
   unfolding columnBound columnFee
   fee-no l =
@@ -63,6 +64,7 @@ mark-rises end first [] c i (suc k) h l = absurd (omega arith)
 mark-rises end first (s ∷ ss) c zero (suc k) h l = omega (arith, at-most first s (c .0), mark-rises end s ss (c .1) zero k (omega arith) (omega arith))
 mark-rises end first (s ∷ ss) c (suc i) (suc k) h l = mark-rises end s ss (c .1) i k (omega arith) (omega arith)
 
+-- the later a part's last mark, the less is its least fee
 pub fee-falls : (sheet : Sheet) (col : Column) → Climbs (sheet .end) (col .first) (sheet .positions) → (j i k : ℕ) → i ≤ k → k ≤ length (sheet .positions) → NoMore (feeFrom sheet j k col []) (feeFrom sheet j i col [])
 fee-falls sheet col c j i k h l =
     later-least (col .life) (sheet .end) (markOf (col .first) (sheet .positions) i) (markOf (col .first) (sheet .positions) k) (drop j (offers (sheet .positions) (sheet .fees) []))

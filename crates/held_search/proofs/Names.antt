@@ -13,7 +13,7 @@ use Rattle.model.specs.Decisions.{concat}
 use Rattle.held_rows.proofs.Seen.{joined-more}
 use Rattle.walk.specs.State.{bits}
 use Rattle.walk.proofs.Nodes.{bits-length}
-use Rattle.stop_nodes.specs.State.{blocksOf}
+use Rattle.held_nodes.specs.State.{blocksOf}
 use Rattle.held_search.specs.Solved.{blockOf}
 
 -- ---- decisions behind others
@@ -22,9 +22,11 @@ use Rattle.held_search.specs.Solved.{blockOf}
 pub one-more : (name : List Bool) (at : ℕ) (x : Bool) → at < length name → take (at + 1) (set name at x) ≡ take at name ++ (x ∷ [])
 one-more name at x h = rw (add-one at) (take-suc-set name at x h)
 
+-- before the first decision is copied the name has what stood before `at`
 pub all-none : (name : List Bool) (at : ℕ) (from : List Bool) → take (at + 0) name ≡ take at name ++ take 0 from
 all-none name at from = let z : at + 0 ≡ at = omega arith in ap (λ (n : ℕ). take n name) z ∙ sym (append-nil (take at name))
 
+-- one decision more is copied into the name behind those before it
 pub all-more : (old name from : List Bool) (at i : ℕ) → i < length from → at + i < length name → take (at + i) name ≡ take at old ++ take i from → take (at + (i + 1)) (set name (at + i) (getD from i false)) ≡ take at old ++ take (i + 1) from
 all-more old name from at i h g e =
     let x = getD from i false in
@@ -34,6 +36,7 @@ all-more old name from at i h g e =
 
 -- ---- a block
 
+-- a block has at most one decision more than there are removals
 pub block-length : (h : ℕ) (stop : Bool) (x : ℕ) → length (blockOf h stop x) ≤ h + 1
 block-length h true x = omega (arith, bits-length h x)
 block-length h false x = omega arith
@@ -47,6 +50,7 @@ stop-wrote name next last out at h x e f g =
 -- ---- the blocks of a mask
 
 module _ (h : ℕ) (f : ℕ → ℕ) where
+  -- the blocks of n openings in numbers are n blocks
   pub blocks-length : (n m : ℕ) → length (blocksOf h f n m) ≡ n
   unfolding blocksOf
   blocks-length zero m = refl
@@ -81,5 +85,6 @@ module _ (h : ℕ) (f : ℕ → ℕ) where
       ∙ sym (joined-more (take k (blocksOf h f n m)) (getD (blocksOf h f n m) k []))
       ∙ ap concat (sym (ap (λ (i : ℕ). take i (blocksOf h f n m)) (add-one k) ∙ take-suc (blocksOf h f n m) k [] (omega (arith, blocks-length n m))))
 
+  -- a name of as many blocks as there are openings is that of all blocks
   pub name-whole : (n m k : ℕ) (name : List Bool) → k ≡ n → name ≡ concat (take k (blocksOf h f n m)) → name ≡ concat (blocksOf h f n m)
   name-whole n m k name z g = g ∙ ap concat (take-all k (blocksOf h f n m) (omega (arith, z, blocks-length n m)))

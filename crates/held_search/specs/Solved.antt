@@ -28,7 +28,7 @@ abbrev pub limitedBy : List Bool → Solved → Limited
 limitedBy name r = record { count = r .count; over = r .over; incumbent = cond (r .found) (plan (r .cost) name) none }
 
 -- the first node's bound, and the walk's last state
-pub record Solves (job : Job) (limit : ℕ) (name : List Bool) (r : Solved) : Type 0 where
+pub record SolvesJob (job : Job) (limit : ℕ) (name : List Bool) (r : Solved) : Type 0 where
   pub floor : r .floor ≡ boundOf job []
   pub walked : limitedBy name r ≡ atMost limit (searched job)
 

@@ -10,29 +10,31 @@ ghost use Rattle.model.specs.Model.{Job};
 ghost use Rattle.model.specs.Promise.{answerOf};
 ghost use Rattle.least.specs.Suffix.{tableSize};
 ghost use Rattle.search.specs.Found.{saidIn};
-ghost use Rattle.held_places.specs.Arrays.{pricesAt, Lanes, Holds};
+ghost use Rattle.held_places.specs.Arrays.{pricesAt, Lanes, HeldArrays};
 ghost use Rattle.held_places.specs.Changes.{placesOf, laneChoice};
 ghost use Rattle.held_tables.specs.Sheet.{HeldArrays, HeldReady};
-ghost use Rattle.stop_nodes.specs.State.{bestName};
-ghost use Rattle.held_search.specs.Solved.{Solves, Chooses};
+ghost use Rattle.held_nodes.specs.State.{bestName};
+ghost use Rattle.held_search.specs.Solved.{SolvesJob, Chooses};
 use held_lanes::ASIDE;
 use held_lanes::HELD;
-use held_places::STRIDE;
 use held_places::part_choice;
 use held_places::part_places;
 use held_places::stops;
 use held_tables::fill_held;
+use held_walk::solve;
 use jobs::Changes;
 use lane_rows::STACK;
 use lane_rows::TABLES;
 use least::TABLE;
+use model::OPENINGS;
+use model::PARTS;
+use model::STRIDE;
 use name::NAMES;
 use name::name_of;
 use part_classes::classes_of;
 use search::Found;
 use search::found_by;
 use search_tables::tables::fill;
-use stop_walk::solve;
 use walk::Solved;
 
 // The floor and the walk's last state. The tables stand on the stack of this call; the incumbent's removals are in v from BEST on.
@@ -50,8 +52,8 @@ fn walked(
     v: &mut [u32; ASIDE],
 ) -> Solved
     requires { ⌜ (HeldReady end (now positions) (now fees) (now lives) (now lefts) (now prices) (now needs) (now removals) (now tab)) × (limit < 2 ^ 63) ⌝ }
-    ensures { λ r. ⌜ ((job : Job) → Holds job end (now (positions .entry)) (now (fees .entry)) (now (lives .entry)) (now (lefts .entry)) (now (prices .entry)) (now (needs .entry)) (now (removals .entry))
-        → Solves job limit (bestName (length (now (removals .entry))) (length (now (positions .entry))) (now (v .exit)) (r .mask)) r) ⌝ }
+    ensures { λ r. ⌜ ((job : Job) → HeldArrays job end (now (positions .entry)) (now (fees .entry)) (now (lives .entry)) (now (lefts .entry)) (now (prices .entry)) (now (needs .entry)) (now (removals .entry))
+        → SolvesJob job limit (bestName (length (now (removals .entry))) (length (now (positions .entry))) (now (v .exit)) (r .mask)) r) ⌝ }
 {
     let classes = classes_of(needs, removals.len(), lives.len());
     let mut t = [0; TABLES];
@@ -86,7 +88,7 @@ fn part_changes(
     name: &[bool],
     q: usize,
     tab: &mut [u64],
-) -> [bool; 64]
+) -> [bool; OPENINGS]
     requires { ⌜ (Lanes end (now positions) (now lives) (now lefts) (now prices) (now needs) h) × (tableSize ≤ length (now tab)) × (q < length (now lives)) ⌝ }
     ensures { λ r. ⌜ r ≡ laneChoice end (now (positions .entry)) (getD (now (lives .entry)) q 0) (getD (now (lefts .entry)) q 0) (pricesAt (length (now (positions .entry))) (now (prices .entry)) q)
         (placesOf (length (now (positions .entry))) h (now (needs .entry)) q (now (name .entry))) ++ replicate (64 - length (now (positions .entry))) false ⌝ }
@@ -106,7 +108,7 @@ fn part_changes(
 }
 
 // Each part's changes at the node of this name.
-fn changes(
+pub fn changes(
     end: i32,
     positions: &[i32],
     lives: &[u32],
@@ -116,11 +118,13 @@ fn changes(
     h: usize,
     name: &[bool],
     tab: &mut [u64],
-) -> [Changes; 16]
+) -> [Changes; PARTS]
     requires { ⌜ (Lanes end (now positions) (now lives) (now lefts) (now prices) (now needs) h) × (tableSize ≤ length (now tab)) ⌝ }
     ensures { λ r. ⌜ Chooses end (now (positions .entry)) (now (lives .entry)) (now (lefts .entry)) (now (prices .entry)) (now (needs .entry)) h (now (name .entry)) r (length (now (lives .entry))) ⌝ }
 {
-    let mut rows = [Changes { at: [false; 64] }; 16];
+    let mut rows = [Changes {
+        at: [false; OPENINGS],
+    }; PARTS];
     let mut q = 0;
     while q < lives.len() {
         let at = part_changes(end, positions, lives, lefts, prices, needs, h, name, q, tab);
@@ -144,7 +148,7 @@ pub fn search_held(
     limit: u64,
 ) -> Found
     requires { ⌜ (HeldArrays end (now positions) (now fees) (now lives) (now lefts) (now prices) (now needs) (now removals)) × (limit < 2 ^ 63) ⌝ }
-    ensures { λ r. ⌜ ((job : Job) → Holds job end (now (positions .entry)) (now (fees .entry)) (now (lives .entry)) (now (lefts .entry)) (now (prices .entry)) (now (needs .entry)) (now (removals .entry))
+    ensures { λ r. ⌜ ((job : Job) → HeldArrays job end (now (positions .entry)) (now (fees .entry)) (now (lives .entry)) (now (lefts .entry)) (now (prices .entry)) (now (needs .entry)) (now (removals .entry))
         → saidIn (length (job .openings)) (length (job .parts)) r ≡ answerOf job limit) ⌝ }
 {
     let mut tab = [0; TABLE];

@@ -4,7 +4,7 @@ ghost use mathlib.Core.List.{_++_};
 ghost use Prim.Native.Nat.{_+_, _≤_};
 ghost use lib.ListN.{length, take};
 ghost use Rattle.model.specs.Limits.{mostOpenings, mostParts};
-ghost use Rattle.stop_nodes.specs.State.{bestName};
+ghost use Rattle.held_nodes.specs.State.{bestName};
 ghost use Rattle.held_search.specs.Solved.{nameSize, blockOf};
 use held_lanes::ASIDE;
 use held_lanes::BEST;

@@ -30,7 +30,9 @@ boundIn sheet ds = add (add (Sum (paidIn sheet ds)) (heldSums sheet ds)) (heldTe
 
 -- the bound is missing where the number g is none of a price; else the sums are y, the term is g, and the bound is the sum of all
 pub record Told (sheet : HeldSheet) (ds : List (List Bool)) (g y : ℕ) : Type 0 where
+  -- where the term's number is none of a price, the bound is Missing
   pub none : inf ≤ g → boundIn sheet ds ≡ Missing
+  -- where the term's number is a price, the part sums are y
   pub sums : g < inf → heldSums sheet ds ≡ Sum y
   pub term : g < inf → heldTerm sheet ds ≡ Sum g
   pub bound : g < inf → boundIn sheet ds ≡ Sum (paidIn sheet ds + y + g)
@@ -47,6 +49,7 @@ module _ (sheet : HeldSheet) (ds : List (List Bool)) (b g y : ℕ) (few : b ≤ 
       go Missing d = absurd (omega (arith, d, h))
       go (Sum k) d = ap Sum (sym (d .0))
 
+  -- a number that stands for the node's term tells its bound, where the part sums are y as long as there is a term
   pub told : Told sheet ds g y
   told =
       record {
@@ -73,18 +76,22 @@ module _ (sheet : HeldSheet) (fit : Classed sheet) (t u v w : List ℕ) (ta : Ta
   small : most ≤ laneLimit
   small = omega (arith, ta .few)
 
+  -- the number for the term after a no: the largest over the classes, one level on
   abbrev pub noTerm : ℕ
   noTerm = mostTo (termOf u v (at + 1) r) (length (sheet .needs))
 
+  -- the lanes' sum after a no, over the same rows one level on
   abbrev pub noSum : ℕ
   noSum = sumLanes (lanesIn t) (λ (q : ℕ). lane t w suffixBase (at + 1) q n)
 
+  -- the term by classes and the lanes' sum one level on tell the bound after a no
   pub no-told : Told sheet (bs ++ ((false ∷ []) ∷ [])) noTerm noSum
   no-told = told sheet (bs ++ ((false ∷ []) ∷ [])) most noTerm noSum small (no-coded sheet fit u v he (ta .few) bs r ls x sums few) (no-sums sheet fit t w ta bs n ro few)
 
   -- ---- below a stop
 
   module _ (rs : List Bool) (g : ℕ) (next : length rs < held sheet) (coded : Coded most g (heldTerm sheet (bs ++ ((true ∷ rs) ∷ [])))) where
+    -- the number for a stop's term where the next holding part stays: at least that of the classes that need it
     abbrev pub staysTerm : ℕ
     staysTerm = max g (mostTo (λ (i : ℕ). termOf u v (at + 1) r (getD u (needClassPlace (length rs) i) 0)) (getD u (needCountPlace (length rs)) 0))
 
@@ -99,6 +106,7 @@ module _ (sheet : HeldSheet) (fit : Classed sheet) (t u v w : List ℕ) (ta : Ta
         go true = refl
         go false = refl
 
+    -- the raised term and the sum of the lanes, those of the set shut, tell the bound where the next holding part stays
     pub stays-told : (set : ℕ) → ShutSet sheet (snoc rs false) set → Told sheet (bs ++ ((true ∷ snoc rs false) ∷ [])) staysTerm (sumLanes (lanesIn t) (stopLane t w (at + 1) n set))
     stays-told set b =
         told sheet (bs ++ ((true ∷ snoc rs false) ∷ [])) most staysTerm (sumLanes (lanesIn t) (stopLane t w (at + 1) n set)) small (stays-coded sheet fit u v he (ta .few) bs r ls x sums few rs g next coded)

@@ -31,6 +31,7 @@ module _ (t u w w₁ w₂ : List ℕ) (n j row : ℕ) (s : LooksAtStop t u w n j
   abbrev two : ℕ
   two = memoBase + (row + (j + 1) + n) * laneCount
 
+  -- after both looks the rows are kept, and their memo is still right
   pub all-recalled : Recalled t w w₂ n
   all-recalled = recalled-then t w w₁ w₂ n n (omega arith) (a .recalled .kept) (b .recalled)
 
@@ -52,6 +53,7 @@ module _ (t u w w₁ w₂ : List ℕ) (n j row : ℕ) (s : LooksAtStop t u w n j
       let z : two + q ≡ memoPlace j n q = omega (arith, triangle-next j, e) in
       ap (λ (i : ℕ). getD w₂ i 0) z ∙ remembered t w w₂ n j (s .shut) all-recalled (b .known) q l
 
+  -- both rows of the memo stand within the stack, so their lanes may be picked and summed
   pub asks : ShutAsks (lanesIn t) u w₂ one two
   asks =
       let h = s .later in
@@ -68,5 +70,6 @@ module _ (t u w w₁ w₂ : List ℕ) (n j row : ℕ) (s : LooksAtStop t u w n j
         most = λ q l. (omega (arith, allowed-at q l, lane-most t w suffixBase (j - 1) q n), omega (arith, shut-at q l, lane-most t w suffixBase j q n));
       }
 
+  -- the sum picked from the memo's two rows is that of the stop's lanes, those of the set shut
   pub sums : (set : ℕ) → sumLanes (lanesIn t) (shutLane w₂ one two set) ≡ sumLanes (lanesIn t) (stopLane t w j n set)
   sums set = sum-same (lanesIn t) (shutLane w₂ one two set) (stopLane t w j n set) (λ q l i. cond (bitAt q set) (shut-at q l i) (allowed-at q l i))

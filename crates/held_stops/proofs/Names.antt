@@ -23,6 +23,7 @@ stop-more bs rs x = append-assoc (concat bs) (true ∷ rs) (x ∷ [])
 pub stop-joined : (bs : List (List Bool)) (rs : List Bool) → stopName bs rs ≡ concat (bs ++ ((true ∷ rs) ∷ []))
 stop-joined bs rs = sym (joined-more bs (true ∷ rs))
 
+-- a name with a no more is that of the blocks with a block of no more
 pub no-joined : (bs : List (List Bool)) → snoc (concat bs) false ≡ concat (bs ++ ((false ∷ []) ∷ []))
 no-joined bs = sym (joined-more bs (false ∷ []))
 
@@ -31,10 +32,12 @@ module _ (sheet : HeldSheet) (k : ℕ) (bs : List (List Bool)) (w : Wholes (held
   unfolding heldBound
   opening-bound h = ap (boundIn sheet) (blocks-whole (held sheet) (length (sheet .positions)) k bs w h)
 
+  -- the bound of the name after a no is that of the blocks with a no more
   pub no-bound : k < length (sheet .positions) → heldBound sheet (snoc (concat bs) false) ≡ boundIn sheet (bs ++ ((false ∷ []) ∷ []))
   unfolding heldBound
   no-bound h = ap (boundIn sheet) (blocks-no (held sheet) (length (sheet .positions)) k bs w h)
 
+  -- the bound of a stop's name is that of the blocks with the stop and its decided removals
   pub stop-bound : (rs : List Bool) → k < length (sheet .positions) → length rs ≤ held sheet → heldBound sheet (stopName bs rs) ≡ boundIn sheet (bs ++ ((true ∷ rs) ∷ []))
   unfolding heldBound
   stop-bound rs h l = ap (boundIn sheet) (blocks-stop (held sheet) (length (sheet .positions)) k bs w rs h l)

@@ -46,6 +46,7 @@ module _ (sheet : HeldSheet) (t u v w : List ℕ) (ta : Tables (plain sheet) t) 
   abbrev sees : List (List Bool) → ℕ → List Bool
   sees ds q = seenBy sheet ds (getD (sheet .lanes) q noLane)
 
+  -- with the stop's row on the stack, the rows are those of the node behind the stop, as each lane sees it
   pub stop-settled : (w' : List ℕ) → at < length (sheet .positions) → SeenRows (plain sheet) w at (sees bs) n → Put (lanesIn t) (stopRow t w at n (λ (q : ℕ). bitAt q set)) w w' n (at + 1)
       → SeenRows (plain sheet) w' (at + 1) (sees (bs ++ ((true ∷ rs) ∷ []))) (n + 1)
   stop-settled w' h r put =
@@ -57,6 +58,7 @@ module _ (sheet : HeldSheet) (t u v w : List ℕ) (ta : Tables (plain sheet) t) 
           let needs = needsOf sheet (getD (sheet .lanes) q noLane .class) in
           ap (λ (b : Bool). snoc (sees bs q) (not b)) (bits q (omega (arith, length-map (sheet .lanes) columnIn))) ∙ ap (snoc (sees bs q)) (not-not (accessible needs rs)) ∙ sym (seen-stop needs bs rs)
 
+  -- the marks noted at the stop are the last ones that each class is allowed behind it
   pub lasts-settled : (v' : List ℕ) → HeldTables sheet u → Lasts sheet v bs (n - 1) → ((c : ℕ) → c < getD u classesPlace 0 → getD v' (lastPlace n c) 0 ≡ noted u v (at + 1) n set c) → Lasts sheet v' (bs ++ ((true ∷ rs) ∷ [])) n
   lasts-settled v' he ls f c l =
       let needs = needsOf sheet c in

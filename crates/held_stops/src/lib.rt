@@ -72,7 +72,7 @@ pub fn shut_sum(
     )
 }
 
-// It is kept for all the removals of the stop.
+// The row of a stop, so many lanes of it, is kept aside for all the removals of the stop.
 fn pend_lanes(fours: usize, t: &[u32], w: &[u32], v: &mut [u32], j: usize, rows: usize)
     requires { ⌜ (Owing (fours * 4) (now t) (now w) j rows) × (length (now v) ≡ asideSize) ⌝ }
     ensures { λ _. ⌜ FilledBy (pendingPlace rows) (nextRow (now (t .entry)) (now (w .entry)) j rows) (fours * 4) (now (v .entry)) (now (v .exit)) ⌝ }
@@ -82,7 +82,7 @@ fn pend_lanes(fours: usize, t: &[u32], w: &[u32], v: &mut [u32], j: usize, rows:
     store_row(fours, &acc, PENDING + rows * LANES, v);
 }
 
-// So is all of it.
+// The whole row of a stop is kept aside.
 fn pend_row(t: &[u32; TABLES], w: &[u32; STACK], v: &mut [u32; ASIDE], j: usize, rows: usize)
     requires { ⌜ (Owing (lanesIn (now t)) (now t) (now w) j rows) × (length (now v) ≡ asideSize) ⌝ }
     ensures { λ _. ⌜ FilledBy (pendingPlace rows) (nextRow (now (t .entry)) (now (w .entry)) j rows) (lanesIn (now (t .entry))) (now (v .entry)) (now (v .exit)) ⌝ }
@@ -103,7 +103,7 @@ fn pend_row(t: &[u32; TABLES], w: &[u32; STACK], v: &mut [u32; ASIDE], j: usize,
     pend_lanes(4, t, w, v, j, rows);
 }
 
-// It is found when it is first asked for, and noted as ready.
+// The row of a stop is found when it is first asked for, kept aside and noted as ready.
 pub fn pend(t: &[u32; TABLES], w: &[u32; STACK], v: &mut [u32; ASIDE], j: usize, rows: usize)
     requires { ⌜ (Owing (lanesIn (now t)) (now t) (now w) j rows) × (length (now v) ≡ asideSize) × (getD (now v) (readyPlace rows) 0 ≡ 1 → Pended (now t) (now w) (now v) j rows) ⌝ }
     ensures { λ _. ⌜ Pends (now (t .entry)) (now (w .entry)) (now (v .entry)) (now (v .exit)) j rows ⌝ }

@@ -90,6 +90,7 @@ module _ (e : ℤ) (ss : List ℤ) (fs ls rs ps : List ℕ) (nd : List Bool) (rm
       subst (λ (n : ℕ). Listing nd k b (k .count) n z) (sym (needs-stay (needCountPlace b) (omega arith)))
       (listing-kept nd k b (k .count) (getD w (needCountPlace b) 0) w z (λ i l. needs-stay (needClassPlace b i) (omega (arith, l, o .few, most, hold, h))) o)
 
+  -- with terms, tops, needs and masks filled in one after the other, the tables for holders are those of the sheet
   pub held-filled : HeldTables sheet z
   held-filled =
       record {

@@ -14,6 +14,7 @@ module _ (n : ℕ) (ls rs ps cs : List ℕ) where
   abbrev pub laneAt : ℕ → HeldColumn
   laneAt q = record { column = columnOf (lanePart n ls rs ps q); class = getD cs q 0 }
 
+  -- k lanes from q on are k lanes
   pub lanes-length : (q k : ℕ) → length (lanesFrom n ls rs ps cs q k) ≡ k
   unfolding lanesFrom
   lanes-length q zero = refl
@@ -25,9 +26,11 @@ module _ (n : ℕ) (ls rs ps cs : List ℕ) where
   lanes-from q (suc k) zero h = let z : q ≡ q + 0 = omega arith in ap laneAt z
   lanes-from q (suc k) (suc i) h = let z : suc q + i ≡ q + suc i = omega arith in lanes-from (suc q) k i (omega arith) ∙ ap laneAt z
 
+  -- lane i has the column of part i, or of what fills up a four, and its class
   pub lanes-at : (k i : ℕ) → i < k → getD (lanesFrom n ls rs ps cs 0 k) i noLane ≡ laneAt i
   lanes-at k i h = let z : 0 + i ≡ i = omega arith in lanes-from 0 k i h ∙ ap laneAt z
 
+  -- the lanes without their classes are the columns of the same parts
   pub columns-are : (q k : ℕ) → map columnIn (lanesFrom n ls rs ps cs q k) ≡ columnsFrom n ls rs ps q k
   unfolding lanesFrom columnsFrom
   columns-are q zero = refl

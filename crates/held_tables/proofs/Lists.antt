@@ -37,9 +37,12 @@ module _ (nd : List Bool) (k : Classes) where
   -- of the first c classes, n are entered, and nothing but the list moved
   pub record Entered (b c n : ℕ) (u v : List ℕ) : Type 0 where
     pub list : Listing nd k b c n v
+    -- entering classes leaves the tables as long as before
     pub size : length v ≡ length u
+    -- nothing but the list of this holding part moved
     pub rest : (x : ℕ) → ((i : ℕ) → i < laneCount → x ≡ needClassPlace b i → ⊥) → getD v x 0 ≡ getD u x 0
 
+  -- before the first class is looked at the list is empty, and nothing moved
   pub entered-none : (b : ℕ) (u : List ℕ) → Entered b 0 0 u u
   unfolding mostTo
   entered-none b u = record { list = record { most = λ f. refl; class = λ i l. absurd (omega arith); few = omega arith }; size = refl; rest = λ x h. refl }
@@ -91,14 +94,17 @@ module _ (nd : List Bool) (k : Classes) where
         other : (i : ℕ) → i < n → getD w (needClassPlace b i) 0 ≡ getD v (needClassPlace b i) 0
         other i r = getD-set-other v (needClassPlace b n) (needClassPlace b i) c 0 (λ z. omega (arith, z, r))
 
+  -- once every class is looked at, the list of those that need the holding part is written
   pub listed-all : (b c n : ℕ) (u v : List ℕ) → c ≡ k .count → Entered b c n u v → Listed nd k b n u v
   listed-all b c n u v z e = record { list = subst (λ (x : ℕ). Listing nd k b x n v) z (e .list); size = e .size; rest = e .rest }
 
   -- ---- all lists
 
+  -- for no holding part there is no list to be written
   pub lists-none : (u : List ℕ) → Lists nd k 0 u u
   lists-none u = record { lists = λ x l. absurd (omega arith); before = record { size = refl; rest = λ x l. refl } }
 
+  -- with its list and the list's length written, the lists of one holding part more are there
   pub lists-more : (b n : ℕ) (u v w : List ℕ) → b < laneCount → k .count ≤ laneCount → length u ≡ heldSize → Listed nd k b n v w → Lists nd k b u v → Lists nd k (b + 1) u (set w (needCountPlace b) n)
   lists-more b n u v w l few s e d =
       record {

@@ -12,11 +12,14 @@ use Rattle.held_tables.specs.Fill.{Before}
 -- the masks of the first n sets are there, and nothing before them moved
 pub record Masked (n : ℕ) (u v : List ℕ) : Type 0 where
   pub masks : (s : ℕ) → s < n → (i : ℕ) → i < 4 → getD v (maskPlace s i) 0 ≡ maskOf s i
+  -- nothing before the masks moved while they were written
   pub before : Before maskBase u v
 
+-- before the first set no mask is written and nothing moved
 pub masked-none : (u : List ℕ) → Masked 0 u u
 masked-none u = record { masks = λ s l i h. absurd (omega arith); before = record { size = refl; rest = λ x l. refl } }
 
+-- with the four numbers of set n written, the masks of one set more are there
 pub masked-more : (n : ℕ) (u v w : List ℕ) → FilledBy (maskPlace n) (maskOf n) 4 v w → Masked n u v → Masked (n + 1) u w
 masked-more n u v w f m =
     record {

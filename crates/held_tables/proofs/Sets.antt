@@ -12,17 +12,21 @@ unfoldable pub setsOf : ℕ → ℕ
 setsOf zero = 1
 setsOf (suc k) = setsOf k * 2
 
+-- the bit for a lane is at most 1
 pub bit-most : (b : Bool) → cond b 1 0 ≤ 1
 bit-most true = omega arith
 bit-most false = omega arith
 
 -- the lanes from q on are gathered: lane q + i is the set's i
 pub record Gathered (f : ℕ → Bool) (q set : ℕ) : Type 0 where
+  -- the first lane that is gathered is one of the sixteen, or none is
   pub few : q ≤ laneCount
   pub lanes : (i : ℕ) → q + i < laneCount → bitAt i set ≡ f (q + i)
+  -- a set of k lanes is a number below the number of sets that k lanes have
   pub small : set < setsOf (laneCount - q)
 
 module _ (f : ℕ → Bool) where
+  -- past the last lane nothing is gathered, and the set is 0
   pub gathered-none : Gathered f laneCount 0
   unfolding setsOf
   gathered-none = record { few = omega arith; lanes = λ i l. absurd (omega arith); small = omega arith }
@@ -53,6 +57,7 @@ module _ (f : ℕ → Bool) where
   sets-more k zero = let z : 0 + k ≡ k = omega arith in rw z (omega arith)
   sets-more k (suc d) = let z : suc d + k ≡ suc (d + k) = omega arith in rw z (omega (arith, sets-more k d))
 
+  -- a set gathered so far fits in 16 bits
   pub gathered-fits : {q set : ℕ} → Gathered f q set → set < 2 ^ 16
   unfolding setsOf
   gathered-fits {q} {set} g =
@@ -60,6 +65,7 @@ module _ (f : ℕ → Bool) where
       let y : setsOf (q + (laneCount - q)) ≡ 65536 = ap setsOf z in
       omega (arith, g .small, sets-more (laneCount - q) q, y)
 
+  -- once all lanes are gathered, each lane's bit is right, and the set fits in 16 bits
   pub gathered-all : (set : ℕ) → Gathered f 0 set → ((q : ℕ) → q < laneCount → bitAt q set ≡ f q) × (set < 2 ^ 16)
   unfolding setsOf
   gathered-all set g = (λ q l. let z : 0 + q ≡ q = omega arith in g .lanes q (omega arith) ∙ ap f z, omega (arith, g .small))

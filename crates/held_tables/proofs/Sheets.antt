@@ -18,7 +18,7 @@ use Rattle.lane_rows.specs.Sheet.{Column, noColumn}
 use Rattle.lane_rows.specs.Tables.{Alike, Tables}
 use Rattle.search_tables.specs.Arrays.{priceStride, laneValue, foursOf, sheetOf}
 use Rattle.search_tables.proofs.Filling.{past, own-each}
-use Rattle.held_places.specs.Arrays.{needStride, needsAt, Lanes, Holds}
+use Rattle.held_places.specs.Arrays.{needStride, needsAt, Lanes, HeldArrays}
 use Rattle.held_rows.specs.Held.{HeldColumn, HeldSheet, columnIn, plain, noLane, needsOf, Classed, Laid, Fills, SheetOf}
 use Rattle.held_lanes.specs.Tables.{needing}
 use Rattle.part_classes.specs.declared.Classes.{Classes}
@@ -43,20 +43,24 @@ module _ (e : ℤ) (ss : List ℤ) (fs ls rs ps : List ℕ) (nd : List Bool) (rm
   abbrev sheet : HeldSheet
   sheet = heldSheetOf e ss fs ls rs ps nd rm k
 
+  -- the sheet without its holders is that of the arrays for openings alone
   pub plain-is : plain sheet ≡ sheetOf e ss fs ls rs ps
   plain-is = ap (λ (cs : List Column). record { end = e; positions = ss; fees = fs; parts = length ls; columns = cs }) (columns-are (length ss) ls rs ps (k .lanes) 0 (foursOf (length ls) * 4))
 
   -- ---- classes
 
+  -- the sheet has the needs of as many classes as there are
   pub classes-count : length (sheet .needs) ≡ k .count
   classes-count = length-map (take (k .count) (k .leads)) (needsAt (length rm) nd) ∙ length-take-le (k .count) (k .leads) (omega (arith, g .led .room, g .led .most))
 
+  -- a class needs the holding parts that its lead needs
   pub class-needs : (c : ℕ) → c < k .count → needsOf sheet c ≡ needsAt (length rm) nd (getD (k .leads) c 0)
   class-needs c l =
       there (sheet .needs) c [] (needsAt (length rm) nd 0) (omega (arith, classes-count))
       ∙ List·getD-map (needsAt (length rm) nd) (take (k .count) (k .leads)) c 0
       ∙ ap (needsAt (length rm) nd) (getD-take (k .count) (k .leads) c 0 l)
 
+  -- a class of the sheet needs a holding part exactly where its lead does
   pub needing-is : (b c : ℕ) → b < length rm → c < k .count → needing sheet b c ≡ needIn nd k b c
   needing-is b c h l =
       ap (λ (xs : List Bool). getD xs b false) (class-needs c l)
@@ -65,12 +69,15 @@ module _ (e : ℤ) (ss : List ℤ) (fs ls rs ps : List ℕ) (nd : List Bool) (rm
 
   -- ---- lanes
 
+  -- the sheet has as many lanes as the fours that its parts fill
   pub lanes-count : length (sheet .lanes) ≡ foursOf (length ls) * 4
   lanes-count = lanes-length (length ss) ls rs ps (k .lanes) 0 (foursOf (length ls) * 4)
 
+  -- lane q of the sheet is made of the arrays' numbers for part q and its class
   pub lane-is : (q : ℕ) → q < length (sheet .lanes) → getD (sheet .lanes) q noLane ≡ laneAt (length ss) ls rs ps (k .lanes) q
   lane-is q l = lanes-at (length ss) ls rs ps (k .lanes) (foursOf (length ls) * 4) q (omega (arith, lanes-count))
 
+  -- the class of each lane is one of those that there are
   pub class-small : (q : ℕ) → getD (k .lanes) q 0 < k .count
   class-small q = go (decLt q (length ls))
     where
@@ -78,6 +85,7 @@ module _ (e : ℤ) (ss : List ℤ) (fs ls rs ps : List ℕ) (nd : List Bool) (rm
       go (yes l) = g .class q l
       go (no l) = omega (arith, l, g .past q (omega (arith, l)), g .class 0 (ar .plain .lives .some))
 
+  -- a lane of the sheet has the class that the classes give it
   pub lane-class : (q : ℕ) → q < length (sheet .lanes) → getD (sheet .lanes) q noLane .class ≡ getD (k .lanes) q 0
   lane-class q l = ap (λ (x : HeldColumn). x .class) (lane-is q l)
 
@@ -105,10 +113,11 @@ module _ (e : ℤ) (ss : List ℤ) (fs ls rs ps : List ℕ) (nd : List Bool) (rm
 
   -- ---- the job's
 
-  module _ (job : Job) (ho : Holds job e ss fs ls rs ps nd rm) where
+  module _ (job : Job) (ho : HeldArrays job e ss fs ls rs ps nd rm) where
     abbrev part : ℕ → Held
     part q = heldAt job q (partAt job q)
 
+    -- where the arrays hold the job, their sheet is the job's
     pub sheet-of : SheetOf job sheet
     sheet-of =
         record {

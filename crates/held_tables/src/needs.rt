@@ -13,8 +13,8 @@ use held_lanes::NEED_CLASSES;
 use held_lanes::NEED_COUNTS;
 use held_lanes::NEED_LANES;
 use held_lanes::REMOVALS;
-use held_places::PARTS;
 use lane_rows::LANES;
+use model::PARTS;
 use part_classes::Classes;
 
 // The removals.

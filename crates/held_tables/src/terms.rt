@@ -15,6 +15,7 @@ use held_lanes::TOPS;
 use lane_rows::LANES;
 use lane_rows::row_of;
 use least::MARKS;
+use model::OPENINGS;
 use part_classes::Classes;
 use search_tables::tables::capped;
 use search_tables::tables::lane_life;
@@ -78,7 +79,7 @@ fn raise_part(
     ensures { λ _. ⌜ Raised (sheetOf end (now (positions .entry)) (now (fees .entry)) (now (lives .entry)) (now (lefts .entry)) (now (prices .entry)))
         (columnOf (lanePart (length (now (positions .entry))) (now (lives .entry)) (now (lefts .entry)) (now (prices .entry)) q)) c (now (u .entry)) (now (u .exit)) ⌝ }
 {
-    let all = [true; 64];
+    let all = [true; OPENINGS];
     let n = positions.len();
     let lane = lane_life(lives, lefts, q);
     least::fill(lane.life, end, lane.first, positions, fees, &all[..n], tab);
@@ -134,7 +135,7 @@ fn top_of(u: &[u32], j: usize, n: usize) -> u32
     g
 }
 
-// They are put down for each number of openings up to m.
+// The largest terms of the classes are put down for each number of openings up to m.
 pub fn put_tops(m: usize, n: usize, u: &mut [u32])
     requires { ⌜ (m ≤ mostOpenings) × (n ≤ laneCount) × (length (now u) ≡ heldSize) ⌝ }
     ensures { λ _. ⌜ FilledBy topPlace (λ (j : ℕ). mostTo (λ (c : ℕ). getD (now (u .entry)) (classPlace j j c) 0) n) (m + 1) (now (u .entry)) (now (u .exit)) ⌝ }

@@ -15,9 +15,10 @@ use Rattle.job_grammar.specs.Rendering.{idlesText, openingText, bodyText
 use Rattle.jobs.specs.Valid.{All, ValidOpening, ValidPart, HeldFrom, ValidJob}
 use Rattle.part_lines.specs.Grammar.{PartText, meantPart, part, following}
 use Rattle.part_lines.specs.Rendering.{partText}
-use Rattle.part_lines.specs.Valid.{KnownPart}
+use Rattle.part_lines.specs.Valid.{Spelt, KnownPart}
 use Rattle.part_lines.proofs.Accepted.{part-tells}
 use Rattle.job_grammar.specs.Valid.{Valid, Some, Allowed, ValidText}
+use Rattle.job_grammar.proofs.Lows.{meant-valid}
 
 -- ---- steps that rise
 
@@ -39,6 +40,7 @@ steps-rise : (h before : ℕ) (is : List ℕ) → Chained (KnownStep h) itself b
 steps-rise h before [] c = tt
 steps-rise h before (i ∷ is) c = (c .0 .after, c .0 .within, steps-rise h i is (c .1))
 
+-- accepted lines of idle steps have at most 365, rising within the horizon, and are written for them
 pub idles-tell : (h : ℕ) → Tells (idles h) (KnownIdles h) (optionalText idlesText)
 unfolding idles idleSteps idle ifPresent return idlesText
 idles-tell h s s′ l l′ is e =
@@ -69,6 +71,7 @@ idles-tell h s s′ l l′ is e =
 
 -- ---- openings
 
+-- an opening whose step comes after `before` and within the horizon h, with its fee in range
 abbrev pub KnownOpening : ℕ → ℕ → Opening → Type 0
 KnownOpening h before o = KnownStep h before (o .step) × (o .fee ≤ 1000000)
 
@@ -88,9 +91,11 @@ opening-tells h before s s′ l l′ o e =
           ∙ ap (λ (r : List ℕ). lineOf "opening=" (b .a) ++ r) (row-sound _ 0 1000000 (b .mid) (d .mid) (b .at) (d .at) (d .a) (d .first) ∙ ap (λ (r : List ℕ). lineOf "fee=" (d .a) ++ r) y));
     })
 
+-- the step that an opening hands on to the one after it
 abbrev pub stepOf : ℕ → Opening → ℕ
 stepOf before o = o .step
 
+-- openings that are each known after the one before are valid, and rise within the horizon
 pub chained-rising : (h before : ℕ) (os : List Opening) → Chained (KnownOpening h) stepOf before os → All ValidOpening os × Rising before h (stepsOf os)
 chained-rising h before [] c = (tt, tt)
 chained-rising h before (o ∷ os) c =
@@ -100,22 +105,27 @@ chained-rising h before (o ∷ os) c =
 
 -- ---- parts
 
+-- the parts from part k of m on, with n openings: what they mean, and how their lines say it
+abbrev KnownParts : ℕ → ℕ → ℕ → List PartText → Type 0
+KnownParts m n k ps = All (ValidPart n) (map (meantPart n) ps) × HeldFrom m k (map (meantPart n) ps) × All (Spelt n) ps
+
 -- numbered parts, in the model's terms
-chained-parts : (m n k : ℕ) (ps : List PartText) → Chained (KnownPart m n) following k ps → All (ValidPart n) (map meantPart ps) × HeldFrom m k (map meantPart ps)
-chained-parts m n k [] c = (tt, tt)
+chained-parts : (m n k : ℕ) (ps : List PartText) → Chained (KnownPart m n) following k ps → KnownParts m n k ps
+chained-parts m n k [] c = (tt, tt, tt)
 chained-parts m n k (p ∷ ps) c =
     let r = chained-parts m n (suc k) ps (c .1) in
-    ((c .0 .0, r .0), (c .0 .1, r .1))
+    ((c .0 .0, r .0), (c .0 .1, r .1), (c .0 .2, r .2))
 
-pub parts-chained : (m n k : ℕ) (ps : List PartText) → All (ValidPart n) (map meantPart ps) → HeldFrom m k (map meantPart ps) → Chained (KnownPart m n) following k ps
-parts-chained m n k [] v h = tt
-parts-chained m n k (p ∷ ps) v h = ((v .0, h .0), parts-chained m n (suc k) ps (v .1) (h .1))
+-- parts that mean valid parts with holders in order are known along the chain of their numbers
+pub parts-chained : (m n k : ℕ) (ps : List PartText) → All (ValidPart n) (map (meantPart n) ps) → HeldFrom m k (map (meantPart n) ps) → All (Spelt n) ps → Chained (KnownPart m n) following k ps
+parts-chained m n k [] v h s = tt
+parts-chained m n k (p ∷ ps) v h s = ((v .0, h .0, s .0), parts-chained m n (suc k) ps (v .1) (h .1) (s .1))
 
 -- ---- the whole
 
 abbrev KnownJob : ℕ → Optional (List ℕ) → Optional ℕ → ℕ → JobText → Type 0
 KnownJob h is w n t =
-    (2 ≤ h → h ≤ 365 → KnownIdles h is → n ≤ 64 → ValidJob (meant t .job)) × (t .walk ≡ w) × (t .horizon ≡ h) × (t .idles ≡ is) × (length (t .openings) ≡ n)
+    (2 ≤ h → h ≤ 365 → KnownIdles h is → n ≤ 64 → ValidJob (meant t .job)) × (t .walk ≡ w) × (t .horizon ≡ h) × (t .idles ≡ is) × (length (t .openings) ≡ n) × All (Spelt (length (t .openings))) (t .parts)
 
 body-tells : (h : ℕ) (is : Optional (List ℕ)) (w : Optional ℕ) (n : ℕ) → Tells (body h is w n) (KnownJob h is w n) bodyText
 unfolding body openings parts return bodyText
@@ -130,8 +140,8 @@ body-tells h is w n s s′ l l′ g e =
     let k₂ = row-gives _ 1 16 (b .mid) (d .mid) (b .at) (d .at) (d .a) (d .first) in
     let k₃ = chain-gives (part (d .a) n) following (KnownPart (d .a) n) (λ k s s′ l l′ p e. part-tells (d .a) n k s s′ l l′ p e .known) (d .a) 1 (d .mid) (f .mid) (d .at) (f .at) (f .a) (f .first) in
     let count : d .a ≡ length (f .a) = sym (k₃ .0) in
-    let meant-count : d .a ≡ length (map meantPart (f .a)) = count ∙ sym (length-map (f .a) meantPart) in
-    let ps = chained-parts (d .a) n 1 (f .a) (k₃ .1) in
+    let meant-count : d .a ≡ length (map (meantPart (length (b .a))) (f .a)) = count ∙ sym (length-map (f .a) (meantPart (length (b .a)))) in
+    let ps = subst (λ (q : ℕ). KnownParts (d .a) q 1 (f .a)) (sym (k₁ .0)) (chained-parts (d .a) n 1 (f .a) (k₃ .1)) in
     subst (Told (KnownJob h is w n) bodyText s s′) x (record {
       known = (
         λ low high steps few. record {
@@ -144,13 +154,14 @@ body-tells h is w n s s′ l l′ g e =
           rising = os .1;
           some-part = subst (λ (m : ℕ). 1 ≤ m) meant-count (k₂ .0);
           few-parts = subst (λ (m : ℕ). m ≤ 16) meant-count (k₂ .1);
-          parts = subst (λ (m : ℕ). All (ValidPart m) (map meantPart (f .a))) (sym (k₁ .0)) (ps .0);
-          holders = subst (λ (m : ℕ). HeldFrom m 1 (map meantPart (f .a))) meant-count (ps .1);
+          parts = ps .0;
+          holders = subst (λ (m : ℕ). HeldFrom m 1 (map (meantPart (length (b .a))) (f .a))) meant-count (ps .1);
         },
         refl,
         refl,
         refl,
         k₁ .0,
+        ps .2,
       );
       text = simp append-assoc
           (chain-sound (opening h) stepOf openingText (λ before s s′ l l′ o e. opening-tells h before s s′ l l′ o e .text) n 0 s (b .mid) l (b .at) (b .a) (b .first)
@@ -169,6 +180,7 @@ walk-tells s s′ l l′ o e = go o (optional-inv _ 0 4000000000 s s′ l l′ o
     go missing f = record { known = tt; text = f }
     go (present w) f = record { known = row-gives _ 0 4000000000 s s′ l l′ w f .1; text = row-sound _ 0 4000000000 s s′ l l′ w f }
 
+-- an accepted job's lines say a valid text, and are what is written for it
 pub lines-tell : Tells jobLines ValidText jobText
 unfolding jobLines rest jobText
 lines-tell s s′ l l′ g e =
@@ -187,9 +199,10 @@ lines-tell s s′ l l′ g e =
     let n : f .a ≡ length (g .openings) = sym (t .known .4) in
     record {
       known = record {
-        means = record { job = t .known .0 (k₁ .0) (k₁ .1) (steps .known) (k₃ .1) };
+        means = meant-valid g (t .known .0 (k₁ .0) (k₁ .1) (steps .known) (k₃ .1)) (t .known .5);
         idles = subst Some is (steps .known .2);
         walk = subst Allowed w (line .known);
+        lines = t .known .5;
       };
       text = simp append-assoc
           (row-sound _ 2 365 s (b .mid) l (b .at) (b .a) (b .first)

@@ -34,6 +34,7 @@ rise-chained : (h before : ℕ) (is : List ℕ) → h ≤ 365 → Rising before 
 rise-chained h before [] high r = tt
 rise-chained h before (i ∷ is) high r = (record { low = omega (arith, r .0); high = omega (arith, r .1); after = r .0; within = r .1 }, rise-chained h i is high (r .2))
 
+-- idle steps in order, or none, are read back from their lines if no other `idles` line follows
 pub idles-complete : (h : ℕ) (o : Optional (List ℕ)) → h ≤ 365 → length (idleIn o) ≤ 365 → Rising 0 h (idleIn o) → Some o → (s : List ℕ) (l : ℕ) → startsWith (bytes "idles=") s ≡ false
     → (l′ : ℕ) × (idles h (optionalText idlesText o ++ s) l ≡ good o s l′)
 unfolding idles idleSteps idle ifPresent return idlesText
@@ -91,11 +92,11 @@ body-complete t v s l next =
     let os = texts openingText (t .openings) in
     let m = lineOf "parts=" (length (t .parts)) in
     let ps = texts partText (t .parts) in
-    let count = length (map meantPart (t .parts)) in
-    let size = length-map (t .parts) meantPart in
+    let count = length (map (meantPart n) (t .parts)) in
+    let size = length-map (t .parts) (meantPart n) in
     let a = chain-complete (opening h) stepOf openingText (KnownOpening h) (opening-complete h) 0 (t .openings) (openings-chained h 0 (t .openings) (j .openings) (j .rising)) (m ++ (ps ++ s)) l in
     let b = row-complete (bytes "parts=") 1 16 (omega arith) (length (t .parts)) (omega (arith, j .some-part, size), omega (arith, j .few-parts, size)) (ps ++ s) (a .0) in
-    let known = subst (λ (i : ℕ). Chained (KnownPart i n) following 1 (t .parts)) size (parts-chained count n 1 (t .parts) (j .parts) (j .holders)) in
+    let known = subst (λ (i : ℕ). Chained (KnownPart i n) following 1 (t .parts)) size (parts-chained count n 1 (t .parts) (j .parts) (j .holders) (v .lines)) in
     let c = parts-complete (length (t .parts)) n 1 (omega (arith, j .few-parts, size)) (t .parts) known s (b .0) next in (
       c .0,
       ap (λ (x : List ℕ). body h (t .idles) (t .walk) n x l) (append-assoc (os ++ m) ps s ∙ append-assoc os m (ps ++ s))

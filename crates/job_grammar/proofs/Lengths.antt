@@ -1,4 +1,4 @@
--- A job text has at most 22,109 bytes, so it fits (`text-short`): 365 idle steps, 64 openings and sixteen parts, each held by the fifteen others, each number with its most digits. By the lengths of the lines; idle steps rise, so they are among 1 to 365.
+-- A job text has at most 33,373 bytes, so it fits (`text-short`): 365 idle steps, 64 openings and sixteen parts, each held by the fifteen others, each number with its most digits. By the lengths of the lines; idle steps rise, so they are among 1 to 365.
 use Prim.Native.Nat.{ℕ, zero, suc, _+_, _-_, _*_, _≤_, _<_}
 use mathlib.Core.Path.{_≡_, refl, ap}
 use mathlib.Core.List.{List, [], _∷_, _++_, map}
@@ -24,7 +24,7 @@ use Rattle.job_grammar.proofs.Accepted.{parts-chained}
 
 -- the longest job text
 abbrev pub longest : ℕ
-longest = 22109
+longest = 33373
 
 key-length : (length (bytes "horizon=") ≡ 8) × (length (bytes "idles=") ≡ 6) × (length (bytes "walk=") ≡ 5) × (length (bytes "openings=") ≡ 9) × (length (bytes "parts=") ≡ 6)
 unfolding bytes
@@ -116,8 +116,9 @@ text-short t v =
     let n = lineOf "openings=" (length (t .openings)) in
     let os = texts openingText (t .openings) in
     let m = lineOf "parts=" (length (t .parts)) in
-    let count = length (map meantPart (t .parts)) in
-    let size = length-map (t .parts) meantPart in
+    let means = meantPart (length (t .openings)) in
+    let count = length (map means (t .parts)) in
+    let size = length-map (t .parts) means in
     rw (length-append (h ++ is ++ w ++ n), length-append (h ++ is ++ w), length-append (h ++ is), length-append h, length-append (os ++ m), length-append os)
     (omega (
       arith,
@@ -128,11 +129,12 @@ text-short t v =
       line-short (bytes "openings=") 1 (length (t .openings)) (omega (arith, j .few-openings)),
       texts-short ValidOpening openingText 24 opening-short (t .openings) (j .openings),
       line-short (bytes "parts=") 1 (length (t .parts)) (omega (arith, j .few-parts, size)),
-      parts-short count (length (t .openings)) 0 (t .parts) (j .few-openings) (j .few-parts) (omega (arith, j .few-parts, size)) (parts-chained count (length (t .openings)) 1 (t .parts) (j .parts) (j .holders)),
+      parts-short count (length (t .openings)) 0 (t .parts) (j .few-openings) (j .few-parts) (omega (arith, j .few-parts, size)) (parts-chained count (length (t .openings)) 1 (t .parts) (j .parts) (j .holders) (v .lines)),
       all-holders,
       j .few-openings,
       j .few-parts,
     ))
 
+-- the text of a valid record of a job has no more bytes than a text may have
 pub text-fits : (t : JobText) → ValidText t → length (jobText t) ≤ maxBytes
 text-fits t v = omega (arith, text-short t v)

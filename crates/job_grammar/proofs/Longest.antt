@@ -11,14 +11,21 @@ use lib.ListN.{length, replicate}
 use Rattle.lines.specs.Text.{bytes, decimalIn, line, present}
 use Rattle.model.specs.Model.{Opening}
 use Rattle.model.specs.Windows.{Rising, stepsOf}
-use Rattle.jobs.specs.Valid.{All, ValidOpening, ValidPrice, Holds, ValidPart, HeldFrom}
+use Rattle.jobs.specs.Valid.{All, ValidOpening, ValidHolders, ValidPart, HeldFrom}
 use Rattle.covers.specs.Rendering.{coverText}
 use Rattle.covers.specs.Views.{meantCover}
 use Rattle.part_lines.specs.Grammar.{PartText, meantPart}
 use Rattle.part_lines.specs.Rendering.{partText}
+use Rattle.part_lines.specs.Valid.{Spelt}
+use Rattle.quotes.specs.Grammar.{pair}
+use Rattle.quotes.specs.Rendering.{quoteText}
+use Rattle.quotes.specs.Valid.{ValidQuote}
+use Rattle.price_rules.specs.Grammar.{byList}
+use Rattle.price_rules.proofs.Prices.{meant-valid as prices-valid}
 use Rattle.job_grammar.specs.Grammar.{JobText}
 use Rattle.job_grammar.specs.Rendering.{idlesText, openingText, bodyText, jobText}
 use Rattle.job_grammar.specs.Valid.{ValidText}
+use Rattle.job_grammar.proofs.Lows.{meant-valid}
 use Rattle.job_grammar.proofs.Lengths.{longest}
 
 -- the n steps after step `before`
@@ -38,7 +45,7 @@ others k before (suc n) = cond (eqb (suc before) k) (others k (suc before) n) (s
 
 -- part k of sixteen, held by the fifteen others
 longestPart : ℕ → PartText
-longestPart k = record { life = 1000; left = 1000; cover = present (record { removal = 1000000; holders = others k 0 16 }); prices = replicate 64 1000000 }
+longestPart k = record { life = 1000; left = 1000; cover = present (record { removal = 1000000; holders = others k 0 16 }); prices = byList (replicate 64 (pair 1000000 1000000)) }
 
 -- the n parts after part `before`
 partsAfter : ℕ → ℕ → List PartText
@@ -50,7 +57,7 @@ pub longestText : JobText
 longestText = record { horizon = 365; idles = present (stepsAfter 0 365); walk = present 4000000000; openings = openingsAfter 301 64; parts = partsAfter 0 16 }
 
 pub reached : length (jobText longestText) ≡ longest
-unfolding longestText longestPart partsAfter others stepsAfter openingsAfter jobText bodyText idlesText openingText partText coverText line bytes decimalIn
+unfolding longestText longestPart partsAfter others stepsAfter openingsAfter jobText bodyText idlesText openingText partText coverText quoteText line bytes decimalIn
 reached = refl
 
 -- ---- it is valid
@@ -75,13 +82,13 @@ all-alike P zero x h = tt
 all-alike P (suc n) x h = (h, all-alike P n x h)
 
 -- the others rise, are within m, and are not k
-others-hold : (m k least before n : ℕ) → least ≤ before → before + n ≤ m → Holds m k least (others k before n)
+others-hold : (m k least before n : ℕ) → least ≤ before → before + n ≤ m → ValidHolders m k least (others k before n)
 unfolding others
 others-hold m k least before zero l h = tt
 others-hold m k least before (suc n) l h =
     go (ℕ-discrete (suc before) k) (others-hold m k least (suc before) n (omega arith) (omega arith)) (others-hold m k (suc before) (suc before) n (omega arith) (omega arith))
   where
-    go : Dec (suc before ≡ k) → Holds m k least (others k (suc before) n) → Holds m k (suc before) (others k (suc before) n) → Holds m k least (others k before (suc n))
+    go : Dec (suc before ≡ k) → ValidHolders m k least (others k (suc before) n) → ValidHolders m k (suc before) (others k (suc before) n) → ValidHolders m k least (others k before (suc n))
     go (yes e) without after = rw (eq-eqb (suc before) k e) without
     go (no e) without after = rw (ne-eqb (suc before) k e) (omega arith, omega arith, e, after)
 
@@ -104,41 +111,41 @@ others-few k before (suc n) l h = go (ℕ-discrete (suc before) k) (λ e. others
     go (yes e) later = rw (eq-eqb (suc before) k e) (omega (arith, others-most k (suc before) n))
     go (no e) later = rw (ne-eqb (suc before) k e) (omega (arith, later e))
 
-parts-valid : (before n : ℕ) → before + n ≤ 16 → All (ValidPart 64) (map meantPart (partsAfter before n)) × HeldFrom 16 (suc before) (map meantPart (partsAfter before n))
+parts-valid : (before n : ℕ) → before + n ≤ 16 → All (ValidPart 64) (map (meantPart 64) (partsAfter before n)) × HeldFrom 16 (suc before) (map (meantPart 64) (partsAfter before n)) × All (Spelt 64) (partsAfter before n)
 unfolding partsAfter longestPart meantCover
-parts-valid before zero m = (tt, tt)
+parts-valid before zero m = (tt, tt, tt)
 parts-valid before (suc n) m =
     let r = parts-valid (suc before) n (omega arith) in
-    let p : ValidPart 64 (meantPart (longestPart (suc before))) = record {
+    let s : Spelt 64 (longestPart (suc before)) = (refl, all-alike ValidQuote 64 (pair 1000000 1000000) (record { low = (omega arith, omega arith); high = (omega arith, omega arith); ordered = omega arith })) in
+    let p : ValidPart 64 (meantPart 64 (longestPart (suc before))) = record {
       life-low = omega arith;
       life-high = omega arith;
-      left-low = omega arith;
       left-high = omega arith;
       removal = omega arith;
       few-holders = omega (arith, others-few (suc before) 0 16 (omega arith) (omega arith));
       priced = refl;
-      prices = all-alike ValidPrice 64 1000000 (omega arith, omega arith);
+      prices = prices-valid 64 (longestPart (suc before) .prices) s;
     } in
-    ((p, r .0), (others-hold 16 (suc before) 0 0 16 (omega arith) (omega arith), r .1))
+    ((p, r .0), (others-hold 16 (suc before) 0 0 16 (omega arith) (omega arith), r .1), (s, r .2))
 
+-- the longest text says what a valid job text may say
 pub longest-valid : ValidText longestText
 unfolding longestText partsAfter stepsAfter openingsAfter
 longest-valid = record {
-  means = record {
-    job = record {
-      horizon-low = omega arith;
-      horizon-high = omega arith;
-      few-idles = omega arith;
-      idles = steps-rise 0 365 365 (omega arith);
-      few-openings = omega arith;
-      openings = openings-valid 301 64 (omega arith);
-      rising = openings-rise 0 301 64 365 (omega arith) (omega arith);
-      some-part = omega arith;
-      few-parts = omega arith;
-      parts = parts-valid 0 16 (omega arith) .0;
-      holders = parts-valid 0 16 (omega arith) .1;
-    };
-  };
+  means = meant-valid longestText (record {
+    horizon-low = omega arith;
+    horizon-high = omega arith;
+    few-idles = omega arith;
+    idles = steps-rise 0 365 365 (omega arith);
+    few-openings = omega arith;
+    openings = openings-valid 301 64 (omega arith);
+    rising = openings-rise 0 301 64 365 (omega arith) (omega arith);
+    some-part = omega arith;
+    few-parts = omega arith;
+    parts = parts-valid 0 16 (omega arith) .0;
+    holders = parts-valid 0 16 (omega arith) .1;
+  }) (parts-valid 0 16 (omega arith) .2);
   idles = omega arith;
   walk = omega arith;
+  lines = parts-valid 0 16 (omega arith) .2;
 }

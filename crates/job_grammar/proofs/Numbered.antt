@@ -18,6 +18,7 @@ pub fault-some : (n : ℕ) → JobFault n → 1 ≤ n
 fault-some n (inl k) = k .0
 fault-some n (inr k) = omega (arith, k)
 
+-- a job text's fault is no number from 6 to 11
 pub fault-else : (n i : ℕ) → JobFault n → 5 < i → i < 12 → n ≡ i → ⊥
 fault-else n i (inl k) l m e = omega (arith, k)
 fault-else n i (inr k) l m e = omega (arith, k)
@@ -33,6 +34,9 @@ three = low 3 (omega arith) (omega arith)
 
 twelve : JobFault 12
 twelve = inr (omega arith, omega arith)
+
+thirteen : JobFault 13
+thirteen = inr (omega arith, omega arith)
 
 line-numbers : (key : List ℕ) (lo hi : ℕ) → Numbers JobFault (rowAt key lo hi)
 line-numbers = row-numbers JobFault two three
@@ -56,8 +60,9 @@ unfolding body openings parts
 body-numbers h is w n =
     bind-numbers JobFault _ _ (chain-numbers JobFault (opening h) _ (opening-numbers h) n 0)
     (λ os. bind-numbers JobFault _ _ (line-numbers _ 1 16)
-    (λ m. bind-numbers JobFault _ _ (chain-numbers JobFault (part m n) following (part-numbers JobFault two three (low 5 (omega arith) (omega arith)) twelve m n) m 1) (λ ps. return-numbers JobFault _)))
+    (λ m. bind-numbers JobFault _ _ (chain-numbers JobFault (part m n) following (part-numbers JobFault two three (low 5 (omega arith) (omega arith)) twelve thirteen m n) m 1) (λ ps. return-numbers JobFault _)))
 
+-- a fault in a job's lines has a job text's number, on a line of the text or the next
 pub lines-numbers : Numbers JobFault jobLines
 unfolding jobLines rest
 lines-numbers =

@@ -3,13 +3,14 @@
 -- E10. "A job's `walk` line, if it still stands, is checked as before and set aside."
 -- E1.2. "After `horizon` a job may have `idles` 1..365 and that many `idle` lines, 1..365, rising and within the horizon; without the line no step is idle."
 use Prim.Native.Nat.{ℕ}
+use mathlib.Core.Bool.{Bool}
 use mathlib.Core.List.{List, [], map}
+use lib.ListN.{length}
 use Rattle.lines.specs.Text.{Optional, missing, present}
 use Rattle.lines.specs.Parser.{Outcome, accepted, refused, Parser, _>>=_, return, row, optional, ifPresent, checked, chain, rising, readText}
-use Rattle.model.specs.Model.{Opening, Job}
+use Rattle.model.specs.Model.{Opening, Part, Job}
 use Rattle.model.specs.Limits.{lastStep, dearest, mostOpenings, mostParts, mostWalk}
-pub use Rattle.model.specs.Limits.{maxBytes}
-use Rattle.part_lines.specs.Grammar.{PartText, meantPart, part, following}
+use Rattle.part_lines.specs.Grammar.{PartText, meantPart, lowPart, anyBanded, part, following}
 
 -- what a job text says: its lines in their order, those that may be missing present or not
 pub record JobText : Type 0 where
@@ -19,18 +20,31 @@ pub record JobText : Type 0 where
   pub openings : List Opening
   pub parts : List PartText
 
--- what a job text means: the job. E10. a `walk` line is "set aside"
+-- what a job text means. E10. a `walk` line is "set aside"
 pub record Given : Type 0 where
+  -- the job, at the high ends of its prices
   pub job : Job
+  -- E11. the same job at the low ends
+  pub low : Job
+  -- E11. whether "the job has a `low` line"
+  pub banded : Bool
 
 -- E1.2. "without the line no step is idle"
 abbrev pub idleIn : Optional (List ℕ) → List ℕ
 idleIn missing = []
 idleIn (present is) = is
 
--- the job that the lines mean
+-- the job of the lines with these parts
+abbrev pub jobWith : JobText → List Part → Job
+jobWith t ps = record { horizon = t .horizon; idles = idleIn (t .idles); openings = t .openings; parts = ps }
+
+-- what the lines mean
 abbrev pub meant : JobText → Given
-meant t = record { job = record { horizon = t .horizon; idles = idleIn (t .idles); openings = t .openings; parts = map meantPart (t .parts) } }
+meant t = record {
+  job = jobWith t (map (meantPart (length (t .openings))) (t .parts));
+  low = jobWith t (map (lowPart (length (t .openings))) (t .parts));
+  banded = anyBanded (t .parts);
+}
 
 -- E1.2, E1.3. an idle step after step `before` and within the horizon h, else number 4
 unfoldable pub idle : ℕ → ℕ → Parser ℕ
@@ -83,7 +97,11 @@ jobLines = do
   is ← idles h
   rest h is
 
--- X7. "A text has at most 32,768 bytes". The whole text: what it says, or its first fault's number and line
+-- E11. "A job text may now have 40,960 bytes"
+abbrev pub maxBytes : ℕ
+maxBytes = 40960
+
+-- R1, E11. The whole text: what it says, or its first fault's number and line
 abbrev pub readJobText : List ℕ → Outcome JobText
 readJobText s = readText maxBytes jobLines s
 

@@ -55,9 +55,11 @@ module _ (n : ℕ) (parts : List model.Part) (valid : All (ValidPart n) parts) w
       rw (List·getD-map leftOf parts q noPart, List·getD-map lifeOf parts q noPart)
       (every (ValidPart n) (λ (p : model.Part). p .left ≤ p .life) noPart (omega arith) (λ p v. v .left-high) parts valid q)
 
+  -- the removal of a valid job's part is at most the highest that the text allows
   pub removal-range : (q : ℕ) → getD parts q noPart .removal ≤ dearest
   removal-range = every (ValidPart n) (λ (p : model.Part). p .removal ≤ dearest) noPart (omega arith) (λ p v. omega (arith, v .removal)) parts valid
 
+  -- every price of a valid job's part is at most the highest that the text allows
   pub price-range : (q i : ℕ) → getD (getD parts q noPart .prices) i 0 ≤ dearest
   price-range =
       every (ValidPart n) (λ (p : model.Part). (i : ℕ) → getD (p .prices) i 0 ≤ dearest) noPart (λ i. omega arith)
@@ -107,9 +109,13 @@ long-enough k l e = omega (arith, e, length-take k l)
 
 -- there are n openings and m parts
 pub record Counted (n m : ℕ) (r : Numbers) : Type 0 where
+  -- the array of positions has n entries that count, one for each opening
   pub places : length (take n (r .placed .at)) ≡ n
+  -- the array of fees has n entries that count, one for each opening
   pub fees : length (take n (r .fees)) ≡ n
+  -- the array of lives has m entries that count, one for each part
   pub lives : length (take m (r .lives)) ≡ m
+  -- the array of first lives has m entries that count, one for each part
   pub lefts : length (take m (r .lefts)) ≡ m
 
 module _ (j : Job) (sized : Sized j) (whole : Whole j) where
@@ -139,6 +145,7 @@ module _ (j : Job) (sized : Sized j) (whole : Whole j) where
       row-is m (pricesWith (jobOf j) added) ps laid n q h (sized .openings) (sized .parts) (with-length (jobOf j) added q ∙ opening-count j sized whole)
 
   module _ (r : Numbers) (numbered : Numbered (jobOf j) n m r) where
+    -- the arrays of a job's numbers hold as many as it has openings and parts
     pub counted : Counted n m r
     counted =
         record {
@@ -148,9 +155,11 @@ module _ (j : Job) (sized : Sized j) (whole : Whole j) where
           lefts = lane-count leftOf (r .lefts) (numbered .lefts);
         }
 
+    -- the life laid out for part q is the life of the job's part there
     pub life-at : (q d : ℕ) → q < m → getD (take m (r .lives)) q d ≡ getD (jobOf j .parts) q noPart .life
     life-at = lane-at lifeOf (r .lives) (numbered .lives)
 
+    -- the first life laid out for part q is that of the job's part there
     pub left-at : (q d : ℕ) → q < m → getD (take m (r .lefts)) q d ≡ getD (jobOf j .parts) q noPart .left
     left-at = lane-at leftOf (r .lefts) (numbered .lefts)
 

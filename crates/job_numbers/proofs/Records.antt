@@ -21,6 +21,7 @@ use Rattle.job_numbers.specs.Laid.{Laid}
 -- ---- one number of each record
 
 module _ (f : Part → ℕ) where
+  -- one record's number stored behind those of the first q gives those of q + 1 records
   pub taken-more : (parts : List Part) (l : List ℕ) (q x : ℕ) → q < length l → q < length parts → x ≡ f (recordAt parts q) → take q l ≡ map f (take q parts)
       → take (q + 1) (set l q x) ≡ map f (take (q + 1) parts)
   taken-more parts l q x g h e t =
@@ -30,6 +31,7 @@ module _ (f : Part → ℕ) where
 -- ---- rows of prices
 
 module _ (row : ℕ → List ℕ) where
+  -- an array of zeros holds the prices of no part
   pub laid-none : Laid 0 row (replicate priceSize 0)
   laid-none = record { size = refl; price = λ q i h l. absurd (omega arith); rest = λ x h. blank 0 priceSize x }
 

@@ -1,10 +1,13 @@
 // The numbers of a job laid out in arrays, as the searches take them.
 use clock::Positions;
 use clock::positions_of;
-use held_places::STRIDE;
 use jobs::Job;
-use part_records::left_of;
-use part_records::life_of;
+use model::OPENINGS;
+use model::PARTS;
+use model::PRICES;
+use model::STRIDE;
+use part_records::lent_left;
+use part_records::lent_life;
 use part_records::part_of;
 ghost use mathlib.Core.Path.{_≡_};
 ghost use mathlib.Core.List.{map};
@@ -19,17 +22,17 @@ ghost use Rattle.job_numbers.specs.Laid.{lifeOf, leftOf, Laid, pricesWit
 
 // The life of each part, and what is left of its first life.
 struct Lives {
-    lives: [u32; 16],
-    lefts: [u32; 16],
+    lives: [u32; PARTS],
+    lefts: [u32; PARTS],
 }
 
 // The fees of the openings.
-fn fees_of(job: Job) -> [u32; 64]
+fn fees_of(job: Job) -> [u32; OPENINGS]
     requires { ⌜ Sized job ⌝ }
     ensures { λ r. ⌜ take (job .«opening_count») r ≡ map feeOf (jobOf job .openings) ⌝ }
 {
     let n = job.opening_count;
-    let mut fees = [0u32; 64];
+    let mut fees = [0u32; OPENINGS];
     let mut i: usize = 0;
     while i < n {
         let o = job.openings[i];
@@ -46,13 +49,12 @@ fn lives_of(job: Job) -> Lives
 {
     let parts = job.parts;
     let count = job.part_count;
-    let mut lives = [0u32; 16];
-    let mut lefts = [0u32; 16];
+    let mut lives = [0u32; PARTS];
+    let mut lefts = [0u32; PARTS];
     let mut q: usize = 0;
     while q < count {
-        let part = part_of(parts, count, q);
-        lives[q] = life_of(part);
-        lefts[q] = left_of(part);
+        lives[q] = lent_life(parts, count, q);
+        lefts[q] = lent_left(parts, count, q);
         q += 1;
     }
     Lives { lives, lefts }
@@ -61,9 +63,9 @@ fn lives_of(job: Job) -> Lives
 // What a job says of time, and its openings' fees.
 pub struct Numbers {
     pub placed: Positions,
-    pub fees: [u32; 64],
-    pub lives: [u32; 16],
-    pub lefts: [u32; 16],
+    pub fees: [u32; OPENINGS],
+    pub lives: [u32; PARTS],
+    pub lefts: [u32; PARTS],
 }
 
 // The positions, fees and lives of a job.
@@ -97,14 +99,14 @@ fn put_prices(prices: &[u32], added: u32, at: usize, flat: &mut [u32])
 }
 
 // The prices of the parts, one part after the other, with what is added to each part's.
-pub fn prices_of(job: Job, added: [u32; 16]) -> [u32; 1024]
+pub fn prices_of(job: Job, added: [u32; PARTS]) -> [u32; PRICES]
     requires { ⌜ Sound job × ((q : ℕ) → q < mostParts → getD added q 0 ≤ dearest) ⌝ }
     ensures { λ r. ⌜ Laid (job .«part_count») (pricesWith (jobOf job) added) r ⌝ }
 {
     let n = job.opening_count;
     let parts = job.parts;
     let count = job.part_count;
-    let mut flat = [0u32; 1024];
+    let mut flat = [0u32; PRICES];
     let mut q: usize = 0;
     while q < count {
         let part = part_of(parts, count, q);

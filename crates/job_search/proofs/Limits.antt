@@ -42,5 +42,6 @@ module _ (job : model.Job) (valid : ValidJob job) where
     ranged (cut n f c q) p = let h = p .says-7 .0 refl .0 in (nodes-most (cut n f c q) p h, floor-most f (p .floor h), omega (arith, p .plan-for .states, cost-most job valid q))
     ranged (optimum n f c q) p = let h = p .says-0 .0 refl .0 in (nodes-most (optimum n f c q) p h, floor-most f (p .floor h), omega (arith, p .plan-for .states, cost-most job valid q))
 
+    -- the answer's nodes are at most the limit, and its floor and cost at most what a plan can cost
     pub answer-ranged : Ranged limit (answerOf job limit)
     answer-ranged = ranged (answerOf job limit) (promise job limit)

@@ -19,7 +19,7 @@ use Rattle.jobs.proofs.Lists.{map-at}
 use Rattle.jobs.proofs.Jobs.{Whole, opening-count, part-count}
 use Rattle.clock.proofs.Places.{places-are}
 use Rattle.coming_out.specs.Places.{Removals}
-use Rattle.search_tables.specs.Arrays.{priceStride, lanePart, Holds}
+use Rattle.search_tables.specs.Arrays.{priceStride, lanePart, JobArrays}
 use Rattle.search.specs.declared.Found.{Found}
 use Rattle.search.specs.Found.{Finds, saidIn}
 use Rattle.search.proofs.Answered.{said}
@@ -51,6 +51,7 @@ module _ (j : Job) (sized : Sized j) (whole : Whole j) where
     removed : (q : ℕ) → getD added q 0 ≡ partAt (jobOf j) q .removal
     removed q = removals .at q ∙ List·getD-map removalOf (jobOf j .parts) q noPart
 
+    -- what is added to a part's prices is at most the dearest removal
     pub removed-range : (q : ℕ) → getD added q 0 ≤ dearest
     removed-range q = omega (arith, removed q, removal-range (length (jobOf j .openings)) (jobOf j .parts) (valid .parts) q)
 
@@ -71,7 +72,8 @@ module _ (j : Job) (sized : Sized j) (whole : Whole j) where
           map-at (chargedPart (length (jobOf j .openings))) (jobOf j .parts) q noPart noPart (omega (arith, h, part-count j sized whole))
           ∙ (λ i. record { life = sym life i; left = sym left i; removal = 0; holders = []; prices = sym prices i })
 
-      pub holds-charged : Holds (chargedJob (jobOf j)) (r .placed .end) (take n (r .placed .at)) (take n (r .fees)) (take m (r .lives)) (take m (r .lefts)) ps
+      -- the arrays of the job's numbers hold the job with each removal added to its part's prices
+      pub holds-charged : JobArrays (chargedJob (jobOf j)) (r .placed .end) (take n (r .placed .at)) (take n (r .fees)) (take m (r .lives)) (take m (r .lefts)) ps
       unfolding clock
       holds-charged =
           record {

@@ -9,6 +9,7 @@ use lines::rows::Cursor;
 use lines::rows::End;
 use lines::rows::Row;
 use lines::rows::advance;
+use model::STEPS;
 ghost use mathlib.Core.Path.{_≡_};
 ghost use Prim.Native.Nat.{_≤_};
 ghost use lib.ListN.{drop};
@@ -22,7 +23,7 @@ ghost use Rattle.model.specs.Limits.{lastStep};
 pub struct Idles {
     pub end: End,
     pub count: usize,
-    pub idles: [u32; 365],
+    pub idles: [u32; STEPS],
 }
 
 // An idle step, after the step before and within the horizon.
@@ -37,7 +38,7 @@ fn read_idle_steps(text: &[u8], p: Cursor, horizon: u32, n: usize) -> Idles
     requires { ⌜ Stands (now text) p × (n ≤ lastStep) ⌝ }
     ensures { λ r. ⌜ IdlesRead (λ is. is) (now (text .entry)) r (idleSteps horizon n (drop (p .at) (now (text .entry))) (p .line)) ⌝ }
 {
-    let mut idles = [0u32; 365];
+    let mut idles = [0u32; STEPS];
     let mut q = p;
     let mut before: u32 = 0;
     let mut i: usize = 0;
@@ -74,7 +75,7 @@ fn no_idles(end: End) -> Idles
     Idles {
         end,
         count: 0,
-        idles: [0u32; 365],
+        idles: [0u32; STEPS],
     }
 }
 

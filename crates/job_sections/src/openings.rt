@@ -6,6 +6,7 @@ use lines::rows::Cursor;
 use lines::rows::End;
 use lines::rows::Row;
 use lines::rows::advance;
+use model::OPENINGS;
 ghost use mathlib.Core.List.{map};
 ghost use Prim.Native.Nat.{_≤_};
 ghost use lib.ListN.{drop, take};
@@ -24,7 +25,7 @@ pub enum OpeningRow {
 // Openings read, and where they end.
 pub struct Openings {
     pub end: End,
-    pub openings: [Opening; 64],
+    pub openings: [Opening; OPENINGS],
 }
 
 // An opening: its step and its fee.
@@ -60,7 +61,7 @@ pub fn read_openings(text: &[u8], p: Cursor, horizon: u32, n: usize) -> Openings
     ensures { λ r. ⌜ Reads (now (text .entry)) (ended (r .end) (map openingOf (take n (r .openings)))) (openings horizon n (drop (p .at) (now (text .entry))) (p .line)) ⌝ }
 {
     let blank = Opening { step: 0, fee: 0 };
-    let mut openings = [blank; 64];
+    let mut openings = [blank; OPENINGS];
     let mut q = p;
     let mut before: u32 = 0;
     let mut i: usize = 0;

@@ -8,6 +8,7 @@ use Rattle.lines.specs.Cursor.{Reads, ended, judged}
 use Rattle.job_grammar.specs.Grammar.{Given, meant}
 use Rattle.job_grammar.specs.Grammar as grammar
 use Rattle.jobs.specs.Views.{jobOf, Sized}
+use Rattle.job_grammar.specs.Valid.{Valid}
 use Rattle.job_text.specs.declared.whole.JobText.{JobText}
 use Rattle.job_text.specs.declared.whole.JobLines.{JobLines}
 use Rattle.job_text.specs.declared.whole.JobRead.{JobRead}
@@ -26,7 +27,13 @@ textOf t = record {
 
 -- and what it means
 abbrev pub givenOf : JobText → Given
-givenOf t = record { job = jobOf (t .job) }
+givenOf t = record { job = jobOf (t .job); low = meant (textOf t) .low; banded = meant (textOf t) .banded }
+
+-- the struct holds an accepted text: its counts stay within the arrays, its job is what it means, and that is valid
+pub record SoundText (t : JobText) : Type 0 where
+  pub sized : Sized (t .job)
+  pub means : meant (textOf t) ≡ givenOf t
+  pub valid : Valid (givenOf t)
 
 -- the lines r were read: they are what the grammar gives, and mean the job that is there
 pub record LinesRead (s : List ℕ) (r : JobLines) (x : Parsed grammar.JobText) : Type 0 where

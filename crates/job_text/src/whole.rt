@@ -13,6 +13,7 @@ use lines::rows::Row;
 use lines::rows::WholeText;
 use lines::rows::advance;
 use lines::rows::close_text;
+use model::PARTS;
 use part_lines::PartSaid;
 ghost use mathlib.Core.Path.{_≡_};
 ghost use Prim.Native.Nat.{_≤_};
@@ -29,7 +30,7 @@ ghost use Rattle.model.specs.Limits.{lastStep, mostOpenings};
 pub struct JobText {
     pub walk_there: bool,
     pub walk: u32,
-    pub said: [PartSaid; 16],
+    pub said: [PartSaid; PARTS],
     pub job: Job,
 }
 
@@ -53,7 +54,7 @@ fn no_text() -> JobText
     JobText {
         walk_there: false,
         walk: 0,
-        said: [nothing; 16],
+        said: [nothing; PARTS],
         job: Job::empty(),
     }
 }

@@ -25,15 +25,14 @@ abbrev pub ValidPrice : ℕ → Type 0
 ValidPrice p = (1 ≤ p) × (p ≤ dearest)
 
 -- E7.2, E7.14. the holders of part k of m: they rise after `before`, are at most m, and none is the part itself
-abbrev pub Holds : ℕ → ℕ → ℕ → List ℕ → Type 0
-Holds m k before [] = Unit {0}
-Holds m k before (h ∷ hs) = (before < h) × (h ≤ m) × (h ≡ k → ⊥) × Holds m k h hs
+abbrev pub ValidHolders : ℕ → ℕ → ℕ → List ℕ → Type 0
+ValidHolders m k before [] = Unit {0}
+ValidHolders m k before (h ∷ hs) = (before < h) × (h ≤ m) × (h ≡ k → ⊥) × ValidHolders m k h hs
 
--- X3, M5. a part of a job with n openings: "one price per opening", "R at most L"
+-- X3, M5. a part of a job with n openings: "one price per opening", "R at most L"; E12.4. "`left` may be 0"
 pub record ValidPart (n : ℕ) (p : Part) : Type 0 where
   pub life-low : 1 ≤ p .life
   pub life-high : p .life ≤ longestLife
-  pub left-low : 1 ≤ p .left
   pub left-high : p .left ≤ p .life
   -- E7.2. "`removal` 0..1000000, `inside` 0..15"
   pub removal : p .removal ≤ dearest
@@ -44,7 +43,7 @@ pub record ValidPart (n : ℕ) (p : Part) : Type 0 where
 -- the holders of each of these parts, the first of which is part k of m
 abbrev pub HeldFrom : ℕ → ℕ → List Part → Type 0
 HeldFrom m k [] = Unit {0}
-HeldFrom m k (p ∷ ps) = Holds m k 0 (p .holders) × HeldFrom m (suc k) ps
+HeldFrom m k (p ∷ ps) = ValidHolders m k 0 (p .holders) × HeldFrom m (suc k) ps
 
 -- X3, X5, E1.2. every number and count is in its range, idle steps and openings rise within the horizon, and each part's holders are as `Holds` says
 pub record ValidJob (j : Job) : Type 0 where

@@ -20,14 +20,14 @@ unfoldable pub unkeptLines : ℕ → ℕ → List ℕ
 unkeptLines part due = lineOf "result=" 10 ++ lineOf "part=" part ++ lineOf "due=" due
 
 -- the lines of a judgement
-abbrev pub linesOf : Judgement → List ℕ
-linesOf (accepts cost) = costLines 0 cost
-linesOf (unkept part due) = unkeptLines part due
-linesOf (wrongCost cost) = costLines 11 cost
+abbrev pub judgeLines : Judgement → List ℕ
+judgeLines (accepts cost) = costLines 0 cost
+judgeLines (unkept part due) = unkeptLines part due
+judgeLines (wrongCost cost) = costLines 11 cost
 
 -- the answer that a judgement is: its number, and its lines
 abbrev pub saidOf : Judgement → Said
-saidOf j = plainly (numberOf j) (linesOf j)
+saidOf j = plainly (numberOf j) (judgeLines j)
 
 -- what is said of an accepted job and of a plan stated with its cost
 abbrev pub weighed : Job → Stated → Said

@@ -20,7 +20,7 @@ ghost use Rattle.plan_grammar.specs.Grammar.{readPlan};
 ghost use Rattle.verdict.specs.Views.{modelJudgement};
 ghost use Rattle.verdict.specs.Ranges.{Limited};
 ghost use Rattle.answers.specs.Said.{lent, Replied};
-ghost use Rattle.judging.specs.Judge.{linesOf, saidOf, onPlan, judgeSaid, judgeRoom};
+ghost use Rattle.judging.specs.Judge.{judgeLines, saidOf, onPlan, judgeSaid, judgeRoom};
 ghost use Rattle.judging.specs.Promise.{JudgePromise};
 
 // The room that the judge's output must have.
@@ -40,7 +40,7 @@ fn number_of(j: Judgement) -> u32
 // The lines of a judgement.
 fn put_judgement(out: &mut [u8], j: Judgement) -> usize
     requires { ⌜ Limited (modelJudgement j) × (judgeRoom ≤ length (now out)) ⌝ }
-    ensures { λ r. ⌜ Wrote (now (out .entry)) 0 (linesOf (modelJudgement j)) (now (out .exit)) r ⌝ }
+    ensures { λ r. ⌜ Wrote (now (out .entry)) 0 (judgeLines (modelJudgement j)) (now (out .exit)) r ⌝ }
 {
     match j {
         Judgement::Accepts(cost) => put_two(out, 0, b"cost=", cost),

@@ -20,7 +20,7 @@ ghost use Rattle.juzvarola.specs.Version.{versionNumber};
 // The version's three numbers, as the header's macros have them.
 const MAJOR: u32 = 0;
 
-const MINOR: u32 = 9;
+const MINOR: u32 = 11;
 
 const PATCH: u32 = 0;
 
@@ -74,12 +74,18 @@ pub extern "C" fn juzvarola_write(
     removals: &[u32],
     insides: &[u32],
     holders: &[u32],
+    ruled: &[u32],
+    bases: &[u32],
+    drops: &[u32],
+    leasts: &[u32],
+    banded: &[u32],
+    lows: &[u32],
     prices: &[u32],
     out: &mut [u8],
 ) -> Answer
-    ensures { λ r. ⌜ Replied writeRoom (writeSaid (filled horizon (now (idles .entry)) (now (openings .entry)) (now (fees .entry)) (now (lives .entry)) (now (lefts .entry)) (now (covered .entry)) (now (removals .entry)) (now (insides .entry)) (now (holders .entry)) (now (prices .entry)))) (now (out .entry)) (now (out .exit)) r ⌝ }
-    ensures { λ _. ⌜ WritePromise (filled horizon (now (idles .entry)) (now (openings .entry)) (now (fees .entry)) (now (lives .entry)) (now (lefts .entry)) (now (covered .entry)) (now (removals .entry)) (now (insides .entry)) (now (holders .entry)) (now (prices .entry))) (length (now (out .entry)))
-        (lent writeRoom (length (now (out .entry))) (writeSaid (filled horizon (now (idles .entry)) (now (openings .entry)) (now (fees .entry)) (now (lives .entry)) (now (lefts .entry)) (now (covered .entry)) (now (removals .entry)) (now (insides .entry)) (now (holders .entry)) (now (prices .entry))))) ⌝ }
+    ensures { λ r. ⌜ Replied writeRoom (writeSaid (filled horizon (now (idles .entry)) (now (openings .entry)) (now (fees .entry)) (now (lives .entry)) (now (lefts .entry)) (now (covered .entry)) (now (removals .entry)) (now (insides .entry)) (now (holders .entry)) (now (ruled .entry)) (now (bases .entry)) (now (drops .entry)) (now (leasts .entry)) (now (banded .entry)) (now (lows .entry)) (now (prices .entry)))) (now (out .entry)) (now (out .exit)) r ⌝ }
+    ensures { λ _. ⌜ WritePromise (filled horizon (now (idles .entry)) (now (openings .entry)) (now (fees .entry)) (now (lives .entry)) (now (lefts .entry)) (now (covered .entry)) (now (removals .entry)) (now (insides .entry)) (now (holders .entry)) (now (ruled .entry)) (now (bases .entry)) (now (drops .entry)) (now (leasts .entry)) (now (banded .entry)) (now (lows .entry)) (now (prices .entry))) (length (now (out .entry)))
+        (lent writeRoom (length (now (out .entry))) (writeSaid (filled horizon (now (idles .entry)) (now (openings .entry)) (now (fees .entry)) (now (lives .entry)) (now (lefts .entry)) (now (covered .entry)) (now (removals .entry)) (now (insides .entry)) (now (holders .entry)) (now (ruled .entry)) (now (bases .entry)) (now (drops .entry)) (now (leasts .entry)) (now (banded .entry)) (now (lows .entry)) (now (prices .entry))))) ⌝ }
 {
     form::write(
         horizon,
@@ -92,6 +98,12 @@ pub extern "C" fn juzvarola_write(
         removals,
         insides,
         holders,
+        ruled,
+        bases,
+        drops,
+        leasts,
+        banded,
+        lows,
         prices,
         out,
     )

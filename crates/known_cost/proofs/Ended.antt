@@ -29,6 +29,7 @@ last-least t ok cost (plan m r) e c s f u d g = go (ltb m cost) refl f
     go true h q = let z : m ≡ c = ap costIn q in omega (arith, z, least)
     go false h q = let z : cost ≡ c = ap costIn q in omega (arith, z, least, ltb-false m cost h)
 
+-- where a walk from a known cost ends, no full node costs less than what it ends with
 pub ended-least : (t : Tree) → Bounded t → (cost limit : ℕ) → walkUnder t cost limit .over ≡ false → (c : ℕ) (s : List Bool) → walkUnder t cost limit .incumbent ≡ plan c s
     → (u : List Bool) (d : ℕ) → costAt t u ≡ Sum d → c ≤ d
 ended-least t ok cost limit over c s e u d g = go (decLe (countUnder t cost) limit)

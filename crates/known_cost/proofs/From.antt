@@ -68,6 +68,7 @@ from (ask e t) p b = go (below e b) (from (t false) (snoc p false) b) (from (t t
         (λ q. ⊎-elim (λ r. inl (q ∙ r)) (λ r. inr (r .0, r .1, false ∷ r .2, q ∙ r .3, r .4)) x)
         (λ q. inr (q .0, q .1, true ∷ q .2, q .3, q .4)) y
 
+-- a walk from an incumbent ends with the better of that one and what the walk without it ends with
 pub walk-better : (t : Tree) (p : List Bool) (b : Incumbent) → Bounded t → walk t p b .incumbent ≡ better b (walk t p none .incumbent)
 unfolding walk
 walk-better (full Missing) p b h = refl
@@ -103,6 +104,7 @@ module _ (L : ℕ) where
   abbrev pub ended : Tree → List Bool → Limited → Limited
   ended t p st = record { count = st .count + length (walk t p (st .incumbent) .nodes); over = st .over; incumbent = walk t p (st .incumbent) .incumbent }
 
+  -- where the limit is not exceeded, the walk with it ends as the one without
   pub limited-fits : (t : Tree) (p : List Bool) (st : Limited) → st .count + length (walk t p (st .incumbent) .nodes) ≤ L → limited L t p st ≡ ended t p st
   unfolding limited walk
   limited-fits (full e) p st h = rw (lt-leb L (st .count) (omega arith)) (go (below e (st .incumbent)))
@@ -141,6 +143,7 @@ module _ (L : ℕ) where
   abbrev pub Cuts : Limited → Type 0
   Cuts s = (s .over ≡ true) × (s .count ≡ L)
 
+  -- where the limit is exceeded, the walk stops at it and says that there are more nodes
   pub limited-cuts : (t : Tree) (p : List Bool) (st : Limited) → st .count ≤ L → L < st .count + length (walk t p (st .incumbent) .nodes)
       → Cuts (limited L t p st)
   unfolding limited walk

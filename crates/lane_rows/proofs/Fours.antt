@@ -12,11 +12,16 @@ use Rattle.lane_rows.proofs.Lanes.{sum-four}
 
 -- the first k fours are written, and their sum is held
 pub record Fours (t w₀ w : List ℕ) (d e out k sum : ℕ) : Type 0 where
+  -- no more fours are written than the tables have
   pub inside : k ≤ getD t foursPlace 0
+  -- the lanes of the first k fours hold the memo's row, and nothing else moved
   pub stored : FilledBy (λ (q : ℕ). out + q) (stepOf t w₀ d e out) (k * 4) w₀ w
+  -- the sum so far is at most that of as many lanes with the number for Missing
   pub most : sum ≤ k * (4 * inf)
+  -- the sum held is that of the lanes of the first k fours
   pub all : sum ≡ sumLanes (k * 4) (stepOf t w₀ d e out)
 
+-- before the first four nothing is written and the sum is 0
 pub fours-none : (t w : List ℕ) (d e out : ℕ) → Fours t w w d e out 0 0
 unfolding sumFrom
 fours-none t w d e out = record { inside = omega arith; stored = record { size = refl; done = (λ q l. absurd (omega (arith, l))); rest = λ x f. refl }; most = omega arith; all = refl }
@@ -39,6 +44,7 @@ module _ (t w₀ w : List ℕ) (d e out k sum : ℕ) (s : FoursAsks t w₀ d e o
   same : (q : ℕ) → q < 4 → stepOf t w (d + k * 4) (e + k * 4) (out + k * 4) q ≡ stepOf t w₀ d e out (k * 4 + q)
   same q l = (λ i. min (old q l i) (row q l i + table q i))
 
+  -- the next four of lanes may be written: its rows stand within tables and stack, its sums within 31 bits
   pub four-asks : StepAsks 4 t w (d + k * 4) (e + k * 4) (out + k * 4)
   four-asks =
       record {
@@ -64,6 +70,7 @@ module _ (t w₀ w : List ℕ) (d e out k sum : ℕ) (s : FoursAsks t w₀ d e o
     unfolding sumFrom
     four-sum = omega (arith, u .sum, same 0 (omega arith), same 1 (omega arith), same 2 (omega arith), same 3 (omega arith))
 
+    -- the sum of one four is at most four times the number for Missing
     pub four-most : r ≤ 4 * inf
     four-most = omega (arith, four-sum, low 0 (omega arith), low 1 (omega arith), low 2 (omega arith), low 3 (omega arith))
 
@@ -78,6 +85,7 @@ module _ (t w₀ w : List ℕ) (d e out k sum : ℕ) (s : FoursAsks t w₀ d e o
             let x : q - k * 4 < 4 = omega (arith, g, l) in
             ap (λ (i : ℕ). getD w' i 0) z ∙ u .stored .done (q - k * 4) x ∙ same (q - k * 4) x ∙ ap (stepOf t w₀ d e out) y
 
+    -- once the next four is written, one four more is done, and its sum is added
     pub fours-more : Fours t w₀ w' d e out (k + 1) (sum + r)
     fours-more =
         let z : k * 4 + 4 ≡ (k + 1) * 4 = omega arith in

@@ -143,6 +143,7 @@ offers-split [] ns (b ∷ p) = refl
 offers-split (s ∷ ss) ns [] = refl
 offers-split (s ∷ ss) ns (b ∷ p) = ap (λ (l : List Offer). record { position = s; price = getD ns 0 0; allowed = b } ∷ l) (offers-split ss (drop 1 ns) p)
 
+-- a part's least price at a node is the least over its front, with the undecided openings to follow
 pub column-front : (sheet : Sheet) (col : Column) (p : List Bool)
     → columnBound sheet col p ≡ over (col .life) (sheet .end) (front (sheet .positions) col p) (drop (length p) (offers (sheet .positions) (col .prices) []))
 unfolding columnBound
@@ -171,6 +172,7 @@ column-yes sheet col p = ap (leastOf (col .life) (sheet .end) (col .first)) (off
 abbrev pub offerIs : List ℤ → List ℕ → Bool → ℕ → Offer
 offerIs ss ns b k = record { position = getD ss k (pos 0); price = getD ns k 0; allowed = b }
 
+-- where nothing is decided there are no decided openings
 pub decided-nil : (ss : List ℤ) (ns : List ℕ) → decidedOffers ss ns [] ≡ []
 unfolding decidedOffers
 decided-nil [] ns = refl
@@ -190,6 +192,7 @@ unfolding frontFrom
 front-from-snoc life fr [] o = refl
 front-from-snoc life fr (d ∷ ds) o = front-from-snoc life (frontWith life fr d) ds o
 
+-- the front after one decision more is the front before it, with the opening's mark where it is a yes
 pub front-snoc : (ss : List ℤ) (col : Column) (p : List Bool) (b : Bool) → length p < length ss → front ss col (p ++ (b ∷ [])) ≡ frontWith (col .life) (front ss col p) (offerIs ss (col .prices) b (length p))
 front-snoc ss col p b h =
     ap (frontFrom (col .life) (record { at = col .first; cost = Sum 0 } ∷ [])) (decided-snoc ss (col .prices) p b h)

@@ -9,11 +9,15 @@ use Rattle.lane_rows.specs.Rows.{lane, AddAsks, Stack}
 use Rattle.lane_rows.proofs.Lanes.{lane-most, lane-nil, lane-suc}
 
 pub record Going (wide : ℕ) (t w : List ℕ) (base j rows : ℕ) (acc : List ℕ) (n : ℕ) : Type 0 where
+  -- no more rows are still to come than the stack has
   pub inside : n ≤ rows
+  -- no lane is above the number for Missing
   pub most : (q : ℕ) → q < wide → getD acc q 0 ≤ inf
+  -- a lane's number and the lane over the rows still to come give the lane over all rows
   pub left : (q : ℕ) → q < wide → min (getD acc q 0) (lane t w base j q n) ≡ lane t w base j q rows
 
 module _ (wide : ℕ) (t w : List ℕ) (base j rows : ℕ) where
+  -- where each lane has the number for Missing, the loop stands before the first row that it takes in
   pub going-none : (acc : List ℕ) → ((q : ℕ) → q < wide → getD acc q 0 ≡ inf) → Going wide t w base j rows acc rows
   going-none acc f =
       record {
@@ -34,6 +38,7 @@ module _ (wide : ℕ) (t w : List ℕ) (base j rows : ℕ) where
         left = λ q l. omega (arith, f q l, lane-suc t w base j q (n - 1), ap (lane t w base j q) z, g .left q l);
       }
 
+  -- once no row is left, each lane's number is the lane over all rows
   pub going-end : (acc : List ℕ) (n : ℕ) → n ≤ 0 → Going wide t w base j rows acc n → (q : ℕ) → q < wide → getD acc q 0 ≡ lane t w base j q rows
   going-end acc n h g q l =
       let z : n ≡ zero = omega arith in
@@ -41,6 +46,7 @@ module _ (wide : ℕ) (t w : List ℕ) (base j rows : ℕ) where
 
 -- what taking in a row asks
 module _ (fours : ℕ) (t w : List ℕ) (base j rows : ℕ) (acc : List ℕ) (n : ℕ) (long : laneCount ≤ length acc) (s : Stack (fours * 4) t w base j rows) (g : Going (fours * 4) t w base j rows acc n) (h : 0 < n) where
+  -- the next row down may be taken into the lanes: its places stand within the tables, its sums within 31 bits
   pub row-asks : AddAsks fours t w base j (getD w (markPlace (n - 1)) 0) (n - 1) acc
   row-asks =
       let i = g .inside in

@@ -32,9 +32,11 @@ use Rattle.lane_rows.proofs.Solid.{reach-same, over-same, joined-solid}
 
 -- ---- numbers for prices
 
+-- a number below that for Missing stands for itself as a price
 pub value-some : (n : ℕ) → n < inf → valueOf n ≡ Sum n
 value-some n h = rw (lt-ltb n inf h)
 
+-- a number not below that for Missing stands for Missing
 pub value-none : (n : ℕ) → inf ≤ n → valueOf n ≡ Missing
 value-none n h = rw (le-ltb n inf h)
 
@@ -42,6 +44,7 @@ value-none n h = rw (le-ltb n inf h)
 pub where-some : (n s : ℕ) → n < inf → sumWhere n s ≡ Sum s
 where-some n s h = rw (lt-ltb n inf h)
 
+-- where the number is no price the sum is Missing
 pub where-none : (n s : ℕ) → inf ≤ n → sumWhere n s ≡ Missing
 where-none n s h = rw (le-ltb n inf h)
 
@@ -58,6 +61,7 @@ value-min a b = go (ltb a inf) (ltb b inf) refl refl
     go false true e f = let z : min a b ≡ b = omega (arith, ltb-false a inf e, ltb-true b inf f) in ap valueOf z ∙ value-some b (ltb-true b inf f)
     go false false e f = value-none (min a b) (omega (arith, ltb-false a inf e, ltb-false b inf f))
 
+-- the sum of two numbers stands for their prices' sum, and where it is a price, it is within both bounds together
 pub value-plus : (a b A B : ℕ) → A + B < inf → (a < inf → a ≤ A) → (b < inf → b ≤ B)
     → (valueOf (a + b) ≡ add (valueOf a) (valueOf b)) × (a + b < inf → a + b ≤ A + B)
 value-plus a b A B s l m = (go (ltb a inf) (ltb b inf) refl refl, λ g. omega (arith, l (omega arith), m (omega arith)))
@@ -84,6 +88,7 @@ module _ (b : ℕ) (s : b < inf) where
   coded-low n Missing c h = omega arith
   coded-low n (Sum x) c h = omega arith
 
+  -- a number that stands for a price or for Missing is at most the one for Missing
   pub coded-most : (n : ℕ) (e : Bound) → Coded b n e → n ≤ inf
   coded-most n Missing c = omega arith
   coded-most n (Sum x) c = omega arith
@@ -107,19 +112,23 @@ coded-more a b m n (Sum x) (Sum y) s c f = go (ltb x y) refl c
 
 -- ---- lanes
 
+-- a lane over no rows has the number for Missing
 pub lane-nil : (t w : List ℕ) (base j q : ℕ) → lane t w base j q zero ≡ inf
 unfolding lane
 lane-nil t w base j q = refl
 
+-- a lane over one row more is the least of the lane before and that row's number with the table's
 pub lane-suc : (t w : List ℕ) (base j q k : ℕ) → lane t w base j q (suc k) ≡ min (lane t w base j q k) (getD w (rowPlace k q) 0 + getD t (place base j (getD w (markPlace k) 0) q) 0)
 unfolding lane
 lane-suc t w base j q k = refl
 
+-- a lane is never above the number for Missing
 pub lane-most : (t w : List ℕ) (base j q n : ℕ) → lane t w base j q n ≤ inf
 unfolding lane
 lane-most t w base j q zero = omega arith
 lane-most t w base j q (suc n) = omega (arith, lane-most t w base j q n)
 
+-- opening j and those after it, as a column's part sees them with nothing decided
 abbrev pub undecided : List ℤ → Column → ℕ → List Offer
 undecided ss col j = drop j (offers ss (col .prices) [])
 
@@ -183,9 +192,11 @@ module _ (wide : ℕ) where
   rises-from u v zero q l f = omega arith
   rises-from u v (suc k) q l f = omega (arith, f q (omega arith), rises-from u v k (suc q) (omega arith) f)
 
+  -- where no lane is higher, neither is the sum of the lanes
   pub sum-rises : (u v : ℕ → ℕ) → ((q : ℕ) → q < wide → u q ≤ v q) → sumLanes wide u ≤ sumLanes wide v
   sum-rises u v f = rises-from u v wide 0 (omega arith) f
 
+  -- where the lanes are the same, so is their sum
   pub sum-same : (u v : ℕ → ℕ) → ((q : ℕ) → q < wide → u q ≡ v q) → sumLanes wide u ≡ sumLanes wide v
   sum-same u v f =
       let a = sum-rises u v (λ q l. omega (arith, f q l)) in
@@ -230,6 +241,7 @@ total-each f [] p n e i h = absurd (omega arith)
 total-each f (x ∷ xs) p n e zero h = let d = split (f x p) (total f xs p) n e in (d .a, d .left)
 total-each f (x ∷ xs) p n e (suc i) h = let d = split (f x p) (total f xs p) n e in total-each f xs p (d .b) (d .right) i (omega arith)
 
+-- a number that stands for a price is that price, which is below the number for Missing
 pub value-sum : (s x : ℕ) → valueOf s ≡ Sum x → (s ≡ x) × (x < inf)
 value-sum s x e = go (ltb s inf) refl e
   where
@@ -237,6 +249,7 @@ value-sum s x e = go (ltb s inf) refl e
     go true f g = let z : s ≡ x = cc in (z, omega (arith, ltb-true s inf f))
     go false f g = absurd (no-sum Missing x refl g)
 
+-- a number that stands for Missing is not below the one for Missing
 pub value-missing : (s : ℕ) → valueOf s ≡ Missing → inf ≤ s
 value-missing s e = go (ltb s inf) refl e
   where
@@ -291,13 +304,16 @@ module _ (sheet : Sheet) (t w : List ℕ) (p : List Bool) (n : ℕ) (ta : Tables
 
 -- ---- the stack: what is kept, one row more, a no
 
+-- a stack has its own first n rows kept
 pub kept-refl : (w : List ℕ) (n : ℕ) → Kept w w n
 kept-refl w n = record { size = refl; rows = λ k h. refl; marks = λ k h. refl }
 
+-- rows kept from one stack to the next, and there on to a third, are kept from first to third
 pub kept-then : (u v w : List ℕ) (m n : ℕ) → m ≤ n → Kept u v m → Kept v w n → Kept u w m
 kept-then u v w m n h a b =
     record { size = b .size ∙ a .size; rows = λ k l. b .rows k (omega arith) ∙ a .rows k l; marks = λ k l. b .marks k (omega arith) ∙ a .marks k l }
 
+-- where the rows are kept, a lane has the same marks with the same prices
 pub marks-kept : (first : ℤ) (ss : List ℤ) (w w' : List ℕ) (q m n : ℕ) → q < laneCount → m ≤ n → Kept w w' n → marksIn first ss w' q m ≡ marksIn first ss w q m
 unfolding marksIn
 marks-kept first ss w w' q zero n l h k = refl
@@ -307,6 +323,7 @@ marks-kept first ss w w' q (suc m) n l h k =
     ap₂ (λ (x : Mark) (y : List Mark). x ∷ y)
     (ap₂ (λ (x y : ℕ). record { at = markOf first ss x; cost = valueOf y }) a b) (marks-kept first ss w w' q m n l (omega arith) k)
 
+-- a number at most another and not equal to it is below it
 pub ≠-lt : (k n : ℕ) → (k ≡ n → ⊥) → k ≤ n → k < n
 ≠-lt k n g l = go (decLt k n)
   where
@@ -314,17 +331,20 @@ pub ≠-lt : (k n : ℕ) → (k ≡ n → ⊥) → k ≤ n → k < n
     go (yes h) = h
     go (no h) = absurd (g (omega (arith, h)))
 
+-- the marks of one row more are that row's position and price in front of those before
 pub marks-suc : (first : ℤ) (ss : List ℤ) (w : List ℕ) (q n : ℕ) (a : ℤ) (c : Bound) (fr : List Mark) → markOf first ss (getD w (markPlace n) 0) ≡ a → valueOf (getD w (rowPlace n q) 0) ≡ c → marksIn first ss w q n ≡ fr
     → marksIn first ss w q (suc n) ≡ record { at = a; cost = c } ∷ fr
 unfolding marksIn
 marks-suc first ss w q n a c fr e f g = λ i. record { at = e i; cost = f i } ∷ g i
 
+-- a row's number that is Missing or within a bound is so for each higher bound
 pub level-more : (a b v : ℕ) → a ≤ b → Level a v → Level b v
 level-more a b v h l = record { some = λ g. omega (arith, l .some g); most = l .most }
 
 -- ---- rows where each lane sees the decisions in its own way: a no leaves them as they are, a stop adds a row, in which the lanes that it is shut to have Missing. Their fronts have the same solid marks as
 -- if there were no stop
 
+-- where the first n rows are kept, they are still those that each lane sees in its own way
 pub seen-kept : (sheet : Sheet) (w w' : List ℕ) (at : ℕ) (sees : ℕ → List Bool) (n : ℕ) → SeenRows sheet w at sees n → Kept w w' n → SeenRows sheet w' at sees n
 seen-kept sheet w w' at sees n r k =
     record {
@@ -391,6 +411,7 @@ module _ (sheet : Sheet) (t w : List ℕ) (at : ℕ) (sees : ℕ → List Bool) 
     shut-cost true v b e c = (value-none inf (omega arith), record { some = λ g. absurd (omega arith); most = omega arith })
     shut-cost false v b e c = c
 
+    -- with the stop's row put on the stack, a lane that the stop is shut to sees a no, each other a yes
     pub seen-stop : (shut : ℕ → Bool) (w' : List ℕ) → Put (lanesIn t) (stopRow t w at n shut) w w' n (at + 1) → SeenRows sheet w' (at + 1) (λ (q : ℕ). snoc (sees q) (not (shut q))) (n + 1)
     seen-stop shut w' u =
         record {
@@ -435,6 +456,7 @@ module _ (sheet : Sheet) (t w : List ℕ) (at : ℕ) (sees : ℕ → List Bool) 
 
 -- ---- rows that every lane sees as they are
 
+-- where its rows are kept, a stack still has those of the node
 pub rows-kept : (sheet : Sheet) (w w' : List ℕ) (p : List Bool) (n : ℕ) → Rows sheet w p n → Kept w w' n → Rows sheet w' p n
 rows-kept sheet w w' p n r k =
     record {
@@ -447,6 +469,7 @@ decided-more : (sheet : Sheet) (w : List ℕ) (p : List Bool) (b : Bool) (n : �
 decided-more sheet w p b n r = let e : length p + 1 ≡ length (snoc p b) = simp length-append in subst (λ (k : ℕ). SeenRows sheet w k (λ (q : ℕ). snoc p b) n) e r
 
 module _ (sheet : Sheet) (t w : List ℕ) (p : List Bool) (n : ℕ) (ta : Tables sheet t) (ro : Rows sheet w p n) (h : length p < length (sheet .positions)) where
+  -- the rows of a node are those of its no child
   pub rows-no : Rows sheet w (snoc p false) n
   rows-no =
       record {
@@ -454,6 +477,7 @@ module _ (sheet : Sheet) (t w : List ℕ) (p : List Bool) (n : ℕ) (ta : Tables
         last = ro .last ∙ sym (last-no p);
       }
 
+  -- with the row of the next opening put on top, the rows are those of the yes child
   pub rows-yes : (w' : List ℕ) → Put (lanesIn t) (nextRow t w (length p) n) w w' n (length p + 1) → Rows sheet w' (snoc p true) (n + 1)
   rows-yes w' u =
       record {
@@ -512,14 +536,17 @@ module _ (sheet : Sheet) (t w : List ℕ) (at : ℕ) (sees : ℕ → List Bool) 
       cond-most false = omega arith
 
 module _ (sheet : Sheet) (t w : List ℕ) (p : List Bool) (n : ℕ) (ta : Tables sheet t) (ro : Rows sheet w p n) (h : length p < length (sheet .positions)) where
+  -- the loops over a node's rows and the suffix prices of its no child stay within tables and 31 bits
   pub stack-no : Stack (lanesIn t) t w suffixBase (length p + 1) n
   stack-no = seen-stack sheet t w (length p) (λ (q : ℕ). p) n ta (ro .seen) (length p + 1) (omega arith) (omega arith)
 
+  -- the loops over a node's rows and the reach of its next opening stay within tables and 31 bits
   pub stack-yes : Stack (lanesIn t) t w reachBase (length p) n
   stack-yes = seen-reach sheet t w (length p) (λ (q : ℕ). p) n ta (ro .seen) h
 
 -- ---- the first node
 
+-- the first row alone is what each lane sees where nothing is decided
 pub seen-root : (sheet : Sheet) (w : List ℕ) → length (sheet .columns) ≤ laneCount → FirstRow w → SeenRows sheet w 0 (λ (q : ℕ). []) 1
 unfolding marksIn frontFrom
 seen-root sheet w h r =
@@ -540,6 +567,7 @@ seen-root sheet w h r =
           ∙ sym (ap (frontFrom (col .life) (record { at = col .first; cost = Sum 0 } ∷ [])) (decided-nil (sheet .positions) (col .prices))));
     }
 
+-- the row of the first life is that of the first node
 pub rows-root : (sheet : Sheet) (w : List ℕ) → length (sheet .columns) ≤ laneCount → FirstRow w → Rows sheet w [] 1
 unfolding lastYes
 rows-root sheet w h r = record { seen = seen-root sheet w h r; last = r .mark }
@@ -550,6 +578,7 @@ module _ (sheet : Sheet) (t : List ℕ) (ta : Tables sheet t) where
   unfolding triangle
   first-place q = omega arith
 
+  -- the tables' first number for a lane is at most the one for Missing
   pub first-most : (q : ℕ) → q < lanesIn t → getD t q 0 ≤ inf
   first-most q l =
       let col = getD (sheet .columns) q noColumn in
@@ -565,5 +594,6 @@ module _ (sheet : Sheet) (t : List ℕ) (ta : Tables sheet t) where
       let y : place suffixBase 0 (getD w markBase 0) q ≡ q = ap (λ (k : ℕ). place suffixBase 0 k q) (r .mark) ∙ first-place q in
       omega (arith, r .lanes q (omega (arith, ta .narrow)), ap (λ (k : ℕ). getD w k 0) x, ap (λ (k : ℕ). getD t k 0) y, first-most q l)
 
+  -- at the first node the lanes' sum is that of the tables' first numbers
   pub first-sums : (w : List ℕ) → FirstRow w → sumLanes (lanesIn t) (λ (q : ℕ). getD t q 0) ≡ sumLanes (lanesIn t) (λ (q : ℕ). lane t w suffixBase 0 q 1)
   first-sums w r = sum-same (lanesIn t) (λ (q : ℕ). getD t q 0) (λ (q : ℕ). lane t w suffixBase 0 q 1) (λ q l. first-lane w q l r)

@@ -61,9 +61,11 @@ module _ (t w : List ℕ) (n m j : ℕ) (s : Looks t w n j) (h : m < n) (kn : Kn
   abbrev mark : ℕ
   mark = getD w (markPlace m) 0
 
+  -- where the table's row of suffix prices at level j, for row m's mark, begins
   abbrev pub from : ℕ
   from = suffixBase + (triangle j + mark) * laneCount
 
+  -- where the memo's row for level j and the first m + 1 rows begins
   abbrev pub out : ℕ
   out = memoBase + (triangle (j + 1) + (m + 1)) * laneCount
 
@@ -86,6 +88,7 @@ module _ (t w : List ℕ) (n m j : ℕ) (s : Looks t w n j) (h : m < n) (kn : Kn
   this : (q : ℕ) → q < lanesIn t → getD noted (m * laneCount + q) 0 ≡ getD w (rowPlace m q) 0
   this q l = still (rowPlace m q) (λ e. omega (arith, e, below, s .stack .near, s .stack .narrow))
 
+  -- the memo's next row may be written from row m of the stack and the table's row for its mark
   pub step-asks : StepAsks (lanesIn t) t noted (m * laneCount) from out
   step-asks =
       record {
@@ -99,6 +102,7 @@ module _ (t w : List ℕ) (n m j : ℕ) (s : Looks t w n j) (h : m < n) (kn : Kn
         sums = λ q l. omega (arith, this q l, s .stack .sums m q h l);
       }
 
+  -- the memo's next row may be written four after four, with a row's room behind what is read and written
   pub fours-asks : FoursAsks t noted (m * laneCount) from out
   fours-asks =
       record {
@@ -171,6 +175,7 @@ module _ (t w : List ℕ) (n m j : ℕ) (s : Looks t w n j) (h : m < n) (kn : Kn
         go (yes z) = ap (λ (i : ℕ). getD noted i 0) z ∙ getD-set-same w (knownPlace (m + 1) j) 1 0 (omega (arith, s .stack .size, below, s .stack .near))
         go (no z) = still (knownPlace (k + 1) l) z ∙ e
 
+    -- with its next row written, the memo stays right, knows one row more, and the row's sum is held
     pub learnt : Learnt t w w' n m j r
     learnt =
         record {
@@ -209,6 +214,7 @@ looks-again t w w' n j s r =
       some = s .some;
     }
 
+-- where nothing moved the rows are kept and their memo is right
 pub recalled-none : (t w : List ℕ) (n : ℕ) → Memo t w n → Recalled t w w n
 recalled-none t w n m = record { kept = kept-refl w n; memo = m }
 
@@ -226,15 +232,22 @@ sum-kept t w w' n j h k = sum-same (lanesIn t) (λ (q : ℕ). lane t w' suffixBa
 
 -- the memo learns row by row: the rows are kept, the memo is right, and known up to row m; once that is the top one, its sum is held
 pub record Looking (t w₀ w : List ℕ) (rows j m sum : ℕ) : Type 0 where
+  -- the memo is known of no more rows than there are
   pub inside : m ≤ rows
+  -- the stack's rows are kept, and their memo is still right
   pub recalled : Recalled t w₀ w rows
+  -- what the memo has of the first m rows at this level is known
   pub known : Known w m j
+  -- once all rows are known, the sum held is that of their lanes
   pub all : m ≡ rows → sum ≡ sumLanes (lanesIn t) (λ (q : ℕ). lane t w₀ suffixBase j q rows)
+  -- what the memo knew at the start of the look it still knows
   pub still : Still w₀ w
 
+-- a look may start at any number of rows that the memo knows, with no sum held yet
 pub looking-first : (t w : List ℕ) (rows j m : ℕ) → Looks t w rows j → m < rows → Known w m j → Looking t w w rows j m 0
 looking-first t w rows j m s h kn = record { inside = omega (arith, h); recalled = recalled-none t w rows (s .memo); known = kn; all = (λ z. absurd (omega (arith, z, h))); still = λ k l a b e. e }
 
+-- once the memo learns the next row, the look is one row further and holds its sum
 pub looking-next : (t w₀ w w' : List ℕ) (rows j m sum r : ℕ) → Looks t w₀ rows j → Looking t w₀ w rows j m sum → m < rows → Learnt t w w' rows m j r → Looking t w₀ w' rows j (m + 1) r
 looking-next t w₀ w w' rows j m sum r s l h e =
     record {
@@ -245,6 +258,7 @@ looking-next t w₀ w w' rows j m sum r s l h e =
       still = λ k i a b x. e .still k i a b (l .still k i a b x);
     }
 
+-- at the top row the look is over: all rows are known, and the sum of their lanes is held
 pub looking-last : (t w₀ w : List ℕ) (rows j m sum : ℕ) → Looks t w₀ rows j → Looking t w₀ w rows j m sum → rows ≤ m → Looked t w₀ w rows j sum
 looking-last t w₀ w rows j m sum s l h =
     let z : m ≡ rows = omega (arith, h, l .inside) in
@@ -256,6 +270,7 @@ module _ (wide : ℕ) (f : ℕ → ℕ) (w u w' : List ℕ) (n m : ℕ) (p : Put
   marks-stay : (x : ℕ) → x < knownBase → getD w' x 0 ≡ getD u x 0
   marks-stay x l = g .rest x (λ y h e. omega (arith, e))
 
+  -- the rows below a new one are kept, also where the memo of the new row is forgotten
   pub kept-put : Kept w w' n
   kept-put =
       record {
@@ -264,9 +279,11 @@ module _ (wide : ℕ) (f : ℕ → ℕ) (w u w' : List ℕ) (n m : ℕ) (p : Put
         marks = λ k l. marks-stay (markPlace k) (omega arith) ∙ p .kept .marks k l;
       }
 
+  -- the new row and its mark stand on the stack after the memo has forgotten the new row's levels
   pub put-forgets : Put wide f w w' n m
   put-forgets = record { kept = kept-put; row = λ q l. marks-stay (rowPlace n q) (omega arith) ∙ p .row q l; mark = marks-stay (markPlace n) (omega arith) ∙ p .mark }
 
+  -- the memo is right for one row more, once what it knew of the new row is forgotten
   pub memo-put : (t : List ℕ) → lanesIn t ≤ laneCount → n ≤ m → Memo t w n → Memo t w' (n + 1)
   memo-put t thin deep me =
       record {
@@ -299,6 +316,7 @@ module _ (wide : ℕ) (f : ℕ → ℕ) (w u w' : List ℕ) (n m : ℕ) (p : Put
 
 -- ---- the first row
 
+-- at none of the first 0 levels is a row of no rows asked of the memo, and nothing moved
 pub nones-none : (w : List ℕ) → Nones w w 0
 nones-none w = record { size = refl; none = λ l q a b. absurd (omega arith); rest = λ x l. refl }
 
@@ -314,6 +332,7 @@ nones-more w u v n f d =
       rest = λ x l. f .rest x (λ y h e. omega (arith, e)) ∙ d .rest x l;
     }
 
+-- with the row of the first life alone the memo is right
 pub memo-root : (t w : List ℕ) → FirstRow w → Memo t w 1
 memo-root t w r =
     record {

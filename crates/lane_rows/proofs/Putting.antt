@@ -10,6 +10,7 @@ use Rattle.lane_rows.specs.Layout.{laneCount, markCount, rowPlace, markP
 use Rattle.lane_rows.specs.Rows.{Put, Past}
 
 module _ (f : ℕ → ℕ) (w₀ : List ℕ) (n : ℕ) where
+  -- a row filled lane by lane, and then its mark set, is one row more on the stack, the rows below kept
   pub put-mark : (wide : ℕ) (w : List ℕ) (g : ℕ → ℕ) (m : ℕ) → n < markCount → length w₀ ≡ stackSize → wide ≤ laneCount → ((q : ℕ) → q < wide → f q ≡ g q) → FilledBy (rowPlace n) f wide w₀ w → Put wide g w₀ (set w (markPlace n) m) n m
   put-mark wide w g m h s v e d =
       record {

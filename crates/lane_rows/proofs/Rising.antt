@@ -13,6 +13,7 @@ unfolding triangle
 triangle-twice zero = refl
 triangle-twice (suc j) = omega (arith, triangle-twice j, add-mul j 1 (suc j + 1), mul-add j (j + 1) 1)
 
+-- the rows before the next level are those before level j and its own j + 1
 pub triangle-next : (j : ℕ) → triangle (j + 1) ≡ triangle j + (j + 1)
 unfolding triangle
 triangle-next j = rw (add-one j) (omega arith)

@@ -21,6 +21,7 @@ module _ (life : ℤ) where
       go false = refl
   reach-then at (Sum c) fr s = refl
 
+  -- the least price from which a position is in reach is the same over the solid marks alone
   pub reach-solid : (fr : List Mark) (s : ℤ) → reach life (solid fr) s ≡ reach life fr s
   unfolding solid
   reach-solid [] s = refl
@@ -30,6 +31,7 @@ module _ (life : ℤ) where
   over-then end at Missing fr os = refl
   over-then end at (Sum c) fr os = refl
 
+  -- the least over a front is the same over its solid marks alone
   pub over-solid : (end : ℤ) (fr : List Mark) (os : List Offer) → over life end (solid fr) os ≡ over life end fr os
   unfolding solid
   over-solid end [] os = refl
@@ -39,6 +41,7 @@ module _ (life : ℤ) where
   pub reach-same : (fr gr : List Mark) (s : ℤ) → solid fr ≡ solid gr → reach life fr s ≡ reach life gr s
   reach-same fr gr s e = sym (reach-solid fr s) ∙ ap (λ (l : List Mark). reach life l s) e ∙ reach-solid gr s
 
+  -- fronts with the same solid marks have the same least over them
   pub over-same : (end : ℤ) (fr gr : List Mark) (os : List Offer) → solid fr ≡ solid gr → over life end fr os ≡ over life end gr os
   over-same end fr gr os e = sym (over-solid end fr os) ∙ ap (λ (l : List Mark). over life end l os) e ∙ over-solid end gr os
 

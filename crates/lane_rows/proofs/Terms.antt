@@ -96,9 +96,11 @@ module _ (sheet : Sheet) (t : List ℕ) (ta : Tables sheet t) where
       let s = total-each (columnBound sheet) (sheet .columns) p x e i (omega (arith, ta .wide)) in
       last-alone (col .life) (sheet .end) (col .first) (sheet .positions) (sheet .fees) (col .prices) p k (s .0) (ta .climbs i g) l (s .1)
 
+  -- below a node that has part sums, each part's term at the no child is the table's for the node's last yes
   pub below-by : (p : List Bool) (x : ℕ) → length p < length (sheet .positions) → partSums sheet p ≡ Sum x → ByMark sheet (snoc p false) (lastYes p)
   below-by p x l e = no-by p 1 x (omega arith) e
 
+  -- at a node that has part sums, each part's term is the table's for its last yes
   pub own-by : (p : List Bool) (x : ℕ) → length p ≤ length (sheet .positions) → partSums sheet p ≡ Sum x → ByMark sheet p (lastYes p)
   own-by p x l e = subst (λ (d : List Bool). ByMark sheet d (lastYes p)) (append-nil p) (no-by p 0 x (omega arith) e)
 

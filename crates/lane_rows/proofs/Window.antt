@@ -8,8 +8,10 @@ use lib.Seq.{getD-take, getD-drop}
 use Rattle.lane_rows.specs.Layout.{laneCount}
 
 module _ (s : List ℕ) (a : ℕ) (h : a + laneCount ≤ length s) where
+  -- number q of the window that begins at a is the list's number a + q
   pub window-at : (q : ℕ) → q < laneCount → getD (take (a + laneCount - a) (drop a s)) q 0 ≡ getD s (a + q) 0
   window-at q l = getD-take (a + laneCount - a) (drop a s) q 0 (omega arith) ∙ getD-drop a s q 0
 
+  -- the window has a number for each of the sixteen lanes
   pub window-length : laneCount ≤ length (take (a + laneCount - a) (drop a s))
   window-length = simp (length-take, length-drop) (omega arith)

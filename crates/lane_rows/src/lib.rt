@@ -10,15 +10,14 @@ ghost use Rattle.lane_rows.specs.Rows.{lane, sumLanes, Turned, MinAsks, 
 ghost use Rattle.model.specs.Limits.{mostOpenings};
 use branch::Bound;
 use least::MARKS;
+use model::OPENINGS;
+use model::PARTS;
 
 // A row has room for a lane for each part.
-pub const LANES: usize = 16;
+pub const LANES: usize = PARTS;
 
 // The number for a missing price.
 pub const INF: u32 = 1030000000;
-
-// The most openings.
-const OPENINGS: usize = MARKS - 1;
 
 // A block of the tables is a triangle: level j has the marks 0 to j, since no mark is above the number of openings decided.
 pub const BLOCK_ROWS: usize = MARKS * (MARKS + 1) / 2;
@@ -347,7 +346,7 @@ pub fn next_lanes(fours: usize, t: &[u32], w: &[u32], j: usize, rows: usize, acc
     plus_row(fours, &t[at..at + LANES], acc);
 }
 
-// They are written, with the mark.
+// The lanes of the next row are written onto the stack, with its mark.
 fn put_lanes(fours: usize, t: &[u32], w: &mut [u32], j: usize, rows: usize)
     requires { ⌜ Owing (fours * 4) (now t) (now w) j rows ⌝ }
     ensures put { λ _. ⌜ Put (fours * 4) (nextRow (now (t .entry)) (now (w .entry)) j rows) (now (w .entry)) (now (w .exit)) rows (j + 1) ⌝ }

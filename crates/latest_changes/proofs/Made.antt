@@ -53,11 +53,13 @@ module _ (life first : ℤ) (n : ℕ) (p : Positions) (stops : List Bool) where
   abbrev pub MadeTo : ℕ → List Bool → ℤ → Type 0
   MadeTo = Made life (p .end) first (take n (p .at)) (take n stops)
 
+  -- with the change at opening i stored if it is forced, one opening more is made
   pub made-next : Ranged n p → (nexts : List ℤ) → NextStops n p stops nexts → (i : ℕ) (at : List Bool) (prev : ℤ) (change : Bool) (new : ℤ) → i < n → length at ≡ 64
       → change ≡ (getD stops i false && not (within life prev (getD nexts i (pos 0)))) → new ≡ cond change (getD (p .at) i (pos 0)) prev → MadeTo i at prev → MadeTo (i + 1) (set at i change) new
   made-next r nexts x i at prev change new h l c e m =
       made-more life (p .end) first (take n (p .at)) (take n stops) i at prev change new (omega (arith, length-take-le n (p .at) (r .long))) (omega (arith, r .few))
       (c ∙ (λ k. sym (getD-take n stops i false h) k && not (within life prev (x .is i h k)))) (e ∙ ap (λ (z : ℤ). cond change z prev) (sym (getD-take n (p .at) i (pos 0) h))) m
 
+  -- once all n openings are made, the array's first n entries are the latest changes
   pub made-end : Ranged n p → (at : List Bool) (prev : ℤ) → MadeTo n at prev → take n at ≡ latestFrom life (p .end) first (take n (p .at)) (take n stops)
   made-end r at prev m = made-all life (p .end) first (take n (p .at)) (take n stops) n at prev (omega (arith, length-take-le n (p .at) (r .long))) m

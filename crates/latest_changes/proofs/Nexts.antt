@@ -20,13 +20,18 @@ use Rattle.latest_changes.specs.Stops.{Ranged, stopFrom, NextStops}
 module _ (n : ℕ) (p : Positions) (stops : List Bool) where
   -- what an entry is
   pub record Entry (k : ℕ) (next : ℤ) : Type 0 where
+    -- the entry is the position of the first stop from opening k on, or the end
     pub is : next ≡ stopFrom n p stops k
+    -- the entry lies where a position of an accepted job can lie
     pub range : Position next
 
   -- the entries from i on are there, and the first stop from i on is at hand
   pub record Found (i : ℕ) (nexts : List ℤ) (next : ℤ) : Type 0 where
+    -- the array has a place for each of 64 openings
     pub size : length nexts ≡ 64
+    -- the first stop from opening i on is at hand
     pub here : Entry i next
+    -- the entries from i on hold the stop after their opening
     pub later : (k : ℕ) → i ≤ k → k < n → Entry (suc k) (getD nexts k (pos 0))
 
   -- behind the last opening there is none
@@ -55,6 +60,7 @@ module _ (n : ℕ) (p : Positions) (stops : List Bool) where
       go true = refl
       go false = refl
 
+  -- storing the stop at hand fills the entry of opening i - 1, which is then looked at itself
   pub found-more : Ranged n p → (i : ℕ) (nexts : List ℤ) (next new : ℤ) → 0 < i → i ≤ n → new ≡ cond (getD stops (i - 1) false) (getD (p .at) (i - 1) (pos 0)) next → Found i nexts next
       → Found (i - 1) (set nexts (i - 1) next) new
   found-more r i nexts next new l h e f = record {
@@ -87,5 +93,6 @@ module _ (n : ℕ) (p : Positions) (stops : List Bool) where
           above (yes x) = omega arith
           above (no x) = omega (arith, z, x)
 
+  -- once the first opening is reached, the array holds the stop after each opening
   pub found-all : (i : ℕ) (nexts : List ℤ) (next : ℤ) → i ≤ 0 → Found i nexts next → NextStops n p stops nexts
   found-all i nexts next z f = record { is = λ k h. f .later k (omega arith) h .is; ranges = λ k h. f .later k (omega arith) h .range }

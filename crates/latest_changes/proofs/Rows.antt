@@ -31,6 +31,7 @@ module _ (n : ℕ) (p : Positions) (stops : List Bool) where
   abbrev pub RowsTo : List Part → ℕ → List Changes → Type 0
   RowsTo parts k rows = changesOf n k rows ≡ map rowOf (take k parts)
 
+  -- one part's changes stored behind the first k make those of k + 1 parts
   pub rows-more : (parts : List Part) (k : ℕ) (rows : List Changes) (row : Changes) → k < length parts → k < length rows → take n (row .at) ≡ rowOf (getD parts k blankPart) → RowsTo parts k rows
       → RowsTo parts (k + 1) (set rows k row)
   rows-more parts k rows row h g e r =
@@ -51,6 +52,7 @@ module _ (j : Job) (sized : Sized j) (whole : Whole j) (p : Positions) (placed :
       long : j .«opening_count» ≤ length (p .at)
       long = omega (arith, place-count j sized whole p placed, length-take (j .«opening_count») (p .at))
 
+  -- the struct with all parts' changes made is the plan of the latest changes at these stops
   pub plan-is : (stops : List Bool) (rows : List Changes) → RowsTo (j .«opening_count») p stops (j .parts) (j .«part_count») rows
       → planFor j (record { stops = stops; changes = rows }) ≡ latestPlanOf (jobOf j) (take (j .«opening_count») stops)
   plan-is stops rows r =

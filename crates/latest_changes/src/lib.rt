@@ -7,6 +7,8 @@ use jobs::Part;
 use jobs::Plan;
 use least::in_reach;
 use least::last_change;
+use model::OPENINGS;
+use model::PARTS;
 use part_records::part_of;
 ghost use mathlib.Core.Path.{_≡_};
 ghost use mathlib.Core.Bool.{cond, not, _&&_};
@@ -29,11 +31,11 @@ fn either(first: bool, a: i32, b: i32) -> i32
 }
 
 // The position of the stop after each of n openings, or the end after the last.
-fn next_stops(n: usize, positions: Positions, stops: [bool; 64]) -> [i32; 64]
+fn next_stops(n: usize, positions: Positions, stops: [bool; OPENINGS]) -> [i32; OPENINGS]
     requires { ⌜ Ranged n positions ⌝ }
     ensures { λ r. ⌜ NextStops n positions stops r ⌝ }
 {
-    let mut nexts = [0i32; 64];
+    let mut nexts = [0i32; OPENINGS];
     let mut next = positions.end;
     let mut i = n;
     while 0 < i {
@@ -60,16 +62,16 @@ fn is_forced(stop: bool, life: u32, prev: i32, next: i32) -> bool
 fn latest_of(
     n: usize,
     positions: Positions,
-    nexts: [i32; 64],
+    nexts: [i32; OPENINGS],
     part: Part,
-    stops: [bool; 64],
+    stops: [bool; OPENINGS],
 ) -> Changes
     requires { ⌜ Ranged n positions × NextStops n positions stops nexts × ValidPart n (partOf n part) ⌝ }
     ensures { λ r. ⌜ take n (r .at) ≡ latestFrom (pos (part .life)) (positions .end) (lastChange (partOf n part)) (take n (positions .at)) (take n stops) ⌝ }
 {
     let life = part.life;
     let mut prev = last_change(life, part.left);
-    let mut at = [false; 64];
+    let mut at = [false; OPENINGS];
     let mut i: usize = 0;
     while i < n {
         let change = is_forced(stops[i], life, prev, nexts[i]);
@@ -81,7 +83,7 @@ fn latest_of(
 }
 
 // The plan with these stops, at which each part is changed at the last that still serves.
-pub fn latest_plan(job: Job, stops: [bool; 64]) -> Plan
+pub fn latest_plan(job: Job, stops: [bool; OPENINGS]) -> Plan
     requires { ⌜ Sound job ⌝ }
     ensures { λ r. ⌜ planFor job r ≡ latestPlanOf (jobOf job) (take (job .«opening_count») stops) ⌝ }
 {
@@ -90,7 +92,9 @@ pub fn latest_plan(job: Job, stops: [bool; 64]) -> Plan
     let nexts = next_stops(n, positions, stops);
     let m = job.part_count;
     let parts = job.parts;
-    let mut changes = [Changes { at: [false; 64] }; 16];
+    let mut changes = [Changes {
+        at: [false; OPENINGS],
+    }; PARTS];
     let mut k: usize = 0;
     while k < m {
         let part = part_of(parts, m, k);

@@ -21,6 +21,7 @@ mag-subℕ a b = go (ltb a b) refl
     go true e = omega arith
     go false e = omega arith
 
+-- the size of a difference is at most the two sizes and one
 pub mag-sub : (a b : ℤ) → mag (a -ℤ b) ≤ mag a + mag b + 1
 mag-sub (pos a) (pos zero) = omega arith
 mag-sub (pos a) (pos (suc b)) = omega (arith, mag-subℕ a (suc b))
@@ -29,9 +30,11 @@ mag-sub (negsuc a) (pos zero) = omega (arith, mag-subℕ 0 (suc a))
 mag-sub (negsuc a) (pos (suc b)) = omega arith
 mag-sub (negsuc a) (negsuc b) = omega (arith, mag-subℕ (suc b) (suc a))
 
+-- the difference of two numbers of 31 bits fits an i32
 pub diff-fits : (a b : ℤ) → Bits31 a → Bits31 b → SFits w32 (a -ℤ b)
 diff-fits a b p q = record { sfits = omega (arith, mag-sub a b) }
 
+-- a mark other than 0 is the position of the opening one before it in number
 pub mark-pos : (first : ℤ) (ss : List ℤ) (i : ℕ) → (i ≡ 0 → ⊥) → markOf first ss i ≡ getD ss (i - 1) (pos 0)
 mark-pos first ss zero h = absurd (h refl)
 mark-pos first ss (suc i) h = ap (λ (j : ℕ). getD ss j (pos 0)) (omega arith)
@@ -40,6 +43,7 @@ mark-pos first ss (suc i) h = ap (λ (j : ℕ). getD ss j (pos 0)) (omega arith)
 pub back : (z : ℤ) → mag z < 2 ^ 31 → toZ w32 (ofZ w32 z) ≡ z
 back z h = toZ-ofZ (record { sfits = h })
 
+-- a number of 31 bits, read back from its bits, has 31 bits too
 pub small-back : (z : ℤ) → Bits31 z → Bits31 (toZ w32 (ofZ w32 z))
 small-back z h = rw (back z (omega arith)) h
 
@@ -48,6 +52,7 @@ pub gap-fits : (z r f : ℤ) (ss : List ℤ) (i : ℕ) → Bits31 z → r ≡ ma
 gap-fits z r f ss i b e p h =
     diff-fits (toZ w32 (ofZ w32 z)) (toZ w32 (ofZ w32 r)) (small-back z b) (small-back r (rw (e ∙ ap (λ (x : ℤ). markOf x ss i) (toZ-ofZ p)) (h i)))
 
+-- marks whose first is read back from its bits have 31 bits as before
 pub marks-back : (f : ℤ) (ss : List ℤ) → SFits w32 f → ((i : ℕ) → Bits31 (markOf f ss i)) → (i : ℕ) → Bits31 (markOf (toZ w32 (ofZ w32 f)) ss i)
 marks-back f ss p h i = subst (λ (x : ℤ). Bits31 (markOf x ss i)) (sym (toZ-ofZ p)) (h i)
 
@@ -55,8 +60,10 @@ marks-back f ss p h i = subst (λ (x : ℤ). Bits31 (markOf x ss i)) (sym (toZ-o
 pub room-back : (f : ℤ) (ss : List ℤ) (tab tab' : List ℕ) → SFits w32 f → tableSize ≤ length tab' → Room f ss tab → Room (toZ w32 (ofZ w32 f)) ss tab'
 room-back f ss tab tab' p s r = record { size = s; few = r .few; small = marks-back f ss p (r .small) }
 
+-- what is handed over for one part stays so with its first mark read back from bits
 pub part-back : (f : ℤ) (ss : List ℤ) (ps : List ℕ) (fs : List Bool) (tab tab' : List ℕ) → SFits w32 f → tableSize ≤ length tab' → OnePart f ss ps fs tab → OnePart (toZ w32 (ofZ w32 f)) ss ps fs tab'
 part-back f ss ps fs tab tab' p s g = record { room = room-back f ss tab tab' p s (g .room); prices = g .prices; flags = g .flags }
 
+-- what is handed over for one part, up to an end, stays so with both read back from bits
 pub until-back : (e f : ℤ) (ss : List ℤ) (ps : List ℕ) (fs : List Bool) (tab : List ℕ) → SFits w32 f → PartUntil e f ss ps fs tab → PartUntil (toZ w32 (ofZ w32 e)) (toZ w32 (ofZ w32 f)) ss ps fs tab
 until-back e f ss ps fs tab p g = record { part = part-back f ss ps fs tab tab p (g .part .room .size) (g .part); late = small-back e (g .late) }

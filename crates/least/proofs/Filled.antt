@@ -9,9 +9,11 @@ use lib.Seq.{getD-set-same, getD-set-other}
 use Rattle.least.specs.Filled.{Filled}
 
 module _ {place : ℕ → ℕ} {Right : ℕ → ℕ → Type 0} {t : List ℕ} where
+  -- where nothing is written yet, no place is promised and all keep their numbers
   pub filled-none : Filled place Right 0 t t
   filled-none = record { size = refl; done = λ y l. absurd (omega arith); rest = λ x h. refl }
 
+  -- one more place written with what is right there, and never before, makes n + 1 right places
   pub filled-more : {n : ℕ} {u : List ℕ} (v : ℕ) → place n < length t → ((y : ℕ) → y < n → place y ≡ place n → ⊥) → Right n v → Filled place Right n t u
       → Filled place Right (n + 1) t (set u (place n) v)
   filled-more {n} {u} v room apart r d =

@@ -23,6 +23,7 @@ use Rattle.least.proofs.Most.{AtMost, most-least}
 
 -- ---- numbers for prices
 
+-- a bound below the number for Missing is read back from its number in the table
 pub code-read : (b : ℕ) (e : Bound) → b < missing → AtMost b e → ofCode (codeOf e) ≡ e
 code-read b Missing h l = refl
 code-read b (Sum n) h l = rw (lt-ltb n missing (omega arith))
@@ -39,6 +40,7 @@ module _ (life end first : ℤ) (ss : List ℤ) (ps : List ℕ) (fs : List Bool)
   row-read tab k j i g h l s =
       ap ofCode (s .rows j i g h l) ∙ code-read (2 ^ 32 * (length ss - j)) (leastOf life end (markOf first ss i) (rest j)) (omega arith) (most-least (2 ^ 32) life end (markOf first ss i) ss ps fs j (λ k. omega (arith, cheap k)))
 
+  -- the row past the last opening is right once it is written for every mark
   pub suffix-end : (tab₀ tab : List ℕ) → tableSize ≤ length tab₀ → FilledBy (cell (length ss)) (endOf life end first ss) (length ss + 1) tab₀ tab → Suffixes life end first ss ps fs tab (length ss)
   suffix-end tab₀ tab h r =
       record {
@@ -50,6 +52,7 @@ module _ (life end first : ℤ) (ss : List ℤ) (ps : List ℕ) (fs : List Bool)
             ∙ ap codeOf (sym (least-nil life end (markOf first ss i) (rest (length ss)) (drop-of-length-le (offers ss ps fs) {i = length ss} (omega (arith, offers-length ss ps fs))))));
       }
 
+  -- row k, written from row k + 1, makes the rows from k on right
   pub suffix-more : (tab₀ tab : List ℕ) (k : ℕ) (chg : Bound) → k < length ss → Suffixes life end first ss ps fs tab₀ (suc k)
       → chg ≡ plus (getD ps k 0) (ofCode (getD tab₀ (cell (k + 1) (k + 1)) 0)) → FilledBy (cell k) (rowOf life first ss k (getD fs k false) chg tab₀) (k + 1) tab₀ tab
       → Suffixes life end first ss ps fs tab k
@@ -85,8 +88,10 @@ module _ (life end first : ℤ) (ss : List ℤ) (ps : List ℕ) (fs : List Bool)
       read x g = row-read tab 0 (k + 1) x (omega arith) (omega arith) g s ∙ ap (λ (n : ℕ). leastOf life end (markOf first ss x) (rest n)) (add-one k)
 
 module _ (life end first : ℤ) (ss : List ℤ) (ps : List ℕ) (fs : List Bool) (tab : List ℕ) (k : ℕ) where
+  -- rows that are right from k on are so from one past k - 1 on
   pub suffix-pred : 0 < k → Suffixes life end first ss ps fs tab k → Suffixes life end first ss ps fs tab (suc (k - 1))
   suffix-pred l s = let e : k ≡ suc (k - 1) = omega arith in subst (Suffixes life end first ss ps fs tab) e s
 
+  -- where k is 0, rows that are right from k on are all right
   pub suffix-zero : k ≤ 0 → Suffixes life end first ss ps fs tab k → Suffixes life end first ss ps fs tab 0
   suffix-zero l s = let e : k ≡ 0 = omega arith in subst (Suffixes life end first ss ps fs tab) e s

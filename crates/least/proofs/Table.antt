@@ -18,6 +18,7 @@ use Rattle.least.specs.Marks.{markOf}
 abbrev pub offerAt : List ℤ → List ℕ → List Bool → ℕ → Offer
 offerAt ss ps fs k = record { position = getD ss k (pos 0); price = getD ps k 0; allowed = getD fs k true }
 
+-- the offers from k on are that of opening k and those behind it
 pub offers-drop : (ss : List ℤ) (ps : List ℕ) (fs : List Bool) (k : ℕ) → k < length ss → drop k (offers ss ps fs) ≡ offerAt ss ps fs k ∷ drop (suc k) (offers ss ps fs)
 unfolding offers
 offers-drop [] ps fs k h = absurd (omega arith)
@@ -28,11 +29,13 @@ offers-drop (s ∷ ss) ps fs (suc k) h =
 
 -- ---- the table's step
 
+-- the least price over an offer and those behind it, as the lower of no change and a change
 pub least-cons : (life end prev : ℤ) (l : List Offer) (o : Offer) (os : List Offer) → l ≡ o ∷ os
     → leastOf life end prev l ≡ lower (leastOf life end prev os) (changeAt life prev o (leastOf life end (o .position) os))
 unfolding leastOf
 least-cons life end prev l o os e = ap (leastOf life end prev) e
 
+-- with no offers left the least price is 0 if the end is within the life, else missing
 pub least-nil : (life end prev : ℤ) (l : List Offer) → l ≡ [] → leastOf life end prev l ≡ cond (within life prev end) (Sum 0) Missing
 unfolding leastOf
 least-nil life end prev l e = ap (leastOf life end prev) e
@@ -42,6 +45,7 @@ pub mark-next : (first : ℤ) (ss : List ℤ) (b : Bool) (k i m : ℕ) → m ≡
 mark-next first ss true k i m e = ap (markOf first ss) (e ∙ add-one k)
 mark-next first ss false k i m e = ap (markOf first ss) e
 
+-- after opening k the last change's mark is at most k + 1
 pub mark-below : (b : Bool) (k i m : ℕ) → i ≤ k → m ≡ cond b (k + 1) i → m ≤ k + 1
 mark-below true k i m h e = omega arith
 mark-below false k i m h e = omega arith
@@ -57,6 +61,7 @@ choice-cond : (life end prev : ℤ) (o : Offer) (os : List Offer) (t : Bool)
 choice-cond life end prev o os true = refl
 choice-cond life end prev o os false = refl
 
+-- the choice over an offer and those behind it: change there or not, then their choice after it
 pub choice-cons : (life end prev : ℤ) (l : List Offer) (o : Offer) (os : List Offer) → l ≡ o ∷ os
     → choiceOf life end prev l ≡ changesAt life end prev o os ∷ choiceOf life end (cond (changesAt life end prev o os) (o .position) prev) os
 unfolding choiceOf
@@ -64,10 +69,14 @@ choice-cons life end prev l o os e = ap (choiceOf life end prev) e ∙ choice-co
 
 -- the choice so far is the front of out, and what follows is the choice from k on, after prev; past k out has no change
 pub record Chosen (life end first : ℤ) (os : List Offer) (prev : ℤ) (out : List Bool) (k : ℕ) : Type 0 where
+  -- the array of changes has a place for each of 64 openings
   pub size : length out ≡ 64
+  -- the whole choice is the first k entries and then the choice from opening k on
   pub front : choiceOf life end first os ≡ take k out ++ choiceOf life end prev (drop k os)
+  -- from place k on the array has no change
   pub back : drop k out ≡ replicate (64 - k) false
 
+-- before any opening is looked at, an array without a change holds the choice so far
 pub chosen-none : (life end first : ℤ) (os : List Offer) (out : List Bool) → out ≡ replicate 64 false → Chosen life end first os first out 0
 chosen-none life end first os out e = record { size = ap length e; front = refl; back = e }
 
@@ -76,6 +85,7 @@ drop-one n l e h =
     let q : 64 - n ≡ suc (64 - suc n) = omega arith in
     ap (drop 1) (e ∙ ap (λ (m : ℕ). replicate m false) q)
 
+-- with the decision at opening k stored, the array holds the choice of one opening more
 pub chosen-more : (life end first : ℤ) (os : List Offer) (prev : ℤ) (out : List Bool) (k : ℕ) (o : Offer) → k < 64
     → drop k os ≡ o ∷ drop (suc k) os → Chosen life end first os prev out k
     → let b = changesAt life end prev o (drop (suc k) os) in Chosen life end first os (cond b (o .position) prev) (set out k b) (k + 1)
@@ -103,6 +113,7 @@ pub chosen-next : (life end first : ℤ) (os : List Offer) (prev : ℤ) (out : L
     → Chosen life end first os prev out k → Chosen life end first os q (set out k b) (k + 1)
 chosen-next life end first os prev out k o b q h e eb eq c = rw (eq, eb) (chosen-more life end first os prev out k o h e c)
 
+-- after all openings the array is the choice, with no changes behind it
 pub chosen-all : (life end first : ℤ) (os : List Offer) (prev : ℤ) (out : List Bool) (k n : ℕ) → length os ≡ n → k ≡ n → Chosen life end first os prev out k
     → out ≡ choiceOf life end first os ++ replicate (64 - n) false
 unfolding choiceOf

@@ -14,9 +14,10 @@ ghost use Rattle.least.specs.Marks.{markOf, Bits31};
 ghost use Rattle.least.specs.Filled.{FilledBy};
 ghost use Rattle.least.specs.Suffix.{cell, codeOf, ofCode, changesByTable, rowOf, endOf, Room, OnePart, PartUntil, Suffixes};
 use branch::Bound;
+use model::OPENINGS;
 
 // A row of the suffix table has an entry for the first life and one for each opening.
-pub const MARKS: usize = 65;
+pub const MARKS: usize = OPENINGS + 1;
 
 // The suffix table has a row for each opening and one past the last.
 pub const TABLE: usize = 4225;
@@ -258,12 +259,12 @@ fn chosen(
     prices: &[u32],
     allowed: &[bool],
     tab: &[u64],
-) -> [bool; 64]
+) -> [bool; OPENINGS]
     requires { ⌜ OnePart first (now positions) (now prices) (now allowed) (now tab) ⌝ }
     ensures { λ r. ⌜ ((end : ℤ) → Suffixes life end first (now (positions .entry)) (now (prices .entry)) (now (allowed .entry)) (now (tab .entry)) 0
         → r ≡ choiceOf life end first (offers (now (positions .entry)) (now (prices .entry)) (now (allowed .entry))) ++ replicate (64 - length (now (positions .entry))) false) ⌝ }
 {
-    let mut out = [false; 64];
+    let mut out = [false; OPENINGS];
     let mut i = 0;
     let mut k = 0;
     while k < positions.len() {
@@ -284,7 +285,7 @@ pub fn choice(
     prices: &[u32],
     allowed: &[bool],
     tab: &mut [u64],
-) -> [bool; 64]
+) -> [bool; OPENINGS]
     requires { ⌜ PartUntil end first (now positions) (now prices) (now allowed) (now tab) ⌝ }
     ensures { λ r. ⌜ r ≡ choiceOf life end first (offers (now (positions .entry)) (now (prices .entry)) (now (allowed .entry))) ++ replicate (64 - length (now (positions .entry))) false ⌝ }
 {

@@ -15,15 +15,18 @@ abbrev pub powers : ℕ → ℕ → List ℕ
 powers i zero = []
 powers i (suc n) = 10 ^ i ∷ powers (suc i) n
 
+-- entry k of the powers from 10 ^ i up is 10 to the power i + k
 pub powers-at : (i n k : ℕ) → k < n → getD (powers i n) k 0 ≡ 10 ^ (i + k)
 powers-at i zero k h = absurd (not-suc-le-zero h)
 powers-at i (suc n) zero h = rw add-zero
 powers-at i (suc n) (suc k) h = powers-at (suc i) n k (le-of-suc-le-suc h) ∙ rw (add-suc, suc-add)
 
+-- a power of ten is at least 1, whatever the exponent
 pub power-positive : (k : ℕ) → 0 < 10 ^ k
 power-positive zero = omega arith
 power-positive (suc k) = rw pow-suc (omega (arith, power-positive k))
 
+-- the last k digits of a number, zeros in front, are k digits
 pub padded-length : (k n : ℕ) → length (padded k n) ≡ k
 unfolding padded
 padded-length zero n = refl

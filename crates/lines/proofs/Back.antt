@@ -32,11 +32,17 @@ number-snoc u (x ∷ ds) d = number-snoc (u * 10 + (x - 48)) ds d
 
 -- what holds of the digits of v, where it has at most suc k
 pub record Plain (k v : ℕ) (ds : List ℕ) : Type 0 where
+  -- every byte of them is one of the digits `0` to `9`
   pub all : AllDigits ds
+  -- there is at least one digit, for a zero too
   pub some : 1 ≤ length ds
+  -- there are at most k digits, the most that are asked for
   pub few : length ds ≤ k
+  -- the digits, read as a decimal number, are v again
   pub value : numberFrom 0 ds ≡ v
+  -- the first digit of a number of 1 or more is not a zero
   pub head : 1 ≤ v → 48 < getD ds 0 0
+  -- a number below 10 is written with one digit
   pub short : v < 10 → length ds ≡ 1
 
 is-one : (k v : ℕ) → v < 10 → Plain (suc k) v (decimalIn (suc k) v)
@@ -63,6 +69,7 @@ is-more k v ds h p = record {
     n : length (ds ++ (48 + v % 10) ∷ []) ≡ length ds + 1
     n = length-append ds ((48 + v % 10) ∷ [])
 
+-- the decimal digits of a number below the power of ten are plain, and are its own
 pub decimal-is : (k v : ℕ) → v < 10 ^ suc k → Plain (suc k) v (decimalIn (suc k) v)
 decimal-is zero v h = is-one zero v (omega arith)
 decimal-is (suc k) v h = go (decLt v 10) (decimal-is k (v / 10))
@@ -101,6 +108,7 @@ value-back v rest h =
         big (yes q) = omega (arith, p .short q)
         big (no q) = omega (arith, p .head (omega (arith, q)), List·getD-append ds (10 ∷ rest) 0 0 (p .some))
 
+-- a text that is a key with anything behind it starts with that key
 pub starts-own : (key s : List ℕ) → startsWith key (key ++ s) ≡ true
 unfolding startsWith
 starts-own [] s = refl

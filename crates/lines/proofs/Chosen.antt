@@ -19,6 +19,7 @@ cond-length : {A : Type 0} (b : Bool) (x : A) → length (cond b (x ∷ []) []) 
 cond-length true x = refl
 cond-length false x = refl
 
+-- one number more chooses one thing more if it passes the test, and none if not
 pub chosen-count : {A : Type 0} (test : ℕ → Bool) (f : ℕ → A) (n : ℕ) → length (chosen test f (n + 1)) ≡ length (chosen test f n) + cond (test n) 1 0
 unfolding chosen
 chosen-count test f n =
@@ -30,6 +31,7 @@ at-most-one : (b : Bool) → cond b 1 0 ≤ 1
 at-most-one true = omega arith
 at-most-one false = omega arith
 
+-- of n numbers a test chooses n at most
 pub chosen-few : {A : Type 0} (test : ℕ → Bool) (f : ℕ → A) (n : ℕ) → length (chosen test f n) ≤ n
 unfolding chosen joined
 chosen-few test f zero = omega arith

@@ -18,6 +18,7 @@ use Rattle.lines.proofs.Sound.{Chained, Rises}
 abbrev pub Complete : {A : Type 0} → Parser A → (A → List ℕ) → (A → Type 0) → Type 0
 Complete {A} p w P = (a : A) → P a → (s : List ℕ) (l : ℕ) → (l′ : ℕ) × (p (w a ++ s) l ≡ good a s l′)
 
+-- the line of a value from lo to hi is read back as that value
 pub row-complete : (key : List ℕ) (lo hi : ℕ) → hi < 10 ^ 10 → Complete (rowAt key lo hi) (line key) (λ v. (lo ≤ v) × (v ≤ hi))
 unfolding rowAt taken
 row-complete key lo hi few v h s l = (
@@ -34,6 +35,7 @@ optional-present key lo hi few v h s l =
     let e : startsWith key (line key v ++ s) ≡ true = ap (startsWith key) (append-assoc key (decimal v ++ 10 ∷ []) s) ∙ starts-own key ((decimal v ++ 10 ∷ []) ++ s) in
     (r .0, optional-there key lo hi (line key v ++ s) l e ∙ bind-good (rowAt key lo hi) _ (r .1))
 
+-- a value that passes a further rule is read back as before, with the rule checked
 pub checked-complete : {A : Type 0} (k : ℕ) (ok : A → Bool) (p : Parser A) (w : A → List ℕ) (P : A → Type 0) → Complete p w P → Complete (checked k ok p) w (λ v. P v × (ok v ≡ true))
 checked-complete k ok p w P c v h s l = let r = c v (h .0) s l in (r .0, checked-good k ok p (w v ++ s) l (r .1) (h .1))
 

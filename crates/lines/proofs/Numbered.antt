@@ -22,10 +22,12 @@ abbrev pub NumberIn : {A : Type 0} → (ℕ → Type 0) → ℕ → ℕ → Pars
 NumberIn P n l (good a s m) = m + length s ≤ l + n
 NumberIn P n l (fault k m) = P k × (m ≤ l + n)
 
+-- every fault of the parser has a number with P and a line of the text or the next
 abbrev pub Numbers : {A : Type 0} → (ℕ → Type 0) → Parser A → Type 0
 Numbers P p = (s : List ℕ) (l : ℕ) → NumberIn P (length s) l (p s l)
 
 module _ (P : ℕ → Type 0) where
+  -- a row's faults have number 2 or 3, on a line of the text or the next
   pub row-numbers : P 2 → P 3 → (key : List ℕ) (lo hi : ℕ) → Numbers P (rowAt key lo hi)
   unfolding rowAt taken
   row-numbers two three key lo hi s l = go (readField key lo hi s) (field-in key s lo hi)
@@ -35,6 +37,7 @@ module _ (P : ℕ → Type 0) where
       go (Fault k) (inl e) = (subst P (sym e) two, omega arith)
       go (Fault k) (inr e) = (subst P (sym e) three, omega arith)
 
+  -- a further rule with fault k adds that number alone to the parser's faults
   pub checked-numbers : {A : Type 0} (k : ℕ) → P k → (ok : A → Bool) (p : Parser A) → Numbers P p → Numbers P (checked k ok p)
   unfolding checked
   checked-numbers {A} k is ok p h s l = go (p s l) (h s l)
@@ -47,6 +50,7 @@ module _ (P : ℕ → Type 0) where
       go (good v r m) q = pick (ok v) v m r q
       go (fault n m) q = q
 
+  -- two parsers, one behind the other, have no fault numbers but those of the two
   pub bind-numbers : {A B : Type 0} (p : Parser A) (f : A → Parser B) → Numbers P p → ((a : A) → Numbers P (f a)) → Numbers P (p >>= f)
   unfolding _>>=_
   bind-numbers {A} {B} p f h g s l = go (p s l) (h s l)
@@ -59,10 +63,12 @@ module _ (P : ℕ → Type 0) where
       go (good a r m) q = further (f a r m) (length r) m (length s) l (g a r m) (omega arith)
       go (fault n m) q = q
 
+  -- a parser that reads nothing and returns a value has no fault at all
   pub return-numbers : {A : Type 0} (a : A) → Numbers P (return a)
   unfolding return
   return-numbers a s l = omega arith
 
+  -- a line that may be missing has fault 2 or 3, as a row has
   pub optional-numbers : P 2 → P 3 → (key : List ℕ) (lo hi : ℕ) → Numbers P (optionalAt key lo hi)
   unfolding optionalAt
   optional-numbers two three key lo hi s l = go (startsWith key s)
@@ -71,17 +77,20 @@ module _ (P : ℕ → Type 0) where
       go true = bind-numbers (rowAt key lo hi) _ (row-numbers two three key lo hi) (λ v. return-numbers (present v)) s l
       go false = omega arith
 
+  -- what follows a line only where that is present has the fault numbers of its own parser
   pub present-numbers : {A B : Type 0} (f : A → Parser B) → ((a : A) → Numbers P (f a)) → (o : Optional A) → Numbers P (ifPresent f o)
   unfolding ifPresent
   present-numbers f h missing = return-numbers missing
   present-numbers f h (present a) = bind-numbers (f a) _ (h a) (λ b. return-numbers (present b))
 
+  -- a parser repeated with a state has no fault numbers but its own
   pub chain-numbers : {A S : Type 0} (p : S → Parser A) (next : S → A → S) → ((k : S) → Numbers P (p k)) → (n : ℕ) (before : S) → Numbers P (chain p next n before)
   unfolding chain
   chain-numbers p next h zero before = return-numbers []
   chain-numbers p next h (suc n) before =
       bind-numbers (p before) _ (h before) (λ a. bind-numbers (chain p next n (next before a)) _ (chain-numbers p next h n (next before a)) (λ rest. return-numbers (a ∷ rest)))
 
+  -- a parser repeated a number of times has no fault numbers but its own
   pub times-numbers : {A : Type 0} (n : ℕ) (p : Parser A) → Numbers P p → Numbers P (times n p)
   unfolding times
   times-numbers n p h = chain-numbers {S = ℕ} (λ _. p) (λ _ _. 0) (λ _. h) n 0

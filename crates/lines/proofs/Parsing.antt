@@ -27,22 +27,26 @@ pub bind-good : {A B : Type 0} (p : Parser A) (f : A → Parser B) {s s′ : Lis
 unfolding _>>=_
 bind-good p f e = rw (_>>=_, e)
 
+-- a fault of the first of two parsers is the fault of both
 pub bind-fault : {A B : Type 0} (p : Parser A) (f : A → Parser B) {s : List ℕ} {l n m : ℕ} → p s l ≡ fault n m → (p >>= f) s l ≡ fault n m
 unfolding _>>=_
 bind-fault p f e = rw (_>>=_, e)
 
 -- a line at a place of the text, by its field
 module _ (s : List ℕ) (at l : ℕ) where
+  -- a field with a value of n bytes leaves the text behind those, at the next line
   pub taken-good : (v n : ℕ) → good v (drop (at + n) s) (l + 1) ≡ taken (drop at s) l (Value v n)
   unfolding taken
   taken-good v n = ap (λ (r : List ℕ). good v r (l + 1)) (sym (drop-drop n at s))
 
+  -- a field at fault is that fault on the line where it stands
   pub taken-fault : (k : ℕ) → fault k l ≡ taken (drop at s) l (Fault k)
   unfolding taken
   taken-fault k = refl
 
 -- the part of a text from a cursor on, where a line was read: the line ends in the text, and the cursor set behind it reads on in the whole text
 module _ {q : Parser ℕ} (s : List ℕ) (p : Cursor) {f : Field} (h : LineRead q (take (length s - p .at) (drop (p .at) s)) f) where
+  -- a line read from a cursor that stands in the text ends in the text
   pub line-inside : Stands s p → Inside s (p .at) f
   line-inside stands = go f (h .inside)
     where
@@ -50,6 +54,7 @@ module _ {q : Parser ℕ} (s : List ℕ) (p : Cursor) {f : Field} (h : LineRead 
       go (Value v n) w = (w .0, omega (arith, w .1, stands, ap length (rest-of s (p .at)), length-drop (p .at) s))
       go (Fault k) w = tt
 
+  -- an answer that follows the field read at a cursor is the parser's answer in the whole text
   pub line-reads : {r : ReadAt ℕ} → Reads s r (taken (drop (p .at) s) (p .line) f) → Reads s r (q (drop (p .at) s) (p .line))
   line-reads e = record { is = e .is ∙ rw rest-of at (h .is (p .line)); stands = e .stands }
 
@@ -58,6 +63,7 @@ abbrev pub InRow : ℕ → ℕ → Parsed ℕ → Type 0
 InRow lo hi (good v s l) = (lo ≤ v) × (v ≤ hi)
 InRow lo hi (fault n l) = Unit {0}
 
+-- the value that a row gives lies from lo to hi
 pub row-in : (key : List ℕ) (lo hi : ℕ) (s : List ℕ) (l : ℕ) → InRow lo hi (rowAt key lo hi s l)
 unfolding rowAt taken
 row-in key lo hi s l = go (readField key lo hi s) (field-in key s lo hi)
@@ -68,10 +74,12 @@ row-in key lo hi s l = go (readField key lo hi s) (field-in key s lo hi)
 
 -- a line that may be missing, by whether its key stands there
 module _ (key : List ℕ) (lo hi : ℕ) (s : List ℕ) (l : ℕ) where
+  -- where the text starts with the key, a line that may be missing is read as a row
   pub optional-there : startsWith key s ≡ true → optionalAt key lo hi s l ≡ (rowAt key lo hi >>= λ v. return (present v)) s l
   unfolding optionalAt
   optional-there e = rw (optionalAt, e)
 
+  -- where the text doesn't start with the key, the line is missing and nothing is read
   pub optional-missing : startsWith key s ≡ false → optionalAt key lo hi s l ≡ good missing s l
   unfolding optionalAt
   optional-missing e = rw (optionalAt, e)
@@ -88,6 +96,7 @@ module _ (key : List ℕ) (lo hi : ℕ) (s : List ℕ) (l : ℕ) where
           absurd (omega arith)
       go false e = optional-missing e
 
+  -- where the optional field is there, it is the row's field, and the parser reads it as present
   pub field-there : {g : Field} → optionalField key lo hi s ≡ There g → (g ≡ readField key lo hi s) × (optionalAt key lo hi s l ≡ (rowAt key lo hi >>= λ v. return (present v)) s l)
   unfolding optionalField
   field-there {g} f = go (startsWith key s) refl
@@ -101,6 +110,7 @@ module _ (key : List ℕ) (lo hi : ℕ) (s : List ℕ) (l : ℕ) where
 
 -- read from the part of the text that begins at a cursor
 module _ (key : List ℕ) (lo hi : ℕ) (s : List ℕ) (p : Cursor) {o : OptionalField} (e : o ≡ optionalField key lo hi (take (length s - p .at) (drop (p .at) s))) where
+  -- an optional field found from a cursor on is the row's field, and the parser reads it there
   pub optional-row : {f : Field} → o ≡ There f
       → (f ≡ readField key lo hi (take (length s - p .at) (drop (p .at) s)))
       × (optionalAt key lo hi (drop (p .at) s) (p .line) ≡ (rowAt key lo hi >>= λ v. return (present v)) (drop (p .at) s) (p .line))
@@ -108,6 +118,7 @@ module _ (key : List ℕ) (lo hi : ℕ) (s : List ℕ) (p : Cursor) {o : Optiona
       let r = field-there key lo hi _ (p .line) (sym e ∙ h) in
       (r .0, rw rest-of at (r .1))
 
+  -- where none is found from a cursor on, the parser has it missing and reads nothing
   pub optional-none : o ≡ Missing → optionalAt key lo hi (drop (p .at) s) (p .line) ≡ good missing (drop (p .at) s) (p .line)
   optional-none h = rw rest-of at (field-missing key lo hi _ (p .line) (sym e ∙ h))
 
@@ -117,14 +128,17 @@ stands-after s p n h l m = record { inside = m; lines = omega (arith, h) }
 
 -- a further rule
 module _ {A : Type 0} (k : ℕ) (ok : A → Bool) (p : Parser A) (s : List ℕ) (l : ℕ) where
+  -- a value that passes the further rule is given as without the rule
   pub checked-good : {v : A} {l′ : ℕ} {s′ : List ℕ} → p s l ≡ good v s′ l′ → ok v ≡ true → checked k ok p s l ≡ good v s′ l′
   unfolding checked
   checked-good e t = rw (checked, e, t)
 
+  -- a value that breaks the further rule is fault k on the line where it began
   pub checked-not : {v : A} {l′ : ℕ} {s′ : List ℕ} → p s l ≡ good v s′ l′ → ok v ≡ false → checked k ok p s l ≡ fault k l
   unfolding checked
   checked-not e t = rw (checked, e, t)
 
+  -- a fault of the line itself comes before the further rule
   pub checked-fault : {n m : ℕ} → p s l ≡ fault n m → checked k ok p s l ≡ fault n m
   unfolding checked
   checked-fault e = rw (checked, e)
@@ -139,41 +153,52 @@ row-line key lo hi s {f} e = record { is = λ l. ap (taken s l) e; inside = subs
     go (Fault k) h = tt
 
 module _ (k : ℕ) (ok : ℕ → Bool) (q : Parser ℕ) (s : List ℕ) where
+  -- a line whose value passes the rule is read the same with the rule
   pub line-ruled : {v n : ℕ} → LineRead q s (Value v n) → ok v ≡ true → LineRead (checked k ok q) s (Value v n)
   unfolding taken
   line-ruled h t = record { is = λ l. sym (checked-good k ok q s l (sym (h .is l)) t); inside = h .inside }
 
+  -- a line whose value breaks the rule is read with the rule as its fault k
   pub line-broken : {v n : ℕ} → LineRead q s (Value v n) → ok v ≡ false → LineRead (checked k ok q) s (Fault k)
   unfolding taken
   line-broken h t = record { is = λ l. sym (checked-not k ok q s l (sym (h .is l)) t); inside = tt }
 
+  -- a line that is at fault without the rule has the same fault with it
   pub line-fault : {j : ℕ} → LineRead q s (Fault j) → LineRead (checked k ok q) s (Fault j)
   unfolding taken
   line-fault h = record { is = λ l. sym (checked-fault k ok q s l (sym (h .is l))); inside = tt }
 
+-- a value after the one before and within the limit passes the rising rule
 pub rising-yes : (b h v : ℕ) → b < v → v ≤ h → rising b h v ≡ true
 rising-yes b h v l m = simp (lt-ltb b v l, le-leb v h m)
 
+-- a value that is not after the one before fails the rising rule
 pub rising-low : (b h v : ℕ) → v ≤ b → rising b h v ≡ false
 rising-low b h v l = simp (le-ltb b v l)
 
+-- a value past the limit fails the rising rule
 pub rising-high : (b h v : ℕ) → b < v → h < v → rising b h v ≡ false
 rising-high b h v l m = simp (lt-ltb b v l, lt-leb v h m)
 
+-- a value of at most m passes the rule of an upper limit
 pub upTo-yes : (m v : ℕ) → v ≤ m → upTo m v ≡ true
 upTo-yes m v h = le-leb v m h
 
+-- a value above m fails the rule of an upper limit
 pub upTo-not : (m v : ℕ) → m < v → upTo m v ≡ false
 upTo-not m v h = lt-leb v m h
 
 -- what an answer of the code says once it is known
 module _ {A : Type 0} {s : List ℕ} {r : ReadAt A} {x : Parsed A} where
+  -- where the code's answer is a value, the parser gives it with what stands behind the cursor
   pub got-value : {v : A} {q : Cursor} → Reads s r x → r ≡ got v q → x ≡ good v (drop (q .at) s) (q .line)
   got-value h e = sym (h .is) ∙ ap (parsed s) e
 
+  -- where the code's answer is a fault, the parser gives the same number and line
   pub got-fault : {k l : ℕ} → Reads s r x → r ≡ no-good k l → x ≡ fault k l
   got-fault h e = sym (h .is) ∙ ap (parsed s) e
 
+  -- where the code's answer is a value, the cursor that comes with it stands in the text
   pub got-place : {v : A} {q : Cursor} → Reads s r x → r ≡ got v q → Stands s q
   got-place h e = subst (Stood s) e (h .stands)
 
@@ -187,6 +212,7 @@ module _ {A S : Type 0} (p : S → Parser A) (next : S → A → S) (n i : ℕ) 
   later : i < n → n - i ≡ suc (n - (i + 1))
   later h = omega arith
 
+  -- reading one value more of a chain leaves the chain's answer, with the value put behind those before
   pub chain-more : {a : A} {s′ : List ℕ} {l′ : ℕ} {ys : List A} → i < n → p prev s l ≡ good a s′ l′ → ys ≡ xs ++ a ∷ []
       → behind xs (chain p next (n - i) prev s l) ≡ behind ys (chain p next (n - (i + 1)) (next prev a) s′ l′)
   unfolding chain return
@@ -201,10 +227,12 @@ module _ {A S : Type 0} (p : S → Parser A) (next : S → A → S) (n i : ℕ) 
       after-one (good ys t m) q = ap (behind xs) (bind-good _ _ q) ∙ ap (λ (zs : List A). good zs t m) (sym (append-assoc xs (a ∷ []) ys))
       after-one (fault k m) q = ap (behind xs) (bind-fault _ _ q)
 
+  -- a fault at the next value is the fault of the whole chain
   pub chain-fault : {k m : ℕ} → i < n → p prev s l ≡ fault k m → behind xs (chain p next (n - i) prev s l) ≡ fault k m
   unfolding chain
   chain-fault h e = ap (λ (k : ℕ). behind xs (chain p next k prev s l)) (later h) ∙ ap (behind xs) (bind-fault (p prev) _ e)
 
+  -- once all n values are read, the chain's answer is these values and the text left
   pub chain-end : n ≤ i → behind xs (chain p next (n - i) prev s l) ≡ good xs s l
   unfolding chain return
   chain-end h =
@@ -212,6 +240,7 @@ module _ {A S : Type 0} (p : S → Parser A) (next : S → A → S) (n i : ℕ) 
       ap (λ (k : ℕ). behind xs (chain p next k prev s l)) z
       ∙ ap (λ (zs : List A). good zs s l) (append-nil xs)
 
+-- before anything is read, a chain's answer is its own with nothing put in front
 pub chain-start : {A S : Type 0} (p : S → Parser A) (next : S → A → S) (n : ℕ) (prev : S) (s : List ℕ) (l : ℕ) → chain p next n prev s l ≡ behind [] (chain p next (n - 0) prev s l)
 chain-start {A} p next n prev s l = rw sub-zero (same (chain p next n prev s l))
   where
@@ -221,14 +250,17 @@ chain-start {A} p next n prev s l = rw sub-zero (same (chain p next n prev s l))
 
 -- the same for a value that ends at a place
 module _ {A : Type 0} {s : List ℕ} {x : Parsed A} {e : End} (a : A) where
+  -- where a reader ends at a cursor, the parser gives its value and the text behind the cursor
   pub end-value : {q : Cursor} → Reads s (ended e a) x → e ≡ end.At q → x ≡ good a (drop (q .at) s) (q .line)
   unfolding ended
   end-value h m = got-value h (ap (λ (y : End). ended y a) m)
 
+  -- where a reader ends at a fault, the parser gives the same number and line
   pub end-fault : {k l : ℕ} → Reads s (ended e a) x → e ≡ end.Fault k l → x ≡ fault k l
   unfolding ended
   end-fault h m = got-fault h (ap (λ (y : End). ended y a) m)
 
+  -- where a reader ends at a cursor, this cursor stands in the text
   pub end-place : {q : Cursor} → Reads s (ended e a) x → e ≡ end.At q → Stands s q
   unfolding ended
   end-place h m = got-place h (ap (λ (y : End). ended y a) m)
@@ -257,6 +289,7 @@ pub end-more : (s : List ℕ) (at l : ℕ) → at < length s → ends (drop at s
 unfolding ends
 end-more s at l h = rw (drop-step s at h)
 
+-- at or past the text's last byte nothing more follows, and the end is read
 pub end-none : (s : List ℕ) (at l : ℕ) → length s ≤ at → ends (drop at s) l ≡ good tt [] l
 unfolding ends
 end-none s at l h = rw (drop-of-length-le s h)
@@ -281,6 +314,7 @@ pub text-long : {A : Type 0} (most : ℕ) (p : Parser A) (s : List ℕ) → most
 unfolding readText
 text-long most p s h = rw (readText, lt-leb (length s) most h)
 
+-- a text that is not too long is read as its lines with nothing behind them
 pub text-fits : {A : Type 0} (most : ℕ) (p : Parser A) (s : List ℕ) → length s ≤ most → finish (whole p s 1) ≡ readText most p s
 unfolding readText
 text-fits most p s h = rw (readText, le-leb (length s) most h)

@@ -19,17 +19,23 @@ use Rattle.lines.proofs.Written.{Stands, line-written}
 abbrev pub Sound : {A : Type 0} → Parser A → (A → List ℕ) → Type 0
 Sound {A} p w = (s s′ : List ℕ) (l l′ : ℕ) (a : A) → p s l ≡ good a s′ l′ → s ≡ w a ++ s′
 
+-- a fault is not a value, so anything follows from their being the same
 pub never : {A : Type 0} {X : Type 0} {n m l : ℕ} {a : A} {s : List ℕ} → _≡_ {A = Parsed A} (fault n m) (good a s l) → X
 never e = let z : _≡_ {A = ℕ} 0 1 = cc in absurd (omega arith)
 
 -- the two halves of a bind that succeeds
 pub record Halves {A B : Type 0} (p : Parser A) (f : A → Parser B) (s s′ : List ℕ) (l l′ : ℕ) (b : B) : Type 0 where
   pub a : A
+  -- the bytes that the first parser leaves for the second
   pub mid : List ℕ
+  -- the number of the line at which the second parser begins
   pub at : ℕ
+  -- the first parser gives the value a and leaves those bytes
   pub first : p s l ≡ good a mid at
+  -- the parser that follows, given a, reads on from there and gives the whole's value
   pub second : f a mid at ≡ good b s′ l′
 
+-- two parsers that succeed together have each succeeded, one behind the other
 pub bind-inv : {A B : Type 0} (p : Parser A) (f : A → Parser B) (s s′ : List ℕ) (l l′ : ℕ) (b : B) → (p >>= f) s l ≡ good b s′ l′ → Halves p f s s′ l l′ b
 bind-inv {A} p f s s′ l l′ b h = go (p s l) refl
   where
@@ -37,6 +43,7 @@ bind-inv {A} p f s s′ l l′ b h = go (p s l) refl
     go (good a t m) e = record { a = a; mid = t; at = m; first = e; second = sym (bind-good p f e) ∙ h }
     go (fault n m) e = never (sym (bind-fault p f e) ∙ h)
 
+-- what a row accepts is the line that is written for its value
 pub row-sound : (key : List ℕ) (lo hi : ℕ) → Sound (rowAt key lo hi) (line key)
 unfolding rowAt readField taken inRange
 row-sound key lo hi s s′ l l′ a h = go (readLine key s) (line-written key s) h
@@ -58,6 +65,7 @@ abbrev pub Optionally : List ℕ → ℕ → ℕ → List ℕ → List ℕ → �
 Optionally key lo hi s s′ l l′ missing = s ≡ s′
 Optionally key lo hi s s′ l l′ (present v) = rowAt key lo hi s l ≡ good v s′ l′
 
+-- an optional line that was read is missing, with nothing read, or was read as a row
 pub optional-inv : (key : List ℕ) (lo hi : ℕ) (s s′ : List ℕ) (l l′ : ℕ) (o : Optional ℕ) → optionalAt key lo hi s l ≡ good o s′ l′ → Optionally key lo hi s s′ l l′ o
 unfolding return
 optional-inv key lo hi s s′ l l′ o h = go (startsWith key s) refl
@@ -74,6 +82,7 @@ optional-inv key lo hi s s′ l l′ o h = go (startsWith key s) refl
         let y : s ≡ s′ = cc in
         subst (Optionally key lo hi s s′ l l′) x y
 
+-- a further rule accepts only texts that are written for their values, if the parser does
 pub checked-sound : {A : Type 0} (k : ℕ) (ok : A → Bool) (p : Parser A) (w : A → List ℕ) → Sound p w → Sound (checked k ok p) w
 unfolding checked
 checked-sound {A} k ok p w so s s′ l l′ a h = go (p s l) refl
@@ -110,9 +119,11 @@ chain-sound p next w so (suc n) prev s s′ l l′ xs h =
 abbrev pub Gives : {A : Type 0} → Parser A → (A → Type 0) → Type 0
 Gives {A} p P = (s s′ : List ℕ) (l l′ : ℕ) (a : A) → p s l ≡ good a s′ l′ → P a
 
+-- an accepted row's value lies from lo to hi
 pub row-gives : (key : List ℕ) (lo hi : ℕ) → Gives (rowAt key lo hi) (λ v. (lo ≤ v) × (v ≤ hi))
 row-gives key lo hi s s′ l l′ a e = subst (InRow lo hi) e (row-in key lo hi s l)
 
+-- a value accepted with a further rule has what it had before, and passes the rule
 pub checked-gives : {A : Type 0} (k : ℕ) (ok : A → Bool) (p : Parser A) (P : A → Type 0) → Gives p P → Gives (checked k ok p) (λ v. P v × (ok v ≡ true))
 unfolding checked
 checked-gives {A} k ok p P gives s s′ l l′ a h = go (p s l) refl
@@ -133,6 +144,7 @@ abbrev pub Chained : {A S : Type 0} → (S → A → Type 0) → (S → A → S)
 Chained P next prev [] = Unit {0}
 Chained P next prev (x ∷ xs) = P prev x × Chained P next (next prev x) xs
 
+-- a chain gives n values, each with what is known of it after the one before
 pub chain-gives : {A S : Type 0} (p : S → Parser A) (next : S → A → S) (P : S → A → Type 0) → ((prev : S) → Gives (p prev) (P prev)) → (n : ℕ) (prev : S)
     → Gives (chain p next n prev) (λ xs. (length xs ≡ n) × Chained P next prev xs)
 unfolding chain return
@@ -151,16 +163,22 @@ pub record Told {A : Type 0} (P : A → Type 0) (w : A → List ℕ) (s s′ : L
   pub known : P a
   pub text : s ≡ w a ++ s′
 
+-- an accepted value is known to have P, and the text is what is written for it
 abbrev pub Tells : {A : Type 0} → Parser A → (A → Type 0) → (A → List ℕ) → Type 0
 Tells {A} p P w = (s s′ : List ℕ) (l l′ : ℕ) (a : A) → p s l ≡ good a s′ l′ → Told P w s s′ a
 
 -- a number from 1 to hi, after the one before and within a bound
 pub record Rises (hi most before v : ℕ) : Type 0 where
+  -- the number is at least 1, as the line's range has it
   pub low : 1 ≤ v
+  -- the number is at most hi, as the line's range has it
   pub high : v ≤ hi
+  -- the number comes after the one before it
   pub after : before < v
+  -- the number is at most `most`, the bound of the rule
   pub within : v ≤ most
 
+-- an accepted line that must rise has a number in range that does, and is written for it
 pub rising-tells : (n : ℕ) (key : List ℕ) (hi most before : ℕ) → Tells (checked n (rising before most) (rowAt key 1 hi)) (Rises hi most before) (line key)
 rising-tells n key hi most before s s′ l l′ v e =
     let k = checked-gives n (rising before most) (rowAt key 1 hi) _ (row-gives key 1 hi) s s′ l l′ v e in
@@ -173,8 +191,11 @@ rising-tells n key hi most before s s′ l l′ v e =
 -- ---- a whole text
 
 pub record Accepted {A : Type 0} (most : ℕ) (p : Parser A) (s : List ℕ) (a : A) : Type 0 where
+  -- the text has at most as many bytes as are allowed
   pub few : length s ≤ most
+  -- the number of the line after the text's last one
   pub last : ℕ
+  -- from line 1 on the parser gives the value and leaves no bytes
   pub lines : p s 1 ≡ good a [] last
 
 end-inv : (s s′ : List ℕ) (l l′ : ℕ) (u : Unit {0}) → ends s l ≡ good u s′ l′ → s ≡ []
@@ -182,6 +203,7 @@ unfolding ends
 end-inv [] s′ l l′ u h = refl
 end-inv (b ∷ s) s′ l l′ u h = never h
 
+-- an accepted text is not too long, and its lines give the value with nothing left behind
 pub accepted-is : {A : Type 0} (most : ℕ) (p : Parser A) (s : List ℕ) (a : A) → readText most p s ≡ accepted a → Accepted most p s a
 unfolding readText whole return
 accepted-is {A} most p s a h = go (leb (length s) most) refl

@@ -10,10 +10,12 @@ use Rattle.lines.specs.Text.{texts, joined}
 use Rattle.lines.proofs.Sound.{Chained}
 use Rattle.lines.proofs.Writing.{joined-room, joined-grows}
 
+-- the texts of two lists joined are the first's texts and then the second's
 pub texts-append : {A : Type 0} (w : A → List ℕ) (xs ys : List A) → texts w (xs ++ ys) ≡ texts w xs ++ texts w ys
 texts-append w [] ys = refl
 texts-append w (x ∷ xs) ys = ap (λ (r : List ℕ). w x ++ r) (texts-append w xs ys) ∙ sym (append-assoc (w x) (texts w xs) (texts w ys))
 
+-- the texts of mapped things are those of the things, each written by way of the map
 pub texts-map : {A B : Type 0} (w : B → List ℕ) (f : A → B) (xs : List A) → texts w (map f xs) ≡ texts (λ x. w (f x)) xs
 texts-map w f [] = refl
 texts-map w f (x ∷ xs) = ap (λ (r : List ℕ). w (f x) ++ r) (texts-map w f xs)

@@ -14,6 +14,7 @@ use Rattle.lines.specs.Text.{decimalIn, decimal, line, joined}
 use Rattle.lines.specs.Wrote.{Wrote, Counted}
 use Rattle.lines.proofs.Written.{decimal-one}
 
+-- two stores, the second right behind the first, are one store of both lists joined
 pub sets-sets : (d : List ℕ) (at : ℕ) (xs ys : List ℕ) → sets (sets d at xs) (at + length xs) ys ≡ sets d at (xs ++ ys)
 sets-sets d at [] ys = rw add-zero
 sets-sets d at (x ∷ xs) ys = rw (add-suc, ← suc-add) (sets-sets (set d at x) (suc at) xs ys)
@@ -38,6 +39,7 @@ then {d} {at} {xs} {e} {r} {ys} {f} {s} v w =
 pub kept : {d : List ℕ} {at : ℕ} {xs e : List ℕ} {r : ℕ} → Wrote d at xs e r → length e ≡ length d
 kept {d} {at} {xs} w = ap length (w .bytes) ∙ length-sets d at xs
 
+-- a tenth of a number below a power of ten is below the power before
 pub tenth : (k n : ℕ) → n < 10 ^ suc (suc k) → n / 10 < 10 ^ suc k
 tenth k n h = div-lt-iff-lt-mul {k = 10} (omega arith) .1 (subst (λ (m : ℕ). n < m) (pow-suc 10 (suc k)) h)
 
@@ -60,6 +62,7 @@ digits-short (suc j) (suc k) n h =
     let rest : length (decimalIn k (n / 10)) ≤ suc j = digits-short j k (n / 10) (tenth j n h) in
     elim-short (ltb n 10) _ _ (suc (suc j)) (omega arith) (rw length-append (omega arith))
 
+-- a number below 10 to the power j + 1 has at most j + 1 digits
 pub decimal-short : (j n : ℕ) → n < 10 ^ suc j → length (decimal n) ≤ suc j
 decimal-short j n h = digits-short j 10 n h
 
@@ -73,16 +76,20 @@ digits-most (suc k) n = elim-short (ltb n 10) _ _ (suc k) (omega arith) (rw leng
 pub same : {d : List ℕ} {at : ℕ} {xs ys e : List ℕ} {r s : ℕ} → Wrote d at xs e r → xs ≡ ys → r ≡ s → Wrote d at ys e s
 same {d} {at} w p q = record { bytes = w .bytes ∙ ap (sets d at) p; next = sym q ∙ w .next ∙ ap (λ (l : List ℕ). at + length l) p }
 
+-- a line has the bytes of its key, of its digits and byte 10
 pub line-length : (key : List ℕ) (n : ℕ) → length (line key n) ≡ length key + length (decimal n) + 1
 unfolding line
 line-length key n = simp length-append (omega arith)
 
+-- a line whose value has at most j + 1 digits has j + 2 bytes more than its key, at most
 pub line-short : (key : List ℕ) (j n : ℕ) → n < 10 ^ suc j → length (line key n) ≤ length key + j + 2
 line-short key j n h = omega (arith, line-length key n, decimal-short j n h)
 
+-- a line has at most 11 bytes more than its key
 pub line-most : (key : List ℕ) (n : ℕ) → length (line key n) ≤ length key + 11
 line-most key n = omega (arith, line-length key n, digits-most 10 n)
 
+-- one piece more, joined, stands behind the pieces before it
 pub joined-more : {A : Type 0} (f : ℕ → List A) (n : ℕ) → joined f (n + 1) ≡ joined f n ++ f n
 unfolding joined
 joined-more f n = rw add-one
@@ -97,6 +104,7 @@ joined-room f i (suc n) h =
     (λ (l : i < n). rw length-append (omega (arith, joined-room f i n l)))
     (eq-or-lt-of-le (le-of-suc-le-suc h))
 
+-- joining more pieces never makes the whole shorter
 pub joined-grows : (f : ℕ → List ℕ) (n m : ℕ) → n ≤ m → length (joined f n) ≤ length (joined f m)
 joined-grows f n m h = ⊎-elim (λ (e : n ≡ m). rw e (omega arith)) (λ (l : n < m). omega (arith, joined-room f n m l)) (eq-or-lt-of-le h)
 
@@ -111,5 +119,6 @@ pub written : {d xs e : List ℕ} {r : ℕ} → length xs ≤ length d → Wrote
 written {d} {xs} h w =
     (w .bytes ∙ sets-eq xs d 0 (omega arith) ∙ ap (λ (n : ℕ). xs ++ drop n d) (zero-add (length xs)), w .next ∙ zero-add (length xs))
 
+-- a number up to a list's length counts bytes at its start
 pub counted : (n : ℕ) (xs : List ℕ) → n ≤ length xs → Counted n xs
 counted n xs h = (h, sym (length-take-le n xs h))

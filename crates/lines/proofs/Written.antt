@@ -15,6 +15,7 @@ use Rattle.lines.specs.declared.read.Line.the-variants.{Value, Bad}
 use Rattle.lines.proofs.Reading.{drop-step, getD-inside, line-is, line-not}
 use lib.Seq.{drop-drop}
 
+-- every byte of the list is one from `0` to `9`
 abbrev pub AllDigits : List ℕ → Type 0
 AllDigits [] = Unit {0}
 AllDigits (d ∷ ds) = (48 ≤ d) × (d ≤ 57) × AllDigits ds
@@ -38,6 +39,7 @@ decimal-last k v e h l =
     let r : (v * 10 + e) % 10 ≡ e = omega arith in
     rw (decimalIn, le-ltb (v * 10 + e) 10 (omega arith)) (ap₂ (λ (x y : ℕ). decimalIn k x ++ (48 + y) ∷ []) q r)
 
+-- a number below 10 is written as its one digit
 pub decimal-one : (k v : ℕ) → v < 10 → decimalIn (suc k) v ≡ (48 + v) ∷ []
 unfolding decimalIn
 decimal-one k v h = rw (decimalIn, lt-ltb v 10 h)
@@ -122,6 +124,7 @@ abbrev pub Stands : List ℕ → List ℕ → Line → Type 0
 Stands key s (Value v n) = s ≡ line key v ++ drop n s
 Stands key s Bad = Unit {0}
 
+-- a line that was read stands in the text as it is written for its value
 pub line-written : (key s : List ℕ) → Stands key s (readLine key s)
 unfolding line
 line-written key s = go (startsWith key s) refl

@@ -33,6 +33,7 @@ pub data Grows : List (List Bool) → List (List Bool) → Type 0 where
   none : {ds : List (List Bool)} → Grows [] ds
   more : {x : Bool} {r d : List Bool} {bs ds : List (List Bool)} (u : List Bool) → d ≡ r ++ u → Grows bs ds → Grows ((x ∷ r) ∷ bs) ((x ∷ d) ∷ ds)
 
+-- with more decisions a node's blocks go on, and there may be more of them
 pub grows : (h n : ℕ) (p t : List Bool) → Grows (blocks h n p) (blocks h n (p ++ t))
 unfolding blocks
 grows h zero p t = none
@@ -47,6 +48,7 @@ pub stops-grow : {bs ds : List (List Bool)} → Grows bs ds → (t : List Bool) 
 stops-grow {ds = ds} none = (stopsIn ds, refl)
 stops-grow (more {x = x} u e g) = let s = stops-grow g in (s .0, ap (λ (l : List Bool). x ∷ l) (s .1))
 
+-- what is paid for decided removals never falls as blocks grow
 pub removed-grow : (rs : List ℕ) {bs ds : List (List Bool)} → Grows bs ds → removedIn rs bs ≤ removedIn rs ds
 removed-grow rs none = omega arith
 removed-grow rs (more {r = r} u e g) =
@@ -68,6 +70,7 @@ accessible-front (need ∷ needs) (x ∷ r) u e =
     let a = and-eq-true-iff (not need || x) (accessible needs (r ++ u)) .0 e in
     and-eq-true-iff (not need || x) (accessible needs r) .1 (a .0, accessible-front needs r u (a .1))
 
+-- a place open to the part once blocks have grown was open to it before
 pub places-grow : (held : Held) {bs ds : List (List Bool)} → Grows bs ds → (i : ℕ) → getD (placesIn held ds) i true ≡ true → getD (placesIn held bs) i true ≡ true
 places-grow held none zero e = refl
 places-grow held none (suc i) e = refl
@@ -98,6 +101,7 @@ Wholes h zero (b ∷ bs) = ⊥
 Wholes h (suc n) [] = ⊥
 Wholes h (suc n) (b ∷ bs) = Whole h b × Wholes h n bs
 
+-- n whole blocks are n in number
 pub wholes-length : (h n : ℕ) (bs : List (List Bool)) → Wholes h n bs → length bs ≡ n
 wholes-length h zero [] w = refl
 wholes-length h zero (b ∷ bs) w = absurd w
@@ -111,6 +115,7 @@ inner-answered (suc h) P [] a = absurd a
 inner-answered (suc h) P (false ∷ s) a = let r = inner-answered h P s a in (omega (arith, r .0), r .1)
 inner-answered (suc h) P (true ∷ s) a = let r = inner-answered h P s a in (omega (arith, r .0), r .1)
 
+-- any h decisions answer the h questions after a yes, if P holds of what follows them
 pub inner-answers : (h : ℕ) (P : List Bool → Type 0) (s : List Bool) → h ≤ length s → P (drop h s) → Answers (repeated h done done) P s
 inner-answers zero P s l a = a
 inner-answers (suc h) P [] l a = absurd (omega arith)

@@ -170,6 +170,7 @@ module _ (job : Job) where
     unfolding decisionsOf
     decisions-full = known .0
 
+    -- the node of a plan's decisions has the blocks that the plan decides
     pub decisions-node : nodeAt job (decisionsOf job plan) ≡ planBlocks job plan
     unfolding decisionsOf
     decisions-node = known .1
@@ -187,6 +188,7 @@ module _ (job : Job) where
         go k true = refl
         go k false = refl
 
+    -- the stops in a plan's blocks are the plan's stops, if it has one for each opening
     pub block-stops : length (plan .stops) ≡ steps → stopsIn (planBlocks job plan) ≡ plan .stops
     block-stops h = block-firsts true h
 

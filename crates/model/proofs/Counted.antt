@@ -46,6 +46,7 @@ module _ (job : Job) where
 
     -- ---- plans
 
+    -- the longest walk has one node exactly if the job has no plan or no openings
     pub longest-1 : (longest job ≡ 1) ↔ ((HasPlan job → ⊥) ⊎ (length (job .openings) ≡ 0))
     longest-1 = (
       (λ h. to (length (job .openings)) refl (sym longest-is ∙ h)),
@@ -102,6 +103,7 @@ module _ (job : Job) where
 
   -- ---- walks, whole or cut
 
+  -- the whole walk has no more nodes than a walk that drops only missing bounds
   pub whole-most : wholeCount job ≤ longest job
   whole-most = walk-most (searched job) [] none
 
@@ -119,12 +121,14 @@ module _ (job : Job) where
       go (Sum f) false none = omega arith
       go (Sum f) false (plan c s) = omega arith
 
+  -- an answer's `nodes` is at most the walk number and at most the longest walk's count
   pub nodes-most : (limit : ℕ) → nodesOf (answerOf job limit) ≤ min limit (longest job)
   nodes-most limit = omega (arith, answer-most limit, limits (searched job) limit .count, whole-most)
 
   -- ---- the promise
 
   module _ (o : Ordered job) (none-held : NoHolders (job .parts)) where
+    -- the count worked out without walking keeps all that is promised of the count
     pub count-promise : JobCountPromise job (openCount job)
     count-promise = record {
       counts = counted o none-held;

@@ -22,11 +22,13 @@ use Rattle.model.proofs.Positions.{never-falls, within-earlier, within-
 
 -- ---- the last yes
 
+-- a no added at the end leaves the last yes where it is
 pub last-no : (p : List Bool) → lastYes (snoc p false) ≡ lastYes p
 unfolding lastYes
 last-no [] = refl
 last-no (x ∷ p) = ap (afterOne x) (last-no p)
 
+-- a yes added at the end is the last yes, numbered one past those before
 pub last-yes : (p : List Bool) → lastYes (snoc p true) ≡ suc (length p)
 unfolding lastYes
 last-yes [] = refl
@@ -34,16 +36,19 @@ last-yes (x ∷ p) = ap (afterOne x) (last-yes p)
 
 -- its position
 
+-- where the first opening is a no, the last yes is where it is without that opening
 pub mark-no : (prev s : ℤ) (ss : List ℤ) (m : ℕ) → markIn prev (s ∷ ss) (afterOne false m) ≡ markIn prev ss m
 mark-no prev s ss zero = refl
 mark-no prev s ss (suc m) = refl
 
+-- where the first opening is a yes, it stands for the change before the openings behind it
 pub mark-yes : (prev s : ℤ) (ss : List ℤ) (m : ℕ) → markIn prev (s ∷ ss) (afterOne true m) ≡ markIn s ss m
 mark-yes prev s ss zero = refl
 mark-yes prev s ss (suc m) = refl
 
 -- ---- positions that never fall
 
+-- positions that never fall from q on never fall from an earlier p on
 pub climbs-from : (end p q : ℤ) (ss : List ℤ) → AtMostℤ p q → Climbs end q ss → Climbs end p ss
 climbs-from end p q [] h c = at-most-test p end (omega (arith, at-most q end c))
 climbs-from end p q (s ∷ ss) h c = (at-most-test p s (omega (arith, at-most q s (c .0))), c .1)
@@ -54,6 +59,7 @@ module _ (job : Job) where
   steps-climb from [] h r = at-most-test (clock job from) (end job) (never-falls job from (job .horizon + 1) (omega arith))
   steps-climb from (o ∷ os) h r = (at-most-test (clock job from) (clock job (o .step)) (never-falls job from (o .step) (omega (arith, r .0))), steps-climb (o .step) os (r .1) (r .2))
 
+  -- the positions of openings that rise never fall, from 0 up to the job's end
   pub job-climbs : Rising 0 (job .horizon) (stepsOf (job .openings)) → Climbs (end job) (pos 0) (positions job)
   unfolding clock running
   job-climbs r = steps-climb 0 (job .openings) (omega arith) r
@@ -128,6 +134,7 @@ module _ (life end : ℤ) where
       go true true true f = no-more-refl (plus (o .price) e)
       go true true false f = absurd (false≢true (f refl))
 
+  -- the later the change before, the less the least price is, if there was one
   pub later-least : (p q : ℤ) (os : List Offer) → AtMostℤ p q → NoMore (leastOf life end q os) (leastOf life end p os)
   unfolding leastOf
   later-least p q [] h = go (within life p end) (within life q end) (within-later life p q end h)

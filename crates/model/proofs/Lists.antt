@@ -10,17 +10,20 @@ use Rattle.model.specs.Model.{table}
 use Rattle.model.proofs.Bools.{inside}
 
 module _ {A : Type 0} where
+  -- the table of a function's first n values has n entries
   pub table-length : (f : ℕ → A) (n : ℕ) → length (table f n) ≡ n
   unfolding table
   table-length f zero = refl
   table-length f (suc n) = ap suc (table-length (λ i. f (suc i)) n)
 
+  -- the entry of a table at a place inside it is the function's value there
   pub table-at : (f : ℕ → A) (n k : ℕ) (d : A) → k < n → getD (table f n) k d ≡ f k
   unfolding table
   table-at f zero k d h = absurd (omega arith)
   table-at f (suc n) zero d h = refl
   table-at f (suc n) (suc k) d h = table-at (λ i. f (suc i)) n k d (omega arith)
 
+  -- functions that agree at the first n places have the same table of n entries
   pub table-same : (f g : ℕ → A) (n : ℕ) → ((k : ℕ) → k < n → f k ≡ g k) → table f n ≡ table g n
   unfolding table
   table-same f g zero h = refl
@@ -35,9 +38,11 @@ module _ {A : Type 0} where
   more f zero = refl
   more f (suc n) = ap (λ (l : List A). f 0 ∷ l) (more (λ i. f (suc i)) n)
 
+  -- a table with one entry more is the table before it with the next value at its end
   pub table-more : (f : ℕ → A) (n : ℕ) → table f (n + 1) ≡ table f n ++ f n ∷ []
   table-more f n = rw add-one (more f n)
 
+  -- a function applied to every entry of a table is the table of the composed function
   pub table-map : {B : Type 0} (g : A → B) (f : ℕ → A) (n : ℕ) → map g (table f n) ≡ table (λ k. g (f k)) n
   unfolding table
   table-map g f zero = refl

@@ -60,6 +60,7 @@ module _ (job : Job) where
         kept-more (pos (part .life)) (end job) (lastChange part) (positions job) cs all (first-climbs (end job) (positions job) (part .left) (part .life) h (job-climbs job (o .rising)))
         (λ i t. open-at (length (positions job)) p i (omega (arith, inside cs i t, k .size, positions-size job)) ∙ k .at-open i t) (k .lives)
 
+    -- a part's least sum is there exactly if changes at all yes and undecided openings keep it
     pub part-there : present (leastOver job part ns p) ≡ openKept p part
     part-there = same-test (present (leastOver job part ns p)) (openKept p part) (λ t. to (leastOver job part ns p) refl t) from
       where

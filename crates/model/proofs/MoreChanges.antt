@@ -17,11 +17,13 @@ use Rattle.model.proofs.LastYes.{climbs-from}
 
 -- ---- the positions of a set, one opening at a time
 
+-- the selection of any list at an empty set is empty
 pub select-empty : {A : Type 0} (l : List A) → select l [] ≡ []
 unfolding select
 select-empty [] = refl
 select-empty (a ∷ l) = refl
 
+-- a selection from a list is its first entry, if that is in the set, and the rest's selection
 pub select-step : {A : Type 0} (a : A) (l : List A) (cs : List Bool) → select (a ∷ l) cs ≡ cond (getD cs 0 false) (a ∷ select l (drop 1 cs)) (select l (drop 1 cs))
 unfolding select
 select-step a l [] = sym (select-empty l)
@@ -63,6 +65,7 @@ module _ (life end : ℤ) where
   kept-later : (p q : ℤ) (ss : List ℤ) → AtMostℤ p q → kept life end p ss ≡ true → kept life end q ss ≡ true
   kept-later p q ss h k = kept-from p q ss k (within-later life p q (nextOf end ss) h (kept-next p ss k))
 
+  -- where positions never fall, a change set with more changes keeps what one with fewer keeps
   pub kept-more : (prev : ℤ) (ss : List ℤ) (cs ds : List Bool) → Climbs end prev ss → ((i : ℕ) → getD cs i false ≡ true → getD ds i false ≡ true)
       → kept life end prev (select ss cs) ≡ true → kept life end prev (select ss ds) ≡ true
   kept-more prev [] cs ds c f k = unfold select in k

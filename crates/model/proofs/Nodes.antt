@@ -31,6 +31,7 @@ use Rattle.model.proofs.Plans.{map-at, stops-bound}
 
 -- ---- lists
 
+-- R holds of a table's entries and a list pair by pair, if it does at every place
 pub each-table : {A B : Type 0} (R : A → B → Type 0) (f : ℕ → A) (n : ℕ) (l : List B) (d : B) → length l ≡ n → ((k : ℕ) → k < n → R (f k) (getD l k d)) → Each R (table f n) l
 unfolding table
 each-table R f zero [] d h r = tt
@@ -133,6 +134,7 @@ module _ (job : Job) where
       abbrev choices : Each (λ (held : Held). Chosen job (placesAt job held s) (held .part)) (heldParts job) (own .changes)
       choices = all-chosen (heldParts job) (parted .b) (parted .right) .0
 
+      -- the plan of a full node that has a cost keeps the lives
       pub own-keeps : KeepsLives job own
       own-keeps = record { size = stops-length job s full; parts = each-keeps 0 (job .parts) (own .changes) choices }
 
@@ -175,6 +177,7 @@ module _ (job : Job) where
               (select-length (outAt job (own .changes) k) (job .parts) (holding job) (outs-length job (own .changes) k) ∙ sym w)
               (removed-there k r l e w)))
 
+      -- block by block, the node's own plan decides no more removals than the node
       pub blocks-under : Each Under (planBlocks job own) (nodeAt job s)
       blocks-under = each-table Under (blockOf job own) steps (nodeAt job s) [] (node-length job s full) block-under
 
@@ -200,6 +203,7 @@ module _ (job : Job) where
       -- ---- where the decisions are the node's
 
       module _ (decides : decisionsOf job own ≡ s) where
+        -- where the plan's decisions are the node's name, its blocks are the node's blocks
         pub own-blocks : planBlocks job own ≡ nodeAt job s
         own-blocks = sym (decisions-node job own) ∙ ap (nodeAt job) decides
 
@@ -209,5 +213,6 @@ module _ (job : Job) where
             let b = stops-bound job own own-keeps in
             omega (arith, sum-inj (stopCost job s) (b .bound) c (sym (ap (stopCost job) decides) ∙ b .is) costs, b .le, own-most)
 
+        -- each part's changes are chosen by the tie rule at the places that the plan's blocks leave
         pub own-chosen : Each (λ (held : Held). Chosen job (placesIn held (planBlocks job own)) (held .part)) (heldParts job) (own .changes)
         own-chosen = subst (λ (bs : List (List Bool)). Each (λ (held : Held). Chosen job (placesIn held bs) (held .part)) (heldParts job) (own .changes)) (sym own-blocks) choices

@@ -37,14 +37,17 @@ module _ (job : Job) where
   abbrev outs : List (List Bool)
   outs = table (comesOut job) size
 
+  -- the set of parts that are somebody's holder is over all parts of the job
   pub holding-length : length (holding job) ≡ size
   unfolding holding
   holding-length = table-length (λ j. holdsOne (job .parts) (replicate size true) (suc j)) size
 
   module _ (cs : List (List Bool)) (k : ℕ) where
+    -- what comes out at an opening is a set over all parts of the job
     pub outs-length : length (outAt job cs k) ≡ size
     outs-length = table-length (outBy outs cs k) size
 
+    -- a part that comes out at an opening comes out with some part that is changed there
     pub brought : (j : ℕ) → getD (outAt job cs k) j false ≡ true → (i : ℕ) × (i < size) × (getD (getD cs i []) k false ≡ true) × (getD (comesOut job i) j false ≡ true)
     brought j e =
         let t = table-yes (outBy outs cs k) size j e in

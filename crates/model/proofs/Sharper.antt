@@ -42,10 +42,12 @@ module _ (job : Job) where
 
   -- ---- the two
 
+  -- the bound with E4's term is never less than the bound before it
   pub never-less : (p : List Bool) → NoMore (stopCost job p) (boundOf job p)
   unfolding boundOf
   never-less p = add-more (stopCost job p) (largest (partFee job) (heldParts job) p)
 
+  -- where the bound before E4 is a sum, the new one is a sum no less
   pub there-too : (p : List Bool) (n : ℕ) → stopCost job p ≡ Sum n → (m : ℕ) × (boundOf job p ≡ Sum m) × (n ≤ m)
   unfolding boundOf stopCost
   there-too p n e =
@@ -54,6 +56,7 @@ module _ (job : Job) where
       (λ held m f. least-there job (held .part) (held .part .prices) (undecidedFees (map feeOf (job .openings)) (stopsAt job p)) (placesAt job held p) m f) (heldParts job) (d .b) (d .right) in
       (n + l .0, rw (e, l .1), omega arith)
 
+  -- the bound is missing exactly where the bound before E4 was missing
   pub missing-same : (p : List Bool) → (boundOf job p ≡ Missing) ↔ (stopCost job p ≡ Missing)
   missing-same p = ((λ e. go (stopCost job p) refl e), λ e. by e)
     where

@@ -18,6 +18,7 @@ sum-term (suc n) from f h = go (decLe 1 (f from)) (sum-term n (suc from) f)
     go (yes p) r = (from, omega arith, omega arith, p)
     go (no p) r = let q = r (omega (arith, p)) in (q .0, omega (arith, q .1), omega (arith, q .2), q .3)
 
+-- a sum with a term of 1 or more in its range is at least 1
 pub term-sum : (n from : ℕ) (f : ℕ → ℕ) (t : ℕ) → from ≤ t → t < from + n → 1 ≤ f t → 1 ≤ sum from n f
 unfolding sum
 term-sum zero from f t a b h = absurd (omega arith)
@@ -27,6 +28,7 @@ term-sum (suc n) from f t a b h = go (decLe (suc from) t) (λ p. term-sum n (suc
     go (yes p) r = omega (arith, r p)
     go (no p) r = let e : t ≡ from = omega (arith, p) in omega (arith, subst (λ (k : ℕ). 1 ≤ f k) e h)
 
+-- a sum of nothing but zeros is 0, over any range
 pub sum-none : (n from : ℕ) → sum from n (λ _. 0) ≡ 0
 unfolding sum
 sum-none zero from = refl
@@ -44,6 +46,7 @@ unfolding sum
 sum-mono zero from f g h = omega arith
 sum-mono (suc n) from f g h = omega (arith, h from (omega arith) (omega arith), sum-mono n (suc from) f g (λ t a b. h t (omega arith) (omega arith)))
 
+-- the sum of two functions added term by term is the sum of their two sums
 pub sum-both : (n from : ℕ) (f g : ℕ → ℕ) → sum from n (λ t. f t + g t) ≡ sum from n f + sum from n g
 unfolding sum
 sum-both zero from f g = refl
@@ -67,6 +70,7 @@ unfolding sum
 sum-past s v zero from h = refl
 sum-past s v (suc n) from h = rw (ne-eqb s from (λ e. omega (arith, e))) (omega (arith, sum-past s v n (suc from) (omega arith)))
 
+-- a sum whose only term stands at s, inside the range, is that term
 pub sum-one : (s v n from : ℕ) → from ≤ s → s < from + n → sum from n (λ t. cond (eqb s t) v 0) ≡ v
 unfolding sum
 sum-one s v zero from a b = absurd (omega arith)

@@ -32,6 +32,7 @@ pub judge-5180 : judgedOf (table1 100) 5180 table3 ≡ accepts 5180
 unfolding comesOut rounds holdsOne listed table outBy sumAt sum judgedOf verdictFrom firstLate select within dueOf lastWithin clock running
 judge-5180 = refl
 
+-- the judge accepts the plan of Table 4 of 001 at its cost, 11690
 pub judge-11690 : judgedOf (table1 1000) 11690 table4 ≡ accepts 11690
 unfolding comesOut rounds holdsOne listed table outBy sumAt sum judgedOf verdictFrom firstLate select within dueOf lastWithin clock running
 judge-11690 = refl

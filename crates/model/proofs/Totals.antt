@@ -26,6 +26,7 @@ sum-at ns (c ∷ cs) (suc n) h =
     sum-first ns false cs = omega (arith, sum-false ns cs)
     sum-first ns true cs = sum-true ns cs
 
+-- a sum at a set without any member is 0
 pub sum-empty : (ns : List ℕ) (cs : List Bool) → ((k : ℕ) → getD cs k false ≡ true → ⊥) → sumAt ns cs ≡ 0
 unfolding sumAt
 sum-empty ns [] h = refl
@@ -42,6 +43,7 @@ outside (o ∷ os) [] = o ∷ os
 outside (o ∷ os) (true ∷ ms) = false ∷ outside os ms
 outside (o ∷ os) (false ∷ ms) = o ∷ outside os ms
 
+-- a sum at a set is the sum inside another set plus that outside of it
 pub sum-split : (ns : List ℕ) (os ms : List Bool) → length os ≡ length ns → length ms ≡ length ns → sumAt ns os ≡ sumAt (select ns ms) (select os ms) + sumAt ns (outside os ms)
 unfolding sumAt select
 sum-split [] [] ms h g = omega arith
@@ -53,12 +55,14 @@ sum-split (n ∷ ns) (true ∷ os) (true ∷ ms) h g = omega (arith, sum-split n
 sum-split (n ∷ ns) (false ∷ os) (false ∷ ms) h g = sum-split ns os ms (omega arith) (omega arith)
 sum-split (n ∷ ns) (true ∷ os) (false ∷ ms) h g = omega (arith, sum-split ns os ms (omega arith) (omega arith))
 
+-- a set without the members of another is over as many places as before
 pub outside-length : (os ms : List Bool) → length (outside os ms) ≡ length os
 outside-length [] ms = refl
 outside-length (o ∷ os) [] = refl
 outside-length (o ∷ os) (true ∷ ms) = ap suc (outside-length os ms)
 outside-length (o ∷ os) (false ∷ ms) = ap suc (outside-length os ms)
 
+-- a place is in the set without the other's if it is in it and not in the other
 pub outside-at : (os ms : List Bool) (j : ℕ) → getD (outside os ms) j false ≡ cond (getD ms j false) false (getD os j false)
 outside-at [] ms j = none (getD ms j false)
   where
@@ -73,6 +77,7 @@ outside-at (o ∷ os) (false ∷ ms) (suc j) = outside-at os ms j
 
 -- ---- a selection
 
+-- selections from equally long lists at one set are equally long
 pub select-length : {A B : Type 0} (xs : List A) (ys : List B) (ms : List Bool) → length xs ≡ length ys → length (select xs ms) ≡ length (select ys ms)
 unfolding select
 select-length [] [] ms h = refl

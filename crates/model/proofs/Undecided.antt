@@ -56,14 +56,18 @@ yes-same (s ∷ ss) (true ∷ p) h = ap (λ (l : List ℤ). s ∷ l) (yes-same s
 
 -- `rest` without its first
 pub record Parted (rest : List ℤ) (k : ℕ) (ss : List ℤ) : Type 0 where
+  -- the first of the positions that are left
   pub first : ℤ
+  -- what is left is its first position and then the positions from place k on
   pub split : rest ≡ first ∷ drop k ss
 
+-- what is left of a list past j, where there is more, has a first and the rest
 pub parted : (ss : List ℤ) (j : ℕ) → j < length ss → Parted (drop j ss) (suc j) ss
 parted [] j h = absurd (omega arith)
 parted (s ∷ ss) zero h = record { first = s; split = refl }
 parted (s ∷ ss) (suc j) h = let r = parted ss j (omega arith) in record { first = r .first; split = r .split }
 
+-- a no at the next opening takes that opening's position out of the yes and undecided ones
 pub no-less : (ss : List ℤ) (p : List Bool) → select ss (snoc p false) ++ drop (length (snoc p false)) ss ≡ select ss p ++ drop (suc (length p)) ss
 unfolding select
 no-less [] [] = refl
@@ -83,6 +87,7 @@ last-is prev (s ∷ ss) [] h = refl
 last-is prev (s ∷ ss) (false ∷ p) h = last-is prev ss p (omega arith) ∙ sym (mark-no prev s ss (lastYes p))
 last-is prev (s ∷ ss) (true ∷ p) h = last-is s ss p (omega arith) ∙ sym (mark-yes prev s ss (lastYes p))
 
+-- the first position past k openings is opening k's, or the end where none is left
 pub next-is : (end : ℤ) (ss : List ℤ) (k : ℕ) → nextOf end (drop k ss) ≡ getD ss k end
 next-is end [] zero = refl
 next-is end [] (suc k) = refl
@@ -91,6 +96,7 @@ next-is end (s ∷ ss) (suc k) = next-is end ss k
 
 -- ---- one change less
 
+-- where changes keep a part, one change less keeps it exactly if the gap there is within the life
 pub without : (life end prev s : ℤ) (xs zs : List ℤ) → kept life end prev (xs ++ (s ∷ zs)) ≡ true → kept life end prev (xs ++ zs) ≡ within life (lastOf prev xs) (nextOf end zs)
 unfolding kept
 without life end prev s [] [] k = refl

@@ -146,6 +146,7 @@ module _ (job : Job) (unheld : NoHolders (job .parts)) where
       let y = same-choices (suc i) ps p in
       λ k. x k ∷ y k
 
+  -- a job's bound without holders is E4's, of the job with removals added to its prices
   pub same-bound : (p : List Bool) → boundOf job p ≡ plainBound (chargedJob job) p
   unfolding boundOf stopCost plainBound
   same-bound p =
@@ -154,10 +155,12 @@ module _ (job : Job) (unheld : NoHolders (job .parts)) where
       let z = same-largest 0 (job .parts) p in
       λ k. add (add (Sum (x k)) (y k)) (z k)
 
+  -- a job's tree without holders is E4's, of the job with removals added to its prices
   pub same-tree : searched job ≡ plainTree (chargedJob job)
   same-tree =
       plain-tree job unheld ∙ ap (λ (bound : List Bool → Bound). treeOf bound steps []) (λ i p. same-bound p i)
 
+  -- without holders a full node's plan is E4's, of the job with removals added to its prices
   pub same-plan : (s : List Bool) → length s ≡ steps → planAt job s ≡ plainPlan (chargedJob job) s
   same-plan s h =
       let x = same-stops job unheld s ∙ take-all steps s (omega arith) in
@@ -173,6 +176,7 @@ module _ (job : Job) (unheld : NoHolders (job .parts)) where
   same-answered floor nodes false none f = refl
   same-answered floor nodes false (plan c s) f = ap (optimum nodes floor c) (same-plan s (f c s refl))
 
+  -- without holders the answer is E4's, of the job with removals added to its prices, at any walk number
   pub same-answer : (limit : ℕ) → answerOf job limit ≡ plainAnswer (chargedJob job) limit
   unfolding answerOf plainAnswer
   same-answer limit =
@@ -212,6 +216,7 @@ module _ (job : Job) (unheld : NoHolders (job .parts)) where
       ∙ sum-zeros steps 0
 
   module _ (q : Plan) (shaped : Shaped job q) where
+    -- without holders a plan's cost is its fees and prices, in the job with removals added to them
     pub same-cost : costOf job q ≡ plainCost (chargedJob job) q
     same-cost =
         omega (
@@ -221,16 +226,19 @@ module _ (job : Job) (unheld : NoHolders (job .parts)) where
           charged-prices 0 (job .parts) (q .changes),
         )
 
+    -- without holders a plan is judged by the kept lives and the cost in the charged job
     pub same-judgement : (cost : ℕ) → judgedOf job cost q ≡ judged cost (plainCost (chargedJob job) q) (verdictOf job q)
     unfolding judgedOf
     same-judgement cost = ap (λ (c : ℕ). judged cost c (verdictOf job q)) same-cost
 
 -- ---- E7.13. a job with "no holders and removals of 0", and a price for each opening
 
+-- each part has no holders, a removal of 0 and n prices
 abbrev pub Plain : ℕ → List Part → Type 0
 Plain n [] = Unit {0}
 Plain n (part ∷ parts) = (part .holders ≡ []) × (part .removal ≡ 0) × (length (part .prices) ≡ n) × Plain n parts
 
+-- parts with no holders and removals of 0 are parts without holders
 pub plain-unheld : (n : ℕ) (ps : List Part) → Plain n ps → NoHolders ps
 plain-unheld n [] h = tt
 plain-unheld n (p ∷ ps) h = (h .0, plain-unheld n ps (h .3))

@@ -13,6 +13,7 @@ use Rattle.model.specs.Model.{within}
 use Rattle.model.specs.LowerBound.{plus, lower, leastOf, offers}
 use Rattle.model.proofs.Bools.{after-one}
 
+-- a bound with nothing to pay: 0 where it is there, missing where it is missing
 abbrev pub unpaid : Bound → Bound
 unpaid Missing = Missing
 unpaid (Sum x) = Sum 0

@@ -9,7 +9,7 @@ lastStep = 365
 abbrev pub lastPosition : ℕ
 lastPosition = lastStep + 1
 
--- "`life` 1..1000, `left` 1..1000"
+-- "`life` 1..1000, `left` 1..1000"; E12.4. "From here on `left` may be 0"
 abbrev pub longestLife : ℕ
 longestLife = 1000
 

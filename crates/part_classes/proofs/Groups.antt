@@ -42,6 +42,7 @@ module _ (nd : List Bool) (p q : ℕ) where
   unfolding sameNeeds
   same-none = refl
 
+  -- parts with the same first b needs and the same need of holding part b have one need more in common
   pub same-more : (b : ℕ) → sameNeeds nd b p q ≡ true → Bool·beq (needAt nd p b) (needAt nd q b) ≡ true → sameNeeds nd (suc b) p q ≡ true
   unfolding sameNeeds
   same-more b e f = ap (λ (x : Bool). x && Bool·beq (needAt nd p b) (needAt nd q b)) e ∙ f
@@ -88,6 +89,7 @@ module _ (nd : List Bool) (p q : ℕ) where
     pub needs-same : sameNeeds nd h p q ≡ true → needsAt h nd p ≡ needsAt h nd q
     needs-same e = ext-getD false (needsAt h nd p) (needsAt h nd q) (long p m ∙ sym (long q n)) (λ i g. let r : i < h = omega (arith, g, long p m) in at p i r ∙ all-same h e i r ∙ sym (at q i r))
 
+    -- parts whose needs are equal as lists are found to need the same
     pub same-needs : needsAt h nd p ≡ needsAt h nd q → sameNeeds nd h p q ≡ true
     same-needs e = same-all h (λ i r. sym (at p i r) ∙ ap (λ (x : List Bool). getD x i false) e ∙ at q i r)
 
@@ -129,10 +131,12 @@ module _ (f : ℕ → Bool) where
   unfolding firstFrom
   first-not i k e = ap (λ (t : Bool). cond t i (firstFrom f (suc i) k)) e
 
+  -- where it is true of number i, that is the first from i on
   pub first-here : (i k : ℕ) → f i ≡ true → firstFrom f i (suc k) ≡ i
   unfolding firstFrom
   first-here i k e = ap (λ (t : Bool). cond t i (firstFrom f (suc i) k)) e
 
+  -- of no numbers the first is the one behind them
   pub first-end : (i : ℕ) → firstFrom f i 0 ≡ i
   unfolding firstFrom
   first-end i = refl
@@ -175,6 +179,7 @@ module _ (nd : List Bool) (h : ℕ) where
     abbrev like : ℕ → Bool
     like d = sameNeeds nd h (getD (k .leads) d 0) q
 
+    -- the class found for a part is one that is there, or the next new one
     pub class-most : c ≤ k .count
     class-most = omega (arith, e, first-most like 0 (k .count))
 

@@ -6,12 +6,12 @@ ghost use lib.ListN.{length};
 ghost use Rattle.lane_rows.specs.Layout.{laneCount};
 ghost use Rattle.held_places.specs.Arrays.{needSize};
 ghost use Rattle.part_classes.specs.Grouped.{sameNeeds, classAt, Grouped};
-use held_places::PARTS;
+use model::PARTS;
 
 // The class of each lane, the first part of each class, and how many classes there are.
 pub struct Classes {
-    pub lanes: [usize; 16],
-    pub leads: [usize; 16],
+    pub lanes: [usize; PARTS],
+    pub leads: [usize; PARTS],
     pub count: usize,
 }
 
@@ -85,8 +85,8 @@ pub fn classes_of(needs: &[bool], h: usize, m: usize) -> Classes
     ensures { λ r. ⌜ Grouped (now (needs .entry)) h m r ⌝ }
 {
     let mut classes = Classes {
-        lanes: [0; 16],
-        leads: [0; 16],
+        lanes: [0; PARTS],
+        leads: [0; PARTS],
         count: 0,
     };
     let mut q: usize = 0;

@@ -5,11 +5,14 @@ use mathlib.Core.List.{List, _++_, append-assoc}
 use native.Mathlib.Omega.{arith}
 use lib.ListN.{length}
 use borrow.Author.Tests.{leb-true}
-use Rattle.lines.specs.Text.{lineOf, texts, Optional, missing, present, optionalText}
-use Rattle.lines.specs.Parser.{return, row, checked, times, upTo}
-use Rattle.lines.proofs.Sound.{Told, Tells, bind-inv, row-sound, checked-sound, chain-sound, row-gives, checked-gives, chain-gives}
-use Rattle.jobs.specs.Valid.{ValidPrice, Holds}
-use Rattle.jobs.proofs.Lists.{chained-each}
+use Rattle.lines.specs.Text.{lineOf, Optional, missing, present, optionalText}
+use Rattle.lines.specs.Parser.{return, row, checked, upTo}
+use Rattle.lines.proofs.Sound.{Told, Tells, bind-inv, row-sound, checked-sound, row-gives, checked-gives}
+use Rattle.jobs.specs.Valid.{ValidHolders}
+use Rattle.price_rules.specs.Grammar.{prices}
+use Rattle.price_rules.specs.Rendering.{pricesText}
+use Rattle.price_rules.proofs.Accepted.{prices-tells}
+use Rattle.price_rules.proofs.Prices.{meant-length, meant-valid}
 use Rattle.covers.specs.Grammar.{Cover, cover}
 use Rattle.covers.specs.Rendering.{coverText}
 use Rattle.covers.specs.Valid.{ValidLines}
@@ -20,7 +23,7 @@ use Rattle.part_lines.specs.Rendering.{partText}
 use Rattle.part_lines.specs.Valid.{KnownPart}
 
 -- what is known of the lines of removal, where they stand, is known of what they mean
-cover-known : (m k : ℕ) (o : Optional Cover) → ValidLines m k o → (meantCover o .removal ≤ 1000000) × (length (meantCover o .holders) ≤ 15) × Holds m k 0 (meantCover o .holders)
+cover-known : (m k : ℕ) (o : Optional Cover) → ValidLines m k o → (meantCover o .removal ≤ 1000000) × (length (meantCover o .holders) ≤ 15) × ValidHolders m k 0 (meantCover o .holders)
 unfolding meantCover
 cover-known m k missing v = (omega arith, omega arith, tt)
 cover-known m k (present c) v = (v .removal, v .few, v .holders)
@@ -30,48 +33,46 @@ pub known-cover : (m n k : ℕ) (p : PartText) → KnownPart m n k p → ValidLi
 unfolding meantCover
 known-cover m n k p v = go (p .cover) (v .0 .removal) (v .0 .few-holders) (v .1)
   where
-    go : (o : Optional Cover) → meantCover o .removal ≤ 1000000 → length (meantCover o .holders) ≤ 15 → Holds m k 0 (meantCover o .holders) → ValidLines m k o
+    go : (o : Optional Cover) → meantCover o .removal ≤ 1000000 → length (meantCover o .holders) ≤ 15 → ValidHolders m k 0 (meantCover o .holders) → ValidLines m k o
     go missing r f h = tt
     go (present c) r f h = record { removal = r; few = f; holders = h }
 
 pub part-tells : (m n k : ℕ) → Tells (part m n k) (KnownPart m n k) partText
-unfolding part afterLeft times return partText
+unfolding part afterLeft return partText
 part-tells m n k s s′ l l′ p e =
     let p₁ = row "life=" 1 1000 in
-    let p₂ = row "left=" 1 1000 in
-    let price = row "price=" 1 1000000 in
+    let p₂ = row "left=" 0 1000 in
     let b = bind-inv p₁ _ s s′ l l′ p e in
     let d = bind-inv (checked 5 (upTo (b .a)) p₂) _ (b .mid) s′ (b .at) l′ p (b .second) in
     let g = bind-inv (cover m k) _ (d .mid) s′ (d .at) l′ p (d .second) in
-    let f = bind-inv (times n price) _ (g .mid) s′ (g .at) l′ p (g .second) in
+    let f = bind-inv (prices n) _ (g .mid) s′ (g .at) l′ p (g .second) in
     let x : record { life = b .a; left = d .a; cover = g .a; prices = f .a } ≡ p = cc (f .second) in
     let y : f .mid ≡ s′ = cc (f .second) in
     let k₁ = row-gives _ 1 1000 s (b .mid) l (b .at) (b .a) (b .first) in
-    let k₂ = checked-gives 5 (upTo (b .a)) p₂ _ (row-gives _ 1 1000) (b .mid) (d .mid) (b .at) (d .at) (d .a) (d .first) in
+    let k₂ = checked-gives 5 (upTo (b .a)) p₂ _ (row-gives _ 0 1000) (b .mid) (d .mid) (b .at) (d .at) (d .a) (d .first) in
     let told = cover-tells m k (d .mid) (g .mid) (d .at) (g .at) (g .a) (g .first) in
     let k₃ = cover-known m k (g .a) (told .known) in
-    let k₄ = chain-gives (λ _. price) (λ _ _. 0) (λ _. ValidPrice) (λ _. row-gives _ 1 1000000) n 0 (g .mid) (f .mid) (g .at) (f .at) (f .a) (f .first) in
+    let k₄ = prices-tells n (g .mid) (f .mid) (g .at) (f .at) (f .a) (f .first) in
     subst (Told (KnownPart m n k) partText s s′) x (record {
       known = (
         record {
           life-low = k₁ .0;
           life-high = k₁ .1;
-          left-low = k₂ .0 .0;
           left-high = leb-true (d .a) (b .a) (k₂ .1);
           removal = k₃ .0;
           few-holders = k₃ .1;
-          priced = k₄ .0;
-          prices = chained-each ValidPrice 0 (f .a) (k₄ .1);
+          priced = meant-length n (f .a) (k₄ .known);
+          prices = meant-valid n (f .a) (k₄ .known);
         },
         k₃ .2,
+        k₄ .known,
       );
       text = simp append-assoc
           (row-sound _ 1 1000 s (b .mid) l (b .at) (b .a) (b .first)
           ∙ ap (λ (r : List ℕ). lineOf "life=" (b .a) ++ r)
-          (checked-sound 5 (upTo (b .a)) p₂ (lineOf "left=") (row-sound _ 1 1000) (b .mid) (d .mid) (b .at) (d .at) (d .a) (d .first)
+          (checked-sound 5 (upTo (b .a)) p₂ (lineOf "left=") (row-sound _ 0 1000) (b .mid) (d .mid) (b .at) (d .at) (d .a) (d .first)
           ∙ ap (λ (r : List ℕ). lineOf "left=" (d .a) ++ r)
           (told .text
           ∙ ap (λ (r : List ℕ). optionalText coverText (g .a) ++ r)
-          (chain-sound (λ _. price) (λ _ _. 0) (lineOf "price=") (λ _. row-sound _ 1 1000000) n 0 (g .mid) (f .mid) (g .at) (f .at) (f .a) (f .first)
-          ∙ ap (λ (r : List ℕ). texts (lineOf "price=") (f .a) ++ r) y))));
+          (k₄ .text ∙ ap (λ (r : List ℕ). pricesText (f .a) ++ r) y))));
     })

@@ -9,3 +9,4 @@ use Rattle.lines.specs.Text.{bytes}
 -- a text that begins with no key of a part's lines that may be missing
 pub record Behind (s : List ℕ) : Type 0 where
   pub removal : startsWith (bytes "removal=") s ≡ false
+  pub base : startsWith (bytes "base=") s ≡ false

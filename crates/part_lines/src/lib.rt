@@ -7,34 +7,63 @@ use lines::rows::Cursor;
 use lines::rows::End;
 use lines::rows::Row;
 use lines::rows::advance;
+use model::OPENINGS;
+use model::PARTS;
+use price_rules::Rule;
+use price_rules::read_rule;
+use price_rules::rule_prices;
+use quotes::read_quotes;
 ghost use mathlib.Core.Path.{_≡_};
+ghost use mathlib.Core.Bool.{cond};
 ghost use Prim.Native.Nat.{ℕ, _≤_};
 ghost use lib.ListN.{drop, take};
-ghost use Rattle.lines.specs.Parser.{times, row, checked, upTo};
+ghost use Rattle.lines.specs.Parser.{row, checked, upTo};
 ghost use Rattle.lines.specs.Cursor.{Stands, LineRead, Reads, ended};
 ghost use Rattle.jobs.specs.Views.{partOf};
 ghost use Rattle.part_lines.specs.Grammar.{meantPart, afterLeft, part};
-ghost use Rattle.part_lines.specs.Views.{blankSaid, partLines, PartSeen};
-ghost use Rattle.model.specs.Limits.{longestLife, dearest, mostOpenings, mostParts};
+ghost use Rattle.part_lines.specs.Views.{pricesSaid, partLines, Unsaid, Bare, priced, PartSeen, Tabled};
+ghost use Rattle.price_rules.specs.Grammar.{prices};
+ghost use Rattle.price_rules.specs.Views.{ruleOf};
+ghost use Rattle.quotes.specs.Views.{quotesOf};
+ghost use Rattle.model.specs.Limits.{longestLife, mostOpenings, mostParts};
 
-// What a part's lines say, besides the part that they mean: whether its lines of removal stand.
+// What a part's lines say, besides the part that they mean: whether its lines of removal stand; whether its prices stand by a rule, and by which; and which of them are pairs, with the low ends of these.
 pub struct PartSaid {
     pub covered: bool,
+    pub ruled: bool,
+    pub rule: Rule,
+    pub banded: [bool; OPENINGS],
+    pub lows: [u32; OPENINGS],
 }
 
 impl PartSaid {
     // What stands where no part is read.
     pub fn nothing() -> PartSaid
-        ensures { λ r. ⌜ r ≡ blankSaid ⌝ }
+        ensures { λ r. ⌜ Unsaid r ⌝ }
     {
-        PartSaid { covered: false }
+        let rule = Rule {
+            base: 0,
+            drop: 0,
+            least: 0,
+        };
+        PartSaid {
+            covered: false,
+            ruled: false,
+            rule,
+            banded: [false; OPENINGS],
+            lows: [0u32; OPENINGS],
+        }
     }
 }
 
-// Prices read, and where they end.
+// A part's prices read: a rule where its lines stand, else those that are listed, with marks of the pairs and their low ends; and where they end.
 pub struct PriceLines {
     pub end: End,
-    pub prices: [u32; 64],
+    pub ruled: bool,
+    pub rule: Rule,
+    pub banded: [bool; OPENINGS],
+    pub lows: [u32; OPENINGS],
+    pub prices: [u32; OPENINGS],
 }
 
 // A part read: what its lines say and mean, and where they end.
@@ -46,7 +75,7 @@ pub struct PartRead {
 
 // What is left of a part's first life: no more than its life, else fault 5.
 fn read_left(s: &[u8], life: u32) -> Field
-    ensures { λ r. ⌜ LineRead (checked 5 (upTo life) (row "left=" 1 longestLife)) (now (s .entry)) r ⌝ }
+    ensures { λ r. ⌜ LineRead (checked 5 (upTo life) (row "left=" 0 longestLife)) (now (s .entry)) r ⌝ }
 {
     match read_field(s, b"left=", Part::MIN_LEFT, Part::MAX_LEFT) {
         Field::Value {
@@ -65,60 +94,65 @@ fn read_left(s: &[u8], life: u32) -> Field
     }
 }
 
-// One price.
-fn read_price(s: &[u8]) -> Field
-    ensures { λ r. ⌜ LineRead (row "price=" 1 dearest) (now (s .entry)) r ⌝ }
+// How many prices are listed: one for each of n openings, and none where there is a rule.
+pub fn list_length(ruled: bool, n: usize) -> usize
+    ensures { λ r. ⌜ r ≡ cond ruled 0 n ⌝ }
 {
-    read_field(s, b"price=", Part::MIN_PRICE, Part::MAX_PRICE)
+    if ruled { 0 } else { n }
 }
 
-// The prices of a part, n of them.
-fn read_prices(text: &[u8], p: Cursor, n: usize) -> PriceLines
+// A part's prices: a rule where its lines stand, else n listed ones.
+fn read_price_lines(text: &[u8], p: Cursor, n: usize) -> PriceLines
     requires { ⌜ Stands (now text) p × (n ≤ mostOpenings) ⌝ }
-    ensures { λ r. ⌜ Reads (now (text .entry)) (ended (r .end) (take n (r .prices))) (times n (row "price=" 1 dearest) (drop (p .at) (now (text .entry))) (p .line)) ⌝ }
+    ensures { λ r. ⌜ Reads (now (text .entry)) (ended (r .end) (pricesSaid (r .ruled) (ruleOf (r .rule)) (quotesOf (r .banded) (r .lows) (take n (r .prices))))) (prices n (drop (p .at) (now (text .entry))) (p .line)) ⌝ }
 {
-    let mut prices = [0u32; 64];
-    let mut q = p;
-    let mut i: usize = 0;
-    while i < n {
-        let at = q.at;
-        let field = read_price(&text[at..]);
-        match advance(text, q, field) {
-            Row::Value(v, r) => {
-                prices[i] = v;
-                q = r;
-                i += 1;
-            }
-            Row::Fault { number: k, line: l } => {
-                return PriceLines {
-                    end: End::Fault { number: k, line: l },
-                    prices,
-                };
+    let lines = read_rule(text, p);
+    let ruled = lines.there;
+    let rule = lines.rule;
+    let lines_end = lines.end;
+    match lines_end {
+        End::At(q) => {
+            let read = read_quotes(text, q, list_length(ruled, n));
+            let end = read.end;
+            let banded = read.banded;
+            let lows = read.lows;
+            let prices = read.highs;
+            PriceLines {
+                end,
+                ruled,
+                rule,
+                banded,
+                lows,
+                prices,
             }
         }
-    }
-    PriceLines {
-        end: End::At(q),
-        prices,
+        End::Fault { number: k, line: l } => PriceLines {
+            end: End::Fault { number: k, line: l },
+            ruled,
+            rule,
+            banded: [false; OPENINGS],
+            lows: [0u32; OPENINGS],
+            prices: [0u32; OPENINGS],
+        },
     }
 }
 
 // What stands where no part is read: removal 0 and no holders, which no line says.
 pub fn blank_part() -> Part
-    ensures { λ r. ⌜ ((n : ℕ) → meantPart (partLines blankSaid (partOf n r)) ≡ partOf n r) ⌝ }
+    ensures { λ r. ⌜ Bare r ⌝ }
 {
     Part {
         life: 0,
         left: 0,
         removal: 0,
-        holders: [false; 16],
-        prices: [0u32; 64],
+        holders: [false; PARTS],
+        prices: [0u32; OPENINGS],
     }
 }
 
 // A part that was not read.
 fn no_part(k: u32, line: usize) -> PartRead
-    ensures { λ r. ⌜ (r .end ≡ End.Fault k line) × ((n : ℕ) → meantPart (partLines (r .said) (partOf n (r .part))) ≡ partOf n (r .part)) ⌝ }
+    ensures { λ r. ⌜ (r .end ≡ End.Fault k line) × ((n : ℕ) → meantPart n (partLines (r .said) (partOf n (r .part))) ≡ priced n (r .said) (partOf n (r .part))) ⌝ }
 {
     let part = blank_part();
     let said = PartSaid::nothing();
@@ -129,7 +163,7 @@ fn no_part(k: u32, line: usize) -> PartRead
     }
 }
 
-// What follows the life of part k of m and what is left of it: the lines of removal, where they stand, and n prices.
+// What follows the life of part k of m and what is left of it: the lines of removal, where they stand, and a rule or n prices.
 fn read_after_left(
     text: &[u8],
     p: Cursor,
@@ -146,8 +180,12 @@ fn read_after_left(
     let lines_end = lines.end;
     match lines_end {
         End::At(q) => {
-            let read = read_prices(text, q, n);
+            let read = read_price_lines(text, q, n);
             let end = read.end;
+            let ruled = read.ruled;
+            let rule = read.rule;
+            let banded = read.banded;
+            let lows = read.lows;
             let prices = read.prices;
             let covered = lines.there;
             let cover = lines.cover;
@@ -155,7 +193,13 @@ fn read_after_left(
             let holders = cover.holders;
             PartRead {
                 end,
-                said: PartSaid { covered },
+                said: PartSaid {
+                    covered,
+                    ruled,
+                    rule,
+                    banded,
+                    lows,
+                },
                 part: Part {
                     life,
                     left,
@@ -187,4 +231,45 @@ pub fn read_part(text: &[u8], p: Cursor, m: u32, n: usize, k: u32) -> PartRead
         }
         Row::Fault { number: j, line: l } => no_part(j, l),
     }
+}
+
+// A part with the prices of its rule at n openings, where it has one.
+fn with_rule(said: PartSaid, part: Part, n: usize) -> Part
+    requires { ⌜ n ≤ mostOpenings ⌝ }
+    ensures { λ r. ⌜ partOf n r ≡ priced n said (partOf n part) ⌝ }
+{
+    if !said.ruled {
+        return part;
+    }
+    let prices = rule_prices(said.rule, n);
+    let holders = part.holders;
+    Part {
+        life: part.life,
+        left: part.left,
+        removal: part.removal,
+        holders,
+        prices,
+    }
+}
+
+// The generator: of the first m parts, those with a rule get its prices at n openings.
+pub fn put_rule_prices(
+    said: [PartSaid; PARTS],
+    parts: [Part; PARTS],
+    m: usize,
+    n: usize,
+) -> [Part; PARTS]
+    requires { ⌜ (m ≤ mostParts) × (n ≤ mostOpenings) ⌝ }
+    ensures { λ r. ⌜ Tabled m n said parts r ⌝ }
+{
+    let mut table = parts;
+    let mut q: usize = 0;
+    while q < m {
+        let part = table[q];
+        let lines = said[q];
+        let next = with_rule(lines, part, n);
+        table[q] = next;
+        q += 1;
+    }
+    table
 }

@@ -1,3 +1,5 @@
+mod Lending
 pub mod Prefix
+mod Reading
 pub mod Sizes
 pub mod Taken

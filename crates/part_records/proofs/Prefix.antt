@@ -1,5 +1,5 @@
 -- The first k elements of a local array are lent as a slice and come back: steps of a walk that makes `&a[..k]`, by cutting the array's cells in two and lending the first ones.
--- They hold for every type R of plain data, and an array of n of them.
+-- The steps hold for every type R of plain data, and an array of n of them.
 --     array-in        the cell of a local that holds the array is the array in memory
 --     lends-prefix    the array in memory gives the slice of its first k elements, for the lifetime κ, and what the lender keeps
 --     prefix-back     once κ has ended, what the lender keeps is the local's room again
@@ -52,6 +52,7 @@ module _ {M : Type 1} (𝓤 : URA M) (H : Heap 𝓤) (A : Atoms 𝓤) (W : Given
     abbrev pub Kept : Fml
     Kept = fsep (flent κ (partsF R (take k xs) b zero)) (restF R k xs b)
 
+    -- what the array's local becomes: the slice of the first k, and what the lender keeps
     abbrev pub Lends : GName → Fml
     Lends γ = fsep (Slice γ) Kept
 

@@ -1,5 +1,5 @@
 -- One record of a lent slice of records is looked at in memory, and the slice is shut again: two steps of a walk, by the kit's steps for an element of a slice.
--- They hold for every struct of plain data: D is the struct's type, L its laws.
+-- Both steps hold for every struct of plain data: D is the struct's type, L its laws.
 --     rec-out     the lifetime's token and what the slice owns give a share of record i's cell, with its machine value written out, and `Held`
 --     rec-back    these give the token and what the slice owns back
 use Prim.Native.Nat.{ℕ, _<_}

@@ -11,6 +11,7 @@ use Rattle.plan_costs.proofs.Removed.{removals-most}
 use Rattle.plan_costs.specs.Dearest.{dearestPlan}
 
 module _ (job : Job) (valid : ValidJob job) (plan : Plan) where
+  -- no plan of a valid job costs more than all fees, prices and removals at their dearest
   pub cost-most : costOf job plan ≤ dearestPlan
   cost-most =
       omega (

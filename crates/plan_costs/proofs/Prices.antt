@@ -14,9 +14,11 @@ use Rattle.jobs.specs.Valid.{All, ValidPart}
 use Rattle.plan_costs.specs.Dearest.{dearestSum}
 use Rattle.plan_costs.proofs.Sums.{all-drop, sum-most, cheap-prices}
 
+-- the prices of one valid part's changes come to at most 64000000
 pub part-most : (n : ℕ) → n ≤ 64 → (p : model.Part) (c : List Bool) → ValidPart n p → sumAt (p .prices) c ≤ dearestSum
 part-most n few p c h = omega (arith, sum-most (p .prices) c (cheap-prices (p .prices) (h .prices)), h .priced)
 
+-- the prices of some valid parts' changes come to at most 64000000 for each part
 pub prices-most : (n : ℕ) → n ≤ 64 → (ps : List model.Part) (cs : List (List Bool)) → All (ValidPart n) ps → pricesOf ps cs ≤ dearestSum * length ps
 prices-most n few [] cs h = omega arith
 prices-most n few (p ∷ ps) [] h = omega arith
@@ -27,10 +29,12 @@ module _ (ps : List model.Part) (cs : List (List Bool)) where
   abbrev pub Priced : ℕ → ℕ → Type 0
   Priced k sum = sum ≡ pricesOf (drop k ps) (drop k cs)
 
+  -- past the last part there are no prices left to sum
   pub priced-none : (k : ℕ) → length ps ≤ k → Priced k 0
   priced-none k h = rw (drop-of-length-le ps {i = k} h)
 
   module _ (k sum : ℕ) (s : Priced k sum) where
+    -- one part's changes added give the prices of the parts from one place before on
     pub priced-more : (next : ℕ) → 0 < k → k ≤ length ps → k ≤ length cs → next ≡ sum + sumAt (getD ps (k - 1) noPart .prices) (getD cs (k - 1) []) → Priced (k - 1) next
     priced-more next z g h e =
         let q : k ≡ suc (k - 1) = omega arith in
@@ -39,5 +43,6 @@ module _ (ps : List model.Part) (cs : List (List Bool)) where
         ap₂ pricesOf (drop-cons ps (k - 1) noPart (omega arith)) (drop-cons cs (k - 1) [] (omega arith)) in
         omega (arith, e, t, u)
 
+    -- the prices of the parts from k on are at most those of sixteen parts at their dearest
     pub priced-most : (n : ℕ) → n ≤ 64 → All (ValidPart n) ps → length ps ≤ 16 → sum ≤ dearestSum * 16
     priced-most n few v h = omega (arith, s, prices-most n few (drop k ps) (drop k cs) (all-drop (ValidPart n) k ps v), length-drop k ps)

@@ -69,10 +69,12 @@ module _ (job : Job) (m n : ℕ) (changes : List Changes) where
 abbrev pub Paid : ℕ → (ℕ → ℕ) → ℕ → ℕ → Type 0
 Paid n f k paid = paid ≡ sum k (n - k) f
 
+-- past the last opening nothing is paid for removals
 pub paid-none : (n : ℕ) (f : ℕ → ℕ) → Paid n f n 0
 unfolding sum
 paid-none n f = let z : 0 ≡ n - n = omega arith in ap (λ (c : ℕ). sum n c f) z
 
+-- what opening k - 1 pays, added, gives what is paid from there on
 pub paid-more : (n : ℕ) (f : ℕ → ℕ) (k paid next : ℕ) → 0 < k → k ≤ n → next ≡ paid + f (k - 1) → Paid n f k paid → Paid n f (k - 1) next
 unfolding sum
 paid-more n f k paid next z h e p =
@@ -81,6 +83,7 @@ paid-more n f k paid next z h e p =
     let step : sum (k - 1) (n - (k - 1)) f ≡ f (k - 1) + sum k (n - k) f = ap (λ (c : ℕ). sum (k - 1) c f) q ∙ ap (λ (from : ℕ). f (k - 1) + sum from (n - k) f) s in
     omega (arith, e, p, step)
 
+-- back at the first opening, what is paid is the sum over all openings
 pub paid-all : (n : ℕ) (f : ℕ → ℕ) (k paid : ℕ) → k ≡ 0 → Paid n f k paid → paid ≡ sum 0 n f
 paid-all n f k paid z p = p ∙ (let w : n - k ≡ n = omega (arith, z) in λ i. sum (z i) (w i) f)
 

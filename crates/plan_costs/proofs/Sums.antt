@@ -13,6 +13,7 @@ use Rattle.model.specs.Limits.{dearest}
 use Rattle.jobs.specs.Valid.{All, ValidOpening, ValidPrice, ValidPart}
 use Rattle.plan_costs.specs.Dearest.{dearestSum, Cheap}
 
+-- what holds of each member of a list holds of those from place k on
 pub all-drop : {A : Type 0} (P : A → Type 0) (k : ℕ) (l : List A) → All P l → All P (drop k l)
 all-drop P zero l h = h
 all-drop P (suc k) [] h = tt
@@ -26,9 +27,11 @@ all-map P Q f g (x ∷ l) h = (g x (h .0), all-map P Q f g l (h .1))
 pub cheap-fees : (os : List Opening) → All ValidOpening os → Cheap (map feeOf os)
 cheap-fees = all-map ValidOpening (λ (n : ℕ). n ≤ dearest) feeOf (λ o h. h .fee)
 
+-- no removal of a valid job's parts is above the highest that the text allows
 pub cheap-removals : (n : ℕ) (ps : List Part) → All (ValidPart n) ps → Cheap (map removalOf ps)
 cheap-removals n = all-map (ValidPart n) (λ (x : ℕ). x ≤ dearest) removalOf (λ p h. omega (arith, h .removal))
 
+-- no price of a valid part is above the highest that the text allows
 pub cheap-prices : (ns : List ℕ) → All ValidPrice ns → Cheap ns
 cheap-prices [] h = tt
 cheap-prices (n ∷ ns) h = (h .0 .1, cheap-prices ns (h .1))
@@ -50,6 +53,7 @@ sum-take (n ∷ ns) (true ∷ cs) zero h e = refl
 sum-take (n ∷ ns) (false ∷ cs) zero h e = absurd (false≢true e)
 sum-take (n ∷ ns) (c ∷ cs) (suc i) h e = sum-take ns cs i (omega arith) e
 
+-- a sum at a set is at most the highest number for each place
 pub sum-most : (ns : List ℕ) (cs : List Bool) → Cheap ns → sumAt ns cs ≤ dearest * length ns
 unfolding sumAt
 sum-most ns [] h = omega arith
@@ -62,19 +66,23 @@ module _ (ns : List ℕ) (cs : List Bool) where
   abbrev pub Summed : ℕ → ℕ → Type 0
   Summed k sum = sum ≡ sumAt (drop k ns) (drop k cs)
 
+  -- past the last opening there is nothing left to sum
   pub summed-none : (k : ℕ) → length ns ≤ k → Summed k 0
   summed-none k h = rw (drop-of-length-le ns {i = k} h) (sym (sum-none (drop k cs)))
 
   module _ (k sum : ℕ) (s : Summed k sum) where
+    -- an opening outside the set leaves the sum from there on as it was
     pub summed-skip : 0 < k → getD cs (k - 1) false ≡ false → Summed (k - 1) sum
     summed-skip h e =
         let q : k ≡ suc (k - 1) = omega arith in
         subst (λ (i : ℕ). sum ≡ sumAt (drop i ns) (drop i cs)) q s ∙ sym (sum-skip ns cs (k - 1) e)
 
+    -- an opening of the set adds its number to the sum from there on
     pub summed-take : (next : ℕ) → 0 < k → k ≤ length ns → getD cs (k - 1) false ≡ true → next ≡ getD ns (k - 1) 0 + sum → Summed (k - 1) next
     summed-take next h g e n =
         let q : k ≡ suc (k - 1) = omega arith in
         n ∙ ap (λ (x : ℕ). getD ns (k - 1) 0 + x) (subst (λ (i : ℕ). sum ≡ sumAt (drop i ns) (drop i cs)) q s) ∙ sym (sum-take ns cs (k - 1) (omega arith) e)
 
+    -- a sum over sixty-four places at most, from k on, is at most 64000000
     pub summed-most : length ns ≤ 64 → Cheap ns → sum ≤ dearestSum
     summed-most h c = omega (arith, s, sum-most (drop k ns) (drop k cs) (all-drop (λ (n : ℕ). n ≤ dearest) k ns c), length-drop k ns)

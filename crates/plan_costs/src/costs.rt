@@ -5,6 +5,7 @@ use crate::summing::sum_at;
 use jobs::Job;
 use jobs::Part;
 use jobs::Plan;
+use model::OPENINGS;
 use part_records::part_of;
 ghost use mathlib.Core.Path.{_≡_};
 ghost use mathlib.Core.List.{map};
@@ -16,7 +17,7 @@ ghost use Rattle.jobs.specs.Valid.{ValidPart, Sound};
 ghost use Rattle.model.specs.Limits.{mostOpenings};
 
 // The fees of the stops.
-fn fees_of(job: Job, stops: [bool; 64]) -> u64
+fn fees_of(job: Job, stops: [bool; OPENINGS]) -> u64
     requires { ⌜ Sound job ⌝ }
     ensures { λ r. ⌜ r ≡ sumAt (map feeOf (jobOf job .openings)) (take (job .«opening_count») stops) ⌝ }
 {
@@ -33,7 +34,7 @@ fn fees_of(job: Job, stops: [bool; 64]) -> u64
 }
 
 // The prices of one part's changes, at the first n openings.
-fn part_prices(n: usize, part: Part, changes: [bool; 64]) -> u64
+fn part_prices(n: usize, part: Part, changes: [bool; OPENINGS]) -> u64
     requires { ⌜ (n ≤ mostOpenings) × ValidPart n (partOf n part) ⌝ }
     ensures { λ r. ⌜ r ≡ sumAt (take n (part .prices)) (take n changes) ⌝ }
 {

@@ -7,6 +7,8 @@ use coming_out::union;
 use jobs::Changes;
 use jobs::Job;
 use jobs::Plan;
+use model::PAIRS;
+use model::PARTS;
 ghost use mathlib.Core.Path.{_≡_};
 ghost use mathlib.Core.Bool.{false};
 ghost use Prim.Native.Nat.{_≤_, _<_};
@@ -22,13 +24,13 @@ ghost use Rattle.plan_costs.specs.Dearest.{Cheap};
 ghost use Rattle.jobs.specs.Views.{blankChanges};
 
 // The parts that are changed at opening k.
-fn changed_at(changes: [Changes; 16], k: usize) -> [bool; 16]
+fn changed_at(changes: [Changes; PARTS], k: usize) -> [bool; PARTS]
     requires { ⌜ k < mostOpenings ⌝ }
     ensures { λ r. ⌜ Row false (table (λ i. getD (getD changes i blankChanges .at) k false) mostParts) r ⌝ }
 {
-    let mut row = [false; 16];
+    let mut row = [false; PARTS];
     let mut i: usize = 0;
-    while i < 16 {
+    while i < PARTS {
         let changed = changes[i];
         let at = changed.at;
         row[i] = at[k];
@@ -38,7 +40,13 @@ fn changed_at(changes: [Changes; 16], k: usize) -> [bool; 16]
 }
 
 // What is paid for removals at the first n openings, where m parts come out by these rows.
-pub fn removals_at(outs: &[bool; 256], m: usize, removals: [u32; 16], plan: Plan, n: usize) -> u64
+pub fn removals_at(
+    outs: &[bool; PAIRS],
+    m: usize,
+    removals: [u32; PARTS],
+    plan: Plan,
+    n: usize,
+) -> u64
     requires { ⌜ (m ≤ mostParts) × (n ≤ mostOpenings) × Cheap (take m removals) ⌝ }
     ensures { λ r. ⌜ ((job : model.Job) → length (job .parts) ≡ m → length (job .openings) ≡ n → Rows m (comesOut job) (now (outs .entry)) → Removals job removals
         → r ≡ removalsOf job (changesOf n m (plan .changes))) ⌝ }
@@ -49,7 +57,7 @@ pub fn removals_at(outs: &[bool; 256], m: usize, removals: [u32; 16], plan: Plan
     while 0 < k {
         k -= 1;
         let changed = changed_at(changes, k);
-        let out = union(outs, m, [false; 16], changed);
+        let out = union(outs, m, [false; PARTS], changed);
         sum += sum_at(m, &removals, &out);
     }
     sum
@@ -63,7 +71,7 @@ pub fn removals_paid(job: Job, plan: Plan) -> u64
     let n = job.opening_count;
     let m = job.part_count;
     let removals = removals_of(job);
-    let all = [true; 16];
+    let all = [true; PARTS];
     if sum_at(m, &removals, &all) == 0 {
         return 0;
     }

@@ -49,6 +49,7 @@ pub record Lines (job : Job) (s s′ : List ℕ) (stated : Stated) : Type 0 wher
   pub valid : Valid job stated
   pub text : s ≡ planText (stated .cost) (valid .vs) ++ s′
 
+-- plan lines that were read state what valid visits make, and are the text of these
 pub lines-tell : (job : Job) (s s′ : List ℕ) (l l′ : ℕ) (stated : Stated) → planLines job s l ≡ good stated s′ l′ → Lines job s s′ stated
 unfolding planLines visits return planText
 lines-tell job s s′ l l′ stated e =

@@ -31,8 +31,11 @@ use Rattle.plan_grammar.proofs.Steps.{noOpening, step-is, step-rises}
 module _ {A : Type 0} (key : A → ℕ) where
   -- x is one of f 0, .. f (n - 1), and later than the one before
   pub record Found (f : ℕ → A) (n before : ℕ) (x : A) : Type 0 where
+    -- the member's key is above that of the one before it
     pub later : before < key x
+    -- the place at which f has the member x
     pub i : ℕ
+    -- the place is one of the first n, at which f is looked at
     pub inside : i < n
     pub is : f i ≡ x
 
@@ -54,6 +57,7 @@ module _ {A : Type 0} (key : A → ℕ) where
       go zero l e = absurd (omega (arith, c .0 .later, ap key e))
       go (suc i) l e = record { later = c .0 .later; i = i; inside = omega arith; is = e }
 
+  -- a rising list of values of f is what the test for its members chooses of them
   pub chosen-is : (n : ℕ) (test : ℕ → Bool) (f : ℕ → A) (before : ℕ) (xs : List A)
       → ((i j : ℕ) → i < j → j < n → key (f i) < key (f j)) → Chained (Found f n) (λ _. key) before xs
       → ((i : ℕ) → i < n → test i ≡ has xs (key (f i))) → chosen test f n ≡ xs

@@ -14,6 +14,7 @@ use Rattle.plan_grammar.proofs.Steps.{step-is}
 use Rattle.plan_grammar.proofs.Lists.{any-at, any-none}
 
 module _ (job : Job) (sized : Sized job) (whole : Whole job) where
+  -- the step of opening i in the model's job is that of the struct's opening i
   pub step-at : (i : ℕ) → i < job .«opening_count» → stepAt (jobOf job) i ≡ openingAt job i .step
   step-at i h = step-is (jobOf job) i ∙ ap (λ (o : model.Opening). o .step) (opening-at job sized whole i h)
 

@@ -75,6 +75,7 @@ visits-short job plan steps m =
 
 -- ---- the plan
 
+-- the lines of a plan within the texts' limits are no longer than `longest`
 pub plan-short : (job : Job) (cost : ℕ) (plan : Plan) → cost < 10000000000 → length (job .openings) ≤ 64 → ((i : ℕ) → stepAt job i < 1000) → length (plan .changes) ≤ 16
     → length (planLinesOf job cost plan) ≤ longest
 unfolding planLinesOf planText visitsOf

@@ -14,12 +14,14 @@ use Rattle.plan_grammar.specs.Grammar.{any, table}
 -- ---- some element passes, or none does
 
 module _ {A : Type 0} (test : A → Bool) where
+  -- if what stands at some place passes a test, then something in the list does
   pub any-at : (xs : List A) (d : A) (i : ℕ) → i < length xs → test (getD xs i d) ≡ true → any test xs ≡ true
   unfolding any
   any-at [] d i h e = absurd (omega arith)
   any-at (x ∷ xs) d zero h e = rw (any, e)
   any-at (x ∷ xs) d (suc i) h e = rw (any, any-at xs d i (omega arith) e) (or-true (test x))
 
+  -- if nothing at any place passes a test, then nothing in the list does
   pub any-none : (xs : List A) (d : A) → ((i : ℕ) → i < length xs → test (getD xs i d) ≡ false) → any test xs ≡ false
   unfolding any
   any-none [] d h = refl
@@ -35,11 +37,13 @@ module _ {A : Type 0} (test : A → Bool) where
       go true f rest = (0, omega arith, f)
       go false f rest = let r = rest (rw (any, f) at e) in (suc (r .0), omega (arith, r .1), r .2)
 
+  -- something in two joined lists passes exactly if something in one of them does
   pub any-append : (xs ys : List A) → any test (xs ++ ys) ≡ (any test xs || any test ys)
   unfolding any
   any-append [] ys = refl
   any-append (x ∷ xs) ys = rw (any, any-append xs ys) (sym (or-assoc (test x) (any test xs) (any test ys)))
 
+  -- with one element more, something passes if something before did or it does
   pub any-snoc : (xs : List A) (x : A) → any test (xs ++ x ∷ []) ≡ (any test xs || test x)
   unfolding any
   any-snoc xs x = any-append xs (x ∷ []) ∙ ap (λ (b : Bool). any test xs || b) (or-false (test x))
@@ -66,14 +70,17 @@ module _ {A : Type 0} where
           go false q = let p = eqb-false i j q in getD-set-other (table f n) j i x x p ∙ table-at f n i x l ∙ o i l p
 
 module _ {A B : Type 0} (f : A → B) where
+  -- a mapped list is the table of the function's values at its places
   pub map-table : (xs : List A) (d : A) → map f xs ≡ table (λ i. f (getD xs i d)) (length xs)
   map-table xs d = table-is (map f xs) (f d) (λ i. f (getD xs i d)) (length xs) (length-map xs f) (λ i h. List·getD-map f xs i d)
 
+  -- a mapped list with one entry replaced is the mapped list with that entry's value replaced
   pub map-set : (xs : List A) (i : ℕ) (x : A) → map f (set xs i x) ≡ set (map f xs) i (f x)
   map-set [] i x = refl
   map-set (y ∷ xs) zero x = refl
   map-set (y ∷ xs) (suc i) x = ap (λ (zs : List B). f y ∷ zs) (map-set xs i x)
 
+-- a list mapped to one value is that value repeated as often
 pub map-constant : {A B : Type 0} (xs : List A) (b : B) → map (λ (x : A). b) xs ≡ replicate (length xs) b
 map-constant [] b = refl
 map-constant (x ∷ xs) b = ap (λ (ys : List _). b ∷ ys) (map-constant xs b)

@@ -17,6 +17,7 @@ pub fault-some : (n : ℕ) → PlanFault n → 1 ≤ n
 fault-some n (inl k) = k .0
 fault-some n (inr k) = omega (arith, k)
 
+-- a plan text's fault is no number above 3 other than 9
 pub fault-else : (n i : ℕ) → PlanFault n → 3 < i → (i ≡ 9 → ⊥) → n ≡ i → ⊥
 fault-else n i (inl k) l m e = omega (arith, k)
 fault-else n i (inr k) l m e = m (sym e ∙ k)
@@ -31,6 +32,7 @@ visit-numbers job before =
     (λ step. bind-numbers PlanFault _ _ (line-numbers _ 0 16)
     (λ n. bind-numbers PlanFault _ _ (chain-numbers PlanFault (part (length (job .parts))) _ (λ k. checked-numbers PlanFault 9 (inr refl) _ _ (line-numbers _ 1 16)) n 0) (λ ks. return-numbers PlanFault _)))
 
+-- a fault in a plan's lines is number 1, 2, 3 or 9, on a line of the text or the next
 pub lines-numbers : (job : Job) → Numbers PlanFault (planLines job)
 unfolding planLines visits
 lines-numbers job =

@@ -93,6 +93,7 @@ chosen-chained {A} P key (suc n) test f before rise low each =
 is-opening : (job : Job) (i : ℕ) → i < length (job .openings) → isOpening job (stepAt job i) ≡ true
 is-opening job i h = any-at (λ (o : Opening). eqb (o .step) (stepAt job i)) (job .openings) noOpening i h (eq-eqb _ (stepAt job i) (sym (step-is job i)))
 
+-- the visits of a plan of a valid job's shape are valid visits
 pub visits-valid : (job : Job) → ValidJob job → (plan : Plan) → Shaped job plan → ValidVisits job (visitsOf job plan)
 unfolding visitsOf
 visits-valid job ok plan shape = record {

@@ -18,16 +18,20 @@ use mathlib.Core.Bool.{Bool}
 abbrev pub noOpening : Opening
 noOpening = record { step = 0; fee = 0 }
 
+-- the step of opening i is the step of the job's opening there, 0 past the end
 pub step-is : (job : Job) (i : ℕ) → stepAt job i ≡ getD (job .openings) i noOpening .step
 step-is job i = List·getD-map (λ (o : Opening). o .step) (job .openings) i noOpening
 
 module _ (job : Job) (v : ValidJob job) where
+  -- the step of an opening of a valid job is at most 365
   pub step-high : (i : ℕ) → i < length (job .openings) → stepAt job i ≤ 365
   step-high i h = omega (arith, step-is job i, all-at ValidOpening (job .openings) noOpening i (v .openings) h .step-high)
 
+  -- the step of an opening of a valid job is at least 1
   pub step-low : (i : ℕ) → i < length (job .openings) → 0 < stepAt job i
   step-low i h = rising-above (job .horizon) 0 (stepsOf (job .openings)) (v .rising) i (rw (length-map (job .openings) (λ (o : Opening). o .step)) h)
 
+  -- of two openings of a valid job, the later has the later step
   pub step-rises : (i j : ℕ) → i < j → j < length (job .openings) → stepAt job i < stepAt job j
   step-rises i j k h = rising-rises (job .horizon) 0 (stepsOf (job .openings)) (v .rising) i j k (rw (length-map (job .openings) (λ (o : Opening). o .step)) h)
 

@@ -7,17 +7,19 @@ use jobs::Part;
 use jobs::Plan;
 use least::in_reach;
 use least::last_change;
+use model::OPENINGS;
 use part_records::part_of;
 ghost use mathlib.Core.Path.{_≡_};
 ghost use lib.ListN.{take};
 ghost use lib.IntN.{pos};
-ghost use Rattle.model.specs.Verdict.{lateOf, ruled, verdictOf};
+ghost use Rattle.model.specs.Model.{lastChange, positions, select};
+ghost use Rattle.model.specs.Verdict.{lastOf, ruled, verdictOf};
 ghost use Rattle.model.specs.Verdict as model;
 ghost use Rattle.jobs.specs.Views.{jobOf, partOf, planFor};
 ghost use Rattle.jobs.specs.Valid.{ValidPart, Sound};
-ghost use Rattle.clock.specs.Placed.{Placed};
+ghost use Rattle.clock.specs.Placed.{Position, Begins, Placed};
 ghost use Rattle.plan_lives.specs.Views.{modelGaps, modelVerdict};
-ghost use Rattle.plan_lives.specs.Steps.{GapGiven, gapOf, firstLong, lowerPart};
+ghost use Rattle.plan_lives.specs.Steps.{GapGiven, gapOf, firstLong, lowerPart, lateTo, verdictTo};
 
 // Every gap of a part's changes is within its life, or the due step at the first that is too long.
 pub enum Gaps {
@@ -53,10 +55,24 @@ fn first_long(a: Gaps, b: Gaps) -> Gaps
     }
 }
 
-// A part's first gap that is too long. The change before begins at or below zero.
-pub fn late_of(job: Job, positions: Positions, part: Part, changes: [bool; 64]) -> Gaps
-    requires { ⌜ Sound job × Placed (jobOf job) positions × ValidPart (job .«opening_count») (partOf (job .«opening_count») part) ⌝ }
-    ensures { λ r. ⌜ modelGaps r ≡ lateOf (jobOf job) (partOf (job .«opening_count») part) (take (job .«opening_count») changes) ⌝ }
+// What a part's changes come to up to a position: the first gap that is too long, and the last change.
+pub struct Followed {
+    pub late: Gaps,
+    pub last: i32,
+}
+
+// A part's changes, followed up to the position `to`. The change before begins at or below zero.
+pub fn late_to(
+    job: Job,
+    places: Positions,
+    part: Part,
+    changes: [bool; OPENINGS],
+    to: i32,
+) -> Followed
+    requires { ⌜ Sound job × Placed (jobOf job) places × ValidPart (job .«opening_count») (partOf (job .«opening_count») part) × Position to ⌝ }
+    ensures { λ r. ⌜ (modelGaps (r .late) ≡ lateTo (jobOf job) to (partOf (job .«opening_count») part) (take (job .«opening_count») changes))
+        × (r .last ≡ lastOf (lastChange (partOf (job .«opening_count») part)) (select (positions (jobOf job)) (take (job .«opening_count») changes)))
+        × Begins (part .life) (r .last) ⌝ }
 {
     let n = job.opening_count;
     let life = part.life;
@@ -65,13 +81,16 @@ pub fn late_of(job: Job, positions: Positions, part: Part, changes: [bool; 64]) 
     let mut i: usize = 0;
     while i < n {
         if changes[i] {
-            let next = positions.at[i];
+            let next = places.at[i];
             late = first_long(late, gap(job, life, prev, next));
             prev = next;
         }
         i += 1;
     }
-    first_long(late, gap(job, life, prev, positions.end))
+    Followed {
+        late: first_long(late, gap(job, life, prev, to)),
+        last: prev,
+    }
 }
 
 // Part number `part` where its gaps are not all in time.
@@ -94,12 +113,11 @@ fn lower_part(a: Verdict, b: Verdict) -> Verdict
     }
 }
 
-// The lowest part that is late, and its due step.
-pub fn verdict_of(job: Job, plan: Plan) -> Verdict
-    requires { ⌜ Sound job ⌝ }
-    ensures { λ r. ⌜ modelVerdict r ≡ verdictOf (jobOf job) (planFor job plan) ⌝ }
+// The lowest part that is late up to the position `to`, and its due step.
+pub fn verdict_to(job: Job, positions: Positions, plan: Plan, to: i32) -> Verdict
+    requires { ⌜ Sound job × Placed (jobOf job) positions × Position to ⌝ }
+    ensures { λ r. ⌜ modelVerdict r ≡ verdictTo (jobOf job) to (planFor job plan) ⌝ }
 {
-    let positions = positions_of(job);
     let m = job.part_count;
     let parts = job.parts;
     let mut lowest = Verdict::Keeps;
@@ -108,9 +126,19 @@ pub fn verdict_of(job: Job, plan: Plan) -> Verdict
         let part = part_of(parts, m, k);
         let changed = plan.changes[k];
         let changes = changed.at;
-        let gaps = late_of(job, positions, part, changes);
+        let followed = late_to(job, positions, part, changes, to);
+        let gaps = followed.late;
         lowest = lower_part(lowest, late_at(k as u32 + 1, gaps));
         k += 1;
     }
     lowest
+}
+
+// The lowest part that is late, and its due step.
+pub fn verdict_of(job: Job, plan: Plan) -> Verdict
+    requires { ⌜ Sound job ⌝ }
+    ensures { λ r. ⌜ modelVerdict r ≡ verdictOf (jobOf job) (planFor job plan) ⌝ }
+{
+    let positions = positions_of(job);
+    verdict_to(job, positions, plan, positions.end)
 }

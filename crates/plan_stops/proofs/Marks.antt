@@ -52,6 +52,7 @@ module _ (job : Job) (step : ℕ) (sets : List (List Bool)) where
   abbrev setOf : List ℕ → ℕ → List Bool
   setOf ks k = cond (among ks (k + 1)) (withStep job step (getD sets k [])) (getD sets k [])
 
+  -- where no parts are marked at the step, the parts' change sets stay as they are
   pub parts-none : length sets ≡ length (job .parts) → sets ≡ withParts job step [] sets
   unfolding withParts any
   parts-none e = table-is sets [] (setOf []) (length (job .parts)) e (λ i h. refl)

@@ -9,6 +9,8 @@ use lines::rows::Cursor;
 use lines::rows::End;
 use lines::rows::Row;
 use lines::rows::advance;
+use model::OPENINGS;
+use model::PARTS;
 ghost use mathlib.Core.Path.{_≡_};
 ghost use mathlib.Core.Bool.{_||_};
 ghost use lib.Dec.{eqb};
@@ -23,7 +25,7 @@ ghost use Rattle.model.specs.Limits.{lastStep};
 // The changes so far, and where the lines of a stop's parts end.
 pub struct ChangesRead {
     pub end: End,
-    pub changes: [Changes; 16],
+    pub changes: [Changes; PARTS],
 }
 
 // A stop's step, the plan so far, and where the stop's lines end.
@@ -116,12 +118,12 @@ fn marked(was: bool, step: u32, opening: u32) -> bool
 }
 
 // The openings set before, and those at the step.
-fn mark(set: [bool; 64], job: Job, step: u32) -> [bool; 64]
+fn mark(set: [bool; OPENINGS], job: Job, step: u32) -> [bool; OPENINGS]
     requires { ⌜ Sized job ⌝ }
     ensures { λ r. ⌜ take (job .«opening_count») r ≡ withStep (jobOf job) step (take (job .«opening_count») set) ⌝ }
 {
     let n = job.opening_count;
-    let mut marks = [false; 64];
+    let mut marks = [false; OPENINGS];
     let mut i: usize = 0;
     while i < n {
         let o = job.openings[i];
@@ -138,7 +140,7 @@ fn read_changes(
     job: Job,
     n: usize,
     step: u32,
-    changes: [Changes; 16],
+    changes: [Changes; PARTS],
 ) -> ChangesRead
     requires { ⌜ Stands (now text) p × Sized job ⌝ }
     ensures { λ r. ⌜ PartsRead job step (now (text .entry)) changes r (parts (job .«part_count») n (drop (p .at) (now (text .entry))) (p .line)) ⌝ }

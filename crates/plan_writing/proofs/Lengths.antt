@@ -10,6 +10,7 @@ use Rattle.jobs.specs.Valid.{Sound}
 use Rattle.plan_grammar.specs.Rendering.{planLinesOf}
 use Rattle.plan_grammar.proofs.Lengths.{longest, valid-short}
 
+-- the lines of the code's plan for an accepted job are no longer than `longest`
 pub plan-short : (j : Job) (cost : ℕ) (p : Plan) → Sound j → cost < 10000000000 → length (planLinesOf (jobOf j) cost (planFor j p)) ≤ longest
 plan-short j cost p w small =
     valid-short (jobOf j) (w .valid) cost (planFor j p) small

@@ -10,7 +10,7 @@ ghost use Rattle.planner_program.specs.Printed.{Printed};
 pub fn plan_input(fd: i32) -> Printout
     ensures { λ r. ⌜ Printed r ⌝ }
 {
-    // One byte more than a text may have, so that a longer one is told.
+    // One byte more than a job text may have, so that a longer one is told.
     let mut job = [0u8; Job::MAX_BYTES + 1];
     let n = read_whole(fd, Text::Job, &mut job);
     let mut out = [0u8; planning::ROOM];

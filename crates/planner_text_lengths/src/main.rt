@@ -1,4 +1,4 @@
-// A run of the planner's program on an empty text, on one of 32,768 bytes, and on one of a byte more.
+// A run of the planner's program on an empty text, on one of 40,960 bytes, and on one of a byte more.
 use planner_program::plan_input;
 
 // The planner's program with a file as its input.
@@ -12,7 +12,7 @@ fn main() {
     // Number 2 on line 1, which is missing.
     plan_file(b"empty.txt");
     // A job of 24 lines with bytes after the last: number 2 on line 25.
-    plan_file(b"bytes_32768.txt");
+    plan_file(b"bytes_40960.txt");
     // The same and one byte more: number 1.
-    plan_file(b"bytes_32769.txt");
+    plan_file(b"bytes_40961.txt");
 }

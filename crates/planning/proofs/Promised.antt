@@ -81,13 +81,13 @@ module _ (text : List ℕ) (walk room : ℕ) where
     moved P r p = subst P (given-is r) p
 
     -- what is said at another walk number
-    at : (other : ℕ) → onJob text other (readJob text) ≡ saidFor (g .job) (answerOf (g .job) (walkNumber other))
+    at : (other : ℕ) → onJob text other (readJob text) ≡ saidFor g (answerOf (g .job) (walkNumber other))
     at other = ap (onJob text other) eg
 
     full : mostWalk ≤ walk → walkNumber mostWalk ≡ walkNumber walk
     full w = omega (arith, w)
 
-    read : PlanPromise text walk room (saidFor (g .job) answer)
+    read : PlanPromise text walk room (saidFor g answer)
     read = record {
       says-8 = (λ e. absurd (not-8 answer e), λ e. absurd (omega arith));
       says-6 = (λ e. (h, (here, promises .says-6 .0 e)), λ r. promises .says-6 .1 (moved (λ x. HasPlan (x .job) → ⊥) (r .1 .0) (r .1 .1)));
@@ -99,10 +99,10 @@ module _ (text : List ℕ) (walk room : ℕ) where
         λ e. (h, (here, promises .says-0 .0 e)),
         λ r. promises .says-0 .1 (moved (λ x. HasPlan (x .job) × (wholeCount (x .job) ≤ walkNumber walk)) (r .1 .0) (r .1 .1)),
       );
-      answers = λ m r. subst (λ (x : Given). Reports text walk x (saidFor (g .job) answer)) (sym (given-is r)) (record { answer = answer; promise = promises; says = refl; prints = prints text g eg (walkNumber walk) answer promises });
+      answers = λ m r. subst (λ (x : Given). Reports text walk x (saidFor g answer)) (sym (given-is r)) (record { answer = answer; promise = promises; says = refl; prints = prints text g eg (walkNumber walk) answer promises });
       job-fault = λ m n l e. not-both eg e;
-      any-walk = λ e other w. fits h other ∙ at other ∙ ap (saidFor (g .job)) (any-walk (g .job) (walkNumber walk) (promises .says-0 .0 e .1) (walkNumber other) (omega (arith, w)));
-      above = λ w. fits h mostWalk ∙ at mostWalk ∙ ap (λ (n : ℕ). saidFor (g .job) (answerOf (g .job) n)) (full w);
+      any-walk = λ e other w. fits h other ∙ at other ∙ ap (saidFor g) (any-walk (g .job) (walkNumber walk) (promises .says-0 .0 e .1) (walkNumber other) (omega (arith, w)));
+      above = λ w. fits h mostWalk ∙ at mostWalk ∙ ap (λ (n : ℕ). saidFor g (answerOf (g .job) n)) (full w);
     }
 
   on-job : planRoom ≤ room → (x : Outcome Given) → readJob text ≡ x → PlanPromise text walk room (onJob text walk x)

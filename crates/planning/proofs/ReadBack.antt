@@ -1,4 +1,4 @@
--- What the planner prints, read back: the lines behind `floor` are, by the plan grammar and against the same job, the promised plan and its cost (`reads-back`);
+-- What the planner prints, read back: the lines behind `floor`, and behind the cost at the low ends, are, by the plan grammar and against the same job, the promised plan and its cost (`reads-back`);
 -- so the judge, given the same job text and those lines, says 0 with the same cost (`judge-accepts`). By the printed lines' read-back and the best plan's acceptance.
 use Prim.Native.Nat.{ℕ}
 use mathlib.Core.Path.{_≡_, refl}
@@ -18,6 +18,7 @@ use Rattle.plan_grammar.proofs.Printed.{read-back}
 use Rattle.plan_costs.proofs.Dearest.{cost-most}
 use Rattle.answers.specs.Said.{plainly}
 use Rattle.judging.specs.Judge.{costLines, judgeSaid}
+use Rattle.plan_printing.specs.Printed.{printedLines}
 use Rattle.planning.specs.Plan.{plannedLines, saidFor}
 use Rattle.planning.specs.Promise.{Prints}
 
@@ -43,8 +44,8 @@ module _ (text : List ℕ) (given : Given) (is : readJob text ≡ accepted given
 
 -- what is written for an answer that keeps the promise: behind `floor` its plan
 module _ (text : List ℕ) (given : Given) (is : readJob text ≡ accepted given) (limit : ℕ) where
-  pub prints : (a : PlannerAnswer) → Promise (given .job) limit a → Prints text (given .job) (saidFor (given .job) a) a
-  unfolding plannedLines
+  pub prints : (a : PlannerAnswer) → Promise (given .job) limit a → Prints text given (saidFor given a) a
+  unfolding plannedLines printedLines
   prints no-plan p = tt
   prints (cut-none n f) p = refl
   prints (cut n f c q) p = record {

@@ -5,7 +5,7 @@ use mathlib.Core.List.{List, _++_}
 use mathlib.Core.Logic.{_↔_}
 use Rattle.lines.specs.Parser.{accepted, refused}
 use Rattle.model.specs.Limits.{mostWalk}
-use Rattle.model.specs.Model.{Job, Plan, HasPlan}
+use Rattle.model.specs.Model.{Plan, HasPlan}
 use Rattle.model.specs.Promise.{PlannerAnswer, no-plan, cut-none, cut, optimum, wholeCount}
 use Rattle.model.specs.Promise as model
 use Rattle.job_grammar.specs.Grammar.{Given, readJob}
@@ -13,21 +13,22 @@ use Rattle.job_grammar.specs.Reading.{Reading, jobIn}
 use Rattle.plan_grammar.specs.Grammar.{readPlan}
 use Rattle.answers.specs.Said.{Said, Refuses, plainly, lent}
 use Rattle.judging.specs.Judge.{costLines, judgeSaid}
+use Rattle.plan_printing.specs.Printed.{lowLines}
 use Rattle.planning.specs.Plan.{searchLines, saidFor, walkNumber, planSaid, planRoom}
 
--- O3, D6. what is written behind `floor` is a plan text, which read against the job says this plan and this cost, and which the judge accepts with it
-pub record PrintsPlan (text : List ℕ) (job : Job) (s : Said) (nodes floor cost : ℕ) (plan : Plan) : Type 0 where
+-- O3, D6. what is written behind `floor`, E11. and behind the cost at the low ends where the job text has a `low` line, is a plan text, which read against the job says this plan and this cost, and which the judge accepts with it
+pub record PrintsPlan (text : List ℕ) (given : Given) (s : Said) (nodes floor cost : ℕ) (plan : Plan) : Type 0 where
   pub lines : List ℕ
-  pub written : s .bytes ≡ searchLines (s .result) nodes floor ++ lines
-  pub reads-back : readPlan job lines ≡ accepted (record { cost = cost; plan = plan })
+  pub written : s .bytes ≡ searchLines (s .result) nodes floor ++ (lowLines given plan ++ lines)
+  pub reads-back : readPlan (given .job) lines ≡ accepted (record { cost = cost; plan = plan })
   pub judged : judgeSaid text lines ≡ plainly 0 (costLines 0 cost)
 
 -- of an answer with a plan; without one nothing stands behind `floor`
-abbrev pub Prints : List ℕ → Job → Said → PlannerAnswer → Type 0
-Prints text job s no-plan = Unit {0}
-Prints text job s (cut-none nodes floor) = s .bytes ≡ searchLines 7 nodes floor
-Prints text job s (cut nodes floor cost plan) = PrintsPlan text job s nodes floor cost plan
-Prints text job s (optimum nodes floor cost plan) = PrintsPlan text job s nodes floor cost plan
+abbrev pub Prints : List ℕ → Given → Said → PlannerAnswer → Type 0
+Prints text given s no-plan = Unit {0}
+Prints text given s (cut-none nodes floor) = s .bytes ≡ searchLines 7 nodes floor
+Prints text given s (cut nodes floor cost plan) = PrintsPlan text given s nodes floor cost plan
+Prints text given s (optimum nodes floor cost plan) = PrintsPlan text given s nodes floor cost plan
 
 -- D6. the answer s is written and handed over for an answer of the model that keeps every clause of the model's promise:
 -- 6, 7 and 0 exactly when they are due, nodes, floor, and of a plan that it keeps every life, states its true cost, is least over all plans
@@ -35,8 +36,8 @@ Prints text job s (optimum nodes floor cost plan) = PrintsPlan text job s nodes 
 pub record Reports (text : List ℕ) (walk : ℕ) (given : Given) (s : Said) : Type 0 where
   pub answer : PlannerAnswer
   pub promise : model.Promise (given .job) (walkNumber walk) answer
-  pub says : s ≡ saidFor (given .job) answer
-  pub prints : Prints text (given .job) s answer
+  pub says : s ≡ saidFor given answer
+  pub prints : Prints text given s answer
 
 -- what is promised of the answer s to a text and a walk number, where the output has `room` bytes
 pub record PlanPromise (text : List ℕ) (walk room : ℕ) (s : Said) : Type 0 where

@@ -4,12 +4,13 @@ use answers::put_three;
 use answers::refuse;
 use branch::Bound;
 use job_search::search_job;
+use job_text::whole::JobText;
 use job_text::whole::read_job;
 use jobs::Job;
 use jobs::Plan;
 use line_writing::write::put_line;
 use lines::rows::WholeText;
-use plan_writing::put_plan;
+use plan_printing::put_printed;
 use search::Found;
 ghost use mathlib.Core.Path.{_≡_};
 ghost use Prim.Native.Nat.{ℕ, _≤_};
@@ -19,10 +20,10 @@ ghost use Rattle.model.specs.Limits.{mostWalk};
 ghost use Rattle.model.specs.Model as model;
 ghost use Rattle.model.specs.Promise.{resultOf, answerOf};
 ghost use Rattle.jobs.specs.Views.{jobOf, planFor};
-ghost use Rattle.jobs.specs.Valid.{Sound};
+ghost use Rattle.job_text.specs.Views.{givenOf, SoundText};
 ghost use Rattle.search.specs.Found.{planFound, saidIn};
 ghost use Rattle.answers.specs.Said.{Printable, lent, Replied};
-ghost use Rattle.planning.specs.Plan.{plannedLines, linesOf, saidFor, walkNumber, planSaid, planRoom};
+ghost use Rattle.planning.specs.Plan.{plannedLines, plannerLines, saidFor, walkNumber, planSaid, planRoom};
 ghost use Rattle.planning.specs.Finding.{answerIn, Fits};
 ghost use Rattle.planning.specs.Promise.{PlanPromise};
 
@@ -83,42 +84,42 @@ fn put_planned(
     number: u32,
     nodes: u64,
     floor: u64,
-    job: Job,
+    text: JobText,
     cost: u64,
     plan: Plan,
 ) -> usize
     requires { ⌜ Printable nodes × Printable floor × Printable cost ⌝ }
-    requires { ⌜ Sound job × (planRoom ≤ length (now out)) ⌝ }
-    ensures { λ r. ⌜ Wrote (now (out .entry)) 0 (plannedLines number nodes floor (jobOf job) cost (planFor job plan)) (now (out .exit)) r ⌝ }
+    requires { ⌜ SoundText text × (planRoom ≤ length (now out)) ⌝ }
+    ensures { λ r. ⌜ Wrote (now (out .entry)) 0 (plannedLines number nodes floor (givenOf text) cost (planFor (text .job) plan)) (now (out .exit)) r ⌝ }
 {
     let a = put_three(out, number, b"nodes=", nodes, b"floor=", floor);
-    put_plan(out, a, job, cost, plan)
+    put_printed(out, a, text, cost, plan)
 }
 
 // The lines of a finding and of its plan.
-fn put_finding(out: &mut [u8], f: Finding, job: Job, plan: Plan) -> usize
-    requires { ⌜ Fits f × Sound job × (planRoom ≤ length (now out)) ⌝ }
-    ensures { λ r. ⌜ Wrote (now (out .entry)) 0 (linesOf (jobOf job) (answerIn (planFor job plan) f)) (now (out .exit)) r ⌝ }
+fn put_finding(out: &mut [u8], f: Finding, text: JobText, plan: Plan) -> usize
+    requires { ⌜ Fits f × SoundText text × (planRoom ≤ length (now out)) ⌝ }
+    ensures { λ r. ⌜ Wrote (now (out .entry)) 0 (plannerLines (givenOf text) (answerIn (planFor (text .job) plan) f)) (now (out .exit)) r ⌝ }
 {
     match f {
         Finding::NoPlan => put_line(out, 0, b"result=", 6),
         Finding::Optimum { nodes, floor, cost } => {
-            put_planned(out, 0, nodes, floor, job, cost, plan)
+            put_planned(out, 0, nodes, floor, text, cost, plan)
         }
-        Finding::Cut { nodes, floor, cost } => put_planned(out, 7, nodes, floor, job, cost, plan),
+        Finding::Cut { nodes, floor, cost } => put_planned(out, 7, nodes, floor, text, cost, plan),
         Finding::CutBare { nodes, floor } => put_three(out, 7, b"nodes=", nodes, b"floor=", floor),
     }
 }
 
 // The answer that a finding is, with its plan.
-fn answer(f: Finding, job: Job, plan: Plan, out: &mut [u8]) -> Answer
-    requires { ⌜ Fits f × Sound job ⌝ }
-    ensures { λ r. ⌜ Replied planRoom (saidFor (jobOf job) (answerIn (planFor job plan) f)) (now (out .entry)) (now (out .exit)) r ⌝ }
+fn answer(f: Finding, text: JobText, plan: Plan, out: &mut [u8]) -> Answer
+    requires { ⌜ Fits f × SoundText text ⌝ }
+    ensures { λ r. ⌜ Replied planRoom (saidFor (givenOf text) (answerIn (planFor (text .job) plan) f)) (now (out .entry)) (now (out .exit)) r ⌝ }
 {
     if out.len() < ROOM {
         return Answer::no_room();
     }
-    let n = put_finding(out, f, job, plan);
+    let n = put_finding(out, f, text, plan);
     Answer::plain(number_of(f), n)
 }
 
@@ -132,15 +133,16 @@ fn walk_number(walk: u64) -> u32
     walk as u32
 }
 
-// The plan of an accepted job.
-fn plan_job(job: Job, walk: u32, out: &mut [u8]) -> Answer
-    requires { ⌜ Sound job × (walk ≤ mostWalk) ⌝ }
-    ensures { λ r. ⌜ Replied planRoom (saidFor (jobOf job) (answerOf (jobOf job) walk)) (now (out .entry)) (now (out .exit)) r ⌝ }
+// The plan of an accepted job text.
+fn plan_job(text: JobText, walk: u32, out: &mut [u8]) -> Answer
+    requires { ⌜ SoundText text × (walk ≤ mostWalk) ⌝ }
+    ensures { λ r. ⌜ Replied planRoom (saidFor (givenOf text) (answerOf (jobOf (text .job)) walk)) (now (out .entry)) (now (out .exit)) r ⌝ }
 {
+    let job = text.job;
     let found = search_job(job, walk);
     let stops = found.stops;
     let changes = found.changes;
-    answer(finding_of(found), job, Plan { stops, changes }, out)
+    answer(finding_of(found), text, Plan { stops, changes }, out)
 }
 
 // The plan of a job text, walked up to the walk number of the call: every number that is handed over and every byte of the output are the defined ones (`Replied`). The answer is 6 exactly if
@@ -155,7 +157,7 @@ pub fn plan(job: &[u8], walk: u64, out: &mut [u8]) -> Answer
     match verdict {
         WholeText::Fault { number, line } => refuse(job, 1, number, line, ROOM, out),
         WholeText::Good => {
-            let accepted = read.text.job;
+            let accepted = read.text;
             plan_job(accepted, walk_number(walk), out)
         }
     }

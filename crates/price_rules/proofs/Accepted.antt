@@ -5,9 +5,12 @@ use mathlib.Core.List.{List, _++_, append-assoc}
 use Rattle.lines.specs.Text.{bytes, lineOf, texts, Optional, missing, present, optionalText}
 use Rattle.lines.specs.Parser.{good, return, row, optional, ifPresent, times}
 use Rattle.lines.proofs.Sound.{bind-inv, Optionally, optional-inv, row-sound, chain-sound, row-gives, chain-gives, Told, Tells}
-use Rattle.jobs.specs.Valid.{ValidPrice}
+use Rattle.quotes.specs.Grammar.{quote}
+use Rattle.quotes.specs.Rendering.{quoteText}
+use Rattle.quotes.specs.Valid.{ValidQuote}
+use Rattle.quotes.proofs.Accepted.{quote-tells}
 use Rattle.price_rules.specs.Rule.{Rule}
-use Rattle.price_rules.specs.Grammar.{afterBase, rule, listed, ruled, unlessRuled, prices}
+use Rattle.price_rules.specs.Grammar.{afterBase, rule, byList, byRule, unlessRuled, prices}
 use Rattle.price_rules.specs.Rendering.{ruleText, pricesText}
 use Rattle.price_rules.specs.Valid.{ValidLines, ValidPrices}
 use Rattle.jobs.proofs.Lists.{chained-each}
@@ -64,16 +67,15 @@ prices-tells n s s′ l l′ p e =
   where
     go : (o : Optional Rule) (mid : List ℕ) (at : ℕ) → Told ValidLines (optionalText ruleText) s mid o → unlessRuled n o mid at ≡ good p s′ l′ → Told (ValidPrices n) pricesText s s′ p
     go missing mid at none e =
-        let price = row "price=" 1 1000000 in
-        let d = bind-inv (times n price) _ mid s′ at l′ p e in
-        let x : listed (d .a) ≡ p = cc (d .second) in
+        let d = bind-inv (times n quote) _ mid s′ at l′ p e in
+        let x : byList (d .a) ≡ p = cc (d .second) in
         let y : d .mid ≡ s′ = cc (d .second) in
-        let g = chain-gives (λ _. price) (λ _ _. 0) (λ _. ValidPrice) (λ _. row-gives _ 1 1000000) n 0 mid (d .mid) at (d .at) (d .a) (d .first) in
+        let g = chain-gives (λ _. quote) (λ _ _. 0) (λ _. ValidQuote) (λ _ s s′ l l′ q e. quote-tells s s′ l l′ q e .known) n 0 mid (d .mid) at (d .at) (d .a) (d .first) in
         subst (Told (ValidPrices n) pricesText s s′) x (record {
-          known = (g .0, chained-each ValidPrice 0 (d .a) (g .1));
-          text = none .text ∙ chain-sound (λ _. price) (λ _ _. 0) (lineOf "price=") (λ _. row-sound _ 1 1000000) n 0 mid (d .mid) at (d .at) (d .a) (d .first) ∙ ap (λ (u : List ℕ). texts (lineOf "price=") (d .a) ++ u) y;
+          known = (g .0, chained-each ValidQuote 0 (d .a) (g .1));
+          text = none .text ∙ chain-sound (λ _. quote) (λ _ _. 0) quoteText (λ _ s s′ l l′ q e. quote-tells s s′ l l′ q e .text) n 0 mid (d .mid) at (d .at) (d .a) (d .first) ∙ ap (λ (u : List ℕ). texts quoteText (d .a) ++ u) y;
         })
     go (present r) mid at some e =
-        let x : ruled r ≡ p = cc in
+        let x : byRule r ≡ p = cc in
         let y : mid ≡ s′ = cc in
         subst (Told (ValidPrices n) pricesText s s′) x (record { known = some .known; text = some .text ∙ ap (λ (u : List ℕ). ruleText r ++ u) y })

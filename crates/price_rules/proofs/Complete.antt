@@ -1,4 +1,4 @@
--- Valid prices, written, are read back as exactly what they say (`rule-complete`, `prices-complete`). By the grammar's lines, one after the other.
+-- Valid prices, written, are read back as exactly what they say (`rule-complete`, `prices-complete`); a list of prices begins with no rule (`list-next`). By the grammar's lines, one after the other.
 use Prim.Native.Nat.{ℕ}
 use mathlib.Core.Path.{_≡_, refl, sym, ap, _∙_}
 use mathlib.Core.List.{List, [], _∷_, _++_, append-assoc}
@@ -9,9 +9,12 @@ use Rattle.lines.specs.Text.{bytes, line, lineOf, texts, Optional, missing, pre
 use Rattle.lines.specs.Parser.{good, return, row, optional, ifPresent, times}
 use Rattle.lines.proofs.Parsing.{bind-good, optional-missing}
 use Rattle.lines.proofs.Complete.{row-complete, optional-present, chain-complete}
-use Rattle.jobs.specs.Valid.{ValidPrice}
+use Rattle.quotes.specs.Grammar.{Quote, single, pair, quote}
+use Rattle.quotes.specs.Rendering.{quoteText}
+use Rattle.quotes.specs.Valid.{ValidQuote}
+use Rattle.quotes.proofs.Complete.{quote-complete}
 use Rattle.price_rules.specs.Rule.{Rule}
-use Rattle.price_rules.specs.Grammar.{afterBase, rule, Prices, listed, ruled, unlessRuled, prices}
+use Rattle.price_rules.specs.Grammar.{afterBase, rule, Prices, byList, byRule, unlessRuled, prices}
 use Rattle.price_rules.specs.Rendering.{ruleText, pricesText}
 use Rattle.price_rules.specs.Valid.{ValidLines, ValidPrices}
 use Rattle.jobs.proofs.Lists.{each-chained}
@@ -33,17 +36,17 @@ rule-complete (present r) v s l e =
     )
 
 -- where there is no rule, prices or what follows them are next
-list-next : (ps s : List ℕ) → startsWith (bytes "base=") s ≡ false → startsWith (bytes "base=") (texts (lineOf "price=") ps ++ s) ≡ false
-unfolding startsWith line bytes
+pub list-next : (qs : List Quote) (s : List ℕ) → startsWith (bytes "base=") s ≡ false → startsWith (bytes "base=") (texts quoteText qs ++ s) ≡ false
+unfolding startsWith line bytes quoteText
 list-next [] s e = e
-list-next (p ∷ ps) s e = refl
+list-next (single p ∷ qs) s e = refl
+list-next (pair l h ∷ qs) s e = refl
 
 pub prices-complete : (n : ℕ) (p : Prices) → ValidPrices n p → (s : List ℕ) (l : ℕ) → startsWith (bytes "base=") s ≡ false → (l′ : ℕ) × (prices n (pricesText p ++ s) l ≡ good p s l′)
 unfolding prices unlessRuled times return
-prices-complete n (listed ps) v s l e =
-    let price = row "price=" 1 1000000 in
-    let ts = texts (lineOf "price=") ps in
-    let a = rule-complete missing tt (ts ++ s) l (list-next ps s e) in
-    let c = chain-complete (λ _. price) (λ _ _. 0) (lineOf "price=") (λ _. ValidPrice) (λ _. row-complete _ 1 1000000 (omega arith)) 0 ps (each-chained ValidPrice 0 ps (v .1)) s (a .0) in
-    (c .0, bind-good rule _ (a .1) ∙ bind-good (times n price) _ (ap (λ (m : ℕ). times m price (ts ++ s) (a .0)) (sym (v .0)) ∙ c .1))
-prices-complete n (ruled r) v s l e = let a = rule-complete (present r) v s l e in (a .0, bind-good rule _ (a .1))
+prices-complete n (byList qs) v s l e =
+    let ts = texts quoteText qs in
+    let a = rule-complete missing tt (ts ++ s) l (list-next qs s e) in
+    let c = chain-complete (λ _. quote) (λ _ _. 0) quoteText (λ _. ValidQuote) (λ _. quote-complete) 0 qs (each-chained ValidQuote 0 qs (v .1)) s (a .0) in
+    (c .0, bind-good rule _ (a .1) ∙ bind-good (times n quote) _ (ap (λ (m : ℕ). times m quote (ts ++ s) (a .0)) (sym (v .0)) ∙ c .1))
+prices-complete n (byRule r) v s l e = let a = rule-complete (present r) v s l e in (a .0, bind-good rule _ (a .1))

@@ -1,11 +1,12 @@
--- The faults of lines of prices are 2 and 3, each on a line that is there or is the next (`rule-numbers`, `prices-numbers`). By the grammar's forms.
+-- The faults of lines of prices are 2, 3 and 13, each on a line that is there or is the next (`rule-numbers`, `prices-numbers`). By the grammar's forms.
 use Prim.Native.Nat.{ℕ}
 use Rattle.lines.specs.Text.{Optional, missing, present}
 use Rattle.lines.proofs.Numbered.{Numbers, row-numbers, optional-numbers, present-numbers, bind-numbers, return-numbers, times-numbers}
+use Rattle.quotes.proofs.Numbered.{quote-numbers}
 use Rattle.price_rules.specs.Rule.{Rule}
-use Rattle.price_rules.specs.Grammar.{afterBase, rule, listed, ruled, unlessRuled, prices}
+use Rattle.price_rules.specs.Grammar.{afterBase, rule, byList, byRule, unlessRuled, prices}
 
-module _ (P : ℕ → Type 0) (two : P 2) (three : P 3) where
+module _ (P : ℕ → Type 0) (two : P 2) (three : P 3) (thirteen : P 13) where
   pub rule-numbers : Numbers P rule
   unfolding rule afterBase
   rule-numbers =
@@ -14,8 +15,8 @@ module _ (P : ℕ → Type 0) (two : P 2) (three : P 3) where
 
   unless-numbers : (n : ℕ) (o : Optional Rule) → Numbers P (unlessRuled n o)
   unfolding unlessRuled
-  unless-numbers n missing = bind-numbers P _ _ (times-numbers P n _ (row-numbers P two three _ 1 1000000)) (λ ps. return-numbers P (listed ps))
-  unless-numbers n (present r) = return-numbers P (ruled r)
+  unless-numbers n missing = bind-numbers P _ _ (times-numbers P n _ (quote-numbers P two three thirteen)) (λ qs. return-numbers P (byList qs))
+  unless-numbers n (present r) = return-numbers P (byRule r)
 
   pub prices-numbers : (n : ℕ) → Numbers P (prices n)
   unfolding prices

@@ -1,13 +1,13 @@
 -- Laws of a rule's prices: each is the clause's integer (`rule-is`) and a price (`rule-valid`); what the base has dropped to at the next opening (`base-next`); prices mean one for each opening, and each is a price
--- (`meant-length`, `meant-valid`), and written out they mean the same (`written-out`). By the number of openings.
-use Prim.Native.Nat.{ℕ, zero, suc, _+_, _-_, _*_, max}
-use mathlib.Core.Path.{_≡_, refl, ap}
+-- (`meant-length`, `meant-valid`), so at the low ends too (`low-length`, `low-valid`, `low-to-high`), and written out they mean the same (`written-out`). By the number of openings.
+use Prim.Native.Nat.{ℕ, zero, suc, _+_, _-_, _*_, _≤_, max}
+use mathlib.Core.Path.{_≡_, refl, ap, _∙_}
 use mathlib.Core.Bool.{Bool, true, false, cond}
-use mathlib.Core.List.{List, [], _∷_, _++_}
+use mathlib.Core.List.{List, [], _∷_, _++_, map}
 use native.Mathlib.Omega.{arith}
 use native.Mathlib.Numerals.{add-one}
 use native.Mathlib.Nat.{suc-mul}
-use lib.ListN.{length, length-append}
+use lib.ListN.{length, length-append, length-map}
 use lib.IntN.{ℤ, pos, negsuc, _-ℤ_, _*ℤ_}
 use lib.Signed.{leZ}
 use borrow.Author.Tests.{leb-true, leb-false}
@@ -15,7 +15,10 @@ use Rattle.lines.specs.Text.{joined}
 use Rattle.model.proofs.Integers.{up, down, difference}
 use Rattle.jobs.specs.Valid.{All, ValidPrice}
 use Rattle.price_rules.specs.Rule.{Rule, rulePrice, rulePrices, larger, statedPrice}
-use Rattle.price_rules.specs.Grammar.{Prices, listed, ruled, meantPrices, writtenOut}
+use Rattle.model.specs.Model.{Each}
+use Rattle.quotes.specs.Grammar.{Quote, single, highEnd, lowEnd, anyPair}
+use Rattle.quotes.specs.Valid.{ValidQuote}
+use Rattle.price_rules.specs.Grammar.{Prices, byList, byRule, meantPrices, lowPrices, bandedPrices, writtenOut}
 use Rattle.price_rules.specs.Valid.{ValidRule, ValidPrices}
 
 -- the larger of a difference z = a − b and a number, by whether the difference is below 0
@@ -52,15 +55,73 @@ unfolding joined
 rule-all r zero v = tt
 rule-all r (suc n) v = all-then ValidPrice (rulePrices r n) (rulePrice r n) (rule-all r n v) (rule-valid r n v)
 
--- "one price per opening", listed or by a rule
+-- "one price per opening", quoted or by a rule
 pub meant-length : (n : ℕ) (p : Prices) → ValidPrices n p → length (meantPrices n p) ≡ n
-meant-length n (listed ps) v = v .0
-meant-length n (ruled r) v = rule-length r n
+meant-length n (byList qs) v = length-map qs highEnd ∙ v .0
+meant-length n (byRule r) v = rule-length r n
+
+all-ends : (f : Quote → ℕ) → ((q : Quote) → ValidQuote q → ValidPrice (f q)) → (qs : List Quote) → All ValidQuote qs → All ValidPrice (map f qs)
+all-ends f h [] v = tt
+all-ends f h (q ∷ qs) v = (h q (v .0), all-ends f h qs (v .1))
 
 pub meant-valid : (n : ℕ) (p : Prices) → ValidPrices n p → All ValidPrice (meantPrices n p)
-meant-valid n (listed ps) v = v .1
-meant-valid n (ruled r) v = rule-all r n v
+meant-valid n (byList qs) v = all-ends highEnd (λ q w. w .high) qs (v .1)
+meant-valid n (byRule r) v = rule-all r n v
+
+-- E11. the same at the low ends, none of which is above the high one
+pub low-length : (n : ℕ) (p : Prices) → ValidPrices n p → length (lowPrices n p) ≡ n
+low-length n (byList qs) v = length-map qs lowEnd ∙ v .0
+low-length n (byRule r) v = rule-length r n
+
+pub low-valid : (n : ℕ) (p : Prices) → ValidPrices n p → All ValidPrice (lowPrices n p)
+low-valid n (byList qs) v = all-ends lowEnd (λ q w. w .low) qs (v .1)
+low-valid n (byRule r) v = rule-all r n v
+
+pub low-to-high : (n : ℕ) (p : Prices) → ValidPrices n p → Each _≤_ (lowPrices n p) (meantPrices n p)
+low-to-high n (byList qs) v = go qs (v .1)
+  where
+    go : (qs : List Quote) → All ValidQuote qs → Each _≤_ (map lowEnd qs) (map highEnd qs)
+    go [] v = tt
+    go (q ∷ qs) v = (v .0 .ordered, go qs (v .1))
+low-to-high n (byRule r) v = go (rulePrices r n)
+  where
+    go : (ps : List ℕ) → Each _≤_ ps ps
+    go [] = tt
+    go (p ∷ ps) = (omega arith, go ps)
+
+-- prices written one by one
+singles-mean : (ps : List ℕ) → map highEnd (map single ps) ≡ ps
+singles-mean [] = refl
+singles-mean (p ∷ ps) = ap (λ (qs : List ℕ). p ∷ qs) (singles-mean ps)
+
+singles-low : (ps : List ℕ) → map lowEnd (map single ps) ≡ ps
+singles-low [] = refl
+singles-low (p ∷ ps) = ap (λ (qs : List ℕ). p ∷ qs) (singles-low ps)
+
+singles-valid : (ps : List ℕ) → All ValidPrice ps → All ValidQuote (map single ps)
+singles-valid [] v = tt
+singles-valid (p ∷ ps) v = (record { low = v .0; high = v .0; ordered = omega arith }, singles-valid ps (v .1))
+
+singles-plain : (ps : List ℕ) → anyPair (map single ps) ≡ false
+unfolding anyPair
+singles-plain [] = refl
+singles-plain (p ∷ ps) = singles-plain ps
 
 -- E8.5. with the lines written out they are accepted too, and mean the same
-pub written-out : (n : ℕ) (p : Prices) → ValidPrices n p → ValidPrices n (writtenOut n p) × (meantPrices n (writtenOut n p) ≡ meantPrices n p)
-written-out n p v = ((meant-length n p v, meant-valid n p v), refl)
+pub record WrittenOut (n : ℕ) (p : Prices) : Type 0 where
+  -- the prices with a rule's lines written out are valid prices of n openings
+  pub valid : ValidPrices n (writtenOut n p)
+  -- written out, the prices mean the same as before
+  pub high : meantPrices n (writtenOut n p) ≡ meantPrices n p
+  pub low : lowPrices n (writtenOut n p) ≡ lowPrices n p
+  -- written out, a `low` line stands among them exactly where one stood before
+  pub banded : bandedPrices (writtenOut n p) ≡ bandedPrices p
+
+pub written-out : (n : ℕ) (p : Prices) → ValidPrices n p → WrittenOut n p
+written-out n (byList qs) v = record { valid = v; high = refl; low = refl; banded = refl }
+written-out n (byRule r) v = record {
+  valid = (length-map (rulePrices r n) single ∙ rule-length r n, singles-valid (rulePrices r n) (rule-all r n v));
+  high = singles-mean (rulePrices r n);
+  low = singles-low (rulePrices r n);
+  banded = singles-plain (rulePrices r n);
+}

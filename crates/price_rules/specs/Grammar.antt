@@ -1,9 +1,11 @@
--- E8.1. "In place of its `price` lines a part may have `base` 1..1000000, `drop` 0..1000000 and `least` 1..1000000."
+-- A part's prices: quoted one by one, or by a rule. E8.1. "In place of its `price` lines a part may have `base` 1..1000000, `drop` 0..1000000 and `least` 1..1000000."
 use Prim.Native.Nat.{ℕ}
-use mathlib.Core.List.{List}
+use mathlib.Core.Bool.{Bool, false}
+use mathlib.Core.List.{List, map}
 use Rattle.lines.specs.Text.{Optional, missing, present}
 use Rattle.lines.specs.Parser.{Parser, _>>=_, return, row, optional, ifPresent, times}
 use Rattle.model.specs.Limits.{dearest}
+use Rattle.quotes.specs.Grammar.{Quote, single, highEnd, lowEnd, anyPair, quote}
 use Rattle.price_rules.specs.Rule.{Rule, rulePrices}
 
 -- what follows the base b
@@ -21,15 +23,15 @@ rule = do
 
 -- a part's prices: a list of them, or a rule in its place
 pub data Prices : Type 0 where
-  listed : List ℕ → Prices
-  ruled : Rule → Prices
+  byList : List Quote → Prices
+  byRule : Rule → Prices
 
--- a rule in place of the prices, and where there is none a price for each of n openings
+-- a rule in place of the prices, and where there is none a price, single or a pair, for each of n openings
 unfoldable pub unlessRuled : ℕ → Optional Rule → Parser Prices
 unlessRuled n missing = do
-  ps ← times n (row "price=" 1 dearest)
-  return (listed ps)
-unlessRuled n (present r) = return (ruled r)
+  qs ← times n quote
+  return (byList qs)
+unlessRuled n (present r) = return (byRule r)
 
 -- the lines of a part's prices, with n openings
 unfoldable pub prices : ℕ → Parser Prices
@@ -37,11 +39,22 @@ prices n = do
   r ← rule
   unlessRuled n r
 
--- the price at each of n openings that they mean
+-- the price at each of n openings that they mean: that at the high ends
 abbrev pub meantPrices : ℕ → Prices → List ℕ
-meantPrices n (listed ps) = ps
-meantPrices n (ruled r) = rulePrices r n
+meantPrices n (byList qs) = map highEnd qs
+meantPrices n (byRule r) = rulePrices r n
 
--- E8.5. "with the lines written out": a price line for each opening
+-- E11. those at the low ends. "E8's rule gives single prices only"
+abbrev pub lowPrices : ℕ → Prices → List ℕ
+lowPrices n (byList qs) = map lowEnd qs
+lowPrices n (byRule r) = rulePrices r n
+
+-- E11. whether a `low` line stands among their lines
+abbrev pub bandedPrices : Prices → Bool
+bandedPrices (byList qs) = anyPair qs
+bandedPrices (byRule r) = false
+
+-- E8.5. "with the lines written out": a price line for each opening in place of a rule
 abbrev pub writtenOut : ℕ → Prices → Prices
-writtenOut n p = listed (meantPrices n p)
+writtenOut n (byList qs) = byList qs
+writtenOut n (byRule r) = byList (map single (rulePrices r n))

@@ -4,9 +4,10 @@ use mathlib.Core.Path.{_≡_}
 use lib.ListN.{length}
 use Rattle.lines.specs.Text.{Optional, missing, present}
 use Rattle.model.specs.Limits.{dearest}
-use Rattle.jobs.specs.Valid.{All, ValidPrice}
+use Rattle.jobs.specs.Valid.{All}
+use Rattle.quotes.specs.Valid.{ValidQuote}
 use Rattle.price_rules.specs.Rule.{Rule}
-use Rattle.price_rules.specs.Grammar.{Prices, listed, ruled}
+use Rattle.price_rules.specs.Grammar.{Prices, byList, byRule}
 
 -- E8.1. "`base` 1..1000000, `drop` 0..1000000 and `least` 1..1000000"; least may be above base
 pub record ValidRule (r : Rule) : Type 0 where
@@ -23,5 +24,5 @@ ValidLines (present r) = ValidRule r
 
 -- the prices of a part with n openings: one for each, or a rule, which counts none
 abbrev pub ValidPrices : ℕ → Prices → Type 0
-ValidPrices n (listed ps) = (length ps ≡ n) × All ValidPrice ps
-ValidPrices n (ruled r) = ValidRule r
+ValidPrices n (byList qs) = (length qs ≡ n) × All ValidQuote qs
+ValidPrices n (byRule r) = ValidRule r

@@ -7,24 +7,21 @@ use lines::rows::Cursor;
 use lines::rows::End;
 use lines::rows::Row;
 use lines::rows::advance;
+use model::OPENINGS;
 ghost use mathlib.Core.Path.{_≡_};
-ghost use mathlib.Core.Bool.{false, cond};
-ghost use Prim.Native.Nat.{ℕ, _+_, _-_, _≤_, _<_, max};
+ghost use mathlib.Core.Bool.{false};
+ghost use Prim.Native.Nat.{ℕ, _+_, _-_, _≤_, max};
 ghost use lib.ListN.{length, take, drop, replicate};
 ghost use Rattle.lines.specs.Text.{present};
 ghost use Rattle.lines.specs.Parser.{ifPresent};
 ghost use Rattle.lines.specs.Wrote.{Wrote};
 ghost use Rattle.lines.specs.Cursor.{Stands, Reads};
 ghost use Rattle.least.specs.Filled.{FilledBy};
-ghost use Rattle.model.specs.Limits.{mostOpenings, mostParts};
+ghost use Rattle.model.specs.Limits.{mostOpenings};
 ghost use Rattle.price_rules.specs.Rule.{rulePrice, rulePrices};
 ghost use Rattle.price_rules.specs.Grammar.{afterBase, rule};
 ghost use Rattle.price_rules.specs.Rendering.{ruleText};
-ghost use Rattle.price_rules.specs.Table.{tablePlace, tableSize, Tabled};
-ghost use Rattle.price_rules.specs.Views.{ruleOf, ruleAnswer, ruleIn};
-
-// In a table of prices the row of part q stands from q * 64 on.
-const STRIDE: usize = 64;
+ghost use Rattle.price_rules.specs.Views.{ruleOf, ruleAnswer};
 
 // A rule in place of a part's prices: opening k, counted from 0, has price base minus k times drop, or least if that is larger.
 pub struct Rule {
@@ -147,41 +144,12 @@ fn put_prices(rule: Rule, n: usize, at: usize, flat: &mut [u32])
     }
 }
 
-// The row of part q, counted from 0, in a table of prices.
-pub fn put_row(rule: Rule, n: usize, q: usize, flat: &mut [u32])
-    requires { ⌜ (n ≤ mostOpenings) × (q < mostParts) × (length (now flat) ≡ tableSize) ⌝ }
-    ensures { λ _. ⌜ FilledBy (tablePlace q) (λ (k : ℕ). rulePrice (ruleOf rule) k) n (now (flat .entry)) (now (flat .exit)) ⌝ }
-{
-    put_prices(rule, n, q * STRIDE, flat);
-}
-
-// How many of a part's n prices its rule gives: all, or none where it has no rule.
-fn given(ruled: bool, n: usize) -> usize
-    ensures { λ r. ⌜ (r ≡ cond ruled n 0) × (r ≤ n) ⌝ }
-{
-    if ruled { n } else { 0 }
-}
-
-// The generator: in a table of prices, the rows of those of the first m parts that have a rule. Every other place keeps its number.
-pub fn put_table(rules: [Rule; 16], ruled: [bool; 16], m: usize, n: usize, flat: &mut [u32])
-    requires { ⌜ (m ≤ mostParts) × (n ≤ mostOpenings) × (length (now flat) ≡ tableSize) ⌝ }
-    ensures { λ _. ⌜ Tabled (ruleIn rules ruled) m n (now (flat .entry)) (now (flat .exit)) ⌝ }
-{
-    let mut q = 0;
-    while q < m {
-        let rule = rules[q];
-        let count = given(ruled[q], n);
-        put_row(rule, count, q, flat);
-        q += 1;
-    }
-}
-
 // A rule's prices at the first n openings, and 0 past the last.
-pub fn rule_prices(rule: Rule, n: usize) -> [u32; 64]
+pub fn rule_prices(rule: Rule, n: usize) -> [u32; OPENINGS]
     requires { ⌜ n ≤ mostOpenings ⌝ }
     ensures { λ r. ⌜ (take n r ≡ rulePrices (ruleOf rule) n) × (drop n r ≡ replicate (mostOpenings - n) 0) ⌝ }
 {
-    let mut prices = [0u32; 64];
+    let mut prices = [0u32; OPENINGS];
     put_prices(rule, n, 0, &mut prices);
     prices
 }

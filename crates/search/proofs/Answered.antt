@@ -21,7 +21,7 @@ use Rattle.model.proofs.Bools.{there}
 use Rattle.model.proofs.Offers.{offers-length}
 use Rattle.jobs.specs.declared.Changes.{Changes}
 use Rattle.search.specs.declared.Found.{Found}
-use Rattle.search_tables.specs.Arrays.{lanePart, sheetOf, Holds}
+use Rattle.search_tables.specs.Arrays.{lanePart, sheetOf, JobArrays}
 use Rattle.search.specs.Plan.{choiceAt, noRow, Chooses}
 use Rattle.search.specs.Found.{stopsIn, rowIn, changesIn, limitedIn, Finds, planFound, saidBy, saidAt, saidIn}
 use Rattle.search_tables.proofs.Sheets.{sheet-bound}
@@ -29,6 +29,7 @@ use Rattle.walk.specs.State.{bits, Solves}
 use Rattle.walk.proofs.Nodes.{bits-length}
 use Rattle.walk.specs.declared.Solved.{Solved}
 
+-- the tie rule's changes have an entry for each opening that is offered
 pub choice-size : (life end prev : ℤ) (os : List Offer) → length (choiceOf life end prev os) ≡ length os
 unfolding choiceOf
 choice-size life end prev [] = refl
@@ -42,19 +43,22 @@ choice-size life end prev (o ∷ os) =
 
 -- ---- the stops
 
+-- the first n entries of the stops array are the mask's n decisions
 pub stops-are : (n mask : ℕ) (stops : List Bool) → stops ≡ bits n mask ++ replicate (64 - n) false → take n stops ≡ bits n mask
 stops-are n mask stops f = ap (take n) f ∙ take-at (bits n mask) (replicate (64 - n) false) n (bits-length n mask)
 
+-- the first n entries of the stops array are n
 pub stops-length : (n mask : ℕ) (stops : List Bool) → stops ≡ bits n mask ++ replicate (64 - n) false → length (take n stops) ≡ n
 stops-length n mask stops f = ap length (stops-are n mask stops f) ∙ bits-length n mask
 
 -- ---- what the code holds, as it is handed back
 
+-- what is handed over: the solved search's numbers with the stops and the rows of changes
 abbrev pub handed : Solved → List Bool → List Changes → Found
 handed s stops rows =
     record { count = s .count; over = s .over; found = s .found; cost = s .cost; floor = s .floor; stops = stops; changes = rows }
 
-module _ (job : Job) (e : ℤ) (ss : List ℤ) (fs ls rs ps : List ℕ) (h : Holds job e ss fs ls rs ps) (limit : ℕ) (s : Solved) (g : Solves (sheetOf e ss fs ls rs ps) limit s)
+module _ (job : Job) (e : ℤ) (ss : List ℤ) (fs ls rs ps : List ℕ) (h : JobArrays job e ss fs ls rs ps) (limit : ℕ) (s : Solved) (g : Solves (sheetOf e ss fs ls rs ps) limit s)
     (stops : List Bool) (f : stops ≡ bits (length ss) (s .mask) ++ replicate (64 - length ss) false) (rows : List Changes) (c : Chooses e ss ls rs ps (take (length ss) stops) rows (length ls)) where
   size : length ss ≡ length (job .openings)
   size = ap length (h .places) ∙ length-map (job .openings) (λ (o : Opening). clock job (o .step))
@@ -95,6 +99,7 @@ module _ (job : Job) (e : ℤ) (ss : List ℤ) (fs ls rs ps : List ℕ) (h : Hol
           ∙ sym (List·getD-map chosen (job .parts) q noPart)
           ∙ there (map chosen (job .parts)) q (chosen noPart) (rowIn (length ss) noRow) (omega (arith, long, length-map (job .parts) chosen))
 
+  -- what is handed over is what the walk over the job's openings finds
   pub finds : Finds job limit (handed s stops rows)
   finds =
       record {
@@ -119,6 +124,7 @@ module _ (job : Job) (limit : ℕ) (r : Found) (a : Finds job limit r) where
   at Missing = refl
   at (Sum floor) = by floor (r .over) (r .found)
 
+  -- what is found says the planner's answer for the walk over the openings alone
   pub said : saidIn (length (job .openings)) (length (job .parts)) r ≡ plainAnswer job limit
   unfolding plainAnswer
   said = at (r .floor) ∙ ap₂ (answeredAt (plainPlan job)) (a .floor) (a .walked)

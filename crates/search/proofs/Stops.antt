@@ -20,6 +20,7 @@ drop-same zero m = let z : m - 0 ≡ m = omega arith in rw z
 drop-same (suc n) zero = let z : 0 - suc n ≡ 0 = omega arith in rw z
 drop-same (suc n) (suc m) = let z : m - n ≡ suc m - suc n = omega arith in drop-same n m ∙ ap (λ (k : ℕ). replicate k false) z
 
+-- the mask's n decisions, put before the rest of an array of no's, are followed by 64 - n no's
 pub stops-none : (n m : ℕ) → bits n m ++ drop n (replicate 64 false) ≡ bits n m ++ replicate (64 - n) false
 stops-none n m = ap (λ (l : List Bool). bits n m ++ l) (drop-same n 64)
 
@@ -32,6 +33,7 @@ drop-set l k b h =
     drop-cons (set l k b) k false (omega (arith, length-set l k b))
     ∙ (λ i. getD-set-same l k b false h i ∷ drop-set-lt (suc k) l k b (omega arith) i)
 
+-- the mask's last decision, written in its place, stands in front of those already written
 pub stops-more : (out : List Bool) (k m : ℕ) (all : List Bool) → 0 < k → k ≤ length out → bits k m ++ drop k out ≡ all
     → bits (k - 1) (m / 2) ++ drop (k - 1) (set out (k - 1) (eqb (m % 2) 1)) ≡ all
 stops-more out k m all h g e =
@@ -40,6 +42,7 @@ stops-more out k m all h g e =
     ∙ sym (bits-last (k - 1) m (drop (suc (k - 1)) out))
     ∙ ap (λ (n : ℕ). bits n m ++ drop n out) z ∙ e
 
+-- once no decision of the mask is left, the array is what it should be
 pub stops-all : (out : List Bool) (k m : ℕ) (all : List Bool) → k ≤ 0 → bits k m ++ drop k out ≡ all → out ≡ all
 unfolding bits
 stops-all out zero m all h e = e
@@ -48,9 +51,11 @@ stops-all out (suc k) m all h e = absurd (omega arith)
 -- ---- the rows of changes
 
 module _ (e : ℤ) (ss : List ℤ) (ls rs ps : List ℕ) (stops : List Bool) where
+  -- before the first part there is no row of changes to be right
   pub chooses-none : (rows : List Changes) → length rows ≡ laneCount → Chooses e ss ls rs ps stops rows 0
   chooses-none rows h = record { size = h; row = λ q l. absurd (omega arith) }
 
+  -- with part q's changes in its row, the rows of one part more are right
   pub chooses-more : (rows : List Changes) (q : ℕ) (v : List Bool) → q < laneCount → v ≡ choiceAt e ss (lanePart (length ss) ls rs ps q) stops ++ replicate (64 - length ss) false
       → Chooses e ss ls rs ps stops rows q → Chooses e ss ls rs ps stops (set rows q (record { at = v })) (q + 1)
   chooses-more rows q v h f c =

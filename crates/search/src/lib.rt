@@ -4,7 +4,7 @@ pub mod plan;
 ghost use Prim.Native.Nat.{_+_, _^_, _<_};
 ghost use Rattle.model.specs.Model.{Job};
 ghost use Rattle.walk.specs.State.{Solves};
-ghost use Rattle.search_tables.specs.Arrays.{sheetOf, Ready, Holds};
+ghost use Rattle.search_tables.specs.Arrays.{sheetOf, Ready, JobArrays};
 ghost use mathlib.Core.Path.{_≡_};
 ghost use Rattle.search.specs.Found.{foundBy, Finds};
 use branch::Bound;
@@ -12,6 +12,8 @@ use jobs::Changes;
 use lane_rows::STACK;
 use lane_rows::TABLES;
 use least::TABLE;
+use model::OPENINGS;
+use model::PARTS;
 use plan::changes;
 use plan::stops_of;
 use search_tables::tables::fill;
@@ -25,12 +27,12 @@ pub struct Found {
     pub found: bool,
     pub cost: u64,
     pub floor: Bound,
-    pub stops: [bool; 64],
-    pub changes: [Changes; 16],
+    pub stops: [bool; OPENINGS],
+    pub changes: [Changes; PARTS],
 }
 
 // What a walk found, with the plan of its incumbent.
-pub fn found_by(solved: Solved, stops: [bool; 64], changes: [Changes; 16]) -> Found
+pub fn found_by(solved: Solved, stops: [bool; OPENINGS], changes: [Changes; PARTS]) -> Found
     ensures { λ r. ⌜ r ≡ foundBy solved stops changes ⌝ }
 {
     let floor = solved.floor;
@@ -75,8 +77,8 @@ pub fn search(
     prices: &[u32],
     limit: u64,
 ) -> Found
-    requires { ⌜ ((job : Job) × Holds job end (now positions) (now fees) (now lives) (now lefts) (now prices)) × (limit + 1 < 2 ^ 64) ⌝ }
-    ensures { λ r. ⌜ ((job : Job) → Holds job end (now (positions .entry)) (now (fees .entry)) (now (lives .entry)) (now (lefts .entry)) (now (prices .entry)) → Finds job limit r) ⌝ }
+    requires { ⌜ ((job : Job) × JobArrays job end (now positions) (now fees) (now lives) (now lefts) (now prices)) × (limit + 1 < 2 ^ 64) ⌝ }
+    ensures { λ r. ⌜ ((job : Job) → JobArrays job end (now (positions .entry)) (now (fees .entry)) (now (lives .entry)) (now (lefts .entry)) (now (prices .entry)) → Finds job limit r) ⌝ }
 {
     let mut tab = [0; TABLE];
     let solved = walked(end, positions, fees, lives, lefts, prices, limit, &mut tab);

@@ -9,16 +9,18 @@ ghost use Rattle.walk.specs.State.{bits};
 ghost use Rattle.search_tables.specs.Arrays.{lanePart, Ready};
 ghost use Rattle.search.specs.Plan.{choiceAt, Chooses};
 use jobs::Changes;
-use search_tables::tables::STRIDE;
+use model::OPENINGS;
+use model::PARTS;
+use model::STRIDE;
 use search_tables::tables::lane_life;
 ghost use Rattle.model.specs.Limits.{mostOpenings};
 
 // The decisions of a mask, the latest in its lowest bit; no stop past the last opening.
-pub fn stops_of(mask: u64, n: usize) -> [bool; 64]
+pub fn stops_of(mask: u64, n: usize) -> [bool; OPENINGS]
     requires { ⌜ n ≤ mostOpenings ⌝ }
     ensures { λ r. ⌜ r ≡ bits n mask ++ replicate (64 - n) false ⌝ }
 {
-    let mut out = [false; 64];
+    let mut out = [false; OPENINGS];
     let mut m = mask;
     let mut k = n;
     while 0 < k {
@@ -40,7 +42,7 @@ fn part_changes(
     q: usize,
     stops: &[bool],
     tab: &mut [u64],
-) -> [bool; 64]
+) -> [bool; OPENINGS]
     requires { ⌜ (Ready end (now positions) (now fees) (now lives) (now lefts) (now prices) (now tab)) × (q < laneCount) × (length (now stops) ≡ length (now positions)) ⌝ }
     ensures { λ r. ⌜ r ≡ choiceAt end (now (positions .entry)) (lanePart (length (now (positions .entry))) (now (lives .entry)) (now (lefts .entry)) (now (prices .entry)) q) (now (stops .entry)) ++ replicate (64 - length (now (positions .entry))) false ⌝ }
 {
@@ -67,11 +69,13 @@ pub fn changes(
     prices: &[u32],
     stops: &[bool],
     tab: &mut [u64],
-) -> [Changes; 16]
+) -> [Changes; PARTS]
     requires { ⌜ (Ready end (now positions) (now fees) (now lives) (now lefts) (now prices) (now tab)) × (length (now stops) ≡ length (now positions)) ⌝ }
     ensures { λ r. ⌜ Chooses end (now (positions .entry)) (now (lives .entry)) (now (lefts .entry)) (now (prices .entry)) (now (stops .entry)) r (length (now (lives .entry))) ⌝ }
 {
-    let mut rows = [Changes { at: [false; 64] }; 16];
+    let mut rows = [Changes {
+        at: [false; OPENINGS],
+    }; PARTS];
     let mut q = 0;
     while q < lives.len() {
         let at = part_changes(end, positions, fees, lives, lefts, prices, q, stops, tab);

@@ -12,7 +12,7 @@ use lib.IntN.{ℤ, pos}
 use lib.Signed.{mag}
 use Rattle.model.specs.Model.{Job, listed, running, clock}
 use Rattle.model.specs.Verdict.{noPart}
-use Rattle.search_tables.specs.Arrays.{priceStride, lanePart, Holds}
+use Rattle.search_tables.specs.Arrays.{priceStride, lanePart, JobArrays}
 use Rattle.lane_rows.specs.Layout.{top, dear}
 use Rattle.model.specs.Limits.{lastPosition, longestLife}
 
@@ -39,18 +39,23 @@ job =
       parts = record { life = 3; left = 2; removal = 0; holders = []; prices = 5 ∷ 5 ∷ 5 ∷ 5 ∷ [] } ∷ record { life = 4; left = 4; removal = 0; holders = []; prices = 7 ∷ 7 ∷ 7 ∷ 7 ∷ [] } ∷ [];
     }
 
+-- the positions of the example's four openings
 abbrev pub places : List ℤ
 places = pos 2 ∷ pos 3 ∷ pos 4 ∷ pos 5 ∷ []
 
+-- the fees of the example's four openings
 abbrev pub fees : List ℕ
 fees = 10 ∷ 10 ∷ 10 ∷ 10 ∷ []
 
+-- the lives of the example's two parts
 abbrev pub lives : List ℕ
 lives = 3 ∷ 4 ∷ []
 
+-- the first lives of the example's two parts
 abbrev pub lefts : List ℕ
 lefts = 2 ∷ 4 ∷ []
 
+-- the example's prices as the array has them: each part's from a multiple of 64 on
 abbrev pub flat : List ℕ
 flat = 5 ∷ 5 ∷ 5 ∷ 5 ∷ replicate 60 0 ++ (7 ∷ 7 ∷ 7 ∷ 7 ∷ replicate 956 0)
 
@@ -77,7 +82,8 @@ own zero h = refl
 own (suc zero) h = refl
 own (suc (suc q)) h = absurd (omega arith)
 
-pub held : Holds job (pos 7) places fees lives lefts flat
+-- the example's arrays hold its job
+pub held : JobArrays job (pos 7) places fees lives lefts flat
 unfolding clock running listed
 held =
     record {

@@ -32,18 +32,21 @@ use Rattle.lane_rows.specs.Tables.{Coded, Lane, Tables}
 use Rattle.lane_rows.proofs.Rising.{row-inside}
 use Rattle.model.specs.Limits.{longestLife}
 
+-- the lesser of a bound's own number and that for Missing stands for the bound
 pub coded : (b : ℕ) (e : Bound) (v : ℕ) → b ≤ laneLimit → AtMost b e → v ≡ min (codeOf e) inf → Coded b v e
 coded b Missing v h l f = omega arith
 coded b (Sum x) v h l f = (omega arith, l)
 
 -- ---- every opening is allowed
 
+-- among the first of many yes entries, and past them, each entry is yes
 pub all-true : (n m k : ℕ) → getD (take n (replicate m true)) k true ≡ true
 all-true zero m k = refl
 all-true (suc n) zero k = refl
 all-true (suc n) (suc m) zero = refl
 all-true (suc n) (suc m) (suc k) = all-true n m k
 
+-- of m entries the first n are n, where n is at most m
 pub all-length : (n m : ℕ) → n ≤ m → length (take n (replicate m true)) ≡ n
 all-length n m h = length-take-le n (replicate m true) (omega (arith, length-replicate m true))
 
@@ -80,6 +83,7 @@ module _ (life end first : ℤ) (ss : List ℤ) (ps : List ℕ) (fs : List Bool)
   price : (j : ℕ) → j < length ss → getD t₃ (pricePlace j q) 0 ≡ getD ps j 0
   price j h = w₃ .done j (omega arith)
 
+  -- after its three loops a lane is right for its column, and nothing else moved
   pub lane-done : LaneFilled end ss (column life first ps) t₀ t₃ q
   lane-done =
       record {
@@ -114,9 +118,11 @@ abbrev columnIn : List ℤ → List ℕ → List ℕ → List ℕ → ℕ → Co
 columnIn ss ls rs ps q = columnOf (lanePart (length ss) ls rs ps q)
 
 module _ (e : ℤ) (ss : List ℤ) (ls rs ps : List ℕ) where
+  -- before the first lane is filled no lane has to be right
   pub lanes-none : (t : List ℕ) → length t ≡ tablesSize → Lanes e ss ls rs ps t 0
   lanes-none t h = record { size = h; right = λ r l. absurd (omega arith) }
 
+  -- with lane q filled, one lane more is right, and those before it are kept
   pub lanes-more : (t t' : List ℕ) (q : ℕ) → length ss ≤ 64 → q < laneCount → LaneFilled e ss (columnIn ss ls rs ps q) t t' q → Lanes e ss ls rs ps t q → Lanes e ss ls rs ps t' (q + 1)
   lanes-more t t' q few h f l =
       record {
@@ -126,11 +132,13 @@ module _ (e : ℤ) (ss : List ℤ) (ls rs ps : List ℕ) where
             (f .lane);
       }
 
+-- k columns from q on are k columns
 pub columns-length : (n : ℕ) (ls rs ps : List ℕ) (q k : ℕ) → length (columnsFrom n ls rs ps q k) ≡ k
 unfolding columnsFrom
 columns-length n ls rs ps q zero = refl
 columns-length n ls rs ps q (suc k) = ap suc (columns-length n ls rs ps (suc q) k)
 
+-- column i of those from q on is that of lane q + i
 pub columns-at : (n : ℕ) (ls rs ps : List ℕ) (q k i : ℕ) → i < k → getD (columnsFrom n ls rs ps q k) i noColumn ≡ columnOf (lanePart n ls rs ps (q + i))
 unfolding columnsFrom
 columns-at n ls rs ps q zero i h = absurd (omega arith)
@@ -221,9 +229,11 @@ own-each P ps q n z f j = go (decLt j n)
     go (no g) = subst P (sym (List·getD-eq-default own 0 {n = j} (omega (arith, length-take n (drop (q * priceStride) ps), g)))) z
 
 module _ (ps : List ℕ) (q n : ℕ) (h : q < laneCount) (l : n ≤ 64) (s : length ps ≡ priceSize) where
+  -- the range of the price array that is cut out for lane q has its prices at the n openings
   pub own-is : take (q * priceStride + n - q * priceStride) (drop (q * priceStride) ps) ≡ take n (drop (q * priceStride) ps)
   own-is = let z : q * priceStride + n - q * priceStride ≡ n = omega arith in ap (λ (k : ℕ). take k (drop (q * priceStride) ps)) z
 
+  -- a lane has a price for each of the n openings
   pub own-length : length (take n (drop (q * priceStride) ps)) ≡ n
   own-length = simp (length-take, length-drop) (omega arith)
 
@@ -238,6 +248,7 @@ lane-range l b f q = go (decLt q (length l))
     go (no g) = rw (List·getD-eq-default l (getD l 0 0) {n = q} (omega (arith, g))) (f 0)
 
 module _ {ls rs : List ℕ} {q : ℕ} {v f : ℤ} (r : Lifespans ls rs) (l : Lived ls rs q v f) where
+  -- the position of a lane's change before the first fits in 31 bits
   pub change-small : Bits31 f
   change-small = rw (l .begins) (omega (arith, mag-sub (pos (laneValue rs q)) (pos (laneValue ls q)), lane-range ls longestLife (r .brief) q, lane-range rs longestLife (r .begun) q))
 

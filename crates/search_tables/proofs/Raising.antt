@@ -27,9 +27,11 @@ module _ (sheet : Sheet) (few : length (sheet .positions) ≤ 64) where
   abbrev pub Cleared : List ℕ → List ℕ → Type 0
   Cleared t t' = FilledBy (λ (y : ℕ). termBase + y) (λ (y : ℕ). 0) (triangle (length (sheet .positions) + 1)) t t'
 
+  -- where all terms are cleared, they are the largest over no parts
   pub terms-none : (t t' : List ℕ) → Cleared t t' → Terms sheet t' t' 0
   terms-none t t' f = record { size = refl; right = λ j i h g. (f .done (triangle j + i) (row-below j i (length (sheet .positions) + 1) h (omega arith)), omega arith); rest = λ x h. refl }
 
+  -- terms that are right since they were cleared are right since before, as clearing moved nothing before them
   pub terms-since : (t t' u : List ℕ) (q : ℕ) → Cleared t t' → Terms sheet t' u q → Terms sheet t u q
   terms-since t t' u q f s = record { size = s .size ∙ f .size; right = s .right; rest = λ x h. s .rest x h ∙ f .rest x (λ y l e. omega (arith, e)) }
 

@@ -15,13 +15,13 @@ use Rattle.model.specs.Verdict.{noPart}
 use Rattle.model.specs.LowerBound.{leastOf, offers, undecidedFees}
 use Rattle.model.specs.Unheld.{plainPartBound, plainPartFee, plainBound}
 use Rattle.model.proofs.Unpaid.{unpaid, unpaid-least}
-use Rattle.search_tables.specs.Arrays.{priceStride, lanePart, columnOf, columnsFrom, foursOf, sheetOf, Holds}
+use Rattle.search_tables.specs.Arrays.{priceStride, lanePart, columnOf, columnsFrom, foursOf, sheetOf, JobArrays}
 use Rattle.search_tables.proofs.Filling.{own-each, past}
 use Rattle.lane_rows.specs.Sheet.{columnBound, columnFee, sheetBound}
 
 -- ---- the columns
 
-module _ (job : Job) (e : ℤ) (ss : List ℤ) (fs ls rs ps : List ℕ) (h : Holds job e ss fs ls rs ps) (p : List Bool) where
+module _ (job : Job) (e : ℤ) (ss : List ℤ) (fs ls rs ps : List ℕ) (h : JobArrays job e ss fs ls rs ps) (p : List Bool) where
   -- the first part's bound
   abbrev begin : Bound
   begin = plainPartBound job (getD (job .parts) 0 noPart) p
@@ -107,6 +107,7 @@ module _ (job : Job) (e : ℤ) (ss : List ℤ) (fs ls rs ps : List ℕ) (h : Hol
       ap (λ (n : ℕ). largest (columnFee (sheetOf e ss fs ls rs ps)) (take n (columnsFrom (length ss) ls rs ps 0 (foursOf (length ls) * 4))) p) (sym (h .parts))
       ∙ columns-largest (job .parts) 0 (foursOf (length ls) * 4) (omega (arith, h .parts)) (omega (arith, h .parts)) all-parts
 
+  -- the bound of the arrays' sheet at a node is the job's bound over its openings alone
   pub sheet-bound : sheetBound (sheetOf e ss fs ls rs ps) p ≡ plainBound job p
   unfolding sheetBound plainBound
   sheet-bound = ap₂ add (ap₂ add (ap (λ (l : List ℕ). Sum (sumAt l p)) (h .fees)) (all-total (foursOf (length ls) * 4) (omega arith) begin refl)) all-largest

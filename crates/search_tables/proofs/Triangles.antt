@@ -9,6 +9,7 @@ use Rattle.least.specs.Filled.{FilledBy}
 use Rattle.search_tables.specs.Fill.{Triangle}
 
 module _ {at f : ℕ → ℕ → ℕ} {t : List ℕ} where
+  -- before the first row of a triangle nothing is written
   pub triangle-none : Triangle at f 0 t t
   triangle-none = record { size = refl; done = λ j i h l. absurd (omega arith); rest = λ x h. refl }
 

@@ -79,7 +79,7 @@ pub record Ready (e : ℤ) (ss : List ℤ) (fs ls rs ps tab : List ℕ) : Type 0
   pub room : tableSize ≤ length tab
 
 -- the arrays hold the job
-pub record Holds (job : Job) (e : ℤ) (ss : List ℤ) (fs ls rs ps : List ℕ) : Type 0 where
+pub record JobArrays (job : Job) (e : ℤ) (ss : List ℤ) (fs ls rs ps : List ℕ) : Type 0 where
   pub arrays : Arrays e ss fs ls rs ps
   pub ends : e ≡ end job
   pub places : ss ≡ positions job

@@ -21,10 +21,9 @@ use lane_rows::REACHES;
 use lane_rows::SUFFIXES;
 use lane_rows::row_of;
 use least::MARKS;
+use model::OPENINGS;
+use model::STRIDE;
 ghost use Rattle.model.specs.Limits.{longestLife, mostOpenings};
-
-// The prices of part q stand from q * 64 on.
-pub const STRIDE: usize = 64;
 
 // Lane q's number: part q's, and past the last part the first part's.
 fn lane_value(values: &[u32], q: usize) -> u32
@@ -154,7 +153,7 @@ fn fill_lane(
     requires { ⌜ LaneAsks end first (now positions) (now prices) q (now tab) (now t) ⌝ }
     ensures { λ _. ⌜ LaneFilled end (now (positions .entry)) (column life first (now (prices .entry))) (now (t .entry)) (now (t .exit)) q ⌝ }
 {
-    let all = [true; 64];
+    let all = [true; OPENINGS];
     let n = positions.len();
     least::fill(life, end, first, positions, prices, &all[..n], tab);
     put_suffixes(tab, n + 1, q, t);

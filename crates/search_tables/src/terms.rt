@@ -12,6 +12,7 @@ use crate::tables::lane_life;
 use lane_rows::TERMS;
 use lane_rows::row_of;
 use least::MARKS;
+use model::OPENINGS;
 
 // The larger of two numbers.
 fn larger(x: u32, y: u32) -> u32
@@ -68,7 +69,7 @@ fn raise_part(
     ensures { λ _. ⌜ Raised (sheetOf end (now (positions .entry)) (now (fees .entry)) (now (lives .entry)) (now (lefts .entry)) (now (prices .entry)))
         (columnOf (lanePart (length (now (positions .entry))) (now (lives .entry)) (now (lefts .entry)) (now (prices .entry)) q)) (now (t .entry)) (now (t .exit)) ⌝ }
 {
-    let all = [true; 64];
+    let all = [true; OPENINGS];
     let n = positions.len();
     let lane = lane_life(lives, lefts, q);
     least::fill(lane.life, end, lane.first, positions, fees, &all[..n], tab);

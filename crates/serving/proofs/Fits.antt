@@ -17,6 +17,7 @@ abbrev stated : LatestAnswer → ℕ
 stated unserved = 0
 stated (serves cost plan) = cost
 
+-- what the code finds can be printed, where it is the model's answer for a valid job
 pub fits : (job : Job) → ValidJob job → (stops : List Bool) (plan : Plan) (s : Serving) → answerIn plan s ≡ latestAnswerOf job stops → Fits s
 unfolding latestAnswerOf
 fits job ok stops plan Unserved e = tt

@@ -30,7 +30,8 @@ use Rattle.counting.proofs.Promised.{ordered}
 use Rattle.latest.specs.Latest.{LatestAnswer, unserved, serves, latestAnswerOf}
 use Rattle.latest.specs.Promise.{CanKeep, LatestPromise}
 use Rattle.latest.proofs.Promised.{latest-promise, latest-accepted}
-use Rattle.serving.specs.Serve.{saidFor, onPlan, onJob, latestSaid, latestRoom}
+use Rattle.plan_printing.specs.Printed.{printedLines}
+use Rattle.serving.specs.Serve.{servedLines, saidFor, onPlan, onJob, latestSaid, latestRoom}
 use Rattle.serving.specs.Promise.{jobIn, stopsIn, Prints, ServePromise}
 
 -- ---- two texts that read
@@ -43,9 +44,9 @@ module _ {jobText planText : List ℕ} (r : Reading jobText planText) where
   pub answer-keeps : LatestPromise (jobIn r) (stopsIn r) (latestAnswerOf (jobIn r) (stopsIn r))
   answer-keeps = latest-promise (jobIn r) (stopsIn r) (ordered (jobIn r) job-valid) (shaped (jobIn r) planText (r .stated) (r .plan-read) .stops)
 
-  says : latestSaid jobText planText ≡ saidFor (jobIn r) (latestAnswerOf (jobIn r) (stopsIn r))
+  says : latestSaid jobText planText ≡ saidFor (r .given) (latestAnswerOf (jobIn r) (stopsIn r))
   unfolding latestSaid
-  says = ap (onJob jobText planText) (r .job-read) ∙ ap (onPlan planText (jobIn r)) (r .plan-read)
+  says = ap (onJob jobText planText) (r .job-read) ∙ ap (onPlan planText (r .given)) (r .plan-read)
 
 module _ (jobText planText : List ℕ) (room : ℕ) where
   -- ---- no room
@@ -84,11 +85,11 @@ module _ (jobText planText : List ℕ) (room : ℕ) where
       (λ r. not-both (r .job-read) e) (sym (ap (judging.onJob jobText planText) e))
 
   refused-plan : latestRoom ≤ room → (g : Given) → readJob jobText ≡ accepted g → (n l : ℕ) → readPlan (g .job) planText ≡ refused n l
-      → ServePromise jobText planText room (onPlan planText (g .job) (refused n l))
+      → ServePromise jobText planText room (onPlan planText g (refused n l))
   unfolding judgeSaid
   refused-plan h g eg n l e =
       let k = plan.fault (g .job) planText n l e .0 in
-      faulty h (onPlan planText (g .job) (refused n l)) (plan.fault-else n 8 k (omega arith) (omega arith)) (plan.fault-else n 6 k (omega arith) (omega arith)) (λ f. omega (arith, plan.fault-some n k))
+      faulty h (onPlan planText g (refused n l)) (plan.fault-else n 8 k (omega arith) (omega arith)) (plan.fault-else n 6 k (omega arith) (omega arith)) (λ f. omega (arith, plan.fault-some n k))
       (λ r. not-both (r .plan-read) (sym (other-plan jobText planText eg (r .job-read)) ∙ e)) (sym (ap (judging.onJob jobText planText) eg ∙ ap (judging.onPlan planText (g .job)) e))
 
   -- ---- two texts that read
@@ -97,8 +98,8 @@ module _ (jobText planText : List ℕ) (room : ℕ) where
     abbrev servable : Given → Stated → Type 0
     servable g st = CanKeep (g .job) (st .plan .stops)
 
-    read : (a : LatestAnswer) → LatestPromise (jobIn here) (stopsIn here) a → ServePromise jobText planText room (saidFor (jobIn here) a)
-    unfolding judgeSaid
+    read : (a : LatestAnswer) → LatestPromise (jobIn here) (stopsIn here) a → ServePromise jobText planText room (saidFor (here .given) a)
+    unfolding judgeSaid servedLines printedLines
     read unserved p = record {
       says-8 = (λ e. absurd (omega arith), λ e. absurd (omega arith));
       says-6 = (λ e. (h, (here, p .says-6 .0 refl)), λ e. refl);
@@ -113,7 +114,7 @@ module _ (jobText planText : List ℕ) (room : ℕ) where
       says-6 = (λ e. absurd (omega arith), λ r. absurd (r .1 .1 (moved servable here (r .1 .0) (p .says-0 .0 refl))));
       says-0 = (λ e. (h, (here, p .says-0 .0 refl)), λ e. refl);
       writes-6 = λ e. absurd (omega arith);
-      writes-0 = λ r e. moved (λ g st. Prints jobText (g .job) (st .plan .stops) (saidFor (jobIn here) (serves cost q))) here r prints;
+      writes-0 = λ r e. moved (λ g st. Prints jobText g (st .plan .stops) (saidFor (here .given) (serves cost q))) here r prints;
       job-fault = λ n l e. not-both (here .job-read) e;
       plan-fault = λ g e n l f. not-both (here .plan-read) (other-plan jobText planText (here .job-read) e ∙ f);
     }
@@ -122,11 +123,12 @@ module _ (jobText planText : List ℕ) (room : ℕ) where
         back =
             read-back (jobIn here) (job-valid here) cost q (omega (arith, p .plan-for .states, cost-most (jobIn here) (job-valid here) q)) (lives-shaped (jobIn here) q (p .plan-for .keeps))
 
-        prints : Prints jobText (jobIn here) (stopsIn here) (saidFor (jobIn here) (serves cost q))
+        prints : Prints jobText (here .given) (stopsIn here) (saidFor (here .given) (serves cost q))
         prints = record {
           cost = cost;
           plan = q;
           latest = p .plan-for;
+          lines = planLinesOf (jobIn here) cost q;
           writes = refl;
           reads-back = back;
           judged =
@@ -137,7 +139,7 @@ module _ (jobText planText : List ℕ) (room : ℕ) where
 
   -- ---- all together
 
-  on-plan : latestRoom ≤ room → (g : Given) → readJob jobText ≡ accepted g → (x : Outcome Stated) → readPlan (g .job) planText ≡ x → ServePromise jobText planText room (onPlan planText (g .job) x)
+  on-plan : latestRoom ≤ room → (g : Given) → readJob jobText ≡ accepted g → (x : Outcome Stated) → readPlan (g .job) planText ≡ x → ServePromise jobText planText room (onPlan planText g x)
   on-plan h g eg (accepted st) es =
       let r : Reading jobText planText = record { given = g; stated = st; job-read = eg; plan-read = es } in
       read h r (latestAnswerOf (g .job) (st .plan .stops)) (answer-keeps r)
@@ -160,5 +162,5 @@ pub only-stops : (job plan other : List ℕ) (given : Given) (s t : Stated) → 
     → s .plan .stops ≡ t .plan .stops → latestSaid job plan ≡ latestSaid job other
 only-stops job plan other given s t r p q e =
     says (record { given = given; stated = s; job-read = r; plan-read = p })
-    ∙ ap (λ (l : List Bool). saidFor (given .job) (latestAnswerOf (given .job) l)) e
+    ∙ ap (λ (l : List Bool). saidFor given (latestAnswerOf (given .job) l)) e
     ∙ sym (says (record { given = given; stated = t; job-read = r; plan-read = q }))

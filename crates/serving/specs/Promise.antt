@@ -2,19 +2,19 @@
 use Prim.Native.Nat.{ℕ, _≤_, _<_}
 use mathlib.Core.Path.{_≡_}
 use mathlib.Core.Bool.{Bool}
-use mathlib.Core.List.{List}
+use mathlib.Core.List.{List, _++_}
 use mathlib.Core.Logic.{_↔_}
 use Rattle.lines.specs.Text.{lineOf}
 use Rattle.lines.specs.Parser.{accepted, refused}
 use Rattle.model.specs.Model.{Job, Plan}
 use Rattle.job_grammar.specs.Grammar.{Given, readJob}
 use Rattle.plan_grammar.specs.Grammar.{readPlan}
-use Rattle.plan_grammar.specs.Rendering.{planLinesOf}
 use Rattle.answers.specs.Said.{Said, plainly, lent}
 use Rattle.judging.specs.Judge.{judgeSaid, judgeRoom, costLines}
 use Rattle.judging.specs.Promise.{Reading}
 use Rattle.latest.specs.Promise.{CanKeep, LatestPlan}
-use Rattle.serving.specs.Serve.{servedLines, latestRoom}
+use Rattle.plan_printing.specs.Printed.{lowLines}
+use Rattle.serving.specs.Serve.{latestRoom}
 
 module _ {job plan : List ℕ} where
   -- E9.2. the job, and the plan text's stops, which are all of it that counts
@@ -28,14 +28,16 @@ module _ {job plan : List ℕ} where
   abbrev pub Serve : Reading job plan → Type 0
   Serve r = CanKeep (jobIn r) (stopsIn r)
 
--- what is written with 0 for the job of a text and its stops: a plan with its cost, which keeps the promise of E9.3 to E9.5; its lines are read back as that plan with its cost, and the judge says 0 of them
-pub record Prints (text : List ℕ) (job : Job) (stops : List Bool) (s : Said) : Type 0 where
+-- what is written with 0 for a job text and its stops: a plan with its cost, which keeps the promise of E9.3 to E9.5, E11. with its cost at the low ends before it where the job text has a `low` line; its lines are read back as that
+-- plan with its cost, and the judge says 0 of them
+pub record Prints (text : List ℕ) (given : Given) (stops : List Bool) (s : Said) : Type 0 where
   pub cost : ℕ
   pub plan : Plan
-  pub latest : LatestPlan job stops cost plan
-  pub writes : s .bytes ≡ servedLines job cost plan
-  pub reads-back : readPlan job (planLinesOf job cost plan) ≡ accepted (record { cost = cost; plan = plan })
-  pub judged : judgeSaid text (planLinesOf job cost plan) ≡ plainly 0 (costLines 0 cost)
+  pub latest : LatestPlan (given .job) stops cost plan
+  pub lines : List ℕ
+  pub writes : s .bytes ≡ lineOf "result=" 0 ++ (lowLines given plan ++ lines)
+  pub reads-back : readPlan (given .job) lines ≡ accepted (record { cost = cost; plan = plan })
+  pub judged : judgeSaid text lines ≡ plainly 0 (costLines 0 cost)
 
 -- what is promised of the answer s to the two texts, where the output has `room` bytes
 pub record ServePromise (job plan : List ℕ) (room : ℕ) (s : Said) : Type 0 where
@@ -47,7 +49,7 @@ pub record ServePromise (job plan : List ℕ) (room : ℕ) (s : Said) : Type 0 w
   pub says-0 : (s .result ≡ 0) ↔ ((latestRoom ≤ room) × ((r : Reading job plan) × Serve r))
   -- what is written with them
   pub writes-6 : s .result ≡ 6 → s .bytes ≡ lineOf "result=" 6
-  pub writes-0 : (r : Reading job plan) → s .result ≡ 0 → Prints job (jobIn r) (stopsIn r) s
+  pub writes-0 : (r : Reading job plan) → s .result ≡ 0 → Prints job (r .given) (stopsIn r) s
   -- E9.2. "refuses faults in either as the judge does": with the judge's answer, every number and byte, whatever the room
   pub job-fault : (number line : ℕ) → readJob job ≡ refused number line → s ≡ lent judgeRoom room (judgeSaid job plan)
   pub plan-fault : (given : Given) → readJob job ≡ accepted given → (number line : ℕ) → readPlan (given .job) plan ≡ refused number line → s ≡ lent judgeRoom room (judgeSaid job plan)

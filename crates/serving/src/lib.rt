@@ -1,6 +1,7 @@
 // The latest-time habit: changes each part at the last of given stops that still serves.
 use answers::Answer;
 use answers::refuse;
+use job_text::whole::JobText;
 use job_text::whole::read_job;
 use jobs::Job;
 use jobs::Plan;
@@ -10,8 +11,8 @@ use lines::rows::WholeText;
 use plan_costs::costs::cost_of;
 use plan_lives::lives::Verdict;
 use plan_lives::lives::verdict_of;
+use plan_printing::put_printed;
 use plan_text::whole::read_plan;
-use plan_writing::put_plan;
 ghost use mathlib.Core.Path.{_≡_};
 ghost use mathlib.Core.Bool.{Bool};
 ghost use mathlib.Core.List.{List};
@@ -21,10 +22,11 @@ ghost use Rattle.lines.specs.Wrote.{Wrote};
 ghost use Rattle.model.specs.Model as model;
 ghost use Rattle.jobs.specs.Views.{jobOf, planFor};
 ghost use Rattle.jobs.specs.Valid.{Sound};
+ghost use Rattle.job_text.specs.Views.{givenOf, SoundText};
 ghost use Rattle.plan_grammar.specs.Grammar.{readPlan};
 ghost use Rattle.answers.specs.Said.{lent, Replied};
 ghost use Rattle.latest.specs.Latest.{numberOf, latestPlanOf, latestAnswerOf};
-ghost use Rattle.serving.specs.Serve.{linesOf, saidFor, onPlan, latestSaid, latestRoom};
+ghost use Rattle.serving.specs.Serve.{latestLines, saidFor, onPlan, latestSaid, latestRoom};
 ghost use Rattle.serving.specs.Serving.{answerIn, Fits};
 ghost use Rattle.serving.specs.Promise.{ServePromise};
 
@@ -62,53 +64,55 @@ fn number_of(s: Serving) -> u32
 }
 
 // The lines of the answer and of its plan.
-fn put_serving(out: &mut [u8], s: Serving, job: Job, plan: Plan) -> usize
-    requires { ⌜ Fits s × Sound job × (latestRoom ≤ length (now out)) ⌝ }
-    ensures { λ r. ⌜ Wrote (now (out .entry)) 0 (linesOf (jobOf job) (answerIn (planFor job plan) s)) (now (out .exit)) r ⌝ }
+fn put_serving(out: &mut [u8], s: Serving, text: JobText, plan: Plan) -> usize
+    requires { ⌜ Fits s × SoundText text × (latestRoom ≤ length (now out)) ⌝ }
+    ensures { λ r. ⌜ Wrote (now (out .entry)) 0 (latestLines (givenOf text) (answerIn (planFor (text .job) plan) s)) (now (out .exit)) r ⌝ }
 {
     match s {
         Serving::Unserved => put_line(out, 0, b"result=", 6),
         Serving::Serves(cost) => {
             let a = put_line(out, 0, b"result=", 0);
-            put_plan(out, a, job, cost, plan)
+            put_printed(out, a, text, cost, plan)
         }
     }
 }
 
 // The answer, with its plan.
-fn answer(s: Serving, job: Job, plan: Plan, out: &mut [u8]) -> Answer
-    requires { ⌜ Fits s × Sound job ⌝ }
-    ensures { λ r. ⌜ Replied latestRoom (saidFor (jobOf job) (answerIn (planFor job plan) s)) (now (out .entry)) (now (out .exit)) r ⌝ }
+fn answer(s: Serving, text: JobText, plan: Plan, out: &mut [u8]) -> Answer
+    requires { ⌜ Fits s × SoundText text ⌝ }
+    ensures { λ r. ⌜ Replied latestRoom (saidFor (givenOf text) (answerIn (planFor (text .job) plan) s)) (now (out .entry)) (now (out .exit)) r ⌝ }
 {
     if out.len() < ROOM {
         return Answer::no_room();
     }
-    let n = put_serving(out, s, job, plan);
+    let n = put_serving(out, s, text, plan);
     Answer::plain(number_of(s), n)
 }
 
-// The answer to an accepted job and a plan that is stated: only its stops count.
-fn serve(job: Job, stated: Plan, out: &mut [u8]) -> Answer
-    requires { ⌜ Sound job ⌝ }
-    ensures { λ r. ⌜ Replied latestRoom (saidFor (jobOf job) (latestAnswerOf (jobOf job) (planFor job stated .stops))) (now (out .entry)) (now (out .exit)) r ⌝ }
+// The answer to an accepted job text and a plan that is stated: only its stops count.
+fn serve(text: JobText, stated: Plan, out: &mut [u8]) -> Answer
+    requires { ⌜ SoundText text ⌝ }
+    ensures { λ r. ⌜ Replied latestRoom (saidFor (givenOf text) (latestAnswerOf (jobOf (text .job)) (planFor (text .job) stated .stops))) (now (out .entry)) (now (out .exit)) r ⌝ }
 {
     let stops = stated.stops;
+    let job = text.job;
     let plan = latest_plan(job, stops);
-    answer(serving_of(job, plan), job, plan, out)
+    answer(serving_of(job, plan), text, plan, out)
 }
 
-// The plan text against an accepted job.
-fn serve_plan(job: Job, plan: &[u8], out: &mut [u8]) -> Answer
-    requires { ⌜ Sound job ⌝ }
-    ensures { λ r. ⌜ Replied latestRoom (onPlan (now (plan .entry)) (jobOf job) (readPlan (jobOf job) (now (plan .entry)))) (now (out .entry)) (now (out .exit)) r ⌝ }
+// The plan text against an accepted job text.
+fn serve_plan(text: JobText, plan: &[u8], out: &mut [u8]) -> Answer
+    requires { ⌜ SoundText text ⌝ }
+    ensures { λ r. ⌜ Replied latestRoom (onPlan (now (plan .entry)) (givenOf text) (readPlan (jobOf (text .job)) (now (plan .entry)))) (now (out .entry)) (now (out .exit)) r ⌝ }
 {
+    let job = text.job;
     let stated = read_plan(plan, job);
     let verdict = stated.verdict;
     match verdict {
         WholeText::Fault { number, line } => refuse(plan, 2, number, line, ROOM, out),
         WholeText::Good => {
             let p = stated.plan;
-            serve(job, p, out)
+            serve(text, p, out)
         }
     }
 }
@@ -126,7 +130,7 @@ pub fn latest(job: &[u8], plan: &[u8], out: &mut [u8]) -> Answer
     match verdict {
         WholeText::Fault { number, line } => refuse(job, 1, number, line, ROOM, out),
         WholeText::Good => {
-            let accepted = read.text.job;
+            let accepted = read.text;
             serve_plan(accepted, plan, out)
         }
     }

@@ -82,6 +82,7 @@ module _ (job : Job) (shares : Shares) (lanes : List Held) where
   -- ---- a lane
 
   module _ (t w : List ℕ) (bs : List (List Bool)) (n : ℕ) (ta : SharedTables job shares lanes t) (st : Stacked job shares lanes bs w n) where
+    -- a lane over the rows of a node is the least that its part bears there
     pub lane-value : length bs ≤ length (job .openings) → (q : ℕ) → q < laneCount → valueOf (lane t w suffixBase (length bs) q n) ≡ sharedPart job shares bs q (part q)
     unfolding columnBound
     lane-value h q l =
@@ -117,6 +118,7 @@ module _ (job : Job) (shares : Shares) (lanes : List Held) where
               );
         }
 
+    -- where the memo is right, the rows of a node may be looked at on its level
     pub looks-at : length bs ≤ length (job .openings) → Memo t w n → Looks t w n (length bs)
     looks-at h me = record { memo = me; stack = subst (λ (k : ℕ). Stack k t w suffixBase (length bs) n) (sym (ta .wide)) (stack-at h); size = ta .size; some = st .some }
 
@@ -153,6 +155,7 @@ module _ (job : Job) (shares : Shares) (lanes : List Held) where
 
     -- ---- a no
 
+    -- the rows of a node are those of the node after a no
     pub stacked-no : length bs < length (job .openings) → Stacked job shares lanes (bs ++ ((false ∷ []) ∷ [])) w n
     stacked-no h =
         let z : length (bs ++ ((false ∷ []) ∷ [])) ≡ length bs + 1 = length-append bs ((false ∷ []) ∷ []) in
@@ -196,6 +199,7 @@ module _ (job : Job) (shares : Shares) (lanes : List Held) where
             record { some = λ g. omega (arith, v .1 g); most = omega (arith, lane-most t w reachBase (length bs) q n, c, pr) },
           )
 
+      -- the row of a new stop: reach and price with all shares, less the lane's share of the fee
       pub top-new : (f : ℕ → ℕ) → ((q : ℕ) → q < laneCount → f q ≡ easedOf (nextRow t w (length bs) n q) (bears shares q (length bs) (part q) 0)) → TopRow job shares lanes bs [] w n f
       top-new f e =
           record {
@@ -316,6 +320,7 @@ module _ (job : Job) (shares : Shares) (lanes : List Held) where
 
   -- ---- the first node
 
+  -- the row of the first life is that of the node with nothing decided
   pub stacked-first : (w : List ℕ) → FirstRow w → Stacked job shares lanes [] w 1
   unfolding marksIn frontFrom
   stacked-first w r =
@@ -334,6 +339,7 @@ module _ (job : Job) (shares : Shares) (lanes : List Held) where
             ∙ sym (ap (frontFrom (pos (part q .part .life)) (record { at = first; cost = Sum 0 } ∷ [])) (decided-nil (positions job) (column [] q .prices))));
       }
 
+  -- where its rows are kept, the stack still has those of the blocks
   pub stacked-kept : (bs : List (List Bool)) (w w' : List ℕ) (n : ℕ) → Stacked job shares lanes bs w n → Kept w w' n → Stacked job shares lanes bs w' n
   stacked-kept bs w w' n r k =
       record {
@@ -345,6 +351,7 @@ module _ (job : Job) (shares : Shares) (lanes : List Held) where
         fronts = λ q l. ap solid (marks-kept (lastChange (part q .part)) (positions job) w w' q n n l (omega arith) k) ∙ r .fronts q l;
       }
 
+  -- a stop's row above rows that are kept is still right
   pub top-kept : (bs : List (List Bool)) (rs : List Bool) (w w' : List ℕ) (n : ℕ) (f : ℕ → ℕ) → TopRow job shares lanes bs rs w n f → Kept w w' n → TopRow job shares lanes bs rs w' n f
   top-kept bs rs w w' n f r k = record { below = stacked-kept bs w w' n (r .below) k; cost = r .cost; level = r .level }
 
@@ -420,6 +427,7 @@ module _ (job : Job) (shares : Shares) (lanes : List Held) where
         go (inl r) = ap (λ (x : Bound). below x (plan cost s)) r ∙ le-ltb (spent + sumLanes laneCount laneOf) cost l
         go (inr r) = ap (λ (x : Bound). below x (plan cost s)) (r .0)
 
+    -- where what is spent and the lanes' sum are below the cost, they are the estimate, and the node is not dropped
     pub test-opens : (spent cost : ℕ) (s : List Bool) → spent ≡ chargedFor job bs → cost ≤ inf → spent + sumLanes laneCount laneOf < cost → (estimate job shares bs ≡ Sum (spent + sumLanes laneCount laneOf)) × (below (estimate job shares bs) (plan cost s) ≡ true)
     test-opens spent cost s e k l = go (told spent e)
       where

@@ -27,15 +27,18 @@ use Rattle.share_rows.specs.Stacked.{pays}
 
 -- ---- lists of blocks
 
+-- one block more leaves the blocks before it as they are
 pub getD-front : (bs : List (List Bool)) (b : List Bool) (k : ℕ) → k < length bs → getD (bs ++ (b ∷ [])) k [] ≡ getD bs k []
 getD-front [] b k h = absurd (omega arith)
 getD-front (d ∷ bs) b zero h = refl
 getD-front (d ∷ bs) b (suc k) h = getD-front bs b k (omega arith)
 
+-- the block added at the end stands behind all the others
 pub getD-last : (bs : List (List Bool)) (b : List Bool) → getD (bs ++ (b ∷ [])) (length bs) [] ≡ b
 getD-last [] b = refl
 getD-last (d ∷ bs) b = getD-last bs b
 
+-- past the last block nothing is decided
 pub getD-past : (bs : List (List Bool)) (k : ℕ) → length bs ≤ k → getD bs k [] ≡ []
 getD-past [] k h = refl
 getD-past (d ∷ bs) zero h = absurd (omega arith)
@@ -50,6 +53,7 @@ table-past f (suc n) (suc k) h = table-past (λ i. f (suc i)) n k (omega arith)
 -- ---- prices
 
 module _ (job : Job) (shares : Shares) (q : ℕ) (held : Held) where
+  -- a part's shared price at an opening is its price and what it owes there by the opening's block
   pub price-at : (bs : List (List Bool)) (k : ℕ) → k < length (job .openings) → getD (sharedPrices job shares q held bs) k 0 ≡ pays job shares q held k (getD bs k [])
   price-at bs k h = table-at (λ k. pays job shares q held k (getD bs k [])) (length (job .openings)) k 0 h
 
@@ -77,6 +81,7 @@ decided-same (s ∷ ss) ns ms (b ∷ p) h =
     ap₂ (λ (x : ℕ) (l : List Offer). record { position = s; price = x; allowed = b } ∷ l) (h 0 (omega arith))
     (decided-same ss (drop 1 ns) (drop 1 ms) p (λ k l. after-one ns k 0 ∙ h (suc k) (omega arith) ∙ sym (after-one ms k 0)))
 
+-- one block more leaves a part's front over the openings before it as it is
 pub front-same : (job : Job) (shares : Shares) (q : ℕ) (held : Held) (bs : List (List Bool)) (b : List Bool) (p : List Bool) → length p ≤ length bs
     → front (positions job) (columnOf job shares (bs ++ (b ∷ [])) q held) p ≡ front (positions job) (columnOf job shares bs q held) p
 front-same job shares q held bs b p h =

@@ -35,9 +35,11 @@ use Rattle.share_walk.specs.State.{openN, stopN, treeAt, belowTree, Numb
 
 -- ---- rows that are kept
 
+-- at an opening the walk keeps all of the node's rows
 pub kept-open : (h : ℕ) (p : Node) → p .next ≡ h → keptRows h p ≡ p .rows
 kept-open h p e = ap (λ (b : Bool). cond b (p .rows - 1) (p .rows)) (le-ltb (p .next) h (omega (arith, e)))
 
+-- at a stop the walk keeps all of the node's rows but the stop's own
 pub kept-stop : (h : ℕ) (p : Node) → p .next < h → keptRows h p ≡ p .rows - 1
 kept-stop h p l = ap (λ (b : Bool). cond b (p .rows - 1) (p .rows)) (lt-ltb (p .next) h l)
 
@@ -48,6 +50,7 @@ kept-low h p = go (ltb (p .next) h)
     go true = omega arith
     go false = omega arith
 
+-- a memo that is right for n + 1 rows is right for the first n
 pub memo-less : (t w : List ℕ) (n : ℕ) → Memo t w (n + 1) → Memo t w n
 memo-less t w n m = record { none = m .none; steep = λ k l. m .steep k (omega arith); right = λ k l a. m .right k l (omega arith) }
 
@@ -60,6 +63,7 @@ module _ (job : Job) where
 
   -- ---- blocks
 
+  -- the name of a node at level l has l whole blocks, and is made up of them
   pub level-blocks : (l : ℕ) (s : List Bool) → Level job l s → l ≤ all → Wholes h l (nodeAt job s) × (concat (nodeAt job s) ≡ s)
   level-blocks l s v k =
       let f = full-blocks h l s v in
@@ -77,12 +81,15 @@ module _ (job : Job) where
     abbrev bs : List (List Bool)
     bs = nodeAt job s
 
+    -- the node at level l has l blocks
     pub long : length bs ≡ l
     long = wholes-length h l bs (level-blocks l s v (omega arith) .0)
 
+    -- after a no the node has one block more, that of no
     pub node-no : nodeAt job (snoc s false) ≡ bs ++ ((false ∷ []) ∷ [])
     node-no = let f = level-blocks l s v (omega arith) in ap (λ (q : List Bool). nodeAt job (snoc q false)) (sym (f .1)) ∙ blocks-no h all l bs (f .0) k
 
+    -- at a stop the node has one block more: the yes and the removals decided so far
     pub node-stop : (rs : List Bool) → length rs ≤ h → nodeAt job (s ++ (true ∷ rs)) ≡ bs ++ ((true ∷ rs) ∷ [])
     node-stop rs m = let f = level-blocks l s v (omega arith) in ap (λ (q : List Bool). nodeAt job (q ++ (true ∷ rs))) (sym (f .1)) ∙ blocks-stop h all l bs (f .0) rs k m
 
@@ -91,6 +98,7 @@ module _ (job : Job) where
 
   -- ---- what is left to ask
 
+  -- what is left to ask at the node below an opening is the search's tree below
   pub tree-open : (shares : Shares) (p : Node) (s : List Bool) (fee : ℕ) (b : Bool) → p .next ≡ h → treeAt job shares (openN p fee b) (snoc s b) ≡ belowTree job shares p s b
   tree-open shares p s fee false e =
       let z : h - p .next ≡ 0 = omega (arith, e) in
@@ -99,9 +107,11 @@ module _ (job : Job) where
       let z : h - 0 ≡ h = omega arith in
       ap (λ (k : ℕ). leftAt (sharedBound job shares) h k (all - (p .at + 1)) (snoc s true)) z ∙ ap (λ (c : Bool). cond c (leftAt (sharedBound job shares) h (h - (p .next + 1)) (all - p .at) (snoc s true)) (leftAt (sharedBound job shares) h h (all - (p .at + 1)) (snoc s true))) (sym (le-ltb (p .next) h (omega (arith, e))))
 
+  -- what is left to ask at the node below a stop, with one removal more decided, is the search's tree below
   pub tree-stop : (shares : Shares) (p : Node) (s : List Bool) (removal : ℕ) (b : Bool) → p .next < h → treeAt job shares (stopN p removal b) (snoc s b) ≡ belowTree job shares p s b
   tree-stop shares p s removal b l = ap (λ (c : Bool). cond c (leftAt (sharedBound job shares) h (h - (p .next + 1)) (all - p .at) (snoc s b)) (leftAt (sharedBound job shares) h (cond b h 0) (all - (p .at + 1)) (snoc s b))) (sym (lt-ltb (p .next) h l))
 
+  -- walking on from a node that has something to decide is walking its two nodes below, that of no first
   pub both-below : (shares : Shares) (p : Node) (s : List Bool) (L : ℕ) (st : Limited) → p .next ≤ h → (p .next ≡ h → p .at < all)
       → onward L (treeAt job shares p s) s st ≡ limited L (belowTree job shares p s true) (snoc s true) (limited L (belowTree job shares p s false) (snoc s false) st)
   both-below shares p s L st m f = go (ltb (p .next) h) refl
@@ -201,6 +211,7 @@ module _ (job : Job) where
       unfolding sumAt
       charge-no = ap (chargedFor job) (node-no (p .at) s (op .level) less) ∙ omega (arith, charged-last job shares (nodeAt job s) (false ∷ []) (omega (arith, size-is)), nu .spent)
 
+      -- the node without a stop has the same rows, and all that the walk is given of it
       pub below-no : Below job shares lanes s t x w w p false (openN p 0 false)
       below-no =
           let e = node-no (p .at) s (op .level) less in
@@ -232,6 +243,7 @@ module _ (job : Job) where
             ∙ (let z : getD (worth job (length (nodeAt job s))) 0 0 ≡ fee = ap (λ (k : ℕ). getD (worth job k) 0 0) size-is ∙ sym (nu .tables .fees (p .at) less) in
             omega (arith, charged-last job shares (nodeAt job s) (true ∷ []) (omega (arith, size-is)), nu .spent, z))
 
+        -- with the stop's row on the stack, eased by its shares of the fee, the node of the stop is given
         pub below-yes : Below job shares lanes s t x w w' p true (openN p fee true)
         below-yes =
             let r = openN p fee true in
@@ -328,6 +340,7 @@ module _ (job : Job) where
             go true = omega (arith, nu .shared .removals (p .next) o, nu .shared .cheap (p .next))
             go false = omega arith
 
+        -- with the stop's row changed for one removal more, the node below the stop is given
         pub below-stop : Below job shares lanes s t x w w' p b down
         below-stop =
             let e = name-more b in
@@ -350,6 +363,7 @@ module _ (job : Job) where
       abbrev outRow : ℕ → ℕ
       outRow q = easedOf (getD row q 0) (getD x (bearPlace (p .next + 1) (p .at - 1) q) 0)
 
+      -- with the row eased by the shares of the removal, the node where the holding part is removed is given
       pub below-out : (w' : List ℕ) → Put laneCount outRow w w' (p .rows - 1) (p .at) → Memo t w' (p .rows - 1 + 1) → Below job shares lanes s t x w w' p true (stopN p removal true)
       below-out w' u me =
           below-stop true w' outRow
@@ -362,6 +376,7 @@ module _ (job : Job) where
       abbrev shutRow : ℕ → ℕ
       shutRow q = cond (eqb (getD x (takePlace (p .next + 1) q) 0) 0) (getD row q 0) inf
 
+      -- with the lanes that take the removal shut in the row, the node where the holding part stays is given
       pub below-stays : (w' : List ℕ) → Put laneCount shutRow w w' (p .rows - 1) (p .at) → Memo t w' (p .rows - 1 + 1) → Below job shares lanes s t x w w' p false (stopN p removal false)
       below-stays w' u me =
           below-stop false w' shutRow (top-stays job shares lanes (nodeAt job (sa .before)) (sa .rs) w (p .rows - 1) (λ (q : ℕ). getD row q 0) (sp .row) shutRow each) u me

@@ -44,6 +44,7 @@ module _ (job : Job) (shares : Shares) (lanes : List Held) (t x : List ℕ) (so 
   nothing : nodeAt job [] ≡ []
   nothing = none-whole (inner job) (nodeAt job []) (level-blocks job 0 [] refl (omega arith) .0)
 
+  -- all that the walk is given at the first node: the first lives' row, and nothing decided or charged
   pub at-root : (w : List ℕ) (name : List Bool) → FirstRow w → length name ≡ nameSize → At job shares lanes [] t x w name (rootN h)
   at-root w name r l =
       record {
@@ -67,6 +68,7 @@ module _ (job : Job) (shares : Shares) (lanes : List Held) (t x : List ℕ) (so 
         stop = λ g. absurd (omega (arith, g, e));
       }
 
+  -- the tree at the first node is the planner's with the estimate by shares
   pub root-tree : treeAt job shares (rootN h) [] ≡ treeBy job (sharedBound job shares)
   unfolding askFrom
   root-tree =

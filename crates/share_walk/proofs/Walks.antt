@@ -31,7 +31,7 @@ use Rattle.share_rows.specs.Stacked.{Stacked}
 use Rattle.share_rows.proofs.Lanes.{looks-at, stacked-kept, top-kept, test-drops, test-opens}
 use Rattle.share_walk.specs.declared.Node.{Node}
 use Rattle.share_walk.specs.declared.State.{State}
-use Rattle.share_walk.specs.State.{nameSize, view, countedS, stoppedS, keptS, treeAt, belowTree, Numbers, Stopped, Opened, At, Above, keptRows, Below, Walked}
+use Rattle.share_walk.specs.State.{nameSize, view, countedS, stoppedS, keptS, treeAt, belowTree, Numbers, Stopped, Opened, At, Above, keptRows, Below, SharesWalked}
 use Rattle.share_walk.proofs.Nodes.{kept-open, kept-stop, both-below}
 
 -- ---- fewer rows
@@ -92,6 +92,7 @@ module _ (job : Job) (shares : Shares) (lanes : List Held) (s : List Bool) (t x 
     less-kept : Kept w w' (p .rows - 1)
     less-kept = record { size = k .kept .size; rows = λ i l. k .kept .rows i (omega arith); marks = λ i l. k .kept .marks i (omega arith) }
 
+    -- after a look that keeps the rows and their memo the node is given as before
     pub at-looked : At job shares lanes s t x w' name p
     at-looked =
         record {
@@ -133,12 +134,14 @@ module _ (job : Job) (shares : Shares) (lanes : List Held) (s : List Bool) (t x 
   pub look-asks : Looks t w (p .rows) (p .at)
   look-asks = subst (Looks t w (p .rows)) (nu .size) (looks-at job shares lanes t w (nodeAt job s) (p .rows) (nu .tables) (a .rows) (omega (arith, nu .size, nu .inside)) (a .memo))
 
+  -- what is spent and the lanes' sum of a look fit in 64 bits
   pub look-fits : (v : ℕ) → v ≡ sumLanes (lanesIn t) (λ (q : ℕ). lane t w suffixBase (p .at) q (p .rows)) → p .spent + v < 18446744073709551616
   look-fits v e =
       let m = sum-most (λ (q : ℕ). lane t w suffixBase (p .at) q (p .rows)) inf 0 (lanesIn t) (λ q. lane-most t w suffixBase (p .at) q (p .rows)) in
       let y : lanesIn t * inf ≡ laneCount * inf = ap (λ (k : ℕ). k * inf) (nu .tables .wide) in
       omega (arith, e, m, y, nu .poor, nu .inside, nu .tables .few, nu .next, nu .shared .few)
 
+  -- the sum of a look is that of all sixteen lanes
   pub look-sum : (v : ℕ) → v ≡ sumLanes (lanesIn t) (λ (q : ℕ). lane t w suffixBase (p .at) q (p .rows)) → v ≡ sumLanes laneCount (λ (q : ℕ). lane t w suffixBase (p .at) q (p .rows))
   look-sum v e = e ∙ ap (λ (k : ℕ). sumLanes k (λ (q : ℕ). lane t w suffixBase (p .at) q (p .rows))) (nu .tables .wide)
 
@@ -169,7 +172,8 @@ module _ (job : Job) (shares : Shares) (lanes : List Held) (s : List Bool) (t x 
   frame-of : (w' : List ℕ) → Recalled t w w' (p .rows) → Recalled t w w' (keptRows h p)
   frame-of w' k = recalled-less t w w' (keptRows h p) (p .rows) kept-few k
 
-  pub walked-stopped : (best : List Bool) (L : ℕ) (c : State) → L ≤ c .count → Walked job shares s t w w name name best best L p c (stoppedS c)
+  -- where the limit is reached, stopping there is the search's walk of the node
+  pub walked-stopped : (best : List Bool) (L : ℕ) (c : State) → L ≤ c .count → SharesWalked job shares s t w w name name best best L p c (stoppedS c)
   walked-stopped best L c l =
       record { search = sym (limited-stop L (treeAt job shares p s) s (view c best) l); frame = frame-of w (recalled-none t w (p .rows) (a .memo)); name-kept = refl; room = (refl, refl); lower = omega arith }
 
@@ -188,7 +192,8 @@ module _ (job : Job) (shares : Shares) (lanes : List Held) (s : List Bool) (t x 
   bound-is : boundAt (treeAt job shares p s) ≡ estimate job shares (nodeAt job s)
   bound-is = left-bound (sharedBound job shares) 0 h (h - p .next) (length (job .openings) - p .at) s
 
-  pub walked-dropped : (w' : List ℕ) (best : List Bool) (L e : ℕ) (c : State) → Recalled t w w' (p .rows) → e ≡ p .spent + sum → c .count < L → c .cost ≤ inf → c .cost ≤ e → Walked job shares s t w w' name name best best L p c (countedS c)
+  -- a node whose sum is not below the known cost is counted and dropped, as the search does
+  pub walked-dropped : (w' : List ℕ) (best : List Bool) (L e : ℕ) (c : State) → Recalled t w w' (p .rows) → e ≡ p .spent + sum → c .count < L → c .cost ≤ inf → c .cost ≤ e → SharesWalked job shares s t w w' name name best best L p c (countedS c)
   walked-dropped w' best L e c k z l i d =
       record {
         search = sym (limited-drop L (treeAt job shares p s) s (view c best) l (ap (λ (b : Bound). below b (plan (c .cost) (take (c .size) best))) bound-is
@@ -208,7 +213,8 @@ module _ (job : Job) (shares : Shares) (lanes : List Held) (s : List Bool) (t x 
     on : limited L (treeAt job shares p s) s (view c best) ≡ onward L (treeAt job shares p s) s (counted (view c best))
     on = limited-on L (treeAt job shares p s) s (view c best) l (ap (λ (b : Bound). below b (plan (c .cost) (take (c .size) best))) bound-is ∙ opens .1)
 
-    pub walked-full : (w' : List ℕ) (best' : List Bool) → Recalled t w w' (p .rows) → p .next ≡ h → p .at ≡ length (job .openings) → take (p .size) best' ≡ take (p .size) name → length best' ≡ length best → Walked job shares s t w w' name name best best' L p c (keptS (countedS c) e (p .size))
+    -- a full node below the known cost is counted and kept with its name, as the search does
+    pub walked-full : (w' : List ℕ) (best' : List Bool) → Recalled t w w' (p .rows) → p .next ≡ h → p .at ≡ length (job .openings) → take (p .size) best' ≡ take (p .size) name → length best' ≡ length best → SharesWalked job shares s t w w' name name best best' L p c (keptS (countedS c) e (p .size))
     walked-full w' best' k o f g q =
         let y : h - p .next ≡ 0 = omega (arith, o) in
         let v : length (job .openings) - p .at ≡ 0 = omega (arith, f) in
@@ -227,25 +233,28 @@ module _ (job : Job) (shares : Shares) (lanes : List Held) (s : List Bool) (t x 
 
     -- both nodes below: what the first leaves
     module _ (m : p .next ≡ h → p .at < length (job .openings)) (no : Node) (w₁ w₂ w₃ : List ℕ) (n₁ b₁ : List Bool) (r₁ : State)
-        (k : Recalled t w w₁ (p .rows)) (bn : Below job shares lanes s t x w₁ w₂ p false no) (wn : Walked job shares (snoc s false) t w₂ w₃ (set name (p .size) false) n₁ best b₁ L no (countedS c) r₁) where
+        (k : Recalled t w w₁ (p .rows)) (bn : Below job shares lanes s t x w₁ w₂ p false no) (wn : SharesWalked job shares (snoc s false) t w₂ w₃ (set name (p .size) false) n₁ best b₁ L no (countedS c) r₁) where
       no-size : no .size ≡ p .size + 1
       no-size = omega (arith, bn .numbers .named, nu .named, length-append s (false ∷ []))
 
       roomy : p .size < length name
       roomy = omega (arith, a .room, name-room m)
 
+      -- after the walk of the first node below, the name's beginning is still the node's
       pub first-name : take (p .size) n₁ ≡ s
       first-name = name-less name n₁ s (p .size) (no .size) false (wn .name-kept ∙ name-more name s (p .size) (no .size) false (a .name-is) roomy no-size) no-size (nu .named)
 
+      -- the walk of the first node below leaves the name's buffer as long as before
       pub first-long : length n₁ ≡ length name
       first-long = wn .room .0 ∙ length-set name (p .size) false
 
+      -- the walk of the first node below keeps the node's rows and their memo
       pub first-kept : Recalled t w₁ w₃ (keptRows h p)
       first-kept = recalled-then t w₁ w₂ w₃ (keptRows h p) (keptRows h no) (bn .kept-more) (bn .frame .kept) (wn .frame)
 
       -- and what both do
       module _ (yes : Node) (w₄ w₅ : List ℕ) (n₂ b₂ : List Bool) (r₂ : State)
-          (by : Below job shares lanes s t x w₃ w₄ p true yes) (wy : Walked job shares (snoc s true) t w₄ w₅ (set n₁ (p .size) true) n₂ b₁ b₂ L yes r₁ r₂) where
+          (by : Below job shares lanes s t x w₃ w₄ p true yes) (wy : SharesWalked job shares (snoc s true) t w₄ w₅ (set n₁ (p .size) true) n₂ b₁ b₂ L yes r₁ r₂) where
         yes-size : yes .size ≡ p .size + 1
         yes-size = omega (arith, by .numbers .named, nu .named, length-append s (true ∷ []))
 
@@ -259,7 +268,8 @@ module _ (job : Job) (shares : Shares) (lanes : List Held) (s : List Bool) (t x 
             let f₄ = recalled-then t w w₃ w₄ (keptRows h p) (keptRows h p) (omega arith) (f₃ .kept) (by .frame) in
             recalled-then t w w₄ w₅ (keptRows h p) (keptRows h yes) (by .kept-more) (f₄ .kept) (wy .frame)
 
-        pub walked-both : Walked job shares s t w w₅ name n₂ best b₂ L p c r₂
+        -- the walks of both nodes below, one after the other, are the search's walk of the node
+        pub walked-both : SharesWalked job shares s t w w₅ name n₂ best b₂ L p c r₂
         walked-both =
             record {
               search = wy .search

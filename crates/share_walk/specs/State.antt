@@ -140,7 +140,7 @@ pub record Below (job : Job) (shares : Shares) (lanes : List Held) (s : List Boo
   pub falls : (64 - r .at) * 17 + (16 - r .next) < (64 - p .at) * 17 + (16 - p .next)
 
 -- what the walk of a node does: the search's, and what it keeps
-pub record Walked (job : Job) (shares : Shares) (s : List Bool) (t w w' : List ℕ) (name name' best best' : List Bool) (limit : ℕ) (p : Node) (a r : State) : Type 0 where
+pub record SharesWalked (job : Job) (shares : Shares) (s : List Bool) (t w w' : List ℕ) (name name' best best' : List Bool) (limit : ℕ) (p : Node) (a r : State) : Type 0 where
   pub search : view r best' ≡ limited limit (treeAt job shares p s) s (view a best)
   pub frame : Recalled t w w' (keptRows (inner job) p)
   pub name-kept : take (p .size) name' ≡ take (p .size) name

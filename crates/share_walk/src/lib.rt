@@ -15,7 +15,7 @@ ghost use Rattle.shares.specs.Optimum.{treeBy, sharedBound};
 ghost use Rattle.lane_rows.specs.Layout.{laneCount, inf, countPlace, lanesIn, stackSize, tablesSize};
 ghost use Rattle.lane_rows.specs.Rows.{Put, Memo, Owing, nextRow};
 ghost use Rattle.share_rows.specs.Places.{bearPlace, takePlace, holdsPlace, shareSize, easedOf};
-ghost use Rattle.share_walk.specs.State.{nameSize, countedS, stoppedS, keptS, view, openN, askedN, PutAsks, At, Above, Below, Walked, Solvable};
+ghost use Rattle.share_walk.specs.State.{nameSize, countedS, stoppedS, keptS, view, openN, askedN, PutAsks, At, Above, Below, SharesWalked, Solvable};
 use held_lanes::number;
 use lane_rows::COUNT;
 use lane_rows::FEES;
@@ -268,7 +268,7 @@ pub fn walk(
 ) -> State
     requires { ⌜ ((job : Job) × (shares : Split) × (lanes : List Held) × (nm : List Bool) × At job shares lanes nm (now t) (now x) (now w) (now name) p) × (s .cost ≤ inf) × (limit < 2 ^ 63) × (length (now best) ≡ nameSize) ⌝ }
     ensures { λ r. ⌜ ((job : Job) (shares : Split) (lanes : List Held) (nm : List Bool) → At job shares lanes nm (now (t .entry)) (now (x .entry)) (now (w .entry)) (now (name .entry)) p
-        → Walked job shares nm (now (t .entry)) (now (w .entry)) (now (w .exit)) (now (name .entry)) (now (name .exit)) (now (best .entry)) (now (best .exit)) limit p s r) ⌝ }
+        → SharesWalked job shares nm (now (t .entry)) (now (w .entry)) (now (w .exit)) (now (name .entry)) (now (name .exit)) (now (best .entry)) (now (best .exit)) limit p s r) ⌝ }
 {
     if limit <= s.count {
         return s.stopped();
@@ -304,7 +304,10 @@ pub fn solve(
     limit: u64,
 ) -> State
     requires { ⌜ ((job : Job) × (shares : Split) × (lanes : List Held) × Solvable job shares lanes (now t) (now x)) × (cost ≤ inf) × (limit < 2 ^ 63) × (length (now w) ≡ stackSize) × (length (now name) ≡ nameSize) × (length (now best) ≡ nameSize) ⌝ }
-    ensures { λ r. ⌜ ((job : Job) (shares : Split) (lanes : List Held) → Solvable job shares lanes (now (t .entry)) (now (x .entry)) → view r (now (best .exit)) ≡ walkUnder (treeBy job (sharedBound job shares)) cost limit) ⌝ }
+    ensures search { λ r. ⌜ ((job : Job) (shares : Split) (lanes : List Held) → Solvable job shares lanes (now (t .entry)) (now (x .entry)) → view r (now (best .exit)) ≡ walkUnder (treeBy job (sharedBound job shares)) cost limit) ⌝ }
+    ensures stack { λ _. ⌜ length (now (w .exit)) ≡ stackSize ⌝ }
+    ensures names { λ _. ⌜ length (now (name .exit)) ≡ nameSize ⌝ }
+    ensures found { λ _. ⌜ length (now (best .exit)) ≡ nameSize ⌝ }
 {
     base_row(w);
     let root = Node {

@@ -34,6 +34,7 @@ job = record {
 abbrev pub alike : List (List ℕ) → Shares
 alike rows i k m = getD (getD rows i []) m 0
 
+-- the example's shares: two parts split the fee and the head's removal, the others bear nothing
 abbrev pub halves : Shares
 halves = alike ((0 ∷ 0 ∷ []) ∷ (4 ∷ 5 ∷ []) ∷ (2 ∷ 3 ∷ []) ∷ [])
 

@@ -33,8 +33,11 @@ use Rattle.known_cost.proofs.From.{better, walk-better, limited-fits, limited-c
 
 -- what ties a tree to a job's plans: each has a full node at no more than its cost, and the plan of the last incumbent is good and of least cost
 pub record Stands (job : Job) (t : Tree) (planOf : List Bool → Plan) (Good : ℕ → Plan → Type 0) : Type 0 where
+  -- no full node below a node of the tree costs less than the node's bound
   pub bounded : Bounded t
+  -- each plan that keeps the lives has a full node that costs no more than the plan
   pub node-of : (q : Plan) → KeepsLives job q → (s : List Bool) × (d : ℕ) × (costAt t s ≡ Sum d) × (d ≤ costOf job q)
+  -- the plan of the whole walk's incumbent is good, and of least cost over all plans
   pub last : (d : ℕ) (s : List Bool) → whole t .incumbent ≡ plan d s → Good d (planOf s) × Lowest job d (planOf s)
 
 module _ (job : Job) (t : Tree) (planOf : List Bool → Plan) (Good : ℕ → Plan → Type 0) (ok : Stands job t planOf Good) (cost limit : ℕ) where
@@ -104,6 +107,7 @@ module _ (job : Job) (t : Tree) (planOf : List Bool → Plan) (Good : ℕ → Pl
       go true e x = x
       go false e x = absurd (true≢false (sym e))
 
+  -- of a tree that stands for the job's plans, the certificate at any known cost and limit keeps its promise
   pub certifies : Certifies job t Good cost limit (certify t planOf cost limit)
   certifies = by (decLe count limit)
     where
@@ -128,6 +132,7 @@ module _ (job : Job) (bound : List Bool → Bound) (ok : Admissible job bound) w
   abbrev tree : Tree
   tree = treeBy job bound
 
+  -- every full node before the whole walk's incumbent costs strictly more than the incumbent
   pub last-strict : (d : ℕ) (s : List Bool) → whole tree .incumbent ≡ plan d s → Strict tree (plan d s)
   last-strict d s e =
       let n = length (whole tree .nodes) in
@@ -140,9 +145,11 @@ module _ (job : Job) (bound : List Bool → Bound) (ok : Admissible job bound) w
       let b = best-plan (problemBy job bound) (by-laws job bound ok) d s (last-strict d s e) Any (o .costs) tt (λ t c _ q. o .least t c q) in
       record { keeps = b .keeps; among = b .among; states = b .states; least = b .least; first = b .first; within = b .within }
 
+  -- a best plan of the job is of least cost over all plans that keep the lives
   pub best-lowest : (c : ℕ) (p : Plan) → BestPlan job Any c p → Lowest job c p
   best-lowest c p b = record { keeps = b .keeps; states = b .states; least = λ o k. b .least o k tt }
 
+  -- the planner's tree with an admissible estimate stands for the job's plans, and its last incumbent is the best one
   pub by-stands : Stands job tree (planAt job) (BestPlan job Any)
   by-stands = record {
     bounded = by-bounded job bound ok;

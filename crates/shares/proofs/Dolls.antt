@@ -81,9 +81,11 @@ module _ (job : Job) (shares : Shares) (fair : FairShares job shares) where
         let z : levelFrom job l s ≡ n = omega (arith, wholes-length h (n - l) (blocks h (n - l) s) (full-blocks h (n - l) s full .0)) in
         ap (λ (f : ℕ). add (cost l fits src w s) (Sum f)) (ap lift z ∙ ok .last) ∙ add-zero (cost l fits src w s)
 
+    -- no full node of the walk from sources costs less than the estimate with lifts of a node above it
     pub sourced-bounded : Bounded (sourcedTree job shares lift l src)
     sourced-bounded = asked-bounded (sourcedBound job shares lift l src) (questionsFrom job l) (λ p s full. subst (NoMore (sourcedBound job shares lift l src p)) (sym (sourced-full (p ++ s) full)) (sourced-lower p s full))
 
+    -- a full node of the walk from sources costs what its decisions cost from these sources
     pub sourced-cost : (s : List Bool) → Full (questionsFrom job l) s → costAt (sourcedTree job shares lift l src) s ≡ estimateFrom job shares l src (behind job l s)
     sourced-cost s full = asked-cost (sourcedBound job shares lift l src) (questionsFrom job l) s full ∙ sourced-full s full
 
@@ -98,6 +100,7 @@ module _ (job : Job) (shares : Shares) (fair : FairShares job shares) where
   free-sources : (l : ℕ) (i : ℕ) (held : Held) → Within (markOf job held) l (freeAt job shares l i held)
   free-sources l i held = free-within (restFree job shares l i held) (markOf job held) (topOf job shares l i held) l
 
+  -- a walk from the free sources that ends at c lifts its level by what c is above the tops
   pub search-lifts : (lift : ℕ → ℕ) (l : ℕ) → l ≤ n → LiftedFrom job shares l lift
       → (cutoff limit : ℕ) → walkUnder (freeTree job shares lift l) cutoff limit .over ≡ false → (c : ℕ) (r : List Bool) → walkUnder (freeTree job shares lift l) cutoff limit .incumbent ≡ plan c r
       → (f : ℕ) → tops job shares l + f ≤ c → LiftsAll job shares l f
@@ -106,6 +109,7 @@ module _ (job : Job) (shares : Shares) (fair : FairShares job shares) where
 
   -- ---- lifts without a search: none, and that of the next level
 
+  -- every level has the lift 0, whatever the sources
   pub lifts-none : (k : ℕ) → k ≤ n → LiftsAll job shares k 0
   lifts-none k fits l src p s le w upTo full =
       subst (λ (x : Bound). NoMore x (estimateFrom job shares l src (behind job l (p ++ s)))) (sym (add-zero (estimateFrom job shares l src (behind job l p))))
@@ -118,6 +122,7 @@ module _ (job : Job) (shares : Shares) (fair : FairShares job shares) where
   less-more Missing (Sum y) f g l u = u
   less-more (Sum x) (Sum y) f g l u = omega arith
 
+  -- less than a lift of a level is a lift of it too
   pub lifts-less : (k f g : ℕ) → f ≤ g → LiftsAll job shares k g → LiftsAll job shares k f
   lifts-less k f g u all l src p s le w upTo full = less-more (estimateFrom job shares l src (behind job l p)) (estimateFrom job shares l src (behind job l (p ++ s))) f g u (all l src p s le w upTo full)
 
@@ -131,9 +136,11 @@ module _ (job : Job) (shares : Shares) (fair : FairShares job shares) where
 
   -- ---- level by level
 
+  -- the lift 0 at every level, to start from
   abbrev pub noLift : ℕ → ℕ
   noLift k = 0
 
+  -- from the last level on, lifts of 0 are good from any sources
   pub last-level : LiftedFrom job shares n noLift
   last-level = record { each = λ k _ u. lifts-none k u; last = refl }
 
@@ -165,6 +172,7 @@ module _ (job : Job) (shares : Shares) (fair : FairShares job shares) where
       let y : levelFrom job 0 p ≡ length (blocks h n p) = omega (arith, ap (λ (m : ℕ). length (blocks h m p)) z) in
       ap₂ (λ (x : Bound) (m : ℕ). add x (Sum (lift m))) (estimate-first job shares (behind job 0 p) ∙ ap (λ (m : ℕ). estimate job shares (blocks h m p)) z) y
 
+  -- the walk from level 0 with the first lives as sources is the job's own walk with lifts
   pub first-tree : (lift : ℕ → ℕ) → sourcedTree job shares lift 0 (firstLife job shares) ≡ treeBy job (liftedBound job shares lift)
   first-tree lift =
       let z : n - 0 ≡ n = omega arith in

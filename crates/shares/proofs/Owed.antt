@@ -38,6 +38,7 @@ module _ (job : Job) (shares : Shares) where
       go m true e = let z : length b ≡ m = eqb-true (length b) m e in sym (ap (λ (j : ℕ). getD b j false) (sym z) ∙ past-end b)
       go m false e = refl
 
+  -- a thing decided yes takes the part's share of it off what the part owes
   pub owes-yes : (i : ℕ) (held : Held) (k : ℕ) (b : List Bool) → length b < things job → owes job shares i held k (snoc b true) + bears shares i k held (length b) ≡ owes job shares i held k b
   owes-yes i held k b l =
       let n = things job in
@@ -68,6 +69,7 @@ module _ (job : Job) (shares : Shares) where
       let z : i + suc j ≡ suc i + j = omega arith in
       rw z (omega (arith, borne-one k m (suc i) j hs d (omega arith)))
 
+  -- what a part owes at an opening by fair shares is no more than all things there cost
   pub owes-most : FairShares job shares → (j k : ℕ) (b : List Bool) (d : Held) → j < length (heldParts job) → k < length (job .openings)
       → owes job shares j (getD (heldParts job) j d) k b ≤ sum 0 (things job) (λ m. getD (worth job k) m 0)
   owes-most fair j k b d l u =

@@ -29,6 +29,7 @@ RisenPromise job ks passed = NoneUnderAny job ks
 RisenPromise job ks longer = Unit {0}
 
 module _ (job : Job) (bound : List Bool → Bound) (ok : Admissible job bound) (limit : ℕ) where
+  -- what the rising cutoffs end with is right: the best plan, or that none costs less than any of them
   pub risen-right : (ks : List ℕ) → RisenPromise job ks (rising job bound limit ks)
   unfolding rising
   risen-right [] = tt
@@ -50,10 +51,12 @@ module _ (job : Job) (bound : List Bool → Bound) (ok : Admissible job bound) (
   Fits [] = Unit {0}
   Fits (k ∷ ks) = (countUnder (treeBy job bound) k ≤ limit) × Fits ks
 
+  -- one of these cutoffs is above the cost c
   abbrev pub Above : ℕ → List ℕ → Type 0
   Above c [] = ⊥
   Above c (k ∷ ks) = (c < k) ⊎ Above c ks
 
+  -- where every walk fits the limit and a cutoff is above some plan's cost, a plan is found
   pub risen-ends : (ks : List ℕ) → Fits ks → (q : Plan) → KeepsLives job q → Above (costOf job q) ks → (c : ℕ) × (p : Plan) × (rising job bound limit ks ≡ found c p)
   unfolding rising
   risen-ends [] f q keeps a = absurd a

@@ -42,8 +42,8 @@ abbrev pub textAt : ℕ → List ℕ → List ℕ → List ℕ
 textAt which job plan = cond (eqb which 1) job plan
 
 -- the bytes, the numbers and the line at fault of a case are those of its call
-abbrev pub Holds : Case → Type 0
-Holds c =
+abbrev pub CaseHolds : Case → Type 0
+CaseHolds c =
     let said = saidBy (c .call) (c .walk) (c .job) (c .plan) in
     (said .bytes ≡ c .written)
     × (numbers said .result ≡ c .result)
@@ -71,7 +71,7 @@ Counts c =
     × (said .count ≡ c .count)
     × (take (said .«fault_length») (drop (said .«fault_start») (c .job)) ≡ c .fault)
 
--- C1 to C12, and cases of ours of E1, E5, E7, E9 and E10
+-- C1 to C12, and cases of ours of E1, E5 and E7 to E11
 unfoldable pub cases : List Case
 cases =
     -- 01's job
@@ -422,6 +422,62 @@ cases =
       line = 0;
       length = 83;
       fault = bytes "";
+    }
+    ∷
+    -- E8: the prices 4 and 3 by a rule
+    record {
+      call = planner;
+      walk = 3000;
+      job = bytes "horizon=6\nopenings=2\nopening=1\nfee=0\nopening=3\nfee=0\nparts=1\nlife=6\nleft=3\nbase=4\ndrop=1\nleast=3\n";
+      plan = bytes "";
+      written = bytes "result=0\nnodes=5\nfloor=3\ncost=3\nstops=1\nstop=3\ncount=1\npart=1\n";
+      result = 0;
+      text = 0;
+      line = 0;
+      length = 62;
+      fault = bytes "";
+    }
+    ∷
+    -- E8: with no openings the rule's lines may stand, and behind `base` `drop` must
+    record {
+      call = judge;
+      walk = 0;
+      job = bytes "horizon=2\nopenings=0\nparts=1\nlife=3\nleft=3\nbase=4\nleast=3\n";
+      plan = bytes "";
+      written = bytes "result=2\ntext=1\nline=7\n";
+      result = 2;
+      text = 1;
+      line = 7;
+      length = 23;
+      fault = bytes "least=3";
+    }
+    ∷
+    -- E11: two prices from-to, and what the plan costs at the low ends
+    record {
+      call = planner;
+      walk = 8;
+      job = bytes "horizon=7\nopenings=3\nopening=2\nfee=1\nopening=3\nfee=1\nopening=7\nfee=0\nparts=1\nlife=4\nleft=4\nlow=1\nhigh=3\nlow=2\nhigh=3\nprice=3\n";
+      plan = bytes "";
+      written = bytes "result=0\nnodes=7\nfloor=7\ncostlow=6\ncost=7\nstops=2\nstop=3\ncount=1\npart=1\nstop=7\ncount=1\npart=1\n";
+      result = 0;
+      text = 0;
+      line = 0;
+      length = 94;
+      fault = bytes "";
+    }
+    ∷
+    -- E11: low above high: 13, on the `high` line
+    record {
+      call = judge;
+      walk = 0;
+      job = bytes "horizon=8\nopenings=2\nopening=2\nfee=1\nopening=7\nfee=1\nparts=1\nlife=6\nleft=4\nprice=3\nlow=1000000\nhigh=1\n";
+      plan = bytes "";
+      written = bytes "result=13\ntext=1\nline=12\n";
+      result = 13;
+      text = 1;
+      line = 12;
+      length = 25;
+      fault = bytes "high=1";
     }
     ∷ []
 

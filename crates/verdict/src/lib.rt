@@ -20,7 +20,7 @@ pub enum Judgement {
 }
 
 // By the verdict on the lives first, and then by the stated cost and the true one.
-fn judged(stated: u64, cost: u64, verdict: Verdict) -> Judgement
+pub fn judged(stated: u64, cost: u64, verdict: Verdict) -> Judgement
     ensures { λ r. ⌜ modelJudgement r ≡ model.judged stated cost (modelVerdict verdict) ⌝ }
 {
     match verdict {

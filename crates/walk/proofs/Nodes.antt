@@ -35,11 +35,13 @@ use Rattle.walk.proofs.Trees.{DueAt, closed, opened}
 
 -- ---- decisions in a number
 
+-- k decisions in a number are k decisions
 pub bits-length : (k m : ℕ) → length (bits k m) ≡ k
 unfolding bits
 bits-length zero m = refl
 bits-length (suc k) m = simp length-append (omega (arith, bits-length k (m / 2)))
 
+-- twice the number has the same decisions and then a no
 pub bits-no : (k m : ℕ) → bits (k + 1) (m * 2) ≡ snoc (bits k m) false
 unfolding bits
 bits-no k m =
@@ -47,6 +49,7 @@ bits-no k m =
     let y : m * 2 % 2 ≡ 0 = omega arith in
     rw (add-one, z, y)
 
+-- twice the number and one has the same decisions and then a yes
 pub bits-yes : (k m : ℕ) → bits (k + 1) (m * 2 + 1) ≡ snoc (bits k m) true
 unfolding bits
 bits-yes k m =
@@ -54,11 +57,13 @@ bits-yes k m =
     let y : (m * 2 + 1) % 2 ≡ 1 = omega arith in
     rw (add-one, z, y)
 
+-- with fewer than 64 decisions in a number, one decision more fits in 64 bits
 pub mask-fits : (k m : ℕ) → m < 2 ^ k → k < 64 → m * 2 + 1 < 2 ^ 64
 mask-fits k m h l =
     let z : 2 ^ k ≤ 2 ^ 63 = pow-le-pow-right {n = 2} (omega arith) {i = k} {j = 63} (omega arith) in
     omega arith
 
+-- one decision more in a number takes one bit more
 pub mask-next : (k m : ℕ) → m < 2 ^ k → m * 2 + 1 < 2 ^ (k + 1)
 mask-next k m h =
     let z : 2 ^ suc k ≡ 2 ^ k + 2 ^ k = two-pow-succ k in
@@ -94,8 +99,11 @@ sums-low t w j n y h e = omega (arith, e, sum-most (λ (q : ℕ). lane t w suffi
 
 -- its fees and its term, with which its part sums e make its bound
 pub record Due (sheet : Sheet) (p : Node) (e : Bound) (due : ℕ) : Type 0 where
+  -- where the part sums are Missing so is the bound
   pub none : e ≡ Missing → sheetBound sheet (decided p) ≡ Missing
+  -- where the part sums are there the bound is what is due and these
   pub some : (x : ℕ) → e ≡ Sum x → sheetBound sheet (decided p) ≡ Sum (due + x)
+  -- what is due and the part sums stay below the cost that stands for no plan
   pub fits : (x : ℕ) → e ≡ Sum x → due + x < noCost
 
 module _ (sheet : Sheet) (t w : List ℕ) (p : Node) (stop : Bool) (e : Bound) (a : At sheet t w p stop e) where
@@ -129,6 +137,7 @@ module _ (sheet : Sheet) (t w : List ℕ) (p : Node) (stop : Bool) (e : Bound) (
         fits = λ x g. omega (arith, termed m x f g .1, a .low x g, a .poor, a .inside, a .tables .few);
       }
 
+  -- a stop whose row is owed has an opening before it, and its row may be written
   pub owing : stop ≡ true → (0 < p .at) × Owing (lanesIn t) t w (p .at - 1) (p .rows)
   owing s = go stop (a .rows) s
     where
@@ -196,6 +205,7 @@ module _ (sheet : Sheet) (t w w' : List ℕ) (p : Node) (stop : Bool) (e : Bound
   pub last-no-is : lastYes (decided (noN p r)) ≡ getD w' (markPlace (r - 1)) 0
   last-no-is = ap lastYes (bits-no (p .at) (p .mask)) ∙ last-no (decided p) ∙ sym (ro .last)
 
+  -- the last yes of a stop's node is the opening just decided
   pub last-yes-is : (fee : ℕ) → lastYes (decided (yesN p r fee)) ≡ p .at + 1
   last-yes-is fee = ap lastYes (bits-yes (p .at) (p .mask)) ∙ last-yes (decided p) ∙ omega (arith, size)
 
@@ -208,6 +218,7 @@ module _ (sheet : Sheet) (t w w' : List ℕ) (p : Node) (stop : Bool) (e : Bound
       (λ i. sumWhere (getD t (termPlace (n i) (ro .last i)) 0) (sumLanes (lanesIn t) (λ (q : ℕ). lane t w' suffixBase (n i) q r)))
       ∙ sums-by sheet t (a .tables) d m (omega (arith, n)) (omega (arith, n, size, last-most (decided p))) (below-by sheet t (a .tables) (decided p) x less there) w' r (rows-no sheet t w' (decided p) r (a .tables) ro less)
 
+  -- all that the walk is given at the no child, its part sums read from the rows of its parent
   pub at-no : (w'' : List ℕ) (b : Bound) → Recalled t w' w'' r → b ≡ sumsAt t w' (p .at + 1) r → At sheet t w'' (noN p r) false b
   at-no w'' b k g =
       let d = bits-no (p .at) (p .mask) in
@@ -228,6 +239,7 @@ module _ (sheet : Sheet) (t w w' : List ℕ) (p : Node) (stop : Bool) (e : Bound
         rows = ready (subst (λ (l : List Bool). Rows sheet w'' l r) (sym d) rn);
       }
 
+  -- all that the walk is given at the yes child: part sums as before, its row still owed
   pub at-yes : (w'' : List ℕ) (fee : ℕ) → Recalled t w' w'' r → fee ≡ getD t (feePlace (p .at)) 0 → At sheet t w'' (yesN p r fee) true (Sum x)
   at-yes w'' fee k g =
       let d = bits-yes (p .at) (p .mask) in
@@ -297,8 +309,11 @@ module _ (sheet : Sheet) (p : Node) (e : Bound) (due : ℕ) (d : Due sheet p e d
 
   -- it is walked on
   pub record Opened (y : ℕ) : Type 0 where
+    -- the part sums of a node that is walked on are there, and are y
     pub sums : e ≡ Sum y
+    -- a node is walked on only where the limit is not reached yet
     pub within : s .count < L
+    -- the walk on from the node, once it is counted, is its whole walk
     pub on : openFrom (sheetBound sheet) L k (decided p) (view L n (countedS s)) ≡ walked
 
   pub open-walked : (y : ℕ) → openS L due e s ≡ Sum y → Opened y
@@ -332,6 +347,7 @@ module _ (limit spent : ℕ) (s : Search) where
 -- ---- the first node
 
 module _ (sheet : Sheet) (t w : List ℕ) (ta : Tables sheet t) (fr : FirstRow w) where
+  -- all that the walk is given at the first node, with the part sums of the tables' first numbers
   pub root-given : (b : Bound) → b ≡ sumWhere (getD t (termPlace 0 0) 0) (sumLanes (lanesIn t) (λ (q : ℕ). getD t q 0)) → At sheet t w (record { at = 0; rows = 1; spent = 0; mask = 0 }) false b
   unfolding bits
   root-given b g =

@@ -49,8 +49,11 @@ stopped-view L name s h = go (ltb L (s .count)) refl
 -- ---- a node's fees, removals and term, with which its part sums e make its bound
 
 pub record DueAt (T : Tree) (e : Bound) (due : ℕ) : Type 0 where
+  -- where the part sums are Missing so is the tree's bound
   pub none : e ≡ Missing → boundAt T ≡ Missing
+  -- where the part sums are there the tree's bound is what is due and these
   pub some : (x : ℕ) → e ≡ Sum x → boundAt T ≡ Sum (due + x)
+  -- what is due and the part sums stay below the cost that stands for no plan
   pub fits : (x : ℕ) → e ≡ Sum x → due + x < noCost
 
 -- part sums that are there
@@ -87,6 +90,7 @@ due-where T due g y n s l =
     absent f (no h) = n (over h)
 
 module _ {T : Tree} {e : Bound} {due : ℕ} (d : DueAt T e due) (name : List Bool) (L : ℕ) (best : ℕ → List Bool) (s : Search) where
+  -- the search's state once it has walked the node and all below it
   abbrev pub reaching : Limited
   reaching = limited L T name (viewOf L best s)
 
@@ -112,8 +116,11 @@ module _ {T : Tree} {e : Bound} {due : ℕ} (d : DueAt T e due) (name : List Boo
 
   -- it is walked on, with the part sums y
   pub record Opened (y : ℕ) : Type 0 where
+    -- the part sums of a node that is walked on are there, and are y
     pub sums : e ≡ Sum y
+    -- a node is walked on only where fewer nodes than the limit are counted
     pub within : s .count < L
+    -- the walk on from the node, once it is counted, ends as the search of it does
     pub on : onward L T name (viewOf L best (countedS s)) ≡ reaching
 
   pub opened : (y : ℕ) → openS L due e s ≡ Sum y → Opened y

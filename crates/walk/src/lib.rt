@@ -60,7 +60,7 @@ impl Search {
         }
     }
 
-    // A bound e is less than the incumbent's cost.
+    // A bound e is less than the incumbent's cost. T1: of two stop sets of equal cost the one met first stays, since a node that costs as much does not improve.
     pub fn improves(self, e: u64) -> bool
         ensures { λ r. ⌜ r ≡ viewed e self ⌝ }
     {

@@ -88,6 +88,7 @@ impl Job {
     /// Reads a job text that has no fault, for a walk of at most `walk` nodes.
     pub fn read(text: &[u8], walk: u64) -> Job {
         let mut job = Job { walk, ..Job::default() };
+        let (mut base, mut drop) = (0, 0);
         for line in text.split(|byte| *byte == b'\n').filter(|line| !line.is_empty()) {
             let equals = line.iter().position(|byte| *byte == b'=').expect("key=value");
             let value = line[equals + 1..].iter().fold(0u64, |value, digit| value * 10 + u64::from(digit - b'0'));
@@ -100,7 +101,13 @@ impl Job {
                 b"left" => job.parts.last_mut().expect("a part").left = value as i32,
                 b"removal" => job.parts.last_mut().expect("a part").removal = value as u32,
                 b"holder" => job.parts.last_mut().expect("a part").holders.push(value as usize - 1),
-                b"price" => job.parts.last_mut().expect("a part").prices.push(value as u32),
+                b"price" | b"high" => job.parts.last_mut().expect("a part").prices.push(value as u32),
+                b"base" => base = value,
+                b"drop" => drop = value,
+                b"least" => {
+                    let price = |k: u64| base.saturating_sub(k * drop).max(value) as u32;
+                    job.parts.last_mut().expect("a part").prices = (0..job.steps.len() as u64).map(price).collect();
+                }
                 _ => {}
             }
         }

@@ -2,7 +2,7 @@
 
 use super::lines::Fault;
 use super::model::{Job, Plan};
-use super::texts::{plan_lines, read_job, read_plan};
+use super::texts::{printed_lines, read_job, read_plan};
 
 /// "The lent output has at least 16,384."
 pub const LEAST_OUTPUT: usize = 16_384;
@@ -32,7 +32,7 @@ impl Reply {
         Reply { text, line, fault_start: start, fault_length: length, ..reply }
     }
 
-    /// "8: the output is shorter than 16,384 bytes. Nothing is written, length 0." For the writer it is 32,768 bytes.
+    /// "8: the output is shorter than 16,384 bytes. Nothing is written, length 0." For the writer it is 40,960 bytes.
     pub(super) fn short_output() -> Reply {
         Reply { result: 8, ..Reply::default() }
     }
@@ -55,7 +55,7 @@ pub fn plan(job_text: &[u8], walk: u64, output: usize) -> Reply {
     // 7 and no plan it ends after `floor`."
     let walk = job.walk(walk.min(4_000_000_000));
     let plan = walk.best.and_then(|(_, point)| job.plan_at(&point));
-    let lines = plan.map_or(String::new(), |plan| plan_lines(&job, &plan));
+    let lines = plan.map_or(String::new(), |plan| printed_lines(&job, &plan));
     Reply::new(if walk.more { 7 } else { 0 }, &format!("nodes={}\nfloor={floor}\n{lines}", walk.nodes))
 }
 

@@ -5,8 +5,8 @@ use super::calls::Reply;
 use super::lines::Fault;
 use crate::Form;
 
-/// "8 if the output has less than 32,768 bytes."
-pub const LEAST_OUTPUT: usize = 32_768;
+/// "A call that writes one needs that much output, else 8": 40,960 bytes.
+pub const LEAST_OUTPUT: usize = 40_960;
 
 /// The job text so far. Its lines are checked as they are written.
 #[derive(Default)]
@@ -44,19 +44,27 @@ fn before(steps: &[u32], at: usize) -> Option<u32> {
     at.checked_sub(1).map(|at| steps[at])
 }
 
+/// How many of these stand, a 1 for each that does; none where one is neither 0 nor 1 or there are not as many as this.
+fn standing(stands: &[u32], count: usize) -> Option<usize> {
+    let told = stands.len() == count && stands.iter().all(|stands| *stands < 2);
+    told.then(|| stands.iter().filter(|stands| **stands == 1).count())
+}
+
 /// Whether the parts' lists have the lengths that go with the lives and the openings. `covered` says for each part whether its lines
-/// stand; a removal and an inside belong to each that has them, and the holders stand part after part.
+/// stand; a removal and an inside belong to each that has them, and the holders stand part after part. `ruled` says for each part whether
+/// its prices are given by a rule, and "E2's writer counts no prices for such a part"; `banded` says for each price counted whether it is a
+/// pair, and a low end belongs to each that is.
 fn fits(form: &Form) -> bool {
     let parts = form.lives.len();
-    let covered = form.covered.iter().filter(|stands| **stands == 1).count();
+    let (Some(covered), Some(ruled)) = (standing(form.covered, parts), standing(form.ruled, parts)) else { return false };
     let inside: u64 = form.insides.iter().map(|count| u64::from(*count)).sum();
     form.lefts.len() == parts
-        && form.covered.len() == parts
-        && form.covered.iter().all(|stands| *stands < 2)
         && form.removals.len() == covered
         && form.insides.len() == covered
         && form.holders.len() as u64 == inside
-        && form.prices.len() == parts * form.openings.len()
+        && [form.bases, form.drops, form.leasts].iter().all(|list| list.len() == ruled)
+        && form.prices.len() == (parts - ruled) * form.openings.len()
+        && standing(form.banded, form.prices.len()) == Some(form.lows.len())
 }
 
 /// The lines of a part's removal and holders. "12 for a holder that doesn't rise, is above `parts` or is the part itself".
@@ -106,10 +114,13 @@ fn put_parts(text: &mut Text, form: &Form) -> Result<(), Fault> {
         return Err(text.fault(3));
     }
     let mut covers = form.removals.iter().zip(form.insides);
+    let mut rules = form.bases.iter().zip(form.drops).zip(form.leasts);
     let mut holders = form.holders;
+    let mut lows = form.lows.iter();
+    let mut prices = form.prices.iter().zip(form.banded);
     for (part, life) in form.lives.iter().enumerate() {
         text.put("life", u64::from(*life), 1, 1000)?;
-        text.put("left", u64::from(form.lefts[part]), 1, 1000)?;
+        text.put("left", u64::from(form.lefts[part]), 0, 1000)?;
         // "5: `left` greater than `life`, on the `left` line."
         if form.lefts[part] > *life {
             return Err(text.fault(5));
@@ -120,9 +131,28 @@ fn put_parts(text: &mut Text, form: &Form) -> Result<(), Fault> {
             put_cover(text, form, part, *removal, own)?;
             holders = rest;
         }
-        for price in &form.prices[part * form.openings.len()..][..form.openings.len()] {
-            text.put("price", u64::from(*price), 1, 1_000_000)?;
+        if form.ruled[part] == 1 {
+            let ((base, drop), least) = rules.next().expect("a base, a drop and a least for each ruled part");
+            text.put("base", u64::from(*base), 1, 1_000_000)?;
+            text.put("drop", u64::from(*drop), 0, 1_000_000)?;
+            text.put("least", u64::from(*least), 1, 1_000_000)?;
+            continue;
         }
+        for (price, banded) in prices.by_ref().take(form.openings.len()) {
+            let low = if *banded == 1 { lows.next().copied() } else { None };
+            put_price(text, *price, low)?;
+        }
+    }
+    Ok(())
+}
+
+/// The lines of a price: one, or a pair where it has a low end. "13 for low above high, on the `high` line after 3".
+fn put_price(text: &mut Text, price: u32, low: Option<u32>) -> Result<(), Fault> {
+    let Some(low) = low else { return text.put("price", u64::from(price), 1, 1_000_000) };
+    text.put("low", u64::from(low), 1, 1_000_000)?;
+    text.put("high", u64::from(price), 1, 1_000_000)?;
+    if low > price {
+        return Err(text.fault(13));
     }
     Ok(())
 }

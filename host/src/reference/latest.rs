@@ -2,7 +2,7 @@
 
 use super::calls::{two_texts, Reply};
 use super::model::{Job, Part, Plan, Set};
-use super::texts::plan_lines;
+use super::texts::printed_lines;
 
 impl Job {
     /// "Foremen change each part at the last stop that still serves": after the change before, the last of the stops that is in time, until
@@ -38,6 +38,6 @@ pub fn latest(job_text: &[u8], plan_text: &[u8], output: usize) -> Reply {
     };
     match job.latest_plan(&plan.stops) {
         None => Reply::new(6, ""),
-        Some(plan) => Reply::new(0, &plan_lines(&job, &plan)),
+        Some(plan) => Reply::new(0, &printed_lines(&job, &plan)),
     }
 }

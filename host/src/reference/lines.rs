@@ -1,6 +1,10 @@
 //! "Key=value lines in this order, each ended by byte 10, the last too."
 
+/// "A text has at most 32,768 bytes."
 pub const MAX_TEXT: usize = 32_768;
+
+/// "A job text may now have 40,960 bytes".
+pub const MAX_JOB: usize = 40_960;
 
 /// A fault of a text: its result number, its line from 1 (0 for number 1), and the line at fault as it stands in the text.
 #[derive(Debug, Clone, Copy, PartialEq, Eq)]
@@ -24,10 +28,10 @@ pub struct Lines<'t> {
 }
 
 impl<'t> Lines<'t> {
-    /// "A text has at most 32,768 bytes." "1: over 32,768 bytes."
-    pub fn new(text: &'t [u8]) -> Result<Lines<'t>, Fault> {
+    /// A text of at most so many bytes. "1: over" that many.
+    pub fn new(text: &'t [u8], most: usize) -> Result<Lines<'t>, Fault> {
         let lines = Lines { text, next: 0, line: 0, start: 0, length: 0 };
-        if text.len() > MAX_TEXT {
+        if text.len() > most {
             return Err(lines.fault(1));
         }
         Ok(lines)

@@ -7,7 +7,7 @@ pub struct Opening {
     pub fee: u64,
 }
 
-/// "A part has a life L and a first life R ("left")." What its removal costs, the parts that come out before it, and its price at each
+/// "A part has a life L and a first life R ("left")." "From here on `left` may be 0: change before the next running step". What its removal costs, the parts that come out before it, and its price at each
 /// opening. "A part without them has removal 0 and no holders".
 #[derive(Debug, Clone, PartialEq, Eq)]
 pub struct Part {
@@ -18,7 +18,35 @@ pub struct Part {
     pub removal: u64,
     /// The places of its holders among the parts, from 0, rising.
     pub holders: Vec<usize>,
+    /// The rule that its prices were given by, where the lines `base`, `drop` and `least` stand.
+    pub rule: Option<Rule>,
+    /// The high ends. "The planner's finished plan is the least-cost one at the high ends."
     pub prices: Vec<u64>,
+    /// The low ends. "A single price is a band with equal ends."
+    pub lows: Vec<u64>,
+    /// For each opening whether the price is a pair `low` and `high`.
+    pub pairs: Vec<bool>,
+}
+
+/// "In place of its `price` lines a part may have `base` 1..1000000, `drop` 0..1000000 and `least` 1..1000000."
+#[derive(Debug, Clone, Copy, PartialEq, Eq)]
+pub struct Rule {
+    pub base: u64,
+    pub drop: u64,
+    pub least: u64,
+}
+
+impl Rule {
+    /// "Opening number k, counted from 0, then has price base minus k times drop, or least if that is larger."
+    pub fn price(&self, k: u64) -> u64 {
+        let fallen = self.base as i64 - k as i64 * self.drop as i64;
+        fallen.max(self.least as i64) as u64
+    }
+
+    /// "A generator writes the table of prices": those of so many openings.
+    pub fn prices(&self, openings: u64) -> Vec<u64> {
+        (0..openings).map(|k| self.price(k)).collect()
+    }
 }
 
 #[derive(Debug, Clone, PartialEq, Eq)]
@@ -66,9 +94,14 @@ impl Job {
     /// none) plus L is at least T + 1", all in running steps. "Its due step: at its first gap that is too long, the last step at which a
     /// change would still have kept it"; an idle step may be that.
     pub fn due(&self, part: &Part, changes: &Set) -> Option<i64> {
+        self.due_by(part, changes, self.horizon + 1)
+    }
+
+    /// The due step where the part is to last up to and including this step, after these changes; none where it does.
+    pub fn due_by(&self, part: &Part, changes: &Set, end: i64) -> Option<i64> {
         let mut before = part.first_change();
         let changed = self.openings.iter().zip(changes).filter(|(_, changed)| **changed).map(|(opening, _)| opening.step);
-        for next in changed.chain([self.horizon + 1]) {
+        for next in changed.chain([end]) {
             if self.distance(before, next) > part.life {
                 return (0..=self.horizon).rev().find(|step| self.distance(before, *step) <= part.life);
             }
@@ -127,6 +160,17 @@ impl Job {
     pub fn cost(&self, plan: &Plan) -> u64 {
         let removals = (0..self.openings.len()).map(|opening| self.removals(plan, opening));
         self.fees(&plan.stops) + self.prices(plan) + removals.sum::<u64>()
+    }
+
+    /// Whether "the job has a `low` line".
+    pub fn is_banded(&self) -> bool {
+        self.parts.iter().any(|part| part.pairs.contains(&true))
+    }
+
+    /// The same job with the low ends as its prices.
+    pub fn at_low_ends(&self) -> Job {
+        let low = |part: &Part| Part { prices: part.lows.clone(), ..part.clone() };
+        Job { parts: self.parts.iter().map(low).collect(), ..self.clone() }
     }
 
     /// The change set of least sum of these prices that keeps the part over the allowed openings, with that sum, or none.

@@ -1,14 +1,24 @@
-//! "The texts": the job's lines with its idle lines and the lines of parts that others hold, the plan's lines, and how a plan is printed.
+//! "The texts": the job's lines with its idle lines, the lines of parts that others hold and of prices by a rule, the plan's lines, and how
+//! a plan is printed.
 
-use super::lines::{Fault, Lines};
-use super::model::{Job, Opening, Part, Plan};
+use super::lines::{Fault, Lines, MAX_JOB, MAX_TEXT};
+use super::model::{Job, Opening, Part, Plan, Rule};
 
 /// "Job: `horizon` 2..365; `walk` 0..4000000000; `openings` 0..64; for each, `opening` 1..365 and `fee` 0..1000000; `parts` 1..16; for
 /// each, `life` 1..1000, `left` 1..1000, then one `price` 1..1000000 per opening." The optional lines stand where the requests put them.
+/// "A job text may now have 40,960 bytes".
 pub fn read_job(text: &[u8]) -> Result<Job, Fault> {
-    let mut lines = Lines::new(text)?;
+    let mut lines = Lines::new(text, MAX_JOB)?;
+    let (job, _) = read_job_lines(&mut lines)?;
+    lines.end()?;
+    Ok(job)
+}
+
+/// The lines of a job, with what may stand behind them; and its first line, as the place of a fault.
+pub fn read_job_lines(lines: &mut Lines) -> Result<(Job, Fault), Fault> {
     let horizon = lines.value("horizon", 2, 365)? as i64;
-    let idles = read_idles(&mut lines, horizon)?;
+    let first = lines.fault(0);
+    let idles = read_idles(lines, horizon)?;
     // "A job's `walk` line, if it still stands, is checked as before and set aside."
     let walk = if lines.begins("walk=") { Some(lines.value("walk", 0, 4_000_000_000)?) } else { None };
 
@@ -25,27 +35,58 @@ pub fn read_job(text: &[u8]) -> Result<Job, Fault> {
     }
 
     let parts = lines.value("parts", 1, 16)? as usize;
-    let parts = (0..parts).map(|own| read_part(&mut lines, own, parts, count)).collect::<Result<Vec<Part>, Fault>>()?;
-
-    lines.end()?;
-    Ok(Job { horizon, idles, walk, openings, parts })
+    let parts = (0..parts).map(|own| read_part(lines, own, parts, count)).collect::<Result<Vec<Part>, Fault>>()?;
+    Ok((Job { horizon, idles, walk, openings, parts }, first))
 }
 
 /// The lines of the part at place `own` of `parts`, with a price for each of `openings`.
 fn read_part(lines: &mut Lines, own: usize, parts: usize, openings: u64) -> Result<Part, Fault> {
     let life = lines.value("life", 1, 1000)? as i64;
-    let left = lines.value("left", 1, 1000)? as i64;
+    // "From here on `left` may be 0".
+    let left = lines.value("left", 0, 1000)? as i64;
     // "5: `left` greater than `life`, on the `left` line."
     if left > life {
         return Err(lines.fault(5));
     }
     let covered = lines.begins("removal=");
     let (removal, holders) = if covered { read_cover(lines, own, parts)? } else { (0, Vec::new()) };
-    let mut prices = Vec::new();
-    for _ in 0..openings {
-        prices.push(lines.value("price", 1, 1_000_000)?);
+    let rule = if lines.begins("base=") { Some(read_rule(lines)?) } else { None };
+    let (mut prices, mut lows, mut pairs) = (Vec::new(), Vec::new(), Vec::new());
+    for k in 0..openings {
+        // "E8's rule gives single prices only".
+        let (low, high) = match &rule {
+            Some(rule) => (None, rule.price(k)),
+            None => read_price(lines)?,
+        };
+        prices.push(high);
+        lows.push(low.unwrap_or(high));
+        pairs.push(low.is_some());
     }
-    Ok(Part { life, left, covered, removal, holders, prices })
+    Ok(Part { life, left, covered, removal, holders, rule, prices, lows, pairs })
+}
+
+/// "Each price may be a pair `low` and `high`, both 1..1000000". It is one exactly if the next line begins with `low=`. The low end where
+/// there is one, and the high end.
+fn read_price(lines: &mut Lines) -> Result<(Option<u64>, u64), Fault> {
+    if !lines.begins("low=") {
+        return Ok((None, lines.value("price", 1, 1_000_000)?));
+    }
+    let low = lines.value("low", 1, 1_000_000)?;
+    let high = lines.value("high", 1, 1_000_000)?;
+    // "13 for low above high, on the `high` line after 3".
+    if low > high {
+        return Err(lines.fault(13));
+    }
+    Ok((Some(low), high))
+}
+
+/// "In place of its `price` lines a part may have `base` 1..1000000, `drop` 0..1000000 and `least` 1..1000000." They are there exactly if
+/// the next line begins with `base=`, also where there are no openings and so no `price` lines.
+fn read_rule(lines: &mut Lines) -> Result<Rule, Fault> {
+    let base = lines.value("base", 1, 1_000_000)?;
+    let drop = lines.value("drop", 0, 1_000_000)?;
+    let least = lines.value("least", 1, 1_000_000)?;
+    Ok(Rule { base, drop, least })
 }
 
 /// "After each `left` a job may have `removal` 0..1000000, `inside` 0..15 and that many `holder` lines, 1..16, rising". They are there
@@ -85,13 +126,22 @@ fn read_idles(lines: &mut Lines, horizon: i64) -> Result<Vec<i64>, Fault> {
 /// "Plan: `cost` [..]; `stops` 0..64; for each, `stop` 1..365 and `count` 0..16, then that many `part` 1..16." "The plan's `cost` may now
 /// be up to 4000000000." The plan and the cost that it states.
 pub fn read_plan(job: &Job, text: &[u8]) -> Result<(Plan, u64), Fault> {
-    let openings = job.openings.len();
-    let mut plan = Plan { stops: vec![false; openings], changes: vec![vec![false; openings]; job.parts.len()] };
     // "An empty plan text shall mean a plan of no stops and cost 0."
     if text.is_empty() {
-        return Ok((plan, 0));
+        return Ok((no_stops(job), 0));
     }
-    let mut lines = Lines::new(text)?;
+    read_plan_lines(job, &mut Lines::new(text, MAX_TEXT)?, job.horizon)
+}
+
+/// The plan of doing nothing.
+fn no_stops(job: &Job) -> Plan {
+    let openings = job.openings.len();
+    Plan { stops: vec![false; openings], changes: vec![vec![false; openings]; job.parts.len()] }
+}
+
+/// The plan lines up to the text's end, with no stop after this step: the plan and the cost that it states.
+pub fn read_plan_lines(job: &Job, lines: &mut Lines, last: i64) -> Result<(Plan, u64), Fault> {
+    let mut plan = no_stops(job);
     let cost = lines.value("cost", 0, 4_000_000_000)?;
 
     let mut step_before = 0;
@@ -99,7 +149,7 @@ pub fn read_plan(job: &Job, text: &[u8]) -> Result<(Plan, u64), Fault> {
         let step = lines.value("stop", 1, 365)? as i64;
         // "9: a stop that is no opening or doesn't rise".
         let opening = job.openings.iter().position(|opening| opening.step == step);
-        let Some(opening) = opening.filter(|_| step > step_before) else {
+        let Some(opening) = opening.filter(|_| step > step_before && step <= last) else {
             return Err(lines.fault(9));
         };
         step_before = step;
@@ -119,6 +169,13 @@ pub fn read_plan(job: &Job, text: &[u8]) -> Result<(Plan, u64), Fault> {
 
     lines.end()?;
     Ok((plan, cost))
+}
+
+/// The plan lines of a plan as the planner and the latest-time habit print them: "If the job has a `low` line [..], a `costlow` line stands
+/// before the plan lines; `costlow` and `cost` are the plan at all low and all high ends."
+pub fn printed_lines(job: &Job, plan: &Plan) -> String {
+    let low = if job.is_banded() { format!("costlow={}\n", job.at_low_ends().cost(plan)) } else { String::new() };
+    low + &plan_lines(job, plan)
 }
 
 /// The plan lines of a plan, with its cost.

@@ -4,7 +4,7 @@
 use super::inputs::{self, Facts};
 use super::rng::Rng;
 use super::Call;
-use juzvarola_host::ranges::RANGES;
+use juzvarola_host::lines;
 use juzvarola_host::reference::texts::read_job;
 
 /// What other systems and other alphabets put into a text: NUL, line ends, a byte order mark, letters and digits beyond ASCII.
@@ -28,8 +28,8 @@ const FOREIGN: &[&[u8]] = &[
     "\u{a0}".as_bytes(),
 ];
 
-/// The bytes that a text may have at most.
-const MOST_BYTES: usize = 32_768;
+/// The bytes that a plan text and a job text may have at most.
+const MOST_BYTES: [usize; 2] = [32_768, 40_960];
 
 /// The most nodes of a walk that a damaged job is planned with.
 const MOST_NODES: u64 = 400;
@@ -37,7 +37,7 @@ const MOST_NODES: u64 = 400;
 /// A value at a limit of its key or one past it; the one before and the one after the limits too where they are numbers.
 fn at_limit(rng: &mut Rng, line: &str) -> String {
     let key = line.split('=').next().unwrap_or("");
-    let Some((_, least, most)) = RANGES.iter().find(|(own, _, _)| *own == key) else { return format!("{line}0") };
+    let Some(lines::Line { least, most, .. }) = lines::find(key) else { return format!("{line}0") };
     let value = rng.pick(&[*least, least.saturating_sub(1), least + 1, *most, most + 1, most - 1, most + 1]);
     format!("{key}={value}")
 }
@@ -98,7 +98,7 @@ fn damage_bytes(rng: &mut Rng, mut text: Vec<u8>) -> Vec<u8> {
 /// The text with bytes behind it, up to the most bytes of a text or to one more.
 fn filled(rng: &mut Rng, mut text: Vec<u8>) -> Vec<u8> {
     let fill = rng.pick(&[b'\n', b'0', b' ', 0]);
-    text.resize(MOST_BYTES + rng.below(2) as usize, fill);
+    text.resize(rng.pick(&MOST_BYTES) + rng.below(2) as usize, fill);
     text
 }
 

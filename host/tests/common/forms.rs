@@ -7,29 +7,63 @@ use juzvarola_host::Form;
 use std::path::{Path, PathBuf};
 
 /// The lists of a form, in the job text's order.
-pub const LISTS: [&str; 10] = ["idles", "openings", "fees", "lives", "lefts", "covered", "removals", "insides", "holders", "prices"];
+pub const LISTS: [&str; COUNT] = [
+    "idles", "openings", "fees", "lives", "lefts", "covered", "removals", "insides", "holders", "ruled", "bases", "drops", "leasts",
+    "banded", "lows", "prices",
+];
 
-/// The place of `covered`.
+/// How many there are.
+pub const COUNT: usize = 16;
+
+/// The places of `covered`, of `ruled` and of `banded`.
 const COVERED: usize = 5;
+const RULED: usize = 9;
+const BANDED: usize = 13;
 
 /// A call of the writer, with lists of its own.
 #[derive(Debug, Clone, Default)]
 pub struct FormCall {
     pub output: usize,
     pub horizon: u32,
-    pub lists: [Vec<u32>; 10],
+    pub lists: [Vec<u32>; COUNT],
+}
+
+/// The form of these lists.
+pub fn form(horizon: u32, lists: [&[u32]; COUNT]) -> Form<'_> {
+    let [idles, openings, fees, lives, lefts, covered, removals, insides, holders, ruled, bases, drops, leasts, banded, lows, prices] =
+        lists;
+    Form {
+        horizon,
+        idles,
+        openings,
+        fees,
+        lives,
+        lefts,
+        covered,
+        removals,
+        insides,
+        holders,
+        ruled,
+        bases,
+        drops,
+        leasts,
+        banded,
+        lows,
+        prices,
+    }
 }
 
 impl FormCall {
     pub fn form(&self) -> Form<'_> {
-        let [idles, openings, fees, lives, lefts, covered, removals, insides, holders, prices] = &self.lists;
-        Form { horizon: self.horizon, idles, openings, fees, lives, lefts, covered, removals, insides, holders, prices }
+        form(self.horizon, self.lists.each_ref().map(Vec::as_slice))
     }
 
     /// The form that has a job's facts.
     pub fn of(facts: &Facts, output: usize) -> FormCall {
         let numbers = |values: Vec<u64>| values.into_iter().map(|value| value as u32).collect();
         let covers = || facts.parts.iter().filter_map(|part| part.cover.as_ref());
+        let rules = || facts.parts.iter().filter_map(|part| part.rule);
+        let listed = || facts.parts.iter().filter(|part| part.rule.is_none());
         let lists = [
             numbers(facts.idles.clone()),
             numbers(facts.openings.iter().map(|opening| opening.0).collect()),
@@ -40,7 +74,13 @@ impl FormCall {
             numbers(covers().map(|cover| cover.0).collect()),
             numbers(covers().map(|cover| cover.1.len() as u64).collect()),
             numbers(covers().flat_map(|cover| cover.1.clone()).collect()),
-            numbers(facts.parts.iter().flat_map(|part| part.prices.clone()).collect()),
+            numbers(facts.parts.iter().map(|part| u64::from(part.rule.is_some())).collect()),
+            numbers(rules().map(|rule| rule.base).collect()),
+            numbers(rules().map(|rule| rule.drop).collect()),
+            numbers(rules().map(|rule| rule.least).collect()),
+            numbers(listed().flat_map(|part| part.lows.iter().map(|low| u64::from(low.is_some()))).collect()),
+            numbers(listed().flat_map(|part| part.lows.iter().flatten().copied()).collect()),
+            numbers(listed().flat_map(|part| part.prices.clone()).collect()),
         ];
         FormCall { output, horizon: facts.horizon as u32, lists }
     }
@@ -50,6 +90,22 @@ impl FormCall {
         let parts = self.lists[3].len();
         self.lists[COVERED..COVERED + 4].iter_mut().for_each(Vec::clear);
         self.lists[COVERED].resize(parts, 0);
+        self
+    }
+
+    /// The same form with no lines of rules.
+    pub fn without_rules(mut self) -> FormCall {
+        let parts = self.lists[3].len();
+        self.lists[RULED..RULED + 4].iter_mut().for_each(Vec::clear);
+        self.lists[RULED].resize(parts, 0);
+        self
+    }
+
+    /// The same form with single prices only.
+    pub fn without_bands(mut self) -> FormCall {
+        let prices = self.lists[COUNT - 1].len();
+        self.lists[BANDED..BANDED + 2].iter_mut().for_each(Vec::clear);
+        self.lists[BANDED].resize(prices, 0);
         self
     }
 
@@ -92,7 +148,7 @@ fn resize(rng: &mut Rng, list: &mut Vec<u32>) {
 
 /// A damage to what the lists say of removals and holders.
 fn damage_covers(rng: &mut Rng, call: &mut FormCall) {
-    let [.., lives, _, covered, removals, insides, holders, _] = &mut call.lists;
+    let [_, _, _, lives, _, covered, removals, insides, holders, ..] = &mut call.lists;
     let parts = lives.len() as u32;
     let numbers = [0, 1, 2, 3, parts, parts.wrapping_add(1), 15, 16, 17, u32::MAX];
     match rng.below(6) {
@@ -127,9 +183,79 @@ fn damage_covers(rng: &mut Rng, call: &mut FormCall) {
     }
 }
 
+/// A damage to what the lists say of rules.
+fn damage_rules(rng: &mut Rng, call: &mut FormCall) {
+    let openings = call.lists[1].len();
+    let [.., ruled, bases, drops, leasts, banded, lows, prices] = &mut call.lists;
+    if ruled.is_empty() {
+        return;
+    }
+    let part = rng.below(ruled.len() as u64) as usize;
+    let before = ruled[..part].iter().filter(|stands| **stands == 1).count();
+    match rng.below(5) {
+        // One part's rule more or less, with its lists as they were, or with a rule of its own and no prices.
+        0 => ruled[part] ^= 1,
+        1 => ruled[part] = rng.pick(&[2, 3, u32::MAX]),
+        2 if ruled[part] == 0 => {
+            ruled[part] = 1;
+            for (list, values) in
+                [(bases, [1, 1_000_000, 0, 1_000_001]), (drops, [0, 3, 1_000_000, 1_000_001]), (leasts, [1, 9, 0, u32::MAX])]
+            {
+                list.insert(before.min(list.len()), rng.pick(&values));
+            }
+            // At times the prices stay, which are then too many.
+            let from = ((part - before) * openings).min(prices.len());
+            let to = if rng.once_in(4) { from } else { (from + openings).min(prices.len()) };
+            prices.drain(from..to);
+            let bands = banded.get(from..to).map_or(0, |own| own.iter().filter(|stands| **stands == 1).count());
+            let first = banded.iter().take(from).filter(|stands| **stands == 1).count();
+            banded.drain(from.min(banded.len())..to.min(banded.len()));
+            lows.drain(first.min(lows.len())..(first + bands).min(lows.len()));
+        }
+        _ => {
+            let list = [bases, drops, leasts].into_iter().nth(rng.below(3) as usize).expect("three lists");
+            if !list.is_empty() {
+                let place = rng.below(list.len() as u64) as usize;
+                list[place] = rng.pick(&[0, 1, 1_000_000, 1_000_001, u32::MAX]);
+            }
+        }
+    }
+}
+
+/// A damage to what the lists say of bands.
+fn damage_bands(rng: &mut Rng, call: &mut FormCall) {
+    let [.., banded, lows, prices] = &mut call.lists;
+    if banded.is_empty() {
+        return;
+    }
+    let at = rng.below(banded.len() as u64) as usize;
+    let before = banded[..at].iter().filter(|stands| **stands == 1).count();
+    match rng.below(6) {
+        // One band more or less, with the low ends as they were or with one of its own.
+        0 => banded[at] ^= 1,
+        1 => banded[at] = rng.pick(&[2, 3, u32::MAX]),
+        2 | 3 if banded[at] == 0 => {
+            banded[at] = 1;
+            let high = prices.get(at).copied().unwrap_or(1);
+            lows.insert(before.min(lows.len()), rng.pick(&[1, high, high.saturating_add(1), 0, 1_000_001]));
+        }
+        _ if before < lows.len() => {
+            let high = prices.get(at).copied().unwrap_or(1);
+            lows[before] = rng.pick(&[0, 1, high, high.saturating_add(1), 1_000_000, 1_000_001, u32::MAX]);
+        }
+        _ => {}
+    }
+}
+
 fn damage(rng: &mut Rng, call: &mut FormCall) {
     if inputs::holders_on() && rng.once_in(4) {
         return damage_covers(rng, call);
+    }
+    if inputs::rules_on() && rng.once_in(5) {
+        return damage_rules(rng, call);
+    }
+    if inputs::bands_on() && rng.once_in(5) {
+        return damage_bands(rng, call);
     }
     let at = rng.below(LISTS.len() as u64) as usize;
     match rng.below(8) {
@@ -166,15 +292,17 @@ pub fn random(rng: &mut Rng) -> FormCall {
     };
     let facts = inputs::facts(rng, size);
     let output = match rng.below(12) {
-        0 => rng.pick(&[0, 1, 100, 16_384, 32_766, 32_767]),
-        1 => rng.within(32_769, 60_000) as usize,
-        _ => 32_768,
+        0 => rng.pick(&[0, 1, 100, 16_384, 32_768, 40_958, 40_959]),
+        1 => rng.within(40_961, 60_000) as usize,
+        _ => 40_960,
     };
     let call = if rng.once_in(3) { FormCall::of(&facts, output) } else { damaged(rng, &facts, output) };
-    if inputs::holders_on() {
+    let call = if inputs::holders_on() { call } else { call.without_covers() };
+    let call = if inputs::rules_on() { call } else { call.without_rules() };
+    if inputs::bands_on() {
         call
     } else {
-        call.without_covers()
+        call.without_bands()
     }
 }
 
@@ -193,22 +321,29 @@ pub struct FormVector {
     pub reply: Reply,
 }
 
-/// A form that does not speak of removals and holders has none.
+/// A form that does not speak of removals and holders has none, and one that does not speak of rules or of bands has none. It is then of
+/// before a job text could have 40,960 bytes, and an output that was long enough is made so long.
 fn vector(line: &str) -> FormVector {
-    let plain = !line.contains(" covered=");
     let field = |name: &str| super::vectors::field(line, name);
     let number = |name: &str| field(name).parse::<u32>().expect("a number");
-    let covers = &LISTS[COVERED..COVERED + 4];
-    let list = |name: &str| match if plain && covers.contains(&name) { "-" } else { field(name) } {
+    let list = |name: &str| match if line.contains(&format!(" {name}=")) { field(name) } else { "-" } {
         "-" => Vec::new(),
         values => values.split(',').map(|value| value.parse().expect("a number")).collect(),
     };
     let mut lists = LISTS.map(list);
-    if plain {
-        lists[COVERED] = vec![0; lists[3].len()];
+    for stands in [COVERED, RULED] {
+        if !line.contains(&format!(" {}=", LISTS[stands])) {
+            lists[stands] = vec![0; lists[3].len()];
+        }
     }
+    let older = !line.contains(&format!(" {}=", LISTS[BANDED]));
+    if older {
+        lists[BANDED] = vec![0; lists[COUNT - 1].len()];
+    }
+    let output = number("out") as usize;
+    let output = if older && output >= 32_768 { output.max(40_960) } else { output };
     FormVector {
-        call: FormCall { output: number("out") as usize, horizon: number("horizon"), lists },
+        call: FormCall { output, horizon: number("horizon"), lists },
         reply: Reply {
             result: number("result"),
             text: number("text"),
@@ -244,12 +379,18 @@ fn without_walk(line: &str) -> Option<FormVector> {
 
 pub fn vectors() -> Vec<FormVector> {
     let folder = Path::new(env!("CARGO_MANIFEST_DIR")).join("vectors");
-    let kept = if inputs::holders_on() { &["write.txt", "write7.txt", "writewalk10.txt"][..] } else { &["write.txt"] };
+    let kept = if inputs::holders_on() {
+        &["write.txt", "write7.txt", "writewalk10.txt", "write10.txt", "write11.txt"][..]
+    } else {
+        &["write.txt"]
+    };
     let files = match std::env::var("JUZVAROLA_FORMS") {
         Ok(file) => vec![file.into()],
         Err(_) => kept.iter().map(|file| folder.join(file)).collect::<Vec<PathBuf>>(),
     };
+    // A form of before `left` could be 0 was refused for that.
+    let refused = |vector: &FormVector| vector.reply.result == 3 && vector.call.lists[4].contains(&0);
     let read =
         |file: PathBuf| std::fs::read_to_string(file).expect("the forms' vectors").lines().filter_map(without_walk).collect::<Vec<_>>();
-    files.into_iter().flat_map(read).collect()
+    files.into_iter().flat_map(read).filter(|vector| !refused(vector)).collect()
 }

@@ -2,7 +2,8 @@
 
 use super::rng::Rng;
 use super::{setting, Call};
-use juzvarola_host::{reference, MOST_WALK};
+use juzvarola_host::reference::{self, model::Rule};
+use juzvarola_host::MOST_WALK;
 use std::collections::BTreeSet;
 
 const OUTPUT: usize = 16_384;
@@ -28,7 +29,12 @@ pub struct PartFacts {
     pub left: u64,
     /// The removal and the numbers of the holders, where their lines stand.
     pub cover: Option<(u64, Vec<u64>)>,
+    /// The rule that gives the prices, where its lines stand in their place.
+    pub rule: Option<Rule>,
+    /// The prices, the high ends where they are bands.
     pub prices: Vec<u64>,
+    /// For each price its low end where it is a band.
+    pub lows: Vec<Option<u64>>,
 }
 
 impl Facts {
@@ -57,9 +63,7 @@ impl Facts {
         for part in &self.parts {
             text += &format!("life={}\nleft={}\n", part.life, part.left);
             text += &part.cover_lines();
-            for price in &part.prices {
-                text += &format!("price={price}\n");
-            }
+            text += &part.price_lines();
         }
         text.into_bytes()
     }
@@ -67,6 +71,11 @@ impl Facts {
     /// Whether a removal costs something or a part holds another.
     pub fn is_held(&self) -> bool {
         self.parts.iter().filter_map(|part| part.cover.as_ref()).any(|(removal, holders)| *removal > 0 || !holders.is_empty())
+    }
+
+    /// Whether this is the largest job, where all parts at all openings cost more than 2000000000.
+    fn is_largest(&self) -> bool {
+        self.openings.len() == 64 && self.parts.iter().all(|part| part.cover.as_ref().is_some_and(|(removal, _)| *removal == 1_000_000))
     }
 
     /// The most running steps between neighbours among step 0, the openings and step T + 1.
@@ -82,6 +91,29 @@ impl PartFacts {
         let Some((removal, holders)) = &self.cover else { return String::new() };
         let lines: String = holders.iter().map(|holder| format!("holder={holder}\n")).collect();
         format!("removal={removal}\ninside={}\n{lines}", holders.len())
+    }
+
+    /// The lines of its prices: the rule's where there is one, else one for each opening.
+    fn price_lines(&self) -> String {
+        match self.rule {
+            Some(Rule { base, drop, least }) => format!("base={base}\ndrop={drop}\nleast={least}\n"),
+            None => self.prices.iter().zip(&self.lows).map(|(price, low)| price_line(*price, *low)).collect(),
+        }
+    }
+
+    /// The same part with its prices listed, single ones, the highest first.
+    pub fn fall(&mut self) {
+        self.rule = None;
+        self.lows = vec![None; self.prices.len()];
+        self.prices.sort_by(|a, b| b.cmp(a));
+    }
+}
+
+/// The line of a price, or the two of a band.
+fn price_line(price: u64, low: Option<u64>) -> String {
+    match low {
+        Some(low) => format!("low={low}\nhigh={price}\n"),
+        None => format!("price={price}\n"),
     }
 }
 
@@ -203,6 +235,64 @@ fn cover(rng: &mut Rng, parts: &mut [PartFacts]) {
     }
 }
 
+/// Whether jobs have prices by a rule: JUZVAROLA_RULES=0 gives none.
+pub fn rules_on() -> bool {
+    setting("JUZVAROLA_RULES", 1) != 0
+}
+
+/// A rule: prices that don't fall, fall slowly, fall at once to the least, or stay at a least above the base.
+fn rule(rng: &mut Rng) -> Rule {
+    let most = 1_000_000;
+    let base = rng.pick(&[1, 2, 9, 20, 100, 999_999, most]);
+    let drop = match rng.below(5) {
+        0 => 0,
+        1 => rng.pick(&[1, base / 2, base - 1, base, most]),
+        _ => rng.within(0, (base / 4).max(2)),
+    };
+    let least = match rng.below(4) {
+        0 => rng.pick(&[1, base, (base + 1).min(most), most]),
+        _ => rng.within(1, (base / 2).max(2)),
+    };
+    Rule { base, drop, least }
+}
+
+/// Gives the parts of about a third of the jobs prices by a rule, all of them or some.
+fn give_rules(rng: &mut Rng, facts: &mut Facts) {
+    if !rules_on() || !rng.once_in(3) {
+        return;
+    }
+    let all = rng.once_in(3);
+    let openings = facts.openings.len() as u64;
+    for part in &mut facts.parts {
+        if all || rng.once_in(2) {
+            let rule = rule(rng);
+            (part.rule, part.prices) = (Some(rule), rule.prices(openings));
+        }
+    }
+}
+
+/// Whether jobs have bands of prices: JUZVAROLA_BANDS=0 gives none.
+pub fn bands_on() -> bool {
+    setting("JUZVAROLA_BANDS", 1) != 0
+}
+
+/// Gives the prices of about a third of the jobs low ends, all of them or some: anywhere below, at the high end, at 1.
+fn give_bands(rng: &mut Rng, parts: &mut [PartFacts]) {
+    if !bands_on() || !rng.once_in(3) {
+        return;
+    }
+    let often = rng.pick(&[1, 2, 2, 10]);
+    for part in parts.iter_mut().filter(|part| part.rule.is_none()) {
+        for (price, low) in part.prices.iter().zip(&mut part.lows) {
+            let end = match rng.below(4) {
+                0 => rng.pick(&[1, *price]),
+                _ => rng.within(1, *price),
+            };
+            *low = rng.once_in(often).then_some(end);
+        }
+    }
+}
+
 /// A job without faults; most have a plan. Its walk number is the largest, and half of the texts have a walk line.
 pub fn facts(rng: &mut Rng, size: Size) -> Facts {
     let horizon = rng.within(2, size.horizon);
@@ -226,13 +316,15 @@ pub fn facts(rng: &mut Rng, size: Size) -> Facts {
             _ => rng.within(gap, (gap + horizon / 2).max(gap)),
         };
         let left = match rng.below(8) {
-            0 => rng.within(1, life),
+            0 => rng.within(0, life),
             1 => life,
             _ => rng.within(gap.min(life), life),
         };
-        facts.parts.push(PartFacts { life, left, cover: None, prices: amounts(rng, count, 1) });
+        facts.parts.push(PartFacts { life, left, cover: None, rule: None, prices: amounts(rng, count, 1), lows: vec![None; count] });
     }
     cover(rng, &mut facts.parts);
+    give_rules(rng, &mut facts);
+    give_bands(rng, &mut facts.parts);
     facts
 }
 
@@ -260,7 +352,7 @@ fn with_walk(rng: &mut Rng, mut facts: Facts, most: u64, whole: bool) -> Facts {
 fn largest(rng: &mut Rng) -> Facts {
     let most = 1_000_000;
     let openings: Vec<(u64, u64)> = (1..=64).map(|step| (step, most)).collect();
-    let part = PartFacts { life: 1000, left: rng.within(60, 1000), cover: None, prices: vec![most; 64] };
+    let part = PartFacts { life: 1000, left: rng.within(60, 1000), cover: None, rule: None, prices: vec![most; 64], lows: vec![None; 64] };
     let mut facts =
         Facts { horizon: rng.within(64, 70), idles: Vec::new(), walk: rng.within(0, 80), line: None, openings, parts: vec![part; 16] };
     if holders_on() {
@@ -303,11 +395,12 @@ fn random_plan(rng: &mut Rng, facts: &Facts, often: u64) -> Vec<u8> {
     reference::texts::plan_lines(&job, &reference::model::Plan { stops, changes }).into_bytes()
 }
 
-/// A plan text for the job: printed by the planner or random, its cost at times not the true one.
+/// A plan text for the job: printed by the planner or random, for the largest job all parts at all openings; its cost at times not the
+/// true one.
 pub fn plan(rng: &mut Rng, facts: &Facts) -> Vec<u8> {
-    let printed = if rng.once_in(3) { printed_plan(&facts.text(), facts.walk) } else { None };
+    let printed = if !facts.is_largest() && rng.once_in(3) { printed_plan(&facts.text(), facts.walk) } else { None };
     let plan = printed.unwrap_or_else(|| {
-        let often = rng.pick(&[5, 8, 9, 10, 10]);
+        let often = if facts.is_largest() { 10 } else { rng.pick(&[5, 8, 9, 10, 10]) };
         random_plan(rng, facts, often)
     });
     if !rng.once_in(4) {
@@ -380,7 +473,7 @@ const NO_VALUES: &[&str] = &[
 
 const KEYS: &[&str] = &[
     "horizon", "walk", "openings", "opening", "fee", "parts", "life", "left", "price", "cost", "stops", "stop", "count", "part", "", "Fee",
-    " fee", "fee ", "pric", "prices", "result", "removal", "inside", "holder", "idles", "idle",
+    " fee", "fee ", "pric", "prices", "result", "removal", "inside", "holder", "base", "drop", "least", "low", "high", "idles", "idle",
 ];
 
 /// How many of the keys at the end are for idle lines.
@@ -474,7 +567,7 @@ fn nudge(rng: &mut Rng, text: &mut Vec<u8>, equals: usize, stop: usize) {
 
 /// The text made long, to about the most bytes a text may have.
 fn lengthened(rng: &mut Rng, mut text: Vec<u8>) -> Vec<u8> {
-    let length = rng.pick(&[32_767, 32_768, 32_769, 32_770, 40_000, 65_536, 70_000]);
+    let length = rng.pick(&[32_768, 32_769, 40_959, 40_960, 40_961, 40_961, 40_962, 45_000, 65_536, 70_000]);
     let at = rng.pick(&bounds(&text)).0;
     let missing = length - text.len().min(length);
     let fill: Vec<u8> = match rng.below(4) {
@@ -492,7 +585,7 @@ fn lengthened(rng: &mut Rng, mut text: Vec<u8>) -> Vec<u8> {
 pub fn damaged(rng: &mut Rng, mut text: Vec<u8>) -> Vec<u8> {
     match rng.below(60) {
         0 => return Vec::new(),
-        1 => return lengthened(rng, text),
+        1..=3 => return lengthened(rng, text),
         _ => {}
     }
     for _ in 0..rng.pick(&[1, 1, 1, 1, 2, 3]) {
@@ -575,20 +668,106 @@ fn with_damaged_cover(rng: &mut Rng, facts: &Facts) -> Vec<u8> {
     let section = part.cover_lines();
     let mut lines: Vec<String> = section.lines().map(str::to_string).collect();
     damage_cover(rng, &mut lines, own + 1, count);
+    with_lines(&facts, own as usize, &section, &lines)
+}
+
+/// A damage to the lines of a part's rule, with a price for each of `openings` to stand in their place or behind them.
+fn damage_rule(rng: &mut Rng, lines: &mut Vec<String>, openings: usize) {
+    let at = rng.below(3) as usize;
+    let value = |key: &str, rng: &mut Rng| format!("{key}={}", rng.pick(&[0, 1, 1_000_000, 1_000_001, 4_294_967_296u64]));
+    let prices = |rng: &mut Rng, count: usize| (0..count).map(|_| format!("price={}", rng.within(1, 9))).collect::<Vec<String>>();
+    match rng.below(9) {
+        0..=2 => lines[at] = value(["base", "drop", "least"][at], rng),
+        // A line missing, doubled or exchanged with another.
+        3 => drop(lines.remove(at)),
+        4 => lines.insert(at, lines[at].clone()),
+        5 => lines.swap(at, (at + 1) % 3),
+        // Prices behind the rule, some of them in its place, or the rule behind the prices.
+        6 => lines.extend(prices(rng, openings.max(1))),
+        7 => drop(lines.splice(at..3, prices(rng, openings))),
+        _ => drop(lines.splice(0..0, prices(rng, openings.max(1)))),
+    }
+}
+
+/// The job's text with a damage to the lines of one part's rule.
+fn with_damaged_rule(rng: &mut Rng, facts: &Facts) -> Vec<u8> {
+    let mut facts = facts.clone();
+    let own = rng.below(facts.parts.len() as u64) as usize;
+    let rule = facts.parts[own].rule.unwrap_or_else(|| rule(rng));
+    facts.parts[own].rule = Some(rule);
+    let section = facts.parts[own].price_lines();
+    let mut lines: Vec<String> = section.lines().map(str::to_string).collect();
+    damage_rule(rng, &mut lines, facts.openings.len());
+    with_lines(&facts, own, &section, &lines)
+}
+
+/// A damage to the lines of a band.
+fn damage_band(rng: &mut Rng, lines: &mut Vec<String>) {
+    let at = rng.below(2) as usize;
+    let key = ["low", "high"][at];
+    match rng.below(9) {
+        // A low end above the high one, most often by little.
+        0 | 1 => exchange_values(lines),
+        2 => lines[at] = format!("{key}={}", rng.pick(&[0, 1, 1_000_000, 1_000_001, 4_294_967_296u64])),
+        3 => lines[0] = format!("low={}", rng.within(1, 1_000_000)),
+        // A line missing, doubled, exchanged with the other, or another one.
+        4 => drop(lines.remove(at)),
+        5 => lines.insert(at, lines[at].clone()),
+        6 => lines.swap(0, 1),
+        7 => lines.push(format!("price={}", rng.within(1, 9))),
+        _ => lines[at] = format!("price={}", rng.within(1, 9)),
+    }
+}
+
+/// The two lines of a band with each other's value.
+fn exchange_values(lines: &mut [String]) {
+    let value = |line: &str| line.split('=').nth(1).unwrap_or("").to_string();
+    let (low, high) = (value(&lines[0]), value(&lines[1]));
+    (lines[0], lines[1]) = (format!("low={high}"), format!("high={low}"));
+}
+
+/// The job's text with a damage to the lines of one band.
+fn with_damaged_band(rng: &mut Rng, facts: &Facts) -> Vec<u8> {
+    let mut facts = facts.clone();
+    let own = rng.below(facts.parts.len() as u64) as usize;
+    let part = &mut facts.parts[own];
+    if part.prices.is_empty() {
+        return damaged(rng, facts.text());
+    }
+    part.rule = None;
+    let at = rng.below(part.prices.len() as u64) as usize;
+    part.lows[at].get_or_insert((part.prices[at] / 2).max(1));
+    let section = part.price_lines();
+    let own_lines = price_line(part.prices[at], part.lows[at]);
+    let mut lines: Vec<String> = own_lines.lines().map(str::to_string).collect();
+    damage_band(rng, &mut lines);
+    let before: String = part.prices.iter().zip(&part.lows).take(at).map(|(price, low)| price_line(*price, *low)).collect();
+    let behind = section[before.len() + own_lines.len()..].lines().map(str::to_string);
+    let lines: Vec<String> = before.lines().map(str::to_string).chain(lines).chain(behind).collect();
+    with_lines(&facts, own, &section, &lines)
+}
+
+/// The job's text with other lines in place of a part's own ones.
+fn with_lines(facts: &Facts, part: usize, section: &str, lines: &[String]) -> Vec<u8> {
     let text = String::from_utf8(facts.text()).expect("ASCII");
     // The part's own lines: those after the `life` line with its number.
-    let life = text.match_indices("life=").nth(own as usize).expect("a part").0;
-    let at = life + text[life..].find(&section).expect("its lines");
+    let life = text.match_indices("life=").nth(part).expect("a part").0;
+    let at = life + text[life..].find(section).expect("its lines");
     let lines: String = lines.iter().map(|line| format!("{line}\n")).collect();
     [&text[..at], &lines, &text[at + section.len()..]].concat().into_bytes()
 }
 
-/// The job's text, damaged: in its idle lines once in three, in a part's removal and holders once in six.
+/// The job's text, damaged: in its idle lines once in three, in a part's removal and holders once in six, in its rule or a band once in
+/// ten.
 pub fn damaged_job(rng: &mut Rng, facts: &Facts) -> Vec<u8> {
     if idles_on() && rng.once_in(3) {
         with_damaged_idles(rng, facts)
     } else if holders_on() && rng.once_in(4) {
         with_damaged_cover(rng, facts)
+    } else if rules_on() && rng.once_in(5) {
+        with_damaged_rule(rng, facts)
+    } else if bands_on() && rng.once_in(4) {
+        with_damaged_band(rng, facts)
     } else {
         damaged(rng, facts.text())
     }

@@ -1,10 +1,10 @@
 //! Lent buffers with canaries on both sides, and the library's calls on them.
 
-use super::forms::FormCall;
+use super::forms::{self, FormCall};
 use super::rng::Rng;
 use super::Call;
 use juzvarola_host::reference::{self, Reply};
-use juzvarola_host::{Answer, Count, Form};
+use juzvarola_host::{Answer, Count};
 
 /// Bytes on each side of a lent buffer.
 const MARGIN: usize = 64;
@@ -114,19 +114,7 @@ pub fn compare_form(rng: &mut Rng, call: &FormCall, reply: &Reply) -> Result<(),
     let around = call.lists.clone().map(|list| [vec![1; NUMBERS], list, vec![1; NUMBERS]].concat());
     let before = around.clone();
     let inside = |at: usize| &around[at][NUMBERS..around[at].len() - NUMBERS];
-    let form = Form {
-        idles: inside(0),
-        openings: inside(1),
-        fees: inside(2),
-        lives: inside(3),
-        lefts: inside(4),
-        covered: inside(5),
-        removals: inside(6),
-        insides: inside(7),
-        holders: inside(8),
-        prices: inside(9),
-        ..call.form()
-    };
+    let form = forms::form(call.horizon, std::array::from_fn(inside));
     let mut out = Lent::output(rng, call.output);
     let answer = juzvarola_host::write(&form, out.part_mut());
     // "There is no text of the caller's, so no line at fault is handed over."

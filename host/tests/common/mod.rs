@@ -3,6 +3,7 @@
 
 pub mod damage;
 pub mod forms;
+pub mod halls;
 pub mod holder_cases;
 pub mod idle_cases;
 pub mod inputs;
@@ -11,6 +12,7 @@ pub mod json;
 pub mod latest_cases;
 #[cfg(feature = "library")]
 pub mod lent;
+pub mod logs;
 pub mod paper;
 pub mod rng;
 #[cfg(feature = "library")]

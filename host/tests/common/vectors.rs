@@ -61,8 +61,8 @@ pub fn field<'l>(line: &'l str, name: &str) -> &'l str {
 fn vector(line: &str) -> Vector {
     let fields: Vec<&str> = line.split(' ').collect();
     let judge = match fields[0] {
-        "plan" => false,
-        "judge" | "latest" => true,
+        "plan" | "hall" => false,
+        "judge" | "latest" | "carry" => true,
         other => panic!("no call: {other}"),
     };
     let (names, places) = (["out", "result", "line", "job", "plan", "written", "fault"], [1, 2, 3, 4, 5, 6, 7]);
@@ -114,6 +114,16 @@ fn wants_walk(job: &[u8], result: u32, fault: &[u8]) -> bool {
     result == 2 && fault.starts_with(b"openings=") && !job.split(|byte| *byte == b'\n').any(|line| line.starts_with(b"walk="))
 }
 
+/// Whether a call of before a job text could have 40,960 bytes was refused for its length, and is not any more.
+fn was_too_long(job: &[u8], result: u32, text: u32) -> bool {
+    result == 1 && text == 1 && job.len() <= 40_960
+}
+
+/// Whether a call of before `left` could be 0 was refused for that.
+fn wants_left(result: u32, fault: &[u8]) -> bool {
+    result == 3 && fault == b"left=0"
+}
+
 /// The vectors of the planner and the judge: of every file in `vectors/` that ends in `.txt`, other calls' aside. Without
 /// holders only those that they leave alone.
 pub fn all() -> Vec<Vector> {
@@ -123,6 +133,8 @@ pub fn all() -> Vec<Vector> {
     };
     let read = |file: PathBuf| std::fs::read_to_string(file).expect("a file").lines().map(vector).collect::<Vec<_>>();
     let all = files.into_iter().flat_map(read).filter(|vector| !wants_walk(&vector.call.job, vector.result, &vector.fault));
+    let all =
+        all.filter(|vector| !was_too_long(&vector.call.job, vector.result, vector.text()) && !wants_left(vector.result, &vector.fault));
     all.filter(|vector| inputs::holders_on() || !vector.call.is_of_holders()).collect()
 }
 
@@ -132,19 +144,38 @@ fn kept() -> Vec<PathBuf> {
     let mut files: Vec<_> = std::fs::read_dir(folder).expect("the vectors").map(|entry| entry.expect("an entry").path()).collect();
     files.retain(|file| {
         let stem = file.file_stem().expect("a name").to_string_lossy();
-        let other = ["write", "count", "latest"].iter().any(|call| stem.starts_with(call));
+        let other = ["write", "count", "latest", "carry", "hall"].iter().any(|call| stem.starts_with(call));
         file.extension().is_some_and(|extension| extension == "txt") && !other
     });
     files.sort();
     files
 }
 
-/// The vectors of the latest-time habit: `vectors/latest9.txt`. Without holders only those that they leave alone.
+/// The vectors of the latest-time habit: `vectors/latest9.txt` and `vectors/latest11.txt`. Without holders only those that they leave alone.
 pub fn latest() -> Vec<Vector> {
-    let kept = Path::new(env!("CARGO_MANIFEST_DIR")).join("vectors/latest9.txt");
-    let file = std::env::var("JUZVAROLA_LATEST_VECTORS").map_or(kept, PathBuf::from);
-    let vectors = std::fs::read_to_string(file).expect("a file").lines().map(vector).collect::<Vec<_>>();
-    vectors.into_iter().filter(|vector| inputs::holders_on() || !vector.call.is_of_holders()).collect()
+    let folder = Path::new(env!("CARGO_MANIFEST_DIR")).join("vectors");
+    let files = match std::env::var("JUZVAROLA_LATEST_VECTORS") {
+        Ok(file) => vec![file.into()],
+        Err(_) => ["latest9.txt", "latest11.txt"].map(|file| folder.join(file)).to_vec(),
+    };
+    let read = |file: PathBuf| std::fs::read_to_string(file).expect("a file").lines().map(vector).collect::<Vec<_>>();
+    let vectors = files.into_iter().flat_map(read).filter(|vector| !was_too_long(&vector.call.job, vector.result, vector.text()));
+    let vectors = vectors.filter(|vector| !wants_left(vector.result, &vector.fault));
+    vectors.filter(|vector| inputs::holders_on() || !vector.call.is_of_holders()).collect()
+}
+
+/// The vectors of carrying on: `vectors/carry12.txt`.
+pub fn carries() -> Vec<Vector> {
+    let kept = Path::new(env!("CARGO_MANIFEST_DIR")).join("vectors/carry12.txt");
+    let file = std::env::var("JUZVAROLA_CARRY_VECTORS").map_or(kept, PathBuf::from);
+    std::fs::read_to_string(file).expect("a file").lines().map(vector).collect()
+}
+
+/// The vectors of the hall planner: `vectors/hall14.txt`.
+pub fn halls() -> Vec<Vector> {
+    let kept = Path::new(env!("CARGO_MANIFEST_DIR")).join("vectors/hall14.txt");
+    let file = std::env::var("JUZVAROLA_HALL_VECTORS").map_or(kept, PathBuf::from);
+    std::fs::read_to_string(file).expect("a file").lines().map(vector).collect()
 }
 
 /// A vector of the count: a job, what it answers, and the line at fault.
@@ -160,7 +191,7 @@ pub struct CountVector {
 /// The vectors of the count: `vectors/count.txt`, and with holders `vectors/count7.txt`.
 pub fn counts() -> Vec<CountVector> {
     let folder = Path::new(env!("CARGO_MANIFEST_DIR")).join("vectors");
-    let kept = if inputs::holders_on() { &["count.txt", "count7.txt"][..] } else { &["count.txt"] };
+    let kept = if inputs::holders_on() { &["count.txt", "count7.txt", "count14.txt"][..] } else { &["count.txt"] };
     let files: Vec<PathBuf> = match std::env::var("JUZVAROLA_COUNT_VECTORS") {
         Ok(file) => vec![file.into()],
         Err(_) => kept.iter().map(|file| folder.join(file)).collect(),
@@ -171,5 +202,13 @@ pub fn counts() -> Vec<CountVector> {
         CountVector { job: hex(field(line, "job")), result, text, line: at, count, fault: hex(field(line, "fault")) }
     };
     let read = |file: PathBuf| std::fs::read_to_string(file).expect("a file").lines().map(vector).collect::<Vec<_>>();
-    files.into_iter().flat_map(read).filter(|vector| !wants_walk(&vector.job, vector.result, &vector.fault)).collect()
+    files
+        .into_iter()
+        .flat_map(read)
+        .filter(|vector| {
+            !wants_walk(&vector.job, vector.result, &vector.fault)
+                && !was_too_long(&vector.job, vector.result, vector.text)
+                && !wants_left(vector.result, &vector.fault)
+        })
+        .collect()
 }

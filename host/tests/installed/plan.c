@@ -3,7 +3,7 @@
 #include <stdio.h>
 
 int main(void) {
-    static uint8_t job[JUZVAROLA_MOST_TEXT + 1], out[JUZVAROLA_ROOM];
+    static uint8_t job[JUZVAROLA_MOST_JOB + 1], out[JUZVAROLA_ROOM];
     if (juzvarola_version() != JUZVAROLA_VERSION) {
         return 99;
     }

@@ -18,7 +18,7 @@ plain="$scratch/prefix"
 export MAKEFLAGS=--no-print-directory
 make -s install PREFIX="$plain" DESTDIR=
 make -s install PREFIX=/usr DESTDIR="$prefix"
-calls=$(sed -n 's/^[a-z][a-z0-9_]* \(juzvarola_[a-z]*\).*/\1/p' ../include/juzvarola.h)
+calls=$(sed -n 's/^\(static inline \)*[a-z][a-z0-9_]* \(juzvarola_[a-z_]*\).*/\2/p' ../include/juzvarola.h)
 installed="bin/juzvarola bin/juzvarola-judge bin/juzvarola-planner include/juzvarola.h lib/libjuzvarola.a lib/libjuzvarola.so.0 lib/pkgconfig/juzvarola.pc
 lib/cmake/juzvarola/juzvarola-config.cmake lib/cmake/juzvarola/juzvarola-config-version.cmake lib/python3/dist-packages/juzvarola.py
 share/bash-completion/completions/juzvarola share/man/man1/juzvarola-judge.1 share/man/man1/juzvarola.1 share/man/man1/juzvarola-planner.1
@@ -70,7 +70,7 @@ for page in "$plain"/share/man/man[15]/* "$plain/share/man/man3/juzvarola.3"; do
     grep -q "juzvarola $version" "$page" || fail "$page has another version"
 done
 words=$(man -l "$plain/share/man/man1/juzvarola.1" | cat)
-for command in plan judge list draw compare count write check completion; do
+for command in plan judge latest list draw compare count worth whatif write check completion; do
     "$plain/bin/juzvarola" help $command | grep -o -e '^  -[a-z]' -e '--[a-z]*' | sort -u | while read -r option; do
         echo "$words" | grep -q -e "$option" || fail "juzvarola.1 has no $option of $command"
     done

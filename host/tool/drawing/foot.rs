@@ -12,6 +12,7 @@ pub fn foot(marks: &mut Marks, sheet: &Sheet, judged: &Judged) {
     words.extend((costs.removals > 0).then(|| format!("Removals {}", grouped(costs.removals))));
     words.extend((costs.other > 0).then(|| format!("Other {}", grouped(costs.other))));
     words.push(format!("Total {}", grouped(costs.total())));
+    words.extend(costs.low.map(|low| format!("At low prices {}", grouped(low))));
     words.extend(Some(judged.plan.cost).filter(|stated| *stated != costs.total()).map(|stated| format!("Stated {}", grouped(stated))));
     words.extend(judged.standing().map(|standing| capital(&standing)));
     marks.words("cost", (16.0, sheet.foot + 62.0), &words.join("  \u{b7}  "));

@@ -32,41 +32,37 @@ abbrev μ-loop : tie.MeasureT-loop
 loop-holds : tie.Need-loop-holds Inv-loop μ-loop
 loop-holds c = (omega arith, refl, refl)
 
-part-of-requires : tie.Need-part-of-requires Inv-loop μ-loop
-part-of-requires c κs = (c .loop-test .taken, c .before .before .before .pre .parts)
-
-life-of-requires : tie.Need-life-of-requires Inv-loop μ-loop
-life-of-requires c κs = search needs
+lent-life-requires : tie.Need-lent-life-requires Inv-loop μ-loop
+lent-life-requires c κs = (c .loop-test .taken, c .before .before .before .pre .parts)
 
 shorter-requires : tie.Need-shorter-requires Inv-loop μ-loop
 shorter-requires c κs = search needs
 
-left-of-requires : tie.Need-left-of-requires Inv-loop μ-loop
-left-of-requires c κs = search needs
+lent-left-requires : tie.Need-lent-left-requires Inv-loop μ-loop
+lent-left-requires c κs = (c .before .before .loop-test .taken, c .before .before .before .before .before .pre .parts)
 
 shorter-requires-2 : tie.Need-shorter-requires-2 Inv-loop μ-loop
 shorter-requires-2 c κs = search needs
 
 add-q : tie.Need-add-q Inv-loop μ-loop
-add-q c = omega (arith, c .before .before .before .before .before .before .before .before .pre)
+add-q c = omega (arith, c .before .before .before .before .before .before .before .pre)
 
 loop-again : tie.Need-loop-again Inv-loop μ-loop
 loop-again c =
     let shorter = c .before .before in
-    let p = shorter .before .before in
+    let p = shorter .before in
     let l = p .before .before .loop in
     let j = p .before .before .before .before .args .job in
     let m = j .«part_count» in
     let ps = j .parts in
     let t = p .before .loop-test .taken in
-    let r = p .part-of .ensures in
+    let life-read = p .lent-life .ensures in
+    let left-read = c .before .lent-left .ensures in
     let here = part-viewed 0 m ps (l .q) t in
-    let inside : l .q < length (viewed 0 m ps) = omega (arith, t, r .1, seen m ps, length-take m ps) in (
+    let inside : l .q < length (viewed 0 m ps) = omega (arith, t, life-read .1, seen m ps, length-take m ps) in (
       omega arith,
-      least-more life (viewed 0 m ps) (l .q) (l .life) (shorter .shorter .result) inside
-          (shorter .shorter .ensures ∙ ap (min (l .life)) (shorter .before .life-of .ensures ∙ ap (λ (x : Part). x .life) (r .0) ∙ ap life (sym here))) (l .inv .1),
-      least-more left (viewed 0 m ps) (l .q) (l .left) (c .shorter2 .result) inside
-          (c .shorter2 .ensures ∙ ap (min (l .left)) (c .before .left-of .ensures ∙ ap (λ (x : Part). x .left) (r .0) ∙ ap left (sym here))) (l .inv .2),
+      least-more life (viewed 0 m ps) (l .q) (l .life) (shorter .shorter .result) inside (shorter .shorter .ensures ∙ ap (min (l .life)) (life-read .0 ∙ ap life (sym here))) (l .inv .1),
+      least-more left (viewed 0 m ps) (l .q) (l .left) (c .shorter2 .result) inside (c .shorter2 .ensures ∙ ap (min (l .left)) (left-read .0 ∙ ap left (sym here))) (l .inv .2),
     )
 
 returns : tie.Need-returns Inv-loop μ-loop
@@ -83,5 +79,5 @@ returns c =
 pub least-of-spec : {M : Type 1} → statement M
 least-of-spec =
     tie.close
-    (tie.spec Inv-loop μ-loop loop-holds part-of-requires life-of-requires shorter-requires left-of-requires
+    (tie.spec Inv-loop μ-loop loop-holds lent-life-requires shorter-requires lent-left-requires
     shorter-requires-2 add-q (λ c. omega arith) loop-again returns)

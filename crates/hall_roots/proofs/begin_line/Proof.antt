@@ -16,7 +16,7 @@ use Rattle.held_rows.specs.Held.{HeldSheet, plain, held, heldBound, Classed}
 use Rattle.held_lanes.specs.Places.{asideSize}
 use Rattle.held_lanes.specs.Tables.{HeldTables}
 use Rattle.walk.specs.State.{noCost}
-use Rattle.stop_nodes.proofs.Root.{bound-first, root-due, root-given}
+use Rattle.held_nodes.proofs.Root.{bound-first, root-due, root-given}
 use Rattle.hall_lines.specs.Levels.{rowsIn, sumsIn, termIn, maskIn}
 use Rattle.hall_lines.proofs.Levels.{at-plain}
 use Rattle.hall_roots.specs.Root.{LineBegun}

@@ -1,9 +1,8 @@
 -- `lives_of`: the first q entries are the lives, and the first lives, of the first q parts.
 use Prim.Native.Nat.{ℕ, _-_, _≤_}
-use mathlib.Core.Path.{_≡_, refl, sym, ap, subst, _∙_}
+use mathlib.Core.Path.{_≡_, refl, sym, subst, _∙_}
 use mathlib.Core.List.{map, map-map}
 use native.Mathlib.Omega.{arith}
-use borrow.Author.Needs.{needs}
 use lib.ListN.{length, take, length-set}
 use Rattle.jobs.specs.declared.Part.{Part}
 use Rattle.jobs.specs.Views.{partOf}
@@ -28,41 +27,39 @@ abbrev μ-loop : tie.MeasureT-loop
 loop-holds : tie.Need-loop-holds Inv-loop μ-loop
 loop-holds c = (omega arith, refl, refl, refl, refl)
 
-part-of-requires : tie.Need-part-of-requires Inv-loop μ-loop
-part-of-requires c κs = (c .loop-test .taken, c .before .before .before .pre .parts)
-
-life-of-requires : tie.Need-life-of-requires Inv-loop μ-loop
-life-of-requires c κs = search needs
+lent-life-requires : tie.Need-lent-life-requires Inv-loop μ-loop
+lent-life-requires c κs = (c .loop-test .taken, c .before .before .before .pre .parts)
 
 mul-lives : tie.Need-mul-lives Inv-loop μ-loop
-mul-lives c = omega (arith, c .before .before .before .before .before .pre)
+mul-lives c = omega (arith, c .before .before .before .before .pre)
 
 array-write-lives : tie.Need-array-write-lives Inv-loop μ-loop
-array-write-lives c = omega (arith, c .before .before .before .before .before .pre)
+array-write-lives c = omega (arith, c .before .before .before .before .pre)
 
-left-of-requires : tie.Need-left-of-requires Inv-loop μ-loop
-left-of-requires c κs = search needs
+lent-left-requires : tie.Need-lent-left-requires Inv-loop μ-loop
+lent-left-requires c κs = (c .before .loop-test .taken, c .before .before .before .before .pre .parts)
 
 mul-lefts : tie.Need-mul-lefts Inv-loop μ-loop
-mul-lefts c = omega (arith, c .before .before .before .before .before .before .pre)
+mul-lefts c = omega (arith, c .before .before .before .before .before .pre)
 
 array-write-lefts : tie.Need-array-write-lefts Inv-loop μ-loop
-array-write-lefts c = omega (arith, c .before .before .before .before .before .before .pre)
+array-write-lefts c = omega (arith, c .before .before .before .before .before .pre)
 
 add-q : tie.Need-add-q Inv-loop μ-loop
-add-q c = omega (arith, c .before .before .before .before .before .before .pre)
+add-q c = omega (arith, c .before .before .before .before .before .pre)
 
 loop-again : tie.Need-loop-again Inv-loop μ-loop
 loop-again c =
-    let s = c .before .before .before .before .before .before in
-    let l = c .before .before .before .before .loop in
-    let r = c .before .before .part-of .ensures in
+    let s = c .before .before .before .before .before in
+    let l = c .before .before .before .loop in
+    let life-read = c .before .lent-life .ensures in
+    let left-read = c .lent-left .ensures in
     let ps = s .args .job .parts in (
       omega arith,
       simp length-set (l .inv .1),
-      taken-more life ps (l .lives) (l .q) _ (omega (arith, s .pre)) (r .1) (c .before .life-of .ensures ∙ ap life (r .0)) (l .inv .2),
+      taken-more life ps (l .lives) (l .q) _ (omega (arith, s .pre)) (life-read .1) (life-read .0) (l .inv .2),
       simp length-set (l .inv .3),
-      taken-more left ps (l .lefts) (l .q) _ (omega (arith, s .pre)) (r .1) (c .left-of .ensures ∙ ap left (r .0)) (l .inv .4),
+      taken-more left ps (l .lefts) (l .q) _ (omega (arith, s .pre)) (left-read .1) (left-read .0) (l .inv .4),
     )
 
 returns : tie.Need-returns Inv-loop μ-loop
@@ -77,5 +74,5 @@ returns c =
 pub lives-of-spec : {M : Type 1} → statement M
 lives-of-spec =
     tie.close
-    (tie.spec Inv-loop μ-loop loop-holds part-of-requires life-of-requires mul-lives array-write-lives
-    left-of-requires mul-lefts array-write-lefts add-q (λ c. omega arith) loop-again returns)
+    (tie.spec Inv-loop μ-loop loop-holds lent-life-requires mul-lives array-write-lives
+    lent-left-requires mul-lefts array-write-lefts add-q (λ c. omega arith) loop-again returns)

@@ -9,7 +9,7 @@ use mir.Val.{toZ, ofZ}
 use Rattle.model.specs.Unheld.{chargedJob}
 use Rattle.jobs.specs.Views.{jobOf}
 use Rattle.clock.proofs.Ranges.{position-bits}
-use Rattle.search_tables.specs.Arrays.{Holds}
+use Rattle.search_tables.specs.Arrays.{JobArrays}
 use Rattle.job_numbers.proofs.Counts.{long-enough, Counted, counted}
 use Rattle.job_search.proofs.Plain.{job-said, removed-range, holds-charged}
 use Rattle.job_search.proofs.search_plain.Statement.{statement}
@@ -36,7 +36,7 @@ module _ (c : tie.After-prices-of) where
   long : Counted n m (numbers .numbers-of .result)
   long = counted (s .args .job) (s .pre .0 .sized) (s .good .0) (numbers .numbers-of .result) (numbers .numbers-of .ensures)
 
-  holds : Holds (chargedJob (jobOf (s .args .job))) (toZ w32 (ofZ w32 (numbers .numbers-of .result .placed .end))) (take n (numbers .numbers-of .result .placed .at)) (take n (numbers .numbers-of .result .fees)) (take m (numbers .numbers-of .result .lives))
+  holds : JobArrays (chargedJob (jobOf (s .args .job))) (toZ w32 (ofZ w32 (numbers .numbers-of .result .placed .end))) (take n (numbers .numbers-of .result .placed .at)) (take n (numbers .numbers-of .result .fees)) (take m (numbers .numbers-of .result .lives))
       (take m (numbers .numbers-of .result .lefts)) (c .prices-of .result)
   holds =
       rw (position-bits (numbers .numbers-of .result .placed .end) (numbers .numbers-of .ensures .placed .end-range))

@@ -5,7 +5,7 @@ use native.Mathlib.Omega.{arith}
 use Rattle.verdict.specs.Views.{modelJudgement}
 use Rattle.answers.specs.Said.{plainly, handed}
 use Rattle.answers.proofs.Replies.{replied, no-room}
-use Rattle.judging.specs.Judge.{linesOf, saidOf, judgeRoom}
+use Rattle.judging.specs.Judge.{judgeLines, saidOf, judgeRoom}
 use Rattle.judging.proofs.Lengths.{lines-short}
 use borrow.Author.Needs.{needs}
 use Rattle.judging.proofs.answer.Statement.{statement}
@@ -32,7 +32,7 @@ returns-2 c =
     let j = modelJudgement (s .args .j) in
     let put = c .before .before .before .before .put-judgement in
     replied judgeRoom (saidOf j) (c .before .before .before .before .before .before .if1 .left) (omega (arith, lines-short j)) (put .ensures)
-    (c .plain .ensures ∙ ap (λ (n : ℕ). handed (plainly n (linesOf j)) (put .result)) (c .before .number-of .ensures))
+    (c .plain .ensures ∙ ap (λ (n : ℕ). handed (plainly n (judgeLines j)) (put .result)) (c .before .number-of .ensures))
 
 pub answer-spec : {M : Type 1} → statement M
 answer-spec =

@@ -2,13 +2,12 @@
 use mathlib.Core.Path.{refl}
 use Rattle.lines.specs.Text.{joined}
 use Rattle.lines.specs.Chosen.{chosen}
-use Rattle.covers.specs.Views.{linesOf, meantCover}
 use Rattle.part_lines.proofs.blank_part.Statement.{statement}
 use Rattle.part_lines.proofs.blank_part.Tie as tie
 
 returns : tie.Need-returns
-unfolding linesOf meantCover chosen joined
-returns c = λ n. refl
+unfolding chosen joined
+returns c = (refl, refl)
 
 pub blank-part-spec : {M : Type 1} → statement M
 blank-part-spec = tie.close (tie.spec returns)

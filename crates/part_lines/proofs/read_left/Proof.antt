@@ -13,9 +13,9 @@ read-field-requires : tie.Need-read-field-requires
 read-field-requires c κs = search needs
 
 -- the row that was read
-found : (c : tie.After-v) → let a = c .before .before .before .before .before .args in LineRead (row "left=" 1 1000) (a .s .now) (Value (c .v .given .0 .0) (c .v .given .0 .1 .0))
+found : (c : tie.After-v) → let a = c .before .before .before .before .before .args in LineRead (row "left=" 0 1000) (a .s .now) (Value (c .v .given .0 .0) (c .v .given .0 .1 .0))
 unfolding bytes
-found c = row-line _ 1 1000 _ (sym (c .v .given .1) ∙ c .before .before .read-field .ensures)
+found c = row-line _ 0 1000 _ (sym (c .v .given .1) ∙ c .before .before .read-field .ensures)
 
 returns : tie.Need-returns
 returns c = line-broken _ _ _ _ (found (c .before .before)) (upTo-not _ _ (c .if1 .taken))
@@ -25,7 +25,7 @@ returns-2 c = line-ruled _ _ _ _ (found (c .before .before)) (upTo-yes _ _ (c .i
 
 returns-3 : tie.Need-returns-3
 unfolding bytes
-returns-3 c = line-fault _ _ _ _ (row-line _ 1 1000 _ (sym (c .before .k .given .1) ∙ c .before .before .before .read-field .ensures))
+returns-3 c = line-fault _ _ _ _ (row-line _ 0 1000 _ (sym (c .before .k .given .1) ∙ c .before .before .before .read-field .ensures))
 
 pub read-left-spec : {M : Type 1} → statement M
 read-left-spec =

@@ -40,7 +40,7 @@ advance-requires-2 c κs = let s = stood (c .before .before .before) in (s, line
 
 -- the line of what is left, read in the whole text
 left : (c : tie.After-advance2) → let q = c .before .before .before .before .life .given .0 .1 .0 in let text = c .before .before .before .before .before .before .before .before .before .before .before .args .text .now in
-    Reads text (rowAnswer (c .advance2 .result)) (checked 5 (upTo (c .before .before .before .before .life .given .0 .0)) (row "left=" 1 1000) (drop (q .at) text) (q .line))
+    Reads text (rowAnswer (c .advance2 .result)) (checked 5 (upTo (c .before .before .before .before .life .given .0 .0)) (row "left=" 0 1000) (drop (q .at) text) (q .line))
 left c = line-reads _ (c .before .before .before .before .life .given .0 .1 .0) (c .before .read-left .ensures) (c .advance2 .ensures)
 
 read-after-left-requires : tie.Need-read-after-left-requires

@@ -6,8 +6,7 @@ use Rattle.lines.specs.Parser.{accepted, refused}
 use Rattle.lines.proofs.Outcomes.{told}
 use Rattle.job_grammar.specs.Grammar.{readJob}
 use Rattle.job_text.specs.Views.{givenOf}
-use Rattle.job_text.proofs.Views.{means}
-use Rattle.job_grammar.proofs.Accepted.{valid}
+use Rattle.job_text.proofs.Views.{means, sound-text}
 use Rattle.job_grammar.proofs.Numbered.{fault}
 use Rattle.planning.specs.Plan.{planSaid}
 use Rattle.planning.proofs.Promised.{promised}
@@ -34,8 +33,8 @@ walk-number-requires c κs = search needs
 
 plan-job-requires : tie.Need-plan-job-requires
 plan-job-requires c κs =
-    let v = valid _ _ (accepted-job (c .before .before .before)) in
-    (record { sized = c .before .before .before .before .before .read-job .ensures .sized; valid = v .job }, omega (arith, c .before .walk-number .ensures))
+    let r = c .before .before .before .before .before .read-job in
+    (sound-text _ (r .result) (r .ensures) (accepted-job (c .before .before .before)), omega (arith, c .before .walk-number .ensures))
 
 returns : tie.Need-returns
 unfolding planSaid

@@ -7,7 +7,7 @@ use Rattle.lines.specs.Parser.{return, row, ifPresent}
 use Rattle.lines.specs.Cursor.{Stands, Reads, rowAnswer, ended}
 use Rattle.lines.proofs.Parsing.{bind-good, bind-fault, row-line, line-inside, line-reads, got-value, got-fault, got-place, fault-read}
 use Rattle.price_rules.specs.Grammar.{afterBase}
-use Rattle.price_rules.specs.Views.{linesOf}
+use Rattle.price_rules.specs.Views.{ruleThere}
 use Rattle.price_rules.proofs.read_after_base.Statement.{statement}
 use Rattle.price_rules.proofs.read_after_base.Tie as tie
 
@@ -58,7 +58,7 @@ no-rule-requires-2 : tie.Need-no-rule-requires-2
 no-rule-requires-2 c κs = search needs
 
 returns : tie.Need-returns
-unfolding afterBase ifPresent return linesOf ended
+unfolding afterBase ifPresent return ruleThere ended
 returns c =
     let e = floor (c .before .before .before) in
     let m = ap rowAnswer (c .before .least .given .1) in

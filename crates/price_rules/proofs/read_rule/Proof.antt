@@ -7,7 +7,7 @@ use Rattle.lines.specs.Parser.{_>>=_, return, readField, rowAt, optionalAt, ifP
 use Rattle.lines.specs.Cursor.{Reads, rowAnswer, ended}
 use Rattle.lines.proofs.Parsing.{bind-good, bind-fault, got-value, got-fault, got-place, row-line, line-inside, line-reads, optional-row, optional-none, fault-read}
 use Rattle.price_rules.specs.Grammar.{rule}
-use Rattle.price_rules.specs.Views.{linesOf}
+use Rattle.price_rules.specs.Views.{ruleThere}
 use borrow.Author.Needs.{needs}
 use Rattle.price_rules.proofs.read_rule.Statement.{statement}
 use Rattle.price_rules.proofs.read_rule.Tie as tie
@@ -54,7 +54,7 @@ returns-2 c =
     fault-read _ (c .no-rule .ensures .0) (bind-fault _ _ (found (at .before .before) .1 ∙ bind-fault _ _ (got-fault (row at) (ap rowAnswer (c .before .before .k .given .1)))))
 
 returns-3 : tie.Need-returns-3
-unfolding rule bytes ifPresent return ended linesOf
+unfolding rule bytes ifPresent return ended ruleThere
 returns-3 c =
     let st = c .before .before .before .before .before .before .before in
     let n = c .no-rule2 .ensures in

@@ -3,7 +3,7 @@ use Prim.Native.Nat.{ℕ}
 use borrow.Author.Needs.{needs}
 use Rattle.price_rules.specs.Rule.{rulePrice}
 use Rattle.price_rules.specs.Views.{ruleOf}
-use Rattle.price_rules.proofs.Tables.{array-filled}
+use Rattle.price_rules.proofs.Arrays.{array-filled}
 use Rattle.price_rules.proofs.rule_prices.Statement.{statement}
 use Rattle.price_rules.proofs.rule_prices.Tie as tie
 

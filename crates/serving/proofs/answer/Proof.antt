@@ -1,10 +1,11 @@
 -- `answer`: an output that is too short stays; else the lines are written, and the number handed over.
 use Prim.Native.Nat.{ℕ}
 use mathlib.Core.Path.{ap, _∙_}
-use Rattle.jobs.specs.Views.{jobOf, planFor}
+use Rattle.jobs.specs.Views.{planFor}
+use Rattle.job_text.specs.Views.{givenOf}
 use Rattle.answers.specs.Said.{plainly, handed}
 use Rattle.answers.proofs.Replies.{replied, no-room}
-use Rattle.serving.specs.Serve.{linesOf, saidFor, latestRoom}
+use Rattle.serving.specs.Serve.{latestLines, saidFor, latestRoom}
 use Rattle.serving.specs.Serving.{answerIn}
 use Rattle.serving.proofs.Lengths.{lines-short}
 use borrow.Author.Needs.{needs}
@@ -30,10 +31,10 @@ returns-2 : tie.Need-returns-2
 returns-2 c =
     let s = c .before .before .before .before .before .before .before .before in
     let a = s .args in
-    let plan = planFor (a .job) (a .plan) in
+    let plan = planFor (a .text .job) (a .plan) in
     let put = c .before .before .before .before .put-serving in
-    replied latestRoom (saidFor (jobOf (a .job)) (answerIn plan (a .s))) (c .before .before .before .before .before .before .if1 .left) (lines-short (a .s) (a .job) (a .plan) (s .pre .0) (s .pre .1)) (put .ensures)
-    (c .plain .ensures ∙ ap (λ (n : ℕ). handed (plainly n (linesOf (jobOf (a .job)) (answerIn plan (a .s)))) (put .result)) (c .before .number-of .ensures plan))
+    replied latestRoom (saidFor (givenOf (a .text)) (answerIn plan (a .s))) (c .before .before .before .before .before .before .if1 .left) (lines-short (a .s) (a .text) (a .plan) (s .pre .0) (s .pre .1)) (put .ensures)
+    (c .plain .ensures ∙ ap (λ (n : ℕ). handed (plainly n (latestLines (givenOf (a .text)) (answerIn plan (a .s)))) (put .result)) (c .before .number-of .ensures plan))
 
 pub answer-spec : {M : Type 1} → statement M
 answer-spec =

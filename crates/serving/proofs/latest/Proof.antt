@@ -6,8 +6,7 @@ use Rattle.lines.specs.Parser.{accepted, refused}
 use Rattle.lines.proofs.Outcomes.{told}
 use Rattle.job_grammar.specs.Grammar.{readJob}
 use Rattle.job_text.specs.Views.{givenOf}
-use Rattle.job_text.proofs.Views.{means}
-use Rattle.job_grammar.proofs.Accepted.{valid}
+use Rattle.job_text.proofs.Views.{means, sound-text}
 use Rattle.job_grammar.proofs.Numbered.{fault}
 use Rattle.serving.specs.Serve.{latestSaid}
 use Rattle.serving.proofs.Promised.{promised}
@@ -30,7 +29,7 @@ refuse-requires : tie.Need-refuse-requires
 refuse-requires c κs = (omega (arith, fault _ _ _ (refused-job (c .before .before)) .1), omega arith)
 
 serve-plan-requires : tie.Need-serve-plan-requires
-serve-plan-requires c κs = record { sized = c .before .before .before .before .read-job .ensures .sized; valid = valid _ _ (accepted-job (c .before .before)) .job }
+serve-plan-requires c κs = let r = c .before .before .before .before .read-job in sound-text _ (r .result) (r .ensures) (accepted-job (c .before .before))
 
 returns : tie.Need-returns
 unfolding latestSaid

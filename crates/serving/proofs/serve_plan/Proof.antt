@@ -12,15 +12,15 @@ use Rattle.serving.proofs.serve_plan.Statement.{statement}
 use Rattle.serving.proofs.serve_plan.Tie as tie
 
 -- what the plan text reads as, by the verdict on it
-refused-plan : (c : tie.After-verdict) → let a = c .before .before .before .before .before .args in readPlan (jobOf (a .job)) (a .plan .now) ≡ refused (c .verdict .given .0 .0) (c .verdict .given .0 .1 .0)
+refused-plan : (c : tie.After-verdict) → let a = c .before .before .before .before .before .before .args in readPlan (jobOf (a .text .job)) (a .plan .now) ≡ refused (c .verdict .given .0 .0) (c .verdict .given .0 .1 .0)
 refused-plan c = told _ (c .before .before .read-plan .ensures) (c .verdict .given .1)
 
-accepted-plan : (c : tie.After-enum-told) → let a = c .before .before .before .before .before .args in let r = c .before .before .read-plan .result in
-    readPlan (jobOf (a .job)) (a .plan .now) ≡ accepted (statedFor (a .job) (r .cost) (r .plan))
+accepted-plan : (c : tie.After-enum-told) → let a = c .before .before .before .before .before .before .args in let r = c .before .before .read-plan .result in
+    readPlan (jobOf (a .text .job)) (a .plan .now) ≡ accepted (statedFor (a .text .job) (r .cost) (r .plan))
 accepted-plan c = told _ (c .before .before .read-plan .ensures) (c .enum-told .given .1)
 
 read-plan-requires : tie.Need-read-plan-requires
-read-plan-requires c κs = search needs
+read-plan-requires c κs = c .before .before .before .pre .sized
 
 refuse-requires : tie.Need-refuse-requires
 refuse-requires c κs = (omega (arith, fault _ _ _ _ (refused-plan (c .before .before)) .1), omega arith)

@@ -17,7 +17,7 @@ use Rattle.lane_rows.specs.Rows.{Recalled}
 use Rattle.share_rows.specs.Places.{holdsPlace}
 use Rattle.share_walk.specs.declared.Node.{Node}
 use Rattle.share_walk.specs.declared.State.{State}
-use Rattle.share_walk.specs.State.{nameSize, countedS, stoppedS, keptS, At, Above, Below, Walked}
+use Rattle.share_walk.specs.State.{nameSize, countedS, stoppedS, keptS, At, Above, Below, SharesWalked}
 use Rattle.share_walk.proofs.Walks.{none-left, some-left, name-more, at-looked, above-of, look-asks, look-fits, look-sum, node-fits, name-room, walked-stopped, walked-dropped, walked-full, first-name, first-long, first-kept, walked-both, at-below, above-kept}
 use borrow.Fn.Kinds.{In}
 use borrow.Fn.PlainCycle.{Measures, is, falls, and}
@@ -102,7 +102,7 @@ walk-stopped-requires t c κs = search needs
 walk-returns : (t : ℕ) → walk-lts.Need-returns (claims t) (walk-at t) walk.Post
 walk-returns t c = λ job shares lanes nm h.
     let a = c .before .before .before .args in
-    subst (λ (r : State). Walked job shares nm (a .t .now) (a .w .now) (a .w .now) (a .name .now) (a .name .now) (a .best .now) (a .best .now) (a .limit) (a .p) (a .s) r) (sym (c .stopped .ensures))
+    subst (λ (r : State). SharesWalked job shares nm (a .t .now) (a .w .now) (a .w .now) (a .name .now) (a .name .now) (a .best .now) (a .best .now) (a .limit) (a .p) (a .s) r) (sym (c .stopped .ensures))
     (walked-stopped job shares lanes nm (a .t .now) (a .x .now) (a .w .now) (a .name .now) (a .p) h (a .best .now) (a .limit) (a .s) (c .before .if1 .taken))
 
 walk-look-by-fours-requires : (t : ℕ) → walk-lts.Need-look-by-fours-requires (claims t) (walk-at t) walk.Post
@@ -127,7 +127,7 @@ walk-returns-2 t c = λ job shares lanes nm h.
     let b = c .before .before .before .before .before .before .before .before in
     let a = b .args in
     let k = c .before .before .before .before .look-by-fours in
-    subst (λ (r : State). Walked job shares nm (a .t .now) (a .w .now) (k .last .1 .0) (a .name .now) (a .name .now) (a .best .now) (a .best .now) (a .limit) (a .p) (a .s) r) (sym (c .before .before .counted .ensures))
+    subst (λ (r : State). SharesWalked job shares nm (a .t .now) (a .w .now) (k .last .1 .0) (a .name .now) (a .name .now) (a .best .now) (a .best .now) (a .limit) (a .p) (a .s) r) (sym (c .before .before .counted .ensures))
     (walked-dropped job shares lanes nm (a .t .now) (a .x .now) (a .w .now) (a .name .now) (a .p) h (k .last .1 .0) (a .best .now) (a .limit) (a .p .spent + k .result) (a .s) (k .ensures .recalled)
     (ap (λ (v : ℕ). a .p .spent + v) (look-sum job shares lanes nm (a .t .now) (a .x .now) (a .w .now) (a .name .now) (a .p) h (k .result) (k .ensures .sum))) (omega (arith, c .before .before .before .before .before .before .if1 .left)) (b .pre .1 .1) (c .if2 .taken))
 
@@ -159,7 +159,7 @@ walk-returns-3 t c = λ job shares lanes nm h.
     let kp = c .before .keep in
     let n = none-left (a .p .next) (getD (a .x .now) holdsPlace 0) (a .p .at) (getD (a .t .now) countPlace 0) (sym (u .ensures) ∙ not-true (u .result) (c .before .before .before .before .before .if3 .taken)) in
     let nu = h .numbers in
-    subst (λ (r : State). Walked job shares nm (a .t .now) (a .w .now) (k .last .1 .0) (a .name .now) (a .name .now) (a .best .now) (kp .last .1 .0) (a .limit) (a .p) (a .s) r)
+    subst (λ (r : State). SharesWalked job shares nm (a .t .now) (a .w .now) (k .last .1 .0) (a .name .now) (a .name .now) (a .best .now) (kp .last .1 .0) (a .limit) (a .p) (a .s) r)
     (sym (c .kept .ensures ∙ ap (λ (q : State). keptS q (a .p .spent + k .result) (a .p .size)) (c .before .before .before .before .before .before .before .before .before .before .before .counted .ensures)))
     (walked-full job shares lanes nm (a .t .now) (a .x .now) (a .w .now) (a .name .now) (a .p) h (a .p .spent + k .result) (a .limit) (a .s) (a .best .now)
     (ap (λ (v : ℕ). a .p .spent + v) (look-sum job shares lanes nm (a .t .now) (a .x .now) (a .w .now) (a .name .now) (a .p) h (k .result) (k .ensures .sum))) (omega (arith, c .before .before .before .before .before .before .before .before .before .before .before .before .before .before .before .if1 .left)) (b .pre .1 .1) (omega (arith, c .before .before .before .before .before .before .before .before .before .if2 .left))
@@ -267,11 +267,11 @@ passed-begun t c = first-begun t (first t c)
 no-walked : (t : ℕ) (c : Passed t) (job : Job) (shares : Shares) (lanes : List Held) (nm : List Bool) → Given t (passed-begun t c) job shares lanes nm
     → let a = passed-begun t c .args in
     let d = first t c .below in
-    Walked job shares (snoc nm false) (a .t .now) (d .last .1 .1 .0) (c .walk .last .1 .1 .0) (set (a .name .now) (a .p .size) false) (c .walk .last .1 .1 .1 .0) (a .best .now) (c .walk .last .1 .1 .1 .1 .0) (a .limit) (d .result) (countedS (a .s)) (c .walk .result)
+    SharesWalked job shares (snoc nm false) (a .t .now) (d .last .1 .1 .0) (c .walk .last .1 .1 .0) (set (a .name .now) (a .p .size) false) (c .walk .last .1 .1 .1 .0) (a .best .now) (c .walk .last .1 .1 .1 .1 .0) (a .limit) (d .result) (countedS (a .s)) (c .walk .result)
 no-walked t c job shares lanes nm h =
     let a = passed-begun t c .args in
     let d = first t c .below in
-    subst (λ (q : State). Walked job shares (snoc nm false) (a .t .now) (d .last .1 .1 .0) (c .walk .last .1 .1 .0) (set (a .name .now) (a .p .size) false) (c .walk .last .1 .1 .1 .0) (a .best .now) (c .walk .last .1 .1 .1 .1 .0) (a .limit) (d .result) q (c .walk .result)) (c .before .before .before .before .before .before .before .before .before .before .before .before .before .before .before .before .before .before .before .counted .ensures)
+    subst (λ (q : State). SharesWalked job shares (snoc nm false) (a .t .now) (d .last .1 .1 .0) (c .walk .last .1 .1 .0) (set (a .name .now) (a .p .size) false) (c .walk .last .1 .1 .1 .0) (a .best .now) (c .walk .last .1 .1 .1 .1 .0) (a .limit) (d .result) q (c .walk .result)) (c .before .before .before .before .before .before .before .before .before .before .before .before .before .before .before .before .before .before .before .counted .ensures)
     (c .walk .ensures job shares lanes (snoc nm false) (no-given t (first t c) job shares lanes nm h))
 
 -- what it leaves, with the numbers that its laws ask
@@ -351,8 +351,8 @@ walk-walk-requires-2 t c κs =
 both : (t : ℕ) (d : Second t) (job : Job) (shares : Shares) (lanes : List Held) (nm : List Bool) (h : Given t (passed-begun t (passed t d)) job shares lanes nm) (w₅ : List ℕ) (n₂ b₂ : List Bool) (r₂ : State)
     → let c = passed t d in
     let a = passed-begun t c .args in
-    Walked job shares (snoc nm true) (a .t .now) (d .below2 .last .1 .1 .0) w₅ (set (c .walk .last .1 .1 .1 .0) (a .p .size) true) n₂ (c .walk .last .1 .1 .1 .1 .0) b₂ (a .limit) (d .below2 .result) (c .walk .result) r₂
-    → Walked job shares nm (a .t .now) (a .w .now) w₅ (a .name .now) n₂ (a .best .now) b₂ (a .limit) (a .p) (a .s) r₂
+    SharesWalked job shares (snoc nm true) (a .t .now) (d .below2 .last .1 .1 .0) w₅ (set (c .walk .last .1 .1 .1 .0) (a .p .size) true) n₂ (c .walk .last .1 .1 .1 .1 .0) b₂ (a .limit) (d .below2 .result) (c .walk .result) r₂
+    → SharesWalked job shares nm (a .t .now) (a .w .now) w₅ (a .name .now) n₂ (a .best .now) b₂ (a .limit) (a .p) (a .s) r₂
 both t d job shares lanes nm h w₅ n₂ b₂ r₂ wy =
     let c = passed t d in
     let f = first t c in

@@ -1,10 +1,8 @@
 -- `removals_of`: the removals of the parts before q are there.
 use Prim.Native.Nat.{ℕ, _-_, _≤_}
-use mathlib.Core.Path.{_≡_, ap, subst, _∙_}
+use mathlib.Core.Path.{_≡_, subst}
 use native.Mathlib.Omega.{arith}
-use borrow.Author.Needs.{needs}
 use Rattle.model.specs.Model.{table}
-use Rattle.jobs.specs.declared.Part.{Part}
 use Rattle.coming_out.specs.Rows.{Row}
 use Rattle.coming_out.proofs.Rows.{row-none, row-more}
 use Rattle.coming_out.proofs.Said.{removalAt, removals-by}
@@ -20,30 +18,25 @@ abbrev μ-loop : tie.MeasureT-loop
 loop-holds : tie.Need-loop-holds Inv-loop μ-loop
 loop-holds c = (omega arith, row-none 0 (removalAt (c .before .args .job .parts)))
 
-part-of-requires : tie.Need-part-of-requires Inv-loop μ-loop
-part-of-requires c κs = (c .loop-test .taken, c .before .before .before .pre .parts)
-
-removal-of-requires : tie.Need-removal-of-requires Inv-loop μ-loop
-removal-of-requires c κs = search needs
+lent-removal-requires : tie.Need-lent-removal-requires Inv-loop μ-loop
+lent-removal-requires c κs = (c .loop-test .taken, c .before .before .before .pre .parts)
 
 mul-removals : tie.Need-mul-removals Inv-loop μ-loop
-mul-removals c = let i = c .before .before in omega (arith, i .loop-test .taken, i .before .before .before .pre .parts)
+mul-removals c = let i = c .before in omega (arith, i .loop-test .taken, i .before .before .before .pre .parts)
 
 array-write-removals : tie.Need-array-write-removals Inv-loop μ-loop
-array-write-removals c = let i = c .before .before in omega (arith, i .loop-test .taken, i .before .before .before .pre .parts)
+array-write-removals c = let i = c .before in omega (arith, i .loop-test .taken, i .before .before .before .pre .parts)
 
 add-q : tie.Need-add-q Inv-loop μ-loop
-add-q c = let i = c .before .before in omega (arith, i .loop-test .taken, i .before .before .before .pre .parts)
+add-q c = let i = c .before in omega (arith, i .loop-test .taken, i .before .before .before .pre .parts)
 
 loop-again : tie.Need-loop-again Inv-loop μ-loop
 loop-again c =
-    let p = c .before in
-    let i = p .before in
+    let i = c .before in
     let l = i .before .loop in
     let s = i .before .before .before in (
       omega arith,
-      row-more 0 (removalAt (s .args .job .parts)) (l .q) (l .removals) (c .removal-of .result) (omega (arith, i .loop-test .taken, s .pre .parts))
-          (c .removal-of .ensures ∙ ap (λ (r : Part). r .removal) (p .part-of .ensures .0)) (l .inv .1),
+      row-more 0 (removalAt (s .args .job .parts)) (l .q) (l .removals) (c .lent-removal .result) (omega (arith, i .loop-test .taken, s .pre .parts)) (c .lent-removal .ensures .0) (l .inv .1),
     )
 
 returns : tie.Need-returns Inv-loop μ-loop
@@ -56,5 +49,5 @@ returns c =
 pub removals-of-spec : {M : Type 1} → statement M
 removals-of-spec =
     tie.close
-    (tie.spec Inv-loop μ-loop loop-holds part-of-requires removal-of-requires mul-removals array-write-removals add-q
+    (tie.spec Inv-loop μ-loop loop-holds lent-removal-requires mul-removals array-write-removals add-q
     (λ c. omega arith) loop-again returns)

@@ -9,12 +9,12 @@ use Rattle.form_writing.proofs.whole.put_body.Tie as tie
 
 put-openings-requires : tie.Need-put-openings-requires
 unfolding bodyCut
-put-openings-requires c κs = let s = c .before .before .before .before .before .before .before .before .before .before .before in (s .pre .0 .1, omega (arith, simp length-append at (s .pre .1)))
+put-openings-requires c κs = let s = c .before .before .before .before .before .before .before .before .before .before .before .before .before .before .before .before .before in (s .pre .0 .1, omega (arith, simp length-append at (s .pre .1)))
 
 put-counted-requires : tie.Need-put-counted-requires
 unfolding bodyCut
 put-counted-requires c κs =
-    let s = c .before .before .before .before .before .before .before .before .before .before .before .before .before .before .before in
+    let s = c .before .before .before .before .before .before .before .before .before .before .before .before .before .before .before .before .before .before .before .before .before in
     let w = c .before .before .before .put-openings .ensures in
     (s .pre .0 .0, omega (arith, simp length-append at (s .pre .1), w .next, kept w))
 

@@ -10,18 +10,18 @@ use Rattle.form_writing.proofs.whole.put_form.Tie as tie
 
 put-line-requires : tie.Need-put-line-requires
 unfolding bytes formCut
-put-line-requires c κs = (omega arith, omega (arith, simp length-append at (c .before .before .before .before .before .before .before .before .before .before .before .before .before .pre)))
+put-line-requires c κs = (omega arith, omega (arith, simp length-append at (c .before .before .before .before .before .before .before .before .before .before .before .before .before .before .before .before .before .before .before .pre)))
 
 put-idles-requires : tie.Need-put-idles-requires
 unfolding bytes formCut
-put-idles-requires c κs = let w = c .before .before .before .put-line .ensures in omega (arith, simp length-append at (c .before .before .before .before .before .before .before .before .before .before .before .before .before .before .before .before .before .pre), w .next, kept w)
+put-idles-requires c κs = let w = c .before .before .before .put-line .ensures in omega (arith, simp length-append at (c .before .before .before .before .before .before .before .before .before .before .before .before .before .before .before .before .before .before .before .before .before .before .before .pre), w .next, kept w)
 
 put-rest-requires : tie.Need-put-rest-requires
 unfolding bytes formCut
 put-rest-requires c κs =
     let v = c .before .before .before .before .before .before .before .put-line .ensures in
     let w = c .before .before .before .put-idles .ensures in
-    omega (arith, simp length-append at (c .before .before .before .before .before .before .before .before .before .before .before .before .before .before .before .before .before .before .before .before .before .pre), v .next, kept v, w .next, kept w)
+    omega (arith, simp length-append at (c .before .before .before .before .before .before .before .before .before .before .before .before .before .before .before .before .before .before .before .before .before .before .before .before .before .before .before .pre), v .next, kept v, w .next, kept w)
 
 returns : tie.Need-returns
 unfolding bytes formCut

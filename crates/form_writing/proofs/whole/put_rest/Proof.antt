@@ -15,30 +15,30 @@ use Rattle.form_writing.proofs.whole.put_rest.Tie as tie
 
 -- the lists that are handed over, and their text
 abbrev lists : tie.Start → PartLists
-lists c = let a = c .args in partLists (a .lives .now) (a .lefts .now) (a .covered .now) (a .removals .now) (a .insides .now) (a .holders .now) (a .prices .now)
+lists c = let a = c .args in partLists (a .lives .now) (a .lefts .now) (a .covered .now) (a .removals .now) (a .insides .now) (a .holders .now) (a .ruled .now) (a .bases .now) (a .drops .now) (a .leasts .now) (a .banded .now) (a .lows .now) (a .prices .now)
 
 abbrev text : tie.Start → List ℕ
 text s = restCut (s .args .openings .now) (s .args .fees .now) (lists s)
 
 -- too many openings
-many : (c : tie.After-put-line-arg2) → text (c .before .before .before .before .before .before .before .before .before .before .before .before .before) ≡ lineOf "openings=" 65
-many c = let s = c .before .before .before .before .before .before .before .before .before .before .before .before .before in rest-out (s .args .openings .now) (s .args .fees .now) (lists s) (λ few e. omega (arith, few, c .before .before .if1 .taken))
+many : (c : tie.After-put-line-arg2) → text (c .before .before .before .before .before .before .before .before .before .before .before .before .before .before .before .before .before .before .before) ≡ lineOf "openings=" 65
+many c = let s = c .before .before .before .before .before .before .before .before .before .before .before .before .before .before .before .before .before .before .before in rest-out (s .args .openings .now) (s .args .fees .now) (lists s) (λ few e. omega (arith, few, c .before .before .if1 .taken))
 
 put-line-requires : tie.Need-put-line-requires
 unfolding bytes
-put-line-requires c κs = (omega arith, omega (arith, c .before .before .before .before .before .before .before .before .before .before .before .before .before .pre, ap length (many c)))
+put-line-requires c κs = (omega arith, omega (arith, c .before .before .before .before .before .before .before .before .before .before .before .before .before .before .before .before .before .before .before .pre, ap length (many c)))
 
 returns : tie.Need-returns
 unfolding bytes
 returns c = same (c .before .before .put-line .ensures) (sym (many (c .before .before .before))) refl
 
 -- not as many fees
-differ : (c : tie.After-put-line-arg4) → text (c .before .before .before .before .before .before .before .before .before .before .before .before .before .before) ≡ lineOf "openings=" 65
-differ c = let s = c .before .before .before .before .before .before .before .before .before .before .before .before .before .before in rest-out (s .args .openings .now) (s .args .fees .now) (lists s) (λ few e. omega (arith, e, c .before .before .if2 .taken))
+differ : (c : tie.After-put-line-arg4) → text (c .before .before .before .before .before .before .before .before .before .before .before .before .before .before .before .before .before .before .before .before) ≡ lineOf "openings=" 65
+differ c = let s = c .before .before .before .before .before .before .before .before .before .before .before .before .before .before .before .before .before .before .before .before in rest-out (s .args .openings .now) (s .args .fees .now) (lists s) (λ few e. omega (arith, e, c .before .before .if2 .taken))
 
 put-line-requires-2 : tie.Need-put-line-requires-2
 unfolding bytes
-put-line-requires-2 c κs = (omega arith, omega (arith, c .before .before .before .before .before .before .before .before .before .before .before .before .before .before .pre, ap length (differ c)))
+put-line-requires-2 c κs = (omega arith, omega (arith, c .before .before .before .before .before .before .before .before .before .before .before .before .before .before .before .before .before .before .before .before .pre, ap length (differ c)))
 
 returns-2 : tie.Need-returns-2
 unfolding bytes
@@ -46,7 +46,7 @@ returns-2 c = same (c .before .before .put-line2 .ensures) (sym (differ (c .befo
 
 -- the pieces
 abbrev start : tie.After-put-line-arg6 → tie.Start
-start c = c .before .before .before .before .before .before .before .before .before .before .before .before .before .before
+start c = c .before .before .before .before .before .before .before .before .before .before .before .before .before .before .before .before .before .before .before .before
 
 as-many : (c : tie.After-put-line-arg6) → length (start c .args .fees .now) ≡ length (start c .args .openings .now)
 as-many c = omega (arith, c .before .before .if2 .left)

@@ -7,7 +7,7 @@ use lib.ListN.{length, getD, take, replicate, List·getD-append}
 use Rattle.model.specs.Decisions.{concat}
 use Rattle.walk.specs.State.{bits}
 use Rattle.walk.proofs.Nodes.{bits-length}
-use Rattle.stop_nodes.specs.State.{blocksOf, bestIn}
+use Rattle.held_nodes.specs.State.{blocksOf, bestIn}
 use Rattle.held_search.proofs.Names.{block-length, name-next, name-whole}
 use native.Mathlib.Omega.{arith}
 use borrow.Author.Needs.{needs}

@@ -1,13 +1,16 @@
 -- `read_body`: the openings, the number of parts and the parts, each where the one before ends; the first fault is the whole's.
 use mathlib.Core.Path.{ap, sym, _∙_}
-use mathlib.Core.List.{List}
+use Prim.Native.Nat.{ℕ}
+use mathlib.Core.List.{List, map}
 use lib.ListN.{drop}
 use Rattle.lines.specs.Text.{bytes}
 use Rattle.lines.specs.Parser.{row}
 use Rattle.lines.specs.Cursor.{Stands, Reads, rowAnswer}
 use Rattle.lines.proofs.Parsing.{bind-good, bind-fault, row-line, line-inside, line-reads, got-value, got-fault, got-place, got-most, end-value, end-fault, end-place, map-read}
-use Rattle.job_grammar.specs.Grammar.{JobText, parts, body}
-use Rattle.part_lines.specs.Grammar.{PartText}
+use Rattle.lines.proofs.Sound.{chain-gives}
+use Rattle.model.specs.Model.{Opening}
+use Rattle.job_grammar.specs.Grammar.{JobText, opening, openings, parts, body}
+use Rattle.part_lines.specs.Grammar.{PartText, meantPart}
 use Rattle.job_text.specs.Views.{textOf}
 use Rattle.job_text.specs.declared.whole.JobText as code
 use Rattle.job_text.proofs.Views.{refuse, text-means}
@@ -48,7 +51,7 @@ no-job-requires : tie.Need-no-job-requires
 no-job-requires c κs = search needs
 
 returns : tie.Need-returns
-unfolding body
+unfolding body openings
 returns c =
     let count-row = c .before .before .before .before .before .before .before .before in
     let os = count-row .before .before .before .before .before in
@@ -73,12 +76,13 @@ returns c =
     let make : List PartText → JobText = λ qs. record { horizon = a .horizon; idles = textOf t .idles; walk = textOf t .walk; openings = textOf t .openings; parts = qs } in
     let r = map-read make (parts (told .0 .0) (a .n)) (ps .result .end) (textOf t .parts) (ps .ensures .reads) in
     let m = ap rowAnswer (told .1) in
+    let size = chain-gives (opening (a .horizon)) (λ (before : ℕ) (o : Opening). o .step) (λ _ _. Unit {0}) (λ _ _ _ _ _ _ _. tt) (a .n) 0 _ _ _ _ (textOf t .openings) (end-value _ (os .before .before .read-openings .ensures) (os .os-end .given .1)) .0 in
     record {
       reads = record {
         is = r .is ∙ sym (bind-good _ _ (end-value _ (os .before .before .read-openings .ensures) (os .os-end .given .1)) ∙ bind-good _ _ (got-value (count count-row) m));
         stands = r .stands;
       };
-      means = text-means t (ps .ensures .means);
+      means = text-means t (ap (λ (k : ℕ). map (meantPart k) (textOf t .parts)) size ∙ ps .ensures .means);
       sized = record { idles = start .pre .1; openings = start .pre .2; parts = got-most _ _ 1 16 _ (count count-row) m };
     }
 

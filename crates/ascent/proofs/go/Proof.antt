@@ -1,0 +1,26 @@
+-- `go` goes through the rows.
+use Prim.Native.Nat.{_-_, _*_, _≤_}
+use mathlib.Core.Path.{_≡_}
+use native.Mathlib.Omega.{arith}
+use borrow.Author.Needs.{needs}
+use Rattle.ascent.proofs.go.Statement.{statement}
+use Rattle.ascent.proofs.go.Tie as tie
+
+abbrev Inv-loop : tie.InvT-loop
+Inv-loop t x n m parts scale size d u₀ r₀ r-end u r = (r ≤ m * 64) × (r-end ≡ m * 64)
+
+abbrev μ-loop : tie.MeasureT-loop
+μ-loop t x n m parts scale size d u₀ r₀ r-end u r = r-end - r
+
+loop-holds : tie.Need-loop-holds Inv-loop μ-loop
+loop-holds c = (omega arith, omega arith)
+
+loop-again : tie.Need-loop-again Inv-loop μ-loop
+loop-again c = (omega arith, omega arith)
+
+pub go-spec : {M : Type 1} → statement M
+go-spec =
+    tie.close
+    (tie.spec Inv-loop μ-loop (λ c. search needs) loop-holds (λ c κs. search needs) (λ c κs. search needs)
+    (λ c κs. search needs) (λ c κs. search needs) (λ c κs. search needs) (λ c. search needs) (λ c. search needs)
+    loop-again (λ c. search needs))

@@ -1,0 +1,2 @@
+-- How many numbers a row of lanes for each mark has.
+pub mod Sizes

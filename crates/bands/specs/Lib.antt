@@ -1,0 +1,2 @@
+-- Jobs that differ in their prices alone, and prices within bands (Bands).
+pub mod Bands

@@ -1,0 +1,2 @@
+-- Laws of names.
+pub mod Names

@@ -1,0 +1,2 @@
+-- Where the walks from cutoffs below end.
+pub mod Risen

@@ -1,0 +1,2 @@
+-- Laws of what is kept of a row.
+pub mod Rows

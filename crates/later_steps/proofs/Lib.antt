@@ -1,0 +1,2 @@
+-- Steps behind a place, one after the other (Steps).
+pub mod Steps

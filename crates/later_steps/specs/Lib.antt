@@ -1,0 +1,1 @@
+-- Nothing is defined here: the functions speak of the theory of carrying on.

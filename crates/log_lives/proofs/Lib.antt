@@ -1,0 +1,2 @@
+-- The judgement on a log and what is left of each part, on the openings that are past (Until).
+pub mod Until

@@ -1,0 +1,2 @@
+-- What a log did, as code works it out on the openings that are past.
+pub mod Done

@@ -1,0 +1,2 @@
+-- The text that the writer makes of one part of a form.
+pub mod Cut

@@ -1,0 +1,2 @@
+-- What is printed of a plan (Printed).
+pub mod Printed

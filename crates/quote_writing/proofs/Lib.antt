@@ -1,0 +1,2 @@
+-- The lines of one price by whether it is a pair (Pieces).
+pub mod Pieces

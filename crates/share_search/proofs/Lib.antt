@@ -1,0 +1,1 @@
+-- What is handed back is what the walks found.

@@ -1,0 +1,2 @@
+-- What the search by shares finds of a job.
+pub mod Sought

@@ -1,0 +1,3 @@
+-- Laws of the tables by shares.
+pub mod Fair
+pub mod Filled
