@@ -63,5 +63,6 @@ module _ (job : List ℕ) (t : JobText) (read : readJobText job ≡ accepted t) 
       let logged = start-logged (meantJob t) step plan (lives-shaped (meantJob t) plan (best .keeps)) one two in
       log-back (meantJob t) ok (startOf (meantJob t) step plan) logged (most (startOf (meantJob t) step plan .plan))
 
+  -- the log of a printed plan up to a step is the start of that plan
   pub start-starts-it : (step : ℕ) → Starts (meantJob t) (startOf (meantJob t) step plan) plan
   start-starts-it step = start-starts (meantJob t) step plan (lives-shaped (meantJob t) plan (subst (PlanFor (meantJob t) limit) printed (promise (meantJob t) limit .plan-for) .keeps))

@@ -32,6 +32,7 @@ module _ (text log : List ℕ) where
   job-short (accepted t) r = log-short t r (readLog (meantJob t) log) refl
   job-short (refused n i) r = omega (arith, fault-short n 1 i)
 
+  -- what carrying on says fits the room that its call asks for
   pub said-short : length (carrySaid text log .bytes) ≤ carryRoom
   unfolding carrySaid
   said-short = job-short (readJobText text) refl

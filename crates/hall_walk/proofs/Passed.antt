@@ -56,10 +56,12 @@ module _ (hall : Hall) (x : Bool) (g : Ground) (a a₁ : Arrays) (p q : Spot) (n
   callsBelow true e = b .opened e .2 .calls
   callsBelow false e = 0
 
+  -- its courses
   pub coursesBelow : (t : Bool) → q .there ≡ t → List Course
   coursesBelow true e = b .opened e .2 .courses
   coursesBelow false e = []
 
+  -- it is reached
   pub enters : (t : Bool) (e : q .there ≡ t) → Reaches hall g a₁ q (snoc name x) best (callsBelow t e) (coursesBelow t e) masks limit s
   unfolding callsBelow coursesBelow
   enters true e = record {
@@ -81,6 +83,7 @@ module _ (hall : Hall) (x : Bool) (g : Ground) (a a₁ : Arrays) (p q : Spot) (n
     opened = λ f. absurd (false≢true (sym e ∙ f));
   }
 
+  -- what the walk does with it, said of the node above
   pub back : (t : Bool) (e : q .there ≡ t) (a₂ : Arrays) (masks₂ : List ℕ) (r : Search) → HallWalked hall (enters t e .left) g a₁ a₂ q (snoc name x) best (coursesBelow t e) masks masks₂ limit s r
       → Passed hall (treeFrom (hallBound hall) (leftBelow hall x p) (snoc name x)) (snoc name x) best limit g a a₂ cs masks₂ s r
   unfolding coursesBelow enters
@@ -203,6 +206,7 @@ module _ (hall : Hall) (g : Ground) (a a₁ : Arrays) (q p : Spot) (name best : 
   counts : onward limit T name (viewOf limit (λ _. best) (countedS s)) ≡ limited limit T name (viewOf limit (λ _. best) s)
   counts = opened (h .due-at) name limit (λ _. best) s (o .0) (o .1) .on
 
+  -- it is within the limit
   pub within : s .count < limit
   within = opened (h .due-at) name limit (λ _. best) s (o .0) (o .1) .within
 
@@ -212,6 +216,7 @@ module _ (hall : Hall) (g : Ground) (a a₁ : Arrays) (q p : Spot) (name best : 
 
   -- ---- both nodes below
 
+  -- no first, then yes
   pub both-passed : Asked hall (g .ats) p → (a₂ a₃ : Arrays) (masks₂ masks₃ : List ℕ) (r r' : Search)
       → (z : Passed hall (treeFrom (hallBound hall) (leftBelow hall false p) (snoc name false)) (snoc name false) best limit g a₁ a₂ (ar .courses) masks₂ (countedS s) r)
       → Passed hall (treeFrom (hallBound hall) (leftBelow hall true p) (snoc name true)) (snoc name true) (z .found) limit g a₂ a₃ (ar .courses) masks₃ r r'
@@ -226,6 +231,7 @@ module _ (hall : Hall) (g : Ground) (a a₁ : Arrays) (q p : Spot) (name best : 
 
   -- ---- a full node
 
+  -- it becomes the incumbent
   pub full-passed : p .step ≡ stepCount hall → (v₂ : List (List ℕ)) (masks₂ : List ℕ) → length (a₁ .v) ≡ 4 → KeptLines (a₁ .v) v₂ (a₁ .n) masks₂ (g .ats) (length (hall .jobs))
       → Passed hall T name best limit g a (arrays (a₁ .w) v₂ (a₁ .n)) cs masks₂ s (keptS (countedS s) (p .total) 0)
   full-passed end v₂ masks₂ lv kl =
