@@ -19,7 +19,7 @@ use Rattle.jobs.specs.declared.Job.{Job}
 use Rattle.jobs.proofs.Jobs.{Whole, part-count}
 use Rattle.clock.proofs.Places.{places-are}
 use Rattle.coming_out.proofs.Rows.{row-take}
-use Rattle.held_places.specs.Arrays.{needStride, pricesAt, needsAt, Lane, HeldArrays}
+use Rattle.held_places.specs.Arrays.{needStride, pricesAt, needsAt, Lane, HeldJobArrays}
 use Rattle.held_tables.specs.Sheet.{HeldArrays}
 use Rattle.job_numbers.specs.Laid.{Numbered, pricesWith, Laid}
 use Rattle.held_job.specs.Removed.{HolderNumbersOf}
@@ -114,7 +114,7 @@ module _ (j : Job) (sized : Sized j) (whole : Whole j) (valid : ValidJob (jobOf 
       }
 
   -- the arrays hold the job: its openings, its removals, and each part's life, prices and needs
-  pub holds : HeldArrays (jobOf j) (r .placed .end) (take n (r .placed .at)) (take n (r .fees)) (take m (r .lives)) (take m (r .lefts)) ps (t .needs) decided
+  pub holds : HeldJobArrays (jobOf j) (r .placed .end) (take n (r .placed .at)) (take n (r .fees)) (take m (r .lives)) (take m (r .lefts)) ps (t .needs) decided
   holds =
       record {
         ends = numbered .placed .end;

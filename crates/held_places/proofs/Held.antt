@@ -11,12 +11,12 @@ use Rattle.model.specs.Verdict.{partAt}
 use Rattle.model.specs.LowerBound.{choiceOf, offers, blocks, inner, nodeAt, partChoice}
 use Rattle.model.proofs.Totals.{select-length}
 use Rattle.model.proofs.Held.{held-length}
-use Rattle.held_places.specs.Arrays.{pricesAt, HeldArrays}
+use Rattle.held_places.specs.Arrays.{pricesAt, HeldJobArrays}
 use Rattle.held_places.specs.Changes.{placesOf, laneChoice}
 
 -- ---- the arrays hold the job
 
-module _ (job : Job) (e : ℤ) (ss : List ℤ) (fs ls rs ps : List ℕ) (nd : List Bool) (rm : List ℕ) (ho : HeldArrays job e ss fs ls rs ps nd rm) where
+module _ (job : Job) (e : ℤ) (ss : List ℤ) (fs ls rs ps : List ℕ) (nd : List Bool) (rm : List ℕ) (ho : HeldJobArrays job e ss fs ls rs ps nd rm) where
   pub opened : length ss ≡ length (job .openings)
   opened = ap length (ho .places) ∙ length-map (job .openings) (λ (o : Opening). clock job (o .step))
 

@@ -69,7 +69,7 @@ pub record Lane (held : Held) (l r : ℕ) (ps : List ℕ) (nd : List Bool) : Typ
   pub needs : held .needs ≡ nd
 
 -- the arrays hold the job, with fs fees and rm removals of the holding parts
-pub record HeldArrays (job : Job) (e : ℤ) (ss : List ℤ) (fs ls rs ps : List ℕ) (nd : List Bool) (rm : List ℕ) : Type 0 where
+pub record HeldJobArrays (job : Job) (e : ℤ) (ss : List ℤ) (fs ls rs ps : List ℕ) (nd : List Bool) (rm : List ℕ) : Type 0 where
   pub ends : e ≡ end job
   pub places : ss ≡ positions job
   pub fees : fs ≡ map feeOf (job .openings)

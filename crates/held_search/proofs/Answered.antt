@@ -28,7 +28,7 @@ use Rattle.search.specs.declared.Found.{Found}
 use Rattle.search.specs.Found.{rowIn, planFound, saidBy, saidAt, saidIn}
 use Rattle.search.proofs.Answered.{choice-size}
 use Rattle.held_places.specs.Blocks.{Entries}
-use Rattle.held_places.specs.Arrays.{pricesAt, Lanes, HeldArrays}
+use Rattle.held_places.specs.Arrays.{pricesAt, Lanes, HeldJobArrays}
 use Rattle.held_places.specs.Changes.{placesOf, laneChoice}
 use Rattle.held_places.proofs.Held.{opened, nodes-are, held-size, choice-is}
 use Rattle.held_rows.specs.Held.{HeldSheet, held, heldBound, SheetOf}
@@ -69,7 +69,7 @@ solves-job job sheet limit v r so h n s =
 
 -- ---- the plan of a name: its stops and the rows of changes
 
-module _ (job : Job) (e : ℤ) (ss : List ℤ) (fs ls rs ps : List ℕ) (nd : List Bool) (rm : List ℕ) (ar : Lanes e ss ls rs ps nd (length rm)) (ho : HeldArrays job e ss fs ls rs ps nd rm) (name : List Bool)
+module _ (job : Job) (e : ℤ) (ss : List ℤ) (fs ls rs ps : List ℕ) (nd : List Bool) (rm : List ℕ) (ar : Lanes e ss ls rs ps nd (length rm)) (ho : HeldJobArrays job e ss fs ls rs ps nd rm) (name : List Bool)
     (stops : List Bool) (st : Entries false (λ (k : ℕ). getD (getD (blocks (length rm) (length ss) name) k (false ∷ [])) 0 true) (length ss) stops)
     (rows : List Changes) (ch : Chooses e ss ls rs ps nd (length rm) name rows (length ls)) where
   abbrev n : ℕ
@@ -133,7 +133,7 @@ module _ (job : Job) (e : ℤ) (ss : List ℤ) (fs ls rs ps : List ℕ) (nd : Li
 abbrev pub handed : Solved → List Bool → List Changes → Found
 handed s stops rows = record { count = s .count; over = s .over; found = s .found; cost = s .cost; floor = s .floor; stops = stops; changes = rows }
 
-module _ (job : Job) (e : ℤ) (ss : List ℤ) (fs ls rs ps : List ℕ) (nd : List Bool) (rm : List ℕ) (ar : Lanes e ss ls rs ps nd (length rm)) (ho : HeldArrays job e ss fs ls rs ps nd rm) (limit : ℕ) (name : List Bool) (s : Solved)
+module _ (job : Job) (e : ℤ) (ss : List ℤ) (fs ls rs ps : List ℕ) (nd : List Bool) (rm : List ℕ) (ar : Lanes e ss ls rs ps nd (length rm)) (ho : HeldJobArrays job e ss fs ls rs ps nd rm) (limit : ℕ) (name : List Bool) (s : Solved)
     (so : SolvesJob job limit name s) (stops : List Bool) (st : Entries false (λ (k : ℕ). getD (getD (blocks (length rm) (length ss) name) k (false ∷ [])) 0 true) (length ss) stops)
     (rows : List Changes) (ch : Chooses e ss ls rs ps nd (length rm) name rows (length ls)) where
   abbrev r : Found

@@ -10,7 +10,7 @@ ghost use Rattle.model.specs.Model.{Job};
 ghost use Rattle.model.specs.Promise.{answerOf};
 ghost use Rattle.least.specs.Suffix.{tableSize};
 ghost use Rattle.search.specs.Found.{saidIn};
-ghost use Rattle.held_places.specs.Arrays.{pricesAt, Lanes, HeldArrays};
+ghost use Rattle.held_places.specs.Arrays.{pricesAt, Lanes, HeldJobArrays};
 ghost use Rattle.held_places.specs.Changes.{placesOf, laneChoice};
 ghost use Rattle.held_tables.specs.Sheet.{HeldArrays, HeldReady};
 ghost use Rattle.held_nodes.specs.State.{bestName};
@@ -52,7 +52,7 @@ fn walked(
     v: &mut [u32; ASIDE],
 ) -> Solved
     requires { ⌜ (HeldReady end (now positions) (now fees) (now lives) (now lefts) (now prices) (now needs) (now removals) (now tab)) × (limit < 2 ^ 63) ⌝ }
-    ensures { λ r. ⌜ ((job : Job) → HeldArrays job end (now (positions .entry)) (now (fees .entry)) (now (lives .entry)) (now (lefts .entry)) (now (prices .entry)) (now (needs .entry)) (now (removals .entry))
+    ensures { λ r. ⌜ ((job : Job) → HeldJobArrays job end (now (positions .entry)) (now (fees .entry)) (now (lives .entry)) (now (lefts .entry)) (now (prices .entry)) (now (needs .entry)) (now (removals .entry))
         → SolvesJob job limit (bestName (length (now (removals .entry))) (length (now (positions .entry))) (now (v .exit)) (r .mask)) r) ⌝ }
 {
     let classes = classes_of(needs, removals.len(), lives.len());
@@ -148,7 +148,7 @@ pub fn search_held(
     limit: u64,
 ) -> Found
     requires { ⌜ (HeldArrays end (now positions) (now fees) (now lives) (now lefts) (now prices) (now needs) (now removals)) × (limit < 2 ^ 63) ⌝ }
-    ensures { λ r. ⌜ ((job : Job) → HeldArrays job end (now (positions .entry)) (now (fees .entry)) (now (lives .entry)) (now (lefts .entry)) (now (prices .entry)) (now (needs .entry)) (now (removals .entry))
+    ensures { λ r. ⌜ ((job : Job) → HeldJobArrays job end (now (positions .entry)) (now (fees .entry)) (now (lives .entry)) (now (lefts .entry)) (now (prices .entry)) (now (needs .entry)) (now (removals .entry))
         → saidIn (length (job .openings)) (length (job .parts)) r ≡ answerOf job limit) ⌝ }
 {
     let mut tab = [0; TABLE];

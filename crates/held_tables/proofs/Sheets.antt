@@ -18,7 +18,7 @@ use Rattle.lane_rows.specs.Sheet.{Column, noColumn}
 use Rattle.lane_rows.specs.Tables.{Alike, Tables}
 use Rattle.search_tables.specs.Arrays.{priceStride, laneValue, foursOf, sheetOf}
 use Rattle.search_tables.proofs.Filling.{past, own-each}
-use Rattle.held_places.specs.Arrays.{needStride, needsAt, Lanes, HeldArrays}
+use Rattle.held_places.specs.Arrays.{needStride, needsAt, Lanes, HeldJobArrays}
 use Rattle.held_rows.specs.Held.{HeldColumn, HeldSheet, columnIn, plain, noLane, needsOf, Classed, Laid, Fills, SheetOf}
 use Rattle.held_lanes.specs.Tables.{needing}
 use Rattle.part_classes.specs.declared.Classes.{Classes}
@@ -113,7 +113,7 @@ module _ (e : ℤ) (ss : List ℤ) (fs ls rs ps : List ℕ) (nd : List Bool) (rm
 
   -- ---- the job's
 
-  module _ (job : Job) (ho : HeldArrays job e ss fs ls rs ps nd rm) where
+  module _ (job : Job) (ho : HeldJobArrays job e ss fs ls rs ps nd rm) where
     abbrev part : ℕ → Held
     part q = heldAt job q (partAt job q)
 

@@ -4,7 +4,7 @@ ghost use Prim.Native.Nat.{_<_, _≤_, _^_};
 ghost use lib.ListN.{length};
 ghost use Rattle.model.specs.Model.{Job};
 ghost use Rattle.shares.specs.Certificate.{NoneUnder};
-ghost use Rattle.held_places.specs.Arrays.{HeldArrays};
+ghost use Rattle.held_places.specs.Arrays.{HeldJobArrays};
 ghost use Rattle.held_tables.specs.Sheet.{HeldArrays, HeldReady};
 ghost use Rattle.share_walk.specs.State.{nameSize};
 ghost use Rattle.share_search.specs.Sought.{foundOf, Rises, Sought};
@@ -39,8 +39,8 @@ fn walked(
     tab: &mut [u64],
     best: &mut [bool; NAMES],
 ) -> Risen
-    requires { ⌜ ((job : Job) × HeldArrays job end (now positions) (now fees) (now lives) (now lefts) (now prices) (now needs) (now removals)) × (HeldReady end (now positions) (now fees) (now lives) (now lefts) (now prices) (now needs) (now removals) (now tab)) × (limit < 2 ^ 63) × (length (now best) ≡ nameSize) ⌝ }
-    ensures right { λ r. ⌜ ((job : Job) → HeldArrays job end (now (positions .entry)) (now (fees .entry)) (now (lives .entry)) (now (lefts .entry)) (now (prices .entry)) (now (needs .entry)) (now (removals .entry)) → NoneUnder job floor
+    requires { ⌜ ((job : Job) × HeldJobArrays job end (now positions) (now fees) (now lives) (now lefts) (now prices) (now needs) (now removals)) × (HeldReady end (now positions) (now fees) (now lives) (now lefts) (now prices) (now needs) (now removals) (now tab)) × (limit < 2 ^ 63) × (length (now best) ≡ nameSize) ⌝ }
+    ensures right { λ r. ⌜ ((job : Job) → HeldJobArrays job end (now (positions .entry)) (now (fees .entry)) (now (lives .entry)) (now (lefts .entry)) (now (prices .entry)) (now (needs .entry)) (now (removals .entry)) → NoneUnder job floor
         → Rises job limit (now (best .exit)) r) ⌝ }
     ensures short { λ r. ⌜ r .size ≤ nameSize ⌝ }
     ensures room { λ _. ⌜ length (now (best .exit)) ≡ nameSize ⌝ }
@@ -94,8 +94,8 @@ pub fn search_shared(
     floor: u64,
     limit: u64,
 ) -> Found
-    requires { ⌜ ((job : Job) × HeldArrays job end (now positions) (now fees) (now lives) (now lefts) (now prices) (now needs) (now removals)) × (HeldArrays end (now positions) (now fees) (now lives) (now lefts) (now prices) (now needs) (now removals)) × (limit < 2 ^ 63) ⌝ }
-    ensures { λ r. ⌜ ((job : Job) → HeldArrays job end (now (positions .entry)) (now (fees .entry)) (now (lives .entry)) (now (lefts .entry)) (now (prices .entry)) (now (needs .entry)) (now (removals .entry)) → NoneUnder job floor
+    requires { ⌜ ((job : Job) × HeldJobArrays job end (now positions) (now fees) (now lives) (now lefts) (now prices) (now needs) (now removals)) × (HeldArrays end (now positions) (now fees) (now lives) (now lefts) (now prices) (now needs) (now removals)) × (limit < 2 ^ 63) ⌝ }
+    ensures { λ r. ⌜ ((job : Job) → HeldJobArrays job end (now (positions .entry)) (now (fees .entry)) (now (lives .entry)) (now (lefts .entry)) (now (prices .entry)) (now (needs .entry)) (now (removals .entry)) → NoneUnder job floor
         → Sought job limit r) ⌝ }
 {
     let mut tab = [0; TABLE];

@@ -18,7 +18,7 @@ use Rattle.model.proofs.Lists.{table-at}
 use Rattle.model.proofs.Sums.{sum-mono}
 use Rattle.model.proofs.Held.{held-at}
 use Rattle.shares.specs.Shares.{things, worth, takes, bears, borne, FairShares}
-use Rattle.held_places.specs.Arrays.{HeldArrays}
+use Rattle.held_places.specs.Arrays.{HeldJobArrays}
 use Rattle.held_places.proofs.Held.{opened, holding, held-size}
 use Rattle.held_tables.specs.Sheet.{HeldArrays}
 use Rattle.lane_rows.specs.Layout.{laneCount, dear}
@@ -103,7 +103,7 @@ module _ (ps fs rm raw x₁ x : List ℕ) (all : ℕ) (kp : Kept raw ps fs rm al
 
 -- ---- a job's table
 
-module _ (job : Job) (e : ℤ) (ss : List ℤ) (fs ls rs ps : List ℕ) (nd : List Bool) (rm : List ℕ) (ar : HeldArrays e ss fs ls rs ps nd rm) (ho : HeldArrays job e ss fs ls rs ps nd rm)
+module _ (job : Job) (e : ℤ) (ss : List ℤ) (fs ls rs ps : List ℕ) (nd : List Bool) (rm : List ℕ) (ar : HeldArrays e ss fs ls rs ps nd rm) (ho : HeldJobArrays job e ss fs ls rs ps nd rm)
     (raw x₁ x : List ℕ) (marked : Marked nd (length ls) rm x₁) (kp : Kept raw ps fs rm (length rm + 1) x₁ x ((length rm + 1) * 64)) where
   abbrev count : ℕ
   count = length rm + 1

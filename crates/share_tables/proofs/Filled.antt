@@ -22,7 +22,7 @@ use Rattle.model.proofs.Sums.{sum-same}
 use Rattle.model.proofs.Integers.{at-most-test, difference}
 use Rattle.shares.specs.Shares.{bears, owes, sharedPrices, sharedPart}
 use Rattle.least.specs.Filled.{FilledBy}
-use Rattle.held_places.specs.Arrays.{HeldArrays}
+use Rattle.held_places.specs.Arrays.{HeldJobArrays}
 use Rattle.held_places.proofs.Held.{opened, holding, held-size}
 use Rattle.held_tables.specs.Sheet.{HeldArrays}
 use Rattle.search_tables.specs.Arrays.{laneValue, lanePart, columnOf, sheetOf, Arrays}
@@ -121,7 +121,7 @@ late-enough (negsuc n) h = at-most-test (negsuc n -ℤ pos 0) (pos longestLife) 
 
 -- ---- the tables
 
-module _ (job : Job) (e : ℤ) (ss : List ℤ) (fs ls rs ps : List ℕ) (nd : List Bool) (rm : List ℕ) (ar : HeldArrays e ss fs ls rs ps nd rm) (ho : HeldArrays job e ss fs ls rs ps nd rm)
+module _ (job : Job) (e : ℤ) (ss : List ℤ) (fs ls rs ps : List ℕ) (nd : List Bool) (rm : List ℕ) (ar : HeldArrays e ss fs ls rs ps nd rm) (ho : HeldJobArrays job e ss fs ls rs ps nd rm)
     (raw x₁ x : List ℕ) (marked : Marked nd (length ls) rm x₁) (kp : Kept raw ps fs rm (length rm + 1) x₁ x ((length rm + 1) * 64))
     (long first : List ℕ) (pl : Padded ls long) (pf : Padded rs first)
     (none all : List ℕ) (fa : FilledBy (λ (i : ℕ). i) (sharedIn ps x (length rm + 1)) 1024 none all) (room : length none ≡ 1024)

@@ -5,7 +5,7 @@ ghost use lib.ListN.{length, getD};
 ghost use Rattle.least.specs.Filled.{FilledBy};
 ghost use Rattle.model.specs.Limits.{mostOpenings};
 ghost use Rattle.model.specs.Model.{Job};
-ghost use Rattle.held_places.specs.Arrays.{HeldArrays};
+ghost use Rattle.held_places.specs.Arrays.{HeldJobArrays};
 ghost use Rattle.held_tables.specs.Sheet.{HeldReady};
 ghost use Rattle.lane_rows.specs.Layout.{laneCount, inf, tablesSize};
 ghost use Rattle.share_rows.specs.Places.{mostThings, shareSize};
@@ -99,7 +99,7 @@ pub fn prepare(
     x: &mut [u32; SHARES],
 ) -> u64
     requires { ⌜ (HeldReady end (now positions) (now fees) (now lives) (now lefts) (now prices) (now needs) (now removals) (now tab)) × (length (now t) ≡ tablesSize) × (length (now x) ≡ shareSize) ⌝ }
-    ensures tables { λ _. ⌜ ((job : Job) → HeldArrays job end (now (positions .entry)) (now (fees .entry)) (now (lives .entry)) (now (lefts .entry)) (now (prices .entry)) (now (needs .entry)) (now (removals .entry))
+    ensures tables { λ _. ⌜ ((job : Job) → HeldJobArrays job end (now (positions .entry)) (now (fees .entry)) (now (lives .entry)) (now (lefts .entry)) (now (prices .entry)) (now (needs .entry)) (now (removals .entry))
         → Prepared job (now (t .exit)) (now (x .exit))) ⌝ }
     ensures value { λ r. ⌜ r ≤ laneCount * inf ⌝ }
 {

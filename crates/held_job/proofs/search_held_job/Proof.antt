@@ -10,7 +10,7 @@ use Rattle.jobs.specs.Views.{jobOf}
 use Rattle.jobs.proofs.Jobs.{opening-count, part-count}
 use Rattle.clock.proofs.Ranges.{position-bits}
 use Rattle.search.specs.Found.{saidIn}
-use Rattle.held_places.specs.Arrays.{HeldArrays}
+use Rattle.held_places.specs.Arrays.{HeldJobArrays}
 use Rattle.held_tables.specs.Sheet.{HeldArrays}
 use Rattle.job_numbers.proofs.Counts.{long-enough, Counted, counted}
 use Rattle.held_job.proofs.Held as held
@@ -44,7 +44,7 @@ module _ (c : tie.After-prices-of) where
       rw (position-bits (numbers .numbers-of .result .placed .end) (numbers .numbers-of .ensures .placed .end-range))
       (held.arrays (s .args .job) (s .pre .sized) (s .good .0) (s .pre .valid) (numbers .numbers-of .result) (numbers .numbers-of .ensures) (holders .holder-numbers-of .result) (holders .holder-numbers-of .ensures) (c .prices-of .result) (c .prices-of .ensures))
 
-  holds : HeldArrays (jobOf (s .args .job)) (toZ w32 (ofZ w32 (numbers .numbers-of .result .placed .end))) (take n (numbers .numbers-of .result .placed .at)) (take n (numbers .numbers-of .result .fees)) (take m (numbers .numbers-of .result .lives))
+  holds : HeldJobArrays (jobOf (s .args .job)) (toZ w32 (ofZ w32 (numbers .numbers-of .result .placed .end))) (take n (numbers .numbers-of .result .placed .at)) (take n (numbers .numbers-of .result .fees)) (take m (numbers .numbers-of .result .lives))
       (take m (numbers .numbers-of .result .lefts)) (c .prices-of .result) (holders .holder-numbers-of .result .needs) (take (holders .holder-numbers-of .result .holding) (holders .holder-numbers-of .result .removals))
   holds =
       rw (position-bits (numbers .numbers-of .result .placed .end) (numbers .numbers-of .ensures .placed .end-range))

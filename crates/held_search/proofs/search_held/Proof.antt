@@ -7,7 +7,7 @@ use lib.ListN.{length, take}
 use lib.Seq.{length-take-le}
 use lib.IntN.{ℤ}
 use mir.Facts.{toZ-ofZ}
-use Rattle.held_places.specs.Arrays.{Lanes, HeldArrays}
+use Rattle.held_places.specs.Arrays.{Lanes, HeldJobArrays}
 use Rattle.held_places.proofs.Parts.{read-back}
 use Rattle.held_tables.specs.Sheet.{HeldArrays}
 use Rattle.held_tables.proofs.Sheets.{lanes-are}
@@ -74,7 +74,7 @@ returns c job ho =
     subst (λ (r : Found). saidIn (length (job .openings)) (length (job .parts)) r ≡ answerOf job (a .limit)) (sym (c .found-by .ensures))
     (said job (a .end) (a .positions .now) (a .fees .now) (a .lives .now) (a .lefts .now) (a .prices .now) (a .needs .now) (a .removals .now) (lanes-are (b .pre .0)) ho (a .limit) (named o) (w .result)
     (subst (λ (xs : List Bool). SolvesJob job (a .limit) xs (w .result)) (sym (o .name-of .ensures .1))
-    (w .ensures job (read-back (λ (e : ℤ). HeldArrays job e (a .positions .now) (a .fees .now) (a .lives .now) (a .lefts .now) (a .prices .now) (a .needs .now) (a .removals .now)) (b .fits .end) ho)))
+    (w .ensures job (read-back (λ (e : ℤ). HeldJobArrays job e (a .positions .now) (a .fees .now) (a .lives .now) (a .lefts .now) (a .prices .now) (a .needs .now) (a .removals .now)) (b .fits .end) ho)))
     (t .result) (t .ensures) (called .changes .result)
     (subst (λ (x : ℤ). Chooses x (a .positions .now) (a .lives .now) (a .lefts .now) (a .prices .now) (a .needs .now) (length (a .removals .now)) (named o) (called .changes .result) (length (a .lives .now))) e (called .changes .ensures)))
 

@@ -9,7 +9,7 @@ use mir.Val.{toZ, ofZ}
 use Rattle.lane_rows.specs.Sheet.{Sheet}
 use Rattle.lane_rows.specs.Tables.{Tables}
 use Rattle.search_tables.proofs.Filling.{ready-back}
-use Rattle.held_places.specs.Arrays.{HeldArrays}
+use Rattle.held_places.specs.Arrays.{HeldJobArrays}
 use Rattle.held_places.proofs.Parts.{read-back}
 use Rattle.held_places.proofs.Held.{opened, holding}
 use Rattle.held_rows.specs.Held.{HeldSheet, plain, Classed}
@@ -79,7 +79,7 @@ returns c job ho =
     let b = s k in
     let a = b .args in
     let e = toZ w32 (ofZ w32 (a .end)) in
-    let h = read-back (λ (e : ℤ). HeldArrays job e (a .positions .now) (a .fees .now) (a .lives .now) (a .lefts .now) (a .prices .now) (a .needs .now) (a .removals .now)) (b .fits .end) ho in
+    let h = read-back (λ (e : ℤ). HeldJobArrays job e (a .positions .now) (a .fees .now) (a .lives .now) (a .lefts .now) (a .prices .now) (a .needs .now) (a .removals .now)) (b .fits .end) ho in
     solves-job job (sheet k) (a .limit) (c .solve .last .1 .1 .1 .0) (c .solve .result)
     (sheet-of e (a .positions .now) (a .fees .now) (a .lives .now) (a .lefts .now) (a .prices .now) (a .needs .now) (a .removals .now) (classes k) (arrays k) (classed-by k .classes-of .ensures) job h)
     (holding job e (a .positions .now) (a .fees .now) (a .lives .now) (a .lefts .now) (a .prices .now) (a .needs .now) (a .removals .now) h)

@@ -10,7 +10,7 @@ use lib.IntN.{ℤ}
 use mir.Facts.{toZ-ofZ}
 use Rattle.model.specs.Model.{Plan}
 use Rattle.model.specs.Promise.{BestPlan, Any}
-use Rattle.held_places.specs.Arrays.{Lanes, HeldArrays}
+use Rattle.held_places.specs.Arrays.{Lanes, HeldJobArrays}
 use Rattle.held_places.proofs.Parts.{read-back}
 use Rattle.held_tables.specs.Sheet.{HeldArrays}
 use Rattle.held_tables.proofs.Sheets.{lanes-are}
@@ -32,7 +32,7 @@ walked-requires c κs =
     let b = c .before .before .before .before .before .before .before .before in
     let a = b .args in
     let e = b .pre .0 in (
-      (e .0, read-back (λ (d : ℤ). HeldArrays (e .0) d (a .positions .now) (a .fees .now) (a .lives .now) (a .lefts .now) (a .prices .now) (a .needs .now) (a .removals .now)) (b .fits .end) (e .1)),
+      (e .0, read-back (λ (d : ℤ). HeldJobArrays (e .0) d (a .positions .now) (a .fees .now) (a .lives .now) (a .lefts .now) (a .prices .now) (a .needs .now) (a .removals .now)) (b .fits .end) (e .1)),
       record { arrays = read-back (λ (d : ℤ). HeldArrays d (a .positions .now) (a .fees .now) (a .lives .now) (a .lefts .now) (a .prices .now) (a .needs .now) (a .removals .now)) (b .fits .end) (b .pre .1); room = search needs },
       b .pre .2,
       search needs,
@@ -65,7 +65,7 @@ returns c job ho none =
     let r = o .walked .result in
     let t = c .before .before .before .before .before .stops in
     let h = c .before .before .changes in
-    let w = o .walked .ensures .0 job (read-back (λ (d : ℤ). HeldArrays job d (a .positions .now) (a .fees .now) (a .lives .now) (a .lefts .now) (a .prices .now) (a .needs .now) (a .removals .now)) (b .fits .end) ho) none in
+    let w = o .walked .ensures .0 job (read-back (λ (d : ℤ). HeldJobArrays job d (a .positions .now) (a .fees .now) (a .lives .now) (a .lefts .now) (a .prices .now) (a .needs .now) (a .removals .now)) (b .fits .end) ho) none in
     let ch = subst (λ (x : ℤ). Chooses x (a .positions .now) (a .lives .now) (a .lefts .now) (a .prices .now) (a .needs .now) (length (a .removals .now)) (named o) (h .result) (length (a .lives .now))) (toZ-ofZ (b .fits .end)) (h .ensures) in
     subst (Sought job (a .limit)) (sym (c .found-of .ensures))
     (record {

@@ -1,7 +1,7 @@
 -- `walked`: the tables that are filled are those that the walks ask for.
 use borrow.Author.Needs.{needs}
 use lib.IntN.{ℤ}
-use Rattle.held_places.specs.Arrays.{HeldArrays}
+use Rattle.held_places.specs.Arrays.{HeldJobArrays}
 use Rattle.held_places.proofs.Parts.{read-back}
 use Rattle.held_tables.specs.Sheet.{HeldArrays}
 use Rattle.fair_shares.specs.Checked.{sharesIn}
@@ -21,7 +21,7 @@ rise-requires c κs =
     let a = b .args in
     let e = b .pre .0 in
     let v = c .before .before .before .before .before .before .before .prepare in
-    let p = v .ensures .0 (e .0) (read-back (λ (d : ℤ). HeldArrays (e .0) d (a .positions .now) (a .fees .now) (a .lives .now) (a .lefts .now) (a .prices .now) (a .needs .now) (a .removals .now)) (b .fits .end) (e .1)) in
+    let p = v .ensures .0 (e .0) (read-back (λ (d : ℤ). HeldJobArrays (e .0) d (a .positions .now) (a .fees .now) (a .lives .now) (a .lefts .now) (a .prices .now) (a .needs .now) (a .removals .now)) (b .fits .end) (e .1)) in
     ((e .0, sharesIn (v .last .1 .1 .1 .1 .1 .1 .1 .1 .1 .1 .0), lanesOf (e .0), p .solvable), b .pre .2, search needs, search needs, b .pre .3)
 
 same-length : tie.Need-same-length
@@ -34,7 +34,7 @@ returns c =
     let v = c .before .before .before .before .before .before .before .before .prepare in
     let r = c .rise .ensures in (
       λ job ho none.
-          (let p = v .ensures .0 job (read-back (λ (d : ℤ). HeldArrays job d (a .positions .now) (a .fees .now) (a .lives .now) (a .lefts .now) (a .prices .now) (a .needs .now) (a .removals .now)) (b .fits .end) ho) in
+          (let p = v .ensures .0 job (read-back (λ (d : ℤ). HeldJobArrays job d (a .positions .now) (a .fees .now) (a .lives .now) (a .lefts .now) (a .prices .now) (a .needs .now) (a .removals .now)) (b .fits .end) ho) in
           (sharesIn (v .last .1 .1 .1 .1 .1 .1 .1 .1 .1 .1 .0), p .fair, r .0 job (sharesIn (v .last .1 .1 .1 .1 .1 .1 .1 .1 .1 .1 .0)) (lanesOf job) (p .solvable) (p .fair) none)),
       (r .1 .0, r .1 .1),
     )

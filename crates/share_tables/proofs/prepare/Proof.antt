@@ -7,7 +7,7 @@ use lib.ListN.{length, replicate, length-replicate}
 use lib.IntN.{ℤ}
 use mir.Syntax.{w32}
 use mir.Val.{toZ, ofZ}
-use Rattle.held_places.specs.Arrays.{HeldArrays}
+use Rattle.held_places.specs.Arrays.{HeldJobArrays}
 use Rattle.held_places.proofs.Parts.{read-back}
 use Rattle.held_tables.specs.Sheet.{HeldArrays}
 use Rattle.search_tables.proofs.Filling.{ready-back}
@@ -91,7 +91,7 @@ returns c =
     let ar = read-back (λ (e : ℤ). HeldArrays e (a .positions .now) (a .fees .now) (a .lives .now) (a .lefts .now) (a .prices .now) (a .needs .now) (a .removals .now)) (b .fits .end) (b .pre .0 .arrays) in (
       λ job ho.
           prepared job e (a .positions .now) (a .fees .now) (a .lives .now) (a .lefts .now) (a .prices .now) (a .needs .now) (a .removals .now) ar
-          (read-back (λ (e : ℤ). HeldArrays job e (a .positions .now) (a .fees .now) (a .lives .now) (a .lefts .now) (a .prices .now) (a .needs .now) (a .removals .now)) (b .fits .end) ho)
+          (read-back (λ (e : ℤ). HeldJobArrays job e (a .positions .now) (a .fees .now) (a .lives .now) (a .lefts .now) (a .prices .now) (a .needs .now) (a .removals .now)) (b .fits .end) ho)
           (c .before .before .before .before .before .before .before .before .before .before .before .before .before .before .before .before .before .take-over .last .1 .0) (c .before .before .before .before .before .before .before .before .before .before .before .before .before .before .before .before .before .before .before .before .before .before .before .before .mark .last .1 .1 .1 .0) (c .before .before .before .before .before .before .before .before .before .before .before .before .before .check .last .1 .1 .1 .1 .1 .0) (c .before .before .before .before .before .before .before .before .before .before .before .before .before .before .before .before .before .before .before .before .before .before .before .before .mark .ensures) (c .before .before .before .before .before .before .before .before .before .before .before .before .before .check .ensures)
           (c .before .before .before .before .before .before .before .before .before .before .before .before .before .before .before .before .before .before .before .before .before .before .before .before .before .before .before .before .before .before .before .before .before .before .padded .result) (c .before .before .before .before .before .before .before .before .before .before .before .before .before .before .before .before .before .before .before .before .before .before .before .before .before .before .before .before .before .before .before .before .before .padded2 .result) (c .before .before .before .before .before .before .before .before .before .before .before .before .before .before .before .before .before .before .before .before .before .before .before .before .before .before .before .before .before .before .before .before .before .before .padded .ensures) (c .before .before .before .before .before .before .before .before .before .before .before .before .before .before .before .before .before .before .before .before .before .before .before .before .before .before .before .before .before .before .before .before .before .padded2 .ensures)
           (replicate 1024 0) (c .before .before .before .before .before .before .before .before .before .put-shared .last .1 .1 .1 .0) (c .before .before .before .before .before .before .before .before .before .put-shared .ensures) (length-replicate {A = ℕ} 1024 0) (c .before .before .fill2 .last .1 .1 .1 .1 .1 .1 .1 .0) (c .before .before .fill2 .ensures),
