@@ -1,4 +1,6 @@
 // A program's answer on standard output.
+#![tactic(auto)]
+
 ghost use Rattle.std.specs.Prelude.{◌≡◌, ◌≤◌, length, take};
 ghost use Rattle.answer_output.specs.Prints.{most_printed, printed};
 

@@ -1,4 +1,6 @@
 // The answers of the calls: what every call hands over, and the lines of a refusal. Each call writes its own lines.
+#![tactic(auto)]
+
 ghost use Rattle.std.specs.Prelude.{◌≡◌, [], ◌≤◌, ◌<◌, length};
 ghost use Rattle.lines.specs.Wrote.{Wrote};
 ghost use Rattle.answers.specs.Said.{two_lines, three_lines, fault_lines_lem, Printable, longest_refusal, plainly, refusal, handed, Replied};

@@ -1,4 +1,6 @@
 // Shares of a job by an integer ascent: rounds that raise the sum of what the parts bear at least. Nothing is said of how good they are; whoever uses them checks that they are fair.
+#![tactic(auto)]
+
 ghost use Rattle.std.specs.Prelude.{◌≡◌, ◌+◌, ◌*◌, ◌<◌, ◌≤◌, length};
 ghost use Rattle.lane_rows.specs.Layout.{lane_count_lem, inf};
 ghost use Rattle.model.specs.Limits.{most_openings, most_parts};

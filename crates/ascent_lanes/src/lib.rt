@@ -1,4 +1,6 @@
 // What the ascent of the shares computes of a job's lanes: what each lane bears at each opening, its least sum, and where that changes it. Nothing is trusted of these numbers, and nothing is said of them but the sizes of the tables.
+#![tactic(auto)]
+
 ghost use Rattle.std.specs.Prelude.{◌≡◌, ◌+◌, ◌*◌, ◌<◌, ◌≤◌, max, length};
 ghost use Rattle.lane_rows.specs.Layout.{lane_count_lem, inf, reach_base, tables_size};
 ghost use Rattle.ascent_lanes.specs.Sizes.{marked_size};

@@ -2,6 +2,8 @@
 // the line at fault, and whether the bytes past the written length kept their values.
 // A case stands in the input as `call=N` with the call's number and `room=N`; behind them the planner's (1) has `walk=N`, `job=N` and N bytes,
 // the judge's (2) `job=N`, N bytes, `plan=N`, N bytes. Other bytes stand behind the last case.
+#![tactic(auto)]
+
 ghost use Rattle.std.specs.Prelude.{◌≤◌, length};
 
 use answers::Answer;

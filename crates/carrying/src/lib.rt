@@ -1,1 +1,2 @@
 // No code yet: the definitions are in specs/, the theorems about them in proofs/.
+#![tactic(auto)]

@@ -1,4 +1,6 @@
 // Positions: how far a step is along the lives, in running steps. Only here do steps become positions, and positions due steps.
+#![tactic(auto)]
+
 ghost use Rattle.std.specs.Prelude.{◌≡◌, ◌≤◌, pos};
 ghost use Rattle.model.specs.Model.{clock, due_of_lem};
 ghost use Rattle.jobs.specs.Views.{job_of};

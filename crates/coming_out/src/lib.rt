@@ -1,5 +1,7 @@
 // What comes out with each part: the part, its holders, their holders and so on. And the parts that are somebody's holder.
 // What a job's records say of it is in `records`. A set of parts is a row of 16 marks; a matrix has 16 rows one after the other, and row q says something of the part at place q.
+#![tactic(auto)]
+
 ghost use Rattle.std.specs.Prelude.{◌≡◌, false, cond, ◌&&◌, ◌||◌, map, ℕ, ◌*◌, ◌≤◌, ◌<◌, length, get_or, take};
 ghost use Rattle.std.proofs.Math.Seq.{paste};
 ghost use Rattle.model.specs.Limits.{most_parts};

@@ -1,4 +1,6 @@
 // How long a walk may become, without walking: the nodes of the walk that drops a node only if its bound is missing.
+#![tactic(auto)]
+
 ghost use Rattle.std.specs.Prelude.{◌≡◌, cond, ℕ, ◌+◌, ◌≤◌, ◌<◌, min, length, get_or, pos};
 ghost use Rattle.model.specs.Model.{kept};
 ghost use Rattle.model.specs.Limits.{longest_life, most_count};

@@ -1,4 +1,6 @@
 // What a part's lines of removal say: what it costs to remove the part, and which parts hold it. Read from a cursor on.
+#![tactic(auto)]
+
 ghost use Rattle.std.specs.Prelude.{◌≡◌, false, ◌≤◌, drop};
 ghost use Rattle.lines.specs.Chosen.{numbers_of_lem};
 ghost use Rattle.lines.specs.Cursor.{Stands, LineRead, Reads, ended};

@@ -1,4 +1,6 @@
 // Cutoffs from below: the walk by fair shares from one cutoff after the other, until one lets a plan come out.
+#![tactic(auto)]
+
 ghost use Rattle.std.specs.Prelude.{◌≡◌, List, ◌+◌, ◌*◌, ◌^◌, ◌<◌, ◌≤◌, min, length};
 ghost use Rattle.model.specs.Model.{Job};
 ghost use Rattle.model.specs.Decisions.{Held};

@@ -1,4 +1,6 @@
 // The order form: a job text written from lists of numbers.
+#![tactic(auto)]
+
 ghost use Rattle.std.specs.Prelude.{◌≤◌, length};
 ghost use Rattle.lines.specs.Parser.{finish, whole};
 ghost use Rattle.job_grammar.specs.Grammar.{job_lines};

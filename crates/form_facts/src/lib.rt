@@ -1,2 +1,4 @@
 // Whether the lists of a form agree in length.
+#![tactic(auto)]
+
 pub mod agree;

@@ -1,4 +1,6 @@
 // The call of the crew: no call, where each line open at the step takes a no, and a call.
+#![tactic(auto)]
+
 ghost use Rattle.std.specs.Prelude.{◌≡◌, List, Bool, true, false, ℕ, ◌+◌, ◌*◌, ◌<◌, ◌≤◌, ◌^◌, length, get_or};
 ghost use Rattle.hall.specs.Hall.{Hall};
 ghost use Rattle.hall_state.specs.Courses.{Arrays, Course, ground, arrays};

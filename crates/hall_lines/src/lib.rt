@@ -1,4 +1,6 @@
 // A line of a hall at its own nodes. Beside the line's rows an array has for each number of openings decided, a level, the rows, part sums, term and stops there. A decision writes the next level and none before it.
+#![tactic(auto)]
+
 ghost use Rattle.std.specs.Prelude.{◌≡◌, List, Bool, ℕ, ◌+◌, ◌*◌, ◌<◌, ◌≤◌, ◌^◌, length, get_or};
 ghost use Rattle.lane_rows.specs.Layout.{lane_count_lem, inf};
 ghost use Rattle.held_rows.specs.Held.{HeldSheet};

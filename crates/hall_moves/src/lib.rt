@@ -1,4 +1,6 @@
 // The moves of the hall's walk: on to the next question, and the nodes below it, no first.
+#![tactic(auto)]
+
 ghost use Rattle.std.specs.Prelude.{◌≡◌, List, Bool, true, false, ℕ, ◌+◌, ◌*◌, ◌<◌, ◌≤◌, ◌^◌, length, get_or};
 ghost use Rattle.hall.specs.Hall.{Hall};
 ghost use Rattle.hall_steps.specs.Table.{step_count, crew_size};

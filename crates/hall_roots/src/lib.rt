@@ -1,4 +1,6 @@
 // A line's first level: nothing is decided.
+#![tactic(auto)]
+
 ghost use Rattle.std.specs.Prelude.{◌≡◌};
 ghost use Rattle.lane_rows.specs.Tables.{Tables};
 ghost use Rattle.held_rows.specs.Held.{HeldSheet, plain, Classed};

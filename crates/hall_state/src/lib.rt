@@ -1,4 +1,6 @@
 // Where the hall's walk stands: the step and the line whose question is next, and at a stop the removals decided so far.
+#![tactic(auto)]
+
 ghost use Rattle.std.specs.Prelude.{◌≡◌, ℕ, ◌+◌, ◌<◌};
 ghost use Rattle.hall_state.specs.Spots.{closed_spot, decided_spot, line_spot, stop_spot, call_spot};
 

@@ -1,4 +1,6 @@
 // The crew's steps as the hall's walk has them: for each of them how many openings each line has before it. A line is open at a step where it has one more before the next one.
+#![tactic(auto)]
+
 ghost use Rattle.std.specs.Prelude.{◌≡◌, ◌+◌, ◌-◌, ◌*◌, ◌≤◌, length};
 ghost use Rattle.hall_steps.specs.Steps.{level_in, open_in, next_open_lem};
 

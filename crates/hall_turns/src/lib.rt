@@ -1,4 +1,6 @@
 // The walk's turns: on to the next question, with a stop settled before it; and a full node's incumbent.
+#![tactic(auto)]
+
 ghost use Rattle.std.specs.Prelude.{◌≡◌, List, Bool, true, false, ℕ, ◌+◌, ◌*◌, ◌<◌, ◌≤◌, ◌^◌, length, get_or};
 ghost use Rattle.hall.specs.Hall.{Hall};
 ghost use Rattle.hall_steps.specs.Steps.{level_in};

@@ -1,4 +1,6 @@
 // The hall's walk: at each node no first, then yes.
+#![tactic(auto)]
+
 ghost use Rattle.std.specs.Prelude.{◌≡◌, List, Bool, true, false, ℕ, ◌+◌, ◌*◌, ◌<◌, ◌≤◌, ◌^◌, length, get_or};
 ghost use Rattle.hall.specs.Hall.{Hall};
 ghost use Rattle.hall_state.specs.Courses.{Arrays, Course, ground, arrays};

@@ -1,4 +1,6 @@
 // The search of any accepted job over its openings and removals: its numbers and what holders and removals add to them laid out in arrays, and the counted search over them.
+#![tactic(auto)]
+
 pub mod holders;
 
 ghost use Rattle.std.specs.Prelude.{◌≡◌};

@@ -1,4 +1,6 @@
 // Lanes where parts hide behind others: sets of lanes, the terms by classes, the last mark of each class.
+#![tactic(auto)]
+
 ghost use Rattle.std.specs.Prelude.{◌≡◌, cond, ℕ, ◌+◌, ◌*◌, ◌^◌, ◌<◌, ◌≤◌, max, eqb, length, get_or};
 ghost use Rattle.least.specs.Filled.{FilledBy};
 ghost use Rattle.lane_rows.specs.Layout.{lane_count_lem, lanes_in, row_place};

@@ -1,4 +1,6 @@
 // A node of the walk over the tables of a job with holders: the nodes below it, its part sums, and what is kept of it.
+#![tactic(auto)]
+
 ghost use Rattle.std.specs.Prelude.{◌≡◌, true, false, ℕ, ◌+◌, ◌-◌, ◌*◌, ◌^◌, ◌<◌, ◌≤◌, length, get_or};
 ghost use Rattle.least.specs.Filled.{FilledBy};
 ghost use Rattle.lane_rows.specs.Layout.{lane_count_lem, inf, suffix_base, lanes_in};

@@ -1,5 +1,7 @@
 // A node of the search with holders, read off its name: for each opening no, or yes and then for each part that is somebody's holder not removed or removed. Its stops, where each part can be changed, and
 // the changes that a part has there.
+#![tactic(auto)]
+
 ghost use Rattle.std.specs.Prelude.{◌≡◌, true, false, not, ◌||◌, [], ◌∷◌, ◌++◌, ℕ, ◌+◌, ◌-◌, ◌*◌, ◌≤◌, ◌<◌, length, get_or, drop, replicate, pos};
 ghost use Rattle.model.specs.Decisions.{accessible, allows};
 ghost use Rattle.model.specs.LowerBound.{blocks};

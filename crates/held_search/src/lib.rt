@@ -1,4 +1,6 @@
 // The planner's search of a job with holders: its tables, the counted walk over them, and the plan of its incumbent.
+#![tactic(auto)]
+
 pub mod name;
 
 ghost use Rattle.std.specs.Prelude.{◌≡◌, false, ◌++◌, ◌-◌, ◌<◌, ◌≤◌, ◌^◌, length, get_or, replicate};

@@ -1,4 +1,6 @@
 // The rows of stops whose removals are decided: the sum of the lanes while they are, and the row once they are.
+#![tactic(auto)]
+
 ghost use Rattle.std.specs.Prelude.{◌≡◌, ◌+◌, ◌*◌, ◌^◌, ◌<◌, ◌≤◌, length, get_or};
 ghost use Rattle.model.specs.Limits.{most_openings};
 ghost use Rattle.least.specs.Filled.{FilledBy};

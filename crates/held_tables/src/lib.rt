@@ -1,4 +1,6 @@
 // The tables of the walk of a job with holders: the terms by classes of parts, and who needs whom.
+#![tactic(auto)]
+
 pub mod needs;
 pub mod terms;
 

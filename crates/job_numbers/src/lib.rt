@@ -1,4 +1,6 @@
 // The numbers of a job laid out in arrays, as the searches take them.
+#![tactic(auto)]
+
 ghost use Rattle.std.specs.Prelude.{◌≡◌, map, ℕ, ◌+◌, ◌≤◌, ◌<◌, length, get_or, take};
 ghost use Rattle.model.specs.Limits.{dearest, most_parts};
 ghost use Rattle.model.specs.Model.{fee_of};

@@ -1,4 +1,6 @@
 // The search of an accepted job: where no part has a holder over its openings alone, at prices with the removals added, and else over its openings and removals.
+#![tactic(auto)]
+
 ghost use Rattle.std.specs.Prelude.{◌≡◌, false};
 ghost use Rattle.model.specs.Model.{has_holder_lem};
 ghost use Rattle.model.specs.Promise.{answer_of};

@@ -1,2 +1,4 @@
 // The whole job text, from its sections.
+#![tactic(auto)]
+
 pub mod whole;

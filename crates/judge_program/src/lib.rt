@@ -1,4 +1,6 @@
 // The judge's program: a job and a plan are read from files, the plan is weighed, and the answer printed.
+#![tactic(auto)]
+
 ghost use Rattle.judge_program.specs.Printed.{Printed};
 
 use answer_output::{Printout, print_answer};

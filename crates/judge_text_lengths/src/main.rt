@@ -1,4 +1,6 @@
 // A run of the judge's program on job texts of 40,960 bytes and plan texts of 32,768, on such of a byte more, and on a long plan.
+#![tactic(auto)]
+
 use judge_program::judge_files;
 
 fn main() {

@@ -1,4 +1,6 @@
 // The judge: weighs a plan text against a job text.
+#![tactic(auto)]
+
 ghost use Rattle.std.specs.Prelude.{◌≡◌, ◌≤◌, length};
 ghost use Rattle.lines.specs.Wrote.{Wrote};
 ghost use Rattle.model.specs.Verdict.{number_of};

@@ -1,4 +1,6 @@
 // The library for hosts in C, Rust and other languages: include/juzvarola.h declares these functions.
+#![tactic(auto)]
+
 ghost use Rattle.std.specs.Prelude.{◌≡◌, length};
 ghost use Rattle.answers.specs.Said.{lent, Replied};
 ghost use Rattle.form.specs.Form.{filled};

@@ -1,4 +1,6 @@
 // Rows of lanes, one for each part, in fours: the tables, and a stack of rows in a lent buffer. A row function stands for any number of fours; its caller names the number, which makes each loop one without a count.
+#![tactic(auto)]
+
 ghost use Rattle.std.specs.Prelude.{◌≡◌, true, ℕ, ◌+◌, ◌-◌, ◌*◌, ◌^◌, ◌<◌, ◌≤◌, min, length, get_or};
 ghost use Rattle.least.specs.Filled.{FilledBy};
 ghost use Rattle.lane_rows.specs.Layout.{lane_count_lem, mark_count, inf, triangle, level_rows, tables_size, lanes_in, stack_size, suffix_base, place, row_place, mark_place, known_place, memo_place, term_place};

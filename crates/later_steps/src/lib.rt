@@ -1,4 +1,6 @@
 // The steps after a step, renumbered: idle steps and openings of the job that is left.
+#![tactic(auto)]
+
 ghost use Rattle.std.specs.Prelude.{◌≡◌, map, ℕ, ◌-◌, ◌≤◌, length, take, drop};
 ghost use Rattle.model.specs.Model.{fee_of};
 ghost use Rattle.model.specs.Windows.{steps_of};

@@ -1,4 +1,6 @@
 // The plan that changes each part at the last stop that still serves.
+#![tactic(auto)]
+
 ghost use Rattle.std.specs.Prelude.{◌≡◌, cond, not, ◌&&◌, take, pos, ◌≤◌};
 ghost use Rattle.model.specs.Model.{within, last_change_lem};
 ghost use Rattle.model.specs.Limits.{longest_life};

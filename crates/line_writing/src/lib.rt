@@ -1,3 +1,5 @@
 // Decimal numbers and key=value lines, written into a lent slice.
+#![tactic(auto)]
+
 pub mod digits;
 pub mod write;

@@ -1,3 +1,5 @@
 // Decimal numbers and key=value lines, read from a text.
+#![tactic(auto)]
+
 pub mod read;
 pub mod rows;

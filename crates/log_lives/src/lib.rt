@@ -1,4 +1,6 @@
 // What a log did, worked out on the job with the openings that are past alone: the judgement on it, and what is left of each part's life.
+#![tactic(auto)]
+
 ghost use Rattle.std.specs.Prelude.{◌≡◌, ◌≤◌, take, pos, ◌-ℤ◌};
 ghost use Rattle.model.specs.Limits.{last_position, longest_life};
 ghost use Rattle.jobs.specs.Views.{job_of, plan_for};

@@ -1,4 +1,6 @@
 // A job at the low ends of its prices, and whether its parts' lines have a `low` line.
+#![tactic(auto)]
+
 ghost use Rattle.std.specs.Prelude.{◌≡◌, ◌||◌, cond, List, map, ℕ, ◌≤◌, length, take};
 ghost use Rattle.model.specs.Limits.{most_openings, most_parts};
 ghost use Rattle.jobs.specs.Views.{part_of_lem, job_of, Sized};

@@ -1,4 +1,6 @@
 // Classes of parts: parts that need the same holding parts. A class is led by its first part.
+#![tactic(auto)]
+
 ghost use Rattle.std.specs.Prelude.{◌≡◌, not, ◌+◌, ◌<◌, ◌≤◌, length};
 ghost use Rattle.std.specs.Bool.{beq};
 ghost use Rattle.lane_rows.specs.Layout.{lane_count_lem};

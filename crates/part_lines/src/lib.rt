@@ -1,4 +1,6 @@
 // A part's lines: what they say and the part that they mean, read from a cursor on.
+#![tactic(auto)]
+
 ghost use Rattle.std.specs.Prelude.{◌≡◌, cond, ℕ, ◌≤◌, drop, take};
 ghost use Rattle.lines.specs.Parser.{row, checked, up_to};
 ghost use Rattle.lines.specs.Cursor.{Stands, LineRead, Reads, ended};

@@ -1,5 +1,7 @@
 // "A part has a life L and a first life R": the parts as a lent slice of records, from which one is taken out by value; and the numbers of one.
 // Place i holds part number i + 1.
+#![tactic(auto)]
+
 ghost use Rattle.std.specs.Prelude.{◌≡◌, ◌<◌, ◌≤◌, length};
 ghost use Rattle.part_records.specs.Records.{record_at};
 ghost use Rattle.model.specs.Limits.{most_parts};

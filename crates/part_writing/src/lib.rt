@@ -1,4 +1,6 @@
 // The lines of one part of a form, written into a lent slice to be read.
+#![tactic(auto)]
+
 ghost use Rattle.std.specs.Prelude.{◌≡◌, ◌+◌, ◌≤◌, ◌<◌, length};
 ghost use Rattle.lines.specs.Text.{line, texts, optional_text};
 ghost use Rattle.lines.specs.Wrote.{Wrote};

@@ -1,4 +1,6 @@
 // What is printed of a plan: what it costs at the low ends, where the job text has a `low` line, and its lines.
+#![tactic(auto)]
+
 ghost use Rattle.std.specs.Prelude.{◌+◌, ◌≤◌, ◌<◌, length};
 ghost use Rattle.lines.specs.Wrote.{Wrote};
 ghost use Rattle.jobs.specs.Views.{plan_for};

@@ -1,2 +1,4 @@
 // The whole plan text, read against a job.
+#![tactic(auto)]
+
 pub mod whole;

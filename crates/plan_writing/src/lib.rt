@@ -1,4 +1,6 @@
 // The lines of a plan, written into a lent slice.
+#![tactic(auto)]
+
 ghost use Rattle.std.specs.Prelude.{◌≡◌, cond, false, [], ◌+◌, ◌≤◌, ◌<◌, length, get_or};
 ghost use Rattle.lines.specs.Text.{line_of, texts};
 ghost use Rattle.lines.specs.Wrote.{Wrote};

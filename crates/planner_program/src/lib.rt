@@ -1,4 +1,6 @@
 // The planner's program: a job is read, planned with the largest walk number, and the answer printed.
+#![tactic(auto)]
+
 ghost use Rattle.planner_program.specs.Printed.{Printed};
 
 use answer_output::{Printout, print_answer};

@@ -1,4 +1,6 @@
 // A run of the planner's program on an empty text, on one of 40,960 bytes, and on one of a byte more.
+#![tactic(auto)]
+
 use planner_program::plan_input;
 
 // The planner's program with a file as its input.

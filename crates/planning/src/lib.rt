@@ -1,4 +1,6 @@
 // The planner: the cheapest plan of a job text that keeps every part's life.
+#![tactic(auto)]
+
 ghost use Rattle.std.specs.Prelude.{◌≡◌, ℕ, ◌≤◌, length};
 ghost use Rattle.lines.specs.Wrote.{Wrote};
 ghost use Rattle.model.specs.Limits.{most_walk};

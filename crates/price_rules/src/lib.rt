@@ -1,4 +1,6 @@
 // A part's prices by a rule: its lines, read from a cursor on and written, and the generator of the prices that it stands for.
+#![tactic(auto)]
+
 ghost use Rattle.std.specs.Prelude.{◌≡◌, false, ℕ, ◌+◌, ◌-◌, ◌≤◌, max, length, take, drop, replicate};
 ghost use Rattle.lines.specs.Text.{present};
 ghost use Rattle.lines.specs.Parser.{if_present};

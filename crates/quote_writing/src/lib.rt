@@ -1,4 +1,6 @@
 // The lines of a form's prices, written into a lent slice to be read.
+#![tactic(auto)]
+
 ghost use Rattle.std.specs.Prelude.{◌≡◌, true, cond, ◌+◌, ◌≤◌, ◌<◌, length, get_or};
 ghost use Rattle.lines.specs.Text.{texts};
 ghost use Rattle.lines.specs.Wrote.{Wrote};

@@ -1,4 +1,6 @@
 // Quoted prices, single or from a low end to a high end: their lines, read from a cursor on.
+#![tactic(auto)]
+
 ghost use Rattle.std.specs.Prelude.{◌≡◌, ◌≤◌, drop};
 ghost use Rattle.lines.specs.Text.{missing, present};
 ghost use Rattle.lines.specs.Parser.{row, checked, times};

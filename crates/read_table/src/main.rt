@@ -1,5 +1,7 @@
 // Reads a table of job and plan texts and writes, for each pair, its first fault and the line at fault, or that there is none.
 // A pair stands in the input as `job=N`, N bytes, `plan=N`, N bytes.
+#![tactic(auto)]
+
 ghost use Rattle.std.specs.Prelude.{◌≤◌, length};
 
 use fault_lines::fault::fault_line;

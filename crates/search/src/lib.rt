@@ -1,4 +1,6 @@
 // The planner's search: the counted walk over a job's tables, and the plan of its incumbent.
+#![tactic(auto)]
+
 pub mod plan;
 
 ghost use Rattle.std.specs.Prelude.{◌+◌, ◌^◌, ◌<◌, ◌≡◌};

@@ -1,4 +1,6 @@
 // The latest-time habit: changes each part at the last of given stops that still serves.
+#![tactic(auto)]
+
 ghost use Rattle.std.specs.Prelude.{◌≡◌, Bool, List, ◌≤◌, length};
 ghost use Rattle.lines.specs.Wrote.{Wrote};
 ghost use Rattle.model.specs.Model as model;

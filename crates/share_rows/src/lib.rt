@@ -1,4 +1,6 @@
 // Rows of lanes where shares are owed: the row of a stop, with what is still owed there, as its removals are decided.
+#![tactic(auto)]
+
 ghost use Rattle.std.specs.Prelude.{◌≡◌, cond, List, ℕ, ◌+◌, ◌*◌, ◌<◌, ◌≤◌, eqb, length, get_or};
 ghost use Rattle.model.specs.Limits.{most_openings};
 ghost use Rattle.lane_rows.specs.Layout.{lane_count_lem, mark_count, inf, lanes_in, stack_size, row_place};

@@ -1,4 +1,6 @@
 // The cheapest plan of a job, by walks with fair shares from cutoffs below: the tables, the walks, and the plan of the name that they find.
+#![tactic(auto)]
+
 ghost use Rattle.std.specs.Prelude.{◌≡◌, ◌<◌, ◌≤◌, ◌^◌, length};
 ghost use Rattle.model.specs.Model.{Job};
 ghost use Rattle.shares.specs.Certificate.{NoneUnder};

@@ -1,4 +1,6 @@
 // The counted walk of the planner's tree by fair shares, from a known cost: a node, the state, the nodes below, and the recursion.
+#![tactic(auto)]
+
 ghost use Rattle.std.specs.Prelude.{◌≡◌, Bool, true, false, not, cond, ◌&&◌, List, ℕ, ◌+◌, ◌^◌, ◌<◌, ◌≤◌, ltb, eqb, length, get_or, take};
 ghost use Rattle.model.specs.Limits.{most_openings};
 ghost use Rattle.model.specs.Model.{Job};

@@ -1,1 +1,2 @@
 // No code: the worked cases and their proof.
+#![tactic(auto)]

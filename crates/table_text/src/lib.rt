@@ -1,4 +1,6 @@
 // The text of a table: one row behind the other, each made of lines `key=N` and of pieces, which are such a line and N bytes behind it.
+#![tactic(auto)]
+
 ghost use Rattle.std.specs.Prelude.{◌≡◌, ◌+◌, ◌≤◌, ◌<◌, length};
 ghost use Rattle.table_text.specs.Pieces.{head_at_lem, piece_at, onward_from};
 

@@ -1,4 +1,6 @@
 // The judgement on a plan: by the verdict on the lives, then by its cost.
+#![tactic(auto)]
+
 ghost use Rattle.std.specs.Prelude.{◌≡◌};
 ghost use Rattle.model.specs.Verdict as model;
 ghost use Rattle.model.specs.Verdict.{judged_of};

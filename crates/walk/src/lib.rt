@@ -1,4 +1,6 @@
 // The counted walk over the tables of a job: a node, the state, and the recursion on both branches.
+#![tactic(auto)]
+
 ghost use Rattle.std.specs.Prelude.{◌≡◌, true, false, ℕ, ◌+◌, ◌-◌, ◌*◌, ◌^◌, ◌<◌, ◌≤◌, min, length};
 ghost use Rattle.branch.specs.Label.{open_from};
 ghost use Rattle.branch.specs.Lower.{add};

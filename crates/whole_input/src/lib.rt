@@ -1,4 +1,6 @@
 // Reading a whole input into a buffer that has room for one byte more than its text may have, so that a longer text is told.
+#![tactic(auto)]
+
 ghost use Rattle.std.specs.Prelude.{suc, ◌≡◌, length};
 ghost use Rattle.io.specs.Counts.{IsPrefixLen};
 ghost use Rattle.whole_input.specs.Limits.{limit_of};
