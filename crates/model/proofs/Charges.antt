@@ -27,7 +27,7 @@ pub changed_stop : (job : Job) (stops : List Bool) (ps : List Part) (cs : List (
 changed_stop job stops [] [] e i k t = absurd (false≢true t)
 changed_stop job stops [] (c ∷ cs) e i k t = absurd e
 changed_stop job stops (p ∷ ps) [] e i k t = absurd e
-changed_stop job stops (p ∷ ps) (c ∷ cs) e zero k t = e.0.at_Stops k t
+changed_stop job stops (p ∷ ps) (c ∷ cs) e zero k t = e.0.at_stops k t
 changed_stop job stops (p ∷ ps) (c ∷ cs) e (suc i) k t = changed_stop job stops ps cs e.1 i k t
 
 -- the parts of a list as they are planned for

@@ -38,5 +38,5 @@ pub mod Dues
 pub mod Published
 pub mod Refused
 pub mod Cases
-pub mod Hidden
+pub mod Behind
 pub mod Tables
