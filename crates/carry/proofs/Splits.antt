@@ -8,7 +8,7 @@ use native.Mathlib.Nat.{zero-add, suc-add}
 use native.Mathlib.Omega.{arith}
 use lib.ListN.{length, get_or, take, drop, take-append-drop, get_or-append}
 use lib.Seq.{get_or-append-add, get_or-drop, drop-append_seam}
-use Rattle.branch.specs.Search.{Before, there}
+use Rattle.branch.specs.Search.{Before, here, there}
 use Rattle.model.specs.Model.{select, table, sum_at, sum}
 use Rattle.model.specs.Decisions.{concat}
 use Rattle.model.proofs.Offers.{sum_none}
@@ -149,10 +149,18 @@ sub_front (x ∷ u) (y ∷ v) cs ds h s (suc k) e = sub_front u v cs ds (omega a
 
 -- ---- the tie rule's order behind a common front
 
+-- two sets with the same first mark, one before the other
+before_rest : {p q : List Bool} (x : Bool) (a b : List Bool) → Before p q → p ≡ x ∷ a → q ≡ x ∷ b → Before a b
+before_rest x a b (here {s = s} {t = t}) e f = let z : ◌≡◌ {A = Bool} false true = cc in absurd (false≢true z)
+before_rest x a b (there {x = y} {s = s} {t = t} h) e f =
+    let g : ◌≡◌ {A = List Bool} s a = cc in
+    let k : ◌≡◌ {A = List Bool} t b = cc in
+    rw (sym g) (rw (sym k) h)
+
 -- where one of two sets with a common front is before the other, so is what follows the front
 pub before_back : (u s t : List Bool) → Before (u ++ s) (u ++ t) → Before s t
 before_back [] s t h = h
-before_back (x ∷ u) s t (there h) = before_back u s t h
+before_back (x ∷ u) s t h = before_back u s t (before_rest x (u ++ s) (u ++ t) h refl refl)
 
 -- the same, or before
 pub first_back : (u s t : List Bool) → (u ++ t ≡ u ++ s) ⊎ Before (u ++ s) (u ++ t) → (t ≡ s) ⊎ Before s t
