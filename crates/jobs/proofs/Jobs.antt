@@ -58,14 +58,14 @@ module _ (j : Job) {vs : List Val} (sized : Sized j) (whole : Is (row the_type) 
 
   -- the array of idle steps has as many entries as the job counts
   pub idles_long : j.idle_count ≤ length j.idles
-  idles_long = omega (arith, sized.idles, rw length-map at whole.1.1.1.1.0.1.0.1)
+  idles_long = omega (arith, sized.idles, whole.1.1.1.1.0.1.0.1)
 
   pub openings_long : n ≤ length j.openings
-  openings_long = omega (arith, sized.openings, rw length-map at whole.1.1.1.1.1.1.0.1.0.1)
+  openings_long = omega (arith, sized.openings, whole.1.1.1.1.1.1.0.1.0.1)
 
   -- the array of parts has as many records as the job counts
   pub parts_long : m ≤ length j.parts
-  parts_long = omega (arith, sized.parts, rw length-map at whole.1.1.1.1.1.1.1.1.0.1.0.1)
+  parts_long = omega (arith, sized.parts, whole.1.1.1.1.1.1.1.1.0.1.0.1)
 
   pub opening_count_lem2 : length (job_of j).openings ≡ n
   opening_count_lem2 = firsts_size opening_of j.openings n openings_long

@@ -3,7 +3,7 @@ use Prim.Native.Nat.{ℕ, ◌≤◌, ◌<◌}
 use mathlib.Core.Path.{◌≡◌}
 use mathlib.Core.List.{List, [], ◌∷◌}
 use native.Mathlib.Omega.{arith}
-use lib.ListN.{length, get_or, take, length-map}
+use lib.ListN.{length, get_or, take}
 use denote.Laws.{Is}
 use denote.Struct.Declared.{row}
 use denote.Struct.Laws.{val}
@@ -21,7 +21,7 @@ abbrev pub WholePlan : Plan → Type 0
 WholePlan p = Is (row the_type) p (val the_type the_laws p ∷ [])
 
 pub plan_long : (p : Plan) → WholePlan p → length p.changes ≡ most_parts
-plan_long p whole = rw length-map at whole.1.1.1.0.1.0.1
+plan_long p whole = whole.1.1.1.0.1.0.1
 
 -- a set for each part that a job counts
 pub enough_changes : (j : Job) → Sized j → (p : Plan) → WholePlan p → j.part_count ≤ length p.changes

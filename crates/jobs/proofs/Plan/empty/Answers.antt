@@ -6,8 +6,7 @@ use lib.ListN.{replicate}
 use Rattle.jobs.specs.declared.Changes.{Changes}
 use Rattle.jobs.specs.Views.{changes_of}
 use Rattle.jobs.proofs.Lists.{take-replicate, map-replicate}
-use Rattle.jobs.proofs.Plan.empty.Statement.{statement}
-use Rattle.jobs.proofs.Plan.empty.Tie as tie
+use Rattle.jobs.proofs.Plan.empty.Goals as goal
 
 -- the row of a part that is never changed
 abbrev none : Changes
@@ -16,8 +15,5 @@ none = record { at = replicate 64 false }
 rows : (n m : ℕ) → n ≤ 64 → m ≤ 16 → changes_of n m (replicate 16 none) ≡ replicate m (replicate n false)
 rows n m h k = rw (take-replicate m 16 none k, map-replicate, take-replicate n 64 false h)
 
-returns : tie.Need-returns
+pub returns : goal.returns
 returns c n m h k = λ i. record { stops = take-replicate n 64 false h i; changes = rows n m h k i }
-
-pub empty-spec : {M : Type 1} → statement M
-empty-spec = tie.close (tie.spec returns)
