@@ -1,9 +1,7 @@
 -- `digit_run`: the i bytes so far are digits, and the run goes on with that of the rest.
-use Prim.Native.Nat.{◌+◌, ◌-◌, ◌≤◌}
-use mathlib.Core.Path.{◌≡◌, ap}
+use mathlib.Core.Path.{ap}
 use native.Mathlib.Omega.{arith}
-use lib.ListN.{length, drop}
-use Rattle.lines.specs.Line.{digits}
+use lib.ListN.{length}
 use Rattle.lines.proofs.Reading.{digit_low, digit_high, digit_yes, digits_more, digits_stop, digits_end}
 use Rattle.lines.proofs.read.digit_run.Goals as goal
 

@@ -1,9 +1,7 @@
 use Prim.Native.Nat.{◌+◌, ◌-◌, ◌≤◌}
-use mathlib.Core.Path.{◌≡◌, ap}
-use native.Mathlib.Omega.{arith}
+use mathlib.Core.Path.{◌≡◌}
 use lib.ListN.{length, drop}
 use Rattle.lines.specs.Line.{digits}
-use Rattle.lines.proofs.Reading.{digit_low, digit_high, digit_yes, digits_more, digits_stop, digits_end}
 use Rattle.lines.proofs.read.digit_run.Given as goal
 
 abbrev pub invariant-loop-i : goal.invariant-loop-i

@@ -1,9 +1,7 @@
 -- `number`: the number of the first i digits, which the rest of the digits carry on.
-use Prim.Native.Nat.{◌+◌, ◌-◌, ◌≤◌, ◌<◌, ◌^◌}
-use mathlib.Core.Path.{◌≡◌, refl, ap, sym, ◌∙◌}
+use mathlib.Core.Path.{refl, ap, sym, ◌∙◌}
 use native.Mathlib.Omega.{arith}
-use lib.ListN.{length, drop}
-use Rattle.lines.specs.Line.{digits, number_from}
+use lib.ListN.{length}
 use Rattle.lines.proofs.Reading.{Digit, digit_at, pow_step, pow_nine, number_next, number_end}
 use Rattle.lines.proofs.read.number.Goals as goal
 use Rattle.lines.proofs.read.number.Goals.{In-loop-i}

@@ -1,5 +1,4 @@
 -- `read_field`: by the line that was read, and then by its range.
-use borrow.Author.Rules.{rules}
 use native.Mathlib.Omega.{arith}
 use mathlib.Core.Path.{sym, ◌∙◌}
 use Rattle.lines.proofs.Reading.{field_none, field_low, field_high, field_good}

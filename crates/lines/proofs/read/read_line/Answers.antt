@@ -1,5 +1,4 @@
 -- `read_line`: by the key, and then by the value behind it.
-use borrow.Author.Rules.{rules}
 use native.Mathlib.Omega.{arith}
 use mathlib.Core.Path.{◌≡◌, ap, sym, ◌∙◌, subst}
 use lib.ListN.{length, drop, length-drop}

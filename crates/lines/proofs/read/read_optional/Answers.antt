@@ -1,5 +1,4 @@
 -- `read_optional`: by whether the text begins with the key.
-use borrow.Author.Rules.{rules}
 use mathlib.Core.Path.{sym, ap, ◌∙◌}
 use Rattle.lines.specs.Parser.{optional_field}
 use Rattle.lines.specs.declared.read.OptionalField.TheVariants.{There}

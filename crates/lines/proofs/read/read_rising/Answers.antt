@@ -1,5 +1,4 @@
 -- `read_rising`: the line's row, and then the rule that numbers rise and stay within a bound.
-use borrow.Author.Rules.{rules}
 use mathlib.Core.Path.{sym, ◌∙◌}
 use Rattle.lines.specs.Parser.{row_at}
 use Rattle.lines.specs.Cursor.{LineRead}

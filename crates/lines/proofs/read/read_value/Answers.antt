@@ -1,7 +1,5 @@
 -- `read_value`: by the tests of the digits one after the other; what passes them all is a value.
-use borrow.Author.Rules.{rules}
 use native.Mathlib.Omega.{arith}
-use mathlib.Core.Logic.{⊎_elim}
 use lib.ListN.{get_or-eq_default}
 use Rattle.lines.proofs.Reading.{none_bad, long_bad, mark_bad, zero_bad, value_good}
 use Rattle.lines.proofs.read.read_value.Goals as goal

@@ -1,9 +1,6 @@
 -- `starts_with`: the first i bytes agree, so the rest decides.
-use Prim.Native.Nat.{◌-◌, ◌≤◌}
-use mathlib.Core.Path.{◌≡◌, refl, sym, ◌∙◌}
+use mathlib.Core.Path.{refl, sym, ◌∙◌}
 use native.Mathlib.Omega.{arith}
-use lib.ListN.{length, drop}
-use Rattle.lines.specs.Line.{starts_with}
 use Rattle.lines.proofs.Reading.{starts_more, starts_not, starts_end, starts_short}
 use Rattle.lines.proofs.read.starts_with.Goals as goal
 

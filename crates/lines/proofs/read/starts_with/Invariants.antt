@@ -1,9 +1,7 @@
 use Prim.Native.Nat.{◌-◌, ◌≤◌}
-use mathlib.Core.Path.{◌≡◌, refl, sym, ◌∙◌}
-use native.Mathlib.Omega.{arith}
+use mathlib.Core.Path.{◌≡◌}
 use lib.ListN.{length, drop}
 use Rattle.lines.specs.Line.{starts_with}
-use Rattle.lines.proofs.Reading.{starts_more, starts_not, starts_end, starts_short}
 use Rattle.lines.proofs.read.starts_with.Given as goal
 
 abbrev pub invariant-loop-i : goal.invariant-loop-i

@@ -1,5 +1,4 @@
 -- `advance`: by the field, which ends in the text.
-use borrow.Author.Rules.{rules}
 use native.Mathlib.Omega.{arith}
 use mathlib.Core.Path.{sym, ap, ◌∙◌, subst}
 use Rattle.lines.specs.Parser.{taken}

@@ -1,5 +1,4 @@
 -- `close_text`: by where the lines end, and whether the cursor stands before the text's end.
-use borrow.Author.Rules.{rules}
 use borrow.Author.Tests.{lt-ltb, le-ltb}
 use Rattle.lines.specs.Cursor.{closed}
 use Rattle.lines.proofs.rows.close_text.Goals as goal
