@@ -41,7 +41,7 @@ mark_pos first ss (suc i) h = ap (λ (j : ℕ). get_or ss j (pos 0)) (omega arit
 
 -- a signed local holds bits; what is read back from the bits of z is z
 pub back : (z : ℤ) → mag z < 2 ^ 31 → to_z w32 (of_z w32 z) ≡ z
-back z h = to_z-of_z (record { sfits = h })
+back z h = to_z-of_z {w = w32} (record { sfits = h })
 
 -- a number of 31 bits, read back from its bits, has 31 bits too
 pub small_back : (z : ℤ) → Bits31 z → Bits31 (to_z w32 (of_z w32 z))
