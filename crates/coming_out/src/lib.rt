@@ -16,7 +16,7 @@ use model::{PAIRS, PARTS};
 pub mod records;
 
 // The parts that are somebody's holder: which they are, their places by rising number, and how many there are.
-#[derive(Drop)]
+#[derive(Clone, Copy)]
 pub struct Holding {
     pub marks: [bool; PARTS],
     pub places: [usize; PARTS],
