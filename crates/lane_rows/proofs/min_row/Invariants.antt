@@ -1,0 +1,10 @@
+use Prim.Native.Nat.{ℕ, ◌+◌, ◌-◌, ◌≤◌, min}
+use lib.ListN.{get_or}
+use Rattle.least.specs.Filled.{FilledBy}
+use Rattle.lane_rows.proofs.min_row.Given as goal
+
+abbrev pub invariant-loop-p : goal.invariant-loop-p
+invariant-loop-p l = (l.p ≤ l.p-end) × FilledBy (λ (q : ℕ). q) (λ (q : ℕ). min (get_or l.initial.acc q 0) (get_or l.d q 0 + get_or l.e q 0)) l.p l.initial.acc l.acc
+
+abbrev pub decreases-loop-p : goal.decreases-loop-p
+decreases-loop-p l = l.p-end - l.p
