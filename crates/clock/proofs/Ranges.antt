@@ -6,7 +6,7 @@ use lib.IntN.{ℤ, pos, negsuc, ◌-ℤ◌, +ℤ-neg_ℤ_cancel, pos-+ℤ-pos}
 use lib.Signed.{mag}
 use mir.Syntax.{w32}
 use mir.Val.{to_z, of_z}
-use mir.Facts.{to_z-of_z, to_z_pos}
+use Rattle.std.proofs.lemmas.Int.{to_z-of_z, to_z_pos}
 use Rattle.model.specs.Model.{Job, clock}
 use Rattle.model.proofs.Integers.{up, down, AtMostℤ, difference}
 use Rattle.model.proofs.Positions.{in_range_lem}
@@ -31,7 +31,7 @@ position_small z (k, e, l) = rw e l
 
 -- what is read back from its bits
 pub position_bits : (z : ℤ) → Position z → to_z w32 (of_z w32 z) ≡ z
-position_bits z p = to_z-of_z (record { sfits = omega (arith, position_small z p) })
+position_bits z p = to_z-of_z w32 z (record { sfits = omega (arith, position_small z p) })
 
 -- ---- the change before
 
@@ -54,8 +54,8 @@ module _ (life : ℕ) (prev : ℤ) (h : life ≤ longest_life) (b : Begins life 
 
   -- the change before fits an i32: read back from its bits it is the same
   pub before_bits : to_z w32 (of_z w32 prev) ≡ prev
-  before_bits = to_z-of_z (record { sfits = omega (arith, before_small) })
+  before_bits = to_z-of_z w32 prev (record { sfits = omega (arith, before_small) })
 
 -- a life as a signed number
 pub life_bits : (life : ℕ) → life ≤ longest_life → to_z w32 life ≡ pos life
-life_bits life h = to_z_pos w32 (omega arith)
+life_bits life h = to_z_pos w32 life (omega arith)

@@ -16,7 +16,7 @@ use model::OPENINGS;
 const STEPS: usize = 367;
 
 // The positions of a job's openings, and of the end of its lives, the step after the horizon.
-#[derive(Drop)]
+#[derive(Clone, Copy)]
 pub struct Positions {
     pub at: [i32; OPENINGS],
     pub end: i32,
