@@ -1,5 +1,5 @@
 -- The parts of a job one after the other: the lowest late part, from the first part on. By one unfolding of the verdict. Up to the end of the lives it is the verdict on the plan (`verdict_whole`).
-use Prim.Native.Nat.{ℕ, suc, ◌+◌, ◌-◌, ◌≤◌, ◌<◌}
+use Prim.Native.Nat.{ℕ, suc, ◌+◌, ◌≤◌, ◌<◌}
 use mathlib.Core.Path.{◌≡◌, refl, sym, ap, ap₂, ◌∙◌}
 use mathlib.Core.Bool.{Bool, cond}
 use mathlib.Core.List.{List, [], ◌∷◌}

@@ -16,14 +16,14 @@ use model::OPENINGS;
 use part_records::part_of;
 
 // Every gap of a part's changes is within its life, or the due step at the first that is too long.
-#[derive(Drop)]
+#[derive(Clone, Copy)]
 pub enum Gaps {
     InTime,
     TooLong(u32),
 }
 
 // Every part is kept, or the lowest part that is not, and its due step.
-#[derive(Drop)]
+#[derive(Clone, Copy)]
 pub enum Verdict {
     Keeps,
     Late { part: u32, due: u32 },
@@ -52,7 +52,7 @@ fn first_long(a: Gaps, b: Gaps) -> Gaps
 }
 
 // What a part's changes come to up to a position: the first gap that is too long, and the last change.
-#[derive(Drop)]
+#[derive(Clone, Copy)]
 pub struct Followed {
     pub late: Gaps,
     pub last: i32,

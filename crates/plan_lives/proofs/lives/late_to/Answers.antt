@@ -1,0 +1,142 @@
+-- `late_to`: after i openings, what is found so far and what the rest gives are the part's first long gap up to the position, and its last change.
+use Prim.Native.Nat.{ℕ, ◌<◌}
+use mathlib.Core.Path.{◌≡◌, sym, ap, ◌∙◌}
+use mathlib.Core.Bool.{false}
+use native.Mathlib.Omega.{arith}
+use lib.ListN.{length, get_or, take}
+use lib.Seq.{get_or-take}
+use lib.IntN.{ℤ, pos, ◌-ℤ◌}
+use mir.Syntax.{w32}
+use mir.Val.{to_z, of_z}
+use Rattle.model.specs.Model.{positions, select}
+use Rattle.model.specs.Verdict.{last_of}
+use Rattle.jobs.specs.Views.{job_of}
+use Rattle.clock.specs.Placed.{Begins, Position}
+use Rattle.clock.proofs.Ranges.{position_bits, before_bits, begins_first, begins_later}
+use Rattle.jobs.proofs.Jobs.{opening_count_lem2}
+use Rattle.clock.proofs.Places.{position_count, place_is}
+use Rattle.plan_lives.specs.Views.{model_gaps}
+use Rattle.plan_lives.specs.Steps.{gap_of, first_long_lem, gaps_to}
+use Rattle.plan_lives.proofs.Follow.{follow_start, follow_skip, follow_change, follow_end, follow_last}
+use Rattle.plan_lives.proofs.lives.late_to.Goals as goal
+use Rattle.plan_lives.proofs.lives.late_to.Goals.{After-last_change-prev, then-changes-i, else-changes-i}
+use Rattle.clock.specs.Placed.{Placed}
+use Rattle.clock.specs.declared.Positions.{Positions}
+use Rattle.model.specs.Model as model
+
+-- ---- what is known
+
+-- the change before the first opening
+first-begins : (c : After-last_change-prev) → Begins c.args.part.life c.last_change-prev.result
+first-begins c =
+    let p = c.args.part in
+    rw c.last_change-prev.ensures (begins_first p.life _ (omega (arith, c.requires.2.life_high, c.requires.2.left_high)))
+
+first-bits : (c : After-last_change-prev) → to_z w32 (of_z w32 c.last_change-prev.result) ≡ c.last_change-prev.result
+first-bits c = before_bits c.args.part.life c.last_change-prev.result c.requires.2.life_high (first-begins c)
+
+-- the opening at hand
+module _ {job : model.Job} (p : Positions) (placed : Placed job p) (n : ℕ) (e : length job.openings ≡ n) (i : ℕ) (h : i < n) where
+  inside : i < length job.openings
+  inside = rw e h
+
+  here_range : Position (get_or p.at i (pos 0))
+  here_range = placed.ranges i inside
+
+  here_bits : to_z w32 (of_z w32 (get_or p.at i (pos 0))) ≡ get_or p.at i (pos 0)
+  here_bits = position_bits (get_or p.at i (pos 0)) here_range
+
+  here_is : get_or p.at i (pos 0) ≡ get_or (positions job) i (pos 0)
+  here_is = place_is p placed i inside
+
+-- ---- the needs
+
+pub last_change-prev-requires : goal.last_change-prev-requires
+last_change-prev-requires c = (c.requires.2.life_high, omega (arith, c.requires.2.life_high, c.requires.2.left_high))
+
+pub loop-i-init : goal.loop-i-init
+loop-i-init c = (omega arith, rw (first-bits c) (first-begins c), follow_start _ _ _ _ _)
+
+pub bounds-changes-i : goal.bounds-changes-i
+bounds-changes-i c = omega (arith, c.requires.0.sized)
+
+pub offset_bounds-places-i : goal.offset_bounds-places-i
+offset_bounds-places-i c = omega (arith, c.requires.0.sized)
+
+pub bounds-places-i : goal.bounds-places-i
+bounds-places-i c = omega (arith, c.requires.0.sized)
+
+pub gap-requires : goal.gap-requires
+gap-requires c =
+    let q = c.requires in
+    let count = opening_count_lem2 c.args.job q.0.sized c.well_formed.0 in
+    let t = c.loop-i-test.true in
+    record {
+      sound = q.0;
+      life_high = q.2.life_high;
+      begins = c.loop-i.invariant.1;
+      ends = rw (here_bits c.args.places q.1 c.args.job.opening_count count c.loop-i.i t) (here_range c.args.places q.1 c.args.job.opening_count count c.loop-i.i t);
+    }
+
+pub overflow_add-i : goal.overflow_add-i
+overflow_add-i c = omega (arith, c.requires.0.sized)
+
+pub loop-i-preserved : goal.loop-i-preserved
+loop-i-preserved c =
+    let a = c.args in
+    let q = c.requires in
+    let l = c.loop-i in
+    let t = c.loop-i-test.true in
+    let n = a.job.opening_count in
+    let job = job_of a.job in
+    let life = pos a.part.life in
+    let prev = to_z w32 l.prev-bits in
+    let to = to_z w32 (of_z w32 a.to) in
+    let cs = take n a.changes in
+    let first = to_z w32 (of_z w32 c.last_change-prev.result) in
+    let count = opening_count_lem2 a.job q.0.sized c.well_formed.0 in
+    let here = get_or a.places.at l.i (pos 0) in
+    let range : Position here = here_range a.places q.1 n count l.i t in
+    let bits = here_bits a.places q.1 n count l.i t in
+    let marked = get_or-take n a.changes l.i false t in
+    let prev' = to_z w32 c.if-changes-i.prev-bits in
+    elim c.if-changes-i.branch [
+      | then-changes-i w ↦ (
+          let e : prev' ≡ here = w.prev-is ∙ bits in (
+            omega arith,
+            rw e (begins_later a.part.life here q.2.life_high range),
+            follow_change job to life cs first l.i prev (model_gaps l.late) l.invariant.2 prev' (model_gaps c.if-changes-i.late)
+                (rw (position_count a.job q.0.sized c.well_formed.0) t) (marked ∙ w.if-changes-i.true) (e ∙ here_is a.places q.1 n count l.i t)
+                (ap model_gaps w.late-is ∙ w.first_long-late.ensures ∙ ap (first_long_lem (model_gaps l.late)) (w.gap.ensures ∙ ap (gap_of job life prev) (sym w.prev-is))),
+          )
+          )
+      | else-changes-i w ↦ (
+        omega arith,
+        rw w.prev-is l.invariant.1,
+        rw (w.prev-is, w.late-is) (follow_skip job to life cs first l.i prev (model_gaps l.late) l.invariant.2 (marked ∙ w.if-changes-i.false)),
+      )
+    ]
+
+pub gap-requires-2 : goal.gap-requires-2
+gap-requires-2 c = let p = c.requires in
+    record { sound = p.0; life_high = p.2.life_high; begins = c.loop-i.invariant.1; ends = rw (position_bits _ p.3) p.3 }
+
+pub returns : goal.returns
+returns c = let a = c.args in
+    let job = job_of a.job in
+    let life = pos a.part.life in
+    let to = to_z w32 (of_z w32 a.to) in
+    let prev = to_z w32 c.loop-i.prev-bits in
+    let late = model_gaps c.loop-i.late in
+    let cs = take a.job.opening_count a.changes in
+    let first = to_z w32 (of_z w32 c.last_change-prev.result) in
+    let begin = first-bits (goal.at.returns c).After-last_change-prev ∙ c.last_change-prev.ensures in (
+      c.first_long.ensures
+          ∙ ap (first_long_lem late) c.gap-2.ensures
+          ∙ follow_end job to life cs first c.loop-i.i prev late c.loop-i.invariant.2 (omega (arith, position_count a.job c.requires.0.sized c.well_formed.0))
+          ∙ ap (λ (f : ℤ). gaps_to job to life f (select (positions job) cs)) begin
+          ∙ ap (λ (e : ℤ). gaps_to job e life (pos a.part.left -ℤ pos a.part.life) (select (positions job) cs)) (position_bits a.to c.requires.3),
+      follow_last job to life cs first c.loop-i.i prev late c.loop-i.invariant.2 (omega (arith, position_count a.job c.requires.0.sized c.well_formed.0))
+          ∙ ap (λ (f : ℤ). last_of f (select (positions job) cs)) begin,
+      c.loop-i.invariant.1,
+    )
