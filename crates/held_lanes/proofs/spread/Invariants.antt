@@ -1,0 +1,18 @@
+use Prim.Native.Nat.{ℕ, ◌+◌, ◌-◌, ◌*◌, ◌%◌, ◌≤◌}
+use mathlib.Core.Path.{◌≡◌, sym, ap, subst, ◌∙◌}
+use mathlib.Core.Bool.{Bool, cond}
+use native.Mathlib.Omega.{arith}
+use borrow.Author.Rules.{rules}
+use lib.ListN.{get_or}
+use Rattle.least.specs.Filled.{FilledBy}
+use Rattle.least.proofs.Filled.{filled_none}
+use Rattle.lane_rows.specs.Layout.{inf}
+use Rattle.held_lanes.specs.Places.{bit_at, mask_of, mask_base}
+use Rattle.held_lanes.proofs.Sets.{bit_four, bit_low, four_more}
+use Rattle.held_lanes.proofs.spread.Given as goal
+
+abbrev pub invariant-loop-k : goal.invariant-loop-k
+invariant-loop-k l = (l.k ≤ l.fours) × FilledBy (λ (q : ℕ). q) (mask_of l.set) (l.k * 4) l.initial.acc l.acc × ((i : ℕ) → bit_at (l.k * 4 + i) l.set ≡ bit_at i l.s)
+
+abbrev pub decreases-loop-k : goal.decreases-loop-k
+decreases-loop-k l = l.fours - l.k
