@@ -8,44 +8,34 @@ use lib.ListN.{get_or, length-set}
 use lib.Seq.{get_or-set_same, get_or-set_other}
 use Rattle.lane_rows.specs.Layout.{inf}
 use Rattle.held_lanes.specs.Places.{bit_at, offset, lead_place, last_place, removed_place, pending_place}
-use Rattle.held_stops.proofs.settle_stop.Statement.{statement}
-use Rattle.held_stops.proofs.settle_stop.Tie as tie
+use Rattle.held_stops.proofs.settle_stop.Goals as goal
 
-pend-requires : tie.Need-pend-requires
-pend-requires c κs = search rules
-
-put-stop-requires : tie.Need-put-stop-requires
-put-stop-requires c κs =
-    let p = c.before.before.before.before.before.requires.0 in
+pub put_stop-requires : goal.put_stop-requires
+put_stop-requires c = let p = c.requires.0 in
     let o = p.owing in (
-      record { some = o.stack.some; narrow = o.stack.narrow; size = p.notes.size; masks = p.notes.masks; aside = c.before.before.pend.ensures.size ∙ p.notes.aside; stack = o.stack.size; few = o.few },
+      record { some = o.stack.some; narrow = o.stack.narrow; size = p.notes.size; masks = p.notes.masks; aside = c.pend.ensures.size ∙ p.notes.aside; stack = o.stack.size; few = o.few },
       omega (arith, o.stack.few, p.later),
       p.near,
     )
 
-note-lasts-requires : tie.Need-note-lasts-requires
-note-lasts-requires c κs = search rules
-
-returns : tie.Need-returns
-returns c =
-    let s = c.before.before.before.before.before.before.before.before.before in
-    let a = s.args in
-    let p = s.requires.0 in
-    let pe = c.before.before.before.before.before.before.pend.ensures in
-    let pu = c.before.before.before.put-stop.ensures in
-    let no = c.note-lasts.ensures in
-    let v = c.note-lasts.new.1.0 in
+pub returns : goal.returns
+returns c = let a = c.args in
+    let p = c.requires.0 in
+    let pe = c.pend.ensures in
+    let pu = c.put_stop.ensures in
+    let no = c.note_lasts.ensures in
+    let v = c.note_lasts.new.v in
     let u = a.u.now in
     let place = removed_place (a.at - 1) in
     let row = p.notes.row in
     let few = p.notes.few in
     let near = p.near in
-    let narrow = p.owing.stack.narrow in (
-      record {
-        put = record { kept = pu.0.kept; row = λ q l. pu.0.row q l ∙ ap (cond (bit_at q a.set) inf) (pe.row q l); mark = pu.0.mark };
-        memo = pu.1;
-      },
-      record {
+    let narrow = p.owing.stack.narrow in record {
+      put = record {
+        put = record { kept = pu.put.kept; row = λ q l. pu.put.row q l ∙ ap (cond (bit_at q a.set) inf) (pe.row q l); mark = pu.put.mark };
+        memo = pu.memo;
+      };
+      noted = record {
         size = length-set v place a.removed ∙ no.size ∙ pe.size;
         lasts = λ i l.
             get_or-set_other v place (last_place a.rows i) a.removed 0 (λ z. omega (arith, z, row, few))
@@ -55,11 +45,5 @@ returns c =
         row = λ q l.
             get_or-set_other v place (pending_place a.rows q) a.removed 0 (λ z. omega (arith, z, near)) ∙ no.rest (pending_place a.rows q) (λ i h z. omega (arith, z, few, row)) ∙ pe.row q l;
         rest = λ x f g h e. get_or-set_other v place x a.removed 0 e ∙ no.rest x (λ i l z. f i (omega (arith, few)) z) ∙ pe.rest x g h;
-      },
-    )
-
-pub settle-stop-spec : {M : Type 1} → statement M
-settle-stop-spec =
-    tie.close
-    (tie.spec (λ c. search rules) pend-requires put-stop-requires note-lasts-requires (λ c. search rules)
-    (λ c. search rules) (λ c. search rules) (λ c. search rules) (λ c. search rules) returns)
+      };
+    }
