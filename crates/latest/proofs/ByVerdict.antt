@@ -8,7 +8,7 @@ use Rattle.model.specs.Model.{Part, Job, kept_by, cost_of_lem}
 use Rattle.model.specs.Ordered.{Lefts, Ordered}
 use Rattle.model.specs.Verdict.{Gaps, in_time_lem2, too_long, late_of, Verdict, keeps, late, ruled, verdict_from, verdict_of_lem}
 use Rattle.model.proofs.Verdicts.{in_time_is}
-use Rattle.latest.specs.Latest.{latest_of_lem, latest_plan_of, LatestAnswer, unserved, serves, each_served, latest_answer_of}
+use Rattle.latest.specs.Latest.{latest_of_lem, latest_plan_of, unserved, serves, each_served, latest_answer_of}
 use Rattle.latest.proofs.Promised.{latest_served}
 
 -- the verdict is that every part is kept
