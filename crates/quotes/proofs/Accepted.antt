@@ -1,13 +1,13 @@
 -- Accepted lines of a price are the rendering of what they say, and that is valid (`quote_tells`). By the grammar's lines, one after the other.
 use Prim.Native.Nat.{ℕ}
-use mathlib.Core.Path.{◌≡◌, refl, ap, ◌∙◌, subst}
+use mathlib.Core.Path.{◌≡◌, ap, ◌∙◌, subst}
 use mathlib.Core.List.{List, ◌++◌, append_assoc}
 use native.Mathlib.Omega.{arith}
 use borrow.Author.Tests.{leb-true}
 use Rattle.lines.specs.Text.{bytes, line_of, Optional, missing, present}
 use Rattle.lines.specs.Parser.{good, return, row, optional, checked}
 use Rattle.lines.proofs.Sound.{bind_inv, Optionally, optional_inv, row_sound, checked_sound, row_gives, checked_gives, Told, Tells}
-use Rattle.quotes.specs.Grammar.{Quote, single, pair, at_least, unless_low, quote}
+use Rattle.quotes.specs.Grammar.{single, pair, at_least, unless_low, quote}
 use Rattle.quotes.specs.Rendering.{quote_text}
 use Rattle.quotes.specs.Valid.{ValidQuote}
 

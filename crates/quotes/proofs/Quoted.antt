@@ -1,10 +1,9 @@
 -- Prices in the code's arrays: one more (`quotes_more`, `lows_more`), their ends (`highs_are`, `lows_are`) and which of them are pairs (`pairs-are`). By the prices, one after the other.
-use Prim.Native.Nat.{ℕ, zero, suc, ◌+◌, ◌≤◌, ◌<◌}
+use Prim.Native.Nat.{ℕ, zero, suc, ◌+◌, ◌<◌}
 use mathlib.Core.Path.{◌≡◌, refl, sym, ap, ap₂, ◌∙◌}
-use mathlib.Core.Bool.{Bool, true, false, cond, ◌||◌}
+use mathlib.Core.Bool.{Bool, true, false, cond}
 use mathlib.Core.List.{List, [], ◌∷◌, ◌++◌, map}
 use native.Mathlib.Omega.{arith}
-use native.Mathlib.Numerals.{add-one}
 use lib.ListN.{length, get_or, take, drop, set, length-take}
 use Rattle.lines.proofs.Arrays.{take_more}
 use Rattle.quotes.specs.Grammar.{Quote, high_end, low_end}
