@@ -1,15 +1,14 @@
 -- The parts one after the other: the changes of the first k are made, and once all are, with the job's positions, it is the model's plan. By the law of one store.
-use Prim.Native.Nat.{ℕ, suc, ◌+◌, ◌≤◌, ◌<◌}
-use mathlib.Core.Path.{◌≡◌, refl, sym, ap, ◌∙◌}
+use Prim.Native.Nat.{ℕ, ◌+◌, ◌≤◌, ◌<◌}
+use mathlib.Core.Path.{◌≡◌, sym, ap, ◌∙◌}
 use mathlib.Core.Bool.{Bool}
 use mathlib.Core.List.{List, [], ◌∷◌, ◌++◌, map, map-append, map-map}
 use native.Mathlib.Omega.{arith}
 use native.Mathlib.Numerals.{add-one}
 use lib.ListN.{length, get_or, take, set, length-take}
 use lib.Seq.{take-suc}
-use lib.IntN.{ℤ, pos}
+use lib.IntN.{pos}
 use Rattle.lines.proofs.Arrays.{map-take_more}
-use Rattle.model.specs.Model as model
 use Rattle.model.specs.Model.{last_change_lem}
 use Rattle.jobs.specs.Views.{blank_part_lem, part_of_lem, job_of, Sized, changes_of, plan_for}
 use Rattle.jobs.specs.declared.Part.{Part}
