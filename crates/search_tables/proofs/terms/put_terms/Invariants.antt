@@ -1,0 +1,12 @@
+use Prim.Native.Nat.{◌-◌, ◌≤◌}
+use mathlib.Core.Path.{◌≡◌}
+use lib.ListN.{length}
+use Rattle.search_tables.specs.Arrays.{sheet_of}
+use Rattle.search_tables.specs.Fill.{Terms}
+use Rattle.search_tables.proofs.terms.put_terms.Given as goal
+
+abbrev pub invariant-loop-q : goal.invariant-loop-q
+invariant-loop-q l = (l.q ≤ length l.lives) × (length l.tab ≡ length l.initial.tab) × Terms (sheet_of l.end l.positions l.fees l.lives l.lefts l.prices) l.initial.t l.t l.q
+
+abbrev pub decreases-loop-q : goal.decreases-loop-q
+decreases-loop-q l = length l.lives - l.q
