@@ -5,10 +5,10 @@ use mathlib.Core.Bool.{Bool, true, false, cond, false≢true}
 use mathlib.Core.List.{List, [], ◌∷◌, map}
 use Prim.Native.Nat.{ℕ, zero, suc, ◌+◌, ◌<◌}
 use native.Mathlib.Omega.{arith}
-use lib.ListN.{get_or, take, drop}
+use lib.ListN.{get_or, take}
 use lib.IntN.{ℤ, pos, ◌-ℤ◌}
-use Rattle.model.specs.Model.{Part, Job, Plan, clock, positions, last_change_lem, within, last_within_lem, due_of_lem, select, Each}
-use Rattle.model.specs.Verdict.{Gaps, in_time_lem2, too_long, first_late, late_of, last_of, Verdict, keeps, ruled, verdict_from, Judgement, judged, judged_of}
+use Rattle.model.specs.Model.{Part, Job, clock, positions, last_change_lem, within, last_within_lem, due_of_lem, select, Each}
+use Rattle.model.specs.Verdict.{Gaps, in_time_lem2, too_long, first_late, late_of, last_of, ruled, verdict_from, judged, judged_of}
 use Rattle.model.proofs.Dues.{Every}
 use Rattle.plan_lives.specs.Steps.{gaps_to, late_to_lem, lowest_late}
 use Rattle.carry.specs.Carry.{Log, passed, Logged, unused}

@@ -1,11 +1,9 @@
 -- `left_at`: where the part is in reach, the signed differences are of small numbers and not negative; else more than the life was used.
 use mathlib.Core.Path.{◌≡◌, refl, sym, ap, ap₂, ◌∙◌}
-use mathlib.Core.Bool.{Bool, true, false, false≢true}
-use Prim.Native.Nat.{ℕ, suc, ◌+◌, ◌<◌, ◌≤◌}
+use mathlib.Core.Bool.{true, false, false≢true}
+use Prim.Native.Nat.{ℕ, ◌+◌, ◌<◌, ◌≤◌}
 use native.Mathlib.Omega.{arith}
 use native.Mathlib.Decide.{dec_le}
-use borrow.Author.Tests.{not-true, not-false}
-use borrow.Author.Rules.{rules}
 use lib.IntN.{ℤ, pos, negsuc, ◌-ℤ◌}
 use lib.Signed.{mag}
 use mir.Syntax.{w32}
@@ -20,8 +18,8 @@ use Rattle.clock.specs.Placed.{Position, Begins}
 use Rattle.clock.proofs.Ranges.{position_small, position_bits, before_small, before_bits, life_bits}
 use Rattle.carry.specs.Carry.{natural}
 use Rattle.carry.proofs.Gaps.{natural_is}
-use Rattle.log_lives.proofs.left_at.Statement.{statement}
-use Rattle.log_lives.proofs.left_at.Tie as tie
+use Rattle.log_lives.proofs.left_at.Goals as goal
+use Rattle.log_lives.proofs.left_at.Goals.{After-in_reach, Else-not-in_reach}
 
 -- ---- the life not used, over plain numbers
 
@@ -73,45 +71,35 @@ module _ (life : ℕ) (last now : ℤ) where
 -- ---- the needs
 
 -- the test
-tested : (c : tie.After-in-reach) → c.in_reach.result ≡ within (pos c.before.args.life) c.before.args.last c.before.args.now
+tested : (c : After-in_reach) → c.in_reach.result ≡ within (pos c.args.life) c.args.last c.args.now
 tested c =
-    let s = c.before in
-    rw (to_z-of_z s.ranges.last, to_z-of_z s.ranges.now, life_bits s.args.life s.requires.0) at c.in_reach.ensures
+    rw (to_z-of_z c.ranges.last, to_z-of_z c.ranges.now, life_bits c.args.life c.requires.0) at c.in_reach.ensures
 
-in-reach-requires : tie.Need-in-reach-requires
-in-reach-requires c κs = used_fits c.args.life c.args.last c.args.now c.requires.0 c.requires.1 c.requires.2
+pub in_reach-requires : goal.in_reach-requires
+in_reach-requires c = used_fits c.args.life c.args.last c.args.now c.requires.0 c.requires.1 c.requires.2
 
-returns : tie.Need-returns
-returns c =
-    let s = c.before.before in
-    sym (over_life s.args.life s.args.last s.args.now (sym (tested c.before) ∙ not-true _ c.if1.true))
+pub returns-then-not-in_reach : goal.returns-then-not-in_reach
+returns-then-not-in_reach c = sym (over_life c.args.life c.args.last c.args.now (sym (tested (goal.at.returns-then-not-in_reach c).After-in_reach) ∙ c.if-not-in_reach.true))
 
-sub_used : tie.Need-overflow-sub-used
-sub_used c = let s = c.before.before in used_fits s.args.life s.args.last s.args.now s.requires.0 s.requires.1 s.requires.2
+pub overflow_sub-used : goal.overflow_sub-used
+overflow_sub-used c = used_fits c.args.life c.args.last c.args.now c.requires.0 c.requires.1 c.requires.2
 
-sub-left : tie.Need-overflow-sub-left
-sub-left c = let s = c.before.before in left_fits s.args.life s.args.last s.args.now s.requires.0 s.requires.1 s.requires.2
+pub overflow_sub-left : goal.overflow_sub-left
+overflow_sub-left c = left_fits c.args.life c.args.last c.args.now c.requires.0 c.requires.1 c.requires.2
 
 -- what is handed over
-given : (c : tie.Else1) → let a = c.before.before.args in to_z w32 (of_z w32 (bits a.life a.last a.now)) ≡ pos (natural (left a.life a.last a.now))
+given : (c : Else-not-in_reach) → let a = c.args in to_z w32 (of_z w32 (bits a.life a.last a.now)) ≡ pos (natural (left a.life a.last a.now))
 given c =
-    let s = c.before.before in
-    left-bits s.args.life s.args.last s.args.now s.requires.0 s.requires.1 s.requires.2 (sym (tested c.before) ∙ not-false _ c.if1.false)
+    left-bits c.args.life c.args.last c.args.now c.requires.0 c.requires.1 c.requires.2 (sym (tested c.before) ∙ c.if-not-in_reach.false)
 
-cast-result : tie.Need-overflow-cast-result
-cast-result c = rw (given c) (tt, omega (arith, in_range_lem c))
-  where
-    in_range_lem : (c : tie.Else1) → let a = c.before.before.args in natural (left a.life a.last a.now) ≤ 10000
-    in_range_lem c =
-        let s = c.before.before in
-        let e = in_life s.args.life s.args.last s.args.now (sym (tested c.before) ∙ not-false _ c.if1.false) in
-        let m = mag_sub (pos s.args.life) (s.args.now -ℤ s.args.last) in
-        let m2 = mag_sub s.args.now s.args.last in
-        let z = ap mag e in
-        omega (arith, z, m, m2, s.requires.0, small_last s.args.life s.args.last s.args.now s.requires.0 s.requires.1 s.requires.2, small_now s.args.life s.args.last s.args.now s.requires.0 s.requires.1 s.requires.2)
+pub overflow_cast-result : goal.overflow_cast-result
+overflow_cast-result c =
+    let e = in_life c.args.life c.args.last c.args.now (sym (tested (goal.at.overflow_cast-result c).After-in_reach) ∙ c.if-not-in_reach.false) in
+    let m = mag_sub (pos c.args.life) (c.args.now -ℤ c.args.last) in
+    let m2 = mag_sub c.args.now c.args.last in
+    let z = ap mag e in
+    let low : natural (left c.args.life c.args.last c.args.now) ≤ 10000 = omega (arith, z, m, m2, c.requires.0, small_last c.args.life c.args.last c.args.now c.requires.0 c.requires.1 c.requires.2, small_now c.args.life c.args.last c.args.now c.requires.0 c.requires.1 c.requires.2) in
+    rw (given (goal.at.overflow_cast-result c).Else-not-in_reach) (omega arith)
 
-returns-2 : tie.Need-returns-2
-returns-2 c = rw (given c)
-
-pub left-at-spec : {M : Type 1} → statement M
-left-at-spec = tie.close (tie.spec (λ c. search rules) in-reach-requires returns sub_used (λ c. search rules) sub-left cast-result returns-2)
+pub returns : goal.returns
+returns c = rw (given (goal.at.returns c).Else-not-in_reach)
