@@ -22,7 +22,7 @@ use lane_rows::{
 pub const NO_COST: u64 = 18446744073709551615;
 
 // The state of the search, passed by value and handed back: the nodes reached, one more than the limit where one was reached beyond it; the incumbent's cost; and its decisions, the latest in the lowest bit.
-#[derive(Drop)]
+#[derive(Clone, Copy)]
 pub struct Search {
     pub count: u64,
     pub cost: u64,
@@ -121,7 +121,7 @@ impl Search {
 }
 
 // A node: how many openings are decided, the rows on the stack, the fees, and the decisions, the latest in the lowest bit.
-#[derive(Drop)]
+#[derive(Clone, Copy)]
 pub struct Node {
     pub at: usize,
     pub rows: usize,
@@ -191,7 +191,7 @@ pub fn walk(
 }
 
 // What the whole search gives: the floor; the nodes walked, and whether there are more; whether there is an incumbent, its cost and its decisions.
-#[derive(Drop)]
+#[derive(Clone, Copy)]
 pub struct Solved {
     pub floor: Bound,
     pub count: u64,
