@@ -2,12 +2,12 @@
 use mathlib.Core.Path.{◌≡◌, refl, sym, ap, ◌∙◌}
 use mathlib.Core.Bool.{Bool, true, false, ◌&&◌, ◌||◌}
 use mathlib.Core.List.{List, [], ◌∷◌, map}
-use Prim.Native.Nat.{ℕ, zero, suc, ◌+◌, ◌≤◌}
+use Prim.Native.Nat.{ℕ, zero, suc, ◌≤◌}
 use native.Mathlib.Omega.{arith}
 use lib.Dec.{eqb}
 use lib.ListN.{length, get_or, drop}
 use Rattle.model.specs.Model.{Part, Job, Plan, Each, listed, table, holds_one, with_holders, rounds, comes_out, sum_at, fee_of, prices_of_lem, out_by, removal_of_lem, sum, removals_of_lem, cost_of_lem}
-use Rattle.bands.specs.Bands.{unpriced_part, unpriced, PricesUpTo, UpTo, WithinBands, CostBand}
+use Rattle.bands.specs.Bands.{unpriced_part, unpriced, PricesUpTo, UpTo, CostBand}
 
 -- ---- sums of prices
 

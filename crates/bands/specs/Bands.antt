@@ -1,5 +1,5 @@
 -- E11. Jobs that differ in their prices alone, and choices of prices within bands: each price is at least that of the one job, at most that of the other.
-use Rattle.std.specs.Prelude.{◌≡◌, List, [], map, ℕ, ◌≤◌}
+use Rattle.std.specs.Prelude.{◌≡◌, [], map, ◌≤◌}
 use Rattle.model.specs.Model.{Part, Job, Plan, Each, cost_of_lem}
 
 -- a part without its prices
