@@ -1,0 +1,17 @@
+use Prim.Native.Nat.{ℕ, ◌-◌, ◌≤◌}
+use mathlib.Core.Path.{◌≡◌}
+use mathlib.Core.Bool.{Bool, false}
+use lib.ListN.{length, get_or}
+use Rattle.lines.specs.Chosen.{chosen}
+use Rattle.jobs.specs.declared.Plan.{Plan}
+use Rattle.plan_writing.proofs.count_stops.Given as goal
+
+-- a stop is made at opening i
+abbrev pub stop : Plan → ℕ → Bool
+stop plan i = get_or plan.stops i false
+
+abbrev pub invariant-loop-i : goal.invariant-loop-i
+invariant-loop-i l = (l.i ≤ l.n) × (l.count ≡ length (chosen (stop l.plan) (λ (j : ℕ). j) l.i))
+
+abbrev pub decreases-loop-i : goal.decreases-loop-i
+decreases-loop-i l = l.n - l.i
