@@ -6,7 +6,6 @@ use native.Mathlib.Omega.{arith}
 use borrow.Author.Tests.{le-leb, lt-leb}
 use lib.ListN.{length, get_or, take}
 use lib.Seq.{take-take}
-use Rattle.model.specs.Model as model
 use Rattle.jobs.specs.declared.Part.{Part}
 use Rattle.jobs.specs.declared.Opening.{Opening}
 use Rattle.jobs.specs.Views.{opening_of, part_of_lem}

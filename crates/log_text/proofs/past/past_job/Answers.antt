@@ -1,9 +1,7 @@
 -- `past::past_job` meets its contract: the first n of the first openings and prices are the first n.
 use mathlib.Core.Path.{refl}
-use mathlib.Core.List.{map}
 use native.Mathlib.Omega.{arith}
 use lib.ListN.{take}
-use Rattle.jobs.specs.Views.{job_of}
 use Rattle.log_text.proofs.Counts.{openings_to, parts_to}
 use Rattle.log_text.proofs.past.past_job.Goals as goal
 

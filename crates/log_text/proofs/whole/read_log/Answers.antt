@@ -1,6 +1,5 @@
 -- `whole::read_log`: a text over the limit is refused; else its lines decide, and what stands behind them.
 use mathlib.Core.Path.{ap, ◌∙◌}
-use borrow.Author.Rules.{rules}
 use Rattle.lines.specs.Cursor.{judged}
 use Rattle.lines.specs.declared.rows.WholeText.{WholeText}
 use Rattle.lines.proofs.Parsing.{close_read, text_long, text_fits}

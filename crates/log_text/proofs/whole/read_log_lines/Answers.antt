@@ -1,13 +1,10 @@
 -- `whole::read_log_lines` meets its contract: the line `step`, and then the plan lines against the job with the openings that are past.
 use Prim.Native.Nat.{ℕ, ◌-◌}
 use mathlib.Core.Path.{◌≡◌, refl, ap, ap₂, sym, ◌∙◌, subst}
-use mathlib.Core.List.{List}
-use native.Mathlib.Omega.{arith}
-use borrow.Author.Rules.{rules}
 use lib.ListN.{drop}
 use Rattle.lines.specs.Text.{bytes}
 use Rattle.lines.specs.Parser.{◌>>=◌, return, row}
-use Rattle.lines.specs.Cursor.{Stands, Reads, row_answer, ended}
+use Rattle.lines.specs.Cursor.{Reads, row_answer, ended}
 use Rattle.lines.proofs.Parsing.{bind_good, bind_fault, row_line, line_inside, line_reads, got_value, got_fault, got_place, map_read, fault_read}
 use Rattle.model.specs.Model as model
 use Rattle.jobs.specs.Views.{job_of, model_plan}
@@ -21,16 +18,17 @@ pub advance-requires : goal.advance-requires
 advance-requires c = (c.requires.0, line_inside _ c.args.p (row_line _ 1 (c.args.job.horizon - 2) _ c.read_field-field.ensures) c.requires.0)
 
 -- the line `step`, read in the whole text
-step_line : (c : After-advance) → let a = c.args in Reads a.text.now (row_answer c.advance.result) (row "step=" 1 (a.job.horizon - 2) (drop a.p.at a.text.now) a.p.line)
+step_line : (c : After-advance) → Reads c.args.text.now (row_answer c.advance.result) (row "step=" 1 (c.args.job.horizon - 2) (drop c.args.p.at c.args.text.now) c.args.p.line)
 unfolding bytes
-step_line c = let a = c.args in line_reads _ a.p (row_line _ 1 (a.job.horizon - 2) _ c.read_field-field.ensures) c.advance.ensures
+step_line c = line_reads _ c.args.p (row_line _ 1 (c.args.job.horizon - 2) _ c.read_field-field.ensures) c.advance.ensures
 
 pub read_plan_lines-read-requires : goal.read_plan_lines-read-requires
 read_plan_lines-read-requires c = (got_place (step_line (goal.at.read_plan_lines-read-requires c).After-advance) (ap row_answer c.in-Value.is), c.past_job-past.ensures.1)
 
 pub returns-in-Value : goal.returns-in-Value
 unfolding log_lines
-returns-in-Value c = let a = c.args in
+returns-in-Value c =
+    let a = c.args in
     let job = job_of a.job in
     let step = c.in-Value.step in
     let q = c.in-Value.q in
