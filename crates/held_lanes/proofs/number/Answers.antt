@@ -1,7 +1,6 @@
 -- `number` is a number of a list.
 use mathlib.Core.Path.{refl}
 use native.Mathlib.Omega.{arith}
-use borrow.Author.Rules.{rules}
 use Rattle.held_lanes.proofs.number.Goals as goal
 
 pub overflow_cast-result : goal.overflow_cast-result

@@ -1,12 +1,8 @@
 use Prim.Native.Nat.{ℕ, ◌-◌, ◌≤◌}
-use mathlib.Core.Path.{ap, ◌∙◌}
 use mathlib.Core.Bool.{cond}
-use native.Mathlib.Omega.{arith}
-use borrow.Author.Rules.{rules}
 use lib.Dec.{eqb}
 use lib.ListN.{get_or}
 use Rattle.least.specs.Filled.{FilledBy}
-use Rattle.least.proofs.Filled.{filled_none, filled_more}
 use Rattle.held_lanes.proofs.pick_row.Given as goal
 
 abbrev pub invariant-loop-p : goal.invariant-loop-p

@@ -1,10 +1,8 @@
 -- `put_four` writes four numbers. The invariant: the first are written.
-use Prim.Native.Nat.{ℕ, ◌+◌, ◌-◌, ◌≤◌}
+use Prim.Native.Nat.{◌+◌}
 use mathlib.Core.Path.{refl}
 use native.Mathlib.Omega.{arith}
-use borrow.Author.Rules.{rules}
 use lib.ListN.{get_or}
-use Rattle.least.specs.Filled.{FilledBy}
 use Rattle.least.proofs.Filled.{filled_none, filled_more}
 use Rattle.held_lanes.proofs.put_four.Goals as goal
 

@@ -1,8 +1,7 @@
 -- `removal_term` is the larger of g and of the terms of the classes on the list. The invariant: of the first on the list it is.
-use Prim.Native.Nat.{ℕ, ◌+◌, ◌-◌, ◌*◌, ◌≤◌, max}
+use Prim.Native.Nat.{ℕ, ◌+◌, ◌*◌, max}
 use mathlib.Core.Path.{◌≡◌, ap, ap₂, ◌∙◌}
 use native.Mathlib.Omega.{arith}
-use borrow.Author.Rules.{rules}
 use lib.ListN.{get_or}
 use Rattle.lane_rows.specs.Layout.{lane_count_lem, triangle}
 use Rattle.lane_rows.proofs.Rising.{row_inside}

@@ -2,7 +2,6 @@
 use Prim.Native.Nat.{ℕ}
 use mathlib.Core.Path.{◌≡◌, sym, subst}
 use native.Mathlib.Omega.{arith}
-use borrow.Author.Rules.{rules}
 use Rattle.lane_rows.specs.Layout.{lanes_in}
 use Rattle.lane_rows.specs.Rows.{sum_lanes}
 use Rattle.held_lanes.specs.Tables.{ShutAsks, shut_lane}

@@ -1,14 +1,7 @@
-use Prim.Native.Nat.{ℕ, ◌+◌, ◌-◌, ◌*◌, ◌%◌, ◌≤◌}
-use mathlib.Core.Path.{◌≡◌, sym, ap, subst, ◌∙◌}
-use mathlib.Core.Bool.{Bool, cond}
-use native.Mathlib.Omega.{arith}
-use borrow.Author.Rules.{rules}
-use lib.ListN.{get_or}
+use Prim.Native.Nat.{ℕ, ◌+◌, ◌-◌, ◌*◌, ◌≤◌}
+use mathlib.Core.Path.{◌≡◌}
 use Rattle.least.specs.Filled.{FilledBy}
-use Rattle.least.proofs.Filled.{filled_none}
-use Rattle.lane_rows.specs.Layout.{inf}
-use Rattle.held_lanes.specs.Places.{bit_at, mask_of, mask_base}
-use Rattle.held_lanes.proofs.Sets.{bit_four, bit_low, four_more}
+use Rattle.held_lanes.specs.Places.{bit_at, mask_of}
 use Rattle.held_lanes.proofs.spread.Given as goal
 
 abbrev pub invariant-loop-k : goal.invariant-loop-k
