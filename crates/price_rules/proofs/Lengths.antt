@@ -1,5 +1,5 @@
 -- How long the lines of a part's prices are: a rule's at most 40 bytes (`rule_short`), which one of them has (`rule_longest`); all at most 1,600, what 64 pairs take (`prices_short`). By the lengths of the lines.
-use Prim.Native.Nat.{ℕ, ◌+◌, ◌*◌, ◌≤◌}
+use Prim.Native.Nat.{ℕ, ◌*◌, ◌≤◌}
 use mathlib.Core.Path.{◌≡◌, refl}
 use mathlib.Core.List.{List, [], ◌∷◌, ◌++◌}
 use native.Mathlib.Omega.{arith}

@@ -19,7 +19,7 @@ use lines::rows::{Cursor, End, Row, advance};
 use model::OPENINGS;
 
 // A rule in place of a part's prices: opening k, counted from 0, has price base minus k times drop, or least if that is larger.
-#[derive(Drop)]
+#[derive(Clone, Copy)]
 pub struct Rule {
     pub base: u32,
     pub drop: u32,
