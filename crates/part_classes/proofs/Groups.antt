@@ -8,7 +8,6 @@ use native.Mathlib.Decide.{ℕ_discrete}
 use native.Mathlib.Numerals.{add-one}
 use borrow.Author.Count.{below_more}
 use borrow.Author.Tests.{lt-ltb, le-ltb}
-use lib.Dec.{ltb}
 use lib.ListN.{length, get_or, set, drop, replicate, length-set}
 use lib.Seq.{get_or-take, get_or-drop, ext_get_or, get_or-set_same, get_or-set_other}
 use Rattle.lane_rows.specs.Layout.{lane_count_lem}

@@ -10,7 +10,7 @@ ghost use Rattle.part_classes.specs.Grouped.{same_needs_lem, class_at, Grouped};
 use model::PARTS;
 
 // The class of each lane, the first part of each class, and how many classes there are.
-#[derive(Drop)]
+#[derive(Clone, Copy)]
 pub struct Classes {
     pub lanes: [usize; PARTS],
     pub leads: [usize; PARTS],
