@@ -41,7 +41,7 @@ pub fn renumbered(steps: &[u32], n: usize, step: u32) -> [u32; STEPS]
 }
 
 // The steps of a job's openings, and their fees.
-#[derive(Drop)]
+#[derive(Clone, Copy)]
 pub struct OpeningLists {
     pub steps: [u32; OPENINGS],
     pub fees: [u32; OPENINGS],
