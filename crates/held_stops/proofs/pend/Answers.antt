@@ -1,7 +1,6 @@
 -- `pend` leaves a row that is ready, and finds any other.
 use mathlib.Core.Path.{refl, sym, ◌∙◌}
 use native.Mathlib.Omega.{arith}
-use borrow.Author.Rules.{rules}
 use lib.ListN.{length-set}
 use lib.Seq.{get_or-set_same, get_or-set_other}
 use Rattle.held_lanes.specs.Places.{pending_place, ready_place}

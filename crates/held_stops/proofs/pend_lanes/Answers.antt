@@ -2,7 +2,6 @@
 use Prim.Native.Nat.{ℕ}
 use mathlib.Core.Path.{◌∙◌}
 use native.Mathlib.Omega.{arith}
-use borrow.Author.Rules.{rules}
 use lib.ListN.{get_or-replicate}
 use Rattle.lane_rows.specs.Layout.{lane_count_lem, inf}
 use Rattle.held_stops.proofs.pend_lanes.Goals as goal

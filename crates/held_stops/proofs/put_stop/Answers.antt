@@ -1,6 +1,5 @@
 -- `put_stop` writes the row and its mark, and forgets what was known of it.
 use mathlib.Core.Path.{refl}
-use borrow.Author.Rules.{rules}
 use lib.ListN.{set}
 use Rattle.lane_rows.specs.Layout.{mark_place, lanes_in}
 use Rattle.lane_rows.proofs.Putting.{put_mark_lem, put_past}

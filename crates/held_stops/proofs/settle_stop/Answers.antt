@@ -3,7 +3,6 @@ use Prim.Native.Nat.{ℕ, ◌-◌}
 use mathlib.Core.Path.{ap, ◌∙◌}
 use mathlib.Core.Bool.{cond}
 use native.Mathlib.Omega.{arith}
-use borrow.Author.Rules.{rules}
 use lib.ListN.{get_or, length-set}
 use lib.Seq.{get_or-set_same, get_or-set_other}
 use Rattle.lane_rows.specs.Layout.{inf}

@@ -1,6 +1,5 @@
 -- `shut_sum` looks at both levels, and then sums the lanes picked from the memo's two rows.
 use mathlib.Core.Path.{◌≡◌, ◌∙◌}
-use borrow.Author.Rules.{rules}
 use Rattle.lane_rows.specs.Layout.{triangle}
 use Rattle.lane_rows.proofs.Memory.{looks_again}
 use Rattle.held_stops.proofs.Looked.{all_recalled, asks, sums}
