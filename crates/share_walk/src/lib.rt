@@ -24,7 +24,7 @@ use share_rows::{HOLDS, REMOVALS, SHARES, copy_row, ease, put_top, shut};
 pub const NAMES: usize = 1088;
 
 // The state of the walk, passed by value and handed back: the nodes reached, whether one was reached beyond the limit, the cost to be undercut, and how long the name of the incumbent is.
-#[derive(Drop)]
+#[derive(Clone, Copy)]
 pub struct State {
     pub count: u64,
     pub over: bool,
@@ -72,7 +72,7 @@ impl State {
 }
 
 // A node: how many openings are decided; the rows on the stack; how many removals of the last stop are decided, all of them where none is open; how long its name is; and fees and removals so far.
-#[derive(Drop)]
+#[derive(Clone, Copy)]
 pub struct Node {
     pub at: usize,
     pub rows: usize,

@@ -1,0 +1,31 @@
+-- `below` is the node below, at a stop or at an opening.
+use Prim.Native.Nat.{ℕ, ◌+◌, ◌-◌, ◌<◌, ◌≤◌}
+use mathlib.Core.Path.{◌≡◌, refl, sym, ap, subst, ◌∙◌}
+use mathlib.Core.Bool.{Bool, true, false, cond, not, ◌&&◌}
+use mathlib.Core.List.{List}
+use native.Mathlib.Omega.{arith}
+use borrow.Author.Rules.{rules}
+use lib.Dec.{ltb, eqb}
+use lib.ListN.{length, get_or, get_or-replicate}
+use Rattle.model.specs.LowerBound.{inner}
+use Rattle.lane_rows.specs.Layout.{lane_count_lem, inf, fee_place, count_place}
+use Rattle.share_rows.specs.Places.{bear_place, take_place, holds_place, removal_place, eased_of}
+use Rattle.share_walk.proofs.below.Goals as goal
+
+pub below_stop-requires : goal.below_stop-requires
+below_stop-requires c = let e = c.requires.0 in
+    ((e.0, e.1, e.2, e.3, e.4, omega (arith, c.if-p-number.true, c.number.ensures.value, e.4.numbers.shared.holds)), c.requires.1)
+
+pub returns-then-p-number : goal.returns-then-p-number
+returns-then-p-number c = λ job shares lanes s ab m. c.below_stop.ensures job shares lanes s ab (omega (arith, c.if-p-number.true, c.number.ensures.value, ab.numbers.shared.holds))
+
+pub below_opening-requires : goal.below_opening-requires
+below_opening-requires c = let e = c.requires.0 in
+    let o : c.args.p.next ≡ inner e.0 = omega (arith, c.if-p-number.false, c.number.ensures.value, e.4.numbers.shared.holds, e.4.numbers.next) in
+    (e.0, e.1, e.2, e.3, c.args.row.now, e.4, o, e.5 o)
+
+pub returns : goal.returns
+returns c = λ job shares lanes s ab m.
+    let a = c.args in
+    let o : a.p.next ≡ inner job = omega (arith, c.if-p-number.false, c.number.ensures.value, ab.numbers.shared.holds, ab.numbers.next) in
+    c.below_opening.ensures job shares lanes s a.row.now ab o (m o)

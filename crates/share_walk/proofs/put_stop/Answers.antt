@@ -1,0 +1,27 @@
+-- `put_stop` writes the next row with its shares of the fee less.
+use Prim.Native.Nat.{ℕ, ◌+◌, ◌-◌, ◌<◌, ◌≤◌}
+use mathlib.Core.Path.{◌≡◌, refl, sym, ap, subst, ◌∙◌}
+use mathlib.Core.Bool.{Bool, true, false, cond, not, ◌&&◌}
+use mathlib.Core.List.{List}
+use native.Mathlib.Omega.{arith}
+use borrow.Author.Rules.{rules}
+use lib.Dec.{ltb, eqb}
+use lib.ListN.{length, get_or, get_or-replicate}
+use Rattle.lane_rows.specs.Layout.{lane_count_lem, inf, fee_place, count_place}
+use Rattle.share_rows.specs.Places.{bear_place, take_place, holds_place, removal_place, eased_of}
+use Rattle.share_walk.proofs.put_stop.Goals as goal
+
+pub next_lanes-requires : goal.next_lanes-requires
+next_lanes-requires c = (c.requires.0, omega arith, λ q l. get_or-replicate {A = ℕ} lane_count_lem q inf 0 l)
+
+pub returns : goal.returns
+returns c = let pu = c.put_eased.ensures in
+    let nl = c.next_lanes.ensures in
+    let a = c.args in record {
+      put = record {
+        kept = pu.put.kept;
+        row = λ q l. pu.put.row q l ∙ ap (λ (v : ℕ). eased_of v (get_or a.x.now (bear_place 0 a.at q) 0)) (nl.lanes q l);
+        mark = pu.put.mark;
+      };
+      memo = pu.memo;
+    }
