@@ -21,7 +21,7 @@ use price_rules::{Rule, read_rule, rule_prices};
 use quotes::read_quotes;
 
 // What a part's lines say, besides the part that they mean: whether its lines of removal stand; whether its prices stand by a rule, and by which; and which of them are pairs, with the low ends of these.
-#[derive(Drop)]
+#[derive(Clone, Copy)]
 pub struct PartSaid {
     pub covered: bool,
     pub ruled: bool,
