@@ -1,0 +1,88 @@
+-- `rise`: the invariant says that no plan costs less than the last cutoff that was passed.
+use Prim.Native.Nat.{ℕ, ◌*◌, ◌-◌, ◌<◌, ◌≤◌}
+use mathlib.Core.Path.{◌≡◌, sym, ap, subst, ◌∙◌}
+use mathlib.Core.Bool.{Bool, true≢false}
+use mathlib.Core.List.{List}
+use native.Mathlib.Omega.{arith}
+use borrow.Author.Rules.{rules}
+use lib.ListN.{length, take}
+use Rattle.model.specs.Model.{Job}
+use Rattle.model.specs.Decisions.{Held}
+use Rattle.model.specs.LowerBound.{plan_at}
+use Rattle.model.specs.Promise.{BestPlan, Any}
+use Rattle.shares.specs.Shares.{Shares, FairShares}
+use Rattle.shares.specs.Certificate.{NoneUnder}
+use Rattle.lane_rows.specs.Layout.{inf, stack_size}
+use Rattle.share_walk.specs.State.{name_size, Solvable}
+use Rattle.share_walk.proofs.Worth.{found_best, nothing_less, cut_longer}
+use Rattle.cutoffs.proofs.Names.{take_min}
+use Rattle.cutoffs.proofs.rise.Goals as goal
+
+pub loop-low-init : goal.loop-low-init
+loop-low-init c = let f = c.first_cutoff-k.ensures in
+    (f.0, c.next_gap-gap.ensures, f.1, c.requires.2, c.requires.3, c.requires.4, λ job shares lanes so fair none. none)
+
+pub solve-s-requires : goal.solve-s-requires
+solve-s-requires c = let l = c.loop-low.invariant in
+    (c.requires.0, l.0, c.requires.1, l.3, l.4, l.5)
+
+pub returns-then-s : goal.returns-then-s
+returns-then-s c = let l = c.loop-low in
+    let v = c.solve-s in record {
+      right = λ job shares lanes so fair none. record {
+        plan_found_lem = λ e. absurd (true≢false (sym e));
+        longer = λ e. (l.k, cut_longer job shares fair l.k c.args.limit v.new.best v.result (v.ensures.search job shares lanes so) c.if-s.true);
+        none_under = l.invariant.6 job shares lanes so fair none;
+        passed = λ e f. absurd (true≢false f);
+      };
+      short = omega arith;
+      room = v.ensures.found;
+    }
+
+pub returns-then-s-k : goal.returns-then-s-k
+returns-then-s-k c = let l = c.loop-low in
+    let v = c.solve-s in
+    let n = c.name_length.ensures in
+    let b = v.new.best in record {
+      right = λ job shares lanes so fair none. record {
+        plan_found_lem = λ e.
+            subst (λ (p : List Bool). BestPlan job Any v.result.cost (plan_at job p)) (sym (ap (λ (i : ℕ). take i b) n ∙ take_min v.result.size name_size b v.ensures.found))
+            (found_best job shares fair l.k c.args.limit b v.result (v.ensures.search job shares lanes so) c.if-s.false c.if-s-k.true);
+        longer = λ e. absurd (true≢false (sym e));
+        none_under = l.invariant.6 job shares lanes so fair none;
+        passed = λ e f. absurd (true≢false e);
+      };
+      short = omega (arith, n);
+      room = v.ensures.found;
+    }
+
+pub loop-low-smaller : goal.loop-low-smaller
+loop-low-smaller c = let l = c.loop-low in
+    let t = c.loop-low-test.true in
+    omega (arith, t, l.invariant.0, l.invariant.2 t)
+
+pub loop-low-preserved : goal.loop-low-preserved
+loop-low-preserved c = let l = c.loop-low in
+    let v = c.solve-s in
+    let k = c.next_cutoff-k.ensures in (
+      k.0,
+      c.next_gap-gap-in-loop-low.ensures,
+      k.1,
+      v.ensures.stack,
+      v.ensures.names,
+      v.ensures.found,
+      λ job shares lanes so fair none.
+          nothing_less job shares fair l.k c.args.limit v.new.best v.result (v.ensures.search job shares lanes so) c.if-s.false (omega (arith, c.if-s-k.false)),
+    )
+
+pub returns : goal.returns
+returns c = let l = c.loop-low in record {
+  right = λ job shares lanes so fair none. record {
+    plan_found_lem = λ e. absurd (true≢false (sym e));
+    longer = λ e. absurd (true≢false (sym e));
+    none_under = l.invariant.6 job shares lanes so fair none;
+    passed = λ e f. omega (arith, c.loop-low-test.false);
+  };
+  short = omega arith;
+  room = l.invariant.5;
+}

@@ -1,0 +1,26 @@
+use Prim.Native.Nat.{ℕ, ◌*◌, ◌-◌, ◌<◌, ◌≤◌}
+use mathlib.Core.Path.{◌≡◌, sym, ap, subst, ◌∙◌}
+use mathlib.Core.Bool.{Bool, true≢false}
+use mathlib.Core.List.{List}
+use native.Mathlib.Omega.{arith}
+use borrow.Author.Rules.{rules}
+use lib.ListN.{length, take}
+use Rattle.model.specs.Model.{Job}
+use Rattle.model.specs.Decisions.{Held}
+use Rattle.model.specs.LowerBound.{plan_at}
+use Rattle.model.specs.Promise.{BestPlan, Any}
+use Rattle.shares.specs.Shares.{Shares, FairShares}
+use Rattle.shares.specs.Certificate.{NoneUnder}
+use Rattle.lane_rows.specs.Layout.{inf, stack_size}
+use Rattle.share_walk.specs.State.{name_size, Solvable}
+use Rattle.share_walk.proofs.Worth.{found_best, nothing_less, cut_longer}
+use Rattle.cutoffs.proofs.Names.{take_min}
+use Rattle.cutoffs.proofs.rise.Given as goal
+
+abbrev pub invariant-loop-low : goal.invariant-loop-low
+invariant-loop-low l =
+    (l.k ≤ inf) × (l.gap ≤ inf * 2) × (l.low < inf → l.low < l.k) × (length l.w ≡ stack_size) × (length l.name ≡ name_size) × (length l.best ≡ name_size)
+    × ((job : Job) (shares : Shares) (lanes : List Held) → Solvable job shares lanes l.t l.x → FairShares job shares → NoneUnder job l.floor → NoneUnder job l.low)
+
+abbrev pub decreases-loop-low : goal.decreases-loop-low
+decreases-loop-low l = inf - l.low
