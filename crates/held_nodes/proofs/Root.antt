@@ -13,7 +13,6 @@ use Rattle.branch.specs.Search.{none, limited}
 use Rattle.branch.specs.Questions.{left_at}
 use Rattle.branch.proofs.Steps.{left_bound}
 use Rattle.model.specs.Model.{sum_at}
-use Rattle.model.specs.LowerBound.{blocks}
 use Rattle.model.specs.Decisions.{concat}
 use Rattle.model.specs.LastYes.{last_yes}
 use Rattle.least.specs.Filled.{FilledBy}

@@ -16,7 +16,7 @@ use Rattle.model.specs.Decisions.{concat}
 use Rattle.model.proofs.Blocks.{Wholes}
 use Rattle.lane_rows.specs.Layout.{lane_count_lem, top, inf, lanes_in}
 use Rattle.lane_rows.specs.Tables.{Coded, sum_where}
-use Rattle.lane_rows.specs.Rows.{lane, sum_lanes}
+use Rattle.lane_rows.specs.Rows.{sum_lanes}
 use Rattle.held_rows.specs.Held.{HeldSheet, no_lane, needs_of_lem, held, paid_in, held_sums, held_term, held_bound}
 use Rattle.held_rows.proofs.Seen.{paid_removal, accessible_removed}
 use Rattle.held_rows.proofs.Sums.{sums_removed, term_removed}

@@ -19,7 +19,7 @@ use walk::Search;
 
 // A node: how many openings are decided; the rows on the stack; how many removals of the last stop are decided, all of them where none is open; whether that stop is not settled yet; the lanes that it is
 // shut to and its removals, the latest in the lowest bit; fees and removals so far; and the stops, the latest in the lowest bit.
-#[derive(Drop)]
+#[derive(Clone, Copy)]
 pub struct Node {
     pub at: usize,
     pub rows: usize,
