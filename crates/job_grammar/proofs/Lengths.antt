@@ -11,7 +11,7 @@ use Rattle.lines.proofs.Writing.{line_short, joined_grows}
 use Rattle.lines.proofs.Texts.{rising_room}
 use Rattle.model.specs.Model.{Opening}
 use Rattle.model.specs.Windows.{Rising}
-use Rattle.jobs.specs.Valid.{All, ValidOpening}
+use Rattle.jobs.specs.Valid.{ValidOpening}
 use Rattle.covers.proofs.Lengths.{holder_line, all_holders}
 use Rattle.part_lines.specs.Grammar.{PartText, meant_part, following}
 use Rattle.part_lines.specs.Rendering.{part_text}

@@ -3,7 +3,7 @@ use Prim.Native.Nat.{ℕ, ◌+◌, ◌≤◌, ◌<◌}
 use mathlib.Core.Path.{◌≡◌, refl, ap, ap₂, ◌∙◌}
 use mathlib.Core.List.{List}
 use native.Mathlib.Omega.{arith}
-use mathlib.Core.Logic.{◌⊎◌, inl, inr}
+use mathlib.Core.Logic.{inl, inr}
 use Rattle.lines.specs.Parser.{row_at, checked, rising, Outcome, accepted, refused}
 use Rattle.lines.specs.Text.{Optional}
 use Rattle.lines.proofs.Outcomes.{one_fault, not_both}
