@@ -9,7 +9,6 @@ use Rattle.search_tables.specs.Arrays.{sheet_of}
 use Rattle.search_tables.specs.Fill.{Lanes, Terms}
 use Rattle.search_tables.proofs.Filling.{tables_filled, ready_back}
 use Rattle.search_tables.proofs.tables.fill.Goals as goal
-use Rattle.search_tables.proofs.tables.fill.Goals.{After-slice_known-7-1}
 
 pub fill_lanes-requires : goal.fill_lanes-requires
 fill_lanes-requires c = let a = c.args in
