@@ -127,6 +127,11 @@ fn read_rest(text: &[u8], p: Cursor, horizon: u32, steps: Idles) -> JobLines
     match line_end {
         End::At(q) => {
             let at = q.at;
+            let line = WalkRead {
+                end: End::At(Cursor { at, line: q.line }),
+                there: line.there,
+                walk: line.walk,
+            };
             let field = read_field(&text[at..], b"openings=", 0, Job::MAX_OPENINGS);
             match advance(text, q, field) {
                 Row::Value(n, r) => read_body(text, r, horizon, steps, line, n as usize),
@@ -149,7 +154,18 @@ pub fn read_job_lines(text: &[u8], p: Cursor) -> JobLines
             let steps = read_idles(text, q, horizon);
             let steps_end = steps.end;
             match steps_end {
-                End::At(r) => read_rest(text, r, horizon, steps),
+                End::At(r) => {
+                    let idles = steps.idles;
+                    let steps = Idles {
+                        end: End::At(Cursor {
+                            at: r.at,
+                            line: r.line,
+                        }),
+                        count: steps.count,
+                        idles,
+                    };
+                    read_rest(text, r, horizon, steps)
+                }
                 End::Fault { number: k, line: l } => no_job(k, l),
             }
         }
