@@ -1,0 +1,14 @@
+-- `is_banded`: the job has as many parts and prices as it says.
+use Prim.Native.Nat.{ℕ, ◌<◌}
+use mathlib.Core.Path.{◌≡◌, ap, ◌∙◌}
+use borrow.Author.Rules.{rules}
+use Rattle.jobs.proofs.Jobs.{parts_long}
+use Rattle.low_ends.proofs.Sizes.{prices_long}
+use Rattle.low_ends.proofs.is_banded.Goals as goal
+
+pub one_banded-requires : goal.one_banded-requires
+one_banded-requires c = (c.requires.sized.parts, c.requires.sized.openings)
+
+pub returns : goal.returns
+returns c = let j = c.args.job in
+    c.one_banded.ensures j.parts (record { size = parts_long j c.requires.sized c.well_formed.1.0; prices = prices_long j c.requires c.well_formed.1.0 })
