@@ -27,7 +27,7 @@ pub const CAP: u64 = 4000000000;
 // What the call hands over: the result number; which text is at fault (1 the job, else 0) and its line (else 0); the count;
 // and where the line at fault stands in its text.
 #[repr(C)]
-#[derive(Drop)]
+#[derive(Clone, Copy)]
 pub struct Counted {
     pub result: u32,
     pub text: u32,
@@ -38,7 +38,7 @@ pub struct Counted {
 }
 
 // The least life of a job's parts, and the least first life.
-#[derive(Drop)]
+#[derive(Clone, Copy)]
 struct Least {
     life: u32,
     left: u32,
