@@ -19,7 +19,7 @@ use model::PARTS;
 use part_lines::PartSaid;
 
 // What a job text says: whether a walk line stands and its number, what its parts' lines say, and the job that it means.
-#[derive(Drop)]
+#[derive(Clone, Copy)]
 pub struct JobText {
     pub walk_there: bool,
     pub walk: u32,
