@@ -14,7 +14,7 @@ use plan_costs::costs::cost_of;
 use plan_lives::lives::{Verdict, verdict_of};
 
 // What the judge says of a plan: its true cost, the lowest part that is not kept with its due step, or the true cost where another is stated.
-#[derive(Drop)]
+#[derive(Clone, Copy)]
 pub enum Judgement {
     Accepts(u64),
     Unkept { part: u32, due: u32 },
