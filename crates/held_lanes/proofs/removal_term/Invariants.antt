@@ -6,7 +6,7 @@ use Rattle.held_lanes.specs.Tables.{term_of}
 use Rattle.held_lanes.proofs.removal_term.Given as goal
 
 abbrev pub invariant-loop-i : goal.invariant-loop-i
-invariant-loop-i l = (l.i ≤ l.n) × (l.h ≡ max l.g (most_to (λ (i' : ℕ). term_of l.u l.v l.j l.r (get_or l.u (need_class_place l.b i') 0)) l.i))
+invariant-loop-i l = (l.i ≤ l.n) × (l.h ≡ max l.g (most_to (λ (k : ℕ). term_of l.u l.v l.j l.r (get_or l.u (need_class_place l.b k) 0)) l.i))
 
 abbrev pub decreases-loop-i : goal.decreases-loop-i
 decreases-loop-i l = l.n - l.i
