@@ -1,5 +1,5 @@
 -- `best_mark` is none past j.
-use Rattle.std.proofs.Common.{◌≡◌, ◌+◌, ◌-◌, ◌≤◌, arith, rules}
+use Rattle.std.proofs.Common.{arith}
 use Rattle.ascent_lanes.proofs.best_mark.Goals as goal
 
 pub loop-i-init : goal.loop-i-init

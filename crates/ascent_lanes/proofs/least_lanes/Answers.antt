@@ -1,5 +1,5 @@
 -- `least_lanes` goes through the marks.
-use Rattle.std.proofs.Common.{◌≡◌, ◌+◌, ◌-◌, ◌≤◌, arith, rules}
+use Rattle.std.proofs.Common.{arith}
 use Rattle.ascent_lanes.proofs.least_lanes.Goals as goal
 
 pub loop-i-init : goal.loop-i-init

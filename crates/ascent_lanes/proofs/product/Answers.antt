@@ -1,5 +1,5 @@
 -- `product`: two numbers of 32 bits have a product of 64.
-use Rattle.std.proofs.Common.{mul-le-mul, arith, rules}
+use Rattle.std.proofs.Common.{mul-le-mul, arith}
 use Rattle.ascent_lanes.proofs.product.Goals as goal
 
 pub overflow_mul-result : goal.overflow_mul-result

@@ -1,5 +1,5 @@
 -- `put_borne` goes through the rows of shares.
-use Rattle.std.proofs.Common.{◌≡◌, ◌-◌, ◌*◌, ◌≤◌, arith, rules}
+use Rattle.std.proofs.Common.{arith}
 use Rattle.ascent_lanes.proofs.put_borne.Goals as goal
 
 pub loop-r-init : goal.loop-r-init

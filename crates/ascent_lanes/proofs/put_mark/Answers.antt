@@ -1,5 +1,5 @@
 -- `put_mark` writes a row.
-use Rattle.std.proofs.Common.{◌≡◌, ◌-◌, ◌*◌, ◌≤◌, arith, rules}
+use Rattle.std.proofs.Common.{arith}
 use Rattle.ascent_lanes.proofs.put_mark.Goals as goal
 
 pub loop-q-init : goal.loop-q-init

@@ -1,6 +1,5 @@
 -- `value`: a sum of lanes below the number for Missing.
-use Rattle.std.proofs.Common.{◌-◌, ◌*◌, ◌≤◌, arith, rules}
-use Rattle.lane_rows.specs.Layout.{inf}
+use Rattle.std.proofs.Common.{arith}
 use Rattle.ascent_lanes.proofs.value.Goals as goal
 
 pub loop-q-init : goal.loop-q-init

@@ -1,4 +1,4 @@
-use Rattle.std.proofs.Common.{◌-◌, ◌*◌, ◌≤◌, arith, rules}
+use Rattle.std.proofs.Common.{◌-◌, ◌*◌, ◌≤◌}
 use Rattle.lane_rows.specs.Layout.{inf}
 use Rattle.ascent_lanes.proofs.value.Given as goal
 
