@@ -15,27 +15,26 @@ use Rattle.branch.specs.declared.Bound.{Bound}
 use Rattle.branch.specs.declared.Bound.TheVariants.{Missing, Sum}
 use Rattle.branch.specs.Lower.{add}
 use Rattle.branch.proofs.Bounds.{no_sum_lem}
-use Rattle.branch.specs.Search.{Incumbent, plan, below, snoc}
-use Rattle.model.specs.Limits.{most_openings}
+use Rattle.branch.specs.Search.{plan, below, snoc}
 use Rattle.model.specs.Model.{Job, Opening, clock, within, positions, end, last_change_lem}
 use Rattle.model.specs.Decisions.{Held, held_parts, accessible, allows, places_in}
 use Rattle.model.specs.LowerBound.{Offer, plus, least_of_lem, offers}
 use Rattle.model.proofs.Blocks.{accessible_none}
-use Rattle.shares.specs.Shares.{Shares, things, takes, bears, owes, charged_for, shared_part, shared_parts, estimate}
+use Rattle.shares.specs.Shares.{Shares, things, takes, bears, charged_for, shared_part, shared_parts, estimate}
 use Rattle.shares.proofs.Owed.{owes_no, owes_yes}
 use Rattle.least.specs.Marks.{mark_of}
-use Rattle.lane_rows.specs.Layout.{lane_count_lem, dear, inf, suffix_base, reach_base, place, row_place, price_place, mark_place, mark_base, lanes_in}
+use Rattle.lane_rows.specs.Layout.{lane_count_lem, dear, inf, suffix_base, reach_base, place, row_place, price_place, mark_place, mark_base}
 use Rattle.lane_rows.specs.Sheet.{Column, Mark, column_bound, reach, front_with, front_from, front, solid}
 use Rattle.lane_rows.specs.Tables.{value_of}
 use Rattle.lane_rows.specs.Rows.{lane, sum_from, sum_lanes, marks_in, Level, Kept, Put, Stack, Looks, Memo, Owing, FirstRow, next_row}
 use Rattle.lane_rows.proofs.Front.{over, offer_is, front_snoc, decided_nil, column_front}
 use Rattle.lane_rows.proofs.Solid.{reach_same, over_same, joined_solid}
-use Rattle.lane_rows.proofs.Lanes.{value_some, value_none, value_plus, value_sum, value_missing, coded_most, lane_most, lane_over, lane-reach, marks_kept, marks_suc, level_more, ≠_lt}
+use Rattle.lane_rows.proofs.Lanes.{value_some, value_none, value_plus, value_sum, coded_most, lane_most, lane_over, lane-reach, marks_kept, marks_suc, level_more, ≠_lt}
 use Rattle.held_rows.proofs.Seen.{seen_no, seen_stop, accessible_removed, accessible_stays}
 use Rattle.share_rows.specs.Places.{eased_of}
 use Rattle.share_rows.specs.Tables.{no_held, lane_at, column_of, sheet_for, Lanes, SharedTables}
 use Rattle.share_rows.specs.Stacked.{Stacked, pays, stop_bound, TopRow}
-use Rattle.share_rows.proofs.Prices.{get_d_last, price_at, price_same, rest_same, front_same}
+use Rattle.share_rows.proofs.Prices.{get_d_last, price_at, rest_same, front_same}
 
 -- ---- a lane's number with a share less
 

@@ -11,17 +11,17 @@ use lib.IntN.{ℤ}
 use borrow.Author.Tests.{eqb-true, eqb-false}
 use Rattle.branch.specs.declared.Bound.TheVariants.{Sum}
 use Rattle.branch.specs.Search.{snoc}
-use Rattle.model.specs.Model.{Job, positions, sum, sum_at, table}
+use Rattle.model.specs.Model.{Job, positions, sum_at, table}
 use Rattle.model.specs.Decisions.{Held}
 use Rattle.model.specs.LowerBound.{Offer, offers}
 use Rattle.model.proofs.Bools.{after_one}
 use Rattle.model.proofs.Lists.{table_at}
 use Rattle.model.proofs.Sums.{sum_same, sum_both, sum_one}
 use Rattle.model.proofs.Fees.{sum_snoc}
-use Rattle.shares.specs.Shares.{Shares, things, worth, charged_for, owes, shared_prices}
-use Rattle.shares.proofs.Gap.{SameAt, drop-offers}
+use Rattle.shares.specs.Shares.{Shares, things, worth, charged_for, shared_prices}
+use Rattle.shares.proofs.Gap.{drop-offers}
 use Rattle.shares.proofs.Exchange.{worth-length}
-use Rattle.lane_rows.specs.Sheet.{Column, Mark, front_from, decided_offers, front}
+use Rattle.lane_rows.specs.Sheet.{front_from, decided_offers, front}
 use Rattle.share_rows.specs.Tables.{column_of}
 use Rattle.share_rows.specs.Stacked.{pays}
 

@@ -1,11 +1,7 @@
 -- `copy_row` is each lane of a row. The invariant: the first lanes are done.
-use Prim.Native.Nat.{ℕ, ◌+◌, ◌-◌, ◌≤◌}
 use mathlib.Core.Path.{refl}
 use native.Mathlib.Omega.{arith}
-use lib.ListN.{get_or}
-use Rattle.least.specs.Filled.{FilledBy}
 use Rattle.least.proofs.Filled.{filled_none, filled_more}
-use borrow.Author.Rules.{rules}
 use Rattle.share_rows.proofs.copy_row.Goals as goal
 
 pub loop-q-init : goal.loop-q-init

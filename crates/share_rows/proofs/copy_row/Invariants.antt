@@ -1,10 +1,6 @@
 use Prim.Native.Nat.{ℕ, ◌+◌, ◌-◌, ◌≤◌}
-use mathlib.Core.Path.{refl}
-use native.Mathlib.Omega.{arith}
 use lib.ListN.{get_or}
 use Rattle.least.specs.Filled.{FilledBy}
-use Rattle.least.proofs.Filled.{filled_none, filled_more}
-use borrow.Author.Rules.{rules}
 use Rattle.share_rows.proofs.copy_row.Given as goal
 
 abbrev pub invariant-loop-q : goal.invariant-loop-q

@@ -1,10 +1,7 @@
 use Prim.Native.Nat.{ℕ, ◌+◌, ◌-◌, ◌*◌, ◌≤◌}
-use mathlib.Core.Path.{◌≡◌, ap, ap₂, ◌∙◌}
-use native.Mathlib.Omega.{arith}
+use mathlib.Core.Path.{◌≡◌}
 use lib.ListN.{get_or}
 use Rattle.least.specs.Filled.{FilledBy}
-use Rattle.least.proofs.Filled.{filled_none, filled_more}
-use borrow.Author.Rules.{rules}
 use Rattle.share_rows.specs.Places.{bear_place, eased_of}
 use Rattle.share_rows.proofs.ease.Given as goal
 

@@ -1,10 +1,9 @@
 -- `eased` is a share less, where there is a price: by the cases.
-use Prim.Native.Nat.{ℕ, ◌-◌}
+use Prim.Native.Nat.{◌-◌}
 use mathlib.Core.Path.{◌≡◌, sym, ap, ◌∙◌}
 use mathlib.Core.Bool.{Bool, cond}
 use native.Mathlib.Omega.{arith}
 use borrow.Author.Tests.{lt-ltb, le-ltb}
-use borrow.Author.Rules.{rules}
 use Rattle.lane_rows.specs.Layout.{inf}
 use Rattle.share_rows.proofs.eased.Goals as goal
 

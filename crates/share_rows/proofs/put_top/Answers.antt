@@ -1,11 +1,9 @@
 -- `put_top` writes the row and its mark, and forgets what was known of it.
-use Prim.Native.Nat.{ℕ, ◌+◌}
+use Prim.Native.Nat.{ℕ}
 use mathlib.Core.Path.{refl, ◌∙◌}
-use mathlib.Core.List.{List}
 use native.Mathlib.Omega.{arith}
-use borrow.Author.Rules.{rules}
 use lib.ListN.{set, length-set, get_or}
-use Rattle.lane_rows.specs.Layout.{lane_count_lem, mark_place, lanes_in}
+use Rattle.lane_rows.specs.Layout.{lane_count_lem, mark_place}
 use Rattle.lane_rows.proofs.Putting.{put_mark_lem, put_past}
 use Rattle.lane_rows.proofs.Memory.{put_forgets, memo_put}
 use Rattle.share_rows.proofs.put_top.Goals as goal

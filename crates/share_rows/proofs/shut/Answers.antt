@@ -1,13 +1,11 @@
 -- `shut` shuts the stop to the lanes that take what is not removed. The invariant: the first lanes are done.
-use Prim.Native.Nat.{ℕ, ◌+◌, ◌-◌, ◌*◌, ◌≤◌}
-use mathlib.Core.Path.{◌≡◌, ap, ap₂, ◌∙◌}
+use Prim.Native.Nat.{ℕ, ◌+◌, ◌*◌}
+use mathlib.Core.Path.{◌≡◌, ap₂, ◌∙◌}
 use mathlib.Core.Bool.{cond}
 use native.Mathlib.Omega.{arith}
 use lib.Dec.{eqb}
 use lib.ListN.{get_or}
-use Rattle.least.specs.Filled.{FilledBy}
 use Rattle.least.proofs.Filled.{filled_none, filled_more}
-use borrow.Author.Rules.{rules}
 use Rattle.lane_rows.specs.Layout.{inf}
 use Rattle.share_rows.specs.Places.{take_base, take_place}
 use Rattle.share_rows.proofs.shut.Goals as goal
