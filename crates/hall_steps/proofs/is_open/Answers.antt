@@ -1,6 +1,5 @@
 -- `is_open` compares the line's openings before the step and before the next one.
 use mathlib.Core.Path.{ap₂}
-use borrow.Author.Rules.{rules}
 use lib.Dec.{ltb}
 use Rattle.hall_steps.proofs.is_open.Goals as goal
 

@@ -1,8 +1,7 @@
 -- `next_open` goes on to the first line that is open. The invariant: none before it is.
-use Prim.Native.Nat.{ℕ, suc, ◌+◌, ◌-◌, ◌≤◌}
+use Prim.Native.Nat.{ℕ, suc, ◌+◌, ◌-◌}
 use mathlib.Core.Path.{◌≡◌, refl, sym, ap, ◌∙◌}
 use native.Mathlib.Omega.{arith}
-use borrow.Author.Rules.{rules}
 use Rattle.hall_steps.specs.Steps.{next_open_lem}
 use Rattle.hall_steps.proofs.Asked.{next_none, next_here, next_past}
 use Rattle.hall_steps.proofs.next_open.Goals as goal

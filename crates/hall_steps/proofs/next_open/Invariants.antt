@@ -1,9 +1,6 @@
-use Prim.Native.Nat.{ℕ, suc, ◌+◌, ◌-◌, ◌≤◌}
-use mathlib.Core.Path.{◌≡◌, refl, sym, ap, ◌∙◌}
-use native.Mathlib.Omega.{arith}
-use borrow.Author.Rules.{rules}
+use Prim.Native.Nat.{◌-◌, ◌≤◌}
+use mathlib.Core.Path.{◌≡◌}
 use Rattle.hall_steps.specs.Steps.{next_open_lem}
-use Rattle.hall_steps.proofs.Asked.{next_none, next_here, next_past}
 use Rattle.hall_steps.proofs.next_open.Given as goal
 
 abbrev pub invariant-loop-d : goal.invariant-loop-d
