@@ -11,7 +11,6 @@ use lib.ListN.{length, get_or, set, replicate, length-set}
 use lib.Seq.{get_or-set_same, get_or-set_other}
 use Rattle.least.specs.Filled.{FilledBy}
 use Rattle.lane_rows.specs.Layout.{lane_count_lem, dear}
-use Rattle.lane_rows.specs.Rows.{sum_lanes}
 use Rattle.lane_rows.proofs.Lanes.{sum_same}
 use Rattle.share_rows.specs.Places.{take_base, take_place, removal_place, holds_place, share_size}
 use Rattle.fair_shares.specs.Checked.{row_start, room_of_lem, price_in, offer, cost_in_lem, keep, kept, Kept, taken, Marked}

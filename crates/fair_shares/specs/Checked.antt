@@ -1,8 +1,5 @@
 -- A table of shares that comes from outside, and what is kept of it: no share for a lane that does not take the thing, none above the lane's room, and nothing at all of a row that exceeds its fee or removal.
-use Rattle.std.specs.Prelude.{ℕ, ◌+◌, ◌-◌, ◌*◌, ◌/◌, ◌%◌, ◌<◌, ◌≤◌, min, ◌≡◌, Bool, false, cond, List, [], eqb, ltb, leb, length, get_or}
-use Rattle.model.specs.Limits.{most_openings, most_parts, longest_life}
-use Rattle.model.specs.Model.{Job, sum, table}
-use Rattle.model.specs.Decisions.{Held, held_parts}
+use Rattle.std.specs.Prelude.{ℕ, ◌+◌, ◌-◌, ◌*◌, ◌/◌, ◌%◌, ◌<◌, ◌≤◌, min, ◌≡◌, Bool, false, cond, List, eqb, ltb, leb, length, get_or}
 use Rattle.shares.specs.Shares.{Shares}
 use Rattle.lane_rows.specs.Layout.{lane_count_lem, dear}
 use Rattle.lane_rows.specs.Rows.{sum_lanes}

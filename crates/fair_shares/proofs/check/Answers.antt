@@ -1,8 +1,7 @@
 -- `check` goes through the rows. The invariant: the first rows are what is kept.
-use Prim.Native.Nat.{ℕ, ◌+◌, ◌-◌, ◌*◌, ◌/◌, ◌≤◌}
+use Prim.Native.Nat.{ℕ, ◌*◌}
 use mathlib.Core.Path.{◌≡◌, subst, ◌∙◌}
 use native.Mathlib.Omega.{arith}
-use borrow.Author.Rules.{rules}
 use Rattle.fair_shares.specs.Checked.{Kept}
 use Rattle.fair_shares.proofs.Rows.{kept_none, kept_more}
 use Rattle.fair_shares.proofs.check.Goals as goal

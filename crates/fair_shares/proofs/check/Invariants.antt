@@ -1,9 +1,5 @@
-use Prim.Native.Nat.{ℕ, ◌+◌, ◌-◌, ◌*◌, ◌/◌, ◌≤◌}
-use mathlib.Core.Path.{◌≡◌, subst, ◌∙◌}
-use native.Mathlib.Omega.{arith}
-use borrow.Author.Rules.{rules}
+use Prim.Native.Nat.{◌-◌, ◌*◌, ◌≤◌}
 use Rattle.fair_shares.specs.Checked.{Kept}
-use Rattle.fair_shares.proofs.Rows.{kept_none, kept_more}
 use Rattle.fair_shares.proofs.check.Given as goal
 
 abbrev pub invariant-loop-r : goal.invariant-loop-r

@@ -1,9 +1,8 @@
 -- `cost_in`: by the case.
-use Prim.Native.Nat.{ℕ, ◌-◌, ◌/◌}
-use mathlib.Core.Path.{◌≡◌, sym, ap, ◌∙◌}
+use Prim.Native.Nat.{◌-◌, ◌/◌}
+use mathlib.Core.Path.{sym, ap, ◌∙◌}
 use mathlib.Core.Bool.{Bool, cond}
 use native.Mathlib.Omega.{arith}
-use borrow.Author.Rules.{rules}
 use borrow.Author.Tests.{lt-ltb, le-ltb}
 use lib.ListN.{get_or}
 use Rattle.fair_shares.proofs.cost_in.Goals as goal

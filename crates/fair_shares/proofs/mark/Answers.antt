@@ -1,6 +1,5 @@
 -- `mark` writes what belongs to no share.
 use mathlib.Core.Path.{◌∙◌}
-use borrow.Author.Rules.{rules}
 use lib.ListN.{length, length-set}
 use Rattle.share_rows.specs.Places.{holds_place}
 use Rattle.fair_shares.proofs.Rows.{marked_by}

@@ -1,6 +1,5 @@
 -- `number_at`: past the end there is none.
 use mathlib.Core.Path.{sym}
-use borrow.Author.Rules.{rules}
 use lib.ListN.{get_or-eq_default}
 use Rattle.fair_shares.proofs.number_at.Goals as goal
 

@@ -1,15 +1,13 @@
 -- `offer_row` goes through the lanes. The invariant: the first lanes are done.
-use Prim.Native.Nat.{ℕ, ◌+◌, ◌-◌, ◌*◌, ◌/◌, ◌≤◌, min}
-use mathlib.Core.Path.{◌≡◌, ap, ◌∙◌}
+use Prim.Native.Nat.{ℕ, ◌+◌, ◌/◌, min}
+use mathlib.Core.Path.{ap, ◌∙◌}
 use mathlib.Core.Bool.{cond}
 use native.Mathlib.Omega.{arith}
-use borrow.Author.Rules.{rules}
 use lib.Dec.{eqb}
 use lib.ListN.{get_or}
-use Rattle.least.specs.Filled.{FilledBy}
 use Rattle.least.proofs.Filled.{filled_none, filled_more}
 use Rattle.share_rows.specs.Places.{take_place}
-use Rattle.fair_shares.specs.Checked.{row_start, offer}
+use Rattle.fair_shares.specs.Checked.{row_start}
 use Rattle.fair_shares.proofs.offer_row.Goals as goal
 
 pub loop-q-init : goal.loop-q-init

@@ -1,12 +1,6 @@
-use Prim.Native.Nat.{ℕ, ◌+◌, ◌-◌, ◌*◌, ◌/◌, ◌≤◌, min}
-use mathlib.Core.Path.{◌≡◌, ap, ◌∙◌}
-use mathlib.Core.Bool.{cond}
-use native.Mathlib.Omega.{arith}
-use borrow.Author.Rules.{rules}
-use lib.Dec.{eqb}
-use lib.ListN.{get_or}
+use Prim.Native.Nat.{ℕ, ◌-◌, ◌/◌, ◌≤◌}
+use mathlib.Core.Path.{◌≡◌}
 use Rattle.least.specs.Filled.{FilledBy}
-use Rattle.least.proofs.Filled.{filled_none, filled_more}
 use Rattle.share_rows.specs.Places.{take_place}
 use Rattle.fair_shares.specs.Checked.{row_start, offer}
 use Rattle.fair_shares.proofs.offer_row.Given as goal

@@ -1,10 +1,6 @@
 use Prim.Native.Nat.{ℕ, ◌-◌, ◌≤◌}
-use mathlib.Core.Path.{◌≡◌, refl, subst}
-use native.Mathlib.Omega.{arith}
-use borrow.Author.Rules.{rules}
 use lib.ListN.{length, get_or}
 use Rattle.least.specs.Filled.{FilledBy}
-use Rattle.least.proofs.Filled.{filled_none, filled_more}
 use Rattle.share_rows.specs.Places.{removal_place}
 use Rattle.fair_shares.proofs.put_removals.Given as goal
 
