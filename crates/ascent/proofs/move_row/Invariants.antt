@@ -1,4 +1,4 @@
-use Rattle.std.proofs.Common.{◌-◌, ◌≤◌, arith, rules}
+use Rattle.std.proofs.Common.{◌-◌, ◌≤◌}
 use Rattle.ascent.proofs.move_row.Given as goal
 
 abbrev pub invariant-loop-q : goal.invariant-loop-q

@@ -1,5 +1,5 @@
 -- `round_all` goes through the rows.
-use Rattle.std.proofs.Common.{◌≡◌, ◌-◌, ◌*◌, ◌≤◌, arith, rules}
+use Rattle.std.proofs.Common.{arith}
 use Rattle.ascent.proofs.round_all.Goals as goal
 
 pub loop-r-init : goal.loop-r-init

@@ -1,5 +1,5 @@
 -- `turn` goes through the rows.
-use Rattle.std.proofs.Common.{◌≡◌, ◌-◌, ◌*◌, ◌≤◌, arith, rules}
+use Rattle.std.proofs.Common.{arith}
 use Rattle.ascent.proofs.turn.Goals as goal
 
 pub loop-r-init : goal.loop-r-init

@@ -1,5 +1,5 @@
 -- `users`: at most one for each lane.
-use Rattle.std.proofs.Common.{◌-◌, ◌≤◌, arith, rules}
+use Rattle.std.proofs.Common.{arith}
 use Rattle.ascent.proofs.users.Goals as goal
 
 pub loop-q-init : goal.loop-q-init
