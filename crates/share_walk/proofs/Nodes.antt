@@ -16,20 +16,20 @@ use Rattle.model.specs.Model.{Job, sum_at}
 use Rattle.model.specs.Decisions.{Held, concat}
 use Rattle.model.specs.LowerBound.{blocks, inner, node_at}
 use Rattle.model.proofs.Blocks.{Whole, Wholes, wholes_length, full_blocks, blocks_full}
-use Rattle.shares.specs.Shares.{Shares, things, worth, takes, bears, charged_for}
+use Rattle.shares.specs.Shares.{Shares, worth, takes, bears, charged_for}
 use Rattle.shares.specs.Optimum.{shared_bound}
 use Rattle.shares.specs.Lift.{Level}
 use Rattle.shares.proofs.Lifted.{level_node_lem}
-use Rattle.lane_rows.specs.Layout.{lane_count_lem, top, dear, inf, row_place, fee_place, lanes_in}
+use Rattle.lane_rows.specs.Layout.{lane_count_lem, top, dear, inf, row_place, fee_place}
 use Rattle.lane_rows.specs.Tables.{value_of}
-use Rattle.lane_rows.specs.Rows.{Level as Numbered, Kept, Put, Memo, Recalled, Owing, next_row}
+use Rattle.lane_rows.specs.Rows.{Level as Numbered, Put, Memo, Recalled, Owing, next_row}
 use Rattle.lane_rows.proofs.Memory.{recalled_none}
-use Rattle.held_rows.proofs.Seen.{joined_more, wholes_more, blocks_whole, blocks_no, blocks_stop}
+use Rattle.held_rows.proofs.Seen.{joined_more, wholes_more, blocks_no, blocks_stop}
 use Rattle.share_rows.specs.Places.{bear_place, take_place, eased_of, removal_place}
-use Rattle.share_rows.specs.Tables.{lane_at, SharedTables, ShareTable}
+use Rattle.share_rows.specs.Tables.{lane_at}
 use Rattle.share_rows.specs.Stacked.{Stacked, TopRow}
 use Rattle.share_rows.proofs.Prices.{charged_last, charged_more}
-use Rattle.share_rows.proofs.Lanes.{owing_at, stacked_no, stacked_stop, stacked_kept, top_new, top_out, top_stays, top_kept}
+use Rattle.share_rows.proofs.Lanes.{owing_at, stacked_no, stacked_stop, top_new, top_out, top_stays, top_kept}
 use Rattle.share_walk.specs.declared.Node.{Node}
 use Rattle.share_walk.specs.State.{open_n, stop_n, tree_at, below_tree, Numbers, StopAt, Stopped, Opened, Above, kept_rows, Below}
 

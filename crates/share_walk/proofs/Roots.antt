@@ -1,17 +1,16 @@
 -- The first node: nothing is decided, charged or stacked but the first lives.
-use Prim.Native.Nat.{ℕ, zero, suc, ◌+◌, ◌-◌, ◌≤◌}
+use Prim.Native.Nat.{ℕ, zero, suc, ◌-◌}
 use mathlib.Core.Path.{◌≡◌, refl, sym, ap, ap₂, subst, ◌∙◌}
-use mathlib.Core.Bool.{Bool, false}
+use mathlib.Core.Bool.{Bool}
 use mathlib.Core.List.{List, [], ◌∷◌}
 use native.Mathlib.Omega.{arith}
 use lib.ListN.{length}
-use Rattle.branch.specs.Search.{Tree}
 use Rattle.branch.specs.Questions.{ask_from, left_at}
 use Rattle.model.specs.Model.{Job, sum, sum_at}
 use Rattle.model.specs.Decisions.{Held}
 use Rattle.model.specs.LowerBound.{inner, node_at}
-use Rattle.model.proofs.Blocks.{Wholes, wholes_length}
-use Rattle.shares.specs.Shares.{Shares, worth, charged_for}
+use Rattle.model.proofs.Blocks.{Wholes}
+use Rattle.shares.specs.Shares.{Shares, charged_for}
 use Rattle.shares.specs.Optimum.{tree_by, shared_bound}
 use Rattle.lane_rows.specs.Rows.{FirstRow}
 use Rattle.lane_rows.proofs.Memory.{memo_root}

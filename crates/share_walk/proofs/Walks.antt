@@ -1,5 +1,5 @@
 -- What the walk of a node does: where the limit is reached, where the node is dropped, where it is full, and where both nodes below are walked. And what a look, and the nodes below, leave of what is given.
-use Prim.Native.Nat.{ℕ, suc, ◌+◌, ◌-◌, ◌*◌, ◌≤◌, ◌<◌}
+use Prim.Native.Nat.{ℕ, ◌+◌, ◌-◌, ◌*◌, ◌≤◌, ◌<◌}
 use mathlib.Core.Path.{◌≡◌, refl, sym, ap, ap₂, subst, ◌∙◌}
 use mathlib.Core.Bool.{Bool, true, false, cond, not, ◌&&◌, true≢false}
 use mathlib.Core.List.{List, [], ◌∷◌, ◌++◌}
@@ -9,7 +9,7 @@ use native.Mathlib.Decide.{dec_lt}
 use borrow.Author.Tests.{le-ltb, ltb-false, eqb-true, eq-eqb}
 use lib.Dec.{ltb, eqb}
 use lib.ListN.{length, get_or, take, set, length-append, length-set}
-use lib.Seq.{take-suc-set, take-take, take_at, length-take-le}
+use lib.Seq.{take-suc-set, take-take, take_at}
 use Rattle.branch.specs.declared.Bound.{Bound}
 use Rattle.branch.specs.declared.Bound.TheVariants.{Sum}
 use Rattle.branch.specs.Search.{Tree, plan, below, snoc, Limited, with_best, counted, limited, onward}
@@ -26,12 +26,10 @@ use Rattle.lane_rows.specs.Rows.{Level as Numbered, lane, sum_lanes, Kept, Memo,
 use Rattle.lane_rows.proofs.Lanes.{lane_most, sum_most}
 use Rattle.lane_rows.proofs.Memory.{recalled_none, recalled_then}
 use Rattle.share_rows.specs.Places.{share_size}
-use Rattle.share_rows.specs.Tables.{SharedTables}
-use Rattle.share_rows.specs.Stacked.{Stacked}
 use Rattle.share_rows.proofs.Lanes.{looks_at, stacked_kept, top_kept, test_drops, test_opens}
 use Rattle.share_walk.specs.declared.Node.{Node}
 use Rattle.share_walk.specs.declared.State.{State}
-use Rattle.share_walk.specs.State.{name_size, view, counted_s, stopped_s, kept_s, tree_at, below_tree, Numbers, Stopped, Opened, At, Above, kept_rows, Below, SharesWalked}
+use Rattle.share_walk.specs.State.{name_size, view, counted_s, stopped_s, kept_s, tree_at, Numbers, At, Above, kept_rows, Below, SharesWalked}
 use Rattle.share_walk.proofs.Nodes.{kept_open, kept_stop, both_below}
 
 -- ---- fewer rows

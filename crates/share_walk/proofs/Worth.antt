@@ -1,9 +1,8 @@
 -- What the walk's end is worth, where the shares are fair: a plan that it found is the planner's, at every walk number that lets that end; where it found none, no plan costs less than what was known; and it is cut exactly where it has more nodes than the limit.
 use Prim.Native.Nat.{ℕ, ◌≤◌, ◌<◌}
-use mathlib.Core.Path.{◌≡◌, refl, sym, ap, subst, ◌∙◌}
+use mathlib.Core.Path.{◌≡◌, sym, ap, subst, ◌∙◌}
 use mathlib.Core.Bool.{Bool, true, false, cond}
-use mathlib.Core.List.{List, []}
-use lib.Dec.{ltb}
+use mathlib.Core.List.{List}
 use lib.ListN.{take}
 use borrow.Author.Tests.{lt-ltb, le-ltb}
 use Rattle.branch.specs.Search.{Limited, plan}
@@ -13,7 +12,7 @@ use Rattle.model.specs.LowerBound.{plan_at}
 use Rattle.model.specs.Promise.{BestPlan, Any}
 use Rattle.shares.specs.Shares.{Shares, FairShares}
 use Rattle.shares.specs.Optimum.{tree_by, shared_bound}
-use Rattle.shares.specs.Certificate.{Certificate, least, cheaper, certified, certify, Certifies, NoneUnder}
+use Rattle.shares.specs.Certificate.{Certificate, least, cheaper, certified, Certifies, NoneUnder}
 use Rattle.shares.proofs.Certified.{shared_certifies}
 use Rattle.share_walk.specs.declared.State.{State}
 use Rattle.share_walk.specs.State.{view}

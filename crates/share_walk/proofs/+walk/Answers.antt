@@ -1,23 +1,19 @@
 -- `walk` walks its node and all below it, and keeps the rows and the name that were there: by recursion on what is left to decide, for each job and shares whose tables it may be given.
-use Prim.Native.Nat.{ℕ, ◌+◌, ◌-◌, ◌*◌, ◌^◌, ◌<◌, ◌≤◌}
-use mathlib.Core.Path.{◌≡◌, refl, sym, ap, ap₂, subst, ◌∙◌}
+use Prim.Native.Nat.{ℕ, ◌+◌, ◌<◌, ◌≤◌}
+use mathlib.Core.Path.{◌≡◌, sym, ap, subst, ◌∙◌}
 use mathlib.Core.Bool.{Bool, true, false}
 use mathlib.Core.List.{List, [], ◌∷◌}
 use native.Mathlib.Omega.{arith}
-use borrow.Author.Rules.{rules}
-use borrow.Author.Tests.{not-true, not-false}
 use lib.ListN.{length, get_or, take, set, length-set, length-append}
 use Rattle.branch.specs.Search.{snoc}
 use Rattle.model.specs.Model.{Job}
 use Rattle.model.specs.Decisions.{Held}
 use Rattle.model.specs.LowerBound.{inner}
 use Rattle.shares.specs.Shares.{Shares}
-use Rattle.lane_rows.specs.Layout.{lane_count_lem, inf, count_place, stack_size}
-use Rattle.lane_rows.specs.Rows.{Recalled}
+use Rattle.lane_rows.specs.Layout.{count_place, stack_size}
 use Rattle.share_rows.specs.Places.{holds_place}
-use Rattle.share_walk.specs.declared.Node.{Node}
 use Rattle.share_walk.specs.declared.State.{State}
-use Rattle.share_walk.specs.State.{name_size, counted_s, stopped_s, kept_s, At, Above, Below, SharesWalked}
+use Rattle.share_walk.specs.State.{name_size, counted_s, kept_s, At, Above, Below, SharesWalked}
 use Rattle.share_walk.proofs.Walks.{none_left, some_left, name_more, at_looked, above_of, look_asks, look_fits, look_sum, node_fits, name_room, walked_stopped, walked_dropped, walked_full, first_name, first_long_lem2, first_kept, walked_both, at_below, above_kept}
 use Rattle.share_walk.proofs.+walk.Goals as goal
 use Rattle.share_walk.proofs.+walk.Goals.{Start, Else-not-undecided, After-copy_row, After-below-no, After-walk-a, After-below-yes}

@@ -1,15 +1,7 @@
 -- `below` is the node below, at a stop or at an opening.
-use Prim.Native.Nat.{ℕ, ◌+◌, ◌-◌, ◌<◌, ◌≤◌}
-use mathlib.Core.Path.{◌≡◌, refl, sym, ap, subst, ◌∙◌}
-use mathlib.Core.Bool.{Bool, true, false, cond, not, ◌&&◌}
-use mathlib.Core.List.{List}
+use mathlib.Core.Path.{◌≡◌}
 use native.Mathlib.Omega.{arith}
-use borrow.Author.Rules.{rules}
-use lib.Dec.{ltb, eqb}
-use lib.ListN.{length, get_or, get_or-replicate}
 use Rattle.model.specs.LowerBound.{inner}
-use Rattle.lane_rows.specs.Layout.{lane_count_lem, inf, fee_place, count_place}
-use Rattle.share_rows.specs.Places.{bear_place, take_place, holds_place, removal_place, eased_of}
 use Rattle.share_walk.proofs.below.Goals as goal
 
 pub below_stop-requires : goal.below_stop-requires

@@ -1,14 +1,8 @@
 -- `below_opening` is the node below an opening, by the two cases.
-use Prim.Native.Nat.{ℕ, ◌+◌, ◌-◌, ◌<◌, ◌≤◌}
-use mathlib.Core.Path.{◌≡◌, refl, sym, ap, subst, ◌∙◌}
-use mathlib.Core.Bool.{Bool, true, false, cond, not, ◌&&◌}
-use mathlib.Core.List.{List}
+use Prim.Native.Nat.{ℕ}
+use mathlib.Core.Path.{sym, ap, subst, ◌∙◌}
+use mathlib.Core.Bool.{Bool, true, false}
 use native.Mathlib.Omega.{arith}
-use borrow.Author.Rules.{rules}
-use lib.Dec.{ltb, eqb}
-use lib.ListN.{length, get_or, get_or-replicate}
-use Rattle.lane_rows.specs.Layout.{lane_count_lem, inf, fee_place, count_place}
-use Rattle.share_rows.specs.Places.{bear_place, take_place, holds_place, removal_place, eased_of}
 use Rattle.share_walk.specs.declared.Node.{Node}
 use Rattle.share_walk.specs.State.{open_n, Below}
 use Rattle.share_walk.proofs.Nodes.{opening_fits, opening_owing, below_no, below_stops}

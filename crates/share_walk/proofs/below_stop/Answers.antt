@@ -1,14 +1,10 @@
 -- `below_stop` is the node below a stop, by the two cases.
-use Prim.Native.Nat.{ℕ, ◌+◌, ◌-◌, ◌<◌, ◌≤◌}
-use mathlib.Core.Path.{◌≡◌, refl, sym, ap, subst, ◌∙◌}
-use mathlib.Core.Bool.{Bool, true, false, cond, not, ◌&&◌}
-use mathlib.Core.List.{List}
+use Prim.Native.Nat.{◌+◌, ◌-◌, ◌<◌, ◌≤◌}
+use mathlib.Core.Path.{sym, ap, subst, ◌∙◌}
+use mathlib.Core.Bool.{Bool, true, false}
 use native.Mathlib.Omega.{arith}
-use borrow.Author.Rules.{rules}
-use lib.Dec.{ltb, eqb}
-use lib.ListN.{length, get_or, get_or-replicate}
-use Rattle.lane_rows.specs.Layout.{lane_count_lem, inf, fee_place, count_place}
-use Rattle.share_rows.specs.Places.{bear_place, take_place, holds_place, removal_place, eased_of}
+use lib.ListN.{get_or}
+use Rattle.share_rows.specs.Places.{removal_place}
 use Rattle.share_walk.specs.declared.Node.{Node}
 use Rattle.share_walk.specs.State.{asked_n, Below}
 use Rattle.share_walk.proofs.Nodes.{stop_fits, below_out, below_stays}

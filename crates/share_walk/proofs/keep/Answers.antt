@@ -1,13 +1,12 @@
 -- `keep` writes one decision after the other. The invariant: the first i are there.
-use Prim.Native.Nat.{ℕ, ◌+◌, ◌-◌, ◌≤◌}
+use Prim.Native.Nat.{ℕ}
 use mathlib.Core.Path.{◌≡◌, refl, sym, ap, ◌∙◌}
 use mathlib.Core.Bool.{Bool, false}
 use mathlib.Core.List.{List, [], ◌∷◌, ◌++◌}
-use lib.ListN.{length, get_or, take, set, length-set}
+use lib.ListN.{get_or, take, set, length-set}
 use lib.Seq.{take-suc, take-suc-set}
 use native.Mathlib.Omega.{arith}
 use native.Mathlib.Numerals.{add-one}
-use borrow.Author.Rules.{rules}
 use Rattle.share_walk.proofs.keep.Goals as goal
 
 pub loop-i-init : goal.loop-i-init

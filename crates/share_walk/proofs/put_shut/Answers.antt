@@ -1,14 +1,12 @@
 -- `put_shut` writes the row that `shut` makes of a copy.
-use Prim.Native.Nat.{ℕ, ◌+◌, ◌-◌, ◌<◌, ◌≤◌}
-use mathlib.Core.Path.{◌≡◌, refl, sym, ap, subst, ◌∙◌}
-use mathlib.Core.Bool.{Bool, true, false, cond, not, ◌&&◌}
-use mathlib.Core.List.{List}
+use Prim.Native.Nat.{ℕ, ◌+◌}
+use mathlib.Core.Path.{◌≡◌, ap, ◌∙◌}
+use mathlib.Core.Bool.{cond}
 use native.Mathlib.Omega.{arith}
-use borrow.Author.Rules.{rules}
-use lib.Dec.{ltb, eqb}
-use lib.ListN.{length, get_or, get_or-replicate}
-use Rattle.lane_rows.specs.Layout.{lane_count_lem, inf, fee_place, count_place}
-use Rattle.share_rows.specs.Places.{bear_place, take_place, holds_place, removal_place, eased_of}
+use lib.Dec.{eqb}
+use lib.ListN.{get_or}
+use Rattle.lane_rows.specs.Layout.{inf}
+use Rattle.share_rows.specs.Places.{take_place}
 use Rattle.share_walk.proofs.put_shut.Goals as goal
 
 pub returns : goal.returns

@@ -1,14 +1,10 @@
 -- `put_stop` writes the next row with its shares of the fee less.
-use Prim.Native.Nat.{ℕ, ◌+◌, ◌-◌, ◌<◌, ◌≤◌}
-use mathlib.Core.Path.{◌≡◌, refl, sym, ap, subst, ◌∙◌}
-use mathlib.Core.Bool.{Bool, true, false, cond, not, ◌&&◌}
-use mathlib.Core.List.{List}
+use Prim.Native.Nat.{ℕ}
+use mathlib.Core.Path.{ap, ◌∙◌}
 use native.Mathlib.Omega.{arith}
-use borrow.Author.Rules.{rules}
-use lib.Dec.{ltb, eqb}
-use lib.ListN.{length, get_or, get_or-replicate}
-use Rattle.lane_rows.specs.Layout.{lane_count_lem, inf, fee_place, count_place}
-use Rattle.share_rows.specs.Places.{bear_place, take_place, holds_place, removal_place, eased_of}
+use lib.ListN.{get_or, get_or-replicate}
+use Rattle.lane_rows.specs.Layout.{lane_count_lem, inf}
+use Rattle.share_rows.specs.Places.{bear_place, eased_of}
 use Rattle.share_walk.proofs.put_stop.Goals as goal
 
 pub next_lanes-requires : goal.next_lanes-requires

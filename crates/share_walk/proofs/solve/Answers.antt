@@ -1,13 +1,9 @@
 -- `solve` walks from the first node: its rows, and the walk of the whole tree.
-use mathlib.Core.Path.{◌≡◌, sym, ap, ◌∙◌}
-use mathlib.Core.Bool.{Bool}
-use mathlib.Core.List.{List, []}
-use native.Mathlib.Omega.{arith}
-use borrow.Author.Rules.{rules}
+use mathlib.Core.Path.{ap, ◌∙◌}
+use mathlib.Core.List.{[]}
 use Rattle.branch.specs.Search.{Tree, limited}
 use Rattle.known_cost.specs.Known.{knowing}
-use Rattle.share_walk.specs.declared.Node.{Node}
-use Rattle.share_walk.proofs.Roots.{root_n, at_root, root_tree}
+use Rattle.share_walk.proofs.Roots.{at_root, root_tree}
 use Rattle.share_walk.proofs.solve.Goals as goal
 
 pub base_row-requires : goal.base_row-requires
