@@ -1,19 +1,13 @@
 -- `rise`: the invariant says that no plan costs less than the last cutoff that was passed.
-use Prim.Native.Nat.{ℕ, ◌*◌, ◌-◌, ◌<◌, ◌≤◌}
-use mathlib.Core.Path.{◌≡◌, sym, ap, subst, ◌∙◌}
+use Prim.Native.Nat.{ℕ}
+use mathlib.Core.Path.{sym, ap, subst, ◌∙◌}
 use mathlib.Core.Bool.{Bool, true≢false}
 use mathlib.Core.List.{List}
 use native.Mathlib.Omega.{arith}
-use borrow.Author.Rules.{rules}
-use lib.ListN.{length, take}
-use Rattle.model.specs.Model.{Job}
-use Rattle.model.specs.Decisions.{Held}
+use lib.ListN.{take}
 use Rattle.model.specs.LowerBound.{plan_at}
 use Rattle.model.specs.Promise.{BestPlan, Any}
-use Rattle.shares.specs.Shares.{Shares, FairShares}
-use Rattle.shares.specs.Certificate.{NoneUnder}
-use Rattle.lane_rows.specs.Layout.{inf, stack_size}
-use Rattle.share_walk.specs.State.{name_size, Solvable}
+use Rattle.share_walk.specs.State.{name_size}
 use Rattle.share_walk.proofs.Worth.{found_best, nothing_less, cut_longer}
 use Rattle.cutoffs.proofs.Names.{take_min}
 use Rattle.cutoffs.proofs.rise.Goals as goal
