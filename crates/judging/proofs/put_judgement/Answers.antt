@@ -1,0 +1,37 @@
+-- `put_judgement`: case by case, each with its lines.
+use mathlib.Core.Path.{subst}
+use native.Mathlib.Omega.{arith}
+use Rattle.lines.specs.Text.{bytes}
+use Rattle.verdict.specs.declared.Judgement.{Judgement}
+use Rattle.verdict.specs.Views.{model_judgement}
+use Rattle.verdict.specs.Ranges.{Limited}
+use Rattle.judging.specs.Judge.{cost_lines, unkept_lines}
+use Rattle.judging.proofs.Lengths.{cost_short, unkept_short}
+use Rattle.judging.proofs.put_judgement.Goals as goal
+
+pub put_two-requires : goal.put_two-requires
+unfolding cost_lines bytes
+put_two-requires c = let h = subst (λ (j : Judgement). Limited (model_judgement j)) c.in-Accepts.is c.requires.0 in
+    (omega (arith, h), omega (arith, c.requires.1, cost_short 0 c.in-Accepts.cost))
+
+pub put_three-requires : goal.put_three-requires
+unfolding unkept_lines bytes
+put_three-requires c = let h = subst (λ (x : Judgement). Limited (model_judgement x)) c.in-Unkept.is c.requires.0 in
+    (omega (arith, h), omega (arith, h), omega (arith, c.requires.1, unkept_short c.in-Unkept.part c.in-Unkept.due))
+
+pub put_two-requires-in-WrongCost : goal.put_two-requires-in-WrongCost
+unfolding cost_lines bytes
+put_two-requires-in-WrongCost c = let h = subst (λ (j : Judgement). Limited (model_judgement j)) c.in-WrongCost.is c.requires.0 in
+    (omega (arith, h), omega (arith, c.requires.1, cost_short 11 c.in-WrongCost.cost))
+
+pub returns-in-Accepts : goal.returns-in-Accepts
+unfolding cost_lines bytes
+returns-in-Accepts c = rw c.in-Accepts.is c.put_two.ensures
+
+pub returns-in-Unkept : goal.returns-in-Unkept
+unfolding unkept_lines bytes
+returns-in-Unkept c = rw c.in-Unkept.is c.put_three.ensures
+
+pub returns-in-WrongCost : goal.returns-in-WrongCost
+unfolding cost_lines bytes
+returns-in-WrongCost c = rw c.in-WrongCost.is c.put_two-in-WrongCost.ensures
