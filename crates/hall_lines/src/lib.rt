@@ -28,7 +28,7 @@ pub const TERM: usize = 2;
 pub const MASK: usize = 3;
 
 // A stop whose removals are being decided: how many are, the lanes that it is shut to, the removals, the latest in the lowest bit, and its part sums and term.
-#[derive(Drop)]
+#[derive(Clone, Copy)]
 pub struct Stop {
     pub next: usize,
     pub shut: usize,
