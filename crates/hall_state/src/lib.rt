@@ -7,7 +7,7 @@ ghost use Rattle.hall_state.specs.Spots.{closed_spot, decided_spot, line_spot, s
 use hall_lines::{Decision, Stop};
 
 // Whether the node is walked on; whether the crew's call is asked, or a removal of the line at hand; so many steps asked; the line at hand; its stop; and the hall's estimate.
-#[derive(Drop)]
+#[derive(Clone, Copy)]
 pub struct Spot {
     pub there: bool,
     pub calling: bool,
