@@ -1,5 +1,5 @@
 -- The loop that puts the parts of the lists: before it (`putting_start`), one part more (`putting_more`), the room for it (`putting_room`), and at its end (`putting_end`). By the laws of a place in the lists.
-use Prim.Native.Nat.{ℕ, suc, ◌+◌, ◌≤◌, ◌<◌}
+use Prim.Native.Nat.{ℕ, ◌+◌, ◌≤◌, ◌<◌}
 use mathlib.Core.Path.{◌≡◌, refl, sym, ap, ◌∙◌, subst}
 use mathlib.Core.List.{List, [], ◌∷◌, ◌++◌, append-nil, append_assoc}
 use native.Mathlib.Omega.{arith}

@@ -1,7 +1,7 @@
 -- The text's pieces by their tests: a count in its range and what it counts (`counted_in`), or one out of it alone (`counted_out`); and idle steps. By the value of the test.
 use Prim.Native.Nat.{ℕ, suc, ◌≤◌, ◌<◌}
 use Prim.Native.String.{String}
-use mathlib.Core.Path.{◌≡◌, refl, ap}
+use mathlib.Core.Path.{◌≡◌, refl}
 use mathlib.Core.Bool.{Bool, true, false, ◌&&◌, and-eq-true_iff}
 use mathlib.Core.List.{List, [], ◌∷◌, ◌++◌, append-nil}
 use native.Mathlib.Omega.{arith}
