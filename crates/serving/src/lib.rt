@@ -29,7 +29,7 @@ use plan_text::whole::read_plan;
 pub const ROOM: usize = 16384;
 
 // Whether the stops serve; the plan stands beside it.
-#[derive(Drop)]
+#[derive(Clone, Copy)]
 pub enum Serving {
     // 6: no changes at the stops keep every part.
     Unserved,
