@@ -2,7 +2,7 @@
 use Prim.Native.Nat.{◌≤◌}
 use native.Mathlib.Omega.{arith}
 use lib.ListN.{length, length-append}
-use Rattle.lines.specs.Text.{bytes, line_of}
+use Rattle.lines.specs.Text.{bytes}
 use Rattle.lines.proofs.Writing.{line_most}
 use Rattle.jobs.specs.declared.Plan.{Plan}
 use Rattle.jobs.specs.Views.{plan_for}

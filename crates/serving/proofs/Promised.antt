@@ -9,7 +9,6 @@ use native.Mathlib.Decide.{dec_lt}
 use borrow.Author.Tests.{lt-ltb, le-ltb}
 use Rattle.lines.specs.Parser.{Outcome, accepted, refused}
 use Rattle.lines.proofs.Outcomes.{not_both}
-use Rattle.model.specs.Model.{Job}
 use Rattle.model.proofs.Verdicts.{lives_shaped}
 use Rattle.jobs.specs.Valid.{ValidJob}
 use Rattle.job_grammar.specs.Grammar.{Given, read_job_lem}

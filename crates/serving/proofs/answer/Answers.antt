@@ -8,7 +8,6 @@ use Rattle.answers.proofs.Replies.{replied, no_room}
 use Rattle.serving.specs.Serve.{latest_lines, said_for, latest_room}
 use Rattle.serving.specs.Serving.{answer_in}
 use Rattle.serving.proofs.Lengths.{lines_short}
-use borrow.Author.Rules.{rules}
 use Rattle.serving.proofs.answer.Goals as goal
 
 pub returns-then-out-lt-ROOM : goal.returns-then-out-lt-ROOM

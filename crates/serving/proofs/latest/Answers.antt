@@ -10,7 +10,6 @@ use Rattle.job_text.proofs.Views.{means, sound_text}
 use Rattle.job_grammar.proofs.Numbered.{fault}
 use Rattle.serving.specs.Serve.{latest_said}
 use Rattle.serving.proofs.Promised.{promised}
-use borrow.Author.Rules.{rules}
 use Rattle.serving.proofs.latest.Goals as goal
 use Rattle.serving.proofs.latest.Goals.{In-Fault, In-Good}
 

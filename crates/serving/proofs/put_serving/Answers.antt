@@ -6,7 +6,6 @@ use Rattle.lines.proofs.Writing.{line_most, then, kept}
 use Rattle.plan_printing.proofs.Lengths.{printed_short}
 use Rattle.serving.specs.Serve.{served_lines}
 use Rattle.serving.specs.Serving.{Fits}
-use borrow.Author.Rules.{rules}
 use Rattle.serving.proofs.put_serving.Goals as goal
 
 pub put_line-requires : goal.put_line-requires

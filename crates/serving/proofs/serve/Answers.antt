@@ -7,7 +7,6 @@ use Rattle.answers.specs.Said.{Replied}
 use Rattle.latest.specs.Latest.{LatestAnswer}
 use Rattle.serving.specs.Serve.{said_for, latest_room}
 use Rattle.serving.proofs.Fits.{fits}
-use borrow.Author.Rules.{rules}
 use Rattle.serving.proofs.serve.Goals as goal
 
 pub latest_plan-plan-requires : goal.latest_plan-plan-requires

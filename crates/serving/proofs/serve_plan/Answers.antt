@@ -7,7 +7,6 @@ use Rattle.jobs.specs.Views.{job_of}
 use Rattle.plan_grammar.specs.Grammar.{read_plan_lem}
 use Rattle.plan_text.specs.Views.{stated_for}
 use Rattle.plan_grammar.proofs.Numbered.{fault}
-use borrow.Author.Rules.{rules}
 use Rattle.serving.proofs.serve_plan.Goals as goal
 use Rattle.serving.proofs.serve_plan.Goals.{In-Fault, In-Good}
 

@@ -1,6 +1,5 @@
 -- `serving_of`: by the verdict on the plan, which says whether its stops serve where its changes are the latest.
-use mathlib.Core.Path.{◌≡◌, sym, ap, ◌∙◌}
-use borrow.Author.Rules.{rules}
+use mathlib.Core.Path.{sym, ap, ◌∙◌}
 use Rattle.model.specs.Model.{cost_of_lem}
 use Rattle.model.specs.Verdict.{verdict_of_lem}
 use Rattle.jobs.specs.Views.{job_of}
