@@ -1,5 +1,5 @@
 -- What is written for a value is read back as that value or is a fault, whatever the value, and two texts that differ only in what is never read give the same (`Readback`). By the parsers' forms: row, checked, bind, chain.
-use Prim.Native.Nat.{ℕ, ◌+◌, ◌^◌, ◌≤◌, ◌<◌}
+use Prim.Native.Nat.{ℕ, ◌+◌, ◌^◌, ◌<◌}
 use mathlib.Core.Path.{◌≡◌, refl, ap, ◌∙◌}
 use mathlib.Core.List.{List, [], ◌∷◌, ◌++◌, append_assoc}
 use mathlib.Core.Bool.{Bool, true, false}
