@@ -1,6 +1,8 @@
 -- `changes` has a row for each part. The invariant: the first q rows are right.
+use Prim.Native.Nat.{◌-◌, ◌≤◌}
 use mathlib.Core.Path.{◌≡◌, refl, subst, ◌∙◌}
 use native.Mathlib.Omega.{arith}
+use borrow.Author.Rules.{rules}
 use lib.ListN.{length}
 use lib.IntN.{ℤ}
 use mir.Syntax.{w32}
@@ -36,6 +38,9 @@ loop-q-preserved c = let a = c.args in
       chooses_more (to_z w32 (of_z w32 a.end)) a.positions.now a.lives.now a.lefts.now a.prices.now a.needs.now a.h a.name.now l.rows l.q p.result
           (omega (arith, c.loop-q-test.true, c.requires.0.parts)) p.ensures l.invariant.2,
     )
+
+pub shape_of-tab : goal.shape_of-tab
+shape_of-tab c = c.loop-q.invariant.1
 
 pub returns : goal.returns
 returns c = let a = c.args in

@@ -60,14 +60,15 @@ fill_held-requires c = let a = c.args in
     )
 
 pub solve-requires : goal.solve-requires
-solve-requires c = ((sheet (goal.at.solve-requires c).After-fill_held, tables (goal.at.solve-requires c).After-fill_held, c.fill_held.ensures, fit (goal.at.solve-requires c).After-fill_held), omega (arith, c.requires.1))
+solve-requires c = let k = (goal.at.solve-requires c).After-fill_held in ((sheet k, tables k, c.fill_held.ensures, fit k), omega (arith, c.requires.1))
 
 pub returns : goal.returns
-returns c job ho = let a = c.args in
+returns c job ho = let k = (goal.at.returns c).After-fill_held in
+    let a = c.args in
     let e = to_z w32 (of_z w32 a.end) in
     let h = read_back (λ (e : ℤ). HeldJobArrays job e a.positions.now a.fees.now a.lives.now a.lefts.now a.prices.now a.needs.now a.removals.now) c.ranges.end ho in
-    solves_job job (sheet (goal.at.returns c).After-fill_held) a.limit c.solve.new.v c.solve.result
-    (sheet_of_lem e a.positions.now a.fees.now a.lives.now a.lefts.now a.prices.now a.needs.now a.removals.now (classes (goal.at.returns c).After-fill_held) (arrays (goal.at.returns c).After-fill_held) c.classes_of-classes.ensures job h)
+    solves_job job (sheet k) a.limit c.solve.new.v c.solve.result
+    (sheet_of_lem e a.positions.now a.fees.now a.lives.now a.lefts.now a.prices.now a.needs.now a.removals.now (classes k) (arrays k) c.classes_of-classes.ensures job h)
     (holding job e a.positions.now a.fees.now a.lives.now a.lefts.now a.prices.now a.needs.now a.removals.now h)
     (opened job e a.positions.now a.fees.now a.lives.now a.lefts.now a.prices.now a.needs.now a.removals.now h)
-    (c.solve.ensures (sheet (goal.at.returns c).After-fill_held) (tables (goal.at.returns c).After-fill_held) c.fill_held.ensures (fit (goal.at.returns c).After-fill_held))
+    (c.solve.ensures (sheet k) (tables k) c.fill_held.ensures (fit k))

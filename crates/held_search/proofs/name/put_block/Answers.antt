@@ -10,6 +10,7 @@ use Rattle.walk.specs.State.{bits}
 use Rattle.walk.proofs.Nodes.{bits-length}
 use Rattle.held_search.specs.Solved.{block_of}
 use Rattle.held_search.proofs.Names.{one_more, stop_wrote}
+use borrow.Author.Rules.{rules}
 use Rattle.held_search.proofs.name.put_block.Goals as goal
 use Rattle.held_search.proofs.name.put_block.Goals.{After-stops_of-out}
 
@@ -28,6 +29,9 @@ slice_bounds-put_all-end c = let a = c.args in sym (ap length (removals (goal.at
 pub put_all-requires : goal.put_all-requires
 put_all-requires c = let a = c.args in
     (omega (arith, c.requires, ap length (removals (goal.at.put_all-requires c).After-stops_of-out), bits-length a.h a.removed), length-set a.name.now a.at a.stop ∙ c.requires.2)
+
+pub shape_of-name : goal.shape_of-name
+shape_of-name c = let a = c.args in c.put_all.auto.name ∙ length-set a.name.now a.at a.stop
 
 pub returns : goal.returns
 returns c = let a = c.args in
