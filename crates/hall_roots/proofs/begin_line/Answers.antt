@@ -5,7 +5,6 @@ use mathlib.Core.List.{List, []}
 use native.Mathlib.Omega.{arith}
 use borrow.Author.Rules.{rules}
 use lib.ListN.{length, get_or}
-use Rattle.branch.specs.declared.Bound.{Bound}
 use Rattle.branch.specs.declared.Bound.TheVariants.{Missing, Sum}
 use Rattle.branch.specs.Lower.{add}
 use Rattle.branch.proofs.Bounds.{no_sum_lem}
@@ -19,7 +18,6 @@ use Rattle.walk.specs.State.{no_cost}
 use Rattle.held_nodes.proofs.Root.{bound_first, root_due, root_given}
 use Rattle.hall_lines.specs.Levels.{rows_in_lem, sums_in, term_in, mask_in}
 use Rattle.hall_lines.proofs.Levels.{at_plain}
-use Rattle.hall_roots.specs.Root.{LineBegun}
 use Rattle.hall_roots.proofs.begin_line.Goals as goal
 use Rattle.hall_roots.proofs.begin_line.Goals.{After-first_marks-arg-2-1, After-first_sums}
 
