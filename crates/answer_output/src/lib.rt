@@ -49,7 +49,12 @@ fn say_lost<R: Eprint + AllocGlobal>(rt: &R, lost: &str, error: io::Error) {
 
 // Hands the bytes of a printout to standard output; where they can't be written, a line on standard error begins with `lost` and says why, and the exit status is 0 all the same. What becomes
 // of bytes that are written no contract can say.
-fn hand_out<R: Print + Eprint + AllocGlobal>(rt: &R, p: Printout, bytes: &[u8], lost: &str) -> Printout
+fn hand_out<R: Print + Eprint + AllocGlobal>(
+    rt: &R,
+    p: Printout,
+    bytes: &[u8],
+    lost: &str,
+) -> Printout
     requires { bytes.now ≡ printed p }
     ensures { result ≡ p }
 {
@@ -60,7 +65,12 @@ fn hand_out<R: Print + Eprint + AllocGlobal>(rt: &R, p: Printout, bytes: &[u8], 
 }
 
 // Prints the bytes of an answer, which stand at the start of `out`.
-pub fn print_answer<R: Print + Eprint + AllocGlobal>(rt: &R, a: Answer, out: &[u8], lost: &str) -> Printout
+pub fn print_answer<R: Print + Eprint + AllocGlobal>(
+    rt: &R,
+    a: Answer,
+    out: &[u8],
+    lost: &str,
+) -> Printout
     requires { (a.length ≤ length out.now) × (a.length ≤ most_printed) }
     ensures { (result.answer ≡ a) × (printed result ≡ take a.length out.now) }
 {
