@@ -102,7 +102,12 @@ fn planner_at(rt: &impl Print, buf: &[u8], at: usize, space: &mut [u8]) -> usize
     if space.len() < lent {
         return buf.len();
     }
-    run_planner(rt, &buf[start..end], walk.number as u64, &mut space[0..lent]);
+    run_planner(
+        rt,
+        &buf[start..end],
+        walk.number as u64,
+        &mut space[0..lent],
+    );
     end
 }
 

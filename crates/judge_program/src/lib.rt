@@ -9,7 +9,11 @@ use std::rt::Files;
 use whole_input::{Text, read_file};
 
 // Reads a job text and a plan text from the files of these names, and prints the judge's answer on standard output (`Printed`).
-pub fn judge_files<R: Files + Print + Eprint + AllocGlobal>(rt: &R, job_path: &str, plan_path: &str) -> Printout
+pub fn judge_files<R: Files + Print + Eprint + AllocGlobal>(
+    rt: &R,
+    job_path: &str,
+    plan_path: &str,
+) -> Printout
     ensures { Printed result }
 {
     // One byte more than a text may have, so that a longer one is told.

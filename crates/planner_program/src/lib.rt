@@ -9,7 +9,10 @@ use std::io::Read;
 use whole_input::{Text, read_whole};
 
 // Reads a job text from an input, and prints the planner's answer on standard output (`Printed`). No input is what an open answers for a file that can't be opened.
-pub fn plan_input<R: Print + Eprint + AllocGlobal, I: Read + Drop>(rt: &R, input: Option<I>) -> Printout
+pub fn plan_input<R: Print + Eprint + AllocGlobal, I: Read + Drop>(
+    rt: &R,
+    input: Option<I>,
+) -> Printout
     ensures { Printed I.remaining input result }
 {
     // One byte more than a job text may have, so that a longer one is told.
