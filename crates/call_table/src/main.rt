@@ -8,8 +8,9 @@ ghost use Rattle.std.specs.Prelude.{◌≤◌, length};
 
 use answers::Answer;
 use fault_lines::fault::fault_line;
+use std::io;
+use std::io::Read;
 use table_text::{head_at, onward, piece_at};
-use whole_input::read_full;
 
 // What an output is filled with before a call.
 const FILL: u8 = 170;
@@ -162,9 +163,13 @@ fn table(rt: &impl Print, buf: &[u8], space: &mut [u8]) {
     }
 }
 
-fn main(rt: HostRuntime) {
-    let mut buf = [0u8; 524288];
-    let n = read_full(&mut rt.reader(), &mut buf);
+// The most bytes that are read of a table.
+const MOST: u64 = 524288;
+
+fn main(rt: HostRuntime) -> io::Result<()> {
+    let mut input = Vec::new(rt.alloc());
+    rt.reader().take(MOST).read_to_end(&mut input)?;
     let mut space = [0u8; 16400];
-    table(&rt, &buf[..n], &mut space);
+    table(&rt, input.as_slice(), &mut space);
+    Ok(())
 }

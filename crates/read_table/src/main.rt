@@ -8,8 +8,9 @@ use fault_lines::fault::fault_line;
 use job_text::whole::read_job;
 use lines::rows::WholeText;
 use plan_text::whole::read_plan;
+use std::io;
+use std::io::Read;
 use table_text::{onward, piece_at};
-use whole_input::read_full;
 
 // Writes bytes on standard output. What can't be written is passed over: the run's output then lacks it.
 fn write(rt: &impl Print, bytes: &[u8]) {
@@ -71,8 +72,12 @@ fn table(rt: &impl Print, buf: &[u8]) {
     }
 }
 
-fn main(rt: HostRuntime) {
-    let mut buf = [0u8; 524288];
-    let n = read_full(&mut rt.reader(), &mut buf);
-    table(&rt, &buf[..n]);
+// The most bytes that are read of a table.
+const MOST: u64 = 524288;
+
+fn main(rt: HostRuntime) -> io::Result<()> {
+    let mut input = Vec::new(rt.alloc());
+    rt.reader().take(MOST).read_to_end(&mut input)?;
+    table(&rt, input.as_slice());
+    Ok(())
 }
