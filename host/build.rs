@@ -20,13 +20,14 @@ fn main() {
     println!("cargo:rustc-link-lib=static=juzvarola");
 }
 
-/// The folder of this repository's own library, which must be there and be no older than any file under `crates/`.
+/// The folder of this repository's own library, which must be there and be no older than any file under `crates/`, but for what `rt` keeps in each crate's `out/`.
 fn own_library() -> PathBuf {
     let host = env::var("CARGO_MANIFEST_DIR").expect("cargo names the crate's folder");
     let root = Path::new(&host).join("..");
     let folder = root.join("target/staticlib");
     let archive = folder.join(ARCHIVE);
-    let sources = [root.join("crates"), root.join("crates.txt")];
+    let mut sources: Vec<PathBuf> = entries(&root.join("crates")).iter().flat_map(|own| entries(own)).collect();
+    sources.push(root.join("crates.txt"));
     sources.iter().for_each(|source| println!("cargo:rerun-if-changed={}", source.display()));
     let Some(made) = time_of(&archive) else {
         refuse(&format!("The static library is missing: {}", archive.display()));
@@ -42,11 +43,17 @@ fn time_of(path: &Path) -> Option<SystemTime> {
     fs::metadata(path).and_then(|found| found.modified()).ok()
 }
 
+/// What stands in a folder, but for a folder `out`.
+fn entries(folder: &Path) -> Vec<PathBuf> {
+    let found = fs::read_dir(folder).into_iter().flatten().flatten();
+    found.map(|entry| entry.path()).filter(|path| !path.ends_with("out")).collect()
+}
+
 /// A file here or within that was written after this time.
 fn newer_than(path: &Path, time: SystemTime) -> Option<PathBuf> {
-    match fs::read_dir(path) {
-        Ok(entries) => entries.flatten().find_map(|entry| newer_than(&entry.path(), time)),
-        Err(_) => time_of(path).filter(|own| *own > time).map(|_| path.to_path_buf()),
+    match path.is_dir() {
+        true => entries(path).iter().find_map(|entry| newer_than(entry, time)),
+        false => time_of(path).filter(|own| *own > time).map(|_| path.to_path_buf()),
     }
 }
 

@@ -1,6 +1,7 @@
 #!/bin/sh
-# prove.sh NAME..: proves these crates and all that they stand on, one line for each crate ("12 of 45: walk, 15 s"), and writes the static library where the
-# crate juzvarola is among them. All that rt and the prover say goes to target/log/make.log, which is named where something fails. RT is the command to use.
+# prove.sh NAME..: proves these crates and all that they stand on, one line for each crate that has changed ("12 of 45: walk, 15 s"); puts the static library of the crate
+# juzvarola into target/staticlib, and any other, which is a program and is run once on nothing, into target/bin. All that rt and the prover say goes to
+# target/log/make.log, which is named where something fails. RT is the command to use.
 set -u
 cd "$(dirname "$0")/.."
 mkdir -p target/log
@@ -10,7 +11,7 @@ rt=${RT:-rt}
 
 # How many crates these are, with what they stand on.
 total=$(awk -v names="$*" '
-    /^[a-z]/ { at = index($0, ":"); own[substr($0, 1, at - 1)] = substr($0, at + 1) }
+    /^[a-z]/ { at = index($0, ":"); split(substr($0, 1, at - 1), head, " "); own[head[1]] = substr($0, at + 1) }
     function reach(name,   i, n, list) {
         if (!(name in own) || (name in seen)) return
         seen[name] = 1; count++
@@ -19,22 +20,44 @@ total=$(awk -v names="$*" '
     }
     END { n = split(names, list, " "); for (i = 1; i <= n; i++) reach(list[i]); print count + 0 }' crates.txt)
 
-# Runs rt, keeps what it says, shows a line a crate; its exit status.
-run() {
-    { "$rt" "$@" 2>&1; echo "rt ended with $?"; } | tee -a "$log" | awk -v total="$total" '
-        /^rt: [a-z_0-9]+ proved \(unchanged/ { at++; same++; next }
-        /^rt: [a-z_0-9]+ proved \([0-9]+ s\)$/ { at++; gsub(/[()]/, ""); printf "%d of %d: %s, %s s\n", at, total, $2, $4; fflush(); next }
-        /^rt: .*NOT PROVED/ { sub(/^rt: /, ""); print; fflush(); next }
-        /^rt ended with / { status = $4 }
-        END { if (status == 0 && same > 0 && same < at) printf "%d of %d unchanged\n", same, total; exit status }'
+# Makes each crate in its folder, with the crates below it, up to the first that fails.
+make_all() {
+    for crate in "$@"; do
+        case $crate in juzvarola) command=lib ;; *) command=run ;; esac
+        (cd "crates/$crate" && "$rt" $command < /dev/null) 2>&1
+        status=$?
+        echo "rt ended with $status"
+        [ $status = 0 ] || return
+    done
 }
 
-run check "$@" || { status=$?; echo "What the prover said is in $log" >&2; exit $status; }
-case " $* " in
-*" juzvarola "*)
-    { "$rt" staticlib juzvarola 2>&1; echo "rt ended with $?"; } >> "$log"
-    [ "$(tail -n 1 "$log")" = "rt ended with 0" ] || { echo "The static library was not made; what was said is in $log" >&2; exit 1; }
-    echo "$total crates proved: target/staticlib/libjuzvarola.a" ;;
-*)
-    echo "$total crates proved: $*" ;;
-esac
+# Shows a line for each crate of which rt says that it is proved now, or not proved; rt's exit status.
+show() {
+    proved=0; status=1; since=$(date +%s)
+    while IFS= read -r line; do
+        case $line in
+        "crate "*": modules loaded="*) crate=${line#crate }; crate=${crate%%:*}; checked=${line##* checked=} ;;
+        "logic=proved "*)
+            now=$(date +%s)
+            [ "$checked" = 0 ] || { proved=$((proved + 1)); echo "$proved of $total: $crate, $((now - since)) s"; }
+            since=$now ;;
+        "logic=not-proved"*) echo "$crate NOT PROVED" ;;
+        "rt ended with "*) status=${line##* } ;;
+        esac
+    done
+    [ "$status" != 0 ] || [ $proved = "$total" ] || echo "$((total - proved)) of $total unchanged"
+    return "$status"
+}
+
+make_all "$@" | tee -a "$log" | show || { status=$?; echo "What the prover said is in $log" >&2; exit $status; }
+made=
+for crate in "$@"; do
+    case $crate in
+    juzvarola) file=libjuzvarola.a folder=target/staticlib ;;
+    *) file=$crate folder=target/bin ;;
+    esac
+    mkdir -p $folder
+    cp -f "crates/$crate/out/$file" $folder/ || { echo "$file was not made; what was said is in $log" >&2; exit 1; }
+    made="$made $folder/$file"
+done
+echo "$total crates proved:$made"

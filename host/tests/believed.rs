@@ -36,6 +36,13 @@ struct File {
     aliases: BTreeMap<String, String>,
 }
 
+impl File {
+    /// Whether it declares or imports this name.
+    fn has(&self, name: &str) -> bool {
+        self.definitions.contains_key(name) || self.constructors.contains_key(name) || self.imports.contains_key(name)
+    }
+}
+
 fn root() -> PathBuf {
     Path::new(env!("CARGO_MANIFEST_DIR")).join("..")
 }
@@ -62,12 +69,11 @@ fn code(line: &str) -> &str {
 
 /// The module that an import names, as `crate/File`; one of structs and enums of the code as `crate::Name`. None where it is the kit's.
 fn module(path: &str) -> Option<String> {
-    let rest = path.strip_prefix("Rattle·")?;
-    let (name, inside) = rest.split_once('.')?;
-    let name = name.trim_end_matches("·specs");
+    let rest = path.strip_prefix("Rattle.")?;
+    let (name, inside) = rest.split_once('.').filter(|(name, _)| root().join("crates").join(name).is_dir())?;
     let inside = inside.trim_start_matches("specs.");
     match inside.strip_prefix("declared.") {
-        Some(own) => Some(format!("{name}::{}", own.trim_end_matches(".the-variants").replace('.', "::"))),
+        Some(own) => Some(format!("{name}::{}", own.trim_end_matches(".TheVariants").replace('.', "::"))),
         None => Some(format!("{name}/{inside}")),
     }
 }
@@ -228,12 +234,13 @@ fn reached(files: &BTreeMap<String, File>) -> (BTreeSet<(String, String)>, BTree
                 continue;
             }
             for word in &definition.words {
-                if file.definitions.contains_key(word) || file.constructors.contains_key(word) || file.imports.contains_key(word) {
-                    open.push((at.clone(), word.clone()));
-                } else if let Some((alias, word)) = word.split_once('.') {
-                    if let Some(from) = file.aliases.get(alias) {
-                        open.push((from.clone(), word.to_string()));
-                    }
+                // A word of another module by its alias, or a value and its fields.
+                let (first, second) = word.split_once('.').map_or((word.as_str(), None), |(first, rest)| (first, rest.split('.').next()));
+                let from = file.aliases.get(first).and_then(|from| files.get_key_value(from));
+                if let Some((from, word)) = from.zip(second).filter(|((_, there), word)| there.has(word)).map(|((from, _), word)| (from, word)) {
+                    open.push((from.clone(), word.to_string()));
+                } else if file.has(first) {
+                    open.push((at.clone(), first.to_string()));
                 }
             }
         } else if let Some(choice) = file.constructors.get(&name) {

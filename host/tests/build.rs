@@ -29,7 +29,7 @@ fn one_version_stands_everywhere() {
     assert_eq!((version(), check_version()), (VERSION, Ok(())), "the library's own, by its promise");
 }
 
-/// Every file under crates/, and crates.txt, is something that library and programs are made from.
+/// Every file under crates/, but for what rt keeps in each crate's out/, and crates.txt, is something that library and programs are made from.
 #[test]
 fn every_source_is_made_from() {
     let printed = run(Command::new("make").args(["-pnq", "library"]));
@@ -43,6 +43,7 @@ fn every_source_is_made_from() {
             for entry in std::fs::read_dir(host().join(&folder)).expect("a folder").flatten() {
                 let path = folder.join(entry.file_name());
                 match entry.path().is_dir() {
+                    true if entry.file_name() == "out" => (),
                     true => folders.push(path),
                     false => files.push(path.to_string_lossy().into_owned()),
                 }
@@ -53,26 +54,32 @@ fn every_source_is_made_from() {
     }
 }
 
-/// One line a crate, all that the prover says in a file, which is named where something fails. A stand-in for rt says what rt says.
+/// One line a crate, all that the prover says in a file, which is named where something fails. A stand-in for rt says what rt says, and puts the library where rt puts it.
 #[test]
 fn the_build_is_quiet() {
     let folder = Folder::new();
     let root = folder.0.join("root");
     std::fs::create_dir_all(root.join("host")).expect("a folder");
+    std::fs::create_dir_all(root.join("crates/juzvarola/out")).expect("a folder");
     std::fs::copy(host().join("prove.sh"), root.join("host/prove.sh")).expect("the script");
-    std::fs::write(root.join("crates.txt"), "# none\nlines:\nmodel: lines\njuzvarola: model lines\nother: lines\n").expect("the crates");
-    let stand_in = "#!/bin/sh\n[ $1 = staticlib ] && { echo made; exit 0; }\necho fn lines::read: proved\necho 'rt: lines proved (unchanged since it was last proved)'\n\
-         echo long words of the prover\necho 'rt: model proved (15 s)'\n[ -e ../fail ] && { echo 'rt: juzvarola NOT PROVED (exit 1, 3 s)'; exit 1; }\n\
-         echo 'rt: juzvarola proved (3 s)'\n";
+    std::fs::write(root.join("crates.txt"), "# none\nlines:\nmodel: lines\njuzvarola staticlib: model lines\nother: lines\n").expect("the crates");
+    let stand_in = "#!/bin/sh\n[ $1 = lib ] && [ -d out ] || exit 2\necho fn model::read: proved\necho long words of the prover\n\
+         echo 'library lines: modules loaded=9 checked=0'\necho 'crate model: modules loaded=3 checked=31'\necho 'logic=proved functions=4 sum=0'\n\
+         echo 'crate juzvarola: modules loaded=0 checked=9'\n[ -e ../../../fail ] && { echo logic=not-proved; exit 1; }\n\
+         echo 'logic=proved functions=1 sum=0'\necho made > out/libjuzvarola.a\n";
     std::fs::write(folder.0.join("rt"), stand_in).expect("a stand-in");
     let prove = |words: &str| folder.shell(&format!("chmod +x rt; RT=\"$PWD/rt\" ./root/host/prove.sh {words}"));
+    // How long a crate took is left out.
+    let untimed = |said: &str| said.lines().map(|line| format!("{}\n", line.split(", ").next().unwrap_or_default())).collect::<String>();
     let ran = prove("juzvarola");
-    let lines = "2 of 3: model, 15 s\n3 of 3: juzvarola, 3 s\n1 of 3 unchanged\n3 crates proved: target/staticlib/libjuzvarola.a\n";
-    assert_eq!((ran.status, ran.out.as_str(), ran.err.as_str()), (0, lines, ""));
+    assert!(ran.out.starts_with("1 of 3: model, ") && ran.out.contains(" s\n2 of 3: juzvarola, "), "{ran:?}");
+    let lines = "1 of 3: model\n2 of 3: juzvarola\n1 of 3 unchanged\n3 crates proved: target/staticlib/libjuzvarola.a\n";
+    assert_eq!((ran.status, untimed(&ran.out).as_str(), ran.err.as_str()), (0, lines, ""));
     assert!(folder.read("root/target/log/make.log").contains("long words of the prover\n"));
+    assert_eq!(folder.read("root/target/staticlib/libjuzvarola.a"), "made\n");
     folder.write("fail", b"");
     let ran = prove("juzvarola");
-    assert_eq!((ran.status, ran.out.as_str()), (1, "2 of 3: model, 15 s\njuzvarola NOT PROVED (exit 1, 3 s)\n"));
+    assert_eq!((ran.status, untimed(&ran.out).as_str()), (1, "1 of 3: model\njuzvarola NOT PROVED\n"));
     assert_eq!(ran.err, "What the prover said is in target/log/make.log\n");
 }
 

@@ -36,7 +36,7 @@ fn crates() -> (BTreeMap<String, Crate>, Vec<String>) {
             headings.push(heading.to_string());
         } else if let Some((name, on)) = line.split_once(':') {
             let on = on.split_whitespace().map(str::to_string).collect();
-            found.insert(name.to_string(), Crate { heading: headings.len().saturating_sub(1), on });
+            found.insert(name.trim_end_matches(" staticlib").to_string(), Crate { heading: headings.len().saturating_sub(1), on });
         }
     }
     // the kit's own libraries are not drawn

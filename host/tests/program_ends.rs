@@ -7,7 +7,6 @@ use common::tool::{job, Folder, PROGRAM};
 use juzvarola_host::{reference, MOST_WALK};
 use std::fs::{File, OpenOptions};
 use std::io::{self, Read, Write};
-use std::os::unix::process::ExitStatusExt;
 use std::path::{Path, PathBuf};
 use std::process::{Child, Command, Stdio};
 use std::sync::mpsc;
@@ -16,7 +15,6 @@ use std::time::Duration;
 
 const EMPTY_JOB: &str = "result=2\ntext=1\nline=1\n";
 const OUTPUT: usize = 16_384;
-const BROKEN_PIPE: i32 = 13;
 
 /// What a pipe takes before a writer waits; a smaller one only makes it wait sooner.
 const PIPE: usize = 65_536;
@@ -26,7 +24,7 @@ fn programs() -> Option<PathBuf> {
     let folder = Path::new(env!("CARGO_MANIFEST_DIR")).join("../target/bin");
     let built = ["planner", "judge"].iter().all(|name| folder.join(name).is_file());
     if !built {
-        eprintln!("left out: planner and judge are not built; `rt check planner judge` in the repository's root builds them");
+        eprintln!("left out: planner and judge are not built; `./prove.sh planner judge` in this folder builds them");
     }
     built.then_some(folder)
 }
@@ -114,7 +112,7 @@ fn inputs_that_are_closed_or_no_files() {
     }
 }
 
-/// These two have no exit status but 0: that an answer can't be written they say on standard error, as their pages say.
+/// These two end with status 0 whatever the result: that an answer can't be written they say on standard error, as their pages say.
 #[test]
 fn answers_that_cannot_be_written() {
     let Some(programs) = programs() else { return };
@@ -134,10 +132,11 @@ fn answers_that_cannot_be_written() {
         assert_eq!((ran.status, ran.out.as_str(), ran.err.as_str()), (0, "", ""), "{program:?}");
         let (reader, writer) = io::pipe().expect("a pipe");
         let mut command = Command::new(program);
-        command.current_dir(&folder.0).stdin(File::open(folder.0.join("job.txt")).expect("the job")).stdout(writer);
+        command.current_dir(&folder.0).stdin(File::open(folder.0.join("job.txt")).expect("the job")).stdout(writer).stderr(Stdio::piped());
         drop(reader);
-        let status = command.status().expect("the program runs");
-        assert_eq!((status.code(), status.signal()), (None, Some(BROKEN_PIPE)), "{command:?}");
+        let ran = command.spawn().and_then(Child::wait_with_output).expect("the program runs");
+        let said = format!("{name}: the answer can't be written: Broken pipe\n");
+        assert_eq!((ran.status.code(), String::from_utf8_lossy(&ran.stderr).into_owned()), (Some(0), said), "{command:?}");
     }
     assert_eq!(texts(), before, "the files are as they were");
 }

@@ -8,16 +8,23 @@ ghost use Rattle.std.specs.Prelude.{◌≤◌, length};
 
 use answers::Answer;
 use fault_lines::fault::fault_line;
+use std::io;
+use std::io::Read;
 use table_text::{head_at, onward, piece_at};
 
 // What an output is filled with before a call.
 const FILL: u8 = 170;
 
+// Writes bytes on standard output. What can't be written is passed over: the run's output then lacks it.
+fn write(rt: &impl Print, bytes: &[u8]) {
+    let _ = rt.write_all(bytes);
+}
+
 // Writes a number on a line of its own.
-fn write_number(key: &[u8], n: u64) {
-    io::write_all(libc::STDOUT_FILENO, key);
-    io::print_decimal(libc::STDOUT_FILENO, n);
-    io::write_all(libc::STDOUT_FILENO, b"\n");
+fn write_number(rt: &impl Print, key: &[u8], n: u64) {
+    write(rt, key);
+    let _ = rt.print(n);
+    write(rt, b"\n");
 }
 
 // Whether every byte from a place on is the fill.
@@ -33,29 +40,29 @@ fn kept(out: &[u8], from: usize) -> bool {
 }
 
 // Writes the line at fault of a text.
-fn write_fault(text: &[u8], line: u32) {
-    io::write_all(libc::STDOUT_FILENO, fault_line(text, line as usize));
-    io::write_all(libc::STDOUT_FILENO, b"\n");
+fn write_fault(rt: &impl Print, text: &[u8], line: u32) {
+    write(rt, fault_line(text, line as usize));
+    write(rt, b"\n");
 }
 
 // Writes what a call handed over.
-fn report(a: Answer, out: &[u8], job: &[u8], plan: &[u8]) {
+fn report(rt: &impl Print, a: Answer, out: &[u8], job: &[u8], plan: &[u8]) {
     let m = a.length;
     if m <= out.len() {
-        io::write_all(libc::STDOUT_FILENO, &out[0..m]);
+        write(rt, &out[0..m]);
     }
-    write_number(b"= result ", a.result as u64);
-    write_number(b"= line ", a.line as u64);
-    write_number(b"= length ", m as u64);
+    write_number(rt, b"= result ", a.result as u64);
+    write_number(rt, b"= line ", a.line as u64);
+    write_number(rt, b"= length ", m as u64);
     if a.text == 2 {
-        write_fault(plan, a.line);
+        write_fault(rt, plan, a.line);
     } else {
-        write_fault(job, a.line);
+        write_fault(rt, job, a.line);
     }
     if kept(out, m) {
-        io::write_all(libc::STDOUT_FILENO, b"kept\n");
+        write(rt, b"kept\n");
     } else {
-        io::write_all(libc::STDOUT_FILENO, b"changed\n");
+        write(rt, b"changed\n");
     }
 }
 
@@ -69,21 +76,21 @@ fn fill(out: &mut [u8]) {
 }
 
 // One case of the planner.
-fn run_planner(job: &[u8], walk: u64, out: &mut [u8]) {
+fn run_planner(rt: &impl Print, job: &[u8], walk: u64, out: &mut [u8]) {
     fill(out);
     let a = planning::plan(job, walk, out);
-    report(a, out, job, b"");
+    report(rt, a, out, job, b"");
 }
 
 // One case of the judge.
-fn run_judge(job: &[u8], plan: &[u8], out: &mut [u8]) {
+fn run_judge(rt: &impl Print, job: &[u8], plan: &[u8], out: &mut [u8]) {
     fill(out);
     let a = judging::judge(job, plan, out);
-    report(a, out, job, plan);
+    report(rt, a, out, job, plan);
 }
 
 // The planner's case whose room is told at a place, and the place behind it.
-fn planner_at(buf: &[u8], at: usize, space: &mut [u8]) -> usize
+fn planner_at(rt: &impl Print, buf: &[u8], at: usize, space: &mut [u8]) -> usize
     requires { at ≤ length buf.now }
     ensures { result ≤ length buf.now }
 {
@@ -96,12 +103,17 @@ fn planner_at(buf: &[u8], at: usize, space: &mut [u8]) -> usize
     if space.len() < lent {
         return buf.len();
     }
-    run_planner(&buf[start..end], walk.number as u64, &mut space[0..lent]);
+    run_planner(
+        rt,
+        &buf[start..end],
+        walk.number as u64,
+        &mut space[0..lent],
+    );
     end
 }
 
 // The judge's case whose room is told at a place, and the place behind it.
-fn judge_at(buf: &[u8], at: usize, space: &mut [u8]) -> usize
+fn judge_at(rt: &impl Print, buf: &[u8], at: usize, space: &mut [u8]) -> usize
     requires { at ≤ length buf.now }
     ensures { result ≤ length buf.now }
 {
@@ -117,6 +129,7 @@ fn judge_at(buf: &[u8], at: usize, space: &mut [u8]) -> usize
         return buf.len();
     }
     run_judge(
+        rt,
         &buf[start..end],
         &buf[plan_start..plan_end],
         &mut space[0..lent],
@@ -125,7 +138,7 @@ fn judge_at(buf: &[u8], at: usize, space: &mut [u8]) -> usize
 }
 
 // The case at a place, by its call's number, and the place behind it; where no call is told, the table's end.
-fn case_at(buf: &[u8], at: usize, space: &mut [u8]) -> usize
+fn case_at(rt: &impl Print, buf: &[u8], at: usize, space: &mut [u8]) -> usize
     requires { at ≤ length buf.now }
     ensures { result ≤ length buf.now }
 {
@@ -133,26 +146,30 @@ fn case_at(buf: &[u8], at: usize, space: &mut [u8]) -> usize
     let number = call.number;
     let behind = call.behind;
     if number == 1 {
-        return planner_at(buf, behind, space);
+        return planner_at(rt, buf, behind, space);
     }
     if number == 2 {
-        return judge_at(buf, behind, space);
+        return judge_at(rt, buf, behind, space);
     }
     buf.len()
 }
 
 // Every case of the table.
-fn table(buf: &[u8], space: &mut [u8]) {
+fn table(rt: &impl Print, buf: &[u8], space: &mut [u8]) {
     let mut at = 0;
     while at < buf.len() {
-        let next = case_at(buf, at, space);
+        let next = case_at(rt, buf, at, space);
         at = onward(buf.len(), at, next);
     }
 }
 
-fn main() {
-    let mut buf = [0u8; 524288];
-    let n = io::read_full(libc::STDIN_FILENO, &mut buf);
+// The most bytes that are read of a table.
+const MOST: u64 = 524288;
+
+fn main(rt: HostRuntime) -> io::Result<()> {
+    let mut input = Vec::new(rt.alloc());
+    rt.reader().take(MOST).read_to_end(&mut input)?;
     let mut space = [0u8; 16400];
-    table(&buf[..n], &mut space);
+    table(&rt, input.as_slice(), &mut space);
+    Ok(())
 }

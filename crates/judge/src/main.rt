@@ -1,6 +1,6 @@
 // The judge: the files job.txt and plan.txt of the current folder, the answer on standard output.
 #![tactic(auto)]
 
-fn main() {
-    judge_program::judge_files(b"job.txt", b"plan.txt");
+fn main(rt: HostRuntime) {
+    judge_program::judge_files(&rt, "job.txt", "plan.txt");
 }

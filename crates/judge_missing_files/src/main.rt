@@ -5,9 +5,9 @@
 
 use judge_program::judge_files;
 
-fn main() {
-    judge_files(b"job.txt", b"missing.txt");
-    judge_files(b"missing.txt", b"plan.txt");
-    judge_files(b"job.txt", b"folder");
-    judge_files(b"folder", b"plan.txt");
+fn main(rt: HostRuntime) {
+    judge_files(&rt, "job.txt", "missing.txt");
+    judge_files(&rt, "missing.txt", "plan.txt");
+    judge_files(&rt, "job.txt", "folder");
+    judge_files(&rt, "folder", "plan.txt");
 }

@@ -1,5 +1,5 @@
 -- What the judge's program prints: the judge's answer to two texts, its numbers and its bytes; there is always room for it, so it is never 8.
--- Which bytes are read, whether they are those of the files named, and what becomes of bytes that are handed to standard output, no contract of the C functions says.
+-- Which bytes are read, whether they are those of the files named, and what becomes of bytes that are handed to standard output, no contract says.
 use Rattle.std.specs.Prelude.{ℕ, suc, ◌≤◌, ◌≡◌, List, length, take}
 use Rattle.answer_output.specs.declared.Printout.{Printout}
 use Rattle.answer_output.specs.Prints.{Prints}

@@ -2,19 +2,19 @@
 #![tactic(auto)]
 
 use planner_program::plan_input;
+use std::fs;
+use std::rt::Files;
 
 // The planner's program with a file as its input.
-fn plan_file(path: &[u8]) {
-    let fd = os::open_read(path);
-    plan_input(fd);
-    libc::close(fd);
+fn plan_file<R: Files + Print + Eprint + AllocGlobal>(rt: &R, path: &str) {
+    plan_input(rt, fs::open(rt, path).ok());
 }
 
-fn main() {
+fn main(rt: HostRuntime) {
     // Number 2 on line 1, which is missing.
-    plan_file(b"empty.txt");
+    plan_file(&rt, "empty.txt");
     // A job of 24 lines with bytes after the last: number 2 on line 25.
-    plan_file(b"bytes_40960.txt");
+    plan_file(&rt, "bytes_40960.txt");
     // The same and one byte more: number 1.
-    plan_file(b"bytes_40961.txt");
+    plan_file(&rt, "bytes_40961.txt");
 }

@@ -8,34 +8,41 @@ use fault_lines::fault::fault_line;
 use job_text::whole::read_job;
 use lines::rows::WholeText;
 use plan_text::whole::read_plan;
+use std::io;
+use std::io::Read;
 use table_text::{onward, piece_at};
 
+// Writes bytes on standard output. What can't be written is passed over: the run's output then lacks it.
+fn write(rt: &impl Print, bytes: &[u8]) {
+    let _ = rt.write_all(bytes);
+}
+
 // Writes a fault's lines, and the line at fault.
-fn report(text: &[u8], which: u32, number: u32, line: usize) {
+fn report(rt: &impl Print, text: &[u8], which: u32, number: u32, line: usize) {
     if 4294967295 < line {
         return;
     }
     let mut out = [0u8; 16384];
     let a = answers::refuse(text, which, number, line, 16384, &mut out);
     let m = a.length;
-    io::write_all(libc::STDOUT_FILENO, &out[..m]);
-    io::write_all(libc::STDOUT_FILENO, fault_line(text, line));
-    io::write_all(libc::STDOUT_FILENO, b"\n");
+    write(rt, &out[..m]);
+    write(rt, fault_line(text, line));
+    write(rt, b"\n");
 }
 
 // The first fault of a pair, the job text before the plan text.
-fn judge_pair(job: &[u8], plan: &[u8]) {
+fn judge_pair(rt: &impl Print, job: &[u8], plan: &[u8]) {
     let read = read_job(job);
     let verdict = read.verdict;
     match verdict {
-        WholeText::Fault { number, line } => report(job, 1, number, line),
+        WholeText::Fault { number, line } => report(rt, job, 1, number, line),
         WholeText::Good => {
             let stated = read_plan(plan, read.text.job);
             let verdict = stated.verdict;
             match verdict {
-                WholeText::Fault { number, line } => report(plan, 2, number, line),
+                WholeText::Fault { number, line } => report(rt, plan, 2, number, line),
                 WholeText::Good => {
-                    io::write_all(libc::STDOUT_FILENO, b"accepted\n");
+                    write(rt, b"accepted\n");
                 }
             }
         }
@@ -43,7 +50,7 @@ fn judge_pair(job: &[u8], plan: &[u8]) {
 }
 
 // The pair at a place, and the place behind it.
-fn pair_at(buf: &[u8], at: usize) -> usize
+fn pair_at(rt: &impl Print, buf: &[u8], at: usize) -> usize
     requires { at ≤ length buf.now }
     ensures { result ≤ length buf.now }
 {
@@ -53,20 +60,24 @@ fn pair_at(buf: &[u8], at: usize) -> usize
     let plan = piece_at(buf, job_end, b"plan=");
     let plan_start = plan.start;
     let plan_end = plan_start + plan.length;
-    judge_pair(&buf[job_start..job_end], &buf[plan_start..plan_end]);
+    judge_pair(rt, &buf[job_start..job_end], &buf[plan_start..plan_end]);
     plan_end
 }
 
 // Every pair of the table.
-fn table(buf: &[u8]) {
+fn table(rt: &impl Print, buf: &[u8]) {
     let mut at = 0;
     while at < buf.len() {
-        at = onward(buf.len(), at, pair_at(buf, at));
+        at = onward(buf.len(), at, pair_at(rt, buf, at));
     }
 }
 
-fn main() {
-    let mut buf = [0u8; 524288];
-    let n = io::read_full(libc::STDIN_FILENO, &mut buf);
-    table(&buf[..n]);
+// The most bytes that are read of a table.
+const MOST: u64 = 524288;
+
+fn main(rt: HostRuntime) -> io::Result<()> {
+    let mut input = Vec::new(rt.alloc());
+    rt.reader().take(MOST).read_to_end(&mut input)?;
+    table(&rt, input.as_slice());
+    Ok(())
 }

@@ -1,10 +1,14 @@
 // Reading a whole input into a buffer that has room for one byte more than its text may have, so that a longer text is told.
 #![tactic(auto)]
 
-ghost use Rattle.std.specs.Prelude.{suc, ◌≡◌, length};
-ghost use Rattle.io.specs.Counts.{IsPrefixLen};
+ghost use Rattle.std.specs.Prelude.{suc, ◌≡◌, length, take};
+ghost use Rattle.std.specs.Io.KnownBytes.{Consumes};
 ghost use Rattle.whole_input.specs.Limits.{limit_of};
-ghost use Rattle.whole_input.specs.Input.{Nothing, Unopened};
+ghost use Rattle.whole_input.specs.Input.{Counts, Nothing, Unopened, Front};
+
+use std::fs;
+use std::io::Read;
+use std::rt::Files;
 
 // The texts that programs read. Each has a limit of its own, which a buffer's length must fit: the contracts alone read it.
 #[derive(Drop)]
@@ -20,28 +24,39 @@ fn read_nothing(buf: &mut [u8]) -> usize
     0
 }
 
-// Reads from a descriptor to the input's end or until the buffer is full, and answers how many bytes were read.
-// A negative descriptor is what an open answers for a file that can't be opened.
-pub fn read_whole(fd: i32, which: Text, buf: &mut [u8]) -> usize
-    requires { length buf.old ≡ suc (limit_of which) }
-    ensures prefix_len { IsPrefixLen result buf.new }
-    ensures unopened { Unopened fd buf.old buf.new result }
+// Reads until the buffer is full, the input ends or a read fails, and answers how many bytes were read: they stand at the buffer's start.
+pub fn read_full<R: Read>(input: &mut R, buf: &mut [u8]) -> usize
+    ensures counts { Counts result buf.new }
+    ensures consumes { Consumes (R.remaining input.old) (R.remaining input.new) (take result buf.new) }
 {
-    if fd < 0 {
-        return read_nothing(buf);
+    let mut done = 0;
+    while done < buf.len() {
+        match input.read(&mut buf[done..]) {
+            Ok(n) if n > 0 => done += n,
+            _ => break,
+        }
     }
-    io::read_full(fd, buf)
+    done
+}
+
+// Reads an input to its end or until the buffer is full, and answers how many bytes were read.
+// No input is what an open answers for a file that can't be opened.
+pub fn read_whole<R: Read + Drop>(opened: Option<R>, which: Text, buf: &mut [u8]) -> usize
+    requires { length buf.old ≡ suc (limit_of which) }
+    ensures counts { Counts result buf.new }
+    ensures unopened { Unopened opened buf.old buf.new result }
+    ensures front { Front R.remaining opened (take result buf.new) }
+{
+    match opened {
+        None => read_nothing(buf),
+        Some(mut input) => read_full(&mut input, buf),
+    }
 }
 
 // Reads a file by its name.
-pub fn read_file(path: &[u8], which: Text, buf: &mut [u8]) -> usize
+pub fn read_file<F: Files>(files: &F, path: &str, which: Text, buf: &mut [u8]) -> usize
     requires { length buf.old ≡ suc (limit_of which) }
-    ensures { IsPrefixLen result buf.new }
+    ensures { Counts result buf.new }
 {
-    let fd = os::open_read(path);
-    let n = read_whole(fd, which, buf);
-    if 0 <= fd {
-        libc::close(fd);
-    }
-    n
+    read_whole(fs::open(files, path).ok(), which, buf)
 }
