@@ -6,7 +6,6 @@ use Rattle.model.specs.Decisions.{of_holders}
 use Rattle.jobs.specs.Views.{job_of}
 use Rattle.jobs.proofs.Jobs.{part_count}
 use Rattle.coming_out.specs.Rows.{Rows}
-use borrow.Author.Rules.{rules}
 use Rattle.held_job.proofs.holders.holder_numbers_of.Goals as goal
 
 pub returns : goal.returns
