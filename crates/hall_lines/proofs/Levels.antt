@@ -12,7 +12,6 @@ use Rattle.held_nodes.specs.State.{At}
 use Rattle.hall_lines.specs.declared.Stop.{Stop}
 use Rattle.hall_lines.specs.Levels.{level_place, levels_size, LevelsKept, LevelPut}
 use Rattle.hall_lines.specs.Lines.{open_slot, stop_slot}
-use Rattle.hall_nodes.specs.Lines.{Slot}
 
 module _ (n : List ℕ) (at rows sums term mask : ℕ) (size : length n ≡ levels_size) (few : at ≤ 64) where
   abbrev n₁ : List ℕ

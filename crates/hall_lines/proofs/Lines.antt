@@ -2,7 +2,7 @@
 use Prim.Native.Nat.{ℕ, ◌+◌, ◌-◌, ◌*◌, ◌^◌, ◌<◌, ◌≤◌, max}
 use mathlib.Core.Path.{◌≡◌, refl, sym, ap, subst, ◌∙◌}
 use mathlib.Core.Bool.{Bool, true, false, false≢true, true≢false}
-use mathlib.Core.List.{List, [], ◌∷◌, ◌++◌}
+use mathlib.Core.List.{List, []}
 use native.Mathlib.Omega.{arith}
 use native.Mathlib.Nat.{pow-le-pow_right}
 use lib.Bits.{bit_or}
@@ -14,7 +14,7 @@ use Rattle.branch.specs.Search.{Tree, full, snoc}
 use Rattle.branch.proofs.Bounds.{no_sum_lem, sum_inj}
 use Rattle.branch.proofs.Steps.{bound_at, left_bound}
 use Rattle.model.specs.Decisions.{concat}
-use Rattle.lane_rows.specs.Layout.{lane_count_lem, top, inf, suffix_base, fee_place, lanes_in}
+use Rattle.lane_rows.specs.Layout.{lane_count_lem, inf, suffix_base, fee_place, lanes_in}
 use Rattle.lane_rows.specs.Tables.{sum_where}
 use Rattle.lane_rows.specs.Rows.{lane, sum_lanes, Looks, Recalled}
 use Rattle.lane_rows.proofs.Lanes.{lane_most}
@@ -28,21 +28,19 @@ use Rattle.walk.specs.declared.Search.{Search}
 use Rattle.walk.specs.State.{no_cost, open_s}
 use Rattle.walk.proofs.Nodes.{mask_fits}
 use Rattle.walk.proofs.Trees.{DueAt, where_there, opened}
-use Rattle.held_nodes.specs.declared.Node.{Node}
-use Rattle.held_nodes.specs.State.{no_n, yes_n, stays_n, out_n, settled_n, best_in, tree_at, At, Frame, NodeSettled}
+use Rattle.held_nodes.specs.State.{no_n, yes_n, stays_n, out_n, tree_at, At, Frame, NodeSettled}
 use Rattle.held_nodes.proofs.Given.{sums_low, stop_most}
 use Rattle.held_nodes.proofs.Frames.{at_kept}
 use Rattle.held_nodes.proofs.Branches.{at_looked}
 use Rattle.held_nodes.proofs.Openings.{opening_asks, no_below, no_more, no_cheap, no_due, yes_due}
 use Rattle.held_nodes.proofs.Stops.{stop_asks, stays_below, stays_more, stays_cheap, stays_due, out_due}
-use Rattle.held_nodes.proofs.Settling.{settle_asks, Rests, rests}
-use Rattle.hall_nodes.specs.Lines.{Slot, Given, Goes, SlotKept, with_rows, settled_slot, no_blocks_lem, yes_blocks, more_blocks, no_slot, stays_slot, out_slot}
+use Rattle.held_nodes.proofs.Settling.{settle_asks, rests}
+use Rattle.hall_nodes.specs.Lines.{Slot, Goes, SlotKept, with_rows, settled_slot, no_blocks_lem, yes_blocks, more_blocks, no_slot, stays_slot, out_slot}
 use Rattle.hall_nodes.proofs.Going.{more_name, no_goes, yes_goes, stays_goes, out_goes, fresh_kept, looked_kept, settled_kept}
 use Rattle.hall_lines.specs.declared.Stop.{Stop}
-use Rattle.hall_lines.specs.declared.Decision.{Decision}
-use Rattle.hall_lines.specs.Levels.{rows_in_lem, sums_in, term_in, mask_in, levels_size, level_node, stop_node, LevelsKept, LevelPut}
-use Rattle.hall_lines.specs.Lines.{open_slot, stop_slot, Opening, Removing, Decided, OwnDue, Answers, NoFound, StopFound, StayFound, OutFound, LineSettled, first_stop_lem, stop_due, decided_bound}
-use Rattle.hall_lines.proofs.Levels.{levels_none, levels_then, level_same, at_plain}
+use Rattle.hall_lines.specs.Levels.{rows_in_lem, sums_in, term_in, mask_in, level_node, stop_node, LevelPut}
+use Rattle.hall_lines.specs.Lines.{open_slot, stop_slot, Opening, Removing, Decided, OwnDue, Answers, NoFound, StopFound, StayFound, OutFound, LineSettled, first_stop_lem, stop_due}
+use Rattle.hall_lines.proofs.Levels.{levels_none, level_same, at_plain}
 
 -- ---- a node below, tested
 

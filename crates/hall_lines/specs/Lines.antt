@@ -1,6 +1,5 @@
 -- What the functions of a line ask and find: at an opening no stop and a stop, at a stop not removed and removed, and a stop whose removals are decided.
 use Rattle.std.specs.Prelude.{ℕ, ◌+◌, ◌*◌, ◌^◌, ◌<◌, ◌≤◌, ◌≡◌, Bool, true, false, cond, List, length, get_or}
-use Rattle.std.specs.Int.Bits.{bit_or}
 use Rattle.branch.specs.declared.Bound.{Bound}
 use Rattle.branch.specs.declared.Bound.TheVariants.{Missing, Sum}
 use Rattle.branch.specs.Search.{snoc}
@@ -8,14 +7,14 @@ use Rattle.model.specs.Decisions.{concat}
 use Rattle.lane_rows.specs.Layout.{lane_count_lem, inf, fee_place}
 use Rattle.lane_rows.specs.Tables.{sum_where}
 use Rattle.held_rows.specs.Held.{HeldSheet, held, held_bound}
-use Rattle.held_lanes.specs.Places.{top_place, need_lanes_place, removal_place}
+use Rattle.held_lanes.specs.Places.{top_place, removal_place}
 use Rattle.walk.specs.declared.Search.{Search}
-use Rattle.walk.specs.State.{no_cost, open_s}
+use Rattle.walk.specs.State.{open_s}
 use Rattle.held_nodes.specs.State.{best_in}
 use Rattle.hall_nodes.specs.Lines.{Slot, Given, Goes, SlotKept, no_blocks_lem, yes_blocks}
 use Rattle.hall_lines.specs.declared.Stop.{Stop}
 use Rattle.hall_lines.specs.declared.Decision.{Decision}
-use Rattle.hall_lines.specs.Levels.{rows_in_lem, sums_in, term_in, levels_size, level_node, stop_node, LevelsKept}
+use Rattle.hall_lines.specs.Levels.{sums_in, term_in, level_node, stop_node, LevelsKept}
 
 -- what a line's part sums and term can add to an estimate fits beside it
 abbrev pub roomy : ℕ → Type 0

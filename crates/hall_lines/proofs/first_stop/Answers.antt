@@ -1,8 +1,4 @@
 -- `first_stop` reads the level's part sums and the stop's term.
-use mathlib.Core.Path.{◌≡◌, refl, ap, ◌∙◌}
-use Prim.Native.Nat.{ℕ}
-use borrow.Author.Rules.{rules}
-use Rattle.hall_lines.specs.declared.Stop.{Stop}
 use Rattle.hall_lines.proofs.first_stop.Goals as goal
 
 pub returns : goal.returns

@@ -1,12 +1,11 @@
 -- `line_no` looks at the line's no, and writes its level if it is walked on.
-use Prim.Native.Nat.{ℕ, ◌+◌, ◌-◌, ◌*◌, ◌^◌, ◌<◌, ◌≤◌, max}
+use Prim.Native.Nat.{ℕ, ◌+◌, ◌-◌, ◌*◌, ◌^◌, ◌<◌, ◌≤◌}
 use mathlib.Core.Path.{◌≡◌, refl, sym, ap, subst, ◌∙◌}
-use mathlib.Core.Bool.{Bool, true, false}
+use mathlib.Core.Bool.{Bool}
 use mathlib.Core.List.{List}
 use native.Mathlib.Omega.{arith}
 use borrow.Author.Rules.{rules}
-use lib.ListN.{get_or, set}
-use Rattle.branch.specs.declared.Bound.TheVariants.{Missing, Sum}
+use lib.ListN.{get_or}
 use Rattle.lane_rows.specs.Layout.{inf, lane_count_lem, suffix_base, lanes_in}
 use Rattle.lane_rows.specs.Tables.{sum_where}
 use Rattle.lane_rows.specs.Rows.{lane, sum_lanes, Looks, Recalled}
@@ -15,8 +14,8 @@ use Rattle.held_lanes.specs.Places.{most_to, classes_place}
 use Rattle.held_lanes.specs.Tables.{TermAsks, term_of}
 use Rattle.walk.specs.State.{open_s}
 use Rattle.hall_lines.specs.Levels.{rows_in_lem, sums_in, mask_in, LevelPut}
-use Rattle.hall_lines.specs.Lines.{Opening, NoFound}
-use Rattle.hall_lines.proofs.Lines.{near, opening_needs, next_mask, no_sum, no_low, no_rises, no_fits, no_none, no_some}
+use Rattle.hall_lines.specs.Lines.{Opening}
+use Rattle.hall_lines.proofs.Lines.{near, opening_needs, next_mask, no_low, no_rises, no_fits, no_none, no_some}
 use Rattle.hall_lines.proofs.line_no.Goals as goal
 use Rattle.hall_lines.proofs.line_no.Goals.{After-no_sums, After-opening_term-h, Start}
 

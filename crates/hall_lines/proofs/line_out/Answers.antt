@@ -1,17 +1,13 @@
 -- `line_out` tests the stop where the next holding part is removed.
-use Prim.Native.Nat.{ℕ, ◌+◌, ◌-◌, ◌*◌, ◌^◌, ◌<◌, ◌≤◌, max}
-use mathlib.Core.Path.{◌≡◌, refl, sym, ap, ap₂, subst, ◌∙◌}
-use mathlib.Core.Bool.{Bool}
-use mathlib.Core.List.{List}
+use Prim.Native.Nat.{ℕ, ◌+◌, ◌*◌, ◌^◌, ◌<◌, ◌≤◌}
+use mathlib.Core.Path.{◌≡◌, refl, sym, ap, ap₂, ◌∙◌}
 use native.Mathlib.Omega.{arith}
-use borrow.Author.Rules.{rules}
-use lib.ListN.{get_or, set}
-use Rattle.branch.specs.declared.Bound.TheVariants.{Missing, Sum}
+use lib.ListN.{get_or}
+use Rattle.branch.specs.declared.Bound.TheVariants.{Sum}
 use Rattle.branch.proofs.Bounds.{sum_inj}
-use Rattle.held_rows.specs.Held.{HeldSheet}
 use Rattle.held_lanes.specs.Places.{removal_place}
 use Rattle.walk.specs.State.{open_s}
-use Rattle.hall_lines.specs.Lines.{Removing, OutFound}
+use Rattle.hall_lines.specs.Lines.{Removing}
 use Rattle.hall_lines.proofs.Lines.{few_next, next_removed, out_cheap, open-sums, out_none, out_some}
 use Rattle.hall_lines.proofs.line_out.Goals as goal
 use Rattle.hall_lines.proofs.line_out.Goals.{After-open, Start}

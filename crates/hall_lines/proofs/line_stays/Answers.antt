@@ -1,26 +1,19 @@
 -- `line_stays` looks at the stop where the next holding part is not removed.
 use Prim.Native.Nat.{ℕ, ◌+◌, ◌-◌, ◌*◌, ◌^◌, ◌<◌, ◌≤◌, max}
 use mathlib.Core.Path.{◌≡◌, refl, sym, ap, ap₂, subst, ◌∙◌}
-use mathlib.Core.Bool.{Bool}
-use mathlib.Core.List.{List}
 use native.Mathlib.Omega.{arith}
-use borrow.Author.Rules.{rules}
 use lib.ListN.{get_or, set}
 use lib.Bits.{bit_or}
-use Rattle.branch.specs.declared.Bound.TheVariants.{Missing, Sum}
 use Rattle.lane_rows.specs.Layout.{inf, lane_count_lem, lanes_in}
 use Rattle.lane_rows.specs.Tables.{sum_where}
 use Rattle.lane_rows.specs.Rows.{sum_lanes, Recalled}
-use Rattle.held_rows.specs.Held.{HeldSheet}
 use Rattle.held_lanes.specs.Places.{most_to, classes_place, need_lanes_place, need_count_place, need_class_place}
 use Rattle.held_lanes.specs.Tables.{TermAsks, term_of}
 use Rattle.held_stops.specs.Stops.{stop_lane, LooksAtStop}
 use Rattle.walk.specs.State.{open_s}
-use Rattle.hall_lines.specs.declared.Stop.{Stop}
-use Rattle.hall_lines.specs.declared.Decision.{Decision}
 use Rattle.hall_lines.specs.Levels.{rows_in_lem}
-use Rattle.hall_lines.specs.Lines.{Removing, StayFound}
-use Rattle.hall_lines.proofs.Lines.{stop_near, few_next, next_removed, stop_needs, class_needs_lem, stays_set, stays_low, stays_rises, stays_fits, stays_none, stays_some}
+use Rattle.hall_lines.specs.Lines.{Removing}
+use Rattle.hall_lines.proofs.Lines.{stop_near, few_next, next_removed, stop_needs, class_needs_lem, stays_low, stays_rises, stays_fits, stays_none, stays_some}
 use Rattle.hall_lines.proofs.line_stays.Goals as goal
 use Rattle.hall_lines.proofs.line_stays.Goals.{After-removal_term-h, After-stay_sums, Start}
 

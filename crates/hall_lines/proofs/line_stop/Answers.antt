@@ -1,15 +1,12 @@
 -- `line_stop` tests the line's stop, and notes its row as not ready if it is walked on.
-use Prim.Native.Nat.{ℕ, ◌+◌, ◌-◌, ◌*◌, ◌^◌, ◌<◌, ◌≤◌, max}
-use mathlib.Core.Path.{◌≡◌, refl, sym, ap, ap₂, subst, ◌∙◌}
-use mathlib.Core.Bool.{Bool}
-use mathlib.Core.List.{List}
+use Prim.Native.Nat.{ℕ, ◌+◌, ◌<◌, ◌≤◌}
+use mathlib.Core.Path.{◌≡◌, refl, sym, ap₂, subst, ◌∙◌}
 use native.Mathlib.Omega.{arith}
 use borrow.Author.Rules.{rules}
-use lib.ListN.{get_or, set}
-use Rattle.branch.specs.declared.Bound.TheVariants.{Missing, Sum}
+use lib.ListN.{set}
+use Rattle.branch.specs.declared.Bound.TheVariants.{Sum}
 use Rattle.branch.proofs.Bounds.{sum_inj}
 use Rattle.walk.specs.State.{open_s}
-use Rattle.held_rows.specs.Held.{HeldSheet}
 use Rattle.held_lanes.specs.Places.{ready_place}
 use Rattle.hall_lines.specs.Levels.{rows_in_lem, sums_in}
 use Rattle.hall_lines.specs.Lines.{Opening, StopFound, stop_due}

@@ -1,14 +1,11 @@
 -- `settle_line` settles the stop, and writes the line's next level.
-use Prim.Native.Nat.{ℕ, ◌+◌, ◌-◌, ◌*◌, ◌^◌, ◌<◌, ◌≤◌, max}
-use mathlib.Core.Path.{◌≡◌, refl, sym, ap, ap₂, subst, ◌∙◌}
-use mathlib.Core.Bool.{Bool}
-use mathlib.Core.List.{List}
+use Prim.Native.Nat.{ℕ, ◌+◌, ◌*◌, ◌^◌, ◌<◌, ◌≤◌}
+use mathlib.Core.Path.{sym, subst}
 use native.Mathlib.Omega.{arith}
 use borrow.Author.Rules.{rules}
-use lib.ListN.{get_or, set}
 use Rattle.held_stops.specs.Stops.{SettleAsks, StopPut, StopNoted}
 use Rattle.hall_lines.specs.Levels.{rows_in_lem, mask_in, LevelPut}
-use Rattle.hall_lines.specs.Lines.{Decided, LineSettled}
+use Rattle.hall_lines.specs.Lines.{Decided}
 use Rattle.hall_lines.proofs.Lines.{settle_needs, settle_near, settle_rows, settle_mask, line_settled}
 use Rattle.hall_lines.proofs.settle_line.Goals as goal
 use Rattle.hall_lines.proofs.settle_line.Goals.{Start}
