@@ -4,9 +4,7 @@ use mathlib.Core.Path.{◌≡◌, refl, sym, ap, subst, ◌∙◌}
 use mathlib.Core.Bool.{Bool, true, false, cond}
 use mathlib.Core.List.{List, [], ◌∷◌, map}
 use native.Mathlib.Omega.{arith}
-use native.Mathlib.Decide.{ℕ_discrete}
-use lib.ListN.{length, get_or, set, length-set, length-map}
-use lib.Seq.{get_or-set_same, get_or-set_other}
+use lib.ListN.{length, set, length-map}
 use Rattle.model.specs.Model.{Job, Each, holding, removal_of_lem}
 use Rattle.model.specs.LowerBound.{inner}
 use Rattle.model.proofs.Positions.{positions_size}
@@ -14,14 +12,14 @@ use Rattle.model.proofs.Totals.{select-length}
 use Rattle.held_rows.specs.Held.{HeldSheet, SheetOf, held}
 use Rattle.lane_rows.proofs.Memory.{recalled_none}
 use Rattle.hall.specs.Hall.{Hall, Placed}
-use Rattle.hall.specs.Agenda.{Line, lines_from}
+use Rattle.hall.specs.Agenda.{lines_from}
 use Rattle.hall_nodes.specs.Lines.{Slot, Given, slot_bound, SlotOf, lines_sum, others_sum, SlotIn, Goes, GoesAt, SlotKept, with_rows}
 use Rattle.hall_nodes.proofs.Going.{looked_kept, kept_then, goes_kept}
 use Rattle.hall_nodes.proofs.Branches.{SameBest}
 use Rattle.hall_lines.specs.Levels.{LevelsKept}
 use Rattle.hall_lines.specs.Lines.{open_slot, stop_slot}
 use Rattle.hall_lines.proofs.Levels.{levels_none, levels_then, level_same, stop_same}
-use Rattle.hall_state.specs.Courses.{Ground, Arrays, line_of, Course, no_course, course_in, level_slot, stopped_slot, line_slot, slots_at, LineKept, SameSize, Kept, BestSame, Others, OthersSame}
+use Rattle.hall_state.specs.Courses.{Ground, Arrays, line_of, Course, course_in, level_slot, stopped_slot, line_slot, slots_at, LineKept, SameSize, Kept, BestSame}
 use Rattle.hall_state.specs.Moves.{SameCourses}
 
 -- ---- one line

@@ -1,7 +1,7 @@
 -- What is left to ask at a spot: the question there, and what is left after each answer. Lists of agendas that are asked the same way.
 use Prim.Native.Nat.{ℕ, zero, suc, ◌+◌, ◌-◌, ◌<◌, ◌≤◌}
 use mathlib.Core.Path.{◌≡◌, refl, sym, ap, subst, ◌∙◌}
-use mathlib.Core.Bool.{Bool, true, false, cond, false≢true, true≢false}
+use mathlib.Core.Bool.{Bool, true, false, cond}
 use mathlib.Core.List.{List, [], ◌∷◌}
 use native.Mathlib.Omega.{arith}
 use lib.ListN.{length, get_or, drop}
@@ -13,7 +13,7 @@ use Rattle.hall.specs.Hall.{Hall, Placed, open_at}
 use Rattle.hall.specs.Agenda.{Topic, crew, line, Agenda, over, raise, hear_then, removals, lines_asked, steps_asked, crew_steps}
 use Rattle.hall.specs.Steps.{Stands, Asks, tree_from}
 use Rattle.hall.proofs.Steps.{stands_over, stands_asks, stands_no, stands_yes, tree_over, on_asks, steps_next, steps_end_lem, lines_open, lines_end, removals_next, removals_end}
-use Rattle.hall_steps.specs.Steps.{open_in, next_open_lem}
+use Rattle.hall_steps.specs.Steps.{next_open_lem}
 use Rattle.hall_steps.specs.Table.{step_count, step_at, CrewTable}
 use Rattle.hall_steps.proofs.Asked.{drop_line, next_asked}
 use Rattle.hall_state.specs.declared.Spot.{Spot}

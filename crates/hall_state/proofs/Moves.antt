@@ -2,10 +2,10 @@
 use Prim.Native.Nat.{ℕ, ◌+◌, ◌<◌, ◌≤◌}
 use mathlib.Core.Path.{◌≡◌, refl, sym, ap, subst, ◌∙◌}
 use mathlib.Core.Bool.{Bool, true, false, cond}
-use mathlib.Core.List.{List, []}
+use mathlib.Core.List.{List}
 use native.Mathlib.Omega.{arith}
 use native.Mathlib.Decide.{ℕ_discrete}
-use lib.ListN.{length, get_or, set, length-set}
+use lib.ListN.{length, set, length-set}
 use lib.Seq.{get_or-set_same, get_or-set_other}
 use Rattle.branch.specs.declared.Bound.{Bound}
 use Rattle.branch.specs.declared.Bound.TheVariants.{Missing, Sum}
@@ -13,15 +13,15 @@ use Rattle.branch.specs.Search.{full, snoc}
 use Rattle.branch.proofs.Bounds.{sum_inj}
 use Rattle.model.specs.Limits.{last_step}
 use Rattle.model.specs.Decisions.{concat}
-use Rattle.held_rows.specs.Held.{HeldSheet, held_bound}
+use Rattle.held_rows.specs.Held.{held_bound}
 use Rattle.walk.specs.declared.Search.{Search}
-use Rattle.walk.specs.State.{no_cost, open_s}
+use Rattle.walk.specs.State.{open_s}
 use Rattle.walk.proofs.Trees.{DueAt}
 use Rattle.hall.specs.Hall.{Hall}
-use Rattle.hall.specs.Agenda.{line, agenda_of, lines_of}
+use Rattle.hall.specs.Agenda.{line, agenda_of}
 use Rattle.hall.specs.LowerBound.{hall_bound}
 use Rattle.hall.specs.Steps.{Stands, Asks, tree_from}
-use Rattle.hall_nodes.specs.Lines.{Slot, slot_bound, lines_sum, others_sum, HallAt, Goes, GoesAt}
+use Rattle.hall_nodes.specs.Lines.{slot_bound, lines_sum, others_sum, HallAt, Goes, GoesAt}
 use Rattle.hall_nodes.proofs.Bounds.{slot_bound_lem}
 use Rattle.hall_nodes.proofs.Below.{line_at}
 use Rattle.hall_nodes.proofs.Due.{line_due}
@@ -31,7 +31,7 @@ use Rattle.hall_lines.proofs.Lines.{open-sums}
 use Rattle.hall_state.specs.declared.Spot.{Spot}
 use Rattle.hall_state.specs.Courses.{Ground, Arrays, line_of, Course, no_course, course_in, line_slot, slots_at, LineKept, Kept, BestSame, OthersSame}
 use Rattle.hall_state.specs.Spots.{left_of, left_below, OnCourse, Formed, asked_of, Stood}
-use Rattle.hall_state.specs.Moves.{measure_of, SameCourses, Crewed, Opens, Below}
+use Rattle.hall_state.specs.Moves.{measure_of, Crewed, Opens, Below}
 use Rattle.hall_state.proofs.Courses.{slot_sheet, slot_blocks, untouched_kept, line_goes, all_kept_lem, slot_in, goes_in, others_own, others_goes, bound_kept, sum_kept, line_given}
 
 -- the spot q is the one below p where line d takes the decision x: nothing but that line's course moves

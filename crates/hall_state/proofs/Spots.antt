@@ -1,21 +1,19 @@
 -- The spots below a line's question and below a removal: nothing but that line's course moves.
-use Prim.Native.Nat.{ℕ, ◌+◌, ◌-◌, ◌*◌, ◌<◌, ◌≤◌}
-use mathlib.Core.Path.{◌≡◌, refl, sym, ap, subst, ◌∙◌}
-use mathlib.Core.Bool.{Bool, true, false, cond, ◌&&◌, false≢true, true≢false}
+use Prim.Native.Nat.{ℕ, ◌+◌, ◌-◌, ◌*◌, ◌<◌}
+use mathlib.Core.Path.{◌≡◌, refl, sym, ap, ◌∙◌}
+use mathlib.Core.Bool.{Bool, true, false, cond, ◌&&◌, false≢true}
 use mathlib.Core.List.{List}
 use native.Mathlib.Omega.{arith}
 use native.Mathlib.Decide.{dec_lt}
 use borrow.Author.Tests.{lt-ltb, le-ltb, eq-eqb, ne_eqb}
 use lib.Dec.{ltb, eqb}
-use lib.ListN.{length}
 use Rattle.hall.specs.Hall.{Hall}
 use Rattle.hall_lines.specs.declared.Stop.{Stop}
 use Rattle.hall_lines.specs.declared.Decision.{Decision}
-use Rattle.hall_steps.specs.Steps.{level_in, open_in}
-use Rattle.hall_steps.specs.Table.{step_count}
+use Rattle.hall_steps.specs.Steps.{level_in}
 use Rattle.hall_state.specs.declared.Spot.{Spot}
 use Rattle.hall_state.specs.Courses.{Course}
-use Rattle.hall_state.specs.Spots.{inner_at, call_left, line_left, decided_spot, line_spot, stop_spot, left_of, left_below, level_of, OnCourse, Formed, asked_of, Asked}
+use Rattle.hall_state.specs.Spots.{inner_at, call_left, line_left, decided_spot, line_spot, stop_spot, left_below, OnCourse, Formed, asked_of, Asked}
 use Rattle.hall_state.specs.Moves.{measure_of, Crewed}
 use Rattle.hall_state.proofs.Moves.{Follows}
 

@@ -1,5 +1,5 @@
 -- A spot of the hall's walk: what is left to ask there, and what the walk is given.
-use Rattle.std.specs.Prelude.{ℕ, zero, suc, ◌+◌, ◌-◌, ◌<◌, ◌≤◌, ◌≡◌, Bool, true, false, cond, ◌&&◌, List, [], ◌∷◌, ltb, eqb, length, get_or, drop}
+use Rattle.std.specs.Prelude.{ℕ, zero, suc, ◌+◌, ◌-◌, ◌<◌, ◌≤◌, ◌≡◌, Bool, true, false, cond, ◌&&◌, List, [], ◌∷◌, ltb, eqb, length, drop}
 use Rattle.model.specs.Model.{Job}
 use Rattle.model.specs.LowerBound.{inner}
 use Rattle.hall.specs.Hall.{Hall}
