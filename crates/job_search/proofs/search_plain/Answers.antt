@@ -2,7 +2,6 @@
 use Prim.Native.Nat.{ℕ}
 use mathlib.Core.Path.{sym}
 use native.Mathlib.Omega.{arith}
-use borrow.Author.Rules.{rules}
 use lib.ListN.{take}
 use mir.Syntax.{w32}
 use mir.Val.{to_z, of_z}
@@ -46,19 +45,19 @@ pub slice_bounds-search-end : goal.slice_bounds-search-end
 slice_bounds-search-end c = sym (long (goal.at.slice_bounds-search-end c).After-prices_of-prices).places
 
 pub slice_bounds-fees-end : goal.slice_bounds-fees-end
-slice_bounds-fees-end c = long_enough c.args.job.opening_count c.numbers_of-numbers.result.fees (long (goal.at.slice_bounds-fees-end c).After-prices_of-prices).fees
+slice_bounds-fees-end c = long_enough (n (goal.at.slice_bounds-fees-end c).After-prices_of-prices) c.numbers_of-numbers.result.fees (long (goal.at.slice_bounds-fees-end c).After-prices_of-prices).fees
 
 pub slice_bounds-search-end-2 : goal.slice_bounds-search-end-2
 slice_bounds-search-end-2 c = sym (long (goal.at.slice_bounds-search-end-2 c).After-prices_of-prices).fees
 
 pub slice_bounds-lives-end : goal.slice_bounds-lives-end
-slice_bounds-lives-end c = long_enough c.args.job.part_count c.numbers_of-numbers.result.lives (long (goal.at.slice_bounds-lives-end c).After-prices_of-prices).lives
+slice_bounds-lives-end c = long_enough (m (goal.at.slice_bounds-lives-end c).After-prices_of-prices) c.numbers_of-numbers.result.lives (long (goal.at.slice_bounds-lives-end c).After-prices_of-prices).lives
 
 pub slice_bounds-search-end-3 : goal.slice_bounds-search-end-3
 slice_bounds-search-end-3 c = sym (long (goal.at.slice_bounds-search-end-3 c).After-prices_of-prices).lives
 
 pub slice_bounds-lefts-end : goal.slice_bounds-lefts-end
-slice_bounds-lefts-end c = long_enough c.args.job.part_count c.numbers_of-numbers.result.lefts (long (goal.at.slice_bounds-lefts-end c).After-prices_of-prices).lefts
+slice_bounds-lefts-end c = long_enough (m (goal.at.slice_bounds-lefts-end c).After-prices_of-prices) c.numbers_of-numbers.result.lefts (long (goal.at.slice_bounds-lefts-end c).After-prices_of-prices).lefts
 
 pub slice_bounds-search-end-4 : goal.slice_bounds-search-end-4
 slice_bounds-search-end-4 c = sym (long (goal.at.slice_bounds-search-end-4 c).After-prices_of-prices).lefts
