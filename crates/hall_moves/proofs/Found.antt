@@ -1,7 +1,7 @@
 -- What a line's functions find is a line's move of the hall: no stop and a stop, not removed and removed.
 use Prim.Native.Nat.{ℕ, suc, ◌+◌, ◌<◌, ◌≤◌}
 use mathlib.Core.Path.{◌≡◌, refl, sym, ap, subst, ◌∙◌}
-use mathlib.Core.Bool.{Bool, true, false, cond, false≢true, true≢false}
+use mathlib.Core.Bool.{Bool, true, false, false≢true, true≢false}
 use mathlib.Core.List.{List, [], ◌∷◌}
 use native.Mathlib.Omega.{arith}
 use lib.ListN.{length, get_or, set, length-set}
@@ -12,10 +12,9 @@ use Rattle.branch.specs.Search.{snoc}
 use Rattle.model.specs.Model.{Job}
 use Rattle.lane_rows.specs.Layout.{fee_place}
 use Rattle.lane_rows.specs.Tables.{sum_where}
-use Rattle.held_rows.specs.Held.{held}
 use Rattle.held_lanes.specs.Places.{removal_place}
 use Rattle.walk.specs.declared.Search.{Search}
-use Rattle.hall.specs.Hall.{Hall, Placed}
+use Rattle.hall.specs.Hall.{Hall}
 use Rattle.hall.specs.Agenda.{crew, line, agenda_of, lines_from, lines_of}
 use Rattle.hall.specs.Steps.{Asks, Stands}
 use Rattle.hall_nodes.specs.Lines.{Slot, Given, slot_bound, Goes, SlotKept, no_blocks_lem, yes_blocks}
@@ -23,19 +22,19 @@ use Rattle.hall_nodes.proofs.Bounds.{lines_most}
 use Rattle.hall_lines.specs.declared.Stop.{Stop}
 use Rattle.hall_lines.specs.declared.Decision.{Decision}
 use Rattle.hall_lines.specs.Levels.{sums_in, term_in}
-use Rattle.hall_lines.specs.Lines.{open_slot, stop_slot, Opening, Removing, NoFound, StopFound, StayFound, OutFound, first_stop_lem, stop_due, decided_bound, roomy}
+use Rattle.hall_lines.specs.Lines.{stop_slot, Opening, Removing, NoFound, StopFound, StayFound, OutFound, first_stop_lem, stop_due, roomy}
 use Rattle.hall_lines.proofs.Levels.{levels_none}
 use Rattle.hall_steps.specs.Steps.{level_in}
 use Rattle.hall_steps.specs.Table.{step_at}
 use Rattle.hall_state.specs.declared.Spot.{Spot}
-use Rattle.hall_state.specs.Courses.{Ground, Arrays, arrays, line_of, Course, course_in, level_slot, stopped_slot, line_slot, slots_at, LineKept, BestSame, Others, OthersSame}
-use Rattle.hall_state.specs.Spots.{closed_spot, decided_spot, line_spot, stop_spot, left_below, OnCourse, Stood, Asked}
+use Rattle.hall_state.specs.Courses.{Ground, Arrays, arrays, line_of, Course, course_in, level_slot, stopped_slot, line_slot, slots_at, LineKept, Others}
+use Rattle.hall_state.specs.Spots.{closed_spot, decided_spot, line_spot, stop_spot, left_below, OnCourse}
 use Rattle.hall_state.specs.Moves.{Below}
 use Rattle.hall_state.proofs.Courses.{self_kept, slot_in, others_own, line_given, job_here}
-use Rattle.hall_state.proofs.Left.{topic_of, raised, raised_asks, raised_no, raised_yes, inner_at_lem}
-use Rattle.hall_state.proofs.Moves.{GoesOn, LineMoved, asked_near, line_below}
+use Rattle.hall_state.proofs.Left.{raised, raised_asks, raised_no, raised_yes, inner_at_lem}
+use Rattle.hall_state.proofs.Moves.{GoesOn, asked_near, line_below}
 use Rattle.hall_state.proofs.Spots.{cond_no, cond_yes, here_level, here_open, next_level, no_follows, no_on, yes_follows, yes_on, not_calling, stop_level, stop_stopped, removal_follows, removal_on}
-use Rattle.hall_moves.specs.Asks.{Fours, Asking}
+use Rattle.hall_moves.specs.Asks.{Asking}
 
 lines_size : (d : ℕ) (jobs : List Job) → length (lines_from d jobs) ≡ length jobs
 unfolding lines_from

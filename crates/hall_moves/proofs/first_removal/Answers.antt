@@ -1,20 +1,15 @@
 -- `first_removal` leaves the next holding part in its place, over the line's part of the arrays.
-use Prim.Native.Nat.{ℕ, ◌+◌, ◌-◌, ◌<◌, ◌≤◌, ◌^◌}
-use mathlib.Core.Path.{◌≡◌, refl, sym, ap, subst, ◌∙◌}
-use mathlib.Core.Bool.{Bool, true, false}
-use mathlib.Core.List.{List, []}
+use Prim.Native.Nat.{ℕ, ◌+◌, ◌-◌, ◌<◌, ◌≤◌}
+use mathlib.Core.Path.{sym, subst}
+use mathlib.Core.Bool.{Bool, false}
+use mathlib.Core.List.{List}
 use native.Mathlib.Omega.{arith}
-use borrow.Author.Rules.{rules}
-use lib.ListN.{length, get_or, set}
-use Rattle.branch.specs.declared.Bound.{Bound}
-use Rattle.branch.specs.declared.Bound.TheVariants.{Missing, Sum}
+use lib.ListN.{set}
 use Rattle.hall.specs.Hall.{Hall}
-use Rattle.hall_lines.specs.Levels.{sums_in, term_in}
-use Rattle.hall_steps.specs.Steps.{level_in}
 use Rattle.hall_state.specs.declared.Spot.{Spot}
-use Rattle.hall_state.specs.Courses.{Ground, Arrays, ground, arrays, line_of, Course, course_in}
+use Rattle.hall_state.specs.Courses.{Ground, Arrays, ground, arrays, Course, course_in}
 use Rattle.hall_state.specs.Moves.{Below}
-use Rattle.hall_moves.specs.Asks.{Fours, Asking}
+use Rattle.hall_moves.specs.Asks.{Asking}
 use Rattle.hall_lines.specs.Lines.{roomy}
 use Rattle.hall_moves.proofs.Found.{room, stop_step, stop_most, removing_at, stays_below}
 use Rattle.hall_moves.proofs.first_removal.Goals as goal

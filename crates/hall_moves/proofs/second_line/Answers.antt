@@ -1,13 +1,10 @@
 -- `second_line` takes the line's stop, over the line's part of the arrays.
-use Prim.Native.Nat.{ℕ, ◌+◌, ◌-◌, ◌<◌, ◌≤◌, ◌^◌}
-use mathlib.Core.Path.{◌≡◌, refl, sym, ap, subst, ◌∙◌}
-use mathlib.Core.Bool.{Bool, true, false}
-use mathlib.Core.List.{List, []}
+use Prim.Native.Nat.{ℕ, ◌+◌, ◌-◌, ◌<◌, ◌≤◌}
+use mathlib.Core.Path.{◌≡◌, sym, ap, subst, ◌∙◌}
+use mathlib.Core.Bool.{Bool, true}
+use mathlib.Core.List.{List}
 use native.Mathlib.Omega.{arith}
-use borrow.Author.Rules.{rules}
-use lib.ListN.{length, get_or, set}
-use Rattle.branch.specs.declared.Bound.{Bound}
-use Rattle.branch.specs.declared.Bound.TheVariants.{Missing, Sum}
+use lib.ListN.{set}
 use Rattle.hall.specs.Hall.{Hall}
 use Rattle.hall_lines.specs.Levels.{sums_in, term_in}
 use Rattle.hall_lines.specs.Lines.{roomy}
@@ -15,7 +12,7 @@ use Rattle.hall_steps.specs.Steps.{level_in}
 use Rattle.hall_state.specs.declared.Spot.{Spot}
 use Rattle.hall_state.specs.Courses.{Ground, Arrays, ground, arrays, line_of, Course, course_in}
 use Rattle.hall_state.specs.Moves.{Below}
-use Rattle.hall_moves.specs.Asks.{Fours, Asking}
+use Rattle.hall_moves.specs.Asks.{Asking}
 use Rattle.hall_lines.specs.declared.Stop.{Stop}
 use Rattle.hall_state.specs.Spots.{stop_spot}
 use Rattle.hall_moves.proofs.Found.{room, line_step, opening_at_lem, own_most, level_near, yes_closed, yes_open}

@@ -1,20 +1,12 @@
 -- `second_removal` takes the next holding part out.
-use Prim.Native.Nat.{ℕ, ◌+◌, ◌-◌, ◌<◌, ◌≤◌, ◌^◌}
-use mathlib.Core.Path.{◌≡◌, refl, sym, ap, subst, ◌∙◌}
-use mathlib.Core.Bool.{Bool, true, false}
-use mathlib.Core.List.{List, []}
+use Prim.Native.Nat.{ℕ, ◌+◌, ◌-◌, ◌≤◌}
+use mathlib.Core.Path.{sym, subst}
+use mathlib.Core.Bool.{true}
 use native.Mathlib.Omega.{arith}
-use borrow.Author.Rules.{rules}
-use lib.ListN.{length, get_or, set}
-use Rattle.branch.specs.declared.Bound.{Bound}
-use Rattle.branch.specs.declared.Bound.TheVariants.{Missing, Sum}
-use Rattle.hall.specs.Hall.{Hall}
-use Rattle.hall_lines.specs.Levels.{sums_in, term_in}
-use Rattle.hall_steps.specs.Steps.{level_in}
 use Rattle.hall_state.specs.declared.Spot.{Spot}
-use Rattle.hall_state.specs.Courses.{Ground, Arrays, ground, arrays, line_of, Course, course_in}
+use Rattle.hall_state.specs.Courses.{Ground, Arrays, ground, arrays, line_of, course_in}
 use Rattle.hall_state.specs.Moves.{Below}
-use Rattle.hall_moves.specs.Asks.{Fours, Asking}
+use Rattle.hall_moves.specs.Asks.{Asking}
 use Rattle.hall_lines.specs.Lines.{roomy}
 use Rattle.hall_moves.proofs.Found.{room, stop_most, stop_removing, out_below}
 use Rattle.hall_moves.proofs.second_removal.Goals as goal
