@@ -28,7 +28,7 @@ use search::Found;
 pub const ROOM: usize = 16384;
 
 // What the planner finds of an accepted job; the plan stands beside it.
-#[derive(Drop)]
+#[derive(Clone, Copy)]
 pub enum Finding {
     // 6: no plan keeps the lives.
     NoPlan,

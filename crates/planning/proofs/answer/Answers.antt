@@ -1,0 +1,22 @@
+-- `answer`: an output that is too short stays; else the finding's lines are written, and its number handed over.
+use Prim.Native.Nat.{ℕ}
+use mathlib.Core.Path.{ap, ◌∙◌}
+use Rattle.jobs.specs.Views.{plan_for}
+use Rattle.job_text.specs.Views.{given_of}
+use Rattle.answers.specs.Said.{plainly, handed}
+use Rattle.answers.proofs.Replies.{replied, no_room}
+use Rattle.planning.specs.Plan.{planner_lines, said_for, plan_room}
+use Rattle.planning.specs.Finding.{answer_in}
+use Rattle.planning.proofs.Lengths.{lines_short}
+use borrow.Author.Rules.{rules}
+use Rattle.planning.proofs.answer.Goals as goal
+
+pub returns-then-out-lt-ROOM : goal.returns-then-out-lt-ROOM
+returns-then-out-lt-ROOM c = no_room _ _ _ c.if-out-lt-ROOM.true c.no_room.ensures
+
+pub returns : goal.returns
+returns c = let a = c.args in
+    let plan = plan_for a.text.job a.plan in
+    let put = c.put_finding-n in
+    replied plan_room (said_for (given_of a.text) (answer_in plan a.f)) c.if-out-lt-ROOM.false (lines_short a.f a.text a.plan c.requires.0 c.requires.1) put.ensures
+    (c.plain.ensures ∙ ap (λ (n : ℕ). handed (plainly n (planner_lines (given_of a.text) (answer_in plan a.f))) put.result) (c.number_of.ensures plan))

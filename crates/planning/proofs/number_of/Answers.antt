@@ -1,0 +1,15 @@
+-- `number_of`: case by case.
+use borrow.Author.Rules.{rules}
+use Rattle.planning.proofs.number_of.Goals as goal
+
+pub returns-in-NoPlan : goal.returns-in-NoPlan
+returns-in-NoPlan c plan = rw c.in-NoPlan.is
+
+pub returns-in-Optimum : goal.returns-in-Optimum
+returns-in-Optimum c plan = rw c.in-Optimum.is
+
+pub returns-in-Cut : goal.returns-in-Cut
+returns-in-Cut c plan = rw c.in-Cut.is
+
+pub returns-in-CutBare : goal.returns-in-CutBare
+returns-in-CutBare c plan = rw c.in-CutBare.is
