@@ -1,5 +1,5 @@
 -- A call and no call, as the nodes below the hall's.
-use Prim.Native.Nat.{ℕ, zero, suc, ◌+◌, ◌-◌, ◌*◌, ◌<◌, ◌≤◌}
+use Prim.Native.Nat.{ℕ, suc, ◌+◌, ◌-◌, ◌*◌, ◌<◌}
 use mathlib.Core.Path.{◌≡◌, refl, sym, ap, subst, ◌∙◌}
 use mathlib.Core.Bool.{Bool, true, false, cond, ◌&&◌, false≢true, true≢false}
 use mathlib.Core.List.{List, [], ◌∷◌}
@@ -7,31 +7,28 @@ use native.Mathlib.Omega.{arith}
 use borrow.Author.Tests.{le-ltb}
 use lib.Dec.{ltb, leb, eqb}
 use lib.ListN.{length}
-use Rattle.branch.specs.declared.Bound.{Bound}
 use Rattle.branch.specs.declared.Bound.TheVariants.{Missing, Sum}
 use Rattle.branch.specs.Search.{snoc}
 use Rattle.branch.proofs.Bounds.{no_sum_lem}
-use Rattle.branch.proofs.Steps.{bound_at}
 use Rattle.model.specs.Model.{Job}
 use Rattle.walk.specs.declared.Search.{Search}
-use Rattle.walk.specs.State.{no_cost, open_s}
+use Rattle.walk.specs.State.{open_s}
 use Rattle.walk.proofs.Trees.{DueAt}
 use Rattle.hall.specs.Hall.{Hall, Placed, open_at}
 use Rattle.hall.specs.Agenda.{crew, line, agenda_of}
 use Rattle.hall.specs.LowerBound.{hall_bound}
 use Rattle.hall.specs.Steps.{Stands, Asks, tree_from}
 use Rattle.hall.proofs.Steps.{tree_bound}
-use Rattle.hall_nodes.specs.Lines.{lines_sum, HallAt, Goes, NoIf, NoneGo}
+use Rattle.hall_nodes.specs.Lines.{HallAt, NoIf, NoneGo}
 use Rattle.hall_nodes.proofs.Below.{call_at, no_call_at}
 use Rattle.hall_nodes.proofs.Due.{all_due}
 use Rattle.hall_nodes.proofs.Kept.{kept_at}
 use Rattle.hall_steps.specs.Steps.{level_in, open_in}
 use Rattle.hall_steps.specs.Table.{step_at}
-use Rattle.hall_steps.proofs.Asked.{drop_line}
 use Rattle.hall_state.specs.declared.Spot.{Spot}
 use Rattle.hall_state.specs.Courses.{Ground, Arrays, line_of, Course, course_in, line_slot, slots_at, LineKept, Kept, BestSame}
-use Rattle.hall_state.specs.Spots.{closed_spot, line_spot, call_spot, line_left, call_left, left_of, left_below, inner_at, level_of, OnCourse, Formed, asked_of, Stood, Asked}
-use Rattle.hall_state.specs.Moves.{measure_of, SameCourses, Crewed, Opens, Below}
+use Rattle.hall_state.specs.Spots.{closed_spot, line_spot, call_spot, line_left, call_left, left_below, inner_at, level_of, OnCourse, Formed, asked_of}
+use Rattle.hall_state.specs.Moves.{measure_of, SameCourses, Opens, Below}
 use Rattle.hall_state.proofs.Courses.{self_kept, line_goes, all_kept_lem, line_given}
 use Rattle.hall_state.proofs.Left.{raised, raised_asks}
 use Rattle.hall_state.proofs.Moves.{asked_near}

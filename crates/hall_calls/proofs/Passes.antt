@@ -1,13 +1,12 @@
 -- One line passes the step: nothing if it is not open there, else its own no.
-use Prim.Native.Nat.{ℕ, zero, suc, ◌+◌, ◌*◌, ◌<◌, ◌≤◌}
+use Prim.Native.Nat.{ℕ, suc, ◌+◌, ◌*◌, ◌<◌, ◌≤◌}
 use mathlib.Core.Path.{◌≡◌, refl, sym, ap, subst, ◌∙◌}
-use mathlib.Core.Bool.{Bool, true, false, cond, false≢true, true≢false}
+use mathlib.Core.Bool.{Bool, true, false, cond, false≢true}
 use mathlib.Core.List.{List, [], ◌∷◌, ◌++◌}
 use native.Mathlib.Omega.{arith}
 use native.Mathlib.Decide.{ℕ_discrete, dec_lt}
 use borrow.Author.Tests.{lt-ltb}
-use lib.Dec.{ltb}
-use lib.ListN.{length, get_or, set, length-set}
+use lib.ListN.{length, set, length-set}
 use lib.Seq.{get_or-set_same, get_or-set_other}
 use Rattle.branch.specs.declared.Bound.{Bound}
 use Rattle.branch.specs.declared.Bound.TheVariants.{Missing, Sum}
@@ -18,14 +17,13 @@ use Rattle.model.specs.LowerBound.{bound_of}
 use Rattle.lane_rows.specs.Tables.{sum_where}
 use Rattle.held_rows.specs.Held.{SheetOf, held_bound}
 use Rattle.held_rows.proofs.Sheets.{held_bound_lem}
-use Rattle.walk.specs.declared.Search.{Search}
 use Rattle.walk.specs.State.{no_cost, open_s}
 use Rattle.held_nodes.proofs.Root.{fresh}
-use Rattle.hall.specs.Hall.{Hall, open_at}
+use Rattle.hall.specs.Hall.{Hall}
 use Rattle.hall.specs.Agenda.{Line, name_for}
 use Rattle.hall.specs.LowerBound.{line_bound, hall_bound}
 use Rattle.hall.proofs.Steps.{no_call_name}
-use Rattle.hall_nodes.specs.Lines.{Slot, Given, slot_bound, lines_sum, others_sum, Goes, SlotKept, no_blocks_lem}
+use Rattle.hall_nodes.specs.Lines.{Slot, Given, slot_bound, lines_sum, others_sum, Goes, SlotKept}
 use Rattle.hall_nodes.proofs.Bounds.{slot_most, slot_bound_lem, slot_most_lem}
 use Rattle.hall_nodes.proofs.Due.{line_missing}
 use Rattle.hall_nodes.proofs.Kept.{kept_at}
@@ -36,13 +34,13 @@ use Rattle.hall_steps.specs.Steps.{level_in, open_in}
 use Rattle.hall_steps.specs.Table.{step_at}
 use Rattle.hall_state.specs.declared.Spot.{Spot}
 use Rattle.hall_state.specs.Courses.{Ground, Arrays, arrays, line_of, Course, no_course, course_in, level_slot, stopped_slot, line_slot, slots_at, LineKept, Kept}
-use Rattle.hall_state.specs.Spots.{asked_of, Stood}
+use Rattle.hall_state.specs.Spots.{asked_of}
 use Rattle.hall_state.proofs.Courses.{slot_sheet, slot_blocks, line_same, untouched_kept, all_then, all_kept_lem, slot_in, goes_in, others_own, others_goes, bound_kept, sum_kept, line_given, line_here, job_here}
 use Rattle.hall_state.proofs.Moves.{asked_near}
 use Rattle.hall_state.proofs.Spots.{cond_no, cond_yes}
 use Rattle.hall_moves.specs.Asks.{Asking}
 use Rattle.hall_moves.proofs.Found.{at_same}
-use Rattle.hall_calls.specs.Calls.{none_of_lem, pass_of, Passing, PassedOn}
+use Rattle.hall_calls.specs.Calls.{none_of_lem, pass_of, Passing}
 use Rattle.hall_calls.proofs.Calls.{at-step, no_stop, asks_call, self_all}
 
 -- a question stays what it was where its lines are kept

@@ -1,24 +1,20 @@
 -- `line_passes` takes the line's no where it is open at the step, and leaves it where it is not.
-use Prim.Native.Nat.{ℕ, ◌+◌, ◌-◌, ◌<◌, ◌≤◌, ◌^◌}
-use mathlib.Core.Path.{◌≡◌, refl, sym, ap, subst, ◌∙◌}
-use mathlib.Core.Bool.{Bool, true, false}
-use mathlib.Core.List.{List, []}
+use Prim.Native.Nat.{ℕ, ◌+◌, ◌-◌, ◌<◌, ◌≤◌}
+use mathlib.Core.Path.{◌≡◌, refl, sym, subst, ◌∙◌}
+use mathlib.Core.Bool.{Bool, true}
+use mathlib.Core.List.{List}
 use native.Mathlib.Omega.{arith}
-use borrow.Author.Rules.{rules}
-use lib.ListN.{length, get_or, set, length-set}
-use Rattle.branch.specs.declared.Bound.{Bound}
-use Rattle.branch.specs.declared.Bound.TheVariants.{Missing, Sum}
+use lib.ListN.{length, length-set}
+use Rattle.branch.specs.declared.Bound.TheVariants.{Sum}
 use Rattle.branch.proofs.Bounds.{no_sum_lem, sum_inj}
 use Rattle.hall.specs.Hall.{Hall}
 use Rattle.hall_lines.specs.Levels.{sums_in, term_in}
 use Rattle.hall_steps.specs.Steps.{level_in, open_in}
-use Rattle.hall_state.specs.declared.Spot.{Spot}
 use Rattle.hall_state.specs.Courses.{Ground, Arrays, ground, arrays, line_of, Course, course_in}
-use Rattle.hall_state.specs.Moves.{Below}
-use Rattle.hall_moves.specs.Asks.{Fours, Asking}
-use Rattle.hall_calls.specs.Calls.{Passing, PassedOn}
+use Rattle.hall_moves.specs.Asks.{Asking}
+use Rattle.hall_calls.specs.Calls.{Passing}
 use Rattle.hall_calls.proofs.Calls.{step_near}
-use Rattle.hall_calls.proofs.Passes.{asking_kept, pass_room, pass_shut, pass_opening, pass_near, pass_within, pass_kept, pass_none, pass_some}
+use Rattle.hall_calls.proofs.Passes.{pass_room, pass_shut, pass_opening, pass_near, pass_within, pass_kept, pass_none, pass_some}
 use Rattle.hall_calls.proofs.line_passes.Goals as goal
 use Rattle.hall_calls.proofs.line_passes.Goals.{Start, Then-is_open}
 

@@ -1,22 +1,12 @@
-use Prim.Native.Nat.{ℕ, ◌+◌, ◌-◌, ◌<◌, ◌≤◌, ◌^◌}
-use mathlib.Core.Path.{◌≡◌, refl, sym, ap, subst, ◌∙◌}
-use mathlib.Core.Bool.{Bool, true, false}
-use mathlib.Core.List.{List, []}
-use native.Mathlib.Omega.{arith}
-use borrow.Author.Rules.{rules}
-use lib.ListN.{length, get_or, set, length-set}
-use Rattle.branch.specs.declared.Bound.{Bound}
-use Rattle.branch.specs.declared.Bound.TheVariants.{Missing, Sum}
-use Rattle.branch.proofs.Bounds.{no_sum_lem, sum_inj}
+use Prim.Native.Nat.{ℕ, ◌-◌, ◌≤◌}
+use mathlib.Core.Path.{◌≡◌}
+use mathlib.Core.Bool.{Bool}
+use mathlib.Core.List.{List}
+use lib.ListN.{length}
 use Rattle.hall.specs.Hall.{Hall}
-use Rattle.hall_lines.specs.Levels.{sums_in, term_in}
-use Rattle.hall_steps.specs.Steps.{level_in, open_in}
-use Rattle.hall_state.specs.declared.Spot.{Spot}
-use Rattle.hall_state.specs.Courses.{Ground, Arrays, ground, arrays, line_of, Course, course_in}
-use Rattle.hall_state.specs.Moves.{Below}
-use Rattle.hall_moves.specs.Asks.{Fours, Asking}
-use Rattle.hall_calls.specs.Calls.{Passing, PassedOn}
-use Rattle.hall_calls.proofs.Passes.{pass_begin}
+use Rattle.hall_state.specs.Courses.{ground, arrays, Course}
+use Rattle.hall_moves.specs.Asks.{Asking}
+use Rattle.hall_calls.specs.Calls.{Passing}
 use Rattle.hall_calls.proofs.no_call.Given as goal
 
 abbrev pub invariant-loop-d : goal.invariant-loop-d
