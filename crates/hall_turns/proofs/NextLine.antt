@@ -1,25 +1,23 @@
 -- On to the next line that is open at the step, or the next step: no line's course moves.
-use Prim.Native.Nat.{ℕ, suc, ◌+◌, ◌-◌, ◌*◌, ◌<◌, ◌≤◌}
+use Prim.Native.Nat.{ℕ, ◌+◌, ◌-◌, ◌<◌, ◌≤◌}
 use mathlib.Core.Path.{◌≡◌, refl, sym, ap, subst, ◌∙◌}
-use mathlib.Core.Bool.{Bool, true, false, cond, ◌&&◌, false≢true, true≢false}
-use mathlib.Core.List.{List, []}
+use mathlib.Core.Bool.{Bool, true, false, cond, false≢true, true≢false}
+use mathlib.Core.List.{List}
 use native.Mathlib.Omega.{arith}
 use native.Mathlib.Decide.{dec_lt}
 use borrow.Author.Tests.{lt-ltb, le-ltb}
-use lib.Dec.{ltb, eqb}
 use lib.ListN.{length}
 use Rattle.hall.specs.Hall.{Hall}
 use Rattle.hall.specs.Agenda.{agenda_of}
 use Rattle.hall.specs.LowerBound.{hall_bound}
-use Rattle.hall.specs.Steps.{Stands, tree_from}
 use Rattle.hall_nodes.specs.Lines.{HallAt}
 use Rattle.hall_steps.specs.Steps.{level_in, open_in, next_open_lem}
 use Rattle.hall_steps.specs.Table.{step_count}
 use Rattle.hall_steps.proofs.Asked.{next_within, next_opens, next_shut}
 use Rattle.hall_state.specs.declared.Spot.{Spot}
-use Rattle.hall_state.specs.Courses.{Ground, Arrays, line_of, Course, course_in, slots_at, Kept}
-use Rattle.hall_state.specs.Spots.{line_spot, call_spot, left_of, level_of, OnCourse, Formed, asked_of, Stood, Asked}
-use Rattle.hall_state.specs.Moves.{measure_of, SameCourses, Crewed, Arrived}
+use Rattle.hall_state.specs.Courses.{Ground, Arrays, Course, slots_at}
+use Rattle.hall_state.specs.Spots.{line_spot, call_spot, left_of, level_of, Stood}
+use Rattle.hall_state.specs.Moves.{SameCourses, Crewed, Arrived}
 use Rattle.hall_state.proofs.Left.{SameLeft, same_then, on_line, on_step}
 use Rattle.hall_state.proofs.Spots.{cond_no, cond_yes}
 

@@ -1,35 +1,31 @@
 -- A stop that is settled: the line is at its next level, and what is kept of that is kept of the stop.
-use Prim.Native.Nat.{ℕ, zero, suc, ◌+◌, ◌-◌, ◌*◌, ◌<◌, ◌≤◌}
+use Prim.Native.Nat.{ℕ, suc, ◌+◌, ◌-◌, ◌*◌, ◌<◌, ◌≤◌}
 use mathlib.Core.Path.{◌≡◌, refl, sym, ap, subst, ◌∙◌}
-use mathlib.Core.Bool.{Bool, true, false, cond, ◌&&◌, false≢true, true≢false}
+use mathlib.Core.Bool.{Bool, true, false, cond, ◌&&◌, false≢true}
 use mathlib.Core.List.{List, [], ◌∷◌}
 use native.Mathlib.Omega.{arith}
-use native.Mathlib.Decide.{ℕ_discrete, dec_lt}
+use native.Mathlib.Decide.{ℕ_discrete}
 use borrow.Author.Tests.{lt-ltb, le-ltb, eq-eqb, ne_eqb}
-use lib.Dec.{ltb, eqb}
-use lib.ListN.{length, get_or, set, length-set}
+use lib.ListN.{length, set, length-set}
 use lib.Seq.{get_or-set_same, get_or-set_other}
-use Rattle.branch.specs.declared.Bound.TheVariants.{Sum}
 use Rattle.branch.proofs.Bounds.{sum_inj}
 use Rattle.model.specs.Model.{Job, Each}
 use Rattle.model.specs.Decisions.{concat}
 use Rattle.held_rows.specs.Held.{SheetOf, held}
 use Rattle.hall.specs.Hall.{Hall}
-use Rattle.hall.specs.Agenda.{Line, lines_from, lines_of, agenda_of, name_for}
+use Rattle.hall.specs.Agenda.{Line, lines_from, agenda_of}
 use Rattle.hall.specs.LowerBound.{hall_bound}
 use Rattle.hall.specs.Steps.{Stands, tree_from}
-use Rattle.hall_nodes.specs.Lines.{Slot, Given, SlotOf, lines_sum, HallAt, SlotKept, with_rows}
+use Rattle.hall_nodes.specs.Lines.{Slot, Given, SlotOf, lines_sum, HallAt, SlotKept}
 use Rattle.hall_nodes.proofs.Bounds.{node_bound}
-use Rattle.hall_lines.specs.Levels.{LevelsKept}
 use Rattle.hall_lines.specs.Lines.{stop_slot, Decided, LineSettled}
 use Rattle.hall_lines.proofs.Levels.{levels_then, stop_same}
-use Rattle.hall_steps.specs.Steps.{level_in, open_in}
-use Rattle.hall_steps.specs.Table.{step_count}
+use Rattle.hall_steps.specs.Steps.{level_in}
 use Rattle.hall_state.specs.declared.Spot.{Spot}
 use Rattle.hall_state.specs.Courses.{Ground, Arrays, arrays, line_of, Course, no_course, course_in, level_slot, stopped_slot, line_slot, slots_at, LineKept, Kept, BestSame}
-use Rattle.hall_state.specs.Spots.{inner_at, call_left, line_left, line_spot, left_of, level_of, OnCourse, Formed, asked_of, Stood}
-use Rattle.hall_state.specs.Moves.{measure_of, SameCourses, Crewed, Arrived}
-use Rattle.hall_state.proofs.Courses.{slot_sheet, slot_blocks, slot_rows, slot_aside, line_same, untouched_kept, line_then, line_given, job_here}
+use Rattle.hall_state.specs.Spots.{inner_at, call_left, line_left, line_spot, left_of, OnCourse, asked_of, Stood}
+use Rattle.hall_state.specs.Moves.{measure_of, Crewed, Arrived}
+use Rattle.hall_state.proofs.Courses.{slot_sheet, slot_blocks, line_same, untouched_kept, line_then, line_given, job_here}
 use Rattle.hall_state.proofs.Left.{inner_at_lem}
 use Rattle.hall_state.proofs.Spots.{cond_no, cond_yes, before_next}
 use Rattle.hall_moves.proofs.Found.{at_same}

@@ -1,17 +1,16 @@
 -- Where a call or an open removal is asked, the walk is there already.
-use Prim.Native.Nat.{ℕ, ◌+◌, ◌<◌, ◌≤◌}
-use mathlib.Core.Path.{◌≡◌, refl, sym, ap, subst, ◌∙◌}
+use Prim.Native.Nat.{ℕ, ◌<◌}
+use mathlib.Core.Path.{◌≡◌, refl, sym, ◌∙◌}
 use mathlib.Core.Bool.{Bool, true, false, false≢true, true≢false}
 use mathlib.Core.List.{List}
 use native.Mathlib.Omega.{arith}
 use native.Mathlib.Decide.{dec_lt}
-use lib.ListN.{length}
 use Rattle.hall.specs.Hall.{Hall}
 use Rattle.hall_steps.specs.Table.{step_count}
 use Rattle.hall_state.specs.declared.Spot.{Spot}
 use Rattle.hall_state.specs.Courses.{Ground, Arrays, Course}
-use Rattle.hall_state.specs.Spots.{inner_at, line_spot, left_of, line_left, call_left, Stood, Asked}
-use Rattle.hall_state.specs.Moves.{measure_of, SameCourses, Crewed, Arrived}
+use Rattle.hall_state.specs.Spots.{inner_at, line_spot, Stood, Asked}
+use Rattle.hall_state.specs.Moves.{Crewed, Arrived}
 
 module _ (hall : Hall) (g : Ground) (a : Arrays) (p : Spot) (name : List Bool) (calls : ℕ) (cs : List Course) (crewed : Crewed hall g.ats) (st : Stood hall g a p name calls cs) where
   -- it is there, if this is asked

@@ -1,15 +1,12 @@
 -- `arrive` stays where a call or a removal is asked, settles a stop whose removals are decided, and goes on to the next line that is open.
-use Prim.Native.Nat.{ℕ, ◌+◌, ◌-◌, ◌<◌, ◌≤◌, ◌^◌}
-use mathlib.Core.Path.{◌≡◌, refl, sym, ap, subst, ◌∙◌}
-use mathlib.Core.Bool.{Bool, true, false}
-use mathlib.Core.List.{List, []}
+use Prim.Native.Nat.{ℕ, ◌<◌}
+use mathlib.Core.Path.{◌≡◌, sym, subst, ◌∙◌}
+use mathlib.Core.Bool.{Bool, true}
+use mathlib.Core.List.{List}
 use native.Mathlib.Omega.{arith}
-use borrow.Author.Rules.{rules}
-use lib.ListN.{length, get_or, set, length-set}
 use Rattle.hall.specs.Hall.{Hall}
-use Rattle.hall_steps.specs.Steps.{level_in, open_in, next_open_lem}
 use Rattle.hall_state.specs.declared.Spot.{Spot}
-use Rattle.hall_state.specs.Courses.{Ground, Arrays, ground, arrays, line_of, Course, course_in}
+use Rattle.hall_state.specs.Courses.{Ground, Arrays, ground, arrays, Course}
 use Rattle.hall_state.specs.Spots.{line_spot, inner_at, Stood}
 use Rattle.hall_state.specs.Moves.{Crewed, Arrived}
 use Rattle.hall_turns.proofs.Settling.{four, holds, given}

@@ -1,15 +1,6 @@
-use Prim.Native.Nat.{ℕ, ◌+◌, ◌-◌, ◌<◌, ◌≤◌}
-use mathlib.Core.Path.{◌≡◌, refl, sym, ap, subst, ◌∙◌}
-use mathlib.Core.List.{List, []}
-use native.Mathlib.Omega.{arith}
-use native.Mathlib.Decide.{ℕ_discrete}
-use borrow.Author.Rules.{rules}
-use lib.ListN.{length, get_or, set, length-set}
-use lib.Seq.{get_or-set_same, get_or-set_other}
-use Rattle.least.specs.Filled.{FilledBy}
-use Rattle.held_lanes.specs.Places.{removed_place, best_place}
-use Rattle.hall_lines.specs.Levels.{mask_in}
-use Rattle.hall_steps.specs.Steps.{level_in}
+use Prim.Native.Nat.{ℕ, ◌-◌, ◌≤◌}
+use mathlib.Core.Path.{◌≡◌}
+use lib.ListN.{get_or}
 use Rattle.hall_steps.specs.Table.{steps_place, lines_place}
 use Rattle.hall_state.specs.Courses.{line_of}
 use Rattle.hall_turns.specs.Turns.{KeptLines}

@@ -1,18 +1,16 @@
 -- `onto` goes on to the next line that is open, or to the next step.
-use Prim.Native.Nat.{ℕ, ◌+◌, ◌-◌, ◌<◌, ◌≤◌, ◌^◌}
+use Prim.Native.Nat.{ℕ, ◌-◌, ◌<◌}
 use mathlib.Core.Path.{◌≡◌, refl, sym, ap, subst, ◌∙◌}
-use mathlib.Core.Bool.{Bool, true, false}
-use mathlib.Core.List.{List, []}
+use mathlib.Core.List.{List}
 use native.Mathlib.Omega.{arith}
-use borrow.Author.Rules.{rules}
-use lib.ListN.{length, get_or, set, length-set}
+use lib.ListN.{length}
 use Rattle.hall.specs.Hall.{Hall}
-use Rattle.hall_steps.specs.Steps.{level_in, open_in, next_open_lem}
+use Rattle.hall_steps.specs.Steps.{next_open_lem}
 use Rattle.hall_state.specs.declared.Spot.{Spot}
-use Rattle.hall_state.specs.Courses.{Ground, Arrays, ground, arrays, line_of, Course, course_in}
-use Rattle.hall_state.specs.Spots.{line_spot, inner_at, Stood}
+use Rattle.hall_state.specs.Courses.{Ground, ground}
+use Rattle.hall_state.specs.Spots.{line_spot, Stood}
 use Rattle.hall_state.specs.Moves.{Crewed, Arrived}
-use Rattle.hall_turns.proofs.NextLine.{step_in, line_in, onto_line, onto_step}
+use Rattle.hall_turns.proofs.NextLine.{onto_line, onto_step}
 use Rattle.hall_turns.proofs.onto.Goals as goal
 use Rattle.hall_turns.proofs.onto.Goals.{After-next_open-d, Start}
 

@@ -1,18 +1,13 @@
 -- `settled` settles the stop of the line at hand, over its part of the arrays, and goes on.
-use Prim.Native.Nat.{ℕ, ◌+◌, ◌-◌, ◌<◌, ◌≤◌, ◌^◌}
-use mathlib.Core.Path.{◌≡◌, refl, sym, ap, subst, ◌∙◌}
-use mathlib.Core.Bool.{Bool, true, false}
-use mathlib.Core.List.{List, []}
+use Prim.Native.Nat.{ℕ, ◌+◌, ◌≤◌}
+use mathlib.Core.Bool.{Bool, false}
+use mathlib.Core.List.{List}
 use native.Mathlib.Omega.{arith}
-use borrow.Author.Rules.{rules}
-use lib.ListN.{length, get_or, set, length-set}
+use lib.ListN.{set}
 use Rattle.hall.specs.Hall.{Hall}
-use Rattle.hall_steps.specs.Steps.{level_in, open_in, next_open_lem}
-use Rattle.hall_state.specs.declared.Spot.{Spot}
-use Rattle.hall_state.specs.Courses.{Ground, Arrays, ground, arrays, line_of, Course, course_in}
-use Rattle.hall_state.specs.Spots.{line_spot, inner_at, Stood}
-use Rattle.hall_state.specs.Moves.{Crewed, Arrived}
-use Rattle.hall_lines.specs.Lines.{Decided}
+use Rattle.hall_state.specs.Courses.{Ground, Arrays, ground, arrays, Course, course_in}
+use Rattle.hall_state.specs.Spots.{inner_at, Stood}
+use Rattle.hall_state.specs.Moves.{Crewed}
 use Rattle.hall_turns.proofs.Settling.{near, settles, settled_stood, settled_arrived}
 use Rattle.hall_turns.proofs.settled.Goals as goal
 use Rattle.hall_turns.proofs.settled.Goals.{After-settle_line, Start}
