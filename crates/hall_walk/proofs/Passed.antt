@@ -7,15 +7,14 @@ use native.Mathlib.Omega.{arith}
 use borrow.Author.Tests.{le-ltb}
 use lib.Dec.{ltb, eqb}
 use lib.ListN.{length, get_or}
-use Rattle.branch.specs.declared.Bound.TheVariants.{Missing, Sum}
+use Rattle.branch.specs.declared.Bound.TheVariants.{Sum}
 use Rattle.branch.specs.Search.{Tree, Limited, snoc, limited, onward}
-use Rattle.model.specs.Model.{Job, Each}
 use Rattle.least.specs.Filled.{FilledBy}
 use Rattle.held_rows.specs.Held.{HeldSheet}
 use Rattle.held_lanes.specs.Places.{removed_place, best_place, aside_size}
 use Rattle.walk.specs.declared.Search.{Search}
-use Rattle.walk.specs.State.{no_cost, view_of, counted_s, kept_s, reached_s, open_s}
-use Rattle.walk.proofs.Trees.{DueAt, closed, opened}
+use Rattle.walk.specs.State.{view_of, counted_s, kept_s, reached_s, open_s}
+use Rattle.walk.proofs.Trees.{closed, opened}
 use Rattle.hall.specs.Hall.{Hall}
 use Rattle.hall.specs.Agenda.{Agenda, lines_of}
 use Rattle.hall.specs.LowerBound.{hall_bound}
@@ -32,7 +31,7 @@ use Rattle.hall_steps.specs.Table.{step_count, steps_place, lines_place}
 use Rattle.hall_state.specs.declared.Spot.{Spot}
 use Rattle.hall_state.specs.Courses.{Ground, Arrays, arrays, line_of, Course, course_in, level_slot, stopped_slot, line_slot, slots_at, SameSize, Kept}
 use Rattle.hall_state.specs.Spots.{inner_at, call_left, line_left, left_of, left_below, OnCourse, Formed, asked_of, Stood, Asked}
-use Rattle.hall_state.specs.Moves.{measure_of, SameCourses, Crewed, Arrived, Opens, Below, Passed}
+use Rattle.hall_state.specs.Moves.{measure_of, SameCourses, Crewed, Arrived, Below, Passed}
 use Rattle.hall_state.proofs.Courses.{slot_sheet, slot_aside, self_kept, all_then, all_kept_lem, same_best, line_given, job_here}
 use Rattle.hall_state.proofs.Left.{SameLeft, same_path, same_then, raised, raised_both, on_end}
 use Rattle.hall_state.proofs.Moves.{asked_near}

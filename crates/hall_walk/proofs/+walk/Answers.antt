@@ -1,30 +1,27 @@
 -- `walk` passes its node by or walks on from it: by recursion on what is left to decide.
 use mathlib.Core.Path.{◌≡◌, refl, sym, ap, subst, ◌∙◌}
-use mathlib.Core.Bool.{Bool, true, false, cond, true≢false, false≢true}
+use mathlib.Core.Bool.{Bool, true, false, true≢false, false≢true}
 use mathlib.Core.List.{List}
-use lib.ListN.{length, get_or}
-use Prim.Native.Nat.{◌+◌, ◌≤◌, ◌^◌}
+use lib.ListN.{length}
 use Rattle.branch.specs.Search.{snoc}
 use Rattle.walk.specs.declared.Search.{Search}
-use Rattle.walk.specs.State.{counted_s, kept_s, reached_s}
+use Rattle.walk.specs.State.{counted_s, kept_s}
 use Rattle.walk.proofs.Trees.{opened}
 use Rattle.hall.specs.Hall.{Hall}
 use Rattle.hall.specs.Steps.{tree_from}
 use Rattle.hall.specs.LowerBound.{hall_bound}
 use Rattle.hall_nodes.specs.Walk.{Sees}
-use Rattle.hall_steps.specs.Table.{step_count}
 use Rattle.hall_state.specs.declared.Spot.{Spot}
 use Rattle.hall_state.specs.Courses.{Ground, Arrays, ground, arrays, Course, slots_at, SameSize}
-use Rattle.hall_state.specs.Spots.{Stood, left_below}
-use Rattle.hall_state.specs.Moves.{Crewed, Arrived, Below, Passed}
+use Rattle.hall_state.specs.Spots.{left_below}
+use Rattle.hall_state.specs.Moves.{Arrived, Below, Passed}
 use Rattle.hall_moves.specs.Asks.{Asking, Fours}
 use Rattle.hall_calls.proofs.Passes.{asking_kept}
 use Rattle.hall_turns.specs.Turns.{KeptLines}
-use Rattle.hall_walk.proofs.Passed.{calls_below, courses_below, enters, back, within, sees_there, both_passed, full_passed, arrived_size, below_falls, line_four, close_asks}
+use Rattle.hall_walk.proofs.Passed.{calls_below, courses_below, enters, back, sees_there, both_passed, full_passed, arrived_size, below_falls, line_four, close_asks}
 use native.Mathlib.Omega.{arith}
-use borrow.Author.Rules.{rules}
 use Rattle.hall_walk.specs.Walk.{Reaches, HallWalked}
-use Prim.Native.Nat.{ℕ, ◌<◌}
+use Prim.Native.Nat.{ℕ}
 use Rattle.hall_walk.proofs.+walk.Goals as goal
 use Rattle.hall_walk.proofs.+walk.Goals.{Start, Else-p-number, After-arrive-p, After-first-none, After-walk-a, After-second-some}
 

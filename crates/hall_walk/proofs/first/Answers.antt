@@ -1,6 +1,4 @@
 -- `first` asks the function of the question that is there.
-use borrow.Author.Rules.{rules}
-use Rattle.hall_state.specs.Courses.{arrays}
 use Rattle.hall_walk.proofs.first.Goals as goal
 
 pub first_call-requires : goal.first_call-requires

@@ -1,5 +1,4 @@
 -- `second` asks the function of the question that is there.
-use borrow.Author.Rules.{rules}
 use Rattle.hall_state.specs.Courses.{arrays}
 use Rattle.hall_walk.proofs.second.Goals as goal
 
