@@ -1,16 +1,7 @@
 use Prim.Native.Nat.{◌-◌, ◌≤◌}
-use mathlib.Core.Path.{◌≡◌, refl, subst, ◌∙◌}
-use native.Mathlib.Omega.{arith}
-use borrow.Author.Rules.{rules}
+use mathlib.Core.Path.{◌≡◌}
 use lib.ListN.{length}
-use lib.IntN.{ℤ}
-use mir.Syntax.{w32}
-use mir.Val.{to_z, of_z}
-use mir.Facts.{to_z-of_z}
-use Rattle.held_places.specs.Arrays.{Lanes}
-use Rattle.held_places.proofs.Parts.{read_back}
 use Rattle.held_search.specs.Solved.{Chooses}
-use Rattle.held_search.proofs.Answered.{chooses_none, chooses_more}
 use Rattle.held_search.proofs.changes.Given as goal
 
 abbrev pub invariant-loop-q : goal.invariant-loop-q

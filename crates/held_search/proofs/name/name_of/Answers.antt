@@ -1,16 +1,15 @@
 -- `name_of` writes one block after the other. The invariant: the first k are written.
-use Prim.Native.Nat.{◌-◌, ◌*◌, ◌≤◌}
+use Prim.Native.Nat.{◌-◌}
 use mathlib.Core.Path.{◌≡◌, refl, ap, ◌∙◌}
 use mathlib.Core.Bool.{Bool, false}
 use mathlib.Core.List.{List}
-use lib.ListN.{length, get_or, take, replicate, get_or-append}
+use lib.ListN.{get_or, take, replicate, get_or-append}
 use Rattle.model.specs.Decisions.{concat}
 use Rattle.walk.specs.State.{bits}
 use Rattle.walk.proofs.Nodes.{bits-length}
-use Rattle.held_nodes.specs.State.{blocks_of, best_in}
+use Rattle.held_nodes.specs.State.{best_in}
 use Rattle.held_search.proofs.Names.{block_length, name_next, name_whole}
 use native.Mathlib.Omega.{arith}
-use borrow.Author.Rules.{rules}
 use Rattle.held_search.proofs.name.name_of.Goals as goal
 
 pub loop-k-init : goal.loop-k-init

@@ -1,15 +1,8 @@
 use Prim.Native.Nat.{◌-◌, ◌*◌, ◌≤◌}
-use mathlib.Core.Path.{◌≡◌, refl, ap, ◌∙◌}
-use mathlib.Core.Bool.{Bool, false}
-use mathlib.Core.List.{List}
-use lib.ListN.{length, get_or, take, replicate, get_or-append}
+use mathlib.Core.Path.{◌≡◌}
+use lib.ListN.{length, take}
 use Rattle.model.specs.Decisions.{concat}
-use Rattle.walk.specs.State.{bits}
-use Rattle.walk.proofs.Nodes.{bits-length}
 use Rattle.held_nodes.specs.State.{blocks_of, best_in}
-use Rattle.held_search.proofs.Names.{block_length, name_next, name_whole}
-use native.Mathlib.Omega.{arith}
-use borrow.Author.Rules.{rules}
 use Rattle.held_search.proofs.name.name_of.Given as goal
 
 abbrev pub invariant-loop-k : goal.invariant-loop-k

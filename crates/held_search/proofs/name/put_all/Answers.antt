@@ -1,5 +1,5 @@
 -- `put_all` writes one decision after the other. The invariant: the first i stand behind those that were there.
-use Prim.Native.Nat.{ℕ, ◌+◌, ◌-◌, ◌≤◌}
+use Prim.Native.Nat.{ℕ, ◌+◌}
 use mathlib.Core.Path.{◌≡◌, refl, sym, ap, ◌∙◌}
 use mathlib.Core.Bool.{Bool}
 use mathlib.Core.List.{List, ◌++◌}
@@ -7,7 +7,6 @@ use lib.ListN.{length, take, length-set}
 use lib.Seq.{take_all}
 use Rattle.held_search.proofs.Names.{all_none, all_more}
 use native.Mathlib.Omega.{arith}
-use borrow.Author.Rules.{rules}
 use Rattle.held_search.proofs.name.put_all.Goals as goal
 
 pub loop-i-init : goal.loop-i-init

@@ -10,7 +10,6 @@ use Rattle.walk.specs.State.{bits}
 use Rattle.walk.proofs.Nodes.{bits-length}
 use Rattle.held_search.specs.Solved.{block_of}
 use Rattle.held_search.proofs.Names.{one_more, stop_wrote}
-use borrow.Author.Rules.{rules}
 use Rattle.held_search.proofs.name.put_block.Goals as goal
 use Rattle.held_search.proofs.name.put_block.Goals.{After-stops_of-out}
 
