@@ -8,7 +8,6 @@ use Rattle.answers.proofs.Replies.{replied, no_room}
 use Rattle.planning.specs.Plan.{planner_lines, said_for, plan_room}
 use Rattle.planning.specs.Finding.{answer_in}
 use Rattle.planning.proofs.Lengths.{lines_short}
-use borrow.Author.Rules.{rules}
 use Rattle.planning.proofs.answer.Goals as goal
 
 pub returns-then-out-lt-ROOM : goal.returns-then-out-lt-ROOM

@@ -1,5 +1,4 @@
 -- `finding_of`: by the floor, and whether the walk was cut and has a plan.
-use borrow.Author.Rules.{rules}
 use Rattle.planning.proofs.finding_of.Goals as goal
 
 pub returns-then-found-2 : goal.returns-then-found-2

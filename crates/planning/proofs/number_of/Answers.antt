@@ -1,5 +1,4 @@
 -- `number_of`: case by case.
-use borrow.Author.Rules.{rules}
 use Rattle.planning.proofs.number_of.Goals as goal
 
 pub returns-in-NoPlan : goal.returns-in-NoPlan

@@ -10,7 +10,6 @@ use Rattle.job_text.proofs.Views.{means, sound_text}
 use Rattle.job_grammar.proofs.Numbered.{fault}
 use Rattle.planning.specs.Plan.{plan_said}
 use Rattle.planning.proofs.Promised.{promised}
-use borrow.Author.Rules.{rules}
 use Rattle.planning.proofs.plan.Goals as goal
 use Rattle.planning.proofs.plan.Goals.{In-Fault, In-Good}
 

@@ -11,7 +11,6 @@ use Rattle.answers.specs.Said.{Replied}
 use Rattle.planning.specs.Plan.{said_for, plan_room}
 use Rattle.planning.specs.Finding.{answer_in}
 use Rattle.planning.proofs.Findings.{fits}
-use borrow.Author.Rules.{rules}
 use Rattle.planning.proofs.plan_job.Goals as goal
 use Rattle.planning.proofs.plan_job.Goals.{After-finding_of}
 

@@ -6,7 +6,6 @@ use Rattle.lines.proofs.Writing.{line_short}
 use Rattle.planning.specs.Plan.{search_lines}
 use Rattle.planning.specs.Finding.{Fits}
 use Rattle.planning.proofs.Lengths.{search_short}
-use borrow.Author.Rules.{rules}
 use Rattle.planning.proofs.put_finding.Goals as goal
 
 pub put_line-requires : goal.put_line-requires

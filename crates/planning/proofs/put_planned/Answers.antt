@@ -5,7 +5,6 @@ use Rattle.lines.proofs.Writing.{then, kept}
 use Rattle.planning.specs.Plan.{search_lines, planned_lines}
 use Rattle.plan_printing.proofs.Lengths.{printed_short}
 use Rattle.planning.proofs.Lengths.{search_short}
-use borrow.Author.Rules.{rules}
 use Rattle.planning.proofs.put_planned.Goals as goal
 
 pub put_three-a-requires : goal.put_three-a-requires
