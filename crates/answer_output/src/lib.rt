@@ -9,6 +9,7 @@ use answers::Answer;
 use line_writing::write::put_bytes;
 use std::io;
 use std::io::Write;
+use std::str::from_utf8;
 
 // The most bytes that an answer can have.
 const MOST: usize = 16384;
@@ -37,7 +38,8 @@ fn reason(words: &str) -> &str {
 }
 
 // Writes a line on standard error: what is lost, and why.
-fn say_lost<R: Eprint + AllocGlobal>(rt: &R, lost: &str, error: io::Error) {
+fn say_lost<R: Eprint + AllocGlobal>(rt: &R, lost: &[u8], error: io::Error) {
+    let lost = from_utf8(lost).unwrap_or("lost");
     let _ = match format!(in rt.alloc(); "{error}") {
         Ok(words) => {
             let why = reason(words.as_str());
@@ -53,7 +55,7 @@ fn hand_out<R: Print + Eprint + AllocGlobal>(
     rt: &R,
     p: Printout,
     bytes: &[u8],
-    lost: &str,
+    lost: &[u8],
 ) -> Printout
     requires { bytes.now ≡ printed p }
     ensures { result ≡ p }
@@ -69,7 +71,7 @@ pub fn print_answer<R: Print + Eprint + AllocGlobal>(
     rt: &R,
     a: Answer,
     out: &[u8],
-    lost: &str,
+    lost: &[u8],
 ) -> Printout
     requires { (a.length ≤ length out.now) × (a.length ≤ most_printed) }
     ensures { (result.answer ≡ a) × (printed result ≡ take a.length out.now) }

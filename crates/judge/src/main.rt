@@ -2,5 +2,5 @@
 #![tactic(auto)]
 
 fn main(rt: HostRuntime) {
-    judge_program::judge_files(&rt, "job.txt", "plan.txt");
+    judge_program::judge_files(&rt, b"job.txt", b"plan.txt");
 }

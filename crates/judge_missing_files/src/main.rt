@@ -6,8 +6,8 @@
 use judge_program::judge_files;
 
 fn main(rt: HostRuntime) {
-    judge_files(&rt, "job.txt", "missing.txt");
-    judge_files(&rt, "missing.txt", "plan.txt");
-    judge_files(&rt, "job.txt", "folder");
-    judge_files(&rt, "folder", "plan.txt");
+    judge_files(&rt, b"job.txt", b"missing.txt");
+    judge_files(&rt, b"missing.txt", b"plan.txt");
+    judge_files(&rt, b"job.txt", b"folder");
+    judge_files(&rt, b"folder", b"plan.txt");
 }

@@ -11,8 +11,8 @@ use whole_input::{Text, read_file};
 // Reads a job text and a plan text from the files of these names, and prints the judge's answer on standard output (`Printed`).
 pub fn judge_files<R: Files + Print + Eprint + AllocGlobal>(
     rt: &R,
-    job_path: &str,
-    plan_path: &str,
+    job_path: &[u8],
+    plan_path: &[u8],
 ) -> Printout
     ensures { Printed result }
 {
@@ -23,5 +23,5 @@ pub fn judge_files<R: Files + Print + Eprint + AllocGlobal>(
     let k = read_file(rt, plan_path, Text::Plan, &mut plan);
     let mut out = [0u8; judging::ROOM];
     let a = judging::judge(&job[..n], &plan[..k], &mut out);
-    print_answer(rt, a, &out, "judge: the answer can't be written")
+    print_answer(rt, a, &out, b"judge: the answer can't be written")
 }

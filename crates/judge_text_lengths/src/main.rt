@@ -5,11 +5,11 @@ use judge_program::judge_files;
 
 fn main(rt: HostRuntime) {
     // A job of 24 lines with bytes after the last: number 2 on line 25 of text 1. One byte more: number 1.
-    judge_files(&rt, "job_40960.txt", "plan.txt");
-    judge_files(&rt, "job_40961.txt", "plan.txt");
+    judge_files(&rt, b"job_40960.txt", b"plan.txt");
+    judge_files(&rt, b"job_40961.txt", b"plan.txt");
     // A plan of 9 lines with bytes after the last: number 2 on line 10 of text 2. One byte more: number 1.
-    judge_files(&rt, "job.txt", "plan_32768.txt");
-    judge_files(&rt, "job.txt", "plan_32769.txt");
+    judge_files(&rt, b"job.txt", b"plan_32768.txt");
+    judge_files(&rt, b"job.txt", b"plan_32769.txt");
     // A plan of 8,714 bytes, every part at every opening: accepted only if read to its end.
-    judge_files(&rt, "long_job.txt", "long_plan.txt");
+    judge_files(&rt, b"long_job.txt", b"long_plan.txt");
 }

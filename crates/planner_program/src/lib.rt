@@ -20,5 +20,5 @@ pub fn plan_input<R: Print + Eprint + AllocGlobal, I: Read + Drop>(
     let n = read_whole(input, Text::Job, &mut job);
     let mut out = [0u8; planning::ROOM];
     let a = planning::plan(&job[..n], Job::MAX_WALK as u64, &mut out);
-    print_answer(rt, a, &out, "planner: the answer can't be written")
+    print_answer(rt, a, &out, b"planner: the answer can't be written")
 }

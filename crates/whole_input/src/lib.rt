@@ -9,6 +9,7 @@ ghost use Rattle.whole_input.specs.Input.{Counts, Nothing, Unopened, Front};
 use std::fs;
 use std::io::Read;
 use std::rt::Files;
+use std::str::from_utf8;
 
 // The texts that programs read. Each has a limit of its own, which a buffer's length must fit: the contracts alone read it.
 #[derive(Drop)]
@@ -53,10 +54,18 @@ pub fn read_whole<R: Read + Drop>(opened: Option<R>, which: Text, buf: &mut [u8]
     }
 }
 
+// Opens a file by its name. A name that is no UTF-8 names no file that the standard library can open.
+fn opened<F: Files>(files: &F, path: &[u8]) -> Option<F::File> {
+    match from_utf8(path) {
+        Ok(name) => fs::open(files, name).ok(),
+        Err(_) => None,
+    }
+}
+
 // Reads a file by its name.
-pub fn read_file<F: Files>(files: &F, path: &str, which: Text, buf: &mut [u8]) -> usize
+pub fn read_file<F: Files>(files: &F, path: &[u8], which: Text, buf: &mut [u8]) -> usize
     requires { length buf.old ≡ suc (limit_of which) }
     ensures { Counts result buf.new }
 {
-    read_whole(fs::open(files, path).ok(), which, buf)
+    read_whole(opened(files, path), which, buf)
 }
