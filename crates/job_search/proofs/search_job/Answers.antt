@@ -1,6 +1,5 @@
 -- `search_job`: a job without holders meets what the search over the openings alone asks.
-use mathlib.Core.Path.{sym, ◌∙◌}
 use Rattle.job_search.proofs.search_job.Goals as goal
 
 pub search_plain-requires : goal.search_plain-requires
-search_plain-requires c = (c.requires, sym c.has_holder.ensures ∙ c.if-has_holder.false)
+search_plain-requires c = (c.requires, cc)

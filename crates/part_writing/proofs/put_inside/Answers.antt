@@ -20,8 +20,8 @@ pub put_values-requires : goal.put_values-requires
 unfolding bytes
 put_values-requires c = let hs = c.args.holders.now in
     let w = c.put_line-a.ensures in
-    omega (arith, c.requires.1, ap length (inside_few hs (omega (arith, c.if-n-gt15.false))), length-append (line_of "inside=" (length hs)) (texts (line_of "holder=") hs), w.next, kept w)
+    omega (arith, c.requires.1, ap length (inside_few hs (omega arith)), length-append (line_of "inside=" (length hs)) (texts (line_of "holder=") hs), w.next, kept w)
 
 pub returns : goal.returns
 unfolding bytes
-returns c = same (then c.put_line-a.ensures c.put_values.ensures) (sym (inside_few c.args.holders.now (omega (arith, c.if-n-gt15.false)))) refl
+returns c = same (then c.put_line-a.ensures c.put_values.ensures) (sym (inside_few c.args.holders.now (omega arith))) refl

@@ -26,7 +26,7 @@ returns-then-marks-i-gt1 c = let l = c.loop-i in
 pub loop-i-preserved : goal.loop-i-preserved
 loop-i-preserved c = let l = c.loop-i in
     let cs = c.args.marks.now in
-    (omega arith, front (goal.at.loop-i-preserved c).In-loop-i ∙ ap (λ (b : Bool). b && all_marks (drop (l.i + 1) cs)) (le-leb (get_or cs l.i 0) 1 c.if-marks-i-gt1.false))
+    (omega arith, front (goal.at.loop-i-preserved c).In-loop-i ∙ ap (λ (b : Bool). b && all_marks (drop (l.i + 1) cs)) (le-leb (get_or cs l.i 0) 1 (omega arith)))
 
 pub returns : goal.returns
 returns c = sym (c.loop-i.invariant.1 ∙ ap all_marks (drop_of_length-le c.args.marks.now c.loop-i-test.false))

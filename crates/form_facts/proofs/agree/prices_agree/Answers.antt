@@ -10,7 +10,7 @@ use lib.ListN.{length}
 use Rattle.form_facts.specs.Facts.{sum_all, all_marks}
 use Rattle.form_facts.proofs.Facts.{marks_known}
 use Rattle.form_facts.proofs.agree.prices_agree.Goals as goal
-use Rattle.form_facts.proofs.agree.prices_agree.Goals.{Else-bases-count, Else-drops-count, Else-leasts-count, Else-not-are_marks, Else-ruled-m}
+use Rattle.form_facts.proofs.agree.prices_agree.Goals.{Else-bases-count, Else-leasts-count, Else-not-are_marks, Else-ruled-m}
 
 pub returns-then-ruled-m : goal.returns-then-ruled-m
 returns-then-ruled-m c = let a = c.args in rw (ne_eqb (length a.ruled.now) a.m (λ e. omega (arith, e, c.if-ruled-m.true)))
@@ -46,18 +46,17 @@ returns-then-drops-count c = let a = c.args in
     let other : eqb a.drops (sum_all a.ruled.now) ≡ false = ne_eqb a.drops (sum_all a.ruled.now) (λ e. omega (arith, e, c.sum-count.ensures, c.if-drops-count.true)) in
     rw (size_is (goal.at.returns-then-drops-count c).Else-ruled-m, marked (goal.at.returns-then-drops-count c).Else-not-are_marks, based (goal.at.returns-then-drops-count c).Else-bases-count, other)
 
-dropped : (c : Else-drops-count) → let a = c.args in eqb a.drops (sum_all a.ruled.now) ≡ true
-dropped c = let a = c.args in eq-eqb a.drops (sum_all a.ruled.now) (omega (arith, c.sum-count.ensures, c.if-drops-count.false))
-
 pub returns-then-leasts-count : goal.returns-then-leasts-count
 returns-then-leasts-count c = let a = c.args in
+    let dropped : eqb a.drops (sum_all a.ruled.now) ≡ true = eq-eqb a.drops (sum_all a.ruled.now) (omega (arith, c.sum-count.ensures)) in
     let other : eqb a.leasts (sum_all a.ruled.now) ≡ false = ne_eqb a.leasts (sum_all a.ruled.now) (λ e. omega (arith, e, c.sum-count.ensures, c.if-leasts-count.true)) in
-    rw (size_is (goal.at.returns-then-leasts-count c).Else-ruled-m, marked (goal.at.returns-then-leasts-count c).Else-not-are_marks, based (goal.at.returns-then-leasts-count c).Else-bases-count, dropped (goal.at.returns-then-leasts-count c).Else-drops-count, other)
+    rw (size_is (goal.at.returns-then-leasts-count c).Else-ruled-m, marked (goal.at.returns-then-leasts-count c).Else-not-are_marks, based (goal.at.returns-then-leasts-count c).Else-bases-count, dropped, other)
 
 pub returns : goal.returns
 returns c = let a = c.args in
+    let dropped : eqb a.drops (sum_all a.ruled.now) ≡ true = eq-eqb a.drops (sum_all a.ruled.now) (omega (arith, c.sum-count.ensures)) in
     let same : eqb a.leasts (sum_all a.ruled.now) ≡ true = eq-eqb a.leasts (sum_all a.ruled.now) (omega (arith, c.sum-count.ensures, c.if-leasts-count.false)) in
-    rw (size_is (goal.at.returns c).Else-ruled-m, marked (goal.at.returns c).Else-not-are_marks, based (goal.at.returns c).Else-bases-count, dropped (goal.at.returns c).Else-drops-count, same)
+    rw (size_is (goal.at.returns c).Else-ruled-m, marked (goal.at.returns c).Else-not-are_marks, based (goal.at.returns c).Else-bases-count, dropped, same)
     (ap (λ (i : ℕ). eqb a.prices ((a.m - i) * a.n)) c.sum-count.ensures)
 
 -- a part has at most one rule
