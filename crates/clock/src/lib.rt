@@ -16,6 +16,7 @@ use model::OPENINGS;
 const STEPS: usize = 367;
 
 // The positions of a job's openings, and of the end of its lives, the step after the horizon.
+// Kept as an array of which the job's count says how much counts: no heap, fixed memory.
 #[derive(Clone, Copy)]
 pub struct Positions {
     pub at: [i32; OPENINGS],

@@ -21,6 +21,7 @@ fn put_parts(out: &mut Out, parts: &FormParts, n: usize)
     ensures { Puts out.old (texts part_cut_lem (parts_of n (lists_of parts.now))) out.new }
 {
     let mut rest = *parts;
+    // Kept: a part takes as many holders and prices off its lists as it says, so what is left of the lists is the count.
     while 0 < rest.lives.len() {
         put_part(out, part_first(&rest, n));
         rest = behind_first(&rest, n);

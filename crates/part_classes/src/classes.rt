@@ -4,6 +4,7 @@ ghost use Rattle.part_classes.specs.Led.{Led};
 use model::PARTS;
 
 // The class of each lane, the first part of each class, and how many classes there are.
+// Kept as an array with a count: no heap, fixed memory.
 #[derive(Clone, Copy)]
 pub struct Classes {
     pub lanes: [usize; PARTS],
