@@ -1,6 +1,5 @@
 -- Two job texts that every call answers alike: the same numbers are handed over and the same bytes written. So are texts that differ in the `walk` line alone, and a text with rules and the one with the price lines written out.
-use Rattle.std.specs.Prelude.{ℕ, ◌≡◌, List, map, length}
-use Rattle.lines.specs.Text.{Optional}
+use Rattle.std.specs.Prelude.{ℕ, ◌≡◌, List, map, length, Option}
 use Rattle.lines.specs.Parser.{accepted}
 use Rattle.price_rules.specs.Grammar.{written_out_lem}
 use Rattle.part_lines.specs.Grammar.{PartText}
@@ -21,15 +20,15 @@ pub record AnsweredAlike (s s' : List ℕ) : Type 0 where
   pub count : count_said s ≡ count_said s'
 
 -- what a text says, with this `walk` line or with none
-abbrev pub with_walk : Optional ℕ → JobText → JobText
+abbrev pub with_walk : Option ℕ → JobText → JobText
 with_walk o t = record { horizon = t.horizon; idles = t.idles; walk = o; openings = t.openings; parts = t.parts }
 
 -- E10. "A job's `walk` line, if it still stands, is checked as before and set aside."
 pub record WalkSetAside : Type 0 where
   -- accepted texts that differ in that line alone
-  pub alike : (s s' : List ℕ) (t : JobText) (o : Optional ℕ) → read_job_text s ≡ accepted t → read_job_text s' ≡ accepted (with_walk o t) → AnsweredAlike s s'
+  pub alike : (s s' : List ℕ) (t : JobText) (o : Option ℕ) → read_job_text s ≡ accepted t → read_job_text s' ≡ accepted (with_walk o t) → AnsweredAlike s s'
   -- an accepted text with the line taken out, put in or changed within its range is accepted, and says so
-  pub accepts : (s : List ℕ) (t : JobText) → read_job_text s ≡ accepted t → (o : Optional ℕ) → Allowed o → read_job_text (job_text_lem (with_walk o t)) ≡ accepted (with_walk o t)
+  pub accepts : (s : List ℕ) (t : JobText) → read_job_text s ≡ accepted t → (o : Option ℕ) → Allowed o → read_job_text (job_text_lem (with_walk o t)) ≡ accepted (with_walk o t)
 
 -- E8. a part, and a text, "with the lines written out": a price line for each opening in place of a rule
 abbrev pub part_out : ℕ → PartText → PartText

@@ -1,23 +1,20 @@
 -- What a call wrote into an output that had the room it needs, and was printed of it, is the call's answer: `prints`. A copy has the bytes of what was copied: `copied`.
 use Prim.Native.Nat.{ℕ, ◌≤◌}
-use mathlib.Core.Path.{◌≡◌, sym, ap, ap₂, ◌∙◌}
-use mathlib.Core.List.{List}
+use mathlib.Core.Path.{◌≡◌, sym, ap, ◌∙◌}
+use mathlib.Core.List.{List, ◌++◌}
 use borrow.Author.Tests.{le-ltb}
 use lib.ListN.{length, take, drop}
 use lib.Seq.{take-append_seam, length-take-le}
-use native.Mathlib.Omega.{arith}
-use Rattle.lines.specs.Wrote.{Wrote}
-use Rattle.lines.proofs.Writing.{written}
 use Rattle.answers.specs.Said.{Said, numbers, output, lent, Replied}
 use Rattle.answers.specs.declared.Answer.{Answer}
 use Rattle.answer_output.specs.declared.Printout.{Printout}
 use Rattle.answer_output.specs.Prints.{printed, Prints}
 
--- the first n bytes of an output, copied to the start of another
-pub copied : (n : ℕ) (out : List ℕ) {d e : List ℕ} {r : ℕ} → n ≤ length out → n ≤ length d → Wrote d 0 (take n out) e r → take n out ≡ take n e
-copied n out {d} {e} l m w =
-    let z : length (take n out) ≡ n = length-take-le n out l in
-    sym (take-append_seam (take n out) (drop (length (take n out)) d)) ∙ ap₂ take z (sym (written {d = d} (omega (arith, z, m)) w).0)
+-- the first n bytes of an output, copied to the start of what is printed
+pub copied : (n : ℕ) (out ys rest : List ℕ) → n ≤ length out → ys ≡ take n out → take n out ≡ take n (ys ++ rest)
+copied n out ys rest l same =
+    let z : length ys ≡ n = ap length same ∙ length-take-le n out l in
+    sym (ap (λ (k : ℕ). take k (ys ++ rest)) (sym z) ∙ take-append_seam ys rest ∙ same)
 
 -- the answer is the call's own, since there was room
 whole : (need : ℕ) (s : Said) (d : List ℕ) → need ≤ length d → lent need (length d) s ≡ s

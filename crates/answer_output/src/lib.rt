@@ -6,7 +6,6 @@ ghost use Rattle.std.specs.Io.KnownBytes.{Appends};
 ghost use Rattle.answer_output.specs.Prints.{most_printed, printed};
 
 use answers::Answer;
-use line_writing::write::put_bytes;
 use std::io;
 use std::io::Write;
 use std::str::from_utf8;
@@ -78,6 +77,6 @@ pub fn print_answer<R: Print + Eprint + AllocGlobal>(
 {
     let m = a.length;
     let mut bytes = [0u8; MOST];
-    put_bytes(&mut bytes, 0, &out[..m]);
+    bytes[..m].copy_from_slice(&out[..m]);
     hand_out(rt, Printout { answer: a, bytes }, &out[..m], lost)
 }

@@ -1,4 +1,5 @@
 -- Job texts: what the grammar before E7 read is the text that says the same today, in which the walk line stands and no part has lines of removal, a rule, a pair or a left of 0, and it read all such texts (`lines_exact`). So a text that was accepted is accepted still and means the same (`job_before`), and those that were are exactly the accepted ones with the walk line and without lines of removal, a rule, a pair or a left of 0, up to the length of then (`accepted-before`).
+use Rattle.std.specs.Prelude.{Option, None, Some}
 use Prim.Native.Nat.{ℕ, suc, ◌≤◌}
 use mathlib.Core.Path.{◌≡◌, refl, sym, ap, ap₂, ◌∙◌, subst}
 use mathlib.Core.List.{List, [], ◌∷◌, ◌++◌, map, append_assoc, append-nil}
@@ -8,18 +9,18 @@ use native.Mathlib.Omega.{arith}
 use lib.ListN.{length, length-map}
 use borrow.Author.Tests.{leb-true}
 use Rattle.lines.specs.Line.{starts_with}
-use Rattle.lines.specs.Text.{bytes, line, line_of, texts, Optional, missing, present, optional_text}
+use Rattle.lines.specs.Text.{bytes, line, line_of, texts, optional_text}
 use Rattle.lines.specs.Parser.{row, checked, times, up_to, Outcome, accepted, refused}
 use Rattle.lines.proofs.Parsing.{up_to_yes}
 use Rattle.lines.proofs.Outcomes.{one_value, not_both}
 use Rattle.lines.proofs.Sound.{Chained, accepted_is}
 use Rattle.lines.proofs.Complete.{text_complete}
-use Rattle.model.specs.Model.{Opening, Part}
+use Rattle.model.specs.Model.{Opening}
 use Rattle.model.specs.Windows.{Rising, steps_of}
 use Rattle.jobs.specs.Valid.{All, ValidOpening, ValidPrice, ValidPart, HeldFrom}
 use Rattle.jobs.proofs.Lists.{chained_each, each_chained}
 use Rattle.covers.specs.Views.{meant_cover}
-use Rattle.job_grammar.specs.Grammar.{JobText, job_with, meant, idles, opening, openings, job_lines, meaning, read_job_text, read_job_lem}
+use Rattle.job_grammar.specs.Grammar.{JobText, job_with, meant, idles, opening, openings, meaning, read_job_text, read_job_lem}
 use Rattle.quotes.specs.Grammar.{single, high_end, low_end, any_pair}
 use Rattle.quotes.specs.Rendering.{quote_text}
 use Rattle.quotes.specs.Valid.{ValidQuote}
@@ -63,10 +64,10 @@ singles_valid (p ∷ ps) v = (record { low = v.0; high = v.0; ordered = omega ar
 
 -- a part of a text before holders as today's text has it, without lines of removal
 abbrev pub uncovered : before.PartText → PartText
-uncovered p = record { life = p.life; left = p.left; cover = missing; prices = by_list (map single p.prices) }
+uncovered p = record { life = p.life; left = p.left; cover = None; prices = by_list (map single p.prices) }
 
 abbrev pub today : before.JobText → JobText
-today t = record { horizon = t.horizon; idles = t.idles; walk = present t.walk; openings = t.openings; parts = map uncovered t.parts }
+today t = record { horizon = t.horizon; idles = t.idles; walk = Some t.walk; openings = t.openings; parts = map uncovered t.parts }
 
 means_same : (t : before.JobText) → meant (today t) ≡ as_today (before.meant t)
 unfolding meant_cover any_banded
@@ -184,7 +185,7 @@ openings_exact h n =
     (λ os k. (k.0, chained_rising h 0 os k.1)) (λ os k. (k.0, openings_chained h 0 os k.1.0 k.1.1)) (λ os. refl)
 
 -- what is known where the lines up to the number of parts are read, up to the openings, their number, the walk number, the idle steps, the horizon, and of any text
-module _ (h : ℕ) (is : Optional (List ℕ)) (w n : ℕ) where
+module _ (h : ℕ) (is : Option (List ℕ)) (w n : ℕ) where
   abbrev PartsIn : List Opening → ℕ → before.JobText → Type 0
   PartsIn os m t = ((length t.parts ≡ m) × All (WasPart n) t.parts) × (◌≡◌ {A = before.JobText} (record { horizon = h; idles = is; walk = w; openings = os; parts = t.parts }) t)
 
@@ -216,10 +217,10 @@ module _ (h : ℕ) (is : Optional (List ℕ)) (w n : ℕ) where
       (λ os t k. sym (ap (λ (u : before.JobText). u.openings) k.1.1)) (λ t s. tt)
 
 -- the number of openings and what follows it; the walk number; the idle steps; the horizon
-abbrev NumberedIn : ℕ → Optional (List ℕ) → ℕ → before.JobText → Type 0
+abbrev NumberedIn : ℕ → Option (List ℕ) → ℕ → before.JobText → Type 0
 NumberedIn h is w t = ((0 ≤ length t.openings) × (length t.openings ≤ 64)) × OpeningsIn h is w (length t.openings) t
 
-abbrev WalkedIn : ℕ → Optional (List ℕ) → before.JobText → Type 0
+abbrev WalkedIn : ℕ → Option (List ℕ) → before.JobText → Type 0
 WalkedIn h is t = ((0 ≤ t.walk) × (t.walk ≤ 4000000000)) × NumberedIn h is t.walk t
 
 abbrev IdledIn : ℕ → before.JobText → Type 0
@@ -229,9 +230,9 @@ abbrev Known : before.JobText → Type 0
 Known t = ((2 ≤ t.horizon) × (t.horizon ≤ 365)) × IdledIn t.horizon t
 
 abbrev rest_text : before.JobText → List ℕ
-rest_text t = line_of "walk=" t.walk ++ (line_of "openings=" (length t.openings) ++ parts_text 0 missing 0 0 t)
+rest_text t = line_of "walk=" t.walk ++ (line_of "openings=" (length t.openings) ++ parts_text 0 None 0 0 t)
 
-rest_read : (h : ℕ) (is : Optional (List ℕ)) → Exact Any (before.rest h is) (WalkedIn h is) rest_text
+rest_read : (h : ℕ) (is : Option (List ℕ)) → Exact Any (before.rest h is) (WalkedIn h is) rest_text
 unfolding before.rest
 rest_read h is =
     bind_exact (λ (t : before.JobText). t.walk) Any (row "walk=" 0 4000000000) _ _ (NumberedIn h is) (line_of "walk=") _ (row_exact (bytes "walk=") 0 4000000000 (omega arith))

@@ -1,4 +1,5 @@
 -- Plan texts: one that was accepted is accepted still, and states the same (`plan_before`); `cost` may only be larger than before.
+use Rattle.std.specs.Prelude.{Option, Some, None}
 use Prim.Native.Nat.{ℕ, ◌≤◌}
 use mathlib.Core.Path.{◌≡◌, refl, ◌∙◌}
 use mathlib.Core.List.{List, [], ◌∷◌}
@@ -6,8 +7,6 @@ use mathlib.Core.Bool.{Bool, true, false, ◌&&◌, and-eq-true_iff}
 use native.Mathlib.Omega.{arith}
 use lib.Dec.{leb}
 use borrow.Author.Tests.{leb-true, le-leb}
-use Rattle.lines.specs.declared.read.Line.{Line}
-use Rattle.lines.specs.declared.read.Line.TheVariants.{Value, Bad}
 use Rattle.lines.specs.Line.{read_line_lem}
 use Rattle.lines.specs.Parser.{good, row_at, row, taken, in_range, read_field_lem, accepted}
 use Rattle.lines.proofs.Parsing.{bind_good}
@@ -23,16 +22,16 @@ wider_row : (key : List ℕ) (lo hi more : ℕ) → hi ≤ more → (s s' : List
 unfolding row_at read_field_lem taken in_range
 wider_row key lo hi more few s s' l l' v h = go (read_line_lem key s) h
   where
-    go : (x : Line) → taken s l (in_range lo hi x) ≡ good v s' l' → taken s l (in_range lo more x) ≡ good v s' l'
-    go (Value w n) q = pick (leb lo w && leb w hi) refl
+    go : (x : Option (ℕ × ℕ)) → taken s l (in_range lo hi x) ≡ good v s' l' → taken s l (in_range lo more x) ≡ good v s' l'
+    go (Some (w, n)) q = pick (leb lo w && leb w hi) refl
       where
-        pick : (t : Bool) → (leb lo w && leb w hi) ≡ t → taken s l (in_range lo more (Value w n)) ≡ good v s' l'
+        pick : (t : Bool) → (leb lo w && leb w hi) ≡ t → taken s l (in_range lo more (Some (w, n))) ≡ good v s' l'
         pick true e =
             let r = (and-eq-true_iff (leb lo w) (leb w hi)).0 e in
             let high = leb-true w hi r.1 in
             rw (in_range, r.0, le-leb w more (omega (arith, high))) (rw (in_range, e) at q)
         pick false e = never (rw (in_range, e) at q)
-    go Bad q = never q
+    go None q = never q
 
 lines_before : (job : Job) (s s' : List ℕ) (l l' : ℕ) (t : Stated) → before.plan_lines job s l ≡ good t s' l' → plan_lines job s l ≡ good t s' l'
 unfolding before.plan_lines plan_lines

@@ -1,6 +1,5 @@
 -- E7.13. "With no holders and removals of 0, every printed answer to texts that were free of faults before is the one given before."
-use Rattle.std.specs.Prelude.{ℕ, ◌≤◌, ◌≡◌, List, map, ◌↔◌, length}
-use Rattle.lines.specs.Text.{missing, present}
+use Rattle.std.specs.Prelude.{ℕ, ◌≤◌, ◌≡◌, List, map, ◌↔◌, length, None, Some}
 use Rattle.lines.specs.Parser.{accepted}
 use Rattle.jobs.specs.Valid.{All}
 use Rattle.job_grammar.specs.Grammar as today
@@ -28,14 +27,14 @@ as_today g = before.unbanded g.job
 -- a part without lines of removal, whose prices are listed, each a single one, and of whose life something is left
 pub record BarePart (p : PartText) : Type 0 where
   pub left : 1 ≤ p.left
-  pub cover : p.cover ≡ missing
+  pub cover : p.cover ≡ None
   pub prices : List ℕ
   pub listed : p.prices ≡ by_list (map single prices)
 
 -- what it says today has the walk line, no lines of removal, no rule, no pair and no left of 0
 pub record Bare (t : today.JobText) : Type 0 where
   pub walk : ℕ
-  pub there : t.walk ≡ present walk
+  pub there : t.walk ≡ Some walk
   pub parts : All BarePart t.parts
 
 -- a job text and a plan text were

@@ -1,7 +1,6 @@
 -- The grammars of the job text and of the plan text before E7. They stay for one theorem alone, `AsBefore`: no code and no other promise rests on them.
 -- What E7 left as it was is cited: idle steps, openings, the numbers of a part, visits.
-use Rattle.std.specs.Prelude.{ℕ, List, [], ◌∷◌, map}
-use Rattle.lines.specs.Text.{Optional}
+use Rattle.std.specs.Prelude.{ℕ, List, [], ◌∷◌, map, Option}
 use Rattle.lines.specs.Parser.{Outcome, accepted, refused, Parser, ◌>>=◌, return, row, checked, times, up_to, read_text}
 use Rattle.model.specs.Model.{Opening, Part, Job}
 use Rattle.model.specs.Limits.{last_step, longest_life, dearest, most_openings, most_parts, most_walk}
@@ -19,7 +18,7 @@ pub record PartText : Type 0 where
 -- what a job text said
 pub record JobText : Type 0 where
   pub horizon : ℕ
-  pub idles : Optional (List ℕ)
+  pub idles : Option (List ℕ)
   pub walk : ℕ
   pub openings : List Opening
   pub parts : List PartText
@@ -46,7 +45,7 @@ part n = do
   return (record { life = l; left = r; prices = ps })
 
 -- what followed the number n of openings
-unfoldable pub body : ℕ → Optional (List ℕ) → ℕ → ℕ → Parser JobText
+unfoldable pub body : ℕ → Option (List ℕ) → ℕ → ℕ → Parser JobText
 body h is w n = do
   os ← openings h n
   m ← row "parts=" 1 most_parts
@@ -54,7 +53,7 @@ body h is w n = do
   return (record { horizon = h; idles = is; walk = w; openings = os; parts = ps })
 
 -- what followed the idle steps
-unfoldable pub rest : ℕ → Optional (List ℕ) → Parser JobText
+unfoldable pub rest : ℕ → Option (List ℕ) → Parser JobText
 rest h is = do
   w ← row "walk=" 0 most_walk
   n ← row "openings=" 0 most_openings

@@ -29,14 +29,7 @@ fn write_number(rt: &impl Print, key: &[u8], n: u64) {
 
 // Whether every byte from a place on is the fill.
 fn kept(out: &[u8], from: usize) -> bool {
-    let mut i = from;
-    while i < out.len() {
-        if out[i] != FILL {
-            return false;
-        }
-        i += 1;
-    }
-    true
+    out.iter().skip(from).all(|b| *b == FILL)
 }
 
 // Writes the line at fault of a text.
@@ -51,8 +44,8 @@ fn report(rt: &impl Print, a: Answer, out: &[u8], job: &[u8], plan: &[u8]) {
     if m <= out.len() {
         write(rt, &out[0..m]);
     }
-    write_number(rt, b"= result ", a.result as u64);
-    write_number(rt, b"= line ", a.line as u64);
+    write_number(rt, b"= result ", u64::from(a.result));
+    write_number(rt, b"= line ", u64::from(a.line));
     write_number(rt, b"= length ", m as u64);
     if a.text == 2 {
         write_fault(rt, plan, a.line);
@@ -66,26 +59,18 @@ fn report(rt: &impl Print, a: Answer, out: &[u8], job: &[u8], plan: &[u8]) {
     }
 }
 
-// Fills an output before a call.
-fn fill(out: &mut [u8]) {
-    let mut i = 0;
-    while i < out.len() {
-        out[i] = FILL;
-        i += 1;
-    }
-}
-
-// One case of the planner.
-fn run_planner(rt: &impl Print, job: &[u8], walk: u64, out: &mut [u8]) {
-    fill(out);
-    let a = planning::plan(job, walk, out);
-    report(rt, a, out, job, b"");
-}
-
-// One case of the judge.
-fn run_judge(rt: &impl Print, job: &[u8], plan: &[u8], out: &mut [u8]) {
-    fill(out);
-    let a = judging::judge(job, plan, out);
+// One case: an output is filled, a call writes into it, and what it handed over is written.
+fn run<F: FnOnce(&mut [u8]) -> Answer>(
+    rt: &impl Print,
+    job: &[u8],
+    plan: &[u8],
+    out: &mut [u8],
+    call: F,
+)
+    requires { F.IsAlwaysCallable call }
+{
+    out.fill(FILL);
+    let a = call(out);
     report(rt, a, out, job, plan);
 }
 
@@ -103,12 +88,10 @@ fn planner_at(rt: &impl Print, buf: &[u8], at: usize, space: &mut [u8]) -> usize
     if space.len() < lent {
         return buf.len();
     }
-    run_planner(
-        rt,
-        &buf[start..end],
-        walk.number as u64,
-        &mut space[0..lent],
-    );
+    let text = &buf[start..end];
+    run(rt, text, b"", &mut space[0..lent], |out: &mut [u8]| {
+        planning::plan(text, walk.number as u64, out)
+    });
     end
 }
 
@@ -128,12 +111,11 @@ fn judge_at(rt: &impl Print, buf: &[u8], at: usize, space: &mut [u8]) -> usize
     if space.len() < lent {
         return buf.len();
     }
-    run_judge(
-        rt,
-        &buf[start..end],
-        &buf[plan_start..plan_end],
-        &mut space[0..lent],
-    );
+    let text = &buf[start..end];
+    let stops = &buf[plan_start..plan_end];
+    run(rt, text, stops, &mut space[0..lent], |out: &mut [u8]| {
+        judging::judge(text, stops, out)
+    });
     plan_end
 }
 
@@ -155,6 +137,7 @@ fn case_at(rt: &impl Print, buf: &[u8], at: usize, space: &mut [u8]) -> usize
 }
 
 // Every case of the table.
+// Kept as a `while`: a case's texts are as long as it tells, so the place rises by varying steps.
 fn table(rt: &impl Print, buf: &[u8], space: &mut [u8]) {
     let mut at = 0;
     while at < buf.len() {

@@ -9,7 +9,7 @@ use Rattle.lines.specs.Parser.{accepted}
 use Rattle.model.specs.Model.{Opening, Part, Job, Each, clock}
 use Rattle.model.specs.Windows.{steps_of}
 use Rattle.jobs.specs.Valid.{All, ValidOpening, ValidPrice, ValidPart, HeldFrom, ValidJob}
-use Rattle.quotes.specs.Grammar.{Quote, high_end, low_end}
+use Rattle.quotes.specs.Grammar.{high_end, low_end}
 use Rattle.quotes.specs.Valid.{ValidQuote}
 use Rattle.price_rules.specs.Grammar.{Prices, by_list, by_rule_lem, meant_prices, low_prices_lem, written_out_lem}
 use Rattle.price_rules.specs.Valid.{ValidPrices}
@@ -19,7 +19,7 @@ use Rattle.part_lines.specs.Valid.{Spelt}
 use Rattle.job_grammar.specs.Grammar.{JobText, idle_in, meant, read_job_text}
 use Rattle.job_grammar.specs.Optionals.{idle_lines}
 use Rattle.job_grammar.specs.Rendering.{job_text_lem}
-use Rattle.job_grammar.specs.Valid.{Some, ValidText}
+use Rattle.job_grammar.specs.Valid.{SomeIdles, ValidText}
 use Rattle.job_grammar.proofs.Optionals.{idle_steps_lem2}
 use Rattle.job_grammar.proofs.Lows.{meant_valid}
 use Rattle.job_grammar.proofs.Complete.{read_back}
@@ -155,7 +155,7 @@ module _ (job : Job) (log : Log) (v : ValidJob job) (logged : Logged job log) wh
       }
 
 -- "`idles` 1..365": there is no such line where none is left
-some_lines : (is : List ℕ) → Some (idle_lines is)
+some_lines : (is : List ℕ) → SomeIdles (idle_lines is)
 unfolding idle_lines
 some_lines [] = tt
 some_lines (i ∷ is) = omega arith

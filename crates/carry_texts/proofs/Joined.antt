@@ -1,4 +1,5 @@
 -- E13 over texts: the text written after two logs is the one written after the joined log (`same_text`), byte for byte, and carrying on by the joined log is accepted (`two_or_one`).
+use Rattle.std.specs.Prelude.{None}
 use mathlib.Core.Path.{◌≡◌, refl, sym, ap, subst, ◌∙◌}
 use mathlib.Core.Bool.{Bool}
 use mathlib.Core.List.{List, [], ◌∷◌, map}
@@ -6,13 +7,10 @@ use Prim.Native.Nat.{ℕ, ◌+◌, ◌-◌, ◌≤◌}
 use native.Mathlib.Omega.{arith}
 use lib.ListN.{length, get_or, drop}
 use lib.Seq.{drop-drop}
-use Rattle.lines.specs.Text.{missing}
-use Rattle.lines.specs.Parser.{accepted}
 use Rattle.lines.proofs.Outcomes.{one_value}
 use Rattle.model.specs.Model.{Job, Plan, cost_of_lem, Each}
 use Rattle.jobs.specs.Valid.{ValidJob}
-use Rattle.quotes.specs.Grammar.{Quote}
-use Rattle.price_rules.specs.Grammar.{Prices, by_list}
+use Rattle.price_rules.specs.Grammar.{by_list}
 use Rattle.part_lines.specs.Grammar.{PartText, meant_part}
 use Rattle.job_grammar.specs.Grammar.{JobText, idle_in, read_job_text}
 use Rattle.job_grammar.specs.Optionals.{idle_lines}
@@ -27,7 +25,7 @@ use Rattle.carry.proofs.Later.{later-later}
 use Rattle.carry.proofs.Lives.{past}
 use Rattle.carry.proofs.Parts.{Done, logged_done}
 use Rattle.carry.proofs.Joined.{past_joined, openings_joined, part_joined, joined_logged, joined_accepts}
-use Rattle.log_grammar.specs.Grammar.{LogText, log_of, read_log}
+use Rattle.log_grammar.specs.Grammar.{log_of, read_log}
 use Rattle.log_grammar.specs.Rendering.{log_says, joined_text}
 use Rattle.log_grammar.proofs.Logs.{log_tells, says_log}
 use Rattle.log_grammar.proofs.Joined.{joined_read}
@@ -74,7 +72,7 @@ module _ (t : JobText) (v : ValidText t) (first second : Log) (logged : Logged (
       let m = length (carried_text t first).openings in
       let ps = ap (λ (j : Job). carried_part_lines m j second.step (carried_part_lines n job first.step t.parts first.plan.changes) second.plan.changes) (means_carried t first v)
       ∙ parts_same m t.parts first.plan.changes second.plan.changes (logged_done job first logged) accepts.lives in
-      λ i. record { horizon = h i; idles = is i; walk = missing; openings = os i; parts = ps i }
+      λ i. record { horizon = h i; idles = is i; walk = None; openings = os i; parts = ps i }
 
   -- E13.1. "give the identical job text"
   pub same_text : job_text_lem (carried_text (carried_text t first) second) ≡ job_text_lem (carried_text t joint)

@@ -1,6 +1,5 @@
 -- E12.2, E12.3. What the new job's text says, by what the old one says and the log: "every other form is kept". The model's `carried` is what it means; here the lines of removal and the pairs of prices stand where they stood.
-use Rattle.std.specs.Prelude.{ℕ, ◌-◌, Bool, List, [], ◌∷◌, map, length, get_or, drop}
-use Rattle.lines.specs.Text.{missing}
+use Rattle.std.specs.Prelude.{ℕ, ◌-◌, Bool, List, [], ◌∷◌, map, length, get_or, drop, None}
 use Rattle.model.specs.Model.{Job}
 use Rattle.quotes.specs.Grammar.{Quote, single}
 use Rattle.price_rules.specs.Rule.{rule_prices_lem}
@@ -38,7 +37,7 @@ abbrev pub carried_text : JobText → Log → JobText
 carried_text t log = record {
   horizon = t.horizon - log.step;
   idles = idle_lines (later log.step (idle_in t.idles));
-  walk = missing;
+  walk = None;
   openings = map (renumbered log.step) (drop (passed (meant_job t) log.step) t.openings);
   parts = carried_part_lines (length t.openings) (meant_job t) log.step t.parts log.plan.changes;
 }

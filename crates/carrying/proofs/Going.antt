@@ -1,6 +1,6 @@
 -- What the text that is given is worth (`carried_on`): it reads back as the new job, plans that begin with the log are judged by their rest, and what remains of a printed plan is the new job's best. By the theory of carrying on.
 use Prim.Native.Nat.{ℕ}
-use mathlib.Core.Path.{◌≡◌, refl, ap, ◌∙◌}
+use mathlib.Core.Path.{◌≡◌, ap}
 use mathlib.Core.List.{List}
 use native.Mathlib.Omega.{arith}
 use Rattle.lines.specs.Parser.{accepted}

@@ -16,6 +16,7 @@ use model::OPENINGS;
 const STEPS: usize = 367;
 
 // The positions of a job's openings, and of the end of its lives, the step after the horizon.
+// Kept as an array of which the job's count says how much counts: no heap, fixed memory.
 #[derive(Clone, Copy)]
 pub struct Positions {
     pub at: [i32; OPENINGS],
@@ -27,13 +28,9 @@ fn idle_steps(job: Job) -> [bool; STEPS]
     requires { Sound job }
     ensures { Flags (job_of job).idles result }
 {
-    let n = job.idle_count;
     let mut flags = [false; STEPS];
-    let mut k: usize = 0;
-    while k < n {
-        let step = job.idles[k];
-        flags[step as usize] = true;
-        k += 1;
+    for step in &job.idles[..job.idle_count] {
+        flags[*step as usize] = true;
     }
     flags
 }
@@ -46,13 +43,9 @@ fn running_steps(job: Job) -> [i32; STEPS]
     let idle = idle_steps(job);
     let mut clock = [0i32; STEPS];
     let mut run: u32 = 0;
-    let mut s: usize = 1;
-    while s < STEPS {
-        if !idle[s] {
-            run += 1;
-        }
+    for s in 1..STEPS {
+        run += u32::from(!idle[s]);
         clock[s] = run as i32;
-        s += 1;
     }
     clock
 }
@@ -71,14 +64,10 @@ pub fn positions_of(job: Job) -> Positions
     requires { Sound job }
     ensures { Placed (job_of job) result }
 {
-    let n = job.opening_count;
     let clock = running_steps(job);
     let mut at = [0i32; OPENINGS];
-    let mut i: usize = 0;
-    while i < n {
-        let o = job.openings[i];
+    for (i, o) in job.openings[..job.opening_count].iter().enumerate() {
         at[i] = clock[o.step as usize];
-        i += 1;
     }
     let end = clock[job.horizon as usize + 1];
     Positions { at, end }
@@ -91,9 +80,7 @@ pub fn due_of(job: Job, life: u32, prev: i32) -> u32
 {
     let clock = running_steps(job);
     let mut due: u32 = 0;
-    let mut s: u32 = 0;
-    while s < job.horizon {
-        s += 1;
+    for s in 1..job.horizon + 1 {
         if in_reach(life as i32, prev, clock[s as usize]) {
             due = s;
         }

@@ -5,6 +5,7 @@ use mathlib.Core.List.{List}
 use Prim.Native.Nat.{ℕ}
 use native.Mathlib.Omega.{arith}
 use lib.ListN.{length, get_or, take, get_or-map}
+use Rattle.model.specs.Limits.{most_parts}
 use Rattle.model.specs.Model.{Job, table, holding, removal_of_lem}
 use Rattle.model.specs.Decisions.{of_holders, charge}
 use Rattle.model.specs.Verdict.{no_part, part_at}
@@ -12,8 +13,12 @@ use Rattle.model.proofs.Lists.{table-length}
 use Rattle.model.proofs.Outs.{holding-length}
 use Rattle.coming_out.specs.Rows.{Row}
 use Rattle.coming_out.specs.Places.{places_from, Within, IsHolding, Removals}
-use Rattle.coming_out.specs.declared.Holding.{Holding}
+use Rattle.coming_out.specs.declared.holding.Holding.{Holding}
 use Rattle.coming_out.proofs.Places.{places_same, select_places}
+
+-- the struct's places are places of parts
+pub within_of : (h : Holding) → length h.places ≡ most_parts → Within h
+within_of h size = record { size = size; few = h.few; inside = h.inside }
 
 module _ (job : Job) (h : Holding) (within : Within h) where
   by_places : take h.count h.places ≡ places_from 0 (holding job) → {A : Type 0} (d : A) (xs : List A) → length xs ≡ length job.parts

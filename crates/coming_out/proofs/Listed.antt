@@ -1,6 +1,6 @@
 -- A row of marks and the numbers that it stands for: a number is on the list exactly if its mark is set. By recursion over the marks.
-use mathlib.Core.Path.{◌≡◌, refl, ap, ap₂, ◌∙◌}
-use mathlib.Core.Bool.{Bool, true, false, cond, ◌||◌, false≢true}
+use mathlib.Core.Path.{◌≡◌, refl, sym, ap, ap₂, ◌∙◌}
+use mathlib.Core.Bool.{Bool, true, false, cond, ◌||◌, beq}
 use mathlib.Core.List.{List, [], ◌∷◌, ◌++◌}
 use Prim.Native.Nat.{ℕ, zero, suc, ◌+◌, ◌<◌}
 use native.Mathlib.Omega.{arith}
@@ -9,7 +9,8 @@ use lib.Dec.{ltb}
 use lib.ListN.{length, get_or}
 use Rattle.lines.specs.Text.{joined}
 use Rattle.lines.specs.Chosen.{chosen, numbers_of_lem}
-use Rattle.lines.proofs.Chosen.{chosen_front, chosen_same, chosen_none_after}
+use Rattle.std.specs.List.{list_any}
+use Rattle.lines.proofs.Chosen.{chosen_front, chosen_same}
 use Rattle.model.specs.Model.{listed}
 
 -- the numbers of marks, counted from b on
@@ -52,17 +53,12 @@ numbers_listed marks j = let z : suc j ≡ j + 1 = omega arith in ap (listed (nu
 
 -- ---- some number is on the list exactly if some mark is set
 
--- a list that has a number has a length
-listed_some : (hs : List ℕ) (n : ℕ) → listed hs n ≡ true → ltb 0 (length hs) ≡ true
-unfolding listed
-listed_some [] n e = absurd (false≢true e)
-listed_some (h ∷ hs) n e = lt-ltb 0 (length (h ∷ hs)) (omega arith)
-
--- a mark that is set puts a number on the list
-pub marked_some : (marks : List Bool) (i : ℕ) → get_or marks i false ≡ true → ltb 0 (length (numbers_of_lem marks)) ≡ true
-marked_some marks i e = listed_some (numbers_of_lem marks) (suc i) (numbers_listed marks i ∙ e)
-
--- where no mark is set, there is no number on the list
-pub marked_none : (marks : List Bool) → ((i : ℕ) → i < length marks → get_or marks i false ≡ false) → ltb 0 (length (numbers_of_lem marks)) ≡ false
+any_from : (b : ℕ) (marks : List Bool) → list_any (λ (mark : Bool). beq mark true) marks ≡ ltb 0 (length (from b marks))
 unfolding chosen joined
-marked_none marks none = ap (λ (hs : List ℕ). ltb 0 (length hs)) (chosen_none_after (λ i. get_or marks i false) (λ i. i + 1) 0 (length marks) (omega arith) (λ i _ h. none i h))
+any_from b [] = refl
+any_from b (false ∷ marks) = any_from (suc b) marks ∙ sym (ap (λ (l : List ℕ). ltb 0 (length l)) (from_more b false marks))
+any_from b (true ∷ marks) = sym (ap (λ (l : List ℕ). ltb 0 (length l)) (from_more b true marks) ∙ lt-ltb 0 (length (b ∷ from (suc b) marks)) (omega arith))
+
+-- a mark is set exactly if there is a number on the list
+pub marked_any : (marks : List Bool) → list_any (λ (mark : Bool). beq mark true) marks ≡ ltb 0 (length (numbers_of_lem marks))
+marked_any marks = any_from 1 marks

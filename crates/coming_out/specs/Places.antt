@@ -4,7 +4,7 @@ use Rattle.model.specs.Limits.{most_parts}
 use Rattle.model.specs.Model.{Job, holding, removal_of_lem}
 use Rattle.model.specs.LowerBound.{inner}
 use Rattle.coming_out.specs.Rows.{Row}
-use Rattle.coming_out.specs.declared.Holding.{Holding}
+use Rattle.coming_out.specs.declared.holding.Holding.{Holding}
 
 -- the places of a set's parts, counted from i
 unfoldable pub places_from : ℕ → List Bool → List ℕ

@@ -1,5 +1,6 @@
 // What comes out with each part: the part, its holders, their holders and so on. And the parts that are somebody's holder.
 // What a job's records say of it is in `records`. A set of parts is a row of 16 marks; a matrix has 16 rows one after the other, and row q says something of the part at place q.
+// A matrix is kept as one array, and m beside it: the searches take the array alone, and say m once for all their tables.
 #![tactic(auto)]
 
 ghost use Rattle.std.specs.Prelude.{◌≡◌, false, cond, ◌&&◌, ◌||◌, map, ℕ, ◌*◌, ◌≤◌, ◌<◌, length, get_or, take};
@@ -11,43 +12,24 @@ ghost use Rattle.model.specs.Decisions.{of_holders, charge};
 ghost use Rattle.coming_out.specs.Rows.{Row, Rows, HeldBy, reached, union};
 ghost use Rattle.coming_out.specs.Places.{places_from, Within, IsHolding, Removals};
 
+use fill::{matrix_of, row_of};
 use model::{PAIRS, PARTS};
 
+pub mod fill;
+pub mod holding;
 pub mod records;
 
-// The parts that are somebody's holder: which they are, their places by rising number, and how many there are.
-#[derive(Clone, Copy)]
-pub struct Holding {
-    pub marks: [bool; PARTS],
-    pub places: [usize; PARTS],
-    pub count: usize,
-}
-
-// Both are so.
-fn both(a: bool, b: bool) -> bool
-    ensures { result ≡ (a && b) }
-{
-    if a { b } else { false }
-}
-
-// One of the two is so.
-fn either(a: bool, b: bool) -> bool
-    ensures { result ≡ (a || b) }
-{
-    if a { true } else { b }
-}
+pub use holding::Holding;
 
 // The part at place j stands in the row of one of a set, of m parts.
 fn is_reached(matrix: &[bool; PAIRS], m: usize, set: [bool; PARTS], j: usize) -> bool
     requires { (m ≤ most_parts) × (j < most_parts) }
     ensures { result ≡ reached m matrix.now set j }
 {
-    let mut i: usize = 0;
-    while i < m {
-        if both(set[i], matrix[i * PARTS + j]) {
+    for i in 0..m {
+        if set[i] && matrix[i * PARTS + j] {
             return true;
         }
-        i += 1;
     }
     false
 }
@@ -62,13 +44,7 @@ pub fn union(
     requires { m ≤ most_parts }
     ensures { Row false (union m matrix.now own set) result }
 {
-    let mut row = [false; PARTS];
-    let mut j: usize = 0;
-    while j < m {
-        row[j] = either(own[j], is_reached(matrix, m, set, j));
-        j += 1;
-    }
-    row
+    row_of(m, false, |j| own[j] || is_reached(matrix, m, set, j))
 }
 
 // What comes out with the part at place q: as many rounds of holders as there are parts.
@@ -78,27 +54,10 @@ fn out_with(holders: &[bool; PAIRS], m: usize, q: usize) -> [bool; PARTS]
 {
     let mut row = [false; PARTS];
     row[q] = true;
-    let mut k: usize = 0;
-    while k < m {
-        let next = union(holders, m, row, row);
-        row = next;
-        k += 1;
+    for _ in 0..m {
+        row = union(holders, m, row, row);
     }
     row
-}
-
-// The matrix with this row at q.
-pub fn with_row(matrix: [bool; PAIRS], q: usize, row: [bool; PARTS]) -> [bool; PAIRS]
-    requires { q < most_parts }
-    ensures { (result ≡ paste matrix (q * most_parts) row most_parts) × (length row ≡ most_parts) }
-{
-    let mut next = matrix;
-    let mut j: usize = 0;
-    while j < PARTS {
-        next[q * PARTS + j] = row[j];
-        j += 1;
-    }
-    next
 }
 
 // What comes out with each part.
@@ -106,15 +65,13 @@ pub fn come_out(holders: &[bool; PAIRS], m: usize) -> [bool; PAIRS]
     requires { m ≤ most_parts }
     ensures { (job : Job) → HeldBy job m holders.now → Rows m (comes_out job) result }
 {
-    let mut outs = [false; PAIRS];
-    let mut q: usize = 0;
-    while q < m {
-        let row = out_with(holders, m, q);
-        let next = with_row(outs, q, row);
-        outs = next;
-        q += 1;
-    }
-    outs
+    matrix_of(
+        m,
+        |q|
+            requires { (m ≤ most_parts) × (q < m) }
+            ensures { (job : Job) → HeldBy job m holders.entry.now → Row false (comes_out job q) result }
+        { out_with(holders, m, q) },
+    )
 }
 
 // The places of a set's parts, by rising number.
@@ -123,12 +80,9 @@ fn places_of(marks: [bool; PARTS]) -> Holding
 {
     let mut places = [0usize; PARTS];
     let mut count: usize = 0;
-    let mut j: usize = 0;
-    while j < PARTS {
-        let place = j;
-        j += 1;
-        if marks[place] {
-            places[count] = place;
+    for j in 0..PARTS {
+        if marks[j] {
+            places[count] = j;
             count += 1;
         }
     }
@@ -150,68 +104,40 @@ pub fn holding_of(holders: &[bool; PAIRS], m: usize) -> Holding
 
 // Of the parts that are somebody's holder, those in the row of the part at place q.
 fn needs_of(outs: &[bool; PAIRS], holding: Holding, q: usize) -> [bool; PARTS]
-    requires { Within holding × (q < most_parts) }
+    requires { q < most_parts }
     ensures { (m : ℕ) (job : Job) → q < m → length job.parts ≡ m → Rows m (comes_out job) outs.now → IsHolding job holding → Row false (of_holders job (comes_out job q)) result }
 {
-    let count = holding.count;
-    let places = holding.places;
-    let mut row = [false; PARTS];
-    let mut b: usize = 0;
-    while b < count {
-        row[b] = outs[q * PARTS + places[b]];
-        b += 1;
-    }
-    row
+    row_of(
+        holding.count,
+        false,
+        |b| outs[q * PARTS + holding.places[b]],
+    )
 }
 
 // For each part, of the parts that are somebody's holder, those that come out with it.
 pub fn needs(outs: &[bool; PAIRS], m: usize, holding: Holding) -> [bool; PAIRS]
-    requires { (m ≤ most_parts) × Within holding }
+    requires { m ≤ most_parts }
     ensures { (job : Job) → length job.parts ≡ m → Rows m (comes_out job) outs.now → IsHolding job holding → Rows m (λ q. of_holders job (comes_out job q)) result }
 {
-    let mut rows = [false; PAIRS];
-    let mut q: usize = 0;
-    while q < m {
-        let row = needs_of(outs, holding, q);
-        let next = with_row(rows, q, row);
-        rows = next;
-        q += 1;
-    }
-    rows
+    matrix_of(
+        m,
+        |q|
+            requires { q < most_parts }
+            ensures { (m : ℕ) (job : Job) → q < m → length job.parts ≡ m → Rows m (comes_out job) outs.entry.now → IsHolding job holding → Row false (of_holders job (comes_out job q)) result }
+        { needs_of(outs, holding, q) },
+    )
 }
 
 // The removals of the parts that are somebody's holder, by rising number.
 pub fn inner_removals(removals: [u32; PARTS], holding: Holding) -> [u32; PARTS]
-    requires { Within holding }
     ensures { (job : Job) → Removals job removals → IsHolding job holding → Row 0 (of_holders job (map removal_of_lem job.parts)) result }
 {
-    let count = holding.count;
-    let places = holding.places;
-    let mut row = [0u32; PARTS];
-    let mut b: usize = 0;
-    while b < count {
-        row[b] = removals[places[b]];
-        b += 1;
-    }
-    row
-}
-
-// A part's removal where it holds nobody.
-fn charge_of(holds: bool, removal: u32) -> u32
-    ensures { result ≡ cond holds 0 removal }
-{
-    if holds { 0 } else { removal }
+    row_of(holding.count, 0, |b| removals[holding.places[b]])
 }
 
 // What is added to each part's prices: its removal where it holds nobody.
 pub fn charges(removals: [u32; PARTS], marks: [bool; PARTS]) -> [u32; PARTS]
     ensures { (job : Job) → Removals job removals → Row false (holding job) marks → (q : ℕ) → q < most_parts → get_or result q 0 ≡ charge job q (part_at job q) }
 {
-    let mut row = [0u32; PARTS];
-    let mut q: usize = 0;
-    while q < PARTS {
-        row[q] = charge_of(marks[q], removals[q]);
-        q += 1;
-    }
-    row
+    row_of(PARTS, 0, |q| if marks[q] { 0 } else { removals[q] })
 }

@@ -5,7 +5,7 @@ ghost use Rattle.std.specs.Prelude.{◌≡◌, cond, ℕ, ◌+◌, ◌≤◌, �
 ghost use Rattle.model.specs.Model.{kept};
 ghost use Rattle.model.specs.Limits.{longest_life, most_count};
 ghost use Rattle.model.specs.Count.{in_time_lem, count_from, open_count, least_life, least_left, count_for};
-ghost use Rattle.jobs.specs.Views.{job_of, Sized};
+ghost use Rattle.jobs.specs.Views.{job_of};
 ghost use Rattle.jobs.specs.Valid.{Sound};
 ghost use Rattle.least.specs.Filled.{FilledBy};
 ghost use Rattle.counting.specs.Row.{sum_of, noted, Near, Row};
@@ -18,7 +18,6 @@ use fault_lines::fault::fault_span;
 use job_text::whole::read_job;
 use jobs::{Job, Part};
 use least::{in_reach, last_change, mark};
-use lines::rows::WholeText;
 use part_records::{lent_left, lent_life};
 
 // The count stops here.
@@ -44,27 +43,15 @@ struct Least {
     left: u32,
 }
 
-// The smaller of two lives.
-fn shorter(a: u32, b: u32) -> u32
-    ensures { result ≡ min a b }
-{
-    if b < a { b } else { a }
-}
-
 // The least lives of an accepted job.
 fn least_of(job: Job) -> Least
-    requires { Sized job }
     ensures { (result.life ≡ least_life (job_of job)) × (result.left ≡ least_left (job_of job)) }
 {
-    let parts = job.parts;
-    let count = job.part_count;
     let mut life = Part::MAX_LIFE;
     let mut left = Part::MAX_LEFT;
-    let mut q: usize = 0;
-    while q < count {
-        life = shorter(life, lent_life(parts, count, q));
-        left = shorter(left, lent_left(parts, count, q));
-        q += 1;
+    for q in 0..job.part_count {
+        life = life.min(lent_life(job.parts, job.part_count, q));
+        left = left.min(lent_left(job.parts, job.part_count, q));
     }
     Least { life, left }
 }
@@ -102,12 +89,10 @@ fn keeps(life: i32, end: i32, first: i32, positions: &[i32]) -> bool
     ensures { result ≡ kept life end first positions.now }
 {
     let n = positions.len();
-    let mut k = 0;
-    while k < n {
+    for k in 0..n {
         if !reaches(life, end, first, positions, k, k) {
             return false;
         }
-        k += 1;
     }
     reaches(life, end, first, positions, n, n)
 }
@@ -124,7 +109,7 @@ fn from_no(in_time: bool, declined: u64) -> u64
 fn capped(all: u64) -> u64
     ensures { result ≡ min most_count all }
 {
-    if all < CAP { all } else { CAP }
+    all.min(CAP)
 }
 
 // A node and those below it, from no on and from yes on.
@@ -141,14 +126,12 @@ fn put_row(life: i32, end: i32, first: i32, positions: &[i32], j: usize, row: &m
     ensures { FilledBy (λ (m : ℕ). m) (noted (in_time_lem life end first positions.now) j row.old) (j + 1) row.old row.new }
 {
     let stopped = row[j + 1];
-    let mut m = 0;
-    while m <= j {
+    for m in 0..j + 1 {
         row[m] = sum(
             reaches(life, end, first, positions, m, j + 1),
             row[m],
             stopped,
         );
-        m += 1;
     }
 }
 
@@ -158,9 +141,7 @@ fn table(life: i32, end: i32, first: i32, positions: &[i32]) -> u64
     ensures { (result ≡ count_from (in_time_lem life end first positions.now) (length positions.now) 0 0) × (result ≤ most_count) }
 {
     let mut row = [1u64; 65];
-    let mut j = positions.len();
-    while 0 < j {
-        j -= 1;
+    for j in (0..positions.len()).rev() {
         put_row(life, end, first, positions, j, &mut row);
     }
     row[0]
@@ -226,23 +207,18 @@ fn counted_job(job: Job) -> Counted
 pub fn count(job: &[u8]) -> Counted
     ensures { (result ≡ count_said job.now) × CountPromise job.now result }
 {
-    let read = read_job(job);
-    let verdict = read.verdict;
-    match verdict {
-        WholeText::Fault { number, line } => {
-            let span = fault_span(job, line);
+    match read_job(job) {
+        Ok(text) => counted_job(text.job),
+        Err(fault) => {
+            let span = fault_span(job, fault.line);
             Counted {
-                result: number,
+                result: fault.kind.number(),
                 text: 1,
-                line: line as u32,
+                line: fault.line as u32,
                 count: 0,
                 fault_start: span.start,
                 fault_length: span.length,
             }
-        }
-        WholeText::Good => {
-            let accepted = read.text.job;
-            counted_job(accepted)
         }
     }
 }

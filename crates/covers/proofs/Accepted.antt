@@ -1,11 +1,12 @@
 -- Accepted lines of removal are the rendering of what they say, and that is valid (`cover_tells`). By the grammar's lines, one after the other.
+use Rattle.std.specs.Prelude.{Option, Some, None}
 use Prim.Native.Nat.{ℕ, ◌≤◌}
 use mathlib.Core.Path.{◌≡◌, refl, sym, ap, ◌∙◌, subst}
 use mathlib.Core.List.{List, [], ◌∷◌, ◌++◌, append_assoc}
 use mathlib.Core.Bool.{false≢true}
 use lib.ListN.{length}
 use borrow.Author.Tests.{eq-eqb}
-use Rattle.lines.specs.Text.{bytes, line_of, texts, Optional, missing, present, optional_text}
+use Rattle.lines.specs.Text.{bytes, line_of, texts, optional_text}
 use Rattle.lines.specs.Parser.{good, return, row, optional, if_present, checked, rising}
 use Rattle.lines.proofs.Sound.{bind_inv, Optionally, optional_inv, row_sound, checked_sound, chain_sound, row_gives, checked_gives, Chained, chain_gives, Told, Tells, Rises, rising_tells}
 use Rattle.covers.specs.Grammar.{other, holder, holders, inside, cover}
@@ -63,14 +64,14 @@ cover_tells m k s s' l l' o e =
     let b = bind_inv (optional "removal=" 0 1000000) _ s s' l l' o e in
     go b.a b.mid b.at (optional_inv _ 0 1000000 s b.mid l b.at b.a b.first) b.second
   where
-    go : (r : Optional ℕ) (mid : List ℕ) (at : ℕ) → Optionally (bytes "removal=") 0 1000000 s mid l at r → if_present (inside m k) r mid at ≡ good o s' l' → Told (ValidLines m k) (optional_text cover_text) s s' o
-    go missing mid at none e =
-        let x : missing ≡ o = cc in
+    go : (r : Option ℕ) (mid : List ℕ) (at : ℕ) → Optionally (bytes "removal=") 0 1000000 s mid l at r → if_present (inside m k) r mid at ≡ good o s' l' → Told (ValidLines m k) (optional_text cover_text) s s' o
+    go None mid at none e =
+        let x : None ≡ o = cc in
         let y : mid ≡ s' = cc in
         subst (Told (ValidLines m k) (optional_text cover_text) s s') x (record { known = tt; text = none ∙ y })
-    go (present r) mid at some e =
+    go (Some r) mid at some e =
         let d = bind_inv (inside m k r) _ mid s' at l' o e in
-        let x : present d.a ≡ o = cc d.second in
+        let x : Some d.a ≡ o = cc d.second in
         let y : d.mid ≡ s' = cc d.second in
         let t = inside_tells m k r mid d.mid at d.at d.a d.first in
         let paid : r ≡ d.a.removal = sym t.known.0 in

@@ -1,6 +1,6 @@
--- The laws: what accepted lines are (Accepted), that valid ones are accepted (Complete), which faults there are (Numbered), how long they are (Lengths), and the code's answers in the grammar's terms (Views).
+-- The laws: what accepted lines are (Accepted), that valid ones are accepted (Complete), which faults there are (Numbered), how long they are (Lengths), and marks that are not set (Marks).
 pub mod Accepted
 pub mod Complete
 pub mod Numbered
 pub mod Lengths
-pub mod Views
+pub mod Marks

@@ -1,6 +1,5 @@
 -- E7.2. "After each `left` a job may have `removal` 0..1000000, `inside` 0..15 and that many `holder` lines, 1..16, rising; a part without them has removal 0 and no holders."
-use Rattle.std.specs.Prelude.{ℕ, List, Bool, not, eqb}
-use Rattle.lines.specs.Text.{Optional}
+use Rattle.std.specs.Prelude.{ℕ, List, Bool, not, eqb, Option}
 use Rattle.lines.specs.Parser.{Parser, ◌>>=◌, return, row, optional, if_present, checked, chain, rising}
 use Rattle.model.specs.Limits.{dearest, most_parts, most_inside}
 
@@ -29,7 +28,7 @@ inside m k r = do
   return (record { removal = r; holders = hs })
 
 -- the lines of part k of m, which may be missing: they are told by the key of the first
-unfoldable pub cover : ℕ → ℕ → Parser (Optional Cover)
+unfoldable pub cover : ℕ → ℕ → Parser (Option Cover)
 cover m k = do
   r ← optional "removal=" 0 dearest
   if_present (inside m k) r

@@ -1,6 +1,5 @@
 -- What is known of accepted lines of removal.
-use Rattle.std.specs.Prelude.{ℕ, ◌≤◌, length}
-use Rattle.lines.specs.Text.{Optional, missing, present}
+use Rattle.std.specs.Prelude.{ℕ, ◌≤◌, length, Option, Some, None}
 use Rattle.model.specs.Limits.{dearest, most_inside}
 use Rattle.jobs.specs.Valid.{ValidHolders}
 use Rattle.covers.specs.Grammar.{Cover}
@@ -12,6 +11,6 @@ pub record ValidCover (m k : ℕ) (c : Cover) : Type 0 where
   pub holders : ValidHolders m k 0 c.holders
 
 -- where they stand
-abbrev pub ValidLines : ℕ → ℕ → Optional Cover → Type 0
-ValidLines m k missing = Unit {0}
-ValidLines m k (present c) = ValidCover m k c
+abbrev pub ValidLines : ℕ → ℕ → Option Cover → Type 0
+ValidLines m k None = Unit {0}
+ValidLines m k (Some c) = ValidCover m k c

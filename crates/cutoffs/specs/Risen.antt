@@ -1,5 +1,5 @@
 -- What the end of the walks is worth.
-use Rattle.std.specs.Prelude.{ℕ, ◌<◌, ◌≤◌, ◌≡◌, Bool, true, false, List, take}
+use Rattle.std.specs.Prelude.{ℕ, ◌<◌, ◌≤◌, ◌≡◌, Bool, true, false, None, Some, List, take}
 use Rattle.model.specs.Model.{Job}
 use Rattle.model.specs.LowerBound.{plan_at}
 use Rattle.model.specs.Promise.{BestPlan, Any}
@@ -12,7 +12,7 @@ use Rattle.cutoffs.specs.declared.Risen.{Risen}
 
 -- a plan that is found is the best of all, and its name is the first part of `best`; a walk that is cut has more nodes than the limit; and where neither is so, no plan costs less than the last cutoff
 pub record RisenRight (job : Job) (shares : Shares) (limit : ℕ) (best : List Bool) (r : Risen) : Type 0 where
-  pub plan_found_lem : r.found ≡ true → BestPlan job Any r.cost (plan_at job (take r.size best))
+  pub plan_found_lem : (c : ℕ) → r.cost ≡ Some c → BestPlan job Any c (plan_at job (take r.size best))
   pub longer : r.over ≡ true → (k : ℕ) × (limit < count_under (tree_by job (shared_bound job shares)) k)
   pub none_under : NoneUnder job r.floor
-  pub passed : r.found ≡ false → r.over ≡ false → inf ≤ r.floor
+  pub passed : r.cost ≡ None → r.over ≡ false → inf ≤ r.floor

@@ -17,12 +17,11 @@ use share_walk::{NAMES, solve};
 // The cutoffs end here.
 pub const LAST: u64 = INF as u64;
 
-// Where the walks end: a plan is found, of this cost and of a name of this length; or a walk has more nodes than the limit; or no plan costs less than the last cutoff. No plan costs less than the floor.
+// Where the walks end: a plan is found, of this cost, and of a name of this length; or a walk has more nodes than the limit; or no plan costs less than the last cutoff. No plan costs less than the floor.
 #[derive(Drop)]
 pub struct Risen {
-    pub found: bool,
+    pub cost: Option<u64>,
     pub over: bool,
-    pub cost: u64,
     pub size: usize,
     pub floor: u64,
 }
@@ -31,13 +30,7 @@ pub struct Risen {
 fn first_cutoff(wish: u64, floor: u64) -> u64
     ensures { (result ≤ inf) × (floor < inf → floor < result) }
 {
-    if LAST <= floor {
-        return LAST;
-    }
-    if wish <= floor {
-        return floor + 1;
-    }
-    if wish < LAST { wish } else { LAST }
+    wish.max(floor.saturating_add(1)).min(LAST)
 }
 
 // The next cutoff.
@@ -45,8 +38,7 @@ fn next_cutoff(k: u64, gap: u64) -> u64
     requires { (k ≤ inf) × (gap ≤ inf * 2) }
     ensures { (result ≤ inf) × (k < inf → k < result) }
 {
-    let next = k + gap + 1;
-    if next < LAST { next } else { LAST }
+    (k + gap + 1).min(LAST)
 }
 
 // The next gap: a quarter more.
@@ -56,14 +48,8 @@ fn next_gap(gap: u64) -> u64
     if gap < LAST { gap + gap / 4 + 1 } else { LAST }
 }
 
-// The length of a name.
-fn name_length(size: usize) -> usize
-    ensures { result ≡ min size name_size }
-{
-    if size < NAMES { size } else { NAMES }
-}
-
 // The walks from one cutoff after the other, from `wish` on, each with at most `limit` nodes. No plan costs less than `floor`.
+// Kept as a while loop: the cutoffs rise by growing gaps until the last one is passed.
 pub fn rise(
     t: &[u32; TABLES],
     x: &[u32; SHARES],
@@ -86,19 +72,17 @@ pub fn rise(
         let s = solve(t, x, w, name, best, k, limit);
         if s.over {
             return Risen {
-                found: false,
+                cost: None,
                 over: true,
-                cost: 0,
                 size: 0,
                 floor: low,
             };
         }
         if s.cost < k {
             return Risen {
-                found: true,
+                cost: Some(s.cost),
                 over: false,
-                cost: s.cost,
-                size: name_length(s.size),
+                size: s.size.min(NAMES),
                 floor: low,
             };
         }
@@ -107,9 +91,8 @@ pub fn rise(
         gap = next_gap(gap);
     }
     Risen {
-        found: false,
+        cost: None,
         over: false,
-        cost: 0,
         size: 0,
         floor: low,
     }

@@ -1,13 +1,12 @@
 -- The second and the third demand in the published terms: what the calls promise of plans that keep the lives, at the theorem that these are the plans of the published model, and their costs its objective.
 use Prim.Native.Nat.{ℕ, ◌≤◌}
-use mathlib.Core.Path.{◌≡◌, refl, sym, ap, subst, ◌∙◌}
+use mathlib.Core.Path.{◌≡◌, sym, ap, ◌∙◌}
 use mathlib.Core.List.{List, ◌++◌}
 use mathlib.Core.Logic.{◌↔◌}
 use native.Mathlib.Omega.{arith}
-use Rattle.model.specs.Model.{Job, Plan, HasPlan}
-use Rattle.model.specs.Published.{PublishedRunning, Tied, objective}
-use Rattle.model.specs.Promise.{PlannerAnswer, no_plan_lem2, cut_none, cut, optimum, result_of, Promise}
-use Rattle.job_grammar.specs.Grammar.{Given}
+use Rattle.model.specs.Model.{Plan, HasPlan}
+use Rattle.model.specs.Published.{PublishedRunning, Tied}
+use Rattle.model.specs.Promise.{PlannerAnswer, no_plan_lem2, cut_none, cut, optimum, Promise}
 use Rattle.job_grammar.specs.Reading.{Reading, job_in}
 use Rattle.job_grammar.proofs.Published.{text_published_running}
 use Rattle.answers.specs.Said.{Said, lent}

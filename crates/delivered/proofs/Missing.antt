@@ -1,5 +1,4 @@
 -- When a point's estimate is missing: exactly where some part can't be kept over its yes and undecided openings. By recursion over the parts; E4's term is missing nowhere else.
-use Prim.Native.Nat.{ℕ}
 use mathlib.Core.Path.{◌≡◌, refl, sym, ap, subst, ◌∙◌}
 use mathlib.Core.Bool.{Bool}
 use mathlib.Core.List.{List, [], ◌∷◌}

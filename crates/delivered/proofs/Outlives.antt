@@ -1,12 +1,12 @@
 -- A part whose first life outlasts the horizon is kept without a change. The end is no further than the first life; no change is selected.
 use Prim.Native.Nat.{ℕ, zero, suc, ◌+◌, ◌≤◌, ◌<◌}
-use mathlib.Core.Path.{◌≡◌, refl, sym, ap, subst, ◌∙◌}
+use mathlib.Core.Path.{◌≡◌, refl, sym, ap, ◌∙◌}
 use mathlib.Core.Bool.{Bool, true, false, false≢true}
 use mathlib.Core.List.{List, [], ◌∷◌}
 use native.Mathlib.Omega.{arith}
 use native.Mathlib.Decide.{dec_lt}
 use lib.ListN.{length, get_or, replicate, length-replicate, get_or-replicate, get_or-eq_default}
-use lib.IntN.{ℤ, pos, ◌-ℤ◌}
+use lib.IntN.{pos, ◌-ℤ◌}
 use Rattle.model.specs.Model.{Part, Job, positions, end, last_change_lem, within, kept, kept_by, select, KeepsPart}
 use Rattle.model.proofs.Integers.{at_most_test, difference}
 use Rattle.model.proofs.Positions.{in_range_lem}

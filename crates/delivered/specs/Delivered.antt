@@ -1,5 +1,5 @@
 -- docs/SPECIFICATION.md, sentence by sentence: what no call's own promise states. A field is named by its clause; docs/PROMISES.md has a row for each. A request adds its fields at the end, and their proofs in `proofs/Delivered`.
-use Rattle.std.specs.Prelude.{ℕ, suc, ◌+◌, ◌≤◌, ◌<◌, ◌≡◌, Bool, true, false, List, [], map, ◌⊎◌, ◌↔◌, length, get_or, replicate, pos}
+use Rattle.std.specs.Prelude.{ℕ, ◌+◌, ◌≤◌, ◌<◌, ◌≡◌, Bool, true, false, List, [], map, ◌⊎◌, ◌↔◌, length, get_or, replicate, pos}
 use Rattle.branch.specs.declared.Bound.TheVariants.{Missing, Sum}
 use Rattle.branch.specs.Search.{whole}
 use Rattle.lines.specs.Text.{bytes}

@@ -3,7 +3,7 @@ use Rattle.std.specs.Prelude.{ℕ, ◌+◌, ◌-◌, ◌*◌, ◌/◌, ◌%◌, 
 use Rattle.shares.specs.Shares.{Shares}
 use Rattle.lane_rows.specs.Layout.{lane_count_lem, dear}
 use Rattle.lane_rows.specs.Rows.{sum_lanes}
-use Rattle.share_rows.specs.Places.{most_things, bear_place, take_base, take_place, removal_place, holds_place, share_size}
+use Rattle.share_rows.specs.Places.{bear_place, take_base, take_place, removal_place, holds_place, share_size}
 
 -- the shares that a table holds
 abbrev pub shares_in : List ℕ → Shares
@@ -48,15 +48,6 @@ pub record Kept (raw ps fs rm : List ℕ) (things : ℕ) (x x' : List ℕ) (n : 
   pub size : length x' ≡ length x
   pub row : (r q : ℕ) → r < n → q < lane_count_lem → get_or x' (row_start r + q) 0 ≡ kept raw x ps fs rm things r q
   pub rest : (y : ℕ) → take_base ≤ y → get_or x' y 0 ≡ get_or x y 0
-
--- what checking row r asks
-pub record RowAsks (raw x ps : List ℕ) (things r : ℕ) : Type 0 where
-  pub raw_size_lem : length raw ≡ raw_size
-  pub size : length x ≡ share_size
-  pub prices : length ps ≡ 1024
-  pub cheap : (j : ℕ) → get_or ps j 0 ≤ dear
-  pub some : 0 < things
-  pub thing : r / 64 < most_things
 
 -- ---- what is taken
 

@@ -2,30 +2,24 @@
 use Prim.Native.Nat.{ℕ, zero, suc, ◌+◌, ◌-◌, ◌≤◌, ◌<◌}
 use mathlib.Core.Path.{◌≡◌, refl, sym, ap, ◌∙◌}
 use mathlib.Core.List.{List, [], ◌∷◌}
-use mathlib.Core.Bool.{Bool, true, false}
+use mathlib.Core.Bool.{Bool, true, false, cond}
 use native.Mathlib.Omega.{arith}
 use native.Mathlib.Numerals.{add-one}
 use lib.Dec.{eqb}
-use lib.ListN.{length, get_or, take, drop, length-drop, drop_of_length-le}
-use lib.Seq.{drop-drop, drop-length}
-use borrow.Author.Tests.{eq-eqb, ne_eqb}
+use lib.ListN.{length, take, drop, length-drop, drop_of_length-le}
+use lib.Seq.{drop-drop}
+use Rattle.std.specs.List.{position_or_len}
+use Rattle.std.proofs.lemmas.List.Recursion.{is_position_or_len}
 use Rattle.fault_lines.specs.Fault.{before_break, after_break, skipped, fault_line_lem, nowhere, span_in, fault_span_lem, Cuts}
-use Rattle.lines.proofs.Reading.{drop_step}
 
--- a byte other than 10 makes the line from it on one byte longer than from the next
-pub break_more : (s : List ℕ) (i : ℕ) → i < length s → (get_or s i 0 ≡ 10 → ⊥) → length (before_break (drop i s)) ≡ suc (length (before_break (drop (i + 1) s)))
+-- a line ends at the first byte 10, or at the text's end
+pub break_is : (s : List ℕ) → position_or_len (λ (b : ℕ). eqb b 10) s ≡ length (before_break s)
 unfolding before_break
-break_more s i h e = rw (drop_step s i h, before_break, ne_eqb (get_or s i 0) 10 e)
-
--- the line from a byte 10 on has no bytes before its end
-pub break_here : (s : List ℕ) (i : ℕ) → i < length s → get_or s i 0 ≡ 10 → length (before_break (drop i s)) ≡ 0
-unfolding before_break
-break_here s i h e = rw (drop_step s i h, before_break, eq-eqb (get_or s i 0) 10 e)
-
--- past the text's end a line has no bytes
-pub break_none : (s : List ℕ) (i : ℕ) → length s ≤ i → length (before_break (drop i s)) ≡ 0
-unfolding before_break
-break_none s i h = rw (drop_of_length-le s h)
+break_is s = sym (is_position_or_len (λ (bs : List ℕ). length (before_break bs)) (λ (b : ℕ). eqb b 10) refl (λ b bs. go bs (eqb b 10) b refl) s)
+  where
+    go : (bs : List ℕ) (t : Bool) (b : ℕ) → eqb b 10 ≡ t → length (before_break (b ∷ bs)) ≡ cond (eqb b 10) 0 (1 + length (before_break bs))
+    go bs true b e = rw (before_break, e) refl
+    go bs false b e = rw (before_break, e) (omega arith)
 
 -- the two sides of the first byte 10, by where it stands
 sides : (s : List ℕ) → (before_break s ≡ take (length (before_break s)) s) × (after_break s ≡ drop (length (before_break s) + 1) s) × (length (before_break s) ≤ length s)
@@ -57,18 +51,15 @@ skipped_none zero = refl
 skipped_none (suc k) = skipped_none k
 
 -- one line more
-pub skipped_more : (s : List ℕ) (at n k i : ℕ) → i < k → n ≡ length (before_break (drop at s)) → skipped (k - i) (drop at s) ≡ skipped (k - (i + 1)) (drop (at + n + 1) s)
+pub skipped_more : (s : List ℕ) (n k i : ℕ) → i < k → n ≡ length (before_break s) → skipped (k - i) s ≡ skipped (k - (i + 1)) (drop (n + 1) s)
 unfolding skipped
-skipped_more s at n k i h e =
+skipped_more s n k i h e =
     let z : k - i ≡ suc (k - (i + 1)) = omega arith in
-    let w : at + (n + 1) ≡ at + n + 1 = omega arith in
-    ap (λ (j : ℕ). skipped j (drop at s)) z
-    ∙ ap (skipped (k - (i + 1))) (after_is (drop at s) ∙ rw (← e) (drop-drop (n + 1) at s ∙ ap (λ (j : ℕ). drop j s) w))
+    ap (λ (j : ℕ). skipped j s) z ∙ ap (skipped (k - (i + 1))) (after_is s ∙ rw (← e) refl)
 
 -- no line more
-pub skipped_end : (s : List ℕ) (at n k i : ℕ) → i < k → n ≡ length (before_break (drop at s)) → length s ≤ at + n → drop (length s) s ≡ skipped (k - i) (drop at s)
-skipped_end s at n k i h e l =
-    drop-length s ∙ sym (skipped_more s at n k i h e ∙ ap (skipped (k - (i + 1))) (drop_of_length-le s {i = at + n + 1} (omega arith)) ∙ skipped_none (k - (i + 1)))
+pub skipped_end : (s : List ℕ) (n k i : ℕ) → i < k → n ≡ length (before_break s) → length s ≤ n → [] ≡ skipped (k - i) s
+skipped_end s n k i h e l = sym (skipped_more s n k i h e ∙ ap (skipped (k - (i + 1))) (drop_of_length-le s {i = n + 1} (omega arith)) ∙ skipped_none (k - (i + 1)))
 
 -- where no lines are left to skip, the text stays as it is
 pub skipped_zero : (s : List ℕ) (k i : ℕ) → k ≤ i → skipped (k - i) s ≡ s
@@ -87,16 +78,14 @@ span_is s zero h = absurd (h refl)
 span_is s (suc n) h = let z : n ≡ suc n - 1 = omega arith in ap (λ (j : ℕ). span_in s (skipped j s)) z
 
 -- where nothing is left of the text, there is no line and its span is 0 and 0
-pub span_missing : (s : List ℕ) (at : ℕ) → length s ≤ at → nowhere ≡ span_in s (drop at s)
-span_missing s at h = rw (drop_of_length-le s h)
+pub span_missing : (s rest : List ℕ) → length rest ≡ 0 → nowhere ≡ span_in s rest
+span_missing s [] h = refl
+span_missing s (b ∷ rest) h = absurd (omega arith)
 
--- a line that begins inside the text stands at its start, with its bytes up to byte 10
-pub span_there : (s : List ℕ) (at n : ℕ) → at < length s → n ≡ length (before_break (drop at s)) → record { start = at; length = n } ≡ span_in s (drop at s)
-span_there s at n h e = go (drop at s) (length-drop at s) e
-  where
-    go : (rest : List ℕ) → length rest ≡ length s - at → n ≡ length (before_break rest) → record { start = at; length = n } ≡ span_in s rest
-    go [] l e = absurd (omega arith)
-    go (b ∷ rest) l e = let z : at ≡ length s - length (b ∷ rest) = omega arith in λ i. record { start = z i; length = e i }
+-- a line of which something is left stands where that begins, with its bytes up to byte 10
+pub span_there : (s rest : List ℕ) (n : ℕ) → (length rest ≡ 0 → ⊥) → n ≡ length (before_break rest) → record { start = length s - length rest; length = n } ≡ span_in s rest
+span_there s [] n h e = absurd (h refl)
+span_there s (b ∷ rest) n h e = λ i. record { start = length s - length (b ∷ rest); length = e i }
 
 -- what is left of a text behind some lines is the text from a place on
 skipped-drop : (k : ℕ) (s : List ℕ) → (at : ℕ) × (skipped k s ≡ drop at s)
@@ -106,6 +95,10 @@ skipped-drop (suc k) s =
     let r = skipped-drop k (after_break s) in
     let m = length (before_break s) + 1 in
     (m + r.0, r.1 ∙ ap (drop r.0) (after_is s) ∙ drop-drop r.0 m s)
+
+-- and no longer than the text
+pub skipped_le : (k : ℕ) (s : List ℕ) → length (skipped k s) ≤ length s
+skipped_le k s = let r = skipped-drop k s in omega (arith, ap length r.1, length-drop r.0 s)
 
 -- the span of line n stands in the text and cuts the line out of it
 pub span_cuts : (s : List ℕ) (n : ℕ) → Cuts s (fault_line_lem n s) (fault_span_lem n s)

@@ -1,43 +1,42 @@
 // The line at fault, as it stands in the caller's own text.
-ghost use Rattle.std.specs.Prelude.{◌≡◌, ◌≤◌, length, drop};
+ghost use Rattle.std.specs.Prelude.{◌≡◌, length};
 ghost use Rattle.fault_lines.specs.Fault.{before_break, skipped, fault_line_lem, fault_span_lem};
 
-// Where a line stands in a text; 0 and 0 where there is none.
-#[derive(Drop)]
+// Where a line stands in a text. Kept as 0 and 0 where there is none, and not an Option: the C interface hands out these two numbers.
+#[derive(Clone, Copy)]
 pub struct Span {
     pub start: usize,
     pub length: usize,
+}
+
+impl Span {
+    // No line.
+    const NOWHERE: Span = Span {
+        start: 0,
+        length: 0,
+    };
 }
 
 // How many bytes stand before the first byte 10, or before the end.
 fn line_length(s: &[u8]) -> usize
     ensures { result ≡ length (before_break s.now) }
 {
-    let mut i = 0;
-    while i < s.len() {
-        if s[i] == 10 {
-            return i;
-        }
-        i += 1;
-    }
-    i
+    s.iter().position(|b| *b == b'\n').unwrap_or(s.len())
 }
 
-// Where what follows the first k lines begins.
-fn skip_lines(text: &[u8], k: usize) -> usize
-    ensures { (result ≤ length text.now) × (drop result text.now ≡ skipped k text.now) }
+// What follows the first k lines.
+fn skip_lines(text: &[u8], k: usize) -> &[u8]
+    ensures { result.now ≡ skipped k text.now }
 {
-    let mut at = 0;
-    let mut i = 0;
-    while i < k {
-        let n = line_length(&text[at..]);
-        if text.len() <= at + n {
-            return text.len();
+    let mut rest = text;
+    for _ in 0..k {
+        let n = line_length(rest);
+        if rest.len() <= n {
+            return &[];
         }
-        at = at + n + 1;
-        i += 1;
+        rest = &rest[n + 1..];
     }
-    at
+    rest
 }
 
 // Where the line with this number, from 1, stands: its start, and its length without its byte 10.
@@ -45,22 +44,15 @@ pub fn fault_span(text: &[u8], line: usize) -> Span
     ensures { result ≡ fault_span_lem line text.now }
 {
     if line == 0 {
-        return Span {
-            start: 0,
-            length: 0,
-        };
+        return Span::NOWHERE;
     }
-    let at = skip_lines(text, line - 1);
-    if text.len() <= at {
-        return Span {
-            start: 0,
-            length: 0,
-        };
+    let rest = skip_lines(text, line - 1);
+    if rest.is_empty() {
+        return Span::NOWHERE;
     }
-    let n = line_length(&text[at..]);
     Span {
-        start: at,
-        length: n,
+        start: text.len() - rest.len(),
+        length: line_length(rest),
     }
 }
 

@@ -1,4 +1,5 @@
 -- Lists that disagree, where the lines before have no fault: 3 on the line of the number that counts them (`fees_out`, `parts_out`). By those lines, each read at its place.
+use Rattle.std.specs.Prelude.{None}
 use Prim.Native.Nat.{ℕ, ◌+◌, ◌*◌, ◌≤◌, ◌<◌}
 use mathlib.Core.Path.{◌≡◌, refl, sym, ap, ◌∙◌}
 use mathlib.Core.Bool.{true, false}
@@ -9,7 +10,7 @@ use native.Mathlib.Nat.{suc-mul, zero-mul}
 use borrow.Author.Tests.{eq-eqb, eqb-true}
 use lib.ListN.{length}
 use Rattle.lines.specs.Line.{starts_with}
-use Rattle.lines.specs.Text.{bytes, line, line_of, texts, missing, optional_text}
+use Rattle.lines.specs.Text.{bytes, line, line_of, texts, optional_text}
 use Rattle.lines.specs.Parser.{Parser, good, fault, ◌>>=◌, return, row, row_at, optional, checked, chain, rising}
 use Rattle.lines.proofs.Parsing.{bind_good, bind_fault, checked-good, rising_yes, optional_missing}
 use Rattle.lines.proofs.Sound.{Chained}
@@ -123,13 +124,13 @@ module _ (f : Form) (start : StartFaultless f) where
   abbrev opening_count_lem : List ℕ
   opening_count_lem = line_of "openings=" (count_of 64 (fees_agree os fs) n)
 
-  start_in : job_lines (form_text f) 1 ≡ (row "openings=" 0 64 >>= body f.horizon (idle_lines f.idles) missing) (opening_count_lem ++ body_of os fs f.parts) (openings_line f)
+  start_in : job_lines (form_text f) 1 ≡ (row "openings=" 0 64 >>= body f.horizon (idle_lines f.idles) None) (opening_count_lem ++ body_of os fs f.parts) (openings_line f)
   unfolding job_lines rest form_text rest_of
   start_in =
       let after = opening_count_lem ++ body_of os fs f.parts in
       let is = optional_text idle_count_text (idle_lines f.idles) in
       bind_good (row "horizon=" 2 365) _ (value_in (bytes "horizon=") 2 365 f.horizon (omega (arith, start.horizon_high)) (is ++ after) 1 start.horizon_low start.horizon_high)
-      ∙ bind_good (idles f.horizon) _ (idles_in f.horizon f.idles after start.horizon_high start.few_idles start.idles (walk_next missing (count_of 64 (fees_agree os fs) n) (body_of os fs f.parts)))
+      ∙ bind_good (idles f.horizon) _ (idles_in f.horizon f.idles after start.horizon_high start.few_idles start.idles (walk_next None (count_of 64 (fees_agree os fs) n) (body_of os fs f.parts)))
       ∙ bind_good (optional "walk=" 0 4000000000) _ (optional_missing (bytes "walk=") 0 4000000000 after (openings_line f) (openings_next (count_of 64 (fees_agree os fs) n) (body_of os fs f.parts)))
 
   -- ---- the two numbers

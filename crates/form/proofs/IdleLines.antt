@@ -1,4 +1,5 @@
 -- The lines of the idle steps, read: none (`idles_none`), and the steps behind it (`idles_some`). By the optional line of their number.
+use Rattle.std.specs.Prelude.{Option, Some}
 use Prim.Native.Nat.{ℕ, ◌+◌, ◌≤◌}
 use mathlib.Core.Path.{◌≡◌, ap, ap₂, ◌∙◌}
 use mathlib.Core.Bool.{Bool, true, false, ◌&&◌, cond}
@@ -8,7 +9,7 @@ use borrow.Author.Tests.{eq-eqb, ne_eqb}
 use lib.Dec.{leb}
 use lib.ListN.{length}
 use Rattle.lines.specs.Line.{starts_with}
-use Rattle.lines.specs.Text.{bytes, line_of, texts, Optional, present, optional_text}
+use Rattle.lines.specs.Text.{bytes, line_of, texts, optional_text}
 use Rattle.lines.specs.Parser.{Parsed, good, fault, ◌>>=◌, return, row, optional, if_present}
 use Rattle.lines.proofs.Parsing.{bind_good, optional_there, optional_missing}
 use Rattle.lines.proofs.Sound.{chain_gives}
@@ -60,21 +61,21 @@ idles_none w h l [] t e other = bind_good (optional "idles=" 1 365) _ (optional_
 idles_none w h l (i ∷ is) t e other = absurd (omega arith)
 
 -- where there are some, the number's line decides first
-pub number_there : (h l v : ℕ) (t : List ℕ) → idles h (line_of "idles=" v ++ t) l ≡ ((row "idles=" 1 365 >>= λ v. return (present v)) >>= if_present (idle_steps_lem h)) (line_of "idles=" v ++ t) l
+pub number_there : (h l v : ℕ) (t : List ℕ) → idles h (line_of "idles=" v ++ t) l ≡ ((row "idles=" 1 365 >>= λ v. return (Some v)) >>= if_present (idle_steps_lem h)) (line_of "idles=" v ++ t) l
 unfolding idles ◌>>=◌
 number_there h l v t =
-    ap (λ (y : Parsed (Optional ℕ)). elim y [ good a s m ↦ if_present (idle_steps_lem h) a s m | fault n m ↦ fault n m ])
+    ap (λ (y : Parsed (Option ℕ)). elim y [ good a s m ↦ if_present (idle_steps_lem h) a s m | fault n m ↦ fault n m ])
     (optional_there (bytes "idles=") 1 365 (line_of "idles=" v ++ t) l (starts_line (bytes "idles=") v t))
 
 pub idles_some : {n m : ℕ} (h l : ℕ) (is t : List ℕ) → 1 ≤ length is → row "idles=" 1 365 (numbered is t) l ≡ good n (texts (line_of "idle=") is ++ t) m
-    → idles h (optional_text idle_count_text (idle_lines is) ++ t) l ≡ (idle_steps_lem h n >>= λ x. return (present x)) (texts (line_of "idle=") is ++ t) m
+    → idles h (optional_text idle_count_text (idle_lines is) ++ t) l ≡ (idle_steps_lem h n >>= λ x. return (Some x)) (texts (line_of "idle=") is ++ t) m
 unfolding if_present return
 idles_some h l is t some e =
     ap (λ (x : List ℕ). idles h x l) (text_some is t some) ∙ number_there h l (count_of 365 true (length is)) (texts (line_of "idle=") is ++ t) ∙ bind_good _ _ (bind_good (row "idles=" 1 365) _ e)
 
 -- steps that were read behind their number's line
-pub steps_in : (h n l : ℕ) (is t u : List ℕ) (k m : ℕ) → 1 ≤ n → k ≡ m → idle_steps_lem h n t l ≡ good is u k → (idle_steps_lem h n >>= λ x. return (present x)) t l ≡ good (idle_lines is) u m
+pub steps_in : (h n l : ℕ) (is t u : List ℕ) (k m : ℕ) → 1 ≤ n → k ≡ m → idle_steps_lem h n t l ≡ good is u k → (idle_steps_lem h n >>= λ x. return (Some x)) t l ≡ good (idle_lines is) u m
 unfolding return idle_steps_lem
 steps_in h n l is t u k m some e q =
     let size = (chain_gives (idle h) (λ (before i : ℕ). i) (λ _ _. Unit {0}) (λ _ _ _ _ _ _ _. tt) n 0 t u l k is q).0 in
-    bind_good (idle_steps_lem h n) _ q ∙ ap₂ (λ (x : Optional (List ℕ)) (j : ℕ). good x u j) (some_idles is (omega (arith, size))) e
+    bind_good (idle_steps_lem h n) _ q ∙ ap₂ (λ (x : Option (List ℕ)) (j : ℕ). good x u j) (some_idles is (omega (arith, size))) e

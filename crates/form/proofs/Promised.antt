@@ -1,5 +1,6 @@
 -- The writer's answer keeps its promise on every form and every room (`promised`): what it writes reads back as what the form states (`written_reads`), and the numbers read from an accepted text
 -- make that text again (`read_writes`). By what the form's text is read as.
+use Rattle.std.specs.Prelude.{None}
 use Prim.Native.Nat.{ℕ, zero, suc, ◌≤◌, ◌<◌}
 use mathlib.Core.Path.{◌≡◌, refl, sym, ap, ap₂, subst, ◌∙◌}
 use mathlib.Core.List.{List, [], ◌∷◌, ◌++◌}
@@ -8,7 +9,6 @@ use native.Mathlib.Decide.{dec_lt}
 use borrow.Author.Tests.{lt-ltb, le-ltb}
 use mathlib.Core.Logic.{⊎_elim}
 use lib.ListN.{length, take, drop, length-map}
-use Rattle.lines.specs.Text.{missing}
 use Rattle.lines.specs.Wrote.{Wrote}
 use Rattle.lines.proofs.Writing as wrote
 use Rattle.lines.specs.Parser.{accepted, refused, good, fault, return, end as ends, finish, whole}
@@ -81,7 +81,7 @@ written_reads f held t e = go (form_back f held)
     go (broken n m w h i) = not_both e (form_refused f n m h)
 
 -- an accepted text without the line of the walk number, read and written, comes out byte for byte
-pub read_writes : (text : List ℕ) (t : JobText) → read_job_text text ≡ accepted t → t.walk ≡ missing → write_said (form_of t) ≡ plainly 0 text
+pub read_writes : (text : List ℕ) (t : JobText) → read_job_text text ≡ accepted t → t.walk ≡ None → write_said (form_of t) ≡ plainly 0 text
 unfolding write_said read_form
 read_writes text t e none =
     let v = valid_text text t e in
@@ -131,7 +131,7 @@ module _ (f : Form) (held : Held f) (room : ℕ) where
   accepts agree e = reads agree (few_of agree e) ∙ text_fits max_bytes job_lines (job_text_lem (stated f)) (lengths.text_fits (stated f) (valid_text (job_text_lem (stated f)) (stated f) e)) ∙ e
 
   -- an accepted text's numbers make it again
-  again : (text : List ℕ) (t : JobText) → read_job_text text ≡ accepted t → t.walk ≡ missing → f ≡ form_of t → write_said f ≡ plainly 0 text
+  again : (text : List ℕ) (t : JobText) → read_job_text text ≡ accepted t → t.walk ≡ None → f ≡ form_of t → write_said f ≡ plainly 0 text
   again text t e none same = ap write_said same ∙ read_writes text t e none
 
   short : room < write_room → WritePromise f room (plainly 8 [])

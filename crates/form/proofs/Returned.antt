@@ -1,4 +1,5 @@
 -- Lists that agree and are not too long make the very text of the job that they state (`same_text`); and the form that holds an accepted text's numbers states what the text says (`returned`). By the laws of the lists.
+use Rattle.std.specs.Prelude.{Option, None, Some}
 use Prim.Native.Nat.{ℕ, suc, ◌+◌, ◌-◌, ◌*◌, ◌≤◌}
 use mathlib.Core.Path.{◌≡◌, refl, sym, ap, ap₂, ◌∙◌, subst}
 use mathlib.Core.Bool.{true}
@@ -8,7 +9,7 @@ use native.Mathlib.Nat.{suc-mul, zero-mul}
 use borrow.Author.Tests.{eq-eqb}
 use lib.ListN.{length, drop, length-append, length-map}
 use lib.Seq.{take_at, drop_at}
-use Rattle.lines.specs.Text.{line_of, texts, Optional, missing, present, optional_text}
+use Rattle.lines.specs.Text.{line_of, texts, optional_text}
 use Rattle.model.specs.Model.{Opening}
 use Rattle.jobs.specs.Valid.{All}
 use Rattle.covers.specs.Grammar.{Cover}
@@ -19,7 +20,7 @@ use Rattle.price_rules.specs.Grammar.{Prices, by_list, by_rule_lem}
 use Rattle.price_rules.specs.Valid.{ValidPrices}
 use Rattle.part_lines.specs.Grammar.{PartText, meant_part}
 use Rattle.part_lines.specs.Valid.{Spelt}
-use Rattle.job_grammar.specs.Valid.{Some, ValidText}
+use Rattle.job_grammar.specs.Valid.{SomeIdles, ValidText}
 use Rattle.job_grammar.specs.Rendering.{idles_text, opening_text, body_text, job_text_lem}
 use Rattle.part_lines.specs.Rendering.{part_text}
 use Rattle.job_grammar.specs.Optionals.{idle_lines}
@@ -81,34 +82,34 @@ life_of_lem p = p.life
 abbrev left_of : PartText → ℕ
 left_of p = p.left
 
-abbrev cover_of : PartText → Optional Cover
+abbrev cover_of : PartText → Option Cover
 cover_of p = p.cover
 
 abbrev prices_of_lem : PartText → Prices
 prices_of_lem p = p.prices
 
 -- the rule that prices stand by
-abbrev rule_in : Prices → Optional Rule
-rule_in (by_list ps) = missing
-rule_in (by_rule_lem r) = present r
+abbrev rule_in : Prices → Option Rule
+rule_in (by_list ps) = None
+rule_in (by_rule_lem r) = Some r
 
-abbrev rule_of : PartText → Optional Rule
+abbrev rule_of : PartText → Option Rule
 rule_of p = rule_in p.prices
 
 abbrev list_of : PartText → List ℕ
 list_of p = listed_in p.prices
 
 -- the lines of removal that the first numbers state
-covers_more : (o : Optional Cover) (cs vs is hs : List ℕ) → covers_of (mark_of o ∷ cs) (removal_in o ++ vs) (insides_of o ++ is) (holders_of_lem o ++ hs) ≡ o ∷ covers_of cs vs is hs
+covers_more : (o : Option Cover) (cs vs is hs : List ℕ) → covers_of (mark_of o ∷ cs) (removal_in o ++ vs) (insides_of o ++ is) (holders_of_lem o ++ hs) ≡ o ∷ covers_of cs vs is hs
 unfolding covers_of
-covers_more missing cs vs is hs = refl
-covers_more (present c) cs vs is hs =
-    ap₂ (λ (js rest : List ℕ). present (record { removal = c.removal; holders = js }) ∷ covers_of cs vs is rest) (take_at c.holders hs (length c.holders) refl) (drop_at c.holders hs (length c.holders) refl)
+covers_more None cs vs is hs = refl
+covers_more (Some c) cs vs is hs =
+    ap₂ (λ (js rest : List ℕ). Some (record { removal = c.removal; holders = js }) ∷ covers_of cs vs is rest) (take_at c.holders hs (length c.holders) refl) (drop_at c.holders hs (length c.holders) refl)
 
 covers_back : (ps : List PartText) → let x = lists_of ps in covers_of x.covered x.removals x.insides x.holders ≡ map cover_of ps
 unfolding covers_of
 covers_back [] = refl
-covers_back (p ∷ ps) = let x = lists_of ps in covers_more p.cover x.covered x.removals x.insides x.holders ∙ ap (λ (os : List (Optional Cover)). p.cover ∷ os) (covers_back ps)
+covers_back (p ∷ ps) = let x = lists_of ps in covers_more p.cover x.covered x.removals x.insides x.holders ∙ ap (λ (os : List (Option Cover)). p.cover ∷ os) (covers_back ps)
 
 -- the rule that the first numbers state
 rules_more : (p : Prices) (us bs ds ms : List ℕ) → rules_of (rule_mark_lem p ∷ us) (bases_of p ++ bs) (drops_of p ++ ds) (leasts_of p ++ ms) ≡ rule_in p ∷ rules_of us bs ds ms
@@ -119,7 +120,7 @@ rules_more (by_rule_lem r) us bs ds ms = refl
 rules_back : (ps : List PartText) → let x = lists_of ps in rules_of x.ruled x.bases x.drops x.leasts ≡ map rule_of ps
 unfolding rules_of
 rules_back [] = refl
-rules_back (p ∷ ps) = let x = lists_of ps in rules_more p.prices x.ruled x.bases x.drops x.leasts ∙ ap (λ (us : List (Optional Rule)). rule_of p ∷ us) (rules_back ps)
+rules_back (p ∷ ps) = let x = lists_of ps in rules_more p.prices x.ruled x.bases x.drops x.leasts ∙ ap (λ (us : List (Option Rule)). rule_of p ∷ us) (rules_back ps)
 
 -- the prices that are listed, one by one
 abbrev quotes_if : Prices → List Quote
@@ -161,7 +162,7 @@ grouped_back n (p ∷ ps) v =
 
 parts_back : (n : ℕ) (ps : List PartText) → All (Spelt n) ps → parts_of n (lists_of ps) ≡ ps
 parts_back n ps v =
-    ap₂ (λ (os : List (Optional Cover)) (us : List (Optional Rule)). grouped n (map life_of_lem ps) (map left_of ps) os us (quotes_in (lists_of ps))) (covers_back ps) (rules_back ps)
+    ap₂ (λ (os : List (Option Cover)) (us : List (Option Rule)). grouped n (map life_of_lem ps) (map left_of ps) os us (quotes_in (lists_of ps))) (covers_back ps) (rules_back ps)
     ∙ ap (grouped n (map life_of_lem ps) (map left_of ps) (map cover_of ps) (map rule_of ps)) (quotes_back ps) ∙ grouped_back n ps v
 
 -- one part more, by whether it has a rule
@@ -250,21 +251,21 @@ lows_size (p ∷ ps) =
     length-append (lows_in p.prices) (lists_of ps).lows ∙ ap₂ ◌+◌ (lows_counted p.prices) (lows_size ps) ∙ sym (sum_append (banded_in p.prices) (lists_of ps).banded)
 
 -- one part more, by whether its lines of removal stand
-mark_small : (o : Optional Cover) → mark_of o ≤ 1
-mark_small missing = omega arith
-mark_small (present c) = omega arith
+mark_small : (o : Option Cover) → mark_of o ≤ 1
+mark_small None = omega arith
+mark_small (Some c) = omega arith
 
-removal_more : (o : Optional Cover) (vs : List ℕ) → length (removal_in o ++ vs) ≡ mark_of o + length vs
-removal_more missing vs = omega arith
-removal_more (present c) vs = omega arith
+removal_more : (o : Option Cover) (vs : List ℕ) → length (removal_in o ++ vs) ≡ mark_of o + length vs
+removal_more None vs = omega arith
+removal_more (Some c) vs = omega arith
 
-inside_more : (o : Optional Cover) (is : List ℕ) → length (insides_of o ++ is) ≡ mark_of o + length is
-inside_more missing is = omega arith
-inside_more (present c) is = omega arith
+inside_more : (o : Option Cover) (is : List ℕ) → length (insides_of o ++ is) ≡ mark_of o + length is
+inside_more None is = omega arith
+inside_more (Some c) is = omega arith
 
-holders_more : (o : Optional Cover) (is hs : List ℕ) → length hs ≡ sum_all is → length (holders_of_lem o ++ hs) ≡ sum_all (insides_of o ++ is)
-holders_more missing is hs e = e
-holders_more (present c) is hs e = length-append c.holders hs ∙ ap (λ (i : ℕ). length c.holders + i) e
+holders_more : (o : Option Cover) (is hs : List ℕ) → length hs ≡ sum_all is → length (holders_of_lem o ++ hs) ≡ sum_all (insides_of o ++ is)
+holders_more None is hs e = e
+holders_more (Some c) is hs e = length-append c.holders hs ∙ ap (λ (i : ℕ). length c.holders + i) e
 
 marks_small : (ps : List PartText) → All (λ (c : ℕ). c ≤ 1) (lists_of ps).covered
 marks_small [] = tt
@@ -301,10 +302,10 @@ lists_agree n ps v = record {
   lows = lows_size ps;
 }
 
-idles_back : (o : Optional (List ℕ)) → Some o → idle_lines (idle_in o) ≡ o
+idles_back : (o : Option (List ℕ)) → SomeIdles o → idle_lines (idle_in o) ≡ o
 unfolding idle_lines
-idles_back missing h = refl
-idles_back (present is) h = sym (some_idles is h)
+idles_back None h = refl
+idles_back (Some is) h = sym (some_idles is h)
 
 module _ (t : JobText) (v : ValidText t) where
   steps_of : length t.openings ≡ length (map (λ (o : Opening). o.step) t.openings)
@@ -326,7 +327,7 @@ module _ (t : JobText) (v : ValidText t) where
   }
 
   -- a text without the line of the walk number
-  pub returned : t.walk ≡ missing → stated (form_of t) ≡ t
+  pub returned : t.walk ≡ None → stated (form_of t) ≡ t
   returned none = λ i. record {
     horizon = t.horizon;
     idles = idles_back t.idles v.idles i;

@@ -1,4 +1,5 @@
 -- A form's text is read as what the form states, and then its lists agree and are not too long; or it has a fault of number 3, 4, 5, 12 or 13; and the text that is written to be read gives the same (`form_back`). By the grammar's lines, one after the other.
+use Rattle.std.specs.Prelude.{Option, None, Some}
 use Prim.Native.Nat.{ℕ, zero, suc, ◌+◌, ◌-◌, ◌*◌, ◌^◌, ◌≤◌, ◌<◌}
 use mathlib.Core.Path.{◌≡◌, refl, sym, ap, ap₂, subst, ◌∙◌}
 use mathlib.Core.Bool.{Bool, true, false, ◌&&◌, cond, and-eq-true_iff, false≢true}
@@ -12,7 +13,7 @@ use lib.Dec.{leb}
 use lib.ListN.{length, get_or, take, drop, length-take, length-drop}
 use lib.Seq.{get_or-drop, length-take-le}
 use Rattle.lines.specs.Line.{starts_with}
-use Rattle.lines.specs.Text.{bytes, line, line_of, texts, Optional, missing, present, optional_text}
+use Rattle.lines.specs.Text.{bytes, line, line_of, texts, optional_text}
 use Rattle.lines.specs.Parser.{Parsed, good, fault, ◌>>=◌, return, row, row_at, optional, checked, chain, times, rising, up_to, if_present}
 use Rattle.lines.proofs.Parsing.{bind_good, optional_there, optional_missing}
 use Rattle.lines.proofs.Sound.{Chained}
@@ -161,11 +162,11 @@ idles_back h l is s t small other other' = go (dec_lt 0 (length is))
         let ts = texts (line_of "idle=") is in
         same_back (ap (λ (x : List ℕ). idles h x l) (text_some is s m) ∙ number_there h l c (ts ++ s)) (ap (λ (x : List ℕ). idles h x l) (cut_some is t m) ∙ number_there h l c (steps_if is t (leb (length is) 365 && true)))
         (bind_back _ (if_present (idle_steps_lem h))
-        (bind_back (row "idles=" 1 365) (λ v. return (present v)) (count_back (bytes "idles=") 1 365 (omega arith) true (length is) (ts ++ s) (steps_if is t) l)
-        (λ few k. return_back (present (length is)) (ts ++ s) (ts ++ t) k few.0))
-        (λ few k. bind_back (idle_steps_lem h (length is)) (λ x. return (present x))
+        (bind_back (row "idles=" 1 365) (λ v. return (Some v)) (count_back (bytes "idles=") 1 365 (omega arith) true (length is) (ts ++ s) (steps_if is t) l)
+        (λ few k. return_back (Some (length is)) (ts ++ s) (ts ++ t) k few.0))
+        (λ few k. bind_back (idle_steps_lem h (length is)) (λ x. return (Some x))
         (chain_back FormFault (idle h) (λ (before i : ℕ). i) (line_of "idle=") Short (λ before v v-few u v' j. step_back (bytes "idle=") h before v v-few u v' j) 0 is (small_chained (λ (before i : ℕ). i) 0 is small) s t k)
-        (λ _ j. subst (λ (o : Optional (List ℕ)). Readback FormFault (length is ≤ 365) o s t (return (present is) s j) (return (present is) t j)) (some_idles is m) (return_back (present is) s t j few))))
+        (λ _ j. subst (λ (o : Option (List ℕ)). Readback FormFault (length is ≤ 365) o s t (return (Some is) s j) (return (Some is) t j)) (some_idles is m) (return_back (Some is) s t j few))))
 
 -- ---- openings
 
@@ -193,9 +194,9 @@ paired_short prev (o ∷ os) (f ∷ fs) a b = ((omega (arith, a 0), omega (arith
 -- ---- covers
 
 -- numbers of lines of removal that can be written
-abbrev ShortCover : Optional Cover → Type 0
-ShortCover missing = Unit {0}
-ShortCover (present c) = Short c.removal × Short (length c.holders) × Small c.holders
+abbrev ShortCover : Option Cover → Type 0
+ShortCover None = Unit {0}
+ShortCover (Some c) = Short c.removal × Short (length c.holders) × Small c.holders
 
 abbrev itself : ℕ → ℕ → ℕ
 itself before h = h
@@ -210,7 +211,7 @@ holder_back m k before v few s t l =
 abbrev holders_if : List ℕ → List ℕ → Bool → List ℕ
 holders_if hs t b = cond b (texts (line_of "holder=") hs) [] ++ t
 
-inside_back : (m k : ℕ) (c : Cover) → ShortCover (present c) → (s t : List ℕ) (l : ℕ) → let n = length c.holders in
+inside_back : (m k : ℕ) (c : Cover) → ShortCover (Some c) → (s t : List ℕ) (l : ℕ) → let n = length c.holders in
     Readback FormFault (Unit {0}) c s t (inside m k c.removal (line_of "inside=" n ++ (texts (line_of "holder=") c.holders ++ s)) l) (inside m k c.removal (line_of "inside=" n ++ holders_if c.holders t (leb n 15)) l)
 unfolding inside holders
 inside_back m k c few s t l =
@@ -220,11 +221,11 @@ inside_back m k c few s t l =
     (chain_back FormFault (holder m k) itself (line_of "holder=") Short (holder_back m k) 0 c.holders (small_chained itself 0 c.holders few.2) s t i)
     (λ _ j. return_back c s t j tt))
 
-cover_back : (m k : ℕ) (o : Optional Cover) → ShortCover o → (s t : List ℕ) (l : ℕ) → starts_with (bytes "removal=") s ≡ false → starts_with (bytes "removal=") t ≡ false
+cover_back : (m k : ℕ) (o : Option Cover) → ShortCover o → (s t : List ℕ) (l : ℕ) → starts_with (bytes "removal=") s ≡ false → starts_with (bytes "removal=") t ≡ false
     → Readback FormFault (Unit {0}) o s t (cover m k (optional_text cover_text o ++ s) l) (cover m k (optional_text cover_cut o ++ t) l)
 unfolding cover_text cover_cut inside_cut if_present
-cover_back m k missing few s t l other other' = back tt l (cover_none m k s l other) (cover_none m k t l other')
-cover_back m k (present c) few s t l other other' =
+cover_back m k None few s t l other other' = back tt l (cover_none m k s l other) (cover_none m k t l other')
+cover_back m k (Some c) few s t l other other' =
     let n = length c.holders in
     let a = line_of "removal=" c.removal in
     let b = line_of "inside=" n in
@@ -233,8 +234,8 @@ cover_back m k (present c) few s t l other other' =
     same_back (ap (λ (u : List ℕ). cover m k u l) (append_assoc (a ++ b) d s ∙ append_assoc a b (d ++ s)) ∙ removal_there m k c.removal (b ++ (d ++ s)) l)
     (ap (λ (u : List ℕ). cover m k u l) (append_assoc a (b ++ d') t ∙ ap (λ (u : List ℕ). a ++ u) (append_assoc b d' t)) ∙ removal_there m k c.removal (b ++ (d' ++ t)) l)
     (bind_back _ (if_present (inside m k))
-    (bind_back (row "removal=" 0 1000000) (λ v. return (present v)) (value_back (bytes "removal=") 0 1000000 c.removal few.0 (b ++ (d ++ s)) (b ++ (d' ++ t)) l) (λ known i. return_back (present c.removal) (b ++ (d ++ s)) (b ++ (d' ++ t)) i known))
-    (λ _ i. bind_back (inside m k c.removal) (λ x. return (present x)) (inside_back m k c few s t i) (λ _ j. return_back (present c) s t j tt)))
+    (bind_back (row "removal=" 0 1000000) (λ v. return (Some v)) (value_back (bytes "removal=") 0 1000000 c.removal few.0 (b ++ (d ++ s)) (b ++ (d' ++ t)) l) (λ known i. return_back (Some c.removal) (b ++ (d ++ s)) (b ++ (d' ++ t)) i known))
+    (λ _ i. bind_back (inside m k c.removal) (λ x. return (Some x)) (inside_back m k c few s t i) (λ _ j. return_back (Some c) s t j tt)))
 
 -- ---- parts
 
@@ -249,10 +250,10 @@ ShortPrices n (by_list qs) = (length qs ≡ n) × All ShortQuote qs
 ShortPrices n (by_rule_lem r) = Short r.base × Short r.drop × Short r.least
 
 -- where a rule stands, the base's line decides first
-base_there : (b : ℕ) (t : List ℕ) (l : ℕ) → rule (line_of "base=" b ++ t) l ≡ ((row "base=" 1 1000000 >>= λ v. return (present v)) >>= if_present after_base) (line_of "base=" b ++ t) l
+base_there : (b : ℕ) (t : List ℕ) (l : ℕ) → rule (line_of "base=" b ++ t) l ≡ ((row "base=" 1 1000000 >>= λ v. return (Some v)) >>= if_present after_base) (line_of "base=" b ++ t) l
 unfolding rule ◌>>=◌
 base_there b t l =
-    ap (λ (y : Parsed (Optional ℕ)). elim y [ good a s i ↦ if_present after_base a s i | fault n i ↦ fault n i ])
+    ap (λ (y : Parsed (Option ℕ)). elim y [ good a s i ↦ if_present after_base a s i | fault n i ↦ fault n i ])
     (optional_there (bytes "base=") 1 1000000 (line_of "base=" b ++ t) l (starts_line (bytes "base=") b t))
 
 -- the lines behind it
@@ -264,7 +265,7 @@ base_back r few s t l =
     bind_back (row "drop=" 0 1000000) _ (value_back (bytes "drop=") 0 1000000 r.drop few.1 (c ++ s) (c ++ t) l)
     (λ _ j. bind_back (row "least=" 1 1000000) _ (value_back (bytes "least=") 1 1000000 r.least few.2 s t j) (λ _ k. return_back r s t k tt))
 
-rule_back : (r : Rule) → ShortPrices 0 (by_rule_lem r) → (s t : List ℕ) (l : ℕ) → Readback FormFault (Unit {0}) (present r) s t (rule (rule_text r ++ s) l) (rule (rule_text r ++ t) l)
+rule_back : (r : Rule) → ShortPrices 0 (by_rule_lem r) → (s t : List ℕ) (l : ℕ) → Readback FormFault (Unit {0}) (Some r) s t (rule (rule_text r ++ s) l) (rule (rule_text r ++ t) l)
 unfolding rule_text if_present
 rule_back r few s t l =
     let a = line_of "base=" r.base in
@@ -273,23 +274,23 @@ rule_back r few s t l =
     same_back (ap (λ (u : List ℕ). rule u l) (append_assoc (a ++ b) c s ∙ append_assoc a b (c ++ s)) ∙ base_there r.base (b ++ (c ++ s)) l)
     (ap (λ (u : List ℕ). rule u l) (append_assoc (a ++ b) c t ∙ append_assoc a b (c ++ t)) ∙ base_there r.base (b ++ (c ++ t)) l)
     (bind_back _ (if_present after_base)
-    (bind_back (row "base=" 1 1000000) (λ v. return (present v)) (value_back (bytes "base=") 1 1000000 r.base few.0 (b ++ (c ++ s)) (b ++ (c ++ t)) l) (λ known i. return_back (present r.base) (b ++ (c ++ s)) (b ++ (c ++ t)) i known))
-    (λ _ i. bind_back (after_base r.base) (λ x. return (present x)) (base_back r few s t i) (λ _ j. return_back (present r) s t j tt)))
+    (bind_back (row "base=" 1 1000000) (λ v. return (Some v)) (value_back (bytes "base=") 1 1000000 r.base few.0 (b ++ (c ++ s)) (b ++ (c ++ t)) l) (λ known i. return_back (Some r.base) (b ++ (c ++ s)) (b ++ (c ++ t)) i known))
+    (λ _ i. bind_back (after_base r.base) (λ x. return (Some x)) (base_back r few s t i) (λ _ j. return_back (Some r) s t j tt)))
 
 -- a single price has no low end
-no_low : (p : ℕ) (s : List ℕ) (l : ℕ) → optional "low=" 1 1000000 (line_of "price=" p ++ s) l ≡ good missing (line_of "price=" p ++ s) l
+no_low : (p : ℕ) (s : List ℕ) (l : ℕ) → optional "low=" 1 1000000 (line_of "price=" p ++ s) l ≡ good None (line_of "price=" p ++ s) l
 unfolding starts_with line bytes
 no_low p s l = optional_missing _ 1 1000000 (line_of "price=" p ++ s) l refl
 
 -- a pair's low end decides first
-low_there : (v : ℕ) (t : List ℕ) (l : ℕ) → quote (line_of "low=" v ++ t) l ≡ ((row "low=" 1 1000000 >>= λ v. return (present v)) >>= unless_low) (line_of "low=" v ++ t) l
+low_there : (v : ℕ) (t : List ℕ) (l : ℕ) → quote (line_of "low=" v ++ t) l ≡ ((row "low=" 1 1000000 >>= λ v. return (Some v)) >>= unless_low) (line_of "low=" v ++ t) l
 unfolding quote ◌>>=◌
 low_there v t l =
-    ap (λ (y : Parsed (Optional ℕ)). elim y [ good a s i ↦ unless_low a s i | fault n i ↦ fault n i ])
+    ap (λ (y : Parsed (Option ℕ)). elim y [ good a s i ↦ unless_low a s i | fault n i ↦ fault n i ])
     (optional_there (bytes "low=") 1 1000000 (line_of "low=" v ++ t) l (starts_line (bytes "low=") v t))
 
 -- the high end behind it
-high_back : (m h : ℕ) → Short h → (s t : List ℕ) (l : ℕ) → Readback FormFault (Unit {0}) (pair m h) s t (unless_low (present m) (line_of "high=" h ++ s) l) (unless_low (present m) (line_of "high=" h ++ t) l)
+high_back : (m h : ℕ) → Short h → (s t : List ℕ) (l : ℕ) → Readback FormFault (Unit {0}) (pair m h) s t (unless_low (Some m) (line_of "high=" h ++ s) l) (unless_low (Some m) (line_of "high=" h ++ t) l)
 unfolding unless_low
 high_back m h few s t l =
     bind_back (checked 13 (at_least m) (row "high=" 1 1000000)) _
@@ -300,7 +301,7 @@ quote_back : (q : Quote) → ShortQuote q → (s t : List ℕ) (l : ℕ) → Rea
 unfolding quote unless_low quote_text
 quote_back (single p) few s t l =
     let c = line_of "price=" p in
-    let none : Readback FormFault (Unit {0}) missing (c ++ s) (c ++ t) (optional "low=" 1 1000000 (c ++ s) l) (optional "low=" 1 1000000 (c ++ t) l) = back tt l (no_low p s l) (no_low p t l) in
+    let none : Readback FormFault (Unit {0}) None (c ++ s) (c ++ t) (optional "low=" 1 1000000 (c ++ s) l) (optional "low=" 1 1000000 (c ++ t) l) = back tt l (no_low p s l) (no_low p t l) in
     bind_back (optional "low=" 1 1000000) _ none
     (λ _ i. bind_back (row "price=" 1 1000000) _ (value_back (bytes "price=") 1 1000000 p few s t i) (λ _ j. return_back (single p) s t j tt))
 quote_back (pair m h) few s t l =
@@ -308,7 +309,7 @@ quote_back (pair m h) few s t l =
     let b = line_of "high=" h in
     same_back (ap (λ (u : List ℕ). quote u l) (append_assoc a b s) ∙ low_there m (b ++ s) l) (ap (λ (u : List ℕ). quote u l) (append_assoc a b t) ∙ low_there m (b ++ t) l)
     (bind_back _ unless_low
-    (bind_back (row "low=" 1 1000000) (λ v. return (present v)) (value_back (bytes "low=") 1 1000000 m few.0 (b ++ s) (b ++ t) l) (λ known i. return_back (present m) (b ++ s) (b ++ t) i known))
+    (bind_back (row "low=" 1 1000000) (λ v. return (Some v)) (value_back (bytes "low=") 1 1000000 m few.0 (b ++ s) (b ++ t) l) (λ known i. return_back (Some m) (b ++ s) (b ++ t) i known))
     (λ _ i. high_back m h few.1 s t i))
 
 -- a list of n prices
@@ -320,7 +321,7 @@ list_back n qs e few s t l =
     subst (λ (q : ℕ). Readback FormFault (Unit {0}) qs s t (times q quote (c ++ s) l) (times q quote (c ++ t) l)) e
     (chain_back FormFault (λ _. quote) (λ _ _. 0) quote_text ShortQuote (λ _. quote_back) 0 qs (each_chained ShortQuote 0 qs few) s t l)
 
-no_rule_lem : (s : List ℕ) (l : ℕ) → starts_with (bytes "base=") s ≡ false → rule s l ≡ good missing s l
+no_rule_lem : (s : List ℕ) (l : ℕ) → starts_with (bytes "base=") s ≡ false → rule s l ≡ good None s l
 unfolding rule if_present return
 no_rule_lem s l e = bind_good (optional "base=" 1 1000000) _ (optional_missing _ 1 1000000 s l e)
 
@@ -330,7 +331,7 @@ prices_back : (n : ℕ) (p : Prices) → ShortPrices n p → (s t : List ℕ) (l
 unfolding prices unless_ruled
 prices_back n (by_list qs) few s t l other other' =
     let c = texts quote_text qs in
-    let none : Readback FormFault (Unit {0}) missing (c ++ s) (c ++ t) (rule (c ++ s) l) (rule (c ++ t) l) = back tt l (no_rule_lem (c ++ s) l (list_next qs s other.base)) (no_rule_lem (c ++ t) l (list_next qs t other'.base)) in
+    let none : Readback FormFault (Unit {0}) None (c ++ s) (c ++ t) (rule (c ++ s) l) (rule (c ++ t) l) = back tt l (no_rule_lem (c ++ s) l (list_next qs s other.base)) (no_rule_lem (c ++ t) l (list_next qs t other'.base)) in
     bind_back rule _ none
     (λ _ i. bind_back (times n quote) _ (list_back n qs few.0 few.1 s t i) (λ _ j. return_back (by_list qs) s t j tt))
 prices_back n (by_rule_lem r) few s t l other other' = bind_back rule _ (rule_back r few s t l) (λ _ i. return_back (by_rule_lem r) s t i tt)
@@ -392,9 +393,9 @@ covers_short (suc m ∷ cs) vs is hs a b c = (
 )
 
 -- what a rule's lists state can be written
-abbrev pub ShortRule : Optional Rule → Type 0
-ShortRule missing = Unit {0}
-ShortRule (present r) = Short r.base × Short r.drop × Short r.least
+abbrev pub ShortRule : Option Rule → Type 0
+ShortRule None = Unit {0}
+ShortRule (Some r) = Short r.base × Short r.drop × Short r.least
 
 rules_short : (us bs ds ms : List ℕ) → Small bs → Small ds → Small ms → All ShortRule (rules_of us bs ds ms)
 unfolding rules_of
@@ -403,7 +404,7 @@ rules_short (zero ∷ us) bs ds ms a b c = (tt, rules_short us bs ds ms a b c)
 rules_short (suc u ∷ us) bs ds ms a b c = ((omega (arith, a 0), omega (arith, b 0), omega (arith, c 0)), rules_short us (drop 1 bs) (drop 1 ds) (drop 1 ms) (small_drop 1 bs a) (small_drop 1 ds b) (small_drop 1 ms c))
 
 -- how many prices rules leave to be listed, with n openings
-abbrev counted : ℕ → List (Optional Rule) → ℕ
+abbrev counted : ℕ → List (Option Rule) → ℕ
 counted n [] = 0
 counted n (u ∷ us) = counted_for n u + counted n us
 
@@ -425,11 +426,11 @@ all_drop zero qs v = v
 all_drop (suc n) [] v = tt
 all_drop (suc n) (q ∷ qs) v = all_drop n qs v.1
 
-prices_short : (n : ℕ) (u : Optional Rule) (qs : List Quote) → ShortRule u → All ShortQuote qs → counted_for n u ≤ length qs → ShortPrices n (prices_from n u qs)
-prices_short n missing qs r c h = (length-take-le n qs h, all_take n qs c)
-prices_short n (present u) qs r c h = r
+prices_short : (n : ℕ) (u : Option Rule) (qs : List Quote) → ShortRule u → All ShortQuote qs → counted_for n u ≤ length qs → ShortPrices n (prices_from n u qs)
+prices_short n None qs r c h = (length-take-le n qs h, all_take n qs c)
+prices_short n (Some u) qs r c h = r
 
-grouped_short : (n : ℕ) (ls rs : List ℕ) (cs : List (Optional Cover)) (us : List (Optional Rule)) (ps : List Quote) → Small ls → Small rs → All ShortCover cs → All ShortRule us → All ShortQuote ps → counted n us ≤ length ps
+grouped_short : (n : ℕ) (ls rs : List ℕ) (cs : List (Option Cover)) (us : List (Option Rule)) (ps : List Quote) → Small ls → Small rs → All ShortCover cs → All ShortRule us → All ShortQuote ps → counted n us ≤ length ps
     → All (ShortPart n) (grouped n ls rs cs us ps)
 unfolding grouped
 grouped_short n [] rs cs us ps a b d r c e = tt
@@ -494,7 +495,7 @@ module _ (f : Form) (held : Held f) where
       subst (λ (k : ℕ). Readback FormFault (Unit {0}) said.parts [] [] (chain (part m n) following k 1 (texts part_text said.parts) l) (chain (part m n) following k 1 (texts part_cut_lem said.parts) l)) size (all_back m n 1 said.parts (parts_short agree) l)
 
   body_back : length f.fees ≡ n → (l : ℕ)
-      → Readback FormFault ((m ≤ 16) × PartsAgree n x) said [] [] (body f.horizon said.idles missing n (body_of os f.fees x) l) (body f.horizon said.idles missing n (body_cut os f.fees x) l)
+      → Readback FormFault ((m ≤ 16) × PartsAgree n x) said [] [] (body f.horizon said.idles None n (body_of os f.fees x) l) (body f.horizon said.idles None n (body_cut os f.fees x) l)
   unfolding body openings body_of body_cut counted_text parts_cut counted_cut
   body_back agree l =
       let c = line_of "parts=" (count_of 16 (parts_agree_lem n x) m) in
@@ -521,7 +522,7 @@ module _ (f : Form) (held : Held f) where
       let c = line_of "openings=" (count_of 64 (fees_agree os f.fees) n) in
       let count = count_of 64 (fees_agree os f.fees) n in
       let d = q (leb n 64 && fees_agree os f.fees) in
-      let none : Readback FormFault (Unit {0}) missing (c ++ b) (c ++ d) (optional "walk=" 0 4000000000 (c ++ b) l) (optional "walk=" 0 4000000000 (c ++ d) l) =
+      let none : Readback FormFault (Unit {0}) None (c ++ b) (c ++ d) (optional "walk=" 0 4000000000 (c ++ b) l) (optional "walk=" 0 4000000000 (c ++ d) l) =
       back tt l (optional_missing (bytes "walk=") 0 4000000000 (c ++ b) l (openings_next count b)) (optional_missing (bytes "walk=") 0 4000000000 (c ++ d) l (openings_next count d)) in
       bind_back (optional "walk=" 0 4000000000) _ none
       (λ _ k. bind_back (row "openings=" 0 64) _ (count_back (bytes "openings=") 0 64 (omega arith) (fees_agree os f.fees) n b q k)
@@ -541,4 +542,4 @@ module _ (f : Form) (held : Held f) where
       let js = optional_text idles_cut (idle_lines f.idles) in
       same_back refl (ap (λ (u : List ℕ). job_lines u 1) (append_assoc a js q))
       (bind_back (row "horizon=" 2 365) _ (value_back (bytes "horizon=") 2 365 f.horizon (omega (arith, held.horizon)) (is ++ r) (js ++ q) 1)
-      (λ _ k. bind_back (idles f.horizon) _ (idles_back f.horizon k f.idles r q held.idles (walk_next missing (count_of 64 (fees_agree os f.fees) n) _) (walk_next missing (count_of 64 (fees_agree os f.fees) n) _)) (λ few j. rest_back few j)))
+      (λ _ k. bind_back (idles f.horizon) _ (idles_back f.horizon k f.idles r q held.idles (walk_next None (count_of 64 (fees_agree os f.fees) n) _) (walk_next None (count_of 64 (fees_agree os f.fees) n) _)) (λ few j. rest_back few j)))

@@ -1,6 +1,6 @@
 -- E2: "The writer takes the same facts as lists of numbers, in the text's order, and writes the job text [..]. The counts are the lists' lengths."
-use Rattle.std.specs.Prelude.{ℕ, true, List, ◌++◌, length}
-use Rattle.lines.specs.Text.{line_of, texts, missing, optional_text}
+use Rattle.std.specs.Prelude.{ℕ, true, List, ◌++◌, length, None}
+use Rattle.lines.specs.Text.{line_of, texts, optional_text}
 use Rattle.lines.specs.Parser.{Outcome, finish, whole}
 use Rattle.model.specs.Limits.{last_step, most_openings}
 use Rattle.job_grammar.specs.Grammar.{JobText, job_lines}
@@ -22,7 +22,7 @@ filled h is os fs ls rs cs vs ns hs us bs ds ms zs ws ps = record { horizon = h;
 
 -- what a form states, "with no `idles` line if there are none"; E10. "The writer no longer writes" the `walk` line
 abbrev pub stated : Form → JobText
-stated f = record { horizon = f.horizon; idles = idle_lines f.idles; walk = missing; openings = paired f.openings f.fees; parts = parts_of (length f.openings) f.parts }
+stated f = record { horizon = f.horizon; idles = idle_lines f.idles; walk = None; openings = paired f.openings f.fees; parts = parts_of (length f.openings) f.parts }
 
 -- the number of idle steps and the steps
 unfoldable pub idle_count_text : List ℕ → List ℕ

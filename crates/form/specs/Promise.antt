@@ -1,6 +1,6 @@
 -- What the writer promises, over the form, the room lent and the answer.
-use Rattle.std.specs.Prelude.{ℕ, ◌+◌, ◌*◌, ◌≤◌, ◌<◌, ◌≡◌, cond, List, [], ◌∷◌, map, ◌↔◌, ◌⊎◌, eqb, length}
-use Rattle.lines.specs.Text.{texts, Optional, missing, present}
+use Rattle.std.specs.Prelude.{ℕ, ◌+◌, ◌*◌, ◌≤◌, ◌<◌, ◌≡◌, cond, List, [], ◌∷◌, map, ◌↔◌, ◌⊎◌, eqb, length, Option, None, Some}
+use Rattle.lines.specs.Text.{texts}
 use Rattle.fault_lines.specs.Fault.{nowhere}
 use Rattle.lines.specs.Parser.{accepted, refused, finish, whole}
 use Rattle.model.specs.Model.{Opening}
@@ -57,24 +57,24 @@ abbrev pub parts_line : Form → ℕ
 parts_line f = openings_line f + 1 + 2 * length f.openings
 
 -- the numbers of a part's lines of removal: whether they stand, and what they say
-abbrev pub mark_of : Optional Cover → ℕ
-mark_of missing = 0
-mark_of (present c) = 1
+abbrev pub mark_of : Option Cover → ℕ
+mark_of None = 0
+mark_of (Some c) = 1
 
 -- a part's entry of `removals`; none where its lines don't stand
-abbrev pub removal_in : Optional Cover → List ℕ
-removal_in missing = []
-removal_in (present c) = c.removal ∷ []
+abbrev pub removal_in : Option Cover → List ℕ
+removal_in None = []
+removal_in (Some c) = c.removal ∷ []
 
 -- its entry of `insides`: how many holders it names
-abbrev pub insides_of : Optional Cover → List ℕ
-insides_of missing = []
-insides_of (present c) = length c.holders ∷ []
+abbrev pub insides_of : Option Cover → List ℕ
+insides_of None = []
+insides_of (Some c) = length c.holders ∷ []
 
 -- its entries of `holders`, as many as that
-abbrev pub holders_of_lem : Optional Cover → List ℕ
-holders_of_lem missing = []
-holders_of_lem (present c) = c.holders
+abbrev pub holders_of_lem : Option Cover → List ℕ
+holders_of_lem None = []
+holders_of_lem (Some c) = c.holders
 
 -- E8. the numbers of a part's prices: whether they stand by a rule, and what that or their list says
 abbrev pub rule_mark_lem : Prices → ℕ
@@ -170,4 +170,4 @@ pub record WritePromise (f : Form) (room : ℕ) (s : Said) : Type 0 where
   -- "for the same faults": of lists that agree and are not too long, what is read is the very text of the job that they state
   pub reads : Agree f → Few f → read_form f ≡ finish (whole job_lines (job_text_lem (stated f)) 1)
   -- "an accepted text, read and written, comes out byte for byte"; E10. "a byte-for-byte return is owed to texts without the line" of the walk number
-  pub returns : write_room ≤ room → (text : List ℕ) (t : JobText) → read_job_text text ≡ accepted t → t.walk ≡ missing → f ≡ form_of t → (s.result ≡ 0) × (s.bytes ≡ text)
+  pub returns : write_room ≤ room → (text : List ℕ) (t : JobText) → read_job_text text ≡ accepted t → t.walk ≡ None → f ≡ form_of t → (s.result ≡ 0) × (s.bytes ≡ text)

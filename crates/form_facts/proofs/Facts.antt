@@ -1,8 +1,9 @@
 -- What lists state: as many openings as steps, where those agree in length (`paired_size`, `paired_at`), as many parts as lives (`parts_size`); prices from a place on (`quotes_drop`, `quotes_take`); and what it says that lists agree
 -- (`agree_says`, `says_agree`). By the lists' cases.
+use Rattle.std.specs.Prelude.{Option, Some, None}
 use Prim.Native.Nat.{ℕ, zero, suc, ◌+◌, ◌-◌, ◌*◌, ◌≤◌, ◌<◌}
 use mathlib.Core.Path.{◌≡◌, refl, sym, ap, ap₂, ◌∙◌}
-use mathlib.Core.Bool.{true, cond, ◌&&◌, and-eq-true_iff}
+use mathlib.Core.Bool.{Bool, true, cond, ◌&&◌, and-eq-true_iff}
 use mathlib.Core.List.{List, [], ◌∷◌}
 use native.Mathlib.Omega.{arith}
 use native.Mathlib.Nat.{mul-le-mul_right}
@@ -11,7 +12,7 @@ use borrow.Author.Tests.{eq-eqb, eqb-true, leb-true, le-leb}
 use lib.Dec.{eqb, leb}
 use lib.ListN.{length, get_or, take, drop}
 use lib.Seq.{drop-drop, get_or-drop}
-use Rattle.lines.specs.Text.{Optional}
+use Rattle.std.specs.List.{list_all}
 use Rattle.model.specs.Model.{Opening}
 use Rattle.jobs.specs.Valid.{All}
 use Rattle.covers.specs.Grammar.{Cover}
@@ -48,7 +49,7 @@ rules_size (zero ∷ us) bs ds ms = ap suc (rules_size us bs ds ms)
 rules_size (suc u ∷ us) bs ds ms = ap suc (rules_size us (drop 1 bs) (drop 1 ds) (drop 1 ms))
 
 -- there is a part for each life, where first lives and lines of removal are as many
-pub grouped_size : (n : ℕ) (ls rs : List ℕ) (cs : List (Optional Cover)) (us : List (Optional Rule)) (qs : List Quote) → length rs ≡ length ls → length cs ≡ length ls → length us ≡ length ls
+pub grouped_size : (n : ℕ) (ls rs : List ℕ) (cs : List (Option Cover)) (us : List (Option Rule)) (qs : List Quote) → length rs ≡ length ls → length cs ≡ length ls → length us ≡ length ls
     → length (grouped n ls rs cs us qs) ≡ length ls
 unfolding grouped
 grouped_size n [] rs cs us qs e f g = refl
@@ -93,7 +94,7 @@ quotes_size (suc z ∷ zs) ws (p ∷ ps) e = ap suc (quotes_size zs (drop 1 ws) 
 
 -- the price at place i
 pub quote_at : (i : ℕ) (zs ws ps : List ℕ) → All (λ (z : ℕ). z ≤ 1) zs → length zs ≡ length ps → i < length ps
-    → get_or (quotes_from zs ws ps) i (single 0) ≡ quote_of (eqb (get_or zs i 0) 1) (cond (eqb (get_or zs i 0) 1) (get_or ws (sum_all (take i zs)) 0) 0) (get_or ps i 0)
+    → get_or (quotes_from zs ws ps) i (single 0) ≡ quote_of (cond (eqb (get_or zs i 0) 1) (Some (get_or ws (sum_all (take i zs)) 0)) None) (get_or ps i 0)
 unfolding quotes_from quote_of
 quote_at i [] ws ps m e h = absurd (omega arith)
 quote_at i (z ∷ zs) ws [] m e h = absurd (omega arith)
@@ -103,10 +104,10 @@ quote_at i (suc (suc z) ∷ zs) ws (p ∷ ps) m e h = absurd (omega (arith, m.0)
 quote_at (suc i) (zero ∷ zs) ws (p ∷ ps) m e h =
     let b = eqb (get_or zs i 0) 1 in
     let same : sum_all (take i zs) ≡ sum_all (take (suc i) (zero ∷ zs)) = omega arith in
-    quote_at i zs ws ps m.1 (omega arith) (omega arith) ∙ ap (λ (k : ℕ). quote_of b (cond b (get_or ws k 0) 0) (get_or ps i 0)) same
+    quote_at i zs ws ps m.1 (omega arith) (omega arith) ∙ ap (λ (k : ℕ). quote_of (cond b (Some (get_or ws k 0)) None) (get_or ps i 0)) same
 quote_at (suc i) (suc zero ∷ zs) ws (p ∷ ps) m e h =
     let b = eqb (get_or zs i 0) 1 in
-    quote_at i zs (drop 1 ws) ps m.1 (omega arith) (omega arith) ∙ ap (λ (w : ℕ). quote_of b (cond b w 0) (get_or ps i 0)) (get_or-drop 1 ws (sum_all (take i zs)) 0)
+    quote_at i zs (drop 1 ws) ps m.1 (omega arith) (omega arith) ∙ ap (λ (w : ℕ). quote_of (cond b (Some w) None) (get_or ps i 0)) (get_or-drop 1 ws (sum_all (take i zs)) 0)
 
 -- how many marks are 1 among the first
 pub sum_next : (i : ℕ) (zs : List ℕ) → i < length zs → sum_all (take (i + 1) zs) ≡ sum_all (take i zs) + get_or zs i 0
@@ -130,6 +131,11 @@ marks_all [] e = tt
 marks_all (c ∷ cs) e =
     let w = (and-eq-true_iff (leb c 1) (all_marks cs)).0 e in
     (leb-true c 1 w.0, marks_all cs w.1)
+
+-- whether each of a list is 0 or 1, as std says it
+pub marks_listed : (cs : List ℕ) → list_all (λ (c : ℕ). leb c 1) cs ≡ all_marks cs
+marks_listed [] = refl
+marks_listed (c ∷ cs) = ap (λ (b : Bool). leb c 1 && b) (marks_listed cs)
 
 all_marks_lem : (cs : List ℕ) → All (λ (c : ℕ). c ≤ 1) cs → all_marks cs ≡ true
 all_marks_lem [] h = refl

@@ -2,8 +2,8 @@
 -- E7: after the lefts whether each part has its lines of removal, and what they say.
 -- E8: after those whether each part has a rule in place of its prices, and what it says; "E2's writer counts no prices for such a part".
 -- E11: after those which prices are pairs, and the low ends of these.
-use Rattle.std.specs.Prelude.{ℕ, zero, suc, ◌+◌, ◌-◌, ◌*◌, ◌≤◌, ◌≡◌, Bool, true, ◌&&◌, cond, List, [], ◌∷◌, ◌++◌, length, get_or, take, drop, leb, eqb}
-use Rattle.lines.specs.Text.{line_of, texts, Optional, missing, present}
+use Rattle.std.specs.Prelude.{ℕ, zero, suc, ◌+◌, ◌-◌, ◌*◌, ◌≤◌, ◌≡◌, Bool, true, ◌&&◌, cond, List, [], ◌∷◌, ◌++◌, length, get_or, take, drop, leb, eqb, Option, None, Some}
+use Rattle.lines.specs.Text.{line_of, texts}
 use Rattle.model.specs.Model.{Opening}
 use Rattle.jobs.specs.Valid.{All}
 use Rattle.covers.specs.Grammar.{Cover}
@@ -45,16 +45,16 @@ abbrev pub part_lists : List ℕ → List ℕ → List ℕ → List ℕ → List
 part_lists ls rs cs vs is hs us bs ds ms zs ws ps = record { lives = ls; lefts = rs; covered = cs; removals = vs; insides = is; holders = hs; ruled = us; bases = bs; drops = ds; leasts = ms; banded = zs; lows = ws; prices = ps }
 
 -- a part's lines of removal for each mark: none for 0, else the next removal and the next holders, as many as the next inside
-unfoldable pub covers_of : List ℕ → List ℕ → List ℕ → List ℕ → List (Optional Cover)
+unfoldable pub covers_of : List ℕ → List ℕ → List ℕ → List ℕ → List (Option Cover)
 covers_of [] vs is hs = []
-covers_of (zero ∷ cs) vs is hs = missing ∷ covers_of cs vs is hs
-covers_of (suc c ∷ cs) vs is hs = present (record { removal = get_or vs 0 0; holders = take (get_or is 0 0) hs }) ∷ covers_of cs (drop 1 vs) (drop 1 is) (drop (get_or is 0 0) hs)
+covers_of (zero ∷ cs) vs is hs = None ∷ covers_of cs vs is hs
+covers_of (suc c ∷ cs) vs is hs = Some (record { removal = get_or vs 0 0; holders = take (get_or is 0 0) hs }) ∷ covers_of cs (drop 1 vs) (drop 1 is) (drop (get_or is 0 0) hs)
 
 -- E8. a part's rule for each mark: none for 0, else the next base, drop and least
-unfoldable pub rules_of : List ℕ → List ℕ → List ℕ → List ℕ → List (Optional Rule)
+unfoldable pub rules_of : List ℕ → List ℕ → List ℕ → List ℕ → List (Option Rule)
 rules_of [] bs ds ms = []
-rules_of (zero ∷ us) bs ds ms = missing ∷ rules_of us bs ds ms
-rules_of (suc u ∷ us) bs ds ms = present (record { base = get_or bs 0 0; drop = get_or ds 0 0; least = get_or ms 0 0 }) ∷ rules_of us (drop 1 bs) (drop 1 ds) (drop 1 ms)
+rules_of (zero ∷ us) bs ds ms = None ∷ rules_of us bs ds ms
+rules_of (suc u ∷ us) bs ds ms = Some (record { base = get_or bs 0 0; drop = get_or ds 0 0; least = get_or ms 0 0 }) ∷ rules_of us (drop 1 bs) (drop 1 ds) (drop 1 ms)
 
 -- E11. a price for each mark: a single one for 0, else a pair with the next low end
 unfoldable pub quotes_from : List ℕ → List ℕ → List ℕ → List Quote
@@ -68,17 +68,17 @@ abbrev pub quotes_in : PartLists → List Quote
 quotes_in x = quotes_from x.banded x.lows x.prices
 
 -- E8. how many prices a part has in the list: n, and none where it has a rule
-abbrev pub counted_for : ℕ → Optional Rule → ℕ
-counted_for n missing = n
-counted_for n (present r) = 0
+abbrev pub counted_for : ℕ → Option Rule → ℕ
+counted_for n None = n
+counted_for n (Some r) = 0
 
 -- E8. its prices: the next n of the list, or its rule
-abbrev pub prices_from : ℕ → Optional Rule → List Quote → Prices
-prices_from n missing qs = by_list (take n qs)
-prices_from n (present r) qs = by_rule_lem r
+abbrev pub prices_from : ℕ → Option Rule → List Quote → Prices
+prices_from n None qs = by_list (take n qs)
+prices_from n (Some r) qs = by_rule_lem r
 
 -- a part for each life, left, lines of removal and rule, with the next n prices where there is no rule
-unfoldable pub grouped : ℕ → List ℕ → List ℕ → List (Optional Cover) → List (Optional Rule) → List Quote → List PartText
+unfoldable pub grouped : ℕ → List ℕ → List ℕ → List (Option Cover) → List (Option Rule) → List Quote → List PartText
 grouped n [] rs cs us qs = []
 grouped n (l ∷ ls) [] cs us qs = []
 grouped n (l ∷ ls) (r ∷ rs) [] us qs = []

@@ -1,7 +1,10 @@
 // Whether the lists of a form's parts agree in length.
-ghost use Rattle.std.specs.Prelude.{◌≡◌, ◌&&◌, ◌*◌, ◌≤◌, eqb, length};
-ghost use Rattle.form_facts.specs.Facts.{sum_all, all_marks, covers_agree_lem, prices_agree_lem, bands_agree_lem};
+ghost use Rattle.std.specs.Prelude.{◌≡◌, ◌&&◌, ◌*◌, ◌≤◌, Some, None, IfSome, cond, eqb, length};
+ghost use Rattle.form_facts.specs.Facts.{sum_all, all_marks, covers_agree_lem, prices_agree_lem, bands_agree_lem, parts_agree_lem};
+ghost use Rattle.form_facts.specs.Views.{lists_of};
 ghost use Rattle.model.specs.Limits.{most_parts, most_openings};
+
+use crate::lists::{CoverLists, FormParts, QuoteLists, RuleLists};
 
 // The sum of at most 1,024 numbers.
 pub fn sum(values: &[u32]) -> u64
@@ -9,10 +12,8 @@ pub fn sum(values: &[u32]) -> u64
     ensures { result ≡ sum_all values.now }
 {
     let mut sum: u64 = 0;
-    let mut i: usize = 0;
-    while i < values.len() {
-        sum += values[i] as u64;
-        i += 1;
+    for value in values {
+        sum += *value as u64;
     }
     sum
 }
@@ -21,111 +22,76 @@ pub fn sum(values: &[u32]) -> u64
 fn are_marks(marks: &[u32]) -> bool
     ensures { result ≡ all_marks marks.now }
 {
-    let mut i: usize = 0;
-    while i < marks.len() {
-        if 1 < marks[i] {
+    marks.iter().all(|mark| *mark <= 1)
+}
+
+// How many of n marks are 1, if there are so many and each is 0 or 1.
+fn count_marks(marks: &[u32], n: usize) -> Option<usize>
+    requires { n ≤ most_parts * most_openings }
+    ensures value { result ≡ cond (eqb (length marks.now) n && all_marks marks.now) (Some (sum_all marks.now)) None }
+    ensures few { IfSome result (λ count. count ≤ n) }
+{
+    if marks.len() == n && are_marks(marks) {
+        Some(sum(marks) as usize)
+    } else {
+        None
+    }
+}
+
+impl CoverLists<'_> {
+    // Whether there are a mark for each of m parts, as many removals and insides as marks that are 1, and the holders that the insides count.
+    fn covers_agree(&self, m: usize) -> bool
+        requires { m ≤ most_parts }
+        ensures { let x = self.now in result ≡ covers_agree_lem m x.covered.now (length x.removals.now) x.insides.now (length x.holders.now) }
+    {
+        let Some(count) = count_marks(self.covered, m) else {
             return false;
-        }
-        i += 1;
+        };
+        self.removals.len() == count
+            && self.insides.len() == count
+            && self.holders.len() as u64 == sum(self.insides)
     }
-    true
 }
 
-// Whether there are a mark for each of m parts, as many removals and insides as marks that are 1, and the holders that the insides count.
-fn covers_agree(m: usize, covered: &[u32], removals: usize, insides: &[u32], holders: usize) -> bool
-    requires { m ≤ most_parts }
-    ensures { result ≡ covers_agree_lem m covered.now removals insides.now holders }
-{
-    if covered.len() != m {
-        return false;
+impl RuleLists<'_> {
+    // Whether there are a mark for each of m parts, as many bases, drops and leasts as marks that are 1, and a price for each part without a rule and each of n openings.
+    fn prices_agree(&self, m: usize, prices: usize, n: usize) -> bool
+        requires { (m ≤ most_parts) × (n ≤ most_openings) }
+        ensures { let x = self.now in result ≡ prices_agree_lem m x.ruled.now (length x.bases.now) (length x.drops.now) (length x.leasts.now) prices n }
+    {
+        let Some(count) = count_marks(self.ruled, m) else {
+            return false;
+        };
+        self.bases.len() == count
+            && self.drops.len() == count
+            && self.leasts.len() == count
+            && prices == (m - count) * n
     }
-    if !are_marks(covered) {
-        return false;
-    }
-    let count = sum(covered);
-    if removals as u64 != count {
-        return false;
-    }
-    if insides.len() as u64 != count {
-        return false;
-    }
-    holders as u64 == sum(insides)
 }
 
-// Whether there are a mark for each of m parts, as many bases, drops and leasts as marks that are 1, and a price for each part without a rule and each of n openings.
-fn prices_agree(
-    m: usize,
-    ruled: &[u32],
-    bases: usize,
-    drops: usize,
-    leasts: usize,
-    prices: usize,
-    n: usize,
-) -> bool
-    requires { (m ≤ most_parts) × (n ≤ most_openings) }
-    ensures { result ≡ prices_agree_lem m ruled.now bases drops leasts prices n }
-{
-    if ruled.len() != m {
-        return false;
+impl QuoteLists<'_> {
+    // Whether there are a mark for each price, and as many low ends as marks that are 1.
+    fn bands_agree(&self) -> bool
+        requires { length self.now.highs.now ≤ most_parts * most_openings }
+        ensures { let x = self.now in result ≡ bands_agree_lem x.banded.now (length x.lows.now) (length x.highs.now) }
+    {
+        let Some(count) = count_marks(self.banded, self.highs.len()) else {
+            return false;
+        };
+        self.lows.len() == count
     }
-    if !are_marks(ruled) {
-        return false;
-    }
-    let count = sum(ruled);
-    if bases as u64 != count {
-        return false;
-    }
-    if drops as u64 != count {
-        return false;
-    }
-    if leasts as u64 != count {
-        return false;
-    }
-    prices == (m - count as usize) * n
 }
 
-// Whether there are a mark for each price, and as many low ends as marks that are 1.
-fn bands_agree(banded: &[u32], lows: usize, prices: usize) -> bool
-    requires { prices ≤ most_parts * most_openings }
-    ensures { result ≡ bands_agree_lem banded.now lows prices }
-{
-    if banded.len() != prices {
-        return false;
+impl FormParts<'_> {
+    // Whether there is a left for each part, and the lists of their covers, of their rules, at n openings, and of pairs agree.
+    pub fn agree(&self, n: usize) -> bool
+        requires { (length self.now.lives.now ≤ most_parts) × (n ≤ most_openings) }
+        ensures { result ≡ parts_agree_lem n (lists_of self.now) }
+    {
+        let m = self.lives.len();
+        self.lefts.len() == m
+            && self.covers.covers_agree(m)
+            && self.rules.prices_agree(m, self.quotes.highs.len(), n)
+            && self.quotes.bands_agree()
     }
-    if !are_marks(banded) {
-        return false;
-    }
-    lows as u64 == sum(banded)
-}
-
-// Whether there is a left for each of m parts, and the lists of their covers, of their prices and of pairs agree.
-pub fn parts_agree(
-    m: usize,
-    lefts: usize,
-    covered: &[u32],
-    removals: usize,
-    insides: &[u32],
-    holders: usize,
-    ruled: &[u32],
-    bases: usize,
-    drops: usize,
-    leasts: usize,
-    banded: &[u32],
-    lows: usize,
-    prices: usize,
-    n: usize,
-) -> bool
-    requires { (m ≤ most_parts) × (n ≤ most_openings) }
-    ensures { result ≡ (eqb lefts m && (covers_agree_lem m covered.now removals insides.now holders && (prices_agree_lem m ruled.now bases drops leasts prices n && bands_agree_lem banded.now lows prices))) }
-{
-    if lefts != m {
-        return false;
-    }
-    if !covers_agree(m, covered, removals, insides, holders) {
-        return false;
-    }
-    if !prices_agree(m, ruled, bases, drops, leasts, prices, n) {
-        return false;
-    }
-    bands_agree(banded, lows, prices)
 }

@@ -1,4 +1,5 @@
-// Whether the lists of a form agree in length.
+// The lists of a form's parts, and whether they agree in length.
 #![tactic(auto)]
 
 pub mod agree;
+pub mod lists;

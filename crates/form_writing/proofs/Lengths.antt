@@ -1,4 +1,5 @@
 -- The text has at most 45,257 bytes, whatever the lists (`cut_short`): 365 idle steps, 64 openings and sixteen parts with fifteen holders and 64 pairs each, every number with ten digits. By the lengths of the lines.
+use Rattle.std.specs.Prelude.{Option, None, Some}
 use Prim.Native.Nat.{ℕ, suc, ◌+◌, ◌≤◌}
 use Prim.Native.String.{String}
 use mathlib.Core.Path.{◌≡◌, refl, sym, ap, ap₂, ◌∙◌}
@@ -9,7 +10,7 @@ use native.Mathlib.Nat.{min-le_left}
 use borrow.Author.Tests.{leb-true, le-leb, eqb-true}
 use lib.Dec.{leb}
 use lib.ListN.{length, drop, length-append, length-take}
-use Rattle.lines.specs.Text.{bytes, line_of, texts, Optional, missing, present, optional_text}
+use Rattle.lines.specs.Text.{bytes, line_of, texts, optional_text}
 use Rattle.model.specs.Model.{Opening}
 use Rattle.jobs.specs.Valid.{All}
 use Rattle.covers.specs.Grammar.{Cover}
@@ -38,11 +39,11 @@ counted_short key k e most agree n t m few = go (leb n most && agree) refl
     go false h = omega (arith, ap length (counted_out key most agree n t (λ low a. false≢true (sym h ∙ ap₂ ◌&&◌ (le-leb n most low) a))), short key k (suc most) e)
 
 -- a part lists no more prices than there are openings
-listed_few : (n : ℕ) → n ≤ 64 → (u : Optional Rule) (ps : List Quote) → FewListed 64 (prices_from n u ps)
-listed_few n few missing ps = omega (arith, few, length-take n ps, min-le_left n (length ps))
-listed_few n few (present r) ps = tt
+listed_few : (n : ℕ) → n ≤ 64 → (u : Option Rule) (ps : List Quote) → FewListed 64 (prices_from n u ps)
+listed_few n few None ps = omega (arith, few, length-take n ps, min-le_left n (length ps))
+listed_few n few (Some r) ps = tt
 
-priced : (n : ℕ) → n ≤ 64 → (ls rs : List ℕ) (cs : List (Optional Cover)) (us : List (Optional Rule)) (ps : List Quote) → All (λ (p : PartText). FewListed 64 p.prices) (grouped n ls rs cs us ps)
+priced : (n : ℕ) → n ≤ 64 → (ls rs : List ℕ) (cs : List (Option Cover)) (us : List (Option Rule)) (ps : List Quote) → All (λ (p : PartText). FewListed 64 p.prices) (grouped n ls rs cs us ps)
 unfolding grouped
 priced n few [] rs cs us ps = tt
 priced n few (l ∷ ls) [] cs us ps = tt

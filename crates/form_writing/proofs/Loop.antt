@@ -1,31 +1,28 @@
--- The loop that puts the parts of the lists: before it (`putting_start`), one part more (`putting_more`), the room for it (`putting_room`), and at its end (`putting_end`). By the laws of a place in the lists.
-use Prim.Native.Nat.{ℕ, ◌+◌, ◌≤◌, ◌<◌}
-use mathlib.Core.Path.{◌≡◌, refl, sym, ap, ◌∙◌, subst}
+-- The loop that puts the parts of the lists: before it (`putting_start`), one part more (`putting_more`), the room for it (`putting_room`), and at its end (`putting_end`). By the laws of the first part.
+use Prim.Native.Nat.{ℕ, ◌≤◌, ◌<◌}
+use mathlib.Core.Path.{◌≡◌, refl, sym, ap, ◌∙◌}
 use mathlib.Core.List.{List, [], ◌∷◌, ◌++◌, append-nil, append_assoc}
 use native.Mathlib.Omega.{arith}
-use lib.ListN.{length, length-drop, length-append}
+use lib.ListN.{length}
 use Rattle.lines.specs.Text.{texts}
-use Rattle.lines.specs.Wrote.{Wrote}
-use Rattle.lines.proofs.Writing.{none, then, kept, same}
+use Rattle.line_writing.specs.Puts.{Puts, Room}
+use Rattle.line_writing.specs.declared.output.Out.{Out}
+use Rattle.line_writing.proofs.Putting.{none, then, same, room_same, room_front, room_behind}
 use Rattle.part_lines.specs.Grammar.{PartText}
 use Rattle.form_facts.specs.Facts.{PartLists, grouped, parts_of, PartsAgree}
 use Rattle.part_writing.specs.Cut.{part_cut_lem}
-use Rattle.form_writing.specs.Places.{after, first_part, behind_first, Standing, StepPut}
-use Rattle.form_writing.specs.declared.parts.Place.{Place}
-use Rattle.form_writing.proofs.Places.{parts_next}
+use Rattle.form_writing.specs.Fronts.{first_part, behind_first}
+use Rattle.form_writing.proofs.Places.{parts_next, agree_next}
 
--- k parts of the lists are put, and the next begins at p
-pub record Putting (n : ℕ) (x : PartLists) (d : List ℕ) (at : ℕ) (e : List ℕ) (p : Place) (k : ℕ) : Type 0 where
-  -- no more parts are put than the lists have lives
-  pub few : k ≤ length x.lives
-  -- the place of the next part stands in the lists, and what is left of them agrees
-  pub standing : Standing n x k p
-  -- the bytes of the k parts that are put
+-- parts of the lists x are put, from o on, up to p, and y are the lists of the others
+pub record Putting (n : ℕ) (x : PartLists) (o : Out) (y : PartLists) (p : Out) : Type 0 where
+  -- the lists that are left agree
+  pub agree : PartsAgree n y
+  -- the bytes of the parts that are put
   pub done : List ℕ
-  -- these bytes stand in the lent slice from `at` up to the place of the next part
-  pub wrote : Wrote d at done e p.at
+  pub put : Puts o done p
   -- the text of all parts is those bytes and the text of the parts that are left
-  pub whole : texts part_cut_lem (parts_of n x) ≡ done ++ texts part_cut_lem (parts_of n (after k p x))
+  pub whole : texts part_cut_lem (parts_of n x) ≡ done ++ texts part_cut_lem (parts_of n y)
 
 no_parts : (n : ℕ) (x : PartLists) → length x.lives ≡ 0 → parts_of n x ≡ []
 unfolding grouped
@@ -35,42 +32,36 @@ no_parts n x e = go x.lives e
     go [] e = refl
     go (l ∷ ls) e = absurd (omega arith)
 
-module _ (n : ℕ) (x : PartLists) (d : List ℕ) (at : ℕ) where
-  pub putting_start : (p : Place) → PartsAgree n x → n ≤ 64 → p.at ≡ at → p.covers ≡ 0 → p.holders ≡ 0 → p.rules ≡ 0 → p.lows ≡ 0 → p.prices ≡ 0 → Putting n x d at d p 0
-  putting_start p h few l i j r w q =
-      let same_lists : after 0 p x ≡ x = ap (λ (y : Place). after 0 y x) (λ t. record { at = p.at; covers = i t; holders = j t; rules = r t; lows = w t; prices = q t }) in
-      record {
-        few = omega arith;
-        standing = record { covers = omega (arith, i); holders = omega (arith, j); rules = omega (arith, r); lows = omega (arith, w); prices = omega (arith, q); banded = omega (arith, q); few = few; agree = subst (PartsAgree n) (sym same_lists) h };
-        done = [];
-        wrote = same none refl (sym l);
-        whole = ap (λ (y : PartLists). texts part_cut_lem (parts_of n y)) (sym same_lists);
-      }
+pub putting_start : (n : ℕ) (x : PartLists) (o : Out) → PartsAgree n x → Putting n x o x o
+putting_start n x o h = record { agree = h; done = []; put = none; whole = refl }
 
-  module _ (e : List ℕ) (p : Place) (k : ℕ) (putting : Putting n x d at e p k) (some : k < length x.lives) where
-    -- the part at hand stands before the others
-    front : texts part_cut_lem (parts_of n x) ≡ putting.done ++ (part_cut_lem (first_part n (after k p x)) ++ texts part_cut_lem (parts_of n (behind_first n (after k p x))))
-    front = putting.whole ∙ ap (λ (ys : List PartText). putting.done ++ texts part_cut_lem ys) (parts_next n (after k p x) putting.standing.agree (omega (arith, length-drop k x.lives)))
+module _ (n : ℕ) (x : PartLists) (o : Out) (y : PartLists) (p : Out) (putting : Putting n x o y p) where
+  module _ (some : 0 < length y.lives) where
+    -- the text of the part at hand, and of those behind it
+    abbrev here : List ℕ
+    here = part_cut_lem (first_part n y)
 
-    pub putting_room : at + length (texts part_cut_lem (parts_of n x)) ≤ length d → p.at + length (part_cut_lem (first_part n (after k p x))) ≤ length e
-    putting_room h =
-        let a = part_cut_lem (first_part n (after k p x)) in
-        let b = texts part_cut_lem (parts_of n (behind_first n (after k p x))) in
-        omega (arith, h, ap length front, length-append putting.done (a ++ b), length-append a b, putting.wrote.next, kept putting.wrote)
+    abbrev behind : List ℕ
+    behind = texts part_cut_lem (parts_of n (behind_first n y))
 
-    pub putting_more : {f : List ℕ} (q : Place) → StepPut n x k p q → Wrote e p.at (part_cut_lem (first_part n (after k p x))) f q.at → Putting n x d at f q (k + 1)
-    putting_more q step w =
-        let a = part_cut_lem (first_part n (after k p x)) in
-        let b = texts part_cut_lem (parts_of n (behind_first n (after k p x))) in
-        record {
-          few = omega (arith, some);
-          standing = step.standing;
-          done = putting.done ++ a;
-          wrote = then putting.wrote w;
-          whole = front ∙ sym (append_assoc putting.done a b) ∙ ap (λ (y : PartLists). (putting.done ++ a) ++ texts part_cut_lem (parts_of n y)) (sym step.rest);
-        }
+    -- they stand behind what is put
+    front : texts part_cut_lem (parts_of n x) ≡ (putting.done ++ here) ++ behind
+    front =
+        putting.whole ∙ ap (λ (ys : List PartText). putting.done ++ texts part_cut_lem ys) (parts_next n y putting.agree some)
+        ∙ sym (append_assoc putting.done here behind)
 
-  pub putting_end : (e : List ℕ) (p : Place) (k : ℕ) → Putting n x d at e p k → length x.lives ≤ k → Wrote d at (texts part_cut_lem (parts_of n x)) e p.at
-  putting_end e p k putting last =
-      let empty : length (after k p x).lives ≡ 0 = omega (arith, length-drop k x.lives) in
-      same putting.wrote (sym (putting.whole ∙ ap (λ (ys : List PartText). putting.done ++ texts part_cut_lem ys) (no_parts n (after k p x) empty) ∙ append-nil putting.done)) refl
+    pub putting_room : Room o (texts part_cut_lem (parts_of n x)) → Room p here
+    putting_room h = room_behind (room_front behind (room_same h front)) putting.put
+
+    pub putting_more : {q : Out} (z : PartLists) → z ≡ behind_first n y → Puts p here q → Putting n x o z q
+    putting_more z e w = record {
+      agree = rw e (agree_next n y putting.agree some);
+      done = putting.done ++ here;
+      put = then putting.put w;
+      whole = rw e front;
+    }
+
+  pub putting_end : length y.lives ≤ 0 → Puts o (texts part_cut_lem (parts_of n x)) p
+  putting_end last =
+      let empty : length y.lives ≡ 0 = omega arith in
+      same putting.put (sym (putting.whole ∙ ap (λ (ys : List PartText). putting.done ++ texts part_cut_lem ys) (no_parts n y empty) ∙ append-nil putting.done))

@@ -8,13 +8,11 @@ use native.Mathlib.Nat.{suc-mul}
 use lib.Dec.{eqb}
 use lib.ListN.{length, get_or, take, drop, length-drop}
 use Rattle.jobs.specs.Valid.{All}
-use Rattle.covers.specs.Views.{cover_there}
 use Rattle.quotes.specs.Grammar.{Quote}
 use Rattle.part_lines.specs.Grammar.{PartText}
-use Rattle.part_lines.specs.Views.{prices_said}
 use Rattle.form_facts.specs.Facts.{PartLists, covers_of, rules_of, quotes_in, grouped, parts_of, sum_all, PartsAgree}
 use Rattle.form_facts.proofs.Facts.{marks_few, quotes_drop}
-use Rattle.form_writing.specs.Places.{listed_first, first_part, behind_first}
+use Rattle.form_writing.specs.Fronts.{listed_first, first_part, behind_first}
 
 -- the parts behind the first, with these prices
 abbrev rest : ℕ → PartLists → List Quote → List PartText
@@ -24,7 +22,7 @@ rest n x qs = let y = behind_first n x in grouped n y.lives y.lefts (covers_of y
 next : (n l r c u : ℕ) (ls rs cs vs is hs us bs ds ms zs ws ps : List ℕ) → c ≤ 1 → u ≤ 1
     → let x : PartLists = record { lives = l ∷ ls; lefts = r ∷ rs; covered = c ∷ cs; removals = vs; insides = is; holders = hs; ruled = u ∷ us; bases = bs; drops = ds; leasts = ms; banded = zs; lows = ws; prices = ps } in
     parts_of n x ≡ first_part n x ∷ rest n x (drop (listed_first n x) (quotes_in x))
-unfolding grouped covers_of rules_of cover_there prices_said
+unfolding grouped covers_of rules_of
 next n l r zero zero ls rs cs vs is hs us bs ds ms zs ws ps h g = refl
 next n l r (suc zero) zero ls rs cs vs is hs us bs ds ms zs ws ps h g = refl
 next n l r zero (suc zero) ls rs cs vs is hs us bs ds ms zs ws ps h g = refl

@@ -1,3 +1,3 @@
--- The text that the writer makes of lists, to be read (Cut), and a place in the lists of the parts (Places).
+-- The text that the writer makes of lists, to be read (Cut), and the first part of lists with those behind it (Fronts).
 pub mod Cut
-pub mod Places
+pub mod Fronts

@@ -1,6 +1,7 @@
-// The text of a form's lists, written into a lent slice to be read.
+// The text of a form's lists, put into a lent slice to be read.
 #![tactic(auto)]
 
+pub mod first;
 pub mod lists;
 pub mod parts;
 pub mod whole;

@@ -1,12 +1,15 @@
 -- A call and no call, as the nodes below the hall's.
 use Prim.Native.Nat.{ℕ, suc, ◌+◌, ◌-◌, ◌*◌, ◌<◌}
 use mathlib.Core.Path.{◌≡◌, refl, sym, ap, subst, ◌∙◌}
-use mathlib.Core.Bool.{Bool, true, false, cond, ◌&&◌, false≢true, true≢false}
+use mathlib.Core.Bool.{Bool, true, false, cond}
 use mathlib.Core.List.{List, [], ◌∷◌}
+use Rattle.std.specs.Prelude.{Some, None}
+use Rattle.std.proofs.lemmas.Option.{none-some, same_Some}
 use native.Mathlib.Omega.{arith}
 use borrow.Author.Tests.{le-ltb}
 use lib.Dec.{ltb, leb, eqb}
 use lib.ListN.{length}
+use Rattle.branch.specs.declared.Bound.{Bound}
 use Rattle.branch.specs.declared.Bound.TheVariants.{Missing, Sum}
 use Rattle.branch.specs.Search.{snoc}
 use Rattle.branch.proofs.Bounds.{no_sum_lem}
@@ -15,7 +18,7 @@ use Rattle.walk.specs.declared.Search.{Search}
 use Rattle.walk.specs.State.{open_s}
 use Rattle.walk.proofs.Trees.{DueAt}
 use Rattle.hall.specs.Hall.{Hall, Placed, open_at}
-use Rattle.hall.specs.Agenda.{crew, line, agenda_of}
+use Rattle.hall.specs.Agenda.{crew, agenda_of}
 use Rattle.hall.specs.LowerBound.{hall_bound}
 use Rattle.hall.specs.Steps.{Stands, Asks, tree_from}
 use Rattle.hall.proofs.Steps.{tree_bound}
@@ -25,14 +28,17 @@ use Rattle.hall_nodes.proofs.Due.{all_due}
 use Rattle.hall_nodes.proofs.Kept.{kept_at}
 use Rattle.hall_steps.specs.Steps.{level_in, open_in}
 use Rattle.hall_steps.specs.Table.{step_at}
+use Rattle.hall_state.specs.declared.Ground.{Ground}
+use Rattle.hall_state.specs.declared.Question.{Question}
+use Rattle.hall_state.specs.declared.Question.TheVariants.{CrewCall}
 use Rattle.hall_state.specs.declared.Spot.{Spot}
-use Rattle.hall_state.specs.Courses.{Ground, Arrays, line_of, Course, course_in, line_slot, slots_at, LineKept, Kept, BestSame}
-use Rattle.hall_state.specs.Spots.{closed_spot, line_spot, call_spot, line_left, call_left, left_below, inner_at, level_of, OnCourse, Formed, asked_of}
-use Rattle.hall_state.specs.Moves.{measure_of, SameCourses, Opens, Below}
+use Rattle.hall_state.specs.Courses.{Arrays, rows_at, Course, course_in, line_slot, slots_at, LineKept, Kept, BestSame}
+use Rattle.hall_state.specs.Spots.{line_spot, call_spot, below_at, left_below, level_of, stop_by, OnCourse, Formed, asked_in, asked_of}
+use Rattle.hall_state.specs.Moves.{measure_in, measure_of, SameCourses, Opens, Below}
 use Rattle.hall_state.proofs.Courses.{self_kept, line_goes, all_kept_lem, line_given}
-use Rattle.hall_state.proofs.Left.{raised, raised_asks}
+use Rattle.hall_state.proofs.Left.{topic_at, raised, raised_asks}
 use Rattle.hall_state.proofs.Moves.{asked_near}
-use Rattle.hall_state.proofs.Spots.{cond_no, cond_yes}
+use Rattle.hall_state.proofs.Spots.{cond_no}
 use Rattle.hall_moves.specs.Asks.{Asking}
 use Rattle.hall_moves.proofs.Found.{stands_after}
 use Rattle.hall_calls.specs.Calls.{none_of_lem, pass_of, Passing}
@@ -59,12 +65,30 @@ none_from g a step d (job ∷ jobs) (c ∷ cs) (x ∷ ds) n m f =
       none_from g a step (suc d) jobs cs ds (omega (arith, n)) (omega (arith, m)) (λ e l j pl. let y : d + suc e ≡ suc d + e = omega arith in subst (λ (i : ℕ). NoIf (open_at j step) (line_slot g a i (course_in cs e)) (line_slot g a i (course_in ds e))) y (f (suc e) (omega (arith, l)) j pl)),
     )
 
-module _ (hall : Hall) (g : Ground) (a : Arrays) (p : Spot) (name : List Bool) (calls : ℕ) (cs : List Course) (k : Asking hall g a p name calls cs) (ec : p.calling ≡ true) where
-  abbrev at_zero : p.line ≡ 0
-  at_zero = (k.stood.formed.calling ec).1
+-- ---- a node below, tested
 
-  abbrev still : p.removing ≡ false
-  still = (k.stood.formed.calling ec).2
+module _ {hall : Hall} {x : Bool} {g : Ground} {a a' : Arrays} {p : Spot} {name : List Bool} {cs : List Course} {limit : ℕ} {s : Search} {e : Bound} (due : ℕ) (due_at : DueAt (tree_from (hall_bound hall) (left_below hall x p) (snoc name x)) e due) (kept : Kept g a a' cs) (same : SameCourses a a' cs cs) where
+  -- it is not walked on
+  pub below_shut : open_s limit due e s ≡ Missing → Below hall x g a a' p None name cs limit s
+  below_shut f = record { e = e; due = due; due_at = due_at; kept = kept; same = same; closed = λ _. f; opened = λ u z. absurd (none-some u z) }
+
+  -- it is
+  pub below_open : {q : Spot} {y : ℕ} → open_s limit due e s ≡ Sum y → Opens hall x g a a' p q name cs → Below hall x g a a' p (Some q) name cs limit s
+  below_open {q} {y} f o = record {
+    e = e;
+    due = due;
+    due_at = due_at;
+    kept = kept;
+    same = same;
+    closed = λ z. absurd (none-some q (sym z));
+    opened = λ u z. subst (λ (v : Spot). (n : ℕ) × (open_s limit due e s ≡ Sum n) × Opens hall x g a a' p v name cs) (same_Some q u z) (y, f, o);
+  }
+
+-- ---- at a call
+
+module _ {hall : Hall} {g : Ground} {a : Arrays} {p : Spot} {name : List Bool} {calls : ℕ} {cs : List Course} (k : Asking hall g a p name calls cs) (ec : p.asks ≡ CrewCall) where
+  abbrev at_zero : p.line ≡ 0
+  at_zero = (k.stood.formed.call ec).1
 
   -- a call is asked at one of the first 64 steps
   pub step_near : p.step < 64
@@ -72,31 +96,28 @@ module _ (hall : Hall) (g : Ground) (a : Arrays) (p : Spot) (name : List Bool) (
 
   -- the question at the node of a call is on the crew at that step
   pub asks_call : Asks (agenda_of hall) name (crew (step_at hall p.step))
-  asks_call = subst (Asks (agenda_of hall) name) (cond_yes (crew (step_at hall p.step)) (line p.line) ec) (raised_asks (raised hall g.ats p k.crewed.table k.stood.formed k.asked) (agenda_of hall) name k.stood.stands)
+  asks_call = subst (Asks (agenda_of hall) name) (ap (topic_at hall p.step p.line) ec) (raised_asks (raised hall k.crewed.table k.stood.formed k.asked) (agenda_of hall) name k.stood.stands)
 
   asked_step : asked_of p ≡ p.step
-  asked_step = ap (λ (b : Bool). p.step + cond b 0 1) ec ∙ omega arith
+  asked_step = ap (λ (q : Question). p.step + asked_in q) ec ∙ omega arith
 
   call_measure : measure_of p ≡ (64 - p.step) * 128 + 120
-  call_measure = λ i. (64 - p.step) * 128 + cond (ec i) 120 ((5 - p.line) * 20 + cond p.removing (16 - p.stop.next) 18)
+  call_measure = ap (λ (q : Question). (64 - p.step) * 128 + measure_in p.line q) ec
 
-  below_call : (x : Bool) → left_below hall x p ≡ cond x (line_left hall p.step 0 0) (call_left hall (p.step + 1))
-  below_call x = λ i.
-      cond (ec i) (cond x (line_left hall p.step 0 0) (call_left hall (p.step + 1)))
-      (cond p.removing (line_left hall p.step (inner_at hall.jobs p.line - (p.stop.next + 1)) (p.line + 1))
-      (cond x (line_left hall p.step (inner_at hall.jobs p.line - 0) (p.line + 1)) (line_left hall p.step 0 (p.line + 1))))
+  below_call : (x : Bool) → left_below hall x p ≡ below_at hall x p.step p.line CrewCall
+  below_call x = ap (below_at hall x p.step p.line) ec
 
   -- each line is at the step's level, and at no stop
   pub at-step : (e : ℕ) (c : Course) → OnCourse g.ats p e c → c.at ≡ level_in g.ats p.step e
   at-step e c o = o.level ∙ cond_no (level_in g.ats (p.step + 1) e) (level_in g.ats p.step e) (ap (ltb e) at_zero ∙ le-ltb e 0 (omega arith))
 
   -- where a call is asked no line's course is at a stop
-  pub no_stop : (e : ℕ) (c : Course) → OnCourse g.ats p e c → c.stopped ≡ false
-  no_stop e c o = o.stopped ∙ ap (λ (b : Bool). b && eqb e p.line) still
+  pub no_stop : (e : ℕ) (c : Course) → OnCourse g.ats p e c → c.stop ≡ None
+  no_stop e c o = o.stop ∙ ap (λ (q : Question). stop_by q (eqb e p.line)) ec
 
   -- where a call is asked and nothing is written, all lines are kept
   pub self_all : Kept g a a cs
-  self_all = record { size = record { w = refl; v = refl; n = refl }; each = λ e l. self_kept g a e (course_in cs e) (line_given hall name g a cs e l k.stood.at.lines) }
+  self_all = record { size = refl; each = λ e l. self_kept g a e (course_in cs e) (line_given hall name g a cs e l k.stood.at.lines) }
 
   same_all : SameCourses a a cs cs
   same_all = record { size = refl; sheet = λ e l. refl; best = λ e l i h. refl }
@@ -113,7 +134,7 @@ module _ (hall : Hall) (g : Ground) (a : Arrays) (p : Spot) (name : List Bool) (
         subst (λ (n : ℕ). HallAt hall (snoc name true) n (calls + hall.call) (slots_at g a 0 cs)) z (call_at hall name (step_at hall p.step) (asked_of p) calls (slots_at g a 0 cs) k.crewed.fits.fair asks_call k.stood.at)
 
     formed_call : Formed hall g.ats q
-    formed_call = record { calling = λ e. absurd (false≢true e); lines = λ _. (k.asked.call ec, omega arith); stopped = λ e. absurd (false≢true e) }
+    formed_call = record { call = λ e. cc; line = λ _. (k.asked.call ec, omega arith); removal = λ _ e. cc }
 
     call_due : DueAt (tree_from (hall_bound hall) (left_below hall true p) (snoc name true)) (Sum 0) total
     call_due =
@@ -126,14 +147,13 @@ module _ (hall : Hall) (g : Ground) (a : Arrays) (p : Spot) (name : List Bool) (
       stood = record {
         formed = formed_call;
         at = called;
-        stands = subst (Stands (agenda_of hall) (snoc name true)) (below_call true) (stands_after hall g a p name calls cs k true);
+        stands = subst (Stands (agenda_of hall) (snoc name true)) (below_call true) (stands_after k true);
         count = k.stood.count;
         courses = λ e l.
             let o = k.stood.courses e l in
             record {
               level = at-step e (course_in cs e) o ∙ sym (cond_no (level_in g.ats (p.step + 1) e) (level_in g.ats p.step e) (le-ltb e 0 (omega arith)));
-              stopped = no_stop e (course_in cs e) o;
-              stop = o.stop;
+              stop = no_stop e (course_in cs e) o;
             };
         total = omega (arith, tot, k.stood.total);
       };
@@ -144,28 +164,23 @@ module _ (hall : Hall) (g : Ground) (a : Arrays) (p : Spot) (name : List Bool) (
     }
 
     -- where the estimate with the call's cost does not pass the test, the hall's node below a call is closed
-    pub call_closed : (limit : ℕ) (s : Search) → open_s limit total (Sum 0) s ≡ Missing → Below hall true g a a p (closed_spot p) name cs limit s
-    call_closed limit s f = record { e = Sum 0; due = total; due_at = call_due; kept = self_all; same = same_all; closed = λ _. f; opened = λ t. absurd (false≢true t) }
+    pub call_closed : {limit : ℕ} {s : Search} → open_s limit total (Sum 0) s ≡ Missing → Below hall true g a a p None name cs limit s
+    call_closed f = below_shut total call_due self_all same_all f
 
     -- where the estimate with the call's cost passes the test, the hall's node below a call is walked on
-    pub call_open : (limit : ℕ) (s : Search) (y : ℕ) → open_s limit total (Sum 0) s ≡ Sum y → Below hall true g a a p q name cs limit s
-    call_open limit s y f = record { e = Sum 0; due = total; due_at = call_due; kept = self_all; same = same_all; closed = λ t. absurd (true≢false t); opened = λ _. (y, f, call_opens) }
+    pub call_open : {limit : ℕ} {s : Search} {y : ℕ} → open_s limit total (Sum 0) s ≡ Sum y → Below hall true g a a p (Some q) name cs limit s
+    call_open f = below_open total call_due self_all same_all f call_opens
 
   -- ---- no call
 
   -- some line's own node below has no bound
-  pub none_closed : (a' : Arrays) (limit : ℕ) (s : Search) → Kept g a a' cs → a'.v ≡ a.v → hall_bound hall (snoc name false) ≡ Missing → Below hall false g a a' p (closed_spot p) name cs limit s
-  none_closed a' limit s kp ev f = record {
-    e = Missing;
-    due = 0;
-    due_at = record { none = λ _. tree_bound (hall_bound hall) (left_below hall false p) (snoc name false) ∙ f; some = λ x h. absurd (no_sum_lem Missing x refl h); fits = λ x h. absurd (no_sum_lem Missing x refl h) };
-    kept = kp;
-    same = record { size = refl; sheet = λ e l. refl; best = λ e l. subst (λ (v : List (List ℕ)). BestSame (line_of a.v e) (line_of v e) (course_in cs e).sheet) (sym ev) (λ i h. refl) };
-    closed = λ _. open-missing limit s;
-    opened = λ t. absurd (false≢true t);
-  }
+  pub none_closed : {a' : Arrays} {limit : ℕ} {s : Search} → Kept g a a' cs → ((e : ℕ) → (rows_at a' e).v ≡ (rows_at a e).v) → hall_bound hall (snoc name false) ≡ Missing → Below hall false g a a' p None name cs limit s
+  none_closed {a'} {limit} {s} kp ev f =
+      below_shut {e = Missing} 0
+      (record { none = λ _. tree_bound (hall_bound hall) (left_below hall false p) (snoc name false) ∙ f; some = λ x h. absurd (no_sum_lem Missing x refl h); fits = λ x h. absurd (no_sum_lem Missing x refl h) }) kp
+      (record { size = refl; sheet = λ e l. refl; best = λ e l. subst (λ (v : List ℕ). BestSame (rows_at a e).v v (course_in cs e).sheet) (sym (ev e)) (λ i h. refl) }) (open-missing limit s)
 
-  module _ (a' : Arrays) (total : ℕ) (r : Passing g a a' p.step calls cs (length cs) total) where
+  module _ {a' : Arrays} {total : ℕ} (r : Passing g a a' p.step calls cs (length cs) total) where
     abbrev n : Spot
     n = call_spot p total
 
@@ -191,7 +206,7 @@ module _ (hall : Hall) (g : Ground) (a : Arrays) (p : Spot) (name : List Bool) (
         (no_call_at hall name (step_at hall p.step) asks_call (asked_of p) calls (slots_at g a' 0 cs) (slots_at g a' 0 ds) none_go (kept_at hall name (asked_of p) calls (slots_at g a 0 cs) (slots_at g a' 0 cs) (all_kept_lem g a a' cs r.kept) k.stood.at))
 
     formed_none : Formed hall g.ats n
-    formed_none = record { calling = λ _. (omega (arith, k.asked.call ec), refl, refl); lines = λ e. absurd (true≢false e); stopped = λ e. absurd (false≢true e) }
+    formed_none = record { call = λ _. (omega (arith, k.asked.call ec), refl); line = λ e. cc; removal = λ _ e. cc }
 
     -- the total of all lines past the step is due at the hall's node below no call, without part sums
     pub none_due : DueAt (tree_from (hall_bound hall) (left_below hall false p) (snoc name false)) (Sum 0) total
@@ -213,13 +228,11 @@ module _ (hall : Hall) (g : Ground) (a : Arrays) (p : Spot) (name : List Bool) (
         go : (b : Bool) → open_in g.ats p.step e ≡ b → OnCourse g.ats n e (pass_of b (course_in cs e))
         go true f = record {
           level = (let z = up ∙ ap (λ (b : Bool). level_in g.ats p.step e + cond b 1 0) f in let y : (course_in cs e).at + 1 ≡ level_in g.ats (p.step + 1) e = omega (arith, z, at-step e (course_in cs e) o) in y ∙ here);
-          stopped = refl;
-          stop = λ h. absurd (false≢true h);
+          stop = refl;
         }
         go false f = record {
           level = (let z = up ∙ ap (λ (b : Bool). level_in g.ats p.step e + cond b 1 0) f in let y : (course_in cs e).at ≡ level_in g.ats (p.step + 1) e = omega (arith, z, at-step e (course_in cs e) o) in y ∙ here);
-          stopped = no_stop e (course_in cs e) o;
-          stop = λ h. absurd (false≢true (sym (no_stop e (course_in cs e) o) ∙ h));
+          stop = no_stop e (course_in cs e) o;
         }
 
     sheet_same : (e : ℕ) → e < length cs → (course_in ds e).sheet ≡ (course_in cs e).sheet
@@ -236,8 +249,8 @@ module _ (hall : Hall) (g : Ground) (a : Arrays) (p : Spot) (name : List Bool) (
         one_kept e l true f h = line_goes g a' a'' e false (course_in cs e) (none_of_lem (course_in cs e)) (omega arith) (r.goes e l f) h
         one_kept e l false f h = h
 
-    best_none : (e : ℕ) → e < length cs → BestSame (line_of a.v e) (line_of a'.v e) (course_in cs e).sheet
-    best_none e l = subst (λ (v : List (List ℕ)). BestSame (line_of a.v e) (line_of v e) (course_in cs e).sheet) (sym r.aside) (λ i h. refl)
+    best_none : (e : ℕ) → e < length cs → BestSame (rows_at a e).v (rows_at a' e).v (course_in cs e).sheet
+    best_none e l = subst (λ (v : List ℕ). BestSame (rows_at a e).v v (course_in cs e).sheet) (sym (r.aside e)) (λ i h. refl)
 
     none_opens : Opens hall false g a a' p n name cs
     none_opens = record {
@@ -246,7 +259,7 @@ module _ (hall : Hall) (g : Ground) (a : Arrays) (p : Spot) (name : List Bool) (
       stood = record {
         formed = formed_none;
         at = uncalled;
-        stands = subst (Stands (agenda_of hall) (snoc name false)) (below_call false) (stands_after hall g a p name calls cs k false);
+        stands = subst (Stands (agenda_of hall) (snoc name false)) (below_call false) (stands_after k false);
         count = r.size ∙ k.stood.count;
         courses = λ e l. on_none e (omega (arith, l, r.size));
         total = r.total_is;
@@ -258,9 +271,9 @@ module _ (hall : Hall) (g : Ground) (a : Arrays) (p : Spot) (name : List Bool) (
     }
 
     -- where the total of all lines past the step does not pass the test, the node below no call is closed
-    pub none_drop : (limit : ℕ) (s : Search) → open_s limit total (Sum 0) s ≡ Missing → Below hall false g a a' p (closed_spot p) name cs limit s
-    none_drop limit s f = record { e = Sum 0; due = total; due_at = none_due; kept = r.kept; same = record { size = refl; sheet = λ e l. refl; best = best_none }; closed = λ _. f; opened = λ t. absurd (false≢true t) }
+    pub none_drop : {limit : ℕ} {s : Search} → open_s limit total (Sum 0) s ≡ Missing → Below hall false g a a' p None name cs limit s
+    none_drop f = below_shut total none_due r.kept (record { size = refl; sheet = λ e l. refl; best = best_none }) f
 
     -- where the total of all lines past the step passes the test, the node below no call is walked on
-    pub none_open : (limit : ℕ) (s : Search) (y : ℕ) → open_s limit total (Sum 0) s ≡ Sum y → Below hall false g a a' p n name cs limit s
-    none_open limit s y f = record { e = Sum 0; due = total; due_at = none_due; kept = r.kept; same = record { size = refl; sheet = λ e l. refl; best = best_none }; closed = λ t. absurd (true≢false t); opened = λ _. (y, f, none_opens) }
+    pub none_open : {limit : ℕ} {s : Search} {y : ℕ} → open_s limit total (Sum 0) s ≡ Sum y → Below hall false g a a' p (Some n) name cs limit s
+    none_open f = below_open total none_due r.kept (record { size = refl; sheet = λ e l. refl; best = best_none }) f none_opens

@@ -3,6 +3,7 @@ use Prim.Native.Nat.{ℕ, suc, ◌+◌, ◌*◌, ◌<◌, ◌≤◌}
 use mathlib.Core.Path.{◌≡◌, refl, sym, ap, subst, ◌∙◌}
 use mathlib.Core.Bool.{Bool, true, false, cond, false≢true}
 use mathlib.Core.List.{List, [], ◌∷◌, ◌++◌}
+use Rattle.std.specs.Prelude.{Option, Some, None}
 use native.Mathlib.Omega.{arith}
 use native.Mathlib.Decide.{ℕ_discrete, dec_lt}
 use borrow.Author.Tests.{lt-ltb}
@@ -32,8 +33,12 @@ use Rattle.hall_lines.specs.Lines.{Opening, NoFound, roomy}
 use Rattle.hall_lines.proofs.Lines.{open-sums}
 use Rattle.hall_steps.specs.Steps.{level_in, open_in}
 use Rattle.hall_steps.specs.Table.{step_at}
+use Rattle.hall_lines.specs.declared.LineRows.{LineRows}
+use Rattle.hall_lines.specs.declared.Stop.{Stop}
+use Rattle.hall_state.specs.declared.Ground.{Ground}
+use Rattle.hall_state.specs.declared.Question.TheVariants.{CrewCall}
 use Rattle.hall_state.specs.declared.Spot.{Spot}
-use Rattle.hall_state.specs.Courses.{Ground, Arrays, arrays, line_of, Course, no_course, course_in, level_slot, stopped_slot, line_slot, slots_at, LineKept, Kept}
+use Rattle.hall_state.specs.Courses.{Arrays, no_rows, tables_at, rows_at, Course, no_course, course_in, level_slot, slot_by, line_slot, slots_at, LineKept, Kept}
 use Rattle.hall_state.specs.Spots.{asked_of}
 use Rattle.hall_state.proofs.Courses.{slot_sheet, slot_blocks, line_same, untouched_kept, all_then, all_kept_lem, slot_in, goes_in, others_own, others_goes, bound_kept, sum_kept, line_given, line_here, job_here}
 use Rattle.hall_state.proofs.Moves.{asked_near}
@@ -44,8 +49,8 @@ use Rattle.hall_calls.specs.Calls.{none_of_lem, pass_of, Passing}
 use Rattle.hall_calls.proofs.Calls.{at-step, no_stop, asks_call, self_all}
 
 -- a question stays what it was where its lines are kept
-pub asking_kept : (hall : Hall) (g : Ground) (a a' : Arrays) (p : Spot) (name : List Bool) (calls : ℕ) (cs : List Course) → Kept g a a' cs → Asking hall g a p name calls cs → Asking hall g a' p name calls cs
-asking_kept hall g a a' p name calls cs r k =
+pub asking_kept : {hall : Hall} {g : Ground} {a a' : Arrays} {p : Spot} {name : List Bool} {calls : ℕ} {cs : List Course} → Kept g a a' cs → Asking hall g a p name calls cs → Asking hall g a' p name calls cs
+asking_kept {hall} {g} {a} {a'} {p} {name} {calls} {cs} r k =
     let st = k.stood in
     record {
       crewed = k.crewed;
@@ -82,9 +87,9 @@ fresh_missing : (due : ℕ) (e : Bound) → ((x : ℕ) → e ≡ Sum x → due +
 fresh_missing due Missing fits f = refl
 fresh_missing due (Sum x) fits f = absurd (no_sum_lem (Sum x) x (sym (ap (λ (b : Bool). cond b (Sum x) Missing) (lt-ltb (due + x) no_cost (fits x refl))) ∙ f) refl)
 
-module _ (hall : Hall) (g : Ground) (a₀ a : Arrays) (p : Spot) (name : List Bool) (calls : ℕ) (cs : List Course) (k₀ : Asking hall g a₀ p name calls cs) (ec : p.calling ≡ true) (d total : ℕ) (r : Passing g a₀ a p.step calls cs d total) (less : d < length cs) where
+module _ {hall : Hall} {g : Ground} {a₀ a : Arrays} {p : Spot} {name : List Bool} {calls : ℕ} {cs : List Course} (k₀ : Asking hall g a₀ p name calls cs) (ec : p.asks ≡ CrewCall) {d total : ℕ} (r : Passing g a₀ a p.step calls cs d total) (less : d < length cs) where
   abbrev k : Asking hall g a p name calls cs
-  k = asking_kept hall g a₀ a p name calls cs r.kept k₀
+  k = asking_kept r.kept k₀
 
   abbrev c : Course
   c = course_in cs d
@@ -141,12 +146,12 @@ module _ (hall : Hall) (g : Ground) (a₀ a : Arrays) (p : Spot) (name : List Bo
   -- it is open there
   module _ (o : open_in g.ats p.step d ≡ true) where
     at_level : c.at ≡ level_in g.ats p.step d
-    at_level = at-step hall g a p name calls cs k ec d c (k.stood.courses d less)
+    at_level = at-step k ec d c (k.stood.courses d less)
 
     is_level : (b : Arrays) → line_slot g b d c ≡ level_slot g b d c
-    is_level b = cond_no (stopped_slot g b d c) (level_slot g b d c) (no_stop hall g a p name calls cs k ec d c (k.stood.courses d less))
+    is_level b = ap (λ (t : Option Stop). slot_by t g b d c) (no_stop k ec d c (k.stood.courses d less))
 
-    opening : Opening c.sheet c.blocks (line_of g.t d) (line_of g.u d) (line_of a.w d) (line_of a.v d) (line_of a.n d) c.at c.paid
+    opening : Opening c.sheet c.blocks (tables_at g d) (rows_at a d) c.at c.paid
     opening =
         let j = job_here hall name g a cs d less k.stood.at.lines in
         let up = k.crewed.table.within (p.step + 1) d j.job (omega (arith, k.asked.call ec)) j.placed in
@@ -156,36 +161,35 @@ module _ (hall : Hall) (g : Ground) (a₀ a : Arrays) (p : Spot) (name : List Bo
           less = omega (arith, up, j.openings, at_level, one);
         }
 
-    module _ (at : ℕ) (is : at ≡ level_in g.ats p.step d) where
+    module _ {at : ℕ} (is : at ≡ level_in g.ats p.step d) where
       -- an opening is left to a line that is open at the step
-      pub pass_opening : Opening c.sheet c.blocks (line_of g.t d) (line_of g.u d) (line_of a.w d) (line_of a.v d) (line_of a.n d) at c.paid
-      pass_opening = subst (λ (x : ℕ). Opening c.sheet c.blocks (line_of g.t d) (line_of g.u d) (line_of a.w d) (line_of a.v d) (line_of a.n d) x c.paid) (at_level ∙ sym is) opening
+      pub pass_opening : Opening c.sheet c.blocks (tables_at g d) (rows_at a d) at c.paid
+      pass_opening = subst (λ (x : ℕ). Opening c.sheet c.blocks (tables_at g d) (rows_at a d) x c.paid) (at_level ∙ sym is) opening
 
       -- the level of a line that is open at the step is below 64
       pub pass_near : at < 64
       pass_near = omega (arith, pass_opening.less, pass_opening.given.tables.few)
 
       -- its own estimate is within the whole
-      own_bound : slot_bound (line_slot g a d c) ≡ c.paid + sums_in (line_of a.n d) at + term_in (line_of a.n d) at
-      own_bound = ap slot_bound (is_level a) ∙ ap (λ (x : ℕ). c.paid + sums_in (line_of a.n d) x + term_in (line_of a.n d) x) (at_level ∙ sym is)
+      own_bound : slot_bound (line_slot g a d c) ≡ c.paid + sums_in (rows_at a d).n at + term_in (rows_at a d).n at
+      own_bound = ap slot_bound (is_level a) ∙ ap (λ (x : ℕ). c.paid + sums_in (rows_at a d).n x + term_in (rows_at a d).n x) (at_level ∙ sym is)
 
       own_part : others_sum d (slots_at g a 0 ds) + slot_bound (line_slot g a d c) ≡ lines_sum (slots_at g a 0 ds)
       own_part = subst (λ (x : Course). others_sum d (slots_at g a 0 ds) + slot_bound (line_slot g a d x) ≡ lines_sum (slots_at g a 0 ds)) (r.rest d (omega arith)) (others_own d (slots_at g a 0 ds) (line_slot g a d (course_in ds d)) (slot_in g a d ds (omega (arith, less, r.size))))
 
       -- the part sums and the term of a line that is open at the step are within the hall's estimate so far
-      pub pass_within : sums_in (line_of a.n d) at + term_in (line_of a.n d) at ≤ total
+      pub pass_within : sums_in (rows_at a d).n at + term_in (rows_at a d).n at ≤ total
       pass_within = omega (arith, own_bound, own_part, r.total_is)
 
-      module _ (w₁ n₁ : List ℕ) (lw : length a.w ≡ 4) (ln : length a.n ≡ 4) (four : d < 4) (rest : ℕ) (b : Bound) (rest-is : rest + (sums_in (line_of a.n d) at + term_in (line_of a.n d) at) ≡ total)
-          (found : NoFound c.sheet c.blocks (line_of g.t d) (line_of g.u d) (line_of a.w d) w₁ (line_of a.v d) (line_of a.n d) n₁ at c.paid 1 rest fresh b) where
+      module _ (size : length a ≡ 4) (four : d < 4) (rest : ℕ) (b : Option ℕ) (rest-is : rest + (sums_in (rows_at a d).n at + term_in (rows_at a d).n at) ≡ total) (o₁ : LineRows)
+          (found : NoFound c.sheet c.blocks (tables_at g d) (rows_at a d) o₁ at c.paid 1 rest fresh b) where
         abbrev a₁ : Arrays
-        a₁ = arrays (set a.w d w₁) a.v (set a.n d n₁)
+        a₁ = set a d o₁
 
-        found₁ : NoFound c.sheet c.blocks (line_of g.t d) (line_of g.u d) (line_of a.w d) (line_of a₁.w d) (line_of a.v d) (line_of a.n d) (line_of a₁.n d) c.at c.paid 1 rest fresh b
+        found₁ : NoFound c.sheet c.blocks (tables_at g d) (rows_at a d) (rows_at a₁ d) c.at c.paid 1 rest fresh b
         found₁ =
-            subst (λ (x : List ℕ). NoFound c.sheet c.blocks (line_of g.t d) (line_of g.u d) (line_of a.w d) x (line_of a.v d) (line_of a.n d) (line_of a₁.n d) c.at c.paid 1 rest fresh b) (sym (at_same a.w d w₁ (omega (arith, lw, four))))
-            (subst (λ (x : List ℕ). NoFound c.sheet c.blocks (line_of g.t d) (line_of g.u d) (line_of a.w d) w₁ (line_of a.v d) (line_of a.n d) x c.at c.paid 1 rest fresh b) (sym (at_same a.n d n₁ (omega (arith, ln, four))))
-            (subst (λ (x : ℕ). NoFound c.sheet c.blocks (line_of g.t d) (line_of g.u d) (line_of a.w d) w₁ (line_of a.v d) (line_of a.n d) n₁ x c.paid 1 rest fresh b) (is ∙ sym at_level) found))
+            subst (λ (o : LineRows). NoFound c.sheet c.blocks (tables_at g d) (rows_at a d) o c.at c.paid 1 rest fresh b) (sym (at_same a d o₁ size four))
+            (subst (λ (x : ℕ). NoFound c.sheet c.blocks (tables_at g d) (rows_at a d) o₁ x c.paid 1 rest fresh b) (is ∙ sym at_level) found)
 
         own_kept : LineKept g a a₁ d c
         own_kept = record {
@@ -195,37 +199,45 @@ module _ (hall : Hall) (g : Ground) (a₀ a : Arrays) (p : Spot) (name : List Bo
 
         -- another line is untouched
         other : (e : ℕ) (x : Course) → (e ≡ d → ⊥) → line_slot g a₁ e x ≡ line_slot g a e x
-        other e x z = line_same g a a₁ e x (get_or-set_other a.w d e w₁ [] z) refl (get_or-set_other a.n d e n₁ [] z)
+        other e x z = line_same g a a₁ e x (get_or-set_other a d e o₁ no_rows z)
 
         kept_one : (e : ℕ) → e < length cs → LineKept g a a₁ e (course_in cs e)
         kept_one e l = go (ℕ_discrete e d)
           where
             go : Dec (e ≡ d) → LineKept g a a₁ e (course_in cs e)
             go (yes z) = subst (λ (j : ℕ). LineKept g a a₁ j (course_in cs j)) (sym z) own_kept
-            go (no z) = untouched_kept g a a₁ e (course_in cs e) (get_or-set_other a.w d e w₁ [] z) refl (get_or-set_other a.n d e n₁ [] z) (line_given hall name g a cs e l k.stood.at.lines)
+            go (no z) = untouched_kept g a a₁ e (course_in cs e) (get_or-set_other a d e o₁ no_rows z) (line_given hall name g a cs e l k.stood.at.lines)
 
         -- all lines are kept from the first arrays to those with this line's no written
         pub pass_kept : Kept g a₀ a₁ cs
-        pass_kept = all_then g a₀ a a₁ cs r.kept (record { size = record { w = length-set a.w d w₁; v = refl; n = length-set a.n d n₁ }; each = kept_one })
+        pass_kept = all_then g a₀ a a₁ cs r.kept (record { size = length-set a d o₁; each = kept_one })
+
+        -- what stands beside the rows is not written
+        pub pass_aside : (e : ℕ) → (rows_at a₁ e).v ≡ (rows_at a₀ e).v
+        pass_aside e = go (ℕ_discrete e d)
+          where
+            go : Dec (e ≡ d) → (rows_at a₁ e).v ≡ (rows_at a₀ e).v
+            go (yes q) = subst (λ (j : ℕ). (rows_at a₁ j).v ≡ (rows_at a₀ j).v) (sym q) (found₁.aside ∙ r.aside d)
+            go (no q) = ap (λ (o : LineRows). o.v) (get_or-set_other a d e o₁ no_rows q) ∙ r.aside e
 
         -- sums stay small
         fits : (x : ℕ) → sum_where found₁.h found₁.y ≡ Sum x → rest + found₁.h + x < no_cost
         fits x e = omega (arith, found₁.due.low x e, rest-is, total_low)
 
         -- its own node below has no bound, and so the hall's has none
-        pub pass_none : b ≡ Missing → hall_bound hall (snoc name false) ≡ Missing
+        pub pass_none : b ≡ None → hall_bound hall (snoc name false) ≡ Missing
         pass_none f =
             let j = line_here hall name g a 0 d hall.jobs cs less k.stood.at.lines in
             let ln : Line = record { place = 0 + d; job = j.job } in
             let e = fresh_missing (rest + found₁.h) (sum_where found₁.h found₁.y) fits (found₁.answers.closed f) in
             let op = k.crewed.table.tells p.step (k.asked.call ec) d j.job j.placed ∙ o in
-            let nm = no_call_name hall name (step_at hall p.step) (asks_call hall g a p name calls cs k ec) ln ∙ ap (λ (y : Bool). name_for hall ln name ++ cond y (false ∷ []) []) op ∙ ap (λ (l : List Bool). snoc l false) (j.slot_of.name ∙ ap concat (slot_blocks g a (0 + d) c)) in
+            let nm = no_call_name hall name (step_at hall p.step) (asks_call k ec) ln ∙ ap (λ (y : Bool). name_for hall ln name ++ cond y (false ∷ []) []) op ∙ ap (λ (l : List Bool). snoc l false) (j.slot_of.name ∙ ap concat (slot_blocks g a (0 + d) c)) in
             let so = subst (SheetOf j.job) (slot_sheet g a (0 + d) c) j.slot_of.sheet_of_lem in
             let lb : line_bound hall ln (snoc name false) ≡ Missing = ap (bound_of j.job) nm ∙ sym (held_bound_lem j.job c.sheet so (snoc (concat c.blocks) false)) ∙ found₁.due.none e in
             let z : 0 + d ≡ d = omega arith in
             line_missing hall (snoc name false) d j.job j.placed (ap (λ (n : ℕ). line_bound hall (record { place = n; job = j.job }) (snoc name false)) (sym z) ∙ lb)
 
-        module _ (z : ℕ) (f : b ≡ Sum z) where
+        module _ (z : ℕ) (f : b ≡ Some z) where
           abbrev y : ℕ
           y = (found₁.answers.opened z f).0
 
@@ -270,12 +282,12 @@ module _ (hall : Hall) (g : Ground) (a₀ a : Arrays) (p : Spot) (name : List Bo
           pub pass_some : Passing g a₀ a₁ p.step calls cs (d + 1) z
           pass_some = record {
             kept = pass_kept;
-            aside = r.aside;
+            aside = pass_aside;
             courses = ds₁;
             size = length-set ds d (none_of_lem c) ∙ r.size;
             done = λ e l. done e l (ℕ_discrete e d);
             rest = λ e l. get_or-set_other ds d e (none_of_lem c) no_course (λ q. absurd (omega (arith, q, l))) ∙ r.rest e (omega (arith, l));
-            rows = λ e l. let q = r.rows e (omega (arith, l)) in (get_or-set_other a.w d e w₁ [] (λ i. absurd (omega (arith, i, l))) ∙ q.0, get_or-set_other a.n d e n₁ [] (λ i. absurd (omega (arith, i, l))) ∙ q.1);
+            rows = λ e l. get_or-set_other a d e o₁ no_rows (λ i. absurd (omega (arith, i, l))) ∙ r.rows e (omega (arith, l));
             goes = λ e l h. goes e l h (ℕ_discrete e d);
             total_is = total_now;
           }
@@ -291,15 +303,15 @@ module _ (hall : Hall) (g : Ground) (a₀ a : Arrays) (p : Spot) (name : List Bo
                   (subst (Goes false (line_slot g a e (course_in cs e))) (sym (other e (none_of_lem (course_in cs e)) q)) (r.goes e (omega (arith, l, q)) h))
 
 -- no line has passed yet
-pub pass_begin : (hall : Hall) (g : Ground) (a : Arrays) (p : Spot) (name : List Bool) (calls : ℕ) (cs : List Course) → Asking hall g a p name calls cs → p.calling ≡ true → Passing g a a p.step calls cs 0 p.total
-pass_begin hall g a p name calls cs k ec = record {
-  kept = self_all hall g a p name calls cs k ec;
-  aside = refl;
+pub pass_begin : {hall : Hall} {g : Ground} {a : Arrays} {p : Spot} {name : List Bool} {calls : ℕ} {cs : List Course} → Asking hall g a p name calls cs → p.asks ≡ CrewCall → Passing g a a p.step calls cs 0 p.total
+pass_begin {hall} {g} {a} {p} {name} {calls} {cs} k ec = record {
+  kept = self_all k ec;
+  aside = λ e. refl;
   courses = cs;
   size = refl;
   done = λ e l. absurd (omega (arith, l));
   rest = λ e l. refl;
-  rows = λ e l. (refl, refl);
+  rows = λ e l. refl;
   goes = λ e l. absurd (omega (arith, l));
   total_is = k.stood.total;
 }

@@ -3,6 +3,7 @@ use Prim.Native.Nat.{ℕ, ◌+◌, ◌-◌, ◌*◌, ◌^◌, ◌<◌, ◌≤◌
 use mathlib.Core.Path.{◌≡◌, refl, sym, ap, subst, ◌∙◌}
 use mathlib.Core.Bool.{Bool, true, false, false≢true, true≢false}
 use mathlib.Core.List.{List, []}
+use Rattle.std.specs.Prelude.{Some, None}
 use native.Mathlib.Omega.{arith}
 use native.Mathlib.Nat.{pow-le-pow_right}
 use lib.Bits.{bit_or}
@@ -37,9 +38,13 @@ use Rattle.held_nodes.proofs.Stops.{stop_asks, stays_below, stays_more, stays_ch
 use Rattle.held_nodes.proofs.Settling.{settle_asks, rests}
 use Rattle.hall_nodes.specs.Lines.{Slot, Goes, SlotKept, with_rows, settled_slot, no_blocks_lem, yes_blocks, more_blocks, no_slot, stays_slot, out_slot}
 use Rattle.hall_nodes.proofs.Going.{more_name, no_goes, yes_goes, stays_goes, out_goes, fresh_kept, looked_kept, settled_kept}
+use Rattle.hall_lines.specs.declared.LineTables.{LineTables}
+use Rattle.hall_lines.specs.declared.Level.{Level}
+use Rattle.hall_lines.specs.declared.LineRows.{LineRows}
 use Rattle.hall_lines.specs.declared.Stop.{Stop}
+use Rattle.hall_lines.specs.declared.Decision.{Decision}
 use Rattle.hall_lines.specs.Levels.{rows_in_lem, sums_in, term_in, mask_in, level_node, stop_node, LevelPut}
-use Rattle.hall_lines.specs.Lines.{open_slot, stop_slot, Opening, Removing, Decided, OwnDue, Answers, NoFound, StopFound, StayFound, OutFound, LineSettled, first_stop_lem, stop_due}
+use Rattle.hall_lines.specs.Lines.{open_slot, stop_slot, Opening, Removing, Decided, OwnDue, Answers, itself, total_of, NoFound, StopFound, StayFound, OutFound, LineSettled, first_stop_lem, stop_due}
 use Rattle.hall_lines.proofs.Levels.{levels_none, level_same, at_plain}
 
 -- ---- a node below, tested
@@ -58,12 +63,16 @@ open-sums limit due e s y fits f = go e refl
     go (Sum x) g = (opened {T = full (Sum (due + x))} (record { none = λ h. absurd (no_sum_lem e x h g); some = λ z h. ap (λ (k : ℕ). Sum (due + k)) (sum_inj e x z g h); fits = fits }) [] limit (λ _. []) s y f).sums
 
 -- the code's answers: none, and the estimate with the part sums y
-pub answers_none : (limit due : ℕ) (e : Bound) (s : Search) → open_s limit due e s ≡ Missing → Answers limit due e s Missing
-answers_none limit due e s f = record { closed = λ _. f; opened = λ z g. absurd (no_sum_lem Missing z refl g) }
+pub answers_none : {A : Type 0} (total : A → ℕ) (limit due : ℕ) (e : Bound) (s : Search) → open_s limit due e s ≡ Missing → Answers total limit due e s None
+answers_none total limit due e s f = record { closed = λ _. f; opened = λ z g. cc }
 
 -- a test that lets the node be walked on is answered by the hall's estimate
-pub answers_some : (limit due : ℕ) (e : Bound) (s : Search) (y total : ℕ) → open_s limit due e s ≡ Sum y → total ≡ due + y → Answers limit due e s (Sum total)
-answers_some limit due e s y total f g = record { closed = λ h. absurd (no_sum_lem (Sum total) total h refl); opened = λ z h. (y, f, sym (sum_inj (Sum total) total z refl h) ∙ g) }
+pub answers_some : {A : Type 0} (total : A → ℕ) (limit due : ℕ) (e : Bound) (s : Search) (y : ℕ) (q : A) → open_s limit due e s ≡ Sum y → total q ≡ due + y → Answers total limit due e s (Some q)
+answers_some total limit due e s y q f g = record { closed = λ h. cc; opened = λ z h. let k : q ≡ z = cc in (y, f, sym (ap total k) ∙ g) }
+
+-- the line's rows after a look
+abbrev pub looks : LineRows → List ℕ → LineRows
+looks o w' = record { w = w'; v = o.v; n = o.n }
 
 -- a step from the line's node, where a look has changed the memo since
 goes_looked : (x : Bool) (s s' : Slot) (w' : List ℕ) → Goes x s s' → s'.node.rows ≡ s.node.rows → Recalled s.t s.w w' s.node.rows → Goes x (with_rows s w' s.v) (with_rows s' w' s'.v)
@@ -82,43 +91,43 @@ goes_looked x s s' w' g e k = record {
 
 -- ---- at an opening
 
-module _ (sheet : HeldSheet) (ds : List (List Bool)) (t u w v n : List ℕ) (at paid : ℕ) (op : Opening sheet ds t u w v n at paid) where
+module _ {sheet : HeldSheet} {ds : List (List Bool)} {tb : LineTables} {o : LineRows} {at paid : ℕ} (op : Opening sheet ds tb o at paid) where
   abbrev here : Slot
-  here = open_slot sheet ds t u w v n at paid
+  here = open_slot sheet ds tb o at paid
 
-  abbrev a : At sheet ds t u w v (level_node (held sheet) n at paid) (sums_in n at) (term_in n at)
+  abbrev a : At sheet ds tb.t tb.u o.w o.v (level_node (held sheet) o.n at paid) (sums_in o.n at) (term_in o.n at)
   a = op.given
 
   -- where an opening is left, fewer than 64 are decided
   pub near : at < 64
   near = omega (arith, op.less, a.tables.few)
 
-  pub opening_needs : TermAsks u v (at + 1) (rows_in_lem n at - 1) × Looks t w (rows_in_lem n at) (at + 1) × (0 < rows_in_lem n at)
+  pub opening_needs : TermAsks tb.u o.v (at + 1) (rows_in_lem o.n at - 1) × Looks tb.t o.w (rows_in_lem o.n at) (at + 1) × (0 < rows_in_lem o.n at)
   opening_needs = opening_asks a refl op.less
 
   -- the line's stops with one more decision fit in 64 bits
-  pub next_mask : mask_in n at * 2 + 1 < 2 ^ 64
-  next_mask = mask_fits at (mask_in n at) a.mask near
+  pub next_mask : mask_in o.n at * 2 + 1 < 2 ^ 64
+  next_mask = mask_fits at (mask_in o.n at) a.mask near
 
   -- the part sums of no stop
   abbrev pub no_sum : ℕ
-  no_sum = sum_lanes (lanes_in t) (λ (q : ℕ). lane t w suffix_base (at + 1) q (rows_in_lem n at))
+  no_sum = sum_lanes (lanes_in tb.t) (λ (q : ℕ). lane tb.t o.w suffix_base (at + 1) q (rows_in_lem o.n at))
 
   -- the part sums of no stop are at most the number for Missing in every lane
   pub no_low : no_sum ≤ lane_count_lem * inf
-  no_low = sums_low (λ (q : ℕ). lane t w suffix_base (at + 1) q (rows_in_lem n at)) (lanes_in t) no_sum a.tables.narrow (λ q. lane_most t w suffix_base (at + 1) q (rows_in_lem n at)) refl
+  no_low = sums_low (λ (q : ℕ). lane tb.t o.w suffix_base (at + 1) q (rows_in_lem o.n at)) (lanes_in tb.t) no_sum a.tables.narrow (λ q. lane_most tb.t o.w suffix_base (at + 1) q (rows_in_lem o.n at)) refl
 
-  module _ (h : ℕ) (term : h ≡ most_to (term_of u v (at + 1) (rows_in_lem n at - 1)) (get_or u classes_place 0)) where
+  module _ (h : ℕ) (term : h ≡ most_to (term_of tb.u o.v (at + 1) (rows_in_lem o.n at - 1)) (get_or tb.u classes_place 0)) where
     -- where the term is there, the part sums of no stop are no lower than the line's
-    pub no_rises : h < inf → sums_in n at ≤ no_sum
+    pub no_rises : h < inf → sums_in o.n at ≤ no_sum
     no_rises = no_more a refl op.less h no_sum term refl
 
-    no_tree : DueAt (tree_at sheet (no_n (level_node (held sheet) n at paid) (rows_in_lem n at)) (no_blocks_lem ds)) (sum_where h no_sum) (paid + h)
-    no_tree = no_due a refl op.less h no_sum (rows_in_lem n at) (no_below a refl op.less h no_sum term refl) (no_cheap a refl op.less h no_sum term refl) no_low
+    no_tree : DueAt (tree_at sheet (no_n (level_node (held sheet) o.n at paid) (rows_in_lem o.n at)) (no_blocks_lem ds)) (sum_where h no_sum) (paid + h)
+    no_tree = no_due a refl op.less h no_sum (rows_in_lem o.n at) (no_below a refl op.less h no_sum term refl) (no_cheap a refl op.less h no_sum term refl) no_low
 
     no_own : OwnDue sheet ds false (sum_where h no_sum) (paid + h)
     no_own =
-        own_due (tree_at sheet (no_n (level_node (held sheet) n at paid) (rows_in_lem n at)) (no_blocks_lem ds))
+        own_due (tree_at sheet (no_n (level_node (held sheet) o.n at paid) (rows_in_lem o.n at)) (no_blocks_lem ds))
         (left_bound (held_bound sheet) 0 (held sheet) (held sheet - held sheet) (length sheet.positions - (at + 1)) (concat (no_blocks_lem ds)) ∙ ap (held_bound sheet) (sym (no_joined ds))) no_tree
         (λ y f. let z = where_there h no_sum y f in omega (arith, z.1, no_low, no_cheap a refl op.less h no_sum term refl z.0, a.poor, a.inside, a.tables.few, a.holders.parts))
 
@@ -126,44 +135,47 @@ module _ (sheet : HeldSheet) (ds : List (List Bool)) (t u w v n : List ℕ) (at 
     pub no_fits : (limit rest : ℕ) (s : Search) (y : ℕ) → rest + inf + lane_count_lem * inf + inf < 2 ^ 64 → open_s limit (rest + h) (sum_where h no_sum) s ≡ Sum y → (h < inf) × (no_sum ≡ y)
     no_fits limit rest s y roomy f = where_there h no_sum y (open-sums limit (rest + h) (sum_where h no_sum) s y (λ z g. let k = where_there h no_sum z g in omega (arith, roomy, k.0, k.1, no_low)) f)
 
-    module _ (limit rest : ℕ) (s : Search) (w' : List ℕ) (rec : Recalled t w w' (rows_in_lem n at)) where
-      looked : SlotKept here (with_rows here w' v)
+    module _ (limit rest : ℕ) (s : Search) (w' : List ℕ) (rec : Recalled tb.t o.w w' (rows_in_lem o.n at)) where
+      looked : SlotKept here (with_rows here w' o.v)
       looked = looked_kept here a w' rec
 
       -- it is not walked on
-      pub no_none : open_s limit (rest + h) (sum_where h no_sum) s ≡ Missing → NoFound sheet ds t u w w' v n n at paid limit rest s Missing
+      pub no_none : open_s limit (rest + h) (sum_where h no_sum) s ≡ Missing → NoFound sheet ds tb o (looks o w') at paid limit rest s None
       no_none f = record {
         h = h;
         y = no_sum;
+        aside = refl;
         due = no_own;
-        answers = answers_none limit (rest + h) (sum_where h no_sum) s f;
+        answers = answers_none itself limit (rest + h) (sum_where h no_sum) s f;
         kept = looked;
-        levels = levels_none n (at + 1);
-        goes = λ z g. absurd (no_sum_lem Missing z refl g);
+        levels = levels_none o.n (at + 1);
+        goes = λ z g. cc;
       }
 
       -- it is, and its numbers are the next level's
-      pub no_some : (n' : List ℕ) (y total : ℕ) → h < inf → no_sum ≡ y → open_s limit (rest + h) (sum_where h no_sum) s ≡ Sum y → total ≡ rest + h + y → LevelPut n n' (at + 1) (rows_in_lem n at) y h (mask_in n at * 2)
-          → NoFound sheet ds t u w w' v n n' at paid limit rest s (Sum total)
+      pub no_some : (n' : List Level) (y total : ℕ) → h < inf → no_sum ≡ y → open_s limit (rest + h) (sum_where h no_sum) s ≡ Sum y → total ≡ rest + h + y → LevelPut o.n n' (at + 1) (record { rows = rows_in_lem o.n at; sums = y; term = h; mask = mask_in o.n at * 2 })
+          → NoFound sheet ds tb o (record { w = w'; v = o.v; n = n' }) at paid limit rest s (Some total)
       no_some n' y total l e f g put =
-          let same = level_same sheet ds t u w' v n n' at paid put.kept in
+          let same = level_same sheet ds tb o (record { w = w'; v = o.v; n = n' }) at paid put.kept in
           let step = goes_looked false here (no_slot here no_sum h) w' (no_goes here a refl op.less h no_sum term refl l no_low) refl rec in
-          let kept-rows : rows_in_lem n' at ≡ rows_in_lem n at = put.kept.below (at * 4 + 0) (omega arith) in
+          let kept-rows : rows_in_lem n' at ≡ rows_in_lem o.n at = ap (λ (l : Level). l.rows) (put.kept.below at (omega arith)) in
+          let put-rows : rows_in_lem n' (at + 1) ≡ rows_in_lem o.n at = ap (λ (l : Level). l.rows) put.level_is in
           record {
             h = h;
             y = no_sum;
+            aside = refl;
             due = no_own;
-            answers = answers_some limit (rest + h) (sum_where h no_sum) s y total f g;
+            answers = answers_some itself limit (rest + h) (sum_where h no_sum) s y total f g;
             kept = subst (SlotKept here) (sym same) looked;
             levels = put.kept;
             goes = λ z k. record {
               sheet = refl;
               name = step.name;
-              given = at_plain step.given refl (rows_in_lem n' (at + 1)) (held sheet) (mask_in n' (at + 1)) (sums_in n' (at + 1)) (term_in n' (at + 1)) put.rows_are refl put.mask_is (put.sums_are ∙ sym e) put.term_is;
+              given = at_plain step.given refl (rows_in_lem n' (at + 1)) (held sheet) (mask_in n' (at + 1)) (sums_in n' (at + 1)) (term_in n' (at + 1)) put-rows refl (ap (λ (l : Level). l.mask) put.level_is) (ap (λ (l : Level). l.sums) put.level_is ∙ sym e) (ap (λ (l : Level). l.term) put.level_is);
               t = refl;
               w = refl;
               v = refl;
-              rows = omega (arith, put.rows_are, kept-rows);
+              rows = omega (arith, put-rows, kept-rows);
               wrote = omega arith;
               back = λ _ _ _ q. absurd (false≢true q);
             };
@@ -172,70 +184,77 @@ module _ (sheet : HeldSheet) (ds : List (List Bool)) (t u w v n : List ℕ) (at 
   -- ---- a stop
 
   abbrev fee : ℕ
-  fee = get_or t (fee_place at) 0
+  fee = get_or tb.t (fee_place at) 0
 
   abbrev most : ℕ
-  most = get_or u (top_place (at + 1)) 0
+  most = get_or tb.u (top_place (at + 1)) 0
+
+  abbrev o⁰ : LineRows
+  o⁰ = record { w = o.w; v = set o.v (ready_place (rows_in_lem o.n at)) 0; n = o.n }
 
   abbrev v⁰ : List ℕ
-  v⁰ = set v (ready_place (rows_in_lem n at)) 0
+  v⁰ = set o.v (ready_place (rows_in_lem o.n at)) 0
 
   -- the line has at most 64 rows where an opening is left
-  pub few_rows : rows_in_lem n at ≤ 64
+  pub few_rows : rows_in_lem o.n at ≤ 64
   few_rows = let wr = (a.opening refl).all in omega (arith, wr.rows_are.few, wr.size, op.less, a.tables.few)
 
-  fresh : SlotKept here (with_rows here w v⁰)
+  fresh : SlotKept here (with_rows here o.w v⁰)
   fresh = fresh_kept here a refl op.less
 
-  fresh_given : At sheet ds t u w v⁰ (level_node (held sheet) n at paid) (sums_in n at) (term_in n at)
+  fresh_given : At sheet ds tb.t tb.u o.w v⁰ (level_node (held sheet) o.n at paid) (sums_in o.n at) (term_in o.n at)
   unfolding at_kept
   fresh_given = at_kept fresh.frame fresh.pending a
 
-  stops : Goes true (open_slot sheet ds t u w v⁰ n at paid) (stop_slot sheet (yes_blocks ds) t u w v⁰ n at (paid + fee) (first_stop_lem u n at))
+  stops : Goes true (open_slot sheet ds tb o⁰ at paid) (stop_slot sheet (yes_blocks ds) tb o⁰ at (paid + fee) (first_stop_lem tb.u o.n at))
   stops =
-      yes_goes (open_slot sheet ds t u w v⁰ n at paid) fresh_given refl op.less most (paid + fee) refl refl
-      (get_or-set_same v (ready_place (rows_in_lem n at)) 0 0 (omega (arith, few_rows, a.aside)))
+      yes_goes (open_slot sheet ds tb o⁰ at paid) fresh_given refl op.less most (paid + fee) refl refl
+      (get_or-set_same o.v (ready_place (rows_in_lem o.n at)) 0 0 (omega (arith, few_rows, a.aside)))
 
   -- a stop's estimate fits
-  pub stop_cheap : paid + stop_due t u at + sums_in n at ≤ 17648000000
+  pub stop_cheap : paid + stop_due tb at + sums_in o.n at ≤ 17648000000
   stop_cheap = let g = stops.given in omega (arith, g.poor, g.cheap, g.low, g.inside, a.tables.few)
 
-  stop_own : OwnDue sheet ds true (Sum (sums_in n at)) (paid + stop_due t u at)
+  stop_own : OwnDue sheet ds true (Sum (sums_in o.n at)) (paid + stop_due tb at)
   stop_own =
-      let T = tree_at sheet (yes_n (level_node (held sheet) n at paid) (rows_in_lem n at) (paid + fee)) (yes_blocks ds) in
-      let z : paid + fee + most ≡ paid + stop_due t u at = omega arith in
+      let T = tree_at sheet (yes_n (level_node (held sheet) o.n at paid) (rows_in_lem o.n at) (paid + fee)) (yes_blocks ds) in
+      let z : paid + fee + most ≡ paid + stop_due tb at = omega arith in
       own_due T (left_bound (held_bound sheet) 0 (held sheet) (held sheet - 0) (length sheet.positions - (at + 1)) (concat (yes_blocks ds)) ∙ ap (held_bound sheet) (sym (stop_joined ds [])))
-      (subst (DueAt T (Sum (sums_in n at))) z (yes_due a refl op.less most (paid + fee) refl refl (rows_in_lem n at)))
-      (λ y f. let k = sum_inj (Sum (sums_in n at)) (sums_in n at) y refl f in omega (arith, k, stop_cheap))
+      (subst (DueAt T (Sum (sums_in o.n at))) z (yes_due a refl op.less most (paid + fee) refl refl (rows_in_lem o.n at)))
+      (λ y f. let k = sum_inj (Sum (sums_in o.n at)) (sums_in o.n at) y refl f in omega (arith, k, stop_cheap))
 
   module _ (limit rest : ℕ) (s : Search) where
     -- it is not walked on
-    pub stop_none : open_s limit (rest + stop_due t u at) (Sum (sums_in n at)) s ≡ Missing → StopFound sheet ds t u w v v n at paid limit rest s Missing
+    pub stop_none : open_s limit (rest + stop_due tb at) (Sum (sums_in o.n at)) s ≡ Missing → StopFound sheet ds tb o o at paid limit rest s None
     stop_none f = record {
+      rows = refl;
+      levels = refl;
       due = stop_own;
-      answers = answers_none limit (rest + stop_due t u at) (Sum (sums_in n at)) s f;
-      kept = looked_kept here a w (recalled_none t w (rows_in_lem n at) (a.opening refl).all.memo);
+      answers = answers_none itself limit (rest + stop_due tb at) (Sum (sums_in o.n at)) s f;
+      kept = looked_kept here a o.w (recalled_none tb.t o.w (rows_in_lem o.n at) (a.opening refl).all.memo);
       best = λ i l. refl;
-      goes = λ z g. absurd (no_sum_lem Missing z refl g);
+      goes = λ z g. cc;
     }
 
     -- it is
-    pub stop_some : (y total : ℕ) → open_s limit (rest + stop_due t u at) (Sum (sums_in n at)) s ≡ Sum y → total ≡ rest + stop_due t u at + y → StopFound sheet ds t u w v v⁰ n at paid limit rest s (Sum total)
+    pub stop_some : (y total : ℕ) → open_s limit (rest + stop_due tb at) (Sum (sums_in o.n at)) s ≡ Sum y → total ≡ rest + stop_due tb at + y → StopFound sheet ds tb o o⁰ at paid limit rest s (Some total)
     stop_some y total f g = record {
+      rows = refl;
+      levels = refl;
       due = stop_own;
-      answers = answers_some limit (rest + stop_due t u at) (Sum (sums_in n at)) s y total f g;
+      answers = answers_some itself limit (rest + stop_due tb at) (Sum (sums_in o.n at)) s y total f g;
       kept = fresh;
-      best = λ i l. get_or-set_other v (ready_place (rows_in_lem n at)) (best_place i) 0 0 (λ z. omega (arith, z, few_rows, l, a.tables.few));
+      best = λ i l. get_or-set_other o.v (ready_place (rows_in_lem o.n at)) (best_place i) 0 0 (λ z. omega (arith, z, few_rows, l, a.tables.few));
       goes = λ z k. stops;
     }
 
 -- ---- at a stop
 
-module _ (sheet : HeldSheet) (ds : List (List Bool)) (t u w v n : List ℕ) (at paid : ℕ) (p : Stop) (re : Removing sheet ds t u w v n at paid p) where
+module _ {sheet : HeldSheet} {ds : List (List Bool)} {tb : LineTables} {o : LineRows} {at paid : ℕ} {p : Stop} (re : Removing sheet ds tb o at paid p) where
   abbrev at_stop : Slot
-  at_stop = stop_slot sheet ds t u w v n at paid p
+  at_stop = stop_slot sheet ds tb o at paid p
 
-  abbrev b : At sheet ds t u w v (stop_node n at paid p) p.sums p.term
+  abbrev b : At sheet ds tb.t tb.u o.w o.v (stop_node o.n at paid p) p.sums p.term
   b = re.given
 
   -- fewer than 16 removals are decided where one is open
@@ -251,24 +270,24 @@ module _ (sheet : HeldSheet) (ds : List (List Bool)) (t u w v n : List ℕ) (at 
   next_removed = mask_fits p.next p.removed (b.stop refl).small (omega (arith, few_next))
 
   -- the terms and both levels of the stop's rows may be looked up
-  pub stop_needs : TermAsks u v (at + 1) (rows_in_lem n at - 1) × LooksAtStop t u w (rows_in_lem n at) (at + 1) × (0 < rows_in_lem n at)
+  pub stop_needs : TermAsks tb.u o.v (at + 1) (rows_in_lem o.n at - 1) × LooksAtStop tb.t tb.u o.w (rows_in_lem o.n at) (at + 1) × (0 < rows_in_lem o.n at)
   stop_needs = stop_asks b refl
 
   -- the list of the classes that need the next holding part stands within the tables
-  pub class_needs_lem : (p.next < lane_count_lem) × (get_or u (need_count_place p.next) 0 ≤ lane_count_lem) × ((i : ℕ) → i < get_or u (need_count_place p.next) 0 → get_or u (need_class_place p.next i) 0 < get_or u classes_place 0)
+  pub class_needs_lem : (p.next < lane_count_lem) × (get_or tb.u (need_count_place p.next) 0 ≤ lane_count_lem) × ((i : ℕ) → i < get_or tb.u (need_count_place p.next) 0 → get_or tb.u (need_class_place p.next i) 0 < get_or tb.u classes_place 0)
   class_needs_lem = (few_next, b.holders.need_count p.next re.left, λ i l. omega (arith, b.holders.need_class p.next i re.left l, b.holders.classes))
 
   -- the lanes that it is shut to where the next holding part stays, and the part sums then
   abbrev pub stays_set : ℕ
-  stays_set = bit_or p.shut (get_or u (need_lanes_place p.next) 0)
+  stays_set = bit_or p.shut (get_or tb.u (need_lanes_place p.next) 0)
 
   -- the part sums of the stop where the next holding part stays
   abbrev pub stays_sum : ℕ
-  stays_sum = sum_lanes (lanes_in t) (stop_lane t w (at + 1) (rows_in_lem n at) stays_set)
+  stays_sum = sum_lanes (lanes_in tb.t) (stop_lane tb.t o.w (at + 1) (rows_in_lem o.n at) stays_set)
 
   -- the part sums where the next holding part stays are at most the number for Missing in every lane
   pub stays_low : stays_sum ≤ lane_count_lem * inf
-  stays_low = sums_low (stop_lane t w (at + 1) (rows_in_lem n at) stays_set) (lanes_in t) stays_sum b.tables.narrow (stop_most t w (at + 1) (rows_in_lem n at) stays_set) refl
+  stays_low = sums_low (stop_lane tb.t o.w (at + 1) (rows_in_lem o.n at) stays_set) (lanes_in tb.t) stays_sum b.tables.narrow (stop_most tb.t o.w (at + 1) (rows_in_lem o.n at) stays_set) refl
 
   abbrev before : List (List Bool)
   before = (b.stop refl).bs
@@ -276,14 +295,14 @@ module _ (sheet : HeldSheet) (ds : List (List Bool)) (t u w v n : List ℕ) (at 
   abbrev removed : List Bool
   removed = (b.stop refl).rs
 
-  module _ (h : ℕ) (term : h ≡ max p.term (most_to (λ (i : ℕ). term_of u v (at + 1) (rows_in_lem n at - 1) (get_or u (need_class_place p.next i) 0)) (get_or u (need_count_place p.next) 0))) where
+  module _ (h : ℕ) (term : h ≡ max p.term (most_to (λ (i : ℕ). term_of tb.u o.v (at + 1) (rows_in_lem o.n at - 1) (get_or tb.u (need_class_place p.next i) 0)) (get_or tb.u (need_count_place p.next) 0))) where
     -- where the term is there, the part sums where the next holding part stays are no lower than the stop's
     pub stays_rises : h < inf → p.sums ≤ stays_sum
     stays_rises = stays_more b refl re.left stays_set h stays_sum refl term refl
 
     stays_own : OwnDue sheet ds false (sum_where h stays_sum) (paid + h)
     stays_own =
-        own_due (tree_at sheet (stays_n (stop_node n at paid p) stays_set) (more_blocks before removed false))
+        own_due (tree_at sheet (stays_n (stop_node o.n at paid p) stays_set) (more_blocks before removed false))
         (left_bound (held_bound sheet) 0 (held sheet) (held sheet - (p.next + 1)) (length sheet.positions - (at + 1)) (concat (more_blocks before removed false)) ∙ ap (held_bound sheet) (more_name at_stop b refl re.left false))
         (stays_due b refl re.left stays_set h stays_sum (stays_below b refl re.left stays_set h stays_sum refl term refl) (stays_cheap b refl re.left stays_set h stays_sum refl term refl) stays_low)
         (λ y f. let z = where_there h stays_sum y f in omega (arith, z.1, stays_low, stays_cheap b refl re.left stays_set h stays_sum refl term refl z.0, b.poor, b.inside, b.tables.few, few_next))
@@ -293,46 +312,47 @@ module _ (sheet : HeldSheet) (ds : List (List Bool)) (t u w v n : List ℕ) (at 
     stays_fits limit rest s y roomy f =
         where_there h stays_sum y (open-sums limit (rest + h) (sum_where h stays_sum) s y (λ z g. let k = where_there h stays_sum z g in omega (arith, roomy, k.0, k.1, stays_low)) f)
 
-    module _ (limit rest : ℕ) (s : Search) (w' : List ℕ) (rec : Recalled t w w' (rows_in_lem n at)) where
-      stop_looked : SlotKept at_stop (with_rows at_stop w' v)
+    module _ (limit rest : ℕ) (s : Search) (w' : List ℕ) (rec : Recalled tb.t o.w w' (rows_in_lem o.n at)) where
+      stop_looked : SlotKept at_stop (with_rows at_stop w' o.v)
       stop_looked = looked_kept at_stop b w' rec
 
       -- it is not walked on
-      pub stays_none : open_s limit (rest + h) (sum_where h stays_sum) s ≡ Missing → StayFound sheet ds t u w w' v n at paid p limit rest s (record { there = false; total = 0; stop = p })
+      pub stays_none : open_s limit (rest + h) (sum_where h stays_sum) s ≡ Missing → StayFound sheet ds tb o (looks o w') at paid p limit rest s None
       stays_none f = record {
         h = h;
         y = stays_sum;
+        aside = refl;
+        levels = refl;
         due = stays_own;
-        answers = answers_none limit (rest + h) (sum_where h stays_sum) s f;
+        answers = answers_none total_of limit (rest + h) (sum_where h stays_sum) s f;
         kept = stop_looked;
-        next = λ q. absurd (false≢true q);
-        goes = λ q. absurd (false≢true q);
+        goes = λ q g. cc;
       }
 
       -- it is
       pub stays_some : (set y total : ℕ) → set ≡ stays_set → h < inf → stays_sum ≡ y → open_s limit (rest + h) (sum_where h stays_sum) s ≡ Sum y → total ≡ rest + h + y
-          → StayFound sheet ds t u w w' v n at paid p limit rest s (record { there = true; total = total; stop = record { next = p.next + 1; shut = set; removed = p.removed * 2; sums = y; term = h } })
+          → StayFound sheet ds tb o (looks o w') at paid p limit rest s (Some (record { stop = record { next = p.next + 1; shut = set; removed = p.removed * 2; sums = y; term = h }; total = total }))
       stays_some set y total k l e f g =
           let more = more_blocks before removed false in
           let step = goes_looked false at_stop (stays_slot at_stop before removed stays_set stays_sum h) w' (stays_goes at_stop b refl re.left stays_set h stays_sum refl term refl l stays_low) refl rec in
+          let stop : Stop = record { next = p.next + 1; shut = set; removed = p.removed * 2; sums = y; term = h } in
+          let on = subst (λ (j : ℕ). Goes false (stop_slot sheet ds tb (looks o w') at paid p) (stop_slot sheet more tb (looks o w') at paid (record { next = p.next + 1; shut = j; removed = p.removed * 2; sums = y; term = h }))) (sym k)
+          (subst (λ (j : ℕ). Goes false (stop_slot sheet ds tb (looks o w') at paid p) (stop_slot sheet more tb (looks o w') at paid (record { next = p.next + 1; shut = stays_set; removed = p.removed * 2; sums = j; term = h }))) e step) in
           record {
             h = h;
             y = stays_sum;
+            aside = refl;
+            levels = refl;
             due = stays_own;
-            answers = answers_some limit (rest + h) (sum_where h stays_sum) s y total f g;
+            answers = answers_some total_of limit (rest + h) (sum_where h stays_sum) s y (record { stop = stop; total = total }) f g;
             kept = stop_looked;
-            next = λ _. refl;
-            goes = λ _. (
-              more,
-              subst (λ (j : ℕ). Goes false (stop_slot sheet ds t u w' v n at paid p) (stop_slot sheet more t u w' v n at paid (record { next = p.next + 1; shut = j; removed = p.removed * 2; sums = y; term = h }))) (sym k)
-                  (subst (λ (j : ℕ). Goes false (stop_slot sheet ds t u w' v n at paid p) (stop_slot sheet more t u w' v n at paid (record { next = p.next + 1; shut = stays_set; removed = p.removed * 2; sums = j; term = h }))) e step),
-            );
+            goes = λ q z. let is : record { stop = stop; total = total } ≡ q = cc in subst (λ (q : Decision). (q.stop.next ≡ p.next + 1) × ((ds' : List (List Bool)) × Goes false (stop_slot sheet ds tb (looks o w') at paid p) (stop_slot sheet ds' tb (looks o w') at paid q.stop))) is (refl, (more, on));
           }
 
   -- ---- removed
 
   abbrev price : ℕ
-  price = get_or u (removal_place p.next) 0
+  price = get_or tb.u (removal_place p.next) 0
 
   outs : Goes true at_stop (out_slot at_stop before removed (paid + price))
   outs = out_goes at_stop b refl re.left (paid + price) refl
@@ -343,7 +363,7 @@ module _ (sheet : HeldSheet) (ds : List (List Bool)) (t u w v n : List ℕ) (at 
 
   out_own : OwnDue sheet ds true (Sum p.sums) (paid + (price + p.term))
   out_own =
-      let T = tree_at sheet (out_n (stop_node n at paid p) (paid + price)) (more_blocks before removed true) in
+      let T = tree_at sheet (out_n (stop_node o.n at paid p) (paid + price)) (more_blocks before removed true) in
       let z : paid + price + p.term ≡ paid + (price + p.term) = omega arith in
       own_due T
       (left_bound (held_bound sheet) 0 (held sheet) (held sheet - (p.next + 1)) (length sheet.positions - (at + 1)) (concat (more_blocks before removed true)) ∙ ap (held_bound sheet) (more_name at_stop b refl re.left true))
@@ -352,32 +372,32 @@ module _ (sheet : HeldSheet) (ds : List (List Bool)) (t u w v n : List ℕ) (at 
 
   module _ (limit rest : ℕ) (s : Search) where
     -- it is not walked on
-    pub out_none : open_s limit (rest + (price + p.term)) (Sum p.sums) s ≡ Missing → OutFound sheet ds t u w v n at paid p limit rest s (record { there = false; total = 0; stop = p })
+    pub out_none : open_s limit (rest + (price + p.term)) (Sum p.sums) s ≡ Missing → OutFound sheet ds tb o at paid p limit rest s None
     out_none f = record {
       due = out_own;
-      answers = answers_none limit (rest + (price + p.term)) (Sum p.sums) s f;
-      next = λ q. absurd (false≢true q);
-      goes = λ q. absurd (false≢true q);
+      answers = answers_none total_of limit (rest + (price + p.term)) (Sum p.sums) s f;
+      goes = λ q g. cc;
     }
 
     -- it is
     pub out_some : (y total : ℕ) → open_s limit (rest + (price + p.term)) (Sum p.sums) s ≡ Sum y → total ≡ rest + (price + p.term) + y
-        → OutFound sheet ds t u w v n at paid p limit rest s (record { there = true; total = total; stop = record { next = p.next + 1; shut = p.shut; removed = p.removed * 2 + 1; sums = p.sums; term = p.term } })
-    out_some y total f g = record {
-      due = out_own;
-      answers = answers_some limit (rest + (price + p.term)) (Sum p.sums) s y total f g;
-      next = λ _. refl;
-      goes = λ _. (more_blocks before removed true, outs);
-    }
+        → OutFound sheet ds tb o at paid p limit rest s (Some (record { stop = record { next = p.next + 1; shut = p.shut; removed = p.removed * 2 + 1; sums = p.sums; term = p.term }; total = total }))
+    out_some y total f g =
+        let stop : Stop = record { next = p.next + 1; shut = p.shut; removed = p.removed * 2 + 1; sums = p.sums; term = p.term } in
+        record {
+          due = out_own;
+          answers = answers_some total_of limit (rest + (price + p.term)) (Sum p.sums) s y (record { stop = stop; total = total }) f g;
+          goes = λ q z. let is : record { stop = stop; total = total } ≡ q = cc in subst (λ (q : Decision). (q.stop.next ≡ p.next + 1) × ((ds' : List (List Bool)) × Goes true at_stop (stop_slot sheet ds' tb o at (paid + price) q.stop))) is (refl, (more_blocks before removed true, outs));
+        }
 
 -- ---- a stop whose removals are decided
 
-module _ (sheet : HeldSheet) (ds : List (List Bool)) (t u w v n : List ℕ) (at paid : ℕ) (p : Stop) (de : Decided sheet ds t u w v n at paid p) where
-  abbrev d : At sheet ds t u w v (stop_node n at paid p) p.sums p.term
+module _ {sheet : HeldSheet} {ds : List (List Bool)} {tb : LineTables} {o : LineRows} {at paid : ℕ} {p : Stop} (de : Decided sheet ds tb o at paid p) where
+  abbrev d : At sheet ds tb.t tb.u o.w o.v (stop_node o.n at paid p) p.sums p.term
   d = de.given
 
   -- a stop whose removals are decided gives all that settling it asks, and its removals fit in 32 bits
-  pub settle_needs : SettleAsks t u v w (at + 1) (rows_in_lem n at) × (p.removed < 2 ^ 32)
+  pub settle_needs : SettleAsks tb.t tb.u o.v o.w (at + 1) (rows_in_lem o.n at) × (p.removed < 2 ^ 32)
   settle_needs = settle_asks d (d.stop refl) d.pending refl
 
   -- at a stop to be settled fewer than 64 openings are decided before it
@@ -385,28 +405,28 @@ module _ (sheet : HeldSheet) (ds : List (List Bool)) (t u w v n : List ℕ) (at 
   settle_near = omega (arith, d.inside, d.tables.few)
 
   -- at a stop to be settled the line has at most 64 rows
-  pub settle_rows : rows_in_lem n at ≤ 64
+  pub settle_rows : rows_in_lem o.n at ≤ 64
   settle_rows = let wr = (d.stop refl).before in omega (arith, wr.rows_are.few, wr.size, settle_near)
 
   -- the line's stops with the stop to be settled fit in 64 bits
-  pub settle_mask : mask_in n at * 2 + 1 < 2 ^ 64
+  pub settle_mask : mask_in o.n at * 2 + 1 < 2 ^ 64
   settle_mask =
       let z : 2 ^ (at + 1) ≤ 2 ^ 64 = pow-le-pow_right {n = 2} (omega arith) {i = at + 1} {j = 64} (omega (arith, settle_near)) in
       omega (arith, d.mask, z)
 
   -- with the stop's row, marks and level written the line is given at the next level, and the levels before are kept
-  pub line_settled : (w' v' n' : List ℕ) → StopPut t w w' (at + 1) (rows_in_lem n at) p.shut → StopNoted t u w v v' (at + 1) (rows_in_lem n at) p.shut p.removed
-      → LevelPut n n' (at + 1) (rows_in_lem n at + 1) p.sums p.term (mask_in n at * 2 + 1) → LineSettled sheet ds t u w w' v v' n n' at paid p
+  pub line_settled : (w' v' : List ℕ) (n' : List Level) → StopPut tb.t o.w w' (at + 1) (rows_in_lem o.n at) p.shut → StopNoted tb.t tb.u o.w o.v v' (at + 1) (rows_in_lem o.n at) p.shut p.removed
+      → LevelPut o.n n' (at + 1) (record { rows = rows_in_lem o.n at + 1; sums = p.sums; term = p.term; mask = mask_in o.n at * 2 + 1 }) → LineSettled sheet ds tb o (record { w = w'; v = v'; n = n' }) at paid p
   line_settled w' v' n' put noted level =
-      let r = rows_in_lem n at + 1 in
-      let st : NodeSettled t u w w' v v' (stop_node n at paid p) r = record { no = λ q. absurd (true≢false q); yes = λ _. (refl, put, noted) } in
+      let r = rows_in_lem o.n at + 1 in
+      let st : NodeSettled tb.t tb.u o.w w' o.v v' (stop_node o.n at paid p) r = record { no = λ q. absurd (true≢false q); yes = λ _. (refl, put, noted) } in
       let rest = rests d de.all st in
       let all : held sheet ≡ p.next = omega (arith, de.all, (d.stop refl).next) in
       record {
-        given = at_plain rest.given refl (rows_in_lem n' (at + 1)) (held sheet) (mask_in n' (at + 1)) (sums_in n' (at + 1)) (term_in n' (at + 1)) level.rows_are all level.mask_is level.sums_are level.term_is;
+        given = at_plain rest.given refl (rows_in_lem n' (at + 1)) (held sheet) (mask_in n' (at + 1)) (sums_in n' (at + 1)) (term_in n' (at + 1)) (ap (λ (l : Level). l.rows) level.level_is) all (ap (λ (l : Level). l.mask) level.level_is) (ap (λ (l : Level). l.sums) level.level_is) (ap (λ (l : Level). l.term) level.level_is);
         levels = level.kept;
         best = rest.best;
         kept = λ s'' k.
-            settled_kept (stop_slot sheet ds t u w v n at paid p) w' v' r rest (with_rows (settled_slot (stop_slot sheet ds t u w v n at paid p) w' v' r) s''.w s''.v)
-            (record { same = refl; frame = subst (λ (j : ℕ). Frame t w' s''.w v' s''.v j (at + 1)) level.rows_are k.frame; pending = λ q. absurd (false≢true q) });
+            settled_kept (stop_slot sheet ds tb o at paid p) w' v' r rest (with_rows (settled_slot (stop_slot sheet ds tb o at paid p) w' v' r) s''.w s''.v)
+            (record { same = refl; frame = subst (λ (j : ℕ). Frame tb.t w' s''.w v' s''.v j (at + 1)) (ap (λ (l : Level). l.rows) level.level_is) k.frame; pending = λ q. absurd (false≢true q) });
       }

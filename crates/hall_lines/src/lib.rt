@@ -1,10 +1,9 @@
-// A line of a hall at its own nodes. Beside the line's rows an array has for each number of openings decided, a level, the rows, part sums, term and stops there. A decision writes the next level and none before it.
+// A line of a hall at its own nodes. Beside the line's rows a table has for each number of openings decided, a level, the rows, part sums, term and stops there. A decision writes the next level and none before it.
 #![tactic(auto)]
 
-ghost use Rattle.std.specs.Prelude.{◌≡◌, List, Bool, ℕ, ◌+◌, ◌*◌, ◌<◌, ◌≤◌, ◌^◌, length, get_or};
-ghost use Rattle.lane_rows.specs.Layout.{lane_count_lem, inf};
+ghost use Rattle.std.specs.Prelude.{◌≡◌, List, Bool, ℕ, ◌+◌, ◌*◌, ◌<◌, ◌≤◌, ◌^◌};
 ghost use Rattle.held_rows.specs.Held.{HeldSheet};
-ghost use Rattle.hall_lines.specs.Levels.{level_place, levels_size, LevelPut};
+ghost use Rattle.hall_lines.specs.declared.LineRows.{LineRows};
 ghost use Rattle.hall_lines.specs.Lines.{first_stop_lem, roomy, Opening, Removing, Decided, NoFound, StopFound, StayFound, OutFound, LineSettled};
 
 use branch::Bound;
@@ -16,16 +15,31 @@ use held_stops::settle_stop;
 use lane_rows::{FEES, STACK, TABLES, cell};
 use walk::Search;
 
-// The numbers of all levels, and those of one: its rows, part sums, term and stops.
-pub const LEVELS: usize = 260;
+// What is only read of a line: its tables, and those of its holders.
+pub struct LineTables {
+    pub t: [u32; TABLES],
+    pub u: [u32; HELD],
+}
 
-pub const ROWS: usize = 0;
+// A line's numbers where so many openings are decided: its rows, part sums, term and stops, the latest in the lowest bit.
+#[derive(Clone, Copy)]
+pub struct Level {
+    pub rows: usize,
+    pub sums: u64,
+    pub term: usize,
+    pub mask: u64,
+}
 
-pub const SUMS: usize = 1;
+// How many levels a line has: at most 64 openings are decided.
+pub const LEVELS: usize = 65;
 
-pub const TERM: usize = 2;
-
-pub const MASK: usize = 3;
+// What is written of a line: its rows, what stands beside them, and its levels.
+// Kept as arrays with the number of rows in the level: no heap, fixed memory.
+pub struct LineRows {
+    pub w: [u32; STACK],
+    pub v: [u32; ASIDE],
+    pub n: [Level; LEVELS],
+}
 
 // A stop whose removals are being decided: how many are, the lanes that it is shut to, the removals, the latest in the lowest bit, and its part sums and term.
 #[derive(Clone, Copy)]
@@ -37,161 +51,142 @@ pub struct Stop {
     pub term: usize,
 }
 
-// A number of a level.
-pub fn level(n: &[u64; LEVELS], at: usize, k: usize) -> u64
-    requires { (at ≤ 64) × (k < 4) }
-    ensures { result ≡ get_or n.now (level_place at k) 0 }
-{
-    n[at * 4 + k]
-}
-
-// Writes a level.
-pub fn put_level(n: &mut [u64], at: usize, rows: usize, sums: u64, term: usize, mask: u64)
-    requires { (at ≤ 64) × (length n.old ≡ levels_size) }
-    ensures { LevelPut n.old n.new at rows sums term mask }
-{
-    let k = at * 4;
-    n[k] = rows as u64;
-    n[k + 1] = sums;
-    n[k + 2] = term as u64;
-    n[k + 3] = mask;
-}
-
-// No stop at the line's next opening, if it is walked on: what the hall's estimate is then. `rest` is the estimate without the line's part sums and term.
+// No stop at the line's next opening: the hall's estimate then, if it is walked on. `rest` is the estimate without the line's part sums and term.
 pub fn line_no(
-    t: &[u32; TABLES],
-    u: &[u32; HELD],
-    v: &[u32; ASIDE],
-    w: &mut [u32; STACK],
-    n: &mut [u64; LEVELS],
+    tables: &LineTables,
+    own: &mut LineRows,
     at: usize,
     limit: u64,
     rest: u64,
     s: Search,
-) -> Bound
-    requires { ((sheet : HeldSheet) × ((ds : List (List Bool)) × ((paid : ℕ) × Opening sheet ds t.now u.now w.old v.now n.old at paid))) × roomy rest }
-    ensures { (sheet : HeldSheet) (ds : List (List Bool)) (paid : ℕ) → Opening sheet ds t.now u.now w.old v.now n.old at paid
-        → NoFound sheet ds t.now u.now w.old w.new v.now n.old n.new at paid limit rest s result }
+) -> Option<u64>
+    requires { ((sheet : HeldSheet) × ((ds : List (List Bool)) × ((paid : ℕ) × Opening sheet ds tables.now own.old at paid))) × roomy rest }
+    ensures { (sheet : HeldSheet) (ds : List (List Bool)) (paid : ℕ) → Opening sheet ds tables.now own.old at paid
+        → NoFound sheet ds tables.now own.old own.new at paid limit rest s result }
 {
-    let rows = level(n, at, ROWS) as usize;
-    let mask = level(n, at, MASK);
-    let x = level(n, at, SUMS);
-    let h = opening_term(u, v, at + 1, rows - 1);
-    let Bound::Sum(y) = no_sums(t, w, limit, rest, rows, at + 1, h, x, s) else {
-        return Bound::Missing;
+    let l = own.n[at];
+    let h = opening_term(&tables.u, &own.v, at + 1, l.rows - 1);
+    let Bound::Sum(y) = no_sums(
+        &tables.t,
+        &mut own.w,
+        limit,
+        rest,
+        l.rows,
+        at + 1,
+        h,
+        l.sums,
+        s,
+    ) else {
+        return None;
     };
-    put_level(n, at + 1, rows, y, h, mask * 2);
-    let due = rest + h as u64;
-    let total = due + y;
-    Bound::Sum(total)
+    own.n[at + 1] = Level {
+        rows: l.rows,
+        sums: y,
+        term: h,
+        mask: l.mask * 2,
+    };
+    let total = rest + h as u64 + y;
+    Some(total)
 }
 
 // A stop at the line's next opening, before any removal.
-pub fn first_stop(u: &[u32; HELD], n: &[u64; LEVELS], at: usize) -> Stop
+pub fn first_stop(tables: &LineTables, own: &LineRows, at: usize) -> Stop
     requires { at < 64 }
-    ensures { result ≡ first_stop_lem u.now n.now at }
+    ensures { result ≡ first_stop_lem tables.now.u own.now.n at }
 {
     Stop {
         next: 0,
         shut: 0,
         removed: 0,
-        sums: level(n, at, SUMS),
-        term: number(u, TOPS + (at + 1)),
+        sums: own.n[at].sums,
+        term: number(&tables.u, TOPS + (at + 1)),
     }
 }
 
-// The same, if it is walked on: what the hall's estimate is then. Its row is noted as not ready.
+// The same: what the hall's estimate is then, if it is walked on. Its row is noted as not ready.
 pub fn line_stop(
-    t: &[u32; TABLES],
-    u: &[u32; HELD],
-    v: &mut [u32; ASIDE],
-    n: &[u64; LEVELS],
+    tables: &LineTables,
+    own: &mut LineRows,
     at: usize,
     limit: u64,
     rest: u64,
     s: Search,
-) -> Bound
-    requires { ((sheet : HeldSheet) × ((w : List ℕ) × ((ds : List (List Bool)) × ((paid : ℕ) × Opening sheet ds t.now u.now w v.old n.now at paid)))) × roomy rest }
-    ensures { (sheet : HeldSheet) (w : List ℕ) (ds : List (List Bool)) (paid : ℕ) → Opening sheet ds t.now u.now w v.old n.now at paid
-        → StopFound sheet ds t.now u.now w v.old v.new n.now at paid limit rest s result }
+) -> Option<u64>
+    requires { ((sheet : HeldSheet) × ((ds : List (List Bool)) × ((paid : ℕ) × Opening sheet ds tables.now own.old at paid))) × roomy rest }
+    ensures { (sheet : HeldSheet) (ds : List (List Bool)) (paid : ℕ) → Opening sheet ds tables.now own.old at paid
+        → StopFound sheet ds tables.now own.old own.new at paid limit rest s result }
 {
-    let rows = level(n, at, ROWS) as usize;
-    let x = level(n, at, SUMS);
-    let k = number(u, TOPS + (at + 1));
-    let due = rest + (cell(t, FEES, at) as u64 + k as u64);
-    let Bound::Sum(_) = s.open(limit, due, Bound::Sum(x)) else {
-        return Bound::Missing;
+    let l = own.n[at];
+    let k = number(&tables.u, TOPS + (at + 1));
+    let due = rest + (cell(&tables.t, FEES, at) as u64 + k as u64);
+    let Bound::Sum(_) = s.open(limit, due, Bound::Sum(l.sums)) else {
+        return None;
     };
-    v[READY + rows] = 0;
-    let total = due + x;
-    Bound::Sum(total)
+    own.v[READY + l.rows] = 0;
+    let total = due + l.sums;
+    Some(total)
 }
 
-// A removal decided: whether the node below is walked on, what the hall's estimate is then, and the stop.
-#[derive(Drop)]
+// A removal decided, where the node below is walked on: the stop then, and the hall's estimate.
+#[derive(Clone, Copy)]
 pub struct Decision {
-    pub there: bool,
-    pub total: u64,
     pub stop: Stop,
+    pub total: u64,
 }
 
 // The next holding part is not removed.
 pub fn line_stays(
-    t: &[u32; TABLES],
-    u: &[u32; HELD],
-    v: &[u32; ASIDE],
-    w: &mut [u32; STACK],
-    n: &[u64; LEVELS],
+    tables: &LineTables,
+    own: &mut LineRows,
     at: usize,
     limit: u64,
     rest: u64,
     p: Stop,
     s: Search,
-) -> Decision
-    requires { ((sheet : HeldSheet) × ((ds : List (List Bool)) × ((paid : ℕ) × Removing sheet ds t.now u.now w.old v.now n.now at paid p))) × roomy rest }
-    ensures { (sheet : HeldSheet) (ds : List (List Bool)) (paid : ℕ) → Removing sheet ds t.now u.now w.old v.now n.now at paid p
-        → StayFound sheet ds t.now u.now w.old w.new v.now n.now at paid p limit rest s result }
+) -> Option<Decision>
+    requires { ((sheet : HeldSheet) × ((ds : List (List Bool)) × ((paid : ℕ) × Removing sheet ds tables.now own.old at paid p))) × roomy rest }
+    ensures { (sheet : HeldSheet) (ds : List (List Bool)) (paid : ℕ) → Removing sheet ds tables.now own.old at paid p
+        → StayFound sheet ds tables.now own.old own.new at paid p limit rest s result }
 {
-    let rows = level(n, at, ROWS) as usize;
-    let set = p.shut | number(u, NEED_LANES + p.next);
-    let h = removal_term(u, v, at + 1, rows - 1, p.next, p.term);
-    let Bound::Sum(y) = stay_sums(t, u, w, limit, rest, rows, at + 1, set, h, p.sums, s) else {
-        return Decision {
-            there: false,
-            total: 0,
-            stop: p,
-        };
+    let l = own.n[at];
+    let shut = p.shut | number(&tables.u, NEED_LANES + p.next);
+    let h = removal_term(&tables.u, &own.v, at + 1, l.rows - 1, p.next, p.term);
+    let Bound::Sum(sums) = stay_sums(
+        &tables.t,
+        &tables.u,
+        &mut own.w,
+        limit,
+        rest,
+        l.rows,
+        at + 1,
+        shut,
+        h,
+        p.sums,
+        s,
+    ) else {
+        return None;
     };
     let next = p.next + 1;
     let removed = p.removed * 2;
-    let due = rest + h as u64;
-    let total = due + y;
+    let total = rest + h as u64 + sums;
     let stop = Stop {
         next,
-        shut: set,
+        shut,
         removed,
-        sums: y,
+        sums,
         term: h,
     };
-    Decision {
-        there: true,
-        total,
-        stop,
-    }
+    Some(Decision { stop, total })
 }
 
 // The next holding part is removed.
-pub fn line_out(u: &[u32; HELD], limit: u64, rest: u64, p: Stop, s: Search) -> Decision
-    requires { ((sheet : HeldSheet) × ((ds : List (List Bool)) × ((t : List ℕ) × ((w : List ℕ) × ((v : List ℕ) × ((n : List ℕ) × ((at : ℕ) × ((paid : ℕ) × Removing sheet ds t u.now w v n at paid p)))))))) × roomy rest }
-    ensures { (sheet : HeldSheet) (ds : List (List Bool)) (t w v n : List ℕ) (at paid : ℕ) → Removing sheet ds t u.now w v n at paid p → OutFound sheet ds t u.now w v n at paid p limit rest s result }
+pub fn line_out(tables: &LineTables, limit: u64, rest: u64, p: Stop, s: Search) -> Option<Decision>
+    requires { ((sheet : HeldSheet) × ((ds : List (List Bool)) × ((o : LineRows) × ((at : ℕ) × ((paid : ℕ) × Removing sheet ds tables.now o at paid p))))) × roomy rest }
+    ensures { (sheet : HeldSheet) (ds : List (List Bool)) (o : LineRows) (at paid : ℕ) → Removing sheet ds tables.now o at paid p → OutFound sheet ds tables.now o at paid p limit rest s result }
 {
-    let due = rest + (number(u, REMOVALS + p.next) as u64 + p.term as u64);
+    let due = rest + (number(&tables.u, REMOVALS + p.next) as u64 + p.term as u64);
     let Bound::Sum(_) = s.open(limit, due, Bound::Sum(p.sums)) else {
-        return Decision {
-            there: false,
-            total: 0,
-            stop: p,
-        };
+        return None;
     };
     let next = p.next + 1;
     let removed = p.removed * 2 + 1;
@@ -203,29 +198,30 @@ pub fn line_out(u: &[u32; HELD], limit: u64, rest: u64, p: Stop, s: Search) -> D
         sums: p.sums,
         term: p.term,
     };
-    Decision {
-        there: true,
-        total,
-        stop,
-    }
+    Some(Decision { stop, total })
 }
 
 // The stop whose removals are decided is settled: the line's next level.
-pub fn settle_line(
-    t: &[u32; TABLES],
-    u: &[u32; HELD],
-    v: &mut [u32; ASIDE],
-    w: &mut [u32; STACK],
-    n: &mut [u64; LEVELS],
-    at: usize,
-    p: Stop,
-)
-    requires { (sheet : HeldSheet) × ((ds : List (List Bool)) × ((paid : ℕ) × Decided sheet ds t.now u.now w.old v.old n.old at paid p)) }
-    ensures { (sheet : HeldSheet) (ds : List (List Bool)) (paid : ℕ) → Decided sheet ds t.now u.now w.old v.old n.old at paid p
-        → LineSettled sheet ds t.now u.now w.old w.new v.old v.new n.old n.new at paid p }
+pub fn settle_line(tables: &LineTables, own: &mut LineRows, at: usize, p: Stop)
+    requires { (sheet : HeldSheet) × ((ds : List (List Bool)) × ((paid : ℕ) × Decided sheet ds tables.now own.old at paid p)) }
+    ensures { (sheet : HeldSheet) (ds : List (List Bool)) (paid : ℕ) → Decided sheet ds tables.now own.old at paid p
+        → LineSettled sheet ds tables.now own.old own.new at paid p }
 {
-    let rows = level(n, at, ROWS) as usize;
-    let mask = level(n, at, MASK);
-    settle_stop(t, u, v, w, at + 1, rows, p.shut, p.removed);
-    put_level(n, at + 1, rows + 1, p.sums, p.term, mask * 2 + 1);
+    let l = own.n[at];
+    settle_stop(
+        &tables.t,
+        &tables.u,
+        &mut own.v,
+        &mut own.w,
+        at + 1,
+        l.rows,
+        p.shut,
+        p.removed,
+    );
+    own.n[at + 1] = Level {
+        rows: l.rows + 1,
+        sums: p.sums,
+        term: p.term,
+        mask: l.mask * 2 + 1,
+    };
 }

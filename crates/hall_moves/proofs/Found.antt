@@ -1,11 +1,13 @@
 -- What a line's functions find is a line's move of the hall: no stop and a stop, not removed and removed.
 use Prim.Native.Nat.{ℕ, suc, ◌+◌, ◌<◌, ◌≤◌}
 use mathlib.Core.Path.{◌≡◌, refl, sym, ap, subst, ◌∙◌}
-use mathlib.Core.Bool.{Bool, true, false, false≢true, true≢false}
+use mathlib.Core.Bool.{Bool, true, false}
 use mathlib.Core.List.{List, [], ◌∷◌}
+use Rattle.std.specs.Prelude.{Option, Some, None}
 use native.Mathlib.Omega.{arith}
 use lib.ListN.{length, get_or, set, length-set}
 use lib.Seq.{get_or-set_same, get_or-set_other}
+use Rattle.std.proofs.lemmas.Option.{none-some, same_Some}
 use Rattle.branch.specs.declared.Bound.{Bound}
 use Rattle.branch.specs.declared.Bound.TheVariants.{Missing, Sum}
 use Rattle.branch.specs.Search.{snoc}
@@ -14,26 +16,30 @@ use Rattle.lane_rows.specs.Layout.{fee_place}
 use Rattle.lane_rows.specs.Tables.{sum_where}
 use Rattle.held_lanes.specs.Places.{removal_place}
 use Rattle.walk.specs.declared.Search.{Search}
+use Rattle.walk.specs.State.{open_s}
 use Rattle.hall.specs.Hall.{Hall}
-use Rattle.hall.specs.Agenda.{crew, line, agenda_of, lines_from, lines_of}
+use Rattle.hall.specs.Agenda.{line, agenda_of, lines_from, lines_of}
 use Rattle.hall.specs.Steps.{Asks, Stands}
 use Rattle.hall_nodes.specs.Lines.{Slot, Given, slot_bound, Goes, SlotKept, no_blocks_lem, yes_blocks}
 use Rattle.hall_nodes.proofs.Bounds.{lines_most}
+use Rattle.hall_lines.specs.declared.Level.{Level}
+use Rattle.hall_lines.specs.declared.LineRows.{LineRows}
 use Rattle.hall_lines.specs.declared.Stop.{Stop}
 use Rattle.hall_lines.specs.declared.Decision.{Decision}
-use Rattle.hall_lines.specs.Levels.{sums_in, term_in}
-use Rattle.hall_lines.specs.Lines.{stop_slot, Opening, Removing, NoFound, StopFound, StayFound, OutFound, first_stop_lem, stop_due, roomy}
+use Rattle.hall_lines.specs.Levels.{sums_in, term_in, LevelsKept}
+use Rattle.hall_lines.specs.Lines.{stop_slot, Opening, Removing, OwnDue, Answers, NoFound, StopFound, StayFound, OutFound, first_stop_lem, stop_due, roomy}
 use Rattle.hall_lines.proofs.Levels.{levels_none}
 use Rattle.hall_steps.specs.Steps.{level_in}
-use Rattle.hall_steps.specs.Table.{step_at}
+use Rattle.hall_state.specs.declared.Ground.{Ground}
+use Rattle.hall_state.specs.declared.Question.TheVariants.{LineStop, PartRemoval}
 use Rattle.hall_state.specs.declared.Spot.{Spot}
-use Rattle.hall_state.specs.Courses.{Ground, Arrays, arrays, line_of, Course, course_in, level_slot, stopped_slot, line_slot, slots_at, LineKept, Others}
-use Rattle.hall_state.specs.Spots.{closed_spot, decided_spot, line_spot, stop_spot, left_below, OnCourse}
+use Rattle.hall_state.specs.Courses.{Arrays, no_rows, tables_at, rows_at, Course, course_in, level_slot, slot_by, line_slot, slots_at, LineKept, BestSame, OthersSame}
+use Rattle.hall_state.specs.Spots.{line_spot, stop_spot, left_below, OnCourse}
 use Rattle.hall_state.specs.Moves.{Below}
 use Rattle.hall_state.proofs.Courses.{self_kept, slot_in, others_own, line_given, job_here}
-use Rattle.hall_state.proofs.Left.{raised, raised_asks, raised_no, raised_yes, inner_at_lem}
-use Rattle.hall_state.proofs.Moves.{GoesOn, asked_near, line_below}
-use Rattle.hall_state.proofs.Spots.{cond_no, cond_yes, here_level, here_open, next_level, no_follows, no_on, yes_follows, yes_on, not_calling, stop_level, stop_stopped, removal_follows, removal_on}
+use Rattle.hall_state.proofs.Left.{topic_at, raised, raised_asks, raised_no, raised_yes, inner_at_lem}
+use Rattle.hall_state.proofs.Moves.{GoesOn, LineMoved, asked_near, line_below}
+use Rattle.hall_state.proofs.Spots.{here_level, here_open, next_level, on_past, no_follows, yes_follows, stop_on, stop_stopped, removal_follows}
 use Rattle.hall_moves.specs.Asks.{Asking}
 
 lines_size : (d : ℕ) (jobs : List Job) → length (lines_from d jobs) ≡ length jobs
@@ -41,23 +47,49 @@ unfolding lines_from
 lines_size d [] = refl
 lines_size d (job ∷ jobs) = ap suc (lines_size (suc d) jobs)
 
--- ---- one line's part written
+-- ---- one line's rows written
 
--- where the part of line d is written, line d has what was written
-pub at_same : (xs : List (List ℕ)) (d : ℕ) (x : List ℕ) → d < length xs → line_of (set xs d x) d ≡ x
-at_same xs d x l = get_or-set_same xs d x [] l
+-- where the rows of line d are written, line d has what was written
+pub at_same : (a : Arrays) (d : ℕ) (o : LineRows) → length a ≡ 4 → d < 4 → rows_at (set a d o) d ≡ o
+at_same a d o e l = get_or-set_same a d o no_rows (omega (arith, e, l))
 
--- writing the part of line d leaves the other lines as before
-pub others_set : (xs : List (List ℕ)) (d : ℕ) (x : List ℕ) → Others d xs (set xs d x)
-others_set xs d x = record { size = length-set xs d x; same = λ e n. get_or-set_other xs d e x [] n }
+-- writing the rows of line d leaves the other lines as before
+pub others_set : (a : Arrays) (d : ℕ) (o : LineRows) → OthersSame d a (set a d o)
+others_set a d o = record { size = length-set a d o; same = λ e n. get_or-set_other a d e o no_rows n }
 
--- where nothing is written the lines but the one at place d are as before
-pub others_none : (xs : List (List ℕ)) (d : ℕ) → Others d xs xs
-others_none xs d = record { size = refl; same = λ e n. refl }
+-- ---- the spot below, if there is one
+
+-- the spot of what a line's function answers, if it answers one
+abbrev pub spots : {A : Type 0} → (A → Spot) → Option A → Option Spot
+spots f None = None
+spots f (Some q) = Some (f q)
+
+module _ {hall : Hall} {x : Bool} {g : Ground} {a' : Arrays} {p : Spot} {cs : List Course} {d limit : ℕ} {s : Search} {A : Type 0} {total : A → ℕ} {e : Bound} (h rest : ℕ) {r : Option A} (spot : A → Spot) (answers : Answers total limit (rest + h) e s r)
+    (on : (q : A) → r ≡ Some q → ((spot q).total ≡ total q) × GoesOn hall x g a' p (spot q) cs d) where
+  closes : (t : Option A) → r ≡ t → spots spot t ≡ None → open_s limit (rest + h) e s ≡ Missing
+  closes None f z = answers.closed f
+  closes (Some q) f z = absurd (none-some (spot q) (sym z))
+
+  opens : (t : Option A) → r ≡ t → (u : Spot) → spots spot t ≡ Some u → (y : ℕ) × (open_s limit (rest + h) e s ≡ Sum y) × (u.total ≡ rest + h + y) × GoesOn hall x g a' p u cs d
+  opens None f u z = absurd (none-some u z)
+  opens (Some q) f u z =
+      let w = same_Some (spot q) u z in
+      let y = answers.opened q f in
+      let o = on q f in
+      subst (λ (v : Spot). (n : ℕ) × (open_s limit (rest + h) e s ≡ Sum n) × (v.total ≡ rest + h + n) × GoesOn hall x g a' p v cs d) w (y.0, y.1, o.0 ∙ y.2, o.1)
+
+  -- what a line's function answers is a line's move
+  pub line_moved : {a : Arrays} → OthersSame d a a' → LineKept g a a' d (course_in cs d) → BestSame (rows_at a d).v (rows_at a' d).v (course_in cs d).sheet → OwnDue (course_in cs d).sheet (course_in cs d).blocks x e ((course_in cs d).paid + h)
+      → rest + slot_bound (line_slot g a d (course_in cs d)) ≡ p.total + (course_in cs d).paid → LineMoved hall x g a a' p (spots spot r) cs d limit s
+  line_moved {a} others own best due rest-is = record { others = others; own = own; best = best; e = e; h = h; rest = rest; due = due; rest-is = rest-is; closed = λ z. closes r refl z; opened = λ u z. opens r refl u z }
+
+-- a node below, by an equal answer and an equal spot
+pub below_as : {hall : Hall} {g : Ground} {a a' : Arrays} {p : Spot} {name : List Bool} {cs : List Course} {limit : ℕ} {s : Search} {x y : Bool} {q r : Option Spot} → x ≡ y → q ≡ r → Below hall y g a a' p r name cs limit s → Below hall x g a a' p q name cs limit s
+below_as {hall} {g} {a} {a'} {p} {name} {cs} {limit} {s} {x} {y} {q} {r} e f b = subst (λ (z : Bool). Below hall z g a a' p q name cs limit s) (sym e) (subst (λ (t : Option Spot). Below hall y g a a' p t name cs limit s) (sym f) b)
 
 -- ---- at a line's question
 
-module _ (hall : Hall) (g : Ground) (a : Arrays) (p : Spot) (name : List Bool) (calls : ℕ) (cs : List Course) (k : Asking hall g a p name calls cs) where
+module _ {hall : Hall} {g : Ground} {a : Arrays} {p : Spot} {name : List Bool} {calls : ℕ} {cs : List Course} (k : Asking hall g a p name calls cs) where
   abbrev d : ℕ
   d = p.line
 
@@ -71,341 +103,220 @@ module _ (hall : Hall) (g : Ground) (a : Arrays) (p : Spot) (name : List Bool) (
       omega (arith, l, k.stood.total, at.poor, asked_near hall g.ats p k.crewed k.stood.formed, lines_most hall name (lines_of hall) (slots_at g a 0 cs) at.lines, lines_size 0 hall.jobs, k.crewed.fits.few)
 
   -- the question, and what is left after each answer
-  asks_line_lem : p.calling ≡ false → Asks (agenda_of hall) name (line d)
-  asks_line_lem ec = subst (Asks (agenda_of hall) name) (cond_no (crew (step_at hall p.step)) (line d) ec) (raised_asks (raised hall g.ats p k.crewed.table k.stood.formed k.asked) (agenda_of hall) name k.stood.stands)
+  asks_line_lem : topic_at hall p.step p.line p.asks ≡ line d → Asks (agenda_of hall) name (line d)
+  asks_line_lem e = subst (Asks (agenda_of hall) name) e (raised_asks (raised hall k.crewed.table k.stood.formed k.asked) (agenda_of hall) name k.stood.stands)
 
   -- after either answer, what the spot below leaves is what is left to ask there
   pub stands_after : (x : Bool) → Stands (agenda_of hall) (snoc name x) (left_below hall x p)
-  stands_after false = raised_no (raised hall g.ats p k.crewed.table k.stood.formed k.asked) (agenda_of hall) name k.stood.stands
-  stands_after true = raised_yes (raised hall g.ats p k.crewed.table k.stood.formed k.asked) (agenda_of hall) name k.stood.stands
+  stands_after false = raised_no (raised hall k.crewed.table k.stood.formed k.asked) (agenda_of hall) name k.stood.stands
+  stands_after true = raised_yes (raised hall k.crewed.table k.stood.formed k.asked) (agenda_of hall) name k.stood.stands
 
-  module _ (ec : p.calling ≡ false) (er : p.removing ≡ false) where
+  module _ (e : p.asks ≡ LineStop) where
     -- the line asked at a line's question has a course
     pub line_less : d < length cs
-    line_less = omega (arith, (k.asked.line ec er).0, k.stood.count)
+    line_less = omega (arith, (k.asked.line e).0, k.stood.count)
 
     -- the line asked at a line's question is one of four
     pub line_four : d < 4
-    line_four = omega (arith, (k.asked.line ec er).0, k.crewed.fits.few)
+    line_four = omega (arith, (k.asked.line e).0, k.crewed.fits.few)
 
     -- a line's question is asked at one of the first 64 steps
     pub line_step : p.step < 64
-    line_step = omega (arith, (k.stood.formed.lines ec).0, k.crewed.table.few)
+    line_step = omega (arith, (k.stood.formed.line e).0, k.crewed.table.few)
 
     on : OnCourse g.ats p d c
     on = k.stood.courses d line_less
 
-    -- the line asked has decided as many openings as the step's table says of it
-    pub line_level : c.at ≡ level_in g.ats p.step d
-    line_level = here_level hall g.ats p k.crewed k.stood.formed k.asked ec er c on
-
     -- the line's slot
     is_level : (b : Arrays) → line_slot g b d c ≡ level_slot g b d c
-    is_level b = cond_no (stopped_slot g b d c) (level_slot g b d c) (here_open hall g.ats p k.crewed k.stood.formed k.asked ec er d c on)
+    is_level b = ap (λ (t : Option Stop). slot_by t g b d c) (here_open k.crewed k.stood.formed k.asked e on)
 
-    -- an opening is left to it
-    pub line_opening : Opening c.sheet c.blocks (line_of g.t d) (line_of g.u d) (line_of a.w d) (line_of a.v d) (line_of a.n d) c.at c.paid
-    line_opening =
-        let j = job_here hall name g a cs d line_less k.stood.at.lines in
-        let up = k.crewed.table.within (p.step + 1) d j.job (omega (arith, (k.stood.formed.lines ec).0)) j.placed in
-        record {
-          given = subst Given (is_level a) (line_given hall name g a cs d line_less k.stood.at.lines);
-          less = omega (arith, up, j.openings, line_level, next_level hall g.ats p k.crewed k.stood.formed k.asked ec er);
-        }
+    module _ {at : ℕ} (is : at ≡ level_in g.ats p.step d) where
+      same_level : c.at ≡ at
+      same_level = here_level on ∙ sym is
 
-    -- the estimate without its part sums and term
-    rest_of : (rest at : ℕ) → at ≡ level_in g.ats p.step d → rest + (sums_in (line_of a.n d) at + term_in (line_of a.n d) at) ≡ p.total → rest + slot_bound (line_slot g a d c) ≡ p.total + c.paid
-    rest_of rest at is e =
-        let z = ap slot_bound (is_level a) in
-        let y = ap (λ (x : ℕ). sums_in (line_of a.n d) x + term_in (line_of a.n d) x) (is ∙ sym line_level) in
-        omega (arith, e, z, y)
-
-    -- the line at this level
-    pub opening_at_lem : (at : ℕ) → at ≡ level_in g.ats p.step d → Opening c.sheet c.blocks (line_of g.t d) (line_of g.u d) (line_of a.w d) (line_of a.v d) (line_of a.n d) at c.paid
-    opening_at_lem at is = subst (λ (x : ℕ). Opening c.sheet c.blocks (line_of g.t d) (line_of g.u d) (line_of a.w d) (line_of a.v d) (line_of a.n d) x c.paid) (line_level ∙ sym is) line_opening
-
-    -- its part sums and term are within the hall's estimate
-    pub own_most : (at : ℕ) → at ≡ level_in g.ats p.step d → sums_in (line_of a.n d) at + term_in (line_of a.n d) at ≤ p.total
-    own_most at is =
-        let z = ap slot_bound (is_level a) in
-        let y = ap (λ (x : ℕ). sums_in (line_of a.n d) x + term_in (line_of a.n d) x) (is ∙ sym line_level) in
-        omega (arith, y, z, k.stood.total, others_own d (slots_at g a 0 cs) (line_slot g a d c) (slot_in g a d cs line_less))
-
-    -- the level of the line asked is below 64
-    pub level_near : (at : ℕ) → at ≡ level_in g.ats p.step d → at < 64
-    level_near at is = omega (arith, (opening_at_lem at is).less, (opening_at_lem at is).given.tables.few)
-
-    -- ---- no stop
-
-    module _ (w₁ n₁ : List ℕ) (lw : length a.w ≡ 4) (ln : length a.n ≡ 4) (limit rest : ℕ) (s : Search) (r : Bound) (at : ℕ) (is : at ≡ level_in g.ats p.step d) (rest-is : rest + (sums_in (line_of a.n d) at + term_in (line_of a.n d) at) ≡ p.total)
-        (found : NoFound c.sheet c.blocks (line_of g.t d) (line_of g.u d) (line_of a.w d) w₁ (line_of a.v d) (line_of a.n d) n₁ at c.paid limit rest s r) where
-      abbrev a₁ : Arrays
-      a₁ = arrays (set a.w d w₁) a.v (set a.n d n₁)
-
-      found₁ : NoFound c.sheet c.blocks (line_of g.t d) (line_of g.u d) (line_of a.w d) (line_of a₁.w d) (line_of a.v d) (line_of a.n d) (line_of a₁.n d) c.at c.paid limit rest s r
-      found₁ =
-          subst (λ (x : List ℕ). NoFound c.sheet c.blocks (line_of g.t d) (line_of g.u d) (line_of a.w d) x (line_of a.v d) (line_of a.n d) (line_of a₁.n d) c.at c.paid limit rest s r) (sym (at_same a.w d w₁ (omega (arith, lw, line_four))))
-          (subst (λ (x : List ℕ). NoFound c.sheet c.blocks (line_of g.t d) (line_of g.u d) (line_of a.w d) w₁ (line_of a.v d) (line_of a.n d) x c.at c.paid limit rest s r) (sym (at_same a.n d n₁ (omega (arith, ln, line_four))))
-          (subst (λ (x : ℕ). NoFound c.sheet c.blocks (line_of g.t d) (line_of g.u d) (line_of a.w d) w₁ (line_of a.v d) (line_of a.n d) n₁ x c.paid limit rest s r) (is ∙ sym line_level) found))
-
-      no_kept : LineKept g a a₁ d c
-      no_kept = record {
-        slot = subst (λ (x : Slot). SlotKept x (line_slot g a₁ d c)) (sym (is_level a)) (subst (SlotKept (level_slot g a d c)) (sym (is_level a₁)) found₁.kept);
-        levels = found₁.levels;
-      }
-
-      abbrev no_course_lem : Course
-      no_course_lem = record { sheet = c.sheet; blocks = no_blocks_lem c.blocks; paid = c.paid; at = c.at + 1; stopped = false; stop = c.stop }
-
-      no_goes : (z : ℕ) → r ≡ Sum z → GoesOn hall false g a₁ p (line_spot p (d + 1) z) cs d
-      no_goes z e = record {
-        course = no_course_lem;
-        goes = subst (λ (x : Slot). Goes false x (line_slot g a₁ d no_course_lem)) (sym (is_level a₁)) (found₁.goes z e);
-        sheet = refl;
-        later = omega arith;
-        on = no_on hall g.ats p k.crewed k.stood.formed k.asked ec er z c on no_course_lem refl refl;
-        follows = no_follows hall g.ats p k.crewed k.stood.formed k.asked ec er z;
-      }
-
-      -- where a line's no finds no bound, the hall's node below is closed
-      pub no_closed : r ≡ Missing → Below hall false g a a₁ p (closed_spot p) name cs limit s
-      no_closed f =
-          line_below hall false g a a₁ p (closed_spot p) name calls cs d limit s k.crewed k.stood (asks_line_lem ec) line_less
+      -- an opening is left to the line, at this level
+      pub line_opening : Opening c.sheet c.blocks (tables_at g d) (rows_at a d) at c.paid
+      line_opening =
+          let j = job_here hall name g a cs d line_less k.stood.at.lines in
+          let up = k.crewed.table.within (p.step + 1) d j.job (omega (arith, (k.stood.formed.line e).0)) j.placed in
+          subst (λ (x : ℕ). Opening c.sheet c.blocks (tables_at g d) (rows_at a d) x c.paid) same_level
           (record {
-            others = record { w = others_set a.w d w₁; v = others_none a.v d; n = others_set a.n d n₁ };
-            own = no_kept;
-            best = λ i l. refl;
-            e = sum_where found₁.h found₁.y;
-            h = found₁.h;
-            rest = rest;
-            due = found₁.due;
-            rest-is = rest_of rest at is rest-is;
-            closed = λ _. found₁.answers.closed f;
-            opened = λ t. absurd (false≢true t);
-          }) (stands_after false)
+            given = subst Given (is_level a) (line_given hall name g a cs d line_less k.stood.at.lines);
+            less = omega (arith, up, j.openings, here_level on, next_level k.crewed k.stood.formed k.asked e);
+          })
 
-      -- where a line's no finds a total, the hall's node below is walked on from the next line, with that total
-      pub no_open : (z : ℕ) → r ≡ Sum z → Below hall false g a a₁ p (line_spot p (d + 1) z) name cs limit s
-      no_open z f =
-          line_below hall false g a a₁ p (line_spot p (d + 1) z) name calls cs d limit s k.crewed k.stood (asks_line_lem ec) line_less
-          (record {
-            others = record { w = others_set a.w d w₁; v = others_none a.v d; n = others_set a.n d n₁ };
-            own = no_kept;
-            best = λ i l. refl;
-            e = sum_where found₁.h found₁.y;
-            h = found₁.h;
-            rest = rest;
-            due = found₁.due;
-            rest-is = rest_of rest at is rest-is;
-            closed = λ t. absurd (true≢false t);
-            opened = λ _. let y = found₁.answers.opened z f in (y.0, y.1, y.2, no_goes z f);
-          }) (stands_after false)
+      -- its estimate
+      own_is : slot_bound (line_slot g a d c) ≡ c.paid + sums_in (rows_at a d).n at + term_in (rows_at a d).n at
+      own_is = ap slot_bound (is_level a) ∙ ap (λ (x : ℕ). c.paid + sums_in (rows_at a d).n x + term_in (rows_at a d).n x) same_level
 
-    -- ---- a stop
+      -- its part sums and term are within the hall's estimate
+      pub own_most : sums_in (rows_at a d).n at + term_in (rows_at a d).n at ≤ p.total
+      own_most = omega (arith, own_is, k.stood.total, others_own d (slots_at g a 0 cs) (line_slot g a d c) (slot_in g a d cs line_less))
 
-    module _ (v₁ : List ℕ) (lv : length a.v ≡ 4) (limit rest : ℕ) (s : Search) (r : Bound) (at : ℕ) (is : at ≡ level_in g.ats p.step d) (rest-is : rest + (sums_in (line_of a.n d) at + term_in (line_of a.n d) at) ≡ p.total)
-        (found : StopFound c.sheet c.blocks (line_of g.t d) (line_of g.u d) (line_of a.w d) (line_of a.v d) v₁ (line_of a.n d) at c.paid limit rest s r) where
-      abbrev a₂ : Arrays
-      a₂ = arrays a.w (set a.v d v₁) a.n
+      -- the level of the line asked is below 64
+      pub level_near : at < 64
+      level_near = omega (arith, line_opening.less, line_opening.given.tables.few)
 
-      found₂ : StopFound c.sheet c.blocks (line_of g.t d) (line_of g.u d) (line_of a.w d) (line_of a.v d) (line_of a₂.v d) (line_of a.n d) c.at c.paid limit rest s r
-      found₂ = subst (λ (x : List ℕ). StopFound c.sheet c.blocks (line_of g.t d) (line_of g.u d) (line_of a.w d) (line_of a.v d) x (line_of a.n d) c.at c.paid limit rest s r) (sym (at_same a.v d v₁ (omega (arith, lv, line_four))))
-          (subst (λ (x : ℕ). StopFound c.sheet c.blocks (line_of g.t d) (line_of g.u d) (line_of a.w d) (line_of a.v d) v₁ (line_of a.n d) x c.paid limit rest s r) (is ∙ sym line_level) found)
+      module _ (size : length a ≡ 4) (limit rest : ℕ) (s : Search) (rest-is : rest + (sums_in (rows_at a d).n at + term_in (rows_at a d).n at) ≡ p.total) (o₁ : LineRows) where
+        abbrev a₁ : Arrays
+        a₁ = set a d o₁
 
-      yes_kept : LineKept g a a₂ d c
-      yes_kept = record {
-        slot = subst (λ (x : Slot). SlotKept x (line_slot g a₂ d c)) (sym (is_level a)) (subst (SlotKept (level_slot g a d c)) (sym (is_level a₂)) found₂.kept);
-        levels = levels_none (line_of a.n d) (c.at + 1);
-      }
+        same_rows : o₁ ≡ rows_at a₁ d
+        same_rows = sym (at_same a d o₁ size line_four)
 
-      abbrev stop₂ : Stop
-      stop₂ = first_stop_lem (line_of g.u d) (line_of a.n d) c.at
+        rest_of : rest + slot_bound (line_slot g a d c) ≡ p.total + c.paid
+        rest_of = omega (arith, rest-is, own_is)
 
-      abbrev yes_course : Course
-      yes_course = record { sheet = c.sheet; blocks = yes_blocks c.blocks; paid = c.paid + get_or (line_of g.t d) (fee_place c.at) 0; at = c.at; stopped = true; stop = stop₂ }
+        -- what is kept of a line at its level
+        kept : SlotKept (level_slot g a d c) (level_slot g a₁ d c) → LevelsKept (rows_at a d).n (rows_at a₁ d).n (c.at + 1) → LineKept g a a₁ d c
+        kept f l = record { slot = subst (λ (x : Slot). SlotKept x (line_slot g a₁ d c)) (sym (is_level a)) (subst (SlotKept (level_slot g a d c)) (sym (is_level a₁)) f); levels = l }
 
-      yes_goes : (z : ℕ) → r ≡ Sum z → GoesOn hall true g a₂ p (stop_spot p stop₂ z) cs d
-      yes_goes z e = record {
-        course = yes_course;
-        goes = subst (λ (x : Slot). Goes true x (line_slot g a₂ d yes_course)) (sym (is_level a₂)) (found₂.goes z e);
-        sheet = refl;
-        later = omega arith;
-        on = yes_on hall g.ats p k.crewed k.stood.formed k.asked ec er stop₂ z c on yes_course refl refl refl;
-        follows = yes_follows hall g.ats p k.crewed k.stood.formed k.asked ec er stop₂ z refl;
-      }
+        -- ---- no stop
 
-      -- where a line's stop finds no bound, the hall's node below is closed
-      pub yes_closed : r ≡ Missing → Below hall true g a a₂ p (closed_spot p) name cs limit s
-      yes_closed f =
-          line_below hall true g a a₂ p (closed_spot p) name calls cs d limit s k.crewed k.stood (asks_line_lem ec) line_less
-          (record {
-            others = record { w = others_none a.w d; v = others_set a.v d v₁; n = others_none a.n d };
-            own = yes_kept;
-            best = found₂.best;
-            e = Sum (sums_in (line_of a.n d) c.at);
-            h = stop_due (line_of g.t d) (line_of g.u d) c.at;
-            rest = rest;
-            due = found₂.due;
-            rest-is = rest_of rest at is rest-is;
-            closed = λ _. found₂.answers.closed f;
-            opened = λ t. absurd (false≢true t);
-          }) (stands_after true)
+        -- what a line's no finds is the hall's node below, tested
+        pub no_below : {r : Option ℕ} → NoFound c.sheet c.blocks (tables_at g d) (rows_at a d) o₁ at c.paid limit rest s r → Below hall false g a a₁ p (spots (λ (z : ℕ). line_spot p (d + 1) z) r) name cs limit s
+        no_below {r} found₀ =
+            let found : NoFound c.sheet c.blocks (tables_at g d) (rows_at a d) (rows_at a₁ d) c.at c.paid limit rest s r = subst (λ (o : LineRows). NoFound c.sheet c.blocks (tables_at g d) (rows_at a d) o c.at c.paid limit rest s r) same_rows
+            (subst (λ (x : ℕ). NoFound c.sheet c.blocks (tables_at g d) (rows_at a d) o₁ x c.paid limit rest s r) (sym same_level) found₀) in
+            let c' : Course = record { sheet = c.sheet; blocks = no_blocks_lem c.blocks; paid = c.paid; at = c.at + 1; stop = None } in
+            line_below k.crewed k.stood (asks_line_lem (ap (topic_at hall p.step p.line) e)) line_less
+            (line_moved found.h rest (λ (z : ℕ). line_spot p (d + 1) z) found.answers
+            (λ z f. (
+              refl,
+              record {
+                course = c';
+                goes = subst (λ (x : Slot). Goes false x (line_slot g a₁ d c')) (sym (is_level a₁)) (found.goes z f);
+                sheet = refl;
+                later = omega arith;
+                on = on_past z on (next_level k.crewed k.stood.formed k.asked e) c' refl refl;
+                follows = no_follows k.crewed k.stood.formed k.asked e z;
+              },
+            )) (others_set a d o₁) (kept found.kept found.levels) (subst (λ (v : List ℕ). BestSame (rows_at a d).v v c.sheet) (sym found.aside) (λ i l. refl)) found.due rest_of) (stands_after false)
 
-      -- where a line's stop finds a total, the hall's node below is walked on at that stop, with that total
-      pub yes_open : (z : ℕ) → r ≡ Sum z → Below hall true g a a₂ p (stop_spot p (first_stop_lem (line_of g.u d) (line_of a.n d) at) z) name cs limit s
-      yes_open z f =
-          subst (λ (x : ℕ). Below hall true g a a₂ p (stop_spot p (first_stop_lem (line_of g.u d) (line_of a.n d) x) z) name cs limit s) (line_level ∙ sym is)
-          (line_below hall true g a a₂ p (stop_spot p stop₂ z) name calls cs d limit s k.crewed k.stood (asks_line_lem ec) line_less
-          (record {
-            others = record { w = others_none a.w d; v = others_set a.v d v₁; n = others_none a.n d };
-            own = yes_kept;
-            best = found₂.best;
-            e = Sum (sums_in (line_of a.n d) c.at);
-            h = stop_due (line_of g.t d) (line_of g.u d) c.at;
-            rest = rest;
-            due = found₂.due;
-            rest-is = rest_of rest at is rest-is;
-            closed = λ t. absurd (true≢false t);
-            opened = λ _. let y = found₂.answers.opened z f in (y.0, y.1, y.2, yes_goes z f);
-          }) (stands_after true))
+        -- ---- a stop
+
+        -- what a line's stop finds is the hall's node below, tested
+        pub yes_below : {r : Option ℕ} → StopFound c.sheet c.blocks (tables_at g d) (rows_at a d) o₁ at c.paid limit rest s r
+            → Below hall true g a a₁ p (spots (λ (z : ℕ). stop_spot p (first_stop_lem (tables_at g d).u (rows_at a d).n at) z) r) name cs limit s
+        yes_below {r} found₀ =
+            let found : StopFound c.sheet c.blocks (tables_at g d) (rows_at a d) (rows_at a₁ d) c.at c.paid limit rest s r = subst (λ (o : LineRows). StopFound c.sheet c.blocks (tables_at g d) (rows_at a d) o c.at c.paid limit rest s r) same_rows
+            (subst (λ (x : ℕ). StopFound c.sheet c.blocks (tables_at g d) (rows_at a d) o₁ x c.paid limit rest s r) (sym same_level) found₀) in
+            let stop : Stop = first_stop_lem (tables_at g d).u (rows_at a d).n c.at in
+            let c' : Course = record { sheet = c.sheet; blocks = yes_blocks c.blocks; paid = c.paid + get_or (tables_at g d).t (fee_place c.at) 0; at = c.at; stop = Some stop } in
+            subst (λ (x : ℕ). Below hall true g a a₁ p (spots (λ (z : ℕ). stop_spot p (first_stop_lem (tables_at g d).u (rows_at a d).n x) z) r) name cs limit s) same_level
+            (line_below k.crewed k.stood (asks_line_lem (ap (topic_at hall p.step p.line) e)) line_less
+            (line_moved (stop_due (tables_at g d) c.at) rest (λ (z : ℕ). stop_spot p stop z) found.answers
+            (λ z f. (
+              refl,
+              record {
+                course = c';
+                goes = subst (λ (x : Slot). Goes true x (line_slot g a₁ d c')) (sym (is_level a₁)) (found.goes z f);
+                sheet = refl;
+                later = omega arith;
+                on = stop_on stop z on c' refl refl;
+                follows = yes_follows k.crewed k.stood.formed k.asked e stop z refl;
+              },
+            )) (others_set a d o₁) (kept found.kept (subst (λ (n : List Level). LevelsKept (rows_at a d).n n (c.at + 1)) (sym found.levels) (levels_none (rows_at a d).n (c.at + 1)))) found.best found.due rest_of) (stands_after true))
 
   -- ---- at a removal
 
-  module _ (er : p.removing ≡ true) where
+  module _ {stop : Stop} (e : p.asks ≡ PartRemoval stop) where
     -- the line at hand of a removal has a course
     pub stop_less : d < length cs
-    stop_less = omega (arith, (k.stood.formed.stopped er).1, k.stood.count)
+    stop_less = omega (arith, (k.stood.formed.removal stop e).1, k.stood.count)
 
     -- the line at hand of a removal is one of four
     pub stop_four : d < 4
-    stop_four = omega (arith, (k.stood.formed.stopped er).1, k.crewed.fits.few)
-
-    ec : p.calling ≡ false
-    ec = not_calling hall g.ats p k.stood.formed k.asked er
+    stop_four = omega (arith, (k.stood.formed.removal stop e).1, k.crewed.fits.few)
 
     -- a removal is asked at one of the first 64 steps
     pub stop_step : p.step < 64
-    stop_step = omega (arith, (k.stood.formed.lines ec).0, k.crewed.table.few)
+    stop_step = omega (arith, (k.stood.formed.removal stop e).0, k.crewed.table.few)
 
-    onr : OnCourse g.ats p d c
-    onr = k.stood.courses d stop_less
-
-    -- the line at hand of a removal has decided as many openings as the step's table says of it
-    pub stop_at_lem : c.at ≡ level_in g.ats p.step d
-    stop_at_lem = stop_level hall g.ats p k.stood.formed k.asked er c onr
-
-    at_stop : c.stopped ≡ true
-    at_stop = stop_stopped hall g.ats p k.stood.formed k.asked er c onr
+    on_stop : OnCourse g.ats p d c
+    on_stop = k.stood.courses d stop_less
 
     -- the line's slot at its stop
     abbrev stop_here : Arrays → Slot
-    stop_here b = stop_slot c.sheet c.blocks (line_of g.t d) (line_of g.u d) (line_of b.w d) (line_of b.v d) (line_of b.n d) c.at c.paid p.stop
+    stop_here b = stop_slot c.sheet c.blocks (tables_at g d) (rows_at b d) c.at c.paid stop
 
     is_stop : (b : Arrays) → line_slot g b d c ≡ stop_here b
-    is_stop b =
-        cond_yes (stopped_slot g b d c) (level_slot g b d c) at_stop
-        ∙ ap (stop_slot c.sheet c.blocks (line_of g.t d) (line_of g.u d) (line_of b.w d) (line_of b.v d) (line_of b.n d) c.at c.paid) (onr.stop at_stop)
+    is_stop b = ap (λ (t : Option Stop). slot_by t g b d c) (stop_stopped k.stood.formed e on_stop)
 
     -- a removal is open
-    pub stop_removing : Removing c.sheet c.blocks (line_of g.t d) (line_of g.u d) (line_of a.w d) (line_of a.v d) (line_of a.n d) c.at c.paid p.stop
+    stop_removing : Removing c.sheet c.blocks (tables_at g d) (rows_at a d) c.at c.paid stop
     stop_removing =
         let j = job_here hall name g a cs d stop_less k.stood.at.lines in
         record {
           given = subst Given (is_stop a) (line_given hall name g a cs d stop_less k.stood.at.lines);
-          left = omega (arith, k.asked.removal er, j.holders, inner_at_lem hall.jobs d j.job j.placed);
+          left = omega (arith, k.asked.removal stop e, j.holders, inner_at_lem hall.jobs d j.job j.placed);
         }
 
-    few : p.stop.next < 16
+    few : stop.next < 16
     few = omega (arith, stop_removing.left, stop_removing.given.holders.parts)
 
-    stop-rest : (rest : ℕ) → rest + (p.stop.sums + p.stop.term) ≡ p.total → rest + slot_bound (line_slot g a d c) ≡ p.total + c.paid
-    stop-rest rest e = let z = ap slot_bound (is_stop a) in omega (arith, e, z)
-
     -- the part sums and the term of the stop at hand are within the hall's estimate
-    pub stop_most : p.stop.sums + p.stop.term ≤ p.total
+    pub stop_most : stop.sums + stop.term ≤ p.total
     stop_most =
         let z = ap slot_bound (is_stop a) in
         omega (arith, z, k.stood.total, others_own d (slots_at g a 0 cs) (line_slot g a d c) (slot_in g a d cs stop_less))
 
-    -- the line at this level
-    pub removing_at : (at : ℕ) → at ≡ level_in g.ats p.step d → Removing c.sheet c.blocks (line_of g.t d) (line_of g.u d) (line_of a.w d) (line_of a.v d) (line_of a.n d) at c.paid p.stop
-    removing_at at is = subst (λ (x : ℕ). Removing c.sheet c.blocks (line_of g.t d) (line_of g.u d) (line_of a.w d) (line_of a.v d) (line_of a.n d) x c.paid p.stop) (stop_at_lem ∙ sym is) stop_removing
+    -- the same, whatever its level is called
+    pub removing_at : {at : ℕ} → at ≡ level_in g.ats p.step d → Removing c.sheet c.blocks (tables_at g d) (rows_at a d) at c.paid stop
+    removing_at {at} is = subst (λ (x : ℕ). Removing c.sheet c.blocks (tables_at g d) (rows_at a d) x c.paid stop) (here_level on_stop ∙ sym is) stop_removing
 
-    module _ (w₁ : List ℕ) (lw : length a.w ≡ 4) (limit rest : ℕ) (s : Search) (r : Decision) (at : ℕ) (is : at ≡ level_in g.ats p.step d) (rest-is : rest + (p.stop.sums + p.stop.term) ≡ p.total)
-        (found : StayFound c.sheet c.blocks (line_of g.t d) (line_of g.u d) (line_of a.w d) w₁ (line_of a.v d) (line_of a.n d) at c.paid p.stop limit rest s r) where
-      abbrev a₃ : Arrays
-      a₃ = arrays (set a.w d w₁) a.v a.n
+    -- at the line's own level
+    pub removing_here : Removing c.sheet c.blocks (tables_at g d) (rows_at a d) c.at c.paid stop
+    removing_here = stop_removing
 
-      found₃ : StayFound c.sheet c.blocks (line_of g.t d) (line_of g.u d) (line_of a.w d) (line_of a₃.w d) (line_of a.v d) (line_of a.n d) c.at c.paid p.stop limit rest s r
-      found₃ = subst (λ (x : List ℕ). StayFound c.sheet c.blocks (line_of g.t d) (line_of g.u d) (line_of a.w d) x (line_of a.v d) (line_of a.n d) c.at c.paid p.stop limit rest s r) (sym (at_same a.w d w₁ (omega (arith, lw, stop_four))))
-          (subst (λ (x : ℕ). StayFound c.sheet c.blocks (line_of g.t d) (line_of g.u d) (line_of a.w d) w₁ (line_of a.v d) (line_of a.n d) x c.paid p.stop limit rest s r) (is ∙ sym stop_at_lem) found)
+    -- a part more is decided: the line's course then
+    abbrev decided : List (List Bool) → ℕ → Decision → Course
+    decided ds paid q = record { sheet = c.sheet; blocks = ds; paid = paid; at = c.at; stop = Some q.stop }
+
+    module _ (limit rest : ℕ) (s : Search) (rest-is : rest + (stop.sums + stop.term) ≡ p.total) where
+      stop_rest : rest + slot_bound (line_slot g a d c) ≡ p.total + c.paid
+      stop_rest = let z = ap slot_bound (is_stop a) in omega (arith, rest-is, z)
 
       -- where a part is not removed, what the line finds is the hall's node below, tested
-      pub stays_below : Below hall false g a a₃ p (decided_spot p r) name cs limit s
-      stays_below =
-          line_below hall false g a a₃ p (decided_spot p r) name calls cs d limit s k.crewed k.stood (asks_line_lem ec) stop_less
-          (record {
-            others = record { w = others_set a.w d w₁; v = others_none a.v d; n = others_none a.n d };
-            own = record {
-              slot = subst (λ (x : Slot). SlotKept x (line_slot g a₃ d c)) (sym (is_stop a)) (subst (SlotKept (stop_here a)) (sym (is_stop a₃)) found₃.kept);
-              levels = levels_none (line_of a.n d) (c.at + 1);
-            };
-            best = λ i l. refl;
-            e = sum_where found₃.h found₃.y;
-            h = found₃.h;
-            rest = rest;
-            due = found₃.due;
-            rest-is = stop-rest rest rest-is;
-            closed = λ t. found₃.answers.closed (cond_no (Sum r.total) Missing t);
-            opened = λ t.
-                let y = found₃.answers.opened r.total (cond_yes (Sum r.total) Missing t) in
-                let m = found₃.goes t in
-                let c' : Course = record { sheet = c.sheet; blocks = m.0; paid = c.paid; at = c.at; stopped = true; stop = r.stop } in (
-                  y.0,
-                  y.1,
-                  y.2,
-                  record {
-                    course = c';
-                    goes = subst (λ (x : Slot). Goes false x (line_slot g a₃ d c')) (sym (is_stop a₃)) m.1;
-                    sheet = refl;
-                    later = omega arith;
-                    on = removal_on hall g.ats p k.stood.formed k.asked er r c onr c' refl refl refl;
-                    follows = removal_follows hall g.ats p k.stood.formed k.asked er false r (found₃.next t) few;
-                  },
-                );
-          }) (stands_after false)
+      pub stays_below : length a ≡ 4 → {at : ℕ} → at ≡ level_in g.ats p.step d → {o₁ : LineRows} {r : Option Decision} → StayFound c.sheet c.blocks (tables_at g d) (rows_at a d) o₁ at c.paid stop limit rest s r
+          → Below hall false g a (set a d o₁) p (spots (λ (q : Decision). stop_spot p q.stop q.total) r) name cs limit s
+      stays_below size {at} is {o₁} {r} found₀ =
+          let a₃ : Arrays = set a d o₁ in
+          let found : StayFound c.sheet c.blocks (tables_at g d) (rows_at a d) (rows_at a₃ d) c.at c.paid stop limit rest s r = subst (λ (o : LineRows). StayFound c.sheet c.blocks (tables_at g d) (rows_at a d) o c.at c.paid stop limit rest s r) (sym (at_same a d o₁ size stop_four))
+          (subst (λ (x : ℕ). StayFound c.sheet c.blocks (tables_at g d) (rows_at a d) o₁ x c.paid stop limit rest s r) (is ∙ sym (here_level on_stop)) found₀) in
+          line_below k.crewed k.stood (asks_line_lem (ap (topic_at hall p.step p.line) e)) stop_less
+          (line_moved {e = sum_where found.h found.y} found.h rest (λ (q : Decision). stop_spot p q.stop q.total) found.answers
+          (λ q f.
+          let m = found.goes q f in (
+            refl,
+            record {
+              course = decided m.1.0 c.paid q;
+              goes = subst (λ (x : Slot). Goes false x (line_slot g a₃ d (decided m.1.0 c.paid q))) (sym (is_stop a₃)) m.1.1;
+              sheet = refl;
+              later = omega arith;
+              on = stop_on q.stop q.total on_stop (decided m.1.0 c.paid q) refl refl;
+              follows = removal_follows k.stood.formed e false q.stop q.total m.0 few;
+            },
+          )) (others_set a d o₁)
+          (record { slot = subst (λ (x : Slot). SlotKept x (line_slot g a₃ d c)) (sym (is_stop a)) (subst (SlotKept (stop_here a)) (sym (is_stop a₃)) found.kept); levels = subst (λ (n : List Level). LevelsKept (rows_at a d).n n (c.at + 1)) (sym found.levels) (levels_none (rows_at a d).n (c.at + 1)) })
+          (subst (λ (v : List ℕ). BestSame (rows_at a d).v v c.sheet) (sym found.aside) (λ i l. refl)) found.due stop_rest) (stands_after false)
 
-    module _ (limit rest : ℕ) (s : Search) (r : Decision) (rest-is : rest + (p.stop.sums + p.stop.term) ≡ p.total)
-        (found : OutFound c.sheet c.blocks (line_of g.t d) (line_of g.u d) (line_of a.w d) (line_of a.v d) (line_of a.n d) c.at c.paid p.stop limit rest s r) where
       -- where a part is removed, what the line finds is the hall's node below, tested, with nothing written
-      pub out_below : Below hall true g a a p (decided_spot p r) name cs limit s
-      out_below =
-          let fee = get_or (line_of g.u d) (removal_place p.stop.next) 0 in
-          line_below hall true g a a p (decided_spot p r) name calls cs d limit s k.crewed k.stood (asks_line_lem ec) stop_less
-          (record {
-            others = record { w = others_none a.w d; v = others_none a.v d; n = others_none a.n d };
-            own = self_kept g a d c (line_given hall name g a cs d stop_less k.stood.at.lines);
-            best = λ i l. refl;
-            e = Sum p.stop.sums;
-            h = fee + p.stop.term;
-            rest = rest;
-            due = found.due;
-            rest-is = stop-rest rest rest-is;
-            closed = λ t. found.answers.closed (cond_no (Sum r.total) Missing t);
-            opened = λ t.
-                let y = found.answers.opened r.total (cond_yes (Sum r.total) Missing t) in
-                let m = found.goes t in
-                let c' : Course = record { sheet = c.sheet; blocks = m.0; paid = c.paid + fee; at = c.at; stopped = true; stop = r.stop } in (
-                  y.0,
-                  y.1,
-                  y.2,
-                  record {
-                    course = c';
-                    goes = subst (λ (x : Slot). Goes true x (line_slot g a d c')) (sym (is_stop a)) m.1;
-                    sheet = refl;
-                    later = omega arith;
-                    on = removal_on hall g.ats p k.stood.formed k.asked er r c onr c' refl refl refl;
-                    follows = removal_follows hall g.ats p k.stood.formed k.asked er true r (found.next t) few;
-                  },
-                );
-          }) (stands_after true)
+      pub out_below : {r : Option Decision} → OutFound c.sheet c.blocks (tables_at g d) (rows_at a d) c.at c.paid stop limit rest s r → Below hall true g a a p (spots (λ (q : Decision). stop_spot p q.stop q.total) r) name cs limit s
+      out_below {r} found =
+          let paid = c.paid + get_or (tables_at g d).u (removal_place stop.next) 0 in
+          line_below k.crewed k.stood (asks_line_lem (ap (topic_at hall p.step p.line) e)) stop_less
+          (line_moved (get_or (tables_at g d).u (removal_place stop.next) 0 + stop.term) rest (λ (q : Decision). stop_spot p q.stop q.total) found.answers
+          (λ q f.
+          let m = found.goes q f in (
+            refl,
+            record {
+              course = decided m.1.0 paid q;
+              goes = subst (λ (x : Slot). Goes true x (line_slot g a d (decided m.1.0 paid q))) (sym (is_stop a)) m.1.1;
+              sheet = refl;
+              later = omega arith;
+              on = stop_on q.stop q.total on_stop (decided m.1.0 paid q) refl refl;
+              follows = removal_follows k.stood.formed e true q.stop q.total m.0 few;
+            },
+          )) (record { size = refl; same = λ i n. refl }) (self_kept g a d c (line_given hall name g a cs d stop_less k.stood.at.lines)) (λ i l. refl) found.due stop_rest) (stands_after true)

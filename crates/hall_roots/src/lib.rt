@@ -8,30 +8,28 @@ ghost use Rattle.held_lanes.specs.Tables.{HeldTables};
 ghost use Rattle.hall_roots.specs.Root.{LineBegun};
 
 use branch::Bound;
-use hall_lines::{LEVELS, put_level};
-use held_lanes::{ASIDE, HELD};
+use hall_lines::{Level, LineRows, LineTables};
 use held_walk::first_marks;
-use lane_rows::{STACK, TABLES, base_row, first_sums, term};
+use lane_rows::{base_row, first_sums, term};
 
 // The line's first level over its tables: its first row and marks, its part sums and its term. The line's floor, if it has a plan.
-pub fn begin_line(
-    t: &[u32; TABLES],
-    u: &[u32; HELD],
-    w: &mut [u32; STACK],
-    v: &mut [u32; ASIDE],
-    n: &mut [u64; LEVELS],
-) -> Bound
-    requires { (sheet : HeldSheet) × (Tables (plain sheet) t.now) × (HeldTables sheet u.now) × Classed sheet }
-    ensures { (sheet : HeldSheet) → Tables (plain sheet) t.now → HeldTables sheet u.now → Classed sheet
-        → LineBegun sheet t.now u.now w.new v.new n.new result }
+pub fn begin_line(tables: &LineTables, own: &mut LineRows) -> Bound
+    requires { (sheet : HeldSheet) × (Tables (plain sheet) tables.now.t) × (HeldTables sheet tables.now.u) × Classed sheet }
+    ensures { (sheet : HeldSheet) → Tables (plain sheet) tables.now.t → HeldTables sheet tables.now.u → Classed sheet
+        → LineBegun sheet tables.now own.new result }
 {
-    base_row(w);
-    first_marks(u, v);
-    let g = term(t, 0, 0);
-    let Bound::Sum(x) = first_sums(t) else {
+    base_row(&mut own.w);
+    first_marks(&tables.u, &mut own.v);
+    let g = term(&tables.t, 0, 0);
+    let Bound::Sum(x) = first_sums(&tables.t) else {
         return Bound::Missing;
     };
-    put_level(n, 0, 1, x, g as usize, 0);
+    own.n[0] = Level {
+        rows: 1,
+        sums: x,
+        term: g as usize,
+        mask: 0,
+    };
     let floor = g + x;
     Bound::Sum(floor)
 }

@@ -1,8 +1,9 @@
 -- Lines in the walk's arrays: a line's slot where its part of the arrays is as before or kept, all slots from each line's, and one line's course replaced.
 use Prim.Native.Nat.{ℕ, zero, suc, ◌+◌, ◌<◌, ◌≤◌}
 use mathlib.Core.Path.{◌≡◌, refl, sym, ap, subst, ◌∙◌}
-use mathlib.Core.Bool.{Bool, true, false, cond}
+use mathlib.Core.Bool.{Bool}
 use mathlib.Core.List.{List, [], ◌∷◌, map}
+use Rattle.std.specs.Prelude.{Option, Some, None}
 use native.Mathlib.Omega.{arith}
 use lib.ListN.{length, set, length-map}
 use Rattle.model.specs.Model.{Job, Each, holding, removal_of_lem}
@@ -17,65 +18,64 @@ use Rattle.hall_nodes.specs.Lines.{Slot, Given, slot_bound, SlotOf, lines_sum, o
 use Rattle.hall_nodes.proofs.Going.{looked_kept, kept_then, goes_kept}
 use Rattle.hall_nodes.proofs.Branches.{SameBest}
 use Rattle.hall_lines.specs.Levels.{LevelsKept}
+use Rattle.hall_lines.specs.declared.LineRows.{LineRows}
+use Rattle.hall_lines.specs.declared.Stop.{Stop}
 use Rattle.hall_lines.specs.Lines.{open_slot, stop_slot}
 use Rattle.hall_lines.proofs.Levels.{levels_none, levels_then, level_same, stop_same}
-use Rattle.hall_state.specs.Courses.{Ground, Arrays, line_of, Course, course_in, level_slot, stopped_slot, line_slot, slots_at, LineKept, SameSize, Kept, BestSame}
+use Rattle.hall_state.specs.declared.Ground.{Ground}
+use Rattle.hall_state.specs.Courses.{Arrays, tables_at, rows_at, Course, course_in, level_slot, stopped_slot, slot_by, line_slot, slots_at, LineKept, Kept, BestSame}
 use Rattle.hall_state.specs.Moves.{SameCourses}
 
 -- ---- one line
 
 module _ (g : Ground) where
-  -- the slot by whether the line is at a stop
-  abbrev slot_by : Bool → Arrays → ℕ → Course → Slot
-  slot_by b a d c = cond b (stopped_slot g a d c) (level_slot g a d c)
-
   -- where its levels are kept it has the same slot with other rows
-  pub moved : (a a' : Arrays) (d : ℕ) (c : Course) → LevelsKept (line_of a.n d) (line_of a'.n d) (c.at + 1) → line_slot g a' d c ≡ with_rows (line_slot g a d c) (line_of a'.w d) (line_of a'.v d)
-  moved a a' d c k = go c.stopped
+  pub moved : (a a' : Arrays) (d : ℕ) (c : Course) → LevelsKept (rows_at a d).n (rows_at a' d).n (c.at + 1) → line_slot g a' d c ≡ with_rows (line_slot g a d c) (rows_at a' d).w (rows_at a' d).v
+  moved a a' d c k = go c.stop
     where
-      go : (b : Bool) → slot_by b a' d c ≡ with_rows (slot_by b a d c) (line_of a'.w d) (line_of a'.v d)
-      go true = stop_same c.sheet c.blocks (line_of g.t d) (line_of g.u d) (line_of a'.w d) (line_of a'.v d) (line_of a.n d) (line_of a'.n d) c.at c.paid c.stop k
-      go false = level_same c.sheet c.blocks (line_of g.t d) (line_of g.u d) (line_of a'.w d) (line_of a'.v d) (line_of a.n d) (line_of a'.n d) c.at c.paid k
+      go : (b : Option Stop) → slot_by b g a' d c ≡ with_rows (slot_by b g a d c) (rows_at a' d).w (rows_at a' d).v
+      go None = level_same c.sheet c.blocks (tables_at g d) (rows_at a d) (rows_at a' d) c.at c.paid k
+      go (Some p) = stop_same c.sheet c.blocks (tables_at g d) (rows_at a d) (rows_at a' d) c.at c.paid p k
 
-  -- a line's slot has that line's rows of the arrays, at a stop or at a level
-  pub slot_rows : (a : Arrays) (d : ℕ) (c : Course) → (line_slot g a d c).w ≡ line_of a.w d
-  slot_rows a d c = go c.stopped
+  -- a line's slot has that line's rows, at a stop or at a level
+  pub slot_rows : (a : Arrays) (d : ℕ) (c : Course) → (line_slot g a d c).w ≡ (rows_at a d).w
+  slot_rows a d c = go c.stop
     where
-      go : (b : Bool) → (slot_by b a d c).w ≡ line_of a.w d
-      go true = refl
-      go false = refl
+      go : (b : Option Stop) → (slot_by b g a d c).w ≡ (rows_at a d).w
+      go None = refl
+      go (Some p) = refl
 
-  -- a line's slot has what the arrays hold beside that line's rows
-  pub slot_aside : (a : Arrays) (d : ℕ) (c : Course) → (line_slot g a d c).v ≡ line_of a.v d
-  slot_aside a d c = go c.stopped
+  -- a line's slot has what stands beside that line's rows
+  pub slot_aside : (a : Arrays) (d : ℕ) (c : Course) → (line_slot g a d c).v ≡ (rows_at a d).v
+  slot_aside a d c = go c.stop
     where
-      go : (b : Bool) → (slot_by b a d c).v ≡ line_of a.v d
-      go true = refl
-      go false = refl
+      go : (b : Option Stop) → (slot_by b g a d c).v ≡ (rows_at a d).v
+      go None = refl
+      go (Some p) = refl
 
   -- a line's slot has the sheet of the line's course
   pub slot_sheet : (a : Arrays) (d : ℕ) (c : Course) → (line_slot g a d c).sheet ≡ c.sheet
-  slot_sheet a d c = go c.stopped
+  slot_sheet a d c = go c.stop
     where
-      go : (b : Bool) → (slot_by b a d c).sheet ≡ c.sheet
-      go true = refl
-      go false = refl
+      go : (b : Option Stop) → (slot_by b g a d c).sheet ≡ c.sheet
+      go None = refl
+      go (Some p) = refl
 
   -- a line's slot has the blocks that the line's course has decided
   pub slot_blocks : (a : Arrays) (d : ℕ) (c : Course) → (line_slot g a d c).blocks ≡ c.blocks
-  slot_blocks a d c = go c.stopped
+  slot_blocks a d c = go c.stop
     where
-      go : (b : Bool) → (slot_by b a d c).blocks ≡ c.blocks
-      go true = refl
-      go false = refl
+      go : (b : Option Stop) → (slot_by b g a d c).blocks ≡ c.blocks
+      go None = refl
+      go (Some p) = refl
 
   -- nothing is touched of it
-  pub line_same : (a a' : Arrays) (d : ℕ) (c : Course) → line_of a'.w d ≡ line_of a.w d → line_of a'.v d ≡ line_of a.v d → line_of a'.n d ≡ line_of a.n d → line_slot g a' d c ≡ line_slot g a d c
-  line_same a a' d c ew ev en = go c.stopped
+  pub line_same : (a a' : Arrays) (d : ℕ) (c : Course) → rows_at a' d ≡ rows_at a d → line_slot g a' d c ≡ line_slot g a d c
+  line_same a a' d c e = go c.stop
     where
-      go : (b : Bool) → slot_by b a' d c ≡ slot_by b a d c
-      go true = λ i. stop_slot c.sheet c.blocks (line_of g.t d) (line_of g.u d) (ew i) (ev i) (en i) c.at c.paid c.stop
-      go false = λ i. open_slot c.sheet c.blocks (line_of g.t d) (line_of g.u d) (ew i) (ev i) (en i) c.at c.paid
+      go : (b : Option Stop) → slot_by b g a' d c ≡ slot_by b g a d c
+      go None = ap (λ (o : LineRows). open_slot c.sheet c.blocks (tables_at g d) o c.at c.paid) e
+      go (Some p) = ap (λ (o : LineRows). stop_slot c.sheet c.blocks (tables_at g d) o c.at c.paid p) e
 
   -- once and again
   pub slot_then : (s s' s'' : Slot) → SlotKept s s' → SlotKept s' s'' → SlotKept s s''
@@ -83,30 +83,30 @@ module _ (g : Ground) where
 
   -- a line that is given is kept where nothing is touched of it
   pub self_kept : (a : Arrays) (d : ℕ) (c : Course) → Given (line_slot g a d c) → LineKept g a a d c
-  self_kept a d c h = record { slot = go c.stopped h; levels = levels_none (line_of a.n d) (c.at + 1) }
+  self_kept a d c h = record { slot = go c.stop h; levels = levels_none (rows_at a d).n (c.at + 1) }
     where
-      go : (b : Bool) → Given (slot_by b a d c) → SlotKept (slot_by b a d c) (slot_by b a d c)
-      go true f = looked_kept (stopped_slot g a d c) f (line_of a.w d) (recalled_none (line_of g.t d) (line_of a.w d) (stopped_slot g a d c).node.rows (f.stop refl).before.memo)
-      go false f = looked_kept (level_slot g a d c) f (line_of a.w d) (recalled_none (line_of g.t d) (line_of a.w d) (level_slot g a d c).node.rows (f.opening refl).all.memo)
+      go : (b : Option Stop) → Given (slot_by b g a d c) → SlotKept (slot_by b g a d c) (slot_by b g a d c)
+      go None f = looked_kept (level_slot g a d c) f (rows_at a d).w (recalled_none (tables_at g d).t (rows_at a d).w (level_slot g a d c).node.rows (f.opening refl).all.memo)
+      go (Some p) f = looked_kept (stopped_slot g a d c p) f (rows_at a d).w (recalled_none (tables_at g d).t (rows_at a d).w (stopped_slot g a d c p).node.rows (f.stop refl).before.memo)
 
-  -- a given line is kept where its rows, what stands beside them and its levels are as before
-  pub untouched_kept : (a a' : Arrays) (d : ℕ) (c : Course) → line_of a'.w d ≡ line_of a.w d → line_of a'.v d ≡ line_of a.v d → line_of a'.n d ≡ line_of a.n d → Given (line_slot g a d c) → LineKept g a a' d c
-  untouched_kept a a' d c ew ev en h = record {
-    slot = subst (SlotKept (line_slot g a d c)) (sym (line_same a a' d c ew ev en)) (self_kept a d c h).slot;
-    levels = subst (λ (m : List ℕ). LevelsKept (line_of a.n d) m (c.at + 1)) (sym en) (levels_none (line_of a.n d) (c.at + 1));
+  -- a given line is kept where its rows are as before
+  pub untouched_kept : (a a' : Arrays) (d : ℕ) (c : Course) → rows_at a' d ≡ rows_at a d → Given (line_slot g a d c) → LineKept g a a' d c
+  untouched_kept a a' d c e h = record {
+    slot = subst (SlotKept (line_slot g a d c)) (sym (line_same a a' d c e)) (self_kept a d c h).slot;
+    levels = subst (λ (o : LineRows). LevelsKept (rows_at a d).n o.n (c.at + 1)) (sym e) (levels_none (rows_at a d).n (c.at + 1));
   }
 
-  -- a line kept from the first arrays to the second and from those to the third is kept throughout
+  -- a line kept from the first rows to the second and from those to the third is kept throughout
   pub line_then : (a a' a'' : Arrays) (d : ℕ) (c : Course) → LineKept g a a' d c → LineKept g a' a'' d c → LineKept g a a'' d c
   line_then a a' a'' d c k l = record {
     slot = slot_then (line_slot g a d c) (line_slot g a' d c) (line_slot g a'' d c) k.slot l.slot;
-    levels = levels_then (line_of a.n d) (line_of a'.n d) (line_of a''.n d) (c.at + 1) (c.at + 1) (omega arith) k.levels l.levels;
+    levels = levels_then (rows_at a d).n (rows_at a' d).n (rows_at a'' d).n (c.at + 1) (c.at + 1) (omega arith) k.levels l.levels;
   }
 
   -- what is kept of the line where it has gone on is kept of it
   pub line_goes : (a a' : Arrays) (d : ℕ) (x : Bool) (c c' : Course) → c.at ≤ c'.at → Goes x (line_slot g a d c) (line_slot g a d c') → LineKept g a a' d c' → LineKept g a a' d c
   line_goes a a' d x c c' le go k =
-      let lv = levels_then (line_of a.n d) (line_of a.n d) (line_of a'.n d) (c.at + 1) (c'.at + 1) (omega arith) (levels_none (line_of a.n d) (c.at + 1)) k.levels in
+      let lv = levels_then (rows_at a d).n (rows_at a d).n (rows_at a' d).n (c.at + 1) (c'.at + 1) (omega arith) (levels_none (rows_at a d).n (c.at + 1)) k.levels in
       let z = goes_kept x (line_slot g a d c) (line_slot g a d c') (line_slot g a' d c') go k.slot in
       record {
         slot = subst (SlotKept (line_slot g a d c)) ((λ i. with_rows (line_slot g a d c) (slot_rows a' d c' i) (slot_aside a' d c' i)) ∙ sym (moved a a' d c lv)) z;
@@ -115,12 +115,9 @@ module _ (g : Ground) where
 
 -- ---- all lines
 
-size_then : (a a' a'' : Arrays) → SameSize a a' → SameSize a' a'' → SameSize a a''
-size_then a a' a'' k l = record { w = l.w ∙ k.w; v = l.v ∙ k.v; n = l.n ∙ k.n }
-
 -- lines kept from the first arrays to the second and from those to the third are all kept throughout
 pub all_then : (g : Ground) (a a' a'' : Arrays) (cs : List Course) → Kept g a a' cs → Kept g a' a'' cs → Kept g a a'' cs
-all_then g a a' a'' cs k l = record { size = size_then a a' a'' k.size l.size; each = λ e h. line_then g a a' a'' e (course_in cs e) (k.each e h) (l.each e h) }
+all_then g a a' a'' cs k l = record { size = l.size ∙ k.size; each = λ e h. line_then g a a' a'' e (course_in cs e) (k.each e h) (l.each e h) }
 
 module _ (g : Ground) where
   -- as the nodes' laws have it
@@ -137,24 +134,24 @@ module _ (g : Ground) where
   all_kept_lem a a' cs k = each_kept_lem a a' 0 cs (λ e h. let z : e ≡ 0 + e = omega arith in subst (λ (j : ℕ). SlotKept (line_slot g a j (course_in cs e)) (line_slot g a' j (course_in cs e))) z (k.each e h).slot)
 
   best_each : (a a' : Arrays) (d : ℕ) (cs cs' : List Course) → length cs' ≡ length cs → ((e : ℕ) → e < length cs → (course_in cs' e).sheet ≡ (course_in cs e).sheet)
-      → ((e : ℕ) → e < length cs → BestSame (line_of a.v (d + e)) (line_of a'.v (d + e)) (course_in cs e).sheet) → Each SameBest (slots_at g a d cs) (slots_at g a' d cs')
+      → ((e : ℕ) → e < length cs → BestSame (rows_at a (d + e)).v (rows_at a' (d + e)).v (course_in cs e).sheet) → Each SameBest (slots_at g a d cs) (slots_at g a' d cs')
   best_each a a' d [] [] n f k = tt
   best_each a a' d [] (c' ∷ cs') n f k = absurd (omega (arith, n))
   best_each a a' d (c ∷ cs) [] n f k = absurd (omega (arith, n))
   best_each a a' d (c ∷ cs) (c' ∷ cs') n f k =
       let z : d + 0 ≡ d = omega arith in
-      let b = subst (λ (j : ℕ). BestSame (line_of a.v j) (line_of a'.v j) c.sheet) z (k 0 (omega arith)) in (
+      let b = subst (λ (j : ℕ). BestSame (rows_at a j).v (rows_at a' j).v c.sheet) z (k 0 (omega arith)) in (
         record {
           sheet = slot_sheet g a' d c' ∙ f 0 (omega arith) ∙ sym (slot_sheet g a d c);
           best = subst (λ (v' : List ℕ). BestSame (line_slot g a d c).v v' (line_slot g a d c).sheet) (sym (slot_aside g a' d c'))
-              (subst (λ (v : List ℕ). BestSame v (line_of a'.v d) (line_slot g a d c).sheet) (sym (slot_aside g a d c)) (subst (BestSame (line_of a.v d) (line_of a'.v d)) (sym (slot_sheet g a d c)) b));
+              (subst (λ (v : List ℕ). BestSame v (rows_at a' d).v (line_slot g a d c).sheet) (sym (slot_aside g a d c)) (subst (BestSame (rows_at a d).v (rows_at a' d).v) (sym (slot_sheet g a d c)) b));
         },
-        best_each a a' (suc d) cs cs' (omega (arith, n)) (λ e h. f (suc e) (omega (arith, h))) (λ e h. let y : d + suc e ≡ suc d + e = omega arith in subst (λ (j : ℕ). BestSame (line_of a.v j) (line_of a'.v j) (course_in cs e).sheet) y (k (suc e) (omega (arith, h)))),
+        best_each a a' (suc d) cs cs' (omega (arith, n)) (λ e h. f (suc e) (omega (arith, h))) (λ e h. let y : d + suc e ≡ suc d + e = omega arith in subst (λ (j : ℕ). BestSame (rows_at a j).v (rows_at a' j).v (course_in cs e).sheet) y (k (suc e) (omega (arith, h)))),
       )
 
   -- where the sheets and the incumbent's removals stay, each line's slots over both arrays share them
   pub same_best : (a a' : Arrays) (cs cs' : List Course) → SameCourses a a' cs cs' → Each SameBest (slots_at g a 0 cs) (slots_at g a' 0 cs')
-  same_best a a' cs cs' k = best_each a a' 0 cs cs' k.size k.sheet (λ e h. let z : e ≡ 0 + e = omega arith in subst (λ (j : ℕ). BestSame (line_of a.v j) (line_of a'.v j) (course_in cs e).sheet) z (k.best e h))
+  same_best a a' cs cs' k = best_each a a' 0 cs cs' k.size k.sheet (λ e h. let z : e ≡ 0 + e = omega arith in subst (λ (j : ℕ). BestSame (rows_at a j).v (rows_at a' j).v (course_in cs e).sheet) z (k.best e h))
 
   -- ---- one line among them
 

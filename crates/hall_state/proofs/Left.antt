@@ -1,7 +1,7 @@
 -- What is left to ask at a spot: the question there, and what is left after each answer. Lists of agendas that are asked the same way.
 use Prim.Native.Nat.{ℕ, zero, suc, ◌+◌, ◌-◌, ◌<◌, ◌≤◌}
 use mathlib.Core.Path.{◌≡◌, refl, sym, ap, subst, ◌∙◌}
-use mathlib.Core.Bool.{Bool, true, false, cond}
+use mathlib.Core.Bool.{Bool, true, false}
 use mathlib.Core.List.{List, [], ◌∷◌}
 use native.Mathlib.Omega.{arith}
 use lib.ListN.{length, get_or, drop}
@@ -16,8 +16,11 @@ use Rattle.hall.proofs.Steps.{stands_over, stands_asks, stands_no, stands_yes, t
 use Rattle.hall_steps.specs.Steps.{next_open_lem}
 use Rattle.hall_steps.specs.Table.{step_count, step_at, CrewTable}
 use Rattle.hall_steps.proofs.Asked.{drop_line, next_asked}
+use Rattle.hall_state.specs.declared.Question.{Question}
+use Rattle.hall_state.specs.declared.Question.TheVariants.{CrewCall, LineStop, PartRemoval}
+use Rattle.hall_steps.specs.declared.CrewSteps.{CrewSteps}
 use Rattle.hall_state.specs.declared.Spot.{Spot}
-use Rattle.hall_state.specs.Spots.{inner_at, call_left, line_left, left_of, left_below, Formed, Asked}
+use Rattle.hall_state.specs.Spots.{inner_at, call_left, line_left, left_at, below_at, left_of, left_below, Formed, Asked}
 
 -- asked the same way: what is heard, and the tree below
 pub record SameLeft (l l' : List Agenda) : Type 0 where
@@ -156,7 +159,7 @@ module _ (hall : Hall) where
       }
 
   -- on to the next line that is open, or the next step
-  pub on_line : (ats : List ℕ) (k j m : ℕ) → CrewTable hall ats → k < step_count hall → j + m ≡ length hall.jobs → SameLeft (line_left hall k 0 j) (line_left hall k 0 (next_open_lem ats k j m))
+  pub on_line : (ats : CrewSteps) (k j m : ℕ) → CrewTable hall ats → k < step_count hall → j + m ≡ length hall.jobs → SameLeft (line_left hall k 0 j) (line_left hall k 0 (next_open_lem ats k j m))
   on_line ats k j m t l n =
       same_then (quiet k j) (same_then (same_path (ap (λ (a : Agenda). a ∷ behind k) (next_asked hall.jobs ats k (step_at hall k) (t.tells k l) j m n))) (silent k (next_open_lem ats k j m)))
 
@@ -170,26 +173,23 @@ module _ (hall : Hall) where
   on_end k l = same_then (same_path (ap (λ (a : Agenda). a ∷ []) (ap (steps_asked hall.jobs) (drop_all ℕ (crew_steps hall) k l) ∙ steps_end_lem hall.jobs))) (over_off [])
 
   -- the question's topic
+  abbrev pub topic_at : ℕ → ℕ → Question → Topic
+  topic_at step d CrewCall = crew (step_at hall step)
+  topic_at step d LineStop = line d
+  topic_at step d (PartRemoval stop) = line d
+
+  -- at a spot
   abbrev pub topic_of : Spot → Topic
-  topic_of p = cond p.calling (crew (step_at hall p.step)) (line p.line)
+  topic_of p = topic_at p.step p.line p.asks
 
   -- the question at a spot
-  pub raised : (ats : List ℕ) (p : Spot) → CrewTable hall ats → Formed hall ats p → Asked hall ats p → Raised (left_of hall p) (left_below hall false p) (left_below hall true p) (topic_of p)
-  raised ats p t f a = go p.calling refl p.removing refl
+  pub raised : {ats : CrewSteps} {p : Spot} → CrewTable hall ats → Formed hall ats p → Asked hall ats p → Raised (left_of hall p) (left_below hall false p) (left_below hall true p) (topic_of p)
+  raised {ats} {p} t f a = go p.asks refl
     where
-      left_by : Bool → Bool → List Agenda
-      left_by b r = cond b (call_left hall p.step) (cond r (line_left hall p.step (inner_at hall.jobs p.line - p.stop.next) (p.line + 1)) (line_left hall p.step 0 p.line))
-
-      below_by_lem : Bool → Bool → Bool → List Agenda
-      below_by_lem b r x =
-          cond b (cond x (line_left hall p.step 0 0) (call_left hall (p.step + 1)))
-          (cond r (line_left hall p.step (inner_at hall.jobs p.line - (p.stop.next + 1)) (p.line + 1))
-          (cond x (line_left hall p.step (inner_at hall.jobs p.line - 0) (p.line + 1)) (line_left hall p.step 0 (p.line + 1))))
-
-      go : (b : Bool) → p.calling ≡ b → (r : Bool) → p.removing ≡ r → Raised (left_by b r) (below_by_lem b r false) (below_by_lem b r true) (cond b (crew (step_at hall p.step)) (line p.line))
-      go true e r h = call_raised p.step (a.call e)
-      go false e true h = removal_raised p.step p.line p.stop.next (a.removal h)
-      go false e false h =
-          let o = a.line e h in
+      go : (q : Question) → p.asks ≡ q → Raised (left_at hall p.step p.line q) (below_at hall false p.step p.line q) (below_at hall true p.step p.line q) (topic_at p.step p.line q)
+      go CrewCall e = call_raised p.step (a.call e)
+      go (PartRemoval stop) e = removal_raised p.step p.line stop.next (a.removal stop e)
+      go LineStop e =
+          let o = a.line e in
           let j = drop_line hall.jobs p.line o.0 in
-          line_raised p.step p.line j.0 j.1 j.2 (t.tells p.step (f.lines e).0 p.line j.0 j.1 ∙ o.1)
+          line_raised p.step p.line j.0 j.1 j.2 (t.tells p.step (f.line e).0 p.line j.0 j.1 ∙ o.1)

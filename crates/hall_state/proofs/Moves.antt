@@ -1,7 +1,7 @@
 -- A line's move: where one line goes on, the hall's node below is that line's next node beside the others.
 use Prim.Native.Nat.{ℕ, ◌+◌, ◌<◌, ◌≤◌}
 use mathlib.Core.Path.{◌≡◌, refl, sym, ap, subst, ◌∙◌}
-use mathlib.Core.Bool.{Bool, true, false, cond}
+use mathlib.Core.Bool.{Bool}
 use mathlib.Core.List.{List}
 use native.Mathlib.Omega.{arith}
 use native.Mathlib.Decide.{ℕ_discrete}
@@ -28,14 +28,20 @@ use Rattle.hall_nodes.proofs.Due.{line_due}
 use Rattle.hall_nodes.proofs.Kept.{kept_at}
 use Rattle.hall_lines.specs.Lines.{OwnDue}
 use Rattle.hall_lines.proofs.Lines.{open-sums}
+use Rattle.std.specs.Prelude.{Option, Some, None}
+use Rattle.hall_lines.specs.declared.LineRows.{LineRows}
+use Rattle.hall_state.specs.declared.Ground.{Ground}
+use Rattle.hall_state.specs.declared.Question.{Question}
+use Rattle.hall_state.specs.declared.Question.TheVariants.{CrewCall, LineStop, PartRemoval}
+use Rattle.hall_steps.specs.declared.CrewSteps.{CrewSteps}
 use Rattle.hall_state.specs.declared.Spot.{Spot}
-use Rattle.hall_state.specs.Courses.{Ground, Arrays, line_of, Course, no_course, course_in, line_slot, slots_at, LineKept, Kept, BestSame, OthersSame}
-use Rattle.hall_state.specs.Spots.{left_of, left_below, OnCourse, Formed, asked_of, Stood}
+use Rattle.hall_state.specs.Courses.{Arrays, rows_at, Course, no_course, course_in, line_slot, slots_at, LineKept, Kept, BestSame, OthersSame}
+use Rattle.hall_state.specs.Spots.{left_of, left_below, OnCourse, Formed, asked_in, asked_of, Stood}
 use Rattle.hall_state.specs.Moves.{measure_of, Crewed, Opens, Below}
 use Rattle.hall_state.proofs.Courses.{slot_sheet, slot_blocks, untouched_kept, line_goes, all_kept_lem, slot_in, goes_in, others_own, others_goes, bound_kept, sum_kept, line_given}
 
 -- the spot q is the one below p where line d takes the decision x: nothing but that line's course moves
-pub record Follows (hall : Hall) (x : Bool) (ats : List ℕ) (p q : Spot) (d : ℕ) : Type 0 where
+pub record Follows (hall : Hall) (x : Bool) (ats : CrewSteps) (p q : Spot) (d : ℕ) : Type 0 where
   -- the spot below is one of the hall's
   pub formed : Formed hall ats q
   -- as many steps are asked at the spot below as above
@@ -60,12 +66,12 @@ pub record GoesOn (hall : Hall) (x : Bool) (g : Ground) (a' : Arrays) (p q : Spo
   pub follows : Follows hall x g.ats p q d
 
 -- what a line's move finds: its own node below, tested with the rest of the hall's estimate
-pub record LineMoved (hall : Hall) (x : Bool) (g : Ground) (a a' : Arrays) (p q : Spot) (cs : List Course) (d limit : ℕ) (s : Search) : Type 0 where
+pub record LineMoved (hall : Hall) (x : Bool) (g : Ground) (a a' : Arrays) (p : Spot) (q : Option Spot) (cs : List Course) (d limit : ℕ) (s : Search) : Type 0 where
   pub others : OthersSame d a a'
   -- what the moving line stood on is kept in the new arrays
   pub own : LineKept g a a' d (course_in cs d)
   -- the incumbent's removals of the moving line are unmoved
-  pub best : BestSame (line_of a.v d) (line_of a'.v d) (course_in cs d).sheet
+  pub best : BestSame (rows_at a d).v (rows_at a' d).v (course_in cs d).sheet
   -- the part sums of the line's own node below
   pub e : Bound
   -- the line's fees, removals and term below, beyond what it has paid so far
@@ -76,19 +82,20 @@ pub record LineMoved (hall : Hall) (x : Bool) (g : Ground) (a a' : Arrays) (p q 
   pub due : OwnDue (course_in cs d).sheet (course_in cs d).blocks x e ((course_in cs d).paid + h)
   -- the rest and the line's estimate above are the spot's total and what the line has paid
   pub rest-is : rest + slot_bound (line_slot g a d (course_in cs d)) ≡ p.total + (course_in cs d).paid
-  -- where the spot below is not walked on, the code's test of the node finds nothing
-  pub closed : q.there ≡ false → open_s limit (rest + h) e s ≡ Missing
-  pub opened : q.there ≡ true → (y : ℕ) × (open_s limit (rest + h) e s ≡ Sum y) × (q.total ≡ rest + h + y) × GoesOn hall x g a' p q cs d
+  -- where no spot below is walked on, the code's test of the node finds nothing
+  pub closed : q ≡ None → open_s limit (rest + h) e s ≡ Missing
+  pub opened : (r : Spot) → q ≡ Some r → (y : ℕ) × (open_s limit (rest + h) e s ≡ Sum y) × (r.total ≡ rest + h + y) × GoesOn hall x g a' p r cs d
 
 -- the steps asked are few
-pub asked_near : (hall : Hall) (ats : List ℕ) (p : Spot) → Crewed hall ats → Formed hall ats p → asked_of p ≤ last_step
-asked_near hall ats p t f = go p.calling refl
+pub asked_near : (hall : Hall) (ats : CrewSteps) (p : Spot) → Crewed hall ats → Formed hall ats p → asked_of p ≤ last_step
+asked_near hall ats p t f = go p.asks refl
   where
-    go : (b : Bool) → p.calling ≡ b → p.step + cond b 0 1 ≤ last_step
-    go true e = omega (arith, t.table.few, (f.calling e).0)
-    go false e = omega (arith, t.table.few, (f.lines e).0)
+    go : (q : Question) → p.asks ≡ q → p.step + asked_in q ≤ last_step
+    go CrewCall e = omega (arith, t.table.few, (f.call e).0)
+    go LineStop e = omega (arith, t.table.few, (f.line e).0)
+    go (PartRemoval stop) e = omega (arith, t.table.few, (f.removal stop e).0)
 
-module _ (hall : Hall) (x : Bool) (g : Ground) (a a' : Arrays) (p q : Spot) (name : List Bool) (calls : ℕ) (cs : List Course) (d limit : ℕ) (s : Search) (crewed : Crewed hall g.ats) (st : Stood hall g a p name calls cs) (asks : Asks (agenda_of hall) name (line d)) (less : d < length cs)
+module _ {hall : Hall} {x : Bool} {g : Ground} {a a' : Arrays} {p : Spot} {q : Option Spot} {name : List Bool} {calls : ℕ} {cs : List Course} {d limit : ℕ} {s : Search} (crewed : Crewed hall g.ats) (st : Stood hall g a p name calls cs) (asks : Asks (agenda_of hall) name (line d)) (less : d < length cs)
     (m : LineMoved hall x g a a' p q cs d limit s) where
   abbrev c : Course
   c = course_in cs d
@@ -98,17 +105,17 @@ module _ (hall : Hall) (x : Bool) (g : Ground) (a a' : Arrays) (p q : Spot) (nam
     where
       go : Dec (e ≡ d) → LineKept g a a' e (course_in cs e)
       go (yes z) = subst (λ (j : ℕ). LineKept g a a' j (course_in cs j)) (sym z) m.own
-      go (no z) = untouched_kept g a a' e (course_in cs e) (m.others.w.same e z) (m.others.v.same e z) (m.others.n.same e z) (line_given hall name g a cs e l st.at.lines)
+      go (no z) = untouched_kept g a a' e (course_in cs e) (m.others.same e z) (line_given hall name g a cs e l st.at.lines)
 
   kept : Kept g a a' cs
-  kept = record { size = record { w = m.others.w.size; v = m.others.v.size; n = m.others.n.size }; each = kept_each }
+  kept = record { size = m.others.size; each = kept_each }
 
-  best_each : (e : ℕ) → e < length cs → BestSame (line_of a.v e) (line_of a'.v e) (course_in cs e).sheet
+  best_each : (e : ℕ) → e < length cs → BestSame (rows_at a e).v (rows_at a' e).v (course_in cs e).sheet
   best_each e l = go (ℕ_discrete e d)
     where
-      go : Dec (e ≡ d) → BestSame (line_of a.v e) (line_of a'.v e) (course_in cs e).sheet
-      go (yes z) = subst (λ (j : ℕ). BestSame (line_of a.v j) (line_of a'.v j) (course_in cs j).sheet) (sym z) m.best
-      go (no z) = subst (λ (v : List ℕ). BestSame (line_of a.v e) v (course_in cs e).sheet) (sym (m.others.v.same e z)) (λ i h. refl)
+      go : Dec (e ≡ d) → BestSame (rows_at a e).v (rows_at a' e).v (course_in cs e).sheet
+      go (yes z) = subst (λ (j : ℕ). BestSame (rows_at a j).v (rows_at a' j).v (course_in cs j).sheet) (sym z) m.best
+      go (no z) = subst (λ (o : LineRows). BestSame (rows_at a e).v o.v (course_in cs e).sheet) (sym (m.others.same e z)) (λ i h. refl)
 
   -- the rest of the estimate is the calls, the other lines and what the line has paid
   rest_others : m.rest ≡ calls + others_sum d (slots_at g a 0 cs) + c.paid
@@ -125,7 +132,7 @@ module _ (hall : Hall) (x : Bool) (g : Ground) (a a' : Arrays) (p q : Spot) (nam
       (full (held_bound c.sheet (snoc (concat c.blocks) x))) m.e (c.paid + m.h)
       (record { none = m.due.none; some = m.due.some; fits = λ y f. omega (arith, m.due.low y f) }) own_below m.due.low)
 
-  module _ (k : GoesOn hall x g a' p q cs d) (stands : Stands (agenda_of hall) (snoc name x) (left_below hall x p)) (y : ℕ) (f : open_s limit (m.rest + m.h) m.e s ≡ Sum y) (tot : q.total ≡ m.rest + m.h + y) where
+  module _ {r : Spot} (k : GoesOn hall x g a' p r cs d) (stands : Stands (agenda_of hall) (snoc name x) (left_below hall x p)) (y : ℕ) (f : open_s limit (m.rest + m.h) m.e s ≡ Sum y) (tot : r.total ≡ m.rest + m.h + y) where
     abbrev c' : Course
     c' = k.course
 
@@ -141,17 +148,17 @@ module _ (hall : Hall) (x : Bool) (g : Ground) (a a' : Arrays) (p q : Spot) (nam
     gone : GoesAt d x (slots_at g a' 0 cs) (slots_at g a' 0 cs')
     gone = goes_in g a' d x cs c' less k.goes
 
-    at_below : HallAt hall (snoc name x) (asked_of q) calls (slots_at g a' 0 cs')
+    at_below : HallAt hall (snoc name x) (asked_of r) calls (slots_at g a' 0 cs')
     at_below =
         subst (λ (n : ℕ). HallAt hall (snoc name x) n calls (slots_at g a' 0 cs')) (sym k.follows.asked)
         (line_at hall name d asks x (asked_of p) calls (slots_at g a' 0 cs) (slots_at g a' 0 cs') gone (kept_at hall name (asked_of p) calls (slots_at g a 0 cs) (slots_at g a' 0 cs) (all_kept_lem g a a' cs kept) st.at))
 
-    on_each : (e : ℕ) → e < length cs' → OnCourse g.ats q e (course_in cs' e)
+    on_each : (e : ℕ) → e < length cs' → OnCourse g.ats r e (course_in cs' e)
     on_each e l = go (ℕ_discrete e d)
       where
-        go : Dec (e ≡ d) → OnCourse g.ats q e (course_in cs' e)
-        go (yes z) = subst (λ (j : ℕ). OnCourse g.ats q j (course_in cs' j)) (sym z) (subst (OnCourse g.ats q d) (sym here') k.on)
-        go (no z) = subst (OnCourse g.ats q e) (sym (get_or-set_other cs d e c' no_course z)) (k.follows.others e (course_in cs e) z (st.courses e (omega (arith, l, length-set cs d c'))))
+        go : Dec (e ≡ d) → OnCourse g.ats r e (course_in cs' e)
+        go (yes z) = subst (λ (j : ℕ). OnCourse g.ats r j (course_in cs' j)) (sym z) (subst (OnCourse g.ats r d) (sym here') k.on)
+        go (no z) = subst (OnCourse g.ats r e) (sym (get_or-set_other cs d e c' no_course z)) (k.follows.others e (course_in cs e) z (st.courses e (omega (arith, l, length-set cs d c'))))
 
     sums_are : m.e ≡ Sum y
     sums_are = open-sums limit (m.rest + m.h) m.e s y due_at.fits f
@@ -162,7 +169,7 @@ module _ (hall : Hall) (x : Bool) (g : Ground) (a a' : Arrays) (p q : Spot) (nam
         let n : held_bound (line_slot g a' d c').sheet (concat (line_slot g a' d c').blocks) ≡ held_bound c.sheet (snoc (concat c.blocks) x) = (λ i. held_bound ((k.goes.sheet ∙ slot_sheet g a' d c) i) ((k.goes.name ∙ ap (λ (b : List (List Bool)). snoc (concat b) x) (slot_blocks g a' d c)) i)) in
         sum_inj (held_bound (line_slot g a' d c').sheet (concat (line_slot g a' d c').blocks)) (slot_bound (line_slot g a' d c')) (c.paid + m.h + y) e (n ∙ m.due.some y sums_are)
 
-    total_is : q.total ≡ calls + lines_sum (slots_at g a' 0 cs')
+    total_is : r.total ≡ calls + lines_sum (slots_at g a' 0 cs')
     total_is =
         let b = others_goes d x (slots_at g a' 0 cs) (slots_at g a' 0 cs') (line_slot g a' d (course_in cs' d)) gone (slot_in g a' d cs' less') in
         let o = others_own d (slots_at g a' 0 cs) (line_slot g a' d c) (slot_in g a' d cs less) in
@@ -172,7 +179,7 @@ module _ (hall : Hall) (x : Bool) (g : Ground) (a a' : Arrays) (p q : Spot) (nam
         let i = ap (λ (z : Course). slot_bound (line_slot g a' d z)) here' in
         omega (arith, tot, rest_others, b, o, o', n, j, i, own_is)
 
-    stood_below : Stood hall g a' q (snoc name x) calls cs'
+    stood_below : Stood hall g a' r (snoc name x) calls cs'
     stood_below = record {
       formed = k.follows.formed;
       at = at_below;
@@ -190,16 +197,16 @@ module _ (hall : Hall) (x : Bool) (g : Ground) (a a' : Arrays) (p q : Spot) (nam
         go (no z) = ap (λ (t : Course). t.sheet) (get_or-set_other cs d e c' no_course z)
 
     kept_below : (a'' : Arrays) → Kept g a' a'' cs' → Kept g a' a'' cs
-    kept_below a'' r = record { size = r.size; each = each }
+    kept_below a'' w = record { size = w.size; each = each }
       where
         each : (e : ℕ) → e < length cs → LineKept g a' a'' e (course_in cs e)
         each e l = go (ℕ_discrete e d)
           where
             go : Dec (e ≡ d) → LineKept g a' a'' e (course_in cs e)
-            go (yes z) = subst (λ (j : ℕ). LineKept g a' a'' j (course_in cs j)) (sym z) (line_goes g a' a'' d x c c' k.later k.goes (subst (LineKept g a' a'' d) here' (r.each d less')))
-            go (no z) = subst (LineKept g a' a'' e) (get_or-set_other cs d e c' no_course z) (r.each e (omega (arith, l, length-set cs d c')))
+            go (yes z) = subst (λ (j : ℕ). LineKept g a' a'' j (course_in cs j)) (sym z) (line_goes g a' a'' d x c c' k.later k.goes (subst (LineKept g a' a'' d) here' (w.each d less')))
+            go (no z) = subst (LineKept g a' a'' e) (get_or-set_other cs d e c' no_course z) (w.each e (omega (arith, l, length-set cs d c')))
 
-    opens_below : Opens hall x g a a' p q name cs
+    opens_below : Opens hall x g a a' p r name cs
     opens_below = record {
       calls = calls;
       courses = cs';
@@ -219,5 +226,5 @@ module _ (hall : Hall) (x : Bool) (g : Ground) (a a' : Arrays) (p q : Spot) (nam
     kept = kept;
     same = record { size = refl; sheet = λ e l. refl; best = best_each };
     closed = m.closed;
-    opened = λ t. let r = m.opened t in (r.0, r.1, opens_below r.3 stands r.0 r.1 r.2);
+    opened = λ r t. let o = m.opened r t in (o.0, o.1, opens_below o.3 stands o.0 o.1 o.2);
   }

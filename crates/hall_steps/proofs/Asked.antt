@@ -10,27 +10,28 @@ use Rattle.model.specs.Model.{Job}
 use Rattle.hall.specs.Hall.{Placed}
 use Rattle.hall.specs.Agenda.{lines_asked}
 use Rattle.hall.proofs.Steps.{lines_shut}
+use Rattle.hall_steps.specs.declared.CrewSteps.{CrewSteps}
 use Rattle.hall_steps.specs.Steps.{open_in, next_open_lem, Tells}
 
 -- ---- the places that the code goes over
 
 -- of no lines the next that is open is the place behind them
-pub next_none : (ats : List ℕ) (k d : ℕ) → next_open_lem ats k d 0 ≡ d
+pub next_none : (ats : CrewSteps) (k d : ℕ) → next_open_lem ats k d 0 ≡ d
 unfolding next_open_lem
 next_none ats k d = refl
 
 -- where the line at place d is open, it is the next one
-pub next_here : (ats : List ℕ) (k d m : ℕ) → open_in ats k d ≡ true → next_open_lem ats k d (suc m) ≡ d
+pub next_here : (ats : CrewSteps) (k d m : ℕ) → open_in ats k d ≡ true → next_open_lem ats k d (suc m) ≡ d
 unfolding next_open_lem
 next_here ats k d m e = ap (λ (b : Bool). cond b d (next_open_lem ats k (suc d) m)) e
 
 -- where the line at place d is not open, the next one is sought behind it
-pub next_past : (ats : List ℕ) (k d m : ℕ) → open_in ats k d ≡ false → next_open_lem ats k d (suc m) ≡ next_open_lem ats k (suc d) m
+pub next_past : (ats : CrewSteps) (k d m : ℕ) → open_in ats k d ≡ false → next_open_lem ats k d (suc m) ≡ next_open_lem ats k (suc d) m
 unfolding next_open_lem
 next_past ats k d m e = ap (λ (b : Bool). cond b d (next_open_lem ats k (suc d) m)) e
 
 -- it is no place before d, and at most the one behind the last
-pub next_within : (ats : List ℕ) (k d m : ℕ) → (d ≤ next_open_lem ats k d m) × (next_open_lem ats k d m ≤ d + m)
+pub next_within : (ats : CrewSteps) (k d m : ℕ) → (d ≤ next_open_lem ats k d m) × (next_open_lem ats k d m ≤ d + m)
 unfolding next_open_lem
 next_within ats k d zero = (omega arith, omega arith)
 next_within ats k d (suc m) = go (open_in ats k d) (next_within ats k (suc d) m)
@@ -40,7 +41,7 @@ next_within ats k d (suc m) = go (open_in ats k d) (next_within ats k (suc d) m)
     go false r = (omega (arith, r.0), omega (arith, r.1))
 
 -- it is open there, if it is a line's
-pub next_opens : (ats : List ℕ) (k d m : ℕ) → next_open_lem ats k d m < d + m → open_in ats k (next_open_lem ats k d m) ≡ true
+pub next_opens : (ats : CrewSteps) (k d m : ℕ) → next_open_lem ats k d m < d + m → open_in ats k (next_open_lem ats k d m) ≡ true
 unfolding next_open_lem
 next_opens ats k d zero l = absurd (omega (arith, l))
 next_opens ats k d (suc m) l = go (open_in ats k d) refl l (next_opens ats k (suc d) m)
@@ -50,7 +51,7 @@ next_opens ats k d (suc m) l = go (open_in ats k d) refl l (next_opens ats k (su
     go false e h r = r (omega (arith, h))
 
 -- and none before it is
-pub next_shut : (ats : List ℕ) (k d m e : ℕ) → d ≤ e → e < next_open_lem ats k d m → open_in ats k e ≡ false
+pub next_shut : (ats : CrewSteps) (k d m e : ℕ) → d ≤ e → e < next_open_lem ats k d m → open_in ats k e ≡ false
 unfolding next_open_lem
 next_shut ats k d zero e g l = absurd (omega (arith, g, l))
 next_shut ats k d (suc m) e g l = go (open_in ats k d) refl l (next_shut ats k (suc d) m e)
@@ -72,7 +73,7 @@ drop_line (job ∷ jobs) zero l = (job, refl, refl)
 drop_line (job ∷ jobs) (suc d) l = drop_line jobs d (omega (arith, l))
 
 -- what is asked from place d on is what is asked from the next line on that is open, or nothing
-pub next_asked : (jobs : List Job) (ats : List ℕ) (k step : ℕ) → Tells jobs ats k step → (d m : ℕ) → d + m ≡ length jobs → lines_asked step d (drop d jobs) ≡ lines_asked step (next_open_lem ats k d m) (drop (next_open_lem ats k d m) jobs)
+pub next_asked : (jobs : List Job) (ats : CrewSteps) (k step : ℕ) → Tells jobs ats k step → (d m : ℕ) → d + m ≡ length jobs → lines_asked step d (drop d jobs) ≡ lines_asked step (next_open_lem ats k d m) (drop (next_open_lem ats k d m) jobs)
 unfolding next_open_lem
 next_asked jobs ats k step tells d zero n = refl
 next_asked jobs ats k step tells d (suc m) n = go (open_in ats k d) refl (drop_line jobs d (omega (arith, n))) (next_asked jobs ats k step tells (suc d) m (omega (arith, n)))

@@ -1,22 +1,10 @@
--- The whole table of a hall's steps: a row of four for each step and one behind the last, then how many steps and lines there are, and what a call costs.
-use Rattle.std.specs.Prelude.{ℕ, ◌+◌, ◌<◌, ◌≤◌, ◌≡◌, cond, List, length, get_or}
+-- The whole table of a hall's steps: a row of four for each step and one behind the last, how many steps and lines there are, and what a call costs.
+use Rattle.std.specs.Prelude.{ℕ, ◌+◌, ◌<◌, ◌≤◌, ◌≡◌, cond, length, get_or}
 use Rattle.model.specs.Model.{Job}
 use Rattle.hall.specs.Hall.{Hall, Placed}
 use Rattle.hall.specs.Agenda.{crew_steps}
+use Rattle.hall_steps.specs.declared.CrewSteps.{CrewSteps}
 use Rattle.hall_steps.specs.Steps.{level_in, open_in, Tells}
-
--- the numbers in the table, and the places behind the steps: how many steps, how many lines, and what a call costs
-abbrev pub crew_size : ℕ
-crew_size = 264
-
-abbrev pub steps_place : ℕ
-steps_place = 260
-
-abbrev pub lines_place : ℕ
-lines_place = 261
-
-abbrev pub call_place : ℕ
-call_place = 262
 
 -- how many steps have an opening
 abbrev pub step_count : Hall → ℕ
@@ -27,12 +15,11 @@ abbrev pub step_at : Hall → ℕ → ℕ
 step_at hall k = get_or (crew_steps hall) k 0
 
 -- the table of the hall: which lines are open at each step; a line has one opening more behind a step at which it is open, none before the first step and all behind the last
-pub record CrewTable (hall : Hall) (ats : List ℕ) : Type 0 where
-  pub size : length ats ≡ crew_size
+pub record CrewTable (hall : Hall) (ats : CrewSteps) : Type 0 where
   pub few : step_count hall ≤ 64
-  pub steps_are : get_or ats steps_place 0 ≡ step_count hall
-  pub lines_are : get_or ats lines_place 0 ≡ length hall.jobs
-  pub call_is : get_or ats call_place 0 ≡ hall.call
+  pub steps_are : ats.steps ≡ step_count hall
+  pub lines_are : ats.lines ≡ length hall.jobs
+  pub call_is : ats.call ≡ hall.call
   pub tells : (k : ℕ) → k < step_count hall → Tells hall.jobs ats k (step_at hall k)
   pub rises : (k d : ℕ) → k < step_count hall → d < length hall.jobs → level_in ats (k + 1) d ≡ level_in ats k d + cond (open_in ats k d) 1 0
   pub within : (k d : ℕ) (job : Job) → k ≤ step_count hall → Placed hall.jobs d job → level_in ats k d ≤ length job.openings

@@ -1,7 +1,7 @@
 -- On to the next line that is open at the step, or the next step: no line's course moves.
 use Prim.Native.Nat.{ℕ, ◌+◌, ◌-◌, ◌<◌, ◌≤◌}
 use mathlib.Core.Path.{◌≡◌, refl, sym, ap, subst, ◌∙◌}
-use mathlib.Core.Bool.{Bool, true, false, cond, false≢true, true≢false}
+use mathlib.Core.Bool.{Bool, false, cond}
 use mathlib.Core.List.{List}
 use native.Mathlib.Omega.{arith}
 use native.Mathlib.Decide.{dec_lt}
@@ -14,14 +14,16 @@ use Rattle.hall_nodes.specs.Lines.{HallAt}
 use Rattle.hall_steps.specs.Steps.{level_in, open_in, next_open_lem}
 use Rattle.hall_steps.specs.Table.{step_count}
 use Rattle.hall_steps.proofs.Asked.{next_within, next_opens, next_shut}
+use Rattle.hall_state.specs.declared.Ground.{Ground}
+use Rattle.hall_state.specs.declared.Question.TheVariants.{CrewCall}
 use Rattle.hall_state.specs.declared.Spot.{Spot}
-use Rattle.hall_state.specs.Courses.{Ground, Arrays, Course, slots_at}
+use Rattle.hall_state.specs.Courses.{Arrays, Course, slots_at}
 use Rattle.hall_state.specs.Spots.{line_spot, call_spot, left_of, level_of, Stood}
 use Rattle.hall_state.specs.Moves.{SameCourses, Crewed, Arrived}
 use Rattle.hall_state.proofs.Left.{SameLeft, same_then, on_line, on_step}
 use Rattle.hall_state.proofs.Spots.{cond_no, cond_yes}
 
-module _ (hall : Hall) (g : Ground) (a : Arrays) (p : Spot) (line : ℕ) (name : List Bool) (calls : ℕ) (cs : List Course) (crewed : Crewed hall g.ats) (st : Stood hall g a (line_spot p line p.total) name calls cs) where
+module _ {hall : Hall} {g : Ground} {a : Arrays} (p : Spot) (line : ℕ) {name : List Bool} {calls : ℕ} {cs : List Course} (crewed : Crewed hall g.ats) (st : Stood hall g a (line_spot p line p.total) name calls cs) where
   abbrev q : Spot
   q = line_spot p line p.total
 
@@ -33,11 +35,11 @@ module _ (hall : Hall) (g : Ground) (a : Arrays) (p : Spot) (line : ℕ) (name :
 
   -- the step at hand is one of the hall's
   pub step_in : p.step < step_count hall
-  step_in = (st.formed.lines refl).0
+  step_in = (st.formed.line refl).0
 
   -- the line to go on from is at most the number of the hall's lines
   pub line_in : line ≤ lines
-  line_in = (st.formed.lines refl).1
+  line_in = (st.formed.line refl).1
 
   -- the next line that is open is not before the line at hand, and at most the number of lines
   pub next_in : (line ≤ d) × (d ≤ lines)
@@ -85,23 +87,22 @@ module _ (hall : Hall) (g : Ground) (a : Arrays) (p : Spot) (line : ℕ) (name :
     onto_line = record {
       courses = cs;
       stood = record {
-        formed = record { calling = λ e. absurd (false≢true e); lines = λ _. (step_in, next_in.1); stopped = λ e. absurd (false≢true e) };
+        formed = record { call = λ e. cc; line = λ _. (step_in, next_in.1); removal = λ _ e. cc };
         at = st.at;
         stands = same_line.stands (agenda_of hall) name st.stands;
         count = st.count;
-        courses = λ e l. let o = st.courses e l in record { level = o.level ∙ level_line e (omega (arith, l, st.count)); stopped = o.stopped; stop = o.stop };
+        courses = λ e l. let o = st.courses e l in record { level = o.level ∙ level_line e (omega (arith, l, st.count)); stop = o.stop };
         total = st.total;
       };
       asked = λ _. record {
-        call = λ e. absurd (false≢true e);
-        line = λ _ _. (less, next_opens g.ats p.step line (lines - line) (omega (arith, less, line_in)));
-        removal = λ e. absurd (false≢true e);
+        call = λ e. cc;
+        line = λ _. (less, next_opens g.ats p.step line (lines - line) (omega (arith, less, line_in)));
+        removal = λ _ e. cc;
       };
       tree = same_line.tree (hall_bound hall) name;
       same = same_all;
       kept = λ a'' k. k;
       measure = omega (arith, next_in.0);
-      there = refl;
     }
 
   -- ---- the next step
@@ -121,22 +122,21 @@ module _ (hall : Hall) (g : Ground) (a : Arrays) (p : Spot) (line : ℕ) (name :
     onto_step = record {
       courses = cs;
       stood = record {
-        formed = record { calling = λ _. (omega (arith, step_in), refl, refl); lines = λ e. absurd (true≢false e); stopped = λ e. absurd (false≢true e) };
+        formed = record { call = λ _. (omega (arith, step_in), refl); line = λ e. cc; removal = λ _ e. cc };
         at = (let z : p.step + 1 ≡ p.step + 1 + 0 = omega arith in subst (λ (m : ℕ). HallAt hall name m calls (slots_at g a 0 cs)) z st.at);
         stands = same_step.stands (agenda_of hall) name st.stands;
         count = st.count;
-        courses = λ e l. let o = st.courses e l in record { level = o.level ∙ level_step e (omega (arith, l, st.count)); stopped = o.stopped; stop = o.stop };
+        courses = λ e l. let o = st.courses e l in record { level = o.level ∙ level_step e (omega (arith, l, st.count)); stop = o.stop };
         total = st.total;
       };
-      asked = λ f. record { call = λ _. more f; line = λ e. absurd (true≢false e); removal = λ e. absurd (false≢true e) };
+      asked = λ f. record { call = λ _. more f; line = λ e. cc; removal = λ _ e. cc };
       tree = same_step.tree (hall_bound hall) name;
       same = same_all;
       kept = λ a'' k. k;
       measure = omega (arith, step_in, crewed.table.few);
-      there = refl;
     }
       where
-        more : (true ≡ true → p.step + 1 ≡ step_count hall → ⊥) → p.step + 1 < step_count hall
+        more : (CrewCall ≡ CrewCall → p.step + 1 ≡ step_count hall → ⊥) → p.step + 1 < step_count hall
         more f = go (dec_lt (p.step + 1) (step_count hall))
           where
             go : Dec (p.step + 1 < step_count hall) → p.step + 1 < step_count hall

@@ -1,8 +1,10 @@
 -- What the walk on from a node is made of: the nodes below, one after the other, and a full node.
-use Prim.Native.Nat.{ℕ, suc, ◌+◌, ◌-◌, ◌<◌, ◌≤◌}
+use Prim.Native.Nat.{ℕ, suc, ◌+◌, ◌<◌, ◌≤◌}
 use mathlib.Core.Path.{◌≡◌, refl, sym, ap, subst, ◌∙◌}
-use mathlib.Core.Bool.{Bool, true, false, cond, ◌&&◌, false≢true, true≢false}
+use mathlib.Core.Bool.{Bool, true, false, false≢true}
 use mathlib.Core.List.{List, [], ◌∷◌}
+use Rattle.std.specs.Prelude.{Option, Some, None}
+use Rattle.std.proofs.lemmas.Option.{none-some, same_Some}
 use native.Mathlib.Omega.{arith}
 use borrow.Author.Tests.{le-ltb}
 use lib.Dec.{ltb, eqb}
@@ -11,7 +13,7 @@ use Rattle.branch.specs.declared.Bound.TheVariants.{Sum}
 use Rattle.branch.specs.Search.{Tree, Limited, snoc, limited, onward}
 use Rattle.least.specs.Filled.{FilledBy}
 use Rattle.held_rows.specs.Held.{HeldSheet}
-use Rattle.held_lanes.specs.Places.{removed_place, best_place, aside_size}
+use Rattle.held_lanes.specs.Places.{removed_place, best_place}
 use Rattle.walk.specs.declared.Search.{Search}
 use Rattle.walk.specs.State.{view_of, counted_s, kept_s, reached_s, open_s}
 use Rattle.walk.proofs.Trees.{closed, opened}
@@ -24,18 +26,26 @@ use Rattle.hall_nodes.specs.Lines.{Slot, Given, lines_sum, SlotKept}
 use Rattle.hall_nodes.specs.Walk.{Sees}
 use Rattle.hall_nodes.proofs.Branches.{parts_same, sees_reached, Closes, AllClose, full_walked}
 use Rattle.hall_nodes.proofs.Due.{sums_fit}
-use Rattle.hall_lines.specs.Levels.{mask_in}
-use Rattle.hall_lines.proofs.Levels.{levels_none}
+use Rattle.hall_lines.specs.declared.Level.{Level}
+use Rattle.hall_lines.specs.declared.Stop.{Stop}
+use Rattle.hall_lines.specs.Levels.{mask_in, LevelsKept}
+use Rattle.hall_lines.proofs.Levels.{levels_none, level_same}
 use Rattle.hall_steps.specs.Steps.{level_in}
-use Rattle.hall_steps.specs.Table.{step_count, steps_place, lines_place}
+use Rattle.hall_steps.specs.Table.{step_count}
+use Rattle.held_nodes.specs.State.{Frame}
+use Rattle.hall_state.specs.declared.Ground.{Ground}
+use Rattle.hall_state.specs.declared.Question.{Question}
+use Rattle.hall_state.specs.declared.Question.TheVariants.{CrewCall, LineStop, PartRemoval}
 use Rattle.hall_state.specs.declared.Spot.{Spot}
-use Rattle.hall_state.specs.Courses.{Ground, Arrays, arrays, line_of, Course, course_in, level_slot, stopped_slot, line_slot, slots_at, SameSize, Kept}
-use Rattle.hall_state.specs.Spots.{inner_at, call_left, line_left, left_of, left_below, OnCourse, Formed, asked_of, Stood, Asked}
+use Rattle.hall_state.specs.Courses.{Arrays, tables_at, rows_at, Course, course_in, level_slot, slot_by, line_slot, slots_at, Kept}
+use Rattle.hall_state.specs.Spots.{left_at, left_of, left_below, stop_by, OnCourse, asked_of, Stood, Asked}
 use Rattle.hall_state.specs.Moves.{measure_of, SameCourses, Crewed, Arrived, Below, Passed}
-use Rattle.hall_state.proofs.Courses.{slot_sheet, slot_aside, self_kept, all_then, all_kept_lem, same_best, line_given, job_here}
+use Rattle.hall_state.proofs.Courses.{slot_sheet, all_then, all_kept_lem, same_best, line_given, job_here}
 use Rattle.hall_state.proofs.Left.{SameLeft, same_path, same_then, raised, raised_both, on_end}
 use Rattle.hall_state.proofs.Moves.{asked_near}
-use Rattle.hall_state.proofs.Spots.{cond_no, cond_yes}
+use Rattle.hall_state.proofs.Spots.{cond_no}
+use Rattle.hall_moves.specs.Asks.{Asking}
+use Rattle.hall_calls.proofs.Passes.{asking_kept}
 use Rattle.hall_turns.specs.Turns.{KeptLines}
 use Rattle.hall_walk.specs.Walk.{Reaches, HallWalked, walk_measure}
 
@@ -49,53 +59,58 @@ sees_as hall g a a' cs cs' best masks s k f l = parts_same hall best (lines_of h
 
 -- ---- a node below
 
-module _ (hall : Hall) (x : Bool) (g : Ground) (a a₁ : Arrays) (p q : Spot) (name best : List Bool) (cs : List Course) (masks : List ℕ) (limit : ℕ) (s : Search) (crewed : Crewed hall g.ats) (b : Below hall x g a a₁ p q name cs limit s) (sees : Sees hall best (slots_at g a 0 cs) masks s) where
+module _ {hall : Hall} {x : Bool} {g : Ground} {a a₁ : Arrays} {p : Spot} {q : Option Spot} {name : List Bool} {cs : List Course} {limit : ℕ} {s : Search} (b : Below hall x g a a₁ p q name cs limit s) where
   -- its calls and courses, where it is walked on
-  pub calls_below : (t : Bool) → q.there ≡ t → ℕ
-  calls_below true e = (b.opened e).2.calls
-  calls_below false e = 0
+  pub calls_below : (t : Option Spot) → q ≡ t → ℕ
+  calls_below None e = 0
+  calls_below (Some r) e = (b.opened r e).2.calls
 
   -- its courses
-  pub courses_below : (t : Bool) → q.there ≡ t → List Course
-  courses_below true e = (b.opened e).2.courses
-  courses_below false e = []
+  pub courses_below : (t : Option Spot) → q ≡ t → List Course
+  courses_below None e = []
+  courses_below (Some r) e = (b.opened r e).2.courses
 
+module _ {hall : Hall} {x : Bool} {g : Ground} {a a₁ : Arrays} {p : Spot} {q : Option Spot} {name best : List Bool} {cs : List Course} {masks : List ℕ} {limit : ℕ} {s : Search} (crewed : Crewed hall g.ats) (b : Below hall x g a a₁ p q name cs limit s) (sees : Sees hall best (slots_at g a 0 cs) masks s) where
   -- it is reached
-  pub enters : (t : Bool) (e : q.there ≡ t) → Reaches hall g a₁ q (snoc name x) best (calls_below t e) (courses_below t e) masks limit s
+  pub enters : (t : Option Spot) (e : q ≡ t) → Reaches hall g a₁ q (snoc name x) best (calls_below b t e) (courses_below b t e) masks limit s
   unfolding calls_below courses_below
-  enters true e = record {
-    crewed = crewed;
-    left = left_below hall x p;
-    e = b.e;
-    due = b.due;
-    due_at = b.due_at;
-    closed = λ f. absurd (true≢false (sym e ∙ f));
-    opened = λ _. let o = b.opened e in (o.0, o.1, o.2.stood, o.2.left, sees_as hall g a a₁ cs o.2.courses best masks s o.2.same sees);
-  }
-  enters false e = record {
+  enters (Some r) e =
+      let o = b.opened r e in
+      record {
+        crewed = crewed;
+        left = left_below hall x p;
+        e = b.e;
+        due = b.due;
+        due_at = b.due_at;
+        closed = λ f. absurd (none-some r (sym f ∙ e));
+        opened = λ r' f.
+            subst (λ (t : Spot). (y : ℕ) × (open_s limit b.due b.e s ≡ Sum y) × Stood hall g a₁ t (snoc name x) o.2.calls o.2.courses × (left_of hall t ≡ left_below hall x p) × Sees hall best (slots_at g a₁ 0 o.2.courses) masks s) (same_Some r r' (sym e ∙ f))
+            (o.0, o.1, o.2.stood, o.2.left, sees_as hall g a a₁ cs o.2.courses best masks s o.2.same sees);
+      }
+  enters None e = record {
     crewed = crewed;
     left = left_below hall x p;
     e = b.e;
     due = b.due;
     due_at = b.due_at;
     closed = λ _. b.closed e;
-    opened = λ f. absurd (false≢true (sym e ∙ f));
+    opened = λ r f. absurd (none-some r (sym e ∙ f));
   }
 
   -- what the walk does with it, said of the node above
-  pub back : (t : Bool) (e : q.there ≡ t) (a₂ : Arrays) (masks₂ : List ℕ) (r : Search) → HallWalked hall (enters t e).left g a₁ a₂ q (snoc name x) best (courses_below t e) masks masks₂ limit s r
+  pub back : (t : Option Spot) (e : q ≡ t) {a₂ : Arrays} {masks₂ : List ℕ} {r : Search} → HallWalked hall (enters t e).left g a₁ a₂ q (snoc name x) best (courses_below b t e) masks masks₂ limit s r
       → Passed hall (tree_from (hall_bound hall) (left_below hall x p) (snoc name x)) (snoc name x) best limit g a a₂ cs masks₂ s r
   unfolding courses_below enters
-  back true e a₂ masks₂ r w =
-      let o = (b.opened e).2 in
-      let z = w.walked e in
+  back (Some t) e {a₂} {masks₂} {r} w =
+      let o = (b.opened t e).2 in
+      let z = w.walked t e in
       record {
         found = z.found;
         search = z.search;
         sees = sees_as hall g a₂ a₂ o.courses cs z.found masks₂ r (back_courses a a₁ a₂ cs o.courses o.same) z.sees;
         kept = all_then g a a₁ a₂ cs b.kept (o.kept a₂ z.kept);
       }
-  back false e a₂ masks₂ r w =
+  back None e {a₂} {masks₂} {r} w =
       let z = w.passed e in
       subst (λ (r' : Search). Passed hall (tree_from (hall_bound hall) (left_below hall x p) (snoc name x)) (snoc name x) best limit g a a₂ cs masks₂ s r') (sym z.0)
       (subst (λ (c : Arrays). Passed hall (tree_from (hall_bound hall) (left_below hall x p) (snoc name x)) (snoc name x) best limit g a c cs masks₂ s (reached_s limit s)) (sym z.1)
@@ -118,17 +133,14 @@ close_from g a a' d (c ∷ cs) (m ∷ masks) n f =
       close_from g a a' (suc d) cs masks (omega (arith, n)) (λ e l. let y : d + suc e ≡ suc d + e = omega arith in subst (λ (j : ℕ). Closes (line_slot g a j (course_in cs e)) (line_slot g a' j (course_in cs e)) (get_or masks e 0)) y (f (suc e) (omega (arith, l)))),
     )
 
-module _ (hall : Hall) (g : Ground) (a : Arrays) (p : Spot) (name : List Bool) (calls : ℕ) (cs : List Course) (v₂ : List (List ℕ)) (masks : List ℕ) (crewed : Crewed hall g.ats) (st : Stood hall g a p name calls cs) (end : p.step ≡ step_count hall) (lv : length a.v ≡ 4)
-    (kl : KeptLines a.v v₂ a.n masks g.ats (length hall.jobs)) where
-  abbrev b : Arrays
-  b = arrays a.w v₂ a.n
-
-  is_calling : p.calling ≡ true
-  is_calling = go p.calling refl
+module _ {hall : Hall} {g : Ground} {a b : Arrays} {p : Spot} {name : List Bool} {calls : ℕ} {cs : List Course} {masks : List ℕ} (crewed : Crewed hall g.ats) (st : Stood hall g a p name calls cs) (end : p.step ≡ step_count hall) (kl : KeptLines a b masks g.ats (length hall.jobs)) where
+  is_calling : p.asks ≡ CrewCall
+  is_calling = go p.asks refl
     where
-      go : (t : Bool) → p.calling ≡ t → t ≡ true
-      go true e = refl
-      go false e = absurd (omega (arith, (st.formed.lines e).0, end))
+      go : (t : Question) → p.asks ≡ t → t ≡ CrewCall
+      go CrewCall e = refl
+      go LineStop e = absurd (omega (arith, (st.formed.line e).0, end))
+      go (PartRemoval stop) e = absurd (omega (arith, (st.formed.removal stop e).0, end))
 
   module _ (e : ℕ) (l : e < length cs) where
     abbrev c : Course
@@ -138,16 +150,19 @@ module _ (hall : Hall) (g : Ground) (a : Arrays) (p : Spot) (name : List Bool) (
     ended = st.courses e l
 
     is_level : (x : Arrays) → line_slot g x e c ≡ level_slot g x e c
-    is_level x = cond_no (stopped_slot g x e c) (level_slot g x e c) (ended.stopped ∙ ap (λ (t : Bool). t && eqb e p.line) (st.formed.calling is_calling).2)
+    is_level x = ap (λ (t : Option Stop). slot_by t g x e c) (ended.stop ∙ ap (λ (q : Question). stop_by q (eqb e p.line)) is_calling)
 
     at_end_lem : c.at ≡ level_in g.ats (step_count hall) e
-    at_end_lem = ended.level ∙ cond_no (level_in g.ats (p.step + 1) e) (level_in g.ats p.step e) (ap (ltb e) (st.formed.calling is_calling).1 ∙ le-ltb e 0 (omega arith)) ∙ ap (λ (k : ℕ). level_in g.ats k e) end
+    at_end_lem = ended.level ∙ cond_no (level_in g.ats (p.step + 1) e) (level_in g.ats p.step e) (ap (ltb e) (st.formed.call is_calling).1 ∙ le-ltb e 0 (omega arith)) ∙ ap (λ (k : ℕ). level_in g.ats k e) end
 
     given : Given (level_slot g a e c)
     given = subst Given (is_level a) (line_given hall name g a cs e l st.at.lines)
 
-    filled : FilledBy best_place (λ (i : ℕ). get_or (line_of a.v e) (removed_place i) 0) 64 (line_of a.v e) (line_of v₂ e)
+    filled : FilledBy best_place (λ (i : ℕ). get_or (rows_at a e).v (removed_place i) 0) 64 (rows_at a e).v (rows_at b e).v
     filled = kl.removals e (omega (arith, l, st.count))
+
+    levels : LevelsKept (rows_at a e).n (rows_at b e).n (c.at + 1)
+    levels = subst (λ (n : List Level). LevelsKept (rows_at a e).n n (c.at + 1)) (sym (kl.levels e)) (levels_none (rows_at a e).n (c.at + 1))
 
     closes : Closes (level_slot g a e c) (level_slot g b e c) (get_or masks e 0)
     closes =
@@ -157,16 +172,17 @@ module _ (hall : Hall) (g : Ground) (a : Arrays) (p : Spot) (name : List Bool) (
           settled = refl;
           end = at_end_lem ∙ crewed.table.ends e j.job j.placed ∙ sym j.openings;
           best = filled;
-          mask = kl.masks e (omega (arith, l, st.count)) ∙ ap (mask_in (line_of a.n e)) (ap (λ (k : ℕ). level_in g.ats k e) crewed.table.steps_are ∙ sym at_end_lem);
+          mask = kl.masks e (omega (arith, l, st.count)) ∙ ap (mask_in (rows_at a e).n) (ap (λ (k : ℕ). level_in g.ats k e) crewed.table.steps_are ∙ sym at_end_lem);
         }
 
     kept : SlotKept (level_slot g a e c) (level_slot g b e c)
     kept =
         let wr = (given.opening refl).all in
         record {
-          same = refl;
-          frame = keep_frame (line_of g.t e) (line_of a.w e) (line_of a.v e) (line_of v₂ e) (level_slot g a e c).node.rows c.at (λ (i : ℕ). get_or (line_of a.v e) (removed_place i) 0) wr.memo
-              (omega (arith, wr.rows_are.few, wr.size, given.inside, given.tables.few)) (omega (arith, given.inside, given.tables.few)) filled;
+          same = level_same c.sheet c.blocks (tables_at g e) (rows_at a e) (rows_at b e) c.at c.paid levels;
+          frame = subst (λ (w : List ℕ). Frame (tables_at g e).t (rows_at a e).w w (rows_at a e).v (rows_at b e).v (level_slot g a e c).node.rows c.at) (sym (kl.rows e))
+              (keep_frame (tables_at g e).t (rows_at a e).w (rows_at a e).v (rows_at b e).v (level_slot g a e c).node.rows c.at (λ (i : ℕ). get_or (rows_at a e).v (removed_place i) 0) wr.memo
+              (omega (arith, wr.rows_are.few, wr.size, given.inside, given.tables.few)) (omega (arith, given.inside, given.tables.few)) filled);
           pending = λ q. absurd (false≢true q);
         }
 
@@ -174,10 +190,10 @@ module _ (hall : Hall) (g : Ground) (a : Arrays) (p : Spot) (name : List Bool) (
   pub full_at : Kept g a b cs × AllClose (slots_at g a 0 cs) (slots_at g b 0 cs) masks × SameLeft (left_of hall p) []
   full_at = (
     record {
-      size = record { w = refl; v = kl.size; n = refl };
+      size = kl.size;
       each = λ e l. record {
         slot = subst (λ (x : Slot). SlotKept x (line_slot g b e (course_in cs e))) (sym (is_level e l a)) (subst (SlotKept (level_slot g a e (course_in cs e))) (sym (is_level e l b)) (kept e l));
-        levels = levels_none (line_of a.n e) ((course_in cs e).at + 1);
+        levels = levels e l;
       };
     },
     close_from g a b 0 cs masks (omega (arith, kl.count, st.count, crewed.fits.few))
@@ -185,15 +201,19 @@ module _ (hall : Hall) (g : Ground) (a : Arrays) (p : Spot) (name : List Bool) (
         let z : e ≡ 0 + e = omega arith in
         subst (λ (j : ℕ). Closes (line_slot g a j (course_in cs e)) (line_slot g b j (course_in cs e)) (get_or masks e 0)) z
         (subst (λ (x : Slot). Closes x (line_slot g b e (course_in cs e)) (get_or masks e 0)) (sym (is_level e l a)) (subst (λ (x : Slot). Closes (level_slot g a e (course_in cs e)) x (get_or masks e 0)) (sym (is_level e l b)) (closes e l)))),
-    same_then (same_path (ap (λ (t : Bool). cond t (call_left hall p.step) (cond p.removing (line_left hall p.step (inner_at hall.jobs p.line - p.stop.next) (p.line + 1)) (line_left hall p.step 0 p.line))) is_calling)) (on_end hall p.step (omega (arith, end))),
+    same_then (same_path (ap (left_at hall p.step p.line) is_calling)) (on_end hall p.step (omega (arith, end))),
   )
+
+-- a node that is walked on is within the limit
+pub within : {hall : Hall} {g : Ground} {a : Arrays} {u : Option Spot} {q : Spot} {name best : List Bool} {calls : ℕ} {cs : List Course} {masks : List ℕ} {limit : ℕ} {s : Search} → Reaches hall g a u name best calls cs masks limit s → u ≡ Some q → s.count < limit
+within {hall} {g} {a} {u} {q} {name} {best} {calls} {cs} {masks} {limit} {s} h e = let o = h.opened q e in (opened h.due_at name limit (λ _. best) s o.0 o.1).within
 
 -- ---- the node itself
 
-module _ (hall : Hall) (g : Ground) (a a₁ : Arrays) (q p : Spot) (name best : List Bool) (calls : ℕ) (cs : List Course) (masks : List ℕ) (limit : ℕ) (s : Search) (h : Reaches hall g a q name best calls cs masks limit s) (there : q.there ≡ true)
+module _ {hall : Hall} {g : Ground} {a a₁ : Arrays} {u : Option Spot} {q p : Spot} {name best : List Bool} {calls : ℕ} {cs : List Course} {masks : List ℕ} {limit : ℕ} {s : Search} (h : Reaches hall g a u name best calls cs masks limit s) (there : u ≡ Some q)
     (ar : Arrived hall g a a₁ q p name calls cs) where
   abbrev o : (y : ℕ) × (open_s limit h.due h.e s ≡ Sum y) × Stood hall g a q name calls cs × (left_of hall q ≡ h.left) × Sees hall best (slots_at g a 0 cs) masks s
-  o = h.opened there
+  o = h.opened q there
 
   abbrev T : Tree
   T = tree_from (hall_bound hall) h.left name
@@ -205,39 +225,14 @@ module _ (hall : Hall) (g : Ground) (a a₁ : Arrays) (q p : Spot) (name best : 
   counts : onward limit T name (view_of limit (λ _. best) (counted_s s)) ≡ limited limit T name (view_of limit (λ _. best) s)
   counts = (opened h.due_at name limit (λ _. best) s o.0 o.1).on
 
-  -- it is within the limit
-  pub within : s.count < limit
-  within = (opened h.due_at name limit (λ _. best) s o.0 o.1).within
-
-  -- what the lines see at the question
-  pub sees_there : Sees hall best (slots_at g a₁ 0 ar.courses) masks (counted_s s)
-  sees_there = sees_as hall g a a₁ cs ar.courses best masks (counted_s s) ar.same o.4
-
-  -- ---- both nodes below
-
-  -- no first, then yes
-  pub both_passed : Asked hall g.ats p → (a₂ a₃ : Arrays) (masks₂ masks₃ : List ℕ) (r r' : Search)
-      → (z : Passed hall (tree_from (hall_bound hall) (left_below hall false p) (snoc name false)) (snoc name false) best limit g a₁ a₂ ar.courses masks₂ (counted_s s) r)
-      → Passed hall (tree_from (hall_bound hall) (left_below hall true p) (snoc name true)) (snoc name true) z.found limit g a₂ a₃ ar.courses masks₃ r r'
-      → Passed hall T name best limit g a a₃ cs masks₃ s r'
-  both_passed ask a₂ a₃ masks₂ masks₃ r r' z y = record {
-    found = y.found;
-    search = y.search ∙ ap (limited limit (tree_from (hall_bound hall) (left_below hall true p) (snoc name true)) (snoc name true)) z.search
-        ∙ sym (raised_both (raised hall g.ats p h.crewed.table ar.stood.formed ask) (hall_bound hall) limit name (view_of limit (λ _. best) (counted_s s))) ∙ on_from (view_of limit (λ _. best) (counted_s s)) ∙ counts;
-    sees = sees_as hall g a₃ a₃ ar.courses cs y.found masks₃ r' (back_courses a a₁ a₃ cs ar.courses ar.same) y.sees;
-    kept = ar.kept a₃ (all_then g a₁ a₂ a₃ ar.courses z.kept y.kept);
-  }
-
   -- ---- a full node
 
   -- it becomes the incumbent
-  pub full_passed : p.step ≡ step_count hall → (v₂ : List (List ℕ)) (masks₂ : List ℕ) → length a₁.v ≡ 4 → KeptLines a₁.v v₂ a₁.n masks₂ g.ats (length hall.jobs)
-      → Passed hall T name best limit g a (arrays a₁.w v₂ a₁.n) cs masks₂ s (kept_s (counted_s s) p.total 0)
-  full_passed end v₂ masks₂ lv kl =
-      let a₂ = arrays a₁.w v₂ a₁.n in
+  pub full_passed : {a₂ : Arrays} {masks₂ : List ℕ} → p.step ≡ step_count hall → KeptLines a₁ a₂ masks₂ g.ats (length hall.jobs) → Passed hall T name best limit g a a₂ cs masks₂ s (kept_s (counted_s s) p.total 0)
+  full_passed {a₂} {masks₂} end kl =
       let st = ar.stood in
       let cs₁ = ar.courses in
-      let e = full_at hall g a₁ p name calls cs₁ v₂ masks₂ h.crewed st end lv kl in
+      let e = full_at h.crewed st end kl in
       let fits = sums_fit hall name (asked_of p) calls (slots_at g a₁ 0 cs₁) st.at h.crewed.fits.few (asked_near hall g.ats p h.crewed st.formed) in
       let hw = full_walked hall name limit (asked_of p) calls (slots_at g a₁ 0 cs₁) (slots_at g a₂ 0 cs₁) masks₂ best (counted_s s) 0 st.at (omega (arith, fits)) e.1 (all_kept_lem g a₁ a₂ cs₁ e.0) in
       subst (λ (m : ℕ). Passed hall T name best limit g a a₂ cs masks₂ s (kept_s (counted_s s) m 0)) (sym st.total)
@@ -248,39 +243,84 @@ module _ (hall : Hall) (g : Ground) (a a₁ : Arrays) (q p : Spot) (name best : 
         kept = ar.kept a₂ e.0;
       })
 
--- ---- sizes and measures
+  -- ---- both nodes below, walked with the node counted
 
--- as many lines where the walk has arrived
-pub arrived_size : (hall : Hall) (g : Ground) (a a₁ : Arrays) (q p : Spot) (name : List Bool) (calls : ℕ) (cs : List Course) → Arrived hall g a a₁ q p name calls cs → SameSize a a₁
-arrived_size hall g a a₁ q p name calls cs ar =
-    (ar.kept a₁ (record { size = record { w = refl; v = refl; n = refl }; each = λ e l. self_kept g a₁ e (course_in ar.courses e) (line_given hall name g a₁ ar.courses e l ar.stood.at.lines) })).size
+  module _ (ask : Asked hall g.ats p) {s₁ : Search} (counted : s₁ ≡ counted_s s) where
+    -- the question
+    pub asking : Asking hall g a₁ p name calls ar.courses
+    asking = record { crewed = h.crewed; stood = ar.stood; asked = ask }
+
+    -- what the lines see at the question
+    pub sees_there : Sees hall best (slots_at g a₁ 0 ar.courses) masks s₁
+    sees_there = subst (Sees hall best (slots_at g a₁ 0 ar.courses) masks) (sym counted) (sees_as hall g a a₁ cs ar.courses best masks (counted_s s) ar.same o.4)
+
+    module _ {q₁ : Option Spot} {a₂ : Arrays} (b₁ : Below hall false g a₁ a₂ p q₁ name ar.courses limit s₁) where
+      -- its calls
+      abbrev pub calls₁ : ℕ
+      calls₁ = calls_below b₁ q₁ refl
+
+      -- its courses
+      abbrev pub courses₁ : List Course
+      courses₁ = courses_below b₁ q₁ refl
+
+      -- the node of a no is reached
+      abbrev pub enter₁ : Reaches hall g a₂ q₁ (snoc name false) best calls₁ courses₁ masks limit s₁
+      enter₁ = enters h.crewed b₁ sees_there q₁ refl
+
+      module _ {a₃ : Arrays} {masks₃ : List ℕ} {r : Search} (w₁ : HallWalked hall enter₁.left g a₂ a₃ q₁ (snoc name false) best courses₁ masks masks₃ limit s₁ r) where
+        abbrev passed₁ : Passed hall (tree_from (hall_bound hall) (left_below hall false p) (snoc name false)) (snoc name false) best limit g a₁ a₃ ar.courses masks₃ s₁ r
+        passed₁ = back h.crewed b₁ sees_there q₁ refl w₁
+
+        -- the question is asked again
+        pub asking₁ : Asking hall g a₃ p name calls ar.courses
+        asking₁ = asking_kept passed₁.kept asking
+
+        module _ {q₂ : Option Spot} {a₄ : Arrays} (b₂ : Below hall true g a₃ a₄ p q₂ name ar.courses limit r) where
+          -- the incumbent's name behind the no
+          abbrev pub kept₂ : List Bool
+          kept₂ = passed₁.found
+
+          -- the calls of a yes
+          abbrev pub calls₂ : ℕ
+          calls₂ = calls_below b₂ q₂ refl
+
+          -- its courses
+          abbrev pub courses₂ : List Course
+          courses₂ = courses_below b₂ q₂ refl
+
+          -- the node of a yes is reached
+          abbrev pub enter₂ : Reaches hall g a₄ q₂ (snoc name true) kept₂ calls₂ courses₂ masks₃ limit r
+          enter₂ = enters h.crewed b₂ passed₁.sees q₂ refl
+
+          -- no first, then yes: the node is passed
+          pub both_passed : {a₅ : Arrays} {masks₅ : List ℕ} {r' : Search} → HallWalked hall enter₂.left g a₄ a₅ q₂ (snoc name true) kept₂ courses₂ masks₃ masks₅ limit r r' → Passed hall T name best limit g a a₅ cs masks₅ s r'
+          both_passed {a₅} {masks₅} {r'} w₂ =
+              let y = back h.crewed b₂ passed₁.sees q₂ refl w₂ in
+              let z = passed₁.search ∙ ap (λ (x : Search). limited limit (tree_from (hall_bound hall) (left_below hall false p) (snoc name false)) (snoc name false) (view_of limit (λ _. best) x)) counted in
+              record {
+                found = y.found;
+                search = y.search ∙ ap (limited limit (tree_from (hall_bound hall) (left_below hall true p) (snoc name true)) (snoc name true)) z
+                    ∙ sym (raised_both (raised hall h.crewed.table ar.stood.formed ask) (hall_bound hall) limit name (view_of limit (λ _. best) (counted_s s))) ∙ on_from (view_of limit (λ _. best) (counted_s s)) ∙ counts;
+                sees = sees_as hall g a₅ a₅ ar.courses cs y.found masks₅ r' (back_courses a a₁ a₅ cs ar.courses ar.same) y.sees;
+                kept = ar.kept a₅ (all_then g a₁ a₃ a₅ ar.courses passed₁.kept y.kept);
+              }
+
+-- ---- measures, and what closing asks
 
 -- less is left below
-pub below_falls : (hall : Hall) (x : Bool) (g : Ground) (a a₁ : Arrays) (p q r : Spot) (name : List Bool) (cs : List Course) (limit : ℕ) (s : Search) → Below hall x g a a₁ p q name cs limit s → measure_of p ≤ measure_of r → r.there ≡ true → walk_measure q < walk_measure r
-below_falls hall x g a a₁ p q r name cs limit s b m t = go q.there refl
+pub below_falls : {hall : Hall} {x : Bool} {g : Ground} {a a₁ : Arrays} {p : Spot} {q : Option Spot} {name : List Bool} {cs : List Course} {limit : ℕ} {s : Search} {m : ℕ} → Below hall x g a a₁ p q name cs limit s → measure_of p ≤ m → walk_measure q < m + 1
+below_falls {hall} {x} {g} {a} {a₁} {p} {q} {name} {cs} {limit} {s} {m} b l = go q refl
   where
-    whole : walk_measure r ≡ measure_of r + 1
-    whole = cond_yes (measure_of r + 1) 0 t
+    go : (t : Option Spot) → q ≡ t → walk_measure t < m + 1
+    go None e = omega arith
+    go (Some r) e = omega (arith, l, (b.opened r e).2.measure)
 
-    go : (b' : Bool) → q.there ≡ b' → cond b' (measure_of q + 1) 0 < walk_measure r
-    go true e = omega (arith, whole, m, (b.opened e).2.measure)
-    go false e = omega (arith, whole)
-
--- the line at hand is one of four
-pub line_four : (hall : Hall) (ats : List ℕ) (p : Spot) → Crewed hall ats → Formed hall ats p → Asked hall ats p → p.line < 4
-line_four hall ats p k f a = go p.calling refl p.removing refl
-  where
-    go : (b : Bool) → p.calling ≡ b → (r : Bool) → p.removing ≡ r → p.line < 4
-    go true e r h = omega (arith, (f.calling e).1)
-    go false e true h = omega (arith, (f.stopped h).1, k.fits.few)
-    go false e false h = omega (arith, (a.line e h).0, k.fits.few)
-
--- what closing asks of the table and of what stands beside the rows
-pub close_asks : (hall : Hall) (g : Ground) (a : Arrays) (p : Spot) (name : List Bool) (calls : ℕ) (cs : List Course) → Crewed hall g.ats → Stood hall g a p name calls cs → (e : ℕ) → e < get_or g.ats lines_place 0 → (level_in g.ats (get_or g.ats steps_place 0) e ≤ 64) × (length (line_of a.v e) ≡ aside_size)
-close_asks hall g a p name calls cs k st e l =
+-- what closing asks of the table
+pub close_asks : {hall : Hall} {g : Ground} {a : Arrays} {p : Spot} {name : List Bool} {calls : ℕ} {cs : List Course} → Crewed hall g.ats → Stood hall g a p name calls cs → (e : ℕ) → e < g.ats.lines → level_in g.ats g.ats.steps e ≤ 64
+close_asks {hall} {g} {a} {p} {name} {calls} {cs} k st e l =
     let m : e < length cs = omega (arith, l, k.table.lines_are, st.count) in
     let j = job_here hall name g a cs e m st.at.lines in
     let h = line_given hall name g a cs e m st.at.lines in
     let few = subst (λ (x : HeldSheet). length x.positions ≤ 64) (slot_sheet g a e (course_in cs e)) h.tables.few in
     let i = ap (λ (n : ℕ). level_in g.ats n e) k.table.steps_are ∙ k.table.ends e j.job j.placed in
-    (omega (arith, i, j.openings, few), ap length (sym (slot_aside g a e (course_in cs e))) ∙ h.aside)
+    omega (arith, i, j.openings, few)

@@ -1,5 +1,5 @@
 -- What the hall's walk is given at a spot, which it is to walk on from or to pass by, and what it does.
-use Rattle.std.specs.Prelude.{ℕ, ◌+◌, ◌≡◌, Bool, true, false, cond, List, length}
+use Rattle.std.specs.Prelude.{ℕ, ◌+◌, ◌≡◌, Bool, List, Option, Some, None, length}
 use Rattle.branch.specs.declared.Bound.{Bound}
 use Rattle.branch.specs.declared.Bound.TheVariants.{Missing, Sum}
 use Rattle.walk.specs.declared.Search.{Search}
@@ -10,27 +10,29 @@ use Rattle.hall.specs.Agenda.{Agenda}
 use Rattle.hall.specs.LowerBound.{hall_bound}
 use Rattle.hall.specs.Steps.{tree_from}
 use Rattle.hall_nodes.specs.Walk.{Sees}
+use Rattle.hall_state.specs.declared.Ground.{Ground}
 use Rattle.hall_state.specs.declared.Spot.{Spot}
-use Rattle.hall_state.specs.Courses.{Ground, Arrays, Course, slots_at}
+use Rattle.hall_state.specs.Courses.{Arrays, Course, slots_at}
 use Rattle.hall_state.specs.Spots.{left_of, Stood}
 use Rattle.hall_state.specs.Moves.{measure_of, Crewed, Passed}
 
 -- the node of this name is reached: its test, and where it is walked on its lines and the incumbent
-pub record Reaches (hall : Hall) (g : Ground) (a : Arrays) (q : Spot) (name best : List Bool) (calls : ℕ) (cs : List Course) (masks : List ℕ) (limit : ℕ) (s : Search) : Type 0 where
+pub record Reaches (hall : Hall) (g : Ground) (a : Arrays) (q : Option Spot) (name best : List Bool) (calls : ℕ) (cs : List Course) (masks : List ℕ) (limit : ℕ) (s : Search) : Type 0 where
   pub crewed : Crewed hall g.ats
   pub left : List Agenda
   pub e : Bound
   pub due : ℕ
   pub due_at : DueAt (tree_from (hall_bound hall) left name) e due
-  pub closed : q.there ≡ false → open_s limit due e s ≡ Missing
-  pub opened : q.there ≡ true → (y : ℕ) × (open_s limit due e s ≡ Sum y) × Stood hall g a q name calls cs × (left_of hall q ≡ left) × Sees hall best (slots_at g a 0 cs) masks s
+  pub closed : q ≡ None → open_s limit due e s ≡ Missing
+  pub opened : (r : Spot) → q ≡ Some r → (y : ℕ) × (open_s limit due e s ≡ Sum y) × Stood hall g a r name calls cs × (left_of hall r ≡ left) × Sees hall best (slots_at g a 0 cs) masks s
 
 -- it is passed by, and nothing else is written; or walked on from
-pub record HallWalked (hall : Hall) (left : List Agenda) (g : Ground) (a a' : Arrays) (q : Spot) (name best : List Bool) (cs : List Course) (masks masks' : List ℕ) (limit : ℕ) (s r : Search) : Type 0 where
+pub record HallWalked (hall : Hall) (left : List Agenda) (g : Ground) (a a' : Arrays) (q : Option Spot) (name best : List Bool) (cs : List Course) (masks masks' : List ℕ) (limit : ℕ) (s r : Search) : Type 0 where
   pub count : length masks' ≡ length masks
-  pub passed : q.there ≡ false → (r ≡ reached_s limit s) × (a' ≡ a) × (masks' ≡ masks)
-  pub walked : q.there ≡ true → Passed hall (tree_from (hall_bound hall) left name) name best limit g a a' cs masks' s r
+  pub passed : q ≡ None → (r ≡ reached_s limit s) × (a' ≡ a) × (masks' ≡ masks)
+  pub walked : (t : Spot) → q ≡ Some t → Passed hall (tree_from (hall_bound hall) left name) name best limit g a a' cs masks' s r
 
 -- how much is left to walk
-abbrev pub walk_measure : Spot → ℕ
-walk_measure q = cond q.there (measure_of q + 1) 0
+abbrev pub walk_measure : Option Spot → ℕ
+walk_measure None = 0
+walk_measure (Some q) = measure_of q + 1

@@ -20,13 +20,11 @@ use Rattle.jobs.proofs.Jobs.{Whole, part_count}
 use Rattle.clock.proofs.Places.{places_are}
 use Rattle.coming_out.proofs.Rows.{row-take}
 use Rattle.held_places.specs.Arrays.{need_stride, prices_at, needs_at, Lane, HeldJobArrays}
-use Rattle.held_tables.specs.Sheet.{HeldArrays}
 use Rattle.job_numbers.specs.Laid.{Numbered, prices_with, Laid}
 use Rattle.held_job.specs.Removed.{HolderNumbersOf}
 use Rattle.job_numbers.specs.declared.Numbers.{Numbers}
 use Rattle.held_job.specs.declared.holders.HolderNumbers.{HolderNumbers}
 use Rattle.job_numbers.proofs.Counts.{removal_range, Counted, counted, life_at_lem, left_at_lem, prices_at_lem}
-use Rattle.held_job.proofs.Arrays.{plain_arrays}
 
 -- what is added to a price is nothing, or a removal
 charge_range : (job : model.Job) → ValidJob job → (q : ℕ) → charge job q (part_at job q) ≤ dearest
@@ -62,6 +60,10 @@ module _ (job : model.Job) (t : HolderNumbers) (holders : HolderNumbersOf job t)
   pub removals_long : length (take t.holding t.removals) ≡ t.holding
   removals_long = ap length removals_are ∙ held_count (map removal_of_lem job.parts) (length-map job.parts removal_of_lem)
 
+  -- no removal is above the dearest
+  pub removals_cheap : ValidJob job → (b : ℕ) → get_or (take t.holding t.removals) b 0 ≤ dearest
+  removals_cheap valid b = omega (arith, ap (λ (l : List ℕ). get_or l b 0) removals_are, select_most (map removal_of_lem job.parts) (holding job) dearest (removals_range job valid) b)
+
   -- what is added to a part's prices is at most the dearest removal
   pub charges_range : ValidJob job → (q : ℕ) → q < most_parts → get_or t.charges q 0 ≤ dearest
   charges_range valid q h = subst (λ (x : ℕ). x ≤ dearest) (sym (holders.charges q h)) (charge_range job valid q)
@@ -89,15 +91,6 @@ module _ (j : Job) (sized : Sized j) (whole : Whole j) (valid : ValidJob (job_of
 
   long : Counted n m r
   long = counted j sized whole r numbered
-
-  pub arrays : HeldArrays r.placed.end (take n r.placed.at) (take n r.fees) (take m r.lives) (take m r.lefts) ps t.needs decided
-  arrays =
-      record {
-        plain = plain_arrays j sized whole valid r numbered t.charges (λ q h. charges_range (job_of j) t holders valid q (omega (arith, h, sized.parts))) ps laid;
-        needs = holders.needs.size;
-        holding = omega (arith, removals_long (job_of j) t holders, holders.few);
-        removals = λ b. omega (arith, ap (λ (l : List ℕ). get_or l b 0) (removals_are (job_of j) t holders), select_most (map removal_of_lem (job_of j).parts) (holding (job_of j)) dearest (removals_range (job_of j) valid) b);
-      }
 
   -- the part as it is planned for
   lane : (q : ℕ) → q < length (take m r.lives)

@@ -1,5 +1,5 @@
 // What holders and removals add to a job's numbers: the charges, who comes out with whom, and the removals that are decided.
-ghost use Rattle.jobs.specs.Views.{job_of, Sized};
+ghost use Rattle.jobs.specs.Views.{job_of};
 ghost use Rattle.held_job.specs.Removed.{HolderNumbersOf};
 
 use coming_out::records::{holders_of, removals_of};
@@ -8,6 +8,7 @@ use jobs::Job;
 use model::{PAIRS, PARTS};
 
 // What is added to each part's prices; of the parts that are somebody's holder, those that come out with each part; their removals; and how many they are.
+// Kept as an array of removals with its count: there is no heap.
 #[derive(Drop)]
 pub struct HolderNumbers {
     pub charges: [u32; PARTS],
@@ -18,7 +19,6 @@ pub struct HolderNumbers {
 
 // What holders and removals add to the numbers of a job.
 pub fn holder_numbers_of(job: Job) -> HolderNumbers
-    requires { Sized job }
     ensures { HolderNumbersOf (job_of job) result }
 {
     let count = job.part_count;

@@ -40,12 +40,11 @@ impl Node {
         Node {
             at: self.at + 1,
             rows,
-            next: self.next,
             owed: false,
             shut: 0,
             removed: 0,
-            spent: self.spent,
             mask: self.mask * 2,
+            ..self
         }
     }
 
@@ -72,14 +71,11 @@ impl Node {
         ensures { result ≡ stays_n self set }
     {
         Node {
-            at: self.at,
-            rows: self.rows,
             next: self.next + 1,
             owed: true,
             shut: set,
             removed: self.removed * 2,
-            spent: self.spent,
-            mask: self.mask,
+            ..self
         }
     }
 
@@ -89,19 +85,17 @@ impl Node {
         ensures { result ≡ out_n self spent }
     {
         Node {
-            at: self.at,
-            rows: self.rows,
             next: self.next + 1,
             owed: true,
-            shut: self.shut,
             removed: self.removed * 2 + 1,
             spent,
-            mask: self.mask,
+            ..self
         }
     }
 }
 
 // The removals of a full node are kept.
+// Kept as a loop over places: both parts stand in one array, and the library has no method that copies within one.
 pub fn keep(v: &mut [u32])
     requires { length v.old ≡ aside_size }
     ensures { FilledBy best_place (λ (i : ℕ). get_or v.old (removed_place i) 0) 64 v.old v.new }
@@ -166,6 +160,7 @@ pub fn no_sums(
 }
 
 // The part sums of a node below a stop, if it is walked on: the stop at opening j - 1 is shut to the lanes of the set.
+// Kept beside no_sums: what they share is `tested`, and a function of both would take the sum as a closure over the rows that it writes, which is no plainer.
 pub fn stay_sums(
     t: &[u32; TABLES],
     u: &[u32; HELD],

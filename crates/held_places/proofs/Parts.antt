@@ -1,12 +1,12 @@
 -- One part's changes: the arrays' ranges are those that a part's table asks for, and only what a part sees of the openings counts.
-use Prim.Native.Nat.{ℕ, zero, suc, ◌+◌, ◌-◌, ◌*◌, ◌≤◌, ◌<◌}
+use Prim.Native.Nat.{ℕ, suc, ◌+◌, ◌-◌, ◌*◌, ◌≤◌, ◌<◌}
 use mathlib.Core.Path.{◌≡◌, refl, sym, ap, subst, ◌∙◌}
 use mathlib.Core.Bool.{Bool, true}
 use mathlib.Core.List.{List, [], ◌∷◌}
 use native.Mathlib.Omega.{arith}
 use lib.ListN.{length, get_or, take, drop, length-take, length-drop, get_or-map}
 use lib.Seq.{get_or-take, length-take-le}
-use lib.IntN.{ℤ, pos}
+use lib.IntN.{ℤ}
 use mir.Syntax.{w32}
 use mir.Val.{SFits, to_z, of_z}
 use mir.Facts.{to_z-of_z}
@@ -15,12 +15,9 @@ use Rattle.model.specs.LowerBound.{offers, blocks}
 use Rattle.model.specs.Limits.{most_openings, most_parts}
 use Rattle.model.proofs.Bools.{after_one}
 use Rattle.model.proofs.Blocks.{accessible_none}
-use Rattle.least.specs.Marks.{mark_of, Bits31}
-use Rattle.least.specs.Suffix.{PartUntil}
-use Rattle.least.proofs.Diff.{mag_sub, back, small_back}
 use Rattle.held_places.specs.Blocks.{Entries}
-use Rattle.held_places.specs.Arrays.{price_stride, price_size, need_stride, need_size, prices_at, needs_at, Lives, Lived}
-use Rattle.held_places.specs.Changes.{places_of, PartAsks}
+use Rattle.held_places.specs.Arrays.{price_stride, price_size, need_size, prices_at, needs_at}
+use Rattle.held_places.specs.Changes.{places_of}
 
 -- ---- what a part sees
 
@@ -53,10 +50,6 @@ module _ (ps : List ℕ) (n q : ℕ) where
   prices_length l h s = simp (length-take, length-drop) (omega arith)
 
 module _ (nd : List Bool) (h q : ℕ) where
-  -- the range of the needs that is cut out for part q has its needs of the h holding parts
-  pub needs_are : take (q * need_stride + h - q * need_stride) (drop (q * need_stride) nd) ≡ needs_at h nd q
-  needs_are = let z : q * need_stride + h - q * need_stride ≡ h = omega arith in ap (λ (k : ℕ). take k (drop (q * need_stride) nd)) z
-
   -- a part has an entry of its needs for each of the h holding parts
   pub needs_length : h ≤ most_parts → q < most_parts → length nd ≡ need_size → length (needs_at h nd q) ≡ h
   needs_length l m s = simp (length-take, length-drop) (omega arith)
@@ -65,46 +58,9 @@ module _ (nd : List Bool) (h q : ℕ) where
 pub first-length : {A : Type 0} (n : ℕ) (r : List A) → n ≤ most_openings → length r ≡ 64 → n ≡ length (take n r)
 first-length n r l s = sym (length-take-le n r (omega arith))
 
--- ---- signed numbers, read back from their bits
-
-module _ {ls rs : List ℕ} (li : Lives ls rs) (q : ℕ) {life first : ℤ} (v : Lived (get_or ls q 0) (get_or rs q 0) life first) where
-  -- the position of a part's change before the first fits in 31 bits
-  pub change_small : Bits31 first
-  change_small = rw v.begins (omega (arith, mag_sub (pos (get_or rs q 0)) (pos (get_or ls q 0)), li.brief q, li.begun q))
-
-  -- a part's life and first change, read back from their bits as signed numbers, are the same
-  pub lived_back : Lived (get_or ls q 0) (get_or rs q 0) (to_z w32 (of_z w32 life)) (to_z w32 (of_z w32 first))
-  lived_back =
-      let life-small : Bits31 life = rw v.lives (omega (arith, li.brief q)) in
-      record { lives = back life (omega arith) ∙ v.lives; begins = back first (omega (arith, change_small)) ∙ v.begins }
-
--- what a part's table asks for
-pub part_asks : {e : ℤ} {ss : List ℤ} {ls rs ns : List ℕ} {at : List Bool} {tab : List ℕ} (q : ℕ) (life first : ℤ) → PartAsks e ss ls rs ns at tab → Lived (get_or ls q 0) (get_or rs q 0) life first
-    → PartUntil (to_z w32 (of_z w32 e)) (to_z w32 (of_z w32 first)) ss ns at tab
-part_asks {e} {ss} q life first a v =
-    record {
-      part = record {
-        room = record { size = a.room; few = a.timed.few; small = marks };
-        prices = a.numbers;
-        flags = a.places;
-      };
-      late = small_back e (omega (arith, a.timed.late));
-    }
-  where
-    marks : (k : ℕ) → Bits31 (mark_of (to_z w32 (of_z w32 first)) ss k)
-    marks zero = small_back first (change_small a.lives q v)
-    marks (suc k) = omega (arith, a.timed.near k)
-
 -- what holds of a number holds of what is read back from its bits
 pub read_back : (P : ℤ → Type 0) {e : ℤ} → SFits w32 e → P e → P (to_z w32 (of_z w32 e))
 read_back P h p = subst P (sym (to_z-of_z h)) p
-
--- the places of a part, found by its own needs
-pub places_own : (n h : ℕ) (nd : List Bool) (q : ℕ) (name w r : List Bool) → w ≡ needs_at h nd q → length (needs_at h nd q) ≡ h → Entries true (λ (k : ℕ). allows w (get_or (blocks (length w) n name) k [])) n r
-    → Entries true (λ (k : ℕ). allows (needs_at h nd q) (get_or (blocks h n name) k [])) n r
-places_own n h nd q name w r e l p =
-    subst (λ (m : ℕ). Entries true (λ (k : ℕ). allows (needs_at h nd q) (get_or (blocks m n name) k [])) n r) l
-    (subst (λ (v : List Bool). Entries true (λ (k : ℕ). allows v (get_or (blocks (length v) n name) k [])) n r) e p)
 
 -- what a part sees of the openings by the code's array is what it sees by its places
 pub places_seen : (ss : List ℤ) (ns ms : List ℕ) (h : ℕ) (nd : List Bool) (q : ℕ) (name at : List Bool) → ns ≡ ms

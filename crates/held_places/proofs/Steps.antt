@@ -1,53 +1,26 @@
--- Needs, one more at a time: each law is one unfolding at the place where a loop stands.
-use Prim.Native.Nat.{ℕ, suc, ◌+◌, ◌-◌, ◌≤◌, ◌<◌}
-use mathlib.Core.Path.{◌≡◌, refl, sym, ap, ap₂, ◌∙◌}
+-- Needs against removals, as the code compares them.
+use Prim.Native.Nat.{ℕ, suc, ◌-◌, ◌≤◌, ◌<◌}
+use mathlib.Core.Path.{◌≡◌, refl, sym, ap, ◌∙◌}
 use mathlib.Core.Bool.{Bool, true, false, not, ◌&&◌, ◌||◌}
 use mathlib.Core.List.{List, [], ◌∷◌}
 use native.Mathlib.Omega.{arith}
-use native.Mathlib.Numerals.{add-one}
-use lib.ListN.{length, get_or, take, drop, length-drop, drop_of_length-le}
-use lib.Seq.{drop-drop, drop-cons, get_or-drop, take_all}
+use lib.ListN.{length, get_or, take, drop}
+use lib.Seq.{take_all}
+use Rattle.std.specs.Bool.{MatchBool}
+use Rattle.std.specs.List.{list_all, zip, AllWithin, HoldsAt}
+use Rattle.std.proofs.lemmas.List.Folds.{list_all_at}
 use Rattle.model.specs.Decisions.{accessible, allows}
 use Rattle.model.proofs.Blocks.{accessible_none}
 use Rattle.held_places.specs.Blocks.{first_or}
 
--- ---- a list at a place
-
--- the part of a slice from k on
-pub rest_of : {A : Type 0} (s : List A) (k : ℕ) → take (length s - k) (drop k s) ≡ drop k s
-rest_of s k = take_all (length s - k) (drop k s) (simp length-drop (omega arith))
-
--- what is left of a list from place k on is its entry there and what is left behind it
-pub drop_more : {A : Type 0} (l : List A) (k : ℕ) (d x : A) → k < length l → get_or l k d ≡ x → drop k l ≡ x ∷ drop (k + 1) l
-drop_more l k d x h e = rw (add-one) (drop-cons l k d h ∙ ap (λ (y : _). y ∷ drop (suc k) l) e)
-
--- the front of what is left, and what is left behind it
-front : {A : Type 0} (l : List A) (k : ℕ) (d : A) → get_or (drop k l) 0 d ≡ get_or l k d
-front l k d = let z : k + 0 ≡ k = omega arith in get_or-drop k l 0 d ∙ ap (λ (m : ℕ). get_or l m d) z
-
 -- ---- needs
 
-accessible_step : (needs removed : List Bool) (b : ℕ) → b < length needs
-    → accessible (drop b needs) (drop b removed) ≡ ((not (get_or needs b false) || get_or removed b true) && accessible (drop (b + 1) needs) (drop (b + 1) removed))
+-- each needed holding part is removed, as far as it is decided
+pub accessible_zip : (needs removed : List Bool) → list_all (λ (p : Bool × Bool). not p.0 || p.1) (zip needs removed) ≡ accessible needs removed
 unfolding accessible
-accessible_step needs removed b h =
-    ap (λ (l : List Bool). accessible l (drop b removed)) (drop_more needs b false (get_or needs b false) h refl)
-    ∙ ap₂ (λ (x : Bool) (l : List Bool). (not (get_or needs b false) || x) && accessible (drop (b + 1) needs) l) (front removed b true) (drop-drop 1 b removed)
-
-module _ (needs removed : List Bool) (b : ℕ) (h : b < length needs) where
-  -- where holding part b doesn't bar a part's change, whether one may be made is left to the holding parts after it
-  pub accessible_more : (not (get_or needs b false) || get_or removed b true) ≡ true → accessible needs removed ≡ accessible (drop b needs) (drop b removed)
-      → accessible needs removed ≡ accessible (drop (b + 1) needs) (drop (b + 1) removed)
-  accessible_more e f = f ∙ accessible_step needs removed b h ∙ ap (λ (x : Bool). x && accessible (drop (b + 1) needs) (drop (b + 1) removed)) e
-
-  -- where a needed holding part is not removed, the part is not accessible
-  pub accessible-not : (not (get_or needs b false) || get_or removed b true) ≡ false → accessible needs removed ≡ accessible (drop b needs) (drop b removed) → false ≡ accessible needs removed
-  accessible-not e f = sym (f ∙ accessible_step needs removed b h ∙ ap (λ (x : Bool). x && accessible (drop (b + 1) needs) (drop (b + 1) removed)) e)
-
--- where no holding part bars it, the part is accessible
-pub accessible_end : (needs removed : List Bool) (b : ℕ) → length needs ≤ b → accessible needs removed ≡ accessible (drop b needs) (drop b removed) → true ≡ accessible needs removed
-unfolding accessible
-accessible_end needs removed b h f = sym (f ∙ ap (λ (l : List Bool). accessible l (drop b removed)) (drop_of_length-le needs h))
+accessible_zip [] removed = refl
+accessible_zip (need ∷ needs) [] = sym (accessible_none (need ∷ needs))
+accessible_zip (need ∷ needs) (x ∷ removed) = ap (λ (b : Bool). (not need || x) && b) (accessible_zip needs removed)
 
 -- no more decisions count than there are needs
 pub accessible-take : (needs q : List Bool) → accessible needs (take (length needs) q) ≡ accessible needs q
@@ -56,25 +29,30 @@ accessible-take [] q = refl
 accessible-take (need ∷ needs) [] = refl
 accessible-take (need ∷ needs) (x ∷ q) = ap (λ (b : Bool). (not need || x) && b) (accessible-take needs q)
 
--- ---- the block that begins at i, by what stands there
+-- where each pair is so, and where one is not
+zipped : (p : Bool × Bool → Bool) (xs : List (Bool × Bool)) (r : Bool) → MatchBool r (AllWithin (λ x. p x ≡ true) xs 0 (length xs)) ((k : ℕ) × (k < length xs) × HoldsAt (λ x. p x ≡ false) xs k) → r ≡ list_all p xs
+zipped p xs true h = sym (all_true xs h)
+  where
+    all_true : (xs : List (Bool × Bool)) → AllWithin (λ x. p x ≡ true) xs 0 (length xs) → list_all p xs ≡ true
+    all_true [] h = refl
+    all_true (x ∷ xs) h = ap (λ (b : Bool). b && list_all p xs) (h 0 x (omega arith) (omega arith)) ∙ all_true xs (λ k d a b. h (suc k) d (omega arith) (omega arith))
+zipped p xs false h = sym (list_all_at p xs h.0 (true, true) h.1 (h.2 (true, true)))
 
-module _ (name : List Bool) (i : ℕ) where
-  abbrev behind_it : List Bool
-  behind_it = take (length name - (i + 1)) (drop (i + 1) name)
+-- the code's answer is `accessible`
+pub accessible_all : (needs removed : List Bool) (r : Bool)
+    → MatchBool r (AllWithin (λ x. (not x.0 || x.1) ≡ true) (zip needs removed) 0 (length (zip needs removed))) ((k : ℕ) × (k < length (zip needs removed)) × HoldsAt (λ x. (not x.0 || x.1) ≡ false) (zip needs removed) k)
+    → r ≡ accessible needs removed
+accessible_all needs removed r h = zipped (λ (x : Bool × Bool). not x.0 || x.1) (zip needs removed) r h ∙ accessible_zip needs removed
 
-  begins : (b : Bool) → i < length name → get_or name i false ≡ b → b ∷ behind_it ≡ drop i name
-  begins b h e = ap (λ (l : List Bool). b ∷ l) (rest_of name (i + 1)) ∙ sym (drop_more name i false b h e)
+-- ---- the first block of a name lets a part be changed
 
-  -- it lets a part be changed
-  module _ (needs : List Bool) where
-    -- a block that begins with a yes lets a part be changed where the holding parts it needs are removed or undecided
-    pub allows_yes : (r : Bool) → i < length name → get_or name i false ≡ true → r ≡ accessible needs behind_it → r ≡ allows needs (first_or [] (length needs) (drop i name))
-    allows_yes r h e f = f ∙ sym (accessible-take needs behind_it) ∙ ap (λ (q : List Bool). allows needs (first_or [] (length needs) q)) (begins true h e)
+-- a block that begins with a yes does where the holding parts it needs are removed or undecided
+pub opens_yes : (needs name : List Bool) (r : Bool) → 1 ≤ length name → get_or name 0 false ≡ true → r ≡ accessible needs (take (length name - 1) (drop 1 name)) → r ≡ allows needs (first_or [] (length needs) name)
+opens_yes needs [] r l e f = absurd (omega (arith, l))
+opens_yes needs (false ∷ name) r l e f = cc
+opens_yes needs (true ∷ name) r l e f = f ∙ ap (accessible needs) (take_all (suc (length name) - 1) name (omega arith)) ∙ sym (accessible-take needs name)
 
-    -- a block that begins with a no lets no part be changed
-    pub allows_no : i < length name → get_or name i false ≡ false → false ≡ allows needs (first_or [] (length needs) (drop i name))
-    allows_no h e = ap (λ (q : List Bool). allows needs (first_or [] (length needs) q)) (begins false h e)
-
-    -- where the name has no further block, the opening is undecided and a part can be changed there
-    pub allows_none : length name ≤ i → true ≡ allows needs (first_or [] (length needs) (drop i name))
-    allows_none h = sym (accessible_none needs) ∙ ap (λ (q : List Bool). allows needs (first_or [] (length needs) q)) (sym (drop_of_length-le name h))
+-- where the name has no further block, the opening is undecided and a part can be changed there
+pub opens_none : (needs name : List Bool) → length name < 1 → true ≡ allows needs (first_or [] (length needs) name)
+opens_none needs [] l = sym (accessible_none needs)
+opens_none needs (x ∷ name) l = absurd (omega (arith, l))

@@ -1,5 +1,5 @@
 -- The arrays of a job with holders, as the search is handed them: prices with the removal of a part that holds nobody, and for each part which of the holding parts come out with it.
-use Rattle.std.specs.Prelude.{ℕ, ◌*◌, ◌<◌, ◌≤◌, ◌≡◌, Bool, List, map, length, get_or, take, drop, ℤ, pos, ◌-ℤ◌}
+use Rattle.std.specs.Prelude.{ℕ, ◌*◌, ◌<◌, ◌≤◌, ◌≡◌, Bool, List, map, length, get_or, take, drop, ℤ, pos}
 use Rattle.std.specs.Int.Signed.{mag}
 use Rattle.model.specs.Model.{Job, positions, end, fee_of, removal_of_lem}
 use Rattle.model.specs.Decisions.{Held, held_at, of_holders}
@@ -35,11 +35,6 @@ pub record Lives (ls rs : List ℕ) : Type 0 where
   pub lefts : length rs ≡ length ls
   pub brief : (q : ℕ) → get_or ls q 0 ≤ longest_life
   pub begun : (q : ℕ) → get_or rs q 0 ≤ longest_life
-
--- a part's life, and the position of the change before the first: l its life, r its first life
-pub record Lived (l r : ℕ) (life first : ℤ) : Type 0 where
-  pub lives : life ≡ pos l
-  pub begins : first ≡ pos r -ℤ pos l
 
 -- the openings' positions and the end
 pub record Timed (e : ℤ) (ss : List ℤ) : Type 0 where

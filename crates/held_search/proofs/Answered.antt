@@ -8,6 +8,7 @@ use borrow.Author.Count.{below_more}
 use lib.ListN.{length, get_or, take, set, replicate, length-map, length-set, get_or-map}
 use lib.Seq.{take_at, get_or-take, length-take-le, ext_get_or, get_or-set_same, get_or-set_other}
 use lib.IntN.{ℤ, pos, ◌-ℤ◌}
+use Rattle.std.specs.Prelude.{Option, None, Some}
 use Rattle.branch.specs.declared.Bound.{Bound}
 use Rattle.branch.specs.declared.Bound.TheVariants.{Missing, Sum}
 use Rattle.branch.specs.Search.{none, plan, Limited, at_most}
@@ -25,7 +26,7 @@ use Rattle.model.specs.Decisions.{held_at}
 use Rattle.model.specs.Verdict.{part_at}
 use Rattle.jobs.specs.declared.Changes.{Changes}
 use Rattle.search.specs.declared.Found.{Found}
-use Rattle.search.specs.Found.{row_in, plan_found, said_by, said_at, said_in}
+use Rattle.search.specs.Found.{found_by_lem, row_in, incumbent_with, plan_found, said_by, said_at, said_in}
 use Rattle.search.proofs.Answered.{choice_size}
 use Rattle.held_places.specs.Blocks.{Entries}
 use Rattle.held_places.specs.Arrays.{prices_at, Lanes, HeldJobArrays}
@@ -131,7 +132,12 @@ module _ (job : Job) (e : ℤ) (ss : List ℤ) (fs ls rs ps : List ℕ) (nd : Li
 
 -- what is handed over: the solved search's numbers with the stops and the rows of changes
 abbrev pub handed : Solved → List Bool → List Changes → Found
-handed s stops rows = record { count = s.count; over = s.over; found = s.found; cost = s.cost; floor = s.floor; stops = stops; changes = rows }
+handed s stops rows = found_by_lem s (record { stops = stops; changes = rows })
+
+-- the incumbent of a solved search, by whether one was found
+found_is : (name : List Bool) (c : ℕ) (t : Bool) → incumbent_with name (cond t (Some c) None) ≡ cond t (plan c name) none
+found_is name c true = refl
+found_is name c false = refl
 
 module _ (job : Job) (e : ℤ) (ss : List ℤ) (fs ls rs ps : List ℕ) (nd : List Bool) (rm : List ℕ) (ar : Lanes e ss ls rs ps nd (length rm)) (ho : HeldJobArrays job e ss fs ls rs ps nd rm) (limit : ℕ) (name : List Bool) (s : Solved)
     (so : SolvesJob job limit name s) (stops : List Bool) (st : Entries false (λ (k : ℕ). get_or (get_or (blocks (length rm) (length ss) name) k (false ∷ [])) 0 true) (length ss) stops)
@@ -153,15 +159,19 @@ module _ (job : Job) (e : ℤ) (ss : List ℤ) (fs ls rs ps : List ℕ) (nd : Li
   plan_is : (c : ℕ) → (limited_by name s).incumbent ≡ plan c name → plan_found all parts r ≡ plan_at job name
   plan_is c f = plan_read job e ss fs ls rs ps nd rm ar ho name stops st rows ch (full_length c f)
 
-  by : (floor : ℕ) (o t : Bool) → s.found ≡ t → said_by all parts floor r o t ≡ answered job floor r.count o (cond t (plan r.cost name) none)
-  by floor true false f = refl
-  by floor true true f = ap (cut r.count floor r.cost) (plan_is r.cost (ap (λ (b : Bool). cond b (plan r.cost name) none) f))
-  by floor false false f = refl
-  by floor false true f = ap (optimum r.count floor r.cost) (plan_is r.cost (ap (λ (b : Bool). cond b (plan r.cost name) none) f))
+  -- the incumbent is the plan of the name, where it has a cost
+  costs : (c : ℕ) → r.cost ≡ Some c → (limited_by name s).incumbent ≡ plan c name
+  costs c f = sym (found_is name s.cost s.found) ∙ ap (incumbent_with name) f
+
+  by : (floor : ℕ) (o : Bool) (t : Option ℕ) → r.cost ≡ t → said_by all parts floor r o t ≡ answered job floor r.count o (incumbent_with name t)
+  by floor true None f = refl
+  by floor true (Some c) f = ap (cut r.count floor c) (plan_is c (costs c f))
+  by floor false None f = refl
+  by floor false (Some c) f = ap (optimum r.count floor c) (plan_is c (costs c f))
 
   at_floor : (b : Bound) → said_at all parts r b ≡ answered_at job b (limited_by name s)
   at_floor Missing = refl
-  at_floor (Sum floor) = by floor r.over r.found refl
+  at_floor (Sum floor) = by floor r.over r.cost refl ∙ ap (answered job floor r.count r.over) (found_is name s.cost s.found)
 
   -- what the code hands over says the model's answer for the job and the limit
   pub said : said_in all parts r ≡ answer_of job limit

@@ -2,13 +2,14 @@
 use Prim.Native.Nat.{ℕ, zero, suc, ◌+◌, ◌/◌, ◌%◌, ◌<◌, ◌≤◌}
 use mathlib.Core.Path.{◌≡◌, refl, sym, ap, ap₂, ◌∙◌}
 use mathlib.Core.Bool.{Bool, true, false, cond}
-use mathlib.Core.List.{List, [], ◌∷◌, ◌++◌, append_assoc, append-nil}
+use mathlib.Core.List.{List, [], ◌∷◌, ◌++◌, append_assoc}
 use native.Mathlib.Omega.{arith}
 use native.Mathlib.Numerals.{add-one}
 use native.Mathlib.Decide.{dec_lt}
 use lib.Dec.{eqb}
 use lib.ListN.{length, get_or, take, set, length-append, get_or-append}
-use lib.Seq.{take-suc, take-suc-set, take_all, get_or-append_seam}
+use lib.Seq.{take-suc, take-suc-set, take_all, take_at, length-take-le, get_or-append_seam}
+use borrow.Rule.Slice.PartMut.{put_mid, post_of}
 use Rattle.model.specs.Decisions.{concat}
 use Rattle.held_rows.proofs.Seen.{joined_more}
 use Rattle.walk.specs.State.{bits}
@@ -22,17 +23,11 @@ use Rattle.held_search.specs.Solved.{block_of}
 pub one_more : (name : List Bool) (at : ℕ) (x : Bool) → at < length name → take (at + 1) (set name at x) ≡ take at name ++ (x ∷ [])
 one_more name at x h = rw (add-one at) (take-suc-set name at x h)
 
--- before the first decision is copied the name has what stood before `at`
-pub all_none : (name : List Bool) (at : ℕ) (from : List Bool) → take (at + 0) name ≡ take at name ++ take 0 from
-all_none name at from = let z : at + 0 ≡ at = omega arith in ap (λ (n : ℕ). take n name) z ∙ sym (append-nil (take at name))
-
--- one decision more is copied into the name behind those before it
-pub all_more : (old name from : List Bool) (at i : ℕ) → i < length from → at + i < length name → take (at + i) name ≡ take at old ++ take i from → take (at + (i + 1)) (set name (at + i) (get_or from i false)) ≡ take at old ++ take (i + 1) from
-all_more old name from at i h g e =
-    let x = get_or from i false in
-    let z : at + (i + 1) ≡ at + i + 1 = omega arith in
-    ap (λ (n : ℕ). take n (set name (at + i) x)) z ∙ one_more name (at + i) x g ∙ ap (λ (l : List Bool). l ++ (x ∷ [])) e ∙ append_assoc (take at old) (take i from) (x ∷ [])
-    ∙ ap (λ (l : List Bool). take at old ++ l) (sym (take-suc from i false h) ∙ ap (λ (n : ℕ). take n from) (sym (add-one i)))
+-- decisions written as one part behind those before it
+pub all_wrote : (name from : List Bool) (at k : ℕ) → at ≤ length name → take (at + length from) (put_mid at k name from) ≡ take at name ++ from
+all_wrote name from at k h =
+    let e : length (take at name ++ from) ≡ at + length from = simp (length-append, length-take-le at name h) (omega arith) in
+    ap (take (at + length from)) (sym (append_assoc (take at name) from (post_of at k name))) ∙ take_at (take at name ++ from) (post_of at k name) (at + length from) e
 
 -- ---- a block
 

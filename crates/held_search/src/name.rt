@@ -11,20 +11,16 @@ use search::plan::stops_of;
 pub const NAMES: usize = 1088;
 
 // Decisions are written behind the first `at`.
-fn put_all(from: &[bool], at: usize, name: &mut [bool])
-    requires { (at + length from.now ≤ name_size) × (length name.old ≡ name_size) }
+fn put_all(from: &[bool], at: usize, name: &mut [bool; NAMES])
+    requires { at + length from.now ≤ name_size }
     ensures { take (at + length from.now) name.new ≡ take at name.old ++ from.now }
 {
-    let mut i = 0;
-    while i < from.len() {
-        name[at + i] = from[i];
-        i += 1;
-    }
+    name[at..at + from.len()].copy_from_slice(from);
 }
 
 // The block of an opening is written behind the first `at` decisions: no stop, or a stop and its h removals. The place behind it.
-fn put_block(stop: bool, removed: u32, h: usize, at: usize, name: &mut [bool]) -> usize
-    requires { (h ≤ most_parts) × (at + (h + 1) ≤ name_size) × (length name.old ≡ name_size) }
+fn put_block(stop: bool, removed: u32, h: usize, at: usize, name: &mut [bool; NAMES]) -> usize
+    requires { (h ≤ most_parts) × (at + (h + 1) ≤ name_size) }
     ensures behind { result ≡ at + length (block_of h stop removed) }
     ensures wrote { take result name.new ≡ take at name.old ++ block_of h stop removed }
 {
@@ -32,14 +28,14 @@ fn put_block(stop: bool, removed: u32, h: usize, at: usize, name: &mut [bool]) -
     if !stop {
         return at + 1;
     }
-    let out = stops_of(removed as u64, h);
+    let out = stops_of(u64::from(removed), h);
     put_all(&out[..h], at + 1, name);
     at + 1 + h
 }
 
 // The incumbent's name, of n openings and h removals at each stop: its size.
-pub fn name_of(mask: u64, v: &[u32; ASIDE], n: usize, h: usize, name: &mut [bool]) -> usize
-    requires { (n ≤ most_openings) × (h ≤ most_parts) × (length name.old ≡ name_size) }
+pub fn name_of(mask: u64, v: &[u32; ASIDE], n: usize, h: usize, name: &mut [bool; NAMES]) -> usize
+    requires { (n ≤ most_openings) × (h ≤ most_parts) }
     ensures size { result ≤ name_size }
     ensures name { take result name.new ≡ best_name h n v.now mask }
 {

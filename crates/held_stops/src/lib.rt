@@ -67,6 +67,7 @@ fn pend_lanes(fours: usize, t: &[u32], w: &[u32], v: &mut [u32], j: usize, rows:
 }
 
 // The whole row of a stop is kept aside.
+// Kept as tests: with lane_rows::by_fours here and in held_lanes a node of the job 36_week16_heads_d60 takes 24.6 ns, with these 22.3.
 fn pend_row(t: &[u32; TABLES], w: &[u32; STACK], v: &mut [u32; ASIDE], j: usize, rows: usize)
     requires { (Owing (lanes_in t.now) t.now w.now j rows) × (length v.old ≡ aside_size) }
     ensures { FilledBy (pending_place rows) (next_row t.now w.now j rows) (lanes_in t.now) v.old v.new }

@@ -16,9 +16,10 @@ use Rattle.held_rows.specs.Held.{HeldSheet, no_lane, class_fee, largest_to}
 use Rattle.held_lanes.specs.Places.{bit_at, most_to, class_place, top_place, removal_place, need_lanes_place, need_count_place, need_class_place, mask_base, mask_place, lead_place, classes_place, holds_place, held_size}
 use Rattle.held_lanes.specs.Tables.{needing, Masks, HeldTables}
 use Rattle.held_lanes.proofs.Coded.{coded_to}
-use Rattle.part_classes.specs.declared.Classes.{Classes}
-use Rattle.part_classes.specs.Grouped.{Led, Grouped, need_in}
-use Rattle.held_tables.specs.Sheet.{HeldArrays, lanes_of, held_sheet_of}
+use Rattle.part_classes.specs.declared.classes.Classes.{Classes}
+use Rattle.part_classes.specs.Grouped.{grouping, Grouped, need_in}
+use Rattle.held_tables.specs.Arrays.{HeldArrays}
+use Rattle.held_tables.specs.Sheet.{lanes_of, held_sheet_of}
 use Rattle.held_tables.specs.Fill.{Before, Terms, LaneSet, Listing, Lists, Needed, Closed}
 use Rattle.held_tables.proofs.Lists.{most_same, listing_kept}
 use Rattle.held_tables.proofs.Sheets.{classes_count, needing_is, lanes_count, class_small, lane_class}
@@ -38,12 +39,12 @@ needed nd rm k u v w z few a b l =
     }
 
 -- the rest: masks, leads, numbers
-pub closed : (k : Classes) (h : ℕ) (u v w z : List ℕ) → Led k → length u ≡ held_size → Masks v → Before mask_base u v → FilledBy lead_place (λ (c : ℕ). get_or k.leads c 0) k.count v w → z ≡ set (set w classes_place k.count) holds_place h
+pub closed : (k : Classes) (h : ℕ) (u v w z : List ℕ) → length u ≡ held_size → Masks v → Before mask_base u v → FilledBy lead_place (λ (c : ℕ). get_or k.leads c 0) k.count v w → z ≡ set (set w classes_place k.count) holds_place h
     → Closed k h u z
-closed k h u v w z led s m b f e =
+closed k h u v w z s m b f e =
     record {
       masks = λ x i l g. kept (mask_place x i) (omega arith) ∙ f.rest (mask_place x i) (λ y n r. omega (arith, r)) ∙ m x i l g;
-      leads = λ c l. kept (lead_place c) (omega (arith, l, led.most)) ∙ f.done c l;
+      leads = λ c l. kept (lead_place c) (omega (arith, l, k.led.most)) ∙ f.done c l;
       classes = ap (λ (l : List ℕ). get_or l classes_place 0) e ∙ get_or-set_other (set w classes_place k.count) holds_place classes_place h 0 (λ r. omega (arith, r)) ∙ get_or-set_same w classes_place k.count 0 (omega (arith, long));
       holds = ap (λ (l : List ℕ). get_or l holds_place 0) e ∙ get_or-set_same (set w classes_place k.count) holds_place h 0 (omega (arith, long, length-set w classes_place k.count));
       before = record {
@@ -59,7 +60,7 @@ closed k h u v w z led s m b f e =
     kept x l = ap (λ (l : List ℕ). get_or l x 0) e ∙ get_or-set_other (set w classes_place k.count) holds_place x h 0 (λ r. omega (arith, r)) ∙ get_or-set_other w classes_place x k.count 0 (λ r. omega (arith, r))
 
 -- all together
-module _ (e : ℤ) (ss : List ℤ) (fs ls rs ps : List ℕ) (nd : List Bool) (rm : List ℕ) (k : Classes) (ar : HeldArrays e ss fs ls rs ps nd rm) (g : Grouped nd (length rm) (length ls) k) (u v w z : List ℕ)
+module _ (e : ℤ) (ss : List ℤ) (fs ls rs ps : List ℕ) (nd : List Bool) (rm : List ℕ) (k : Classes) (ar : HeldArrays e ss fs ls rs ps nd rm) (g : Grouped nd (length rm) (length ls) (grouping k)) (u v w z : List ℕ)
     (te : Terms (sheet_of e ss fs ls rs ps) (lanes_of ss ls rs ps k.lanes) u (length ls))
     (to : FilledBy top_place (λ (j : ℕ). most_to (λ (c : ℕ). get_or u (class_place j j c) 0) k.count) (length ss + 1) u v) (ne : Needed nd rm k v w) (cl : Closed k (length rm) w z) where
   abbrev sheet : HeldSheet
@@ -80,13 +81,13 @@ module _ (e : ℤ) (ss : List ℤ) (fs ls rs ps : List ℕ) (nd : List Bool) (rm
 
   term : (j i c : ℕ) → i ≤ j → j ≤ length ss → c < k.count → Coded (top * (length ss - j)) (get_or u (class_place j i c) 0) (class_fee sheet j i c)
   unfolding class_fee
-  term j i c h l m = te.right j i c h l (omega (arith, m, g.led.most))
+  term j i c h l m = te.right j i c h l (omega (arith, m, k.led.most))
 
   lists : (b : ℕ) → b < length rm → Listing nd k b k.count (get_or z (need_count_place b) 0) z
   lists b h =
       let hold = ar.holding in
       let o = ne.lists b h in
-      let most = g.led.most in
+      let most = k.led.most in
       subst (λ (n : ℕ). Listing nd k b k.count n z) (sym (needs_stay (need_count_place b) (omega arith)))
       (listing_kept nd k b k.count (get_or w (need_count_place b) 0) w z (λ i l. needs_stay (need_class_place b i) (omega (arith, l, o.few, most, hold, h))) o)
 
@@ -96,14 +97,14 @@ module _ (e : ℤ) (ss : List ℤ) (fs ls rs ps : List ℕ) (nd : List Bool) (rm
       record {
         size = cl.before.size ∙ ne.before.size ∙ to.size ∙ te.size;
         classes = cl.classes ∙ sym count;
-        few = omega (arith, count, g.led.most);
+        few = omega (arith, count, k.led.most);
         holds = cl.holds;
         parts = ar.holding;
         masks = cl.masks;
         terms = λ j i c h l m.
             let few = ar.plain.few in
             let n : c < k.count = omega (arith, m, count) in
-            subst (λ (x : ℕ). Coded (top * (length ss - j)) x (class_fee sheet j i c)) (sym (terms_stay (class_place j i c) (omega (arith, row_inside j i mark_count h (omega arith), n, g.led.most)))) (term j i c h l n);
+            subst (λ (x : ℕ). Coded (top * (length ss - j)) x (class_fee sheet j i c)) (sym (terms_stay (class_place j i c) (omega (arith, row_inside j i mark_count h (omega arith), n, k.led.most)))) (term j i c h l n);
         tops = λ j l.
             let few = ar.plain.few in
             subst (λ (x : ℕ). Coded (top * (length ss - j)) x (largest_to (λ (c : ℕ). class_fee sheet j j c) (length sheet.needs))) (sym (tops_stay j l ∙ to.done j (omega arith)))
@@ -122,7 +123,7 @@ module _ (e : ℤ) (ss : List ℤ) (fs ls rs ps : List ℕ) (nd : List Bool) (rm
             (lists b h).most f
             ∙ most_same (λ (c : ℕ). cond (need_in nd k b c) (f c) 0) (λ (c : ℕ). cond (needing sheet b c) (f c) 0) k.count (λ c m. ap (λ (t : Bool). cond t (f c) 0) (sym (needing_is e ss fs ls rs ps nd rm k ar g b c h m)))
             ∙ ap (most_to (λ (c : ℕ). cond (needing sheet b c) (f c) 0)) (sym count);
-        need_count = λ b h. omega (arith, (lists b h).few, g.led.most);
+        need_count = λ b h. omega (arith, (lists b h).few, k.led.most);
         need_class = λ b i h l. omega (arith, (lists b h).class i l, count);
         leads = λ c m.
             let n : c < k.count = omega (arith, m, count) in

@@ -1,4 +1,5 @@
 -- Laws of filling the tables for holders, and of the job behind them.
+pub mod Ends
 pub mod Sets
 pub mod Lists
 pub mod Masks

@@ -10,7 +10,7 @@ use lib.ListN.{length, get_or, set, length-set}
 use lib.Seq.{get_or-set_same, get_or-set_other}
 use Rattle.lane_rows.specs.Layout.{lane_count_lem}
 use Rattle.held_lanes.specs.Places.{most_to, need_count_place, need_class_place, held_size}
-use Rattle.part_classes.specs.declared.Classes.{Classes}
+use Rattle.part_classes.specs.declared.classes.Classes.{Classes}
 use Rattle.part_classes.specs.Grouped.{need_in}
 use Rattle.held_tables.specs.Fill.{Listing, Listed, Lists}
 

@@ -21,10 +21,16 @@ use Rattle.search_tables.proofs.Filling.{past, own_each}
 use Rattle.held_places.specs.Arrays.{need_stride, needs_at, Lanes, HeldJobArrays}
 use Rattle.held_rows.specs.Held.{HeldColumn, HeldSheet, column_in, plain, no_lane, needs_of_lem, Classed, Laid, Fills, SheetOf}
 use Rattle.held_lanes.specs.Tables.{needing}
-use Rattle.part_classes.specs.declared.Classes.{Classes}
-use Rattle.part_classes.specs.Grouped.{Grouped, need_in}
-use Rattle.held_tables.specs.Sheet.{HeldArrays, held_sheet_of}
+use Rattle.part_classes.specs.declared.classes.Classes.{Classes}
+use Rattle.part_classes.specs.Grouped.{grouping, Grouped, need_in}
+use Rattle.held_tables.specs.declared.numbers.HeldNumbers.{HeldNumbers}
+use Rattle.held_tables.specs.Arrays.{HeldArrays}
+use Rattle.held_tables.specs.Sheet.{held_sheet_of}
 use Rattle.held_tables.proofs.Lanes.{lane_at, lanes_length, lanes_at, columns_are}
+
+-- the arrays that the code's numbers are
+pub arrays_of : (n : HeldNumbers) → HeldArrays n.job.end n.job.positions.now n.job.fees.now n.job.lives.now n.job.lefts.now n.job.prices.now n.needs.now n.removals.now
+arrays_of n = record { plain = n.job.arrays; needs = n.size; holding = n.few; removals = n.cheap }
 
 -- the arrays are such as one part's sums ask for
 pub lanes_are : {e : ℤ} {ss : List ℤ} {fs ls rs ps : List ℕ} {nd : List Bool} {rm : List ℕ} → HeldArrays e ss fs ls rs ps nd rm → Lanes e ss ls rs ps nd (length rm)
@@ -39,7 +45,7 @@ lanes_are ar =
       holding = ar.holding;
     }
 
-module _ (e : ℤ) (ss : List ℤ) (fs ls rs ps : List ℕ) (nd : List Bool) (rm : List ℕ) (k : Classes) (ar : HeldArrays e ss fs ls rs ps nd rm) (g : Grouped nd (length rm) (length ls) k) where
+module _ (e : ℤ) (ss : List ℤ) (fs ls rs ps : List ℕ) (nd : List Bool) (rm : List ℕ) (k : Classes) (ar : HeldArrays e ss fs ls rs ps nd rm) (g : Grouped nd (length rm) (length ls) (grouping k)) where
   abbrev sheet : HeldSheet
   sheet = held_sheet_of e ss fs ls rs ps nd rm k
 
@@ -51,7 +57,7 @@ module _ (e : ℤ) (ss : List ℤ) (fs ls rs ps : List ℕ) (nd : List Bool) (rm
 
   -- the sheet has the needs of as many classes as there are
   pub classes_count : length sheet.needs ≡ k.count
-  classes_count = length-map (take k.count k.leads) (needs_at (length rm) nd) ∙ length-take-le k.count k.leads (omega (arith, g.led.room, g.led.most))
+  classes_count = length-map (take k.count k.leads) (needs_at (length rm) nd) ∙ length-take-le k.count k.leads (omega (arith, k.led.room, k.led.most))
 
   -- a class needs the holding parts that its lead needs
   pub class_needs_lem : (c : ℕ) → c < k.count → needs_of_lem sheet c ≡ needs_at (length rm) nd (get_or k.leads c 0)

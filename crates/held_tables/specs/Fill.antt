@@ -10,7 +10,7 @@ use Rattle.lane_rows.specs.Tables.{Coded, fee_from}
 use Rattle.held_rows.specs.Held.{HeldColumn}
 use Rattle.held_lanes.specs.Places.{bit_at, most_to, class_place, removal_base, removal_place, need_lanes_place, need_count_place, need_class_place, mask_base, lead_place, classes_place, holds_place, held_size}
 use Rattle.held_lanes.specs.Tables.{Masks}
-use Rattle.part_classes.specs.declared.Classes.{Classes}
+use Rattle.part_classes.specs.declared.classes.Classes.{Classes}
 use Rattle.part_classes.specs.Grouped.{need_in}
 
 -- nothing before a place moved

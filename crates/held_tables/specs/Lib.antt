@@ -1,2 +1,4 @@
+pub mod Arrays
 pub mod Sheet
+pub mod Numbers
 pub mod Fill

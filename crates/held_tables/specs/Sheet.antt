@@ -1,25 +1,9 @@
--- The arrays of a job with holders, as the tables are filled from them, and the sheet that they make with the classes of its parts.
-use Rattle.std.specs.Prelude.{ℕ, zero, suc, ◌*◌, ◌≤◌, ◌≡◌, Bool, List, [], ◌∷◌, map, length, get_or, take, ℤ}
-use Rattle.model.specs.Limits.{most_parts}
-use Rattle.least.specs.Suffix.{table_size}
-use Rattle.lane_rows.specs.Layout.{top}
-use Rattle.search_tables.specs.Arrays as search
+-- The sheet that a job's arrays make with the classes of its parts.
+use Rattle.std.specs.Prelude.{ℕ, zero, suc, ◌*◌, Bool, List, [], ◌∷◌, map, length, get_or, take, ℤ}
 use Rattle.search_tables.specs.Arrays.{lane_part, column_of, fours_of_lem}
-use Rattle.held_places.specs.Arrays.{need_size, needs_at}
+use Rattle.held_places.specs.Arrays.{needs_at}
 use Rattle.held_rows.specs.Held.{HeldColumn, HeldSheet}
-use Rattle.part_classes.specs.declared.Classes.{Classes}
-
--- the arrays of the search over openings alone, nd needs and rm removals of the holding parts
-pub record HeldArrays (e : ℤ) (ss : List ℤ) (fs ls rs ps : List ℕ) (nd : List Bool) (rm : List ℕ) : Type 0 where
-  pub plain : search.Arrays e ss fs ls rs ps
-  pub needs : length nd ≡ need_size
-  pub holding : length rm ≤ most_parts
-  pub removals : (b : ℕ) → get_or rm b 0 ≤ top
-
--- and room for one part's own table
-pub record HeldReady (e : ℤ) (ss : List ℤ) (fs ls rs ps : List ℕ) (nd : List Bool) (rm tab : List ℕ) : Type 0 where
-  pub arrays : HeldArrays e ss fs ls rs ps nd rm
-  pub room : table_size ≤ length tab
+use Rattle.part_classes.specs.declared.classes.Classes.{Classes}
 
 -- k lanes from q on
 unfoldable pub lanes_from : ℕ → List ℕ → List ℕ → List ℕ → List ℕ → ℕ → ℕ → List HeldColumn

@@ -1,22 +1,25 @@
 // The tables of the walk of a job with holders: the terms by classes of parts, and who needs whom.
 #![tactic(auto)]
 
-pub mod needs;
-pub mod terms;
+mod needs;
+pub mod numbers;
+mod terms;
 
 ghost use Rattle.std.specs.Prelude.{◌≡◌, ℕ, ◌+◌, ◌<◌, ◌≤◌, length, get_or, set};
 ghost use Rattle.least.specs.Filled.{FilledBy};
+ghost use Rattle.least.specs.Suffix.{table_size};
 ghost use Rattle.lane_rows.specs.Layout.{lane_count_lem};
 ghost use Rattle.held_lanes.specs.Places.{mask_of, mask_base, mask_place, lead_place, classes_place, holds_place, held_size};
 ghost use Rattle.held_lanes.specs.Tables.{Masks, HeldTables};
-ghost use Rattle.part_classes.specs.Grouped.{Led, Grouped};
-ghost use Rattle.held_tables.specs.Sheet.{held_sheet_of, HeldReady};
+ghost use Rattle.part_classes.specs.Grouped.{grouping, Grouped};
+ghost use Rattle.held_tables.specs.Numbers.{sheet_with};
 ghost use Rattle.held_tables.specs.Fill.{Before, Closed};
 
-use held_lanes::{CLASSES, HOLDS, LEADS, MASKS};
+use held_lanes::{CLASSES, HELD, HOLDS, LEADS, MASKS};
 use lane_rows::INF;
 use needs::put_needs;
-use part_classes::Classes;
+use numbers::HeldNumbers;
+use part_classes::classes::Classes;
 use terms::{put_terms, put_tops};
 
 // What stands for the first lane of a set.
@@ -27,8 +30,8 @@ fn mask(set: usize) -> u32
 }
 
 // The four masks of a set.
-fn put_mask(set: usize, u: &mut [u32])
-    requires { (set < 16) × (length u.old ≡ held_size) }
+fn put_mask(set: usize, u: &mut [u32; HELD])
+    requires { set < 16 }
     ensures { FilledBy (mask_place set) (mask_of set) 4 u.old u.new }
 {
     let at = MASKS + set * 4;
@@ -40,8 +43,7 @@ fn put_mask(set: usize, u: &mut [u32])
 }
 
 // The masks of all sets of four lanes.
-fn put_masks(u: &mut [u32])
-    requires { length u.old ≡ held_size }
+fn put_masks(u: &mut [u32; HELD])
     ensures { Masks u.new × Before mask_base u.old u.new }
 {
     for set in 0..16 {
@@ -50,22 +52,17 @@ fn put_masks(u: &mut [u32])
 }
 
 // The lead of each class.
-fn put_leads(classes: Classes, u: &mut [u32])
-    requires { Led classes × (length u.old ≡ held_size) }
-    ensures { FilledBy lead_place (λ (c : ℕ). get_or classes.leads c 0) classes.count u.old u.new }
+fn put_leads(classes: &Classes, u: &mut [u32; HELD])
+    ensures { FilledBy lead_place (λ (c : ℕ). get_or classes.now.leads c 0) classes.now.count u.old u.new }
 {
-    let leads = classes.leads;
-    let count = classes.count;
-    let mut c: usize = 0;
-    while c < count {
-        u[LEADS + c] = leads[c] as u32;
-        c += 1;
+    for (c, lead) in classes.leads[..classes.count].iter().enumerate() {
+        u[LEADS + c] = *lead as u32;
     }
 }
 
 // How many classes there are, and how many holding parts.
-fn put_counts(n: usize, h: usize, u: &mut [u32])
-    requires { (n ≤ lane_count_lem) × (h ≤ lane_count_lem) × (length u.old ≡ held_size) }
+fn put_counts(n: usize, h: usize, u: &mut [u32; HELD])
+    requires { (n ≤ lane_count_lem) × (h ≤ lane_count_lem) }
     ensures { u.new ≡ set (set u.old classes_place n) holds_place h }
 {
     u[CLASSES] = n as u32;
@@ -73,36 +70,35 @@ fn put_counts(n: usize, h: usize, u: &mut [u32])
 }
 
 // The masks, the leads and the numbers of classes and of holding parts.
-fn put_rest(classes: Classes, h: usize, u: &mut [u32])
-    requires { Led classes × (h ≤ lane_count_lem) × (length u.old ≡ held_size) }
-    ensures { Closed classes h u.old u.new }
+fn put_rest(classes: &Classes, h: usize, u: &mut [u32; HELD])
+    requires { h ≤ lane_count_lem }
+    ensures { Closed classes.now h u.old u.new }
 {
-    let n = classes.count;
     put_masks(u);
     put_leads(classes, u);
-    put_counts(n, h, u);
+    put_counts(classes.count, h, u);
+}
+
+// The tables for holders, region by region.
+fn put_all(numbers: &HeldNumbers, classes: &Classes, tab: &mut [u64], u: &mut [u32; HELD])
+    requires room { table_size ≤ length tab.old }
+    requires grouped { Grouped numbers.now.needs.now (length numbers.now.removals.now) (length numbers.now.job.lives.now) (grouping classes.now) }
+    ensures { HeldTables (sheet_with numbers.now classes.now) u.new }
+{
+    put_terms(numbers, classes, tab, u);
+    put_tops(numbers.job.positions.len(), classes.count, u);
+    put_needs(numbers, classes, u);
+    put_rest(classes, numbers.removals.len(), u);
 }
 
 // The tables for holders of the job in the arrays, by the classes of its parts.
-pub fn fill_held(
-    end: i32,
-    positions: &[i32],
-    fees: &[u32],
-    lives: &[u32],
-    lefts: &[u32],
-    prices: &[u32],
-    needs: &[bool],
-    removals: &[u32],
-    classes: Classes,
-    tab: &mut [u64],
-    u: &mut [u32],
-)
-    requires { (HeldReady end positions.now fees.now lives.now lefts.now prices.now needs.now removals.now tab.old) × Grouped needs.now (length removals.now) (length lives.now) classes × (length u.old ≡ held_size) }
-    ensures { HeldTables (held_sheet_of end positions.now fees.now lives.now lefts.now prices.now needs.now removals.now classes) u.new }
+pub fn fill_held(numbers: &HeldNumbers, classes: &Classes, tab: &mut [u64], u: &mut [u32])
+    requires room { table_size ≤ length tab.old }
+    requires grouped { Grouped numbers.now.needs.now (length numbers.now.removals.now) (length numbers.now.job.lives.now) (grouping classes.now) }
+    requires size { length u.old ≡ held_size }
+    ensures { HeldTables (sheet_with numbers.now classes.now) u.new }
 {
-    let n = classes.count;
-    put_terms(end, positions, fees, lives, lefts, prices, classes, tab, u);
-    put_tops(positions.len(), n, u);
-    put_needs(needs, removals, classes, u);
-    put_rest(classes, removals.len(), u);
+    if let Some(table) = u.as_mut_array() {
+        put_all(numbers, classes, tab, table);
+    }
 }

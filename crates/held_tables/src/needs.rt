@@ -1,107 +1,86 @@
 // Who needs each holding part: its lanes as a set, and its classes as a list; and what its removal costs.
-ghost use Rattle.std.specs.Prelude.{◌≡◌, cond, ℕ, ◌<◌, ◌≤◌, length, get_or};
+ghost use Rattle.std.specs.Prelude.{◌≡◌, ℕ, ◌<◌, ◌≤◌, length, get_or};
 ghost use Rattle.least.specs.Filled.{Filled, FilledBy};
 ghost use Rattle.lane_rows.specs.Layout.{lane_count_lem};
-ghost use Rattle.held_places.specs.Arrays.{need_size};
-ghost use Rattle.held_lanes.specs.Places.{removal_place, need_lanes_place, held_size};
-ghost use Rattle.part_classes.specs.Grouped.{Led, need_in};
+ghost use Rattle.held_lanes.specs.Places.{removal_place, need_lanes_place};
+ghost use Rattle.part_classes.specs.Grouped.{need_in};
 ghost use Rattle.held_tables.specs.Fill.{LaneSet, Listed, Lists, Needed};
 
-use held_lanes::{NEED_CLASSES, NEED_COUNTS, NEED_LANES, REMOVALS};
+use crate::numbers::HeldNumbers;
+use held_lanes::{HELD, NEED_CLASSES, NEED_COUNTS, NEED_LANES, REMOVALS};
+use held_places::needs::Needs;
 use lane_rows::LANES;
 use model::PARTS;
-use part_classes::Classes;
+use part_classes::classes::Classes;
 
 // The removals.
-fn put_removals(removals: &[u32], u: &mut [u32])
-    requires { (length removals.now ≤ lane_count_lem) × (length u.old ≡ held_size) }
+fn put_removals(removals: &[u32], u: &mut [u32; HELD])
+    requires { length removals.now ≤ lane_count_lem }
     ensures { FilledBy removal_place (λ (b : ℕ). get_or removals.now b 0) (length removals.now) u.old u.new }
 {
-    let mut b = 0;
-    while b < removals.len() {
-        u[REMOVALS + b] = removals[b];
-        b += 1;
-    }
+    u[REMOVALS..REMOVALS + removals.len()].copy_from_slice(removals);
 }
 
 // Class c needs the holding part b.
-fn class_needs(needs: &[bool], classes: Classes, c: usize, b: usize) -> bool
-    requires { (length needs.now ≡ need_size) × Led classes × (c < lane_count_lem) × (b < lane_count_lem) }
-    ensures { result ≡ need_in needs.now classes b c }
+fn class_needs(needs: &Needs, classes: &Classes, c: usize, b: usize) -> bool
+    requires { (c < lane_count_lem) × (b < lane_count_lem) }
+    ensures { result ≡ need_in needs.now.marks.now classes.now b c }
 {
-    let leads = classes.leads;
-    needs[leads[c] * PARTS + b]
+    needs.marks[classes.leads[c] * PARTS + b]
 }
 
-// 1 or 0.
-fn bit(x: bool) -> u32
-    ensures { result ≡ cond x 1 0 }
+// The lanes that need the holding part b: the last lane is the highest bit.
+fn lane_set(needs: &Needs, classes: &Classes, b: usize) -> u32
+    requires { b < lane_count_lem }
+    ensures { LaneSet needs.now.marks.now classes.now b result }
 {
-    if x { 1 } else { 0 }
-}
-
-// The lanes that need the holding part b.
-fn lane_set(needs: &[bool], classes: Classes, b: usize) -> u32
-    requires { (length needs.now ≡ need_size) × Led classes × (b < lane_count_lem) }
-    ensures { LaneSet needs.now classes b result }
-{
-    let lanes = classes.lanes;
-    let mut set: u32 = 0;
-    let mut q: usize = LANES;
-    while 0 < q {
-        q -= 1;
-        set = set * 2 + bit(class_needs(needs, classes, lanes[q], b));
+    let mut set = 0;
+    for q in (0..LANES).rev() {
+        set = set * 2 + u32::from(class_needs(needs, classes, classes.lanes[q], b));
     }
     set
 }
 
-// The lanes that need each of h holding parts.
-fn put_lanes(needs: &[bool], classes: Classes, h: usize, u: &mut [u32])
-    requires { (length needs.now ≡ need_size) × Led classes × (h ≤ lane_count_lem) × (length u.old ≡ held_size) }
-    ensures { Filled need_lanes_place (LaneSet needs.now classes) h u.old u.new }
+// The lanes that need each of the holding parts.
+fn put_lanes(needs: &Needs, classes: &Classes, u: &mut [u32; HELD])
+    ensures { Filled need_lanes_place (LaneSet needs.now.marks.now classes.now) needs.now.holding u.old u.new }
 {
-    for b in 0..h {
+    for b in 0..needs.holding {
         u[NEED_LANES + b] = lane_set(needs, classes, b);
     }
 }
 
 // The list of the classes that need the holding part b; and how many there are.
-fn put_list(needs: &[bool], classes: Classes, b: usize, u: &mut [u32]) -> usize
-    requires { (length needs.now ≡ need_size) × Led classes × (b < lane_count_lem) × (length u.old ≡ held_size) }
-    ensures { Listed needs.now classes b result u.old u.new }
+fn put_list(needs: &Needs, classes: &Classes, b: usize, u: &mut [u32; HELD]) -> usize
+    requires { b < lane_count_lem }
+    ensures { Listed needs.now.marks.now classes.now b result u.old u.new }
 {
-    let count = classes.count;
     let mut n: usize = 0;
-    let mut c: usize = 0;
-    while c < count {
-        let class = c;
-        c += 1;
-        if class_needs(needs, classes, class, b) {
-            u[NEED_CLASSES + (b * LANES + n)] = class as u32;
+    for c in 0..classes.count {
+        if class_needs(needs, classes, c, b) {
+            u[NEED_CLASSES + (b * LANES + n)] = c as u32;
             n += 1;
         }
     }
     n
 }
 
-// The lists of h holding parts.
-fn put_lists(needs: &[bool], classes: Classes, h: usize, u: &mut [u32])
-    requires { (length needs.now ≡ need_size) × Led classes × (h ≤ lane_count_lem) × (length u.old ≡ held_size) }
-    ensures { Lists needs.now classes h u.old u.new }
+// The lists of the holding parts.
+fn put_lists(needs: &Needs, classes: &Classes, u: &mut [u32; HELD])
+    ensures { Lists needs.now.marks.now classes.now needs.now.holding u.old u.new }
 {
-    for b in 0..h {
+    for b in 0..needs.holding {
         let n = put_list(needs, classes, b, u);
         u[NEED_COUNTS + b] = n as u32;
     }
 }
 
 // The removals and the needs of the holding parts.
-pub fn put_needs(needs: &[bool], removals: &[u32], classes: Classes, u: &mut [u32])
-    requires { (length needs.now ≡ need_size) × (length removals.now ≤ lane_count_lem) × Led classes × (length u.old ≡ held_size) }
-    ensures { Needed needs.now removals.now classes u.old u.new }
+pub fn put_needs(numbers: &HeldNumbers, classes: &Classes, u: &mut [u32; HELD])
+    ensures { Needed numbers.now.needs.now numbers.now.removals.now classes.now u.old u.new }
 {
-    let h = removals.len();
-    put_removals(removals, u);
-    put_lanes(needs, classes, h, u);
-    put_lists(needs, classes, h, u);
+    let needs = numbers.needs();
+    put_removals(numbers.removals, u);
+    put_lanes(&needs, classes, u);
+    put_lists(&needs, classes, u);
 }

@@ -71,6 +71,7 @@ pub fn walk(
 }
 
 // The last mark of each class before the first opening.
+// Kept as a loop over places: an iterator over a part of the marks would leave nothing known of what is written to them.
 pub fn first_marks(u: &[u32], v: &mut [u32])
     requires { (length u.now ≡ held_size) × (length v.old ≡ aside_size) × (get_or u.now classes_place 0 ≤ lane_count_lem) }
     ensures { FilledBy (last_place 0) (offset 0) (get_or u.now classes_place 0) v.old v.new }

@@ -1,10 +1,11 @@
 -- An accepted job text is the rendering of what it says (`text_is`), and that is valid (`valid_text`, and `valid` of what it means). By the grammar's lines, one after the other.
+use Rattle.std.specs.Prelude.{Option, Some, None}
 use Prim.Native.Nat.{ℕ, suc, ◌≤◌}
 use mathlib.Core.Path.{◌≡◌, refl, sym, ap, ◌∙◌, subst}
 use mathlib.Core.List.{List, [], ◌∷◌, ◌++◌, map, append_assoc, append-nil}
 use native.Mathlib.Omega.{arith}
 use lib.ListN.{length, length-map}
-use Rattle.lines.specs.Text.{bytes, line_of, texts, Optional, missing, present, optional_text}
+use Rattle.lines.specs.Text.{bytes, line_of, texts, optional_text}
 use Rattle.lines.specs.Parser.{good, Outcome, accepted, refused, return, row, optional, if_present, checked, rising}
 use Rattle.lines.proofs.Outcomes.{one_value, not_both}
 use Rattle.lines.proofs.Sound.{Told, Tells, Rises, rising_tells, bind_inv, Optionally, optional_inv, row_sound, chain_sound, row_gives, Chained, chain_gives, accepted_is}
@@ -17,7 +18,7 @@ use Rattle.part_lines.specs.Grammar.{PartText, meant_part, part, following}
 use Rattle.part_lines.specs.Rendering.{part_text}
 use Rattle.part_lines.specs.Valid.{Spelt, KnownPart}
 use Rattle.part_lines.proofs.Accepted.{part_tells}
-use Rattle.job_grammar.specs.Valid.{Valid, Some, Allowed, ValidText}
+use Rattle.job_grammar.specs.Valid.{Valid, SomeIdles, Allowed, ValidText}
 use Rattle.job_grammar.proofs.Lows.{meant_valid}
 
 -- ---- steps that rise
@@ -29,8 +30,8 @@ KnownStep h before v = Rises 365 h before v
 -- ---- idle steps
 
 -- at most 365, which rise and stay within the horizon h; and some where they are written
-abbrev pub KnownIdles : ℕ → Optional (List ℕ) → Type 0
-KnownIdles h is = (length (idle_in is) ≤ 365) × Rising 0 h (idle_in is) × Some is
+abbrev pub KnownIdles : ℕ → Option (List ℕ) → Type 0
+KnownIdles h is = (length (idle_in is) ≤ 365) × Rising 0 h (idle_in is) × SomeIdles is
 
 -- the number that an idle step hands on
 abbrev pub itself : ℕ → ℕ → ℕ
@@ -47,14 +48,14 @@ idles_tell h s s' l l' is e =
     let b = bind_inv (optional "idles=" 1 365) _ s s' l l' is e in
     go b.a b.mid b.at (optional_inv _ 1 365 s b.mid l b.at b.a b.first) b.second
   where
-    go : (n : Optional ℕ) (mid : List ℕ) (at : ℕ) → Optionally (bytes "idles=") 1 365 s mid l at n → if_present (idle_steps_lem h) n mid at ≡ good is s' l' → Told (KnownIdles h) (optional_text idles_text) s s' is
-    go missing mid at none e =
-        let x : missing ≡ is = cc in
+    go : (n : Option ℕ) (mid : List ℕ) (at : ℕ) → Optionally (bytes "idles=") 1 365 s mid l at n → if_present (idle_steps_lem h) n mid at ≡ good is s' l' → Told (KnownIdles h) (optional_text idles_text) s s' is
+    go None mid at none e =
+        let x : None ≡ is = cc in
         let y : mid ≡ s' = cc in
         subst (Told (KnownIdles h) (optional_text idles_text) s s') x (record { known = (omega arith, tt, tt); text = none ∙ y })
-    go (present n) mid at some e =
+    go (Some n) mid at some e =
         let d = bind_inv (idle_steps_lem h n) _ mid s' at l' is e in
-        let x : present d.a ≡ is = cc d.second in
+        let x : Some d.a ≡ is = cc d.second in
         let y : d.mid ≡ s' = cc d.second in
         let k = row_gives _ 1 365 s mid l at n some in
         let c = chain_gives (idle h) itself (KnownStep h) (λ before s s' l l' i e. (rising_tells 4 _ 365 h before s s' l l' i e).known) n 0 mid d.mid at d.at d.a d.first in
@@ -123,11 +124,11 @@ parts_chained m n k (p ∷ ps) v h s = ((v.0, h.0, s.0), parts_chained m n (suc 
 
 -- ---- the whole
 
-abbrev KnownJob : ℕ → Optional (List ℕ) → Optional ℕ → ℕ → JobText → Type 0
+abbrev KnownJob : ℕ → Option (List ℕ) → Option ℕ → ℕ → JobText → Type 0
 KnownJob h is w n t =
     (2 ≤ h → h ≤ 365 → KnownIdles h is → n ≤ 64 → ValidJob (meant t).job) × (t.walk ≡ w) × (t.horizon ≡ h) × (t.idles ≡ is) × (length t.openings ≡ n) × All (Spelt (length t.openings)) t.parts
 
-body_tells : (h : ℕ) (is : Optional (List ℕ)) (w : Optional ℕ) (n : ℕ) → Tells (body h is w n) (KnownJob h is w n) body_text
+body_tells : (h : ℕ) (is : Option (List ℕ)) (w : Option ℕ) (n : ℕ) → Tells (body h is w n) (KnownJob h is w n) body_text
 unfolding body openings parts return body_text
 body_tells h is w n s s' l l' g e =
     let b = bind_inv (openings h n) _ s s' l l' g e in
@@ -176,9 +177,9 @@ body_tells h is w n s s' l l' g e =
 walk_tells : Tells (optional "walk=" 0 4000000000) Allowed (optional_text (line_of "walk="))
 walk_tells s s' l l' o e = go o (optional_inv _ 0 4000000000 s s' l l' o e)
   where
-    go : (o : Optional ℕ) → Optionally (bytes "walk=") 0 4000000000 s s' l l' o → Told Allowed (optional_text (line_of "walk=")) s s' o
-    go missing f = record { known = tt; text = f }
-    go (present w) f = record { known = (row_gives _ 0 4000000000 s s' l l' w f).1; text = row_sound _ 0 4000000000 s s' l l' w f }
+    go : (o : Option ℕ) → Optionally (bytes "walk=") 0 4000000000 s s' l l' o → Told Allowed (optional_text (line_of "walk=")) s s' o
+    go None f = record { known = tt; text = f }
+    go (Some w) f = record { known = (row_gives _ 0 4000000000 s s' l l' w f).1; text = row_sound _ 0 4000000000 s s' l l' w f }
 
 -- an accepted job's lines say a valid text, and are what is written for it
 pub lines_tell : Tells job_lines ValidText job_text_lem
@@ -200,7 +201,7 @@ lines_tell s s' l l' g e =
     record {
       known = record {
         means = meant_valid g (t.known.0 k₁.0 k₁.1 steps.known k₃.1) t.known.5;
-        idles = subst Some is steps.known.2;
+        idles = subst SomeIdles is steps.known.2;
         walk = subst Allowed w line.known;
         lines = t.known.5;
       };
@@ -209,10 +210,10 @@ lines_tell s s' l l' g e =
           ∙ ap (λ (m : ℕ). line_of "horizon=" m ++ b.mid) h
           ∙ ap (λ (r : List ℕ). line_of "horizon=" g.horizon ++ r)
           (steps.text
-          ∙ ap (λ (xs : Optional (List ℕ)). optional_text idles_text xs ++ c.mid) is
+          ∙ ap (λ (xs : Option (List ℕ)). optional_text idles_text xs ++ c.mid) is
           ∙ ap (λ (r : List ℕ). optional_text idles_text g.idles ++ r)
           (line.text
-          ∙ ap (λ (o : Optional ℕ). optional_text (line_of "walk=") o ++ d.mid) w
+          ∙ ap (λ (o : Option ℕ). optional_text (line_of "walk=") o ++ d.mid) w
           ∙ ap (λ (r : List ℕ). optional_text (line_of "walk=") g.walk ++ r)
           (row_sound _ 0 64 d.mid f.mid d.at f.at f.a f.first
           ∙ ap (λ (m : ℕ). line_of "openings=" m ++ f.mid) n

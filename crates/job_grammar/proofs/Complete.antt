@@ -1,5 +1,6 @@
 -- The job grammar is complete: what a valid record of a job text says is read back from its text as exactly that record (`read_back`), which always fits. By the grammar's lines, one after the other.
 -- With `text_is` this says what an accepted text is (`accepted_exactly`).
+use Rattle.std.specs.Prelude.{Option, Some, None}
 use Prim.Native.Nat.{ℕ, suc, ◌≤◌}
 use mathlib.Core.Path.{◌≡◌, refl, sym, ap, ◌∙◌, subst}
 use mathlib.Core.List.{List, [], ◌∷◌, ◌++◌, map, append_assoc, append-nil}
@@ -8,7 +9,7 @@ use mathlib.Core.Logic.{◌↔◌}
 use native.Mathlib.Omega.{arith}
 use lib.ListN.{length, length-map}
 use Rattle.lines.specs.Line.{starts_with}
-use Rattle.lines.specs.Text.{bytes, line, line_of, texts, Optional, missing, present, optional_text}
+use Rattle.lines.specs.Text.{bytes, line, line_of, texts, optional_text}
 use Rattle.lines.specs.Parser.{good, accepted, return, row, optional, if_present, checked, chain, rising}
 use Rattle.lines.proofs.Parsing.{bind_good, optional_missing}
 use Rattle.lines.proofs.Sound.{Chained}
@@ -24,7 +25,7 @@ use Rattle.part_lines.proofs.Behind.{behind_none, parts_behind}
 use Rattle.part_lines.proofs.Complete.{part_complete}
 use Rattle.job_grammar.specs.Grammar.{JobText, idle_in, idle, idle_steps_lem, idles, opening, openings, parts, body, rest, job_lines, max_bytes, read_job_text}
 use Rattle.job_grammar.specs.Rendering.{idles_text, opening_text, body_text, job_text_lem}
-use Rattle.job_grammar.specs.Valid.{Some, Allowed, ValidText}
+use Rattle.job_grammar.specs.Valid.{SomeIdles, Allowed, ValidText}
 use Rattle.job_grammar.proofs.Accepted.{KnownStep, itself, KnownOpening, step_of, parts_chained, valid_text, text_is}
 use Rattle.job_grammar.proofs.Lengths.{text_fits}
 
@@ -35,11 +36,11 @@ rise_chained h before [] high r = tt
 rise_chained h before (i ∷ is) high r = (record { low = omega (arith, r.0); high = omega (arith, r.1); after = r.0; within = r.1 }, rise_chained h i is high r.2)
 
 -- idle steps in order, or none, are read back from their lines if no other `idles` line follows
-pub idles_complete : (h : ℕ) (o : Optional (List ℕ)) → h ≤ 365 → length (idle_in o) ≤ 365 → Rising 0 h (idle_in o) → Some o → (s : List ℕ) (l : ℕ) → starts_with (bytes "idles=") s ≡ false
+pub idles_complete : (h : ℕ) (o : Option (List ℕ)) → h ≤ 365 → length (idle_in o) ≤ 365 → Rising 0 h (idle_in o) → SomeIdles o → (s : List ℕ) (l : ℕ) → starts_with (bytes "idles=") s ≡ false
     → (l' : ℕ) × (idles h (optional_text idles_text o ++ s) l ≡ good o s l')
 unfolding idles idle_steps_lem idle if_present return idles_text
-idles_complete h missing high few r some s l e = (l, bind_good (optional "idles=" 1 365) _ (optional_missing _ 1 365 s l e))
-idles_complete h (present is) high few r some s l e =
+idles_complete h None high few r some s l e = (l, bind_good (optional "idles=" 1 365) _ (optional_missing _ 1 365 s l e))
+idles_complete h (Some is) high few r some s l e =
     let ts = texts (line_of "idle=") is in
     let a = optional_present (bytes "idles=") 1 365 (omega arith) (length is) (some, few) (ts ++ s) l in
     let b = chain_complete (idle h) itself (line_of "idle=") (KnownStep h) (rising_complete 4 _ 365 h (omega arith)) 0 is (rise_chained h 0 is high r) s a.0 in (
@@ -104,19 +105,19 @@ body_complete t v s l next =
     )
 
 -- what follows the idle steps, if any, is the walk line or the number of openings
-pub walk_next : (w : Optional ℕ) (n : ℕ) (s : List ℕ) → starts_with (bytes "idles=") (optional_text (line_of "walk=") w ++ (line_of "openings=" n ++ s)) ≡ false
+pub walk_next : (w : Option ℕ) (n : ℕ) (s : List ℕ) → starts_with (bytes "idles=") (optional_text (line_of "walk=") w ++ (line_of "openings=" n ++ s)) ≡ false
 unfolding starts_with line bytes
-walk_next missing n s = refl
-walk_next (present w) n s = refl
+walk_next None n s = refl
+walk_next (Some w) n s = refl
 
 -- and what follows the walk line, if any, is the number of openings
 pub openings_next : (n : ℕ) (s : List ℕ) → starts_with (bytes "walk=") (line_of "openings=" n ++ s) ≡ false
 unfolding starts_with line bytes
 openings_next n s = refl
 
-walk_complete : (o : Optional ℕ) → Allowed o → (s : List ℕ) (l : ℕ) → starts_with (bytes "walk=") s ≡ false → (l' : ℕ) × (optional "walk=" 0 4000000000 (optional_text (line_of "walk=") o ++ s) l ≡ good o s l')
-walk_complete missing v s l e = (l, optional_missing _ 0 4000000000 s l e)
-walk_complete (present w) v s l e = optional_present (bytes "walk=") 0 4000000000 (omega arith) w (omega arith, v) s l
+walk_complete : (o : Option ℕ) → Allowed o → (s : List ℕ) (l : ℕ) → starts_with (bytes "walk=") s ≡ false → (l' : ℕ) × (optional "walk=" 0 4000000000 (optional_text (line_of "walk=") o ++ s) l ≡ good o s l')
+walk_complete None v s l e = (l, optional_missing _ 0 4000000000 s l e)
+walk_complete (Some w) v s l e = optional_present (bytes "walk=") 0 4000000000 (omega arith) w (omega arith, v) s l
 
 -- with anything behind its lines that may stand behind a part's
 pub lines_back : (t : JobText) → ValidText t → (s : List ℕ) (l : ℕ) → Behind s → (l' : ℕ) × (job_lines (job_text_lem t ++ s) l ≡ good t s l')

@@ -1,11 +1,12 @@
 -- A job text has at most 33,373 bytes, so it fits (`text_short`): 365 idle steps, 64 openings and sixteen parts, each held by the fifteen others, each number with its most digits. By the lengths of the lines; idle steps rise, so they are among 1 to 365.
+use Rattle.std.specs.Prelude.{Option, Some, None}
 use Prim.Native.Nat.{ℕ, zero, suc, ◌+◌, ◌-◌, ◌*◌, ◌≤◌, ◌<◌}
 use mathlib.Core.Path.{◌≡◌, refl, ap}
 use mathlib.Core.List.{List, [], ◌∷◌, ◌++◌, map}
 use native.Mathlib.Omega.{arith}
 use native.Mathlib.Numerals.{add-one}
 use lib.ListN.{length, length-append, length-map}
-use Rattle.lines.specs.Text.{bytes, decimal_in, line, line_of, texts, Optional, missing, present, optional_text, joined}
+use Rattle.lines.specs.Text.{bytes, decimal_in, line, line_of, texts, optional_text, joined}
 use Rattle.lines.proofs.Sound.{Chained}
 use Rattle.lines.proofs.Writing.{line_short, joined_grows}
 use Rattle.lines.proofs.Texts.{rising_room}
@@ -58,10 +59,10 @@ rising_chained h before (i ∷ is) r =
     let same = ap (λ (k : ℕ). length (line_of "idle=" k)) e in
     ((r.0, r.1, omega (arith, same)), rising_chained h i is r.2)
 
-idles_short : (h : ℕ) (o : Optional (List ℕ)) → h ≤ 365 → length (idle_in o) ≤ 365 → Rising 0 h (idle_in o) → length (optional_text idles_text o) ≤ 3187
+idles_short : (h : ℕ) (o : Option (List ℕ)) → h ≤ 365 → length (idle_in o) ≤ 365 → Rising 0 h (idle_in o) → length (optional_text idles_text o) ≤ 3187
 unfolding idles_text
-idles_short h missing high few r = omega arith
-idles_short h (present is) high few r =
+idles_short h None high few r = omega arith
+idles_short h (Some is) high few r =
     rw (length-append (line_of "idles=" (length is)))
     (omega (arith, key_length, line_short (bytes "idles=") 2 (length is) (omega arith), rising_room (line_of "idle=") idle_line h 0 is (omega arith) (rising_chained h 0 is r), joined_grows idle_line h 365 high, all_idles))
 
@@ -102,9 +103,9 @@ parts_short m n i (p ∷ ps) few most h v =
 
 -- ---- the text
 
-walk_short : (o : Optional ℕ) → Allowed o → length (optional_text (line_of "walk=") o) ≤ 16
-walk_short missing v = omega arith
-walk_short (present w) v = omega (arith, key_length, line_short (bytes "walk=") 9 w (omega (arith, v)))
+walk_short : (o : Option ℕ) → Allowed o → length (optional_text (line_of "walk=") o) ≤ 16
+walk_short None v = omega arith
+walk_short (Some w) v = omega (arith, key_length, line_short (bytes "walk=") 9 w (omega (arith, v)))
 
 pub text_short : (t : JobText) → ValidText t → length (job_text_lem t) ≤ longest
 unfolding job_text_lem body_text joined

@@ -1,4 +1,5 @@
 -- The bound on a job text's length is exact: a valid text has that many bytes (`reached`), by computation. Its record is valid since its idle steps and openings are counted up.
+use Rattle.std.specs.Prelude.{Some}
 use Prim.Native.Nat.{ℕ, zero, suc, ◌+◌, ◌≤◌, ◌<◌}
 use mathlib.Core.Path.{◌≡◌, refl}
 use mathlib.Core.Bool.{Bool, true, false, cond}
@@ -8,7 +9,7 @@ use native.Mathlib.Decide.{ℕ_discrete}
 use lib.Dec.{eqb}
 use borrow.Author.Tests.{eq-eqb, ne_eqb}
 use lib.ListN.{length, replicate}
-use Rattle.lines.specs.Text.{bytes, decimal_in, line, present}
+use Rattle.lines.specs.Text.{bytes, decimal_in, line}
 use Rattle.model.specs.Model.{Opening}
 use Rattle.model.specs.Windows.{Rising, steps_of}
 use Rattle.jobs.specs.Valid.{All, ValidOpening, ValidHolders, ValidPart, HeldFrom}
@@ -45,7 +46,7 @@ others k before (suc n) = cond (eqb (suc before) k) (others k (suc before) n) (s
 
 -- part k of sixteen, held by the fifteen others
 longest_part : ℕ → PartText
-longest_part k = record { life = 1000; left = 1000; cover = present (record { removal = 1000000; holders = others k 0 16 }); prices = by_list (replicate 64 (pair 1000000 1000000)) }
+longest_part k = record { life = 1000; left = 1000; cover = Some (record { removal = 1000000; holders = others k 0 16 }); prices = by_list (replicate 64 (pair 1000000 1000000)) }
 
 -- the n parts after part `before`
 parts_after : ℕ → ℕ → List PartText
@@ -54,7 +55,7 @@ parts_after before (suc n) = longest_part (suc before) ∷ parts_after (suc befo
 
 -- every step idle, the last 64 steps openings, sixteen parts
 pub longest_text : JobText
-longest_text = record { horizon = 365; idles = present (steps_after 0 365); walk = present 4000000000; openings = openings_after 301 64; parts = parts_after 0 16 }
+longest_text = record { horizon = 365; idles = Some (steps_after 0 365); walk = Some 4000000000; openings = openings_after 301 64; parts = parts_after 0 16 }
 
 pub reached : length (job_text_lem longest_text) ≡ longest
 unfolding longest_text longest_part parts_after others steps_after openings_after job_text_lem body_text idles_text opening_text part_text cover_text quote_text line bytes decimal_in

@@ -1,11 +1,11 @@
 -- A job text's fault is number 1 to 5, or one of 12 to the last (`last_fault`), and its line is one of the text's lines or the next (so it fits any counter). By the grammar's forms.
+use Rattle.std.specs.Prelude.{Option}
 use Prim.Native.Nat.{ℕ, ◌+◌, ◌≤◌, ◌<◌}
 use mathlib.Core.Path.{◌≡◌, refl, ap, ap₂, ◌∙◌}
 use mathlib.Core.List.{List}
 use native.Mathlib.Omega.{arith}
 use mathlib.Core.Logic.{inl, inr}
 use Rattle.lines.specs.Parser.{row_at, checked, rising, Outcome, accepted, refused}
-use Rattle.lines.specs.Text.{Optional}
 use Rattle.lines.proofs.Outcomes.{one_fault, not_both}
 use Rattle.lines.proofs.Numbered.{Numbers, row_numbers, optional_numbers, present_numbers, checked_numbers, bind_numbers, return_numbers, chain_numbers, refused_fault}
 use Rattle.part_lines.specs.Grammar.{part, following}
@@ -55,7 +55,7 @@ unfolding opening
 opening_numbers h before =
     bind_numbers JobFault _ _ (step_numbers _ h before) (λ o. bind_numbers JobFault _ _ (line_numbers _ 0 1000000) (λ f. return_numbers JobFault _))
 
-body_numbers : (h : ℕ) (is : Optional (List ℕ)) (w : Optional ℕ) (n : ℕ) → Numbers JobFault (body h is w n)
+body_numbers : (h : ℕ) (is : Option (List ℕ)) (w : Option ℕ) (n : ℕ) → Numbers JobFault (body h is w n)
 unfolding body openings parts
 body_numbers h is w n =
     bind_numbers JobFault _ _ (chain_numbers JobFault (opening h) _ (opening_numbers h) n 0)

@@ -2,8 +2,7 @@
 -- `parts` 1..16; for each" the lines of a part (`part_lines`).
 -- E10. "A job's `walk` line, if it still stands, is checked as before and set aside."
 -- E1.2. "After `horizon` a job may have `idles` 1..365 and that many `idle` lines, 1..365, rising and within the horizon; without the line no step is idle."
-use Rattle.std.specs.Prelude.{ℕ, Bool, List, [], map, length}
-use Rattle.lines.specs.Text.{Optional, missing, present}
+use Rattle.std.specs.Prelude.{ℕ, Bool, List, [], map, length, Option, Some, None}
 use Rattle.lines.specs.Parser.{Outcome, accepted, refused, Parser, ◌>>=◌, return, row, optional, if_present, checked, chain, rising, read_text}
 use Rattle.model.specs.Model.{Opening, Part, Job}
 use Rattle.model.specs.Limits.{last_step, dearest, most_openings, most_parts, most_walk}
@@ -12,8 +11,8 @@ use Rattle.part_lines.specs.Grammar.{PartText, meant_part, low_part_lem, any_ban
 -- what a job text says: its lines in their order, those that may be missing present or not
 pub record JobText : Type 0 where
   pub horizon : ℕ
-  pub idles : Optional (List ℕ)
-  pub walk : Optional ℕ
+  pub idles : Option (List ℕ)
+  pub walk : Option ℕ
   pub openings : List Opening
   pub parts : List PartText
 
@@ -27,9 +26,9 @@ pub record Given : Type 0 where
   pub banded : Bool
 
 -- E1.2. "without the line no step is idle"
-abbrev pub idle_in : Optional (List ℕ) → List ℕ
-idle_in missing = []
-idle_in (present is) = is
+abbrev pub idle_in : Option (List ℕ) → List ℕ
+idle_in None = []
+idle_in (Some is) = is
 
 -- the job of the lines with these parts
 abbrev pub job_with : JobText → List Part → Job
@@ -52,7 +51,7 @@ unfoldable pub idle_steps_lem : ℕ → ℕ → Parser (List ℕ)
 idle_steps_lem h n = chain (idle h) (λ _ i. i) n 0
 
 -- the number of idle steps and the steps, which may be missing
-unfoldable pub idles : ℕ → Parser (Optional (List ℕ))
+unfoldable pub idles : ℕ → Parser (Option (List ℕ))
 idles h = do
   n ← optional "idles=" 1 last_step
   if_present (idle_steps_lem h) n
@@ -73,7 +72,7 @@ unfoldable pub parts : ℕ → ℕ → Parser (List PartText)
 parts m n = chain (part m n) following m 1
 
 -- what follows the number n of openings
-unfoldable pub body : ℕ → Optional (List ℕ) → Optional ℕ → ℕ → Parser JobText
+unfoldable pub body : ℕ → Option (List ℕ) → Option ℕ → ℕ → Parser JobText
 body h is w n = do
   os ← openings h n
   m ← row "parts=" 1 most_parts
@@ -81,7 +80,7 @@ body h is w n = do
   return (record { horizon = h; idles = is; walk = w; openings = os; parts = ps })
 
 -- what follows the idle steps
-unfoldable pub rest : ℕ → Optional (List ℕ) → Parser JobText
+unfoldable pub rest : ℕ → Option (List ℕ) → Parser JobText
 rest h is = do
   w ← optional "walk=" 0 most_walk
   n ← row "openings=" 0 most_openings

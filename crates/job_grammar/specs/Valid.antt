@@ -1,6 +1,5 @@
 -- What is known of an accepted job text.
-use Rattle.std.specs.Prelude.{ℕ, ◌≤◌, List, length}
-use Rattle.lines.specs.Text.{Optional, missing, present}
+use Rattle.std.specs.Prelude.{ℕ, ◌≤◌, List, length, Option, Some, None}
 use Rattle.model.specs.Limits.{most_walk}
 use Rattle.bands.specs.Bands.{UpTo}
 use Rattle.jobs.specs.Valid.{All, ValidJob}
@@ -15,18 +14,18 @@ pub record Valid (g : Given) : Type 0 where
   pub ordered : UpTo g.low g.job
 
 -- "`idles` 1..365": where idle steps are written there are some
-abbrev pub Some : Optional (List ℕ) → Type 0
-Some missing = Unit {0}
-Some (present is) = 1 ≤ length is
+abbrev pub SomeIdles : Option (List ℕ) → Type 0
+SomeIdles None = Unit {0}
+SomeIdles (Some is) = 1 ≤ length is
 
 -- E10. "checked as before": a walk number that is written is in its range
-abbrev pub Allowed : Optional ℕ → Type 0
-Allowed missing = Unit {0}
-Allowed (present w) = w ≤ most_walk
+abbrev pub Allowed : Option ℕ → Type 0
+Allowed None = Unit {0}
+Allowed (Some w) = w ≤ most_walk
 
 -- what it says
 pub record ValidText (t : JobText) : Type 0 where
   pub means : Valid (meant t)
-  pub idles : Some t.idles
+  pub idles : SomeIdles t.idles
   pub walk : Allowed t.walk
   pub lines : All (Spelt (length t.openings)) t.parts

@@ -1,32 +1,36 @@
 -- The numbers of the parts' records, laid out one record after the other: by one record more.
 use Prim.Native.Nat.{ℕ, ◌+◌, ◌*◌, ◌≤◌, ◌<◌}
-use mathlib.Core.Path.{◌≡◌, refl, sym, ap, ap₂, ◌∙◌}
-use mathlib.Core.List.{List, [], ◌∷◌, ◌++◌, map, map-append}
+use mathlib.Core.Path.{◌≡◌, refl, sym, ap, ◌∙◌}
+use mathlib.Core.List.{List, map}
 use native.Mathlib.Omega.{arith}
 use native.Mathlib.Decide.{dec_lt}
-use native.Mathlib.Numerals.{add-one}
-use lib.ListN.{length, get_or, take, set, replicate, get_or-eq_default}
-use lib.Seq.{take-suc}
-use Rattle.lines.proofs.Arrays.{take_more}
+use lib.ListN.{length, get_or, take, replicate, get_or-eq_default}
+use lib.Seq.{get_or-take, length-take-le, ext_get_or}
+use Rattle.model.specs.Model as model
+use Rattle.model.specs.Verdict.{no_part}
 use Rattle.model.specs.Model.{table}
 use Rattle.model.proofs.Lists.{table-length, table_at}
 use Rattle.jobs.specs.declared.Part.{Part}
-use Rattle.jobs.specs.Views.{blank_part_lem, part_of_lem}
-use Rattle.part_records.specs.Records.{record_at}
+use Rattle.jobs.specs.declared.Job.{Job}
+use Rattle.jobs.specs.Views.{blank_part_lem, part_of_lem, job_of}
+use Rattle.jobs.proofs.Jobs.{Whole, sized, part_count, part_at_lem}
+use Rattle.jobs.proofs.Lists.{map_at}
 use Rattle.coming_out.proofs.Rows.{blank}
 use Rattle.held_places.specs.Arrays.{price_stride, price_size}
 use Rattle.least.specs.Filled.{FilledBy}
 use Rattle.job_numbers.specs.Laid.{Laid}
 
--- ---- one number of each record
+-- ---- one number of each
 
-module _ (f : Part → ℕ) where
-  -- one record's number stored behind those of the first q gives those of q + 1 records
-  pub taken_more : (parts : List Part) (l : List ℕ) (q x : ℕ) → q < length l → q < length parts → x ≡ f (record_at parts q) → take q l ≡ map f (take q parts)
-      → take (q + 1) (set l q x) ≡ map f (take (q + 1) parts)
-  taken_more parts l q x g h e t =
-      take_more q l x g ∙ ap₂ (λ (a : List ℕ) (y : ℕ). a ++ y ∷ []) t e
-      ∙ sym (rw (add-one, take-suc parts q blank_part_lem h) (map-append f (take q parts) (record_at parts q ∷ [])))
+-- the first n of a list are another list, where that has n entries and each is the same
+pub taken_is : (n : ℕ) (ys zs : List ℕ) → n ≤ length ys → length zs ≡ n → ((i : ℕ) → i < n → get_or ys i 0 ≡ get_or zs i 0) → take n ys ≡ zs
+taken_is n ys zs h e f =
+    let size = length-take-le n ys h in
+    ext_get_or 0 (take n ys) zs (size ∙ sym e) (λ i l. get_or-take n ys i 0 (omega (arith, size)) ∙ f i (omega (arith, size)))
+
+-- one number of the part at a place that a job counts, among those of all its parts
+pub number_at : (f : model.Part → ℕ) (j : Job) → Whole j → (i : ℕ) → i < j.part_count → get_or (map f (job_of j).parts) i 0 ≡ f (part_of_lem j.opening_count (get_or j.parts i blank_part_lem))
+number_at f j whole i h = map_at f (job_of j).parts i no_part 0 (omega (arith, part_count j (sized j) whole)) ∙ ap f (part_at_lem j (sized j) whole i h)
 
 -- ---- rows of prices
 
@@ -62,12 +66,12 @@ module _ (row : ℕ → List ℕ) where
 
 -- the prices of the record at place q, n of them, with what is added to each
 abbrev pub record_row : ℕ → List Part → List ℕ → ℕ → List ℕ
-record_row n parts added q = table (λ k. get_or (part_of_lem n (record_at parts q)).prices k 0 + get_or added q 0) n
+record_row n parts added q = table (λ k. get_or (part_of_lem n (get_or parts q blank_part_lem)).prices k 0 + get_or added q 0) n
 
 module _ (n : ℕ) (parts : List Part) (added : List ℕ) (q : ℕ) where
   pub record_row_lem : length (record_row n parts added q) ≡ n
-  record_row_lem = table-length (λ k. get_or (part_of_lem n (record_at parts q)).prices k 0 + get_or added q 0) n
+  record_row_lem = table-length (λ k. get_or (part_of_lem n (get_or parts q blank_part_lem)).prices k 0 + get_or added q 0) n
 
-  pub record_price : (p : Part) → p ≡ record_at parts q → (i : ℕ) → i < n → get_or (take n p.prices) i 0 + get_or added q 0 ≡ get_or (record_row n parts added q) i 0
+  pub record_price : (p : Part) → p ≡ get_or parts q blank_part_lem → (i : ℕ) → i < n → get_or (take n p.prices) i 0 + get_or added q 0 ≡ get_or (record_row n parts added q) i 0
   record_price p e i h =
-      ap (λ (r : Part). get_or (take n r.prices) i 0 + get_or added q 0) e ∙ sym (table_at (λ k. get_or (part_of_lem n (record_at parts q)).prices k 0 + get_or added q 0) n i 0 h)
+      ap (λ (r : Part). get_or (take n r.prices) i 0 + get_or added q 0) e ∙ sym (table_at (λ k. get_or (part_of_lem n (get_or parts q blank_part_lem)).prices k 0 + get_or added q 0) n i 0 h)

@@ -4,6 +4,9 @@ use Rattle.model.specs.Model.{Part, Job, table, fee_of}
 use Rattle.model.specs.Verdict.{part_at}
 use Rattle.clock.specs.Placed.{Placed}
 use Rattle.held_places.specs.Arrays.{price_stride, price_size}
+use Rattle.model.specs.Limits.{dearest}
+use Rattle.jobs.specs.declared.Job as code
+use Rattle.jobs.specs.Views.{job_of}
 use Rattle.job_numbers.specs.declared.Numbers.{Numbers}
 
 -- "a life L and a first life R"
@@ -30,3 +33,7 @@ pub record Laid (m : ℕ) (row : ℕ → List ℕ) (prices : List ℕ) : Type 0 
   pub size : length prices ≡ price_size
   pub price : (q i : ℕ) → q < m → i < price_stride → get_or prices (q * price_stride + i) 0 ≡ get_or (row q) i 0
   pub rest : (x : ℕ) → m * price_stride ≤ x → get_or prices x 0 ≡ 0
+
+-- prices laid out for the parts that a struct counts, with at most the dearest removal added to each part's
+abbrev pub Charged : code.Job → List ℕ → Type 0
+Charged job prices = (added : List ℕ) × ((q : ℕ) → q < job.part_count → get_or added q 0 ≤ dearest) × Laid job.part_count (prices_with (job_of job) added) prices

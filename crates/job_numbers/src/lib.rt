@@ -4,58 +4,39 @@
 ghost use Rattle.std.specs.Prelude.{◌≡◌, map, ℕ, ◌+◌, ◌≤◌, ◌<◌, length, get_or, take};
 ghost use Rattle.model.specs.Limits.{dearest, most_parts};
 ghost use Rattle.model.specs.Model.{fee_of};
-ghost use Rattle.jobs.specs.Views.{job_of, Sized};
+ghost use Rattle.jobs.specs.Views.{job_of};
 ghost use Rattle.jobs.specs.Valid.{Sound};
 ghost use Rattle.least.specs.Filled.{FilledBy};
-ghost use Rattle.job_numbers.specs.Laid.{life_of_lem, left_of, Laid, prices_with, Numbered};
+ghost use Rattle.job_numbers.specs.Laid.{life_of_lem, left_of, Laid, prices_with, Charged, Numbered};
 
 use clock::{Positions, positions_of};
 use jobs::Job;
 use model::{OPENINGS, PARTS, PRICES, STRIDE};
-use part_records::{lent_left, lent_life, part_of};
-
-// The life of each part, and what is left of its first life.
-#[derive(Drop)]
-struct Lives {
-    lives: [u32; PARTS],
-    lefts: [u32; PARTS],
-}
+use search_tables::flat::FlatJob;
 
 // The fees of the openings.
 fn fees_of(job: Job) -> [u32; OPENINGS]
-    requires { Sized job }
     ensures { take job.opening_count result ≡ map fee_of (job_of job).openings }
 {
-    let n = job.opening_count;
-    let mut fees = [0u32; OPENINGS];
-    let mut i: usize = 0;
-    while i < n {
-        let o = job.openings[i];
-        fees[i] = o.fee;
-        i += 1;
-    }
-    fees
+    job.openings.map(|o| o.fee)
 }
 
 // The lives of the parts.
-fn lives_of(job: Job) -> Lives
-    requires { Sized job }
-    ensures { (take job.part_count result.lives ≡ map life_of_lem (job_of job).parts) × (take job.part_count result.lefts ≡ map left_of (job_of job).parts) }
+fn lives_of(job: Job) -> [u32; PARTS]
+    ensures { take job.part_count result ≡ map life_of_lem (job_of job).parts }
 {
-    let parts = job.parts;
-    let count = job.part_count;
-    let mut lives = [0u32; PARTS];
-    let mut lefts = [0u32; PARTS];
-    let mut q: usize = 0;
-    while q < count {
-        lives[q] = lent_life(parts, count, q);
-        lefts[q] = lent_left(parts, count, q);
-        q += 1;
-    }
-    Lives { lives, lefts }
+    job.parts.map(|p| p.life)
 }
 
-// What a job says of time, and its openings' fees.
+// What is left of the first life of each part.
+fn lefts_of(job: Job) -> [u32; PARTS]
+    ensures { take job.part_count result ≡ map left_of (job_of job).parts }
+{
+    job.parts.map(|p| p.left)
+}
+
+// What a job says of time, its openings' fees, and its parts' lives and first lives.
+// Kept as arrays side by side: a search takes each as a slice of numbers, and reads one at a time.
 #[derive(Drop)]
 pub struct Numbers {
     pub placed: Positions,
@@ -69,16 +50,37 @@ pub fn numbers_of(job: Job) -> Numbers
     requires { Sound job }
     ensures { Numbered (job_of job) job.opening_count job.part_count result }
 {
-    let placed = positions_of(job);
-    let fees = fees_of(job);
-    let wear = lives_of(job);
-    let lives = wear.lives;
-    let lefts = wear.lefts;
     Numbers {
-        placed,
-        fees,
-        lives,
-        lefts,
+        placed: positions_of(job),
+        fees: fees_of(job),
+        lives: lives_of(job),
+        lefts: lefts_of(job),
+    }
+}
+
+impl Numbers {
+    // The job in arrays, at these prices.
+    pub fn flat<'a>(&'a self, job: Job, prices: &'a [u32]) -> FlatJob<'a>
+        requires sound { Sound job }
+        requires numbered { Numbered (job_of job) job.opening_count job.part_count self.now }
+        requires charged { Charged job prices.now }
+        ensures ends { result.end ≡ self.now.placed.end }
+        ensures places { result.positions.now ≡ take job.opening_count self.now.placed.at }
+        ensures fees { result.fees.now ≡ take job.opening_count self.now.fees }
+        ensures lives { result.lives.now ≡ take job.part_count self.now.lives }
+        ensures lefts { result.lefts.now ≡ take job.part_count self.now.lefts }
+        ensures prices { result.prices.now ≡ prices.now }
+    {
+        let n = job.opening_count;
+        let m = job.part_count;
+        FlatJob {
+            end: self.placed.end,
+            positions: &self.placed.at[..n],
+            fees: &self.fees[..n],
+            lives: &self.lives[..m],
+            lefts: &self.lefts[..m],
+            prices,
+        }
     }
 }
 
@@ -87,10 +89,8 @@ fn put_prices(prices: &[u32], added: u32, at: usize, flat: &mut [u32])
     requires { (at + length prices.now ≤ length flat.old) × ((i : ℕ) → get_or prices.now i 0 ≤ dearest) × (added ≤ dearest) }
     ensures { FilledBy (λ (i : ℕ). at + i) (λ (i : ℕ). get_or prices.now i 0 + added) (length prices.now) flat.old flat.new }
 {
-    let mut i = 0;
-    while i < prices.len() {
-        flat[at + i] = prices[i] + added;
-        i += 1;
+    for (i, price) in prices.iter().enumerate() {
+        flat[at + i] = *price + added;
     }
 }
 
@@ -100,15 +100,10 @@ pub fn prices_of(job: Job, added: [u32; PARTS]) -> [u32; PRICES]
     ensures { Laid job.part_count (prices_with (job_of job) added) result }
 {
     let n = job.opening_count;
-    let parts = job.parts;
-    let count = job.part_count;
     let mut flat = [0u32; PRICES];
-    let mut q: usize = 0;
-    while q < count {
-        let part = part_of(parts, count, q);
-        let prices = part.prices;
-        put_prices(&prices[..n], added[q], q * STRIDE, &mut flat);
-        q += 1;
+    for q in 0..job.part_count {
+        let part = job.parts[q];
+        put_prices(&part.prices[..n], added[q], q * STRIDE, &mut flat);
     }
     flat
 }

@@ -26,7 +26,7 @@ use Rattle.search.proofs.Answered.{said}
 use Rattle.job_numbers.specs.Laid.{Numbered, prices_with, Laid}
 use Rattle.job_numbers.specs.declared.Numbers.{Numbers}
 use Rattle.job_numbers.proofs.Counts.{removal_range, Counted, counted, life_at_lem, left_at_lem, prices_at_lem}
-use Rattle.held_job.proofs.Arrays.{plain_arrays}
+use Rattle.job_numbers.proofs.Arrays.{plain_arrays}
 
 module _ (j : Job) (sized : Sized j) (whole : Whole j) where
   abbrev n : ℕ

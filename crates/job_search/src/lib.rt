@@ -19,25 +19,10 @@ fn search_plain(job: Job, limit: u32) -> Found
     requires { Sound job × (has_holder_lem (job_of job) ≡ false) }
     ensures { said_in job.opening_count job.part_count result ≡ answer_of (job_of job) limit }
 {
-    let n = job.opening_count;
-    let count = job.part_count;
     let numbers = numbers_of(job);
-    let placed = numbers.placed;
-    let positions = placed.at;
-    let fees = numbers.fees;
-    let lives = numbers.lives;
-    let lefts = numbers.lefts;
     let removals = removals_of(job);
     let prices = prices_of(job, removals);
-    search(
-        placed.end,
-        &positions[..n],
-        &fees[..n],
-        &lives[..count],
-        &lefts[..count],
-        &prices,
-        limit as u64,
-    )
+    search(&numbers.flat(job, &prices), u64::from(limit))
 }
 
 // The search of an accepted job, with a limit on its nodes: the model's answer.

@@ -1,51 +1,47 @@
--- The sections' answers in the grammar's terms: idle steps that are written or not (`idles_read`, `none_read`), and parts that are what their lines mean (`lines_mean`), with the prices of their rules, which change nothing that is said (`lines_same`). By the steps' end and the parts.
+-- The sections' answers in the grammar's terms: how many idle steps there are (`steps_few`, `idles_read`), and parts that are what their lines mean (`lines_mean`), with the prices of their rules, which change nothing that is said (`lines_same`). By the steps and the parts.
+use Rattle.std.specs.Prelude.{Option, Some, None, Result, Ok, Err}
 use Prim.Native.Nat.{ℕ, zero, suc, ◌≤◌, ◌<◌}
-use mathlib.Core.Path.{◌≡◌, refl, sym, ap, ap₂, ◌∙◌, subst}
-use mathlib.Core.Bool.{Bool, true, false, cond}
+use mathlib.Core.Path.{◌≡◌, refl, sym, ap, ap₂, ◌∙◌}
 use mathlib.Core.List.{List, [], ◌∷◌, map}
 use native.Mathlib.Omega.{arith}
 use native.Mathlib.Decide.{ℕ_discrete}
-use lib.ListN.{length, get_or, take, drop, set, replicate}
+use lib.ListN.{length, get_or, take, set, replicate}
 use lib.Seq.{get_or-set_same, get_or-set_other}
-use Rattle.lines.specs.Text.{Optional, missing, present, joined}
+use Rattle.lines.specs.Text.{joined}
 use Rattle.lines.specs.Chosen.{chosen}
-use Rattle.lines.specs.Parser.{return, if_present}
-use Rattle.lines.specs.Cursor.{Stands, Reads, ended}
-use Rattle.lines.specs.declared.rows.Cursor.{Cursor}
-use Rattle.lines.specs.declared.rows.End.{End}
-use Rattle.lines.specs.declared.rows.End.TheVariants as end
-use Rattle.lines.specs.declared.rows.WholeText.TheVariants.{Fault}
-use Rattle.lines.proofs.Parsing.{end_value, map_read}
-use Rattle.lines.proofs.Sound.{chain_gives}
+use Rattle.lines.specs.Parser.{optional_at, if_present}
+use Rattle.lines.specs.Reads.{Reads, seen}
+use Rattle.lines.specs.declared.fault.Fault.{Fault}
+use Rattle.lines.specs.declared.rows.Lines.{Lines}
+use Rattle.lines.proofs.Parsing.{put_into}
+use Rattle.lines.proofs.Sound.{optional_inv, row_gives, chain_gives}
 use Rattle.covers.specs.Views.{cover_there}
 use Rattle.quotes.specs.Views.{quotes_of}
+use Rattle.price_rules.specs.declared.Rule.{Rule}
 use Rattle.job_grammar.specs.Grammar.{idle, idle_steps_lem}
+use Rattle.job_grammar.proofs.Optionals.{some_idles}
+use Rattle.part_lines.specs.Bare.{Bare}
 use Rattle.part_lines.specs.Grammar.{meant_part}
-use Rattle.part_lines.specs.Views.{blank_said, prices_said, part_lines_lem, parts_lines, Unsaid, Bare, priced}
-use Rattle.part_lines.proofs.Prices.{unsaid_means}
-use Rattle.price_rules.specs.Rule.{Rule, rule_prices_lem}
-use Rattle.price_rules.specs.Views.{rule_of}
+use Rattle.part_lines.specs.Views.{blank_said, prices_told, part_lines_lem, parts_lines, Unsaid, ruled_prices, priced}
+use Rattle.part_lines.proofs.Prices.{bare_means}
+use Rattle.part_lines.specs.declared.said.PartSaid.{PartSaid}
 use Rattle.model.specs.Model as model
-use Rattle.part_lines.specs.declared.PartSaid.{PartSaid}
 use Rattle.jobs.specs.Views.{blank_part_lem, part_of_lem}
 use Rattle.jobs.specs.declared.Part.{Part}
-use Rattle.job_sections.specs.declared.idles.Idles.{Idles}
-use Rattle.job_grammar.specs.Optionals.{idle_lines}
-use Rattle.job_sections.specs.Views.{idles_of, Meant}
-use Rattle.job_grammar.proofs.Optionals.{some_idles}
+use Rattle.job_sections.specs.declared.steps.Idles.{Idles}
+use Rattle.job_sections.specs.Views.{idles_of, idles_said, Meant}
+
+-- a line that was there, which could be missing, has its value in its range
+pub there_within : (key : List ℕ) (lo hi : ℕ) (b a : Lines) (v : ℕ) → Reads (optional_at key lo hi) b a (Ok (Some v)) → (lo ≤ v) × (v ≤ hi)
+there_within key lo hi b a v h = row_gives key lo hi _ _ _ _ v (optional_inv key lo hi _ _ _ _ (Some v) (sym h))
 
 -- steps that were read behind their number's line
-pub idles_read : (h n : ℕ) {s : List ℕ} (t : List ℕ) (l : ℕ) (e : End) (is : List ℕ) → 1 ≤ n → Reads s (ended e is) (idle_steps_lem h n t l) → Reads s (ended e (idle_lines is)) (if_present (idle_steps_lem h) (present n) t l)
-unfolding if_present ended idle_steps_lem
-idles_read h n {s} t l (end.At q) is some r =
-    let size = (chain_gives (idle h) (λ (before i : ℕ). i) (λ _ _. Unit {0}) (λ _ _ _ _ _ _ _. tt) n 0 t _ l _ is (end_value is r refl)).0 in
-    subst (λ (x : Optional (List ℕ)). Reads s (ended (end.At q) x) (if_present (idle_steps_lem h) (present n) t l)) (some_idles is (omega (arith, size))) (map_read present (idle_steps_lem h n) (end.At q) is r)
-idles_read h n t l (end.Fault k j) is some r = map_read present (idle_steps_lem h n) (end.Fault k j) is r
-
--- and where that line is missing
-pub none_read : (h : ℕ) {s : List ℕ} {p : Cursor} (r : Idles) → (r.end ≡ end.At p) × (r.count ≡ 0) → Stands s p → Reads s (ended r.end (idle_lines (idles_of r))) (if_present (idle_steps_lem h) missing (drop p.at s) p.line)
-unfolding if_present return ended idle_lines
-none_read h r e stands = rw (e.0, e.1) (record { is = refl; stands = stands })
+pub idles_read : (h n : ℕ) (b a : Lines) (r : Result Idles Fault) → 1 ≤ n → Reads (idle_steps_lem h n) b a (seen idles_of r) → Reads (if_present (idle_steps_lem h) (Some n)) b a (seen idles_said r)
+unfolding if_present idle_steps_lem
+idles_read h n b a (Ok is) some r =
+    let size = (chain_gives (idle h) (λ (before i : ℕ). i) (λ _ _. Unit {0}) (λ _ _ _ _ _ _ _. tt) n 0 _ _ _ _ (idles_of is) (sym r)).0 in
+    rw (← some_idles (idles_of is) (omega (arith, size))) (put_into Some (idle_steps_lem h n) b a (Ok (idles_of is)) r)
+idles_read h n b a (Err e) some r = put_into Some (idle_steps_lem h n) b a (Err e) r
 
 -- one record at all places, or what stands past them
 alike_at : {A : Type 0} (P : A → Type 0) (b k : ℕ) (x y : A) → P x → P y → P (get_or (replicate b x) k y)
@@ -57,7 +53,7 @@ alike_at P (suc b) (suc k) x y h d = alike_at P b k x y h d
 pub blanks_mean : (n : ℕ) (s : PartSaid) (p : Part) → Unsaid s → Bare p → Meant n (replicate 16 s) (replicate 16 p)
 unfolding chosen joined
 blanks_mean n s p said e k =
-    unsaid_means n (get_or (replicate 16 s) k blank_said) (get_or (replicate 16 p) k blank_part_lem) (alike_at Unsaid 16 k s blank_said said (refl, refl)) (alike_at Bare 16 k p blank_part_lem e (refl, refl))
+    bare_means n (get_or (replicate 16 s) k blank_said) (get_or (replicate 16 p) k blank_part_lem) (λ f. alike_at Bare 16 k p blank_part_lem e (refl, refl))
 
 -- parts that are what their lines mean stay so when one is stored with lines that mean it
 pub meant_set : (n i : ℕ) (cs : List PartSaid) (ps : List Part) (c : PartSaid) (p : Part) → i < length cs → i < length ps → Meant n cs ps → meant_part n (part_lines_lem c (part_of_lem n p)) ≡ priced n c (part_of_lem n p) → Meant n (set cs i c) (set ps i p)
@@ -71,17 +67,13 @@ meant_set n i cs ps c p h m old new k = go (ℕ_discrete k i)
 
 -- a rule's prices change nothing that the lines say
 lines_priced : (n : ℕ) (s : PartSaid) (p : model.Part) → part_lines_lem s (priced n s p) ≡ part_lines_lem s p
-unfolding prices_said
-lines_priced n s p = go s.ruled refl
+lines_priced n s p =
+    let f = same s.rule in
+    λ i. record { life = p.life; left = p.left; cover = cover_there s.covered (record { removal = p.removal; holders = p.holders }); prices = f i }
   where
-    same : (b : Bool) (r : Rule) (xs ys : List ℕ) → prices_said b r (quotes_of s.banded s.lows (cond b xs ys)) ≡ prices_said b r (quotes_of s.banded s.lows ys)
-    same true r xs ys = refl
-    same false r xs ys = refl
-
-    go : (b : Bool) → s.ruled ≡ b → part_lines_lem s (priced n s p) ≡ part_lines_lem s p
-    go b e =
-        let f = same s.ruled (rule_of s.rule) (rule_prices_lem (rule_of s.rule) n) p.prices in
-        λ i. record { life = p.life; left = p.left; cover = cover_there s.covered (record { removal = p.removal; holders = p.holders }); prices = f i }
+    same : (o : Option Rule) → prices_told o (quotes_of s.lows (ruled_prices n o p.prices)) ≡ prices_told o (quotes_of s.lows p.prices)
+    same (Some r) = refl
+    same None = refl
 
 -- the first of them have the prices of their rules
 abbrev Done : ℕ → ℕ → List PartSaid → List Part → List Part → Type 0

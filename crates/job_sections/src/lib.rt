@@ -4,4 +4,5 @@
 pub mod idles;
 pub mod openings;
 pub mod parts;
+pub mod steps;
 pub mod walk;

@@ -1,65 +1,53 @@
 // The parts of a job text.
-ghost use Rattle.std.specs.Prelude.{◌≤◌, drop};
-ghost use Rattle.lines.specs.Cursor.{Stands};
+ghost use Rattle.std.specs.Prelude.{◌≡◌, ◌≤◌, map, take, IfOk};
+ghost use Rattle.lines.specs.Reads.{Reads, seen};
+ghost use Rattle.jobs.specs.Views.{part_of_lem};
+ghost use Rattle.part_lines.specs.Grammar.{meant_part};
 ghost use Rattle.job_grammar.specs.Grammar as grammar;
-ghost use Rattle.job_sections.specs.Views.{PartsSeen, PartsListed};
+ghost use Rattle.job_sections.specs.Views.{parts_said, Meant};
 ghost use Rattle.model.specs.Limits.{most_openings, most_parts};
 
 use jobs::Part;
-use lines::rows::{Cursor, End};
+use lines::fault::Fault;
+use lines::rows::Lines;
 use model::PARTS;
-use part_lines::{PartSaid, blank_part, put_rule_prices, read_part};
+use part_lines::said::PartSaid;
+use part_lines::{blank_part, put_rule_prices, read_part};
 
-// Parts read: what their lines say and mean, and where they end.
-#[derive(Drop)]
+// Parts read: what their lines say and mean.
+// Kept as two arrays: the job takes its parts alone.
+#[derive(Clone, Copy)]
 pub struct Parts {
-    pub end: End,
     pub said: [PartSaid; PARTS],
     pub parts: [Part; PARTS],
 }
 
 // The lines of the parts, m of them, with n openings: all but the prices of their rules.
-fn list_parts(text: &[u8], p: Cursor, m: usize, n: usize) -> Parts
-    requires { Stands text.now p × ((m ≤ most_parts) × (n ≤ most_openings)) }
-    ensures { PartsListed m n text.now result (grammar.parts m n (drop p.at text.now) p.line) }
+fn list_parts(lines: &mut Lines, m: usize, n: usize) -> Result<Parts, Fault>
+    requires { (m ≤ most_parts) × (n ≤ most_openings) }
+    ensures reads { Reads (grammar.parts m n) lines.old lines.new (seen (parts_said m n) result) }
+    ensures means { IfOk result (λ r. Meant n r.said r.parts) }
 {
-    let blank = blank_part();
-    let mut parts = [blank; PARTS];
-    let nothing = PartSaid::nothing();
-    let mut said = [nothing; PARTS];
-    let mut q = p;
-    let mut i: usize = 0;
-    while i < m {
-        let read = read_part(text, q, m as u32, n, i as u32 + 1);
-        let read_end = read.end;
-        match read_end {
-            End::At(r) => {
-                let part = read.part;
-                let lines = read.said;
-                parts[i] = part;
-                said[i] = lines;
-                q = r;
-                i += 1;
-            }
-            End::Fault { number: k, line: l } => {
-                let end = End::Fault { number: k, line: l };
-                return Parts { end, said, parts };
-            }
-        }
+    let mut said = [PartSaid::nothing(); PARTS];
+    let mut parts = [blank_part(); PARTS];
+    for i in 0..m {
+        let read = read_part(lines, m as u32, n, i as u32 + 1)?;
+        said[i] = read.said;
+        parts[i] = read.part;
     }
-    let end = End::At(q);
-    Parts { end, said, parts }
+    Ok(Parts { said, parts })
 }
 
 // The parts, m of them, with a price for each of n openings.
-pub fn read_parts(text: &[u8], p: Cursor, m: usize, n: usize) -> Parts
-    requires { Stands text.now p × ((m ≤ most_parts) × (n ≤ most_openings)) }
-    ensures { PartsSeen m n text.now result (grammar.parts m n (drop p.at text.now) p.line) }
+pub fn read_parts(lines: &mut Lines, m: usize, n: usize) -> Result<Parts, Fault>
+    requires { (m ≤ most_parts) × (n ≤ most_openings) }
+    ensures reads { Reads (grammar.parts m n) lines.old lines.new (seen (parts_said m n) result) }
+    ensures means { IfOk result (λ r. map (meant_part n) (parts_said m n r) ≡ map (part_of_lem n) (take m r.parts)) }
 {
-    let read = list_parts(text, p, m, n);
-    let end = read.end;
-    let said = read.said;
-    let listed = read.parts;
+    let Parts {
+        said,
+        parts: listed,
+    } = list_parts(lines, m, n)?;
     let parts = put_rule_prices(said, listed, m, n);
-    Parts { end, said, parts }
+    Ok(Parts { said, parts })
 }

@@ -1,45 +1,15 @@
 // The walk line of a job text, which may stand and is set aside.
-ghost use Rattle.std.specs.Prelude.{drop};
 ghost use Rattle.lines.specs.Parser.{optional};
-ghost use Rattle.lines.specs.Cursor.{Stands, Reads, ended};
+ghost use Rattle.lines.specs.Reads.{Reads};
 ghost use Rattle.model.specs.Limits.{most_walk};
-ghost use Rattle.job_grammar.specs.Optionals.{walk_line};
 
 use jobs::Job;
-use lines::read::{OptionalField, read_optional};
-use lines::rows::{Cursor, End, Row, advance};
+use lines::fault::Fault;
+use lines::rows::Lines;
 
-// The walk line read: where it ends, whether it stands, and its number if it does.
-#[derive(Drop)]
-pub struct WalkRead {
-    pub end: End,
-    pub there: bool,
-    pub walk: u32,
-}
-
-// The walk line: none where the text does not begin with its key.
-pub fn read_walk(text: &[u8], p: Cursor) -> WalkRead
-    requires { Stands text.now p }
-    ensures { Reads text.now (ended result.end (walk_line result.there result.walk)) (optional "walk=" 0 most_walk (drop p.at text.now) p.line) }
+// The walk line's number: none where the text does not go on with its key.
+pub fn read_walk(lines: &mut Lines) -> Result<Option<u32>, Fault>
+    ensures { Reads (optional "walk=" 0 most_walk) lines.old lines.new result }
 {
-    let at = p.at;
-    match read_optional(&text[at..], b"walk=", 0, Job::MAX_WALK) {
-        OptionalField::There(field) => match advance(text, p, field) {
-            Row::Value(w, q) => WalkRead {
-                end: End::At(q),
-                there: true,
-                walk: w,
-            },
-            Row::Fault { number: k, line: l } => WalkRead {
-                end: End::Fault { number: k, line: l },
-                there: false,
-                walk: 0,
-            },
-        },
-        OptionalField::Missing => WalkRead {
-            end: End::At(p),
-            there: false,
-            walk: 0,
-        },
-    }
+    lines.optional(b"walk=", 0, Job::MAX_WALK)
 }

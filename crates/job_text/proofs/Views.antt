@@ -1,60 +1,40 @@
--- The whole text's answers in the grammar's terms: lines with a fault (`refuse`), and what a text means (`text_means`, `means`). By the parts and the verdict.
+-- The whole text's answers in the grammar's terms: what a text means (`text_means`, `means`), and that an accepted one is sound (`sound_text`). By the parts and the answer.
+use Rattle.std.specs.Prelude.{Option, Result, Ok, Err}
 use Prim.Native.Nat.{ℕ}
-use mathlib.Core.Path.{◌≡◌, refl, sym, ap, ◌∙◌}
-use mathlib.Core.List.{List, [], ◌∷◌, map}
-use lib.ListN.{length, take}
-use Rattle.lines.specs.Parser.{Parsed, fault, Outcome, accepted}
-use Rattle.lines.specs.Cursor.{judged}
-use Rattle.lines.specs.declared.rows.End.TheVariants as end
-use Rattle.lines.specs.declared.rows.WholeText.{WholeText}
-use Rattle.lines.specs.declared.rows.WholeText.TheVariants.{Good, Fault}
-use Rattle.lines.proofs.Parsing.{fault_read}
-use Rattle.model.specs.Model as model
-use Rattle.job_grammar.specs.Grammar.{JobText, meant, meaning, read_job_text, read_job_lem}
-use Rattle.part_lines.specs.Grammar.{meant_part}
-use Rattle.part_lines.specs.Views.{parts_lines}
-use Rattle.part_lines.specs.declared.PartSaid.{PartSaid}
-use Rattle.jobs.specs.Views.{job_of, empty_job, Sized}
-use Rattle.jobs.specs.Valid.{Sound}
+use mathlib.Core.Path.{◌≡◌, sym, ap, ◌∙◌}
+use mathlib.Core.List.{List, map}
+use lib.ListN.{length}
+use Rattle.lines.specs.Parser.{Outcome, accepted}
+use Rattle.lines.specs.Reads.{outcome, seen}
+use Rattle.lines.specs.declared.fault.Fault.{Fault}
+use Rattle.job_grammar.specs.Grammar.{JobText, meant, meaning, read_job_lem}
 use Rattle.job_grammar.proofs.Accepted.{valid}
-use Rattle.job_text.specs.declared.whole.JobText as code
-use Rattle.job_text.specs.declared.whole.JobLines.{JobLines}
-use Rattle.job_text.specs.declared.whole.JobRead.{JobRead}
 use Rattle.job_grammar.proofs.Optionals.{idle_steps_lem2}
-use Rattle.job_text.specs.Views.{text_of, given_of, SoundText, LinesRead, TextRead}
+use Rattle.part_lines.specs.Grammar.{meant_part}
+use Rattle.part_lines.specs.declared.said.PartSaid.{PartSaid}
+use Rattle.jobs.specs.Views.{job_of}
+use Rattle.jobs.specs.Valid.{Sound}
+use Rattle.jobs.specs.declared.Job.{Job}
+use Rattle.jobs.proofs.Jobs.{sized}
+use Rattle.job_text.specs.declared.text.JobText as code
+use Rattle.job_text.specs.Said.{said_text, said_given}
+use Rattle.job_text.specs.Views.{text_of, given_of, SoundText}
 
-pub refuse : {s : List ℕ} {k l : ℕ} {x : Parsed JobText} (r : JobLines) → (r.end ≡ end.Fault k l) × (meant (text_of r.text) ≡ given_of r.text) × Sized r.text.job → x ≡ fault k l → LinesRead s r x
-refuse r h e = record { reads = fault_read _ h.0 e; means = h.1; sized = h.2 }
-
-pub text_means : (t : code.JobText) → map (meant_part (length (job_of t.job).openings)) (text_of t).parts ≡ (job_of t.job).parts → meant (text_of t) ≡ given_of t
-text_means t e =
-    let f = sym (idle_steps_lem2 (job_of t.job).idles) in
-    λ i. record { job = record { horizon = t.job.horizon; idles = f i; openings = (job_of t.job).openings; parts = e i }; low = (meant (text_of t)).low; banded = (meant (text_of t)).banded }
-
--- no parts, and no lines of them
-pub none_mean : (t : code.JobText) → job_of t.job ≡ empty_job → meant (text_of t) ≡ given_of t
-unfolding parts_lines
-none_mean t e = text_means t (go (take t.job.part_count t.said) (ap (λ (j : model.Job). j.parts) e))
-  where
-    none : (cs : List PartSaid) → parts_lines cs [] ≡ []
-    none [] = refl
-    none (c ∷ cs) = refl
-
-    go : (cs : List PartSaid) → (job_of t.job).parts ≡ [] → map (meant_part (length (job_of t.job).openings)) (parts_lines cs (job_of t.job).parts) ≡ (job_of t.job).parts
-    go cs f = rw f (ap (map (meant_part (length (job_of t.job).openings))) (none cs))
-
--- what a struct means is what its text means
-given_is : (t : code.JobText) (v : WholeText) → meant (text_of t) ≡ given_of t → judged v (given_of t) ≡ meaning (judged v (text_of t))
-given_is t Good e = ap (judged Good) (sym e)
-given_is t (Fault n l) e = refl
+-- a text whose parts are what their lines mean means its job
+pub text_means : (walk : Option ℕ) (said : List PartSaid) (job : Job) → map (meant_part (length (job_of job).openings)) (said_text walk said job).parts ≡ (job_of job).parts → meant (said_text walk said job) ≡ said_given walk said job
+text_means walk said job e =
+    let f = sym (idle_steps_lem2 (job_of job).idles) in
+    λ i. record { job = record { horizon = job.horizon; idles = f i; openings = (job_of job).openings; parts = e i }; low = (said_given walk said job).low; banded = (said_given walk said job).banded }
 
 -- a text that is read and accepted is sound
-pub sound_text : (s : List ℕ) (r : JobRead) → TextRead r (read_job_text s) → read_job_lem s ≡ accepted (given_of r.text) → SoundText r.text
-sound_text s r h e = record { sized = h.sized; means = h.means; valid = valid s (given_of r.text) e }
+pub sound_text : (s : List ℕ) (t : code.JobText) → read_job_lem s ≡ accepted (given_of t) → SoundText t
+sound_text s t e = record { sized = sized t.job; means = t.means; valid = valid s (given_of t) e }
 
 -- its job is sound
 pub sound_job : (t : code.JobText) → SoundText t → Sound t.job
 sound_job t w = record { sized = w.sized; valid = w.valid.job }
 
-pub means : (r : JobRead) {x : Outcome JobText} → TextRead r x → judged r.verdict (given_of r.text) ≡ meaning x
-means r h = given_is r.text r.verdict h.means ∙ ap meaning h.is
+-- what a struct means is what its text means
+pub means : (r : Result code.JobText Fault) {x : Outcome JobText} → outcome (seen text_of r) ≡ x → outcome (seen given_of r) ≡ meaning x
+means (Ok t) h = ap accepted (sym t.means) ∙ ap meaning h
+means (Err e) h = ap meaning h

@@ -1,2 +1,3 @@
--- The whole text's structs in the grammar's terms.
+-- What a job text says, in the grammar's terms (Said), and the whole text's struct in these terms (Views).
+pub mod Said
 pub mod Views

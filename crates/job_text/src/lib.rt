@@ -1,4 +1,5 @@
 // The whole job text, from its sections.
 #![tactic(auto)]
 
+pub mod text;
 pub mod whole;

@@ -49,6 +49,10 @@ part_viewed n m parts k h =
     ∙ get_or-map (part_of_lem n) (take m parts) k blank_part_lem
     ∙ ap (part_of_lem n) (get_or-take m parts k blank_part_lem h)
 
+-- the counts of any job stay within its arrays
+abbrev pub sized : (j : Job) → Sized j
+sized j = record { idles = j.few_idles; openings = j.few_openings; parts = j.few_parts }
+
 module _ (j : Job) {vs : List Val} (sized : Sized j) (whole : Is (row the_type) j vs) where
   abbrev n : ℕ
   n = j.opening_count

@@ -1,8 +1,8 @@
 // The judge: weighs a plan text against a job text.
 #![tactic(auto)]
 
-ghost use Rattle.std.specs.Prelude.{◌≡◌, ◌≤◌, length};
-ghost use Rattle.lines.specs.Wrote.{Wrote};
+ghost use Rattle.std.specs.Prelude.{◌≡◌, length};
+ghost use Rattle.line_writing.specs.Puts.{Puts, Room};
 ghost use Rattle.model.specs.Verdict.{number_of};
 ghost use Rattle.jobs.specs.Views.{job_of};
 ghost use Rattle.jobs.specs.Valid.{Sound};
@@ -16,7 +16,7 @@ ghost use Rattle.judging.specs.Promise.{JudgePromise};
 use answers::{Answer, put_three, put_two, refuse};
 use job_text::whole::read_job;
 use jobs::Job;
-use lines::rows::WholeText;
+use line_writing::output::Out;
 use plan_text::whole::read_plan;
 use verdict::{Judgement, judgement_of};
 
@@ -35,20 +35,15 @@ fn number_of(j: Judgement) -> u32
 }
 
 // The lines of a judgement.
-fn put_judgement(out: &mut [u8], j: Judgement) -> usize
-    requires { Limited (model_judgement j) × (judge_room ≤ length out.old) }
-    ensures { Wrote out.old 0 (judge_lines (model_judgement j)) out.new result }
+fn put_judgement(out: &mut Out, j: Judgement)
+    requires { Limited (model_judgement j) × Room out.old (judge_lines (model_judgement j)) }
+    ensures { Puts out.old (judge_lines (model_judgement j)) out.new }
 {
     match j {
         Judgement::Accepts(cost) => put_two(out, 0, b"cost=", cost),
-        Judgement::Unkept { part, due } => put_three(
-            out,
-            10,
-            b"part=",
-            part as u64,
-            b"due=",
-            due as u64,
-        ),
+        Judgement::Unkept { part, due } => {
+            put_three(out, 10, b"part=", u64::from(part), b"due=", u64::from(due))
+        }
         Judgement::WrongCost(cost) => put_two(out, 11, b"cost=", cost),
     }
 }
@@ -61,8 +56,9 @@ fn answer(j: Judgement, out: &mut [u8]) -> Answer
     if out.len() < ROOM {
         return Answer::no_room();
     }
-    let n = put_judgement(out, j);
-    Answer::plain(number_of(j), n)
+    let mut lines = Out { bytes: out, at: 0 };
+    put_judgement(&mut lines, j);
+    Answer::plain(number_of(j), lines.at)
 }
 
 // The plan text against an accepted job.
@@ -70,14 +66,9 @@ fn judge_plan(job: Job, plan: &[u8], out: &mut [u8]) -> Answer
     requires { Sound job }
     ensures { Replied judge_room (on_plan plan.now (job_of job) (read_plan_lem (job_of job) plan.now)) out.old out.new result }
 {
-    let stated = read_plan(plan, job);
-    let verdict = stated.verdict;
-    match verdict {
-        WholeText::Fault { number, line } => refuse(plan, 2, number, line, ROOM, out),
-        WholeText::Good => {
-            let p = stated.plan;
-            answer(judgement_of(job, stated.cost, p), out)
-        }
+    match read_plan(plan, job) {
+        Ok(stated) => answer(judgement_of(job, stated.cost, stated.plan), out),
+        Err(fault) => refuse(plan, 2, fault.kind.number(), fault.line, ROOM, out),
     }
 }
 
@@ -88,13 +79,8 @@ pub fn judge(job: &[u8], plan: &[u8], out: &mut [u8]) -> Answer
     ensures judge_promise { JudgePromise job.now plan.now (length out.old)
         (lent judge_room (length out.old) (judge_said job.now plan.now)) }
 {
-    let read = read_job(job);
-    let verdict = read.verdict;
-    match verdict {
-        WholeText::Fault { number, line } => refuse(job, 1, number, line, ROOM, out),
-        WholeText::Good => {
-            let accepted = read.text.job;
-            judge_plan(accepted, plan, out)
-        }
+    match read_job(job) {
+        Ok(text) => judge_plan(text.job, plan, out),
+        Err(fault) => refuse(job, 1, fault.kind.number(), fault.line, ROOM, out),
     }
 }

@@ -1,7 +1,9 @@
 // Rows of lanes, one for each part, in fours: the tables, and a stack of rows in a lent buffer. A row function stands for any number of fours; its caller names the number, which makes each loop one without a count.
+// A loop over places stands where places are computed: fours of lanes, rows of the stack, levels of the memo.
 #![tactic(auto)]
 
-ghost use Rattle.std.specs.Prelude.{◌≡◌, true, ℕ, ◌+◌, ◌-◌, ◌*◌, ◌^◌, ◌<◌, ◌≤◌, min, length, get_or};
+ghost use denote.Ref.{MutBor};
+ghost use Rattle.std.specs.Prelude.{◌≡◌, true, List, ℕ, ◌+◌, ◌-◌, ◌*◌, ◌^◌, ◌<◌, ◌≤◌, min, length, get_or};
 ghost use Rattle.least.specs.Filled.{FilledBy};
 ghost use Rattle.lane_rows.specs.Layout.{lane_count_lem, mark_count, inf, triangle, level_rows, tables_size, lanes_in, stack_size, suffix_base, place, row_place, mark_place, known_place, memo_place, term_place};
 ghost use Rattle.lane_rows.specs.Tables.{value_of, sum_where};
@@ -87,12 +89,31 @@ pub fn last_mark(w: &[u32], rows: usize) -> usize
     w[ROW_MARKS + (rows - 1)] as usize
 }
 
-// The lesser of two numbers below 2 ^ 31, by a signed comparison.
-fn lesser(x: u32, y: u32) -> u32
-    requires { (x < 2 ^ 31) × (y < 2 ^ 31) }
-    ensures { result ≡ min y x }
+// So many lanes, each turned into what `f` says of its place and of what it holds.
+// Kept as a loop over places: an iterator over a part of the lanes would leave nothing known of what is written to them.
+pub fn turn<F: Fn(usize, u32) -> u32>(fours: usize, acc: &mut [u32], f: F)
+    requires room { (fours ≤ 4) × (lane_count_lem ≤ length acc.old) }
+    requires calls { (q : ℕ) → q < fours * 4 → F.pre f q (get_or acc.old q 0) }
+    ensures size { length acc.new ≡ length acc.old }
+    ensures lanes { (q : ℕ) → q < fours * 4 → F.post f q (get_or acc.old q 0) (get_or acc.new q 0) }
 {
-    if (x as i32) < (y as i32) { x } else { y }
+    for p in 0..fours * 4 {
+        acc[p] = f(p, acc[p]);
+    }
+}
+
+// Calls `f` with the number of fours, named in each call, so that `f` is compiled for each number alone; and with what it writes to.
+pub fn by_fours<R, F: FnOnce(usize, &mut [u32]) -> R>(fours: u32, w: &mut [u32], f: F) -> R
+    requires few { (0 < fours) × (fours ≤ 4) }
+    requires calls { (p : MutBor (List ℕ)) → p.now ≡ w.old → F.pre f fours p }
+    ensures { (p : MutBor (List ℕ)) × (q : MutBor (List ℕ)) × (p.now ≡ w.old) × (q.now ≡ w.new) × F.post f fours p result q }
+{
+    match fours {
+        1 => f(1, w),
+        2 => f(2, w),
+        3 => f(3, w),
+        _ => f(4, w),
+    }
 }
 
 // Each lane's least of what it holds and a row's sum.
@@ -100,9 +121,7 @@ fn min_row(fours: usize, d: &[u32], e: &[u32], acc: &mut [u32])
     requires { MinAsks fours d.now e.now acc.old }
     ensures { Turned (fours * 4) (λ (q : ℕ). min (get_or acc.old q 0) (get_or d.now q 0 + get_or e.now q 0)) acc.old acc.new }
 {
-    for p in 0..fours * 4 {
-        acc[p] = lesser(d[p] + e[p], acc[p]);
-    }
+    turn(fours, acc, |p, v| v.min(d[p] + e[p]));
 }
 
 // Each lane with its price in a row of prices.
@@ -110,9 +129,7 @@ fn plus_row(fours: usize, prices: &[u32], acc: &mut [u32])
     requires { PlusAsks fours prices.now acc.old }
     ensures { Turned (fours * 4) (λ (q : ℕ). get_or acc.old q 0 + get_or prices.now q 0) acc.old acc.new }
 {
-    for p in 0..fours * 4 {
-        acc[p] = acc[p] + prices[p];
-    }
+    turn(fours, acc, |p, v| v + prices[p]);
 }
 
 // The lanes of a row.
@@ -120,9 +137,7 @@ fn copy_row(fours: usize, d: &[u32], acc: &mut [u32])
     requires { (fours ≤ 4) × (lane_count_lem ≤ length d.now) × (lane_count_lem ≤ length acc.old) }
     ensures { Turned (fours * 4) (λ (q : ℕ). get_or d.now q 0) acc.old acc.new }
 {
-    for p in 0..fours * 4 {
-        acc[p] = d[p];
-    }
+    acc[..fours * 4].copy_from_slice(&d[..fours * 4]);
 }
 
 // The lanes are stored as the row that starts at `at`.
@@ -130,9 +145,7 @@ pub fn store_row(fours: usize, acc: &[u32], at: usize, w: &mut [u32])
     requires { (fours ≤ 4) × (lane_count_lem ≤ length acc.now) × (at + lane_count_lem ≤ length w.old) }
     ensures { FilledBy (λ (q : ℕ). at + q) (λ (q : ℕ). get_or acc.now q 0) (fours * 4) w.old w.new }
 {
-    for p in 0..fours * 4 {
-        w[at + p] = acc[p];
-    }
+    w[at..at + fours * 4].copy_from_slice(&acc[..fours * 4]);
 }
 
 // The sum of all lanes, in four sums that stay within 32 bits.
@@ -201,9 +214,7 @@ fn least_rows(
     requires { (Stack (fours * 4) t.now w.now base j rows) × (lane_count_lem ≤ length acc.old) × ((q : ℕ) → q < fours * 4 → get_or acc.old q 0 ≡ inf) }
     ensures { Turned (fours * 4) (λ (q : ℕ). lane t.now w.now base j q rows) acc.old acc.new }
 {
-    let mut n = rows;
-    while 0 < n {
-        n -= 1;
+    for n in 0..rows {
         let i = w[ROW_MARKS + n] as usize;
         add_row(fours, t, w, base, j, i, n, acc);
     }
@@ -227,17 +238,7 @@ fn step_row(t: &[u32; TABLES], w: &mut [u32; STACK], d: usize, e: usize, out: us
     requires { StepAsks (lanes_in t.now) t.now w.old d e out }
     ensures { Stepped (lanes_in t.now) t.now w.old w.new d e out result }
 {
-    let fours = t[FOURS];
-    if fours < 2 {
-        return step_lanes(1, t, w, d, e, out);
-    }
-    if fours < 3 {
-        return step_lanes(2, t, w, d, e, out);
-    }
-    if fours < 4 {
-        return step_lanes(3, t, w, d, e, out);
-    }
-    step_lanes(4, t, w, d, e, out)
+    by_fours(t[FOURS], w, |fours, w| step_lanes(fours, t, w, d, e, out))
 }
 
 // The same row, one four of lanes after the other: less code than one for each number of fours.
@@ -277,42 +278,33 @@ fn known_rows(w: &[u32], rows: usize, j: usize) -> usize
     requires { (0 < rows) × (rows ≤ mark_count) × (j ≤ most_openings) × (length w.now ≡ stack_size) }
     ensures { (result < rows) × Known w.now result j }
 {
-    let mut m = rows - 1;
-    while 0 < m {
+    for m in (1..rows).rev() {
         if w[KNOWN + m * MARKS + j] == 1 {
             return m;
         }
-        m -= 1;
     }
-    m
+    0
 }
 
 // The memo learns what it lacks at level j, one row after the other; the top row's sum is handed over.
-fn look(t: &[u32; TABLES], w: &mut [u32; STACK], rows: usize, j: usize) -> u64
+fn look<const WHOLE: bool>(t: &[u32; TABLES], w: &mut [u32; STACK], rows: usize, j: usize) -> u64
     requires { Looks t.now w.old rows j }
     ensures { Looked t.now w.old w.new rows j result }
 {
-    let mut m = known_rows(w, rows, j);
+    let known = known_rows(w, rows, j);
     let mut sum = 0;
-    while m < rows {
-        sum = learn(t, w, m, j, true);
-        m += 1;
+    for m in known..rows {
+        sum = learn(t, w, m, j, WHOLE);
     }
     sum
 }
 
-// The same, one four of lanes after the other: for the walk with holders, so that the walk without them has `look` to itself, in its own code.
+// The same, one four of lanes after the other: for the walk with holders, so that the walk without them has its look to itself, in its own code.
 pub fn look_by_fours(t: &[u32; TABLES], w: &mut [u32; STACK], rows: usize, j: usize) -> u64
     requires { Looks t.now w.old rows j }
     ensures { Looked t.now w.old w.new rows j result }
 {
-    let mut m = known_rows(w, rows, j);
-    let mut sum = 0;
-    while m < rows {
-        sum = learn(t, w, m, j, false);
-        m += 1;
-    }
-    sum
+    look::<false>(t, w, rows, j)
 }
 
 // The sum of all lanes where opening j is the first undecided one.
@@ -321,7 +313,7 @@ pub fn lane_sum(t: &[u32; TABLES], w: &mut [u32; STACK], rows: usize, j: usize) 
     ensures sum { result ≡ sum_lanes (lanes_in t.now) (λ (q : ℕ). lane t.now w.old suffix_base j q rows) }
     ensures frame { Recalled t.now w.old w.new rows }
 {
-    look(t, w, rows, j)
+    look::<true>(t, w, rows, j)
 }
 
 // The part sums where nothing is decided: the tables' first row; Missing exactly where the first term is.
@@ -363,20 +355,7 @@ fn put_row(t: &[u32], w: &mut [u32], j: usize, rows: usize)
     ensures put { Put (lanes_in t.now) (next_row t.now w.old j rows) w.old w.new rows (j + 1) }
     ensures frame { Past w.old w.new }
 {
-    let fours = t[FOURS];
-    if fours < 2 {
-        put_lanes(1, t, w, j, rows);
-        return;
-    }
-    if fours < 3 {
-        put_lanes(2, t, w, j, rows);
-        return;
-    }
-    if fours < 4 {
-        put_lanes(3, t, w, j, rows);
-        return;
-    }
-    put_lanes(4, t, w, j, rows);
+    by_fours(t[FOURS], w, |fours, w| put_lanes(fours, t, w, j, rows));
 }
 
 // Nothing is known of the first k rows from a level on: the last of them is new.
@@ -384,9 +363,8 @@ pub fn forget(w: &mut [u32], k: usize, from: usize)
     requires { (k ≤ mark_count) × (from ≤ most_openings) × (length w.old ≡ stack_size) }
     ensures { FilledBy (λ (y : ℕ). known_place k (from + y)) (λ (y : ℕ). 0) (mark_count - from) w.old w.new }
 {
-    for l in from..MARKS {
-        w[KNOWN + k * MARKS + l] = 0;
-    }
+    let at = KNOWN + k * MARKS;
+    w[at + from..at + MARKS].fill(0);
 }
 
 // Writes the row that a yes owes.
@@ -407,10 +385,8 @@ fn none_row(w: &mut [u32], l: usize)
     requires { (l ≤ most_openings) × (length w.old ≡ stack_size) }
     ensures { FilledBy (memo_place l 0) (λ (q : ℕ). inf) lane_count_lem w.old w.new }
 {
-    let level = row_of(l + 1);
-    for p in 0..LANES {
-        w[MEMO + level * LANES + p] = INF;
-    }
+    let at = MEMO + row_of(l + 1) * LANES;
+    w[at..at + LANES].fill(INF);
 }
 
 // The memo's rows of no rows.
@@ -428,9 +404,7 @@ pub fn base_row(w: &mut [u32])
     requires { length w.old ≡ stack_size }
     ensures { FirstRow w.new }
 {
-    for p in 0..LANES {
-        w[p] = 0;
-    }
+    w[..LANES].fill(0);
     w[ROW_MARKS] = 0;
     forget(w, 1, 0);
     none_rows(w);

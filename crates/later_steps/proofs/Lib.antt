@@ -1,2 +1,2 @@
--- Steps behind a place, one after the other (Steps).
+-- Steps one after the other (Steps).
 pub mod Steps

@@ -16,14 +16,12 @@ use model::{OPENINGS, STEPS};
 pub fn count_to(steps: &[u32], step: u32) -> usize
     ensures { (result ≡ count_to step steps.now) × (result ≤ length steps.now) }
 {
-    let mut i: usize = 0;
-    while i < steps.len() {
-        if step < steps[i] {
+    for (i, s) in steps.iter().enumerate() {
+        if step < *s {
             return i;
         }
-        i += 1;
     }
-    i
+    steps.len()
 }
 
 // The steps behind the first n, which are after the step, renumbered.
@@ -32,15 +30,15 @@ pub fn renumbered(steps: &[u32], n: usize, step: u32) -> [u32; STEPS]
     ensures { take (length steps.now - n) result ≡ map (λ (s : ℕ). s - step) (drop n steps.now) }
 {
     let mut later = [0u32; STEPS];
-    let mut i: usize = n;
-    while i < steps.len() {
-        later[i - n] = steps[i] - step;
-        i += 1;
+    let behind = &steps[n..];
+    for (i, s) in behind.iter().enumerate() {
+        later[i] = *s - step;
     }
     later
 }
 
 // The steps of a job's openings, and their fees.
+// Kept as two arrays: the steps alone are counted and renumbered, as idle steps are.
 #[derive(Clone, Copy)]
 pub struct OpeningLists {
     pub steps: [u32; OPENINGS],
@@ -52,15 +50,11 @@ pub fn opening_lists(job: Job) -> OpeningLists
     requires { Sized job }
     ensures { (take job.opening_count result.steps ≡ steps_of (job_of job).openings) × (take job.opening_count result.fees ≡ map fee_of (job_of job).openings) }
 {
-    let n = job.opening_count;
     let mut steps = [0u32; OPENINGS];
     let mut fees = [0u32; OPENINGS];
-    let mut i: usize = 0;
-    while i < n {
-        let o = job.openings[i];
+    for (i, o) in job.openings[..job.opening_count].iter().enumerate() {
         steps[i] = o.step;
         fees[i] = o.fee;
-        i += 1;
     }
     OpeningLists { steps, fees }
 }

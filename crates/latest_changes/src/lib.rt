@@ -1,7 +1,7 @@
 // The plan that changes each part at the last stop that still serves.
 #![tactic(auto)]
 
-ghost use Rattle.std.specs.Prelude.{◌≡◌, cond, not, ◌&&◌, take, pos, ◌≤◌};
+ghost use Rattle.std.specs.Prelude.{◌≡◌, not, ◌&&◌, take, pos, ◌≤◌};
 ghost use Rattle.model.specs.Model.{within, last_change_lem};
 ghost use Rattle.model.specs.Limits.{longest_life};
 ghost use Rattle.jobs.specs.Views.{job_of, part_of_lem, plan_for};
@@ -14,14 +14,6 @@ use clock::{Positions, positions_of};
 use jobs::{Changes, Job, Part, Plan};
 use least::{in_reach, last_change};
 use model::{OPENINGS, PARTS};
-use part_records::part_of;
-
-// One of two positions.
-fn either(first: bool, a: i32, b: i32) -> i32
-    ensures { result ≡ cond first a b }
-{
-    if first { a } else { b }
-}
 
 // The position of the stop after each of n openings, or the end after the last.
 fn next_stops(n: usize, positions: Positions, stops: [bool; OPENINGS]) -> [i32; OPENINGS]
@@ -30,11 +22,11 @@ fn next_stops(n: usize, positions: Positions, stops: [bool; OPENINGS]) -> [i32; 
 {
     let mut nexts = [0i32; OPENINGS];
     let mut next = positions.end;
-    let mut i = n;
-    while 0 < i {
-        i -= 1;
+    for i in (0..n).rev() {
         nexts[i] = next;
-        next = either(stops[i], positions.at[i], next);
+        if stops[i] {
+            next = positions.at[i];
+        }
     }
     nexts
 }
@@ -44,11 +36,7 @@ fn is_forced(stop: bool, life: u32, prev: i32, next: i32) -> bool
     requires { (life ≤ longest_life) × Begins life prev × Position next }
     ensures { result ≡ (stop && not (within (pos life) prev next)) }
 {
-    if stop {
-        !in_reach(life as i32, prev, next)
-    } else {
-        false
-    }
+    stop && !in_reach(life as i32, prev, next)
 }
 
 // A part's changes at the last stop that still serves, over n openings. The change before begins at or below zero.
@@ -65,12 +53,12 @@ fn latest_of(
     let life = part.life;
     let mut prev = last_change(life, part.left);
     let mut at = [false; OPENINGS];
-    let mut i: usize = 0;
-    while i < n {
+    for i in 0..n {
         let change = is_forced(stops[i], life, prev, nexts[i]);
         at[i] = change;
-        prev = either(change, positions.at[i], prev);
-        i += 1;
+        if change {
+            prev = positions.at[i];
+        }
     }
     Changes { at }
 }
@@ -83,16 +71,11 @@ pub fn latest_plan(job: Job, stops: [bool; OPENINGS]) -> Plan
     let n = job.opening_count;
     let positions = positions_of(job);
     let nexts = next_stops(n, positions, stops);
-    let m = job.part_count;
-    let parts = job.parts;
     let mut changes = [Changes {
         at: [false; OPENINGS],
     }; PARTS];
-    let mut k: usize = 0;
-    while k < m {
-        let part = part_of(parts, m, k);
-        changes[k] = latest_of(n, positions, nexts, part, stops);
-        k += 1;
+    for k in 0..job.part_count {
+        changes[k] = latest_of(n, positions, nexts, job.parts[k], stops);
     }
     Plan { stops, changes }
 }

@@ -91,7 +91,3 @@ module _ (life end first : ℤ) (ss : List ℤ) (ps : List ℕ) (fs : List Bool)
   -- rows that are right from k on are so from one past k - 1 on
   pub suffix_pred : 0 < k → Suffixes life end first ss ps fs tab k → Suffixes life end first ss ps fs tab (suc (k - 1))
   suffix_pred l s = let e : k ≡ suc (k - 1) = omega arith in subst (Suffixes life end first ss ps fs tab) e s
-
-  -- where k is 0, rows that are right from k on are all right
-  pub suffix_zero : k ≤ 0 → Suffixes life end first ss ps fs tab k → Suffixes life end first ss ps fs tab 0
-  suffix_zero l s = let e : k ≡ 0 = omega arith in subst (Suffixes life end first ss ps fs tab) e s

@@ -4,8 +4,7 @@ use Rattle.branch.specs.declared.Bound.{Bound}
 use Rattle.branch.specs.declared.Bound.TheVariants.{Missing, Sum}
 use Rattle.model.specs.Model.{within}
 use Rattle.model.specs.LowerBound.{plus, lower, lower_than, least_of_lem, offers}
-use Rattle.least.specs.Marks.{mark_of, Bits31}
-use Rattle.model.specs.Limits.{most_openings}
+use Rattle.least.specs.Marks.{mark_of}
 
 -- the table has a row of 65 marks for each opening and one past the last
 abbrev pub marks : ℕ
@@ -14,23 +13,6 @@ marks = 65
 -- 65 rows of 65 marks
 abbrev pub table_size : ℕ
 table_size = 4225
-
--- room for the table of at most 64 openings, and marks whose differences fit
-pub record Room (first : ℤ) (ss : List ℤ) (tab : List ℕ) : Type 0 where
-  pub size : table_size ≤ length tab
-  pub few : length ss ≤ most_openings
-  pub small : (i : ℕ) → Bits31 (mark_of first ss i)
-
--- what the code is handed for one part: positions, prices and flags of the openings
-pub record OnePart (first : ℤ) (ss : List ℤ) (ps : List ℕ) (fs : List Bool) (tab : List ℕ) : Type 0 where
-  pub room : Room first ss tab
-  pub prices : length ps ≡ length ss
-  pub flags : length fs ≡ length ss
-
--- the same, up to an end
-pub record PartUntil (end first : ℤ) (ss : List ℤ) (ps : List ℕ) (fs : List Bool) (tab : List ℕ) : Type 0 where
-  pub part : OnePart first ss ps fs tab
-  pub late : Bits31 end
 
 -- row j, entry i
 abbrev pub cell : ℕ → ℕ → ℕ

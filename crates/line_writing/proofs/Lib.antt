@@ -1,2 +1,3 @@
--- The laws of digits found by subtracting powers of ten.
+-- The laws of digits found by subtracting powers of ten (Powers), and of what is put (Putting).
 pub mod Powers
+pub mod Putting

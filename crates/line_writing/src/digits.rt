@@ -1,8 +1,10 @@
 // The decimal digits of a number, found by subtracting powers of ten, and written.
-ghost use Rattle.std.specs.Prelude.{◌≡◌, ◌+◌, ◌*◌, ◌^◌, ◌≤◌, ◌<◌, length};
+ghost use Rattle.std.specs.Prelude.{◌≡◌, ◌+◌, ◌*◌, ◌^◌, ◌≤◌, ◌<◌};
 ghost use Rattle.lines.specs.Text.{decimal};
 ghost use Rattle.line_writing.specs.Padded.{padded};
-ghost use Rattle.lines.specs.Wrote.{Wrote};
+ghost use Rattle.line_writing.specs.Puts.{Puts, Room};
+
+use crate::output::Out;
 
 // The powers of ten of the ten digits, the lowest first.
 const POWERS: [u64; 10] = [
@@ -25,6 +27,7 @@ fn power_of_ten(k: usize) -> u64
 }
 
 // How often a power is subtracted from n until n is below it, and what is left then.
+// Kept as a loop of subtractions: a rule of the project, no division on the way to a digit.
 fn digit_of(n: u64, power: u64) -> Digit
     requires { (0 < power) × (n < 10 * power) }
     ensures { (n ≡ result.digit * power + result.rest) × (result.rest < power) × (result.digit < 10) }
@@ -43,39 +46,35 @@ fn digit_count(n: u64) -> usize
     requires { n < 10000000000 }
     ensures { (result ≤ 10) × (n < 10 ^ result) × (decimal n ≡ padded result n) }
 {
-    let mut k = 9;
-    while 0 < k {
+    for k in (1..10).rev() {
         if power_of_ten(k) <= n {
             return k + 1;
         }
-        k -= 1;
     }
     1
 }
 
-// Puts n's last `count` digits into out from at on, and answers the place after them.
-fn put_digits(out: &mut [u8], at: usize, n: u64, count: usize) -> usize
-    requires { (count ≤ 10) × (n < 10 ^ count) × (at + count ≤ length out.old) }
-    ensures { Wrote out.old at (padded count n) out.new result }
-{
-    let mut rest = n;
-    let mut left = count;
-    let mut end = at;
-    while 0 < left {
-        left -= 1;
-        let found = digit_of(rest, power_of_ten(left));
-        out[end] = 48 + found.digit;
-        rest = found.rest;
-        end += 1;
+impl<'a> Out<'a> {
+    // Puts n's last `count` digits.
+    fn put_digits(&mut self, n: u64, count: usize)
+        requires { (count ≤ 10) × (n < 10 ^ count) × Room self.old (padded count n) }
+        ensures { Puts self.old (padded count n) self.new }
+    {
+        let mut rest = n;
+        for k in (0..count).rev() {
+            let found = digit_of(rest, power_of_ten(k));
+            self.bytes[self.at] = b'0' + found.digit;
+            self.at += 1;
+            rest = found.rest;
+        }
     }
-    end
-}
 
-// Puts n's decimal digits into out from at on, and answers the place after them.
-pub fn put_number(out: &mut [u8], at: usize, n: u64) -> usize
-    requires n_bound { n < 10000000000 }
-    requires n_in_bounds { at + length (decimal n) ≤ length out.old }
-    ensures { Wrote out.old at (decimal n) out.new result }
-{
-    put_digits(out, at, n, digit_count(n))
+    // Puts n's decimal digits.
+    pub fn put_number(&mut self, n: u64)
+        requires n_bound { n < 10000000000 }
+        requires n_in_bounds { Room self.old (decimal n) }
+        ensures { Puts self.old (decimal n) self.new }
+    {
+        self.put_digits(n, digit_count(n));
+    }
 }

@@ -2,4 +2,5 @@
 #![tactic(auto)]
 
 pub mod digits;
+pub mod output;
 pub mod write;

@@ -1,4 +1,5 @@
 -- A line that is written is read back.
+use Rattle.std.specs.Prelude.{Some}
 use Prim.Native.Nat.{ℕ, zero, suc, ◌+◌, ◌-◌, ◌*◌, ◌/◌, ◌%◌, ◌^◌, ◌≤◌, ◌<◌}
 use mathlib.Core.Path.{◌≡◌, refl, sym, ap, ◌∙◌}
 use mathlib.Core.List.{List, [], ◌∷◌, ◌++◌, append_assoc}
@@ -11,7 +12,6 @@ use lib.Seq.{drop-append_seam, get_or-append_seam}
 use borrow.Author.Tests.{eq-eqb}
 use Rattle.lines.specs.Line.{is_digit, digits, number_from, starts_with, read_value_lem, read_line_lem, after}
 use Rattle.lines.specs.Text.{decimal, decimal_in, line}
-use Rattle.lines.specs.declared.read.Line.TheVariants.{Value}
 use Rattle.lines.proofs.Reading.{digit_yes, line_is, value_good}
 use Rattle.lines.proofs.Written.{AllDigits, decimal_one, decimal_two}
 
@@ -81,10 +81,10 @@ decimal_is (suc k) v h = go (dec_lt v 10) (decimal_is k (v / 10))
         rw (decimal_two (suc k) v t) (is_more (suc k) v (decimal_in (suc k) (v / 10)) t (r (omega (arith, pow-suc 10 (suc k)))))
 
 -- a value is read back
-pub value_back : (v : ℕ) (rest : List ℕ) → v < 10 ^ 10 → read_value_lem (decimal v ++ 10 ∷ rest) ≡ Value v (length (decimal v) + 1)
+pub value_back : (v : ℕ) (rest : List ℕ) → v < 10 ^ 10 → read_value_lem (decimal v ++ 10 ∷ rest) ≡ Some (v, length (decimal v) + 1)
 value_back v rest h =
     sym (value_good s n (sym (ap length d)) p.some p.few (get_or-append_seam ds 10 rest 0) (λ l z. lead l z))
-    ∙ ap (λ (x : ℕ). Value x (n + 1)) (ap (number_from 0) d ∙ p.value)
+    ∙ ap (λ (x : ℕ). Some (x, n + 1)) (ap (number_from 0) d ∙ p.value)
   where
     ds : List ℕ
     ds = decimal v
@@ -115,10 +115,10 @@ starts_own [] s = refl
 starts_own (k ∷ ks) s = rw (starts_with, eq-eqb k k refl) (starts_own ks s)
 
 -- a line is read back
-pub line_back : (key : List ℕ) (v : ℕ) (rest : List ℕ) → v < 10 ^ 10 → read_line_lem key (line key v ++ rest) ≡ Value v (length (line key v))
+pub line_back : (key : List ℕ) (v : ℕ) (rest : List ℕ) → v < 10 ^ 10 → read_line_lem key (line key v ++ rest) ≡ Some (v, length (line key v))
 unfolding line
 line_back key v rest h =
     ap (read_line_lem key) (append_assoc key (decimal v ++ 10 ∷ []) rest ∙ ap (λ (r : List ℕ). key ++ r) (append_assoc (decimal v) (10 ∷ []) rest))
     ∙ line_is key (key ++ (decimal v ++ 10 ∷ rest)) (starts_own key _)
     ∙ ap (after (length key)) (ap read_value_lem (drop-append_seam key (decimal v ++ 10 ∷ rest)) ∙ value_back v rest h)
-    ∙ ap (Value v) (sym (length-append key (decimal v ++ 10 ∷ []) ∙ ap (λ (j : ℕ). length key + j) (length-append (decimal v) (10 ∷ []))))
+    ∙ ap (λ (m : ℕ). Some (v, m)) (sym (length-append key (decimal v ++ 10 ∷ []) ∙ ap (λ (j : ℕ). length key + j) (length-append (decimal v) (10 ∷ []))))

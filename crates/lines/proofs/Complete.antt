@@ -1,4 +1,5 @@
 -- What is written for a value is read back as that value (`Complete`). By the parsers' forms: row, optional, checked, chain, whole text.
+use Rattle.std.specs.Prelude.{Some}
 use Prim.Native.Nat.{ℕ, ◌+◌, ◌^◌, ◌≤◌, ◌<◌}
 use mathlib.Core.Path.{◌≡◌, refl, sym, ap, ◌∙◌}
 use mathlib.Core.List.{List, [], ◌∷◌, ◌++◌, append_assoc}
@@ -8,7 +9,7 @@ use lib.ListN.{length}
 use lib.Seq.{drop-append_seam}
 use Rattle.lines.specs.Parser.{Parser, good, return, taken, row_at, optional_at, checked, chain, rising, end as ends, accepted, finish, whole, read_text}
 use Rattle.lines.specs.Line.{starts_with}
-use Rattle.lines.specs.Text.{decimal, line, texts, present}
+use Rattle.lines.specs.Text.{decimal, line, texts}
 use Rattle.lines.proofs.Reading.{field_good}
 use Rattle.lines.proofs.Parsing.{bind_good, checked-good, rising_yes, optional_there, text_fits}
 use Rattle.lines.proofs.Back.{starts_own, line_back}
@@ -28,7 +29,7 @@ row_complete key lo hi few v h s l = (
 )
 
 -- a line that may be missing: present
-pub optional_present : (key : List ℕ) (lo hi : ℕ) → hi < 10 ^ 10 → (v : ℕ) → (lo ≤ v) × (v ≤ hi) → (s : List ℕ) (l : ℕ) → (l' : ℕ) × (optional_at key lo hi (line key v ++ s) l ≡ good (present v) s l')
+pub optional_present : (key : List ℕ) (lo hi : ℕ) → hi < 10 ^ 10 → (v : ℕ) → (lo ≤ v) × (v ≤ hi) → (s : List ℕ) (l : ℕ) → (l' : ℕ) × (optional_at key lo hi (line key v ++ s) l ≡ good (Some v) s l')
 unfolding return line
 optional_present key lo hi few v h s l =
     let r = row_complete key lo hi few v h s l in

@@ -1,6 +1,7 @@
 -- The laws, in the order in which they rest on each other.
 pub mod Reading
 pub mod Parsing
+pub mod Steps
 pub mod Outcomes
 pub mod Written
 pub mod Back

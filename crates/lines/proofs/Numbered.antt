@@ -1,5 +1,6 @@
 -- Which numbers and lines a fault can have: P holds of the number, and the line is one of the text's or the next, since each line that is read takes
 -- a byte at least. By the parsers' forms.
+use Rattle.std.specs.Prelude.{Option, Some, None, Result, Ok, Err}
 use Prim.Native.Nat.{ℕ, zero, suc, ◌+◌, ◌≤◌}
 use mathlib.Core.Path.{◌≡◌, refl, sym, subst}
 use mathlib.Core.List.{List, [], ◌∷◌}
@@ -11,9 +12,6 @@ use lib.ListN.{length, length-drop}
 use Rattle.lines.specs.Line.{starts_with}
 use borrow.Author.Tests.{leb-true}
 use Rattle.lines.specs.Parser.{Parsed, good, fault, Parser, ◌>>=◌, return, read_field_lem, taken, row_at, optional_at, if_present, checked, chain, times, end as ends, refused, finish, whole, read_text}
-use Rattle.lines.specs.Text.{Optional, missing, present}
-use Rattle.lines.specs.declared.read.Field.{Field}
-use Rattle.lines.specs.declared.read.Field.TheVariants.{Value, Fault}
 use Rattle.lines.proofs.Reading.{InField, field_in}
 use Rattle.lines.proofs.Outcomes.{one_fault, not_both}
 
@@ -32,10 +30,10 @@ module _ (P : ℕ → Type 0) where
   unfolding row_at taken
   row_numbers two three key lo hi s l = go (read_field_lem key lo hi s) (field_in key s lo hi)
     where
-      go : (f : Field) → InField lo hi (length s) f → NumberIn P (length s) l (taken s l f)
-      go (Value v n) h = omega (arith, length-drop n s)
-      go (Fault k) (inl e) = (subst P (sym e) two, omega arith)
-      go (Fault k) (inr e) = (subst P (sym e) three, omega arith)
+      go : (f : Result (ℕ × ℕ) ℕ) → InField lo hi (length s) f → NumberIn P (length s) l (taken s l f)
+      go (Ok (v, n)) h = omega (arith, length-drop n s)
+      go (Err k) (inl e) = (subst P (sym e) two, omega arith)
+      go (Err k) (inr e) = (subst P (sym e) three, omega arith)
 
   -- a further rule with fault k adds that number alone to the parser's faults
   pub checked_numbers : {A : Type 0} (k : ℕ) → P k → (ok : A → Bool) (p : Parser A) → Numbers P p → Numbers P (checked k ok p)
@@ -73,15 +71,15 @@ module _ (P : ℕ → Type 0) where
   unfolding optional_at
   optional_numbers two three key lo hi s l = go (starts_with key s)
     where
-      go : (t : Bool) → NumberIn {A = Optional ℕ} P (length s) l (elim t [ true ↦ (row_at key lo hi >>= λ v. return (present v)) s l | false ↦ good missing s l ])
-      go true = bind_numbers (row_at key lo hi) _ (row_numbers two three key lo hi) (λ v. return_numbers (present v)) s l
+      go : (t : Bool) → NumberIn {A = Option ℕ} P (length s) l (elim t [ true ↦ (row_at key lo hi >>= λ v. return (Some v)) s l | false ↦ good None s l ])
+      go true = bind_numbers (row_at key lo hi) _ (row_numbers two three key lo hi) (λ v. return_numbers (Some v)) s l
       go false = omega arith
 
   -- what follows a line only where that is present has the fault numbers of its own parser
-  pub present_numbers : {A B : Type 0} (f : A → Parser B) → ((a : A) → Numbers P (f a)) → (o : Optional A) → Numbers P (if_present f o)
+  pub present_numbers : {A B : Type 0} (f : A → Parser B) → ((a : A) → Numbers P (f a)) → (o : Option A) → Numbers P (if_present f o)
   unfolding if_present
-  present_numbers f h missing = return_numbers missing
-  present_numbers f h (present a) = bind_numbers (f a) _ (h a) (λ b. return_numbers (present b))
+  present_numbers f h None = return_numbers None
+  present_numbers f h (Some a) = bind_numbers (f a) _ (h a) (λ b. return_numbers (Some b))
 
   -- a parser repeated with a state has no fault numbers but its own
   pub chain_numbers : {A S : Type 0} (p : S → Parser A) (next : S → A → S) → ((k : S) → Numbers P (p k)) → (n : ℕ) (before : S) → Numbers P (chain p next n before)

@@ -1,15 +1,10 @@
--- What a text reads as: it follows from the verdict on it (`told`), and it is one outcome, so two values are one, two faults are one, and no text has both.
+-- What a text reads as: it is one outcome, so two values are one, two faults are one, and no text has both.
 use Prim.Native.Nat.{ℕ}
-use mathlib.Core.Path.{◌≡◌, sym, ap, ◌∙◌}
+use mathlib.Core.Path.{◌≡◌, sym, ◌∙◌}
 use native.Mathlib.Omega.{arith}
 use Rattle.lines.specs.Parser.{Outcome, accepted, refused}
-use Rattle.lines.specs.Cursor.{judged}
-use Rattle.lines.specs.declared.rows.WholeText.{WholeText}
 
 module _ {A : Type 0} {x : Outcome A} where
-  pub told : (a : A) {v w : WholeText} → judged v a ≡ x → v ≡ w → x ≡ judged w a
-  told a e h = sym e ∙ ap (λ (v : WholeText). judged v a) h
-
   -- a text that is accepted with two values is accepted with one and the same
   pub one_value : {a b : A} → x ≡ accepted a → x ≡ accepted b → b ≡ a
   one_value {a} {b} e f = let y : accepted b ≡ accepted a = sym f ∙ e in cc

@@ -1,26 +1,23 @@
--- Laws of the parsers.
+-- Laws of the parsers, and of the code's readers in their terms.
+use Rattle.std.specs.Prelude.{Some, None, Result, Ok, Err}
 use Prim.Native.Nat.{ℕ, suc, ◌+◌, ◌-◌, ◌≤◌, ◌<◌}
-use mathlib.Core.Path.{◌≡◌, refl, sym, ap, ◌∙◌, subst}
+use mathlib.Core.Path.{◌≡◌, refl, sym, ap, ◌∙◌}
 use mathlib.Core.List.{List, [], ◌∷◌, ◌++◌, append_assoc, append-nil}
-use mathlib.Core.Bool.{Bool, true, false}
+use mathlib.Core.Bool.{Bool, true, false, true≢false}
 use native.Mathlib.Omega.{arith}
-use native.Mathlib.Decide.{dec_lt}
 use native.Mathlib.Nat.{sub-zero}
-use lib.ListN.{length, take, drop, length-drop, drop_of_length-le}
-use lib.Seq.{drop-drop}
-use borrow.Author.Tests.{le-leb, lt-leb, lt-ltb, le-ltb}
-use Rattle.lines.specs.Parser.{Parsed, good, fault, Parser, ◌>>=◌, return, read_field_lem, taken, row_at, optional_field, optional_at, checked, chain, end as ends, rising, up_to, refused, finish, whole, read_text}
+use lib.ListN.{length, drop}
+use lib.Dec.{eqb}
+use borrow.Author.Tests.{eqb-true, le-leb, lt-leb, lt-ltb, le-ltb}
+use Rattle.lines.specs.Parser.{Parsed, good, fault, Parser, ◌>>=◌, return, read_field_lem, taken, row_at, optional_at, checked, chain, end as ends, rising, up_to, refused, finish, whole, read_text}
 use Rattle.lines.specs.Line.{starts_with}
-use Rattle.lines.specs.Text.{missing, present}
-use Rattle.lines.specs.Cursor.{ReadAt, got, no_good, Stands, Inside, LineRead, Stood, Reads, parsed, ended, closed, judged}
-use Rattle.lines.specs.declared.rows.End.{End}
-use Rattle.lines.specs.declared.rows.End.TheVariants as end
-use Rattle.lines.specs.declared.read.Field.{Field}
-use Rattle.lines.specs.declared.read.Field.TheVariants.{Value, Fault}
-use Rattle.lines.specs.declared.read.OptionalField.{OptionalField}
-use Rattle.lines.specs.declared.read.OptionalField.TheVariants.{There, Missing}
-use Rattle.lines.specs.declared.rows.Cursor.{Cursor}
-use Rattle.lines.proofs.Reading.{InField, field_in, rest_of, drop_step}
+use Rattle.lines.specs.Fault.{number_of_lem}
+use Rattle.lines.specs.Reads.{Reads, fault_at, closed, outcome, seen}
+use Rattle.lines.specs.declared.fault.Fault.{Fault}
+use Rattle.lines.specs.declared.fault.FaultKind.{FaultKind}
+use Rattle.lines.specs.declared.fault.FaultKind.TheVariants.{Form}
+use Rattle.lines.specs.declared.rows.Lines.{Lines}
+use Rattle.lines.proofs.Reading.{InField, field_in}
 
 -- the first of two parsers decides
 pub bind_good : {A B : Type 0} (p : Parser A) (f : A → Parser B) {s s' : List ℕ} {l l' : ℕ} {a : A} → p s l ≡ good a s' l' → (p >>= f) s l ≡ f a s' l'
@@ -32,32 +29,6 @@ pub bind_fault : {A B : Type 0} (p : Parser A) (f : A → Parser B) {s : List �
 unfolding ◌>>=◌
 bind_fault p f e = rw (◌>>=◌, e)
 
--- a line at a place of the text, by its field
-module _ (s : List ℕ) (at l : ℕ) where
-  -- a field with a value of n bytes leaves the text behind those, at the next line
-  pub taken-good : (v n : ℕ) → good v (drop (at + n) s) (l + 1) ≡ taken (drop at s) l (Value v n)
-  unfolding taken
-  taken-good v n = ap (λ (r : List ℕ). good v r (l + 1)) (sym (drop-drop n at s))
-
-  -- a field at fault is that fault on the line where it stands
-  pub taken-fault : (k : ℕ) → fault k l ≡ taken (drop at s) l (Fault k)
-  unfolding taken
-  taken-fault k = refl
-
--- the part of a text from a cursor on, where a line was read: the line ends in the text, and the cursor set behind it reads on in the whole text
-module _ {q : Parser ℕ} (s : List ℕ) (p : Cursor) {f : Field} (h : LineRead q (take (length s - p.at) (drop p.at s)) f) where
-  -- a line read from a cursor that stands in the text ends in the text
-  pub line_inside : Stands s p → Inside s p.at f
-  line_inside stands = go f h.inside
-    where
-      go : (g : Field) → Inside (take (length s - p.at) (drop p.at s)) 0 g → Inside s p.at g
-      go (Value v n) w = (w.0, omega (arith, w.1, stands, ap length (rest_of s p.at), length-drop p.at s))
-      go (Fault k) w = tt
-
-  -- an answer that follows the field read at a cursor is the parser's answer in the whole text
-  pub line_reads : {r : ReadAt ℕ} → Reads s r (taken (drop p.at s) p.line f) → Reads s r (q (drop p.at s) p.line)
-  line_reads e = record { is = e.is ∙ rw rest_of at (h.is p.line); stands = e.stands }
-
 -- a row's value is in its range
 abbrev pub InRow : ℕ → ℕ → Parsed ℕ → Type 0
 InRow lo hi (good v s l) = (lo ≤ v) × (v ≤ hi)
@@ -68,63 +39,21 @@ pub row_in : (key : List ℕ) (lo hi : ℕ) (s : List ℕ) (l : ℕ) → InRow l
 unfolding row_at taken
 row_in key lo hi s l = go (read_field_lem key lo hi s) (field_in key s lo hi)
   where
-    go : (f : Field) → InField lo hi (length s) f → InRow lo hi (taken s l f)
-    go (Value v n) h = (h.2, h.3)
-    go (Fault k) h = tt
+    go : (f : Result (ℕ × ℕ) ℕ) → InField lo hi (length s) f → InRow lo hi (taken s l f)
+    go (Ok (v, n)) h = (h.2, h.3)
+    go (Err k) h = tt
 
 -- a line that may be missing, by whether its key stands there
 module _ (key : List ℕ) (lo hi : ℕ) (s : List ℕ) (l : ℕ) where
   -- where the text starts with the key, a line that may be missing is read as a row
-  pub optional_there : starts_with key s ≡ true → optional_at key lo hi s l ≡ (row_at key lo hi >>= λ v. return (present v)) s l
+  pub optional_there : starts_with key s ≡ true → optional_at key lo hi s l ≡ (row_at key lo hi >>= λ v. return (Some v)) s l
   unfolding optional_at
   optional_there e = rw (optional_at, e)
 
   -- where the text doesn't start with the key, the line is missing and nothing is read
-  pub optional_missing : starts_with key s ≡ false → optional_at key lo hi s l ≡ good missing s l
+  pub optional_missing : starts_with key s ≡ false → optional_at key lo hi s l ≡ good None s l
   unfolding optional_at
   optional_missing e = rw (optional_at, e)
-
-  -- and by the code's answer
-  pub field_missing : optional_field key lo hi s ≡ Missing → optional_at key lo hi s l ≡ good missing s l
-  unfolding optional_field
-  field_missing f = go (starts_with key s) refl
-    where
-      go : (t : Bool) → starts_with key s ≡ t → optional_at key lo hi s l ≡ good missing s l
-      go true e =
-          let y : There (read_field_lem key lo hi s) ≡ Missing = rw (optional_field, e) at f in
-          let z : ◌≡◌ {A = ℕ} 0 1 = cc in
-          absurd (omega arith)
-      go false e = optional_missing e
-
-  -- where the optional field is there, it is the row's field, and the parser reads it as present
-  pub field_there : {g : Field} → optional_field key lo hi s ≡ There g → (g ≡ read_field_lem key lo hi s) × (optional_at key lo hi s l ≡ (row_at key lo hi >>= λ v. return (present v)) s l)
-  unfolding optional_field
-  field_there {g} f = go (starts_with key s) refl
-    where
-      go : (t : Bool) → starts_with key s ≡ t → (g ≡ read_field_lem key lo hi s) × (optional_at key lo hi s l ≡ (row_at key lo hi >>= λ v. return (present v)) s l)
-      go true e = let y : There (read_field_lem key lo hi s) ≡ There g = rw (optional_field, e) at f in (cc, optional_there e)
-      go false e =
-          let y : Missing ≡ There g = rw (optional_field, e) at f in
-          let z : ◌≡◌ {A = ℕ} 0 1 = cc in
-          absurd (omega arith)
-
--- read from the part of the text that begins at a cursor
-module _ (key : List ℕ) (lo hi : ℕ) (s : List ℕ) (p : Cursor) {o : OptionalField} (e : o ≡ optional_field key lo hi (take (length s - p.at) (drop p.at s))) where
-  -- an optional field found from a cursor on is the row's field, and the parser reads it there
-  pub optional_row : {f : Field} → o ≡ There f
-      → (f ≡ read_field_lem key lo hi (take (length s - p.at) (drop p.at s)))
-      × (optional_at key lo hi (drop p.at s) p.line ≡ (row_at key lo hi >>= λ v. return (present v)) (drop p.at s) p.line)
-  optional_row h =
-      let r = field_there key lo hi _ p.line (sym e ∙ h) in
-      (r.0, rw rest_of at r.1)
-
-  -- where none is found from a cursor on, the parser has it missing and reads nothing
-  pub optional_none : o ≡ Missing → optional_at key lo hi (drop p.at s) p.line ≡ good missing (drop p.at s) p.line
-  optional_none h = rw rest_of at (field_missing key lo hi _ p.line (sym e ∙ h))
-
--- the place after a row of n bytes
-pub stands_after : (s : List ℕ) (p : Cursor) (n : ℕ) → Stands s p → 1 ≤ n → p.at + n ≤ length s → Stands s (record { at = p.at + n; line = p.line + 1 })
-stands_after s p n h l m = record { inside = m; lines = omega (arith, h) }
 
 -- a further rule
 module _ {A : Type 0} (k : ℕ) (ok : A → Bool) (p : Parser A) (s : List ℕ) (l : ℕ) where
@@ -142,31 +71,6 @@ module _ {A : Type 0} (k : ℕ) (ok : A → Bool) (p : Parser A) (s : List ℕ) 
   pub checked-fault : {n m : ℕ} → p s l ≡ fault n m → checked k ok p s l ≡ fault n m
   unfolding checked
   checked-fault e = rw (checked, e)
-
--- one line: a row's field, and a further rule of it
-pub row_line : (key : List ℕ) (lo hi : ℕ) (s : List ℕ) {f : Field} → f ≡ read_field_lem key lo hi s → LineRead (row_at key lo hi) s f
-unfolding row_at
-row_line key lo hi s {f} e = record { is = λ l. ap (taken s l) e; inside = subst (Inside s 0) (sym e) (go (read_field_lem key lo hi s) (field_in key s lo hi)) }
-  where
-    go : (g : Field) → InField lo hi (length s) g → Inside s 0 g
-    go (Value v n) h = (h.0, omega (arith, h.1))
-    go (Fault k) h = tt
-
-module _ (k : ℕ) (ok : ℕ → Bool) (q : Parser ℕ) (s : List ℕ) where
-  -- a line whose value passes the rule is read the same with the rule
-  pub line_ruled : {v n : ℕ} → LineRead q s (Value v n) → ok v ≡ true → LineRead (checked k ok q) s (Value v n)
-  unfolding taken
-  line_ruled h t = record { is = λ l. sym (checked-good k ok q s l (sym (h.is l)) t); inside = h.inside }
-
-  -- a line whose value breaks the rule is read with the rule as its fault k
-  pub line_broken : {v n : ℕ} → LineRead q s (Value v n) → ok v ≡ false → LineRead (checked k ok q) s (Fault k)
-  unfolding taken
-  line_broken h t = record { is = λ l. sym (checked_not k ok q s l (sym (h.is l)) t); inside = tt }
-
-  -- a line that is at fault without the rule has the same fault with it
-  pub line_fault : {j : ℕ} → LineRead q s (Fault j) → LineRead (checked k ok q) s (Fault j)
-  unfolding taken
-  line_fault h = record { is = λ l. sym (checked-fault k ok q s l (sym (h.is l))); inside = tt }
 
 -- a value after the one before and within the limit passes the rising rule
 pub rising_yes : (b h v : ℕ) → b < v → v ≤ h → rising b h v ≡ true
@@ -187,20 +91,6 @@ up_to_yes m v h = le-leb v m h
 -- a value above m fails the rule of an upper limit
 pub up_to_not : (m v : ℕ) → m < v → up_to m v ≡ false
 up_to_not m v h = lt-leb v m h
-
--- what an answer of the code says once it is known
-module _ {A : Type 0} {s : List ℕ} {r : ReadAt A} {x : Parsed A} where
-  -- where the code's answer is a value, the parser gives it with what stands behind the cursor
-  pub got_value : {v : A} {q : Cursor} → Reads s r x → r ≡ got v q → x ≡ good v (drop q.at s) q.line
-  got_value h e = sym h.is ∙ ap (parsed s) e
-
-  -- where the code's answer is a fault, the parser gives the same number and line
-  pub got_fault : {k l : ℕ} → Reads s r x → r ≡ no_good k l → x ≡ fault k l
-  got_fault h e = sym h.is ∙ ap (parsed s) e
-
-  -- where the code's answer is a value, the cursor that comes with it stands in the text
-  pub got_place : {v : A} {q : Cursor} → Reads s r x → r ≡ got v q → Stands s q
-  got_place h e = subst (Stood s) e h.stands
 
 -- what was read before goes in front
 abbrev pub behind : {A : Type 0} → List A → Parsed (List A) → Parsed (List A)
@@ -248,67 +138,6 @@ chain_start {A} p next n prev s l = rw sub-zero (same (chain p next n prev s l))
     same (good a t m) = refl
     same (fault k m) = refl
 
--- the same for a value that ends at a place
-module _ {A : Type 0} {s : List ℕ} {x : Parsed A} {e : End} (a : A) where
-  -- where a reader ends at a cursor, the parser gives its value and the text behind the cursor
-  pub end_value : {q : Cursor} → Reads s (ended e a) x → e ≡ end.At q → x ≡ good a (drop q.at s) q.line
-  unfolding ended
-  end_value h m = got_value h (ap (λ (y : End). ended y a) m)
-
-  -- where a reader ends at a fault, the parser gives the same number and line
-  pub end-fault : {k l : ℕ} → Reads s (ended e a) x → e ≡ end.Fault k l → x ≡ fault k l
-  unfolding ended
-  end-fault h m = got_fault h (ap (λ (y : End). ended y a) m)
-
-  -- where a reader ends at a cursor, this cursor stands in the text
-  pub end_place : {q : Cursor} → Reads s (ended e a) x → e ≡ end.At q → Stands s q
-  unfolding ended
-  end_place h m = got_place h (ap (λ (y : End). ended y a) m)
-
-  -- a fault that is handed on
-  pub fault_read : {k l : ℕ} → e ≡ end.Fault k l → x ≡ fault k l → Reads s (ended e a) x
-  unfolding ended
-  fault_read m h = rw (m, h) (record { is = refl; stands = tt })
-
--- a fault is no end at a cursor
-pub not_at : {X : Type 0} {k l : ℕ} {q : Cursor} → end.Fault k l ≡ end.At q → X
-not_at e = let z : ◌≡◌ {A = ℕ} 0 1 = cc in absurd (omega arith)
-
--- a value that is put into another
-pub map_read : {A B : Type 0} {s t : List ℕ} {l : ℕ} (f : A → B) (p : Parser A) (e : End) (a : A) → Reads s (ended e a) (p t l) → Reads s (ended e (f a)) ((p >>= λ x. return (f x)) t l)
-unfolding return ended
-map_read f p (end.At q) a h = record { is = sym (bind_good p _ (sym h.is)); stands = h.stands }
-map_read f p (end.Fault k m) a h = record { is = sym (bind_fault p _ (sym h.is)); stands = tt }
-
--- a row's value is at most its bound
-pub got_most : (key t : List ℕ) (lo hi l : ℕ) {s : List ℕ} {r : ReadAt ℕ} {v : ℕ} {q : Cursor} → Reads s r (row_at key lo hi t l) → r ≡ got v q → v ≤ hi
-got_most key t lo hi l h e = (subst (InRow lo hi) (got_value h e) (row_in key lo hi t l)).1
-
--- whether anything follows
-pub end_more : (s : List ℕ) (at l : ℕ) → at < length s → ends (drop at s) l ≡ fault 2 l
-unfolding ends
-end_more s at l h = rw (drop_step s at h)
-
--- at or past the text's last byte nothing more follows, and the end is read
-pub end_none : (s : List ℕ) (at l : ℕ) → length s ≤ at → ends (drop at s) l ≡ good tt [] l
-unfolding ends
-end_none s at l h = rw (drop_of_length-le s h)
-
--- a whole text: what its lines give, by where they end
-pub close_read : {A : Type 0} (p : Parser A) (s : List ℕ) (e : End) (a : A) → Reads s (ended e a) (p s 1) → judged (closed s e) a ≡ finish (whole p s 1)
-unfolding ended closed whole return
-close_read p s (end.At q) a h = go (dec_lt q.at (length s))
-  where
-    lines : p s 1 ≡ good a (drop q.at s) q.line
-    lines = sym h.is
-
-    go : Dec (q.at < length s) → judged (closed s (end.At q)) a ≡ finish (whole p s 1)
-    go (yes m) = rw (closed, lt-ltb q.at (length s) m) (ap finish (sym (bind_good p _ lines ∙ bind_fault ends _ (end_more s q.at q.line m))))
-    go (no m) =
-        let n : length s ≤ q.at = omega (arith, m) in
-        rw (closed, le-ltb q.at (length s) n) (ap finish (sym (bind_good p _ lines ∙ bind_good ends _ (end_none s q.at q.line n))))
-close_read p s (end.Fault k m) a h = ap finish (sym (bind_fault p _ (sym h.is)))
-
 -- a text that is too long, and one that is not
 pub text_long : {A : Type 0} (most : ℕ) (p : Parser A) (s : List ℕ) → most < length s → refused 1 0 ≡ read_text most p s
 unfolding read_text
@@ -318,3 +147,92 @@ text_long most p s h = rw (read_text, lt-leb (length s) most h)
 pub text_fits : {A : Type 0} (most : ℕ) (p : Parser A) (s : List ℕ) → length s ≤ most → finish (whole p s 1) ≡ read_text most p s
 unfolding read_text
 text_fits most p s h = rw (read_text, le-leb (length s) most h)
+
+-- ---- the code's readers, step by step
+
+-- a first reader p, which leaves m, and then one of its value
+module _ {A B : Type 0} (p : Parser A) (f : A → Parser B) (b m a : Lines) where
+  -- a fault of the first is the whole's
+  pub stopped : (e : Fault) → Reads p b m (Err e) → Reads (p >>= f) b a (Err e)
+  stopped e h = sym (bind_fault p f (sym h))
+
+  -- a value of the first is handed on
+  pub went_on : (x : A) (r : Result B Fault) → Reads p b m (Ok x) → Reads (f x) m a r → Reads (p >>= f) b a r
+  went_on x r h k = k ∙ sym (bind_good p f (sym h))
+
+-- a value that is put into another
+pub put_into : {A B : Type 0} (f : A → B) (p : Parser A) (b a : Lines) (r : Result A Fault) → Reads p b a r → Reads (p >>= λ x. return (f x)) b a (seen f r)
+unfolding return
+put_into f p b a (Ok x) h = sym (bind_good p _ (sym h))
+put_into f p b a (Err e) h = sym (bind_fault p _ (sym h))
+
+-- a further rule `ok` of what p reads
+module _ {A : Type 0} (kind : FaultKind) (ok : A → Bool) (p : Parser A) (b m a : Lines) where
+  -- a fault of p itself comes first
+  pub unread : (e : Fault) → Reads p b m (Err e) → Reads (checked (number_of_lem kind) ok p) b a (Err e)
+  unread e h = sym (checked-fault _ ok p _ _ (sym h))
+
+  -- a value that keeps the rule is read as without it
+  pub ruled : (x : A) → Reads p b a (Ok x) → ok x ≡ true → Reads (checked (number_of_lem kind) ok p) b a (Ok x)
+  ruled x h t = sym (checked-good _ ok p _ _ (sym h) t)
+
+  -- a value that breaks it is a fault of this kind on the line where p began
+  pub broken : (x : A) → Reads p b m (Ok x) → ok x ≡ false → Reads (checked (number_of_lem kind) ok p) b a (Err (record { kind = kind; line = b.line }))
+  broken x h t = sym (checked_not (number_of_lem kind) ok p _ _ (sym h) t)
+
+-- a row of a key with a range, by its line: what is left of the text behind it
+module _ (key : List ℕ) (lo hi : ℕ) (b a : Lines) where
+  -- a fault of the line is the row's
+  pub row_fault : (kind : FaultKind) → Err (number_of_lem kind) ≡ read_field_lem key lo hi b.rest.now → Reads (row_at key lo hi) b a (Err (record { kind = kind; line = b.line }))
+  unfolding row_at taken
+  row_fault kind e = ap (taken b.rest.now b.line) e
+
+  -- a value of n bytes is the row's, and leaves what stands behind them
+  pub row_value : {v n : ℕ} → Ok (v, n) ≡ read_field_lem key lo hi b.rest.now → a.rest.now ≡ drop n b.rest.now → a.line ≡ b.line + 1 → Reads (row_at key lo hi) b a (Ok v)
+  unfolding row_at taken
+  row_value {v} {n} e r l = rw (r, l) (ap (taken b.rest.now b.line) e)
+
+  -- where the key stands, a line that may be missing is read as a row: a value is there
+  pub optional_value : (v : ℕ) → starts_with key b.rest.now ≡ true → Reads (row_at key lo hi) b a (Ok v) → Reads (optional_at key lo hi) b a (Ok (Some v))
+  unfolding return
+  optional_value v t h = put_into Some (row_at key lo hi) b a (Ok v) h ∙ sym (optional_there key lo hi _ _ t)
+
+  -- and a fault of the row is its own
+  pub optional_fault : (e : Fault) → starts_with key b.rest.now ≡ true → Reads (row_at key lo hi) b a (Err e) → Reads (optional_at key lo hi) b a (Err e)
+  unfolding return
+  optional_fault e t h = put_into Some (row_at key lo hi) b a (Err e) h ∙ sym (optional_there key lo hi _ _ t)
+
+-- at the end of a text nothing is left
+pub nothing_left : (left : Lines) → eqb (length left.rest.now) 0 ≡ true → closed left (Ok tt) ≡ ends left.rest.now left.line
+unfolding ends
+nothing_left left h = go left.rest.now (eqb-true _ _ h)
+  where
+    go : (s : List ℕ) → length s ≡ 0 → good tt [] left.line ≡ ends s left.line
+    go [] e = refl
+    go (x ∷ s) e = absurd (omega arith)
+
+-- bytes behind the last line are a fault of form on the line after it
+pub more_left : (left : Lines) → eqb (length left.rest.now) 0 ≡ false → closed left (Err (fault_at left Form)) ≡ ends left.rest.now left.line
+unfolding ends
+more_left left h = go left.rest.now h
+  where
+    go : (s : List ℕ) → eqb (length s) 0 ≡ false → fault 2 left.line ≡ ends s left.line
+    go [] e = absurd (true≢false e)
+    go (x ∷ s) e = refl
+
+-- a whole text: what its lines give, and then its end
+module _ {A : Type 0} (p : Parser A) (s : List ℕ) (b m : Lines) (whole_text : b.rest.now ≡ s) (first : b.line ≡ 1) where
+  -- a fault of the lines is the text's
+  pub whole_fault : (e : Fault) → Reads p b m (Err e) → outcome {A = A} (Err e) ≡ finish (whole p s 1)
+  unfolding whole
+  whole_fault e h = ap finish (sym (bind_fault p _ (sym (rw (whole_text, first) at h))))
+
+  -- bytes behind the last line are the text's fault
+  pub whole_more : (x : A) (e : Fault) → Reads p b m (Ok x) → closed m (Err e) ≡ ends m.rest.now m.line → outcome {A = A} (Err e) ≡ finish (whole p s 1)
+  unfolding whole
+  whole_more x e h k = ap finish (sym (bind_good p _ (sym (rw (whole_text, first) at h)) ∙ bind_fault ends _ (sym k)))
+
+  -- lines with nothing behind them are the text
+  pub whole_value : (x : A) → Reads p b m (Ok x) → closed m (Ok tt) ≡ ends m.rest.now m.line → outcome (Ok x) ≡ finish (whole p s 1)
+  unfolding whole return
+  whole_value x h k = ap finish (sym (bind_good p _ (sym (rw (whole_text, first) at h)) ∙ bind_good ends _ (sym k)))

@@ -1,4 +1,5 @@
 -- Laws of the definitions of a line that the proofs cite.
+use Rattle.std.specs.Prelude.{Option, Some, None, Result, Ok, Err}
 use Prim.Native.Nat.{ℕ, ◌+◌, ◌-◌, ◌*◌, ◌^◌, ◌≤◌, ◌<◌}
 use mathlib.Core.Path.{◌≡◌, refl, ap}
 use mathlib.Core.List.{List, [], ◌∷◌}
@@ -10,16 +11,12 @@ use native.Mathlib.Decide.{dec_lt}
 use mathlib.Core.Bool.{and-eq-true_iff, ◌||◌, not, and-false, false≢true}
 use mathlib.Core.Logic.{◌⊎◌, inl, inr}
 use lib.Dec.{leb, eqb}
+use lib.Pointwise.{pointwise}
 use lib.ListN.{length, get_or, drop, take, length-drop, get_or-eq_default}
 use lib.Seq.{drop-cons, take_all}
 use borrow.Author.Tests.{le-leb, lt-leb, leb-true, eqb-true, eq-eqb, ne_eqb}
 use Rattle.lines.specs.Line.{is_digit, digits, number_from, plain, starts_with, read_value_lem, read_line_lem, after}
 use Rattle.lines.specs.Parser.{in_range, read_field_lem}
-use Rattle.lines.specs.declared.read.Field.{Field}
-use Rattle.lines.specs.declared.read.Field.TheVariants as field
-use Rattle.lines.specs.declared.read.Field.TheVariants.{Fault}
-use Rattle.lines.specs.declared.read.Line.{Line}
-use Rattle.lines.specs.declared.read.Line.TheVariants.{Value, Bad}
 
 -- one more element, at the code's i + 1
 pub drop_step : (s : List ℕ) (i : ℕ) → i < length s → drop i s ≡ get_or s i 0 ∷ drop (i + 1) s
@@ -105,22 +102,22 @@ module _ (s : List ℕ) (n : ℕ) (e : n ≡ length (digits s)) where
   tested : Bool
   tested = plain (digits s) && eqb (get_or s (length (digits s)) 0) 10
 
-  refused : tested ≡ false → Bad ≡ read_value_lem s
+  refused : tested ≡ false → None ≡ read_value_lem s
   unfolding tested read_value_lem
   refused t = rw (read_value_lem, t)
 
   -- a value without any digit is no good value
-  pub none_bad : n < 1 → Bad ≡ read_value_lem s
+  pub none_bad : n < 1 → None ≡ read_value_lem s
   unfolding tested
   none_bad h = refused (simp (← e, lt-leb 1 n h))
 
   -- a value of more than ten digits is no good value
-  pub long_bad : 10 < n → Bad ≡ read_value_lem s
+  pub long_bad : 10 < n → None ≡ read_value_lem s
   unfolding tested
   long_bad h = refused (simp (← e, le-leb 1 n (omega arith), lt-leb n 10 h))
 
   -- a value whose digits byte 10 does not follow is no good value
-  pub mark_bad : (get_or s n 0 ≡ 10 → ⊥) → Bad ≡ read_value_lem s
+  pub mark_bad : (get_or s n 0 ≡ 10 → ⊥) → None ≡ read_value_lem s
   unfolding tested
   mark_bad h = refused (simp (← e, ne_eqb (get_or s n 0) 10 h, and-false))
 
@@ -128,16 +125,16 @@ module _ (s : List ℕ) (n : ℕ) (e : n ≡ length (digits s)) where
   head h = ap (λ (l : List ℕ). get_or l 0 0) (digit_at s 0 (omega arith)).next
 
   -- a value of two or more digits with a leading zero is no good value
-  pub zero_bad : 1 < n → get_or s 0 0 ≡ 48 → Bad ≡ read_value_lem s
+  pub zero_bad : 1 < n → get_or s 0 0 ≡ 48 → None ≡ read_value_lem s
   unfolding tested
   zero_bad h z = refused (simp (← e, head (omega arith), z, le-leb 1 n (omega arith), ne_eqb n 1 (omega arith), and-false))
 
-  accepted : tested ≡ true → Value (number_from 0 (digits s)) (length (digits s) + 1) ≡ read_value_lem s
+  accepted : tested ≡ true → Some (number_from 0 (digits s), length (digits s) + 1) ≡ read_value_lem s
   unfolding tested read_value_lem
   accepted t = rw (read_value_lem, t)
 
   -- 1 to 10 digits without leading zero, with byte 10 behind, are read as their number
-  pub value_good : 1 ≤ n → n ≤ 10 → get_or s n 0 ≡ 10 → (1 < n → get_or s 0 0 ≡ 48 → ⊥) → Value (number_from 0 (digits s)) (n + 1) ≡ read_value_lem s
+  pub value_good : 1 ≤ n → n ≤ 10 → get_or s n 0 ≡ 10 → (1 < n → get_or s 0 0 ≡ 48 → ⊥) → Some (number_from 0 (digits s), n + 1) ≡ read_value_lem s
   unfolding tested
   value_good l h m z = rw e (accepted (simp (← e, le-leb 1 n l, le-leb n 10 h, eq-eqb (get_or s n 0) 10 m, plain_zero (dec_lt 1 n))))
     where
@@ -145,20 +142,32 @@ module _ (s : List ℕ) (n : ℕ) (e : n ≡ length (digits s)) where
       plain_zero (yes g) = simp (ne_eqb n 1 (omega arith), head (omega arith), ne_eqb (get_or s 0 0) 48 (z g))
       plain_zero (no g) = simp (eq-eqb n 1 (omega arith))
 
--- the first bytes of a key
-pub starts_more : (key s : List ℕ) (i : ℕ) → i < length key → i < length s → get_or key i 0 ≡ get_or s i 0 → starts_with (drop i key) (drop i s) ≡ starts_with (drop (i + 1) key) (drop (i + 1) s)
+-- the library's comparison of a text's first bytes with a key, as a definition of ours
+pub starts_same : (key s : List ℕ) → pointwise eqb key (take (length key) s) ≡ starts_with key s
 unfolding starts_with
-starts_more key s i h l e = rw (drop_step key i h, drop_step s i l, starts_with, eq-eqb _ _ e)
+starts_same [] s = refl
+starts_same (k ∷ ks) [] = refl
+starts_same (k ∷ ks) (b ∷ bs) = ap (λ (t : Bool). eqb k b && t) (starts_same ks bs)
 
--- a text that differs from the key at byte i doesn't go on with it from there
-pub starts_not : (key s : List ℕ) (i : ℕ) → i < length key → i < length s → (get_or key i 0 ≡ get_or s i 0 → ⊥) → starts_with (drop i key) (drop i s) ≡ false
-unfolding starts_with
-starts_not key s i h l e = rw (drop_step key i h, drop_step s i l, starts_with, ne_eqb _ _ e)
+-- the first bytes of a text, as many as its digits, are its digits
+pub digits_first : (s : List ℕ) → take (length (digits s)) s ≡ digits s
+unfolding digits
+digits_first [] = refl
+digits_first (b ∷ bs) = go (is_digit b) refl (digits_first bs)
+  where
+    go : (t : Bool) → is_digit b ≡ t → take (length (digits bs)) bs ≡ digits bs → take (length (digits (b ∷ bs))) (b ∷ bs) ≡ digits (b ∷ bs)
+    go true e h = rw (digits, e) (ap (λ (ds : List ℕ). b ∷ ds) h)
+    go false e h = rw (digits, e) refl
 
--- from the key's end on nothing of the key is left to compare
-pub starts_end : (key s : List ℕ) (i : ℕ) → length key ≤ i → starts_with (drop i key) (drop i s) ≡ true
-unfolding starts_with
-starts_end key s i h = rw (lib.ListN.drop_of_length-le key h)
+-- digits begin with all of themselves
+pub digits_own : (s : List ℕ) → digits (digits s) ≡ digits s
+unfolding digits
+digits_own [] = refl
+digits_own (b ∷ bs) = go (is_digit b) refl (digits_own bs)
+  where
+    go : (t : Bool) → is_digit b ≡ t → digits (digits bs) ≡ digits bs → digits (digits (b ∷ bs)) ≡ digits (b ∷ bs)
+    go true e h = rw (digits, e, digits, e) (ap (λ (ds : List ℕ). b ∷ ds) h)
+    go false e h = rw (digits, e) refl
 
 -- a key that stands there is no longer than the text
 pub starts_le : (key s : List ℕ) → starts_with key s ≡ true → length key ≤ length s
@@ -176,7 +185,7 @@ starts_short key s h = go (starts_with key s) refl
     go false e = refl
 
 -- a line, by whether its key stands there
-pub line_not : (key s : List ℕ) → starts_with key s ≡ false → Bad ≡ read_line_lem key s
+pub line_not : (key s : List ℕ) → starts_with key s ≡ false → None ≡ read_line_lem key s
 unfolding read_line_lem
 line_not key s e = rw (read_line_lem, e)
 
@@ -194,9 +203,9 @@ get_d_inside s i h = go (dec_lt i (length s))
     go (no n) = absurd (omega (arith, get_or-eq_default s 0 {n = i} (omega (arith, n))))
 
 -- a line that was read has bytes, and no more than there are
-abbrev pub Within : ℕ → Line → Type 0
-Within m (Value v n) = (1 ≤ n) × (n ≤ m)
-Within m Bad = Unit {0}
+abbrev pub Within : ℕ → Option (ℕ × ℕ) → Type 0
+Within m (Some (v, n)) = (1 ≤ n) × (n ≤ m)
+Within m None = Unit {0}
 
 -- a value that was read has a byte at least, and no more than the text
 pub value_within : (s : List ℕ) → Within (length s) (read_value_lem s)
@@ -213,9 +222,9 @@ value_within s = go (tested s (length (digits s)) refl) refl
 pub line_within : (key s : List ℕ) → Within (length s) (read_line_lem key s)
 line_within key s = go (starts_with key s) refl
   where
-    behind : (l : Line) → Within (length (drop (length key) s)) l → length key ≤ length s → Within (length s) (after (length key) l)
-    behind (Value w m) h k = omega (arith, length-drop (length key) s)
-    behind Bad h k = tt
+    behind : (l : Option (ℕ × ℕ)) → Within (length (drop (length key) s)) l → length key ≤ length s → Within (length s) (after (length key) l)
+    behind (Some (w, m)) h k = omega (arith, length-drop (length key) s)
+    behind None h k = tt
 
     go : (t : Bool) → starts_with key s ≡ t → Within (length s) (read_line_lem key s)
     go true t = rw (line_is key s t) (behind (read_value_lem (drop (length key) s)) (value_within (drop (length key) s)) (starts_le key s t))
@@ -224,40 +233,40 @@ line_within key s = go (starts_with key s) refl
 -- a field, by its line
 module _ (key s : List ℕ) (lo hi : ℕ) where
   -- a bad line is fault 2, whatever range its value may have
-  pub field_none : read_line_lem key s ≡ Bad → Fault 2 ≡ read_field_lem key lo hi s
+  pub field_none : read_line_lem key s ≡ None → Err 2 ≡ read_field_lem key lo hi s
   unfolding read_field_lem in_range
   field_none e = rw e
 
   -- a value below its range makes the field fault 3
-  pub field_low : {v n : ℕ} → read_line_lem key s ≡ Value v n → v < lo → Fault 3 ≡ read_field_lem key lo hi s
+  pub field_low : {v n : ℕ} → read_line_lem key s ≡ Some (v, n) → v < lo → Err 3 ≡ read_field_lem key lo hi s
   unfolding read_field_lem in_range
   field_low {v} e h = rw (e, in_range, lt-leb lo v h)
 
   -- a value above its range makes the field fault 3
-  pub field_high : {v n : ℕ} → read_line_lem key s ≡ Value v n → lo ≤ v → hi < v → Fault 3 ≡ read_field_lem key lo hi s
+  pub field_high : {v n : ℕ} → read_line_lem key s ≡ Some (v, n) → lo ≤ v → hi < v → Err 3 ≡ read_field_lem key lo hi s
   unfolding read_field_lem in_range
   field_high {v} e l h = rw (e, in_range, le-leb lo v l, lt-leb v hi h)
 
   -- a line whose value is in its range gives the field with that value
-  pub field_good : {v n : ℕ} → read_line_lem key s ≡ Value v n → lo ≤ v → v ≤ hi → field.Value v n ≡ read_field_lem key lo hi s
+  pub field_good : {v n : ℕ} → read_line_lem key s ≡ Some (v, n) → lo ≤ v → v ≤ hi → Ok (v, n) ≡ read_field_lem key lo hi s
   unfolding read_field_lem in_range
   field_good {v} e l h = rw (e, in_range, le-leb lo v l, le-leb v hi h)
 
 -- a field that was read is in range and within the text; a fault is number 2 or 3
-abbrev pub InField : ℕ → ℕ → ℕ → Field → Type 0
-InField lo hi m (field.Value v n) = (1 ≤ n) × (n ≤ m) × (lo ≤ v) × (v ≤ hi)
-InField lo hi m (Fault k) = (k ≡ 2) ⊎ (k ≡ 3)
+abbrev pub InField : ℕ → ℕ → ℕ → Result (ℕ × ℕ) ℕ → Type 0
+InField lo hi m (Ok (v, n)) = (1 ≤ n) × (n ≤ m) × (lo ≤ v) × (v ≤ hi)
+InField lo hi m (Err k) = (k ≡ 2) ⊎ (k ≡ 3)
 
-range_in : (lo hi m : ℕ) (l : Line) → Within m l → InField lo hi m (in_range lo hi l)
+range_in : (lo hi m : ℕ) (l : Option (ℕ × ℕ)) → Within m l → InField lo hi m (in_range lo hi l)
 unfolding in_range
-range_in lo hi m (Value v n) w = go (leb lo v && leb v hi) refl
+range_in lo hi m (Some (v, n)) w = go (leb lo v && leb v hi) refl
   where
-    go : (t : Bool) → (leb lo v && leb v hi) ≡ t → InField lo hi m (in_range lo hi (Value v n))
+    go : (t : Bool) → (leb lo v && leb v hi) ≡ t → InField lo hi m (in_range lo hi (Some (v, n)))
     go true e =
         let b = (and-eq-true_iff (leb lo v) (leb v hi)).0 e in
         rw (in_range, e) (w.0, w.1, leb-true lo v b.0, leb-true v hi b.1)
     go false e = rw (in_range, e) (inr refl)
-range_in lo hi m Bad w = inl refl
+range_in lo hi m None w = inl refl
 
 -- a field is in range and within the text, or it is fault 2 or 3
 pub field_in : (key s : List ℕ) (lo hi : ℕ) → InField lo hi (length s) (read_field_lem key lo hi s)

@@ -1,4 +1,5 @@
 -- What a parser accepts is what is written for its value (`Sound`), and what is known of that value (`Gives`). By the parsers' forms: row, optional, checked, bind, chain, whole text.
+use Rattle.std.specs.Prelude.{Option, Some, None}
 use Prim.Native.Nat.{ℕ, zero, suc, ◌+◌, ◌≤◌, ◌<◌}
 use mathlib.Core.Path.{◌≡◌, refl, sym, ap, ◌∙◌, subst}
 use mathlib.Core.List.{List, [], ◌∷◌, ◌++◌, append_assoc}
@@ -8,9 +9,7 @@ use lib.Dec.{leb, ltb}
 use lib.ListN.{length, drop}
 use Rattle.lines.specs.Line.{starts_with, read_line_lem}
 use Rattle.lines.specs.Parser.{Parsed, good, fault, Parser, ◌>>=◌, return, in_range, read_field_lem, taken, row_at, optional_at, checked, chain, rising, end as ends, accepted, finish, whole, read_text}
-use Rattle.lines.specs.Text.{line, texts, Optional, missing, present}
-use Rattle.lines.specs.declared.read.Line.{Line}
-use Rattle.lines.specs.declared.read.Line.TheVariants.{Value, Bad}
+use Rattle.lines.specs.Text.{line, texts}
 use borrow.Author.Tests.{leb-true, ltb-true}
 use Rattle.lines.proofs.Parsing.{bind_good, bind_fault, InRow, row_in, optional_there, optional_missing}
 use Rattle.lines.proofs.Outcomes.{not_both}
@@ -48,8 +47,8 @@ pub row_sound : (key : List ℕ) (lo hi : ℕ) → Sound (row_at key lo hi) (lin
 unfolding row_at read_field_lem taken in_range
 row_sound key lo hi s s' l l' a h = go (read_line_lem key s) (line_written key s) h
   where
-    go : (x : Line) → Stands key s x → taken s l (in_range lo hi x) ≡ good a s' l' → s ≡ line key a ++ s'
-    go (Value v n) w q = pick (leb lo v && leb v hi) refl
+    go : (x : Option (ℕ × ℕ)) → Stands key s x → taken s l (in_range lo hi x) ≡ good a s' l' → s ≡ line key a ++ s'
+    go (Some (v, n)) w q = pick (leb lo v && leb v hi) refl
       where
         pick : (t : Bool) → (leb lo v && leb v hi) ≡ t → s ≡ line key a ++ s'
         pick true e =
@@ -58,27 +57,27 @@ row_sound key lo hi s s' l l' a h = go (read_line_lem key s) (line_written key s
             let y : drop n s ≡ s' = cc in
             w ∙ cc
         pick false e = never (rw (in_range, e) at q)
-    go Bad w q = never q
+    go None w q = never q
 
 -- a line that may be missing: it is, or its row was read
-abbrev pub Optionally : List ℕ → ℕ → ℕ → List ℕ → List ℕ → ℕ → ℕ → Optional ℕ → Type 0
-Optionally key lo hi s s' l l' missing = s ≡ s'
-Optionally key lo hi s s' l l' (present v) = row_at key lo hi s l ≡ good v s' l'
+abbrev pub Optionally : List ℕ → ℕ → ℕ → List ℕ → List ℕ → ℕ → ℕ → Option ℕ → Type 0
+Optionally key lo hi s s' l l' None = s ≡ s'
+Optionally key lo hi s s' l l' (Some v) = row_at key lo hi s l ≡ good v s' l'
 
 -- an optional line that was read is missing, with nothing read, or was read as a row
-pub optional_inv : (key : List ℕ) (lo hi : ℕ) (s s' : List ℕ) (l l' : ℕ) (o : Optional ℕ) → optional_at key lo hi s l ≡ good o s' l' → Optionally key lo hi s s' l l' o
+pub optional_inv : (key : List ℕ) (lo hi : ℕ) (s s' : List ℕ) (l l' : ℕ) (o : Option ℕ) → optional_at key lo hi s l ≡ good o s' l' → Optionally key lo hi s s' l l' o
 unfolding return
 optional_inv key lo hi s s' l l' o h = go (starts_with key s) refl
   where
     go : (t : Bool) → starts_with key s ≡ t → Optionally key lo hi s s' l l' o
     go true e =
         let b = bind_inv (row_at key lo hi) _ s s' l l' o (sym (optional_there key lo hi s l e) ∙ h) in
-        let x : present b.a ≡ o = cc b.second in
+        let x : Some b.a ≡ o = cc b.second in
         let y : good b.a b.mid b.at ≡ good b.a s' l' = cc b.second in
         subst (Optionally key lo hi s s' l l') x (b.first ∙ y)
     go false e =
-        let g : good missing s l ≡ good o s' l' = sym (optional_missing key lo hi s l e) ∙ h in
-        let x : missing ≡ o = cc in
+        let g : good None s l ≡ good o s' l' = sym (optional_missing key lo hi s l e) ∙ h in
+        let x : None ≡ o = cc in
         let y : s ≡ s' = cc in
         subst (Optionally key lo hi s s' l l') x y
 

@@ -1,4 +1,5 @@
 -- An accepted line is the line that is written for its value.
+use Rattle.std.specs.Prelude.{Option, Some, None}
 use Prim.Native.Nat.{ℕ, suc, ◌+◌, ◌-◌, ◌*◌, ◌/◌, ◌%◌, ◌≤◌, ◌<◌}
 use mathlib.Core.Path.{◌≡◌, refl, sym, ap, ap₂, ◌∙◌}
 use mathlib.Core.List.{List, [], ◌∷◌, ◌++◌, append_assoc, append-nil}
@@ -10,8 +11,6 @@ use lib.ListN.{length, get_or, drop}
 use borrow.Author.Tests.{le-ltb, lt-ltb, leb-true, eq-eqb, eqb-true, ne_eqb}
 use Rattle.lines.specs.Line.{is_digit, digits, number_from, plain, starts_with, read_value_lem, read_line_lem, after}
 use Rattle.lines.specs.Text.{decimal, decimal_in, line}
-use Rattle.lines.specs.declared.read.Line.{Line}
-use Rattle.lines.specs.declared.read.Line.TheVariants.{Value, Bad}
 use Rattle.lines.proofs.Reading.{drop_step, get_d_inside, line_is, line_not}
 use lib.Seq.{drop-drop}
 
@@ -100,9 +99,9 @@ starts_split (k ∷ ks) (b ∷ bs) e =
     ap₂ (λ (x : ℕ) (l : List ℕ). x ∷ l) (sym (eqb-true k b w.0)) (starts_split ks bs w.1)
 
 -- what stands where a value was read
-abbrev Written : List ℕ → Line → Type 0
-Written s (Value v n) = s ≡ decimal v ++ 10 ∷ drop n s
-Written s Bad = Unit {0}
+abbrev Written : List ℕ → Option (ℕ × ℕ) → Type 0
+Written s (Some (v, n)) = s ≡ decimal v ++ 10 ∷ drop n s
+Written s None = Unit {0}
 
 value_written : (s : List ℕ) → Written s (read_value_lem s)
 unfolding read_value_lem
@@ -120,9 +119,9 @@ value_written s = go (plain ds && eqb (get_or s (length ds) 0) 10) refl
     go false e = rw (read_value_lem, e) tt
 
 -- a line that was read, byte for byte
-abbrev pub Stands : List ℕ → List ℕ → Line → Type 0
-Stands key s (Value v n) = s ≡ line key v ++ drop n s
-Stands key s Bad = Unit {0}
+abbrev pub Stands : List ℕ → List ℕ → Option (ℕ × ℕ) → Type 0
+Stands key s (Some (v, n)) = s ≡ line key v ++ drop n s
+Stands key s None = Unit {0}
 
 -- a line that was read stands in the text as it is written for its value
 pub line_written : (key s : List ℕ) → Stands key s (read_line_lem key s)
@@ -132,9 +131,9 @@ line_written key s = go (starts_with key s) refl
     k : ℕ
     k = length key
 
-    behind : s ≡ key ++ drop k s → (l : Line) → Written (drop k s) l → Stands key s (after k l)
-    behind q (Value v n) h = q ∙ ap (λ (r : List ℕ). key ++ r) (h ∙ ap (λ (r : List ℕ). decimal v ++ 10 ∷ r) (drop-drop n k s)) ∙ sym (append_assoc key (decimal v ++ 10 ∷ []) (drop (k + n) s) ∙ ap (λ (r : List ℕ). key ++ r) (append_assoc (decimal v) (10 ∷ []) (drop (k + n) s)))
-    behind q Bad h = tt
+    behind : s ≡ key ++ drop k s → (l : Option (ℕ × ℕ)) → Written (drop k s) l → Stands key s (after k l)
+    behind q (Some (v, n)) h = q ∙ ap (λ (r : List ℕ). key ++ r) (h ∙ ap (λ (r : List ℕ). decimal v ++ 10 ∷ r) (drop-drop n k s)) ∙ sym (append_assoc key (decimal v ++ 10 ∷ []) (drop (k + n) s) ∙ ap (λ (r : List ℕ). key ++ r) (append_assoc (decimal v) (10 ∷ []) (drop (k + n) s)))
+    behind q None h = tt
 
     go : (t : Bool) → starts_with key s ≡ t → Stands key s (read_line_lem key s)
     go true e = rw (line_is key s e) (behind (starts_split key s e) (read_value_lem (drop k s)) (value_written (drop k s)))

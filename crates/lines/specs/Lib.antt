@@ -4,5 +4,6 @@ pub mod Text
 pub mod Chosen
 pub mod Line
 pub mod Parser
-pub mod Cursor
+pub mod Fault
+pub mod Reads
 pub mod Wrote

@@ -1,7 +1,5 @@
 -- X1. One line of a text, `key=value` and byte 10: what reading it at the front of a list of bytes gives.
-use Rattle.std.specs.Prelude.{ℕ, ◌+◌, ◌-◌, ◌*◌, List, [], ◌∷◌, Bool, true, false, not, ◌&&◌, ◌||◌, length, get_or, drop, leb, eqb}
-use Rattle.lines.specs.declared.read.Line.{Line}
-use Rattle.lines.specs.declared.read.Line.TheVariants.{Value, Bad}
+use Rattle.std.specs.Prelude.{ℕ, ◌+◌, ◌-◌, ◌*◌, List, [], ◌∷◌, Bool, true, false, not, ◌&&◌, ◌||◌, length, get_or, drop, leb, eqb, Option, Some, None}
 
 -- the bytes of `0` to `9`
 abbrev pub is_digit : ℕ → Bool
@@ -27,17 +25,17 @@ starts_with [] s = true
 starts_with (k ∷ ks) [] = false
 starts_with (k ∷ ks) (b ∷ bs) = eqb k b && starts_with ks bs
 
--- a value and byte 10
-unfoldable pub read_value_lem : List ℕ → Line
+-- a value and byte 10: the value, and how many bytes these are
+unfoldable pub read_value_lem : List ℕ → Option (ℕ × ℕ)
 read_value_lem s =
     let ds = digits s in
-    elim (plain ds && eqb (get_or s (length ds) 0) 10) [ true ↦ Value (number_from 0 ds) (length ds + 1) | false ↦ Bad ]
+    elim (plain ds && eqb (get_or s (length ds) 0) 10) [ true ↦ Some (number_from 0 ds, length ds + 1) | false ↦ None ]
 
 -- what was read behind k bytes: the line has those too
-abbrev pub after : ℕ → Line → Line
-after k (Value v n) = Value v (k + n)
-after k Bad = Bad
+abbrev pub after : ℕ → Option (ℕ × ℕ) → Option (ℕ × ℕ)
+after k (Some (v, n)) = Some (v, k + n)
+after k None = None
 
 -- the line `key=value`: the value and how many bytes the line has
-unfoldable pub read_line_lem : List ℕ → List ℕ → Line
-read_line_lem key s = elim (starts_with key s) [ true ↦ after (length key) (read_value_lem (drop (length key) s)) | false ↦ Bad ]
+unfoldable pub read_line_lem : List ℕ → List ℕ → Option (ℕ × ℕ)
+read_line_lem key s = elim (starts_with key s) [ true ↦ after (length key) (read_value_lem (drop (length key) s)) | false ↦ None ]

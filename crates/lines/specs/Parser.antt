@@ -1,15 +1,9 @@
 -- Reading a text line by line: what is left of the bytes and the number of the next line go in; a value, what is then left and the
 -- next line's number come out, or a fault's result number and its line.
-use Rattle.std.specs.Prelude.{ℕ, zero, suc, ◌+◌, List, [], ◌∷◌, Bool, true, false, ◌&&◌, length, drop, leb, ltb}
+use Rattle.std.specs.Prelude.{ℕ, zero, suc, ◌+◌, List, [], ◌∷◌, Bool, true, false, ◌&&◌, length, drop, leb, ltb, Option, Some, None, Result, Ok, Err}
 use Prim.Native.String.{String}
-use Rattle.lines.specs.declared.read.Line.{Line}
-use Rattle.lines.specs.declared.read.Line.TheVariants as line
-use Rattle.lines.specs.declared.read.Field.{Field}
-use Rattle.lines.specs.declared.read.Field.TheVariants.{Value, Fault}
-use Rattle.lines.specs.declared.read.OptionalField.{OptionalField}
-use Rattle.lines.specs.declared.read.OptionalField.TheVariants.{Missing, There}
 use Rattle.lines.specs.Line.{starts_with, read_line_lem}
-use Rattle.lines.specs.Text.{bytes, Optional, missing, present}
+use Rattle.lines.specs.Text.{bytes}
 
 -- `good`: a value, the bytes left and the next line's number; `fault`: a result number and the line at fault
 pub data Parsed (A : Type 0) : Type 0 where
@@ -30,18 +24,18 @@ unfoldable pub return : {A : Type 0} → A → Parser A
 return a s l = good a s l
 
 -- R2, R3, R20. the range of a line's value: 2 before 3
-unfoldable pub in_range : ℕ → ℕ → Line → Field
-in_range lo hi (line.Value v n) = elim (leb lo v && leb v hi) [ true ↦ Value v n | false ↦ Fault 3 ]
-in_range lo hi line.Bad = Fault 2
+unfoldable pub in_range : ℕ → ℕ → Option (ℕ × ℕ) → Result (ℕ × ℕ) ℕ
+in_range lo hi (Some (v, n)) = elim (leb lo v && leb v hi) [ true ↦ Ok (v, n) | false ↦ Err 3 ]
+in_range lo hi None = Err 2
 
--- R2, R3. the line `key=value` at the front of the text: its value from lo to hi, or 2 or 3
-unfoldable pub read_field_lem : List ℕ → ℕ → ℕ → List ℕ → Field
+-- R2, R3. the line `key=value` at the front of the text: its value from lo to hi and how many bytes it has, or 2 or 3
+unfoldable pub read_field_lem : List ℕ → ℕ → ℕ → List ℕ → Result (ℕ × ℕ) ℕ
 read_field_lem key lo hi s = in_range lo hi (read_line_lem key s)
 
 -- the field at the front of the text as a parser's answer
-unfoldable pub taken : List ℕ → ℕ → Field → Parsed ℕ
-taken s l (Value v n) = good v (drop n s) (l + 1)
-taken s l (Fault k) = fault k l
+unfoldable pub taken : List ℕ → ℕ → Result (ℕ × ℕ) ℕ → Parsed ℕ
+taken s l (Ok (v, n)) = good v (drop n s) (l + 1)
+taken s l (Err k) = fault k l
 
 -- a line `key=value` with a value from lo to hi
 unfoldable pub row_at : List ℕ → ℕ → ℕ → Parser ℕ
@@ -51,24 +45,20 @@ row_at key lo hi s l = taken s l (read_field_lem key lo hi s)
 abbrev pub row : String → ℕ → ℕ → Parser ℕ
 row key lo hi = row_at (bytes key) lo hi
 
--- the field at the front of the text if it begins with the key
-unfoldable pub optional_field : List ℕ → ℕ → ℕ → List ℕ → OptionalField
-optional_field key lo hi s = elim (starts_with key s) [ true ↦ There (read_field_lem key lo hi s) | false ↦ Missing ]
-
 -- E1.2. a line `key=value` that may be missing: it is where the text does not begin with the key
-unfoldable pub optional_at : List ℕ → ℕ → ℕ → Parser (Optional ℕ)
-optional_at key lo hi s l = elim (starts_with key s) [ true ↦ (row_at key lo hi >>= λ v. return (present v)) s l | false ↦ good missing s l ]
+unfoldable pub optional_at : List ℕ → ℕ → ℕ → Parser (Option ℕ)
+optional_at key lo hi s l = elim (starts_with key s) [ true ↦ (row_at key lo hi >>= λ v. return (Some v)) s l | false ↦ good None s l ]
 
 -- the same, with the key as it is written
-abbrev pub optional : String → ℕ → ℕ → Parser (Optional ℕ)
+abbrev pub optional : String → ℕ → ℕ → Parser (Option ℕ)
 optional key lo hi = optional_at (bytes key) lo hi
 
 -- where a line is present, what follows it
-unfoldable pub if_present : {A B : Type 0} → (A → Parser B) → Optional A → Parser (Optional B)
-if_present f missing = return missing
-if_present f (present a) = do
+unfoldable pub if_present : {A B : Type 0} → (A → Parser B) → Option A → Parser (Option B)
+if_present f None = return None
+if_present f (Some a) = do
   b ← f a
-  return (present b)
+  return (Some b)
 
 -- R20. p, and a further rule of its value whose fault k is on the line where p began
 unfoldable pub checked : {A : Type 0} → ℕ → (A → Bool) → Parser A → Parser A

@@ -1,5 +1,5 @@
 -- How numbers and lines are written: G5. "Numbers in texts are decimal", X1. "Key=value lines in this order, each ended by byte 10".
-use Rattle.std.specs.Prelude.{ℕ, zero, suc, ◌+◌, ◌/◌, ◌%◌, List, [], ◌∷◌, ◌++◌, true, false, ltb}
+use Rattle.std.specs.Prelude.{ℕ, zero, suc, ◌+◌, ◌/◌, ◌%◌, List, [], ◌∷◌, ◌++◌, true, false, ltb, Option, Some, None}
 use Prim.Native.String.{String, [] as none, ◌∷◌ as ◌then◌}
 use Prim.Native.Char.{code}
 
@@ -30,15 +30,10 @@ abbrev pub texts : {A : Type 0} → (A → List ℕ) → List A → List ℕ
 texts w [] = []
 texts w (x ∷ xs) = w x ++ texts w xs
 
--- what a text may leave out
-pub data Optional (A : Type 0) : Type 0 where
-  missing : Optional A
-  present : A → Optional A
-
 -- what is missing is not written
-abbrev pub optional_text : {A : Type 0} → (A → List ℕ) → Optional A → List ℕ
-optional_text w missing = []
-optional_text w (present a) = w a
+abbrev pub optional_text : {A : Type 0} → (A → List ℕ) → Option A → List ℕ
+optional_text w None = []
+optional_text w (Some a) = w a
 
 -- f 0, f 1, .. f (n - 1), one behind the other
 unfoldable pub joined : {A : Type 0} → (ℕ → List A) → ℕ → List A

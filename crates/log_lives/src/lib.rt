@@ -14,7 +14,6 @@ use clock::{position_of, positions_of};
 use jobs::{Job, Plan};
 use least::in_reach;
 use model::PARTS;
-use part_records::part_of;
 use plan_costs::costs::cost_of;
 use plan_lives::lives::{late_to, verdict_to};
 use verdict::{Judgement, judged};
@@ -28,7 +27,8 @@ pub fn judgement_to(past: Job, step: u32, stated: u32, plan: Plan) -> Judgement
     let to = position_of(past, step);
     let verdict = verdict_to(past, positions, plan, to);
     let cost = cost_of(past, plan);
-    judged(stated as u64, cost, verdict)
+    let stated = u64::from(stated);
+    judged(stated, cost, verdict)
 }
 
 // The life that is not used at the position `now` by a part last changed at `last`; 0 if more was used.
@@ -51,17 +51,11 @@ pub fn lefts_at(past: Job, step: u32, plan: Plan) -> [u32; PARTS]
 {
     let positions = positions_of(past);
     let to = position_of(past, step);
-    let m = past.part_count;
-    let parts = past.parts;
     let mut lefts = [0u32; PARTS];
-    let mut k: usize = 0;
-    while k < m {
-        let part = part_of(parts, m, k);
-        let changed = plan.changes[k];
-        let changes = changed.at;
-        let followed = late_to(past, positions, part, changes, to);
+    for k in 0..past.part_count {
+        let part = past.parts[k];
+        let followed = late_to(past, positions, part, plan.changes[k].at, to);
         lefts[k] = left_at(part.life, followed.last, to);
-        k += 1;
     }
     lefts
 }

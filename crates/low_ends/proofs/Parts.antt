@@ -1,7 +1,8 @@
 -- Parts at the low ends of their prices: what a part's lines mean there (`low_ruled`, `low_quoted`), one part more (`lows_more`), each part is what its lines mean (`each_means`); and whether one has a `low` line, one more (`banded_more`). By the parts, one after the other.
 use Prim.Native.Nat.{ℕ, zero, suc, ◌+◌, ◌≤◌, ◌<◌}
 use mathlib.Core.Path.{◌≡◌, refl, sym, ap, ap₂, ◌∙◌}
-use mathlib.Core.Bool.{Bool, true, false, cond, ◌||◌}
+use Rattle.std.specs.Prelude.{Option, Some, None}
+use mathlib.Core.Bool.{Bool, true, false, ◌||◌}
 use mathlib.Core.List.{List, [], ◌∷◌, ◌++◌, map}
 use native.Mathlib.Omega.{arith}
 use native.Mathlib.Numerals.{add-one}
@@ -14,12 +15,11 @@ use Rattle.jobs.specs.declared.Part.{Part}
 use Rattle.quotes.specs.Grammar.{any_pair}
 use Rattle.quotes.specs.Views.{quotes_of, lows_of}
 use Rattle.quotes.proofs.Quoted.{lows_are}
-use Rattle.price_rules.specs.Rule.{Rule, rule_prices_lem}
+use Rattle.price_rules.specs.declared.Rule.{Rule}
 use Rattle.price_rules.specs.Grammar.{meant_prices, low_prices_lem, banded_prices}
-use Rattle.price_rules.specs.Views.{rule_of}
 use Rattle.part_lines.specs.Grammar.{PartText, meant_part, low_part_lem, any_banded}
-use Rattle.part_lines.specs.Views.{blank_said, prices_said, part_lines_lem, parts_lines}
-use Rattle.part_lines.specs.declared.PartSaid.{PartSaid}
+use Rattle.part_lines.specs.Views.{blank_said, prices_told, part_lines_lem, parts_lines}
+use Rattle.part_lines.specs.declared.said.PartSaid.{PartSaid}
 use Rattle.part_lines.proofs.Lines.{lines_more}
 use Rattle.low_ends.proofs.Prices.{or_assoc}
 
@@ -33,19 +33,19 @@ module _ (n : ℕ) (s : PartSaid) (p : model.Part) (means : meant_part n (part_l
       let h = sym (ap (λ (q : model.Part). q.holders) means) in
       λ i. record { life = p.life; left = p.left; removal = r i; holders = h i; prices = e i }
 
-  pub low_ruled : s.ruled ≡ true → p ≡ low_part_lem n (part_lines_lem s p)
-  unfolding prices_said
-  low_ruled e = with_prices p.prices (sym (ap (λ (q : model.Part). q.prices) means) ∙ same s.ruled e)
+  -- with a rule, which gives single prices only, it is the same part
+  pub low_ruled : {r : Rule} → s.rule ≡ Some r → p ≡ low_part_lem n (part_lines_lem s p)
+  low_ruled {r} e = with_prices p.prices (sym (ap (λ (q : model.Part). q.prices) means) ∙ same s.rule e)
     where
-      same : (b : Bool) → b ≡ true → meant_prices n (prices_said b (rule_of s.rule) (quotes_of s.banded s.lows p.prices)) ≡ low_prices_lem n (prices_said b (rule_of s.rule) (quotes_of s.banded s.lows p.prices))
-      same b f = rw f refl
+      same : (o : Option Rule) → o ≡ Some r → meant_prices n (prices_told o (quotes_of s.lows p.prices)) ≡ low_prices_lem n (prices_told o (quotes_of s.lows p.prices))
+      same o f = rw f refl
 
-  pub low_quoted : s.ruled ≡ false → (ps : List ℕ) → ps ≡ lows_of s.banded s.lows p.prices → record { life = p.life; left = p.left; removal = p.removal; holders = p.holders; prices = ps } ≡ low_part_lem n (part_lines_lem s p)
-  unfolding prices_said
-  low_quoted e ps f = with_prices ps (f ∙ sym (lows_are s.banded s.lows p.prices) ∙ same s.ruled e)
+  -- without a rule it has the low ends of its prices
+  pub low_quoted : s.rule ≡ None → (ps : List ℕ) → ps ≡ lows_of s.lows p.prices → record { life = p.life; left = p.left; removal = p.removal; holders = p.holders; prices = ps } ≡ low_part_lem n (part_lines_lem s p)
+  low_quoted e ps f = with_prices ps (f ∙ sym (lows_are s.lows p.prices) ∙ same s.rule e)
     where
-      same : (b : Bool) → b ≡ false → low_prices_lem n (prices_said false (rule_of s.rule) (quotes_of s.banded s.lows p.prices)) ≡ low_prices_lem n (prices_said b (rule_of s.rule) (quotes_of s.banded s.lows p.prices))
-      same b g = rw g refl
+      same : (o : Option Rule) → o ≡ None → low_prices_lem n (prices_told None (quotes_of s.lows p.prices)) ≡ low_prices_lem n (prices_told o (quotes_of s.lows p.prices))
+      same o g = rw g refl
 
 -- ---- one part more
 
@@ -85,15 +85,13 @@ each_means n (suc m) (suc q) (s ∷ ss) (p ∷ ps) h k l e = each_means n m q ss
 
 -- ---- `low` lines
 
--- of a part with a rule, and of one without
-pub ruled_plain : (s : PartSaid) (highs : List ℕ) → s.ruled ≡ true → banded_prices (prices_said s.ruled (rule_of s.rule) (quotes_of s.banded s.lows highs)) ≡ false
-unfolding prices_said
-ruled_plain s highs e = ap (λ (b : Bool). banded_prices (prices_said b (rule_of s.rule) (quotes_of s.banded s.lows highs))) e
+-- a part with a rule has no `low` line
+pub ruled_plain : (s : PartSaid) (highs : List ℕ) {r : Rule} → s.rule ≡ Some r → banded_prices (prices_told s.rule (quotes_of s.lows highs)) ≡ false
+ruled_plain s highs e = ap (λ (o : Option Rule). banded_prices (prices_told o (quotes_of s.lows highs))) e
 
 -- a part without a rule has a `low` line exactly where one of its prices is a pair
-pub quoted_banded : (s : PartSaid) (highs : List ℕ) → s.ruled ≡ false → banded_prices (prices_said s.ruled (rule_of s.rule) (quotes_of s.banded s.lows highs)) ≡ any_pair (quotes_of s.banded s.lows highs)
-unfolding prices_said
-quoted_banded s highs e = ap (λ (b : Bool). banded_prices (prices_said b (rule_of s.rule) (quotes_of s.banded s.lows highs))) e
+pub quoted_banded : (s : PartSaid) (highs : List ℕ) → s.rule ≡ None → banded_prices (prices_told s.rule (quotes_of s.lows highs)) ≡ any_pair (quotes_of s.lows highs)
+quoted_banded s highs e = ap (λ (o : Option Rule). banded_prices (prices_told o (quotes_of s.lows highs))) e
 
 any_then : (ts : List PartText) (t : PartText) → any_banded (ts ++ t ∷ []) ≡ (any_banded ts || banded_prices t.prices)
 unfolding any_banded

@@ -1,3 +1,3 @@
--- Marks of which one is set (Marks), and a job at the low ends of its prices (Lows).
+-- Low ends of which one is there (Marks), and a job at the low ends of its prices (Lows).
 pub mod Marks
 pub mod Lows

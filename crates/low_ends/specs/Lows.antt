@@ -6,7 +6,7 @@ use Rattle.jobs.specs.declared.Part.{Part}
 use Rattle.jobs.specs.declared.Job.{Job}
 use Rattle.part_lines.specs.Grammar.{PartText, low_part_lem}
 use Rattle.part_lines.specs.Views.{parts_lines}
-use Rattle.part_lines.specs.declared.PartSaid.{PartSaid}
+use Rattle.part_lines.specs.declared.said.PartSaid.{PartSaid}
 
 -- the lines of a job's parts
 abbrev pub lines_in : List PartSaid → Job → List PartText

@@ -1,7 +1,7 @@
--- Marks of which one is set.
-use Rattle.std.specs.Prelude.{Bool, false, ◌||◌, List, [], ◌∷◌}
+-- Low ends of which one is there.
+use Rattle.std.specs.Prelude.{ℕ, Bool, false, ◌||◌, List, [], ◌∷◌, Option, is_some}
 
--- one of these is set
-unfoldable pub one_of : List Bool → Bool
+-- one of these is there
+unfoldable pub one_of : List (Option ℕ) → Bool
 one_of [] = false
-one_of (b ∷ bs) = b || one_of bs
+one_of (l ∷ ls) = is_some l || one_of ls

@@ -8,13 +8,15 @@ use native.Mathlib.Decide.{ℕ_discrete}
 use native.Mathlib.Numerals.{add-one}
 use borrow.Author.Count.{below_more}
 use borrow.Author.Tests.{lt-ltb, le-ltb}
-use lib.ListN.{length, get_or, set, drop, replicate, length-set}
+use lib.ListN.{length, get_or, set, drop, replicate}
 use lib.Seq.{get_or-take, get_or-drop, ext_get_or, get_or-set_same, get_or-set_other}
+use Rattle.std.specs.Bool.{Decides}
+use Rattle.std.specs.Prelude.{Option, Some, None, MatchOption}
 use Rattle.lane_rows.specs.Layout.{lane_count_lem}
 use Rattle.held_places.specs.Arrays.{need_stride, need_size, needs_at}
 use Rattle.held_places.proofs.Parts.{needs_length}
-use Rattle.part_classes.specs.declared.Classes.{Classes}
-use Rattle.part_classes.specs.Grouped.{need_at, same_needs_lem, first_from, class_at, put, classes_of_lem, Grouped}
+use Rattle.part_classes.specs.Led.{Led}
+use Rattle.part_classes.specs.Grouped.{need_at, same_needs_lem, first_from, class_at, put, Grouping, classes_of_lem, Grouped}
 
 -- ---- needs that are the same
 
@@ -28,6 +30,10 @@ beq_self : (x : Bool) → beq x x ≡ true
 beq_self true = refl
 beq_self false = refl
 
+-- whether two flags are equal
+pub flags_equal : (x y : Bool) → Decides (beq x y) (x ≡ y)
+flags_equal x y = (beq-true x y, λ e. ap (beq x) (sym e) ∙ beq_self x)
+
 and-true : (x y : Bool) → (x && y) ≡ true → (x ≡ true) × (y ≡ true)
 and-true true y e = (refl, e)
 and-true false y e = (e, absurd (no e))
@@ -36,33 +42,10 @@ and-true false y e = (e, absurd (no e))
     no f = let z : ◌≡◌ {A = ℕ} 0 1 = ap (λ (b : Bool). cond b 1 0) f in omega arith
 
 module _ (nd : List Bool) (p q : ℕ) where
-  -- no need yet, and one need more
-  pub same_none : same_needs_lem nd 0 p q ≡ true
-  unfolding same_needs_lem
-  same_none = refl
-
   -- parts with the same first b needs and the same need of holding part b have one need more in common
-  pub same_more : (b : ℕ) → same_needs_lem nd b p q ≡ true → beq (need_at nd p b) (need_at nd q b) ≡ true → same_needs_lem nd (suc b) p q ≡ true
+  same_more : (b : ℕ) → same_needs_lem nd b p q ≡ true → beq (need_at nd p b) (need_at nd q b) ≡ true → same_needs_lem nd (suc b) p q ≡ true
   unfolding same_needs_lem
   same_more b e f = ap (λ (x : Bool). x && beq (need_at nd p b) (need_at nd q b)) e ∙ f
-
-  -- a need that is not the same
-  pub same_not : (h b : ℕ) → b < h → beq (need_at nd p b) (need_at nd q b) ≡ false → same_needs_lem nd h p q ≡ false
-  unfolding same_needs_lem
-  same_not zero b l e = absurd (omega arith)
-  same_not (suc h) b l e = go (ℕ_discrete b h) (λ m. same_not h b m e)
-    where
-      left : (x : Bool) → x ≡ false → (y : Bool) → (x && y) ≡ false
-      left true f y = absurd (let z : ◌≡◌ {A = ℕ} 0 1 = ap (λ (b : Bool). cond b 0 1) f in omega arith)
-      left false f y = refl
-
-      right : (x y : Bool) → y ≡ false → (x && y) ≡ false
-      right true y f = f
-      right false y f = refl
-
-      go : Dec (b ≡ h) → (b < h → same_needs_lem nd h p q ≡ false) → (same_needs_lem nd h p q && beq (need_at nd p h) (need_at nd q h)) ≡ false
-      go (yes z) rec = right (same_needs_lem nd h p q) (beq (need_at nd p h) (need_at nd q h)) (subst (λ (x : ℕ). beq (need_at nd p x) (need_at nd q x) ≡ false) z e)
-      go (no z) rec = left (same_needs_lem nd h p q) (rec (omega (arith, z))) (beq (need_at nd p h) (need_at nd q h))
 
   -- each of them is the same
   all_same : (h : ℕ) → same_needs_lem nd h p q ≡ true → (i : ℕ) → i < h → need_at nd p i ≡ need_at nd q i
@@ -85,12 +68,21 @@ module _ (nd : List Bool) (p q : ℕ) where
     at p i g = get_or-take h (drop (p * need_stride) nd) i false g ∙ get_or-drop (p * need_stride) nd i false
 
     -- the parts' needs are the same, and the other way round
-    pub needs_same : same_needs_lem nd h p q ≡ true → needs_at h nd p ≡ needs_at h nd q
+    needs_same : same_needs_lem nd h p q ≡ true → needs_at h nd p ≡ needs_at h nd q
     needs_same e = ext_get_or false (needs_at h nd p) (needs_at h nd q) (long p m ∙ sym (long q n)) (λ i g. let r : i < h = omega (arith, g, long p m) in at p i r ∙ all_same h e i r ∙ sym (at q i r))
 
     -- parts whose needs are equal as lists are found to need the same
     pub same_needs_lem2 : needs_at h nd p ≡ needs_at h nd q → same_needs_lem nd h p q ≡ true
     same_needs_lem2 e = same_all h (λ i r. sym (at p i r) ∙ ap (λ (x : List Bool). get_or x i false) e ∙ at q i r)
+
+    -- parts whose lists of needs are equal, or not, need the same, or not
+    pub same_by_lists : (r : Bool) → Decides r (needs_at h nd p ≡ needs_at h nd q) → r ≡ same_needs_lem nd h p q
+    same_by_lists true f = sym (same_needs_lem2 (f.0 refl))
+    same_by_lists false f = go (same_needs_lem nd h p q) refl
+      where
+        go : (t : Bool) → same_needs_lem nd h p q ≡ t → false ≡ same_needs_lem nd h p q
+        go true e = f.1 (needs_same e) ∙ sym e
+        go false e = sym e
 
 -- ---- the first of which something is true
 
@@ -126,19 +118,45 @@ module _ (f : ℕ → Bool) where
       go false g m (no z) r = r (omega (arith, m)) (omega (arith, z, a))
 
   -- one looked at and passed by, and the one that is found
-  pub first_not : (i k : ℕ) → f i ≡ false → first_from f i (suc k) ≡ first_from f (suc i) k
+  first_not : (i k : ℕ) → f i ≡ false → first_from f i (suc k) ≡ first_from f (suc i) k
   unfolding first_from
   first_not i k e = ap (λ (t : Bool). cond t i (first_from f (suc i) k)) e
 
   -- where it is true of number i, that is the first from i on
-  pub first_here : (i k : ℕ) → f i ≡ true → first_from f i (suc k) ≡ i
+  first_here : (i k : ℕ) → f i ≡ true → first_from f i (suc k) ≡ i
   unfolding first_from
   first_here i k e = ap (λ (t : Bool). cond t i (first_from f (suc i) k)) e
 
   -- of no numbers the first is the one behind them
-  pub first_end : (i : ℕ) → first_from f i 0 ≡ i
+  first_end : (i : ℕ) → first_from f i 0 ≡ i
   unfolding first_from
   first_end i = refl
+
+  -- where it is true of number i and of none before it, that is the first
+  first_found : (s n i : ℕ) → i < n → f (s + i) ≡ true → ((d : ℕ) → d < i → f (s + d) ≡ false) → first_from f s n ≡ s + i
+  first_found s zero i l e h = absurd (omega (arith, l))
+  first_found s (suc n) zero l e h = let z : s + 0 ≡ s = omega arith in first_here s n (ap f (sym z) ∙ e) ∙ sym z
+  first_found s (suc n) (suc i) l e h =
+      let z : s + suc i ≡ suc s + i = omega arith in
+      let y : s ≡ s + 0 = omega arith in
+      first_not s n (ap f y ∙ h 0 (omega arith))
+      ∙ first_found (suc s) n i (omega (arith, l)) (ap f (sym z) ∙ e) (λ d m. let x : suc s + d ≡ s + suc d = omega arith in ap f x ∙ h (suc d) (omega (arith, m)))
+      ∙ sym z
+
+  -- where it is true of none, the first is the one behind them
+  first_missing : (s n : ℕ) → ((d : ℕ) → d < n → f (s + d) ≡ false) → first_from f s n ≡ s + n
+  first_missing s zero h = first_end s ∙ (let z : s ≡ s + 0 = omega arith in z)
+  first_missing s (suc n) h =
+      let y : s ≡ s + 0 = omega arith in
+      let z : suc s + n ≡ s + suc n = omega arith in
+      first_not s n (ap f y ∙ h 0 (omega arith)) ∙ first_missing (suc s) n (λ d m. let x : suc s + d ≡ s + suc d = omega arith in ap f x ∙ h (suc d) (omega (arith, m))) ∙ z
+
+  -- what the code finds is the first
+  pub first_of : (r : Option ℕ) (n : ℕ) → MatchOption r ((d : ℕ) → d < n → f d ≡ false) (λ i. (i < n) × (f i ≡ true) × ((d : ℕ) → d < i → f d ≡ false)) → MatchOption r (first_from f 0 n ≡ n) (λ i. (i ≡ first_from f 0 n) × (i < n))
+  first_of None n h = let z : 0 + n ≡ n = omega arith in first_missing 0 n (λ d l. let y : 0 + d ≡ d = omega arith in ap f y ∙ h d l) ∙ z
+  first_of (Some i) n h =
+      let z : 0 + i ≡ i = omega arith in
+      (sym (first_found 0 n i h.0 (ap f z ∙ h.1) (λ d l. let y : 0 + d ≡ d = omega arith in ap f y ∙ h.2 d l) ∙ z), h.0)
 
 -- an entry of a list that one was written to
 pub set_at : (P : ℕ → Type 0) (xs : List ℕ) (at v x : ℕ) → at < length xs → (x ≡ at → P v) → ((x ≡ at → ⊥) → P (get_or xs x 0)) → P (get_or (set xs at v) x 0)
@@ -162,7 +180,6 @@ module _ (nd : List Bool) (h : ℕ) where
   group_none =
       record {
         is = refl;
-        led = record { size = refl; room = refl; most = omega arith; lanes = λ q. omega (arith, zeros 16 q); leads = λ c. omega (arith, zeros 16 c) };
         few = omega arith;
         class = λ q l. absurd (omega arith);
         same = λ q l. absurd (omega arith);
@@ -173,37 +190,31 @@ module _ (nd : List Bool) (h : ℕ) where
         first = refl;
       }
 
-  module _ (k : Classes) (q c : ℕ) (s : length nd ≡ need_size) (w : h ≤ lane_count_lem) (g : Grouped nd h q k) (l : q < lane_count_lem) (e : c ≡ class_at nd h k q) where
+  module _ (k : Grouping) (q c : ℕ) (s : length nd ≡ need_size) (w : h ≤ lane_count_lem) (small : Led k.lanes k.leads k.count) (g : Grouped nd h q k) (l : q < lane_count_lem) (e : c ≡ class_at nd h k q) where
     -- the lead of class d needs what part q needs
     abbrev like : ℕ → Bool
     like d = same_needs_lem nd h (get_or k.leads d 0) q
 
     -- the class found for a part is one that is there, or the next new one
-    pub class_most : c ≤ k.count
-    class_most = omega (arith, e, first_most like 0 k.count)
-
     m : c ≤ k.count
-    m = class_most
+    m = omega (arith, e, first_most like 0 k.count)
 
     -- the definition's next step
     step : put k q c ≡ classes_of_lem nd h (q + 1)
     unfolding classes_of_lem
-    step = ap (put k q) e ∙ ap (λ (x : Classes). put x q (class_at nd h x q)) g.is ∙ sym (ap (classes_of_lem nd h) (add-one q))
+    step = ap (put k q) e ∙ ap (λ (x : Grouping). put x q (class_at nd h x q)) g.is ∙ sym (ap (classes_of_lem nd h) (add-one q))
 
     abbrev lanes' : List ℕ
     lanes' = set k.lanes q c
 
     here : get_or lanes' q 0 ≡ c
-    here = get_or-set_same k.lanes q c 0 (omega (arith, g.led.size))
+    here = get_or-set_same k.lanes q c 0 (omega (arith, small.size))
 
     other : (r : ℕ) → (r ≡ q → ⊥) → get_or lanes' r 0 ≡ get_or k.lanes r 0
     other r n = get_or-set_other k.lanes q r c 0 n
 
     begin : get_or lanes' 0 0 ≡ 0
-    begin = set_at (λ (x : ℕ). x ≡ 0) k.lanes q c 0 (omega (arith, g.led.size)) (λ z. omega (arith, z, m, g.few)) (λ z. g.first)
-
-    narrow : (r : ℕ) → get_or lanes' r 0 < lane_count_lem
-    narrow r = set_at (λ (x : ℕ). x < lane_count_lem) k.lanes q c r (omega (arith, g.led.size)) (λ z. omega (arith, m, g.few)) (λ z. g.led.lanes r)
+    begin = set_at (λ (x : ℕ). x ≡ 0) k.lanes q c 0 (omega (arith, small.size)) (λ z. omega (arith, z, m, g.few)) (λ z. g.first)
 
     -- parts that need the same are of one class, where part q is of the class of those before it that need what it needs
     pairs : ((p : ℕ) → p < q → needs_at h nd p ≡ needs_at h nd q → get_or k.lanes p 0 ≡ c)
@@ -223,7 +234,6 @@ module _ (nd : List Bool) (h : ℕ) where
     group_old n =
         record {
           is = sym (ap (λ (t : Bool). cond t (record { lanes = lanes'; leads = k.leads; count = k.count }) (record { lanes = lanes'; leads = set k.leads c q; count = k.count + 1 })) (lt-ltb c k.count n)) ∙ step;
-          led = record { size = length-set k.lanes q c ∙ g.led.size; room = g.led.room; most = g.led.most; lanes = narrow; leads = g.led.leads };
           few = omega (arith, g.few);
           class = below_more (λ (r : ℕ). get_or lanes' r 0 < k.count) q (λ r i. omega (arith, other r (λ z. omega (arith, z)), g.class r i)) (omega (arith, here));
           same = below_more (λ (r : ℕ). needs_at h nd (get_or k.leads (get_or lanes' r 0) 0) ≡ needs_at h nd r) q
@@ -240,32 +250,25 @@ module _ (nd : List Bool) (h : ℕ) where
         }
       where
         needed : needs_at h nd (get_or k.leads c 0) ≡ needs_at h nd q
-        needed = needs_same nd (get_or k.leads c 0) q h s w (g.led.leads c) l (ap like e ∙ first_true like 0 k.count (omega (arith, e, n)))
+        needed = needs_same nd (get_or k.leads c 0) q h s w (small.lead c) l (ap like e ∙ first_true like 0 k.count (omega (arith, e, n)))
 
     -- in a new class, which it leads
     pub group_new : (k.count ≤ c) → Grouped nd h (q + 1) (record { lanes = lanes'; leads = set k.leads c q; count = k.count + 1 })
     group_new n =
         record {
           is = sym (ap (λ (t : Bool). cond t (record { lanes = lanes'; leads = k.leads; count = k.count }) (record { lanes = lanes'; leads = leads'; count = k.count + 1 })) (le-ltb c k.count n)) ∙ step;
-          led = record {
-            size = length-set k.lanes q c ∙ g.led.size;
-            room = length-set k.leads c q ∙ g.led.room;
-            most = omega (arith, g.few);
-            lanes = narrow;
-            leads = λ d. set_at (λ (x : ℕ). x < lane_count_lem) k.leads c q d room (λ e. l) (λ e. g.led.leads d);
-          };
           few = omega (arith, g.few);
           class = below_more (λ (r : ℕ). get_or lanes' r 0 < k.count + 1) q (λ r i. omega (arith, other r (λ z. omega (arith, z)), g.class r i)) (omega (arith, here, m));
           same = below_more (λ (r : ℕ). needs_at h nd (get_or leads' (get_or lanes' r 0) 0) ≡ needs_at h nd r) q
               (λ r i. ap (needs_at h nd) (ap (λ (x : ℕ). get_or leads' x 0) (other r (λ z. omega (arith, z))) ∙ kept (get_or k.lanes r 0) (g.class r i)) ∙ g.same r i)
-              (ap (needs_at h nd) (ap (λ (x : ℕ). get_or leads' x 0) here ∙ led));
+              (ap (needs_at h nd) (ap (λ (x : ℕ). get_or leads' x 0) here ∙ led_by));
           merged = pairs (λ p i o.
               let d = get_or k.lanes p 0 in
-              absurd (first_none like 0 k.count (omega (arith, e, n)) d (omega arith) (omega (arith, g.class p i)) (same_needs_lem2 nd (get_or k.leads d 0) q h s w (g.led.leads d) l (g.same p i ∙ o))));
-          lead = λ d i. below_more (λ (x : ℕ). get_or leads' x 0 < q + 1) c (λ x j. omega (arith, kept x (omega (arith, j, m)), g.lead x (omega (arith, j, m)))) (omega (arith, led)) d (omega (arith, i, n, m));
+              absurd (first_none like 0 k.count (omega (arith, e, n)) d (omega arith) (omega (arith, g.class p i)) (same_needs_lem2 nd (get_or k.leads d 0) q h s w (small.lead d) l (g.same p i ∙ o))));
+          lead = λ d i. below_more (λ (x : ℕ). get_or leads' x 0 < q + 1) c (λ x j. omega (arith, kept x (omega (arith, j, m)), g.lead x (omega (arith, j, m)))) (omega (arith, led_by)) d (omega (arith, i, n, m));
           own = λ d i. below_more (λ (x : ℕ). get_or lanes' (get_or leads' x 0) 0 ≡ x) c
               (λ x j. let p : x < k.count = omega (arith, j, m) in ap (λ (y : ℕ). get_or lanes' y 0) (kept x p) ∙ other (get_or k.leads x 0) (λ z. omega (arith, z, g.lead x p)) ∙ g.own x p)
-              (ap (λ (y : ℕ). get_or lanes' y 0) led ∙ here) d (omega (arith, i, n, m));
+              (ap (λ (y : ℕ). get_or lanes' y 0) led_by ∙ here) d (omega (arith, i, n, m));
           past = λ r i. other r (λ z. omega (arith, z)) ∙ g.past r (omega arith);
           first = begin;
         }
@@ -274,10 +277,10 @@ module _ (nd : List Bool) (h : ℕ) where
         leads' = set k.leads c q
 
         room : c < length k.leads
-        room = omega (arith, m, g.led.room, g.few)
+        room = omega (arith, m, small.room, g.few)
 
-        led : get_or leads' c 0 ≡ q
-        led = get_or-set_same k.leads c q 0 room
+        led_by : get_or leads' c 0 ≡ q
+        led_by = get_or-set_same k.leads c q 0 room
 
         kept : (d : ℕ) → d < k.count → get_or leads' d 0 ≡ get_or k.leads d 0
         kept d i = get_or-set_other k.leads c d q 0 (λ z. omega (arith, z))

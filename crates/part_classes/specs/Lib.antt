@@ -1,2 +1,3 @@
--- Classes of parts, and what they are (Grouped).
+-- Classes of parts, what they are (Grouped), and that their numbers are small (Led).
+pub mod Led
 pub mod Grouped

@@ -1,11 +1,12 @@
 -- A part's accepted lines are the rendering of what they say, and that is known of them (`part_tells`). By the grammar's lines, one after the other.
+use Rattle.std.specs.Prelude.{Option, Some, None}
 use Prim.Native.Nat.{ℕ, ◌≤◌}
 use mathlib.Core.Path.{◌≡◌, ap, ◌∙◌, subst}
 use mathlib.Core.List.{List, ◌++◌, append_assoc}
 use native.Mathlib.Omega.{arith}
 use lib.ListN.{length}
 use borrow.Author.Tests.{leb-true}
-use Rattle.lines.specs.Text.{line_of, Optional, missing, present, optional_text}
+use Rattle.lines.specs.Text.{line_of, optional_text}
 use Rattle.lines.specs.Parser.{return, row, checked, up_to}
 use Rattle.lines.proofs.Sound.{Told, Tells, bind_inv, row_sound, checked_sound, row_gives, checked_gives}
 use Rattle.jobs.specs.Valid.{ValidHolders}
@@ -23,19 +24,19 @@ use Rattle.part_lines.specs.Rendering.{part_text}
 use Rattle.part_lines.specs.Valid.{KnownPart}
 
 -- what is known of the lines of removal, where they stand, is known of what they mean
-cover_known : (m k : ℕ) (o : Optional Cover) → ValidLines m k o → ((meant_cover o).removal ≤ 1000000) × (length (meant_cover o).holders ≤ 15) × ValidHolders m k 0 (meant_cover o).holders
+cover_known : (m k : ℕ) (o : Option Cover) → ValidLines m k o → ((meant_cover o).removal ≤ 1000000) × (length (meant_cover o).holders ≤ 15) × ValidHolders m k 0 (meant_cover o).holders
 unfolding meant_cover
-cover_known m k missing v = (omega arith, omega arith, tt)
-cover_known m k (present c) v = (v.removal, v.few, v.holders)
+cover_known m k None v = (omega arith, omega arith, tt)
+cover_known m k (Some c) v = (v.removal, v.few, v.holders)
 
 -- and of the part that they mean, of the lines
 pub known_cover : (m n k : ℕ) (p : PartText) → KnownPart m n k p → ValidLines m k p.cover
 unfolding meant_cover
 known_cover m n k p v = go p.cover v.0.removal v.0.few_holders v.1
   where
-    go : (o : Optional Cover) → (meant_cover o).removal ≤ 1000000 → length (meant_cover o).holders ≤ 15 → ValidHolders m k 0 (meant_cover o).holders → ValidLines m k o
-    go missing r f h = tt
-    go (present c) r f h = record { removal = r; few = f; holders = h }
+    go : (o : Option Cover) → (meant_cover o).removal ≤ 1000000 → length (meant_cover o).holders ≤ 15 → ValidHolders m k 0 (meant_cover o).holders → ValidLines m k o
+    go None r f h = tt
+    go (Some c) r f h = record { removal = r; few = f; holders = h }
 
 pub part_tells : (m n k : ℕ) → Tells (part m n k) (KnownPart m n k) part_text
 unfolding part after_left return part_text

@@ -1,10 +1,11 @@
 -- How long a part's lines are: with the line of its own number, which no holder has, at most 1,797 bytes (`part_short`). By the lengths of the lines.
+use Rattle.std.specs.Prelude.{Option, Some, None}
 use Prim.Native.Nat.{ℕ, ◌+◌, ◌*◌, ◌≤◌}
 use mathlib.Core.Path.{◌≡◌, refl}
 use mathlib.Core.List.{List, [], ◌∷◌, ◌++◌}
 use native.Mathlib.Omega.{arith}
 use lib.ListN.{length, length-append}
-use Rattle.lines.specs.Text.{bytes, line_of, texts, Optional, missing, present, optional_text}
+use Rattle.lines.specs.Text.{bytes, line_of, texts, optional_text}
 use Rattle.lines.proofs.Writing.{line_short}
 use Rattle.jobs.specs.Valid.{All}
 use Rattle.covers.specs.Grammar.{Cover}
@@ -31,9 +32,9 @@ texts_short P w m h [] v = omega arith
 texts_short P w m h (x ∷ xs) v = rw (length-append (w x)) (omega (arith, h x v.0, texts_short P w m h xs v.1))
 
 -- the lines of removal of part k of m, if any, with the line of its own number, which no holder has
-lines_short : (m k : ℕ) (o : Optional Cover) → m ≤ 16 → 1 ≤ k → k ≤ 16 → ValidLines m k o → length (optional_text cover_text o) + length (line_of "holder=" k) ≤ 177
-lines_short m k missing few low high v = omega (arith, key_length, line_short (bytes "holder=") 1 k (omega arith))
-lines_short m k (present c) few low high v = cover_short m k c few low high v
+lines_short : (m k : ℕ) (o : Option Cover) → m ≤ 16 → 1 ≤ k → k ≤ 16 → ValidLines m k o → length (optional_text cover_text o) + length (line_of "holder=" k) ≤ 177
+lines_short m k None few low high v = omega (arith, key_length, line_short (bytes "holder=") 1 k (omega arith))
+lines_short m k (Some c) few low high v = cover_short m k c few low high v
 
 -- a part's lines, with the line of its own number
 pub part_short : (m n k : ℕ) (p : PartText) → n ≤ 64 → m ≤ 16 → 1 ≤ k → k ≤ 16 → KnownPart m n k p → length (part_text p) + length (line_of "holder=" k) ≤ most_part

@@ -10,7 +10,7 @@ use Rattle.jobs.specs.Views.{part_of_lem}
 use Rattle.jobs.specs.declared.Part.{Part}
 use Rattle.part_lines.specs.Grammar.{PartText}
 use Rattle.part_lines.specs.Views.{part_lines_lem, parts_lines}
-use Rattle.part_lines.specs.declared.PartSaid.{PartSaid}
+use Rattle.part_lines.specs.declared.said.PartSaid.{PartSaid}
 
 -- one part more
 lines_then : (cs : List PartSaid) (ps : List model.Part) (c : PartSaid) (p : model.Part) → length cs ≡ length ps → parts_lines (cs ++ c ∷ []) (ps ++ p ∷ []) ≡ parts_lines cs ps ++ part_lines_lem c p ∷ []

@@ -1,82 +1,94 @@
--- A part's prices, said and meant: what is said of them is what the grammar gives behind a rule's lines (`ruled_read`), and what it means (`meant_said`); the generator's table part by part (`tabled_none`, `tabled_more`). By whether there is a rule.
+-- A part's prices, said and meant: behind a rule's lines no prices are listed (`ruled_read`), what is said of them means the prices of its rule, or those that are listed (`meant_said`), and so a part that is read means itself with these (`part_means`); the generator's table part by part (`tabled_none`, `tabled_more`). By whether there is a rule.
+use Rattle.std.specs.Prelude.{Option, Some, None, Result, Ok, Err, is_some}
+use Rattle.std.specs.Option.{unwrap_or}
 use Prim.Native.Nat.{ℕ, ◌+◌, ◌≤◌, ◌<◌}
 use mathlib.Core.Path.{◌≡◌, refl, sym, ap, ◌∙◌}
-use mathlib.Core.Bool.{Bool, true, false, cond}
+use mathlib.Core.Bool.{Bool, true, false, cond, true≢false}
 use mathlib.Core.List.{List, []}
 use native.Mathlib.Omega.{arith}
 use borrow.Author.Count.{below_more}
 use lib.ListN.{length, get_or, take, set, length-set}
 use lib.Seq.{get_or-set_same, get_or-set_other}
 use Rattle.lines.specs.Parser.{◌>>=◌, times, chain, return}
-use Rattle.lines.specs.Cursor.{Reads, ended}
-use Rattle.lines.specs.declared.rows.End.{End}
-use Rattle.lines.proofs.Parsing.{map_read}
-use Rattle.quotes.specs.Grammar.{Quote, quote}
-use Rattle.quotes.specs.Views.{quotes_of}
+use Rattle.lines.specs.Reads.{Reads, seen}
+use Rattle.lines.specs.declared.fault.Fault.{Fault}
+use Rattle.lines.specs.declared.rows.Lines.{Lines}
+use Rattle.lines.proofs.Parsing.{put_into}
+use Rattle.quotes.specs.Grammar.{quote}
+use Rattle.quotes.specs.Views.{quotes_of, quotes_told}
+use Rattle.quotes.specs.declared.Quotes.{Quotes}
 use Rattle.quotes.proofs.Quoted.{highs_are}
-use Rattle.price_rules.specs.Rule.{Rule, rule_prices_lem}
 use Rattle.price_rules.specs.Grammar.{by_list, by_rule_lem, unless_ruled, meant_prices}
 use Rattle.price_rules.specs.Views.{rule_of, rule_there}
-use Rattle.model.specs.Model.{Part}
+use Rattle.price_rules.specs.declared.Rule.{Rule}
 use Rattle.jobs.specs.Views.{blank_part_lem, part_of_lem}
-use Rattle.jobs.specs.declared.Part as code
+use Rattle.jobs.specs.declared.Part.{Part}
 use Rattle.lines.specs.Chosen.{numbers_of_lem}
-use Rattle.covers.specs.Grammar.{Cover}
-use Rattle.covers.specs.Views as covers
-use Rattle.covers.specs.Views.{meant_cover}
+use Rattle.covers.specs.declared.Cover.{Cover}
+use Rattle.covers.specs.Views.{cover_of, cover_said, no_cover_lem, cover_there, meant_cover}
+use Rattle.part_lines.specs.Bare.{Bare}
 use Rattle.part_lines.specs.Grammar.{meant_part}
-use Rattle.part_lines.specs.Views.{blank_said, prices_said, part_lines_lem, Unsaid, Bare, priced, Tabled}
-use Rattle.part_lines.specs.declared.PartSaid.{PartSaid}
+use Rattle.part_lines.specs.Views.{blank_said, prices_told, part_lines_lem, part_told, ruled_prices, priced, Tabled}
+use Rattle.part_lines.specs.declared.said.PartSaid.{PartSaid}
+use Rattle.part_lines.specs.declared.said.PartRead.{PartRead}
 
 -- behind a rule's lines no price is listed, else n are
-pub ruled_read : (b : Bool) (r : Rule) (n : ℕ) {s : List ℕ} (t : List ℕ) (l : ℕ) (e : End) (bs : List Bool) (ls hs : List ℕ) → Reads s (ended e (quotes_of bs ls (take (cond b 0 n) hs))) (times (cond b 0 n) quote t l)
-    → Reads s (ended e (prices_said b r (quotes_of bs ls (take n hs)))) (unless_ruled n (rule_there b r) t l)
-unfolding rule_there unless_ruled prices_said quotes_of times chain return ◌>>=◌
-ruled_read false r n t l e bs ls hs h = map_read by_list (times n quote) e (quotes_of bs ls (take n hs)) h
-ruled_read true r n t l e bs ls hs h = map_read (λ (qs : List Quote). by_rule_lem r) (times 0 quote) e [] h
-
-pub meant_said : (b : Bool) (r : Rule) (n : ℕ) (bs : List Bool) (ls ps : List ℕ) → meant_prices n (prices_said b r (quotes_of bs ls ps)) ≡ cond b (rule_prices_lem r n) ps
-unfolding prices_said
-meant_said true r n bs ls ps = refl
-meant_said false r n bs ls ps = highs_are bs ls ps
+pub ruled_read : (o : Option Rule) (n : ℕ) (b a : Lines) (r : Result Quotes Fault) → Reads (times (cond (is_some o) 0 n) quote) b a (seen (quotes_told (cond (is_some o) 0 n)) r) → Reads (unless_ruled n (rule_there o)) b a (seen (λ q. prices_told o (quotes_told n q)) r)
+unfolding unless_ruled quotes_of times chain return ◌>>=◌
+ruled_read None n b a (Ok q) h = put_into by_list (times n quote) b a (Ok (quotes_told n q)) h
+ruled_read None n b a (Err e) h = put_into by_list (times n quote) b a (Err e) h
+ruled_read (Some r) n b a (Ok q) h = put_into (λ qs. by_rule_lem (rule_of r)) (times 0 quote) b a (Ok []) h
+ruled_read (Some r) n b a (Err e) h = put_into (λ qs. by_rule_lem (rule_of r)) (times 0 quote) b a (Err e) h
 
 -- no more prices are listed than there are openings
 pub list_few : (b : Bool) (n most : ℕ) → n ≤ most → cond b 0 n ≤ most
 list_few true n most h = omega arith
 list_few false n most h = h
 
--- a part without a rule, and with one
-pub priced_listed : (n : ℕ) (s : PartSaid) (p : Part) → s.ruled ≡ false → priced n s p ≡ p
-priced_listed n s p e = λ i. record { life = p.life; left = p.left; removal = p.removal; holders = p.holders; prices = cond (e i) (rule_prices_lem (rule_of s.rule) n) p.prices }
+-- lines of removal that are there or not, and what they say
+pub there_said : (o : Option Cover) (none : Cover) → cover_there (is_some o) (cover_of (unwrap_or o none)) ≡ cover_said o
+unfolding cover_there
+there_said (Some c) none = refl
+there_said None none = refl
 
--- a part with a rule, given the prices of that rule, is the part as its lines price it
-pub priced-ruled : (n : ℕ) (s : PartSaid) (p : Part) (ps : List ℕ) → s.ruled ≡ true → ps ≡ rule_prices_lem (rule_of s.rule) n
-    → record { life = p.life; left = p.left; removal = p.removal; holders = p.holders; prices = ps } ≡ priced n s p
-priced-ruled n s p ps e f =
-    let g : ps ≡ cond s.ruled (rule_prices_lem (rule_of s.rule) n) p.prices = f ∙ ap (λ (b : Bool). cond b (rule_prices_lem (rule_of s.rule) n) p.prices) (sym e) in
-    λ i. record { life = p.life; left = p.left; removal = p.removal; holders = p.holders; prices = g i }
+-- where they are not there, the cover is that of none
+pub none_there : (o : Option Cover) (none : Cover) → cover_of none ≡ no_cover_lem → is_some o ≡ false → cover_of (unwrap_or o none) ≡ no_cover_lem
+none_there (Some c) none e h = absurd (true≢false h)
+none_there None none e h = e
 
--- what says nothing of removal and has no rule means a part without removal as it is
-pub unsaid_means : (n : ℕ) (s : PartSaid) (p : code.Part) → Unsaid s → Bare p → meant_part n (part_lines_lem s (part_of_lem n p)) ≡ priced n s (part_of_lem n p)
-unfolding covers.cover_there meant_cover
-unsaid_means n s p u b =
-    let c : Cover = record { removal = p.removal; holders = numbers_of_lem p.holders } in
-    let r : (meant_cover (covers.cover_there s.covered c)).removal ≡ p.removal = ap (λ (t : Bool). (meant_cover (covers.cover_there t c)).removal) u.0 ∙ sym b.0 in
-    let h : (meant_cover (covers.cover_there s.covered c)).holders ≡ numbers_of_lem p.holders = ap (λ (t : Bool). (meant_cover (covers.cover_there t c)).holders) u.0 ∙ sym b.1 in
-    let f = meant_said s.ruled (rule_of s.rule) n s.banded s.lows (take n p.prices) in
-    λ i. record { life = p.life; left = p.left; removal = r i; holders = h i; prices = f i }
+-- the prices that are said mean those of the rule, and where there is none those that are listed
+pub meant_said : (o : Option Rule) (n : ℕ) (ls : List (Option ℕ)) (ps : List ℕ) → meant_prices n (prices_told o (quotes_of ls ps)) ≡ ruled_prices n o ps
+meant_said (Some r) n ls ps = refl
+meant_said None n ls ps = highs_are ls ps
+
+-- lines of removal that stand mean what they say, and where none stand the part has removal 0 and no holders
+covered_means : (b : Bool) (p : Part) → (b ≡ false → Bare p) → meant_cover (cover_there b (record { removal = p.removal; holders = numbers_of_lem p.holders })) ≡ record { removal = p.removal; holders = numbers_of_lem p.holders }
+unfolding cover_there meant_cover
+covered_means true p bare = refl
+covered_means false p bare = λ i. record { removal = sym (bare refl).0 i; holders = sym (bare refl).1 i }
+
+-- a part without removal and holders, where no lines of removal stand, is with its rule's prices what its lines mean
+pub bare_means : (n : ℕ) (s : PartSaid) (p : Part) → (s.covered ≡ false → Bare p) → meant_part n (part_lines_lem s (part_of_lem n p)) ≡ priced n s (part_of_lem n p)
+bare_means n s p bare =
+    let c : meant_cover (cover_there s.covered (record { removal = p.removal; holders = numbers_of_lem p.holders })) ≡ record { removal = p.removal; holders = numbers_of_lem p.holders } = covered_means s.covered p bare in
+    let f = meant_said s.rule n s.lows (take n p.prices) in
+    λ i. record { life = p.life; left = p.left; removal = (c i).removal; holders = (c i).holders; prices = f i }
+
+-- a part that was read is, with its rule's prices, what its lines mean
+pub part_means : (n : ℕ) (r : PartRead) → meant_part n (part_told n r) ≡ priced n r.said (part_of_lem n r.part)
+part_means n r = bare_means n r.said r.part r.bare
 
 -- ---- the generator: none yet, and one part more
 
-pub tabled_none : {n : ℕ} {ss : List PartSaid} {ps : List code.Part} → Tabled 0 n ss ps ps
+pub tabled_none : {n : ℕ} {ss : List PartSaid} {ps : List Part} → Tabled 0 n ss ps ps
 tabled_none = record { size = refl; done = λ q h. absurd (omega arith); rest = λ q h. refl }
 
-pub tabled_more : {q n : ℕ} {ss : List PartSaid} {ps qs : List code.Part} (r : code.Part) → q < length ps → part_of_lem n r ≡ priced n (get_or ss q blank_said) (part_of_lem n (get_or qs q blank_part_lem)) → Tabled q n ss ps qs → Tabled (q + 1) n ss ps (set qs q r)
+pub tabled_more : {q n : ℕ} {ss : List PartSaid} {ps qs : List Part} (r : Part) → q < length ps → part_of_lem n r ≡ priced n (get_or ss q blank_said) (part_of_lem n (get_or qs q blank_part_lem)) → Tabled q n ss ps qs → Tabled (q + 1) n ss ps (set qs q r)
 tabled_more {q} {n} {ss} {ps} {qs} r inside new d =
     record {
       size = length-set qs q r ∙ d.size;
       done = below_more (λ (k : ℕ). part_of_lem n (get_or (set qs q r) k blank_part_lem) ≡ priced n (get_or ss k blank_said) (part_of_lem n (get_or ps k blank_part_lem))) q
           (λ k l. ap (part_of_lem n) (get_or-set_other qs q k r blank_part_lem (λ e. omega (arith, e))) ∙ d.done k l)
-          (ap (part_of_lem n) (get_or-set_same qs q r blank_part_lem (omega (arith, d.size))) ∙ new ∙ ap (λ (p : code.Part). priced n (get_or ss q blank_said) (part_of_lem n p)) (d.rest q (omega arith)));
+          (ap (part_of_lem n) (get_or-set_same qs q r blank_part_lem (omega (arith, d.size))) ∙ new ∙ ap (λ (p : Part). priced n (get_or ss q blank_said) (part_of_lem n p)) (d.rest q (omega arith)));
       rest = λ k h. get_or-set_other qs q k r blank_part_lem (λ e. omega (arith, e)) ∙ d.rest k (omega arith);
     }

@@ -1,8 +1,7 @@
 -- X3. A part's lines: "`life` 1..1000, `left` 1..1000, then one `price` 1..1000000 per opening." E12.4. "From here on `left` may be 0".
 -- E7.2. "After each `left` a job may have `removal` 0..1000000, `inside` 0..15 and that many `holder` lines".
 -- E11. "Each price may be a pair `low` and `high`". E8.1. "In place of its `price` lines a part may have `base` 1..1000000, `drop` 0..1000000 and `least` 1..1000000."
-use Rattle.std.specs.Prelude.{ℕ, suc, Bool, false, ◌||◌, List, [], ◌∷◌}
-use Rattle.lines.specs.Text.{Optional}
+use Rattle.std.specs.Prelude.{ℕ, suc, Bool, false, ◌||◌, List, [], ◌∷◌, Option}
 use Rattle.lines.specs.Parser.{Parser, ◌>>=◌, return, row, checked, up_to}
 use Rattle.model.specs.Model.{Part}
 use Rattle.model.specs.Limits.{longest_life}
@@ -14,7 +13,7 @@ use Rattle.price_rules.specs.Grammar.{Prices, prices, meant_prices, low_prices_l
 pub record PartText : Type 0 where
   pub life : ℕ
   pub left : ℕ
-  pub cover : Optional Cover
+  pub cover : Option Cover
   pub prices : Prices
 
 -- with n openings. E7.2. "a part without them has removal 0 and no holders"; E8.2. a rule means a price for each opening; E11. pairs mean their high ends

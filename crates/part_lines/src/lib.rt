@@ -1,93 +1,60 @@
-// A part's lines: what they say and the part that they mean, read from a cursor on.
+// A part's lines: what they say and the part that they mean, read from a text.
 #![tactic(auto)]
 
-ghost use Rattle.std.specs.Prelude.{◌≡◌, cond, ℕ, ◌≤◌, drop, take};
-ghost use Rattle.lines.specs.Parser.{row, checked, up_to};
-ghost use Rattle.lines.specs.Cursor.{Stands, LineRead, Reads, ended};
-ghost use Rattle.jobs.specs.Views.{part_of_lem};
-ghost use Rattle.part_lines.specs.Grammar.{meant_part, after_left, part};
-ghost use Rattle.part_lines.specs.Views.{prices_said, part_lines_lem, Unsaid, Bare, priced, PartSeen, Tabled};
-ghost use Rattle.price_rules.specs.Grammar.{prices};
-ghost use Rattle.price_rules.specs.Views.{rule_of};
-ghost use Rattle.quotes.specs.Views.{quotes_of};
-ghost use Rattle.model.specs.Limits.{longest_life, most_openings, most_parts};
+pub mod said;
 
-use covers::read_cover;
+ghost use Rattle.std.specs.Prelude.{◌≡◌, cond, ◌≤◌};
+ghost use Rattle.lines.specs.Parser.{row, checked, up_to};
+ghost use Rattle.lines.specs.Reads.{Reads, seen};
+ghost use Rattle.model.specs.Limits.{longest_life, most_openings, most_parts};
+ghost use Rattle.jobs.specs.Views.{part_of_lem};
+ghost use Rattle.price_rules.specs.Grammar.{prices};
+ghost use Rattle.part_lines.specs.Bare.{Bare};
+ghost use Rattle.part_lines.specs.Grammar.{part};
+ghost use Rattle.part_lines.specs.Views.{prices_read, part_told, Unsaid, priced, Tabled};
+
+use covers::{Cover, read_cover};
 use jobs::Part;
-use lines::read::{Field, read_field};
-use lines::rows::{Cursor, End, Row, advance};
+use lines::fault::{Fault, FaultKind};
+use lines::rows::Lines;
 use model::{OPENINGS, PARTS};
 use price_rules::{Rule, read_rule, rule_prices};
-use quotes::read_quotes;
-
-// What a part's lines say, besides the part that they mean: whether its lines of removal stand; whether its prices stand by a rule, and by which; and which of them are pairs, with the low ends of these.
-#[derive(Clone, Copy)]
-pub struct PartSaid {
-    pub covered: bool,
-    pub ruled: bool,
-    pub rule: Rule,
-    pub banded: [bool; OPENINGS],
-    pub lows: [u32; OPENINGS],
-}
+use quotes::{Quotes, read_quotes};
+use said::{PartRead, PartSaid};
 
 impl PartSaid {
     // What stands where no part is read.
     pub fn nothing() -> PartSaid
         ensures { Unsaid result }
     {
-        let rule = Rule {
-            base: 0,
-            drop: 0,
-            least: 0,
-        };
         PartSaid {
             covered: false,
-            ruled: false,
-            rule,
-            banded: [false; OPENINGS],
-            lows: [0u32; OPENINGS],
+            rule: None,
+            lows: [None; OPENINGS],
         }
     }
 }
 
-// A part's prices read: a rule where its lines stand, else those that are listed, with marks of the pairs and their low ends; and where they end.
-#[derive(Drop)]
-pub struct PriceLines {
-    pub end: End,
-    pub ruled: bool,
-    pub rule: Rule,
-    pub banded: [bool; OPENINGS],
-    pub lows: [u32; OPENINGS],
-    pub prices: [u32; OPENINGS],
-}
-
-// A part read: what its lines say and mean, and where they end.
-#[derive(Drop)]
-pub struct PartRead {
-    pub end: End,
-    pub said: PartSaid,
-    pub part: Part,
+// A part's prices read: their rule, where they stand by one, else those that are listed.
+#[derive(Clone, Copy)]
+struct PriceLines {
+    rule: Option<Rule>,
+    quotes: Quotes,
 }
 
 // What is left of a part's first life: no more than its life, else fault 5.
-fn read_left(s: &[u8], life: u32) -> Field
-    ensures { LineRead (checked 5 (up_to life) (row "left=" 0 longest_life)) s.now result }
+fn read_left(lines: &mut Lines, life: u32) -> Result<u32, Fault>
+    ensures { Reads (checked 5 (up_to life) (row "left=" 0 longest_life)) lines.old lines.new result }
 {
-    match read_field(s, b"left=", Part::MIN_LEFT, Part::MAX_LEFT) {
-        Field::Value {
-            value: v,
-            length: n,
-        } => {
-            if life < v {
-                return Field::Fault(5);
-            }
-            Field::Value {
-                value: v,
-                length: n,
-            }
-        }
-        Field::Fault(k) => Field::Fault(k),
+    let line = lines.line;
+    let left = lines.field(b"left=", Part::MIN_LEFT, Part::MAX_LEFT)?;
+    if life < left {
+        return Err(Fault {
+            kind: FaultKind::Left,
+            line,
+        });
     }
+    Ok(left)
 }
 
 // How many prices are listed: one for each of n openings, and none where there is a rule.
@@ -98,39 +65,13 @@ pub fn list_length(ruled: bool, n: usize) -> usize
 }
 
 // A part's prices: a rule where its lines stand, else n listed ones.
-fn read_price_lines(text: &[u8], p: Cursor, n: usize) -> PriceLines
-    requires { Stands text.now p × (n ≤ most_openings) }
-    ensures { Reads text.now (ended result.end (prices_said result.ruled (rule_of result.rule) (quotes_of result.banded result.lows (take n result.prices)))) (prices n (drop p.at text.now) p.line) }
+fn read_price_lines(lines: &mut Lines, n: usize) -> Result<PriceLines, Fault>
+    requires { n ≤ most_openings }
+    ensures { Reads (prices n) lines.old lines.new (seen (prices_read n) result) }
 {
-    let lines = read_rule(text, p);
-    let ruled = lines.there;
-    let rule = lines.rule;
-    let lines_end = lines.end;
-    match lines_end {
-        End::At(q) => {
-            let read = read_quotes(text, q, list_length(ruled, n));
-            let end = read.end;
-            let banded = read.banded;
-            let lows = read.lows;
-            let prices = read.highs;
-            PriceLines {
-                end,
-                ruled,
-                rule,
-                banded,
-                lows,
-                prices,
-            }
-        }
-        End::Fault { number: k, line: l } => PriceLines {
-            end: End::Fault { number: k, line: l },
-            ruled,
-            rule,
-            banded: [false; OPENINGS],
-            lows: [0u32; OPENINGS],
-            prices: [0u32; OPENINGS],
-        },
-    }
+    let rule = read_rule(lines)?;
+    let quotes = read_quotes(lines, list_length(rule.is_some(), n))?;
+    Ok(PriceLines { rule, quotes })
 }
 
 // What stands where no part is read: removal 0 and no holders, which no line says.
@@ -142,91 +83,35 @@ pub fn blank_part() -> Part
         left: 0,
         removal: 0,
         holders: [false; PARTS],
-        prices: [0u32; OPENINGS],
+        prices: [0; OPENINGS],
     }
 }
 
-// A part that was not read.
-fn no_part(k: u32, line: usize) -> PartRead
-    ensures { (result.end ≡ End.Fault k line) × ((n : ℕ) → meant_part n (part_lines_lem result.said (part_of_lem n result.part)) ≡ priced n result.said (part_of_lem n result.part)) }
+// Part k of m, with a price for each of n openings: its life and what is left of it, the lines of removal, where they stand, and a rule or n prices.
+pub fn read_part(lines: &mut Lines, m: u32, n: usize, k: u32) -> Result<PartRead, Fault>
+    requires { n ≤ most_openings }
+    ensures { Reads (part m n k) lines.old lines.new (seen (part_told n) result) }
 {
-    let part = blank_part();
-    let said = PartSaid::nothing();
-    PartRead {
-        end: End::Fault { number: k, line },
-        said,
-        part,
-    }
-}
-
-// What follows the life of part k of m and what is left of it: the lines of removal, where they stand, and a rule or n prices.
-fn read_after_left(
-    text: &[u8],
-    p: Cursor,
-    m: u32,
-    n: usize,
-    k: u32,
-    life: u32,
-    left: u32,
-) -> PartRead
-    requires { Stands text.now p × (m ≤ most_parts) × (n ≤ most_openings) }
-    ensures { PartSeen n text.now result (after_left m n k life left (drop p.at text.now) p.line) }
-{
-    let lines = read_cover(text, p, m, k);
-    let lines_end = lines.end;
-    match lines_end {
-        End::At(q) => {
-            let read = read_price_lines(text, q, n);
-            let end = read.end;
-            let ruled = read.ruled;
-            let rule = read.rule;
-            let banded = read.banded;
-            let lows = read.lows;
-            let prices = read.prices;
-            let covered = lines.there;
-            let cover = lines.cover;
-            let removal = cover.removal;
-            let holders = cover.holders;
-            PartRead {
-                end,
-                said: PartSaid {
-                    covered,
-                    ruled,
-                    rule,
-                    banded,
-                    lows,
-                },
-                part: Part {
-                    life,
-                    left,
-                    removal,
-                    holders,
-                    prices,
-                },
-            }
-        }
-        End::Fault { number: j, line: l } => no_part(j, l),
-    }
-}
-
-// Part k of m, with a price for each of n openings.
-pub fn read_part(text: &[u8], p: Cursor, m: u32, n: usize, k: u32) -> PartRead
-    requires { Stands text.now p × (m ≤ most_parts) × (n ≤ most_openings) }
-    ensures { PartSeen n text.now result (part m n k (drop p.at text.now) p.line) }
-{
-    let at = p.at;
-    let field = read_field(&text[at..], b"life=", Part::MIN_LIFE, Part::MAX_LIFE);
-    match advance(text, p, field) {
-        Row::Value(life, q) => {
-            let at = q.at;
-            let field = read_left(&text[at..], life);
-            match advance(text, q, field) {
-                Row::Value(left, r) => read_after_left(text, r, m, n, k, life, left),
-                Row::Fault { number: j, line: l } => no_part(j, l),
-            }
-        }
-        Row::Fault { number: j, line: l } => no_part(j, l),
-    }
+    let life = lines.field(b"life=", Part::MIN_LIFE, Part::MAX_LIFE)?;
+    let left = read_left(lines, life)?;
+    let there = read_cover(lines, m, k)?;
+    let PriceLines { rule, quotes } = read_price_lines(lines, n)?;
+    let Quotes { lows, highs } = quotes;
+    let Cover { removal, holders } = there.unwrap_or(Cover::none());
+    Ok(PartRead {
+        said: PartSaid {
+            covered: there.is_some(),
+            rule,
+            lows,
+        },
+        part: Part {
+            life,
+            left,
+            removal,
+            holders,
+            prices: highs,
+        },
+    })
 }
 
 // A part with the prices of its rule at n openings, where it has one.
@@ -234,17 +119,12 @@ fn with_rule(said: PartSaid, part: Part, n: usize) -> Part
     requires { n ≤ most_openings }
     ensures { part_of_lem n result ≡ priced n said (part_of_lem n part) }
 {
-    if !said.ruled {
-        return part;
-    }
-    let prices = rule_prices(said.rule, n);
-    let holders = part.holders;
-    Part {
-        life: part.life,
-        left: part.left,
-        removal: part.removal,
-        holders,
-        prices,
+    match said.rule {
+        Some(rule) => Part {
+            prices: rule_prices(rule, n),
+            ..part
+        },
+        None => part,
     }
 }
 
@@ -259,13 +139,8 @@ pub fn put_rule_prices(
     ensures { Tabled m n said parts result }
 {
     let mut table = parts;
-    let mut q: usize = 0;
-    while q < m {
-        let part = table[q];
-        let lines = said[q];
-        let next = with_rule(lines, part, n);
-        table[q] = next;
-        q += 1;
+    for q in 0..m {
+        table[q] = with_rule(said[q], table[q], n);
     }
     table
 }

@@ -17,21 +17,12 @@ pub fn part_at(parts: &[Part], i: usize) -> Part
     parts[i]
 }
 
-// The record at place i of the first count parts, which are lent to take it out. That there is one saves callers a proof of the length.
-pub fn part_of(parts: [Part; PARTS], count: usize, i: usize) -> Part
-    requires { (i < count) × (count ≤ most_parts) }
-    ensures { (result ≡ record_at parts i) × (i < length parts) }
-{
-    part_at(&parts[..count], i)
-}
-
 // The life of the part at place i of the parts lent.
 pub fn life_of(parts: &[Part], i: usize) -> u32
     requires { i < length parts.now }
     ensures { result ≡ (record_at parts.now i).life }
 {
-    let part = parts[i];
-    part.life
+    part_at(parts, i).life
 }
 
 // What is left of the first life of the part at place i of the parts lent.
@@ -39,8 +30,7 @@ pub fn left_of(parts: &[Part], i: usize) -> u32
     requires { i < length parts.now }
     ensures { result ≡ (record_at parts.now i).left }
 {
-    let part = parts[i];
-    part.left
+    part_at(parts, i).left
 }
 
 // What removing the part at place i of the parts lent costs.
@@ -48,8 +38,7 @@ pub fn removal_of(parts: &[Part], i: usize) -> u32
     requires { i < length parts.now }
     ensures { result ≡ (record_at parts.now i).removal }
 {
-    let part = parts[i];
-    part.removal
+    part_at(parts, i).removal
 }
 
 // The life of the part at place i of the first count parts, which are lent to read it.
@@ -66,12 +55,4 @@ pub fn lent_left(parts: [Part; PARTS], count: usize, i: usize) -> u32
     ensures { (result ≡ (record_at parts i).left) × (i < length parts) }
 {
     left_of(&parts[..count], i)
-}
-
-// What removing the part at place i of the first count parts costs; they are lent to read it.
-pub fn lent_removal(parts: [Part; PARTS], count: usize, i: usize) -> u32
-    requires { (i < count) × (count ≤ most_parts) }
-    ensures { (result ≡ (record_at parts i).removal) × (i < length parts) }
-{
-    removal_of(&parts[..count], i)
 }

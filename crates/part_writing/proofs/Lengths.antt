@@ -1,4 +1,5 @@
 -- How long a part's text is, whatever its numbers (`part_short`): fifteen holders and 64 pairs, every number with ten digits. By the lengths of the lines.
+use Rattle.std.specs.Prelude.{Option, None, Some}
 use Prim.Native.Nat.{ℕ, ◌+◌, ◌*◌, ◌≤◌, ◌<◌}
 use Prim.Native.String.{String}
 use mathlib.Core.Path.{◌≡◌, refl, ap}
@@ -6,7 +7,7 @@ use mathlib.Core.List.{List, [], ◌∷◌}
 use native.Mathlib.Omega.{arith}
 use native.Mathlib.Decide.{dec_lt}
 use lib.ListN.{length, length-append}
-use Rattle.lines.specs.Text.{bytes, line_of, texts, Optional, missing, present, optional_text}
+use Rattle.lines.specs.Text.{bytes, line_of, texts, optional_text}
 use Rattle.lines.proofs.Writing.{line_most}
 use Rattle.jobs.specs.Valid.{All}
 use Rattle.covers.specs.Grammar.{Cover}
@@ -40,10 +41,10 @@ inside_short hs = go (dec_lt 15 (length hs))
     go (yes h) = omega (arith, ap length (inside_many hs h), short "inside=" 7 (length hs) refl)
     go (no h) = omega (arith, h, ap length (inside_few hs (omega (arith, h))), length-append (line_of "inside=" (length hs)) (texts (line_of "holder=") hs), short "inside=" 7 (length hs) refl, lines_short "holder=" 7 refl hs)
 
-cover_short : (o : Optional Cover) → length (optional_text cover_cut o) ≤ 307
+cover_short : (o : Option Cover) → length (optional_text cover_cut o) ≤ 307
 unfolding cover_cut bytes
-cover_short missing = omega arith
-cover_short (present c) = omega (arith, length-append (line_of "removal=" c.removal) (inside_cut c.holders), short "removal=" 8 c.removal refl, inside_short c.holders)
+cover_short None = omega arith
+cover_short (Some c) = omega (arith, length-append (line_of "removal=" c.removal) (inside_cut c.holders), short "removal=" 8 c.removal refl, inside_short c.holders)
 
 -- prices that are listed are no more than n
 abbrev pub FewListed : ℕ → Prices → Type 0

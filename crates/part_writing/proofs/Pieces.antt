@@ -1,20 +1,23 @@
--- The pieces of a part's text by their tests: holders that are too many, or not (`inside_many`, `inside_few`), lines that stand, or not (`cover_there_lem`, `cover_gone`), and prices by a rule, or listed
--- (`said_ruled`, `said_listed`). By the value of the test.
+-- The pieces of a part's text by their cases: holders that are too many, or not (`inside_many`, `inside_few`), lines of removal that stand, or not (`cover_there`, `cover_gone`), and prices by a rule, or listed
+-- (`said_ruled`, `said_listed`).
 use Prim.Native.Nat.{ℕ, ◌≤◌, ◌<◌}
 use mathlib.Core.Path.{◌≡◌, refl}
-use mathlib.Core.Bool.{Bool, true, false}
 use mathlib.Core.List.{List, [], ◌++◌, append-nil}
 use borrow.Author.Tests.{le-leb, lt-leb}
 use lib.ListN.{length}
+use Rattle.std.specs.Prelude.{Option, Some, None}
 use Rattle.lines.specs.Text.{line_of, texts, optional_text}
-use Rattle.covers.specs.Grammar.{Cover}
-use Rattle.covers.specs.Views.{cover_there}
-use Rattle.quotes.specs.Grammar.{Quote}
 use Rattle.quotes.specs.Rendering.{quote_text}
-use Rattle.price_rules.specs.Rule.{Rule}
+use Rattle.price_rules.specs.declared.Rule.{Rule}
 use Rattle.price_rules.specs.Rendering.{rule_text, prices_text}
-use Rattle.part_lines.specs.Views.{prices_said}
+use Rattle.price_rules.specs.Views.{rule_of}
+use Rattle.form_facts.specs.declared.lists.QuoteLists.{QuoteLists}
+use Rattle.form_facts.specs.Views.{quotes_said}
 use Rattle.part_writing.specs.Cut.{inside_cut, cover_cut}
+use Rattle.part_writing.specs.Views.{cover_said, prices_said}
+use Rattle.part_writing.specs.declared.Cover.{Cover}
+use Rattle.part_writing.specs.declared.Prices.{Prices}
+use Rattle.part_writing.specs.declared.Prices.TheVariants.{ByRule, Listed}
 
 -- ---- lines of removal
 
@@ -27,20 +30,20 @@ unfolding inside_cut
 inside_few hs h = rw (le-leb (length hs) 15 h)
 
 -- lines that stand, and lines that don't
-pub cover_there_lem : (there : Bool) (c : Cover) → there ≡ true → optional_text cover_cut (cover_there there c) ≡ cover_cut c
-unfolding cover_there
-cover_there_lem there c e = rw e refl
+pub cover_there : (o : Option Cover) (c : Cover) → o ≡ Some c → optional_text cover_cut (cover_said o) ≡ line_of "removal=" c.removal ++ inside_cut c.holders.now
+unfolding cover_said cover_cut
+cover_there o c e = rw e refl
 
-pub cover_gone : (there : Bool) (c : Cover) → there ≡ false → optional_text cover_cut (cover_there there c) ≡ []
-unfolding cover_there
-cover_gone there c e = rw e refl
+pub cover_gone : (o : Option Cover) → o ≡ None → optional_text cover_cut (cover_said o) ≡ []
+unfolding cover_said
+cover_gone o e = rw e refl
 
 -- ---- prices
 
-pub said_ruled : (ruled : Bool) (r : Rule) (qs : List Quote) → ruled ≡ true → prices_text (prices_said ruled r qs) ≡ rule_text r
+pub said_ruled : (p : Prices) (r : Rule) → p ≡ ByRule r → prices_text (prices_said p) ≡ rule_text (rule_of r)
 unfolding prices_said
-said_ruled ruled r qs e = rw e refl
+said_ruled p r e = rw e refl
 
-pub said_listed : (ruled : Bool) (r : Rule) (qs : List Quote) → ruled ≡ false → prices_text (prices_said ruled r qs) ≡ texts quote_text qs
+pub said_listed : (p : Prices) (q : QuoteLists) → p ≡ Listed q → prices_text (prices_said p) ≡ texts quote_text (quotes_said q)
 unfolding prices_said
-said_listed ruled r qs e = rw e refl
+said_listed p q e = rw e refl

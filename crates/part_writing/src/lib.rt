@@ -1,100 +1,101 @@
-// The lines of one part of a form, written into a lent slice to be read.
+// The lines of one part of a form, put into a lent slice to be read.
 #![tactic(auto)]
 
-ghost use Rattle.std.specs.Prelude.{◌≡◌, ◌+◌, ◌≤◌, ◌<◌, length};
+ghost use Rattle.std.specs.Prelude.{◌<◌, length, IfSome};
 ghost use Rattle.lines.specs.Text.{line, texts, optional_text};
-ghost use Rattle.lines.specs.Wrote.{Wrote};
-ghost use Rattle.covers.specs.Views.{cover_there};
+ghost use Rattle.line_writing.specs.Puts.{Puts, Room};
 ghost use Rattle.price_rules.specs.Rendering.{prices_text};
-ghost use Rattle.price_rules.specs.Views.{rule_of};
-ghost use Rattle.part_lines.specs.Views.{prices_said};
-ghost use Rattle.form_facts.specs.Facts.{quotes_from, Marked};
 ghost use Rattle.part_writing.specs.Cut.{inside_cut, cover_cut, part_cut_lem};
+ghost use Rattle.part_writing.specs.Views.{cover_said, prices_said, part_said, PricesMarked};
 
-use line_writing::write::put_line;
+use form_facts::lists::QuoteLists;
+use line_writing::output::Out;
 use price_rules::{Rule, put_rule};
 use quote_writing::put_quotes;
 
+// What a part's lines of removal say: the removal, and the numbers of the parts that hold this one.
+#[derive(Clone, Copy)]
+pub struct Cover<'a> {
+    pub removal: u32,
+    pub holders: &'a [u32],
+}
+
+// What says a part's prices.
+#[derive(Clone, Copy)]
+pub enum Prices<'a> {
+    ByRule(Rule),
+    Listed(QuoteLists<'a>),
+}
+
+// What the lines of a part say.
+#[derive(Clone, Copy)]
+pub struct Part<'a> {
+    pub life: u32,
+    pub left: u32,
+    pub cover: Option<Cover<'a>>,
+    pub prices: Prices<'a>,
+}
+
 // Puts the line of a key and each value.
-pub fn put_values(out: &mut [u8], at: usize, key: &[u8], values: &[u32]) -> usize
-    requires { at + length (texts (line key.now) values.now) ≤ length out.old }
-    ensures { Wrote out.old at (texts (line key.now) values.now) out.new result }
+pub fn put_values(out: &mut Out, key: &[u8], values: &[u32])
+    requires { Room out.old (texts (line key.now) values.now) }
+    ensures { Puts out.old (texts (line key.now) values.now) out.new }
 {
-    let mut end = at;
-    let mut i: usize = 0;
-    while i < values.len() {
-        end = put_line(out, end, key, values[i] as u64);
-        i += 1;
+    for value in values {
+        out.put_line(key, *value as u64);
     }
-    end
 }
 
 // Puts the number of holders, and the holders if there are not too many.
-fn put_inside(out: &mut [u8], at: usize, holders: &[u32]) -> usize
-    requires { (length holders.now < 4294967296) × (at + length (inside_cut holders.now) ≤ length out.old) }
-    ensures { Wrote out.old at (inside_cut holders.now) out.new result }
+fn put_inside(out: &mut Out, holders: &[u32])
+    requires { (length holders.now < 4294967296) × Room out.old (inside_cut holders.now) }
+    ensures { Puts out.old (inside_cut holders.now) out.new }
 {
     let n = holders.len();
-    let a = put_line(out, at, b"inside=", n as u64);
-    if 15 < n {
-        return a;
+    out.put_line(b"inside=", n as u64);
+    if n <= 15 {
+        put_values(out, b"holder=", holders);
     }
-    put_values(out, a, b"holder=", holders)
 }
 
 // Puts a part's lines of removal, where they stand.
-fn put_removal(out: &mut [u8], at: usize, there: bool, removal: u32, holders: &[u32]) -> usize
-    requires { (length holders.now < 4294967296) × (at + length (optional_text cover_cut (cover_there there (record { removal = removal; holders = holders.now }))) ≤ length out.old) }
-    ensures { Wrote out.old at (optional_text cover_cut (cover_there there (record { removal = removal; holders = holders.now }))) out.new result }
+fn put_cover(out: &mut Out, cover: Option<Cover>)
+    requires few { IfSome cover (λ c. length c.holders.now < 4294967296) }
+    requires room { Room out.old (optional_text cover_cut (cover_said cover)) }
+    ensures { Puts out.old (optional_text cover_cut (cover_said cover.entry)) out.new }
 {
-    if !there {
-        return at;
+    match cover {
+        Some(cover) => {
+            out.put_line(b"removal=", cover.removal as u64);
+            put_inside(out, cover.holders);
+        }
+        None => {}
     }
-    let a = put_line(out, at, b"removal=", removal as u64);
-    put_inside(out, a, holders)
 }
 
 // Puts the lines of a part's prices: the rule's where there is one, else those of each price.
-fn put_price_lines(
-    out: &mut [u8],
-    at: usize,
-    ruled: bool,
-    rule: Rule,
-    banded: &[u32],
-    lows: &[u32],
-    prices: &[u32],
-) -> usize
-    requires marked { Marked banded.now lows.now prices.now }
-    requires prices_in_bounds { at + length (prices_text (prices_said ruled (rule_of rule) (quotes_from banded.now lows.now prices.now))) ≤ length out.old }
-    ensures { Wrote out.old at (prices_text (prices_said ruled (rule_of rule) (quotes_from banded.now lows.now prices.now))) out.new result }
+fn put_prices(out: &mut Out, prices: Prices)
+    requires marked { PricesMarked prices }
+    requires room { Room out.old (prices_text (prices_said prices)) }
+    ensures { Puts out.old (prices_text (prices_said prices.entry)) out.new }
 {
-    if ruled {
-        return put_rule(out, at, rule);
+    match prices {
+        Prices::ByRule(rule) => {
+            out.at = put_rule(out.bytes, out.at, rule);
+        }
+        Prices::Listed(quotes) => put_quotes(out, quotes),
     }
-    put_quotes(out, at, banded, lows, prices)
 }
 
 // Puts the lines of a part.
-pub fn put_part(
-    out: &mut [u8],
-    at: usize,
-    life: u32,
-    left: u32,
-    there: bool,
-    removal: u32,
-    holders: &[u32],
-    ruled: bool,
-    rule: Rule,
-    banded: &[u32],
-    lows: &[u32],
-    prices: &[u32],
-) -> usize
-    requires holders_len_bound { (length holders.now < 4294967296) × Marked banded.now lows.now prices.now }
-    requires prices_in_bounds { at + length (part_cut_lem (record { life = life; left = left; cover = cover_there there (record { removal = removal; holders = holders.now }); prices = prices_said ruled (rule_of rule) (quotes_from banded.now lows.now prices.now) })) ≤ length out.old }
-    ensures { Wrote out.old at (part_cut_lem (record { life = life; left = left; cover = cover_there there (record { removal = removal; holders = holders.now }); prices = prices_said ruled (rule_of rule) (quotes_from banded.now lows.now prices.now) })) out.new result }
+pub fn put_part(out: &mut Out, part: Part)
+    requires few { IfSome part.cover (λ c. length c.holders.now < 4294967296) }
+    requires marked { PricesMarked part.prices }
+    requires room { Room out.old (part_cut_lem (part_said part)) }
+    ensures { Puts out.old (part_cut_lem (part_said part.entry)) out.new }
 {
-    let a = put_line(out, at, b"life=", life as u64);
-    let b = put_line(out, a, b"left=", left as u64);
-    let c = put_removal(out, b, there, removal, holders);
-    put_price_lines(out, c, ruled, rule, banded, lows, prices)
+    out.put_line(b"life=", part.life as u64);
+    out.put_line(b"left=", part.left as u64);
+    put_cover(out, part.cover);
+    put_prices(out, part.prices);
 }

@@ -1,5 +1,5 @@
--- What is paid for removals, from the last opening to the first: by one unfolding of the sum. And how much it can be.
-use Prim.Native.Nat.{ℕ, zero, suc, ◌+◌, ◌-◌, ◌*◌, ◌≤◌, ◌<◌}
+-- What is paid for removals at an opening, and how much it can be.
+use Prim.Native.Nat.{ℕ, zero, suc, ◌*◌, ◌≤◌, ◌<◌}
 use mathlib.Core.Path.{◌≡◌, sym, ap, ap₂, ◌∙◌}
 use mathlib.Core.Bool.{Bool, true, false, ◌||◌, ◌&&◌, false≢true}
 use mathlib.Core.List.{List, [], ◌∷◌, map}
@@ -62,30 +62,6 @@ module _ (job : Job) (m n : ℕ) (changes : List Changes) where
     paid_is k changed out removals h r o s =
         ap₂ sum_at (row-take 0 (map removal_of_lem job.parts) removals m (length-map job.parts removal_of_lem ∙ parts) few s)
         (row-take false (union m matrix (replicate most_parts false) changed) out m (table-length _ m) few o ∙ union_out k changed h r)
-
--- ---- from opening k on
-
--- the sum over the openings from k on, of n
-abbrev pub Paid : ℕ → (ℕ → ℕ) → ℕ → ℕ → Type 0
-Paid n f k paid = paid ≡ sum k (n - k) f
-
--- past the last opening nothing is paid for removals
-pub paid_none : (n : ℕ) (f : ℕ → ℕ) → Paid n f n 0
-unfolding sum
-paid_none n f = let z : 0 ≡ n - n = omega arith in ap (λ (c : ℕ). sum n c f) z
-
--- what opening k - 1 pays, added, gives what is paid from there on
-pub paid_more : (n : ℕ) (f : ℕ → ℕ) (k paid next : ℕ) → 0 < k → k ≤ n → next ≡ paid + f (k - 1) → Paid n f k paid → Paid n f (k - 1) next
-unfolding sum
-paid_more n f k paid next z h e p =
-    let q : n - (k - 1) ≡ suc (n - k) = omega arith in
-    let s : suc (k - 1) ≡ k = omega arith in
-    let step : sum (k - 1) (n - (k - 1)) f ≡ f (k - 1) + sum k (n - k) f = ap (λ (c : ℕ). sum (k - 1) c f) q ∙ ap (λ (from : ℕ). f (k - 1) + sum from (n - k) f) s in
-    omega (arith, e, p, step)
-
--- back at the first opening, what is paid is the sum over all openings
-pub paid_all : (n : ℕ) (f : ℕ → ℕ) (k paid : ℕ) → k ≡ 0 → Paid n f k paid → paid ≡ sum 0 n f
-paid_all n f k paid z p = p ∙ (let w : n - k ≡ n = omega (arith, z) in λ i. sum (z i) (w i) f)
 
 -- ---- how much
 

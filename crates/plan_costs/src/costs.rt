@@ -1,31 +1,29 @@
 // The true cost of a plan: the fees of its stops plus the prices of its changes, and the removals.
-ghost use Rattle.std.specs.Prelude.{◌≡◌, map, ◌≤◌, take};
+ghost use Rattle.std.specs.Prelude.{◌≡◌, map, ◌≤◌, ◌<◌, take, get_or};
 ghost use Rattle.model.specs.Model.{sum_at, fee_of, prices_of_lem, cost_of_lem};
-ghost use Rattle.jobs.specs.Views.{job_of, part_of_lem, changes_for, plan_for};
+ghost use Rattle.jobs.specs.Views.{job_of, part_of_lem, blank_changes, changes_for, plan_for};
 ghost use Rattle.jobs.specs.Valid.{ValidPart, Sound};
-ghost use Rattle.model.specs.Limits.{most_openings};
+ghost use Rattle.model.specs.Limits.{most_openings, most_parts};
+ghost use Rattle.part_records.specs.Records.{record_at};
 
 use crate::removals::removals_paid;
-use crate::summing::{plus, sum_at};
+use crate::summing::{sum_at, sum_of};
 use jobs::{Job, Part, Plan};
 use model::OPENINGS;
-use part_records::part_of;
 
 // The fees of the stops.
 fn fees_of(job: Job, stops: [bool; OPENINGS]) -> u64
     requires { Sound job }
     ensures { result ≡ sum_at (map fee_of (job_of job).openings) (take job.opening_count stops) }
 {
-    let mut sum: u64 = 0;
-    let mut k = job.opening_count;
-    while 0 < k {
-        k -= 1;
-        if stops[k] {
-            let o = job.openings[k];
-            sum = plus(sum, o.fee);
-        }
-    }
-    sum
+    sum_of(
+        job.opening_count,
+        |k| if stops[k] {
+            u64::from(job.openings[k].fee)
+        } else {
+            0
+        },
+    )
 }
 
 // The prices of one part's changes, at the first n openings.
@@ -33,8 +31,7 @@ fn part_prices(n: usize, part: Part, changes: [bool; OPENINGS]) -> u64
     requires { (n ≤ most_openings) × ValidPart n (part_of_lem n part) }
     ensures { result ≡ sum_at (take n part.prices) (take n changes) }
 {
-    let prices = part.prices;
-    sum_at(n, &prices, &changes)
+    sum_at(n, &part.prices, &changes)
 }
 
 // The prices of every part's changes.
@@ -43,18 +40,13 @@ fn prices_of(job: Job, plan: Plan) -> u64
     ensures { result ≡ prices_of_lem (job_of job).parts (changes_for job plan.changes) }
 {
     let n = job.opening_count;
-    let m = job.part_count;
-    let parts = job.parts;
-    let mut sum: u64 = 0;
-    let mut k = m;
-    while 0 < k {
-        k -= 1;
-        let part = part_of(parts, m, k);
-        let changed = plan.changes[k];
-        let changes = changed.at;
-        sum += part_prices(n, part, changes);
-    }
-    sum
+    sum_of(
+        job.part_count,
+        |k|
+            requires { (k < most_parts) × (n ≤ most_openings) × ValidPart n (part_of_lem n (record_at job.parts k)) }
+            ensures { result ≡ sum_at (take n (record_at job.parts k).prices) (take n (get_or plan.changes k blank_changes).at) }
+        { part_prices(n, job.parts[k], plan.changes[k].at) },
+    )
 }
 
 // The cost of a plan: the fees of its stops plus the prices of its changes, and the removals.
@@ -62,8 +54,7 @@ pub fn cost_of(job: Job, plan: Plan) -> u64
     requires { Sound job }
     ensures { result ≡ cost_of_lem (job_of job) (plan_for job plan) }
 {
-    let stops = plan.stops;
-    let fees = fees_of(job, stops);
+    let fees = fees_of(job, plan.stops);
     let prices = prices_of(job, plan);
     let removals = removals_paid(job, plan);
     fees + prices + removals

@@ -1,16 +1,17 @@
 // The removals of a plan: "each removed part costs its removal once at that stop".
-ghost use Rattle.std.specs.Prelude.{◌≡◌, false, ◌≤◌, ◌<◌, length, get_or, take};
+ghost use Rattle.std.specs.Prelude.{◌≡◌, false, ℕ, map, ◌≤◌, ◌<◌, length, get_or, take};
 ghost use Rattle.model.specs.Limits.{most_openings, most_parts};
 ghost use Rattle.model.specs.Model as model;
-ghost use Rattle.model.specs.Model.{table, comes_out, removals_of_lem};
+ghost use Rattle.model.specs.Model.{table, comes_out, out_at, sum_at, removal_of_lem, removals_of_lem};
 ghost use Rattle.jobs.specs.Views.{job_of, changes_of, changes_for};
 ghost use Rattle.jobs.specs.Valid.{Sound};
 ghost use Rattle.coming_out.specs.Rows.{Row, Rows};
 ghost use Rattle.coming_out.specs.Places.{Removals};
-ghost use Rattle.plan_costs.specs.Dearest.{Cheap};
+ghost use Rattle.plan_costs.specs.Dearest.{Cheap, dearest_stop};
 ghost use Rattle.jobs.specs.Views.{blank_changes};
 
-use crate::summing::sum_at;
+use crate::summing::{sum_at, sum_of};
+use coming_out::fill::row_of;
 use coming_out::records::{holders_of, removals_of};
 use coming_out::{come_out, union};
 use jobs::{Changes, Job, Plan};
@@ -21,15 +22,25 @@ fn changed_at(changes: [Changes; PARTS], k: usize) -> [bool; PARTS]
     requires { k < most_openings }
     ensures { Row false (table (λ i. get_or (get_or changes i blank_changes).at k false) most_parts) result }
 {
-    let mut row = [false; PARTS];
-    let mut i: usize = 0;
-    while i < PARTS {
-        let changed = changes[i];
-        let at = changed.at;
-        row[i] = at[k];
-        i += 1;
-    }
-    row
+    row_of(PARTS, false, |i| changes[i].at[k])
+}
+
+// What is paid for removals at opening k, where m parts come out by these rows.
+fn paid_at(
+    outs: &[bool; PAIRS],
+    m: usize,
+    removals: [u32; PARTS],
+    changes: [Changes; PARTS],
+    k: usize,
+) -> u64
+    requires { (m ≤ most_parts) × (k < most_openings) × Cheap (take m removals) }
+    ensures little { result ≤ dearest_stop }
+    ensures paid { (n : ℕ) (job : model.Job) → k < n → length job.parts ≡ m → Rows m (comes_out job) outs.now → Removals job removals
+        → result ≡ sum_at (map removal_of_lem job.parts) (out_at job (changes_of n m changes) k) }
+{
+    let changed = changed_at(changes, k);
+    let out = union(outs, m, [false; PARTS], changed);
+    sum_at(m, &removals, &out)
 }
 
 // What is paid for removals at the first n openings, where m parts come out by these rows.
@@ -44,16 +55,15 @@ pub fn removals_at(
     ensures { (job : model.Job) → length job.parts ≡ m → length job.openings ≡ n → Rows m (comes_out job) outs.now → Removals job removals
         → result ≡ removals_of_lem job (changes_of n m plan.changes) }
 {
-    let changes = plan.changes;
-    let mut sum: u64 = 0;
-    let mut k = n;
-    while 0 < k {
-        k -= 1;
-        let changed = changed_at(changes, k);
-        let out = union(outs, m, [false; PARTS], changed);
-        sum += sum_at(m, &removals, &out);
-    }
-    sum
+    sum_of(
+        n,
+        |k|
+            requires { (m ≤ most_parts) × (k < most_openings) × Cheap (take m removals) }
+            ensures little { result ≤ dearest_stop }
+            ensures paid { (n : ℕ) (job : model.Job) → k < n → length job.parts ≡ m → Rows m (comes_out job) outs.entry.now → Removals job removals
+                → result ≡ sum_at (map removal_of_lem job.parts) (out_at job (changes_of n m plan.changes) k) }
+        { paid_at(outs, m, removals, plan.changes, k) },
+    )
 }
 
 // What a plan pays for removals. Where every part's removal is 0 that is nothing, whatever comes out.

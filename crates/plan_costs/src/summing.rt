@@ -1,15 +1,21 @@
-// The sum of the numbers at a set of places: fees, prices or removals.
-ghost use Rattle.std.specs.Prelude.{◌≡◌, ◌+◌, ◌≤◌, length, take};
-ghost use Rattle.model.specs.Model.{sum_at};
+// The sum of what is paid at each place: of fees, prices or removals.
+ghost use Rattle.std.specs.Prelude.{◌≡◌, ℕ, ◌≤◌, ◌<◌, length, take};
+ghost use Rattle.model.specs.Model.{sum, sum_at};
 ghost use Rattle.model.specs.Limits.{most_openings};
 ghost use Rattle.plan_costs.specs.Dearest.{dearest_sum, Cheap};
 
-// A fee, a price or a removal more.
-pub fn plus(sum: u64, price: u32) -> u64
-    requires { sum ≤ dearest_sum }
-    ensures { result ≡ price + sum }
+// The sum of what `value` says of each of the first n places.
+pub fn sum_of<F: Fn(usize) -> u64>(n: usize, value: F) -> u64
+    requires few { n ≤ most_openings }
+    requires asked { (k : ℕ) → k < n → F.pre value k }
+    requires small { (k x : ℕ) → k < n → F.post value k x → x ≤ dearest_sum }
+    ensures { (f : ℕ → ℕ) → ((k x : ℕ) → k < n → F.post value k x → x ≡ f k) → result ≡ sum 0 n f }
 {
-    sum + price as u64
+    let mut paid: u64 = 0;
+    for k in 0..n {
+        paid += value(k);
+    }
+    paid
 }
 
 // The numbers at a set of the first n places.
@@ -17,13 +23,5 @@ pub fn sum_at(n: usize, numbers: &[u32], marks: &[bool]) -> u64
     requires { (n ≤ most_openings) × (n ≤ length numbers.now) × (n ≤ length marks.now) × Cheap (take n numbers.now) }
     ensures { result ≡ sum_at (take n numbers.now) (take n marks.now) }
 {
-    let mut sum: u64 = 0;
-    let mut k = n;
-    while 0 < k {
-        k -= 1;
-        if marks[k] {
-            sum = plus(sum, numbers[k]);
-        }
-    }
-    sum
+    sum_of(n, |k| if marks[k] { u64::from(numbers[k]) } else { 0 })
 }

@@ -8,8 +8,11 @@ use native.Mathlib.Numerals.{add-one}
 use lib.ListN.{length, get_or, drop, drop_of_length-le}
 use lib.Seq.{drop-nil}
 use lib.IntN.{ℤ, pos}
+use Rattle.std.specs.Prelude.{Option, Some, None}
+use Rattle.std.specs.Option.{option_or}
 use Rattle.model.specs.Model.{Job, positions, within, due_of_lem, select}
 use Rattle.model.specs.Verdict.{Gaps, in_time_lem2, too_long, last_of}
+use Rattle.plan_lives.specs.Views.{model_gaps}
 use Rattle.plan_lives.specs.Steps.{gap_of, first_long_lem, gaps_to}
 
 -- ---- a set of openings, from opening i on
@@ -44,6 +47,11 @@ module _ {A : Type 0} where
 first_assoc : (a b c : Gaps) → first_long_lem a (first_long_lem b c) ≡ first_long_lem (first_long_lem a b) c
 first_assoc in_time_lem2 b c = refl
 first_assoc (too_long due) b c = refl
+
+-- the code's first due step of two is that of the first gap that is too long
+pub first_or : (a b : Option ℕ) → model_gaps (option_or a b) ≡ first_long_lem (model_gaps a) (model_gaps b)
+first_or None b = refl
+first_or (Some due) b = refl
 
 module _ (job : Job) (to life : ℤ) where
   gap_end : (prev : ℤ) → gaps_to job to life prev [] ≡ gap_of job life prev to

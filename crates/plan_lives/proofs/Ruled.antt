@@ -39,6 +39,10 @@ module _ (gaps : model.Part → List Bool → Gaps) (ps : List model.Part) (cs :
   pub ruled_more : (k : ℕ) (v w : Verdict) → k < length ps → w ≡ lower_part_lem v (ruled (k + 1) (gaps (get_or ps k no_part) (get_or cs k [])) keeps) → Ruled k v → Ruled (k + 1) w
   ruled_more k v w h e r = rw e (sym (lower_assoc v _ _) ∙ ap (lower_part_lem v) (sym (next k h)) ∙ r)
 
+  -- a part that is late so far is the lowest of all that are
+  pub ruled_late : (k part due : ℕ) → Ruled k (late part due) → late part due ≡ lowest_late gaps 1 ps cs
+  ruled_late k part due r = r
+
   -- after all parts, the verdict so far is the verdict on all of them
   pub ruled_all : (k : ℕ) (v : Verdict) → length ps ≤ k → Ruled k v → v ≡ lowest_late gaps 1 ps cs
   unfolding lowest_late

@@ -1,16 +1,14 @@
 -- The verdict on the lives in the model's terms.
+use Rattle.std.specs.Prelude.{ℕ, Option, Some, None, Result, Ok, Err}
 use Rattle.model.specs.Verdict as model
-use Rattle.plan_lives.specs.declared.lives.Gaps.{Gaps}
-use Rattle.plan_lives.specs.declared.lives.Gaps.TheVariants.{InTime, TooLong}
-use Rattle.plan_lives.specs.declared.lives.Verdict.{Verdict}
-use Rattle.plan_lives.specs.declared.lives.Verdict.TheVariants.{Keeps, Late}
+use Rattle.plan_lives.specs.declared.lives.Late.{Late}
 
--- one part's gaps
-abbrev pub model_gaps : Gaps → model.Gaps
-model_gaps InTime = model.in_time_lem2
-model_gaps (TooLong due) = model.too_long due
+-- one part's gaps: none is too long, or the due step at the first that is
+abbrev pub model_gaps : Option ℕ → model.Gaps
+model_gaps None = model.in_time_lem2
+model_gaps (Some due) = model.too_long due
 
--- the verdict on the lives
-abbrev pub model_verdict : Verdict → model.Verdict
-model_verdict Keeps = model.keeps
-model_verdict (Late part due) = model.late part due
+-- the verdict on the lives: every part is kept, or the lowest that is not
+abbrev pub model_verdict : Result (Unit {0}) Late → model.Verdict
+model_verdict (Ok done) = model.keeps
+model_verdict (Err late) = model.late late.part late.due

@@ -7,54 +7,36 @@ ghost use Rattle.jobs.specs.Views.{job_of, part_of_lem, plan_for};
 ghost use Rattle.jobs.specs.Valid.{ValidPart, Sound};
 ghost use Rattle.clock.specs.Placed.{Position, Begins, Placed};
 ghost use Rattle.plan_lives.specs.Views.{model_gaps, model_verdict};
-ghost use Rattle.plan_lives.specs.Steps.{GapGiven, gap_of, first_long_lem, lower_part_lem, late_to_lem, verdict_to_lem};
+ghost use Rattle.plan_lives.specs.Steps.{GapGiven, gap_of, late_to_lem, verdict_to_lem};
 
 use clock::{Positions, due_of, positions_of};
 use jobs::{Job, Part, Plan};
 use least::{in_reach, last_change};
 use model::OPENINGS;
-use part_records::part_of;
 
-// Every gap of a part's changes is within its life, or the due step at the first that is too long.
+// A part that is not kept, by its number, and the due step at its first gap that is too long.
 #[derive(Clone, Copy)]
-pub enum Gaps {
-    InTime,
-    TooLong(u32),
+pub struct Late {
+    pub part: u32,
+    pub due: u32,
 }
 
-// Every part is kept, or the lowest part that is not, and its due step.
-#[derive(Clone, Copy)]
-pub enum Verdict {
-    Keeps,
-    Late { part: u32, due: u32 },
-}
-
-// One gap, from the change before, at `prev`, to the next change or the end, at `next`.
-fn gap(job: Job, life: u32, prev: i32, next: i32) -> Gaps
+// One gap, from the change before, at `prev`, to the next change or the end, at `next`: its due step, if it is too long.
+fn gap(job: Job, life: u32, prev: i32, next: i32) -> Option<u32>
     requires { GapGiven job life prev next }
     ensures { model_gaps result ≡ gap_of (job_of job) (pos life) prev next }
 {
     if in_reach(life as i32, prev, next) {
-        Gaps::InTime
+        None
     } else {
-        Gaps::TooLong(due_of(job, life, prev))
+        Some(due_of(job, life, prev))
     }
 }
 
-// The first of two that is too long.
-fn first_long(a: Gaps, b: Gaps) -> Gaps
-    ensures { model_gaps result ≡ first_long_lem (model_gaps a) (model_gaps b) }
-{
-    match a {
-        Gaps::InTime => b,
-        Gaps::TooLong(due) => Gaps::TooLong(due),
-    }
-}
-
-// What a part's changes come to up to a position: the first gap that is too long, and the last change.
+// What a part's changes come to up to a position: the due step at the first gap that is too long, if one is, and the last change.
 #[derive(Clone, Copy)]
 pub struct Followed {
-    pub late: Gaps,
+    pub late: Option<u32>,
     pub last: i32,
 }
 
@@ -71,68 +53,46 @@ pub fn late_to(
         × (result.last ≡ last_of (last_change_lem (part_of_lem job.opening_count part)) (select (positions (job_of job)) (take job.opening_count changes)))
         × Begins part.life result.last }
 {
-    let n = job.opening_count;
     let life = part.life;
     let mut prev = last_change(life, part.left);
-    let mut late = Gaps::InTime;
-    let mut i: usize = 0;
-    while i < n {
+    let mut late = None;
+    for i in 0..job.opening_count {
         if changes[i] {
             let next = places.at[i];
-            late = first_long(late, gap(job, life, prev, next));
+            late = late.or(gap(job, life, prev, next));
             prev = next;
         }
-        i += 1;
     }
     Followed {
-        late: first_long(late, gap(job, life, prev, to)),
+        late: late.or(gap(job, life, prev, to)),
         last: prev,
     }
 }
 
-// Part number `part` where its gaps are not all in time.
-fn late_at(part: u32, gaps: Gaps) -> Verdict
-    ensures { model_verdict result ≡ ruled part (model_gaps gaps) model.keeps }
+// Whether part number `part` is kept, whose first gap that is too long, if one is, has this due step.
+fn kept(part: u32, late: Option<u32>) -> Result<(), Late>
+    ensures { model_verdict result ≡ ruled part (model_gaps late) model.keeps }
 {
-    match gaps {
-        Gaps::InTime => Verdict::Keeps,
-        Gaps::TooLong(due) => Verdict::Late { part, due },
+    match late {
+        None => Ok(()),
+        Some(due) => Err(Late { part, due }),
     }
 }
 
-// The lower part of two that is late.
-fn lower_part(a: Verdict, b: Verdict) -> Verdict
-    ensures { model_verdict result ≡ lower_part_lem (model_verdict a) (model_verdict b) }
-{
-    match a {
-        Verdict::Keeps => b,
-        Verdict::Late { part, due } => Verdict::Late { part, due },
-    }
-}
-
-// The lowest part that is late up to the position `to`, and its due step.
-pub fn verdict_to(job: Job, positions: Positions, plan: Plan, to: i32) -> Verdict
+// Whether every part is kept up to the position `to`; otherwise the lowest that is late, and its due step.
+pub fn verdict_to(job: Job, positions: Positions, plan: Plan, to: i32) -> Result<(), Late>
     requires { Sound job × Placed (job_of job) positions × Position to }
     ensures { model_verdict result ≡ verdict_to_lem (job_of job) to (plan_for job plan) }
 {
-    let m = job.part_count;
-    let parts = job.parts;
-    let mut lowest = Verdict::Keeps;
-    let mut k: usize = 0;
-    while k < m {
-        let part = part_of(parts, m, k);
-        let changed = plan.changes[k];
-        let changes = changed.at;
-        let followed = late_to(job, positions, part, changes, to);
-        let gaps = followed.late;
-        lowest = lower_part(lowest, late_at(k as u32 + 1, gaps));
-        k += 1;
+    for k in 0..job.part_count {
+        let followed = late_to(job, positions, job.parts[k], plan.changes[k].at, to);
+        kept(k as u32 + 1, followed.late)?;
     }
-    lowest
+    Ok(())
 }
 
-// The lowest part that is late, and its due step.
-pub fn verdict_of(job: Job, plan: Plan) -> Verdict
+// Whether every part is kept; otherwise the lowest that is late, and its due step.
+pub fn verdict_of(job: Job, plan: Plan) -> Result<(), Late>
     requires { Sound job }
     ensures { model_verdict result ≡ verdict_of_lem (job_of job) (plan_for job plan) }
 {

@@ -11,7 +11,7 @@ use Rattle.model.specs.Model as model
 use Rattle.jobs.specs.declared.Plan.{Plan}
 use Rattle.jobs.specs.Views.{plan_for}
 use Rattle.job_grammar.specs.Grammar.{Given}
-use Rattle.job_text.specs.declared.whole.JobText.{JobText}
+use Rattle.job_text.specs.declared.text.JobText.{JobText}
 use Rattle.job_text.specs.Views.{given_of, SoundText}
 use Rattle.plan_writing.proofs.Lengths.{plan_short}
 use Rattle.plan_printing.specs.Printed.{low_lines, printed_lines}

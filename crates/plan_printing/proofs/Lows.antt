@@ -16,7 +16,7 @@ use Rattle.plan_costs.proofs.Dearest.{cost_most}
 use Rattle.job_grammar.specs.Grammar.{Given}
 use Rattle.job_grammar.proofs.Optionals.{idle_steps_lem2}
 use Rattle.part_lines.specs.Grammar.{low_part_lem}
-use Rattle.job_text.specs.declared.whole.JobText.{JobText}
+use Rattle.job_text.specs.declared.text.JobText.{JobText}
 use Rattle.job_text.specs.Views.{text_of, given_of, SoundText}
 use Rattle.low_ends.specs.Lows.{LowJob}
 use Rattle.plan_printing.specs.Printed.{low_lines}

@@ -8,15 +8,18 @@ use borrow.Author.Tests.{eq-eqb, ne_eqb}
 use lib.Dec.{eqb}
 use lib.ListN.{length, get_or, take, set, replicate, length-replicate, get_or-replicate}
 use lib.Seq.{take-set-lt}
+use Rattle.std.specs.List.{list_any}
 use Rattle.model.specs.Model.{Job}
+use Rattle.model.specs.Model as model
 use Rattle.plan_grammar.specs.Grammar.{Visit, any, among, visited, changed, table, openings_at, plan_of}
 use Rattle.plan_grammar.specs.Rendering.{step_at}
 use Rattle.model.specs.Limits.{most_openings, most_parts}
 use Rattle.jobs.specs.declared.Job as code
+use Rattle.jobs.specs.declared.Opening.{Opening}
 use Rattle.jobs.specs.declared.Plan.{Plan}
-use Rattle.jobs.specs.Views.{job_of, Sized, changes_of, model_plan, empty_plan, plan_for, blank_changes}
+use Rattle.jobs.specs.Views.{opening_of, job_of, changes_of, model_plan, empty_plan, plan_for, blank_changes}
 use Rattle.jobs.proofs.Plans.{changes_at_lem}
-use Rattle.jobs.proofs.Jobs.{Whole, opening_count_lem2, part_count}
+use Rattle.jobs.proofs.Jobs.{Whole, sized, opening_count_lem2, part_count}
 use Rattle.plan_stops.specs.Marks.{with_step, with_parts, with_visit}
 use Rattle.jobs.specs.declared.Changes.{Changes}
 use Rattle.plan_grammar.proofs.Steps.{openings-table}
@@ -44,6 +47,12 @@ step_twice job step s = table_same _ _ n (λ i l. ap (λ (b : Bool). b || hit i)
 
     hit : ℕ → Bool
     hit i = eqb step (step_at job i)
+
+-- some opening of the struct is at a step where some opening of the model's job is
+pub any_opening : (step : ℕ) (os : List Opening) → list_any (λ (o : Opening). eqb o.step step) os ≡ any (λ (o : model.Opening). eqb o.step step) (map opening_of os)
+unfolding any
+any_opening step [] = refl
+any_opening step (o ∷ os) = ap (λ (b : Bool). eqb o.step step || b) (any_opening step os)
 
 -- ---- the changes
 
@@ -138,5 +147,5 @@ changes_more job n m step rows cs ks k next count l low high h e =
     ∙ part_more job step rows ks k low (omega arith)
 
 -- which the code's empty plan is
-pub empty_made : (job : code.Job) → Sized job → Whole job → (p : Plan) → ((n m : ℕ) → n ≤ most_openings → m ≤ most_parts → model_plan n m p ≡ empty_plan n m) → plan_for job p ≡ plan_of (job_of job) []
-empty_made job sized whole p e = e _ _ sized.openings sized.parts ∙ visit_none (job_of job) _ _ (opening_count_lem2 job sized whole) (part_count job sized whole)
+pub empty_made : (job : code.Job) → Whole job → (p : Plan) → ((n m : ℕ) → n ≤ most_openings → m ≤ most_parts → model_plan n m p ≡ empty_plan n m) → plan_for job p ≡ plan_of (job_of job) []
+empty_made job whole p e = e _ _ job.few_openings job.few_parts ∙ visit_none (job_of job) _ _ (opening_count_lem2 job (sized job) whole) (part_count job (sized job) whole)

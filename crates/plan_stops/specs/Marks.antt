@@ -1,20 +1,16 @@
 -- How a plan is built up while it is read, stop by stop.
-use Rattle.std.specs.Prelude.{ℕ, ◌+◌, ◌≡◌, List, [], Bool, false, cond, ◌||◌, length, get_or, eqb}
-use Rattle.lines.specs.Parser.{Parsed}
-use Rattle.lines.specs.Cursor.{Reads, ended}
-use Rattle.lines.specs.declared.rows.Cursor.{Cursor}
-use Rattle.lines.specs.declared.rows.End.TheVariants as end
+use Rattle.std.specs.Prelude.{ℕ, ◌+◌, ◌≡◌, List, [], Bool, false, cond, ◌||◌, length, get_or, eqb, Result, IfOk}
+use Rattle.lines.specs.Reads.{Reads, seen}
+use Rattle.lines.specs.declared.fault.Fault.{Fault}
+use Rattle.lines.specs.declared.rows.Lines.{Lines}
 use Rattle.model.specs.Model.{Plan}
 use Rattle.model.specs.Model as model
 use Rattle.jobs.specs.declared.Job.{Job}
 use Rattle.jobs.specs.Views.{job_of, changes_for, plan_for}
-use Rattle.plan_grammar.specs.Grammar.{Visit, among, table, plan_of}
+use Rattle.plan_grammar.specs.Grammar.{Visit, among, table, parts, visit, visits, plan_of}
 use Rattle.plan_grammar.specs.Rendering.{step_at}
 use Rattle.jobs.specs.declared.Changes.{Changes}
 use Rattle.jobs.specs.declared.Plan as code
-use Rattle.plan_stops.specs.declared.stops.ChangesRead.{ChangesRead}
-use Rattle.plan_stops.specs.declared.stops.VisitRead.{VisitRead}
-use Rattle.plan_stops.specs.declared.stops.VisitsRead.{VisitsRead}
 
 -- a set of openings, with those at a step
 unfoldable pub with_step : model.Job → ℕ → List Bool → List Bool
@@ -28,20 +24,21 @@ with_parts job step ks sets = table (λ k. cond (among ks (k + 1)) (with_step jo
 unfoldable pub with_visit : model.Job → Visit → Plan → Plan
 with_visit job v plan = record { stops = with_step job v.step plan.stops; changes = with_parts job v.step v.parts plan.changes }
 
--- the lines of a stop's parts were read, and the parts are marked
-pub record PartsRead (job : Job) (step : ℕ) (s : List ℕ) (cs : List Changes) (r : ChangesRead) (x : Parsed (List ℕ)) : Type 0 where
-  pub ks : List ℕ
-  pub reads : Reads s (ended r.end ks) x
-  pub marks : changes_for job r.changes ≡ with_parts (job_of job) step ks (changes_for job cs)
+module _ (job : Job) (b a : Lines) where
+  -- the lines of a stop's n parts were read, and where they have no fault the parts ks are marked
+  pub record PartsRead (n step : ℕ) (cs : List Changes) (r : Result (List Changes) Fault) : Type 0 where
+    pub ks : List ℕ
+    pub reads : Reads (parts job.part_count n) b a (seen (λ _. ks) r)
+    pub marks : IfOk r (λ ds. changes_for job ds ≡ with_parts (job_of job) step ks (changes_for job cs))
 
--- the lines of a stop were read, and it is marked if they have no fault
-pub record StopRead (job : Job) (s : List ℕ) (p : code.Plan) (r : VisitRead) (x : Parsed Visit) : Type 0 where
-  pub v : Visit
-  pub reads : Reads s (ended r.end v) x
-  pub marks : (q : Cursor) → r.end ≡ end.At q → (r.step ≡ v.step) × (plan_for job r.plan ≡ with_visit (job_of job) v (plan_for job p))
+  -- the lines of a stop after the step before were read, and where they have no fault it is marked
+  pub record StopRead (before : ℕ) (p : code.Plan) (r : Result (ℕ × code.Plan) Fault) : Type 0 where
+    pub v : Visit
+    pub reads : Reads (visit (job_of job) before) b a (seen (λ _. v) r)
+    pub marks : IfOk r (λ q. (q.0 ≡ v.step) × (plan_for job q.1 ≡ with_visit (job_of job) v (plan_for job p)))
 
--- the lines of stops were read, and make the plan
-pub record StopsRead (job : Job) (s : List ℕ) (r : VisitsRead) (x : Parsed (List Visit)) : Type 0 where
-  pub vs : List Visit
-  pub reads : Reads s (ended r.end vs) x
-  pub makes : plan_for job r.plan ≡ plan_of (job_of job) vs
+  -- the lines of n stops were read, and where they have no fault they make the plan
+  pub record StopsRead (n : ℕ) (r : Result code.Plan Fault) : Type 0 where
+    pub vs : List Visit
+    pub reads : Reads (visits (job_of job) n) b a (seen (λ _. vs) r)
+    pub makes : IfOk r (λ p. plan_for job p ≡ plan_of (job_of job) vs)

@@ -4,22 +4,17 @@
 use planner_program::plan_input;
 use std::fs;
 use std::rt::Files;
-use std::str::from_utf8;
 
 // The planner's program with a file as its input.
-fn plan_file<R: Files + Print + Eprint + AllocGlobal>(rt: &R, path: &[u8]) {
-    let input = match from_utf8(path) {
-        Ok(name) => fs::open(rt, name).ok(),
-        Err(_) => None,
-    };
-    plan_input(rt, input);
+fn plan_file<R: Files + Print + Eprint + AllocGlobal>(rt: &R, path: &str) {
+    plan_input(rt, fs::open(rt, path).ok());
 }
 
 fn main(rt: HostRuntime) {
     // Number 2 on line 1, which is missing.
-    plan_file(&rt, b"empty.txt");
+    plan_file(&rt, "empty.txt");
     // A job of 24 lines with bytes after the last: number 2 on line 25.
-    plan_file(&rt, b"bytes_40960.txt");
+    plan_file(&rt, "bytes_40960.txt");
     // The same and one byte more: number 1.
-    plan_file(&rt, b"bytes_40961.txt");
+    plan_file(&rt, "bytes_40961.txt");
 }

@@ -6,7 +6,7 @@ use Rattle.lines.specs.Text.{bytes}
 use Rattle.lines.proofs.Writing.{line_most}
 use Rattle.jobs.specs.declared.Plan.{Plan}
 use Rattle.jobs.specs.Views.{plan_for}
-use Rattle.job_text.specs.declared.whole.JobText.{JobText}
+use Rattle.job_text.specs.declared.text.JobText.{JobText}
 use Rattle.job_text.specs.Views.{given_of, SoundText}
 use Rattle.plan_printing.proofs.Lengths.{printed_short}
 use Rattle.planning.specs.Plan.{search_lines, planned_lines, planner_lines, plan_room}

@@ -2,7 +2,7 @@
 #![tactic(auto)]
 
 ghost use Rattle.std.specs.Prelude.{◌≡◌, ℕ, ◌≤◌, length};
-ghost use Rattle.lines.specs.Wrote.{Wrote};
+ghost use Rattle.line_writing.specs.Puts.{Puts, Room};
 ghost use Rattle.model.specs.Limits.{most_walk};
 ghost use Rattle.model.specs.Model as model;
 ghost use Rattle.model.specs.Promise.{result_of, answer_of};
@@ -17,10 +17,10 @@ ghost use Rattle.planning.specs.Promise.{PlanPromise};
 use answers::{Answer, put_three, refuse};
 use branch::Bound;
 use job_search::search_job;
-use job_text::whole::{JobText, read_job};
+use job_text::text::JobText;
+use job_text::whole::read_job;
 use jobs::{Job, Plan};
-use line_writing::write::put_line;
-use lines::rows::WholeText;
+use line_writing::output::Out;
 use plan_printing::put_printed;
 use search::Found;
 
@@ -45,22 +45,14 @@ fn finding_of(found: Found) -> Finding
     ensures { (n m : ℕ) → answer_in (plan_found n m found) result ≡ said_in n m found }
 {
     let nodes = found.count;
-    let cost = found.cost;
-    let bound = found.floor;
-    match bound {
-        Bound::Missing => Finding::NoPlan,
-        Bound::Sum(floor) => {
-            if found.over {
-                if found.found {
-                    return Finding::Cut { nodes, floor, cost };
-                }
-                return Finding::CutBare { nodes, floor };
-            }
-            if found.found {
-                return Finding::Optimum { nodes, floor, cost };
-            }
-            Finding::NoPlan
-        }
+    let Bound::Sum(floor) = found.floor else {
+        return Finding::NoPlan;
+    };
+    match found.cost {
+        Some(cost) if found.over => Finding::Cut { nodes, floor, cost },
+        Some(cost) => Finding::Optimum { nodes, floor, cost },
+        None if found.over => Finding::CutBare { nodes, floor },
+        None => Finding::NoPlan,
     }
 }
 
@@ -78,29 +70,29 @@ fn number_of(f: Finding) -> u32
 
 // The lines of a search and of its plan.
 fn put_planned(
-    out: &mut [u8],
+    out: &mut Out,
     number: u32,
     nodes: u64,
     floor: u64,
     text: JobText,
     cost: u64,
     plan: Plan,
-) -> usize
+)
     requires printable { Printable nodes × Printable floor × Printable cost }
-    requires sound_text { SoundText text × (plan_room ≤ length out.old) }
-    ensures { Wrote out.old 0 (planned_lines number nodes floor (given_of text) cost (plan_for text.job plan)) out.new result }
+    requires sound_text { SoundText text × Room out.old (planned_lines number nodes floor (given_of text) cost (plan_for text.job plan)) }
+    ensures { Puts out.old (planned_lines number nodes floor (given_of text) cost (plan_for text.job plan)) out.new }
 {
-    let a = put_three(out, number, b"nodes=", nodes, b"floor=", floor);
-    put_printed(out, a, text, cost, plan)
+    put_three(out, number, b"nodes=", nodes, b"floor=", floor);
+    put_printed(out, text, cost, plan);
 }
 
 // The lines of a finding and of its plan.
-fn put_finding(out: &mut [u8], f: Finding, text: JobText, plan: Plan) -> usize
-    requires { Fits f × SoundText text × (plan_room ≤ length out.old) }
-    ensures { Wrote out.old 0 (planner_lines (given_of text) (answer_in (plan_for text.job plan) f)) out.new result }
+fn put_finding(out: &mut Out, f: Finding, text: JobText, plan: Plan)
+    requires { Fits f × SoundText text × Room out.old (planner_lines (given_of text) (answer_in (plan_for text.job plan) f)) }
+    ensures { Puts out.old (planner_lines (given_of text) (answer_in (plan_for text.job plan) f)) out.new }
 {
     match f {
-        Finding::NoPlan => put_line(out, 0, b"result=", 6),
+        Finding::NoPlan => out.put_line(b"result=", 6),
         Finding::Optimum { nodes, floor, cost } => {
             put_planned(out, 0, nodes, floor, text, cost, plan)
         }
@@ -117,15 +109,16 @@ fn answer(f: Finding, text: JobText, plan: Plan, out: &mut [u8]) -> Answer
     if out.len() < ROOM {
         return Answer::no_room();
     }
-    let n = put_finding(out, f, text, plan);
-    Answer::plain(number_of(f), n)
+    let mut lines = Out { bytes: out, at: 0 };
+    put_finding(&mut lines, f, text, plan);
+    Answer::plain(number_of(f), lines.at)
 }
 
 // The walk number of a call: above the limit it counts as the limit.
 fn walk_number(walk: u64) -> u32
     ensures { result ≡ walk_number_lem walk }
 {
-    if (Job::MAX_WALK as u64) < walk {
+    if u64::from(Job::MAX_WALK) < walk {
         return Job::MAX_WALK;
     }
     walk as u32
@@ -136,11 +129,9 @@ fn plan_job(text: JobText, walk: u32, out: &mut [u8]) -> Answer
     requires { SoundText text × (walk ≤ most_walk) }
     ensures { Replied plan_room (said_for (given_of text) (answer_of (job_of text.job) walk)) out.old out.new result }
 {
-    let job = text.job;
-    let found = search_job(job, walk);
-    let stops = found.stops;
-    let changes = found.changes;
-    answer(finding_of(found), text, Plan { stops, changes }, out)
+    let found = search_job(text.job, walk);
+    let plan = found.plan;
+    answer(finding_of(found), text, plan, out)
 }
 
 // The plan of a job text, walked up to the walk number of the call: every number that is handed over and every byte of the output are the defined ones (`Replied`). The answer is 6 exactly if
@@ -150,13 +141,8 @@ pub fn plan(job: &[u8], walk: u64, out: &mut [u8]) -> Answer
     ensures replied { Replied plan_room (plan_said job.now walk) out.old out.new result }
     ensures plan_promise { PlanPromise job.now walk (length out.old) (lent plan_room (length out.old) (plan_said job.now walk)) }
 {
-    let read = read_job(job);
-    let verdict = read.verdict;
-    match verdict {
-        WholeText::Fault { number, line } => refuse(job, 1, number, line, ROOM, out),
-        WholeText::Good => {
-            let accepted = read.text;
-            plan_job(accepted, walk_number(walk), out)
-        }
+    match read_job(job) {
+        Ok(text) => plan_job(text, walk_number(walk), out),
+        Err(fault) => refuse(job, 1, fault.kind.number(), fault.line, ROOM, out),
     }
 }

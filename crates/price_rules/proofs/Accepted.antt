@@ -1,8 +1,9 @@
 -- Accepted lines of a part's prices are the rendering of what they say, and that is valid (`rule_tells`, `prices_tells`). By the grammar's lines, one after the other.
+use Rattle.std.specs.Prelude.{Option, Some, None}
 use Prim.Native.Nat.{ℕ, ◌≤◌}
 use mathlib.Core.Path.{◌≡◌, refl, sym, ap, ◌∙◌, subst}
 use mathlib.Core.List.{List, ◌++◌, append_assoc}
-use Rattle.lines.specs.Text.{bytes, line_of, texts, Optional, missing, present, optional_text}
+use Rattle.lines.specs.Text.{bytes, line_of, texts, optional_text}
 use Rattle.lines.specs.Parser.{good, return, row, optional, if_present, times}
 use Rattle.lines.proofs.Sound.{bind_inv, Optionally, optional_inv, row_sound, chain_sound, row_gives, chain_gives, Told, Tells}
 use Rattle.quotes.specs.Grammar.{quote}
@@ -39,14 +40,14 @@ rule_tells s s' l l' o e =
     let b = bind_inv (optional "base=" 1 1000000) _ s s' l l' o e in
     go b.a b.mid b.at (optional_inv _ 1 1000000 s b.mid l b.at b.a b.first) b.second
   where
-    go : (b : Optional ℕ) (mid : List ℕ) (at : ℕ) → Optionally (bytes "base=") 1 1000000 s mid l at b → if_present after_base b mid at ≡ good o s' l' → Told ValidLines (optional_text rule_text) s s' o
-    go missing mid at none e =
-        let x : missing ≡ o = cc in
+    go : (b : Option ℕ) (mid : List ℕ) (at : ℕ) → Optionally (bytes "base=") 1 1000000 s mid l at b → if_present after_base b mid at ≡ good o s' l' → Told ValidLines (optional_text rule_text) s s' o
+    go None mid at none e =
+        let x : None ≡ o = cc in
         let y : mid ≡ s' = cc in
         subst (Told ValidLines (optional_text rule_text) s s') x (record { known = tt; text = none ∙ y })
-    go (present b) mid at some e =
+    go (Some b) mid at some e =
         let d = bind_inv (after_base b) _ mid s' at l' o e in
-        let x : present d.a ≡ o = cc d.second in
+        let x : Some d.a ≡ o = cc d.second in
         let y : d.mid ≡ s' = cc d.second in
         let t = after_base_tells b mid d.mid at d.at d.a d.first in
         let same : b ≡ d.a.base = sym t.known.0 in
@@ -65,8 +66,8 @@ prices_tells n s s' l l' p e =
     let b = bind_inv rule _ s s' l l' p e in
     go b.a b.mid b.at (rule_tells s b.mid l b.at b.a b.first) b.second
   where
-    go : (o : Optional Rule) (mid : List ℕ) (at : ℕ) → Told ValidLines (optional_text rule_text) s mid o → unless_ruled n o mid at ≡ good p s' l' → Told (ValidPrices n) prices_text s s' p
-    go missing mid at none e =
+    go : (o : Option Rule) (mid : List ℕ) (at : ℕ) → Told ValidLines (optional_text rule_text) s mid o → unless_ruled n o mid at ≡ good p s' l' → Told (ValidPrices n) prices_text s s' p
+    go None mid at none e =
         let d = bind_inv (times n quote) _ mid s' at l' p e in
         let x : by_list d.a ≡ p = cc d.second in
         let y : d.mid ≡ s' = cc d.second in
@@ -75,7 +76,7 @@ prices_tells n s s' l l' p e =
           known = (g.0, chained_each ValidQuote 0 d.a g.1);
           text = none.text ∙ chain_sound (λ _. quote) (λ _ _. 0) quote_text (λ _ s s' l l' q e. (quote_tells s s' l l' q e).text) n 0 mid d.mid at d.at d.a d.first ∙ ap (λ (u : List ℕ). texts quote_text d.a ++ u) y;
         })
-    go (present r) mid at some e =
+    go (Some r) mid at some e =
         let x : by_rule_lem r ≡ p = cc in
         let y : mid ≡ s' = cc in
         subst (Told (ValidPrices n) prices_text s s') x (record { known = some.known; text = some.text ∙ ap (λ (u : List ℕ). rule_text r ++ u) y })

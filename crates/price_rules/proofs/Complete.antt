@@ -1,11 +1,12 @@
 -- Valid prices, written, are read back as exactly what they say (`rule_complete`, `prices_complete`); a list of prices begins with no rule (`list_next`). By the grammar's lines, one after the other.
+use Rattle.std.specs.Prelude.{Option, Some, None}
 use Prim.Native.Nat.{ℕ}
 use mathlib.Core.Path.{◌≡◌, refl, sym, ap, ◌∙◌}
 use mathlib.Core.List.{List, [], ◌∷◌, ◌++◌, append_assoc}
 use mathlib.Core.Bool.{false}
 use native.Mathlib.Omega.{arith}
 use Rattle.lines.specs.Line.{starts_with}
-use Rattle.lines.specs.Text.{bytes, line, line_of, texts, Optional, missing, present, optional_text}
+use Rattle.lines.specs.Text.{bytes, line, line_of, texts, optional_text}
 use Rattle.lines.specs.Parser.{good, return, row, optional, if_present, times}
 use Rattle.lines.proofs.Parsing.{bind_good, optional_missing}
 use Rattle.lines.proofs.Complete.{row_complete, optional_present, chain_complete}
@@ -20,10 +21,10 @@ use Rattle.price_rules.specs.Valid.{ValidLines, ValidPrices}
 use Rattle.jobs.proofs.Lists.{each_chained}
 
 -- what follows them does not begin with their key
-pub rule_complete : (o : Optional Rule) → ValidLines o → (s : List ℕ) (l : ℕ) → starts_with (bytes "base=") s ≡ false → (l' : ℕ) × (rule (optional_text rule_text o ++ s) l ≡ good o s l')
+pub rule_complete : (o : Option Rule) → ValidLines o → (s : List ℕ) (l : ℕ) → starts_with (bytes "base=") s ≡ false → (l' : ℕ) × (rule (optional_text rule_text o ++ s) l ≡ good o s l')
 unfolding rule after_base if_present return rule_text
-rule_complete missing v s l e = (l, bind_good (optional "base=" 1 1000000) _ (optional_missing _ 1 1000000 s l e))
-rule_complete (present r) v s l e =
+rule_complete None v s l e = (l, bind_good (optional "base=" 1 1000000) _ (optional_missing _ 1 1000000 s l e))
+rule_complete (Some r) v s l e =
     let d = line_of "drop=" r.drop in
     let m = line_of "least=" r.least in
     let a = optional_present (bytes "base=") 1 1000000 (omega arith) r.base (v.base_low, v.base_high) (d ++ (m ++ s)) l in
@@ -46,7 +47,7 @@ pub prices_complete : (n : ℕ) (p : Prices) → ValidPrices n p → (s : List �
 unfolding prices unless_ruled times return
 prices_complete n (by_list qs) v s l e =
     let ts = texts quote_text qs in
-    let a = rule_complete missing tt (ts ++ s) l (list_next qs s e) in
+    let a = rule_complete None tt (ts ++ s) l (list_next qs s e) in
     let c = chain_complete (λ _. quote) (λ _ _. 0) quote_text (λ _. ValidQuote) (λ _. quote_complete) 0 qs (each_chained ValidQuote 0 qs v.1) s a.0 in
     (c.0, bind_good rule _ a.1 ∙ bind_good (times n quote) _ (ap (λ (m : ℕ). times m quote (ts ++ s) a.0) (sym v.0) ∙ c.1))
-prices_complete n (by_rule_lem r) v s l e = let a = rule_complete (present r) v s l e in (a.0, bind_good rule _ a.1)
+prices_complete n (by_rule_lem r) v s l e = let a = rule_complete (Some r) v s l e in (a.0, bind_good rule _ a.1)

@@ -41,7 +41,13 @@ rule_valid r k v = (omega (arith, v), omega (arith, v))
 pub base_next : (base drop k : ℕ) → base - k * drop - drop ≡ base - (k + 1) * drop
 base_next base drop k = omega (arith, suc-mul k drop, ap (λ (i : ℕ). i * drop) (add-one k))
 
-rule_length : (r : Rule) (n : ℕ) → length (rule_prices_lem r n) ≡ n
+-- the prices at one opening more
+pub rule_more : (r : Rule) (k v : ℕ) (ps : List ℕ) → ps ≡ rule_prices_lem r k → v ≡ rule_price r k → ps ++ v ∷ [] ≡ rule_prices_lem r (k + 1)
+unfolding joined
+rule_more r k v ps e f = rw (add-one, e, f) refl
+
+-- as many prices as openings
+pub rule_length : (r : Rule) (n : ℕ) → length (rule_prices_lem r n) ≡ n
 unfolding joined
 rule_length r zero = refl
 rule_length r (suc n) = rw length-append (omega (arith, rule_length r n))

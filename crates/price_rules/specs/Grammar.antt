@@ -1,6 +1,5 @@
 -- A part's prices: quoted one by one, or by a rule. E8.1. "In place of its `price` lines a part may have `base` 1..1000000, `drop` 0..1000000 and `least` 1..1000000."
-use Rattle.std.specs.Prelude.{ℕ, Bool, false, List, map}
-use Rattle.lines.specs.Text.{Optional, missing, present}
+use Rattle.std.specs.Prelude.{ℕ, Bool, false, List, map, Option, Some, None}
 use Rattle.lines.specs.Parser.{Parser, ◌>>=◌, return, row, optional, if_present, times}
 use Rattle.model.specs.Limits.{dearest}
 use Rattle.quotes.specs.Grammar.{Quote, single, high_end, low_end, any_pair, quote}
@@ -14,7 +13,7 @@ after_base b = do
   return (record { base = b; drop = d; least = m })
 
 -- a rule's lines, which may be missing: they are told by the key of the first
-unfoldable pub rule : Parser (Optional Rule)
+unfoldable pub rule : Parser (Option Rule)
 rule = do
   b ← optional "base=" 1 dearest
   if_present after_base b
@@ -25,11 +24,11 @@ pub data Prices : Type 0 where
   by_rule_lem : Rule → Prices
 
 -- a rule in place of the prices, and where there is none a price, single or a pair, for each of n openings
-unfoldable pub unless_ruled : ℕ → Optional Rule → Parser Prices
-unless_ruled n missing = do
+unfoldable pub unless_ruled : ℕ → Option Rule → Parser Prices
+unless_ruled n None = do
   qs ← times n quote
   return (by_list qs)
-unless_ruled n (present r) = return (by_rule_lem r)
+unless_ruled n (Some r) = return (by_rule_lem r)
 
 -- the lines of a part's prices, with n openings
 unfoldable pub prices : ℕ → Parser Prices

@@ -1,6 +1,5 @@
 -- What is known of a part's accepted prices.
-use Rattle.std.specs.Prelude.{ℕ, ◌≤◌, ◌≡◌, length}
-use Rattle.lines.specs.Text.{Optional, missing, present}
+use Rattle.std.specs.Prelude.{ℕ, ◌≤◌, ◌≡◌, length, Option, Some, None}
 use Rattle.model.specs.Limits.{dearest}
 use Rattle.jobs.specs.Valid.{All}
 use Rattle.quotes.specs.Valid.{ValidQuote}
@@ -16,9 +15,9 @@ pub record ValidRule (r : Rule) : Type 0 where
   pub least_high : r.least ≤ dearest
 
 -- where its lines stand
-abbrev pub ValidLines : Optional Rule → Type 0
-ValidLines missing = Unit {0}
-ValidLines (present r) = ValidRule r
+abbrev pub ValidLines : Option Rule → Type 0
+ValidLines None = Unit {0}
+ValidLines (Some r) = ValidRule r
 
 -- the prices of a part with n openings: one for each, or a rule, which counts none
 abbrev pub ValidPrices : ℕ → Prices → Type 0

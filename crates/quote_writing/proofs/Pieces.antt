@@ -1,16 +1,17 @@
 -- The lines of a price by whether it is a pair (`quote_single`, `quote_pair`). By the test.
 use Prim.Native.Nat.{ℕ}
 use mathlib.Core.Path.{◌≡◌, refl}
-use mathlib.Core.Bool.{Bool, true, false}
+use mathlib.Core.Bool.{Bool, true, false, cond}
 use mathlib.Core.List.{◌++◌}
+use Rattle.std.specs.Prelude.{Option, Some, None}
 use Rattle.lines.specs.Text.{line_of}
 use Rattle.quotes.specs.Rendering.{quote_text}
 use Rattle.quotes.specs.Views.{quote_of}
 
-pub quote_single : (b : Bool) (l h : ℕ) → b ≡ false → quote_text (quote_of b l h) ≡ line_of "price=" h
+pub quote_single : (o : Option ℕ) (h : ℕ) → o ≡ None → quote_text (quote_of o h) ≡ line_of "price=" h
 unfolding quote_text quote_of
-quote_single b l h e = rw e refl
+quote_single o h e = rw e refl
 
-pub quote_pair : (b : Bool) (l h : ℕ) → b ≡ true → quote_text (quote_of b l h) ≡ line_of "low=" l ++ line_of "high=" h
+pub quote_pair : (o : Option ℕ) (l h : ℕ) → o ≡ Some l → quote_text (quote_of o h) ≡ line_of "low=" l ++ line_of "high=" h
 unfolding quote_text quote_of
-quote_pair b l h e = rw e refl
+quote_pair o l h e = rw e refl

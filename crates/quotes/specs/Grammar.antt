@@ -1,6 +1,5 @@
 -- E11. "Each price may be a pair `low` and `high`, both 1..1000000; a single price is a band with equal ends."
-use Rattle.std.specs.Prelude.{ℕ, Bool, true, false, ◌||◌, List, [], ◌∷◌, leb}
-use Rattle.lines.specs.Text.{Optional, missing, present}
+use Rattle.std.specs.Prelude.{ℕ, Bool, true, false, ◌||◌, List, [], ◌∷◌, leb, Option, Some, None}
 use Rattle.lines.specs.Parser.{Parser, ◌>>=◌, return, row, optional, checked}
 use Rattle.model.specs.Limits.{dearest}
 
@@ -34,11 +33,11 @@ abbrev pub at_least : ℕ → ℕ → Bool
 at_least l h = leb l h
 
 -- "Errors: 13 for low above high, on the `high` line after 3."
-unfoldable pub unless_low : Optional ℕ → Parser Quote
-unless_low missing = do
+unfoldable pub unless_low : Option ℕ → Parser Quote
+unless_low None = do
   p ← row "price=" 1 dearest
   return (single p)
-unless_low (present l) = do
+unless_low (Some l) = do
   h ← checked 13 (at_least l) (row "high=" 1 dearest)
   return (pair l h)
 

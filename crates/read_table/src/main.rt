@@ -6,7 +6,7 @@ ghost use Rattle.std.specs.Prelude.{◌≤◌, length};
 
 use fault_lines::fault::fault_line;
 use job_text::whole::read_job;
-use lines::rows::WholeText;
+use lines::fault::Fault;
 use plan_text::whole::read_plan;
 use std::io;
 use std::io::Read;
@@ -18,12 +18,13 @@ fn write(rt: &impl Print, bytes: &[u8]) {
 }
 
 // Writes a fault's lines, and the line at fault.
-fn report(rt: &impl Print, text: &[u8], which: u32, number: u32, line: usize) {
+fn report(rt: &impl Print, text: &[u8], which: u32, fault: Fault) {
+    let line = fault.line;
     if 4294967295 < line {
         return;
     }
     let mut out = [0u8; 16384];
-    let a = answers::refuse(text, which, number, line, 16384, &mut out);
+    let a = answers::refuse(text, which, fault.kind.number(), line, 16384, &mut out);
     let m = a.length;
     write(rt, &out[..m]);
     write(rt, fault_line(text, line));
@@ -32,20 +33,12 @@ fn report(rt: &impl Print, text: &[u8], which: u32, number: u32, line: usize) {
 
 // The first fault of a pair, the job text before the plan text.
 fn judge_pair(rt: &impl Print, job: &[u8], plan: &[u8]) {
-    let read = read_job(job);
-    let verdict = read.verdict;
-    match verdict {
-        WholeText::Fault { number, line } => report(rt, job, 1, number, line),
-        WholeText::Good => {
-            let stated = read_plan(plan, read.text.job);
-            let verdict = stated.verdict;
-            match verdict {
-                WholeText::Fault { number, line } => report(rt, plan, 2, number, line),
-                WholeText::Good => {
-                    write(rt, b"accepted\n");
-                }
-            }
-        }
+    match read_job(job) {
+        Err(fault) => report(rt, job, 1, fault),
+        Ok(text) => match read_plan(plan, text.job) {
+            Err(fault) => report(rt, plan, 2, fault),
+            Ok(_) => write(rt, b"accepted\n"),
+        },
     }
 }
 
@@ -65,6 +58,7 @@ fn pair_at(rt: &impl Print, buf: &[u8], at: usize) -> usize
 }
 
 // Every pair of the table.
+// Kept as a `while`: a pair's texts are as long as it tells, so the place rises by varying steps.
 fn table(rt: &impl Print, buf: &[u8]) {
     let mut at = 0;
     while at < buf.len() {

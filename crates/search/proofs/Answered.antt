@@ -7,6 +7,7 @@ use native.Mathlib.Omega.{arith}
 use lib.ListN.{length, get_or, take, replicate, length-map, get_or-map}
 use lib.Seq.{take_at, get_or-take, length-take-le, ext_get_or}
 use lib.IntN.{ℤ, pos}
+use Rattle.std.specs.Prelude.{Option, None, Some}
 use Rattle.branch.specs.declared.Bound.{Bound}
 use Rattle.branch.specs.declared.Bound.TheVariants.{Missing, Sum}
 use Rattle.branch.specs.Search.{none, plan, at_most}
@@ -23,7 +24,7 @@ use Rattle.jobs.specs.declared.Changes.{Changes}
 use Rattle.search.specs.declared.Found.{Found}
 use Rattle.search_tables.specs.Arrays.{lane_part, sheet_of, JobArrays}
 use Rattle.search.specs.Plan.{choice_at, no_row, Chooses}
-use Rattle.search.specs.Found.{stops_in, row_in, changes_in, limited_in, Finds, plan_found, said_by, said_at, said_in}
+use Rattle.search.specs.Found.{found_by_lem, stops_in, row_in, changes_in, incumbent_with, limited_in, Finds, plan_found, said_by, said_at, said_in}
 use Rattle.search_tables.proofs.Sheets.{sheet_bound_lem}
 use Rattle.walk.specs.State.{bits, Solves}
 use Rattle.walk.proofs.Nodes.{bits-length}
@@ -55,8 +56,12 @@ stops-length n mask stops f = ap length (stops_are n mask stops f) ∙ bits-leng
 
 -- what is handed over: the solved search's numbers with the stops and the rows of changes
 abbrev pub handed : Solved → List Bool → List Changes → Found
-handed s stops rows =
-    record { count = s.count; over = s.over; found = s.found; cost = s.cost; floor = s.floor; stops = stops; changes = rows }
+handed s stops rows = found_by_lem s (record { stops = stops; changes = rows })
+
+-- the incumbent of a solved search, by whether one was found
+found_is : (name : List Bool) (c : ℕ) (t : Bool) → incumbent_with name (cond t (Some c) None) ≡ cond t (plan c name) none
+found_is name c true = refl
+found_is name c false = refl
 
 module _ (job : Job) (e : ℤ) (ss : List ℤ) (fs ls rs ps : List ℕ) (h : JobArrays job e ss fs ls rs ps) (limit : ℕ) (s : Solved) (g : Solves (sheet_of e ss fs ls rs ps) limit s)
     (stops : List Bool) (f : stops ≡ bits (length ss) s.mask ++ replicate (64 - length ss) false) (rows : List Changes) (c : Chooses e ss ls rs ps (take (length ss) stops) rows (length ls)) where
@@ -65,7 +70,7 @@ module _ (job : Job) (e : ℤ) (ss : List ℤ) (fs ls rs ps : List ℕ) (h : Job
 
   walked : limited_in (length ss) (handed s stops rows) ≡ at_most limit (tree_of (plain_bound job) (length ss) [])
   walked =
-      (λ i. record { count = s.count; over = s.over; incumbent = cond s.found (plan s.cost (stops_are (length ss) s.mask stops f i)) none })
+      (λ i. record { count = s.count; over = s.over; incumbent = found_is (stops_are (length ss) s.mask stops f i) s.cost s.found i })
       ∙ g.walked
       ∙ (λ i. at_most limit (tree_of (λ p. sheet_bound_lem job e ss fs ls rs ps h p i) (length ss) []))
 
@@ -114,15 +119,15 @@ module _ (job : Job) (limit : ℕ) (r : Found) (a : Finds job limit r) where
   plan_is : plan_found (length job.openings) (length job.parts) r ≡ plain_plan job (stops_in (length job.openings) r)
   plan_is = λ i. record { stops = stops_in (length job.openings) r; changes = a.changes i }
 
-  by : (floor : ℕ) (o t : Bool) → said_by (length job.openings) (length job.parts) floor r o t ≡ answered (plain_plan job) floor r.count o (cond t (plan r.cost (stops_in (length job.openings) r)) none)
-  by floor true false = refl
-  by floor true true = ap (cut r.count floor r.cost) plan_is
-  by floor false false = refl
-  by floor false true = ap (optimum r.count floor r.cost) plan_is
+  by : (floor : ℕ) (o : Bool) (t : Option ℕ) → said_by (length job.openings) (length job.parts) floor r o t ≡ answered (plain_plan job) floor r.count o (incumbent_with (stops_in (length job.openings) r) t)
+  by floor true None = refl
+  by floor true (Some c) = ap (cut r.count floor c) plan_is
+  by floor false None = refl
+  by floor false (Some c) = ap (optimum r.count floor c) plan_is
 
   at : (b : Bound) → said_at (length job.openings) (length job.parts) r b ≡ answered_at (plain_plan job) b (limited_in (length job.openings) r)
   at Missing = refl
-  at (Sum floor) = by floor r.over r.found
+  at (Sum floor) = by floor r.over r.cost
 
   -- what is found says the planner's answer for the walk over the openings alone
   pub said : said_in (length job.openings) (length job.parts) r ≡ plain_answer job limit

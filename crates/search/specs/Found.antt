@@ -1,5 +1,5 @@
 -- What the search hands back, as the model has it.
-use Rattle.std.specs.Prelude.{ℕ, ◌≡◌, Bool, true, false, cond, List, [], map, length, take}
+use Rattle.std.specs.Prelude.{ℕ, ◌≡◌, Bool, true, false, cond, List, [], map, length, take, Option, None, Some}
 use Rattle.branch.specs.declared.Bound.{Bound}
 use Rattle.branch.specs.declared.Bound.TheVariants.{Missing, Sum}
 use Rattle.branch.specs.Search.{Incumbent, none, plan, Limited, at_most}
@@ -7,16 +7,17 @@ use Rattle.model.specs.Model.{Job, Part, Plan}
 use Rattle.model.specs.Promise.{PlannerAnswer, no_plan_lem2, cut_none, cut, optimum}
 use Rattle.model.specs.Unheld.{plain_part_choice, plain_bound, plain_tree}
 use Rattle.jobs.specs.declared.Changes.{Changes}
+use Rattle.jobs.specs.declared.Plan as code
 use Rattle.walk.specs.declared.Solved.{Solved}
 use Rattle.search.specs.declared.Found.{Found}
 
--- what a walk found, with these stops and changes
-abbrev pub found_by_lem : Solved → List Bool → List Changes → Found
-found_by_lem s stops changes = record { count = s.count; over = s.over; found = s.found; cost = s.cost; floor = s.floor; stops = stops; changes = changes }
+-- what a walk found, with this plan
+abbrev pub found_by_lem : Solved → code.Plan → Found
+found_by_lem s p = record { count = s.count; over = s.over; cost = cond s.found (Some s.cost) None; floor = s.floor; plan = p }
 
 -- the stops, where there are n openings
 abbrev pub stops_in : ℕ → Found → List Bool
-stops_in n r = take n r.stops
+stops_in n r = take n r.plan.stops
 
 -- one part's changes
 abbrev pub row_in : ℕ → Changes → List Bool
@@ -24,11 +25,16 @@ row_in n row = take n row.at
 
 -- the changes of m parts
 abbrev pub changes_in : ℕ → ℕ → Found → List (List Bool)
-changes_in n m r = map (row_in n) (take m r.changes)
+changes_in n m r = map (row_in n) (take m r.plan.changes)
+
+-- the best full plan of this name, if one has a cost
+abbrev pub incumbent_with : List Bool → Option ℕ → Incumbent
+incumbent_with name None = none
+incumbent_with name (Some c) = plan c name
 
 -- the best full plan, if one was found: its name is its stops
 abbrev pub incumbent_in : ℕ → Found → Incumbent
-incumbent_in n r = cond r.found (plan r.cost (stops_in n r)) none
+incumbent_in n r = incumbent_with (stops_in n r) r.cost
 
 -- the walk's last state as the search has it
 abbrev pub limited_in : ℕ → Found → Limited
@@ -45,17 +51,17 @@ pub record Finds (job : Job) (limit : ℕ) (r : Found) : Type 0 where
 abbrev pub plan_found : ℕ → ℕ → Found → Plan
 plan_found n m r = record { stops = stops_in n r; changes = changes_in n m r }
 
--- by whether there are more nodes than were walked, and whether a plan was found
-abbrev pub said_by : ℕ → ℕ → ℕ → Found → Bool → Bool → PlannerAnswer
-said_by n m floor r true false = cut_none r.count floor
-said_by n m floor r true true = cut r.count floor r.cost (plan_found n m r)
-said_by n m floor r false false = no_plan_lem2
-said_by n m floor r false true = optimum r.count floor r.cost (plan_found n m r)
+-- by whether there are more nodes than were walked, and the cost of the plan if one was found
+abbrev pub said_by : ℕ → ℕ → ℕ → Found → Bool → Option ℕ → PlannerAnswer
+said_by n m floor r true None = cut_none r.count floor
+said_by n m floor r true (Some c) = cut r.count floor c (plan_found n m r)
+said_by n m floor r false None = no_plan_lem2
+said_by n m floor r false (Some c) = optimum r.count floor c (plan_found n m r)
 
 -- by the first node's bound: it is the floor, and where it is missing there is no plan
 abbrev pub said_at : ℕ → ℕ → Found → Bound → PlannerAnswer
 said_at n m r Missing = no_plan_lem2
-said_at n m r (Sum floor) = said_by n m floor r r.over r.found
+said_at n m r (Sum floor) = said_by n m floor r r.over r.cost
 
 -- the planner's answer, read off what the code holds, where there are n openings and m parts
 abbrev pub said_in : ℕ → ℕ → Found → PlannerAnswer

@@ -3,95 +3,64 @@
 
 pub mod plan;
 
-ghost use Rattle.std.specs.Prelude.{◌+◌, ◌^◌, ◌<◌, ◌≡◌};
+ghost use Rattle.std.specs.Prelude.{◌≡◌, ◌+◌, ◌^◌, ◌<◌, ◌≤◌, length};
 ghost use Rattle.model.specs.Model.{Job};
+ghost use Rattle.least.specs.Suffix.{table_size};
 ghost use Rattle.walk.specs.State.{Solves};
-ghost use Rattle.search_tables.specs.Arrays.{sheet_of, Ready, JobArrays};
+ghost use Rattle.search_tables.specs.Flat.{sheet_in, Holds};
 ghost use Rattle.search.specs.Found.{found_by_lem, Finds};
 
 use branch::Bound;
-use jobs::Changes;
+use jobs::Plan;
 use lane_rows::{STACK, TABLES};
 use least::TABLE;
-use model::{OPENINGS, PARTS};
 use plan::{changes, stops_of};
-use search_tables::tables::fill;
+use search_tables::flat::FlatJob;
 use walk::{Solved, solve};
 
-// The nodes walked, whether there are more, the incumbent and its cost, the floor, and the incumbent's plan.
+// The nodes walked, whether there are more, the incumbent's cost if there is one, the floor, and the incumbent's plan.
 #[derive(Drop)]
 pub struct Found {
     pub count: u64,
     pub over: bool,
-    pub found: bool,
-    pub cost: u64,
+    pub cost: Option<u64>,
     pub floor: Bound,
-    pub stops: [bool; OPENINGS],
-    pub changes: [Changes; PARTS],
+    pub plan: Plan,
 }
 
 // What a walk found, with the plan of its incumbent.
-pub fn found_by(solved: Solved, stops: [bool; OPENINGS], changes: [Changes; PARTS]) -> Found
-    ensures { result ≡ found_by_lem solved stops changes }
+pub fn found_by(solved: Solved, plan: Plan) -> Found
+    ensures { result ≡ found_by_lem solved plan }
 {
-    let floor = solved.floor;
     Found {
         count: solved.count,
         over: solved.over,
-        found: solved.found,
-        cost: solved.cost,
-        floor,
-        stops,
-        changes,
+        cost: solved.found.then_some(solved.cost),
+        floor: solved.floor,
+        plan,
     }
 }
 
 // The floor and the walk's last state. The tables stand on the stack of this call.
-fn walked(
-    end: i32,
-    positions: &[i32],
-    fees: &[u32],
-    lives: &[u32],
-    lefts: &[u32],
-    prices: &[u32],
-    limit: u64,
-    tab: &mut [u64],
-) -> Solved
-    requires { (Ready end positions.now fees.now lives.now lefts.now prices.now tab.old) × (limit + 1 < 2 ^ 64) }
-    ensures { Solves (sheet_of end positions.now fees.now lives.now lefts.now prices.now) limit result }
+fn walked(job: &FlatJob<'_>, limit: u64, tab: &mut [u64]) -> Solved
+    requires { (table_size ≤ length tab.old) × (limit + 1 < 2 ^ 64) }
+    ensures { Solves (sheet_in job.now) limit result }
 {
     let mut t = [0; TABLES];
     let mut w = [0; STACK];
-    fill(end, positions, fees, lives, lefts, prices, tab, &mut t);
+    job.fill(tab, &mut t);
     solve(&t, &mut w, limit)
 }
 
-// The search of a job with a limit on its nodes: positions and fees of the openings, lives and first lives of the parts, 64 prices for each part.
-pub fn search(
-    end: i32,
-    positions: &[i32],
-    fees: &[u32],
-    lives: &[u32],
-    lefts: &[u32],
-    prices: &[u32],
-    limit: u64,
-) -> Found
-    requires { ((job : Job) × JobArrays job end positions.now fees.now lives.now lefts.now prices.now) × (limit + 1 < 2 ^ 64) }
-    ensures { (job : Job) → JobArrays job end positions.now fees.now lives.now lefts.now prices.now → Finds job limit result }
+// The search of a job in arrays, with a limit on its nodes.
+pub fn search(job: &FlatJob<'_>, limit: u64) -> Found
+    requires { limit + 1 < 2 ^ 64 }
+    ensures { (held : Job) → Holds held job.now → Finds held limit result }
 {
     let mut tab = [0; TABLE];
-    let solved = walked(end, positions, fees, lives, lefts, prices, limit, &mut tab);
-    let n = positions.len();
+    let solved = walked(job, limit, &mut tab);
+    let n = job.positions.len();
     let stops = stops_of(solved.mask, n);
-    let rows = changes(
-        end,
-        positions,
-        fees,
-        lives,
-        lefts,
-        prices,
-        &stops[..n],
-        &mut tab,
-    );
-    found_by(solved, stops, rows)
+    let changes = changes(job, &stops[..n], &mut tab);
+    found_by(solved, Plan { stops, changes })
 }

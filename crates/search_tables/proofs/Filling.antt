@@ -9,9 +9,6 @@ use borrow.Author.Count.{below_more}
 use lib.ListN.{length, get_or, set, take, drop, replicate, length-set, length-replicate, length-drop, length-take, get_or-eq_default}
 use lib.Seq.{get_or-take, get_or-drop, get_or-set_same, get_or-set_other, length-take-le}
 use lib.IntN.{ℤ, pos, ◌-ℤ◌}
-use mir.Syntax.{w32}
-use mir.Val.{SFits, to_z, of_z}
-use mir.Facts.{to_z-of_z}
 use Rattle.branch.specs.declared.Bound.{Bound}
 use Rattle.branch.specs.declared.Bound.TheVariants.{Missing, Sum}
 use Rattle.model.specs.Model.{within}
@@ -20,11 +17,11 @@ use Rattle.model.specs.LastYes.{Climbs}
 use Rattle.model.proofs.LastYes.{first_climbs}
 use Rattle.least.specs.Marks.{mark_of, Bits31}
 use Rattle.least.specs.Filled.{FilledBy}
-use Rattle.least.specs.Suffix.{table_size, code_of, Suffixes}
-use Rattle.least.proofs.Diff.{mag_sub, back}
+use Rattle.least.specs.Suffix.{code_of, Suffixes}
+use Rattle.least.proofs.Diff.{mag_sub}
 use Rattle.model.proofs.Bools.{after_one, there}
 use Rattle.least.proofs.Most.{AtMost, most_least}
-use Rattle.search_tables.specs.Arrays.{price_stride, price_size, lane_value_lem, lane_part, column_of, columns_from, fours_of_lem, sheet_of, Lived, Lifespans, Arrays, Ready}
+use Rattle.search_tables.specs.Arrays.{price_stride, price_size, lane_value_lem, lane_part, column_of, columns_from, fours_of_lem, sheet_of, Lived, Lifespans, Arrays}
 use Rattle.search_tables.specs.Fill.{Triangle, own_of, reach_of, column, LaneFilled, Lanes, Terms}
 use Rattle.lane_rows.specs.Layout.{lane_count_lem, mark_count, dear, lane_limit, inf, triangle, block_rows, price_row, lane_rows_lem, suffix_base, reach_base, place, row_place, price_place, fee_base, fee_place, count_place, fours_place, lanes_in, tables_size}
 use Rattle.lane_rows.specs.Sheet.{Column, no_column}
@@ -252,25 +249,7 @@ module _ {ls rs : List ℕ} {q : ℕ} {v f : ℤ} (r : Lifespans ls rs) (l : Liv
   pub change_small : Bits31 f
   change_small = rw l.begins (omega (arith, mag_sub (pos (lane_value_lem rs q)) (pos (lane_value_lem ls q)), lane_range ls longest_life r.brief q, lane_range rs longest_life r.begun q))
 
-  -- both, read back from the bits of signed numbers
-  pub lived_back : Lived ls rs q (to_z w32 (of_z w32 v)) (to_z w32 (of_z w32 f))
-  lived_back =
-      let life-small : Bits31 v = rw l.lives (omega (arith, lane_range ls longest_life r.brief q)) in
-      record { lives = back v (omega arith) ∙ l.lives; begins = back f (omega (arith, change_small)) ∙ l.begins }
-
--- the arrays with their end read back, and room for a table
-pub ready_back : {e : ℤ} {ss : List ℤ} {fs ls rs ps tab : List ℕ} → SFits w32 e → Arrays e ss fs ls rs ps → table_size ≤ length tab → Ready (to_z w32 (of_z w32 e)) ss fs ls rs ps tab
-ready_back {e} {ss} {fs} {ls} {rs} {ps} h r s = record { arrays = subst (λ (x : ℤ). Arrays x ss fs ls rs ps) (sym (to_z-of_z h)) r; room = s }
-
 -- the marks after a lane's last change are small
 pub marks_small : {e : ℤ} {ss : List ℤ} {fs ls rs ps : List ℕ} {q : ℕ} {v f : ℤ} → Arrays e ss fs ls rs ps → Lived ls rs q v f → (k : ℕ) → Bits31 (mark_of f ss k)
 marks_small ar l zero = change_small ar.lives l
 marks_small ar l (suc k) = omega (arith, ar.near k)
-
--- a lane filled for these numbers is filled for those
-pub filled_as : (e life first : ℤ) (ss : List ℤ) (ps : List ℕ) (e' life' first' : ℤ) (ps' t t' : List ℕ) (q : ℕ) → e ≡ e' → life ≡ life' → first ≡ first' → ps ≡ ps' → LaneFilled e ss (column life first ps) t t' q → LaneFilled e' ss (column life' first' ps') t t' q
-filled_as e life first ss ps e' life' first' ps' t t' q a b c d f =
-    subst (λ (x : ℤ). LaneFilled x ss (column life' first' ps') t t' q) a
-    (subst (λ (x : ℤ). LaneFilled e ss (column x first' ps') t t' q) b
-    (subst (λ (x : ℤ). LaneFilled e ss (column life x ps') t t' q) c
-    (subst (λ (x : List ℕ). LaneFilled e ss (column life first x) t t' q) d f)))

@@ -1,4 +1,4 @@
--- Two loops, one in the other, that write a triangle of places: by one row more.
+-- Two loops, one in the other, that write a triangle of places: by one row more. And where a row of a block stands.
 use Prim.Native.Nat.{ℕ, ◌+◌, ◌≤◌, ◌<◌}
 use mathlib.Core.Path.{◌≡◌, refl, ◌∙◌}
 use mathlib.Core.List.{List}
@@ -6,6 +6,8 @@ use native.Mathlib.Omega.{arith}
 use borrow.Author.Count.{below_more}
 use lib.ListN.{get_or}
 use Rattle.least.specs.Filled.{FilledBy}
+use Rattle.lane_rows.specs.Layout.{mark_count, triangle, block_rows}
+use Rattle.lane_rows.proofs.Rising.{row_inside}
 use Rattle.search_tables.specs.Fill.{Triangle}
 
 module _ {at f : ℕ → ℕ → ℕ} {t : List ℕ} where
@@ -25,3 +27,7 @@ module _ {at f : ℕ → ℕ → ℕ} {t : List ℕ} where
             (λ i h. r.done i (omega arith) ∙ is i h) j l i h;
         rest = λ x h. r.rest x (λ k l e. h n k (omega arith) (omega arith) e) ∙ d.rest x (λ j i l g e. h j i l (omega arith) e);
       }
+
+-- the row of mark i, of those of level j, stands in its block
+pub in_block : (j i row : ℕ) → i ≤ j → j < mark_count → row ≡ triangle j → row + i < block_rows
+in_block j i row h g e = omega (arith, row_inside j i mark_count h g)

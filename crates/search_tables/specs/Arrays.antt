@@ -1,10 +1,10 @@
 -- The arrays of a job as the search is handed them, and the sheet that they make: columns in fours, where those past the last part go with the first part's and cost nothing.
-use Rattle.std.specs.Prelude.{ℕ, zero, suc, ◌+◌, ◌*◌, ◌/◌, ◌<◌, ◌≤◌, ◌≡◌, List, [], ◌∷◌, map, length, get_or, take, drop, ℤ, pos, ◌-ℤ◌}
-use Rattle.std.specs.Int.Signed.{mag}
+use Rattle.std.specs.Prelude.{ℕ, zero, suc, true, ◌+◌, ◌*◌, ◌/◌, ◌<◌, ◌≤◌, ◌≡◌, List, [], ◌∷◌, map, length, get_or, take, drop, ℤ, pos, ◌-ℤ◌}
+use Rattle.std.specs.Int.Signed.{mag, le_z}
+use Rattle.std.specs.Coded.{Coded-set, coded_bool, ×_prop}
 use Rattle.model.specs.Model.{Part, Job, positions, end, last_change_lem, fee_of}
 use Rattle.model.specs.LastYes.{Climbs}
 use Rattle.model.specs.Verdict.{no_part}
-use Rattle.least.specs.Suffix.{table_size}
 use Rattle.lane_rows.specs.Layout.{lane_count_lem, top, dear}
 use Rattle.lane_rows.specs.Sheet.{Column, Sheet}
 use Rattle.model.specs.Limits.{last_position, longest_life, most_openings}
@@ -69,10 +69,10 @@ pub record Arrays (e : ℤ) (ss : List ℤ) (fs ls rs ps : List ℕ) : Type 0 wh
   pub late : mag e ≤ last_position
   pub climbs : Climbs e (pos 0) ss
 
--- the arrays, and room for one part's own table
-pub record Ready (e : ℤ) (ss : List ℤ) (fs ls rs ps tab : List ℕ) : Type 0 where
-  pub arrays : Arrays e ss fs ls rs ps
-  pub room : table_size ≤ length tab
+-- that positions never fall has one proof at most
+pub Climbs-prop : (e p : ℤ) (ss : List ℤ) → IsProp (Climbs e p ss)
+Climbs-prop e p [] = Coded-set coded_bool (le_z p e) true
+Climbs-prop e p (s ∷ ss) = ×_prop (Coded-set coded_bool (le_z p s) true) (Climbs-prop e s ss)
 
 -- the arrays hold the job
 pub record JobArrays (job : Job) (e : ℤ) (ss : List ℤ) (fs ls rs ps : List ℕ) : Type 0 where

@@ -1,9 +1,9 @@
 -- Filling the tables: lane by lane, then the fees, the number of openings and, part by part, the terms. What is not named stays as it was.
-use Rattle.std.specs.Prelude.{ℕ, ◌-◌, ◌*◌, ◌<◌, ◌≤◌, min, max, ◌≡◌, cond, List, [], length, get_or, take, ℤ, pos}
+use Rattle.std.specs.Prelude.{ℕ, ◌-◌, ◌*◌, ◌<◌, ◌≤◌, min, max, ◌≡◌, Bool, true, cond, List, [], length, get_or, take, ℤ, pos}
 use Rattle.branch.specs.Lower.{largest}
 use Rattle.model.specs.Model.{within}
-use Rattle.least.specs.Marks.{mark_of, Bits31}
-use Rattle.least.specs.Suffix.{cell, code_of, Room}
+use Rattle.least.specs.Marks.{mark_of}
+use Rattle.least.specs.Suffix.{table_size, cell, code_of}
 use Rattle.search_tables.specs.Arrays.{lane_part, column_of}
 use Rattle.lane_rows.specs.Layout.{lane_count_lem, top, dear, inf, lane_rows_lem, tables_size, row_place, term_base, term_place}
 use Rattle.lane_rows.specs.Sheet.{Column, Sheet}
@@ -32,11 +32,10 @@ reach_of life first ss j i = cond (within life (mark_of first ss i) (get_or ss j
 abbrev pub column : ℤ → ℤ → List ℕ → Column
 column life first ps = record { life = life; first = first; prices = ps }
 
--- what filling lane q asks: of one part, and of the tables
-pub record LaneAsks (end first : ℤ) (ss : List ℤ) (ps : List ℕ) (q : ℕ) (tab t : List ℕ) : Type 0 where
-  pub room : Room first ss tab
-  pub late : Bits31 end
-  pub priced : length ps ≡ length ss
+-- what filling lane q asks of one part's prices and flags, and of the tables
+pub record LaneAsks (ps : List ℕ) (fs : List Bool) (q : ℕ) (tab t : List ℕ) : Type 0 where
+  pub room : table_size ≤ length tab
+  pub allowed : (k : ℕ) → get_or fs k true ≡ true
   pub cheap : (j : ℕ) → get_or ps j 0 ≤ dear
   pub lane : InLane q t
 

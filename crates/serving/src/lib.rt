@@ -1,8 +1,8 @@
 // The latest-time habit: changes each part at the last of given stops that still serves.
 #![tactic(auto)]
 
-ghost use Rattle.std.specs.Prelude.{◌≡◌, Bool, List, ◌≤◌, length};
-ghost use Rattle.lines.specs.Wrote.{Wrote};
+ghost use Rattle.std.specs.Prelude.{◌≡◌, Bool, List, length};
+ghost use Rattle.line_writing.specs.Puts.{Puts, Room};
 ghost use Rattle.model.specs.Model as model;
 ghost use Rattle.jobs.specs.Views.{job_of, plan_for};
 ghost use Rattle.jobs.specs.Valid.{Sound};
@@ -15,74 +15,66 @@ ghost use Rattle.serving.specs.Serving.{answer_in, Fits};
 ghost use Rattle.serving.specs.Promise.{ServePromise};
 
 use answers::{Answer, refuse};
-use job_text::whole::{JobText, read_job};
+use job_text::text::JobText;
+use job_text::whole::read_job;
 use jobs::{Job, Plan};
 use latest_changes::latest_plan;
-use line_writing::write::put_line;
-use lines::rows::WholeText;
+use line_writing::output::Out;
 use plan_costs::costs::cost_of;
-use plan_lives::lives::{Verdict, verdict_of};
+use plan_lives::lives::verdict_of;
 use plan_printing::put_printed;
 use plan_text::whole::read_plan;
 
 // The room that the call's output must have.
 pub const ROOM: usize = 16384;
 
-// Whether the stops serve; the plan stands beside it.
-#[derive(Clone, Copy)]
-pub enum Serving {
-    // 6: no changes at the stops keep every part.
-    Unserved,
-    // 0: the cost of the plan.
-    Serves(u64),
-}
-
-// What the plan with the latest changes says of its stops: they serve if it keeps every part.
-fn serving_of(job: Job, plan: Plan) -> Serving
+// What the plan with the latest changes says of its stops: they serve if it keeps every part, and then its cost is there.
+fn serving_of(job: Job, plan: Plan) -> Option<u64>
     requires { Sound job }
     ensures { (stops : List Bool) → plan_for job plan ≡ latest_plan_of (job_of job) stops → answer_in (plan_for job plan) result ≡ latest_answer_of (job_of job) stops }
 {
     let cost = cost_of(job, plan);
     match verdict_of(job, plan) {
-        Verdict::Late { .. } => Serving::Unserved,
-        Verdict::Keeps => Serving::Serves(cost),
+        Ok(()) => Some(cost),
+        Err(_) => None,
     }
 }
 
-// The result number.
-fn number_of(s: Serving) -> u32
+// The result number: 0 where the stops serve, else 6.
+fn number_of(s: Option<u64>) -> u32
     ensures { (plan : model.Plan) → result ≡ number_of (answer_in plan s) }
 {
     match s {
-        Serving::Unserved => 6,
-        Serving::Serves(_) => 0,
+        Some(_) => 0,
+        None => 6,
     }
 }
 
 // The lines of the answer and of its plan.
-fn put_serving(out: &mut [u8], s: Serving, text: JobText, plan: Plan) -> usize
-    requires { Fits s × SoundText text × (latest_room ≤ length out.old) }
-    ensures { Wrote out.old 0 (latest_lines (given_of text) (answer_in (plan_for text.job plan) s)) out.new result }
+fn put_serving(out: &mut Out, s: Option<u64>, text: JobText, plan: Plan)
+    requires { Fits s × SoundText text × Room out.old (latest_lines (given_of text) (answer_in (plan_for text.job plan) s)) }
+    ensures { Puts out.old (latest_lines (given_of text) (answer_in (plan_for text.job plan) s)) out.new }
 {
     match s {
-        Serving::Unserved => put_line(out, 0, b"result=", 6),
-        Serving::Serves(cost) => {
-            let a = put_line(out, 0, b"result=", 0);
-            put_printed(out, a, text, cost, plan)
+        Some(cost) => {
+            out.put_line(b"result=", 0);
+            put_printed(out, text, cost, plan);
         }
+        None => out.put_line(b"result=", 6),
     }
 }
 
 // The answer, with its plan.
-fn answer(s: Serving, text: JobText, plan: Plan, out: &mut [u8]) -> Answer
+fn answer(s: Option<u64>, text: JobText, plan: Plan, out: &mut [u8]) -> Answer
     requires { Fits s × SoundText text }
     ensures { Replied latest_room (said_for (given_of text) (answer_in (plan_for text.job plan) s)) out.old out.new result }
 {
     if out.len() < ROOM {
         return Answer::no_room();
     }
-    let n = put_serving(out, s, text, plan);
-    Answer::plain(number_of(s), n)
+    let mut lines = Out { bytes: out, at: 0 };
+    put_serving(&mut lines, s, text, plan);
+    Answer::plain(number_of(s), lines.at)
 }
 
 // The answer to an accepted job text and a plan that is stated: only its stops count.
@@ -101,15 +93,9 @@ fn serve_plan(text: JobText, plan: &[u8], out: &mut [u8]) -> Answer
     requires { SoundText text }
     ensures { Replied latest_room (on_plan plan.now (given_of text) (read_plan_lem (job_of text.job) plan.now)) out.old out.new result }
 {
-    let job = text.job;
-    let stated = read_plan(plan, job);
-    let verdict = stated.verdict;
-    match verdict {
-        WholeText::Fault { number, line } => refuse(plan, 2, number, line, ROOM, out),
-        WholeText::Good => {
-            let p = stated.plan;
-            serve(text, p, out)
-        }
+    match read_plan(plan, text.job) {
+        Ok(stated) => serve(text, stated.plan, out),
+        Err(fault) => refuse(plan, 2, fault.kind.number(), fault.line, ROOM, out),
     }
 }
 
@@ -121,13 +107,8 @@ pub fn latest(job: &[u8], plan: &[u8], out: &mut [u8]) -> Answer
     ensures serve_promise { ServePromise job.now plan.now (length out.old)
         (lent latest_room (length out.old) (latest_said job.now plan.now)) }
 {
-    let read = read_job(job);
-    let verdict = read.verdict;
-    match verdict {
-        WholeText::Fault { number, line } => refuse(job, 1, number, line, ROOM, out),
-        WholeText::Good => {
-            let accepted = read.text;
-            serve_plan(accepted, plan, out)
-        }
+    match read_job(job) {
+        Ok(text) => serve_plan(text, plan, out),
+        Err(fault) => refuse(job, 1, fault.kind.number(), fault.line, ROOM, out),
     }
 }

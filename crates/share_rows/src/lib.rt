@@ -7,7 +7,7 @@ ghost use Rattle.lane_rows.specs.Layout.{lane_count_lem, mark_count, inf, lanes_
 ghost use Rattle.lane_rows.specs.Rows.{Turned, Put, Memo};
 ghost use Rattle.share_rows.specs.Places.{most_things, bear_place, take_place, eased_of, share_size};
 
-use lane_rows::{INF, LANES, ROW_MARKS, forget, store_row};
+use lane_rows::{INF, LANES, ROW_MARKS, forget, store_row, turn};
 
 // The table of shares: where each region starts, and its size.
 
@@ -23,13 +23,7 @@ pub const SHARES: usize = HOLDS + 1;
 fn eased(v: u32, share: u32) -> u32
     ensures { result ≡ eased_of v share }
 {
-    if v < INF {
-        if share < v {
-            return v - share;
-        }
-        return 0;
-    }
-    v
+    if v < INF { v.saturating_sub(share) } else { v }
 }
 
 // A lane's number, or Missing where the lane takes what is not removed.
@@ -45,9 +39,7 @@ pub fn ease(x: &[u32], m: usize, k: usize, acc: &mut [u32])
     ensures { Turned lane_count_lem (λ (q : ℕ). eased_of (get_or acc.old q 0) (get_or x.now (bear_place m k q) 0)) acc.old acc.new }
 {
     let at = (m * 64 + k) * LANES;
-    for q in 0..LANES {
-        acc[q] = eased(acc[q], x[at + q]);
-    }
+    turn(4, acc, |q, v| eased(v, x[at + q]));
 }
 
 // Thing m is not removed: the stop is shut to the lanes that take it.
@@ -56,9 +48,7 @@ pub fn shut(x: &[u32], m: usize, acc: &mut [u32])
     ensures { Turned lane_count_lem (λ (q : ℕ). cond (eqb (get_or x.now (take_place m q) 0) 0) (get_or acc.old q 0) inf) acc.old acc.new }
 {
     let at = TAKES + m * LANES;
-    for q in 0..LANES {
-        acc[q] = shut_to(x[at + q], acc[q]);
-    }
+    turn(4, acc, |q, v| shut_to(x[at + q], v));
 }
 
 // The lanes of a row that stands from `at` on.
@@ -66,9 +56,7 @@ pub fn copy_row(w: &[u32], at: usize, acc: &mut [u32])
     requires { (at + lane_count_lem ≤ length w.now) × (length w.now ≤ stack_size) × (lane_count_lem ≤ length acc.old) }
     ensures { Turned lane_count_lem (λ (q : ℕ). get_or w.now (at + q) 0) acc.old acc.new }
 {
-    for q in 0..LANES {
-        acc[q] = w[at + q];
-    }
+    acc[..LANES].copy_from_slice(&w[at..at + LANES]);
 }
 
 // The lanes are the row above n rows, that of a stop which leaves `at` openings decided; the memo knows nothing of it yet.

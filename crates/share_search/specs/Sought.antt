@@ -1,5 +1,5 @@
 -- What the search by shares finds of a job: the best of all plans; or that one of its walks has more nodes than the limit; or that no plan costs less than the last cutoff. And a floor.
-use Rattle.std.specs.Prelude.{ℕ, ◌<◌, ◌≤◌, ◌≡◌, Bool, true, false, List, length}
+use Rattle.std.specs.Prelude.{ℕ, ◌<◌, ◌≤◌, ◌≡◌, Bool, true, false, Some, None, List, length}
 use Rattle.branch.specs.declared.Bound.TheVariants.{Sum}
 use Rattle.model.specs.Model.{Job}
 use Rattle.model.specs.Promise.{BestPlan, Any}
@@ -8,7 +8,7 @@ use Rattle.shares.specs.Shares.{Shares, FairShares}
 use Rattle.shares.specs.Optimum.{tree_by, shared_bound}
 use Rattle.shares.specs.Certificate.{NoneUnder}
 use Rattle.lane_rows.specs.Layout.{inf}
-use Rattle.jobs.specs.declared.Changes.{Changes}
+use Rattle.jobs.specs.declared.Plan as code
 use Rattle.search.specs.declared.Found.{Found}
 use Rattle.search.specs.Found.{plan_found}
 use Rattle.cutoffs.specs.declared.Risen.{Risen}
@@ -22,15 +22,15 @@ Longer job limit = (shares : Shares) × FairShares job shares × (k : ℕ) × (l
 abbrev pub Rises : Job → ℕ → List Bool → Risen → Type 0
 Rises job limit best r = (shares : Shares) × FairShares job shares × RisenRight job shares limit best r
 
--- where the walks ended, with these stops and changes
-abbrev pub found_of_lem : Risen → List Bool → List Changes → Found
-found_of_lem r stops changes = record { count = 0; over = r.over; found = r.found; cost = r.cost; floor = Sum r.floor; stops = stops; changes = changes }
+-- where the walks ended, with this plan
+abbrev pub found_of_lem : Risen → code.Plan → Found
+found_of_lem r plan = record { count = 0; over = r.over; cost = r.cost; floor = Sum r.floor; plan = plan }
 
 -- what is found
 pub record Sought (job : Job) (limit : ℕ) (r : Found) : Type 0 where
-  pub plan_found_lem : r.found ≡ true → BestPlan job Any r.cost (plan_found (length job.openings) (length job.parts) r)
+  pub plan_found_lem : (c : ℕ) → r.cost ≡ Some c → BestPlan job Any c (plan_found (length job.openings) (length job.parts) r)
   pub longer : r.over ≡ true → Longer job limit
   pub low : ℕ
   pub floor : r.floor ≡ Sum low
   pub none_under : NoneUnder job low
-  pub passed : r.found ≡ false → r.over ≡ false → inf ≤ low
+  pub passed : r.cost ≡ None → r.over ≡ false → inf ≤ low

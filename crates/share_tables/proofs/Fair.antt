@@ -8,7 +8,7 @@ use native.Mathlib.Nat.{mul-div-le}
 use native.Mathlib.Decide.{dec_lt}
 use borrow.Author.Tests.{lt-ltb, le-ltb, leb-true, lt-leb, le-leb, eq-eqb, ne_eqb}
 use lib.Dec.{leb}
-use lib.ListN.{length, get_or, take, drop, get_or-eq_default}
+use lib.ListN.{length, get_or, drop, get_or-eq_default}
 use lib.Seq.{get_or-take, get_or-drop}
 use lib.IntN.{ℤ}
 use Rattle.model.specs.Model.{Job, sum}
@@ -20,7 +20,7 @@ use Rattle.model.proofs.Held.{held_at_lem}
 use Rattle.shares.specs.Shares.{things, worth, takes, bears, borne, FairShares}
 use Rattle.held_places.specs.Arrays.{HeldJobArrays}
 use Rattle.held_places.proofs.Held.{opened, holding, held_size_lem}
-use Rattle.held_tables.specs.Sheet.{HeldArrays}
+use Rattle.held_tables.specs.Arrays.{HeldArrays}
 use Rattle.lane_rows.specs.Layout.{lane_count_lem, dear}
 use Rattle.lane_rows.specs.Rows.{sum_from, sum_lanes}
 use Rattle.lane_rows.proofs.Lanes.{sum_same}

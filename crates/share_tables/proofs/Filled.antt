@@ -24,7 +24,7 @@ use Rattle.shares.specs.Shares.{bears, owes, shared_prices, shared_part}
 use Rattle.least.specs.Filled.{FilledBy}
 use Rattle.held_places.specs.Arrays.{HeldJobArrays}
 use Rattle.held_places.proofs.Held.{opened, holding, held_size_lem}
-use Rattle.held_tables.specs.Sheet.{HeldArrays}
+use Rattle.held_tables.specs.Arrays.{HeldArrays}
 use Rattle.search_tables.specs.Arrays.{lane_value_lem, lane_part, column_of, sheet_of, Arrays}
 use Rattle.search_tables.proofs.Filling.{columns_length, columns_at}
 use Rattle.lane_rows.specs.Layout.{lane_count_lem, dear, top, lanes_in}

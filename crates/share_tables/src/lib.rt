@@ -5,20 +5,21 @@ ghost use Rattle.std.specs.Prelude.{◌≡◌, ℕ, ◌+◌, ◌*◌, ◌/◌, �
 ghost use Rattle.least.specs.Filled.{FilledBy};
 ghost use Rattle.model.specs.Limits.{most_openings};
 ghost use Rattle.model.specs.Model.{Job};
-ghost use Rattle.held_places.specs.Arrays.{HeldJobArrays};
-ghost use Rattle.held_tables.specs.Sheet.{HeldReady};
-ghost use Rattle.lane_rows.specs.Layout.{lane_count_lem, inf, tables_size};
+ghost use Rattle.least.specs.Suffix.{table_size};
+ghost use Rattle.held_tables.specs.Numbers.{Holds};
+ghost use Rattle.lane_rows.specs.Layout.{lane_count_lem, inf};
 ghost use Rattle.share_rows.specs.Places.{most_things, share_size};
-ghost use Rattle.fair_shares.specs.Checked.{raw_size};
 ghost use Rattle.share_tables.specs.Prepared.{Padded, borne_at_lem, shared_in, Roomy, Prepared};
 
 use ascent::ascend;
 use ascent_lanes::PLACES;
+use fair_shares::raw::RawShares;
 use fair_shares::{check, mark};
 use held_lanes::number;
+use held_tables::numbers::HeldNumbers;
 use lane_rows::{LANES, TABLES};
 use model::{PARTS, PRICES};
-use search_tables::tables::fill;
+use search_tables::flat::FlatJob;
 use share_rows::SHARES;
 
 // The longest life.
@@ -28,16 +29,16 @@ const LONGEST: u32 = 1000;
 fn life_at(values: &[u32], q: usize) -> u32
     ensures { result ≡ get_or values.now q 1000 }
 {
-    if q < values.len() { values[q] } else { LONGEST }
+    values.get(q).copied().unwrap_or(LONGEST)
 }
 
 // The parts' lives or first lives, and past them the longest.
 fn padded(values: &[u32]) -> [u32; PARTS]
     ensures { Padded values.now result }
 {
-    let mut out = [0u32; PARTS];
-    for q in 0..LANES {
-        out[q] = life_at(values, q);
+    let mut out = [0; PARTS];
+    for (q, life) in out.iter_mut().enumerate() {
+        *life = life_at(values, q);
     }
     out
 }
@@ -49,7 +50,7 @@ fn borne_at(x: &[u32], things: usize, k: usize, q: usize) -> u64
 {
     let mut sum: u64 = 0;
     for m in 0..things {
-        sum = sum + number(x, (m * 64 + k) * LANES + q) as u64;
+        sum += number(x, (m * 64 + k) * LANES + q) as u64;
     }
     sum
 }
@@ -65,54 +66,51 @@ fn put_shared(prices: &[u32], x: &[u32], things: usize, all: &mut [u32])
     }
 }
 
-// One of the shares that were found.
-fn share_at(found: &[u32; PLACES], i: usize) -> u32
-    requires { i < raw_size }
-{
-    found[i]
-}
-
-// The shares that were found, in a table whose size is known.
-fn take_over(found: &[u32; PLACES], raw: &mut [u32])
-    requires { length raw.old ≡ raw_size }
-    ensures { length raw.new ≡ raw_size }
-{
-    for i in 0..PLACES {
-        raw[i] = share_at(found, i);
-    }
-}
-
 // The tables of the walk of a job by shares that an ascent finds: what the ascent says of their value is no part of the promise.
 pub fn prepare(
-    end: i32,
-    positions: &[i32],
-    fees: &[u32],
-    lives: &[u32],
-    lefts: &[u32],
-    prices: &[u32],
-    needs: &[bool],
-    removals: &[u32],
+    numbers: &HeldNumbers,
     tab: &mut [u64],
     t: &mut [u32; TABLES],
     x: &mut [u32; SHARES],
 ) -> u64
-    requires { (HeldReady end positions.now fees.now lives.now lefts.now prices.now needs.now removals.now tab.old) × (length t.old ≡ tables_size) × (length x.old ≡ share_size) }
-    ensures tables { (job : Job) → HeldJobArrays job end positions.now fees.now lives.now lefts.now prices.now needs.now removals.now
-        → Prepared job t.new x.new }
+    requires { table_size ≤ length tab.old }
+    ensures tables { (job : Job) → Holds job numbers.now → Prepared job t.new x.new }
     ensures value { result ≤ lane_count_lem * inf }
 {
-    let long = padded(lives);
-    let first = padded(lefts);
+    let job = numbers.job;
+    let long = padded(job.lives);
+    let first = padded(job.lefts);
     let mut found = [0; PLACES];
-    let mut raw = [0; PLACES];
-    fill(end, positions, fees, &long, &first, prices, tab, t);
-    mark(needs, lives.len(), removals, x);
-    let value = ascend(t, x, lives.len(), &mut found);
-    take_over(&found, &mut raw);
-    let things = removals.len() + 1;
-    check(&raw, prices, fees, removals, things, x);
     let mut all = [0; PRICES];
-    put_shared(prices, x, things, &mut all);
-    fill(end, positions, fees, &long, &first, &all, tab, t);
+    let wide = FlatJob {
+        end: job.end,
+        positions: job.positions,
+        fees: job.fees,
+        lives: &long,
+        lefts: &first,
+        prices: job.prices,
+    };
+    wide.fill(tab, t);
+    mark(numbers.needs, job.lives.len(), numbers.removals, x);
+    let value = ascend(t, x, job.lives.len(), &mut found);
+    let (fees, removals) = (job.fees, numbers.removals);
+    let shares = RawShares {
+        raw: &found,
+        prices: job.prices,
+        fees,
+        removals,
+        things: removals.len() + 1,
+    };
+    check(&shares, x);
+    put_shared(job.prices, x, shares.things, &mut all);
+    let shared = FlatJob {
+        end: job.end,
+        positions: job.positions,
+        fees: job.fees,
+        lives: &long,
+        lefts: &first,
+        prices: &all,
+    };
+    shared.fill(tab, t);
     value
 }

@@ -40,9 +40,7 @@ impl State {
     {
         State {
             count: self.count + 1,
-            over: self.over,
-            cost: self.cost,
-            size: self.size,
+            ..self
         }
     }
 
@@ -50,24 +48,14 @@ impl State {
     pub fn stopped(self) -> State
         ensures { result ≡ stopped_s self }
     {
-        State {
-            count: self.count,
-            over: true,
-            cost: self.cost,
-            size: self.size,
-        }
+        State { over: true, ..self }
     }
 
     // A full node is kept.
     pub fn kept(self, cost: u64, size: usize) -> State
         ensures { result ≡ kept_s self cost size }
     {
-        State {
-            count: self.count,
-            over: self.over,
-            cost,
-            size,
-        }
+        State { cost, size, ..self }
     }
 }
 
@@ -89,10 +77,8 @@ impl Node {
     {
         Node {
             at: self.at + 1,
-            rows: self.rows,
-            next: self.next,
             size: self.size + 1,
-            spent: self.spent,
+            ..self
         }
     }
 
@@ -116,11 +102,10 @@ impl Node {
         ensures { result ≡ asked_n self paid }
     {
         Node {
-            at: self.at,
-            rows: self.rows,
             next: self.next + 1,
             size: self.size + 1,
             spent: self.spent + paid,
+            ..self
         }
     }
 }
@@ -130,11 +115,7 @@ fn keep(name: &[bool], best: &mut [bool], size: usize)
     requires { (size ≤ name_size) × (length name.now ≡ name_size) × (length best.old ≡ name_size) }
     ensures { (take size best.new ≡ take size name.now) × (length best.new ≡ name_size) }
 {
-    let mut i = 0;
-    while i < size {
-        best[i] = name[i];
-        i += 1;
-    }
+    best[..size].copy_from_slice(&name[..size]);
 }
 
 // Something is left to decide at a node.
@@ -149,6 +130,7 @@ fn undecided(t: &[u32], x: &[u32], p: Node) -> bool
 }
 
 // A row whose thing m at opening k is paid stands above n rows.
+// Kept beside put_shut: a function of both would have to say in its contract what a closure leaves in the lanes, which is no plainer.
 fn put_eased(x: &[u32], w: &mut [u32], row: &[u32], m: usize, k: usize, at: usize, n: usize)
     requires { PutAsks x.now w.old row.now m at n × (k < most_openings) }
     ensures put { Put lane_count_lem (λ (q : ℕ). eased_of (get_or row.now q 0) (get_or x.now (bear_place m k q) 0)) w.old w.new n at }

@@ -1,15 +1,13 @@
 -- The lines `key=N` of a table's text, the pieces behind them, and where to read on.
-use Rattle.std.specs.Prelude.{ℕ, ◌+◌, cond, List, leb, ltb, length, drop}
+use Rattle.std.specs.Prelude.{ℕ, ◌+◌, cond, List, leb, ltb, length, drop, Option, Some, None}
 use Rattle.lines.specs.Line.{read_line_lem}
-use Rattle.lines.specs.declared.read.Line.{Line}
-use Rattle.lines.specs.declared.read.Line.TheVariants.{Value, Bad}
 use Rattle.fault_lines.specs.declared.fault.Span.{Span}
 use Rattle.table_text.specs.declared.Head.{Head}
 
 -- the line that was read at a place of a table of so many bytes
-unfoldable pub head_of : ℕ → ℕ → Line → Head
-head_of size at (Value n k) = record { number = n; behind = at + k }
-head_of size at Bad = record { number = 0; behind = size }
+unfoldable pub head_of : ℕ → ℕ → Option (ℕ × ℕ) → Head
+head_of size at (Some (n, k)) = record { number = n; behind = at + k }
+head_of size at None = record { number = 0; behind = size }
 
 -- the line `key=N` at a place: its number and the place behind it, or 0 and the table's end
 abbrev pub head_at_lem : List ℕ → ℕ → List ℕ → Head

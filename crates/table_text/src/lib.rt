@@ -5,7 +5,7 @@ ghost use Rattle.std.specs.Prelude.{◌≡◌, ◌+◌, ◌≤◌, ◌<◌, leng
 ghost use Rattle.table_text.specs.Pieces.{head_at_lem, piece_at, onward_from};
 
 use fault_lines::fault::Span;
-use lines::read::{Line, read_line};
+use lines::read::read_line;
 
 // A line `key=N`: its number, and the place behind it.
 #[derive(Drop)]
@@ -20,14 +20,11 @@ pub fn head_at(table: &[u8], at: usize, key: &[u8]) -> Head
     ensures { (result ≡ head_at_lem table.now at key.now) × (result.behind ≤ length table.now) }
 {
     match read_line(&table[at..], key) {
-        Line::Value {
-            value: n,
-            length: k,
-        } => Head {
+        Some((n, k)) => Head {
             number: n as usize,
             behind: at + k,
         },
-        Line::Bad => Head {
+        None => Head {
             number: 0,
             behind: table.len(),
         },
@@ -56,8 +53,5 @@ pub fn onward(size: usize, at: usize, next: usize) -> usize
     requires { (at < size) × (next ≤ size) }
     ensures { (result ≡ onward_from size at next) × ((at < result) × (result ≤ size)) }
 {
-    if at < next {
-        return next;
-    }
-    size
+    if at < next { next } else { size }
 }

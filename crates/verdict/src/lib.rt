@@ -11,9 +11,10 @@ ghost use Rattle.verdict.specs.Views.{model_judgement};
 
 use jobs::{Job, Plan};
 use plan_costs::costs::cost_of;
-use plan_lives::lives::{Verdict, verdict_of};
+use plan_lives::lives::{Late, verdict_of};
 
 // What the judge says of a plan: its true cost, the lowest part that is not kept with its due step, or the true cost where another is stated.
+// Kept as an enum of its own: three answers, each with lines of its own, and none an error of another.
 #[derive(Clone, Copy)]
 pub enum Judgement {
     Accepts(u64),
@@ -22,18 +23,13 @@ pub enum Judgement {
 }
 
 // By the verdict on the lives first, and then by the stated cost and the true one.
-pub fn judged(stated: u64, cost: u64, verdict: Verdict) -> Judgement
+pub fn judged(stated: u64, cost: u64, verdict: Result<(), Late>) -> Judgement
     ensures { model_judgement result ≡ model.judged stated cost (model_verdict verdict) }
 {
     match verdict {
-        Verdict::Keeps => {
-            if stated == cost {
-                Judgement::Accepts(cost)
-            } else {
-                Judgement::WrongCost(cost)
-            }
-        }
-        Verdict::Late { part, due } => Judgement::Unkept { part, due },
+        Err(Late { part, due }) => Judgement::Unkept { part, due },
+        Ok(()) if stated == cost => Judgement::Accepts(cost),
+        Ok(()) => Judgement::WrongCost(cost),
     }
 }
 
@@ -44,5 +40,6 @@ pub fn judgement_of(job: Job, stated: u32, plan: Plan) -> Judgement
 {
     let verdict = verdict_of(job, plan);
     let cost = cost_of(job, plan);
-    judged(stated as u64, cost, verdict)
+    let stated = u64::from(stated);
+    judged(stated, cost, verdict)
 }

@@ -1,11 +1,7 @@
 -- What is read of an input, and of one that can't be opened.
-use Rattle.std.specs.Prelude.{ℕ, ◌≡◌, ◌≤◌, List, [], length, take, IfNone, IfSome, MatchOption}
+use Rattle.std.specs.Prelude.{ℕ, ◌≡◌, List, [], IfNone, IfSome, MatchOption}
 use Rattle.std.specs.declared.option.Option.{Option}
 use Rattle.std.specs.Io.{StartsWith}
-
--- so many bytes of a buffer count: it has them, and they are as many
-abbrev pub Counts : ℕ → List ℕ → Type 0
-Counts n xs = (n ≤ length xs) × (n ≡ length (take n xs))
 
 -- no byte is read, and the buffer, which held d, holds the same after
 abbrev pub Nothing : List ℕ → List ℕ → ℕ → Type 0

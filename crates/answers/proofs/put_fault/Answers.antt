@@ -2,13 +2,11 @@
 use Rattle.lines.specs.Text.{bytes}
 use Rattle.answers.specs.Said.{fault_lines_lem}
 use native.Mathlib.Omega.{arith}
-use Rattle.answers.proofs.Lengths.{fault_short}
 use Rattle.answers.proofs.put_fault.Goals as goal
 
 pub put_three-requires : goal.put_three-requires
 unfolding fault_lines_lem bytes
-put_three-requires c = let a = c.args in
-    (omega (arith, c.ranges.text.fits), omega (arith, c.ranges.line.fits), omega (arith, c.requires, fault_short a.number a.text a.line))
+put_three-requires c = (omega (arith, c.ranges.text.fits), omega (arith, c.ranges.line.fits), c.requires)
 
 pub returns : goal.returns
 unfolding fault_lines_lem bytes

@@ -1,4 +1,4 @@
-use Prim.Native.Nat.{◌-◌, ◌≤◌}
+use Prim.Native.Nat.{◌-◌}
 use mathlib.Core.Path.{◌≡◌}
 use lib.IntN.{pos}
 use Rattle.model.specs.Model.{last_within_lem}
@@ -6,7 +6,4 @@ use Rattle.jobs.specs.Views.{job_of}
 use Rattle.clock.proofs.due_of.Given as goal
 
 abbrev pub invariant-loop-s : goal.invariant-loop-s
-invariant-loop-s l = (l.s ≤ l.job.horizon) × (l.due ≡ last_within_lem (job_of l.job) (pos l.life) l.prev l.s)
-
-abbrev pub decreases-loop-s : goal.decreases-loop-s
-decreases-loop-s l = l.job.horizon - l.s
+invariant-loop-s l = l.due ≡ last_within_lem (job_of l.fn.job) (pos l.life) l.prev (l.s - 1)

@@ -1,78 +1,51 @@
 -- `positions_of`: the first i entries are the positions of the first i openings.
-use Prim.Native.Nat.{ℕ, ◌+◌, ◌≤◌}
-use mathlib.Core.Path.{◌≡◌, refl, sym, subst, ◌∙◌}
+use Prim.Native.Nat.{ℕ, ◌+◌, ◌≤◌, ◌<◌}
+use mathlib.Core.Path.{◌≡◌, sym, subst, ◌∙◌}
 use native.Mathlib.Omega.{arith}
 use lib.ListN.{get_or, take, length-set}
+use lib.Seq.{get_or-take, length-take-le}
 use lib.IntN.{pos}
 use Rattle.model.specs.Model.{positions}
 use Rattle.jobs.specs.Views.{job_of}
+use Rattle.jobs.specs.declared.Opening.{Opening}
 use Rattle.clock.specs.Placed.{Position}
 use Rattle.clock.proofs.Ranges.{position_bits}
-use Rattle.jobs.proofs.Jobs.{opening_at, valid_opening}
+use Rattle.jobs.proofs.Jobs.{blank_opening, opening_at, openings_long, valid_opening}
 use Rattle.clock.proofs.Places.{take_next, position_count, position_at, here_range, end_range, placed}
 use Rattle.clock.proofs.positions_of.Goals as goal
-use Rattle.clock.proofs.positions_of.Goals.{After-struct_known-1}
+use Rattle.clock.proofs.positions_of.Goals.{In-loop-i}
 
-pub loop-i-init : goal.loop-i-init
-loop-i-init c = (omega arith, refl, refl)
+inside : (c : In-loop-i) → c.loop-i.i < c.args.job.opening_count
+inside c = let j = c.args.job in omega (arith, c.loop-i-test.true, length-take-le j.opening_count j.openings (openings_long j c.requires.sized c.well_formed.0))
 
-pub offset_bounds-job-i : goal.offset_bounds-job-i
-offset_bounds-job-i c = omega (arith, c.requires.sized.openings)
-
-pub bounds-job-i : goal.bounds-job-i
-bounds-job-i c = omega (arith, c.requires.sized.openings)
+-- the opening at hand
+here_is : (c : In-loop-i) → get_or (take c.args.job.opening_count c.args.job.openings) c.loop-i.i blank_opening ≡ opening_at c.args.job c.loop-i.i
+here_is c = get_or-take c.args.job.opening_count c.args.job.openings c.loop-i.i blank_opening (inside c)
 
 -- an opening is a step of the horizon
-near : (c : After-struct_known-1) → (opening_at c.args.job c.loop-i.i).step ≤ 365
-near c = (valid_opening c.args.job c.requires.sized c.well_formed.0 c.requires.valid c.loop-i.i c.loop-i-test.true).step_high
-
-pub overflow_cast-at : goal.overflow_cast-at
-overflow_cast-at c = omega (arith, near c)
-
-pub offset_bounds-clock-o : goal.offset_bounds-clock-o
-offset_bounds-clock-o c = omega (arith, near c)
+near : (c : In-loop-i) → (get_or (take c.args.job.opening_count c.args.job.openings) c.loop-i.i blank_opening).step ≤ 365
+near c = subst (λ (o : Opening). o.step ≤ 365) (sym (here_is c)) (valid_opening c.args.job c.requires.sized c.well_formed.0 c.requires.valid c.loop-i.i (inside c)).step_high
 
 pub bounds-clock-o : goal.bounds-clock-o
-bounds-clock-o c = omega (arith, near c)
-
-pub offset_bounds-at-i : goal.offset_bounds-at-i
-offset_bounds-at-i c = omega (arith, c.requires.sized.openings)
-
-pub bounds-at-i : goal.bounds-at-i
-bounds-at-i c = omega (arith, c.requires.sized.openings)
-
-pub overflow_add-i : goal.overflow_add-i
-overflow_add-i c = omega (arith, c.requires.sized.openings)
+bounds-clock-o c = omega (arith, near (goal.at.bounds-clock-o c).In-loop-i)
 
 pub loop-i-preserved : goal.loop-i-preserved
 loop-i-preserved c = let l = c.loop-i in
-    let t = c.loop-i-test.true in
     let j = c.args.job in
-    let e = c.running_steps-clock.ensures (opening_at j l.i).step (omega (arith, near (goal.at.loop-i-preserved c).After-struct_known-1)) in
+    let at = (goal.at.loop-i-preserved c).In-loop-i in
+    let t = inside at in
+    let e = c.running_steps-clock.ensures (opening_at j l.i).step (omega (arith, (valid_opening j c.requires.sized c.well_formed.0 c.requires.valid l.i t).step_high)) in
     let r = subst Position (sym e) (here_range j c.requires.sized c.well_formed.0 c.requires.valid l.i t) in (
-      omega arith,
-      simp length-set l.invariant.1,
-      take_next l.at (positions (job_of j)) l.i _ (pos 0) (omega (arith, c.requires.sized.openings, l.invariant.1)) (rw (position_count j c.requires.sized c.well_formed.0) t) l.invariant.2
-          (position_bits (get_or c.running_steps-clock.result (opening_at j l.i).step (pos 0)) r ∙ e ∙ sym (position_at j c.requires.sized c.well_formed.0 l.i t)),
+      simp length-set l.invariant.0,
+      take_next l.at (positions (job_of j)) l.i _ (pos 0) (omega (arith, t, c.requires.sized.openings, l.invariant.0)) (rw (position_count j c.requires.sized c.well_formed.0) t) l.invariant.1
+          (rw (here_is at) (position_bits (get_or c.running_steps-clock.result (opening_at j l.i).step (pos 0)) r ∙ e ∙ sym (position_at j c.requires.sized c.well_formed.0 l.i t))),
     )
-
-pub overflow_cast-end : goal.overflow_cast-end
-overflow_cast-end c = omega (arith, c.requires.valid.horizon_high)
-
-pub overflow_add-end : goal.overflow_add-end
-overflow_add-end c = omega (arith, c.requires.valid.horizon_high)
-
-pub offset_bounds-clock-job : goal.offset_bounds-clock-job
-offset_bounds-clock-job c = omega (arith, c.requires.valid.horizon_high)
-
-pub bounds-clock-job : goal.bounds-clock-job
-bounds-clock-job c = omega (arith, c.requires.valid.horizon_high)
 
 pub returns : goal.returns
 returns c = let l = c.loop-i in
     let j = c.args.job in
     let e = c.running_steps-clock.ensures (j.horizon + 1) (omega (arith, c.requires.valid.horizon_high)) in
     let r = subst Position (sym e) (end_range j c.requires.sized c.well_formed.0 c.requires.valid) in
-    let same : l.i ≡ j.opening_count = omega arith in
-    placed j c.requires.sized c.well_formed.0 c.requires.valid l.at _ (subst (λ (i : ℕ). take i l.at ≡ take i (positions (job_of j))) same l.invariant.2)
+    let same : l.i ≡ j.opening_count = omega (arith, c.loop-i-test.false, c.loop-i.auto.i-end, length-take-le j.opening_count j.openings (openings_long j c.requires.sized c.well_formed.0)) in
+    placed j c.requires.sized c.well_formed.0 c.requires.valid l.at _ (subst (λ (i : ℕ). take i l.at ≡ take i (positions (job_of j))) same l.invariant.1)
     (position_bits (get_or c.running_steps-clock.result (j.horizon + 1) (pos 0)) r ∙ e)

@@ -1,4 +1,3 @@
-use Prim.Native.Nat.{◌-◌, ◌≤◌}
 use mathlib.Core.Path.{◌≡◌}
 use lib.ListN.{length, take}
 use Rattle.model.specs.Model.{positions}
@@ -6,7 +5,4 @@ use Rattle.jobs.specs.Views.{job_of}
 use Rattle.clock.proofs.positions_of.Given as goal
 
 abbrev pub invariant-loop-i : goal.invariant-loop-i
-invariant-loop-i l = (l.i ≤ l.n) × (length l.at ≡ 64) × (take l.i l.at ≡ take l.i (positions (job_of l.job)))
-
-abbrev pub decreases-loop-i : goal.decreases-loop-i
-decreases-loop-i l = l.n - l.i
+invariant-loop-i l = (length l.at ≡ 64) × (take l.i l.at ≡ take l.i (positions (job_of l.fn.job)))

@@ -1,4 +1,4 @@
-use Prim.Native.Nat.{ℕ, ◌-◌, ◌≤◌, ◌<◌}
+use Prim.Native.Nat.{ℕ, ◌≤◌, ◌<◌}
 use mathlib.Core.Path.{◌≡◌}
 use lib.ListN.{length, get_or}
 use Rattle.model.specs.Limits.{most_parts}
@@ -6,7 +6,4 @@ use Rattle.coming_out.proofs.Places.{Found}
 use Rattle.coming_out.proofs.places_of.Given as goal
 
 abbrev pub invariant-loop-j : goal.invariant-loop-j
-invariant-loop-j l = (l.j ≤ most_parts) × (l.count ≤ l.j) × (length l.places ≡ most_parts) × Found l.marks l.j l.count l.places × ((b : ℕ) → b < l.count → get_or l.places b 0 < most_parts)
-
-abbrev pub decreases-loop-j : goal.decreases-loop-j
-decreases-loop-j l = most_parts - l.j
+invariant-loop-j l = (l.count ≤ l.j) × (length l.places ≡ most_parts) × Found l.marks l.j l.count l.places × ((b : ℕ) → b < l.count → get_or l.places b 0 < most_parts)

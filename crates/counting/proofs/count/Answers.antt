@@ -1,47 +1,49 @@
 -- `count`: a fault of the job text is handed over with its line; else the job is counted. The promise holds of the defined answer.
+use Prim.Native.Nat.{ℕ}
 use mathlib.Core.Path.{◌≡◌, sym, ap, ◌∙◌}
 use native.Mathlib.Omega.{arith}
 use Rattle.lines.specs.Parser.{accepted, refused}
 use Rattle.fault_lines.specs.declared.fault.Span.{Span}
-use Rattle.lines.proofs.Outcomes.{told}
+use Rattle.lines.specs.Fault.{number_of_lem}
+use Rattle.lines.specs.Reads.{outcome, seen}
 use Rattle.job_grammar.specs.Grammar.{read_job_lem}
 use Rattle.job_text.specs.Views.{given_of}
-use Rattle.job_text.proofs.Views.{means}
-use Rattle.job_grammar.proofs.Accepted.{valid}
+use Rattle.job_text.proofs.Views.{means, sound_text, sound_job}
 use Rattle.job_grammar.proofs.Numbered.{fault}
 use Rattle.counting.specs.declared.Counted.{Counted}
 use Rattle.counting.specs.Count.{on_job, count_said}
 use Rattle.counting.specs.Promise.{CountPromise}
 use Rattle.counting.proofs.Promised.{promised}
 use Rattle.counting.proofs.count.Goals as goal
-use Rattle.counting.proofs.count.Goals.{In-Fault, In-Good, Start}
+use Rattle.counting.proofs.count.Goals.{In-Err, In-Ok, Start}
 
--- what the job text reads as, by the verdict on it
-refused_job : (c : In-Fault) → read_job_lem c.args.job.now ≡ refused c.in-Fault.number c.in-Fault.line
-refused_job c = told _ (means _ c.read_job-read.ensures) c.in-Fault.is
+-- what the job text reads as, by what was read
+refused_job : (c : In-Err) → read_job_lem c.args.job.now ≡ refused (number_of_lem c.in-Err.fault.kind) c.in-Err.fault.line
+refused_job c = sym (means _ c.read_job.ensures) ∙ ap (λ r. outcome (seen given_of r)) c.in-Err.is
 
-accepted_job : (c : In-Good) → let r = c.read_job-read.result in read_job_lem c.args.job.now ≡ accepted (given_of r.text)
-accepted_job c = told _ (means _ c.read_job-read.ensures) c.in-Good.is
+accepted_job : (c : In-Ok) → read_job_lem c.args.job.now ≡ accepted (given_of c.in-Ok.text)
+accepted_job c = sym (means _ c.read_job.ensures) ∙ ap (λ r. outcome (seen given_of r)) c.in-Ok.is
 
 -- the defined answer keeps the promise
 kept : (c : Start) (r : Counted) → r ≡ count_said c.args.job.now → (r ≡ count_said c.args.job.now) × CountPromise c.args.job.now r
 kept c r e = (e, rw e (promised c.args.job.now))
 
 pub overflow_cast-result : goal.overflow_cast-result
-overflow_cast-result c = omega (arith, (fault _ _ _ (refused_job (goal.at.overflow_cast-result c).In-Fault)).1)
+overflow_cast-result c = omega (arith, (fault _ _ _ (refused_job (goal.at.overflow_cast-result c).In-Err)).1)
 
 pub counted_job-requires : goal.counted_job-requires
-counted_job-requires c = record { sized = c.read_job-read.ensures.sized; valid = (valid _ _ (accepted_job (goal.at.counted_job-requires c).In-Good)).job }
+counted_job-requires c = sound_job c.in-Ok.text (sound_text c.args.job.now c.in-Ok.text (accepted_job (goal.at.counted_job-requires c).In-Ok))
 
-pub returns-in-Fault : goal.returns-in-Fault
+pub returns-in-Err : goal.returns-in-Err
 unfolding count_said
-returns-in-Fault c = kept (goal.at.returns-in-Fault c).Start _
+returns-in-Err c = kept (goal.at.returns-in-Err c).Start _
     (ap
-    (λ (x : Span). record { result = c.in-Fault.number; text = 1; line = c.in-Fault.line; count = 0; fault_start = x.start; fault_length = x.length })
+    (λ (x : Span). record { result = c.number.result; text = 1; line = c.in-Err.fault.line; count = 0; fault_start = x.start; fault_length = x.length })
     c.fault_span-span.ensures
-    ∙ ap (on_job c.args.job.now) (sym (refused_job (goal.at.returns-in-Fault c).In-Fault)))
+    ∙ ap (λ (n : ℕ). on_job c.args.job.now (refused n c.in-Err.fault.line)) c.number.ensures
+    ∙ ap (on_job c.args.job.now) (sym (refused_job (goal.at.returns-in-Err c).In-Err)))
 
-pub returns-in-Good : goal.returns-in-Good
+pub returns-in-Ok : goal.returns-in-Ok
 unfolding count_said
-returns-in-Good c = kept (goal.at.returns-in-Good c).Start _
-    (c.counted_job.ensures ∙ ap (on_job c.args.job.now) (sym (accepted_job (goal.at.returns-in-Good c).In-Good)))
+returns-in-Ok c = kept (goal.at.returns-in-Ok c).Start _
+    (c.counted_job.ensures ∙ ap (on_job c.args.job.now) (sym (accepted_job (goal.at.returns-in-Ok c).In-Ok)))

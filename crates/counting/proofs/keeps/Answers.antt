@@ -8,22 +8,22 @@ use Rattle.counting.proofs.Keeping.{keeps_more, keeps_not, keeps_all}
 use Rattle.counting.proofs.keeps.Goals as goal
 
 pub loop-k-init : goal.loop-k-init
-loop-k-init c = (omega arith, refl)
+loop-k-init c = refl
 
 pub reaches-requires : goal.reaches-requires
-reaches-requires c = (omega (arith, c.loop-k.invariant.0), near_back c.args.end c.args.first c.args.positions.now c.ranges.first c.requires)
+reaches-requires c = (omega arith, near_back c.args.end c.args.first c.args.positions.now c.ranges.first c.requires)
 
 pub returns-then-not-reaches : goal.returns-then-not-reaches
 returns-then-not-reaches c = rw (to_z-of_z c.ranges.life, to_z-of_z c.ranges.end, to_z-of_z c.ranges.first)
-    at (keeps_not _ _ _ c.args.positions.now c.loop-k.k c.reaches.result c.loop-k-test.true c.reaches.ensures c.if-not-reaches.true c.loop-k.invariant.1)
+    at (keeps_not _ _ _ c.args.positions.now c.loop-k.k c.reaches.result c.loop-k-test.true c.reaches.ensures c.if-not-reaches.true c.loop-k.invariant)
 
 pub loop-k-preserved : goal.loop-k-preserved
-loop-k-preserved c = (omega arith, keeps_more _ _ _ c.args.positions.now c.loop-k.k c.reaches.result c.loop-k-test.true c.reaches.ensures c.if-not-reaches.false c.loop-k.invariant.1)
+loop-k-preserved c = keeps_more _ _ _ c.args.positions.now c.loop-k.k c.reaches.result c.loop-k-test.true c.reaches.ensures c.if-not-reaches.false c.loop-k.invariant
 
 pub reaches-requires-2 : goal.reaches-requires-2
 reaches-requires-2 c = (omega arith, near_back c.args.end c.args.first c.args.positions.now c.ranges.first c.requires)
 
 pub returns : goal.returns
-returns c = let z : c.loop-k.k ≡ length c.args.positions.now = omega (arith, c.loop-k.invariant.0, c.loop-k-test.false) in
+returns c = let z : c.loop-k.k ≡ length c.args.positions.now = omega arith in
     rw (to_z-of_z c.ranges.life, to_z-of_z c.ranges.end, to_z-of_z c.ranges.first)
-    at (c.reaches-2.ensures ∙ keeps_all _ _ _ c.args.positions.now c.loop-k.k z c.loop-k.invariant.1)
+    at (c.reaches-2.ensures ∙ keeps_all _ _ _ c.args.positions.now c.loop-k.k z c.loop-k.invariant)

@@ -22,16 +22,7 @@ seen : (m : ℕ) (ps : List Part) → length (viewed 0 m ps) ≡ length (take m 
 seen m ps = length-map (take m ps) (part_of_lem 0)
 
 pub loop-q-init : goal.loop-q-init
-loop-q-init c = (omega arith, refl, refl)
-
-pub lent_life-requires : goal.lent_life-requires
-lent_life-requires c = (c.loop-q-test.true, c.requires.parts)
-
-pub lent_left-requires : goal.lent_left-requires
-lent_left-requires c = (c.loop-q-test.true, c.requires.parts)
-
-pub overflow_add-q : goal.overflow_add-q
-overflow_add-q c = omega (arith, c.requires)
+loop-q-init c = (refl, refl)
 
 pub loop-q-preserved : goal.loop-q-preserved
 loop-q-preserved c = let l = c.loop-q in
@@ -39,13 +30,10 @@ loop-q-preserved c = let l = c.loop-q in
     let m = j.part_count in
     let ps = j.parts in
     let t = c.loop-q-test.true in
-    let life-read = c.lent_life.ensures in
-    let left-read = c.lent_left.ensures in
     let here = part_viewed 0 m ps l.q t in
-    let inside : l.q < length (viewed 0 m ps) = omega (arith, t, life-read.1, seen m ps, length-take m ps) in (
-      omega arith,
-      least_more life (viewed 0 m ps) l.q l.life c.shorter-life.result inside (c.shorter-life.ensures ∙ ap (min l.life) (life-read.0 ∙ ap life (sym here))) l.invariant.1,
-      least_more left (viewed 0 m ps) l.q l.left c.shorter-left.result inside (c.shorter-left.ensures ∙ ap (min l.left) (left-read.0 ∙ ap left (sym here))) l.invariant.2,
+    let inside : l.q < length (viewed 0 m ps) = omega (arith, t, seen m ps, length-take m ps, c.lent_life.ensures.1) in (
+      least_more life (viewed 0 m ps) l.q l.life c.min-life.result inside (c.min-life.ensures ∙ ap (min l.life) (c.lent_life.ensures.0 ∙ ap life (sym here))) l.invariant.0,
+      least_more left (viewed 0 m ps) l.q l.left c.min-left.result inside (c.min-left.ensures ∙ ap (min l.left) (c.lent_left.ensures.0 ∙ ap left (sym here))) l.invariant.1,
     )
 
 pub returns : goal.returns
@@ -54,6 +42,6 @@ returns c = let l = c.loop-q in
     let m = j.part_count in
     let ps = j.parts in
     let all : length (viewed 0 m ps) ≤ l.q = omega (arith, c.loop-q-test.false, seen m ps, length-take m ps) in (
-      least_all life (viewed 0 m ps) l.q l.life all l.invariant.1 ∙ same_lives life j.opening_count (λ x. refl) (take m ps) _,
-      least_all left (viewed 0 m ps) l.q l.left all l.invariant.2 ∙ same_lives left j.opening_count (λ x. refl) (take m ps) _,
+      least_all life (viewed 0 m ps) l.q l.life all l.invariant.0 ∙ same_lives life j.opening_count (λ x. refl) (take m ps) _,
+      least_all left (viewed 0 m ps) l.q l.left all l.invariant.1 ∙ same_lives left j.opening_count (λ x. refl) (take m ps) _,
     )

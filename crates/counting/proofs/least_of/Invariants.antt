@@ -5,7 +5,4 @@ use Rattle.counting.proofs.Lives.{Least}
 use Rattle.counting.proofs.least_of.Given as goal
 
 abbrev pub invariant-loop-q : goal.invariant-loop-q
-invariant-loop-q l = (l.q ≤ l.count) × Least (λ (p : model.Part). p.life) (viewed 0 l.count l.parts) l.q l.life × Least (λ (p : model.Part). p.left) (viewed 0 l.count l.parts) l.q l.left
-
-abbrev pub decreases-loop-q : goal.decreases-loop-q
-decreases-loop-q l = l.count - l.q
+invariant-loop-q l = Least (λ (p : model.Part). p.life) (viewed 0 l.job.part_count l.job.parts) l.q l.life × Least (λ (p : model.Part). p.left) (viewed 0 l.job.part_count l.job.parts) l.q l.left

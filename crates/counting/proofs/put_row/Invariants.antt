@@ -5,7 +5,4 @@ use Rattle.counting.specs.Row.{noted}
 use Rattle.counting.proofs.put_row.Given as goal
 
 abbrev pub invariant-loop-m : goal.invariant-loop-m
-invariant-loop-m l = (l.m ≤ l.j + 1) × FilledBy (λ (i : ℕ). i) (noted (in_time_lem l.life l.end l.first l.positions) l.j l.initial.row) l.m l.initial.row l.row
-
-abbrev pub decreases-loop-m : goal.decreases-loop-m
-decreases-loop-m l = l.j + 1 - l.m
+invariant-loop-m l = FilledBy (λ (i : ℕ). i) (noted (in_time_lem l.life l.end l.first l.positions) l.j l.initial.row) l.m l.initial.row l.row

@@ -10,32 +10,28 @@ use Rattle.counting.proofs.table.Goals as goal
 
 pub loop-j-init : goal.loop-j-init
 loop-j-init c = let size : length {A = ℕ} (replicate 65 1) ≡ 65 = refl in
-    (omega arith, refl, row_last _ _ (replicate 65 1) (omega (arith, size, c.requires.0)) (λ m h. get_or-replicate 65 m 1 0 (omega (arith, h, c.requires.0))))
+    (refl, row_last _ _ (replicate 65 1) (omega (arith, size, c.requires.0)) (λ m h. get_or-replicate 65 m 1 0 (omega (arith, h, c.requires.0))))
 
 pub slice_bounds-put_row-end : goal.slice_bounds-put_row-end
-slice_bounds-put_row-end c = sym c.loop-j.invariant.1
+slice_bounds-put_row-end c = sym c.loop-j.invariant.0
 
 pub put_row-requires : goal.put_row-requires
 put_row-requires c = let l = c.loop-j in
     let z : l.j - 1 + 1 ≡ l.j = omega (arith, c.loop-j-test.true) in (
-      omega (arith, c.loop-j-test.true, l.invariant.0),
+      omega (arith, c.loop-j-test.true),
       near_back c.args.end c.args.first c.args.positions.now c.ranges.first c.requires.1,
-      rw z l.invariant.2,
+      rw z l.invariant.1,
     )
-
-pub loop-j-smaller : goal.loop-j-smaller
-loop-j-smaller c = omega (arith, c.loop-j-test.true)
 
 pub loop-j-preserved : goal.loop-j-preserved
 loop-j-preserved c = let l = c.loop-j in
     let put = c.put_row.ensures in
     let z : l.j - 1 + 1 ≡ l.j = omega (arith, c.loop-j-test.true) in (
-      omega (arith, l.invariant.0),
-      put.size ∙ l.invariant.1,
-      row_next _ _ (l.j - 1) l.row _ (omega (arith, c.loop-j-test.true, l.invariant.0)) (rw z l.invariant.2) put,
+      put.size ∙ l.invariant.0,
+      row_next _ _ (l.j - 1) l.row _ (omega (arith, c.loop-j-test.true)) (rw z l.invariant.1) put,
     )
 
 pub returns : goal.returns
 returns c = let l = c.loop-j in
     let e : l.j ≡ 0 = omega (arith, c.loop-j-test.false) in
-    rw (to_z-of_z c.ranges.life, to_z-of_z c.ranges.end, to_z-of_z c.ranges.first) at (row_first _ _ l.j l.row e l.invariant.2)
+    rw (to_z-of_z c.ranges.life, to_z-of_z c.ranges.end, to_z-of_z c.ranges.first) at (row_first _ _ l.j l.row e l.invariant.1)

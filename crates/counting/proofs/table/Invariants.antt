@@ -6,7 +6,4 @@ use Rattle.counting.specs.Row.{Row}
 use Rattle.counting.proofs.table.Given as goal
 
 abbrev pub invariant-loop-j : goal.invariant-loop-j
-invariant-loop-j l = (l.j ≤ length l.positions) × (length l.row ≡ 65) × Row (in_time_lem l.life l.end l.first l.positions) (length l.positions) l.j l.row
-
-abbrev pub decreases-loop-j : goal.decreases-loop-j
-decreases-loop-j l = l.j
+invariant-loop-j l = (length l.row ≡ 65) × Row (in_time_lem l.life l.end l.first l.positions) (length l.positions) l.j l.row

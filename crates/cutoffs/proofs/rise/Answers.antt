@@ -1,9 +1,11 @@
 -- `rise`: the invariant says that no plan costs less than the last cutoff that was passed.
-use Prim.Native.Nat.{ℕ}
-use mathlib.Core.Path.{sym, ap, subst, ◌∙◌}
+use Prim.Native.Nat.{ℕ, min}
+use mathlib.Core.Path.{◌≡◌, sym, ap, subst, ◌∙◌}
 use mathlib.Core.Bool.{Bool, true≢false}
 use mathlib.Core.List.{List}
 use native.Mathlib.Omega.{arith}
+use Rattle.std.proofs.Common.{rules}
+use Rattle.std.proofs.lemmas.Option.{none-some}
 use lib.ListN.{take}
 use Rattle.model.specs.LowerBound.{plan_at}
 use Rattle.model.specs.Promise.{BestPlan, Any}
@@ -24,7 +26,7 @@ pub returns-then-s : goal.returns-then-s
 returns-then-s c = let l = c.loop-low in
     let v = c.solve-s in record {
       right = λ job shares lanes so fair none. record {
-        plan_found_lem = λ e. absurd (true≢false (sym e));
+        plan_found_lem = λ k e. absurd (none-some _ e);
         longer = λ e. (l.k, cut_longer job shares fair l.k c.args.limit v.new.best v.result (v.ensures.search job shares lanes so) c.if-s.true);
         none_under = l.invariant.6 job shares lanes so fair none;
         passed = λ e f. absurd (true≢false f);
@@ -36,15 +38,17 @@ returns-then-s c = let l = c.loop-low in
 pub returns-then-s-k : goal.returns-then-s-k
 returns-then-s-k c = let l = c.loop-low in
     let v = c.solve-s in
-    let n = c.name_length.ensures in
+    let n : c.min.result ≡ min v.result.size name_size = search rules in
     let b = v.new.best in record {
       right = λ job shares lanes so fair none. record {
-        plan_found_lem = λ e.
-            subst (λ (p : List Bool). BestPlan job Any v.result.cost (plan_at job p)) (sym (ap (λ (i : ℕ). take i b) n ∙ take_min v.result.size name_size b v.ensures.found))
-            (found_best job shares fair l.k c.args.limit b v.result (v.ensures.search job shares lanes so) c.if-s.false c.if-s-k.true);
+        plan_found_lem = λ k e.
+            let z : v.result.cost ≡ k = cc in
+            subst (λ (i : ℕ). BestPlan job Any i (plan_at job (take c.min.result b))) z
+            (subst (λ (p : List Bool). BestPlan job Any v.result.cost (plan_at job p)) (sym (ap (λ (i : ℕ). take i b) n ∙ take_min v.result.size name_size b v.ensures.found))
+            (found_best job shares fair l.k c.args.limit b v.result (v.ensures.search job shares lanes so) c.if-s.false c.if-s-k.true));
         longer = λ e. absurd (true≢false (sym e));
         none_under = l.invariant.6 job shares lanes so fair none;
-        passed = λ e f. absurd (true≢false e);
+        passed = λ e f. absurd (none-some _ (sym e));
       };
       short = omega (arith, n);
       room = v.ensures.found;
@@ -72,7 +76,7 @@ loop-low-preserved c = let l = c.loop-low in
 pub returns : goal.returns
 returns c = let l = c.loop-low in record {
   right = λ job shares lanes so fair none. record {
-    plan_found_lem = λ e. absurd (true≢false (sym e));
+    plan_found_lem = λ k e. absurd (none-some _ e);
     longer = λ e. absurd (true≢false (sym e));
     none_under = l.invariant.6 job shares lanes so fair none;
     passed = λ e f. omega (arith, c.loop-low-test.false);

@@ -14,21 +14,21 @@ use Rattle.fair_shares.proofs.check_row.Goals as goal
 
 pub total-requires : goal.total-requires
 total-requires c = let o = c.offer_row.ensures in
-    let a = c.args in
-    (omega arith, omega (arith, o.size), λ q l. omega (arith, o.lanes q l, offer_small a.raw.now a.x.now a.prices.now a.things a.r q))
+    let s = c.args.shares.now in
+    (omega arith, omega (arith, o.size), λ q l. omega (arith, o.lanes q l, offer_small s.raw.now c.args.x.now s.prices.now s.things c.args.r q))
 
 pub returns-then-cost-total : goal.returns-then-cost-total
 returns-then-cost-total c = let a = c.args in
     let o = c.offer_row.ensures in
-    let f = offer a.raw.now a.x.now a.prices.now a.things a.r in
+    let f = offer a.shares.now.raw.now a.x.now a.shares.now.prices.now a.shares.now.things a.r in
     let s = sum_same lane_count_lem (λ (q : ℕ). get_or c.offer_row.new.acc q 0) f o.lanes in
-    let e = lt-leb (sum_lanes lane_count_lem f) (cost_in_lem a.fees.now a.removals.now a.r) (omega (arith, s, c.if-cost-total.true, c.total.ensures, c.cost_in-cost.ensures)) in
+    let e = lt-leb (sum_lanes lane_count_lem f) (cost_in_lem a.shares.now.fees.now a.shares.now.removals.now a.r) (omega (arith, s, c.if-cost-total.true, c.total.ensures, c.from-cost.ensures, c.cost_in.ensures)) in
     filled_as (λ q l. none_at 16 q ∙ sym (ap (λ (b : Bool). cond b (f q) 0) e)) c.store_row.ensures
 
 pub returns : goal.returns
 returns c = let a = c.args in
     let o = c.offer_row.ensures in
-    let f = offer a.raw.now a.x.now a.prices.now a.things a.r in
+    let f = offer a.shares.now.raw.now a.x.now a.shares.now.prices.now a.shares.now.things a.r in
     let s = sum_same lane_count_lem (λ (q : ℕ). get_or c.offer_row.new.acc q 0) f o.lanes in
-    let e = le-leb (sum_lanes lane_count_lem f) (cost_in_lem a.fees.now a.removals.now a.r) (omega (arith, s, c.if-cost-total.false, c.total.ensures, c.cost_in-cost.ensures)) in
+    let e = le-leb (sum_lanes lane_count_lem f) (cost_in_lem a.shares.now.fees.now a.shares.now.removals.now a.r) (omega (arith, s, c.if-cost-total.false, c.total.ensures, c.from-cost.ensures, c.cost_in.ensures)) in
     filled_as (λ q l. o.lanes q l ∙ sym (ap (λ (b : Bool). cond b (f q) 0) e)) c.store_row-2.ensures

@@ -11,6 +11,6 @@ pub returns-then-r-lt64 : goal.returns-then-r-lt64
 returns-then-r-lt64 c = let a = c.args in
     c.number_at.ensures ∙ sym (ap (λ (b : Bool). cond b (get_or a.fees.now a.r 0) (get_or a.removals.now (a.r / 64 - 1) 0)) (lt-ltb a.r 64 c.if-r-lt64.true))
 
-pub returns : goal.returns
-returns c = let a = c.args in
-    c.number_at-2.ensures ∙ sym (ap (λ (b : Bool). cond b (get_or a.fees.now a.r 0) (get_or a.removals.now (a.r / 64 - 1) 0)) (le-ltb a.r 64 (omega (arith, c.if-r-lt64.false))))
+pub returns-else-r-lt64 : goal.returns-else-r-lt64
+returns-else-r-lt64 c = let a = c.args in
+    c.number_at-else-r-lt64.ensures ∙ sym (ap (λ (b : Bool). cond b (get_or a.fees.now a.r 0) (get_or a.removals.now (a.r / 64 - 1) 0)) (le-ltb a.r 64 (omega (arith, c.if-r-lt64.false))))

@@ -1,13 +1,8 @@
--- `mark` writes what belongs to no share.
-use mathlib.Core.Path.{◌∙◌}
-use lib.ListN.{length, length-set}
-use Rattle.share_rows.specs.Places.{holds_place}
-use Rattle.fair_shares.proofs.Rows.{marked_by}
+-- `mark`: the needs in an array of the right size are those that were passed.
+use Rattle.std.proofs.Common.{List, Bool, subst}
+use Rattle.fair_shares.specs.Checked.{Marked}
 use Rattle.fair_shares.proofs.mark.Goals as goal
 
-pub shape_of-x : goal.shape_of-x
-shape_of-x c = length-set c.put_removals.new.x holds_place (length c.args.removals.now) ∙ c.put_removals.ensures.size ∙ c.put_takes.ensures.size
-
-pub returns : goal.returns
-returns c = let a = c.args in
-    marked_by a.needs.now a.parts a.removals.now a.x.now c.put_takes.new.x c.put_removals.new.x c.requires.3 c.requires.2 c.put_takes.ensures c.put_removals.ensures
+pub returns-in-Some-as_mut_array : goal.returns-in-Some-as_mut_array
+returns-in-Some-as_mut_array c = let a = c.args in
+    subst (λ (nd : List Bool). Marked nd a.parts a.removals.now c.mark_table.new.x) c.in-Some.ensures.cases.same c.mark_table.ensures

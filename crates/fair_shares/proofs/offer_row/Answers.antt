@@ -11,20 +11,13 @@ use Rattle.fair_shares.specs.Checked.{row_start}
 use Rattle.fair_shares.proofs.offer_row.Goals as goal
 
 pub loop-q-init : goal.loop-q-init
-loop-q-init c = (omega arith, omega arith, omega arith, filled_none)
-
-pub room_of-room-requires : goal.room_of-room-requires
-room_of-room-requires c = (c.requires.0.cheap _, c.requires.0.some, c.requires.1)
+loop-q-init c = filled_none
 
 pub loop-q-preserved : goal.loop-q-preserved
 loop-q-preserved c = let l = c.loop-q in
-    let a = c.args in (
-      omega arith,
-      l.invariant.1,
-      l.invariant.2,
-      filled_more c.offered.result (omega (arith, c.requires.2)) (λ p h z. omega (arith, z))
-          (c.offered.ensures ∙ ap (λ (v : ℕ). cond (eqb (get_or a.x.now (take_place (a.r / 64) l.q) 0) 0) 0 (min (get_or a.raw.now (row_start a.r + l.q) 0) v)) c.room_of-room.ensures) l.invariant.3,
-    )
+    let a = c.args in
+    filled_more c.offered.result (omega arith) (λ p h z. omega (arith, z))
+    (c.offered.ensures ∙ ap (λ (v : ℕ). cond (eqb (get_or a.x.now (take_place (a.r / 64) l.q) 0) 0) 0 (min (get_or a.shares.now.raw.now (row_start a.r + l.q) 0) v)) c.room_of-room.ensures) l.invariant
 
 pub returns : goal.returns
-returns c = let d = c.loop-q.invariant.3 in record { size = d.size; lanes = λ q h. d.done q (omega arith) }
+returns c = let d = c.loop-q.invariant in record { size = d.size; lanes = λ q h. d.done q (omega arith) }

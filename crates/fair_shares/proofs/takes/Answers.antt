@@ -6,6 +6,7 @@ use native.Mathlib.Omega.{arith}
 use borrow.Author.Tests.{eq-eqb, ne_eqb, le-leb, lt-leb}
 use lib.Dec.{leb}
 use lib.ListN.{get_or}
+use Rattle.fair_shares.proofs.Rows.{bit_of}
 use Rattle.fair_shares.proofs.takes.Goals as goal
 use Rattle.fair_shares.proofs.takes.Goals.{Start}
 
@@ -25,8 +26,5 @@ returns-then-m-eq0 c = sym (ap (behind (goal.at.returns-then-m-eq0 c).Start) (eq
 pub returns-then-parts-q : goal.returns-then-parts-q
 returns-then-parts-q c = sym (ap (behind (goal.at.returns-then-parts-q c).Start) (ne_eqb c.args.m 0 c.if-m-eq0.false) ∙ ap (past (goal.at.returns-then-parts-q c).Start) (le-leb c.args.parts c.args.q c.if-parts-q.true))
 
-pub returns-then-needs-q : goal.returns-then-needs-q
-returns-then-needs-q c = sym (ap (behind (goal.at.returns-then-needs-q c).Start) (ne_eqb c.args.m 0 c.if-m-eq0.false) ∙ ap (past (goal.at.returns-then-needs-q c).Start) (lt-leb c.args.parts c.args.q (omega (arith, c.if-parts-q.false))) ∙ ap (λ (b : Bool). cond b 1 0) c.if-needs-q.true)
-
 pub returns : goal.returns
-returns c = sym (ap (behind (goal.at.returns c).Start) (ne_eqb c.args.m 0 c.if-m-eq0.false) ∙ ap (past (goal.at.returns c).Start) (lt-leb c.args.parts c.args.q (omega (arith, c.if-parts-q.false))) ∙ ap (λ (b : Bool). cond b 1 0) c.if-needs-q.false)
+returns c = c.from.ensures ∙ bit_of (need (goal.at.returns c).Start) ∙ sym (ap (behind (goal.at.returns c).Start) (ne_eqb c.args.m 0 c.if-m-eq0.false) ∙ ap (past (goal.at.returns c).Start) (lt-leb c.args.parts c.args.q (omega (arith, c.if-parts-q.false))))

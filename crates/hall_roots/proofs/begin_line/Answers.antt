@@ -4,7 +4,8 @@ use mathlib.Core.Path.{◌≡◌, refl, sym, ap, ◌∙◌}
 use mathlib.Core.List.{List, []}
 use native.Mathlib.Omega.{arith}
 use borrow.Author.Rules.{rules}
-use lib.ListN.{length, get_or}
+use lib.ListN.{length, get_or, set}
+use lib.Seq.{get_or-set_same}
 use Rattle.branch.specs.declared.Bound.TheVariants.{Missing, Sum}
 use Rattle.branch.specs.Lower.{add}
 use Rattle.branch.proofs.Bounds.{no_sum_lem}
@@ -16,7 +17,8 @@ use Rattle.held_lanes.specs.Places.{aside_size}
 use Rattle.held_lanes.specs.Tables.{HeldTables}
 use Rattle.walk.specs.State.{no_cost}
 use Rattle.held_nodes.proofs.Root.{bound_first, root_due, root_given}
-use Rattle.hall_lines.specs.Levels.{rows_in_lem, sums_in, term_in, mask_in}
+use Rattle.hall_lines.specs.declared.Level.{Level}
+use Rattle.hall_lines.specs.Levels.{no_level, level_at}
 use Rattle.hall_lines.proofs.Levels.{at_plain}
 use Rattle.hall_roots.proofs.begin_line.Goals as goal
 use Rattle.hall_roots.proofs.begin_line.Goals.{After-first_marks-arg-2-1, After-first_sums}
@@ -27,22 +29,22 @@ rows c = c.base_row.new.w
 abbrev marks : After-first_sums → List ℕ
 marks c = c.first_marks.new.v
 
-sized : (c : After-first_marks-arg-2-1) → length c.args.v.now ≡ aside_size
+sized : (c : After-first_marks-arg-2-1) → length c.args.own.now.v ≡ aside_size
 sized c = search rules
 
 pub first_sums-requires : goal.first_sums-requires
-first_sums-requires c = (c.requires.1.size, c.requires.1.narrow, first_most (plain c.requires.0) c.args.t.now c.requires.1)
+first_sums-requires c = (c.requires.1.size, c.requires.1.narrow, first_most (plain c.requires.0) c.args.tables.now.t c.requires.1)
 
-module _ (c : After-first_sums) (sheet : HeldSheet) (ta : Tables (plain sheet) c.args.t.now) (he : HeldTables sheet c.args.u.now) (fit : Classed sheet) where
+module _ (c : After-first_sums) (sheet : HeldSheet) (ta : Tables (plain sheet) c.args.tables.now.t) (he : HeldTables sheet c.args.tables.now.u) (fit : Classed sheet) where
   -- the first term, and the floor
   abbrev g : ℕ
-  g = get_or c.args.t.now (term_place 0 0) 0
+  g = get_or c.args.tables.now.t (term_place 0 0) 0
 
   floor_is : held_bound sheet [] ≡ add (Sum g) c.first_sums.result
-  floor_is = bound_first sheet c.args.t.now c.args.u.now (rows c) ta he fit c.base_row.ensures ∙ ap (add (Sum g)) (sym c.first_sums.ensures)
+  floor_is = bound_first sheet c.args.tables.now.t c.args.tables.now.u (rows c) ta he fit c.base_row.ensures ∙ ap (add (Sum g)) (sym c.first_sums.ensures)
 
   fits : (x : ℕ) → c.first_sums.result ≡ Sum x → g + x < no_cost
-  fits x e = (root_due sheet c.args.t.now c.args.u.now (rows c) ta he fit c.base_row.ensures 0).fits x (sym c.first_sums.ensures ∙ e)
+  fits x e = (root_due sheet c.args.tables.now.t c.args.tables.now.u (rows c) ta he fit c.base_row.ensures 0).fits x (sym c.first_sums.ensures ∙ e)
 
 pub returns-in_default : goal.returns-in_default
 returns-in_default c =
@@ -57,13 +59,14 @@ returns c =
     let d = (goal.at.returns c).After-first_sums in
     let x = c.in-Sum.x in
     let a = c.args in
-    let n' = c.put_level.new.n in
-    let put = c.put_level.ensures in
     let t = c.term-g.ensures in
+    let long : length a.own.now.n ≡ 65 = search rules in
+    let l : Level = record { rows = 1; sums = x; term = c.term-g.result; mask = 0 } in
+    let put : level_at (set a.own.now.n 0 l) 0 ≡ l = get_or-set_same a.own.now.n 0 l no_level (omega (arith, long)) in
     λ sheet ta he fit. record {
       floor = ap (λ (k : ℕ). Sum (k + x)) t ∙ sym (floor_is d sheet ta he fit ∙ ap (add (Sum (g d sheet ta he fit))) c.in-Sum.is);
       given = λ f e.
           at_plain
-          (root_given sheet a.t.now a.u.now (rows d) ta he fit c.base_row.ensures a.v.now (marks d) (held sheet) x (sized (goal.at.returns c).After-first_marks-arg-2-1) c.first_marks.ensures refl (sym c.first_sums.ensures ∙ c.in-Sum.is))
-          refl (rows_in_lem n' 0) (held sheet) (mask_in n' 0) (sums_in n' 0) (term_in n' 0) put.rows_are refl put.mask_is put.sums_are (put.term_is ∙ t);
+          (root_given sheet a.tables.now.t a.tables.now.u (rows d) ta he fit c.base_row.ensures a.own.now.v (marks d) (held sheet) x (sized (goal.at.returns c).After-first_marks-arg-2-1) c.first_marks.ensures refl (sym c.first_sums.ensures ∙ c.in-Sum.is))
+          refl _ (held sheet) _ _ _ (ap (λ (k : Level). k.rows) put) refl (ap (λ (k : Level). k.mask) put) (ap (λ (k : Level). k.sums) put) (ap (λ (k : Level). k.term) put ∙ t);
     }

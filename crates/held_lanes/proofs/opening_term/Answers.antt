@@ -2,6 +2,7 @@
 use Prim.Native.Nat.{ℕ, ◌+◌, ◌*◌, max}
 use mathlib.Core.Path.{◌≡◌, ap, ◌∙◌}
 use native.Mathlib.Omega.{arith}
+use Rattle.std.proofs.Common.{rules}
 use lib.ListN.{get_or}
 use Rattle.lane_rows.specs.Layout.{lane_count_lem, triangle}
 use Rattle.lane_rows.proofs.Rising.{row_inside}
@@ -32,9 +33,10 @@ class_term-requires c = class_asks c.requires (omega (arith, c.number-n.ensures.
 
 pub loop-c-preserved : goal.loop-c-preserved
 loop-c-preserved c = let l = c.loop-c in
-    let a = c.args in (
+    let a = c.args in
+    let m : c.max-g.result ≡ max l.g c.class_term.result = search rules in (
       omega arith,
-      c.more-g.ensures
+      m
           ∙ ap (max l.g) (c.class_term.ensures ∙ ap (λ (k : ℕ). get_or a.u.now (k * lane_count_lem + get_or a.v.now (last_place a.r l.c) 0) 0) (row (goal.at.loop-c-preserved c).After-number-n))
           ∙ most_more (term_of a.u.now a.v.now a.j a.r) l.c l.g l.invariant.1,
     )

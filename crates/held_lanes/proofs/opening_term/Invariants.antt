@@ -1,4 +1,4 @@
-use Prim.Native.Nat.{◌-◌, ◌≤◌}
+use Prim.Native.Nat.{◌≤◌}
 use mathlib.Core.Path.{◌≡◌}
 use Rattle.held_lanes.specs.Places.{most_to}
 use Rattle.held_lanes.specs.Tables.{term_of}
@@ -6,6 +6,3 @@ use Rattle.held_lanes.proofs.opening_term.Given as goal
 
 abbrev pub invariant-loop-c : goal.invariant-loop-c
 invariant-loop-c l = (l.c ≤ l.n) × (l.g ≡ most_to (term_of l.u l.v l.j l.r) l.c)
-
-abbrev pub decreases-loop-c : goal.decreases-loop-c
-decreases-loop-c l = l.n - l.c

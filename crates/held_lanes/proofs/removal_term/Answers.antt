@@ -2,6 +2,7 @@
 use Prim.Native.Nat.{ℕ, ◌+◌, ◌*◌, max}
 use mathlib.Core.Path.{◌≡◌, ap, ap₂, ◌∙◌}
 use native.Mathlib.Omega.{arith}
+use Rattle.std.proofs.Common.{rules}
 use lib.ListN.{get_or}
 use Rattle.lane_rows.specs.Layout.{lane_count_lem, triangle}
 use Rattle.lane_rows.proofs.Rising.{row_inside}
@@ -53,9 +54,10 @@ class_term-requires c = let l = c.loop-i in
 pub loop-i-preserved : goal.loop-i-preserved
 loop-i-preserved c = let l = c.loop-i in
     let a = c.args in
-    let f : ℕ → ℕ = λ (i : ℕ). term_of a.u.now a.v.now a.j a.r (get_or a.u.now (need_class_place a.b i) 0) in (
+    let f : ℕ → ℕ = λ (i : ℕ). term_of a.u.now a.v.now a.j a.r (get_or a.u.now (need_class_place a.b i) 0) in
+    let m : c.max-h.result ≡ max l.h c.class_term.result = search rules in (
       omega arith,
-      c.more-h.ensures
+      m
           ∙ ap (max l.h)
           (c.class_term.ensures
           ∙ ap₂ (λ (x y : ℕ). get_or a.u.now (x * lane_count_lem + get_or a.v.now (last_place a.r y) 0) 0) (row (goal.at.loop-i-preserved c).After-number-n) c.number-c.ensures.value)

@@ -1,23 +1,13 @@
--- `all_out` is the model's `accessible`: what is not yet looked at decides.
-use mathlib.Core.Path.{refl, sym, ◌∙◌}
-use native.Mathlib.Omega.{arith}
-use Rattle.held_places.proofs.Steps.{accessible_more, accessible-not, accessible_end}
+-- `all_out`: each need is met as far as the removals are decided.
+use Rattle.std.proofs.Common.{◌≡◌, not, ◌||◌, true, false, rules}
+use Rattle.std.proofs.lemmas.Iterator.{cases_from_all, YieldsList-from_zip, YieldsList-from_slice}
+use borrow.Author.Tests.{tests}
+use Rattle.held_places.proofs.Steps.{accessible_all}
 use Rattle.held_places.proofs.all_out.Goals as goal
 
-pub loop-b-init : goal.loop-b-init
-loop-b-init c = (omega arith, refl)
-
-pub returns-then-not-free : goal.returns-then-not-free
-returns-then-not-free c = let l = c.loop-b in
-    let a = c.args in
-    accessible-not a.needs.now a.removed.now l.b c.loop-b-test.true (sym c.free.ensures ∙ c.if-not-free.true) l.invariant.1
-
-pub loop-b-preserved : goal.loop-b-preserved
-loop-b-preserved c = let l = c.loop-b in
-    let a = c.args in
-    (omega arith, accessible_more a.needs.now a.removed.now l.b c.loop-b-test.true (sym c.free.ensures ∙ c.if-not-free.false) l.invariant.1)
-
 pub returns : goal.returns
-returns c = let l = c.loop-b in
-    let a = c.args in
-    accessible_end a.needs.now a.removed.now l.b c.loop-b-test.false l.invariant.1
+returns c =
+    accessible_all c.args.needs.now c.args.removed.now c.all.result
+    (cases_from_all c.all.new.self _ _ (λ x. (not x.0 || x.1) ≡ true) (λ x. (not x.0 || x.1) ≡ false) c.all.ensures.ran
+    (YieldsList-from_zip (YieldsList-from_slice c.args.needs.now cc) (YieldsList-from_slice c.args.removed.now cc))
+    (λ x q k. search (rules, tests)) (λ x q k. search (rules, tests)))

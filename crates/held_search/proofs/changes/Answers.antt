@@ -2,47 +2,33 @@
 use mathlib.Core.Path.{◌≡◌, refl, subst, ◌∙◌}
 use native.Mathlib.Omega.{arith}
 use lib.ListN.{length}
-use lib.IntN.{ℤ}
-use mir.Syntax.{w32}
-use mir.Val.{to_z, of_z}
-use mir.Facts.{to_z-of_z}
-use Rattle.held_places.specs.Arrays.{Lanes}
-use Rattle.held_places.proofs.Parts.{read_back}
-use Rattle.held_search.specs.Solved.{Chooses}
+use Rattle.held_search.specs.Planned.{Changed}
 use Rattle.held_search.proofs.Answered.{chooses_none, chooses_more}
 use Rattle.held_search.proofs.changes.Goals as goal
 
 pub loop-q-init : goal.loop-q-init
-loop-q-init c = let a = c.args in
-    (omega arith, refl, chooses_none (to_z w32 (of_z w32 a.end)) a.positions.now a.lives.now a.lefts.now a.prices.now a.needs.now a.h a.name.now _ refl)
+loop-q-init c = let n = c.args.numbers.now in
+    let j = n.job in
+    (refl, chooses_none j.end j.positions.now j.lives.now j.lefts.now j.prices.now n.needs.now (length n.removals.now) c.args.name.now _ refl)
 
 pub part_changes-at-requires : goal.part_changes-at-requires
-part_changes-at-requires c = let a = c.args in
-    let l = c.loop-q in (
-      read_back (λ (e : ℤ). Lanes e a.positions.now a.lives.now a.lefts.now a.prices.now a.needs.now a.h) c.ranges.end c.requires.0,
-      omega (arith, c.requires.1, l.invariant.1),
-      c.loop-q-test.true,
-    )
+part_changes-at-requires c = (omega (arith, c.requires, c.loop-q.invariant.0), c.loop-q-test.true)
 
 pub bounds-rows-q : goal.bounds-rows-q
-bounds-rows-q c = omega (arith, c.loop-q-test.true, c.requires.0.parts)
+bounds-rows-q c = omega (arith, c.loop-q-test.true, c.args.numbers.now.job.arrays.lanes)
 
 pub loop-q-preserved : goal.loop-q-preserved
-loop-q-preserved c = let a = c.args in
+loop-q-preserved c = let n = c.args.numbers.now in
+    let j = n.job in
     let l = c.loop-q in
     let p = c.part_changes-at in (
-      omega arith,
-      p.auto.tab ∙ l.invariant.1,
-      chooses_more (to_z w32 (of_z w32 a.end)) a.positions.now a.lives.now a.lefts.now a.prices.now a.needs.now a.h a.name.now l.rows l.q p.result
-          (omega (arith, c.loop-q-test.true, c.requires.0.parts)) p.ensures l.invariant.2,
+      p.auto.tab ∙ l.invariant.0,
+      chooses_more j.end j.positions.now j.lives.now j.lefts.now j.prices.now n.needs.now (length n.removals.now) c.args.name.now l.rows l.q p.result
+          (omega (arith, c.loop-q-test.true, j.arrays.lanes)) p.ensures l.invariant.1,
     )
 
-pub shape_of-tab : goal.shape_of-tab
-shape_of-tab c = c.loop-q.invariant.1
-
 pub returns : goal.returns
-returns c = let a = c.args in
+returns c = let n = c.args.numbers.now in
     let l = c.loop-q in
-    let z : l.q ≡ length a.lives.now = omega (arith, l.invariant.0, c.loop-q-test.false) in
-    subst (λ (x : ℤ). Chooses x a.positions.now a.lives.now a.lefts.now a.prices.now a.needs.now a.h a.name.now l.rows (length a.lives.now)) (to_z-of_z c.ranges.end)
-    (subst (Chooses (to_z w32 (of_z w32 a.end)) a.positions.now a.lives.now a.lefts.now a.prices.now a.needs.now a.h a.name.now l.rows) z l.invariant.2)
+    let z : l.q ≡ length n.job.lives.now = omega arith in
+    subst (Changed n c.args.name.now l.rows) z l.invariant.1

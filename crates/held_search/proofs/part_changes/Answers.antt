@@ -1,40 +1,43 @@
 -- `part_changes` is the tie rule's choice of a part at its places.
-use Prim.Native.Nat.{◌-◌}
-use mathlib.Core.Path.{sym, ap, ◌∙◌}
-use mathlib.Core.Bool.{false}
-use mathlib.Core.List.{◌++◌}
+use Prim.Native.Nat.{ℕ, ◌-◌, ◌<◌}
+use mathlib.Core.Path.{◌≡◌, ◌∙◌, subst}
+use mathlib.Core.Bool.{Bool, true, false}
+use mathlib.Core.List.{List, [], ◌++◌}
 use native.Mathlib.Omega.{arith}
 use lib.ListN.{length, get_or, replicate}
-use lib.IntN.{ℤ, pos, ◌-ℤ◌}
-use mir.Facts.{to_z-of_z}
-use Rattle.model.specs.LowerBound.{choice_of}
-use Rattle.held_places.specs.Arrays.{Timed}
-use Rattle.held_places.proofs.Parts.{prices_are, prices_length, first-length, read_back, places_seen}
+use lib.IntN.{pos, ◌-ℤ◌}
+use Rattle.model.specs.Decisions.{allows}
+use Rattle.model.specs.LowerBound.{choice_of, blocks}
+use Rattle.model.proofs.Bools.{there}
+use Rattle.search_tables.specs.Arrays.{lane_value_lem}
+use Rattle.held_places.specs.Arrays.{needs_at}
+use Rattle.held_places.specs.Blocks.{Entries}
+use Rattle.held_places.specs.declared.needs.Needs.{Needs}
+use Rattle.held_places.proofs.Parts.{prices_are, places_seen}
+use Rattle.held_tables.specs.declared.numbers.HeldNumbers.{HeldNumbers}
 use Rattle.held_search.proofs.part_changes.Goals as goal
 
-pub slice_bounds-part_choice-end-2 : goal.slice_bounds-part_choice-end-2
-slice_bounds-part_choice-end-2 c = first-length (length c.args.positions.now) c.part_places-at.result c.requires.0.timed.few c.part_places-at.ensures.size
-
-pub part_choice-requires : goal.part_choice-requires
-part_choice-requires c = let a = c.args in
-    let (l, room, lane) = c.requires in
-    let n = length a.positions.now in
-    let p = c.part_places-at in (
-      record {
-        timed = read_back (λ (e : ℤ). Timed e a.positions.now) c.ranges.end l.timed;
-        lives = l.lives;
-        numbers = ap length (prices_are a.prices.now n a.q) ∙ prices_length a.prices.now n a.q l.timed.few (omega (arith, lane, l.parts)) l.prices;
-        places = sym (first-length n p.result l.timed.few p.ensures.size);
-        room = room;
-      },
-      lane,
-    )
+-- the places by the numbers' own needs
+own : (n : HeldNumbers) (needs : Needs) (q : ℕ) (name r : List Bool) → needs.marks.now ≡ n.needs.now → needs.holding ≡ length n.removals.now
+    → Entries true (λ (k : ℕ). allows (needs_at needs.holding needs.marks.now q) (get_or (blocks needs.holding (length n.job.positions.now) name) k [])) (length n.job.positions.now) r
+    → Entries true (λ (k : ℕ). allows (needs_at (length n.removals.now) n.needs.now q) (get_or (blocks (length n.removals.now) (length n.job.positions.now) name) k [])) (length n.job.positions.now) r
+own n needs q name r e f p =
+    let m = length n.job.positions.now in
+    subst (λ (h : ℕ). Entries true (λ (k : ℕ). allows (needs_at h n.needs.now q) (get_or (blocks h m name) k [])) m r) f
+    (subst (λ (nd : List Bool). Entries true (λ (k : ℕ). allows (needs_at needs.holding nd q) (get_or (blocks needs.holding m name) k [])) m r) e p)
 
 pub returns : goal.returns
-returns c = let a = c.args in
-    let e = to_z-of_z c.ranges.end in
-    let p = c.part_places-at in
-    let n = length a.positions.now in
-    let l = get_or a.lives.now a.q 0 in
-    let seen = places_seen a.positions.now _ _ a.h a.needs.now a.q a.name.now p.result (prices_are a.prices.now n a.q) p.ensures in
-    c.part_choice.ensures ∙ (λ i. choice_of (pos l) (e i) (pos (get_or a.lefts.now a.q 0) -ℤ pos l) (seen i) ++ replicate (64 - n) false)
+returns c = let n = c.args.numbers.now in
+    let j = n.job in
+    let q = c.args.q in
+    let ss = j.positions.now in
+    let m = length ss in
+    let o = c.offers.ensures in
+    let at = c.part_places-at in
+    let e = c.needs-needs in
+    let h : q < length j.lives.now = c.requires.1 in
+    let life : lane_value_lem j.lives.now q ≡ get_or j.lives.now q 0 = there j.lives.now q (get_or j.lives.now 0 0) 0 h in
+    let left : lane_value_lem j.lefts.now q ≡ get_or j.lefts.now q 0 = there j.lefts.now q (get_or j.lefts.now 0 0) 0 (omega (arith, h, j.arrays.lives.lefts)) in
+    let seen = places_seen ss _ _ (length n.removals.now) n.needs.now q c.args.name.now at.result (prices_are j.prices.now m q) (own n e.result q c.args.name.now at.result e.ensures.marks e.ensures.holding at.ensures) in
+    rw (o.ends, o.places, o.lived.lives, o.lived.begins, o.priced, o.allowed) at c.choice.ensures
+    ∙ (λ i. choice_of (pos (life i)) j.end (pos (left i) -ℤ pos (life i)) (seen i) ++ replicate (64 - m) false)

@@ -4,14 +4,14 @@ use native.Mathlib.Omega.{arith}
 use Rattle.held_tables.proofs.put_masks.Goals as goal
 
 pub loop-set-init : goal.loop-set-init
-loop-set-init c = (omega arith, masked_none c.args.u.now)
+loop-set-init c = masked_none c.args.u.now
 
 pub loop-set-preserved : goal.loop-set-preserved
 loop-set-preserved c = let l = c.loop-set in
     let a = c.args in
     let p = c.put_mask in
-    (omega arith, masked_more l.set a.u.now l.u p.new.u p.ensures l.invariant.1)
+    masked_more l.set a.u.now l.u p.new.u p.ensures l.invariant
 
 pub returns : goal.returns
 returns c = let l = c.loop-set in
-    (λ s i h g. l.invariant.1.masks s (omega arith) i g, l.invariant.1.before)
+    (λ s i h g. l.invariant.masks s (omega arith) i g, l.invariant.before)

@@ -1,39 +1,38 @@
 -- `judge`: a fault of the job text is refused; else the plan text is judged against the job. The promise holds of the defined answer.
-use mathlib.Core.Path.{◌≡◌}
+use mathlib.Core.Path.{◌≡◌, sym, ap, ◌∙◌}
 use native.Mathlib.Omega.{arith}
 use lib.ListN.{length}
 use Rattle.lines.specs.Parser.{accepted, refused}
-use Rattle.lines.proofs.Outcomes.{told}
+use Rattle.lines.specs.Fault.{number_of_lem}
+use Rattle.lines.specs.Reads.{outcome, seen}
 use Rattle.job_grammar.specs.Grammar.{read_job_lem}
 use Rattle.job_text.specs.Views.{given_of}
-use Rattle.job_text.proofs.Views.{means}
-use Rattle.job_grammar.proofs.Accepted.{valid}
+use Rattle.job_text.proofs.Views.{means, sound_text, sound_job}
 use Rattle.job_grammar.proofs.Numbered.{fault}
 use Rattle.judging.specs.Judge.{judge_said}
 use Rattle.judging.proofs.Promised.{promised}
 use Rattle.judging.proofs.judge.Goals as goal
-use Rattle.judging.proofs.judge.Goals.{In-Fault, In-Good}
+use Rattle.judging.proofs.judge.Goals.{In-Err, In-Ok}
 
--- what the job text reads as, by the verdict on it
-refused_job : (c : In-Fault) → read_job_lem c.args.job.now ≡ refused c.in-Fault.number c.in-Fault.line
-refused_job c = told _ (means _ c.read_job-read.ensures) c.in-Fault.is
+-- what the job text reads as, by what was read
+refused_job : (c : In-Err) → read_job_lem c.args.job.now ≡ refused (number_of_lem c.in-Err.fault.kind) c.in-Err.fault.line
+refused_job c = sym (means _ c.read_job.ensures) ∙ ap (λ r. outcome (seen given_of r)) c.in-Err.is
 
-accepted_job : (c : In-Good) → let r = c.read_job-read.result in
-    read_job_lem c.args.job.now ≡ accepted (given_of r.text)
-accepted_job c = told _ (means _ c.read_job-read.ensures) c.in-Good.is
+accepted_job : (c : In-Ok) → read_job_lem c.args.job.now ≡ accepted (given_of c.in-Ok.text)
+accepted_job c = sym (means _ c.read_job.ensures) ∙ ap (λ r. outcome (seen given_of r)) c.in-Ok.is
 
 pub refuse-requires : goal.refuse-requires
-refuse-requires c = (omega (arith, (fault _ _ _ (refused_job (goal.at.refuse-requires c).In-Fault)).1), omega arith)
+refuse-requires c = (omega (arith, (fault _ _ _ (refused_job (goal.at.refuse-requires c).In-Err)).1), omega arith)
 
 pub judge_plan-requires : goal.judge_plan-requires
-judge_plan-requires c = record { sized = c.read_job-read.ensures.sized; valid = (valid _ _ (accepted_job (goal.at.judge_plan-requires c).In-Good)).job }
+judge_plan-requires c = sound_job c.in-Ok.text (sound_text c.args.job.now c.in-Ok.text (accepted_job (goal.at.judge_plan-requires c).In-Ok))
 
-pub returns-in-Fault : goal.returns-in-Fault
+pub returns-in-Err : goal.returns-in-Err
 unfolding judge_said
-returns-in-Fault c = let a = c.args in
-    record { replied = rw (refused_job (goal.at.returns-in-Fault c).In-Fault) c.refuse.ensures; judge_promise = promised a.job.now a.plan.now (length a.out.now) }
+returns-in-Err c = let a = c.args in
+    record { replied = rw (refused_job (goal.at.returns-in-Err c).In-Err, ← c.number.ensures) c.refuse.ensures; judge_promise = promised a.job.now a.plan.now (length a.out.now) }
 
-pub returns-in-Good : goal.returns-in-Good
+pub returns-in-Ok : goal.returns-in-Ok
 unfolding judge_said
-returns-in-Good c = let a = c.args in
-    record { replied = rw (accepted_job (goal.at.returns-in-Good c).In-Good) c.judge_plan.ensures; judge_promise = promised a.job.now a.plan.now (length a.out.now) }
+returns-in-Ok c = let a = c.args in
+    record { replied = rw (accepted_job (goal.at.returns-in-Ok c).In-Ok) c.judge_plan.ensures; judge_promise = promised a.job.now a.plan.now (length a.out.now) }

@@ -1,36 +1,35 @@
--- `base_row` writes the row of the first life, and a memo that knows nothing of it. The invariant: its first lanes are written.
+-- `base_row` writes the row of the first life, and a memo that knows nothing of it.
 use Prim.Native.Nat.{ℕ, ◌+◌}
 use mathlib.Core.Path.{◌≡◌, refl, ap, ◌∙◌}
 use native.Mathlib.Omega.{arith}
+use borrow.Rule.Slice.PartMut.{put_mid}
 use lib.ListN.{get_or, length-set}
 use lib.Seq.{get_or-set_same, get_or-set_other}
-use Rattle.least.proofs.Filled.{filled_none, filled_more}
-use Rattle.lane_rows.specs.Layout.{mark_base, known_place}
+use Rattle.least.specs.Filled.{FilledBy}
+use Rattle.lane_rows.specs.Layout.{lane_count_lem, mark_base, known_place}
+use Rattle.lane_rows.proofs.Parts.{filled_with, filled_at}
 use Rattle.lane_rows.proofs.base_row.Goals as goal
+use Rattle.lane_rows.proofs.base_row.Goals.{After-fill}
 
-pub loop-p-init : goal.loop-p-init
-loop-p-init c = (omega arith, filled_none)
-
-pub loop-p-preserved : goal.loop-p-preserved
-loop-p-preserved c = (omega arith, filled_more 0 (omega (arith, c.requires)) (λ q h z. omega (arith, z)) refl c.loop-p.invariant.1)
+-- the lanes of the first row
+zeros : (c : After-fill) → FilledBy (λ (q : ℕ). q) (λ (q : ℕ). 0) lane_count_lem c.args.w.now (put_mid 0 lane_count_lem c.args.w.now c.fill.new.self)
+zeros c = filled_at (λ (q : ℕ). 0 + q) (λ (q : ℕ). q) (λ (q : ℕ). omega arith) (filled_with c.args.w.now c.fill.new.self 0 lane_count_lem 0 lane_count_lem refl (omega (arith, c.requires)) (c.fill.ensures.after (λ y e. e)))
 
 pub forget-requires : goal.forget-requires
-forget-requires c = let l = c.loop-p in (omega arith, omega arith, length-set l.w mark_base 0 ∙ l.invariant.1.size ∙ c.requires)
+forget-requires c = let d = zeros (goal.at.forget-requires c).After-fill in (omega arith, omega arith, length-set (put_mid 0 lane_count_lem c.args.w.now c.fill.new.self) mark_base 0 ∙ d.size ∙ c.requires)
 
 pub none_rows-requires : goal.none_rows-requires
-none_rows-requires c = let l = c.loop-p in c.forget.ensures.size ∙ length-set l.w mark_base 0 ∙ l.invariant.1.size ∙ c.requires
+none_rows-requires c = let d = zeros (goal.at.none_rows-requires c).After-fill in c.forget.ensures.size ∙ length-set (put_mid 0 lane_count_lem c.args.w.now c.fill.new.self) mark_base 0 ∙ d.size ∙ c.requires
 
 pub returns : goal.returns
-returns c = let l = c.loop-p in
-    let d = l.invariant.1 in
+returns c = let w = put_mid 0 lane_count_lem c.args.w.now c.fill.new.self in
+    let d = zeros (goal.at.returns c).After-fill in
     let f = c.forget.ensures in
     let n = c.none_rows.ensures in
-    let pre = c.requires in
-    let all = c.loop-p-test.false in
     record {
-      size = n.size ∙ f.size ∙ length-set l.w mark_base 0 ∙ d.size ∙ pre;
-      lanes = λ q h. n.rest q (omega arith) ∙ f.rest q (λ y g e. omega (arith, e)) ∙ get_or-set_other l.w mark_base q 0 0 (λ z. omega (arith, z)) ∙ d.done q (omega (arith, all));
-      mark = n.rest mark_base (omega arith) ∙ f.rest mark_base (λ y g e. omega (arith, e)) ∙ get_or-set_same l.w mark_base 0 0 (omega (arith, d.size, pre));
+      size = n.size ∙ f.size ∙ length-set w mark_base 0 ∙ d.size ∙ c.requires;
+      lanes = λ q h. n.rest q (omega arith) ∙ f.rest q (λ y g e. omega (arith, e)) ∙ get_or-set_other w mark_base q 0 0 (λ z. omega (arith, z)) ∙ d.done q h;
+      mark = n.rest mark_base (omega arith) ∙ f.rest mark_base (λ y g e. omega (arith, e)) ∙ get_or-set_same w mark_base 0 0 (omega (arith, d.size, c.requires));
       none = λ k q a b. n.none k q (omega arith) b;
       fresh = λ k a.
           let z : known_place 1 k ≡ known_place 1 (0 + k) = omega arith in

@@ -1,8 +1,5 @@
-use Prim.Native.Nat.{◌<◌}
+use Prim.Native.Nat.{◌≤◌}
 use Rattle.lane_rows.proofs.known_rows.Given as goal
 
 abbrev pub invariant-loop-m : goal.invariant-loop-m
-invariant-loop-m l = l.m < l.rows
-
-abbrev pub decreases-loop-m : goal.decreases-loop-m
-decreases-loop-m l = l.m
+invariant-loop-m l = l.m ≤ l.rows

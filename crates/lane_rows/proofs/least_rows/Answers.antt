@@ -1,32 +1,42 @@
--- `least_rows` is each lane over the rows, from the top down. The invariant: what the lanes hold with the rows still to come is the lane of all rows.
-use Prim.Native.Nat.{◌-◌, ◌*◌}
-use mathlib.Core.Path.{refl, ◌∙◌}
+-- `least_rows` is each lane over the rows. The invariant: over the first of them.
+use Prim.Native.Nat.{ℕ, ◌+◌, min}
+use mathlib.Core.Path.{refl, sym, ap, ◌∙◌}
 use native.Mathlib.Omega.{arith}
-use Rattle.lane_rows.specs.Layout.{mark_place}
-use Rattle.lane_rows.proofs.Going.{going_none, going_more, going_end, row_asks}
+use native.Mathlib.Numerals.{add-one}
+use lib.ListN.{get_or}
+use Rattle.lane_rows.specs.Layout.{place, row_place, mark_place}
+use Rattle.lane_rows.specs.Rows.{lane}
+use Rattle.lane_rows.proofs.Lanes.{lane_most, lane_nil, lane-suc}
 use Rattle.lane_rows.proofs.least_rows.Goals as goal
 
 pub loop-n-init : goal.loop-n-init
-loop-n-init c = let a = c.args in (refl, going_none (a.fours * 4) a.t.now a.w.now a.base a.j a.rows a.acc.now c.requires.2)
+loop-n-init c = let a = c.args in (refl, λ q l. c.requires.2 q l ∙ sym (lane_nil a.t.now a.w.now a.base a.j q))
 
 pub overflow_cast-i : goal.overflow_cast-i
-overflow_cast-i c = omega (arith, c.type_inv.w (mark_place (c.loop-n.n - 1)))
+overflow_cast-i c = omega (arith, c.type_inv.w (mark_place c.loop-n.n))
 
 pub add_row-requires : goal.add_row-requires
-add_row-requires c = let l = c.loop-n in
-    let a = c.args in
-    row_asks a.fours a.t.now a.w.now a.base a.j a.rows l.acc l.n (omega (arith, c.requires.1, l.invariant.0)) c.requires.0 l.invariant.1 c.loop-n-test.true
+add_row-requires c = let a = c.args in
+    let l = c.loop-n in
+    let s = c.requires.0 in
+    record {
+      few = omega (arith, s.narrow);
+      lanes = omega (arith, l.invariant.0, c.requires.1);
+      table = s.table;
+      size = s.size;
+      near = s.near;
+      mark = s.marks l.n c.loop-n-test.true;
+      row = omega (arith, s.few, s.near);
+      most = λ q h. omega (arith, l.invariant.1 q h, lane_most a.t.now a.w.now a.base a.j q l.n);
+      sums = λ q h. s.sums l.n q c.loop-n-test.true h;
+    }
 
 pub loop-n-preserved : goal.loop-n-preserved
-loop-n-preserved c = let l = c.loop-n in
-    let a = c.args in
-    let e = c.add_row.ensures in
-    (e.size ∙ l.invariant.0, going_more (a.fours * 4) a.t.now a.w.now a.base a.j a.rows l.acc _ l.n c.loop-n-test.true e.lanes l.invariant.1)
-
-pub returns : goal.returns
-returns c = let l = c.loop-n in
-    let a = c.args in
-    record {
-      size = l.invariant.0;
-      lanes = going_end (a.fours * 4) a.t.now a.w.now a.base a.j a.rows l.acc l.n c.loop-n-test.false l.invariant.1;
-    }
+loop-n-preserved c = let a = c.args in
+    let l = c.loop-n in
+    let e = c.add_row.ensures in (
+      e.size ∙ l.invariant.0,
+      λ q h. e.lanes q h
+          ∙ ap (λ (x : ℕ). min x (get_or a.w.now (row_place l.n q) 0 + get_or a.t.now (place a.base a.j (get_or a.w.now (mark_place l.n) 0) q) 0)) (l.invariant.1 q h)
+          ∙ sym (lane-suc a.t.now a.w.now a.base a.j q l.n) ∙ ap (lane a.t.now a.w.now a.base a.j q) (sym (add-one l.n)),
+    )

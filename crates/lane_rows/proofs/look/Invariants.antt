@@ -1,9 +1,5 @@
-use Prim.Native.Nat.{◌-◌}
 use Rattle.lane_rows.proofs.Memory.{Looking}
 use Rattle.lane_rows.proofs.look.Given as goal
 
 abbrev pub invariant-loop-m : goal.invariant-loop-m
-invariant-loop-m l = Looking l.t l.initial.w l.w l.rows l.j l.m l.sum
-
-abbrev pub decreases-loop-m : goal.decreases-loop-m
-decreases-loop-m l = l.rows - l.m
+invariant-loop-m g l = Looking l.t l.initial.w l.w l.rows l.j l.m l.sum

@@ -1,7 +1,7 @@
 -- `latest_of`: after i openings, the changes made and what the rest gives from the last of them on are the latest.
 use Rattle.model.specs.Limits.{longest_life}
 use Prim.Native.Nat.{ℕ, ◌≤◌}
-use mathlib.Core.Path.{◌≡◌, refl, sym, ap, subst, ◌∙◌}
+use mathlib.Core.Path.{◌≡◌, sym, ap, subst, ◌∙◌}
 use mathlib.Core.Bool.{Bool, true, false, cond, not, ◌&&◌}
 use native.Mathlib.Omega.{arith}
 use lib.ListN.{get_or, take, length-set}
@@ -14,7 +14,7 @@ use Rattle.clock.specs.Placed.{Begins, Position}
 use Rattle.clock.proofs.Ranges.{position_bits, before_bits, begins_first, begins_later}
 use Rattle.latest_changes.proofs.Made.{made_next, made_end}
 use Rattle.latest_changes.proofs.latest_of.Goals as goal
-use Rattle.latest_changes.proofs.latest_of.Goals.{After-last_change-prev}
+use Rattle.latest_changes.proofs.latest_of.Goals.{After-last_change-prev, then-change, else-change}
 
 -- ---- what is known
 
@@ -34,38 +34,11 @@ later_begins life here prev h r e false = e
 
 -- ---- the needs
 
-pub last_change-prev-requires : goal.last_change-prev-requires
-last_change-prev-requires c = (c.requires.2.life_high, omega (arith, c.requires.2.life_high, c.requires.2.left_high))
-
-pub loop-i-init : goal.loop-i-init
-loop-i-init c = (omega arith, refl, rw (first-bits c) (first-begins c), refl)
-
-pub bounds-stops-i : goal.bounds-stops-i
-bounds-stops-i c = omega (arith, c.requires.0.few)
-
-pub offset_bounds-nexts-i : goal.offset_bounds-nexts-i
-offset_bounds-nexts-i c = omega (arith, c.requires.0.few)
-
-pub bounds-nexts-i : goal.bounds-nexts-i
-bounds-nexts-i c = omega (arith, c.requires.0.few)
-
 pub is_forced-change-requires : goal.is_forced-change-requires
 is_forced-change-requires c =
     let next = get_or c.args.nexts c.loop-i.i (pos 0) in
     let range = c.requires.1.ranges c.loop-i.i c.loop-i-test.true in
-    (c.requires.2.life_high, c.loop-i.invariant.2, rw (position_bits next range) range)
-
-pub bounds-at-i : goal.bounds-at-i
-bounds-at-i c = omega (arith, c.requires.0.few)
-
-pub offset_bounds-positions-i : goal.offset_bounds-positions-i
-offset_bounds-positions-i c = omega (arith, c.requires.0.few)
-
-pub bounds-positions-i : goal.bounds-positions-i
-bounds-positions-i c = omega (arith, c.requires.0.few)
-
-pub overflow_add-i : goal.overflow_add-i
-overflow_add-i c = omega (arith, c.requires.0.few)
+    (c.requires.2.life_high, c.loop-i.invariant.1, rw (position_bits next range) range)
 
 pub loop-i-preserved : goal.loop-i-preserved
 loop-i-preserved c =
@@ -77,21 +50,23 @@ loop-i-preserved c =
     let here_range = c.requires.0.openings l.i c.loop-i-test.true in
     let next_range = c.requires.1.ranges l.i c.loop-i-test.true in
     let change = c.is_forced-change.result in
-    let new = c.either-prev.result in
-    let e : new ≡ cond change here prev = c.either-prev.ensures ∙ ap (λ (z : ℤ). cond change z prev) (position_bits here here_range) in
-    let begins = subst (Begins a.part.life) (sym e) (later_begins a.part.life here prev c.requires.2.life_high here_range l.invariant.2 change) in
-    let bits = before_bits a.part.life new c.requires.2.life_high begins in (
-      omega arith,
-      length-set l.at l.i change ∙ l.invariant.1,
-      rw bits begins,
-      rw bits
-          (made_next (pos a.part.life) (to_z w32 (of_z w32 c.last_change-prev.result)) a.n a.positions a.stops c.requires.0 a.nexts c.requires.1 l.i l.at prev change new c.loop-i-test.true l.invariant.1
-          (c.is_forced-change.ensures ∙ ap (λ (z : ℤ). get_or a.stops l.i false && not (within (pos a.part.life) prev z)) (position_bits next next_range)) e l.invariant.3),
+    let new = to_z w32 c.if-change.prev-bits in
+    let pick : Bool → ℤ = λ b. cond b here prev in
+    let e : new ≡ pick change =
+    elim c.if-change.branch [
+      | then-change w ↦ w.prev-is ∙ position_bits here here_range ∙ sym (ap pick w.if-change.true)
+      | else-change w ↦ w.prev-is ∙ sym (ap pick w.if-change.false)
+    ] in
+    let begins = subst (Begins a.part.life) (sym e) (later_begins a.part.life here prev c.requires.2.life_high here_range l.invariant.1 change) in (
+      length-set l.at l.i change ∙ l.invariant.0,
+      begins,
+      made_next (pos a.part.life) (to_z w32 (of_z w32 c.last_change-prev.result)) a.n a.positions a.stops c.requires.0 a.nexts c.requires.1 l.i l.at prev change new c.loop-i-test.true l.invariant.0
+          (c.is_forced-change.ensures ∙ ap (λ (z : ℤ). get_or a.stops l.i false && not (within (pos a.part.life) prev z)) (position_bits next next_range)) e l.invariant.2,
     )
 
 pub returns : goal.returns
 returns c = let a = c.args in
     let l = c.loop-i in
     let same : l.i ≡ a.n = omega arith in
-    made_end (pos a.part.life) (to_z w32 (of_z w32 c.last_change-prev.result)) a.n a.positions a.stops c.requires.0 l.at (to_z w32 l.prev-bits) (rw same at l.invariant.3)
+    made_end (pos a.part.life) (to_z w32 (of_z w32 c.last_change-prev.result)) a.n a.positions a.stops c.requires.0 l.at (to_z w32 l.prev-bits) (rw same at l.invariant.2)
     ∙ ap (λ (z : ℤ). latest_from (pos a.part.life) a.positions.end z (take a.n a.positions.at) (take a.n a.stops)) (first-bits (goal.at.returns c).After-last_change-prev ∙ c.last_change-prev.ensures)

@@ -1,4 +1,3 @@
-use Prim.Native.Nat.{◌-◌, ◌≤◌}
 use mathlib.Core.Path.{◌≡◌}
 use lib.ListN.{length}
 use lib.IntN.{pos}
@@ -7,7 +6,4 @@ use Rattle.latest_changes.proofs.Made.{MadeTo}
 use Rattle.latest_changes.proofs.latest_of.Given as goal
 
 abbrev pub invariant-loop-i : goal.invariant-loop-i
-invariant-loop-i l = (l.i ≤ l.n) × (length l.at ≡ 64) × Begins l.life l.prev × MadeTo (pos l.life) l.initial.prev l.n l.positions l.stops l.i l.at l.prev
-
-abbrev pub decreases-loop-i : goal.decreases-loop-i
-decreases-loop-i l = l.n - l.i
+invariant-loop-i l = (length l.at ≡ 64) × Begins l.life l.prev × MadeTo (pos l.life) l.initial.prev l.n l.positions l.stops l.i l.at l.prev

@@ -81,12 +81,6 @@ in_reach-requires c = used_fits c.args.life c.args.last c.args.now c.requires.0 
 pub returns-then-not-in_reach : goal.returns-then-not-in_reach
 returns-then-not-in_reach c = sym (over_life c.args.life c.args.last c.args.now (sym (tested (goal.at.returns-then-not-in_reach c).After-in_reach) ∙ c.if-not-in_reach.true))
 
-pub overflow_sub-used : goal.overflow_sub-used
-overflow_sub-used c = used_fits c.args.life c.args.last c.args.now c.requires.0 c.requires.1 c.requires.2
-
-pub overflow_sub-left : goal.overflow_sub-left
-overflow_sub-left c = left_fits c.args.life c.args.last c.args.now c.requires.0 c.requires.1 c.requires.2
-
 -- what is handed over
 given : (c : Else-not-in_reach) → let a = c.args in to_z w32 (of_z w32 (bits a.life a.last a.now)) ≡ pos (natural (left a.life a.last a.now))
 given c =

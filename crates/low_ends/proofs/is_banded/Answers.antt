@@ -1,7 +1,4 @@
 -- `is_banded`: the job has as many parts and prices as it says.
-use Prim.Native.Nat.{ℕ, ◌<◌}
-use mathlib.Core.Path.{◌≡◌, ap, ◌∙◌}
-use borrow.Author.Rules.{rules}
 use Rattle.jobs.proofs.Jobs.{parts_long}
 use Rattle.low_ends.proofs.Sizes.{prices_long}
 use Rattle.low_ends.proofs.is_banded.Goals as goal

@@ -1,12 +1,10 @@
 -- `low_job`: the parts at the low ends, and all else as it is.
 use Prim.Native.Nat.{ℕ}
 use mathlib.Core.Path.{◌≡◌, refl, sym, ap, subst, ◌∙◌}
-use mathlib.Core.List.{List, map}
-use borrow.Author.Rules.{rules}
+use mathlib.Core.List.{map}
 use lib.ListN.{length}
-use Rattle.model.specs.Model as model
 use Rattle.jobs.specs.Views.{job_of}
-use Rattle.jobs.proofs.Jobs.{opening_count_lem2}
+use Rattle.jobs.proofs.Jobs.{sized, opening_count_lem2}
 use Rattle.part_lines.specs.Grammar.{meant_part, low_part_lem}
 use Rattle.low_ends.specs.Lows.{lines_in, parts_for}
 use Rattle.low_ends.proofs.low_job.Goals as goal
@@ -14,11 +12,11 @@ use Rattle.low_ends.proofs.low_job.Goals.{Start}
 
 -- as many openings as the struct counts
 counted : (s : Start) → length (job_of s.args.job).openings ≡ s.args.job.opening_count
-counted s = opening_count_lem2 s.args.job s.requires.0 s.well_formed.1.0
+counted s = opening_count_lem2 s.args.job (sized s.args.job) s.well_formed.1.0
 
 pub low_parts-parts-requires : goal.low_parts-parts-requires
 low_parts-parts-requires c = let j = c.args.job in
-    (c.requires.0.parts, c.requires.0.openings, subst (λ (n : ℕ). map (meant_part n) (lines_in c.args.said j) ≡ (job_of j).parts) (counted (goal.at.low_parts-parts-requires c).Start) c.requires.1)
+    (j.few_parts, j.few_openings, subst (λ (n : ℕ). map (meant_part n) (lines_in c.args.said j) ≡ (job_of j).parts) (counted (goal.at.low_parts-parts-requires c).Start) c.requires)
 
 pub returns : goal.returns
 returns c = let p = c.low_parts-parts in

@@ -1,9 +1,8 @@
 -- `low_prices`: the first k prices are at their low ends.
-use Prim.Native.Nat.{ℕ, ◌+◌, ◌-◌, ◌≤◌, ◌<◌}
+use Prim.Native.Nat.{ℕ, ◌<◌}
 use mathlib.Core.Path.{◌≡◌, refl, sym, ap, ap₂, ◌∙◌}
 use mathlib.Core.List.{List, [], ◌∷◌, ◌++◌}
 use native.Mathlib.Omega.{arith}
-use borrow.Author.Rules.{rules}
 use lib.ListN.{length, take, length-set}
 use Rattle.lines.proofs.Arrays.{take_more}
 use Rattle.quotes.specs.Views.{lows_of}
@@ -12,43 +11,21 @@ use Rattle.low_ends.proofs.low_prices.Goals as goal
 
 pub loop-k-init : goal.loop-k-init
 unfolding lows_of
-loop-k-init c = (omega arith, refl, refl)
+loop-k-init c = (refl, refl)
 
 pub loop-k-preserved : goal.loop-k-preserved
 loop-k-preserved c = let a = c.args in
     let k = c.loop-k.k in
     let few : k < 64 = omega (arith, c.requires, c.loop-k-test.true) in
     let there : k < length a.highs = omega (arith, few, c.well_formed) in (
-      omega arith,
-      simp length-set c.loop-k.invariant.1,
-      take_more k c.loop-k.ends c.low_end.result (omega (arith, few, c.loop-k.invariant.1))
-          ∙ ap₂ (λ (xs : List ℕ) (x : ℕ). xs ++ x ∷ []) c.loop-k.invariant.2 c.low_end.ensures
-          ∙ sym (lows_next k a.banded a.lows a.highs there),
+      simp length-set c.loop-k.invariant.0,
+      take_more k c.loop-k.ends c.low_end.result (omega (arith, few, c.loop-k.invariant.0))
+          ∙ ap₂ (λ (xs : List ℕ) (x : ℕ). xs ++ x ∷ []) c.loop-k.invariant.1 c.low_end.ensures
+          ∙ sym (lows_next k a.lows a.highs there),
     )
 
 pub returns : goal.returns
 returns c = let l = c.loop-k in
     let a = c.args in
     let z : a.n ≡ l.k = omega arith in
-    ap (λ (i : ℕ). take i l.ends) z ∙ l.invariant.2 ∙ ap (λ (i : ℕ). lows_of a.banded a.lows (take i a.highs)) (sym z)
-
-pub bounds-banded-k : goal.bounds-banded-k
-bounds-banded-k c = omega (arith, c.requires)
-
-pub offset_bounds-lows-k : goal.offset_bounds-lows-k
-offset_bounds-lows-k c = omega (arith, c.requires)
-
-pub bounds-lows-k : goal.bounds-lows-k
-bounds-lows-k c = omega (arith, c.requires)
-
-pub offset_bounds-highs-k : goal.offset_bounds-highs-k
-offset_bounds-highs-k c = omega (arith, c.requires)
-
-pub bounds-highs-k : goal.bounds-highs-k
-bounds-highs-k c = omega (arith, c.requires)
-
-pub offset_bounds-ends-k : goal.offset_bounds-ends-k
-offset_bounds-ends-k c = omega (arith, c.requires)
-
-pub bounds-ends-k : goal.bounds-ends-k
-bounds-ends-k c = omega (arith, c.requires)
+    ap (λ (i : ℕ). take i l.ends) z ∙ l.invariant.1 ∙ ap (λ (i : ℕ). lows_of a.lows (take i a.highs)) (sym z)

@@ -1,27 +1,24 @@
 -- `put_inside`: the number of holders, and the holders where they are not too many.
-use mathlib.Core.Path.{refl, sym, ap}
+use mathlib.Core.Path.{sym}
 use native.Mathlib.Omega.{arith}
-use lib.ListN.{length, length-append}
-use Rattle.lines.specs.Text.{bytes, line_of, texts}
-use Rattle.lines.proofs.Writing.{then, kept, same}
+use Rattle.lines.specs.Text.{bytes}
+use Rattle.line_writing.proofs.Putting.{then, same, room_same, room_front, room_behind}
 use Rattle.part_writing.specs.Cut.{inside_cut}
 use Rattle.part_writing.proofs.Pieces.{inside_many, inside_few}
 use Rattle.part_writing.proofs.put_inside.Goals as goal
 
-pub put_line-a-requires : goal.put_line-a-requires
+pub put_line-requires : goal.put_line-requires
 unfolding bytes inside_cut
-put_line-a-requires c = record { n_bound = omega (arith, c.requires.0); n_in_bounds = omega (arith, simp length-append at c.requires.1) }
-
-pub returns-then-n-gt15 : goal.returns-then-n-gt15
-unfolding bytes
-returns-then-n-gt15 c = same c.put_line-a.ensures (sym (inside_many c.args.holders.now c.if-n-gt15.true)) refl
+put_line-requires c = record { n_bound = omega (arith, c.requires.0); n_in_bounds = room_front _ c.requires.1 }
 
 pub put_values-requires : goal.put_values-requires
 unfolding bytes
-put_values-requires c = let hs = c.args.holders.now in
-    let w = c.put_line-a.ensures in
-    omega (arith, c.requires.1, ap length (inside_few hs (omega arith)), length-append (line_of "inside=" (length hs)) (texts (line_of "holder=") hs), w.next, kept w)
+put_values-requires c = room_behind (room_same c.requires.1 (inside_few c.args.holders.now (omega arith))) c.put_line.ensures
 
-pub returns : goal.returns
+pub returns-then-n-le15 : goal.returns-then-n-le15
 unfolding bytes
-returns c = same (then c.put_line-a.ensures c.put_values.ensures) (sym (inside_few c.args.holders.now (omega arith))) refl
+returns-then-n-le15 c = same (then c.put_line.ensures c.put_values.ensures) (sym (inside_few c.args.holders.now (omega arith)))
+
+pub returns-else-n-le15 : goal.returns-else-n-le15
+unfolding bytes
+returns-else-n-le15 c = same c.put_line.ensures (sym (inside_many c.args.holders.now (omega arith)))

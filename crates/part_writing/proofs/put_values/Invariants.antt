@@ -1,11 +1,7 @@
-use Prim.Native.Nat.{◌-◌, ◌≤◌}
-use lib.ListN.{length, take}
+use lib.ListN.{take}
 use Rattle.lines.specs.Text.{line, texts}
-use Rattle.lines.specs.Wrote.{Wrote}
+use Rattle.line_writing.specs.Puts.{Puts}
 use Rattle.part_writing.proofs.put_values.Given as goal
 
-abbrev pub invariant-loop-i : goal.invariant-loop-i
-invariant-loop-i l = (l.i ≤ length l.values) × Wrote l.initial.out l.at (texts (line l.key) (take l.i l.values)) l.out l.end
-
-abbrev pub decreases-loop-i : goal.decreases-loop-i
-decreases-loop-i l = length l.values - l.i
+abbrev pub invariant-loop-value : goal.invariant-loop-value
+invariant-loop-value l = Puts l.initial.out (texts (line l.key) (take l.value-index l.values)) l.out

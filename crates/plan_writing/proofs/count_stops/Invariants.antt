@@ -1,6 +1,6 @@
-use Prim.Native.Nat.{ℕ, ◌-◌, ◌≤◌}
 use mathlib.Core.Path.{◌≡◌}
 use mathlib.Core.Bool.{Bool, false}
+use Prim.Native.Nat.{ℕ}
 use lib.ListN.{length, get_or}
 use Rattle.lines.specs.Chosen.{chosen}
 use Rattle.jobs.specs.declared.Plan.{Plan}
@@ -11,7 +11,4 @@ abbrev pub stop : Plan → ℕ → Bool
 stop plan i = get_or plan.stops i false
 
 abbrev pub invariant-loop-i : goal.invariant-loop-i
-invariant-loop-i l = (l.i ≤ l.n) × (l.count ≡ length (chosen (stop l.plan) (λ (j : ℕ). j) l.i))
-
-abbrev pub decreases-loop-i : goal.decreases-loop-i
-decreases-loop-i l = l.n - l.i
+invariant-loop-i l = l.count ≡ length (chosen (stop l.plan) (λ (j : ℕ). j) l.i)

@@ -1,55 +1,57 @@
--- `write::put_plan` meets its contract: three writes, one behind the other.
-use Prim.Native.Nat.{ℕ, ◌+◌, ◌≤◌}
-use mathlib.Core.Path.{refl, ap}
-use mathlib.Core.List.{List}
+-- `put_plan` meets its contract: two lines, and those of the stops.
+use Prim.Native.Nat.{ℕ, ◌≤◌}
+use mathlib.Core.Path.{◌≡◌, refl, sym, ap}
+use mathlib.Core.List.{List, ◌++◌}
 use mathlib.Core.Bool.{false}
 use native.Mathlib.Omega.{arith}
-use lib.ListN.{length, get_or, length-append}
+use lib.ListN.{length, get_or}
 use Rattle.lines.specs.Text.{bytes, line_of, texts}
-use Rattle.lines.proofs.Writing.{then, kept, same}
+use Rattle.line_writing.specs.Puts.{Room}
+use Rattle.line_writing.proofs.Putting.{then, same, room_same, room_front, room_behind}
 use Rattle.jobs.specs.Views.{job_of, plan_for}
 use Rattle.plan_grammar.specs.Grammar.{Visit}
 use Rattle.plan_grammar.specs.Rendering.{visit_at, visit_text, visits_of, plan_text_lem, plan_lines_of}
 use Rattle.jobs.proofs.Jobs.{opening_count_lem2}
 use Rattle.lines.proofs.Chosen.{chosen_few}
 use Rattle.plan_writing.proofs.put_plan.Goals as goal
-use Rattle.plan_writing.proofs.put_plan.Goals.{After-put_line-arg-1, After-slice_known-1, Start}
+use Rattle.plan_writing.proofs.put_plan.Goals.{Start}
 
 -- the visits that are written
 abbrev made : Start → List Visit
 made s = visits_of (job_of s.args.job) (plan_for s.args.job s.args.plan)
 
-room : (s : Start) → s.args.at + (length (line_of "cost=" s.args.cost) + length (line_of "stops=" (length (made s))) + length (texts visit_text (made s))) ≤ length s.args.out.now
+-- the two lines and those of the stops
+written : (s : Start) → plan_lines_of (job_of s.args.job) s.args.cost (plan_for s.args.job s.args.plan) ≡ line_of "cost=" s.args.cost ++ line_of "stops=" (length (made s)) ++ texts visit_text (made s)
 unfolding plan_lines_of plan_text_lem
-room s = simp length-append at s.requires.plan_in_bounds
+written s = refl
+
+-- the room for them
+room : (s : Start) → Room s.args.out.now (line_of "cost=" s.args.cost ++ line_of "stops=" (length (made s)) ++ texts visit_text (made s))
+room s = room_same s.requires.plan_in_bounds (written s)
 
 few : (s : Start) → length (made s) ≤ 64
 unfolding visits_of
-few s = omega (arith, s.requires.sized.0, opening_count_lem2 s.args.job s.requires.sized.0 s.well_formed.1.1.0, chosen_few (λ (i : ℕ). get_or (plan_for s.args.job s.args.plan).stops i false) (visit_at (job_of s.args.job) (plan_for s.args.job s.args.plan)) (length (job_of s.args.job).openings))
+few s = omega (arith, s.requires.sized.0, opening_count_lem2 s.args.job s.requires.sized.0 s.well_formed.1.0, chosen_few (λ (i : ℕ). get_or (plan_for s.args.job s.args.plan).stops i false) (visit_at (job_of s.args.job) (plan_for s.args.job s.args.plan)) (length (job_of s.args.job).openings))
 
-pub put_line-a-requires : goal.put_line-a-requires
+pub put_line-requires : goal.put_line-requires
 unfolding bytes
-put_line-a-requires c = record { n_bound = c.requires.sized.1; n_in_bounds = omega (arith, room (goal.at.put_line-a-requires c).Start) }
+put_line-requires c = record { n_bound = c.requires.sized.1; n_in_bounds = room_front _ (room_front _ (room (goal.at.put_line-requires c).Start)) }
 
 pub count_stops-n-requires : goal.count_stops-n-requires
 count_stops-n-requires c = c.requires.sized.0
 
-pub put_line-b-requires : goal.put_line-b-requires
+pub put_line-requires-2 : goal.put_line-requires-2
 unfolding bytes
-put_line-b-requires c = let v = c.put_line-a.ensures in
-    let n = c.count_stops-n.ensures in
-    record { n_bound = omega (arith, n, few (goal.at.put_line-b-requires c).Start); n_in_bounds = omega (arith, room (goal.at.put_line-b-requires c).Start, v.next, kept v, ap (λ (k : ℕ). length (line_of "stops=" k)) n) }
+put_line-requires-2 c = let n = c.count_stops-n.ensures in
+    let s = (goal.at.put_line-requires-2 c).Start in
+    record { n_bound = omega (arith, n, few s); n_in_bounds = room_same (room_behind (room_front _ (room s)) c.put_line.ensures) (sym (ap (line_of "stops=") n)) }
 
 pub put_stops-requires : goal.put_stops-requires
 unfolding bytes
-put_stops-requires c = let v = c.put_line-a.ensures in
-    let n = c.count_stops-n.ensures in
-    let w = c.put_line-b.ensures in
-    record { sized = c.requires.sized.0; plan_in_bounds = omega (arith, room (goal.at.put_stops-requires c).Start, v.next, kept v, w.next, kept w, ap (λ (k : ℕ). length (line_of "stops=" k)) n) }
+put_stops-requires c = let counted = same c.put_line-2.ensures (ap (line_of "stops=") c.count_stops-n.ensures) in
+    record { sized = c.requires.sized.0; plan_in_bounds = room_behind (room (goal.at.put_stops-requires c).Start) (then c.put_line.ensures counted) }
 
 pub returns : goal.returns
-unfolding bytes plan_lines_of plan_text_lem
-returns c = let v = c.put_line-a.ensures in
-    let n = c.count_stops-n.ensures in
-    let w = c.put_line-b.ensures in
-    then (then v (same w (ap (line_of "stops=") n) refl)) c.put_stops.ensures
+unfolding bytes
+returns c = let counted = same c.put_line-2.ensures (ap (line_of "stops=") c.count_stops-n.ensures) in
+    same (then (then c.put_line.ensures counted) c.put_stops.ensures) (sym (written (goal.at.returns c).Start))

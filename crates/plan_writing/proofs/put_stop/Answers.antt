@@ -1,11 +1,10 @@
--- `write::put_stop` meets its contract, by the test.
-use mathlib.Core.Path.{refl, sym, ap}
+-- `put_stop` meets its contract: the stop's lines, if there is one.
+use mathlib.Core.Path.{sym, ap}
 use mathlib.Core.List.{List, []}
 use mathlib.Core.Bool.{Bool, cond}
 use Prim.Native.Nat.{ℕ}
 use native.Mathlib.Omega.{arith}
-use lib.ListN.{length}
-use Rattle.lines.proofs.Writing.{none, same}
+use Rattle.line_writing.proofs.Putting.{same, room_same}
 use Rattle.jobs.specs.Views.{job_of, plan_for}
 use Rattle.plan_grammar.specs.Rendering.{visit_at, visit_text}
 use Rattle.plan_writing.proofs.put_stop.Goals as goal
@@ -19,10 +18,7 @@ pub bounds-plan-i : goal.bounds-plan-i
 bounds-plan-i c = omega (arith, c.requires.sized)
 
 pub put_visit-requires : goal.put_visit-requires
-put_visit-requires c = record { sized = c.requires.sized; i_in_bounds = omega (arith, c.requires.i_in_bounds, ap (λ (b : Bool). length (written (goal.at.put_visit-requires c).Start b)) c.if-plan-i.true) }
+put_visit-requires c = record { sized = c.requires.sized; i_in_bounds = room_same c.requires.i_in_bounds (ap (written (goal.at.put_visit-requires c).Start) c.if-plan-i.true) }
 
 pub returns-then-plan-i : goal.returns-then-plan-i
-returns-then-plan-i c = same c.put_visit.ensures (sym (ap (written (goal.at.returns-then-plan-i c).Start) c.if-plan-i.true)) refl
-
-pub returns : goal.returns
-returns c = same none (sym (ap (written (goal.at.returns c).Start) c.if-plan-i.false)) refl
+returns-then-plan-i c = same c.put_visit.ensures (sym (ap (written (goal.at.returns-then-plan-i c).Start) c.if-plan-i.true))

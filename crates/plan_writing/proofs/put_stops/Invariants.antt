@@ -1,9 +1,9 @@
-use Prim.Native.Nat.{ℕ, ◌-◌, ◌≤◌}
+use Prim.Native.Nat.{ℕ}
 use mathlib.Core.List.{List, []}
 use mathlib.Core.Bool.{false, cond}
 use lib.ListN.{get_or}
 use Rattle.lines.specs.Text.{joined}
-use Rattle.lines.specs.Wrote.{Wrote}
+use Rattle.line_writing.specs.Puts.{Puts}
 use Rattle.jobs.specs.declared.Job.{Job}
 use Rattle.jobs.specs.Views.{job_of, plan_for}
 use Rattle.plan_grammar.specs.Rendering.{visit_at, visit_text}
@@ -15,7 +15,4 @@ abbrev pub piece : Job → Plan → ℕ → List ℕ
 piece job plan i = cond (get_or plan.stops i false) (visit_text (visit_at (job_of job) (plan_for job plan) i)) []
 
 abbrev pub invariant-loop-i : goal.invariant-loop-i
-invariant-loop-i l = (l.i ≤ l.n) × Wrote l.initial.out l.at (joined (piece l.job l.plan) l.i) l.out l.end
-
-abbrev pub decreases-loop-i : goal.decreases-loop-i
-decreases-loop-i l = l.n - l.i
+invariant-loop-i l = Puts l.initial.out (joined (piece l.job l.plan) l.i) l.out

@@ -1,11 +1,12 @@
--- `write::put_visit` meets its contract: three writes, one behind the other.
+-- `put_visit` meets its contract: two lines, and those of the parts.
 use Prim.Native.Nat.{ℕ, ◌+◌, ◌≤◌}
-use mathlib.Core.Path.{◌≡◌, refl, sym, ap, ap₂}
+use mathlib.Core.Path.{◌≡◌, sym, ap, ap₂}
 use mathlib.Core.List.{List, ◌++◌}
 use native.Mathlib.Omega.{arith}
-use lib.ListN.{length, length-append}
+use lib.ListN.{length}
 use Rattle.lines.specs.Text.{bytes, line_of, texts}
-use Rattle.lines.proofs.Writing.{then, kept, same}
+use Rattle.line_writing.specs.Puts.{Room}
+use Rattle.line_writing.proofs.Putting.{then, same, room_same, room_front, room_behind}
 use Rattle.jobs.specs.Views.{job_of, changed_in, plan_for}
 use Rattle.jobs.proofs.Jobs.{opening_at}
 use Rattle.plan_grammar.specs.Rendering.{visit_at, visit_text}
@@ -14,7 +15,7 @@ use Rattle.plan_grammar.proofs.Jobs.{step_at_lem}
 use Rattle.lines.proofs.Chosen.{chosen_few}
 use Rattle.plan_text.proofs.Chosen.{numbers_are}
 use Rattle.plan_writing.proofs.put_visit.Goals as goal
-use Rattle.plan_writing.proofs.put_visit.Goals.{After-o-1, After-slice_known-1, Start}
+use Rattle.plan_writing.proofs.put_visit.Goals.{Start}
 
 -- the step of the opening, and the parts changed there, as the code finds them
 abbrev step : Start → ℕ
@@ -29,11 +30,12 @@ written : (s : Start) → visit_text (visit_at (job_of s.args.job) (plan_for s.a
 unfolding visit_text
 written s =
     ap₂ (λ (t : ℕ) (ks : List ℕ). line_of "stop=" t ++ line_of "count=" (length ks) ++ texts (line_of "part=") ks)
-    (step_at_lem s.args.job s.requires.sized.0 s.well_formed.1.1.0 s.args.i s.requires.sized.1)
-    (sym (numbers_are s.args.job.opening_count s.args.job.part_count s.args.plan s.args.i (omega (arith, s.requires.sized.0, s.well_formed.1.1.1.0.1.1.1.0.1.0.1)) s.requires.sized.1))
+    (step_at_lem s.args.job s.requires.sized.0 s.well_formed.1.0 s.args.i s.requires.sized.1)
+    (sym (numbers_are s.args.job.opening_count s.args.job.part_count s.args.plan s.args.i (omega (arith, s.requires.sized.0, s.well_formed.1.1.0.1.1.1.0.1.0.1)) s.requires.sized.1))
 
-room : (s : Start) → s.args.at + (length (line_of "stop=" (step s)) + length (line_of "count=" (length (numbers s))) + length (texts (line_of "part=") (numbers s))) ≤ length s.args.out.now
-room s = omega (arith, s.requires.i_in_bounds, simp length-append at (ap length (written s)))
+-- the room for them
+room : (s : Start) → Room s.args.out.now (line_of "stop=" (step s) ++ line_of "count=" (length (numbers s)) ++ texts (line_of "part=") (numbers s))
+room s = room_same s.requires.i_in_bounds (written s)
 
 few : (s : Start) → length (numbers s) ≤ 16
 few s = omega (arith, s.requires.sized.0, chosen_few (changed_in s.args.plan s.args.i) (λ (k : ℕ). k + 1) s.args.job.part_count)
@@ -41,29 +43,25 @@ few s = omega (arith, s.requires.sized.0, chosen_few (changed_in s.args.plan s.a
 pub bounds-job-i : goal.bounds-job-i
 bounds-job-i c = omega (arith, c.requires.sized)
 
-pub put_line-a-requires : goal.put_line-a-requires
+pub put_line-requires-clause-n_in_bounds : goal.put_line-requires-clause-n_in_bounds
 unfolding bytes
-put_line-a-requires c = record { n_bound = omega (arith, c.struct_known-1.given); n_in_bounds = omega (arith, room (goal.at.put_line-a-requires c).Start) }
+put_line-requires-clause-n_in_bounds c = room_front _ (room_front _ (room (goal.at.put_line-requires-clause-n_in_bounds c).Start))
 
 pub count_parts-n-requires : goal.count_parts-n-requires
 count_parts-n-requires c = omega (arith, c.requires.sized)
 
-pub put_line-b-requires : goal.put_line-b-requires
+pub put_line-requires-2 : goal.put_line-requires-2
 unfolding bytes
-put_line-b-requires c = let v = c.put_line-a.ensures in
-    let n = c.count_parts-n.ensures in
-    record { n_bound = omega (arith, n, few (goal.at.put_line-b-requires c).Start); n_in_bounds = omega (arith, room (goal.at.put_line-b-requires c).Start, v.next, kept v, ap (λ (k : ℕ). length (line_of "count=" k)) n) }
+put_line-requires-2 c = let n = c.count_parts-n.ensures in
+    let s = (goal.at.put_line-requires-2 c).Start in
+    record { n_bound = omega (arith, n, few s); n_in_bounds = room_same (room_behind (room_front _ (room s)) c.put_line.ensures) (sym (ap (line_of "count=") n)) }
 
 pub put_parts-requires : goal.put_parts-requires
 unfolding bytes
-put_parts-requires c = let v = c.put_line-a.ensures in
-    let n = c.count_parts-n.ensures in
-    let w = c.put_line-b.ensures in
-    record { m_le_most_parts = omega (arith, c.requires.sized); i_in_bounds = omega (arith, room (goal.at.put_parts-requires c).Start, v.next, kept v, w.next, kept w, ap (λ (k : ℕ). length (line_of "count=" k)) n) }
+put_parts-requires c = let counted = same c.put_line-2.ensures (ap (line_of "count=") c.count_parts-n.ensures) in
+    record { m_le_most_parts = omega (arith, c.requires.sized); i_in_bounds = room_behind (room (goal.at.put_parts-requires c).Start) (then c.put_line.ensures counted) }
 
 pub returns : goal.returns
 unfolding bytes
-returns c = let v = c.put_line-a.ensures in
-    let n = c.count_parts-n.ensures in
-    let w = c.put_line-b.ensures in
-    same (then (then v (same w (ap (line_of "count=") n) refl)) c.put_parts.ensures) (sym (written (goal.at.returns c).Start)) refl
+returns c = let counted = same c.put_line-2.ensures (ap (line_of "count=") c.count_parts-n.ensures) in
+    same (then (then c.put_line.ensures counted) c.put_parts.ensures) (sym (written (goal.at.returns c).Start))

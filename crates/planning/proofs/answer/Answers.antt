@@ -1,6 +1,9 @@
 -- `answer`: an output that is too short stays; else the finding's lines are written, and its number handed over.
 use Prim.Native.Nat.{ℕ}
 use mathlib.Core.Path.{ap, ◌∙◌}
+use native.Mathlib.Omega.{arith}
+use borrow.Author.Rules.{rules}
+use Rattle.line_writing.proofs.Putting.{given_back}
 use Rattle.jobs.specs.Views.{plan_for}
 use Rattle.job_text.specs.Views.{given_of}
 use Rattle.answers.specs.Said.{plainly, handed}
@@ -13,9 +16,13 @@ use Rattle.planning.proofs.answer.Goals as goal
 pub returns-then-out-lt-ROOM : goal.returns-then-out-lt-ROOM
 returns-then-out-lt-ROOM c = no_room _ _ _ c.if-out-lt-ROOM.true c.no_room.ensures
 
+pub put_finding-requires : goal.put_finding-requires
+put_finding-requires c = let a = c.args in
+    (c.requires.0, c.requires.1, record { fits = omega (arith, lines_short a.f a.text a.plan c.requires.0 c.requires.1, c.if-out-lt-ROOM.false) })
+
 pub returns : goal.returns
 returns c = let a = c.args in
     let plan = plan_for a.text.job a.plan in
-    let put = c.put_finding-n in
-    replied plan_room (said_for (given_of a.text) (answer_in plan a.f)) c.if-out-lt-ROOM.false (lines_short a.f a.text a.plan c.requires.0 c.requires.1) put.ensures
-    (c.plain.ensures ∙ ap (λ (n : ℕ). handed (plainly n (planner_lines (given_of a.text) (answer_in plan a.f))) put.result) (c.number_of.ensures plan))
+    let put = c.put_finding in
+    replied plan_room (said_for (given_of a.text) (answer_in plan a.f)) c.if-out-lt-ROOM.false (lines_short a.f a.text a.plan c.requires.0 c.requires.1) (given_back put.ensures (search rules))
+    (c.plain.ensures ∙ ap (λ (n : ℕ). handed (plainly n (planner_lines (given_of a.text) (answer_in plan a.f))) put.new.out.at) (c.number_of.ensures plan))

@@ -1,9 +1,10 @@
 -- `plan`: a fault of the job text is refused; else the job is planned. The promise holds of the defined answer.
-use mathlib.Core.Path.{◌≡◌, sym}
+use mathlib.Core.Path.{◌≡◌, sym, ap, ◌∙◌}
 use native.Mathlib.Omega.{arith}
 use lib.ListN.{length}
 use Rattle.lines.specs.Parser.{accepted, refused}
-use Rattle.lines.proofs.Outcomes.{told}
+use Rattle.lines.specs.Fault.{number_of_lem}
+use Rattle.lines.specs.Reads.{outcome, seen}
 use Rattle.job_grammar.specs.Grammar.{read_job_lem}
 use Rattle.job_text.specs.Views.{given_of}
 use Rattle.job_text.proofs.Views.{means, sound_text}
@@ -11,30 +12,28 @@ use Rattle.job_grammar.proofs.Numbered.{fault}
 use Rattle.planning.specs.Plan.{plan_said}
 use Rattle.planning.proofs.Promised.{promised}
 use Rattle.planning.proofs.plan.Goals as goal
-use Rattle.planning.proofs.plan.Goals.{In-Fault, In-Good}
+use Rattle.planning.proofs.plan.Goals.{In-Err, In-Ok}
 
--- what the job text reads as, by the verdict on it
-refused_job : (c : In-Fault) → read_job_lem c.args.job.now ≡ refused c.in-Fault.number c.in-Fault.line
-refused_job c = told _ (means _ c.read_job-read.ensures) c.in-Fault.is
+-- what the job text reads as, by what was read
+refused_job : (c : In-Err) → read_job_lem c.args.job.now ≡ refused (number_of_lem c.in-Err.fault.kind) c.in-Err.fault.line
+refused_job c = sym (means _ c.read_job.ensures) ∙ ap (λ r. outcome (seen given_of r)) c.in-Err.is
 
-accepted_job : (c : In-Good) → let r = c.read_job-read.result in
-    read_job_lem c.args.job.now ≡ accepted (given_of r.text)
-accepted_job c = told _ (means _ c.read_job-read.ensures) c.in-Good.is
+accepted_job : (c : In-Ok) → read_job_lem c.args.job.now ≡ accepted (given_of c.in-Ok.text)
+accepted_job c = sym (means _ c.read_job.ensures) ∙ ap (λ r. outcome (seen given_of r)) c.in-Ok.is
 
 pub refuse-requires : goal.refuse-requires
-refuse-requires c = (omega (arith, (fault _ _ _ (refused_job (goal.at.refuse-requires c).In-Fault)).1), omega arith)
+refuse-requires c = (omega (arith, (fault _ _ _ (refused_job (goal.at.refuse-requires c).In-Err)).1), omega arith)
 
 pub plan_job-requires : goal.plan_job-requires
-plan_job-requires c = let r = c.read_job-read in
-    (sound_text _ r.result r.ensures (accepted_job (goal.at.plan_job-requires c).In-Good), omega (arith, c.walk_number.ensures))
+plan_job-requires c = (sound_text c.args.job.now c.in-Ok.text (accepted_job (goal.at.plan_job-requires c).In-Ok), omega (arith, c.walk_number.ensures))
 
-pub returns-in-Fault : goal.returns-in-Fault
+pub returns-in-Err : goal.returns-in-Err
 unfolding plan_said
-returns-in-Fault c = let a = c.args in
-    record { replied = rw (refused_job (goal.at.returns-in-Fault c).In-Fault) c.refuse.ensures; plan_promise = promised a.job.now a.walk (length a.out.now) }
+returns-in-Err c = let a = c.args in
+    record { replied = rw (refused_job (goal.at.returns-in-Err c).In-Err, ← c.number.ensures) c.refuse.ensures; plan_promise = promised a.job.now a.walk (length a.out.now) }
 
-pub returns-in-Good : goal.returns-in-Good
+pub returns-in-Ok : goal.returns-in-Ok
 unfolding plan_said
-returns-in-Good c = let a = c.args in
+returns-in-Ok c = let a = c.args in
     let walked = c.walk_number.ensures in
-    record { replied = rw (accepted_job (goal.at.returns-in-Good c).In-Good, sym walked) c.plan_job.ensures; plan_promise = promised a.job.now a.walk (length a.out.now) }
+    record { replied = rw (accepted_job (goal.at.returns-in-Ok c).In-Ok, sym walked) c.plan_job.ensures; plan_promise = promised a.job.now a.walk (length a.out.now) }

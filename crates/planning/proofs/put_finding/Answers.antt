@@ -1,30 +1,36 @@
 -- `put_finding`: case by case, each with its lines.
-use mathlib.Core.Path.{subst}
+use mathlib.Core.Path.{◌≡◌, subst}
 use native.Mathlib.Omega.{arith}
 use Rattle.lines.specs.Text.{bytes}
-use Rattle.lines.proofs.Writing.{line_short}
-use Rattle.planning.specs.Plan.{search_lines}
-use Rattle.planning.specs.Finding.{Fits}
-use Rattle.planning.proofs.Lengths.{search_short}
+use Rattle.line_writing.specs.Puts.{Room}
+use Rattle.jobs.specs.Views.{plan_for}
+use Rattle.job_text.specs.Views.{given_of}
+use Rattle.planning.specs.Plan.{search_lines, planner_lines}
+use Rattle.planning.specs.Finding.{answer_in, Fits}
+use Rattle.planning.specs.declared.Finding.{Finding}
 use Rattle.planning.proofs.put_finding.Goals as goal
+use Rattle.planning.proofs.put_finding.Goals.{Start}
+
+-- the room for the lines of what is found
+room : (c : Start) (f : Finding) → c.args.f ≡ f → Room c.args.out.now (planner_lines (given_of c.args.text) (answer_in (plan_for c.args.text.job c.args.plan) f))
+room c f e = subst (λ (x : Finding). Room c.args.out.now (planner_lines (given_of c.args.text) (answer_in (plan_for c.args.text.job c.args.plan) x))) e c.requires.2
 
 pub put_line-requires : goal.put_line-requires
 unfolding bytes
-put_line-requires c = omega (arith, c.requires.2, line_short (bytes "result=") 0 6 (omega arith))
+put_line-requires c = record { n_bound = omega arith; n_in_bounds = room (goal.at.put_line-requires c).Start _ c.in-NoPlan.is }
 
 pub put_planned-requires : goal.put_planned-requires
 put_planned-requires c = let h = subst Fits c.in-Optimum.is c.requires.0 in
-    record { printable = (h.0, h.1, h.2); sound_text = (c.requires.1, c.requires.2) }
+    record { printable = (h.0, h.1, h.2); sound_text = (c.requires.1, room (goal.at.put_planned-requires c).Start _ c.in-Optimum.is) }
 
 pub put_planned-requires-in-Cut : goal.put_planned-requires-in-Cut
 put_planned-requires-in-Cut c = let h = subst Fits c.in-Cut.is c.requires.0 in
-    record { printable = (h.0, h.1, h.2); sound_text = (c.requires.1, c.requires.2) }
+    record { printable = (h.0, h.1, h.2); sound_text = (c.requires.1, room (goal.at.put_planned-requires-in-Cut c).Start _ c.in-Cut.is) }
 
 pub put_three-requires : goal.put_three-requires
 unfolding search_lines bytes
-put_three-requires c = let f = c.in-CutBare in
-    let h = subst Fits f.is c.requires.0 in
-    (h.0, h.1, omega (arith, c.requires.2, search_short 7 f.nodes f.floor))
+put_three-requires c = let h = subst Fits c.in-CutBare.is c.requires.0 in
+    (h.0, h.1, room (goal.at.put_three-requires c).Start _ c.in-CutBare.is)
 
 pub returns-in-NoPlan : goal.returns-in-NoPlan
 unfolding bytes

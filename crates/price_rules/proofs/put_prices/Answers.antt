@@ -1,30 +1,27 @@
--- `put_prices`: the first k prices are written, and k drops are taken off the base.
-use Prim.Native.Nat.{ℕ, ◌+◌, ◌-◌, max}
-use mathlib.Core.Path.{◌≡◌, ap, ◌∙◌, subst}
-use native.Mathlib.Omega.{arith}
-use Rattle.least.specs.Filled.{FilledBy}
-use Rattle.least.proofs.Filled.{filled_none, filled_more}
-use Rattle.price_rules.specs.Rule.{rule_price}
+-- `put_prices`: the first prices are written, and as many drops are taken off the base.
+use Rattle.std.proofs.Common.{arith, ◌≡◌, length, refl, sym, ap, ◌∙◌}
+use Rattle.std.proofs.lemmas.List.{take_all}
+use Rattle.lines.specs.Text.{joined}
+use Rattle.lines.proofs.Arrays.{take_more}
 use Rattle.price_rules.specs.Views.{rule_of}
-use Rattle.price_rules.proofs.Prices.{base_next}
+use Rattle.price_rules.specs.Rule.{rule_prices_lem}
+use Rattle.price_rules.proofs.Prices.{base_next, rule_more}
 use Rattle.price_rules.proofs.put_prices.Goals as goal
 
-pub loop-k-init : goal.loop-k-init
-loop-k-init c = (omega arith, omega arith, filled_none)
+pub loop-price-init : goal.loop-price-init
+unfolding joined
+loop-price-init c = record { left = omega arith; put = refl }
 
-pub loop-k-preserved : goal.loop-k-preserved
-loop-k-preserved c = let l = c.loop-k in
-    let r = c.args.rule in (
-      omega arith,
-      c.dropped-next.ensures ∙ ap (λ (x : ℕ). x - r.drop) l.invariant.1 ∙ base_next r.base r.drop l.k,
-      filled_more c.at_least.result (omega arith) (λ y h e. omega (arith, e)) (c.at_least.ensures ∙ ap (λ (x : ℕ). max x r.least) l.invariant.1) l.invariant.2,
-    )
-
-pub shape_of-flat : goal.shape_of-flat
-shape_of-flat c = c.loop-k.invariant.2.size
+pub loop-price-preserved : goal.loop-price-preserved
+loop-price-preserved c = let l = c.loop-price in
+    let r = c.args.rule in
+    let next = base_next r.base r.drop l.price-index in
+    record {
+      left = omega (arith, next);
+      put = take_more l.price-index l.prices _ (omega arith) ∙ rule_more (rule_of r) l.price-index _ _ l.invariant.put (omega arith);
+    }
 
 pub returns : goal.returns
-returns c = let a = c.args in
-    let l = c.loop-k in
-    let z : l.k ≡ a.n = omega arith in
-    subst (λ (n : ℕ). FilledBy (λ (i : ℕ). a.at + i) (λ (i : ℕ). rule_price (rule_of a.rule) i) n a.flat.now l.flat) z l.invariant.2
+returns c = let l = c.loop-price in
+    let all : l.price-index ≡ length c.args.prices.now = omega arith in
+    sym (take_all l.price-index l.prices (omega arith)) ∙ l.invariant.put ∙ ap (rule_prices_lem (rule_of c.args.rule)) all

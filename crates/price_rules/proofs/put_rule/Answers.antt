@@ -15,16 +15,19 @@ room r at n h = omega (arith, simp length-append at h)
 
 pub put_line-a-requires : goal.put_line-a-requires
 unfolding bytes
-put_line-a-requires c = record { n_bound = omega arith; n_in_bounds = omega (arith, room c.args.rule c.args.at (length c.args.out.now) c.requires) }
+put_line-a-requires c = rw c.from.ensures (record { n_bound = omega arith; n_in_bounds = omega (arith, room c.args.rule c.args.at (length c.args.out.now) c.requires) })
 
 pub put_line-b-requires : goal.put_line-b-requires
 unfolding bytes
-put_line-b-requires c = record { n_bound = omega arith; n_in_bounds = omega (arith, room c.args.rule c.args.at (length c.args.out.now) c.requires, c.put_line-a.ensures.next, kept c.put_line-a.ensures) }
+put_line-b-requires c = let a = rw c.from.ensures at c.put_line-a.ensures in
+    rw c.from-2.ensures (record { n_bound = omega arith; n_in_bounds = omega (arith, room c.args.rule c.args.at (length c.args.out.now) c.requires, a.next, kept a) })
 
 pub put_line-requires : goal.put_line-requires
 unfolding bytes
-put_line-requires c = record { n_bound = omega arith; n_in_bounds = omega (arith, room c.args.rule c.args.at (length c.args.out.now) c.requires, c.put_line-a.ensures.next, kept c.put_line-a.ensures, c.put_line-b.ensures.next, kept c.put_line-b.ensures) }
+put_line-requires c = let a = rw c.from.ensures at c.put_line-a.ensures in
+    let b = rw c.from-2.ensures at c.put_line-b.ensures in
+    rw c.from-3.ensures (record { n_bound = omega arith; n_in_bounds = omega (arith, room c.args.rule c.args.at (length c.args.out.now) c.requires, a.next, kept a, b.next, kept b) })
 
 pub returns : goal.returns
 unfolding bytes rule_text
-returns c = then (then c.put_line-a.ensures c.put_line-b.ensures) c.put_line.ensures
+returns c = then (then (rw c.from.ensures at c.put_line-a.ensures) (rw c.from-2.ensures at c.put_line-b.ensures)) (rw c.from-3.ensures at c.put_line.ensures)

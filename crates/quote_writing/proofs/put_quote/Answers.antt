@@ -1,34 +1,26 @@
 -- `put_quote`: one line, or those of the two ends.
-use mathlib.Core.Path.{refl, sym, ap}
-use native.Mathlib.Omega.{arith}
-use lib.ListN.{length, length-append}
-use Rattle.lines.specs.Text.{bytes, line_of}
-use Rattle.lines.proofs.Writing.{then, kept, same}
+use mathlib.Core.Path.{sym}
+use Rattle.lines.specs.Text.{bytes}
+use Rattle.line_writing.proofs.Putting.{then, same, room_same, room_front, room_behind}
 use Rattle.quote_writing.proofs.Pieces.{quote_single, quote_pair}
 use Rattle.quote_writing.proofs.put_quote.Goals as goal
 
-pub put_line-requires : goal.put_line-requires
+pub put_line-requires-clause-n_in_bounds : goal.put_line-requires-clause-n_in_bounds
 unfolding bytes
-put_line-requires c = let a = c.args in
-    record { n_bound = omega arith; n_in_bounds = omega (arith, c.requires, ap length (quote_single a.banded a.low a.high c.if-not-banded.true)) }
+put_line-requires-clause-n_in_bounds c = room_same c.requires (quote_single _ c.args.high c.in-None.is)
 
-pub returns-then-not-banded : goal.returns-then-not-banded
+pub put_line-requires-in-Some-clause-n_in_bounds : goal.put_line-requires-in-Some-clause-n_in_bounds
 unfolding bytes
-returns-then-not-banded c = let a = c.args in
-    same c.put_line.ensures (sym (quote_single a.banded a.low a.high c.if-not-banded.true)) refl
+put_line-requires-in-Some-clause-n_in_bounds c = room_front _ (room_same c.requires (quote_pair _ c.in-Some.low c.args.high c.in-Some.is))
 
-pub put_line-a-requires : goal.put_line-a-requires
+pub put_line-requires-in-Some-2-clause-n_in_bounds : goal.put_line-requires-in-Some-2-clause-n_in_bounds
 unfolding bytes
-put_line-a-requires c = let a = c.args in
-    record { n_bound = omega arith; n_in_bounds = omega (arith, c.requires, ap length (quote_pair a.banded a.low a.high c.if-not-banded.false), length-append (line_of "low=" a.low) (line_of "high=" a.high)) }
+put_line-requires-in-Some-2-clause-n_in_bounds c = room_behind (room_same c.requires (quote_pair _ c.in-Some.low c.args.high c.in-Some.is)) c.put_line-in-Some.ensures
 
-pub put_line-requires-2 : goal.put_line-requires-2
+pub returns-in-None : goal.returns-in-None
 unfolding bytes
-put_line-requires-2 c = let a = c.args in
-    let w = c.put_line-a.ensures in
-    record { n_bound = omega arith; n_in_bounds = omega (arith, c.requires, ap length (quote_pair a.banded a.low a.high c.if-not-banded.false), length-append (line_of "low=" a.low) (line_of "high=" a.high), w.next, kept w) }
+returns-in-None c = same c.put_line.ensures (sym (quote_single _ c.args.high c.in-None.is))
 
-pub returns : goal.returns
+pub returns-in-Some : goal.returns-in-Some
 unfolding bytes
-returns c = let a = c.args in
-    same (then c.put_line-a.ensures c.put_line-2.ensures) (sym (quote_pair a.banded a.low a.high c.if-not-banded.false)) refl
+returns-in-Some c = same (then c.put_line-in-Some.ensures c.put_line-in-Some-2.ensures) (sym (quote_pair _ c.in-Some.low c.args.high c.in-Some.is))

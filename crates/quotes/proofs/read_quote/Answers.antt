@@ -1,44 +1,32 @@
 -- `read_quote`: the low end's line, if it is there, and what follows it, else the single price; the first fault is the whole's.
-use mathlib.Core.Path.{◌≡◌, ap, sym, ◌∙◌, subst}
-use lib.ListN.{length, take, drop}
-use Prim.Native.Nat.{◌-◌}
-use Rattle.lines.specs.Text.{bytes, present}
-use Rattle.lines.specs.Parser.{◌>>=◌, return, read_field_lem, row_at, optional_at}
-use Rattle.lines.specs.Cursor.{Reads, row_answer}
-use Rattle.lines.proofs.Parsing.{bind_good, bind_fault, got_value, got_fault, got_place, row_line, line_inside, line_reads, optional_row, optional_none, fault_read}
-use Rattle.quotes.specs.Grammar.{quote}
+use Rattle.std.proofs.Common.{rules, Ok}
+use Rattle.lines.specs.Text.{bytes}
+use Rattle.lines.proofs.Parsing.{stopped}
+use Rattle.lines.proofs.Steps.{went_to, put_value}
+use Rattle.quotes.specs.Grammar.{quote, unless_low, single, pair}
+use Rattle.quotes.specs.Views.{quote_of}
 use Rattle.quotes.proofs.read_quote.Goals as goal
-use Rattle.quotes.proofs.read_quote.Goals.{After-advance, In-There}
 
--- where the line is there: the row's field, and the optional line as a row
-found : (c : In-There) → let a = c.args in
-    (c.in-There.field ≡ read_field_lem (bytes "low=") 1 1000000 (take (length a.text.now - a.p.at) (drop a.p.at a.text.now)))
-    × (optional_at (bytes "low=") 1 1000000 (drop a.p.at a.text.now) a.p.line ≡ (row_at (bytes "low=") 1 1000000 >>= λ v. return (present v)) (drop a.p.at a.text.now) a.p.line)
-unfolding bytes
-found c = optional_row _ 1 1000000 _ c.args.p c.read_optional.ensures c.in-There.is
-
-pub advance-requires : goal.advance-requires
-advance-requires c = (c.requires, line_inside _ c.args.p (row_line _ 1 1000000 _ (found (goal.at.advance-requires c).In-There).0) c.requires)
-
--- that row, read in the whole text
-row : (c : After-advance) → let a = c.args in
-    Reads a.text.now (row_answer c.advance.result) (row_at (bytes "low=") 1 1000000 (drop a.p.at a.text.now) a.p.line)
-unfolding bytes
-row c =
-    line_reads _ c.args.p (row_line _ 1 1000000 _ (optional_row _ 1 1000000 _ c.args.p c.read_optional.ensures c.in-There.is).0) c.advance.ensures
-
-pub read_pair-requires : goal.read_pair-requires
-read_pair-requires c = got_place (row (goal.at.read_pair-requires c).After-advance) (ap row_answer c.in-Value.is)
-
-pub returns-in-Value : goal.returns-in-Value
-unfolding quote return
-returns-in-Value c = let v = got_value (row (goal.at.returns-in-Value c).After-advance) (ap row_answer c.in-Value.is) in
-    subst (Reads _ _) (sym (bind_good _ _ ((found (goal.at.returns-in-Value c).In-There).1 ∙ bind_good _ _ v))) c.read_pair.ensures
-
-pub returns-in-Fault : goal.returns-in-Fault
-unfolding quote
-returns-in-Fault c = fault_read _ c.no_quote.ensures (bind_fault _ _ ((found (goal.at.returns-in-Fault c).In-There).1 ∙ bind_fault _ _ (got_fault (row (goal.at.returns-in-Fault c).After-advance) (ap row_answer c.in-Fault.is))))
-
-pub returns-in-Missing : goal.returns-in-Missing
+pub returns-in_err-low : goal.returns-in_err-low
 unfolding quote bytes
-returns-in-Missing c = subst (Reads _ _) (sym (bind_good _ _ (optional_none _ 1 1000000 _ c.args.p c.read_optional.ensures c.in-Missing.is))) c.read_single.ensures
+returns-in_err-low c = search (rules, stopped)
+
+pub returns-in_err-high-in-Some : goal.returns-in_err-high-in-Some
+unfolding quote unless_low bytes
+returns-in_err-high-in-Some c = went_to _ _ c.args.lines.now c.optional.new.self c.read_high.new.lines _ _ _ c.in-Some.is c.in_ok-low.ensures (search (rules, stopped))
+
+pub returns-in_err-high-in-None : goal.returns-in_err-high-in-None
+unfolding quote unless_low bytes
+returns-in_err-high-in-None c = went_to _ _ c.args.lines.now c.optional.new.self c.field.new.self _ _ _ c.in-None.is c.in_ok-low.ensures (search (rules, stopped))
+
+pub returns-in_ok-high-in-Some : goal.returns-in_ok-high-in-Some
+unfolding quote unless_low quote_of bytes
+returns-in_ok-high-in-Some c =
+    let k = put_value (pair c.in-Some.low) _ c.optional.new.self c.read_high.new.lines _ c.in_ok-high-in-Some.ensures in
+    went_to _ _ c.args.lines.now c.optional.new.self c.read_high.new.lines _ _ (Ok (pair c.in-Some.low c.in_ok-high-in-Some.high)) c.in-Some.is c.in_ok-low.ensures k
+
+pub returns-in_ok-high-in-None : goal.returns-in_ok-high-in-None
+unfolding quote unless_low quote_of bytes
+returns-in_ok-high-in-None c =
+    let k = put_value single _ c.optional.new.self c.field.new.self _ c.in_ok-high-in-None.ensures.reads in
+    went_to _ _ c.args.lines.now c.optional.new.self c.field.new.self _ _ (Ok (single c.in_ok-high-in-None.high)) c.in-None.is c.in_ok-low.ensures k

@@ -1,31 +1,27 @@
 -- `serve_plan`: a fault of the plan text is refused; else its stops are answered.
-use mathlib.Core.Path.{◌≡◌}
+use mathlib.Core.Path.{◌≡◌, sym, ap, ◌∙◌}
 use native.Mathlib.Omega.{arith}
 use Rattle.lines.specs.Parser.{accepted, refused}
-use Rattle.lines.proofs.Outcomes.{told}
+use Rattle.lines.specs.Fault.{number_of_lem}
 use Rattle.jobs.specs.Views.{job_of}
 use Rattle.plan_grammar.specs.Grammar.{read_plan_lem}
-use Rattle.plan_text.specs.Views.{stated_for}
+use Rattle.plan_text.specs.Views.{outcome, said}
 use Rattle.plan_grammar.proofs.Numbered.{fault}
 use Rattle.serving.proofs.serve_plan.Goals as goal
-use Rattle.serving.proofs.serve_plan.Goals.{In-Fault, In-Good}
+use Rattle.serving.proofs.serve_plan.Goals.{In-Err, In-Ok}
 
--- what the plan text reads as, by the verdict on it
-refused_plan : (c : In-Fault) → let a = c.args in read_plan_lem (job_of a.text.job) a.plan.now ≡ refused c.in-Fault.number c.in-Fault.line
-refused_plan c = told _ c.read_plan-stated.ensures c.in-Fault.is
+-- what the plan text reads as, by what was read
+refused_plan : (c : In-Err) → let a = c.args in read_plan_lem (job_of a.text.job) a.plan.now ≡ refused (number_of_lem c.in-Err.fault.kind) c.in-Err.fault.line
+refused_plan c = sym c.read_plan.ensures ∙ ap (outcome c.args.text.job) c.in-Err.is
 
-accepted-plan : (c : In-Good) → let a = c.args in let r = c.read_plan-stated.result in
-    read_plan_lem (job_of a.text.job) a.plan.now ≡ accepted (stated_for a.text.job r.cost r.plan)
-accepted-plan c = told _ c.read_plan-stated.ensures c.in-Good.is
-
-pub read_plan-stated-requires : goal.read_plan-stated-requires
-read_plan-stated-requires c = c.requires.sized
+accepted-plan : (c : In-Ok) → let a = c.args in read_plan_lem (job_of a.text.job) a.plan.now ≡ accepted (said a.text.job c.in-Ok.stated)
+accepted-plan c = sym c.read_plan.ensures ∙ ap (outcome c.args.text.job) c.in-Ok.is
 
 pub refuse-requires : goal.refuse-requires
-refuse-requires c = (omega (arith, (fault _ _ _ _ (refused_plan (goal.at.refuse-requires c).In-Fault)).1), omega arith)
+refuse-requires c = (omega (arith, (fault _ _ _ _ (refused_plan (goal.at.refuse-requires c).In-Err)).1), omega arith)
 
-pub returns-in-Fault : goal.returns-in-Fault
-returns-in-Fault c = rw (refused_plan (goal.at.returns-in-Fault c).In-Fault) c.refuse.ensures
+pub returns-in-Err : goal.returns-in-Err
+returns-in-Err c = rw (refused_plan (goal.at.returns-in-Err c).In-Err, ← c.number.ensures) c.refuse.ensures
 
-pub returns-in-Good : goal.returns-in-Good
-returns-in-Good c = rw (accepted-plan (goal.at.returns-in-Good c).In-Good) c.serve.ensures
+pub returns-in-Ok : goal.returns-in-Ok
+returns-in-Ok c = rw (accepted-plan (goal.at.returns-in-Ok c).In-Ok) c.serve.ensures

@@ -9,11 +9,11 @@ use Rattle.latest.specs.Latest.{serves}
 use Rattle.latest.proofs.ByVerdict.{kept_serves, late-unserved}
 use Rattle.serving.proofs.serving_of.Goals as goal
 
-pub returns-in-Late : goal.returns-in-Late
-returns-in-Late c stops e = let job = job_of c.args.job in
-    sym (late-unserved job stops (ordered job c.requires.valid) _ _ (ap (verdict_of_lem job) (sym e) ∙ sym c.verdict_of.ensures ∙ ap model_verdict c.in-Late.is))
+pub returns-in-Err : goal.returns-in-Err
+returns-in-Err c stops e = let job = job_of c.args.job in
+    sym (late-unserved job stops (ordered job c.requires.valid) _ _ (ap (verdict_of_lem job) (sym e) ∙ sym c.verdict_of.ensures ∙ ap model_verdict c.in-Err.is))
 
-pub returns-in-Keeps : goal.returns-in-Keeps
-returns-in-Keeps c stops e = let job = job_of c.args.job in
+pub returns-in-Ok : goal.returns-in-Ok
+returns-in-Ok c stops e = let job = job_of c.args.job in
     (λ i. serves ((c.cost_of-cost.ensures ∙ ap (cost_of_lem job) e) i) (e i))
-    ∙ sym (kept_serves job stops (ordered job c.requires.valid) (ap (verdict_of_lem job) (sym e) ∙ sym c.verdict_of.ensures ∙ ap model_verdict c.in-Keeps.is))
+    ∙ sym (kept_serves job stops (ordered job c.requires.valid) (ap (verdict_of_lem job) (sym e) ∙ sym c.verdict_of.ensures ∙ ap model_verdict c.in-Ok.is))

@@ -1,4 +1,4 @@
-use Prim.Native.Nat.{ℕ, ◌-◌, ◌≤◌, ◌<◌}
+use Prim.Native.Nat.{ℕ, ◌<◌}
 use mathlib.Core.Path.{◌≡◌}
 use mathlib.Core.Bool.{false}
 use lib.Dec.{ltb}
@@ -7,8 +7,5 @@ use Rattle.lines.specs.Chosen.{numbers_of_lem}
 use Rattle.coming_out.proofs.Said.{marks_at}
 use Rattle.coming_out.proofs.records.has_holder.Given as goal
 
-abbrev pub invariant-loop-q : goal.invariant-loop-q
-invariant-loop-q l = (l.q ≤ l.m) × ((x : ℕ) → x < l.q → ltb 0 (length (numbers_of_lem (marks_at l.parts x))) ≡ false)
-
-abbrev pub decreases-loop-q : goal.decreases-loop-q
-decreases-loop-q l = l.m - l.q
+abbrev pub invariant-loop-part : goal.invariant-loop-part
+invariant-loop-part l = (x : ℕ) → x < l.part-index → ltb 0 (length (numbers_of_lem (marks_at l.fn.job.parts x))) ≡ false

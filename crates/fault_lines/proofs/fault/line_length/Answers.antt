@@ -1,13 +1,14 @@
--- `line_length`: none of the bytes so far ends the line.
-use native.Mathlib.Omega.{arith}
-use Rattle.fault_lines.proofs.Breaks.{break_more, break_here, break_none}
+-- `line_length`: the search for a byte 10, in the definition's words.
+use Rattle.std.proofs.Common.{rules, tests, ℕ, length, not, eqb, ap, ◌∙◌}
+use Rattle.std.specs.Option.{unwrap_or}
+use Rattle.std.proofs.lemmas.Iterator.{YieldsList-from_slice}
+use Rattle.std.proofs.lemmas.Iterator.Search.{position_from_yields_List}
+use Rattle.std.proofs.lemmas.List.Sums.{prefix_len-le-length}
+use Rattle.lines.proofs.Steps.{first_or_all}
+use Rattle.fault_lines.proofs.Breaks.{break_is}
 use Rattle.fault_lines.proofs.fault.line_length.Goals as goal
 
-pub returns-then-s-i-eq10 : goal.returns-then-s-i-eq10
-returns-then-s-i-eq10 c = omega (arith, break_here c.args.s.now c.loop-i.i c.loop-i-test.true c.if-s-i-eq10.true)
-
-pub loop-i-preserved : goal.loop-i-preserved
-loop-i-preserved c = omega (arith, break_more c.args.s.now c.loop-i.i c.loop-i-test.true c.if-s-i-eq10.false)
-
 pub returns : goal.returns
-returns c = omega (arith, break_none c.args.s.now c.loop-i.i c.loop-i-test.false)
+returns c = let s = c.args.s.now in
+    let found = position_from_yields_List (λ (b : ℕ). eqb b 10) _ _ c.position.result c.position.ensures.ran (YieldsList-from_slice s cc) (λ x b q k. search (rules, tests)) in
+    c.unwrap_or.ensures ∙ ap (λ r. unwrap_or r (length s)) found ∙ first_or_all _ _ (prefix_len-le-length (λ (b : ℕ). not (eqb b 10)) s) ∙ break_is s

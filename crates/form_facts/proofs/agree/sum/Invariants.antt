@@ -1,11 +1,8 @@
-use Prim.Native.Nat.{◌+◌, ◌-◌, ◌*◌, ◌≤◌}
+use Prim.Native.Nat.{◌*◌, ◌≤◌}
 use mathlib.Core.Path.{◌≡◌}
-use lib.ListN.{length, drop}
+use lib.ListN.{take}
 use Rattle.form_facts.specs.Facts.{sum_all}
 use Rattle.form_facts.proofs.agree.sum.Given as goal
 
-abbrev pub invariant-loop-i : goal.invariant-loop-i
-invariant-loop-i l = (l.i ≤ length l.values) × (l.sum ≤ 4294967296 * l.i) × (l.sum + sum_all (drop l.i l.values) ≡ sum_all l.values)
-
-abbrev pub decreases-loop-i : goal.decreases-loop-i
-decreases-loop-i l = length l.values - l.i
+abbrev pub invariant-loop-value : goal.invariant-loop-value
+invariant-loop-value l = (l.sum ≤ 4294967296 * l.value-index) × (l.sum ≡ sum_all (take l.value-index l.values))

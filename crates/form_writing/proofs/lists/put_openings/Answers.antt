@@ -1,13 +1,12 @@
--- `put_openings`: the lines of the first i openings are written.
+-- `put_openings`: the lines of the first i openings are put.
 use Prim.Native.Nat.{ℕ, ◌<◌}
-use mathlib.Core.Path.{◌≡◌, refl, sym, ap, ◌∙◌}
-use mathlib.Core.List.{List, ◌++◌}
+use mathlib.Core.Path.{◌≡◌, sym, ap}
+use mathlib.Core.List.{List}
 use native.Mathlib.Omega.{arith}
-use lib.ListN.{length, get_or, take}
-use lib.Seq.{take_all, take-length}
+use lib.ListN.{length, get_or}
+use lib.Seq.{take_all}
 use Rattle.lines.specs.Text.{texts}
-use Rattle.lines.proofs.Writing.{none, then, kept, same}
-use Rattle.lines.proofs.Texts.{texts_more, texts_room}
+use Rattle.line_writing.proofs.Putting.{none, same, room_same, room_next, next}
 use Rattle.model.specs.Model.{Opening}
 use Rattle.job_grammar.specs.Rendering.{opening_text}
 use Rattle.form_facts.specs.Facts.{paired}
@@ -25,30 +24,21 @@ all s = paired s.args.openings.now s.args.fees.now
 count : (s : Start) → length (all s) ≡ length s.args.openings.now
 count s = paired_size s.args.openings.now s.args.fees.now s.requires.fees_len
 
-pub loop-i-init : goal.loop-i-init
-loop-i-init c = (omega arith, none)
-
 at-hand : (s : Start) (i : ℕ) → i < length s.args.openings.now → get_or (all s) i blank ≡ record { step = get_or s.args.openings.now i 0; fee = get_or s.args.fees.now i 0 }
 at-hand s i h = paired_at s.args.openings.now s.args.fees.now s.requires.fees_len i blank h
 
-pub bounds-fees-i : goal.bounds-fees-i
-bounds-fees-i c = omega (arith, c.requires.fees_len, c.loop-i-test.true)
+pub loop-i-init : goal.loop-i-init
+loop-i-init c = none
 
-pub put_opening-end-requires : goal.put_opening-end-requires
-put_opening-end-requires c = let l = c.loop-i in
-    let t : l.i < length c.args.openings.now = c.loop-i-test.true in
-    let fits = texts_room opening_text (all (goal.at.put_opening-end-requires c).Start) l.i (length (all (goal.at.put_opening-end-requires c).Start)) blank (omega (arith, count (goal.at.put_opening-end-requires c).Start)) (omega arith) in
-    let whole = ap (λ (xs : List Opening). length (texts opening_text xs)) (take-length (all (goal.at.put_opening-end-requires c).Start)) in
-    omega (arith, c.requires.fees_in_bounds, l.invariant.1.next, kept l.invariant.1, fits, whole, ap (λ (o : Opening). length (opening_text o)) (at-hand (goal.at.put_opening-end-requires c).Start l.i t))
+pub put_opening-requires : goal.put_opening-requires
+put_opening-requires c = let s = (goal.at.put_opening-requires c).Start in
+    let l = c.loop-i in
+    room_same (room_next opening_text (all s) l.i blank c.requires.fees_in_bounds l.invariant (omega (arith, count s, c.loop-i-test.true))) (ap opening_text (at-hand s l.i c.loop-i-test.true))
 
 pub loop-i-preserved : goal.loop-i-preserved
-loop-i-preserved c = let l = c.loop-i in
-    let t : l.i < length c.args.openings.now = c.loop-i-test.true in
-    let more = texts_more opening_text (all (goal.at.loop-i-preserved c).Start) l.i blank (omega (arith, count (goal.at.loop-i-preserved c).Start)) ∙ ap (λ (o : Opening). texts opening_text (take l.i (all (goal.at.loop-i-preserved c).Start)) ++ opening_text o) (at-hand (goal.at.loop-i-preserved c).Start l.i t) in
-    (omega arith, same (then l.invariant.1 c.put_opening-end.ensures) (sym more) refl)
-
-pub shape_of-out : goal.shape_of-out
-shape_of-out c = kept c.loop-i.invariant.1
+loop-i-preserved c = let s = (goal.at.loop-i-preserved c).Start in
+    let l = c.loop-i in
+    next opening_text (all s) l.i blank (omega (arith, count s, c.loop-i-test.true)) l.invariant (same c.put_opening.ensures (ap opening_text (sym (at-hand s l.i c.loop-i-test.true))))
 
 pub returns : goal.returns
-returns c = same c.loop-i.invariant.1 (ap (texts opening_text) (take_all c.loop-i.i (all (goal.at.returns c).Start) (omega (arith, count (goal.at.returns c).Start, c.loop-i-test.false)))) refl
+returns c = let s = (goal.at.returns c).Start in same c.loop-i.invariant (ap (texts opening_text) (take_all c.loop-i.i (all s) (omega (arith, count s, c.loop-i-test.false))))

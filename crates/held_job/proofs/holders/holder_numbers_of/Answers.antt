@@ -4,13 +4,13 @@ use mathlib.Core.Path.{sym, subst}
 use Rattle.model.specs.Model.{comes_out}
 use Rattle.model.specs.Decisions.{of_holders}
 use Rattle.jobs.specs.Views.{job_of}
-use Rattle.jobs.proofs.Jobs.{part_count}
+use Rattle.jobs.proofs.Jobs.{sized, part_count}
 use Rattle.coming_out.specs.Rows.{Rows}
 use Rattle.held_job.proofs.holders.holder_numbers_of.Goals as goal
 
 pub returns : goal.returns
 returns c = let job = job_of c.args.job in
-    let count = part_count c.args.job c.requires c.well_formed.0 in
+    let count = part_count c.args.job (sized c.args.job) c.well_formed.0 in
     let held = c.holders_of-holders.ensures in
     let is = c.holding_of-holding.ensures.1 job held in
     record {

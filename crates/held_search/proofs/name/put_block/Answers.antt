@@ -4,7 +4,7 @@ use mathlib.Core.Path.{◌≡◌, sym, ap, ◌∙◌}
 use mathlib.Core.Bool.{Bool, true, false}
 use mathlib.Core.List.{[], ◌∷◌, ◌++◌}
 use native.Mathlib.Omega.{arith}
-use lib.ListN.{length, take, set, replicate, length-set}
+use lib.ListN.{length, take, set, replicate}
 use lib.Seq.{take_at}
 use Rattle.walk.specs.State.{bits}
 use Rattle.walk.proofs.Nodes.{bits-length}
@@ -15,7 +15,9 @@ use Rattle.held_search.proofs.name.put_block.Goals.{After-stops_of-out}
 
 -- the removals
 removals : (c : After-stops_of-out) → let a = c.args in take a.h c.stops_of-out.result ≡ bits a.h a.removed
-removals c = let a = c.args in ap (take a.h) c.stops_of-out.ensures ∙ take_at (bits a.h a.removed) (replicate (64 - a.h) false) a.h (bits-length a.h a.removed)
+removals c = let a = c.args in
+    let x = c.from.result in
+    ap (take a.h) c.stops_of-out.ensures ∙ take_at (bits a.h x) (replicate (64 - a.h) false) a.h (bits-length a.h x) ∙ ap (bits a.h) c.from.ensures
 
 pub returns-then-not-stop : goal.returns-then-not-stop
 returns-then-not-stop c = let a = c.args in
@@ -27,10 +29,7 @@ slice_bounds-put_all-end c = let a = c.args in sym (ap length (removals (goal.at
 
 pub put_all-requires : goal.put_all-requires
 put_all-requires c = let a = c.args in
-    (omega (arith, c.requires, ap length (removals (goal.at.put_all-requires c).After-stops_of-out), bits-length a.h a.removed), length-set a.name.now a.at a.stop ∙ c.requires.2)
-
-pub shape_of-name : goal.shape_of-name
-shape_of-name c = let a = c.args in c.put_all.auto.name ∙ length-set a.name.now a.at a.stop
+    omega (arith, c.requires, ap length (removals (goal.at.put_all-requires c).After-stops_of-out), bits-length a.h a.removed)
 
 pub returns : goal.returns
 returns c = let a = c.args in

@@ -5,7 +5,4 @@ use Rattle.held_tables.proofs.Sets.{Gathered}
 use Rattle.held_tables.proofs.needs.lane_set.Given as goal
 
 abbrev pub invariant-loop-q : goal.invariant-loop-q
-invariant-loop-q l = Gathered (λ (qq : ℕ). need_in l.needs l.classes l.b (get_or l.lanes qq 0)) l.q l.set
-
-abbrev pub decreases-loop-q : goal.decreases-loop-q
-decreases-loop-q l = l.q
+invariant-loop-q l = Gathered (λ (qq : ℕ). need_in l.needs.marks.now l.classes l.b (get_or l.classes.lanes qq 0)) l.q l.set

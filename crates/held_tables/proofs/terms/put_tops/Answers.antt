@@ -1,32 +1,26 @@
 -- `put_tops` writes the largest terms. The invariant: the first j are written.
-use Prim.Native.Nat.{ℕ, ◌+◌}
-use mathlib.Core.Path.{◌≡◌, refl, subst, ◌∙◌}
+use Prim.Native.Nat.{ℕ}
+use mathlib.Core.Path.{◌∙◌}
 use lib.ListN.{get_or}
-use Rattle.least.specs.Filled.{FilledBy}
 use Rattle.least.proofs.Filled.{filled_none, filled_more}
 use Rattle.lane_rows.proofs.Rising.{row_inside}
-use Rattle.held_lanes.specs.Places.{most_to, class_place, top_place}
+use Rattle.held_lanes.specs.Places.{class_place}
+use Rattle.held_tables.proofs.Ends.{filled_all}
 use Rattle.held_tables.proofs.Lists.{most_same}
 use native.Mathlib.Omega.{arith}
 use Rattle.held_tables.proofs.terms.put_tops.Goals as goal
 
 pub loop-j-init : goal.loop-j-init
-loop-j-init c = (refl, omega arith, filled_none)
+loop-j-init c = filled_none
 
 pub loop-j-preserved : goal.loop-j-preserved
 loop-j-preserved c = let l = c.loop-j in
     let a = c.args in
     let j = l.j in
-    let t = row_inside j j 65 (omega arith) (omega (arith, c.requires.0, l.invariant, c.loop-j-test.true)) in (
-      refl,
-      omega arith,
-      filled_more c.top_of.result (omega (arith, c.requires)) (λ y h e. omega (arith, e))
-          (c.top_of.ensures ∙ most_same (λ (x : ℕ). get_or l.u (class_place j j x) 0) (λ (x : ℕ). get_or a.u.now (class_place j j x) 0) a.n (λ x h. l.invariant.2.rest (class_place j j x) (λ y g e. omega (arith, e, t, h, c.requires.1))))
-          l.invariant.2,
-    )
+    let t = row_inside j j 65 (omega arith) (omega (arith, c.requires.0, l.invariant, c.loop-j-test.true)) in
+    filled_more c.top_of.result (omega (arith, c.requires)) (λ y h e. omega (arith, e))
+    (c.top_of.ensures ∙ most_same (λ (x : ℕ). get_or l.u (class_place j j x) 0) (λ (x : ℕ). get_or a.u.now (class_place j j x) 0) a.n (λ x h. l.invariant.rest (class_place j j x) (λ y g e. omega (arith, e, t, h, c.requires.1))))
+    l.invariant
 
 pub returns : goal.returns
-returns c = let a = c.args in
-    let l = c.loop-j in
-    let z : l.j ≡ a.m + 1 = omega arith in
-    subst (λ (n : ℕ). FilledBy top_place (λ (j : ℕ). most_to (λ (c : ℕ). get_or a.u.now (class_place j j c) 0) a.n) n a.u.now l.u) z l.invariant.2
+returns c = filled_all c.loop-j.invariant (omega arith)

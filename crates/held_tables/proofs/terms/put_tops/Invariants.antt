@@ -1,12 +1,8 @@
-use Prim.Native.Nat.{ℕ, ◌+◌, ◌-◌, ◌≤◌}
-use mathlib.Core.Path.{◌≡◌}
+use Prim.Native.Nat.{ℕ}
 use lib.ListN.{get_or}
 use Rattle.least.specs.Filled.{FilledBy}
 use Rattle.held_lanes.specs.Places.{most_to, class_place, top_place}
 use Rattle.held_tables.proofs.terms.put_tops.Given as goal
 
 abbrev pub invariant-loop-j : goal.invariant-loop-j
-invariant-loop-j l = (l.j-end ≡ l.m + 1) × (l.j ≤ l.j-end) × FilledBy top_place (λ (jj : ℕ). most_to (λ (c : ℕ). get_or l.initial.u (class_place jj jj c) 0) l.n) l.j l.initial.u l.u
-
-abbrev pub decreases-loop-j : goal.decreases-loop-j
-decreases-loop-j l = l.j-end - l.j
+invariant-loop-j l = FilledBy top_place (λ (jj : ℕ). most_to (λ (c : ℕ). get_or l.initial.u (class_place jj jj c) 0) l.n) l.j l.initial.u l.u

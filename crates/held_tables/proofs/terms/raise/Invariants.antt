@@ -1,5 +1,4 @@
-use Prim.Native.Nat.{ℕ, ◌+◌, ◌-◌, ◌≤◌, max}
-use mathlib.Core.Path.{◌≡◌}
+use Prim.Native.Nat.{ℕ, ◌+◌, max}
 use lib.ListN.{get_or}
 use Rattle.least.specs.Filled.{FilledBy}
 use Rattle.search_tables.specs.Fill.{own_of}
@@ -8,7 +7,4 @@ use Rattle.held_tables.specs.Fill.{Small}
 use Rattle.held_tables.proofs.terms.raise.Given as goal
 
 abbrev pub invariant-loop-i : goal.invariant-loop-i
-invariant-loop-i l = (l.i-end ≡ l.j + 1) × (l.i ≤ l.i-end) × FilledBy (λ (ii : ℕ). l.level + offset ii l.c) (λ (ii : ℕ). max (get_or l.initial.u (l.level + offset ii l.c) 0) (own_of l.tab l.j ii)) l.i l.initial.u l.u × (Small l.initial.u → Small l.u)
-
-abbrev pub decreases-loop-i : goal.decreases-loop-i
-decreases-loop-i l = l.i-end - l.i
+invariant-loop-i l = FilledBy (λ (ii : ℕ). l.level + offset ii l.c) (λ (ii : ℕ). max (get_or l.initial.u (l.level + offset ii l.c) 0) (own_of l.tab l.j ii)) l.i l.initial.u l.u × (Small l.initial.u → Small l.u)

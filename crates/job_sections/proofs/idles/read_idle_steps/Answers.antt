@@ -1,64 +1,34 @@
 -- `read_idle_steps`: what is read so far stands before what the chain of idle steps still gives.
-use Prim.Native.Nat.{ℕ, ◌-◌, ◌≤◌}
-use mathlib.Core.Path.{◌≡◌, refl, ap, sym, ◌∙◌}
+use Rattle.std.proofs.Common.{rules, refl, ap}
+use Rattle.std.proofs.lemmas.Result.{err_from_is_err_and}
+use Prim.Native.Nat.{ℕ}
+use mathlib.Core.Path.{◌≡◌}
 use native.Mathlib.Omega.{arith}
-use borrow.Author.Rules.{rules}
-use lib.ListN.{length, take, drop, length-set}
-use Rattle.lines.specs.Parser.{chain}
-use Rattle.lines.specs.Cursor.{Stands, Reads, row_answer, ended}
+use lib.ListN.{take}
+use Rattle.lines.specs.Text.{bytes}
 use Rattle.lines.proofs.Arrays.{take_more}
-use Rattle.lines.proofs.Parsing.{line_inside, line_reads, got_value, got_fault, got_place, behind, chain_start, chain_more, chain-fault, chain_end}
+use Rattle.lines.proofs.Steps.{chain_none, chain_next, chain_stopped, chain_done}
 use Rattle.job_grammar.specs.Grammar.{idle, idle_steps_lem}
 use Rattle.job_sections.proofs.idles.read_idle_steps.Goals as goal
-use Rattle.job_sections.proofs.idles.read_idle_steps.Goals.{After-advance}
 
 pub loop-i-init : goal.loop-i-init
-unfolding idle_steps_lem
-loop-i-init c = (omega arith, refl, c.requires.0, chain_start _ _ _ _ _ _)
-
-pub slice_bounds-read_idle-count : goal.slice_bounds-read_idle-count
-slice_bounds-read_idle-count c = c.loop-i.invariant.2.inside
-
-pub slice_bounds-read_idle-start : goal.slice_bounds-read_idle-start
-slice_bounds-read_idle-start c = c.loop-i.invariant.2.inside
-
-pub advance-requires : goal.advance-requires
-advance-requires c = let l = c.loop-i in (l.invariant.2, line_inside _ l.q c.read_idle-field.ensures l.invariant.2)
-
--- the step's line, read in the whole text
-step : (c : After-advance) → let l = c.loop-i in let a = c.args in
-    Reads a.text.now (row_answer c.advance.result) (idle a.horizon l.before (drop l.q.at a.text.now) l.q.line)
-step c = line_reads _ c.loop-i.q c.read_idle-field.ensures c.advance.ensures
-
-pub bounds-idles-i : goal.bounds-idles-i
-bounds-idles-i c = omega (arith, c.requires.1)
+loop-i-init c = record { size = refl; read = chain_none _ _ _ _ _ _ refl }
 
 pub loop-i-preserved : goal.loop-i-preserved
-loop-i-preserved c = let v = c.loop-i.invariant in
-    let e = step (goal.at.loop-i-preserved c).After-advance in
-    let m = ap row_answer c.in-Value.is in (
-      omega arith,
-      simp length-set v.1,
-      got_place e m,
-      v.3 ∙ chain_more _ _ c.args.n c.loop-i.i _ _ _ _ c.loop-i-test.true (got_value e m)
-          (take_more c.loop-i.i c.loop-i.idles _ (omega (arith, c.requires.1))),
-    )
+unfolding idle bytes
+loop-i-preserved c = let l = c.loop-i in
+    record {
+      size = search rules;
+      read = chain_next l.invariant.read c.rising.new.self _ _ c.loop-i-test.true c.in_ok-step.ensures.reads (take_more l.i l.idles _ (omega arith));
+    }
 
-pub returns-in-Fault : goal.returns-in-Fault
-unfolding ended
-returns-in-Fault c = record {
-  reads = record {
-    is = sym (c.loop-i.invariant.3 ∙ chain-fault _ _ c.args.n c.loop-i.i _ _ _ _ c.loop-i-test.true
-        (got_fault (step (goal.at.returns-in-Fault c).After-advance) (ap row_answer c.in-Fault.is)));
-    stands = tt;
-  };
-  sized = omega arith;
-}
+pub returns-in_err-step : goal.returns-in_err-step
+unfolding idle_steps_lem idle bytes
+returns-in_err-step c = let p = err_from_is_err_and c.from_residual.result c.from_residual.ensures.1 in
+    rw (p.1, p.2) (chain_stopped c.loop-i.invariant.read c.rising.new.self _ c.loop-i-test.true c.in_err-step.ensures.reads)
 
 pub returns : goal.returns
-unfolding ended
-returns c = let v = c.loop-i.invariant in
-    record {
-      reads = record { is = sym (v.3 ∙ chain_end _ _ c.args.n c.loop-i.i _ _ _ _ (omega arith)); stands = v.2 };
-      sized = omega (arith, c.requires.1);
-    }
+unfolding idle_steps_lem
+returns c = let l = c.loop-i in
+    let all : c.args.n ≡ l.i = omega arith in
+    chain_done l.invariant.read _ (omega arith) (ap (λ (k : ℕ). take k l.idles) all)

@@ -1,48 +1,67 @@
--- `read_job_lines`: the horizon, the idle steps and the rest, each where the one before ends; the first fault is the whole's.
+-- `read_job_lines`: the horizon, the idle steps, the walk line, the openings and the parts, each with the number before them; the parts are what their lines mean.
+use Rattle.std.proofs.Common.{rules}
 use mathlib.Core.Path.{ap, sym, ◌∙◌}
-use lib.ListN.{drop}
+use Prim.Native.Nat.{ℕ}
+use mathlib.Core.List.{map}
 use Rattle.lines.specs.Text.{bytes}
-use Rattle.lines.specs.Parser.{row}
-use Rattle.lines.specs.Cursor.{Reads, row_answer}
-use Rattle.lines.proofs.Parsing.{bind_good, bind_fault, row_line, line_inside, line_reads, got_value, got_fault, got_place, end_value, end-fault, end_place}
-use Rattle.job_grammar.specs.Grammar.{job_lines}
-use Rattle.job_text.proofs.Views.{refuse}
-use borrow.Author.Rules.{rules}
+use Rattle.lines.specs.Parser.{◌>>=◌, return}
+use Rattle.lines.proofs.Sound.{chain_gives}
+use Rattle.model.specs.Model.{Opening}
+use Rattle.job_grammar.specs.Grammar.{opening, openings, body, rest, job_lines}
+use Rattle.part_lines.specs.Grammar.{meant_part}
+use Rattle.jobs.specs.declared.Job.{Job}
+use Rattle.job_sections.specs.Views.{openings_said, parts_said}
+use Rattle.job_text.proofs.Views.{text_means}
 use Rattle.job_text.proofs.whole.read_job_lines.Goals as goal
-use Rattle.job_text.proofs.whole.read_job_lines.Goals.{After-advance, In-Value}
 
-pub advance-requires : goal.advance-requires
-advance-requires c = (c.requires, line_inside _ c.args.p (row_line _ 2 365 _ c.read_field-field.ensures) c.requires)
+pub returns-in_err-horizon : goal.returns-in_err-horizon
+unfolding job_lines bytes ◌>>=◌
+returns-in_err-horizon c = search rules
 
--- the horizon's line, read in the whole text
-horizon : (c : After-advance) → let a = c.args in Reads a.text.now (row_answer c.advance.result) (row "horizon=" 2 365 (drop a.p.at a.text.now) a.p.line)
-unfolding bytes
-horizon c = line_reads _ c.args.p (row_line _ 2 365 _ c.read_field-field.ensures) c.advance.ensures
+pub returns-in_err-steps : goal.returns-in_err-steps
+unfolding job_lines bytes ◌>>=◌
+returns-in_err-steps c = search rules
 
-pub read_idles-steps-requires : goal.read_idles-steps-requires
-read_idles-steps-requires c = got_place (horizon (goal.at.read_idles-steps-requires c).After-advance) (ap row_answer c.in-Value.is)
+pub returns-in_err-walk : goal.returns-in_err-walk
+unfolding job_lines rest bytes ◌>>=◌
+returns-in_err-walk c = search rules
 
-pub read_rest-requires : goal.read_rest-requires
-read_rest-requires c = let e = c.read_idles-steps.ensures in (end_place _ e.reads c.in-At.is, e.sized)
+pub returns-in_err-n : goal.returns-in_err-n
+unfolding job_lines rest bytes ◌>>=◌
+returns-in_err-n c = search rules
 
-pub returns-in-At : goal.returns-in-At
-unfolding job_lines
-returns-in-At c = let e = c.read_rest.ensures in
-    record {
-      reads = record {
-        is = e.reads.is ∙ sym (bind_good _ _ (got_value (horizon (goal.at.returns-in-At c).After-advance) (ap row_answer c.in-Value.is)) ∙ bind_good _ _ (end_value _ c.read_idles-steps.ensures.reads c.in-At.is));
-        stands = e.reads.stands;
-      };
-      means = e.means;
-      sized = e.sized;
-    }
+pub returns-in_err-openings : goal.returns-in_err-openings
+unfolding job_lines rest body bytes ◌>>=◌
+returns-in_err-openings c = search rules
 
-pub returns-in-Fault-steps_end : goal.returns-in-Fault-steps_end
-unfolding job_lines
-returns-in-Fault-steps_end c = refuse _ c.no_job.ensures
-    (bind_good _ _ (got_value (horizon (goal.at.returns-in-Fault-steps_end c).After-advance) (ap row_answer c.in-Value.is))
-    ∙ bind_fault _ _ (end-fault _ c.read_idles-steps.ensures.reads c.in-Fault-steps_end.is))
+pub returns-in_err-m : goal.returns-in_err-m
+unfolding job_lines rest body bytes ◌>>=◌
+returns-in_err-m c = search rules
 
-pub returns-in-Fault : goal.returns-in-Fault
-unfolding job_lines
-returns-in-Fault c = refuse _ c.no_job-in-Fault.ensures (bind_fault _ _ (got_fault (horizon (goal.at.returns-in-Fault c).After-advance) (ap row_answer c.in-Fault.is)))
+pub returns-in_err-said : goal.returns-in_err-said
+unfolding job_lines rest body bytes ◌>>=◌
+returns-in_err-said c = search rules
+
+pub invariant_of-result : goal.invariant_of-result
+unfolding openings
+invariant_of-result c = let steps = c.in_ok-steps.steps in
+    let ps = c.in_ok-said.field-0 in
+    let n = c.in_ok-n.n in
+    let size = (chain_gives (opening c.in_ok-horizon.horizon) (λ (before : ℕ) (o : Opening). o.step) (λ _ _. Unit {0}) (λ _ _ _ _ _ _ _. tt) n 0 _ _ _ _ (openings_said n c.in_ok-openings.openings) (sym c.in_ok-openings.ensures)).0 in
+    let job : Job = record {
+      horizon = c.in_ok-horizon.horizon;
+      idle_count = steps.count;
+      idles = steps.idles;
+      opening_count = n;
+      openings = c.in_ok-openings.openings;
+      part_count = c.in_ok-m.m;
+      parts = ps.parts;
+      few_idles = steps.few;
+      few_openings = c.in_ok-n.ensures.within.1;
+      few_parts = c.in_ok-m.ensures.within.1;
+    } in
+    record { means = text_means c.in_ok-walk.walk ps.said job (ap (λ (k : ℕ). map (meant_part k) (parts_said c.in_ok-m.m n ps)) size ∙ c.in_ok-said.ensures.means) }
+
+pub returns : goal.returns
+unfolding job_lines rest body bytes ◌>>=◌ return
+returns c = search rules

@@ -1,16 +1,10 @@
--- `past::past_job` meets its contract: the first n of the first openings and prices are the first n.
-use mathlib.Core.Path.{refl}
-use native.Mathlib.Omega.{arith}
-use lib.ListN.{take}
+-- `past::past_job`: the first n of the first openings and prices are the first n.
+use Rattle.std.proofs.Common.{refl, take}
 use Rattle.log_text.proofs.Counts.{openings_to, parts_to}
 use Rattle.log_text.proofs.past.past_job.Goals as goal
 
 pub returns : goal.returns
 returns c = let j = c.args.job in
-    let os = openings_to c.args.n j.opening_count j.openings c.requires.1 in
-    let ps = parts_to c.args.n j.opening_count (take j.part_count j.parts) c.requires.1 in (
-      (λ i. record { horizon = j.horizon; idles = take j.idle_count j.idles; openings = os i; parts = ps i }),
-      record { idles = c.requires.0.idles; openings = omega (arith, c.requires.0.openings, c.requires.1); parts = c.requires.0.parts },
-      refl,
-      refl,
-    )
+    let os = openings_to c.args.n j.opening_count j.openings c.requires in
+    let ps = parts_to c.args.n j.opening_count (take j.part_count j.parts) c.requires in
+    (λ i. record { horizon = j.horizon; idles = take j.idle_count j.idles; openings = os i; parts = ps i }, refl, refl)

@@ -1,57 +1,31 @@
--- `fees_of`: the sum so far is that over the openings from k on.
-use Prim.Native.Nat.{ℕ, ◌+◌, ◌-◌}
-use mathlib.Core.Path.{◌≡◌, sym, ap, subst, ◌∙◌}
-use mathlib.Core.Bool.{Bool, false}
-use mathlib.Core.List.{List, map}
+-- `fees_of`: opening by opening, its fee if a stop is made there.
+use Prim.Native.Nat.{ℕ, ◌<◌}
+use mathlib.Core.Path.{◌≡◌, sym, ap₂, ◌∙◌}
+use mathlib.Core.Bool.{Bool, false, cond}
+use mathlib.Core.List.{map}
 use native.Mathlib.Omega.{arith}
-use lib.ListN.{length, get_or, take}
-use lib.Seq.{get_or-take}
+use lib.ListN.{get_or, take}
+use lib.Seq.{get_or-take, length-take-le}
+use Rattle.std.proofs.Common.{rules}
 use Rattle.model.specs.Model.{fee_of}
+use Rattle.model.proofs.Sums.{sum_same}
+use Rattle.model.proofs.Totals.{sum_at_lem}
 use Rattle.jobs.specs.Views.{job_of}
-use Rattle.jobs.proofs.Jobs.{seen_count, seen_at}
-use Rattle.plan_costs.proofs.Sums.{Summed, summed_none, summed_skip, summed_take, summed_most, cheap_fees}
+use Rattle.jobs.proofs.Jobs.{opening_at, seen_at, valid_opening}
+use Rattle.plan_costs.proofs.Sums.{little}
 use Rattle.plan_costs.proofs.costs.fees_of.Goals as goal
-use Rattle.plan_costs.proofs.costs.fees_of.Goals.{In-loop-k, Start}
 
-abbrev fees : Start → List ℕ
-fees s = map fee_of (job_of s.args.job).openings
-
-abbrev stops : Start → List Bool
-stops s = take s.args.job.opening_count s.args.stops
-
-size : (s : Start) → length (fees s) ≡ s.args.job.opening_count
-size s = seen_count s.args.job s.requires.sized s.well_formed.0 fee_of
-
--- is a stop made at the opening at hand
-marked : (c : In-loop-k) → get_or (stops c.before.before) (c.loop-k.k - 1) false ≡ get_or c.args.stops (c.loop-k.k - 1) false
-marked c = get_or-take c.args.job.opening_count c.args.stops (c.loop-k.k - 1) false (omega arith)
-
-pub loop-k-init : goal.loop-k-init
-loop-k-init c = (omega arith, summed_none (fees c) (stops c) c.args.job.opening_count (omega (arith, size c)))
-
-pub bounds-stops-k : goal.bounds-stops-k
-bounds-stops-k c = omega (arith, c.requires.sized)
-
-pub offset_bounds-job-k : goal.offset_bounds-job-k
-offset_bounds-job-k c = omega (arith, c.requires.sized)
-
-pub bounds-job-k : goal.bounds-job-k
-bounds-job-k c = omega (arith, c.requires.sized)
-
-pub plus-sum-requires : goal.plus-sum-requires
-plus-sum-requires c = summed_most (fees (goal.at.plus-sum-requires c).Start) (stops (goal.at.plus-sum-requires c).Start) c.loop-k.k c.loop-k.sum c.loop-k.invariant.1 (omega (arith, c.requires.sized, size (goal.at.plus-sum-requires c).Start)) (cheap_fees (job_of c.args.job).openings c.requires.valid.openings)
-
-pub loop-k-preserved-then-stops-k : goal.loop-k-preserved-then-stops-k
-loop-k-preserved-then-stops-k c = let l = c.loop-k in (
-  omega arith,
-  summed_take (fees (goal.at.loop-k-preserved-then-stops-k c).Start) (stops (goal.at.loop-k-preserved-then-stops-k c).Start) l.k l.sum l.invariant.1 c.plus-sum.result c.loop-k-test.true (omega (arith, size (goal.at.loop-k-preserved-then-stops-k c).Start)) (marked (goal.at.loop-k-preserved-then-stops-k c).In-loop-k ∙ c.if-stops-k.true)
-      (c.plus-sum.ensures ∙ ap (λ (x : ℕ). x + l.sum) (sym (seen_at c.args.job c.requires.sized c.well_formed.0 fee_of 0 (l.k - 1) (omega arith)))),
-)
-
-pub loop-k-preserved : goal.loop-k-preserved
-loop-k-preserved c = let l = c.loop-k in
-    (omega arith, summed_skip (fees (goal.at.loop-k-preserved c).Start) (stops (goal.at.loop-k-preserved c).Start) l.k l.sum l.invariant.1 c.loop-k-test.true (marked (goal.at.loop-k-preserved c).In-loop-k ∙ c.if-stops-k.false))
+pub sum_of-requires-clause-small : goal.sum_of-requires-clause-small
+sum_of-requires-clause-small c k x h said =
+    let a = c.args in
+    let e : x ≡ cond (get_or a.stops k false) (opening_at a.job k).fee 0 = search rules in
+    rw e (little (get_or a.stops k false) (opening_at a.job k).fee (valid_opening a.job c.requires.sized c.well_formed.0 c.requires.valid k h).fee)
 
 pub returns : goal.returns
-returns c = let z : c.loop-k.k ≡ 0 = omega arith in
-    subst (λ (k : ℕ). Summed (fees (goal.at.returns c).Start) (stops (goal.at.returns c).Start) k c.loop-k.sum) z c.loop-k.invariant.1
+returns c =
+    let a = c.args in
+    let n = a.job.opening_count in
+    let f : ℕ → ℕ = λ k. cond (get_or a.stops k false) (opening_at a.job k).fee 0 in
+    c.sum_of.ensures f (λ k x h said. search rules)
+    ∙ sym (sum_at_lem (map fee_of (job_of a.job).openings) (take n a.stops) n (length-take-le n a.stops (omega (arith, c.requires.sized.openings, c.well_formed)))
+    ∙ sum_same n 0 _ f (λ k _ l. let h : k < n = omega arith in ap₂ (λ (b : Bool) (n : ℕ). cond b n 0) (get_or-take n a.stops k false h) (seen_at a.job c.requires.sized c.well_formed.0 fee_of 0 k h)))

@@ -17,7 +17,7 @@ use Rattle.jobs.proofs.Jobs.{opening_count_lem2}
 use Rattle.clock.proofs.Places.{position_count, place_is}
 use Rattle.plan_lives.specs.Views.{model_gaps}
 use Rattle.plan_lives.specs.Steps.{gap_of, first_long_lem, gaps_to}
-use Rattle.plan_lives.proofs.Follow.{follow_start, follow_skip, follow_change, follow_end, follow_last}
+use Rattle.plan_lives.proofs.Follow.{follow_skip, follow_change, follow_end, follow_last, first_or}
 use Rattle.plan_lives.proofs.lives.late_to.Goals as goal
 use Rattle.plan_lives.proofs.lives.late_to.Goals.{After-last_change-prev, then-changes-i, else-changes-i}
 use Rattle.clock.specs.Placed.{Placed}
@@ -51,21 +51,6 @@ module _ {job : model.Job} (p : Positions) (placed : Placed job p) (n : ℕ) (e 
 
 -- ---- the needs
 
-pub last_change-prev-requires : goal.last_change-prev-requires
-last_change-prev-requires c = (c.requires.2.life_high, omega (arith, c.requires.2.life_high, c.requires.2.left_high))
-
-pub loop-i-init : goal.loop-i-init
-loop-i-init c = (omega arith, rw (first-bits c) (first-begins c), follow_start _ _ _ _ _)
-
-pub bounds-changes-i : goal.bounds-changes-i
-bounds-changes-i c = omega (arith, c.requires.0.sized)
-
-pub offset_bounds-places-i : goal.offset_bounds-places-i
-offset_bounds-places-i c = omega (arith, c.requires.0.sized)
-
-pub bounds-places-i : goal.bounds-places-i
-bounds-places-i c = omega (arith, c.requires.0.sized)
-
 pub gap-requires : goal.gap-requires
 gap-requires c =
     let q = c.requires in
@@ -74,12 +59,9 @@ gap-requires c =
     record {
       sound = q.0;
       life_high = q.2.life_high;
-      begins = c.loop-i.invariant.1;
+      begins = c.loop-i.invariant.0;
       ends = rw (here_bits c.args.places q.1 c.args.job.opening_count count c.loop-i.i t) (here_range c.args.places q.1 c.args.job.opening_count count c.loop-i.i t);
     }
-
-pub overflow_add-i : goal.overflow_add-i
-overflow_add-i c = omega (arith, c.requires.0.sized)
 
 pub loop-i-preserved : goal.loop-i-preserved
 loop-i-preserved c =
@@ -103,23 +85,17 @@ loop-i-preserved c =
     elim c.if-changes-i.branch [
       | then-changes-i w ↦ (
           let e : prev' ≡ here = w.prev-is ∙ bits in (
-            omega arith,
             rw e (begins_later a.part.life here q.2.life_high range),
-            follow_change job to life cs first l.i prev (model_gaps l.late) l.invariant.2 prev' (model_gaps c.if-changes-i.late)
+            follow_change job to life cs first l.i prev (model_gaps l.late) l.invariant.1 prev' (model_gaps c.if-changes-i.late)
                 (rw (position_count a.job q.0.sized c.well_formed.0) t) (marked ∙ w.if-changes-i.true) (e ∙ here_is a.places q.1 n count l.i t)
-                (ap model_gaps w.late-is ∙ w.first_long-late.ensures ∙ ap (first_long_lem (model_gaps l.late)) (w.gap.ensures ∙ ap (gap_of job life prev) (sym w.prev-is))),
+                (ap model_gaps w.late-is ∙ ap model_gaps w.or-late.ensures ∙ first_or l.late w.gap.result ∙ ap (first_long_lem (model_gaps l.late)) (w.gap.ensures ∙ ap (gap_of job life prev) (sym w.prev-is))),
           )
           )
       | else-changes-i w ↦ (
-        omega arith,
-        rw w.prev-is l.invariant.1,
-        rw (w.prev-is, w.late-is) (follow_skip job to life cs first l.i prev (model_gaps l.late) l.invariant.2 (marked ∙ w.if-changes-i.false)),
+        rw w.prev-is l.invariant.0,
+        rw (w.prev-is, w.late-is) (follow_skip job to life cs first l.i prev (model_gaps l.late) l.invariant.1 (marked ∙ w.if-changes-i.false)),
       )
     ]
-
-pub gap-requires-2 : goal.gap-requires-2
-gap-requires-2 c = let p = c.requires in
-    record { sound = p.0; life_high = p.2.life_high; begins = c.loop-i.invariant.1; ends = rw (position_bits _ p.3) p.3 }
 
 pub returns : goal.returns
 returns c = let a = c.args in
@@ -131,12 +107,13 @@ returns c = let a = c.args in
     let cs = take a.job.opening_count a.changes in
     let first = to_z w32 (of_z w32 c.last_change-prev.result) in
     let begin = first-bits (goal.at.returns c).After-last_change-prev ∙ c.last_change-prev.ensures in (
-      c.first_long.ensures
+      ap model_gaps c.or.ensures
+          ∙ first_or c.loop-i.late c.gap-2.result
           ∙ ap (first_long_lem late) c.gap-2.ensures
-          ∙ follow_end job to life cs first c.loop-i.i prev late c.loop-i.invariant.2 (omega (arith, position_count a.job c.requires.0.sized c.well_formed.0))
+          ∙ follow_end job to life cs first c.loop-i.i prev late c.loop-i.invariant.1 (omega (arith, position_count a.job c.requires.0.sized c.well_formed.0))
           ∙ ap (λ (f : ℤ). gaps_to job to life f (select (positions job) cs)) begin
           ∙ ap (λ (e : ℤ). gaps_to job e life (pos a.part.left -ℤ pos a.part.life) (select (positions job) cs)) (position_bits a.to c.requires.3),
-      follow_last job to life cs first c.loop-i.i prev late c.loop-i.invariant.2 (omega (arith, position_count a.job c.requires.0.sized c.well_formed.0))
+      follow_last job to life cs first c.loop-i.i prev late c.loop-i.invariant.1 (omega (arith, position_count a.job c.requires.0.sized c.well_formed.0))
           ∙ ap (λ (f : ℤ). last_of f (select (positions job) cs)) begin,
-      c.loop-i.invariant.1,
+      c.loop-i.invariant.0,
     )

@@ -1,4 +1,3 @@
-use Prim.Native.Nat.{◌-◌, ◌≤◌}
 use lib.ListN.{take}
 use lib.IntN.{pos}
 use Rattle.jobs.specs.Views.{job_of}
@@ -8,7 +7,4 @@ use Rattle.plan_lives.proofs.Follow.{Follows}
 use Rattle.plan_lives.proofs.lives.late_to.Given as goal
 
 abbrev pub invariant-loop-i : goal.invariant-loop-i
-invariant-loop-i l = (l.i ≤ l.n) × Begins l.life l.prev × Follows (job_of l.job) l.to (pos l.life) (take l.n l.changes) l.initial.prev l.i l.prev (model_gaps l.late)
-
-abbrev pub decreases-loop-i : goal.decreases-loop-i
-decreases-loop-i l = l.n - l.i
+invariant-loop-i l = Begins l.life l.prev × Follows (job_of l.fn.job) l.to (pos l.life) (take l.fn.job.opening_count l.changes) l.initial.prev l.i l.prev (model_gaps l.late)

@@ -7,13 +7,6 @@ use Rattle.plan_lives.specs.Steps.{verdict_to_lem}
 use Rattle.plan_lives.proofs.Ruled.{verdict_whole}
 use Rattle.plan_lives.proofs.lives.verdict_of.Goals as goal
 
-pub positions_of-positions-requires : goal.positions_of-positions-requires
-positions_of-positions-requires c = c.requires
-
-pub verdict_to-requires : goal.verdict_to-requires
-verdict_to-requires c = let at_end_lem = c.positions_of-positions.ensures.end_range in
-    (c.requires, c.positions_of-positions.ensures, rw (position_bits _ at_end_lem) at_end_lem)
-
 pub returns : goal.returns
 returns c = let a = c.args in
     let plan = plan_for a.job a.plan in

@@ -1,59 +1,60 @@
--- `verdict_to`: what the first k parts say, and the rest after them, is the verdict on all.
+-- `verdict_to`: so far every part is kept, and the rest after them gives the verdict on all; the first that is late is the lowest.
 use Prim.Native.Nat.{◌+◌}
-use mathlib.Core.Path.{refl, sym, ap, ap₂, ◌∙◌}
+use mathlib.Core.Path.{◌≡◌, sym, ap, ap₂, ◌∙◌}
+use mathlib.Core.List.{[]}
 use native.Mathlib.Omega.{arith}
+use lib.ListN.{get_or}
 use lib.IntN.{ℤ}
 use mir.Syntax.{w32}
 use mir.Val.{to_z, of_z}
-use Rattle.model.specs.Verdict.{Gaps, keeps, ruled}
-use Rattle.jobs.specs.Views.{job_of, part_of_lem, changes_for, plan_for}
+use Rattle.std.specs.Prelude.{Err}
+use Rattle.std.proofs.lemmas.Result.{err_from_is_err_and}
+use Rattle.model.specs.Verdict.{Gaps, keeps, ruled, no_part}
+use Rattle.jobs.specs.Views.{job_of, changes_for, plan_for}
 use Rattle.jobs.proofs.Jobs.{part_count, part_at_lem, valid_part}
 use Rattle.plan_lives.specs.Views.{model_verdict}
-use Rattle.plan_lives.specs.Steps.{lower_part_lem, late_to_lem, verdict_to_lem}
+use Rattle.plan_lives.specs.Steps.{late_to_lem, verdict_to_lem}
 use Rattle.clock.proofs.Ranges.{position_bits}
 use Rattle.jobs.proofs.Plans.{enough_changes, changes_at_lem}
-use Rattle.plan_lives.proofs.Ruled.{ruled_more, ruled_all}
+use Rattle.plan_lives.proofs.Ruled.{ruled_more, ruled_late, ruled_all}
 use Rattle.plan_lives.proofs.lives.verdict_to.Goals as goal
-
-pub loop-k-init : goal.loop-k-init
-loop-k-init c = (omega arith, refl)
-
-pub part_of-part-requires : goal.part_of-part-requires
-part_of-part-requires c = (c.loop-k-test.true, c.requires.0.sized.parts)
-
-pub offset_bounds-plan-k : goal.offset_bounds-plan-k
-offset_bounds-plan-k c = omega (arith, c.requires.0.sized)
-
-pub bounds-plan-k : goal.bounds-plan-k
-bounds-plan-k c = omega (arith, c.requires.0.sized)
+use Rattle.plan_lives.proofs.lives.verdict_to.Goals.{After-kept}
 
 pub late_to-followed-requires : goal.late_to-followed-requires
-late_to-followed-requires c = (c.requires.0, c.requires.1, rw c.part_of-part.ensures.0 (valid_part c.args.job c.requires.0.sized c.well_formed.0 c.requires.0.valid c.loop-k.k c.loop-k-test.true), rw (position_bits _ c.requires.2) c.requires.2)
+late_to-followed-requires c = (c.requires.0, c.requires.1, valid_part c.args.job c.requires.0.sized c.well_formed.0 c.requires.0.valid _ (omega arith), rw (position_bits _ c.requires.2) c.requires.2)
 
-pub overflow_cast-k : goal.overflow_cast-k
-overflow_cast-k c = omega (arith, c.requires.0.sized)
+-- what is said of the part at hand
+here : (c : After-kept) → model_verdict c.kept.result
+    ≡ ruled (c.loop-k.k + 1) (late_to_lem (job_of c.args.job) (to_z w32 (of_z w32 c.args.to)) (get_or (job_of c.args.job).parts c.loop-k.k no_part) (get_or (changes_for c.args.job c.args.plan.changes) c.loop-k.k [])) keeps
+here c =
+    let j = c.args.job in
+    let k = c.loop-k.k in
+    let t = c.loop-k-test.true in
+    c.kept.ensures
+    ∙ ap (λ (g : Gaps). ruled (k + 1) g keeps)
+    (c.late_to-followed.ensures.0
+    ∙ ap₂ (late_to_lem (job_of j) (to_z w32 (of_z w32 c.args.to))) (sym (part_at_lem j c.requires.0.sized c.well_formed.0 k t)) (sym (changes_at_lem j.opening_count j.part_count c.args.plan.changes (enough_changes j c.requires.0.sized c.args.plan c.well_formed.1.1.0) k t)))
 
-pub overflow_add-k : goal.overflow_add-k
-overflow_add-k c = omega (arith, c.requires.0.sized)
-
-pub overflow_add-k-in-loop-k : goal.overflow_add-k-in-loop-k
-overflow_add-k-in-loop-k c = omega (arith, c.requires.0.sized)
+pub returns-in_err-kept : goal.returns-in_err-kept
+returns-in_err-kept c =
+    let l = c.loop-k in
+    let j = c.args.job in
+    let late = c.in_err-kept.field-0.0 in
+    let p = err_from_is_err_and c.from_residual.result c.from_residual.ensures.1 in
+    rw (p.1, p.2)
+    (ruled_late (late_to_lem (job_of j) (to_z w32 (of_z w32 c.args.to))) (job_of j).parts (changes_for j c.args.plan.changes) (l.k + 1) late.part late.due
+    (ruled_more (late_to_lem (job_of j) (to_z w32 (of_z w32 c.args.to))) (job_of j).parts (changes_for j c.args.plan.changes) l.k keeps (model_verdict (Err late)) (rw (part_count j c.requires.0.sized c.well_formed.0) c.loop-k-test.true)
+    (sym (ap model_verdict c.in_err-kept.was) ∙ here (goal.at.returns-in_err-kept c).After-kept) l.invariant)
+    ∙ ap (λ (e : ℤ). verdict_to_lem (job_of j) e (plan_for j c.args.plan)) (position_bits c.args.to c.requires.2))
 
 pub loop-k-preserved : goal.loop-k-preserved
 loop-k-preserved c =
     let l = c.loop-k in
     let j = c.args.job in
-    let job = job_of j in
-    let t = c.loop-k-test.true in
-    let here = ap₂ (late_to_lem job (to_z w32 (of_z w32 c.args.to))) (ap (part_of_lem j.opening_count) c.part_of-part.ensures.0 ∙ sym (part_at_lem j c.requires.0.sized c.well_formed.0 l.k t)) (sym (changes_at_lem j.opening_count j.part_count c.args.plan.changes (enough_changes j c.requires.0.sized c.args.plan c.well_formed.1.1.0) l.k t)) in (
-      omega arith,
-      ruled_more (late_to_lem job (to_z w32 (of_z w32 c.args.to))) job.parts (changes_for j c.args.plan.changes) l.k (model_verdict l.lowest) (model_verdict c.lower_part-lowest.result) (rw (part_count j c.requires.0.sized c.well_formed.0) t)
-          (c.lower_part-lowest.ensures
-          ∙ ap (lower_part_lem (model_verdict l.lowest)) (c.late_at.ensures ∙ ap (λ (g : Gaps). ruled (l.k + 1) g keeps) (c.late_to-followed.ensures.0 ∙ here)))
-          l.invariant.1,
-    )
+    ruled_more (late_to_lem (job_of j) (to_z w32 (of_z w32 c.args.to))) (job_of j).parts (changes_for j c.args.plan.changes) l.k keeps keeps (rw (part_count j c.requires.0.sized c.well_formed.0) c.loop-k-test.true)
+    (sym (ap model_verdict c.in_ok-kept.was) ∙ here (goal.at.loop-k-preserved c).After-kept) l.invariant
 
 pub returns : goal.returns
 returns c = let j = c.args.job in
-    ruled_all (late_to_lem (job_of j) (to_z w32 (of_z w32 c.args.to))) (job_of j).parts (changes_for j c.args.plan.changes) c.loop-k.k (model_verdict c.loop-k.lowest) (omega (arith, part_count j c.requires.0.sized c.well_formed.0)) c.loop-k.invariant.1
+    ruled_all (late_to_lem (job_of j) (to_z w32 (of_z w32 c.args.to))) (job_of j).parts (changes_for j c.args.plan.changes) c.loop-k.k keeps (omega (arith, part_count j c.requires.0.sized c.well_formed.0)) c.loop-k.invariant
     ∙ ap (λ (e : ℤ). verdict_to_lem (job_of j) e (plan_for j c.args.plan)) (position_bits c.args.to c.requires.2)

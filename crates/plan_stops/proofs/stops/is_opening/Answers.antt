@@ -1,22 +1,13 @@
--- `stops::is_opening` meets its contract. The invariant: none of the first i openings is at the step.
-use mathlib.Core.Path.{sym}
-use native.Mathlib.Omega.{arith}
-use borrow.Author.Count.{below_more}
-use Rattle.plan_grammar.proofs.Jobs.{opening_yes, opening_no}
+-- `stops::is_opening`: the search over the openings, in the definition's words.
+use Rattle.std.proofs.Common.{rules, tests, eqb, take, ◌∙◌}
+use Rattle.std.proofs.lemmas.Iterator.{YieldsList-from_slice}
+use Rattle.std.proofs.lemmas.Iterator.Search.{any_from_yields_List}
+use Rattle.jobs.specs.declared.Opening.{Opening}
+use Rattle.plan_stops.proofs.Marks.{any_opening}
 use Rattle.plan_stops.proofs.stops.is_opening.Goals as goal
 
-pub loop-i-init : goal.loop-i-init
-loop-i-init c = (omega arith, λ j h. absurd (omega arith))
-
-pub bounds-job-i : goal.bounds-job-i
-bounds-job-i c = omega (arith, c.requires)
-
-pub returns-then-o-step : goal.returns-then-o-step
-returns-then-o-step c = sym (opening_yes c.args.job c.requires c.well_formed.0 c.args.step c.loop-i.i c.loop-i-test.true c.if-o-step.true)
-
-pub loop-i-preserved : goal.loop-i-preserved
-loop-i-preserved c = let l = c.loop-i in
-    (omega arith, below_more _ l.i l.invariant.1 c.if-o-step.false)
-
 pub returns : goal.returns
-returns c = sym (opening_no c.args.job c.requires c.well_formed.0 c.args.step (λ i h. c.loop-i.invariant.1 i (omega arith)))
+returns c = let job = c.args.job in
+    let step = c.args.step in
+    let os = take job.opening_count job.openings in
+    any_from_yields_List (λ (o : Opening). eqb o.step step) _ _ c.any.result c.any.ensures.ran (YieldsList-from_slice os cc) (λ x b q k. search (rules, tests)) ∙ any_opening step os

@@ -1,21 +1,13 @@
--- `put_fees` writes the fees. The invariant: the first j are written.
-use Prim.Native.Nat.{ℕ}
-use mathlib.Core.Path.{◌≡◌, refl, subst}
+-- `put_fees` writes the fees, as one part of the tables.
+use Prim.Native.Nat.{◌+◌, ◌-◌}
+use mathlib.Core.Path.{refl}
 use native.Mathlib.Omega.{arith}
-use lib.ListN.{length, get_or}
-use Rattle.least.specs.Filled.{FilledBy}
-use Rattle.least.proofs.Filled.{filled_none, filled_more}
-use Rattle.lane_rows.specs.Layout.{fee_place}
+use lib.ListN.{length}
+use Rattle.least.proofs.Filled.{filled_part}
+use Rattle.lane_rows.specs.Layout.{fee_base}
 use Rattle.search_tables.proofs.tables.put_fees.Goals as goal
-
-pub loop-j-init : goal.loop-j-init
-loop-j-init c = (omega arith, filled_none)
-
-pub loop-j-preserved : goal.loop-j-preserved
-loop-j-preserved c = (omega arith, filled_more _ (omega arith) (λ y h e. omega (arith, e)) refl c.loop-j.invariant.1)
 
 pub returns : goal.returns
 returns c = let a = c.args in
-    let l = c.loop-j in
-    let z : l.j ≡ length a.fees.now = omega arith in
-    subst (λ (n : ℕ). FilledBy fee_place (λ (j : ℕ). get_or a.fees.now j 0) n a.t.now l.t) z l.invariant.1
+    let n = length a.fees.now in
+    rw c.copy_from_slice.ensures.after (filled_part a.t.now a.fees.now fee_base n (fee_base + n - fee_base) (omega arith) (omega arith) refl)

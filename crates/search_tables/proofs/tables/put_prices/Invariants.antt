@@ -1,11 +1,8 @@
-use Prim.Native.Nat.{ℕ, ◌-◌, ◌≤◌}
-use lib.ListN.{length, get_or}
+use Prim.Native.Nat.{ℕ}
+use lib.ListN.{get_or}
 use Rattle.least.specs.Filled.{FilledBy}
 use Rattle.lane_rows.specs.Layout.{price_place}
 use Rattle.search_tables.proofs.tables.put_prices.Given as goal
 
 abbrev pub invariant-loop-j : goal.invariant-loop-j
-invariant-loop-j l = (l.j ≤ length l.prices) × FilledBy (λ (jj : ℕ). price_place jj l.q) (λ (jj : ℕ). get_or l.prices jj 0) l.j l.initial.t l.t
-
-abbrev pub decreases-loop-j : goal.decreases-loop-j
-decreases-loop-j l = length l.prices - l.j
+invariant-loop-j l = FilledBy (λ (jj : ℕ). price_place jj l.q) (λ (jj : ℕ). get_or l.prices jj 0) l.j l.initial.t l.t

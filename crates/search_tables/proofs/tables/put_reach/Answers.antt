@@ -1,33 +1,21 @@
 -- `put_reach` writes one row of a lane's reach. The invariant: the first i numbers are written.
-use Prim.Native.Nat.{◌+◌, ◌<◌}
-use mathlib.Core.Path.{◌≡◌, refl}
+use Prim.Native.Nat.{◌+◌}
+use mathlib.Core.Path.{◌≡◌}
 use native.Mathlib.Omega.{arith}
-use mir.Facts.{to_z-of_z}
 use Rattle.least.proofs.Filled.{filled_none, filled_more}
-use Rattle.lane_rows.specs.Layout.{mark_count, block_rows}
-use Rattle.lane_rows.proofs.Rising.{row_inside}
+use Rattle.search_tables.proofs.Triangles.{in_block}
 use Rattle.search_tables.proofs.tables.put_reach.Goals as goal
-use Rattle.search_tables.proofs.tables.put_reach.Goals.{In-loop-i}
 
 pub loop-i-init : goal.loop-i-init
-loop-i-init c = (refl, omega arith, filled_none)
-
--- the row stands in its block
-inside : (c : In-loop-i) → c.row_of-row.result + c.loop-i.i < block_rows
-inside c =
-    let l = c.loop-i in
-    omega (arith, row_inside c.args.j l.i mark_count (omega (arith, c.loop-i-test.true, l.invariant.0)) (omega (arith, c.requires.0, c.requires.1)), c.row_of-row.ensures.rows)
-
-pub reach-requires : goal.reach-requires
-reach-requires c = (omega arith, c.requires.0, rw (to_z-of_z c.ranges.first) c.requires.2)
+loop-i-init c = filled_none
 
 pub bounds-t-row : goal.bounds-t-row
-bounds-t-row c = omega (arith, inside (goal.at.bounds-t-row c).In-loop-i, c.requires.3.lane, c.requires.3.size, c.loop-i.invariant.2.size)
+bounds-t-row c = let row = in_block c.args.j c.loop-i.i _ (omega arith) (omega (arith, c.requires.0, c.args.part.now.few)) c.row_of-row.ensures.rows in
+    omega (arith, row, c.requires.1.lane, c.requires.1.size, c.loop-i.invariant.size)
 
 pub loop-i-preserved : goal.loop-i-preserved
-loop-i-preserved c = (refl, omega arith, filled_more c.reach.result (omega (arith, inside (goal.at.loop-i-preserved c).In-loop-i, c.requires.3.lane, c.requires.3.size)) (λ y h e. omega (arith, e)) c.reach.ensures c.loop-i.invariant.2)
+loop-i-preserved c = let row = in_block c.args.j c.loop-i.i _ (omega arith) (omega (arith, c.requires.0, c.args.part.now.few)) c.row_of-row.ensures.rows in
+    filled_more _ (omega (arith, row, c.requires.1.lane, c.requires.1.size)) (λ y h e. omega (arith, e)) c.reach.ensures c.loop-i.invariant
 
 pub returns : goal.returns
-returns c = let l = c.loop-i in
-    let z : l.i ≡ c.args.j + 1 = omega arith in
-    rw (to_z-of_z c.ranges.life, to_z-of_z c.ranges.first, z, c.row_of-row.ensures.rows) at l.invariant.2
+returns c = let z : c.loop-i.i ≡ c.args.j + 1 = omega arith in rw (z, c.row_of-row.ensures.rows) at c.loop-i.invariant

@@ -1,20 +1,9 @@
--- `clear` writes 0 to the terms. The invariant: the first y are 0.
-use Prim.Native.Nat.{ℕ, ◌+◌}
-use mathlib.Core.Path.{◌≡◌, refl, subst}
+-- `clear` writes 0 to the terms, as one part of the tables.
+use Prim.Native.Nat.{◌+◌, ◌-◌}
 use native.Mathlib.Omega.{arith}
-use Rattle.least.specs.Filled.{FilledBy}
-use Rattle.least.proofs.Filled.{filled_none, filled_more}
+use Rattle.least.proofs.Filled.{filled_with}
 use Rattle.lane_rows.specs.Layout.{term_base}
 use Rattle.search_tables.proofs.terms.clear.Goals as goal
 
-pub loop-y-init : goal.loop-y-init
-loop-y-init c = (omega arith, filled_none)
-
-pub loop-y-preserved : goal.loop-y-preserved
-loop-y-preserved c = (omega arith, filled_more 0 (omega arith) (λ y h e. omega (arith, e)) refl c.loop-y.invariant.1)
-
 pub returns : goal.returns
-returns c = let a = c.args in
-    let l = c.loop-y in
-    let z : l.y ≡ a.m = omega arith in
-    subst (λ (n : ℕ). FilledBy (λ (y : ℕ). term_base + y) (λ (y : ℕ). 0) n a.t.now l.t) z l.invariant.1
+returns c = filled_with c.args.t.now c.fill.new.self 0 term_base c.args.m (term_base + c.args.m - term_base) (omega arith) (omega arith) (c.fill.ensures.after (λ y e. e))

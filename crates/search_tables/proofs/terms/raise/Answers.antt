@@ -1,44 +1,26 @@
 -- `raise` takes the larger of each term of a row and the part's. The invariant: the first i are raised.
-use Prim.Native.Nat.{◌+◌, ◌<◌, max}
-use mathlib.Core.Path.{◌≡◌, refl, ap₂, ◌∙◌}
+use Prim.Native.Nat.{◌+◌}
+use mathlib.Core.Path.{◌≡◌}
 use native.Mathlib.Omega.{arith}
 use Rattle.least.proofs.Filled.{filled_none, filled_more}
-use Rattle.lane_rows.specs.Layout.{mark_count, block_rows, term_base}
-use Rattle.lane_rows.proofs.Rising.{row_inside}
+use Rattle.lane_rows.specs.Layout.{term_base}
+use Rattle.search_tables.proofs.Triangles.{in_block}
 use Rattle.search_tables.proofs.terms.raise.Goals as goal
-use Rattle.search_tables.proofs.terms.raise.Goals.{In-loop-i}
 
 pub loop-i-init : goal.loop-i-init
-loop-i-init c = (refl, omega arith, filled_none)
-
--- the row stands among the terms
-inside : (c : In-loop-i) → c.row_of-row.result + c.loop-i.i < block_rows
-inside c =
-    let l = c.loop-i in
-    omega (arith, row_inside c.args.j l.i mark_count (omega (arith, c.loop-i-test.true, l.invariant.0)) (omega (arith, c.requires.0)), c.row_of-row.ensures.rows)
+loop-i-init c = filled_none
 
 pub bounds-t-at : goal.bounds-t-at
-bounds-t-at c = omega (arith, inside (goal.at.bounds-t-at c).In-loop-i, c.requires.2, c.loop-i.invariant.2.size)
-
-pub capped-requires : goal.capped-requires
-capped-requires c = tt
-
-pub larger-requires : goal.larger-requires
-larger-requires c = tt
+bounds-t-at c = omega (arith, in_block c.args.j c.loop-i.i _ (omega arith) c.requires.0 c.row_of-row.ensures.rows, c.requires.2, c.loop-i.invariant.size)
 
 pub bounds-t-at-in-loop-i : goal.bounds-t-at-in-loop-i
-bounds-t-at-in-loop-i c = omega (arith, inside (goal.at.bounds-t-at-in-loop-i c).In-loop-i, c.requires.2, c.loop-i.invariant.2.size)
+bounds-t-at-in-loop-i c = omega (arith, in_block c.args.j c.loop-i.i _ (omega arith) c.requires.0 c.row_of-row.ensures.rows, c.requires.2, c.loop-i.invariant.size)
 
 pub loop-i-preserved : goal.loop-i-preserved
 loop-i-preserved c = let l = c.loop-i in
-    let row = c.row_of-row.result in (
-      refl,
-      omega arith,
-      filled_more c.larger.result (omega (arith, inside (goal.at.loop-i-preserved c).In-loop-i, c.requires.2)) (λ y h e. omega (arith, e))
-          (c.larger.ensures ∙ ap₂ max (l.invariant.2.rest (term_base + (row + l.i)) (λ k h e. omega (arith, e))) c.capped.ensures) l.invariant.2,
-    )
+    let row = in_block c.args.j l.i _ (omega arith) c.requires.0 c.row_of-row.ensures.rows in
+    let before = l.invariant.rest (term_base + (c.row_of-row.result + l.i)) (λ k h e. omega (arith, e)) in
+    filled_more _ (omega (arith, row, c.requires.2)) (λ y h e. omega (arith, e)) (omega (arith, before, c.capped.ensures)) l.invariant
 
 pub returns : goal.returns
-returns c = let l = c.loop-i in
-    let z : l.i ≡ c.args.j + 1 = omega arith in
-    rw (z, c.row_of-row.ensures.rows) at l.invariant.2
+returns c = let z : c.loop-i.i ≡ c.args.j + 1 = omega arith in rw (z, c.row_of-row.ensures.rows) at c.loop-i.invariant

@@ -1,9 +1,0 @@
--- `put_borne` goes through the rows of shares.
-use Rattle.std.proofs.Common.{arith}
-use Rattle.ascent_lanes.proofs.put_borne.Goals as goal
-
-pub loop-r-init : goal.loop-r-init
-loop-r-init c = (omega arith, omega arith)
-
-pub loop-r-preserved : goal.loop-r-preserved
-loop-r-preserved c = (omega arith, omega arith)

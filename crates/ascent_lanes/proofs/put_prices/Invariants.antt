@@ -1,8 +1,0 @@
-use Rattle.std.proofs.Common.{◌-◌, ◌≤◌}
-use Rattle.ascent_lanes.proofs.put_prices.Given as goal
-
-abbrev pub invariant-loop-i : goal.invariant-loop-i
-invariant-loop-i l = (l.i ≤ 1024)
-
-abbrev pub decreases-loop-i : goal.decreases-loop-i
-decreases-loop-i l = 1024 - l.i

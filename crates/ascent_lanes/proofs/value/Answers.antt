@@ -1,9 +1,0 @@
--- `value`: a sum of lanes below the number for Missing.
-use Rattle.std.proofs.Common.{arith}
-use Rattle.ascent_lanes.proofs.value.Goals as goal
-
-pub loop-q-init : goal.loop-q-init
-loop-q-init c = (omega arith, omega arith)
-
-pub loop-q-preserved : goal.loop-q-preserved
-loop-q-preserved c = (omega arith, omega arith)

@@ -1,0 +1,19 @@
+// A job whose shares are sought.
+
+ghost use Rattle.std.specs.Prelude.{◌+◌, ◌≤◌};
+ghost use Rattle.model.specs.Limits.{most_openings, most_parts};
+
+use lane_rows::TABLES;
+
+// Its tables; how many openings, things and parts it has; and how often its prices are taken.
+#[derive(Clone, Copy)]
+pub struct Scaled<'a> {
+    pub t: &'a [u32; TABLES],
+    pub openings: usize,
+    pub things: usize,
+    pub parts: usize,
+    pub scale: u32,
+    ghost few_openings: { openings ≤ most_openings },
+    ghost few_things: { things ≤ most_parts + 1 },
+    ghost few_parts: { parts ≤ most_parts },
+}

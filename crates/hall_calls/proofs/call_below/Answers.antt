@@ -1,0 +1,64 @@
+-- `call_below` tests the node without a call, where each line passes the step, or the one with a call, where no line moves.
+use Prim.Native.Nat.{ℕ, ◌+◌, ◌<◌, ◌^◌}
+use mathlib.Core.Path.{refl, sym, ap, ◌∙◌}
+use Rattle.std.specs.Prelude.{Some}
+use native.Mathlib.Omega.{arith}
+use Rattle.branch.specs.declared.Bound.TheVariants.{Sum}
+use Rattle.branch.proofs.Bounds.{sum_inj}
+use mathlib.Core.Bool.{Bool}
+use mathlib.Core.List.{List}
+use Rattle.hall.specs.Hall.{Hall}
+use Rattle.hall_state.specs.declared.Ground.{Ground}
+use Rattle.hall_state.specs.declared.Spot.{Spot}
+use Rattle.hall_state.specs.Courses.{Arrays, Course}
+use Rattle.hall_moves.specs.Asks.{Asking}
+use Rattle.hall_moves.proofs.Found.{below_as, room}
+use Rattle.hall_calls.proofs.Calls.{step_near, call_closed, call_open, none_due, none_closed, none_drop, none_open}
+use Rattle.hall_calls.proofs.call_below.Goals as goal
+
+-- ---- a call
+
+-- the estimate is small, and so is what a call costs
+small : {hall : Hall} {g : Ground} {a : Arrays} {p : Spot} {name : List Bool} {calls : ℕ} {cs : List Course} → Asking hall g a p name calls cs → (p.total + g.ats.call < 2 ^ 64) × (p.total + g.ats.lines < 2 ^ 64)
+small {hall} {g} {a} {p} k = let r = room k p.total (omega arith) in (omega (arith, k.crewed.table.call_is, r, k.crewed.fits.fair), omega (arith, k.crewed.table.lines_are, r, k.crewed.fits.few))
+
+pub overflow_add-total : goal.overflow_add-total
+overflow_add-total c = let z = small c.requires.0.1.1.1.1 in omega (arith, z.0, z.1)
+
+pub open-requires : goal.open-requires
+open-requires c = λ x f. let z = small c.requires.0.1.1.1.1 in omega (arith, z.0, z.1, sum_inj (Sum 0) 0 x refl f)
+
+pub returns-in_default : goal.returns-in_default
+returns-in_default c = λ hall name calls cs k.
+    below_as c.if-yes.true refl (call_closed k c.requires.1 (c.args.p.total + c.args.ground.now.ats.call) (ap (λ (x : ℕ). c.args.p.total + x) k.crewed.table.call_is) (sym c.«open».ensures ∙ c.in_default.is))
+
+pub returns-then-yes : goal.returns-then-yes
+returns-then-yes c = λ hall name calls cs k.
+    below_as c.if-yes.true (ap Some c.lines_from.ensures) (call_open k c.requires.1 (c.args.p.total + c.args.ground.now.ats.call) (ap (λ (x : ℕ). c.args.p.total + x) k.crewed.table.call_is) (sym c.«open».ensures ∙ c.in-Sum.is))
+
+-- ---- no call
+
+pub returns-in_err-total : goal.returns-in_err-total
+returns-in_err-total c = λ hall name calls cs k.
+    let r = (c.no_call.ensures hall name calls cs k).none c.in_err-total.was in
+    below_as c.if-yes.false c.from_residual.ensures (none_closed k c.requires.1 r.0 r.1 r.2)
+
+pub open-requires-2 : goal.open-requires-2
+open-requires-2 c = λ x f.
+    let i = c.requires.0 in
+    let k = i.1.1.1.1 in
+    let r = (c.no_call.ensures i.0 i.1.0 i.1.1.0 i.1.1.1.0 k).some c.in_ok-total.total c.in_ok-total.was in
+    omega (arith, sum_inj (Sum 0) 0 x refl f, (none_due k c.requires.1 r).fits 0 refl)
+
+pub returns-in_default-open : goal.returns-in_default-open
+returns-in_default-open c = λ hall name calls cs k.
+    let r = (c.no_call.ensures hall name calls cs k).some c.in_ok-total.total c.in_ok-total.was in
+    below_as c.if-yes.false refl (none_drop k c.requires.1 r (sym c.open-2.ensures ∙ c.in_default-open.is))
+
+pub next_step-requires : goal.next_step-requires
+next_step-requires c = step_near c.requires.0.1.1.1.1 c.requires.1
+
+pub returns : goal.returns
+returns c = λ hall name calls cs k.
+    let r = (c.no_call.ensures hall name calls cs k).some c.in_ok-total.total c.in_ok-total.was in
+    below_as c.if-yes.false (ap Some c.next_step.ensures) (none_open k c.requires.1 r (sym c.open-2.ensures ∙ c.in-Sum-open.is))

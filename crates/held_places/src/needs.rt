@@ -1,0 +1,25 @@
+// Which of the parts that are somebody's holder come out with each part.
+ghost use Rattle.std.specs.Prelude.{◌≡◌, ◌<◌, ◌≤◌, length};
+ghost use Rattle.model.specs.Limits.{most_parts};
+ghost use Rattle.held_places.specs.Arrays.{need_size, needs_at};
+
+use model::PARTS;
+
+// For each part sixteen marks, of which the first `holding` count: which of the holding parts come out with it.
+#[derive(Clone, Copy)]
+pub struct Needs<'a> {
+    pub marks: &'a [bool],
+    pub holding: usize,
+    pub ghost size: { length marks.now ≡ need_size },
+    pub ghost few: { holding ≤ most_parts },
+}
+
+impl<'a> Needs<'a> {
+    // What part q needs.
+    pub fn of(&self, q: usize) -> &[bool]
+        requires { q < most_parts }
+        ensures { result.now ≡ needs_at self.now.holding self.now.marks.now q }
+    {
+        &self.marks[q * PARTS..q * PARTS + self.holding]
+    }
+}

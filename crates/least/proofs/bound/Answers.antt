@@ -1,9 +1,0 @@
--- `bound` reads a number of the table: below 2 ^ 62 it is a price.
-use borrow.Author.Tests.{lt-ltb, le-ltb}
-use Rattle.least.proofs.bound.Goals as goal
-
-pub returns-then-a-lt-MISSING : goal.returns-then-a-lt-MISSING
-returns-then-a-lt-MISSING c = rw (lt-ltb _ _ c.if-a-lt-MISSING.true)
-
-pub returns-else-a-lt-MISSING : goal.returns-else-a-lt-MISSING
-returns-else-a-lt-MISSING c = rw (le-ltb _ _ c.if-a-lt-MISSING.false)

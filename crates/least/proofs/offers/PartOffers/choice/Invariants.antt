@@ -1,0 +1,9 @@
+use Prim.Native.Nat.{◌≤◌}
+use Rattle.model.specs.LowerBound.{offers}
+use Rattle.least.specs.Marks.{mark_of}
+use Rattle.least.proofs.Table.{Chosen}
+use Rattle.least.proofs.offers.PartOffers.choice.Given as goal
+
+abbrev pub invariant-loop-k : goal.invariant-loop-k
+invariant-loop-k l = let s = l.self in
+    (l.i ≤ l.k) × Chosen s.life s.end s.first (offers s.positions.now s.prices.now s.allowed.now) (mark_of s.first s.positions.now l.i) l.out l.k

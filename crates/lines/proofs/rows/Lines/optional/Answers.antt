@@ -1,0 +1,13 @@
+-- `optional`: by whether the text goes on with the key.
+use Rattle.std.proofs.Common.{rules, sym, ◌∙◌}
+use Rattle.lines.proofs.Parsing.{optional_value, optional_fault, optional_missing}
+use Rattle.lines.proofs.rows.Lines.optional.Goals as goal
+
+pub returns-in_err-field : goal.returns-in_err-field
+returns-in_err-field c = let t = sym c.starts_with.ensures ∙ c.if-starts_with.true in search (rules, optional_fault, t)
+
+pub returns-in_ok-field : goal.returns-in_ok-field
+returns-in_ok-field c = optional_value _ _ _ c.args.self.now c.field.new.self _ (sym c.starts_with.ensures ∙ c.if-starts_with.true) c.in_ok-field.ensures.reads
+
+pub returns-else-starts_with : goal.returns-else-starts_with
+returns-else-starts_with c = sym (optional_missing _ _ _ _ _ (sym c.starts_with.ensures ∙ c.if-starts_with.false))

@@ -1,0 +1,57 @@
+// What is wrong with a text, and on which line.
+ghost use Rattle.std.specs.Prelude.{◌≡◌};
+ghost use Rattle.lines.specs.Fault.{number_of_lem};
+
+// What is wrong with a line; `number` is its result number.
+#[derive(Clone, Copy, PartialEq, Eq)]
+pub enum FaultKind {
+    // The text has too many bytes.
+    TooLong,
+    // It is not the line that stands here, or not well formed, or the text goes on behind its last line.
+    Form,
+    // A value is out of its range.
+    Range,
+    // Idle steps or openings don't rise, or lie past the horizon.
+    Step,
+    // More is left of a first life than the life.
+    Left,
+    // A plan's stop or part is none of the job's, or they don't rise.
+    Visit,
+    // A holder is none of the other parts, or they don't rise.
+    Holder,
+    // A price's high end is below its low end.
+    High,
+}
+
+impl FaultKind {
+    // The result number.
+    pub fn number(self) -> u32
+        ensures { result ≡ number_of_lem self }
+    {
+        match self {
+            FaultKind::TooLong => 1,
+            FaultKind::Form => 2,
+            FaultKind::Range => 3,
+            FaultKind::Step => 4,
+            FaultKind::Left => 5,
+            FaultKind::Visit => 9,
+            FaultKind::Holder => 12,
+            FaultKind::High => 13,
+        }
+    }
+}
+
+// What is wrong with a text, and on which line; on line 0 where the text is too long.
+#[derive(Clone, Copy)]
+pub struct Fault {
+    pub kind: FaultKind,
+    pub line: usize,
+}
+
+impl Fault {
+    // The fault of a text that has too many bytes.
+    pub const TOO_LONG: Fault = Fault {
+        kind: FaultKind::TooLong,
+        line: 0,
+    };
+}
