@@ -1,4 +1,4 @@
--- What lists that agree have of their first part (`first_left`, `first_cover`, `first_prices`), and that its prices are marked (`first_marked`). By the lists' cases.
+-- What lists that agree have of their first part (`first_cover`, `first_prices`), and that its prices are marked (`first_marked`). By the lists' cases.
 use Prim.Native.Nat.{ℕ, zero, suc, ◌+◌, ◌-◌, ◌*◌, ◌≤◌, ◌<◌}
 use mathlib.Core.Path.{◌≡◌, sym, ◌∙◌}
 use mathlib.Core.Bool.{Bool, true, false, cond}
@@ -61,10 +61,7 @@ first n x most h some = go x.lives x.covered x.ruled some h.lefts h.covered h.ru
           },
         )
 
--- a left for the first part, its lines of removal and its prices
-pub first_left : (n : ℕ) (x : PartLists) → n ≤ 64 → PartsAgree n x → 0 < length x.lives → 1 ≤ length x.lefts
-first_left n x most h some = (first n x most h some).0
-
+-- the first part's lines of removal and its prices
 pub first_cover : (n : ℕ) (x : PartLists) → n ≤ 64 → PartsAgree n x → 0 < length x.lives → FirstCover x
 first_cover n x most h some = (first n x most h some).1
 
