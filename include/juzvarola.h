@@ -83,9 +83,9 @@ typedef struct {
  * - `out` should have 16,384 bytes or more, for juzvarola_write 40,960: with fewer the result is 8 and nothing is written.
  * - Nothing is kept between calls and no memory is allocated. Calls on several threads at once are allowed where no `out` overlaps
  *   another call's `out`, text or list.
- * - Stack that a call needs: less than 1.5 MB, so a thread of 2 MB serves. juzvarola_plan was measured at some 790 KB, and at 1,530 KB on the job whose
- *   search goes deepest (64 openings, sixteen parts that hold each other); juzvarola_latest at 160 KB, juzvarola_write at 156 KB, juzvarola_count at
- *   144 KB, juzvarola_judge at 128 KB.
+ * - Stack that a call needs: less than 1.5 MB, so a thread of 2 MB serves. juzvarola_plan was measured at some 550 KB, and at 1,530 KB on the job whose
+ *   search goes deepest (64 openings, sixteen parts that hold each other); juzvarola_latest at 164 KB, juzvarola_write at 176 KB, juzvarola_count and
+ *   juzvarola_judge at 160 KB.
  */
 
 /* Plans a job: results 0 to 8, 12 and 13.

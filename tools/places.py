@@ -11,6 +11,8 @@ Run it at the top of the repository. It counts, in crates/*/src, by the points o
   7  a number or flag that says which step to run
   8  lines of proof, and answers that are one call of a tactic without a fact
 With --list it prints each place too. The other way of counting is `--text`: plain patterns, line by line.
+`--bare` goes further: ranges of any `for`, conversions to any type, records handed by value and flags handed over, each
+that has no line of reason (`Kept ..`) above it in its function, over the function, or at the file's head.
 """
 import collections
 import glob
@@ -187,12 +189,48 @@ TEXT = {
 }
 
 
+FURTHER = {
+    '3': r'\bfor [a-z]\w* in \(?[^\[{&]*\.\.',
+    '4': r'\bas (?:u64|u32|usize|i32)\b',
+    '5': r'\b\w+: (?:Job|Plan|JobText|Accepted|Part|\[(?:PartSaid|Part); PARTS\]|Positions|Classes|Numbers|Quotes)\b',
+    '7': r'\b\w+: bool\b',
+}
+
+
+def reasons(lines, line, body_lines):
+    """Line numbers from the function's own comment to its end that hold a reason, and whether the file's head holds one."""
+    top = line - 1
+    while top > 1 and lines[top - 2].strip().startswith('//'):
+        top -= 1
+    found = [n for n in range(top, line + body_lines) if n <= len(lines) and '// Kept' in lines[n - 1]]
+    head = itertools.takewhile(lambda l: l.startswith('//'), lines)
+    return found, any('Kept' in l for l in head)
+
+
+def further(point):
+    for path, line, name, params, clauses, body in functions():
+        lines = open(path).read().split('\n')
+        text = params + '\n' * clauses.count('\n') + body if point not in '57' else params
+        found, head = reasons(lines, line, (params + clauses + body).count('\n') + 1)
+        for m in re.finditer(FURTHER[point], text):
+            if not head and not found:
+                yield path, line, '%s in %s' % (m.group(0).strip(), name)
+
+
 def main():
     args = [a for a in sys.argv[1:] if not a.startswith('--')]
     if '--text' in sys.argv:
         for point, pattern in TEXT.items():
             n = sum(len(re.findall(pattern, bare(t), re.M)) for _, t in sources())
             print('point %s by pattern: %d' % (point, n))
+        return
+    if '--bare' in sys.argv:
+        for point in args or sorted(FURTHER):
+            places = list(further(point))
+            print('point %s without a line: %d' % (point, len(places)))
+            if '--list' in sys.argv:
+                for place in places:
+                    print('  ', *place)
         return
     for point in args or '12345678':
         places = list(globals()['point' + point]())

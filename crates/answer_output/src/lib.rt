@@ -13,7 +13,8 @@ use std::str::from_utf8;
 // The most bytes that an answer can have.
 const MOST: usize = 16384;
 
-// An answer that was printed, with its bytes. No other crate can make one, and here `print_answer` alone does: who hands one over has printed it.
+// An answer that was printed, with its bytes, of which as many count as the answer says. No other crate can make one, and here `print_answer` alone does: who hands one over has printed it.
+// Kept as an array beside the answer that has its length: there is no heap.
 #[derive(Drop)]
 pub struct Printout {
     answer: Answer,

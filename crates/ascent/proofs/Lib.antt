@@ -1,1 +1,1 @@
--- Laws of sizes.
+-- No laws stand here.

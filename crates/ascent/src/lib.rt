@@ -1,6 +1,7 @@
 // Shares of a job by an integer ascent: rounds that raise the sum of what the parts bear at least. Nothing is said of how good they are; whoever uses them checks that they are fair.
 #![tactic(auto)]
 
+mod row;
 pub mod task;
 
 ghost use Rattle.std.specs.Prelude.{◌+◌, ◌*◌, ◌<◌, ◌≤◌};
@@ -10,13 +11,15 @@ ghost use Rattle.model.specs.Limits.{most_parts};
 use ascent_lanes::job::Scaled;
 use ascent_lanes::{BORNE, PLACES, narrow, product};
 use lane_rows::{COUNT, FEES, LANES, TABLES};
+use model::{OPENINGS, PARTS};
+use row::{Row, level_row, round_row};
 use share_rows::{HOLDS, REMOVALS, SHARES, TAKES};
 use task::Task;
 
-// The scale is halved at most so often.
+// How often the scale may be halved, from 256 on.
 const HALVINGS: usize = 8;
 
-// At most so many rounds.
+// The most rounds of an ascent.
 const ROUNDS: usize = 400;
 
 // What the ascent holds beside its tables: the highest value so far, how far a step goes, in 256ths, and for how many rounds no higher value came.
@@ -27,158 +30,13 @@ struct Climb {
     since: u32,
 }
 
-// A lane's part of the direction: most of what it was, and some of whether the lane changes here, in 4096ths.
-fn blended(d: u32, changed: u32) -> u32 {
-    let e = d.min(4096);
-    if changed == 0 {
-        return e * 14 / 16;
-    }
-    (e * 14 + 8192) / 16
-}
-
-// How far a share goes along the direction.
-fn moved(u: u32, size: u32, d: u32) -> u32 {
-    let go = product(size, d.min(4096)) / 1048576;
-    u.wrapping_add(narrow(go).min(250000000))
-}
-
-// ---- one row: the shares of a thing at an opening, lane by lane. Row r is that of thing r / 64 at opening r % 64
-// A loop over places stands where a row of several tables is gone through, or rows of all things.
-
-impl<'a, 'b> Task<'a, 'b> {
-    // A change of part q takes the thing of row r.
-    fn used(&self, r: usize, q: usize) -> bool
-        requires { (r < 1088) × (q < lane_count_lem) }
-    {
-        q < self.job.parts && self.x[TAKES + r / 64 * LANES + q] != 0
-    }
-
-    // How many parts take it.
-    fn users(&self, r: usize) -> u32
-        requires { r < 1088 }
-        ensures { result ≤ lane_count_lem }
-    {
-        let mut n: u32 = 0;
-        for q in 0..LANES {
-            n += u32::from(self.used(r, q));
-        }
-        n
-    }
-
-    // The row's worth is split evenly among those that take it.
-    fn split_row(&self, r: usize, cap: u32, u: &mut [u32; PLACES])
-        requires { r < 1088 }
-    {
-        let c = self.users(r);
-        if c == 0 {
-            return;
-        }
-        let mut each = (cap / c).wrapping_add(cap % c);
-        for q in 0..LANES {
-            if self.used(r, q) {
-                u[r * LANES + q] = each;
-                each = cap / c;
-            }
-        }
-    }
-
-    // The direction of the row, and how long it is: the sum of the squares less the square of the sum by the number of users.
-    fn turn_row(&self, r: usize, changed: &[u32; BORNE], d: &mut [u32; PLACES]) -> u64
-        requires { r < 1088 }
-    {
-        let c = self.users(r);
-        if c < 2 {
-            return 0;
-        }
-        let mut sum: u32 = 0;
-        let mut squares: u64 = 0;
-        for q in 0..LANES {
-            if self.used(r, q) {
-                let e = blended(d[r * LANES + q], changed[r % 64 * LANES + q]);
-                d[r * LANES + q] = e;
-                sum = sum.wrapping_add(e);
-                squares = squares.wrapping_add(product(e, e));
-            }
-        }
-        squares.saturating_sub(product(sum, sum) / u64::from(c))
-    }
-
-    // The shares of the row go along the direction: their sum then.
-    fn move_row(&self, r: usize, size: u32, d: &[u32; PLACES], u: &mut [u32; PLACES]) -> u64
-        requires { r < 1088 }
-    {
-        let mut sum: u64 = 0;
-        for q in 0..LANES {
-            if self.used(r, q) {
-                let v = moved(u[r * LANES + q], size, d[r * LANES + q]);
-                u[r * LANES + q] = v;
-                sum = sum.wrapping_add(u64::from(v));
-            }
-        }
-        sum
-    }
-}
-
-// How many shares of the row are above 0.
-fn positive(u: &[u32; PLACES], r: usize) -> u64
-    requires { r < 1088 }
-{
-    let row = &u[r * LANES..r * LANES + LANES];
-    row.iter().filter(|v| **v != 0).count() as u64
-}
-
-// Up to `each` is taken from every share of the row, until nothing is over: what is still over.
-fn take_each(u: &mut [u32; PLACES], r: usize, each: u32, over: u64) -> u64
-    requires { r < 1088 }
-{
-    let mut left = over;
-    for v in u[r * LANES..r * LANES + LANES].iter_mut() {
-        let g = (*v).min(each).min(narrow(left));
-        *v -= g;
-        left -= u64::from(g);
-    }
-    left
-}
-
-// What the row has over its worth is taken evenly from its shares.
-fn level_row(u: &mut [u32; PLACES], r: usize, over: u64)
-    requires { r < 1088 }
-{
-    let mut left = over;
-    for _ in 0..LANES {
-        if left != 0 {
-            let c = positive(u, r);
-            if c != 0 {
-                let each = narrow(left.wrapping_add(c - 1) / c);
-                left = take_each(u, r, each, left);
-            }
-        }
-    }
-}
-
-// The shares of the row as whole numbers, by running sums.
-fn round_row(u: &mut [u32; PLACES], r: usize, scale: u32)
-    requires { r < 1088 }
-{
-    if scale == 0 {
-        return;
-    }
-    let mut sum: u32 = 0;
-    let mut given: u32 = 0;
-    for v in u[r * LANES..r * LANES + LANES].iter_mut() {
-        sum = sum.wrapping_add(*v);
-        let y = sum.wrapping_add(scale / 2) / scale;
-        *v = y.wrapping_sub(given);
-        given = y;
-    }
-}
-
 // The shares as whole numbers.
 fn round_all(things: usize, scale: u32, u: &mut [u32; PLACES])
     requires { things ≤ most_parts + 1 }
 {
-    for r in 0..things * 64 {
-        round_row(u, r, scale);
+    let (rows, _) = u.as_chunks_mut::<LANES>();
+    for shares in rows[..things * OPENINGS].iter_mut() {
+        round_row(shares, scale);
     }
 }
 
@@ -206,7 +64,7 @@ fn step_size(reach: u32, gap: u64, norm: u64) -> u32 {
 }
 
 impl Climb {
-    // After a round of this value.
+    // How the climb stands after a round whose table has the value z: a step goes less far where no higher value came for 15 rounds.
     fn after(self, z: u64) -> Climb {
         if self.bound < z {
             return Climb {
@@ -229,52 +87,61 @@ impl Climb {
     }
 }
 
-// ---- all rows
+// ---- all rows: row r is that of thing r / 64 at opening r % 64
 
 impl<'a, 'b> Task<'a, 'b> {
     // What the thing of row r costs at its opening: the fee, or a removal; 0 past the last opening.
+    // Kept beside the cost of a row that `fair_shares` has: there a removal costs past the last opening too.
     fn worth(&self, r: usize) -> u32
         requires { r < 1088 }
     {
-        let k = r % 64;
+        let k = r % OPENINGS;
         if self.job.openings <= k {
             return 0;
         }
-        if r < 64 {
+        if r < OPENINGS {
             return self.job.t[FEES + k];
         }
-        self.x[REMOVALS + (r / 64 - 1)]
+        self.x[REMOVALS + (r / OPENINGS - 1)]
+    }
+
+    // Row r: which parts take its thing, and what that costs.
+    fn row(&self, r: usize) -> Row<'b>
+        requires { r < 1088 }
+    {
+        let x = self.x;
+        let at = TAKES + r / OPENINGS * LANES;
+        Row {
+            takes: &x[at..at + self.job.parts],
+            worth: self.worth(r),
+        }
     }
 
     // All that things cost at the openings.
     fn worth_all(&self) -> u64 {
-        let mut sum: u64 = 0;
-        for r in 0..self.job.things * 64 {
-            sum = sum.wrapping_add(u64::from(self.worth(r)));
-        }
-        sum
-    }
-
-    // What the thing of row r costs, at the scale of the ascent.
-    fn cap(&self, r: usize) -> u64
-        requires { r < 1088 }
-    {
-        product(self.worth(r), self.job.scale)
+        (0..self.job.things * OPENINGS)
+            .map(|r| u64::from(self.worth(r)))
+            .fold(0, u64::wrapping_add)
     }
 
     // The shares to begin with: each thing evenly among its users.
     fn split(&self, u: &mut [u32; PLACES]) {
-        for r in 0..self.job.things * 64 {
-            self.split_row(r, narrow(self.cap(r)), u);
+        let (rows, _) = u.as_chunks_mut::<LANES>();
+        for (r, shares) in rows[..self.job.things * OPENINGS].iter_mut().enumerate() {
+            let row = self.row(r);
+            row.split(narrow(row.cap(self.job.scale)), shares);
         }
     }
 
     // The direction of all shares, and how long it is.
     fn turn(&self, changed: &[u32; BORNE], d: &mut [u32; PLACES]) -> u64 {
         let mut norm: u64 = 0;
-        for r in 0..self.job.things * 64 {
-            if self.worth(r) != 0 {
-                norm = norm.wrapping_add(self.turn_row(r, changed, d));
+        let (rows, _) = d.as_chunks_mut::<LANES>();
+        for (r, d) in rows[..self.job.things * OPENINGS].iter_mut().enumerate() {
+            let row = self.row(r);
+            if row.worth != 0 {
+                let at = r % OPENINGS * LANES;
+                norm = norm.wrapping_add(row.turn(&changed[at..at + LANES], d));
             }
         }
         norm / 4096
@@ -282,11 +149,15 @@ impl<'a, 'b> Task<'a, 'b> {
 
     // A step along the direction, of all shares.
     fn go(&self, size: u32, d: &[u32; PLACES], u: &mut [u32; PLACES]) {
-        for r in 0..self.job.things * 64 {
-            let cap = self.cap(r);
+        let (turned, _) = d.as_chunks::<LANES>();
+        let (rows, _) = u.as_chunks_mut::<LANES>();
+        let all = rows[..self.job.things * OPENINGS].iter_mut();
+        for (r, (shares, d)) in all.zip(turned).enumerate() {
+            let row = self.row(r);
+            let cap = row.cap(self.job.scale);
             if cap != 0 {
-                let sum = self.move_row(r, size, d, u);
-                level_row(u, r, sum.saturating_sub(cap));
+                let sum = row.go(size, d, shares);
+                level_row(shares, sum.saturating_sub(cap));
             }
         }
     }
@@ -334,8 +205,9 @@ pub fn ascend(t: &[u32; TABLES], x: &[u32; SHARES], parts: usize, best: &mut [u3
     requires { parts ≤ most_parts }
     ensures { result ≤ lane_count_lem * inf }
 {
-    let openings = (t[COUNT] as usize).min(64);
-    let things = (x[HOLDS] as usize).min(16) + 1;
+    // Kept as casts: the library has no `From` of a `u32` for a `usize`.
+    let openings = (t[COUNT] as usize).min(OPENINGS);
+    let things = (x[HOLDS] as usize).min(PARTS) + 1;
     let job = Scaled {
         t,
         openings,
@@ -343,15 +215,9 @@ pub fn ascend(t: &[u32; TABLES], x: &[u32; SHARES], parts: usize, best: &mut [u3
         parts,
         scale: 1,
     };
-    let scale = scale_of(Task { job, x }.worth_all());
-    let scaled = Scaled {
-        t,
-        openings,
-        things,
-        parts,
-        scale,
-    };
-    let task = Task { job: scaled, x };
+    let mut task = Task { job, x };
+    let scale = scale_of(task.worth_all());
+    task.job.scale = scale;
     let mut u = [0; PLACES];
     task.split(&mut u);
     best.copy_from_slice(&u);

@@ -1,2 +1,1 @@
--- How many numbers a row of lanes for each mark has.
-pub mod Sizes
+-- Nothing is defined here.

@@ -5,7 +5,8 @@ ghost use Rattle.model.specs.Limits.{most_openings, most_parts};
 
 use lane_rows::TABLES;
 
-// Its tables; how many openings, things and parts it has; and how often its prices are taken.
+// A job's tables; how many openings, things and parts it has; and how often its prices are taken.
+// Kept as counts beside the tables: these have a fixed size, without a heap; of the numbers in them nothing is known, and only how many openings there are stands there.
 #[derive(Clone, Copy)]
 pub struct Scaled<'a> {
     pub t: &'a [u32; TABLES],

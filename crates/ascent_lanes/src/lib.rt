@@ -1,25 +1,26 @@
 // What the ascent of the shares computes of a job's lanes: what each lane bears at each opening, its least sum, and where that changes it. Nothing is trusted of these numbers, and nothing is said of them but the sizes of the tables.
-// A loop over places stands where places are computed: marks, rows of the triangle, openings.
+// Kept with limits of plain numbers in the clauses (a block's base, an opening, a lane): places in the tables are sums and products of them, and a bounded type would be taken apart in each.
 #![tactic(auto)]
 
 pub mod job;
 
-ghost use Rattle.std.specs.Prelude.{◌≡◌, ◌+◌, ◌*◌, ◌<◌, ◌≤◌, max, length};
-ghost use Rattle.lane_rows.specs.Layout.{lane_count_lem, inf, reach_base, tables_size};
-ghost use Rattle.ascent_lanes.specs.Sizes.{marked_size};
+ghost use Rattle.std.specs.Prelude.{◌≡◌, ◌+◌, ◌*◌, ◌<◌, ◌≤◌};
+ghost use Rattle.lane_rows.specs.Layout.{lane_count_lem, inf, reach_base};
 ghost use Rattle.model.specs.Limits.{most_openings};
 
 use job::Scaled;
 use lane_rows::{INF, LANES, PRICES, REACHES, SUFFIXES, TABLES, row_of, turn};
+use least::MARKS;
+use model::{OPENINGS, PARTS};
 
-// The places of shares: a thing, an opening and a lane each.
-pub const PLACES: usize = 17 * 64 * LANES;
+// The shares: a row of lanes for each thing at each opening. A thing is a stop, or the removal of a part.
+pub const PLACES: usize = (1 + PARTS) * OPENINGS * LANES;
 
 // A row of lanes for each opening, and one for the end.
-pub const BORNE: usize = 65 * LANES;
+pub const BORNE: usize = MARKS * LANES;
 
 // A row of lanes for each mark, and one for the end.
-pub const MARKED: usize = 66 * LANES;
+pub const MARKED: usize = (MARKS + 1) * LANES;
 
 // A number of 64 bits as one of 32, or the most that they hold.
 pub fn narrow(x: u64) -> u32
@@ -36,15 +37,16 @@ pub fn product(x: u32, y: u32) -> u64
 }
 
 // Each lane's least up to opening j or the end, over the marks up to it, by the block of the tables from `base` on.
-fn least_lanes(t: &[u32], v: &[u32], base: usize, j: usize, acc: &mut [u32; LANES])
-    requires { (length t.now ≡ tables_size) × (length v.now ≡ marked_size) × (base ≤ reach_base) × (j ≤ most_openings) }
+fn least_lanes(t: &[u32; TABLES], v: &[u32; MARKED], base: usize, j: usize) -> [u32; LANES]
+    requires { (base ≤ reach_base) × (j ≤ most_openings) }
 {
-    let row = row_of(j);
-    for i in 0..=j {
-        let a = i * LANES;
-        let b = base + (row + i) * LANES;
-        turn(4, acc, |q, x| x.min(v[a + q].wrapping_add(t[b + q])));
+    let mut acc = [INF; LANES];
+    let (marks, _) = v.as_chunks::<LANES>();
+    let (level, _) = t[base + row_of(j) * LANES..].as_chunks::<LANES>();
+    for (v, t) in marks[..=j].iter().zip(level) {
+        turn(4, &mut acc, |q, x| x.min(v[q].wrapping_add(t[q])));
     }
+    acc
 }
 
 // The row of a change at opening k: each lane's least up to it, with what it bears there.
@@ -68,8 +70,7 @@ fn put_next(
 )
     requires { (base ≤ reach_base) × (k ≤ most_openings) × (to ≤ most_openings) }
 {
-    let mut acc = [INF; LANES];
-    least_lanes(t, v, base, k, &mut acc);
+    let acc = least_lanes(t, v, base, k);
     put_mark(w, to, &acc, v);
 }
 
@@ -78,7 +79,7 @@ fn value(v: &[u32; MARKED]) -> u64
     ensures { result ≤ lane_count_lem * inf }
 {
     let mut z: u64 = 0;
-    for y in &v[65 * LANES..MARKED] {
+    for y in &v[MARKS * LANES..MARKED] {
         if INF <= *y {
             return 0;
         }
@@ -87,36 +88,26 @@ fn value(v: &[u32; MARKED]) -> u64
     z
 }
 
-// The mark i where its sum is no more than the least before it, else the one before.
-fn better(y: u32, least: u32, i: usize, at: usize) -> usize
-    ensures { result ≤ max i at }
-{
-    if y <= least { i } else { at }
-}
-
 // Of the marks up to j the last one of the least sum.
 fn best_mark(t: &[u32; TABLES], v: &[u32; MARKED], base: usize, j: usize, q: usize) -> usize
     requires { (base ≤ reach_base) × (j ≤ most_openings) × (q < lane_count_lem) }
     ensures { result ≤ j }
 {
     let row = row_of(j);
-    let mut at: usize = 0;
-    let mut least = INF;
-    for i in 0..=j {
-        let y = v[i * LANES + q].wrapping_add(t[base + (row + i) * LANES + q]);
-        at = better(y, least, i, at);
-        least = y.min(least);
-    }
-    at
+    (0..j + 1)
+        .rev()
+        .min_by_key(|i| v[i * LANES + q].wrapping_add(t[base + (row + i) * LANES + q]))
+        .unwrap_or(0)
 }
 
 impl<'a> Scaled<'a> {
     // The lanes' rows, mark by mark, at what they bear at each opening; the end's stands last.
+    // Kept as a loop over openings: each row is made of all those before it, in the table that it is written to.
     fn forward(&self, w: &[u32; BORNE], v: &mut [u32; MARKED]) {
         for k in 0..self.openings {
             put_next(self.t, w, REACHES, k, k, v);
         }
-        put_next(self.t, w, SUFFIXES, self.openings, 64, v);
+        put_next(self.t, w, SUFFIXES, self.openings, OPENINGS, v);
     }
 
     // The changes of lane q in its least sum are marked.
@@ -135,7 +126,7 @@ impl<'a> Scaled<'a> {
     // Each lane's prices, as often as they are taken.
     fn put_prices(&self, w: &mut [u32; BORNE]) {
         let t = self.t;
-        for (x, price) in w.iter_mut().zip(&t[PRICES..PRICES + 64 * LANES]) {
+        for (x, price) in w.iter_mut().zip(&t[PRICES..PRICES + OPENINGS * LANES]) {
             *x = narrow(product(*price, self.scale)).min(INF);
         }
     }
@@ -143,17 +134,15 @@ impl<'a> Scaled<'a> {
     // What each lane bears at each opening: its prices, and its shares of the things.
     fn put_borne(&self, u: &[u32; PLACES], w: &mut [u32; BORNE]) {
         self.put_prices(w);
-        for r in 0..self.things * 64 {
-            let at = r % 64 * LANES;
-            turn(
-                4,
-                &mut w[at..at + LANES],
-                |q, x| x.wrapping_add(u[r * LANES + q]),
-            );
+        let (rows, _) = u.as_chunks::<LANES>();
+        for (r, shares) in rows[..self.things * OPENINGS].iter().enumerate() {
+            let at = r % OPENINGS * LANES;
+            turn(4, &mut w[at..at + LANES], |q, x| x.wrapping_add(shares[q]));
         }
     }
 
     // The sum of what the lanes bear at least, by a table of shares of the things; the parts' changes are marked.
+    // Kept as a loop over parts: a part's lane is a column of the tables, and no slice.
     pub fn least_sum(&self, u: &[u32; PLACES], changed: &mut [u32; BORNE]) -> u64
         ensures { result ≤ lane_count_lem * inf }
     {

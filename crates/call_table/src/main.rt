@@ -4,18 +4,17 @@
 // the judge's (2) `job=N`, N bytes, `plan=N`, N bytes. Other bytes stand behind the last case.
 #![tactic(auto)]
 
-ghost use Rattle.std.specs.Prelude.{◌≤◌, length};
-
-use answers::Answer;
+use answers::{Answer, PLAN};
 use fault_lines::fault::fault_line;
 use std::io;
 use std::io::Read;
-use table_text::{head_at, onward, piece_at};
+use table_text::{MOST, each_row, head_at, piece_at};
 
 // What an output is filled with before a call.
 const FILL: u8 = 170;
 
 // Writes bytes on standard output. What can't be written is passed over: the run's output then lacks it.
+// Kept in each program that writes a table: a public function needs a contract on its outcome, and of bytes that can't be written none can be said.
 fn write(rt: &impl Print, bytes: &[u8]) {
     let _ = rt.write_all(bytes);
 }
@@ -34,6 +33,7 @@ fn kept(out: &[u8], from: usize) -> bool {
 
 // Writes the line at fault of a text.
 fn write_fault(rt: &impl Print, text: &[u8], line: u32) {
+    // Kept as a cast: std has no `From<u32>` for a usize, and a `try_from` would have an arm that nothing reaches.
     write(rt, fault_line(text, line as usize));
     write(rt, b"\n");
 }
@@ -46,8 +46,9 @@ fn report(rt: &impl Print, a: Answer, out: &[u8], job: &[u8], plan: &[u8]) {
     }
     write_number(rt, b"= result ", u64::from(a.result));
     write_number(rt, b"= line ", u64::from(a.line));
+    // Kept as a cast: std has no `From<usize>` for a u64, and a `try_from` would have an arm that nothing reaches.
     write_number(rt, b"= length ", m as u64);
-    if a.text == 2 {
+    if a.text == PLAN {
         write_fault(rt, plan, a.line);
     } else {
         write_fault(rt, job, a.line);
@@ -75,10 +76,7 @@ fn run<F: FnOnce(&mut [u8]) -> Answer>(
 }
 
 // The planner's case whose room is told at a place, and the place behind it.
-fn planner_at(rt: &impl Print, buf: &[u8], at: usize, space: &mut [u8]) -> usize
-    requires { at ≤ length buf.now }
-    ensures { result ≤ length buf.now }
-{
+fn planner_at(rt: &impl Print, buf: &[u8], at: usize, space: &mut [u8]) -> usize {
     let room = head_at(buf, at, b"room=");
     let walk = head_at(buf, room.behind, b"walk=");
     let job = piece_at(buf, walk.behind, b"job=");
@@ -90,16 +88,15 @@ fn planner_at(rt: &impl Print, buf: &[u8], at: usize, space: &mut [u8]) -> usize
     }
     let text = &buf[start..end];
     run(rt, text, b"", &mut space[0..lent], |out: &mut [u8]| {
+        // Kept as a cast: std has no `From<usize>` for a u64, and a `try_from` would have an arm that nothing reaches.
         planning::plan(text, walk.number as u64, out)
     });
     end
 }
 
 // The judge's case whose room is told at a place, and the place behind it.
-fn judge_at(rt: &impl Print, buf: &[u8], at: usize, space: &mut [u8]) -> usize
-    requires { at ≤ length buf.now }
-    ensures { result ≤ length buf.now }
-{
+// Kept as four parameters: the printer and the table are read and the space is written, so a struct of them would be taken apart in each call.
+fn judge_at(rt: &impl Print, buf: &[u8], at: usize, space: &mut [u8]) -> usize {
     let room = head_at(buf, at, b"room=");
     let job = piece_at(buf, room.behind, b"job=");
     let start = job.start;
@@ -120,39 +117,22 @@ fn judge_at(rt: &impl Print, buf: &[u8], at: usize, space: &mut [u8]) -> usize
 }
 
 // The case at a place, by its call's number, and the place behind it; where no call is told, the table's end.
-fn case_at(rt: &impl Print, buf: &[u8], at: usize, space: &mut [u8]) -> usize
-    requires { at ≤ length buf.now }
-    ensures { result ≤ length buf.now }
-{
+fn case_at(rt: &impl Print, buf: &[u8], at: usize, space: &mut [u8]) -> usize {
     let call = head_at(buf, at, b"call=");
-    let number = call.number;
-    let behind = call.behind;
-    if number == 1 {
-        return planner_at(rt, buf, behind, space);
-    }
-    if number == 2 {
-        return judge_at(rt, buf, behind, space);
-    }
-    buf.len()
-}
-
-// Every case of the table.
-// Kept as a `while`: a case's texts are as long as it tells, so the place rises by varying steps.
-fn table(rt: &impl Print, buf: &[u8], space: &mut [u8]) {
-    let mut at = 0;
-    while at < buf.len() {
-        let next = case_at(rt, buf, at, space);
-        at = onward(buf.len(), at, next);
+    // Kept as numbers: the table's text tells the call so.
+    match call.number {
+        1 => planner_at(rt, buf, call.behind, space),
+        2 => judge_at(rt, buf, call.behind, space),
+        _ => buf.len(),
     }
 }
 
-// The most bytes that are read of a table.
-const MOST: u64 = 524288;
-
+// Reads the table and runs its cases.
 fn main(rt: HostRuntime) -> io::Result<()> {
     let mut input = Vec::new(rt.alloc());
     rt.reader().take(MOST).read_to_end(&mut input)?;
     let mut space = [0u8; 16400];
-    table(&rt, input.as_slice(), &mut space);
+    let table = input.as_slice();
+    each_row(table.len(), |at| case_at(&rt, table, at, &mut space));
     Ok(())
 }

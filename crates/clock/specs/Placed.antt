@@ -1,7 +1,7 @@
 -- Positions as the code holds them, and where they can lie.
 use Rattle.std.specs.Prelude.{ℕ, ◌+◌, ◌≤◌, ◌<◌, ◌≡◌, Bool, false, List, length, get_or, take, ℤ, pos, ◌-ℤ◌}
 use Rattle.model.specs.Model.{Job, listed, clock, positions, end}
-use Rattle.clock.specs.declared.Positions.{Positions}
+use Rattle.clock.specs.declared.positions.Positions.{Positions}
 use Rattle.model.specs.Limits.{last_position, longest_life}
 
 -- where a step of an accepted job, or the end of its lives, can lie

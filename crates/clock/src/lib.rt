@@ -1,33 +1,28 @@
 // Positions: how far a step is along the lives, in running steps. Only here do steps become positions, and positions due steps.
 #![tactic(auto)]
 
+pub mod positions;
+
 ghost use Rattle.std.specs.Prelude.{◌≡◌, ◌≤◌, pos};
-ghost use Rattle.model.specs.Model.{clock, due_of_lem};
+ghost use Rattle.model.specs.Model.{clock, within, due_of_lem};
 ghost use Rattle.jobs.specs.Views.{job_of};
-ghost use Rattle.jobs.specs.Valid.{Sound};
 ghost use Rattle.clock.specs.Placed.{Position, Begins, Flags, Clocks, Placed};
 ghost use Rattle.model.specs.Limits.{last_position, longest_life};
 
-use jobs::Job;
+use jobs::Accepted;
 use least::in_reach;
 use model::OPENINGS;
+pub use positions::Positions;
 
 // The steps from 0 to the one after the longest horizon.
 const STEPS: usize = 367;
 
-// The positions of a job's openings, and of the end of its lives, the step after the horizon.
-// Kept as an array of which the job's count says how much counts: no heap, fixed memory.
-#[derive(Clone, Copy)]
-pub struct Positions {
-    pub at: [i32; OPENINGS],
-    pub end: i32,
-}
-
 // Which steps are idle.
-fn idle_steps(job: Job) -> [bool; STEPS]
-    requires { Sound job }
-    ensures { Flags (job_of job).idles result }
+// Kept as a cast: std has no From for it, and a step is at most 365.
+fn idle_steps(job: &Accepted) -> [bool; STEPS]
+    ensures { Flags (job_of job.now.job).idles result }
 {
+    let job = &job.job;
     let mut flags = [false; STEPS];
     for step in &job.idles[..job.idle_count] {
         flags[*step as usize] = true;
@@ -36,9 +31,10 @@ fn idle_steps(job: Job) -> [bool; STEPS]
 }
 
 // The running steps up to each step.
-fn running_steps(job: Job) -> [i32; STEPS]
-    requires { Sound job }
-    ensures { Clocks (job_of job) result }
+// Kept as a loop over the steps: step 0 is none to be counted, and behind `skip(1)` a proof has the iterator alone, and not the step at hand.
+// Kept as a cast, here and where a step is a place in an array: std has no From for either, and a step is at most 366.
+fn running_steps(job: &Accepted) -> [i32; STEPS]
+    ensures { Clocks (job_of job.now.job) result }
 {
     let idle = idle_steps(job);
     let mut clock = [0i32; STEPS];
@@ -51,20 +47,22 @@ fn running_steps(job: Job) -> [i32; STEPS]
 }
 
 // The position of a step.
-pub fn position_of(job: Job, step: u32) -> i32
-    requires { Sound job × (step ≤ last_position) }
-    ensures { (result ≡ clock (job_of job) step) × Position result }
+// Kept with the limit of the step in the clause, here and in `log_lives`: a step is a plain number, and the one behind the horizon is asked too. Kept as a cast, as in `running_steps`.
+pub fn position_of(job: &Accepted, step: u32) -> i32
+    requires { step ≤ last_position }
+    ensures { (result ≡ clock (job_of job.now.job) step) × Position result }
 {
     let at = running_steps(job);
     at[step as usize]
 }
 
 // The positions of an accepted job.
-pub fn positions_of(job: Job) -> Positions
-    requires { Sound job }
-    ensures { Placed (job_of job) result }
+// Kept with a place to write at: an `iter_mut` with the places would name what is written, and ask for the opening by its place instead.
+pub fn positions_of(job: &Accepted) -> Positions
+    ensures { Placed (job_of job.now.job) result }
 {
     let clock = running_steps(job);
+    let job = &job.job;
     let mut at = [0i32; OPENINGS];
     for (i, o) in job.openings[..job.opening_count].iter().enumerate() {
         at[i] = clock[o.step as usize];
@@ -73,15 +71,26 @@ pub fn positions_of(job: Job) -> Positions
     Positions { at, end }
 }
 
-// The last step at which a change would still have kept a part whose change before is at `prev`.
-pub fn due_of(job: Job, life: u32, prev: i32) -> u32
-    requires { Sound job × (life ≤ longest_life) × Begins life prev }
-    ensures { result ≡ due_of_lem (job_of job) (pos life) prev }
+// Whether a part whose change before is at `prev` is kept by its next change, or up to the end, at `next`.
+// Its life is the one number of the text that meets signed ones. Kept as a cast: std has no From for it, and a life is at most 1000.
+// Kept as three numbers with their ranges, here and where a gap is asked for (`plan_lives`, `latest_changes`): two of them change from opening to opening, and a struct would be made anew for each question.
+pub fn keeps(life: u32, prev: i32, next: i32) -> bool
+    requires { (life ≤ longest_life) × Begins life prev × Position next }
+    ensures { result ≡ within (pos life) prev next }
+{
+    in_reach(life as i32, prev, next)
+}
+
+// The last step at which a change would still have kept a part whose change before is at `prev`; 0 where there is none, as the model has it.
+// Kept as a loop over the steps: `rposition` would give a place in the array, of which a cast would have to make a step.
+pub fn due_of(job: &Accepted, life: u32, prev: i32) -> u32
+    requires { (life ≤ longest_life) × Begins life prev }
+    ensures { result ≡ due_of_lem (job_of job.now.job) (pos life) prev }
 {
     let clock = running_steps(job);
     let mut due: u32 = 0;
-    for s in 1..job.horizon + 1 {
-        if in_reach(life as i32, prev, clock[s as usize]) {
+    for s in 1..job.job.horizon + 1 {
+        if keeps(life, prev, clock[s as usize]) {
             due = s;
         }
     }

@@ -2,11 +2,12 @@
 use mathlib.Core.Path.{◌≡◌, refl, sym, ap, ◌∙◌}
 use mathlib.Core.Bool.{Bool, false}
 use mathlib.Core.List.{List, ◌++◌}
-use Prim.Native.Nat.{ℕ, zero, suc, ◌+◌, ◌*◌, ◌≤◌, ◌<◌}
+use Prim.Native.Nat.{ℕ, zero, suc, ◌+◌, ◌-◌, ◌*◌, ◌≤◌, ◌<◌}
 use native.Mathlib.Omega.{arith}
 use native.Mathlib.Decide.{dec_lt}
-use lib.ListN.{length, get_or, take, set, replicate, length-set, length-replicate, get_or-append, get_or-eq_default}
-use lib.Seq.{get_or-set_same, get_or-set_other, get_or-take, get_or-append-add, paste, take-paste, length-paste, length-take-le, ext_get_or}
+use borrow.Author.Count.{below_more}
+use lib.ListN.{length, get_or, take, drop, set, replicate, length-replicate, length-append, length-drop, get_or-append, get_or-eq_default}
+use lib.Seq.{get_or-set_same, get_or-set_other, get_or-take, get_or-drop, get_or-append-add, paste, take-paste, length-paste, length-take-le, ext_get_or}
 use Rattle.model.specs.Limits.{most_parts}
 use Rattle.model.specs.Model.{table}
 use Rattle.model.proofs.Lists.{table-length, table_at}
@@ -20,25 +21,31 @@ module _ {A : Type 0} (d : A) where
   blank (suc n) zero = refl
   blank (suc n) (suc j) = blank n j
 
-  -- a row with no entry filled in holds the empty list
-  pub row_none : (f : ℕ → A) → Row d (table f 0) (replicate most_parts d)
-  unfolding table
-  row_none f = record { size = length-replicate most_parts d; at = λ j. blank most_parts j ∙ sym (blank 0 j) }
-
   -- behind the end of a table
   pub past : (f : ℕ → A) (n j : ℕ) → n ≤ j → get_or (table f n) j d ≡ d
   past f n j h = get_or-eq_default (table f n) d {n = j} (omega (arith, h, table-length f n))
 
-  -- a row with its next place filled in holds one entry more of the list
-  pub row_more : (f : ℕ → A) (n : ℕ) (row : List A) (v : A) → n < most_parts → v ≡ f n → Row d (table f n) row → Row d (table f (n + 1)) (set row n v)
-  row_more f n row v h e r = record { size = length-set row n v ∙ r.size; at = λ j. go j (dec_lt j n) (dec_lt n j) }
+  -- with one place more written, one more of the first is what it should be
+  pub front_more : (f : ℕ → A) (i : ℕ) (items : List A) (v : A) → i < length items → v ≡ f i → ((k : ℕ) → k < i → get_or items k d ≡ f k) → (k : ℕ) → k < i + 1 → get_or (set items i v) k d ≡ f k
+  front_more f i items v h e all =
+      below_more (λ k. get_or (set items i v) k d ≡ f k) i (λ k l. get_or-set_other items i k v d (λ z. omega (arith, z, l)) ∙ all k l) (get_or-set_same items i v d h ∙ e)
+
+  -- a row whose first m places are written holds m entries
+  pub row_front : (f : ℕ → A) (m : ℕ) (items : List A) → m ≤ most_parts → length items ≡ m → ((k : ℕ) → k < m → get_or items k d ≡ f k) → Row d (table f m) (items ++ drop m (replicate most_parts d))
+  row_front f m items h e all = record {
+    size = length-append items (drop m (replicate most_parts d)) ∙ omega (arith, e, h, length-drop m (replicate most_parts d), length-replicate most_parts d);
+    at = λ j. go j (dec_lt j m);
+  }
     where
-      go : (j : ℕ) → Dec (j < n) → Dec (n < j) → get_or (set row n v) j d ≡ get_or (table f (n + 1)) j d
-      go j (yes l) g = get_or-set_other row n j v d (λ z. omega (arith, z, l)) ∙ r.at j ∙ table_at f n j d l ∙ sym (table_at f (n + 1) j d (omega (arith, l)))
-      go j (no l) (yes g) = get_or-set_other row n j v d (λ z. omega (arith, z, g)) ∙ r.at j ∙ past f n j (omega (arith, g)) ∙ sym (past f (n + 1) j (omega (arith, g)))
-      go j (no l) (no g) =
-          let z : j ≡ n = omega (arith, l, g) in
-          ap (λ (i : ℕ). get_or (set row n v) i d) z ∙ get_or-set_same row n v d (omega (arith, h, r.size)) ∙ e ∙ sym (table_at f (n + 1) n d (omega arith)) ∙ ap (λ (i : ℕ). get_or (table f (n + 1)) i d) (sym z)
+      go : (j : ℕ) → Dec (j < m) → get_or (items ++ drop m (replicate most_parts d)) j d ≡ get_or (table f m) j d
+      go j (yes l) = get_or-append items (drop m (replicate most_parts d)) d j (omega (arith, l, e)) ∙ all j l ∙ sym (table_at f m j d l)
+      go j (no l) =
+          let z : j ≡ length items + (j - m) = omega (arith, l, e) in
+          ap (λ (i : ℕ). get_or (items ++ drop m (replicate most_parts d)) i d) z
+          ∙ get_or-append-add items (drop m (replicate most_parts d)) (j - m) d
+          ∙ get_or-drop m (replicate most_parts d) (j - m) d
+          ∙ blank most_parts (m + (j - m))
+          ∙ sym (past f m j (omega (arith, l)))
 
 -- the list itself
 pub row-take : {A : Type 0} (d : A) (xs row : List A) (m : ℕ) → length xs ≡ m → m ≤ most_parts → Row d xs row → take m row ≡ xs

@@ -1,8 +1,9 @@
 -- One of the first m has it: by the place that has it, and by none. And the model's tests over the parts in these terms. By recursion over m and over the parts.
-use mathlib.Core.Path.{◌≡◌, refl, ap, ap₂, ◌∙◌}
+use Rattle.std.specs.List.{list_any, range_with_len}
+use mathlib.Core.Path.{◌≡◌, refl, sym, ap, ap₂, ◌∙◌}
 use mathlib.Core.Bool.{Bool, true, false, ◌||◌, ◌&&◌}
 use mathlib.Core.List.{List, [], ◌∷◌, map}
-use Prim.Native.Nat.{ℕ, zero, suc, ◌<◌}
+use Prim.Native.Nat.{ℕ, zero, suc, ◌+◌, ◌<◌}
 use native.Mathlib.Omega.{arith}
 use lib.ListN.{length, get_or, drop}
 use Rattle.model.specs.Model.{Part, listed, holds_one, out_by}
@@ -21,6 +22,14 @@ pub some_none : (m : ℕ) (f : ℕ → Bool) → ((i : ℕ) → i < m → f i �
 unfolding some
 some_none zero f h = refl
 some_none (suc m) f h = ap₂ ◌||◌ (h 0 (omega arith)) (some_none m (λ i. f (suc i)) (λ i l. h (suc i) (omega arith)))
+
+-- a search through m places from a on finds what the test for some of them says
+pub some_range : (m a : ℕ) (f g : ℕ → Bool) → ((i : ℕ) → f (a + i) ≡ g i) → list_any f (range_with_len a m) ≡ some m g
+unfolding some
+some_range zero a f g h = refl
+some_range (suc m) a f g h =
+    let z : a + 0 ≡ a = omega arith in
+    ap₂ ◌||◌ (ap f (sym z) ∙ h 0) (some_range m (a + 1) f (λ i. g (suc i)) (λ i. let z : a + 1 + i ≡ a + suc i = omega arith in ap f z ∙ h (suc i)))
 
 -- two tests that agree on the first m places say the same of them
 pub some_same : (m : ℕ) (f g : ℕ → Bool) → ((i : ℕ) → i < m → f i ≡ g i) → some m f ≡ some m g

@@ -13,11 +13,11 @@ pub fn row_of<T: Copy, F: Fn(usize) -> T>(m: usize, d: T, value: F) -> [T; PARTS
     requires asked { (i : ℕ) → i < m → F.pre value i }
     ensures { (f : ℕ → T) → ((i : ℕ) (x : T) → i < m → F.post value i x → x ≡ f i) → Row d (table f m) result }
 {
-    let mut row = [d; PARTS];
-    for i in 0..m {
-        row[i] = value(i);
+    let mut places = [d; PARTS];
+    for (i, place) in places[..m].iter_mut().enumerate() {
+        *place = value(i);
     }
-    row
+    places
 }
 
 // Puts a row at q.
@@ -29,6 +29,7 @@ fn put_row(matrix: &mut [bool; PAIRS], q: usize, row: &[bool; PARTS])
 }
 
 // A matrix whose first m rows are what `row` says of them.
+// Kept as a loop over the rows' numbers: with `chunks_exact_mut` the proof had the iterator and what it lent, and not the matrix as it stands.
 pub fn matrix_of<F: Fn(usize) -> [bool; PARTS]>(m: usize, row: F) -> [bool; PAIRS]
     requires few { m ≤ most_parts }
     requires asked { (q : ℕ) → q < m → F.pre row q }

@@ -1,6 +1,6 @@
 // What comes out with each part: the part, its holders, their holders and so on. And the parts that are somebody's holder.
 // What a job's records say of it is in `records`. A set of parts is a row of 16 marks; a matrix has 16 rows one after the other, and row q says something of the part at place q.
-// A matrix is kept as one array, and m beside it: the searches take the array alone, and say m once for all their tables.
+// Kept as one array with m, the count of its rows, beside it, whose limit stands in the clauses: the searches take the array alone, and say m once for all their tables.
 #![tactic(auto)]
 
 ghost use Rattle.std.specs.Prelude.{◌≡◌, false, cond, ◌&&◌, ◌||◌, map, ℕ, ◌*◌, ◌≤◌, ◌<◌, length, get_or, take};
@@ -26,12 +26,7 @@ fn is_reached(matrix: &[bool; PAIRS], m: usize, set: [bool; PARTS], j: usize) ->
     requires { (m ≤ most_parts) × (j < most_parts) }
     ensures { result ≡ reached m matrix.now set j }
 {
-    for i in 0..m {
-        if set[i] && matrix[i * PARTS + j] {
-            return true;
-        }
-    }
-    false
+    (0..m).any(|i| set[i] && matrix[i * PARTS + j])
 }
 
 // The parts of `own`, and those that stand in the row of one of a set.
@@ -80,8 +75,8 @@ fn places_of(marks: [bool; PARTS]) -> Holding
 {
     let mut places = [0usize; PARTS];
     let mut count: usize = 0;
-    for j in 0..PARTS {
-        if marks[j] {
+    for (j, marked) in marks.iter().enumerate() {
+        if *marked {
             places[count] = j;
             count += 1;
         }

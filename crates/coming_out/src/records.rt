@@ -4,7 +4,7 @@ ghost use Rattle.model.specs.Limits.{most_parts};
 ghost use Rattle.part_records.specs.Records.{record_at};
 ghost use Rattle.lines.specs.Chosen.{numbers_of_lem};
 ghost use Rattle.model.specs.Model.{has_holder_lem};
-ghost use Rattle.jobs.specs.Views.{job_of, Sized};
+ghost use Rattle.jobs.specs.Views.{job_of};
 ghost use Rattle.coming_out.specs.Rows.{HeldBy};
 ghost use Rattle.coming_out.specs.Places.{Removals};
 
@@ -14,50 +14,39 @@ use model::{PAIRS, PARTS};
 use part_records::removal_of;
 
 // The holders of each part.
-pub fn holders_of(job: Job) -> [bool; PAIRS]
-    requires { Sized job }
-    ensures { HeldBy (job_of job) job.part_count result }
+pub fn holders_of(job: &Job) -> [bool; PAIRS]
+    ensures { HeldBy (job_of job.now) job.now.part_count result }
 {
     matrix_of(
         job.part_count,
         |q|
             requires { q < most_parts }
-            ensures { result ≡ (record_at job.parts q).holders }
+            ensures { result ≡ (record_at job.entry.now.parts q).holders }
         { job.parts[q].holders },
     )
 }
 
-// One of the marks is set.
-fn any_set(marks: &[bool; PARTS]) -> bool
-    ensures { result ≡ ltb 0 (length (numbers_of_lem marks.now)) }
-{
-    marks.contains(&true)
-}
-
 // Some part has a holder.
-pub fn has_holder(job: Job) -> bool
-    requires { Sized job }
-    ensures { result ≡ has_holder_lem (job_of job) }
+pub fn has_holder(job: &Job) -> bool
+    ensures { result ≡ has_holder_lem (job_of job.now) }
 {
-    for part in &job.parts[..job.part_count] {
-        if any_set(&part.holders) {
-            return true;
-        }
-    }
-    false
+    job.parts[..job.part_count].iter().any(
+        |part|
+            ensures { result ≡ ltb 0 (length (numbers_of_lem part.now.holders)) }
+        { part.holders.contains(&true) },
+    )
 }
 
 // The removal of each part.
-pub fn removals_of(job: Job) -> [u32; PARTS]
-    requires { Sized job }
-    ensures { Removals (job_of job) result }
+pub fn removals_of(job: &Job) -> [u32; PARTS]
+    ensures { Removals (job_of job.now) result }
 {
     row_of(
         job.part_count,
         0,
         |q|
             requires { q < most_parts }
-            ensures { result ≡ (record_at job.parts q).removal }
+            ensures { result ≡ (record_at job.entry.now.parts q).removal }
         { removal_of(&job.parts, q) },
     )
 }

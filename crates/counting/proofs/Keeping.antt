@@ -1,6 +1,7 @@
 -- Changes at all openings, opening by opening: what the openings from k on keep, where those before it came in time, is what all keep. By one unfolding of `kept`.
-use Prim.Native.Nat.{ℕ, suc, ◌+◌, ◌<◌}
-use mathlib.Core.Path.{◌≡◌, sym, ap, subst, ◌∙◌}
+use Prim.Native.Nat.{ℕ, zero, suc, ◌+◌, ◌<◌}
+use Rattle.std.specs.List.{list_all, range_with_len}
+use mathlib.Core.Path.{◌≡◌, refl, sym, ap, ◌∙◌}
 use mathlib.Core.Bool.{Bool, true, false, ◌&&◌}
 use mathlib.Core.List.{List}
 use native.Mathlib.Omega.{arith}
@@ -18,10 +19,6 @@ module _ (life end prev : ℤ) (ss : List ℤ) where
   abbrev from : ℕ → Bool
   from k = kept life end (mark_in prev ss k) (drop k ss)
 
-  -- after changes at the first k openings, those from k on keep exactly what all keep
-  abbrev pub Keeps : ℕ → Type 0
-  Keeps k = from k ≡ kept life end prev ss
-
   from_step : (k : ℕ) → k < length ss → from k ≡ (in_time_lem life end prev ss k k && from (k + 1))
   unfolding kept
   from_step k h =
@@ -29,18 +26,23 @@ module _ (life end prev : ℤ) (ss : List ℤ) where
       (ap (kept life end (mark_in prev ss k)) (drop-cons ss k (pos 0) h)
       ∙ ap (λ (s : ℤ). within life (mark_in prev ss k) s && kept life end (get_or ss k (pos 0)) (drop (suc k) ss)) (there ss k (pos 0) end h))
 
-  -- where opening k comes in time after the one before, the question is that of the openings behind it
-  pub keeps_more : (k : ℕ) (t : Bool) → k < length ss → t ≡ in_time_lem life end prev ss k k → t ≡ true → Keeps k → Keeps (k + 1)
-  keeps_more k t h e f g = sym (from_step k h ∙ ap (λ (x : Bool). x && from (k + 1)) (sym e ∙ f)) ∙ g
-
-  -- where opening k comes too late after the one before, changes at all openings don't keep the part
-  pub keeps_not : (k : ℕ) (t : Bool) → k < length ss → t ≡ in_time_lem life end prev ss k k → t ≡ false → Keeps k → false ≡ kept life end prev ss
-  keeps_not k t h e f g = sym (from_step k h ∙ ap (λ (x : Bool). x && from (k + 1)) (sym e ∙ f)) ∙ g
-
-  -- after all openings, the part is kept exactly if the end comes in time
-  pub keeps_all : (k : ℕ) → k ≡ length ss → Keeps k → in_time_lem life end prev ss (length ss) (length ss) ≡ kept life end prev ss
+  -- behind the last opening the part is kept exactly if the end comes in time
+  at_end : in_time_lem life end prev ss (length ss) (length ss) ≡ from (length ss)
   unfolding kept
-  keeps_all k e g =
-      let n = length ss in
+  at_end = let n = length ss in
       ap (within life (mark_in prev ss n)) (get_or-eq_default ss end {n = n} (omega arith))
-      ∙ sym (ap (kept life end (mark_in prev ss n)) (drop_of_length-le ss {i = n} (omega arith))) ∙ subst Keeps e g
+      ∙ sym (ap (kept life end (mark_in prev ss n)) (drop_of_length-le ss {i = n} (omega arith)))
+
+  -- the openings from k on, m of them, and the end come in time exactly if changes at all of them keep the part
+  keeps_from : (m k : ℕ) → k + m ≡ length ss → (list_all (λ (j : ℕ). in_time_lem life end prev ss j j) (range_with_len k m) && in_time_lem life end prev ss (length ss) (length ss)) ≡ from k
+  keeps_from zero k e = let z : length ss ≡ k = omega arith in at_end ∙ ap from z
+  keeps_from (suc m) k e = go (in_time_lem life end prev ss k k) (keeps_from m (k + 1) (omega arith)) ∙ sym (from_step k (omega arith))
+    where
+      go : (t : Bool) → (list_all (λ (j : ℕ). in_time_lem life end prev ss j j) (range_with_len (k + 1) m) && in_time_lem life end prev ss (length ss) (length ss)) ≡ from (k + 1)
+          → ((t && list_all (λ (j : ℕ). in_time_lem life end prev ss j j) (range_with_len (k + 1) m)) && in_time_lem life end prev ss (length ss) (length ss)) ≡ (t && from (k + 1))
+      go true h = h
+      go false h = refl
+
+  -- changes at all openings keep the part exactly if each of them, and the end, comes in time
+  pub keeps_range : (list_all (λ (j : ℕ). in_time_lem life end prev ss j j) (range_with_len 0 (length ss)) && in_time_lem life end prev ss (length ss) (length ss)) ≡ kept life end prev ss
+  keeps_range = let z : 0 + length ss ≡ length ss = omega arith in keeps_from (length ss) 0 z

@@ -11,29 +11,32 @@ use Rattle.model.specs.Model as model
 use Rattle.model.specs.Limits.{longest_life}
 use Rattle.model.proofs.Entries.{Brief}
 use Rattle.jobs.specs.declared.Job.{Job}
-use Rattle.jobs.specs.Views.{job_of, Sized}
+use Rattle.jobs.specs.Views.{job_of}
 use Rattle.jobs.specs.Valid.{All, ValidPart, ValidJob}
-use Rattle.jobs.proofs.Jobs.{Whole, opening_count_lem2}
+use Rattle.jobs.proofs.Jobs.{opening_count_lem2}
 use Rattle.clock.specs.Placed.{Placed}
-use Rattle.clock.specs.declared.Positions.{Positions}
+use Rattle.clock.specs.declared.positions.Positions.{Positions}
 use Rattle.clock.proofs.Ranges.{position_small, begins_first, before_small}
 use Rattle.clock.proofs.Places.{place_count}
 use Rattle.least.specs.Marks.{mark_of, Bits31}
-use Rattle.counting.specs.Row.{Near}
 
-module _ (j : Job) (sized : Sized j) (whole : Whole j) (p : Positions) (placed : Placed (job_of j) p) where
+module _ (j : Job) (p : Positions) (placed : Placed (job_of j) p) where
   abbrev ss : List ℤ
   ss = take j.opening_count p.at
 
-  -- the marks and the end of an accepted job are small, for any life and first life in range
-  pub near_job : (life left : ℕ) → life ≤ longest_life → left ≤ longest_life → Near p.end (pos left -ℤ pos life) ss
-  near_job life left h g = record { late = omega (arith, position_small p.end placed.end_range); marks = marks }
+  -- the end of an accepted job is small
+  pub late_job : Bits31 p.end
+  late_job = omega (arith, position_small p.end placed.end_range)
+
+  -- its marks are small, for any life and first life in range
+  pub small_job : (life left : ℕ) → life ≤ longest_life → left ≤ longest_life → (k : ℕ) → Bits31 (mark_of (pos left -ℤ pos life) ss k)
+  small_job life left h g = marks
     where
       by : (i : ℕ) → Dec (i < j.opening_count) → Bits31 (get_or ss i (pos 0))
       by i (yes l) =
-          let small = position_small (get_or p.at i (pos 0)) (placed.ranges i (rw (opening_count_lem2 j sized whole) l)) in
+          let small = position_small (get_or p.at i (pos 0)) (placed.ranges i (rw (opening_count_lem2 j) l)) in
           subst Bits31 (sym (get_or-take j.opening_count p.at i (pos 0) l)) (omega (arith, small))
-      by i (no l) = subst Bits31 (sym (get_or-eq_default ss (pos 0) {n = i} (omega (arith, l, place_count j sized whole p placed)))) (omega arith)
+      by i (no l) = subst Bits31 (sym (get_or-eq_default ss (pos 0) {n = i} (omega (arith, l, place_count j p placed)))) (omega arith)
 
       marks : (k : ℕ) → Bits31 (mark_of (pos left -ℤ pos life) ss k)
       marks zero = omega (arith, before_small life (pos left -ℤ pos life) h (begins_first life left g))

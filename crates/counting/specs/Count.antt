@@ -7,6 +7,10 @@ use Rattle.model.specs.Count.{open_count}
 use Rattle.job_grammar.specs.Grammar.{Given, read_job_lem}
 use Rattle.counting.specs.declared.Counted.{Counted}
 
+-- a result number and a count, where the job text is not at fault
+abbrev pub plain_lem : ℕ → ℕ → Counted
+plain_lem number count = record { result = number; text = 0; line = 0; count = count; fault_start = 0; fault_length = 0 }
+
 -- an accepted job's count
 abbrev pub count_given : ℕ → Counted
 count_given n = record { result = 0; text = 0; line = 0; count = n; fault_start = 0; fault_length = 0 }

@@ -1,13 +1,7 @@
 -- One row of the count's table: the nodes below a node with j openings decided, by its last yes.
-use Rattle.std.specs.Prelude.{ℕ, ◌+◌, ◌-◌, ◌≤◌, ◌≡◌, Bool, cond, List, length, get_or, ℤ}
+use Rattle.std.specs.Prelude.{ℕ, ◌+◌, ◌-◌, ◌≤◌, ◌≡◌, Bool, cond, List, length, get_or}
 use Rattle.model.specs.Longest.{capped}
 use Rattle.model.specs.Count.{count_from}
-use Rattle.least.specs.Marks.{mark_of, Bits31}
-
--- the marks, and the end, are small: their differences stay within an i32
-pub record Near (end first : ℤ) (ss : List ℤ) : Type 0 where
-  pub late : Bits31 end
-  pub marks : (k : ℕ) → Bits31 (mark_of first ss k)
 
 -- the node itself, those from no on if it is in time, else one, and those from yes on
 abbrev pub sum_of : Bool → ℕ → ℕ → ℕ

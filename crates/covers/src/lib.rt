@@ -34,19 +34,18 @@ impl Cover {
 }
 
 // A holder of part k of m: after the one before, at most m, and not the part itself. Else fault 12, after 2 and 3.
+// Kept as k and m, here and below: they change from part to part and from job to job, and the reader of lines knows of neither.
 fn read_holder(lines: &mut Lines, m: u32, k: u32, before: u32) -> Result<u32, Fault>
     ensures reads { Reads (holder m k before) lines.old lines.new result }
     ensures within { IfOk result (λ v. (before < v) × (v ≤ most_parts)) }
 {
-    let line = lines.line;
-    let h = lines.rising(b"holder=", Part::MAX_HOLDER, before, m, FaultKind::Holder)?;
-    if h == k {
-        return Err(Fault {
-            kind: FaultKind::Holder,
-            line,
-        });
-    }
-    Ok(h)
+    lines.checked(
+        b"holder=",
+        1,
+        Part::MAX_HOLDER,
+        FaultKind::Holder,
+        |h| before < h && h <= m && h != k,
+    )
 }
 
 // The holders of part k of m, n of them.
@@ -55,8 +54,9 @@ fn read_holders(lines: &mut Lines, m: u32, k: u32, n: u32) -> Result<[bool; PART
 {
     let mut marks = [false; PARTS];
     let mut before: u32 = 0;
-    for i in 0..n {
+    for _ in 0..n {
         let h = read_holder(lines, m, k, before)?;
+        // Kept as a cast: std has no `From<u32>` for a usize, and a `try_from` would have an arm that nothing reaches.
         marks[(h - 1) as usize] = true;
         before = h;
     }

@@ -1,5 +1,5 @@
 -- What the end of the walks is worth.
-use Rattle.std.specs.Prelude.{ℕ, ◌<◌, ◌≤◌, ◌≡◌, Bool, true, false, None, Some, List, take}
+use Rattle.std.specs.Prelude.{ℕ, ◌<◌, ◌≤◌, ◌≡◌, Bool, None, Some, Ok, Err, List, take}
 use Rattle.model.specs.Model.{Job}
 use Rattle.model.specs.LowerBound.{plan_at}
 use Rattle.model.specs.Promise.{BestPlan, Any}
@@ -9,10 +9,12 @@ use Rattle.shares.specs.Optimum.{tree_by, shared_bound}
 use Rattle.shares.specs.Certificate.{NoneUnder}
 use Rattle.lane_rows.specs.Layout.{inf}
 use Rattle.cutoffs.specs.declared.Risen.{Risen}
+use Rattle.cutoffs.specs.declared.found.Undercut.{Undercut}
+use Rattle.cutoffs.specs.declared.found.Over.{Over}
 
 -- a plan that is found is the best of all, and its name is the first part of `best`; a walk that is cut has more nodes than the limit; and where neither is so, no plan costs less than the last cutoff
 pub record RisenRight (job : Job) (shares : Shares) (limit : ℕ) (best : List Bool) (r : Risen) : Type 0 where
-  pub plan_found_lem : (c : ℕ) → r.cost ≡ Some c → BestPlan job Any c (plan_at job (take r.size best))
-  pub longer : r.over ≡ true → (k : ℕ) × (limit < count_under (tree_by job (shared_bound job shares)) k)
+  pub plan_found_lem : (u : Undercut) → r.found ≡ Ok (Some u) → BestPlan job Any u.cost (plan_at job (take u.size best))
+  pub longer : (o : Over) → r.found ≡ Err o → (k : ℕ) × (limit < count_under (tree_by job (shared_bound job shares)) k)
   pub none_under : NoneUnder job r.floor
-  pub passed : r.cost ≡ None → r.over ≡ false → inf ≤ r.floor
+  pub passed : r.found ≡ Ok None → inf ≤ r.floor

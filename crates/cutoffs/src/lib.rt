@@ -1,28 +1,30 @@
 // Cutoffs from below: the walk by fair shares from one cutoff after the other, until one lets a plan come out.
 #![tactic(auto)]
 
-ghost use Rattle.std.specs.Prelude.{◌≡◌, List, ◌+◌, ◌*◌, ◌^◌, ◌<◌, ◌≤◌, min, length};
+pub mod found;
+
+ghost use Rattle.std.specs.Prelude.{List, ◌+◌, ◌*◌, ◌^◌, ◌<◌, ◌≤◌};
 ghost use Rattle.model.specs.Model.{Job};
 ghost use Rattle.model.specs.Decisions.{Held};
 ghost use Rattle.shares.specs.Shares.{Shares as Split, FairShares};
 ghost use Rattle.shares.specs.Certificate.{NoneUnder};
-ghost use Rattle.lane_rows.specs.Layout.{inf, stack_size};
-ghost use Rattle.share_walk.specs.State.{name_size, Solvable};
+ghost use Rattle.lane_rows.specs.Layout.{inf};
+ghost use Rattle.share_walk.specs.State.{Solvable};
 ghost use Rattle.cutoffs.specs.Risen.{RisenRight};
 
+use found::{Over, Undercut};
 use lane_rows::{INF, STACK, TABLES};
 use share_rows::SHARES;
 use share_walk::{NAMES, solve};
 
-// The cutoffs end here.
+// The last cutoff: the number for a missing price, which is above what any plan costs.
+// Kept as a cast: `u64::from` can't be called where a constant is made.
 pub const LAST: u64 = INF as u64;
 
-// Where the walks end: a plan is found, of this cost, and of a name of this length; or a walk has more nodes than the limit; or no plan costs less than the last cutoff. No plan costs less than the floor.
-#[derive(Drop)]
+// Where the walks end: a plan is found, or none costs less than the last cutoff, or a walk is over the limit. No plan costs less than the floor.
+#[derive(Clone, Copy)]
 pub struct Risen {
-    pub cost: Option<u64>,
-    pub over: bool,
-    pub size: usize,
+    pub found: Result<Option<Undercut>, Over>,
     pub floor: u64,
 }
 
@@ -33,7 +35,7 @@ fn first_cutoff(wish: u64, floor: u64) -> u64
     wish.max(floor.saturating_add(1)).min(LAST)
 }
 
-// The next cutoff.
+// The cutoff after k: above it by more than a gap, or the last one.
 fn next_cutoff(k: u64, gap: u64) -> u64
     requires { (k ≤ inf) × (gap ≤ inf * 2) }
     ensures { (result ≤ inf) × (k < inf → k < result) }
@@ -41,7 +43,7 @@ fn next_cutoff(k: u64, gap: u64) -> u64
     (k + gap + 1).min(LAST)
 }
 
-// The next gap: a quarter more.
+// The next gap between two cutoffs: a quarter more than the last one, up to the last cutoff.
 fn next_gap(gap: u64) -> u64
     ensures { result ≤ inf * 2 }
 {
@@ -50,6 +52,7 @@ fn next_gap(gap: u64) -> u64
 
 // The walks from one cutoff after the other, from `wish` on, each with at most `limit` nodes. No plan costs less than `floor`.
 // Kept as a while loop: the cutoffs rise by growing gaps until the last one is passed.
+// Kept with as many parameters: the first five and the limit are handed on to `share_walk::solve` as they are.
 pub fn rise(
     t: &[u32; TABLES],
     x: &[u32; SHARES],
@@ -60,10 +63,8 @@ pub fn rise(
     floor: u64,
     limit: u64,
 ) -> Risen
-    requires { ((job : Job) × (shares : Split) × (lanes : List Held) × Solvable job shares lanes t.now x.now) × (limit < 2 ^ 63) × (length w.old ≡ stack_size) × (length name.old ≡ name_size) × (length best.old ≡ name_size) }
-    ensures right { (job : Job) (shares : Split) (lanes : List Held) → Solvable job shares lanes t.now x.now → FairShares job shares → NoneUnder job floor → RisenRight job shares limit best.new result }
-    ensures short { result.size ≤ name_size }
-    ensures room { length best.new ≡ name_size }
+    requires { ((job : Job) × (shares : Split) × (lanes : List Held) × Solvable job shares lanes t.now x.now) × (limit < 2 ^ 63) }
+    ensures { (job : Job) (shares : Split) (lanes : List Held) → Solvable job shares lanes t.now x.now → FairShares job shares → NoneUnder job floor → RisenRight job shares limit best.new result }
 {
     let mut k = first_cutoff(wish, floor);
     let mut gap = next_gap(wish / 256);
@@ -72,17 +73,17 @@ pub fn rise(
         let s = solve(t, x, w, name, best, k, limit);
         if s.over {
             return Risen {
-                cost: None,
-                over: true,
-                size: 0,
+                found: Err(Over),
                 floor: low,
             };
         }
         if s.cost < k {
-            return Risen {
-                cost: Some(s.cost),
-                over: false,
+            let plan = Undercut {
+                cost: s.cost,
                 size: s.size.min(NAMES),
+            };
+            return Risen {
+                found: Ok(Some(plan)),
                 floor: low,
             };
         }
@@ -91,9 +92,7 @@ pub fn rise(
         gap = next_gap(gap);
     }
     Risen {
-        cost: None,
-        over: false,
-        size: 0,
+        found: Ok(None),
         floor: low,
     }
 }

@@ -1,6 +1,6 @@
 -- What is offered and kept of a row: by its lanes alone, and small.
 use Prim.Native.Nat.{ℕ, zero, suc, ◌+◌, ◌-◌, ◌*◌, ◌/◌, ◌%◌, ◌<◌, ◌≤◌, min}
-use mathlib.Core.Path.{◌≡◌, refl, sym, ap, ap₂, subst, ◌∙◌}
+use mathlib.Core.Path.{◌≡◌, refl, sym, ap, ap₂, ◌∙◌}
 use mathlib.Core.Bool.{Bool, true, false, cond}
 use mathlib.Core.List.{List}
 use native.Mathlib.Omega.{arith}
@@ -19,10 +19,6 @@ use Rattle.fair_shares.specs.Checked.{row_start, room_of_lem, price_in, offer, c
 -- the same places, with what is the same there
 pub filled_as : {place f g : ℕ → ℕ} {n : ℕ} {t u : List ℕ} → ((y : ℕ) → y < n → f y ≡ g y) → FilledBy place f n t u → FilledBy place g n t u
 filled_as e d = record { size = d.size; done = λ y l. d.done y l ∙ e y l; rest = d.rest }
-
--- as many places as there are
-pub filled_all : {place f : ℕ → ℕ} {i n : ℕ} {t u : List ℕ} → FilledBy place f i t u → i ≡ n → FilledBy place f n t u
-filled_all {place} {f} {i} {n} {t} {u} d e = subst (λ (k : ℕ). FilledBy place f k t u) e d
 
 -- a flag as a number
 pub bit_of : (b : Bool) → bool_byte b ≡ cond b 1 0

@@ -3,18 +3,18 @@
 
 pub mod raw;
 
-ghost use Rattle.std.specs.Prelude.{◌≡◌, cond, ℕ, ◌+◌, ◌-◌, ◌*◌, ◌/◌, ◌%◌, ◌<◌, ◌≤◌, min, eqb, length, get_or};
+ghost use Rattle.std.specs.Prelude.{◌≡◌, ℕ, ◌+◌, ◌-◌, ◌*◌, ◌/◌, ◌%◌, ◌<◌, ◌≤◌, length, get_or};
 ghost use Rattle.least.specs.Filled.{FilledBy};
-ghost use Rattle.model.specs.Limits.{most_openings, most_parts};
-ghost use Rattle.model.specs.Model.{sum};
+ghost use Rattle.model.specs.Limits.{most_parts};
 ghost use Rattle.lane_rows.specs.Layout.{lane_count_lem, dear};
 ghost use Rattle.lane_rows.specs.Rows.{Turned};
-ghost use Rattle.share_rows.specs.Places.{most_things, bear_place, take_base, removal_place, holds_place, share_size};
+ghost use Rattle.share_rows.specs.Places.{most_things};
 ghost use Rattle.fair_shares.specs.Checked.{row_start, room_of_lem, offer, cost_in_lem, kept, Kept, taken, Marked};
 
-use lane_rows::{LANES, store_row, total};
-use model::PAIRS;
+use lane_rows::{LANES, store_row, total, turn};
+use model::{OPENINGS, PAIRS, PARTS, STRIDE};
 use raw::RawShares;
+use search_tables::rows::put_at;
 use share_rows::{HOLDS, REMOVALS, SHARES, TAKES};
 
 // The highest price of a lane, with all its shares.
@@ -25,46 +25,38 @@ fn room_of(price: u32, things: usize) -> u32
     requires { (price ≤ dear) × (0 < things) × (things ≤ most_things) }
     ensures { result ≡ room_of_lem price things }
 {
+    // Kept as a cast: the library has no `From` of a `usize` for a `u32`.
     (DEAR - price) / things as u32
 }
 
-// What is offered for a lane: nothing where it does not take the thing, else no more than its room.
-fn offered(takes: u32, raw: u32, room: u32) -> u32
-    ensures { result ≡ cond (eqb takes 0) 0 (min raw room) }
-{
-    if takes == 0 { 0 } else { raw.min(room) }
-}
-
-// What row r offers.
+// What row r offers each lane: nothing where it does not take the thing, else what the table has, and no more than the lane's room.
 fn offer_row(shares: &RawShares, x: &[u32; SHARES], r: usize, acc: &mut [u32; LANES])
     requires { r < shares.now.things * 64 }
     ensures { Turned lane_count_lem (offer shares.now.raw.now x.now shares.now.prices.now shares.now.things r) acc.old acc.new }
 {
     let from = r * LANES;
-    let at = TAKES + r / 64 * LANES;
-    let k = r % 64;
-    for q in 0..LANES {
-        let room = room_of(shares.prices[q * 64 + k], shares.things);
-        acc[q] = offered(x[at + q], shares.raw[from + q], room);
-    }
-}
-
-// The number at a place of a list, or 0 past its end.
-fn number_at(s: &[u32], i: usize) -> u32
-    ensures { result ≡ get_or s.now i 0 }
-{
-    s.get(i).copied().unwrap_or(0)
+    let at = TAKES + r / OPENINGS * LANES;
+    let k = r % OPENINGS;
+    turn(4, acc, |q, _| {
+        let room = room_of(shares.prices[q * STRIDE + k], shares.things);
+        if x[at + q] == 0 {
+            0
+        } else {
+            shares.raw[from + q].min(room)
+        }
+    });
 }
 
 // What row r costs: the fee of its opening, or the removal of its thing.
 fn cost_in(fees: &[u32], removals: &[u32], r: usize) -> u32
     ensures { result ≡ cost_in_lem fees.now removals.now r }
 {
-    if r < 64 {
-        number_at(fees, r)
+    let cost = if r < OPENINGS {
+        fees.get(r)
     } else {
-        number_at(removals, r / 64 - 1)
-    }
+        removals.get(r / OPENINGS - 1)
+    };
+    cost.copied().unwrap_or(0)
 }
 
 // What is kept of row r stands in its place.
@@ -83,26 +75,18 @@ fn check_row(shares: &RawShares, r: usize, x: &mut [u32; SHARES])
     store_row(4, &acc, r * LANES, x);
 }
 
-// What is kept of the rows stands in their places, in a table of the right size.
-fn check_rows(shares: &RawShares, x: &mut [u32; SHARES])
+// What is kept of the rows of so many things stands in their places.
+// Kept as a loop over rows: a row is written to the table in which the lanes that take its thing are read.
+pub fn check(shares: &RawShares, x: &mut [u32; SHARES])
     ensures { Kept shares.now.raw.now shares.now.prices.now shares.now.fees.now shares.now.removals.now shares.now.things x.old x.new (shares.now.things * 64) }
 {
-    for r in 0..shares.things * 64 {
+    for r in 0..shares.things * OPENINGS {
         check_row(shares, r, x);
     }
 }
 
-// What is kept of the rows of so many things stands in their places.
-pub fn check(shares: &RawShares, x: &mut [u32])
-    requires { length x.old ≡ share_size }
-    ensures { Kept shares.now.raw.now shares.now.prices.now shares.now.fees.now shares.now.removals.now shares.now.things x.old x.new (shares.now.things * 64) }
-{
-    if let Some(table) = x.as_mut_array() {
-        check_rows(shares, table);
-    }
-}
-
 // Does lane q take thing m: 1 if it does.
+// Kept with the limits of plain numbers in the clauses, here and below: how many parts there are and which thing it is are counts, of which places in the tables are computed.
 fn takes(needs: &[bool; PAIRS], parts: usize, m: usize, q: usize) -> u32
     requires { (m ≤ most_parts) × (parts ≤ most_parts) }
     ensures { result ≡ taken needs.now parts m q }
@@ -113,46 +97,39 @@ fn takes(needs: &[bool; PAIRS], parts: usize, m: usize, q: usize) -> u32
     if parts <= q {
         return 0;
     }
-    u32::from(needs[q * 16 + (m - 1)])
+    u32::from(needs[q * PARTS + (m - 1)])
 }
 
-// Which lanes take the first things.
-fn put_takes(needs: &[bool; PAIRS], parts: usize, things: usize, x: &mut [u32; SHARES])
-    requires { (parts ≤ most_parts) × (things ≤ most_things) }
-    ensures { FilledBy (λ (i : ℕ). take_base + i) (λ (i : ℕ). taken needs.now parts (i / 16) (i % 16)) (things * 16) x.old x.new }
+// Which lanes take the first things, a row of lanes for each.
+fn put_takes(needs: &[bool; PAIRS], parts: usize, rows: &mut [u32])
+    requires { (parts ≤ most_parts) × (length rows.old ≤ most_things * lane_count_lem) }
+    ensures size { length rows.new ≡ length rows.old }
+    ensures takes { (i : ℕ) → i < length rows.old → get_or rows.new i 0 ≡ taken needs.now parts (i / 16) (i % 16) }
 {
-    for i in 0..things * 16 {
-        x[TAKES + i] = takes(needs, parts, i / 16, i % 16);
+    for (i, lane) in rows.iter_mut().enumerate() {
+        *lane = takes(needs, parts, i / LANES, i % LANES);
     }
 }
 
-// The removals.
-fn put_removals(removals: &[u32], x: &mut [u32; SHARES])
-    requires { length removals.now ≤ most_parts }
-    ensures { FilledBy removal_place (λ (b : ℕ). get_or removals.now b 0) (length removals.now) x.old x.new }
-{
-    x[REMOVALS..REMOVALS + removals.len()].copy_from_slice(removals);
-}
-
-// The table of shares but for the shares, in a table of the right size.
+// The table of shares but for the shares: which lanes take which things, the removals, and how many they are.
 fn mark_table(needs: &[bool; PAIRS], parts: usize, removals: &[u32], x: &mut [u32; SHARES])
     requires { (parts ≤ most_parts) × (length removals.now ≤ most_parts) }
     ensures { Marked needs.now parts removals.now x.new }
 {
     let h = removals.len();
-    put_takes(needs, parts, h + 1, x);
-    put_removals(removals, x);
+    put_takes(needs, parts, &mut x[TAKES..TAKES + (h + 1) * LANES]);
+    put_at(x, REMOVALS, removals);
+    // Kept as a cast: the library has no `From` of a `usize` for a `u32`.
     x[HOLDS] = h as u32;
 }
 
-// The table of shares but for the shares: which lanes take which things, the removals, and how many they are.
-pub fn mark(needs: &[bool], parts: usize, removals: &[u32], x: &mut [u32])
-    requires { (length needs.now ≡ 256) × (parts ≤ most_parts) × (length removals.now ≤ most_parts) × (length x.old ≡ share_size) }
+// The table of shares but for the shares, by needs in a slice of the right size.
+// Kept apart: `HeldNumbers` has the needs as a slice of stated length, as `Needs` lends them to the tables, and here alone it becomes an array, so that no other function asks for its length.
+pub fn mark(needs: &[bool], parts: usize, removals: &[u32], x: &mut [u32; SHARES])
+    requires { (length needs.now ≡ 256) × (parts ≤ most_parts) × (length removals.now ≤ most_parts) }
     ensures { Marked needs.now parts removals.now x.new }
 {
     if let Some(needs) = needs.as_array() {
-        if let Some(table) = x.as_mut_array() {
-            mark_table(needs, parts, removals, table);
-        }
+        mark_table(needs, parts, removals, x);
     }
 }

@@ -5,6 +5,7 @@ ghost use Rattle.share_rows.specs.Places.{most_things};
 ghost use Rattle.fair_shares.specs.Checked.{raw_size};
 
 // A table of the shares of so many things, and what it is checked against: 64 prices a lane, the fees, and the removals of all things but the first.
+// Kept as slices side by side: each goes by another number, a share by thing, opening and lane, a price by lane and opening, a fee by opening, a removal by thing.
 #[derive(Clone, Copy)]
 pub struct RawShares<'a> {
     pub raw: &'a [u32],

@@ -13,7 +13,7 @@ ghost use Rattle.form.specs.Form.{filled};
 ghost use Rattle.form.specs.Write.{said_for, write_said, write_room};
 ghost use Rattle.form.specs.Promise.{WritePromise};
 
-use answers::{Answer, refuse};
+use answers::{Answer, JOB, refuse, reply};
 use form_facts::lists::{CoverLists, FormParts, QuoteLists, RuleLists};
 use form_writing::whole::{FormLists, put_form};
 use job_text::whole::read_all;
@@ -26,17 +26,12 @@ pub const ROOM: usize = Job::MAX_BYTES;
 // The most bytes of the text that is read: more than a job text may have, where numbers are out of their ranges.
 const LONGEST: usize = 45257;
 
-// The answer with a text.
+// Answers the writer's call with a text.
 fn answer(text: &[u8], out: &mut [u8]) -> Answer
     requires { length text.now ≤ write_room }
     ensures { Replied write_room (plainly 0 text.now) out.old out.new result }
 {
-    if out.len() < ROOM {
-        return Answer::no_room();
-    }
-    let mut lines = Out { bytes: out, at: 0 };
-    lines.put_bytes(text);
-    Answer::plain(0, lines.at)
+    reply(0, ROOM, out, |lines| lines.put_bytes(text))
 }
 
 // The answer to the text that a form's lists make: its first fault, else the text itself. There is no text of the caller's, and so no line at fault.
@@ -46,12 +41,12 @@ fn answer_text(text: &[u8], out: &mut [u8]) -> Answer
 {
     match read_all(text) {
         Ok(_) => answer(text, out),
-        Err(fault) => refuse(b"", 1, fault.kind.number(), fault.line, ROOM, out),
+        Err(fault) => refuse(b"", JOB, fault.kind.number(), fault.line, ROOM, out),
     }
 }
 
 // The lists of a form's parts.
-// Kept as a row of lists, here and below: the C interface hands them over so.
+// Kept as a row of lists: they are what the C interface hands over, put together here.
 fn parts_of<'a>(
     lives: &'a [u32],
     lefts: &'a [u32],
@@ -104,6 +99,7 @@ fn write_text(form: &FormLists, text: &mut [u8]) -> usize
 
 // Writes the job text of a form: every number that is handed over and every byte of the output are the defined ones (`Replied`);
 // the text reads back as what the form states, and an accepted text without a walk line comes back byte for byte (`WritePromise`).
+// Kept as a row of lists: the C interface hands them over so.
 pub fn write(
     horizon: u32,
     idles: &[u32],

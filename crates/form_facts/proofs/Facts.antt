@@ -1,9 +1,9 @@
 -- What lists state: as many openings as steps, where those agree in length (`paired_size`, `paired_at`), as many parts as lives (`parts_size`); prices from a place on (`quotes_drop`, `quotes_take`); and what it says that lists agree
 -- (`agree_says`, `says_agree`). By the lists' cases.
-use Rattle.std.specs.Prelude.{Option, Some, None}
+use Rattle.std.specs.Prelude.{Option, Some, None, IfSome}
 use Prim.Native.Nat.{ℕ, zero, suc, ◌+◌, ◌-◌, ◌*◌, ◌≤◌, ◌<◌}
-use mathlib.Core.Path.{◌≡◌, refl, sym, ap, ap₂, ◌∙◌}
-use mathlib.Core.Bool.{Bool, true, cond, ◌&&◌, and-eq-true_iff}
+use mathlib.Core.Path.{◌≡◌, refl, sym, ap, ap₂, ◌∙◌, subst}
+use mathlib.Core.Bool.{Bool, true, false, cond, ◌&&◌, and-eq-true_iff}
 use mathlib.Core.List.{List, [], ◌∷◌}
 use native.Mathlib.Omega.{arith}
 use native.Mathlib.Nat.{mul-le-mul_right}
@@ -12,7 +12,8 @@ use borrow.Author.Tests.{eq-eqb, eqb-true, leb-true, le-leb}
 use lib.Dec.{eqb, leb}
 use lib.ListN.{length, get_or, take, drop}
 use lib.Seq.{drop-drop, get_or-drop}
-use Rattle.std.specs.List.{list_all}
+use Rattle.std.specs.List.{list_all, sum_by}
+use Rattle.std.proofs.lemmas.List.Recursion.{is_sum_by}
 use Rattle.model.specs.Model.{Opening}
 use Rattle.jobs.specs.Valid.{All}
 use Rattle.covers.specs.Grammar.{Cover}
@@ -145,6 +146,15 @@ all_marks_lem (c ∷ cs) h = ap₂ ◌&&◌ (le-leb c 1 h.0) (all_marks_lem cs h
 pub marks_few : (cs : List ℕ) → All (λ (c : ℕ). c ≤ 1) cs → sum_all cs ≤ length cs
 marks_few [] h = omega arith
 marks_few (c ∷ cs) h = omega (arith, h.0, marks_few cs h.1)
+
+-- the library's sum, in the definition's words
+pub sum_is : (vs : List ℕ) → sum_by (λ (n : ℕ). n) vs ≡ sum_all vs
+sum_is vs = sym (is_sum_by sum_all (λ (n : ℕ). n) refl (λ v vs. refl) vs)
+
+-- a count that is told only of so many marks is no more
+pub count_few : (n s : ℕ) (t : Bool) (o : Option ℕ) → o ≡ cond t (Some s) None → (t ≡ true → s ≤ n) → IfSome o (λ c. c ≤ n)
+count_few n s true o e h = subst (λ (p : Option ℕ). IfSome p (λ c. c ≤ n)) (sym e) (h refl)
+count_few n s false o e h = subst (λ (p : Option ℕ). IfSome p (λ c. c ≤ n)) (sym e) tt
 
 -- of marks that are each 0 or 1, no more are 1 than there are marks
 pub marks_known : (cs : List ℕ) → all_marks cs ≡ true → sum_all cs ≤ length cs

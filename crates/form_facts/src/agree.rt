@@ -11,11 +11,7 @@ pub fn sum(values: &[u32]) -> u64
     requires { length values.now ≤ most_parts * most_openings }
     ensures { result ≡ sum_all values.now }
 {
-    let mut sum: u64 = 0;
-    for value in values {
-        sum += *value as u64;
-    }
-    sum
+    values.iter().map(|value| u64::from(*value)).sum()
 }
 
 // Whether each number is 0 or 1.
@@ -31,11 +27,8 @@ fn count_marks(marks: &[u32], n: usize) -> Option<usize>
     ensures value { result ≡ cond (eqb (length marks.now) n && all_marks marks.now) (Some (sum_all marks.now)) None }
     ensures few { IfSome result (λ count. count ≤ n) }
 {
-    if marks.len() == n && are_marks(marks) {
-        Some(sum(marks) as usize)
-    } else {
-        None
-    }
+    // Kept as a cast: std has no `From<u64>` for a usize, and a `try_from` would have an arm that nothing reaches.
+    (marks.len() == n && are_marks(marks)).then(|| sum(marks) as usize)
 }
 
 impl CoverLists<'_> {
@@ -47,6 +40,7 @@ impl CoverLists<'_> {
         let Some(count) = count_marks(self.covered, m) else {
             return false;
         };
+        // Kept as a cast: std has no `From<usize>` for a u64, and a `try_from` would have an arm that nothing reaches.
         self.removals.len() == count
             && self.insides.len() == count
             && self.holders.len() as u64 == sum(self.insides)
@@ -55,6 +49,7 @@ impl CoverLists<'_> {
 
 impl RuleLists<'_> {
     // Whether there are a mark for each of m parts, as many bases, drops and leasts as marks that are 1, and a price for each part without a rule and each of n openings.
+    // Kept with the limits of m and n in the clauses, here and in `agree`: a form has lists of any length, and these two alone are known to be few.
     fn prices_agree(&self, m: usize, prices: usize, n: usize) -> bool
         requires { (m ≤ most_parts) × (n ≤ most_openings) }
         ensures { let x = self.now in result ≡ prices_agree_lem m x.ruled.now (length x.bases.now) (length x.drops.now) (length x.leasts.now) prices n }

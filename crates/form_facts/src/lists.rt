@@ -1,5 +1,5 @@
 // The lists of a form's parts.
-// Kept as lists with marks beside them, here and above: the C interface hands them over so.
+// Kept as lists with marks beside them, in the structs here and in what is handed them: the C interface hands them over so.
 
 // A mark for each part, 1 where its lines of removal stand; for each of these its removal, and how many of the holders, which stand part by part, are its.
 #[derive(Clone, Copy)]

@@ -1,18 +1,19 @@
--- The text's pieces by their tests: a count in its range and what it counts (`counted_in`), or one out of it alone (`counted_out`); and idle steps. By the value of the test.
-use Prim.Native.Nat.{ℕ, suc, ◌≤◌, ◌<◌}
+-- The text's pieces by their tests: a count in its range and what it counts (`counted_in`), or one out of it alone (`counted_out`); idle steps; and a count put with what it counts (`counted_good`), or alone (`counted_bad`). By the value of the test.
+use Prim.Native.Nat.{ℕ, suc, ◌≤◌}
 use Prim.Native.String.{String}
-use mathlib.Core.Path.{◌≡◌, refl}
-use mathlib.Core.Bool.{Bool, true, false, ◌&&◌, and-eq-true_iff}
+use mathlib.Core.Path.{◌≡◌, refl, sym, ap}
+use mathlib.Core.Bool.{Bool, true, false, cond, ◌&&◌, and-eq-true_iff}
 use mathlib.Core.List.{List, [], ◌∷◌, ◌++◌, append-nil}
 use native.Mathlib.Omega.{arith}
-use borrow.Author.Tests.{leb-true, le-leb, eq-eqb, eqb-true}
+use borrow.Author.Tests.{leb-true, le-leb}
 use lib.Dec.{leb}
 use lib.ListN.{length}
-use Rattle.lines.specs.Text.{line_of, texts, optional_text}
+use Rattle.lines.specs.Text.{line_of, optional_text}
+use Rattle.line_writing.specs.Puts.{Puts, Room}
+use Rattle.line_writing.specs.declared.output.Out.{Out}
+use Rattle.line_writing.proofs.Putting.{none, then, same, room_same, room_front, room_behind}
 use Rattle.job_grammar.specs.Optionals.{idle_lines}
-use Rattle.form_facts.specs.Facts.{PartLists, parts_of, fees_agree, parts_agree_lem}
-use Rattle.part_writing.specs.Cut.{part_cut_lem}
-use Rattle.form_writing.specs.Cut.{counted_cut, idles_cut, parts_cut, body_cut, rest_cut}
+use Rattle.form_writing.specs.Cut.{counted_cut, idles_cut}
 
 module _ (key : String) (most : ℕ) (agree : Bool) (n : ℕ) (t : List ℕ) where
   pub counted_in : n ≤ most → agree ≡ true → counted_cut key most agree n t ≡ line_of key n ++ t
@@ -27,6 +28,11 @@ module _ (key : String) (most : ℕ) (agree : Bool) (n : ℕ) (t : List ℕ) whe
       go true e = let w = (and-eq-true_iff (leb n most) agree).0 e in absurd (no_good (leb-true n most w.0) w.1)
       go false e = rw e (append-nil (line_of key (suc most)))
 
+  -- both, by whether the count is good
+  pub counted_by : (good : Bool) → good ≡ (leb n most && agree) → counted_cut key most agree n t ≡ line_of key (cond good n (suc most)) ++ cond good t []
+  unfolding counted_cut
+  counted_by good e = rw e refl
+
 -- ---- idle steps
 
 -- where there are no idle steps, nothing is written for them
@@ -35,40 +41,31 @@ unfolding idle_lines
 idles_none [] h = refl
 idles_none (i ∷ is) h = absurd (omega arith)
 
--- more than 365 idle steps are written as the line `idles=366` alone
-pub idles_many : (is : List ℕ) → 365 < length is → optional_text idles_cut (idle_lines is) ≡ line_of "idles=" 366
-unfolding idle_lines idles_cut
-idles_many [] h = absurd (omega arith)
-idles_many (i ∷ is) h = counted_out "idles=" 365 true (length (i ∷ is)) (texts (line_of "idle=") (i ∷ is)) (λ few e. omega arith)
+-- where there are some, they are written with their number
+pub idles_there : (is : List ℕ) → 1 ≤ length is → optional_text idles_cut (idle_lines is) ≡ idles_cut is
+unfolding idle_lines
+idles_there [] h = absurd (omega arith)
+idles_there (i ∷ is) h = refl
 
--- 1 to 365 idle steps are written as the line of their number and a line for each
-pub idles_some : (is : List ℕ) → 1 ≤ length is → length is ≤ 365 → optional_text idles_cut (idle_lines is) ≡ line_of "idles=" (length is) ++ texts (line_of "idle=") is
-unfolding idle_lines idles_cut
-idles_some [] h few = absurd (omega arith)
-idles_some (i ∷ is) h few = counted_in "idles=" 365 true (length (i ∷ is)) (texts (line_of "idle=") (i ∷ is)) few refl
+-- ---- a count and what it counts, put one behind the other
 
--- ---- parts
+module _ (key : String) (most : ℕ) (agree : Bool) (n : ℕ) (t : List ℕ) (good : Bool) (e : good ≡ (leb n most && agree)) where
+  whole : counted_cut key most agree n t ≡ line_of key (cond good n (suc most)) ++ cond good t []
+  whole = counted_by key most agree n t good e
 
-module _ (n : ℕ) (x : PartLists) where
-  -- up to 16 parts whose lists agree are written as their number's line and their own lines
-  pub parts_in : length x.lives ≤ 16 → parts_agree_lem n x ≡ true → parts_cut n x ≡ line_of "parts=" (length x.lives) ++ texts part_cut_lem (parts_of n x)
-  unfolding parts_cut
-  parts_in few e = counted_in "parts=" 16 (parts_agree_lem n x) (length x.lives) (texts part_cut_lem (parts_of n x)) few e
+  module _ {o : Out} (room : Room o (counted_cut key most agree n t)) where
+    -- there is room for the count's line
+    pub counted_room : Room o (line_of key (cond good n (suc most)))
+    counted_room = room_front _ (room_same room whole)
 
-  -- too many parts, or lists that disagree, are written as the line `parts=17` alone
-  pub parts_out : (length x.lives ≤ 16 → parts_agree_lem n x ≡ true → ⊥) → parts_cut n x ≡ line_of "parts=" 17
-  unfolding parts_cut
-  parts_out no_good = counted_out "parts=" 16 (parts_agree_lem n x) (length x.lives) (texts part_cut_lem (parts_of n x)) no_good
+    -- and, behind a good count, for what it counts
+    pub counted_rest : {p : Out} → good ≡ true → Puts o (line_of key (cond good n (suc most))) p → Room p t
+    counted_rest g v = room_same (room_behind (room_same room whole) v) (ap (λ (b : Bool). cond b t []) g)
 
--- ---- openings
+  -- a good count with what it counts is put
+  pub counted_good : {o p q : Out} → good ≡ true → Puts o (line_of key (cond good n (suc most))) p → Puts p t q → Puts o (counted_cut key most agree n t) q
+  counted_good g v w = same (then v (same w (sym (ap (λ (b : Bool). cond b t []) g)))) (sym whole)
 
-module _ (os fs : List ℕ) (x : PartLists) where
-  -- up to 64 openings with as many fees are written as their number's line and what follows it
-  pub rest_in : length os ≤ 64 → length fs ≡ length os → rest_cut os fs x ≡ line_of "openings=" (length os) ++ body_cut os fs x
-  unfolding rest_cut
-  rest_in few e = counted_in "openings=" 64 (fees_agree os fs) (length os) (body_cut os fs x) few (eq-eqb (length fs) (length os) e)
-
-  -- too many openings, or fees not as many, are written as the line `openings=65` alone
-  pub rest_out : (length os ≤ 64 → length fs ≡ length os → ⊥) → rest_cut os fs x ≡ line_of "openings=" 65
-  unfolding rest_cut
-  rest_out no_good = counted_out "openings=" 64 (fees_agree os fs) (length os) (body_cut os fs x) (λ few e. no_good few (eqb-true (length fs) (length os) e))
+  -- a count that is not good is put alone
+  pub counted_bad : {o p : Out} → good ≡ false → Puts o (line_of key (cond good n (suc most))) p → Puts o (counted_cut key most agree n t) p
+  counted_bad g v = same (then v (same none (sym (ap (λ (b : Bool). cond b t []) g)))) (sym whole)

@@ -1,4 +1,5 @@
 // The first part of lists that agree, and the lists behind it.
+// Kept as conditions: what lists have of their first part is one record for its removal (`FirstCover`) and one for its prices (`FirstPrices`), and a type that carries them would be made and taken apart for each part.
 ghost use Rattle.std.specs.Prelude.{◌≡◌, ◌≤◌, ◌<◌, length, cond, eqb, get_or, take, drop, IfSome, None, Some};
 ghost use Rattle.price_rules.specs.Grammar.{by_list, by_rule_lem};
 ghost use Rattle.form_facts.specs.Facts.{PartsAgree, quotes_in};
@@ -19,13 +20,14 @@ fn inside_first(parts: &FormParts) -> usize
     ensures few { result < 4294967296 }
 {
     if parts.covers.covered[0] == 1 {
+        // Kept as a cast: std has no `From<u32>` for a usize, and a `try_from` would have an arm that nothing reaches.
         parts.covers.insides[0] as usize
     } else {
         0
     }
 }
 
-// How many prices of the list it has, with n openings.
+// How many prices of the list the first part has, with n openings.
 fn listed_first(parts: &FormParts, n: usize) -> usize
     requires { FirstPrices n (lists_of parts.now) }
     ensures { result ≡ listed_first n (lists_of parts.now) }
@@ -33,7 +35,7 @@ fn listed_first(parts: &FormParts, n: usize) -> usize
     if parts.rules.ruled[0] == 1 { 0 } else { n }
 }
 
-// Its lines of removal, where they stand.
+// The first part's lines of removal, where they stand.
 fn cover_first<'a>(parts: &FormParts<'a>) -> Option<Cover<'a>>
     requires { FirstCover (lists_of parts.now) }
     ensures said { let x = lists_of parts.now in cover_said result ≡ cond (eqb (get_or x.covered 0 0) 1) (Some (record { removal = get_or x.removals 0 0; holders = take (inside_first x) x.holders })) None }
@@ -43,6 +45,7 @@ fn cover_first<'a>(parts: &FormParts<'a>) -> Option<Cover<'a>>
     if covers.covered[0] != 1 {
         return None;
     }
+    // Kept as a cast: std has no `From<u32>` for a usize, and a `try_from` would have an arm that nothing reaches.
     let inside = covers.insides[0] as usize;
     Some(Cover {
         removal: covers.removals[0],
@@ -50,7 +53,7 @@ fn cover_first<'a>(parts: &FormParts<'a>) -> Option<Cover<'a>>
     })
 }
 
-// Its rule where it has one, else its prices, with n openings.
+// The first part's rule where it has one, else its prices, with n openings.
 fn prices_first<'a>(parts: &FormParts<'a>, n: usize) -> Prices<'a>
     requires { FirstPrices n (lists_of parts.now) }
     ensures said { let x = lists_of parts.now in prices_said result ≡ cond (eqb (get_or x.ruled 0 0) 1) (by_rule_lem (rule_first x)) (by_list (take (listed_first n x) (quotes_in x))) }
@@ -99,6 +102,7 @@ fn covers_behind<'a>(parts: &FormParts<'a>) -> CoverLists<'a>
 {
     let inside = inside_first(parts);
     let covers = parts.covers;
+    // Kept as a cast: std has no `From<u32>` for a usize, and a `try_from` would have an arm that nothing reaches.
     let mark = covers.covered[0] as usize;
     CoverLists {
         covered: &covers.covered[1..],
@@ -109,6 +113,7 @@ fn covers_behind<'a>(parts: &FormParts<'a>) -> CoverLists<'a>
 }
 
 // The lists of rules behind the first part's.
+// Kept beside `covers_behind`: all three lists go on by the mark here, two by the mark and one by the holders there, and lists handed back by one function would have no names.
 fn rules_behind<'a>(parts: &FormParts<'a>, n: usize) -> RuleLists<'a>
     requires { FirstPrices n (lists_of parts.now) }
     ensures ruled { result.ruled.now ≡ drop 1 (lists_of parts.now).ruled }
@@ -117,6 +122,7 @@ fn rules_behind<'a>(parts: &FormParts<'a>, n: usize) -> RuleLists<'a>
     ensures leasts { let x = lists_of parts.now in result.leasts.now ≡ drop (get_or x.ruled 0 0) x.leasts }
 {
     let rules = parts.rules;
+    // Kept as a cast: std has no `From<u32>` for a usize, and a `try_from` would have an arm that nothing reaches.
     let mark = rules.ruled[0] as usize;
     RuleLists {
         ruled: &rules.ruled[1..],
@@ -135,6 +141,7 @@ fn quotes_behind<'a>(parts: &FormParts<'a>, n: usize) -> QuoteLists<'a>
 {
     let listed = listed_first(parts, n);
     let quotes = parts.quotes;
+    // Kept as a cast: std has no `From<u64>` for a usize, and a `try_from` would have an arm that nothing reaches.
     let pairs = sum(&quotes.banded[..listed]) as usize;
     QuoteLists {
         banded: &quotes.banded[listed..],

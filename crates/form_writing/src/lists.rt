@@ -1,6 +1,6 @@
 // The lines of lists of numbers, put into a lent slice.
-ghost use Rattle.std.specs.Prelude.{◌≡◌, length};
-ghost use Rattle.lines.specs.Text.{texts, optional_text};
+ghost use Rattle.std.specs.Prelude.{suc, ◌≡◌, ◌≤◌, true, cond, length};
+ghost use Rattle.lines.specs.Text.{line, texts, optional_text};
 ghost use Rattle.line_writing.specs.Puts.{Puts, Room};
 ghost use Rattle.job_grammar.specs.Optionals.{idle_lines};
 ghost use Rattle.job_grammar.specs.Rendering.{opening_text};
@@ -11,6 +11,17 @@ use jobs::Job;
 use line_writing::output::Out;
 use part_writing::put_values;
 
+// Puts the line of a count where it is good, else the number past its range, which no reader takes.
+pub fn put_count(out: &mut Out, key: &[u8], n: usize, most: u32, good: bool)
+    requires n_bound { good ≡ true → n ≤ most }
+    requires n_in_bounds { Room out.old (line key.now (cond good n (suc most))) }
+    ensures { Puts out.old (line key.now (cond good n (suc most))) out.new }
+{
+    // Kept as a cast: std has no `From<usize>` for a u64, and a `try_from` would have an arm that nothing reaches.
+    let count = if good { n as u64 } else { u64::from(most) + 1 };
+    out.put_line(key, count);
+}
+
 // Puts the number of idle steps, and the steps if there are not too many.
 pub fn put_idles(out: &mut Out, idles: &[u32])
     requires { Room out.old (optional_text idles_cut (idle_lines idles.now)) }
@@ -20,12 +31,12 @@ pub fn put_idles(out: &mut Out, idles: &[u32])
     if n == 0 {
         return;
     }
-    if (Job::MAX_IDLES as usize) < n {
-        out.put_line(b"idles=", 366);
-        return;
+    // Kept as a cast: std has no `From<u32>` for a usize, and a `try_from` would have an arm that nothing reaches.
+    let good = n <= Job::MAX_IDLES as usize;
+    put_count(out, b"idles=", n, Job::MAX_IDLES, good);
+    if good {
+        put_values(out, b"idle=", idles);
     }
-    out.put_line(b"idles=", n as u64);
-    put_values(out, b"idle=", idles);
 }
 
 // Puts the lines of an opening.
@@ -33,8 +44,8 @@ fn put_opening(out: &mut Out, step: u32, fee: u32)
     requires { Room out.old (opening_text (record { step = step; fee = fee })) }
     ensures { Puts out.old (opening_text (record { step = step; fee = fee })) out.new }
 {
-    out.put_line(b"opening=", step as u64);
-    out.put_line(b"fee=", fee as u64);
+    out.put_line(b"opening=", u64::from(step));
+    out.put_line(b"fee=", u64::from(fee));
 }
 
 // Puts the lines of the openings, which have as many fees.
@@ -43,6 +54,7 @@ pub fn put_openings(out: &mut Out, openings: &[u32], fees: &[u32])
     requires fees_in_bounds { Room out.old (texts opening_text (paired openings.now fees.now)) }
     ensures { Puts out.old (texts opening_text (paired openings.now fees.now)) out.new }
 {
+    // Kept with a place, and no plainer as a zip, which would save one index: what is put is said by the place, and a zip's place is the length of what it yielded.
     for (i, &step) in openings.iter().enumerate() {
         put_opening(out, step, fees[i]);
     }

@@ -5,7 +5,7 @@ ghost use Rattle.form_facts.specs.Views.{lists_of};
 ghost use Rattle.form_writing.specs.Cut.{body_cut, rest_cut, form_cut};
 ghost use Rattle.model.specs.Limits.{most_openings};
 
-use crate::lists::{put_idles, put_openings};
+use crate::lists::{put_count, put_idles, put_openings};
 use crate::parts::put_counted;
 use form_facts::lists::FormParts;
 use jobs::Job;
@@ -37,16 +37,12 @@ fn put_rest(out: &mut Out, form: &FormLists)
     ensures { Puts out.old (rest_cut form.now.openings.now form.now.fees.now (lists_of form.now.parts)) out.new }
 {
     let n = form.openings.len();
-    if (Job::MAX_OPENINGS as usize) < n {
-        out.put_line(b"openings=", 65);
-        return;
+    // Kept as a cast: std has no `From<u32>` for a usize, and a `try_from` would have an arm that nothing reaches.
+    let good = n <= Job::MAX_OPENINGS as usize && form.fees.len() == n;
+    put_count(out, b"openings=", n, Job::MAX_OPENINGS, good);
+    if good {
+        put_body(out, form);
     }
-    if form.fees.len() != n {
-        out.put_line(b"openings=", 65);
-        return;
-    }
-    out.put_line(b"openings=", n as u64);
-    put_body(out, form);
 }
 
 // Puts the text of a form's lists.
@@ -54,7 +50,7 @@ pub fn put_form(out: &mut Out, form: &FormLists)
     requires { Room out.old (form_cut form.now.horizon form.now.idles.now form.now.openings.now form.now.fees.now (lists_of form.now.parts)) }
     ensures { Puts out.old (form_cut form.now.horizon form.now.idles.now form.now.openings.now form.now.fees.now (lists_of form.now.parts)) out.new }
 {
-    out.put_line(b"horizon=", form.horizon as u64);
+    out.put_line(b"horizon=", u64::from(form.horizon));
     put_idles(out, form.idles);
     put_rest(out, form);
 }

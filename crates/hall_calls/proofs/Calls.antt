@@ -35,7 +35,7 @@ use Rattle.hall_state.specs.declared.Spot.{Spot}
 use Rattle.hall_state.specs.Courses.{Arrays, rows_at, Course, course_in, line_slot, slots_at, LineKept, Kept, BestSame}
 use Rattle.hall_state.specs.Spots.{line_spot, call_spot, below_at, left_below, level_of, stop_by, OnCourse, Formed, asked_in, asked_of}
 use Rattle.hall_state.specs.Moves.{measure_in, measure_of, SameCourses, Opens, Below}
-use Rattle.hall_state.proofs.Courses.{self_kept, line_goes, all_kept_lem, line_given}
+use Rattle.hall_state.proofs.Courses.{same_self, self_kept, line_goes, all_kept_lem, line_given}
 use Rattle.hall_state.proofs.Left.{topic_at, raised, raised_asks}
 use Rattle.hall_state.proofs.Moves.{asked_near}
 use Rattle.hall_state.proofs.Spots.{cond_no}
@@ -68,11 +68,11 @@ none_from g a step d (job ∷ jobs) (c ∷ cs) (x ∷ ds) n m f =
 -- ---- a node below, tested
 
 module _ {hall : Hall} {x : Bool} {g : Ground} {a a' : Arrays} {p : Spot} {name : List Bool} {cs : List Course} {limit : ℕ} {s : Search} {e : Bound} (due : ℕ) (due_at : DueAt (tree_from (hall_bound hall) (left_below hall x p) (snoc name x)) e due) (kept : Kept g a a' cs) (same : SameCourses a a' cs cs) where
-  -- it is not walked on
+  -- the node below is not walked on
   pub below_shut : open_s limit due e s ≡ Missing → Below hall x g a a' p None name cs limit s
   below_shut f = record { e = e; due = due; due_at = due_at; kept = kept; same = same; closed = λ _. f; opened = λ u z. absurd (none-some u z) }
 
-  -- it is
+  -- the node below is walked on
   pub below_open : {q : Spot} {y : ℕ} → open_s limit due e s ≡ Sum y → Opens hall x g a a' p q name cs → Below hall x g a a' p (Some q) name cs limit s
   below_open {q} {y} f o = record {
     e = e;
@@ -108,8 +108,8 @@ module _ {hall : Hall} {g : Ground} {a : Arrays} {p : Spot} {name : List Bool} {
   below_call x = ap (below_at hall x p.step p.line) ec
 
   -- each line is at the step's level, and at no stop
-  pub at-step : (e : ℕ) (c : Course) → OnCourse g.ats p e c → c.at ≡ level_in g.ats p.step e
-  at-step e c o = o.level ∙ cond_no (level_in g.ats (p.step + 1) e) (level_in g.ats p.step e) (ap (ltb e) at_zero ∙ le-ltb e 0 (omega arith))
+  pub at-step : (e : ℕ) (c : Course) → OnCourse g.ats p e c → c.at ≡ level_in g.ats.before p.step e
+  at-step e c o = o.level ∙ cond_no (level_in g.ats.before (p.step + 1) e) (level_in g.ats.before p.step e) (ap (ltb e) at_zero ∙ le-ltb e 0 (omega arith))
 
   -- where a call is asked no line's course is at a stop
   pub no_stop : (e : ℕ) (c : Course) → OnCourse g.ats p e c → c.stop ≡ None
@@ -118,9 +118,6 @@ module _ {hall : Hall} {g : Ground} {a : Arrays} {p : Spot} {name : List Bool} {
   -- where a call is asked and nothing is written, all lines are kept
   pub self_all : Kept g a a cs
   self_all = record { size = refl; each = λ e l. self_kept g a e (course_in cs e) (line_given hall name g a cs e l k.stood.at.lines) }
-
-  same_all : SameCourses a a cs cs
-  same_all = record { size = refl; sheet = λ e l. refl; best = λ e l i h. refl }
 
   -- ---- a call
 
@@ -152,24 +149,24 @@ module _ {hall : Hall} {g : Ground} {a : Arrays} {p : Spot} {name : List Bool} {
         courses = λ e l.
             let o = k.stood.courses e l in
             record {
-              level = at-step e (course_in cs e) o ∙ sym (cond_no (level_in g.ats (p.step + 1) e) (level_in g.ats p.step e) (le-ltb e 0 (omega arith)));
+              level = at-step e (course_in cs e) o ∙ sym (cond_no (level_in g.ats.before (p.step + 1) e) (level_in g.ats.before p.step e) (le-ltb e 0 (omega arith)));
               stop = no_stop e (course_in cs e) o;
             };
         total = omega (arith, tot, k.stood.total);
       };
       left = sym (below_call true);
-      same = same_all;
+      same = same_self a cs;
       kept = λ a'' r. r;
       measure = omega (arith, call_measure);
     }
 
     -- where the estimate with the call's cost does not pass the test, the hall's node below a call is closed
     pub call_closed : {limit : ℕ} {s : Search} → open_s limit total (Sum 0) s ≡ Missing → Below hall true g a a p None name cs limit s
-    call_closed f = below_shut total call_due self_all same_all f
+    call_closed f = below_shut total call_due self_all (same_self a cs) f
 
     -- where the estimate with the call's cost passes the test, the hall's node below a call is walked on
     pub call_open : {limit : ℕ} {s : Search} {y : ℕ} → open_s limit total (Sum 0) s ≡ Sum y → Below hall true g a a p (Some q) name cs limit s
-    call_open f = below_open total call_due self_all same_all f call_opens
+    call_open f = below_open total call_due self_all (same_self a cs) f call_opens
 
   -- ---- no call
 
@@ -190,9 +187,9 @@ module _ {hall : Hall} {g : Ground} {a : Arrays} {p : Spot} {name : List Bool} {
     one : (e : ℕ) → e < length cs → (job : Job) → Placed hall.jobs e job → NoIf (open_at job (step_at hall p.step)) (line_slot g a' e (course_in cs e)) (line_slot g a' e (course_in ds e))
     one e l job pl =
         subst (λ (b : Bool). NoIf b (line_slot g a' e (course_in cs e)) (line_slot g a' e (course_in ds e))) (sym (k.crewed.table.tells p.step (k.asked.call ec) e job pl))
-        (subst (λ (c : Course). NoIf (open_in g.ats p.step e) (line_slot g a' e (course_in cs e)) (line_slot g a' e c)) (sym (r.done e l)) (go (open_in g.ats p.step e) refl))
+        (subst (λ (c : Course). NoIf (open_in g.ats.before p.step e) (line_slot g a' e (course_in cs e)) (line_slot g a' e c)) (sym (r.done e l)) (go (open_in g.ats.before p.step e) refl))
       where
-        go : (b : Bool) → open_in g.ats p.step e ≡ b → NoIf b (line_slot g a' e (course_in cs e)) (line_slot g a' e (pass_of b (course_in cs e)))
+        go : (b : Bool) → open_in g.ats.before p.step e ≡ b → NoIf b (line_slot g a' e (course_in cs e)) (line_slot g a' e (pass_of b (course_in cs e)))
         go true f = r.goes e l f
         go false f = refl
 
@@ -214,38 +211,38 @@ module _ {hall : Hall} {g : Ground} {a : Arrays} {p : Spot} {name : List Bool} {
         all_due hall (snoc name false) (asked_of n) calls (slots_at g a' 0 ds) uncalled k.crewed.fits.few (asked_near hall g.ats n k.crewed formed_none) (left_below hall false p) total 0 (omega (arith, r.total_is))
 
     on_none : (e : ℕ) → e < length cs → OnCourse g.ats n e (course_in ds e)
-    on_none e l = subst (OnCourse g.ats n e) (sym (r.done e l)) (go (open_in g.ats p.step e) refl)
+    on_none e l = subst (OnCourse g.ats n e) (sym (r.done e l)) (go (open_in g.ats.before p.step e) refl)
       where
-        up : level_in g.ats (p.step + 1) e ≡ level_in g.ats p.step e + cond (open_in g.ats p.step e) 1 0
+        up : level_in g.ats.before (p.step + 1) e ≡ level_in g.ats.before p.step e + cond (open_in g.ats.before p.step e) 1 0
         up = k.crewed.table.rises p.step e (k.asked.call ec) (omega (arith, l, k.stood.count))
 
         o : OnCourse g.ats p e (course_in cs e)
         o = k.stood.courses e l
 
-        here : level_in g.ats (p.step + 1) e ≡ level_of g.ats n e
-        here = sym (cond_no (level_in g.ats (p.step + 1 + 1) e) (level_in g.ats (p.step + 1) e) (le-ltb e 0 (omega arith)))
+        here : level_in g.ats.before (p.step + 1) e ≡ level_of g.ats n e
+        here = sym (cond_no (level_in g.ats.before (p.step + 1 + 1) e) (level_in g.ats.before (p.step + 1) e) (le-ltb e 0 (omega arith)))
 
-        go : (b : Bool) → open_in g.ats p.step e ≡ b → OnCourse g.ats n e (pass_of b (course_in cs e))
+        go : (b : Bool) → open_in g.ats.before p.step e ≡ b → OnCourse g.ats n e (pass_of b (course_in cs e))
         go true f = record {
-          level = (let z = up ∙ ap (λ (b : Bool). level_in g.ats p.step e + cond b 1 0) f in let y : (course_in cs e).at + 1 ≡ level_in g.ats (p.step + 1) e = omega (arith, z, at-step e (course_in cs e) o) in y ∙ here);
+          level = (let z = up ∙ ap (λ (b : Bool). level_in g.ats.before p.step e + cond b 1 0) f in let y : (course_in cs e).at + 1 ≡ level_in g.ats.before (p.step + 1) e = omega (arith, z, at-step e (course_in cs e) o) in y ∙ here);
           stop = refl;
         }
         go false f = record {
-          level = (let z = up ∙ ap (λ (b : Bool). level_in g.ats p.step e + cond b 1 0) f in let y : (course_in cs e).at ≡ level_in g.ats (p.step + 1) e = omega (arith, z, at-step e (course_in cs e) o) in y ∙ here);
+          level = (let z = up ∙ ap (λ (b : Bool). level_in g.ats.before p.step e + cond b 1 0) f in let y : (course_in cs e).at ≡ level_in g.ats.before (p.step + 1) e = omega (arith, z, at-step e (course_in cs e) o) in y ∙ here);
           stop = no_stop e (course_in cs e) o;
         }
 
     sheet_same : (e : ℕ) → e < length cs → (course_in ds e).sheet ≡ (course_in cs e).sheet
-    sheet_same e l = ap (λ (c : Course). c.sheet) (r.done e l) ∙ go (open_in g.ats p.step e)
+    sheet_same e l = ap (λ (c : Course). c.sheet) (r.done e l) ∙ go (open_in g.ats.before p.step e)
       where
         go : (b : Bool) → (pass_of b (course_in cs e)).sheet ≡ (course_in cs e).sheet
         go true = refl
         go false = refl
 
     kept_none : (a'' : Arrays) → Kept g a' a'' ds → Kept g a' a'' cs
-    kept_none a'' y = record { size = y.size; each = λ e l. one_kept e l (open_in g.ats p.step e) refl (subst (LineKept g a' a'' e) (r.done e l) (y.each e (omega (arith, l, r.size)))) }
+    kept_none a'' y = record { size = y.size; each = λ e l. one_kept e l (open_in g.ats.before p.step e) refl (subst (LineKept g a' a'' e) (r.done e l) (y.each e (omega (arith, l, r.size)))) }
       where
-        one_kept : (e : ℕ) → e < length cs → (b : Bool) → open_in g.ats p.step e ≡ b → LineKept g a' a'' e (pass_of b (course_in cs e)) → LineKept g a' a'' e (course_in cs e)
+        one_kept : (e : ℕ) → e < length cs → (b : Bool) → open_in g.ats.before p.step e ≡ b → LineKept g a' a'' e (pass_of b (course_in cs e)) → LineKept g a' a'' e (course_in cs e)
         one_kept e l true f h = line_goes g a' a'' e false (course_in cs e) (none_of_lem (course_in cs e)) (omega arith) (r.goes e l f) h
         one_kept e l false f h = h
 

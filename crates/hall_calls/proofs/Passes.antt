@@ -5,7 +5,7 @@ use mathlib.Core.Bool.{Bool, true, false, cond, false≢true}
 use mathlib.Core.List.{List, [], ◌∷◌, ◌++◌}
 use Rattle.std.specs.Prelude.{Option, Some, None}
 use native.Mathlib.Omega.{arith}
-use native.Mathlib.Decide.{ℕ_discrete, dec_lt}
+use native.Mathlib.Decide.{dec_lt}
 use borrow.Author.Tests.{lt-ltb}
 use lib.ListN.{length, set, length-set}
 use lib.Seq.{get_or-set_same, get_or-set_other}
@@ -29,7 +29,8 @@ use Rattle.hall_nodes.proofs.Bounds.{slot_most, slot_bound_lem, slot_most_lem}
 use Rattle.hall_nodes.proofs.Due.{line_missing}
 use Rattle.hall_nodes.proofs.Kept.{kept_at}
 use Rattle.hall_lines.specs.Levels.{sums_in, term_in}
-use Rattle.hall_lines.specs.Lines.{Opening, NoFound, roomy}
+use Rattle.hall_lines.specs.Room.{roomy}
+use Rattle.hall_lines.specs.Lines.{Opening, NoFound}
 use Rattle.hall_lines.proofs.Lines.{open-sums}
 use Rattle.hall_steps.specs.Steps.{level_in, open_in}
 use Rattle.hall_steps.specs.Table.{step_at}
@@ -40,7 +41,7 @@ use Rattle.hall_state.specs.declared.Question.TheVariants.{CrewCall}
 use Rattle.hall_state.specs.declared.Spot.{Spot}
 use Rattle.hall_state.specs.Courses.{Arrays, no_rows, tables_at, rows_at, Course, no_course, course_in, level_slot, slot_by, line_slot, slots_at, LineKept, Kept}
 use Rattle.hall_state.specs.Spots.{asked_of}
-use Rattle.hall_state.proofs.Courses.{slot_sheet, slot_blocks, line_same, untouched_kept, all_then, all_kept_lem, slot_in, goes_in, others_own, others_goes, bound_kept, sum_kept, line_given, line_here, job_here}
+use Rattle.hall_state.proofs.Courses.{at_each, each_slots, sum_by, slot_sheet, slot_blocks, line_same, untouched_kept, all_then, all_kept_lem, slot_in, goes_in, others_own, others_goes, bound_kept, sum_kept, line_given, line_here, job_here}
 use Rattle.hall_state.proofs.Moves.{asked_near}
 use Rattle.hall_state.proofs.Spots.{cond_no, cond_yes}
 use Rattle.hall_moves.specs.Asks.{Asking}
@@ -64,15 +65,6 @@ asking_kept {hall} {g} {a} {a'} {p} {name} {calls} {cs} r k =
       };
       asked = k.asked;
     }
-
--- lines of the same estimates have the same sum
-sum_same : (g : Ground) (a a' : Arrays) (d : ℕ) (cs : List Course) → ((e : ℕ) → e < length cs → slot_bound (line_slot g a' (d + e) (course_in cs e)) ≡ slot_bound (line_slot g a (d + e) (course_in cs e))) → lines_sum (slots_at g a' d cs) ≡ lines_sum (slots_at g a d cs)
-sum_same g a a' d [] f = refl
-sum_same g a a' d (c ∷ cs) f =
-    let z : d + 0 ≡ d = omega arith in
-    let y = subst (λ (j : ℕ). slot_bound (line_slot g a' j c) ≡ slot_bound (line_slot g a j c)) z (f 0 (omega arith)) in
-    let x = sum_same g a a' (suc d) cs (λ e l. let y : d + suc e ≡ suc d + e = omega arith in subst (λ (j : ℕ). slot_bound (line_slot g a' j (course_in cs e)) ≡ slot_bound (line_slot g a j (course_in cs e))) y (f (suc e) (omega (arith, l)))) in
-    omega (arith, x, y)
 
 sum_most : (g : Ground) (a : Arrays) (d : ℕ) (cs : List Course) → ((e : ℕ) → e < length cs → slot_bound (line_slot g a (d + e) (course_in cs e)) ≤ slot_most) → lines_sum (slots_at g a d cs) ≤ length cs * slot_most
 sum_most g a d [] f = omega arith
@@ -104,12 +96,12 @@ module _ {hall : Hall} {g : Ground} {a₀ a : Arrays} {p : Spot} {name : List Bo
       here : e < length cs
       here = omega (arith, l, r.size)
 
-      by : (b : Bool) → open_in g.ats p.step e ≡ b → e < d → slot_bound (line_slot g a e (pass_of b (course_in cs e))) ≤ slot_most
+      by : (b : Bool) → open_in g.ats.before p.step e ≡ b → e < d → slot_bound (line_slot g a e (pass_of b (course_in cs e))) ≤ slot_most
       by true f h = slot_most_lem (line_slot g a e (none_of_lem (course_in cs e))) (r.goes e h f).given
       by false f h = slot_most_lem (line_slot g a e (course_in cs e)) (line_given hall name g a cs e here k.stood.at.lines)
 
       go : Dec (e < d) → slot_bound (line_slot g a e (course_in ds e)) ≤ slot_most
-      go (yes h) = subst (λ (x : Course). slot_bound (line_slot g a e x) ≤ slot_most) (sym (r.done e h)) (by (open_in g.ats p.step e) refl h)
+      go (yes h) = subst (λ (x : Course). slot_bound (line_slot g a e x) ≤ slot_most) (sym (r.done e h)) (by (open_in g.ats.before p.step e) refl h)
       go (no h) = subst (λ (x : Course). slot_bound (line_slot g a e x) ≤ slot_most) (sym (r.rest e (omega (arith, h)))) (slot_most_lem (line_slot g a e (course_in cs e)) (line_given hall name g a cs e here k.stood.at.lines))
 
   total_low : total ≤ 71000000000
@@ -122,30 +114,22 @@ module _ {hall : Hall} {g : Ground} {a₀ a : Arrays} {p : Spot} {name : List Bo
   pass_room rest l = omega (arith, l, total_low)
 
   -- it is not open there
-  pub pass_shut : open_in g.ats p.step d ≡ false → Passing g a₀ a p.step calls cs (d + 1) total
+  pub pass_shut : open_in g.ats.before p.step d ≡ false → Passing g a₀ a p.step calls cs (d + 1) total
   pass_shut f = record {
     kept = r.kept;
     aside = r.aside;
     courses = ds;
     size = r.size;
-    done = λ e l. done e l (ℕ_discrete e d);
+    done = at_each d (λ _. r.rest d (omega arith) ∙ sym (cond_no (none_of_lem c) c f)) (λ e z l. r.done e (omega (arith, l, z)));
     rest = λ e l. r.rest e (omega (arith, l));
     rows = λ e l. r.rows e (omega (arith, l));
-    goes = λ e l h. goes e l h (ℕ_discrete e d);
+    goes = at_each d (λ _ h. absurd (false≢true (sym f ∙ h))) (λ e z l h. r.goes e (omega (arith, l, z)) h);
     total_is = r.total_is;
   }
-    where
-      done : (e : ℕ) → e < d + 1 → Dec (e ≡ d) → course_in ds e ≡ pass_of (open_in g.ats p.step e) (course_in cs e)
-      done e l (yes z) = subst (λ (j : ℕ). course_in ds j ≡ pass_of (open_in g.ats p.step j) (course_in cs j)) (sym z) (r.rest d (omega arith) ∙ sym (cond_no (none_of_lem c) c f))
-      done e l (no z) = r.done e (omega (arith, l, z))
-
-      goes : (e : ℕ) → e < d + 1 → open_in g.ats p.step e ≡ true → Dec (e ≡ d) → Goes false (line_slot g a e (course_in cs e)) (line_slot g a e (none_of_lem (course_in cs e)))
-      goes e l h (yes z) = absurd (false≢true (sym f ∙ sym (ap (open_in g.ats p.step) z) ∙ h))
-      goes e l h (no z) = r.goes e (omega (arith, l, z)) h
 
   -- it is open there
-  module _ (o : open_in g.ats p.step d ≡ true) where
-    at_level : c.at ≡ level_in g.ats p.step d
+  module _ (o : open_in g.ats.before p.step d ≡ true) where
+    at_level : c.at ≡ level_in g.ats.before p.step d
     at_level = at-step k ec d c (k.stood.courses d less)
 
     is_level : (b : Arrays) → line_slot g b d c ≡ level_slot g b d c
@@ -155,13 +139,13 @@ module _ {hall : Hall} {g : Ground} {a₀ a : Arrays} {p : Spot} {name : List Bo
     opening =
         let j = job_here hall name g a cs d less k.stood.at.lines in
         let up = k.crewed.table.within (p.step + 1) d j.job (omega (arith, k.asked.call ec)) j.placed in
-        let one = k.crewed.table.rises p.step d (k.asked.call ec) (omega (arith, less, k.stood.count)) ∙ ap (λ (b : Bool). level_in g.ats p.step d + cond b 1 0) o in
+        let one = k.crewed.table.rises p.step d (k.asked.call ec) (omega (arith, less, k.stood.count)) ∙ ap (λ (b : Bool). level_in g.ats.before p.step d + cond b 1 0) o in
         record {
           given = subst Given (is_level a) (line_given hall name g a cs d less k.stood.at.lines);
           less = omega (arith, up, j.openings, at_level, one);
         }
 
-    module _ {at : ℕ} (is : at ≡ level_in g.ats p.step d) where
+    module _ {at : ℕ} (is : at ≡ level_in g.ats.before p.step d) where
       -- an opening is left to a line that is open at the step
       pub pass_opening : Opening c.sheet c.blocks (tables_at g d) (rows_at a d) at c.paid
       pass_opening = subst (λ (x : ℕ). Opening c.sheet c.blocks (tables_at g d) (rows_at a d) x c.paid) (at_level ∙ sym is) opening
@@ -202,11 +186,7 @@ module _ {hall : Hall} {g : Ground} {a₀ a : Arrays} {p : Spot} {name : List Bo
         other e x z = line_same g a a₁ e x (get_or-set_other a d e o₁ no_rows z)
 
         kept_one : (e : ℕ) → e < length cs → LineKept g a a₁ e (course_in cs e)
-        kept_one e l = go (ℕ_discrete e d)
-          where
-            go : Dec (e ≡ d) → LineKept g a a₁ e (course_in cs e)
-            go (yes z) = subst (λ (j : ℕ). LineKept g a a₁ j (course_in cs j)) (sym z) own_kept
-            go (no z) = untouched_kept g a a₁ e (course_in cs e) (get_or-set_other a d e o₁ no_rows z) (line_given hall name g a cs e l k.stood.at.lines)
+        kept_one = at_each d (λ _. own_kept) (λ e z l. untouched_kept g a a₁ e (course_in cs e) (get_or-set_other a d e o₁ no_rows z) (line_given hall name g a cs e l k.stood.at.lines))
 
         -- all lines are kept from the first arrays to those with this line's no written
         pub pass_kept : Kept g a₀ a₁ cs
@@ -214,11 +194,7 @@ module _ {hall : Hall} {g : Ground} {a₀ a : Arrays} {p : Spot} {name : List Bo
 
         -- what stands beside the rows is not written
         pub pass_aside : (e : ℕ) → (rows_at a₁ e).v ≡ (rows_at a₀ e).v
-        pass_aside e = go (ℕ_discrete e d)
-          where
-            go : Dec (e ≡ d) → (rows_at a₁ e).v ≡ (rows_at a₀ e).v
-            go (yes q) = subst (λ (j : ℕ). (rows_at a₁ j).v ≡ (rows_at a₀ j).v) (sym q) (found₁.aside ∙ r.aside d)
-            go (no q) = ap (λ (o : LineRows). o.v) (get_or-set_other a d e o₁ no_rows q) ∙ r.aside e
+        pass_aside = at_each d (found₁.aside ∙ r.aside d) (λ e q. ap (λ (o : LineRows). o.v) (get_or-set_other a d e o₁ no_rows q) ∙ r.aside e)
 
         -- sums stay small
         fits : (x : ℕ) → sum_where found₁.h found₁.y ≡ Sum x → rest + found₁.h + x < no_cost
@@ -259,15 +235,11 @@ module _ {hall : Hall} {g : Ground} {a₀ a : Arrays} {p : Spot} {name : List Bo
           long = omega (arith, less, r.size)
 
           same_sum : lines_sum (slots_at g a₁ 0 ds) ≡ lines_sum (slots_at g a 0 ds)
-          same_sum = sum_same g a a₁ 0 ds (λ e l. one e (ℕ_discrete (0 + e) d))
-            where
-              one : (e : ℕ) → Dec (0 + e ≡ d) → slot_bound (line_slot g a₁ (0 + e) (course_in ds e)) ≡ slot_bound (line_slot g a (0 + e) (course_in ds e))
-              one e (yes q) =
-                  let i : e ≡ d = omega (arith, q) in
-                  subst (λ (j : ℕ). slot_bound (line_slot g a₁ (0 + j) (course_in ds j)) ≡ slot_bound (line_slot g a (0 + j) (course_in ds j))) (sym i)
-                  (subst (λ (x : Course). slot_bound (line_slot g a₁ (0 + d) x) ≡ slot_bound (line_slot g a (0 + d) x)) (sym (r.rest d (omega arith)))
-                  (let m : d ≡ 0 + d = omega arith in subst (λ (j : ℕ). slot_bound (line_slot g a₁ j c) ≡ slot_bound (line_slot g a j c)) m (bound_kept (line_slot g a d c) (line_slot g a₁ d c) own_kept.slot)))
-              one e (no q) = ap slot_bound (other (0 + e) (course_in ds e) q)
+          same_sum =
+              sum_by (λ s s' e. e) (slots_at g a 0 ds) (slots_at g a₁ 0 ds)
+              (each_slots g (λ (s s' : Slot). slot_bound s' ≡ slot_bound s) a a₁ ds ds refl
+              (at_each d (λ _. subst (λ (x : Course). slot_bound (line_slot g a₁ d x) ≡ slot_bound (line_slot g a d x)) (sym (r.rest d (omega arith))) (bound_kept (line_slot g a d c) (line_slot g a₁ d c) own_kept.slot))
+              (λ e q _. ap slot_bound (other e (course_in ds e) q))))
 
           total_now : z ≡ calls + lines_sum (slots_at g a₁ 0 ds₁)
           total_now =
@@ -285,22 +257,15 @@ module _ {hall : Hall} {g : Ground} {a₀ a : Arrays} {p : Spot} {name : List Bo
             aside = pass_aside;
             courses = ds₁;
             size = length-set ds d (none_of_lem c) ∙ r.size;
-            done = λ e l. done e l (ℕ_discrete e d);
+            done = at_each d (λ _. get_or-set_same ds d (none_of_lem c) no_course long ∙ sym (cond_yes (none_of_lem c) c o)) (λ e q l. get_or-set_other ds d e (none_of_lem c) no_course q ∙ r.done e (omega (arith, l, q)));
             rest = λ e l. get_or-set_other ds d e (none_of_lem c) no_course (λ q. absurd (omega (arith, q, l))) ∙ r.rest e (omega (arith, l));
             rows = λ e l. get_or-set_other a d e o₁ no_rows (λ i. absurd (omega (arith, i, l))) ∙ r.rows e (omega (arith, l));
-            goes = λ e l h. goes e l h (ℕ_discrete e d);
+            goes = at_each d (λ _ _. gone)
+                (λ e q l h.
+                subst (λ (x : Slot). Goes false x (line_slot g a₁ e (none_of_lem (course_in cs e)))) (sym (other e (course_in cs e) q))
+                (subst (Goes false (line_slot g a e (course_in cs e))) (sym (other e (none_of_lem (course_in cs e)) q)) (r.goes e (omega (arith, l, q)) h)));
             total_is = total_now;
           }
-            where
-              done : (e : ℕ) → e < d + 1 → Dec (e ≡ d) → course_in ds₁ e ≡ pass_of (open_in g.ats p.step e) (course_in cs e)
-              done e l (yes q) = subst (λ (j : ℕ). course_in ds₁ j ≡ pass_of (open_in g.ats p.step j) (course_in cs j)) (sym q) (get_or-set_same ds d (none_of_lem c) no_course long ∙ sym (cond_yes (none_of_lem c) c o))
-              done e l (no q) = get_or-set_other ds d e (none_of_lem c) no_course q ∙ r.done e (omega (arith, l, q))
-
-              goes : (e : ℕ) → e < d + 1 → open_in g.ats p.step e ≡ true → Dec (e ≡ d) → Goes false (line_slot g a₁ e (course_in cs e)) (line_slot g a₁ e (none_of_lem (course_in cs e)))
-              goes e l h (yes q) = subst (λ (j : ℕ). Goes false (line_slot g a₁ j (course_in cs j)) (line_slot g a₁ j (none_of_lem (course_in cs j)))) (sym q) gone
-              goes e l h (no q) =
-                  subst (λ (x : Slot). Goes false x (line_slot g a₁ e (none_of_lem (course_in cs e)))) (sym (other e (course_in cs e) q))
-                  (subst (Goes false (line_slot g a e (course_in cs e))) (sym (other e (none_of_lem (course_in cs e)) q)) (r.goes e (omega (arith, l, q)) h))
 
 -- no line has passed yet
 pub pass_begin : {hall : Hall} {g : Ground} {a : Arrays} {p : Spot} {name : List Bool} {calls : ℕ} {cs : List Course} → Asking hall g a p name calls cs → p.asks ≡ CrewCall → Passing g a a p.step calls cs 0 p.total

@@ -24,10 +24,10 @@ pub record Passing (g : Ground) (a a' : Arrays) (k : ℕ) (calls : ℕ) (cs : Li
   pub aside : (e : ℕ) → (rows_at a' e).v ≡ (rows_at a e).v
   pub courses : List Course
   pub size : length courses ≡ length cs
-  pub done : (e : ℕ) → e < d → course_in courses e ≡ pass_of (open_in g.ats k e) (course_in cs e)
+  pub done : (e : ℕ) → e < d → course_in courses e ≡ pass_of (open_in g.ats.before k e) (course_in cs e)
   pub rest : (e : ℕ) → d ≤ e → course_in courses e ≡ course_in cs e
   pub rows : (e : ℕ) → d ≤ e → rows_at a' e ≡ rows_at a e
-  pub goes : (e : ℕ) → e < d → open_in g.ats k e ≡ true → Goes false (line_slot g a' e (course_in cs e)) (line_slot g a' e (none_of_lem (course_in cs e)))
+  pub goes : (e : ℕ) → e < d → open_in g.ats.before k e ≡ true → Goes false (line_slot g a' e (course_in cs e)) (line_slot g a' e (none_of_lem (course_in cs e)))
   pub total_is : total ≡ calls + lines_sum (slots_at g a' 0 courses)
 
 -- one line more, or some line's own node below has no bound

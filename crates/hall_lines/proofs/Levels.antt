@@ -25,7 +25,7 @@ level_put n at l h = record { level_is = get_or-set_same n at l no_level h; kept
 pub levels_none : (n : List Level) (k : ℕ) → LevelsKept n n k
 levels_none n k = record { size = refl; below = λ i l. refl }
 
--- once and again, of no more levels
+-- levels kept first, and then again of no fewer, are kept throughout
 pub levels_then : (n n' n'' : List Level) (j k : ℕ) → j ≤ k → LevelsKept n n' j → LevelsKept n' n'' k → LevelsKept n n'' j
 levels_then n n' n'' j k h a b = record { size = b.size ∙ a.size; below = λ i l. b.below i (omega arith) ∙ a.below i l }
 
@@ -63,11 +63,8 @@ stop_same sheet ds tb o o' at paid p k =
 pub at_plain : {sheet : HeldSheet} {ds : List (List Bool)} {t u w v : List ℕ} {p : Node} {x g : ℕ} → At sheet ds t u w v p x g → p.owed ≡ false → (r next m y h : ℕ) → r ≡ p.rows → next ≡ p.next → m ≡ p.mask → y ≡ x → h ≡ g
     → At sheet ds t u w v (record { at = p.at; rows = r; next = next; owed = false; shut = 0; removed = 0; spent = p.spent; mask = m }) y h
 at_plain {sheet} {ds} {t} {u} {w} {v} {p} {x} {g} a o r next m y h er en em ey eh =
-    subst (λ (k : ℕ). At sheet ds t u w v (record { at = p.at; rows = r; next = next; owed = false; shut = 0; removed = 0; spent = p.spent; mask = m }) y k) (sym eh)
-    (subst (λ (k : ℕ). At sheet ds t u w v (record { at = p.at; rows = r; next = next; owed = false; shut = 0; removed = 0; spent = p.spent; mask = m }) k g) (sym ey)
-    (subst (λ (k : ℕ). At sheet ds t u w v (record { at = p.at; rows = r; next = next; owed = false; shut = 0; removed = 0; spent = p.spent; mask = k }) x g) (sym em)
-    (subst (λ (k : ℕ). At sheet ds t u w v (record { at = p.at; rows = r; next = k; owed = false; shut = 0; removed = 0; spent = p.spent; mask = p.mask }) x g) (sym en)
-    (subst (λ (k : ℕ). At sheet ds t u w v (record { at = p.at; rows = k; next = p.next; owed = false; shut = 0; removed = 0; spent = p.spent; mask = p.mask }) x g) (sym er)
+    subst (λ (z : Node × ℕ × ℕ). At sheet ds t u w v z.0 z.1 z.2)
+    (λ i. (record { at = p.at; rows = sym er i; next = sym en i; owed = false; shut = 0; removed = 0; spent = p.spent; mask = sym em i }, sym ey i, sym eh i))
     (record {
       tables = a.tables;
       holders = a.holders;
@@ -84,4 +81,4 @@ at_plain {sheet} {ds} {t} {u} {w} {v} {p} {x} {g} a o r next m y h er en em ey e
       pending = λ q. absurd (false≢true q);
       stop = λ q. absurd (false≢true q);
       opening = λ q. record { all = (a.opening o).all; next = (a.opening o).next };
-    })))))
+    })

@@ -44,7 +44,7 @@ use Rattle.hall_lines.specs.declared.LineRows.{LineRows}
 use Rattle.hall_lines.specs.declared.Stop.{Stop}
 use Rattle.hall_lines.specs.declared.Decision.{Decision}
 use Rattle.hall_lines.specs.Levels.{rows_in_lem, sums_in, term_in, mask_in, level_node, stop_node, LevelPut}
-use Rattle.hall_lines.specs.Lines.{open_slot, stop_slot, Opening, Removing, Decided, OwnDue, Answers, itself, total_of, NoFound, StopFound, StayFound, OutFound, LineSettled, first_stop_lem, stop_due}
+use Rattle.hall_lines.specs.Lines.{looks, open_slot, stop_slot, Opening, Removing, Decided, OwnDue, Answers, itself, total_of, NoFound, StopFound, StayFound, OutFound, LineSettled, first_stop_lem, stop_due}
 use Rattle.hall_lines.proofs.Levels.{levels_none, level_same, at_plain}
 
 -- ---- a node below, tested
@@ -69,10 +69,6 @@ answers_none total limit due e s f = record { closed = λ _. f; opened = λ z g.
 -- a test that lets the node be walked on is answered by the hall's estimate
 pub answers_some : {A : Type 0} (total : A → ℕ) (limit due : ℕ) (e : Bound) (s : Search) (y : ℕ) (q : A) → open_s limit due e s ≡ Sum y → total q ≡ due + y → Answers total limit due e s (Some q)
 answers_some total limit due e s y q f g = record { closed = λ h. cc; opened = λ z h. let k : q ≡ z = cc in (y, f, sym (ap total k) ∙ g) }
-
--- the line's rows after a look
-abbrev pub looks : LineRows → List ℕ → LineRows
-looks o w' = record { w = w'; v = o.v; n = o.n }
 
 -- a step from the line's node, where a look has changed the memo since
 goes_looked : (x : Bool) (s s' : Slot) (w' : List ℕ) → Goes x s s' → s'.node.rows ≡ s.node.rows → Recalled s.t s.w w' s.node.rows → Goes x (with_rows s w' s.v) (with_rows s' w' s'.v)
@@ -139,7 +135,7 @@ module _ {sheet : HeldSheet} {ds : List (List Bool)} {tb : LineTables} {o : Line
       looked : SlotKept here (with_rows here w' o.v)
       looked = looked_kept here a w' rec
 
-      -- it is not walked on
+      -- what a line's no finds where the node below is not walked on
       pub no_none : open_s limit (rest + h) (sum_where h no_sum) s ≡ Missing → NoFound sheet ds tb o (looks o w') at paid limit rest s None
       no_none f = record {
         h = h;
@@ -152,7 +148,7 @@ module _ {sheet : HeldSheet} {ds : List (List Bool)} {tb : LineTables} {o : Line
         goes = λ z g. cc;
       }
 
-      -- it is, and its numbers are the next level's
+      -- what a line's no finds where the node below is walked on: its numbers are the next level's
       pub no_some : (n' : List Level) (y total : ℕ) → h < inf → no_sum ≡ y → open_s limit (rest + h) (sum_where h no_sum) s ≡ Sum y → total ≡ rest + h + y → LevelPut o.n n' (at + 1) (record { rows = rows_in_lem o.n at; sums = y; term = h; mask = mask_in o.n at * 2 })
           → NoFound sheet ds tb o (record { w = w'; v = o.v; n = n' }) at paid limit rest s (Some total)
       no_some n' y total l e f g put =
@@ -224,25 +220,25 @@ module _ {sheet : HeldSheet} {ds : List (List Bool)} {tb : LineTables} {o : Line
       (λ y f. let k = sum_inj (Sum (sums_in o.n at)) (sums_in o.n at) y refl f in omega (arith, k, stop_cheap))
 
   module _ (limit rest : ℕ) (s : Search) where
-    -- it is not walked on
-    pub stop_none : open_s limit (rest + stop_due tb at) (Sum (sums_in o.n at)) s ≡ Missing → StopFound sheet ds tb o o at paid limit rest s None
+    -- what a line's stop finds where the node below is not walked on
+    pub stop_none : Answers itself limit (rest + stop_due tb at) (Sum (sums_in o.n at)) s None → StopFound sheet ds tb o o at paid limit rest s None
     stop_none f = record {
       rows = refl;
       levels = refl;
       due = stop_own;
-      answers = answers_none itself limit (rest + stop_due tb at) (Sum (sums_in o.n at)) s f;
+      answers = f;
       kept = looked_kept here a o.w (recalled_none tb.t o.w (rows_in_lem o.n at) (a.opening refl).all.memo);
       best = λ i l. refl;
       goes = λ z g. cc;
     }
 
-    -- it is
-    pub stop_some : (y total : ℕ) → open_s limit (rest + stop_due tb at) (Sum (sums_in o.n at)) s ≡ Sum y → total ≡ rest + stop_due tb at + y → StopFound sheet ds tb o o⁰ at paid limit rest s (Some total)
-    stop_some y total f g = record {
+    -- what a line's stop finds where the node below is walked on
+    pub stop_some : {total : ℕ} → Answers itself limit (rest + stop_due tb at) (Sum (sums_in o.n at)) s (Some total) → StopFound sheet ds tb o o⁰ at paid limit rest s (Some total)
+    stop_some f = record {
       rows = refl;
       levels = refl;
       due = stop_own;
-      answers = answers_some itself limit (rest + stop_due tb at) (Sum (sums_in o.n at)) s y total f g;
+      answers = f;
       kept = fresh;
       best = λ i l. get_or-set_other o.v (ready_place (rows_in_lem o.n at)) (best_place i) 0 0 (λ z. omega (arith, z, few_rows, l, a.tables.few));
       goes = λ z k. stops;
@@ -316,7 +312,7 @@ module _ {sheet : HeldSheet} {ds : List (List Bool)} {tb : LineTables} {o : Line
       stop_looked : SlotKept at_stop (with_rows at_stop w' o.v)
       stop_looked = looked_kept at_stop b w' rec
 
-      -- it is not walked on
+      -- what is found where the next holding part stays and the node below is not walked on
       pub stays_none : open_s limit (rest + h) (sum_where h stays_sum) s ≡ Missing → StayFound sheet ds tb o (looks o w') at paid p limit rest s None
       stays_none f = record {
         h = h;
@@ -329,7 +325,7 @@ module _ {sheet : HeldSheet} {ds : List (List Bool)} {tb : LineTables} {o : Line
         goes = λ q g. cc;
       }
 
-      -- it is
+      -- what is found where the next holding part stays and the node below is walked on
       pub stays_some : (set y total : ℕ) → set ≡ stays_set → h < inf → stays_sum ≡ y → open_s limit (rest + h) (sum_where h stays_sum) s ≡ Sum y → total ≡ rest + h + y
           → StayFound sheet ds tb o (looks o w') at paid p limit rest s (Some (record { stop = record { next = p.next + 1; shut = set; removed = p.removed * 2; sums = y; term = h }; total = total }))
       stays_some set y total k l e f g =
@@ -371,22 +367,23 @@ module _ {sheet : HeldSheet} {ds : List (List Bool)} {tb : LineTables} {o : Line
       (λ y f. let k = sum_inj (Sum p.sums) p.sums y refl f in omega (arith, k, out_cheap))
 
   module _ (limit rest : ℕ) (s : Search) where
-    -- it is not walked on
-    pub out_none : open_s limit (rest + (price + p.term)) (Sum p.sums) s ≡ Missing → OutFound sheet ds tb o at paid p limit rest s None
+    -- what is found where the next holding part is removed and the node below is not walked on
+    pub out_none : Answers itself limit (rest + (price + p.term)) (Sum p.sums) s None → OutFound sheet ds tb o at paid p limit rest s None
     out_none f = record {
       due = out_own;
-      answers = answers_none total_of limit (rest + (price + p.term)) (Sum p.sums) s f;
+      answers = answers_none total_of limit (rest + (price + p.term)) (Sum p.sums) s (f.closed refl);
       goes = λ q g. cc;
     }
 
-    -- it is
-    pub out_some : (y total : ℕ) → open_s limit (rest + (price + p.term)) (Sum p.sums) s ≡ Sum y → total ≡ rest + (price + p.term) + y
+    -- what is found where the next holding part is removed and the node below is walked on
+    pub out_some : {total : ℕ} → Answers itself limit (rest + (price + p.term)) (Sum p.sums) s (Some total)
         → OutFound sheet ds tb o at paid p limit rest s (Some (record { stop = record { next = p.next + 1; shut = p.shut; removed = p.removed * 2 + 1; sums = p.sums; term = p.term }; total = total }))
-    out_some y total f g =
+    out_some {total} f =
+        let is = f.opened total refl in
         let stop : Stop = record { next = p.next + 1; shut = p.shut; removed = p.removed * 2 + 1; sums = p.sums; term = p.term } in
         record {
           due = out_own;
-          answers = answers_some total_of limit (rest + (price + p.term)) (Sum p.sums) s y (record { stop = stop; total = total }) f g;
+          answers = answers_some total_of limit (rest + (price + p.term)) (Sum p.sums) s is.0 (record { stop = stop; total = total }) is.1 is.2;
           goes = λ q z. let is : record { stop = stop; total = total } ≡ q = cc in subst (λ (q : Decision). (q.stop.next ≡ p.next + 1) × ((ds' : List (List Bool)) × Goes true at_stop (stop_slot sheet ds' tb o at (paid + price) q.stop))) is (refl, (more_blocks before removed true, outs));
         }
 

@@ -12,19 +12,19 @@ no_level = record { rows = 0; sums = 0; term = 0; mask = 0 }
 abbrev pub level_at : List Level → ℕ → Level
 level_at n at = get_or n at no_level
 
--- a level's rows, part sums, term and stops
+-- how many rows there are at a level
 abbrev pub rows_in_lem : List Level → ℕ → ℕ
 rows_in_lem n at = (level_at n at).rows
 
--- its part sums
+-- the part sums at a level
 abbrev pub sums_in : List Level → ℕ → ℕ
 sums_in n at = (level_at n at).sums
 
--- its term
+-- the term at a level
 abbrev pub term_in : List Level → ℕ → ℕ
 term_in n at = (level_at n at).term
 
--- its stops, the latest in the lowest bit
+-- the stops at a level, the latest in the lowest bit
 abbrev pub mask_in : List Level → ℕ → ℕ
 mask_in n at = (level_at n at).mask
 

@@ -1,10 +1,10 @@
 -- What the functions of a line ask and find: at an opening no stop and a stop, at a stop not removed and removed, and a stop whose removals are decided.
-use Rattle.std.specs.Prelude.{ℕ, ◌+◌, ◌*◌, ◌^◌, ◌<◌, ◌≤◌, ◌≡◌, Bool, true, false, List, Option, Some, None, length, get_or}
+use Rattle.std.specs.Prelude.{ℕ, ◌+◌, ◌<◌, ◌≤◌, ◌≡◌, Bool, true, false, List, Option, Some, None, length, get_or}
 use Rattle.branch.specs.declared.Bound.{Bound}
 use Rattle.branch.specs.declared.Bound.TheVariants.{Missing, Sum}
 use Rattle.branch.specs.Search.{snoc}
 use Rattle.model.specs.Decisions.{concat}
-use Rattle.lane_rows.specs.Layout.{lane_count_lem, inf, fee_place}
+use Rattle.lane_rows.specs.Layout.{fee_place}
 use Rattle.lane_rows.specs.Tables.{sum_where}
 use Rattle.held_rows.specs.Held.{HeldSheet, held, held_bound}
 use Rattle.held_lanes.specs.Places.{top_place, removal_place}
@@ -19,17 +19,21 @@ use Rattle.hall_lines.specs.declared.Stop.{Stop}
 use Rattle.hall_lines.specs.declared.Decision.{Decision}
 use Rattle.hall_lines.specs.Levels.{sums_in, term_in, level_node, stop_node, LevelsKept}
 
--- what a line's part sums and term can add to an estimate fits beside it
-abbrev pub roomy : ℕ → Type 0
-roomy rest = rest + inf + lane_count_lem * inf + inf < 2 ^ 64
+-- a line's tables by the two arrays
+abbrev pub tables_by : List ℕ → List ℕ → LineTables
+tables_by t u = record { t = t; u = u }
+
+-- a line's numbers with these rows
+abbrev pub looks : LineRows → List ℕ → LineRows
+looks o w = record { w = w; v = o.v; n = o.n }
 
 -- ---- a line as a slot of the hall
 
--- at a level
+-- a line as a slot at a level
 abbrev pub open_slot : HeldSheet → List (List Bool) → LineTables → LineRows → ℕ → ℕ → Slot
 open_slot sheet ds tb o at paid = record { sheet = sheet; blocks = ds; t = tb.t; u = tb.u; w = o.w; v = o.v; node = level_node (held sheet) o.n at paid; sums = sums_in o.n at; term = term_in o.n at }
 
--- at a stop behind the level
+-- a line as a slot at a stop behind the level
 abbrev pub stop_slot : HeldSheet → List (List Bool) → LineTables → LineRows → ℕ → ℕ → Stop → Slot
 stop_slot sheet ds tb o at paid p = record { sheet = sheet; blocks = ds; t = tb.t; u = tb.u; w = o.w; v = o.v; node = stop_node o.n at paid p; sums = p.sums; term = p.term }
 
@@ -65,7 +69,7 @@ pub record Answers {A : Type 0} (total : A → ℕ) (limit due : ℕ) (e : Bound
 abbrev pub itself : ℕ → ℕ
 itself z = z
 
--- that of a removal decided
+-- the estimate of a removal decided
 abbrev pub total_of : Decision → ℕ
 total_of q = q.total
 
@@ -84,7 +88,7 @@ pub record NoFound (sheet : HeldSheet) (ds : List (List Bool)) (tb : LineTables)
 abbrev pub first_stop_lem : List ℕ → List Level → ℕ → Stop
 first_stop_lem u n at = record { next = 0; shut = 0; removed = 0; sums = sums_in n at; term = get_or u (top_place (at + 1)) 0 }
 
--- its fee and its term
+-- a stop's fee and its term
 abbrev pub stop_due : LineTables → ℕ → ℕ
 stop_due tb at = get_or tb.t (fee_place at) 0 + get_or tb.u (top_place (at + 1)) 0
 

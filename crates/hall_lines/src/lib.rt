@@ -1,10 +1,14 @@
 // A line of a hall at its own nodes. Beside the line's rows a table has for each number of openings decided, a level, the rows, part sums, term and stops there. A decision writes the next level and none before it.
 #![tactic(auto)]
 
-ghost use Rattle.std.specs.Prelude.{◌≡◌, List, Bool, ℕ, ◌+◌, ◌*◌, ◌<◌, ◌≤◌, ◌^◌};
+ghost use Rattle.std.specs.Prelude.{◌≡◌, List, Bool, ℕ, ◌+◌, ◌<◌, ◌≤◌};
+ghost use Rattle.branch.specs.declared.Bound.TheVariants.{Sum};
 ghost use Rattle.held_rows.specs.Held.{HeldSheet};
 ghost use Rattle.hall_lines.specs.declared.LineRows.{LineRows};
-ghost use Rattle.hall_lines.specs.Lines.{first_stop_lem, roomy, Opening, Removing, Decided, NoFound, StopFound, StayFound, OutFound, LineSettled};
+ghost use Rattle.hall_lines.specs.Room.{most_own};
+ghost use Rattle.hall_lines.specs.Lines.{tables_by, looks, first_stop_lem, Opening, Removing, Decided, Answers, itself, NoFound, StopFound, StayFound, OutFound, LineSettled};
+
+pub mod line_test;
 
 use branch::Bound;
 use held_lanes::{
@@ -12,10 +16,12 @@ use held_lanes::{
 };
 use held_nodes::{no_sums, stay_sums};
 use held_stops::settle_stop;
-use lane_rows::{FEES, STACK, TABLES, cell};
-use walk::Search;
+use lane_rows::{FEES, STACK, TABLES};
+use line_test::LineTest;
 
 // What is only read of a line: its tables, and those of its holders.
+// Kept as two arrays: each has a layout of its own, and what reads one alone is lent that one.
+// Kept apart from the line's rows and its level in each function below: the tables are read and the rows are written, and a struct of both would have to say of each call that the tables stay.
 pub struct LineTables {
     pub t: [u32; TABLES],
     pub u: [u32; HELD],
@@ -26,7 +32,7 @@ pub struct LineTables {
 pub struct Level {
     pub rows: usize,
     pub sums: u64,
-    pub term: usize,
+    pub term: u64,
     pub mask: u64,
 }
 
@@ -48,45 +54,54 @@ pub struct Stop {
     pub shut: usize,
     pub removed: usize,
     pub sums: u64,
-    pub term: usize,
+    pub term: u64,
 }
 
-// No stop at the line's next opening: the hall's estimate then, if it is walked on. `rest` is the estimate without the line's part sums and term.
-pub fn line_no(
-    tables: &LineTables,
-    own: &mut LineRows,
-    at: usize,
-    limit: u64,
-    rest: u64,
-    s: Search,
-) -> Option<u64>
-    requires { ((sheet : HeldSheet) × ((ds : List (List Bool)) × ((paid : ℕ) × Opening sheet ds tables.now own.old at paid))) × roomy rest }
+impl LineTest {
+    // The hall's estimate of a node below with these part sums, where so much else is due of the line, if it is walked on.
+    fn opened(self, due: u64, sums: u64) -> Option<u64>
+        requires { due + sums ≤ most_own }
+        ensures { Answers itself self.limit (self.rest + due) (Sum sums) self.s result }
+    {
+        let due = self.rest + due;
+        let Bound::Sum(_) = self.s.open(self.limit, due, Bound::Sum(sums)) else {
+            return None;
+        };
+        Some(due + sums)
+    }
+}
+
+// No stop at the line's next opening: the hall's estimate then, if it is walked on.
+// Kept beside line_stays: each has its own term and its own part sums, over other tables, and what they do with both is three lines.
+pub fn line_no(tables: &LineTables, own: &mut LineRows, at: usize, test: LineTest) -> Option<u64>
+    requires { (sheet : HeldSheet) × ((ds : List (List Bool)) × ((paid : ℕ) × Opening sheet ds tables.now own.old at paid)) }
     ensures { (sheet : HeldSheet) (ds : List (List Bool)) (paid : ℕ) → Opening sheet ds tables.now own.old at paid
-        → NoFound sheet ds tables.now own.old own.new at paid limit rest s result }
+        → NoFound sheet ds tables.now own.old own.new at paid test.limit test.rest test.s result }
 {
     let l = own.n[at];
     let h = opening_term(&tables.u, &own.v, at + 1, l.rows - 1);
     let Bound::Sum(y) = no_sums(
         &tables.t,
         &mut own.w,
-        limit,
-        rest,
+        test.limit,
+        test.rest,
         l.rows,
         at + 1,
         h,
         l.sums,
-        s,
+        test.s,
     ) else {
         return None;
     };
+    // Kept as a cast: the library has no From of usize.
+    let term = h as u64;
     own.n[at + 1] = Level {
         rows: l.rows,
         sums: y,
-        term: h,
+        term,
         mask: l.mask * 2,
     };
-    let total = rest + h as u64 + y;
-    Some(total)
+    Some(test.rest + term + y)
 }
 
 // A stop at the line's next opening, before any removal.
@@ -99,31 +114,21 @@ pub fn first_stop(tables: &LineTables, own: &LineRows, at: usize) -> Stop
         shut: 0,
         removed: 0,
         sums: own.n[at].sums,
-        term: number(&tables.u, TOPS + (at + 1)),
+        term: u64::from(tables.u[TOPS + (at + 1)]),
     }
 }
 
-// The same: what the hall's estimate is then, if it is walked on. Its row is noted as not ready.
-pub fn line_stop(
-    tables: &LineTables,
-    own: &mut LineRows,
-    at: usize,
-    limit: u64,
-    rest: u64,
-    s: Search,
-) -> Option<u64>
-    requires { ((sheet : HeldSheet) × ((ds : List (List Bool)) × ((paid : ℕ) × Opening sheet ds tables.now own.old at paid))) × roomy rest }
-    ensures { (sheet : HeldSheet) (ds : List (List Bool)) (paid : ℕ) → Opening sheet ds tables.now own.old at paid
-        → StopFound sheet ds tables.now own.old own.new at paid limit rest s result }
+// A stop at the line's next opening: the hall's estimate then, if it is walked on. Its row is noted as not ready; the rows themselves are not looked at.
+pub fn line_stop(tables: &LineTables, own: &mut LineRows, at: usize, test: LineTest) -> Option<u64>
+    requires { (w : List ℕ) × ((sheet : HeldSheet) × ((ds : List (List Bool)) × ((paid : ℕ) × Opening sheet ds tables.now (looks own.old w) at paid))) }
+    ensures found { (w : List ℕ) (sheet : HeldSheet) (ds : List (List Bool)) (paid : ℕ) → Opening sheet ds tables.now (looks own.old w) at paid
+        → StopFound sheet ds tables.now (looks own.old w) (looks own.new w) at paid test.limit test.rest test.s result }
+    ensures rows { own.new.w ≡ own.old.w }
 {
     let l = own.n[at];
-    let k = number(&tables.u, TOPS + (at + 1));
-    let due = rest + (cell(&tables.t, FEES, at) as u64 + k as u64);
-    let Bound::Sum(_) = s.open(limit, due, Bound::Sum(l.sums)) else {
-        return None;
-    };
+    let due = u64::from(tables.t[FEES + at]) + u64::from(tables.u[TOPS + (at + 1)]);
+    let total = test.opened(due, l.sums)?;
     own.v[READY + l.rows] = 0;
-    let total = due + l.sums;
     Some(total)
 }
 
@@ -139,64 +144,57 @@ pub fn line_stays(
     tables: &LineTables,
     own: &mut LineRows,
     at: usize,
-    limit: u64,
-    rest: u64,
     p: Stop,
-    s: Search,
+    test: LineTest,
 ) -> Option<Decision>
-    requires { ((sheet : HeldSheet) × ((ds : List (List Bool)) × ((paid : ℕ) × Removing sheet ds tables.now own.old at paid p))) × roomy rest }
+    requires { (sheet : HeldSheet) × ((ds : List (List Bool)) × ((paid : ℕ) × Removing sheet ds tables.now own.old at paid p)) }
     ensures { (sheet : HeldSheet) (ds : List (List Bool)) (paid : ℕ) → Removing sheet ds tables.now own.old at paid p
-        → StayFound sheet ds tables.now own.old own.new at paid p limit rest s result }
+        → StayFound sheet ds tables.now own.old own.new at paid p test.limit test.rest test.s result }
 {
     let l = own.n[at];
     let shut = p.shut | number(&tables.u, NEED_LANES + p.next);
-    let h = removal_term(&tables.u, &own.v, at + 1, l.rows - 1, p.next, p.term);
+    // Kept as casts, here and of h: the library has no From between u64 and usize.
+    let top = p.term as usize;
+    let h = removal_term(&tables.u, &own.v, at + 1, l.rows - 1, p.next, top);
     let Bound::Sum(sums) = stay_sums(
         &tables.t,
         &tables.u,
         &mut own.w,
-        limit,
-        rest,
+        test.limit,
+        test.rest,
         l.rows,
         at + 1,
         shut,
         h,
         p.sums,
-        s,
+        test.s,
     ) else {
         return None;
     };
-    let next = p.next + 1;
-    let removed = p.removed * 2;
-    let total = rest + h as u64 + sums;
+    let term = h as u64;
     let stop = Stop {
-        next,
+        next: p.next + 1,
         shut,
-        removed,
+        removed: p.removed * 2,
         sums,
-        term: h,
+        term,
     };
+    let total = test.rest + term + sums;
     Some(Decision { stop, total })
 }
 
 // The next holding part is removed.
-pub fn line_out(tables: &LineTables, limit: u64, rest: u64, p: Stop, s: Search) -> Option<Decision>
-    requires { ((sheet : HeldSheet) × ((ds : List (List Bool)) × ((o : LineRows) × ((at : ℕ) × ((paid : ℕ) × Removing sheet ds tables.now o at paid p))))) × roomy rest }
-    ensures { (sheet : HeldSheet) (ds : List (List Bool)) (o : LineRows) (at paid : ℕ) → Removing sheet ds tables.now o at paid p → OutFound sheet ds tables.now o at paid p limit rest s result }
+pub fn line_out(u: &[u32; HELD], p: Stop, test: LineTest) -> Option<Decision>
+    requires { (t : List ℕ) × ((sheet : HeldSheet) × ((ds : List (List Bool)) × ((o : LineRows) × ((at : ℕ) × ((paid : ℕ) × Removing sheet ds (tables_by t u.now) o at paid p))))) }
+    ensures { (t : List ℕ) (sheet : HeldSheet) (ds : List (List Bool)) (o : LineRows) (at paid : ℕ) → Removing sheet ds (tables_by t u.now) o at paid p
+        → OutFound sheet ds (tables_by t u.now) o at paid p test.limit test.rest test.s result }
 {
-    let due = rest + (number(&tables.u, REMOVALS + p.next) as u64 + p.term as u64);
-    let Bound::Sum(_) = s.open(limit, due, Bound::Sum(p.sums)) else {
-        return None;
-    };
-    let next = p.next + 1;
-    let removed = p.removed * 2 + 1;
-    let total = due + p.sums;
+    let due = u64::from(u[REMOVALS + p.next]) + p.term;
+    let total = test.opened(due, p.sums)?;
     let stop = Stop {
-        next,
-        shut: p.shut,
-        removed,
-        sums: p.sums,
-        term: p.term,
+        next: p.next + 1,
+        removed: p.removed * 2 + 1,
+        ..p
     };
     Some(Decision { stop, total })
 }

@@ -1,8 +1,8 @@
 -- What a line's functions find is a line's move of the hall: no stop and a stop, not removed and removed.
-use Prim.Native.Nat.{ℕ, suc, ◌+◌, ◌<◌, ◌≤◌}
+use Prim.Native.Nat.{ℕ, ◌+◌, ◌<◌, ◌≤◌}
 use mathlib.Core.Path.{◌≡◌, refl, sym, ap, subst, ◌∙◌}
 use mathlib.Core.Bool.{Bool, true, false}
-use mathlib.Core.List.{List, [], ◌∷◌}
+use mathlib.Core.List.{List}
 use Rattle.std.specs.Prelude.{Option, Some, None}
 use native.Mathlib.Omega.{arith}
 use lib.ListN.{length, get_or, set, length-set}
@@ -11,41 +11,38 @@ use Rattle.std.proofs.lemmas.Option.{none-some, same_Some}
 use Rattle.branch.specs.declared.Bound.{Bound}
 use Rattle.branch.specs.declared.Bound.TheVariants.{Missing, Sum}
 use Rattle.branch.specs.Search.{snoc}
-use Rattle.model.specs.Model.{Job}
 use Rattle.lane_rows.specs.Layout.{fee_place}
 use Rattle.lane_rows.specs.Tables.{sum_where}
 use Rattle.held_lanes.specs.Places.{removal_place}
 use Rattle.walk.specs.declared.Search.{Search}
 use Rattle.walk.specs.State.{open_s}
 use Rattle.hall.specs.Hall.{Hall}
-use Rattle.hall.specs.Agenda.{line, agenda_of, lines_from, lines_of}
+use Rattle.hall.specs.Agenda.{line, agenda_of, lines_of}
 use Rattle.hall.specs.Steps.{Asks, Stands}
 use Rattle.hall_nodes.specs.Lines.{Slot, Given, slot_bound, Goes, SlotKept, no_blocks_lem, yes_blocks}
 use Rattle.hall_nodes.proofs.Bounds.{lines_most}
+use Rattle.hall_nodes.proofs.Due.{lines_length}
 use Rattle.hall_lines.specs.declared.Level.{Level}
 use Rattle.hall_lines.specs.declared.LineRows.{LineRows}
 use Rattle.hall_lines.specs.declared.Stop.{Stop}
 use Rattle.hall_lines.specs.declared.Decision.{Decision}
 use Rattle.hall_lines.specs.Levels.{sums_in, term_in, LevelsKept}
-use Rattle.hall_lines.specs.Lines.{stop_slot, Opening, Removing, OwnDue, Answers, NoFound, StopFound, StayFound, OutFound, first_stop_lem, stop_due, roomy}
+use Rattle.hall_lines.specs.Room.{roomy}
+use Rattle.hall_lines.specs.Lines.{Opening, Removing, OwnDue, Answers, NoFound, StopFound, StayFound, OutFound, first_stop_lem, stop_due}
 use Rattle.hall_lines.proofs.Levels.{levels_none}
 use Rattle.hall_steps.specs.Steps.{level_in}
 use Rattle.hall_state.specs.declared.Ground.{Ground}
 use Rattle.hall_state.specs.declared.Question.TheVariants.{LineStop, PartRemoval}
 use Rattle.hall_state.specs.declared.Spot.{Spot}
-use Rattle.hall_state.specs.Courses.{Arrays, no_rows, tables_at, rows_at, Course, course_in, level_slot, slot_by, line_slot, slots_at, LineKept, BestSame, OthersSame}
+use Rattle.hall_state.specs.Courses.{Arrays, no_rows, tables_at, rows_at, Course, course_in, level_slot, stopped_slot, slot_by, line_slot, slots_at, LineKept, BestSame, OthersSame}
 use Rattle.hall_state.specs.Spots.{line_spot, stop_spot, left_below, OnCourse}
 use Rattle.hall_state.specs.Moves.{Below}
 use Rattle.hall_state.proofs.Courses.{self_kept, slot_in, others_own, line_given, job_here}
-use Rattle.hall_state.proofs.Left.{topic_at, raised, raised_asks, raised_no, raised_yes, inner_at_lem}
+use Rattle.hall_state.proofs.Left.{topic_at, raised, raised_asks, raised_no, raised_yes}
+use Rattle.hall_state.proofs.Stops.{stop_less, stop_four, on_stop, is_stop, stop_given, stop_holds}
 use Rattle.hall_state.proofs.Moves.{GoesOn, LineMoved, asked_near, line_below}
-use Rattle.hall_state.proofs.Spots.{here_level, here_open, next_level, on_past, no_follows, yes_follows, stop_on, stop_stopped, removal_follows}
+use Rattle.hall_state.proofs.Spots.{here_level, here_open, next_level, on_past, no_follows, yes_follows, stop_on, removal_follows}
 use Rattle.hall_moves.specs.Asks.{Asking}
-
-lines_size : (d : ℕ) (jobs : List Job) → length (lines_from d jobs) ≡ length jobs
-unfolding lines_from
-lines_size d [] = refl
-lines_size d (job ∷ jobs) = ap suc (lines_size (suc d) jobs)
 
 -- ---- one line's rows written
 
@@ -100,7 +97,7 @@ module _ {hall : Hall} {g : Ground} {a : Arrays} {p : Spot} {name : List Bool} {
   pub room : (rest : ℕ) → rest ≤ p.total → roomy rest
   room rest l =
       let at = k.stood.at in
-      omega (arith, l, k.stood.total, at.poor, asked_near hall g.ats p k.crewed k.stood.formed, lines_most hall name (lines_of hall) (slots_at g a 0 cs) at.lines, lines_size 0 hall.jobs, k.crewed.fits.few)
+      omega (arith, l, k.stood.total, at.poor, asked_near hall g.ats p k.crewed k.stood.formed, lines_most hall name (lines_of hall) (slots_at g a 0 cs) at.lines, lines_length 0 hall.jobs, k.crewed.fits.few)
 
   -- the question, and what is left after each answer
   asks_line_lem : topic_at hall p.step p.line p.asks ≡ line d → Asks (agenda_of hall) name (line d)
@@ -131,7 +128,7 @@ module _ {hall : Hall} {g : Ground} {a : Arrays} {p : Spot} {name : List Bool} {
     is_level : (b : Arrays) → line_slot g b d c ≡ level_slot g b d c
     is_level b = ap (λ (t : Option Stop). slot_by t g b d c) (here_open k.crewed k.stood.formed k.asked e on)
 
-    module _ {at : ℕ} (is : at ≡ level_in g.ats p.step d) where
+    module _ {at : ℕ} (is : at ≡ level_in g.ats.before p.step d) where
       same_level : c.at ≡ at
       same_level = here_level on ∙ sym is
 
@@ -222,53 +219,31 @@ module _ {hall : Hall} {g : Ground} {a : Arrays} {p : Spot} {name : List Bool} {
   -- ---- at a removal
 
   module _ {stop : Stop} (e : p.asks ≡ PartRemoval stop) where
-    -- the line at hand of a removal has a course
-    pub stop_less : d < length cs
-    stop_less = omega (arith, (k.stood.formed.removal stop e).1, k.stood.count)
+    less : d < length cs
+    less = stop_less k.crewed k.stood e
 
-    -- the line at hand of a removal is one of four
-    pub stop_four : d < 4
-    stop_four = omega (arith, (k.stood.formed.removal stop e).1, k.crewed.fits.few)
+    on_here : OnCourse g.ats p d c
+    on_here = on_stop k.crewed k.stood e
 
-    -- a removal is asked at one of the first 64 steps
-    pub stop_step : p.step < 64
-    stop_step = omega (arith, (k.stood.formed.removal stop e).0, k.crewed.table.few)
+    is_here : (b : Arrays) → line_slot g b d c ≡ stopped_slot g b d c stop
+    is_here = is_stop k.crewed k.stood e
 
-    on_stop : OnCourse g.ats p d c
-    on_stop = k.stood.courses d stop_less
-
-    -- the line's slot at its stop
-    abbrev stop_here : Arrays → Slot
-    stop_here b = stop_slot c.sheet c.blocks (tables_at g d) (rows_at b d) c.at c.paid stop
-
-    is_stop : (b : Arrays) → line_slot g b d c ≡ stop_here b
-    is_stop b = ap (λ (t : Option Stop). slot_by t g b d c) (stop_stopped k.stood.formed e on_stop)
-
-    -- a removal is open
-    stop_removing : Removing c.sheet c.blocks (tables_at g d) (rows_at a d) c.at c.paid stop
-    stop_removing =
-        let j = job_here hall name g a cs d stop_less k.stood.at.lines in
-        record {
-          given = subst Given (is_stop a) (line_given hall name g a cs d stop_less k.stood.at.lines);
-          left = omega (arith, k.asked.removal stop e, j.holders, inner_at_lem hall.jobs d j.job j.placed);
-        }
+    -- where a removal is asked one is open, at the line's own level
+    pub removing_here : Removing c.sheet c.blocks (tables_at g d) (rows_at a d) c.at c.paid stop
+    removing_here = record { given = stop_given k.crewed k.stood e; left = omega (arith, k.asked.removal stop e, stop_holds k.crewed k.stood e) }
 
     few : stop.next < 16
-    few = omega (arith, stop_removing.left, stop_removing.given.holders.parts)
+    few = omega (arith, removing_here.left, removing_here.given.holders.parts)
 
     -- the part sums and the term of the stop at hand are within the hall's estimate
     pub stop_most : stop.sums + stop.term ≤ p.total
     stop_most =
-        let z = ap slot_bound (is_stop a) in
-        omega (arith, z, k.stood.total, others_own d (slots_at g a 0 cs) (line_slot g a d c) (slot_in g a d cs stop_less))
+        let z = ap slot_bound (is_here a) in
+        omega (arith, z, k.stood.total, others_own d (slots_at g a 0 cs) (line_slot g a d c) (slot_in g a d cs less))
 
-    -- the same, whatever its level is called
-    pub removing_at : {at : ℕ} → at ≡ level_in g.ats p.step d → Removing c.sheet c.blocks (tables_at g d) (rows_at a d) at c.paid stop
-    removing_at {at} is = subst (λ (x : ℕ). Removing c.sheet c.blocks (tables_at g d) (rows_at a d) x c.paid stop) (here_level on_stop ∙ sym is) stop_removing
-
-    -- at the line's own level
-    pub removing_here : Removing c.sheet c.blocks (tables_at g d) (rows_at a d) c.at c.paid stop
-    removing_here = stop_removing
+    -- where a removal is asked one is open, at the level that is read
+    pub removing_at : {at : ℕ} → at ≡ level_in g.ats.before p.step d → Removing c.sheet c.blocks (tables_at g d) (rows_at a d) at c.paid stop
+    removing_at {at} is = subst (λ (x : ℕ). Removing c.sheet c.blocks (tables_at g d) (rows_at a d) x c.paid stop) (here_level on_here ∙ sym is) removing_here
 
     -- a part more is decided: the line's course then
     abbrev decided : List (List Bool) → ℕ → Decision → Course
@@ -276,47 +251,47 @@ module _ {hall : Hall} {g : Ground} {a : Arrays} {p : Spot} {name : List Bool} {
 
     module _ (limit rest : ℕ) (s : Search) (rest-is : rest + (stop.sums + stop.term) ≡ p.total) where
       stop_rest : rest + slot_bound (line_slot g a d c) ≡ p.total + c.paid
-      stop_rest = let z = ap slot_bound (is_stop a) in omega (arith, rest-is, z)
+      stop_rest = let z = ap slot_bound (is_here a) in omega (arith, rest-is, z)
 
       -- where a part is not removed, what the line finds is the hall's node below, tested
-      pub stays_below : length a ≡ 4 → {at : ℕ} → at ≡ level_in g.ats p.step d → {o₁ : LineRows} {r : Option Decision} → StayFound c.sheet c.blocks (tables_at g d) (rows_at a d) o₁ at c.paid stop limit rest s r
+      pub stays_below : length a ≡ 4 → {at : ℕ} → at ≡ level_in g.ats.before p.step d → {o₁ : LineRows} {r : Option Decision} → StayFound c.sheet c.blocks (tables_at g d) (rows_at a d) o₁ at c.paid stop limit rest s r
           → Below hall false g a (set a d o₁) p (spots (λ (q : Decision). stop_spot p q.stop q.total) r) name cs limit s
       stays_below size {at} is {o₁} {r} found₀ =
           let a₃ : Arrays = set a d o₁ in
-          let found : StayFound c.sheet c.blocks (tables_at g d) (rows_at a d) (rows_at a₃ d) c.at c.paid stop limit rest s r = subst (λ (o : LineRows). StayFound c.sheet c.blocks (tables_at g d) (rows_at a d) o c.at c.paid stop limit rest s r) (sym (at_same a d o₁ size stop_four))
-          (subst (λ (x : ℕ). StayFound c.sheet c.blocks (tables_at g d) (rows_at a d) o₁ x c.paid stop limit rest s r) (is ∙ sym (here_level on_stop)) found₀) in
-          line_below k.crewed k.stood (asks_line_lem (ap (topic_at hall p.step p.line) e)) stop_less
+          let found : StayFound c.sheet c.blocks (tables_at g d) (rows_at a d) (rows_at a₃ d) c.at c.paid stop limit rest s r = subst (λ (o : LineRows). StayFound c.sheet c.blocks (tables_at g d) (rows_at a d) o c.at c.paid stop limit rest s r) (sym (at_same a d o₁ size (stop_four k.crewed k.stood e)))
+          (subst (λ (x : ℕ). StayFound c.sheet c.blocks (tables_at g d) (rows_at a d) o₁ x c.paid stop limit rest s r) (is ∙ sym (here_level on_here)) found₀) in
+          line_below k.crewed k.stood (asks_line_lem (ap (topic_at hall p.step p.line) e)) less
           (line_moved {e = sum_where found.h found.y} found.h rest (λ (q : Decision). stop_spot p q.stop q.total) found.answers
           (λ q f.
           let m = found.goes q f in (
             refl,
             record {
               course = decided m.1.0 c.paid q;
-              goes = subst (λ (x : Slot). Goes false x (line_slot g a₃ d (decided m.1.0 c.paid q))) (sym (is_stop a₃)) m.1.1;
+              goes = subst (λ (x : Slot). Goes false x (line_slot g a₃ d (decided m.1.0 c.paid q))) (sym (is_here a₃)) m.1.1;
               sheet = refl;
               later = omega arith;
-              on = stop_on q.stop q.total on_stop (decided m.1.0 c.paid q) refl refl;
+              on = stop_on q.stop q.total on_here (decided m.1.0 c.paid q) refl refl;
               follows = removal_follows k.stood.formed e false q.stop q.total m.0 few;
             },
           )) (others_set a d o₁)
-          (record { slot = subst (λ (x : Slot). SlotKept x (line_slot g a₃ d c)) (sym (is_stop a)) (subst (SlotKept (stop_here a)) (sym (is_stop a₃)) found.kept); levels = subst (λ (n : List Level). LevelsKept (rows_at a d).n n (c.at + 1)) (sym found.levels) (levels_none (rows_at a d).n (c.at + 1)) })
+          (record { slot = subst (λ (x : Slot). SlotKept x (line_slot g a₃ d c)) (sym (is_here a)) (subst (SlotKept (stopped_slot g a d c stop)) (sym (is_here a₃)) found.kept); levels = subst (λ (n : List Level). LevelsKept (rows_at a d).n n (c.at + 1)) (sym found.levels) (levels_none (rows_at a d).n (c.at + 1)) })
           (subst (λ (v : List ℕ). BestSame (rows_at a d).v v c.sheet) (sym found.aside) (λ i l. refl)) found.due stop_rest) (stands_after false)
 
       -- where a part is removed, what the line finds is the hall's node below, tested, with nothing written
       pub out_below : {r : Option Decision} → OutFound c.sheet c.blocks (tables_at g d) (rows_at a d) c.at c.paid stop limit rest s r → Below hall true g a a p (spots (λ (q : Decision). stop_spot p q.stop q.total) r) name cs limit s
       out_below {r} found =
           let paid = c.paid + get_or (tables_at g d).u (removal_place stop.next) 0 in
-          line_below k.crewed k.stood (asks_line_lem (ap (topic_at hall p.step p.line) e)) stop_less
+          line_below k.crewed k.stood (asks_line_lem (ap (topic_at hall p.step p.line) e)) less
           (line_moved (get_or (tables_at g d).u (removal_place stop.next) 0 + stop.term) rest (λ (q : Decision). stop_spot p q.stop q.total) found.answers
           (λ q f.
           let m = found.goes q f in (
             refl,
             record {
               course = decided m.1.0 paid q;
-              goes = subst (λ (x : Slot). Goes true x (line_slot g a d (decided m.1.0 paid q))) (sym (is_stop a)) m.1.1;
+              goes = subst (λ (x : Slot). Goes true x (line_slot g a d (decided m.1.0 paid q))) (sym (is_here a)) m.1.1;
               sheet = refl;
               later = omega arith;
-              on = stop_on q.stop q.total on_stop (decided m.1.0 paid q) refl refl;
+              on = stop_on q.stop q.total on_here (decided m.1.0 paid q) refl refl;
               follows = removal_follows k.stood.formed e true q.stop q.total m.0 few;
             },
-          )) (record { size = refl; same = λ i n. refl }) (self_kept g a d c (line_given hall name g a cs d stop_less k.stood.at.lines)) (λ i l. refl) found.due stop_rest) (stands_after true)
+          )) (record { size = refl; same = λ i n. refl }) (self_kept g a d c (line_given hall name g a cs d less k.stood.at.lines)) (λ i l. refl) found.due stop_rest) (stands_after true)

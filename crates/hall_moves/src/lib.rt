@@ -1,17 +1,15 @@
 // The moves of the hall's walk at a line: the nodes below its question, and below a removal at its stop.
 #![tactic(auto)]
 
-ghost use Rattle.std.specs.Prelude.{◌≡◌, List, Bool, ℕ, ◌+◌, ◌<◌, ◌≤◌, ◌^◌};
-ghost use Rattle.hall.specs.Hall.{Hall};
+ghost use Rattle.std.specs.Prelude.{◌≡◌, ◌+◌, ◌<◌, ◌≤◌, ◌^◌};
 ghost use Rattle.hall_lines.specs.Levels.{sums_in, term_in};
-ghost use Rattle.hall_state.specs.Courses.{Course};
 ghost use Rattle.hall_state.specs.Moves.{Below};
-ghost use Rattle.hall_moves.specs.Asks.{Asking};
+ghost use Rattle.hall_moves.specs.Asks.{AskedAt};
 
+use hall_lines::line_test::LineTest;
 use hall_lines::{LineRows, Stop, first_stop, line_no, line_out, line_stays, line_stop};
-use hall_state::{Ground, Question, Spot};
+use hall_state::{Branch, Ground, Question, Spot};
 use hall_steps::openings_before;
-use walk::Search;
 
 // A line's part sums and term at a level.
 pub fn own_sums(own: &LineRows, at: usize) -> u64
@@ -19,31 +17,28 @@ pub fn own_sums(own: &LineRows, at: usize) -> u64
     ensures { result ≡ sums_in own.now.n at + term_in own.now.n at }
 {
     let l = own.n[at];
-    l.sums + l.term as u64
+    l.sums + l.term
 }
 
 // The line at hand does not stop, or it does.
-pub fn line_below(
-    ground: &Ground,
-    rows: &mut [LineRows; 4],
-    yes: bool,
-    limit: u64,
-    p: Spot,
-    s: Search,
-) -> Option<Spot>
-    requires { ((hall : Hall) × ((name : List Bool) × ((calls : ℕ) × ((cs : List Course) × Asking hall ground.now rows.old p name calls cs)))) × (p.asks ≡ Question.LineStop) }
-    ensures { (hall : Hall) (name : List Bool) (calls : ℕ) (cs : List Course) → Asking hall ground.now rows.old p name calls cs
-        → Below hall yes ground.now rows.old rows.new p result name cs limit s }
+pub fn line_below(ground: &Ground, rows: &mut [LineRows; 4], b: Branch) -> Option<Spot>
+    requires { AskedAt Question.LineStop ground.now rows.old b.p }
+    ensures { (k : AskedAt Question.LineStop ground.now rows.old b.p) → Below k.hall b.yes ground.now rows.old rows.new b.p result k.name k.cs b.limit b.s }
 {
+    let p = b.p;
     let d = p.line;
-    let at = openings_before(&ground.ats, p.step, d);
-    let rest = p.total - own_sums(&rows[d], at);
-    if yes {
-        let total = line_stop(&ground.lines[d], &mut rows[d], at, limit, rest, s)?;
+    let at = openings_before(&ground.ats.before, p.step, d);
+    let test = LineTest {
+        limit: b.limit,
+        rest: p.total - own_sums(&rows[d], at),
+        s: b.s,
+    };
+    if b.yes {
+        let total = line_stop(&ground.lines[d], &mut rows[d], at, test)?;
         let stop = first_stop(&ground.lines[d], &rows[d], at);
         return Some(p.stopping(stop, total));
     }
-    let total = line_no(&ground.lines[d], &mut rows[d], at, limit, rest, s)?;
+    let total = line_no(&ground.lines[d], &mut rows[d], at, test)?;
     Some(p.lines_from(d + 1, total))
 }
 
@@ -51,24 +46,25 @@ pub fn line_below(
 pub fn removal_below(
     ground: &Ground,
     rows: &mut [LineRows; 4],
-    yes: bool,
-    limit: u64,
-    p: Spot,
     stop: Stop,
-    s: Search,
+    b: Branch,
 ) -> Option<Spot>
-    requires { ((hall : Hall) × ((name : List Bool) × ((calls : ℕ) × ((cs : List Course) × Asking hall ground.now rows.old p name calls cs)))) × (p.asks ≡ Question.PartRemoval stop) }
-    ensures { (hall : Hall) (name : List Bool) (calls : ℕ) (cs : List Course) → Asking hall ground.now rows.old p name calls cs
-        → Below hall yes ground.now rows.old rows.new p result name cs limit s }
+    requires { AskedAt (Question.PartRemoval stop) ground.now rows.old b.p }
+    ensures { (k : AskedAt (Question.PartRemoval stop) ground.now rows.old b.p) → Below k.hall b.yes ground.now rows.old rows.new b.p result k.name k.cs b.limit b.s }
 {
+    let p = b.p;
     let d = p.line;
-    let own = stop.sums + stop.term as u64;
-    let rest = p.total - own;
-    if yes {
-        let r = line_out(&ground.lines[d], limit, rest, stop, s)?;
+    let own = stop.sums + stop.term;
+    let test = LineTest {
+        limit: b.limit,
+        rest: p.total - own,
+        s: b.s,
+    };
+    if b.yes {
+        let r = line_out(&ground.lines[d].u, stop, test)?;
         return Some(p.stopping(r.stop, r.total));
     }
-    let at = openings_before(&ground.ats, p.step, d);
-    let r = line_stays(&ground.lines[d], &mut rows[d], at, limit, rest, stop, s)?;
+    let at = openings_before(&ground.ats.before, p.step, d);
+    let r = line_stays(&ground.lines[d], &mut rows[d], at, stop, test)?;
     Some(p.stopping(r.stop, r.total))
 }

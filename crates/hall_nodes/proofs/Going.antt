@@ -47,7 +47,7 @@ module _ (s : Slot) (a : Given s) (o : s.node.owed ≡ false) (less : s.node.at 
     back = λ w v _ q. absurd (false≢true (sym o ∙ q));
   }
 
-  -- its next row noted as not ready
+  -- a line at an opening is kept where its next row is noted as not ready
   pub fresh_kept : SlotKept s (with_rows s s.w (set s.v (ready_place s.node.rows) 0))
   fresh_kept =
       let wr = (a.opening o).all in
@@ -126,7 +126,7 @@ looked_kept s a w k = record {
   pending = λ o r. pended_kept s.t s.w w s.v s.v (s.node.at - 1) s.node.rows a.tables.narrow k.kept (λ q l. refl) (a.pending o r);
 }
 
--- once and again
+-- a slot kept first, and then again, is kept throughout
 pub kept_then : (s s' s'' : Slot) → SlotKept s s' → SlotKept s' s'' → SlotKept s (with_rows s s''.w s''.v)
 kept_then s s' s'' k l =
     let m = subst (λ (x : Slot). Frame x.t x.w s''.w x.v s''.v x.node.rows (written x.node)) k.same l.frame in

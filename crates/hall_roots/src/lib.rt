@@ -27,7 +27,7 @@ pub fn begin_line(tables: &LineTables, own: &mut LineRows) -> Bound
     own.n[0] = Level {
         rows: 1,
         sums: x,
-        term: g as usize,
+        term: g,
         mask: 0,
     };
     let floor = g + x;

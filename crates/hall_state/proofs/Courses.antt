@@ -5,6 +5,7 @@ use mathlib.Core.Bool.{Bool}
 use mathlib.Core.List.{List, [], ◌∷◌, map}
 use Rattle.std.specs.Prelude.{Option, Some, None}
 use native.Mathlib.Omega.{arith}
+use native.Mathlib.Decide.{ℕ_discrete}
 use lib.ListN.{length, set, length-map}
 use Rattle.model.specs.Model.{Job, Each, holding, removal_of_lem}
 use Rattle.model.specs.LowerBound.{inner}
@@ -26,10 +27,22 @@ use Rattle.hall_state.specs.declared.Ground.{Ground}
 use Rattle.hall_state.specs.Courses.{Arrays, tables_at, rows_at, Course, course_in, level_slot, stopped_slot, slot_by, line_slot, slots_at, LineKept, Kept, BestSame}
 use Rattle.hall_state.specs.Moves.{SameCourses}
 
+-- what holds of d and of each other number holds of each
+pub at_each : {P : ℕ → Type 0} (d : ℕ) → P d → ((e : ℕ) → (e ≡ d → ⊥) → P e) → (e : ℕ) → P e
+at_each {P} d here other e = go (ℕ_discrete e d)
+  where
+    go : Dec (e ≡ d) → P e
+    go (yes z) = subst P (sym z) here
+    go (no z) = other e z
+
+-- where nothing is written and no course moves, the sheets and the incumbent's removals stay
+pub same_self : (a : Arrays) (cs : List Course) → SameCourses a a cs cs
+same_self a cs = record { size = refl; sheet = λ e l. refl; best = λ e l i h. refl }
+
 -- ---- one line
 
 module _ (g : Ground) where
-  -- where its levels are kept it has the same slot with other rows
+  -- a line whose levels are kept has its slot with other rows
   pub moved : (a a' : Arrays) (d : ℕ) (c : Course) → LevelsKept (rows_at a d).n (rows_at a' d).n (c.at + 1) → line_slot g a' d c ≡ with_rows (line_slot g a d c) (rows_at a' d).w (rows_at a' d).v
   moved a a' d c k = go c.stop
     where
@@ -69,7 +82,7 @@ module _ (g : Ground) where
       go None = refl
       go (Some p) = refl
 
-  -- nothing is touched of it
+  -- a line whose rows are as before has the slot that it had
   pub line_same : (a a' : Arrays) (d : ℕ) (c : Course) → rows_at a' d ≡ rows_at a d → line_slot g a' d c ≡ line_slot g a d c
   line_same a a' d c e = go c.stop
     where
@@ -77,7 +90,7 @@ module _ (g : Ground) where
       go None = ap (λ (o : LineRows). open_slot c.sheet c.blocks (tables_at g d) o c.at c.paid) e
       go (Some p) = ap (λ (o : LineRows). stop_slot c.sheet c.blocks (tables_at g d) o c.at c.paid p) e
 
-  -- once and again
+  -- a slot kept from a first to a second, and from that to a third, is kept throughout
   pub slot_then : (s s' s'' : Slot) → SlotKept s s' → SlotKept s' s'' → SlotKept s s''
   slot_then s s' s'' k l = subst (SlotKept s) (sym (l.same ∙ ap (λ (x : Slot). with_rows x s''.w s''.v) k.same)) (kept_then s s' s'' k l)
 
@@ -120,38 +133,34 @@ pub all_then : (g : Ground) (a a' a'' : Arrays) (cs : List Course) → Kept g a 
 all_then g a a' a'' cs k l = record { size = l.size ∙ k.size; each = λ e h. line_then g a a' a'' e (course_in cs e) (k.each e h) (l.each e h) }
 
 module _ (g : Ground) where
-  -- as the nodes' laws have it
-  pub each_kept_lem : (a a' : Arrays) (d : ℕ) (cs : List Course) → ((e : ℕ) → e < length cs → SlotKept (line_slot g a (d + e) (course_in cs e)) (line_slot g a' (d + e) (course_in cs e))) → Each SlotKept (slots_at g a d cs) (slots_at g a' d cs)
-  each_kept_lem a a' d [] k = tt
-  each_kept_lem a a' d (c ∷ cs) k =
+  each_from : (R : Slot → Slot → Type 0) (a a' : Arrays) (d : ℕ) (cs cs' : List Course) → length cs' ≡ length cs → ((e : ℕ) → e < length cs → R (line_slot g a (d + e) (course_in cs e)) (line_slot g a' (d + e) (course_in cs' e))) → Each R (slots_at g a d cs) (slots_at g a' d cs')
+  each_from R a a' d [] [] n k = tt
+  each_from R a a' d [] (c' ∷ cs') n k = absurd (omega (arith, n))
+  each_from R a a' d (c ∷ cs) [] n k = absurd (omega (arith, n))
+  each_from R a a' d (c ∷ cs) (c' ∷ cs') n k =
       let z : d + 0 ≡ d = omega arith in (
-        subst (λ (j : ℕ). SlotKept (line_slot g a j c) (line_slot g a' j c)) z (k 0 (omega arith)),
-        each_kept_lem a a' (suc d) cs (λ e h. let y : d + suc e ≡ suc d + e = omega arith in subst (λ (j : ℕ). SlotKept (line_slot g a j (course_in cs e)) (line_slot g a' j (course_in cs e))) y (k (suc e) (omega (arith, h)))),
+        subst (λ (j : ℕ). R (line_slot g a j c) (line_slot g a' j c')) z (k 0 (omega arith)),
+        each_from R a a' (suc d) cs cs' (omega (arith, n)) (λ e h. let y : d + suc e ≡ suc d + e = omega arith in subst (λ (j : ℕ). R (line_slot g a j (course_in cs e)) (line_slot g a' j (course_in cs' e))) y (k (suc e) (omega (arith, h)))),
       )
+
+  -- what each line's slots over two arrays have to each other, all lines' slots have line by line
+  pub each_slots : (R : Slot → Slot → Type 0) (a a' : Arrays) (cs cs' : List Course) → length cs' ≡ length cs → ((e : ℕ) → e < length cs → R (line_slot g a e (course_in cs e)) (line_slot g a' e (course_in cs' e))) → Each R (slots_at g a 0 cs) (slots_at g a' 0 cs')
+  each_slots R a a' cs cs' n k = each_from R a a' 0 cs cs' n (λ e h. let z : e ≡ 0 + e = omega arith in subst (λ (j : ℕ). R (line_slot g a j (course_in cs e)) (line_slot g a' j (course_in cs' e))) z (k e h))
 
   -- where all lines are kept, each line's slot over the old arrays is kept over the new ones
   pub all_kept_lem : (a a' : Arrays) (cs : List Course) → Kept g a a' cs → Each SlotKept (slots_at g a 0 cs) (slots_at g a' 0 cs)
-  all_kept_lem a a' cs k = each_kept_lem a a' 0 cs (λ e h. let z : e ≡ 0 + e = omega arith in subst (λ (j : ℕ). SlotKept (line_slot g a j (course_in cs e)) (line_slot g a' j (course_in cs e))) z (k.each e h).slot)
-
-  best_each : (a a' : Arrays) (d : ℕ) (cs cs' : List Course) → length cs' ≡ length cs → ((e : ℕ) → e < length cs → (course_in cs' e).sheet ≡ (course_in cs e).sheet)
-      → ((e : ℕ) → e < length cs → BestSame (rows_at a (d + e)).v (rows_at a' (d + e)).v (course_in cs e).sheet) → Each SameBest (slots_at g a d cs) (slots_at g a' d cs')
-  best_each a a' d [] [] n f k = tt
-  best_each a a' d [] (c' ∷ cs') n f k = absurd (omega (arith, n))
-  best_each a a' d (c ∷ cs) [] n f k = absurd (omega (arith, n))
-  best_each a a' d (c ∷ cs) (c' ∷ cs') n f k =
-      let z : d + 0 ≡ d = omega arith in
-      let b = subst (λ (j : ℕ). BestSame (rows_at a j).v (rows_at a' j).v c.sheet) z (k 0 (omega arith)) in (
-        record {
-          sheet = slot_sheet g a' d c' ∙ f 0 (omega arith) ∙ sym (slot_sheet g a d c);
-          best = subst (λ (v' : List ℕ). BestSame (line_slot g a d c).v v' (line_slot g a d c).sheet) (sym (slot_aside g a' d c'))
-              (subst (λ (v : List ℕ). BestSame v (rows_at a' d).v (line_slot g a d c).sheet) (sym (slot_aside g a d c)) (subst (BestSame (rows_at a d).v (rows_at a' d).v) (sym (slot_sheet g a d c)) b));
-        },
-        best_each a a' (suc d) cs cs' (omega (arith, n)) (λ e h. f (suc e) (omega (arith, h))) (λ e h. let y : d + suc e ≡ suc d + e = omega arith in subst (λ (j : ℕ). BestSame (rows_at a j).v (rows_at a' j).v (course_in cs e).sheet) y (k (suc e) (omega (arith, h)))),
-      )
+  all_kept_lem a a' cs k = each_slots SlotKept a a' cs cs refl (λ e h. (k.each e h).slot)
 
   -- where the sheets and the incumbent's removals stay, each line's slots over both arrays share them
   pub same_best : (a a' : Arrays) (cs cs' : List Course) → SameCourses a a' cs cs' → Each SameBest (slots_at g a 0 cs) (slots_at g a' 0 cs')
-  same_best a a' cs cs' k = best_each a a' 0 cs cs' k.size k.sheet (λ e h. let z : e ≡ 0 + e = omega arith in subst (λ (j : ℕ). BestSame (rows_at a j).v (rows_at a' j).v (course_in cs e).sheet) z (k.best e h))
+  same_best a a' cs cs' k = each_slots SameBest a a' cs cs' k.size (λ e h.
+      let c = course_in cs e in
+      let c' = course_in cs' e in
+      record {
+        sheet = slot_sheet g a' e c' ∙ k.sheet e h ∙ sym (slot_sheet g a e c);
+        best = subst (λ (v' : List ℕ). BestSame (line_slot g a e c).v v' (line_slot g a e c).sheet) (sym (slot_aside g a' e c'))
+            (subst (λ (v : List ℕ). BestSame v (rows_at a' e).v (line_slot g a e c).sheet) (sym (slot_aside g a e c)) (subst (BestSame (rows_at a e).v (rows_at a' e).v) (sym (slot_sheet g a e c)) (k.best e h)));
+      })
 
   -- ---- one line among them
 
@@ -190,12 +199,16 @@ others_goes (suc i) x (s ∷ ss) (s₀ ∷ ss') s' k h = let z = ap slot_bound k
 pub bound_kept : (s s' : Slot) → SlotKept s s' → slot_bound s' ≡ slot_bound s
 bound_kept s s' k = ap slot_bound k.same
 
+-- slots of which each has the estimate of another have the sum of the others
+pub sum_by : {R : Slot → Slot → Type 0} → ((s s' : Slot) → R s s' → slot_bound s' ≡ slot_bound s) → (ss ss' : List Slot) → Each R ss ss' → lines_sum ss' ≡ lines_sum ss
+sum_by f [] [] k = refl
+sum_by f [] (s' ∷ ss') k = absurd k
+sum_by f (s ∷ ss) [] k = absurd k
+sum_by f (s ∷ ss) (s' ∷ ss') k = omega (arith, f s s' k.0, sum_by f ss ss' k.1)
+
 -- slots that are each kept have the same sum of estimates
 pub sum_kept : (ss ss' : List Slot) → Each SlotKept ss ss' → lines_sum ss' ≡ lines_sum ss
-sum_kept [] [] k = refl
-sum_kept [] (s' ∷ ss') k = absurd k
-sum_kept (s ∷ ss) [] k = absurd k
-sum_kept (s ∷ ss) (s' ∷ ss') k = omega (arith, bound_kept s s' k.0, sum_kept ss ss' k.1)
+sum_kept = sum_by bound_kept
 
 -- the line at place i, of the hall's
 pub record LineHere (hall : Hall) (jobs : List Job) (p : List Bool) (d i : ℕ) (s : Slot) : Type 0 where
@@ -223,7 +236,7 @@ line_here hall p g a d (suc i) (job ∷ jobs) (c ∷ cs) h e =
 pub line_given : (hall : Hall) (p : List Bool) (g : Ground) (a : Arrays) (cs : List Course) (e : ℕ) → e < length cs → Each (SlotOf hall p) (lines_from 0 hall.jobs) (slots_at g a 0 cs) → Given (line_slot g a e (course_in cs e))
 line_given hall p g a cs e l h = let z : 0 + e ≡ e = omega arith in subst (λ (j : ℕ). Given (line_slot g a j (course_in cs e))) z (line_here hall p g a 0 e hall.jobs cs l h).slot_of.given
 
--- its job: as many holding parts and openings as its sheet has
+-- a line's job: as many holding parts and openings as its sheet has
 pub record JobHere (hall : Hall) (d : ℕ) (sheet : HeldSheet) : Type 0 where
   -- the job at place d of the hall
   pub job : Job

@@ -4,7 +4,8 @@ use mathlib.Core.Path.{◌≡◌, refl, sym, ap, subst, ◌∙◌}
 use mathlib.Core.Bool.{Bool, true, false}
 use mathlib.Core.List.{List, [], ◌∷◌}
 use native.Mathlib.Omega.{arith}
-use lib.ListN.{length, get_or, drop}
+use lib.ListN.{length, drop}
+use Rattle.std.proofs.lemmas.List.{drop_more, drop_all}
 use Rattle.branch.specs.declared.Bound.{Bound}
 use Rattle.branch.specs.Search.{snoc, Limited, limited, onward}
 use Rattle.model.specs.Model.{Job}
@@ -84,20 +85,6 @@ raised_both {l} {none} {some} {t} r bound L p st =
 
 -- ---- at a spot
 
-drop_next : (xs : List ℕ) (k : ℕ) → k < length xs → drop k xs ≡ get_or xs k 0 ∷ drop (suc k) xs
-drop_next [] k l = absurd (omega (arith, l))
-drop_next (x ∷ xs) zero l = refl
-drop_next (x ∷ xs) (suc k) l = drop_next xs k (omega (arith, l))
-
-drop_step : (xs : List ℕ) (k : ℕ) → k < length xs → drop k xs ≡ get_or xs k 0 ∷ drop (k + 1) xs
-drop_step xs k l = let z : suc k ≡ k + 1 = omega arith in drop_next xs k l ∙ ap (λ (j : ℕ). get_or xs k 0 ∷ drop j xs) z
-
-drop_all : (A : Type 0) (xs : List A) (k : ℕ) → length xs ≤ k → drop k xs ≡ []
-drop_all A [] zero l = refl
-drop_all A [] (suc k) l = refl
-drop_all A (x ∷ xs) zero l = absurd (omega (arith, l))
-drop_all A (x ∷ xs) (suc k) l = drop_all A xs k (omega (arith, l))
-
 -- the holding parts at place d are those of the job that stands there
 pub inner_at_lem : (jobs : List Job) (d : ℕ) (job : Job) → Placed jobs d job → inner_at jobs d ≡ inner job
 inner_at_lem [] d job p = absurd p
@@ -113,7 +100,7 @@ module _ (hall : Hall) where
     inner = lines_asked (step_at hall k) 0 hall.jobs;
     next = steps_asked hall.jobs (drop (k + 1) (crew_steps hall));
     rest = [];
-    here = same_path (ap (λ (m : Agenda). m ∷ []) (ap (steps_asked hall.jobs) (drop_step (crew_steps hall) k l) ∙ steps_next hall.jobs (step_at hall k) (drop (k + 1) (crew_steps hall))));
+    here = same_path (ap (λ (m : Agenda). m ∷ []) (ap (steps_asked hall.jobs) (drop_more (crew_steps hall) k 0 l) ∙ steps_next hall.jobs (step_at hall k) (drop (k + 1) (crew_steps hall))));
     after_no = same_path refl;
     after_yes = same_then (over_on (lines_asked (step_at hall k) 0 hall.jobs ∷ behind k)) (same_path (ap (λ (m : Agenda). m ∷ lines_asked (step_at hall k) 0 hall.jobs ∷ behind k) (sym (removals_end (0 - 1)))));
   }
@@ -159,18 +146,18 @@ module _ (hall : Hall) where
       }
 
   -- on to the next line that is open, or the next step
-  pub on_line : (ats : CrewSteps) (k j m : ℕ) → CrewTable hall ats → k < step_count hall → j + m ≡ length hall.jobs → SameLeft (line_left hall k 0 j) (line_left hall k 0 (next_open_lem ats k j m))
+  pub on_line : (ats : CrewSteps) (k j m : ℕ) → CrewTable hall ats → k < step_count hall → j + m ≡ length hall.jobs → SameLeft (line_left hall k 0 j) (line_left hall k 0 (next_open_lem ats.before k j m))
   on_line ats k j m t l n =
-      same_then (quiet k j) (same_then (same_path (ap (λ (a : Agenda). a ∷ behind k) (next_asked hall.jobs ats k (step_at hall k) (t.tells k l) j m n))) (silent k (next_open_lem ats k j m)))
+      same_then (quiet k j) (same_then (same_path (ap (λ (a : Agenda). a ∷ behind k) (next_asked hall.jobs ats.before k (step_at hall k) (t.tells k l) j m n))) (silent k (next_open_lem ats.before k j m)))
 
   -- where no line is left at a step, what is left to ask begins with the next step's call
   pub on_step : (k d : ℕ) → length hall.jobs ≤ d → SameLeft (line_left hall k 0 d) (call_left hall (k + 1))
   on_step k d l =
-      same_then (quiet k d) (same_then (same_path (ap (λ (a : Agenda). a ∷ behind k) (ap (lines_asked (step_at hall k) d) (drop_all Job hall.jobs d l) ∙ lines_end (step_at hall k) d))) (over_off (behind k)))
+      same_then (quiet k d) (same_then (same_path (ap (λ (a : Agenda). a ∷ behind k) (ap (lines_asked (step_at hall k) d) (drop_all d hall.jobs l) ∙ lines_end (step_at hall k) d))) (over_off (behind k)))
 
   -- nothing is left behind the last step
   pub on_end : (k : ℕ) → step_count hall ≤ k → SameLeft (call_left hall k) []
-  on_end k l = same_then (same_path (ap (λ (a : Agenda). a ∷ []) (ap (steps_asked hall.jobs) (drop_all ℕ (crew_steps hall) k l) ∙ steps_end_lem hall.jobs))) (over_off [])
+  on_end k l = same_then (same_path (ap (λ (a : Agenda). a ∷ []) (ap (steps_asked hall.jobs) (drop_all k (crew_steps hall) l) ∙ steps_end_lem hall.jobs))) (over_off [])
 
   -- the question's topic
   abbrev pub topic_at : ℕ → ℕ → Question → Topic

@@ -4,7 +4,6 @@ use mathlib.Core.Path.{◌≡◌, refl, sym, ap, subst, ◌∙◌}
 use mathlib.Core.Bool.{Bool}
 use mathlib.Core.List.{List}
 use native.Mathlib.Omega.{arith}
-use native.Mathlib.Decide.{ℕ_discrete}
 use lib.ListN.{length, set, length-set}
 use lib.Seq.{get_or-set_same, get_or-set_other}
 use Rattle.branch.specs.declared.Bound.{Bound}
@@ -38,7 +37,7 @@ use Rattle.hall_state.specs.declared.Spot.{Spot}
 use Rattle.hall_state.specs.Courses.{Arrays, rows_at, Course, no_course, course_in, line_slot, slots_at, LineKept, Kept, BestSame, OthersSame}
 use Rattle.hall_state.specs.Spots.{left_of, left_below, OnCourse, Formed, asked_in, asked_of, Stood}
 use Rattle.hall_state.specs.Moves.{measure_of, Crewed, Opens, Below}
-use Rattle.hall_state.proofs.Courses.{slot_sheet, slot_blocks, untouched_kept, line_goes, all_kept_lem, slot_in, goes_in, others_own, others_goes, bound_kept, sum_kept, line_given}
+use Rattle.hall_state.proofs.Courses.{at_each, slot_sheet, slot_blocks, untouched_kept, line_goes, all_kept_lem, slot_in, goes_in, others_own, others_goes, bound_kept, sum_kept, line_given}
 
 -- the spot q is the one below p where line d takes the decision x: nothing but that line's course moves
 pub record Follows (hall : Hall) (x : Bool) (ats : CrewSteps) (p q : Spot) (d : ℕ) : Type 0 where
@@ -101,21 +100,13 @@ module _ {hall : Hall} {x : Bool} {g : Ground} {a a' : Arrays} {p : Spot} {q : O
   c = course_in cs d
 
   kept_each : (e : ℕ) → e < length cs → LineKept g a a' e (course_in cs e)
-  kept_each e l = go (ℕ_discrete e d)
-    where
-      go : Dec (e ≡ d) → LineKept g a a' e (course_in cs e)
-      go (yes z) = subst (λ (j : ℕ). LineKept g a a' j (course_in cs j)) (sym z) m.own
-      go (no z) = untouched_kept g a a' e (course_in cs e) (m.others.same e z) (line_given hall name g a cs e l st.at.lines)
+  kept_each = at_each d (λ _. m.own) (λ e z l. untouched_kept g a a' e (course_in cs e) (m.others.same e z) (line_given hall name g a cs e l st.at.lines))
 
   kept : Kept g a a' cs
   kept = record { size = m.others.size; each = kept_each }
 
   best_each : (e : ℕ) → e < length cs → BestSame (rows_at a e).v (rows_at a' e).v (course_in cs e).sheet
-  best_each e l = go (ℕ_discrete e d)
-    where
-      go : Dec (e ≡ d) → BestSame (rows_at a e).v (rows_at a' e).v (course_in cs e).sheet
-      go (yes z) = subst (λ (j : ℕ). BestSame (rows_at a j).v (rows_at a' j).v (course_in cs j).sheet) (sym z) m.best
-      go (no z) = subst (λ (o : LineRows). BestSame (rows_at a e).v o.v (course_in cs e).sheet) (sym (m.others.same e z)) (λ i h. refl)
+  best_each = at_each d (λ _. m.best) (λ e z _. subst (λ (o : LineRows). BestSame (rows_at a e).v o.v (course_in cs e).sheet) (sym (m.others.same e z)) (λ i h. refl))
 
   -- the rest of the estimate is the calls, the other lines and what the line has paid
   rest_others : m.rest ≡ calls + others_sum d (slots_at g a 0 cs) + c.paid
@@ -154,11 +145,8 @@ module _ {hall : Hall} {x : Bool} {g : Ground} {a a' : Arrays} {p : Spot} {q : O
         (line_at hall name d asks x (asked_of p) calls (slots_at g a' 0 cs) (slots_at g a' 0 cs') gone (kept_at hall name (asked_of p) calls (slots_at g a 0 cs) (slots_at g a' 0 cs) (all_kept_lem g a a' cs kept) st.at))
 
     on_each : (e : ℕ) → e < length cs' → OnCourse g.ats r e (course_in cs' e)
-    on_each e l = go (ℕ_discrete e d)
-      where
-        go : Dec (e ≡ d) → OnCourse g.ats r e (course_in cs' e)
-        go (yes z) = subst (λ (j : ℕ). OnCourse g.ats r j (course_in cs' j)) (sym z) (subst (OnCourse g.ats r d) (sym here') k.on)
-        go (no z) = subst (OnCourse g.ats r e) (sym (get_or-set_other cs d e c' no_course z)) (k.follows.others e (course_in cs e) z (st.courses e (omega (arith, l, length-set cs d c'))))
+    on_each = at_each d (λ _. subst (OnCourse g.ats r d) (sym here') k.on)
+        (λ e z l. subst (OnCourse g.ats r e) (sym (get_or-set_other cs d e c' no_course z)) (k.follows.others e (course_in cs e) z (st.courses e (omega (arith, l, length-set cs d c')))))
 
     sums_are : m.e ≡ Sum y
     sums_are = open-sums limit (m.rest + m.h) m.e s y due_at.fits f
@@ -190,21 +178,14 @@ module _ {hall : Hall} {x : Bool} {g : Ground} {a a' : Arrays} {p : Spot} {q : O
     }
 
     sheet_each : (e : ℕ) → e < length cs → (course_in cs' e).sheet ≡ (course_in cs e).sheet
-    sheet_each e l = go (ℕ_discrete e d)
-      where
-        go : Dec (e ≡ d) → (course_in cs' e).sheet ≡ (course_in cs e).sheet
-        go (yes z) = subst (λ (j : ℕ). (course_in cs' j).sheet ≡ (course_in cs j).sheet) (sym z) (ap (λ (t : Course). t.sheet) here' ∙ k.sheet)
-        go (no z) = ap (λ (t : Course). t.sheet) (get_or-set_other cs d e c' no_course z)
+    sheet_each = at_each d (λ _. ap (λ (t : Course). t.sheet) here' ∙ k.sheet) (λ e z _. ap (λ (t : Course). t.sheet) (get_or-set_other cs d e c' no_course z))
 
     kept_below : (a'' : Arrays) → Kept g a' a'' cs' → Kept g a' a'' cs
-    kept_below a'' w = record { size = w.size; each = each }
-      where
-        each : (e : ℕ) → e < length cs → LineKept g a' a'' e (course_in cs e)
-        each e l = go (ℕ_discrete e d)
-          where
-            go : Dec (e ≡ d) → LineKept g a' a'' e (course_in cs e)
-            go (yes z) = subst (λ (j : ℕ). LineKept g a' a'' j (course_in cs j)) (sym z) (line_goes g a' a'' d x c c' k.later k.goes (subst (LineKept g a' a'' d) here' (w.each d less')))
-            go (no z) = subst (LineKept g a' a'' e) (get_or-set_other cs d e c' no_course z) (w.each e (omega (arith, l, length-set cs d c')))
+    kept_below a'' w = record {
+      size = w.size;
+      each = at_each d (λ _. line_goes g a' a'' d x c c' k.later k.goes (subst (LineKept g a' a'' d) here' (w.each d less')))
+          (λ e z l. subst (LineKept g a' a'' e) (get_or-set_other cs d e c' no_course z) (w.each e (omega (arith, l, length-set cs d c'))));
+    }
 
     opens_below : Opens hall x g a a' p r name cs
     opens_below = record {

@@ -2,7 +2,6 @@
 use Prim.Native.Nat.{ℕ, ◌+◌, ◌-◌, ◌*◌, ◌<◌}
 use mathlib.Core.Path.{◌≡◌, refl, sym, ap, ◌∙◌}
 use mathlib.Core.Bool.{Bool, true, false, cond}
-use mathlib.Core.List.{List}
 use Rattle.std.specs.Prelude.{Some, None}
 use native.Mathlib.Omega.{arith}
 use native.Mathlib.Decide.{dec_lt}
@@ -37,8 +36,8 @@ before_next e d n = go (dec_lt e d)
     go (no l) = le-ltb e (d + 1) (omega (arith, l, n)) ∙ sym (le-ltb e d (omega (arith, l)))
 
 -- the line at hand has decided the openings of the step's level
-pub here_level : {ats : CrewSteps} {p : Spot} {c : Course} → OnCourse ats p p.line c → c.at ≡ level_in ats p.step p.line
-here_level {ats} {p} {c} o = o.level ∙ cond_no (level_in ats (p.step + 1) p.line) (level_in ats p.step p.line) (le-ltb p.line p.line (omega arith))
+pub here_level : {ats : CrewSteps} {p : Spot} {c : Course} → OnCourse ats p p.line c → c.at ≡ level_in ats.before p.step p.line
+here_level {ats} {p} {c} o = o.level ∙ cond_no (level_in ats.before (p.step + 1) p.line) (level_in ats.before p.step p.line) (le-ltb p.line p.line (omega arith))
 
 -- another line is at no stop
 pub elsewhere : {ats : CrewSteps} {p : Spot} {stop : Stop} {e : ℕ} {c : Course} → p.asks ≡ PartRemoval stop → (e ≡ p.line → ⊥) → OnCourse ats p e c → c.stop ≡ None
@@ -50,12 +49,12 @@ stop_on {ats} {p} {c} stop total o c' e t = record { level = e ∙ o.level; stop
 
 -- a line whose level is that before the line at hand moves on, at no stop, is on course at the lines from the next place on
 pub past_on : {ats : CrewSteps} {p : Spot} {e : ℕ} {c : Course} (total : ℕ) → (e ≡ p.line → ⊥) → OnCourse ats p e c → c.stop ≡ None → OnCourse ats (line_spot p (p.line + 1) total) e c
-past_on {ats} {p} {e} {c} total n o s = record { level = o.level ∙ ap (λ (b : Bool). cond b (level_in ats (p.step + 1) e) (level_in ats p.step e)) (sym (before_next e p.line n)); stop = s }
+past_on {ats} {p} {e} {c} total n o s = record { level = o.level ∙ ap (λ (b : Bool). cond b (level_in ats.before (p.step + 1) e) (level_in ats.before p.step e)) (sym (before_next e p.line n)); stop = s }
 
 -- the line at hand, one opening later and at no stop, is on course there
-pub on_past : {ats : CrewSteps} {p : Spot} {c : Course} (total : ℕ) → OnCourse ats p p.line c → level_in ats (p.step + 1) p.line ≡ level_in ats p.step p.line + 1 → (c' : Course) → c'.at ≡ c.at + 1 → c'.stop ≡ None → OnCourse ats (line_spot p (p.line + 1) total) p.line c'
+pub on_past : {ats : CrewSteps} {p : Spot} {c : Course} (total : ℕ) → OnCourse ats p p.line c → level_in ats.before (p.step + 1) p.line ≡ level_in ats.before p.step p.line + 1 → (c' : Course) → c'.at ≡ c.at + 1 → c'.stop ≡ None → OnCourse ats (line_spot p (p.line + 1) total) p.line c'
 on_past {ats} {p} {c} total o up c' e s = record {
-  level = omega (arith, e, here_level o, up) ∙ sym (cond_yes (level_in ats (p.step + 1) p.line) (level_in ats p.step p.line) (lt-ltb p.line (p.line + 1) (omega arith)));
+  level = omega (arith, e, here_level o, up) ∙ sym (cond_yes (level_in ats.before (p.step + 1) p.line) (level_in ats.before p.step p.line) (lt-ltb p.line (p.line + 1) (omega arith)));
   stop = s;
 }
 
@@ -76,8 +75,8 @@ module _ {hall : Hall} {ats : CrewSteps} {p : Spot} (crewed : Crewed hall ats) (
   here_open {d} {c} o = o.stop ∙ ap (λ (q : Question). stop_by q (eqb d p.line)) e
 
   -- one opening more behind the step
-  pub next_level : level_in ats (p.step + 1) p.line ≡ level_in ats p.step p.line + 1
-  next_level = crewed.table.rises p.step p.line (f.line e).0 (a.line e).0 ∙ ap (λ (b : Bool). level_in ats p.step p.line + cond b 1 0) (a.line e).1
+  pub next_level : level_in ats.before (p.step + 1) p.line ≡ level_in ats.before p.step p.line + 1
+  next_level = crewed.table.rises p.step p.line (f.line e).0 (a.line e).0 ∙ ap (λ (b : Bool). level_in ats.before p.step p.line + cond b 1 0) (a.line e).1
 
   -- after a no the spot of the lines from the next place on follows, for the line at hand
   pub no_follows : (total : ℕ) → Follows hall false ats p (line_spot p (p.line + 1) total) p.line

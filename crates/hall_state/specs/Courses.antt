@@ -73,7 +73,7 @@ pub record LineKept (g : Ground) (a a' : Arrays) (d : ℕ) (c : Course) : Type 0
   pub slot : SlotKept (line_slot g a d c) (line_slot g a' d c)
   pub levels : LevelsKept (rows_at a d).n (rows_at a' d).n (c.at + 1)
 
--- the same of each line
+-- what all lines stand on is kept: each line's rows, marks and levels
 pub record Kept (g : Ground) (a a' : Arrays) (cs : List Course) : Type 0 where
   pub size : length a' ≡ length a
   pub each : (e : ℕ) → e < length cs → LineKept g a a' e (course_in cs e)

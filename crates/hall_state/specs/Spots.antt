@@ -47,23 +47,23 @@ call_left hall step = steps_asked hall.jobs (drop step (crew_steps hall)) ∷ []
 abbrev pub line_left : Hall → ℕ → ℕ → ℕ → List Agenda
 line_left hall step k j = hall_left hall.jobs k j (step_at hall step) (drop (step + 1) (crew_steps hall))
 
--- at a question, of this step and line
+-- what is left to ask at a question of this step and line
 abbrev pub left_at : Hall → ℕ → ℕ → Question → List Agenda
 left_at hall step line CrewCall = call_left hall step
 left_at hall step line LineStop = line_left hall step 0 line
 left_at hall step line (PartRemoval stop) = line_left hall step (inner_at hall.jobs line - stop.next) (line + 1)
 
--- below it, after a no and after a yes
+-- what is left to ask below a question, after a no and after a yes
 abbrev pub below_at : Hall → Bool → ℕ → ℕ → Question → List Agenda
 below_at hall x step line CrewCall = cond x (line_left hall step 0 0) (call_left hall (step + 1))
 below_at hall x step line LineStop = cond x (line_left hall step (inner_at hall.jobs line - 0) (line + 1)) (line_left hall step 0 (line + 1))
 below_at hall x step line (PartRemoval stop) = line_left hall step (inner_at hall.jobs line - (stop.next + 1)) (line + 1)
 
--- at a spot
+-- what is left to ask at a spot
 abbrev pub left_of : Hall → Spot → List Agenda
 left_of hall p = left_at hall p.step p.line p.asks
 
--- below it
+-- what is left to ask below a spot, after this answer
 abbrev pub left_below : Hall → Bool → Spot → List Agenda
 left_below hall x p = below_at hall x p.step p.line p.asks
 
@@ -71,7 +71,7 @@ left_below hall x p = below_at hall x p.step p.line p.asks
 
 -- the openings that the line at place d has decided at a spot: at the lines before the one at hand those of the next step
 abbrev pub level_of : CrewSteps → Spot → ℕ → ℕ
-level_of ats p d = cond (ltb d p.line) (level_in ats (p.step + 1) d) (level_in ats p.step d)
+level_of ats p d = cond (ltb d p.line) (level_in ats.before (p.step + 1) d) (level_in ats.before p.step d)
 
 -- the stop that a question is about, if it is asked of this line
 abbrev pub stop_by : Question → Bool → Option Stop
@@ -92,7 +92,7 @@ pub record OnCourse (ats : CrewSteps) (p : Spot) (d : ℕ) (c : Course) : Type 0
 pub record Formed (hall : Hall) (ats : CrewSteps) (p : Spot) : Type 0 where
   pub call : p.asks ≡ CrewCall → (p.step ≤ step_count hall) × (p.line ≡ 0)
   pub line : p.asks ≡ LineStop → (p.step < step_count hall) × (p.line ≤ length hall.jobs)
-  pub removal : (stop : Stop) → p.asks ≡ PartRemoval stop → (p.step < step_count hall) × (p.line < length hall.jobs) × (open_in ats p.step p.line ≡ true)
+  pub removal : (stop : Stop) → p.asks ≡ PartRemoval stop → (p.step < step_count hall) × (p.line < length hall.jobs) × (open_in ats.before p.step p.line ≡ true)
 
 -- the steps asked: at a call those before it
 abbrev pub asked_in : Question → ℕ
@@ -100,7 +100,7 @@ asked_in CrewCall = 0
 asked_in LineStop = 1
 asked_in (PartRemoval stop) = 1
 
--- at a spot
+-- the steps asked at a spot
 abbrev pub asked_of : Spot → ℕ
 asked_of p = p.step + asked_in p.asks
 
@@ -116,5 +116,5 @@ pub record Stood (hall : Hall) (g : Ground) (a : Arrays) (p : Spot) (name : List
 -- what is asked there: a call, a line that is open, or a removal that is
 pub record Asked (hall : Hall) (ats : CrewSteps) (p : Spot) : Type 0 where
   pub call : p.asks ≡ CrewCall → p.step < step_count hall
-  pub line : p.asks ≡ LineStop → (p.line < length hall.jobs) × (open_in ats p.step p.line ≡ true)
+  pub line : p.asks ≡ LineStop → (p.line < length hall.jobs) × (open_in ats.before p.step p.line ≡ true)
   pub removal : (stop : Stop) → p.asks ≡ PartRemoval stop → stop.next < inner_at hall.jobs p.line

@@ -6,15 +6,18 @@ ghost use Rattle.hall_state.specs.Spots.{line_spot, stop_spot, call_spot};
 
 use hall_lines::{LineTables, Stop};
 use hall_steps::CrewSteps;
+use walk::Search;
 
 // What the walk only reads: each line's tables, and the crew's steps.
 // Kept as four lines, of which the hall has as many as the crew's steps say: no heap, fixed memory.
+// Kept apart from the lines' rows in each function of the walk: a struct of both, lent to be written, would have to say of each call that the tables and steps stay as they are.
 pub struct Ground {
     pub lines: [LineTables; 4],
     pub ats: CrewSteps,
 }
 
 // What is asked next: the crew's call at the step, a stop of the line at hand, or a removal at this stop of it.
+// Kept as an enum of its own: three kinds of question, of which none is an absence or a refusal.
 #[derive(Clone, Copy)]
 pub enum Question {
     CrewCall,
@@ -29,6 +32,16 @@ pub struct Spot {
     pub step: usize,
     pub line: usize,
     pub total: u64,
+}
+
+// A branch below a question: the spot where it is asked, the answer, the most nodes, and the search so far.
+// Kept with the answer as a value: it is a decision of the search tree, as the contracts say it too, and each question has one function for both answers.
+#[derive(Clone, Copy)]
+pub struct Branch {
+    pub p: Spot,
+    pub yes: bool,
+    pub limit: u64,
+    pub s: Search,
 }
 
 impl Spot {

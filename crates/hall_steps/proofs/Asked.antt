@@ -1,37 +1,51 @@
 -- What the walk asks of the lines at a step: it goes on with the next line that is open there, and where none is left it is over.
 use Prim.Native.Nat.{ℕ, zero, suc, ◌+◌, ◌<◌, ◌≤◌}
-use mathlib.Core.Path.{◌≡◌, refl, ap, ◌∙◌}
+use mathlib.Core.Path.{◌≡◌, refl, sym, ap, subst, ◌∙◌}
 use mathlib.Core.Bool.{Bool, true, false, cond}
 use mathlib.Core.List.{List, [], ◌∷◌}
+use Rattle.std.specs.Prelude.{Some, None}
+use Rattle.std.proofs.lemmas.Option.{none-some, same_Some}
+use Rattle.std.specs.List.{find, range_with_len}
 use native.Mathlib.Omega.{arith}
-use native.Mathlib.Decide.{ℕ_discrete}
+use native.Mathlib.Decide.{ℕ_discrete, dec_lt}
+use borrow.Author.Tests.{lt-ltb, le-ltb}
 use lib.ListN.{length, drop}
 use Rattle.model.specs.Model.{Job}
 use Rattle.hall.specs.Hall.{Placed}
 use Rattle.hall.specs.Agenda.{lines_asked}
 use Rattle.hall.proofs.Steps.{lines_shut}
-use Rattle.hall_steps.specs.declared.CrewSteps.{CrewSteps}
-use Rattle.hall_steps.specs.Steps.{open_in, next_open_lem, Tells}
+use Rattle.hall_steps.specs.Steps.{open_in, next_open_lem, place_below, Tells}
 
 -- ---- the places that the code goes over
 
--- of no lines the next that is open is the place behind them
-pub next_none : (ats : CrewSteps) (k d : ℕ) → next_open_lem ats k d 0 ≡ d
+-- the first of m places from d on where the line is open is the next one, if it is below their end
+pub find_next : (ats : List (List ℕ)) (k d m n : ℕ) → d + m ≡ n → find (open_in ats k) (range_with_len d m) ≡ place_below n (next_open_lem ats k d m)
 unfolding next_open_lem
-next_none ats k d = refl
+find_next ats k d zero n e = sym (ap (λ (b : Bool). cond b (Some d) None) (le-ltb d n (omega (arith, e))))
+find_next ats k d (suc m) n e = go (open_in ats k d) (let z : d + 1 ≡ suc d = omega arith in subst (λ (j : ℕ). find (open_in ats k) (range_with_len j m) ≡ place_below n (next_open_lem ats k (suc d) m)) (sym z) (find_next ats k (suc d) m n (omega (arith, e))))
+  where
+    go : (b : Bool) → find (open_in ats k) (range_with_len (d + 1) m) ≡ place_below n (next_open_lem ats k (suc d) m) → cond b (Some d) (find (open_in ats k) (range_with_len (d + 1) m)) ≡ place_below n (cond b d (next_open_lem ats k (suc d) m))
+    go true r = sym (ap (λ (b : Bool). cond b (Some d) None) (lt-ltb d n (omega (arith, e))))
+    go false r = r
 
--- where the line at place d is open, it is the next one
-pub next_here : (ats : CrewSteps) (k d m : ℕ) → open_in ats k d ≡ true → next_open_lem ats k d (suc m) ≡ d
-unfolding next_open_lem
-next_here ats k d m e = ap (λ (b : Bool). cond b d (next_open_lem ats k (suc d) m)) e
+-- a place that is found is below the end, and is the one that was sought
+pub place_found : (n d e : ℕ) → place_below n d ≡ Some e → (d < n) × (d ≡ e)
+place_found n d e f = go (dec_lt d n)
+  where
+    go : Dec (d < n) → (d < n) × (d ≡ e)
+    go (yes l) = (l, same_Some d e (sym (ap (λ (b : Bool). cond b (Some d) None) (lt-ltb d n l)) ∙ f))
+    go (no l) = absurd (none-some e (sym (ap (λ (b : Bool). cond b (Some d) None) (le-ltb d n (omega (arith, l)))) ∙ f))
 
--- where the line at place d is not open, the next one is sought behind it
-pub next_past : (ats : CrewSteps) (k d m : ℕ) → open_in ats k d ≡ false → next_open_lem ats k d (suc m) ≡ next_open_lem ats k (suc d) m
-unfolding next_open_lem
-next_past ats k d m e = ap (λ (b : Bool). cond b d (next_open_lem ats k (suc d) m)) e
+-- where no place is found none is below the end
+pub place_gone : (n d : ℕ) → place_below n d ≡ None → n ≤ d
+place_gone n d f = go (dec_lt d n)
+  where
+    go : Dec (d < n) → n ≤ d
+    go (yes l) = absurd (none-some d (sym f ∙ ap (λ (b : Bool). cond b (Some d) None) (lt-ltb d n l)))
+    go (no l) = omega (arith, l)
 
--- it is no place before d, and at most the one behind the last
-pub next_within : (ats : CrewSteps) (k d m : ℕ) → (d ≤ next_open_lem ats k d m) × (next_open_lem ats k d m ≤ d + m)
+-- the next line is no place before d, and at most the one behind the last
+pub next_within : (ats : List (List ℕ)) (k d m : ℕ) → (d ≤ next_open_lem ats k d m) × (next_open_lem ats k d m ≤ d + m)
 unfolding next_open_lem
 next_within ats k d zero = (omega arith, omega arith)
 next_within ats k d (suc m) = go (open_in ats k d) (next_within ats k (suc d) m)
@@ -40,8 +54,8 @@ next_within ats k d (suc m) = go (open_in ats k d) (next_within ats k (suc d) m)
     go true r = (omega arith, omega arith)
     go false r = (omega (arith, r.0), omega (arith, r.1))
 
--- it is open there, if it is a line's
-pub next_opens : (ats : CrewSteps) (k d m : ℕ) → next_open_lem ats k d m < d + m → open_in ats k (next_open_lem ats k d m) ≡ true
+-- the next line is open at the step, if there is one
+pub next_opens : (ats : List (List ℕ)) (k d m : ℕ) → next_open_lem ats k d m < d + m → open_in ats k (next_open_lem ats k d m) ≡ true
 unfolding next_open_lem
 next_opens ats k d zero l = absurd (omega (arith, l))
 next_opens ats k d (suc m) l = go (open_in ats k d) refl l (next_opens ats k (suc d) m)
@@ -50,8 +64,8 @@ next_opens ats k d (suc m) l = go (open_in ats k d) refl l (next_opens ats k (su
     go true e h r = e
     go false e h r = r (omega (arith, h))
 
--- and none before it is
-pub next_shut : (ats : CrewSteps) (k d m e : ℕ) → d ≤ e → e < next_open_lem ats k d m → open_in ats k e ≡ false
+-- no line from place d on before the next one is open
+pub next_shut : (ats : List (List ℕ)) (k d m e : ℕ) → d ≤ e → e < next_open_lem ats k d m → open_in ats k e ≡ false
 unfolding next_open_lem
 next_shut ats k d zero e g l = absurd (omega (arith, g, l))
 next_shut ats k d (suc m) e g l = go (open_in ats k d) refl l (next_shut ats k (suc d) m e)
@@ -73,7 +87,7 @@ drop_line (job ∷ jobs) zero l = (job, refl, refl)
 drop_line (job ∷ jobs) (suc d) l = drop_line jobs d (omega (arith, l))
 
 -- what is asked from place d on is what is asked from the next line on that is open, or nothing
-pub next_asked : (jobs : List Job) (ats : CrewSteps) (k step : ℕ) → Tells jobs ats k step → (d m : ℕ) → d + m ≡ length jobs → lines_asked step d (drop d jobs) ≡ lines_asked step (next_open_lem ats k d m) (drop (next_open_lem ats k d m) jobs)
+pub next_asked : (jobs : List Job) (ats : List (List ℕ)) (k step : ℕ) → Tells jobs ats k step → (d m : ℕ) → d + m ≡ length jobs → lines_asked step d (drop d jobs) ≡ lines_asked step (next_open_lem ats k d m) (drop (next_open_lem ats k d m) jobs)
 unfolding next_open_lem
 next_asked jobs ats k step tells d zero n = refl
 next_asked jobs ats k step tells d (suc m) n = go (open_in ats k d) refl (drop_line jobs d (omega (arith, n))) (next_asked jobs ats k step tells (suc d) m (omega (arith, n)))

@@ -20,8 +20,8 @@ pub record CrewTable (hall : Hall) (ats : CrewSteps) : Type 0 where
   pub steps_are : ats.steps ≡ step_count hall
   pub lines_are : ats.lines ≡ length hall.jobs
   pub call_is : ats.call ≡ hall.call
-  pub tells : (k : ℕ) → k < step_count hall → Tells hall.jobs ats k (step_at hall k)
-  pub rises : (k d : ℕ) → k < step_count hall → d < length hall.jobs → level_in ats (k + 1) d ≡ level_in ats k d + cond (open_in ats k d) 1 0
-  pub within : (k d : ℕ) (job : Job) → k ≤ step_count hall → Placed hall.jobs d job → level_in ats k d ≤ length job.openings
-  pub begins : (d : ℕ) → d < length hall.jobs → level_in ats 0 d ≡ 0
-  pub ends : (d : ℕ) (job : Job) → Placed hall.jobs d job → level_in ats (step_count hall) d ≡ length job.openings
+  pub tells : (k : ℕ) → k < step_count hall → Tells hall.jobs ats.before k (step_at hall k)
+  pub rises : (k d : ℕ) → k < step_count hall → d < length hall.jobs → level_in ats.before (k + 1) d ≡ level_in ats.before k d + cond (open_in ats.before k d) 1 0
+  pub within : (k d : ℕ) (job : Job) → k ≤ step_count hall → Placed hall.jobs d job → level_in ats.before k d ≤ length job.openings
+  pub begins : (d : ℕ) → d < length hall.jobs → level_in ats.before 0 d ≡ 0
+  pub ends : (d : ℕ) (job : Job) → Placed hall.jobs d job → level_in ats.before (step_count hall) d ≡ length job.openings

@@ -19,7 +19,8 @@ use Rattle.hall_state.specs.declared.Question.TheVariants.{CrewCall}
 use Rattle.hall_state.specs.declared.Spot.{Spot}
 use Rattle.hall_state.specs.Courses.{Arrays, Course, slots_at}
 use Rattle.hall_state.specs.Spots.{line_spot, call_spot, left_of, level_of, Stood}
-use Rattle.hall_state.specs.Moves.{SameCourses, Crewed, Arrived}
+use Rattle.hall_state.specs.Moves.{Crewed, Arrived}
+use Rattle.hall_state.proofs.Courses.{same_self}
 use Rattle.hall_state.proofs.Left.{SameLeft, same_then, on_line, on_step}
 use Rattle.hall_state.proofs.Spots.{cond_no, cond_yes}
 
@@ -31,7 +32,7 @@ module _ {hall : Hall} {g : Ground} {a : Arrays} (p : Spot) (line : ℕ) {name :
   lines = length hall.jobs
 
   abbrev d : ℕ
-  d = next_open_lem g.ats p.step line (lines - line)
+  d = next_open_lem g.ats.before p.step line (lines - line)
 
   -- the step at hand is one of the hall's
   pub step_in : p.step < step_count hall
@@ -43,28 +44,25 @@ module _ {hall : Hall} {g : Ground} {a : Arrays} (p : Spot) (line : ℕ) {name :
 
   -- the next line that is open is not before the line at hand, and at most the number of lines
   pub next_in : (line ≤ d) × (d ≤ lines)
-  next_in = let r = next_within g.ats p.step line (lines - line) in (r.0, omega (arith, r.1, line_in))
+  next_in = let r = next_within g.ats.before p.step line (lines - line) in (r.0, omega (arith, r.1, line_in))
 
   -- a line that is not open has as many openings behind the step
-  shut_same : (e : ℕ) → e < lines → open_in g.ats p.step e ≡ false → level_in g.ats p.step e ≡ level_in g.ats (p.step + 1) e
-  shut_same e l f = sym (crewed.table.rises p.step e step_in l ∙ ap (λ (b : Bool). level_in g.ats p.step e + cond b 1 0) f ∙ omega arith)
+  shut_same : (e : ℕ) → e < lines → open_in g.ats.before p.step e ≡ false → level_in g.ats.before p.step e ≡ level_in g.ats.before (p.step + 1) e
+  shut_same e l f = sym (crewed.table.rises p.step e step_in l ∙ ap (λ (b : Bool). level_in g.ats.before p.step e + cond b 1 0) f ∙ omega arith)
 
-  here_before : (e : ℕ) → e < line → level_of g.ats q e ≡ level_in g.ats (p.step + 1) e
-  here_before e l = cond_yes (level_in g.ats (p.step + 1) e) (level_in g.ats p.step e) (lt-ltb e line l)
+  here_before : (e : ℕ) → e < line → level_of g.ats q e ≡ level_in g.ats.before (p.step + 1) e
+  here_before e l = cond_yes (level_in g.ats.before (p.step + 1) e) (level_in g.ats.before p.step e) (lt-ltb e line l)
 
-  here_behind : (e : ℕ) → line ≤ e → level_of g.ats q e ≡ level_in g.ats p.step e
-  here_behind e l = cond_no (level_in g.ats (p.step + 1) e) (level_in g.ats p.step e) (le-ltb e line l)
+  here_behind : (e : ℕ) → line ≤ e → level_of g.ats q e ≡ level_in g.ats.before p.step e
+  here_behind e l = cond_no (level_in g.ats.before (p.step + 1) e) (level_in g.ats.before p.step e) (le-ltb e line l)
 
   -- behind the step, of each line before the next that is open
-  passed_level : (e : ℕ) → e < lines → e < d → level_of g.ats q e ≡ level_in g.ats (p.step + 1) e
+  passed_level : (e : ℕ) → e < lines → e < d → level_of g.ats q e ≡ level_in g.ats.before (p.step + 1) e
   passed_level e l m = go (dec_lt e line)
     where
-      go : Dec (e < line) → level_of g.ats q e ≡ level_in g.ats (p.step + 1) e
+      go : Dec (e < line) → level_of g.ats q e ≡ level_in g.ats.before (p.step + 1) e
       go (yes h) = here_before e h
-      go (no h) = here_behind e (omega (arith, h)) ∙ shut_same e l (next_shut g.ats p.step line (lines - line) e (omega (arith, h)) m)
-
-  same_all : SameCourses a a cs cs
-  same_all = record { size = refl; sheet = λ e l. refl; best = λ e l i h. refl }
+      go (no h) = here_behind e (omega (arith, h)) ∙ shut_same e l (next_shut g.ats.before p.step line (lines - line) e (omega (arith, h)) m)
 
   -- ---- a line that is open
 
@@ -76,8 +74,8 @@ module _ {hall : Hall} {g : Ground} {a : Arrays} (p : Spot) (line : ℕ) {name :
     level_line e l = go (dec_lt e d)
       where
         go : Dec (e < d) → level_of g.ats q e ≡ level_of g.ats r e
-        go (yes h) = passed_level e l h ∙ sym (cond_yes (level_in g.ats (p.step + 1) e) (level_in g.ats p.step e) (lt-ltb e d h))
-        go (no h) = here_behind e (omega (arith, h, next_in.0)) ∙ sym (cond_no (level_in g.ats (p.step + 1) e) (level_in g.ats p.step e) (le-ltb e d (omega (arith, h))))
+        go (yes h) = passed_level e l h ∙ sym (cond_yes (level_in g.ats.before (p.step + 1) e) (level_in g.ats.before p.step e) (lt-ltb e d h))
+        go (no h) = here_behind e (omega (arith, h, next_in.0)) ∙ sym (cond_no (level_in g.ats.before (p.step + 1) e) (level_in g.ats.before p.step e) (le-ltb e d (omega (arith, h))))
 
     same_line : SameLeft (left_of hall q) (left_of hall r)
     same_line = on_line hall g.ats p.step line (lines - line) crewed.table step_in (omega (arith, line_in))
@@ -96,11 +94,11 @@ module _ {hall : Hall} {g : Ground} {a : Arrays} (p : Spot) (line : ℕ) {name :
       };
       asked = λ _. record {
         call = λ e. cc;
-        line = λ _. (less, next_opens g.ats p.step line (lines - line) (omega (arith, less, line_in)));
+        line = λ _. (less, next_opens g.ats.before p.step line (lines - line) (omega (arith, less, line_in)));
         removal = λ _ e. cc;
       };
       tree = same_line.tree (hall_bound hall) name;
-      same = same_all;
+      same = same_self a cs;
       kept = λ a'' k. k;
       measure = omega (arith, next_in.0);
     }
@@ -112,7 +110,7 @@ module _ {hall : Hall} {g : Ground} {a : Arrays} (p : Spot) (line : ℕ) {name :
     n = call_spot p p.total
 
     level_step : (e : ℕ) → e < lines → level_of g.ats q e ≡ level_of g.ats n e
-    level_step e l = passed_level e l (omega (arith, l, end)) ∙ sym (cond_no (level_in g.ats (p.step + 1 + 1) e) (level_in g.ats (p.step + 1) e) (le-ltb e 0 (omega arith)))
+    level_step e l = passed_level e l (omega (arith, l, end)) ∙ sym (cond_no (level_in g.ats.before (p.step + 1 + 1) e) (level_in g.ats.before (p.step + 1) e) (le-ltb e 0 (omega arith)))
 
     same_step : SameLeft (left_of hall q) (left_of hall n)
     same_step = same_then (on_line hall g.ats p.step line (lines - line) crewed.table step_in (omega (arith, line_in))) (on_step hall p.step d end)
@@ -131,7 +129,7 @@ module _ {hall : Hall} {g : Ground} {a : Arrays} (p : Spot) (line : ℕ) {name :
       };
       asked = λ f. record { call = λ _. more f; line = λ e. cc; removal = λ _ e. cc };
       tree = same_step.tree (hall_bound hall) name;
-      same = same_all;
+      same = same_self a cs;
       kept = λ a'' k. k;
       measure = omega (arith, step_in, crewed.table.few);
     }

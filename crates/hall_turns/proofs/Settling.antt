@@ -3,22 +3,21 @@ use Prim.Native.Nat.{ℕ, suc, ◌+◌, ◌-◌, ◌<◌, ◌≤◌}
 use mathlib.Core.Path.{◌≡◌, refl, sym, ap, subst, ◌∙◌}
 use mathlib.Core.Bool.{Bool, cond}
 use mathlib.Core.List.{List, [], ◌∷◌}
-use Rattle.std.specs.Prelude.{Option, None}
+use Rattle.std.specs.Prelude.{None}
 use native.Mathlib.Omega.{arith}
-use native.Mathlib.Decide.{ℕ_discrete}
 use lib.ListN.{length, set, length-set}
 use lib.Seq.{get_or-set_same, get_or-set_other}
 use Rattle.branch.proofs.Bounds.{sum_inj}
 use Rattle.model.specs.Model.{Job, Each}
 use Rattle.model.specs.Decisions.{concat}
-use Rattle.held_rows.specs.Held.{SheetOf, held}
+use Rattle.held_rows.specs.Held.{SheetOf}
 use Rattle.hall.specs.Hall.{Hall}
 use Rattle.hall.specs.Agenda.{Line, lines_from, agenda_of}
 use Rattle.hall.specs.LowerBound.{hall_bound}
 use Rattle.hall.specs.Steps.{Stands, tree_from}
-use Rattle.hall_nodes.specs.Lines.{Slot, Given, SlotOf, lines_sum, HallAt, SlotKept}
+use Rattle.hall_nodes.specs.Lines.{Slot, SlotOf, lines_sum, HallAt, SlotKept}
 use Rattle.hall_nodes.proofs.Bounds.{node_bound}
-use Rattle.hall_lines.specs.Lines.{stop_slot, Decided, LineSettled}
+use Rattle.hall_lines.specs.Lines.{Decided, LineSettled}
 use Rattle.hall_lines.proofs.Levels.{levels_then, stop_same}
 use Rattle.hall_steps.specs.Steps.{level_in}
 use Rattle.hall_lines.specs.declared.LineRows.{LineRows}
@@ -27,12 +26,12 @@ use Rattle.hall_state.specs.declared.Ground.{Ground}
 use Rattle.hall_state.specs.declared.Question.{Question}
 use Rattle.hall_state.specs.declared.Question.TheVariants.{PartRemoval}
 use Rattle.hall_state.specs.declared.Spot.{Spot}
-use Rattle.hall_state.specs.Courses.{Arrays, no_rows, tables_at, rows_at, Course, no_course, course_in, slot_by, line_slot, slots_at, LineKept, Kept, BestSame}
+use Rattle.hall_state.specs.Courses.{Arrays, no_rows, tables_at, rows_at, Course, no_course, course_in, stopped_slot, line_slot, slots_at, LineKept, Kept, BestSame}
 use Rattle.hall_state.specs.Spots.{inner_at, line_left, line_spot, left_at, left_of, OnCourse, asked_in, asked_of, Stood}
 use Rattle.hall_state.specs.Moves.{measure_of, Crewed, Arrived}
-use Rattle.hall_state.proofs.Courses.{slot_sheet, slot_blocks, line_same, untouched_kept, line_then, line_given, job_here}
-use Rattle.hall_state.proofs.Left.{inner_at_lem}
-use Rattle.hall_state.proofs.Spots.{here_level, elsewhere, past_on, on_past, stop_stopped, removal_measure}
+use Rattle.hall_state.proofs.Courses.{at_each, slot_sheet, slot_blocks, line_same, untouched_kept, line_then, line_given}
+use Rattle.hall_state.proofs.Stops.{stop_less, stop_four, on_stop, is_stop, stop_given, stop_holds}
+use Rattle.hall_state.proofs.Spots.{here_level, elsewhere, past_on, on_past, removal_measure}
 use Rattle.hall_moves.proofs.Found.{at_same}
 
 -- each line's slot for another
@@ -59,39 +58,16 @@ module _ {hall : Hall} {g : Ground} {a : Arrays} {p : Spot} {name : List Bool} {
   abbrev c : Course
   c = course_in cs d
 
-  -- the line whose stop is settled has a course
-  pub less : d < length cs
-  less = omega (arith, (st.formed.removal stop er).1, st.count)
-
-  -- the line whose stop is settled is one of four
-  pub four : d < 4
-  four = omega (arith, (st.formed.removal stop er).1, crewed.fits.few)
-
-  -- a stop is settled at one of the first 64 steps
-  pub near : p.step < 64
-  near = omega (arith, (st.formed.removal stop er).0, crewed.table.few)
+  less : d < length cs
+  less = stop_less crewed st er
 
   on : OnCourse g.ats p d c
-  on = st.courses d less
+  on = on_stop crewed st er
 
-  abbrev stop_here : Arrays → Slot
-  stop_here b = stop_slot c.sheet c.blocks (tables_at g d) (rows_at b d) c.at c.paid stop
-
-  is_stop : (b : Arrays) → line_slot g b d c ≡ stop_here b
-  is_stop b = ap (λ (t : Option Stop). slot_by t g b d c) (stop_stopped st.formed er on)
-
-  -- how many of its parts hold
-  pub holds : held c.sheet ≡ inner_at hall.jobs d
-  holds = let j = job_here hall name g a cs d less st.at.lines in j.holders ∙ sym (inner_at_lem hall.jobs d j.job j.placed)
-
-  -- the slot of the line at its stop is given
-  pub given : Given (stop_here a)
-  given = subst Given (is_stop a) (line_given hall name g a cs d less st.at.lines)
-
-  module _ (all : inner_at hall.jobs d ≤ stop.next) {at : ℕ} (is : at ≡ level_in g.ats p.step d) where
+  module _ (all : inner_at hall.jobs d ≤ stop.next) {at : ℕ} (is : at ≡ level_in g.ats.before p.step d) where
     -- where no holding part is left to ask, no removal of the line's stop is open, at the step's level
     pub settles : Decided c.sheet c.blocks (tables_at g d) (rows_at a d) at c.paid stop
-    settles = subst (λ (x : ℕ). Decided c.sheet c.blocks (tables_at g d) (rows_at a d) x c.paid stop) (here_level on ∙ sym is) (record { given = given; all = omega (arith, all, holds) })
+    settles = subst (λ (x : ℕ). Decided c.sheet c.blocks (tables_at g d) (rows_at a d) x c.paid stop) (here_level on ∙ sym is) (record { given = stop_given crewed st er; all = omega (arith, all, stop_holds crewed st er) })
 
     module _ (size : length a ≡ 4) (o₁ : LineRows) (found : LineSettled c.sheet c.blocks (tables_at g d) (rows_at a d) o₁ at c.paid stop) where
       abbrev a₁ : Arrays
@@ -99,7 +75,7 @@ module _ {hall : Hall} {g : Ground} {a : Arrays} {p : Spot} {name : List Bool} {
 
       found₁ : LineSettled c.sheet c.blocks (tables_at g d) (rows_at a d) (rows_at a₁ d) c.at c.paid stop
       found₁ =
-          subst (λ (o : LineRows). LineSettled c.sheet c.blocks (tables_at g d) (rows_at a d) o c.at c.paid stop) (sym (at_same a d o₁ size four))
+          subst (λ (o : LineRows). LineSettled c.sheet c.blocks (tables_at g d) (rows_at a d) o c.at c.paid stop) (sym (at_same a d o₁ size (stop_four crewed st er)))
           (subst (λ (x : ℕ). LineSettled c.sheet c.blocks (tables_at g d) (rows_at a d) o₁ x c.paid stop) (is ∙ sym (here_level on)) found)
 
       abbrev c₁ : Course
@@ -121,13 +97,8 @@ module _ {hall : Hall} {g : Ground} {a : Arrays} {p : Spot} {name : List Bool} {
       slot_one ln h = record { sheet_of_lem = subst (SheetOf ln.job) (slot_sheet g a d c) h.sheet_of_lem; name = h.name ∙ ap concat (slot_blocks g a d c); given = found₁.given }
 
       slot_each : (e : ℕ) → e < length cs → (ln : Line) → SlotOf hall name ln (line_slot g a e (course_in cs e)) → SlotOf hall name ln (line_slot g a₁ e (course_in cs₁ e))
-      slot_each e l ln h = go (ℕ_discrete e d)
-        where
-          go : Dec (e ≡ d) → SlotOf hall name ln (line_slot g a₁ e (course_in cs₁ e))
-          go (yes z) =
-              subst (λ (j : ℕ). SlotOf hall name ln (line_slot g a₁ j (course_in cs₁ j))) (sym z)
-              (subst (λ (x : Course). SlotOf hall name ln (line_slot g a₁ d x)) (sym here₁) (slot_one ln (subst (λ (j : ℕ). SlotOf hall name ln (line_slot g a j (course_in cs j))) z h)))
-          go (no z) = subst (λ (x : Course). SlotOf hall name ln (line_slot g a₁ e x)) (sym (get_or-set_other cs d e c₁ no_course z)) (subst (SlotOf hall name ln) (sym (other e (course_in cs e) z)) h)
+      slot_each = at_each d (λ _ ln h. subst (λ (x : Course). SlotOf hall name ln (line_slot g a₁ d x)) (sym here₁) (slot_one ln h))
+          (λ e z _ ln h. subst (λ (x : Course). SlotOf hall name ln (line_slot g a₁ e x)) (sym (get_or-set_other cs d e c₁ no_course z)) (subst (SlotOf hall name ln) (sym (other e (course_in cs e) z)) h))
 
       at₁ : HallAt hall name (asked_of p) calls (slots_at g a₁ 0 cs₁)
       at₁ = record {
@@ -142,15 +113,12 @@ module _ {hall : Hall} {g : Ground} {a : Arrays} {p : Spot} {name : List Bool} {
       left₁ : left_of hall p ≡ left_of hall m
       left₁ = let z : inner_at hall.jobs d - stop.next ≡ 0 = omega (arith, all) in ap (left_at hall p.step d) er ∙ ap (λ (x : ℕ). line_left hall p.step x (d + 1)) z
 
-      up : level_in g.ats (p.step + 1) d ≡ level_in g.ats p.step d + 1
-      up = let f = st.formed.removal stop er in crewed.table.rises p.step d f.0 f.1 ∙ ap (λ (b : Bool). level_in g.ats p.step d + cond b 1 0) f.2
+      up : level_in g.ats.before (p.step + 1) d ≡ level_in g.ats.before p.step d + 1
+      up = let f = st.formed.removal stop er in crewed.table.rises p.step d f.0 f.1 ∙ ap (λ (b : Bool). level_in g.ats.before p.step d + cond b 1 0) f.2
 
       on₁ : (e : ℕ) → e < length cs₁ → OnCourse g.ats m e (course_in cs₁ e)
-      on₁ e l = go (ℕ_discrete e d)
-        where
-          go : Dec (e ≡ d) → OnCourse g.ats m e (course_in cs₁ e)
-          go (yes z) = subst (λ (j : ℕ). OnCourse g.ats m j (course_in cs₁ j)) (sym z) (subst (OnCourse g.ats m d) (sym here₁) (on_past p.total on up c₁ refl refl))
-          go (no z) = let o = st.courses e (omega (arith, l, length-set cs d c₁)) in subst (OnCourse g.ats m e) (sym (get_or-set_other cs d e c₁ no_course z)) (past_on p.total z o (elsewhere er z o))
+      on₁ = at_each d (λ _. subst (OnCourse g.ats m d) (sym here₁) (on_past p.total on up c₁ refl refl))
+          (λ e z l. let o = st.courses e (omega (arith, l, length-set cs d c₁)) in subst (OnCourse g.ats m e) (sym (get_or-set_other cs d e c₁ no_course z)) (past_on p.total z o (elsewhere er z o)))
 
       -- the node with the stop settled stands at the spot of the lines from the next place on
       pub settled_stood : Stood hall g a₁ m name calls cs₁
@@ -164,41 +132,33 @@ module _ {hall : Hall} {g : Ground} {a : Arrays} {p : Spot} {name : List Bool} {
       }
 
       best₁ : (e : ℕ) → e < length cs → BestSame (rows_at a e).v (rows_at a₁ e).v (course_in cs e).sheet
-      best₁ e l = go (ℕ_discrete e d)
-        where
-          go : Dec (e ≡ d) → BestSame (rows_at a e).v (rows_at a₁ e).v (course_in cs e).sheet
-          go (yes z) = subst (λ (j : ℕ). BestSame (rows_at a j).v (rows_at a₁ j).v (course_in cs j).sheet) (sym z) found₁.best
-          go (no z) = subst (λ (o : LineRows). BestSame (rows_at a e).v o.v (course_in cs e).sheet) (sym (get_or-set_other a d e o₁ no_rows z)) (λ i h. refl)
+      best₁ = at_each d (λ _. found₁.best) (λ e z _. subst (λ (o : LineRows). BestSame (rows_at a e).v o.v (course_in cs e).sheet) (sym (get_or-set_other a d e o₁ no_rows z)) (λ i h. refl))
 
       sheet₁ : (e : ℕ) → e < length cs → (course_in cs₁ e).sheet ≡ (course_in cs e).sheet
-      sheet₁ e l = go (ℕ_discrete e d)
-        where
-          go : Dec (e ≡ d) → (course_in cs₁ e).sheet ≡ (course_in cs e).sheet
-          go (yes z) = subst (λ (j : ℕ). (course_in cs₁ j).sheet ≡ (course_in cs j).sheet) (sym z) (ap (λ (x : Course). x.sheet) here₁)
-          go (no z) = ap (λ (x : Course). x.sheet) (get_or-set_other cs d e c₁ no_course z)
+      sheet₁ = at_each d (λ _. ap (λ (x : Course). x.sheet) here₁) (λ e z _. ap (λ (x : Course). x.sheet) (get_or-set_other cs d e c₁ no_course z))
 
       own_kept : (a'' : Arrays) → LineKept g a₁ a'' d c₁ → LineKept g a a'' d c
       own_kept a'' k =
           let lv = levels_then (rows_at a d).n (rows_at a₁ d).n (rows_at a'' d).n (c.at + 1) (c.at + 1 + 1) (omega arith) found₁.levels k.levels in
           let s = found₁.kept (line_slot g a'' d c₁) k.slot in
           record {
-            slot = subst (λ (x : Slot). SlotKept x (line_slot g a'' d c)) (sym (is_stop a)) (subst (SlotKept (stop_here a)) (sym (is_stop a'' ∙ stop_same c.sheet c.blocks (tables_at g d) (rows_at a d) (rows_at a'' d) c.at c.paid stop lv)) s);
+            slot = subst (λ (x : Slot). SlotKept x (line_slot g a'' d c)) (sym (is_stop crewed st er a)) (subst (SlotKept (stopped_slot g a d c stop)) (sym (is_stop crewed st er a'' ∙ stop_same c.sheet c.blocks (tables_at g d) (rows_at a d) (rows_at a'' d) c.at c.paid stop lv)) s);
             levels = lv;
           }
 
       kept₁ : (a'' : Arrays) → Kept g a₁ a'' cs₁ → Kept g a a'' cs
-      kept₁ a'' k = record { size = k.size ∙ length-set a d o₁; each = λ e l. go e l (ℕ_discrete e d) }
-        where
-          go : (e : ℕ) → e < length cs → Dec (e ≡ d) → LineKept g a a'' e (course_in cs e)
-          go e l (yes z) = subst (λ (j : ℕ). LineKept g a a'' j (course_in cs j)) (sym z) (own_kept a'' (subst (LineKept g a₁ a'' d) here₁ (k.each d (omega (arith, less, length-set cs d c₁)))))
-          go e l (no z) =
-              line_then g a a₁ a'' e (course_in cs e) (untouched_kept g a a₁ e (course_in cs e) (get_or-set_other a d e o₁ no_rows z) (line_given hall name g a cs e l st.at.lines))
-              (subst (LineKept g a₁ a'' e) (get_or-set_other cs d e c₁ no_course z) (k.each e (omega (arith, l, length-set cs d c₁))))
+      kept₁ a'' k = record {
+        size = k.size ∙ length-set a d o₁;
+        each = at_each d (λ _. own_kept a'' (subst (LineKept g a₁ a'' d) here₁ (k.each d (omega (arith, less, length-set cs d c₁)))))
+            (λ e z l.
+            line_then g a a₁ a'' e (course_in cs e) (untouched_kept g a a₁ e (course_in cs e) (get_or-set_other a d e o₁ no_rows z) (line_given hall name g a cs e l st.at.lines))
+            (subst (LineKept g a₁ a'' e) (get_or-set_other cs d e c₁ no_course z) (k.each e (omega (arith, l, length-set cs d c₁)))));
+      }
 
       measure₁ : measure_of m ≤ measure_of p
-      measure₁ = omega (arith, removal_measure st.formed er, four)
+      measure₁ = omega (arith, removal_measure st.formed er, stop_four crewed st er)
 
-      -- and then on to the next question
+      -- a stop is settled, and the walk goes on from there to the next question
       pub settled_arrived : {q : Spot} → Arrived hall g a₁ a₁ m q name calls cs₁ → Arrived hall g a a₁ p q name calls cs
       settled_arrived {q} r = record {
         courses = r.courses;

@@ -14,6 +14,8 @@ use Rattle.hall_state.specs.declared.Spot.{Spot}
 use Rattle.hall_state.specs.Courses.{Arrays, Course}
 use Rattle.hall_state.specs.Spots.{inner_at, line_spot, Stood, Asked}
 use Rattle.hall_state.specs.Moves.{Arrived}
+use Rattle.hall_state.proofs.Courses.{same_self}
+use Rattle.hall_turns.specs.Turns.{StoodAt}
 
 module _ {hall : Hall} {g : Ground} {a : Arrays} {p : Spot} {name : List Bool} {calls : ℕ} {cs : List Course} (st : Stood hall g a p name calls cs) where
   -- it is there, if this is asked
@@ -23,7 +25,7 @@ module _ {hall : Hall} {g : Ground} {a : Arrays} {p : Spot} {name : List Bool} {
     stood = st;
     asked = ask;
     tree = refl;
-    same = record { size = refl; sheet = λ e l. refl; best = λ e l i h. refl };
+    same = same_self a cs;
     kept = λ a'' k. k;
     measure = omega arith;
   }
@@ -43,3 +45,7 @@ module _ {hall : Hall} {g : Ground} {a : Arrays} {p : Spot} {name : List Bool} {
 -- at a line's question the spot is that of the lines from there on
 pub as_lines : (p : Spot) → p.asks ≡ LineStop → p ≡ line_spot p p.line p.total
 as_lines p e = λ i. record { asks = e i; step = p.step; line = p.line; total = p.total }
+
+-- where a line's question is asked, the walk stands at the spot of the lines from there on
+abbrev pub lines_at : {g : Ground} {a : Arrays} {p : Spot} → p.asks ≡ LineStop → StoodAt g a p → StoodAt g a (line_spot p p.line p.total)
+lines_at {g} {a} {p} e k = record { hall = k.hall; name = k.name; calls = k.calls; cs = k.cs; crewed = k.crewed; stood = subst (λ (q : Spot). Stood k.hall g a q k.name k.calls k.cs) (as_lines p e) k.stood }

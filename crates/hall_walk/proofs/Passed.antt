@@ -44,7 +44,8 @@ use Rattle.hall_state.proofs.Courses.{slot_sheet, all_then, all_kept_lem, same_b
 use Rattle.hall_state.proofs.Left.{SameLeft, same_path, same_then, raised, raised_both, on_end}
 use Rattle.hall_state.proofs.Moves.{asked_near}
 use Rattle.hall_state.proofs.Spots.{cond_no}
-use Rattle.hall_moves.specs.Asks.{Asking}
+use Rattle.hall_moves.specs.Asks.{Asking, AskedAt}
+use Rattle.hall_turns.specs.Turns.{StoodAt}
 use Rattle.hall_calls.proofs.Passes.{asking_kept}
 use Rattle.hall_turns.specs.Turns.{KeptLines}
 use Rattle.hall_walk.specs.Walk.{Reaches, HallWalked, walk_measure}
@@ -60,18 +61,18 @@ sees_as hall g a a' cs cs' best masks s k f l = parts_same hall best (lines_of h
 -- ---- a node below
 
 module _ {hall : Hall} {x : Bool} {g : Ground} {a a₁ : Arrays} {p : Spot} {q : Option Spot} {name : List Bool} {cs : List Course} {limit : ℕ} {s : Search} (b : Below hall x g a a₁ p q name cs limit s) where
-  -- its calls and courses, where it is walked on
+  -- the calls at the node below, where it is walked on
   pub calls_below : (t : Option Spot) → q ≡ t → ℕ
   calls_below None e = 0
   calls_below (Some r) e = (b.opened r e).2.calls
 
-  -- its courses
+  -- the courses at the node below, where it is walked on
   pub courses_below : (t : Option Spot) → q ≡ t → List Course
   courses_below None e = []
   courses_below (Some r) e = (b.opened r e).2.courses
 
 module _ {hall : Hall} {x : Bool} {g : Ground} {a a₁ : Arrays} {p : Spot} {q : Option Spot} {name best : List Bool} {cs : List Course} {masks : List ℕ} {limit : ℕ} {s : Search} (crewed : Crewed hall g.ats) (b : Below hall x g a a₁ p q name cs limit s) (sees : Sees hall best (slots_at g a 0 cs) masks s) where
-  -- it is reached
+  -- the node below is reached
   pub enters : (t : Option Spot) (e : q ≡ t) → Reaches hall g a₁ q (snoc name x) best (calls_below b t e) (courses_below b t e) masks limit s
   unfolding calls_below courses_below
   enters (Some r) e =
@@ -152,8 +153,8 @@ module _ {hall : Hall} {g : Ground} {a b : Arrays} {p : Spot} {name : List Bool}
     is_level : (x : Arrays) → line_slot g x e c ≡ level_slot g x e c
     is_level x = ap (λ (t : Option Stop). slot_by t g x e c) (ended.stop ∙ ap (λ (q : Question). stop_by q (eqb e p.line)) is_calling)
 
-    at_end_lem : c.at ≡ level_in g.ats (step_count hall) e
-    at_end_lem = ended.level ∙ cond_no (level_in g.ats (p.step + 1) e) (level_in g.ats p.step e) (ap (ltb e) (st.formed.call is_calling).1 ∙ le-ltb e 0 (omega arith)) ∙ ap (λ (k : ℕ). level_in g.ats k e) end
+    at_end_lem : c.at ≡ level_in g.ats.before (step_count hall) e
+    at_end_lem = ended.level ∙ cond_no (level_in g.ats.before (p.step + 1) e) (level_in g.ats.before p.step e) (ap (ltb e) (st.formed.call is_calling).1 ∙ le-ltb e 0 (omega arith)) ∙ ap (λ (k : ℕ). level_in g.ats.before k e) end
 
     given : Given (level_slot g a e c)
     given = subst Given (is_level a) (line_given hall name g a cs e l st.at.lines)
@@ -172,7 +173,7 @@ module _ {hall : Hall} {g : Ground} {a b : Arrays} {p : Spot} {name : List Bool}
           settled = refl;
           end = at_end_lem ∙ crewed.table.ends e j.job j.placed ∙ sym j.openings;
           best = filled;
-          mask = kl.masks e (omega (arith, l, st.count)) ∙ ap (mask_in (rows_at a e).n) (ap (λ (k : ℕ). level_in g.ats k e) crewed.table.steps_are ∙ sym at_end_lem);
+          mask = kl.masks e (omega (arith, l, st.count)) ∙ ap (mask_in (rows_at a e).n) (ap (λ (k : ℕ). level_in g.ats.before k e) crewed.table.steps_are ∙ sym at_end_lem);
         }
 
     kept : SlotKept (level_slot g a e c) (level_slot g b e c)
@@ -186,7 +187,7 @@ module _ {hall : Hall} {g : Ground} {a b : Arrays} {p : Spot} {name : List Bool}
           pending = λ q. absurd (false≢true q);
         }
 
-  -- its lines are kept, they close, and nothing is left to ask
+  -- the lines of a full node are kept, they close, and nothing is left to ask
   pub full_at : Kept g a b cs × AllClose (slots_at g a 0 cs) (slots_at g b 0 cs) masks × SameLeft (left_of hall p) []
   full_at = (
     record {
@@ -207,6 +208,18 @@ module _ {hall : Hall} {g : Ground} {a b : Arrays} {p : Spot} {name : List Bool}
 -- a node that is walked on is within the limit
 pub within : {hall : Hall} {g : Ground} {a : Arrays} {u : Option Spot} {q : Spot} {name best : List Bool} {calls : ℕ} {cs : List Course} {masks : List ℕ} {limit : ℕ} {s : Search} → Reaches hall g a u name best calls cs masks limit s → u ≡ Some q → s.count < limit
 within {hall} {g} {a} {u} {q} {name} {best} {calls} {cs} {masks} {limit} {s} h e = let o = h.opened q e in (opened h.due_at name limit (λ _. best) s o.0 o.1).within
+
+-- where a node that is walked on stands
+abbrev pub stands_at : {hall : Hall} {g : Ground} {a : Arrays} {u : Option Spot} {q : Spot} {name best : List Bool} {calls : ℕ} {cs : List Course} {masks : List ℕ} {limit : ℕ} {s : Search} → Reaches hall g a u name best calls cs masks limit s → u ≡ Some q → StoodAt g a q
+stands_at {hall} {g} {a} {u} {q} {name} {best} {calls} {cs} h e = record { hall = hall; name = name; calls = calls; cs = cs; crewed = h.crewed; stood = (h.opened q e).2 }
+
+-- a question that is asked, at its spot
+abbrev pub asked_at : {hall : Hall} {g : Ground} {a : Arrays} {p : Spot} {name : List Bool} {calls : ℕ} {cs : List Course} → Asking hall g a p name calls cs → AskedAt p.asks g a p
+asked_at {hall} {g} {a} {p} {name} {calls} {cs} k = record { hall = hall; name = name; calls = calls; cs = cs; asking = k; is = refl }
+
+-- a question that is asked, named by what it is
+abbrev pub asked_as : {g : Ground} {a : Arrays} {p : Spot} {r : Question} → p.asks ≡ r → AskedAt p.asks g a p → AskedAt r g a p
+asked_as e k = record { hall = k.hall; name = k.name; calls = k.calls; cs = k.cs; asking = k.asking; is = e }
 
 -- ---- the node itself
 
@@ -255,11 +268,11 @@ module _ {hall : Hall} {g : Ground} {a a₁ : Arrays} {u : Option Spot} {q p : S
     sees_there = subst (Sees hall best (slots_at g a₁ 0 ar.courses) masks) (sym counted) (sees_as hall g a a₁ cs ar.courses best masks (counted_s s) ar.same o.4)
 
     module _ {q₁ : Option Spot} {a₂ : Arrays} (b₁ : Below hall false g a₁ a₂ p q₁ name ar.courses limit s₁) where
-      -- its calls
+      -- the calls at the node of a no
       abbrev pub calls₁ : ℕ
       calls₁ = calls_below b₁ q₁ refl
 
-      -- its courses
+      -- the courses at the node of a no
       abbrev pub courses₁ : List Course
       courses₁ = courses_below b₁ q₁ refl
 
@@ -284,7 +297,7 @@ module _ {hall : Hall} {g : Ground} {a a₁ : Arrays} {u : Option Spot} {q p : S
           abbrev pub calls₂ : ℕ
           calls₂ = calls_below b₂ q₂ refl
 
-          -- its courses
+          -- the courses at the node of a yes
           abbrev pub courses₂ : List Course
           courses₂ = courses_below b₂ q₂ refl
 
@@ -316,11 +329,11 @@ below_falls {hall} {x} {g} {a} {a₁} {p} {q} {name} {cs} {limit} {s} {m} b l = 
     go (Some r) e = omega (arith, l, (b.opened r e).2.measure)
 
 -- what closing asks of the table
-pub close_asks : {hall : Hall} {g : Ground} {a : Arrays} {p : Spot} {name : List Bool} {calls : ℕ} {cs : List Course} → Crewed hall g.ats → Stood hall g a p name calls cs → (e : ℕ) → e < g.ats.lines → level_in g.ats g.ats.steps e ≤ 64
+pub close_asks : {hall : Hall} {g : Ground} {a : Arrays} {p : Spot} {name : List Bool} {calls : ℕ} {cs : List Course} → Crewed hall g.ats → Stood hall g a p name calls cs → (e : ℕ) → e < g.ats.lines → level_in g.ats.before g.ats.steps e ≤ 64
 close_asks {hall} {g} {a} {p} {name} {calls} {cs} k st e l =
     let m : e < length cs = omega (arith, l, k.table.lines_are, st.count) in
     let j = job_here hall name g a cs e m st.at.lines in
     let h = line_given hall name g a cs e m st.at.lines in
     let few = subst (λ (x : HeldSheet). length x.positions ≤ 64) (slot_sheet g a e (course_in cs e)) h.tables.few in
-    let i = ap (λ (n : ℕ). level_in g.ats n e) k.table.steps_are ∙ k.table.ends e j.job j.placed in
+    let i = ap (λ (n : ℕ). level_in g.ats.before n e) k.table.steps_are ∙ k.table.ends e j.job j.placed in
     omega (arith, i, j.openings, few)

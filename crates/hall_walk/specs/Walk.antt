@@ -26,7 +26,7 @@ pub record Reaches (hall : Hall) (g : Ground) (a : Arrays) (q : Option Spot) (na
   pub closed : q ≡ None → open_s limit due e s ≡ Missing
   pub opened : (r : Spot) → q ≡ Some r → (y : ℕ) × (open_s limit due e s ≡ Sum y) × Stood hall g a r name calls cs × (left_of hall r ≡ left) × Sees hall best (slots_at g a 0 cs) masks s
 
--- it is passed by, and nothing else is written; or walked on from
+-- what the walk does at a node: it passes it by, and nothing else is written, or walks on from it
 pub record HallWalked (hall : Hall) (left : List Agenda) (g : Ground) (a a' : Arrays) (q : Option Spot) (name best : List Bool) (cs : List Course) (masks masks' : List ℕ) (limit : ℕ) (s r : Search) : Type 0 where
   pub count : length masks' ≡ length masks
   pub passed : q ≡ None → (r ≡ reached_s limit s) × (a' ≡ a) × (masks' ≡ masks)

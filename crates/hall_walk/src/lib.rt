@@ -5,37 +5,30 @@ ghost use Rattle.std.specs.Prelude.{◌≡◌, List, Bool, ℕ, ◌+◌, ◌<◌
 ghost use Rattle.hall.specs.Hall.{Hall};
 ghost use Rattle.hall_state.specs.Courses.{Course};
 ghost use Rattle.hall_state.specs.Moves.{Below};
-ghost use Rattle.hall_moves.specs.Asks.{Asking};
+ghost use Rattle.hall_moves.specs.Asks.{AskedAt};
 ghost use Rattle.hall_walk.specs.Walk.{Reaches, HallWalked};
 
 use hall_calls::call_below;
 use hall_lines::LineRows;
 use hall_moves::{line_below, removal_below};
-use hall_state::{Ground, Question, Spot};
+use hall_state::{Branch, Ground, Question, Spot};
 use hall_turns::{arrive, close};
 use walk::Search;
 
 // The node below the question, where the answer is no, or where it is yes.
-pub fn below(
-    ground: &Ground,
-    rows: &mut [LineRows; 4],
-    yes: bool,
-    limit: u64,
-    p: Spot,
-    s: Search,
-) -> Option<Spot>
-    requires { (hall : Hall) × ((name : List Bool) × ((calls : ℕ) × ((cs : List Course) × Asking hall ground.now rows.old p name calls cs))) }
-    ensures { (hall : Hall) (name : List Bool) (calls : ℕ) (cs : List Course) → Asking hall ground.now rows.old p name calls cs
-        → Below hall yes ground.now rows.old rows.new p result name cs limit s }
+pub fn below(ground: &Ground, rows: &mut [LineRows; 4], b: Branch) -> Option<Spot>
+    requires { AskedAt b.p.asks ground.now rows.old b.p }
+    ensures { (k : AskedAt b.p.asks ground.now rows.old b.p) → Below k.hall b.yes ground.now rows.old rows.new b.p result k.name k.cs b.limit b.s }
 {
-    match p.asks {
-        Question::CrewCall => call_below(ground, rows, yes, limit, p, s),
-        Question::LineStop => line_below(ground, rows, yes, limit, p, s),
-        Question::PartRemoval(stop) => removal_below(ground, rows, yes, limit, p, stop, s),
+    match b.p.asks {
+        Question::CrewCall => call_below(ground, rows, b),
+        Question::LineStop => line_below(ground, rows, b),
+        Question::PartRemoval(stop) => removal_below(ground, rows, stop, b),
     }
 }
 
 // Walks on from the node, if it is to be walked on: a full node becomes the incumbent; else no first, then yes.
+// Kept with the limit beside the search, as in `walk`, and with the ground apart from the rows, as at `Ground`.
 pub fn walk(
     ground: &Ground,
     rows: &mut [LineRows; 4],
@@ -57,8 +50,20 @@ pub fn walk(
         close(ground, rows, best);
         return c.kept(p.total, 0);
     }
-    let none = below(ground, rows, false, limit, p, c);
+    let no = Branch {
+        p,
+        yes: false,
+        limit,
+        s: c,
+    };
+    let none = below(ground, rows, no);
     let a = walk(ground, rows, best, limit, none, c);
-    let some = below(ground, rows, true, limit, p, a);
+    let yes = Branch {
+        p,
+        yes: true,
+        limit,
+        s: a,
+    };
+    let some = below(ground, rows, yes);
     walk(ground, rows, best, limit, some, a)
 }

@@ -13,10 +13,10 @@ use Rattle.model.specs.Decisions.{of_holders, charge, held_at}
 use Rattle.model.specs.Verdict.{part_at, no_part}
 use Rattle.model.proofs.Closure.{out_length}
 use Rattle.model.proofs.Totals.{select-length}
-use Rattle.jobs.specs.Views.{job_of, Sized}
+use Rattle.jobs.specs.Views.{job_of}
 use Rattle.jobs.specs.Valid.{ValidJob}
 use Rattle.jobs.specs.declared.Job.{Job}
-use Rattle.jobs.proofs.Jobs.{Whole, part_count}
+use Rattle.jobs.proofs.Jobs.{part_count}
 use Rattle.clock.proofs.Places.{places_are}
 use Rattle.coming_out.proofs.Rows.{row-take}
 use Rattle.held_places.specs.Arrays.{need_stride, prices_at, needs_at, Lane, HeldJobArrays}
@@ -78,7 +78,7 @@ module _ (job : model.Job) (t : HolderNumbers) (holders : HolderNumbersOf job t)
       long : length (needs_at t.holding t.needs q) ≡ t.holding
       long = length-take-le t.holding (drop (q * need_stride) t.needs) (omega (arith, length-drop (q * need_stride) t.needs, holders.needs.size, holders.few, h, most))
 
-module _ (j : Job) (sized : Sized j) (whole : Whole j) (valid : ValidJob (job_of j)) (r : Numbers) (numbered : Numbered (job_of j) j.opening_count j.part_count r) (t : HolderNumbers)
+module _ (j : Job) (valid : ValidJob (job_of j)) (r : Numbers) (numbered : Numbered (job_of j) j.opening_count j.part_count r) (t : HolderNumbers)
     (holders : HolderNumbersOf (job_of j) t) (ps : List ℕ) (laid : Laid j.part_count (prices_with (job_of j) t.charges) ps) where
   abbrev n : ℕ
   n = j.opening_count
@@ -90,7 +90,7 @@ module _ (j : Job) (sized : Sized j) (whole : Whole j) (valid : ValidJob (job_of
   decided = take t.holding t.removals
 
   long : Counted n m r
-  long = counted j sized whole r numbered
+  long = counted j r numbered
 
   -- the part as it is planned for
   lane : (q : ℕ) → q < length (take m r.lives)
@@ -98,12 +98,12 @@ module _ (j : Job) (sized : Sized j) (whole : Whole j) (valid : ValidJob (job_of
   lane q l =
       let h : q < m = omega (arith, l, long.lives) in
       let ns = (part_at (job_of j) q).prices in
-      let added = ap (λ (c : ℕ). table (λ k. get_or ns k 0 + c) (length (job_of j).openings)) (holders.charges q (omega (arith, h, sized.parts))) in
+      let added = ap (λ (c : ℕ). table (λ k. get_or ns k 0 + c) (length (job_of j).openings)) (holders.charges q (omega (arith, h, j.few_parts))) in
       record {
-        life = sym (life_at_lem j sized whole r numbered q 0 h);
-        left = sym (left_at_lem j sized whole r numbered q 0 h);
-        prices = sym (ap (λ (k : ℕ). prices_at k ps q) long.places ∙ prices_at_lem j sized whole t.charges ps laid q h ∙ added);
-        needs = sym (ap (λ (k : ℕ). needs_at k t.needs q) (removals_long (job_of j) t holders) ∙ needs_at_lem (job_of j) t holders q (omega (arith, h, part_count j sized whole)) (omega (arith, sized.parts, part_count j sized whole)));
+        life = sym (life_at_lem j r numbered q 0 h);
+        left = sym (left_at_lem j r numbered q 0 h);
+        prices = sym (ap (λ (k : ℕ). prices_at k ps q) long.places ∙ prices_at_lem j t.charges ps laid q h ∙ added);
+        needs = sym (ap (λ (k : ℕ). needs_at k t.needs q) (removals_long (job_of j) t holders) ∙ needs_at_lem (job_of j) t holders q (omega (arith, h, part_count j)) (omega (arith, j.few_parts, part_count j)));
       }
 
   -- the arrays hold the job: its openings, its removals, and each part's life, prices and needs
@@ -111,9 +111,9 @@ module _ (j : Job) (sized : Sized j) (whole : Whole j) (valid : ValidJob (job_of
   holds =
       record {
         ends = numbered.placed.end;
-        places = places_are j sized whole r.placed numbered.placed;
+        places = places_are j r.placed numbered.placed;
         fees = numbered.fees;
         removals = removals_are (job_of j) t holders;
-        parts = part_count j sized whole ∙ sym long.lives;
+        parts = part_count j ∙ sym long.lives;
         lane = lane;
       }

@@ -18,8 +18,8 @@ pub struct HolderNumbers {
 }
 
 // What holders and removals add to the numbers of a job.
-pub fn holder_numbers_of(job: Job) -> HolderNumbers
-    ensures { HolderNumbersOf (job_of job) result }
+pub fn holder_numbers_of(job: &Job) -> HolderNumbers
+    ensures { HolderNumbersOf (job_of job.now) result }
 {
     let count = job.part_count;
     let paid = removals_of(job);

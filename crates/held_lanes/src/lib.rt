@@ -1,6 +1,7 @@
 // Lanes where parts hide behind others: sets of lanes, the terms by classes, the last mark of each class.
-// A loop over places stands where places are computed: fours of lanes, classes of a row, entries of a list in the tables.
-// Kept here as loops and tests: with lane_rows::turn and by_fours a node of the job 36_week16_heads_d60 takes 24.6 ns, with these 22.3.
+// Kept as a loop in pick_row and as tests in shut_row and stop_row: with lane_rows::turn and by_fours in their place a node of the job 36_week16_heads_d60 takes 24.6 ns, with these 22.3. The other loops have their reasons beside them.
+// Kept as slices: the rows of pick_row, of which callers hand parts of the stack and of what stands beside it, and the lanes, for which an array would ask those outside for that very length. Kept as slices of a length that is asked in spread, class_term, opening_term, removal_term, note_lasts, shut_lanes and put_lanes, though their callers have arrays: what is asked of the tables is one record in each contract, which the proofs of the walk hand on whole; array types in its place are not tried.
+// Kept as parameters side by side, the tables, the stack and what goes with it (t, u, v, w): each function reads some of them and writes others, so a struct of them would be lent as a whole where one part is written.
 #![tactic(auto)]
 
 ghost use Rattle.std.specs.Prelude.{◌≡◌, cond, ℕ, ◌+◌, ◌*◌, ◌^◌, ◌<◌, ◌≤◌, max, eqb, length, get_or};
@@ -12,42 +13,65 @@ ghost use Rattle.held_lanes.specs.Tables.{SpreadAsks, PickAsks, ShutAsks, shut_l
 
 use lane_rows::{BLOCK_ROWS, FOURS, INF, LANES, STACK, TABLES, row_of, store_row, total};
 use least::MARKS;
+use model::{OPENINGS, PARTS};
 
-// The tables for holders: where each region starts, and their size.
+// The sets that four lanes have.
+const FOUR_SETS: usize = 16;
 
+// The tables for holders: the terms of the classes start at 0, and each other region where one of these constants says.
+
+// The largest term of each level where every last mark is the opening just decided.
 pub const TOPS: usize = BLOCK_ROWS * LANES;
 
+// The removal of each holding part.
 pub const REMOVALS: usize = TOPS + MARKS;
 
+// The set of the lanes that need each holding part.
 pub const NEED_LANES: usize = REMOVALS + LANES;
 
+// How many classes need each holding part.
 pub const NEED_COUNTS: usize = NEED_LANES + LANES;
 
+// Which classes need each holding part: a row of room for each.
 pub const NEED_CLASSES: usize = NEED_COUNTS + LANES;
 
+// The masks of each set of four lanes, four numbers each.
 pub const MASKS: usize = NEED_CLASSES + LANES * LANES;
 
-pub const LEADS: usize = MASKS + 64;
+// A lane of each class.
+pub const LEADS: usize = MASKS + FOUR_SETS * 4;
 
+// How many classes the job has.
 pub const CLASSES: usize = LEADS + LANES;
 
+// How many holding parts the job has.
 pub const HOLDS: usize = CLASSES + 1;
 
+// How many numbers the tables for holders have.
 pub const HELD: usize = HOLDS + 1;
 
-// Beside the stack of rows.
+// Beside the stack of rows: the last marks of each class start at 0, a row for each row of the stack, and each other region where one of these constants says.
 
+// The removals decided at each opening, a bit for each holding part.
 pub const REMOVED: usize = MARKS * LANES;
 
-pub const BEST: usize = REMOVED + 64;
+// The incumbent's removals at each opening.
+pub const BEST: usize = REMOVED + OPENINGS;
 
-pub const PENDING: usize = BEST + 64;
+// The row of the stop at hand above so many rows, as if it were shut to no lane.
+pub const PENDING: usize = BEST + OPENINGS;
 
+// Whether the row of the stop at hand is found, above so many rows.
 pub const READY: usize = PENDING + MARKS * LANES;
 
+// How many numbers stand beside the stack.
 pub const ASIDE: usize = READY + MARKS;
 
+// How many decisions the name of a node has at most: a stop for each opening, and at each stop the removal of each part.
+pub const NAMES: usize = OPENINGS * (PARTS + 1);
+
 // Four numbers, from place m on, as the lanes from `at` on.
+// Kept as a loop over places: with copy_from_slice the walk with holders is compiled to 1,465 instructions, with this loop to 1,103, a third less in the loop whose time a node is the bar; a time of its own was not taken.
 fn put_four(u: &[u32], m: usize, at: usize, acc: &mut [u32])
     requires { (m + 4 ≤ length u.now) × (at + 4 ≤ length acc.old) × (m ≤ held_size) × (at ≤ lane_count_lem) }
     ensures { FilledBy (λ (i : ℕ). at + i) (λ (i : ℕ). get_or u.now (m + i) 0) 4 acc.old acc.new }
@@ -58,19 +82,21 @@ fn put_four(u: &[u32], m: usize, at: usize, acc: &mut [u32])
 }
 
 // The lanes of a set: INF for each of them, 0 for the others.
+// Kept as a loop over fours: the set is used up, four lanes at a time, as they are written.
 pub fn spread(fours: usize, u: &[u32], set: usize, acc: &mut [u32])
     requires { SpreadAsks fours u.now acc.old }
     ensures { Turned (fours * 4) (mask_of set) acc.old acc.new }
 {
     let mut s = set;
     for k in 0..fours {
-        let m = MASKS + s % 16 * 4;
+        let m = MASKS + s % FOUR_SETS * 4;
         put_four(u, m, k * 4, acc);
-        s = s / 16;
+        s = s / FOUR_SETS;
     }
 }
 
 // The second number where there is a mask, else the first.
+// Kept as a function of its own: note_lasts picks one number by it, pick_row a whole row, and the library has no method that picks by a mask.
 fn pick(mask: u32, yes: u32, no: u32) -> u32
     ensures { result ≡ cond (eqb mask 0) yes no }
 {
@@ -165,6 +191,7 @@ pub fn stop_row(
 }
 
 // The number at a place.
+// Kept beside lane_rows::cell: that one reads the tables, whose size a type says, this one any slice. Kept as a cast: on a machine of 16 bits a usize has no room for a u32, so the library has no From.
 pub fn number(s: &[u32], i: usize) -> usize
     requires { (i < length s.now) × (length s.now ≤ 2 ^ 32) }
     ensures value { result ≡ get_or s.now i 0 }
@@ -183,6 +210,7 @@ fn class_term(u: &[u32], v: &[u32], level: usize, r: usize, c: usize) -> usize
 }
 
 // The largest term of the classes at level j, with the last marks of row r.
+// Kept as a loop, as removal_term: tried as a map with max, of which the library says a `reduce` over the list of the terms; that each call is allowed follows from the range, and the step from a list to most_to, which both contracts name, stands in held_tables (max_all), which cites this crate; with that lemma moved here it is not tried.
 pub fn opening_term(u: &[u32], v: &[u32], j: usize, r: usize) -> usize
     requires { TermAsks u.now v.now j r }
     ensures { result ≡ most_to (term_of u.now v.now j r) (get_or u.now classes_place 0) }
@@ -213,6 +241,7 @@ pub fn removal_term(u: &[u32], v: &[u32], j: usize, r: usize, b: usize, g: usize
 }
 
 // The last mark of each class above so many rows, where a stop leaves `at` openings decided: the classes that it is shut to keep theirs.
+// Kept as a loop over places: the row that is written and the one above which it stands are parts of one array, so slices of both would be split off first, and a class is asked for by its number besides. Kept as a cast: a usize may be more than a u32 holds, so the library has no From; there are 1,040 offsets at most.
 pub fn note_lasts(u: &[u32], v: &mut [u32], at: usize, rows: usize, set: usize)
     requires { NoteAsks u.now v.old at rows }
     ensures { FilledBy (last_place rows) (noted u.now v.old at rows set) (get_or u.now classes_place 0) v.old v.new }

@@ -1,10 +1,11 @@
 -- The first node: nothing is decided, so its part sums and its term are those without holders, and what the walk is given of it.
 use Prim.Native.Nat.{ℕ, zero, suc, ◌-◌, ◌*◌, ◌≤◌, min}
-use mathlib.Core.Path.{◌≡◌, refl, sym, ap, ap₂, ◌∙◌}
+use mathlib.Core.Path.{◌≡◌, refl, sym, ap, ap₂, subst, ◌∙◌}
 use mathlib.Core.Bool.{Bool, false, false≢true}
 use mathlib.Core.List.{List, [], ◌∷◌, map}
 use native.Mathlib.Omega.{arith}
 use borrow.Author.Tests.{le-ltb}
+use lib.Dec.{ltb}
 use lib.ListN.{length, get_or, take}
 use Rattle.branch.specs.declared.Bound.{Bound}
 use Rattle.branch.specs.declared.Bound.TheVariants.{Missing, Sum}
@@ -30,9 +31,10 @@ use Rattle.held_lanes.specs.Tables.{HeldTables}
 use Rattle.held_stops.proofs.Children.{bound_in}
 use Rattle.held_stops.proofs.Names.{opening_bound}
 use Rattle.walk.specs.declared.Search.{Search}
-use Rattle.walk.specs.State.{no_cost, solved_s}
+use Rattle.walk.specs.State.{no_cost, over_s, solved_s}
 use Rattle.held_nodes.specs.declared.Node.{Node}
-use Rattle.held_nodes.specs.State.{blocks_of, view, tree_at, At, HeldSolves}
+use Rattle.held_nodes.specs.State.{blocks_of, best_name, view, tree_at, At, HeldSolves}
+use Rattle.walk.proofs.Nodes.{found_is}
 use Rattle.walk.proofs.Trees.{DueAt, where_there}
 use Rattle.held_nodes.proofs.Given.{sums_low}
 
@@ -137,6 +139,20 @@ module _ (sheet : HeldSheet) (t u w : List ℕ) (ta : Tables (plain sheet) t) (h
         };
       }
 
+  -- by the numbers that are read: the part sums b and the term d
+  module _ (b : Bound) (g : b ≡ sum_where due firsts) (d : ℕ) (k : d ≡ due) where
+    -- what is due of it
+    pub begun_due : (h : ℕ) → DueAt (tree_at sheet (root_n h) []) b d
+    begun_due h = subst (DueAt (tree_at sheet (root_n h) []) b) (sym k) (subst (λ (e : Bound). DueAt (tree_at sheet (root_n h) []) e due) (sym g) (root_due h))
+
+    -- they make its bound
+    pub begun_bound : add (Sum d) b ≡ held_bound sheet []
+    begun_bound = ap₂ (λ (n : ℕ) (e : Bound). add (Sum n) e) k g ∙ sym bound_first
+
+    -- they are part of what the walk is given
+    pub begun_given : (v₀ v : List ℕ) (h x : ℕ) → length v₀ ≡ aside_size → FilledBy (last_place 0) (offset 0) (get_or u classes_place 0) v₀ v → h ≡ held sheet → b ≡ Sum x → At sheet [] t u w v (root_n h) x d
+    begun_given v₀ v h x size f n e = subst (At sheet [] t u w v (root_n h) x) (sym k) (root_given v₀ v h x size f n (sym g ∙ e))
+
 -- ---- the end
 
 -- nothing is counted and nothing found
@@ -157,5 +173,5 @@ root_ends limit sheet v v' h s floor n f e =
     let y : length sheet.positions - 0 ≡ length sheet.positions = omega arith in
     record {
       floor = f;
-      walked = e ∙ (λ i. limited limit (left_at (held_bound sheet) (held sheet) (z i) (y i) []) [] (fresh-view limit sheet v i));
+      walked = (λ i. record { count = min s.count limit; over = over_s limit s; incumbent = found_is (ltb s.cost no_cost) s.cost (best_name (held sheet) (length sheet.positions) v' s.mask) i }) ∙ e ∙ (λ i. limited limit (left_at (held_bound sheet) (held sheet) (z i) (y i) []) [] (fresh-view limit sheet v i));
     }

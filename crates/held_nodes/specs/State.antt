@@ -1,12 +1,11 @@
 -- The code's state and node as the search's, with the removals of each stop, and what the walk is given at a node.
 use Rattle.std.specs.Prelude.{ℕ, zero, suc, ◌+◌, ◌-◌, ◌*◌, ◌/◌, ◌%◌, ◌^◌, ◌<◌, ◌≤◌, ◌≡◌, Bool, true, false, cond, List, [], ◌∷◌, ◌++◌, eqb, length, get_or}
-use Rattle.branch.specs.declared.Bound.{Bound}
-use Rattle.branch.specs.declared.Bound.TheVariants.{Missing, Sum}
-use Rattle.branch.specs.Search.{Tree, none, plan, Limited, onward, at_most}
+use Rattle.branch.specs.declared.Bound.TheVariants.{Sum}
+use Rattle.branch.specs.Search.{Tree, Limited, onward, at_most}
 use Rattle.branch.specs.Questions.{left_at}
 use Rattle.model.specs.Decisions.{concat}
 use Rattle.lane_rows.specs.Layout.{lane_count_lem, top, inf}
-use Rattle.lane_rows.specs.Tables.{sum_where, Tables}
+use Rattle.lane_rows.specs.Tables.{Tables}
 use Rattle.lane_rows.specs.Rows.{Memo, Recalled}
 use Rattle.held_rows.specs.Held.{HeldSheet, plain, no_lane, held, seen_by, paid_in, held_sums, held_term, held_bound, Classed}
 use Rattle.held_rows.specs.Rows.{SeenRows}
@@ -15,7 +14,7 @@ use Rattle.held_lanes.specs.Tables.{HeldTables, Lasts}
 use Rattle.held_stops.specs.Stops.{ShutSet, Pended, StopPut, StopNoted}
 use Rattle.walk.specs.declared.Search.{Search}
 use Rattle.walk.specs.declared.Solved.{Solved}
-use Rattle.walk.specs.State.{bits, view_of, open_s}
+use Rattle.walk.specs.State.{bits, view_of, found_as}
 use Rattle.held_nodes.specs.declared.Node.{Node}
 
 -- ---- decisions in numbers
@@ -150,15 +149,6 @@ pub record HeldWalked (sheet : HeldSheet) (ds : List (List Bool)) (t w w' v v' :
 
 -- ---- what the functions beside it ask and do
 
--- another number in the place of one that is there
-unfoldable pub instead : ℕ → Bound → Bound
-instead d Missing = Missing
-instead d (Sum x) = Sum d
-
--- the fees, removals and term h of a node, if its term is there and part sums of x do not drop it
-abbrev pub due_s : ℕ → ℕ → ℕ → ℕ → Search → Bound
-due_s limit spent h x s = instead (spent + h) (open_s limit (spent + h) (sum_where h x) s)
-
 -- a node is settled: at an opening nothing moves, a stop has its row and its marks written
 pub record NodeSettled (t u w w' v v' : List ℕ) (p : Node) (r : ℕ) : Type 0 where
   pub no : p.owed ≡ false → (r ≡ p.rows) × (w' ≡ w) × (v' ≡ v)
@@ -168,7 +158,7 @@ pub record NodeSettled (t u w w' v v' : List ℕ) (p : Node) (r : ℕ) : Type 0 
 
 -- what is handed over, as the search has it
 abbrev pub limited_s : HeldSheet → List ℕ → Solved → Limited
-limited_s sheet v r = record { count = r.count; over = r.over; incumbent = cond r.found (plan r.cost (best_name (held sheet) (length sheet.positions) v r.mask)) none }
+limited_s sheet v r = record { count = r.count; over = r.over; incumbent = found_as (best_name (held sheet) (length sheet.positions) v r.mask) r.cost }
 
 -- what the search of a sheet gives: the first node's bound, and the walk's last state
 pub record HeldSolves (sheet : HeldSheet) (limit : ℕ) (v : List ℕ) (r : Solved) : Type 0 where

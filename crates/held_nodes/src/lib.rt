@@ -1,4 +1,5 @@
 // A node of the walk over the tables of a job with holders: the nodes below it, its part sums, and what is kept of it.
+// Kept as parameters side by side in settle, no_sums and stay_sums: of the tables, the stack and what goes with it each reads some and writes others; and the numbers are the fees and rows of a node with the opening and the term of the one below it, so that neither node holds them all.
 #![tactic(auto)]
 
 ghost use Rattle.std.specs.Prelude.{◌≡◌, true, false, ℕ, ◌+◌, ◌-◌, ◌*◌, ◌^◌, ◌<◌, ◌≤◌, length, get_or};
@@ -9,16 +10,19 @@ ghost use Rattle.lane_rows.specs.Rows.{lane, sum_lanes, Looks, Recalled};
 ghost use Rattle.held_lanes.specs.Places.{removed_place, best_place, aside_size};
 ghost use Rattle.held_stops.specs.Stops.{stop_lane, LooksAtStop, SettleAsks};
 ghost use Rattle.walk.specs.State.{open_s};
-ghost use Rattle.held_nodes.specs.State.{no_n, yes_n, stays_n, out_n, NodeSettled, due_s};
+ghost use Rattle.held_nodes.specs.State.{no_n, yes_n, stays_n, out_n, NodeSettled};
 
 use branch::Bound;
 use held_lanes::{ASIDE, BEST, HELD, REMOVED};
 use held_stops::{settle_stop, shut_sum};
-use lane_rows::{STACK, TABLES, look_by_fours, value};
+use lane_rows::{STACK, TABLES, look_by_fours};
+use model::OPENINGS;
 use walk::Search;
 
 // A node: how many openings are decided; the rows on the stack; how many removals of the last stop are decided, all of them where none is open; whether that stop is not settled yet; the lanes that it is
 // shut to and its removals, the latest in the lowest bit; fees and removals so far; and the stops, the latest in the lowest bit.
+// Kept with a flag beside `shut` and `removed`, and no Option of the two: while removals are being decided it is `next` that says so, and each of those nodes would have to ask again whether there is a stop.
+// Kept beside the node of `walk`: the row of that one's stop is owed by the call that walks on from it, and its branches set four fields, not eight.
 #[derive(Clone, Copy)]
 pub struct Node {
     pub at: usize,
@@ -95,17 +99,15 @@ impl Node {
 }
 
 // The removals of a full node are kept.
-// Kept as a loop over places: both parts stand in one array, and the library has no method that copies within one.
-pub fn keep(v: &mut [u32])
-    requires { length v.old ≡ aside_size }
+pub fn keep(v: &mut [u32; ASIDE])
     ensures { FilledBy best_place (λ (i : ℕ). get_or v.old (removed_place i) 0) 64 v.old v.new }
 {
-    for i in 0..64 {
-        v[BEST + i] = v[REMOVED + i];
-    }
+    v.copy_within(REMOVED..REMOVED + OPENINGS, BEST);
 }
 
 // Settles the stop whose removals are decided, if there is one; how many rows there are then.
+// A call of its own, so that its lanes do not stand in the stack once for each node above.
+#[inline(never)]
 pub fn settle(
     t: &[u32; TABLES],
     u: &[u32; HELD],
@@ -123,21 +125,8 @@ pub fn settle(
     p.rows
 }
 
-// The fees, removals and term of a node, if it is walked on by what is known before any lane is summed: its term h is there, and part sums of x, which are no more than its own, do not drop it.
-pub fn tested(limit: u64, spent: u64, h: usize, x: u64, s: Search) -> Bound
-    requires { (spent + inf + lane_count_lem * inf < 2 ^ 64) × (x ≤ lane_count_lem * inf) }
-    ensures { result ≡ due_s limit spent h x s }
-{
-    let Bound::Sum(g) = value(h as u64) else {
-        return Bound::Missing;
-    };
-    let Bound::Sum(_) = s.open(limit, spent + g, Bound::Sum(x)) else {
-        return Bound::Missing;
-    };
-    Bound::Sum(spent + g)
-}
-
 // The part sums of the no below an opening, if it is walked on: over the rows that are there, where j openings are decided.
+// Kept beside walk::Search::open_rows, which reads the term by the last mark: here it is the largest of the classes' and comes with the call, as both numbers h and x do for stay_sums. Kept as a cast here and in stay_sums: the library has no From for a usize, and a term is looked up by places.
 pub fn no_sums(
     t: &[u32; TABLES],
     w: &mut [u32; STACK],
@@ -153,7 +142,7 @@ pub fn no_sums(
     ensures opens { result ≡ open_s limit (spent + h) (sum_where h (sum_lanes (lanes_in t.now) (λ (q : ℕ). lane t.now w.old suffix_base j q rows))) s }
     ensures frame { Recalled t.now w.old w.new rows }
 {
-    let Bound::Sum(due) = tested(limit, spent, h, x, s) else {
+    let Bound::Sum(due) = s.tested(limit, spent, h as u64, x) else {
         return Bound::Missing;
     };
     s.open(limit, due, Bound::Sum(look_by_fours(t, w, rows, j)))
@@ -178,7 +167,7 @@ pub fn stay_sums(
     ensures opens { result ≡ open_s limit (spent + h) (sum_where h (sum_lanes (lanes_in t.now) (stop_lane t.now w.old j rows set))) s }
     ensures frame { Recalled t.now w.old w.new rows }
 {
-    let Bound::Sum(due) = tested(limit, spent, h, x, s) else {
+    let Bound::Sum(due) = s.tested(limit, spent, h as u64, x) else {
         return Bound::Missing;
     };
     s.open(limit, due, Bound::Sum(shut_sum(t, u, w, rows, j, set)))

@@ -2,13 +2,14 @@
 use Prim.Native.Nat.{ℕ, zero, suc, ◌+◌, ◌-◌, ◌≤◌, ◌<◌}
 use mathlib.Core.Path.{◌≡◌, refl, sym, ap, ◌∙◌}
 use mathlib.Core.Bool.{Bool, true, false}
-use mathlib.Core.List.{List, [], ◌∷◌}
+use mathlib.Core.List.{List, [], ◌∷◌, ◌++◌}
 use native.Mathlib.Omega.{arith}
 use native.Mathlib.Numerals.{add-one}
-use lib.ListN.{get_or, drop}
+use lib.ListN.{length, get_or, take, drop, replicate, length-take, length-drop, length-replicate, length-append, get_or-append}
 use lib.Seq.{drop-drop, get_or-drop}
 use Rattle.model.specs.LowerBound.{blocks}
-use Rattle.held_places.specs.Blocks.{first_or, block_long, rest_at}
+use Rattle.model.proofs.Bools.{there}
+use Rattle.held_places.specs.Blocks.{first_or, block_long, Entries, rest_at}
 
 -- ---- one block
 
@@ -55,3 +56,13 @@ rest_more h k p r e = rw (add-one) (ap (λ (q : List Bool). drop (block_long h q
 pub rest_none : (h : ℕ) (p : List Bool) → p ≡ rest_at h 0 p
 unfolding rest_at
 rest_none h p = refl
+
+-- an array of 64 entries whose first n were written
+pub entries_put : (d : Bool) (f : ℕ → Bool) (n : ℕ) (ys : List Bool) → n ≤ 64 → length ys ≡ length (take n (replicate 64 false))
+    → ((k : ℕ) → k < n → k < length (take n (replicate 64 false)) → get_or ys k true ≡ f k) → Entries d f n (ys ++ drop n (replicate 64 false))
+entries_put d f n ys few e at =
+    let size : length (take n (replicate 64 false)) ≡ n = omega (arith, length-take n (replicate 64 false), length-replicate 64 false) in
+    record {
+      size = simp (length-append, length-drop, length-replicate) (omega (arith, e, size));
+      at = λ k l. get_or-append ys (drop n (replicate 64 false)) d k (omega (arith, e, size)) ∙ there ys k d true (omega (arith, e, size)) ∙ at k l (omega (arith, size));
+    }

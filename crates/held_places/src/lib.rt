@@ -43,28 +43,29 @@ fn opens(needs: &[bool], name: &[bool]) -> bool
     }
 }
 
-// For each of n openings what `read` makes of what is left of the name where the opening's block begins; h removals are decided after a yes.
-fn by_block<F: Fn(&[bool]) -> bool>(name: &[bool], n: usize, h: usize, read: F) -> [bool; OPENINGS]
-    requires few { n ≤ most_openings }
+// For each opening of `out` what `read` makes of what is left of the name where the opening's block begins; h removals are decided after a yes.
+fn by_block<F: Fn(&[bool]) -> bool>(name: &[bool], h: usize, read: F, out: &mut [bool])
     requires callable { F.IsAlwaysCallable read }
-    ensures size { length result ≡ 64 }
-    ensures entries { (k : ℕ) → k < n → FnReturnsAt F.Fn read (rest_at h k name.now) (get_or result k true) }
+    ensures size { length out.new ≡ length out.old }
+    ensures entries { (k : ℕ) → k < length out.old → FnReturnsAt F.Fn read (rest_at h k name.now) (get_or out.new k true) }
 {
-    let mut out = [false; OPENINGS];
     let mut rest = name;
-    for k in 0..n {
-        out[k] = read(rest);
+    for open in out.iter_mut() {
+        *open = read(rest);
         rest = behind(rest, h);
     }
-    out
 }
+
+// Kept as a count with its limit in the clause, here and below: no job stands beside n that would bound it, and a type of bounded numbers would be taken apart at each range.
 
 // The openings at which a part with these needs can be changed.
 pub fn places(needs: &[bool], name: &[bool], n: usize) -> [bool; OPENINGS]
     requires { (n ≤ most_openings) × (length needs.now ≤ most_parts) }
     ensures { Entries true (λ (k : ℕ). allows needs.now (get_or (blocks (length needs.now) n name.now) k [])) n result }
 {
-    by_block(name, n, needs.len(), |rest| opens(needs, rest))
+    let mut out = [false; OPENINGS];
+    by_block(name, needs.len(), |rest| opens(needs, rest), &mut out[..n]);
+    out
 }
 
 // The openings at which part q can be changed at the node of this name.
@@ -87,5 +88,7 @@ pub fn stops(name: &[bool], n: usize, h: usize) -> [bool; OPENINGS]
     requires { (n ≤ most_openings) × (h ≤ most_parts) }
     ensures { Entries false (λ (k : ℕ). get_or (get_or (blocks h n name.now) k (false ∷ [])) 0 true) n result }
 {
-    by_block(name, n, h, |rest| stop_first(rest))
+    let mut out = [false; OPENINGS];
+    by_block(name, h, |rest| stop_first(rest), &mut out[..n]);
+    out
 }

@@ -6,6 +6,7 @@ ghost use Rattle.held_places.specs.Arrays.{need_size, needs_at};
 use model::PARTS;
 
 // For each part sixteen marks, of which the first `holding` count: which of the holding parts come out with it.
+// Kept as marks with a count: no heap, fixed memory, and the rows of all parts are lent as one slice.
 #[derive(Clone, Copy)]
 pub struct Needs<'a> {
     pub marks: &'a [bool],
@@ -16,6 +17,7 @@ pub struct Needs<'a> {
 
 impl<'a> Needs<'a> {
     // What part q needs.
+    // Kept with the limit of q in the clause: a part's number is a plain one, and a type of bounded numbers would be taken apart at the index.
     pub fn of(&self, q: usize) -> &[bool]
         requires { q < most_parts }
         ensures { result.now ≡ needs_at self.now.holding self.now.marks.now q }

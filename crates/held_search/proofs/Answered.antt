@@ -1,17 +1,16 @@
 -- What the code hands back is the model's answer: the incumbent is a full node, its stops are the name's first decisions, and the rows are the tie rule's changes at its places.
-use Prim.Native.Nat.{ℕ, ◌+◌, ◌-◌, ◌<◌}
+use Prim.Native.Nat.{ℕ, ◌-◌, ◌<◌}
 use mathlib.Core.Path.{◌≡◌, refl, sym, ap, ap₂, ◌∙◌}
-use mathlib.Core.Bool.{Bool, true, false, cond}
-use mathlib.Core.List.{List, [], ◌∷◌, ◌++◌, map}
+use mathlib.Core.Bool.{Bool, true, false}
+use mathlib.Core.List.{List, [], ◌∷◌, map}
 use native.Mathlib.Omega.{arith}
-use borrow.Author.Count.{below_more}
-use lib.ListN.{length, get_or, take, set, replicate, length-map, length-set, get_or-map}
-use lib.Seq.{take_at, get_or-take, length-take-le, ext_get_or, get_or-set_same, get_or-set_other}
+use lib.ListN.{length, get_or, take, replicate, length-map, get_or-map}
+use lib.Seq.{take_at, get_or-take, length-take-le, ext_get_or}
 use lib.IntN.{ℤ, pos, ◌-ℤ◌}
 use Rattle.std.specs.Prelude.{Option, None, Some}
 use Rattle.branch.specs.declared.Bound.{Bound}
 use Rattle.branch.specs.declared.Bound.TheVariants.{Missing, Sum}
-use Rattle.branch.specs.Search.{none, plan, Limited, at_most}
+use Rattle.branch.specs.Search.{plan, Limited, at_most}
 use Rattle.branch.specs.Questions.{ask_from, left_at}
 use Rattle.branch.proofs.Among.{limited_best}
 use Rattle.model.specs.Model.{Job, Plan}
@@ -26,7 +25,7 @@ use Rattle.model.specs.Decisions.{held_at}
 use Rattle.model.specs.Verdict.{part_at}
 use Rattle.jobs.specs.declared.Changes.{Changes}
 use Rattle.search.specs.declared.Found.{Found}
-use Rattle.search.specs.Found.{found_by_lem, row_in, incumbent_with, plan_found, said_by, said_at, said_in}
+use Rattle.search.specs.Found.{found_by_lem, row_in, plan_found, said_by, said_at, said_in}
 use Rattle.search.proofs.Answered.{choice_size}
 use Rattle.held_places.specs.Blocks.{Entries}
 use Rattle.held_places.specs.Arrays.{prices_at, Lanes, HeldJobArrays}
@@ -34,29 +33,12 @@ use Rattle.held_places.specs.Changes.{places_of, lane_choice}
 use Rattle.held_places.proofs.Held.{opened, nodes_are, held_size_lem, choice_is}
 use Rattle.held_rows.specs.Held.{HeldSheet, held, held_bound, SheetOf}
 use Rattle.held_rows.proofs.Sheets.{held_bound_lem}
+use Rattle.walk.specs.State.{found_as}
 use Rattle.walk.specs.declared.Solved.{Solved}
+use Rattle.jobs.specs.declared.Plan as code
+use Rattle.search.specs.Plan.{no_row}
 use Rattle.held_nodes.specs.State as stop
-use Rattle.held_search.specs.Solved.{limited_by, SolvesJob, no_row, Chooses}
-
--- ---- the rows of changes, part by part
-
-module _ (e : ℤ) (ss : List ℤ) (ls rs ps : List ℕ) (nd : List Bool) (h : ℕ) (name : List Bool) where
-  abbrev chosen : ℕ → List Bool
-  chosen q = lane_choice e ss (get_or ls q 0) (get_or rs q 0) (prices_at (length ss) ps q) (places_of (length ss) h nd q name) ++ replicate (64 - length ss) false
-
-  -- before the first part there is no row of changes to be right
-  pub chooses_none : (rows : List Changes) → length rows ≡ 16 → Chooses e ss ls rs ps nd h name rows 0
-  chooses_none rows s = record { size = s; row = λ q l. absurd (omega arith) }
-
-  -- with part q's changes in its row, the rows of one part more are right
-  pub chooses_more : (rows : List Changes) (q : ℕ) (v : List Bool) → q < 16 → v ≡ chosen q → Chooses e ss ls rs ps nd h name rows q → Chooses e ss ls rs ps nd h name (set rows q (record { at = v })) (q + 1)
-  chooses_more rows q v l f c =
-      record {
-        size = length-set rows q (record { at = v }) ∙ c.size;
-        row = below_more (λ (r : ℕ). (get_or (set rows q (record { at = v })) r no_row).at ≡ chosen r) q
-            (λ r l. ap (λ (x : Changes). x.at) (get_or-set_other rows q r (record { at = v }) no_row (λ z. omega (arith, z))) ∙ c.row r l)
-            (ap (λ (x : Changes). x.at) (get_or-set_same rows q (record { at = v }) no_row (omega (arith, c.size))) ∙ f);
-      }
+use Rattle.held_search.specs.Solved.{limited_by, SolvesJob, Chooses}
 
 -- ---- the walk over the sheet is the search of the job
 
@@ -130,20 +112,11 @@ module _ (job : Job) (e : ℤ) (ss : List ℤ) (fs ls rs ps : List ℕ) (nd : Li
 
 -- ---- what the code holds, as it is handed back
 
--- what is handed over: the solved search's numbers with the stops and the rows of changes
-abbrev pub handed : Solved → List Bool → List Changes → Found
-handed s stops rows = found_by_lem s (record { stops = stops; changes = rows })
-
--- the incumbent of a solved search, by whether one was found
-found_is : (name : List Bool) (c : ℕ) (t : Bool) → incumbent_with name (cond t (Some c) None) ≡ cond t (plan c name) none
-found_is name c true = refl
-found_is name c false = refl
-
 module _ (job : Job) (e : ℤ) (ss : List ℤ) (fs ls rs ps : List ℕ) (nd : List Bool) (rm : List ℕ) (ar : Lanes e ss ls rs ps nd (length rm)) (ho : HeldJobArrays job e ss fs ls rs ps nd rm) (limit : ℕ) (name : List Bool) (s : Solved)
-    (so : SolvesJob job limit name s) (stops : List Bool) (st : Entries false (λ (k : ℕ). get_or (get_or (blocks (length rm) (length ss) name) k (false ∷ [])) 0 true) (length ss) stops)
-    (rows : List Changes) (ch : Chooses e ss ls rs ps nd (length rm) name rows (length ls)) where
+    (so : SolvesJob job limit name s) (kept : code.Plan) (st : Entries false (λ (k : ℕ). get_or (get_or (blocks (length rm) (length ss) name) k (false ∷ [])) 0 true) (length ss) kept.stops)
+    (ch : Chooses e ss ls rs ps nd (length rm) name kept.changes (length ls)) where
   abbrev r : Found
-  r = handed s stops rows
+  r = found_by_lem s kept
 
   abbrev all : ℕ
   all = length job.openings
@@ -157,13 +130,13 @@ module _ (job : Job) (e : ℤ) (ss : List ℤ) (fs ls rs ps : List ℕ) (nd : Li
       stops-length job name (node_full job name c ((limited_best (searched job) limit).costs c name (sym (ap (λ (l : Limited). l.incumbent) so.walked) ∙ f)))
 
   plan_is : (c : ℕ) → (limited_by name s).incumbent ≡ plan c name → plan_found all parts r ≡ plan_at job name
-  plan_is c f = plan_read job e ss fs ls rs ps nd rm ar ho name stops st rows ch (full_length c f)
+  plan_is c f = plan_read job e ss fs ls rs ps nd rm ar ho name kept.stops st kept.changes ch (full_length c f)
 
   -- the incumbent is the plan of the name, where it has a cost
   costs : (c : ℕ) → r.cost ≡ Some c → (limited_by name s).incumbent ≡ plan c name
-  costs c f = sym (found_is name s.cost s.found) ∙ ap (incumbent_with name) f
+  costs c f = ap (found_as name) f
 
-  by : (floor : ℕ) (o : Bool) (t : Option ℕ) → r.cost ≡ t → said_by all parts floor r o t ≡ answered job floor r.count o (incumbent_with name t)
+  by : (floor : ℕ) (o : Bool) (t : Option ℕ) → r.cost ≡ t → said_by all parts floor r o t ≡ answered job floor r.count o (found_as name t)
   by floor true None f = refl
   by floor true (Some c) f = ap (cut r.count floor c) (plan_is c (costs c f))
   by floor false None f = refl
@@ -171,7 +144,7 @@ module _ (job : Job) (e : ℤ) (ss : List ℤ) (fs ls rs ps : List ℕ) (nd : Li
 
   at_floor : (b : Bound) → said_at all parts r b ≡ answered_at job b (limited_by name s)
   at_floor Missing = refl
-  at_floor (Sum floor) = by floor r.over r.cost refl ∙ ap (answered job floor r.count r.over) (found_is name s.cost s.found)
+  at_floor (Sum floor) = by floor r.over r.cost refl
 
   -- what the code hands over says the model's answer for the job and the limit
   pub said : said_in all parts r ≡ answer_of job limit

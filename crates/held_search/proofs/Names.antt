@@ -10,12 +10,14 @@ use lib.Dec.{eqb}
 use lib.ListN.{length, get_or, take, set, length-append, get_or-append}
 use lib.Seq.{take-suc, take-suc-set, take_all, take_at, length-take-le, get_or-append_seam}
 use borrow.Rule.Slice.PartMut.{put_mid, post_of}
+use Rattle.std.specs.Bool.{then_some}
+use Rattle.std.specs.Prelude.{Option}
 use Rattle.model.specs.Decisions.{concat}
 use Rattle.held_rows.proofs.Seen.{joined_more}
 use Rattle.walk.specs.State.{bits}
 use Rattle.walk.proofs.Nodes.{bits-length}
 use Rattle.held_nodes.specs.State.{blocks_of}
-use Rattle.held_search.specs.Solved.{block_of}
+use Rattle.held_search.specs.Solved.{block_of, block_said}
 
 -- ---- decisions behind others
 
@@ -35,6 +37,11 @@ all_wrote name from at k h =
 pub block_length : (h : ℕ) (stop : Bool) (x : ℕ) → length (block_of h stop x) ≤ h + 1
 block_length h true x = omega (arith, bits-length h x)
 block_length h false x = omega arith
+
+-- the block of a stop that is there or not
+pub said_is : (h : ℕ) (stop : Bool) (x : ℕ) (o : Option ℕ) → o ≡ then_some stop x → block_said h o ≡ block_of h stop x
+said_is h true x o e = ap (block_said h) e
+said_is h false x o e = ap (block_said h) e
 
 -- a stop, and then its removals
 pub stop_wrote : (name next last out : List Bool) (at h x : ℕ) → take (at + 1) next ≡ take at name ++ (true ∷ []) → out ≡ bits h x → take (at + 1 + length out) last ≡ take (at + 1) next ++ out → take (at + 1 + h) last ≡ take at name ++ block_of h true x

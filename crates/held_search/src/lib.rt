@@ -1,21 +1,22 @@
 // The planner's search of a job with holders: its tables, the counted walk over them, and the plan of its incumbent.
+// Kept with the limit of a walk in the clauses: it is a plain number, and a type of numbers below 2 to the 63rd would be made and taken apart once in each call.
 #![tactic(auto)]
 
 mod name;
+pub mod parts;
 
-ghost use Rattle.std.specs.Prelude.{◌≡◌, false, ◌++◌, ◌-◌, ◌<◌, ◌≤◌, ◌^◌, length, get_or, replicate};
+ghost use Rattle.std.specs.Prelude.{◌≡◌, ◌<◌, ◌≤◌, ◌^◌, length};
 ghost use Rattle.model.specs.Model.{Job};
 ghost use Rattle.model.specs.Promise.{answer_of};
 ghost use Rattle.least.specs.Suffix.{table_size};
 ghost use Rattle.search.specs.Found.{said_in};
-ghost use Rattle.held_places.specs.Arrays.{prices_at};
-ghost use Rattle.held_places.specs.Changes.{places_of, lane_choice};
+ghost use Rattle.search.specs.Plan.{Rows};
 ghost use Rattle.held_tables.specs.Numbers.{Holds};
 ghost use Rattle.held_nodes.specs.State.{best_name};
 ghost use Rattle.held_search.specs.Solved.{SolvesJob};
-ghost use Rattle.held_search.specs.Planned.{Stops, Changed};
+ghost use Rattle.held_search.specs.Planned.{row_at, Stops, Changed};
 
-use held_lanes::{ASIDE, HELD};
+use held_lanes::{ASIDE, HELD, NAMES};
 use held_places::{part_places, stops};
 use held_tables::fill_held;
 use held_tables::numbers::HeldNumbers;
@@ -24,14 +25,17 @@ use jobs::{Changes, Plan};
 use lane_rows::{STACK, TABLES};
 use least::TABLE;
 use model::{OPENINGS, PARTS, STRIDE};
-use name::{NAMES, name_of};
+use name::name_of;
 use part_classes::classes_of;
+use parts::Parts;
+use search::plan::changes_of;
 use search::{Found, found_by};
+use search_tables::tables::offered;
 use walk::Solved;
 
 // The floor and the walk's last state. The tables stand on the stack of this call; the incumbent's removals are in v from BEST on.
-fn walked(numbers: &HeldNumbers, limit: u64, tab: &mut [u64], v: &mut [u32; ASIDE]) -> Solved
-    requires { (table_size ≤ length tab.old) × (limit < 2 ^ 63) }
+fn walked(numbers: &HeldNumbers, limit: u64, tab: &mut [u64; TABLE], v: &mut [u32; ASIDE]) -> Solved
+    requires { limit < 2 ^ 63 }
     ensures { (job : Job) → Holds job numbers.now
         → SolvesJob job limit (best_name (length numbers.now.removals.now) (length numbers.now.job.positions.now) v.new result.mask) result }
 {
@@ -46,32 +50,31 @@ fn walked(numbers: &HeldNumbers, limit: u64, tab: &mut [u64], v: &mut [u32; ASID
 }
 
 // Part q's changes at the node of this name.
-fn part_changes(numbers: &HeldNumbers, name: &[bool], q: usize, tab: &mut [u64]) -> [bool; OPENINGS]
-    requires { (table_size ≤ length tab.old) × (q < length numbers.now.job.lives.now) }
-    ensures { result ≡ lane_choice numbers.now.job.end numbers.now.job.positions.now (get_or numbers.now.job.lives.now q 0) (get_or numbers.now.job.lefts.now q 0)
-        (prices_at (length numbers.now.job.positions.now) numbers.now.job.prices.now q)
-        (places_of (length numbers.now.job.positions.now) (length numbers.now.removals.now) numbers.now.needs.now q name.now) ++ replicate (64 - length numbers.now.job.positions.now) false }
+fn part_changes(parts: &Parts, name: &[bool], q: usize, tab: &mut [u64]) -> [bool; OPENINGS]
+    requires { (table_size ≤ length tab.old) × (q < length parts.now.lives.now) }
+    ensures { result ≡ row_at parts.now name.now q }
 {
-    let n = numbers.job.positions.len();
-    let needs = numbers.needs();
-    let at = part_places(&needs, name, n, q);
-    let prices = &numbers.job.prices[q * STRIDE..q * STRIDE + n];
-    numbers.job.offers(q, prices, &at[..n]).choice(tab)
+    let n = parts.positions.len();
+    let at = part_places(&parts.needs, name, n, q);
+    let prices = &parts.prices[q * STRIDE..q * STRIDE + n];
+    let (life, left) = (parts.lives[q], parts.lefts[q]);
+    offered(life, left, parts.end, parts.positions, prices, &at[..n]).choice(tab)
 }
 
 // Each part's changes at the node of this name.
-fn changes(numbers: &HeldNumbers, name: &[bool], tab: &mut [u64]) -> [Changes; PARTS]
+// Kept as a slice with its room in the clause, here and where it is handed on: a caller may lend more room than a part's own table takes, and an array type would ask for just so much.
+pub fn changes(parts: &Parts, name: &[bool], tab: &mut [u64]) -> [Changes; PARTS]
     requires { table_size ≤ length tab.old }
-    ensures { Changed numbers.now name.now result (length numbers.now.job.lives.now) }
+    ensures { Rows (row_at parts.now name.now) result (length parts.now.lives.now) }
 {
-    let mut rows = [Changes {
-        at: [false; OPENINGS],
-    }; PARTS];
-    for q in 0..numbers.job.lives.len() {
-        let at = part_changes(numbers, name, q, tab);
-        rows[q] = Changes { at };
-    }
-    rows
+    changes_of(
+        parts.lives.len(),
+        tab,
+        |q, tab|
+            requires { (table_size ≤ length tab.old) × (q < length parts.now.lives.now) }
+            ensures { result ≡ row_at parts.entry.now name.entry.now q }
+        { part_changes(parts, name, q, tab) },
+    )
 }
 
 // The plan of the node of this name: its stops, and each part's changes there.
@@ -81,7 +84,7 @@ pub fn plan_of(numbers: &HeldNumbers, name: &[bool], tab: &mut [u64]) -> Plan
     ensures changes { Changed numbers.now name.now result.changes (length numbers.now.job.lives.now) }
 {
     let stops = stops(name, numbers.job.positions.len(), numbers.removals.len());
-    let changes = changes(numbers, name, tab);
+    let changes = changes(&Parts::of(numbers), name, tab);
     Plan { stops, changes }
 }
 

@@ -1,4 +1,6 @@
 // The rows of stops whose removals are decided: the sum of the lanes while they are, and the row once they are.
+// Kept as parameters side by side, the tables, the stack and what goes with it (t, u, v, w): each function reads some of them and writes others, so a struct of them would be lent as a whole where one part is written.
+// Kept as casts, in put_stop and settle_stop: a usize may be more than a u32 holds, so the library has no From; what is asked says that these are not.
 #![tactic(auto)]
 
 ghost use Rattle.std.specs.Prelude.{◌≡◌, ◌+◌, ◌*◌, ◌^◌, ◌<◌, ◌≤◌, length, get_or};
@@ -6,7 +8,7 @@ ghost use Rattle.model.specs.Limits.{most_openings};
 ghost use Rattle.least.specs.Filled.{FilledBy};
 ghost use Rattle.lane_rows.specs.Layout.{lanes_in};
 ghost use Rattle.lane_rows.specs.Rows.{sum_lanes, Looks, Recalled, Put, Memo, Owing, next_row};
-ghost use Rattle.held_lanes.specs.Places.{pending_place, ready_place, aside_size};
+ghost use Rattle.held_lanes.specs.Places.{pending_place, ready_place};
 ghost use Rattle.held_lanes.specs.Tables.{StopAsks, shut_row};
 ghost use Rattle.held_stops.specs.Stops.{ReadAt, stop_lane, LooksAtStop, Pended, Pends, SettleAsks, StopPut, StopNoted};
 
@@ -57,8 +59,15 @@ pub fn shut_sum(
 }
 
 // The row of a stop, so many lanes of it, is kept aside for all the removals of the stop.
-fn pend_lanes(fours: usize, t: &[u32], w: &[u32], v: &mut [u32], j: usize, rows: usize)
-    requires { (Owing (fours * 4) t.now w.now j rows) × (length v.old ≡ aside_size) }
+fn pend_lanes(
+    fours: usize,
+    t: &[u32; TABLES],
+    w: &[u32; STACK],
+    v: &mut [u32; ASIDE],
+    j: usize,
+    rows: usize,
+)
+    requires { Owing (fours * 4) t.now w.now j rows }
     ensures { FilledBy (pending_place rows) (next_row t.now w.now j rows) (fours * 4) v.old v.new }
 {
     let mut acc = [INF; LANES];
@@ -67,9 +76,9 @@ fn pend_lanes(fours: usize, t: &[u32], w: &[u32], v: &mut [u32], j: usize, rows:
 }
 
 // The whole row of a stop is kept aside.
-// Kept as tests: with lane_rows::by_fours here and in held_lanes a node of the job 36_week16_heads_d60 takes 24.6 ns, with these 22.3.
+// Kept as tests, beside held_lanes::stop_row: with lane_rows::by_fours here and there a node of the job 36_week16_heads_d60 takes 24.6 ns, with these 22.3.
 fn pend_row(t: &[u32; TABLES], w: &[u32; STACK], v: &mut [u32; ASIDE], j: usize, rows: usize)
-    requires { (Owing (lanes_in t.now) t.now w.now j rows) × (length v.old ≡ aside_size) }
+    requires { Owing (lanes_in t.now) t.now w.now j rows }
     ensures { FilledBy (pending_place rows) (next_row t.now w.now j rows) (lanes_in t.now) v.old v.new }
 {
     let fours = t[FOURS];
@@ -90,7 +99,7 @@ fn pend_row(t: &[u32; TABLES], w: &[u32; STACK], v: &mut [u32; ASIDE], j: usize,
 
 // The row of a stop is found when it is first asked for, kept aside and noted as ready.
 pub fn pend(t: &[u32; TABLES], w: &[u32; STACK], v: &mut [u32; ASIDE], j: usize, rows: usize)
-    requires { (Owing (lanes_in t.now) t.now w.now j rows) × (length v.old ≡ aside_size) × (get_or v.old (ready_place rows) 0 ≡ 1 → Pended t.now w.now v.old j rows) }
+    requires { (Owing (lanes_in t.now) t.now w.now j rows) × (get_or v.old (ready_place rows) 0 ≡ 1 → Pended t.now w.now v.old j rows) }
     ensures { Pends t.now w.now v.old v.new j rows }
 {
     let ready = number(v, READY + rows);

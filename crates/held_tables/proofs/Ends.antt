@@ -1,27 +1,17 @@
 -- Where a loop over places ends: all of them are written.
-use Prim.Native.Nat.{ℕ, ◌+◌, ◌-◌, ◌<◌, ◌≤◌, max}
-use mathlib.Core.Path.{◌≡◌, refl, ap, subst, ◌∙◌}
+use Prim.Native.Nat.{ℕ, ◌+◌, ◌-◌, ◌<◌, ◌≤◌}
+use mathlib.Core.Path.{◌≡◌, refl, subst, ◌∙◌}
 use native.Mathlib.Omega.{arith}
 use lib.ListN.{length, get_or, take, drop, length-take, length-drop}
 use lib.Seq.{get_or-take, get_or-drop}
-use Rattle.std.specs.Ordering.{ord_max, nat_cmp}
 use mathlib.Core.Bool.{Bool, true, false, cond}
 use mathlib.Core.List.{List}
 use mir.Val.{bool_byte}
-use Rattle.least.specs.Filled.{Filled, FilledBy}
+use Rattle.least.specs.Filled.{Filled}
 
 -- as many places as there are
 pub filled_all : {place : ℕ → ℕ} {Right : ℕ → ℕ → Type 0} {i n : ℕ} {t u : List ℕ} → Filled place Right i t u → i ≡ n → Filled place Right n t u
 filled_all {place} {Right} {i} {n} {t} {u} f e = subst (λ (k : ℕ). Filled place Right k t u) e f
-
--- places from the start on
-pub from_start : {f : ℕ → ℕ} {n : ℕ} {t u : List ℕ} → FilledBy (λ (y : ℕ). 0 + y) f n t u → FilledBy (λ (y : ℕ). y) f n t u
-from_start {f} {n} {t} {u} d =
-    record {
-      size = d.size;
-      done = λ y h. let z : y ≡ 0 + y = omega arith in ap (λ (x : ℕ). get_or u x 0) z ∙ d.done y h;
-      rest = λ x h. d.rest x (λ y l e. h y l (omega (arith, e)));
-    }
 
 -- a range of a list: its entries, and how many they are
 pub window_at : (u : List ℕ) (at n i : ℕ) → i < n → get_or (take (at + n - at) (drop at u)) i 0 ≡ get_or u (at + i) 0
@@ -29,10 +19,6 @@ window_at u at n i l = get_or-take (at + n - at) (drop at u) i 0 (omega (arith, 
 
 pub window_length : (u : List ℕ) (at n : ℕ) → at + n ≤ length u → length (take (at + n - at) (drop at u)) ≡ n
 window_length u at n l = simp (length-take, length-drop) (omega (arith, l))
-
--- the larger of two numbers, as the code compares them
-pub larger_of : (a b r : ℕ) → r ≡ ord_max nat_cmp a b → r ≡ max a b
-larger_of a b r e = grind (arith, e)
 
 -- a flag as a number
 pub bit_of : (b : Bool) → bool_byte b ≡ cond b 1 0

@@ -1,56 +1,50 @@
 -- The terms by classes, filled part by part, are the largest over the parts of a class: each part's own table raises its class's.
 use Prim.Native.Nat.{ℕ, ◌+◌, ◌-◌, ◌*◌, ◌≤◌, ◌<◌, min, max}
 use mathlib.Core.Path.{◌≡◌, refl, sym, ap, subst, ◌∙◌}
-use mathlib.Core.Bool.{Bool, true, cond}
+use mathlib.Core.Bool.{Bool, cond}
 use mathlib.Core.List.{List, []}
 use native.Mathlib.Omega.{arith}
 use native.Mathlib.Numerals.{add-one}
 use native.Mathlib.Decide.{ℕ_discrete}
 use borrow.Author.Tests.{eq-eqb, ne_eqb}
-use lib.ListN.{length, get_or, set, take, drop}
+use lib.ListN.{length, get_or, take}
 use lib.Seq.{take-suc}
 use Rattle.branch.specs.declared.Bound.{Bound}
 use Rattle.branch.specs.declared.Bound.TheVariants.{Sum}
 use Rattle.branch.specs.Lower.{larger, largest}
 use Rattle.branch.proofs.Lower.{largest_snoc}
-use Rattle.model.specs.LowerBound.{Offer, least_of_lem}
 use Rattle.least.specs.Filled.{FilledBy}
 use Rattle.least.specs.Marks.{mark_of}
-use Rattle.least.specs.Suffix.{code_of, Suffixes}
+use Rattle.least.specs.Suffix.{code_of}
 use Rattle.least.proofs.Most.{most_least}
 use Rattle.lane_rows.specs.Layout.{lane_count_lem, mark_count, top, inf, block_size}
 use Rattle.lane_rows.specs.Sheet.{Column, Sheet}
 use Rattle.lane_rows.specs.Tables.{Coded, fee_from}
 use Rattle.lane_rows.proofs.Lanes.{coded_larger}
 use Rattle.lane_rows.proofs.Rising.{row_inside}
-use Rattle.search_tables.specs.Fill.{Triangle, own_of}
-use Rattle.search_tables.proofs.Filling.{coded, offers_all}
+use Rattle.search_tables.specs.Fill.{step_rows}
+use Rattle.search_tables.specs.Fill as fill
+use Rattle.search_tables.proofs.Filling.{coded}
+use Rattle.search_tables.proofs.Raising.{raised_as}
+use Rattle.search_tables.proofs.Triangles.{triangle_most}
 use Rattle.held_rows.specs.Held.{HeldColumn, no_lane}
 use Rattle.held_lanes.specs.Places.{class_place, held_size}
-use Rattle.held_tables.specs.Fill.{Small, Raised, in_class, Terms}
-use Rattle.part_classes.proofs.Groups.{set_at}
-
--- one number more that is none above Missing's
-pub small_set : (u : List ℕ) (at v : ℕ) → at < length u → v ≤ inf → Small u → Small (set u at v)
-small_set u at v room h s x l = set_at (λ (y : ℕ). y ≤ inf) u at v x room (λ e. h) (λ e. s x l)
+use Rattle.held_tables.specs.Fill.{Raised, in_class, Terms}
 
 module _ (sheet : Sheet) (few : length sheet.positions ≤ 64) where
   -- a level's terms stand among the terms
   inside : (j i c : ℕ) → i ≤ j → j ≤ length sheet.positions → c < lane_count_lem → class_place j i c < block_size
   inside j i c h g l = omega (arith, row_inside j i mark_count h (omega arith))
 
-  -- a part's own table
-  pub raised_by : (col : Column) (c : ℕ) (flags : List Bool) (tab u v : List ℕ) → c < lane_count_lem → ((k : ℕ) → get_or flags k true ≡ true) → Suffixes col.life sheet.end col.first sheet.positions sheet.fees flags tab 0
-      → Triangle (λ (j i : ℕ). class_place j i c) (λ (j i : ℕ). max (get_or u (class_place j i c) 0) (own_of tab j i)) (length sheet.positions + 1) u v → (Small u → Small v) → Raised sheet col c u v
-  raised_by col c flags tab u v l all s f small =
+  -- a part's own table raises the terms of one class
+  pub raised_in : (col : Column) (c : ℕ) (u v : List ℕ) → c < lane_count_lem → fill.Raised sheet col (step_rows c lane_count_lem) u v → Raised sheet col c u v
+  raised_in col c u v l r =
+      let f : fill.Raised sheet col (λ (j i : ℕ). class_place j i c) u v = raised_as sheet col (λ j i. omega arith) r in
       record {
         size = f.size;
-        raised = λ j i h g.
-            f.done j i h (omega arith)
-            ∙ ap (λ (k : ℕ). max (get_or u (class_place j i c) 0) (min k inf))
-            (s.rows j i (omega arith) g h ∙ ap (λ (os : List Offer). code_of (least_of_lem col.life sheet.end (mark_of col.first sheet.positions i) (drop j os))) (offers_all sheet.positions sheet.fees flags all));
+        raised = λ j i h g. f.done j i h (omega arith);
         others = λ j i d h g n. f.rest (class_place j i d) (λ x y a b e. n (omega (arith, e)));
-        small = small;
+        small = λ s x b. triangle_most inf f (λ j i h g. omega (arith, s (class_place j i c) (inside j i c h (omega arith) l))) x (s x b);
       }
 
   module _ (lanes : List HeldColumn) where

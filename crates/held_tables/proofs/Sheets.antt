@@ -16,7 +16,8 @@ use Rattle.model.proofs.Bools.{there}
 use Rattle.lane_rows.specs.Layout.{lanes_in}
 use Rattle.lane_rows.specs.Sheet.{Column, no_column}
 use Rattle.lane_rows.specs.Tables.{Alike, Tables}
-use Rattle.search_tables.specs.Arrays.{price_stride, lane_value_lem, fours_of_lem, sheet_of}
+use Rattle.held_places.specs.Arrays.{price_stride}
+use Rattle.search_tables.specs.Arrays.{lane_value_lem, fours_of_lem, sheet_of}
 use Rattle.search_tables.proofs.Filling.{past, own_each}
 use Rattle.held_places.specs.Arrays.{need_stride, needs_at, Lanes, HeldJobArrays}
 use Rattle.held_rows.specs.Held.{HeldColumn, HeldSheet, column_in, plain, no_lane, needs_of_lem, Classed, Laid, Fills, SheetOf}

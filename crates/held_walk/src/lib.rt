@@ -17,9 +17,11 @@ use held_lanes::{
 };
 use held_nodes::{Node, keep, no_sums, settle, stay_sums};
 use lane_rows::{COUNT, FEES, STACK, TABLES, base_row, cell, first_sums, term};
-use walk::{NO_COST, Search, Solved, plus};
+use walk::{NO_COST, Search, Solved};
 
 // Walks on from the node p, which is counted and not dropped, with part sums x and term g: at a stop whose removals are not all decided not removed first, then removed; else no stop first, then a stop.
+// Kept as casts, of terms: what reads them (opening_term, removal_term, number) answers a usize, of which the library has no From for a u64.
+// Kept as nine parameters: a struct of the tables, the stack and what goes with it would be lent anew in each of the two calls, and the limit, which no step changes, would have to be said to be handed back if it were a field of the state.
 pub fn walk(
     t: &[u32; TABLES],
     u: &[u32; HELD],
@@ -42,7 +44,7 @@ pub fn walk(
             Bound::Sum(y) => walk(t, u, w, v, limit, p.stays(set), y, h, s.counted()),
             Bound::Missing => s.reached(limit),
         };
-        let spent = p.spent + number(u, REMOVALS + p.next) as u64;
+        let spent = p.spent + u64::from(u[REMOVALS + p.next]);
         let Bound::Sum(y) = a.open(limit, spent + g as u64, Bound::Sum(x)) else {
             return a.reached(limit);
         };
@@ -60,7 +62,7 @@ pub fn walk(
         Bound::Sum(y) => walk(t, u, w, v, limit, p.no(rows), y, h, s.counted()),
         Bound::Missing => s.reached(limit),
     };
-    let spent = p.spent + cell(t, FEES, p.at) as u64;
+    let spent = p.spent + u64::from(t[FEES + p.at]);
     let k = number(u, TOPS + j);
     let Bound::Sum(y) = a.open(limit, spent + k as u64, Bound::Sum(x)) else {
         return a.reached(limit);
@@ -71,18 +73,20 @@ pub fn walk(
 }
 
 // The last mark of each class before the first opening.
-// Kept as a loop over places: an iterator over a part of the marks would leave nothing known of what is written to them.
-pub fn first_marks(u: &[u32], v: &mut [u32])
-    requires { (length u.now ≡ held_size) × (length v.old ≡ aside_size) × (get_or u.now classes_place 0 ≤ lane_count_lem) }
+pub fn first_marks(u: &[u32; HELD], v: &mut [u32; ASIDE])
+    requires { get_or u.now classes_place 0 ≤ lane_count_lem }
     ensures { FilledBy (last_place 0) (offset 0) (get_or u.now classes_place 0) v.old v.new }
 {
     let n = number(u, CLASSES);
-    for c in 0..n {
-        v[c] = c as u32;
+    // Kept as a cast: a usize may be more than a u32 holds, so the library has no From; there are 16 classes at most.
+    for (c, mark) in v[..n].iter_mut().enumerate() {
+        *mark = c as u32;
     }
 }
 
 // The whole search with a limit, over the tables of a sheet. The incumbent's removals are those of BEST.
+// Kept as a cast, of the first term: `term` answers a u64, as the bounds add it, and the library has no From of it for a usize.
+// Kept beside walk::solve: a function of both would take the walk as a closure over the stack, and over what goes with it, which it writes, so that its contract would have to say for each what the closure leaves there.
 pub fn solve(
     t: &[u32; TABLES],
     u: &[u32; HELD],
@@ -97,7 +101,7 @@ pub fn solve(
     first_marks(u, v);
     let sums = first_sums(t);
     let due = term(t, 0, 0);
-    let floor = plus(due, sums);
+    let floor = sums.plus(due);
     let begun = Search {
         count: 0,
         cost: NO_COST,

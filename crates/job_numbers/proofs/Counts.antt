@@ -15,10 +15,10 @@ use Rattle.model.specs.Verdict.{no_part}
 use Rattle.model.specs.Limits.{last_position, longest_life, dearest, most_openings, most_parts}
 use Rattle.model.proofs.Bools.{there}
 use Rattle.model.proofs.Lists.{table-length, table_at}
-use Rattle.jobs.specs.Views.{opening_of, job_of, Sized}
+use Rattle.jobs.specs.Views.{opening_of, job_of}
 use Rattle.jobs.specs.Valid.{All, ValidOpening, ValidPrice, ValidPart, ValidJob}
 use Rattle.jobs.specs.declared.Job.{Job}
-use Rattle.jobs.proofs.Jobs.{Whole, blank_opening, opening_count_lem2, part_count, seen_count, valid_parts}
+use Rattle.jobs.proofs.Jobs.{blank_opening, opening_count_lem2, part_count, seen_count, valid_parts}
 use Rattle.clock.proofs.Places.{place_count}
 use Rattle.clock.proofs.Ranges.{position_small}
 use Rattle.coming_out.proofs.Rows.{past}
@@ -118,7 +118,7 @@ pub record Counted (n m : ℕ) (r : Numbers) : Type 0 where
   -- the array of first lives has m entries that count, one for each part
   pub lefts : length (take m r.lefts) ≡ m
 
-module _ (j : Job) (sized : Sized j) (whole : Whole j) where
+module _ (j : Job) where
   abbrev n : ℕ
   n = j.opening_count
 
@@ -126,13 +126,13 @@ module _ (j : Job) (sized : Sized j) (whole : Whole j) where
   m = j.part_count
 
   lane_count : (f : model.Part → ℕ) (l : List ℕ) → take m l ≡ map f (job_of j).parts → length (take m l) ≡ m
-  lane_count f l e = ap length e ∙ length-map (job_of j).parts f ∙ part_count j sized whole
+  lane_count f l e = ap length e ∙ length-map (job_of j).parts f ∙ part_count j
 
   -- a part's number in its lane
   lane_at_lem : (f : model.Part → ℕ) (l : List ℕ) → take m l ≡ map f (job_of j).parts → (q d : ℕ) → q < m → get_or (take m l) q d ≡ f (get_or (job_of j).parts q no_part)
   lane_at_lem f l e q d h =
       ap (λ (x : List ℕ). get_or x q d) e
-      ∙ there (map f (job_of j).parts) q d (f no_part) (omega (arith, length-map (job_of j).parts f, part_count j sized whole))
+      ∙ there (map f (job_of j).parts) q d (f no_part) (omega (arith, length-map (job_of j).parts f, part_count j))
       ∙ get_or-map f (job_of j).parts q no_part
 
   -- with at most b added to a price
@@ -142,15 +142,15 @@ module _ (j : Job) (sized : Sized j) (whole : Whole j) where
   -- a part's prices, cut out of all of them
   pub prices_at_lem : (added ps : List ℕ) → Laid m (prices_with (job_of j) added) ps → (q : ℕ) → q < m → take n (drop (q * price_stride) ps) ≡ prices_with (job_of j) added q
   prices_at_lem added ps laid q h =
-      row_is m (prices_with (job_of j) added) ps laid n q h sized.openings sized.parts (with_length (job_of j) added q ∙ opening_count_lem2 j sized whole)
+      row_is m (prices_with (job_of j) added) ps laid n q h j.few_openings j.few_parts (with_length (job_of j) added q ∙ opening_count_lem2 j)
 
   module _ (r : Numbers) (numbered : Numbered (job_of j) n m r) where
     -- the arrays of a job's numbers hold as many as it has openings and parts
     pub counted : Counted n m r
     counted =
         record {
-          places = place_count j sized whole r.placed numbered.placed;
-          fees = ap length numbered.fees ∙ seen_count j sized whole fee_of;
+          places = place_count j r.placed numbered.placed;
+          fees = ap length numbered.fees ∙ seen_count j fee_of;
           lives = lane_count life_of_lem r.lives numbered.lives;
           lefts = lane_count left_of r.lefts numbered.lefts;
         }
@@ -170,7 +170,7 @@ module _ (j : Job) (sized : Sized j) (whole : Whole j) where
         go : Dec (i < n) → mag (get_or (take n r.placed.at) i (pos 0)) ≤ last_position
         go (yes h) =
             subst (λ (z : ℤ). mag z ≤ last_position) (sym (get_or-take n r.placed.at i (pos 0) h))
-            (position_small (get_or r.placed.at i (pos 0)) (numbered.placed.ranges i (rw (opening_count_lem2 j sized whole) h)))
+            (position_small (get_or r.placed.at i (pos 0)) (numbered.placed.ranges i (rw (opening_count_lem2 j) h)))
         go (no h) =
             subst (λ (z : ℤ). mag z ≤ last_position) (sym (get_or-eq_default (take n r.placed.at) (pos 0) {n = i} (omega (arith, h, counted.places)))) (omega arith)
 
@@ -185,14 +185,14 @@ module _ (j : Job) (sized : Sized j) (whole : Whole j) where
 
       -- a life is at most the longest
       pub life_at_most : (q : ℕ) → get_or (take m r.lives) q 0 ≤ longest_life
-      life_at_most q = subst (λ (l : List ℕ). get_or l q 0 ≤ longest_life) (sym numbered.lives) (life_range n (job_of j).parts (valid_parts j sized whole valid) q)
+      life_at_most q = subst (λ (l : List ℕ). get_or l q 0 ≤ longest_life) (sym numbered.lives) (life_range n (job_of j).parts (valid_parts j valid) q)
 
       -- so is a first life
       pub left_at_most : (q : ℕ) → get_or (take m r.lefts) q 0 ≤ longest_life
-      left_at_most q = subst (λ (l : List ℕ). get_or l q 0 ≤ longest_life) (sym numbered.lefts) (left_range n (job_of j).parts (valid_parts j sized whole valid) q)
+      left_at_most q = subst (λ (l : List ℕ). get_or l q 0 ≤ longest_life) (sym numbered.lefts) (left_range n (job_of j).parts (valid_parts j valid) q)
 
       -- "R at most L"
       pub left_within_life : (q : ℕ) → get_or (take m r.lefts) q 0 ≤ get_or (take m r.lives) q 0
       left_within_life q =
           subst (λ (l : List ℕ). get_or l q 0 ≤ get_or (take m r.lives) q 0) (sym numbered.lefts)
-          (subst (λ (l : List ℕ). get_or (map left_of (job_of j).parts) q 0 ≤ get_or l q 0) (sym numbered.lives) (left_life n (job_of j).parts (valid_parts j sized whole valid) q))
+          (subst (λ (l : List ℕ). get_or (map left_of (job_of j).parts) q 0 ≤ get_or l q 0) (sym numbered.lives) (left_life n (job_of j).parts (valid_parts j valid) q))

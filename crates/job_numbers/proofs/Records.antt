@@ -13,7 +13,7 @@ use Rattle.model.proofs.Lists.{table-length, table_at}
 use Rattle.jobs.specs.declared.Part.{Part}
 use Rattle.jobs.specs.declared.Job.{Job}
 use Rattle.jobs.specs.Views.{blank_part_lem, part_of_lem, job_of}
-use Rattle.jobs.proofs.Jobs.{Whole, sized, part_count, part_at_lem}
+use Rattle.jobs.proofs.Jobs.{part_count, part_at_lem}
 use Rattle.jobs.proofs.Lists.{map_at}
 use Rattle.coming_out.proofs.Rows.{blank}
 use Rattle.held_places.specs.Arrays.{price_stride, price_size}
@@ -29,8 +29,8 @@ taken_is n ys zs h e f =
     ext_get_or 0 (take n ys) zs (size ∙ sym e) (λ i l. get_or-take n ys i 0 (omega (arith, size)) ∙ f i (omega (arith, size)))
 
 -- one number of the part at a place that a job counts, among those of all its parts
-pub number_at : (f : model.Part → ℕ) (j : Job) → Whole j → (i : ℕ) → i < j.part_count → get_or (map f (job_of j).parts) i 0 ≡ f (part_of_lem j.opening_count (get_or j.parts i blank_part_lem))
-number_at f j whole i h = map_at f (job_of j).parts i no_part 0 (omega (arith, part_count j (sized j) whole)) ∙ ap f (part_at_lem j (sized j) whole i h)
+pub number_at : (f : model.Part → ℕ) (j : Job) (i : ℕ) → i < j.part_count → get_or (map f (job_of j).parts) i 0 ≡ f (part_of_lem j.opening_count (get_or j.parts i blank_part_lem))
+number_at f j i h = map_at f (job_of j).parts i no_part 0 (omega (arith, part_count j)) ∙ ap f (part_at_lem j i h)
 
 -- ---- rows of prices
 

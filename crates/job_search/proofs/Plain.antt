@@ -12,14 +12,15 @@ use Rattle.model.specs.Promise.{answer_of}
 use Rattle.model.specs.Unheld.{charged_part, charged_job}
 use Rattle.model.proofs.NoHolders.{none_held}
 use Rattle.model.proofs.Unheld.{same_answer}
-use Rattle.jobs.specs.Views.{job_of, Sized}
+use Rattle.jobs.specs.Views.{job_of}
 use Rattle.jobs.specs.Valid.{ValidJob}
 use Rattle.jobs.specs.declared.Job.{Job}
 use Rattle.jobs.proofs.Lists.{map_at}
-use Rattle.jobs.proofs.Jobs.{Whole, opening_count_lem2, part_count}
+use Rattle.jobs.proofs.Jobs.{opening_count_lem2, part_count}
 use Rattle.clock.proofs.Places.{places_are}
 use Rattle.coming_out.specs.Places.{Removals}
-use Rattle.search_tables.specs.Arrays.{price_stride, lane_part, JobArrays}
+use Rattle.held_places.specs.Arrays.{price_stride}
+use Rattle.search_tables.specs.Arrays.{lane_part, JobArrays}
 use Rattle.search.specs.declared.Found.{Found}
 use Rattle.search.specs.Found.{Finds, said_in}
 use Rattle.search.proofs.Answered.{said}
@@ -28,7 +29,7 @@ use Rattle.job_numbers.specs.declared.Numbers.{Numbers}
 use Rattle.job_numbers.proofs.Counts.{removal_range, Counted, counted, life_at_lem, left_at_lem, prices_at_lem}
 use Rattle.job_numbers.proofs.Arrays.{plain_arrays}
 
-module _ (j : Job) (sized : Sized j) (whole : Whole j) where
+module _ (j : Job) where
   abbrev n : ℕ
   n = j.opening_count
 
@@ -37,12 +38,12 @@ module _ (j : Job) (sized : Sized j) (whole : Whole j) where
 
   -- as many parts
   charged_count : length (charged_job (job_of j)).parts ≡ m
-  charged_count = length-map (job_of j).parts (charged_part (length (job_of j).openings)) ∙ part_count j sized whole
+  charged_count = length-map (job_of j).parts (charged_part (length (job_of j).openings)) ∙ part_count j
 
   -- what the search hands back, read with the struct's counts, is the model's answer
   pub job_said : has_holder_lem (job_of j) ≡ false → (limit : ℕ) (r : Found) → Finds (charged_job (job_of j)) limit r → said_in n m r ≡ answer_of (job_of j) limit
   job_said free limit r a =
-      ap₂ (λ (n m : ℕ). said_in n m r) (sym (opening_count_lem2 j sized whole)) (sym charged_count)
+      ap₂ (λ (n m : ℕ). said_in n m r) (sym (opening_count_lem2 j)) (sym charged_count)
       ∙ said (charged_job (job_of j)) limit r a
       ∙ sym (same_answer (job_of j) (none_held (job_of j).parts free) limit)
 
@@ -59,17 +60,17 @@ module _ (j : Job) (sized : Sized j) (whole : Whole j) where
 
     module _ (r : Numbers) (numbered : Numbered (job_of j) n m r) (ps : List ℕ) (laid : Laid m (prices_with (job_of j) added) ps) where
       long : Counted n m r
-      long = counted j sized whole r numbered
+      long = counted j r numbered
 
       -- the part, charged
       part : (q : ℕ) → q < length (take m r.lives) → part_at (charged_job (job_of j)) q ≡ lane_part (length (take n r.placed.at)) (take m r.lives) (take m r.lefts) ps q
       part q l =
           let h : q < m = omega (arith, l, long.lives) in
           let ns = (part_at (job_of j) q).prices in
-          let life = life_at_lem j sized whole r numbered q (get_or (take m r.lives) 0 0) h in
-          let left = left_at_lem j sized whole r numbered q (get_or (take m r.lefts) 0 0) h in
-          let prices = ap (λ (k : ℕ). take k (drop (q * price_stride) ps)) long.places ∙ prices_at_lem j sized whole added ps laid q h ∙ ap (λ (c : ℕ). table (λ k. get_or ns k 0 + c) (length (job_of j).openings)) (removed q) in
-          map_at (charged_part (length (job_of j).openings)) (job_of j).parts q no_part no_part (omega (arith, h, part_count j sized whole))
+          let life = life_at_lem j r numbered q (get_or (take m r.lives) 0 0) h in
+          let left = left_at_lem j r numbered q (get_or (take m r.lefts) 0 0) h in
+          let prices = ap (λ (k : ℕ). take k (drop (q * price_stride) ps)) long.places ∙ prices_at_lem j added ps laid q h ∙ ap (λ (c : ℕ). table (λ k. get_or ns k 0 + c) (length (job_of j).openings)) (removed q) in
+          map_at (charged_part (length (job_of j).openings)) (job_of j).parts q no_part no_part (omega (arith, h, part_count j))
           ∙ (λ i. record { life = sym life i; left = sym left i; removal = 0; holders = []; prices = sym prices i })
 
       -- the arrays of the job's numbers hold the job with each removal added to its part's prices
@@ -77,9 +78,9 @@ module _ (j : Job) (sized : Sized j) (whole : Whole j) where
       unfolding clock
       holds_charged =
           record {
-            arrays = plain_arrays j sized whole valid r numbered added (λ q h. removed_range q) ps laid;
+            arrays = plain_arrays j valid r numbered added (λ q h. removed_range q) ps laid;
             ends = numbered.placed.end;
-            places = places_are j sized whole r.placed numbered.placed;
+            places = places_are j r.placed numbered.placed;
             fees = numbered.fees;
             parts = charged_count ∙ sym long.lives;
             part = part;

@@ -9,12 +9,12 @@ use lib.ListN.{length, get_or, take, set, replicate}
 use lib.Seq.{get_or-set_same, get_or-set_other}
 use Rattle.lines.specs.Text.{joined}
 use Rattle.lines.specs.Chosen.{chosen}
-use Rattle.lines.specs.Parser.{optional_at, if_present}
+use Rattle.lines.specs.Parser.{if_present}
 use Rattle.lines.specs.Reads.{Reads, seen}
 use Rattle.lines.specs.declared.fault.Fault.{Fault}
 use Rattle.lines.specs.declared.rows.Lines.{Lines}
 use Rattle.lines.proofs.Parsing.{put_into}
-use Rattle.lines.proofs.Sound.{optional_inv, row_gives, chain_gives}
+use Rattle.lines.proofs.Sound.{chain_gives}
 use Rattle.covers.specs.Views.{cover_there}
 use Rattle.quotes.specs.Views.{quotes_of}
 use Rattle.price_rules.specs.declared.Rule.{Rule}
@@ -30,10 +30,6 @@ use Rattle.jobs.specs.Views.{blank_part_lem, part_of_lem}
 use Rattle.jobs.specs.declared.Part.{Part}
 use Rattle.job_sections.specs.declared.steps.Idles.{Idles}
 use Rattle.job_sections.specs.Views.{idles_of, idles_said, Meant}
-
--- a line that was there, which could be missing, has its value in its range
-pub there_within : (key : List ℕ) (lo hi : ℕ) (b a : Lines) (v : ℕ) → Reads (optional_at key lo hi) b a (Ok (Some v)) → (lo ≤ v) × (v ≤ hi)
-there_within key lo hi b a v h = row_gives key lo hi _ _ _ _ v (optional_inv key lo hi _ _ _ _ (Some v) (sym h))
 
 -- steps that were read behind their number's line
 pub idles_read : (h n : ℕ) (b a : Lines) (r : Result Idles Fault) → 1 ≤ n → Reads (idle_steps_lem h n) b a (seen idles_of r) → Reads (if_present (idle_steps_lem h) (Some n)) b a (seen idles_said r)

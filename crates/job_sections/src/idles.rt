@@ -11,14 +11,14 @@ use lines::fault::{Fault, FaultKind};
 use lines::rows::Lines;
 use model::STEPS;
 
-// The idle steps, n of them: each after the step before and within the horizon.
+// Reads n idle steps: each after the step before and within the horizon.
 fn read_idle_steps(lines: &mut Lines, horizon: u32, n: usize) -> Result<Idles, Fault>
     requires { n ≤ last_step }
     ensures { Reads (idle_steps_lem horizon n) lines.old lines.new (seen idles_of result) }
 {
     let mut idles = [0; STEPS];
     let mut before: u32 = 0;
-    for i in 0..n {
+    for place in idles[..n].iter_mut() {
         let step = lines.rising(
             b"idle=",
             Opening::MAX_STEP,
@@ -26,17 +26,18 @@ fn read_idle_steps(lines: &mut Lines, horizon: u32, n: usize) -> Result<Idles, F
             horizon,
             FaultKind::Step,
         )?;
-        idles[i] = step;
+        *place = step;
         before = step;
     }
     Ok(Idles { count: n, idles })
 }
 
-// The number of idle steps and the steps: none where the number's line is missing.
+// Reads the number of idle steps and the steps: none where the number's line is missing.
 pub fn read_idles(lines: &mut Lines, horizon: u32) -> Result<Idles, Fault>
     ensures { Reads (idles horizon) lines.old lines.new (seen idles_said result) }
 {
     match lines.optional(b"idles=", Job::MIN_IDLES, Job::MAX_IDLES)? {
+        // Kept as a cast: std has no `From<u32>` for a usize, and a `try_from` would have an arm that nothing reaches.
         Some(n) => read_idle_steps(lines, horizon, n as usize),
         None => Ok(Idles {
             count: 0,

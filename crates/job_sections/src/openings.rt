@@ -11,7 +11,7 @@ use lines::fault::{Fault, FaultKind};
 use lines::rows::Lines;
 use model::OPENINGS;
 
-// An opening: its step, after the step before and within the horizon, and its fee.
+// Reads an opening: its step, after the step before and within the horizon, and its fee.
 fn read_opening(lines: &mut Lines, horizon: u32, before: u32) -> Result<Opening, Fault>
     ensures { Reads (opening horizon before) lines.old lines.new (seen opening_of result) }
 {
@@ -26,7 +26,7 @@ fn read_opening(lines: &mut Lines, horizon: u32, before: u32) -> Result<Opening,
     Ok(Opening { step, fee })
 }
 
-// The openings, n of them.
+// Reads n openings.
 pub fn read_openings(
     lines: &mut Lines,
     horizon: u32,
@@ -35,11 +35,12 @@ pub fn read_openings(
     requires { n ≤ most_openings }
     ensures { Reads (openings horizon n) lines.old lines.new (seen (openings_said n) result) }
 {
+    // Kept with openings of zeros past the n that count: no heap, and an array's places hold something.
     let mut openings = [Opening { step: 0, fee: 0 }; OPENINGS];
     let mut before: u32 = 0;
-    for i in 0..n {
+    for place in openings[..n].iter_mut() {
         let opening = read_opening(lines, horizon, before)?;
-        openings[i] = opening;
+        *place = opening;
         before = opening.step;
     }
     Ok(openings)

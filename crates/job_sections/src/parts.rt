@@ -22,15 +22,17 @@ pub struct Parts {
     pub parts: [Part; PARTS],
 }
 
-// The lines of the parts, m of them, with n openings: all but the prices of their rules.
+// Reads the lines of m parts, with n openings: all but the prices of their rules.
 fn list_parts(lines: &mut Lines, m: usize, n: usize) -> Result<Parts, Fault>
     requires { (m ≤ most_parts) × (n ≤ most_openings) }
     ensures reads { Reads (grammar.parts m n) lines.old lines.new (seen (parts_said m n) result) }
     ensures means { IfOk result (λ r. Meant n r.said r.parts) }
 {
+    // Kept as a range: two arrays are filled, and of an array that is written through a zip nothing is known after it.
     let mut said = [PartSaid::nothing(); PARTS];
     let mut parts = [blank_part(); PARTS];
     for i in 0..m {
+        // Kept as casts: std has no `From<usize>` for a u32, and a `try_from` would have an arm that nothing reaches.
         let read = read_part(lines, m as u32, n, i as u32 + 1)?;
         said[i] = read.said;
         parts[i] = read.part;
@@ -38,7 +40,8 @@ fn list_parts(lines: &mut Lines, m: usize, n: usize) -> Result<Parts, Fault>
     Ok(Parts { said, parts })
 }
 
-// The parts, m of them, with a price for each of n openings.
+// Reads m parts, with a price for each of n openings.
+// Kept with the limits of m and n in the clause: the parts are read before the job is made that counts them.
 pub fn read_parts(lines: &mut Lines, m: usize, n: usize) -> Result<Parts, Fault>
     requires { (m ≤ most_parts) × (n ≤ most_openings) }
     ensures reads { Reads (grammar.parts m n) lines.old lines.new (seen (parts_said m n) result) }

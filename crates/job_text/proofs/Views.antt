@@ -1,4 +1,4 @@
--- The whole text's answers in the grammar's terms: what a text means (`text_means`, `means`), and that an accepted one is sound (`sound_text`). By the parts and the answer.
+-- The whole text's answers in the grammar's terms: what a text means (`text_means`, `means`, `means_in`). By the parts and the answer.
 use Rattle.std.specs.Prelude.{Option, Result, Ok, Err}
 use Prim.Native.Nat.{ℕ}
 use mathlib.Core.Path.{◌≡◌, sym, ap, ◌∙◌}
@@ -7,18 +7,16 @@ use lib.ListN.{length}
 use Rattle.lines.specs.Parser.{Outcome, accepted}
 use Rattle.lines.specs.Reads.{outcome, seen}
 use Rattle.lines.specs.declared.fault.Fault.{Fault}
-use Rattle.job_grammar.specs.Grammar.{JobText, meant, meaning, read_job_lem}
-use Rattle.job_grammar.proofs.Accepted.{valid}
+use Rattle.job_grammar.specs.Grammar.{JobText, meant, meaning}
 use Rattle.job_grammar.proofs.Optionals.{idle_steps_lem2}
 use Rattle.part_lines.specs.Grammar.{meant_part}
 use Rattle.part_lines.specs.declared.said.PartSaid.{PartSaid}
 use Rattle.jobs.specs.Views.{job_of}
-use Rattle.jobs.specs.Valid.{Sound}
 use Rattle.jobs.specs.declared.Job.{Job}
-use Rattle.jobs.proofs.Jobs.{sized}
 use Rattle.job_text.specs.declared.text.JobText as code
 use Rattle.job_text.specs.Said.{said_text, said_given}
-use Rattle.job_text.specs.Views.{text_of, given_of, SoundText}
+use Rattle.job_text.specs.declared.accepted.AcceptedText.{AcceptedText}
+use Rattle.job_text.specs.Views.{text_of, given_of, text_in, given_in}
 
 -- a text whose parts are what their lines mean means its job
 pub text_means : (walk : Option ℕ) (said : List PartSaid) (job : Job) → map (meant_part (length (job_of job).openings)) (said_text walk said job).parts ≡ (job_of job).parts → meant (said_text walk said job) ≡ said_given walk said job
@@ -26,15 +24,12 @@ text_means walk said job e =
     let f = sym (idle_steps_lem2 (job_of job).idles) in
     λ i. record { job = record { horizon = job.horizon; idles = f i; openings = (job_of job).openings; parts = e i }; low = (said_given walk said job).low; banded = (said_given walk said job).banded }
 
--- a text that is read and accepted is sound
-pub sound_text : (s : List ℕ) (t : code.JobText) → read_job_lem s ≡ accepted (given_of t) → SoundText t
-sound_text s t e = record { sized = sized t.job; means = t.means; valid = valid s (given_of t) e }
-
--- its job is sound
-pub sound_job : (t : code.JobText) → SoundText t → Sound t.job
-sound_job t w = record { sized = w.sized; valid = w.valid.job }
-
 -- what a struct means is what its text means
 pub means : (r : Result code.JobText Fault) {x : Outcome JobText} → outcome (seen text_of r) ≡ x → outcome (seen given_of r) ≡ meaning x
 means (Ok t) h = ap accepted (sym t.means) ∙ ap meaning h
 means (Err e) h = ap meaning h
+
+-- what an accepted text means is what it says means
+pub means_in : (r : Result AcceptedText Fault) {x : Outcome JobText} → outcome (seen text_in r) ≡ x → outcome (seen given_in r) ≡ meaning x
+means_in (Ok t) h = ap accepted (sym t.means) ∙ ap meaning h
+means_in (Err e) h = ap meaning h

@@ -1,18 +1,12 @@
--- The job that a struct holds, place by place: as many openings and parts as it counts, each valid where the job is. By the laws of `map` and `take`, and the arrays' lengths, which a function's arguments tell.
+-- The job that a struct holds, place by place: as many openings and parts as it counts, each valid where the job is. By the laws of `map` and `take`, and the arrays' lengths, which the type tells.
 use Prim.Native.Nat.{ℕ, ◌≤◌, ◌<◌}
 use mathlib.Core.Path.{◌≡◌, sym, ap, subst, ◌∙◌}
-use mathlib.Core.List.{List, [], ◌∷◌, map}
+use mathlib.Core.List.{List, [], map}
 use native.Mathlib.Omega.{arith}
 use lib.ListN.{length, get_or, take, length-map, get_or-map}
 use lib.Seq.{get_or-take, take-nil}
 use Rattle.lines.specs.Text.{joined}
 use Rattle.lines.specs.Chosen.{chosen}
-use mir.Val.{Val}
-use denote.Laws.{Is}
-use denote.Struct.Declared.{row}
-use denote.Struct.Laws.{val}
-use Rattle.jobs.specs.contracts.Job.{the_type}
-use Rattle.jobs.proofs.Job.TheLaws.{the_laws}
 use Rattle.jobs.specs.Views.{blank_part_lem, opening_of, part_of_lem, job_of, Sized}
 use Rattle.jobs.specs.Valid.{All, ValidOpening, ValidPart, ValidJob}
 use Rattle.jobs.specs.declared.Opening.{Opening}
@@ -33,10 +27,6 @@ opening_at j i = get_or j.openings i blank_opening
 abbrev pub part_at : Job → ℕ → Part
 part_at j k = get_or j.parts k blank_part_lem
 
--- what is known of an argument that is a job
-abbrev pub Whole : Job → Type 0
-Whole j = Is (row the_type) j (val the_type the_laws j ∷ [])
-
 -- the first m records, as parts with n prices
 abbrev pub viewed : ℕ → ℕ → List Part → List model.Part
 viewed n m parts = map (part_of_lem n) (take m parts)
@@ -53,7 +43,7 @@ part_viewed n m parts k h =
 abbrev pub sized : (j : Job) → Sized j
 sized j = record { idles = j.few_idles; openings = j.few_openings; parts = j.few_parts }
 
-module _ (j : Job) {vs : List Val} (sized : Sized j) (whole : Is (row the_type) j vs) where
+module _ (j : Job) where
   abbrev n : ℕ
   n = j.opening_count
 
@@ -62,14 +52,14 @@ module _ (j : Job) {vs : List Val} (sized : Sized j) (whole : Is (row the_type) 
 
   -- the array of idle steps has as many entries as the job counts
   pub idles_long : j.idle_count ≤ length j.idles
-  idles_long = omega (arith, sized.idles, whole.1.1.1.1.0.1.0.1)
+  idles_long = omega (arith, j.few_idles, j.long_idles)
 
   pub openings_long : n ≤ length j.openings
-  openings_long = omega (arith, sized.openings, whole.1.1.1.1.1.1.0.1.0.1)
+  openings_long = omega (arith, j.few_openings, j.long_openings)
 
   -- the array of parts has as many records as the job counts
   pub parts_long : m ≤ length j.parts
-  parts_long = omega (arith, sized.parts, whole.1.1.1.1.1.1.1.1.0.1.0.1)
+  parts_long = omega (arith, j.few_parts, j.long_parts)
 
   pub opening_count_lem2 : length (job_of j).openings ≡ n
   opening_count_lem2 = firsts_size opening_of j.openings n openings_long

@@ -2,3 +2,4 @@
 pub mod Lists
 pub mod Jobs
 pub mod Plans
+pub mod Sounds

@@ -32,10 +32,6 @@ job_of j = record {
   parts = map (part_of_lem j.opening_count) (take j.part_count j.parts);
 }
 
--- the job of no idle steps, no openings and no parts: it stands where a text is refused
-abbrev pub empty_job : model.Job
-empty_job = record { horizon = 0; idles = []; openings = []; parts = [] }
-
 -- the counts stay within the arrays
 pub record Sized (j : Job) : Type 0 where
   pub idles : j.idle_count ≤ last_step

@@ -5,6 +5,7 @@
 
 use judge_program::judge_files;
 
+// Judges where a file is missing, and where a folder stands in its place.
 fn main(rt: HostRuntime) {
     judge_files(&rt, b"job.txt", b"missing.txt");
     judge_files(&rt, b"missing.txt", b"plan.txt");

@@ -3,6 +3,7 @@
 
 use judge_program::judge_files;
 
+// Judges texts at their limits, past them, and a long plan.
 fn main(rt: HostRuntime) {
     // A job of 24 lines with bytes after the last: number 2 on line 25 of text 1. One byte more: number 1.
     judge_files(&rt, b"job_40960.txt", b"plan.txt");

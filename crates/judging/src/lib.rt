@@ -5,7 +5,6 @@ ghost use Rattle.std.specs.Prelude.{◌≡◌, length};
 ghost use Rattle.line_writing.specs.Puts.{Puts, Room};
 ghost use Rattle.model.specs.Verdict.{number_of};
 ghost use Rattle.jobs.specs.Views.{job_of};
-ghost use Rattle.jobs.specs.Valid.{Sound};
 ghost use Rattle.plan_grammar.specs.Grammar.{read_plan_lem};
 ghost use Rattle.verdict.specs.Views.{model_judgement};
 ghost use Rattle.verdict.specs.Ranges.{Limited};
@@ -13,9 +12,9 @@ ghost use Rattle.answers.specs.Said.{lent, Replied};
 ghost use Rattle.judging.specs.Judge.{judge_lines, said_of, on_plan, judge_said, judge_room};
 ghost use Rattle.judging.specs.Promise.{JudgePromise};
 
-use answers::{Answer, put_three, put_two, refuse};
+use answers::{Answer, JOB, PLAN, put_three, put_two, refuse, reply};
 use job_text::whole::read_job;
-use jobs::Job;
+use jobs::Accepted;
 use line_writing::output::Out;
 use plan_text::whole::read_plan;
 use verdict::{Judgement, judgement_of};
@@ -34,41 +33,38 @@ fn number_of(j: Judgement) -> u32
     }
 }
 
-// The lines of a judgement.
+// Puts the lines of a judgement.
 fn put_judgement(out: &mut Out, j: Judgement)
     requires { Limited (model_judgement j) × Room out.old (judge_lines (model_judgement j)) }
     ensures { Puts out.old (judge_lines (model_judgement j)) out.new }
 {
+    let number = number_of(j);
     match j {
-        Judgement::Accepts(cost) => put_two(out, 0, b"cost=", cost),
+        Judgement::Accepts(cost) => put_two(out, number, b"cost=", cost),
         Judgement::Unkept { part, due } => {
-            put_three(out, 10, b"part=", u64::from(part), b"due=", u64::from(due))
+            let part = u64::from(part);
+            let due = u64::from(due);
+            put_three(out, number, b"part=", part, b"due=", due)
         }
-        Judgement::WrongCost(cost) => put_two(out, 11, b"cost=", cost),
+        Judgement::WrongCost(cost) => put_two(out, number, b"cost=", cost),
     }
 }
 
-// The answer that a judgement is.
+// Answers the judge's call by a judgement.
 fn answer(j: Judgement, out: &mut [u8]) -> Answer
     requires { Limited (model_judgement j) }
     ensures { Replied judge_room (said_of (model_judgement j)) out.old out.new result }
 {
-    if out.len() < ROOM {
-        return Answer::no_room();
-    }
-    let mut lines = Out { bytes: out, at: 0 };
-    put_judgement(&mut lines, j);
-    Answer::plain(number_of(j), lines.at)
+    reply(number_of(j), ROOM, out, |lines| put_judgement(lines, j))
 }
 
-// The plan text against an accepted job.
-fn judge_plan(job: Job, plan: &[u8], out: &mut [u8]) -> Answer
-    requires { Sound job }
-    ensures { Replied judge_room (on_plan plan.now (job_of job) (read_plan_lem (job_of job) plan.now)) out.old out.new result }
+// Answers the judge's call for an accepted job: by what the plan text reads as against it.
+fn judge_plan(job: &Accepted, plan: &[u8], out: &mut [u8]) -> Answer
+    ensures { Replied judge_room (on_plan plan.now (job_of job.now.job) (read_plan_lem (job_of job.now.job) plan.now)) out.old out.new result }
 {
-    match read_plan(plan, job) {
-        Ok(stated) => answer(judgement_of(job, stated.cost, stated.plan), out),
-        Err(fault) => refuse(plan, 2, fault.kind.number(), fault.line, ROOM, out),
+    match read_plan(plan, &job.job) {
+        Ok(stated) => answer(judgement_of(job, stated.cost, &stated.plan), out),
+        Err(fault) => refuse(plan, PLAN, fault.kind.number(), fault.line, ROOM, out),
     }
 }
 
@@ -79,8 +75,9 @@ pub fn judge(job: &[u8], plan: &[u8], out: &mut [u8]) -> Answer
     ensures judge_promise { JudgePromise job.now plan.now (length out.old)
         (lent judge_room (length out.old) (judge_said job.now plan.now)) }
 {
+    // Kept in each call: the arm for a fault is one call of `refuse`, and one function for all calls would take the rest of each as a closure over the text and the output.
     match read_job(job) {
-        Ok(text) => judge_plan(text.job, plan, out),
-        Err(fault) => refuse(job, 1, fault.kind.number(), fault.line, ROOM, out),
+        Ok(text) => judge_plan(&text.job, plan, out),
+        Err(fault) => refuse(job, JOB, fault.kind.number(), fault.line, ROOM, out),
     }
 }

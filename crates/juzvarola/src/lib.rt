@@ -64,6 +64,7 @@ pub extern "C" fn juzvarola_latest(job: &[u8], plan: &[u8], out: &mut [u8]) -> A
 }
 
 // Writes the job text of a form.
+// Kept as a row of lists: C hands over a list as a pointer and a length, and has no struct of them.
 #[unsafe(no_mangle)]
 pub extern "C" fn juzvarola_write(
     horizon: u32,

@@ -1,5 +1,7 @@
 // Rows of lanes, one for each part, in fours: the tables, and a stack of rows in a lent buffer. A row function stands for any number of fours; its caller names the number, which makes each loop one without a count.
-// A loop over places stands where places are computed: fours of lanes, rows of the stack, levels of the memo.
+// Kept as loops over places, each for what it says there: total, least_rows, step_fours. The others go over items, or only call a function with the number.
+// Kept as slices of LANES or more in turn, min_row, plus_row, add_row, least_rows, next_lanes, store_row and total: their callers hand parts of the stack and of the tables, whose length a type can't say, and an array for the lanes would ask those outside for that very length. Kept as slices in step_lanes and put_lanes: by_fours hands the stack as one.
+// Kept as parameters side by side, the tables, the stack, its rows and an opening (t, w, rows, j): the stack is lent to be written and the tables to be read, so a struct of them would be taken apart in each function; and what is asked of the number of rows and of the opening is asked of them with the numbers on the stack, so no type of the two alone could say it.
 #![tactic(auto)]
 
 ghost use denote.Ref.{MutBor};
@@ -18,41 +20,53 @@ use model::{OPENINGS, PARTS};
 pub const LANES: usize = PARTS;
 
 // The number for a missing price.
+// Kept as a number: rows of Options would be no lanes of 32 bits, of which the machine takes four at a time.
 pub const INF: u32 = 1030000000;
 
 // A block of the tables is a triangle: level j has the marks 0 to j, since no mark is above the number of openings decided.
 pub const BLOCK_ROWS: usize = MARKS * (MARKS + 1) / 2;
 
+// How many numbers a block has.
 const BLOCK: usize = BLOCK_ROWS * LANES;
 
-// The tables: where each region starts, and their size.
+// The tables have regions one behind the other; each of these constants says where one starts.
 
+// The block of suffix prices: a lane's least price from an opening on, after a mark.
 pub const SUFFIXES: usize = 0;
 
+// The block of reach: 0 where an opening is in reach of a mark, else INF.
 pub const REACHES: usize = SUFFIXES + BLOCK;
 
+// Each lane's price at each opening.
 pub const PRICES: usize = REACHES + BLOCK;
 
+// The fee of each opening.
 pub const FEES: usize = PRICES + OPENINGS * LANES;
 
+// How many openings the job has.
 pub const COUNT: usize = FEES + OPENINGS;
 
 // How many fours of lanes the job has.
 pub const FOURS: usize = COUNT + 1;
 
-// E4's terms.
+// The term of E4 for each level and each mark of the last yes.
 pub const TERMS: usize = FOURS + 1;
 
+// How many numbers the tables have.
 pub const TABLES: usize = TERMS + BLOCK_ROWS;
 
-// The stack: 65 rows, the mark of each, which rows of the memo are known, and the memo, which has a row for each level and each number of rows from none to one more than the level's; a row's room stands behind it.
+// The stack begins with its rows, and has regions behind them; each of these constants says where one starts.
 
+// The mark of each row.
 pub const ROW_MARKS: usize = MARKS * LANES;
 
+// Which rows of the memo are known: 1 for each that is, by the number of rows and the level.
 pub const KNOWN: usize = ROW_MARKS + MARKS;
 
+// The memo, which has a row for each level and each number of rows from none to one more than the level's.
 pub const MEMO: usize = KNOWN + (MARKS + 1) * MARKS;
 
+// How many numbers the stack has, with a row's room behind the memo.
 pub const STACK: usize = MEMO + (MARKS + 1) * (MARKS + 2) / 2 * LANES + LANES;
 
 // How many rows of a triangle stand before level j's.
@@ -65,40 +79,40 @@ pub fn row_of(j: usize) -> usize
 }
 
 // The number that stands j past the start of a region.
-pub fn cell(t: &[u32], start: usize, j: usize) -> usize
-    requires { (start + j < length t.now) × (length t.now ≡ tables_size) }
+// Kept as a cast, as those of a mark and of the number of fours below, and the one of a row's mark as it is written: on a machine of 16 bits a usize has no room for a u32, and elsewhere it may be more than a u32 holds, so the library has no From either way.
+pub fn cell(t: &[u32; TABLES], start: usize, j: usize) -> usize
+    requires { start + j < tables_size }
     ensures { result ≡ get_or t.now (start + j) 0 }
 {
     t[start + j] as usize
 }
 
 // E4's term where j openings are decided and mark i is that of the last yes.
-pub fn term(t: &[u32], j: usize, i: usize) -> u64
-    requires { (length t.now ≡ tables_size) × (i ≤ j) × (j ≤ most_openings) }
+pub fn term(t: &[u32; TABLES], j: usize, i: usize) -> u64
+    requires { (i ≤ j) × (j ≤ most_openings) }
     ensures { result ≡ get_or t.now (term_place j i) 0 }
 {
     let row = row_of(j);
-    t[TERMS + (row + i)] as u64
+    u64::from(t[TERMS + (row + i)])
 }
 
 // The mark of the last yes, of the `rows` that are there.
-pub fn last_mark(w: &[u32], rows: usize) -> usize
-    requires { (0 < rows) × (rows ≤ mark_count) × (length w.now ≡ stack_size) }
+pub fn last_mark(w: &[u32; STACK], rows: usize) -> usize
+    requires { (0 < rows) × (rows ≤ mark_count) }
     ensures { result ≡ get_or w.now (mark_place (rows - 1)) 0 }
 {
     w[ROW_MARKS + (rows - 1)] as usize
 }
 
 // So many lanes, each turned into what `f` says of its place and of what it holds.
-// Kept as a loop over places: an iterator over a part of the lanes would leave nothing known of what is written to them.
 pub fn turn<F: Fn(usize, u32) -> u32>(fours: usize, acc: &mut [u32], f: F)
     requires room { (fours ≤ 4) × (lane_count_lem ≤ length acc.old) }
     requires calls { (q : ℕ) → q < fours * 4 → F.pre f q (get_or acc.old q 0) }
     ensures size { length acc.new ≡ length acc.old }
     ensures lanes { (q : ℕ) → q < fours * 4 → F.post f q (get_or acc.old q 0) (get_or acc.new q 0) }
 {
-    for p in 0..fours * 4 {
-        acc[p] = f(p, acc[p]);
+    for (q, lane) in acc[..fours * 4].iter_mut().enumerate() {
+        *lane = f(q, *lane);
     }
 }
 
@@ -132,14 +146,6 @@ fn plus_row(fours: usize, prices: &[u32], acc: &mut [u32])
     turn(fours, acc, |p, v| v + prices[p]);
 }
 
-// The lanes of a row.
-fn copy_row(fours: usize, d: &[u32], acc: &mut [u32])
-    requires { (fours ≤ 4) × (lane_count_lem ≤ length d.now) × (lane_count_lem ≤ length acc.old) }
-    ensures { Turned (fours * 4) (λ (q : ℕ). get_or d.now q 0) acc.old acc.new }
-{
-    acc[..fours * 4].copy_from_slice(&d[..fours * 4]);
-}
-
 // The lanes are stored as the row that starts at `at`.
 pub fn store_row(fours: usize, acc: &[u32], at: usize, w: &mut [u32])
     requires { (fours ≤ 4) × (lane_count_lem ≤ length acc.now) × (at + lane_count_lem ≤ length w.old) }
@@ -149,6 +155,7 @@ pub fn store_row(fours: usize, acc: &[u32], at: usize, w: &mut [u32])
 }
 
 // The sum of all lanes, in four sums that stay within 32 bits.
+// Kept as a loop over places: chunks_exact would hand over a four, whose places would still be named one by one, and of which no more is known than that it is one of a list of references.
 pub fn total(fours: usize, acc: &[u32]) -> u64
     requires { (fours ≤ 4) × (lane_count_lem ≤ length acc.now) × ((q : ℕ) → q < fours * 4 → get_or acc.now q 0 ≤ inf) }
     ensures { result ≡ sum_lanes (fours * 4) (λ (q : ℕ). get_or acc.now q 0) }
@@ -163,18 +170,14 @@ pub fn total(fours: usize, acc: &[u32]) -> u64
         c = c + acc[k * 4 + 2];
         d = d + acc[k * 4 + 3];
     }
-    a as u64 + b as u64 + c as u64 + d as u64
+    u64::from(a) + u64::from(b) + u64::from(c) + u64::from(d)
 }
 
 // The price that a sum of lanes stands for.
 pub fn value(s: u64) -> Bound
     ensures { result ≡ value_of s }
 {
-    if s < INF as u64 {
-        Bound::Sum(s)
-    } else {
-        Bound::Missing
-    }
+    Bound::below(s, u64::from(INF))
 }
 
 // Row n, whose mark is i, is taken into the lanes, with the block from `base` on, at opening j.
@@ -202,6 +205,7 @@ fn add_row(
 }
 
 // Each lane over the first `rows` rows, from lanes that hold nothing.
+// Kept as a loop over places: a row's number says where its lanes stand, and its mark stands in another part of the stack, so an iterator over the marks would be numbered again.
 fn least_rows(
     fours: usize,
     t: &[u32],
@@ -227,7 +231,7 @@ fn step_lanes(fours: usize, t: &[u32], w: &mut [u32], d: usize, e: usize, out: u
 {
     let before = out - LANES;
     let mut acc = [INF; LANES];
-    copy_row(fours, &w[before..before + LANES], &mut acc);
+    store_row(fours, &w[before..before + LANES], 0, &mut acc);
     min_row(fours, &w[d..d + LANES], &t[e..e + LANES], &mut acc);
     store_row(fours, &acc, out, w);
     total(fours, &acc)
@@ -241,7 +245,8 @@ fn step_row(t: &[u32; TABLES], w: &mut [u32; STACK], d: usize, e: usize, out: us
     by_fours(t[FOURS], w, |fours, w| step_lanes(fours, t, w, d, e, out))
 }
 
-// The same row, one four of lanes after the other: less code than one for each number of fours.
+// The memo's row at `out` and its sum, one four of lanes after the other: less code than one for each number of fours.
+// Kept as a loop over places: each four of the memo's row is written from fours of three other rows, two of which stand in the array that is written (the memo's row before it, the stack's) and one in the tables.
 fn step_fours(t: &[u32; TABLES], w: &mut [u32; STACK], d: usize, e: usize, out: usize) -> u64
     requires { FoursAsks t.now w.old d e out }
     ensures { Stepped (lanes_in t.now) t.now w.old w.new d e out result }
@@ -256,7 +261,7 @@ fn step_fours(t: &[u32; TABLES], w: &mut [u32; STACK], d: usize, e: usize, out: 
 }
 
 // The memo learns its row for level j and the first m + 1 rows, where it knows that for the first m, by the code for each number of fours or by one four after the other; its sum.
-fn learn(t: &[u32; TABLES], w: &mut [u32; STACK], m: usize, j: usize, whole: bool) -> u64
+fn learn<const WHOLE: bool>(t: &[u32; TABLES], w: &mut [u32; STACK], m: usize, j: usize) -> u64
     requires { ((n : ℕ) × Looks t.now w.old n j × (m < n)) × Known w.old m j }
     ensures { (n : ℕ) → Looks t.now w.old n j → m < n → Learnt t.now w.old w.new n m j result }
 {
@@ -267,23 +272,21 @@ fn learn(t: &[u32; TABLES], w: &mut [u32; STACK], m: usize, j: usize, whole: boo
     let d = m * LANES;
     let e = SUFFIXES + (row + i) * LANES;
     let out = MEMO + (level + (m + 1)) * LANES;
-    if whole {
+    if WHOLE {
         return step_row(t, w, d, e, out);
     }
     step_fours(t, w, d, e, out)
 }
 
 // How many rows, below the top one, the memo knows at level j; of none it knows always.
-fn known_rows(w: &[u32], rows: usize, j: usize) -> usize
-    requires { (0 < rows) × (rows ≤ mark_count) × (j ≤ most_openings) × (length w.now ≡ stack_size) }
+fn known_rows(w: &[u32; STACK], rows: usize, j: usize) -> usize
+    requires { (0 < rows) × (rows ≤ mark_count) × (j ≤ most_openings) }
     ensures { (result < rows) × Known w.now result j }
 {
-    for m in (1..rows).rev() {
-        if w[KNOWN + m * MARKS + j] == 1 {
-            return m;
-        }
-    }
-    0
+    (1..rows)
+        .rev()
+        .find(|m| w[KNOWN + *m * MARKS + j] == 1)
+        .unwrap_or(0)
 }
 
 // The memo learns what it lacks at level j, one row after the other; the top row's sum is handed over.
@@ -294,12 +297,12 @@ fn look<const WHOLE: bool>(t: &[u32; TABLES], w: &mut [u32; STACK], rows: usize,
     let known = known_rows(w, rows, j);
     let mut sum = 0;
     for m in known..rows {
-        sum = learn(t, w, m, j, WHOLE);
+        sum = learn::<WHOLE>(t, w, m, j);
     }
     sum
 }
 
-// The same, one four of lanes after the other: for the walk with holders, so that the walk without them has its look to itself, in its own code.
+// The top row's sum at level j, where the memo learns what it lacks one four of lanes after the other: for the walk with holders, so that the walk without them has its look to itself, in its own code.
 pub fn look_by_fours(t: &[u32; TABLES], w: &mut [u32; STACK], rows: usize, j: usize) -> u64
     requires { Looks t.now w.old rows j }
     ensures { Looked t.now w.old w.new rows j result }
@@ -317,8 +320,8 @@ pub fn lane_sum(t: &[u32; TABLES], w: &mut [u32; STACK], rows: usize, j: usize) 
 }
 
 // The part sums where nothing is decided: the tables' first row; Missing exactly where the first term is.
-pub fn first_sums(t: &[u32]) -> Bound
-    requires { (length t.now ≡ tables_size) × (lanes_in t.now ≤ lane_count_lem) × ((q : ℕ) → q < lanes_in t.now → get_or t.now q 0 ≤ inf) }
+pub fn first_sums(t: &[u32; TABLES]) -> Bound
+    requires { (lanes_in t.now ≤ lane_count_lem) × ((q : ℕ) → q < lanes_in t.now → get_or t.now q 0 ≤ inf) }
     ensures { result ≡ sum_where (get_or t.now (term_place 0 0) 0) (sum_lanes (lanes_in t.now) (λ (q : ℕ). get_or t.now q 0)) }
 {
     if t[TERMS] < INF {
@@ -367,7 +370,9 @@ pub fn forget(w: &mut [u32], k: usize, from: usize)
     w[at + from..at + MARKS].fill(0);
 }
 
-// Writes the row that a yes owes.
+// The row that a yes owes is written, where the last decision is a yes (`stop`); how many rows there are then.
+// Kept as a flag: a node whose yes is owed and one that is settled are the same in all else, and the test that stands here would stand in the caller, around two calls.
+// Kept as slices, with put_row and forget: of a node that is settled nothing is asked, so its slices may have any length, which arrays would fix.
 pub fn settle(t: &[u32], w: &mut [u32], at: usize, rows: usize, stop: bool) -> usize
     requires { stop ≡ true → (0 < at) × Owing (lanes_in t.now) t.now w.old (at - 1) rows }
     ensures { Settled t.now w.old w.new at rows result stop }
@@ -381,8 +386,8 @@ pub fn settle(t: &[u32], w: &mut [u32], at: usize, rows: usize, stop: bool) -> u
 }
 
 // The memo's row of no rows, at level l.
-fn none_row(w: &mut [u32], l: usize)
-    requires { (l ≤ most_openings) × (length w.old ≡ stack_size) }
+fn none_row(w: &mut [u32; STACK], l: usize)
+    requires { l ≤ most_openings }
     ensures { FilledBy (memo_place l 0) (λ (q : ℕ). inf) lane_count_lem w.old w.new }
 {
     let at = MEMO + row_of(l + 1) * LANES;
@@ -390,8 +395,7 @@ fn none_row(w: &mut [u32], l: usize)
 }
 
 // The memo's rows of no rows.
-fn none_rows(w: &mut [u32])
-    requires { length w.old ≡ stack_size }
+fn none_rows(w: &mut [u32; STACK])
     ensures { Nones w.old w.new mark_count }
 {
     for l in 0..MARKS {
@@ -400,8 +404,7 @@ fn none_rows(w: &mut [u32])
 }
 
 // The row before the first opening: nothing is paid.
-pub fn base_row(w: &mut [u32])
-    requires { length w.old ≡ stack_size }
+pub fn base_row(w: &mut [u32; STACK])
     ensures { FirstRow w.new }
 {
     w[..LANES].fill(0);

@@ -5,7 +5,7 @@ ghost use Rattle.std.specs.Prelude.{◌≡◌, map, ℕ, ◌-◌, ◌≤◌, len
 ghost use Rattle.model.specs.Model.{fee_of};
 ghost use Rattle.model.specs.Windows.{steps_of};
 ghost use Rattle.model.specs.Limits.{last_step};
-ghost use Rattle.jobs.specs.Views.{job_of, Sized};
+ghost use Rattle.jobs.specs.Views.{job_of};
 ghost use Rattle.carry.specs.Carry.{count_to};
 ghost use Rattle.carry.proofs.Later.{After};
 
@@ -16,15 +16,11 @@ use model::{OPENINGS, STEPS};
 pub fn count_to(steps: &[u32], step: u32) -> usize
     ensures { (result ≡ count_to step steps.now) × (result ≤ length steps.now) }
 {
-    for (i, s) in steps.iter().enumerate() {
-        if step < *s {
-            return i;
-        }
-    }
-    steps.len()
+    steps.iter().position(|s| step < *s).unwrap_or(steps.len())
 }
 
 // The steps behind the first n, which are after the step, renumbered.
+// Kept with a place to write at: an `iter_mut` with the places would name what is written, and ask for the step by its place instead.
 pub fn renumbered(steps: &[u32], n: usize, step: u32) -> [u32; STEPS]
     requires { (length steps.now ≤ last_step) × (n ≤ length steps.now) × After step (drop n steps.now) }
     ensures { take (length steps.now - n) result ≡ map (λ (s : ℕ). s - step) (drop n steps.now) }
@@ -46,9 +42,9 @@ pub struct OpeningLists {
 }
 
 // The openings of a job as lists.
-pub fn opening_lists(job: Job) -> OpeningLists
-    requires { Sized job }
-    ensures { (take job.opening_count result.steps ≡ steps_of (job_of job).openings) × (take job.opening_count result.fees ≡ map fee_of (job_of job).openings) }
+// Kept with a place to write at: two arrays are written there, and zipped with the openings they would be a pair in a pair.
+pub fn opening_lists(job: &Job) -> OpeningLists
+    ensures { (take job.now.opening_count result.steps ≡ steps_of (job_of job.now).openings) × (take job.now.opening_count result.fees ≡ map fee_of (job_of job.now).openings) }
 {
     let mut steps = [0u32; OPENINGS];
     let mut fees = [0u32; OPENINGS];

@@ -13,7 +13,7 @@ use Rattle.lines.proofs.Arrays.{take_more}
 use Rattle.model.specs.Model.{within, select}
 use Rattle.model.specs.Verdict.{next_of}
 use Rattle.latest.specs.Latest.{latest_from}
-use Rattle.clock.specs.declared.Positions.{Positions}
+use Rattle.clock.specs.declared.positions.Positions.{Positions}
 use Rattle.latest_changes.specs.Stops.{Ranged, NextStops}
 
 module _ (life end first : ℤ) (ps : List ℤ) (stops : List Bool) where

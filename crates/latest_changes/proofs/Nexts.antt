@@ -14,7 +14,7 @@ use Rattle.model.specs.Model.{select}
 use Rattle.model.specs.Verdict.{next_of}
 use Rattle.model.proofs.MoreChanges.{select_step}
 use Rattle.clock.specs.Placed.{Position}
-use Rattle.clock.specs.declared.Positions.{Positions}
+use Rattle.clock.specs.declared.positions.Positions.{Positions}
 use Rattle.latest_changes.specs.Stops.{Ranged, stop_from, NextStops}
 
 module _ (n : ℕ) (p : Positions) (stops : List Bool) where

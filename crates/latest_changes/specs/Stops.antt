@@ -4,7 +4,7 @@ use Rattle.model.specs.Model.{select}
 use Rattle.model.specs.Limits.{most_openings}
 use Rattle.model.specs.Verdict.{next_of}
 use Rattle.clock.specs.Placed.{Position}
-use Rattle.clock.specs.declared.Positions.{Positions}
+use Rattle.clock.specs.declared.positions.Positions.{Positions}
 
 -- n openings, which the array has, and the end of the lives lie where those of an accepted job can
 pub record Ranged (n : ℕ) (p : Positions) : Type 0 where

@@ -1,24 +1,26 @@
 // The plan that changes each part at the last stop that still serves.
+// Kept as numbers with their ranges where a gap is asked for, as in `clock::keeps`: two of three change from opening to opening.
 #![tactic(auto)]
 
 ghost use Rattle.std.specs.Prelude.{◌≡◌, not, ◌&&◌, take, pos, ◌≤◌};
 ghost use Rattle.model.specs.Model.{within, last_change_lem};
 ghost use Rattle.model.specs.Limits.{longest_life};
 ghost use Rattle.jobs.specs.Views.{job_of, part_of_lem, plan_for};
-ghost use Rattle.jobs.specs.Valid.{ValidPart, Sound};
+ghost use Rattle.jobs.specs.Valid.{ValidPart};
 ghost use Rattle.clock.specs.Placed.{Position, Begins};
 ghost use Rattle.latest.specs.Latest.{latest_from, latest_plan_of};
 ghost use Rattle.latest_changes.specs.Stops.{Ranged, NextStops};
 
-use clock::{Positions, positions_of};
-use jobs::{Changes, Job, Part, Plan};
-use least::{in_reach, last_change};
+use clock::{Positions, keeps, positions_of};
+use jobs::{Accepted, Changes, Part, Plan};
+use least::last_change;
 use model::{OPENINGS, PARTS};
 
 // The position of the stop after each of n openings, or the end after the last.
-fn next_stops(n: usize, positions: Positions, stops: [bool; OPENINGS]) -> [i32; OPENINGS]
-    requires { Ranged n positions }
-    ensures { NextStops n positions stops result }
+// Kept as a loop over the openings' places: three arrays meet at one place, from the last to the first, and zipped they would be a pair in a pair, turned round.
+fn next_stops(n: usize, positions: &Positions, stops: &[bool; OPENINGS]) -> [i32; OPENINGS]
+    requires { Ranged n positions.now }
+    ensures { NextStops n positions.now stops.now result }
 {
     let mut nexts = [0i32; OPENINGS];
     let mut next = positions.end;
@@ -36,19 +38,21 @@ fn is_forced(stop: bool, life: u32, prev: i32, next: i32) -> bool
     requires { (life ≤ longest_life) × Begins life prev × Position next }
     ensures { result ≡ (stop && not (within (pos life) prev next)) }
 {
-    stop && !in_reach(life as i32, prev, next)
+    stop && !keeps(life, prev, next)
 }
 
 // A part's changes at the last stop that still serves, over n openings. The change before begins at or below zero.
+// Kept as a loop over the openings' places: four arrays meet at one place, and zipped they would be pairs in pairs, three deep.
+// Kept apart from `late_to`: that one reads which openings are changes, and this one chooses them.
 fn latest_of(
     n: usize,
-    positions: Positions,
-    nexts: [i32; OPENINGS],
-    part: Part,
-    stops: [bool; OPENINGS],
+    positions: &Positions,
+    nexts: &[i32; OPENINGS],
+    part: &Part,
+    stops: &[bool; OPENINGS],
 ) -> Changes
-    requires { Ranged n positions × NextStops n positions stops nexts × ValidPart n (part_of_lem n part) }
-    ensures { take n result.at ≡ latest_from (pos part.life) positions.end (last_change_lem (part_of_lem n part)) (take n positions.at) (take n stops) }
+    requires { Ranged n positions.now × NextStops n positions.now stops.now nexts.now × ValidPart n (part_of_lem n part.now) }
+    ensures { take n result.at ≡ latest_from (pos part.now.life) positions.now.end (last_change_lem (part_of_lem n part.now)) (take n positions.now.at) (take n stops.now) }
 {
     let life = part.life;
     let mut prev = last_change(life, part.left);
@@ -64,18 +68,19 @@ fn latest_of(
 }
 
 // The plan with these stops, at which each part is changed at the last that still serves.
-pub fn latest_plan(job: Job, stops: [bool; OPENINGS]) -> Plan
-    requires { Sound job }
-    ensures { plan_for job result ≡ latest_plan_of (job_of job) (take job.opening_count stops) }
+// Kept with a place to write at: an `iter_mut` with the places would name the changes, and ask for the part by its place instead.
+pub fn latest_plan(job: &Accepted, stops: [bool; OPENINGS]) -> Plan
+    ensures { plan_for job.now.job result ≡ latest_plan_of (job_of job.now.job) (take job.now.job.opening_count stops) }
 {
-    let n = job.opening_count;
     let positions = positions_of(job);
-    let nexts = next_stops(n, positions, stops);
+    let job = &job.job;
+    let n = job.opening_count;
+    let nexts = next_stops(n, &positions, &stops);
     let mut changes = [Changes {
         at: [false; OPENINGS],
     }; PARTS];
-    for k in 0..job.part_count {
-        changes[k] = latest_of(n, positions, nexts, job.parts[k], stops);
+    for (k, part) in job.parts[..job.part_count].iter().enumerate() {
+        changes[k] = latest_of(n, &positions, &nexts, part, &stops);
     }
     Plan { stops, changes }
 }

@@ -63,6 +63,12 @@ module _ (t ys : List ℕ) (at n k : ℕ) (is : k ≡ n) (room : at + n ≤ leng
         rest = kept;
       }
 
+-- a part written as a whole: its places hold what f says where what was written does
+pub filled_by : (t ys : List ℕ) (at n k : ℕ) (f : ℕ → ℕ) → k ≡ n → at + n ≤ length t → length ys ≡ n → ((y : ℕ) → y < n → get_or ys y 0 ≡ f y) → FilledBy (λ (y : ℕ). at + y) f n t (put_mid at k t ys)
+filled_by t ys at n k f is room long g =
+    let r = filled_part t ys at n k is room long in
+    record { size = r.size; done = λ y h. r.done y h ∙ g y h; rest = r.rest }
+
 -- a part filled with one number: its places hold it, and every other place keeps its number
 pub filled_with : (t ys : List ℕ) (v at n k : ℕ) → k ≡ n → at + n ≤ length t → ys ≡ replicate (length (mid_of at k t)) v → FilledBy (λ (y : ℕ). at + y) (λ (y : ℕ). v) n t (put_mid at k t ys)
 filled_with t ys v at n k is room e =

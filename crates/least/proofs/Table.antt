@@ -1,12 +1,12 @@
 -- The least price and the choice over the openings from k on, from those over the openings from k + 1 on: by unfolding one opening.
-use Prim.Native.Nat.{ℕ, zero, suc, ◌+◌, ◌-◌, ◌<◌, ◌≤◌}
+use Prim.Native.Nat.{ℕ, zero, suc, ◌+◌, ◌<◌, ◌≤◌}
 use mathlib.Core.Path.{◌≡◌, refl, sym, ap, ap₂, ◌∙◌}
 use mathlib.Core.Bool.{Bool, true, false, cond}
 use mathlib.Core.List.{List, [], ◌∷◌, ◌++◌, append-nil}
 use native.Mathlib.Omega.{arith}
 use native.Mathlib.Numerals.{add-one}
-use lib.ListN.{length, get_or, take, drop, set, replicate, length-set, take-append-drop, drop_of_length-le}
-use lib.Seq.{append_snoc, take-suc-set, drop-set-lt, drop-drop}
+use lib.ListN.{length, get_or, take, drop, set, length-set, drop_of_length-le}
+use lib.Seq.{append_snoc, take-suc-set, take_all}
 use lib.IntN.{ℤ, pos}
 use Rattle.branch.specs.declared.Bound.TheVariants.{Missing, Sum}
 use Rattle.model.specs.Model.{within}
@@ -67,29 +67,22 @@ pub choice_cons : (life end prev : ℤ) (l : List Offer) (o : Offer) (os : List 
 unfolding choice_of
 choice_cons life end prev l o os e = ap (choice_of life end prev) e ∙ choice_cond life end prev o os (changes_at life end prev o os)
 
--- the choice so far is the front of out, and what follows is the choice from k on, after prev; past k out has no change
-pub record Chosen (life end first : ℤ) (os : List Offer) (prev : ℤ) (out : List Bool) (k : ℕ) : Type 0 where
-  -- the array of changes has a place for each of 64 openings
-  pub size : length out ≡ 64
+-- the choice so far is the front of out, which has m places, and what follows is the choice from k on, after prev
+pub record Chosen (m : ℕ) (life end first : ℤ) (os : List Offer) (prev : ℤ) (out : List Bool) (k : ℕ) : Type 0 where
+  -- there is a place for each opening
+  pub size : length out ≡ m
   -- the whole choice is the first k entries and then the choice from opening k on
   pub front : choice_of life end first os ≡ take k out ++ choice_of life end prev (drop k os)
-  -- from place k on the array has no change
-  pub back : drop k out ≡ replicate (64 - k) false
 
--- before any opening is looked at, an array without a change holds the choice so far
-pub chosen_none : (life end first : ℤ) (os : List Offer) (out : List Bool) → out ≡ replicate 64 false → Chosen life end first os first out 0
-chosen_none life end first os out e = record { size = ap length e; front = refl; back = e }
+-- before any opening is looked at nothing is chosen
+pub chosen_none : (m : ℕ) (life end first : ℤ) (os : List Offer) (out : List Bool) → length out ≡ m → Chosen m life end first os first out 0
+chosen_none m life end first os out e = record { size = e; front = refl }
 
-drop_one : (n : ℕ) (l : List Bool) → l ≡ replicate (64 - n) false → n < 64 → drop 1 l ≡ replicate (64 - suc n) false
-drop_one n l e h =
-    let q : 64 - n ≡ suc (64 - suc n) = omega arith in
-    ap (drop 1) (e ∙ ap (λ (m : ℕ). replicate m false) q)
-
--- with the decision at opening k stored, the array holds the choice of one opening more
-pub chosen_more : (life end first : ℤ) (os : List Offer) (prev : ℤ) (out : List Bool) (k : ℕ) (o : Offer) → k < 64
-    → drop k os ≡ o ∷ drop (suc k) os → Chosen life end first os prev out k
-    → let b = changes_at life end prev o (drop (suc k) os) in Chosen life end first os (cond b o.position prev) (set out k b) (k + 1)
-chosen_more life end first os prev out k o h e c =
+-- with the decision at opening k stored, the choice is that of one opening more
+pub chosen_more : (m : ℕ) (life end first : ℤ) (os : List Offer) (prev : ℤ) (out : List Bool) (k : ℕ) (o : Offer) → k < m
+    → drop k os ≡ o ∷ drop (suc k) os → Chosen m life end first os prev out k
+    → let b = changes_at life end prev o (drop (suc k) os) in Chosen m life end first os (cond b o.position prev) (set out k b) (k + 1)
+chosen_more m life end first os prev out k o h e c =
     let b = changes_at life end prev o (drop (suc k) os) in
     let next = choice_of life end (cond b o.position prev) (drop (suc k) os) in
     record {
@@ -98,26 +91,20 @@ chosen_more life end first os prev out k o h e c =
           c.front
           ∙ ap (λ (l : List Bool). take k out ++ l) (choice_cons life end prev (drop k os) o (drop (suc k) os) e)
           ∙ sym (append_snoc (take k out) b next)
-          ∙ ap (λ (l : List Bool). l ++ next) (sym (take-suc-set out k b (omega (arith, c.size))))
+          ∙ ap (λ (l : List Bool). l ++ next) (sym (take-suc-set out k b (omega (arith, h, c.size))))
           ∙ ap (λ (n : ℕ). take n (set out k b) ++ choice_of life end (cond b o.position prev) (drop n os)) (sym (add-one k));
-      back =
-          drop-set-lt (k + 1) out k b (omega arith)
-          ∙ sym (drop-drop 1 k out)
-          ∙ drop_one k (drop k out) c.back h
-          ∙ ap (λ (n : ℕ). replicate (64 - n) false) (sym (add-one k));
     }
 
--- the same, with what the code holds
-pub chosen_next : (life end first : ℤ) (os : List Offer) (prev : ℤ) (out : List Bool) (k : ℕ) (o : Offer) (b : Bool) (q : ℤ) → k < 64
+-- by the decision and the position that the code holds
+pub chosen_next : (m : ℕ) (life end first : ℤ) (os : List Offer) (prev : ℤ) (out : List Bool) (k : ℕ) (o : Offer) (b : Bool) (q : ℤ) → k < m
     → drop k os ≡ o ∷ drop (suc k) os → b ≡ changes_at life end prev o (drop (suc k) os) → q ≡ cond b o.position prev
-    → Chosen life end first os prev out k → Chosen life end first os q (set out k b) (k + 1)
-chosen_next life end first os prev out k o b q h e eb eq c = rw (eq, eb) (chosen_more life end first os prev out k o h e c)
+    → Chosen m life end first os prev out k → Chosen m life end first os q (set out k b) (k + 1)
+chosen_next m life end first os prev out k o b q h e eb eq c = rw (eq, eb) (chosen_more m life end first os prev out k o h e c)
 
--- after all openings the array is the choice, with no changes behind it
-pub chosen_all : (life end first : ℤ) (os : List Offer) (prev : ℤ) (out : List Bool) (k n : ℕ) → length os ≡ n → k ≡ n → Chosen life end first os prev out k
-    → out ≡ choice_of life end first os ++ replicate (64 - n) false
+-- after all openings it is the choice
+pub chosen_all : (m : ℕ) (life end first : ℤ) (os : List Offer) (prev : ℤ) (out : List Bool) (k : ℕ) → length os ≡ m → m ≤ k → Chosen m life end first os prev out k → out ≡ choice_of life end first os
 unfolding choice_of
-chosen_all life end first os prev out k n e q c =
-    let m : drop k os ≡ [] = drop_of_length-le os {i = k} (omega arith) in
-    let f : choice_of life end first os ≡ take k out = c.front ∙ ap (λ (l : List Offer). take k out ++ choice_of life end prev l) m ∙ append-nil (take k out) in
-    sym (take-append-drop k out) ∙ ap₂ (λ (a b : List Bool). a ++ b) (sym f) (c.back ∙ ap (λ (j : ℕ). replicate (64 - j) false) q)
+chosen_all m life end first os prev out k e q c =
+    let n : drop k os ≡ [] = drop_of_length-le os {i = k} (omega arith) in
+    let f : choice_of life end first os ≡ take k out = c.front ∙ ap (λ (l : List Offer). take k out ++ choice_of life end prev l) n ∙ append-nil (take k out) in
+    sym (f ∙ take_all k out (omega (arith, q, c.size)))

@@ -27,6 +27,7 @@ pub const TABLE: usize = 4225;
 const MISSING: u64 = 4611686018427387904;
 
 // A part counts as last changed at `left - life`, which is zero or negative.
+// Kept as casts: a u32 may be more than an i32 holds, so the library has no From; what is asked says that these are not.
 pub fn last_change(life: u32, left: u32) -> i32
     requires { (life ≤ 1000) × (left ≤ 1000) }
     ensures { result ≡ pos left -ℤ pos life }
@@ -43,6 +44,7 @@ pub fn in_reach(life: i32, prev: i32, position: i32) -> bool
 }
 
 // The price with a change at an opening, where a change there with what follows costs `chg`.
+// Kept with allowed as a value: it is an entry of the list of what is allowed, and stands in the equation.
 pub fn change_at(life: i32, prev: i32, position: i32, allowed: bool, chg: Bound) -> Bound
     requires { SFits w32 (position -ℤ prev) }
     ensures { result ≡ cond (allowed && within life prev position) chg Bound.Missing }
@@ -63,6 +65,7 @@ pub fn mark(first: i32, positions: &[i32], i: usize) -> i32
 }
 
 // A price as the table's number.
+// Kept beside `bound` and not a From of Bound: the number for a missing price is this table's alone.
 fn code(e: Bound) -> u64
     ensures { result ≡ code_of e }
 {
@@ -76,24 +79,17 @@ fn code(e: Bound) -> u64
 fn bound(a: u64) -> Bound
     ensures { result ≡ of_code a }
 {
-    if a < MISSING {
-        Bound::Sum(a)
-    } else {
-        Bound::Missing
-    }
+    Bound::below(a, MISSING)
 }
 
 // A price more than what a number of the table stands for.
 fn dearer(price: u32, a: u64) -> Bound
     ensures { result ≡ plus price (of_code a) }
 {
-    if a < MISSING {
-        Bound::Sum(u64::from(price) + a)
-    } else {
-        Bound::Missing
-    }
+    bound(a).plus(u64::from(price))
 }
 
+// Kept as slices of any length that is enough in the functions below: an array would ask callers for that very length.
 impl PartOffers<'_> {
     // What is left to pay with no opening left, after mark i: nothing, or there is no way.
     fn at_end(&self, i: usize) -> Bound
@@ -127,12 +123,14 @@ impl PartOffers<'_> {
         ensures { FilledBy (cell (length self.now.positions.now)) (end_of self.now.life self.now.end self.now.first self.now.positions.now) (length self.now.positions.now + 1) tab.old tab.new }
     {
         let n = self.positions.len();
-        for i in 0..n + 1 {
-            tab[n * MARKS + i] = code(self.at_end(i));
+        let at = n * MARKS;
+        for (i, price) in tab[at..at + n + 1].iter_mut().enumerate() {
+            *price = code(self.at_end(i));
         }
     }
 
     // The table's row j, from row j + 1, where a change at opening j with what follows costs `chg`.
+    // Kept as a loop over places: the row that is read stands in the same array, so slices of both would be split off first and zipped, and each place is asked for by its number besides.
     fn fill_row(&self, j: usize, chg: Bound, tab: &mut [u64])
         requires { (table_size ≤ length tab.old) × (j < length self.now.positions.now) }
         ensures { FilledBy (cell j) (row_of self.now.life self.now.first self.now.positions.now j (get_or self.now.allowed.now j false) chg tab.old) (j + 1) tab.old tab.new }
@@ -144,6 +142,7 @@ impl PartOffers<'_> {
     }
 
     // The suffix table: row j, entry i is the least price over the openings from j on, after mark i.
+    // Kept as a range that counts down: each row is made of those behind it, in the array that is written.
     pub fn fill(&self, tab: &mut [u64])
         requires { table_size ≤ length tab.old }
         ensures { Suffixes self.now.life self.now.end self.now.first self.now.positions.now self.now.prices.now self.now.allowed.now tab.new 0 }
@@ -156,6 +155,7 @@ impl PartOffers<'_> {
     }
 
     // The least price of a change set that keeps the part.
+    // Kept though no call runs it: it is what W1 to W3 say of one part, and its promise stands in no other function.
     pub fn least(&self, tab: &mut [u64]) -> Bound
         requires { table_size ≤ length tab.old }
         ensures { result ≡ least_of_lem self.now.life self.now.end self.now.first (offers self.now.positions.now self.now.prices.now self.now.allowed.now) }
@@ -182,9 +182,9 @@ impl PartOffers<'_> {
         self.fill(tab);
         let mut out = [false; OPENINGS];
         let mut i = 0;
-        for k in 0..self.positions.len() {
-            out[k] = self.changes(tab, i, k);
-            if out[k] {
+        for (k, changed) in out[..self.positions.len()].iter_mut().enumerate() {
+            *changed = self.changes(tab, i, k);
+            if *changed {
                 i = k + 1;
             }
         }

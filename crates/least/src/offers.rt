@@ -4,6 +4,7 @@ ghost use Rattle.model.specs.Limits.{most_openings};
 ghost use Rattle.least.specs.Marks.{mark_of, Bits31};
 
 // One part's life, the end, the position of the change before the first opening, and each opening's position, price and whether it is allowed.
+// Kept as slices side by side: a caller lends arrays that it has, of a job's openings, of one part's prices and of stops, and there is no heap to put one list of records in.
 #[derive(Clone, Copy)]
 pub struct PartOffers<'a> {
     pub life: i32,

@@ -42,6 +42,7 @@ fn digit_of(n: u64, power: u64) -> Digit
 }
 
 // How many digits n is written with: the powers above n are skipped, the last one never is.
+// Kept as a loop over the zeros: a rule of the project, that no digit is found by dividing, is proved of this code and of all that it calls, and an iterator's `rposition` would be one more call.
 fn digit_count(n: u64) -> usize
     requires { n < 10000000000 }
     ensures { (result ≤ 10) × (n < 10 ^ result) × (decimal n ≡ padded result n) }
@@ -56,6 +57,7 @@ fn digit_count(n: u64) -> usize
 
 impl<'a> Out<'a> {
     // Puts n's last `count` digits.
+    // Kept as a loop over the zeros, for the rule of no dividing: an iterator over the powers would be one more call on the way to a digit.
     fn put_digits(&mut self, n: u64, count: usize)
         requires { (count ≤ 10) × (n < 10 ^ count) × Room self.old (padded count n) }
         ensures { Puts self.old (padded count n) self.new }

@@ -1,7 +1,6 @@
 // Lines put into a lent slice.
-ghost use Rattle.std.specs.Prelude.{◌+◌, ◌≤◌, ◌<◌, length};
+ghost use Rattle.std.specs.Prelude.{◌<◌};
 ghost use Rattle.lines.specs.Text.{line};
-ghost use Rattle.lines.specs.Wrote.{Wrote};
 ghost use Rattle.line_writing.specs.Puts.{Puts, Room};
 
 use crate::output::Out;
@@ -18,6 +17,7 @@ impl<'a> Out<'a> {
     }
 
     // Puts the line of a key, with its equals sign, and a value.
+    // Kept with the limit of n in the clause, here and in `put_number`: it is a plain number of up to ten digits, and a type of such numbers would be made at each line that is put.
     pub fn put_line(&mut self, key: &[u8], n: u64)
         requires n_bound { n < 10000000000 }
         requires n_in_bounds { Room self.old (line key.now n) }
@@ -28,15 +28,4 @@ impl<'a> Out<'a> {
         self.bytes[self.at] = b'\n';
         self.at += 1;
     }
-}
-
-// The same from a place of a slice on: answers the place after the line. For callers that hold the slice and the place apart.
-pub fn put_line(out: &mut [u8], at: usize, key: &[u8], n: u64) -> usize
-    requires n_bound { n < 10000000000 }
-    requires n_in_bounds { at + length (line key.now n) ≤ length out.old }
-    ensures { Wrote out.old at (line key.now n) out.new result }
-{
-    let mut lent = Out { bytes: out, at };
-    lent.put_line(key, n);
-    lent.at
 }

@@ -3,10 +3,10 @@ use Rattle.std.specs.Prelude.{Some, None, Result, Ok, Err}
 use Prim.Native.Nat.{ℕ, suc, ◌+◌, ◌-◌, ◌≤◌, ◌<◌}
 use mathlib.Core.Path.{◌≡◌, refl, sym, ap, ◌∙◌}
 use mathlib.Core.List.{List, [], ◌∷◌, ◌++◌, append_assoc, append-nil}
-use mathlib.Core.Bool.{Bool, true, false, true≢false}
+use mathlib.Core.Bool.{Bool, true, false, ◌&&◌, true≢false}
 use native.Mathlib.Omega.{arith}
 use native.Mathlib.Nat.{sub-zero}
-use lib.ListN.{length, drop}
+use lib.ListN.{length}
 use lib.Dec.{eqb}
 use borrow.Author.Tests.{eqb-true, le-leb, lt-leb, lt-ltb, le-ltb}
 use Rattle.lines.specs.Parser.{Parsed, good, fault, Parser, ◌>>=◌, return, read_field_lem, taken, row_at, optional_at, checked, chain, end as ends, rising, up_to, refused, finish, whole, read_text}
@@ -71,6 +71,19 @@ module _ {A : Type 0} (k : ℕ) (ok : A → Bool) (p : Parser A) (s : List ℕ) 
   pub checked-fault : {n m : ℕ} → p s l ≡ fault n m → checked k ok p s l ≡ fault n m
   unfolding checked
   checked-fault e = rw (checked, e)
+
+-- two rules of one fault, the one after the other, are both together
+pub checked_twice : {A : Type 0} (k : ℕ) (ok also : A → Bool) (p : Parser A) (s : List ℕ) (l : ℕ) → checked k (λ v. ok v && also v) p s l ≡ checked k also (checked k ok p) s l
+unfolding checked
+checked_twice {A} k ok also p s l = go (p s l)
+  where
+    pick : (t : Bool) (v : A) (r : List ℕ) (m : ℕ) → ◌≡◌ {A = Parsed A} (elim (t && also v) [ true ↦ good v r m | false ↦ fault k l ]) (elim (elim t as (λ _. Parsed A) [ true ↦ good v r m | false ↦ fault k l ]) [ good w x y ↦ elim (also w) [ true ↦ good w x y | false ↦ fault k l ] | fault n y ↦ fault n y ])
+    pick true v r m = refl
+    pick false v r m = refl
+
+    go : (x : Parsed A) → ◌≡◌ {A = Parsed A} (elim x [ good v r m ↦ elim (ok v && also v) [ true ↦ good v r m | false ↦ fault k l ] | fault n m ↦ fault n m ]) (elim (elim x as (λ _. Parsed A) [ good v r m ↦ elim (ok v) [ true ↦ good v r m | false ↦ fault k l ] | fault n m ↦ fault n m ]) [ good w x y ↦ elim (also w) [ true ↦ good w x y | false ↦ fault k l ] | fault n y ↦ fault n y ])
+    go (good v r m) = pick (ok v) v r m
+    go (fault n m) = refl
 
 -- a value after the one before and within the limit passes the rising rule
 pub rising_yes : (b h v : ℕ) → b < v → v ≤ h → rising b h v ≡ true
@@ -182,16 +195,6 @@ module _ {A : Type 0} (kind : FaultKind) (ok : A → Bool) (p : Parser A) (b m a
 
 -- a row of a key with a range, by its line: what is left of the text behind it
 module _ (key : List ℕ) (lo hi : ℕ) (b a : Lines) where
-  -- a fault of the line is the row's
-  pub row_fault : (kind : FaultKind) → Err (number_of_lem kind) ≡ read_field_lem key lo hi b.rest.now → Reads (row_at key lo hi) b a (Err (record { kind = kind; line = b.line }))
-  unfolding row_at taken
-  row_fault kind e = ap (taken b.rest.now b.line) e
-
-  -- a value of n bytes is the row's, and leaves what stands behind them
-  pub row_value : {v n : ℕ} → Ok (v, n) ≡ read_field_lem key lo hi b.rest.now → a.rest.now ≡ drop n b.rest.now → a.line ≡ b.line + 1 → Reads (row_at key lo hi) b a (Ok v)
-  unfolding row_at taken
-  row_value {v} {n} e r l = rw (r, l) (ap (taken b.rest.now b.line) e)
-
   -- where the key stands, a line that may be missing is read as a row: a value is there
   pub optional_value : (v : ℕ) → starts_with key b.rest.now ≡ true → Reads (row_at key lo hi) b a (Ok v) → Reads (optional_at key lo hi) b a (Ok (Some v))
   unfolding return

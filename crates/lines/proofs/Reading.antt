@@ -1,9 +1,9 @@
 -- Laws of the definitions of a line that the proofs cite.
 use Rattle.std.specs.Prelude.{Option, Some, None, Result, Ok, Err}
 use Prim.Native.Nat.{ℕ, ◌+◌, ◌-◌, ◌*◌, ◌^◌, ◌≤◌, ◌<◌}
-use mathlib.Core.Path.{◌≡◌, refl, ap}
+use mathlib.Core.Path.{◌≡◌, refl, sym, ap, ap₂, ◌∙◌}
 use mathlib.Core.List.{List, [], ◌∷◌}
-use mathlib.Core.Bool.{Bool, true, false, ◌&&◌}
+use mathlib.Core.Bool.{Bool, true, false, cond, ◌&&◌}
 use native.Mathlib.Nat.{pow-suc, pow-le-pow_right}
 use native.Mathlib.Numerals.{add-one}
 use native.Mathlib.Omega.{arith}
@@ -11,10 +11,13 @@ use native.Mathlib.Decide.{dec_lt}
 use mathlib.Core.Bool.{and-eq-true_iff, ◌||◌, not, and-false, false≢true}
 use mathlib.Core.Logic.{◌⊎◌, inl, inr}
 use lib.Dec.{leb, eqb}
+use Rattle.std.proofs.Math.Decide.{ℕ_discrete}
 use lib.Pointwise.{pointwise}
 use lib.ListN.{length, get_or, drop, take, length-drop, get_or-eq_default}
 use lib.Seq.{drop-cons, take_all}
 use borrow.Author.Tests.{le-leb, lt-leb, leb-true, eqb-true, eq-eqb, ne_eqb}
+use Rattle.std.specs.List.{position_or_len}
+use Rattle.std.proofs.lemmas.List.Recursion.{is_position_or_len}
 use Rattle.lines.specs.Line.{is_digit, digits, number_from, plain, starts_with, read_value_lem, read_line_lem, after}
 use Rattle.lines.specs.Parser.{in_range, read_field_lem}
 
@@ -148,6 +151,34 @@ unfolding starts_with
 starts_same [] s = refl
 starts_same (k ∷ ks) [] = refl
 starts_same (k ∷ ks) (b ∷ bs) = ap (λ (t : Bool). eqb k b && t) (starts_same ks bs)
+
+-- a text begins with a key where the library's comparison says so
+pub starts_told : (key s : List ℕ) {t b : Bool} → t ≡ pointwise eqb key (take (length key) s) → t ≡ b → starts_with key s ≡ b
+starts_told key s e h = sym (starts_same key s) ∙ sym e ∙ h
+
+-- a comparison of two numbers, the other way round
+eqb_turned : (a b : ℕ) → eqb a b ≡ eqb b a
+eqb_turned a b = go (ℕ_discrete a b)
+  where
+    go : Dec (a ≡ b) → eqb a b ≡ eqb b a
+    go (yes e) = eq-eqb a b e ∙ sym (eq-eqb b a (sym e))
+    go (no n) = ne_eqb a b n ∙ sym (ne_eqb b a (λ e. n (sym e)))
+
+-- the library's comparison of a prefix that is taken off, which has the text in front
+pub strips_same : (key s : List ℕ) → pointwise eqb (take (length key) s) key ≡ starts_with key s
+unfolding starts_with
+strips_same [] s = refl
+strips_same (k ∷ ks) [] = refl
+strips_same (k ∷ ks) (b ∷ bs) = ap₂ (λ (t u : Bool). t && u) (eqb_turned b k) (strips_same ks bs)
+
+-- a list's digits end where the library finds its first byte that is none
+pub run_is : (s : List ℕ) → position_or_len (λ (b : ℕ). not (is_digit b)) s ≡ length (digits s)
+unfolding digits
+run_is s = sym (is_position_or_len (λ (bs : List ℕ). length (digits bs)) (λ (b : ℕ). not (is_digit b)) refl (λ b bs. go bs (is_digit b) b refl) s)
+  where
+    go : (bs : List ℕ) (t : Bool) (b : ℕ) → is_digit b ≡ t → length (digits (b ∷ bs)) ≡ cond (not (is_digit b)) 0 (1 + length (digits bs))
+    go bs true b e = rw (digits, e) (omega arith)
+    go bs false b e = rw (digits, e) refl
 
 -- the first bytes of a text, as many as its digits, are its digits
 pub digits_first : (s : List ℕ) → take (length (digits s)) s ≡ digits s

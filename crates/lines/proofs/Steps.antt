@@ -8,10 +8,11 @@ use mathlib.Core.Bool.{Bool, true, false}
 use native.Mathlib.Omega.{arith}
 use lib.Dec.{ltb}
 use borrow.Author.Tests.{ltb-false}
-use Rattle.lines.specs.Parser.{Parser, ◌>>=◌, return, chain}
+use Rattle.lines.specs.Parser.{Parser, ◌>>=◌, return, optional_at, chain}
 use Rattle.lines.specs.Reads.{Reads}
 use Rattle.lines.specs.declared.fault.Fault.{Fault}
 use Rattle.lines.specs.declared.rows.Lines.{Lines}
+use Rattle.lines.proofs.Sound.{optional_inv, row_gives}
 use Rattle.lines.proofs.Parsing.{went_on, put_into, behind, chain_start, chain_more, chain-fault, chain_end}
 
 -- a value y of the first reader, which is x, is handed on
@@ -21,6 +22,10 @@ went_to p f b m a x y r e h k = went_on p f b m a x r (rw e at h) k
 -- a value that is put into another
 pub put_value : {A B : Type 0} (f : A → B) (p : Parser A) (b a : Lines) (x : A) → Reads p b a (Ok x) → Reads (p >>= λ x. return (f x)) b a (Ok (f x))
 put_value f p b a x h = put_into f p b a (Ok x) h
+
+-- a line that was there, which could be missing, has its value in its range
+pub there_within : (key : List ℕ) (lo hi : ℕ) (b a : Lines) (v : ℕ) → Reads (optional_at key lo hi) b a (Ok (Some v)) → (lo ≤ v) × (v ≤ hi)
+there_within key lo hi b a v h = row_gives key lo hi _ _ _ _ v (optional_inv key lo hi _ _ _ _ (Some v) (sym h))
 
 -- ---- a counted row
 

@@ -1,7 +1,7 @@
 -- What is wrong with a text, in the parsers' terms.
 use Rattle.std.specs.Prelude.{ℕ}
 use Rattle.lines.specs.declared.fault.FaultKind.{FaultKind}
-use Rattle.lines.specs.declared.fault.FaultKind.TheVariants.{TooLong, Form, Range, Step, Left, Visit, Holder, High}
+use Rattle.lines.specs.declared.fault.FaultKind.TheVariants.{TooLong, Form, Range, Step, Left, Visit, Holder, High, Other}
 
 -- R1 to R5, R9, E7.2, E11. the result number of what is wrong
 abbrev pub number_of_lem : FaultKind → ℕ
@@ -13,3 +13,4 @@ number_of_lem Left = 5
 number_of_lem Visit = 9
 number_of_lem Holder = 12
 number_of_lem High = 13
+number_of_lem (Other n) = n

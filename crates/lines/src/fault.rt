@@ -3,6 +3,8 @@ ghost use Rattle.std.specs.Prelude.{◌≡◌};
 ghost use Rattle.lines.specs.Fault.{number_of_lem};
 
 // What is wrong with a line; `number` is its result number.
+// A fault is known by its number alone, so that `Other` of a number that has a name here says what the name says.
+// Kept as an enum of its own: it has neither the shape of an Option nor of a Result, it is the Err of the readers' Results.
 #[derive(Clone, Copy, PartialEq, Eq)]
 pub enum FaultKind {
     // The text has too many bytes.
@@ -21,10 +23,13 @@ pub enum FaultKind {
     Holder,
     // A price's high end is below its low end.
     High,
+    // What a text of another grammar has wrong with it: any number.
+    Other(u32),
 }
 
 impl FaultKind {
-    // The result number.
+    // The result number of what is wrong.
+    // Kept as a match, and not as discriminants: one of the kinds carries its number.
     pub fn number(self) -> u32
         ensures { result ≡ number_of_lem self }
     {
@@ -37,11 +42,13 @@ impl FaultKind {
             FaultKind::Visit => 9,
             FaultKind::Holder => 12,
             FaultKind::High => 13,
+            FaultKind::Other(number) => number,
         }
     }
 }
 
 // What is wrong with a text, and on which line; on line 0 where the text is too long.
+// Kept as 0, and not an Option: the C interface hands out this number.
 #[derive(Clone, Copy)]
 pub struct Fault {
     pub kind: FaultKind,

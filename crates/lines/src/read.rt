@@ -1,20 +1,18 @@
 // One line at the front of a text.
 ghost use Rattle.std.specs.Prelude.{◌≡◌, ◌≤◌, length};
-ghost use Rattle.lines.specs.Line.{digits, number_from, starts_with, read_line_lem, read_value_lem};
+ghost use Rattle.lines.specs.Line.{digits, number_from, read_line_lem, read_value_lem};
 
 // How many digits s begins with.
 fn digit_run(s: &[u8]) -> usize
     ensures { result ≡ length (digits s.now) }
 {
-    for (i, b) in s.iter().enumerate() {
-        if !b.is_ascii_digit() {
-            return i;
-        }
-    }
-    s.len()
+    s.iter()
+        .position(|b| !b.is_ascii_digit())
+        .unwrap_or(s.len())
 }
 
 // The number that digits write.
+// Kept as a loop: tried as a fold, whose closure must be shown not to overflow at each turn, from a law of what the turns before have made of v; the loop's invariant says that in one line.
 fn number(ds: &[u8]) -> u64
     requires { (length ds.now ≤ 10) × (digits ds.now ≡ ds.now) }
     ensures { result ≡ number_from 0 ds.now }
@@ -24,13 +22,6 @@ fn number(ds: &[u8]) -> u64
         v = v * 10 + u64::from(*d - b'0');
     }
     v
-}
-
-// Whether s begins with the key.
-pub fn starts_with(s: &[u8], key: &[u8]) -> bool
-    ensures { result ≡ starts_with key.now s.now }
-{
-    s.starts_with(key)
 }
 
 // A value and byte 10 at the front of s: 1 to 10 digits, no leading zero. The value, and how many bytes these are.
@@ -61,10 +52,7 @@ fn read_value(s: &[u8]) -> Option<(u64, usize)>
 pub fn read_line(s: &[u8], key: &[u8]) -> Option<(u64, usize)>
     ensures { result ≡ read_line_lem key.now s.now }
 {
-    if !starts_with(s, key) {
-        return None;
-    }
-    let k = key.len();
-    let (value, n) = read_value(&s[k..])?;
-    Some((value, k + n))
+    let behind = s.strip_prefix(key)?;
+    let (value, n) = read_value(behind)?;
+    Some((value, key.len() + n))
 }

@@ -1,13 +1,13 @@
--- How many steps are not after a step: as many as stand before the first that is, or all (`count_first`, `count_all`; of openings, as the code finds them, `before_first`, `first_or_all`). And the job that a struct holds with its first openings alone (`job-to`).
+-- How many steps are not after a step: as many as stand before the first that is, or all (of steps `first_after`, of openings `before_first`; `first_or_all`). And the job that a struct holds with its first openings alone (`job-to`).
 use Rattle.std.specs.List.{position_or_len}
-use Prim.Native.Nat.{ℕ, zero, suc, ◌+◌, ◌≤◌, ◌<◌}
+use Prim.Native.Nat.{ℕ, suc, ◌+◌, ◌≤◌}
 use mathlib.Core.Path.{◌≡◌, refl, sym, ap, ap₂, ◌∙◌}
 use mathlib.Core.Bool.{Bool, true, false, not, cond}
 use mathlib.Core.List.{List, [], ◌∷◌, map}
 use native.Mathlib.Omega.{arith}
-use borrow.Author.Tests.{le-leb, lt-leb, leb-true, leb-false, le-ltb, lt-ltb}
+use borrow.Author.Tests.{leb-true, leb-false, le-ltb, lt-ltb}
 use lib.Dec.{leb, ltb}
-use lib.ListN.{length, get_or, take}
+use lib.ListN.{take}
 use lib.Seq.{take-take}
 pub use Rattle.lines.proofs.Steps.{first_or_all}
 use Rattle.model.specs.Windows.{steps_of}
@@ -18,19 +18,6 @@ use Rattle.carry.specs.Carry.{count_to}
 use Rattle.carry.proofs.Splits.{map-take}
 use Rattle.log_grammar.specs.Grammar.{part_to}
 
--- as many steps are not after a step as stand before the first that is
-pub count_first : (step : ℕ) (ss : List ℕ) (i : ℕ) → i < length ss → ((j : ℕ) → j < i → get_or ss j 0 ≤ step) → step < get_or ss i 0 → count_to step ss ≡ i
-unfolding count_to
-count_first step [] i l f h = absurd (omega arith)
-count_first step (s ∷ ss) zero l f h = rw (lt-leb s step h)
-count_first step (s ∷ ss) (suc i) l f h = rw (le-leb s step (f 0 (omega arith))) (ap suc (count_first step ss i (omega arith) (λ j k. f (suc j) (omega arith)) h))
-
--- all, where none is after it
-pub count_all : (step : ℕ) (ss : List ℕ) → ((j : ℕ) → j < length ss → get_or ss j 0 ≤ step) → count_to step ss ≡ length ss
-unfolding count_to
-count_all step [] f = refl
-count_all step (s ∷ ss) f = rw (le-leb s step (f 0 (omega arith))) (ap suc (count_all step ss (λ j k. f (suc j) (omega arith))))
-
 -- a step is not before another exactly where the other is at most it
 not_later : (step s : ℕ) → not (ltb step s) ≡ leb s step
 not_later step s = go (leb s step) refl
@@ -38,6 +25,15 @@ not_later step s = go (leb s step) refl
     go : (t : Bool) → leb s step ≡ t → not (ltb step s) ≡ t
     go true e = rw (le-ltb step s (leb-true s step e)) refl
     go false e = rw (lt-ltb step s (leb-false s step e)) refl
+
+-- as many steps are not after a step as stand before the first that is
+pub first_after : (step : ℕ) (ss : List ℕ) → position_or_len (λ (s : ℕ). ltb step s) ss ≡ count_to step ss
+unfolding count_to
+first_after step [] = refl
+first_after step (s ∷ ss) =
+    let n = count_to step ss in
+    let one : 1 + n ≡ suc n = omega arith in
+    ap₂ (λ (b : Bool) (k : ℕ). cond b (1 + k) 0) (not_later step s) (first_after step ss) ∙ ap (λ (k : ℕ). cond (leb s step) k 0) one
 
 -- as many openings stand before the first that is after a step as have steps not after it
 pub before_first : (step : ℕ) (os : List Opening) → position_or_len (λ (o : Opening). ltb step o.step) os ≡ count_to step (steps_of (map opening_of os))

@@ -20,14 +20,14 @@ pub struct LogText {
 }
 
 // The lines of a log, wherever they begin.
-pub fn read_log_lines(lines: &mut Lines, job: Job) -> Result<LogText, Fault>
-    requires { 2 ≤ job.horizon }
-    ensures { Reads (log_lines (job_of job)) lines.old lines.new (seen (said job) result) }
+pub fn read_log_lines(lines: &mut Lines, job: &Job) -> Result<LogText, Fault>
+    requires { 2 ≤ job.now.horizon }
+    ensures { Reads (log_lines (job_of job.now)) lines.old lines.new (seen (said job.now) result) }
 {
     let last = job.horizon - 2;
     let step = lines.field(b"step=", 1, last)?;
     let past = past_job(job, past_count(job, step));
-    let stated = read_plan_lines(lines, past)?;
+    let stated = read_plan_lines(lines, &past)?;
     Ok(LogText {
         step,
         cost: stated.cost,
@@ -36,9 +36,9 @@ pub fn read_log_lines(lines: &mut Lines, job: Job) -> Result<LogText, Fault>
 }
 
 // The whole log: a text over the limit is fault 1, bytes after the last line are fault 2. An empty text lacks its first line.
-pub fn read_log(text: &[u8], job: Job) -> Result<LogText, Fault>
-    requires { 2 ≤ job.horizon }
-    ensures { outcome job result ≡ read_log (job_of job) text.now }
+pub fn read_log(text: &[u8], job: &Job) -> Result<LogText, Fault>
+    requires { 2 ≤ job.now.horizon }
+    ensures { outcome job.now result ≡ read_log (job_of job.now) text.now }
 {
     if Plan::MAX_BYTES < text.len() {
         return Err(Fault::TOO_LONG);

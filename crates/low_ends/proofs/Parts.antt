@@ -1,4 +1,4 @@
--- Parts at the low ends of their prices: what a part's lines mean there (`low_ruled`, `low_quoted`), one part more (`lows_more`), each part is what its lines mean (`each_means`); and whether one has a `low` line, one more (`banded_more`). By the parts, one after the other.
+-- Parts at the low ends of their prices: what a part's lines mean there (`low_ruled`, `low_quoted`), all parts (`lows_all`), each part is what its lines mean (`each_means`); and whether one has a `low` line, one more (`banded_more`). By the parts, one after the other.
 use Prim.Native.Nat.{ℕ, zero, suc, ◌+◌, ◌≤◌, ◌<◌}
 use mathlib.Core.Path.{◌≡◌, refl, sym, ap, ap₂, ◌∙◌}
 use Rattle.std.specs.Prelude.{Option, Some, None}
@@ -8,7 +8,7 @@ use native.Mathlib.Omega.{arith}
 use native.Mathlib.Numerals.{add-one}
 use lib.ListN.{length, get_or, take, drop, set}
 use lib.Seq.{take-suc}
-use Rattle.lines.proofs.Arrays.{take_more, map-take_more}
+use Rattle.lines.proofs.Arrays.{take_more}
 use Rattle.model.specs.Model as model
 use Rattle.jobs.specs.Views.{blank_part_lem, part_of_lem}
 use Rattle.jobs.specs.declared.Part.{Part}
@@ -59,18 +59,17 @@ lines_next n i ss ps h m =
     ap₂ (λ (cs : List PartSaid) (qs : List Part). parts_lines cs (map (part_of_lem n) qs)) (same_take i ss blank_said h) (same_take i ps blank_part_lem m)
     ∙ lines_more n i ss ps (get_or ss i blank_said) (get_or ps i blank_part_lem) h m
 
-map_then : {A B : Type 0} (f : A → B) (xs : List A) (x : A) → map f (xs ++ x ∷ []) ≡ map f xs ++ f x ∷ []
-map_then f [] x = refl
-map_then {A} {B} f (y ∷ xs) x = ap (λ (ys : List B). f y ∷ ys) (map_then f xs x)
-
-pub lows_more : (n i : ℕ) (ss : List PartSaid) (ps rs : List Part) (r : Part) → i < length ss → i < length ps → i < length rs
-    → part_of_lem n r ≡ low_part_lem n (part_lines_lem (get_or ss i blank_said) (part_of_lem n (get_or ps i blank_part_lem)))
-    → map (part_of_lem n) (take i rs) ≡ map (low_part_lem n) (parts_lines (take i ss) (map (part_of_lem n) (take i ps)))
-    → map (part_of_lem n) (take (i + 1) (set rs i r)) ≡ map (low_part_lem n) (parts_lines (take (i + 1) ss) (map (part_of_lem n) (take (i + 1) ps)))
-lows_more n i ss ps rs r h m k new old =
-    map-take_more (part_of_lem n) i rs r k
-    ∙ ap₂ (λ (xs : List model.Part) (x : model.Part). xs ++ x ∷ []) old new
-    ∙ sym (ap (map (low_part_lem n)) (lines_next n i ss ps h m) ∙ map_then (low_part_lem n) (parts_lines (take i ss) (map (part_of_lem n) (take i ps))) (part_lines_lem (get_or ss i blank_said) (part_of_lem n (get_or ps i blank_part_lem))))
+-- where each of the first m parts is at the low ends of its prices, these parts are what their lines mean there
+pub lows_all : (n m : ℕ) (ss : List PartSaid) (ps rs : List Part) → m ≤ length ss → m ≤ length ps → m ≤ length rs
+    → ((q : ℕ) → q < m → part_of_lem n (get_or rs q blank_part_lem) ≡ low_part_lem n (part_lines_lem (get_or ss q blank_said) (part_of_lem n (get_or ps q blank_part_lem))))
+    → map (part_of_lem n) (take m rs) ≡ map (low_part_lem n) (parts_lines (take m ss) (map (part_of_lem n) (take m ps)))
+unfolding parts_lines
+lows_all n zero ss ps rs h k l f = refl
+lows_all n (suc m) [] ps rs h k l f = absurd (omega arith)
+lows_all n (suc m) (s ∷ ss) [] rs h k l f = absurd (omega arith)
+lows_all n (suc m) (s ∷ ss) (p ∷ ps) [] h k l f = absurd (omega arith)
+lows_all n (suc m) (s ∷ ss) (p ∷ ps) (r ∷ rs) h k l f =
+    ap₂ (λ (x : model.Part) (xs : List model.Part). x ∷ xs) (f 0 (omega arith)) (lows_all n m ss ps rs (omega arith) (omega arith) (omega arith) (λ q i. f (suc q) (omega arith)))
 
 -- the first m parts are what their lines mean, each of them
 pub each_means : (n m q : ℕ) (ss : List PartSaid) (ps : List Part) → q < m → m ≤ length ss → m ≤ length ps

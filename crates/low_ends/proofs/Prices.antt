@@ -1,12 +1,13 @@
--- Prices at their low ends: one more (`lows_next`); and that a low end is there if a price is a pair (`pair_there`), one after the other (`one_here`, `one_on`). By the prices, one after the other.
+-- Prices at their low ends: one more (`lows_next`); and that a low end is there if a price is a pair (`pair_there`), as the search finds it (`any_one`). By the prices, one after the other.
 use Rattle.std.specs.Prelude.{Option, Some, None, is_some}
-use Prim.Native.Nat.{ℕ, zero, suc, ◌+◌, ◌≤◌, ◌<◌}
+use Rattle.std.specs.List.{list_any}
+use Prim.Native.Nat.{ℕ, zero, suc, ◌+◌, ◌<◌}
 use mathlib.Core.Path.{◌≡◌, refl, ap, ◌∙◌}
-use mathlib.Core.Bool.{Bool, true, false, ◌||◌, false≢true}
+use mathlib.Core.Bool.{Bool, true, false, ◌||◌}
 use mathlib.Core.List.{List, [], ◌∷◌, ◌++◌}
 use native.Mathlib.Omega.{arith}
 use native.Mathlib.Numerals.{add-one}
-use lib.ListN.{length, get_or, take, drop, drop_of_length-le}
+use lib.ListN.{length, get_or, take, drop}
 use Rattle.quotes.specs.Grammar.{any_pair}
 use Rattle.quotes.specs.Views.{quote_of, quotes_of, low_of, lows_of}
 use Rattle.low_ends.specs.Marks.{one_of}
@@ -49,26 +50,8 @@ pair_there [] (h ∷ hs) = pair_there [] hs ∙ none (length hs)
 pair_there (Some l ∷ ls) (h ∷ hs) = refl
 pair_there (None ∷ ls) (h ∷ hs) = pair_there ls hs
 
--- a low end that is there, the one that is next
-pub one_here : (ls : List (Option ℕ)) (i : ℕ) → is_some (get_or ls i None) ≡ true → one_of (drop i ls) ≡ true
+-- one of them is there exactly where some low end is
+pub any_one : (ls : List (Option ℕ)) → list_any is_some ls ≡ one_of ls
 unfolding one_of
-one_here [] zero e = absurd (false≢true e)
-one_here [] (suc i) e = absurd (false≢true e)
-one_here (l ∷ ls) zero e = rw e refl
-one_here (l ∷ ls) (suc i) e = one_here ls i e
-
-on : (ls : List (Option ℕ)) (i : ℕ) → is_some (get_or ls i None) ≡ false → one_of (drop i ls) ≡ one_of (drop (suc i) ls)
-unfolding one_of
-on [] zero e = refl
-on [] (suc i) e = refl
-on (l ∷ ls) zero e = rw e refl
-on (l ∷ ls) (suc i) e = on ls i e
-
--- where the next is not there, those behind it decide
-pub one_on : (ls : List (Option ℕ)) (i : ℕ) → is_some (get_or ls i None) ≡ false → one_of (drop i ls) ≡ one_of (drop (i + 1) ls)
-one_on ls i e = rw add-one (on ls i e)
-
--- behind the last there is none
-pub one_end : (ls : List (Option ℕ)) (i : ℕ) → length ls ≤ i → one_of (drop i ls) ≡ false
-unfolding one_of
-one_end ls i h = rw (drop_of_length-le ls h) refl
+any_one [] = refl
+any_one (l ∷ ls) = ap (λ (b : Bool). is_some l || b) (any_one ls)

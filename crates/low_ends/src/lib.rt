@@ -1,10 +1,10 @@
 // A job at the low ends of its prices, and whether its parts' lines have a `low` line.
+// Kept with the counts m and n and their limits where parts are handed over without their job, whose counts they are; and by value where a part or the parts are handed back changed.
 #![tactic(auto)]
 
 ghost use Rattle.std.specs.Prelude.{◌≡◌, List, map, ℕ, ◌≤◌, length, take};
 ghost use Rattle.model.specs.Limits.{most_openings, most_parts};
 ghost use Rattle.jobs.specs.Views.{part_of_lem, job_of};
-ghost use Rattle.jobs.specs.Valid.{Sound};
 ghost use Rattle.jobs.specs.declared.Part as code;
 ghost use Rattle.quotes.specs.Views.{quotes_of, low_of, lows_of};
 ghost use Rattle.price_rules.specs.Grammar.{banded_prices};
@@ -13,25 +13,20 @@ ghost use Rattle.part_lines.specs.Views.{prices_told, part_lines_lem, parts_line
 ghost use Rattle.low_ends.specs.Marks.{one_of};
 ghost use Rattle.low_ends.specs.Lows.{lines_in, LowJob, Long};
 
-use jobs::{Job, Part};
+use jobs::{Accepted, Job, Part};
 use model::{OPENINGS, PARTS};
+use part_lines::each_part;
 use part_lines::said::PartSaid;
 
-// The low end of a price: of a single one the price itself.
-fn low_end(low: Option<u32>, high: u32) -> u32
-    ensures { result ≡ low_of low high }
-{
-    low.unwrap_or(high)
-}
-
-// The first n prices at their low ends.
+// The first n prices at their low ends: of a single one that is the price itself.
+// Kept as a loop over places: the two arrays and what is filled meet at one place, and zipped they would be a pair in a pair.
 fn low_prices(lows: [Option<u32>; OPENINGS], highs: [u32; OPENINGS], n: usize) -> [u32; OPENINGS]
     requires { n ≤ most_openings }
     ensures { take n result ≡ lows_of lows (take n highs) }
 {
     let mut ends = [0; OPENINGS];
     for k in 0..n {
-        ends[k] = low_end(lows[k], highs[k]);
+        ends[k] = lows[k].unwrap_or(highs[k]);
     }
     ends
 }
@@ -55,42 +50,24 @@ fn low_parts(said: [PartSaid; PARTS], parts: [Part; PARTS], m: usize, n: usize) 
     requires { (m ≤ most_parts) × (n ≤ most_openings) × (map (meant_part n) (parts_lines (take m said) (map (part_of_lem n) (take m parts))) ≡ map (part_of_lem n) (take m parts)) }
     ensures { map (part_of_lem n) (take m result) ≡ map (low_part_lem n) (parts_lines (take m said) (map (part_of_lem n) (take m parts))) }
 {
-    let mut ends = parts;
-    for q in 0..m {
-        ends[q] = low_part(said[q], parts[q], n);
-    }
-    ends
+    each_part(said, parts, m, |said, part| low_part(said, part, n))
 }
 
 // The job at the low ends of its prices, where these lines say its parts.
-pub fn low_job(said: [PartSaid; PARTS], job: Job) -> Job
-    requires { map (meant_part (length (job_of job).openings)) (lines_in said job) ≡ (job_of job).parts }
-    ensures { LowJob said job result }
+pub fn low_job(said: &[PartSaid; PARTS], job: &Job) -> Job
+    requires { map (meant_part (length (job_of job.now).openings)) (lines_in said.now job.now) ≡ (job_of job.now).parts }
+    ensures { LowJob said.now job.now result }
 {
-    let parts = low_parts(said, job.parts, job.part_count, job.opening_count);
-    let idles = job.idles;
-    let openings = job.openings;
-    Job {
-        horizon: job.horizon,
-        idle_count: job.idle_count,
-        idles,
-        opening_count: job.opening_count,
-        openings,
-        part_count: job.part_count,
-        parts,
-    }
+    let mut low = *job;
+    low.parts = low_parts(*said, job.parts, job.part_count, job.opening_count);
+    low
 }
 
 // One of the prices is a pair, by their low ends.
 fn one_paired(lows: &[Option<u32>]) -> bool
     ensures { result ≡ one_of lows.now }
 {
-    for low in lows {
-        if low.is_some() {
-            return true;
-        }
-    }
-    false
+    lows.iter().any(Option::is_some)
 }
 
 // Whether a part's lines have a `low` line among its prices at n openings.
@@ -105,6 +82,7 @@ fn is_part_banded(said: PartSaid, n: usize) -> bool
 }
 
 // Whether the lines of the first m parts have a `low` line, with n openings.
+// Kept as a loop over the parts' places: what is known of a part's prices is how many they are, and a rule for `any` would have to name some.
 fn one_banded(said: [PartSaid; PARTS], m: usize, n: usize) -> bool
     requires { (m ≤ most_parts) × (n ≤ most_openings) }
     ensures { (parts : List code.Part) → Long m n parts → result ≡ any_banded (parts_lines (take m said) (map (part_of_lem n) (take m parts))) }
@@ -117,9 +95,9 @@ fn one_banded(said: [PartSaid; PARTS], m: usize, n: usize) -> bool
 }
 
 // Whether the lines of a job's parts have a `low` line.
-pub fn is_banded(said: [PartSaid; PARTS], job: Job) -> bool
-    requires { Sound job }
-    ensures { result ≡ any_banded (lines_in said job) }
+pub fn is_banded(said: &[PartSaid; PARTS], job: &Accepted) -> bool
+    ensures { result ≡ any_banded (lines_in said.now job.now.job) }
 {
-    one_banded(said, job.part_count, job.opening_count)
+    let job = &job.job;
+    one_banded(*said, job.part_count, job.opening_count)
 }

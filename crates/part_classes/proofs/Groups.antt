@@ -4,14 +4,19 @@ use mathlib.Core.Path.{◌≡◌, refl, sym, ap, subst, ◌∙◌}
 use mathlib.Core.Bool.{Bool, true, false, cond, ◌&&◌, beq}
 use mathlib.Core.List.{List}
 use native.Mathlib.Omega.{arith}
-use native.Mathlib.Decide.{ℕ_discrete}
+use native.Mathlib.Decide.{ℕ_discrete, dec_lt}
 use native.Mathlib.Numerals.{add-one}
 use borrow.Author.Count.{below_more}
 use borrow.Author.Tests.{lt-ltb, le-ltb}
-use lib.ListN.{length, get_or, set, drop, replicate}
-use lib.Seq.{get_or-take, get_or-drop, ext_get_or, get_or-set_same, get_or-set_other}
+use lib.Dec.{ltb}
+use lib.ListN.{length, get_or, set, take, drop, replicate}
+use lib.Seq.{get_or-take, length-take-le, get_or-drop, ext_get_or, get_or-set_same, get_or-set_other}
 use Rattle.std.specs.Bool.{Decides}
+use Rattle.std.specs.List.{position_or_len}
 use Rattle.std.specs.Prelude.{Option, Some, None, MatchOption}
+use Rattle.std.proofs.lemmas.List.Sums.{passes_at_first, fails_before_first}
+use Rattle.model.proofs.Bools.{there}
+use Rattle.part_classes.specs.declared.classes.Classes.{Classes}
 use Rattle.lane_rows.specs.Layout.{lane_count_lem}
 use Rattle.held_places.specs.Arrays.{need_stride, need_size, needs_at}
 use Rattle.held_places.proofs.Parts.{needs_length}
@@ -157,6 +162,35 @@ module _ (f : ℕ → Bool) where
   first_of (Some i) n h =
       let z : 0 + i ≡ i = omega arith in
       (sym (first_found 0 n i h.0 (ap f z ∙ h.1) (λ d l. let y : 0 + d ≡ d = omega arith in ap f y ∙ h.2 d l) ∙ z), h.0)
+
+-- the first of m entries of a list of which f is true, as a search through them finds it
+pub first_in : (f : ℕ → Bool) (xs : List ℕ) (m : ℕ) → m ≤ length xs → (r : Option ℕ) → r ≡ cond (ltb (position_or_len f (take m xs)) (length (take m xs))) (Some (position_or_len f (take m xs))) None
+    → MatchOption r (first_from (λ (d : ℕ). f (get_or xs d 0)) 0 m ≡ m) (λ i. (i ≡ first_from (λ (d : ℕ). f (get_or xs d 0)) 0 m) × (i < m))
+first_in f xs m few r e = first_of (λ (d : ℕ). f (get_or xs d 0)) r m (go (dec_lt p (length (take m xs))))
+  where
+    p : ℕ
+    p = position_or_len f (take m xs)
+
+    size : length (take m xs) ≡ m
+    size = length-take-le m xs few
+
+    at : (d : ℕ) → d < m → f (get_or xs d 0) ≡ f (get_or (take m xs) d 0)
+    at d l = ap f (sym (get_or-take m xs d 0 l))
+
+    Facts : Option ℕ → Type 0
+    Facts o = MatchOption o ((d : ℕ) → d < m → f (get_or xs d 0) ≡ false) (λ i. (i < m) × (f (get_or xs i 0) ≡ true) × ((d : ℕ) → d < i → f (get_or xs d 0) ≡ false))
+
+    go : Dec (p < length (take m xs)) → Facts r
+    go (yes l) = subst Facts (sym (e ∙ ap (λ (b : Bool). cond b (Some p) None) (lt-ltb p (length (take m xs)) l)))
+        (omega (arith, l, size), at p (omega (arith, l, size)) ∙ passes_at_first f (take m xs) 0 l, λ d g. at d (omega (arith, g, l, size)) ∙ fails_before_first f (take m xs) d 0 g)
+    go (no l) = subst Facts (sym (e ∙ ap (λ (b : Bool). cond b (Some p) None) (le-ltb p (length (take m xs)) (omega (arith, l)))))
+        (λ d g. at d g ∙ fails_before_first f (take m xs) d 0 (omega (arith, g, l, size)))
+
+-- the lead of a class that is there is a small number
+pub lead_below : (k : Classes) (i v : ℕ) → i < length (take k.count k.leads) → v ≡ get_or (take k.count k.leads) i v → v < lane_count_lem
+lead_below k i v l e =
+    let size = length-take-le k.count k.leads (omega (arith, k.led.room, k.led.most)) in
+    omega (arith, e, get_or-take k.count k.leads i v (omega (arith, l, size)), there k.leads i v 0 (omega (arith, l, size, k.led.room, k.led.most)), k.led.lead i)
 
 -- an entry of a list that one was written to
 pub set_at : (P : ℕ → Type 0) (xs : List ℕ) (at v x : ℕ) → at < length xs → (x ≡ at → P v) → ((x ≡ at → ⊥) → P (get_or xs x 0)) → P (get_or (set xs at v) x 0)

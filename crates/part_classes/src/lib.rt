@@ -11,6 +11,8 @@ use classes::Classes;
 use held_places::needs::Needs;
 use model::PARTS;
 
+// Kept with the limits of p, q and m in the clauses, here and below: a part's number is a plain one, and a type of bounded numbers would be taken apart at each index.
+
 // Parts p and q need the same of the holding parts.
 fn same_needs(needs: &Needs, p: usize, q: usize) -> bool
     requires { (p < lane_count_lem) × (q < lane_count_lem) }
@@ -25,12 +27,9 @@ fn class_like(needs: &Needs, classes: &Classes, q: usize) -> Option<usize>
     ensures { MatchOption result (class_at needs.now.marks.now needs.now.holding (grouping classes.now) q ≡ classes.now.count)
         (λ c. (c ≡ class_at needs.now.marks.now needs.now.holding (grouping classes.now) q) × (c < classes.now.count)) }
 {
-    for (c, lead) in classes.leads[..classes.count].iter().enumerate() {
-        if same_needs(needs, *lead, q) {
-            return Some(c);
-        }
-    }
-    None
+    classes.leads[..classes.count]
+        .iter()
+        .position(|lead| same_needs(needs, *lead, q))
 }
 
 // The classes with part q: in one that is there, or in one more, which it leads.
@@ -50,6 +49,7 @@ fn add_part(needs: &Needs, classes: &mut Classes, q: usize)
 }
 
 // The classes of m parts, by their needs of the holding parts.
+// Kept as a range: q is the number of a part, by which its row of needs is read.
 pub fn classes_of(needs: &Needs, m: usize) -> Classes
     requires { m ≤ lane_count_lem }
     ensures { Grouped needs.now.marks.now needs.now.holding m (grouping result) }

@@ -1,14 +1,12 @@
--- A part's prices, said and meant: behind a rule's lines no prices are listed (`ruled_read`), what is said of them means the prices of its rule, or those that are listed (`meant_said`), and so a part that is read means itself with these (`part_means`); the generator's table part by part (`tabled_none`, `tabled_more`). By whether there is a rule.
+-- A part's prices, said and meant: behind a rule's lines no prices are listed (`ruled_read`), what is said of them means the prices of its rule, or those that are listed (`meant_said`), and so a part that is read means itself with these (`part_means`); parts of which none is changed yet (`changed_none`), and all as the generator does (`tabled`). By whether there is a rule.
 use Rattle.std.specs.Prelude.{Option, Some, None, Result, Ok, Err, is_some}
 use Rattle.std.specs.Option.{unwrap_or}
-use Prim.Native.Nat.{ℕ, ◌+◌, ◌≤◌, ◌<◌}
-use mathlib.Core.Path.{◌≡◌, refl, sym, ap, ◌∙◌}
-use mathlib.Core.Bool.{Bool, true, false, cond, true≢false}
+use Prim.Native.Nat.{ℕ, ◌≤◌}
+use mathlib.Core.Path.{◌≡◌, refl, sym}
+use mathlib.Core.Bool.{Bool, true, false, cond}
 use mathlib.Core.List.{List, []}
 use native.Mathlib.Omega.{arith}
-use borrow.Author.Count.{below_more}
-use lib.ListN.{length, get_or, take, set, length-set}
-use lib.Seq.{get_or-set_same, get_or-set_other}
+use lib.ListN.{take}
 use Rattle.lines.specs.Parser.{◌>>=◌, times, chain, return}
 use Rattle.lines.specs.Reads.{Reads, seen}
 use Rattle.lines.specs.declared.fault.Fault.{Fault}
@@ -21,14 +19,14 @@ use Rattle.quotes.proofs.Quoted.{highs_are}
 use Rattle.price_rules.specs.Grammar.{by_list, by_rule_lem, unless_ruled, meant_prices}
 use Rattle.price_rules.specs.Views.{rule_of, rule_there}
 use Rattle.price_rules.specs.declared.Rule.{Rule}
-use Rattle.jobs.specs.Views.{blank_part_lem, part_of_lem}
+use Rattle.jobs.specs.Views.{part_of_lem}
 use Rattle.jobs.specs.declared.Part.{Part}
 use Rattle.lines.specs.Chosen.{numbers_of_lem}
 use Rattle.covers.specs.declared.Cover.{Cover}
-use Rattle.covers.specs.Views.{cover_of, cover_said, no_cover_lem, cover_there, meant_cover}
+use Rattle.covers.specs.Views.{cover_of, cover_said, cover_there, meant_cover}
 use Rattle.part_lines.specs.Bare.{Bare}
 use Rattle.part_lines.specs.Grammar.{meant_part}
-use Rattle.part_lines.specs.Views.{blank_said, prices_told, part_lines_lem, part_told, ruled_prices, priced, Tabled}
+use Rattle.part_lines.specs.Views.{prices_told, part_lines_lem, part_told, ruled_prices, priced, Changed, Tabled}
 use Rattle.part_lines.specs.declared.said.PartSaid.{PartSaid}
 use Rattle.part_lines.specs.declared.said.PartRead.{PartRead}
 
@@ -50,11 +48,6 @@ pub there_said : (o : Option Cover) (none : Cover) → cover_there (is_some o) (
 unfolding cover_there
 there_said (Some c) none = refl
 there_said None none = refl
-
--- where they are not there, the cover is that of none
-pub none_there : (o : Option Cover) (none : Cover) → cover_of none ≡ no_cover_lem → is_some o ≡ false → cover_of (unwrap_or o none) ≡ no_cover_lem
-none_there (Some c) none e h = absurd (true≢false h)
-none_there None none e h = e
 
 -- the prices that are said mean those of the rule, and where there is none those that are listed
 pub meant_said : (o : Option Rule) (n : ℕ) (ls : List (Option ℕ)) (ps : List ℕ) → meant_prices n (prices_told o (quotes_of ls ps)) ≡ ruled_prices n o ps
@@ -78,17 +71,13 @@ bare_means n s p bare =
 pub part_means : (n : ℕ) (r : PartRead) → meant_part n (part_told n r) ≡ priced n r.said (part_of_lem n r.part)
 part_means n r = bare_means n r.said r.part r.bare
 
--- ---- the generator: none yet, and one part more
+-- ---- parts that are changed one after the other: none yet, one more, and the generator's
 
-pub tabled_none : {n : ℕ} {ss : List PartSaid} {ps : List Part} → Tabled 0 n ss ps ps
-tabled_none = record { size = refl; done = λ q h. absurd (omega arith); rest = λ q h. refl }
+module _ (step : PartSaid → Part → Part → Type 0) where
+  -- none is changed yet
+  pub changed_none : {ss : List PartSaid} {ps : List Part} → Changed 0 step ss ps ps
+  changed_none = record { size = refl; done = λ q h. absurd (omega arith); rest = λ q h. refl }
 
-pub tabled_more : {q n : ℕ} {ss : List PartSaid} {ps qs : List Part} (r : Part) → q < length ps → part_of_lem n r ≡ priced n (get_or ss q blank_said) (part_of_lem n (get_or qs q blank_part_lem)) → Tabled q n ss ps qs → Tabled (q + 1) n ss ps (set qs q r)
-tabled_more {q} {n} {ss} {ps} {qs} r inside new d =
-    record {
-      size = length-set qs q r ∙ d.size;
-      done = below_more (λ (k : ℕ). part_of_lem n (get_or (set qs q r) k blank_part_lem) ≡ priced n (get_or ss k blank_said) (part_of_lem n (get_or ps k blank_part_lem))) q
-          (λ k l. ap (part_of_lem n) (get_or-set_other qs q k r blank_part_lem (λ e. omega (arith, e))) ∙ d.done k l)
-          (ap (part_of_lem n) (get_or-set_same qs q r blank_part_lem (omega (arith, d.size))) ∙ new ∙ ap (λ (p : Part). priced n (get_or ss q blank_said) (part_of_lem n p)) (d.rest q (omega arith)));
-      rest = λ k h. get_or-set_other qs q k r blank_part_lem (λ e. omega (arith, e)) ∙ d.rest k (omega arith);
-    }
+  -- parts that are changed to the prices of their rules
+  pub tabled : {m n : ℕ} {ss : List PartSaid} {ps qs : List Part} → ((s : PartSaid) (p r : Part) → step s p r → part_of_lem n r ≡ priced n s (part_of_lem n p)) → Changed m step ss ps qs → Tabled m n ss ps qs
+  tabled means d = record { size = d.size; done = λ q l. means _ _ _ (d.done q l); rest = d.rest }

@@ -65,6 +65,12 @@ ruled_prices n None ps = ps
 abbrev pub priced : ℕ → PartSaid → model.Part → model.Part
 priced n s p = record { life = p.life; left = p.left; removal = p.removal; holders = p.holders; prices = ruled_prices n s.rule p.prices }
 
+-- each of the first m parts is changed as `step` says, which knows what its lines say; the others stay
+pub record Changed (m : ℕ) (step : PartSaid → Part → Part → Type 0) (ss : List PartSaid) (before after : List Part) : Type 0 where
+  pub size : length after ≡ length before
+  pub done : (q : ℕ) → q < m → step (get_or ss q blank_said) (get_or before q blank_part_lem) (get_or after q blank_part_lem)
+  pub rest : (q : ℕ) → m ≤ q → get_or after q blank_part_lem ≡ get_or before q blank_part_lem
+
 -- E8.3. "A generator writes the table of prices": the first m of the parts have the prices of their rules at n openings, the others stay
 pub record Tabled (m n : ℕ) (ss : List PartSaid) (before after : List Part) : Type 0 where
   pub size : length after ≡ length before

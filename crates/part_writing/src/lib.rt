@@ -21,6 +21,7 @@ pub struct Cover<'a> {
 }
 
 // What says a part's prices.
+// Kept as an enum of its own: a rule and a list are two ways to say them, and neither is a fault or nothing.
 #[derive(Clone, Copy)]
 pub enum Prices<'a> {
     ByRule(Rule),
@@ -42,7 +43,7 @@ pub fn put_values(out: &mut Out, key: &[u8], values: &[u32])
     ensures { Puts out.old (texts (line key.now) values.now) out.new }
 {
     for value in values {
-        out.put_line(key, *value as u64);
+        out.put_line(key, u64::from(*value));
     }
 }
 
@@ -51,9 +52,10 @@ fn put_inside(out: &mut Out, holders: &[u32])
     requires { (length holders.now < 4294967296) × Room out.old (inside_cut holders.now) }
     ensures { Puts out.old (inside_cut holders.now) out.new }
 {
-    let n = holders.len();
-    out.put_line(b"inside=", n as u64);
-    if n <= 15 {
+    // Kept as a cast: std has no `From<usize>` for a u64, and a `try_from` would have an arm that nothing reaches.
+    let n = holders.len() as u64;
+    out.put_line(b"inside=", n);
+    if n <= u64::from(jobs::Part::MAX_INSIDE) {
         put_values(out, b"holder=", holders);
     }
 }
@@ -64,12 +66,9 @@ fn put_cover(out: &mut Out, cover: Option<Cover>)
     requires room { Room out.old (optional_text cover_cut (cover_said cover)) }
     ensures { Puts out.old (optional_text cover_cut (cover_said cover.entry)) out.new }
 {
-    match cover {
-        Some(cover) => {
-            out.put_line(b"removal=", cover.removal as u64);
-            put_inside(out, cover.holders);
-        }
-        None => {}
+    if let Some(cover) = cover {
+        out.put_line(b"removal=", u64::from(cover.removal));
+        put_inside(out, cover.holders);
     }
 }
 
@@ -80,9 +79,7 @@ fn put_prices(out: &mut Out, prices: Prices)
     ensures { Puts out.old (prices_text (prices_said prices.entry)) out.new }
 {
     match prices {
-        Prices::ByRule(rule) => {
-            out.at = put_rule(out.bytes, out.at, rule);
-        }
+        Prices::ByRule(rule) => put_rule(out, rule),
         Prices::Listed(quotes) => put_quotes(out, quotes),
     }
 }
@@ -94,8 +91,8 @@ pub fn put_part(out: &mut Out, part: Part)
     requires room { Room out.old (part_cut_lem (part_said part)) }
     ensures { Puts out.old (part_cut_lem (part_said part.entry)) out.new }
 {
-    out.put_line(b"life=", part.life as u64);
-    out.put_line(b"left=", part.left as u64);
+    out.put_line(b"life=", u64::from(part.life));
+    out.put_line(b"left=", u64::from(part.left));
     put_cover(out, part.cover);
     put_prices(out, part.prices);
 }

@@ -1,22 +1,11 @@
 -- What one step of each loop over the lives adds: one gap to the gaps before it, one part to the parts before it. The lives are gone through up to a position, which for a whole plan is the end.
-use Rattle.std.specs.Prelude.{ℕ, ◌+◌, ◌≤◌, Bool, cond, List, [], ◌∷◌, get_or, drop, ℤ, pos}
+use Rattle.std.specs.Prelude.{ℕ, ◌+◌, Bool, cond, List, [], ◌∷◌, get_or, drop, ℤ, pos}
 use Rattle.model.specs.Model.{Part, Job, Plan, positions, last_change_lem, within, due_of_lem, select}
-use Rattle.jobs.specs.declared.Job as code
-use Rattle.clock.specs.Placed.{Position, Begins}
 use Rattle.model.specs.Verdict.{Gaps, in_time_lem2, too_long, Verdict, keeps, late, ruled}
-use Rattle.jobs.specs.Valid.{Sound}
-use Rattle.model.specs.Limits.{longest_life}
 
 -- one gap, from the change before to the next change or the end
 abbrev pub gap_of : Job → ℤ → ℤ → ℤ → Gaps
 gap_of job life prev next = cond (within life prev next) in_time_lem2 (too_long (due_of_lem job life prev))
-
--- what the test of a gap is given: an accepted job, a life, where the change before begins it, and where the next change or the end lies
-pub record GapGiven (job : code.Job) (life : ℕ) (prev next : ℤ) : Type 0 where
-  pub sound : Sound job
-  pub life_high : life ≤ longest_life
-  pub begins : Begins life prev
-  pub ends : Position next
 
 -- the first of two that is too long
 abbrev pub first_long_lem : Gaps → Gaps → Gaps

@@ -1,17 +1,18 @@
 // The lives: a part's first gap that is too long, and the lowest part that has one.
-ghost use Rattle.std.specs.Prelude.{◌≡◌, take, pos};
+ghost use Rattle.std.specs.Prelude.{◌≡◌, ◌≤◌, take, pos};
+ghost use Rattle.model.specs.Limits.{longest_life};
 ghost use Rattle.model.specs.Model.{last_change_lem, positions, select};
 ghost use Rattle.model.specs.Verdict.{last_of, ruled, verdict_of_lem};
 ghost use Rattle.model.specs.Verdict as model;
 ghost use Rattle.jobs.specs.Views.{job_of, part_of_lem, plan_for};
-ghost use Rattle.jobs.specs.Valid.{ValidPart, Sound};
+ghost use Rattle.jobs.specs.Valid.{ValidPart};
 ghost use Rattle.clock.specs.Placed.{Position, Begins, Placed};
 ghost use Rattle.plan_lives.specs.Views.{model_gaps, model_verdict};
-ghost use Rattle.plan_lives.specs.Steps.{GapGiven, gap_of, late_to_lem, verdict_to_lem};
+ghost use Rattle.plan_lives.specs.Steps.{gap_of, late_to_lem, verdict_to_lem};
 
-use clock::{Positions, due_of, positions_of};
-use jobs::{Job, Part, Plan};
-use least::{in_reach, last_change};
+use clock::{Positions, due_of, keeps, positions_of};
+use jobs::{Accepted, Part, Plan};
+use least::last_change;
 use model::OPENINGS;
 
 // A part that is not kept, by its number, and the due step at its first gap that is too long.
@@ -22,11 +23,12 @@ pub struct Late {
 }
 
 // One gap, from the change before, at `prev`, to the next change or the end, at `next`: its due step, if it is too long.
-fn gap(job: Job, life: u32, prev: i32, next: i32) -> Option<u32>
-    requires { GapGiven job life prev next }
-    ensures { model_gaps result ≡ gap_of (job_of job) (pos life) prev next }
+// Kept as three numbers with their ranges, as in `clock::keeps`: two of them change from opening to opening.
+fn gap(job: &Accepted, life: u32, prev: i32, next: i32) -> Option<u32>
+    requires { (life ≤ longest_life) × Begins life prev × Position next }
+    ensures { model_gaps result ≡ gap_of (job_of job.now.job) (pos life) prev next }
 {
-    if in_reach(life as i32, prev, next) {
+    if keeps(life, prev, next) {
         None
     } else {
         Some(due_of(job, life, prev))
@@ -41,22 +43,23 @@ pub struct Followed {
 }
 
 // A part's changes, followed up to the position `to`. The change before begins at or below zero.
+// Kept as a loop over the openings' places: with `zip` the proof had the two iterators and no place, and nothing to say what was done so far.
 pub fn late_to(
-    job: Job,
-    places: Positions,
-    part: Part,
-    changes: [bool; OPENINGS],
+    job: &Accepted,
+    places: &Positions,
+    part: &Part,
+    changes: &[bool; OPENINGS],
     to: i32,
 ) -> Followed
-    requires { Sound job × Placed (job_of job) places × ValidPart job.opening_count (part_of_lem job.opening_count part) × Position to }
-    ensures { (model_gaps result.late ≡ late_to_lem (job_of job) to (part_of_lem job.opening_count part) (take job.opening_count changes))
-        × (result.last ≡ last_of (last_change_lem (part_of_lem job.opening_count part)) (select (positions (job_of job)) (take job.opening_count changes)))
-        × Begins part.life result.last }
+    requires { Placed (job_of job.now.job) places.now × ValidPart job.now.job.opening_count (part_of_lem job.now.job.opening_count part.now) × Position to }
+    ensures { (model_gaps result.late ≡ late_to_lem (job_of job.now.job) to (part_of_lem job.now.job.opening_count part.now) (take job.now.job.opening_count changes.now))
+        × (result.last ≡ last_of (last_change_lem (part_of_lem job.now.job.opening_count part.now)) (select (positions (job_of job.now.job)) (take job.now.job.opening_count changes.now)))
+        × Begins part.now.life result.last }
 {
     let life = part.life;
     let mut prev = last_change(life, part.left);
     let mut late = None;
-    for i in 0..job.opening_count {
+    for i in 0..job.job.opening_count {
         if changes[i] {
             let next = places.at[i];
             late = late.or(gap(job, life, prev, next));
@@ -80,22 +83,24 @@ fn kept(part: u32, late: Option<u32>) -> Result<(), Late>
 }
 
 // Whether every part is kept up to the position `to`; otherwise the lowest that is late, and its due step.
-pub fn verdict_to(job: Job, positions: Positions, plan: Plan, to: i32) -> Result<(), Late>
-    requires { Sound job × Placed (job_of job) positions × Position to }
-    ensures { model_verdict result ≡ verdict_to_lem (job_of job) to (plan_for job plan) }
+// Kept with the part's place: the answer tells its number, and zipped with the changes too a pair would stand in a pair.
+// Kept as a cast: std has no From for it, and there are at most 16 parts.
+pub fn verdict_to(job: &Accepted, positions: &Positions, plan: &Plan, to: i32) -> Result<(), Late>
+    requires { Placed (job_of job.now.job) positions.now × Position to }
+    ensures { model_verdict result ≡ verdict_to_lem (job_of job.now.job) to (plan_for job.now.job plan.now) }
 {
-    for k in 0..job.part_count {
-        let followed = late_to(job, positions, job.parts[k], plan.changes[k].at, to);
+    let parts = &job.job.parts[..job.job.part_count];
+    for (k, part) in parts.iter().enumerate() {
+        let followed = late_to(job, positions, part, &plan.changes[k].at, to);
         kept(k as u32 + 1, followed.late)?;
     }
     Ok(())
 }
 
 // Whether every part is kept; otherwise the lowest that is late, and its due step.
-pub fn verdict_of(job: Job, plan: Plan) -> Result<(), Late>
-    requires { Sound job }
-    ensures { model_verdict result ≡ verdict_of_lem (job_of job) (plan_for job plan) }
+pub fn verdict_of(job: &Accepted, plan: &Plan) -> Result<(), Late>
+    ensures { model_verdict result ≡ verdict_of_lem (job_of job.now.job) (plan_for job.now.job plan.now) }
 {
     let positions = positions_of(job);
-    verdict_to(job, positions, plan, positions.end)
+    verdict_to(job, &positions, plan, positions.end)
 }

@@ -11,8 +11,8 @@ use Rattle.model.specs.Model as model
 use Rattle.jobs.specs.declared.Plan.{Plan}
 use Rattle.jobs.specs.Views.{plan_for}
 use Rattle.job_grammar.specs.Grammar.{Given}
-use Rattle.job_text.specs.declared.text.JobText.{JobText}
-use Rattle.job_text.specs.Views.{given_of, SoundText}
+use Rattle.job_text.specs.declared.accepted.AcceptedText.{AcceptedText}
+use Rattle.job_text.specs.Views.{given_in}
 use Rattle.plan_writing.proofs.Lengths.{plan_short}
 use Rattle.plan_printing.specs.Printed.{low_lines, printed_lines}
 
@@ -28,9 +28,9 @@ low_short g plan = go g.banded
     go true = omega (arith, line_most (bytes "costlow=") (cost_of_lem g.low plan))
     go false = omega arith
 
--- what is printed of a sound text's plan, with a cost below 10,000,000,000, is no longer than the longest
-pub printed_short : (t : JobText) (cost : ℕ) (p : Plan) → SoundText t → cost < 10000000000 → length (printed_lines (given_of t) cost (plan_for t.job p)) ≤ longest
+-- what is printed of an accepted text's plan, with a cost below 10,000,000,000, is no longer than the longest
+pub printed_short : (t : AcceptedText) (cost : ℕ) (p : Plan) → cost < 10000000000 → length (printed_lines (given_in t) cost (plan_for t.job.job p)) ≤ longest
 unfolding printed_lines
-printed_short t cost p w small =
-    rw (length-append (low_lines (given_of t) (plan_for t.job p)))
-    (omega (arith, low_short (given_of t) (plan_for t.job p), plan_short t.job cost p (record { sized = w.sized; valid = w.valid.job }) small))
+printed_short t cost p small =
+    rw (length-append (low_lines (given_in t) (plan_for t.job.job p)))
+    (omega (arith, low_short (given_in t) (plan_for t.job.job p), plan_short t.job cost p small))

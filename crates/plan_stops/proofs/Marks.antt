@@ -19,7 +19,7 @@ use Rattle.jobs.specs.declared.Opening.{Opening}
 use Rattle.jobs.specs.declared.Plan.{Plan}
 use Rattle.jobs.specs.Views.{opening_of, job_of, changes_of, model_plan, empty_plan, plan_for, blank_changes}
 use Rattle.jobs.proofs.Plans.{changes_at_lem}
-use Rattle.jobs.proofs.Jobs.{Whole, sized, opening_count_lem2, part_count}
+use Rattle.jobs.proofs.Jobs.{opening_count_lem2, part_count}
 use Rattle.plan_stops.specs.Marks.{with_step, with_parts, with_visit}
 use Rattle.jobs.specs.declared.Changes.{Changes}
 use Rattle.plan_grammar.proofs.Steps.{openings-table}
@@ -66,6 +66,7 @@ module _ (job : Job) (step : ℕ) (sets : List (List Bool)) where
   unfolding with_parts any
   parts_none e = table_is sets [] (set_of []) (length job.parts) e (λ i h. refl)
 
+  -- part k marked too
   pub part_more : (ks : List ℕ) (k : ℕ) → 1 ≤ k → k ≤ length job.parts
       → set (with_parts job step ks sets) (k - 1) (with_step job step (get_or (with_parts job step ks sets) (k - 1) [])) ≡ with_parts job step (ks ++ k ∷ []) sets
   unfolding with_parts
@@ -91,6 +92,7 @@ module _ (job : Job) (step : ℕ) (sets : List (List Bool)) where
 
 -- ---- a visit
 
+-- a plan made of visits, with one visit more
 pub visit_more : (job : Job) (vs : List Visit) (v : Visit) → with_visit job v (plan_of job vs) ≡ plan_of job (vs ++ v ∷ [])
 unfolding with_visit with_parts plan_of
 visit_more job vs v = λ i. record { stops = stops i; changes = changes i }
@@ -147,5 +149,5 @@ changes_more job n m step rows cs ks k next count l low high h e =
     ∙ part_more job step rows ks k low (omega arith)
 
 -- which the code's empty plan is
-pub empty_made : (job : code.Job) → Whole job → (p : Plan) → ((n m : ℕ) → n ≤ most_openings → m ≤ most_parts → model_plan n m p ≡ empty_plan n m) → plan_for job p ≡ plan_of (job_of job) []
-empty_made job whole p e = e _ _ job.few_openings job.few_parts ∙ visit_none (job_of job) _ _ (opening_count_lem2 job (sized job) whole) (part_count job (sized job) whole)
+pub empty_made : (job : code.Job) (p : Plan) → ((n m : ℕ) → n ≤ most_openings → m ≤ most_parts → model_plan n m p ≡ empty_plan n m) → plan_for job p ≡ plan_of (job_of job) []
+empty_made job p e = e _ _ job.few_openings job.few_parts ∙ visit_none (job_of job) _ _ (opening_count_lem2 job) (part_count job)

@@ -13,8 +13,8 @@ use lines::rows::Lines;
 use model::{OPENINGS, PARTS};
 
 // Whether a step is an opening of the job.
-fn is_opening(job: Job, step: u32) -> bool
-    ensures { result ≡ is_opening_lem (job_of job) step }
+fn is_opening(job: &Job, step: u32) -> bool
+    ensures { result ≡ is_opening_lem (job_of job.now) step }
 {
     job.openings[..job.opening_count]
         .iter()
@@ -22,23 +22,21 @@ fn is_opening(job: Job, step: u32) -> bool
 }
 
 // A stop's step, which is after the step before and an opening: else fault 9.
-fn read_step(lines: &mut Lines, job: Job, before: u32) -> Result<u32, Fault>
-    ensures { Reads (checked 9 (may_stop (job_of job) before) (row "stop=" 1 last_step)) lines.old lines.new result }
+fn read_step(lines: &mut Lines, job: &Job, before: u32) -> Result<u32, Fault>
+    ensures { Reads (checked 9 (may_stop (job_of job.now) before) (row "stop=" 1 last_step)) lines.old lines.new result }
 {
-    let line = lines.line;
-    let step = lines.field(b"stop=", Opening::MIN_STEP, Opening::MAX_STEP)?;
-    if step <= before || !is_opening(job, step) {
-        return Err(Fault {
-            kind: FaultKind::Visit,
-            line,
-        });
-    }
-    Ok(step)
+    lines.checked(
+        b"stop=",
+        Opening::MIN_STEP,
+        Opening::MAX_STEP,
+        FaultKind::Visit,
+        |step| before < step && is_opening(job, step),
+    )
 }
 
 // The openings set before, and those at the step. Kept as a loop over numbers: three arrays meet at one place, and zipped they are no plainer.
-fn mark(set: [bool; OPENINGS], job: Job, step: u32) -> [bool; OPENINGS]
-    ensures { take job.opening_count result ≡ with_step (job_of job) step (take job.opening_count set) }
+fn mark(set: [bool; OPENINGS], job: &Job, step: u32) -> [bool; OPENINGS]
+    ensures { take job.now.opening_count result ≡ with_step (job_of job.now) step (take job.now.opening_count set) }
 {
     let mut marks = [false; OPENINGS];
     for i in 0..job.opening_count {
@@ -48,14 +46,15 @@ fn mark(set: [bool; OPENINGS], job: Job, step: u32) -> [bool; OPENINGS]
 }
 
 // The lines of a stop's parts, n of them: each is marked at the stop's step.
+// Kept as `as`, here and in `read_visit`: proved to lose nothing, and std has no `From` between u32 and usize.
 fn read_changes(
     lines: &mut Lines,
-    job: Job,
+    job: &Job,
     n: usize,
     step: u32,
     changes: [Changes; PARTS],
 ) -> Result<[Changes; PARTS], Fault>
-    ensures { PartsRead job lines.old lines.new n step changes result }
+    ensures { PartsRead job.now lines.old lines.new n step changes result }
 {
     let mut marks = changes;
     let mut before = 0;
@@ -77,8 +76,9 @@ fn read_changes(
 }
 
 // A stop and its parts, marked in the plan so far: the stop's step and the plan then.
-fn read_visit(lines: &mut Lines, job: Job, before: u32, plan: Plan) -> Result<(u32, Plan), Fault>
-    ensures { StopRead job lines.old lines.new before plan result }
+// Kept by value: the plan is handed back with one stop more.
+fn read_visit(lines: &mut Lines, job: &Job, before: u32, plan: Plan) -> Result<(u32, Plan), Fault>
+    ensures { StopRead job.now lines.old lines.new before plan result }
 {
     let step = read_step(lines, job, before)?;
     let n = lines.field(b"count=", 0, Plan::MAX_COUNT)?;
@@ -88,8 +88,8 @@ fn read_visit(lines: &mut Lines, job: Job, before: u32, plan: Plan) -> Result<(u
 }
 
 // The stops, n of them: the plan that they make.
-pub fn read_visits(lines: &mut Lines, job: Job, n: usize) -> Result<Plan, Fault>
-    ensures { StopsRead job lines.old lines.new n result }
+pub fn read_visits(lines: &mut Lines, job: &Job, n: usize) -> Result<Plan, Fault>
+    ensures { StopsRead job.now lines.old lines.new n result }
 {
     let mut plan = Plan::empty();
     let mut before = 0;

@@ -6,8 +6,8 @@ use Rattle.lines.specs.Text.{bytes}
 use Rattle.lines.proofs.Writing.{line_most}
 use Rattle.jobs.specs.declared.Plan.{Plan}
 use Rattle.jobs.specs.Views.{plan_for}
-use Rattle.job_text.specs.declared.text.JobText.{JobText}
-use Rattle.job_text.specs.Views.{given_of, SoundText}
+use Rattle.job_text.specs.declared.accepted.AcceptedText.{AcceptedText}
+use Rattle.job_text.specs.Views.{given_in}
 use Rattle.plan_printing.proofs.Lengths.{printed_short}
 use Rattle.planning.specs.Plan.{search_lines, planned_lines, planner_lines, plan_room}
 use Rattle.planning.specs.Finding.{answer_in, Fits}
@@ -20,9 +20,9 @@ unfolding search_lines bytes
 search_short n m f = simp length-append (omega (arith, line_most (bytes "result=") n, line_most (bytes "nodes=") m, line_most (bytes "floor=") f))
 
 -- the lines of a planner's answer that can be printed fit the room that the call asks for
-pub lines_short : (f : Finding) (t : JobText) (p : Plan) → Fits f → SoundText t → length (planner_lines (given_of t) (answer_in (plan_for t.job p) f)) ≤ plan_room
+pub lines_short : (f : Finding) (t : AcceptedText) (p : Plan) → Fits f → length (planner_lines (given_in t) (answer_in (plan_for t.job.job p) f)) ≤ plan_room
 unfolding planned_lines bytes
-lines_short NoPlan t p f w = omega (arith, line_most (bytes "result=") 6)
-lines_short (Optimum n m c) t p f w = rw length-append (omega (arith, search_short 0 n m, printed_short t c p w f.2))
-lines_short (Cut n m c) t p f w = rw length-append (omega (arith, search_short 7 n m, printed_short t c p w f.2))
-lines_short (CutBare n m) t p f w = omega (arith, search_short 7 n m)
+lines_short NoPlan t p f = omega (arith, line_most (bytes "result=") 6)
+lines_short (Optimum n m c) t p f = rw length-append (omega (arith, search_short 0 n m, printed_short t c p f.2))
+lines_short (Cut n m c) t p f = rw length-append (omega (arith, search_short 7 n m, printed_short t c p f.2))
+lines_short (CutBare n m) t p f = omega (arith, search_short 7 n m)

@@ -1,4 +1,5 @@
 // The planner: the cheapest plan of a job text that keeps every part's life.
+// Kept as an output, a text and a plan in the functions that put lines: the first is written and the others are read, and a struct of the two would be made for one call.
 #![tactic(auto)]
 
 ghost use Rattle.std.specs.Prelude.{◌≡◌, ℕ, ◌≤◌, length};
@@ -7,17 +8,17 @@ ghost use Rattle.model.specs.Limits.{most_walk};
 ghost use Rattle.model.specs.Model as model;
 ghost use Rattle.model.specs.Promise.{result_of, answer_of};
 ghost use Rattle.jobs.specs.Views.{job_of, plan_for};
-ghost use Rattle.job_text.specs.Views.{given_of, SoundText};
+ghost use Rattle.job_text.specs.Views.{given_in};
 ghost use Rattle.search.specs.Found.{plan_found, said_in};
 ghost use Rattle.answers.specs.Said.{Printable, lent, Replied};
 ghost use Rattle.planning.specs.Plan.{planned_lines, planner_lines, said_for, walk_number_lem, plan_said, plan_room};
 ghost use Rattle.planning.specs.Finding.{answer_in, Fits};
 ghost use Rattle.planning.specs.Promise.{PlanPromise};
 
-use answers::{Answer, put_three, refuse};
+use answers::{Answer, JOB, put_three, refuse, reply};
 use branch::Bound;
 use job_search::search_job;
-use job_text::text::JobText;
+use job_text::accepted::AcceptedText;
 use job_text::whole::read_job;
 use jobs::{Job, Plan};
 use line_writing::output::Out;
@@ -28,6 +29,7 @@ use search::Found;
 pub const ROOM: usize = 16384;
 
 // What the planner finds of an accepted job; the plan stands beside it.
+// Kept as an enum of its own: an Option of the walk's numbers with a cost that may be missing and a flag for a cut would have a case more, a whole walk that found no plan.
 #[derive(Clone, Copy)]
 pub enum Finding {
     // 6: no plan keeps the lives.
@@ -41,8 +43,8 @@ pub enum Finding {
 }
 
 // What a search found: no floor or no plan in the whole walk is 6, a walk cut short is 7.
-fn finding_of(found: Found) -> Finding
-    ensures { (n m : ℕ) → answer_in (plan_found n m found) result ≡ said_in n m found }
+fn finding_of(found: &Found) -> Finding
+    ensures { (n m : ℕ) → answer_in (plan_found n m found.now) result ≡ said_in n m found.now }
 {
     let nodes = found.count;
     let Bound::Sum(floor) = found.floor else {
@@ -68,70 +70,72 @@ fn number_of(f: Finding) -> u32
     }
 }
 
-// The lines of a search and of its plan.
+// Puts the lines of a search and of its plan.
 fn put_planned(
     out: &mut Out,
     number: u32,
     nodes: u64,
     floor: u64,
-    text: JobText,
+    text: &AcceptedText,
     cost: u64,
-    plan: Plan,
+    plan: &Plan,
 )
     requires printable { Printable nodes × Printable floor × Printable cost }
-    requires sound_text { SoundText text × Room out.old (planned_lines number nodes floor (given_of text) cost (plan_for text.job plan)) }
-    ensures { Puts out.old (planned_lines number nodes floor (given_of text) cost (plan_for text.job plan)) out.new }
+    requires plan_in_bounds { Room out.old (planned_lines number nodes floor (given_in text.now) cost (plan_for text.now.job.job plan.now)) }
+    ensures { Puts out.old (planned_lines number nodes floor (given_in text.now) cost (plan_for text.now.job.job plan.now)) out.new }
 {
     put_three(out, number, b"nodes=", nodes, b"floor=", floor);
     put_printed(out, text, cost, plan);
 }
 
-// The lines of a finding and of its plan.
-fn put_finding(out: &mut Out, f: Finding, text: JobText, plan: Plan)
-    requires { Fits f × SoundText text × Room out.old (planner_lines (given_of text) (answer_in (plan_for text.job plan) f)) }
-    ensures { Puts out.old (planner_lines (given_of text) (answer_in (plan_for text.job plan) f)) out.new }
+// Puts the lines of a finding and of its plan.
+fn put_finding(out: &mut Out, f: Finding, text: &AcceptedText, plan: &Plan)
+    requires { Fits f × Room out.old (planner_lines (given_in text.now) (answer_in (plan_for text.now.job.job plan.now) f)) }
+    ensures { Puts out.old (planner_lines (given_in text.now) (answer_in (plan_for text.now.job.job plan.now) f)) out.new }
 {
+    let number = number_of(f);
     match f {
-        Finding::NoPlan => out.put_line(b"result=", 6),
+        Finding::NoPlan => out.put_line(b"result=", u64::from(number)),
         Finding::Optimum { nodes, floor, cost } => {
-            put_planned(out, 0, nodes, floor, text, cost, plan)
+            put_planned(out, number, nodes, floor, text, cost, plan)
         }
-        Finding::Cut { nodes, floor, cost } => put_planned(out, 7, nodes, floor, text, cost, plan),
-        Finding::CutBare { nodes, floor } => put_three(out, 7, b"nodes=", nodes, b"floor=", floor),
+        Finding::Cut { nodes, floor, cost } => {
+            put_planned(out, number, nodes, floor, text, cost, plan)
+        }
+        Finding::CutBare { nodes, floor } => {
+            put_three(out, number, b"nodes=", nodes, b"floor=", floor)
+        }
     }
 }
 
-// The answer that a finding is, with its plan.
-fn answer(f: Finding, text: JobText, plan: Plan, out: &mut [u8]) -> Answer
-    requires { Fits f × SoundText text }
-    ensures { Replied plan_room (said_for (given_of text) (answer_in (plan_for text.job plan) f)) out.old out.new result }
+// Answers the planner's call by a finding, with its plan.
+fn answer(f: Finding, text: &AcceptedText, plan: &Plan, out: &mut [u8]) -> Answer
+    requires { Fits f }
+    ensures { Replied plan_room (said_for (given_in text.now) (answer_in (plan_for text.now.job.job plan.now) f)) out.old out.new result }
 {
-    if out.len() < ROOM {
-        return Answer::no_room();
-    }
-    let mut lines = Out { bytes: out, at: 0 };
-    put_finding(&mut lines, f, text, plan);
-    Answer::plain(number_of(f), lines.at)
+    reply(
+        number_of(f),
+        ROOM,
+        out,
+        |lines| put_finding(lines, f, text, plan),
+    )
 }
 
 // The walk number of a call: above the limit it counts as the limit.
+// Kept as `as`: the lesser of the two is at most the limit, and `try_from` would have a case for a number that can't be.
 fn walk_number(walk: u64) -> u32
     ensures { result ≡ walk_number_lem walk }
 {
-    if u64::from(Job::MAX_WALK) < walk {
-        return Job::MAX_WALK;
-    }
-    walk as u32
+    walk.min(u64::from(Job::MAX_WALK)) as u32
 }
 
-// The plan of an accepted job text.
-fn plan_job(text: JobText, walk: u32, out: &mut [u8]) -> Answer
-    requires { SoundText text × (walk ≤ most_walk) }
-    ensures { Replied plan_room (said_for (given_of text) (answer_of (job_of text.job) walk)) out.old out.new result }
+// Answers the planner's call for an accepted job text: by the search of its job.
+fn plan_job(text: &AcceptedText, walk: u32, out: &mut [u8]) -> Answer
+    requires { walk ≤ most_walk }
+    ensures { Replied plan_room (said_for (given_in text.now) (answer_of (job_of text.now.job.job) walk)) out.old out.new result }
 {
-    let found = search_job(text.job, walk);
-    let plan = found.plan;
-    answer(finding_of(found), text, plan, out)
+    let found = search_job(&text.job, walk);
+    answer(finding_of(&found), text, &found.plan, out)
 }
 
 // The plan of a job text, walked up to the walk number of the call: every number that is handed over and every byte of the output are the defined ones (`Replied`). The answer is 6 exactly if
@@ -141,8 +145,9 @@ pub fn plan(job: &[u8], walk: u64, out: &mut [u8]) -> Answer
     ensures replied { Replied plan_room (plan_said job.now walk) out.old out.new result }
     ensures plan_promise { PlanPromise job.now walk (length out.old) (lent plan_room (length out.old) (plan_said job.now walk)) }
 {
+    // Kept in each call: the arm for a fault is one call of `refuse`, and one function for all calls would take the rest of each as a closure over the text and the output.
     match read_job(job) {
-        Ok(text) => plan_job(text, walk_number(walk), out),
-        Err(fault) => refuse(job, 1, fault.kind.number(), fault.line, ROOM, out),
+        Ok(text) => plan_job(&text, walk_number(walk), out),
+        Err(fault) => refuse(job, JOB, fault.kind.number(), fault.line, ROOM, out),
     }
 }

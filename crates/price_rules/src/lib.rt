@@ -1,16 +1,16 @@
 // A part's prices by a rule: its lines, read from a text and written, and the generator of the prices that it stands for.
 #![tactic(auto)]
 
-ghost use Rattle.std.specs.Prelude.{◌≡◌, ◌+◌, ◌-◌, ◌≤◌, length, take, drop, replicate};
+ghost use Rattle.std.specs.Prelude.{◌≡◌, ◌-◌, ◌≤◌, length, take, drop, replicate};
 ghost use Rattle.lines.specs.Reads.{Reads, seen};
-ghost use Rattle.lines.specs.Wrote.{Wrote};
+ghost use Rattle.line_writing.specs.Puts.{Puts, Room};
 ghost use Rattle.model.specs.Limits.{most_openings};
 ghost use Rattle.price_rules.specs.Rule.{rule_prices_lem};
 ghost use Rattle.price_rules.specs.Grammar.{after_base, rule};
 ghost use Rattle.price_rules.specs.Rendering.{rule_text};
 ghost use Rattle.price_rules.specs.Views.{rule_of, rule_there};
 
-use line_writing::write::put_line;
+use line_writing::output::Out;
 use lines::fault::Fault;
 use lines::rows::Lines;
 use model::OPENINGS;
@@ -24,14 +24,19 @@ pub struct Rule {
 }
 
 impl Rule {
+    // The smallest base.
     pub const MIN_BASE: u32 = 1;
 
+    // The largest base.
     pub const MAX_BASE: u32 = 1000000;
 
+    // The largest drop; the smallest is 0.
     pub const MAX_DROP: u32 = 1000000;
 
+    // The smallest least price.
     pub const MIN_LEAST: u32 = 1;
 
+    // The largest least price.
     pub const MAX_LEAST: u32 = 1000000;
 }
 
@@ -58,13 +63,13 @@ pub fn read_rule(lines: &mut Lines) -> Result<Option<Rule>, Fault>
 }
 
 // Puts a rule's lines.
-pub fn put_rule(out: &mut [u8], at: usize, rule: Rule) -> usize
-    requires { at + length (rule_text (rule_of rule)) ≤ length out.old }
-    ensures { Wrote out.old at (rule_text (rule_of rule)) out.new result }
+pub fn put_rule(out: &mut Out, rule: Rule)
+    requires { Room out.old (rule_text (rule_of rule)) }
+    ensures { Puts out.old (rule_text (rule_of rule)) out.new }
 {
-    let a = put_line(out, at, b"base=", u64::from(rule.base));
-    let b = put_line(out, a, b"drop=", u64::from(rule.drop));
-    put_line(out, b, b"least=", u64::from(rule.least))
+    out.put_line(b"base=", u64::from(rule.base));
+    out.put_line(b"drop=", u64::from(rule.drop));
+    out.put_line(b"least=", u64::from(rule.least));
 }
 
 // A rule's price for each entry: from opening to opening the drop is taken off what is left of the base.
@@ -79,6 +84,7 @@ fn put_prices(rule: Rule, prices: &mut [u32])
 }
 
 // A rule's prices at the first n openings, and 0 past the last.
+// Kept with the limit of n in the clause: a rule stands by itself, and the count of openings is its job's.
 pub fn rule_prices(rule: Rule, n: usize) -> [u32; OPENINGS]
     requires { n ≤ most_openings }
     ensures { (take n result ≡ rule_prices_lem (rule_of rule) n) × (drop n result ≡ replicate (most_openings - n) 0) }

@@ -1,7 +1,6 @@
 -- The lines of a price by whether it is a pair (`quote_single`, `quote_pair`). By the test.
 use Prim.Native.Nat.{ℕ}
 use mathlib.Core.Path.{◌≡◌, refl}
-use mathlib.Core.Bool.{Bool, true, false, cond}
 use mathlib.Core.List.{◌++◌}
 use Rattle.std.specs.Prelude.{Option, Some, None}
 use Rattle.lines.specs.Text.{line_of}

@@ -16,7 +16,7 @@ fn low_at(mark: u32, lows: &[u32], j: usize) -> Option<u32>
     requires { mark ≡ 1 → j < length lows.now }
     ensures { result ≡ cond (eqb mark 1) (Some (get_or lows.now j 0)) None }
 {
-    if mark == 1 { Some(lows[j]) } else { None }
+    (mark == 1).then(|| lows[j])
 }
 
 // Puts a price: the lines of both ends where it is a pair, else one line.
@@ -25,10 +25,10 @@ fn put_quote(out: &mut Out, low: Option<u32>, high: u32)
     ensures { Puts out.old (quote_text (quote_of low high)) out.new }
 {
     match low {
-        None => out.put_line(b"price=", high as u64),
+        None => out.put_line(b"price=", u64::from(high)),
         Some(low) => {
-            out.put_line(b"low=", low as u64);
-            out.put_line(b"high=", high as u64);
+            out.put_line(b"low=", u64::from(low));
+            out.put_line(b"high=", u64::from(high));
         }
     }
 }
@@ -45,10 +45,12 @@ pub fn put_quotes(out: &mut Out, quotes: QuoteLists)
         highs,
     } = quotes;
     let mut j: usize = 0;
+    // Kept with a place, and no plainer as a zip, which would save one index: what is put is said by the place, and a zip's place is the length of what it yielded.
     for (i, &high) in highs.iter().enumerate() {
         let mark = banded[i];
         let low = low_at(mark, lows, j);
         put_quote(out, low, high);
+        // Kept as a cast: std has no `From<u32>` for a usize, and a `try_from` would have an arm that nothing reaches.
         j += mark as usize;
     }
 }

@@ -20,7 +20,8 @@ pub struct Quote {
     pub high: u32,
 }
 
-// Prices as they stand, the first of which count. The high ends are an array of their own, as a part's prices are.
+// Prices as they stand, the first of which count.
+// Kept as two arrays: no heap, and the high ends become a part's prices as they are.
 #[derive(Clone, Copy)]
 pub struct Quotes {
     pub lows: [Option<u32>; OPENINGS],
@@ -31,15 +32,13 @@ pub struct Quotes {
 fn read_high(lines: &mut Lines, low: u32) -> Result<u32, Fault>
     ensures { Reads (checked 13 (at_least low) (row "high=" 1 dearest)) lines.old lines.new result }
 {
-    let line = lines.line;
-    let high = lines.field(b"high=", Part::MIN_PRICE, Part::MAX_PRICE)?;
-    if high < low {
-        return Err(Fault {
-            kind: FaultKind::High,
-            line,
-        });
-    }
-    Ok(high)
+    lines.checked(
+        b"high=",
+        Part::MIN_PRICE,
+        Part::MAX_PRICE,
+        FaultKind::High,
+        |high| low <= high,
+    )
 }
 
 // A price: a pair where its first line is `low`, else a single one.
@@ -61,11 +60,12 @@ fn read_quote(lines: &mut Lines) -> Result<Quote, Fault>
     }
 }
 
-// Prices, n of them.
+// Reads n prices, each a single one or a pair.
 pub fn read_quotes(lines: &mut Lines, n: usize) -> Result<Quotes, Fault>
     requires { n ≤ most_openings }
     ensures { Reads (times n quote) lines.old lines.new (seen (quotes_told n) result) }
 {
+    // Kept as a range: two arrays are filled, and of an array that is written through a zip nothing is known after it.
     let mut lows = [None; OPENINGS];
     let mut highs = [0; OPENINGS];
     for i in 0..n {

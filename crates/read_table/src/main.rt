@@ -2,22 +2,23 @@
 // A pair stands in the input as `job=N`, N bytes, `plan=N`, N bytes.
 #![tactic(auto)]
 
-ghost use Rattle.std.specs.Prelude.{◌≤◌, length};
-
+use answers::{JOB, PLAN};
 use fault_lines::fault::fault_line;
 use job_text::whole::read_job;
 use lines::fault::Fault;
 use plan_text::whole::read_plan;
 use std::io;
 use std::io::Read;
-use table_text::{onward, piece_at};
+use table_text::{MOST, each_row, piece_at};
 
 // Writes bytes on standard output. What can't be written is passed over: the run's output then lacks it.
+// Kept in each program that writes a table: a public function needs a contract on its outcome, and of bytes that can't be written none can be said.
 fn write(rt: &impl Print, bytes: &[u8]) {
     let _ = rt.write_all(bytes);
 }
 
-// Writes a fault's lines, and the line at fault.
+// Writes a fault's lines, and the line at fault, of the text of this number.
+// Kept as a number: the C interface hands out this number of the text.
 fn report(rt: &impl Print, text: &[u8], which: u32, fault: Fault) {
     let line = fault.line;
     if 4294967295 < line {
@@ -34,19 +35,17 @@ fn report(rt: &impl Print, text: &[u8], which: u32, fault: Fault) {
 // The first fault of a pair, the job text before the plan text.
 fn judge_pair(rt: &impl Print, job: &[u8], plan: &[u8]) {
     match read_job(job) {
-        Err(fault) => report(rt, job, 1, fault),
-        Ok(text) => match read_plan(plan, text.job) {
-            Err(fault) => report(rt, plan, 2, fault),
+        Err(fault) => report(rt, job, JOB, fault),
+        Ok(text) => match read_plan(plan, &text.job.job) {
+            Err(fault) => report(rt, plan, PLAN, fault),
             Ok(_) => write(rt, b"accepted\n"),
         },
     }
 }
 
 // The pair at a place, and the place behind it.
-fn pair_at(rt: &impl Print, buf: &[u8], at: usize) -> usize
-    requires { at ≤ length buf.now }
-    ensures { result ≤ length buf.now }
-{
+// Kept as parameters: the printer and the table are lent to each row anew, and a struct of two would be made for one call.
+fn pair_at(rt: &impl Print, buf: &[u8], at: usize) -> usize {
     let job = piece_at(buf, at, b"job=");
     let job_start = job.start;
     let job_end = job_start + job.length;
@@ -57,21 +56,11 @@ fn pair_at(rt: &impl Print, buf: &[u8], at: usize) -> usize
     plan_end
 }
 
-// Every pair of the table.
-// Kept as a `while`: a pair's texts are as long as it tells, so the place rises by varying steps.
-fn table(rt: &impl Print, buf: &[u8]) {
-    let mut at = 0;
-    while at < buf.len() {
-        at = onward(buf.len(), at, pair_at(rt, buf, at));
-    }
-}
-
-// The most bytes that are read of a table.
-const MOST: u64 = 524288;
-
+// Reads the table and writes what is said of its pairs.
 fn main(rt: HostRuntime) -> io::Result<()> {
     let mut input = Vec::new(rt.alloc());
     rt.reader().take(MOST).read_to_end(&mut input)?;
-    table(&rt, input.as_slice());
+    let table = input.as_slice();
+    each_row(table.len(), |at| pair_at(&rt, table, at));
     Ok(())
 }

@@ -10,7 +10,7 @@ use lib.IntN.{ℤ, pos}
 use Rattle.std.specs.Prelude.{Option, None, Some}
 use Rattle.branch.specs.declared.Bound.{Bound}
 use Rattle.branch.specs.declared.Bound.TheVariants.{Missing, Sum}
-use Rattle.branch.specs.Search.{none, plan, at_most}
+use Rattle.branch.specs.Search.{at_most}
 use Rattle.branch.specs.Label.{tree_of}
 use Rattle.model.specs.Model.{Opening, Part, Job, clock, last_change_lem}
 use Rattle.model.specs.LowerBound.{Offer, lower_than, change_at_lem, least_of_lem, offers, choice_of}
@@ -20,13 +20,13 @@ use Rattle.model.specs.Promise.{cut, optimum}
 use Rattle.branch.specs.Planning.{answered, answered_at}
 use Rattle.model.proofs.Bools.{there}
 use Rattle.model.proofs.Offers.{offers-length}
-use Rattle.jobs.specs.declared.Changes.{Changes}
+use Rattle.jobs.specs.declared.Plan as code
 use Rattle.search.specs.declared.Found.{Found}
 use Rattle.search_tables.specs.Arrays.{lane_part, sheet_of, JobArrays}
 use Rattle.search.specs.Plan.{choice_at, no_row, Chooses}
-use Rattle.search.specs.Found.{found_by_lem, stops_in, row_in, changes_in, incumbent_with, limited_in, Finds, plan_found, said_by, said_at, said_in}
+use Rattle.search.specs.Found.{found_by_lem, stops_in, row_in, changes_in, limited_in, Finds, plan_found, said_by, said_at, said_in}
 use Rattle.search_tables.proofs.Sheets.{sheet_bound_lem}
-use Rattle.walk.specs.State.{bits, Solves}
+use Rattle.walk.specs.State.{bits, found_as, Solves}
 use Rattle.walk.proofs.Nodes.{bits-length}
 use Rattle.walk.specs.declared.Solved.{Solved}
 
@@ -54,63 +54,54 @@ stops-length n mask stops f = ap length (stops_are n mask stops f) ∙ bits-leng
 
 -- ---- what the code holds, as it is handed back
 
--- what is handed over: the solved search's numbers with the stops and the rows of changes
-abbrev pub handed : Solved → List Bool → List Changes → Found
-handed s stops rows = found_by_lem s (record { stops = stops; changes = rows })
-
--- the incumbent of a solved search, by whether one was found
-found_is : (name : List Bool) (c : ℕ) (t : Bool) → incumbent_with name (cond t (Some c) None) ≡ cond t (plan c name) none
-found_is name c true = refl
-found_is name c false = refl
-
 module _ (job : Job) (e : ℤ) (ss : List ℤ) (fs ls rs ps : List ℕ) (h : JobArrays job e ss fs ls rs ps) (limit : ℕ) (s : Solved) (g : Solves (sheet_of e ss fs ls rs ps) limit s)
-    (stops : List Bool) (f : stops ≡ bits (length ss) s.mask ++ replicate (64 - length ss) false) (rows : List Changes) (c : Chooses e ss ls rs ps (take (length ss) stops) rows (length ls)) where
+    (plan : code.Plan) (f : plan.stops ≡ bits (length ss) s.mask ++ replicate (64 - length ss) false) (c : Chooses e ss ls rs ps (take (length ss) plan.stops) plan.changes (length ls)) where
   size : length ss ≡ length job.openings
   size = ap length h.places ∙ length-map job.openings (λ (o : Opening). clock job o.step)
 
-  walked : limited_in (length ss) (handed s stops rows) ≡ at_most limit (tree_of (plain_bound job) (length ss) [])
+  walked : limited_in (length ss) (found_by_lem s plan) ≡ at_most limit (tree_of (plain_bound job) (length ss) [])
   walked =
-      (λ i. record { count = s.count; over = s.over; incumbent = found_is (stops_are (length ss) s.mask stops f i) s.cost s.found i })
+      (λ i. record { count = s.count; over = s.over; incumbent = found_as (stops_are (length ss) s.mask plan.stops f i) s.cost })
       ∙ g.walked
       ∙ (λ i. at_most limit (tree_of (λ p. sheet_bound_lem job e ss fs ls rs ps h p i) (length ss) []))
 
   abbrev chosen : Part → List Bool
-  chosen part = plain_part_choice job part (take (length ss) stops)
+  chosen part = plain_part_choice job part (take (length ss) plan.stops)
 
-  row_is : (q : ℕ) → q < length ls → row_in (length ss) (get_or rows q no_row) ≡ chosen (get_or job.parts q no_part)
+  row_is : (q : ℕ) → q < length ls → row_in (length ss) (get_or plan.changes q no_row) ≡ chosen (get_or job.parts q no_part)
   row_is q l =
       let z = sym (h.part q l) in
       let part = lane_part (length ss) ls rs ps q in
-      let x = choice_at e ss part (take (length ss) stops) in
+      let x = choice_at e ss part (take (length ss) plan.stops) in
       ap (take (length ss)) (c.row q l)
-      ∙ take_at x (replicate (64 - length ss) false) (length ss) (choice_size (pos part.life) e (last_change_lem part) (offers ss part.prices (take (length ss) stops)) ∙ offers-length ss part.prices (take (length ss) stops))
-      ∙ (λ i. choice_of (pos (z i).life) (h.ends i) (last_change_lem (z i)) (offers (h.places i) (z i).prices (take (length ss) stops)))
+      ∙ take_at x (replicate (64 - length ss) false) (length ss) (choice_size (pos part.life) e (last_change_lem part) (offers ss part.prices (take (length ss) plan.stops)) ∙ offers-length ss part.prices (take (length ss) plan.stops))
+      ∙ (λ i. choice_of (pos (z i).life) (h.ends i) (last_change_lem (z i)) (offers (h.places i) (z i).prices (take (length ss) plan.stops)))
 
-  changes : changes_in (length ss) (length job.parts) (handed s stops rows) ≡ map chosen job.parts
+  changes : changes_in (length ss) (length job.parts) (found_by_lem s plan) ≡ map chosen job.parts
   changes =
-      ext_get_or (row_in (length ss) no_row) (map (row_in (length ss)) (take m rows)) (map chosen job.parts) (long ∙ sym (length-map job.parts chosen)) at
+      ext_get_or (row_in (length ss) no_row) (map (row_in (length ss)) (take m plan.changes)) (map chosen job.parts) (long ∙ sym (length-map job.parts chosen)) at
     where
       m : ℕ
       m = length job.parts
 
-      long : length (map (row_in (length ss)) (take m rows)) ≡ m
-      long = length-map (take m rows) (row_in (length ss)) ∙ length-take-le m rows (omega (arith, c.size, h.parts, h.arrays.lanes))
+      long : length (map (row_in (length ss)) (take m plan.changes)) ≡ m
+      long = length-map (take m plan.changes) (row_in (length ss)) ∙ length-take-le m plan.changes (omega (arith, c.size, h.parts, h.arrays.lanes))
 
-      at : (q : ℕ) → q < length (map (row_in (length ss)) (take m rows)) → get_or (map (row_in (length ss)) (take m rows)) q (row_in (length ss) no_row) ≡ get_or (map chosen job.parts) q (row_in (length ss) no_row)
+      at : (q : ℕ) → q < length (map (row_in (length ss)) (take m plan.changes)) → get_or (map (row_in (length ss)) (take m plan.changes)) q (row_in (length ss) no_row) ≡ get_or (map chosen job.parts) q (row_in (length ss) no_row)
       at q l =
-          get_or-map (row_in (length ss)) (take m rows) q no_row
-          ∙ ap (row_in (length ss)) (get_or-take m rows q no_row (omega (arith, long)))
+          get_or-map (row_in (length ss)) (take m plan.changes) q no_row
+          ∙ ap (row_in (length ss)) (get_or-take m plan.changes q no_row (omega (arith, long)))
           ∙ row_is q (omega (arith, long, h.parts))
           ∙ sym (get_or-map chosen job.parts q no_part)
           ∙ there (map chosen job.parts) q (chosen no_part) (row_in (length ss) no_row) (omega (arith, long, length-map job.parts chosen))
 
   -- what is handed over is what the walk over the job's openings finds
-  pub finds : Finds job limit (handed s stops rows)
+  pub finds : Finds job limit (found_by_lem s plan)
   finds =
       record {
-        walked = subst (λ (k : ℕ). limited_in k (handed s stops rows) ≡ at_most limit (tree_of (plain_bound job) k [])) size walked;
+        walked = subst (λ (k : ℕ). limited_in k (found_by_lem s plan) ≡ at_most limit (tree_of (plain_bound job) k [])) size walked;
         floor = g.floor ∙ sheet_bound_lem job e ss fs ls rs ps h [];
-        changes = subst (λ (k : ℕ). changes_in k (length job.parts) (handed s stops rows) ≡ map (λ (part : Part). plain_part_choice job part (take k stops)) job.parts) size changes;
+        changes = subst (λ (k : ℕ). changes_in k (length job.parts) (found_by_lem s plan) ≡ map (λ (part : Part). plain_part_choice job part (take k plan.stops)) job.parts) size changes;
       }
 
 -- ---- so it is the model's answer
@@ -119,7 +110,7 @@ module _ (job : Job) (limit : ℕ) (r : Found) (a : Finds job limit r) where
   plan_is : plan_found (length job.openings) (length job.parts) r ≡ plain_plan job (stops_in (length job.openings) r)
   plan_is = λ i. record { stops = stops_in (length job.openings) r; changes = a.changes i }
 
-  by : (floor : ℕ) (o : Bool) (t : Option ℕ) → said_by (length job.openings) (length job.parts) floor r o t ≡ answered (plain_plan job) floor r.count o (incumbent_with (stops_in (length job.openings) r) t)
+  by : (floor : ℕ) (o : Bool) (t : Option ℕ) → said_by (length job.openings) (length job.parts) floor r o t ≡ answered (plain_plan job) floor r.count o (found_as (stops_in (length job.openings) r) t)
   by floor true None = refl
   by floor true (Some c) = ap (cut r.count floor c) plan_is
   by floor false None = refl

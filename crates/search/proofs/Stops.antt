@@ -6,12 +6,10 @@ use mathlib.Core.List.{List, ◌∷◌, ◌++◌}
 use native.Mathlib.Omega.{arith}
 use borrow.Author.Count.{below_more}
 use lib.Dec.{eqb}
-use lib.ListN.{length, get_or, drop, set, replicate, length-set}
+use lib.ListN.{length, get_or, drop, set, replicate, length-set, length-append, length-drop, length-replicate, get_or-append}
 use lib.Seq.{append_snoc, drop-cons, drop-set-lt, get_or-set_same, get_or-set_other}
-use lib.IntN.{ℤ}
 use Rattle.jobs.specs.declared.Changes.{Changes}
-use Rattle.search_tables.specs.Arrays.{lane_part}
-use Rattle.search.specs.Plan.{choice_at, no_row, Chooses}
+use Rattle.search.specs.Plan.{no_row, Rows}
 use Rattle.lane_rows.specs.Layout.{lane_count_lem}
 use Rattle.walk.specs.State.{bits}
 
@@ -50,18 +48,18 @@ stops_all out (suc k) m all h e = absurd (omega arith)
 
 -- ---- the rows of changes
 
-module _ (e : ℤ) (ss : List ℤ) (ls rs ps : List ℕ) (stops : List Bool) where
-  -- before the first part there is no row of changes to be right
-  pub chooses_none : (rows : List Changes) → length rows ≡ lane_count_lem → Chooses e ss ls rs ps stops rows 0
-  chooses_none rows h = record { size = h; row = λ q l. absurd (omega arith) }
-
+module _ (f : ℕ → List Bool) where
   -- with part q's changes in its row, the rows of one part more are right
-  pub chooses_more : (rows : List Changes) (q : ℕ) (v : List Bool) → q < lane_count_lem → v ≡ choice_at e ss (lane_part (length ss) ls rs ps q) stops ++ replicate (64 - length ss) false
-      → Chooses e ss ls rs ps stops rows q → Chooses e ss ls rs ps stops (set rows q (record { at = v })) (q + 1)
-  chooses_more rows q v h f c =
-      record {
-        size = length-set rows q (record { at = v }) ∙ c.size;
-        row = below_more (λ (r : ℕ). (get_or (set rows q (record { at = v })) r no_row).at ≡ choice_at e ss (lane_part (length ss) ls rs ps r) stops ++ replicate (64 - length ss) false) q
-            (λ r l. ap (λ (x : Changes). x.at) (get_or-set_other rows q r (record { at = v }) no_row (λ z. omega (arith, z))) ∙ c.row r l)
-            (ap (λ (x : Changes). x.at) (get_or-set_same rows q (record { at = v }) no_row (omega (arith, c.size))) ∙ f);
-      }
+  pub row_more : (rows : List Changes) (q : ℕ) (v : List Bool) → q < length rows → v ≡ f q → ((k : ℕ) → k < q → (get_or rows k no_row).at ≡ f k)
+      → (k : ℕ) → k < q + 1 → (get_or (set rows q (record { at = v })) k no_row).at ≡ f k
+  row_more rows q v h e all =
+      below_more (λ (r : ℕ). (get_or (set rows q (record { at = v })) r no_row).at ≡ f r) q
+      (λ r l. ap (λ (x : Changes). x.at) (get_or-set_other rows q r (record { at = v }) no_row (λ z. omega (arith, z))) ∙ all r l)
+      (ap (λ (x : Changes). x.at) (get_or-set_same rows q (record { at = v }) no_row h) ∙ e)
+
+  -- the first m rows are right where they are written in front of rows without changes
+  pub rows_front : (rows : List Changes) (m : ℕ) → m ≤ lane_count_lem → length rows ≡ m → ((k : ℕ) → k < m → (get_or rows k no_row).at ≡ f k) → Rows f (rows ++ drop m (replicate lane_count_lem no_row)) m
+  rows_front rows m h e all = record {
+    size = length-append rows (drop m (replicate lane_count_lem no_row)) ∙ omega (arith, e, h, length-drop m (replicate lane_count_lem no_row), length-replicate lane_count_lem no_row);
+    row = λ q l. ap (λ (x : Changes). x.at) (get_or-append rows (drop m (replicate lane_count_lem no_row)) no_row q (omega (arith, l, e))) ∙ all q l;
+  }

@@ -1,19 +1,20 @@
 -- What the search hands back, as the model has it.
-use Rattle.std.specs.Prelude.{ℕ, ◌≡◌, Bool, true, false, cond, List, [], map, length, take, Option, None, Some}
+use Rattle.std.specs.Prelude.{ℕ, ◌≡◌, Bool, true, false, List, [], map, length, take, Option, None, Some}
 use Rattle.branch.specs.declared.Bound.{Bound}
 use Rattle.branch.specs.declared.Bound.TheVariants.{Missing, Sum}
-use Rattle.branch.specs.Search.{Incumbent, none, plan, Limited, at_most}
+use Rattle.branch.specs.Search.{Incumbent, Limited, at_most}
 use Rattle.model.specs.Model.{Job, Part, Plan}
 use Rattle.model.specs.Promise.{PlannerAnswer, no_plan_lem2, cut_none, cut, optimum}
 use Rattle.model.specs.Unheld.{plain_part_choice, plain_bound, plain_tree}
 use Rattle.jobs.specs.declared.Changes.{Changes}
 use Rattle.jobs.specs.declared.Plan as code
 use Rattle.walk.specs.declared.Solved.{Solved}
+use Rattle.walk.specs.State.{found_as}
 use Rattle.search.specs.declared.Found.{Found}
 
 -- what a walk found, with this plan
 abbrev pub found_by_lem : Solved → code.Plan → Found
-found_by_lem s p = record { count = s.count; over = s.over; cost = cond s.found (Some s.cost) None; floor = s.floor; plan = p }
+found_by_lem s p = record { count = s.count; over = s.over; cost = s.cost; floor = s.floor; plan = p }
 
 -- the stops, where there are n openings
 abbrev pub stops_in : ℕ → Found → List Bool
@@ -27,14 +28,9 @@ row_in n row = take n row.at
 abbrev pub changes_in : ℕ → ℕ → Found → List (List Bool)
 changes_in n m r = map (row_in n) (take m r.plan.changes)
 
--- the best full plan of this name, if one has a cost
-abbrev pub incumbent_with : List Bool → Option ℕ → Incumbent
-incumbent_with name None = none
-incumbent_with name (Some c) = plan c name
-
 -- the best full plan, if one was found: its name is its stops
 abbrev pub incumbent_in : ℕ → Found → Incumbent
-incumbent_in n r = incumbent_with (stops_in n r) r.cost
+incumbent_in n r = found_as (stops_in n r) r.cost
 
 -- the walk's last state as the search has it
 abbrev pub limited_in : ℕ → Found → Limited

@@ -1,11 +1,11 @@
 // The planner's search: the counted walk over a job's tables, and the plan of its incumbent.
+// Kept with the limit of a walk in the clauses: it is a plain number, and a type of numbers below the highest would be made and taken apart once in each call.
 #![tactic(auto)]
 
 pub mod plan;
 
-ghost use Rattle.std.specs.Prelude.{◌≡◌, ◌+◌, ◌^◌, ◌<◌, ◌≤◌, length};
+ghost use Rattle.std.specs.Prelude.{◌≡◌, ◌+◌, ◌^◌, ◌<◌};
 ghost use Rattle.model.specs.Model.{Job};
-ghost use Rattle.least.specs.Suffix.{table_size};
 ghost use Rattle.walk.specs.State.{Solves};
 ghost use Rattle.search_tables.specs.Flat.{sheet_in, Holds};
 ghost use Rattle.search.specs.Found.{found_by_lem, Finds};
@@ -19,6 +19,7 @@ use search_tables::flat::FlatJob;
 use walk::{Solved, solve};
 
 // The nodes walked, whether there are more, the incumbent's cost if there is one, the floor, and the incumbent's plan.
+// Kept as a flag: `over` is a fact of its own, and stands beside no value.
 #[derive(Drop)]
 pub struct Found {
     pub count: u64,
@@ -35,15 +36,15 @@ pub fn found_by(solved: Solved, plan: Plan) -> Found
     Found {
         count: solved.count,
         over: solved.over,
-        cost: solved.found.then_some(solved.cost),
+        cost: solved.cost,
         floor: solved.floor,
         plan,
     }
 }
 
 // The floor and the walk's last state. The tables stand on the stack of this call.
-fn walked(job: &FlatJob<'_>, limit: u64, tab: &mut [u64]) -> Solved
-    requires { (table_size ≤ length tab.old) × (limit + 1 < 2 ^ 64) }
+fn walked(job: &FlatJob<'_>, limit: u64, tab: &mut [u64; TABLE]) -> Solved
+    requires { limit + 1 < 2 ^ 64 }
     ensures { Solves (sheet_in job.now) limit result }
 {
     let mut t = [0; TABLES];

@@ -12,7 +12,8 @@ use lib.IntN.{ℤ, pos}
 use lib.Signed.{mag}
 use Rattle.model.specs.Model.{Job, listed, running, clock}
 use Rattle.model.specs.Verdict.{no_part}
-use Rattle.search_tables.specs.Arrays.{price_stride, lane_part, JobArrays}
+use Rattle.held_places.specs.Arrays.{price_stride}
+use Rattle.search_tables.specs.Arrays.{lane_part, JobArrays}
 use Rattle.lane_rows.specs.Layout.{top, dear}
 use Rattle.model.specs.Limits.{last_position, longest_life}
 

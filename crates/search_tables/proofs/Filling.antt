@@ -21,7 +21,8 @@ use Rattle.least.specs.Suffix.{code_of, Suffixes}
 use Rattle.least.proofs.Diff.{mag_sub}
 use Rattle.model.proofs.Bools.{after_one, there}
 use Rattle.least.proofs.Most.{AtMost, most_least}
-use Rattle.search_tables.specs.Arrays.{price_stride, price_size, lane_value_lem, lane_part, column_of, columns_from, fours_of_lem, sheet_of, Lived, Lifespans, Arrays}
+use Rattle.held_places.specs.Arrays.{price_stride, price_size, Timed}
+use Rattle.search_tables.specs.Arrays.{lane_value_lem, lane_part, column_of, columns_from, fours_of_lem, sheet_of, Arrays}
 use Rattle.search_tables.specs.Fill.{Triangle, own_of, reach_of, column, LaneFilled, Lanes, Terms}
 use Rattle.lane_rows.specs.Layout.{lane_count_lem, mark_count, dear, lane_limit, inf, triangle, block_rows, price_row, lane_rows_lem, suffix_base, reach_base, place, row_place, price_place, fee_base, fee_place, count_place, fours_place, lanes_in, tables_size}
 use Rattle.lane_rows.specs.Sheet.{Column, no_column}
@@ -244,12 +245,7 @@ lane_range l b f q = go (dec_lt q (length l))
     go (yes g) = rw (there l q (get_or l 0 0) 0 g) (f q)
     go (no g) = rw (get_or-eq_default l (get_or l 0 0) {n = q} (omega (arith, g))) (f 0)
 
-module _ {ls rs : List ℕ} {q : ℕ} {v f : ℤ} (r : Lifespans ls rs) (l : Lived ls rs q v f) where
-  -- the position of a lane's change before the first fits in 31 bits
-  pub change_small : Bits31 f
-  change_small = rw l.begins (omega (arith, mag_sub (pos (lane_value_lem rs q)) (pos (lane_value_lem ls q)), lane_range ls longest_life r.brief q, lane_range rs longest_life r.begun q))
-
--- the marks after a lane's last change are small
-pub marks_small : {e : ℤ} {ss : List ℤ} {fs ls rs ps : List ℕ} {q : ℕ} {v f : ℤ} → Arrays e ss fs ls rs ps → Lived ls rs q v f → (k : ℕ) → Bits31 (mark_of f ss k)
-marks_small ar l zero = change_small ar.lives l
-marks_small ar l (suc k) = omega (arith, ar.near k)
+-- the marks of a part whose life and first life are in range are small
+pub marks_small : {e : ℤ} {ss : List ℤ} (life left : ℕ) {f : ℤ} → life ≤ longest_life → left ≤ longest_life → Timed e ss → f ≡ pos left -ℤ pos life → (k : ℕ) → Bits31 (mark_of f ss k)
+marks_small life left l r t is zero = rw is (omega (arith, mag_sub (pos left) (pos life), l, r))
+marks_small life left l r t is (suc k) = omega (arith, t.near k)

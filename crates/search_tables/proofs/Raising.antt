@@ -22,6 +22,10 @@ use Rattle.lane_rows.proofs.Rising.{row_below}
 use Rattle.search_tables.specs.Fill.{Triangle, own_of, Raised, Terms}
 use Rattle.search_tables.proofs.Filling.{coded, offers_all}
 
+-- a triangle that is raised, by other words for its places
+pub raised_as : (sheet : Sheet) (col : Column) {at to : ℕ → ℕ → ℕ} {t u : List ℕ} → ((j i : ℕ) → at j i ≡ to j i) → Raised sheet col at t u → Raised sheet col to t u
+raised_as sheet col {at} {to} {t} {u} e = subst (λ (p : ℕ → ℕ → ℕ). Raised sheet col p t u) (λ k j i. e j i k)
+
 module _ (sheet : Sheet) (few : length sheet.positions ≤ 64) where
   -- none yet
   abbrev pub Cleared : List ℕ → List ℕ → Type 0
@@ -36,20 +40,20 @@ module _ (sheet : Sheet) (few : length sheet.positions ≤ 64) where
   terms_since t t' u q f s = record { size = s.size ∙ f.size; right = s.right; rest = λ x h. s.rest x h ∙ f.rest x (λ y l e. omega (arith, e)) }
 
   -- a part's own table
-  pub raised_by : (col : Column) (flags : List Bool) (tab t t' : List ℕ) → ((k : ℕ) → get_or flags k true ≡ true) → Suffixes col.life sheet.end col.first sheet.positions sheet.fees flags tab 0
-      → Triangle term_place (λ (j i : ℕ). max (get_or t (term_place j i) 0) (own_of tab j i)) (length sheet.positions + 1) t t' → Raised sheet col t t'
-  raised_by col flags tab t t' all s f =
+  pub raised_by : {at : ℕ → ℕ → ℕ} (col : Column) (flags : List Bool) (tab t t' : List ℕ) → ((k : ℕ) → get_or flags k true ≡ true) → Suffixes col.life sheet.end col.first sheet.positions sheet.fees flags tab 0
+      → Triangle at (λ (j i : ℕ). max (get_or t (at j i) 0) (own_of tab j i)) (length sheet.positions + 1) t t' → Raised sheet col at t t'
+  raised_by {at} col flags tab t t' all s f =
       record {
         size = f.size;
-        raised = λ j i h g.
-            f.done j i h (omega arith)
-            ∙ ap (λ (k : ℕ). max (get_or t (term_place j i) 0) (min k inf))
-            (s.rows j i (omega arith) g h ∙ ap (λ (os : List Offer). code_of (least_of_lem col.life sheet.end (mark_of col.first sheet.positions i) (drop j os))) (offers_all sheet.positions sheet.fees flags all));
-        rest = λ x h. f.rest x (λ j i l g e. omega (arith, e));
+        done = λ j i h g.
+            f.done j i h g
+            ∙ ap (λ (k : ℕ). max (get_or t (at j i) 0) (min k inf))
+            (s.rows j i (omega arith) (omega arith) h ∙ ap (λ (os : List Offer). code_of (least_of_lem col.life sheet.end (mark_of col.first sheet.positions i) (drop j os))) (offers_all sheet.positions sheet.fees flags all));
+        rest = f.rest;
       }
 
   -- one part more
-  pub terms_more : (t u v : List ℕ) (q : ℕ) → q < length sheet.columns → ((j : ℕ) → get_or sheet.fees j 0 ≤ top) → Raised sheet (get_or sheet.columns q no_column) u v → Terms sheet t u q → Terms sheet t v (q + 1)
+  pub terms_more : (t u v : List ℕ) (q : ℕ) → q < length sheet.columns → ((j : ℕ) → get_or sheet.fees j 0 ≤ top) → Raised sheet (get_or sheet.columns q no_column) term_place u v → Terms sheet t u q → Terms sheet t v (q + 1)
   terms_more t u v q h fair r s =
       record {
         size = r.size ∙ s.size;
@@ -59,11 +63,11 @@ module _ (sheet : Sheet) (few : length sheet.positions ≤ 64) where
             let x = get_or u (term_place j i) 0 in
             let e = fee_from sheet j i col [] in
             let y = min (code_of e) inf in
-            subst (λ (n : ℕ). Coded b n (largest (fee_from sheet j i) (take (q + 1) sheet.columns) [])) (sym (r.raised j i l g))
+            subst (λ (n : ℕ). Coded b n (largest (fee_from sheet j i) (take (q + 1) sheet.columns) [])) (sym (r.done j i l (omega arith)))
             (subst (Coded b (max x y)) (sym (one_more j i))
             (coded_larger b x y (largest (fee_from sheet j i) (take q sheet.columns) []) e (omega arith) (s.right j i l g)
             (coded b e y (omega arith) (most_least top col.life sheet.end (mark_of col.first sheet.positions i) sheet.positions sheet.fees [] j fair) refl)));
-        rest = λ x l. r.rest x l ∙ s.rest x l;
+        rest = λ x l. r.rest x (λ j i a b e. omega (arith, e)) ∙ s.rest x l;
       }
     where
       one_more : (j i : ℕ) → largest (fee_from sheet j i) (take (q + 1) sheet.columns) [] ≡ larger (largest (fee_from sheet j i) (take q sheet.columns) []) (fee_from sheet j i (get_or sheet.columns q no_column) [])

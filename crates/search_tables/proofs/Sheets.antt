@@ -15,7 +15,8 @@ use Rattle.model.specs.Verdict.{no_part}
 use Rattle.model.specs.LowerBound.{least_of_lem, offers, undecided_fees}
 use Rattle.model.specs.Unheld.{plain_part_bound, plain_part_fee, plain_bound}
 use Rattle.model.proofs.Unpaid.{unpaid, unpaid_least}
-use Rattle.search_tables.specs.Arrays.{price_stride, lane_part, column_of, columns_from, fours_of_lem, sheet_of, JobArrays}
+use Rattle.held_places.specs.Arrays.{price_stride}
+use Rattle.search_tables.specs.Arrays.{lane_part, column_of, columns_from, fours_of_lem, sheet_of, JobArrays}
 use Rattle.search_tables.proofs.Filling.{own_each, past}
 use Rattle.lane_rows.specs.Sheet.{column_bound, column_fee, sheet_bound}
 

@@ -1,20 +1,15 @@
--- Two loops, one in the other, that write a triangle of places: by one row more. And where a row of a block stands.
+-- Two loops, one in the other, that write a triangle of places: by one row more.
 use Prim.Native.Nat.{ℕ, ◌+◌, ◌≤◌, ◌<◌}
-use mathlib.Core.Path.{◌≡◌, refl, ◌∙◌}
+use mathlib.Core.Path.{◌≡◌, sym, subst, ◌∙◌}
 use mathlib.Core.List.{List}
+use native.Mathlib.Decide.{dec_le}
 use native.Mathlib.Omega.{arith}
 use borrow.Author.Count.{below_more}
 use lib.ListN.{get_or}
 use Rattle.least.specs.Filled.{FilledBy}
-use Rattle.lane_rows.specs.Layout.{mark_count, triangle, block_rows}
-use Rattle.lane_rows.proofs.Rising.{row_inside}
 use Rattle.search_tables.specs.Fill.{Triangle}
 
 module _ {at f : ℕ → ℕ → ℕ} {t : List ℕ} where
-  -- before the first row of a triangle nothing is written
-  pub triangle_none : Triangle at f 0 t t
-  triangle_none = record { size = refl; done = λ j i h l. absurd (omega arith); rest = λ x h. refl }
-
   -- row n, which is apart from those before it
   pub triangle_more : {n : ℕ} {u v : List ℕ} (g : ℕ → ℕ) → ((i : ℕ) → i ≤ n → g i ≡ f n i) → ((j i k : ℕ) → i ≤ j → j < n → k ≤ n → at j i ≡ at n k → ⊥) → FilledBy (at n) g (n + 1) u v
       → Triangle at f n t u → Triangle at f (n + 1) t v
@@ -28,6 +23,10 @@ module _ {at f : ℕ → ℕ → ℕ} {t : List ℕ} where
         rest = λ x h. r.rest x (λ k l e. h n k (omega arith) (omega arith) e) ∙ d.rest x (λ j i l g e. h j i l (omega arith) e);
       }
 
--- the row of mark i, of those of level j, stands in its block
-pub in_block : (j i row : ℕ) → i ≤ j → j < mark_count → row ≡ triangle j → row + i < block_rows
-in_block j i row h g e = omega (arith, row_inside j i mark_count h g)
+-- where no number that is written is above b, a number that was not stays so
+pub triangle_most : {at f : ℕ → ℕ → ℕ} {n : ℕ} {t u : List ℕ} (b : ℕ) → Triangle at f n t u → ((j i : ℕ) → i ≤ j → j < n → f j i ≤ b) → (x : ℕ) → get_or t x 0 ≤ b → get_or u x 0 ≤ b
+triangle_most {n = n} {t = t} {u = u} b r m x h = go (dec_le (get_or u x 0) b)
+  where
+    go : Dec (get_or u x 0 ≤ b) → get_or u x 0 ≤ b
+    go (yes l) = l
+    go (no l) = let same = r.rest x (λ j i a c e. l (subst (λ (y : ℕ). get_or u y 0 ≤ b) (sym e) (omega (arith, r.done j i a c, m j i a c)))) in omega (arith, same, h)

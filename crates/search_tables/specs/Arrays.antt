@@ -5,17 +5,10 @@ use Rattle.std.specs.Coded.{Coded-set, coded_bool, ×_prop}
 use Rattle.model.specs.Model.{Part, Job, positions, end, last_change_lem, fee_of}
 use Rattle.model.specs.LastYes.{Climbs}
 use Rattle.model.specs.Verdict.{no_part}
+use Rattle.held_places.specs.Arrays.{price_stride, price_size}
 use Rattle.lane_rows.specs.Layout.{lane_count_lem, top, dear}
 use Rattle.lane_rows.specs.Sheet.{Column, Sheet}
 use Rattle.model.specs.Limits.{last_position, longest_life, most_openings}
-
--- the prices of part q stand from q * 64 on
-abbrev pub price_stride : ℕ
-price_stride = 64
-
--- room for the prices of sixteen lanes
-abbrev pub price_size : ℕ
-price_size = 1024
 
 -- lane q's number, of the parts' numbers: past the last part it is the first part's
 abbrev pub lane_value_lem : List ℕ → ℕ → ℕ

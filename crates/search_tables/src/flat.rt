@@ -3,6 +3,7 @@ ghost use Rattle.search_tables.specs.Arrays.{Arrays, Climbs-prop};
 ghost use Rattle.std.proofs.Props.{props};
 
 // The end, the openings' positions and fees, the parts' lives and first lives, and 64 prices for each part.
+// Kept as slices side by side: each is lent; the positions go whole to each part, the fees whole to the tables and as prices to a part, and of the prices each part gets its own 64.
 #[derive(Clone, Copy)]
 pub struct FlatJob<'a> {
     pub end: i32,

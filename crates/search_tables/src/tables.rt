@@ -1,21 +1,24 @@
 // Filling the tables of the walk, one lane after the other.
-ghost use Rattle.std.specs.Prelude.{◌≡◌, ℕ, ◌+◌, ◌*◌, ◌<◌, ◌≤◌, min, length, get_or};
+ghost use Rattle.std.specs.Prelude.{◌≡◌, ℕ, ◌+◌, ◌*◌, ◌<◌, ◌≤◌, min, length, get_or, pos, ◌-ℤ◌};
 ghost use Rattle.least.specs.Filled.{FilledBy};
 ghost use Rattle.least.specs.Suffix.{table_size};
-ghost use Rattle.lane_rows.specs.Layout.{lane_count_lem, mark_count, inf, suffix_base, reach_base, place, price_place, fee_place, tables_size};
+ghost use Rattle.lane_rows.specs.Layout.{lane_count_lem, mark_count, inf, suffix_base, reach_base, place, price_place};
 ghost use Rattle.lane_rows.specs.Tables.{Tables};
 ghost use Rattle.search_tables.specs.Arrays.{lane_value_lem, lane_part, fours_of_lem, column_of, Lived};
-ghost use Rattle.search_tables.specs.Fill.{Triangle, own_of, reach_of, column, InLane, LaneAsks, LaneFilled, Lanes};
+ghost use Rattle.search_tables.specs.Fill.{Triangle, own_of, reach_of, column, LaneAsks, LaneFilled, Lanes};
 ghost use Rattle.search_tables.specs.Flat.{sheet_in};
-ghost use Rattle.model.specs.Limits.{most_openings};
+ghost use Rattle.held_places.specs.Arrays.{Timed};
+ghost use Rattle.model.specs.Limits.{longest_life, most_openings};
 
 use crate::flat::FlatJob;
-use lane_rows::{COUNT, FEES, FOURS, INF, LANES, PRICES, REACHES, SUFFIXES, row_of};
+use crate::rows::{put_at, turn_row, turn_rows};
+use lane_rows::{COUNT, FEES, FOURS, INF, LANES, PRICES, REACHES, SUFFIXES, TABLES};
 use least::offers::PartOffers;
 use least::{MARKS, in_reach, last_change, mark};
 use model::{OPENINGS, STRIDE};
 
 // Lane q's number: part q's, and past the last part the first part's.
+// Kept as a function of its own: it names the number that stands past the last, and is the library's `get` and `unwrap_or`.
 fn lane_value(values: &[u32], q: usize) -> u32
     requires { 0 < length values.now }
     ensures { result ≡ lane_value_lem values.now q }
@@ -24,6 +27,7 @@ fn lane_value(values: &[u32], q: usize) -> u32
 }
 
 // A number of a part's own table, as a lane has it.
+// Kept as `as`: the library has no `From` that narrows, and the minimum is one that fits.
 pub fn capped(v: u64) -> u32
     ensures { result ≡ min v inf }
 {
@@ -46,61 +50,50 @@ fn reach(part: &PartOffers<'_>, j: usize, i: usize) -> u32
     }
 }
 
-// One lane of the suffix prices from opening j on, from a part's own table.
-fn put_suffix(tab: &[u64], j: usize, q: usize, t: &mut [u32])
-    requires { (j < mark_count) × (table_size ≤ length tab.now) × (InLane q t.old) }
-    ensures { FilledBy (λ (i : ℕ). place suffix_base j i q) (λ (i : ℕ). own_of tab.now j i) (j + 1) t.old t.new }
+// Kept with the limits of q, m, j and i in the clauses: a lane, a level and a mark are plain numbers, and a type of bounded numbers would be taken apart at each index. Kept as slices with their room in the clause, here and in each function below that is handed a part's own table: one that is public may be lent more room than the table takes, and an array type would ask its callers for just so much.
+
+// The least price from opening j on after mark i, of a part's own table, as a lane has it.
+pub(crate) fn own(tab: &[u64], j: usize, i: usize) -> u32
+    requires { (table_size ≤ length tab.now) × (j < mark_count) × (i < mark_count) }
+    ensures { result ≡ own_of tab.now j i }
 {
-    let row = row_of(j);
-    for i in 0..j + 1 {
-        t[SUFFIXES + (row + i) * LANES + q] = capped(tab[j * MARKS + i]);
-    }
+    capped(tab[j * MARKS + i])
 }
 
-// One lane of the suffix prices from each of the first m openings on.
-fn put_suffixes(tab: &[u64], m: usize, q: usize, t: &mut [u32])
-    requires { (m ≤ mark_count) × (table_size ≤ length tab.now) × (InLane q t.old) }
+// One lane of the suffix prices from each of the first m openings on, from a part's own table.
+fn put_suffixes(tab: &[u64], m: usize, q: usize, t: &mut [u32; TABLES])
+    requires { (m ≤ mark_count) × (table_size ≤ length tab.now) × (q < lane_count_lem) }
     ensures { Triangle (λ (j i : ℕ). place suffix_base j i q) (own_of tab.now) m t.old t.new }
 {
-    for j in 0..m {
-        put_suffix(tab, j, q, t);
-    }
-}
-
-// One lane of the reach of opening j.
-fn put_reach(part: &PartOffers<'_>, j: usize, q: usize, t: &mut [u32])
-    requires { (j < length part.now.positions.now) × (InLane q t.old) }
-    ensures { FilledBy (λ (i : ℕ). place reach_base j i q) (λ (i : ℕ). reach_of part.now.life part.now.first part.now.positions.now j i) (j + 1) t.old t.new }
-{
-    let row = row_of(j);
-    for i in 0..j + 1 {
-        t[REACHES + (row + i) * LANES + q] = reach(part, j, i);
-    }
+    turn_rows(m, SUFFIXES + q, LANES, t, |j, i, _| own(tab, j, i));
 }
 
 // One lane of the reach of each opening.
-fn put_reaches(part: &PartOffers<'_>, q: usize, t: &mut [u32])
-    requires { InLane q t.old }
+fn put_reaches(part: &PartOffers<'_>, q: usize, t: &mut [u32; TABLES])
+    requires { q < lane_count_lem }
     ensures { Triangle (λ (j i : ℕ). place reach_base j i q) (reach_of part.now.life part.now.first part.now.positions.now) (length part.now.positions.now) t.old t.new }
 {
-    for j in 0..part.positions.len() {
-        put_reach(part, j, q, t);
-    }
+    turn_rows(
+        part.positions.len(),
+        REACHES + q,
+        LANES,
+        t,
+        |j, i, _| reach(part, j, i),
+    );
 }
 
 // One lane of the prices.
-fn put_prices(prices: &[u32], q: usize, t: &mut [u32])
-    requires { (length prices.now ≤ most_openings) × (InLane q t.old) }
+fn put_prices(prices: &[u32], q: usize, t: &mut [u32; TABLES])
+    requires { (length prices.now ≤ most_openings) × (q < lane_count_lem) }
     ensures { FilledBy (λ (j : ℕ). price_place j q) (λ (j : ℕ). get_or prices.now j 0) (length prices.now) t.old t.new }
 {
-    for (j, price) in prices.iter().enumerate() {
-        t[PRICES + j * LANES + q] = *price;
-    }
+    turn_row(prices.len(), PRICES + q, LANES, t, |j, _| prices[j]);
 }
 
-// All of a part's lane.
-fn fill_lane(part: &PartOffers<'_>, q: usize, tab: &mut [u64], t: &mut [u32])
-    requires { LaneAsks part.now.prices.now part.now.allowed.now q tab.old t.old }
+// The lane of one part: its suffix prices, its reach and its prices.
+// Kept as two parameters, here and where it is called: `tab` is room to work in, `t` what is filled, and neither is read by way of the other.
+fn fill_lane(part: &PartOffers<'_>, q: usize, tab: &mut [u64], t: &mut [u32; TABLES])
+    requires { LaneAsks part.now.prices.now part.now.allowed.now q tab.old }
     ensures { LaneFilled part.now.end part.now.positions.now (column part.now.life part.now.first part.now.prices.now) t.old t.new q }
 {
     part.fill(tab);
@@ -109,20 +102,41 @@ fn fill_lane(part: &PartOffers<'_>, q: usize, tab: &mut [u64], t: &mut [u32])
     put_prices(part.prices, q, t);
 }
 
-// The fees.
-fn put_fees(fees: &[u32], t: &mut [u32])
-    requires { (length fees.now ≤ most_openings) × (length t.old ≡ tables_size) }
-    ensures { FilledBy fee_place (λ (j : ℕ). get_or fees.now j 0) (length fees.now) t.old t.new }
-{
-    t[FEES..FEES + fees.len()].copy_from_slice(fees);
-}
-
 // As many fours of lanes as the parts fill.
 fn fours_of(parts: usize) -> usize
     requires { parts ≤ lane_count_lem }
     ensures { result ≡ fours_of_lem parts }
 {
     (parts + 3) / 4
+}
+
+// What a part of this life and first life is offered: its prices at the openings' positions, where they are allowed.
+// Kept as `as`: the library has no `From` of a u32 into an i32; a life is at most 1000.
+pub fn offered<'a>(
+    life: u32,
+    left: u32,
+    end: i32,
+    positions: &'a [i32],
+    prices: &'a [u32],
+    allowed: &'a [bool],
+) -> PartOffers<'a>
+    requires brief { (life ≤ longest_life) × (left ≤ longest_life) }
+    requires timed { Timed end positions.now }
+    requires rows { (length prices.now ≡ length positions.now) × (length allowed.now ≡ length positions.now) }
+    ensures lived { (result.life ≡ pos life) × (result.first ≡ pos left -ℤ pos life) }
+    ensures ends { result.end ≡ end }
+    ensures places { result.positions.now ≡ positions.now }
+    ensures priced { result.prices.now ≡ prices.now }
+    ensures allowed { result.allowed.now ≡ allowed.now }
+{
+    PartOffers {
+        life: life as i32,
+        end,
+        first: last_change(life, left),
+        positions,
+        prices,
+        allowed,
+    }
 }
 
 impl<'a> FlatJob<'a> {
@@ -138,19 +152,13 @@ impl<'a> FlatJob<'a> {
         ensures allowed { result.allowed.now ≡ allowed.now }
     {
         let life = lane_value(self.lives, q);
-        PartOffers {
-            life: life as i32,
-            end: self.end,
-            first: last_change(life, lane_value(self.lefts, q)),
-            positions: self.positions,
-            prices,
-            allowed,
-        }
+        let left = lane_value(self.lefts, q);
+        offered(life, left, self.end, self.positions, prices, allowed)
     }
 
     // Lane q: that of part q; past the last part it goes with the first part's, and its prices are 0.
-    fn fill_part(&self, q: usize, tab: &mut [u64], t: &mut [u32])
-        requires { (table_size ≤ length tab.old) × (InLane q t.old) }
+    fn fill_part(&self, q: usize, tab: &mut [u64], t: &mut [u32; TABLES])
+        requires { (table_size ≤ length tab.old) × (q < lane_count_lem) }
         ensures { LaneFilled self.now.end self.now.positions.now (column_of (lane_part (length self.now.positions.now) self.now.lives.now self.now.lefts.now self.now.prices.now q)) t.old t.new q }
     {
         let all = [true; OPENINGS];
@@ -160,8 +168,9 @@ impl<'a> FlatJob<'a> {
     }
 
     // The first `lanes` lanes.
-    fn fill_lanes(&self, lanes: usize, tab: &mut [u64], t: &mut [u32])
-        requires { (table_size ≤ length tab.old) × (length t.old ≡ tables_size) × (lanes ≤ lane_count_lem) }
+    // Kept as a range: more lanes than parts may be filled, so no slice has one entry for each.
+    fn fill_lanes(&self, lanes: usize, tab: &mut [u64], t: &mut [u32; TABLES])
+        requires { (table_size ≤ length tab.old) × (lanes ≤ lane_count_lem) }
         ensures { Lanes self.now.end self.now.positions.now self.now.lives.now self.now.lefts.now self.now.prices.now t.new lanes }
     {
         for q in 0..lanes {
@@ -170,13 +179,14 @@ impl<'a> FlatJob<'a> {
     }
 
     // The tables of the job in the arrays.
-    pub fn fill(&self, tab: &mut [u64], t: &mut [u32])
-        requires { (table_size ≤ length tab.old) × (length t.old ≡ tables_size) }
+    pub fn fill(&self, tab: &mut [u64], t: &mut [u32; TABLES])
+        requires { table_size ≤ length tab.old }
         ensures { Tables (sheet_in self.now) t.new }
     {
         let fours = fours_of(self.lives.len());
         self.fill_lanes(fours * 4, tab, t);
-        put_fees(self.fees, t);
+        put_at(t, FEES, self.fees);
+        // Kept as `as`: the library has no `From` of a usize into a u32; both numbers are at most 64.
         t[COUNT] = self.fees.len() as u32;
         t[FOURS] = fours as u32;
         self.put_terms(tab, t);

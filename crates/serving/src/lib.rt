@@ -1,12 +1,12 @@
 // The latest-time habit: changes each part at the last of given stops that still serves.
+// Kept as an output, a text and a plan in the functions that put lines: the first is written and the others are read, and a struct of the two would be made for one call.
 #![tactic(auto)]
 
 ghost use Rattle.std.specs.Prelude.{◌≡◌, Bool, List, length};
 ghost use Rattle.line_writing.specs.Puts.{Puts, Room};
 ghost use Rattle.model.specs.Model as model;
 ghost use Rattle.jobs.specs.Views.{job_of, plan_for};
-ghost use Rattle.jobs.specs.Valid.{Sound};
-ghost use Rattle.job_text.specs.Views.{given_of, SoundText};
+ghost use Rattle.job_text.specs.Views.{given_in};
 ghost use Rattle.plan_grammar.specs.Grammar.{read_plan_lem};
 ghost use Rattle.answers.specs.Said.{lent, Replied};
 ghost use Rattle.latest.specs.Latest.{number_of, latest_plan_of, latest_answer_of};
@@ -14,10 +14,10 @@ ghost use Rattle.serving.specs.Serve.{latest_lines, said_for, on_plan, latest_sa
 ghost use Rattle.serving.specs.Serving.{answer_in, Fits};
 ghost use Rattle.serving.specs.Promise.{ServePromise};
 
-use answers::{Answer, refuse};
-use job_text::text::JobText;
+use answers::{Answer, JOB, PLAN, refuse, reply};
+use job_text::accepted::AcceptedText;
 use job_text::whole::read_job;
-use jobs::{Job, Plan};
+use jobs::{Accepted, Plan};
 use latest_changes::latest_plan;
 use line_writing::output::Out;
 use plan_costs::costs::cost_of;
@@ -29,9 +29,9 @@ use plan_text::whole::read_plan;
 pub const ROOM: usize = 16384;
 
 // What the plan with the latest changes says of its stops: they serve if it keeps every part, and then its cost is there.
-fn serving_of(job: Job, plan: Plan) -> Option<u64>
-    requires { Sound job }
-    ensures { (stops : List Bool) → plan_for job plan ≡ latest_plan_of (job_of job) stops → answer_in (plan_for job plan) result ≡ latest_answer_of (job_of job) stops }
+// Kept as a match, and not `.ok().map(..)`: it names both verdicts, and `ok` would pass over a part that is not kept without a word.
+fn serving_of(job: &Accepted, plan: &Plan) -> Option<u64>
+    ensures { (stops : List Bool) → plan_for job.now.job plan.now ≡ latest_plan_of (job_of job.now.job) stops → answer_in (plan_for job.now.job plan.now) result ≡ latest_answer_of (job_of job.now.job) stops }
 {
     let cost = cost_of(job, plan);
     match verdict_of(job, plan) {
@@ -50,52 +50,49 @@ fn number_of(s: Option<u64>) -> u32
     }
 }
 
-// The lines of the answer and of its plan.
-fn put_serving(out: &mut Out, s: Option<u64>, text: JobText, plan: Plan)
-    requires { Fits s × SoundText text × Room out.old (latest_lines (given_of text) (answer_in (plan_for text.job plan) s)) }
-    ensures { Puts out.old (latest_lines (given_of text) (answer_in (plan_for text.job plan) s)) out.new }
+// Puts the lines of what is found and of its plan.
+fn put_serving(out: &mut Out, s: Option<u64>, text: &AcceptedText, plan: &Plan)
+    requires { Fits s × Room out.old (latest_lines (given_in text.now) (answer_in (plan_for text.now.job.job plan.now) s)) }
+    ensures { Puts out.old (latest_lines (given_in text.now) (answer_in (plan_for text.now.job.job plan.now) s)) out.new }
 {
+    let number = u64::from(number_of(s));
     match s {
         Some(cost) => {
-            out.put_line(b"result=", 0);
+            out.put_line(b"result=", number);
             put_printed(out, text, cost, plan);
         }
-        None => out.put_line(b"result=", 6),
+        None => out.put_line(b"result=", number),
     }
 }
 
-// The answer, with its plan.
-fn answer(s: Option<u64>, text: JobText, plan: Plan, out: &mut [u8]) -> Answer
-    requires { Fits s × SoundText text }
-    ensures { Replied latest_room (said_for (given_of text) (answer_in (plan_for text.job plan) s)) out.old out.new result }
+// Answers the call by what is found, with its plan.
+fn answer(s: Option<u64>, text: &AcceptedText, plan: &Plan, out: &mut [u8]) -> Answer
+    requires { Fits s }
+    ensures { Replied latest_room (said_for (given_in text.now) (answer_in (plan_for text.now.job.job plan.now) s)) out.old out.new result }
 {
-    if out.len() < ROOM {
-        return Answer::no_room();
-    }
-    let mut lines = Out { bytes: out, at: 0 };
-    put_serving(&mut lines, s, text, plan);
-    Answer::plain(number_of(s), lines.at)
+    reply(
+        number_of(s),
+        ROOM,
+        out,
+        |lines| put_serving(lines, s, text, plan),
+    )
 }
 
-// The answer to an accepted job text and a plan that is stated: only its stops count.
-fn serve(text: JobText, stated: Plan, out: &mut [u8]) -> Answer
-    requires { SoundText text }
-    ensures { Replied latest_room (said_for (given_of text) (latest_answer_of (job_of text.job) (plan_for text.job stated).stops)) out.old out.new result }
+// Answers the call for an accepted job text and a plan that is stated: only its stops count.
+fn serve(text: &AcceptedText, stated: &Plan, out: &mut [u8]) -> Answer
+    ensures { Replied latest_room (said_for (given_in text.now) (latest_answer_of (job_of text.now.job.job) (plan_for text.now.job.job stated.now).stops)) out.old out.new result }
 {
-    let stops = stated.stops;
-    let job = text.job;
-    let plan = latest_plan(job, stops);
-    answer(serving_of(job, plan), text, plan, out)
+    let plan = latest_plan(&text.job, stated.stops);
+    answer(serving_of(&text.job, &plan), text, &plan, out)
 }
 
-// The plan text against an accepted job text.
-fn serve_plan(text: JobText, plan: &[u8], out: &mut [u8]) -> Answer
-    requires { SoundText text }
-    ensures { Replied latest_room (on_plan plan.now (given_of text) (read_plan_lem (job_of text.job) plan.now)) out.old out.new result }
+// Answers the call for an accepted job text: by what the plan text reads as against it.
+fn serve_plan(text: &AcceptedText, plan: &[u8], out: &mut [u8]) -> Answer
+    ensures { Replied latest_room (on_plan plan.now (given_in text.now) (read_plan_lem (job_of text.now.job.job) plan.now)) out.old out.new result }
 {
-    match read_plan(plan, text.job) {
-        Ok(stated) => serve(text, stated.plan, out),
-        Err(fault) => refuse(plan, 2, fault.kind.number(), fault.line, ROOM, out),
+    match read_plan(plan, &text.job.job) {
+        Ok(stated) => serve(text, &stated.plan, out),
+        Err(fault) => refuse(plan, PLAN, fault.kind.number(), fault.line, ROOM, out),
     }
 }
 
@@ -107,8 +104,9 @@ pub fn latest(job: &[u8], plan: &[u8], out: &mut [u8]) -> Answer
     ensures serve_promise { ServePromise job.now plan.now (length out.old)
         (lent latest_room (length out.old) (latest_said job.now plan.now)) }
 {
+    // Kept in each call: the arm for a fault is one call of `refuse`, and one function for all calls would take the rest of each as a closure over the text and the output.
     match read_job(job) {
-        Ok(text) => serve_plan(text, plan, out),
-        Err(fault) => refuse(job, 1, fault.kind.number(), fault.line, ROOM, out),
+        Ok(text) => serve_plan(&text, plan, out),
+        Err(fault) => refuse(job, JOB, fault.kind.number(), fault.line, ROOM, out),
     }
 }

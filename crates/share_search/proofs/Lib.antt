@@ -1,1 +1,2 @@
 -- What is handed back is what the walks found.
+pub mod Ends

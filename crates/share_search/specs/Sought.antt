@@ -1,5 +1,5 @@
 -- What the search by shares finds of a job: the best of all plans; or that one of its walks has more nodes than the limit; or that no plan costs less than the last cutoff. And a floor.
-use Rattle.std.specs.Prelude.{ℕ, ◌<◌, ◌≤◌, ◌≡◌, Bool, true, false, Some, None, List, length}
+use Rattle.std.specs.Prelude.{ℕ, ◌<◌, ◌≤◌, ◌≡◌, Bool, true, false, Option, Some, None, Result, Ok, Err, List, length}
 use Rattle.branch.specs.declared.Bound.TheVariants.{Sum}
 use Rattle.model.specs.Model.{Job}
 use Rattle.model.specs.Promise.{BestPlan, Any}
@@ -12,6 +12,8 @@ use Rattle.jobs.specs.declared.Plan as code
 use Rattle.search.specs.declared.Found.{Found}
 use Rattle.search.specs.Found.{plan_found}
 use Rattle.cutoffs.specs.declared.Risen.{Risen}
+use Rattle.cutoffs.specs.declared.found.Undercut.{Undercut}
+use Rattle.cutoffs.specs.declared.found.Over.{Over}
 use Rattle.cutoffs.specs.Risen.{RisenRight}
 
 -- a walk by some fair shares from some cutoff has more nodes than the limit
@@ -22,9 +24,20 @@ Longer job limit = (shares : Shares) × FairShares job shares × (k : ℕ) × (l
 abbrev pub Rises : Job → ℕ → List Bool → Risen → Type 0
 Rises job limit best r = (shares : Shares) × FairShares job shares × RisenRight job shares limit best r
 
+-- a walk was cut
+abbrev pub over_of : Result (Option Undercut) Over → Bool
+over_of (Ok o) = false
+over_of (Err o) = true
+
+-- what the plan costs that was found, if one was
+abbrev pub cost_of : Result (Option Undercut) Over → Option ℕ
+cost_of (Ok None) = None
+cost_of (Ok (Some u)) = Some u.cost
+cost_of (Err o) = None
+
 -- where the walks ended, with this plan
 abbrev pub found_of_lem : Risen → code.Plan → Found
-found_of_lem r plan = record { count = 0; over = r.over; cost = r.cost; floor = Sum r.floor; plan = plan }
+found_of_lem r plan = record { count = 0; over = over_of r.found; cost = cost_of r.found; floor = Sum r.floor; plan = plan }
 
 -- what is found
 pub record Sought (job : Job) (limit : ℕ) (r : Found) : Type 0 where

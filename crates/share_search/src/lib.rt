@@ -1,12 +1,13 @@
 // The cheapest plan of a job, by walks with fair shares from cutoffs below: the tables, the walks, and the plan of the name that they find.
+// Kept with the limit of a walk in the clauses: it is a plain number, and a type of numbers below 2 to the 63rd would be made and taken apart once in each call. Kept as slices with their room in the clauses: an array would ask for just so much.
 #![tactic(auto)]
 
-ghost use Rattle.std.specs.Prelude.{◌≡◌, ◌<◌, ◌≤◌, ◌^◌, length};
+ghost use Rattle.std.specs.Prelude.{◌≡◌, ◌<◌, ◌≤◌, ◌^◌, Ok, Some, length, take};
 ghost use Rattle.model.specs.Model.{Job};
 ghost use Rattle.shares.specs.Certificate.{NoneUnder};
 ghost use Rattle.least.specs.Suffix.{table_size};
 ghost use Rattle.held_tables.specs.Numbers.{Holds};
-ghost use Rattle.share_walk.specs.State.{name_size};
+ghost use Rattle.cutoffs.specs.declared.found.Undercut.{Undercut};
 ghost use Rattle.share_search.specs.Sought.{found_of_lem, Rises, Sought};
 
 use branch::Bound;
@@ -30,8 +31,7 @@ fn walked(
     best: &mut [bool; NAMES],
 ) -> Risen
     requires { ((job : Job) × Holds job numbers.now) × (table_size ≤ length tab.old) × (limit < 2 ^ 63) }
-    ensures right { (job : Job) → Holds job numbers.now → NoneUnder job floor → Rises job limit best.new result }
-    ensures short { result.size ≤ name_size }
+    ensures { (job : Job) → Holds job numbers.now → NoneUnder job floor → Rises job limit best.new result }
 {
     let mut t = [0; TABLES];
     let mut x = [0; SHARES];
@@ -41,14 +41,24 @@ fn walked(
     rise(&t, &x, &mut w, &mut name, best, value, floor, limit)
 }
 
+// The name that the walks found, in the buffer that they wrote it to; it is empty where they found none.
+fn name_in(risen: Risen, best: &[bool; NAMES]) -> &[bool]
+    ensures { (u : Undercut) → risen.found ≡ Ok (Some u) → result.now ≡ take u.size best.now }
+{
+    match risen.found {
+        Ok(Some(plan)) => &best[..plan.size],
+        _ => &best[..0],
+    }
+}
+
 // What the walks found, with the plan of the name.
 fn found_of(risen: Risen, plan: Plan) -> Found
     ensures { result ≡ found_of_lem risen plan }
 {
     Found {
         count: 0,
-        over: risen.over,
-        cost: risen.cost,
+        over: risen.found.is_err(),
+        cost: risen.found.ok().flatten().map(|plan| plan.cost),
         floor: Bound::Sum(risen.floor),
         plan,
     }
@@ -62,6 +72,6 @@ pub fn search_shared(numbers: &HeldNumbers, floor: u64, limit: u64) -> Found
     let mut tab = [0; TABLE];
     let mut best = [false; NAMES];
     let risen = walked(numbers, floor, limit, &mut tab, &mut best);
-    let plan = plan_of(numbers, &best[..risen.size], &mut tab);
+    let plan = plan_of(numbers, name_in(risen, &best), &mut tab);
     found_of(risen, plan)
 }

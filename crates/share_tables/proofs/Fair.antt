@@ -5,12 +5,15 @@ use mathlib.Core.Bool.{Bool, true, false, cond}
 use mathlib.Core.List.{List, [], ◌∷◌}
 use native.Mathlib.Omega.{arith}
 use native.Mathlib.Nat.{mul-div-le}
+use native.Mathlib.Numerals.{add-one}
 use native.Mathlib.Decide.{dec_lt}
 use borrow.Author.Tests.{lt-ltb, le-ltb, leb-true, lt-leb, le-leb, eq-eqb, ne_eqb}
 use lib.Dec.{leb}
 use lib.ListN.{length, get_or, drop, get_or-eq_default}
 use lib.Seq.{get_or-take, get_or-drop}
 use lib.IntN.{ℤ}
+use Rattle.std.specs.List.{range_with_len, sum_by}
+use Rattle.std.proofs.lemmas.List.Sums.{sum_by-cons}
 use Rattle.model.specs.Model.{Job, sum}
 use Rattle.model.specs.Decisions.{Held, held_parts, held_at}
 use Rattle.model.specs.Verdict.{part_at}
@@ -48,11 +51,15 @@ unfolding sum
 sum_times zero from c = omega arith
 sum_times (suc n) from c = omega (arith, sum_times n (suc from) c)
 
--- a sum of n + 1 numbers is that of the first n and the last
-pub sum_last : (n from : ℕ) (f : ℕ → ℕ) → sum from (suc n) f ≡ sum from n f + f (from + n)
+-- the library's sum over a range of n numbers, in the definition's words
+pub sum_range : (n from : ℕ) (f : ℕ → ℕ) → sum_by f (range_with_len from n) ≡ sum from n f
 unfolding sum
-sum_last zero from f = let z : from + 0 ≡ from = omega arith in rw z (omega arith)
-sum_last (suc n) from f = let z : from + suc n ≡ suc from + n = omega arith in rw z (omega (arith, sum_last n (suc from) f))
+sum_range zero from f = refl
+sum_range (suc n) from f = sum_by-cons f from (range_with_len (from + 1) n) ∙ ap (λ (k : ℕ). f from + k) (rw (add-one from) (sum_range n (suc from) f))
+
+-- a sum of numbers that are at most c
+pub sum_most : (n from c : ℕ) (f : ℕ → ℕ) → ((m : ℕ) → f m ≤ c) → sum from n f ≤ n * c
+sum_most n from c f h = omega (arith, sum_mono n from f (λ (m : ℕ). c) (λ m a b. h m), sum_times n from c)
 
 bears_less : (b : Bool) (v : ℕ) → cond b v 0 ≤ v
 bears_less true v = omega arith

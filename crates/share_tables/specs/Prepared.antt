@@ -1,5 +1,5 @@
 -- A job's lanes, always sixteen: past its last part each is a part that lasts to the end. And its prices with all shares.
-use Rattle.std.specs.Prelude.{ℕ, ◌+◌, ◌/◌, ◌%◌, ◌<◌, ◌≤◌, ◌≡◌, List, [], length, get_or}
+use Rattle.std.specs.Prelude.{Bool, ℕ, ◌+◌, ◌*◌, ◌/◌, ◌%◌, ◌<◌, ◌≤◌, ◌≡◌, List, [], length, get_or}
 use Rattle.model.specs.Limits.{longest_life}
 use Rattle.model.specs.Model.{Job, sum, table}
 use Rattle.model.specs.Decisions.{Held, held_parts}
@@ -7,7 +7,7 @@ use Rattle.shares.specs.Shares.{FairShares}
 use Rattle.lane_rows.specs.Layout.{lane_count_lem, dear}
 use Rattle.share_rows.specs.Places.{bear_place}
 use Rattle.share_walk.specs.State.{Solvable}
-use Rattle.fair_shares.specs.Checked.{shares_in}
+use Rattle.fair_shares.specs.Checked.{shares_in, Kept, Marked}
 
 -- a part that lasts to the end of every job
 abbrev pub spare_held : Held
@@ -33,6 +33,13 @@ shared_in ps x things i = get_or ps i 0 + borne_at_lem x things (i % 64) (i / 64
 -- no price with its shares is above the highest
 abbrev pub Roomy : List ℕ → List ℕ → ℕ → Type 0
 Roomy ps x things = (i : ℕ) → i < 1024 → shared_in ps x things i ≤ dear
+
+-- x is a marked table with what is kept of some shares, whatever they are
+pub record KeptOf (nd : List Bool) (parts : ℕ) (ps fs rm x : List ℕ) : Type 0 where
+  pub raw : List ℕ
+  pub before : List ℕ
+  pub marked : Marked nd parts rm before
+  pub kept : Kept raw ps fs rm (length rm + 1) before x ((length rm + 1) * 64)
 
 -- the tables t and x are those of a job's walk by fair shares
 pub record Prepared (job : Job) (t x : List ℕ) : Type 0 where

@@ -1,36 +1,28 @@
 // The tables of the walk by fair shares, from a job's arrays.
 #![tactic(auto)]
 
-ghost use Rattle.std.specs.Prelude.{◌≡◌, ℕ, ◌+◌, ◌*◌, ◌/◌, ◌%◌, ◌<◌, ◌≤◌, length, get_or};
+ghost use Rattle.std.specs.Prelude.{◌≡◌, ℕ, ◌+◌, ◌*◌, ◌/◌, ◌%◌, ◌<◌, ◌≤◌, length};
 ghost use Rattle.least.specs.Filled.{FilledBy};
 ghost use Rattle.model.specs.Limits.{most_openings};
 ghost use Rattle.model.specs.Model.{Job};
 ghost use Rattle.least.specs.Suffix.{table_size};
 ghost use Rattle.held_tables.specs.Numbers.{Holds};
 ghost use Rattle.lane_rows.specs.Layout.{lane_count_lem, inf};
-ghost use Rattle.share_rows.specs.Places.{most_things, share_size};
-ghost use Rattle.share_tables.specs.Prepared.{Padded, borne_at_lem, shared_in, Roomy, Prepared};
+ghost use Rattle.share_rows.specs.Places.{most_things};
+ghost use Rattle.share_tables.specs.Prepared.{Padded, borne_at_lem, shared_in, Roomy, KeptOf, Prepared};
 
 use ascent::ascend;
 use ascent_lanes::PLACES;
 use fair_shares::raw::RawShares;
 use fair_shares::{check, mark};
-use held_lanes::number;
 use held_tables::numbers::HeldNumbers;
 use lane_rows::{LANES, TABLES};
-use model::{PARTS, PRICES};
+use model::{OPENINGS, PARTS, PRICES, STRIDE};
 use search_tables::flat::FlatJob;
 use share_rows::SHARES;
 
 // The longest life.
 const LONGEST: u32 = 1000;
-
-// A part's number, or the longest life past the last part.
-fn life_at(values: &[u32], q: usize) -> u32
-    ensures { result ≡ get_or values.now q 1000 }
-{
-    values.get(q).copied().unwrap_or(LONGEST)
-}
 
 // The parts' lives or first lives, and past them the longest.
 fn padded(values: &[u32]) -> [u32; PARTS]
@@ -38,32 +30,52 @@ fn padded(values: &[u32]) -> [u32; PARTS]
 {
     let mut out = [0; PARTS];
     for (q, life) in out.iter_mut().enumerate() {
-        *life = life_at(values, q);
+        *life = values.get(q).copied().unwrap_or(LONGEST);
     }
     out
 }
 
 // What lane q bears of the first things at opening k.
-fn borne_at(x: &[u32], things: usize, k: usize, q: usize) -> u64
-    requires { (length x.now ≡ share_size) × (things ≤ most_things) × (k < most_openings) × (q < lane_count_lem) }
+fn borne_at(x: &[u32; SHARES], things: usize, k: usize, q: usize) -> u64
+    requires { (things ≤ most_things) × (k < most_openings) × (q < lane_count_lem) }
     ensures { result ≡ borne_at_lem x.now things k q }
 {
-    let mut sum: u64 = 0;
-    for m in 0..things {
-        sum += number(x, (m * 64 + k) * LANES + q) as u64;
-    }
-    sum
+    (0..things)
+        .map(|m| u64::from(x[(m * OPENINGS + k) * LANES + q]))
+        .sum()
 }
 
 // The prices with all shares.
-fn put_shared(prices: &[u32], x: &[u32], things: usize, all: &mut [u32])
-    requires { (length prices.now ≡ 1024) × (length x.now ≡ share_size) × (things ≤ most_things) × (length all.old ≡ 1024) × Roomy prices.now x.now things }
+fn put_shared(prices: &[u32], x: &[u32; SHARES], things: usize, all: &mut [u32; PRICES])
+    requires { (length prices.now ≡ 1024) × (things ≤ most_things) × Roomy prices.now x.now things }
     ensures { FilledBy (λ (i : ℕ). i) (shared_in prices.now x.now things) 1024 all.old all.new }
 {
-    for i in 0..1024 {
-        let sum = borne_at(x, things, i % 64, i / 64);
-        all[i] = (number(prices, i) as u64 + sum) as u32;
+    for (i, shared) in all.iter_mut().enumerate() {
+        let sum = borne_at(x, things, i % STRIDE, i / STRIDE);
+        // Kept as a cast: by `Roomy` it loses nothing, where a `try_from` would ask what else to write.
+        *shared = (u64::from(prices[i]) + sum) as u32;
     }
+}
+
+// The table of shares, with what is kept of those that an ascent finds, and how much the ascent says that they are worth.
+fn share(numbers: &HeldNumbers, t: &[u32; TABLES], x: &mut [u32; SHARES]) -> u64
+    ensures kept { KeptOf numbers.now.needs.now (length numbers.now.job.lives.now) numbers.now.job.prices.now numbers.now.job.fees.now numbers.now.removals.now x.new }
+    ensures value { result ≤ lane_count_lem * inf }
+{
+    let mut found = [0; PLACES];
+    let job = numbers.job;
+    mark(numbers.needs, job.lives.len(), numbers.removals, x);
+    let value = ascend(t, x, job.lives.len(), &mut found);
+    let (fees, removals) = (job.fees, numbers.removals);
+    let shares = RawShares {
+        raw: &found,
+        prices: job.prices,
+        fees,
+        removals,
+        things: removals.len() + 1,
+    };
+    check(&shares, x);
+    value
 }
 
 // The tables of the walk of a job by shares that an ascent finds: what the ascent says of their value is no part of the promise.
@@ -80,7 +92,6 @@ pub fn prepare(
     let job = numbers.job;
     let long = padded(job.lives);
     let first = padded(job.lefts);
-    let mut found = [0; PLACES];
     let mut all = [0; PRICES];
     let wide = FlatJob {
         end: job.end,
@@ -91,18 +102,9 @@ pub fn prepare(
         prices: job.prices,
     };
     wide.fill(tab, t);
-    mark(numbers.needs, job.lives.len(), numbers.removals, x);
-    let value = ascend(t, x, job.lives.len(), &mut found);
-    let (fees, removals) = (job.fees, numbers.removals);
-    let shares = RawShares {
-        raw: &found,
-        prices: job.prices,
-        fees,
-        removals,
-        things: removals.len() + 1,
-    };
-    check(&shares, x);
-    put_shared(job.prices, x, shares.things, &mut all);
+    let value = share(numbers, t, x);
+    put_shared(job.prices, x, numbers.removals.len() + 1, &mut all);
+    // Kept as a second literal: a field that is a reference can't be given one of another lifetime, and `..wide` is refused for a struct with ghost fields.
     let shared = FlatJob {
         end: job.end,
         positions: job.positions,

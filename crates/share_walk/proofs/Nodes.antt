@@ -50,6 +50,10 @@ kept_low h p = go (ltb p.next h)
     go true = omega arith
     go false = omega arith
 
+-- a row that is put is put by what is the same in its lanes
+pub put_as : {f g : ℕ → ℕ} {w w' : List ℕ} {n m : ℕ} → ((q : ℕ) → q < lane_count_lem → f q ≡ g q) → Put lane_count_lem f w w' n m → Put lane_count_lem g w w' n m
+put_as e u = record { kept = u.kept; row = λ q l. u.row q l ∙ e q l; mark = u.mark }
+
 -- a memo that is right for n + 1 rows is right for the first n
 pub memo_less : (t w : List ℕ) (n : ℕ) → Memo t w (n + 1) → Memo t w n
 memo_less t w n m = record { none = m.none; steep = λ k l. m.steep k (omega arith); right = λ k l a. m.right k l (omega arith) }

@@ -239,16 +239,20 @@ module _ (job : Job) (shares : Shares) (lanes : List Held) (s : List Bool) (t x 
       roomy = omega (arith, a.room, name_room m)
 
       -- after the walk of the first node below, the name's beginning is still the node's
-      pub first_name : take p.size n₁ ≡ s
+      first_name : take p.size n₁ ≡ s
       first_name = name_less name n₁ s p.size no.size false (wn.name_kept ∙ name_more name s p.size no.size false a.name_is roomy no_size) no_size nu.named
 
       -- the walk of the first node below leaves the name's buffer as long as before
-      pub first_long_lem2 : length n₁ ≡ length name
+      first_long_lem2 : length n₁ ≡ length name
       first_long_lem2 = wn.room.0 ∙ length-set name p.size false
 
       -- the walk of the first node below keeps the node's rows and their memo
-      pub first_kept : Recalled t w₁ w₃ (kept_rows h p)
+      first_kept : Recalled t w₁ w₃ (kept_rows h p)
       first_kept = recalled_then t w₁ w₂ w₃ (kept_rows h p) (kept_rows h no) bn.kept_more bn.frame.kept wn.frame
+
+      -- all three, of the walk of the first node below
+      pub first_leaves : (take p.size n₁ ≡ s) × (length n₁ ≡ length name) × Recalled t w₁ w₃ (kept_rows h p)
+      first_leaves = (first_name, first_long_lem2, first_kept)
 
       -- and what both do
       module _ (yes : Node) (w₄ w₅ : List ℕ) (n₂ b₂ : List Bool) (r₂ : State)

@@ -2,16 +2,14 @@
 use Rattle.std.specs.Prelude.{ℕ, ◌+◌, ◌-◌, ◌*◌, ◌<◌, ◌≤◌, ◌≡◌, Bool, true, false, cond, List, ◌∷◌, ◌++◌, ltb, length, get_or, take}
 use Rattle.branch.specs.Search.{Tree, plan, Limited, limited, snoc}
 use Rattle.branch.specs.Questions.{left_at}
-use Rattle.model.specs.Limits.{most_openings}
 use Rattle.model.specs.Model.{Job}
 use Rattle.model.specs.Decisions.{Held}
 use Rattle.model.specs.LowerBound.{inner, node_at}
 use Rattle.shares.specs.Shares.{Shares, charged_for}
 use Rattle.shares.specs.Optimum.{shared_bound}
 use Rattle.shares.specs.Lift.{Level}
-use Rattle.lane_rows.specs.Layout.{lane_count_lem, mark_count, top, row_place, stack_size}
+use Rattle.lane_rows.specs.Layout.{lane_count_lem, top, row_place}
 use Rattle.lane_rows.specs.Rows.{Memo, Recalled}
-use Rattle.share_rows.specs.Places.{most_things, share_size}
 use Rattle.share_rows.specs.Tables.{Lanes, SharedTables, ShareTable}
 use Rattle.share_rows.specs.Stacked.{Stacked, TopRow}
 use Rattle.share_walk.specs.declared.Node.{Node}
@@ -141,16 +139,6 @@ pub record SharesWalked (job : Job) (shares : Shares) (s : List Bool) (t w w' : 
   pub name_kept : take p.size name' ≡ take p.size name
   pub room : (length name' ≡ length name) × (length best' ≡ length best)
   pub lower : r.cost ≤ a.cost
-
--- what putting a row on the stack asks: the row of a stop that leaves `at` openings decided, above n rows, by its thing m
-pub record PutAsks (x w row : List ℕ) (m at n : ℕ) : Type 0 where
-  pub size : length x ≡ share_size
-  pub thing : m < most_things
-  pub stack : length w ≡ stack_size
-  pub few : n < mark_count
-  pub deep : n ≤ at
-  pub near : at ≤ most_openings
-  pub lanes : length row ≡ lane_count_lem
 
 -- what the walk of a job is given: its tables, by these shares
 pub record Solvable (job : Job) (shares : Shares) (lanes : List Held) (t x : List ℕ) : Type 0 where

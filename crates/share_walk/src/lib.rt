@@ -1,29 +1,30 @@
 // The counted walk of the planner's tree by fair shares, from a known cost: a node, the state, the nodes below, and the recursion.
+// Kept as two parameters in the functions here: the tables `t` and `x`. Tried as a struct of both, each function that reads one had to take it out into a variable first, and each contract to name the struct as it is at the call.
+// Kept as three parameters of `walk` and `solve`: what they write, the stack `w`, the name at hand and the best one. A struct of the three would be lent anew at each of the two calls that a node makes.
 #![tactic(auto)]
 
-ghost use Rattle.std.specs.Prelude.{◌≡◌, Bool, true, false, not, cond, ◌&&◌, List, ℕ, ◌+◌, ◌^◌, ◌<◌, ◌≤◌, ltb, eqb, length, get_or, take};
-ghost use Rattle.model.specs.Limits.{most_openings};
+ghost use Rattle.std.specs.Prelude.{◌≡◌, Bool, true, false, not, ◌&&◌, List, ℕ, ◌+◌, ◌^◌, ◌<◌, ◌≤◌, ltb, eqb, length, get_or, take};
 ghost use Rattle.model.specs.Model.{Job};
 ghost use Rattle.model.specs.Decisions.{Held};
 ghost use Rattle.model.specs.LowerBound.{inner};
 ghost use Rattle.known_cost.specs.Known.{walk_under};
 ghost use Rattle.shares.specs.Shares.{Shares as Split};
 ghost use Rattle.shares.specs.Optimum.{tree_by, shared_bound};
-ghost use Rattle.lane_rows.specs.Layout.{lane_count_lem, inf, count_place, lanes_in, stack_size, tables_size};
+ghost use Rattle.lane_rows.specs.Layout.{lane_count_lem, mark_count, inf, count_place, lanes_in, row_place};
 ghost use Rattle.lane_rows.specs.Rows.{Put, Memo, Owing, next_row};
-ghost use Rattle.share_rows.specs.Places.{bear_place, take_place, holds_place, share_size, eased_of};
-ghost use Rattle.share_walk.specs.State.{name_size, counted_s, stopped_s, kept_s, view, open_n, asked_n, PutAsks, At, Above, Below, SharesWalked, Solvable};
+ghost use Rattle.share_rows.specs.Places.{bear_place, holds_place, eased_of};
+ghost use Rattle.share_walk.specs.State.{name_size, counted_s, stopped_s, kept_s, view, open_n, asked_n, At, Above, Below, SharesWalked, Solvable};
 
+pub use held_lanes::NAMES;
 use held_lanes::number;
 use lane_rows::{
     COUNT, FEES, INF, LANES, STACK, TABLES, base_row, cell, look_by_fours, next_lanes,
 };
-use share_rows::{HOLDS, REMOVALS, SHARES, copy_row, ease, put_top, shut};
-
-// The most decisions that a name has.
-pub const NAMES: usize = 1088;
+use share_rows::{HOLDS, REMOVALS, SHARES, ease, put_top, shut};
 
 // The state of the walk, passed by value and handed back: the nodes reached, whether one was reached beyond the limit, the cost to be undercut, and how long the name of the incumbent is.
+// Kept with a cost and a length where there is no incumbent yet: the cost is the one to be undercut from the start. Kept with `over` beside them: a walk that is cut has its count and its incumbent too. Kept with a length apart from the name, which stands in a lent buffer of a fixed size, without a heap.
+// Kept beside the state of `walk`: an incumbent there is 64 bits, here a name in a buffer, and there a node beyond the limit is counted, here it is said.
 #[derive(Clone, Copy)]
 pub struct State {
     pub count: u64,
@@ -60,6 +61,7 @@ impl State {
 }
 
 // A node: how many openings are decided; the rows on the stack; how many removals of the last stop are decided, all of them where none is open; how long its name is; and fees and removals so far.
+// Kept beside the node of `held_nodes`: that one settles a stop's row late, by the lanes and removals that it holds, and this one has its row on the stack.
 #[derive(Clone, Copy)]
 pub struct Node {
     pub at: usize,
@@ -111,16 +113,15 @@ impl Node {
 }
 
 // The decisions of a full node are kept.
-fn keep(name: &[bool], best: &mut [bool], size: usize)
-    requires { (size ≤ name_size) × (length name.now ≡ name_size) × (length best.old ≡ name_size) }
-    ensures { (take size best.new ≡ take size name.now) × (length best.new ≡ name_size) }
+fn keep(name: &[bool; NAMES], best: &mut [bool; NAMES], size: usize)
+    requires { size ≤ name_size }
+    ensures { take size best.new ≡ take size name.now }
 {
     best[..size].copy_from_slice(&name[..size]);
 }
 
 // Something is left to decide at a node.
-fn undecided(t: &[u32], x: &[u32], p: Node) -> bool
-    requires { (length t.now ≡ tables_size) × (length x.now ≡ share_size) }
+fn undecided(t: &[u32; TABLES], x: &[u32; SHARES], p: Node) -> bool
     ensures { result ≡ not (not (ltb p.next (get_or x.now holds_place 0)) && eqb p.at (get_or t.now count_place 0)) }
 {
     if p.next < number(x, HOLDS) {
@@ -129,43 +130,30 @@ fn undecided(t: &[u32], x: &[u32], p: Node) -> bool
     p.at != cell(t, COUNT, 0)
 }
 
-// A row whose thing m at opening k is paid stands above n rows.
-// Kept beside put_shut: a function of both would have to say in its contract what a closure leaves in the lanes, which is no plainer.
-fn put_eased(x: &[u32], w: &mut [u32], row: &[u32], m: usize, k: usize, at: usize, n: usize)
-    requires { PutAsks x.now w.old row.now m at n × (k < most_openings) }
-    ensures put { Put lane_count_lem (λ (q : ℕ). eased_of (get_or row.now q 0) (get_or x.now (bear_place m k q) 0)) w.old w.new n at }
-    ensures memo { (t : List ℕ) → lanes_in t ≡ lane_count_lem → Memo t w.old n → Memo t w.new (n + 1) }
+// The lanes of row n of the stack.
+fn lanes_of(w: &[u32; STACK], n: usize) -> [u32; LANES]
+    requires { n < mark_count }
+    ensures { (q : ℕ) → q < lane_count_lem → get_or result q 0 ≡ get_or w.now (row_place n q) 0 }
 {
-    let mut acc = [0; LANES];
-    copy_row(row, 0, &mut acc);
-    ease(x, m, k, &mut acc);
-    put_top(w, at, n, &acc);
-}
-
-// A row that is shut to the lanes that take thing m stands above n rows.
-fn put_shut(x: &[u32], w: &mut [u32], row: &[u32], m: usize, at: usize, n: usize)
-    requires { PutAsks x.now w.old row.now m at n }
-    ensures put { Put lane_count_lem (λ (q : ℕ). cond (eqb (get_or x.now (take_place m q) 0) 0) (get_or row.now q 0) inf) w.old w.new n at }
-    ensures memo { (t : List ℕ) → lanes_in t ≡ lane_count_lem → Memo t w.old n → Memo t w.new (n + 1) }
-{
-    let mut acc = [0; LANES];
-    copy_row(row, 0, &mut acc);
-    shut(x, m, &mut acc);
-    put_top(w, at, n, &acc);
+    let mut lanes = [0; LANES];
+    lanes.copy_from_slice(&w[n * LANES..n * LANES + LANES]);
+    lanes
 }
 
 // The row of a stop at opening `at` stands above the others: all is owed there but the fee's shares.
-fn put_stop(t: &[u32], x: &[u32], w: &mut [u32], at: usize, rows: usize)
-    requires { (Owing lane_count_lem t.now w.old at rows) × (length x.now ≡ share_size) × (rows ≤ at + 1) }
+fn put_stop(t: &[u32; TABLES], x: &[u32; SHARES], w: &mut [u32; STACK], at: usize, rows: usize)
+    requires { (Owing lane_count_lem t.now w.old at rows) × (rows ≤ at + 1) }
     ensures put { Put lane_count_lem (λ (q : ℕ). eased_of (next_row t.now w.old at rows q) (get_or x.now (bear_place 0 at q) 0)) w.old w.new rows (at + 1) }
     ensures memo { (t : List ℕ) → lanes_in t ≡ lane_count_lem → Memo t w.old rows → Memo t w.new (rows + 1) }
 {
-    let mut acc = [INF; LANES];
-    next_lanes(4, t, w, at, rows, &mut acc);
-    put_eased(x, w, &acc, 0, at, at + 1, rows);
+    let mut lanes = [INF; LANES];
+    next_lanes(4, t, w, at, rows, &mut lanes);
+    ease(x, 0, at, &mut lanes);
+    put_top(w, at + 1, rows, &lanes);
 }
 
 // The node below an opening: no stop, or a stop.
+// Kept with a flag, as the two functions below are: one contract says what holds of both answers, and two functions each would say it twice.
 fn below_opening(
     t: &[u32; TABLES],
     x: &[u32; SHARES],
@@ -179,7 +167,7 @@ fn below_opening(
 {
     if yes {
         put_stop(t, x, w, p.at, p.rows);
-        return p.yes(cell(t, FEES, p.at) as u64);
+        return p.yes(u64::from(t[FEES + p.at]));
     }
     p.no()
 }
@@ -189,19 +177,22 @@ fn below_stop(
     t: &[u32; TABLES],
     x: &[u32; SHARES],
     w: &mut [u32; STACK],
-    row: &[u32],
+    row: &[u32; LANES],
     p: Node,
     out: bool,
 ) -> Node
-    requires { ((job : Job) × (shares : Split) × (lanes : List Held) × (s : List Bool) × Above job shares lanes s t.now x.now w.old row.now p × (p.next < inner job)) × (length row.now ≡ lane_count_lem) }
+    requires { (job : Job) × (shares : Split) × (lanes : List Held) × (s : List Bool) × Above job shares lanes s t.now x.now w.old row.now p × (p.next < inner job) }
     ensures { (job : Job) (shares : Split) (lanes : List Held) (s : List Bool) → Above job shares lanes s t.now x.now w.old row.now p → p.next < inner job
         → Below job shares lanes s t.now x.now w.old w.new p out result }
 {
+    let mut lanes = *row;
     if out {
-        put_eased(x, w, row, p.next + 1, p.at - 1, p.at, p.rows - 1);
-        return p.asked(number(x, REMOVALS + p.next) as u64);
+        ease(x, p.next + 1, p.at - 1, &mut lanes);
+        put_top(w, p.at, p.rows - 1, &lanes);
+        return p.asked(u64::from(x[REMOVALS + p.next]));
     }
-    put_shut(x, w, row, p.next + 1, p.at, p.rows - 1);
+    shut(x, p.next + 1, &mut lanes);
+    put_top(w, p.at, p.rows - 1, &lanes);
     p.asked(0)
 }
 
@@ -210,11 +201,11 @@ fn below(
     t: &[u32; TABLES],
     x: &[u32; SHARES],
     w: &mut [u32; STACK],
-    row: &[u32],
+    row: &[u32; LANES],
     p: Node,
     yes: bool,
 ) -> Node
-    requires { ((job : Job) × (shares : Split) × (lanes : List Held) × (s : List Bool) × Above job shares lanes s t.now x.now w.old row.now p × (p.next ≡ inner job → p.at < length job.openings)) × (length row.now ≡ lane_count_lem) }
+    requires { (job : Job) × (shares : Split) × (lanes : List Held) × (s : List Bool) × Above job shares lanes s t.now x.now w.old row.now p × (p.next ≡ inner job → p.at < length job.openings) }
     ensures { (job : Job) (shares : Split) (lanes : List Held) (s : List Bool) → Above job shares lanes s t.now x.now w.old row.now p → (p.next ≡ inner job → p.at < length job.openings)
         → Below job shares lanes s t.now x.now w.old w.new p yes result }
 {
@@ -235,7 +226,7 @@ pub fn walk(
     p: Node,
     s: State,
 ) -> State
-    requires { ((job : Job) × (shares : Split) × (lanes : List Held) × (nm : List Bool) × At job shares lanes nm t.now x.now w.old name.old p) × (s.cost ≤ inf) × (limit < 2 ^ 63) × (length best.old ≡ name_size) }
+    requires { ((job : Job) × (shares : Split) × (lanes : List Held) × (nm : List Bool) × At job shares lanes nm t.now x.now w.old name.old p) × (s.cost ≤ inf) × (limit < 2 ^ 63) }
     ensures { (job : Job) (shares : Split) (lanes : List Held) (nm : List Bool) → At job shares lanes nm t.now x.now w.old name.old p
         → SharesWalked job shares nm t.now w.old w.new name.old name.new best.old best.new limit p s result }
 {
@@ -251,8 +242,7 @@ pub fn walk(
         keep(name, best, p.size);
         return c.kept(e, p.size);
     }
-    let mut row = [0; LANES];
-    copy_row(w, (p.rows - 1) * LANES, &mut row);
+    let row = lanes_of(w, p.rows - 1);
     let size = p.size;
     name[size] = false;
     let no = below(t, x, w, &row, p, false);
@@ -272,11 +262,8 @@ pub fn solve(
     cost: u64,
     limit: u64,
 ) -> State
-    requires { ((job : Job) × (shares : Split) × (lanes : List Held) × Solvable job shares lanes t.now x.now) × (cost ≤ inf) × (limit < 2 ^ 63) × (length w.old ≡ stack_size) × (length name.old ≡ name_size) × (length best.old ≡ name_size) }
-    ensures search { (job : Job) (shares : Split) (lanes : List Held) → Solvable job shares lanes t.now x.now → view result best.new ≡ walk_under (tree_by job (shared_bound job shares)) cost limit }
-    ensures stack { length w.new ≡ stack_size }
-    ensures names { length name.new ≡ name_size }
-    ensures found { length best.new ≡ name_size }
+    requires { ((job : Job) × (shares : Split) × (lanes : List Held) × Solvable job shares lanes t.now x.now) × (cost ≤ inf) × (limit < 2 ^ 63) }
+    ensures { (job : Job) (shares : Split) (lanes : List Held) → Solvable job shares lanes t.now x.now → view result best.new ≡ walk_under (tree_by job (shared_bound job shares)) cost limit }
 {
     base_row(w);
     let root = Node {

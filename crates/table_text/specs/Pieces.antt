@@ -1,5 +1,5 @@
 -- The lines `key=N` of a table's text, the pieces behind them, and where to read on.
-use Rattle.std.specs.Prelude.{ℕ, ◌+◌, cond, List, leb, ltb, length, drop, Option, Some, None}
+use Rattle.std.specs.Prelude.{ℕ, ◌+◌, ◌≤◌, ◌<◌, ◌≡◌, cond, List, [], ◌∷◌, leb, ltb, length, drop, Option, Some, None}
 use Rattle.lines.specs.Line.{read_line_lem}
 use Rattle.fault_lines.specs.declared.fault.Span.{Span}
 use Rattle.table_text.specs.declared.Head.{Head}
@@ -24,3 +24,8 @@ piece_at table at key = piece_of (length table) (head_at_lem table at key)
 -- the place behind a row, past the place where it begins
 abbrev pub onward_from : ℕ → ℕ → ℕ → ℕ
 onward_from size at next = cond (ltb at next) next size
+
+-- rows that are read from a place on, from the state f to the state h: each by a step, which answers where it ends
+unfoldable pub Walks : {F : Type 0} → (F → ℕ → ℕ → F → Type 0) → ℕ → ℕ → F → List ℕ → F → Type 0
+Walks step size at f [] h = (size ≤ at) × (f ≡ h)
+Walks {F} step size at f (next ∷ ends) h = (at < size) × ((g : F) × step f at next g × Walks step size (onward_from size at next) g ends h)

@@ -5,11 +5,10 @@ ghost use Rattle.std.specs.Prelude.{◌≡◌};
 ghost use Rattle.model.specs.Verdict as model;
 ghost use Rattle.model.specs.Verdict.{judged_of};
 ghost use Rattle.jobs.specs.Views.{job_of, plan_for};
-ghost use Rattle.jobs.specs.Valid.{Sound};
 ghost use Rattle.plan_lives.specs.Views.{model_verdict};
 ghost use Rattle.verdict.specs.Views.{model_judgement};
 
-use jobs::{Job, Plan};
+use jobs::{Accepted, Plan};
 use plan_costs::costs::cost_of;
 use plan_lives::lives::{Late, verdict_of};
 
@@ -34,9 +33,8 @@ pub fn judged(stated: u64, cost: u64, verdict: Result<(), Late>) -> Judgement
 }
 
 // The judgement on a plan of an accepted job, and on the cost stated with it.
-pub fn judgement_of(job: Job, stated: u32, plan: Plan) -> Judgement
-    requires { Sound job }
-    ensures { model_judgement result ≡ judged_of (job_of job) stated (plan_for job plan) }
+pub fn judgement_of(job: &Accepted, stated: u32, plan: &Plan) -> Judgement
+    ensures { model_judgement result ≡ judged_of (job_of job.now.job) stated (plan_for job.now.job plan.now) }
 {
     let verdict = verdict_of(job, plan);
     let cost = cost_of(job, plan);

@@ -9,10 +9,11 @@ use native.Mathlib.Nat.{add-zero, two-pow-succ, pow-le-pow_right}
 use borrow.Author.Tests.{ltb-false, lt-ltb, le-ltb}
 use lib.Dec.{ltb, leb}
 use lib.ListN.{length, get_or, length-append}
+use Rattle.std.specs.Prelude.{Some, None}
 use Rattle.branch.specs.declared.Bound.{Bound}
 use Rattle.branch.specs.declared.Bound.TheVariants.{Missing, Sum}
 use Rattle.branch.specs.Lower.{add, total}
-use Rattle.branch.specs.Search.{snoc, Limited, with_best, onward}
+use Rattle.branch.specs.Search.{none, plan, snoc, Limited, with_best, onward}
 use Rattle.branch.specs.Label.{tree_of, limited_from, open_from}
 use Rattle.branch.proofs.Bounds.{no_sum_lem, sum_inj}
 use Rattle.branch.proofs.Steps.{bound_at, open_full, open-both}
@@ -26,7 +27,7 @@ use Rattle.lane_rows.specs.Layout.{lane_count_lem, top, dear, inf, suffix_base, 
 use Rattle.lane_rows.specs.Sheet.{Column, Sheet, column_bound, part_sums, fee_term, sheet_bound}
 use Rattle.lane_rows.specs.Tables.{sum_where, Tables}
 use Rattle.lane_rows.specs.Rows.{lane, sum_lanes, FirstRow, Rows, Stack, Memo, Looks, Recalled, term_at, sums_at, Put, Kept, next_row, Owing, Settled}
-use Rattle.walk.specs.State.{bits, decided, view, viewed, no_cost, counted_s, kept_s, reached_s, undropped, open_s, no_n, yes_n, Pending, ready, owed, At}
+use Rattle.walk.specs.State.{bits, decided, view, viewed, no_cost, counted_s, kept_s, reached_s, undropped, open_s, found_as, no_n, yes_n, Pending, ready, owed, At}
 use Rattle.lane_rows.proofs.Front.{column_yes}
 use Rattle.lane_rows.proofs.Terms.{last_most, first_by, below_by, own_by, node_term, sums_by}
 use Rattle.lane_rows.proofs.Lanes.{lane_most, sum_most, node_there, node_rises, rows_no, rows_yes, rows_kept, rows_root, first_sums_lem, kept_refl, stack_no, stack_yes}
@@ -343,6 +344,13 @@ module _ (limit spent : ℕ) (s : Search) where
       go : (b : Bool) → cond b Missing (undropped spent (Sum x) s) ≡ Missing → Missing ≡ cond b Missing (undropped spent (Sum z) s)
       go true g = refl
       go false g = sym (ap (λ (b : Bool). cond b (Sum z) Missing) (dropped (viewed (spent + x) s) refl g))
+
+-- ---- the incumbent
+
+-- the cost and name that are handed over are those of the best full plan, if there is one
+pub found_is : (b : Bool) (c : ℕ) (l : List Bool) → found_as l (cond b (Some c) None) ≡ cond b (plan c l) none
+found_is true c l = refl
+found_is false c l = refl
 
 -- ---- the first node
 

@@ -5,6 +5,7 @@ use mathlib.Core.Bool.{false}
 use mathlib.Core.List.{List, []}
 use native.Mathlib.Omega.{arith}
 use borrow.Author.Tests.{le-ltb}
+use lib.Dec.{ltb}
 use lib.ListN.{length, get_or}
 use Rattle.branch.specs.declared.Bound.{Bound}
 use Rattle.branch.specs.declared.Bound.TheVariants.{Missing, Sum}
@@ -18,8 +19,8 @@ use Rattle.lane_rows.specs.Layout.{lanes_in, term_place}
 use Rattle.lane_rows.specs.Sheet.{Sheet, sheet_bound}
 use Rattle.lane_rows.specs.Tables.{sum_where, Tables}
 use Rattle.lane_rows.specs.Rows.{sum_lanes, FirstRow}
-use Rattle.walk.specs.State.{bits, no_cost, view, counted_s, reached_s, open_s, solved_s, At, Solves}
-use Rattle.walk.proofs.Nodes.{Due, due_at, due_bound, root_given, Opened, closed_walked, open-walked}
+use Rattle.walk.specs.State.{bits, no_cost, view, counted_s, reached_s, open_s, over_s, solved_s, At, Solves}
+use Rattle.walk.proofs.Nodes.{Due, due_at, due_bound, root_given, Opened, closed_walked, open-walked, found_is}
 
 abbrev pub root : Node
 root = record { at = 0; rows = 1; spent = 0; mask = 0 }
@@ -57,7 +58,7 @@ module _ (sheet : Sheet) (t w : List ℕ) (ta : Tables sheet t) (fr : FirstRow w
         let n = length sheet.positions in
         record {
           floor = f ∙ due_bound sheet root b due root_due;
-          walked = e ∙ ap (limited_from (sheet_bound sheet) limit n []) (fresh-view limit n);
+          walked = (λ i. record { count = min s.count limit; over = over_s limit s; incumbent = found_is (ltb s.cost no_cost) s.cost (bits n s.mask) i }) ∙ e ∙ ap (limited_from (sheet_bound sheet) limit n []) (fresh-view limit n);
         }
 
     -- the first node is not walked on

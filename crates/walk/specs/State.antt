@@ -1,5 +1,5 @@
 -- The code's state and node as the search's, and what the walk is given at a node.
-use Rattle.std.specs.Prelude.{ℕ, zero, suc, ◌+◌, ◌*◌, ◌/◌, ◌%◌, ◌^◌, ◌<◌, ◌≤◌, min, ◌≡◌, Bool, true, false, cond, List, [], ltb, leb, eqb, length}
+use Rattle.std.specs.Prelude.{ℕ, zero, suc, ◌+◌, ◌*◌, ◌/◌, ◌%◌, ◌^◌, ◌<◌, ◌≤◌, min, ◌≡◌, Bool, true, false, cond, List, [], ltb, leb, eqb, length, Option, Some, None}
 use Rattle.branch.specs.declared.Bound.{Bound}
 use Rattle.branch.specs.declared.Bound.TheVariants.{Missing, Sum}
 use Rattle.branch.specs.Search.{Incumbent, none, plan, snoc, Limited, at_most}
@@ -10,7 +10,7 @@ use Rattle.walk.specs.declared.Node.{Node}
 use Rattle.walk.specs.declared.Solved.{Solved}
 use Rattle.lane_rows.specs.Layout.{lane_count_lem, top, inf}
 use Rattle.lane_rows.specs.Sheet.{Sheet, part_sums, sheet_bound}
-use Rattle.lane_rows.specs.Tables.{Tables}
+use Rattle.lane_rows.specs.Tables.{sum_where, Tables}
 use Rattle.lane_rows.specs.Rows.{Rows, Memo}
 
 -- k decisions in a number, the latest in its lowest bit
@@ -67,6 +67,15 @@ undropped spent (Sum x) s = cond (viewed (spent + x) s) (Sum x) Missing
 abbrev pub open_s : ℕ → ℕ → Bound → Search → Bound
 open_s limit spent e s = cond (leb limit s.count) Missing (undropped spent e s)
 
+-- another number in the place of one that is there
+unfoldable pub instead : ℕ → Bound → Bound
+instead d Missing = Missing
+instead d (Sum x) = Sum d
+
+-- the fees and term h of a node, if its term is there and part sums of x do not drop it
+abbrev pub due_s : ℕ → ℕ → ℕ → ℕ → Search → Bound
+due_s limit spent h x s = instead (spent + h) (open_s limit (spent + h) (sum_where h x) s)
+
 -- the two nodes below
 abbrev pub no_n : Node → ℕ → Node
 no_n p n = record { at = p.at + 1; rows = n; spent = p.spent; mask = p.mask * 2 }
@@ -94,11 +103,16 @@ pub record At (sheet : Sheet) (t w : List ℕ) (p : Node) (stop : Bool) (e : Bou
 
 -- the state at the end, with the floor
 abbrev pub solved_s : Bound → ℕ → Search → Solved
-solved_s floor limit s = record { floor = floor; count = min s.count limit; over = over_s limit s; found = ltb s.cost no_cost; cost = s.cost; mask = s.mask }
+solved_s floor limit s = record { floor = floor; count = min s.count limit; over = over_s limit s; cost = cond (ltb s.cost no_cost) (Some s.cost) None; mask = s.mask }
+
+-- the best full plan, if there is one: its cost, and its name l
+abbrev pub found_as : List Bool → Option ℕ → Incumbent
+found_as l None = none
+found_as l (Some c) = plan c l
 
 -- what is handed over, as the search has it
 abbrev pub limited_s : ℕ → Solved → Limited
-limited_s n r = record { count = r.count; over = r.over; incumbent = cond r.found (plan r.cost (bits n r.mask)) none }
+limited_s n r = record { count = r.count; over = r.over; incumbent = found_as (bits n r.mask) r.cost }
 
 -- what the search of a sheet gives: the first node's bound, and the walk's last state
 pub record Solves (sheet : Sheet) (limit : ℕ) (r : Solved) : Type 0 where

@@ -3,14 +3,12 @@
 
 ghost use Rattle.std.specs.Prelude.{◌≡◌, true, false, ℕ, ◌+◌, ◌-◌, ◌*◌, ◌^◌, ◌<◌, ◌≤◌, min, length};
 ghost use Rattle.branch.specs.Label.{open_from};
-ghost use Rattle.branch.specs.Lower.{add};
-ghost use Rattle.branch.specs.declared.Bound.{Bound};
 ghost use Rattle.branch.specs.declared.Bound.TheVariants.{Sum};
 ghost use Rattle.lane_rows.specs.Layout.{lane_count_lem, inf, suffix_base, lanes_in};
 ghost use Rattle.lane_rows.specs.Sheet.{Sheet, sheet_bound};
 ghost use Rattle.lane_rows.specs.Tables.{Tables};
 ghost use Rattle.lane_rows.specs.Rows.{lane, sum_lanes, Looks, Recalled, term_at, sums_at};
-ghost use Rattle.walk.specs.State.{decided, view, viewed, counted_s, kept_s, over_s, reached_s, open_s, solved_s, no_n, yes_n, At, Solves};
+ghost use Rattle.walk.specs.State.{decided, view, viewed, counted_s, kept_s, over_s, reached_s, open_s, due_s, solved_s, no_n, yes_n, At, Solves};
 
 use branch::Bound;
 use lane_rows::{
@@ -23,6 +21,8 @@ use lane_rows::{
 pub const NO_COST: u64 = 18446744073709551615;
 
 // The state of the search, passed by value and handed back: the nodes reached, one more than the limit where one was reached beyond it; the incumbent's cost; and its decisions, the latest in the lowest bit.
+// Kept without the limit, which is handed beside it with what is asked of it: as a field it would have to be said to be handed back as it was in each contract, and the same recursion in Rust takes 15.9 ns a node of the job 03_t1_d100 either way.
+// Kept beside the state of share_walk: an incumbent is 64 bits here and a name in a buffer there, and a node beyond the limit is counted here and said there.
 #[derive(Clone, Copy)]
 pub struct Search {
     pub count: u64,
@@ -64,6 +64,7 @@ impl Search {
     }
 
     // A node is reached: one more, and at most one beyond the limit.
+    // Kept with the limit beside the search, here and below, for the reason at `Search`; that it is not the highest number is asked where one more is counted.
     pub fn reached(self, limit: u64) -> Search
         requires { limit + 1 < 2 ^ 64 }
         ensures { result ≡ reached_s limit self }
@@ -91,7 +92,22 @@ impl Search {
         Bound::Missing
     }
 
+    // The fees and term of a node, if it is walked on by what is known before any lane is summed: its term h is there, and part sums of x, which are no more than its own, do not drop it.
+    pub fn tested(self, limit: u64, spent: u64, h: u64, x: u64) -> Bound
+        requires { (spent + inf + lane_count_lem * inf < 2 ^ 64) × (x ≤ lane_count_lem * inf) }
+        ensures { result ≡ due_s limit spent h x self }
+    {
+        let Bound::Sum(g) = value(h) else {
+            return Bound::Missing;
+        };
+        let Bound::Sum(_) = self.open(limit, spent + g, Bound::Sum(x)) else {
+            return Bound::Missing;
+        };
+        Bound::Sum(spent + g)
+    }
+
     // The part sums of a node that is walked on, the no over the rows that are there; `spent` are its fees. They are Missing exactly where its term is, and else at least x: so before any row is summed the node is tested with x.
+    // Kept beside `tested`: with a call of it here the walk is compiled to 558 instructions, without it to 553, more of them in the loop whose time a node is the bar; a time of its own was not taken.
     pub fn open_rows(
         self,
         t: &[u32; TABLES],
@@ -127,6 +143,7 @@ pub struct Node {
 
 impl Node {
     // The node below: no stop at the next opening.
+    // Kept with the place in the clause, here and in `yes`: a node at the last place has no branches, and is a node too.
     pub fn no(self, rows: usize) -> Node
         requires { (self.at < 64) × (self.mask * 2 < 2 ^ 64) }
         ensures { result ≡ no_n self rows }
@@ -154,6 +171,7 @@ impl Node {
 }
 
 // Walks on from the node p, which is counted and not dropped, with part sums x. `stop`: its last decision is a yes, whose row is not yet on the stack.
+// Kept as a flag: a node whose row is owed is walked on by the same steps, of which `settle` alone asks for it.
 pub fn walk(
     t: &[u32; TABLES],
     w: &mut [u32; STACK],
@@ -177,7 +195,7 @@ pub fn walk(
         Bound::Sum(y) => walk(t, w, limit, p.no(rows), false, y, s.counted()),
         Bound::Missing => s.reached(limit),
     };
-    let fee = cell(t, FEES, p.at) as u64;
+    let fee = u64::from(t[FEES + p.at]);
     let Bound::Sum(y) = a.open(limit, p.spent + fee + term(t, j, j), Bound::Sum(x)) else {
         return a.reached(limit);
     };
@@ -186,14 +204,14 @@ pub fn walk(
     b
 }
 
-// What the whole search gives: the floor; the nodes walked, and whether there are more; whether there is an incumbent, its cost and its decisions.
+// What the whole search gives: the floor; the nodes walked, and whether there are more; the incumbent's cost, if there is one, and its decisions.
+// Kept as a flag: that there are more nodes is said beside the nodes walked and beside any incumbent, so it has no value that it stands for.
 #[derive(Clone, Copy)]
 pub struct Solved {
     pub floor: Bound,
     pub count: u64,
     pub over: bool,
-    pub found: bool,
-    pub cost: u64,
+    pub cost: Option<u64>,
     pub mask: u64,
 }
 
@@ -205,7 +223,7 @@ impl Search {
         self.count.min(limit)
     }
 
-    // The state at the end.
+    // What is handed over of the state at the end of the walk, with the floor.
     pub fn solved(self, floor: Bound, limit: u64) -> Solved
         ensures { result ≡ solved_s floor limit self }
     {
@@ -213,22 +231,10 @@ impl Search {
             floor,
             count: self.within(limit),
             over: self.over(limit),
-            found: self.cost < NO_COST,
-            cost: self.cost,
+            cost: (self.cost < NO_COST).then_some(self.cost),
             mask: self.mask,
         }
     }
-}
-
-// A number more than a bound.
-pub fn plus(n: u64, e: Bound) -> Bound
-    requires { (x : ℕ) → e ≡ Sum x → n + x < 2 ^ 64 }
-    ensures { result ≡ add (Sum n) e }
-{
-    let Bound::Sum(x) = e else {
-        return Bound::Missing;
-    };
-    Bound::Sum(n + x)
 }
 
 // The whole search with a limit, over the tables of a sheet.
@@ -239,7 +245,7 @@ pub fn solve(t: &[u32; TABLES], w: &mut [u32; STACK], limit: u64) -> Solved
     base_row(w);
     let sums = first_sums(t);
     let due = term(t, 0, 0);
-    let floor = plus(due, sums);
+    let floor = sums.plus(due);
     let begun = Search {
         count: 0,
         cost: NO_COST,

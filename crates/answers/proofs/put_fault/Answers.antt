@@ -6,8 +6,8 @@ use Rattle.answers.proofs.put_fault.Goals as goal
 
 pub put_three-requires : goal.put_three-requires
 unfolding fault_lines_lem bytes
-put_three-requires c = (omega (arith, c.ranges.text.fits), omega (arith, c.ranges.line.fits), c.requires)
+put_three-requires c = rw (c.from.ensures, c.from-2.ensures) (omega (arith, c.ranges.text.fits), omega (arith, c.ranges.line.fits), c.requires)
 
 pub returns : goal.returns
 unfolding fault_lines_lem bytes
-returns c = c.put_three.ensures
+returns c = rw (← c.from.ensures, ← c.from-2.ensures) c.put_three.ensures

@@ -6,4 +6,4 @@ use Rattle.jobs.specs.Views.{job_of}
 use Rattle.clock.proofs.due_of.Given as goal
 
 abbrev pub invariant-loop-s : goal.invariant-loop-s
-invariant-loop-s l = l.due ≡ last_within_lem (job_of l.fn.job) (pos l.life) l.prev (l.s - 1)
+invariant-loop-s l = l.due ≡ last_within_lem (job_of l.fn.job.job) (pos l.life) l.prev (l.s - 1)

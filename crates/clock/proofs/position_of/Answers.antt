@@ -8,7 +8,7 @@ use Rattle.clock.proofs.Ranges.{clocked, position_bits}
 use Rattle.clock.proofs.position_of.Goals as goal
 
 pub returns : goal.returns
-returns c = let here = clocked (job_of c.args.job) c.args.step c.requires.1 in
-    let e = c.running_steps-at.ensures c.args.step c.requires.1 in
+returns c = let here = clocked (job_of c.args.job.now.job) c.args.step c.requires in
+    let e = c.running_steps-at.ensures c.args.step c.requires in
     let z = position_bits (get_or c.running_steps-at.result c.args.step (pos 0)) (subst Position (sym e) here) ∙ e in
     (z, subst Position (sym z) here)

@@ -36,4 +36,4 @@ loop-s-preserved c = let l = c.loop-s in
     )
 
 pub returns : goal.returns
-returns c s h = (c.loop-s.invariant.1 (job_of c.args.job) c.idle_steps-idle.ensures).done s (omega arith)
+returns c s h = (c.loop-s.invariant.1 (job_of c.args.job.now.job) c.idle_steps-idle.ensures).done s (omega arith)

@@ -1,19 +1,18 @@
--- `is_reached`: none of the set before place i has j in its row.
-use Prim.Native.Nat.{ℕ}
-use mathlib.Core.Path.{sym, ap₂}
-use mathlib.Core.Bool.{Bool, false, ◌&&◌}
+-- `is_reached`: the search over the places, in the definition's words.
+use Prim.Native.Nat.{ℕ, ◌+◌, ◌-◌}
+use mathlib.Core.Path.{◌≡◌, refl, ap, ◌∙◌}
 use native.Mathlib.Omega.{arith}
+use mathlib.Core.Bool.{false, ◌&&◌}
 use lib.ListN.{get_or}
+use Rattle.std.proofs.Common.{rules, tests}
+use Rattle.std.proofs.lemmas.Iterator.{YieldsList-from_range}
+use Rattle.std.proofs.lemmas.Iterator.Search.{any_from_yields_List}
 use Rattle.coming_out.specs.Rows.{place}
-use Rattle.coming_out.proofs.Some.{some_here, some_none}
+use Rattle.coming_out.proofs.Some.{some_range}
 use Rattle.coming_out.proofs.is_reached.Goals as goal
-
-pub returns-then-matrix-i : goal.returns-then-matrix-i
-returns-then-matrix-i c = let a = c.args in
-    let f : ℕ → Bool = λ x. get_or a.set x false && get_or a.matrix.now (place x a.j) false in
-    sym (some_here a.m f c.loop-i.i c.loop-i-test.true (ap₂ ◌&&◌ c.if-set-i.true c.if-matrix-i.true))
 
 pub returns : goal.returns
 returns c = let a = c.args in
-    let f : ℕ → Bool = λ x. get_or a.set x false && get_or a.matrix.now (place x a.j) false in
-    sym (some_none a.m f (λ x h. c.loop-i.invariant x (omega (arith, h, c.loop-i-test.false))))
+    let f = λ (x : ℕ). get_or a.set x false && get_or a.matrix.now (place x a.j) false in
+    let all : a.m - 0 ≡ a.m = omega arith in
+    any_from_yields_List f _ _ c.any.result c.any.ensures.ran (YieldsList-from_range 0 a.m a.m refl all) (λ x b q k. search (rules, tests)) ∙ some_range a.m 0 f f (λ i. let z : 0 + i ≡ i = omega arith in ap f z)

@@ -6,19 +6,19 @@ use lib.ListN.{length, length-set}
 use Rattle.model.specs.Limits.{most_parts}
 use Rattle.coming_out.proofs.Places.{found_skip, found_more, found_all, below_set}
 use Rattle.coming_out.proofs.places_of.Goals as goal
-use Rattle.coming_out.proofs.places_of.Goals.{then-marks-j, else-marks-j}
+use Rattle.coming_out.proofs.places_of.Goals.{then-marked, else-marked}
 
 pub loop-j-preserved : goal.loop-j-preserved
 loop-j-preserved c = let l = c.loop-j in
     let room : l.count < length l.places = omega (arith, l.invariant) in
-    elim c.if-marks-j.branch [
-      | then-marks-j w ↦ rw (w.places-is, w.count-is) (
+    elim c.if-marked.branch [
+      | then-marked w ↦ rw (w.places-is, w.count-is) (
         omega arith,
         length-set l.places l.count l.j ∙ l.invariant.1,
-        found_more c.args.marks l.j l.count l.places (omega (arith, c.well_formed)) l.invariant.2 room w.if-marks-j.true,
+        found_more c.args.marks l.j l.count l.places (omega (arith, c.well_formed)) l.invariant.2 room w.if-marked.true,
         below_set most_parts l.count l.j l.places room c.loop-j-test.true l.invariant.3,
       )
-      | else-marks-j w ↦ rw (w.places-is, w.count-is) (omega arith, l.invariant.1, found_skip c.args.marks l.j l.count l.places (omega (arith, c.well_formed)) l.invariant.2 w.if-marks-j.false, l.invariant.3)
+      | else-marked w ↦ rw (w.places-is, w.count-is) (omega arith, l.invariant.1, found_skip c.args.marks l.j l.count l.places (omega (arith, c.well_formed)) l.invariant.2 w.if-marked.false, l.invariant.3)
     ]
 
 pub returns : goal.returns

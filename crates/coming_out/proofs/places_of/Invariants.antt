@@ -6,4 +6,4 @@ use Rattle.coming_out.proofs.Places.{Found}
 use Rattle.coming_out.proofs.places_of.Given as goal
 
 abbrev pub invariant-loop-j : goal.invariant-loop-j
-invariant-loop-j l = (l.count ≤ l.j) × (length l.places ≡ most_parts) × Found l.marks l.j l.count l.places × ((b : ℕ) → b < l.count → get_or l.places b 0 < most_parts)
+invariant-loop-j l = (l.count ≤ l.j) × (length l.places ≡ most_parts) × Found l.fn.marks l.j l.count l.places × ((b : ℕ) → b < l.count → get_or l.places b 0 < most_parts)

@@ -7,8 +7,8 @@ use Rattle.fault_lines.specs.declared.fault.Span.{Span}
 use Rattle.lines.specs.Fault.{number_of_lem}
 use Rattle.lines.specs.Reads.{outcome, seen}
 use Rattle.job_grammar.specs.Grammar.{read_job_lem}
-use Rattle.job_text.specs.Views.{given_of}
-use Rattle.job_text.proofs.Views.{means, sound_text, sound_job}
+use Rattle.job_text.specs.Views.{given_in}
+use Rattle.job_text.proofs.Views.{means_in}
 use Rattle.job_grammar.proofs.Numbered.{fault}
 use Rattle.counting.specs.declared.Counted.{Counted}
 use Rattle.counting.specs.Count.{on_job, count_said}
@@ -19,10 +19,10 @@ use Rattle.counting.proofs.count.Goals.{In-Err, In-Ok, Start}
 
 -- what the job text reads as, by what was read
 refused_job : (c : In-Err) → read_job_lem c.args.job.now ≡ refused (number_of_lem c.in-Err.fault.kind) c.in-Err.fault.line
-refused_job c = sym (means _ c.read_job.ensures) ∙ ap (λ r. outcome (seen given_of r)) c.in-Err.is
+refused_job c = sym (means_in _ c.read_job.ensures) ∙ ap (λ r. outcome (seen given_in r)) c.in-Err.is
 
-accepted_job : (c : In-Ok) → read_job_lem c.args.job.now ≡ accepted (given_of c.in-Ok.text)
-accepted_job c = sym (means _ c.read_job.ensures) ∙ ap (λ r. outcome (seen given_of r)) c.in-Ok.is
+accepted_job : (c : In-Ok) → read_job_lem c.args.job.now ≡ accepted (given_in c.in-Ok.text)
+accepted_job c = sym (means_in _ c.read_job.ensures) ∙ ap (λ r. outcome (seen given_in r)) c.in-Ok.is
 
 -- the defined answer keeps the promise
 kept : (c : Start) (r : Counted) → r ≡ count_said c.args.job.now → (r ≡ count_said c.args.job.now) × CountPromise c.args.job.now r
@@ -30,9 +30,6 @@ kept c r e = (e, rw e (promised c.args.job.now))
 
 pub overflow_cast-result : goal.overflow_cast-result
 overflow_cast-result c = omega (arith, (fault _ _ _ (refused_job (goal.at.overflow_cast-result c).In-Err)).1)
-
-pub counted_job-requires : goal.counted_job-requires
-counted_job-requires c = sound_job c.in-Ok.text (sound_text c.args.job.now c.in-Ok.text (accepted_job (goal.at.counted_job-requires c).In-Ok))
 
 pub returns-in-Err : goal.returns-in-Err
 unfolding count_said

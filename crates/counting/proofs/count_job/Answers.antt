@@ -1,8 +1,8 @@
 -- `count_job`: the count by the least life and the least first life of the parts is the job's.
-use Prim.Native.Nat.{◌≤◌}
+use Prim.Native.Nat.{ℕ, ◌≤◌}
 use mathlib.Core.Path.{◌≡◌, sym, ap, subst, ◌∙◌}
 use native.Mathlib.Omega.{arith}
-use lib.ListN.{length, take, length-take}
+use lib.ListN.{take, length-take}
 use lib.IntN.{ℤ, pos, ◌-ℤ◌}
 use mir.Syntax.{w32}
 use mir.Val.{to_z, of_z}
@@ -11,62 +11,51 @@ use Rattle.model.specs.Limits.{longest_life}
 use Rattle.model.specs.Count.{least_life, least_left, count_for}
 use Rattle.model.proofs.Entries.{count_least}
 use Rattle.jobs.specs.Views.{job_of}
+use Rattle.least.specs.Marks.{mark_of, Bits31}
 use Rattle.least.proofs.Diff.{back}
-use Rattle.clock.proofs.Ranges.{position_bits}
-use Rattle.clock.proofs.Places.{places_are, place_count}
-use Rattle.counting.specs.Row.{Near}
-use Rattle.counting.proofs.Near.{near_back}
+use Rattle.clock.proofs.Ranges.{position_bits, life_bits}
+use Rattle.clock.proofs.Places.{places_are}
 use Rattle.counting.proofs.Lives.{least_most}
-use Rattle.counting.proofs.Placing.{near_job, brief}
+use Rattle.counting.proofs.Placing.{late_job, small_job, brief}
 use Rattle.counting.proofs.count_job.Goals as goal
 use Rattle.counting.proofs.count_job.Goals.{After-last_change, After-least_of-least}
 
 -- the least lives are not above the longest
 module _ (c : After-least_of-least) where
   life_most : c.least_of-least.result.life ≤ longest_life
-  life_most = omega (arith, c.least_of-least.ensures.0, least_most (λ (part : Part). part.life) longest_life (job_of c.args.job).parts)
+  life_most = omega (arith, c.least_of-least.ensures.0, least_most (λ (part : Part). part.life) longest_life (job_of c.args.job.now.job).parts)
 
   left_most : c.least_of-least.result.left ≤ longest_life
-  left_most = omega (arith, c.least_of-least.ensures.1, least_most (λ (part : Part). part.left) longest_life (job_of c.args.job).parts)
-
--- what is known once the numbers are found
-module _ (c : After-last_change) where
-  counted : length (take c.args.job.opening_count c.positions_of-placed.result.at) ≡ c.args.job.opening_count
-  counted = place_count c.args.job c.requires.sized c.well_formed.0 c.positions_of-placed.result c.positions_of-placed.ensures
-
-  near : c.least_of-least.result.life ≤ longest_life → c.least_of-least.result.left ≤ longest_life → Near c.positions_of-placed.result.end c.last_change.result (take c.args.job.opening_count c.positions_of-placed.result.at)
-  near h g =
-      subst (λ (z : ℤ). Near c.positions_of-placed.result.end z (take c.args.job.opening_count c.positions_of-placed.result.at)) (sym c.last_change.ensures)
-      (near_job c.args.job c.requires.sized c.well_formed.0 c.positions_of-placed.result c.positions_of-placed.ensures c.least_of-least.result.life c.least_of-least.result.left h g)
-
-pub signed-requires : goal.signed-requires
-signed-requires c = life_most (goal.at.signed-requires c).After-least_of-least
+  left_most = omega (arith, c.least_of-least.ensures.1, least_most (λ (part : Part). part.left) longest_life (job_of c.args.job.now.job).parts)
 
 pub last_change-requires : goal.last_change-requires
 last_change-requires c = (life_most (goal.at.last_change-requires c).After-least_of-least, left_most (goal.at.last_change-requires c).After-least_of-least)
 
-pub slice_bounds-positions-end : goal.slice_bounds-positions-end
-slice_bounds-positions-end c = omega (arith, counted (goal.at.slice_bounds-positions-end c).After-last_change, length-take c.args.job.opening_count c.positions_of-placed.result.at)
+pub overflow_cast-gaps : goal.overflow_cast-gaps
+overflow_cast-gaps c = omega (arith, life_most (goal.at.overflow_cast-gaps c).After-least_of-least)
 
-pub slice_bounds-count_for-end : goal.slice_bounds-count_for-end
-slice_bounds-count_for-end c = sym (counted (goal.at.slice_bounds-count_for-end c).After-last_change)
+-- the change before, as the code holds it
+first : (c : After-last_change) → to_z w32 (of_z w32 c.last_change.result) ≡ pos c.least_of-least.result.left -ℤ pos c.least_of-least.result.life
+first c = back c.last_change.result c.last_change.type_inv ∙ c.last_change.ensures
 
-pub count_for-requires : goal.count_for-requires
-count_for-requires c =
-    let l = (goal.at.count_for-requires c).After-last_change in
-    let b = (goal.at.count_for-requires c).After-least_of-least in
-    (omega (arith, counted l, c.requires.sized.openings), near_back c.positions_of-placed.result.end c.last_change.result _ (record { sfits = c.last_change.type_inv }) (near l (life_most b) (left_most b)))
+pub invariant_of-gaps : goal.invariant_of-gaps
+invariant_of-gaps c = let j = c.args.job.now.job in
+    let p = c.positions_of-placed in
+    let least = (goal.at.invariant_of-gaps c).After-least_of-least in
+    let small = small_job j p.result p.ensures c.least_of-least.result.life c.least_of-least.result.left (life_most least) (left_most least) in
+    record {
+      few = omega (arith, j.few_openings, length-take j.opening_count p.result.at);
+      late = rw (position_bits p.result.end p.ensures.end_range) (late_job j p.result p.ensures);
+      small = subst (λ (z : ℤ). (k : ℕ) → Bits31 (mark_of z (take j.opening_count p.result.at) k)) (sym (first (goal.at.invariant_of-gaps c).After-last_change)) small;
+    }
 
 pub returns : goal.returns
 returns c =
-    let j = c.args.job in
+    let j = c.args.job.now.job in
     let p = c.positions_of-placed in
-    let signed = c.signed in
-    let last = c.last_change in
     let ensured = c.least_of-least.ensures in
-    let life : to_z w32 (of_z w32 signed.result) ≡ pos (least_life (job_of j)) = back signed.result signed.type_inv ∙ signed.ensures ∙ ap pos ensured.0 in
-    let first : to_z w32 (of_z w32 last.result) ≡ pos (least_left (job_of j)) -ℤ pos (least_life (job_of j)) =
-    back last.result last.type_inv ∙ last.ensures ∙ (λ i. pos (ensured.1 i) -ℤ pos (ensured.0 i)) in
-    c.count_for.ensures
-    ∙ (λ i. count_for (life i) ((position_bits p.result.end p.ensures.end_range ∙ p.ensures.end) i) (first i) (places_are j c.requires.sized c.well_formed.0 p.result p.ensures i))
-    ∙ sym (count_least (job_of j) (brief (job_of j) c.requires.valid))
+    let life : to_z w32 c.least_of-least.result.life ≡ pos (least_life (job_of j)) = life_bits _ (life_most (goal.at.returns c).After-least_of-least) ∙ ap pos ensured.0 in
+    let before : to_z w32 (of_z w32 c.last_change.result) ≡ pos (least_left (job_of j)) -ℤ pos (least_life (job_of j)) = first (goal.at.returns c).After-last_change ∙ (λ i. pos (ensured.1 i) -ℤ pos (ensured.0 i)) in
+    c.count.ensures
+    ∙ (λ i. count_for (life i) ((position_bits p.result.end p.ensures.end_range ∙ p.ensures.end) i) (before i) (places_are j p.result p.ensures i))
+    ∙ sym (count_least (job_of j) (brief (job_of j) c.args.job.now.valid))

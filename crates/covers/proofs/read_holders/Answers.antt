@@ -14,25 +14,25 @@ use Rattle.covers.specs.Grammar.{holders}
 use Rattle.covers.proofs.Marks.{blank}
 use Rattle.covers.proofs.read_holders.Goals as goal
 
-pub loop-i-init : goal.loop-i-init
+pub loop-init : goal.loop-init
 unfolding holders chosen joined
-loop-i-init c = record { size = refl; bare = λ j h. blank j; read = chain_start _ _ _ _ _ _ }
+loop-init c = record { size = refl; bare = λ j h. blank j; read = chain_start _ _ _ _ _ _ }
 
-pub loop-i-preserved : goal.loop-i-preserved
-loop-i-preserved c = let v = c.loop-i.invariant in
-    let marks = c.loop-i.marks in
+pub loop-preserved : goal.loop-preserved
+loop-preserved c = let v = c.loop.invariant in
+    let marks = c.loop.marks in
     let h = c.in_ok-h.h in
     let k = c.in_ok-h.ensures.within in
     record {
       size = simp length-set v.size;
       bare = λ j l. get_or-set_other marks (h - 1) j true false (λ q. omega (arith, k)) ∙ v.bare j (omega (arith, k));
-      read = v.read ∙ chain_more _ _ c.args.n c.loop-i.i _ _ _ _ c.loop-i-test.true (sym c.in_ok-h.ensures.reads)
+      read = v.read ∙ chain_more _ _ c.args.n c.loop.counter _ _ _ _ c.loop-test.true (sym c.in_ok-h.ensures.reads)
           (numbers_more marks h (omega arith) (omega (arith, v.size)) (λ j l. v.bare j (omega (arith, k))));
     }
 
 pub returns-in_err-h : goal.returns-in_err-h
-returns-in_err-h c = let f = sym (c.loop-i.invariant.read ∙ chain-fault _ _ c.args.n c.loop-i.i _ _ _ _ c.loop-i-test.true (sym c.in_err-h.ensures.reads)) in
+returns-in_err-h c = let f = sym (c.loop.invariant.read ∙ chain-fault _ _ c.args.n c.loop.counter _ _ _ _ c.loop-test.true (sym c.in_err-h.ensures.reads)) in
     search (rules, f)
 
 pub returns : goal.returns
-returns c = sym (c.loop-i.invariant.read ∙ chain_end _ _ c.args.n c.loop-i.i _ _ _ _ (omega arith))
+returns c = sym (c.loop.invariant.read ∙ chain_end _ _ c.args.n c.loop.counter _ _ _ _ (omega arith))

@@ -17,5 +17,5 @@ pub record Reading (m k n : ℕ) (whole : Parsed (List ℕ)) (marks : List Bool)
   pub bare : (j : ℕ) → before ≤ j → get_or marks j false ≡ false
   pub read : whole ≡ behind (numbers_of_lem marks) (chain (holder m k) itself (n - i) before lines.rest.now lines.line)
 
-abbrev pub invariant-loop-i : goal.invariant-loop-i
-invariant-loop-i l = Reading l.m l.k l.n (holders l.m l.k l.n l.initial.lines.rest.now l.initial.lines.line) l.marks l.lines l.before l.i
+abbrev pub invariant-loop : goal.invariant-loop
+invariant-loop l = Reading l.m l.k l.n (holders l.m l.k l.n l.initial.lines.rest.now l.initial.lines.line) l.marks l.lines l.before l.counter

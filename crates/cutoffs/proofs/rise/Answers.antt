@@ -1,11 +1,10 @@
 -- `rise`: the invariant says that no plan costs less than the last cutoff that was passed.
 use Prim.Native.Nat.{ℕ, min}
 use mathlib.Core.Path.{◌≡◌, sym, ap, subst, ◌∙◌}
-use mathlib.Core.Bool.{Bool, true≢false}
+use mathlib.Core.Bool.{Bool}
 use mathlib.Core.List.{List}
 use native.Mathlib.Omega.{arith}
 use Rattle.std.proofs.Common.{rules}
-use Rattle.std.proofs.lemmas.Option.{none-some}
 use lib.ListN.{take}
 use Rattle.model.specs.LowerBound.{plan_at}
 use Rattle.model.specs.Promise.{BestPlan, Any}
@@ -16,42 +15,36 @@ use Rattle.cutoffs.proofs.rise.Goals as goal
 
 pub loop-low-init : goal.loop-low-init
 loop-low-init c = let f = c.first_cutoff-k.ensures in
-    (f.0, c.next_gap-gap.ensures, f.1, c.requires.2, c.requires.3, c.requires.4, λ job shares lanes so fair none. none)
+    (f.0, c.next_gap-gap.ensures, f.1, λ job shares lanes so fair none. none)
 
 pub solve-s-requires : goal.solve-s-requires
-solve-s-requires c = let l = c.loop-low.invariant in
-    (c.requires.0, l.0, c.requires.1, l.3, l.4, l.5)
+solve-s-requires c = (c.requires.0, c.loop-low.invariant.0, c.requires.1)
 
 pub returns-then-s : goal.returns-then-s
 returns-then-s c = let l = c.loop-low in
-    let v = c.solve-s in record {
-      right = λ job shares lanes so fair none. record {
-        plan_found_lem = λ k e. absurd (none-some _ e);
-        longer = λ e. (l.k, cut_longer job shares fair l.k c.args.limit v.new.best v.result (v.ensures.search job shares lanes so) c.if-s.true);
-        none_under = l.invariant.6 job shares lanes so fair none;
-        passed = λ e f. absurd (true≢false f);
-      };
-      short = omega arith;
-      room = v.ensures.found;
+    let v = c.solve-s in
+    λ job shares lanes so fair none. record {
+      plan_found_lem = λ u e. let z : ◌≡◌ {A = ℕ} 0 1 = cc in absurd (omega arith);
+      longer = λ o e. (l.k, cut_longer job shares fair l.k c.args.limit v.new.best v.result (v.ensures job shares lanes so) c.if-s.true);
+      none_under = l.invariant.3 job shares lanes so fair none;
+      passed = λ e. let z : ◌≡◌ {A = ℕ} 0 1 = cc in absurd (omega arith);
     }
 
 pub returns-then-s-k : goal.returns-then-s-k
 returns-then-s-k c = let l = c.loop-low in
     let v = c.solve-s in
     let n : c.min.result ≡ min v.result.size name_size = search rules in
-    let b = v.new.best in record {
-      right = λ job shares lanes so fair none. record {
-        plan_found_lem = λ k e.
-            let z : v.result.cost ≡ k = cc in
-            subst (λ (i : ℕ). BestPlan job Any i (plan_at job (take c.min.result b))) z
-            (subst (λ (p : List Bool). BestPlan job Any v.result.cost (plan_at job p)) (sym (ap (λ (i : ℕ). take i b) n ∙ take_min v.result.size name_size b v.ensures.found))
-            (found_best job shares fair l.k c.args.limit b v.result (v.ensures.search job shares lanes so) c.if-s.false c.if-s-k.true));
-        longer = λ e. absurd (true≢false (sym e));
-        none_under = l.invariant.6 job shares lanes so fair none;
-        passed = λ e f. absurd (none-some _ (sym e));
-      };
-      short = omega (arith, n);
-      room = v.ensures.found;
+    let b = v.new.best in
+    λ job shares lanes so fair none. record {
+      plan_found_lem = λ u e.
+          let z : v.result.cost ≡ u.cost = cc in
+          let y : c.min.result ≡ u.size = cc in
+          subst (λ (i : ℕ). BestPlan job Any i (plan_at job (take u.size b))) z
+          (subst (λ (p : List Bool). BestPlan job Any v.result.cost (plan_at job p)) (sym (ap (λ (i : ℕ). take i b) (sym y ∙ n) ∙ take_min v.result.size name_size b (omega arith)))
+          (found_best job shares fair l.k c.args.limit b v.result (v.ensures job shares lanes so) c.if-s.false c.if-s-k.true));
+      longer = λ o e. let z : ◌≡◌ {A = ℕ} 0 1 = cc in absurd (omega arith);
+      none_under = l.invariant.3 job shares lanes so fair none;
+      passed = λ e. let z : ◌≡◌ {A = ℕ} 0 1 = cc in absurd (omega arith);
     }
 
 pub loop-low-smaller : goal.loop-low-smaller
@@ -66,21 +59,15 @@ loop-low-preserved c = let l = c.loop-low in
       k.0,
       c.next_gap-gap-in-loop-low.ensures,
       k.1,
-      v.ensures.stack,
-      v.ensures.names,
-      v.ensures.found,
       λ job shares lanes so fair none.
-          nothing_less job shares fair l.k c.args.limit v.new.best v.result (v.ensures.search job shares lanes so) c.if-s.false (omega (arith, c.if-s-k.false)),
+          nothing_less job shares fair l.k c.args.limit v.new.best v.result (v.ensures job shares lanes so) c.if-s.false (omega (arith, c.if-s-k.false)),
     )
 
 pub returns : goal.returns
-returns c = let l = c.loop-low in record {
-  right = λ job shares lanes so fair none. record {
-    plan_found_lem = λ k e. absurd (none-some _ e);
-    longer = λ e. absurd (true≢false (sym e));
-    none_under = l.invariant.6 job shares lanes so fair none;
-    passed = λ e f. omega (arith, c.loop-low-test.false);
-  };
-  short = omega arith;
-  room = l.invariant.5;
-}
+returns c = let l = c.loop-low in
+    λ job shares lanes so fair none. record {
+      plan_found_lem = λ u e. let z : ◌≡◌ {A = ℕ} 0 1 = cc in absurd (omega arith);
+      longer = λ o e. let z : ◌≡◌ {A = ℕ} 0 1 = cc in absurd (omega arith);
+      none_under = l.invariant.3 job shares lanes so fair none;
+      passed = λ e. omega (arith, c.loop-low-test.false);
+    }

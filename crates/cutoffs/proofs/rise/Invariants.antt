@@ -1,18 +1,16 @@
 use Prim.Native.Nat.{◌*◌, ◌-◌, ◌<◌, ◌≤◌}
-use mathlib.Core.Path.{◌≡◌}
 use mathlib.Core.List.{List}
-use lib.ListN.{length}
 use Rattle.model.specs.Model.{Job}
 use Rattle.model.specs.Decisions.{Held}
 use Rattle.shares.specs.Shares.{Shares, FairShares}
 use Rattle.shares.specs.Certificate.{NoneUnder}
-use Rattle.lane_rows.specs.Layout.{inf, stack_size}
-use Rattle.share_walk.specs.State.{name_size, Solvable}
+use Rattle.lane_rows.specs.Layout.{inf}
+use Rattle.share_walk.specs.State.{Solvable}
 use Rattle.cutoffs.proofs.rise.Given as goal
 
 abbrev pub invariant-loop-low : goal.invariant-loop-low
 invariant-loop-low l =
-    (l.k ≤ inf) × (l.gap ≤ inf * 2) × (l.low < inf → l.low < l.k) × (length l.w ≡ stack_size) × (length l.name ≡ name_size) × (length l.best ≡ name_size)
+    (l.k ≤ inf) × (l.gap ≤ inf * 2) × (l.low < inf → l.low < l.k)
     × ((job : Job) (shares : Shares) (lanes : List Held) → Solvable job shares lanes l.t l.x → FairShares job shares → NoneUnder job l.floor → NoneUnder job l.low)
 
 abbrev pub decreases-loop-low : goal.decreases-loop-low

@@ -3,6 +3,6 @@ use Rattle.std.proofs.Common.{List, Bool, subst}
 use Rattle.fair_shares.specs.Checked.{Marked}
 use Rattle.fair_shares.proofs.mark.Goals as goal
 
-pub returns-in-Some-as_mut_array : goal.returns-in-Some-as_mut_array
-returns-in-Some-as_mut_array c = let a = c.args in
+pub returns-in-Some : goal.returns-in-Some
+returns-in-Some c = let a = c.args in
     subst (λ (nd : List Bool). Marked nd a.parts a.removals.now c.mark_table.new.x) c.in-Some.ensures.cases.same c.mark_table.ensures

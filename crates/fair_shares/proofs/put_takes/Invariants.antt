@@ -1,8 +1,8 @@
-use Prim.Native.Nat.{ℕ, ◌+◌, ◌/◌, ◌%◌}
-use Rattle.least.specs.Filled.{FilledBy}
-use Rattle.share_rows.specs.Places.{take_base}
+use Prim.Native.Nat.{ℕ, ◌<◌, ◌/◌, ◌%◌}
+use mathlib.Core.Path.{◌≡◌}
+use lib.ListN.{get_or}
 use Rattle.fair_shares.specs.Checked.{taken}
 use Rattle.fair_shares.proofs.put_takes.Given as goal
 
 abbrev pub invariant-loop-i : goal.invariant-loop-i
-invariant-loop-i l = FilledBy (λ (k : ℕ). take_base + k) (λ (y : ℕ). taken l.needs l.parts (y / 16) (y % 16)) l.i l.initial.x l.x
+invariant-loop-i l = (k : ℕ) → k < l.i → get_or l.rows k 0 ≡ taken l.needs l.parts (k / 16) (k % 16)

@@ -23,42 +23,41 @@ small : {hall : Hall} {g : Ground} {a : Arrays} {p : Spot} {name : List Bool} {c
 small {hall} {g} {a} {p} k = let r = room k p.total (omega arith) in (omega (arith, k.crewed.table.call_is, r, k.crewed.fits.fair), omega (arith, k.crewed.table.lines_are, r, k.crewed.fits.few))
 
 pub overflow_add-total : goal.overflow_add-total
-overflow_add-total c = let z = small c.requires.0.1.1.1.1 in omega (arith, z.0, z.1)
+overflow_add-total c = let z = small c.requires.asking in omega (arith, z.0, z.1)
 
 pub open-requires : goal.open-requires
-open-requires c = λ x f. let z = small c.requires.0.1.1.1.1 in omega (arith, z.0, z.1, sum_inj (Sum 0) 0 x refl f)
+open-requires c = λ x f. let z = small c.requires.asking in omega (arith, z.0, z.1, sum_inj (Sum 0) 0 x refl f)
 
 pub returns-in_default : goal.returns-in_default
-returns-in_default c = λ hall name calls cs k.
-    below_as c.if-yes.true refl (call_closed k c.requires.1 (c.args.p.total + c.args.ground.now.ats.call) (ap (λ (x : ℕ). c.args.p.total + x) k.crewed.table.call_is) (sym c.«open».ensures ∙ c.in_default.is))
+returns-in_default c = λ k.
+    below_as c.if-b.true refl (call_closed k.asking k.is (c.args.b.p.total + c.args.ground.now.ats.call) (ap (λ (x : ℕ). c.args.b.p.total + x) k.asking.crewed.table.call_is) (sym c.«open».ensures ∙ c.in_default.is))
 
-pub returns-then-yes : goal.returns-then-yes
-returns-then-yes c = λ hall name calls cs k.
-    below_as c.if-yes.true (ap Some c.lines_from.ensures) (call_open k c.requires.1 (c.args.p.total + c.args.ground.now.ats.call) (ap (λ (x : ℕ). c.args.p.total + x) k.crewed.table.call_is) (sym c.«open».ensures ∙ c.in-Sum.is))
+pub returns-then-b : goal.returns-then-b
+returns-then-b c = λ k.
+    below_as c.if-b.true (ap Some c.lines_from.ensures) (call_open k.asking k.is (c.args.b.p.total + c.args.ground.now.ats.call) (ap (λ (x : ℕ). c.args.b.p.total + x) k.asking.crewed.table.call_is) (sym c.«open».ensures ∙ c.in-Sum.is))
 
 -- ---- no call
 
 pub returns-in_err-total : goal.returns-in_err-total
-returns-in_err-total c = λ hall name calls cs k.
-    let r = (c.no_call.ensures hall name calls cs k).none c.in_err-total.was in
-    below_as c.if-yes.false c.from_residual.ensures (none_closed k c.requires.1 r.0 r.1 r.2)
+returns-in_err-total c = λ k.
+    let r = (c.no_call.ensures k).none c.in_err-total.was in
+    below_as c.if-b.false c.from_residual.ensures (none_closed k.asking k.is r.0 r.1 r.2)
 
 pub open-requires-2 : goal.open-requires-2
 open-requires-2 c = λ x f.
-    let i = c.requires.0 in
-    let k = i.1.1.1.1 in
-    let r = (c.no_call.ensures i.0 i.1.0 i.1.1.0 i.1.1.1.0 k).some c.in_ok-total.total c.in_ok-total.was in
-    omega (arith, sum_inj (Sum 0) 0 x refl f, (none_due k c.requires.1 r).fits 0 refl)
+    let k = c.requires in
+    let r = (c.no_call.ensures k).some c.in_ok-total.total c.in_ok-total.was in
+    omega (arith, sum_inj (Sum 0) 0 x refl f, (none_due k.asking k.is r).fits 0 refl)
 
 pub returns-in_default-open : goal.returns-in_default-open
-returns-in_default-open c = λ hall name calls cs k.
-    let r = (c.no_call.ensures hall name calls cs k).some c.in_ok-total.total c.in_ok-total.was in
-    below_as c.if-yes.false refl (none_drop k c.requires.1 r (sym c.open-2.ensures ∙ c.in_default-open.is))
+returns-in_default-open c = λ k.
+    let r = (c.no_call.ensures k).some c.in_ok-total.total c.in_ok-total.was in
+    below_as c.if-b.false refl (none_drop k.asking k.is r (sym c.open-2.ensures ∙ c.in_default-open.is))
 
 pub next_step-requires : goal.next_step-requires
-next_step-requires c = step_near c.requires.0.1.1.1.1 c.requires.1
+next_step-requires c = step_near c.requires.asking c.requires.is
 
 pub returns : goal.returns
-returns c = λ hall name calls cs k.
-    let r = (c.no_call.ensures hall name calls cs k).some c.in_ok-total.total c.in_ok-total.was in
-    below_as c.if-yes.false (ap Some c.next_step.ensures) (none_open k c.requires.1 r (sym c.open-2.ensures ∙ c.in-Sum-open.is))
+returns c = λ k.
+    let r = (c.no_call.ensures k).some c.in_ok-total.total c.in_ok-total.was in
+    below_as c.if-b.false (ap Some c.next_step.ensures) (none_open k.asking k.is r (sym c.open-2.ensures ∙ c.in-Sum-open.is))

@@ -20,34 +20,33 @@ lines_are : {hall : Hall} {g : Ground} {a : Arrays} {p : Spot} {name : List Bool
 lines_are k = k.crewed.table.lines_are ∙ sym k.stood.count
 
 pub loop-d-init : goal.loop-d-init
-loop-d-init c = λ hall name calls cs k. pass_begin k c.requires.1
+loop-d-init c = λ k. pass_begin k.asking k.is
 
 pub line_passes-requires : goal.line_passes-requires
 line_passes-requires c =
-    let i = c.requires.0 in
-    let k = i.1.1.1.1 in
-    let z = lines_are k in
-    (omega (arith, z, k.stood.count, k.crewed.fits.few), (c.args.rows.now, (i.0, (i.1.0, (i.1.1.0, (i.1.1.1.0, k, c.loop-d.invariant i.0 i.1.0 i.1.1.0 i.1.1.1.0 k, omega (arith, z)))))), c.requires.1)
+    let k = c.requires in
+    let z = lines_are k.asking in
+    (omega (arith, z, k.asking.stood.count, k.asking.crewed.fits.few), (c.args.rows.now, (k, c.loop-d.invariant k, omega (arith, z))))
 
 pub returns-in_err-total : goal.returns-in_err-total
-returns-in_err-total c = λ hall name calls cs k.
-    let z = lines_are k in
+returns-in_err-total c = λ k.
+    let z = lines_are k.asking in
     record {
-      none = λ _. (c.line_passes.ensures c.args.rows.now hall name calls cs k (omega (arith, z)) (c.loop-d.invariant hall name calls cs k)).none c.in_err-total.was;
+      none = λ _. (c.line_passes.ensures c.args.rows.now k (omega (arith, z)) (c.loop-d.invariant k)).none c.in_err-total.was;
       some = λ y f. absurd (none-some y (sym c.from_residual.ensures ∙ f));
     }
 
 pub loop-d-preserved : goal.loop-d-preserved
-loop-d-preserved c = λ hall name calls cs k.
-    let z = lines_are k in
-    (c.line_passes.ensures c.args.rows.now hall name calls cs k (omega (arith, z)) (c.loop-d.invariant hall name calls cs k)).some c.in_ok-total.total c.in_ok-total.was
+loop-d-preserved c = λ k.
+    let z = lines_are k.asking in
+    (c.line_passes.ensures c.args.rows.now k (omega (arith, z)) (c.loop-d.invariant k)).some c.in_ok-total.total c.in_ok-total.was
 
 pub returns : goal.returns
 returns c = let l = c.loop-d in
-    λ hall name calls cs k.
-    let z = lines_are k in
-    let e : l.d ≡ length cs = omega (arith, z, l.auto.d-end) in
+    λ k.
+    let z = lines_are k.asking in
+    let e : l.d ≡ length k.cs = omega (arith, z, l.auto.d-end) in
     record {
       none = λ f. absurd (none-some l.total (sym f));
-      some = λ y f. subst (Passing c.args.ground.now c.args.rows.now l.rows c.args.p.step calls cs (length cs)) (same_Some l.total y f) (subst (λ (m : ℕ). Passing c.args.ground.now c.args.rows.now l.rows c.args.p.step calls cs m l.total) e (l.invariant hall name calls cs k));
+      some = λ y f. subst (Passing c.args.ground.now c.args.rows.now l.rows c.args.p.step k.calls k.cs (length k.cs)) (same_Some l.total y f) (subst (λ (m : ℕ). Passing c.args.ground.now c.args.rows.now l.rows c.args.p.step k.calls k.cs m l.total) e (l.invariant k));
     }

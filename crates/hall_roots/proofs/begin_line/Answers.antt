@@ -4,7 +4,7 @@ use mathlib.Core.Path.{◌≡◌, refl, sym, ap, ◌∙◌}
 use mathlib.Core.List.{List, []}
 use native.Mathlib.Omega.{arith}
 use borrow.Author.Rules.{rules}
-use lib.ListN.{length, get_or, set}
+use lib.ListN.{get_or, set}
 use lib.Seq.{get_or-set_same}
 use Rattle.branch.specs.declared.Bound.TheVariants.{Missing, Sum}
 use Rattle.branch.specs.Lower.{add}
@@ -13,7 +13,6 @@ use Rattle.lane_rows.specs.Layout.{term_place}
 use Rattle.lane_rows.specs.Tables.{Tables}
 use Rattle.lane_rows.proofs.Lanes.{first_most}
 use Rattle.held_rows.specs.Held.{HeldSheet, plain, held, held_bound, Classed}
-use Rattle.held_lanes.specs.Places.{aside_size}
 use Rattle.held_lanes.specs.Tables.{HeldTables}
 use Rattle.walk.specs.State.{no_cost}
 use Rattle.held_nodes.proofs.Root.{bound_first, root_due, root_given}
@@ -21,7 +20,7 @@ use Rattle.hall_lines.specs.declared.Level.{Level}
 use Rattle.hall_lines.specs.Levels.{no_level, level_at}
 use Rattle.hall_lines.proofs.Levels.{at_plain}
 use Rattle.hall_roots.proofs.begin_line.Goals as goal
-use Rattle.hall_roots.proofs.begin_line.Goals.{After-first_marks-arg-2-1, After-first_sums}
+use Rattle.hall_roots.proofs.begin_line.Goals.{After-first_sums}
 
 abbrev rows : After-first_sums → List ℕ
 rows c = c.base_row.new.w
@@ -29,11 +28,8 @@ rows c = c.base_row.new.w
 abbrev marks : After-first_sums → List ℕ
 marks c = c.first_marks.new.v
 
-sized : (c : After-first_marks-arg-2-1) → length c.args.own.now.v ≡ aside_size
-sized c = search rules
-
 pub first_sums-requires : goal.first_sums-requires
-first_sums-requires c = (c.requires.1.size, c.requires.1.narrow, first_most (plain c.requires.0) c.args.tables.now.t c.requires.1)
+first_sums-requires c = (c.requires.1.narrow, first_most (plain c.requires.0) c.args.tables.now.t c.requires.1)
 
 module _ (c : After-first_sums) (sheet : HeldSheet) (ta : Tables (plain sheet) c.args.tables.now.t) (he : HeldTables sheet c.args.tables.now.u) (fit : Classed sheet) where
   -- the first term, and the floor
@@ -60,13 +56,12 @@ returns c =
     let x = c.in-Sum.x in
     let a = c.args in
     let t = c.term-g.ensures in
-    let long : length a.own.now.n ≡ 65 = search rules in
     let l : Level = record { rows = 1; sums = x; term = c.term-g.result; mask = 0 } in
-    let put : level_at (set a.own.now.n 0 l) 0 ≡ l = get_or-set_same a.own.now.n 0 l no_level (omega (arith, long)) in
+    let put : level_at (set a.own.now.n 0 l) 0 ≡ l = get_or-set_same a.own.now.n 0 l no_level (search rules) in
     λ sheet ta he fit. record {
       floor = ap (λ (k : ℕ). Sum (k + x)) t ∙ sym (floor_is d sheet ta he fit ∙ ap (add (Sum (g d sheet ta he fit))) c.in-Sum.is);
       given = λ f e.
           at_plain
-          (root_given sheet a.tables.now.t a.tables.now.u (rows d) ta he fit c.base_row.ensures a.own.now.v (marks d) (held sheet) x (sized (goal.at.returns c).After-first_marks-arg-2-1) c.first_marks.ensures refl (sym c.first_sums.ensures ∙ c.in-Sum.is))
+          (root_given sheet a.tables.now.t a.tables.now.u (rows d) ta he fit c.base_row.ensures a.own.now.v (marks d) (held sheet) x (search rules) c.first_marks.ensures refl (sym c.first_sums.ensures ∙ c.in-Sum.is))
           refl _ (held sheet) _ _ _ (ap (λ (k : Level). k.rows) put) refl (ap (λ (k : Level). k.mask) put) (ap (λ (k : Level). k.sums) put) (ap (λ (k : Level). k.term) put ∙ t);
     }

@@ -16,7 +16,7 @@ use Rattle.hall_state.specs.Spots.{Asked}
 use Rattle.hall_state.specs.Moves.{Arrived, Passed}
 use Rattle.hall_turns.specs.Turns.{KeptLines}
 use Rattle.hall_walk.specs.Walk.{Reaches, walk_measure}
-use Rattle.hall_walk.proofs.Passed.{within, full_passed, asking, calls₁, courses₁, enter₁, asking₁, kept₂, calls₂, courses₂, enter₂, both_passed, below_falls, close_asks}
+use Rattle.hall_walk.proofs.Passed.{within, full_passed, asking, calls₁, courses₁, enter₁, asking₁, stands_at, asked_at, kept₂, calls₂, courses₂, enter₂, both_passed, below_falls, close_asks}
 use Rattle.hall_walk.proofs.+walk.Goals as goal
 use Rattle.hall_walk.proofs.+walk.Goals.{After-arrive-p, Else-p-ground}
 
@@ -24,15 +24,12 @@ pub counted-c-requires : goal.counted-c-requires
 counted-c-requires t c = omega (arith, within c.requires.0.1.1.1.1.1 c.in-Some.is, c.requires.1)
 
 pub arrive-p-requires : goal.arrive-p-requires
-arrive-p-requires t c =
-    let r = c.requires.0 in
-    let h = r.1.1.1.1.1 in
-    (r.0, (r.1.0, (r.1.1.1.0, (r.1.1.1.1.0, h.crewed, (h.opened c.in-Some.q c.in-Some.is).2))))
+arrive-p-requires t c = stands_at c.requires.0.1.1.1.1.1 c.in-Some.is
 
 -- the question arrived at
 arrived : (t : ℕ) (c : After-arrive-p t) {hall : Hall} {name kept : List Bool} {calls : ℕ} {cs : List Course} → Reaches hall c.args.ground.now c.args.rows.now c.args.to name kept calls cs c.args.best.now c.args.limit c.args.s
     → Arrived hall c.args.ground.now c.args.rows.now c.arrive-p.new.rows c.in-Some.q c.arrive-p.result name calls cs
-arrived t c {hall} {name} {kept} {calls} {cs} h = c.arrive-p.ensures hall name calls cs h.crewed (h.opened c.in-Some.q c.in-Some.is).2
+arrived t c {hall} {name} {kept} {calls} {cs} h = c.arrive-p.ensures (stands_at h c.in-Some.is)
 
 -- ---- a full node
 
@@ -60,14 +57,14 @@ returns-then-p-ground t c =
 
 -- something is asked there
 asked : (t : ℕ) (c : Else-p-ground t) {hall : Hall} {name kept : List Bool} {calls : ℕ} {cs : List Course} → Reaches hall c.args.ground.now c.args.rows.now c.args.to name kept calls cs c.args.best.now c.args.limit c.args.s → Asked hall c.args.ground.now.ats c.arrive-p.result
-asked t c {hall} {name} {kept} {calls} {cs} h = (c.arrive-p.ensures hall name calls cs h.crewed (h.opened c.in-Some.q c.in-Some.is).2).asked (λ _ e. c.if-p-ground.false (e ∙ sym h.crewed.table.steps_are))
+asked t c {hall} {name} {kept} {calls} {cs} h = (c.arrive-p.ensures (stands_at h c.in-Some.is)).asked (λ _ e. c.if-p-ground.false (e ∙ sym h.crewed.table.steps_are))
 
 pub below-none-requires : goal.below-none-requires
 below-none-requires t c =
     let r = c.requires.0 in
     let h = r.1.1.1.1.1 in
     let ar = arrived t (goal.at.below-none-requires t c).After-arrive-p h in
-    (r.0, (r.1.0, (r.1.1.1.0, (ar.courses, asking h c.in-Some.is ar (asked t (goal.at.below-none-requires t c).Else-p-ground h) c.counted-c.ensures))))
+    asked_at (asking h c.in-Some.is ar (asked t (goal.at.below-none-requires t c).Else-p-ground h) c.counted-c.ensures)
 
 pub walk-a-requires : goal.walk-a-requires
 walk-a-requires t c =
@@ -76,7 +73,7 @@ walk-a-requires t c =
     let is = c.in-Some.is in
     let ar = arrived t (goal.at.walk-a-requires t c).After-arrive-p h in
     let ask = asked t (goal.at.walk-a-requires t c).Else-p-ground h in
-    let b₁ = c.below-none.ensures r.0 r.1.0 r.1.1.1.0 ar.courses (asking h is ar ask c.counted-c.ensures) in
+    let b₁ = c.below-none.ensures (asked_at (asking h is ar ask c.counted-c.ensures)) in
     let f = below_falls b₁ ar.measure in
     let m = ap walk_measure is in
     (omega (arith, c.decreases, f, m), ((r.0, (snoc r.1.0 false, (r.1.1.0, (calls₁ h is ar ask c.counted-c.ensures b₁, (courses₁ h is ar ask c.counted-c.ensures b₁, enter₁ h is ar ask c.counted-c.ensures b₁))))), c.requires.1))
@@ -89,9 +86,9 @@ below-some-requires t c =
     let ct = c.counted-c.ensures in
     let ar = arrived t (goal.at.below-some-requires t c).After-arrive-p h in
     let ask = asked t (goal.at.below-some-requires t c).Else-p-ground h in
-    let b₁ = c.below-none.ensures r.0 r.1.0 r.1.1.1.0 ar.courses (asking h is ar ask ct) in
+    let b₁ = c.below-none.ensures (asked_at (asking h is ar ask ct)) in
     let w₁ = c.walk-a.ensures r.0 (snoc r.1.0 false) r.1.1.0 (calls₁ h is ar ask ct b₁) (courses₁ h is ar ask ct b₁) (enter₁ h is ar ask ct b₁) in
-    (r.0, (r.1.0, (r.1.1.1.0, (ar.courses, asking₁ h is ar ask ct b₁ w₁))))
+    asked_at (asking₁ h is ar ask ct b₁ w₁)
 
 pub walk-requires : goal.walk-requires
 walk-requires t c =
@@ -101,9 +98,9 @@ walk-requires t c =
     let ct = c.counted-c.ensures in
     let ar = arrived t (goal.at.walk-requires t c).After-arrive-p h in
     let ask = asked t (goal.at.walk-requires t c).Else-p-ground h in
-    let b₁ = c.below-none.ensures r.0 r.1.0 r.1.1.1.0 ar.courses (asking h is ar ask ct) in
+    let b₁ = c.below-none.ensures (asked_at (asking h is ar ask ct)) in
     let w₁ = c.walk-a.ensures r.0 (snoc r.1.0 false) r.1.1.0 (calls₁ h is ar ask ct b₁) (courses₁ h is ar ask ct b₁) (enter₁ h is ar ask ct b₁) in
-    let b₂ = c.below-some.ensures r.0 r.1.0 r.1.1.1.0 ar.courses (asking₁ h is ar ask ct b₁ w₁) in
+    let b₂ = c.below-some.ensures (asked_at (asking₁ h is ar ask ct b₁ w₁)) in
     let f = below_falls b₂ ar.measure in
     let m = ap walk_measure is in
     (omega (arith, c.decreases, f, m), ((r.0, (snoc r.1.0 true, (kept₂ h is ar ask ct b₁ w₁ b₂, (calls₂ h is ar ask ct b₁ w₁ b₂, (courses₂ h is ar ask ct b₁ w₁ b₂, enter₂ h is ar ask ct b₁ w₁ b₂))))), c.requires.1))
@@ -117,8 +114,8 @@ returns t c =
     λ hall name kept calls cs h.
     let ar = arrived t d h in
     let ask = asked t e h in
-    let b₁ = c.below-none.ensures hall name calls ar.courses (asking h is ar ask ct) in
+    let b₁ = c.below-none.ensures (asked_at (asking h is ar ask ct)) in
     let w₁ = c.walk-a.ensures hall (snoc name false) kept (calls₁ h is ar ask ct b₁) (courses₁ h is ar ask ct b₁) (enter₁ h is ar ask ct b₁) in
-    let b₂ = c.below-some.ensures hall name calls ar.courses (asking₁ h is ar ask ct b₁ w₁) in
+    let b₂ = c.below-some.ensures (asked_at (asking₁ h is ar ask ct b₁ w₁)) in
     let w₂ = c.walk.ensures hall (snoc name true) (kept₂ h is ar ask ct b₁ w₁ b₂) (calls₂ h is ar ask ct b₁ w₁ b₂) (courses₂ h is ar ask ct b₁ w₁ b₂) (enter₂ h is ar ask ct b₁ w₁ b₂) in
     record { count = w₂.count ∙ w₁.count; passed = λ f. absurd (none-some c.in-Some.q (sym f ∙ is)); walked = λ _ _. both_passed h is ar ask ct b₁ w₁ b₂ w₂ }

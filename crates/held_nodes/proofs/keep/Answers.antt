@@ -1,23 +1,30 @@
--- `keep` copies the removals of one opening after the other. The invariant: the first are copied.
-use Prim.Native.Nat.{ℕ}
-use mathlib.Core.Path.{◌≡◌, subst}
+-- `keep` copies the removals of all openings at once.
+use Prim.Native.Nat.{ℕ, ◌+◌, ◌-◌, ◌≤◌, ◌<◌}
+use mathlib.Core.Path.{◌≡◌, ap, ◌∙◌}
+use mathlib.Core.List.{List}
+use native.Mathlib.Decide.{dec_lt}
 use native.Mathlib.Omega.{arith}
 use lib.ListN.{get_or}
-use Rattle.least.specs.Filled.{FilledBy}
-use Rattle.least.proofs.Filled.{filled_none, filled_more}
 use Rattle.held_lanes.specs.Places.{removed_place, best_place}
 use Rattle.held_nodes.proofs.keep.Goals as goal
 
-pub loop-i-init : goal.loop-i-init
-loop-i-init c = (omega arith, filled_none)
-
-pub loop-i-preserved : goal.loop-i-preserved
-loop-i-preserved c = let l = c.loop-i in
-    let t = c.loop-i-test.true in
-    (omega arith, filled_more _ (omega (arith, c.requires)) (λ q h z. omega (arith, z)) (l.invariant.1.rest (removed_place l.i) (λ y h z. omega (arith, z, t))) l.invariant.1)
+-- a place that is none of the incumbent's is before or behind them
+outside : (v w : List ℕ) (x : ℕ) → ((k d : ℕ) → k < best_place 0 → get_or w k d ≡ get_or v k d) → ((k d : ℕ) → best_place 64 ≤ k → get_or w k d ≡ get_or v k d)
+    → ((y : ℕ) → y < 64 → x ≡ best_place y → ⊥) → get_or w x 0 ≡ get_or v x 0
+outside v w x before behind h = go (dec_lt x (best_place 0)) (dec_lt x (best_place 64))
+  where
+    go : Dec (x < best_place 0) → Dec (x < best_place 64) → get_or w x 0 ≡ get_or v x 0
+    go (yes l) d = before x 0 l
+    go (no l) (no g) = behind x 0 (omega (arith, g))
+    go (no l) (yes g) = absurd (h (x - best_place 0) (omega (arith, l, g)) (omega (arith, l, g)))
 
 pub returns : goal.returns
-returns c = let l = c.loop-i in
-    let v = c.args.v.now in
-    let z : l.i ≡ 64 = omega arith in
-    subst (λ (n : ℕ). FilledBy best_place (λ (k : ℕ). get_or v (removed_place k) 0) n v l.v) z l.invariant.1
+returns c = let v = c.args.v.now in
+    let e = c.copy_within.ensures in
+    record {
+      size = e.len;
+      done = λ i l.
+          let z : removed_place 0 + (best_place i - best_place 0) ≡ removed_place i = omega arith in
+          e.by_index.0 (best_place i) 0 (omega arith) (omega arith) ∙ ap (λ (x : ℕ). get_or v x 0) z;
+      rest = λ x h. outside v c.copy_within.new.self x e.by_index.1 e.by_index.2 h;
+    }

@@ -1,19 +1,14 @@
 -- `no_sums` sums the lanes of a node that the test before does not drop.
-use Prim.Native.Nat.{ℕ, ◌+◌, ◌*◌, ◌<◌, ◌≤◌}
-use mathlib.Core.Path.{◌≡◌, refl, sym, ap, ◌∙◌}
-use native.Mathlib.Omega.{arith}
-use Rattle.branch.specs.declared.Bound.{Bound}
-use Rattle.branch.specs.declared.Bound.TheVariants.{Sum}
-use Rattle.branch.proofs.Bounds.{sum_inj}
+use Prim.Native.Nat.{ℕ, ◌*◌, ◌≤◌}
+use mathlib.Core.Path.{refl, ◌∙◌}
 use Rattle.lane_rows.specs.Layout.{lane_count_lem, inf, suffix_base, lanes_in}
 use Rattle.lane_rows.specs.Rows.{lane, sum_lanes}
-use Rattle.lane_rows.proofs.Lanes.{where_some, lane_most}
+use Rattle.lane_rows.proofs.Lanes.{lane_most}
 use Rattle.lane_rows.proofs.Memory.{recalled_none}
-use Rattle.walk.specs.State.{open_s}
 use Rattle.held_nodes.proofs.Given.{sums_low}
-use Rattle.held_nodes.proofs.Dues.{due_none, due_some}
+use Rattle.walk.proofs.Dues.{rows_drop, rows_fit, rows_open}
 use Rattle.held_nodes.proofs.no_sums.Goals as goal
-use Rattle.held_nodes.proofs.no_sums.Goals.{In-Sum, Start}
+use Rattle.held_nodes.proofs.no_sums.Goals.{Start}
 
 -- the lanes' sum
 abbrev sum : Start → ℕ
@@ -22,22 +17,21 @@ sum s = let a = s.args in sum_lanes (lanes_in a.t.now) (λ (q : ℕ). lane a.t.n
 low : (s : Start) → sum s ≤ lane_count_lem * inf
 low s = let a = s.args in sums_low (λ (q : ℕ). lane a.t.now a.w.now suffix_base a.j q a.rows) (lanes_in a.t.now) (sum s) s.requires.0.stack.narrow (λ q. lane_most a.t.now a.w.now suffix_base a.j q a.rows) refl
 
--- what is due
-due : (c : In-Sum) → let a = c.args in (c.in-Sum.due ≡ a.spent + a.h) × (a.h < inf)
-due c =
-    let a = c.args in
-    due_some a.limit a.spent a.h a.x a.s c.in-Sum.due c.tested.ensures c.in-Sum.is
-
 pub returns-in_default : goal.returns-in_default
 returns-in_default c = let a = c.args in
-    record { opens = sym (due_none a.limit a.spent a.h a.x a.s c.tested.ensures c.in_default.is (sum (goal.at.returns-in_default c).Start) c.requires.1); frame = recalled_none a.t.now a.w.now a.rows c.requires.0.memo }
+    record {
+      opens = rows_drop a.limit a.spent a.h a.x a.s c.tested.ensures (sum (goal.at.returns-in_default c).Start) c.in_default.is c.requires.1;
+      frame = recalled_none a.t.now a.w.now a.rows c.requires.0.memo;
+    }
 
 pub open-requires : goal.open-requires
-open-requires c = λ y f.
-    let z = sum_inj (Sum c.look_by_fours.result) c.look_by_fours.result y refl f in
-    omega (arith, z, c.look_by_fours.ensures.sum, due (goal.at.open-requires c).In-Sum, c.requires.2, low (goal.at.open-requires c).Start)
+open-requires c = let a = c.args in
+    let s = (goal.at.open-requires c).Start in
+    λ u f. rows_fit a.limit a.spent a.h a.x a.s c.tested.ensures (sum s) c.in-Sum.due c.look_by_fours.result u c.in-Sum.is c.requires.2 (low s) c.look_by_fours.ensures.sum f
 
 pub returns : goal.returns
 returns c = let a = c.args in
-    let e = due (goal.at.returns c).In-Sum in
-    record { opens = c.«open».ensures ∙ (λ i. open_s a.limit (e.0 i) (Sum (c.look_by_fours.ensures.sum i)) a.s) ∙ ap (λ (b : Bound). open_s a.limit (a.spent + a.h) b a.s) (sym (where_some a.h (sum (goal.at.returns c).Start) e.1)); frame = c.look_by_fours.ensures.recalled }
+    record {
+      opens = c.«open».ensures ∙ rows_open a.limit a.spent a.h a.x a.s c.tested.ensures (sum (goal.at.returns c).Start) c.in-Sum.due c.look_by_fours.result c.in-Sum.is c.look_by_fours.ensures.sum;
+      frame = c.look_by_fours.ensures.recalled;
+    }

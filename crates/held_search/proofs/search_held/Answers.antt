@@ -21,4 +21,4 @@ returns c job ho = let n = c.args.numbers.now in
     subst (λ (r : Found). said_in (length job.openings) (length job.parts) r ≡ answer_of job limit) (sym c.found_by.ensures)
     (said job j.end j.positions.now j.fees.now j.lives.now j.lefts.now j.prices.now n.needs.now n.removals.now (lanes_are (arrays_of n)) ho limit name w.result
     (subst (λ (xs : List Bool). SolvesJob job limit xs w.result) (sym c.name_of-size.ensures.name) (w.ensures job ho))
-    p.result.stops p.ensures.stops p.result.changes p.ensures.changes)
+    p.result p.ensures.stops p.ensures.changes)

@@ -57,7 +57,7 @@ pub fill_held-requires-clause-grouped : goal.fill_held-requires-clause-grouped
 fill_held-requires-clause-grouped c = let e = c.needs-needs in grouped c.args.numbers.now e.result c.classes_of-classes.result e.ensures.marks e.ensures.holding c.classes_of-classes.ensures
 
 pub solve-requires : goal.solve-requires
-solve-requires c = let k = (goal.at.solve-requires c).After-fill_held in ((sheet k, tables k, c.fill_held.ensures, fit k), omega (arith, c.requires.1))
+solve-requires c = let k = (goal.at.solve-requires c).After-fill_held in ((sheet k, tables k, c.fill_held.ensures, fit k), omega (arith, c.requires))
 
 pub returns : goal.returns
 returns c job ho = let k = (goal.at.returns c).After-fill_held in

@@ -7,7 +7,7 @@ use Rattle.lane_rows.specs.Layout.{lane_count_lem, inf}
 use Rattle.held_stops.proofs.pend_lanes.Goals as goal
 
 pub next_lanes-requires : goal.next_lanes-requires
-next_lanes-requires c = (c.requires.0, omega arith, λ q l. get_or-replicate {A = ℕ} lane_count_lem q inf 0 (omega (arith, c.requires.0.stack.narrow)))
+next_lanes-requires c = (c.requires, omega arith, λ q l. get_or-replicate {A = ℕ} lane_count_lem q inf 0 (omega (arith, c.requires.stack.narrow)))
 
 pub returns : goal.returns
 returns c = let f = c.store_row.ensures in

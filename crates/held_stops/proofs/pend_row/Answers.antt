@@ -3,17 +3,16 @@ use Prim.Native.Nat.{ℕ}
 use mathlib.Core.Path.{◌≡◌, sym, subst}
 use mathlib.Core.List.{List}
 use native.Mathlib.Omega.{arith}
-use lib.ListN.{length}
 use Rattle.least.specs.Filled.{FilledBy}
 use Rattle.lane_rows.specs.Layout.{lanes_in}
 use Rattle.lane_rows.specs.Rows.{Owing, next_row}
-use Rattle.held_lanes.specs.Places.{pending_place, aside_size}
+use Rattle.held_lanes.specs.Places.{pending_place}
 use Rattle.held_stops.proofs.pend_row.Goals as goal
 use Rattle.held_stops.proofs.pend_row.Goals.{Else-fours-lt4, Start}
 
 -- what so many lanes ask, where the job has so many
-asks : (s : Start) (k : ℕ) → lanes_in s.args.t.now ≡ k → let a = s.args in Owing k a.t.now a.w.now a.j a.rows × (length a.v.now ≡ aside_size)
-asks s k z = let a = s.args in (subst (λ (wide : ℕ). Owing wide a.t.now a.w.now a.j a.rows) z s.requires.0, s.requires.1)
+asks : (s : Start) (k : ℕ) → lanes_in s.args.t.now ≡ k → let a = s.args in Owing k a.t.now a.w.now a.j a.rows
+asks s k z = let a = s.args in subst (λ (wide : ℕ). Owing wide a.t.now a.w.now a.j a.rows) z s.requires
 
 -- what they put
 pends : (s : Start) (k : ℕ) (v : List ℕ) → lanes_in s.args.t.now ≡ k → let a = s.args in FilledBy (pending_place a.rows) (next_row a.t.now a.w.now a.j a.rows) k a.v.now v
@@ -22,13 +21,13 @@ pends s k v z u = let a = s.args in subst (λ (wide : ℕ). FilledBy (pending_pl
 
 -- not one, two or three fours
 four : (c : Else-fours-lt4) → lanes_in c.args.t.now ≡ 16
-four c = omega (arith, c.if-fours-lt4.false, c.requires.0.stack.narrow)
+four c = omega (arith, c.if-fours-lt4.false, c.requires.stack.narrow)
 
 pub pend_lanes-requires : goal.pend_lanes-requires
-pend_lanes-requires c = asks (goal.at.pend_lanes-requires c).Start 4 (omega (arith, c.if-fours-lt2.true, c.requires.0.stack.some))
+pend_lanes-requires c = asks (goal.at.pend_lanes-requires c).Start 4 (omega (arith, c.if-fours-lt2.true, c.requires.stack.some))
 
 pub returns-then-fours-lt2 : goal.returns-then-fours-lt2
-returns-then-fours-lt2 c = pends (goal.at.returns-then-fours-lt2 c).Start 4 c.pend_lanes.new.v (omega (arith, c.if-fours-lt2.true, c.requires.0.stack.some)) c.pend_lanes.ensures
+returns-then-fours-lt2 c = pends (goal.at.returns-then-fours-lt2 c).Start 4 c.pend_lanes.new.v (omega (arith, c.if-fours-lt2.true, c.requires.stack.some)) c.pend_lanes.ensures
 
 pub pend_lanes-requires-then-fours-lt3 : goal.pend_lanes-requires-then-fours-lt3
 pend_lanes-requires-then-fours-lt3 c = asks (goal.at.pend_lanes-requires-then-fours-lt3 c).Start 8 (omega (arith, c.if-fours-lt3.true, c.if-fours-lt2.false))

@@ -1,16 +1,12 @@
 -- `put_leads` writes the leads. The invariant: the first c are written.
-use Rattle.std.proofs.Common.{arith, length-take-le}
-use lib.Seq.{get_or-take}
-use Rattle.least.proofs.Filled.{filled_none, filled_more}
-use Rattle.held_tables.proofs.Ends.{filled_all}
+use Prim.Native.Nat.{ℕ, ◌+◌, ◌-◌}
+use Rattle.std.proofs.Common.{arith}
+use lib.ListN.{get_or}
+use Rattle.least.proofs.Filled.{filled_by}
+use Rattle.held_lanes.specs.Places.{mask_base}
 use Rattle.held_tables.proofs.put_leads.Goals as goal
 
-pub loop-c-init : goal.loop-c-init
-loop-c-init c = filled_none
-
-pub loop-c-preserved : goal.loop-c-preserved
-loop-c-preserved c = let k = c.args.classes.now in
-    filled_more _ (omega (arith, k.led.most, length-take-le k.count k.leads (omega (arith, k.led.room, k.led.most)))) (λ y h e. omega (arith, e)) (get_or-take k.count k.leads c.loop-c.c 0 (omega (arith, length-take-le k.count k.leads (omega (arith, k.led.room, k.led.most))))) c.loop-c.invariant
-
 pub returns : goal.returns
-returns c = filled_all c.loop-c.invariant (omega arith)
+returns c = let k = c.args.classes.now in
+    filled_by c.args.u.now c.loop-c.place-items (mask_base + 64) k.count (mask_base + 64 + k.count - (mask_base + 64)) (λ (y : ℕ). get_or k.leads y 0) (omega arith) (omega (arith, k.led.most)) (omega (arith, k.led.most))
+    (λ y h. c.loop-c.invariant y (omega (arith, h, k.led.most)))

@@ -8,6 +8,7 @@ use lib.Bits.{bit_or}
 use lib.ListN.{length, get_or, set}
 use lib.Seq.{get_or-set_same, get_or-set_other}
 use Rattle.branch.specs.Search.{Limited, limited, onward}
+use Rattle.branch.specs.declared.Bound.{Bound}
 use Rattle.branch.specs.declared.Bound.TheVariants.{Missing, Sum}
 use Rattle.branch.proofs.Bounds.{sum_inj}
 use Rattle.model.specs.Decisions.{concat}
@@ -33,7 +34,7 @@ use Rattle.held_nodes.proofs.Openings.{no_blocks_lem, yes_blocks, full_fits, ful
 use Rattle.held_nodes.proofs.Stops.{more_blocks, stop_asks, stays_shut, stays_below, stays_more, stays_cheap, stays_due, at_stays, out_fits, out_due, at_out, both_removals}
 use Rattle.held_nodes.proofs.Branches.{stop_here_lem, spent_fits, Passed, passed_as, walked_as, at_looked, first_closed, first_open, second_closed, second_open, rests_walked}
 use Rattle.held_walk.proofs.+walk.Goals as goal
-use Rattle.held_walk.proofs.+walk.Goals.{in-Sum, in-Missing, in-Sum-no_sums, in-Missing-no_sums, After-cell-2, After-no_sums, After-number-k, After-opening_term-h, After-out, After-removal_term-h, After-settle-rows, After-stay_sums, After-struct_known-then-p-number-5-1, After-yes, Else-p-cell, Else-p-number, In-Sum-open, In-Sum-open-2, Joined-no_sums, Joined-stay_sums, Start, Then-p-number}
+use Rattle.held_walk.proofs.+walk.Goals.{in-Sum, in-Missing, in-Sum-no_sums, in-Missing-no_sums, After-no_sums, After-opening_term-h, After-removal_term-h, After-settle-rows, After-stay_sums, Else-p-cell, Else-p-number, Joined-no_sums, Joined-stay_sums, Start, Then-p-number}
 
 -- the sheet and the blocks that are asked for, and what is given of them
 abbrev sheet_of_lem : (t : ℕ) → Start t → HeldSheet
@@ -208,68 +209,61 @@ reached-a-requires t c = limits t (goal.at.reached-a-requires t c).Start
 pub overflow_add-p-then-p-number : goal.overflow_add-p-then-p-number
 overflow_add-p-then-p-number t c = omega (arith, near t (goal.at.overflow_add-p-then-p-number t c).Then-p-number)
 
-pub number-requires-then-p-number-2 : goal.number-requires-then-p-number-2
-number-requires-then-p-number-2 t c = let z = (given t (goal.at.number-requires-then-p-number-2 t c).Start).holders.size in
-    (omega (arith, near t (goal.at.number-requires-then-p-number-2 t c).Then-p-number, z), omega (arith, z))
-
 -- what is paid with it
-abbrev paying : (t : ℕ) → After-struct_known-then-p-number-5-1 t → ℕ
-paying t c = c.args.p.spent + c.number-then-p-number-2.result
+abbrev paying : (t : ℕ) → Joined-stay_sums t → ℕ → ℕ
+paying t c n = c.args.p.spent + n
 
-cost : (t : ℕ) (c : After-struct_known-then-p-number-5-1 t) → let a = c.args in paying t c ≡ a.p.spent + get_or a.u.now (removal_place a.p.next) 0
-cost t c = ap (λ (n : ℕ). c.args.p.spent + n) c.number-then-p-number-2.ensures.value
+cost : (t : ℕ) (c : Joined-stay_sums t) (n : ℕ) (f : n ≡ get_or c.args.u.now (removal_place c.args.p.next) 0) → let a = c.args in paying t c n ≡ a.p.spent + get_or a.u.now (removal_place a.p.next) 0
+cost t c n f = ap (λ (m : ℕ). c.args.p.spent + m) f
 
-out_fit : (t : ℕ) (c : After-struct_known-then-p-number-5-1 t) → let a = c.args in paying t c + a.g + a.x < no_cost
-out_fit t c =
-    let h = given t c.before.before.before.before.before.before.before.before.before.before.before.before.before.before.before.before.before.before.before.before in
-    out_fits h (owed t c.before.before.before.before.before (sheet_of_lem t c.before.before.before.before.before.before.before.before.before.before.before.before.before.before.before.before.before.before.before.before) (blocks_of_lem t c.before.before.before.before.before.before.before.before.before.before.before.before.before.before.before.before.before.before.before.before) h) (next t c.before.before.before.before.before (sheet_of_lem t c.before.before.before.before.before.before.before.before.before.before.before.before.before.before.before.before.before.before.before.before) (blocks_of_lem t c.before.before.before.before.before.before.before.before.before.before.before.before.before.before.before.before.before.before.before.before) h) (paying t c) (cost t c)
+out_fit : (t : ℕ) (c : Joined-stay_sums t) (n : ℕ) (f : n ≡ get_or c.args.u.now (removal_place c.args.p.next) 0) → let a = c.args in paying t c n + a.g + a.x < no_cost
+out_fit t c n f =
+    let h = given t c.before.before.before.before.before.before.before.before.before.before.before.before.before.before.before.before in
+    out_fits h (owed t c.before (sheet_of_lem t c.before.before.before.before.before.before.before.before.before.before.before.before.before.before.before.before) (blocks_of_lem t c.before.before.before.before.before.before.before.before.before.before.before.before.before.before.before.before) h) (next t c.before (sheet_of_lem t c.before.before.before.before.before.before.before.before.before.before.before.before.before.before.before.before) (blocks_of_lem t c.before.before.before.before.before.before.before.before.before.before.before.before.before.before.before.before) h) (paying t c n) (cost t c n f)
 
 pub overflow_add-spent : goal.overflow_add-spent
-overflow_add-spent t c = omega (arith, out_fit t c)
+overflow_add-spent t c = omega (arith, out_fit t (goal.at.overflow_add-spent t c).Joined-stay_sums c.from.result c.from.ensures)
 
 pub overflow_add-spent-then-p-number : goal.overflow_add-spent-then-p-number
-overflow_add-spent-then-p-number t c = omega (arith, out_fit t c)
+overflow_add-spent-then-p-number t c = omega (arith, out_fit t (goal.at.overflow_add-spent-then-p-number t c).Joined-stay_sums c.from.result c.from.ensures)
 
 pub open-requires : goal.open-requires
-open-requires t c = λ x e. let y = c.args.x in let z = sum_inj (Sum y) y x refl e in omega (arith, z, out_fit t c)
+open-requires t c = λ x e. let y = c.args.x in let z = sum_inj (Sum y) y x refl e in omega (arith, z, out_fit t (goal.at.open-requires t c).Joined-stay_sums c.from.result c.from.ensures)
 
 pub reached-requires : goal.reached-requires
 reached-requires t c = limits t (goal.at.reached-requires t c).Start
 
-abbrev out_blocks : (t : ℕ) (c : After-struct_known-then-p-number-5-1 t) (sheet : HeldSheet) (ds : List (List Bool)) (h : Given t c.before.before.before.before.before.before.before.before.before.before.before.before.before.before.before.before.before.before.before.before sheet ds) → List (List Bool)
-out_blocks t c sheet ds h = more t c.before.before.before.before.before sheet ds h true
+abbrev out_blocks : (t : ℕ) (c : Joined-stay_sums t) (sheet : HeldSheet) (ds : List (List Bool)) (h : Given t c.before.before.before.before.before.before.before.before.before.before.before.before.before.before.before.before sheet ds) → List (List Bool)
+out_blocks t c sheet ds h = more t c.before sheet ds h true
 
-out_owes : (t : ℕ) (c : After-struct_known-then-p-number-5-1 t) (sheet : HeldSheet) (ds : List (List Bool)) (h : Given t c.before.before.before.before.before.before.before.before.before.before.before.before.before.before.before.before.before.before.before.before sheet ds) → let a = c.args in DueAt (tree_at sheet (out_n a.p (paying t c)) (out_blocks t c sheet ds h)) (Sum a.x) (paying t c + a.g)
-out_owes t c sheet ds h = out_due h (owed t c.before.before.before.before.before sheet ds h) (next t c.before.before.before.before.before sheet ds h) (paying t c) (cost t c)
+out_owes : (t : ℕ) (c : Joined-stay_sums t) (n : ℕ) (f : n ≡ get_or c.args.u.now (removal_place c.args.p.next) 0) (sheet : HeldSheet) (ds : List (List Bool)) (h : Given t c.before.before.before.before.before.before.before.before.before.before.before.before.before.before.before.before sheet ds) → let a = c.args in DueAt (tree_at sheet (out_n a.p (paying t c n)) (out_blocks t c sheet ds h)) (Sum a.x) (paying t c n + a.g)
+out_owes t c n f sheet ds h = out_due h (owed t c.before sheet ds h) (next t c.before sheet ds h) (paying t c n) (cost t c n f)
 
-both_out : (t : ℕ) (c : After-struct_known-then-p-number-5-1 t) (sheet : HeldSheet) (ds : List (List Bool)) (h : Given t c.before.before.before.before.before.before.before.before.before.before.before.before.before.before.before.before.before.before.before.before sheet ds) → let a = c.args in (st : Limited) → onward a.limit (tree_at sheet a.p ds) (concat ds) st
-    ≡ limited a.limit (tree_at sheet (out_n a.p (paying t c)) (out_blocks t c sheet ds h)) (concat (out_blocks t c sheet ds h)) (limited a.limit (tree_at sheet (stays_n a.p (shut t c.before.before.before.before.before.before.before)) (more t c.before.before.before.before.before sheet ds h false)) (concat (more t c.before.before.before.before.before sheet ds h false)) st)
-both_out t c sheet ds h st = both_removals h (owed t c.before.before.before.before.before sheet ds h) (next t c.before.before.before.before.before sheet ds h) c.args.limit (shut t c.before.before.before.before.before.before.before) (paying t c) st
+both_out : (t : ℕ) (c : Joined-stay_sums t) (n : ℕ) (f : n ≡ get_or c.args.u.now (removal_place c.args.p.next) 0) (sheet : HeldSheet) (ds : List (List Bool)) (h : Given t c.before.before.before.before.before.before.before.before.before.before.before.before.before.before.before.before sheet ds) → let a = c.args in (st : Limited) → onward a.limit (tree_at sheet a.p ds) (concat ds) st
+    ≡ limited a.limit (tree_at sheet (out_n a.p (paying t c n)) (out_blocks t c sheet ds h)) (concat (out_blocks t c sheet ds h)) (limited a.limit (tree_at sheet (stays_n a.p (shut t c.before.before.before)) (more t c.before sheet ds h false)) (concat (more t c.before sheet ds h false)) st)
+both_out t c n f sheet ds h st = both_removals h (owed t c.before sheet ds h) (next t c.before sheet ds h) c.args.limit (shut t c.before.before.before) (paying t c n) st
 
 -- it is given after the first branch
-out_given : (t : ℕ) (c : After-struct_known-then-p-number-5-1 t) (sheet : HeldSheet) (ds : List (List Bool)) (h : Given t c.before.before.before.before.before.before.before.before.before.before.before.before.before.before.before.before.before.before.before.before sheet ds) → let a = c.args in At sheet (out_blocks t c sheet ds h) a.t.now a.u.now c.match-stay_sums.w c.match-stay_sums.v (out_n a.p (paying t c)) a.x a.g
+out_given : (t : ℕ) (c : Joined-stay_sums t) (n : ℕ) (f : n ≡ get_or c.args.u.now (removal_place c.args.p.next) 0) (sheet : HeldSheet) (ds : List (List Bool)) (h : Given t c.before.before.before.before.before.before.before.before.before.before.before.before.before.before.before.before sheet ds) → let a = c.args in At sheet (out_blocks t c sheet ds h) a.t.now a.u.now c.match-stay_sums.w c.match-stay_sums.v (out_n a.p (paying t c n)) a.x a.g
 unfolding at_kept
-out_given t c sheet ds h =
-    let z = stays_first t c.before.before.before.before sheet ds h in
-    at_out (at_kept z.frame z.pending h) (owed t c.before.before.before.before.before sheet ds h) (next t c.before.before.before.before.before sheet ds h) (paying t c) (cost t c)
+out_given t c n f sheet ds h =
+    let z = stays_first t c sheet ds h in
+    at_out (at_kept z.frame z.pending h) (owed t c.before sheet ds h) (next t c.before sheet ds h) (paying t c n) (cost t c n f)
 
 pub returns-in_default : goal.returns-in_default
 returns-in_default t c = λ sheet ds h.
     let a = c.args in
     subst (λ (r : Search). HeldWalked sheet ds a.t.now a.w.now c.match-stay_sums.w a.v.now c.match-stay_sums.v a.limit a.p a.s r) (sym c.reached.ensures)
-    (second_closed (stays_first t (goal.at.returns-in_default t c).Joined-stay_sums sheet ds h) (out_n a.p (paying t (goal.at.returns-in_default t c).After-struct_known-then-p-number-5-1)) (out_blocks t (goal.at.returns-in_default t c).After-struct_known-then-p-number-5-1 sheet ds h) (out_owes t (goal.at.returns-in_default t c).After-struct_known-then-p-number-5-1 sheet ds h) (both_out t (goal.at.returns-in_default t c).After-struct_known-then-p-number-5-1 sheet ds h) (sym c.«open».ensures ∙ c.in_default.is))
+    (second_closed (stays_first t (goal.at.returns-in_default t c).Joined-stay_sums sheet ds h) (out_n a.p (paying t (goal.at.returns-in_default t c).Joined-stay_sums c.from.result)) (out_blocks t (goal.at.returns-in_default t c).Joined-stay_sums sheet ds h) (out_owes t (goal.at.returns-in_default t c).Joined-stay_sums c.from.result c.from.ensures sheet ds h) (both_out t (goal.at.returns-in_default t c).Joined-stay_sums c.from.result c.from.ensures sheet ds h) (sym c.«open».ensures ∙ c.in_default.is))
 
 -- it is walked on, with the same part sums
-out_opens : (t : ℕ) (c : In-Sum-open t) → let a = c.args in open_s a.limit (paying t c.before.before + a.g) (Sum a.x) c.match-stay_sums.a ≡ Sum c.in-Sum-open.y
-out_opens t c = sym c.«open».ensures ∙ c.in-Sum-open.is
-
-out_opened : (t : ℕ) (c : In-Sum-open t) (sheet : HeldSheet) (ds : List (List Bool))
+out_opened : (t : ℕ) (c : Joined-stay_sums t) (n : ℕ) (f : n ≡ get_or c.args.u.now (removal_place c.args.p.next) 0) (r : Bound) (y : ℕ) (o : r ≡ open_s c.args.limit (c.args.p.spent + n + c.args.g) (Sum c.args.x) c.match-stay_sums.a) (i : r ≡ Sum y) (sheet : HeldSheet) (ds : List (List Bool))
     → let a = c.args in
-    (h : Given t c.before.before.before.before.before.before.before.before.before.before.before.before.before.before.before.before.before.before.before.before.before.before sheet ds)
-    → Opened (out_owes t c.before.before sheet ds h) (concat (out_blocks t c.before.before sheet ds h)) a.limit (best_name (held sheet) (length sheet.positions) c.match-stay_sums.v) c.match-stay_sums.a c.in-Sum-open.y
-out_opened t c sheet ds h =
+    (h : Given t c.before.before.before.before.before.before.before.before.before.before.before.before.before.before.before.before sheet ds)
+    → Opened (out_owes t c n f sheet ds h) (concat (out_blocks t c sheet ds h)) a.limit (best_name (held sheet) (length sheet.positions) c.match-stay_sums.v) c.match-stay_sums.a y
+out_opened t c n f r y o i sheet ds h =
     let a = c.args in
-    opened (out_owes t c.before.before sheet ds h) (concat (out_blocks t c.before.before sheet ds h)) a.limit (best_name (held sheet) (length sheet.positions) c.match-stay_sums.v) c.match-stay_sums.a c.in-Sum-open.y (out_opens t c)
+    opened (out_owes t c n f sheet ds h) (concat (out_blocks t c sheet ds h)) a.limit (best_name (held sheet) (length sheet.positions) c.match-stay_sums.v) c.match-stay_sums.a y (sym o ∙ i)
 
 pub out-requires : goal.out-requires
 out-requires t c = let h = given t (goal.at.out-requires t c).Start in
@@ -278,31 +272,31 @@ out-requires t c = let h = given t (goal.at.out-requires t c).Start in
     (near t (goal.at.out-requires t c).Then-p-number, mask_fits p.next p.removed s.small (omega (arith, near t (goal.at.out-requires t c).Then-p-number)))
 
 pub counted-requires-then-p-number : goal.counted-requires-then-p-number
-counted-requires-then-p-number t c = omega (arith, (out_opened t (goal.at.counted-requires-then-p-number t c).In-Sum-open (sheet_of_lem t (goal.at.counted-requires-then-p-number t c).Start) (blocks_of_lem t (goal.at.counted-requires-then-p-number t c).Start) (given t (goal.at.counted-requires-then-p-number t c).Start)).within, limits t (goal.at.counted-requires-then-p-number t c).Start)
+counted-requires-then-p-number t c = omega (arith, (out_opened t (goal.at.counted-requires-then-p-number t c).Joined-stay_sums c.from.result c.from.ensures c.«open».result c.in-Sum-open.y c.«open».ensures c.in-Sum-open.is (sheet_of_lem t (goal.at.counted-requires-then-p-number t c).Start) (blocks_of_lem t (goal.at.counted-requires-then-p-number t c).Start) (given t (goal.at.counted-requires-then-p-number t c).Start)).within, limits t (goal.at.counted-requires-then-p-number t c).Start)
 
-out_child : (t : ℕ) (c : After-out t) (sheet : HeldSheet) (ds : List (List Bool))
+out_child : (t : ℕ) (c : Joined-stay_sums t) (n : ℕ) (f : n ≡ get_or c.args.u.now (removal_place c.args.p.next) 0) (r : Bound) (y : ℕ) (o : r ≡ open_s c.args.limit (c.args.p.spent + n + c.args.g) (Sum c.args.x) c.match-stay_sums.a) (i : r ≡ Sum y) (q : Node) (e : q ≡ out_n c.args.p (paying t c n)) (sheet : HeldSheet) (ds : List (List Bool))
     → let a = c.args in
-    (h : Given t c.before.before.before.before.before.before.before.before.before.before.before.before.before.before.before.before.before.before.before.before.before.before.before.before.before sheet ds)
-    → At sheet (out_blocks t c.before.before.before.before.before sheet ds h) a.t.now a.u.now c.match-stay_sums.w c.match-stay_sums.v c.out.result c.in-Sum-open.y a.g
-out_child t c sheet ds h =
+    (h : Given t c.before.before.before.before.before.before.before.before.before.before.before.before.before.before.before.before sheet ds)
+    → At sheet (out_blocks t c sheet ds h) a.t.now a.u.now c.match-stay_sums.w c.match-stay_sums.v q y a.g
+out_child t c n f r y o i q e sheet ds h =
     let a = c.args in
-    let x = sum_inj (Sum a.x) a.x c.in-Sum-open.y refl (out_opened t c.before.before.before sheet ds h).sums in
-    subst (λ (n : Node). At sheet (out_blocks t c.before.before.before.before.before sheet ds h) a.t.now a.u.now c.match-stay_sums.w c.match-stay_sums.v n c.in-Sum-open.y a.g) (sym c.out.ensures)
-    (subst (λ (z : ℕ). At sheet (out_blocks t c.before.before.before.before.before sheet ds h) a.t.now a.u.now c.match-stay_sums.w c.match-stay_sums.v (out_n a.p (paying t c.before.before.before.before.before)) z a.g) x (out_given t c.before.before.before.before.before sheet ds h))
+    let x = sum_inj (Sum a.x) a.x y refl (out_opened t c n f r y o i sheet ds h).sums in
+    subst (λ (m : Node). At sheet (out_blocks t c sheet ds h) a.t.now a.u.now c.match-stay_sums.w c.match-stay_sums.v m y a.g) (sym e)
+    (subst (λ (z : ℕ). At sheet (out_blocks t c sheet ds h) a.t.now a.u.now c.match-stay_sums.w c.match-stay_sums.v (out_n a.p (paying t c n)) z a.g) x (out_given t c n f sheet ds h))
 
 pub walk-b-requires : goal.walk-b-requires
 walk-b-requires t c = let z : c.out.result.at ≡ c.args.p.at = ap (λ (n : Node). n.at) c.out.ensures in
     let x : c.out.result.next ≡ c.args.p.next + 1 = ap (λ (n : Node). n.next) c.out.ensures in
     let h = given t (goal.at.walk-b-requires t c).Start in
-    (omega (arith, c.decreases, z, x, near t (goal.at.walk-b-requires t c).Then-p-number), ((sheet_of_lem t (goal.at.walk-b-requires t c).Start, (out_blocks t (goal.at.walk-b-requires t c).After-struct_known-then-p-number-5-1 (sheet_of_lem t (goal.at.walk-b-requires t c).Start) (blocks_of_lem t (goal.at.walk-b-requires t c).Start) h, out_child t (goal.at.walk-b-requires t c).After-out (sheet_of_lem t (goal.at.walk-b-requires t c).Start) (blocks_of_lem t (goal.at.walk-b-requires t c).Start) h)), limits t (goal.at.walk-b-requires t c).Start))
+    (omega (arith, c.decreases, z, x, near t (goal.at.walk-b-requires t c).Then-p-number), ((sheet_of_lem t (goal.at.walk-b-requires t c).Start, (out_blocks t (goal.at.walk-b-requires t c).Joined-stay_sums (sheet_of_lem t (goal.at.walk-b-requires t c).Start) (blocks_of_lem t (goal.at.walk-b-requires t c).Start) h, out_child t (goal.at.walk-b-requires t c).Joined-stay_sums c.from.result c.from.ensures c.«open».result c.in-Sum-open.y c.«open».ensures c.in-Sum-open.is c.out.result c.out.ensures (sheet_of_lem t (goal.at.walk-b-requires t c).Start) (blocks_of_lem t (goal.at.walk-b-requires t c).Start) h)), limits t (goal.at.walk-b-requires t c).Start))
 
 pub returns-then-p-number : goal.returns-then-p-number
 returns-then-p-number t c = λ sheet ds h.
     let a = c.args in
     let z = stays_first t (goal.at.returns-then-p-number t c).Joined-stay_sums sheet ds h in
-    second_open z (out_n a.p (paying t (goal.at.returns-then-p-number t c).After-struct_known-then-p-number-5-1)) (out_blocks t (goal.at.returns-then-p-number t c).After-struct_known-then-p-number-5-1 sheet ds h) (out_owes t (goal.at.returns-then-p-number t c).After-struct_known-then-p-number-5-1 sheet ds h) (both_out t (goal.at.returns-then-p-number t c).After-struct_known-then-p-number-5-1 sheet ds h) c.in-Sum-open.y c.walk-b.result (out_opens t (goal.at.returns-then-p-number t c).In-Sum-open)
+    second_open z (out_n a.p (paying t (goal.at.returns-then-p-number t c).Joined-stay_sums c.from.result)) (out_blocks t (goal.at.returns-then-p-number t c).Joined-stay_sums sheet ds h) (out_owes t (goal.at.returns-then-p-number t c).Joined-stay_sums c.from.result c.from.ensures sheet ds h) (both_out t (goal.at.returns-then-p-number t c).Joined-stay_sums c.from.result c.from.ensures sheet ds h) c.in-Sum-open.y c.walk-b.result (sym c.«open».ensures ∙ c.in-Sum-open.is)
     (record { recalled = recalled_none a.t.now c.match-stay_sums.w a.p.rows z.frame.recalled.memo; aside = aside_none c.match-stay_sums.v a.p.rows (written a.p) }) (λ i j. refl)
-    (walked_as c.out.ensures c.counted-then-p-number.ensures (c.walk-b.ensures sheet (out_blocks t (goal.at.returns-then-p-number t c).After-struct_known-then-p-number-5-1 sheet ds h) (out_child t (goal.at.returns-then-p-number t c).After-out sheet ds h))) refl (wrote t (goal.at.returns-then-p-number t c).After-stay_sums sheet ds h) (λ z o r. z refl r)
+    (walked_as c.out.ensures c.counted-then-p-number.ensures (c.walk-b.ensures sheet (out_blocks t (goal.at.returns-then-p-number t c).Joined-stay_sums sheet ds h) (out_child t (goal.at.returns-then-p-number t c).Joined-stay_sums c.from.result c.from.ensures c.«open».result c.in-Sum-open.y c.«open».ensures c.in-Sum-open.is c.out.result c.out.ensures sheet ds h))) refl (wrote t (goal.at.returns-then-p-number t c).After-stay_sums sheet ds h) (λ z o r. z refl r)
 
 -- ---- at an opening
 
@@ -329,12 +323,9 @@ here : (t : ℕ) (c : After-settle-rows t) (sheet : HeldSheet) (ds : List (List 
 here t c sheet ds h = (rest_in t c sheet ds h).given
 
 pub cell-requires : goal.cell-requires
-cell-requires t c = let h = given t (goal.at.cell-requires t c).Start in (omega (arith, h.tables.size), h.tables.size)
+cell-requires t c = omega arith
 
 -- ---- a full node
-
-pub keep-requires : goal.keep-requires
-keep-requires t c = (here t (goal.at.keep-requires t c).After-settle-rows (sheet_of_lem t (goal.at.keep-requires t c).Start) (blocks_of_lem t (goal.at.keep-requires t c).Start) (given t (goal.at.keep-requires t c).Start)).aside
 
 pub overflow_add-p-then-p-cell : goal.overflow_add-p-then-p-cell
 overflow_add-p-then-p-cell t c = omega (arith, full_fits (here t (goal.at.overflow_add-p-then-p-cell t c).After-settle-rows (sheet_of_lem t (goal.at.overflow_add-p-then-p-cell t c).Start) (blocks_of_lem t (goal.at.overflow_add-p-then-p-cell t c).Start) (given t (goal.at.overflow_add-p-then-p-cell t c).Start)) refl)
@@ -350,11 +341,11 @@ returns-then-p-cell t c = λ sheet ds h.
 
 -- ---- at an opening: no stop
 
-less : (t : ℕ) (c : Else-p-cell t) (sheet : HeldSheet) (ds : List (List Bool)) → Given t c.before.before.before.before.before.before.before.before.before.before.before sheet ds → c.args.p.at < length sheet.positions
+less : (t : ℕ) (c : Else-p-cell t) (sheet : HeldSheet) (ds : List (List Bool)) → Given t c.before.before.before.before.before.before.before.before.before.before sheet ds → c.args.p.at < length sheet.positions
 less t c sheet ds h = omega (arith, h.inside, h.tables.count, c.cell.ensures, c.if-p-cell.false)
 
 close_by : (t : ℕ) (c : Else-p-cell t) → c.args.p.at < 64
-close_by t c = let h = given t c.before.before.before.before.before.before.before.before.before.before.before in omega (arith, less t c (sheet_of_lem t c.before.before.before.before.before.before.before.before.before.before.before) (blocks_of_lem t c.before.before.before.before.before.before.before.before.before.before.before) h, h.tables.few)
+close_by t c = let h = given t c.before.before.before.before.before.before.before.before.before.before in omega (arith, less t c (sheet_of_lem t c.before.before.before.before.before.before.before.before.before.before) (blocks_of_lem t c.before.before.before.before.before.before.before.before.before.before) h, h.tables.few)
 
 pub overflow_add-j : goal.overflow_add-j
 overflow_add-j t c = omega (arith, close_by t (goal.at.overflow_add-j t c).Else-p-cell)
@@ -371,12 +362,12 @@ opening_term-h-requires t c = let h = given t (goal.at.opening_term-h-requires t
 abbrev no_sum_lem : (t : ℕ) → After-opening_term-h t → ℕ
 no_sum_lem t c =
     let a = c.args in
-    sum_lanes (lanes_in a.t.now) (λ (q : ℕ). lane a.t.now (rows_in t c.before.before.before.before.before.before.before.before.before) suffix_base (a.p.at + 1) q c.settle-rows.result)
+    sum_lanes (lanes_in a.t.now) (λ (q : ℕ). lane a.t.now (rows_in t c.before.before.before.before.before.before.before.before) suffix_base (a.p.at + 1) q c.settle-rows.result)
 
 no_low : (t : ℕ) (c : After-opening_term-h t) → no_sum_lem t c ≤ lane_count_lem * inf
 no_low t c =
     let a = c.args in
-    sums_low (λ (q : ℕ). lane a.t.now (rows_in t c.before.before.before.before.before.before.before.before.before) suffix_base (a.p.at + 1) q c.settle-rows.result) (lanes_in a.t.now) (no_sum_lem t c) (given t c.before.before.before.before.before.before.before.before.before.before.before.before.before.before.before.before).tables.narrow (λ q. lane_most a.t.now (rows_in t c.before.before.before.before.before.before.before.before.before) suffix_base (a.p.at + 1) q c.settle-rows.result) refl
+    sums_low (λ (q : ℕ). lane a.t.now (rows_in t c.before.before.before.before.before.before.before.before) suffix_base (a.p.at + 1) q c.settle-rows.result) (lanes_in a.t.now) (no_sum_lem t c) (given t c.before.before.before.before.before.before.before.before.before.before.before.before.before.before.before).tables.narrow (λ q. lane_most a.t.now (rows_in t c.before.before.before.before.before.before.before.before) suffix_base (a.p.at + 1) q c.settle-rows.result) refl
 
 pub no_sums-requires : goal.no_sums-requires
 no_sums-requires t c = let h = given t (goal.at.no_sums-requires t c).Start in
@@ -384,37 +375,37 @@ no_sums-requires t c = let h = given t (goal.at.no_sums-requires t c).Start in
     let k = less t (goal.at.no_sums-requires t c).Else-p-cell (sheet_of_lem t (goal.at.no_sums-requires t c).Start) (blocks_of_lem t (goal.at.no_sums-requires t c).Start) h in
     ((opening_asks e refl k).1, no_more e refl k c.opening_term-h.result (no_sum_lem t (goal.at.no_sums-requires t c).After-opening_term-h) c.opening_term-h.ensures refl, spent_fits h, h.low)
 
-abbrev found : (t : ℕ) (c : After-no_sums t) (sheet : HeldSheet) (ds : List (List Bool)) (h : Given t c.before.before.before.before.before.before.before.before.before.before.before.before.before.before.before.before.before.before sheet ds) → ℕ
+abbrev found : (t : ℕ) (c : After-no_sums t) (sheet : HeldSheet) (ds : List (List Bool)) (h : Given t c.before.before.before.before.before.before.before.before.before.before.before.before.before.before.before.before.before sheet ds) → ℕ
 found t c sheet ds h = c.opening_term-h.result
 
-rest : (t : ℕ) (c : After-no_sums t) (sheet : HeldSheet) (ds : List (List Bool)) (h : Given t c.before.before.before.before.before.before.before.before.before.before.before.before.before.before.before.before.before.before sheet ds) → let a = c.args in Rests sheet ds a.t.now a.u.now a.w.now (rows_in t c.before.before.before.before.before.before.before.before.before.before.before) a.v.now (aside_in t c.before.before.before.before.before.before.before.before.before.before.before) a.p a.x a.g c.settle-rows.result
-rest t c sheet ds h = rest_in t c.before.before.before.before.before.before.before.before.before.before.before sheet ds h
+rest : (t : ℕ) (c : After-no_sums t) (sheet : HeldSheet) (ds : List (List Bool)) (h : Given t c.before.before.before.before.before.before.before.before.before.before.before.before.before.before.before.before.before sheet ds) → let a = c.args in Rests sheet ds a.t.now a.u.now a.w.now (rows_in t c.before.before.before.before.before.before.before.before.before.before) a.v.now (aside_in t c.before.before.before.before.before.before.before.before.before.before) a.p a.x a.g c.settle-rows.result
+rest t c sheet ds h = rest_in t c.before.before.before.before.before.before.before.before.before.before sheet ds h
 
-under : (t : ℕ) (c : After-no_sums t) (sheet : HeldSheet) (ds : List (List Bool)) (h : Given t c.before.before.before.before.before.before.before.before.before.before.before.before.before.before.before.before.before.before sheet ds) → c.args.p.at < length sheet.positions
+under : (t : ℕ) (c : After-no_sums t) (sheet : HeldSheet) (ds : List (List Bool)) (h : Given t c.before.before.before.before.before.before.before.before.before.before.before.before.before.before.before.before.before sheet ds) → c.args.p.at < length sheet.positions
 under t c sheet ds h = less t c.before.before.before.before.before.before.before sheet ds h
 
-no_told : (t : ℕ) (c : After-no_sums t) (sheet : HeldSheet) (ds : List (List Bool)) (h : Given t c.before.before.before.before.before.before.before.before.before.before.before.before.before.before.before.before.before.before sheet ds) → Told sheet (no_blocks_lem ds) (found t c sheet ds h) (no_sum_lem t c.before.before)
+no_told : (t : ℕ) (c : After-no_sums t) (sheet : HeldSheet) (ds : List (List Bool)) (h : Given t c.before.before.before.before.before.before.before.before.before.before.before.before.before.before.before.before.before sheet ds) → Told sheet (no_blocks_lem ds) (found t c sheet ds h) (no_sum_lem t c.before.before)
 no_told t c sheet ds h = no_below (rest t c sheet ds h).given refl (under t c sheet ds h) c.opening_term-h.result (no_sum_lem t c.before.before) c.opening_term-h.ensures refl
 
-no_fair : (t : ℕ) (c : After-no_sums t) (sheet : HeldSheet) (ds : List (List Bool)) (h : Given t c.before.before.before.before.before.before.before.before.before.before.before.before.before.before.before.before.before.before sheet ds) → (found t c sheet ds h) < inf → (found t c sheet ds h) ≤ top * (length sheet.positions - (c.args.p.at + 1))
+no_fair : (t : ℕ) (c : After-no_sums t) (sheet : HeldSheet) (ds : List (List Bool)) (h : Given t c.before.before.before.before.before.before.before.before.before.before.before.before.before.before.before.before.before sheet ds) → (found t c sheet ds h) < inf → (found t c sheet ds h) ≤ top * (length sheet.positions - (c.args.p.at + 1))
 no_fair t c sheet ds h = no_cheap (rest t c sheet ds h).given refl (under t c sheet ds h) c.opening_term-h.result (no_sum_lem t c.before.before) c.opening_term-h.ensures refl
 
-no_owes : (t : ℕ) (c : After-no_sums t) (sheet : HeldSheet) (ds : List (List Bool)) (h : Given t c.before.before.before.before.before.before.before.before.before.before.before.before.before.before.before.before.before.before sheet ds) → let a = c.args in DueAt (tree_at sheet (no_n a.p c.settle-rows.result) (no_blocks_lem ds)) (sum_where (found t c sheet ds h) (no_sum_lem t c.before.before)) (a.p.spent + (found t c sheet ds h))
+no_owes : (t : ℕ) (c : After-no_sums t) (sheet : HeldSheet) (ds : List (List Bool)) (h : Given t c.before.before.before.before.before.before.before.before.before.before.before.before.before.before.before.before.before sheet ds) → let a = c.args in DueAt (tree_at sheet (no_n a.p c.settle-rows.result) (no_blocks_lem ds)) (sum_where (found t c sheet ds h) (no_sum_lem t c.before.before)) (a.p.spent + (found t c sheet ds h))
 no_owes t c sheet ds h = no_due (rest t c sheet ds h).given refl (under t c sheet ds h) (found t c sheet ds h) (no_sum_lem t c.before.before) c.settle-rows.result (no_told t c sheet ds h) (no_fair t c sheet ds h) (no_low t c.before.before)
 
-no_given : (t : ℕ) (c : After-no_sums t) (sheet : HeldSheet) (ds : List (List Bool)) (h : Given t c.before.before.before.before.before.before.before.before.before.before.before.before.before.before.before.before.before.before sheet ds) → (y : ℕ) → sum_where (found t c sheet ds h) (no_sum_lem t c.before.before) ≡ Sum y
-    → let a = c.args in At sheet (no_blocks_lem ds) a.t.now a.u.now c.no_sums.new.w (aside_in t c.before.before.before.before.before.before.before.before.before.before.before) (no_n a.p c.settle-rows.result) y (found t c sheet ds h)
+no_given : (t : ℕ) (c : After-no_sums t) (sheet : HeldSheet) (ds : List (List Bool)) (h : Given t c.before.before.before.before.before.before.before.before.before.before.before.before.before.before.before.before.before sheet ds) → (y : ℕ) → sum_where (found t c sheet ds h) (no_sum_lem t c.before.before) ≡ Sum y
+    → let a = c.args in At sheet (no_blocks_lem ds) a.t.now a.u.now c.no_sums.new.w (aside_in t c.before.before.before.before.before.before.before.before.before.before) (no_n a.p c.settle-rows.result) y (found t c sheet ds h)
 no_given t c sheet ds h y e =
     let a = c.args in
     let w = where_there (found t c sheet ds h) (no_sum_lem t c.before.before) y e in
-    subst (λ (z : ℕ). At sheet (no_blocks_lem ds) a.t.now a.u.now c.no_sums.new.w (aside_in t c.before.before.before.before.before.before.before.before.before.before.before) (no_n a.p c.settle-rows.result) z (found t c sheet ds h)) w.1
+    subst (λ (z : ℕ). At sheet (no_blocks_lem ds) a.t.now a.u.now c.no_sums.new.w (aside_in t c.before.before.before.before.before.before.before.before.before.before) (no_n a.p c.settle-rows.result) z (found t c sheet ds h)) w.1
     (at_no (at_looked (rest t c sheet ds h).given c.no_sums.new.w c.no_sums.ensures.frame) refl (under t c sheet ds h) (found t c sheet ds h) (no_sum_lem t c.before.before) (no_told t c sheet ds h) w.0 ((no_fair t c sheet ds h) w.0) (no_low t c.before.before))
 
 -- what the first branch does
-abbrev Resting : (t : ℕ) (c : After-no_sums t) (sheet : HeldSheet) (ds : List (List Bool)) (h : Given t c.before.before.before.before.before.before.before.before.before.before.before.before.before.before.before.before.before.before sheet ds) → List ℕ → List ℕ → Search → Type 0
+abbrev Resting : (t : ℕ) (c : After-no_sums t) (sheet : HeldSheet) (ds : List (List Bool)) (h : Given t c.before.before.before.before.before.before.before.before.before.before.before.before.before.before.before.before.before sheet ds) → List ℕ → List ℕ → Search → Type 0
 Resting t c sheet ds h w v r =
     let a = c.args in
-    Passed sheet a.t.now (rows_in t c.before.before.before.before.before.before.before.before.before.before.before) w (aside_in t c.before.before.before.before.before.before.before.before.before.before.before) v (node_in t c.before.before.before.before.before.before.before.before.before.before.before) a.limit (tree_at sheet (no_n a.p c.settle-rows.result) (no_blocks_lem ds)) (concat (no_blocks_lem ds)) a.s r
+    Passed sheet a.t.now (rows_in t c.before.before.before.before.before.before.before.before.before.before) w (aside_in t c.before.before.before.before.before.before.before.before.before.before) v (node_in t c.before.before.before.before.before.before.before.before.before.before) a.limit (tree_at sheet (no_n a.p c.settle-rows.result) (no_blocks_lem ds)) (concat (no_blocks_lem ds)) a.s r
 
 pub no-requires : goal.no-requires
 no-requires t c = let p = c.args.p in
@@ -425,22 +416,22 @@ no_opens t c y e = sym c.no_sums.ensures.opens ∙ e
 
 no_opened : (t : ℕ) (c : After-no_sums t) (y : ℕ) (e : c.no_sums.result ≡ Sum y) (sheet : HeldSheet) (ds : List (List Bool))
     → let a = c.args in
-    (h : Given t c.before.before.before.before.before.before.before.before.before.before.before.before.before.before.before.before.before.before sheet ds)
-    → Opened (no_owes t c sheet ds h) (concat (no_blocks_lem ds)) a.limit (best_name (held sheet) (length sheet.positions) (aside_in t c.before.before.before.before.before.before.before.before.before.before.before)) a.s y
+    (h : Given t c.before.before.before.before.before.before.before.before.before.before.before.before.before.before.before.before.before sheet ds)
+    → Opened (no_owes t c sheet ds h) (concat (no_blocks_lem ds)) a.limit (best_name (held sheet) (length sheet.positions) (aside_in t c.before.before.before.before.before.before.before.before.before.before)) a.s y
 no_opened t c y e sheet ds h =
     let a = c.args in
-    opened (no_owes t c sheet ds h) (concat (no_blocks_lem ds)) a.limit (best_name (held sheet) (length sheet.positions) (aside_in t c.before.before.before.before.before.before.before.before.before.before.before)) a.s y (no_opens t c y e)
+    opened (no_owes t c sheet ds h) (concat (no_blocks_lem ds)) a.limit (best_name (held sheet) (length sheet.positions) (aside_in t c.before.before.before.before.before.before.before.before.before.before)) a.s y (no_opens t c y e)
 
 pub counted-requires-in-Sum-no_sums : goal.counted-requires-in-Sum-no_sums
 counted-requires-in-Sum-no_sums t c = omega (arith, (no_opened t (goal.at.counted-requires-in-Sum-no_sums t c).After-no_sums c.in-Sum-no_sums.y c.in-Sum-no_sums.is (sheet_of_lem t (goal.at.counted-requires-in-Sum-no_sums t c).Start) (blocks_of_lem t (goal.at.counted-requires-in-Sum-no_sums t c).Start) (given t (goal.at.counted-requires-in-Sum-no_sums t c).Start)).within, limits t (goal.at.counted-requires-in-Sum-no_sums t c).Start)
 
 no_child : (t : ℕ) (c : After-no_sums t) (y : ℕ) (e : c.no_sums.result ≡ Sum y) (p : Node) (z : p ≡ no_n c.args.p c.settle-rows.result) (sheet : HeldSheet) (ds : List (List Bool))
     → let a = c.args in
-    Given t c.before.before.before.before.before.before.before.before.before.before.before.before.before.before.before.before.before.before sheet ds
-    → At sheet (no_blocks_lem ds) a.t.now a.u.now c.no_sums.new.w (aside_in t c.before.before.before.before.before.before.before.before.before.before.before) p y c.opening_term-h.result
+    Given t c.before.before.before.before.before.before.before.before.before.before.before.before.before.before.before.before.before sheet ds
+    → At sheet (no_blocks_lem ds) a.t.now a.u.now c.no_sums.new.w (aside_in t c.before.before.before.before.before.before.before.before.before.before) p y c.opening_term-h.result
 no_child t c y e p z sheet ds h =
     let a = c.args in
-    subst (λ (q : Node). At sheet (no_blocks_lem ds) a.t.now a.u.now c.no_sums.new.w (aside_in t c.before.before.before.before.before.before.before.before.before.before.before) q y c.opening_term-h.result) (sym z)
+    subst (λ (q : Node). At sheet (no_blocks_lem ds) a.t.now a.u.now c.no_sums.new.w (aside_in t c.before.before.before.before.before.before.before.before.before.before) q y c.opening_term-h.result) (sym z)
     (no_given t c sheet ds h y (no_opened t c y e sheet ds h).sums)
 
 pub walk-a-requires-in-Sum-no_sums : goal.walk-a-requires-in-Sum-no_sums
@@ -451,21 +442,21 @@ walk-a-requires-in-Sum-no_sums t c = let z : c.no.result.at ≡ c.args.p.at + 1 
 
 no_walked : (t : ℕ) (c : After-no_sums t) (y : ℕ) (e : c.no_sums.result ≡ Sum y) (p : Node) (z : p ≡ no_n c.args.p c.settle-rows.result) (k : Search) (l : k ≡ counted_s c.args.s) (w v : List ℕ) (r : Search)
     → let a = c.args in
-    ((other : HeldSheet) (es : List (List Bool)) → At other es a.t.now a.u.now c.no_sums.new.w (aside_in t c.before.before.before.before.before.before.before.before.before.before.before) p y c.opening_term-h.result → HeldWalked other es a.t.now c.no_sums.new.w w (aside_in t c.before.before.before.before.before.before.before.before.before.before.before) v a.limit p k r)
-    → (sheet : HeldSheet) (ds : List (List Bool)) (h : Given t c.before.before.before.before.before.before.before.before.before.before.before.before.before.before.before.before.before.before sheet ds) → Resting t c sheet ds h w v r
+    ((other : HeldSheet) (es : List (List Bool)) → At other es a.t.now a.u.now c.no_sums.new.w (aside_in t c.before.before.before.before.before.before.before.before.before.before) p y c.opening_term-h.result → HeldWalked other es a.t.now c.no_sums.new.w w (aside_in t c.before.before.before.before.before.before.before.before.before.before) v a.limit p k r)
+    → (sheet : HeldSheet) (ds : List (List Bool)) (h : Given t c.before.before.before.before.before.before.before.before.before.before.before.before.before.before.before.before.before sheet ds) → Resting t c sheet ds h w v r
 no_walked t c y e p z k l w v r f sheet ds h =
     let a = c.args in
     first_open (rest t c sheet ds h).given c.no_sums.new.w c.no_sums.ensures.frame (no_owes t c sheet ds h) a.limit a.s r y (no_opens t c y e)
     (walked_as z l (f sheet (no_blocks_lem ds) (no_child t c y e p z sheet ds h))) refl (omega arith) (λ z o. absurd (false≢true o))
 
-no_passed : (t : ℕ) (c : After-no_sums t) (e : c.no_sums.result ≡ Missing) (k : Search) (l : k ≡ reached_s c.args.limit c.args.s) (sheet : HeldSheet) (ds : List (List Bool)) (h : Given t c.before.before.before.before.before.before.before.before.before.before.before.before.before.before.before.before.before.before sheet ds)
-    → Resting t c sheet ds h c.no_sums.new.w (aside_in t c.before.before.before.before.before.before.before.before.before.before.before) k
+no_passed : (t : ℕ) (c : After-no_sums t) (e : c.no_sums.result ≡ Missing) (k : Search) (l : k ≡ reached_s c.args.limit c.args.s) (sheet : HeldSheet) (ds : List (List Bool)) (h : Given t c.before.before.before.before.before.before.before.before.before.before.before.before.before.before.before.before.before sheet ds)
+    → Resting t c sheet ds h c.no_sums.new.w (aside_in t c.before.before.before.before.before.before.before.before.before.before) k
 no_passed t c e k l sheet ds h =
     let a = c.args in
     passed_as refl refl l
     (first_closed (rest t c sheet ds h).given c.no_sums.new.w c.no_sums.ensures.frame (no_owes t c sheet ds h) (concat (no_blocks_lem ds)) a.limit a.s (sym c.no_sums.ensures.opens ∙ e))
 
-no_first : (t : ℕ) (c : Joined-no_sums t) (sheet : HeldSheet) (ds : List (List Bool)) (h : Given t c.before.before.before.before.before.before.before.before.before.before.before.before.before.before.before.before.before.before.before sheet ds) → Resting t c.before sheet ds h c.match-no_sums.w c.match-no_sums.v c.match-no_sums.a
+no_first : (t : ℕ) (c : Joined-no_sums t) (sheet : HeldSheet) (ds : List (List Bool)) (h : Given t c.before.before.before.before.before.before.before.before.before.before.before.before.before.before.before.before.before.before sheet ds) → Resting t c.before sheet ds h c.match-no_sums.w c.match-no_sums.v c.match-no_sums.a
 no_first t c sheet ds h =
     elim c.match-no_sums.branch [
       | in-Sum-no_sums w ↦ passed_as w.w-is w.v-is w.a-is (no_walked t c.before w.in-Sum-no_sums.y w.in-Sum-no_sums.is w.no.result w.no.ensures w.counted-in-Sum-no_sums.result w.counted-in-Sum-no_sums.ensures w.walk-a-in-Sum-no_sums.new.w w.walk-a-in-Sum-no_sums.new.v w.walk-a-in-Sum-no_sums.result w.walk-a-in-Sum-no_sums.ensures sheet ds h)
@@ -477,25 +468,21 @@ reached-a-requires-in-Missing-no_sums t c = limits t (goal.at.reached-a-requires
 
 -- ---- at an opening: a stop
 
-pub cell-requires-2 : goal.cell-requires-2
-cell-requires-2 t c = let size = (given t (goal.at.cell-requires-2 t c).Start).tables.size in
-    (omega (arith, close_by t (goal.at.cell-requires-2 t c).Else-p-cell, size), size)
-
 -- what is paid with it
-abbrev owing : (t : ℕ) → After-cell-2 t → ℕ
-owing t c = c.args.p.spent + c.cell-2.result
+abbrev owing : (t : ℕ) → Joined-no_sums t → ℕ → ℕ
+owing t c n = c.args.p.spent + n
 
-fee_is : (t : ℕ) (c : After-cell-2 t) → let a = c.args in owing t c ≡ a.p.spent + get_or a.t.now (fee_place a.p.at) 0
-fee_is t c = ap (λ (n : ℕ). c.args.p.spent + n) c.cell-2.ensures
+fee_is : (t : ℕ) (c : Joined-no_sums t) (n : ℕ) (f : n ≡ get_or c.args.t.now (fee_place c.args.p.at) 0) → let a = c.args in owing t c n ≡ a.p.spent + get_or a.t.now (fee_place a.p.at) 0
+fee_is t c n f = ap (λ (m : ℕ). c.args.p.spent + m) f
 
-owing_fits : (t : ℕ) (c : After-cell-2 t) → let a = c.args in owing t c + get_or a.u.now (top_place (a.p.at + 1)) 0 + a.x < no_cost
-owing_fits t c =
+owing_fits : (t : ℕ) (c : Joined-no_sums t) (n : ℕ) (f : n ≡ get_or c.args.t.now (fee_place c.args.p.at) 0) → let a = c.args in owing t c n + get_or a.u.now (top_place (a.p.at + 1)) 0 + a.x < no_cost
+owing_fits t c n f =
     let a = c.args in
-    let h = given t c.before.before.before.before.before.before.before.before.before.before.before.before.before.before.before.before.before.before.before.before.before in
-    yes_fits (rest t c.before.before.before (sheet_of_lem t c.before.before.before.before.before.before.before.before.before.before.before.before.before.before.before.before.before.before.before.before.before) (blocks_of_lem t c.before.before.before.before.before.before.before.before.before.before.before.before.before.before.before.before.before.before.before.before.before) h).given refl (under t c.before.before.before (sheet_of_lem t c.before.before.before.before.before.before.before.before.before.before.before.before.before.before.before.before.before.before.before.before.before) (blocks_of_lem t c.before.before.before.before.before.before.before.before.before.before.before.before.before.before.before.before.before.before.before.before.before) h) (get_or a.u.now (top_place (a.p.at + 1)) 0) (owing t c) refl (fee_is t c)
+    let h = given t c.before.before.before.before.before.before.before.before.before.before.before.before.before.before.before.before.before.before in
+    yes_fits (rest t c.before (sheet_of_lem t c.before.before.before.before.before.before.before.before.before.before.before.before.before.before.before.before.before.before) (blocks_of_lem t c.before.before.before.before.before.before.before.before.before.before.before.before.before.before.before.before.before.before) h).given refl (under t c.before (sheet_of_lem t c.before.before.before.before.before.before.before.before.before.before.before.before.before.before.before.before.before.before) (blocks_of_lem t c.before.before.before.before.before.before.before.before.before.before.before.before.before.before.before.before.before.before) h) (get_or a.u.now (top_place (a.p.at + 1)) 0) (owing t c n) refl (fee_is t c n f)
 
 pub overflow_add-spent-2 : goal.overflow_add-spent-2
-overflow_add-spent-2 t c = omega (arith, owing_fits t (goal.at.overflow_add-spent-2 t c).After-cell-2)
+overflow_add-spent-2 t c = omega (arith, owing_fits t (goal.at.overflow_add-spent-2 t c).Joined-no_sums c.from-2.result c.from-2.ensures)
 
 pub overflow_add-j-2 : goal.overflow_add-j-2
 overflow_add-j-2 t c = omega (arith, close_by t (goal.at.overflow_add-j-2 t c).Else-p-cell)
@@ -504,54 +491,50 @@ pub number-k-requires : goal.number-k-requires
 number-k-requires t c = let z = (given t (goal.at.number-k-requires t c).Start).holders.size in
     (omega (arith, close_by t (goal.at.number-k-requires t c).Else-p-cell, z), omega (arith, z))
 
--- its fees and its term
-abbrev fees : (t : ℕ) → After-number-k t → ℕ
-fees t c = owing t c.before.before.before
-
-yes_fit : (t : ℕ) (c : After-number-k t) → fees t c + c.number-k.result + c.args.x < no_cost
-yes_fit t c = omega (arith, owing_fits t c.before.before.before, c.number-k.ensures.value)
+yes_fit : (t : ℕ) (c : Joined-no_sums t) (n : ℕ) (f : n ≡ get_or c.args.t.now (fee_place c.args.p.at) 0) (k : ℕ) (e : k ≡ get_or c.args.u.now (top_place (c.args.p.at + 1)) 0) → owing t c n + k + c.args.x < no_cost
+yes_fit t c n f k e = omega (arith, owing_fits t c n f, e)
 
 pub overflow_add-spent-3 : goal.overflow_add-spent-3
-overflow_add-spent-3 t c = omega (arith, yes_fit t c)
+overflow_add-spent-3 t c = omega (arith, yes_fit t (goal.at.overflow_add-spent-3 t c).Joined-no_sums c.from-2.result c.from-2.ensures c.number-k.result c.number-k.ensures.value)
 
 pub open-requires-2 : goal.open-requires-2
-open-requires-2 t c = λ x e. let y = c.args.x in let z = sum_inj (Sum y) y x refl e in omega (arith, z, yes_fit t c)
+open-requires-2 t c = λ x e. let y = c.args.x in let z = sum_inj (Sum y) y x refl e in omega (arith, z, yes_fit t (goal.at.open-requires-2 t c).Joined-no_sums c.from-2.result c.from-2.ensures c.number-k.result c.number-k.ensures.value)
 
 pub reached-requires-in_default-open : goal.reached-requires-in_default-open
 reached-requires-in_default-open t c = limits t (goal.at.reached-requires-in_default-open t c).Start
 
-abbrev top_row : (t : ℕ) (c : After-number-k t) (sheet : HeldSheet) (ds : List (List Bool)) (h : Given t c.before.before.before.before.before.before.before.before.before.before.before.before.before.before.before.before.before.before.before.before.before.before.before.before sheet ds) → ℕ
+abbrev top_row : (t : ℕ) (c : Joined-no_sums t) (sheet : HeldSheet) (ds : List (List Bool)) (h : Given t c.before.before.before.before.before.before.before.before.before.before.before.before.before.before.before.before.before.before sheet ds) → ℕ
 top_row t c sheet ds h = c.settle-rows.result
 
-yes_owes : (t : ℕ) (c : After-number-k t) (sheet : HeldSheet) (ds : List (List Bool)) (h : Given t c.before.before.before.before.before.before.before.before.before.before.before.before.before.before.before.before.before.before.before.before.before.before.before.before sheet ds) → let a = c.args in DueAt (tree_at sheet (yes_n a.p (top_row t c sheet ds h) (fees t c)) (yes_blocks ds)) (Sum a.x) (fees t c + c.number-k.result)
-yes_owes t c sheet ds h = yes_due (rest t c.before.before.before.before.before.before sheet ds h).given refl (under t c.before.before.before.before.before.before sheet ds h) c.number-k.result (fees t c) c.number-k.ensures.value (fee_is t c.before.before.before) (top_row t c sheet ds h)
+yes_owes : (t : ℕ) (c : Joined-no_sums t) (n : ℕ) (f : n ≡ get_or c.args.t.now (fee_place c.args.p.at) 0) (k : ℕ) (e : k ≡ get_or c.args.u.now (top_place (c.args.p.at + 1)) 0) (sheet : HeldSheet) (ds : List (List Bool)) (h : Given t c.before.before.before.before.before.before.before.before.before.before.before.before.before.before.before.before.before.before sheet ds) → let a = c.args in DueAt (tree_at sheet (yes_n a.p (top_row t c sheet ds h) (owing t c n)) (yes_blocks ds)) (Sum a.x) (owing t c n + k)
+yes_owes t c n f k e sheet ds h = yes_due (rest t c.before sheet ds h).given refl (under t c.before sheet ds h) k (owing t c n) e (fee_is t c n f) (top_row t c sheet ds h)
 
-both_yes : (t : ℕ) (c : After-number-k t) (sheet : HeldSheet) (ds : List (List Bool)) (h : Given t c.before.before.before.before.before.before.before.before.before.before.before.before.before.before.before.before.before.before.before.before.before.before.before.before sheet ds) → let a = c.args in (st : Limited) → onward a.limit (tree_at sheet (node_in t c.before.before.before.before.before.before.before.before.before.before.before.before.before.before.before.before.before) ds) (concat ds) st
-    ≡ limited a.limit (tree_at sheet (yes_n a.p (top_row t c sheet ds h) (fees t c)) (yes_blocks ds)) (concat (yes_blocks ds)) (limited a.limit (tree_at sheet (no_n a.p (top_row t c sheet ds h)) (no_blocks_lem ds)) (concat (no_blocks_lem ds)) st)
-both_yes t c sheet ds h st = both_openings (rest t c.before.before.before.before.before.before sheet ds h).given refl (under t c.before.before.before.before.before.before sheet ds h) c.args.limit (top_row t c sheet ds h) (fees t c) st
+both_yes : (t : ℕ) (c : Joined-no_sums t) (n : ℕ) (sheet : HeldSheet) (ds : List (List Bool)) (h : Given t c.before.before.before.before.before.before.before.before.before.before.before.before.before.before.before.before.before.before sheet ds) → let a = c.args in (st : Limited) → onward a.limit (tree_at sheet (node_in t c.before.before.before.before.before.before.before.before.before.before.before) ds) (concat ds) st
+    ≡ limited a.limit (tree_at sheet (yes_n a.p (top_row t c sheet ds h) (owing t c n)) (yes_blocks ds)) (concat (yes_blocks ds)) (limited a.limit (tree_at sheet (no_n a.p (top_row t c sheet ds h)) (no_blocks_lem ds)) (concat (no_blocks_lem ds)) st)
+both_yes t c n sheet ds h st = both_openings (rest t c.before sheet ds h).given refl (under t c.before sheet ds h) c.args.limit (top_row t c sheet ds h) (owing t c n) st
 
-few_rows : (t : ℕ) (c : After-number-k t) (sheet : HeldSheet) (ds : List (List Bool)) (h : Given t c.before.before.before.before.before.before.before.before.before.before.before.before.before.before.before.before.before.before.before.before.before.before.before.before sheet ds) → ((top_row t c sheet ds h) ≤ 64) × (c.args.p.at ≤ 64)
+few_rows : (t : ℕ) (c : Joined-no_sums t) (sheet : HeldSheet) (ds : List (List Bool)) (h : Given t c.before.before.before.before.before.before.before.before.before.before.before.before.before.before.before.before.before.before sheet ds) → ((top_row t c sheet ds h) ≤ 64) × (c.args.p.at ≤ 64)
 few_rows t c sheet ds h =
-    let wr = ((rest t c.before.before.before.before.before.before sheet ds h).given.opening refl).all in
+    let wr = ((rest t c.before sheet ds h).given.opening refl).all in
     let k = h.tables.few in
-    (omega (arith, wr.rows_are.few, wr.size, under t c.before.before.before.before.before.before sheet ds h), omega (arith, under t c.before.before.before.before.before.before sheet ds h))
+    (omega (arith, wr.rows_are.few, wr.size, under t c.before sheet ds h), omega (arith, under t c.before sheet ds h))
 
 -- the row of the stop is noted as not ready
-abbrev unready : (t : ℕ) (c : After-number-k t) (sheet : HeldSheet) (ds : List (List Bool)) (h : Given t c.before.before.before.before.before.before.before.before.before.before.before.before.before.before.before.before.before.before.before.before.before.before.before.before sheet ds) → List ℕ
+abbrev unready : (t : ℕ) (c : Joined-no_sums t) (sheet : HeldSheet) (ds : List (List Bool)) (h : Given t c.before.before.before.before.before.before.before.before.before.before.before.before.before.before.before.before.before.before sheet ds) → List ℕ
 unready t c sheet ds h = set c.match-no_sums.v (ready_place (top_row t c sheet ds h)) 0
 
-unready_frame : (t : ℕ) (c : After-number-k t) (sheet : HeldSheet) (ds : List (List Bool)) (h : Given t c.before.before.before.before.before.before.before.before.before.before.before.before.before.before.before.before.before.before.before.before.before.before.before.before sheet ds) → let a = c.args in Frame a.t.now c.match-no_sums.w c.match-no_sums.w c.match-no_sums.v (unready t c sheet ds h) (top_row t c sheet ds h) a.p.at
-unready_frame t c sheet ds h = let a = c.args in ready_frame a.t.now c.match-no_sums.w c.match-no_sums.v (top_row t c sheet ds h) a.p.at (no_first t c.before.before.before.before.before sheet ds h).frame.recalled.memo (few_rows t c sheet ds h).0 (few_rows t c sheet ds h).1
+unready_frame : (t : ℕ) (c : Joined-no_sums t) (sheet : HeldSheet) (ds : List (List Bool)) (h : Given t c.before.before.before.before.before.before.before.before.before.before.before.before.before.before.before.before.before.before sheet ds) → let a = c.args in Frame a.t.now c.match-no_sums.w c.match-no_sums.w c.match-no_sums.v (unready t c sheet ds h) (top_row t c sheet ds h) a.p.at
+unready_frame t c sheet ds h = let a = c.args in ready_frame a.t.now c.match-no_sums.w c.match-no_sums.v (top_row t c sheet ds h) a.p.at (no_first t c sheet ds h).frame.recalled.memo (few_rows t c sheet ds h).0 (few_rows t c sheet ds h).1
 
-aside_size_lem : (t : ℕ) (c : After-number-k t) (sheet : HeldSheet) (ds : List (List Bool)) (h : Given t c.before.before.before.before.before.before.before.before.before.before.before.before.before.before.before.before.before.before.before.before.before.before.before.before sheet ds) → length c.match-no_sums.v ≡ aside_size
-aside_size_lem t c sheet ds h = (no_first t c.before.before.before.before.before sheet ds h).frame.aside.size ∙ (rest t c.before.before.before.before.before.before sheet ds h).given.aside
+aside_size_lem : (t : ℕ) (c : Joined-no_sums t) (sheet : HeldSheet) (ds : List (List Bool)) (h : Given t c.before.before.before.before.before.before.before.before.before.before.before.before.before.before.before.before.before.before sheet ds) → length c.match-no_sums.v ≡ aside_size
+aside_size_lem t c sheet ds h = (no_first t c sheet ds h).frame.aside.size ∙ (rest t c.before sheet ds h).given.aside
 
-yes_given : (t : ℕ) (c : After-number-k t) (sheet : HeldSheet) (ds : List (List Bool)) (h : Given t c.before.before.before.before.before.before.before.before.before.before.before.before.before.before.before.before.before.before.before.before.before.before.before.before sheet ds) → let a = c.args in At sheet (yes_blocks ds) a.t.now a.u.now c.match-no_sums.w (unready t c sheet ds h) (yes_n a.p (top_row t c sheet ds h) (fees t c)) a.x c.number-k.result
-yes_given t c sheet ds h =
-    let z = no_first t c.before.before.before.before.before sheet ds h in
-    let k = (few_rows t c sheet ds h).0 in
-    at_yes (at_kept (unready_frame t c sheet ds h) (λ o. absurd (false≢true o)) (at_kept z.frame z.pending (rest t c.before.before.before.before.before.before sheet ds h).given)) refl (under t c.before.before.before.before.before.before sheet ds h) c.number-k.result (fees t c) c.number-k.ensures.value (fee_is t c.before.before.before)
-    (get_or-set_same c.match-no_sums.v (ready_place (top_row t c sheet ds h)) 0 0 (omega (arith, (aside_size_lem t c sheet ds h), k)))
+yes_given : (t : ℕ) (c : Joined-no_sums t) (n : ℕ) (f : n ≡ get_or c.args.t.now (fee_place c.args.p.at) 0) (k : ℕ) (e : k ≡ get_or c.args.u.now (top_place (c.args.p.at + 1)) 0) (sheet : HeldSheet) (ds : List (List Bool)) (h : Given t c.before.before.before.before.before.before.before.before.before.before.before.before.before.before.before.before.before.before sheet ds) → let a = c.args in At sheet (yes_blocks ds) a.t.now a.u.now c.match-no_sums.w (unready t c sheet ds h) (yes_n a.p (top_row t c sheet ds h) (owing t c n)) a.x k
+yes_given t c n f k e sheet ds h =
+    let z = no_first t c sheet ds h in
+    let m = (few_rows t c sheet ds h).0 in
+    at_yes (at_kept (unready_frame t c sheet ds h) (λ o. absurd (false≢true o)) (at_kept z.frame z.pending (rest t c.before sheet ds h).given)) refl (under t c.before sheet ds h) k (owing t c n) e (fee_is t c n f)
+    (get_or-set_same c.match-no_sums.v (ready_place (top_row t c sheet ds h)) 0 0 (omega (arith, (aside_size_lem t c sheet ds h), m)))
 
 pub returns-in_default-open : goal.returns-in_default-open
 returns-in_default-open t c = λ sheet ds h.
@@ -559,56 +542,53 @@ returns-in_default-open t c = λ sheet ds h.
     let r = rest t (goal.at.returns-in_default-open t c).After-no_sums sheet ds h in
     rests_walked r r.best
     (subst (λ (s : Search). HeldWalked sheet ds a.t.now (rows_in t (goal.at.returns-in_default-open t c).After-settle-rows) c.match-no_sums.w (aside_in t (goal.at.returns-in_default-open t c).After-settle-rows) c.match-no_sums.v a.limit (node_in t (goal.at.returns-in_default-open t c).After-settle-rows) a.s s) (sym c.reached-in_default-open.ensures)
-    (second_closed (no_first t (goal.at.returns-in_default-open t c).Joined-no_sums sheet ds h) (yes_n a.p (top_row t (goal.at.returns-in_default-open t c).After-number-k sheet ds h) (fees t (goal.at.returns-in_default-open t c).After-number-k)) (yes_blocks ds) (yes_owes t (goal.at.returns-in_default-open t c).After-number-k sheet ds h) (both_yes t (goal.at.returns-in_default-open t c).After-number-k sheet ds h) (sym c.open-2.ensures ∙ c.in_default-open.is)))
+    (second_closed (no_first t (goal.at.returns-in_default-open t c).Joined-no_sums sheet ds h) (yes_n a.p (top_row t (goal.at.returns-in_default-open t c).Joined-no_sums sheet ds h) (owing t (goal.at.returns-in_default-open t c).Joined-no_sums c.from-2.result)) (yes_blocks ds) (yes_owes t (goal.at.returns-in_default-open t c).Joined-no_sums c.from-2.result c.from-2.ensures c.number-k.result c.number-k.ensures.value sheet ds h) (both_yes t (goal.at.returns-in_default-open t c).Joined-no_sums c.from-2.result sheet ds h) (sym c.open-2.ensures ∙ c.in_default-open.is)))
 
 pub overflow_add-v : goal.overflow_add-v
-overflow_add-v t c = omega (arith, (few_rows t (goal.at.overflow_add-v t c).After-number-k (sheet_of_lem t (goal.at.overflow_add-v t c).Start) (blocks_of_lem t (goal.at.overflow_add-v t c).Start) (given t (goal.at.overflow_add-v t c).Start)).0)
+overflow_add-v t c = omega (arith, (few_rows t (goal.at.overflow_add-v t c).Joined-no_sums (sheet_of_lem t (goal.at.overflow_add-v t c).Start) (blocks_of_lem t (goal.at.overflow_add-v t c).Start) (given t (goal.at.overflow_add-v t c).Start)).0)
 
 pub offset_bounds-v-rows : goal.offset_bounds-v-rows
-offset_bounds-v-rows t c = omega (arith, (few_rows t (goal.at.offset_bounds-v-rows t c).After-number-k (sheet_of_lem t (goal.at.offset_bounds-v-rows t c).Start) (blocks_of_lem t (goal.at.offset_bounds-v-rows t c).Start) (given t (goal.at.offset_bounds-v-rows t c).Start)).0)
+offset_bounds-v-rows t c = omega (arith, (few_rows t (goal.at.offset_bounds-v-rows t c).Joined-no_sums (sheet_of_lem t (goal.at.offset_bounds-v-rows t c).Start) (blocks_of_lem t (goal.at.offset_bounds-v-rows t c).Start) (given t (goal.at.offset_bounds-v-rows t c).Start)).0)
 
 pub bounds-v-rows : goal.bounds-v-rows
-bounds-v-rows t c = omega (arith, (few_rows t (goal.at.bounds-v-rows t c).After-number-k (sheet_of_lem t (goal.at.bounds-v-rows t c).Start) (blocks_of_lem t (goal.at.bounds-v-rows t c).Start) (given t (goal.at.bounds-v-rows t c).Start)).0)
+bounds-v-rows t c = omega (arith, (few_rows t (goal.at.bounds-v-rows t c).Joined-no_sums (sheet_of_lem t (goal.at.bounds-v-rows t c).Start) (blocks_of_lem t (goal.at.bounds-v-rows t c).Start) (given t (goal.at.bounds-v-rows t c).Start)).0)
 
-yes_opens : (t : ℕ) (c : In-Sum-open-2 t) → let a = c.args in open_s a.limit (fees t c.before.before + c.number-k.result) (Sum a.x) c.match-no_sums.a ≡ Sum c.in-Sum-open-2.y
-yes_opens t c = sym c.open-2.ensures ∙ c.in-Sum-open-2.is
-
-yes_opened : (t : ℕ) (c : In-Sum-open-2 t) (sheet : HeldSheet) (ds : List (List Bool))
+yes_opened : (t : ℕ) (c : Joined-no_sums t) (n : ℕ) (f : n ≡ get_or c.args.t.now (fee_place c.args.p.at) 0) (k : ℕ) (e : k ≡ get_or c.args.u.now (top_place (c.args.p.at + 1)) 0) (r : Bound) (y : ℕ) (o : r ≡ open_s c.args.limit (owing t c n + k) (Sum c.args.x) c.match-no_sums.a) (i : r ≡ Sum y) (sheet : HeldSheet) (ds : List (List Bool))
     → let a = c.args in
-    (h : Given t c.before.before.before.before.before.before.before.before.before.before.before.before.before.before.before.before.before.before.before.before.before.before.before.before.before.before sheet ds)
-    → Opened (yes_owes t c.before.before sheet ds h) (concat (yes_blocks ds)) a.limit (best_name (held sheet) (length sheet.positions) c.match-no_sums.v) c.match-no_sums.a c.in-Sum-open-2.y
-yes_opened t c sheet ds h =
+    (h : Given t c.before.before.before.before.before.before.before.before.before.before.before.before.before.before.before.before.before.before sheet ds)
+    → Opened (yes_owes t c n f k e sheet ds h) (concat (yes_blocks ds)) a.limit (best_name (held sheet) (length sheet.positions) c.match-no_sums.v) c.match-no_sums.a y
+yes_opened t c n f k e r y o i sheet ds h =
     let a = c.args in
-    opened (yes_owes t c.before.before sheet ds h) (concat (yes_blocks ds)) a.limit (best_name (held sheet) (length sheet.positions) c.match-no_sums.v) c.match-no_sums.a c.in-Sum-open-2.y (yes_opens t c)
+    opened (yes_owes t c n f k e sheet ds h) (concat (yes_blocks ds)) a.limit (best_name (held sheet) (length sheet.positions) c.match-no_sums.v) c.match-no_sums.a y (sym o ∙ i)
 
 pub yes-requires : goal.yes-requires
 yes-requires t c = let p = c.args.p in
     (close_by t (goal.at.yes-requires t c).Else-p-cell, mask_fits p.at p.mask (given t (goal.at.yes-requires t c).Start).mask (close_by t (goal.at.yes-requires t c).Else-p-cell))
 
 pub counted-requires-2 : goal.counted-requires-2
-counted-requires-2 t c = omega (arith, (yes_opened t (goal.at.counted-requires-2 t c).In-Sum-open-2 (sheet_of_lem t (goal.at.counted-requires-2 t c).Start) (blocks_of_lem t (goal.at.counted-requires-2 t c).Start) (given t (goal.at.counted-requires-2 t c).Start)).within, limits t (goal.at.counted-requires-2 t c).Start)
+counted-requires-2 t c = omega (arith, (yes_opened t (goal.at.counted-requires-2 t c).Joined-no_sums c.from-2.result c.from-2.ensures c.number-k.result c.number-k.ensures.value c.open-2.result c.in-Sum-open-2.y c.open-2.ensures c.in-Sum-open-2.is (sheet_of_lem t (goal.at.counted-requires-2 t c).Start) (blocks_of_lem t (goal.at.counted-requires-2 t c).Start) (given t (goal.at.counted-requires-2 t c).Start)).within, limits t (goal.at.counted-requires-2 t c).Start)
 
-yes_child : (t : ℕ) (c : After-yes t) (sheet : HeldSheet) (ds : List (List Bool))
+yes_child : (t : ℕ) (c : Joined-no_sums t) (n : ℕ) (f : n ≡ get_or c.args.t.now (fee_place c.args.p.at) 0) (k : ℕ) (e : k ≡ get_or c.args.u.now (top_place (c.args.p.at + 1)) 0) (r : Bound) (y : ℕ) (o : r ≡ open_s c.args.limit (owing t c n + k) (Sum c.args.x) c.match-no_sums.a) (i : r ≡ Sum y) (sheet : HeldSheet) (ds : List (List Bool))
     → let a = c.args in
-    (h : Given t c.before.before.before.before.before.before.before.before.before.before.before.before.before.before.before.before.before.before.before.before.before.before.before.before.before.before.before.before.before.before sheet ds)
-    → At sheet (yes_blocks ds) a.t.now a.u.now c.match-no_sums.w (unready t c.before.before.before.before.before.before sheet ds h) c.yes.result c.in-Sum-open-2.y c.number-k.result
-yes_child t c sheet ds h =
+    (h : Given t c.before.before.before.before.before.before.before.before.before.before.before.before.before.before.before.before.before.before sheet ds) (q : Node) (g : q ≡ yes_n a.p (top_row t c sheet ds h) (owing t c n))
+    → At sheet (yes_blocks ds) a.t.now a.u.now c.match-no_sums.w (unready t c sheet ds h) q y k
+yes_child t c n f k e r y o i sheet ds h q g =
     let a = c.args in
-    let x = sum_inj (Sum a.x) a.x c.in-Sum-open-2.y refl (yes_opened t c.before.before.before.before sheet ds h).sums in
-    subst (λ (n : Node). At sheet (yes_blocks ds) a.t.now a.u.now c.match-no_sums.w (unready t c.before.before.before.before.before.before sheet ds h) n c.in-Sum-open-2.y c.number-k.result) (sym c.yes.ensures)
-    (subst (λ (z : ℕ). At sheet (yes_blocks ds) a.t.now a.u.now c.match-no_sums.w (unready t c.before.before.before.before.before.before sheet ds h) (yes_n a.p (top_row t c.before.before.before.before.before.before sheet ds h) (fees t c.before.before.before.before.before.before)) z c.number-k.result) x (yes_given t c.before.before.before.before.before.before sheet ds h))
+    let x = sum_inj (Sum a.x) a.x y refl (yes_opened t c n f k e r y o i sheet ds h).sums in
+    subst (λ (m : Node). At sheet (yes_blocks ds) a.t.now a.u.now c.match-no_sums.w (unready t c sheet ds h) m y k) (sym g)
+    (subst (λ (z : ℕ). At sheet (yes_blocks ds) a.t.now a.u.now c.match-no_sums.w (unready t c sheet ds h) (yes_n a.p (top_row t c sheet ds h) (owing t c n)) z k) x (yes_given t c n f k e sheet ds h))
 
 pub walk-b-requires-2 : goal.walk-b-requires-2
 walk-b-requires-2 t c = let z : c.yes.result.at ≡ c.args.p.at + 1 = ap (λ (n : Node). n.at) c.yes.ensures in
     let x : c.yes.result.next ≡ 0 = ap (λ (n : Node). n.next) c.yes.ensures in
     let h = given t (goal.at.walk-b-requires-2 t c).Start in
-    (omega (arith, c.decreases, z, x, close_by t (goal.at.walk-b-requires-2 t c).Else-p-cell), ((sheet_of_lem t (goal.at.walk-b-requires-2 t c).Start, (yes_blocks (blocks_of_lem t (goal.at.walk-b-requires-2 t c).Start), yes_child t (goal.at.walk-b-requires-2 t c).After-yes (sheet_of_lem t (goal.at.walk-b-requires-2 t c).Start) (blocks_of_lem t (goal.at.walk-b-requires-2 t c).Start) h)), limits t (goal.at.walk-b-requires-2 t c).Start))
+    (omega (arith, c.decreases, z, x, close_by t (goal.at.walk-b-requires-2 t c).Else-p-cell), ((sheet_of_lem t (goal.at.walk-b-requires-2 t c).Start, (yes_blocks (blocks_of_lem t (goal.at.walk-b-requires-2 t c).Start), yes_child t (goal.at.walk-b-requires-2 t c).Joined-no_sums c.from-2.result c.from-2.ensures c.number-k.result c.number-k.ensures.value c.open-2.result c.in-Sum-open-2.y c.open-2.ensures c.in-Sum-open-2.is (sheet_of_lem t (goal.at.walk-b-requires-2 t c).Start) (blocks_of_lem t (goal.at.walk-b-requires-2 t c).Start) h c.yes.result c.yes.ensures)), limits t (goal.at.walk-b-requires-2 t c).Start))
 
 pub returns : goal.returns
 returns t c = λ sheet ds h.
     let r = rest t (goal.at.returns t c).After-no_sums sheet ds h in
     let k = h.tables.few in
     rests_walked r r.best
-    (second_open (no_first t (goal.at.returns t c).Joined-no_sums sheet ds h) (yes_n c.args.p (top_row t (goal.at.returns t c).After-number-k sheet ds h) (fees t (goal.at.returns t c).After-number-k)) (yes_blocks ds) (yes_owes t (goal.at.returns t c).After-number-k sheet ds h) (both_yes t (goal.at.returns t c).After-number-k sheet ds h) c.in-Sum-open-2.y c.walk-b-2.result (yes_opens t (goal.at.returns t c).In-Sum-open-2) (unready_frame t (goal.at.returns t c).After-number-k sheet ds h)
-    (λ i j. get_or-set_other c.match-no_sums.v (ready_place (top_row t (goal.at.returns t c).After-number-k sheet ds h)) (best_place i) 0 0 (λ z. omega (arith, z, k)))
-    (walked_as c.yes.ensures c.counted-2.ensures (c.walk-b-2.ensures sheet (yes_blocks ds) (yes_child t (goal.at.returns t c).After-yes sheet ds h))) refl (omega arith) (λ z o. absurd (false≢true o)))
+    (second_open (no_first t (goal.at.returns t c).Joined-no_sums sheet ds h) (yes_n c.args.p (top_row t (goal.at.returns t c).Joined-no_sums sheet ds h) (owing t (goal.at.returns t c).Joined-no_sums c.from-2.result)) (yes_blocks ds) (yes_owes t (goal.at.returns t c).Joined-no_sums c.from-2.result c.from-2.ensures c.number-k.result c.number-k.ensures.value sheet ds h) (both_yes t (goal.at.returns t c).Joined-no_sums c.from-2.result sheet ds h) c.in-Sum-open-2.y c.walk-b-2.result (sym c.open-2.ensures ∙ c.in-Sum-open-2.is) (unready_frame t (goal.at.returns t c).Joined-no_sums sheet ds h)
+    (λ i j. get_or-set_other c.match-no_sums.v (ready_place (top_row t (goal.at.returns t c).Joined-no_sums sheet ds h)) (best_place i) 0 0 (λ z. omega (arith, z, k)))
+    (walked_as c.yes.ensures c.counted-2.ensures (c.walk-b-2.ensures sheet (yes_blocks ds) (yes_child t (goal.at.returns t c).Joined-no_sums c.from-2.result c.from-2.ensures c.number-k.result c.number-k.ensures.value c.open-2.result c.in-Sum-open-2.y c.open-2.ensures c.in-Sum-open-2.is sheet ds h c.yes.result c.yes.ensures))) refl (omega arith) (λ z o. absurd (false≢true o)))

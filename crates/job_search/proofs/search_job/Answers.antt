@@ -2,4 +2,4 @@
 use Rattle.job_search.proofs.search_job.Goals as goal
 
 pub search_plain-requires : goal.search_plain-requires
-search_plain-requires c = (c.requires, cc)
+search_plain-requires c = cc

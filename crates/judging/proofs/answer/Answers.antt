@@ -1,24 +1,21 @@
--- `answer`: an output that is too short stays; else the judgement's lines are written, and its number handed over.
-use Prim.Native.Nat.{ℕ}
-use mathlib.Core.Path.{ap, ◌∙◌}
+-- `answer`: the judgement's number is handed over, and its lines are put.
+use Prim.Native.Nat.{ℕ, ◌≤◌}
+use mathlib.Core.Path.{subst}
 use native.Mathlib.Omega.{arith}
 use borrow.Author.Rules.{rules}
+use lib.ListN.{length}
 use Rattle.verdict.specs.Views.{model_judgement}
-use Rattle.line_writing.proofs.Putting.{given_back}
-use Rattle.answers.specs.Said.{plainly, handed}
-use Rattle.answers.proofs.Replies.{replied, no_room}
-use Rattle.judging.specs.Judge.{judge_lines, said_of, judge_room}
+use Rattle.line_writing.specs.Puts.{Room}
+use Rattle.answers.specs.Said.{plainly, Replied}
+use Rattle.judging.specs.Judge.{judge_lines, judge_room}
 use Rattle.judging.proofs.Lengths.{lines_short}
 use Rattle.judging.proofs.answer.Goals as goal
 
-pub returns-then-out-lt-ROOM : goal.returns-then-out-lt-ROOM
-returns-then-out-lt-ROOM c = no_room _ _ _ c.if-out-lt-ROOM.true c.no_room.ensures
-
-pub put_judgement-requires : goal.put_judgement-requires
-put_judgement-requires c = (c.requires, record { fits = omega (arith, lines_short (model_judgement c.args.j), c.if-out-lt-ROOM.false) })
+pub reply-requires : goal.reply-requires
+reply-requires c o start long = let room : Room o.now (judge_lines (model_judgement c.args.j)) = record { fits = omega (arith, start, long, lines_short (model_judgement c.args.j)) } in
+    search (rules, room)
 
 pub returns : goal.returns
 returns c = let j = model_judgement c.args.j in
-    let put = c.put_judgement in
-    replied judge_room (said_of j) c.if-out-lt-ROOM.false (omega (arith, lines_short j)) (given_back put.ensures (search rules))
-    (c.plain.ensures ∙ ap (λ (n : ℕ). handed (plainly n (judge_lines j)) put.new.out.at) c.number_of.ensures)
+    subst (λ (n : ℕ). Replied judge_room (plainly n (judge_lines j)) c.args.out.now c.reply.new.out c.reply.result) c.number_of.ensures
+    (c.reply.ensures (judge_lines j) (omega (arith, lines_short j)) (λ o p start put. search rules))

@@ -6,8 +6,8 @@ use Rattle.lines.specs.Parser.{accepted, refused}
 use Rattle.lines.specs.Fault.{number_of_lem}
 use Rattle.lines.specs.Reads.{outcome, seen}
 use Rattle.job_grammar.specs.Grammar.{read_job_lem}
-use Rattle.job_text.specs.Views.{given_of}
-use Rattle.job_text.proofs.Views.{means, sound_text, sound_job}
+use Rattle.job_text.specs.Views.{given_in}
+use Rattle.job_text.proofs.Views.{means_in}
 use Rattle.job_grammar.proofs.Numbered.{fault}
 use Rattle.judging.specs.Judge.{judge_said}
 use Rattle.judging.proofs.Promised.{promised}
@@ -16,16 +16,13 @@ use Rattle.judging.proofs.judge.Goals.{In-Err, In-Ok}
 
 -- what the job text reads as, by what was read
 refused_job : (c : In-Err) → read_job_lem c.args.job.now ≡ refused (number_of_lem c.in-Err.fault.kind) c.in-Err.fault.line
-refused_job c = sym (means _ c.read_job.ensures) ∙ ap (λ r. outcome (seen given_of r)) c.in-Err.is
+refused_job c = sym (means_in _ c.read_job.ensures) ∙ ap (λ r. outcome (seen given_in r)) c.in-Err.is
 
-accepted_job : (c : In-Ok) → read_job_lem c.args.job.now ≡ accepted (given_of c.in-Ok.text)
-accepted_job c = sym (means _ c.read_job.ensures) ∙ ap (λ r. outcome (seen given_of r)) c.in-Ok.is
+accepted_job : (c : In-Ok) → read_job_lem c.args.job.now ≡ accepted (given_in c.in-Ok.text)
+accepted_job c = sym (means_in _ c.read_job.ensures) ∙ ap (λ r. outcome (seen given_in r)) c.in-Ok.is
 
 pub refuse-requires : goal.refuse-requires
 refuse-requires c = (omega (arith, (fault _ _ _ (refused_job (goal.at.refuse-requires c).In-Err)).1), omega arith)
-
-pub judge_plan-requires : goal.judge_plan-requires
-judge_plan-requires c = sound_job c.in-Ok.text (sound_text c.args.job.now c.in-Ok.text (accepted_job (goal.at.judge_plan-requires c).In-Ok))
 
 pub returns-in-Err : goal.returns-in-Err
 unfolding judge_said

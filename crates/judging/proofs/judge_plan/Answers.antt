@@ -12,19 +12,19 @@ use Rattle.judging.proofs.judge_plan.Goals as goal
 use Rattle.judging.proofs.judge_plan.Goals.{In-Err, In-Ok}
 
 -- what the plan text reads as, by what was read
-refused_plan : (c : In-Err) → let a = c.args in read_plan_lem (job_of a.job) a.plan.now ≡ refused (number_of_lem c.in-Err.fault.kind) c.in-Err.fault.line
-refused_plan c = sym c.read_plan.ensures ∙ ap (outcome c.args.job) c.in-Err.is
+refused_plan : (c : In-Err) → let a = c.args in read_plan_lem (job_of a.job.now.job) a.plan.now ≡ refused (number_of_lem c.in-Err.fault.kind) c.in-Err.fault.line
+refused_plan c = sym c.read_plan.ensures ∙ ap (outcome c.args.job.now.job) c.in-Err.is
 
 accepted-plan : (c : In-Ok) → let a = c.args in
-    read_plan_lem (job_of a.job) a.plan.now ≡ accepted (said a.job c.in-Ok.stated)
-accepted-plan c = sym c.read_plan.ensures ∙ ap (outcome c.args.job) c.in-Ok.is
+    read_plan_lem (job_of a.job.now.job) a.plan.now ≡ accepted (said a.job.now.job c.in-Ok.stated)
+accepted-plan c = sym c.read_plan.ensures ∙ ap (outcome c.args.job.now.job) c.in-Ok.is
 
 pub refuse-requires : goal.refuse-requires
 refuse-requires c = (omega (arith, (fault _ _ _ _ (refused_plan (goal.at.refuse-requires c).In-Err)).1), omega arith)
 
 pub answer-requires : goal.answer-requires
 answer-requires c = let r = c.in-Ok.stated in
-    judged_limited (job_of c.args.job) c.requires.valid (plan_for c.args.job r.plan) r.cost _ c.judgement_of.ensures
+    judged_limited (job_of c.args.job.now.job) c.args.job.now.valid (plan_for c.args.job.now.job r.plan) r.cost _ c.judgement_of.ensures
 
 pub returns-in-Err : goal.returns-in-Err
 returns-in-Err c = rw (refused_plan (goal.at.returns-in-Err c).In-Err, ← c.number.ensures) c.refuse.ensures

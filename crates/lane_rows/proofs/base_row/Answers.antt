@@ -13,13 +13,7 @@ use Rattle.lane_rows.proofs.base_row.Goals.{After-fill}
 
 -- the lanes of the first row
 zeros : (c : After-fill) → FilledBy (λ (q : ℕ). q) (λ (q : ℕ). 0) lane_count_lem c.args.w.now (put_mid 0 lane_count_lem c.args.w.now c.fill.new.self)
-zeros c = filled_at (λ (q : ℕ). 0 + q) (λ (q : ℕ). q) (λ (q : ℕ). omega arith) (filled_with c.args.w.now c.fill.new.self 0 lane_count_lem 0 lane_count_lem refl (omega (arith, c.requires)) (c.fill.ensures.after (λ y e. e)))
-
-pub forget-requires : goal.forget-requires
-forget-requires c = let d = zeros (goal.at.forget-requires c).After-fill in (omega arith, omega arith, length-set (put_mid 0 lane_count_lem c.args.w.now c.fill.new.self) mark_base 0 ∙ d.size ∙ c.requires)
-
-pub none_rows-requires : goal.none_rows-requires
-none_rows-requires c = let d = zeros (goal.at.none_rows-requires c).After-fill in c.forget.ensures.size ∙ length-set (put_mid 0 lane_count_lem c.args.w.now c.fill.new.self) mark_base 0 ∙ d.size ∙ c.requires
+zeros c = filled_at (λ (q : ℕ). 0 + q) (λ (q : ℕ). q) (λ (q : ℕ). omega arith) (filled_with c.args.w.now c.fill.new.self 0 lane_count_lem 0 lane_count_lem refl (omega arith) (c.fill.ensures.after (λ y e. e)))
 
 pub returns : goal.returns
 returns c = let w = put_mid 0 lane_count_lem c.args.w.now c.fill.new.self in
@@ -27,9 +21,9 @@ returns c = let w = put_mid 0 lane_count_lem c.args.w.now c.fill.new.self in
     let f = c.forget.ensures in
     let n = c.none_rows.ensures in
     record {
-      size = n.size ∙ f.size ∙ length-set w mark_base 0 ∙ d.size ∙ c.requires;
+      size = omega (arith, n.size, f.size, length-set w mark_base 0, d.size);
       lanes = λ q h. n.rest q (omega arith) ∙ f.rest q (λ y g e. omega (arith, e)) ∙ get_or-set_other w mark_base q 0 0 (λ z. omega (arith, z)) ∙ d.done q h;
-      mark = n.rest mark_base (omega arith) ∙ f.rest mark_base (λ y g e. omega (arith, e)) ∙ get_or-set_same w mark_base 0 0 (omega (arith, d.size, c.requires));
+      mark = n.rest mark_base (omega arith) ∙ f.rest mark_base (λ y g e. omega (arith, e)) ∙ get_or-set_same w mark_base 0 0 (omega (arith, d.size));
       none = λ k q a b. n.none k q (omega arith) b;
       fresh = λ k a.
           let z : known_place 1 k ≡ known_place 1 (0 + k) = omega arith in

@@ -4,16 +4,13 @@ use Prim.Native.Nat.{ℕ, ◌<◌, ◌≤◌}
 use native.Mathlib.Omega.{arith}
 use lib.ListN.{get_or}
 use Rattle.branch.specs.declared.Bound.TheVariants.{Sum}
-use Rattle.lane_rows.specs.Layout.{inf, triangle, term_base, term_place, fours_place, lanes_in}
+use Rattle.lane_rows.specs.Layout.{inf, triangle, term_base, term_place, lanes_in}
 use Rattle.lane_rows.specs.Rows.{sum_lanes}
 use Rattle.lane_rows.proofs.Lanes.{where_some, where_none}
 use Rattle.lane_rows.proofs.first_sums.Goals as goal
 
-pub overflow_cast-t : goal.overflow_cast-t
-overflow_cast-t c = omega (arith, c.type_inv.t fours_place)
-
 pub total-requires : goal.total-requires
-total-requires c = (omega (arith, c.requires.1), omega (arith, c.requires.0), c.requires.2)
+total-requires c = (omega (arith, c.requires.0), omega arith, c.requires.1)
 
 first_term : term_base ≡ term_place 0 0
 unfolding triangle

@@ -4,7 +4,7 @@ use Rattle.lane_rows.proofs.Memory.{looks_again, looking_first, looking_next, lo
 use Rattle.lane_rows.proofs.look.Goals as goal
 
 pub known_rows-known-requires : goal.known_rows-known-requires
-known_rows-known-requires g c = (c.requires.some, omega (arith, c.requires.stack.few, c.requires.stack.near), c.requires.stack.near, c.requires.stack.size)
+known_rows-known-requires g c = (c.requires.some, omega (arith, c.requires.stack.few, c.requires.stack.near), c.requires.stack.near)
 
 pub loop-m-init : goal.loop-m-init
 loop-m-init g c = looking_first c.args.t.now c.args.w.now c.args.rows c.args.j c.known_rows-known.result c.requires c.known_rows-known.ensures.0 c.known_rows-known.ensures.1

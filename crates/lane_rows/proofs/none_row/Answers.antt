@@ -12,4 +12,4 @@ returns c = let a = c.args in
     let h = row_inside (a.l + 1) 0 (mark_count + 1) (omega arith) (omega (arith, c.requires)) in
     let at = memo_base + c.row_of.result * lane_count_lem in
     filled_at (λ (q : ℕ). at + q) (memo_place a.l 0) (λ (q : ℕ). omega (arith, e))
-    (filled_with a.w.now c.fill.new.self at (at + lane_count_lem) inf lane_count_lem (omega arith) (omega (arith, h, e, c.requires.1)) (c.fill.ensures.after (λ y e. e)))
+    (filled_with a.w.now c.fill.new.self at (at + lane_count_lem) inf lane_count_lem (omega arith) (omega (arith, h, e)) (c.fill.ensures.after (λ y e. e)))

@@ -1,5 +1,5 @@
 -- `none_rows` writes the memo's rows of no rows. The invariant: those of the first levels are written.
-use mathlib.Core.Path.{◌≡◌, subst, ◌∙◌}
+use mathlib.Core.Path.{◌≡◌, subst}
 use native.Mathlib.Omega.{arith}
 use Rattle.lane_rows.specs.Layout.{mark_count}
 use Rattle.lane_rows.specs.Rows.{Nones}
@@ -10,7 +10,7 @@ pub loop-l-init : goal.loop-l-init
 loop-l-init c = (omega arith, nones_none c.args.w.now)
 
 pub none_row-requires : goal.none_row-requires
-none_row-requires c = (omega (arith, c.loop-l-test.true), c.loop-l.invariant.1.size ∙ c.requires)
+none_row-requires c = omega (arith, c.loop-l-test.true)
 
 pub loop-l-preserved : goal.loop-l-preserved
 loop-l-preserved c = (omega (arith, c.loop-l-test.true), nones_more c.args.w.now c.loop-l.w _ c.loop-l.l c.none_row.ensures c.loop-l.invariant.1)

@@ -1,6 +1,6 @@
 -- `term` is a number of the tables.
 use Prim.Native.Nat.{ℕ, ◌+◌}
-use mathlib.Core.Path.{ap}
+use mathlib.Core.Path.{ap, ◌∙◌}
 use native.Mathlib.Omega.{arith}
 use lib.ListN.{get_or}
 use Rattle.lane_rows.specs.Layout.{mark_count, term_base}
@@ -8,10 +8,7 @@ use Rattle.lane_rows.proofs.Rising.{row_inside}
 use Rattle.lane_rows.proofs.term.Goals as goal
 
 pub bounds-t-row : goal.bounds-t-row
-bounds-t-row c = omega (arith, row_inside c.args.j c.args.i mark_count c.requires.1 (omega (arith, c.requires.2)), c.row_of-row.ensures.rows, c.requires.0)
-
-pub overflow_cast-result : goal.overflow_cast-result
-overflow_cast-result c = omega (arith, c.type_inv.t (term_base + (c.row_of-row.result + c.args.i)))
+bounds-t-row c = omega (arith, row_inside c.args.j c.args.i mark_count c.requires.0 (omega (arith, c.requires.1)), c.row_of-row.ensures.rows)
 
 pub returns : goal.returns
-returns c = let a = c.args in ap (λ (x : ℕ). get_or a.t.now (term_base + (x + a.i)) 0) c.row_of-row.ensures.rows
+returns c = let a = c.args in c.from.ensures ∙ ap (λ (x : ℕ). get_or a.t.now (term_base + (x + a.i)) 0) c.row_of-row.ensures.rows

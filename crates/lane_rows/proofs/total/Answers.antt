@@ -1,6 +1,6 @@
 -- `total` is the sum of the lanes: four sums, of every fourth lane, stay within 32 bits. The invariant: the first fours are in them.
 use Prim.Native.Nat.{ℕ, ◌+◌, ◌*◌}
-use mathlib.Core.Path.{◌≡◌, refl, ap, subst}
+use mathlib.Core.Path.{◌≡◌, refl, ap, subst, ◌∙◌}
 use native.Mathlib.Omega.{arith}
 use lib.ListN.{get_or}
 use Rattle.lane_rows.specs.Rows.{sum_from, sum_lanes}
@@ -40,4 +40,5 @@ pub returns : goal.returns
 returns c = let l = c.loop-k in
     let a = c.args in
     let z : l.k ≡ a.fours = omega (arith, l.invariant.inside) in
-    subst (λ (k : ℕ). l.a + l.b + l.c + l.d ≡ sum_lanes (k * 4) (λ (q : ℕ). get_or a.acc.now q 0)) z l.invariant.all
+    let s : c.from.result + c.from-2.result + c.from-3.result + c.from-4.result ≡ l.a + l.b + l.c + l.d = omega (arith, c.from.ensures, c.from-2.ensures, c.from-3.ensures, c.from-4.ensures) in
+    s ∙ subst (λ (k : ℕ). l.a + l.b + l.c + l.d ≡ sum_lanes (k * 4) (λ (q : ℕ). get_or a.acc.now q 0)) z l.invariant.all

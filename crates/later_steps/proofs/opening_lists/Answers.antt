@@ -21,24 +21,24 @@ loop-i-init c = (refl, refl, refl, refl)
 
 pub loop-i-preserved : goal.loop-i-preserved
 loop-i-preserved c = let l = c.loop-i in
-    let j = c.args.job in
+    let j = c.args.job.now in
     let n = j.opening_count in
-    let t : l.i < n = omega (arith, c.loop-i-test.true, length-take-le n j.openings (openings_long j c.requires c.well_formed.0)) in
+    let t : l.i < n = omega (arith, c.loop-i-test.true, length-take-le n j.openings (openings_long j)) in
     let os = (job_of j).openings in
     let here = get_or-take n j.openings l.i blank_opening t in
-    let at : l.i < length (map step_of os) = omega (arith, seen_count j c.requires c.well_formed.0 step_of, t) in
-    let at-fee : l.i < length (map fee_of os) = omega (arith, seen_count j c.requires c.well_formed.0 fee_of, t) in (
+    let at : l.i < length (map step_of os) = omega (arith, seen_count j step_of, t) in
+    let at-fee : l.i < length (map fee_of os) = omega (arith, seen_count j fee_of, t) in (
       simp length-set l.invariant.0,
       simp length-set l.invariant.1,
-      take_next l.steps (map step_of os) l.i _ 0 (omega (arith, t, c.requires, l.invariant.0)) at l.invariant.2 (ap (λ (o : Opening). o.step) here ∙ sym (seen_at j c.requires c.well_formed.0 step_of 0 l.i t)),
-      take_next l.fees (map fee_of os) l.i _ 0 (omega (arith, t, c.requires, l.invariant.1)) at-fee l.invariant.3 (ap (λ (o : Opening). o.fee) here ∙ sym (seen_at j c.requires c.well_formed.0 fee_of 0 l.i t)),
+      take_next l.steps (map step_of os) l.i _ 0 (omega (arith, t, j.few_openings, l.invariant.0)) at l.invariant.2 (ap (λ (o : Opening). o.step) here ∙ sym (seen_at j step_of 0 l.i t)),
+      take_next l.fees (map fee_of os) l.i _ 0 (omega (arith, t, j.few_openings, l.invariant.1)) at-fee l.invariant.3 (ap (λ (o : Opening). o.fee) here ∙ sym (seen_at j fee_of 0 l.i t)),
     )
 
 pub returns : goal.returns
 returns c = let l = c.loop-i in
-    let j = c.args.job in
+    let j = c.args.job.now in
     let n = j.opening_count in
-    let all : l.i ≡ n = omega (arith, c.loop-i-test.false, c.loop-i.auto.i-end, length-take-le n j.openings (openings_long j c.requires c.well_formed.0)) in (
-      ap (λ (k : ℕ). take k l.steps) (sym all) ∙ l.invariant.2 ∙ take_all l.i (map step_of (job_of j).openings) (omega (arith, all, seen_count j c.requires c.well_formed.0 step_of)),
-      ap (λ (k : ℕ). take k l.fees) (sym all) ∙ l.invariant.3 ∙ take_all l.i (map fee_of (job_of j).openings) (omega (arith, all, seen_count j c.requires c.well_formed.0 fee_of)),
+    let all : l.i ≡ n = omega (arith, c.loop-i-test.false, c.loop-i.auto.i-end, length-take-le n j.openings (openings_long j)) in (
+      ap (λ (k : ℕ). take k l.steps) (sym all) ∙ l.invariant.2 ∙ take_all l.i (map step_of (job_of j).openings) (omega (arith, all, seen_count j step_of)),
+      ap (λ (k : ℕ). take k l.fees) (sym all) ∙ l.invariant.3 ∙ take_all l.i (map fee_of (job_of j).openings) (omega (arith, all, seen_count j fee_of)),
     )

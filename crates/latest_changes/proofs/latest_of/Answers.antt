@@ -19,13 +19,13 @@ use Rattle.latest_changes.proofs.latest_of.Goals.{After-last_change-prev, then-c
 -- ---- what is known
 
 -- the change before the first opening
-first-begins : (c : After-last_change-prev) → Begins c.args.part.life c.last_change-prev.result
+first-begins : (c : After-last_change-prev) → Begins c.args.part.now.life c.last_change-prev.result
 first-begins c =
-    let p = c.args.part in
+    let p = c.args.part.now in
     rw c.last_change-prev.ensures (begins_first p.life _ (omega (arith, c.requires.2.life_high, c.requires.2.left_high)))
 
 first-bits : (c : After-last_change-prev) → to_z w32 (of_z w32 c.last_change-prev.result) ≡ c.last_change-prev.result
-first-bits c = before_bits c.args.part.life c.last_change-prev.result c.requires.2.life_high (first-begins c)
+first-bits c = before_bits c.args.part.now.life c.last_change-prev.result c.requires.2.life_high (first-begins c)
 
 -- a change at an opening, or none, begins a life
 later_begins : (life : ℕ) (here prev : ℤ) → life ≤ longest_life → Position here → Begins life prev → (b : Bool) → Begins life (cond b here prev)
@@ -36,7 +36,7 @@ later_begins life here prev h r e false = e
 
 pub is_forced-change-requires : goal.is_forced-change-requires
 is_forced-change-requires c =
-    let next = get_or c.args.nexts c.loop-i.i (pos 0) in
+    let next = get_or c.args.nexts.now c.loop-i.i (pos 0) in
     let range = c.requires.1.ranges c.loop-i.i c.loop-i-test.true in
     (c.requires.2.life_high, c.loop-i.invariant.1, rw (position_bits next range) range)
 
@@ -45,8 +45,8 @@ loop-i-preserved c =
     let a = c.args in
     let l = c.loop-i in
     let prev = to_z w32 l.prev-bits in
-    let here = get_or a.positions.at l.i (pos 0) in
-    let next = get_or a.nexts l.i (pos 0) in
+    let here = get_or a.positions.now.at l.i (pos 0) in
+    let next = get_or a.nexts.now l.i (pos 0) in
     let here_range = c.requires.0.openings l.i c.loop-i-test.true in
     let next_range = c.requires.1.ranges l.i c.loop-i-test.true in
     let change = c.is_forced-change.result in
@@ -57,16 +57,16 @@ loop-i-preserved c =
       | then-change w ↦ w.prev-is ∙ position_bits here here_range ∙ sym (ap pick w.if-change.true)
       | else-change w ↦ w.prev-is ∙ sym (ap pick w.if-change.false)
     ] in
-    let begins = subst (Begins a.part.life) (sym e) (later_begins a.part.life here prev c.requires.2.life_high here_range l.invariant.1 change) in (
+    let begins = subst (Begins a.part.now.life) (sym e) (later_begins a.part.now.life here prev c.requires.2.life_high here_range l.invariant.1 change) in (
       length-set l.at l.i change ∙ l.invariant.0,
       begins,
-      made_next (pos a.part.life) (to_z w32 (of_z w32 c.last_change-prev.result)) a.n a.positions a.stops c.requires.0 a.nexts c.requires.1 l.i l.at prev change new c.loop-i-test.true l.invariant.0
-          (c.is_forced-change.ensures ∙ ap (λ (z : ℤ). get_or a.stops l.i false && not (within (pos a.part.life) prev z)) (position_bits next next_range)) e l.invariant.2,
+      made_next (pos a.part.now.life) (to_z w32 (of_z w32 c.last_change-prev.result)) a.n a.positions.now a.stops.now c.requires.0 a.nexts.now c.requires.1 l.i l.at prev change new c.loop-i-test.true l.invariant.0
+          (c.is_forced-change.ensures ∙ ap (λ (z : ℤ). get_or a.stops.now l.i false && not (within (pos a.part.now.life) prev z)) (position_bits next next_range)) e l.invariant.2,
     )
 
 pub returns : goal.returns
 returns c = let a = c.args in
     let l = c.loop-i in
     let same : l.i ≡ a.n = omega arith in
-    made_end (pos a.part.life) (to_z w32 (of_z w32 c.last_change-prev.result)) a.n a.positions a.stops c.requires.0 l.at (to_z w32 l.prev-bits) (rw same at l.invariant.2)
-    ∙ ap (λ (z : ℤ). latest_from (pos a.part.life) a.positions.end z (take a.n a.positions.at) (take a.n a.stops)) (first-bits (goal.at.returns c).After-last_change-prev ∙ c.last_change-prev.ensures)
+    made_end (pos a.part.now.life) (to_z w32 (of_z w32 c.last_change-prev.result)) a.n a.positions.now a.stops.now c.requires.0 l.at (to_z w32 l.prev-bits) (rw same at l.invariant.2)
+    ∙ ap (λ (z : ℤ). latest_from (pos a.part.now.life) a.positions.now.end z (take a.n a.positions.now.at) (take a.n a.stops.now)) (first-bits (goal.at.returns c).After-last_change-prev ∙ c.last_change-prev.ensures)

@@ -11,7 +11,7 @@ use Rattle.log_lives.proofs.judgement_to.Goals as goal
 
 pub returns : goal.returns
 returns c = let a = c.args in
-    let job = job_of a.past in
-    let plan = plan_for a.past a.plan in
+    let job = job_of a.past.now.job in
+    let plan = plan_for a.past.now.job a.plan.now in
     let at = position_bits _ c.position_of-to.ensures.1 ∙ c.position_of-to.ensures.0 in
     c.judged.ensures ∙ ap (λ (stated : ℕ). model.judged stated c.cost_of-cost.result (model_verdict c.verdict_to-verdict.result)) c.from-stated.ensures ∙ ap₂ (model.judged a.stated) c.cost_of-cost.ensures (c.verdict_to-verdict.ensures ∙ ap (λ (e : ℤ). verdict_to_lem job e plan) at)

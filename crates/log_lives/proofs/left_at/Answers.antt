@@ -19,7 +19,7 @@ use Rattle.clock.proofs.Ranges.{position_small, position_bits, before_small, bef
 use Rattle.carry.specs.Carry.{natural}
 use Rattle.carry.proofs.Gaps.{natural_is}
 use Rattle.log_lives.proofs.left_at.Goals as goal
-use Rattle.log_lives.proofs.left_at.Goals.{After-in_reach, Else-not-in_reach}
+use Rattle.log_lives.proofs.left_at.Goals.{After-keeps, Else-not-keeps}
 
 -- ---- the life not used, over plain numbers
 
@@ -71,29 +71,28 @@ module _ (life : ℕ) (last now : ℤ) where
 -- ---- the needs
 
 -- the test
-tested : (c : After-in_reach) → c.in_reach.result ≡ within (pos c.args.life) c.args.last c.args.now
-tested c =
-    rw (to_z-of_z c.ranges.last, to_z-of_z c.ranges.now, life_bits c.args.life c.requires.0) at c.in_reach.ensures
+tested : (c : After-keeps) → c.keeps.result ≡ within (pos c.args.life) c.args.last c.args.now
+tested c = rw (to_z-of_z c.ranges.last, to_z-of_z c.ranges.now) at c.keeps.ensures
 
-pub in_reach-requires : goal.in_reach-requires
-in_reach-requires c = used_fits c.args.life c.args.last c.args.now c.requires.0 c.requires.1 c.requires.2
+pub keeps-requires : goal.keeps-requires
+keeps-requires c = (c.requires.0, rw (to_z-of_z c.ranges.last) c.requires.1, rw (to_z-of_z c.ranges.now) c.requires.2)
 
-pub returns-then-not-in_reach : goal.returns-then-not-in_reach
-returns-then-not-in_reach c = sym (over_life c.args.life c.args.last c.args.now (sym (tested (goal.at.returns-then-not-in_reach c).After-in_reach) ∙ c.if-not-in_reach.true))
+pub returns-then-not-keeps : goal.returns-then-not-keeps
+returns-then-not-keeps c = sym (over_life c.args.life c.args.last c.args.now (sym (tested (goal.at.returns-then-not-keeps c).After-keeps) ∙ c.if-not-keeps.true))
 
 -- what is handed over
-given : (c : Else-not-in_reach) → let a = c.args in to_z w32 (of_z w32 (bits a.life a.last a.now)) ≡ pos (natural (left a.life a.last a.now))
+given : (c : Else-not-keeps) → let a = c.args in to_z w32 (of_z w32 (bits a.life a.last a.now)) ≡ pos (natural (left a.life a.last a.now))
 given c =
-    left-bits c.args.life c.args.last c.args.now c.requires.0 c.requires.1 c.requires.2 (sym (tested c.before) ∙ c.if-not-in_reach.false)
+    left-bits c.args.life c.args.last c.args.now c.requires.0 c.requires.1 c.requires.2 (sym (tested c.before) ∙ c.if-not-keeps.false)
 
 pub overflow_cast-result : goal.overflow_cast-result
 overflow_cast-result c =
-    let e = in_life c.args.life c.args.last c.args.now (sym (tested (goal.at.overflow_cast-result c).After-in_reach) ∙ c.if-not-in_reach.false) in
+    let e = in_life c.args.life c.args.last c.args.now (sym (tested (goal.at.overflow_cast-result c).After-keeps) ∙ c.if-not-keeps.false) in
     let m = mag_sub (pos c.args.life) (c.args.now -ℤ c.args.last) in
     let m2 = mag_sub c.args.now c.args.last in
     let z = ap mag e in
     let low : natural (left c.args.life c.args.last c.args.now) ≤ 10000 = omega (arith, z, m, m2, c.requires.0, small_last c.args.life c.args.last c.args.now c.requires.0 c.requires.1 c.requires.2, small_now c.args.life c.args.last c.args.now c.requires.0 c.requires.1 c.requires.2) in
-    rw (given (goal.at.overflow_cast-result c).Else-not-in_reach) (omega arith)
+    rw (given (goal.at.overflow_cast-result c).Else-not-keeps) (omega arith)
 
 pub returns : goal.returns
-returns c = rw (given (goal.at.returns c).Else-not-in_reach)
+returns c = rw (given (goal.at.returns c).Else-not-keeps)

@@ -3,11 +3,18 @@ use Prim.Native.Nat.{ℕ, ◌<◌}
 use mathlib.Core.Path.{◌≡◌, refl, sym, ap, ap₂, ◌∙◌}
 use mathlib.Core.List.{List, [], ◌∷◌, ◌++◌}
 use native.Mathlib.Omega.{arith}
-use lib.ListN.{length, take, length-set}
+use lib.ListN.{length, get_or, take, length-set}
 use Rattle.lines.proofs.Arrays.{take_more}
-use Rattle.quotes.specs.Views.{lows_of}
+use Rattle.std.specs.Prelude.{Option, Some, None}
+use Rattle.std.specs.Option.{unwrap_or}
+use Rattle.quotes.specs.Views.{low_of, lows_of}
 use Rattle.low_ends.proofs.Prices.{lows_next}
 use Rattle.low_ends.proofs.low_prices.Goals as goal
+
+-- the low end of a price is what its pair says, else the price
+low_is : (o : Option ℕ) (high x : ℕ) → x ≡ unwrap_or o high → x ≡ low_of o high
+low_is None high x e = e
+low_is (Some l) high x e = e
 
 pub loop-k-init : goal.loop-k-init
 unfolding lows_of
@@ -19,8 +26,8 @@ loop-k-preserved c = let a = c.args in
     let few : k < 64 = omega (arith, c.requires, c.loop-k-test.true) in
     let there : k < length a.highs = omega (arith, few, c.well_formed) in (
       simp length-set c.loop-k.invariant.0,
-      take_more k c.loop-k.ends c.low_end.result (omega (arith, few, c.loop-k.invariant.0))
-          ∙ ap₂ (λ (xs : List ℕ) (x : ℕ). xs ++ x ∷ []) c.loop-k.invariant.1 c.low_end.ensures
+      take_more k c.loop-k.ends c.unwrap_or.result (omega (arith, few, c.loop-k.invariant.0))
+          ∙ ap₂ (λ (xs : List ℕ) (x : ℕ). xs ++ x ∷ []) c.loop-k.invariant.1 (low_is (get_or a.lows k None) (get_or a.highs k 0) _ c.unwrap_or.ensures)
           ∙ sym (lows_next k a.lows a.highs there),
     )
 

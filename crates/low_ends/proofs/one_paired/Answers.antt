@@ -1,13 +1,11 @@
--- `one_paired`: none of those so far is there.
-use mathlib.Core.Path.{sym, ◌∙◌}
-use Rattle.low_ends.proofs.Prices.{one_here, one_on, one_end}
+-- `one_paired`: the search over the low ends, in the definition's words.
+use Rattle.std.proofs.Common.{rules, tests, ◌∙◌}
+use Rattle.std.specs.Prelude.{is_some}
+use Rattle.std.proofs.lemmas.Iterator.{YieldsList-from_slice}
+use Rattle.std.proofs.lemmas.Iterator.Search.{any_from_yields_List}
+use Rattle.low_ends.proofs.Prices.{any_one}
 use Rattle.low_ends.proofs.one_paired.Goals as goal
 
-pub returns-then-is_some : goal.returns-then-is_some
-returns-then-is_some c = sym (c.loop-low.invariant ∙ one_here c.args.lows.now c.loop-low.low-index (sym c.if-is_some.ensures))
-
-pub loop-low-preserved : goal.loop-low-preserved
-loop-low-preserved c = c.loop-low.invariant ∙ one_on c.args.lows.now c.loop-low.low-index (sym c.if-is_some.ensures)
-
 pub returns : goal.returns
-returns c = sym (c.loop-low.invariant ∙ one_end c.args.lows.now c.loop-low.low-index c.loop-low-test.false)
+returns c = let lows = c.args.lows.now in
+    any_from_yields_List is_some _ _ c.any.result c.any.ensures.ran (YieldsList-from_slice lows cc) (λ x b q k. search (rules, tests)) ∙ any_one lows

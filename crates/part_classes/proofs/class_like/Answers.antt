@@ -1,19 +1,19 @@
--- `class_like` looks at one class after the other. The invariant: the leads of those before need something else.
-use Rattle.std.proofs.Common.{◌∙◌, ◌<◌, ℕ, sym, ap, arith, get_or, Some, None, length-take-le}
-use lib.Seq.{get_or-take}
+-- `class_like` looks at one class after the other.
+use Rattle.std.proofs.Common.{ℕ, Bool, take, arith, rules, tests}
+use Rattle.std.proofs.lemmas.Iterator.{YieldsList-from_slice}
+use Rattle.std.proofs.lemmas.Iterator.Adapters.{serves_from_places}
+use Rattle.std.proofs.lemmas.Iterator.Search.{position_from_yields_List}
 use Rattle.part_classes.specs.Grouped.{same_needs_lem}
-use Rattle.part_classes.proofs.Groups.{first_of}
+use Rattle.part_classes.proofs.Groups.{first_in, lead_below}
 use Rattle.part_classes.proofs.class_like.Goals as goal
 
-pub returns-then-same_needs : goal.returns-then-same_needs
-returns-then-same_needs c = let n = c.args.needs.now in
-    let k = c.args.classes.now in
-    let f = λ (x : ℕ). same_needs_lem n.marks.now n.holding x c.args.q in
-    let i = c.loop-c.c in
-    let l : i < k.count = omega (arith, length-take-le k.count k.leads (omega (arith, k.led.room, k.led.most))) in
-    first_of (λ (d : ℕ). f (get_or k.leads d 0)) (Some i) k.count (l, sym (ap f (get_or-take k.count k.leads i 0 l)) ∙ sym c.same_needs.ensures ∙ c.if-same_needs.true, c.loop-c.invariant)
+pub position-requires-clause-callable : goal.position-requires-clause-callable
+position-requires-clause-callable c = let k = c.args.classes.now in
+    serves_from_places (YieldsList-from_slice (take k.count k.leads) cc) (λ x q r. search (rules, tests)) (λ x i l e _ _ _ _ _ _ _. (lead_below k i x.now l e, c.requires))
 
 pub returns : goal.returns
 returns c = let n = c.args.needs.now in
     let k = c.args.classes.now in
-    first_of (λ (d : ℕ). same_needs_lem n.marks.now n.holding (get_or k.leads d 0) c.args.q) None k.count (λ d l. c.loop-c.invariant d (omega (arith, length-take-le k.count k.leads (omega (arith, k.led.room, k.led.most)))))
+    let f : ℕ → Bool = λ x. same_needs_lem n.marks.now n.holding x c.args.q in
+    first_in f k.leads k.count (omega (arith, k.led.room, k.led.most)) c.position.result
+    (position_from_yields_List f _ _ c.position.result c.position.ensures.ran (YieldsList-from_slice (take k.count k.leads) cc) (λ x b q k. search (rules, tests)))

@@ -1,9 +1,8 @@
--- `blank_part`: removal 0 and no holders, by computation.
-use mathlib.Core.Path.{refl}
-use Rattle.lines.specs.Text.{joined}
-use Rattle.lines.specs.Chosen.{chosen}
+-- `blank_part`: the removal and the holders of a cover without lines.
+use mathlib.Core.Path.{ap}
+use Rattle.covers.specs.Grammar.{Cover}
 use Rattle.part_lines.proofs.blank_part.Goals as goal
 
 pub returns : goal.returns
-unfolding chosen joined
-returns c = (refl, refl)
+returns c = let e = c.none-removal.ensures in
+    (ap (λ (d : Cover). d.removal) e, ap (λ (d : Cover). d.holders) e)

@@ -15,10 +15,10 @@ pub put_values-requires : goal.put_values-requires
 unfolding bytes
 put_values-requires c = room_behind (room_same c.requires.1 (inside_few c.args.holders.now (omega arith))) c.put_line.ensures
 
-pub returns-then-n-le15 : goal.returns-then-n-le15
+pub returns-then-n-from : goal.returns-then-n-from
 unfolding bytes
-returns-then-n-le15 c = same (then c.put_line.ensures c.put_values.ensures) (sym (inside_few c.args.holders.now (omega arith)))
+returns-then-n-from c = same (then c.put_line.ensures c.put_values.ensures) (sym (inside_few c.args.holders.now (omega arith)))
 
-pub returns-else-n-le15 : goal.returns-else-n-le15
+pub returns-else-n-from : goal.returns-else-n-from
 unfolding bytes
-returns-else-n-le15 c = same c.put_line.ensures (sym (inside_many c.args.holders.now (omega arith)))
+returns-else-n-from c = same c.put_line.ensures (sym (inside_many c.args.holders.now (omega arith)))

@@ -6,20 +6,20 @@ use Rattle.part_writing.proofs.put_part.Goals as goal
 
 pub put_line-requires-clause-n_in_bounds : goal.put_line-requires-clause-n_in_bounds
 unfolding part_cut_lem bytes
-put_line-requires-clause-n_in_bounds c = room_front _ (room_front _ (room_front _ c.requires.room))
+put_line-requires-clause-n_in_bounds c = rw c.from.ensures (room_front _ (room_front _ (room_front _ c.requires.room)))
 
 pub put_line-requires-2-clause-n_in_bounds : goal.put_line-requires-2-clause-n_in_bounds
 unfolding part_cut_lem bytes
-put_line-requires-2-clause-n_in_bounds c = room_behind (room_front _ (room_front _ c.requires.room)) c.put_line.ensures
+put_line-requires-2-clause-n_in_bounds c = rw c.from-2.ensures (room_behind (room_front _ (room_front _ c.requires.room)) (rw c.from.ensures at c.put_line.ensures))
 
 pub put_cover-requires : goal.put_cover-requires
 unfolding part_cut_lem bytes
-put_cover-requires c = record { few = c.requires.few; room = room_behind (room_front _ c.requires.room) (then c.put_line.ensures c.put_line-2.ensures) }
+put_cover-requires c = record { few = c.requires.few; room = room_behind (room_front _ c.requires.room) (then (rw c.from.ensures at c.put_line.ensures) (rw c.from-2.ensures at c.put_line-2.ensures)) }
 
 pub put_prices-requires : goal.put_prices-requires
 unfolding part_cut_lem bytes
-put_prices-requires c = record { marked = c.requires.marked; room = room_behind c.requires.room (then (then c.put_line.ensures c.put_line-2.ensures) c.put_cover.ensures) }
+put_prices-requires c = record { marked = c.requires.marked; room = room_behind c.requires.room (then (then (rw c.from.ensures at c.put_line.ensures) (rw c.from-2.ensures at c.put_line-2.ensures)) c.put_cover.ensures) }
 
 pub returns : goal.returns
 unfolding part_cut_lem bytes
-returns c = then (then (then c.put_line.ensures c.put_line-2.ensures) c.put_cover.ensures) c.put_prices.ensures
+returns c = then (then (then (rw c.from.ensures at c.put_line.ensures) (rw c.from-2.ensures at c.put_line-2.ensures)) c.put_cover.ensures) c.put_prices.ensures

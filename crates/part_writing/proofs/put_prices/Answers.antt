@@ -1,15 +1,15 @@
 -- `put_prices`: the rule's lines where there is a rule, else those of each price.
-use mathlib.Core.Path.{refl, sym, subst}
+use mathlib.Core.Path.{sym, subst}
 use Rattle.line_writing.proofs.Putting.{same, room_same}
 use Rattle.part_writing.specs.Views.{PricesMarked}
 use Rattle.part_writing.proofs.Pieces.{said_ruled, said_listed}
 use Rattle.part_writing.proofs.put_prices.Goals as goal
 
-pub put_rule-out-requires : goal.put_rule-out-requires
-put_rule-out-requires c = (room_same c.requires.room (said_ruled _ _ c.in-ByRule.is)).fits
+pub put_rule-requires : goal.put_rule-requires
+put_rule-requires c = room_same c.requires.room (said_ruled _ _ c.in-ByRule.is)
 
 pub returns-in-ByRule : goal.returns-in-ByRule
-returns-in-ByRule c = same (record { slice = refl; wrote = c.put_rule-out.ensures }) (sym (said_ruled _ _ c.in-ByRule.is))
+returns-in-ByRule c = same c.put_rule.ensures (sym (said_ruled _ _ c.in-ByRule.is))
 
 pub put_quotes-requires-clause-marked : goal.put_quotes-requires-clause-marked
 unfolding PricesMarked

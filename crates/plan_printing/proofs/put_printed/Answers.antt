@@ -5,11 +5,11 @@ use Rattle.plan_printing.proofs.put_printed.Goals as goal
 
 pub put_low-requires : goal.put_low-requires
 unfolding printed_lines
-put_low-requires c = record { sound_text = c.requires.sound_text.0; plan_in_bounds = room_front _ c.requires.plan_in_bounds }
+put_low-requires c = room_front _ c.requires.plan_in_bounds
 
 pub put_plan-requires : goal.put_plan-requires
 unfolding printed_lines
-put_plan-requires c = record { sized = (c.requires.sound_text.0.sized, c.requires.sound_text.1); plan_in_bounds = room_behind c.requires.plan_in_bounds c.put_low.ensures }
+put_plan-requires c = record { cost_printable = c.requires.cost_printable; plan_in_bounds = room_behind c.requires.plan_in_bounds c.put_low.ensures }
 
 pub returns : goal.returns
 unfolding printed_lines

@@ -1,8 +1,10 @@
--- `count_stops` meets its contract. The invariant: so many of the first i openings are stops.
-use Prim.Native.Nat.{ℕ, ◌+◌}
+-- `count_stops` meets its contract. The invariant: so many of the openings so far are stops.
+use Prim.Native.Nat.{ℕ, ◌+◌, ◌≤◌}
 use mathlib.Core.Path.{◌≡◌, refl, sym, ap, ap₂, ◌∙◌}
+use mathlib.Core.Bool.{Bool, false, cond}
 use native.Mathlib.Omega.{arith}
 use lib.ListN.{length}
+use lib.Seq.{get_or-take}
 use Rattle.lines.specs.Text.{joined}
 use Rattle.jobs.specs.Views.{job_of, plan_for}
 use Rattle.lines.specs.Chosen.{chosen}
@@ -14,23 +16,26 @@ use Rattle.plan_writing.proofs.Counting.{one_if, one_most}
 use Rattle.plan_writing.proofs.count_stops.Goals as goal
 use Rattle.plan_writing.proofs.count_stops.Invariants.{stop}
 
-pub loop-i-init : goal.loop-i-init
+pub loop-stop-init : goal.loop-stop-init
 unfolding chosen joined
-loop-i-init c = refl
+loop-stop-init c = refl
 
 pub overflow_add-count : goal.overflow_add-count
-overflow_add-count c = omega (arith, c.requires, one_most (stop c.args.plan c.loop-i.i), chosen_few (stop c.args.plan) (λ (j : ℕ). j) c.loop-i.i)
+overflow_add-count c = let one : c.from-count.result ≤ 1 = rw c.from-count.ensures (one_most _) in
+    omega (arith, one, chosen_few (stop c.args.plan.now) (λ (j : ℕ). j) c.loop-stop.stop-index)
 
-pub loop-i-preserved : goal.loop-i-preserved
-loop-i-preserved c = let l = c.loop-i in
-    let test = stop c.args.plan in
-    ap₂ (λ (n m : ℕ). n + m) l.invariant (c.from-count.ensures ∙ one_if (test l.i)) ∙ sym (chosen_count test (λ (j : ℕ). j) l.i)
+pub loop-stop-preserved : goal.loop-stop-preserved
+loop-stop-preserved c = let l = c.loop-stop in
+    let plan = c.args.plan.now in
+    let same = get_or-take c.args.job.now.opening_count plan.stops l.stop-index false (omega arith) in
+    let one = c.from-count.ensures ∙ one_if _ ∙ ap (λ (b : Bool). cond b 1 0) same in
+    ap₂ (λ (n m : ℕ). n + m) l.invariant one ∙ sym (chosen_count (stop plan) (λ (j : ℕ). j) l.stop-index)
 
 pub returns : goal.returns
-returns c = let job = c.args.job in
-    let plan = c.args.plan in
+returns c = let job = c.args.job.now in
+    let plan = c.args.plan.now in
     let n = job.opening_count in
-    let end : c.loop-i.i ≡ n = omega arith in
-    c.loop-i.invariant ∙ ap (λ (k : ℕ). length (chosen (stop plan) (λ (j : ℕ). j) k)) end
+    let end : c.loop-stop.stop-index ≡ n = omega arith in
+    c.loop-stop.invariant ∙ ap (λ (k : ℕ). length (chosen (stop plan) (λ (j : ℕ). j) k)) end
     ∙ chosen-length (stop plan) (λ (j : ℕ). j) (visit_at (job_of job) (plan_for job plan)) n
-    ∙ sym (ap length (stops_are (job_of job) n job.part_count plan (opening_count_lem2 job c.requires c.well_formed.0)))
+    ∙ sym (ap length (stops_are (job_of job) n job.part_count plan (opening_count_lem2 job)))

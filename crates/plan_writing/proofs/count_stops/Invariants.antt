@@ -10,5 +10,5 @@ use Rattle.plan_writing.proofs.count_stops.Given as goal
 abbrev pub stop : Plan → ℕ → Bool
 stop plan i = get_or plan.stops i false
 
-abbrev pub invariant-loop-i : goal.invariant-loop-i
-invariant-loop-i l = l.count ≡ length (chosen (stop l.plan) (λ (j : ℕ). j) l.i)
+abbrev pub invariant-loop-stop : goal.invariant-loop-stop
+invariant-loop-stop l = l.count ≡ length (chosen (stop l.plan) (λ (j : ℕ). j) l.stop-index)

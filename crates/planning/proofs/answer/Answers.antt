@@ -1,28 +1,26 @@
--- `answer`: an output that is too short stays; else the finding's lines are written, and its number handed over.
+-- `answer`: the number of what is found is handed over, and its lines are put.
 use Prim.Native.Nat.{ℕ}
-use mathlib.Core.Path.{ap, ◌∙◌}
+use mathlib.Core.Path.{subst}
 use native.Mathlib.Omega.{arith}
 use borrow.Author.Rules.{rules}
-use Rattle.line_writing.proofs.Putting.{given_back}
+use Rattle.line_writing.specs.Puts.{Room}
 use Rattle.jobs.specs.Views.{plan_for}
-use Rattle.job_text.specs.Views.{given_of}
-use Rattle.answers.specs.Said.{plainly, handed}
-use Rattle.answers.proofs.Replies.{replied, no_room}
-use Rattle.planning.specs.Plan.{planner_lines, said_for, plan_room}
+use Rattle.job_text.specs.Views.{given_in}
+use Rattle.answers.specs.Said.{plainly, Replied}
+use Rattle.planning.specs.Plan.{planner_lines, plan_room}
 use Rattle.planning.specs.Finding.{answer_in}
 use Rattle.planning.proofs.Lengths.{lines_short}
 use Rattle.planning.proofs.answer.Goals as goal
 
-pub returns-then-out-lt-ROOM : goal.returns-then-out-lt-ROOM
-returns-then-out-lt-ROOM c = no_room _ _ _ c.if-out-lt-ROOM.true c.no_room.ensures
-
-pub put_finding-requires : goal.put_finding-requires
-put_finding-requires c = let a = c.args in
-    (c.requires.0, c.requires.1, record { fits = omega (arith, lines_short a.f a.text a.plan c.requires.0 c.requires.1, c.if-out-lt-ROOM.false) })
+pub reply-requires : goal.reply-requires
+reply-requires c o start long = let a = c.args in
+    let fits = c.requires in
+    let room : Room o.now (planner_lines (given_in a.text.now) (answer_in (plan_for a.text.now.job.job a.plan.now) a.f)) = record { fits = omega (arith, start, long, lines_short a.f a.text.now a.plan.now c.requires) } in
+    search (rules, room, fits)
 
 pub returns : goal.returns
 returns c = let a = c.args in
-    let plan = plan_for a.text.job a.plan in
-    let put = c.put_finding in
-    replied plan_room (said_for (given_of a.text) (answer_in plan a.f)) c.if-out-lt-ROOM.false (lines_short a.f a.text a.plan c.requires.0 c.requires.1) (given_back put.ensures (search rules))
-    (c.plain.ensures ∙ ap (λ (n : ℕ). handed (plainly n (planner_lines (given_of a.text) (answer_in plan a.f))) put.new.out.at) (c.number_of.ensures plan))
+    let plan = plan_for a.text.now.job.job a.plan.now in
+    let lines = planner_lines (given_in a.text.now) (answer_in plan a.f) in
+    subst (λ (n : ℕ). Replied plan_room (plainly n lines) c.args.out.now c.reply.new.out c.reply.result) (c.number_of.ensures plan)
+    (c.reply.ensures lines (lines_short a.f a.text.now a.plan.now c.requires) (λ o p start put. search rules))

@@ -1,47 +1,57 @@
--- `put_finding`: case by case, each with its lines.
-use mathlib.Core.Path.{◌≡◌, subst}
+-- `put_finding`: case by case, each with its number and its lines.
+use Prim.Native.Nat.{ℕ}
+use mathlib.Core.Path.{◌≡◌, ap, subst, ◌∙◌}
 use native.Mathlib.Omega.{arith}
 use Rattle.lines.specs.Text.{bytes}
 use Rattle.line_writing.specs.Puts.{Room}
+use Rattle.model.specs.Promise.{result_of}
 use Rattle.jobs.specs.Views.{plan_for}
-use Rattle.job_text.specs.Views.{given_of}
+use Rattle.job_text.specs.Views.{given_in}
 use Rattle.planning.specs.Plan.{search_lines, planner_lines}
 use Rattle.planning.specs.Finding.{answer_in, Fits}
 use Rattle.planning.specs.declared.Finding.{Finding}
 use Rattle.planning.proofs.put_finding.Goals as goal
-use Rattle.planning.proofs.put_finding.Goals.{Start}
+use Rattle.planning.proofs.put_finding.Goals.{After-number_of-number}
 
--- the room for the lines of what is found
-room : (c : Start) (f : Finding) → c.args.f ≡ f → Room c.args.out.now (planner_lines (given_of c.args.text) (answer_in (plan_for c.args.text.job c.args.plan) f))
-room c f e = subst (λ (x : Finding). Room c.args.out.now (planner_lines (given_of c.args.text) (answer_in (plan_for c.args.text.job c.args.plan) x))) e c.requires.2
+-- the number of what is found, and the room for its lines
+number : (c : After-number_of-number) (f : Finding) → c.args.f ≡ f → c.number_of-number.result ≡ result_of (answer_in (plan_for c.args.text.now.job.job c.args.plan.now) f)
+number c f e = let plan = plan_for c.args.text.now.job.job c.args.plan.now in
+    c.number_of-number.ensures plan ∙ ap (λ (x : Finding). result_of (answer_in plan x)) e
+
+room : (c : After-number_of-number) (f : Finding) → c.args.f ≡ f → Room c.args.out.now (planner_lines (given_in c.args.text.now) (answer_in (plan_for c.args.text.now.job.job c.args.plan.now) f))
+room c f e = subst (λ (x : Finding). Room c.args.out.now (planner_lines (given_in c.args.text.now) (answer_in (plan_for c.args.text.now.job.job c.args.plan.now) x))) e c.requires.1
 
 pub put_line-requires : goal.put_line-requires
 unfolding bytes
-put_line-requires c = record { n_bound = omega arith; n_in_bounds = room (goal.at.put_line-requires c).Start _ c.in-NoPlan.is }
+put_line-requires c = let here = (goal.at.put_line-requires c).After-number_of-number in
+    rw (c.from.ensures, number here _ c.in-NoPlan.is) (record { n_bound = omega arith; n_in_bounds = room here _ c.in-NoPlan.is })
 
 pub put_planned-requires : goal.put_planned-requires
-put_planned-requires c = let h = subst Fits c.in-Optimum.is c.requires.0 in
-    record { printable = (h.0, h.1, h.2); sound_text = (c.requires.1, room (goal.at.put_planned-requires c).Start _ c.in-Optimum.is) }
+put_planned-requires c = let here = (goal.at.put_planned-requires c).After-number_of-number in
+    let h = subst Fits c.in-Optimum.is c.requires.0 in
+    rw (number here _ c.in-Optimum.is) (record { printable = (h.0, h.1, h.2); plan_in_bounds = room here _ c.in-Optimum.is })
 
 pub put_planned-requires-in-Cut : goal.put_planned-requires-in-Cut
-put_planned-requires-in-Cut c = let h = subst Fits c.in-Cut.is c.requires.0 in
-    record { printable = (h.0, h.1, h.2); sound_text = (c.requires.1, room (goal.at.put_planned-requires-in-Cut c).Start _ c.in-Cut.is) }
+put_planned-requires-in-Cut c = let here = (goal.at.put_planned-requires-in-Cut c).After-number_of-number in
+    let h = subst Fits c.in-Cut.is c.requires.0 in
+    rw (number here _ c.in-Cut.is) (record { printable = (h.0, h.1, h.2); plan_in_bounds = room here _ c.in-Cut.is })
 
 pub put_three-requires : goal.put_three-requires
 unfolding search_lines bytes
-put_three-requires c = let h = subst Fits c.in-CutBare.is c.requires.0 in
-    (h.0, h.1, room (goal.at.put_three-requires c).Start _ c.in-CutBare.is)
+put_three-requires c = let here = (goal.at.put_three-requires c).After-number_of-number in
+    let h = subst Fits c.in-CutBare.is c.requires.0 in
+    rw (number here _ c.in-CutBare.is) (h.0, h.1, room here _ c.in-CutBare.is)
 
 pub returns-in-NoPlan : goal.returns-in-NoPlan
 unfolding bytes
-returns-in-NoPlan c = rw c.in-NoPlan.is c.put_line.ensures
+returns-in-NoPlan c = rw c.in-NoPlan.is (rw (c.from.ensures, number (goal.at.returns-in-NoPlan c).After-number_of-number _ c.in-NoPlan.is) at c.put_line.ensures)
 
 pub returns-in-Optimum : goal.returns-in-Optimum
-returns-in-Optimum c = rw c.in-Optimum.is c.put_planned.ensures
+returns-in-Optimum c = rw c.in-Optimum.is (rw (number (goal.at.returns-in-Optimum c).After-number_of-number _ c.in-Optimum.is) at c.put_planned.ensures)
 
 pub returns-in-Cut : goal.returns-in-Cut
-returns-in-Cut c = rw c.in-Cut.is c.put_planned-in-Cut.ensures
+returns-in-Cut c = rw c.in-Cut.is (rw (number (goal.at.returns-in-Cut c).After-number_of-number _ c.in-Cut.is) at c.put_planned-in-Cut.ensures)
 
 pub returns-in-CutBare : goal.returns-in-CutBare
 unfolding search_lines bytes
-returns-in-CutBare c = rw c.in-CutBare.is c.put_three.ensures
+returns-in-CutBare c = rw c.in-CutBare.is (rw (number (goal.at.returns-in-CutBare c).After-number_of-number _ c.in-CutBare.is) at c.put_three.ensures)

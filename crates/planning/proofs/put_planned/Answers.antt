@@ -6,11 +6,11 @@ use Rattle.planning.proofs.put_planned.Goals as goal
 
 pub put_three-requires : goal.put_three-requires
 unfolding planned_lines search_lines bytes
-put_three-requires c = (c.requires.printable.0, c.requires.printable.1, room_front _ c.requires.sound_text.1)
+put_three-requires c = (c.requires.printable.0, c.requires.printable.1, room_front _ c.requires.plan_in_bounds)
 
 pub put_printed-requires : goal.put_printed-requires
 unfolding planned_lines search_lines bytes
-put_printed-requires c = record { sound_text = (c.requires.sound_text.0, c.requires.printable.2); plan_in_bounds = room_behind c.requires.sound_text.1 c.put_three.ensures }
+put_printed-requires c = record { cost_printable = c.requires.printable.2; plan_in_bounds = room_behind c.requires.plan_in_bounds c.put_three.ensures }
 
 pub returns : goal.returns
 unfolding planned_lines search_lines bytes

@@ -7,20 +7,20 @@ use Rattle.quote_writing.proofs.put_quote.Goals as goal
 
 pub put_line-requires-clause-n_in_bounds : goal.put_line-requires-clause-n_in_bounds
 unfolding bytes
-put_line-requires-clause-n_in_bounds c = room_same c.requires (quote_single _ c.args.high c.in-None.is)
+put_line-requires-clause-n_in_bounds c = rw c.from.ensures (room_same c.requires (quote_single _ c.args.high c.in-None.is))
 
 pub put_line-requires-in-Some-clause-n_in_bounds : goal.put_line-requires-in-Some-clause-n_in_bounds
 unfolding bytes
-put_line-requires-in-Some-clause-n_in_bounds c = room_front _ (room_same c.requires (quote_pair _ c.in-Some.low c.args.high c.in-Some.is))
+put_line-requires-in-Some-clause-n_in_bounds c = rw c.from-in-Some.ensures (room_front _ (room_same c.requires (quote_pair _ c.in-Some.low c.args.high c.in-Some.is)))
 
 pub put_line-requires-in-Some-2-clause-n_in_bounds : goal.put_line-requires-in-Some-2-clause-n_in_bounds
 unfolding bytes
-put_line-requires-in-Some-2-clause-n_in_bounds c = room_behind (room_same c.requires (quote_pair _ c.in-Some.low c.args.high c.in-Some.is)) c.put_line-in-Some.ensures
+put_line-requires-in-Some-2-clause-n_in_bounds c = rw c.from-in-Some-2.ensures (room_behind (room_same c.requires (quote_pair _ c.in-Some.low c.args.high c.in-Some.is)) (rw c.from-in-Some.ensures at c.put_line-in-Some.ensures))
 
 pub returns-in-None : goal.returns-in-None
 unfolding bytes
-returns-in-None c = same c.put_line.ensures (sym (quote_single _ c.args.high c.in-None.is))
+returns-in-None c = same (rw c.from.ensures at c.put_line.ensures) (sym (quote_single _ c.args.high c.in-None.is))
 
 pub returns-in-Some : goal.returns-in-Some
 unfolding bytes
-returns-in-Some c = same (then c.put_line-in-Some.ensures c.put_line-in-Some-2.ensures) (sym (quote_pair _ c.in-Some.low c.args.high c.in-Some.is))
+returns-in-Some c = same (then (rw c.from-in-Some.ensures at c.put_line-in-Some.ensures) (rw c.from-in-Some-2.ensures at c.put_line-in-Some-2.ensures)) (sym (quote_pair _ c.in-Some.low c.args.high c.in-Some.is))

@@ -25,7 +25,7 @@ loop-i-preserved c = let q = c.in_ok-quote.quote in
 pub returns-in_err-quote : goal.returns-in_err-quote
 unfolding times
 returns-in_err-quote c = let p = err_from_is_err_and c.from_residual.result c.from_residual.ensures.1 in
-    rw (p.1, p.2) (chain_stopped c.loop-i.invariant.read c.read_quote.new.lines _ c.loop-i-test.true c.in_err-quote.ensures)
+    rw (p.1, p.2) (chain_stopped c.loop-i.invariant.read c.read_quote.new.lines c.in_err-quote.field-0.0 c.loop-i-test.true c.in_err-quote.ensures)
 
 pub returns : goal.returns
 unfolding times

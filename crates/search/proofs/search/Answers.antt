@@ -17,4 +17,4 @@ pub returns : goal.returns
 returns c job h = let j = c.args.job.now in
     let t = c.stops_of-stops in
     subst (λ (r : Found). Finds job c.args.limit r) (sym c.found_by.ensures)
-    (finds job j.end j.positions.now j.fees.now j.lives.now j.lefts.now j.prices.now h c.args.limit c.walked-solved.result c.walked-solved.ensures t.result t.ensures c.changes-changes.result c.changes-changes.ensures)
+    (finds job j.end j.positions.now j.fees.now j.lives.now j.lefts.now j.prices.now h c.args.limit c.walked-solved.result c.walked-solved.ensures _ t.ensures c.changes-changes.ensures)

@@ -1,28 +1,26 @@
--- `answer`: an output that is too short stays; else the lines are written, and the number handed over.
+-- `answer`: the number of what is found is handed over, and its lines are put.
 use Prim.Native.Nat.{ℕ}
-use mathlib.Core.Path.{ap, ◌∙◌}
+use mathlib.Core.Path.{subst}
 use native.Mathlib.Omega.{arith}
 use borrow.Author.Rules.{rules}
-use Rattle.line_writing.proofs.Putting.{given_back}
+use Rattle.line_writing.specs.Puts.{Room}
 use Rattle.jobs.specs.Views.{plan_for}
-use Rattle.job_text.specs.Views.{given_of}
-use Rattle.answers.specs.Said.{plainly, handed}
-use Rattle.answers.proofs.Replies.{replied, no_room}
-use Rattle.serving.specs.Serve.{latest_lines, said_for, latest_room}
+use Rattle.job_text.specs.Views.{given_in}
+use Rattle.answers.specs.Said.{plainly, Replied}
+use Rattle.serving.specs.Serve.{latest_lines, latest_room}
 use Rattle.serving.specs.Serving.{answer_in}
 use Rattle.serving.proofs.Lengths.{lines_short}
 use Rattle.serving.proofs.answer.Goals as goal
 
-pub returns-then-out-lt-ROOM : goal.returns-then-out-lt-ROOM
-returns-then-out-lt-ROOM c = no_room _ _ _ c.if-out-lt-ROOM.true c.no_room.ensures
-
-pub put_serving-requires : goal.put_serving-requires
-put_serving-requires c = let a = c.args in
-    (c.requires.0, c.requires.1, record { fits = omega (arith, lines_short a.s a.text a.plan c.requires.0 c.requires.1, c.if-out-lt-ROOM.false) })
+pub reply-requires : goal.reply-requires
+reply-requires c o start long = let a = c.args in
+    let fits = c.requires in
+    let room : Room o.now (latest_lines (given_in a.text.now) (answer_in (plan_for a.text.now.job.job a.plan.now) a.s)) = record { fits = omega (arith, start, long, lines_short a.s a.text.now a.plan.now c.requires) } in
+    search (rules, room, fits)
 
 pub returns : goal.returns
 returns c = let a = c.args in
-    let plan = plan_for a.text.job a.plan in
-    let put = c.put_serving in
-    replied latest_room (said_for (given_of a.text) (answer_in plan a.s)) c.if-out-lt-ROOM.false (lines_short a.s a.text a.plan c.requires.0 c.requires.1) (given_back put.ensures (search rules))
-    (c.plain.ensures ∙ ap (λ (n : ℕ). handed (plainly n (latest_lines (given_of a.text) (answer_in plan a.s))) put.new.out.at) (c.number_of.ensures plan))
+    let plan = plan_for a.text.now.job.job a.plan.now in
+    let lines = latest_lines (given_in a.text.now) (answer_in plan a.s) in
+    subst (λ (n : ℕ). Replied latest_room (plainly n lines) c.args.out.now c.reply.new.out c.reply.result) (c.number_of.ensures plan)
+    (c.reply.ensures lines (lines_short a.s a.text.now a.plan.now c.requires) (λ o p start put. search rules))

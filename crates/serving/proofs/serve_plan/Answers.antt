@@ -11,11 +11,11 @@ use Rattle.serving.proofs.serve_plan.Goals as goal
 use Rattle.serving.proofs.serve_plan.Goals.{In-Err, In-Ok}
 
 -- what the plan text reads as, by what was read
-refused_plan : (c : In-Err) → let a = c.args in read_plan_lem (job_of a.text.job) a.plan.now ≡ refused (number_of_lem c.in-Err.fault.kind) c.in-Err.fault.line
-refused_plan c = sym c.read_plan.ensures ∙ ap (outcome c.args.text.job) c.in-Err.is
+refused_plan : (c : In-Err) → let a = c.args in read_plan_lem (job_of a.text.now.job.job) a.plan.now ≡ refused (number_of_lem c.in-Err.fault.kind) c.in-Err.fault.line
+refused_plan c = sym c.read_plan.ensures ∙ ap (outcome c.args.text.now.job.job) c.in-Err.is
 
-accepted-plan : (c : In-Ok) → let a = c.args in read_plan_lem (job_of a.text.job) a.plan.now ≡ accepted (said a.text.job c.in-Ok.stated)
-accepted-plan c = sym c.read_plan.ensures ∙ ap (outcome c.args.text.job) c.in-Ok.is
+accepted-plan : (c : In-Ok) → let a = c.args in read_plan_lem (job_of a.text.now.job.job) a.plan.now ≡ accepted (said a.text.now.job.job c.in-Ok.stated)
+accepted-plan c = sym c.read_plan.ensures ∙ ap (outcome c.args.text.now.job.job) c.in-Ok.is
 
 pub refuse-requires : goal.refuse-requires
 refuse-requires c = (omega (arith, (fault _ _ _ _ (refused_plan (goal.at.refuse-requires c).In-Err)).1), omega arith)

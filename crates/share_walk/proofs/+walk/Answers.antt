@@ -10,13 +10,14 @@ use Rattle.model.specs.Model.{Job}
 use Rattle.model.specs.Decisions.{Held}
 use Rattle.model.specs.LowerBound.{inner}
 use Rattle.shares.specs.Shares.{Shares}
-use Rattle.lane_rows.specs.Layout.{count_place, stack_size}
+use Rattle.lane_rows.specs.Layout.{lane_count_lem, count_place, suffix_base, stack_size}
+use Rattle.lane_rows.specs.Rows.{lane, sum_lanes, Recalled}
 use Rattle.share_rows.specs.Places.{holds_place}
 use Rattle.share_walk.specs.declared.State.{State}
-use Rattle.share_walk.specs.State.{name_size, counted_s, kept_s, At, Above, Below, SharesWalked}
-use Rattle.share_walk.proofs.Walks.{none_left, some_left, name_more, at_looked, above_of, look_asks, look_fits, look_sum, node_fits, name_room, walked_stopped, walked_dropped, walked_full, first_name, first_long_lem2, first_kept, walked_both, at_below, above_kept}
+use Rattle.share_walk.specs.State.{name_size, counted_s, kept_s, At, Above, kept_rows, Below, SharesWalked}
+use Rattle.share_walk.proofs.Walks.{none_left, some_left, name_more, at_looked, above_of, look_asks, look_fits, look_sum, node_fits, name_room, walked_stopped, walked_dropped, walked_full, first_leaves, walked_both, at_below, above_kept}
 use Rattle.share_walk.proofs.+walk.Goals as goal
-use Rattle.share_walk.proofs.+walk.Goals.{Start, Else-not-undecided, After-copy_row, After-below-no, After-walk-a, After-below-yes}
+use Rattle.share_walk.proofs.+walk.Goals.{Start, Else-not-undecided, After-lanes_of-row, After-below-no, After-walk-a, After-below-yes}
 
 -- what is given of the node
 abbrev Given : (t : ℕ) → Start t → Job → Shares → List Held → List Bool → Type 0
@@ -26,7 +27,7 @@ abbrev given : (t : ℕ) (b : Start t) → Given t b b.requires.0.0 b.requires.0
 given t b = b.requires.0.4
 
 abbrev left_begun : (t : ℕ) → Else-not-undecided t → Start t
-left_begun t c = c.before.before.before.before.before.before.before.before.before.before.before.before
+left_begun t c = c.before.before.before.before.before.before.before.before.before.before
 
 pub returns-then-limit-s : goal.returns-then-limit-s
 returns-then-limit-s t c = λ job shares lanes nm h.
@@ -60,21 +61,13 @@ returns-then-s-e t c = λ job shares lanes nm h.
     (walked_dropped job shares lanes nm a.t.now a.x.now a.w.now a.name.now a.p h k.new.w a.best.now a.limit (a.p.spent + k.result) a.s k.ensures.recalled
     (ap (λ (v : ℕ). a.p.spent + v) (look_sum job shares lanes nm a.t.now a.x.now a.w.now a.name.now a.p h k.result k.ensures.sum)) (omega (arith, c.if-limit-s.false)) b.requires.1 c.if-s-e.true)
 
-pub undecided-requires : goal.undecided-requires
-undecided-requires t c =
-    let b = (goal.at.undecided-requires t c).Start in
-    let a = b.args in
-    let e = b.requires.0 in
-    let f = node_fits e.0 e.1 e.2 e.3 a.t.now a.x.now a.w.now a.name.now a.p (given t b) in
-    (f.5, f.6)
-
 pub keep-requires : goal.keep-requires
 keep-requires t c =
     let b = (goal.at.keep-requires t c).Start in
     let a = b.args in
     let e = b.requires.0 in
     let f = node_fits e.0 e.1 e.2 e.3 a.t.now a.x.now a.w.now a.name.now a.p (given t b) in
-    (f.3, (given t b).room, b.requires.3)
+    f.3
 
 pub returns-then-not-undecided : goal.returns-then-not-undecided
 returns-then-not-undecided t c = λ job shares lanes nm h.
@@ -89,7 +82,7 @@ returns-then-not-undecided t c = λ job shares lanes nm h.
     (sym (c.kept.ensures ∙ ap (λ (q : State). kept_s q (a.p.spent + k.result) a.p.size) c.counted-c.ensures))
     (walked_full job shares lanes nm a.t.now a.x.now a.w.now a.name.now a.p h (a.p.spent + k.result) a.limit a.s a.best.now
     (ap (λ (v : ℕ). a.p.spent + v) (look_sum job shares lanes nm a.t.now a.x.now a.w.now a.name.now a.p h k.result k.ensures.sum)) (omega (arith, c.if-limit-s.false)) b.requires.1 (omega (arith, c.if-s-e.false))
-    k.new.w kp.new.best k.ensures.recalled (omega (arith, n.0, nu.shared.holds, nu.next)) (n.1 ∙ nu.tables.count) kp.ensures.0 (kp.ensures.1 ∙ sym b.requires.3))
+    k.new.w kp.new.best k.ensures.recalled (omega (arith, n.0, nu.shared.holds, nu.next)) (n.1 ∙ nu.tables.count) kp.ensures (omega arith))
 
 -- ---- both nodes below
 
@@ -106,6 +99,13 @@ open-here t c job shares lanes nm h z =
 abbrev rows : (t : ℕ) → Else-not-undecided t → List ℕ
 rows t c = c.look_by_fours.new.w
 
+-- what is spent with the look's sum is what is spent with that of all lanes
+sum_here : (t : ℕ) (c : Else-not-undecided t) (job : Job) (shares : Shares) (lanes : List Held) (nm : List Bool) → Given t (left_begun t c) job shares lanes nm
+    → let a = (left_begun t c).args in a.p.spent + c.look_by_fours.result ≡ a.p.spent + sum_lanes lane_count_lem (λ (q : ℕ). lane a.t.now a.w.now suffix_base a.p.at q a.p.rows)
+sum_here t c job shares lanes nm h =
+    let a = (left_begun t c).args in
+    ap (λ (v : ℕ). a.p.spent + v) (look_sum job shares lanes nm a.t.now a.x.now a.w.now a.name.now a.p h c.look_by_fours.result c.look_by_fours.ensures.sum)
+
 looked : (t : ℕ) (c : Else-not-undecided t) (job : Job) (shares : Shares) (lanes : List Held) (nm : List Bool) → Given t (left_begun t c) job shares lanes nm → let a = (left_begun t c).args in At job shares lanes nm a.t.now a.x.now (rows t c) a.name.now a.p
 looked t c job shares lanes nm h = let a = (left_begun t c).args in at_looked job shares lanes nm a.t.now a.x.now a.w.now a.name.now a.p h (rows t c) c.look_by_fours.ensures.recalled
 
@@ -121,11 +121,8 @@ numbers t c =
 pub overflow_sub-p : goal.overflow_sub-p
 overflow_sub-p t c = omega (arith, (numbers t (goal.at.overflow_sub-p t c).Else-not-undecided).0)
 
-pub overflow_mul-p : goal.overflow_mul-p
-overflow_mul-p t c = omega (arith, (numbers t (goal.at.overflow_mul-p t c).Else-not-undecided).1)
-
-pub copy_row-requires : goal.copy_row-requires
-copy_row-requires t c = let f = numbers t (goal.at.copy_row-requires t c).Else-not-undecided in (omega (arith, f.0, f.1, f.2), omega (arith, f.2), omega arith)
+pub lanes_of-row-requires : goal.lanes_of-row-requires
+lanes_of-row-requires t c = let f = numbers t (goal.at.lanes_of-row-requires t c).Else-not-undecided in omega (arith, f.0, f.1)
 
 pub bounds-name-size : goal.bounds-name-size
 bounds-name-size t c = omega (arith, (numbers t (goal.at.bounds-name-size t c).Else-not-undecided).3)
@@ -135,24 +132,24 @@ snoc_long : (s : List Bool) (b : Bool) → length (snoc s b) ≡ length s + 1
 snoc_long s b = length-append s (b ∷ [])
 
 -- what the nodes below are made from
-abbrev left : (t : ℕ) → After-copy_row t → Else-not-undecided t
-left t c = c.before.before.before.before.before
+abbrev left : (t : ℕ) → After-lanes_of-row t → Else-not-undecided t
+left t c = c.before.before
 
-above : (t : ℕ) (c : After-copy_row t) (job : Job) (shares : Shares) (lanes : List Held) (nm : List Bool) → Given t (left_begun t (left t c)) job shares lanes nm → let a = (left_begun t (left t c)).args in Above job shares lanes nm a.t.now a.x.now (rows t (left t c)) c.copy_row.new.acc a.p
+above : (t : ℕ) (c : After-lanes_of-row t) (job : Job) (shares : Shares) (lanes : List Held) (nm : List Bool) → Given t (left_begun t (left t c)) job shares lanes nm → let a = (left_begun t (left t c)).args in Above job shares lanes nm a.t.now a.x.now (rows t (left t c)) c.lanes_of-row.result a.p
 above t c job shares lanes nm h =
     let a = (left_begun t (left t c)).args in
-    above_of job shares lanes nm a.t.now a.x.now (rows t (left t c)) a.name.now a.p (looked t (left t c) job shares lanes nm h) c.copy_row.new.acc c.copy_row.ensures.lanes
+    above_of job shares lanes nm a.t.now a.x.now (rows t (left t c)) a.name.now a.p (looked t (left t c) job shares lanes nm h) c.lanes_of-row.result c.lanes_of-row.ensures
 
 pub below-no-requires : goal.below-no-requires
 below-no-requires t c =
-    let o = (goal.at.below-no-requires t c).After-copy_row in
+    let o = (goal.at.below-no-requires t c).After-lanes_of-row in
     let e = (left_begun t (left t o)).requires.0 in
     let h = given t (left_begun t (left t o)) in
-    ((e.0, e.1, e.2, e.3, above t o e.0 e.1 e.2 e.3 h, open-here t (left t o) e.0 e.1 e.2 e.3 h), o.copy_row.ensures.size)
+    (e.0, e.1, e.2, e.3, above t o e.0 e.1 e.2 e.3 h, open-here t (left t o) e.0 e.1 e.2 e.3 h)
 
 -- the first node below
-abbrev copied : (t : ℕ) → After-below-no t → After-copy_row t
-copied t c = c.before.before.before.before.before
+abbrev copied : (t : ℕ) → After-below-no t → After-lanes_of-row t
+copied t c = c.before.before.before.before
 
 abbrev first_begun : (t : ℕ) → After-below-no t → Start t
 first_begun t c = left_begun t (left t (copied t c))
@@ -175,7 +172,7 @@ walk-a-requires t c =
     let b = first_begun t f in
     let e = b.requires.0 in
     let k = c.counted-c in
-    (omega (arith, b.decreases, (no_below t f e.0 e.1 e.2 e.3 (given t b)).falls), ((e.0, e.1, e.2, snoc e.3 false, no_given t f e.0 e.1 e.2 e.3 (given t b)), omega (arith, ap (λ (q : State). q.cost) k.ensures, b.requires.1), b.requires.2, b.requires.3))
+    (omega (arith, b.decreases, (no_below t f e.0 e.1 e.2 e.3 (given t b)).falls), ((e.0, e.1, e.2, snoc e.3 false, no_given t f e.0 e.1 e.2 e.3 (given t b)), omega (arith, ap (λ (q : State). q.cost) k.ensures, b.requires.1), b.requires.2))
 
 -- it is walked
 abbrev first : (t : ℕ) → After-walk-a t → After-below-no t
@@ -205,25 +202,15 @@ module _ (t : ℕ) (c : After-walk-a t) (job : Job) (shares : Shares) (lanes : L
   abbrev b : Start t
   b = passed_begun t c
 
-  after_name : take b.args.p.size c.walk-a.new.name ≡ nm
-  after_name = first_name job shares lanes nm b.args.t.now b.args.x.now b.args.w.now b.args.name.now b.args.p h (b.args.p.spent + lf.look_by_fours.result) b.args.limit b.args.s b.args.best.now
-      (ap (λ (v : ℕ). b.args.p.spent + v) (look_sum job shares lanes nm b.args.t.now b.args.x.now b.args.w.now b.args.name.now b.args.p h lf.look_by_fours.result lf.look_by_fours.ensures.sum)) (omega (arith, lf.if-limit-s.false)) b.requires.1 (omega (arith, lf.if-s-e.false))
+  first_left : (take b.args.p.size c.walk-a.new.name ≡ nm) × (length c.walk-a.new.name ≡ length b.args.name.now) × Recalled b.args.t.now (rows t lf) c.walk-a.new.w (kept_rows (inner job) b.args.p)
+  first_left =
+      first_leaves job shares lanes nm b.args.t.now b.args.x.now b.args.w.now b.args.name.now b.args.p h (b.args.p.spent + lf.look_by_fours.result) b.args.limit b.args.s b.args.best.now
+      (sum_here t lf job shares lanes nm h) (omega (arith, lf.if-limit-s.false)) b.requires.1 (omega (arith, lf.if-s-e.false))
       (open-here t lf job shares lanes nm h) f.below-no.result (rows t lf) f.below-no.new.w c.walk-a.new.w c.walk-a.new.name c.walk-a.new.best c.walk-a.result
       lf.look_by_fours.ensures.recalled (no_below t f job shares lanes nm h) (no_walked t c job shares lanes nm h)
 
-  after_long : length c.walk-a.new.name ≡ length b.args.name.now
-  after_long = first_long_lem2 job shares lanes nm b.args.t.now b.args.x.now b.args.w.now b.args.name.now b.args.p h (b.args.p.spent + lf.look_by_fours.result) b.args.limit b.args.s b.args.best.now
-      (ap (λ (v : ℕ). b.args.p.spent + v) (look_sum job shares lanes nm b.args.t.now b.args.x.now b.args.w.now b.args.name.now b.args.p h lf.look_by_fours.result lf.look_by_fours.ensures.sum)) (omega (arith, lf.if-limit-s.false)) b.requires.1 (omega (arith, lf.if-s-e.false))
-      (open-here t lf job shares lanes nm h) f.below-no.result (rows t lf) f.below-no.new.w c.walk-a.new.w c.walk-a.new.name c.walk-a.new.best c.walk-a.result
-      lf.look_by_fours.ensures.recalled (no_below t f job shares lanes nm h) (no_walked t c job shares lanes nm h)
-
-  after_above : Above job shares lanes nm b.args.t.now b.args.x.now c.walk-a.new.w (copied t f).copy_row.new.acc b.args.p
-  after_above =
-      above_kept job shares lanes nm b.args.t.now b.args.x.now (rows t lf) c.walk-a.new.w (copied t f).copy_row.new.acc b.args.p (above t (copied t f) job shares lanes nm h)
-      (first_kept job shares lanes nm b.args.t.now b.args.x.now b.args.w.now b.args.name.now b.args.p h (b.args.p.spent + lf.look_by_fours.result) b.args.limit b.args.s b.args.best.now
-      (ap (λ (v : ℕ). b.args.p.spent + v) (look_sum job shares lanes nm b.args.t.now b.args.x.now b.args.w.now b.args.name.now b.args.p h lf.look_by_fours.result lf.look_by_fours.ensures.sum)) (omega (arith, lf.if-limit-s.false)) b.requires.1 (omega (arith, lf.if-s-e.false))
-      (open-here t lf job shares lanes nm h) f.below-no.result (rows t lf) f.below-no.new.w c.walk-a.new.w c.walk-a.new.name c.walk-a.new.best c.walk-a.result
-      lf.look_by_fours.ensures.recalled (no_below t f job shares lanes nm h) (no_walked t c job shares lanes nm h))
+  after_above : Above job shares lanes nm b.args.t.now b.args.x.now c.walk-a.new.w (copied t f).lanes_of-row.result b.args.p
+  after_above = above_kept job shares lanes nm b.args.t.now b.args.x.now (rows t lf) c.walk-a.new.w (copied t f).lanes_of-row.result b.args.p (above t (copied t f) job shares lanes nm h) first_left.2
 
 pub bounds-name-size-2 : goal.bounds-name-size-2
 bounds-name-size-2 t c = omega (arith, (numbers t (left t (copied t (first t (goal.at.bounds-name-size-2 t c).After-walk-a)))).3)
@@ -234,7 +221,7 @@ below-yes-requires t c =
     let o = copied t (first t q) in
     let e = (passed_begun t q).requires.0 in
     let h = given t (passed_begun t q) in
-    ((e.0, e.1, e.2, e.3, after_above t q e.0 e.1 e.2 e.3 h, open-here t (left t o) e.0 e.1 e.2 e.3 h), o.copy_row.ensures.size)
+    (e.0, e.1, e.2, e.3, after_above t q e.0 e.1 e.2 e.3 h, open-here t (left t o) e.0 e.1 e.2 e.3 h)
 
 -- ---- the second
 
@@ -250,9 +237,9 @@ yes_given t c job shares lanes nm h =
     let a = (passed_begun t q).args in
     let z = yes_below t c job shares lanes nm h in
     let n = (numbers t (left t (copied t (first t q)))).3 in
-    let l = after_long t q job shares lanes nm h in
+    let l = (first_left t q job shares lanes nm h).1 in
     at_below job shares lanes nm a.t.now a.x.now q.walk-a.new.w c.below-yes.new.w (set q.walk-a.new.name a.p.size true) a.p c.below-yes.result true z
-    (name_more q.walk-a.new.name nm a.p.size c.below-yes.result.size true (after_name t q job shares lanes nm h) (omega (arith, n, l, h.room)) (omega (arith, z.numbers.named, h.numbers.named, snoc_long nm true)))
+    (name_more q.walk-a.new.name nm a.p.size c.below-yes.result.size true (first_left t q job shares lanes nm h).0 (omega (arith, n, l, h.room)) (omega (arith, z.numbers.named, h.numbers.named, snoc_long nm true)))
     (length-set q.walk-a.new.name a.p.size true ∙ l ∙ h.room)
 
 pub walk-requires : goal.walk-requires
@@ -262,7 +249,7 @@ walk-requires t c =
     let b = passed_begun t q in
     let e = b.requires.0 in
     let wn = no_walked t q e.0 e.1 e.2 e.3 (given t b) in
-    (omega (arith, b.decreases, (yes_below t d e.0 e.1 e.2 e.3 (given t b)).falls), ((e.0, e.1, e.2, snoc e.3 true, yes_given t d e.0 e.1 e.2 e.3 (given t b)), omega (arith, wn.lower, b.requires.1), b.requires.2, wn.room.1 ∙ b.requires.3))
+    (omega (arith, b.decreases, (yes_below t d e.0 e.1 e.2 e.3 (given t b)).falls), ((e.0, e.1, e.2, snoc e.3 true, yes_given t d e.0 e.1 e.2 e.3 (given t b)), omega (arith, wn.lower, b.requires.1), b.requires.2))
 
 -- both, from what is walked of the second
 both : (t : ℕ) (d : After-below-yes t) (job : Job) (shares : Shares) (lanes : List Held) (nm : List Bool) (h : Given t (passed_begun t (passed t d)) job shares lanes nm) (w₅ : List ℕ) (n₂ b₂ : List Bool) (r₂ : State)
@@ -277,7 +264,7 @@ both t d job shares lanes nm h w₅ n₂ b₂ r₂ wy =
     let b = passed_begun t c in
     let k = lf.look_by_fours in
     walked_both job shares lanes nm b.args.t.now b.args.x.now b.args.w.now b.args.name.now b.args.p h (b.args.p.spent + k.result) b.args.limit b.args.s b.args.best.now
-    (ap (λ (v : ℕ). b.args.p.spent + v) (look_sum job shares lanes nm b.args.t.now b.args.x.now b.args.w.now b.args.name.now b.args.p h k.result k.ensures.sum)) (omega (arith, lf.if-limit-s.false)) b.requires.1 (omega (arith, lf.if-s-e.false))
+    (sum_here t lf job shares lanes nm h) (omega (arith, lf.if-limit-s.false)) b.requires.1 (omega (arith, lf.if-s-e.false))
     (open-here t lf job shares lanes nm h) f.below-no.result (rows t lf) f.below-no.new.w c.walk-a.new.w c.walk-a.new.name c.walk-a.new.best c.walk-a.result
     k.ensures.recalled (no_below t f job shares lanes nm h) (no_walked t c job shares lanes nm h)
     d.below-yes.result d.below-yes.new.w w₅ n₂ b₂ r₂ (yes_below t d job shares lanes nm h) wy

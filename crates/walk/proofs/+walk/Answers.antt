@@ -11,14 +11,14 @@ use Rattle.branch.specs.declared.Bound.TheVariants.{Missing, Sum}
 use Rattle.branch.proofs.Bounds.{sum_inj}
 use Rattle.walk.specs.declared.Search.{Search}
 use Rattle.walk.specs.declared.Node.{Node}
-use Rattle.lane_rows.specs.Layout.{mark_place}
+use Rattle.lane_rows.specs.Layout.{mark_place, fee_place, term_place}
 use Rattle.lane_rows.specs.Sheet.{Sheet, sheet_bound}
 use Rattle.lane_rows.specs.Rows.{Kept, Rows, Memo, Recalled, term_at, sums_at}
-use Rattle.walk.specs.State.{decided, view, no_cost, counted_s, reached_s, no_n, yes_n, At}
+use Rattle.walk.specs.State.{decided, view, no_cost, open_s, counted_s, reached_s, no_n, yes_n, At}
 use Rattle.lane_rows.proofs.Memory.{recalled_none, recalled_then}
 use Rattle.walk.proofs.Nodes.{Due, due_at, bound_full, owing, settled, sums_asks, last_no_is, last_yes_is, at_no, at_yes, mask_fits, fits, full_walked, both_walked, Opened, closed_walked, open-walked}
 use Rattle.walk.proofs.+walk.Goals as goal
-use Rattle.walk.proofs.+walk.Goals.{in-Sum, in-Missing, After-open_rows, After-settle-rows, After-struct_known-3-1, After-term, After-yes, Else-p-cell, In-Sum-open, Joined-open_rows, Start}
+use Rattle.walk.proofs.+walk.Goals.{in-Sum, in-Missing, After-open_rows, After-settle-rows, Else-p-cell, Joined-open_rows, Start}
 
 -- the sheet that is asked for, and what is given of it
 abbrev sheet_of_lem : (t : ℕ) → Start t → Sheet
@@ -35,7 +35,7 @@ limits : (t : ℕ) (c : Start t) → c.args.limit + 1 < 2 ^ 64
 limits t c = c.requires.1
 
 pub cell-requires : goal.cell-requires
-cell-requires t c = let h = given t (goal.at.cell-requires t c).Start in (omega (arith, h.tables.size), h.tables.size)
+cell-requires t c = omega arith
 
 pub overflow_add-p : goal.overflow_add-p
 overflow_add-p t c = let a = c.args in
@@ -58,18 +58,18 @@ settle-rows-requires t c = let a = c.args in
 -- the node's rows once it is settled, and that it has an undecided opening
 stands : (t : ℕ) (c : After-settle-rows t) (sheet : Sheet)
     → let a = c.args in
-    Given t c.before.before.before.before.before.before.before sheet
+    Given t c.before.before.before.before.before.before sheet
     → Rows sheet c.settle-rows.new.w (decided a.p) c.settle-rows.result × Kept a.w.now c.settle-rows.new.w a.p.rows × (a.p.rows ≤ c.settle-rows.result) × Memo a.t.now c.settle-rows.new.w c.settle-rows.result
 stands t c sheet h =
     let a = c.args in
     settled sheet a.t.now a.w.now a.p a.stop (Sum a.x) h c.settle-rows.new.w c.settle-rows.result c.settle-rows.ensures
 
-under : (t : ℕ) (c : Else-p-cell t) (sheet : Sheet) → Given t c.before.before.before.before sheet → c.args.p.at < length sheet.positions
+under : (t : ℕ) (c : Else-p-cell t) (sheet : Sheet) → Given t c.before.before.before sheet → c.args.p.at < length sheet.positions
 under t c sheet h = omega (arith, h.inside, h.tables.count, c.cell.ensures, c.if-p-cell.false)
 
 -- at most 63 openings are decided
 near : (t : ℕ) (c : Else-p-cell t) → c.args.p.at < 64
-near t c = let h = given t c.before.before.before.before in omega (arith, under t c (sheet_of_lem t c.before.before.before.before) h, h.tables.few)
+near t c = let h = given t c.before.before.before in omega (arith, under t c (sheet_of_lem t c.before.before.before) h, h.tables.few)
 
 pub overflow_add-j : goal.overflow_add-j
 overflow_add-j t c = omega (arith, near t (goal.at.overflow_add-j t c).Else-p-cell)
@@ -95,13 +95,13 @@ no_owes t c = let a = c.args in a.p.spent + term_at a.t.now c.settle-rows.new.w 
 abbrev looked : (t : ℕ) → After-open_rows t → List ℕ
 looked t c = c.open_rows.new.w
 
-no_given : (t : ℕ) (c : After-open_rows t) (sheet : Sheet) → Given t c.before.before.before.before.before.before.before.before.before.before sheet → At sheet c.args.t.now (looked t c) (no_n c.args.p c.settle-rows.result) false (sums t c.before.before.before)
+no_given : (t : ℕ) (c : After-open_rows t) (sheet : Sheet) → Given t c.before.before.before.before.before.before.before.before.before sheet → At sheet c.args.t.now (looked t c) (no_n c.args.p c.settle-rows.result) false (sums t c.before.before.before)
 no_given t c sheet h =
     let a = c.args in
     at_no sheet a.t.now a.w.now c.settle-rows.new.w a.p a.stop (Sum a.x) c.settle-rows.result a.x h refl (stands t c.before.before.before sheet h).0 (under t c.before.before.before.before.before.before sheet h)
     (looked t c) (sums t c.before.before.before) c.open_rows.ensures.frame refl
 
-no_due : (t : ℕ) (c : After-open_rows t) (sheet : Sheet) → Given t c.before.before.before.before.before.before.before.before.before.before sheet → Due sheet (no_n c.args.p c.settle-rows.result) (sums t c.before.before.before) (no_owes t c.before.before.before)
+no_due : (t : ℕ) (c : After-open_rows t) (sheet : Sheet) → Given t c.before.before.before.before.before.before.before.before.before sheet → Due sheet (no_n c.args.p c.settle-rows.result) (sums t c.before.before.before) (no_owes t c.before.before.before)
 no_due t c sheet h =
     let a = c.args in
     due_at sheet a.t.now (looked t c) (no_n a.p c.settle-rows.result) false (sums t c.before.before.before) (no_given t c sheet h) (get_or c.settle-rows.new.w (mark_place (c.settle-rows.result - 1)) 0)
@@ -115,7 +115,7 @@ no-requires t c = let p = c.args.p in
 opened : (t : ℕ) (c : After-open_rows t) (y : ℕ) (e : c.open_rows.result ≡ Sum y) (sheet : Sheet)
     → let a = c.args in
     let n = length sheet.positions in
-    (h : Given t c.before.before.before.before.before.before.before.before.before.before sheet)
+    (h : Given t c.before.before.before.before.before.before.before.before.before sheet)
     → Opened sheet (no_n a.p c.settle-rows.result) (sums t c.before.before.before) (no_owes t c.before.before.before) (no_due t c sheet h) a.limit n (n - (a.p.at + 1)) a.s y
 opened t c y e sheet h =
     let a = c.args in
@@ -129,7 +129,7 @@ counted-requires t c = let l = (opened t (goal.at.counted-requires t c).After-op
 
 -- so it is what the call is given
 no_child : (t : ℕ) (c : After-open_rows t) (y : ℕ) (e : c.open_rows.result ≡ Sum y) (p : Node) (z : p ≡ no_n c.args.p c.settle-rows.result) (sheet : Sheet)
-    → Given t c.before.before.before.before.before.before.before.before.before.before sheet → At sheet c.args.t.now (looked t c) p false (Sum y)
+    → Given t c.before.before.before.before.before.before.before.before.before sheet → At sheet c.args.t.now (looked t c) p false (Sum y)
 no_child t c y e p z sheet h =
     let a = c.args in
     subst (λ (q : Node). At sheet a.t.now (looked t c) q false (Sum y)) (sym z)
@@ -143,7 +143,7 @@ walk-a-requires t c = let z : c.no.result.at ≡ c.args.p.at + 1 = ap (λ (q : N
 walked_on : (t : ℕ) (c : After-open_rows t) (y : ℕ) (e : c.open_rows.result ≡ Sum y) (p : Node) (z : p ≡ no_n c.args.p c.settle-rows.result) (k : Search) (l : k ≡ counted_s c.args.s) (r : Search)
     → let a = c.args in
     ((other : Sheet) → At other a.t.now (looked t c) p false (Sum y) → view a.limit (length other.positions) r ≡ open_from (sheet_bound other) a.limit (length other.positions - p.at) (decided p) (view a.limit (length other.positions) k))
-    → (sheet : Sheet) → Given t c.before.before.before.before.before.before.before.before.before.before sheet
+    → (sheet : Sheet) → Given t c.before.before.before.before.before.before.before.before.before sheet
     → let n = length sheet.positions in
     view a.limit n r ≡ limited_from (sheet_bound sheet) a.limit (n - (a.p.at + 1)) (decided (no_n a.p c.settle-rows.result)) (view a.limit n a.s)
 walked_on t c y e p z k l r f sheet h =
@@ -160,7 +160,7 @@ walked_keeps t c p z w f = subst (λ (q : Node). Recalled c.args.t.now (looked t
 
 -- what stands where the no child is not walked on
 passed_by : (t : ℕ) (c : After-open_rows t) (e : c.open_rows.result ≡ Missing) (k : Search) (l : k ≡ reached_s c.args.limit c.args.s) (sheet : Sheet)
-    → Given t c.before.before.before.before.before.before.before.before.before.before sheet
+    → Given t c.before.before.before.before.before.before.before.before.before sheet
     → let n = length sheet.positions in
     let a = c.args in
     view a.limit n k ≡ limited_from (sheet_bound sheet) a.limit (n - (a.p.at + 1)) (decided (no_n a.p c.settle-rows.result)) (view a.limit n a.s)
@@ -173,7 +173,7 @@ passed_by t c e k l sheet h =
 
 -- the first branch, either way
 first_walked : (t : ℕ) (c : Joined-open_rows t) (sheet : Sheet)
-    → Given t c.before.before.before.before.before.before.before.before.before.before.before sheet
+    → Given t c.before.before.before.before.before.before.before.before.before.before sheet
     → let n = length sheet.positions in
     let a = c.args in
     view a.limit n c.match-open_rows.a ≡ limited_from (sheet_bound sheet) a.limit (n - (a.p.at + 1)) (decided (no_n a.p c.settle-rows.result)) (view a.limit n a.s)
@@ -197,136 +197,159 @@ first_keeps t c =
 -- the rows that stand after it
 all_kept_lem : (t : ℕ) (c : Joined-open_rows t) → let a = c.args in Recalled a.t.now a.w.now c.match-open_rows.w a.p.rows
 all_kept_lem t c =
-    let r = stands t c.before.before.before.before (sheet_of_lem t c.before.before.before.before.before.before.before.before.before.before.before) (given t c.before.before.before.before.before.before.before.before.before.before.before) in
+    let r = stands t c.before.before.before.before (sheet_of_lem t c.before.before.before.before.before.before.before.before.before.before) (given t c.before.before.before.before.before.before.before.before.before.before) in
     recalled_then c.args.t.now c.args.w.now c.settle-rows.new.w c.match-open_rows.w c.args.p.rows c.settle-rows.result r.2 r.1 (first_keeps t c)
 
 pub reached-a-requires : goal.reached-a-requires
 reached-a-requires t c = limits t (goal.at.reached-a-requires t c).Start
 
-pub cell-fee-requires : goal.cell-fee-requires
-cell-fee-requires t c = let size = (given t (goal.at.cell-fee-requires t c).Start).tables.size in
-    (omega (arith, near t (goal.at.cell-fee-requires t c).Else-p-cell, size), size)
+-- ---- the second branch, from where both ways of the first meet: its fee is that of the tables, and its term the tables' for its own mark
 
--- ---- the second branch
+abbrev Fee : (t : ℕ) → Joined-open_rows t → ℕ → Type 0
+Fee t c fee = fee ≡ get_or c.args.t.now (fee_place c.args.p.at) 0
 
 -- its node
-abbrev yes_node : (t : ℕ) → After-struct_known-3-1 t → Node
-yes_node t c = yes_n c.args.p c.settle-rows.result c.cell-fee.result
+abbrev yes_node : (t : ℕ) → Joined-open_rows t → ℕ → Node
+yes_node t c fee = yes_n c.args.p c.settle-rows.result fee
 
 -- its fees fit
-paid : (t : ℕ) (c : After-struct_known-3-1 t) → (yes_node t c).spent < 2 ^ 64
-paid t c =
-    let h = given t c.before.before.before.before.before.before.before.before.before.before.before.before.before.before in
+paid : (t : ℕ) (c : Joined-open_rows t) (fee : ℕ) → Fee t c fee → (yes_node t c fee).spent < 2 ^ 64
+paid t c fee f =
+    let h = given t c.before.before.before.before.before.before.before.before.before.before in
     let p = c.args.p in
-    omega (arith, h.poor, near t c.before.before.before.before.before.before.before.before.before.before, c.cell-fee.ensures, h.tables.fees p.at (under t c.before.before.before.before.before.before.before.before.before.before (sheet_of_lem t c.before.before.before.before.before.before.before.before.before.before.before.before.before.before) h), h.tables.fair p.at)
+    omega (arith, h.poor, near t c.before.before.before.before.before.before.before, f, h.tables.fees p.at (under t c.before.before.before.before.before.before.before (sheet_of_lem t c.before.before.before.before.before.before.before.before.before.before) h), h.tables.fair p.at)
 
 pub overflow_add-p-2 : goal.overflow_add-p-2
-overflow_add-p-2 t c = omega (arith, paid t c)
+overflow_add-p-2 t c = omega (arith, near t (goal.at.overflow_add-p-2 t c).Else-p-cell)
 
--- what is given of it
-yes_given : (t : ℕ) (c : After-struct_known-3-1 t) (sheet : Sheet)
-    → Given t c.before.before.before.before.before.before.before.before.before.before.before.before.before.before sheet
-    → let a = c.args in
-    At sheet a.t.now c.match-open_rows.w (yes_node t c) true (Sum a.x)
-yes_given t c sheet h =
-    let a = c.args in
-    at_yes sheet a.t.now a.w.now c.settle-rows.new.w a.p a.stop (Sum a.x) c.settle-rows.result a.x h refl (stands t c.before.before.before.before.before.before.before sheet h).0 (under t c.before.before.before.before.before.before.before.before.before.before sheet h)
-    c.match-open_rows.w c.cell-fee.result (first_keeps t c.before.before.before) c.cell-fee.ensures
-
-pub term-requires : goal.term-requires
-term-requires t c = ((given t (goal.at.term-requires t c).Start).tables.size, omega arith, omega (arith, near t (goal.at.term-requires t c).Else-p-cell))
-
--- its fees and its term
-abbrev yes_owes : (t : ℕ) → After-term t → ℕ
-yes_owes t c = (yes_node t c.before.before).spent + c.term.result
-
-yes_due : (t : ℕ) (c : After-term t) (sheet : Sheet)
-    → let a = c.args in
-    Given t c.before.before.before.before.before.before.before.before.before.before.before.before.before.before.before.before sheet → Due sheet (yes_node t c.before.before) (Sum a.x) (yes_owes t c)
-yes_due t c sheet h =
-    let a = c.args in
-    subst (λ (g : ℕ). Due sheet (yes_node t c.before.before) (Sum a.x) ((yes_node t c.before.before).spent + g)) (sym c.term.ensures)
-    (due_at sheet a.t.now c.match-open_rows.w (yes_node t c.before.before) true (Sum a.x) (yes_given t c.before.before sheet h) (a.p.at + 1)
-    (last_yes_is sheet a.t.now a.w.now c.settle-rows.new.w a.p a.stop (Sum a.x) c.settle-rows.result a.x h refl (stands t c.before.before.before.before.before.before.before.before.before sheet h).0 (under t c.before.before.before.before.before.before.before.before.before.before.before.before sheet h) c.cell-fee.result))
-
--- they fit with its part sums
-yes_fits : (t : ℕ) (c : After-term t) → let a = c.args in yes_owes t c + a.x < no_cost
-yes_fits t c = (yes_due t c (sheet_of_lem t c.before.before.before.before.before.before.before.before.before.before.before.before.before.before.before.before) (given t c.before.before.before.before.before.before.before.before.before.before.before.before.before.before.before.before)).fits c.args.x refl
+pub bounds-t-p : goal.bounds-t-p
+bounds-t-p t c = omega (arith, near t (goal.at.bounds-t-p t c).Else-p-cell)
 
 pub overflow_add-p-3 : goal.overflow_add-p-3
-overflow_add-p-3 t c = omega (arith, yes_fits t c)
+overflow_add-p-3 t c = omega (arith, paid t (goal.at.overflow_add-p-3 t c).Joined-open_rows c.from-fee.result c.from-fee.ensures)
+
+-- what is given of it
+yes_given : (t : ℕ) (c : Joined-open_rows t) (fee : ℕ) (f : Fee t c fee) (sheet : Sheet)
+    → Given t c.before.before.before.before.before.before.before.before.before.before sheet
+    → let a = c.args in
+    At sheet a.t.now c.match-open_rows.w (yes_node t c fee) true (Sum a.x)
+yes_given t c fee f sheet h =
+    let a = c.args in
+    at_yes sheet a.t.now a.w.now c.settle-rows.new.w a.p a.stop (Sum a.x) c.settle-rows.result a.x h refl (stands t c.before.before.before.before sheet h).0 (under t c.before.before.before.before.before.before.before sheet h)
+    c.match-open_rows.w fee (first_keeps t c) f
+
+pub term-requires : goal.term-requires
+term-requires t c = (omega arith, omega (arith, near t (goal.at.term-requires t c).Else-p-cell))
+
+-- what is due of it, where g is its term
+module _ (t : ℕ) (c : Joined-open_rows t) (fee : ℕ) (f : Fee t c fee) (g : ℕ) (k : g ≡ get_or c.args.t.now (term_place (c.args.p.at + 1) (c.args.p.at + 1)) 0) where
+  abbrev yes_owes : ℕ
+  yes_owes = (yes_node t c fee).spent + g
+
+  yes_due : (sheet : Sheet) → Given t c.before.before.before.before.before.before.before.before.before.before sheet → Due sheet (yes_node t c fee) (Sum c.args.x) yes_owes
+  yes_due sheet h =
+      let a = c.args in
+      subst (λ (d : ℕ). Due sheet (yes_node t c fee) (Sum a.x) ((yes_node t c fee).spent + d)) (sym k)
+      (due_at sheet a.t.now c.match-open_rows.w (yes_node t c fee) true (Sum a.x) (yes_given t c fee f sheet h) (a.p.at + 1)
+      (last_yes_is sheet a.t.now a.w.now c.settle-rows.new.w a.p a.stop (Sum a.x) c.settle-rows.result a.x h refl (stands t c.before.before.before.before sheet h).0 (under t c.before.before.before.before.before.before.before sheet h) fee))
+
+  -- it fits with its part sums
+  yes_fits : yes_owes + c.args.x < no_cost
+  yes_fits = (yes_due (sheet_of_lem t c.before.before.before.before.before.before.before.before.before.before) (given t c.before.before.before.before.before.before.before.before.before.before)).fits c.args.x refl
+
+  -- it is walked on, with the part sums y
+  yes_opened : (r : Bound) (y : ℕ) → let a = c.args in r ≡ open_s a.limit yes_owes (Sum a.x) c.match-open_rows.a → r ≡ Sum y → (sheet : Sheet)
+      → let n = length sheet.positions in
+      (h : Given t c.before.before.before.before.before.before.before.before.before.before sheet)
+      → Opened sheet (yes_node t c fee) (Sum a.x) yes_owes (yes_due sheet h) a.limit n (n - (a.p.at + 1)) c.match-open_rows.a y
+  yes_opened r y e i sheet h =
+      let a = c.args in
+      let n = length sheet.positions in
+      open-walked sheet (yes_node t c fee) (Sum a.x) yes_owes (yes_due sheet h) a.limit n (n - (a.p.at + 1)) c.match-open_rows.a y (sym e ∙ i)
+
+pub overflow_add-p-4 : goal.overflow_add-p-4
+overflow_add-p-4 t c = omega (arith, yes_fits t (goal.at.overflow_add-p-4 t c).Joined-open_rows c.from-fee.result c.from-fee.ensures c.term.result c.term.ensures)
 
 pub open-requires : goal.open-requires
-open-requires t c = λ x e. let z = sum_inj (Sum c.args.x) c.args.x x refl e in omega (arith, yes_fits t c)
+open-requires t c = λ x e.
+    let z = sum_inj (Sum c.args.x) c.args.x x refl e in omega (arith, yes_fits t (goal.at.open-requires t c).Joined-open_rows c.from-fee.result c.from-fee.ensures c.term.result c.term.ensures)
 
 pub reached-requires : goal.reached-requires
 reached-requires t c = limits t (goal.at.reached-requires t c).Start
 
 -- both branches, from what is walked of the second
-both : (t : ℕ) (c : After-struct_known-3-1 t) (sheet : Sheet) (r : Search)
-    → Given t c.before.before.before.before.before.before.before.before.before.before.before.before.before.before sheet
+both : (t : ℕ) (c : Joined-open_rows t) (fee : ℕ) (sheet : Sheet) (r : Search)
+    → Given t c.before.before.before.before.before.before.before.before.before.before sheet
     → let a = c.args in
     let n = length sheet.positions in
-    view a.limit n r ≡ limited_from (sheet_bound sheet) a.limit (n - (a.p.at + 1)) (decided (yes_node t c)) (view a.limit n c.match-open_rows.a)
+    view a.limit n r ≡ limited_from (sheet_bound sheet) a.limit (n - (a.p.at + 1)) (decided (yes_node t c fee)) (view a.limit n c.match-open_rows.a)
     → view a.limit n r ≡ open_from (sheet_bound sheet) a.limit (n - a.p.at) (decided a.p) (view a.limit n a.s)
-both t c sheet r h e =
+both t c fee sheet r h e =
     let a = c.args in
     let n = length sheet.positions in
-    both_walked (sheet_bound sheet) a.limit n a.p c.settle-rows.result c.cell-fee.result (view a.limit n a.s) (view a.limit n c.match-open_rows.a) (view a.limit n r)
-    (under t c.before.before.before.before.before.before.before.before.before.before sheet h) (first_walked t c.before.before.before sheet h) e
+    both_walked (sheet_bound sheet) a.limit n a.p c.settle-rows.result fee (view a.limit n a.s) (view a.limit n c.match-open_rows.a) (view a.limit n r)
+    (under t c.before.before.before.before.before.before.before sheet h) (first_walked t c sheet h) e
 
 pub returns-in_default : goal.returns-in_default
-returns-in_default t c = let a = c.args in record {
-  walked = λ sheet h.
-      let n = length sheet.positions in
-      both t (goal.at.returns-in_default t c).After-struct_known-3-1 sheet c.reached.result h
-      (ap (view a.limit n) c.reached.ensures
-      ∙ closed_walked sheet (yes_node t (goal.at.returns-in_default t c).After-struct_known-3-1) (Sum a.x) (yes_owes t (goal.at.returns-in_default t c).After-term) (yes_due t (goal.at.returns-in_default t c).After-term sheet h) a.limit n (n - (a.p.at + 1)) c.match-open_rows.a (sym c.«open».ensures ∙ c.in_default.is));
-  frame = all_kept_lem t (goal.at.returns-in_default t c).Joined-open_rows;
-}
-
--- it is walked on, with the part sums y
-yes_opened : (t : ℕ) (c : In-Sum-open t) (sheet : Sheet)
-    → let a = c.args in
-    let n = length sheet.positions in
-    (h : Given t c.before.before.before.before.before.before.before.before.before.before.before.before.before.before.before.before.before.before sheet)
-    → Opened sheet (yes_node t c.before.before.before.before) (Sum a.x) (yes_owes t c.before.before) (yes_due t c.before.before sheet h) a.limit n (n - (a.p.at + 1)) c.match-open_rows.a c.in-Sum-open.y
-yes_opened t c sheet h =
-    let a = c.args in
-    let n = length sheet.positions in
-    open-walked sheet (yes_node t c.before.before.before.before) (Sum a.x) (yes_owes t c.before.before) (yes_due t c.before.before sheet h) a.limit n (n - (a.p.at + 1)) c.match-open_rows.a c.in-Sum-open.y
-    (sym c.«open».ensures ∙ c.in-Sum-open.is)
+returns-in_default t c = let a = c.args in
+    let j = (goal.at.returns-in_default t c).Joined-open_rows in
+    let fee = c.from-fee.result in
+    let f = c.from-fee.ensures in
+    let g = c.term.result in
+    let k = c.term.ensures in record {
+      walked = λ sheet h.
+          let n = length sheet.positions in
+          both t j fee sheet c.reached.result h
+          (ap (view a.limit n) c.reached.ensures
+          ∙ closed_walked sheet (yes_node t j fee) (Sum a.x) (yes_owes t j fee f g k) (yes_due t j fee f g k sheet h) a.limit n (n - (a.p.at + 1)) c.match-open_rows.a (sym c.«open».ensures ∙ c.in_default.is));
+      frame = all_kept_lem t j;
+    }
 
 pub yes-requires : goal.yes-requires
 yes-requires t c = let p = c.args.p in
-    (near t (goal.at.yes-requires t c).Else-p-cell, mask_fits p.at p.mask (given t (goal.at.yes-requires t c).Start).mask (near t (goal.at.yes-requires t c).Else-p-cell), paid t (goal.at.yes-requires t c).After-struct_known-3-1)
+    (near t (goal.at.yes-requires t c).Else-p-cell, mask_fits p.at p.mask (given t (goal.at.yes-requires t c).Start).mask (near t (goal.at.yes-requires t c).Else-p-cell), paid t (goal.at.yes-requires t c).Joined-open_rows c.from-fee.result c.from-fee.ensures)
 
 pub counted-requires-2 : goal.counted-requires-2
-counted-requires-2 t c = omega (arith, (yes_opened t (goal.at.counted-requires-2 t c).In-Sum-open (sheet_of_lem t (goal.at.counted-requires-2 t c).Start) (given t (goal.at.counted-requires-2 t c).Start)).within, c.ranges.limit)
+counted-requires-2 t c = let s = (goal.at.counted-requires-2 t c).Start in
+    omega (
+      arith,
+      (yes_opened t (goal.at.counted-requires-2 t c).Joined-open_rows c.from-fee.result c.from-fee.ensures c.term.result c.term.ensures c.«open».result c.in-Sum-open.y c.«open».ensures c.in-Sum-open.is (sheet_of_lem t s) (given t s)).within,
+      c.ranges.limit,
+    )
 
 -- so it is what the call is given
-yes_child : (t : ℕ) (c : After-yes t) (sheet : Sheet)
+yes_child : (t : ℕ) (c : Joined-open_rows t) (fee : ℕ) (f : Fee t c fee) (p : Node) → p ≡ yes_node t c fee → (y : ℕ) (sheet : Sheet)
     → let a = c.args in
-    Given t c.before.before.before.before.before.before.before.before.before.before.before.before.before.before.before.before.before.before.before.before sheet → At sheet a.t.now c.match-open_rows.w c.yes.result true (Sum c.in-Sum-open.y)
-yes_child t c sheet h =
+    Given t c.before.before.before.before.before.before.before.before.before.before sheet → Sum a.x ≡ Sum y → At sheet a.t.now c.match-open_rows.w p true (Sum y)
+yes_child t c fee f p i y sheet h e =
     let a = c.args in
-    subst (λ (p : Node). At sheet a.t.now c.match-open_rows.w p true (Sum c.in-Sum-open.y)) (sym c.yes.ensures)
-    (subst (At sheet a.t.now c.match-open_rows.w (yes_node t c.before.before.before.before.before.before) true) (yes_opened t c.before.before sheet h).sums (yes_given t c.before.before.before.before.before.before sheet h))
+    subst (λ (q : Node). At sheet a.t.now c.match-open_rows.w q true (Sum y)) (sym i)
+    (subst (At sheet a.t.now c.match-open_rows.w (yes_node t c fee) true) e (yes_given t c fee f sheet h))
 
 pub walk-b-requires : goal.walk-b-requires
 walk-b-requires t c = let z : c.yes.result.at ≡ c.args.p.at + 1 = ap (λ (q : Node). q.at) c.yes.ensures in
-    (omega (arith, c.decreases, z, near t (goal.at.walk-b-requires t c).Else-p-cell), ((sheet_of_lem t (goal.at.walk-b-requires t c).Start, yes_child t (goal.at.walk-b-requires t c).After-yes (sheet_of_lem t (goal.at.walk-b-requires t c).Start) (given t (goal.at.walk-b-requires t c).Start)), limits t (goal.at.walk-b-requires t c).Start))
+    let j = (goal.at.walk-b-requires t c).Joined-open_rows in
+    let s = (goal.at.walk-b-requires t c).Start in
+    let fee = c.from-fee.result in
+    let f = c.from-fee.ensures in
+    let sheet = sheet_of_lem t s in
+    let o = yes_opened t j fee f c.term.result c.term.ensures c.«open».result c.in-Sum-open.y c.«open».ensures c.in-Sum-open.is sheet (given t s) in
+    (omega (arith, c.decreases, z, near t (goal.at.walk-b-requires t c).Else-p-cell), ((sheet, yes_child t j fee f c.yes.result c.yes.ensures c.in-Sum-open.y sheet (given t s) o.sums), limits t s))
 
 pub returns : goal.returns
 returns t c = let a = c.args in
     let r = stands t (goal.at.returns t c).After-settle-rows (sheet_of_lem t (goal.at.returns t c).Start) (given t (goal.at.returns t c).Start) in
+    let j = (goal.at.returns t c).Joined-open_rows in
+    let fee = c.from-fee.result in
+    let f = c.from-fee.ensures in
     let k = subst (λ (p : Node). Recalled a.t.now c.match-open_rows.w c.walk-b.new.w p.rows) c.yes.ensures c.walk-b.ensures.frame in record {
       walked = λ sheet h.
           let n = length sheet.positions in
-          both t (goal.at.returns t c).After-struct_known-3-1 sheet c.walk-b.result h
-          (c.walk-b.ensures.walked sheet (yes_child t (goal.at.returns t c).After-yes sheet h)
+          let o = yes_opened t j fee f c.term.result c.term.ensures c.«open».result c.in-Sum-open.y c.«open».ensures c.in-Sum-open.is sheet h in
+          both t j fee sheet c.walk-b.result h
+          (c.walk-b.ensures.walked sheet (yes_child t j fee f c.yes.result c.yes.ensures c.in-Sum-open.y sheet h o.sums)
           ∙ ap (λ (p : Node). open_from (sheet_bound sheet) a.limit (n - p.at) (decided p) (view a.limit n c.counted-2.result)) c.yes.ensures
-          ∙ ap (λ (k : Search). open_from (sheet_bound sheet) a.limit (n - (a.p.at + 1)) (decided (yes_node t (goal.at.returns t c).After-struct_known-3-1)) (view a.limit n k)) c.counted-2.ensures
-          ∙ (yes_opened t (goal.at.returns t c).In-Sum-open sheet h).on);
-      frame = recalled_then a.t.now a.w.now c.match-open_rows.w c.walk-b.new.w a.p.rows c.settle-rows.result r.2 (all_kept_lem t (goal.at.returns t c).Joined-open_rows).kept k;
+          ∙ ap (λ (k : Search). open_from (sheet_bound sheet) a.limit (n - (a.p.at + 1)) (decided (yes_node t j fee)) (view a.limit n k)) c.counted-2.ensures
+          ∙ o.on);
+      frame = recalled_then a.t.now a.w.now c.match-open_rows.w c.walk-b.new.w a.p.rows c.settle-rows.result r.2 (all_kept_lem t j).kept k;
     }

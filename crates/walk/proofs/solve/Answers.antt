@@ -15,10 +15,7 @@ use Rattle.walk.proofs.solve.Goals as goal
 
 pub first_sums-sums-requires : goal.first_sums-sums-requires
 first_sums-sums-requires c = let ta = c.requires.0.1 in
-    (ta.size, ta.narrow, first_most c.requires.0.0 c.args.t.now ta)
-
-pub term-due-requires : goal.term-due-requires
-term-due-requires c = (c.requires.0.1.size, omega arith, omega arith)
+    (ta.narrow, first_most c.requires.0.0 c.args.t.now ta)
 
 pub plus-floor-requires : goal.plus-floor-requires
 plus-floor-requires c = λ x f. omega (arith, root_fits c.requires.0.0 c.args.t.now c.base_row.new.w c.requires.0.1 c.base_row.ensures c.first_sums-sums.result c.first_sums-sums.ensures c.term-due.result c.term-due.ensures x f)

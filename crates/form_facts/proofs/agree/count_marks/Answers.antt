@@ -1,8 +1,16 @@
 -- `count_marks`: marks that are 1 are at most as many as the marks.
-use mathlib.Core.Path.{sym, ◌∙◌}
+use Rattle.std.proofs.Common.{rules, ◌≡◌, Some, None, cond, length}
+use mathlib.Core.Bool.{◌&&◌, and-eq-true_iff}
 use native.Mathlib.Omega.{arith}
-use Rattle.form_facts.proofs.Facts.{marks_known}
+use lib.Dec.{eqb}
+use borrow.Author.Tests.{eqb-true}
+use Rattle.form_facts.specs.Facts.{sum_all, all_marks}
+use Rattle.form_facts.proofs.Facts.{marks_known, count_few}
 use Rattle.form_facts.proofs.agree.count_marks.Goals as goal
 
-pub returns-then-are_marks-clause-few : goal.returns-then-are_marks-clause-few
-returns-then-are_marks-clause-few c = omega (arith, c.if-marks-n.true, c.sum.ensures, marks_known c.args.marks.now (sym c.are_marks.ensures ∙ c.if-are_marks.true))
+pub returns-clause-few : goal.returns-clause-few
+returns-clause-few c = let a = c.args in
+    let m = a.marks.now in
+    let value : c.then.result ≡ cond (eqb (length m) a.n && all_marks m) (Some (sum_all m)) None = search rules in
+    count_few a.n (sum_all m) (eqb (length m) a.n && all_marks m) c.then.result value
+    (λ t. let w = (and-eq-true_iff (eqb (length m) a.n) (all_marks m)).0 t in omega (arith, eqb-true _ _ w.0, marks_known m w.1))

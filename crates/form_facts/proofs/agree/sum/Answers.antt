@@ -1,18 +1,11 @@
--- `sum`: the sum so far is that of the numbers so far.
-use mathlib.Core.Path.{ap, ◌∙◌}
-use native.Mathlib.Omega.{arith}
-use lib.Seq.{take_all}
-use Rattle.form_facts.specs.Facts.{sum_all}
-use Rattle.form_facts.proofs.Facts.{sum_next}
+-- `sum`: the library's sum of the numbers, in the definition's words.
+use Rattle.std.proofs.Common.{rules, ℕ, ◌∙◌}
+use Rattle.std.proofs.lemmas.Iterator.{YieldsList-from_slice, YieldsList-from_map}
+use Rattle.std.proofs.lemmas.Iterator.Consumers.{sum_by_from_yields_List}
+use Rattle.form_facts.proofs.Facts.{sum_is}
 use Rattle.form_facts.proofs.agree.sum.Goals as goal
 
-pub overflow_add-sum : goal.overflow_add-sum
-overflow_add-sum c = let l = c.loop-value in omega (arith, c.type_inv.values l.value-index, l.invariant.0, c.requires)
-
-pub loop-value-preserved : goal.loop-value-preserved
-loop-value-preserved c = let l = c.loop-value in
-    (omega (arith, c.type_inv.values l.value-index, l.invariant.0), omega (arith, l.invariant.1, sum_next l.value-index c.args.values.now (omega arith)))
-
 pub returns : goal.returns
-returns c = let l = c.loop-value in
-    l.invariant.1 ∙ ap sum_all (take_all l.value-index c.args.values.now (omega arith))
+returns c = let s = c.args.values.now in
+    sum_by_from_yields_List (λ (n : ℕ). n) s c.map.result c.sum.result c.sum.ensures.ran (YieldsList-from_map _ (λ (n : ℕ). n) (YieldsList-from_slice s cc) c.map.ensures.closure (λ x r q k. search rules))
+    ∙ sum_is s

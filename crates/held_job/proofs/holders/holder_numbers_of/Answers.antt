@@ -9,8 +9,8 @@ use Rattle.coming_out.specs.Rows.{Rows}
 use Rattle.held_job.proofs.holders.holder_numbers_of.Goals as goal
 
 pub returns : goal.returns
-returns c = let job = job_of c.args.job in
-    let count = part_count c.args.job (sized c.args.job) c.well_formed.0 in
+returns c = let job = job_of c.args.job.now in
+    let count = part_count c.args.job.now in
     let held = c.holders_of-holders.ensures in
     let is = c.holding_of-holding.ensures.1 job held in
     record {

@@ -12,15 +12,15 @@ pub overflow_mul-set : goal.overflow_mul-set
 overflow_mul-set c = omega (arith, gathered_fits _ c.loop-q.invariant)
 
 pub overflow_add-set : goal.overflow_add-set
-overflow_add-set c = omega (arith, gathered_fits _ c.loop-q.invariant, c.from.ensures, bit_of c.class_needs.result, bit_most c.class_needs.result)
+overflow_add-set c = omega (arith, gathered_fits _ c.loop-q.invariant, c.from.ensures, bit_of c.needs_part.result, bit_most c.needs_part.result)
 
 pub loop-q-preserved : goal.loop-q-preserved
 loop-q-preserved c = let l = c.loop-q in
     let a = c.args in
     let f : ℕ → Bool = λ (q : ℕ). need_in a.needs.now.marks.now a.classes.now a.b (get_or a.classes.now.lanes q 0) in
     let z : l.q ≡ l.q - 1 + 1 = omega (arith, c.loop-q-test.true) in
-    subst (λ (x : ℕ). Gathered f (l.q - 1) (l.set * 2 + x)) (sym (c.from.ensures ∙ bit_of c.class_needs.result))
-    (gathered_more f (l.q - 1) l.set c.class_needs.result c.class_needs.ensures (subst (λ (x : ℕ). Gathered f x l.set) z l.invariant))
+    subst (λ (x : ℕ). Gathered f (l.q - 1) (l.set * 2 + x)) (sym (c.from.ensures ∙ bit_of c.needs_part.result))
+    (gathered_more f (l.q - 1) l.set c.needs_part.result c.needs_part.ensures (subst (λ (x : ℕ). Gathered f x l.set) z l.invariant))
 
 pub returns : goal.returns
 returns c = let a = c.args in

@@ -1,8 +1,10 @@
 -- `put_list` enters one class after the other. The invariant: those of the first classes that need b are entered.
-use Rattle.std.proofs.Common.{sym, ◌∙◌, arith}
+use Rattle.std.proofs.Common.{◌≡◌, ℕ, take, get_or, ap, sym, ◌∙◌, length-take-le, arith}
+use lib.Seq.{get_or-take}
+use Rattle.part_classes.specs.Grouped.{need_at, need_in}
 use Rattle.held_tables.proofs.Lists.{entered_none, entered_more, entered_not, listed_all}
 use Rattle.held_tables.proofs.needs.put_list.Goals as goal
-use Rattle.held_tables.proofs.needs.put_list.Goals.{then-class_needs, else-class_needs}
+use Rattle.held_tables.proofs.needs.put_list.Goals.{then-needs_part, else-needs_part}
 
 pub loop-c-init : goal.loop-c-init
 loop-c-init c = entered_none c.args.needs.now.marks.now c.args.classes.now c.args.b c.args.u.now
@@ -12,9 +14,10 @@ loop-c-preserved c = let l = c.loop-c in
     let a = c.args in
     let n = a.needs.now.marks.now in
     let k = a.classes.now in
-    elim c.if-class_needs.branch [
-      | then-class_needs w ↦ rw (w.n-is, w.u-is) (entered_more n k a.b l.c l.n a.u.now l.u l.invariant (sym c.class_needs.ensures ∙ w.if-class_needs.true) (omega (arith, k.led.most)) c.requires (omega arith))
-      | else-class_needs w ↦ rw (w.n-is, w.u-is) (entered_not n k a.b l.c l.n a.u.now l.u l.invariant (sym c.class_needs.ensures ∙ w.if-class_needs.false))
+    let lead : need_at n (get_or (take k.count k.leads) l.c 0) a.b ≡ need_in n k a.b l.c = ap (λ (q : ℕ). need_at n q a.b) (get_or-take k.count k.leads l.c 0 (omega (arith, length-take-le k.count k.leads (omega (arith, k.led.room, k.led.most))))) in
+    elim c.if-needs_part.branch [
+      | then-needs_part w ↦ rw (w.n-is, w.u-is) (entered_more n k a.b l.c l.n a.u.now l.u l.invariant (sym lead ∙ sym c.needs_part.ensures ∙ w.if-needs_part.true) (omega (arith, k.led.most)) c.requires (omega arith))
+      | else-needs_part w ↦ rw (w.n-is, w.u-is) (entered_not n k a.b l.c l.n a.u.now l.u l.invariant (sym lead ∙ sym c.needs_part.ensures ∙ w.if-needs_part.false))
     ]
 
 pub returns : goal.returns

@@ -17,9 +17,9 @@ pub loop-j-preserved : goal.loop-j-preserved
 loop-j-preserved c = let l = c.loop-j in
     let a = c.args in
     let j = l.j in
-    let t = row_inside j j 65 (omega arith) (omega (arith, c.requires.0, l.invariant, c.loop-j-test.true)) in
-    filled_more c.top_of.result (omega (arith, c.requires)) (λ y h e. omega (arith, e))
-    (c.top_of.ensures ∙ most_same (λ (x : ℕ). get_or l.u (class_place j j x) 0) (λ (x : ℕ). get_or a.u.now (class_place j j x) 0) a.n (λ x h. l.invariant.rest (class_place j j x) (λ y g e. omega (arith, e, t, h, c.requires.1))))
+    let t = row_inside j j 65 (omega arith) (omega (arith, a.numbers.now.job.arrays.few, l.invariant, c.loop-j-test.true)) in
+    filled_more c.top_of.result (omega (arith, a.numbers.now.job.arrays.few)) (λ y h e. omega (arith, e))
+    (c.top_of.ensures ∙ most_same (λ (x : ℕ). get_or l.u (class_place j j x) 0) (λ (x : ℕ). get_or a.u.now (class_place j j x) 0) a.classes.now.count (λ x h. l.invariant.rest (class_place j j x) (λ y g e. omega (arith, e, t, h, a.classes.now.led.most))))
     l.invariant
 
 pub returns : goal.returns

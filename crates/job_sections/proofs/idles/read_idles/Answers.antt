@@ -6,7 +6,8 @@ use Rattle.lines.specs.Parser.{◌>>=◌, return, optional, if_present}
 use Rattle.lines.specs.Reads.{Reads}
 use Rattle.job_grammar.specs.Grammar.{idles}
 use Rattle.job_grammar.specs.Optionals.{idle_lines}
-use Rattle.job_sections.proofs.Views.{there_within, idles_read}
+use Rattle.lines.proofs.Steps.{there_within}
+use Rattle.job_sections.proofs.Views.{idles_read}
 use Rattle.job_sections.proofs.idles.read_idles.Goals as goal
 use Rattle.job_sections.proofs.idles.read_idles.Goals.{In-Some}
 

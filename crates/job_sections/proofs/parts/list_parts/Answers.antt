@@ -44,7 +44,7 @@ loop-i-preserved c = let a = c.args in
 pub returns-in_err-read-clause-reads : goal.returns-in_err-read-clause-reads
 unfolding parts
 returns-in_err-read-clause-reads c = let p = err_from_is_err_and c.from_residual.result c.from_residual.ensures.1 in
-    rw (p.1, p.2) (chain_stopped c.loop-i.invariant.read c.read_part.new.lines _ c.loop-i-test.true c.in_err-read.ensures)
+    rw (p.1, p.2) (chain_stopped c.loop-i.invariant.read c.read_part.new.lines c.in_err-read.field-0.0 c.loop-i-test.true c.in_err-read.ensures)
 
 pub returns-clause-reads : goal.returns-clause-reads
 unfolding parts

@@ -1,5 +1,5 @@
 -- `read_job_lines`: the horizon, the idle steps, the walk line, the openings and the parts, each with the number before them; the parts are what their lines mean.
-use Rattle.std.proofs.Common.{rules}
+use Rattle.std.proofs.Common.{arith, rules}
 use mathlib.Core.Path.{ap, sym, ◌∙◌}
 use Prim.Native.Nat.{ℕ}
 use mathlib.Core.List.{map}
@@ -46,7 +46,7 @@ pub invariant_of-result : goal.invariant_of-result
 unfolding openings
 invariant_of-result c = let steps = c.in_ok-steps.steps in
     let ps = c.in_ok-said.field-0 in
-    let n = c.in_ok-n.n in
+    let n = c.in_ok-n.field-0 in
     let size = (chain_gives (opening c.in_ok-horizon.horizon) (λ (before : ℕ) (o : Opening). o.step) (λ _ _. Unit {0}) (λ _ _ _ _ _ _ _. tt) n 0 _ _ _ _ (openings_said n c.in_ok-openings.openings) (sym c.in_ok-openings.ensures)).0 in
     let job : Job = record {
       horizon = c.in_ok-horizon.horizon;
@@ -54,13 +54,16 @@ invariant_of-result c = let steps = c.in_ok-steps.steps in
       idles = steps.idles;
       opening_count = n;
       openings = c.in_ok-openings.openings;
-      part_count = c.in_ok-m.m;
+      part_count = c.in_ok-m.field-0;
       parts = ps.parts;
       few_idles = steps.few;
       few_openings = c.in_ok-n.ensures.within.1;
       few_parts = c.in_ok-m.ensures.within.1;
+      long_idles = omega arith;
+      long_openings = omega arith;
+      long_parts = omega arith;
     } in
-    record { means = text_means c.in_ok-walk.walk ps.said job (ap (λ (k : ℕ). map (meant_part k) (parts_said c.in_ok-m.m n ps)) size ∙ c.in_ok-said.ensures.means) }
+    record { means = text_means c.in_ok-walk.walk ps.said job (ap (λ (k : ℕ). map (meant_part k) (parts_said c.in_ok-m.field-0 n ps)) size ∙ c.in_ok-said.ensures.means) }
 
 pub returns : goal.returns
 unfolding job_lines rest body bytes ◌>>=◌ return

@@ -1,17 +1,16 @@
--- `digit_run`: the i bytes so far are digits, and the run goes on with that of the rest.
-use mathlib.Core.Path.{ap, sym}
-use native.Mathlib.Omega.{arith}
-use lib.ListN.{length}
-use Rattle.lines.proofs.Reading.{digits_more, digits_stop, digits_end}
+-- `digit_run`: the search for a byte that is no digit, in the definition's words.
+use Rattle.std.proofs.Common.{rules, tests, ℕ, length, ap, ◌∙◌}
+use Rattle.std.specs.Option.{unwrap_or}
+use Rattle.std.proofs.lemmas.Iterator.{YieldsList-from_slice}
+use Rattle.std.proofs.lemmas.Iterator.Search.{position_from_yields_List}
+use Rattle.std.proofs.lemmas.List.Sums.{prefix_len-le-length}
+use mathlib.Core.Bool.{not}
+use Rattle.lines.specs.Line.{is_digit}
+use Rattle.lines.proofs.Reading.{run_is}
+use Rattle.lines.proofs.Steps.{first_or_all}
 use Rattle.lines.proofs.read.digit_run.Goals as goal
 
-pub returns-then-not-is_ascii_digit : goal.returns-then-not-is_ascii_digit
-returns-then-not-is_ascii_digit c = let i = c.loop-i.i in
-    omega (arith, ap length (digits_stop c.args.s.now i c.loop-i-test.true (sym c.if-not-is_ascii_digit.ensures.value)))
-
-pub loop-i-preserved : goal.loop-i-preserved
-loop-i-preserved c = let i = c.loop-i.i in
-    omega (arith, ap length (digits_more c.args.s.now i c.loop-i-test.true (sym c.if-not-is_ascii_digit.ensures.value)))
-
 pub returns : goal.returns
-returns c = omega (arith, ap length (digits_end c.args.s.now c.loop-i.i c.loop-i-test.false))
+returns c = let s = c.args.s.now in
+    let found = position_from_yields_List (λ (b : ℕ). not (is_digit b)) _ _ c.position.result c.position.ensures.ran (YieldsList-from_slice s cc) (λ x b q k. search (rules, tests)) in
+    c.unwrap_or.ensures ∙ ap (λ r. unwrap_or r (length s)) found ∙ first_or_all _ _ (prefix_len-le-length (λ (b : ℕ). not (not (is_digit b))) s) ∙ run_is s

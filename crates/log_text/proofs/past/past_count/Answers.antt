@@ -11,7 +11,7 @@ use Rattle.log_text.proofs.Counts.{before_first, first_or_all}
 use Rattle.log_text.proofs.past.past_count.Goals as goal
 
 pub returns : goal.returns
-returns c = let job = c.args.job in
+returns c = let job = c.args.job.now in
     let step = c.args.step in
     let os = take job.opening_count job.openings in
     let later = λ (o : Opening). ltb step o.step in

@@ -15,8 +15,8 @@ use Rattle.log_text.proofs.whole.read_log_lines.Goals as goal
 use Rattle.log_text.proofs.whole.read_log_lines.Goals.{After-past_job-past}
 
 -- the job that the plan lines are read against
-over : (c : After-past_job-past) → job_of c.past_job-past.result ≡ past_job_lem (job_of c.args.job) c.in_ok-step.step
-over c = c.past_job-past.ensures.0 ∙ ap (λ (k : ℕ). job_to k (job_of c.args.job)) c.past_count.ensures.0
+over : (c : After-past_job-past) → job_of c.past_job-past.result ≡ past_job_lem (job_of c.args.job.now) c.in_ok-step.step
+over c = c.past_job-past.ensures.0 ∙ ap (λ (k : ℕ). job_to k (job_of c.args.job.now)) c.past_count.ensures.0
 
 pub returns-in_err-step : goal.returns-in_err-step
 unfolding log_lines bytes
@@ -28,11 +28,11 @@ returns-in_err-stated c = let m = c.field.new.self in
     let a = c.read_plan_lines.new.lines in
     let p = err_from_is_err_and c.from_residual-in_err-stated.result c.from_residual-in_err-stated.ensures.1 in
     let k = subst (λ (j : model.Job). Reads (plan_lines j) m a (Err c.in_err-stated.field-0.0)) (over (goal.at.returns-in_err-stated c).After-past_job-past) c.in_err-stated.ensures in
-    rw (p.1, p.2) (went_on _ _ c.args.lines.now m a _ (Err _) c.in_ok-step.ensures.reads (stopped _ _ m a a _ k))
+    rw (p.1, p.2) (went_on _ _ c.args.lines.now m a _ (Err c.in_err-stated.field-0.0) c.in_ok-step.ensures.reads (stopped _ _ m a a c.in_err-stated.field-0.0 k))
 
 pub returns : goal.returns
 unfolding log_lines bytes
-returns c = let job = job_of c.args.job in
+returns c = let job = job_of c.args.job.now in
     let step = c.in_ok-step.step in
     let b = c.args.lines.now in
     let m = c.field.new.self in

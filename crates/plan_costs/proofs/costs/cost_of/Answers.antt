@@ -10,7 +10,7 @@ use Rattle.plan_costs.proofs.costs.cost_of.Goals.{After-removals_paid-removals}
 -- all that is paid
 most : (c : After-removals_paid-removals) → c.fees_of-fees.result + c.prices_of-prices.result + c.removals_paid-removals.result ≤ dearest_plan
 most c =
-    omega (arith, c.fees_of-fees.ensures, c.prices_of-prices.ensures, c.removals_paid-removals.ensures, cost_most (job_of c.args.job) c.requires.valid (plan_for c.args.job c.args.plan))
+    omega (arith, c.fees_of-fees.ensures, c.prices_of-prices.ensures, c.removals_paid-removals.ensures, cost_most (job_of c.args.job.now.job) c.args.job.now.valid (plan_for c.args.job.now.job c.args.plan.now))
 
 pub overflow_add-result : goal.overflow_add-result
 overflow_add-result c = omega (arith, most c)

@@ -7,4 +7,4 @@ use Rattle.plan_costs.proofs.removals.changed_at.Goals as goal
 
 pub returns : goal.returns
 returns c = let a = c.args in
-    c.row_of.ensures (λ i. get_or (get_or a.changes i blank_changes).at a.k false) (λ i x h said. search rules)
+    c.row_of.ensures (λ i. get_or (get_or a.changes.now i blank_changes).at a.k false) (λ i x h said. search rules)

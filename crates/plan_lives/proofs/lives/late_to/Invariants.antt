@@ -7,4 +7,4 @@ use Rattle.plan_lives.proofs.Follow.{Follows}
 use Rattle.plan_lives.proofs.lives.late_to.Given as goal
 
 abbrev pub invariant-loop-i : goal.invariant-loop-i
-invariant-loop-i l = Begins l.life l.prev × Follows (job_of l.fn.job) l.to (pos l.life) (take l.fn.job.opening_count l.changes) l.initial.prev l.i l.prev (model_gaps l.late)
+invariant-loop-i l = Begins l.life l.prev × Follows (job_of l.fn.job.job) l.to (pos l.life) (take l.fn.job.job.opening_count l.changes) l.initial.prev l.i l.prev (model_gaps l.late)

@@ -9,6 +9,6 @@ use Rattle.plan_lives.proofs.lives.verdict_of.Goals as goal
 
 pub returns : goal.returns
 returns c = let a = c.args in
-    let plan = plan_for a.job a.plan in
+    let plan = plan_for a.job.now.job a.plan.now in
     let placed = c.positions_of-positions.ensures in
-    c.verdict_to.ensures ∙ ap (λ (e : ℤ). verdict_to_lem (job_of a.job) e plan) (position_bits _ placed.end_range ∙ placed.end) ∙ verdict_whole (job_of a.job) plan
+    c.verdict_to.ensures ∙ ap (λ (e : ℤ). verdict_to_lem (job_of a.job.now.job) e plan) (position_bits _ placed.end_range ∙ placed.end) ∙ verdict_whole (job_of a.job.now.job) plan

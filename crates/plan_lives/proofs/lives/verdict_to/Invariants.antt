@@ -5,4 +5,4 @@ use Rattle.plan_lives.proofs.Ruled.{Ruled}
 use Rattle.plan_lives.proofs.lives.verdict_to.Given as goal
 
 abbrev pub invariant-loop-k : goal.invariant-loop-k
-invariant-loop-k l = Ruled (late_to_lem (job_of l.job) l.to) (job_of l.job).parts (changes_for l.job l.plan.changes) l.k keeps
+invariant-loop-k l = Ruled (late_to_lem (job_of l.job.job) l.to) (job_of l.job.job).parts (changes_for l.job.job l.plan.changes) l.k keeps

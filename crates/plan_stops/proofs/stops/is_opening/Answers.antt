@@ -7,7 +7,7 @@ use Rattle.plan_stops.proofs.Marks.{any_opening}
 use Rattle.plan_stops.proofs.stops.is_opening.Goals as goal
 
 pub returns : goal.returns
-returns c = let job = c.args.job in
+returns c = let job = c.args.job.now in
     let step = c.args.step in
     let os = take job.opening_count job.openings in
     any_from_yields_List (λ (o : Opening). eqb o.step step) _ _ c.any.result c.any.ensures.ran (YieldsList-from_slice os cc) (λ x b q k. search (rules, tests)) ∙ any_opening step os

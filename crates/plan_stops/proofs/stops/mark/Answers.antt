@@ -6,7 +6,7 @@ use Rattle.lines.proofs.Arrays.{take_more}
 use Rattle.model.proofs.Lists.{table_more}
 use Rattle.model.specs.Model.{table}
 use Rattle.jobs.specs.Views.{job_of}
-use Rattle.jobs.proofs.Jobs.{sized, opening_at, opening_count_lem2}
+use Rattle.jobs.proofs.Jobs.{opening_at, opening_count_lem2}
 use Rattle.plan_grammar.proofs.Jobs.{step_at_lem}
 use Rattle.plan_stops.specs.Marks.{with_step}
 use Rattle.plan_stops.proofs.stops.mark.Goals as goal
@@ -19,13 +19,13 @@ loop-i-init c = record { long = refl; marked = refl }
 
 -- what is stored at i
 stored : (c : Joined-set-i) → let a = c.args in
-    c.if-set-i.marks ≡ entry (job_of a.job) a.step (take a.job.opening_count a.set) c.loop-i.i
+    c.if-set-i.marks ≡ entry (job_of a.job.now) a.step (take a.job.now.opening_count a.set) c.loop-i.i
 stored c =
     let a = c.args in
     let i = c.loop-i.i in
     let h = c.loop-i-test.true in
-    let stored : c.if-set-i.marks ≡ (get_or a.set i false || eqb a.step (opening_at a.job i).step) = elim c.if-set-i.branch [ then-set-i w ↦ rw w.if-set-i.true (w.marks-is ∙ w.if-set-i.true) | else-set-i w ↦ rw w.if-set-i.false w.marks-is ] in
-    stored ∙ sym (ap₂ (λ (b : Bool) (t : ℕ). b || eqb a.step t) (get_or-take a.job.opening_count a.set i false h) (step_at_lem a.job (sized a.job) c.well_formed.1.0 i h))
+    let stored : c.if-set-i.marks ≡ (get_or a.set i false || eqb a.step (opening_at a.job.now i).step) = elim c.if-set-i.branch [ then-set-i w ↦ rw w.if-set-i.true (w.marks-is ∙ w.if-set-i.true) | else-set-i w ↦ rw w.if-set-i.false w.marks-is ] in
+    stored ∙ sym (ap₂ (λ (b : Bool) (t : ℕ). b || eqb a.step t) (get_or-take a.job.now.opening_count a.set i false h) (step_at_lem a.job.now i h))
 
 pub loop-i-preserved : goal.loop-i-preserved
 loop-i-preserved c = let l = c.loop-i in
@@ -38,6 +38,6 @@ loop-i-preserved c = let l = c.loop-i in
 pub returns : goal.returns
 unfolding with_step
 returns c = let a = c.args in
-    let same : c.loop-i.i ≡ a.job.opening_count = omega arith in
-    let marked : ℕ → List Bool = table (entry (job_of a.job) a.step (take a.job.opening_count a.set)) in
-    ap (λ (k : ℕ). take k c.loop-i.marks) (sym same) ∙ c.loop-i.invariant.marked ∙ ap marked (same ∙ sym (opening_count_lem2 a.job (sized a.job) c.well_formed.1.0))
+    let same : c.loop-i.i ≡ a.job.now.opening_count = omega arith in
+    let marked : ℕ → List Bool = table (entry (job_of a.job.now) a.step (take a.job.now.opening_count a.set)) in
+    ap (λ (k : ℕ). take k c.loop-i.marks) (sym same) ∙ c.loop-i.invariant.marked ∙ ap marked (same ∙ sym (opening_count_lem2 a.job.now))

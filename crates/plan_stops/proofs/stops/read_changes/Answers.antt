@@ -4,7 +4,7 @@ use Rattle.std.proofs.lemmas.Result.{err_from_is_err_and}
 use Rattle.lines.specs.Text.{bytes}
 use Rattle.lines.proofs.Steps.{chain_none, chain_next, chain_stopped, chain_done}
 use Rattle.jobs.specs.Views.{job_of, changes_for}
-use Rattle.jobs.proofs.Jobs.{sized, part_count}
+use Rattle.jobs.proofs.Jobs.{part_count}
 use Rattle.jobs.proofs.Plans.{changes_size}
 use Rattle.plan_grammar.specs.Grammar.{part, parts}
 use Rattle.plan_stops.proofs.Marks.{parts_none, changes_more}
@@ -12,20 +12,20 @@ use Rattle.plan_stops.proofs.stops.read_changes.Goals as goal
 use Rattle.plan_stops.proofs.stops.read_changes.Goals.{Start}
 
 -- the parts are as many as counted
-count : (s : Start) → length (job_of s.args.job).parts ≡ s.args.job.part_count
-count s = part_count s.args.job (sized s.args.job) s.well_formed.1.0
+count : (s : Start) → length (job_of s.args.job.now).parts ≡ s.args.job.now.part_count
+count s = part_count s.args.job.now
 
 pub loop-init : goal.loop-init
 loop-init c = record {
-  long = c.well_formed.1.1.1.1.0.1.0.1;
+  long = omega arith;
   ks = [];
   read = chain_none _ _ _ _ _ _ refl;
-  marked = parts_none (job_of c.args.job) c.args.step (changes_for c.args.job c.args.changes) (changes_size c.args.job.opening_count _ c.args.changes (omega (arith, c.args.job.few_parts, c.well_formed.1.1.1.1.0.1.0.1)) ∙ sym (count (goal.at.loop-init c).Start));
+  marked = parts_none (job_of c.args.job.now) c.args.step (changes_for c.args.job.now c.args.changes) (changes_size c.args.job.now.opening_count _ c.args.changes (omega (arith, c.args.job.now.few_parts)) ∙ sym (count (goal.at.loop-init c).Start));
 }
 
 pub loop-preserved : goal.loop-preserved
 unfolding part bytes
-loop-preserved c = let job = c.args.job in
+loop-preserved c = let job = c.args.job.now in
     let v = c.loop.invariant in
     let k = c.in_ok-part.part in
     record {
@@ -40,7 +40,7 @@ pub returns-in_err-part : goal.returns-in_err-part
 unfolding parts part bytes
 returns-in_err-part c = let v = c.loop.invariant in
     let p = err_from_is_err_and c.from_residual.result c.from_residual.ensures.1 in
-    rw (p.1, p.2) (record { ks = []; reads = chain_stopped v.read c.rising.new.self _ c.loop-test.true c.in_err-part.ensures.reads; marks = tt })
+    rw (p.1, p.2) (record { ks = []; reads = chain_stopped v.read c.rising.new.self c.in_err-part.field-0.0 c.loop-test.true c.in_err-part.ensures.reads; marks = tt })
 
 pub returns : goal.returns
 unfolding parts

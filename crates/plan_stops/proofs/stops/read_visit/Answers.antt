@@ -7,7 +7,7 @@ use Rattle.lines.specs.Reads.{Reads}
 use Rattle.lines.proofs.Parsing.{stopped, went_on}
 use Rattle.lines.proofs.Steps.{put_value}
 use Rattle.jobs.specs.Views.{job_of}
-use Rattle.jobs.proofs.Jobs.{sized, part_count}
+use Rattle.jobs.proofs.Jobs.{part_count}
 use Rattle.plan_grammar.specs.Grammar.{Visit, visit, parts}
 use Rattle.plan_stops.specs.Marks.{with_visit}
 use Rattle.plan_stops.proofs.stops.read_visit.Goals as goal
@@ -18,13 +18,13 @@ abbrev no_visit : Visit
 no_visit = record { step = 0; parts = [] }
 
 -- the parts are as many as counted
-count : (s : Start) → length (job_of s.args.job).parts ≡ s.args.job.part_count
-count s = part_count s.args.job (sized s.args.job) s.well_formed.1.0
+count : (s : Start) → length (job_of s.args.job.now).parts ≡ s.args.job.now.part_count
+count s = part_count s.args.job.now
 
 pub returns-in_err-step : goal.returns-in_err-step
 unfolding visit
 returns-in_err-step c = let p = err_from_is_err_and c.from_residual.result c.from_residual.ensures.1 in
-    rw (p.1, p.2) (record { v = no_visit; reads = stopped _ _ c.args.lines.now c.read_step.new.lines c.read_step.new.lines _ c.in_err-step.ensures; marks = tt })
+    rw (p.1, p.2) (record { v = no_visit; reads = stopped _ _ c.args.lines.now c.read_step.new.lines c.read_step.new.lines c.in_err-step.field-0.0 c.in_err-step.ensures; marks = tt })
 
 pub returns-in_err-n : goal.returns-in_err-n
 unfolding visit bytes
@@ -32,7 +32,7 @@ returns-in_err-n c = let b = c.args.lines.now in
     let m = c.read_step.new.lines in
     let a = c.field.new.self in
     let p = err_from_is_err_and c.from_residual-in_err-n.result c.from_residual-in_err-n.ensures.1 in
-    rw (p.1, p.2) (record { v = no_visit; reads = went_on _ _ b m a _ (Err _) c.in_ok-step.ensures (stopped _ _ m a a _ c.in_err-n.ensures.reads); marks = tt })
+    rw (p.1, p.2) (record { v = no_visit; reads = went_on _ _ b m a _ (Err c.in_err-n.field-0.0) c.in_ok-step.ensures (stopped _ _ m a a c.in_err-n.field-0.0 c.in_err-n.ensures.reads); marks = tt })
 
 pub returns-in_err-changes : goal.returns-in_err-changes
 unfolding visit bytes
@@ -42,7 +42,7 @@ returns-in_err-changes c = let b = c.args.lines.now in
     let a = c.read_changes.new.lines in
     let p = err_from_is_err_and c.from_residual-in_err-changes.result c.from_residual-in_err-changes.ensures.1 in
     let parts_end = subst (λ (m : ℕ). Reads (parts m c.in_ok-n.n) k a (Err c.in_err-changes.field-0.0)) (sym (count (goal.at.returns-in_err-changes c).Start)) c.in_err-changes.ensures.reads in
-    rw (p.1, p.2) (record { v = no_visit; reads = went_on _ _ b m a _ (Err _) c.in_ok-step.ensures (went_on _ _ m k a _ (Err _) c.in_ok-n.ensures.reads (stopped _ _ k a a _ parts_end)); marks = tt })
+    rw (p.1, p.2) (record { v = no_visit; reads = let e = c.in_err-changes.field-0.0 in went_on _ _ b m a _ (Err e) c.in_ok-step.ensures (went_on _ _ m k a _ (Err e) c.in_ok-n.ensures.reads (stopped _ _ k a a e parts_end)); marks = tt })
 
 pub returns : goal.returns
 unfolding visit bytes with_visit

@@ -9,11 +9,11 @@ use Rattle.plan_stops.proofs.Marks.{empty_made, visit_more}
 use Rattle.plan_stops.proofs.stops.read_visits.Goals as goal
 
 pub loop-init : goal.loop-init
-loop-init c = record { vs = []; read = chain_none _ _ _ _ _ _ refl; makes = empty_made c.args.job c.well_formed.1.0 _ c.empty-plan.ensures }
+loop-init c = record { vs = []; read = chain_none _ _ _ _ _ _ refl; makes = empty_made c.args.job.now c.empty-plan.result c.empty-plan.ensures }
 
 pub loop-preserved : goal.loop-preserved
 loop-preserved c = let v = c.loop.invariant in
-    let job = job_of c.args.job in
+    let job = job_of c.args.job.now in
     let read = c.in_ok-step.ensures in
     record {
       vs = v.vs ++ read.v ∷ [];
@@ -25,7 +25,7 @@ pub returns-in_err-step : goal.returns-in_err-step
 unfolding visits
 returns-in_err-step c = let v = c.loop.invariant in
     let p = err_from_is_err_and c.from_residual.result c.from_residual.ensures.1 in
-    rw (p.1, p.2) (record { vs = []; reads = chain_stopped v.read c.read_visit.new.lines _ c.loop-test.true c.in_err-step.ensures.reads; makes = tt })
+    rw (p.1, p.2) (record { vs = []; reads = chain_stopped v.read c.read_visit.new.lines c.in_err-step.field-0.0 c.loop-test.true c.in_err-step.ensures.reads; makes = tt })
 
 pub returns : goal.returns
 unfolding visits

@@ -28,7 +28,7 @@ pub returns : goal.returns
 unfolding plan_lines bytes
 returns c = let read = c.in_ok-plan.ensures in
     let a = c.read_visits.new.lines in
-    let job = job_of c.args.job in
+    let job = job_of c.args.job.now in
     let cost = c.in_ok-cost.cost in
     let made : List Visit → Stated = λ vs. record { cost = cost; plan = plan_of job vs } in
     let k = went_on _ _ c.args.lines.now c.field.new.self a _ (Ok (made read.vs)) c.in_ok-cost.ensures.reads

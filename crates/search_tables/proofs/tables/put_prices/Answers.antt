@@ -1,12 +1,10 @@
--- `put_prices` writes a lane's prices. The invariant: the first j are written.
-use mathlib.Core.Path.{◌≡◌, refl}
+-- `put_prices` writes a lane's prices, which stand a row of lanes apart.
+use Prim.Native.Nat.{ℕ}
 use native.Mathlib.Omega.{arith}
-use lib.ListN.{length}
-use Rattle.least.proofs.Filled.{filled_more}
+use lib.ListN.{get_or}
+use Rattle.std.proofs.Common.{rules}
+use Rattle.search_tables.proofs.Apart.{row_as}
 use Rattle.search_tables.proofs.tables.put_prices.Goals as goal
 
-pub loop-j-preserved : goal.loop-j-preserved
-loop-j-preserved c = filled_more _ (omega arith) (λ y h e. omega (arith, e)) refl c.loop-j.invariant
-
 pub returns : goal.returns
-returns c = let z : c.loop-j.j ≡ length c.args.prices.now = omega arith in rw z at c.loop-j.invariant
+returns c = row_as (λ j. omega arith) (c.turn_row.ensures (λ (j : ℕ). get_or c.args.prices.now j 0) (λ j v l p. search rules))

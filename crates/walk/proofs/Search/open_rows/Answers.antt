@@ -44,7 +44,7 @@ given c =
 pub term-requires : goal.term-requires
 term-requires c = let l = c.requires.0 in
     let r = c.args.rows in
-    (l.size, omega (arith, c.last_mark.ensures, l.stack.marks (r - 1) (omega (arith, l.some))), l.stack.near)
+    (omega (arith, c.last_mark.ensures, l.stack.marks (r - 1) (omega (arith, l.some))), l.stack.near)
 
 pub returns-in_default : goal.returns-in_default
 returns-in_default c = let a = c.args in

@@ -1,9 +1,14 @@
 -- `fill_end` writes the row past the last opening. The invariant: its first i entries are written.
-use mathlib.Core.Path.{◌∙◌, ap}
+use Prim.Native.Nat.{◌+◌, ◌-◌, ◌*◌}
 use native.Mathlib.Omega.{arith}
-use Rattle.least.specs.Suffix.{code_of}
-use Rattle.least.proofs.Filled.{filled_more}
+use lib.ListN.{length}
+use Rattle.least.specs.Suffix.{marks, end_of}
+use Rattle.least.proofs.Filled.{filled_by}
 use Rattle.least.proofs.offers.PartOffers.fill_end.Goals as goal
 
-pub loop-i-preserved : goal.loop-i-preserved
-loop-i-preserved c = filled_more c.code.result (omega arith) (λ y l e. omega (arith, e)) (c.code.ensures ∙ ap code_of c.at_end.ensures) c.loop-i.invariant
+pub returns : goal.returns
+returns c = let s = c.args.self.now in
+    let n = length s.positions.now in
+    let at = n * marks in
+    filled_by c.args.tab.now c.loop-i.price-items at (n + 1) (at + n + 1 - at) (end_of s.life s.end s.first s.positions.now) (omega arith) (omega (arith, s.few, c.requires)) (omega (arith, s.few, c.requires))
+    (λ y h. c.loop-i.invariant y (omega (arith, h, s.few, c.requires)))

@@ -6,5 +6,5 @@ use Rattle.search_tables.proofs.flat.FlatJob.fill.Goals as goal
 pub returns : goal.returns
 returns c = let j = c.args.self.now in
     let f = c.fours_of-fours in
-    tables_filled j.end j.positions.now j.fees.now j.lives.now j.lefts.now j.prices.now c.fill_lanes.new.t c.put_fees.new.t _ _ c.put_terms.new.t
-    f.result f.ensures j.arrays c.fill_lanes.ensures c.put_fees.ensures refl refl c.put_terms.ensures
+    tables_filled j.end j.positions.now j.fees.now j.lives.now j.lefts.now j.prices.now c.fill_lanes.new.t c.put_at.new.t _ _ c.put_terms.new.t
+    f.result f.ensures j.arrays c.fill_lanes.ensures c.put_at.ensures refl refl c.put_terms.ensures

@@ -5,10 +5,10 @@ use Rattle.search_tables.proofs.Filling.{lanes_none, lanes_more}
 use Rattle.search_tables.proofs.flat.FlatJob.fill_lanes.Goals as goal
 
 pub loop-q-init : goal.loop-q-init
-loop-q-init c = let j = c.args.self.now in lanes_none j.end j.positions.now j.lives.now j.lefts.now j.prices.now c.args.t.now c.requires.1
+loop-q-init c = let j = c.args.self.now in lanes_none j.end j.positions.now j.lives.now j.lefts.now j.prices.now c.args.t.now (omega arith)
 
 pub fill_part-requires : goal.fill_part-requires
-fill_part-requires c = (omega (arith, c.loop-q.auto.tab, c.requires.0), record { lane = omega arith; size = c.loop-q.invariant.size })
+fill_part-requires c = (omega (arith, c.loop-q.auto.tab, c.requires.0), omega arith)
 
 pub loop-q-preserved : goal.loop-q-preserved
 loop-q-preserved c = let j = c.args.self.now in

@@ -1,0 +1,2 @@
+-- Rows that are read one after the other (Rows).
+pub mod Rows
