@@ -5,10 +5,12 @@ ghost use Rattle.std.specs.Prelude.{◌≡◌, ℕ, List, [], ◌≤◌, ◌<◌
 ghost use denote.Ref.{MutBor};
 ghost use Rattle.line_writing.specs.declared.output.Out.{Out};
 ghost use Rattle.line_writing.specs.Puts.{Puts, Room};
+ghost use Rattle.lines.specs.Fault.{number_of_lem};
 ghost use Rattle.answers.specs.Said.{two_lines, three_lines, fault_lines_lem, Said, Printable, longest_refusal, plainly, refusal, handed, Replied};
 
 use fault_lines::fault::fault_span;
 use line_writing::output::Out;
+use lines::fault::Fault;
 
 // The number by which an answer names the job text.
 // Kept as numbers, here and in `Answer`, with 0 where there is no text and no line: the C interface hands them over.
@@ -110,22 +112,16 @@ fn put_fault(out: &mut Out, number: u32, text: u32, line: u32)
     );
 }
 
-// The answer of a call that needs so much room to a fault of text number `which`, on a line of that text.
-// Kept as numbers: the C interface hands over the text's and the result's, and a type of the known ones would ask more of callers.
-pub fn refuse(
-    text: &[u8],
-    which: u32,
-    number: u32,
-    line: usize,
-    need: usize,
-    out: &mut [u8],
-) -> Answer
-    requires { (line < 4294967296) × (longest_refusal ≤ need) }
-    ensures { Replied need (refusal which text.now number line) out.old out.new result }
+// The answer of a call that needs so much room to a fault of text number `which`.
+// Kept as a number for the text: the C interface hands it over.
+pub fn refuse(text: &[u8], which: u32, fault: Fault, need: usize, out: &mut [u8]) -> Answer
+    requires { (fault.line < 4294967296) × (longest_refusal ≤ need) }
+    ensures { Replied need (refusal which text.now (number_of_lem fault.kind) fault.line) out.old out.new result }
 {
-    let span = fault_span(text, line);
+    let number = fault.kind.number();
+    let span = fault_span(text, fault.line);
     // Kept as `as`: the contract has the line below 2 to the 32nd, and std has no `From` of a usize.
-    let at = line as u32;
+    let at = fault.line as u32;
     let answer = Answer {
         result: number,
         text: which,

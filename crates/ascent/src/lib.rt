@@ -201,6 +201,7 @@ impl<'a, 'b> Task<'a, 'b> {
 }
 
 // Shares of the job in the tables, and the value of their table.
+// Kept with the limit of parts in the clause: nothing is known of the numbers in the tables.
 pub fn ascend(t: &[u32; TABLES], x: &[u32; SHARES], parts: usize, best: &mut [u32; PLACES]) -> u64
     requires { parts ≤ most_parts }
     ensures { result ≤ lane_count_lem * inf }

@@ -38,12 +38,12 @@ impl<'a> Row<'a> {
     }
 
     // What the thing costs, at a scale.
-    pub fn cap(&self, scale: u32) -> u64 {
+    pub(crate) fn cap(&self, scale: u32) -> u64 {
         product(self.worth, scale)
     }
 
     // The row's worth is split evenly among the parts that take the thing.
-    pub fn split(&self, cap: u32, shares: &mut [u32; LANES]) {
+    pub(crate) fn split(&self, cap: u32, shares: &mut [u32; LANES]) {
         let c = self.users();
         if c == 0 {
             return;
@@ -58,7 +58,7 @@ impl<'a> Row<'a> {
     }
 
     // The direction of the row, and how long it is: the sum of the squares less the square of the sum by the number of users.
-    pub fn turn(&self, changed: &[u32], d: &mut [u32; LANES]) -> u64 {
+    pub(crate) fn turn(&self, changed: &[u32], d: &mut [u32; LANES]) -> u64 {
         let c = self.users();
         if c < 2 {
             return 0;
@@ -77,7 +77,7 @@ impl<'a> Row<'a> {
     }
 
     // The shares of the row go along the direction: their sum then.
-    pub fn go(&self, size: u32, d: &[u32; LANES], shares: &mut [u32; LANES]) -> u64 {
+    pub(crate) fn go(&self, size: u32, d: &[u32; LANES], shares: &mut [u32; LANES]) -> u64 {
         let mut sum: u64 = 0;
         for ((taken, d), share) in self.takes.iter().zip(d).zip(shares.iter_mut()) {
             if *taken != 0 {
@@ -107,7 +107,7 @@ fn take_each(shares: &mut [u32; LANES], each: u32, over: u64) -> u64 {
 }
 
 // What a row has over its worth is taken evenly from its shares.
-pub fn level_row(shares: &mut [u32; LANES], over: u64) {
+pub(crate) fn level_row(shares: &mut [u32; LANES], over: u64) {
     let mut left = over;
     for _ in 0..LANES {
         if left != 0 {
@@ -121,7 +121,7 @@ pub fn level_row(shares: &mut [u32; LANES], over: u64) {
 }
 
 // A row's shares as whole numbers, by running sums.
-pub fn round_row(shares: &mut [u32; LANES], scale: u32) {
+pub(crate) fn round_row(shares: &mut [u32; LANES], scale: u32) {
     if scale == 0 {
         return;
     }

@@ -20,6 +20,7 @@ use Rattle.model.specs.Windows.{Rising, steps_of}
 use Rattle.jobs.specs.Valid.{All, ValidOpening, ValidPrice, ValidPart, HeldFrom}
 use Rattle.jobs.proofs.Lists.{chained_each, each_chained}
 use Rattle.covers.specs.Views.{meant_cover}
+use Rattle.price_rules.proofs.Prices.{singles_mean, singles_low, singles_valid, singles_plain}
 use Rattle.job_grammar.specs.Grammar.{JobText, job_with, meant, idles, opening, openings, meaning, read_job_text, read_job_lem}
 use Rattle.quotes.specs.Grammar.{single, high_end, low_end, any_pair}
 use Rattle.quotes.specs.Rendering.{quote_text}
@@ -39,28 +40,11 @@ use Rattle.before_holders.proofs.Exact.{Exact, Any, exactly, row_exact, checked_
 
 -- ---- what a text said, as it is said today: the walk line stands, no part has lines of removal, and prices are listed, each a single one
 
--- single prices: their ends are the prices, none is a pair, and they are written as they were
-highs : (ps : List ℕ) → map high_end (map single ps) ≡ ps
-highs [] = refl
-highs (p ∷ ps) = ap (λ (qs : List ℕ). p ∷ qs) (highs ps)
-
-lows : (ps : List ℕ) → map low_end (map single ps) ≡ ps
-lows [] = refl
-lows (p ∷ ps) = ap (λ (qs : List ℕ). p ∷ qs) (lows ps)
-
-no_pair : (ps : List ℕ) → any_pair (map single ps) ≡ false
-unfolding any_pair
-no_pair [] = refl
-no_pair (p ∷ ps) = no_pair ps
-
+-- single prices are written as they were
 singles_text : (ps : List ℕ) → texts quote_text (map single ps) ≡ texts (line_of "price=") ps
 unfolding quote_text
 singles_text [] = refl
 singles_text (p ∷ ps) = ap (λ (s : List ℕ). line_of "price=" p ++ s) (singles_text ps)
-
-singles_valid : (ps : List ℕ) → All ValidPrice ps → All ValidQuote (map single ps)
-singles_valid [] v = tt
-singles_valid (p ∷ ps) v = (record { low = v.0; high = v.0; ordered = omega arith }, singles_valid ps v.1)
 
 -- a part of a text before holders as today's text has it, without lines of removal
 abbrev pub uncovered : before.PartText → PartText
@@ -79,15 +63,15 @@ means_same t =
   where
     high : (ps : List before.PartText) → map (meant_part (length t.openings)) (map uncovered ps) ≡ map before.meant_part ps
     high [] = refl
-    high (p ∷ ps) = let e = highs p.prices in let r = high ps in λ i. record { life = p.life; left = p.left; removal = 0; holders = []; prices = e i } ∷ r i
+    high (p ∷ ps) = let e = singles_mean p.prices in let r = high ps in λ i. record { life = p.life; left = p.left; removal = 0; holders = []; prices = e i } ∷ r i
 
     low : (ps : List before.PartText) → map (low_part_lem (length t.openings)) (map uncovered ps) ≡ map before.meant_part ps
     low [] = refl
-    low (p ∷ ps) = let e = lows p.prices in let r = low ps in λ i. record { life = p.life; left = p.left; removal = 0; holders = []; prices = e i } ∷ r i
+    low (p ∷ ps) = let e = singles_low p.prices in let r = low ps in λ i. record { life = p.life; left = p.left; removal = 0; holders = []; prices = e i } ∷ r i
 
     plain : (ps : List before.PartText) → any_banded (map uncovered ps) ≡ false
     plain [] = refl
-    plain (p ∷ ps) = ap₂ ◌||◌ (no_pair p.prices) (plain ps)
+    plain (p ∷ ps) = ap₂ ◌||◌ (singles_plain p.prices) (plain ps)
 
 -- something is left of each part's life
 abbrev Lefts : List before.PartText → Type 0
@@ -109,7 +93,7 @@ today-told t bare = let e = go t.parts bare.parts in λ i. record { horizon = t.
     go [] b = refl
     go (p ∷ ps) b =
         let c = b.0.cover in
-        let e : by_list (map single (meant_prices 0 p.prices)) ≡ p.prices = ap (λ (x : Prices). by_list (map single (meant_prices 0 x))) b.0.listed ∙ ap (λ (qs : List ℕ). by_list (map single qs)) (highs b.0.prices) ∙ sym b.0.listed in
+        let e : by_list (map single (meant_prices 0 p.prices)) ≡ p.prices = ap (λ (x : Prices). by_list (map single (meant_prices 0 x))) b.0.listed ∙ ap (λ (qs : List ℕ). by_list (map single qs)) (singles_mean b.0.prices) ∙ sym b.0.listed in
         let r = go ps b.1 in
         λ i. record { life = p.life; left = p.left; cover = sym c i; prices = e i } ∷ r i
 
@@ -167,12 +151,12 @@ module _ (n : ℕ) where
           left_high = leb-true p.left p.life k.1.0.1;
           removal = omega arith;
           few_holders = omega arith;
-          priced = ap length (highs p.prices) ∙ k.1.1.0.0;
-          prices = subst (All ValidPrice) (sym (highs p.prices)) (chained_each ValidPrice 0 p.prices k.1.1.0.1);
+          priced = ap length (singles_mean p.prices) ∙ k.1.1.0.0;
+          prices = subst (All ValidPrice) (sym (singles_mean p.prices)) (chained_each ValidPrice 0 p.prices k.1.1.0.1);
         },
         k.1.0.0.0,
       ))
-      (λ p w. let v = w.0 in ((v.life_low, v.life_high), (((w.1, omega (arith, v.left_high, v.life_high)), up_to_yes p.life p.left v.left_high), ((sym (ap length (highs p.prices)) ∙ v.priced, each_chained ValidPrice 0 p.prices (subst (All ValidPrice) (highs p.prices) v.prices)), refl))))
+      (λ p w. let v = w.0 in ((v.life_low, v.life_high), (((w.1, omega (arith, v.left_high, v.life_high)), up_to_yes p.life p.left v.left_high), ((sym (ap length (singles_mean p.prices)) ∙ v.priced, each_chained ValidPrice 0 p.prices (subst (All ValidPrice) (singles_mean p.prices) v.prices)), refl))))
       (λ p. simp (append_assoc, append-nil, singles_text))
 
 -- ---- the whole
@@ -276,7 +260,7 @@ parts_left n (p ∷ ps) v = (v.0.1, parts_left n ps v.1)
 parts_spelt : (n : ℕ) (ps : List before.PartText) → All (WasPart n) ps → All (Spelt n) (map uncovered ps)
 parts_spelt n [] v = tt
 parts_spelt n (p ∷ ps) v =
-    let e = highs p.prices in
+    let e = singles_mean p.prices in
     ((length-map p.prices single ∙ sym (ap length e) ∙ v.0.0.priced, singles_valid p.prices (subst (All ValidPrice) e v.0.0.prices)), parts_spelt n ps v.1)
 
 none_held : (n m k : ℕ) (ps : List before.PartText) → HeldFrom m k (map (meant_part n) (map uncovered ps))

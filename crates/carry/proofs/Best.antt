@@ -20,7 +20,8 @@ use Rattle.model.proofs.Promised.{promise}
 use Rattle.model.proofs.Unique.{determined}
 use Rattle.carry.specs.Carry.{Log, Logged, Lasts, Accepts, carried_part, carried_parts, carried}
 use Rattle.carry.specs.Start.{continued_by, continued, Starts, rest_of}
-use Rattle.carry.proofs.Splits.{table_append, concat_append, at_front, at_back, Sub, sub_front, first_back, map-append}
+use Rattle.model.proofs.Blocks.{concat_append}
+use Rattle.carry.proofs.Splits.{table_append, at_front, at_back, Sub, sub_front, first_back, map-append}
 use Rattle.carry.proofs.Lives.{past, past_most}
 use Rattle.carry.proofs.Parts.{Done, logged_done, stops_front, front_size, changed_front, changed_back}
 use Rattle.carry.proofs.Keeps.{openings_size, part_cut, lives_cut}

@@ -1,6 +1,6 @@
 -- E12.6 and E13.1, whole, of what the planner and the call answer.
 use mathlib.Core.Path.{◌≡◌, refl, sym, ap, subst, ◌∙◌}
-use Prim.Native.Nat.{ℕ, ◌+◌, ◌-◌, ◌≤◌}
+use Prim.Native.Nat.{ℕ, ◌+◌, ◌≤◌}
 use native.Mathlib.Omega.{arith}
 use Rattle.model.specs.Model.{Job, Plan, cost_of_lem}
 use Rattle.model.specs.Windows.{Rising, steps_of}

@@ -1,7 +1,7 @@
 -- Lists cut at a place: a set of openings that is one set up to there and another behind it. By recursion over the first.
 use mathlib.Core.Path.{◌≡◌, refl, sym, ap, ◌∙◌}
 use mathlib.Core.Bool.{Bool, true, false, false≢true}
-use mathlib.Core.List.{List, [], ◌∷◌, ◌++◌, map, append-nil, append_assoc}
+use mathlib.Core.List.{List, [], ◌∷◌, ◌++◌, map, append-nil}
 use mathlib.Core.Logic.{◌⊎◌, inl, inr, ⊎_elim}
 use Prim.Native.Nat.{ℕ, zero, suc, ◌+◌, ◌<◌}
 use native.Mathlib.Nat.{zero-add, suc-add}
@@ -10,7 +10,6 @@ use lib.ListN.{length, get_or, take, drop, take-append-drop, get_or-append}
 use lib.Seq.{get_or-append-add, get_or-drop, drop-append_seam}
 use Rattle.branch.specs.Search.{Before, here, there}
 use Rattle.model.specs.Model.{select, table, sum_at, sum}
-use Rattle.model.specs.Decisions.{concat}
 use Rattle.model.proofs.Offers.{sum_none}
 use Rattle.model.proofs.Lists.{table_same}
 use Rattle.model.proofs.Sums.{sum_same, sum_shift}
@@ -96,12 +95,6 @@ sum_cut_at f (suc n) m =
     let r = sum_cut_at (λ k. f (suc k)) n m in
     let z = sum_same m 0 (λ k. f (suc (n + k))) (λ k. f (suc n + k)) (λ k _ _. ap f (sym (suc-add n k))) in
     omega (arith, e, s, t, r, z)
-
--- the blocks of two lists in a row, joined, are the first's joined and then the second's
-pub concat_append : (bs ds : List (List Bool)) → concat (bs ++ ds) ≡ concat bs ++ concat ds
-unfolding concat
-concat_append [] ds = refl
-concat_append (b ∷ bs) ds = ap (λ (l : List Bool). b ++ l) (concat_append bs ds) ∙ sym (append_assoc b (concat bs) (concat ds))
 
 -- ---- one set in another
 

@@ -1,6 +1,6 @@
 -- Where positions and changes before them can lie, and that an i32 holds them. By the laws of the clock, and the signs.
 use Prim.Native.Nat.{ℕ, ◌+◌, ◌≤◌}
-use mathlib.Core.Path.{◌≡◌, refl, sym, ap, ◌∙◌}
+use mathlib.Core.Path.{◌≡◌, refl, sym, ap, subst, ◌∙◌}
 use native.Mathlib.Omega.{arith}
 use lib.IntN.{ℤ, pos, negsuc, ◌-ℤ◌, +ℤ-neg_ℤ_cancel, pos-+ℤ-pos}
 use lib.Signed.{mag}
@@ -55,6 +55,10 @@ module _ (life : ℕ) (prev : ℤ) (h : life ≤ longest_life) (b : Begins life 
   -- the change before fits an i32: read back from its bits it is the same
   pub before_bits : to_z w32 (of_z w32 prev) ≡ prev
   before_bits = to_z-of_z w32 prev (record { sfits = omega (arith, before_small) })
+
+-- so does the one before the first opening
+pub first_bits : {life left : ℕ} {prev : ℤ} → prev ≡ pos left -ℤ pos life → life ≤ longest_life → left ≤ longest_life → to_z w32 (of_z w32 prev) ≡ prev
+first_bits {life} {left} {prev} e h l = before_bits life prev h (subst (Begins life) (sym e) (begins_first life left l))
 
 -- a life as a signed number
 pub life_bits : (life : ℕ) → life ≤ longest_life → to_z w32 life ≡ pos life

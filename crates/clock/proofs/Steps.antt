@@ -11,7 +11,7 @@ use lib.Dec.{eqb}
 use lib.ListN.{length, get_or, take, set, replicate, length-replicate, length-set}
 use lib.Seq.{take-suc, get_or-set_same, get_or-set_other}
 use lib.IntN.{ℤ, pos}
-use Rattle.model.specs.Model.{Job, listed, running, clock, within, last_within_lem}
+use Rattle.model.specs.Model.{Job, listed, running, clock}
 use Rattle.clock.specs.Placed.{Flags}
 use Rattle.model.specs.Limits.{last_position}
 
@@ -129,27 +129,3 @@ module _ (job : Job) where
           less : Dec (u < s) → u < s
           less (yes x) = x
           less (no x) = absurd (z (omega (arith, x)))
-
--- ---- due steps
-
--- of no steps none is within the life, and the due step is 0
-pub last_none : (job : Job) (life prev : ℤ) → 0 ≡ last_within_lem job life prev 0
-unfolding last_within_lem
-last_none job life prev = refl
-
-module _ (job : Job) (life prev : ℤ) (s : ℕ) (some : 0 < s) where
-  -- the step is in time, or it is not
-  last_is : last_within_lem job life prev s ≡ cond (within life prev (clock job s)) s (last_within_lem job life prev (s - 1))
-  unfolding last_within_lem
-  last_is = let z : s ≡ suc (s - 1) = omega arith in subst (λ (k : ℕ). last_within_lem job life prev k ≡ cond (within life prev (clock job k)) k (last_within_lem job life prev (s - 1))) (sym z) (by (s - 1))
-    where
-      by : (k : ℕ) → last_within_lem job life prev (suc k) ≡ cond (within life prev (clock job (suc k))) (suc k) (last_within_lem job life prev k)
-      by k = refl
-
-  -- a step within the life is the last one so far at which a change keeps the part
-  pub last_yes_lem : within life prev (clock job s) ≡ true → s ≡ last_within_lem job life prev s
-  last_yes_lem e = sym (last_is ∙ ap (λ (b : Bool). cond b s (last_within_lem job life prev (s - 1))) e)
-
-  -- a step not within the life leaves the last one so far as it was
-  pub last_no : within life prev (clock job s) ≡ false → last_within_lem job life prev (s - 1) ≡ last_within_lem job life prev s
-  last_no e = sym (last_is ∙ ap (λ (b : Bool). cond b s (last_within_lem job life prev (s - 1))) e)

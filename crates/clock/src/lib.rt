@@ -47,7 +47,8 @@ fn running_steps(job: &Accepted) -> [i32; STEPS]
 }
 
 // The position of a step.
-// Kept with the limit of the step in the clause, here and in `log_lives`: a step is a plain number, and the one behind the horizon is asked too. Kept as a cast, as in `running_steps`.
+// Kept with the limit of the step in the clause, here and in `log_lives`: a step is a plain number, and the one behind the horizon is asked too.
+// Kept as a cast, as in `running_steps`.
 pub fn position_of(job: &Accepted, step: u32) -> i32
     requires { step ≤ last_position }
     ensures { (result ≡ clock (job_of job.now.job) step) × Position result }
@@ -72,7 +73,8 @@ pub fn positions_of(job: &Accepted) -> Positions
 }
 
 // Whether a part whose change before is at `prev` is kept by its next change, or up to the end, at `next`.
-// Its life is the one number of the text that meets signed ones. Kept as a cast: std has no From for it, and a life is at most 1000.
+// Its life is the one number of the text that meets signed ones.
+// Kept as a cast: std has no From for it, and a life is at most 1000.
 // Kept as three numbers with their ranges, here and where a gap is asked for (`plan_lives`, `latest_changes`): two of them change from opening to opening, and a struct would be made anew for each question.
 pub fn keeps(life: u32, prev: i32, next: i32) -> bool
     requires { (life ≤ longest_life) × Begins life prev × Position next }
@@ -82,17 +84,14 @@ pub fn keeps(life: u32, prev: i32, next: i32) -> bool
 }
 
 // The last step at which a change would still have kept a part whose change before is at `prev`; 0 where there is none, as the model has it.
-// Kept as a loop over the steps: `rposition` would give a place in the array, of which a cast would have to make a step.
+// Kept as a cast: std has no `From<u32>` for a usize, and a `try_from` would have an arm that nothing reaches.
 pub fn due_of(job: &Accepted, life: u32, prev: i32) -> u32
     requires { (life ≤ longest_life) × Begins life prev }
     ensures { result ≡ due_of_lem (job_of job.now.job) (pos life) prev }
 {
-    let clock = running_steps(job);
-    let mut due: u32 = 0;
-    for s in 1..job.job.horizon + 1 {
-        if keeps(life, prev, clock[s as usize]) {
-            due = s;
-        }
-    }
-    due
+    let at = running_steps(job);
+    (1..job.job.horizon + 1)
+        .rev()
+        .find(|s| keeps(life, prev, at[*s as usize]))
+        .unwrap_or(0)
 }

@@ -70,6 +70,7 @@ pub fn come_out(holders: &[bool; PAIRS], m: usize) -> [bool; PAIRS]
 }
 
 // The places of a set's parts, by rising number.
+// Kept with a count beside the loop: how many places are put is known only at its end.
 fn places_of(marks: [bool; PARTS]) -> Holding
     ensures { (result.marks ≡ marks) × (take result.count result.places ≡ places_from 0 marks) × Within result }
 {

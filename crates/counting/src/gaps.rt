@@ -32,6 +32,7 @@ fn sum(in_time: bool, declined: u64, stopped: u64) -> u64
     CAP.min(1 + from_no + stopped)
 }
 
+// Kept with the limits of m and j in the clauses below: a mark and an opening are plain numbers, as in `least`.
 impl PartGaps<'_> {
     // The place behind k openings: the next opening's position, or the end.
     fn place(&self, k: usize) -> i32

@@ -1,2 +1,3 @@
--- Where the walks from cutoffs below end.
+-- Where a walk ends the walks (Ends), and where the walks end (Risen).
+pub mod Ends
 pub mod Risen

@@ -3,19 +3,20 @@
 
 pub mod found;
 
-ghost use Rattle.std.specs.Prelude.{List, ◌+◌, ◌*◌, ◌^◌, ◌<◌, ◌≤◌};
+ghost use Rattle.std.specs.Prelude.{◌≡◌, List, ◌+◌, ◌*◌, ◌^◌, ◌<◌, ◌≤◌};
 ghost use Rattle.model.specs.Model.{Job};
 ghost use Rattle.model.specs.Decisions.{Held};
 ghost use Rattle.shares.specs.Shares.{Shares as Split, FairShares};
 ghost use Rattle.shares.specs.Certificate.{NoneUnder};
 ghost use Rattle.lane_rows.specs.Layout.{inf};
 ghost use Rattle.share_walk.specs.State.{Solvable};
+ghost use Rattle.cutoffs.specs.Ends.{seen, ended_s};
 ghost use Rattle.cutoffs.specs.Risen.{RisenRight};
 
 use found::{Over, Undercut};
 use lane_rows::{INF, STACK, TABLES};
 use share_rows::SHARES;
-use share_walk::{NAMES, solve};
+use share_walk::{NAMES, State, solve};
 
 // The last cutoff: the number for a missing price, which is above what any plan costs.
 // Kept as a cast: `u64::from` can't be called where a constant is made.
@@ -50,9 +51,32 @@ fn next_gap(gap: u64) -> u64
     if gap < LAST { gap + gap / 4 + 1 } else { LAST }
 }
 
+// Where a walk from the cutoff k, which ended in the state s, ends the walks: it is over the limit, or it found a plan that costs less. No plan costs less than `floor`.
+fn ended_by(s: State, k: u64, floor: u64) -> Option<Risen>
+    ensures { seen result ≡ ended_s k floor s }
+{
+    if s.over {
+        return Some(Risen {
+            found: Err(Over),
+            floor,
+        });
+    }
+    if k <= s.cost {
+        return None;
+    }
+    let plan = Undercut {
+        cost: s.cost,
+        size: s.size.min(NAMES),
+    };
+    Some(Risen {
+        found: Ok(Some(plan)),
+        floor,
+    })
+}
+
 // The walks from one cutoff after the other, from `wish` on, each with at most `limit` nodes. No plan costs less than `floor`.
 // Kept as a while loop: the cutoffs rise by growing gaps until the last one is passed.
-// Kept with as many parameters: the first five and the limit are handed on to `share_walk::solve` as they are.
+// Kept with as many parameters: the first five and the limit are handed on to `share_walk::solve` as they are. Kept with the limit's bound in the clause: it is a plain number that the call hands down, and a type of it would be made once.
 pub fn rise(
     t: &[u32; TABLES],
     x: &[u32; SHARES],
@@ -71,21 +95,8 @@ pub fn rise(
     let mut low = floor;
     while low < LAST {
         let s = solve(t, x, w, name, best, k, limit);
-        if s.over {
-            return Risen {
-                found: Err(Over),
-                floor: low,
-            };
-        }
-        if s.cost < k {
-            let plan = Undercut {
-                cost: s.cost,
-                size: s.size.min(NAMES),
-            };
-            return Risen {
-                found: Ok(Some(plan)),
-                floor: low,
-            };
+        if let Some(end) = ended_by(s, k, low) {
+            return end;
         }
         low = k;
         k = next_cutoff(k, gap);

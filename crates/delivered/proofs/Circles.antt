@@ -6,6 +6,7 @@ use native.Mathlib.Omega.{arith}
 use lib.ListN.{length, get_or}
 use lib.Seq.{ext_get_or}
 use Rattle.model.specs.Model.{Job, comes_out, Chain, itself, by_holder}
+use Rattle.model.proofs.Bools.{same_test}
 use Rattle.model.proofs.Closure.{out_length, chained}
 
 module _ (job : Job) where
@@ -19,13 +20,8 @@ module _ (job : Job) where
     with_other : Chain job j i → (k : ℕ) → k < length job.parts → get_or (comes_out job i) k false ≡ true → get_or (comes_out job j) k false ≡ true
     with_other c k k-in e = (chained job j k j-in k-in).1 (chain_then c ((chained job i k i_in k-in).0 e))
 
-  same : (a b : Bool) → (a ≡ true → b ≡ true) → (b ≡ true → a ≡ true) → a ≡ b
-  same true b f g = sym (f refl)
-  same false true f g = g refl
-  same false false f g = refl
-
   -- E7.9. "Holders may run in a circle; they then come out together."
   pub together : (i j : ℕ) → i < length job.parts → j < length job.parts → Chain job i j → Chain job j i → comes_out job i ≡ comes_out job j
   together i j i_in j-in to back =
       ext_get_or false (comes_out job i) (comes_out job j) (out_length job i ∙ sym (out_length job j))
-      (λ k l. let k-in : k < length job.parts = omega (arith, l, out_length job i) in same _ _ (with_other i j i_in j-in back k k-in) (with_other j i j-in i_in to k k-in))
+      (λ k l. let k-in : k < length job.parts = omega (arith, l, out_length job i) in same_test _ _ (with_other i j i_in j-in back k k-in) (with_other j i j-in i_in to k k-in))

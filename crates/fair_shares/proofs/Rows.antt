@@ -89,9 +89,3 @@ marked_by nd parts rm x y z s few f g =
       removals = λ b l. get_or-set_other z holds_place (removal_place b) (length rm) 0 (λ e. omega (arith, e)) ∙ g.done b l;
       holds = get_or-set_same z holds_place (length rm) 0 (omega (arith, g.size, f.size, s));
     }
-
--- a row of nothing
-pub none_at : (n q : ℕ) → ◌≡◌ {A = ℕ} (get_or (replicate n 0) q 0) 0
-none_at zero q = refl
-none_at (suc n) zero = refl
-none_at (suc n) (suc q) = none_at n q

@@ -112,7 +112,7 @@ fn put_takes(needs: &[bool; PAIRS], parts: usize, rows: &mut [u32])
 }
 
 // The table of shares but for the shares: which lanes take which things, the removals, and how many they are.
-fn mark_table(needs: &[bool; PAIRS], parts: usize, removals: &[u32], x: &mut [u32; SHARES])
+pub fn mark(needs: &[bool; PAIRS], parts: usize, removals: &[u32], x: &mut [u32; SHARES])
     requires { (parts ≤ most_parts) × (length removals.now ≤ most_parts) }
     ensures { Marked needs.now parts removals.now x.new }
 {
@@ -121,15 +121,4 @@ fn mark_table(needs: &[bool; PAIRS], parts: usize, removals: &[u32], x: &mut [u3
     put_at(x, REMOVALS, removals);
     // Kept as a cast: the library has no `From` of a `usize` for a `u32`.
     x[HOLDS] = h as u32;
-}
-
-// The table of shares but for the shares, by needs in a slice of the right size.
-// Kept apart: `HeldNumbers` has the needs as a slice of stated length, as `Needs` lends them to the tables, and here alone it becomes an array, so that no other function asks for its length.
-pub fn mark(needs: &[bool], parts: usize, removals: &[u32], x: &mut [u32; SHARES])
-    requires { (length needs.now ≡ 256) × (parts ≤ most_parts) × (length removals.now ≤ most_parts) }
-    ensures { Marked needs.now parts removals.now x.new }
-{
-    if let Some(needs) = needs.as_array() {
-        mark_table(needs, parts, removals, x);
-    }
 }

@@ -2,7 +2,8 @@
 ghost use Rattle.std.specs.Prelude.{◌≡◌, length};
 ghost use Rattle.fault_lines.specs.Fault.{before_break, skipped, fault_line_lem, fault_span_lem};
 
-// Where a line stands in a text. Kept as 0 and 0 where there is none, and not an Option: the C interface hands out these two numbers.
+// Where a line stands in a text.
+// Kept as 0 and 0 where there is none, and not an Option: the C interface hands out these two numbers.
 #[derive(Clone, Copy)]
 pub struct Span {
     pub start: usize,

@@ -41,7 +41,7 @@ fn answer_text(text: &[u8], out: &mut [u8]) -> Answer
 {
     match read_all(text) {
         Ok(_) => answer(text, out),
-        Err(fault) => refuse(b"", JOB, fault.kind.number(), fault.line, ROOM, out),
+        Err(fault) => refuse(b"", JOB, fault, ROOM, out),
     }
 }
 

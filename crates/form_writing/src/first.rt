@@ -1,6 +1,7 @@
 // The first part of lists that agree, and the lists behind it.
 // Kept as conditions: what lists have of their first part is one record for its removal (`FirstCover`) and one for its prices (`FirstPrices`), and a type that carries them would be made and taken apart for each part.
-ghost use Rattle.std.specs.Prelude.{◌≡◌, ◌≤◌, ◌<◌, length, cond, eqb, get_or, take, drop, IfSome, None, Some};
+// Kept with the limit of n in the clauses, here and in `parts`: it counts the form's openings, whose lists don't stand beside the parts'.
+ghost use Rattle.std.specs.Prelude.{◌≡◌, ◌≤◌, ◌<◌, length, cond, eqb, get_or, take, drop, None, Some};
 ghost use Rattle.price_rules.specs.Grammar.{by_list, by_rule_lem};
 ghost use Rattle.form_facts.specs.Facts.{PartsAgree, quotes_in};
 ghost use Rattle.form_facts.specs.Views.{lists_of};
@@ -38,8 +39,7 @@ fn listed_first(parts: &FormParts, n: usize) -> usize
 // The first part's lines of removal, where they stand.
 fn cover_first<'a>(parts: &FormParts<'a>) -> Option<Cover<'a>>
     requires { FirstCover (lists_of parts.now) }
-    ensures said { let x = lists_of parts.now in cover_said result ≡ cond (eqb (get_or x.covered 0 0) 1) (Some (record { removal = get_or x.removals 0 0; holders = take (inside_first x) x.holders })) None }
-    ensures few { IfSome result (λ c. length c.holders.now < 4294967296) }
+    ensures { let x = lists_of parts.now in cover_said result ≡ cond (eqb (get_or x.covered 0 0) 1) (Some (record { removal = get_or x.removals 0 0; holders = take (inside_first x) x.holders })) None }
 {
     let covers = parts.covers;
     if covers.covered[0] != 1 {
@@ -79,7 +79,6 @@ fn prices_first<'a>(parts: &FormParts<'a>, n: usize) -> Prices<'a>
 pub fn part_first<'a>(parts: &FormParts<'a>, n: usize) -> Part<'a>
     requires { (n ≤ most_openings) × PartsAgree n (lists_of parts.now) × (0 < length parts.now.lives.now) }
     ensures said { part_said result ≡ first_part n (lists_of parts.now) }
-    ensures few { IfSome result.cover (λ c. length c.holders.now < 4294967296) }
     ensures marked { PricesMarked result.prices }
 {
     let cover = cover_first(parts);

@@ -12,6 +12,7 @@ use line_writing::output::Out;
 use part_writing::put_values;
 
 // Puts the line of a count where it is good, else the number past its range, which no reader takes.
+// Kept with a flag: it picks a number, and not one of two bodies.
 pub fn put_count(out: &mut Out, key: &[u8], n: usize, most: u32, good: bool)
     requires n_bound { good ≡ true → n ≤ most }
     requires n_in_bounds { Room out.old (line key.now (cond good n (suc most))) }
@@ -54,8 +55,7 @@ pub fn put_openings(out: &mut Out, openings: &[u32], fees: &[u32])
     requires fees_in_bounds { Room out.old (texts opening_text (paired openings.now fees.now)) }
     ensures { Puts out.old (texts opening_text (paired openings.now fees.now)) out.new }
 {
-    // Kept with a place, and no plainer as a zip, which would save one index: what is put is said by the place, and a zip's place is the length of what it yielded.
-    for (i, &step) in openings.iter().enumerate() {
-        put_opening(out, step, fees[i]);
+    for (step, fee) in openings.iter().zip(fees) {
+        put_opening(out, *step, *fee);
     }
 }

@@ -11,7 +11,8 @@ use form_facts::lists::FormParts;
 use jobs::Job;
 use line_writing::output::Out;
 
-// The lists of a form. Kept as lists side by side: the C interface hands them over so.
+// The lists of a form.
+// Kept as lists side by side: the C interface hands them over so.
 #[derive(Clone, Copy)]
 pub struct FormLists<'a> {
     pub horizon: u32,

@@ -44,7 +44,7 @@ use Rattle.hall_lines.specs.declared.LineRows.{LineRows}
 use Rattle.hall_lines.specs.declared.Stop.{Stop}
 use Rattle.hall_lines.specs.declared.Decision.{Decision}
 use Rattle.hall_lines.specs.Levels.{rows_in_lem, sums_in, term_in, mask_in, level_node, stop_node, LevelPut}
-use Rattle.hall_lines.specs.Lines.{looks, open_slot, stop_slot, Opening, Removing, Decided, OwnDue, Answers, itself, total_of, NoFound, StopFound, StayFound, OutFound, LineSettled, first_stop_lem, stop_due}
+use Rattle.hall_lines.specs.Lines.{stays_s, out_s, looks, open_slot, stop_slot, Opening, Removing, Decided, OwnDue, Answers, itself, total_of, NoFound, StopFound, StayFound, OutFound, LineSettled, first_stop_lem, stop_due}
 use Rattle.hall_lines.proofs.Levels.{levels_none, level_same, at_plain}
 
 -- ---- a node below, tested
@@ -326,14 +326,12 @@ module _ {sheet : HeldSheet} {ds : List (List Bool)} {tb : LineTables} {o : Line
       }
 
       -- what is found where the next holding part stays and the node below is walked on
-      pub stays_some : (set y total : ℕ) → set ≡ stays_set → h < inf → stays_sum ≡ y → open_s limit (rest + h) (sum_where h stays_sum) s ≡ Sum y → total ≡ rest + h + y
-          → StayFound sheet ds tb o (looks o w') at paid p limit rest s (Some (record { stop = record { next = p.next + 1; shut = set; removed = p.removed * 2; sums = y; term = h }; total = total }))
-      stays_some set y total k l e f g =
+      pub stays_some : (set y total : ℕ) (stop : Stop) → set ≡ stays_set → stop ≡ stays_s p set y h → h < inf → stays_sum ≡ y → open_s limit (rest + h) (sum_where h stays_sum) s ≡ Sum y → total ≡ rest + h + y
+          → StayFound sheet ds tb o (looks o w') at paid p limit rest s (Some (record { stop = stop; total = total }))
+      stays_some set y total stop k n l e f g =
           let more = more_blocks before removed false in
           let step = goes_looked false at_stop (stays_slot at_stop before removed stays_set stays_sum h) w' (stays_goes at_stop b refl re.left stays_set h stays_sum refl term refl l stays_low) refl rec in
-          let stop : Stop = record { next = p.next + 1; shut = set; removed = p.removed * 2; sums = y; term = h } in
-          let on = subst (λ (j : ℕ). Goes false (stop_slot sheet ds tb (looks o w') at paid p) (stop_slot sheet more tb (looks o w') at paid (record { next = p.next + 1; shut = j; removed = p.removed * 2; sums = y; term = h }))) (sym k)
-          (subst (λ (j : ℕ). Goes false (stop_slot sheet ds tb (looks o w') at paid p) (stop_slot sheet more tb (looks o w') at paid (record { next = p.next + 1; shut = stays_set; removed = p.removed * 2; sums = j; term = h }))) e step) in
+          let is = n ∙ (λ i. stays_s p (k i) (sym e i) h) in
           record {
             h = h;
             y = stays_sum;
@@ -342,7 +340,10 @@ module _ {sheet : HeldSheet} {ds : List (List Bool)} {tb : LineTables} {o : Line
             due = stays_own;
             answers = answers_some total_of limit (rest + h) (sum_where h stays_sum) s y (record { stop = stop; total = total }) f g;
             kept = stop_looked;
-            goes = λ q z. let is : record { stop = stop; total = total } ≡ q = cc in subst (λ (q : Decision). (q.stop.next ≡ p.next + 1) × ((ds' : List (List Bool)) × Goes false (stop_slot sheet ds tb (looks o w') at paid p) (stop_slot sheet ds' tb (looks o w') at paid q.stop))) is (refl, (more, on));
+            goes = λ q z.
+                let at_q : record { stop = stop; total = total } ≡ q = cc in
+                subst (λ (q : Decision). (q.stop.next ≡ p.next + 1) × ((ds' : List (List Bool)) × Goes false (stop_slot sheet ds tb (looks o w') at paid p) (stop_slot sheet ds' tb (looks o w') at paid q.stop))) at_q
+                (ap (λ (q : Stop). q.next) n, (more, subst (λ (q : Stop). Goes false (stop_slot sheet ds tb (looks o w') at paid p) (stop_slot sheet more tb (looks o w') at paid q)) (sym is) step));
           }
 
   -- ---- removed
@@ -376,15 +377,16 @@ module _ {sheet : HeldSheet} {ds : List (List Bool)} {tb : LineTables} {o : Line
     }
 
     -- what is found where the next holding part is removed and the node below is walked on
-    pub out_some : {total : ℕ} → Answers itself limit (rest + (price + p.term)) (Sum p.sums) s (Some total)
-        → OutFound sheet ds tb o at paid p limit rest s (Some (record { stop = record { next = p.next + 1; shut = p.shut; removed = p.removed * 2 + 1; sums = p.sums; term = p.term }; total = total }))
-    out_some {total} f =
+    pub out_some : {total : ℕ} {stop : Stop} → stop ≡ out_s p → Answers itself limit (rest + (price + p.term)) (Sum p.sums) s (Some total) → OutFound sheet ds tb o at paid p limit rest s (Some (record { stop = stop; total = total }))
+    out_some {total} {stop} n f =
         let is = f.opened total refl in
-        let stop : Stop = record { next = p.next + 1; shut = p.shut; removed = p.removed * 2 + 1; sums = p.sums; term = p.term } in
         record {
           due = out_own;
           answers = answers_some total_of limit (rest + (price + p.term)) (Sum p.sums) s is.0 (record { stop = stop; total = total }) is.1 is.2;
-          goes = λ q z. let is : record { stop = stop; total = total } ≡ q = cc in subst (λ (q : Decision). (q.stop.next ≡ p.next + 1) × ((ds' : List (List Bool)) × Goes true at_stop (stop_slot sheet ds' tb o at (paid + price) q.stop))) is (refl, (more_blocks before removed true, outs));
+          goes = λ q z.
+              let at_q : record { stop = stop; total = total } ≡ q = cc in
+              subst (λ (q : Decision). (q.stop.next ≡ p.next + 1) × ((ds' : List (List Bool)) × Goes true at_stop (stop_slot sheet ds' tb o at (paid + price) q.stop))) at_q
+              (ap (λ (q : Stop). q.next) n, (more_blocks before removed true, subst (λ (q : Stop). Goes true at_stop (stop_slot sheet (more_blocks before removed true) tb o at (paid + price) q)) (sym n) outs));
         }
 
 -- ---- a stop whose removals are decided

@@ -1,5 +1,5 @@
 -- What the functions of a line ask and find: at an opening no stop and a stop, at a stop not removed and removed, and a stop whose removals are decided.
-use Rattle.std.specs.Prelude.{ℕ, ◌+◌, ◌<◌, ◌≤◌, ◌≡◌, Bool, true, false, List, Option, Some, None, length, get_or}
+use Rattle.std.specs.Prelude.{ℕ, ◌+◌, ◌*◌, ◌<◌, ◌≤◌, ◌≡◌, Bool, true, false, List, Option, Some, None, length, get_or}
 use Rattle.branch.specs.declared.Bound.{Bound}
 use Rattle.branch.specs.declared.Bound.TheVariants.{Missing, Sum}
 use Rattle.branch.specs.Search.{snoc}
@@ -10,6 +10,7 @@ use Rattle.held_rows.specs.Held.{HeldSheet, held, held_bound}
 use Rattle.held_lanes.specs.Places.{top_place, removal_place}
 use Rattle.walk.specs.declared.Search.{Search}
 use Rattle.walk.specs.State.{open_s}
+use Rattle.held_nodes.specs.declared.Node.{Node}
 use Rattle.held_nodes.specs.State.{best_in}
 use Rattle.hall_nodes.specs.Lines.{Slot, Given, Goes, SlotKept, no_blocks_lem, yes_blocks}
 use Rattle.hall_lines.specs.declared.LineTables.{LineTables}
@@ -29,13 +30,17 @@ looks o w = record { w = w; v = o.v; n = o.n }
 
 -- ---- a line as a slot of the hall
 
+-- a line as a slot, with a node, its part sums and its term
+abbrev pub slot_with : HeldSheet → List (List Bool) → LineTables → LineRows → Node → ℕ → ℕ → Slot
+slot_with sheet ds tb o p sums term = record { sheet = sheet; blocks = ds; t = tb.t; u = tb.u; w = o.w; v = o.v; node = p; sums = sums; term = term }
+
 -- a line as a slot at a level
 abbrev pub open_slot : HeldSheet → List (List Bool) → LineTables → LineRows → ℕ → ℕ → Slot
-open_slot sheet ds tb o at paid = record { sheet = sheet; blocks = ds; t = tb.t; u = tb.u; w = o.w; v = o.v; node = level_node (held sheet) o.n at paid; sums = sums_in o.n at; term = term_in o.n at }
+open_slot sheet ds tb o at paid = slot_with sheet ds tb o (level_node (held sheet) o.n at paid) (sums_in o.n at) (term_in o.n at)
 
 -- a line as a slot at a stop behind the level
 abbrev pub stop_slot : HeldSheet → List (List Bool) → LineTables → LineRows → ℕ → ℕ → Stop → Slot
-stop_slot sheet ds tb o at paid p = record { sheet = sheet; blocks = ds; t = tb.t; u = tb.u; w = o.w; v = o.v; node = stop_node o.n at paid p; sums = p.sums; term = p.term }
+stop_slot sheet ds tb o at paid p = slot_with sheet ds tb o (stop_node o.n at paid p) p.sums p.term
 
 -- the line is given at a level, and an opening is left
 pub record Opening (sheet : HeldSheet) (ds : List (List Bool)) (tb : LineTables) (o : LineRows) (at paid : ℕ) : Type 0 where
@@ -87,6 +92,14 @@ pub record NoFound (sheet : HeldSheet) (ds : List (List Bool)) (tb : LineTables)
 -- a stop at the opening, before any removal
 abbrev pub first_stop_lem : List ℕ → List Level → ℕ → Stop
 first_stop_lem u n at = record { next = 0; shut = 0; removed = 0; sums = sums_in n at; term = get_or u (top_place (at + 1)) 0 }
+
+-- the stop where the next holding part is not removed: shut to the lanes of the set, with the part sums y and the term h
+abbrev pub stays_s : Stop → ℕ → ℕ → ℕ → Stop
+stays_s p set y h = record { next = p.next + 1; shut = set; removed = p.removed * 2; sums = y; term = h }
+
+-- the stop where it is removed
+abbrev pub out_s : Stop → Stop
+out_s p = record { next = p.next + 1; shut = p.shut; removed = p.removed * 2 + 1; sums = p.sums; term = p.term }
 
 -- a stop's fee and its term
 abbrev pub stop_due : LineTables → ℕ → ℕ

@@ -1,12 +1,12 @@
 // A line of a hall at its own nodes. Beside the line's rows a table has for each number of openings decided, a level, the rows, part sums, term and stops there. A decision writes the next level and none before it.
 #![tactic(auto)]
 
-ghost use Rattle.std.specs.Prelude.{◌≡◌, List, Bool, ℕ, ◌+◌, ◌<◌, ◌≤◌};
+ghost use Rattle.std.specs.Prelude.{◌≡◌, List, Bool, ℕ, ◌+◌, ◌*◌, ◌^◌, ◌<◌, ◌≤◌};
 ghost use Rattle.branch.specs.declared.Bound.TheVariants.{Sum};
 ghost use Rattle.held_rows.specs.Held.{HeldSheet};
 ghost use Rattle.hall_lines.specs.declared.LineRows.{LineRows};
 ghost use Rattle.hall_lines.specs.Room.{most_own};
-ghost use Rattle.hall_lines.specs.Lines.{tables_by, looks, first_stop_lem, Opening, Removing, Decided, Answers, itself, NoFound, StopFound, StayFound, OutFound, LineSettled};
+ghost use Rattle.hall_lines.specs.Lines.{tables_by, looks, first_stop_lem, stays_s, out_s, Opening, Removing, Decided, Answers, itself, NoFound, StopFound, StayFound, OutFound, LineSettled};
 
 pub mod line_test;
 
@@ -55,6 +55,34 @@ pub struct Stop {
     pub removed: usize,
     pub sums: u64,
     pub term: u64,
+}
+
+impl Stop {
+    // The next holding part is not removed: the stop is shut to these lanes then, and has these part sums and this term.
+    fn stays(self, shut: usize, sums: u64, term: u64) -> Stop
+        requires { (self.next < 16) × (self.removed * 2 < 2 ^ 64) }
+        ensures { result ≡ stays_s self shut sums term }
+    {
+        Stop {
+            next: self.next + 1,
+            shut,
+            removed: self.removed * 2,
+            sums,
+            term,
+        }
+    }
+
+    // The next holding part is removed: lanes, part sums and term are as before.
+    fn out(self) -> Stop
+        requires { (self.next < 16) × (self.removed * 2 + 1 < 2 ^ 64) }
+        ensures { result ≡ out_s self }
+    {
+        Stop {
+            next: self.next + 1,
+            removed: self.removed * 2 + 1,
+            ..self
+        }
+    }
 }
 
 impl LineTest {
@@ -172,13 +200,7 @@ pub fn line_stays(
         return None;
     };
     let term = h as u64;
-    let stop = Stop {
-        next: p.next + 1,
-        shut,
-        removed: p.removed * 2,
-        sums,
-        term,
-    };
+    let stop = p.stays(shut, sums, term);
     let total = test.rest + term + sums;
     Some(Decision { stop, total })
 }
@@ -191,11 +213,7 @@ pub fn line_out(u: &[u32; HELD], p: Stop, test: LineTest) -> Option<Decision>
 {
     let due = u64::from(u[REMOVALS + p.next]) + p.term;
     let total = test.opened(due, p.sums)?;
-    let stop = Stop {
-        next: p.next + 1,
-        removed: p.removed * 2 + 1,
-        ..p
-    };
+    let stop = p.out();
     Some(Decision { stop, total })
 }
 

@@ -1,16 +1,14 @@
 -- Sets of lanes as numbers: four lanes at a time, and two sets together. By halving.
-use Prim.Native.Nat.{ℕ, zero, suc, ◌+◌, ◌-◌, ◌*◌, ◌/◌, ◌%◌, ◌<◌, max}
+use Prim.Native.Nat.{ℕ, zero, suc, ◌+◌, ◌*◌, ◌/◌, ◌%◌, ◌^◌, ◌<◌, max}
 use mathlib.Core.Path.{◌≡◌, refl, sym, ap, ap₂, ◌∙◌}
 use mathlib.Core.Bool.{Bool, true, false, cond, not, ◌&&◌, ◌||◌}
 use mathlib.Core.List.{List}
 use native.Mathlib.Omega.{arith}
-use native.Mathlib.Decide.{dec_lt}
 use lib.Bits.{bit_or, or_step}
 use lib.Dec.{eqb}
 use lib.ListN.{length, get_or}
 use Rattle.branch.specs.Search.{snoc}
 use Rattle.model.specs.Decisions.{accessible}
-use Rattle.least.specs.Filled.{FilledBy}
 use Rattle.held_rows.proofs.Seen.{accessible_stays}
 use Rattle.lane_rows.specs.Layout.{inf}
 use Rattle.held_lanes.specs.Places.{bit_at, mask_of}
@@ -31,6 +29,27 @@ bit_low (suc zero) s h = let z : s % 16 / 2 % 2 ≡ s / 2 % 2 = omega arith in a
 bit_low (suc (suc zero)) s h = let z : s % 16 / 2 / 2 % 2 ≡ s / 2 / 2 % 2 = omega arith in ap (λ (x : ℕ). eqb x 1) z
 bit_low (suc (suc (suc zero))) s h = let z : s % 16 / 2 / 2 / 2 % 2 ≡ s / 2 / 2 / 2 % 2 = omega arith in ap (λ (x : ℕ). eqb x 1) z
 bit_low (suc (suc (suc (suc i)))) s h = absurd (omega arith)
+
+-- a lane's bit, in the number that is left where the fours before its own are used up
+left_over : (k i n s : ℕ) → k < 4 → n ≡ k * 4 + i → bit_at i (s / 2 ^ (k * 4)) ≡ bit_at n s
+left_over zero i n s h e =
+    let z : s / 1 ≡ s = omega arith in
+    let y : i ≡ n = omega arith in
+    ap₂ bit_at y z
+left_over (suc zero) i n s h e = let y : 4 + i ≡ n = omega arith in sym (bit_four i s) ∙ ap (λ (x : ℕ). bit_at x s) y
+left_over (suc (suc zero)) i n s h e =
+    let z : s / 256 ≡ s / 16 / 16 = omega arith in
+    let y : 4 + (4 + i) ≡ n = omega arith in
+    ap (bit_at i) z ∙ sym (bit_four i (s / 16)) ∙ sym (bit_four (4 + i) s) ∙ ap (λ (x : ℕ). bit_at x s) y
+left_over (suc (suc (suc zero))) i n s h e =
+    let z : s / 4096 ≡ s / 16 / 16 / 16 = omega arith in
+    let y : 4 + (4 + (4 + i)) ≡ n = omega arith in
+    ap (bit_at i) z ∙ sym (bit_four i (s / 16 / 16)) ∙ sym (bit_four (4 + i) (s / 16)) ∙ sym (bit_four (4 + (4 + i)) s) ∙ ap (λ (x : ℕ). bit_at x s) y
+left_over (suc (suc (suc (suc k)))) i n s h e = absurd (omega arith)
+
+-- a lane's bit, in its own four
+pub bit_in_four : (q s : ℕ) → q < 16 → bit_at (q % 4) (s / 2 ^ (q / 4 * 4) % 16) ≡ bit_at q s
+bit_in_four q s h = bit_low (q % 4) (s / 2 ^ (q / 4 * 4)) (omega arith) ∙ left_over (q / 4) (q % 4) q s (omega arith) (omega arith)
 
 -- no lane belongs to the empty set
 pub bit_zero : (q : ℕ) → bit_at q 0 ≡ false
@@ -65,22 +84,6 @@ shut_more needs rs q a b e f = bit_or_lem q a b ∙ ap₂ (λ (x y : Bool). x ||
     go true true = refl
     go true false = refl
     go false y = refl
-
--- four lanes more are written
-pub four_more : (f g : ℕ → ℕ) (n : ℕ) (a b c : List ℕ) → ((i : ℕ) → i < 4 → g i ≡ f (n + i)) → FilledBy (λ (q : ℕ). q) f n a b → FilledBy (λ (i : ℕ). n + i) g 4 b c → FilledBy (λ (q : ℕ). q) f (n + 4) a c
-four_more f g n a b c e x y =
-    record {
-      size = y.size ∙ x.size;
-      done = λ q l. go q l (dec_lt q n);
-      rest = λ q h. y.rest q (λ i l z. h (n + i) (omega arith) z) ∙ x.rest q (λ i l z. h i (omega arith) z);
-    }
-  where
-    go : (q : ℕ) → q < n + 4 → Dec (q < n) → get_or c q 0 ≡ f q
-    go q l (yes h) = y.rest q (λ i m z. omega (arith, z)) ∙ x.done q h
-    go q l (no h) =
-        let z : n + (q - n) ≡ q = omega (arith, h) in
-        let i : q - n < 4 = omega (arith, h) in
-        ap (λ (k : ℕ). get_or c k 0) (sym z) ∙ y.done (q - n) i ∙ e (q - n) i ∙ ap f z
 
 -- a choice by the mask is a choice by the set
 pub pick_mask : (s q x y : ℕ) → cond (eqb (mask_of s q) 0) x y ≡ cond (bit_at q s) y x

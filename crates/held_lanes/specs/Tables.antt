@@ -4,7 +4,7 @@ use Rattle.model.specs.Limits.{most_openings, most_parts}
 use Rattle.lane_rows.specs.Layout.{lane_count_lem, mark_count, top, inf, block_size, stack_size}
 use Rattle.lane_rows.specs.Tables.{Coded}
 use Rattle.held_rows.specs.Held.{HeldSheet, no_lane, needs_of_lem, held, class_fee, largest_to, last_for}
-use Rattle.held_lanes.specs.Places.{bit_at, mask_of, most_to, offset, level_place, class_place, top_place, removal_place, need_lanes_place, need_count_place, need_class_place, lead_place, mask_place, classes_place, holds_place, held_size, last_place, pending_place, aside_size}
+use Rattle.held_lanes.specs.Places.{bit_at, mask_of, most_to, offset, level_place, class_place, top_place, removal_place, need_lanes_place, need_count_place, need_class_place, lead_place, mask_place, classes_place, holds_place, held_size, last_place, pending_place}
 
 -- a class needs the holding part b
 abbrev pub needing : HeldSheet → ℕ → ℕ → Bool
@@ -42,7 +42,6 @@ Lasts sheet v bs r = (c : ℕ) → c < length sheet.needs → get_or v (last_pla
 -- what spreading a set over the lanes asks
 pub record SpreadAsks (fours : ℕ) (u : List ℕ) (acc : List ℕ) : Type 0 where
   pub few : fours ≤ 4
-  pub size : length u ≡ held_size
   pub masks : Masks u
   pub lanes : lane_count_lem ≤ length acc
 
@@ -61,9 +60,7 @@ shut_lane w one two set q = cond (bit_at q set) (get_or w (two + q) 0) (get_or w
 pub record ShutAsks (wide : ℕ) (u w : List ℕ) (one two : ℕ) : Type 0 where
   pub some : 0 < wide
   pub narrow : wide ≤ lane_count_lem
-  pub size : length u ≡ held_size
   pub masks : Masks u
-  pub stack : length w ≡ stack_size
   pub first : one + lane_count_lem ≤ stack_size
   pub second : two + lane_count_lem ≤ stack_size
   pub most : (q : ℕ) → q < wide → (get_or w (one + q) 0 ≤ inf) × (get_or w (two + q) 0 ≤ inf)
@@ -73,27 +70,20 @@ abbrev pub shut_row : List ℕ → ℕ → ℕ → ℕ → ℕ
 shut_row v rows set q = cond (bit_at q set) inf (get_or v (pending_place rows q) 0)
 
 -- what writing it asks
-pub record StopAsks (wide : ℕ) (u v w : List ℕ) (rows : ℕ) : Type 0 where
+pub record StopAsks (wide : ℕ) (u : List ℕ) (rows : ℕ) : Type 0 where
   pub some : 0 < wide
   pub narrow : wide ≤ lane_count_lem
-  pub size : length u ≡ held_size
   pub masks : Masks u
-  pub aside : length v ≡ aside_size
-  pub stack : length w ≡ stack_size
   pub few : rows < mark_count
 
 -- what a look at the term of one class asks: the level's terms start at a place
-pub record ClassAsks (u v : List ℕ) (level r c : ℕ) : Type 0 where
-  pub size : length u ≡ held_size
-  pub aside : length v ≡ aside_size
+pub record ClassAsks (v : List ℕ) (level r c : ℕ) : Type 0 where
   pub row : r ≤ most_openings
   pub class : c < lane_count_lem
   pub inside : level + get_or v (last_place r c) 0 < block_size
 
 -- what a look at the terms of level j asks, with the last marks of row r
 pub record TermAsks (u v : List ℕ) (j r : ℕ) : Type 0 where
-  pub size : length u ≡ held_size
-  pub aside : length v ≡ aside_size
   pub few : get_or u classes_place 0 ≤ lane_count_lem
   pub near : j ≤ most_openings
   pub row : r ≤ most_openings
@@ -108,9 +98,7 @@ abbrev pub noted : List ℕ → List ℕ → ℕ → ℕ → ℕ → ℕ → ℕ
 noted u v at rows set c = cond (bit_at (get_or u (lead_place c) 0) set) (get_or v (last_place (rows - 1) c) 0) (offset at c)
 
 -- what noting them asks
-pub record NoteAsks (u v : List ℕ) (at rows : ℕ) : Type 0 where
-  pub size : length u ≡ held_size
-  pub aside : length v ≡ aside_size
+pub record NoteAsks (u : List ℕ) (at rows : ℕ) : Type 0 where
   pub masks : Masks u
   pub few : get_or u classes_place 0 ≤ lane_count_lem
   pub near : at ≤ most_openings

@@ -1,6 +1,6 @@
 // Lanes where parts hide behind others: sets of lanes, the terms by classes, the last mark of each class.
-// Kept as a loop in pick_row and as tests in shut_row and stop_row: with lane_rows::turn and by_fours in their place a node of the job 36_week16_heads_d60 takes 24.6 ns, with these 22.3. The other loops have their reasons beside them.
-// Kept as slices: the rows of pick_row, of which callers hand parts of the stack and of what stands beside it, and the lanes, for which an array would ask those outside for that very length. Kept as slices of a length that is asked in spread, class_term, opening_term, removal_term, note_lasts, shut_lanes and put_lanes, though their callers have arrays: what is asked of the tables is one record in each contract, which the proofs of the walk hand on whole; array types in its place are not tried.
+// Kept as tests in shut_row and stop_row: with lane_rows::by_fours in their place, and turn in pick_row, a node of the job 36_week16_heads_d60 takes 24.6 ns, with these 22.3; turn alone is compiled to the code of a loop.
+// Kept as slices: the rows of pick_row, of which callers hand parts of the stack and of what stands beside it, and the lanes, for which an array would ask those outside for that very length.
 // Kept as parameters side by side, the tables, the stack and what goes with it (t, u, v, w): each function reads some of them and writes others, so a struct of them would be lent as a whole where one part is written.
 #![tactic(auto)]
 
@@ -8,10 +8,10 @@ ghost use Rattle.std.specs.Prelude.{◌≡◌, cond, ℕ, ◌+◌, ◌*◌, ◌^
 ghost use Rattle.least.specs.Filled.{FilledBy};
 ghost use Rattle.lane_rows.specs.Layout.{lane_count_lem, lanes_in, row_place};
 ghost use Rattle.lane_rows.specs.Rows.{Turned, sum_lanes};
-ghost use Rattle.held_lanes.specs.Places.{held_size, mask_of, most_to, need_count_place, need_class_place, classes_place, last_place};
+ghost use Rattle.held_lanes.specs.Places.{mask_of, most_to, need_count_place, need_class_place, classes_place, last_place};
 ghost use Rattle.held_lanes.specs.Tables.{SpreadAsks, PickAsks, ShutAsks, shut_lane, StopAsks, shut_row, ClassAsks, TermAsks, term_of, NoteAsks, noted};
 
-use lane_rows::{BLOCK_ROWS, FOURS, INF, LANES, STACK, TABLES, row_of, store_row, total};
+use lane_rows::{BLOCK_ROWS, FOURS, INF, LANES, STACK, TABLES, row_of, store_row, total, turn};
 use least::MARKS;
 use model::{OPENINGS, PARTS};
 
@@ -70,29 +70,15 @@ pub const ASIDE: usize = READY + MARKS;
 // How many decisions the name of a node has at most: a stop for each opening, and at each stop the removal of each part.
 pub const NAMES: usize = OPENINGS * (PARTS + 1);
 
-// Four numbers, from place m on, as the lanes from `at` on.
-// Kept as a loop over places: with copy_from_slice the walk with holders is compiled to 1,465 instructions, with this loop to 1,103, a third less in the loop whose time a node is the bar; a time of its own was not taken.
-fn put_four(u: &[u32], m: usize, at: usize, acc: &mut [u32])
-    requires { (m + 4 ≤ length u.now) × (at + 4 ≤ length acc.old) × (m ≤ held_size) × (at ≤ lane_count_lem) }
-    ensures { FilledBy (λ (i : ℕ). at + i) (λ (i : ℕ). get_or u.now (m + i) 0) 4 acc.old acc.new }
-{
-    for i in 0..4 {
-        acc[at + i] = u[m + i];
-    }
-}
-
-// The lanes of a set: INF for each of them, 0 for the others.
-// Kept as a loop over fours: the set is used up, four lanes at a time, as they are written.
-pub fn spread(fours: usize, u: &[u32], set: usize, acc: &mut [u32])
+// The lanes of a set: INF for each of them, 0 for the others. A lane's number is read off those of its four.
+pub fn spread(fours: usize, u: &[u32; HELD], set: usize, acc: &mut [u32])
     requires { SpreadAsks fours u.now acc.old }
     ensures { Turned (fours * 4) (mask_of set) acc.old acc.new }
 {
-    let mut s = set;
-    for k in 0..fours {
-        let m = MASKS + s % FOUR_SETS * 4;
-        put_four(u, m, k * 4, acc);
-        s = s / FOUR_SETS;
-    }
+    turn(fours, acc, |q, _| {
+        let four = (set >> (q / 4 * 4)) % FOUR_SETS;
+        u[MASKS + four * 4 + q % 4]
+    });
 }
 
 // The second number where there is a mask, else the first.
@@ -108,13 +94,18 @@ pub fn pick_row(fours: usize, yes: &[u32], no: &[u32], acc: &mut [u32])
     requires { PickAsks fours yes.now no.now acc.old }
     ensures { Turned (fours * 4) (λ (q : ℕ). cond (eqb (get_or acc.old q 0) 0) (get_or yes.now q 0) (get_or no.now q 0)) acc.old acc.new }
 {
-    for p in 0..fours * 4 {
-        acc[p] = pick(acc[p], yes[p], no[p]);
-    }
+    turn(fours, acc, |p, mask| pick(mask, yes[p], no[p]));
 }
 
 // The sum of so many lanes of two rows of the stack: the lanes of the set have the number of the second.
-fn shut_lanes(fours: usize, u: &[u32], w: &[u32], yes: usize, no: usize, set: usize) -> u64
+fn shut_lanes(
+    fours: usize,
+    u: &[u32; HELD],
+    w: &[u32; STACK],
+    yes: usize,
+    no: usize,
+    set: usize,
+) -> u64
     requires { ShutAsks (fours * 4) u.now w.now yes no }
     ensures { result ≡ sum_lanes (fours * 4) (shut_lane w.now yes no set) }
 {
@@ -125,8 +116,15 @@ fn shut_lanes(fours: usize, u: &[u32], w: &[u32], yes: usize, no: usize, set: us
 }
 
 // So many lanes of the row of a stop, above so many rows, from what it costs where it is allowed: Missing for the lanes of the set.
-fn put_lanes(fours: usize, u: &[u32], v: &[u32], w: &mut [u32], rows: usize, set: usize)
-    requires { StopAsks (fours * 4) u.now v.now w.old rows }
+fn put_lanes(
+    fours: usize,
+    u: &[u32; HELD],
+    v: &[u32; ASIDE],
+    w: &mut [u32; STACK],
+    rows: usize,
+    set: usize,
+)
+    requires { StopAsks (fours * 4) u.now rows }
     ensures { FilledBy (row_place rows) (shut_row v.now rows set) (fours * 4) w.old w.new }
 {
     let mut acc = [0; LANES];
@@ -171,7 +169,7 @@ pub fn stop_row(
     rows: usize,
     set: usize,
 )
-    requires { StopAsks (lanes_in t.now) u.now v.now w.old rows }
+    requires { StopAsks (lanes_in t.now) u.now rows }
     ensures { FilledBy (row_place rows) (shut_row v.now rows set) (lanes_in t.now) w.old w.new }
 {
     let fours = t[FOURS];
@@ -201,8 +199,8 @@ pub fn number(s: &[u32], i: usize) -> usize
 }
 
 // The term of class c at level j, whose numbers start at `level`, with the last marks of row r.
-fn class_term(u: &[u32], v: &[u32], level: usize, r: usize, c: usize) -> usize
-    requires { ClassAsks u.now v.now level r c }
+fn class_term(u: &[u32; HELD], v: &[u32; ASIDE], level: usize, r: usize, c: usize) -> usize
+    requires { ClassAsks v.now level r c }
     ensures { result ≡ get_or u.now (level + get_or v.now (last_place r c) 0) 0 }
 {
     let o = number(v, r * LANES + c);
@@ -210,40 +208,43 @@ fn class_term(u: &[u32], v: &[u32], level: usize, r: usize, c: usize) -> usize
 }
 
 // The largest term of the classes at level j, with the last marks of row r.
-// Kept as a loop, as removal_term: tried as a map with max, of which the library says a `reduce` over the list of the terms; that each call is allowed follows from the range, and the step from a list to most_to, which both contracts name, stands in held_tables (max_all), which cites this crate; with that lemma moved here it is not tried.
-pub fn opening_term(u: &[u32], v: &[u32], j: usize, r: usize) -> usize
+pub fn opening_term(u: &[u32; HELD], v: &[u32; ASIDE], j: usize, r: usize) -> usize
     requires { TermAsks u.now v.now j r }
     ensures { result ≡ most_to (term_of u.now v.now j r) (get_or u.now classes_place 0) }
 {
     let level = row_of(j) * LANES;
-    let n = number(u, CLASSES);
-    let mut g = 0;
-    for c in 0..n {
-        g = g.max(class_term(u, v, level, r, c));
-    }
-    g
+    (0..number(u, CLASSES))
+        .map(|c| class_term(u, v, level, r, c))
+        .max()
+        .unwrap_or(0)
 }
 
 // The larger of g and of the terms of the classes that need the holding part b.
-pub fn removal_term(u: &[u32], v: &[u32], j: usize, r: usize, b: usize, g: usize) -> usize
+// Kept as a cast, as in number.
+pub fn removal_term(
+    u: &[u32; HELD],
+    v: &[u32; ASIDE],
+    j: usize,
+    r: usize,
+    b: usize,
+    g: usize,
+) -> usize
     requires term_asks { TermAsks u.now v.now j r }
     requires b_lt_lane_count { (b < lane_count_lem) × (get_or u.now (need_count_place b) 0 ≤ lane_count_lem) × ((i : ℕ) → i < get_or u.now (need_count_place b) 0 → get_or u.now (need_class_place b i) 0 < get_or u.now classes_place 0) }
     ensures { result ≡ max g (most_to (λ (i : ℕ). term_of u.now v.now j r (get_or u.now (need_class_place b i) 0)) (get_or u.now (need_count_place b) 0)) }
 {
     let level = row_of(j) * LANES;
-    let n = number(u, NEED_COUNTS + b);
-    let mut h = g;
-    for i in 0..n {
-        let c = number(u, NEED_CLASSES + (b * LANES + i));
-        h = h.max(class_term(u, v, level, r, c));
-    }
-    h
+    let at = NEED_CLASSES + b * LANES;
+    u[at..at + number(u, NEED_COUNTS + b)]
+        .iter()
+        .map(|c| class_term(u, v, level, r, *c as usize))
+        .fold(g, usize::max)
 }
 
 // The last mark of each class above so many rows, where a stop leaves `at` openings decided: the classes that it is shut to keep theirs.
 // Kept as a loop over places: the row that is written and the one above which it stands are parts of one array, so slices of both would be split off first, and a class is asked for by its number besides. Kept as a cast: a usize may be more than a u32 holds, so the library has no From; there are 1,040 offsets at most.
-pub fn note_lasts(u: &[u32], v: &mut [u32], at: usize, rows: usize, set: usize)
-    requires { NoteAsks u.now v.old at rows }
+pub fn note_lasts(u: &[u32; HELD], v: &mut [u32; ASIDE], at: usize, rows: usize, set: usize)
+    requires { NoteAsks u.now at rows }
     ensures { FilledBy (last_place rows) (noted u.now v.old at rows set) (get_or u.now classes_place 0) v.old v.new }
 {
     let mut m = [0; LANES];

@@ -1,7 +1,7 @@
 -- What is kept stays given: frames one after the other, and a node's rows, marks and removals under a frame.
 use Prim.Native.Nat.{ℕ, ◌+◌, ◌-◌, ◌<◌, ◌≤◌}
 use mathlib.Core.Path.{◌≡◌, refl, sym, ap, subst, ◌∙◌}
-use mathlib.Core.Bool.{Bool, cond}
+use mathlib.Core.Bool.{Bool, true, false, cond, false≢true}
 use mathlib.Core.List.{List}
 use native.Mathlib.Omega.{arith}
 use lib.ListN.{length, get_or, set, length-set}
@@ -18,7 +18,7 @@ use Rattle.held_stops.specs.Stops.{Pended}
 use Rattle.walk.specs.State.{view_of}
 use Rattle.walk.specs.declared.Search.{Search}
 use Rattle.held_nodes.specs.declared.Node.{Node}
-use Rattle.held_nodes.specs.State.{removals_in, best_in, view, written, sees_at, Written, Pending, At, Aside, Frame}
+use Rattle.held_nodes.specs.State.{removals_in, best_in, view, written, sees_at, Written, Pending, StopAt, OpenAt, At, Aside, Frame}
 use Rattle.held_nodes.proofs.Blocks.{blocks_same}
 
 -- where nothing moved, all that stands beside the stack is kept
@@ -97,14 +97,19 @@ written_kept {sheet} {bs} {t} {w} {w'} {v} {v'} {rows} {at} {m} few f a =
       blocks = blocks_same (held sheet) (removals_in v') (removals_in v) at m f.aside.removals ∙ a.blocks;
     }
 
--- what is given of a node
-unfoldable pub at_kept : {sheet : HeldSheet} {ds : List (List Bool)} {t u w w' v v' : List ℕ} {p : Node} {x g : ℕ} → Frame t w w' v v' p.rows (written p) → Pending t w' v' p → At sheet ds t u w v p x g → At sheet ds t u w' v' p x g
-at_kept {sheet} {ds} {t} {u} {w} {w'} {v} {v'} {p} {x} {g} f pe a =
+-- the node with other rows, owed or not, and with another stop's shut lanes and removals
+abbrev pub moved_n : Node → ℕ → Bool → ℕ → ℕ → Node
+moved_n p r o m k = record { at = p.at; rows = r; next = p.next; owed = o; shut = m; removed = k; spent = p.spent; mask = p.mask }
+
+-- it is given where what hangs on its being owed is
+abbrev pub at_moved : {sheet : HeldSheet} {ds : List (List Bool)} {t u w w' v v' : List ℕ} {p : Node} {x g : ℕ} → At sheet ds t u w v p x g → length v' ≡ length v → (r : ℕ) (o : Bool) (m k : ℕ) → Pending t w' v' (moved_n p r o m k)
+    → (o ≡ true → StopAt sheet ds t w' v' (moved_n p r o m k)) → (o ≡ false → OpenAt sheet ds t w' v' (moved_n p r o m k)) → At sheet ds t u w' v' (moved_n p r o m k) x g
+at_moved a z r o m k pending stop opening =
     record {
       tables = a.tables;
       holders = a.holders;
       fit = a.fit;
-      aside = f.aside.size ∙ a.aside;
+      aside = z ∙ a.aside;
       inside = a.inside;
       mask = a.mask;
       spent = a.spent;
@@ -113,25 +118,36 @@ at_kept {sheet} {ds} {t} {u} {w} {w'} {v} {v'} {p} {x} {g} f pe a =
       low = a.low;
       term = a.term;
       cheap = a.cheap;
-      pending = pe;
-      stop = λ o.
-          let s = a.stop o in
-          let k = subst (Frame t w w' v v' p.rows) (ap (λ (b : Bool). cond b (p.at - 1) p.at) o) f in
-          record {
-            bs = s.bs;
-            rs = s.rs;
-            same = s.same;
-            later = s.later;
-            before = written_kept a.holders.few k s.before;
-            price = s.price;
-            there = s.there;
-            odd = s.odd;
-            next = s.next;
-            removed = s.removed;
-            small = s.small;
-            shut = s.shut;
-          };
-      opening = λ o.
-          let k = subst (Frame t w w' v v' p.rows) (ap (λ (b : Bool). cond b (p.at - 1) p.at) o) f in
-          record { all = written_kept a.holders.few k (a.opening o).all; next = (a.opening o).next };
+      pending = pending;
+      stop = stop;
+      opening = opening;
     }
+
+-- at an opening that is its rows, written
+pub at_open : {sheet : HeldSheet} {ds : List (List Bool)} {t u w w' v v' : List ℕ} {p : Node} {x g : ℕ} → At sheet ds t u w v p x g → length v' ≡ length v → (r m k : ℕ) → Written sheet ds t w' v' r p.at p.mask → p.next ≡ held sheet → At sheet ds t u w' v' (moved_n p r false m k) x g
+at_open a z r m k wr n = at_moved a z r false m k (λ o. absurd (false≢true o)) (λ o. absurd (false≢true o)) (λ o. record { all = wr; next = n })
+
+-- what is given of a node
+unfoldable pub at_kept : {sheet : HeldSheet} {ds : List (List Bool)} {t u w w' v v' : List ℕ} {p : Node} {x g : ℕ} → Frame t w w' v v' p.rows (written p) → Pending t w' v' p → At sheet ds t u w v p x g → At sheet ds t u w' v' p x g
+at_kept {sheet} {ds} {t} {u} {w} {w'} {v} {v'} {p} {x} {g} f pe a =
+    at_moved a f.aside.size p.rows p.owed p.shut p.removed pe
+    (λ o.
+    let s = a.stop o in
+    let k = subst (Frame t w w' v v' p.rows) (ap (λ (b : Bool). cond b (p.at - 1) p.at) o) f in
+    record {
+      bs = s.bs;
+      rs = s.rs;
+      same = s.same;
+      later = s.later;
+      before = written_kept a.holders.few k s.before;
+      price = s.price;
+      there = s.there;
+      odd = s.odd;
+      next = s.next;
+      removed = s.removed;
+      small = s.small;
+      shut = s.shut;
+    })
+    (λ o.
+    let k = subst (Frame t w w' v v' p.rows) (ap (λ (b : Bool). cond b (p.at - 1) p.at) o) f in
+    record { all = written_kept a.holders.few k (a.opening o).all; next = (a.opening o).next })

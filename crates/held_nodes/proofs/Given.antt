@@ -18,7 +18,7 @@ use Rattle.held_rows.specs.Held.{HeldColumn, HeldSheet, plain, column_in, no_lan
 use Rattle.held_rows.proofs.Seen.{seen-length}
 use Rattle.held_rows.proofs.Sums.{fee_there, each_there}
 use Rattle.held_rows.proofs.Rows.{stack_at}
-use Rattle.held_lanes.specs.Places.{bit_at, aside_size}
+use Rattle.held_lanes.specs.Places.{bit_at}
 use Rattle.held_lanes.specs.Tables.{HeldTables, TermAsks, NoteAsks}
 use Rattle.held_stops.specs.Stops.{stop_lane, LooksAtStop}
 use Rattle.held_nodes.specs.State.{sees_at, Written}
@@ -63,7 +63,7 @@ term_there sheet ds x fit e = fees_there (lane_fee sheet ds) (part_lanes sheet) 
 
 -- ---- the rows of a stop
 
-module _ {sheet : HeldSheet} {bs : List (List Bool)} {t u w v : List ℕ} {rows at m : ℕ} (ta : Tables (plain sheet) t) (he : HeldTables sheet u) (size : length v ≡ aside_size) (wr : Written sheet bs t w v rows at m) where
+module _ {sheet : HeldSheet} {bs : List (List Bool)} {t u w v : List ℕ} {rows at m : ℕ} (ta : Tables (plain sheet) t) (he : HeldTables sheet u) (wr : Written sheet bs t w v rows at m) where
   -- the rows are few
   pub rows_few : (0 < rows) × (rows ≤ at + 1)
   rows_few = (wr.rows_are.some, omega (arith, wr.rows_are.few, wr.size))
@@ -86,7 +86,6 @@ module _ {sheet : HeldSheet} {bs : List (List Bool)} {t u w v : List ℕ} {rows 
         later = omega arith;
         allowed = subst (Looks t w rows) (sym z) (looks_at at (omega arith) (omega arith));
         shut = looks_at (at + 1) (omega arith) (omega arith);
-        size = he.size;
         masks = he.masks;
       }
 
@@ -96,8 +95,6 @@ module _ {sheet : HeldSheet} {bs : List (List Bool)} {t u w v : List ℕ} {rows 
       let few = ta.few in
       let r = rows_few in
       record {
-        size = he.size;
-        aside = size;
         few = omega (arith, he.classes, he.few);
         near = omega arith;
         row = omega (arith, r.0, r.1);
@@ -120,12 +117,10 @@ module _ {sheet : HeldSheet} {bs : List (List Bool)} {t u w v : List ℕ} {rows 
       }
 
   -- its marks
-  pub note_asks : at < length sheet.positions → NoteAsks u v (at + 1) rows
+  pub note_asks : at < length sheet.positions → NoteAsks u (at + 1) rows
   note_asks h =
       let few = ta.few in
       record {
-        size = he.size;
-        aside = size;
         masks = he.masks;
         few = omega (arith, he.classes, he.few);
         near = omega arith;

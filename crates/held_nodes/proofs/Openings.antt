@@ -103,8 +103,8 @@ module _ {sheet : HeldSheet} {ds : List (List Bool)} {t u w v : List ℕ} {p : N
     -- what is asked to look at it
     pub opening_asks : TermAsks u v (p.at + 1) (p.rows - 1) × Looks t w p.rows (p.at + 1) × (0 < p.rows)
     opening_asks = (
-      term_asks a.tables a.holders a.aside wr (p.at + 1) (omega arith) (omega arith),
-      looks_at a.tables a.holders a.aside wr (p.at + 1) (omega arith) (omega arith),
+      term_asks a.tables a.holders wr (p.at + 1) (omega arith) (omega arith),
+      looks_at a.tables a.holders wr (p.at + 1) (omega arith) (omega arith),
       wr.rows_are.some,
     )
 

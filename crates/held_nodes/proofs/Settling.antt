@@ -20,7 +20,7 @@ use Rattle.walk.specs.State.{bits}
 use Rattle.held_nodes.specs.declared.Node.{Node}
 use Rattle.held_nodes.specs.State.{blocks_of, removals_in, best_in, settled_n, written, sees_at, Written, Pending, StopAt, At, Aside, Frame, NodeSettled}
 use Rattle.held_nodes.proofs.Blocks.{blocks_same, blocks_stop}
-use Rattle.held_nodes.proofs.Frames.{aside_none, pended_kept}
+use Rattle.held_nodes.proofs.Frames.{aside_none, pended_kept, at_open}
 use Rattle.held_nodes.proofs.Given.{rows_few, owing_stop, note_asks}
 
 -- the blocks with one more
@@ -47,16 +47,16 @@ module _ {sheet : HeldSheet} {ds : List (List Bool)} {t u w v : List ℕ} {p : N
         record {
           later = s.later;
           near = omega (arith, a.inside);
-          owing = owing_stop a.tables a.holders a.aside s.before less;
+          owing = owing_stop a.tables a.holders s.before less;
           pended = pe o;
-          notes = subst (λ (k : ℕ). NoteAsks u v k p.rows) later (note_asks a.tables a.holders a.aside s.before less);
+          notes = subst (λ (k : ℕ). NoteAsks u k p.rows) later (note_asks a.tables a.holders s.before less);
         },
         omega (arith, s.small, h),
       )
 
   module _ {w' v' : List ℕ} (put : StopPut t w w' p.at p.rows p.shut) (nt : StopNoted t u w v v' p.at p.rows p.shut p.removed) where
     few : (0 < p.rows) × (p.rows ≤ 64) × (p.at ≤ 64)
-    few = let r = rows_few a.tables a.holders a.aside s.before in (r.0, omega (arith, r.1, s.later, a.inside, a.tables.few), omega (arith, a.inside, a.tables.few))
+    few = let r = rows_few a.tables a.holders s.before in (r.0, omega (arith, r.1, s.later, a.inside, a.tables.few), omega (arith, a.inside, a.tables.few))
 
     -- the rows and marks below stay
     settle_keeps : Aside v v' p.rows at
@@ -123,27 +123,6 @@ pub record Rests (sheet : HeldSheet) (ds : List (List Bool)) (t u w w' v v' : Li
   -- the row of the node's stop stays right as long as what is written after settling is kept
   pub after : (w'' v'' : List ℕ) → Frame t w' w'' v' v'' r p.at → Pending t w'' v'' p
 
--- a node of all but what depends on whether it is owed
-settled_given : {sheet : HeldSheet} {ds : List (List Bool)} {t u w w' v v' : List ℕ} {p : Node} {x g r : ℕ} → At sheet ds t u w v p x g → length v' ≡ length v → Written sheet ds t w' v' r p.at p.mask → p.next ≡ held sheet → At sheet ds t u w' v' (settled_n p r) x g
-settled_given a z wr n =
-    record {
-      tables = a.tables;
-      holders = a.holders;
-      fit = a.fit;
-      aside = z ∙ a.aside;
-      inside = a.inside;
-      mask = a.mask;
-      spent = a.spent;
-      poor = a.poor;
-      sums = a.sums;
-      low = a.low;
-      term = a.term;
-      cheap = a.cheap;
-      pending = λ o. absurd (false≢true o);
-      stop = λ o. absurd (false≢true o);
-      opening = λ o. record { all = wr; next = n };
-    }
-
 -- a node with all its removals decided rests once it is settled: it is given, and what was written is kept
 pub rests : {sheet : HeldSheet} {ds : List (List Bool)} {t u w w' v v' : List ℕ} {p : Node} {x g r : ℕ} → At sheet ds t u w v p x g → held sheet ≤ p.next → NodeSettled t u w w' v v' p r → Rests sheet ds t u w w' v v' p x g r
 rests {sheet} {ds} {t} {u} {w} {w'} {v} {v'} {p} {x} {g} {r} a done st = go p.owed refl
@@ -155,7 +134,7 @@ rests {sheet} {ds} {t} {u} {w} {w'} {v} {v'} {p} {x} {g} {r} a done st = go p.ow
         let wr = subst (λ (z : List ℕ). Written sheet ds t w' z r p.at p.mask) (sym e.2) (subst (λ (y : List ℕ). Written sheet ds t y v r p.at p.mask) (sym e.1) (subst (λ (k : ℕ). Written sheet ds t w v k p.at p.mask) (sym e.0) op.all)) in
         let wrote = ap (λ (b : Bool). cond b (p.at - 1) p.at) o in
         record {
-          given = settled_given a (ap length e.2) wr op.next;
+          given = at_open a (ap length e.2) r p.shut p.removed wr op.next;
           frame = subst (λ (y : List ℕ). Frame t w y v v' p.rows (written p)) (sym e.1) (subst (λ (z : List ℕ). Frame t w w v z p.rows (written p)) (sym e.2) (record { recalled = recalled_none t w p.rows op.all.memo; aside = aside_none v p.rows (written p) }));
           rows = omega (arith, e.0);
           wrote = omega (arith, wrote);
@@ -169,7 +148,7 @@ rests {sheet} {ds} {t} {u} {w} {w'} {v} {v'} {p} {x} {g} {r} a done st = go p.ow
         let wrote = ap (λ (b : Bool). cond b (p.at - 1) p.at) o in
         let fr = settle_frame a s e.1 e.2 in
         record {
-          given = settled_given a e.2.size (subst (λ (k : ℕ). Written sheet ds t w' v' k p.at p.mask) (sym e.0) (settle_written a s e.1 e.2 n)) n;
+          given = at_open a e.2.size r p.shut p.removed (subst (λ (k : ℕ). Written sheet ds t w' v' k p.at p.mask) (sym e.0) (settle_written a s e.1 e.2 n)) n;
           frame = subst (Frame t w w' v v' p.rows) (sym wrote) fr;
           rows = omega (arith, e.0);
           wrote = omega (arith, wrote);

@@ -1,5 +1,5 @@
 -- The nodes below a stop whose removals are not all decided: the next holding part is not removed, and it is. What is given of each, its fees, removals and term, and the search of both.
-use Prim.Native.Nat.{ℕ, suc, ◌+◌, ◌-◌, ◌*◌, ◌<◌, ◌≤◌, max}
+use Prim.Native.Nat.{ℕ, suc, ◌+◌, ◌-◌, ◌*◌, ◌^◌, ◌<◌, ◌≤◌, max}
 use mathlib.Core.Path.{◌≡◌, refl, sym, ap, ap₂, subst, ◌∙◌}
 use mathlib.Core.Bool.{Bool, true, false, not, false≢true}
 use mathlib.Core.List.{List, [], ◌∷◌, ◌++◌}
@@ -29,7 +29,7 @@ use Rattle.held_lanes.proofs.Coded.{stays_coded}
 use Rattle.held_stops.specs.Stops.{ShutSet, stop_lane, LooksAtStop}
 use Rattle.held_stops.proofs.Children.{bound_in, Told, stays_told}
 use Rattle.held_stops.proofs.Names.{stop_more, stop_joined, stop_bound_lem}
-use Rattle.walk.specs.State.{no_cost}
+use Rattle.walk.specs.State.{bits, no_cost}
 use Rattle.walk.proofs.Nodes.{bits-length, bits_no, bits_yes, mask_next}
 use Rattle.held_nodes.specs.declared.Node.{Node}
 use Rattle.held_nodes.specs.State.{stays_n, out_n, tree_at, StopAt, At}
@@ -93,8 +93,8 @@ module _ {sheet : HeldSheet} {ds : List (List Bool)} {t u w v : List ℕ} {p : N
   stop_asks =
       let wr = stop.before in
       let z : p.at - 1 + 1 ≡ p.at = omega (arith, stop.later) in (
-        term_asks a.tables a.holders a.aside wr p.at (omega arith) a.inside,
-        subst (LooksAtStop t u w p.rows) z (looks_stop a.tables a.holders a.aside wr (omega (arith, few, wr.size))),
+        term_asks a.tables a.holders wr p.at (omega arith) a.inside,
+        subst (LooksAtStop t u w p.rows) z (looks_stop a.tables a.holders wr (omega (arith, few, wr.size))),
         wr.rows_are.some,
       )
 
@@ -165,9 +165,10 @@ module _ {sheet : HeldSheet} {ds : List (List Bool)} {t u w v : List ℕ} {p : N
         (λ l. b ∙ told.bound l ∙ ap Sum (omega (arith, stays_paid)))
         (λ l. omega (arith, cheap l, low, a.poor, a.inside, a.tables.few, a.holders.parts))
 
-    -- all that the walk is given where the next holding part is not removed, from the shut lanes, term and part sums
-    pub at_stays : (set h y : ℕ) → ShutSet sheet (snoc rs false) set → Told sheet (more_blocks bs rs false) h y → h < inf → h ≤ top * (length sheet.positions - p.at) → y ≤ lane_count_lem * inf → At sheet (more_blocks bs rs false) t u w v (stays_n p set) y h
-    at_stays set h y shut told l cheap low =
+    -- all that the walk is given where the next holding part is removed, or not, from what the node has spent, its part sums and its term, and from its removals and shut lanes
+    at_next : (out : Bool) (set removed spent h y : ℕ) → spent ≡ paid_in sheet (more_blocks bs rs out) → spent ≤ top * (p.at * (lane_count_lem + 1) + (p.next + 1)) → held_sums sheet (more_blocks bs rs out) ≡ Sum y → y ≤ lane_count_lem * inf → held_term sheet (more_blocks bs rs out) ≡ Sum h → h ≤ top * (length sheet.positions - p.at)
+        → bits (p.next + 1) removed ≡ snoc (bits p.next p.removed) out → removed < 2 ^ (p.next + 1) → ShutSet sheet (snoc rs out) set → At sheet (more_blocks bs rs out) t u w v (record { at = p.at; rows = p.rows; next = p.next + 1; owed = true; shut = set; removed = removed; spent = spent; mask = p.mask }) y h
+    at_next out set removed spent h y due poor sums low term cheap decided small shut =
         record {
           tables = a.tables;
           holders = a.holders;
@@ -175,16 +176,16 @@ module _ {sheet : HeldSheet} {ds : List (List Bool)} {t u w v : List ℕ} {p : N
           aside = a.aside;
           inside = a.inside;
           mask = a.mask;
-          spent = stays_paid;
-          poor = omega (arith, a.poor);
-          sums = told.sums l;
+          spent = due;
+          poor = poor;
+          sums = sums;
           low = low;
-          term = told.term l;
+          term = term;
           cheap = cheap;
           pending = λ q. a.pending o;
           stop = λ q. record {
             bs = bs;
-            rs = snoc rs false;
+            rs = snoc rs out;
             same = refl;
             later = stop.later;
             before = stop.before;
@@ -192,12 +193,17 @@ module _ {sheet : HeldSheet} {ds : List (List Bool)} {t u w v : List ℕ} {p : N
             there = stop.there;
             odd = stop.odd;
             next = omega arith;
-            removed = bits_no p.next p.removed ∙ ap (λ (l : List Bool). snoc l false) stop.removed;
-            small = omega (arith, mask_next p.next p.removed stop.small);
+            removed = decided ∙ ap (λ (l : List Bool). snoc l out) stop.removed;
+            small = small;
             shut = shut;
           };
           opening = λ q. absurd (false≢true (sym q));
         }
+
+    -- all that the walk is given where the next holding part is not removed, from the shut lanes, term and part sums
+    pub at_stays : (set h y : ℕ) → ShutSet sheet (snoc rs false) set → Told sheet (more_blocks bs rs false) h y → h < inf → h ≤ top * (length sheet.positions - p.at) → y ≤ lane_count_lem * inf → At sheet (more_blocks bs rs false) t u w v (stays_n p set) y h
+    at_stays set h y shut told l cheap low =
+        at_next false set (p.removed * 2) p.spent h y stays_paid (omega (arith, a.poor)) (told.sums l) low (told.term l) cheap (bits_no p.next p.removed) (omega (arith, mask_next p.next p.removed stop.small)) shut
 
     -- ---- removed
 
@@ -226,36 +232,8 @@ module _ {sheet : HeldSheet} {ds : List (List Bool)} {t u w v : List ℕ} {p : N
       -- all that the walk is given where the next holding part is removed: term and part sums as before
       pub at_out : At sheet (more_blocks bs rs true) t u w v (out_n p paying) x g
       at_out =
-          record {
-            tables = a.tables;
-            holders = a.holders;
-            fit = a.fit;
-            aside = a.aside;
-            inside = a.inside;
-            mask = a.mask;
-            spent = out_paid;
-            poor = out_poor;
-            sums = sums_removed sheet bs rs ∙ sums_here;
-            low = a.low;
-            term = term_removed sheet bs rs ∙ term_here;
-            cheap = a.cheap;
-            pending = λ q. a.pending o;
-            stop = λ q. record {
-              bs = bs;
-              rs = snoc rs true;
-              same = refl;
-              later = stop.later;
-              before = stop.before;
-              price = stop.price;
-              there = stop.there;
-              odd = stop.odd;
-              next = omega arith;
-              removed = bits_yes p.next p.removed ∙ ap (λ (l : List Bool). snoc l true) stop.removed;
-              small = mask_next p.next p.removed stop.small;
-              shut = λ i l. stop.shut i l ∙ ap not (sym (accessible_removed (needs_of_lem sheet (get_or sheet.lanes i no_lane).class) rs));
-            };
-            opening = λ q. absurd (false≢true (sym q));
-          }
+          at_next true p.shut (p.removed * 2 + 1) paying g x out_paid out_poor (sums_removed sheet bs rs ∙ sums_here) a.low (term_removed sheet bs rs ∙ term_here) a.cheap (bits_yes p.next p.removed) (mask_next p.next p.removed stop.small)
+          (λ i l. stop.shut i l ∙ ap not (sym (accessible_removed (needs_of_lem sheet (get_or sheet.lanes i no_lane).class) rs)))
 
     -- the search of both
     pub both_removals : (L set paying : ℕ) (st : Limited) → onward L (tree_at sheet p ds) (concat ds) st

@@ -37,6 +37,7 @@ pub struct Node {
 
 impl Node {
     // The node below: no stop at the next opening.
+    // Kept with the places in the clauses, here and below: a node at the last one has no such branch, and is a node too.
     pub fn no(self, rows: usize) -> Node
         requires { (self.at < 64) × (self.mask * 2 < 2 ^ 64) }
         ensures { result ≡ no_n self rows }

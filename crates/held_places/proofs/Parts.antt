@@ -14,22 +14,13 @@ use Rattle.model.specs.Decisions.{allows}
 use Rattle.model.specs.LowerBound.{offers, blocks}
 use Rattle.model.specs.Limits.{most_openings, most_parts}
 use Rattle.model.proofs.Bools.{after_one}
+use Rattle.model.proofs.Offers.{offers_same}
 use Rattle.model.proofs.Blocks.{accessible_none}
 use Rattle.held_places.specs.Blocks.{Entries}
-use Rattle.held_places.specs.Arrays.{price_stride, price_size, need_size, prices_at, needs_at}
+use Rattle.held_places.specs.Arrays.{price_stride, price_size, prices_at, needs_at}
 use Rattle.held_places.specs.Changes.{places_of}
 
 -- ---- what a part sees
-
--- openings that look the same to a part
-pub offers_same : (ss : List ℤ) (ns ms : List ℕ) (p q : List Bool) → ((k : ℕ) → k < length ss → get_or ns k 0 ≡ get_or ms k 0) → ((k : ℕ) → k < length ss → get_or p k true ≡ get_or q k true) → offers ss ns p ≡ offers ss ms q
-unfolding offers
-offers_same [] ns ms p q e f = refl
-offers_same (s ∷ ss) ns ms p q e f =
-    λ i. record { position = s; price = e 0 (omega arith) i; allowed = f 0 (omega arith) i }
-    ∷ offers_same ss (drop 1 ns) (drop 1 ms) (drop 1 p) (drop 1 q)
-    (λ k l. after_one ns k 0 ∙ e (suc k) (omega arith) ∙ sym (after_one ms k 0))
-    (λ k l. after_one p k true ∙ f (suc k) (omega arith) ∙ sym (after_one q k true)) i
 
 -- the places, as the code's array has them
 pub places_are : (n h : ℕ) (nd : List Bool) (q : ℕ) (name r : List Bool) → Entries true (λ (k : ℕ). allows (needs_at h nd q) (get_or (blocks h n name) k [])) n r
@@ -48,11 +39,6 @@ module _ (ps : List ℕ) (n q : ℕ) where
   -- the price array has a price of each part for each of the n openings
   pub prices_length : n ≤ most_openings → q < most_parts → length ps ≡ price_size → length (prices_at n ps q) ≡ n
   prices_length l h s = simp (length-take, length-drop) (omega arith)
-
-module _ (nd : List Bool) (h q : ℕ) where
-  -- a part has an entry of its needs for each of the h holding parts
-  pub needs_length : h ≤ most_parts → q < most_parts → length nd ≡ need_size → length (needs_at h nd q) ≡ h
-  needs_length l m s = simp (length-take, length-drop) (omega arith)
 
 -- an array of 64 has n first entries, where n is at most the most openings
 pub first-length : {A : Type 0} (n : ℕ) (r : List A) → n ≤ most_openings → length r ≡ 64 → n ≡ length (take n r)

@@ -18,10 +18,6 @@ price_size = 1024
 abbrev pub need_stride : ℕ
 need_stride = 16
 
--- room for the needs of sixteen parts
-abbrev pub need_size : ℕ
-need_size = 256
-
 -- part q's prices at n openings, and its needs of h holding parts
 abbrev pub prices_at : ℕ → List ℕ → ℕ → List ℕ
 prices_at n ps q = take n (drop (q * price_stride) ps)
@@ -42,13 +38,12 @@ pub record Timed (e : ℤ) (ss : List ℤ) : Type 0 where
   pub near : (j : ℕ) → mag (get_or ss j (pos 0)) ≤ last_position
   pub late : mag e ≤ last_position
 
--- the parts' arrays: e the end, ss positions, ls lives, rs first lives, ps prices, nd needs of h holding parts
-pub record Lanes (e : ℤ) (ss : List ℤ) (ls rs ps : List ℕ) (nd : List Bool) (h : ℕ) : Type 0 where
+-- the parts' arrays: e the end, ss positions, ls lives, rs first lives, ps prices, and h holding parts
+pub record Lanes (e : ℤ) (ss : List ℤ) (ls rs ps : List ℕ) (h : ℕ) : Type 0 where
   pub timed : Timed e ss
   pub lives : Lives ls rs
   pub parts : length ls ≤ most_parts
   pub prices : length ps ≡ price_size
-  pub needs : length nd ≡ need_size
   pub holding : h ≤ most_parts
 
 -- a part as it is planned for, by its numbers

@@ -1,7 +1,7 @@
 -- One decision more: what it does to a node's blocks, to the decisions as a lane sees them, to what is paid, and to what is left to ask. By recursion over the blocks and the needs.
 use Prim.Native.Nat.{ℕ, zero, suc, ◌+◌, ◌-◌, ◌<◌, ◌≤◌}
 use mathlib.Core.Path.{◌≡◌, refl, sym, ap, ap₂, ◌∙◌}
-use mathlib.Core.Bool.{Bool, true, false, cond, not, ◌&&◌, ◌||◌}
+use mathlib.Core.Bool.{Bool, true, false, cond, not, ◌&&◌, ◌||◌, and_assoc}
 use mathlib.Core.List.{List, [], ◌∷◌, ◌++◌, append-nil, append_assoc, map-append}
 use native.Mathlib.Omega.{arith}
 use lib.ListN.{length, get_or, drop, length-map, drop_of_length-le}
@@ -85,11 +85,7 @@ accessible_stays (need ∷ needs) [] = rw (accessible_none needs) (go need)
     go : (b : Bool) → ((not b || false) && true) ≡ (((not b || true) && true) && not b)
     go true = refl
     go false = refl
-accessible_stays (need ∷ needs) (x ∷ rs) = ap (λ (b : Bool). (not need || x) && b) (accessible_stays needs rs) ∙ go (not need || x) (accessible needs rs) (not (get_or needs (length rs) false))
-  where
-    go : (a b c : Bool) → (a && (b && c)) ≡ ((a && b) && c)
-    go true b c = refl
-    go false b c = refl
+accessible_stays (need ∷ needs) (x ∷ rs) = ap (λ (b : Bool). (not need || x) && b) (accessible_stays needs rs) ∙ sym (and_assoc (not need || x) (accessible needs rs) (not (get_or needs (length rs) false)))
 
 -- after a no nobody can be changed, after a yes everybody
 pub seen_no : (needs : List Bool) (bs : List (List Bool)) → seen needs (bs ++ ((false ∷ []) ∷ [])) ≡ snoc (seen needs bs) false

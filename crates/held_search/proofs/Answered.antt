@@ -52,7 +52,7 @@ solves_job job sheet limit v r so h n s =
 
 -- ---- the plan of a name: its stops and the rows of changes
 
-module _ (job : Job) (e : ℤ) (ss : List ℤ) (fs ls rs ps : List ℕ) (nd : List Bool) (rm : List ℕ) (ar : Lanes e ss ls rs ps nd (length rm)) (ho : HeldJobArrays job e ss fs ls rs ps nd rm) (name : List Bool)
+module _ (job : Job) (e : ℤ) (ss : List ℤ) (fs ls rs ps : List ℕ) (nd : List Bool) (rm : List ℕ) (ar : Lanes e ss ls rs ps (length rm)) (ho : HeldJobArrays job e ss fs ls rs ps nd rm) (name : List Bool)
     (stops : List Bool) (st : Entries false (λ (k : ℕ). get_or (get_or (blocks (length rm) (length ss) name) k (false ∷ [])) 0 true) (length ss) stops)
     (rows : List Changes) (ch : Chooses e ss ls rs ps nd (length rm) name rows (length ls)) where
   abbrev n : ℕ
@@ -112,7 +112,7 @@ module _ (job : Job) (e : ℤ) (ss : List ℤ) (fs ls rs ps : List ℕ) (nd : Li
 
 -- ---- what the code holds, as it is handed back
 
-module _ (job : Job) (e : ℤ) (ss : List ℤ) (fs ls rs ps : List ℕ) (nd : List Bool) (rm : List ℕ) (ar : Lanes e ss ls rs ps nd (length rm)) (ho : HeldJobArrays job e ss fs ls rs ps nd rm) (limit : ℕ) (name : List Bool) (s : Solved)
+module _ (job : Job) (e : ℤ) (ss : List ℤ) (fs ls rs ps : List ℕ) (nd : List Bool) (rm : List ℕ) (ar : Lanes e ss ls rs ps (length rm)) (ho : HeldJobArrays job e ss fs ls rs ps nd rm) (limit : ℕ) (name : List Bool) (s : Solved)
     (so : SolvesJob job limit name s) (kept : code.Plan) (st : Entries false (λ (k : ℕ). get_or (get_or (blocks (length rm) (length ss) name) k (false ∷ [])) 0 true) (length ss) kept.stops)
     (ch : Chooses e ss ls rs ps nd (length rm) name kept.changes (length ls)) where
   abbrev r : Found

@@ -15,7 +15,7 @@ pub struct Parts<'a> {
     pub lefts: &'a [u32],
     pub prices: &'a [u32],
     pub needs: Needs<'a>,
-    pub ghost lanes: { Lanes end positions.now lives.now lefts.now prices.now needs.marks.now needs.holding },
+    pub ghost lanes: { Lanes end positions.now lives.now lefts.now prices.now needs.holding },
 }
 
 impl<'a> Parts<'a> {

@@ -62,9 +62,7 @@ module _ (t u w w₁ w₂ : List ℕ) (n j row : ℕ) (s : LooksAtStop t u w n j
       record {
         some = s.shut.stack.some;
         narrow = s.shut.stack.narrow;
-        size = s.size;
         masks = s.masks;
-        stack = all_recalled.kept.size ∙ s.shut.stack.size;
         first = omega (arith, e, row_inside j n (mark_count + 1) (omega arith) (omega (arith, d)));
         second = omega (arith, e, triangle_next j, row_inside (j + 1) n (mark_count + 1) (omega arith) (omega (arith, d)));
         most = λ q l. (omega (arith, allowed_at q l, lane_most t w suffix_base (j - 1) q n), omega (arith, shut_at q l, lane_most t w suffix_base j q n));

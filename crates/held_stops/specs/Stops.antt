@@ -5,7 +5,7 @@ use Rattle.model.specs.Limits.{most_openings}
 use Rattle.lane_rows.specs.Layout.{lane_count_lem, inf, suffix_base, known_place, lanes_in}
 use Rattle.lane_rows.specs.Rows.{lane, Looks, Recalled, Still, Put, Memo, Owing, next_row}
 use Rattle.held_rows.specs.Held.{HeldSheet, no_lane, needs_of_lem}
-use Rattle.held_lanes.specs.Places.{bit_at, held_size, classes_place, last_place, removed_place, pending_place, ready_place}
+use Rattle.held_lanes.specs.Places.{bit_at, classes_place, last_place, removed_place, pending_place, ready_place}
 use Rattle.held_lanes.specs.Tables.{Masks, NoteAsks, noted}
 
 -- the memo of the first n rows is known at level j, and nothing was lost
@@ -27,7 +27,6 @@ pub record LooksAtStop (t u w : List ℕ) (n j : ℕ) : Type 0 where
   pub later : 0 < j
   pub allowed : Looks t w n (j - 1)
   pub shut : Looks t w n j
-  pub size : length u ≡ held_size
   pub masks : Masks u
 
 -- the row of a stop at opening j, above n rows, is there once it is ready
@@ -47,7 +46,7 @@ pub record SettleAsks (t u v w : List ℕ) (at rows : ℕ) : Type 0 where
   pub near : at ≤ most_openings
   pub owing : Owing (lanes_in t) t w (at - 1) rows
   pub pended : get_or v (ready_place rows) 0 ≡ 1 → Pended t w v (at - 1) rows
-  pub notes : NoteAsks u v at rows
+  pub notes : NoteAsks u at rows
 
 -- its row is written, and the memo is still right
 pub record StopPut (t w w' : List ℕ) (at rows set : ℕ) : Type 0 where

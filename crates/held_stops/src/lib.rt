@@ -120,7 +120,7 @@ pub fn put_stop(
     rows: usize,
     set: usize,
 )
-    requires { (StopAsks (lanes_in t.now) u.now v.now w.old rows) × (rows ≤ at) × (at ≤ most_openings) }
+    requires { (StopAsks (lanes_in t.now) u.now rows) × (rows ≤ at) × (at ≤ most_openings) }
     ensures put { Put (lanes_in t.now) (shut_row v.now rows set) w.old w.new rows at }
     ensures memo { Memo t.now w.old rows → Memo t.now w.new (rows + 1) }
 {

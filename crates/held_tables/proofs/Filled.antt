@@ -15,13 +15,14 @@ use Rattle.search_tables.specs.Arrays.{sheet_of}
 use Rattle.held_rows.specs.Held.{HeldSheet, no_lane, class_fee, largest_to}
 use Rattle.held_lanes.specs.Places.{bit_at, most_to, class_place, top_place, removal_place, need_lanes_place, need_count_place, need_class_place, mask_base, mask_place, lead_place, classes_place, holds_place, held_size}
 use Rattle.held_lanes.specs.Tables.{needing, Masks, HeldTables}
+use Rattle.held_lanes.proofs.Most.{most_same}
 use Rattle.held_lanes.proofs.Coded.{coded_to}
 use Rattle.part_classes.specs.declared.classes.Classes.{Classes}
 use Rattle.part_classes.specs.Grouped.{grouping, Grouped, need_in}
 use Rattle.held_tables.specs.Arrays.{HeldArrays}
 use Rattle.held_tables.specs.Sheet.{lanes_of, held_sheet_of}
 use Rattle.held_tables.specs.Fill.{Before, Terms, LaneSet, Listing, Lists, Needed, Closed}
-use Rattle.held_tables.proofs.Lists.{most_same, listing_kept}
+use Rattle.held_tables.proofs.Lists.{listing_kept}
 use Rattle.held_tables.proofs.Sheets.{classes_count, needing_is, lanes_count, class_small, lane_class}
 
 -- the needs: removals, sets of lanes, lists of classes
@@ -60,7 +61,7 @@ closed k h u v w z s m b f e =
     kept x l = ap (λ (l : List ℕ). get_or l x 0) e ∙ get_or-set_other (set w classes_place k.count) holds_place x h 0 (λ r. omega (arith, r)) ∙ get_or-set_other w classes_place x k.count 0 (λ r. omega (arith, r))
 
 -- all together
-module _ (e : ℤ) (ss : List ℤ) (fs ls rs ps : List ℕ) (nd : List Bool) (rm : List ℕ) (k : Classes) (ar : HeldArrays e ss fs ls rs ps nd rm) (g : Grouped nd (length rm) (length ls) (grouping k)) (u v w z : List ℕ)
+module _ (e : ℤ) (ss : List ℤ) (fs ls rs ps : List ℕ) (nd : List Bool) (rm : List ℕ) (k : Classes) (ar : HeldArrays e ss fs ls rs ps rm) (g : Grouped nd (length rm) (length ls) (grouping k)) (u v w z : List ℕ)
     (te : Terms (sheet_of e ss fs ls rs ps) (lanes_of ss ls rs ps k.lanes) u (length ls))
     (to : FilledBy top_place (λ (j : ℕ). most_to (λ (c : ℕ). get_or u (class_place j j c) 0) k.count) (length ss + 1) u v) (ne : Needed nd rm k v w) (cl : Closed k (length rm) w z) where
   abbrev sheet : HeldSheet

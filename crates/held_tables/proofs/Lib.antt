@@ -1,7 +1,6 @@
 -- Laws of filling the tables for holders, and of the job behind them.
 pub mod Ends
 pub mod Sets
-pub mod Tops
 pub mod Lists
 pub mod Masks
 pub mod Lanes

@@ -1,5 +1,5 @@
 -- The list of the classes that need a holding part: by one class more, which is entered or not.
-use Prim.Native.Nat.{ℕ, zero, suc, ◌+◌, ◌<◌, ◌≤◌, max}
+use Prim.Native.Nat.{ℕ, ◌+◌, ◌<◌, ◌≤◌, max}
 use mathlib.Core.Path.{◌≡◌, refl, sym, ap, ap₂, subst, ◌∙◌}
 use mathlib.Core.Bool.{Bool, true, false, cond}
 use mathlib.Core.List.{List}
@@ -10,15 +10,10 @@ use lib.ListN.{length, get_or, set, length-set}
 use lib.Seq.{get_or-set_same, get_or-set_other}
 use Rattle.lane_rows.specs.Layout.{lane_count_lem}
 use Rattle.held_lanes.specs.Places.{most_to, need_count_place, need_class_place, held_size}
+use Rattle.held_lanes.proofs.Most.{most_same}
 use Rattle.part_classes.specs.declared.classes.Classes.{Classes}
 use Rattle.part_classes.specs.Grouped.{need_in}
 use Rattle.held_tables.specs.Fill.{Listing, Listed, Lists}
-
--- the largest over the same numbers
-pub most_same : (f g : ℕ → ℕ) (k : ℕ) → ((c : ℕ) → c < k → f c ≡ g c) → most_to f k ≡ most_to g k
-unfolding most_to
-most_same f g zero e = refl
-most_same f g (suc k) e = ap₂ max (most_same f g k (λ c l. e c (omega arith))) (e k (omega arith))
 
 most_next : (f : ℕ → ℕ) (k : ℕ) → most_to f (k + 1) ≡ max (most_to f k) (f k)
 unfolding most_to

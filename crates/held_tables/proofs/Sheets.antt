@@ -30,11 +30,11 @@ use Rattle.held_tables.specs.Sheet.{held_sheet_of}
 use Rattle.held_tables.proofs.Lanes.{lane_at, lanes_length, lanes_at, columns_are}
 
 -- the arrays that the code's numbers are
-pub arrays_of : (n : HeldNumbers) → HeldArrays n.job.end n.job.positions.now n.job.fees.now n.job.lives.now n.job.lefts.now n.job.prices.now n.needs.now n.removals.now
-arrays_of n = record { plain = n.job.arrays; needs = n.size; holding = n.few; removals = n.cheap }
+pub arrays_of : (n : HeldNumbers) → HeldArrays n.job.end n.job.positions.now n.job.fees.now n.job.lives.now n.job.lefts.now n.job.prices.now n.removals.now
+arrays_of n = record { plain = n.job.arrays; holding = n.few; removals = n.cheap }
 
 -- the arrays are such as one part's sums ask for
-pub lanes_are : {e : ℤ} {ss : List ℤ} {fs ls rs ps : List ℕ} {nd : List Bool} {rm : List ℕ} → HeldArrays e ss fs ls rs ps nd rm → Lanes e ss ls rs ps nd (length rm)
+pub lanes_are : {e : ℤ} {ss : List ℤ} {fs ls rs ps rm : List ℕ} → HeldArrays e ss fs ls rs ps rm → Lanes e ss ls rs ps (length rm)
 lanes_are ar =
     let p = ar.plain in
     record {
@@ -42,11 +42,10 @@ lanes_are ar =
       lives = record { lefts = p.lives.lefts; brief = p.lives.brief; begun = p.lives.begun };
       parts = p.lanes;
       prices = p.prices;
-      needs = ar.needs;
       holding = ar.holding;
     }
 
-module _ (e : ℤ) (ss : List ℤ) (fs ls rs ps : List ℕ) (nd : List Bool) (rm : List ℕ) (k : Classes) (ar : HeldArrays e ss fs ls rs ps nd rm) (g : Grouped nd (length rm) (length ls) (grouping k)) where
+module _ (e : ℤ) (ss : List ℤ) (fs ls rs ps : List ℕ) (nd : List Bool) (rm : List ℕ) (k : Classes) (ar : HeldArrays e ss fs ls rs ps rm) (g : Grouped nd (length rm) (length ls) (grouping k)) where
   abbrev sheet : HeldSheet
   sheet = held_sheet_of e ss fs ls rs ps nd rm k
 

@@ -78,7 +78,7 @@ fn put_rest(numbers: &HeldNumbers, classes: &Classes, u: &mut [u32; HELD])
 }
 
 // The tables for holders of the job in the arrays, by the classes of its parts.
-// Kept as four parameters, here and where it is called: `tab` is room to work in, `u` what is filled, and a job's classes are found for its tables alone.
+// Kept as four parameters, here and where it is called: `tab` is room to work in, of which more may be lent, `u` what is filled, and a job's classes are found for its tables alone.
 pub fn fill_held(numbers: &HeldNumbers, classes: &Classes, tab: &mut [u64], u: &mut [u32; HELD])
     requires room { table_size ≤ length tab.old }
     requires grouped { Grouped numbers.now.needs.now (length numbers.now.removals.now) (length numbers.now.job.lives.now) (grouping classes.now) }

@@ -51,7 +51,8 @@ fn put_lanes(needs: &Needs, classes: &Classes, u: &mut [u32; HELD])
 }
 
 // The list of the classes that need the holding part b; and how many there are.
-// Kept with an index into the table: how many numbers are written is known only at the end. Kept as `as`, here and below: the library has no `From` of a usize into a u32, and each number is at most 16.
+// Kept with an index into the table: how many numbers are written is known only at the end.
+// Kept as `as`, here and below: the library has no `From` of a usize into a u32, and each number is at most 16.
 fn put_list(needs: &Needs, classes: &Classes, b: usize, u: &mut [u32; HELD]) -> usize
     requires { b < lane_count_lem }
     ensures { Listed needs.now.marks.now classes.now b result u.old u.new }

@@ -1,14 +1,16 @@
 // The counted walk over the tables of a job with holders: the recursion on both branches of an opening and of a removal.
+// Kept as nine parameters in the three functions of the walk: a struct of the tables, the stack and what goes with it would be lent anew in each of the calls, and the limit, which no step changes, would have to be said to be handed back if it were a field of the state.
+// Kept as casts, of terms: what reads them (opening_term, removal_term, number) answers a usize, of which the library has no From for a u64.
 #![tactic(auto)]
 
-ghost use Rattle.std.specs.Prelude.{◌≡◌, false, List, Bool, ◌+◌, ◌-◌, ◌^◌, ◌<◌, ◌≤◌, length, get_or};
+ghost use Rattle.std.specs.Prelude.{◌≡◌, false, List, Bool, ℕ, ◌+◌, ◌-◌, ◌^◌, ◌<◌, ◌≤◌, length, get_or};
 ghost use Rattle.least.specs.Filled.{FilledBy};
 ghost use Rattle.lane_rows.specs.Layout.{lane_count_lem};
 ghost use Rattle.lane_rows.specs.Tables.{Tables};
-ghost use Rattle.held_rows.specs.Held.{HeldSheet, plain, Classed};
+ghost use Rattle.held_rows.specs.Held.{HeldSheet, held, plain, Classed};
 ghost use Rattle.held_lanes.specs.Places.{offset, classes_place, held_size, last_place, aside_size};
 ghost use Rattle.held_lanes.specs.Tables.{HeldTables};
-ghost use Rattle.held_nodes.specs.State.{At, HeldWalked, HeldSolves};
+ghost use Rattle.held_nodes.specs.State.{settled_n, At, HeldWalked, HeldSolves};
 
 use branch::Bound;
 use held_lanes::{
@@ -19,9 +21,8 @@ use held_nodes::{Node, keep, no_sums, settle, stay_sums};
 use lane_rows::{COUNT, FEES, STACK, TABLES, base_row, cell, first_sums, term};
 use walk::{NO_COST, Search, Solved};
 
-// Walks on from the node p, which is counted and not dropped, with part sums x and term g: at a stop whose removals are not all decided not removed first, then removed; else no stop first, then a stop.
-// Kept as casts, of terms: what reads them (opening_term, removal_term, number) answers a usize, of which the library has no From for a u64.
-// Kept as nine parameters: a struct of the tables, the stack and what goes with it would be lent anew in each of the two calls, and the limit, which no step changes, would have to be said to be handed back if it were a field of the state.
+// Walks on from the node p, which is counted and not dropped, with part sums x and term g: at a stop whose removals are not all decided by the next of them; else, once the stop is settled, by the next opening, unless the node is full.
+#[cycle(walk)]
 pub fn walk(
     t: &[u32; TABLES],
     u: &[u32; HELD],
@@ -38,24 +39,67 @@ pub fn walk(
         → HeldWalked sheet ds t.now w.old w.new v.old v.new limit p s result }
 {
     if p.next < number(u, HOLDS) {
-        let set = p.shut | number(u, NEED_LANES + p.next);
-        let h = removal_term(u, v, p.at, p.rows - 1, p.next, g);
-        let a = match stay_sums(t, u, w, limit, p.spent, p.rows, p.at, set, h, x, s) {
-            Bound::Sum(y) => walk(t, u, w, v, limit, p.stays(set), y, h, s.counted()),
-            Bound::Missing => s.reached(limit),
-        };
-        let spent = p.spent + u64::from(u[REMOVALS + p.next]);
-        let Bound::Sum(y) = a.open(limit, spent + g as u64, Bound::Sum(x)) else {
-            return a.reached(limit);
-        };
-        let b = walk(t, u, w, v, limit, p.out(spent), y, g, a.counted());
-        return b;
+        return branch_on_removal(t, u, w, v, limit, p, x, g, s);
     }
     let rows = settle(t, u, v, w, p);
     if p.at == cell(t, COUNT, 0) {
         keep(v);
         return s.kept(p.spent + x, p.mask);
     }
+    branch_on_opening(t, u, w, v, limit, p, rows, x, s)
+}
+
+// Branches on the next removal of the stop that the node p stands at: not removed first, then removed.
+// Inlined, as the other branch is, so that a node is one call and one frame of the stack.
+#[cycle(walk)]
+#[inline(always)]
+fn branch_on_removal(
+    t: &[u32; TABLES],
+    u: &[u32; HELD],
+    w: &mut [u32; STACK],
+    v: &mut [u32; ASIDE],
+    limit: u64,
+    p: Node,
+    x: u64,
+    g: usize,
+    s: Search,
+) -> Search
+    requires { ((sheet : HeldSheet) × ((ds : List (List Bool)) × At sheet ds t.now u.now w.old v.old p x g × (p.next < held sheet))) × (limit + 1 < 2 ^ 64) }
+    ensures { (sheet : HeldSheet) (ds : List (List Bool)) → At sheet ds t.now u.now w.old v.old p x g → p.next < held sheet
+        → HeldWalked sheet ds t.now w.old w.new v.old v.new limit p s result }
+{
+    let set = p.shut | number(u, NEED_LANES + p.next);
+    let h = removal_term(u, v, p.at, p.rows - 1, p.next, g);
+    let a = match stay_sums(t, u, w, limit, p.spent, p.rows, p.at, set, h, x, s) {
+        Bound::Sum(y) => walk(t, u, w, v, limit, p.stays(set), y, h, s.counted()),
+        Bound::Missing => s.reached(limit),
+    };
+    let spent = p.spent + u64::from(u[REMOVALS + p.next]);
+    let Bound::Sum(y) = a.open(limit, spent + g as u64, Bound::Sum(x)) else {
+        return a.reached(limit);
+    };
+    let b = walk(t, u, w, v, limit, p.out(spent), y, g, a.counted());
+    b
+}
+
+// Branches on the next opening after the node p, which is settled, with so many rows: no stop first, then a stop.
+#[cycle(walk)]
+#[inline(always)]
+fn branch_on_opening(
+    t: &[u32; TABLES],
+    u: &[u32; HELD],
+    w: &mut [u32; STACK],
+    v: &mut [u32; ASIDE],
+    limit: u64,
+    p: Node,
+    rows: usize,
+    x: u64,
+    s: Search,
+) -> Search
+    requires { ((sheet : HeldSheet) × ((ds : List (List Bool)) × ((g : ℕ) × At sheet ds t.now u.now w.old v.old (settled_n p rows) x g × (p.at < length sheet.positions)))) × (limit + 1 < 2 ^ 64) }
+    ensures { (sheet : HeldSheet) (ds : List (List Bool)) (g : ℕ) → At sheet ds t.now u.now w.old v.old (settled_n p rows) x g → p.at < length sheet.positions
+        → HeldWalked sheet ds t.now w.old w.new v.old v.new limit (settled_n p rows) s result }
+{
     let j = p.at + 1;
     let h = opening_term(u, v, j, rows - 1);
     let a = match no_sums(t, w, limit, p.spent, rows, j, h, x, s) {

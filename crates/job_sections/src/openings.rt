@@ -27,6 +27,7 @@ fn read_opening(lines: &mut Lines, horizon: u32, before: u32) -> Result<Opening,
 }
 
 // Reads n openings.
+// Kept with the limit of n in the clause: the openings are read before the job is made that counts them.
 pub fn read_openings(
     lines: &mut Lines,
     horizon: u32,

@@ -1,13 +1,14 @@
--- The whole text's answers in the grammar's terms: what a text means (`text_means`, `means`, `means_in`). By the parts and the answer.
+-- The whole text's answers in the grammar's terms: what a text means (`text_means`, `means`, `means_in`), and what it reads as by its reader's answer (`refused_job`, `accepted_job`). By the parts and the answer.
 use Rattle.std.specs.Prelude.{Option, Result, Ok, Err}
 use Prim.Native.Nat.{ℕ}
 use mathlib.Core.Path.{◌≡◌, sym, ap, ◌∙◌}
 use mathlib.Core.List.{List, map}
 use lib.ListN.{length}
-use Rattle.lines.specs.Parser.{Outcome, accepted}
+use Rattle.lines.specs.Fault.{number_of_lem}
+use Rattle.lines.specs.Parser.{Outcome, accepted, refused}
 use Rattle.lines.specs.Reads.{outcome, seen}
 use Rattle.lines.specs.declared.fault.Fault.{Fault}
-use Rattle.job_grammar.specs.Grammar.{JobText, meant, meaning}
+use Rattle.job_grammar.specs.Grammar.{JobText, meant, meaning, read_job_text, read_job_lem}
 use Rattle.job_grammar.proofs.Optionals.{idle_steps_lem2}
 use Rattle.part_lines.specs.Grammar.{meant_part}
 use Rattle.part_lines.specs.declared.said.PartSaid.{PartSaid}
@@ -33,3 +34,11 @@ means (Err e) h = ap meaning h
 pub means_in : (r : Result AcceptedText Fault) {x : Outcome JobText} → outcome (seen text_in r) ≡ x → outcome (seen given_in r) ≡ meaning x
 means_in (Ok t) h = ap accepted (sym t.means) ∙ ap meaning h
 means_in (Err e) h = ap meaning h
+
+-- the job text reads as what its reader answers: a fault
+pub refused_job : (text : List ℕ) {r : Result AcceptedText Fault} {f : Fault} → outcome (seen text_in r) ≡ read_job_text text → r ≡ Err f → read_job_lem text ≡ refused (number_of_lem f.kind) f.line
+refused_job text h e = sym (means_in _ h) ∙ ap (λ r. outcome (seen given_in r)) e
+
+-- or what it means
+pub accepted_job : (text : List ℕ) {r : Result AcceptedText Fault} {t : AcceptedText} → outcome (seen text_in r) ≡ read_job_text text → r ≡ Ok t → read_job_lem text ≡ accepted (given_in t)
+accepted_job text h e = sym (means_in _ h) ∙ ap (λ r. outcome (seen given_in r)) e

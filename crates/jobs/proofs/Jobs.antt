@@ -4,7 +4,7 @@ use mathlib.Core.Path.{◌≡◌, sym, ap, subst, ◌∙◌}
 use mathlib.Core.List.{List, [], map}
 use native.Mathlib.Omega.{arith}
 use lib.ListN.{length, get_or, take, length-map, get_or-map}
-use lib.Seq.{get_or-take, take-nil}
+use lib.Seq.{get_or-take, length-take-le, take-nil}
 use Rattle.lines.specs.Text.{joined}
 use Rattle.lines.specs.Chosen.{chosen}
 use Rattle.jobs.specs.Views.{blank_part_lem, opening_of, part_of_lem, job_of, Sized}
@@ -61,6 +61,22 @@ module _ (j : Job) where
   pub parts_long : m ≤ length j.parts
   parts_long = omega (arith, j.few_parts, j.long_parts)
 
+  -- as many idle steps are lent as it counts
+  pub idles_taken : length (take j.idle_count j.idles) ≡ j.idle_count
+  idles_taken = length-take-le j.idle_count j.idles idles_long
+
+  -- as many openings
+  pub openings_taken : length (take n j.openings) ≡ n
+  openings_taken = length-take-le n j.openings openings_long
+
+  -- and as many parts
+  pub parts_taken : length (take m j.parts) ≡ m
+  parts_taken = length-take-le m j.parts parts_long
+
+  -- a part that is lent is the struct's record
+  pub taken_at : (k : ℕ) → k < length (take m j.parts) → get_or (take m j.parts) k blank_part_lem ≡ part_at j k
+  taken_at k h = get_or-take m j.parts k blank_part_lem (omega (arith, h, parts_taken))
+
   pub opening_count_lem2 : length (job_of j).openings ≡ n
   opening_count_lem2 = firsts_size opening_of j.openings n openings_long
 
@@ -95,3 +111,7 @@ module _ (j : Job) where
     -- the struct's record of each part that a valid job counts makes a valid part
     pub valid_part : (k : ℕ) → k < m → ValidPart n (part_of_lem n (part_at j k))
     valid_part k h = subst (ValidPart n) (part_at_lem k h) (all_at (ValidPart n) (job_of j).parts no_part k valid_parts (rw part_count h))
+
+    -- and so does each part that is lent
+    pub valid_taken : (k : ℕ) → k < length (take m j.parts) → ValidPart n (part_of_lem n (get_or (take m j.parts) k blank_part_lem))
+    valid_taken k h = subst (λ (p : Part). ValidPart n (part_of_lem n p)) (sym (taken_at k h)) (valid_part k (omega (arith, h, parts_taken)))

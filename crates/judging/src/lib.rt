@@ -64,12 +64,13 @@ fn judge_plan(job: &Accepted, plan: &[u8], out: &mut [u8]) -> Answer
 {
     match read_plan(plan, &job.job) {
         Ok(stated) => answer(judgement_of(job, stated.cost, &stated.plan), out),
-        Err(fault) => refuse(plan, PLAN, fault.kind.number(), fault.line, ROOM, out),
+        Err(fault) => refuse(plan, PLAN, fault, ROOM, out),
     }
 }
 
 // Weighs a plan text against a job text: every number that is handed over and every byte of the output are the defined ones (`Replied`),
 // and the answer is 0 exactly if the job is accepted, the plan text has no fault, and the plan keeps every life and states its true cost (`JudgePromise`).
+// Kept as two texts and an output, here and in `serving`: the C interface hands them over so.
 pub fn judge(job: &[u8], plan: &[u8], out: &mut [u8]) -> Answer
     ensures replied { Replied judge_room (judge_said job.now plan.now) out.old out.new result }
     ensures judge_promise { JudgePromise job.now plan.now (length out.old)
@@ -78,6 +79,6 @@ pub fn judge(job: &[u8], plan: &[u8], out: &mut [u8]) -> Answer
     // Kept in each call: the arm for a fault is one call of `refuse`, and one function for all calls would take the rest of each as a closure over the text and the output.
     match read_job(job) {
         Ok(text) => judge_plan(&text.job, plan, out),
-        Err(fault) => refuse(job, JOB, fault.kind.number(), fault.line, ROOM, out),
+        Err(fault) => refuse(job, JOB, fault, ROOM, out),
     }
 }

@@ -1,12 +1,10 @@
 -- A part's least price at a node is the least over its front: the price up to each mark that may be the last so far, and the least price of what follows.
 -- By deciding one opening after the other: its mark joins the front, and nothing else changes.
-use Prim.Native.Nat.{ℕ, ◌+◌, ◌<◌, min}
-use mathlib.Core.Path.{◌≡◌, refl, sym, ap, ap₂, ◌∙◌}
+use Prim.Native.Nat.{ℕ, ◌<◌}
+use mathlib.Core.Path.{◌≡◌, refl, sym, ap, ◌∙◌}
 use mathlib.Core.Bool.{Bool, true, false, ◌&&◌, cond}
 use mathlib.Core.List.{List, [], ◌∷◌, ◌++◌}
 use native.Mathlib.Omega.{arith}
-use borrow.Author.Tests.{ltb-true, ltb-false}
-use lib.Dec.{ltb}
 use lib.ListN.{length, get_or, drop}
 use lib.IntN.{ℤ, pos}
 use Rattle.branch.specs.declared.Bound.{Bound}
@@ -16,61 +14,11 @@ use Rattle.model.specs.Model.{within}
 use Rattle.model.specs.LowerBound.{Offer, plus, lower, least_of_lem, offers}
 use Rattle.branch.specs.Search.{snoc}
 use Rattle.model.proofs.Bools.{after_one}
+use Rattle.model.proofs.Lower.{lower_comm, lower_assoc, lower_swap, plus_lower, add_lower, lower_add}
 use Rattle.model.proofs.Offers.{offers_yes}
 use Rattle.lane_rows.specs.Sheet.{Column, Sheet, column_bound, Mark, reach, front_with, front_from, decided_offers, front}
 
--- ---- the lower of two is a minimum
-
-lower-min : (a b : ℕ) → lower (Sum a) (Sum b) ≡ Sum (min a b)
-lower-min a b = go (ltb b a) refl
-  where
-    go : (t : Bool) → ltb b a ≡ t → cond t (Sum b) (Sum a) ≡ Sum (min a b)
-    go true e = ap Sum (omega (arith, ltb-true b a e))
-    go false e = ap Sum (omega (arith, ltb-false b a e))
-
-lower_comm : (a b : Bound) → lower a b ≡ lower b a
-lower_comm Missing Missing = refl
-lower_comm Missing (Sum b) = refl
-lower_comm (Sum a) Missing = refl
-lower_comm (Sum a) (Sum b) = lower-min a b ∙ ap Sum (omega arith) ∙ sym (lower-min b a)
-
-lower_assoc : (a b c : Bound) → lower (lower a b) c ≡ lower a (lower b c)
-lower_assoc a b Missing = refl
-lower_assoc a Missing (Sum c) = refl
-lower_assoc Missing (Sum b) (Sum c) = go (ltb c b)
-  where
-    go : (t : Bool) → cond t (Sum c) (Sum b) ≡ lower Missing (cond t (Sum c) (Sum b))
-    go true = refl
-    go false = refl
-lower_assoc (Sum a) (Sum b) (Sum c) =
-    ap (λ (x : Bound). lower x (Sum c)) (lower-min a b) ∙ lower-min (min a b) c ∙ ap Sum (omega arith) ∙ sym (lower-min a (min b c)) ∙ ap (lower (Sum a)) (sym (lower-min b c))
-
--- (a ⊓ b) ⊓ (c ⊓ d) ≡ (a ⊓ c) ⊓ (b ⊓ d)
-lower_swap : (a b c d : Bound) → lower (lower a b) (lower c d) ≡ lower (lower a c) (lower b d)
-lower_swap a b c d =
-    lower_assoc a b (lower c d)
-    ∙ ap (lower a) (sym (lower_assoc b c d) ∙ ap (λ (x : Bound). lower x d) (lower_comm b c) ∙ lower_assoc c b d)
-    ∙ sym (lower_assoc a c (lower b d))
-
-plus-lower : (p : ℕ) (a b : Bound) → plus p (lower a b) ≡ lower (plus p a) (plus p b)
-plus-lower p a Missing = refl
-plus-lower p Missing (Sum b) = refl
-plus-lower p (Sum a) (Sum b) = ap (plus p) (lower-min a b) ∙ ap Sum (omega arith) ∙ sym (lower-min (p + a) (p + b))
-
-add_comm : (a b : Bound) → add a b ≡ add b a
-add_comm Missing Missing = refl
-add_comm Missing (Sum b) = refl
-add_comm (Sum a) Missing = refl
-add_comm (Sum a) (Sum b) = ap Sum (omega arith)
-
--- a price that is there
-pub add-plus : (c : ℕ) (e : Bound) → add (Sum c) e ≡ plus c e
-add-plus c Missing = refl
-add-plus c (Sum x) = refl
-
-add-lower : (c a b : Bound) → add c (lower a b) ≡ lower (add c a) (add c b)
-add-lower Missing a b = refl
-add-lower (Sum c) a b = add-plus c (lower a b) ∙ plus-lower c a b ∙ sym (ap₂ lower (add-plus c a) (add-plus c b))
+-- ---- sums
 
 add_more : (p : ℕ) (c r : Bound) → add c (plus p r) ≡ add (plus p c) r
 add_more p Missing r = refl
@@ -95,14 +43,12 @@ one_mark A C X R p r false w = refl
 one_mark A C X R p r true false =
     lower_assoc A (add (plus p r) R) (add C X) ∙ ap (lower A) (lower_comm (add (plus p r) R) (add C X)) ∙ sym (lower_assoc A (add C X) (add (plus p r) R))
 one_mark A C X R p r true true =
-    ap (lower (lower A (add (plus p r) R))) (add-lower C X (plus p R))
+    ap (lower (lower A (add (plus p r) R))) (add_lower C X (plus p R))
     ∙ lower_swap A (add (plus p r) R) (add C X) (add C (plus p R))
     ∙ ap (lower (lower A (add C X)))
     (ap (lower (add (plus p r) R)) (add_more p C R)
-    ∙ ap₂ lower (add_comm (plus p r) R) (add_comm (plus p C) R)
-    ∙ sym (add-lower R (plus p r) (plus p C))
-    ∙ ap (add R) (sym (plus-lower p r C))
-    ∙ add_comm R (plus p (lower r C)))
+    ∙ sym (lower_add (plus p r) (plus p C) R)
+    ∙ ap (λ (x : Bound). add x R) (sym (plus_lower p r C)))
 
 -- deciding one opening: its mark joins the front, and nothing else changes
 pub front_step : (life end : ℤ) (fr : List Mark) (o : Offer) (os : List Offer) → over life end fr (o ∷ os) ≡ over life end (mark_at life fr o ∷ fr) os

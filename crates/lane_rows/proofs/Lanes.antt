@@ -1,5 +1,5 @@
 -- The code's lanes of numbers are the parts' least prices: a lane over the suffix prices is the least over the front, a lane over the reach table is the least cost from which opening j is in reach.
-use Prim.Native.Nat.{ℕ, zero, suc, ◌+◌, ◌-◌, ◌*◌, ◌<◌, ◌≤◌, min, max}
+use Prim.Native.Nat.{ℕ, zero, suc, ◌+◌, ◌-◌, ◌*◌, ◌^◌, ◌<◌, ◌≤◌, min, max}
 use mathlib.Core.Path.{◌≡◌, refl, sym, ap, ap₂, subst, ◌∙◌}
 use mathlib.Core.Bool.{Bool, true, false, not, cond}
 use mathlib.Core.List.{List, [], ◌∷◌}
@@ -17,13 +17,14 @@ use Rattle.branch.specs.Lower.{add, total, larger}
 use Rattle.branch.specs.Search.{snoc}
 use Rattle.branch.proofs.Bounds.{no_sum_lem, sum_inj}
 use Rattle.branch.proofs.Lower.{split}
+use Rattle.model.proofs.Lower.{plus_sum}
 use Rattle.model.specs.Model.{within}
 use Rattle.model.specs.LowerBound.{Offer, plus, lower, least_of_lem, offers, change_at_lem}
 use Rattle.model.specs.LastYes.{last_yes}
 use Rattle.model.proofs.LastYes.{last_no, last_yes_lem}
 use Rattle.least.specs.Marks.{mark_of}
 use Rattle.least.proofs.Table.{least_cons, offer_at, offers-drop}
-use Rattle.lane_rows.specs.Layout.{lane_count_lem, dear, lane_limit, inf, triangle, suffix_base, reach_base, place, row_place, price_place, mark_base, mark_place, lanes_in}
+use Rattle.lane_rows.specs.Layout.{lane_count_lem, block_size, dear, lane_limit, inf, triangle, suffix_base, reach_base, place, row_place, price_place, mark_base, mark_place, lanes_in}
 use Rattle.lane_rows.specs.Sheet.{Column, Sheet, part_sums, Mark, reach, front_with, front_from, front, solid, no_column, column_bound}
 use Rattle.lane_rows.specs.Tables.{value_of, sum_where, Coded, Lane, Tables}
 use Rattle.lane_rows.specs.Rows.{lane, sum_from, sum_lanes, marks_in, Level, SeenRows, Rows, Kept, Put, Stack, FirstRow, next_row, shut_to_lem, stop_row_lem}
@@ -387,10 +388,6 @@ module _ (sheet : Sheet) (t w : List ℕ) (at : ℕ) (sees : ℕ → List Bool) 
     abbrev price : ℕ → Bound
     price q = plus (get_or (column_at sheet q).prices at 0) (reach (column_at sheet q).life (front sheet.positions (column_at sheet q) (sees q)) (get_or sheet.positions at (pos 0)))
 
-    plus_sum : (e : Bound) (x : ℕ) → add e (Sum x) ≡ plus x e
-    plus_sum Missing x = refl
-    plus_sum (Sum y) x = ap Sum (omega arith)
-
     next_cost : (q : ℕ) → q < length sheet.columns → (value_of (next_row t w at n q) ≡ price q) × Level (dear * (at + 1)) (next_row t w at n q)
     next_cost q l =
         let col = column_at sheet q in
@@ -487,53 +484,53 @@ module _ (sheet : Sheet) (t w : List ℕ) (p : List Bool) (n : ℕ) (ta : Tables
 
 -- ---- the loops
 
+-- a number that is there or nothing is at most the number for nothing
+pub cond_most : (b : Bool) → cond b 0 inf ≤ inf
+cond_most true = omega arith
+cond_most false = omega arith
+
 module _ (sheet : Sheet) (t w : List ℕ) (at : ℕ) (sees : ℕ → List Bool) (n : ℕ) (ta : Tables sheet t) (ro : SeenRows sheet w at sees n) where
-  -- at any opening j from the first undecided one on
-  pub seen_stack : (j : ℕ) → at ≤ j → j ≤ length sheet.positions → Stack (lanes_in t) t w suffix_base j n
-  seen_stack j h g =
+  -- the loops over a block of the tables at any opening j from the first undecided one on, where its numbers with the rows' stay within 31 bits
+  seen_in : (base j : ℕ) → base + block_size ≤ length t → at ≤ j → j ≤ length sheet.positions
+      → ((k q : ℕ) → k < n → q < lanes_in t → get_or w (row_place k q) 0 + get_or t (place base j (get_or w (mark_place k) 0) q) 0 < 2 ^ 31) → Stack (lanes_in t) t w base j n
+  seen_in base j room h g sums =
       record {
         some = ta.some;
         narrow = ta.narrow;
-        table = omega (arith, ta.size);
+        table = room;
         size = ro.size;
         near = omega (arith, ta.few);
         few = omega (arith, ro.few);
         marks = λ k l. omega (arith, ro.marks k l);
-        sums = λ k q l m.
-            let o = ro.marks k l in
-            let i = get_or w (mark_place k) 0 in
-            let col = get_or sheet.columns q no_column in
-            omega (
-              arith,
-              (ro.level k q l (omega (arith, ta.wide))).most,
-              coded_most (dear * (length sheet.positions - j)) (omega (arith, ta.few)) (get_or t (place suffix_base j i q) 0) (least_of_lem col.life sheet.end (mark_of col.first sheet.positions i) (drop j (offers sheet.positions col.prices [])))
-                  ((ta.lanes q m).suffix j i (omega arith) g),
-            );
+        sums = sums;
       }
 
-  -- the loops over the reach table, where there is an undecided opening
+  -- over the suffix table
+  pub seen_stack : (j : ℕ) → at ≤ j → j ≤ length sheet.positions → Stack (lanes_in t) t w suffix_base j n
+  seen_stack j h g =
+      seen_in suffix_base j (omega (arith, ta.size)) h g
+      (λ k q l m.
+      let o = ro.marks k l in
+      let i = get_or w (mark_place k) 0 in
+      let col = get_or sheet.columns q no_column in
+      omega (
+        arith,
+        (ro.level k q l (omega (arith, ta.wide))).most,
+        coded_most (dear * (length sheet.positions - j)) (omega (arith, ta.few)) (get_or t (place suffix_base j i q) 0) (least_of_lem col.life sheet.end (mark_of col.first sheet.positions i) (drop j (offers sheet.positions col.prices [])))
+            ((ta.lanes q m).suffix j i (omega arith) g),
+      ))
+
+  -- over the reach table, where there is an undecided opening
   pub seen_reach : at < length sheet.positions → Stack (lanes_in t) t w reach_base at n
   seen_reach h =
-      record {
-        some = ta.some;
-        narrow = ta.narrow;
-        table = omega (arith, ta.size);
-        size = ro.size;
-        near = omega (arith, ta.few);
-        few = ro.few;
-        marks = ro.marks;
-        sums = λ k q l g.
-            omega (
-              arith,
-              (ro.level k q l (omega (arith, ta.wide))).most,
-              cond_most (within (get_or sheet.columns q no_column).life (mark_of (get_or sheet.columns q no_column).first sheet.positions (get_or w (mark_place k) 0)) (get_or sheet.positions at (pos 0))),
-              (ta.lanes q g).reach at (get_or w (mark_place k) 0) (ro.marks k l) h,
-            );
-      }
-    where
-      cond_most : (b : Bool) → cond b 0 inf ≤ inf
-      cond_most true = omega arith
-      cond_most false = omega arith
+      seen_in reach_base at (omega (arith, ta.size)) (omega arith) (omega arith)
+      (λ k q l g.
+      omega (
+        arith,
+        (ro.level k q l (omega (arith, ta.wide))).most,
+        cond_most (within (get_or sheet.columns q no_column).life (mark_of (get_or sheet.columns q no_column).first sheet.positions (get_or w (mark_place k) 0)) (get_or sheet.positions at (pos 0))),
+        (ta.lanes q g).reach at (get_or w (mark_place k) 0) (ro.marks k l) h,
+      ))
 
 module _ (sheet : Sheet) (t w : List ℕ) (p : List Bool) (n : ℕ) (ta : Tables sheet t) (ro : Rows sheet w p n) (h : length p < length sheet.positions) where
   -- the loops over a node's rows and the suffix prices of its no child stay within tables and 31 bits
@@ -546,25 +543,36 @@ module _ (sheet : Sheet) (t w : List ℕ) (p : List Bool) (n : ℕ) (ta : Tables
 
 -- ---- the first node
 
+-- the first row has its mark at the first place
+pub first_mark : {w : List ℕ} → FirstRow w → (k : ℕ) → k < 1 → get_or w (mark_place k) 0 ≤ 0
+first_mark {w} r k l = let z : mark_base + k ≡ mark_base = omega arith in let y : get_or w (mark_place k) 0 ≡ 0 = ap (λ (x : ℕ). get_or w x 0) z ∙ r.mark in omega arith
+
+-- its numbers are within any bound
+pub first_level : {w : List ℕ} → FirstRow w → (b k q : ℕ) → k < 1 → q < lane_count_lem → Level b (get_or w (row_place k q) 0)
+first_level {w} r b k q l g = let z : k * lane_count_lem + q ≡ q = omega arith in let y : get_or w (row_place k q) 0 ≡ 0 = ap (λ (x : ℕ). get_or w x 0) z ∙ r.lanes q g in record { some = λ a. omega arith; most = omega arith }
+
+-- and it is a column's front where nothing is decided
+pub first_front : {w : List ℕ} → FirstRow w → (ss : List ℤ) (col : Column) (q : ℕ) → q < lane_count_lem → solid (marks_in col.first ss w q 1) ≡ solid (front ss col [])
+unfolding marks_in front_from
+first_front {w} r ss col q l =
+    let z : 0 * lane_count_lem + q ≡ q = omega arith in
+    let y : get_or w (row_place 0 q) 0 ≡ 0 = ap (λ (x : ℕ). get_or w x 0) z ∙ r.lanes q l in
+    ap solid
+    ((λ i. record { at = mark_of col.first ss (r.mark i); cost = value_of (y i) } ∷ [])
+    ∙ sym (ap (front_from col.life (record { at = col.first; cost = Sum 0 } ∷ [])) (decided_nil ss col.prices)))
+
 -- the first row alone is what each lane sees where nothing is decided
 pub seen_root : (sheet : Sheet) (w : List ℕ) → length sheet.columns ≤ lane_count_lem → FirstRow w → SeenRows sheet w 0 (λ (q : ℕ). []) 1
-unfolding marks_in front_from
 seen_root sheet w h r =
     record {
       size = r.size;
       some = omega arith;
       few = omega arith;
-      marks = λ k l. let z : mark_base + k ≡ mark_base = omega arith in let y : get_or w (mark_place k) 0 ≡ 0 = ap (λ (x : ℕ). get_or w x 0) z ∙ r.mark in omega arith;
+      marks = first_mark r;
       narrow = h;
       decided = λ q l. refl;
-      level = λ k q l g. let z : k * lane_count_lem + q ≡ q = omega arith in let y : get_or w (row_place k q) 0 ≡ 0 = ap (λ (x : ℕ). get_or w x 0) z ∙ r.lanes q (omega arith) in record { some = λ a. omega arith; most = omega arith };
-      fronts = λ q l.
-          let col = get_or sheet.columns q no_column in
-          let z : 0 * lane_count_lem + q ≡ q = omega arith in
-          let y : get_or w (row_place 0 q) 0 ≡ 0 = ap (λ (x : ℕ). get_or w x 0) z ∙ r.lanes q (omega arith) in
-          ap solid
-          ((λ i. record { at = mark_of col.first sheet.positions (r.mark i); cost = value_of (y i) } ∷ [])
-          ∙ sym (ap (front_from col.life (record { at = col.first; cost = Sum 0 } ∷ [])) (decided_nil sheet.positions col.prices)));
+      level = λ k q l g. first_level r 0 k q l (omega arith);
+      fronts = λ q l. first_front r sheet.positions (get_or sheet.columns q no_column) q (omega arith);
     }
 
 -- the row of the first life is that of the first node

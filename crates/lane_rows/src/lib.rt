@@ -1,7 +1,7 @@
 // Rows of lanes, one for each part, in fours: the tables, and a stack of rows in a lent buffer. A row function stands for any number of fours; its caller names the number, which makes each loop one without a count.
 // Kept as loops over places, each for what it says there: total, least_rows, step_fours. The others go over items, or only call a function with the number.
 // Kept as slices of LANES or more in turn, min_row, plus_row, add_row, least_rows, next_lanes, store_row and total: their callers hand parts of the stack and of the tables, whose length a type can't say, and an array for the lanes would ask those outside for that very length. Kept as slices in step_lanes and put_lanes: by_fours hands the stack as one.
-// Kept as parameters side by side, the tables, the stack, its rows and an opening (t, w, rows, j): the stack is lent to be written and the tables to be read, so a struct of them would be taken apart in each function; and what is asked of the number of rows and of the opening is asked of them with the numbers on the stack, so no type of the two alone could say it.
+// Kept as parameters side by side, the tables, the stack, its rows and an opening (t, w, rows, j): the stack is lent to be written and the tables to be read, so a struct of them would be taken apart in each function; and what is asked of the number of rows and of the opening is asked of them with the numbers on the stack, so no type of the two alone could say it; and as places (d, e, out) in the three functions that write a row of the memo, which are computed once and handed on.
 #![tactic(auto)]
 
 ghost use denote.Ref.{MutBor};

@@ -42,15 +42,11 @@ pub struct OpeningLists {
 }
 
 // The openings of a job as lists.
-// Kept with a place to write at: two arrays are written there, and zipped with the openings they would be a pair in a pair.
 pub fn opening_lists(job: &Job) -> OpeningLists
     ensures { (take job.now.opening_count result.steps ≡ steps_of (job_of job.now).openings) × (take job.now.opening_count result.fees ≡ map fee_of (job_of job.now).openings) }
 {
-    let mut steps = [0u32; OPENINGS];
-    let mut fees = [0u32; OPENINGS];
-    for (i, o) in job.openings[..job.opening_count].iter().enumerate() {
-        steps[i] = o.step;
-        fees[i] = o.fee;
+    OpeningLists {
+        steps: job.openings.map(|o| o.step),
+        fees: job.openings.map(|o| o.fee),
     }
-    OpeningLists { steps, fees }
 }

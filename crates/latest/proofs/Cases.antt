@@ -1,20 +1,16 @@
 -- The answer to 01's job and to small ones, computed from the definitions.
 use mathlib.Core.Path.{◌≡◌, refl}
 use mathlib.Core.Bool.{Bool, true, false}
-use mathlib.Core.List.{List, [], ◌∷◌, map}
+use mathlib.Core.List.{List, [], ◌∷◌}
 use Prim.Native.Nat.{ℕ}
 use lib.ListN.{replicate}
 use Rattle.model.specs.Model.{Job, Part, listed, running, clock, within, kept, table, holds_one, rounds, comes_out, holding, out_by, select, sum_at, sum, cost_of_lem}
 use Rattle.model.specs.LowerBound.{least_of_lem, choice_of, offers, choice_over}
+use Rattle.model.proofs.Cases.{job_with}
 use Rattle.latest.specs.Latest.{latest_from, latest_of_lem, unserved, serves, each_served, latest_answer_of}
 
 abbrev job : Job
-job = record {
-  horizon = 6;
-  idles = [];
-  openings = map (λ (step : ℕ). record { step = step; fee = 10 }) (2 ∷ 3 ∷ 4 ∷ 5 ∷ []);
-  parts = record { life = 3; left = 2; removal = 0; holders = []; prices = replicate 4 5 } ∷ record { life = 4; left = 4; removal = 0; holders = []; prices = replicate 4 7 } ∷ [];
-}
+job = job_with 10 2
 
 -- over the planner's stops, the planner's plan
 planned : latest_answer_of job (true ∷ false ∷ true ∷ false ∷ []) ≡ serves 37 (record {

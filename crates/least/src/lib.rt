@@ -23,7 +23,8 @@ pub const MARKS: usize = OPENINGS + 1;
 // The suffix table has a row for each opening and one past the last.
 pub const TABLE: usize = 4225;
 
-// The table's number for a missing price, 2 ^ 62. Kept as a number: a Bound would double the fixed memory of the table that callers lend.
+// The table's number for a missing price, 2 ^ 62.
+// Kept as a number: a Bound would double the fixed memory of the table that callers lend.
 const MISSING: u64 = 4611686018427387904;
 
 // A part counts as last changed at `left - life`, which is zero or negative.
@@ -90,6 +91,7 @@ fn dearer(price: u32, a: u64) -> Bound
 }
 
 // Kept as slices of any length that is enough in the functions below: an array would ask callers for that very length.
+// Kept with the limits of i, j and k in the clauses below: a mark and an opening are plain numbers, and a type of bounded numbers would be taken apart at each index.
 impl PartOffers<'_> {
     // What is left to pay with no opening left, after mark i: nothing, or there is no way.
     fn at_end(&self, i: usize) -> Bound

@@ -31,6 +31,7 @@ pub fn judgement_to(past: &Accepted, step: u32, stated: u32, plan: &Plan) -> Jud
 }
 
 // The life that is not used at the position `now` by a part last changed at `last`; 0 if more was used.
+// Kept as three numbers with their ranges, as in `clock::keeps`.
 // Kept as casts: std has no From for either, and a life is at most 1000.
 fn left_at(life: u32, last: i32, now: i32) -> u32
     requires { (life ≤ longest_life) × Begins life last × Position now }

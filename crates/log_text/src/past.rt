@@ -17,7 +17,8 @@ pub fn past_count(job: &Job, step: u32) -> usize
         .unwrap_or(openings.len())
 }
 
-// The job with its first n openings alone. Kept as a copy that is changed: a literal with `..job` is not taken of a struct with ghost fields.
+// The job with its first n openings alone.
+// Kept as a copy that is changed: a literal with `..job` is not taken of a struct with ghost fields.
 pub fn past_job(job: &Job, n: usize) -> Job
     requires { n ≤ job.now.opening_count }
     ensures { (job_of result ≡ job_to n (job_of job.now)) × (result.opening_count ≡ n) × (result.part_count ≡ job.now.part_count) }

@@ -1,14 +1,12 @@
--- Parts at the low ends of their prices: what a part's lines mean there (`low_ruled`, `low_quoted`), all parts (`lows_all`), each part is what its lines mean (`each_means`); and whether one has a `low` line, one more (`banded_more`). By the parts, one after the other.
-use Prim.Native.Nat.{ℕ, zero, suc, ◌+◌, ◌≤◌, ◌<◌}
+-- Parts at the low ends of their prices: what a part's lines mean there (`low_ruled`, `low_quoted`), all parts (`lows_all`), each part is what its lines mean (`each_means`); and whether one has a `low` line (`any_said`). By the parts, one after the other.
+use Prim.Native.Nat.{ℕ, zero, suc, ◌≤◌, ◌<◌}
 use mathlib.Core.Path.{◌≡◌, refl, sym, ap, ap₂, ◌∙◌}
 use Rattle.std.specs.Prelude.{Option, Some, None}
-use mathlib.Core.Bool.{Bool, true, false, ◌||◌}
-use mathlib.Core.List.{List, [], ◌∷◌, ◌++◌, map}
+use mathlib.Core.Bool.{Bool, false, ◌||◌}
+use mathlib.Core.List.{List, [], ◌∷◌, map}
 use native.Mathlib.Omega.{arith}
-use native.Mathlib.Numerals.{add-one}
-use lib.ListN.{length, get_or, take, drop, set}
-use lib.Seq.{take-suc}
-use Rattle.lines.proofs.Arrays.{take_more}
+use lib.ListN.{length, get_or, take, drop, replicate, length-replicate}
+use Rattle.std.specs.List.{list_any}
 use Rattle.model.specs.Model as model
 use Rattle.jobs.specs.Views.{blank_part_lem, part_of_lem}
 use Rattle.jobs.specs.declared.Part.{Part}
@@ -17,11 +15,12 @@ use Rattle.quotes.specs.Views.{quotes_of, lows_of}
 use Rattle.quotes.proofs.Quoted.{lows_are}
 use Rattle.price_rules.specs.declared.Rule.{Rule}
 use Rattle.price_rules.specs.Grammar.{meant_prices, low_prices_lem, banded_prices}
-use Rattle.part_lines.specs.Grammar.{PartText, meant_part, low_part_lem, any_banded}
+use Rattle.part_lines.specs.Grammar.{meant_part, low_part_lem, any_banded}
 use Rattle.part_lines.specs.Views.{blank_said, prices_told, part_lines_lem, parts_lines}
 use Rattle.part_lines.specs.declared.said.PartSaid.{PartSaid}
-use Rattle.part_lines.proofs.Lines.{lines_more}
-use Rattle.low_ends.proofs.Prices.{or_assoc}
+use Rattle.low_ends.specs.Lows.{Long}
+use Rattle.low_ends.specs.Marks.{one_of}
+use Rattle.low_ends.proofs.Prices.{pair_there}
 
 -- ---- one part
 
@@ -47,17 +46,7 @@ module _ (n : ℕ) (s : PartSaid) (p : model.Part) (means : meant_part n (part_l
       same : (o : Option Rule) → o ≡ None → low_prices_lem n (prices_told None (quotes_of s.lows p.prices)) ≡ low_prices_lem n (prices_told o (quotes_of s.lows p.prices))
       same o g = rw g refl
 
--- ---- one part more
-
-same_take : {A : Type 0} (i : ℕ) (xs : List A) (d : A) → i < length xs → take (i + 1) xs ≡ take (i + 1) (set xs i (get_or xs i d))
-same_take i xs d h = ap (λ (k : ℕ). take k xs) (add-one i) ∙ take-suc xs i d h ∙ sym (take_more i xs (get_or xs i d) h)
-
--- the lines of the first i + 1 parts
-lines_next : (n i : ℕ) (ss : List PartSaid) (ps : List Part) → i < length ss → i < length ps
-    → parts_lines (take (i + 1) ss) (map (part_of_lem n) (take (i + 1) ps)) ≡ parts_lines (take i ss) (map (part_of_lem n) (take i ps)) ++ part_lines_lem (get_or ss i blank_said) (part_of_lem n (get_or ps i blank_part_lem)) ∷ []
-lines_next n i ss ps h m =
-    ap₂ (λ (cs : List PartSaid) (qs : List Part). parts_lines cs (map (part_of_lem n) qs)) (same_take i ss blank_said h) (same_take i ps blank_part_lem m)
-    ∙ lines_more n i ss ps (get_or ss i blank_said) (get_or ps i blank_part_lem) h m
+-- ---- the parts, one after the other
 
 -- where each of the first m parts is at the low ends of its prices, these parts are what their lines mean there
 pub lows_all : (n m : ℕ) (ss : List PartSaid) (ps rs : List Part) → m ≤ length ss → m ≤ length ps → m ≤ length rs
@@ -92,16 +81,24 @@ ruled_plain s highs e = ap (λ (o : Option Rule). banded_prices (prices_told o (
 pub quoted_banded : (s : PartSaid) (highs : List ℕ) → s.rule ≡ None → banded_prices (prices_told s.rule (quotes_of s.lows highs)) ≡ any_pair (quotes_of s.lows highs)
 quoted_banded s highs e = ap (λ (o : Option Rule). banded_prices (prices_told o (quotes_of s.lows highs))) e
 
-any_then : (ts : List PartText) (t : PartText) → any_banded (ts ++ t ∷ []) ≡ (any_banded ts || banded_prices t.prices)
-unfolding any_banded
-any_then [] t = or-false (banded_prices t.prices)
+-- which prices they are beside their low ends does not tell
+same_highs : (s : PartSaid) (hs ks : List ℕ) → length hs ≡ length ks → banded_prices (prices_told s.rule (quotes_of s.lows hs)) ≡ banded_prices (prices_told s.rule (quotes_of s.lows ks))
+same_highs s hs ks e = by s.rule
   where
-    or-false : (b : Bool) → (b || false) ≡ b
-    or-false true = refl
-    or-false false = refl
-any_then (u ∷ ts) t = ap (λ (b : Bool). banded_prices u.prices || b) (any_then ts t) ∙ or_assoc (banded_prices u.prices) (any_banded ts) (banded_prices t.prices)
+    by : (o : Option Rule) → banded_prices (prices_told o (quotes_of s.lows hs)) ≡ banded_prices (prices_told o (quotes_of s.lows ks))
+    by (Some r) = refl
+    by None = pair_there s.lows hs ∙ ap (λ (k : ℕ). one_of (take k s.lows)) e ∙ sym (pair_there s.lows ks)
 
-pub banded_more : (n i : ℕ) (ss : List PartSaid) (ps : List Part) → i < length ss → i < length ps
-    → any_banded (parts_lines (take (i + 1) ss) (map (part_of_lem n) (take (i + 1) ps)))
-    ≡ (any_banded (parts_lines (take i ss) (map (part_of_lem n) (take i ps))) || banded_prices (part_lines_lem (get_or ss i blank_said) (part_of_lem n (get_or ps i blank_part_lem))).prices)
-banded_more n i ss ps h m = ap any_banded (lines_next n i ss ps h m) ∙ any_then (parts_lines (take i ss) (map (part_of_lem n) (take i ps))) (part_lines_lem (get_or ss i blank_said) (part_of_lem n (get_or ps i blank_part_lem)))
+-- whether a part's lines have a `low` line, by what they say alone: the same with any prices, as with zeros
+abbrev pub said_banded : ℕ → PartSaid → Bool
+said_banded n s = banded_prices (prices_told s.rule (quotes_of s.lows (replicate n 0)))
+
+-- one of the first m parts has one exactly where one of their lines says so
+pub any_said : (n m : ℕ) (ss : List PartSaid) (ps : List Part) → m ≤ length ss → Long m n ps → list_any (said_banded n) (take m ss) ≡ any_banded (parts_lines (take m ss) (map (part_of_lem n) (take m ps)))
+unfolding parts_lines any_banded
+any_said n zero ss ps h l = refl
+any_said n (suc m) [] ps h l = absurd (omega arith)
+any_said n (suc m) (s ∷ ss) [] h l = absurd (omega (arith, l.size))
+any_said n (suc m) (s ∷ ss) (p ∷ ps) h l =
+    ap₂ ◌||◌ (same_highs s (replicate n 0) (take n p.prices) (length-replicate n 0 ∙ sym (l.prices 0 (omega arith))))
+    (any_said n m ss ps (omega arith) (record { size = omega (arith, l.size); prices = λ q t. l.prices (suc q) (omega arith) }))

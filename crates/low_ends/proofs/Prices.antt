@@ -3,7 +3,7 @@ use Rattle.std.specs.Prelude.{Option, Some, None, is_some}
 use Rattle.std.specs.List.{list_any}
 use Prim.Native.Nat.{ℕ, zero, suc, ◌+◌, ◌<◌}
 use mathlib.Core.Path.{◌≡◌, refl, ap, ◌∙◌}
-use mathlib.Core.Bool.{Bool, true, false, ◌||◌}
+use mathlib.Core.Bool.{Bool, false, ◌||◌}
 use mathlib.Core.List.{List, [], ◌∷◌, ◌++◌}
 use native.Mathlib.Omega.{arith}
 use native.Mathlib.Numerals.{add-one}
@@ -31,11 +31,6 @@ pub lows_next : (k : ℕ) (ls : List (Option ℕ)) (hs : List ℕ) → k < lengt
 lows_next k ls hs h = ap (λ (i : ℕ). lows_of ls (take i hs)) (add-one k) ∙ lows_suc k ls hs h
 
 -- ---- low ends that are there
-
--- whether one of three holds does not depend on which two are joined first
-pub or_assoc : (a b c : Bool) → (a || (b || c)) ≡ ((a || b) || c)
-or_assoc true b c = refl
-or_assoc false b c = refl
 
 -- a price is a pair exactly where its low end is there
 pub pair_there : (ls : List (Option ℕ)) (hs : List ℕ) → any_pair (quotes_of ls hs) ≡ one_of (take (length hs) ls)

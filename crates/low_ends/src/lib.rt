@@ -82,16 +82,11 @@ fn is_part_banded(said: PartSaid, n: usize) -> bool
 }
 
 // Whether the lines of the first m parts have a `low` line, with n openings.
-// Kept as a loop over the parts' places: what is known of a part's prices is how many they are, and a rule for `any` would have to name some.
 fn one_banded(said: [PartSaid; PARTS], m: usize, n: usize) -> bool
     requires { (m ≤ most_parts) × (n ≤ most_openings) }
     ensures { (parts : List code.Part) → Long m n parts → result ≡ any_banded (parts_lines (take m said) (map (part_of_lem n) (take m parts))) }
 {
-    let mut one = false;
-    for q in 0..m {
-        one = one | is_part_banded(said[q], n);
-    }
-    one
+    said[..m].iter().any(|said| is_part_banded(*said, n))
 }
 
 // Whether the lines of a job's parts have a `low` line.

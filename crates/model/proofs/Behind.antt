@@ -15,6 +15,7 @@ use Rattle.model.specs.Longest.{longest}
 use Rattle.model.specs.Count.{each_reaches, each_kept, count_from, open_count}
 use Rattle.model.specs.Verdict.{accepts, wrong_cost, first_late, verdict_from, judged_of}
 use Rattle.model.proofs.Promised.{promise}
+use Rattle.model.proofs.Cases.{printed, twice}
 
 -- removals 1 and 3; part 1's holder is part 2, and these are part 2's
 abbrev hidden : List ℕ → Job
@@ -26,20 +27,6 @@ hidden holders = record {
       record { life = 3; left = 2; removal = 1; holders = 2 ∷ []; prices = replicate 4 5 }
       ∷ record { life = 4; left = 4; removal = 3; holders = holders; prices = replicate 4 7 }
       ∷ [];
-}
-
--- stop=2 part=1, stop=4 part=1 part=2: each time both come out
-abbrev printed : Plan
-printed = record {
-  stops = true ∷ false ∷ true ∷ false ∷ [];
-  changes = (true ∷ false ∷ true ∷ false ∷ []) ∷ (false ∷ false ∷ true ∷ false ∷ []) ∷ [];
-}
-
--- both parts at 2 and 5
-abbrev twice : Plan
-twice = record {
-  stops = true ∷ false ∷ false ∷ true ∷ [];
-  changes = (true ∷ false ∷ false ∷ true ∷ []) ∷ (true ∷ false ∷ false ∷ true ∷ []) ∷ [];
 }
 
 walk_17 : answer_of (hidden []) 17 ≡ optimum 17 39 45 printed

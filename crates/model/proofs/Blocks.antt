@@ -1,8 +1,8 @@
 -- A node's name as blocks, one for each decided opening: more decisions let the blocks grow, at the end only; and the names of full nodes are whole blocks joined. By recursion over the openings.
 use mathlib.Core.Path.{◌≡◌, refl, sym, ap, subst, ◌∙◌}
-use mathlib.Core.Bool.{Bool, true, false, not, ◌||◌, and-eq-true_iff}
+use mathlib.Core.Bool.{Bool, true, false, not, ◌||◌, and-eq-true_iff, false≢true}
 use mathlib.Core.List.{List, [], ◌∷◌, ◌++◌, append_assoc}
-use Prim.Native.Nat.{ℕ, zero, suc, ◌+◌, ◌≤◌}
+use Prim.Native.Nat.{ℕ, zero, suc, ◌+◌, ◌≤◌, ◌<◌}
 use native.Mathlib.Omega.{arith}
 use lib.ListN.{length, get_or, take, drop, length-append, take-append-drop}
 use lib.Seq.{take_at, drop_at, length-take-le}
@@ -10,6 +10,7 @@ use Rattle.branch.specs.Questions.{done, Answers, Full, repeated}
 use Rattle.model.specs.Model.{sum_at}
 use Rattle.model.specs.Decisions.{Held, accessible, places_in, concat}
 use Rattle.model.specs.LowerBound.{blocks, stops_in, removed_in}
+use Rattle.model.proofs.Bools.{after_one}
 use Rattle.model.proofs.Fees.{sum_rises}
 
 -- ---- more decisions
@@ -62,13 +63,24 @@ accessible_none [] = refl
 accessible_none (false ∷ needs) = accessible_none needs
 accessible_none (true ∷ needs) = accessible_none needs
 
-accessible_front : (needs r u : List Bool) → accessible needs (r ++ u) ≡ true → accessible needs r ≡ true
+-- what a part needs out at a front is out at all of it
+pub accessible_front : (needs r u : List Bool) → accessible needs (r ++ u) ≡ true → accessible needs r ≡ true
 unfolding accessible
 accessible_front [] r u e = refl
 accessible_front (need ∷ needs) [] u e = accessible_none (need ∷ needs)
 accessible_front (need ∷ needs) (x ∷ r) u e =
     let a = (and-eq-true_iff (not need || x) (accessible needs (r ++ u))).0 e in
     (and-eq-true_iff (not need || x) (accessible needs r)).1 (a.0, accessible_front needs r u a.1)
+
+-- a part that can be changed has what it needs out
+pub accessible_out : (needs rs : List Bool) → accessible needs rs ≡ true → (j : ℕ) → get_or needs j false ≡ true → get_or rs j true ≡ true
+unfolding accessible
+accessible_out [] rs e zero t = absurd (false≢true t)
+accessible_out [] rs e (suc j) t = absurd (false≢true t)
+accessible_out (need ∷ needs) rs e zero t =
+    subst (λ (b : Bool). (not b || get_or rs 0 true) ≡ true) t ((and-eq-true_iff (not need || get_or rs 0 true) (accessible needs (drop 1 rs))).0 e).0
+accessible_out (need ∷ needs) rs e (suc j) t =
+    sym (after_one rs j true) ∙ accessible_out needs (drop 1 rs) ((and-eq-true_iff (not need || get_or rs 0 true) (accessible needs (drop 1 rs))).0 e).1 j t
 
 -- a place open to the part once blocks have grown was open to it before
 pub places_grow : (held : Held) {bs ds : List (List Bool)} → Grows bs ds → (i : ℕ) → get_or (places_in held ds) i true ≡ true → get_or (places_in held bs) i true ≡ true
@@ -107,6 +119,19 @@ wholes_length h zero [] w = refl
 wholes_length h zero (b ∷ bs) w = absurd w
 wholes_length h (suc n) [] w = absurd w
 wholes_length h (suc n) (b ∷ bs) w = ap suc (wholes_length h n bs w.1)
+
+-- each of n whole blocks is a whole block
+pub whole_at : (h n : ℕ) (bs : List (List Bool)) → Wholes h n bs → (k : ℕ) → k < n → Whole h (get_or bs k [])
+whole_at h zero bs w k l = absurd (omega arith)
+whole_at h (suc n) [] w k l = absurd w
+whole_at h (suc n) (b ∷ bs) w zero l = w.0
+whole_at h (suc n) (b ∷ bs) w (suc k) l = whole_at h n bs w.1 k (omega arith)
+
+-- the blocks of two lists in a row, joined, are the first's joined and then the second's
+pub concat_append : (bs ds : List (List Bool)) → concat (bs ++ ds) ≡ concat bs ++ concat ds
+unfolding concat
+concat_append [] ds = refl
+concat_append (b ∷ bs) ds = ap (λ (l : List Bool). b ++ l) (concat_append bs ds) ∙ sym (append_assoc b (concat bs) (concat ds))
 
 -- the h questions after a yes are answered by any h decisions
 pub inner_answered : (h : ℕ) (P : List Bool → Type 0) (s : List Bool) → Answers (repeated h done done) P s → (h ≤ length s) × P (drop h s)

@@ -18,7 +18,7 @@ use Rattle.model.specs.Published.{at_step, objective}
 use Rattle.model.proofs.Promised.{promise}
 
 -- the worked job with the fee of each opening and part 1's left
-abbrev job_with : ℕ → ℕ → Job
+abbrev pub job_with : ℕ → ℕ → Job
 job_with fee left = record {
   horizon = 6;
   idles = [];
@@ -27,14 +27,14 @@ job_with fee left = record {
 }
 
 -- stop=2 part=1, stop=4 part=1 part=2
-abbrev printed : Plan
+abbrev pub printed : Plan
 printed = record {
   stops = true ∷ false ∷ true ∷ false ∷ [];
   changes = (true ∷ false ∷ true ∷ false ∷ []) ∷ (false ∷ false ∷ true ∷ false ∷ []) ∷ [];
 }
 
 -- both parts at 2 and 5
-abbrev twice : Plan
+abbrev pub twice : Plan
 twice = record {
   stops = true ∷ false ∷ false ∷ true ∷ [];
   changes = (true ∷ false ∷ false ∷ true ∷ []) ∷ (true ∷ false ∷ false ∷ true ∷ []) ∷ [];

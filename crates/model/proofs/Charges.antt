@@ -17,7 +17,7 @@ use Rattle.model.proofs.Blocks.{Whole, Wholes, blocks_full}
 use Rattle.model.proofs.Bounded.{FullNode}
 
 -- a choice of a sum is the sum of choices
-cond_plus : (b : Bool) (x y : ℕ) → cond b (x + y) 0 ≡ cond b x 0 + cond b y 0
+pub cond_plus : (b : Bool) (x y : ℕ) → cond b (x + y) 0 ≡ cond b x 0 + cond b y 0
 cond_plus true x y = refl
 cond_plus false x y = omega arith
 

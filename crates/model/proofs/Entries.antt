@@ -1,6 +1,6 @@
 -- The count of E6 for code: no number above the cap, and the least life and the least first life of the parts in place of them all. By recursion over the openings, and over the parts.
 use mathlib.Core.Path.{◌≡◌, refl, sym, ap, ◌∙◌}
-use mathlib.Core.Bool.{Bool, true, false, cond, ◌&&◌, and-eq-true_iff}
+use mathlib.Core.Bool.{Bool, true, false, cond, ◌&&◌, and_assoc, and-eq-true_iff}
 use mathlib.Core.List.{List, [], ◌∷◌}
 use mathlib.Core.Logic.{◌↔◌}
 use Prim.Native.Nat.{ℕ, zero, suc, ◌+◌, ◌-◌, ◌≤◌, min}
@@ -95,10 +95,6 @@ within-left life left y = same_test (within (pos life) (pos left -ℤ pos life) 
     (λ e. near_within (pos left) (pos 0) y (omega (arith, near (pos life) (pos left -ℤ pos life) y e, difference (pos left) (pos life))))
     (λ e. near_within (pos life) (pos left -ℤ pos life) y (omega (arith, near (pos left) (pos 0) y e, difference (pos left) (pos life))))
 
-and_assoc : (a b c : Bool) → (a && (b && c)) ≡ ((a && b) && c)
-and_assoc true b c = refl
-and_assoc false b c = refl
-
 and-true : (a : Bool) → (a && true) ≡ a
 and-true true = refl
 and-true false = refl
@@ -119,7 +115,7 @@ module _ (job : Job) where
   unfolding each_reaches
   among a b m k [] = and-true (test a b m k)
   among a b m k (part ∷ parts) =
-      and_assoc (test a b m k) (test part.life part.left m k) (each_reaches job m k parts)
+      sym (and_assoc (test a b m k) (test part.life part.left m k) (each_reaches job m k parts))
       ∙ ap (λ (t : Bool). t && each_reaches job m k parts) (both a b part.life part.left m k)
       ∙ among (min a part.life) (min b part.left) m k parts
 

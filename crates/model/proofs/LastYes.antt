@@ -5,7 +5,7 @@ use mathlib.Core.Bool.{Bool, true, false, cond, ◌&&◌, false≢true}
 use mathlib.Core.List.{List, [], ◌∷◌, ◌++◌, map}
 use Prim.Native.Nat.{ℕ, zero, suc, ◌+◌, ◌≤◌}
 use native.Mathlib.Omega.{arith}
-use borrow.Author.Tests.{ltb-true, ltb-false}
+use borrow.Author.Tests.{ltb-false}
 use lib.Dec.{ltb}
 use lib.ListN.{length, get_or, drop, replicate}
 use lib.IntN.{ℤ, pos, ◌-ℤ◌}
@@ -17,6 +17,7 @@ use Rattle.model.specs.Model.{Opening, Job, running, clock, positions, end, with
 use Rattle.model.specs.Windows.{Rising, steps_of}
 use Rattle.model.specs.LowerBound.{Offer, plus, lower_than, lower, change_at_lem, least_of_lem, offers, undecided_fees}
 use Rattle.model.specs.LastYes.{after_one_lem, last_yes, mark_in, Climbs}
+use Rattle.model.proofs.Lower.{no_more_refl, no_more_trans, lower_first, lower_second, lower_both}
 use Rattle.model.proofs.Integers.{AtMostℤ, at_most, at_most_test, difference}
 use Rattle.model.proofs.Positions.{never_falls, within_earlier, within_later}
 
@@ -69,43 +70,6 @@ pub first_climbs : (end : ℤ) (ss : List ℤ) (left life : ℕ) → left ≤ li
 first_climbs end ss left life h c = climbs_from end (pos left -ℤ pos life) (pos 0) ss (omega (arith, difference (pos left) (pos life))) c
 
 -- ---- least prices
-
-no_more_refl : (x : Bound) → NoMore x x
-no_more_refl Missing = tt
-no_more_refl (Sum a) = omega arith
-
-no_more_trans : (x y z : Bound) → NoMore x y → NoMore y z → NoMore x z
-no_more_trans x y Missing h g = tt
-no_more_trans x Missing (Sum c) h g = absurd g
-no_more_trans Missing (Sum b) (Sum c) h g = absurd h
-no_more_trans (Sum a) (Sum b) (Sum c) h g = omega arith
-
-lower_first : (a b : Bound) → NoMore (lower a b) a
-lower_first Missing Missing = tt
-lower_first Missing (Sum b) = tt
-lower_first (Sum a) Missing = omega arith
-lower_first (Sum a) (Sum b) = go (ltb b a) refl
-  where
-    go : (t : Bool) → ltb b a ≡ t → NoMore (cond t (Sum b) (Sum a)) (Sum a)
-    go true e = omega (arith, ltb-true b a e)
-    go false e = omega arith
-
-lower_second : (a b : Bound) → NoMore (lower a b) b
-lower_second a Missing = tt
-lower_second Missing (Sum b) = omega arith
-lower_second (Sum a) (Sum b) = go (ltb b a) refl
-  where
-    go : (t : Bool) → ltb b a ≡ t → NoMore (cond t (Sum b) (Sum a)) (Sum b)
-    go true e = omega arith
-    go false e = omega (arith, ltb-false b a e)
-
--- where neither of two is less, nor is the lower
-lower_both : (c a b : Bound) → NoMore c a → NoMore c b → NoMore c (lower a b)
-lower_both c a b h g = go (lower_than a b)
-  where
-    go : (t : Bool) → NoMore c (cond t b a)
-    go true = g
-    go false = h
 
 -- the second, where it is no more than the first
 lower_is : (a b : Bound) → NoMore b a → lower a b ≡ b

@@ -3,6 +3,7 @@ pub mod Bools
 pub mod Integers
 pub mod Positions
 pub mod Windows
+pub mod Lower
 pub mod Least
 pub mod Offers
 pub mod Fees

@@ -1,12 +1,12 @@
 -- From full nodes to plans: the plan of a full node keeps the lives by the chosen changes, decides no more removals than the node, and costs no more. Where every full node before the node
 -- costs more, the plan's decisions are the node's, because a node with a useless removal comes after the one without it.
 use mathlib.Core.Path.{◌≡◌, refl, sym, ap, subst, ◌∙◌}
-use mathlib.Core.Bool.{Bool, true, false, cond, not, ◌||◌, and-eq-true_iff, false≢true}
+use mathlib.Core.Bool.{Bool, true, false, cond}
 use mathlib.Core.List.{List, [], ◌∷◌, map}
 use mathlib.Core.Logic.{inl, inr, ⊎_elim}
 use Prim.Native.Nat.{ℕ, zero, suc, ◌+◌, ◌≤◌, ◌<◌}
 use native.Mathlib.Omega.{arith}
-use lib.ListN.{length, length-map, get_or, drop}
+use lib.ListN.{length, length-map, get_or}
 use Rattle.branch.specs.declared.Bound.{Bound}
 use Rattle.branch.specs.declared.Bound.TheVariants.{Sum}
 use Rattle.branch.specs.Search.{plan, Before, Strict}
@@ -14,16 +14,16 @@ use Rattle.branch.specs.Lower.{total}
 use Rattle.branch.proofs.Lower.{Split, split}
 use Rattle.branch.proofs.Bounds.{sum_inj}
 use Rattle.model.specs.Model.{Part, Job, Plan, table, comes_out, holding, out_at, sum_at, fee_of, removal_of_lem, prices_of_lem, cost_of_lem, Each, KeepsPart, KeepsLives, Chosen}
-use Rattle.model.specs.Decisions.{of_holders, Held, held_at, held_from, held_parts, accessible, allows, places_in, block_of, plan_blocks, decisions_of}
+use Rattle.model.specs.Decisions.{of_holders, Held, held_at, held_from, held_parts, allows, places_in, block_of, plan_blocks, decisions_of}
 use Rattle.model.specs.LowerBound.{inner, node_at, stops_at, places_at, part_bound, part_choice_lem, paid_at, stop_cost, plan_at}
 use Rattle.model.specs.Promise.{searched}
-use Rattle.model.proofs.Bools.{after_one, inside, yes_open, open-yes}
+use Rattle.model.proofs.Bools.{inside, yes_open, open-yes}
 use Rattle.model.proofs.Least.{AtMost}
 use Rattle.model.proofs.Offers.{to_over, from_over, part_most, part_tie, part_found}
 use Rattle.model.proofs.Totals.{select-length, select_place}
 use Rattle.model.proofs.Closure.{out_length}
 use Rattle.model.proofs.Outs.{holding-length, outs_length, brought}
-use Rattle.model.proofs.Blocks.{places_open, Whole, Wholes}
+use Rattle.model.proofs.Blocks.{places_open, Whole, whole_at, accessible_out}
 use Rattle.model.proofs.Bounded.{FullNode, node_wholes, node_joined, node_length, stops-length}
 use Rattle.model.proofs.Charges.{parts_of, cost_by, decisions_node, block_stops}
 use Rattle.model.proofs.Under.{Under, ends, same, under_of, under_before, under_joined, under_removed}
@@ -38,21 +38,6 @@ each_table R f zero [] d h r = tt
 each_table R f zero (x ∷ l) d h r = absurd (omega arith)
 each_table R f (suc n) [] d h r = absurd (omega arith)
 each_table R f (suc n) (x ∷ l) d h r = (r 0 (omega arith), each_table R (λ k. f (suc k)) n l d (omega arith) (λ k q. r (suc k) (omega arith)))
-
-whole_at : (h n : ℕ) (bs : List (List Bool)) → Wholes h n bs → (k : ℕ) → k < n → Whole h (get_or bs k [])
-whole_at h zero bs w k l = absurd (omega arith)
-whole_at h (suc n) [] w k l = absurd w
-whole_at h (suc n) (b ∷ bs) w zero l = w.0
-whole_at h (suc n) (b ∷ bs) w (suc k) l = whole_at h n bs w.1 k (omega arith)
-
-accessible_out : (needs rs : List Bool) → accessible needs rs ≡ true → (j : ℕ) → get_or needs j false ≡ true → get_or rs j true ≡ true
-unfolding accessible
-accessible_out [] rs e zero t = absurd (false≢true t)
-accessible_out [] rs e (suc j) t = absurd (false≢true t)
-accessible_out (need ∷ needs) rs e zero t =
-    subst (λ (b : Bool). (not b || get_or rs 0 true) ≡ true) t ((and-eq-true_iff (not need || get_or rs 0 true) (accessible needs (drop 1 rs))).0 e).0
-accessible_out (need ∷ needs) rs e (suc j) t =
-    sym (after_one rs j true) ∙ accessible_out needs (drop 1 rs) ((and-eq-true_iff (not need || get_or rs 0 true) (accessible needs (drop 1 rs))).0 e).1 j t
 
 module _ (job : Job) where
   abbrev size : ℕ

@@ -10,8 +10,7 @@ use borrow.Author.Tests.{ltb-false}
 use lib.ListN.{length}
 use Rattle.branch.specs.declared.Bound.{Bound}
 use Rattle.branch.specs.declared.Bound.TheVariants.{Missing, Sum}
-use Rattle.branch.specs.Search.{NoMore, Bounded, Tree, Incumbent, none, plan, Limited, whole, at_most, Sharper}
-use Rattle.branch.specs.Questions.{asked}
+use Rattle.branch.specs.Search.{NoMore, Bounded, Incumbent, none, plan, Limited, whole, at_most, Sharper}
 use Rattle.branch.specs.Lower.{total, largest}
 use Rattle.branch.proofs.Bounds.{no_sum_lem}
 use Rattle.branch.proofs.Lower.{Rises, split, add_mono, total_mono, add_more, largest_there}

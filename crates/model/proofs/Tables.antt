@@ -1,11 +1,11 @@
 -- E7.11. Source 001: the costs of the plans of Tables 2, 3 and 4 over the parts of Table 1, "4100, 3980 for dismounting and replacing plus 120 for intervention fixed cost", 5180 and 11690; chains and circles of holders.
 -- By computation.
 use mathlib.Core.Path.{◌≡◌, refl}
-use mathlib.Core.Bool.{Bool, true, false}
-use mathlib.Core.List.{List, [], ◌∷◌, map}
-use Prim.Native.Nat.{ℕ, suc}
+use mathlib.Core.Bool.{true, false}
+use mathlib.Core.List.{[], ◌∷◌, map}
+use Prim.Native.Nat.{ℕ}
 use lib.ListN.{replicate}
-use Rattle.model.specs.Model.{Part, Job, Plan, listed, table, holds_one, rounds, comes_out, holding, out_by, sum_at, sum, cost_of_lem, running, clock, within, last_within_lem, due_of_lem, select}
+use Rattle.model.specs.Model.{Job, listed, table, holds_one, rounds, comes_out, holding, out_by, sum_at, sum, cost_of_lem, running, clock, within, last_within_lem, due_of_lem, select}
 use Rattle.model.specs.Tables.{row, table1, table2, table3, table4}
 use Rattle.model.specs.Verdict.{accepts, first_late, verdict_from, judged_of}
 

@@ -10,6 +10,11 @@ use Rattle.model.proofs.Bools.{after_one}
 use Rattle.model.proofs.Offers.{sum_false, sum_true}
 use Rattle.model.proofs.Sums.{sum_same, sum_shift}
 
+-- the first number, where it is chosen, and the others
+pub sum_first : (ns : List ℕ) (c : Bool) (cs : List Bool) → sum_at ns (c ∷ cs) ≡ cond c (get_or ns 0 0) 0 + sum_at (drop 1 ns) cs
+sum_first ns false cs = omega (arith, sum_false ns cs)
+sum_first ns true cs = sum_true ns cs
+
 -- numbers at a set
 pub sum_at_lem : (ns : List ℕ) (cs : List Bool) (n : ℕ) → length cs ≡ n → sum_at ns cs ≡ sum 0 n (λ k. cond (get_or cs k false) (get_or ns k 0) 0)
 unfolding sum sum_at
@@ -21,10 +26,6 @@ sum_at_lem ns (c ∷ cs) (suc n) h =
     (sum_at_lem (drop 1 ns) cs n (omega arith)
     ∙ sum_same n 0 (λ k. cond (get_or cs k false) (get_or (drop 1 ns) k 0) 0) (λ k. cond (get_or cs k false) (get_or ns (suc k) 0) 0) (λ k _ _. ap (λ (x : ℕ). cond (get_or cs k false) x 0) (after_one ns k 0))
     ∙ sym (sum_shift n 0 (λ k. cond (get_or (c ∷ cs) k false) (get_or ns k 0) 0)))
-  where
-    sum_first : (ns : List ℕ) (c : Bool) (cs : List Bool) → sum_at ns (c ∷ cs) ≡ cond c (get_or ns 0 0) 0 + sum_at (drop 1 ns) cs
-    sum_first ns false cs = omega (arith, sum_false ns cs)
-    sum_first ns true cs = sum_true ns cs
 
 -- a sum at a set without any member is 0
 pub sum_empty : (ns : List ℕ) (cs : List Bool) → ((k : ℕ) → get_or cs k false ≡ true → ⊥) → sum_at ns cs ≡ 0

@@ -6,9 +6,9 @@ use mathlib.Core.Bool.{Bool, true, false, cond}
 use mathlib.Core.List.{List, [], ◌∷◌, ◌++◌, map}
 use Prim.Native.Nat.{ℕ, zero, suc, ◌+◌, ◌<◌}
 use native.Mathlib.Omega.{arith}
-use lib.ListN.{length, length-map, get_or, take, drop}
+use lib.ListN.{length, length-map, get_or, take}
 use lib.Seq.{take_all, get_or-take}
-use lib.IntN.{ℤ, pos}
+use lib.IntN.{pos}
 use Rattle.branch.specs.declared.Bound.{Bound}
 use Rattle.branch.specs.declared.Bound.TheVariants.{Missing, Sum}
 use Rattle.branch.specs.Search.{Incumbent, none, plan, at_most}
@@ -23,9 +23,8 @@ use Rattle.model.specs.LowerBound.{Offer, least_of_lem, choice_of, offers, node_
 use Rattle.model.specs.Promise.{cut, optimum, searched, answer_of}
 use Rattle.model.specs.Verdict.{judged, judged_of, verdict_of_lem, Shaped}
 use Rattle.model.specs.Unheld.{charged_part, charged_job, plain_part_bound, plain_part_choice, plain_part_fee, plain_bound, plain_plan, plain_tree, plain_answer, plain_cost}
-use Rattle.model.proofs.Bools.{after_one}
 use Rattle.model.proofs.Positions.{positions_size}
-use Rattle.model.proofs.Offers.{sum_none}
+use Rattle.model.proofs.Offers.{sum_none, offers_same}
 use Rattle.model.proofs.Lists.{table_list, table_same}
 use Rattle.model.proofs.Sums.{sum_same, sum_none as sum_zeros}
 use Rattle.model.proofs.Totals.{sum_at_lem}
@@ -53,18 +52,6 @@ fees_take [] (suc n) p h = absurd (omega arith)
 fees_take (m ∷ ns) zero p h = absurd (omega arith)
 fees_take (m ∷ ns) (suc n) [] h = refl
 fees_take (m ∷ ns) (suc n) (x ∷ p) h = ap (λ (l : List ℕ). 0 ∷ l) (fees_take ns n p (omega arith))
-
--- offers see a price and a Bool for each opening, and nothing else
-offers_same : (ss : List ℤ) (ns ms : List ℕ) (p q : List Bool) → ((k : ℕ) → k < length ss → get_or ns k 0 ≡ get_or ms k 0) → ((k : ℕ) → k < length ss → get_or p k true ≡ get_or q k true)
-    → offers ss ns p ≡ offers ss ms q
-unfolding offers
-offers_same [] ns ms p q f g = refl
-offers_same (s ∷ ss) ns ms p q f g =
-    let n = f 0 (omega arith) in
-    let b = g 0 (omega arith) in
-    let r = offers_same ss (drop 1 ns) (drop 1 ms) (drop 1 p) (drop 1 q)
-    (λ k l. after_one ns k 0 ∙ f (suc k) (omega arith) ∙ sym (after_one ms k 0)) (λ k l. after_one p k true ∙ g (suc k) (omega arith) ∙ sym (after_one q k true)) in
-    λ i. record { position = s; price = n i; allowed = b i } ∷ r i
 
 -- blocks of a stop alone
 single : (f : ℕ → List Bool) (g : ℕ → Bool) (n : ℕ) → ((k : ℕ) → f k ≡ g k ∷ []) → concat (table f n) ≡ table g n

@@ -4,40 +4,24 @@ use mathlib.Core.Path.{◌≡◌, refl, sym, ap, subst, ◌∙◌}
 use mathlib.Core.Bool.{Bool, true, false, cond, ◌&&◌, beq}
 use mathlib.Core.List.{List}
 use native.Mathlib.Omega.{arith}
-use native.Mathlib.Decide.{ℕ_discrete, dec_lt}
+use native.Mathlib.Decide.{ℕ_discrete}
 use native.Mathlib.Numerals.{add-one}
 use borrow.Author.Count.{below_more}
 use borrow.Author.Tests.{lt-ltb, le-ltb}
-use lib.Dec.{ltb}
 use lib.ListN.{length, get_or, set, take, drop, replicate}
 use lib.Seq.{get_or-take, length-take-le, get_or-drop, ext_get_or, get_or-set_same, get_or-set_other}
 use Rattle.std.specs.Bool.{Decides}
-use Rattle.std.specs.List.{position_or_len}
+use Rattle.std.specs.Cmp.{booleans_Decides}
+use Rattle.std.specs.List.{AllWithin, HoldsAt}
 use Rattle.std.specs.Prelude.{Option, Some, None, MatchOption}
-use Rattle.std.proofs.lemmas.List.Sums.{passes_at_first, fails_before_first}
-use Rattle.model.proofs.Bools.{there}
+use Rattle.model.proofs.Bools.{there, none_at}
 use Rattle.part_classes.specs.declared.classes.Classes.{Classes}
 use Rattle.lane_rows.specs.Layout.{lane_count_lem}
-use Rattle.held_places.specs.Arrays.{need_stride, need_size, needs_at}
-use Rattle.held_places.proofs.Parts.{needs_length}
+use Rattle.held_places.specs.Arrays.{need_stride, needs_at}
 use Rattle.part_classes.specs.Led.{Led}
 use Rattle.part_classes.specs.Grouped.{need_at, same_needs_lem, first_from, class_at, put, Grouping, classes_of_lem, Grouped}
 
 -- ---- needs that are the same
-
-beq-true : (x y : Bool) → beq x y ≡ true → x ≡ y
-beq-true true true e = refl
-beq-true true false e = sym e
-beq-true false true e = e
-beq-true false false e = refl
-
-beq_self : (x : Bool) → beq x x ≡ true
-beq_self true = refl
-beq_self false = refl
-
--- whether two flags are equal
-pub flags_equal : (x y : Bool) → Decides (beq x y) (x ≡ y)
-flags_equal x y = (beq-true x y, λ e. ap (beq x) (sym e) ∙ beq_self x)
 
 and-true : (x y : Bool) → (x && y) ≡ true → (x ≡ true) × (y ≡ true)
 and-true true y e = (refl, e)
@@ -58,36 +42,24 @@ module _ (nd : List Bool) (p q : ℕ) where
   all_same zero e i l = absurd (omega arith)
   all_same (suc h) e i l =
       let both = and-true _ _ e in
-      below_more (λ (x : ℕ). need_at nd p x ≡ need_at nd q x) h (all_same h both.0) (beq-true _ _ both.1) i (omega arith)
+      below_more (λ (x : ℕ). need_at nd p x ≡ need_at nd q x) h (all_same h both.0) ((booleans_Decides _ _).0 both.1) i (omega arith)
 
   same_all : (h : ℕ) → ((i : ℕ) → i < h → need_at nd p i ≡ need_at nd q i) → same_needs_lem nd h p q ≡ true
   unfolding same_needs_lem
   same_all zero f = refl
-  same_all (suc h) f = same_more h (same_all h (λ i l. f i (omega arith))) (ap (beq (need_at nd p h)) (sym (f h (omega arith))) ∙ beq_self (need_at nd p h))
+  same_all (suc h) f = same_more h (same_all h (λ i l. f i (omega arith))) ((booleans_Decides _ _).1 (f h (omega arith)))
 
-  module _ (h : ℕ) (s : length nd ≡ need_size) (l : h ≤ lane_count_lem) (m : p < lane_count_lem) (n : q < lane_count_lem) where
-    long : (p : ℕ) → p < lane_count_lem → length (needs_at h nd p) ≡ h
-    long p m = needs_length nd h p l m s
-
+  module _ (h : ℕ) where
     at : (p i : ℕ) → i < h → get_or (needs_at h nd p) i false ≡ need_at nd p i
     at p i g = get_or-take h (drop (p * need_stride) nd) i false g ∙ get_or-drop (p * need_stride) nd i false
-
-    -- the parts' needs are the same, and the other way round
-    needs_same : same_needs_lem nd h p q ≡ true → needs_at h nd p ≡ needs_at h nd q
-    needs_same e = ext_get_or false (needs_at h nd p) (needs_at h nd q) (long p m ∙ sym (long q n)) (λ i g. let r : i < h = omega (arith, g, long p m) in at p i r ∙ all_same h e i r ∙ sym (at q i r))
 
     -- parts whose needs are equal as lists are found to need the same
     pub same_needs_lem2 : needs_at h nd p ≡ needs_at h nd q → same_needs_lem nd h p q ≡ true
     same_needs_lem2 e = same_all h (λ i r. sym (at p i r) ∙ ap (λ (x : List Bool). get_or x i false) e ∙ at q i r)
 
-    -- parts whose lists of needs are equal, or not, need the same, or not
-    pub same_by_lists : (r : Bool) → Decides r (needs_at h nd p ≡ needs_at h nd q) → r ≡ same_needs_lem nd h p q
-    same_by_lists true f = sym (same_needs_lem2 (f.0 refl))
-    same_by_lists false f = go (same_needs_lem nd h p q) refl
-      where
-        go : (t : Bool) → same_needs_lem nd h p q ≡ t → false ≡ same_needs_lem nd h p q
-        go true e = f.1 (needs_same e) ∙ sym e
-        go false e = sym e
+    -- and the other way round, where the lists are as long as there are holding parts
+    pub same_decided : length (needs_at h nd p) ≡ h → length (needs_at h nd q) ≡ h → Decides (same_needs_lem nd h p q) (needs_at h nd p ≡ needs_at h nd q)
+    same_decided m n = (λ e. ext_get_or false (needs_at h nd p) (needs_at h nd q) (m ∙ sym n) (λ i g. let r : i < h = omega (arith, g, m) in at p i r ∙ all_same h e i r ∙ sym (at q i r)), same_needs_lem2)
 
 -- ---- the first of which something is true
 
@@ -156,35 +128,29 @@ module _ (f : ℕ → Bool) where
       let z : suc s + n ≡ s + suc n = omega arith in
       first_not s n (ap f y ∙ h 0 (omega arith)) ∙ first_missing (suc s) n (λ d m. let x : suc s + d ≡ s + suc d = omega arith in ap f x ∙ h (suc d) (omega (arith, m))) ∙ z
 
-  -- what the code finds is the first
-  pub first_of : (r : Option ℕ) (n : ℕ) → MatchOption r ((d : ℕ) → d < n → f d ≡ false) (λ i. (i < n) × (f i ≡ true) × ((d : ℕ) → d < i → f d ≡ false)) → MatchOption r (first_from f 0 n ≡ n) (λ i. (i ≡ first_from f 0 n) × (i < n))
-  first_of None n h = let z : 0 + n ≡ n = omega arith in first_missing 0 n (λ d l. let y : 0 + d ≡ d = omega arith in ap f y ∙ h d l) ∙ z
-  first_of (Some i) n h =
-      let z : 0 + i ≡ i = omega arith in
-      (sym (first_found 0 n i h.0 (ap f z ∙ h.1) (λ d l. let y : 0 + d ≡ d = omega arith in ap f y ∙ h.2 d l) ∙ z), h.0)
-
--- the first of m entries of a list of which f is true, as a search through them finds it
-pub first_in : (f : ℕ → Bool) (xs : List ℕ) (m : ℕ) → m ≤ length xs → (r : Option ℕ) → r ≡ cond (ltb (position_or_len f (take m xs)) (length (take m xs))) (Some (position_or_len f (take m xs))) None
-    → MatchOption r (first_from (λ (d : ℕ). f (get_or xs d 0)) 0 m ≡ m) (λ i. (i ≡ first_from (λ (d : ℕ). f (get_or xs d 0)) 0 m) × (i < m))
-first_in f xs m few r e = first_of (λ (d : ℕ). f (get_or xs d 0)) r m (go (dec_lt p (length (take m xs))))
+-- the first of m entries of a list of which f is true, as a search through them finds it: P holds of it too
+pub first_in : (f : ℕ → Bool) (P : ℕ → Type 0) (xs : List ℕ) (m : ℕ) → m ≤ length xs → (r : Option ℕ)
+    → MatchOption r (AllWithin (λ x. f x ≡ false) (take m xs) 0 (length (take m xs))) (λ i. (i < length (take m xs)) × HoldsAt (λ x. (f x ≡ true) × P x) (take m xs) i × AllWithin (λ x. f x ≡ false) (take m xs) 0 i)
+    → MatchOption r (first_from (λ (d : ℕ). f (get_or xs d 0)) 0 m ≡ m) (λ i. (i ≡ first_from (λ (d : ℕ). f (get_or xs d 0)) 0 m) × (i < m) × P (get_or xs i 0))
+first_in f P xs m few r = go r
   where
-    p : ℕ
-    p = position_or_len f (take m xs)
-
     size : length (take m xs) ≡ m
     size = length-take-le m xs few
 
-    at : (d : ℕ) → d < m → f (get_or xs d 0) ≡ f (get_or (take m xs) d 0)
-    at d l = ap f (sym (get_or-take m xs d 0 l))
+    at : (d : ℕ) → d < m → get_or (take m xs) (0 + d) 0 ≡ get_or xs (0 + d) 0
+    at d l = get_or-take m xs (0 + d) 0 (omega (arith, l))
 
-    Facts : Option ℕ → Type 0
-    Facts o = MatchOption o ((d : ℕ) → d < m → f (get_or xs d 0) ≡ false) (λ i. (i < m) × (f (get_or xs i 0) ≡ true) × ((d : ℕ) → d < i → f (get_or xs d 0) ≡ false))
+    none : (i : ℕ) → i ≤ m → AllWithin (λ x. f x ≡ false) (take m xs) 0 i → (d : ℕ) → d < i → f (get_or xs (0 + d) 0) ≡ false
+    none i l h d g = ap f (sym (at d (omega (arith, l, g)))) ∙ h (0 + d) 0 (omega arith) (omega (arith, g))
 
-    go : Dec (p < length (take m xs)) → Facts r
-    go (yes l) = subst Facts (sym (e ∙ ap (λ (b : Bool). cond b (Some p) None) (lt-ltb p (length (take m xs)) l)))
-        (omega (arith, l, size), at p (omega (arith, l, size)) ∙ passes_at_first f (take m xs) 0 l, λ d g. at d (omega (arith, g, l, size)) ∙ fails_before_first f (take m xs) d 0 g)
-    go (no l) = subst Facts (sym (e ∙ ap (λ (b : Bool). cond b (Some p) None) (le-ltb p (length (take m xs)) (omega (arith, l)))))
-        (λ d g. at d g ∙ fails_before_first f (take m xs) d 0 (omega (arith, g, l, size)))
+    go : (r : Option ℕ) → MatchOption r (AllWithin (λ x. f x ≡ false) (take m xs) 0 (length (take m xs))) (λ i. (i < length (take m xs)) × HoldsAt (λ x. (f x ≡ true) × P x) (take m xs) i × AllWithin (λ x. f x ≡ false) (take m xs) 0 i)
+        → MatchOption r (first_from (λ (d : ℕ). f (get_or xs d 0)) 0 m ≡ m) (λ i. (i ≡ first_from (λ (d : ℕ). f (get_or xs d 0)) 0 m) × (i < m) × P (get_or xs i 0))
+    go None h = let z : 0 + m ≡ m = omega arith in first_missing (λ (d : ℕ). f (get_or xs d 0)) 0 m (none m (omega arith) (rw size at h)) ∙ z
+    go (Some i) h =
+        let l : i < m = omega (arith, h.0, size) in
+        let z : 0 + i ≡ i = omega arith in
+        let own = subst (λ (x : ℕ). (f x ≡ true) × P x) (get_or-take m xs i 0 l) (h.1 0) in
+        (sym (first_found (λ (d : ℕ). f (get_or xs d 0)) 0 m i l (ap (λ (x : ℕ). f (get_or xs x 0)) z ∙ own.0) (none i (omega (arith, l)) h.2) ∙ z), l, own.1)
 
 -- the lead of a class that is there is a small number
 pub lead_below : (k : Classes) (i v : ℕ) → i < length (take k.count k.leads) → v ≡ get_or (take k.count k.leads) i v → v < lane_count_lem
@@ -199,11 +165,6 @@ set_at P xs at v x room a b = go (ℕ_discrete x at)
     go : Dec (x ≡ at) → P (get_or (set xs at v) x 0)
     go (yes e) = subst (λ (y : ℕ). P (get_or (set xs at v) y 0)) (sym e) (subst P (sym (get_or-set_same xs at v 0 room)) (a e))
     go (no e) = subst P (sym (get_or-set_other xs at x v 0 e)) (b e)
-
-zeros : (n q : ℕ) → ◌≡◌ {A = ℕ} (get_or (replicate n 0) q 0) 0
-zeros zero q = refl
-zeros (suc n) zero = refl
-zeros (suc n) (suc q) = zeros n q
 
 -- ---- classes
 
@@ -220,11 +181,11 @@ module _ (nd : List Bool) (h : ℕ) where
         merged = λ p q l m e. absurd (omega arith);
         lead = λ c l. absurd (omega arith);
         own = λ c l. absurd (omega arith);
-        past = λ q l. zeros 16 q;
+        past = λ q l. none_at 16 q;
         first = refl;
       }
 
-  module _ (k : Grouping) (q c : ℕ) (s : length nd ≡ need_size) (w : h ≤ lane_count_lem) (small : Led k.lanes k.leads k.count) (g : Grouped nd h q k) (l : q < lane_count_lem) (e : c ≡ class_at nd h k q) where
+  module _ (k : Grouping) (q c : ℕ) (small : Led k.lanes k.leads k.count) (g : Grouped nd h q k) (l : q < lane_count_lem) (e : c ≡ class_at nd h k q) where
     -- the lead of class d needs what part q needs
     abbrev like : ℕ → Bool
     like d = same_needs_lem nd h (get_or k.leads d 0) q
@@ -264,8 +225,8 @@ module _ (nd : List Bool) (h : ℕ) where
         past r j = other r (λ z. omega (arith, z))
 
     -- in a class that is there
-    pub group_old : c < k.count → Grouped nd h (q + 1) (record { lanes = lanes'; leads = k.leads; count = k.count })
-    group_old n =
+    pub group_old : c < k.count → needs_at h nd (get_or k.leads c 0) ≡ needs_at h nd q → Grouped nd h (q + 1) (record { lanes = lanes'; leads = k.leads; count = k.count })
+    group_old n needed =
         record {
           is = sym (ap (λ (t : Bool). cond t (record { lanes = lanes'; leads = k.leads; count = k.count }) (record { lanes = lanes'; leads = set k.leads c q; count = k.count + 1 })) (lt-ltb c k.count n)) ∙ step;
           few = omega (arith, g.few);
@@ -282,9 +243,6 @@ module _ (nd : List Bool) (h : ℕ) where
           past = λ r i. other r (λ z. omega (arith, z)) ∙ g.past r (omega arith);
           first = begin;
         }
-      where
-        needed : needs_at h nd (get_or k.leads c 0) ≡ needs_at h nd q
-        needed = needs_same nd (get_or k.leads c 0) q h s w (small.lead c) l (ap like e ∙ first_true like 0 k.count (omega (arith, e, n)))
 
     -- in a new class, which it leads
     pub group_new : (k.count ≤ c) → Grouped nd h (q + 1) (record { lanes = lanes'; leads = set k.leads c q; count = k.count + 1 })
@@ -298,7 +256,7 @@ module _ (nd : List Bool) (h : ℕ) where
               (ap (needs_at h nd) (ap (λ (x : ℕ). get_or leads' x 0) here ∙ led_by));
           merged = pairs (λ p i o.
               let d = get_or k.lanes p 0 in
-              absurd (first_none like 0 k.count (omega (arith, e, n)) d (omega arith) (omega (arith, g.class p i)) (same_needs_lem2 nd (get_or k.leads d 0) q h s w (small.lead d) l (g.same p i ∙ o))));
+              absurd (first_none like 0 k.count (omega (arith, e, n)) d (omega arith) (omega (arith, g.class p i)) (same_needs_lem2 nd (get_or k.leads d 0) q h (g.same p i ∙ o))));
           lead = λ d i. below_more (λ (x : ℕ). get_or leads' x 0 < q + 1) c (λ x j. omega (arith, kept x (omega (arith, j, m)), g.lead x (omega (arith, j, m)))) (omega (arith, led_by)) d (omega (arith, i, n, m));
           own = λ d i. below_more (λ (x : ℕ). get_or lanes' (get_or leads' x 0) 0 ≡ x) c
               (λ x j. let p : x < k.count = omega (arith, j, m) in ap (λ (y : ℕ). get_or lanes' y 0) (kept x p) ∙ other (get_or k.leads x 0) (λ z. omega (arith, z, g.lead x p)) ∙ g.own x p)

@@ -3,8 +3,9 @@
 
 pub mod classes;
 
-ghost use Rattle.std.specs.Prelude.{◌≡◌, ◌+◌, ◌<◌, ◌≤◌, MatchOption};
+ghost use Rattle.std.specs.Prelude.{◌≡◌, ◌+◌, ◌<◌, ◌≤◌, MatchOption, true, get_or};
 ghost use Rattle.lane_rows.specs.Layout.{lane_count_lem};
+ghost use Rattle.held_places.specs.Arrays.{needs_at};
 ghost use Rattle.part_classes.specs.Grouped.{same_needs_lem, class_at, grouping, Grouped};
 
 use classes::Classes;
@@ -16,7 +17,8 @@ use model::PARTS;
 // Parts p and q need the same of the holding parts.
 fn same_needs(needs: &Needs, p: usize, q: usize) -> bool
     requires { (p < lane_count_lem) × (q < lane_count_lem) }
-    ensures { result ≡ same_needs_lem needs.now.marks.now needs.now.holding p q }
+    ensures same { result ≡ same_needs_lem needs.now.marks.now needs.now.holding p q }
+    ensures rows { result ≡ true → needs_at needs.now.holding needs.now.marks.now p ≡ needs_at needs.now.holding needs.now.marks.now q }
 {
     needs.of(p) == needs.of(q)
 }
@@ -25,7 +27,8 @@ fn same_needs(needs: &Needs, p: usize, q: usize) -> bool
 fn class_like(needs: &Needs, classes: &Classes, q: usize) -> Option<usize>
     requires { q < lane_count_lem }
     ensures { MatchOption result (class_at needs.now.marks.now needs.now.holding (grouping classes.now) q ≡ classes.now.count)
-        (λ c. (c ≡ class_at needs.now.marks.now needs.now.holding (grouping classes.now) q) × (c < classes.now.count)) }
+        (λ c. (c ≡ class_at needs.now.marks.now needs.now.holding (grouping classes.now) q) × (c < classes.now.count)
+        × (needs_at needs.now.holding needs.now.marks.now (get_or classes.now.leads c 0) ≡ needs_at needs.now.holding needs.now.marks.now q)) }
 {
     classes.leads[..classes.count]
         .iter()

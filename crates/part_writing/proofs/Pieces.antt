@@ -15,7 +15,7 @@ use Rattle.form_facts.specs.declared.lists.QuoteLists.{QuoteLists}
 use Rattle.form_facts.specs.Views.{quotes_said}
 use Rattle.part_writing.specs.Cut.{inside_cut, cover_cut}
 use Rattle.part_writing.specs.Views.{cover_said, prices_said}
-use Rattle.part_writing.specs.declared.Cover.{Cover}
+use Rattle.part_writing.specs.declared.cover.Cover.{Cover}
 use Rattle.part_writing.specs.declared.Prices.{Prices}
 use Rattle.part_writing.specs.declared.Prices.TheVariants.{ByRule, Listed}
 

@@ -5,7 +5,7 @@ use Rattle.price_rules.specs.Grammar as prices
 use Rattle.price_rules.specs.Views.{rule_of}
 use Rattle.part_lines.specs.Grammar.{PartText}
 use Rattle.form_facts.specs.Views.{quotes_said, QuotesMarked}
-use Rattle.part_writing.specs.declared.Cover.{Cover}
+use Rattle.part_writing.specs.declared.cover.Cover.{Cover}
 use Rattle.part_writing.specs.declared.Part.{Part}
 use Rattle.part_writing.specs.declared.Prices.{Prices}
 use Rattle.part_writing.specs.declared.Prices.TheVariants.{ByRule, Listed}

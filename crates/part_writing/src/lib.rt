@@ -1,24 +1,20 @@
 // The lines of one part of a form, put into a lent slice to be read.
 #![tactic(auto)]
 
-ghost use Rattle.std.specs.Prelude.{◌<◌, length, IfSome};
+pub mod cover;
+
+ghost use Rattle.std.specs.Prelude.{◌<◌, length};
 ghost use Rattle.lines.specs.Text.{line, texts, optional_text};
 ghost use Rattle.line_writing.specs.Puts.{Puts, Room};
 ghost use Rattle.price_rules.specs.Rendering.{prices_text};
 ghost use Rattle.part_writing.specs.Cut.{inside_cut, cover_cut, part_cut_lem};
 ghost use Rattle.part_writing.specs.Views.{cover_said, prices_said, part_said, PricesMarked};
 
+pub use cover::Cover;
 use form_facts::lists::QuoteLists;
 use line_writing::output::Out;
 use price_rules::{Rule, put_rule};
 use quote_writing::put_quotes;
-
-// What a part's lines of removal say: the removal, and the numbers of the parts that hold this one.
-#[derive(Clone, Copy)]
-pub struct Cover<'a> {
-    pub removal: u32,
-    pub holders: &'a [u32],
-}
 
 // What says a part's prices.
 // Kept as an enum of its own: a rule and a list are two ways to say them, and neither is a fault or nothing.
@@ -62,8 +58,7 @@ fn put_inside(out: &mut Out, holders: &[u32])
 
 // Puts a part's lines of removal, where they stand.
 fn put_cover(out: &mut Out, cover: Option<Cover>)
-    requires few { IfSome cover (λ c. length c.holders.now < 4294967296) }
-    requires room { Room out.old (optional_text cover_cut (cover_said cover)) }
+    requires { Room out.old (optional_text cover_cut (cover_said cover)) }
     ensures { Puts out.old (optional_text cover_cut (cover_said cover.entry)) out.new }
 {
     if let Some(cover) = cover {
@@ -86,7 +81,6 @@ fn put_prices(out: &mut Out, prices: Prices)
 
 // Puts the lines of a part.
 pub fn put_part(out: &mut Out, part: Part)
-    requires few { IfSome part.cover (λ c. length c.holders.now < 4294967296) }
     requires marked { PricesMarked part.prices }
     requires room { Room out.old (part_cut_lem (part_said part)) }
     ensures { Puts out.old (part_cut_lem (part_said part.entry)) out.new }

@@ -5,6 +5,7 @@ ghost use Rattle.model.specs.Limits.{most_openings};
 ghost use Rattle.plan_costs.specs.Dearest.{dearest_sum, Cheap};
 
 // The sum of what `value` says of each of the first n places.
+// Kept with the limit of n in the clauses, here and below: it counts openings or parts, and no job stands beside it.
 // Kept as a loop over the places: with `(0..n).map(value).sum()` two questions of `sum` stayed open, whether `value` may be asked at each turn and whether each run's total fits: the clauses tell of `value` at a place, and not of a run.
 pub fn sum_of<F: Fn(usize) -> u64>(n: usize, value: F) -> u64
     requires few { n ≤ most_openings }

@@ -43,7 +43,6 @@ pub struct Followed {
 }
 
 // A part's changes, followed up to the position `to`. The change before begins at or below zero.
-// Kept as a loop over the openings' places: with `zip` the proof had the two iterators and no place, and nothing to say what was done so far.
 pub fn late_to(
     job: &Accepted,
     places: &Positions,
@@ -59,11 +58,10 @@ pub fn late_to(
     let life = part.life;
     let mut prev = last_change(life, part.left);
     let mut late = None;
-    for i in 0..job.job.opening_count {
-        if changes[i] {
-            let next = places.at[i];
-            late = late.or(gap(job, life, prev, next));
-            prev = next;
+    for (change, next) in changes[..job.job.opening_count].iter().zip(&places.at) {
+        if *change {
+            late = late.or(gap(job, life, prev, *next));
+            prev = *next;
         }
     }
     Followed {

@@ -34,7 +34,8 @@ fn read_step(lines: &mut Lines, job: &Job, before: u32) -> Result<u32, Fault>
     )
 }
 
-// The openings set before, and those at the step. Kept as a loop over numbers: three arrays meet at one place, and zipped they are no plainer.
+// The openings set before, and those at the step.
+// Kept as a loop over numbers: three arrays meet at one place, and zipped they are no plainer.
 fn mark(set: [bool; OPENINGS], job: &Job, step: u32) -> [bool; OPENINGS]
     ensures { take job.now.opening_count result ≡ with_step (job_of job.now) step (take job.now.opening_count set) }
 {

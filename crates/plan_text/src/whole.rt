@@ -17,7 +17,8 @@ pub struct PlanText {
     pub plan: Plan,
 }
 
-// The lines of a plan, wherever they begin. Kept as `as`: std has no `From` of a u32 for usize.
+// The lines of a plan, wherever they begin.
+// Kept as `as`: std has no `From` of a u32 for usize.
 pub fn read_plan_lines(lines: &mut Lines, job: &Job) -> Result<PlanText, Fault>
     ensures { Reads (plan_lines (job_of job.now)) lines.old lines.new (seen (said job.now) result) }
 {
@@ -28,7 +29,8 @@ pub fn read_plan_lines(lines: &mut Lines, job: &Job) -> Result<PlanText, Fault>
 }
 
 // The whole plan text: an empty text is the plan of no stops and cost 0, a text over the limit is fault 1, bytes after the last line are fault 2.
-// A call of its own, so that what it needs of the stack is given back. Its last lines are kept apart from those of read_log: one function over the two readers needs a closure with a contract, and is no plainer.
+// A call of its own, so that what it needs of the stack is given back.
+// Kept apart from the last lines of `read_log`: one function over the two readers needs a closure with a contract, and is no plainer.
 #[inline(never)]
 pub fn read_plan(text: &[u8], job: &Job) -> Result<PlanText, Fault>
     ensures { outcome job.now result ≡ read_plan_lem (job_of job.now) text.now }

@@ -1,5 +1,6 @@
 // The lines of a plan, put into a lent slice.
-// Kept as an output, a job and a plan in the functions that put lines: the first is written and the others are read, and a struct of the two would be made for one call. Kept with the limit of m in the clause where the plan alone is asked: the count is the job's.
+// Kept as an output, a job and a plan in the functions that put lines: the first is written and the others are read, and a struct of the two would be made for one call.
+// Kept with the limit of m in the clause where the plan alone is asked: the count is the job's.
 #![tactic(auto)]
 
 ghost use Rattle.std.specs.Prelude.{◌≡◌, ◌≤◌, ◌<◌, length};

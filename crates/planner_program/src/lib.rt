@@ -19,7 +19,6 @@ pub fn plan_input<R: Print + Eprint + AllocGlobal, I: Read + Drop>(
     let mut job = [0u8; Job::MAX_BYTES + 1];
     let n = read_whole(input, Text::Job, &mut job);
     let mut out = [0u8; planning::ROOM];
-    // Kept as a cast: of a constant it is a constant, where a `u64::from` is a call, and no plainer.
-    let a = planning::plan(&job[..n], Job::MAX_WALK as u64, &mut out);
+    let a = planning::plan(&job[..n], u64::from(Job::MAX_WALK), &mut out);
     print_answer(rt, a, &out, b"planner: the answer can't be written")
 }

@@ -122,7 +122,7 @@ fn answer(f: Finding, text: &AcceptedText, plan: &Plan, out: &mut [u8]) -> Answe
 }
 
 // The walk number of a call: above the limit it counts as the limit.
-// Kept as `as`: the lesser of the two is at most the limit, and `try_from` would have a case for a number that can't be.
+// Kept as `as`: the lesser of the two is at most the limit. With `u32::try_from` first, a number would have to stand for what is too large, which is no plainer.
 fn walk_number(walk: u64) -> u32
     ensures { result ≡ walk_number_lem walk }
 {
@@ -148,6 +148,6 @@ pub fn plan(job: &[u8], walk: u64, out: &mut [u8]) -> Answer
     // Kept in each call: the arm for a fault is one call of `refuse`, and one function for all calls would take the rest of each as a closure over the text and the output.
     match read_job(job) {
         Ok(text) => plan_job(&text, walk_number(walk), out),
-        Err(fault) => refuse(job, JOB, fault.kind.number(), fault.line, ROOM, out),
+        Err(fault) => refuse(job, JOB, fault, ROOM, out),
     }
 }

@@ -95,20 +95,20 @@ low_to_high n (by_rule_lem r) v = go (rule_prices_lem r n)
     go [] = tt
     go (p ∷ ps) = (omega arith, go ps)
 
--- prices written one by one
-singles_mean : (ps : List ℕ) → map high_end (map single ps) ≡ ps
+-- single prices: their ends are the prices, they are valid where these are, and none is a pair
+pub singles_mean : (ps : List ℕ) → map high_end (map single ps) ≡ ps
 singles_mean [] = refl
 singles_mean (p ∷ ps) = ap (λ (qs : List ℕ). p ∷ qs) (singles_mean ps)
 
-singles_low : (ps : List ℕ) → map low_end (map single ps) ≡ ps
+pub singles_low : (ps : List ℕ) → map low_end (map single ps) ≡ ps
 singles_low [] = refl
 singles_low (p ∷ ps) = ap (λ (qs : List ℕ). p ∷ qs) (singles_low ps)
 
-singles_valid : (ps : List ℕ) → All ValidPrice ps → All ValidQuote (map single ps)
+pub singles_valid : (ps : List ℕ) → All ValidPrice ps → All ValidQuote (map single ps)
 singles_valid [] v = tt
 singles_valid (p ∷ ps) v = (record { low = v.0; high = v.0; ordered = omega arith }, singles_valid ps v.1)
 
-singles_plain : (ps : List ℕ) → any_pair (map single ps) ≡ false
+pub singles_plain : (ps : List ℕ) → any_pair (map single ps) ≡ false
 unfolding any_pair
 singles_plain [] = refl
 singles_plain (p ∷ ps) = singles_plain ps

@@ -44,13 +44,12 @@ pub fn put_quotes(out: &mut Out, quotes: QuoteLists)
         lows,
         highs,
     } = quotes;
+    // Kept with j counted by hand: a price uses as many low ends as its mark says, none or one.
     let mut j: usize = 0;
-    // Kept with a place, and no plainer as a zip, which would save one index: what is put is said by the place, and a zip's place is the length of what it yielded.
-    for (i, &high) in highs.iter().enumerate() {
-        let mark = banded[i];
-        let low = low_at(mark, lows, j);
-        put_quote(out, low, high);
+    for (high, mark) in highs.iter().zip(banded) {
+        let low = low_at(*mark, lows, j);
+        put_quote(out, low, *high);
         // Kept as a cast: std has no `From<u32>` for a usize, and a `try_from` would have an arm that nothing reaches.
-        j += mark as usize;
+        j += *mark as usize;
     }
 }

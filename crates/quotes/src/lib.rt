@@ -61,6 +61,7 @@ fn read_quote(lines: &mut Lines) -> Result<Quote, Fault>
 }
 
 // Reads n prices, each a single one or a pair.
+// Kept with the limit of n in the clause: they are read before the job is made that counts its openings.
 pub fn read_quotes(lines: &mut Lines, n: usize) -> Result<Quotes, Fault>
     requires { n ≤ most_openings }
     ensures { Reads (times n quote) lines.old lines.new (seen (quotes_told n) result) }

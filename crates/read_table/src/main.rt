@@ -25,7 +25,7 @@ fn report(rt: &impl Print, text: &[u8], which: u32, fault: Fault) {
         return;
     }
     let mut out = [0u8; 16384];
-    let a = answers::refuse(text, which, fault.kind.number(), line, 16384, &mut out);
+    let a = answers::refuse(text, which, fault, 16384, &mut out);
     let m = a.length;
     write(rt, &out[..m]);
     write(rt, fault_line(text, line));

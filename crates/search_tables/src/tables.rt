@@ -50,7 +50,8 @@ fn reach(part: &PartOffers<'_>, j: usize, i: usize) -> u32
     }
 }
 
-// Kept with the limits of q, m, j and i in the clauses: a lane, a level and a mark are plain numbers, and a type of bounded numbers would be taken apart at each index. Kept as slices with their room in the clause, here and in each function below that is handed a part's own table: one that is public may be lent more room than the table takes, and an array type would ask its callers for just so much.
+// Kept with the limits of q, m, j and i in the clauses: a lane, a level and a mark are plain numbers, and a type of bounded numbers would be taken apart at each index.
+// Kept as slices with their room in the clause, here and in each function below that is handed a part's own table: one that is public may be lent more room than the table takes, and an array type would ask its callers for just so much.
 
 // The least price from opening j on after mark i, of a part's own table, as a lane has it.
 pub(crate) fn own(tab: &[u64], j: usize, i: usize) -> u32
@@ -111,6 +112,7 @@ fn fours_of(parts: usize) -> usize
 }
 
 // What a part of this life and first life is offered: its prices at the openings' positions, where they are allowed.
+// Kept with the ranges of what is handed over in the clauses: a `PartOffers` is made of it, whose type says them from then on.
 // Kept as `as`: the library has no `From` of a u32 into an i32; a life is at most 1000.
 pub fn offered<'a>(
     life: u32,

@@ -13,6 +13,7 @@ use lane_rows::{TABLES, TERMS, row_of};
 use model::OPENINGS;
 
 // The first m rows of a triangle are raised to those of a part's own table; the triangle begins at `base` and has its numbers `stride` apart.
+// Kept as slices with their room in the clauses, here and below, as in `tables`.
 fn raise_rows(tab: &[u64], m: usize, base: usize, stride: usize, t: &mut [u32])
     requires few { m ≤ mark_count }
     requires own { table_size ≤ length tab.now }

@@ -29,15 +29,11 @@ use plan_text::whole::read_plan;
 pub const ROOM: usize = 16384;
 
 // What the plan with the latest changes says of its stops: they serve if it keeps every part, and then its cost is there.
-// Kept as a match, and not `.ok().map(..)`: it names both verdicts, and `ok` would pass over a part that is not kept without a word.
 fn serving_of(job: &Accepted, plan: &Plan) -> Option<u64>
     ensures { (stops : List Bool) → plan_for job.now.job plan.now ≡ latest_plan_of (job_of job.now.job) stops → answer_in (plan_for job.now.job plan.now) result ≡ latest_answer_of (job_of job.now.job) stops }
 {
-    let cost = cost_of(job, plan);
-    match verdict_of(job, plan) {
-        Ok(()) => Some(cost),
-        Err(_) => None,
-    }
+    verdict_of(job, plan).ok()?;
+    Some(cost_of(job, plan))
 }
 
 // The result number: 0 where the stops serve, else 6.
@@ -92,7 +88,7 @@ fn serve_plan(text: &AcceptedText, plan: &[u8], out: &mut [u8]) -> Answer
 {
     match read_plan(plan, &text.job.job) {
         Ok(stated) => serve(text, &stated.plan, out),
-        Err(fault) => refuse(plan, PLAN, fault.kind.number(), fault.line, ROOM, out),
+        Err(fault) => refuse(plan, PLAN, fault, ROOM, out),
     }
 }
 
@@ -107,6 +103,6 @@ pub fn latest(job: &[u8], plan: &[u8], out: &mut [u8]) -> Answer
     // Kept in each call: the arm for a fault is one call of `refuse`, and one function for all calls would take the rest of each as a closure over the text and the output.
     match read_job(job) {
         Ok(text) => serve_plan(&text, plan, out),
-        Err(fault) => refuse(job, JOB, fault.kind.number(), fault.line, ROOM, out),
+        Err(fault) => refuse(job, JOB, fault, ROOM, out),
     }
 }

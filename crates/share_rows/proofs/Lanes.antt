@@ -1,5 +1,5 @@
 -- A lane over the rows of a node is what its part bears at least there, and the sum of the lanes tells the node's estimate: by the front, which the rows hold.
-use Prim.Native.Nat.{ℕ, zero, suc, ◌+◌, ◌-◌, ◌*◌, ◌≤◌, ◌<◌}
+use Prim.Native.Nat.{ℕ, zero, suc, ◌+◌, ◌-◌, ◌*◌, ◌^◌, ◌≤◌, ◌<◌}
 use mathlib.Core.Path.{◌≡◌, refl, sym, ap, ap₂, subst, ◌∙◌}
 use mathlib.Core.Bool.{Bool, true, false, cond, not, ◌&&◌}
 use mathlib.Core.List.{List, [], ◌∷◌, ◌++◌}
@@ -20,16 +20,17 @@ use Rattle.model.specs.Model.{Job, Opening, clock, within, positions, end, last_
 use Rattle.model.specs.Decisions.{Held, held_parts, accessible, allows, places_in}
 use Rattle.model.specs.LowerBound.{Offer, plus, least_of_lem, offers}
 use Rattle.model.proofs.Blocks.{accessible_none}
+use Rattle.model.proofs.Lower.{plus_sum}
 use Rattle.shares.specs.Shares.{Shares, things, takes, bears, charged_for, shared_part, shared_parts, estimate}
 use Rattle.shares.proofs.Owed.{owes_no, owes_yes}
 use Rattle.least.specs.Marks.{mark_of}
-use Rattle.lane_rows.specs.Layout.{lane_count_lem, dear, inf, suffix_base, reach_base, place, row_place, price_place, mark_place, mark_base}
-use Rattle.lane_rows.specs.Sheet.{Column, Mark, column_bound, reach, front_with, front_from, front, solid}
+use Rattle.lane_rows.specs.Layout.{lane_count_lem, block_size, dear, inf, suffix_base, reach_base, place, row_place, price_place, mark_place}
+use Rattle.lane_rows.specs.Sheet.{Column, Mark, column_bound, reach, front_with, front, solid}
 use Rattle.lane_rows.specs.Tables.{value_of}
 use Rattle.lane_rows.specs.Rows.{lane, sum_from, sum_lanes, marks_in, Level, Kept, Put, Stack, Looks, Memo, Owing, FirstRow, next_row}
-use Rattle.lane_rows.proofs.Front.{over, offer_is, front_snoc, decided_nil, column_front}
+use Rattle.lane_rows.proofs.Front.{over, offer_is, front_snoc, column_front}
 use Rattle.lane_rows.proofs.Solid.{reach_same, over_same, joined_solid}
-use Rattle.lane_rows.proofs.Lanes.{value_some, value_none, value_plus, value_sum, coded_most, lane_most, lane_over, lane-reach, marks_kept, marks_suc, level_more, ≠_lt}
+use Rattle.lane_rows.proofs.Lanes.{value_some, value_none, value_plus, value_sum, coded_most, cond_most, first_mark, first_level, first_front, lane_most, lane_over, lane-reach, marks_kept, marks_suc, level_more, ≠_lt}
 use Rattle.held_rows.proofs.Seen.{seen_no, seen_stop, accessible_removed, accessible_stays}
 use Rattle.share_rows.specs.Places.{eased_of}
 use Rattle.share_rows.specs.Tables.{no_held, lane_at, column_of, sheet_for, Lanes, SharedTables}
@@ -56,10 +57,6 @@ eased_level b v s l = go (ltb v inf) refl
     go : (a : Bool) → ltb v inf ≡ a → Level b (cond a (v - s) v)
     go true f = record { some = λ g. omega (arith, l.some (ltb-true v inf f)); most = omega (arith, l.most) }
     go false f = l
-
-plus_sum : (e : Bound) (x : ℕ) → add e (Sum x) ≡ plus x e
-plus_sum Missing x = refl
-plus_sum (Sum y) x = ap Sum (omega arith)
 
 module _ (job : Job) (shares : Shares) (lanes : List Held) where
   abbrev part : ℕ → Held
@@ -94,28 +91,35 @@ module _ (job : Job) (shares : Shares) (lanes : List Held) where
         ∙ ap (λ (k : ℕ). over col.life (end job) (front_at_lem bs q) (drop k (offers ss col.prices []))) (sym (places_length q bs))
         ∙ sym (column_front (sheet_for job) col (places_in (part q) bs))
 
-    -- what a look at the rows asks
-    pub stack_at : length bs ≤ length job.openings → Stack lane_count_lem t w suffix_base (length bs) n
-    stack_at h =
+    -- what a loop over the rows asks, where the numbers of a block of the tables with the rows' stay within 31 bits
+    stack_in : (base : ℕ) → base + block_size ≤ length t → length bs ≤ length job.openings
+        → ((k q : ℕ) → k < n → q < lane_count_lem → get_or w (row_place k q) 0 + get_or t (place base (length bs) (get_or w (mark_place k) 0) q) 0 < 2 ^ 31) → Stack lane_count_lem t w base (length bs) n
+    stack_in base room h sums =
         record {
           some = omega arith;
           narrow = omega arith;
-          table = omega (arith, ta.size);
+          table = room;
           size = st.size;
           near = omega (arith, ta.few);
           few = st.few;
           marks = st.marks;
-          sums = λ k q l m.
-              let i = get_or w (mark_place k) 0 in
-              let col = column [] q in
-              let ss = positions job in
-              omega (
-                arith,
-                (st.level k q l m).most,
-                coded_most (dear * (length ss - length bs)) (omega (arith, positions-length, ta.few)) (get_or t (place suffix_base (length bs) i q) 0) (least_of_lem col.life (end job) (mark_of col.first ss i) (drop (length bs) (offers ss col.prices [])))
-                    ((ta.lane q m).suffix (length bs) i (st.marks k l) (omega (arith, positions-length))),
-              );
+          sums = sums;
         }
+
+    -- what a look at the rows asks
+    pub stack_at : length bs ≤ length job.openings → Stack lane_count_lem t w suffix_base (length bs) n
+    stack_at h =
+        stack_in suffix_base (omega (arith, ta.size)) h
+        (λ k q l m.
+        let i = get_or w (mark_place k) 0 in
+        let col = column [] q in
+        let ss = positions job in
+        omega (
+          arith,
+          (st.level k q l m).most,
+          coded_most (dear * (length ss - length bs)) (omega (arith, positions-length, ta.few)) (get_or t (place suffix_base (length bs) i q) 0) (least_of_lem col.life (end job) (mark_of col.first ss i) (drop (length bs) (offers ss col.prices [])))
+              ((ta.lane q m).suffix (length bs) i (st.marks k l) (omega (arith, positions-length))),
+        ))
 
     -- where the memo is right, the rows of a node may be looked at on its level
     pub looks_at : length bs ≤ length job.openings → Memo t w n → Looks t w n (length bs)
@@ -125,32 +129,21 @@ module _ (job : Job) (shares : Shares) (lanes : List Held) where
     pub owing_at : length bs < length job.openings → Owing lane_count_lem t w (length bs) n
     owing_at h =
         record {
-          stack = record {
-            some = omega arith;
-            narrow = omega arith;
-            table = omega (arith, ta.size);
-            size = st.size;
-            near = omega (arith, ta.few);
-            few = st.few;
-            marks = st.marks;
-            sums = λ k q l m.
-                let col = column [] q in
-                omega (
-                  arith,
-                  (st.level k q l m).most,
-                  cond_most (within col.life (mark_of col.first (positions job) (get_or w (mark_place k) 0)) (get_or (positions job) (length bs) (pos 0))),
-                  (ta.lane q m).reach (length bs) (get_or w (mark_place k) 0) (st.marks k l) (omega (arith, positions-length)),
-                );
-          };
+          stack =
+              stack_in reach_base (omega (arith, ta.size)) (omega arith)
+              (λ k q l m.
+              let col = column [] q in
+              omega (
+                arith,
+                (st.level k q l m).most,
+                cond_most (within col.life (mark_of col.first (positions job) (get_or w (mark_place k) 0)) (get_or (positions job) (length bs) (pos 0))),
+                (ta.lane q m).reach (length bs) (get_or w (mark_place k) 0) (st.marks k l) (omega (arith, positions-length)),
+              ));
           size = ta.size;
           near = omega (arith, ta.few);
           few = omega (arith, st.few, ta.few);
           cheap = λ q l. omega (arith, (ta.lane q l).price (length bs) (omega (arith, positions-length)), (ta.lane q l).cheap (length bs));
         }
-      where
-        cond_most : (b : Bool) → cond b 0 inf ≤ inf
-        cond_most true = omega arith
-        cond_most false = omega arith
 
     -- ---- a no
 
@@ -321,21 +314,14 @@ module _ (job : Job) (shares : Shares) (lanes : List Held) where
 
   -- the row of the first life is that of the node with nothing decided
   pub stacked_first : (w : List ℕ) → FirstRow w → Stacked job shares lanes [] w 1
-  unfolding marks_in front_from
   stacked_first w r =
       record {
         size = r.size;
         some = omega arith;
         few = omega arith;
-        marks = λ k l. let z : mark_base + k ≡ mark_base = omega arith in let y : get_or w (mark_place k) 0 ≡ 0 = ap (λ (x : ℕ). get_or w x 0) z ∙ r.mark in omega arith;
-        level = λ k q l g. let z : k * lane_count_lem + q ≡ q = omega arith in let y : get_or w (row_place k q) 0 ≡ 0 = ap (λ (x : ℕ). get_or w x 0) z ∙ r.lanes q g in record { some = λ a. omega arith; most = omega arith };
-        fronts = λ q l.
-            let first = last_change_lem (part q).part in
-            let z : 0 * lane_count_lem + q ≡ q = omega arith in
-            let y : get_or w (row_place 0 q) 0 ≡ 0 = ap (λ (x : ℕ). get_or w x 0) z ∙ r.lanes q l in
-            ap solid
-            ((λ i. record { at = mark_of first (positions job) (r.mark i); cost = value_of (y i) } ∷ [])
-            ∙ sym (ap (front_from (pos (part q).part.life) (record { at = first; cost = Sum 0 } ∷ [])) (decided_nil (positions job) (column [] q).prices)));
+        marks = first_mark r;
+        level = λ k q l g. first_level r 0 k q l g;
+        fronts = λ q l. first_front r (positions job) (column [] q) q l;
       }
 
   -- where its rows are kept, the stack still has those of the blocks

@@ -1,5 +1,6 @@
 // The cheapest plan of a job, by walks with fair shares from cutoffs below: the tables, the walks, and the plan of the name that they find.
-// Kept with the limit of a walk in the clauses: it is a plain number, and a type of numbers below 2 to the 63rd would be made and taken apart once in each call. Kept as slices with their room in the clauses: an array would ask for just so much.
+// Kept with the limit of a walk in the clauses: it is a plain number, and a type of numbers below 2 to the 63rd would be made and taken apart once in each call.
+// Kept as slices with their room in the clauses: an array would ask for just so much.
 #![tactic(auto)]
 
 ghost use Rattle.std.specs.Prelude.{◌≡◌, ◌<◌, ◌≤◌, ◌^◌, Ok, Some, length, take};

@@ -121,7 +121,7 @@ late_enough (negsuc n) h = at_most_test (negsuc n -ℤ pos 0) (pos longest_life)
 
 -- ---- the tables
 
-module _ (job : Job) (e : ℤ) (ss : List ℤ) (fs ls rs ps : List ℕ) (nd : List Bool) (rm : List ℕ) (ar : HeldArrays e ss fs ls rs ps nd rm) (ho : HeldJobArrays job e ss fs ls rs ps nd rm)
+module _ (job : Job) (e : ℤ) (ss : List ℤ) (fs ls rs ps : List ℕ) (nd : List Bool) (rm : List ℕ) (ar : HeldArrays e ss fs ls rs ps rm) (ho : HeldJobArrays job e ss fs ls rs ps nd rm)
     (raw x₁ x : List ℕ) (marked : Marked nd (length ls) rm x₁) (kp : Kept raw ps fs rm (length rm + 1) x₁ x ((length rm + 1) * 64))
     (long first : List ℕ) (pl : Padded ls long) (pf : Padded rs first)
     (none all : List ℕ) (fa : FilledBy (λ (i : ℕ). i) (shared_in ps x (length rm + 1)) 1024 none all) (room : length none ≡ 1024)

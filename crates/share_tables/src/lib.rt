@@ -1,4 +1,6 @@
 // The tables of the walk by fair shares, from a job's arrays.
+// Kept with the limits of plain numbers in the clauses (things, an opening, a lane): places in the tables are computed of them.
+// Kept as a slice with its room in `prepare`: more may be lent.
 #![tactic(auto)]
 
 ghost use Rattle.std.specs.Prelude.{◌≡◌, ℕ, ◌+◌, ◌*◌, ◌/◌, ◌%◌, ◌<◌, ◌≤◌, length};

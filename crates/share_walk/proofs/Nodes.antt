@@ -58,6 +58,10 @@ put_as e u = record { kept = u.kept; row = λ q l. u.row q l ∙ e q l; mark = u
 pub memo_less : (t w : List ℕ) (n : ℕ) → Memo t w (n + 1) → Memo t w n
 memo_less t w n m = record { none = m.none; steep = λ k l. m.steep k (omega arith); right = λ k l a. m.right k l (omega arith) }
 
+-- a name with one decision more
+pub snoc_long : (s : List Bool) (b : Bool) → length (snoc s b) ≡ length s + 1
+snoc_long s b = length-append s (b ∷ [])
+
 module _ (job : Job) where
   abbrev h : ℕ
   h = inner job
@@ -96,9 +100,6 @@ module _ (job : Job) where
     -- at a stop the node has one block more: the yes and the removals decided so far
     pub node_stop : (rs : List Bool) → length rs ≤ h → node_at job (s ++ (true ∷ rs)) ≡ bs ++ ((true ∷ rs) ∷ [])
     node_stop rs m = let f = level_blocks l s v (omega arith) in ap (λ (q : List Bool). node_at job (q ++ (true ∷ rs))) (sym f.1) ∙ blocks_stop h all l bs f.0 rs k m
-
-  snoc-length : (s : List Bool) (b : Bool) → length (snoc s b) ≡ length s + 1
-  snoc-length s b = length-append s (b ∷ [])
 
   -- ---- what is left to ask
 
@@ -186,7 +187,7 @@ module _ (job : Job) where
     numbers_of : (b : Bool) (r : Node) → r.at ≤ all → r.next ≤ h → length (node_at job (snoc s b)) ≡ r.at → r.spent ≡ charged_for job (node_at job (snoc s b)) → r.spent ≤ top * (r.at * (lane_count_lem + 1) + r.next) → r.size ≡ p.size + 1
         → r.size + (h - r.next) ≤ r.at * (lane_count_lem + 1) → Numbers job shares lanes (snoc s b) t x r
     numbers_of b r i j z c d e g =
-        record { tables = nu.tables; shared = nu.shared; lanes_are = nu.lanes_are; inside = i; next = j; size = z; spent = c; poor = d; named = snoc-length s b ∙ ap (λ (k : ℕ). k + 1) nu.named ∙ sym e; short = g }
+        record { tables = nu.tables; shared = nu.shared; lanes_are = nu.lanes_are; inside = i; next = j; size = z; spent = c; poor = d; named = snoc_long s b ∙ ap (λ (k : ℕ). k + 1) nu.named ∙ sym e; short = g }
 
     module _ (o : p.next ≡ h) (less : p.at < all) where
       abbrev op : Opened job shares lanes s t w p
@@ -304,7 +305,7 @@ module _ (job : Job) where
       name_more b = ap (λ (q : List Bool). snoc q b) sa.same ∙ append_assoc sa.before (true ∷ sa.rs) (b ∷ [])
 
       more_few : (b : Bool) → length (snoc sa.rs b) ≤ h
-      more_few b = omega (arith, snoc-length sa.rs b, sa.asked)
+      more_few b = omega (arith, snoc_long sa.rs b, sa.asked)
 
       node_more : (b : Bool) → node_at job (snoc s b) ≡ node_at job sa.before ++ ((true ∷ snoc sa.rs b) ∷ [])
       node_more b = ap (node_at job) (name_more b) ∙ node_stop (p.at - 1) sa.before sa.level stop_less (snoc sa.rs b) (more_few b)
@@ -335,7 +336,7 @@ module _ (job : Job) where
         rows_is = omega (arith, sa.some)
 
         next_is : down.next ≡ length (snoc sa.rs b)
-        next_is = omega (arith, snoc-length sa.rs b, sa.asked)
+        next_is = omega (arith, snoc_long sa.rs b, sa.asked)
 
         cond_most : cond b removal 0 ≤ top
         cond_most = go b

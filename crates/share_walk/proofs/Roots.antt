@@ -12,6 +12,7 @@ use Rattle.model.specs.LowerBound.{inner, node_at}
 use Rattle.model.proofs.Blocks.{Wholes}
 use Rattle.shares.specs.Shares.{Shares, charged_for}
 use Rattle.shares.specs.Optimum.{tree_by, shared_bound}
+use Rattle.model.proofs.Sums.{sum_none}
 use Rattle.lane_rows.specs.Rows.{FirstRow}
 use Rattle.lane_rows.proofs.Memory.{memo_root}
 use Rattle.share_rows.specs.Stacked.{Stacked}
@@ -22,14 +23,9 @@ use Rattle.share_walk.proofs.Nodes.{level_blocks}
 
 -- ---- nothing is charged
 
-zeros : (n from : ℕ) → sum from n (λ (k : ℕ). 0) ≡ 0
-unfolding sum
-zeros zero from = refl
-zeros (suc n) from = omega (arith, zeros n (suc from))
-
 charged_none : (job : Job) → charged_for job [] ≡ 0
 unfolding sum_at
-charged_none job = zeros (length job.openings) 0
+charged_none job = sum_none (length job.openings) 0
 
 none_whole : (h : ℕ) (bs : List (List Bool)) → Wholes h 0 bs → bs ≡ []
 none_whole h [] w = refl

@@ -1,6 +1,7 @@
 // The counted walk of the planner's tree by fair shares, from a known cost: a node, the state, the nodes below, and the recursion.
 // Kept as two parameters in the functions here: the tables `t` and `x`. Tried as a struct of both, each function that reads one had to take it out into a variable first, and each contract to name the struct as it is at the call.
 // Kept as three parameters of `walk` and `solve`: what they write, the stack `w`, the name at hand and the best one. A struct of the three would be lent anew at each of the two calls that a node makes.
+// Kept with the limit of a walk in the clauses, as in `search`, and with how far a node is (at, next, size): they are plain numbers, and a full node, which has no branches, is a node too.
 #![tactic(auto)]
 
 ghost use Rattle.std.specs.Prelude.{◌≡◌, Bool, true, false, not, ◌&&◌, List, ℕ, ◌+◌, ◌^◌, ◌<◌, ◌≤◌, ltb, eqb, length, get_or, take};

@@ -1,21 +1,18 @@
 -- The walk from sources, with lifts of the levels behind, ends with the least cost from these sources; so from free sources it gives the lift of its level, and the lifts of all levels come one after the
 -- other, from the last level down. With those of all levels the walk of the job has the planner's plan.
 use mathlib.Core.Path.{◌≡◌, refl, sym, ap, ap₂, subst, ◌∙◌}
-use mathlib.Core.Bool.{Bool, true, false, cond, true≢false}
+use mathlib.Core.Bool.{Bool, false}
 use mathlib.Core.List.{List, [], ◌++◌}
 use Prim.Native.Nat.{ℕ, zero, suc, ◌+◌, ◌-◌, ◌≤◌, ◌<◌}
 use native.Mathlib.Omega.{arith}
 use native.Mathlib.Decide.{dec_le}
-use lib.Dec.{ltb}
 use lib.ListN.{length, replicate}
-use borrow.Author.Tests.{ltb-false}
 use Rattle.branch.specs.declared.Bound.{Bound}
 use Rattle.branch.specs.declared.Bound.TheVariants.{Missing, Sum}
 use Rattle.branch.specs.Lower.{add}
-use Rattle.branch.specs.Search.{Tree, NoMore, Bounded, cost_at, Incumbent, none, plan, whole, Limited}
+use Rattle.branch.specs.Search.{NoMore, Bounded, cost_at, plan}
 use Rattle.branch.specs.Questions.{Full, done, repeated, asked}
 use Rattle.branch.proofs.Asked.{asked_cost, asked_bounded}
-use Rattle.branch.proofs.First.{correct}
 use Rattle.branch.proofs.Lower.{add-zero, add_mono}
 use Rattle.model.specs.Model.{Job}
 use Rattle.model.specs.Decisions.{Held}
@@ -31,7 +28,8 @@ use Rattle.shares.specs.Lift.{Lifted, lifted_bound}
 use Rattle.shares.specs.Sources.{Sources, mark_of, Within, estimate_from, questions_from, behind, rest_free, top_of, free_at, tops, free_bound, LiftsAll}
 use Rattle.shares.specs.Dolls.{LiftedFrom, level_from, sourced_bound, sourced_tree, free_tree}
 use Rattle.shares.proofs.Shared.{grows_grown}
-use Rattle.shares.proofs.Lifted.{no_more_refl, no_more_trans, level_node_lem, Below, level_fits, below, lifted_certifies}
+use Rattle.model.proofs.Lower.{no_more_refl, no_more_trans}
+use Rattle.shares.proofs.Lifted.{level_node_lem, Below, level_fits, below, lifted_certifies}
 use Rattle.shares.proofs.Gap.{free_within}
 use Rattle.shares.proofs.Free.{none_lifts, first_life, estimate_first, lifts_job}
 use Rattle.shares.proofs.Sourced.{sourced_rises}

@@ -93,6 +93,7 @@ impl Search {
     }
 
     // The fees and term of a node, if it is walked on by what is known before any lane is summed: its term h is there, and part sums of x, which are no more than its own, do not drop it.
+    // Kept with the ranges of what is spent and of x in the clauses, here and in `open_rows`: they are sums of the walk at hand, and a type of small sums would be made and taken apart at each node.
     pub fn tested(self, limit: u64, spent: u64, h: u64, x: u64) -> Bound
         requires { (spent + inf + lane_count_lem * inf < 2 ^ 64) × (x ≤ lane_count_lem * inf) }
         ensures { result ≡ due_s limit spent h x self }
@@ -107,7 +108,6 @@ impl Search {
     }
 
     // The part sums of a node that is walked on, the no over the rows that are there; `spent` are its fees. They are Missing exactly where its term is, and else at least x: so before any row is summed the node is tested with x.
-    // Kept beside `tested`: with a call of it here the walk is compiled to 558 instructions, without it to 553, more of them in the loop whose time a node is the bar; a time of its own was not taken.
     pub fn open_rows(
         self,
         t: &[u32; TABLES],
@@ -122,13 +122,10 @@ impl Search {
         ensures opens { result ≡ open_s limit (spent + term_at t.now w.old j rows) (sums_at t.now w.old j rows) self }
         ensures frame { Recalled t.now w.old w.new rows }
     {
-        let Bound::Sum(g) = value(term(t, j, last_mark(w, rows))) else {
+        let Bound::Sum(due) = self.tested(limit, spent, term(t, j, last_mark(w, rows)), x) else {
             return Bound::Missing;
         };
-        let Bound::Sum(_) = self.open(limit, spent + g, Bound::Sum(x)) else {
-            return Bound::Missing;
-        };
-        self.open(limit, spent + g, Bound::Sum(lane_sum(t, w, rows, j)))
+        self.open(limit, due, Bound::Sum(lane_sum(t, w, rows, j)))
     }
 }
 

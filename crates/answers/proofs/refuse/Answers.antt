@@ -1,10 +1,11 @@
 -- `refuse`: the lines of the fault are handed over, and the span is where its line stands.
 use native.Mathlib.Omega.{arith}
-use Prim.Native.Nat.{◌≤◌}
+use Prim.Native.Nat.{ℕ, ◌≤◌}
 use borrow.Author.Rules.{rules}
-use mathlib.Core.Path.{ap}
+use mathlib.Core.Path.{ap₂}
 use Rattle.fault_lines.specs.declared.fault.Span.{Span}
 use lib.ListN.{length}
+use Rattle.lines.specs.Fault.{number_of_lem}
 use Rattle.answers.specs.Said.{refusal, longest_refusal}
 use Rattle.answers.proofs.Lengths.{fault_short, fault_room}
 use Rattle.answers.proofs.refuse.Goals as goal
@@ -14,9 +15,11 @@ hand_over-requires c o start long = let room : longest_refusal ≤ length o.now.
 
 pub returns : goal.returns
 returns c = let a = c.args in
-    c.hand_over.ensures (refusal a.which a.text.now a.number a.line)
-    (ap
-    (λ (x : Span). record { result = a.number; text = a.which; line = a.line; length = 0; fault_start = x.start; fault_length = x.length })
-    c.fault_span-span.ensures)
-    (omega (arith, c.requires.1, fault_short a.number a.which a.line))
-    (λ o p start put. search rules)
+    let n = number_of_lem a.fault.kind in
+    let l = a.fault.line in
+    c.hand_over.ensures (refusal a.which a.text.now n l)
+    (ap₂
+    (λ (k : ℕ) (x : Span). record { result = k; text = a.which; line = l; length = 0; fault_start = x.start; fault_length = x.length })
+    c.number-number.ensures c.fault_span-span.ensures)
+    (omega (arith, c.requires.1, fault_short n a.which l))
+    (λ o p start put. rw (← c.number-number.ensures) (search rules))

@@ -1,58 +1,49 @@
--- `due_of`: the last step up to s that is in time. The gap test is the model's, on small numbers.
-use Prim.Native.Nat.{ℕ, ◌+◌, ◌-◌, ◌≤◌, ◌<◌}
-use mathlib.Core.Path.{◌≡◌, sym, ap, subst, ◌∙◌}
-use mathlib.Core.List.{List}
-use native.Mathlib.Omega.{arith}
+-- `due_of`: the first step from the last one back that is in time. The gap test is the model's, on small numbers.
+use Rattle.std.proofs.Common.{rules, tests, arith, Option, None, Some, refl, ◌≡◌, ◌≤◌, ℕ, List, sym, ap, subst, ◌∙◌}
 use lib.ListN.{get_or}
 use lib.IntN.{ℤ, pos}
 use mir.Syntax.{w32}
 use mir.Val.{to_z, of_z}
-use mir.Facts.{to_z-of_z}
+use Rattle.std.specs.Option.{unwrap_or, option_map}
+use Rattle.std.specs.List.{find}
+use Rattle.std.proofs.lemmas.Iterator.Search.{find_from_yields_List}
+use Rattle.std.proofs.lemmas.Iterator.Adapters.{serves_from_places}
 use Rattle.model.specs.Limits.{last_position}
-use Rattle.model.specs.Model.{Job, clock, within, last_within_lem, due_of_lem}
+use Rattle.model.specs.Model.{Job, clock, within, due_of_lem}
 use Rattle.jobs.specs.Views.{job_of}
-use Rattle.clock.specs.Placed.{Position, Clocks}
+use Rattle.clock.specs.Placed.{Position, Begins, Clocks}
 use Rattle.clock.proofs.Ranges.{clocked, position_bits, before_bits}
-use Rattle.clock.proofs.Steps.{last_none, last_yes_lem, last_no}
+use Rattle.clock.proofs.Backward.{down, backward, down_most, last_found}
 use Rattle.clock.proofs.due_of.Goals as goal
-use Rattle.clock.proofs.due_of.Goals.{After-keeps, then-keeps, else-keeps}
-
-pub loop-s-init : goal.loop-s-init
-loop-s-init c = let a = c.args in last_none (job_of a.job.now.job) (pos a.life) (to_z w32 (of_z w32 a.prev))
 
 -- the position of a step, as the code reads it
 here : (job : Job) (at : List ℤ) → Clocks job at → (s : ℕ) → s ≤ last_position → to_z w32 (of_z w32 (get_or at s (pos 0))) ≡ clock job s
 here job at e s h = position_bits (get_or at s (pos 0)) (subst Position (sym (e s h)) (clocked job s h)) ∙ e s h
 
-pub keeps-requires : goal.keeps-requires
-keeps-requires c =
-    let a = c.args in
-    let s = c.loop-s.s in
-    let h : s ≤ last_position = omega (arith, c.loop-s-test.true, a.job.now.valid.horizon_high) in
-    let at = here (job_of a.job.now.job) c.running_steps-clock.result c.running_steps-clock.ensures s h in
-    (c.requires.0, rw (before_bits a.life a.prev c.requires.0 c.requires.1) c.requires.1, rw at (clocked (job_of a.job.now.job) s h))
+same : (r : Option ℕ) → option_map (λ x. x) r ≡ r
+same None = refl
+same (Some x) = refl
 
--- the test
-tested : (c : After-keeps) → c.keeps.result ≡ within (pos c.args.life) (to_z w32 (of_z w32 c.args.prev)) (clock (job_of c.args.job.now.job) c.loop-s.s)
-tested c = rw (here (job_of c.args.job.now.job) c.running_steps-clock.result c.running_steps-clock.ensures c.loop-s.s (omega (arith, c.loop-s-test.true, c.args.job.now.valid.horizon_high))) at c.keeps.ensures
-
-pub loop-s-preserved : goal.loop-s-preserved
-loop-s-preserved c =
-    let a = c.args in
-    let s = c.loop-s.s in
-    let test = sym (tested (goal.at.loop-s-preserved c).After-keeps) in
-    let prev = to_z w32 (of_z w32 a.prev) in
-    let some : 0 < s = omega arith in
-    let back : s + 1 - 1 ≡ s = omega arith in
-    rw back
-    (elim c.if-keeps.branch [
-      | then-keeps w ↦ w.due-is ∙ last_yes_lem (job_of a.job.now.job) (pos a.life) prev s some (test ∙ w.if-keeps.true)
-      | else-keeps w ↦ w.due-is ∙ c.loop-s.invariant ∙ last_no (job_of a.job.now.job) (pos a.life) prev s some (test ∙ w.if-keeps.false)
-    ])
+pub find-requires-clause-callable : goal.find-requires-clause-callable
+find-requires-clause-callable c = let a = c.args in
+    let j = a.job.now in
+    let n = j.job.horizon in
+    let before = before_bits a.life a.prev c.requires.0 c.requires.1 in
+    serves_from_places (backward n c.rev.result c.rev.ensures.source) (λ x q r. search (rules, tests))
+    (λ x k l e y z.
+    let low : y.now ≤ 365 = omega (arith, z, e, down_most n k x l, j.valid.horizon_high) in
+    let at = here (job_of j.job) c.running_steps-at.result c.running_steps-at.ensures y.now (omega arith) in (
+      λ _ _ _ _ _ _ _. record { fits = omega arith },
+      λ _ _ _ _ _ _ _. omega arith,
+      λ _ _ _ _ _ _ _ _ _. (c.requires.0, subst (Begins a.life) (sym (ap (λ (q : ℤ). to_z w32 (of_z w32 q)) before ∙ before)) c.requires.1, subst Position (sym at) (clocked (job_of j.job) y.now (omega arith))),
+    ))
 
 pub returns : goal.returns
 unfolding due_of_lem
 returns c = let a = c.args in
-    let l = c.loop-s in
-    let z : l.s - 1 ≡ a.job.now.job.horizon = omega arith in
-    l.invariant ∙ ap (λ (p : ℤ). last_within_lem (job_of a.job.now.job) (pos a.life) p (l.s - 1)) (to_z-of_z c.ranges.prev) ∙ ap (last_within_lem (job_of a.job.now.job) (pos a.life) a.prev) z
+    let j = a.job.now in
+    let n = j.job.horizon in
+    let at = λ (s : ℕ). to_z w32 (of_z w32 (get_or c.running_steps-at.result s (pos 0))) in
+    let test = λ (s : ℕ). within (pos a.life) a.prev (at s) in
+    let found : option_map (λ x. x) c.find.result ≡ find test (down n) = find_from_yields_List test _ _ c.find.result c.find.ensures.ran (backward n c.rev.result c.rev.ensures.source) (λ x b q k. search (rules, tests)) in
+    c.unwrap_or.ensures ∙ ap (λ r. unwrap_or r 0) (sym (same c.find.result) ∙ found) ∙ last_found (job_of j.job) (pos a.life) a.prev at n (λ s h. here (job_of j.job) c.running_steps-at.result c.running_steps-at.ensures s (omega (arith, h, j.valid.horizon_high)))

@@ -4,9 +4,9 @@ use mathlib.Core.Path.{refl, subst}
 use mathlib.Core.List.{List}
 use native.Mathlib.Omega.{arith}
 use lib.ListN.{length, get_or, take, length-set}
-use lib.Seq.{length-take-le, take_all}
+use lib.Seq.{take_all}
 use Rattle.model.proofs.Positions.{rising_within}
-use Rattle.jobs.proofs.Jobs.{idles_long}
+use Rattle.jobs.proofs.Jobs.{idles_taken}
 use Rattle.clock.specs.Placed.{Flags}
 use Rattle.clock.proofs.Steps.{flags_none, flags_more}
 use Rattle.clock.proofs.idle_steps.Goals as goal
@@ -17,7 +17,7 @@ loop-step-init c = (refl, flags_none 367)
 
 inside : (c : In-loop-step) → c.loop-step.step-index < length (take c.args.job.now.job.idle_count c.args.job.now.job.idles)
 inside c = let j = c.args.job.now.job in
-    omega (arith, c.loop-step-test.true, length-take-le j.idle_count j.idles (idles_long j))
+    omega (arith, c.loop-step-test.true, idles_taken j)
 
 -- an idle step is one of the horizon's
 small : (c : In-loop-step) → get_or (take c.args.job.now.job.idle_count c.args.job.now.job.idles) c.loop-step.step-index 0 ≤ 365
@@ -38,4 +38,4 @@ loop-step-preserved c = let l = c.loop-step in
 pub returns : goal.returns
 returns c = let l = c.loop-step in
     let j = c.args.job.now.job in
-    subst (λ (is : List ℕ). Flags is l.flags) (take_all l.step-index (take j.idle_count j.idles) (omega (arith, c.loop-step-test.false, length-take-le j.idle_count j.idles (idles_long j)))) l.invariant.1
+    subst (λ (is : List ℕ). Flags is l.flags) (take_all l.step-index (take j.idle_count j.idles) (omega (arith, c.loop-step-test.false, idles_taken j))) l.invariant.1

@@ -4,32 +4,21 @@ use mathlib.Core.Path.{◌≡◌, sym, ap, ◌∙◌}
 use native.Mathlib.Omega.{arith}
 use Rattle.lines.specs.Parser.{accepted, refused}
 use Rattle.fault_lines.specs.declared.fault.Span.{Span}
-use Rattle.lines.specs.Fault.{number_of_lem}
-use Rattle.lines.specs.Reads.{outcome, seen}
-use Rattle.job_grammar.specs.Grammar.{read_job_lem}
-use Rattle.job_text.specs.Views.{given_in}
-use Rattle.job_text.proofs.Views.{means_in}
+use Rattle.job_text.proofs.Views.{refused_job, accepted_job}
 use Rattle.job_grammar.proofs.Numbered.{fault}
 use Rattle.counting.specs.declared.Counted.{Counted}
 use Rattle.counting.specs.Count.{on_job, count_said}
 use Rattle.counting.specs.Promise.{CountPromise}
 use Rattle.counting.proofs.Promised.{promised}
 use Rattle.counting.proofs.count.Goals as goal
-use Rattle.counting.proofs.count.Goals.{In-Err, In-Ok, Start}
-
--- what the job text reads as, by what was read
-refused_job : (c : In-Err) → read_job_lem c.args.job.now ≡ refused (number_of_lem c.in-Err.fault.kind) c.in-Err.fault.line
-refused_job c = sym (means_in _ c.read_job.ensures) ∙ ap (λ r. outcome (seen given_in r)) c.in-Err.is
-
-accepted_job : (c : In-Ok) → read_job_lem c.args.job.now ≡ accepted (given_in c.in-Ok.text)
-accepted_job c = sym (means_in _ c.read_job.ensures) ∙ ap (λ r. outcome (seen given_in r)) c.in-Ok.is
+use Rattle.counting.proofs.count.Goals.{Start}
 
 -- the defined answer keeps the promise
 kept : (c : Start) (r : Counted) → r ≡ count_said c.args.job.now → (r ≡ count_said c.args.job.now) × CountPromise c.args.job.now r
 kept c r e = (e, rw e (promised c.args.job.now))
 
 pub overflow_cast-result : goal.overflow_cast-result
-overflow_cast-result c = omega (arith, (fault _ _ _ (refused_job (goal.at.overflow_cast-result c).In-Err)).1)
+overflow_cast-result c = omega (arith, (fault _ _ _ (refused_job c.args.job.now c.read_job.ensures c.in-Err.is)).1)
 
 pub returns-in-Err : goal.returns-in-Err
 unfolding count_said
@@ -38,9 +27,9 @@ returns-in-Err c = kept (goal.at.returns-in-Err c).Start _
     (λ (x : Span). record { result = c.number.result; text = 1; line = c.in-Err.fault.line; count = 0; fault_start = x.start; fault_length = x.length })
     c.fault_span-span.ensures
     ∙ ap (λ (n : ℕ). on_job c.args.job.now (refused n c.in-Err.fault.line)) c.number.ensures
-    ∙ ap (on_job c.args.job.now) (sym (refused_job (goal.at.returns-in-Err c).In-Err)))
+    ∙ ap (on_job c.args.job.now) (sym (refused_job c.args.job.now c.read_job.ensures c.in-Err.is)))
 
 pub returns-in-Ok : goal.returns-in-Ok
 unfolding count_said
 returns-in-Ok c = kept (goal.at.returns-in-Ok c).Start _
-    (c.counted_job.ensures ∙ ap (on_job c.args.job.now) (sym (accepted_job (goal.at.returns-in-Ok c).In-Ok)))
+    (c.counted_job.ensures ∙ ap (on_job c.args.job.now) (sym (accepted_job c.args.job.now c.read_job.ensures c.in-Ok.is)))

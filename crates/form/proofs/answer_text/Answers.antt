@@ -29,7 +29,7 @@ refuse-requires c = (omega (arith, (lines_fault _ 45257 _ _ c.requires (refused-
 
 pub returns-in-Err : goal.returns-in-Err
 unfolding bytes
-returns-in-Err c = rw (refused-text (goal.at.returns-in-Err c).In-Err, ← c.number.ensures) c.refuse.ensures
+returns-in-Err c = rw (refused-text (goal.at.returns-in-Err c).In-Err) c.refuse.ensures
 
 pub answer-requires : goal.answer-requires
 answer-requires c = let k = lines_known _ _ (accepted-text (goal.at.answer-requires c).In-Ok) in omega (arith, text_fits (text_of c.in-Ok.field-0) k.0, ap length k.1)

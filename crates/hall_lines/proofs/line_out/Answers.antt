@@ -26,4 +26,4 @@ pub returns : goal.returns
 returns c =
     let a = c.args in
     let f = tested (goal.at.returns c).After-opened _ c.in_ok-total.was in
-    λ t sheet ds o at paid re. out_some re a.test.limit a.test.rest a.test.s f
+    λ t sheet ds o at paid re. out_some re a.test.limit a.test.rest a.test.s c.out-stop.ensures f

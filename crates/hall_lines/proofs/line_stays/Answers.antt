@@ -48,4 +48,4 @@ returns c =
     λ sheet ds paid re.
     let e = sym (tested (goal.at.returns c).After-stay_sums) ∙ c.in-Sum.is in
     let f = stays_fits re h c.removal_term-h.ensures a.test.limit a.test.rest a.test.s y c.args.test.room e in
-    stays_some re h c.removal_term-h.ensures a.test.limit a.test.rest a.test.s c.stay_sums.new.w c.stay_sums.ensures.frame (bit_or a.p.shut c.number.result) y (a.test.rest + h + y) (ap (bit_or a.p.shut) c.number.ensures.value) f.0 f.1 e refl
+    stays_some re h c.removal_term-h.ensures a.test.limit a.test.rest a.test.s c.stay_sums.new.w c.stay_sums.ensures.frame (bit_or a.p.shut c.number.result) y (a.test.rest + h + y) c.stays-stop.result (ap (bit_or a.p.shut) c.number.ensures.value) c.stays-stop.ensures f.0 f.1 e refl

@@ -25,7 +25,6 @@ flat-requires c = record {
 pub invariant_of-held : goal.invariant_of-held
 invariant_of-held c = let t = c.holder_numbers_of-holders in
     record {
-      size = t.ensures.needs.size;
       few = omega (arith, held.removals_long (job_of c.args.job.now.job) t.result t.ensures, t.ensures.few);
       cheap = held.removals_cheap (job_of c.args.job.now.job) t.result t.ensures c.args.job.now.valid;
     }

@@ -26,7 +26,7 @@ loop-c-preserved c = let l = c.loop-c in
     let old = l.invariant.1.rest (last_place (a.rows - 1) l.c) (λ y m z. omega (arith, z, c.requires.some, c.requires.few, c.number-n.ensures.value)) in
     let y = get_or a.v.now (last_place (a.rows - 1) l.c) 0 in (
       omega arith,
-      filled_more c.pick.result (omega (arith, c.requires.aside, c.requires.row, c.requires.few, c.number-n.ensures.value)) (λ y m z. omega (arith, z))
+      filled_more c.pick.result (omega (arith, c.requires.row, c.requires.few, c.number-n.ensures.value)) (λ y m z. omega (arith, z))
           (c.pick.ensures
           ∙ (λ i. cond (eqb (c.spread.ensures.lanes lead h i) 0) (offset a.at l.c) (old i))
           ∙ pick_mask a.set lead (offset a.at l.c) y

@@ -1,48 +1,27 @@
--- `opening_term` is the largest term. The invariant: of the first classes it is.
-use Prim.Native.Nat.{ℕ, ◌+◌, ◌*◌, max}
-use mathlib.Core.Path.{◌≡◌, ap, ◌∙◌}
-use native.Mathlib.Omega.{arith}
-use Rattle.std.proofs.Common.{rules}
-use lib.ListN.{get_or}
-use Rattle.lane_rows.specs.Layout.{lane_count_lem, triangle}
-use Rattle.lane_rows.proofs.Rising.{row_inside}
-use Rattle.held_lanes.specs.Places.{most_to, classes_place, last_place}
+-- `opening_term` is the largest term: each class's may be looked up, and the library finds the largest.
+use Rattle.std.proofs.Common.{rules, tests, ◌≡◌, ◌*◌, ◌-◌, ◌+◌, ◌∙◌, ℕ, ap, sym, refl, arith, get_or}
+use Rattle.std.proofs.lemmas.Iterator.{serves_from_Range, YieldsList-from_range, YieldsList-from_map}
+use Rattle.std.proofs.lemmas.Iterator.Adapters.{option_map_id}
+use Rattle.std.proofs.lemmas.Iterator.Consumers.{YieldsList-at, max_from_yields_List}
+use Rattle.std.specs.Prelude.{Option}
+use Rattle.std.specs.Option.{unwrap_or}
+use Rattle.lane_rows.specs.Layout.{lane_count_lem}
+use Rattle.held_lanes.specs.Places.{most_to, last_place}
 use Rattle.held_lanes.specs.Tables.{term_of}
-use Rattle.held_lanes.proofs.Most.{most_none, most_more, class_asks}
+use Rattle.held_lanes.proofs.Most.{max_mapped, class_asks}
 use Rattle.held_lanes.proofs.opening_term.Goals as goal
-use Rattle.held_lanes.proofs.opening_term.Goals.{After-number-n}
 
-pub row_of-level-requires : goal.row_of-level-requires
-row_of-level-requires c = omega (arith, c.requires.near)
-
-pub overflow_mul-level : goal.overflow_mul-level
-overflow_mul-level c = let p = c.requires in omega (arith, c.row_of-level.ensures, row_inside c.args.j 0 65 (omega arith) (omega (arith, p.near)))
-
-pub number-n-requires : goal.number-n-requires
-number-n-requires c = let p = c.requires in (omega (arith, p.size), omega (arith, p.size))
-
-pub loop-c-init : goal.loop-c-init
-loop-c-init c = let a = c.args in (omega arith, most_none (term_of a.u.now a.v.now a.j a.r))
-
--- where the level's terms start
-row : (c : After-number-n) → c.row_of-level.result ≡ triangle c.args.j
-row c = c.row_of-level.ensures.rows
-
-pub class_term-requires : goal.class_term-requires
-class_term-requires c = class_asks c.requires (omega (arith, c.number-n.ensures.value)) (ap (λ (k : ℕ). k * lane_count_lem) (row (goal.at.class_term-requires c).After-number-n))
-
-pub loop-c-preserved : goal.loop-c-preserved
-loop-c-preserved c = let l = c.loop-c in
-    let a = c.args in
-    let m : c.max-g.result ≡ max l.g c.class_term.result = search rules in (
-      omega arith,
-      m
-          ∙ ap (max l.g) (c.class_term.ensures ∙ ap (λ (k : ℕ). get_or a.u.now (k * lane_count_lem + get_or a.v.now (last_place a.r l.c) 0) 0) (row (goal.at.loop-c-preserved c).After-number-n))
-          ∙ most_more (term_of a.u.now a.v.now a.j a.r) l.c l.g l.invariant.1,
-    )
+pub max-requires-clause-can : goal.max-requires-clause-can
+max-requires-clause-can c = (tt, rw c.map.ensures.closure (rw c.map.ensures.source (serves_from_Range (λ x q r. search (rules, tests)) (λ x _ h _ _ _ _ _ _ _ _. class_asks c.requires (omega (arith, h, c.number.ensures.value)) (ap (λ (k : ℕ). k * lane_count_lem) c.row_of.ensures.rows)))))
 
 pub returns : goal.returns
-returns c = let l = c.loop-c in
-    let a = c.args in
-    let z : l.c ≡ get_or a.u.now classes_place 0 = omega (arith, c.number-n.ensures.value) in
-    l.invariant.1 ∙ ap (most_to (term_of a.u.now a.v.now a.j a.r)) z
+returns c = let a = c.args in
+    let n = c.number.result in
+    let all : n - 0 ≡ n = omega arith in
+    let term : ℕ → ℕ → ℕ = λ k i. get_or a.u.now (k * lane_count_lem + get_or a.v.now (last_place a.r i) 0) 0 in
+    let found = max_from_yields_List c.map.result c.max.result c.max.ensures.ran (YieldsList-from_map _ (term c.row_of.result) (YieldsList-at c.map.ensures.source (YieldsList-from_range 0 n n refl all)) c.map.ensures.closure (λ x r q k. search (rules, tests))) in
+    c.unwrap_or.ensures
+    ∙ ap (λ (o : Option ℕ). unwrap_or o 0) (sym (option_map_id c.max.result) ∙ found)
+    ∙ max_mapped (term c.row_of.result) n
+    ∙ ap (λ (k : ℕ). most_to (term k) n) c.row_of.ensures.rows
+    ∙ ap (most_to (term_of a.u.now a.v.now a.j a.r)) c.number.ensures.value

@@ -21,7 +21,7 @@ lanes c q l =
     let p = c.requires in
     let k : q < lane_count_lem = omega (arith, p.narrow) in
     c.pick_row.ensures.lanes q l
-    ∙ (λ i. cond (eqb (c.spread.ensures.lanes q l i) 0) (window_at s.v.now (pending_row s.rows) (omega (arith, p.aside, p.few)) q k i) (get_or-replicate {A = ℕ} lane_count_lem q inf 0 k i))
+    ∙ (λ i. cond (eqb (c.spread.ensures.lanes q l i) 0) (window_at s.v.now (pending_row s.rows) (omega (arith, p.few)) q k i) (get_or-replicate {A = ℕ} lane_count_lem q inf 0 k i))
     ∙ pick_mask s.set q (get_or s.v.now (pending_place s.rows q) 0) inf
 
 pub returns : goal.returns

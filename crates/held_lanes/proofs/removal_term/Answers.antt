@@ -1,71 +1,55 @@
--- `removal_term` is the larger of g and of the terms of the classes on the list. The invariant: of the first on the list it is.
-use Prim.Native.Nat.{ℕ, ◌+◌, ◌*◌, max}
-use mathlib.Core.Path.{◌≡◌, ap, ap₂, ◌∙◌}
-use native.Mathlib.Omega.{arith}
-use Rattle.std.proofs.Common.{rules}
-use lib.ListN.{get_or}
-use Rattle.lane_rows.specs.Layout.{lane_count_lem, triangle}
-use Rattle.lane_rows.proofs.Rising.{row_inside}
-use Rattle.held_lanes.specs.Places.{most_to, need_count_place, need_class_place, last_place}
+-- `removal_term` is the larger of g and of the terms of the classes on the list: each may be looked up, and the library finds the largest.
+use Rattle.std.proofs.Common.{rules, tests, ◌≡◌, ◌<◌, ◌*◌, ◌-◌, ◌+◌, ◌∙◌, ℕ, List, ap, arith, get_or, max, take, drop, length}
+use Rattle.std.proofs.lemmas.Iterator.{YieldsList-from_slice, YieldsList-from_map}
+use Rattle.std.proofs.lemmas.Iterator.Adapters.{serves_from_places}
+use Rattle.std.proofs.lemmas.Iterator.Consumers.{YieldsList-at, fold_from_yields_List}
+use Rattle.std.proofs.lemmas.List.{get_or_default}
+use Rattle.model.specs.Limits.{most_parts}
+use Rattle.lane_rows.specs.Layout.{lane_count_lem}
+use Rattle.held_lanes.specs.Places.{most_to, last_place, removal_base, need_class_place, classes_place}
 use Rattle.held_lanes.specs.Tables.{term_of}
-use Rattle.held_lanes.proofs.Most.{from_none, from_more, class_asks}
+use Rattle.held_lanes.proofs.Ranges.{window_at, window_length}
+use Rattle.held_lanes.proofs.Most.{most_same, fold_mapped, class_asks}
 use Rattle.held_lanes.proofs.removal_term.Goals as goal
-use Rattle.held_lanes.proofs.removal_term.Goals.{After-number-n}
+use Rattle.held_lanes.proofs.removal_term.Goals.{After-number}
 
-pub row_of-level-requires : goal.row_of-level-requires
-row_of-level-requires c = omega (arith, c.requires.term_asks.near)
+-- the list of the classes, and where it begins
+abbrev first : (c : After-number) → ℕ
+first c = removal_base + most_parts * 3 + c.args.b * lane_count_lem
 
-pub overflow_mul-level : goal.overflow_mul-level
-overflow_mul-level c = let p = c.requires.term_asks in omega (arith, c.row_of-level.ensures, row_inside c.args.j 0 65 (omega arith) (omega (arith, p.near)))
+abbrev listed : (c : After-number) → List ℕ
+listed c = take (first c + c.number.result - first c) (drop (first c) c.args.u.now)
 
-pub overflow_add-b : goal.overflow_add-b
-overflow_add-b c = let p = c.requires in omega (arith, p.b_lt_lane_count.0)
+-- its entries, and how many there are
+count : (c : After-number) → length (listed c) ≡ c.number.result
+count c = let p = c.requires.b_lt_lane_count in window_length c.args.u.now (first c) c.number.result (omega (arith, p.0, p.1, c.number.ensures.value))
 
-pub number-n-requires : goal.number-n-requires
-number-n-requires c = let p = c.requires in (omega (arith, p.term_asks.size, p.b_lt_lane_count.0), omega (arith, p.term_asks.size))
+entry : (c : After-number) (i : ℕ) → i < c.number.result → get_or (listed c) i 0 ≡ get_or c.args.u.now (need_class_place c.args.b i) 0
+entry c i l =
+    let z : first c + i ≡ need_class_place c.args.b i = omega arith in
+    window_at c.args.u.now (first c) c.number.result i l ∙ ap (λ (k : ℕ). get_or c.args.u.now k 0) z
 
-pub loop-i-init : goal.loop-i-init
-loop-i-init c = let a = c.args in (omega arith, from_none (λ (i : ℕ). term_of a.u.now a.v.now a.j a.r (get_or a.u.now (need_class_place a.b i) 0)) a.g)
+-- each is a class
+class : (c : After-number) (x i : ℕ) → i < length (listed c) → x ≡ get_or (listed c) i x → x < get_or c.args.u.now classes_place 0
+class c x i l e =
+    let k : i < c.number.result = omega (arith, count c) in
+    omega (arith, e, get_or_default (listed c) i x 0 l, entry c i k, c.requires.b_lt_lane_count.2 i (omega (arith, c.number.ensures.value)))
 
-pub overflow_mul-b : goal.overflow_mul-b
-overflow_mul-b c = let p = c.requires in omega (arith, p.b_lt_lane_count.0)
-
-pub overflow_add-b-in-loop-i : goal.overflow_add-b-in-loop-i
-overflow_add-b-in-loop-i c = let p = c.requires in
-    omega (arith, p.b_lt_lane_count.0, p.b_lt_lane_count.1, c.number-n.ensures.value)
-
-pub overflow_add-b-in-loop-i-2 : goal.overflow_add-b-in-loop-i-2
-overflow_add-b-in-loop-i-2 c = let p = c.requires in
-    omega (arith, p.b_lt_lane_count.0, p.b_lt_lane_count.1, c.number-n.ensures.value)
-
-pub number-c-requires : goal.number-c-requires
-number-c-requires c = let p = c.requires in
-    (omega (arith, p.term_asks.size, p.b_lt_lane_count.0, p.b_lt_lane_count.1, c.number-n.ensures.value), omega (arith, p.term_asks.size))
-
--- where the level's terms start
-row : (c : After-number-n) → c.row_of-level.result ≡ triangle c.args.j
-row c = c.row_of-level.ensures.rows
-
-pub class_term-requires : goal.class_term-requires
-class_term-requires c = let l = c.loop-i in
-    let p = c.requires in
-    class_asks p.term_asks (omega (arith, c.number-c.ensures.value, p.b_lt_lane_count.2 l.i (omega (arith, c.number-n.ensures.value)))) (ap (λ (k : ℕ). k * lane_count_lem) (row (goal.at.class_term-requires c).After-number-n))
-
-pub loop-i-preserved : goal.loop-i-preserved
-loop-i-preserved c = let l = c.loop-i in
-    let a = c.args in
-    let f : ℕ → ℕ = λ (i : ℕ). term_of a.u.now a.v.now a.j a.r (get_or a.u.now (need_class_place a.b i) 0) in
-    let m : c.max-h.result ≡ max l.h c.class_term.result = search rules in (
-      omega arith,
-      m
-          ∙ ap (max l.h)
-          (c.class_term.ensures
-          ∙ ap₂ (λ (x y : ℕ). get_or a.u.now (x * lane_count_lem + get_or a.v.now (last_place a.r y) 0) 0) (row (goal.at.loop-i-preserved c).After-number-n) c.number-c.ensures.value)
-          ∙ from_more f l.i a.g l.h l.invariant.1,
-    )
+pub fold-requires-clause-can : goal.fold-requires-clause-can
+fold-requires-clause-can c = let w = (goal.at.fold-requires-clause-can c).After-number in
+    (tt, rw c.map.ensures.closure (rw c.map.ensures.source (serves_from_places (YieldsList-from_slice (listed w) c.iter.ensures.rest) (λ x q r. search (rules, tests)) (λ x i l e _ _ _ _ _ _ _ _. class_asks c.requires.term_asks (class w x.now i l e) (ap (λ (k : ℕ). k * lane_count_lem) c.row_of.ensures.rows)))))
 
 pub returns : goal.returns
-returns c = let l = c.loop-i in
-    let a = c.args in
-    let z : l.i ≡ get_or a.u.now (need_count_place a.b) 0 = omega (arith, c.number-n.ensures.value) in
-    l.invariant.1 ∙ ap (λ (k : ℕ). max a.g (most_to (λ (i : ℕ). term_of a.u.now a.v.now a.j a.r (get_or a.u.now (need_class_place a.b i) 0)) k)) z
+returns c = let a = c.args in
+    let u = a.u.now in
+    let w = (goal.at.returns c).After-number in
+    let n = c.number.result in
+    let term : ℕ → ℕ → ℕ = λ k i. get_or u (k * lane_count_lem + get_or a.v.now (last_place a.r i) 0) 0 in
+    let class : ℕ → ℕ = λ i. get_or u (need_class_place a.b i) 0 in
+    let f : ℕ → ℕ = λ i. term_of u a.v.now a.j a.r (class i) in
+    fold_from_yields_List _ max a.g c.fold.result c.fold.ensures.ran
+    (YieldsList-from_map _ (term c.row_of.result) (YieldsList-at c.map.ensures.source (YieldsList-from_slice (listed w) c.iter.ensures.rest)) c.map.ensures.closure (λ x r q k. search (rules, tests))) (λ h x r q k. search (rules, tests))
+    ∙ fold_mapped (term c.row_of.result) a.g (listed w)
+    ∙ ap (λ (k : ℕ). max a.g (most_to (λ (i : ℕ). term c.row_of.result (get_or (listed w) i 0)) k)) (count w)
+    ∙ ap (max a.g) (most_same (λ (i : ℕ). term c.row_of.result (get_or (listed w) i 0)) f n (λ i l j. term (c.row_of.ensures.rows j) (entry w i l j)))
+    ∙ ap (λ (k : ℕ). max a.g (most_to f k)) c.number.ensures.value

@@ -22,7 +22,7 @@ lanes c q l =
     let p = c.requires in
     let k : q < lane_count_lem = omega (arith, p.narrow) in
     c.pick_row.ensures.lanes q l
-    ∙ (λ i. cond (eqb (c.spread.ensures.lanes q l i) 0) (window_at s.w.now s.«yes» (omega (arith, p.stack, p.first)) q k i) (window_at s.w.now s.«no» (omega (arith, p.stack, p.second)) q k i))
+    ∙ (λ i. cond (eqb (c.spread.ensures.lanes q l i) 0) (window_at s.w.now s.«yes» (omega (arith, p.first)) q k i) (window_at s.w.now s.«no» (omega (arith, p.second)) q k i))
     ∙ pick_mask s.set q (get_or s.w.now (s.«yes» + q) 0) (get_or s.w.now (s.«no» + q) 0)
 
 pub total-requires : goal.total-requires

@@ -1,5 +1,6 @@
 -- `put_stop` writes the row and its mark, and forgets what was known of it.
 use mathlib.Core.Path.{refl}
+use native.Mathlib.Omega.{arith}
 use lib.ListN.{set}
 use Rattle.lane_rows.specs.Layout.{mark_place, lanes_in}
 use Rattle.lane_rows.proofs.Putting.{put_mark_lem, put_past}
@@ -15,5 +16,5 @@ returns c = let a = c.args in
     let f = shut_row a.v.now a.rows a.set in
     let w = d.new.w in
     let u = set w (mark_place a.rows) a.at in
-    let put = put_mark_lem f a.w.now a.rows wide w f a.at p.few p.stack p.narrow (λ q l. refl) d.ensures in
+    let put = put_mark_lem f a.w.now a.rows wide w f a.at p.few (omega arith) p.narrow (λ q l. refl) d.ensures in
     let past = put_past f a.w.now a.rows wide w a.at p.few p.narrow d.ensures in record { put = put_forgets wide f a.w.now u c.forget.new.w a.rows a.at put past c.forget.ensures p.few c.requires.2 p.narrow; memo = memo_put wide f a.w.now u c.forget.new.w a.rows a.at put past c.forget.ensures p.few c.requires.2 p.narrow a.t.now p.narrow c.requires.1 }

@@ -12,7 +12,7 @@ use Rattle.held_stops.proofs.settle_stop.Goals as goal
 pub put_stop-requires : goal.put_stop-requires
 put_stop-requires c = let p = c.requires.0 in
     let o = p.owing in (
-      record { some = o.stack.some; narrow = o.stack.narrow; size = p.notes.size; masks = p.notes.masks; aside = c.pend.ensures.size ∙ p.notes.aside; stack = o.stack.size; few = o.few },
+      record { some = o.stack.some; narrow = o.stack.narrow; masks = p.notes.masks; few = o.few },
       omega (arith, o.stack.few, p.later),
       p.near,
     )
@@ -40,7 +40,7 @@ returns c = let a = c.args in
             get_or-set_other v place (last_place a.rows i) a.removed 0 (λ z. omega (arith, z, row, few))
             ∙ no.done i l
             ∙ ap (λ (y : ℕ). cond (bit_at (get_or u (lead_place i) 0) a.set) y (offset a.at i)) (pe.rest (last_place (a.rows - 1) i) (λ q h z. omega (arith, z, row, few)) (λ z. omega (arith, z, row, few)));
-        removals = get_or-set_same v place a.removed 0 (omega (arith, no.size, pe.size, p.notes.aside, near));
+        removals = get_or-set_same v place a.removed 0 (omega (arith, no.size, pe.size, near));
         row = λ q l.
             get_or-set_other v place (pending_place a.rows q) a.removed 0 (λ z. omega (arith, z, near)) ∙ no.rest (pending_place a.rows q) (λ i h z. omega (arith, z, few, row)) ∙ pe.row q l;
         rest = λ x f g h e. get_or-set_other v place x a.removed 0 e ∙ no.rest x (λ i l z. f i (omega (arith, few)) z) ∙ pe.rest x g h;

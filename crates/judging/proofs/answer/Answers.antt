@@ -1,9 +1,8 @@
 -- `answer`: the judgement's number is handed over, and its lines are put.
-use Prim.Native.Nat.{ℕ, ◌≤◌}
+use Prim.Native.Nat.{ℕ}
 use mathlib.Core.Path.{subst}
 use native.Mathlib.Omega.{arith}
 use borrow.Author.Rules.{rules}
-use lib.ListN.{length}
 use Rattle.verdict.specs.Views.{model_judgement}
 use Rattle.line_writing.specs.Puts.{Room}
 use Rattle.answers.specs.Said.{plainly, Replied}

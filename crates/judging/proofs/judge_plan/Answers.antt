@@ -27,7 +27,7 @@ answer-requires c = let r = c.in-Ok.stated in
     judged_limited (job_of c.args.job.now.job) c.args.job.now.valid (plan_for c.args.job.now.job r.plan) r.cost _ c.judgement_of.ensures
 
 pub returns-in-Err : goal.returns-in-Err
-returns-in-Err c = rw (refused_plan (goal.at.returns-in-Err c).In-Err, ← c.number.ensures) c.refuse.ensures
+returns-in-Err c = rw (refused_plan (goal.at.returns-in-Err c).In-Err) c.refuse.ensures
 
 pub returns-in-Ok : goal.returns-in-Ok
 returns-in-Ok c = rw (accepted-plan (goal.at.returns-in-Ok c).In-Ok, ← c.judgement_of.ensures) c.answer.ensures

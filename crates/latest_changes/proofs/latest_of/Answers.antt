@@ -11,21 +11,12 @@ use mir.Val.{to_z, of_z}
 use Rattle.model.specs.Model.{within}
 use Rattle.latest.specs.Latest.{latest_from}
 use Rattle.clock.specs.Placed.{Begins, Position}
-use Rattle.clock.proofs.Ranges.{position_bits, before_bits, begins_first, begins_later}
+use Rattle.clock.proofs.Ranges.{position_bits, begins_later, first_bits}
 use Rattle.latest_changes.proofs.Made.{made_next, made_end}
 use Rattle.latest_changes.proofs.latest_of.Goals as goal
-use Rattle.latest_changes.proofs.latest_of.Goals.{After-last_change-prev, then-change, else-change}
+use Rattle.latest_changes.proofs.latest_of.Goals.{then-change, else-change}
 
 -- ---- what is known
-
--- the change before the first opening
-first-begins : (c : After-last_change-prev) → Begins c.args.part.now.life c.last_change-prev.result
-first-begins c =
-    let p = c.args.part.now in
-    rw c.last_change-prev.ensures (begins_first p.life _ (omega (arith, c.requires.2.life_high, c.requires.2.left_high)))
-
-first-bits : (c : After-last_change-prev) → to_z w32 (of_z w32 c.last_change-prev.result) ≡ c.last_change-prev.result
-first-bits c = before_bits c.args.part.now.life c.last_change-prev.result c.requires.2.life_high (first-begins c)
 
 -- a change at an opening, or none, begins a life
 later_begins : (life : ℕ) (here prev : ℤ) → life ≤ longest_life → Position here → Begins life prev → (b : Bool) → Begins life (cond b here prev)
@@ -69,4 +60,4 @@ returns c = let a = c.args in
     let l = c.loop-i in
     let same : l.i ≡ a.n = omega arith in
     made_end (pos a.part.now.life) (to_z w32 (of_z w32 c.last_change-prev.result)) a.n a.positions.now a.stops.now c.requires.0 l.at (to_z w32 l.prev-bits) (rw same at l.invariant.2)
-    ∙ ap (λ (z : ℤ). latest_from (pos a.part.now.life) a.positions.now.end z (take a.n a.positions.now.at) (take a.n a.stops.now)) (first-bits (goal.at.returns c).After-last_change-prev ∙ c.last_change-prev.ensures)
+    ∙ ap (λ (z : ℤ). latest_from (pos a.part.now.life) a.positions.now.end z (take a.n a.positions.now.at) (take a.n a.stops.now)) (first_bits c.last_change-prev.ensures c.requires.2.life_high (omega (arith, c.requires.2.life_high, c.requires.2.left_high)) ∙ c.last_change-prev.ensures)

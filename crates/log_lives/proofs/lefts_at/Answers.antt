@@ -1,34 +1,22 @@
 -- `lefts_at`: the first k entries are the lives not yet used of the first k parts.
-use Prim.Native.Nat.{ℕ, ◌<◌, ◌≤◌}
-use mathlib.Core.Path.{◌≡◌, refl, sym, ap, ap₂, subst, ◌∙◌}
+use Prim.Native.Nat.{ℕ, ◌<◌}
+use mathlib.Core.Path.{◌≡◌, refl, sym, ap, ap₂, ◌∙◌}
 use mathlib.Core.Bool.{Bool}
 use mathlib.Core.List.{List, [], ◌∷◌, ◌++◌}
 use native.Mathlib.Omega.{arith}
-use lib.ListN.{get_or, length, take, length-set}
-use lib.Seq.{get_or-take, length-take-le}
+use lib.ListN.{take, length-set}
 use lib.IntN.{ℤ, pos, ◌-ℤ◌}
 use Rattle.lines.proofs.Arrays.{take_more}
 use Rattle.model.specs.Model as model
 use Rattle.model.specs.Model.{table}
-use Rattle.model.specs.Limits.{longest_life}
 use Rattle.model.proofs.Lists.{table_more}
-use Rattle.jobs.specs.Views.{job_of, part_of_lem, blank_part_lem, plan_for}
-use Rattle.jobs.specs.declared.Job.{Job}
-use Rattle.jobs.specs.declared.Part.{Part}
-use Rattle.jobs.specs.Valid.{ValidPart}
-use Rattle.jobs.proofs.Jobs.{part_at, part_count, part_at_lem, parts_long, valid_part}
+use Rattle.jobs.specs.Views.{job_of, plan_for}
+use Rattle.jobs.proofs.Jobs.{part_at, part_count, part_at_lem, parts_taken, taken_at, valid_part, valid_taken}
 use Rattle.jobs.proofs.Plans.{enough_changes, changes_at_lem}
 use Rattle.clock.proofs.Ranges.{position_bits, before_bits}
 use Rattle.carry.specs.Carry.{natural, unused}
 use Rattle.log_lives.specs.Done.{left_at}
 use Rattle.log_lives.proofs.lefts_at.Goals as goal
-
-inside : (j : Job) (k : ℕ) → k < length (take j.part_count j.parts) → k < j.part_count
-inside j k h = omega (arith, h, length-take-le j.part_count j.parts (parts_long j))
-
--- the part at hand
-part_is : (j : Job) (k : ℕ) → k < j.part_count → get_or (take j.part_count j.parts) k blank_part_lem ≡ part_at j k
-part_is j k h = get_or-take j.part_count j.parts k blank_part_lem h
 
 pub loop-k-init : goal.loop-k-init
 unfolding table
@@ -36,18 +24,16 @@ loop-k-init c = (refl, refl)
 
 pub late_to-followed-requires : goal.late_to-followed-requires
 late_to-followed-requires c = let to = c.position_of-to.ensures.1 in
-    let j = c.args.past.now.job in
-    let t = inside j c.loop-k.k c.loop-k-test.true in (
+    let j = c.args.past.now.job in (
       c.positions_of-positions.ensures,
-      subst (λ (p : Part). ValidPart j.opening_count (part_of_lem j.opening_count p)) (sym (part_is j c.loop-k.k t)) (valid_part j c.args.past.now.valid c.loop-k.k t),
+      valid_taken j c.args.past.now.valid c.loop-k.k c.loop-k-test.true,
       rw (position_bits _ to) to,
     )
 
 pub left_at-requires : goal.left_at-requires
 left_at-requires c = let to = c.position_of-to.ensures.1 in
     let j = c.args.past.now.job in
-    let t = inside j c.loop-k.k c.loop-k-test.true in
-    let high = subst (λ (p : Part). p.life ≤ longest_life) (sym (part_is j c.loop-k.k t)) (valid_part j c.args.past.now.valid c.loop-k.k t).life_high in
+    let high = (valid_taken j c.args.past.now.valid c.loop-k.k c.loop-k-test.true).life_high in
     let begins = c.late_to-followed.ensures.2 in
     (high, rw (before_bits _ _ high begins) begins, rw (position_bits _ to) to)
 
@@ -55,8 +41,8 @@ pub loop-k-preserved : goal.loop-k-preserved
 loop-k-preserved c = let l = c.loop-k in
     let j = c.args.past.now.job in
     let job = job_of j in
-    let t = inside j l.k c.loop-k-test.true in
-    let same = part_is j l.k t in
+    let t : l.k < j.part_count = omega (arith, c.loop-k-test.true, parts_taken j) in
+    let same = taken_at j l.k c.loop-k-test.true in
     let followed = rw same at c.late_to-followed.ensures in
     let at = c.position_of-to.ensures in
     let life = (part_at j l.k).life in
@@ -71,5 +57,5 @@ loop-k-preserved c = let l = c.loop-k in
 pub returns : goal.returns
 returns c = let l = c.loop-k in
     let j = c.args.past.now.job in
-    let same : l.k ≡ j.part_count = omega (arith, c.loop-k-test.false, l.auto.k-end, length-take-le j.part_count j.parts (parts_long j)) in
+    let same : l.k ≡ j.part_count = omega (arith, c.loop-k-test.false, l.auto.k-end, parts_taken j) in
     ap (λ (n : ℕ). take n l.lefts) (sym same) ∙ l.invariant.1 ∙ ap (table (left_at (job_of c.args.past.now.job) c.args.step (plan_for c.args.past.now.job c.args.plan.now))) (same ∙ sym (part_count c.args.past.now.job))

@@ -14,7 +14,7 @@ put_line-requires-2-clause-n_in_bounds c = rw c.from-2.ensures (room_behind (roo
 
 pub put_cover-requires : goal.put_cover-requires
 unfolding part_cut_lem bytes
-put_cover-requires c = record { few = c.requires.few; room = room_behind (room_front _ c.requires.room) (then (rw c.from.ensures at c.put_line.ensures) (rw c.from-2.ensures at c.put_line-2.ensures)) }
+put_cover-requires c = room_behind (room_front _ c.requires.room) (then (rw c.from.ensures at c.put_line.ensures) (rw c.from-2.ensures at c.put_line-2.ensures))
 
 pub put_prices-requires : goal.put_prices-requires
 unfolding part_cut_lem bytes

@@ -15,6 +15,6 @@ returns g c =
       read = omega (arith, read.counts.0, read.counts.1);
       front = read.front;
       says = λ input kept.
-          subst (λ (s : Said). Prints s c.print_answer.result) (ap (λ (s : List ℕ). plan_said s 4000000000) (sym kept) ∙ same input 4000000000)
+          subst (λ (s : Said). Prints s c.print_answer.result) (ap (plan_said (take c.read_whole-n.result c.read_whole-n.new.buf)) c.from.ensures ∙ ap (λ (s : List ℕ). plan_said s 4000000000) (sym kept) ∙ same input 4000000000)
           (prints (omega arith) c.plan-a.ensures.replied c.print_answer.ensures);
     }

@@ -21,7 +21,7 @@ pub refuse-requires : goal.refuse-requires
 refuse-requires c = (omega (arith, (fault _ _ _ _ (refused_plan (goal.at.refuse-requires c).In-Err)).1), omega arith)
 
 pub returns-in-Err : goal.returns-in-Err
-returns-in-Err c = rw (refused_plan (goal.at.returns-in-Err c).In-Err, ← c.number.ensures) c.refuse.ensures
+returns-in-Err c = rw (refused_plan (goal.at.returns-in-Err c).In-Err) c.refuse.ensures
 
 pub returns-in-Ok : goal.returns-in-Ok
 returns-in-Ok c = rw (accepted-plan (goal.at.returns-in-Ok c).In-Ok) c.serve.ensures

@@ -16,6 +16,7 @@ use Rattle.share_rows.specs.Places.{holds_place}
 use Rattle.share_walk.specs.declared.State.{State}
 use Rattle.share_walk.specs.State.{name_size, counted_s, kept_s, At, Above, kept_rows, Below, SharesWalked}
 use Rattle.share_walk.proofs.Walks.{none_left, some_left, name_more, at_looked, above_of, look_asks, look_fits, look_sum, node_fits, name_room, walked_stopped, walked_dropped, walked_full, first_leaves, walked_both, at_below, above_kept}
+use Rattle.share_walk.proofs.Nodes.{snoc_long}
 use Rattle.share_walk.proofs.+walk.Goals as goal
 use Rattle.share_walk.proofs.+walk.Goals.{Start, Else-not-undecided, After-lanes_of-row, After-below-no, After-walk-a, After-below-yes}
 
@@ -126,10 +127,6 @@ lanes_of-row-requires t c = let f = numbers t (goal.at.lanes_of-row-requires t c
 
 pub bounds-name-size : goal.bounds-name-size
 bounds-name-size t c = omega (arith, (numbers t (goal.at.bounds-name-size t c).Else-not-undecided).3)
-
--- a name with one decision more
-snoc_long : (s : List Bool) (b : Bool) → length (snoc s b) ≡ length s + 1
-snoc_long s b = length-append s (b ∷ [])
 
 -- what the nodes below are made from
 abbrev left : (t : ℕ) → After-lanes_of-row t → Else-not-undecided t

@@ -5,10 +5,10 @@ use lib.ListN.{get_or}
 use Rattle.part_writing.specs.Views.{cover_said}
 use Rattle.form_writing.proofs.first.cover_first.Goals as goal
 
-pub returns-then-covers-ne1-clause-said : goal.returns-then-covers-ne1-clause-said
+pub returns-then-covers-ne1 : goal.returns-then-covers-ne1
 unfolding cover_said
-returns-then-covers-ne1-clause-said c = rw (ne_eqb (get_or c.args.parts.now.covers.covered.now 0 0) 1 c.if-covers-ne1.true) refl
+returns-then-covers-ne1 c = rw (ne_eqb (get_or c.args.parts.now.covers.covered.now 0 0) 1 c.if-covers-ne1.true) refl
 
-pub returns-clause-said : goal.returns-clause-said
+pub returns : goal.returns
 unfolding cover_said
-returns-clause-said c = rw (eq-eqb (get_or c.args.parts.now.covers.covered.now 0 0) 1 c.if-covers-ne1.false) refl
+returns c = rw (eq-eqb (get_or c.args.parts.now.covers.covered.now 0 0) 1 c.if-covers-ne1.false) refl

@@ -20,7 +20,6 @@ pub put_part-requires : goal.put_part-requires
 put_part-requires c = let e = c.part_first.ensures in
     let l = c.loop-rest in
     record {
-      few = e.few;
       marked = e.marked;
       room = room_same (putting_room c.args.n (lists_of c.args.parts.now) c.args.out.now (lists_of l.rest) l.out l.invariant c.loop-rest-test.true c.requires.prices_in_bounds) (sym (ap part_cut_lem e.said));
     }

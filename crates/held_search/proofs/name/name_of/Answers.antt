@@ -11,7 +11,7 @@ use Rattle.model.specs.Decisions.{concat}
 use Rattle.walk.specs.State.{bits}
 use Rattle.walk.proofs.Nodes.{bits-length}
 use Rattle.held_nodes.specs.State.{blocks_of, best_in}
-use Rattle.held_tables.proofs.Ends.{window_at, window_length}
+use Rattle.held_lanes.proofs.Ranges.{window_at, window_length}
 use Rattle.held_search.specs.Solved.{block_of}
 use Rattle.held_search.proofs.Names.{block_length, said_is, name_next, name_whole}
 use native.Mathlib.Omega.{arith}

@@ -5,8 +5,8 @@ use lib.ListN.{get_or}
 use Rattle.least.proofs.Filled.{filled_none, filled_more}
 use Rattle.lane_rows.proofs.Rising.{row_inside}
 use Rattle.held_lanes.specs.Places.{class_place}
+use Rattle.held_lanes.proofs.Most.{most_same}
 use Rattle.held_tables.proofs.Ends.{filled_all}
-use Rattle.held_tables.proofs.Lists.{most_same}
 use native.Mathlib.Omega.{arith}
 use Rattle.held_tables.proofs.terms.put_tops.Goals as goal
 

@@ -2,13 +2,12 @@
 use Rattle.std.proofs.Common.{◌≡◌, ◌+◌, ◌*◌, ◌≤◌, ◌∙◌, ℕ, ap, get_or, length, take, drop, ◌-◌, arith}
 use Rattle.lane_rows.proofs.Rising.{row_inside}
 use Rattle.held_lanes.specs.Places.{most_to, class_place, held_size}
-use Rattle.held_tables.proofs.Ends.{window_at, window_length}
+use Rattle.held_lanes.proofs.Ranges.{window_at, window_length}
+use Rattle.held_lanes.proofs.Most.{max_all, most_same}
 use Rattle.std.proofs.lemmas.Iterator.{YieldsList-from_slice}
 use Rattle.std.proofs.lemmas.Iterator.Consumers.{max_from_yields_List}
 use Rattle.std.specs.Prelude.{Option}
 use Rattle.std.specs.Option.{unwrap_or}
-use Rattle.held_tables.proofs.Tops.{max_all}
-use Rattle.held_tables.proofs.Lists.{most_same}
 use Rattle.held_tables.proofs.terms.top_of.Goals as goal
 use Rattle.held_tables.proofs.terms.top_of.Goals.{After-row_of}
 

@@ -1,70 +1,68 @@
--- `late_to`: after i openings, what is found so far and what the rest gives are the part's first long gap up to the position, and its last change.
-use Prim.Native.Nat.{ℕ, ◌<◌}
-use mathlib.Core.Path.{◌≡◌, sym, ap, ◌∙◌}
+-- `late_to`: after the openings yielded so far, what is found and what the rest gives are the part's first long gap up to the position, and its last change.
+use Prim.Native.Nat.{ℕ, ◌+◌, ◌≤◌, ◌<◌}
+use mathlib.Core.Path.{◌≡◌, sym, ap, subst, ◌∙◌}
 use mathlib.Core.Bool.{false}
+use mathlib.Core.List.{[], ◌∷◌, ◌++◌}
 use native.Mathlib.Omega.{arith}
-use lib.ListN.{length, get_or, take}
-use lib.Seq.{get_or-take}
+use lib.ListN.{length, get_or, take, length-append}
+use lib.Seq.{length-take-le}
 use lib.IntN.{ℤ, pos, ◌-ℤ◌}
 use mir.Syntax.{w32}
 use mir.Val.{to_z, of_z}
+use Rattle.std.proofs.Common.{rules}
+use Rattle.std.proofs.lemmas.Slice.Zip.{zip_turn, zip_end}
 use Rattle.model.specs.Model.{positions, select}
 use Rattle.model.specs.Verdict.{last_of}
 use Rattle.jobs.specs.Views.{job_of}
-use Rattle.clock.specs.Placed.{Begins, Position}
-use Rattle.clock.proofs.Ranges.{position_bits, before_bits, begins_first, begins_later}
+use Rattle.clock.specs.Placed.{Position}
+use Rattle.clock.proofs.Ranges.{position_bits, begins_later, first_bits}
 use Rattle.jobs.proofs.Jobs.{opening_count_lem2}
 use Rattle.clock.proofs.Places.{position_count, place_is}
 use Rattle.plan_lives.specs.Views.{model_gaps}
-use Rattle.plan_lives.specs.Steps.{gap_of, first_long_lem, gaps_to}
-use Rattle.plan_lives.proofs.Follow.{follow_skip, follow_change, follow_end, follow_last, first_or}
+use Rattle.plan_lives.specs.Steps.{first_long_lem, gaps_to}
+use Rattle.plan_lives.proofs.Follow.{Follows, follow_skip, follow_change, follow_end, follow_last, first_or}
 use Rattle.plan_lives.proofs.lives.late_to.Goals as goal
-use Rattle.plan_lives.proofs.lives.late_to.Goals.{After-last_change-prev, then-changes-i, else-changes-i}
-use Rattle.clock.specs.Placed.{Placed}
-use Rattle.clock.specs.declared.positions.Positions.{Positions}
-use Rattle.model.specs.Model as model
+use Rattle.plan_lives.proofs.lives.late_to.Goals.{In-Some}
 
 -- ---- what is known
 
--- the change before the first opening
-first-begins : (c : After-last_change-prev) → Begins c.args.part.now.life c.last_change-prev.result
-first-begins c =
-    let p = c.args.part.now in
-    rw c.last_change-prev.ensures (begins_first p.life _ (omega (arith, c.requires.1.life_high, c.requires.1.left_high)))
+-- the opening at hand: whether it is a change, and where it lies
+record Turn (c : In-Some) : Type 0 where
+  inside : length c.loop-change.yielded < c.args.job.now.job.opening_count
+  marked : get_or (take c.args.job.now.job.opening_count c.args.changes.now) (length c.loop-change.yielded) false ≡ c.in-Some.change.now
+  range : Position c.in-Some.next.now
+  is : c.in-Some.next.now ≡ get_or (positions (job_of c.args.job.now.job)) (length c.loop-change.yielded) (pos 0)
 
-first-bits : (c : After-last_change-prev) → to_z w32 (of_z w32 c.last_change-prev.result) ≡ c.last_change-prev.result
-first-bits c = before_bits c.args.part.now.life c.last_change-prev.result c.requires.1.life_high (first-begins c)
-
--- the opening at hand
-module _ {job : model.Job} (p : Positions) (placed : Placed job p) (n : ℕ) (e : length job.openings ≡ n) (i : ℕ) (h : i < n) where
-  inside : i < length job.openings
-  inside = rw e h
-
-  here_range : Position (get_or p.at i (pos 0))
-  here_range = placed.ranges i inside
-
-  here_bits : to_z w32 (of_z w32 (get_or p.at i (pos 0))) ≡ get_or p.at i (pos 0)
-  here_bits = position_bits (get_or p.at i (pos 0)) here_range
-
-  here_is : get_or p.at i (pos 0) ≡ get_or (positions job) i (pos 0)
-  here_is = place_is p placed i inside
+turn : (c : In-Some) → Turn c
+turn c =
+    let l = c.loop-change in
+    let a = c.args in
+    let j = a.job.now.job in
+    let i = length l.yielded in
+    let ks = take j.opening_count a.changes.now in
+    let placed = c.requires.0 in
+    let z = zip_turn ks a.places.now.at l.yielded c.into_iter-change-iterator.result l.change-iterator c.next.new.self _ (search rules) (search rules) l.yielded_by (c.in-Some.change, c.in-Some.next) c.in-Some.is c.next.ensures.steps in
+    let t : i < j.opening_count = omega (arith, z.0, length-take-le j.opening_count a.changes.now (omega (arith, j.few_openings))) in
+    let inside : i < length (job_of j).openings = rw (opening_count_lem2 j) t in
+    record {
+      inside = t;
+      marked = sym (z.2 false);
+      range = subst Position (sym (z.3 (pos 0))) (placed.ranges i inside);
+      is = z.3 (pos 0) ∙ place_is a.places.now placed i inside;
+    }
 
 -- ---- the needs
 
 pub gap-requires : goal.gap-requires
 gap-requires c =
-    let q = c.requires in
-    let n = c.args.job.now.job.opening_count in
-    let count = opening_count_lem2 c.args.job.now.job in
-    let t = c.loop-i-test.true in
-    (q.1.life_high, c.loop-i.invariant.0, rw (here_bits c.args.places.now q.0 n count c.loop-i.i t) (here_range c.args.places.now q.0 n count c.loop-i.i t))
+    let t = turn (goal.at.gap-requires c).In-Some in
+    (c.requires.1.life_high, c.loop-change.invariant.0, rw (position_bits c.in-Some.next.now t.range) t.range)
 
-pub loop-i-preserved : goal.loop-i-preserved
-loop-i-preserved c =
+pub loop-change-preserved-then-change : goal.loop-change-preserved-then-change
+loop-change-preserved-then-change c =
     let a = c.args in
-    let q = c.requires in
-    let l = c.loop-i in
-    let t = c.loop-i-test.true in
+    let l = c.loop-change in
+    let t = turn (goal.at.loop-change-preserved-then-change c).In-Some in
     let n = a.job.now.job.opening_count in
     let job = job_of a.job.now.job in
     let life = pos a.part.now.life in
@@ -72,44 +70,48 @@ loop-i-preserved c =
     let to = to_z w32 (of_z w32 a.to) in
     let cs = take n a.changes.now in
     let first = to_z w32 (of_z w32 c.last_change-prev.result) in
-    let count = opening_count_lem2 a.job.now.job in
-    let here = get_or a.places.now.at l.i (pos 0) in
-    let range : Position here = here_range a.places.now q.0 n count l.i t in
-    let bits = here_bits a.places.now q.0 n count l.i t in
-    let marked = get_or-take n a.changes.now l.i false t in
-    let prev' = to_z w32 c.if-changes-i.prev-bits in
-    elim c.if-changes-i.branch [
-      | then-changes-i w ↦ (
-          let e : prev' ≡ here = w.prev-is ∙ bits in (
-            rw e (begins_later a.part.now.life here q.1.life_high range),
-            follow_change job to life cs first l.i prev (model_gaps l.late) l.invariant.1 prev' (model_gaps c.if-changes-i.late)
-                (rw (position_count a.job.now.job) t) (marked ∙ w.if-changes-i.true) (e ∙ here_is a.places.now q.0 n count l.i t)
-                (ap model_gaps w.late-is ∙ ap model_gaps w.or-late.ensures ∙ first_or l.late w.gap.result ∙ ap (first_long_lem (model_gaps l.late)) (w.gap.ensures ∙ ap (gap_of job life prev) (sym w.prev-is))),
-          )
-          )
-      | else-changes-i w ↦ (
-        rw w.prev-is l.invariant.0,
-        rw (w.prev-is, w.late-is) (follow_skip job to life cs first l.i prev (model_gaps l.late) l.invariant.1 (marked ∙ w.if-changes-i.false)),
-      )
-    ]
+    let next = to_z w32 (of_z w32 c.in-Some.next.now) in
+    let bits : next ≡ c.in-Some.next.now = position_bits c.in-Some.next.now t.range in
+    let more : length l.yielded + 1 ≡ length (l.yielded ++ ((c.in-Some.change, c.in-Some.next) ∷ [])) = sym (length-append l.yielded _) in (
+      rw bits (begins_later a.part.now.life c.in-Some.next.now c.requires.1.life_high t.range),
+      subst (λ (i : ℕ). Follows job to life cs first i next (model_gaps c.or-late.result)) more
+          (follow_change job to life cs first (length l.yielded) prev (model_gaps l.late) l.invariant.1 next (model_gaps c.or-late.result)
+          (rw (position_count a.job.now.job) t.inside) (t.marked ∙ c.if-change.true) (bits ∙ t.is)
+          (ap model_gaps c.or-late.ensures ∙ first_or l.late c.gap.result ∙ ap (first_long_lem (model_gaps l.late)) c.gap.ensures)),
+    )
+
+pub loop-change-preserved : goal.loop-change-preserved
+loop-change-preserved c =
+    let a = c.args in
+    let l = c.loop-change in
+    let t = turn (goal.at.loop-change-preserved c).In-Some in
+    let more : length l.yielded + 1 ≡ length (l.yielded ++ ((c.in-Some.change, c.in-Some.next) ∷ [])) = sym (length-append l.yielded _) in (
+      l.invariant.0,
+      subst (λ (i : ℕ). Follows (job_of a.job.now.job) (to_z w32 (of_z w32 a.to)) (pos a.part.now.life) (take a.job.now.job.opening_count a.changes.now) (to_z w32 (of_z w32 c.last_change-prev.result)) i (to_z w32 l.prev-bits) (model_gaps l.late)) more
+          (follow_skip (job_of a.job.now.job) (to_z w32 (of_z w32 a.to)) (pos a.part.now.life) (take a.job.now.job.opening_count a.changes.now) (to_z w32 (of_z w32 c.last_change-prev.result)) (length l.yielded) (to_z w32 l.prev-bits) (model_gaps l.late) l.invariant.1 (t.marked ∙ c.if-change.false)),
+    )
 
 pub returns : goal.returns
 returns c = let a = c.args in
-    let job = job_of a.job.now.job in
+    let l = c.loop-change in
+    let j = a.job.now.job in
+    let job = job_of j in
     let life = pos a.part.now.life in
     let to = to_z w32 (of_z w32 a.to) in
-    let prev = to_z w32 c.loop-i.prev-bits in
-    let late = model_gaps c.loop-i.late in
-    let cs = take a.job.now.job.opening_count a.changes.now in
+    let prev = to_z w32 l.prev-bits in
+    let late = model_gaps l.late in
+    let cs = take j.opening_count a.changes.now in
     let first = to_z w32 (of_z w32 c.last_change-prev.result) in
-    let begin = first-bits (goal.at.returns c).After-last_change-prev ∙ c.last_change-prev.ensures in (
+    let e = zip_end cs a.places.now.at l.yielded c.into_iter-change-iterator.result l.change-iterator c.next.new.self _ (search rules) (search rules) l.yielded_by c.in-None.is c.next.ensures.steps in
+    let all : length (positions job) ≤ length l.yielded = omega (arith, e, position_count j, j.few_openings, a.places.now.long, length-take-le j.opening_count a.changes.now (omega (arith, j.few_openings))) in
+    let begin = first_bits c.last_change-prev.ensures c.requires.1.life_high (omega (arith, c.requires.1.life_high, c.requires.1.left_high)) ∙ c.last_change-prev.ensures in (
       ap model_gaps c.or.ensures
-          ∙ first_or c.loop-i.late c.gap-2.result
+          ∙ first_or l.late c.gap-2.result
           ∙ ap (first_long_lem late) c.gap-2.ensures
-          ∙ follow_end job to life cs first c.loop-i.i prev late c.loop-i.invariant.1 (omega (arith, position_count a.job.now.job))
+          ∙ follow_end job to life cs first (length l.yielded) prev late l.invariant.1 all
           ∙ ap (λ (f : ℤ). gaps_to job to life f (select (positions job) cs)) begin
           ∙ ap (λ (e : ℤ). gaps_to job e life (pos a.part.now.left -ℤ pos a.part.now.life) (select (positions job) cs)) (position_bits a.to c.requires.2),
-      follow_last job to life cs first c.loop-i.i prev late c.loop-i.invariant.1 (omega (arith, position_count a.job.now.job))
+      follow_last job to life cs first (length l.yielded) prev late l.invariant.1 all
           ∙ ap (λ (f : ℤ). last_of f (select (positions job) cs)) begin,
-      c.loop-i.invariant.0,
+      l.invariant.0,
     )

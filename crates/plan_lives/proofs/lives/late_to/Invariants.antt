@@ -1,4 +1,4 @@
-use lib.ListN.{take}
+use lib.ListN.{length, take}
 use lib.IntN.{pos}
 use Rattle.jobs.specs.Views.{job_of}
 use Rattle.clock.specs.Placed.{Begins}
@@ -6,5 +6,5 @@ use Rattle.plan_lives.specs.Views.{model_gaps}
 use Rattle.plan_lives.proofs.Follow.{Follows}
 use Rattle.plan_lives.proofs.lives.late_to.Given as goal
 
-abbrev pub invariant-loop-i : goal.invariant-loop-i
-invariant-loop-i l = Begins l.life l.prev × Follows (job_of l.fn.job.job) l.to (pos l.life) (take l.fn.job.job.opening_count l.changes) l.initial.prev l.i l.prev (model_gaps l.late)
+abbrev pub invariant-loop-change : goal.invariant-loop-change
+invariant-loop-change l = Begins l.life l.prev × Follows (job_of l.fn.job.job) l.to (pos l.life) (take l.fn.job.job.opening_count l.changes) l.initial.prev (length l.yielded) l.prev (model_gaps l.late)

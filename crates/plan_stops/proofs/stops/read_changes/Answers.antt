@@ -9,18 +9,13 @@ use Rattle.jobs.proofs.Plans.{changes_size}
 use Rattle.plan_grammar.specs.Grammar.{part, parts}
 use Rattle.plan_stops.proofs.Marks.{parts_none, changes_more}
 use Rattle.plan_stops.proofs.stops.read_changes.Goals as goal
-use Rattle.plan_stops.proofs.stops.read_changes.Goals.{Start}
-
--- the parts are as many as counted
-count : (s : Start) → length (job_of s.args.job.now).parts ≡ s.args.job.now.part_count
-count s = part_count s.args.job.now
 
 pub loop-init : goal.loop-init
 loop-init c = record {
   long = omega arith;
   ks = [];
   read = chain_none _ _ _ _ _ _ refl;
-  marked = parts_none (job_of c.args.job.now) c.args.step (changes_for c.args.job.now c.args.changes) (changes_size c.args.job.now.opening_count _ c.args.changes (omega (arith, c.args.job.now.few_parts)) ∙ sym (count (goal.at.loop-init c).Start));
+  marked = parts_none (job_of c.args.job.now) c.args.step (changes_for c.args.job.now c.args.changes) (changes_size c.args.job.now.opening_count _ c.args.changes (omega (arith, c.args.job.now.few_parts)) ∙ sym (part_count c.args.job.now));
 }
 
 pub loop-preserved : goal.loop-preserved
@@ -33,7 +28,7 @@ loop-preserved c = let job = c.args.job.now in
       ks = v.ks ++ k ∷ [];
       read = chain_next v.read c.rising.new.self k _ c.loop-test.true c.in_ok-part.ensures.reads refl;
       marked = changes_more (job_of job) job.opening_count job.part_count c.args.step (changes_for job c.args.changes) c.loop.marks v.ks k c.mark.result
-          (count (goal.at.loop-preserved c).Start) (omega arith) (omega (arith, c.in_ok-part.ensures.within)) (omega (arith, c.in_ok-part.ensures.within)) v.marked c.mark.ensures;
+          (part_count c.args.job.now) (omega arith) (omega (arith, c.in_ok-part.ensures.within)) (omega (arith, c.in_ok-part.ensures.within)) v.marked c.mark.ensures;
     }
 
 pub returns-in_err-part : goal.returns-in_err-part

@@ -11,15 +11,10 @@ use Rattle.jobs.proofs.Jobs.{part_count}
 use Rattle.plan_grammar.specs.Grammar.{Visit, visit, parts}
 use Rattle.plan_stops.specs.Marks.{with_visit}
 use Rattle.plan_stops.proofs.stops.read_visit.Goals as goal
-use Rattle.plan_stops.proofs.stops.read_visit.Goals.{Start}
 
 -- no visit is told where a line has a fault
 abbrev no_visit : Visit
 no_visit = record { step = 0; parts = [] }
-
--- the parts are as many as counted
-count : (s : Start) → length (job_of s.args.job.now).parts ≡ s.args.job.now.part_count
-count s = part_count s.args.job.now
 
 pub returns-in_err-step : goal.returns-in_err-step
 unfolding visit
@@ -41,7 +36,7 @@ returns-in_err-changes c = let b = c.args.lines.now in
     let k = c.field.new.self in
     let a = c.read_changes.new.lines in
     let p = err_from_is_err_and c.from_residual-in_err-changes.result c.from_residual-in_err-changes.ensures.1 in
-    let parts_end = subst (λ (m : ℕ). Reads (parts m c.in_ok-n.n) k a (Err c.in_err-changes.field-0.0)) (sym (count (goal.at.returns-in_err-changes c).Start)) c.in_err-changes.ensures.reads in
+    let parts_end = subst (λ (m : ℕ). Reads (parts m c.in_ok-n.n) k a (Err c.in_err-changes.field-0.0)) (sym (part_count c.args.job.now)) c.in_err-changes.ensures.reads in
     rw (p.1, p.2) (record { v = no_visit; reads = let e = c.in_err-changes.field-0.0 in went_on _ _ b m a _ (Err e) c.in_ok-step.ensures (went_on _ _ m k a _ (Err e) c.in_ok-n.ensures.reads (stopped _ _ k a a e parts_end)); marks = tt })
 
 pub returns : goal.returns
@@ -54,7 +49,7 @@ returns c = let b = c.args.lines.now in
     let step = c.in_ok-step.step in
     let made : List ℕ → Visit = λ ks. record { step = step; parts = ks } in
     let v : Visit = made read.ks in
-    let parts_end = subst (λ (m : ℕ). Reads (parts m c.in_ok-n.n) k a (Ok read.ks)) (sym (count (goal.at.returns c).Start)) read.reads in
+    let parts_end = subst (λ (m : ℕ). Reads (parts m c.in_ok-n.n) k a (Ok read.ks)) (sym (part_count c.args.job.now)) read.reads in
     record {
       v = v;
       reads = went_on _ _ b m a _ (Ok v) c.in_ok-step.ensures (went_on _ _ m k a _ (Ok v) c.in_ok-n.ensures.reads (put_value made _ k a _ parts_end));
