@@ -1,4 +1,5 @@
-/* Juzvarola: plans the stops and part changes of a filling line, judges such plans, changes parts as late as given stops allow, and writes job texts from order forms. */
+/* Juzvarola: plans the stops and part changes of a filling line, judges such plans, changes parts as late as given stops allow, carries on from a log of what was done, and writes
+ * job texts from order forms. */
 #ifndef JUZVAROLA_H
 #define JUZVAROLA_H
 
@@ -12,14 +13,14 @@ extern "C" {
 /* The version of these declarations. It moves with every change of a declaration, a text or an answer; JUZVAROLA_VERSION is what juzvarola_version
  * answers where header and library are of one version. */
 #define JUZVAROLA_VERSION_MAJOR 0
-#define JUZVAROLA_VERSION_MINOR 11
+#define JUZVAROLA_VERSION_MINOR 12
 #define JUZVAROLA_VERSION_PATCH 0
 #define JUZVAROLA_VERSION (JUZVAROLA_VERSION_MAJOR * 1000000u + JUZVAROLA_VERSION_MINOR * 1000u + JUZVAROLA_VERSION_PATCH)
 
 /* The results by name. */
 enum {
     JUZVAROLA_OK = 0,            /* the cheapest plan; a plan that keeps every life at its true cost; a job text; a count */
-    JUZVAROLA_TOO_LONG = 1,      /* a job text has over JUZVAROLA_MOST_JOB bytes, or a plan text over JUZVAROLA_MOST_TEXT */
+    JUZVAROLA_TOO_LONG = 1,      /* a job text has over JUZVAROLA_MOST_JOB bytes, or a plan text or log over JUZVAROLA_MOST_TEXT */
     JUZVAROLA_BAD_LINE = 2,      /* a line is not the one that is due, or is not well formed */
     JUZVAROLA_OUT_OF_RANGE = 3,  /* a value is outside its range */
     JUZVAROLA_NOT_RISING = 4,    /* an opening or an idle step doesn't rise, or is past the horizon */
@@ -27,17 +28,17 @@ enum {
     JUZVAROLA_NO_PLAN = 6,       /* no plan keeps the lives */
     JUZVAROLA_CUT_SHORT = 7,     /* the walk is longer than its walk number */
     JUZVAROLA_NO_ROOM = 8,       /* the lent output is too short */
-    JUZVAROLA_BAD_STOP = 9,      /* a stop or a part of the plan doesn't fit the job */
+    JUZVAROLA_BAD_STOP = 9,      /* a stop or a part of the plan or log doesn't fit the job */
     JUZVAROLA_NOT_KEPT = 10,     /* a part is not kept */
     JUZVAROLA_WRONG_COST = 11,   /* the stated cost is wrong */
     JUZVAROLA_BAD_HOLDER = 12,   /* a holder doesn't rise, is above parts or is the part itself; from juzvarola_count with text 0, the job has a holder */
     JUZVAROLA_BAD_BAND = 13      /* the low end of a price is above its high end */
 };
 
-/* What `text` says: the text at fault. */
-enum { JUZVAROLA_NO_TEXT = 0, JUZVAROLA_JOB_TEXT = 1, JUZVAROLA_PLAN_TEXT = 2 };
+/* What `text` says: the text at fault. A log stands where a plan text would. */
+enum { JUZVAROLA_NO_TEXT = 0, JUZVAROLA_JOB_TEXT = 1, JUZVAROLA_PLAN_TEXT = 2, JUZVAROLA_LOG = 2 };
 
-/* The most bytes of a job text and of a plan text, the bytes that an output needs, that of juzvarola_write, and the greatest walk number and count. */
+/* The most bytes of a job text and of a plan text or log, the bytes that an output needs, those of juzvarola_write and juzvarola_carry, and the greatest walk number and count. */
 #define JUZVAROLA_MOST_JOB 40960
 #define JUZVAROLA_MOST_TEXT 32768
 #define JUZVAROLA_ROOM 16384
@@ -52,7 +53,7 @@ uint32_t juzvarola_version(void);
 /* The answer of a call. The lines that go with it are the first `length` bytes of the lent output.
  *
  * result        0 to 13, as in the specification.
- * text          the text at fault for results 1, 2, 3, 4, 5, 9, 12 and 13: 1 the job, 2 the plan. 0 for every other result.
+ * text          the text at fault for results 1, 2, 3, 4, 5, 9, 12 and 13: 1 the job, 2 the plan or log. 0 for every other result.
  * line          the line at fault, counted from 1. 0 if there is none, and for result 1.
  * length        the bytes written. Bytes past them keep their values. 0 for result 8.
  * fault_start   where the line at fault starts in the text at fault.
@@ -80,7 +81,7 @@ typedef struct {
  *
  * - A pointer is never null. With length 0 it may be any non-null pointer; nothing is read or written through it.
  * - `out` must not overlap a text or a list. These may be the same memory, and are only read.
- * - `out` should have 16,384 bytes or more, for juzvarola_write 40,960: with fewer the result is 8 and nothing is written.
+ * - `out` should have 16,384 bytes or more, for juzvarola_write and juzvarola_carry 40,960: with fewer the result is 8 and nothing is written.
  * - Nothing is kept between calls and no memory is allocated. Calls on several threads at once are allowed where no `out` overlaps
  *   another call's `out`, text or list.
  * - Stack that a call needs: less than 1.5 MB, so a thread of 2 MB serves. juzvarola_plan was measured at some 550 KB, and at 1,530 KB on the job whose
@@ -116,6 +117,19 @@ juzvarola_answer juzvarola_judge(const uint8_t *job, size_t job_len, const uint8
  * Where no part's price rises from one of the stops to the next and the job has no holders, no changes at these stops cost less.
  */
 juzvarola_answer juzvarola_latest(const uint8_t *job, size_t job_len, const uint8_t *plan, size_t plan_len, uint8_t *out, size_t out_len);
+
+/* Carries on from a job by a log of what was done: results 0 to 5 and 8 to 13.
+ *
+ * log           a line `step=N`, from 1 to the horizon less 2, and then the lines of a plan, which may not be left out: what was done up to that step, with no
+ *               stop after it (else 9) and with its cost, at the high ends of the prices. An empty log is result 2.
+ * Result 0: the first `length` bytes of `out` are the text of the job that is left, with no `result` line before it. Its horizon is shorter by the step; idle
+ * steps and openings after the step are renumbered, with their fees and prices; the others are gone, one at the step itself too. Of each part `left` is the life
+ * that it has not used, 0 where it is used up. A rule is written out as prices, pairs and the lines of removal stay as they were, and no `walk` line is written.
+ * A plan of the whole job that begins with the log keeps every life exactly if its rest keeps those of the new job, and costs the log's cost more.
+ * Result 10: a part had used more than its life by the step or between changes; the lines are juzvarola_judge's, with the lowest such part. Else result 11: the
+ * stated cost is wrong. 12 and 13 are faults of the job text only.
+ */
+juzvarola_answer juzvarola_carry(const uint8_t *job, size_t job_len, const uint8_t *log, size_t log_len, uint8_t *out, size_t out_len);
 
 /* Writes the text of a job from the lists of an order form: results 0, 3, 4, 5, 8, 12 and 13.
  *

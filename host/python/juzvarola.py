@@ -27,6 +27,7 @@ from pathlib import Path
 from typing import Iterable, Optional, Sequence, Tuple, Union
 
 __all__ = [
+    "Carried",
     "Count",
     "Fault",
     "Form",
@@ -37,6 +38,7 @@ __all__ = [
     "Stop",
     "Verdict",
     "Written",
+    "carry",
     "count",
     "judge",
     "latest",
@@ -46,7 +48,7 @@ __all__ = [
 ]
 
 #: The version of the library's interface that this module is made for.
-VERSION: Tuple[int, int, int] = (0, 11, 0)
+VERSION: Tuple[int, int, int] = (0, 12, 0)
 
 _NAME = "libjuzvarola.so.0"
 _ROOM = 16_384
@@ -156,6 +158,19 @@ class Latest:
 
 
 @dataclass(frozen=True)
+class Carried:
+    """The answer to a work log: with OK the text of the job that is left; the true cost with WRONG_COST; with NOT_KEPT the lowest part that had used more
+    than its life, and the step that it was due by."""
+
+    result: Result
+    text: Optional[bytes]
+    cost: Optional[int]
+    part: Optional[int]
+    due: Optional[int]
+    fault: Optional[Fault]
+
+
+@dataclass(frozen=True)
 class Count:
     """The count: no walk of the job has more nodes, where or_more is false. None for a job with a fault or a holder."""
 
@@ -242,6 +257,7 @@ def _load() -> ctypes.CDLL:
         ("juzvarola_plan", _Answer, text + (ctypes.c_uint64,) + out),
         ("juzvarola_judge", _Answer, text + text + out),
         ("juzvarola_latest", _Answer, text + text + out),
+        ("juzvarola_carry", _Answer, text + text + out),
         ("juzvarola_write", _Answer, (ctypes.c_uint32,) + numbers * 16 + out),
         ("juzvarola_count", _Counted, text),
     ):
@@ -270,11 +286,11 @@ def _pairs(data: bytes) -> Iterable[Tuple[str, int]]:
         yield key, int(value)
 
 
-def _fault(answer: Union[_Answer, _Counted], job: bytes, plan: bytes = b"") -> Optional[Fault]:
-    """The line at fault, cut out of its text."""
+def _fault(answer: Union[_Answer, _Counted], job: bytes, second: bytes = b"") -> Optional[Fault]:
+    """The line at fault, cut out of its text: the job's, or the plan's or log's."""
     if answer.text == 0:
         return None
-    at_fault = job if answer.text == 1 else plan
+    at_fault = job if answer.text == 1 else second
     return Fault(answer.text, answer.line, at_fault[answer.fault_start : answer.fault_start + answer.fault_length])
 
 
@@ -319,6 +335,18 @@ def latest(job: Text, plan: Union[Text, Plan]) -> Latest:
     fault = _fault(answer, data, given)
     low = dict(_pairs(lines)).get("costlow") if fault is None else None
     return Latest(Result(answer.result), _plan_in(lines), fault, lines, low)
+
+
+def carry(job: Text, log: Text) -> Carried:
+    """Carries on from a job by a work log: a line step, and then the lines of a plan, with what was done up to that step at its true cost."""
+    data, done, out = _bytes(job), _bytes(log), ctypes.create_string_buffer(_WRITE_ROOM)
+    answer = _library.juzvarola_carry(data, len(data), done, len(done), out, _WRITE_ROOM)
+    lines = out.raw[: answer.length]
+    if answer.result == 0:
+        return Carried(Result.OK, lines, None, None, None, None)
+    fault = _fault(answer, data, done)
+    values = dict(_pairs(lines)) if fault is None else {}
+    return Carried(Result(answer.result), None, values.get("cost"), values.get("part"), values.get("due"), fault)
 
 
 def write(form: Form) -> Written:

@@ -50,6 +50,21 @@ class Calls(unittest.TestCase):
         self.assertEqual((habit.result, habit.fault.text, habit.fault.shown), (Result.BAD_STOP, 2, b"stop=6"))
         self.assertEqual(juzvarola.latest(b"", "").fault.text, 1)
 
+    def test_carrying_on(self):
+        done = "step=3\ncost=15\nstops=1\nstop=2\ncount=1\npart=1\n"
+        rest = juzvarola.carry(EXAMPLE, done)
+        self.assertEqual((rest.result, rest.fault), (Result.OK, None))
+        self.assertTrue(rest.text.startswith(b"horizon=3\nopenings=2\nopening=1\nfee=10\nopening=2\n"))
+        planned = juzvarola.plan(rest.text)
+        self.assertEqual((planned.plan.cost, planned.plan.stops), (37 - 15, (Stop(1, (1, 2)),)))
+        wrong = juzvarola.carry(EXAMPLE.decode(), done.replace("cost=15", "cost=14"))
+        self.assertEqual((wrong.result, wrong.text, wrong.cost), (Result.WRONG_COST, None, 15))
+        late = juzvarola.carry(EXAMPLE, "step=3\ncost=0\nstops=0\n")
+        self.assertEqual((late.result, late.part, late.due), (Result.NOT_KEPT, 1, 2))
+        after = juzvarola.carry(EXAMPLE, "step=1\ncost=10\nstops=1\nstop=2\ncount=0\n")
+        self.assertEqual((after.result, after.fault.text, after.fault.line, after.fault.shown), (Result.BAD_STOP, 2, 4, b"stop=2"))
+        self.assertEqual(juzvarola.carry(EXAMPLE, "").result, Result.BAD_LINE)
+
     def test_faults(self):
         planned = juzvarola.plan(EXAMPLE.replace(b"left=2", b"left=9", 1))
         self.assertEqual((planned.result, planned.plan), (Result.LEFT_TOO_LONG, None))

@@ -5,11 +5,13 @@ pub mod fast;
 #[cfg(feature = "library")]
 mod library;
 pub mod lines;
+mod logs;
 mod plans;
 pub mod reference;
 
 #[cfg(feature = "library")]
-pub use library::{check_version, count, judge, latest, plan, plan_parsed, version, write};
+pub use library::{carry, check_version, count, judge, latest, plan, plan_parsed, version, write};
+pub use logs::Log;
 pub use plans::{Plan, Planned, Stop};
 
 /// The version of the interface that this package is made for, which is its own: as one number, like JUZVAROLA_VERSION of the header.
@@ -50,7 +52,7 @@ pub const MOST_WALK: u64 = 4_000_000_000;
 pub struct Answer<'t> {
     /// The result number, 0 to 13.
     pub result: u32,
-    /// The text at fault: 1 the job, 2 the plan, 0 neither.
+    /// The text at fault: 1 the job, 2 the plan or the log, 0 neither.
     pub text: u32,
     /// The line at fault, counted from 1; 0 if there is none.
     pub line: u32,

@@ -38,6 +38,7 @@ extern "C" {
     fn juzvarola_plan(job: *const u8, job_len: usize, walk: u64, out: *mut u8, out_len: usize) -> Numbers;
     fn juzvarola_judge(job: *const u8, job_len: usize, plan: *const u8, plan_len: usize, out: *mut u8, out_len: usize) -> Numbers;
     fn juzvarola_latest(job: *const u8, job_len: usize, plan: *const u8, plan_len: usize, out: *mut u8, out_len: usize) -> Numbers;
+    fn juzvarola_carry(job: *const u8, job_len: usize, log: *const u8, log_len: usize, out: *mut u8, out_len: usize) -> Numbers;
     fn juzvarola_write(
         horizon: u32,
         idles: *const u32,
@@ -136,6 +137,14 @@ pub fn latest<'t>(job: &'t [u8], plan: &'t [u8], out: &mut [u8]) -> Answer<'t> {
     answer(numbers, job, plan)
 }
 
+/// Carries on from a job by a work log: the first `length` bytes of `out` are the text of the job that is left, with no `result` line before it.
+pub fn carry<'t>(job: &'t [u8], log: &'t [u8], out: &mut [u8]) -> Answer<'t> {
+    start();
+    // SAFETY: as for `plan`.
+    let numbers = unsafe { juzvarola_carry(job.as_ptr(), job.len(), log.as_ptr(), log.len(), out.as_mut_ptr(), out.len()) };
+    answer(numbers, job, log)
+}
+
 /// Writes the job text of a form into `out`: its first `length` bytes. No line at fault is handed over, since there is no text of the caller's.
 pub fn write(form: &Form, out: &mut [u8]) -> Answer<'static> {
     let Form { horizon, idles, openings, fees, lives, lefts, covered, removals, insides, holders, .. } = *form;
@@ -192,12 +201,12 @@ pub fn count(job: &[u8]) -> Count<'_> {
     Count { result, text, line, count, fault_start, fault: &job[fault_start..][..fault_length] }
 }
 
-/// The numbers with the line at fault cut out of its text. A cut outside the text panics.
-fn answer<'t>(numbers: Numbers, job: &'t [u8], plan: &'t [u8]) -> Answer<'t> {
+/// The numbers with the line at fault cut out of its text: the job's, or the second one's. A cut outside the text panics.
+fn answer<'t>(numbers: Numbers, job: &'t [u8], second: &'t [u8]) -> Answer<'t> {
     let Numbers { result, text, line, length, fault_start, fault_length } = numbers;
     let at_fault = match text {
         1 => job,
-        2 => plan,
+        2 => second,
         _ => &[],
     };
     Answer { result, text, line, length, fault_start, fault: &at_fault[fault_start..][..fault_length] }

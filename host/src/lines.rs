@@ -95,8 +95,9 @@ pub const JOB: &[Line] = &[
     line("price", PRICE, &["low", "price", "life", END]).counted("openings", "life", PRICES),
 ];
 
-/// The lines of a plan text, the first one first.
-pub const PLAN: &[Line] = &[
+/// The lines of a work log, the first one first: a step, and then a plan's.
+pub const LOG: &[Line] = &[
+    line("step", (1, 363), &["cost"]).words(&[(3, "step is not a number from 1 to two less than the job's horizon")]),
     line("cost", (0, 4_000_000_000), &["stops"]),
     line("stops", (0, 64), &["stop", END]),
     line("stop", STEP, &["count"])
@@ -108,9 +109,12 @@ pub const PLAN: &[Line] = &[
         .words(&[(9, "part is above the job's number of parts, or does not come after the part before")]),
 ];
 
-/// The line with this key, of either text.
+/// The lines of a plan text, the first one first.
+pub const PLAN: &[Line] = LOG.split_at(1).1;
+
+/// The line with this key, of any text.
 pub fn find(key: &str) -> Option<&'static Line> {
-    JOB.iter().chain(PLAN).find(|line| line.key == key)
+    JOB.iter().chain(LOG).find(|line| line.key == key)
 }
 
 /// The keys that may stand behind these lines of a text, in their order: those that may be left out, and last the one that is due or the text's end.
@@ -150,7 +154,7 @@ mod tests {
     /// Every key stands once, and what follows is in the same table.
     #[test]
     fn what_follows_is_in_the_table() {
-        for table in [JOB, PLAN] {
+        for table in [JOB, PLAN, LOG] {
             for line in table {
                 assert_eq!(table.iter().filter(|own| own.key == line.key).count(), 1, "{}", line.key);
                 let known = |key: &&&str| **key == END || table.iter().any(|own| own.key == **key);

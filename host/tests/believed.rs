@@ -237,7 +237,9 @@ fn reached(files: &BTreeMap<String, File>) -> (BTreeSet<(String, String)>, BTree
                 // A word of another module by its alias, or a value and its fields.
                 let (first, second) = word.split_once('.').map_or((word.as_str(), None), |(first, rest)| (first, rest.split('.').next()));
                 let from = file.aliases.get(first).and_then(|from| files.get_key_value(from));
-                if let Some((from, word)) = from.zip(second).filter(|((_, there), word)| there.has(word)).map(|((from, _), word)| (from, word)) {
+                if let Some((from, word)) =
+                    from.zip(second).filter(|((_, there), word)| there.has(word)).map(|((from, _), word)| (from, word))
+                {
                     open.push((from.clone(), word.to_string()));
                 } else if file.has(first) {
                     open.push((at.clone(), first.to_string()));

@@ -62,7 +62,8 @@ fn the_build_is_quiet() {
     std::fs::create_dir_all(root.join("host")).expect("a folder");
     std::fs::create_dir_all(root.join("crates/juzvarola/out")).expect("a folder");
     std::fs::copy(host().join("prove.sh"), root.join("host/prove.sh")).expect("the script");
-    std::fs::write(root.join("crates.txt"), "# none\nlines:\nmodel: lines\njuzvarola staticlib: model lines\nother: lines\n").expect("the crates");
+    std::fs::write(root.join("crates.txt"), "# none\nlines:\nmodel: lines\njuzvarola staticlib: model lines\nother: lines\n")
+        .expect("the crates");
     let stand_in = "#!/bin/sh\n[ $1 = lib ] && [ -d out ] || exit 2\necho fn model::read: proved\necho long words of the prover\n\
          echo 'library lines: modules loaded=9 checked=0'\necho 'crate model: modules loaded=3 checked=31'\necho 'logic=proved functions=4 sum=0'\n\
          echo 'crate juzvarola: modules loaded=0 checked=9'\n[ -e ../../../fail ] && { echo logic=not-proved; exit 1; }\n\

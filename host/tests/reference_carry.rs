@@ -4,7 +4,7 @@
 mod common;
 use common::inputs::{self, printed_plan};
 use common::paper::{altered, text, JOB};
-use common::{logs, rng::Rng, setting, vectors};
+use common::{logs, rng::Rng, setting, vectors, Call};
 use juzvarola_host::reference::model::Plan;
 use juzvarola_host::reference::{self, brute, carry::read_log, texts, Reply};
 use juzvarola_host::MOST_WALK;
@@ -202,7 +202,8 @@ fn replies_are_consistent() {
         let mut rng = Rng::new(setting("JUZVAROLA_SEED", 44));
         let mut results = [0u64; 14];
         for _ in 0..setting("JUZVAROLA_CASES", 20_000) {
-            let (job, log, output) = logs_call(&mut rng);
+            let Call { job, plan, output, .. } = logs::call(&mut rng, inputs::SMALL);
+            let log = plan.expect("a log");
             let reply = reference::carry(&job, &log, output);
             let at_fault = if reply.text == 2 { &log } else { &job };
             let fault = &at_fault[reply.fault_start..][..reply.fault_length];
@@ -214,16 +215,4 @@ fn replies_are_consistent() {
         println!("results: {results:?}");
         assert!([0, 1, 2, 3, 4, 5, 8, 9, 10, 11].iter().all(|result| results[*result] >= 5));
     });
-}
-
-/// A call: a job and a log with or without faults, now and then a short or a long output.
-fn logs_call(rng: &mut Rng) -> (Vec<u8>, Vec<u8>, usize) {
-    let facts = inputs::facts(rng, inputs::SMALL);
-    let log = logs::log(rng, &facts);
-    let output = if rng.once_in(20) { rng.pick(&[0, 1, 16_384, 32_768, 40_959, 40_961]) } else { OUTPUT };
-    match rng.below(8) {
-        0 => (inputs::damaged_job(rng, &facts), log, output),
-        1 | 2 => (facts.text(), inputs::damaged(rng, log), output),
-        _ => (facts.text(), log, output),
-    }
 }

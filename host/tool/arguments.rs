@@ -49,6 +49,15 @@ pub struct LatestOrder {
     pub naming: NamingOrder,
 }
 
+/// `carry`: a job, the work logs in their order, and where the job that is left goes, if anywhere.
+pub struct CarryOrder {
+    pub job: OsString,
+    pub logs: Vec<OsString>,
+    pub output: Option<OsString>,
+    pub json: bool,
+    pub naming: NamingOrder,
+}
+
 /// How a list is written.
 #[derive(Debug, Clone, Copy, PartialEq, Eq)]
 pub enum Form {
@@ -131,6 +140,7 @@ pub enum Command {
     Plan(PlanOrder),
     Judge(JudgeOrder),
     Latest(LatestOrder),
+    Carry(CarryOrder),
     List(ListOrder),
     Draw(DrawOrder),
     Compare(CompareOrder),
@@ -148,6 +158,7 @@ impl Command {
             Command::Plan(order) if order.json => Some("plan"),
             Command::Judge(order) if order.json => Some("judge"),
             Command::Latest(order) if order.json => Some("latest"),
+            Command::Carry(order) if order.json => Some("carry"),
             Command::List(order) if order.form == Form::Json => Some("list"),
             Command::Compare(order) if order.json => Some("compare"),
             Command::Count(order) if order.json => Some("count"),
@@ -211,10 +222,12 @@ pub fn read(words: &[OsString]) -> Result<Command, Failure> {
     let fewer = page.name == "whatif" && given.files.len() == 1;
     // With a folder for their plans there may be many jobs.
     let many = given.into.is_some() && !given.files.is_empty();
+    // Logs one after the other.
+    let logs = page.name == "carry" && given.files.len() >= wanted;
     if given.into.is_none() && (given.at_once.is_some() || given.summary.is_some()) {
         return Err(failure(USAGE, "-j and --summary are for many jobs, and need --into FOLDER"));
     }
-    if given.files.len() != wanted && !fewer && !many {
+    if given.files.len() != wanted && !fewer && !many && !logs {
         let files = match wanted {
             0 => "no file".to_string(),
             1 => "one file".to_string(),
@@ -254,6 +267,9 @@ fn command(page: &help::Page, given: Given) -> Result<Command, Failure> {
     if page.name == "latest" {
         let plan = stops.is_none().then(next);
         return Ok(Command::Latest(LatestOrder { job: first, plan, stops, output, json, naming }));
+    }
+    if page.name == "carry" {
+        return Ok(Command::Carry(CarryOrder { job: first, logs: files.collect(), output, json, naming }));
     }
     let mut pair = |job| Pair { job, plan: next() };
     Ok(match page.name {

@@ -88,6 +88,15 @@ pub fn latest(job: &[u8], plan: &[u8]) -> Result<Reply, Failure> {
     })
 }
 
+/// The call that carries on: the text of the job that is left is in its lines.
+pub fn carry(job: &[u8], log: &[u8]) -> Result<Reply, Failure> {
+    on_own_stack(|| {
+        let mut out = vec![0; WRITTEN];
+        let answer = library::carry(job, log, &mut out);
+        Reply::of(answer, out)
+    })
+}
+
 /// The count's call: its fault as a reply without lines, and the count.
 pub fn count(job: &[u8]) -> Result<(Reply, u32), Failure> {
     on_own_stack(|| {

@@ -18,10 +18,25 @@ const WORDS: &[(u32, &str)] = &[
     (0, "the text is at fault"),
 ];
 
-/// The failure that a refusal is: its words with the number, and the line at fault as it stands in the caller's file.
+/// The failure that a refusal of a job, or of a plan of it, is: its words with the number, and the line at fault as it stands in the caller's file.
 pub fn refusal(reply: &Reply, job: &Input, plan: Option<&Input>) -> Failure {
-    let at_fault = plan.filter(|_| reply.text == 2).unwrap_or(job);
-    let words = words_for(reply, &at_fault.bytes);
+    match plan.filter(|_| reply.text == 2) {
+        Some(plan) => failure_in(reply, plan, lines::PLAN),
+        None => failure_in(reply, job, lines::JOB),
+    }
+}
+
+/// The same of a job, or of a work log of it.
+pub fn log_refusal(reply: &Reply, job: &Input, log: &Input) -> Failure {
+    match reply.text {
+        2 => failure_in(reply, log, lines::LOG),
+        _ => failure_in(reply, job, lines::JOB),
+    }
+}
+
+/// The failure that a refusal of a text with these lines is.
+fn failure_in(reply: &Reply, at_fault: &Input, table: &'static [Line]) -> Failure {
+    let words = words_for(reply, &at_fault.bytes, table);
     let shown = shown_line(&reply.fault);
     let mut message = match reply.line {
         0 => format!("{}: {words} ({})\n", at_fault.name, reply.result),
@@ -35,20 +50,22 @@ pub fn refusal(reply: &Reply, job: &Input, plan: Option<&Input>) -> Failure {
 }
 
 /// What the fault's number means at its line.
-fn words_for(reply: &Reply, text: &[u8]) -> String {
+fn words_for(reply: &Reply, text: &[u8], table: &'static [Line]) -> String {
     let key = std::str::from_utf8(reply.fault.split(|byte| *byte == b'=').next().unwrap_or(b"")).unwrap_or("");
     match reply.result {
         1 => format!("the text has over {} bytes", if reply.text == 2 { "32,768" } else { "40,960" }),
-        2 => shape(reply, text),
+        2 => shape(reply, text, table),
         number => meaning(number, key),
     }
 }
 
 /// What a fault's number means at the line of a key: any but 2, which is about the line's shape.
 pub fn meaning(number: u32, key: &str) -> String {
-    match (number, lines::find(key)) {
-        (3, Some(line)) => format!("{key} is not a number from {} to {}", grouped(line.least), grouped(line.most)),
-        (_, own) => own.and_then(|line| words_of(line.words, number)).unwrap_or_else(|| for_any(number)).to_string(),
+    let own = lines::find(key);
+    match (own.and_then(|line| words_of(line.words, number)), own) {
+        (Some(words), _) => words.to_string(),
+        (None, Some(line)) if number == 3 => format!("{key} is not a number from {} to {}", grouped(line.least), grouped(line.most)),
+        _ => for_any(number).to_string(),
     }
 }
 
@@ -62,13 +79,13 @@ fn for_any(number: u32) -> &'static str {
 }
 
 /// What is wrong with the shape of a line (number 2): it is missing, too many, cut short, another one, or its value is no number.
-fn shape(reply: &Reply, text: &[u8]) -> String {
+fn shape(reply: &Reply, text: &[u8], table: &'static [Line]) -> String {
     let fault = &reply.fault[..];
     let lines = text.split(|byte| *byte == b'\n').count() as u32;
-    if let Some(words) = slips::of_text(text, reply.text, reply.line) {
+    if let Some(words) = slips::of_text(text, table, reply.line) {
         return words.to_string();
     }
-    let Some(may) = may_stand(reply, text) else { return for_any(2).to_string() };
+    let Some(may) = may_stand(reply, text, table) else { return for_any(2).to_string() };
     let meant = may.iter().find(|line| fault.starts_with(format!("{}=", line.key).as_bytes()));
     let Some(due) = meant.or(may.last().filter(|line| line.stands == Stands::Always)) else {
         return "the text goes on after its last line".to_string();
@@ -85,9 +102,8 @@ fn shape(reply: &Reply, text: &[u8]) -> String {
 }
 
 /// The lines that may stand where the library found a fault; it found none in the lines before. None where these are not known here.
-fn may_stand(reply: &Reply, text: &[u8]) -> Option<Vec<&'static Line>> {
+fn may_stand(reply: &Reply, text: &[u8], table: &'static [Line]) -> Option<Vec<&'static Line>> {
     let before = texts::line_starts(text).nth(reply.line.saturating_sub(1) as usize).unwrap_or(text.len());
-    let table = if reply.text == 2 { lines::PLAN } else { lines::JOB };
     lines::following(table, &texts::pairs(&text[..before]).collect::<Vec<_>>())
 }
 

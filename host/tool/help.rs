@@ -90,6 +90,30 @@ part is named (status 1).
 ",
     },
     Page {
+        name: "carry",
+        usage: "juzvarola carry JOB LOG.. [-o REST] [--json] [--from DATE]\n       [--step day|week|month] [--names FILE]",
+        summary: "the job that is left after work logs",
+        files: &["JOB", "LOG.."],
+        options: &["-o", "--output", "--json", "--from", "--step", "--names"],
+        body: "\
+Writes the text of the job from the last log's step on to REST, or to standard
+output: later openings and idle steps renumbered, each part's left the life not
+yet used. What was done and what is left of each part's life is said on
+standard error. Each log is one of the job that is left by those before it; one
+log of all, with later steps shifted and the costs added, gives the same job.
+A log is refused where a part had used more than its life or the cost is wrong
+(status 1); then no file is made.
+
+  -o, --output REST   where the job goes; - is standard output
+      --json          the answer as JSON on standard output; the job text too,
+                      to REST, where -o names one
+      --from DATE     dates beside the steps: step 1 of JOB begins on
+                      2027-01-04, say
+      --step LENGTH   how long a step is: day, week or month
+      --names FILE    names of parts: rows of number, name and order number
+",
+    },
+    Page {
         name: "list",
         usage: "juzvarola list JOB PLAN [--csv | --json] [--every N] [--from DATE]\n       [--step day|week|month] [--names FILE]",
         summary: "what to buy and when, and when the line stops",

@@ -2,6 +2,7 @@
 
 mod arguments;
 mod calls;
+mod carry;
 mod check;
 mod closed;
 mod compare;
@@ -77,6 +78,7 @@ fn make(command: Command) -> Result<u8, Failure> {
         Command::Plan(order) => plan::run(&order),
         Command::Judge(order) => judge::run(&order),
         Command::Latest(order) => latest::run(&order),
+        Command::Carry(order) => carry::run(&order),
         Command::List(order) => list::run(&order),
         Command::Draw(order) => draw::run(&order),
         Command::Compare(order) => compare::run(&order),

@@ -1,25 +1,33 @@
 //! Slips that people make when they write a text, named for what they are.
 
-/// A slip of the whole text: another encoding, or a text of another kind. `which` is 1 for a job, 2 for a plan.
-pub fn of_text(text: &[u8], which: u32, line: u32) -> Option<&'static str> {
+use juzvarola_host::lines::Line;
+
+/// A slip of the whole text: another encoding, or a text of another kind than one with these lines.
+pub fn of_text(text: &[u8], table: &[Line], line: u32) -> Option<&'static str> {
     if line != 1 {
         return None;
     }
     let first = text.split(|byte| *byte == b'\n').next().unwrap_or(b"");
     let begins = |words: &str| first.starts_with(words.as_bytes());
     let wide = [b"\xff\xfe", b"\xfe\xff"].iter().any(|mark| text.starts_with(*mark)) || (text.len() > 3 && text[..4].contains(&0));
-    match which {
+    match table[0].key {
         _ if wide => Some("the text is UTF-16, as some editors save it; save it as UTF-8 or as plain text"),
         _ if text.starts_with(b"\xef\xbb\xbf") => {
             Some("the text begins with a byte order mark, as Windows writes it; it begins with its first line")
         }
-        2 if text == b"\n" || text == b"\r\n" => {
+        "cost" if text == b"\n" || text == b"\r\n" => {
             Some("the plan is one empty line; doing nothing is a file of no bytes, or the lines cost=0 and stops=0")
         }
-        2 if begins("horizon=") => Some("this is a job, and a plan is due; are the two files exchanged?"),
-        1 if begins("cost=") => Some("this is a plan, and a job is due; are the two files exchanged?"),
-        2 if begins("result=") => Some("this is a planner's whole answer; the plan is its lines from `cost=` on"),
-        1 if begins("result=") => Some("this is a planner's answer, and a job is due"),
+        "cost" if begins("horizon=") => Some("this is a job, and a plan is due; are the two files exchanged?"),
+        "cost" if begins("step=") => Some("this is a work log, and a plan is due: its lines from `cost=` on"),
+        "cost" if begins("result=") => Some("this is a planner's whole answer; the plan is its lines from `cost=` on"),
+        "step" if begins("horizon=") => Some("this is a job, and a work log is due; are the two files exchanged?"),
+        "step" if begins("cost=") => {
+            Some("this is a plan, and a work log is due: a line `step=`, and then what was done as a plan's lines")
+        }
+        "horizon" if begins("cost=") => Some("this is a plan, and a job is due; are the two files exchanged?"),
+        "horizon" if begins("step=") => Some("this is a work log, and a job is due; are the two files exchanged?"),
+        "horizon" if begins("result=") => Some("this is a planner's answer, and a job is due"),
         _ => None,
     }
 }

@@ -1,7 +1,7 @@
-// Runs the planner and the judge on a table of texts and writes, for each case, what the call hands over: the bytes written, its numbers,
+// Runs the planner, the judge and the call that carries on on a table of texts and writes, for each case, what the call hands over: the bytes written, its numbers,
 // the line at fault, and whether the bytes past the written length kept their values.
 // A case stands in the input as `call=N` with the call's number and `room=N`; behind them the planner's (1) has `walk=N`, `job=N` and N bytes,
-// the judge's (2) `job=N`, N bytes, `plan=N`, N bytes. Other bytes stand behind the last case.
+// the judge's (2) `job=N`, N bytes, `plan=N`, N bytes, and those of carrying on (3) the same with the log in the plan's place. Other bytes stand behind the last case.
 #![tactic(auto)]
 
 use answers::{Answer, PLAN};
@@ -94,9 +94,17 @@ fn planner_at(rt: &impl Print, buf: &[u8], at: usize, space: &mut [u8]) -> usize
     end
 }
 
-// The judge's case whose room is told at a place, and the place behind it.
-// Kept as four parameters: the printer and the table are read and the space is written, so a struct of them would be taken apart in each call.
-fn judge_at(rt: &impl Print, buf: &[u8], at: usize, space: &mut [u8]) -> usize {
+// The case of a call on a job text and a second text whose room is told at a place, and the place behind it.
+// Kept as a row of parameters: the printer and the table are read and the space is written, so a struct of them would be taken apart in each call.
+fn second_at<F: FnOnce(&[u8], &[u8], &mut [u8]) -> Answer>(
+    rt: &impl Print,
+    buf: &[u8],
+    at: usize,
+    space: &mut [u8],
+    call: F,
+) -> usize
+    requires { F.IsAlwaysCallable call }
+{
     let room = head_at(buf, at, b"room=");
     let job = piece_at(buf, room.behind, b"job=");
     let start = job.start;
@@ -109,9 +117,9 @@ fn judge_at(rt: &impl Print, buf: &[u8], at: usize, space: &mut [u8]) -> usize {
         return buf.len();
     }
     let text = &buf[start..end];
-    let stops = &buf[plan_start..plan_end];
-    run(rt, text, stops, &mut space[0..lent], |out: &mut [u8]| {
-        judging::judge(text, stops, out)
+    let second = &buf[plan_start..plan_end];
+    run(rt, text, second, &mut space[0..lent], |out: &mut [u8]| {
+        call(text, second, out)
     });
     plan_end
 }
@@ -122,7 +130,8 @@ fn case_at(rt: &impl Print, buf: &[u8], at: usize, space: &mut [u8]) -> usize {
     // Kept as numbers: the table's text tells the call so.
     match call.number {
         1 => planner_at(rt, buf, call.behind, space),
-        2 => judge_at(rt, buf, call.behind, space),
+        2 => second_at(rt, buf, call.behind, space, judging::judge),
+        3 => second_at(rt, buf, call.behind, space, carrying::carry),
         _ => buf.len(),
     }
 }
@@ -131,7 +140,7 @@ fn case_at(rt: &impl Print, buf: &[u8], at: usize, space: &mut [u8]) -> usize {
 fn main(rt: HostRuntime) -> io::Result<()> {
     let mut input = Vec::new(rt.alloc());
     rt.reader().take(MOST).read_to_end(&mut input)?;
-    let mut space = [0u8; 16400];
+    let mut space = [0u8; 40976];
     let table = input.as_slice();
     each_row(table.len(), |at| case_at(&rt, table, at, &mut space));
     Ok(())

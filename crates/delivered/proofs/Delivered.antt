@@ -29,6 +29,7 @@ use Rattle.plan_grammar.proofs.Printed as printed
 use Rattle.plan_grammar.proofs.Numbered as plans
 use Rattle.plan_grammar.proofs.Nothing.{nothing_is}
 use Rattle.carry.proofs.Worn.{judge_worn, worn_no_plan}
+use Rattle.carrying.proofs.Said.{said_carries, two_or_one_said}
 use Rattle.hall.proofs.Promised.{promise as hall-promise}
 use Rattle.hall.proofs.Unique.{only as hall-only}
 use Rattle.price_rules.proofs.Prices.{rule_is}
@@ -90,6 +91,7 @@ delivered = record {
   E11_band = λ text t e plan. cost_band (meant t).low (meant t).job plan (valid_text text t e).means.ordered;
   E12_4_due = λ text r plan part due late worn runs. judge_worn r.given.job plan part due r.given.job.horizon late worn runs (valid text r.given r.is).job.rising;
   E12_4_no_plan = λ text r i inside worn runs has. worn_no_plan r.given.job i r.given.job.horizon inside worn runs (valid text r.given r.is).job.rising has;
+  E13_1_joined = λ job first next second last a b. (said_carries a, said_carries b, two_or_one_said job first next second last a b);
   E14_9_hall = hall-promise;
   D1_hall = hall-only;
 }

@@ -28,10 +28,12 @@ use Rattle.job_grammar.specs.Faults.{JobFault}
 use Rattle.plan_grammar.specs.Grammar.{Stated, nothing, read_plan_lem}
 use Rattle.plan_grammar.specs.Rendering.{plan_lines_of}
 use Rattle.plan_grammar.specs.Faults.{PlanFault}
-use Rattle.answers.specs.Said.{lent}
+use Rattle.answers.specs.Said.{plainly, lent}
 use Rattle.judging.specs.Judge.{judge_said, judge_room}
 use Rattle.judging.specs.Promise as judging
 use Rattle.planning.specs.Plan.{plan_said, plan_room}
+use Rattle.carry_texts.specs.Carries.{Carries, joined_lines}
+use Rattle.carrying.specs.Carry.{carry_said}
 use Rattle.hall.specs.Hall.{Hall, Proper}
 use Rattle.hall.specs.Promise.{HallAnswer, hall_answer, HallPromise}
 use Rattle.alike.specs.Alike.{AnsweredAlike, WalkSetAside, RulesOut}
@@ -140,6 +142,9 @@ pub record Delivered : Type 0 where
   pub E12_4_due : (text : List ℕ) (r : Reading text) (plan : Plan) (part due : ℕ) (late : LowestUnkept (job_in r) plan part due) → (late_part late).left ≡ 0 → listed (job_in r).idles 1 ≡ false → due ≡ 0
   -- E12.4. and then no plan keeps the part
   pub E12_4_no_plan : (text : List ℕ) (r : Reading text) (i : ℕ) → i < length (job_in r).parts → (part_at (job_in r) i).left ≡ 0 → listed (job_in r).idles 1 ≡ false → HasPlan (job_in r) → ⊥
+  -- E13.1. "If carrying on by a first log and then by a second is accepted both times, carrying on by the joined log shall be accepted and give the identical job text.": E13.2. the joined log of what the two texts say
+  pub E13_1_joined : (job first next second last : List ℕ) → carry_said job first ≡ plainly 0 next → carry_said next second ≡ plainly 0 last
+      → (a : Carries job first next) × (b : Carries next second last) × (carry_said job (joined_lines a b) ≡ plainly 0 last)
   -- ---- a hall, which no call plans yet
 
   -- E14.6 to E14.9. 6 exactly if some line has no plan; 0, or 7 exactly if the whole walk has more points; the best hall plan; with call 0 "the sum of the lines' own least costs"

@@ -8,11 +8,12 @@ use native.Mathlib.Omega.{arith}
 use borrow.Author.Tests.{leb-true, le-leb}
 use lib.Dec.{leb}
 use lib.ListN.{length}
-use Rattle.lines.specs.Text.{line_of, optional_text}
+use Rattle.lines.specs.Text.{line_of, texts, optional_text}
 use Rattle.line_writing.specs.Puts.{Puts, Room}
 use Rattle.line_writing.specs.declared.output.Out.{Out}
 use Rattle.line_writing.proofs.Putting.{none, then, same, room_same, room_front, room_behind}
 use Rattle.job_grammar.specs.Optionals.{idle_lines}
+use Rattle.job_grammar.specs.Rendering.{idles_text}
 use Rattle.form_writing.specs.Cut.{counted_cut, idles_cut}
 
 module _ (key : String) (most : ℕ) (agree : Bool) (n : ℕ) (t : List ℕ) where
@@ -46,6 +47,12 @@ pub idles_there : (is : List ℕ) → 1 ≤ length is → optional_text idles_cu
 unfolding idle_lines
 idles_there [] h = absurd (omega arith)
 idles_there (i ∷ is) h = refl
+
+-- where there are not too many, nothing of their text is cut
+pub idles_whole : (is : List ℕ) → length is ≤ 365 → optional_text idles_cut (idle_lines is) ≡ optional_text idles_text (idle_lines is)
+unfolding idle_lines idles_cut idles_text
+idles_whole [] h = refl
+idles_whole (i ∷ is) h = counted_in "idles=" 365 true (length (i ∷ is)) (texts (line_of "idle=") (i ∷ is)) h refl
 
 -- ---- a count and what it counts, put one behind the other
 

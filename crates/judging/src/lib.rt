@@ -1,14 +1,14 @@
 // The judge: weighs a plan text against a job text.
 #![tactic(auto)]
 
-ghost use Rattle.std.specs.Prelude.{◌≡◌, length};
+ghost use Rattle.std.specs.Prelude.{◌≡◌, ◌≤◌, length};
 ghost use Rattle.line_writing.specs.Puts.{Puts, Room};
 ghost use Rattle.model.specs.Verdict.{number_of};
 ghost use Rattle.jobs.specs.Views.{job_of};
 ghost use Rattle.plan_grammar.specs.Grammar.{read_plan_lem};
 ghost use Rattle.verdict.specs.Views.{model_judgement};
 ghost use Rattle.verdict.specs.Ranges.{Limited};
-ghost use Rattle.answers.specs.Said.{lent, Replied};
+ghost use Rattle.answers.specs.Said.{longest_refusal, lent, Replied};
 ghost use Rattle.judging.specs.Judge.{judge_lines, said_of, on_plan, judge_said, judge_room};
 ghost use Rattle.judging.specs.Promise.{JudgePromise};
 
@@ -50,12 +50,12 @@ fn put_judgement(out: &mut Out, j: Judgement)
     }
 }
 
-// Answers the judge's call by a judgement.
-fn answer(j: Judgement, out: &mut [u8]) -> Answer
-    requires { Limited (model_judgement j) }
-    ensures { Replied judge_room (said_of (model_judgement j)) out.old out.new result }
+// Answers a call that needs so much room by a judgement.
+pub fn answer_judgement(j: Judgement, need: usize, out: &mut [u8]) -> Answer
+    requires { Limited (model_judgement j) × (longest_refusal ≤ need) }
+    ensures { Replied need (said_of (model_judgement j)) out.old out.new result }
 {
-    reply(number_of(j), ROOM, out, |lines| put_judgement(lines, j))
+    reply(number_of(j), need, out, |lines| put_judgement(lines, j))
 }
 
 // Answers the judge's call for an accepted job: by what the plan text reads as against it.
@@ -63,7 +63,7 @@ fn judge_plan(job: &Accepted, plan: &[u8], out: &mut [u8]) -> Answer
     ensures { Replied judge_room (on_plan plan.now (job_of job.now.job) (read_plan_lem (job_of job.now.job) plan.now)) out.old out.new result }
 {
     match read_plan(plan, &job.job) {
-        Ok(stated) => answer(judgement_of(job, stated.cost, &stated.plan), out),
+        Ok(stated) => answer_judgement(judgement_of(job, stated.cost, &stated.plan), ROOM, out),
         Err(fault) => refuse(plan, PLAN, fault, ROOM, out),
     }
 }

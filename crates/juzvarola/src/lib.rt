@@ -12,6 +12,8 @@ ghost use Rattle.judging.specs.Judge.{judge_said, judge_room};
 ghost use Rattle.judging.specs.Promise.{JudgePromise};
 ghost use Rattle.serving.specs.Serve.{latest_said, latest_room};
 ghost use Rattle.serving.specs.Promise.{ServePromise};
+ghost use Rattle.carrying.specs.Carry.{carry_said, carry_room};
+ghost use Rattle.carrying.specs.Promise.{CarryPromise};
 ghost use Rattle.planning.specs.Plan.{plan_said, plan_room};
 ghost use Rattle.planning.specs.Promise.{PlanPromise};
 ghost use Rattle.juzvarola.specs.Version.{version_number};
@@ -22,7 +24,7 @@ use counting::Counted;
 // The version's three numbers, as the header's macros have them.
 const MAJOR: u32 = 0;
 
-const MINOR: u32 = 11;
+const MINOR: u32 = 12;
 
 const PATCH: u32 = 0;
 
@@ -61,6 +63,16 @@ pub extern "C" fn juzvarola_latest(job: &[u8], plan: &[u8], out: &mut [u8]) -> A
         (lent latest_room (length out.old) (latest_said job.now plan.now)) }
 {
     serving::latest(job, plan, out)
+}
+
+// Carries on from a job text by a log of what was done: writes the job that is left.
+#[unsafe(no_mangle)]
+pub extern "C" fn juzvarola_carry(job: &[u8], log: &[u8], out: &mut [u8]) -> Answer
+    ensures replied { Replied carry_room (carry_said job.now log.now) out.old out.new result }
+    ensures carry_promise { CarryPromise job.now log.now (length out.old)
+        (lent carry_room (length out.old) (carry_said job.now log.now)) }
+{
+    carrying::carry(job, log, out)
 }
 
 // Writes the job text of a form.

@@ -1,17 +1,19 @@
 -- The lives up to the log's step as code goes through them: on the openings that are past, the step's position stands for the end, and a due step is the whole job's. The same as the judge's on the job as far as the
--- step (`judged_until`); and what is left of a part is told by the same openings (`unused_front`).
+-- step (`judged_until`); and what is left of a part is told by the same openings (`unused_front`, `left_front`).
 use mathlib.Core.Path.{◌≡◌, refl, sym, ap, ap₂, ◌∙◌}
 use mathlib.Core.Bool.{Bool, true, false, cond, false≢true}
 use mathlib.Core.List.{List, [], ◌∷◌, map}
 use Prim.Native.Nat.{ℕ, zero, suc, ◌+◌, ◌<◌}
 use native.Mathlib.Omega.{arith}
-use lib.ListN.{get_or, take}
+use lib.ListN.{length, get_or, take}
 use lib.IntN.{ℤ, pos, ◌-ℤ◌}
 use Rattle.model.specs.Model.{Part, Job, clock, positions, last_change_lem, within, last_within_lem, due_of_lem, select, Each}
-use Rattle.model.specs.Verdict.{Gaps, in_time_lem2, too_long, first_late, late_of, last_of, ruled, verdict_from, judged, judged_of}
+use Rattle.model.specs.Verdict.{Gaps, in_time_lem2, too_long, first_late, late_of, last_of, ruled, verdict_from, judged, judged_of, no_part, part_at, changes_at}
 use Rattle.model.proofs.Dues.{Every}
+use Rattle.model.proofs.Verdicts.{each_at}
+use Rattle.jobs.proofs.Lists.{map_at}
 use Rattle.plan_lives.specs.Steps.{gaps_to, late_to_lem, lowest_late}
-use Rattle.carry.specs.Carry.{Log, passed, Logged, unused}
+use Rattle.carry.specs.Carry.{Log, passed, Logged, unused, natural}
 use Rattle.carry.specs.Answer.{until}
 use Rattle.carry.proofs.Parts.{Done, logged_done}
 use Rattle.carry.proofs.Passed.{Early, changes_early}
@@ -21,7 +23,7 @@ use Rattle.carry.proofs.Lives.{past_most}
 use Rattle.log_grammar.specs.Grammar.{part_to, job_to}
 use Rattle.log_grammar.specs.Rendering.{plan_front}
 use Rattle.log_grammar.proofs.Done.{positions_front, cost_front}
-use Rattle.log_lives.specs.Done.{judged_to}
+use Rattle.log_lives.specs.Done.{judged_to, left_at}
 
 -- ---- one part, on the job as far as the step
 
@@ -111,3 +113,11 @@ module _ (job : Job) (log : Log) (logged : Logged job log) where
   pub unused_front : (part : Part) (c : List Bool) → Done job log part c → unused past log.step (part_to n part) (take n c) ≡ unused job log.step part c
   unfolding clock
   unused_front part c d = ap (λ (ss : List ℤ). pos part.life -ℤ (now -ℤ last_of (last_change_lem part) ss)) (positions_front job n c d.over)
+
+  -- what is left of the part at a place
+  pub left_front : (i : ℕ) → i < length job.parts → left_at past log.step (plan_front n log.plan) i ≡ natural (unused job log.step (part_at job i) (changes_at log.plan i))
+  left_front i h =
+      let d = logged_done job log logged in
+      let p = map_at (part_to n) job.parts i no_part no_part h in
+      let c = map_at (take n) log.plan.changes i [] [] (omega (arith, h, logged.shaped.parts)) in
+      ap₂ (λ (q : Part) (e : List Bool). natural (unused past log.step q e)) p c ∙ ap natural (unused_front (part_at job i) (changes_at log.plan i) (each_at (Done job log) job.parts log.plan.changes d i h))

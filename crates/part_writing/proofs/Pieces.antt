@@ -1,19 +1,23 @@
--- The pieces of a part's text by their cases: holders that are too many, or not (`inside_many`, `inside_few`), lines of removal that stand, or not (`cover_there`, `cover_gone`), and prices by a rule, or listed
--- (`said_ruled`, `said_listed`).
+-- The pieces of a part's text by their cases: holders that are too many, or not (`inside_many`, `inside_few`; then nothing is cut, `part_whole`), lines of removal that stand, or not (`cover_there`, `cover_gone`), and prices by a rule,
+-- or listed (`said_ruled`, `said_listed`).
 use Prim.Native.Nat.{ℕ, ◌≤◌, ◌<◌}
-use mathlib.Core.Path.{◌≡◌, refl}
-use mathlib.Core.List.{List, [], ◌++◌, append-nil}
+use mathlib.Core.Path.{◌≡◌, refl, sym, ap, ◌∙◌}
+use mathlib.Core.List.{List, [], ◌++◌, append-nil, append_assoc}
 use borrow.Author.Tests.{le-leb, lt-leb}
 use lib.ListN.{length}
-use Rattle.std.specs.Prelude.{Option, Some, None}
+use Rattle.std.specs.Prelude.{Option, Some, None, IfSome}
 use Rattle.lines.specs.Text.{line_of, texts, optional_text}
+use Rattle.covers.specs.Grammar as covers
+use Rattle.covers.specs.Rendering.{cover_text}
 use Rattle.quotes.specs.Rendering.{quote_text}
 use Rattle.price_rules.specs.declared.Rule.{Rule}
 use Rattle.price_rules.specs.Rendering.{rule_text, prices_text}
 use Rattle.price_rules.specs.Views.{rule_of}
+use Rattle.part_lines.specs.Grammar.{PartText}
+use Rattle.part_lines.specs.Rendering.{part_text}
 use Rattle.form_facts.specs.declared.lists.QuoteLists.{QuoteLists}
 use Rattle.form_facts.specs.Views.{quotes_said}
-use Rattle.part_writing.specs.Cut.{inside_cut, cover_cut}
+use Rattle.part_writing.specs.Cut.{inside_cut, cover_cut, part_cut_lem}
 use Rattle.part_writing.specs.Views.{cover_said, prices_said}
 use Rattle.part_writing.specs.declared.cover.Cover.{Cover}
 use Rattle.part_writing.specs.declared.Prices.{Prices}
@@ -28,6 +32,18 @@ inside_many hs h = rw (lt-leb (length hs) 15 h) (append-nil (line_of "inside=" (
 pub inside_few : (hs : List ℕ) → length hs ≤ 15 → inside_cut hs ≡ line_of "inside=" (length hs) ++ texts (line_of "holder=") hs
 unfolding inside_cut
 inside_few hs h = rw (le-leb (length hs) 15 h)
+
+cover_whole : (o : Option covers.Cover) → IfSome o (λ c. length c.holders ≤ 15) → optional_text cover_cut o ≡ optional_text cover_text o
+unfolding cover_cut cover_text
+cover_whole None h = refl
+cover_whole (Some c) h =
+    ap (λ (t : List ℕ). line_of "removal=" c.removal ++ t) (inside_few c.holders h)
+    ∙ sym (append_assoc (line_of "removal=" c.removal) (line_of "inside=" (length c.holders)) (texts (line_of "holder=") c.holders))
+
+-- where a part has not too many holders, nothing of its text is cut
+pub part_whole : (p : PartText) → IfSome p.cover (λ c. length c.holders ≤ 15) → part_cut_lem p ≡ part_text p
+unfolding part_cut_lem part_text
+part_whole p h = ap (λ (t : List ℕ). line_of "life=" p.life ++ line_of "left=" p.left ++ t ++ prices_text p.prices) (cover_whole p.cover h)
 
 -- lines that stand, and lines that don't
 pub cover_there : (o : Option Cover) (c : Cover) → o ≡ Some c → optional_text cover_cut (cover_said o) ≡ line_of "removal=" c.removal ++ inside_cut c.holders.now

@@ -71,6 +71,11 @@ pub fn compare_latest(rng: &mut Rng, call: &Call, reply: &Reply) -> Result<(), S
     compare_by(rng, call, reply, |job, plan, out| juzvarola_host::latest(job, plan, out))
 }
 
+/// The same of carrying on, by the call's second text as the log.
+pub fn compare_carry(rng: &mut Rng, call: &Call, reply: &Reply) -> Result<(), String> {
+    compare_by(rng, call, reply, |job, log, out| juzvarola_host::carry(job, log, out))
+}
+
 fn compare_by(
     rng: &mut Rng,
     call: &Call,
@@ -163,6 +168,14 @@ pub fn latest(job: &[u8], plan: &[u8]) -> String {
     let mut out = vec![0xAA; 16_384];
     let answer = juzvarola_host::latest(job, plan, &mut out);
     String::from_utf8(out[..answer.length].to_vec()).expect("answers are ASCII")
+}
+
+/// What the library writes to carry on by a log: where it is accepted, the text of the job that is left.
+pub fn carried(job: &[u8], log: &[u8]) -> Option<Vec<u8>> {
+    let mut out = vec![0xAA; 40_960];
+    let answer = juzvarola_host::carry(job, log, &mut out);
+    out.truncate(answer.length);
+    (answer.result == 0).then_some(out)
 }
 
 /// What the library's judge writes.

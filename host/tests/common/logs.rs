@@ -2,6 +2,7 @@
 
 use super::inputs::{self, Facts};
 use super::rng::Rng;
+use super::Call;
 use juzvarola_host::reference::model::{Job, Plan};
 use juzvarola_host::reference::texts::{plan_lines, read_job, read_plan};
 
@@ -37,6 +38,19 @@ pub fn log(rng: &mut Rng, facts: &Facts) -> Vec<u8> {
         _ => text,
     }
     .into_bytes()
+}
+
+/// A call to carry on, its log in place of a plan text: a job and a log with or without faults, now and then a short or a long output.
+pub fn call(rng: &mut Rng, size: inputs::Size) -> Call {
+    let facts = inputs::facts(rng, size);
+    let log = log(rng, &facts);
+    let output = if rng.once_in(20) { rng.pick(&[0, 1, 16_384, 32_768, 40_959, 40_961]) } else { 40_960 };
+    let (job, log) = match rng.below(8) {
+        0 => (inputs::damaged_job(rng, &facts), log),
+        1 | 2 => (facts.text(), inputs::damaged(rng, log)),
+        _ => (facts.text(), log),
+    };
+    Call { job, plan: Some(log), walk: 0, output }
 }
 
 /// The log of both: "The joined log has the second's steps shifted by the first's, and the costs added."

@@ -70,7 +70,7 @@ for page in "$plain"/share/man/man[15]/* "$plain/share/man/man3/juzvarola.3"; do
     grep -q "juzvarola $version" "$page" || fail "$page has another version"
 done
 words=$(man -l "$plain/share/man/man1/juzvarola.1" | cat)
-for command in plan judge latest list draw compare count worth whatif write check completion; do
+for command in plan judge latest carry list draw compare count worth whatif write check completion; do
     "$plain/bin/juzvarola" help $command | grep -o -e '^  -[a-z]' -e '--[a-z]*' | sort -u | while read -r option; do
         echo "$words" | grep -q -e "$option" || fail "juzvarola.1 has no $option of $command"
     done

@@ -22,12 +22,12 @@ accepted-plan c = sym c.read_plan.ensures ∙ ap (outcome c.args.job.now.job) c.
 pub refuse-requires : goal.refuse-requires
 refuse-requires c = (omega (arith, (fault _ _ _ _ (refused_plan (goal.at.refuse-requires c).In-Err)).1), omega arith)
 
-pub answer-requires : goal.answer-requires
-answer-requires c = let r = c.in-Ok.stated in
-    judged_limited (job_of c.args.job.now.job) c.args.job.now.valid (plan_for c.args.job.now.job r.plan) r.cost _ c.judgement_of.ensures
+pub answer_judgement-requires : goal.answer_judgement-requires
+answer_judgement-requires c = let r = c.in-Ok.stated in
+    (judged_limited (job_of c.args.job.now.job) c.args.job.now.valid (plan_for c.args.job.now.job r.plan) r.cost _ c.judgement_of.ensures, omega arith)
 
 pub returns-in-Err : goal.returns-in-Err
 returns-in-Err c = rw (refused_plan (goal.at.returns-in-Err c).In-Err) c.refuse.ensures
 
 pub returns-in-Ok : goal.returns-in-Ok
-returns-in-Ok c = rw (accepted-plan (goal.at.returns-in-Ok c).In-Ok, ← c.judgement_of.ensures) c.answer.ensures
+returns-in-Ok c = rw (accepted-plan (goal.at.returns-in-Ok c).In-Ok, ← c.judgement_of.ensures) c.answer_judgement.ensures

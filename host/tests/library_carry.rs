@@ -1,0 +1,148 @@
+//! The library's carrying on from a work log: its vectors, random calls against the reference, starts of printed plans planned on by the library
+//! to the same total, and two logs against the joined one.
+#![cfg(feature = "library")]
+
+mod common;
+use common::inputs::{self, Size};
+use common::lent::{carried, compare_carry, planned};
+use common::{logs, rng::Rng, setting, vectors};
+use juzvarola_host::reference::{self, carry::read_log, model::Plan, texts};
+use juzvarola_host::{Log, MOST_WALK};
+
+const CASES: u64 = 50_000;
+
+/// Each result number of the call occurs at least this often in the full run.
+const LEAST: u64 = 50;
+
+#[test]
+fn library_gives_every_vector() {
+    common::with_stack(|| {
+        let mut rng = Rng::new(51);
+        let vectors = vectors::carries();
+        vectors::enough(vectors.len(), "JUZVAROLA_CARRY_VECTORS", 150);
+        let mut differ = 0;
+        for (number, vector) in vectors.iter().enumerate() {
+            if let Err(difference) = compare_carry(&mut rng, &vector.call, &vector.reply()) {
+                println!("vector {}: {difference}", number + 1);
+                differ += 1;
+            }
+        }
+        println!("{} vectors, {differ} differ", vectors.len());
+        assert_eq!(differ, 0);
+    });
+}
+
+#[test]
+fn library_is_the_reference() {
+    common::with_stack(|| {
+        let mut rng = Rng::new(setting("JUZVAROLA_SEED", 52));
+        let cases = setting("JUZVAROLA_CASES", CASES);
+        let mut results = [0u64; 14];
+        for number in 0..cases {
+            let size = match rng.below(60) {
+                0 => inputs::LARGE,
+                1..=5 => inputs::MIDDLE,
+                _ => inputs::SMALL,
+            };
+            let call = logs::call(&mut rng, size);
+            let reply = reference::carry(&call.job, call.plan.as_deref().expect("a log"), call.output);
+            if let Err(difference) = compare_carry(&mut rng, &call, &reply) {
+                panic!("call {number}: {difference}");
+            }
+            results[reply.result as usize] += 1;
+        }
+        println!("{cases} calls, 0 differ\nresults: {results:?}");
+        if cases >= CASES {
+            assert!([0, 1, 2, 3, 4, 5, 8, 9, 10, 11].iter().all(|result| results[*result] >= LEAST));
+            assert_eq!(results[6] + results[7], 0);
+        }
+    });
+}
+
+/// "If the log is the start of a plan the planner printed with 0, the least cost of the new job is that plan's remaining cost", and the planner
+/// prints exactly the rest.
+#[test]
+fn starts_of_printed_plans_are_planned_on() {
+    common::with_stack(|| {
+        let mut rng = Rng::new(setting("JUZVAROLA_SEED", 53));
+        let mut on = 0;
+        for _ in 0..setting("JUZVAROLA_CASES", 20_000) {
+            let facts = inputs::facts(&mut rng, inputs::SMALL);
+            let job = texts::read_job(&facts.text()).expect("a job without faults");
+            let Some(step) = logs::step(&mut rng, job.horizon) else { continue };
+            let printed = planned(&facts.text(), MOST_WALK);
+            let Some(at) = printed.starts_with("result=0\n").then(|| printed.find("cost=")).flatten() else { continue };
+            let (plan, cost) = texts::read_plan(&job, printed[at..].as_bytes()).expect("a printed plan");
+            let log = logs::text(&job, &plan, step);
+            let done = read_log(&job, &log).expect("a log without faults");
+            let text = carried(&facts.text(), &log).unwrap_or_else(|| panic!("refused: {facts:?} {}", log.escape_ascii()));
+            let rest = texts::read_job(&text).expect("a written text has no fault");
+            let printed = planned(&text, MOST_WALK);
+            assert!(printed.starts_with("result=0\n"), "{printed}{facts:?}");
+            let at = printed.find("cost=").expect("a plan");
+            let (again, least) = texts::read_plan(&rest, printed[at..].as_bytes()).expect("a printed plan");
+            assert_eq!(done.cost + least, cost, "{facts:?} {}", log.escape_ascii());
+            let first = job.openings.len() - rest.openings.len();
+            let changes = plan.changes.iter().map(|own| own[first..].to_vec()).collect();
+            assert_eq!(again, Plan { stops: plan.stops[first..].to_vec(), changes });
+            on += 1;
+        }
+        println!("{on} starts of printed plans, each planned on to the same total");
+        assert!(on >= 5000);
+    });
+}
+
+/// The text that is left where a random log of the job is accepted, and the log.
+fn random_log(rng: &mut Rng, text: &[u8]) -> Option<(String, Vec<u8>)> {
+    let job = texts::read_job(text).expect("a job without faults");
+    let step = logs::step(rng, job.horizon)?;
+    let often = rng.pick(&[3, 8, 10]);
+    let stops: Vec<bool> = job.openings.iter().map(|_| rng.below(10) < often).collect();
+    let changes = job.parts.iter().map(|_| stops.iter().map(|stop| *stop && rng.below(10) < often).collect()).collect();
+    let log = logs::text(&job, &Plan { stops, changes }, step);
+    let left = carried(text, &log)?;
+    Some((String::from_utf8(log).expect("ASCII"), left))
+}
+
+/// The text of the log of both, as the wrapper makes it.
+fn both_of(first: &str, second: &str) -> String {
+    let log = |text: &str| Log::parse(text.as_bytes()).expect("a log");
+    log(first).joined(&log(second)).expect("numbers that fit").text()
+}
+
+/// "If carrying on by a first log and then by a second is accepted both times, carrying on by the joined log shall be accepted and give the
+/// identical job text."
+#[test]
+fn two_logs_or_one() {
+    common::with_stack(|| {
+        let mut rng = Rng::new(setting("JUZVAROLA_SEED", 54));
+        let (mut both, mut three) = (0, 0);
+        for _ in 0..setting("JUZVAROLA_CASES", 40_000) {
+            let size = if rng.once_in(8) { Size { horizon: 40, ..inputs::SMALL } } else { inputs::SMALL };
+            let facts = inputs::facts(&mut rng, size);
+            let Some((first, between)) = random_log(&mut rng, &facts.text()) else { continue };
+            let Some((second, last)) = random_log(&mut rng, &between) else { continue };
+            let joined = logs::joined(&first, &second);
+            assert_eq!(both_of(&first, &second), joined);
+            assert_eq!(carried(&facts.text(), joined.as_bytes()), Some(last.clone()), "{facts:?}\n{first}\n{second}");
+            both += 1;
+            let Some((third, end)) = random_log(&mut rng, &last) else { continue };
+            let joined = both_of(&joined, &third);
+            assert_eq!(carried(&facts.text(), joined.as_bytes()), Some(end), "{facts:?}\n{first}\n{second}\n{third}");
+            three += 1;
+        }
+        println!("{both} pairs of logs and {three} threes, each as the joined one");
+        assert!(both >= 4000 && three >= 500);
+    });
+}
+
+/// The converse of that does not hold: two logs that are each refused for their cost, and the joined one, in which the two wrong costs cancel.
+#[test]
+fn the_joined_log_alone_may_be_accepted() {
+    let job = b"horizon=4\nopenings=1\nopening=1\nfee=1\nparts=1\nlife=9\nleft=9\nprice=1\n";
+    let (first, second) = ("step=1\ncost=0\nstops=1\nstop=1\ncount=0\n", "step=1\ncost=1\nstops=0\n");
+    assert_eq!(carried(job, first.as_bytes()), None);
+    let between = carried(job, first.replace("cost=0", "cost=1").as_bytes()).expect("the true cost");
+    assert_eq!(carried(&between, second.as_bytes()), None);
+    assert!(carried(job, both_of(first, second).as_bytes()).is_some());
+}
