@@ -98,6 +98,18 @@ typedef struct {
  */
 juzvarola_answer juzvarola_plan(const uint8_t *job, size_t job_len, uint64_t walk, uint8_t *out, size_t out_len);
 
+/* Plans a job, also where the search of juzvarola_plan is hopeless: results 0 to 8, 12 and 13.
+ *
+ * It searches with another estimate of what is left to pay: each fee and removal is split among the parts that need it.
+ * walk          the walk number: how many nodes each of its walks may have. A number above 4000000000 counts as 4000000000.
+ * Result 0: `result`, then the plan lines, with a `costlow` line before them where the job has a `low` line. No plan costs less; of the plans that cost as
+ * much it is the one of juzvarola_plan, which writes the same bytes behind `floor` wherever it says 0 too.
+ * Result 7: one of the walks has more nodes than the walk number. `result`, then `floor`: no plan costs less; and then, where the first nodes of the
+ * search of juzvarola_plan have a plan, the lines of the cheapest of these, at its true cost.
+ * Which floor is said with 7, and whether 7 is said, may change from version to version; a 0 has always the same bytes.
+ */
+juzvarola_answer juzvarola_optimum(const uint8_t *job, size_t job_len, uint64_t walk, uint8_t *out, size_t out_len);
+
 /* Judges a plan of a job: results 0 to 5 and 8 to 13. The plan may state a cost of up to 4000000000, which is compared with the cost at the high ends
  * of the prices; 12 and 13 are faults of the job text only.
  *

@@ -42,6 +42,7 @@ __all__ = [
     "count",
     "judge",
     "latest",
+    "optimum",
     "plan",
     "version",
     "write",
@@ -255,6 +256,7 @@ def _load() -> ctypes.CDLL:
     out = (ctypes.c_void_p, ctypes.c_size_t)
     for name, result, words in (
         ("juzvarola_plan", _Answer, text + (ctypes.c_uint64,) + out),
+        ("juzvarola_optimum", _Answer, text + (ctypes.c_uint64,) + out),
         ("juzvarola_judge", _Answer, text + text + out),
         ("juzvarola_latest", _Answer, text + text + out),
         ("juzvarola_carry", _Answer, text + text + out),
@@ -308,8 +310,19 @@ def _plan_in(lines: bytes) -> Optional[Plan]:
 
 def plan(job: Text, walk: int = _MOST) -> Planned:
     """Plans a job, walking at most so many nodes; a number above 4000000000 counts as that."""
+    return _planned(_library.juzvarola_plan, job, walk)
+
+
+def optimum(job: Text, walk: int = _MOST) -> Planned:
+    """The cheapest plan of a job by walks with shares, each of at most so many nodes: the planner's own plan, also where its walk would be too long. No
+    nodes are said, and a floor only with CUT_SHORT."""
+    return _planned(_library.juzvarola_optimum, job, walk)
+
+
+def _planned(call, job: Text, walk: int) -> Planned:
+    """What a call that plans a job answers."""
     data, out = _bytes(job), ctypes.create_string_buffer(_ROOM)
-    answer = _library.juzvarola_plan(data, len(data), min(walk, _MOST), out, _ROOM)
+    answer = call(data, len(data), min(walk, _MOST), out, _ROOM)
     lines = out.raw[: answer.length]
     fault = _fault(answer, data)
     values = dict(_pairs(lines)) if fault is None else {}

@@ -50,6 +50,12 @@ class Calls(unittest.TestCase):
         self.assertEqual((habit.result, habit.fault.text, habit.fault.shown), (Result.BAD_STOP, 2, b"stop=6"))
         self.assertEqual(juzvarola.latest(b"", "").fault.text, 1)
 
+    def test_the_optimum(self):
+        best = juzvarola.optimum(EXAMPLE)
+        self.assertEqual((best.result, best.nodes, best.floor, best.plan), (Result.OK, None, None, juzvarola.plan(EXAMPLE).plan))
+        self.assertEqual(juzvarola.optimum(EXAMPLE.replace(b"left=2", b"left=1", 1)).result, Result.NO_PLAN)
+        self.assertEqual(juzvarola.optimum(b"horizon=1\n").fault.shown, b"horizon=1")
+
     def test_carrying_on(self):
         done = "step=3\ncost=15\nstops=1\nstop=2\ncount=1\npart=1\n"
         rest = juzvarola.carry(EXAMPLE, done)

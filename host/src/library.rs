@@ -36,6 +36,7 @@ const _: () = assert!(size_of::<Counted>() == 32 && offset_of!(Counted, fault_st
 
 extern "C" {
     fn juzvarola_plan(job: *const u8, job_len: usize, walk: u64, out: *mut u8, out_len: usize) -> Numbers;
+    fn juzvarola_optimum(job: *const u8, job_len: usize, walk: u64, out: *mut u8, out_len: usize) -> Numbers;
     fn juzvarola_judge(job: *const u8, job_len: usize, plan: *const u8, plan_len: usize, out: *mut u8, out_len: usize) -> Numbers;
     fn juzvarola_latest(job: *const u8, job_len: usize, plan: *const u8, plan_len: usize, out: *mut u8, out_len: usize) -> Numbers;
     fn juzvarola_carry(job: *const u8, job_len: usize, log: *const u8, log_len: usize, out: *mut u8, out_len: usize) -> Numbers;
@@ -110,6 +111,15 @@ pub fn plan<'t>(job: &'t [u8], walk: u64, out: &mut [u8]) -> Answer<'t> {
     start();
     // SAFETY: a slice's pointer is not null and is good for its length; `out` is lent alone, so it overlaps no text.
     let numbers = unsafe { juzvarola_plan(job.as_ptr(), job.len(), walk, out.as_mut_ptr(), out.len()) };
+    answer(numbers, job, &[])
+}
+
+/// The cheapest plan of a job by walks with shares, each of at most `walk` nodes (a number above `MOST_WALK` counts as that): where it is found, the
+/// plan that the planner without a limit would print. The answer's lines are the first `length` bytes of `out`.
+pub fn optimum<'t>(job: &'t [u8], walk: u64, out: &mut [u8]) -> Answer<'t> {
+    start();
+    // SAFETY: as for `plan`.
+    let numbers = unsafe { juzvarola_optimum(job.as_ptr(), job.len(), walk, out.as_mut_ptr(), out.len()) };
     answer(numbers, job, &[])
 }
 

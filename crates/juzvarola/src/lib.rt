@@ -16,6 +16,7 @@ ghost use Rattle.carrying.specs.Carry.{carry_said, carry_room};
 ghost use Rattle.carrying.specs.Promise.{CarryPromise};
 ghost use Rattle.planning.specs.Plan.{plan_said, plan_room};
 ghost use Rattle.planning.specs.Promise.{PlanPromise};
+ghost use Rattle.optimum.specs.Promise.{Answered};
 ghost use Rattle.juzvarola.specs.Version.{version_number};
 
 use answers::Answer;
@@ -43,6 +44,14 @@ pub extern "C" fn juzvarola_plan(job: &[u8], walk: u64, out: &mut [u8]) -> Answe
     ensures plan_promise { PlanPromise job.now walk (length out.old) (lent plan_room (length out.old) (plan_said job.now walk)) }
 {
     planning::plan(job, walk, out)
+}
+
+// Plans a job text by fair shares, each walk up to a walk number: the planner's plan, also where its own walk is hopeless.
+#[unsafe(no_mangle)]
+pub extern "C" fn juzvarola_optimum(job: &[u8], walk: u64, out: &mut [u8]) -> Answer
+    ensures { Answered job.now walk out.old out.new result }
+{
+    optimum::optimum(job, walk, out)
 }
 
 // Weighs a plan text against a job text.

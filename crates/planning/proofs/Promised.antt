@@ -21,7 +21,8 @@ use Rattle.planning.proofs.ReadBack.{prints}
 use Rattle.job_grammar.specs.Reading.{Reading}
 use Rattle.planning.specs.Promise.{Reports, PlanPromise}
 
-not_8 : (a : PlannerAnswer) → result_of a ≡ 8 → ⊥
+-- no answer of the model has the number of a short output
+pub not_8 : (a : PlannerAnswer) → result_of a ≡ 8 → ⊥
 not_8 no_plan_lem2 e = omega arith
 not_8 (cut_none n f) e = omega arith
 not_8 (cut n f c p) e = omega arith

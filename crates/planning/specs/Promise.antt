@@ -13,12 +13,16 @@ use Rattle.judging.specs.Judge.{cost_lines, judge_said}
 use Rattle.plan_printing.specs.Printed.{low_lines}
 use Rattle.planning.specs.Plan.{search_lines, said_for, walk_number_lem, plan_said, plan_room}
 
--- O3, D6. what is written behind `floor`, E11. and behind the cost at the low ends where the job text has a `low` line, is a plan text, which read against the job says this plan and this cost, and which the judge accepts with it
-pub record PrintsPlan (text : List ℕ) (given : Given) (s : Said) (nodes floor cost : ℕ) (plan : Plan) : Type 0 where
+-- what is written behind these lines, E11. and behind the cost at the low ends where the job text has a `low` line, is a plan text, which read against the job says this plan and this cost, and which the judge accepts with it
+pub record PrintsBehind (text : List ℕ) (given : Given) (front : List ℕ) (s : Said) (cost : ℕ) (plan : Plan) : Type 0 where
   pub lines : List ℕ
-  pub written : s.bytes ≡ search_lines s.result nodes floor ++ (low_lines given plan ++ lines)
+  pub written : s.bytes ≡ front ++ (low_lines given plan ++ lines)
   pub reads_back : read_plan_lem given.job lines ≡ accepted (record { cost = cost; plan = plan })
   pub judged : judge_said text lines ≡ plainly 0 (cost_lines 0 cost)
+
+-- O3, D6. and so behind `floor`
+abbrev pub PrintsPlan : List ℕ → Given → Said → ℕ → ℕ → ℕ → Plan → Type 0
+PrintsPlan text given s nodes floor cost plan = PrintsBehind text given (search_lines s.result nodes floor) s cost plan
 
 -- of an answer with a plan; without one nothing stands behind `floor`
 abbrev pub Prints : List ℕ → Given → Said → PlannerAnswer → Type 0

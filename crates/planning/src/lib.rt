@@ -43,7 +43,7 @@ pub enum Finding {
 }
 
 // What a search found: no floor or no plan in the whole walk is 6, a walk cut short is 7.
-fn finding_of(found: &Found) -> Finding
+pub fn finding_of(found: &Found) -> Finding
     ensures { (n m : ℕ) → answer_in (plan_found n m found.now) result ≡ said_in n m found.now }
 {
     let nodes = found.count;
@@ -59,7 +59,7 @@ fn finding_of(found: &Found) -> Finding
 }
 
 // The result number of a finding.
-fn number_of(f: Finding) -> u32
+pub fn number_of(f: Finding) -> u32
     ensures { (plan : model.Plan) → result ≡ result_of (answer_in plan f) }
 {
     match f {
@@ -123,7 +123,7 @@ fn answer(f: Finding, text: &AcceptedText, plan: &Plan, out: &mut [u8]) -> Answe
 
 // The walk number of a call: above the limit it counts as the limit.
 // Kept as `as`: the lesser of the two is at most the limit. With `u32::try_from` first, a number would have to stand for what is too large, which is no plainer.
-fn walk_number(walk: u64) -> u32
+pub fn walk_number(walk: u64) -> u32
     ensures { result ≡ walk_number_lem walk }
 {
     walk.min(u64::from(Job::MAX_WALK)) as u32

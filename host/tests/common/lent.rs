@@ -163,6 +163,13 @@ pub fn planned(job: &[u8], walk: u64) -> String {
     String::from_utf8(out[..answer.length].to_vec()).expect("answers are ASCII")
 }
 
+/// What the library writes for the optimum with this walk number.
+pub fn best(job: &[u8], walk: u64) -> String {
+    let mut out = vec![0xAA; 16_384];
+    let answer = juzvarola_host::optimum(job, walk, &mut out);
+    String::from_utf8(out[..answer.length].to_vec()).expect("answers are ASCII")
+}
+
 /// What the library writes for the latest-time habit.
 pub fn latest(job: &[u8], plan: &[u8]) -> String {
     let mut out = vec![0xAA; 16_384];

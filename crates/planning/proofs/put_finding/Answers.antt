@@ -1,5 +1,4 @@
 -- `put_finding`: case by case, each with its number and its lines.
-use Prim.Native.Nat.{ℕ}
 use mathlib.Core.Path.{◌≡◌, ap, subst, ◌∙◌}
 use native.Mathlib.Omega.{arith}
 use Rattle.lines.specs.Text.{bytes}

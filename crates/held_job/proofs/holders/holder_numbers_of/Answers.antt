@@ -4,7 +4,7 @@ use mathlib.Core.Path.{sym, subst}
 use Rattle.model.specs.Model.{comes_out}
 use Rattle.model.specs.Decisions.{of_holders}
 use Rattle.jobs.specs.Views.{job_of}
-use Rattle.jobs.proofs.Jobs.{sized, part_count}
+use Rattle.jobs.proofs.Jobs.{part_count}
 use Rattle.coming_out.specs.Rows.{Rows}
 use Rattle.held_job.proofs.holders.holder_numbers_of.Goals as goal
 

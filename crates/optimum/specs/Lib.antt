@@ -1,0 +1,3 @@
+-- What the call says of a job text (Optimum), and what it promises (Promise).
+pub mod Optimum
+pub mod Promise

@@ -1,0 +1,2 @@
+-- What each of the walks that end is worth.
+pub mod Endings

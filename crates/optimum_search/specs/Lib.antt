@@ -1,0 +1,2 @@
+-- What the end of the search is worth.
+pub mod Ends

@@ -1,0 +1,56 @@
+// The search for the cheapest plan of an accepted job, also where the planner's counted walk is hopeless: that walk with few nodes, walks with fair shares from cutoffs below, and where no plan costs less than the last cutoff the counted walk again.
+#![tactic(auto)]
+
+ghost use Rattle.shares.specs.Certificate.{NoneUnder};
+ghost use Rattle.jobs.specs.Views.{job_of};
+ghost use Rattle.search.specs.Found.{said_in};
+ghost use Rattle.share_search.specs.Sought.{Sought};
+ghost use Rattle.optimum_search.specs.Ends.{Ends};
+
+use branch::Bound;
+use held_job::layout::layout_of;
+use job_search::search_job;
+use jobs::Accepted;
+use search::Found;
+use share_search::search_shared;
+
+// The most nodes of the first counted walk: it takes no longer than the shares do, and a job whose walk ends in it needs none.
+const FIRST: u32 = 65536;
+
+// The search by shares of an accepted job, each of its walks with at most `limit` nodes. No plan costs less than `floor`.
+// A call of its own, so that what it needs of the stack does not lie beside what the counted walk needs.
+#[inline(never)]
+fn search_by_shares(job: &Accepted, floor: u64, limit: u32) -> Found
+    ensures { NoneUnder (job_of job.now.job) floor → Sought (job_of job.now.job) limit result }
+{
+    let layout = layout_of(job);
+    search_shared(&layout.held(job), floor, u64::from(limit))
+}
+
+// The search of an accepted job, each of its walks with at most `limit` nodes.
+pub fn search_optimum(job: &Accepted, limit: u32) -> Found
+    ensures { Ends (job_of job.now.job) limit (said_in job.now.job.opening_count job.now.job.part_count result) }
+{
+    let first = search_job(job, limit.min(FIRST));
+    let Bound::Sum(floor) = first.floor else {
+        return first;
+    };
+    if !first.over {
+        return first;
+    }
+    let shared = search_by_shares(job, floor, limit);
+    if let Some(cost) = shared.cost {
+        return Found {
+            over: false,
+            cost: Some(cost),
+            ..shared
+        };
+    }
+    if shared.over {
+        return Found {
+            floor: shared.floor,
+            ..first
+        };
+    }
+    search_job(job, limit)
+}

@@ -1,0 +1,181 @@
+//! The library's optimum: the planner's own plan wherever that is found, on the jobs of `jobs/` and on random ones; the least costs that integer programs
+//! found of jobs whose counted walk is hopeless; faults as the planner has them; and what is said where a walk is longer than its number.
+#![cfg(feature = "library")]
+
+mod common;
+use common::inputs::{self, Size};
+use common::lent::{best, judged, planned, Lent};
+use common::{damage, jobs, rng::Rng, setting};
+use juzvarola_host::{plan, MOST_WALK};
+
+/// Random jobs.
+const CASES: u64 = 20_000;
+
+/// An answer of the planner without its `nodes` and `floor`; none where it is 7.
+fn without_walk(answer: &str) -> Option<String> {
+    let stays = |line: &&str| !line.starts_with("nodes=") && !line.starts_with("floor=");
+    (!answer.starts_with("result=7\n")).then(|| answer.lines().filter(stays).map(|line| format!("{line}\n")).collect())
+}
+
+/// The value of an answer's first line with this key.
+fn value(answer: &str, key: &str) -> Option<u64> {
+    answer.lines().find_map(|line| line.strip_prefix(key)?.strip_prefix('=')?.parse().ok())
+}
+
+/// The plan text of an answer.
+fn plan_in(answer: &str) -> Option<&str> {
+    answer.find("\ncost=").map(|at| &answer[at + 1..])
+}
+
+#[test]
+fn the_jobs_have_the_planners_plan() {
+    common::with_stack(|| {
+        for row in jobs::up_to(4_000_000).into_iter().filter(|row| inputs::holders_on() || !row.is_held()) {
+            let answer = best(&row.text, MOST_WALK);
+            assert_eq!(Some(&answer), without_walk(&planned(&row.text, row.nodes)).as_ref(), "{}", row.name);
+            assert_eq!(value(&answer, "cost"), Some(row.cost), "{}", row.name);
+        }
+    });
+}
+
+/// The jobs whose counted walk is too long: the least cost of each is known from integer programs.
+#[test]
+fn the_hopeless_jobs_have_the_least_cost() {
+    common::with_stack(|| {
+        let folder = std::path::Path::new(env!("CARGO_MANIFEST_DIR")).join("../jobs");
+        for (name, cost) in [
+            ("30_t1_holders_d10", 4100),
+            ("30_t1_holders_d100", 5180),
+            ("33_biweek8_head_d60", 3585),
+            ("36_week16_heads_d60", 6520),
+            ("38_week8_guard_shutdown", 3570),
+        ] {
+            let text = std::fs::read(folder.join(format!("{name}.txt"))).expect("a job");
+            let answer = best(&text, MOST_WALK);
+            assert!(answer.starts_with("result=0\n"), "{name}: {answer}");
+            assert_eq!(value(&answer, "cost"), Some(cost), "{name}");
+            let plan = plan_in(&answer).expect("a plan");
+            assert_eq!(judged(&text, plan.as_bytes()), format!("result=0\ncost={cost}\n"), "{name}");
+        }
+    });
+}
+
+#[test]
+fn random_jobs_have_the_planners_plan() {
+    common::with_stack(|| {
+        let mut rng = Rng::new(setting("JUZVAROLA_SEED", 61));
+        let (mut alike, mut none, mut longer) = (0, 0, 0);
+        for number in 0..setting("JUZVAROLA_CASES", CASES) {
+            let size = match number % 40 {
+                0 => inputs::LARGE,
+                1..=5 => inputs::MIDDLE,
+                _ => inputs::SMALL,
+            };
+            let facts = inputs::facts(&mut rng, size);
+            let text = facts.text();
+            let answer = best(&text, 2_000_000);
+            match without_walk(&planned(&text, 300_000)) {
+                // Its walks by shares may be longer than this number where the planner's is not.
+                Some(own) if answer.starts_with("result=7\n") => {
+                    let (floor, cost) = (value(&answer, "floor"), value(&own, "cost"));
+                    assert!(floor.is_some() && floor <= cost, "{facts:?}");
+                    longer += 1;
+                }
+                Some(own) => {
+                    assert_eq!(answer, own, "{facts:?}");
+                    alike += u64::from(answer.starts_with("result=0\n"));
+                    none += u64::from(answer.starts_with("result=6\n"));
+                }
+                None => {
+                    let plan = plan_in(&answer);
+                    assert!(value(&answer, "result") == Some(7) || plan.is_some(), "{facts:?}");
+                    if let Some(plan) = plan {
+                        let cost = value(plan, "cost").expect("a cost");
+                        assert_eq!(judged(&text, plan.as_bytes()), format!("result=0\ncost={cost}\n"), "{facts:?}");
+                    }
+                    longer += 1;
+                }
+            }
+        }
+        println!("{alike} jobs alike, {none} without a plan, {longer} whose counted walk is longer");
+        assert!(alike >= CASES / 4 && none >= 100);
+    });
+}
+
+/// Costs above the greatest cutoff: the counted walk finds them.
+#[test]
+fn the_dearest_jobs() {
+    common::with_stack(|| {
+        let mut rng = Rng::new(62);
+        for _ in 0..setting("JUZVAROLA_CASES", 200) {
+            let mut facts = inputs::facts(&mut rng, Size { horizon: 40, openings: 30, parts: 16 });
+            facts.openings.iter_mut().for_each(|(_, fee)| *fee = 1_000_000);
+            let text = facts.text();
+            if let Some(own) = without_walk(&planned(&text, 100_000)) {
+                assert_eq!(best(&text, 2_000_000), own, "{facts:?}");
+            }
+        }
+        // 64 stops at which sixteen parts are changed, each held by another: the dearest that a job can be.
+        let mut text = String::from("horizon=64\nopenings=64\n");
+        (1..=64).for_each(|step| text += &format!("opening={step}\nfee=1000000\n"));
+        text += "parts=16\n";
+        for part in 1..=16 {
+            text += &format!("life=1\nleft=1\nremoval=1000000\ninside=1\nholder={}\n{}", part % 16 + 1, "price=1000000\n".repeat(64));
+        }
+        assert_eq!(Some(best(text.as_bytes(), MOST_WALK)), without_walk(&planned(text.as_bytes(), MOST_WALK)));
+    });
+}
+
+/// A damaged text is refused as the planner refuses it, and a short output is 8; nothing outside the answer is changed.
+#[test]
+fn faults_are_the_planners() {
+    common::with_stack(|| {
+        let mut rng = Rng::new(setting("JUZVAROLA_SEED", 63));
+        let mut results = [0u64; 14];
+        for _ in 0..setting("JUZVAROLA_CASES", 20_000) {
+            let facts = inputs::facts(&mut rng, Size { horizon: 20, openings: 6, parts: 4 });
+            let text = damage::job(&mut rng, &facts);
+            let room = damage::room(&mut rng, 16_384);
+            let job = Lent::text(&mut rng, &text);
+            let mut out = Lent::output(&mut rng, room);
+            let answer = juzvarola_host::optimum(job.part(), MOST_WALK, out.part_mut());
+            let mut other = vec![0; room];
+            let own = plan(job.part(), MOST_WALK, &mut other);
+            assert!(job.has(&[]));
+            results[answer.result as usize] += 1;
+            if own.result != 0 {
+                assert_eq!(answer, own);
+                assert!(out.has(&other[..own.length]));
+                continue;
+            }
+            let said = without_walk(std::str::from_utf8(&other[..own.length]).expect("ASCII")).expect("a plan");
+            assert_eq!((answer.result, answer.text, answer.line, answer.length), (0, 0, 0, said.len()));
+            assert!(out.has(said.as_bytes()));
+        }
+        println!("results: {results:?}");
+        assert!([0, 2, 3, 4, 5, 6, 8].iter().all(|result| results[*result] >= 20), "{results:?}");
+    });
+}
+
+/// Where a walk is longer than its number: a floor that no plan is below. A larger number that ends gives the plan.
+#[test]
+fn longer_walks_have_a_floor() {
+    common::with_stack(|| {
+        let mut cut = 0;
+        for row in jobs::up_to(4_000_000).into_iter().filter(|row| inputs::holders_on() || !row.is_held()) {
+            let end = best(&row.text, MOST_WALK);
+            for walk in [0, 1, 10, 100, 1000, 10_000] {
+                let answer = best(&row.text, walk);
+                match value(&answer, "result") {
+                    Some(7) => {
+                        assert!(value(&answer, "floor").expect("a floor") <= row.cost, "{}: {answer}", row.name);
+                        cut += 1;
+                    }
+                    _ => assert_eq!(answer, end, "{}", row.name),
+                }
+            }
+        }
+        println!("{cut} answers of 7");
+        assert!(cut >= 20);
+    });
+}
