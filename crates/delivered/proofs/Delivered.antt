@@ -30,8 +30,8 @@ use Rattle.plan_grammar.proofs.Numbered as plans
 use Rattle.plan_grammar.proofs.Nothing.{nothing_is}
 use Rattle.carry.proofs.Worn.{judge_worn, worn_no_plan}
 use Rattle.carrying.proofs.Said.{said_carries, two_or_one_said}
-use Rattle.hall.proofs.Promised.{promise as hall-promise}
-use Rattle.hall.proofs.Unique.{only as hall-only}
+use Rattle.hall_model.proofs.Promised.{promise as hall-promise}
+use Rattle.hall_model.proofs.Unique.{only as hall-only}
 use Rattle.price_rules.proofs.Prices.{rule_is}
 use Rattle.alike.proofs.Meaning.{by_meaning, walk_set_aside}
 use Rattle.alike.proofs.Rules.{rules_out_lem}

@@ -34,8 +34,8 @@ use Rattle.judging.specs.Promise as judging
 use Rattle.planning.specs.Plan.{plan_said, plan_room}
 use Rattle.carry_texts.specs.Carries.{Carries, joined_lines}
 use Rattle.carrying.specs.Carry.{carry_said}
-use Rattle.hall.specs.Hall.{Hall, Proper}
-use Rattle.hall.specs.Promise.{HallAnswer, hall_answer, HallPromise}
+use Rattle.hall_model.specs.Hall.{Hall, Proper}
+use Rattle.hall_model.specs.Promise.{HallAnswer, hall_answer, HallPromise}
 use Rattle.alike.specs.Alike.{AnsweredAlike, WalkSetAside, RulesOut}
 use Rattle.before_holders.specs.AsBefore.{AsBefore}
 use Rattle.starred.specs.Table.{CaseHolds, Counts, cases, counts}

@@ -17,11 +17,11 @@ use Rattle.model.specs.Model.{Job}
 use Rattle.walk.specs.declared.Search.{Search}
 use Rattle.walk.specs.State.{open_s}
 use Rattle.walk.proofs.Trees.{DueAt}
-use Rattle.hall.specs.Hall.{Hall, Placed, open_at}
-use Rattle.hall.specs.Agenda.{crew, agenda_of}
-use Rattle.hall.specs.LowerBound.{hall_bound}
-use Rattle.hall.specs.Steps.{Stands, Asks, tree_from}
-use Rattle.hall.proofs.Steps.{tree_bound}
+use Rattle.hall_model.specs.Hall.{Hall, Placed, open_at}
+use Rattle.hall_model.specs.Agenda.{crew, agenda_of}
+use Rattle.hall_model.specs.LowerBound.{hall_bound}
+use Rattle.hall_model.specs.Steps.{Stands, Asks, tree_from}
+use Rattle.hall_model.proofs.Steps.{tree_bound}
 use Rattle.hall_nodes.specs.Lines.{HallAt, NoIf, NoneGo}
 use Rattle.hall_nodes.proofs.Below.{call_at, no_call_at}
 use Rattle.hall_nodes.proofs.Due.{all_due}

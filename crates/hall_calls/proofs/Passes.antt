@@ -20,10 +20,10 @@ use Rattle.held_rows.specs.Held.{SheetOf, held_bound}
 use Rattle.held_rows.proofs.Sheets.{held_bound_lem}
 use Rattle.walk.specs.State.{no_cost, open_s}
 use Rattle.held_nodes.proofs.Root.{fresh}
-use Rattle.hall.specs.Hall.{Hall}
-use Rattle.hall.specs.Agenda.{Line, name_for}
-use Rattle.hall.specs.LowerBound.{line_bound, hall_bound}
-use Rattle.hall.proofs.Steps.{no_call_name}
+use Rattle.hall_model.specs.Hall.{Hall}
+use Rattle.hall_model.specs.Agenda.{Line, name_for}
+use Rattle.hall_model.specs.LowerBound.{line_bound, hall_bound}
+use Rattle.hall_model.proofs.Steps.{no_call_name}
 use Rattle.hall_nodes.specs.Lines.{Slot, Given, slot_bound, lines_sum, others_sum, Goes, SlotKept}
 use Rattle.hall_nodes.proofs.Bounds.{slot_most, slot_bound_lem, slot_most_lem}
 use Rattle.hall_nodes.proofs.Due.{line_missing}

@@ -2,8 +2,8 @@
 use Rattle.std.specs.Prelude.{ℕ, ◌+◌, ◌<◌, ◌≤◌, ◌≡◌, Bool, true, false, cond, List, Option, Some, None, length}
 use Rattle.branch.specs.declared.Bound.TheVariants.{Missing}
 use Rattle.branch.specs.Search.{snoc}
-use Rattle.hall.specs.Hall.{Hall}
-use Rattle.hall.specs.LowerBound.{hall_bound}
+use Rattle.hall_model.specs.Hall.{Hall}
+use Rattle.hall_model.specs.LowerBound.{hall_bound}
 use Rattle.hall_nodes.specs.Lines.{lines_sum, Goes, no_blocks_lem}
 use Rattle.hall_steps.specs.Steps.{open_in}
 use Rattle.hall_state.specs.declared.Spot.{Spot}

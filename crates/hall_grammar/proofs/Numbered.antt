@@ -10,7 +10,7 @@ use Rattle.lines.proofs.Numbered.{NumberIn, Numbers, row_numbers, checked_number
 use Rattle.model.specs.Model.{Job}
 use Rattle.job_grammar.specs.Grammar.{JobText, job_lines}
 use Rattle.job_grammar.proofs.Numbered.{JobFault, lines_numbers as job-numbers}
-use Rattle.hall.specs.Limits.{most_hall_bytes}
+use Rattle.hall_model.specs.Limits.{most_hall_bytes}
 use Rattle.hall_grammar.specs.Grammar.{meant_job, joins, job_behind, jobs_behind, hall_lines_lem, read_hall_text}
 
 -- E14.10. the numbers of a job's own faults, and 14

@@ -4,8 +4,8 @@ use Rattle.lines.specs.Parser.{Outcome, Parser, ◌>>=◌, return, row, checked,
 use Rattle.model.specs.Model.{Job}
 use Rattle.model.specs.Limits.{most_openings, most_parts}
 use Rattle.job_grammar.specs.Grammar.{JobText, meant, job_lines}
-use Rattle.hall.specs.Hall.{Hall}
-use Rattle.hall.specs.Limits.{most_lines, dearest_call, most_hall_bytes, parts_in, openings_in}
+use Rattle.hall_model.specs.Hall.{Hall}
+use Rattle.hall_model.specs.Limits.{most_lines, dearest_call, most_hall_bytes, parts_in, openings_in}
 
 -- what a hall text says
 pub record HallText : Type 0 where

@@ -3,7 +3,7 @@ use Rattle.std.specs.Prelude.{◌≤◌, ◌≡◌, true, List, [], ◌∷◌, �
 use Rattle.model.specs.Model.{Job}
 use Rattle.job_grammar.specs.Grammar.{JobText}
 use Rattle.job_grammar.specs.Valid.{ValidText}
-use Rattle.hall.specs.Limits.{most_lines, dearest_call}
+use Rattle.hall_model.specs.Limits.{most_lines, dearest_call}
 use Rattle.hall_grammar.specs.Grammar.{HallText, meant_job, joins}
 
 -- each job is valid, and joins those before it

@@ -16,9 +16,9 @@ use Rattle.lane_rows.specs.Tables.{sum_where}
 use Rattle.held_lanes.specs.Places.{removal_place}
 use Rattle.walk.specs.declared.Search.{Search}
 use Rattle.walk.specs.State.{open_s}
-use Rattle.hall.specs.Hall.{Hall}
-use Rattle.hall.specs.Agenda.{line, agenda_of, lines_of}
-use Rattle.hall.specs.Steps.{Asks, Stands}
+use Rattle.hall_model.specs.Hall.{Hall}
+use Rattle.hall_model.specs.Agenda.{line, agenda_of, lines_of}
+use Rattle.hall_model.specs.Steps.{Asks, Stands}
 use Rattle.hall_nodes.specs.Lines.{Slot, Given, slot_bound, Goes, SlotKept, no_blocks_lem, yes_blocks}
 use Rattle.hall_nodes.proofs.Bounds.{lines_most}
 use Rattle.hall_nodes.proofs.Due.{lines_length}

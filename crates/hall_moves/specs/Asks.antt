@@ -1,6 +1,6 @@
 -- What the moves of the walk are given.
 use Rattle.std.specs.Prelude.{ℕ, ◌≡◌, Bool, List}
-use Rattle.hall.specs.Hall.{Hall}
+use Rattle.hall_model.specs.Hall.{Hall}
 use Rattle.hall_state.specs.declared.Ground.{Ground}
 use Rattle.hall_state.specs.declared.Question.{Question}
 use Rattle.hall_state.specs.declared.Spot.{Spot}

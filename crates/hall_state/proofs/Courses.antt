@@ -13,8 +13,8 @@ use Rattle.model.proofs.Positions.{positions_size}
 use Rattle.model.proofs.Totals.{select-length}
 use Rattle.held_rows.specs.Held.{HeldSheet, SheetOf, held}
 use Rattle.lane_rows.proofs.Memory.{recalled_none}
-use Rattle.hall.specs.Hall.{Hall, Placed}
-use Rattle.hall.specs.Agenda.{lines_from}
+use Rattle.hall_model.specs.Hall.{Hall, Placed}
+use Rattle.hall_model.specs.Agenda.{lines_from}
 use Rattle.hall_nodes.specs.Lines.{Slot, Given, slot_bound, SlotOf, lines_sum, others_sum, SlotIn, Goes, GoesAt, SlotKept, with_rows}
 use Rattle.hall_nodes.proofs.Going.{looked_kept, kept_then, goes_kept}
 use Rattle.hall_nodes.proofs.Branches.{SameBest}

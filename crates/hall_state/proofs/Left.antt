@@ -10,10 +10,10 @@ use Rattle.branch.specs.declared.Bound.{Bound}
 use Rattle.branch.specs.Search.{snoc, Limited, limited, onward}
 use Rattle.model.specs.Model.{Job}
 use Rattle.model.specs.LowerBound.{inner}
-use Rattle.hall.specs.Hall.{Hall, Placed, open_at}
-use Rattle.hall.specs.Agenda.{Topic, crew, line, Agenda, over, raise, hear_then, removals, lines_asked, steps_asked, crew_steps}
-use Rattle.hall.specs.Steps.{Stands, Asks, tree_from}
-use Rattle.hall.proofs.Steps.{stands_over, stands_asks, stands_no, stands_yes, tree_over, on_asks, steps_next, steps_end_lem, lines_open, lines_end, removals_next, removals_end}
+use Rattle.hall_model.specs.Hall.{Hall, Placed, open_at}
+use Rattle.hall_model.specs.Agenda.{Topic, crew, line, Agenda, over, raise, hear_then, removals, lines_asked, steps_asked, crew_steps}
+use Rattle.hall_model.specs.Steps.{Stands, Asks, tree_from}
+use Rattle.hall_model.proofs.Steps.{stands_over, stands_asks, stands_no, stands_yes, tree_over, on_asks, steps_next, steps_end_lem, lines_open, lines_end, removals_next, removals_end}
 use Rattle.hall_steps.specs.Steps.{next_open_lem}
 use Rattle.hall_steps.specs.Table.{step_count, step_at, CrewTable}
 use Rattle.hall_steps.proofs.Asked.{drop_line, next_asked}

@@ -16,10 +16,10 @@ use Rattle.held_rows.specs.Held.{held_bound}
 use Rattle.walk.specs.declared.Search.{Search}
 use Rattle.walk.specs.State.{open_s}
 use Rattle.walk.proofs.Trees.{DueAt}
-use Rattle.hall.specs.Hall.{Hall}
-use Rattle.hall.specs.Agenda.{line, agenda_of}
-use Rattle.hall.specs.LowerBound.{hall_bound}
-use Rattle.hall.specs.Steps.{Stands, Asks, tree_from}
+use Rattle.hall_model.specs.Hall.{Hall}
+use Rattle.hall_model.specs.Agenda.{line, agenda_of}
+use Rattle.hall_model.specs.LowerBound.{hall_bound}
+use Rattle.hall_model.specs.Steps.{Stands, Asks, tree_from}
 use Rattle.hall_nodes.specs.Lines.{slot_bound, lines_sum, others_sum, HallAt, Goes, GoesAt}
 use Rattle.hall_nodes.proofs.Bounds.{slot_bound_lem}
 use Rattle.hall_nodes.proofs.Below.{line_at}

@@ -7,7 +7,7 @@ use Rattle.std.specs.Prelude.{Option}
 use native.Mathlib.Omega.{arith}
 use lib.ListN.{length}
 use Rattle.held_rows.specs.Held.{held}
-use Rattle.hall.specs.Hall.{Hall}
+use Rattle.hall_model.specs.Hall.{Hall}
 use Rattle.hall_nodes.specs.Lines.{Given}
 use Rattle.hall_lines.specs.declared.Stop.{Stop}
 use Rattle.hall_state.specs.declared.Ground.{Ground}

@@ -6,10 +6,10 @@ use Rattle.branch.specs.Search.{Tree, snoc, limited}
 use Rattle.walk.specs.declared.Search.{Search}
 use Rattle.walk.specs.State.{view_of, open_s}
 use Rattle.walk.proofs.Trees.{DueAt}
-use Rattle.hall.specs.Hall.{Hall}
-use Rattle.hall.specs.Limits.{Fits}
-use Rattle.hall.specs.LowerBound.{hall_bound}
-use Rattle.hall.specs.Steps.{tree_from}
+use Rattle.hall_model.specs.Hall.{Hall}
+use Rattle.hall_model.specs.Limits.{Fits}
+use Rattle.hall_model.specs.LowerBound.{hall_bound}
+use Rattle.hall_model.specs.Steps.{tree_from}
 use Rattle.hall_nodes.specs.Walk.{Sees}
 use Rattle.hall_steps.specs.declared.CrewSteps.{CrewSteps}
 use Rattle.hall_steps.specs.Table.{step_count, CrewTable}

@@ -2,9 +2,9 @@
 use Rattle.std.specs.Prelude.{ℕ, zero, suc, ◌+◌, ◌-◌, ◌<◌, ◌≤◌, ◌≡◌, Bool, true, cond, List, [], ◌∷◌, Option, Some, None, ltb, eqb, length, drop}
 use Rattle.model.specs.Model.{Job}
 use Rattle.model.specs.LowerBound.{inner}
-use Rattle.hall.specs.Hall.{Hall}
-use Rattle.hall.specs.Agenda.{Agenda, steps_asked, agenda_of, crew_steps}
-use Rattle.hall.specs.Steps.{Stands}
+use Rattle.hall_model.specs.Hall.{Hall}
+use Rattle.hall_model.specs.Agenda.{Agenda, steps_asked, agenda_of, crew_steps}
+use Rattle.hall_model.specs.Steps.{Stands}
 use Rattle.hall_nodes.specs.Lines.{lines_sum, HallAt}
 use Rattle.hall_nodes.specs.Walk.{hall_left}
 use Rattle.hall_lines.specs.declared.Stop.{Stop}

@@ -11,9 +11,9 @@ use native.Mathlib.Decide.{ℕ_discrete, dec_lt}
 use borrow.Author.Tests.{lt-ltb, le-ltb}
 use lib.ListN.{length, drop}
 use Rattle.model.specs.Model.{Job}
-use Rattle.hall.specs.Hall.{Placed}
-use Rattle.hall.specs.Agenda.{lines_asked}
-use Rattle.hall.proofs.Steps.{lines_shut}
+use Rattle.hall_model.specs.Hall.{Placed}
+use Rattle.hall_model.specs.Agenda.{lines_asked}
+use Rattle.hall_model.proofs.Steps.{lines_shut}
 use Rattle.hall_steps.specs.Steps.{open_in, next_open_lem, place_below, Tells}
 
 -- ---- the places that the code goes over

@@ -1,7 +1,7 @@
 -- The crew's steps in a table: for each of them, and one behind the last, how many openings each line has before it.
 use Rattle.std.specs.Prelude.{ℕ, zero, suc, ◌+◌, ◌≡◌, Bool, cond, List, [], Option, Some, None, ltb, get_or}
 use Rattle.model.specs.Model.{Job}
-use Rattle.hall.specs.Hall.{Placed, open_at}
+use Rattle.hall_model.specs.Hall.{Placed, open_at}
 
 -- the openings that the line at place d has before the k-th step
 abbrev pub level_in : List (List ℕ) → ℕ → ℕ → ℕ

@@ -1,8 +1,8 @@
 -- The whole table of a hall's steps: a row of four for each step and one behind the last, how many steps and lines there are, and what a call costs.
 use Rattle.std.specs.Prelude.{ℕ, ◌+◌, ◌<◌, ◌≤◌, ◌≡◌, cond, length, get_or}
 use Rattle.model.specs.Model.{Job}
-use Rattle.hall.specs.Hall.{Hall, Placed}
-use Rattle.hall.specs.Agenda.{crew_steps}
+use Rattle.hall_model.specs.Hall.{Hall, Placed}
+use Rattle.hall_model.specs.Agenda.{crew_steps}
 use Rattle.hall_steps.specs.declared.CrewSteps.{CrewSteps}
 use Rattle.hall_steps.specs.Steps.{level_in, open_in, Tells}
 

@@ -7,9 +7,9 @@ use native.Mathlib.Omega.{arith}
 use native.Mathlib.Decide.{dec_lt}
 use borrow.Author.Tests.{lt-ltb, le-ltb}
 use lib.ListN.{length}
-use Rattle.hall.specs.Hall.{Hall}
-use Rattle.hall.specs.Agenda.{agenda_of}
-use Rattle.hall.specs.LowerBound.{hall_bound}
+use Rattle.hall_model.specs.Hall.{Hall}
+use Rattle.hall_model.specs.Agenda.{agenda_of}
+use Rattle.hall_model.specs.LowerBound.{hall_bound}
 use Rattle.hall_nodes.specs.Lines.{HallAt}
 use Rattle.hall_steps.specs.Steps.{level_in, open_in, next_open_lem}
 use Rattle.hall_steps.specs.Table.{step_count}

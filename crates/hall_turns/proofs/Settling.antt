@@ -11,10 +11,10 @@ use Rattle.branch.proofs.Bounds.{sum_inj}
 use Rattle.model.specs.Model.{Job, Each}
 use Rattle.model.specs.Decisions.{concat}
 use Rattle.held_rows.specs.Held.{SheetOf}
-use Rattle.hall.specs.Hall.{Hall}
-use Rattle.hall.specs.Agenda.{Line, lines_from, agenda_of}
-use Rattle.hall.specs.LowerBound.{hall_bound}
-use Rattle.hall.specs.Steps.{Stands, tree_from}
+use Rattle.hall_model.specs.Hall.{Hall}
+use Rattle.hall_model.specs.Agenda.{Line, lines_from, agenda_of}
+use Rattle.hall_model.specs.LowerBound.{hall_bound}
+use Rattle.hall_model.specs.Steps.{Stands, tree_from}
 use Rattle.hall_nodes.specs.Lines.{Slot, SlotOf, lines_sum, HallAt, SlotKept}
 use Rattle.hall_nodes.proofs.Bounds.{node_bound}
 use Rattle.hall_lines.specs.Lines.{Decided, LineSettled}

@@ -5,7 +5,7 @@ use mathlib.Core.Bool.{Bool}
 use mathlib.Core.List.{List}
 use native.Mathlib.Omega.{arith}
 use native.Mathlib.Decide.{dec_lt}
-use Rattle.hall.specs.Hall.{Hall}
+use Rattle.hall_model.specs.Hall.{Hall}
 use Rattle.hall_lines.specs.declared.Stop.{Stop}
 use Rattle.hall_steps.specs.Table.{step_count}
 use Rattle.hall_state.specs.declared.Ground.{Ground}

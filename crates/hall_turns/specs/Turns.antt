@@ -2,7 +2,7 @@
 use Rattle.std.specs.Prelude.{ℕ, ◌<◌, ◌≡◌, Bool, List, length, get_or}
 use Rattle.least.specs.Filled.{FilledBy}
 use Rattle.held_lanes.specs.Places.{removed_place, best_place}
-use Rattle.hall.specs.Hall.{Hall}
+use Rattle.hall_model.specs.Hall.{Hall}
 use Rattle.hall_lines.specs.declared.LineTables.{LineTables}
 use Rattle.hall_lines.specs.Levels.{mask_in}
 use Rattle.hall_steps.specs.Steps.{level_in}

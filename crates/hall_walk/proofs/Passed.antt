@@ -17,10 +17,10 @@ use Rattle.held_lanes.specs.Places.{removed_place, best_place}
 use Rattle.walk.specs.declared.Search.{Search}
 use Rattle.walk.specs.State.{view_of, counted_s, kept_s, reached_s, open_s}
 use Rattle.walk.proofs.Trees.{closed, opened}
-use Rattle.hall.specs.Hall.{Hall}
-use Rattle.hall.specs.Agenda.{Agenda, lines_of}
-use Rattle.hall.specs.LowerBound.{hall_bound}
-use Rattle.hall.specs.Steps.{tree_from}
+use Rattle.hall_model.specs.Hall.{Hall}
+use Rattle.hall_model.specs.Agenda.{Agenda, lines_of}
+use Rattle.hall_model.specs.LowerBound.{hall_bound}
+use Rattle.hall_model.specs.Steps.{tree_from}
 use Rattle.held_nodes.proofs.Frames.{keep_frame}
 use Rattle.hall_nodes.specs.Lines.{Slot, Given, lines_sum, SlotKept}
 use Rattle.hall_nodes.specs.Walk.{Sees}

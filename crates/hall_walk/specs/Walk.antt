@@ -5,10 +5,10 @@ use Rattle.branch.specs.declared.Bound.TheVariants.{Missing, Sum}
 use Rattle.walk.specs.declared.Search.{Search}
 use Rattle.walk.specs.State.{reached_s, open_s}
 use Rattle.walk.proofs.Trees.{DueAt}
-use Rattle.hall.specs.Hall.{Hall}
-use Rattle.hall.specs.Agenda.{Agenda}
-use Rattle.hall.specs.LowerBound.{hall_bound}
-use Rattle.hall.specs.Steps.{tree_from}
+use Rattle.hall_model.specs.Hall.{Hall}
+use Rattle.hall_model.specs.Agenda.{Agenda}
+use Rattle.hall_model.specs.LowerBound.{hall_bound}
+use Rattle.hall_model.specs.Steps.{tree_from}
 use Rattle.hall_nodes.specs.Walk.{Sees}
 use Rattle.hall_state.specs.declared.Ground.{Ground}
 use Rattle.hall_state.specs.declared.Spot.{Spot}

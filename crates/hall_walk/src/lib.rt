@@ -2,7 +2,7 @@
 #![tactic(auto)]
 
 ghost use Rattle.std.specs.Prelude.{◌≡◌, List, Bool, ℕ, ◌+◌, ◌<◌, ◌^◌};
-ghost use Rattle.hall.specs.Hall.{Hall};
+ghost use Rattle.hall_model.specs.Hall.{Hall};
 ghost use Rattle.hall_state.specs.Courses.{Course};
 ghost use Rattle.hall_state.specs.Moves.{Below};
 ghost use Rattle.hall_moves.specs.Asks.{AskedAt};

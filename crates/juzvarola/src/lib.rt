@@ -16,7 +16,7 @@ ghost use Rattle.carrying.specs.Carry.{carry_said, carry_room};
 ghost use Rattle.carrying.specs.Promise.{CarryPromise};
 ghost use Rattle.planning.specs.Plan.{plan_said, plan_room};
 ghost use Rattle.planning.specs.Promise.{PlanPromise};
-ghost use Rattle.optimum.specs.Promise.{Answered};
+ghost use Rattle.optimizing.specs.Promise.{Answered};
 ghost use Rattle.juzvarola.specs.Version.{version_number};
 
 use answers::Answer;
@@ -51,7 +51,7 @@ pub extern "C" fn juzvarola_plan(job: &[u8], walk: u64, out: &mut [u8]) -> Answe
 pub extern "C" fn juzvarola_optimum(job: &[u8], walk: u64, out: &mut [u8]) -> Answer
     ensures { Answered job.now walk out.old out.new result }
 {
-    optimum::optimum(job, walk, out)
+    optimizing::optimum(job, walk, out)
 }
 
 // Weighs a plan text against a job text.

@@ -7,7 +7,7 @@ use Rattle.branch.specs.declared.Bound.TheVariants.{Sum}
 use Rattle.branch.proofs.Bounds.{sum_inj}
 use mathlib.Core.Bool.{Bool}
 use mathlib.Core.List.{List}
-use Rattle.hall.specs.Hall.{Hall}
+use Rattle.hall_model.specs.Hall.{Hall}
 use Rattle.hall_state.specs.declared.Ground.{Ground}
 use Rattle.hall_state.specs.declared.Spot.{Spot}
 use Rattle.hall_state.specs.Courses.{Arrays, Course}

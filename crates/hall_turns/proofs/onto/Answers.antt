@@ -3,7 +3,7 @@ use Prim.Native.Nat.{ℕ, ◌-◌}
 use mathlib.Core.Path.{◌≡◌, sym, ap, subst, ◌∙◌}
 use Rattle.std.specs.Prelude.{Option}
 use lib.ListN.{length}
-use Rattle.hall.specs.Hall.{Hall}
+use Rattle.hall_model.specs.Hall.{Hall}
 use Rattle.hall_steps.specs.Steps.{next_open_lem, place_below}
 use Rattle.hall_steps.proofs.Asked.{place_found, place_gone}
 use Rattle.hall_state.specs.declared.Spot.{Spot}

@@ -8,9 +8,9 @@ use Rattle.std.proofs.lemmas.Option.{none-some}
 use Rattle.branch.specs.Search.{snoc}
 use Rattle.walk.specs.declared.Search.{Search}
 use Rattle.walk.specs.State.{kept_s}
-use Rattle.hall.specs.Hall.{Hall}
-use Rattle.hall.specs.LowerBound.{hall_bound}
-use Rattle.hall.specs.Steps.{tree_from}
+use Rattle.hall_model.specs.Hall.{Hall}
+use Rattle.hall_model.specs.LowerBound.{hall_bound}
+use Rattle.hall_model.specs.Steps.{tree_from}
 use Rattle.hall_state.specs.Courses.{Course}
 use Rattle.hall_state.specs.Spots.{Asked}
 use Rattle.hall_state.specs.Moves.{Arrived, Passed}
