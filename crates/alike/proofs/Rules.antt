@@ -5,7 +5,7 @@ use mathlib.Core.Bool.{◌||◌}
 use mathlib.Core.List.{List, [], ◌∷◌, map}
 use lib.ListN.{length}
 use Rattle.lines.specs.Parser.{accepted}
-use Rattle.jobs.specs.Valid.{All}
+use Rattle.base.specs.Each.{All}
 use Rattle.price_rules.proofs.Prices.{written_out}
 use Rattle.part_lines.specs.Grammar.{PartText, meant_part, low_part_lem, any_banded}
 use Rattle.part_lines.specs.Valid.{Spelt}

@@ -12,7 +12,8 @@ use Rattle.model.specs.Verdict.{judged, judged_of, verdict_of_lem}
 use Rattle.model.specs.Count.{open_count}
 use Rattle.model.proofs.NoHolders.{held_none}
 use Rattle.model.proofs.Unheld.{Plain, plain_unheld, answer_before, cost_before}
-use Rattle.jobs.specs.Valid.{All, ValidPart}
+use Rattle.base.specs.Each.{All}
+use Rattle.jobs.specs.Valid.{ValidPart}
 use Rattle.job_grammar.specs.Grammar.{read_job_lem}
 use Rattle.job_grammar.proofs.Accepted.{valid}
 use Rattle.plan_grammar.specs.Grammar.{Stated}

@@ -7,7 +7,8 @@ use lib.ListN.{length}
 use Rattle.lines.specs.Text.{line, texts}
 use Rattle.lines.specs.Parser.{Parser, good, ◌>>=◌, return, row_at, checked, chain}
 use Rattle.lines.proofs.Parsing.{bind_good}
-use Rattle.lines.proofs.Sound.{Tells, Chained, bind_inv, row_sound, row_gives, checked_sound, checked_gives, chain_sound, chain_gives}
+use Rattle.lines.proofs.Sound.{Tells, bind_inv, row_sound, row_gives, checked_sound, checked_gives, chain_sound, chain_gives}
+use Rattle.base.specs.Each.{Chained}
 use Rattle.lines.proofs.Complete.{Complete, row_complete, checked_complete, chain_complete}
 
 -- what is known of a value is P, what is written for it is w, and it is read back where what stands behind it is as Next says

@@ -13,12 +13,13 @@ use Rattle.lines.specs.Text.{bytes, line, line_of, texts, optional_text}
 use Rattle.lines.specs.Parser.{row, checked, times, up_to, Outcome, accepted, refused}
 use Rattle.lines.proofs.Parsing.{up_to_yes}
 use Rattle.lines.proofs.Outcomes.{one_value, not_both}
-use Rattle.lines.proofs.Sound.{Chained, accepted_is}
+use Rattle.base.specs.Each.{Chained, All}
+use Rattle.lines.proofs.Sound.{accepted_is}
 use Rattle.lines.proofs.Complete.{text_complete}
 use Rattle.model.specs.Model.{Opening}
 use Rattle.model.specs.Windows.{Rising, steps_of}
-use Rattle.jobs.specs.Valid.{All, ValidOpening, ValidPrice, ValidPart, HeldFrom}
-use Rattle.jobs.proofs.Lists.{chained_each, each_chained}
+use Rattle.jobs.specs.Valid.{ValidOpening, ValidPrice, ValidPart, HeldFrom}
+use Rattle.base.proofs.Lists.{chained_each, each_chained}
 use Rattle.covers.specs.Views.{meant_cover}
 use Rattle.price_rules.proofs.Prices.{singles_mean, singles_low, singles_valid, singles_plain}
 use Rattle.job_grammar.specs.Grammar.{JobText, job_with, meant, idles, opening, openings, meaning, read_job_text, read_job_lem}

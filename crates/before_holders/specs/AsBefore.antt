@@ -1,7 +1,7 @@
 -- E7.13. "With no holders and removals of 0, every printed answer to texts that were free of faults before is the one given before."
 use Rattle.std.specs.Prelude.{ℕ, ◌≤◌, ◌≡◌, List, map, ◌↔◌, length, None, Some}
 use Rattle.lines.specs.Parser.{accepted}
-use Rattle.jobs.specs.Valid.{All}
+use Rattle.base.specs.Each.{All}
 use Rattle.job_grammar.specs.Grammar as today
 use Rattle.quotes.specs.Grammar.{single}
 use Rattle.price_rules.specs.Grammar.{by_list}

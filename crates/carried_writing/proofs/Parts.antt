@@ -8,7 +8,7 @@ use native.Mathlib.Omega.{arith}
 use lib.ListN.{length, get_or, take, drop, length-map, length-take, length-drop}
 use lib.Seq.{length-take-le, get_or-take}
 use Rattle.lines.specs.Text.{texts}
-use Rattle.lines.specs.Chosen.{numbers_of_lem}
+use Rattle.base.specs.Chosen.{numbers_of_lem}
 use Rattle.model.specs.Model as model
 use Rattle.model.specs.Verdict.{no_part}
 use Rattle.jobs.specs.Views.{part_of_lem, job_of}

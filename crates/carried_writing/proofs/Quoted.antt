@@ -8,7 +8,7 @@ use native.Mathlib.Omega.{arith}
 use lib.ListN.{length, length-map, take, drop, replicate, length-drop}
 use lib.Seq.{length-take-le}
 use Rattle.lines.specs.Text.{texts}
-use Rattle.jobs.specs.Valid.{All}
+use Rattle.base.specs.Each.{All}
 use Rattle.quotes.specs.Grammar.{Quote, single, pair}
 use Rattle.quotes.specs.Views.{quote_of, quotes_of}
 use Rattle.price_rules.specs.Grammar.{meant_prices}

@@ -1,6 +1,6 @@
 // A part's holders and its pairs of prices, as the lists of numbers that the writer takes.
 ghost use Rattle.std.specs.Prelude.{◌≡◌, ◌≤◌, ◌<◌, [], ◌∷◌, ◌++◌, length};
-ghost use Rattle.lines.specs.Chosen.{numbers_of_lem};
+ghost use Rattle.base.specs.Chosen.{numbers_of_lem};
 ghost use Rattle.model.specs.Limits.{most_openings};
 ghost use Rattle.carried_writing.specs.Lists.{held, pair_mark, low_in, Paired};
 

@@ -14,7 +14,7 @@ use Rattle.model.specs.Windows.{Rising, steps_of}
 use Rattle.model.specs.Verdict.{Gaps, in_time_lem2, too_long, first_late, late_of, part_at, changes_at, last_of, AllWithin, LowestUnkept}
 use Rattle.model.specs.Due.{late_part}
 use Rattle.model.proofs.Verdicts.{in_time_is, lives_kept}
-use Rattle.model.proofs.Integers.{AtMostℤ, difference}
+use Rattle.base.proofs.Integers.{AtMostℤ, difference}
 use Rattle.model.proofs.Positions.{never_falls, near, near_within, due_last, due_most}
 use Rattle.model.proofs.Dues.{Every, every_select, every_front}
 

@@ -8,7 +8,8 @@ use lib.ListN.{length, length-map, length-drop, get_or, drop}
 use Rattle.lines.specs.Parser.{accepted}
 use Rattle.model.specs.Model.{Opening, Part, Job, Each, clock}
 use Rattle.model.specs.Windows.{steps_of}
-use Rattle.jobs.specs.Valid.{All, ValidOpening, ValidPrice, ValidPart, HeldFrom, ValidJob}
+use Rattle.base.specs.Each.{All}
+use Rattle.jobs.specs.Valid.{ValidOpening, ValidPrice, ValidPart, HeldFrom, ValidJob}
 use Rattle.quotes.specs.Grammar.{high_end, low_end}
 use Rattle.quotes.specs.Valid.{ValidQuote}
 use Rattle.price_rules.specs.Grammar.{Prices, by_list, by_rule_lem, meant_prices, low_prices_lem, written_out_lem}

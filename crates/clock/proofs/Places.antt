@@ -7,7 +7,7 @@ use native.Mathlib.Numerals.{add-one}
 use lib.ListN.{length, get_or, take, set}
 use lib.Seq.{get_or-take, take-suc, take_all}
 use lib.IntN.{ℤ, pos}
-use Rattle.lines.proofs.Arrays.{take_more}
+use Rattle.base.proofs.Arrays.{take_more}
 use Rattle.model.specs.Model as model
 use Rattle.model.specs.Model.{clock, positions, end}
 use Rattle.jobs.specs.Views.{job_of}

@@ -8,7 +8,7 @@ use mir.Syntax.{w32}
 use mir.Val.{to_z, of_z}
 use Rattle.std.proofs.lemmas.Int.{to_z-of_z, to_z_pos}
 use Rattle.model.specs.Model.{Job, clock}
-use Rattle.model.proofs.Integers.{up, down, AtMostℤ, difference}
+use Rattle.base.proofs.Integers.{up, down, AtMostℤ, difference}
 use Rattle.model.proofs.Positions.{in_range_lem}
 use Rattle.clock.specs.Placed.{Position, Begins}
 use Rattle.model.specs.Limits.{last_position, longest_life}

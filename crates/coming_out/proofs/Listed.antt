@@ -7,10 +7,10 @@ use native.Mathlib.Omega.{arith}
 use borrow.Author.Tests.{eq-eqb, ne_eqb, lt-ltb}
 use lib.Dec.{ltb}
 use lib.ListN.{length, get_or}
-use Rattle.lines.specs.Text.{joined}
-use Rattle.lines.specs.Chosen.{chosen, numbers_of_lem}
+use Rattle.base.specs.Joined.{joined}
+use Rattle.base.specs.Chosen.{chosen, numbers_of_lem}
 use Rattle.std.specs.List.{list_any}
-use Rattle.lines.proofs.Chosen.{chosen_front, chosen_same}
+use Rattle.base.proofs.Chosen.{chosen_front, chosen_same}
 use Rattle.model.specs.Model.{listed}
 
 -- the numbers of marks, counted from b on

@@ -12,11 +12,11 @@ use Rattle.model.specs.Model as model
 use Rattle.model.specs.Model.{listed, table, holders_at, any_held, removal_of_lem}
 use Rattle.model.specs.Verdict.{no_part}
 use Rattle.model.proofs.Lists.{table-length, table_at}
-use Rattle.lines.specs.Chosen.{numbers_of_lem}
+use Rattle.base.specs.Chosen.{numbers_of_lem}
 use Rattle.jobs.specs.declared.Part.{Part}
 use Rattle.jobs.specs.declared.Job.{Job}
 use Rattle.jobs.specs.Views.{blank_part_lem, part_of_lem, job_of}
-use Rattle.jobs.proofs.Lists.{map_at}
+use Rattle.base.proofs.Lists.{map_at}
 use Rattle.jobs.proofs.Jobs.{part_count, part_at_lem}
 use Rattle.coming_out.specs.Rows.{place, Row, Rows, HeldBy}
 use Rattle.coming_out.specs.Places.{Removals}

@@ -7,7 +7,7 @@ use Prim.Native.Nat.{ℕ, zero, suc, ◌+◌, ◌<◌}
 use native.Mathlib.Omega.{arith}
 use lib.ListN.{length, get_or, drop}
 use Rattle.model.specs.Model.{Part, listed, holds_one, out_by}
-use Rattle.model.proofs.Bools.{after_one, or_left, or_right}
+use Rattle.base.proofs.Bools.{after_one, or_left, or_right}
 use Rattle.coming_out.specs.Rows.{some}
 
 -- if one of the first m places has it, the test for some says yes

@@ -2,7 +2,7 @@
 ghost use Rattle.std.specs.Prelude.{◌≡◌, ltb, length, ◌<◌};
 ghost use Rattle.model.specs.Limits.{most_parts};
 ghost use Rattle.part_records.specs.Records.{record_at};
-ghost use Rattle.lines.specs.Chosen.{numbers_of_lem};
+ghost use Rattle.base.specs.Chosen.{numbers_of_lem};
 ghost use Rattle.model.specs.Model.{has_holder_lem};
 ghost use Rattle.jobs.specs.Views.{job_of};
 ghost use Rattle.coming_out.specs.Rows.{HeldBy};

@@ -12,7 +12,7 @@ use lib.IntN.{ℤ, pos}
 use Rattle.model.specs.Model.{within, kept}
 use Rattle.model.specs.LastYes.{mark_in}
 use Rattle.model.specs.Count.{in_time_lem}
-use Rattle.model.proofs.Bools.{there}
+use Rattle.base.proofs.Bools.{there}
 
 module _ (life end prev : ℤ) (ss : List ℤ) where
   -- the openings from k on

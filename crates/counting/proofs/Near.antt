@@ -6,8 +6,9 @@ use native.Mathlib.Omega.{arith}
 use native.Mathlib.Decide.{dec_lt}
 use lib.ListN.{length, get_or, get_or-eq_default}
 use lib.IntN.{ℤ, pos}
-use Rattle.model.proofs.Bools.{there}
-use Rattle.least.specs.Marks.{mark_of, Bits31}
+use Rattle.base.proofs.Bools.{there}
+use Rattle.least.specs.Marks.{mark_of}
+use Rattle.base.specs.Signed.{Bits31}
 
 -- the place behind any number of openings is small, the end too
 pub place_small : (end first : ℤ) (ss : List ℤ) (k : ℕ) → Bits31 end → ((m : ℕ) → Bits31 (mark_of first ss m)) → Bits31 (get_or ss k end)

@@ -12,13 +12,15 @@ use Rattle.model.specs.Limits.{longest_life}
 use Rattle.model.proofs.Entries.{Brief}
 use Rattle.jobs.specs.declared.Job.{Job}
 use Rattle.jobs.specs.Views.{job_of}
-use Rattle.jobs.specs.Valid.{All, ValidPart, ValidJob}
+use Rattle.base.specs.Each.{All}
+use Rattle.jobs.specs.Valid.{ValidPart, ValidJob}
 use Rattle.jobs.proofs.Jobs.{opening_count_lem2}
 use Rattle.clock.specs.Placed.{Placed}
 use Rattle.clock.specs.declared.positions.Positions.{Positions}
 use Rattle.clock.proofs.Ranges.{position_small, begins_first, before_small}
 use Rattle.clock.proofs.Places.{place_count}
-use Rattle.least.specs.Marks.{mark_of, Bits31}
+use Rattle.least.specs.Marks.{mark_of}
+use Rattle.base.specs.Signed.{Bits31}
 
 module _ (j : Job) (p : Positions) (placed : Placed (job_of j) p) where
   abbrev ss : List ℤ

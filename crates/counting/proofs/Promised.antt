@@ -17,7 +17,8 @@ use Rattle.model.specs.Longest.{longest, JobCountPromise}
 use Rattle.model.specs.Count.{open_count}
 use Rattle.model.proofs.Counted.{nodes_most, count_promise}
 use Rattle.model.proofs.NoHolders.{none_held}
-use Rattle.jobs.specs.Valid.{All, ValidPart, ValidJob}
+use Rattle.base.specs.Each.{All}
+use Rattle.jobs.specs.Valid.{ValidPart, ValidJob}
 use Rattle.job_grammar.specs.Grammar.{Given, read_job_lem}
 use Rattle.job_grammar.specs.Valid.{Valid}
 use Rattle.job_grammar.proofs.Accepted.{valid}

@@ -9,7 +9,7 @@ use lib.ListN.{length, get_or}
 use Rattle.model.specs.Limits.{most_count}
 use Rattle.model.specs.Count.{count_from}
 use Rattle.model.proofs.Entries.{count_most}
-use Rattle.least.specs.Filled.{FilledBy}
+use Rattle.base.specs.Filled.{FilledBy}
 use Rattle.counting.specs.Row.{noted, Row}
 
 module _ (test : ℕ → ℕ → Bool) (n : ℕ) where

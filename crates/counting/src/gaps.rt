@@ -3,8 +3,9 @@ ghost use Rattle.std.specs.Prelude.{◌≡◌, cond, ℕ, ◌+◌, ◌≤◌, �
 ghost use Rattle.model.specs.Model.{kept};
 ghost use Rattle.model.specs.Limits.{most_count, most_openings};
 ghost use Rattle.model.specs.Count.{in_time_lem, count_from, count_for};
-ghost use Rattle.least.specs.Filled.{FilledBy};
-ghost use Rattle.least.specs.Marks.{mark_of, Bits31};
+ghost use Rattle.base.specs.Filled.{FilledBy};
+ghost use Rattle.least.specs.Marks.{mark_of};
+ghost use Rattle.base.specs.Signed.{Bits31};
 ghost use Rattle.counting.specs.Row.{sum_of, noted, Row};
 
 use crate::CAP;

@@ -8,7 +8,8 @@ use lib.ListN.{length}
 use borrow.Author.Tests.{eq-eqb}
 use Rattle.lines.specs.Text.{bytes, line_of, texts, optional_text}
 use Rattle.lines.specs.Parser.{good, return, row, optional, if_present, checked, rising}
-use Rattle.lines.proofs.Sound.{bind_inv, Optionally, optional_inv, row_sound, checked_sound, chain_sound, row_gives, checked_gives, Chained, chain_gives, Told, Tells, Rises, rising_tells}
+use Rattle.lines.proofs.Sound.{bind_inv, Optionally, optional_inv, row_sound, checked_sound, chain_sound, row_gives, checked_gives, chain_gives, Told, Tells, Rises, rising_tells}
+use Rattle.base.specs.Each.{Chained}
 use Rattle.covers.specs.Grammar.{other, holder, holders, inside, cover}
 use Rattle.covers.specs.Rendering.{cover_text}
 use Rattle.jobs.specs.Valid.{ValidHolders}

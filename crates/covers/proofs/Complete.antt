@@ -11,7 +11,8 @@ use Rattle.lines.specs.Line.{starts_with}
 use Rattle.lines.specs.Text.{bytes, line_of, texts, optional_text}
 use Rattle.lines.specs.Parser.{good, return, row, optional, if_present, checked, rising}
 use Rattle.lines.proofs.Parsing.{bind_good, optional_missing}
-use Rattle.lines.proofs.Sound.{Chained, Rises}
+use Rattle.base.specs.Each.{Chained}
+use Rattle.lines.proofs.Sound.{Rises}
 use Rattle.lines.proofs.Complete.{Complete, row_complete, rising_complete, optional_present, checked_complete, chain_complete}
 use Rattle.covers.specs.Grammar.{Cover, other, holder, holders, inside, cover}
 use Rattle.covers.specs.Rendering.{cover_text}

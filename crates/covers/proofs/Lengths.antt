@@ -9,9 +9,11 @@ use native.Mathlib.Nat.{eq-or-lt_of_le, le_of_suc-le-suc}
 use lib.Dec.{eqb}
 use lib.ListN.{length, length-append}
 use borrow.Author.Tests.{eq-eqb, ne_eqb}
-use Rattle.lines.specs.Text.{bytes, decimal_in, line, line_of, texts, joined}
-use Rattle.lines.proofs.Sound.{Chained}
-use Rattle.lines.proofs.Writing.{line_short, joined_grows}
+use Rattle.lines.specs.Text.{bytes, decimal_in, line, line_of, texts}
+use Rattle.base.specs.Joined.{joined}
+use Rattle.base.specs.Each.{Chained}
+use Rattle.lines.proofs.Writing.{line_short}
+use Rattle.base.proofs.Joined.{joined_grows}
 use Rattle.lines.proofs.Texts.{rising_room}
 use Rattle.covers.specs.Grammar.{Cover}
 use Rattle.covers.specs.Rendering.{cover_text}

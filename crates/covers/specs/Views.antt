@@ -1,6 +1,6 @@
 -- The code's struct in the terms of the grammar.
 use Rattle.std.specs.Prelude.{Bool, true, false, [], Option, Some, None}
-use Rattle.lines.specs.Chosen.{numbers_of_lem}
+use Rattle.base.specs.Chosen.{numbers_of_lem}
 use Rattle.covers.specs.Grammar as grammar
 use Rattle.covers.specs.declared.Cover.{Cover}
 

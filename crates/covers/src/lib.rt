@@ -2,7 +2,7 @@
 #![tactic(auto)]
 
 ghost use Rattle.std.specs.Prelude.{◌≡◌, ◌<◌, ◌≤◌, IfOk};
-ghost use Rattle.lines.specs.Chosen.{numbers_of_lem};
+ghost use Rattle.base.specs.Chosen.{numbers_of_lem};
 ghost use Rattle.lines.specs.Reads.{Reads, seen};
 ghost use Rattle.covers.specs.Grammar.{holder, holders};
 ghost use Rattle.covers.specs.Grammar as grammar;

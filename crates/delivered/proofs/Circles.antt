@@ -6,7 +6,7 @@ use native.Mathlib.Omega.{arith}
 use lib.ListN.{length, get_or}
 use lib.Seq.{ext_get_or}
 use Rattle.model.specs.Model.{Job, comes_out, Chain, itself, by_holder}
-use Rattle.model.proofs.Bools.{same_test}
+use Rattle.base.proofs.Bools.{same_test}
 use Rattle.model.proofs.Closure.{out_length, chained}
 
 module _ (job : Job) where

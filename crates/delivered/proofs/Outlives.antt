@@ -8,7 +8,7 @@ use native.Mathlib.Decide.{dec_lt}
 use lib.ListN.{length, get_or, replicate, length-replicate, get_or-replicate, get_or-eq_default}
 use lib.IntN.{pos, ◌-ℤ◌}
 use Rattle.model.specs.Model.{Part, Job, positions, end, last_change_lem, within, kept, kept_by, select, KeepsPart}
-use Rattle.model.proofs.Integers.{at_most_test, difference}
+use Rattle.base.proofs.Integers.{at_most_test, difference}
 use Rattle.model.proofs.Positions.{in_range_lem}
 
 -- nothing is selected by a set without a member

@@ -17,7 +17,7 @@ use Rattle.model.specs.Dismounting.{Dismounts}
 use Rattle.model.specs.Published.{Published, PublishedRunning, Tied}
 use Rattle.model.specs.Tables.{table1, table2, table3, table4}
 use Rattle.bands.specs.Bands.{CostBand}
-use Rattle.jobs.specs.Valid.{All}
+use Rattle.base.specs.Each.{All}
 use Rattle.price_rules.specs.Rule.{Rule, rule_price, stated_price}
 use Rattle.job_grammar.specs.Grammar.{JobText, meant, read_job_lem, read_job_text}
 use Rattle.job_grammar.specs.Grammar as job

@@ -10,7 +10,7 @@ use lib.Dec.{eqb, leb}
 use mir.Val.{bool_byte}
 use lib.ListN.{length, get_or, set, replicate, length-set}
 use lib.Seq.{get_or-set_same, get_or-set_other}
-use Rattle.least.specs.Filled.{FilledBy}
+use Rattle.base.specs.Filled.{FilledBy}
 use Rattle.lane_rows.specs.Layout.{lane_count_lem, dear}
 use Rattle.lane_rows.proofs.Lanes.{sum_same}
 use Rattle.share_rows.specs.Places.{take_base, take_place, removal_place, holds_place, share_size}

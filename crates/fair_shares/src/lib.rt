@@ -4,7 +4,7 @@
 pub mod raw;
 
 ghost use Rattle.std.specs.Prelude.{◌≡◌, ℕ, ◌+◌, ◌-◌, ◌*◌, ◌/◌, ◌%◌, ◌<◌, ◌≤◌, length, get_or};
-ghost use Rattle.least.specs.Filled.{FilledBy};
+ghost use Rattle.base.specs.Filled.{FilledBy};
 ghost use Rattle.model.specs.Limits.{most_parts};
 ghost use Rattle.lane_rows.specs.Layout.{lane_count_lem, dear};
 ghost use Rattle.lane_rows.specs.Rows.{Turned};

@@ -13,11 +13,10 @@ use Rattle.lines.specs.Line.{starts_with}
 use Rattle.lines.specs.Text.{bytes, line, line_of, texts, optional_text}
 use Rattle.lines.specs.Parser.{Parser, good, fault, ◌>>=◌, return, row, row_at, optional, checked, chain, rising}
 use Rattle.lines.proofs.Parsing.{bind_good, bind_fault, checked-good, rising_yes, optional_missing}
-use Rattle.lines.proofs.Sound.{Chained}
+use Rattle.base.specs.Each.{Chained, All}
 use Rattle.lines.proofs.ValueLines.{value_in}
 use Rattle.model.specs.Model.{Opening}
 use Rattle.model.specs.Windows.{Rising}
-use Rattle.jobs.specs.Valid.{All}
 use Rattle.job_grammar.specs.Grammar.{idle, idle_steps_lem, idles, opening, openings, body, rest, job_lines}
 use Rattle.job_grammar.specs.Rendering.{opening_text}
 use Rattle.part_lines.specs.Rendering.{part_text}

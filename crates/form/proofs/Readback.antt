@@ -10,7 +10,7 @@ use Rattle.lines.specs.Parser.{Parsed, good, fault, Parser, ◌>>=◌, return, r
 use Rattle.lines.specs.Text.{line, texts}
 use Rattle.lines.proofs.Parsing.{bind_good, bind_fault, checked-good, checked_not, checked-fault}
 use Rattle.lines.proofs.ValueLines.{value_in, value_low, value_high}
-use Rattle.lines.proofs.Sound.{Chained}
+use Rattle.base.specs.Each.{Chained}
 
 -- the parser's answers x and y to two texts are both the value a, with s and with t behind it, and then G holds; or they are the same fault, whose number has F
 pub data Readback {A : Type 0} (F : ℕ → Type 0) (G : Type 0) (a : A) (s t : List ℕ) (x y : Parsed A) : Type 0 where

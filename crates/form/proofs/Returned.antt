@@ -11,7 +11,7 @@ use lib.ListN.{length, drop, length-append, length-map}
 use lib.Seq.{take_at, drop_at}
 use Rattle.lines.specs.Text.{line_of, texts, optional_text}
 use Rattle.model.specs.Model.{Opening}
-use Rattle.jobs.specs.Valid.{All}
+use Rattle.base.specs.Each.{All}
 use Rattle.covers.specs.Grammar.{Cover}
 use Rattle.job_grammar.specs.Grammar.{JobText, idle_in}
 use Rattle.quotes.specs.Grammar.{Quote, single, pair, high_end}

@@ -16,11 +16,10 @@ use Rattle.lines.specs.Line.{starts_with}
 use Rattle.lines.specs.Text.{bytes, line, line_of, texts, optional_text}
 use Rattle.lines.specs.Parser.{Parsed, good, fault, ◌>>=◌, return, row, row_at, optional, checked, chain, times, rising, up_to, if_present}
 use Rattle.lines.proofs.Parsing.{bind_good, optional_there, optional_missing}
-use Rattle.lines.proofs.Sound.{Chained}
+use Rattle.base.specs.Each.{Chained, All}
 use Rattle.lines.proofs.ValueLines.{value_in, value_high}
 use Rattle.model.specs.Model.{Opening}
-use Rattle.jobs.specs.Valid.{All}
-use Rattle.jobs.proofs.Lists.{each_chained}
+use Rattle.base.proofs.Lists.{each_chained}
 use Rattle.covers.specs.Grammar.{Cover, other, holder, holders, inside, cover}
 use Rattle.covers.specs.Rendering.{cover_text}
 use Rattle.quotes.specs.Grammar.{Quote, single, pair, at_least, unless_low, quote}

@@ -6,7 +6,7 @@ use Rattle.lines.specs.Parser.{accepted, refused, finish, whole}
 use Rattle.model.specs.Model.{Opening}
 use Rattle.model.specs.Limits.{last_step, dearest, most_openings, most_parts}
 use Rattle.model.specs.Windows.{Rising}
-use Rattle.jobs.specs.Valid.{All}
+use Rattle.base.specs.Each.{All}
 use Rattle.job_grammar.specs.Grammar.{JobText, idle_in, job_lines, read_job_text}
 use Rattle.job_grammar.specs.Faults.{last_fault}
 use Rattle.part_lines.specs.Grammar.{PartText}

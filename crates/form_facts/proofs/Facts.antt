@@ -15,7 +15,7 @@ use lib.Seq.{drop-drop, get_or-drop}
 use Rattle.std.specs.List.{list_all, sum_by}
 use Rattle.std.proofs.lemmas.List.Recursion.{is_sum_by}
 use Rattle.model.specs.Model.{Opening}
-use Rattle.jobs.specs.Valid.{All}
+use Rattle.base.specs.Each.{All}
 use Rattle.covers.specs.Grammar.{Cover}
 use Rattle.quotes.specs.Grammar.{Quote, single, pair}
 use Rattle.quotes.specs.Views.{quote_of}

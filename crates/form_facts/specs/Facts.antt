@@ -5,7 +5,7 @@
 use Rattle.std.specs.Prelude.{ℕ, zero, suc, ◌+◌, ◌-◌, ◌*◌, ◌≤◌, ◌≡◌, Bool, true, ◌&&◌, cond, List, [], ◌∷◌, ◌++◌, length, get_or, take, drop, leb, eqb, Option, None, Some}
 use Rattle.lines.specs.Text.{line_of, texts}
 use Rattle.model.specs.Model.{Opening}
-use Rattle.jobs.specs.Valid.{All}
+use Rattle.base.specs.Each.{All}
 use Rattle.covers.specs.Grammar.{Cover}
 use Rattle.quotes.specs.Grammar.{Quote, single, pair}
 use Rattle.price_rules.specs.Rule.{Rule}

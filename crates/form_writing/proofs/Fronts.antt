@@ -7,7 +7,7 @@ use native.Mathlib.Omega.{arith}
 use lib.Dec.{eqb}
 use lib.ListN.{length, get_or, take}
 use lib.Seq.{length-take-le}
-use Rattle.jobs.specs.Valid.{All}
+use Rattle.base.specs.Each.{All}
 use Rattle.form_facts.specs.Facts.{PartLists, sum_all, Marked, PartsAgree}
 use Rattle.form_facts.proofs.Facts.{marks_few, sum_part}
 use Rattle.form_writing.specs.Fronts.{listed_first, pairs_first, FirstCover, FirstPrices}

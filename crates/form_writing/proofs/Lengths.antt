@@ -12,7 +12,7 @@ use lib.Dec.{leb}
 use lib.ListN.{length, drop, length-append, length-take}
 use Rattle.lines.specs.Text.{bytes, line_of, texts, optional_text}
 use Rattle.model.specs.Model.{Opening}
-use Rattle.jobs.specs.Valid.{All}
+use Rattle.base.specs.Each.{All}
 use Rattle.covers.specs.Grammar.{Cover}
 use Rattle.quotes.specs.Grammar.{Quote}
 use Rattle.price_rules.specs.Rule.{Rule}

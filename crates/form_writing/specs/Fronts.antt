@@ -1,6 +1,6 @@
 -- The first part of lists that agree, and the lists behind it.
 use Rattle.std.specs.Prelude.{ℕ, ◌≤◌, ◌≡◌, cond, length, get_or, take, drop, eqb, None, Some}
-use Rattle.jobs.specs.Valid.{All}
+use Rattle.base.specs.Each.{All}
 use Rattle.price_rules.specs.Rule.{Rule}
 use Rattle.price_rules.specs.Grammar.{by_list, by_rule_lem}
 use Rattle.part_lines.specs.Grammar.{PartText}

@@ -14,9 +14,9 @@ use Rattle.branch.specs.declared.Bound.TheVariants.{Missing, Sum}
 use Rattle.branch.specs.Search.{snoc}
 use Rattle.branch.proofs.Bounds.{no_sum_lem}
 use Rattle.model.specs.Model.{Job}
-use Rattle.walk.specs.declared.Search.{Search}
-use Rattle.walk.specs.State.{open_s}
-use Rattle.walk.proofs.Trees.{DueAt}
+use Rattle.search_state.specs.declared.Search.{Search}
+use Rattle.search_state.specs.State.{open_s}
+use Rattle.search_state.proofs.Trees.{DueAt}
 use Rattle.hall_model.specs.Hall.{Hall, Placed, open_at}
 use Rattle.hall_model.specs.Agenda.{crew, agenda_of}
 use Rattle.hall_model.specs.LowerBound.{hall_bound}

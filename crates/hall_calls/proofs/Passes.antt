@@ -18,7 +18,7 @@ use Rattle.model.specs.LowerBound.{bound_of}
 use Rattle.lane_rows.specs.Tables.{sum_where}
 use Rattle.held_rows.specs.Held.{SheetOf, held_bound}
 use Rattle.held_rows.proofs.Sheets.{held_bound_lem}
-use Rattle.walk.specs.State.{no_cost, open_s}
+use Rattle.search_state.specs.State.{no_cost, open_s}
 use Rattle.held_nodes.proofs.Root.{fresh}
 use Rattle.hall_model.specs.Hall.{Hall}
 use Rattle.hall_model.specs.Agenda.{Line, name_for}

@@ -13,7 +13,7 @@ use hall_lines::{LineRows, line_no};
 use hall_moves::own_sums;
 use hall_state::{Branch, Ground, Question, Spot};
 use hall_steps::{is_open, openings_before};
-use walk::{NO_COST, Search};
+use search_state::{NO_COST, Search};
 
 // The line at place d passes the step without a stop, if its own node below has a bound: the hall's estimate then.
 pub fn line_passes(

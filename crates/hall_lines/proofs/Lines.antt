@@ -25,10 +25,10 @@ use Rattle.held_lanes.specs.Places.{most_to, top_place, classes_place, need_lane
 use Rattle.held_lanes.specs.Tables.{TermAsks, term_of}
 use Rattle.held_stops.specs.Stops.{stop_lane, LooksAtStop, SettleAsks, StopPut, StopNoted}
 use Rattle.held_stops.proofs.Names.{no_joined, stop_joined}
-use Rattle.walk.specs.declared.Search.{Search}
-use Rattle.walk.specs.State.{no_cost, open_s}
-use Rattle.walk.proofs.Nodes.{mask_fits}
-use Rattle.walk.proofs.Trees.{DueAt, where_there, opened}
+use Rattle.search_state.specs.declared.Search.{Search}
+use Rattle.search_state.specs.State.{no_cost, open_s}
+use Rattle.search_state.proofs.States.{mask_fits}
+use Rattle.search_state.proofs.Trees.{DueAt, where_there, opened}
 use Rattle.held_nodes.specs.State.{no_n, yes_n, stays_n, out_n, tree_at, At, Frame, NodeSettled}
 use Rattle.held_nodes.proofs.Given.{sums_low, stop_most}
 use Rattle.held_nodes.proofs.Frames.{at_kept}

@@ -8,8 +8,8 @@ use Rattle.lane_rows.specs.Layout.{fee_place}
 use Rattle.lane_rows.specs.Tables.{sum_where}
 use Rattle.held_rows.specs.Held.{HeldSheet, held, held_bound}
 use Rattle.held_lanes.specs.Places.{top_place, removal_place}
-use Rattle.walk.specs.declared.Search.{Search}
-use Rattle.walk.specs.State.{open_s}
+use Rattle.search_state.specs.declared.Search.{Search}
+use Rattle.search_state.specs.State.{open_s}
 use Rattle.held_nodes.specs.declared.Node.{Node}
 use Rattle.held_nodes.specs.State.{best_in}
 use Rattle.hall_nodes.specs.Lines.{Slot, Given, Goes, SlotKept, no_blocks_lem, yes_blocks}

@@ -1,7 +1,7 @@
 // What a line's node below is tested by.
 ghost use Rattle.hall_lines.specs.Room.{roomy};
 
-use walk::Search;
+use search_state::Search;
 
 // How a node below of one line is tested: the most nodes, the hall's estimate without the line's part sums and term, and the search so far.
 #[derive(Clone, Copy)]

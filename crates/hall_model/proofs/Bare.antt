@@ -12,7 +12,7 @@ use Rattle.branch.specs.Search.{Before, here}
 use Rattle.branch.proofs.First.{asym}
 use Rattle.model.specs.Model.{Job, Plan, out_at, cost_of_lem, Each, KeepsLives}
 use Rattle.model.specs.Decisions.{of_holders, block_of, plan_blocks, decisions_of, changed_at_lem}
-use Rattle.model.proofs.Bools.{inside}
+use Rattle.base.proofs.Bools.{inside}
 use Rattle.model.proofs.Lists.{table-length, table_at}
 use Rattle.model.proofs.Nodes.{each_table}
 use Rattle.model.proofs.BestPlans.{without, before_off, unstopped}

@@ -12,7 +12,7 @@ use Rattle.model.specs.Model.{Job, listed, sum, Each}
 use Rattle.model.specs.Windows.{Rising}
 use Rattle.model.specs.Decisions.{concat}
 use Rattle.model.specs.LowerBound.{inner}
-use Rattle.model.proofs.Bools.{or_split, or_right}
+use Rattle.base.proofs.Bools.{or_split, or_right}
 use Rattle.model.proofs.Blocks.{Whole, Wholes}
 use Rattle.model.specs.Published.{at_step}
 use Rattle.hall_model.specs.Hall.{Placed, open_at, sum_of}

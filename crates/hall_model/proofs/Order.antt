@@ -9,7 +9,7 @@ use lib.ListN.{length, get_or}
 use Rattle.branch.specs.Search.{Before, here, there}
 use Rattle.model.specs.Model.{Job, Each}
 use Rattle.model.specs.Decisions.{concat}
-use Rattle.model.proofs.Bools.{or_cases, or_left, or_right}
+use Rattle.base.proofs.Bools.{or_cases, or_left, or_right}
 use Rattle.model.proofs.BestPlans.{before_append}
 use Rattle.model.specs.LowerBound.{inner}
 use Rattle.hall_model.specs.Hall.{open_at}

@@ -13,7 +13,7 @@ use Rattle.model.specs.Windows.{Rising, steps_of}
 use Rattle.model.specs.Published.{at_step}
 use Rattle.model.specs.Decisions.{block_of, plan_blocks, concat, decisions_of}
 use Rattle.model.specs.LowerBound.{inner, bound_of}
-use Rattle.model.proofs.Bools.{or_split, or_left, or_right}
+use Rattle.base.proofs.Bools.{or_split, or_left, or_right}
 use Rattle.model.proofs.Lists.{table-length}
 use Rattle.model.proofs.Blocks.{Whole, Wholes}
 use Rattle.model.proofs.Bounded.{node_wholes, full_bound}

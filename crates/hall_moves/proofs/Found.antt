@@ -14,8 +14,8 @@ use Rattle.branch.specs.Search.{snoc}
 use Rattle.lane_rows.specs.Layout.{fee_place}
 use Rattle.lane_rows.specs.Tables.{sum_where}
 use Rattle.held_lanes.specs.Places.{removal_place}
-use Rattle.walk.specs.declared.Search.{Search}
-use Rattle.walk.specs.State.{open_s}
+use Rattle.search_state.specs.declared.Search.{Search}
+use Rattle.search_state.specs.State.{open_s}
 use Rattle.hall_model.specs.Hall.{Hall}
 use Rattle.hall_model.specs.Agenda.{line, agenda_of, lines_of}
 use Rattle.hall_model.specs.Steps.{Asks, Stands}

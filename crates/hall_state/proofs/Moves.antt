@@ -13,9 +13,9 @@ use Rattle.branch.proofs.Bounds.{sum_inj}
 use Rattle.model.specs.Limits.{last_step}
 use Rattle.model.specs.Decisions.{concat}
 use Rattle.held_rows.specs.Held.{held_bound}
-use Rattle.walk.specs.declared.Search.{Search}
-use Rattle.walk.specs.State.{open_s}
-use Rattle.walk.proofs.Trees.{DueAt}
+use Rattle.search_state.specs.declared.Search.{Search}
+use Rattle.search_state.specs.State.{open_s}
+use Rattle.search_state.proofs.Trees.{DueAt}
 use Rattle.hall_model.specs.Hall.{Hall}
 use Rattle.hall_model.specs.Agenda.{line, agenda_of}
 use Rattle.hall_model.specs.LowerBound.{hall_bound}

@@ -3,9 +3,9 @@ use Rattle.std.specs.Prelude.{ℕ, ◌+◌, ◌-◌, ◌*◌, ◌<◌, ◌≤◌
 use Rattle.branch.specs.declared.Bound.{Bound}
 use Rattle.branch.specs.declared.Bound.TheVariants.{Missing, Sum}
 use Rattle.branch.specs.Search.{Tree, snoc, limited}
-use Rattle.walk.specs.declared.Search.{Search}
-use Rattle.walk.specs.State.{view_of, open_s}
-use Rattle.walk.proofs.Trees.{DueAt}
+use Rattle.search_state.specs.declared.Search.{Search}
+use Rattle.search_state.specs.State.{view_of, open_s}
+use Rattle.search_state.proofs.Trees.{DueAt}
 use Rattle.hall_model.specs.Hall.{Hall}
 use Rattle.hall_model.specs.Limits.{Fits}
 use Rattle.hall_model.specs.LowerBound.{hall_bound}

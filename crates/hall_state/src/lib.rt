@@ -6,7 +6,7 @@ ghost use Rattle.hall_state.specs.Spots.{line_spot, stop_spot, call_spot};
 
 use hall_lines::{LineTables, Stop};
 use hall_steps::CrewSteps;
-use walk::Search;
+use search_state::Search;
 
 // What the walk only reads: each line's tables, and the crew's steps.
 // Kept as four lines, of which the hall has as many as the crew's steps say: no heap, fixed memory.

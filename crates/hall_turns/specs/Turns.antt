@@ -1,6 +1,6 @@
 -- What the walk's turns leave: the incumbent kept of each line.
 use Rattle.std.specs.Prelude.{ℕ, ◌<◌, ◌≡◌, Bool, List, length, get_or}
-use Rattle.least.specs.Filled.{FilledBy}
+use Rattle.base.specs.Filled.{FilledBy}
 use Rattle.held_lanes.specs.Places.{removed_place, best_place}
 use Rattle.hall_model.specs.Hall.{Hall}
 use Rattle.hall_lines.specs.declared.LineTables.{LineTables}

@@ -11,12 +11,12 @@ use lib.Dec.{ltb, eqb}
 use lib.ListN.{length, get_or}
 use Rattle.branch.specs.declared.Bound.TheVariants.{Sum}
 use Rattle.branch.specs.Search.{Tree, Limited, snoc, limited, onward}
-use Rattle.least.specs.Filled.{FilledBy}
+use Rattle.base.specs.Filled.{FilledBy}
 use Rattle.held_rows.specs.Held.{HeldSheet}
 use Rattle.held_lanes.specs.Places.{removed_place, best_place}
-use Rattle.walk.specs.declared.Search.{Search}
-use Rattle.walk.specs.State.{view_of, counted_s, kept_s, reached_s, open_s}
-use Rattle.walk.proofs.Trees.{closed, opened}
+use Rattle.search_state.specs.declared.Search.{Search}
+use Rattle.search_state.specs.State.{view_of, counted_s, kept_s, reached_s, open_s}
+use Rattle.search_state.proofs.Trees.{closed, opened}
 use Rattle.hall_model.specs.Hall.{Hall}
 use Rattle.hall_model.specs.Agenda.{Agenda, lines_of}
 use Rattle.hall_model.specs.LowerBound.{hall_bound}

@@ -2,9 +2,9 @@
 use Rattle.std.specs.Prelude.{ℕ, ◌+◌, ◌≡◌, Bool, List, Option, Some, None, length}
 use Rattle.branch.specs.declared.Bound.{Bound}
 use Rattle.branch.specs.declared.Bound.TheVariants.{Missing, Sum}
-use Rattle.walk.specs.declared.Search.{Search}
-use Rattle.walk.specs.State.{reached_s, open_s}
-use Rattle.walk.proofs.Trees.{DueAt}
+use Rattle.search_state.specs.declared.Search.{Search}
+use Rattle.search_state.specs.State.{reached_s, open_s}
+use Rattle.search_state.proofs.Trees.{DueAt}
 use Rattle.hall_model.specs.Hall.{Hall}
 use Rattle.hall_model.specs.Agenda.{Agenda}
 use Rattle.hall_model.specs.LowerBound.{hall_bound}

@@ -13,7 +13,7 @@ use hall_lines::LineRows;
 use hall_moves::{line_below, removal_below};
 use hall_state::{Branch, Ground, Question, Spot};
 use hall_turns::{arrive, close};
-use walk::Search;
+use search_state::Search;
 
 // The node below the question, where the answer is no, or where it is yes.
 pub fn below(ground: &Ground, rows: &mut [LineRows; 4], b: Branch) -> Option<Spot>

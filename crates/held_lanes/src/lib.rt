@@ -5,7 +5,7 @@
 #![tactic(auto)]
 
 ghost use Rattle.std.specs.Prelude.{◌≡◌, cond, ℕ, ◌+◌, ◌*◌, ◌^◌, ◌<◌, ◌≤◌, max, eqb, length, get_or};
-ghost use Rattle.least.specs.Filled.{FilledBy};
+ghost use Rattle.base.specs.Filled.{FilledBy};
 ghost use Rattle.lane_rows.specs.Layout.{lane_count_lem, lanes_in, row_place};
 ghost use Rattle.lane_rows.specs.Rows.{Turned, sum_lanes};
 ghost use Rattle.held_lanes.specs.Places.{mask_of, most_to, need_count_place, need_class_place, classes_place, last_place};
@@ -16,7 +16,7 @@ use least::MARKS;
 use model::{OPENINGS, PARTS};
 
 // The sets that four lanes have.
-const FOUR_SETS: usize = 16;
+pub const FOUR_SETS: usize = 16;
 
 // The tables for holders: the terms of the classes start at 0, and each other region where one of these constants says.
 

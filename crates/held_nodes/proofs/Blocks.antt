@@ -9,8 +9,8 @@ use lib.Dec.{eqb}
 use Rattle.model.proofs.Blocks.{Whole, Wholes}
 use Rattle.held_rows.specs.Held.{HeldSheet, held}
 use Rattle.held_rows.proofs.Seen.{wholes_more}
-use Rattle.walk.specs.State.{bits}
-use Rattle.walk.proofs.Nodes.{bits-length}
+use Rattle.search_state.specs.State.{bits}
+use Rattle.search_state.proofs.States.{bits-length}
 use Rattle.held_nodes.specs.State.{blocks_of, removals_in, Written}
 
 -- the same removals at each of k openings make the same blocks

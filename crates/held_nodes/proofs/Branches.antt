@@ -12,11 +12,11 @@ use Rattle.model.specs.Decisions.{concat}
 use Rattle.lane_rows.specs.Layout.{lane_count_lem, inf}
 use Rattle.lane_rows.specs.Rows.{Recalled}
 use Rattle.held_rows.specs.Held.{HeldSheet, held}
-use Rattle.walk.specs.declared.Search.{Search}
-use Rattle.walk.specs.State.{counted_s, reached_s, open_s}
+use Rattle.search_state.specs.declared.Search.{Search}
+use Rattle.search_state.specs.State.{counted_s, reached_s, open_s}
 use Rattle.held_nodes.specs.declared.Node.{Node}
 use Rattle.held_nodes.specs.State.{best_in, best_name, view, settled_n, written, tree_at, Pending, At, Frame, HeldWalked}
-use Rattle.walk.proofs.Trees.{DueAt, closed, opened}
+use Rattle.search_state.proofs.Trees.{DueAt, closed, opened}
 use Rattle.held_nodes.proofs.Frames.{frame_then, frame_looked, pended_kept, best_kept, at_kept}
 use Rattle.held_nodes.proofs.Settling.{Rests}
 

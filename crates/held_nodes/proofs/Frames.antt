@@ -6,7 +6,7 @@ use mathlib.Core.List.{List}
 use native.Mathlib.Omega.{arith}
 use lib.ListN.{length, get_or, set, length-set}
 use lib.Seq.{get_or-set_other}
-use Rattle.least.specs.Filled.{FilledBy}
+use Rattle.base.specs.Filled.{FilledBy}
 use Rattle.model.specs.Decisions.{concat}
 use Rattle.lane_rows.specs.Layout.{lane_count_lem, reach_base, price_place, lanes_in}
 use Rattle.lane_rows.specs.Rows.{Kept, Memo, Recalled}
@@ -15,8 +15,8 @@ use Rattle.held_rows.specs.Held.{HeldSheet, plain, held}
 use Rattle.held_rows.proofs.Rows.{rows_kept}
 use Rattle.held_lanes.specs.Places.{last_place, removed_place, best_place, pending_place, ready_place}
 use Rattle.held_stops.specs.Stops.{Pended}
-use Rattle.walk.specs.State.{view_of}
-use Rattle.walk.specs.declared.Search.{Search}
+use Rattle.search_state.specs.State.{view_of}
+use Rattle.search_state.specs.declared.Search.{Search}
 use Rattle.held_nodes.specs.declared.Node.{Node}
 use Rattle.held_nodes.specs.State.{removals_in, best_in, view, written, sees_at, Written, Pending, StopAt, OpenAt, At, Aside, Frame}
 use Rattle.held_nodes.proofs.Blocks.{blocks_same}

@@ -17,7 +17,7 @@ use Rattle.model.specs.Decisions.{concat}
 use Rattle.model.specs.LastYes.{last_yes}
 use Rattle.model.proofs.Blocks.{accessible_none}
 use Rattle.model.proofs.LastYes.{last_no}
-use Rattle.least.specs.Filled.{FilledBy}
+use Rattle.base.specs.Filled.{FilledBy}
 use Rattle.lane_rows.specs.Layout.{lane_count_lem, top, inf, suffix_base, fee_place, lanes_in}
 use Rattle.lane_rows.specs.Tables.{sum_where}
 use Rattle.lane_rows.specs.Rows.{lane, sum_lanes, Looks}
@@ -33,14 +33,14 @@ use Rattle.held_lanes.proofs.Sets.{bit_zero}
 use Rattle.held_lanes.proofs.Coded.{no_coded, yes_coded}
 use Rattle.held_stops.proofs.Children.{Told, no_told}
 use Rattle.held_stops.proofs.Names.{no_joined, stop_joined, opening_bound, no_bound, stop_bound_lem}
-use Rattle.walk.specs.declared.Search.{Search}
-use Rattle.walk.specs.State.{bits, no_cost, kept_s}
-use Rattle.walk.proofs.Nodes.{mask_next}
+use Rattle.search_state.specs.declared.Search.{Search}
+use Rattle.search_state.specs.State.{bits, no_cost, kept_s}
+use Rattle.search_state.proofs.States.{mask_next}
 use Rattle.held_nodes.specs.declared.Node.{Node}
 use Rattle.held_nodes.specs.State.{blocks_of, removals_in, best_in, view, no_n, yes_n, written, tree_at, sees_at, Written, At, HeldWalked}
 use Rattle.held_nodes.proofs.Blocks.{blocks_same, blocks_no, written_whole}
 use Rattle.held_nodes.proofs.Frames.{keep_frame}
-use Rattle.walk.proofs.Trees.{DueAt, due_there, due_where}
+use Rattle.search_state.proofs.Trees.{DueAt, due_there, due_where}
 use Rattle.held_nodes.proofs.Given.{coded_there, term_there, term_asks, looks_at}
 
 -- the blocks of the two

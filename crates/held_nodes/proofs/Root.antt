@@ -16,7 +16,7 @@ use Rattle.branch.proofs.Steps.{left_bound}
 use Rattle.model.specs.Model.{sum_at}
 use Rattle.model.specs.Decisions.{concat}
 use Rattle.model.specs.LastYes.{last_yes}
-use Rattle.least.specs.Filled.{FilledBy}
+use Rattle.base.specs.Filled.{FilledBy}
 use Rattle.lane_rows.specs.Layout.{lane_count_lem, top, inf, suffix_base, term_place, lanes_in}
 use Rattle.lane_rows.specs.Sheet.{Column, column_bound, column_fee, part_sums, fee_term}
 use Rattle.lane_rows.specs.Tables.{sum_where, Tables}
@@ -30,12 +30,12 @@ use Rattle.held_lanes.specs.Places.{offset, classes_place, last_place, aside_siz
 use Rattle.held_lanes.specs.Tables.{HeldTables}
 use Rattle.held_stops.proofs.Children.{bound_in}
 use Rattle.held_stops.proofs.Names.{opening_bound}
-use Rattle.walk.specs.declared.Search.{Search}
-use Rattle.walk.specs.State.{no_cost, over_s, solved_s}
+use Rattle.search_state.specs.declared.Search.{Search}
+use Rattle.search_state.specs.State.{no_cost, over_s, solved_s}
 use Rattle.held_nodes.specs.declared.Node.{Node}
 use Rattle.held_nodes.specs.State.{blocks_of, best_name, view, tree_at, At, HeldSolves}
-use Rattle.walk.proofs.Nodes.{found_is}
-use Rattle.walk.proofs.Trees.{DueAt, where_there}
+use Rattle.search_state.proofs.States.{found_is}
+use Rattle.search_state.proofs.Trees.{DueAt, where_there}
 use Rattle.held_nodes.proofs.Given.{sums_low}
 
 -- ---- nothing decided is as without holders

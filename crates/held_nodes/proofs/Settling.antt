@@ -16,7 +16,7 @@ use Rattle.held_lanes.specs.Places.{bit_at, last_place, removed_place, best_plac
 use Rattle.held_lanes.specs.Tables.{Lasts, NoteAsks, noted}
 use Rattle.held_stops.specs.Stops.{SettleAsks, StopPut, StopNoted}
 use Rattle.held_stops.proofs.Settled.{stop_settled, lasts_settled}
-use Rattle.walk.specs.State.{bits}
+use Rattle.search_state.specs.State.{bits}
 use Rattle.held_nodes.specs.declared.Node.{Node}
 use Rattle.held_nodes.specs.State.{blocks_of, removals_in, best_in, settled_n, written, sees_at, Written, Pending, StopAt, At, Aside, Frame, NodeSettled}
 use Rattle.held_nodes.proofs.Blocks.{blocks_same, blocks_stop}

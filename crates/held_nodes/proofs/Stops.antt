@@ -29,12 +29,12 @@ use Rattle.held_lanes.proofs.Coded.{stays_coded}
 use Rattle.held_stops.specs.Stops.{ShutSet, stop_lane, LooksAtStop}
 use Rattle.held_stops.proofs.Children.{bound_in, Told, stays_told}
 use Rattle.held_stops.proofs.Names.{stop_more, stop_joined, stop_bound_lem}
-use Rattle.walk.specs.State.{bits, no_cost}
-use Rattle.walk.proofs.Nodes.{bits-length, bits_no, bits_yes, mask_next}
+use Rattle.search_state.specs.State.{bits, no_cost}
+use Rattle.search_state.proofs.States.{bits-length, bits_no, bits_yes, mask_next}
 use Rattle.held_nodes.specs.declared.Node.{Node}
 use Rattle.held_nodes.specs.State.{stays_n, out_n, tree_at, StopAt, At}
 use Rattle.held_nodes.proofs.Blocks.{written_whole}
-use Rattle.walk.proofs.Trees.{DueAt, due_there, due_where}
+use Rattle.search_state.proofs.Trees.{DueAt, due_there, due_where}
 use Rattle.held_nodes.proofs.Given.{coded_there, term_asks, looks_stop}
 
 -- the blocks of the two

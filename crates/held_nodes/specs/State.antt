@@ -12,9 +12,9 @@ use Rattle.held_rows.specs.Rows.{SeenRows}
 use Rattle.held_lanes.specs.Places.{last_place, removed_place, best_place, pending_place, ready_place, aside_size}
 use Rattle.held_lanes.specs.Tables.{HeldTables, Lasts}
 use Rattle.held_stops.specs.Stops.{ShutSet, Pended, StopPut, StopNoted}
-use Rattle.walk.specs.declared.Search.{Search}
-use Rattle.walk.specs.declared.Solved.{Solved}
-use Rattle.walk.specs.State.{bits, view_of, found_as}
+use Rattle.search_state.specs.declared.Search.{Search}
+use Rattle.search_state.specs.declared.Solved.{Solved}
+use Rattle.search_state.specs.State.{bits, view_of, found_as}
 use Rattle.held_nodes.specs.declared.Node.{Node}
 
 -- ---- decisions in numbers

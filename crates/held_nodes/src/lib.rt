@@ -3,13 +3,13 @@
 #![tactic(auto)]
 
 ghost use Rattle.std.specs.Prelude.{◌≡◌, true, false, ℕ, ◌+◌, ◌-◌, ◌*◌, ◌^◌, ◌<◌, ◌≤◌, length, get_or};
-ghost use Rattle.least.specs.Filled.{FilledBy};
+ghost use Rattle.base.specs.Filled.{FilledBy};
 ghost use Rattle.lane_rows.specs.Layout.{lane_count_lem, inf, suffix_base, lanes_in};
 ghost use Rattle.lane_rows.specs.Tables.{sum_where};
 ghost use Rattle.lane_rows.specs.Rows.{lane, sum_lanes, Looks, Recalled};
 ghost use Rattle.held_lanes.specs.Places.{removed_place, best_place, aside_size};
 ghost use Rattle.held_stops.specs.Stops.{stop_lane, LooksAtStop, SettleAsks};
-ghost use Rattle.walk.specs.State.{open_s};
+ghost use Rattle.search_state.specs.State.{open_s};
 ghost use Rattle.held_nodes.specs.State.{no_n, yes_n, stays_n, out_n, NodeSettled};
 
 use branch::Bound;
@@ -17,7 +17,7 @@ use held_lanes::{ASIDE, BEST, HELD, REMOVED};
 use held_stops::{settle_stop, shut_sum};
 use lane_rows::{STACK, TABLES, look_by_fours};
 use model::OPENINGS;
-use walk::Search;
+use search_state::Search;
 
 // A node: how many openings are decided; the rows on the stack; how many removals of the last stop are decided, all of them where none is open; whether that stop is not settled yet; the lanes that it is
 // shut to and its removals, the latest in the lowest bit; fees and removals so far; and the stops, the latest in the lowest bit.
@@ -127,7 +127,7 @@ pub fn settle(
 }
 
 // The part sums of the no below an opening, if it is walked on: over the rows that are there, where j openings are decided.
-// Kept beside walk::Search::open_rows, which reads the term by the last mark: here it is the largest of the classes' and comes with the call, as both numbers h and x do for stay_sums. Kept as a cast here and in stay_sums: the library has no From for a usize, and a term is looked up by places.
+// Kept beside search_state::Search::open_rows, which reads the term by the last mark: here it is the largest of the classes' and comes with the call, as both numbers h and x do for stay_sums. Kept as a cast here and in stay_sums: the library has no From for a usize, and a term is looked up by places.
 pub fn no_sums(
     t: &[u32; TABLES],
     w: &mut [u32; STACK],

@@ -13,7 +13,7 @@ use mir.Facts.{to_z-of_z}
 use Rattle.model.specs.Decisions.{allows}
 use Rattle.model.specs.LowerBound.{offers, blocks}
 use Rattle.model.specs.Limits.{most_openings, most_parts}
-use Rattle.model.proofs.Bools.{after_one}
+use Rattle.base.proofs.Bools.{after_one}
 use Rattle.model.proofs.Offers.{offers_same}
 use Rattle.model.proofs.Blocks.{accessible_none}
 use Rattle.held_places.specs.Blocks.{Entries}

@@ -8,7 +8,7 @@ use native.Mathlib.Numerals.{add-one}
 use lib.ListN.{length, get_or, take, drop, replicate, length-take, length-drop, length-replicate, length-append, get_or-append}
 use lib.Seq.{drop-drop, get_or-drop}
 use Rattle.model.specs.LowerBound.{blocks}
-use Rattle.model.proofs.Bools.{there}
+use Rattle.base.proofs.Bools.{there}
 use Rattle.held_places.specs.Blocks.{first_or, block_long, Entries, rest_at}
 
 -- ---- one block

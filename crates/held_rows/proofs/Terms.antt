@@ -20,7 +20,7 @@ use Rattle.model.specs.Decisions.{accessible}
 use Rattle.model.specs.LowerBound.{least_of_lem, offers, undecided_fees}
 use Rattle.model.specs.LastYes.{last_yes, Climbs}
 use Rattle.model.proofs.LastYes.{last_yes_lem, last_alone, later_least}
-use Rattle.model.proofs.Integers.{AtMostℤ, at_most}
+use Rattle.base.proofs.Integers.{AtMostℤ, at_most}
 use Rattle.least.specs.Marks.{mark_of}
 use Rattle.lane_rows.specs.Sheet.{Column, Sheet, column_bound, column_fee}
 use Rattle.lane_rows.specs.Tables.{fee_from}

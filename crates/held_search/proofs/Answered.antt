@@ -17,7 +17,7 @@ use Rattle.model.specs.Model.{Job, Plan}
 use Rattle.model.specs.Decisions.{Held, held_parts}
 use Rattle.model.specs.LowerBound.{offers, blocks, stops_at, inner, part_choice_lem, bound_of, plan_at}
 use Rattle.model.specs.Promise.{cut, optimum, answered, answered_at, answer_of, searched}
-use Rattle.model.proofs.Bools.{there}
+use Rattle.base.proofs.Bools.{there}
 use Rattle.model.proofs.Offers.{offers-length}
 use Rattle.model.proofs.Bounded.{node_full, stops-length}
 use Rattle.model.proofs.Held.{held_at_lem}
@@ -33,8 +33,8 @@ use Rattle.held_places.specs.Changes.{places_of, lane_choice}
 use Rattle.held_places.proofs.Held.{opened, nodes_are, held_size_lem, choice_is}
 use Rattle.held_rows.specs.Held.{HeldSheet, held, held_bound, SheetOf}
 use Rattle.held_rows.proofs.Sheets.{held_bound_lem}
-use Rattle.walk.specs.State.{found_as}
-use Rattle.walk.specs.declared.Solved.{Solved}
+use Rattle.search_state.specs.State.{found_as}
+use Rattle.search_state.specs.declared.Solved.{Solved}
 use Rattle.jobs.specs.declared.Plan as code
 use Rattle.search.specs.Plan.{no_row}
 use Rattle.held_nodes.specs.State as stop

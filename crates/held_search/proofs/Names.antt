@@ -14,8 +14,8 @@ use Rattle.std.specs.Bool.{then_some}
 use Rattle.std.specs.Prelude.{Option}
 use Rattle.model.specs.Decisions.{concat}
 use Rattle.held_rows.proofs.Seen.{joined_more}
-use Rattle.walk.specs.State.{bits}
-use Rattle.walk.proofs.Nodes.{bits-length}
+use Rattle.search_state.specs.State.{bits}
+use Rattle.search_state.proofs.States.{bits-length}
 use Rattle.held_nodes.specs.State.{blocks_of}
 use Rattle.held_search.specs.Solved.{block_of, block_said}
 

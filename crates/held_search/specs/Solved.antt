@@ -8,8 +8,8 @@ use Rattle.jobs.specs.declared.Changes.{Changes}
 use Rattle.held_places.specs.Arrays.{prices_at}
 use Rattle.held_places.specs.Changes.{places_of, lane_choice}
 use Rattle.search.specs.Plan.{Rows}
-use Rattle.walk.specs.declared.Solved.{Solved}
-use Rattle.walk.specs.State.{bits, found_as}
+use Rattle.search_state.specs.declared.Solved.{Solved}
+use Rattle.search_state.specs.State.{bits, found_as}
 
 -- the most decisions that a name has: 64 openings, each with a stop and 16 removals
 abbrev pub name_size : ℕ

@@ -30,8 +30,8 @@ use part_classes::classes_of;
 use parts::Parts;
 use search::plan::changes_of;
 use search::{Found, found_by};
+use search_state::Solved;
 use search_tables::tables::offered;
-use walk::Solved;
 
 // The floor and the walk's last state. The tables stand on the stack of this call; the incumbent's removals are in v from BEST on.
 fn walked(numbers: &HeldNumbers, limit: u64, tab: &mut [u64; TABLE], v: &mut [u32; ASIDE]) -> Solved

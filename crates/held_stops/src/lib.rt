@@ -5,7 +5,7 @@
 
 ghost use Rattle.std.specs.Prelude.{◌≡◌, ◌+◌, ◌*◌, ◌^◌, ◌<◌, ◌≤◌, length, get_or};
 ghost use Rattle.model.specs.Limits.{most_openings};
-ghost use Rattle.least.specs.Filled.{FilledBy};
+ghost use Rattle.base.specs.Filled.{FilledBy};
 ghost use Rattle.lane_rows.specs.Layout.{lanes_in};
 ghost use Rattle.lane_rows.specs.Rows.{sum_lanes, Looks, Recalled, Put, Memo, Owing, next_row};
 ghost use Rattle.held_lanes.specs.Places.{pending_place, ready_place};

@@ -4,7 +4,7 @@ use mathlib.Core.Path.{◌≡◌, refl, subst}
 use mathlib.Core.Bool.{Bool, true, false, cond}
 use mathlib.Core.List.{List}
 use mir.Val.{bool_byte}
-use Rattle.least.specs.Filled.{Filled}
+use Rattle.base.specs.Filled.{Filled}
 
 -- as many places as there are
 pub filled_all : {place : ℕ → ℕ} {Right : ℕ → ℕ → Type 0} {i n : ℕ} {t u : List ℕ} → Filled place Right i t u → i ≡ n → Filled place Right n t u

@@ -7,7 +7,7 @@ use native.Mathlib.Omega.{arith}
 use lib.ListN.{length, get_or, set, length-set}
 use lib.Seq.{get_or-set_same, get_or-set_other}
 use lib.IntN.{ℤ}
-use Rattle.least.specs.Filled.{Filled, FilledBy}
+use Rattle.base.specs.Filled.{Filled, FilledBy}
 use Rattle.lane_rows.specs.Layout.{lane_count_lem, mark_count, top, block_size}
 use Rattle.lane_rows.specs.Tables.{Coded}
 use Rattle.lane_rows.proofs.Rising.{row_inside}

@@ -13,7 +13,7 @@ use Rattle.branch.specs.declared.Bound.{Bound}
 use Rattle.branch.specs.declared.Bound.TheVariants.{Sum}
 use Rattle.branch.specs.Lower.{larger, largest}
 use Rattle.branch.proofs.Lower.{largest_snoc}
-use Rattle.least.specs.Filled.{FilledBy}
+use Rattle.base.specs.Filled.{FilledBy}
 use Rattle.least.specs.Marks.{mark_of}
 use Rattle.least.specs.Suffix.{code_of}
 use Rattle.least.proofs.Most.{most_least}

@@ -12,7 +12,7 @@ use Rattle.model.specs.Model.{Job}
 use Rattle.model.specs.Decisions.{Held, held_at}
 use Rattle.model.specs.LastYes.{Climbs}
 use Rattle.model.specs.Verdict.{part_at}
-use Rattle.model.proofs.Bools.{there}
+use Rattle.base.proofs.Bools.{there}
 use Rattle.lane_rows.specs.Layout.{lanes_in}
 use Rattle.lane_rows.specs.Sheet.{Column, no_column}
 use Rattle.lane_rows.specs.Tables.{Alike, Tables}

@@ -6,7 +6,7 @@ pub mod numbers;
 mod terms;
 
 ghost use Rattle.std.specs.Prelude.{◌≡◌, ℕ, ◌+◌, ◌<◌, ◌≤◌, length, get_or, set};
-ghost use Rattle.least.specs.Filled.{FilledBy};
+ghost use Rattle.base.specs.Filled.{FilledBy};
 ghost use Rattle.least.specs.Suffix.{table_size};
 ghost use Rattle.lane_rows.specs.Layout.{lane_count_lem};
 ghost use Rattle.held_lanes.specs.Places.{mask_of, mask_base, lead_place, classes_place, holds_place};
@@ -15,7 +15,7 @@ ghost use Rattle.part_classes.specs.Grouped.{grouping, Grouped};
 ghost use Rattle.held_tables.specs.Numbers.{sheet_with};
 ghost use Rattle.held_tables.specs.Fill.{Before, Closed};
 
-use held_lanes::{CLASSES, HELD, HOLDS, LEADS, MASKS};
+use held_lanes::{CLASSES, FOUR_SETS, HELD, HOLDS, LEADS, MASKS};
 use lane_rows::INF;
 use needs::put_needs;
 use numbers::HeldNumbers;
@@ -44,7 +44,7 @@ fn masks_of(set: usize) -> [u32; 4]
 fn put_masks(u: &mut [u32; HELD])
     ensures { Masks u.new × Before mask_base u.old u.new }
 {
-    for set in 0..16 {
+    for set in 0..FOUR_SETS {
         put_at(u, MASKS + set * 4, &masks_of(set));
     }
 }

@@ -1,6 +1,6 @@
 // Who needs each holding part: its lanes as a set, and its classes as a list; and what its removal costs.
 ghost use Rattle.std.specs.Prelude.{◌≡◌, ◌<◌};
-ghost use Rattle.least.specs.Filled.{Filled};
+ghost use Rattle.base.specs.Filled.{Filled};
 ghost use Rattle.lane_rows.specs.Layout.{lane_count_lem};
 ghost use Rattle.held_lanes.specs.Places.{need_lanes_place};
 ghost use Rattle.part_classes.specs.Grouped.{need_at};

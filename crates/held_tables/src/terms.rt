@@ -1,6 +1,6 @@
 // The terms by classes: for each number of decided openings, each mark and each class, the largest over its parts of the least fee of what is undecided.
 ghost use Rattle.std.specs.Prelude.{◌≡◌, ℕ, ◌+◌, ◌≤◌, length, get_or};
-ghost use Rattle.least.specs.Filled.{FilledBy};
+ghost use Rattle.base.specs.Filled.{FilledBy};
 ghost use Rattle.least.specs.Suffix.{table_size};
 ghost use Rattle.lane_rows.specs.Layout.{lane_count_lem};
 ghost use Rattle.search_tables.specs.Flat.{sheet_in};

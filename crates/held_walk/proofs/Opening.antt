@@ -17,9 +17,9 @@ use Rattle.held_rows.specs.Held.{HeldSheet, held}
 use Rattle.held_lanes.specs.Places.{most_to, classes_place, top_place, ready_place, best_place}
 use Rattle.held_lanes.specs.Tables.{TermAsks, term_of}
 use Rattle.held_stops.proofs.Children.{Told}
-use Rattle.walk.specs.declared.Search.{Search}
-use Rattle.walk.specs.State.{counted_s, open_s, reached_s}
-use Rattle.walk.proofs.Trees.{DueAt, where_there, opened}
+use Rattle.search_state.specs.declared.Search.{Search}
+use Rattle.search_state.specs.State.{counted_s, open_s, reached_s}
+use Rattle.search_state.proofs.Trees.{DueAt, where_there, opened}
 use Rattle.held_nodes.specs.declared.Node.{Node}
 use Rattle.held_nodes.specs.State.{best_name, no_n, yes_n, written, tree_at, At, Frame, HeldWalked}
 use Rattle.held_nodes.proofs.Frames.{ready_frame, at_kept}

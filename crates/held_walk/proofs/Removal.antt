@@ -18,9 +18,9 @@ use Rattle.held_lanes.specs.Places.{most_to, need_lanes_place, need_class_place,
 use Rattle.held_lanes.specs.Tables.{TermAsks, term_of}
 use Rattle.held_stops.specs.Stops.{stop_lane, LooksAtStop}
 use Rattle.held_stops.proofs.Children.{Told}
-use Rattle.walk.specs.declared.Search.{Search}
-use Rattle.walk.specs.State.{counted_s, open_s, reached_s}
-use Rattle.walk.proofs.Trees.{DueAt, where_there, opened}
+use Rattle.search_state.specs.declared.Search.{Search}
+use Rattle.search_state.specs.State.{counted_s, open_s, reached_s}
+use Rattle.search_state.proofs.Trees.{DueAt, where_there, opened}
 use Rattle.held_nodes.specs.declared.Node.{Node}
 use Rattle.held_nodes.specs.State.{best_name, stays_n, out_n, written, tree_at, At, HeldWalked}
 use Rattle.held_nodes.proofs.Frames.{aside_none, at_kept}

@@ -4,7 +4,7 @@
 #![tactic(auto)]
 
 ghost use Rattle.std.specs.Prelude.{◌≡◌, false, List, Bool, ℕ, ◌+◌, ◌-◌, ◌^◌, ◌<◌, ◌≤◌, length, get_or};
-ghost use Rattle.least.specs.Filled.{FilledBy};
+ghost use Rattle.base.specs.Filled.{FilledBy};
 ghost use Rattle.lane_rows.specs.Layout.{lane_count_lem};
 ghost use Rattle.lane_rows.specs.Tables.{Tables};
 ghost use Rattle.held_rows.specs.Held.{HeldSheet, held, plain, Classed};
@@ -19,7 +19,7 @@ use held_lanes::{
 };
 use held_nodes::{Node, keep, no_sums, settle, stay_sums};
 use lane_rows::{COUNT, FEES, STACK, TABLES, base_row, cell, first_sums, term};
-use walk::{NO_COST, Search, Solved};
+use search_state::{NO_COST, Search, Solved};
 
 // Walks on from the node p, which is counted and not dropped, with part sums x and term g: at a stop whose removals are not all decided by the next of them; else, once the stop is settled, by the next opening, unless the node is full.
 #[cycle(walk)]

@@ -8,12 +8,13 @@ use lib.ListN.{length, length-map}
 use Rattle.lines.specs.Text.{bytes, line_of, texts, optional_text}
 use Rattle.lines.specs.Parser.{good, Outcome, accepted, refused, return, row, optional, if_present, checked, rising}
 use Rattle.lines.proofs.Outcomes.{one_value, not_both}
-use Rattle.lines.proofs.Sound.{Told, Tells, Rises, rising_tells, bind_inv, Optionally, optional_inv, row_sound, chain_sound, row_gives, Chained, chain_gives, accepted_is}
+use Rattle.lines.proofs.Sound.{Told, Tells, Rises, rising_tells, bind_inv, Optionally, optional_inv, row_sound, chain_sound, row_gives, chain_gives, accepted_is}
+use Rattle.base.specs.Each.{Chained, All}
 use Rattle.model.specs.Model.{Opening}
 use Rattle.model.specs.Windows.{Rising, steps_of}
 use Rattle.job_grammar.specs.Grammar.{JobText, Given, idle_in, meant, idle, idle_steps_lem, idles, opening, openings, parts, body, rest, job_lines, max_bytes, read_job_text, meaning, read_job_lem}
 use Rattle.job_grammar.specs.Rendering.{idles_text, opening_text, body_text, job_text_lem}
-use Rattle.jobs.specs.Valid.{All, ValidOpening, ValidPart, HeldFrom, ValidJob}
+use Rattle.jobs.specs.Valid.{ValidOpening, ValidPart, HeldFrom, ValidJob}
 use Rattle.part_lines.specs.Grammar.{PartText, meant_part, part, following}
 use Rattle.part_lines.specs.Rendering.{part_text}
 use Rattle.part_lines.specs.Valid.{Spelt, KnownPart}

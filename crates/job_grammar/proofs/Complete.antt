@@ -12,11 +12,11 @@ use Rattle.lines.specs.Line.{starts_with}
 use Rattle.lines.specs.Text.{bytes, line, line_of, texts, optional_text}
 use Rattle.lines.specs.Parser.{good, accepted, return, row, optional, if_present, checked, chain, rising}
 use Rattle.lines.proofs.Parsing.{bind_good, optional_missing}
-use Rattle.lines.proofs.Sound.{Chained}
+use Rattle.base.specs.Each.{Chained, All}
 use Rattle.lines.proofs.Complete.{Complete, row_complete, rising_complete, optional_present, chain_complete, text_complete}
 use Rattle.model.specs.Model.{Opening}
 use Rattle.model.specs.Windows.{Rising, steps_of}
-use Rattle.jobs.specs.Valid.{All, ValidOpening}
+use Rattle.jobs.specs.Valid.{ValidOpening}
 use Rattle.part_lines.specs.Grammar.{PartText, meant_part, part, following}
 use Rattle.part_lines.specs.Rendering.{part_text}
 use Rattle.part_lines.specs.Valid.{KnownPart}

@@ -6,9 +6,11 @@ use mathlib.Core.List.{List, [], ◌∷◌, ◌++◌, map}
 use native.Mathlib.Omega.{arith}
 use native.Mathlib.Numerals.{add-one}
 use lib.ListN.{length, length-append, length-map}
-use Rattle.lines.specs.Text.{bytes, decimal_in, line, line_of, texts, optional_text, joined}
-use Rattle.lines.proofs.Sound.{Chained}
-use Rattle.lines.proofs.Writing.{line_short, joined_grows}
+use Rattle.lines.specs.Text.{bytes, decimal_in, line, line_of, texts, optional_text}
+use Rattle.base.specs.Joined.{joined}
+use Rattle.base.specs.Each.{Chained}
+use Rattle.lines.proofs.Writing.{line_short}
+use Rattle.base.proofs.Joined.{joined_grows}
 use Rattle.lines.proofs.Texts.{rising_room}
 use Rattle.model.specs.Model.{Opening}
 use Rattle.model.specs.Windows.{Rising}

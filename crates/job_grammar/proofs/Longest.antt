@@ -12,7 +12,8 @@ use lib.ListN.{length, replicate}
 use Rattle.lines.specs.Text.{bytes, decimal_in, line}
 use Rattle.model.specs.Model.{Opening}
 use Rattle.model.specs.Windows.{Rising, steps_of}
-use Rattle.jobs.specs.Valid.{All, ValidOpening, ValidHolders, ValidPart, HeldFrom}
+use Rattle.base.specs.Each.{All}
+use Rattle.jobs.specs.Valid.{ValidOpening, ValidHolders, ValidPart, HeldFrom}
 use Rattle.covers.specs.Rendering.{cover_text}
 use Rattle.covers.specs.Views.{meant_cover}
 use Rattle.part_lines.specs.Grammar.{PartText, meant_part}

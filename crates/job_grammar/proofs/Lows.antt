@@ -6,7 +6,8 @@ use native.Mathlib.Omega.{arith}
 use lib.ListN.{length, length-map}
 use Rattle.model.specs.Model.{Part, Each}
 use Rattle.bands.specs.Bands.{unpriced_part, PricesUpTo}
-use Rattle.jobs.specs.Valid.{All, ValidPart, HeldFrom, ValidJob}
+use Rattle.base.specs.Each.{All}
+use Rattle.jobs.specs.Valid.{ValidPart, HeldFrom, ValidJob}
 use Rattle.price_rules.proofs.Prices.{low_length, low_valid, low_to_high}
 use Rattle.part_lines.specs.Grammar.{PartText, meant_part, low_part_lem}
 use Rattle.part_lines.specs.Valid.{Spelt}

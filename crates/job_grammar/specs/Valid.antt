@@ -2,7 +2,8 @@
 use Rattle.std.specs.Prelude.{ℕ, ◌≤◌, List, length, Option, Some, None}
 use Rattle.model.specs.Limits.{most_walk}
 use Rattle.bands.specs.Bands.{UpTo}
-use Rattle.jobs.specs.Valid.{All, ValidJob}
+use Rattle.base.specs.Each.{All}
+use Rattle.jobs.specs.Valid.{ValidJob}
 use Rattle.part_lines.specs.Valid.{Spelt}
 use Rattle.job_grammar.specs.Grammar.{JobText, Given, meant}
 

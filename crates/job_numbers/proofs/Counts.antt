@@ -13,10 +13,11 @@ use Rattle.model.specs.Model as model
 use Rattle.model.specs.Model.{fee_of}
 use Rattle.model.specs.Verdict.{no_part}
 use Rattle.model.specs.Limits.{last_position, longest_life, dearest, most_openings, most_parts}
-use Rattle.model.proofs.Bools.{there}
+use Rattle.base.proofs.Bools.{there}
 use Rattle.model.proofs.Lists.{table-length, table_at}
 use Rattle.jobs.specs.Views.{opening_of, job_of}
-use Rattle.jobs.specs.Valid.{All, ValidOpening, ValidPrice, ValidPart, ValidJob}
+use Rattle.base.specs.Each.{All}
+use Rattle.jobs.specs.Valid.{ValidOpening, ValidPrice, ValidPart, ValidJob}
 use Rattle.jobs.specs.declared.Job.{Job}
 use Rattle.jobs.proofs.Jobs.{blank_opening, opening_count_lem2, part_count, seen_count, valid_parts}
 use Rattle.clock.proofs.Places.{place_count}

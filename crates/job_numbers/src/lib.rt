@@ -5,7 +5,7 @@ ghost use Rattle.std.specs.Prelude.{◌≡◌, map, ℕ, ◌+◌, ◌≤◌, ◌
 ghost use Rattle.model.specs.Limits.{dearest, most_parts};
 ghost use Rattle.model.specs.Model.{fee_of};
 ghost use Rattle.jobs.specs.Views.{job_of};
-ghost use Rattle.least.specs.Filled.{FilledBy};
+ghost use Rattle.base.specs.Filled.{FilledBy};
 ghost use Rattle.job_numbers.specs.Laid.{life_of_lem, left_of, Laid, prices_with, Charged, Numbered};
 
 use clock::{Positions, positions_of};

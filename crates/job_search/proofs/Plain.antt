@@ -15,7 +15,7 @@ use Rattle.model.proofs.Unheld.{same_answer}
 use Rattle.jobs.specs.Views.{job_of}
 use Rattle.jobs.specs.Valid.{ValidJob}
 use Rattle.jobs.specs.declared.Job.{Job}
-use Rattle.jobs.proofs.Lists.{map_at}
+use Rattle.base.proofs.Lists.{map_at}
 use Rattle.jobs.proofs.Jobs.{opening_count_lem2, part_count}
 use Rattle.clock.proofs.Places.{places_are}
 use Rattle.coming_out.specs.Places.{Removals}

@@ -7,8 +7,8 @@ use native.Mathlib.Omega.{arith}
 use native.Mathlib.Decide.{ℕ_discrete}
 use lib.ListN.{length, get_or, take, set, replicate}
 use lib.Seq.{get_or-set_same, get_or-set_other}
-use Rattle.lines.specs.Text.{joined}
-use Rattle.lines.specs.Chosen.{chosen}
+use Rattle.base.specs.Joined.{joined}
+use Rattle.base.specs.Chosen.{chosen}
 use Rattle.lines.specs.Parser.{if_present}
 use Rattle.lines.specs.Reads.{Reads, seen}
 use Rattle.lines.specs.declared.fault.Fault.{Fault}

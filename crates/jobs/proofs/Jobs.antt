@@ -5,16 +5,17 @@ use mathlib.Core.List.{List, [], map}
 use native.Mathlib.Omega.{arith}
 use lib.ListN.{length, get_or, take, length-map, get_or-map}
 use lib.Seq.{get_or-take, length-take-le, take-nil}
-use Rattle.lines.specs.Text.{joined}
-use Rattle.lines.specs.Chosen.{chosen}
+use Rattle.base.specs.Joined.{joined}
+use Rattle.base.specs.Chosen.{chosen}
 use Rattle.jobs.specs.Views.{blank_part_lem, opening_of, part_of_lem, job_of, Sized}
-use Rattle.jobs.specs.Valid.{All, ValidOpening, ValidPart, ValidJob}
+use Rattle.base.specs.Each.{All}
+use Rattle.jobs.specs.Valid.{ValidOpening, ValidPart, ValidJob}
 use Rattle.jobs.specs.declared.Opening.{Opening}
 use Rattle.jobs.specs.declared.Part.{Part}
 use Rattle.jobs.specs.declared.Job.{Job}
 use Rattle.model.specs.Model as model
 use Rattle.model.specs.Verdict.{no_part}
-use Rattle.jobs.proofs.Lists.{all_at, map_at, firsts_size, firsts_at}
+use Rattle.base.proofs.Lists.{all_at, map_at, firsts_size, firsts_at}
 
 -- what stands past the end of an array of openings
 abbrev pub blank_opening : Opening

@@ -1,5 +1,4 @@
 -- The laws, in the order in which they rest on each other.
-pub mod Lists
 pub mod Jobs
 pub mod Plans
 pub mod Sounds

@@ -8,7 +8,7 @@ use Rattle.jobs.specs.Views.{blank_changes, changes_of}
 use Rattle.jobs.specs.declared.Job.{Job}
 use Rattle.jobs.specs.declared.Changes.{Changes}
 use Rattle.jobs.specs.declared.Plan.{Plan}
-use Rattle.jobs.proofs.Lists.{firsts_size, firsts_at}
+use Rattle.base.proofs.Lists.{firsts_size, firsts_at}
 
 -- a set for each part that a job counts
 pub enough_changes : (j : Job) (p : Plan) → j.part_count ≤ length p.changes

@@ -5,7 +5,8 @@ use lib.ListN.{length}
 use Rattle.std.proofs.Props.{props}
 use Rattle.model.specs.Model.{Opening, Part, Job}
 use Rattle.model.specs.Windows.{Rising}
-use Rattle.jobs.specs.Valid.{All, ValidOpening, ValidPrice, ValidPart, ValidHolders, HeldFrom, ValidJob}
+use Rattle.base.specs.Each.{All}
+use Rattle.jobs.specs.Valid.{ValidOpening, ValidPrice, ValidPart, ValidHolders, HeldFrom, ValidJob}
 
 -- of each of a list
 pub all_fact : {A : Type 0} (P : A → Type 0) → ((a : A) → IsProp (P a)) → (l : List A) → IsProp (All P l)

@@ -1,15 +1,11 @@
 -- What is known of an accepted job.
 use Rattle.std.specs.Prelude.{ℕ, suc, ◌≤◌, ◌<◌, ◌≡◌, List, [], ◌∷◌, length}
+use Rattle.base.specs.Each.{All}
 use Rattle.model.specs.Model.{Opening, Part, Job}
 use Rattle.model.specs.Limits.{last_step, longest_life, dearest, most_openings, most_parts, most_inside}
 use Rattle.model.specs.Windows.{Rising, steps_of}
 use Rattle.jobs.specs.declared.Job as code
 use Rattle.jobs.specs.Views.{job_of, Sized}
-
--- P holds of each
-abbrev pub All : {A : Type 0} → (A → Type 0) → List A → Type 0
-All P [] = Unit {0}
-All P (x ∷ xs) = P x × All P xs
 
 -- X3. `opening` 1..365, `fee` 0..1000000; that openings rise is said of the job
 pub record ValidOpening (o : Opening) : Type 0 where

@@ -1,6 +1,6 @@
 -- The code's structs in the model's terms.
 use Rattle.std.specs.Prelude.{ℕ, ◌≤◌, Bool, false, List, [], map, get_or, take, replicate}
-use Rattle.lines.specs.Chosen.{numbers_of_lem}
+use Rattle.base.specs.Chosen.{numbers_of_lem}
 use Rattle.model.specs.Model as model
 use Rattle.model.specs.Limits.{last_step, most_openings, most_parts}
 use Rattle.jobs.specs.declared.Opening.{Opening}

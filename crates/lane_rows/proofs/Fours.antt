@@ -5,7 +5,7 @@ use mathlib.Core.List.{List}
 use native.Mathlib.Omega.{arith}
 use native.Mathlib.Decide.{dec_lt}
 use lib.ListN.{get_or}
-use Rattle.least.specs.Filled.{FilledBy}
+use Rattle.base.specs.Filled.{FilledBy}
 use Rattle.lane_rows.specs.Layout.{lane_count_lem, inf, lanes_in, fours_place}
 use Rattle.lane_rows.specs.Rows.{sum_from, sum_lanes, step_of, StepAsks, Stepped, FoursAsks}
 use Rattle.lane_rows.proofs.Lanes.{sum_four}

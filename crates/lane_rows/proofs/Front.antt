@@ -13,7 +13,7 @@ use Rattle.branch.specs.Lower.{add}
 use Rattle.model.specs.Model.{within}
 use Rattle.model.specs.LowerBound.{Offer, plus, lower, least_of_lem, offers}
 use Rattle.branch.specs.Search.{snoc}
-use Rattle.model.proofs.Bools.{after_one}
+use Rattle.base.proofs.Bools.{after_one}
 use Rattle.model.proofs.Lower.{lower_comm, lower_assoc, lower_swap, plus_lower, add_lower, lower_add}
 use Rattle.model.proofs.Offers.{offers_yes}
 use Rattle.lane_rows.specs.Sheet.{Column, Sheet, column_bound, Mark, reach, front_with, front_from, decided_offers, front}

@@ -8,7 +8,7 @@ use native.Mathlib.Decide.{ℕ_discrete, dec_lt}
 use borrow.Author.Count.{below_more}
 use lib.ListN.{get_or, set, length-set}
 use lib.Seq.{get_or-set_same, get_or-set_other}
-use Rattle.least.specs.Filled.{FilledBy}
+use Rattle.base.specs.Filled.{FilledBy}
 use Rattle.model.specs.Limits.{most_openings}
 use Rattle.lane_rows.specs.Layout.{lane_count_lem, mark_count, inf, triangle, suffix_base, place, row_place, mark_place, known_base, known_place, memo_base, memo_place, lanes_in, stack_size}
 use Rattle.lane_rows.specs.Rows.{lane, sum_lanes, Kept, Put, Past, Remembers, Memo, step_of, StepAsks, Stepped, FoursAsks, Looks, Known, Recalled, Still, Learnt, Looked, FirstRow, Nones}

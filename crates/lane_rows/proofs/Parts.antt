@@ -5,8 +5,8 @@ use mathlib.Core.List.{List}
 use native.Mathlib.Omega.{arith}
 use borrow.Rule.Slice.PartMut.{put_mid}
 use lib.ListN.{length, get_or, take, drop, replicate}
-use Rattle.least.specs.Filled.{FilledBy}
-use Rattle.least.proofs.Filled as filled
+use Rattle.base.specs.Filled.{FilledBy}
+use Rattle.base.proofs.Filled as filled
 
 -- a part from a to b that holds what `f` says has filled its n places with it
 pub filled_from : (w ys : List ℕ) (a b n : ℕ) (f : ℕ → ℕ) → b ≡ a + n → b ≤ length w → length ys ≡ n → ((q : ℕ) → q < n → get_or ys q 0 ≡ f q) → FilledBy (λ (q : ℕ). a + q) f n w (put_mid a (b - a) w ys)

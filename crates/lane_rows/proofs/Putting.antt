@@ -5,7 +5,7 @@ use mathlib.Core.List.{List}
 use native.Mathlib.Omega.{arith}
 use lib.ListN.{length, set, length-set}
 use lib.Seq.{get_or-set_same, get_or-set_other}
-use Rattle.least.specs.Filled.{FilledBy}
+use Rattle.base.specs.Filled.{FilledBy}
 use Rattle.lane_rows.specs.Layout.{lane_count_lem, mark_count, row_place, mark_place, stack_size}
 use Rattle.lane_rows.specs.Rows.{Put, Past}
 

@@ -2,7 +2,7 @@
 use Rattle.std.specs.Prelude.{ℕ, zero, suc, ◌+◌, ◌-◌, ◌*◌, ◌^◌, ◌<◌, ◌≤◌, min, ◌≡◌, Bool, true, false, cond, List, [], ◌∷◌, length, get_or, ℤ}
 use Rattle.branch.specs.declared.Bound.{Bound}
 use Rattle.model.specs.LastYes.{last_yes}
-use Rattle.least.specs.Filled.{FilledBy}
+use Rattle.base.specs.Filled.{FilledBy}
 use Rattle.least.specs.Marks.{mark_of}
 use Rattle.lane_rows.specs.Layout.{lane_count_lem, mark_count, dear, inf, place, row_place, suffix_base, mark_base, mark_place, known_base, known_place, memo_base, memo_place, stack_size, block_size, reach_base, price_place, term_place, lanes_in, tables_size}
 use Rattle.lane_rows.specs.Sheet.{Sheet, Mark, front, solid, no_column}

@@ -6,7 +6,7 @@
 
 ghost use denote.Ref.{MutBor};
 ghost use Rattle.std.specs.Prelude.{◌≡◌, true, List, ℕ, ◌+◌, ◌-◌, ◌*◌, ◌^◌, ◌<◌, ◌≤◌, min, length, get_or};
-ghost use Rattle.least.specs.Filled.{FilledBy};
+ghost use Rattle.base.specs.Filled.{FilledBy};
 ghost use Rattle.lane_rows.specs.Layout.{lane_count_lem, mark_count, inf, triangle, level_rows, tables_size, lanes_in, stack_size, suffix_base, place, row_place, mark_place, known_place, memo_place, term_place};
 ghost use Rattle.lane_rows.specs.Tables.{value_of, sum_where};
 ghost use Rattle.lane_rows.specs.Rows.{lane, sum_lanes, Turned, MinAsks, PlusAsks, AddAsks, Nones, FirstRow, Stack, Put, Past, StepAsks, Stepped, FoursAsks, Looks, Known, Recalled, Learnt, Looked, next_row, Owing, Settled};

@@ -9,7 +9,7 @@ use native.Mathlib.Numerals.{add-one}
 use lib.ListN.{length, get_or, take, drop, set, drop_of_length-le}
 use lib.Seq.{get_or-take, drop-cons, get_or-drop, drop-drop, length-take-le}
 use lib.IntN.{ℤ, pos}
-use Rattle.lines.proofs.Arrays.{take_more}
+use Rattle.base.proofs.Arrays.{take_more}
 use Rattle.model.specs.Model.{within, select}
 use Rattle.model.specs.Verdict.{next_of}
 use Rattle.latest.specs.Latest.{latest_from}

@@ -8,7 +8,7 @@ use native.Mathlib.Numerals.{add-one}
 use lib.ListN.{length, get_or, take, set}
 use lib.Seq.{take-suc}
 use lib.IntN.{pos}
-use Rattle.lines.proofs.Arrays.{map-take_more}
+use Rattle.base.proofs.Arrays.{map-take_more}
 use Rattle.model.specs.Model.{Plan, last_change_lem}
 use Rattle.jobs.specs.Views.{blank_part_lem, part_of_lem, job_of, changes_of, changes_for}
 use Rattle.jobs.specs.declared.Part.{Part}

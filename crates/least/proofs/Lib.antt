@@ -1,5 +1,4 @@
-pub mod Diff
-pub mod Filled
+pub mod Gaps
 pub mod Table
 pub mod Most
 pub mod Rows

@@ -12,7 +12,7 @@ use Rattle.branch.specs.declared.Bound.TheVariants.{Missing, Sum}
 use Rattle.model.specs.Model.{within}
 use Rattle.model.specs.LowerBound.{Offer, plus, lower_than, change_at_lem, least_of_lem, offers}
 use Rattle.model.proofs.Offers.{offers-length}
-use Rattle.model.proofs.Bools.{after_one}
+use Rattle.base.proofs.Bools.{after_one}
 
 -- a price, where there is one, is at most b
 abbrev pub AtMost : ℕ → Bound → Type 0

@@ -14,9 +14,9 @@ use Rattle.branch.specs.declared.Bound.TheVariants.{Missing, Sum}
 use Rattle.model.specs.Model.{within}
 use Rattle.model.specs.LowerBound.{Offer, plus, lower, lower_than, least_of_lem, offers}
 use Rattle.least.specs.Marks.{mark_of}
-use Rattle.least.specs.Filled.{FilledBy}
+use Rattle.base.specs.Filled.{FilledBy}
 use Rattle.least.specs.Suffix.{table_size, cell, missing, of_code, code_of, row_of, end_of, Suffixes, changes_by_table}
-use Rattle.model.proofs.Bools.{there}
+use Rattle.base.proofs.Bools.{there}
 use Rattle.model.proofs.Offers.{offers-length}
 use Rattle.least.proofs.Table.{offer_at, offers-drop, least_cons, least_nil, changes_at}
 use Rattle.least.proofs.Most.{AtMost, most_least}

@@ -11,7 +11,7 @@ use lib.IntN.{ℤ, pos}
 use Rattle.branch.specs.declared.Bound.TheVariants.{Missing, Sum}
 use Rattle.model.specs.Model.{within}
 use Rattle.model.specs.LowerBound.{Offer, lower, lower_than, change_at_lem, least_of_lem, choice_of, offers}
-use Rattle.model.proofs.Bools.{after_one}
+use Rattle.base.proofs.Bools.{after_one}
 use Rattle.least.specs.Marks.{mark_of}
 
 -- opening k of the three lists

@@ -10,7 +10,7 @@ ghost use Rattle.std.proofs.Common.{SFits};
 ghost use Rattle.model.specs.Model.{within};
 ghost use Rattle.model.specs.LowerBound.{plus, least_of_lem, choice_of, offers};
 ghost use Rattle.least.specs.Marks.{mark_of};
-ghost use Rattle.least.specs.Filled.{FilledBy};
+ghost use Rattle.base.specs.Filled.{FilledBy};
 ghost use Rattle.least.specs.Suffix.{table_size, cell, code_of, of_code, changes_by_table, row_of, end_of, Suffixes};
 
 use branch::Bound;

@@ -1,7 +1,8 @@
 // One part and the openings that it is offered, as the least price over them is asked for.
 ghost use Rattle.std.specs.Prelude.{◌≡◌, ℕ, ◌^◌, ◌<◌, ◌≤◌, length, get_or};
 ghost use Rattle.model.specs.Limits.{most_openings};
-ghost use Rattle.least.specs.Marks.{mark_of, Bits31};
+ghost use Rattle.least.specs.Marks.{mark_of};
+ghost use Rattle.base.specs.Signed.{Bits31};
 
 // One part's life, the end, the position of the change before the first opening, and each opening's position, price and whether it is allowed.
 // Kept as slices side by side: a caller lends arrays that it has, of a job's openings, of one part's prices and of stops, and there is no heap to put one list of records in.

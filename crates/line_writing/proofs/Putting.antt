@@ -6,9 +6,10 @@ use native.Mathlib.Omega.{arith}
 use lib.ListN.{length, length-append, get_or, take}
 use lib.Seq.{sets, sets-eq, drop-drop, take-length}
 use borrow.Rule.Slice.PartMut.{put_mid}
-use Rattle.lines.specs.Text.{texts, joined}
+use Rattle.lines.specs.Text.{texts}
+use Rattle.base.specs.Joined.{joined}
 use Rattle.lines.proofs.Writing as writing
-use Rattle.lines.proofs.Writing.{joined_room, joined_more}
+use Rattle.base.proofs.Joined.{joined_room, joined_more}
 use Rattle.lines.proofs.Texts.{texts_room, texts_more}
 use Rattle.lines.specs.Wrote.{Wrote}
 use Rattle.line_writing.specs.Puts.{Puts, Room}

@@ -13,7 +13,8 @@ use Rattle.lines.specs.Text.{decimal, line, texts}
 use Rattle.lines.proofs.Reading.{field_good}
 use Rattle.lines.proofs.Parsing.{bind_good, checked-good, rising_yes, optional_there, text_fits}
 use Rattle.lines.proofs.Back.{starts_own, line_back}
-use Rattle.lines.proofs.Sound.{Chained, Rises}
+use Rattle.base.specs.Each.{Chained}
+use Rattle.lines.proofs.Sound.{Rises}
 
 -- a value with P, written with anything behind it, is read, and what is behind it is left
 abbrev pub Complete : {A : Type 0} → Parser A → (A → List ℕ) → (A → Type 0) → Type 0

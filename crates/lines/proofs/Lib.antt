@@ -11,5 +11,3 @@ pub mod ValueLines
 pub mod Numbered
 pub mod Writing
 pub mod Texts
-pub mod Chosen
-pub mod Arrays

@@ -11,6 +11,7 @@ use Rattle.lines.specs.Line.{starts_with, read_line_lem}
 use Rattle.lines.specs.Parser.{Parsed, good, fault, Parser, ◌>>=◌, return, in_range, read_field_lem, taken, row_at, optional_at, checked, chain, rising, end as ends, accepted, finish, whole, read_text}
 use Rattle.lines.specs.Text.{line, texts}
 use borrow.Author.Tests.{leb-true, ltb-true}
+use Rattle.base.specs.Each.{Chained}
 use Rattle.lines.proofs.Parsing.{bind_good, bind_fault, InRow, row_in, optional_there, optional_missing}
 use Rattle.lines.proofs.Outcomes.{not_both}
 use Rattle.lines.proofs.Written.{Stands, line_written}
@@ -137,11 +138,6 @@ checked_gives {A} k ok p P gives s s' l l' a h = go (p s l) refl
             (gives s s' l l' a (e ∙ g), sym (ap ok x) ∙ y)
         pick false y = never (rw (checked, e, y) at h)
     go (fault n m) e = never (rw (checked, e) at h)
-
--- each of a chain's values, with the state that the one before left
-abbrev pub Chained : {A S : Type 0} → (S → A → Type 0) → (S → A → S) → S → List A → Type 0
-Chained P next prev [] = Unit {0}
-Chained P next prev (x ∷ xs) = P prev x × Chained P next (next prev x) xs
 
 -- a chain gives n values, each with what is known of it after the one before
 pub chain_gives : {A S : Type 0} (p : S → Parser A) (next : S → A → S) (P : S → A → Type 0) → ((prev : S) → Gives (p prev) (P prev)) → (n : ℕ) (prev : S)

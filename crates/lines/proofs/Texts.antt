@@ -1,19 +1,34 @@
--- The texts of several things, thing by thing: what a loop that writes them has written (`texts_more`, `texts_room`), and what is left of them (`texts_next`). By the laws of `take` and `drop`. How long those of a rising list are (`rising_room`).
-use Prim.Native.Nat.{ℕ, suc, ◌+◌, ◌-◌, ◌≤◌, ◌<◌}
-use mathlib.Core.Path.{◌≡◌, refl, sym, ap, ◌∙◌}
+-- The texts of several things, thing by thing: what a loop that writes them has written (`texts_more`, `texts_room`), and what is left of them (`texts_next`). By the laws of `take` and `drop`. Those of what a test chooses (`chosen-texts`). How long those of a rising list are (`rising_room`).
+use Prim.Native.Nat.{ℕ, zero, suc, ◌+◌, ◌-◌, ◌≤◌, ◌<◌}
+use mathlib.Core.Path.{◌≡◌, refl, sym, ap, ap₂, ◌∙◌}
+use mathlib.Core.Bool.{Bool, true, false, cond}
 use mathlib.Core.List.{List, [], ◌∷◌, ◌++◌, map, append_assoc, append-nil}
 use native.Mathlib.Numerals.{add-one}
 use native.Mathlib.Omega.{arith}
 use lib.ListN.{length, get_or, take, drop, length-append}
 use lib.Seq.{take-suc, drop-cons, split_at, get_or-take, take-take, length-take-le}
-use Rattle.lines.specs.Text.{texts, joined}
-use Rattle.lines.proofs.Sound.{Chained}
-use Rattle.lines.proofs.Writing.{joined_room, joined_grows}
+use Rattle.lines.specs.Text.{texts}
+use Rattle.base.specs.Joined.{joined}
+use Rattle.base.specs.Chosen.{chosen}
+use Rattle.base.specs.Each.{Chained}
+use Rattle.base.proofs.Joined.{joined_room, joined_grows}
 
 -- the texts of two lists joined are the first's texts and then the second's
 pub texts_append : {A : Type 0} (w : A → List ℕ) (xs ys : List A) → texts w (xs ++ ys) ≡ texts w xs ++ texts w ys
 texts_append w [] ys = refl
 texts_append w (x ∷ xs) ys = ap (λ (r : List ℕ). w x ++ r) (texts_append w xs ys) ∙ sym (append_assoc (w x) (texts w xs) (texts w ys))
+
+cond_text : {A : Type 0} (w : A → List ℕ) (b : Bool) (x : A) → texts w (cond b (x ∷ []) []) ≡ cond b (w x) []
+cond_text w true x = append-nil (w x)
+cond_text w false x = refl
+
+-- the text of what is chosen, piece by piece
+pub chosen-texts : {A : Type 0} (w : A → List ℕ) (test : ℕ → Bool) (f : ℕ → A) (n : ℕ) → texts w (chosen test f n) ≡ joined (λ i. cond (test i) (w (f i)) []) n
+unfolding chosen joined
+chosen-texts w test f zero = refl
+chosen-texts w test f (suc n) =
+    texts_append w (chosen test f n) (cond (test n) (f n ∷ []) [])
+    ∙ ap₂ (λ (xs ys : List ℕ). xs ++ ys) (chosen-texts w test f n) (cond_text w (test n) (f n))
 
 -- the texts of mapped things are those of the things, each written by way of the map
 pub texts-map : {A B : Type 0} (w : B → List ℕ) (f : A → B) (xs : List A) → texts w (map f xs) ≡ texts (λ x. w (f x)) xs

@@ -1,16 +1,14 @@
--- Laws of writing: one write behind another is one write (`then`), how long digits, lines and joined pieces are. By recursion over what is written.
-use Prim.Native.Nat.{ℕ, zero, suc, ◌+◌, ◌*◌, ◌/◌, ◌%◌, ◌^◌, ◌≤◌, ◌<◌, zero-le}
+-- Laws of writing: one write behind another is one write (`then`), how long digits and lines are. By recursion over what is written.
+use Prim.Native.Nat.{ℕ, zero, suc, ◌+◌, ◌/◌, ◌%◌, ◌^◌, ◌≤◌, ◌<◌}
 use mathlib.Core.Path.{◌≡◌, refl, sym, ap, ◌∙◌, subst}
 use mathlib.Core.Bool.{true, false, Bool}
-use mathlib.Core.Logic.{⊎_elim}
 use mathlib.Core.List.{List, [], ◌∷◌, ◌++◌}
-use native.Mathlib.Nat.{add-zero, zero-add, add-suc, suc-add, div-lt_iff_lt-mul, pow-suc, suc-mul, eq-or-lt_of_le, le_of_suc-le-suc, not-suc-le-zero}
-use native.Mathlib.Numerals.{add-one}
+use native.Mathlib.Nat.{add-zero, zero-add, add-suc, suc-add, div-lt_iff_lt-mul, pow-suc}
 use native.Mathlib.Omega.{arith}
 use lib.Dec.{ltb}
 use lib.ListN.{length, drop, set, length-append}
 use lib.Seq.{sets, length-sets, sets-eq, length-take-le}
-use Rattle.lines.specs.Text.{decimal_in, decimal, line, joined}
+use Rattle.lines.specs.Text.{decimal_in, decimal, line}
 use Rattle.lines.specs.Wrote.{Wrote, Counted}
 use Rattle.lines.proofs.Written.{decimal_one}
 
@@ -88,31 +86,6 @@ line_short key j n h = omega (arith, line-length key n, decimal_short j n h)
 -- a line has at most 11 bytes more than its key
 pub line_most : (key : List ℕ) (n : ℕ) → length (line key n) ≤ length key + 11
 line_most key n = omega (arith, line-length key n, digits_most 10 n)
-
--- one piece more, joined, stands behind the pieces before it
-pub joined_more : {A : Type 0} (f : ℕ → List A) (n : ℕ) → joined f (n + 1) ≡ joined f n ++ f n
-unfolding joined
-joined_more f n = rw add-one
-
--- what is written by turn i and what turn i writes is within the whole
-pub joined_room : (f : ℕ → List ℕ) (i n : ℕ) → i < n → length (joined f i) + length (f i) ≤ length (joined f n)
-unfolding joined
-joined_room f i zero h = absurd (not-suc-le-zero h)
-joined_room f i (suc n) h =
-    ⊎_elim
-    (λ (e : i ≡ n). rw (length-append, e) (omega arith))
-    (λ (l : i < n). rw length-append (omega (arith, joined_room f i n l)))
-    (eq-or-lt_of_le (le_of_suc-le-suc h))
-
--- joining more pieces never makes the whole shorter
-pub joined_grows : (f : ℕ → List ℕ) (n m : ℕ) → n ≤ m → length (joined f n) ≤ length (joined f m)
-joined_grows f n m h = ⊎_elim (λ (e : n ≡ m). rw e (omega arith)) (λ (l : n < m). omega (arith, joined_room f n m l)) (eq-or-lt_of_le h)
-
--- n pieces of at most m bytes each
-pub joined_short : (f : ℕ → List ℕ) (m n : ℕ) → ((i : ℕ) → i < n → length (f i) ≤ m) → length (joined f n) ≤ n * m
-unfolding joined
-joined_short f m zero h = zero-le
-joined_short f m (suc n) h = rw (length-append, suc-mul) (omega (arith, joined_short f m n (λ i l. h i (omega arith)), h n (omega arith)))
 
 -- from the start: the bytes, and then what stood there
 pub written : {d xs e : List ℕ} {r : ℕ} → length xs ≤ length d → Wrote d 0 xs e r → (e ≡ xs ++ drop (length xs) d) × (r ≡ length xs)

@@ -1,7 +1,6 @@
--- Texts of key=value lines: how a line is written (Text; sets of numbers: Chosen), how it is read (Line), how a text is read line by line (Parser), cursors in a text (Cursor),
+-- Texts of key=value lines: how a line is written (Text), how it is read (Line), how a text is read line by line (Parser), cursors in a text (Cursor),
 -- and what a writer promises of a lent slice (Wrote).
 pub mod Text
-pub mod Chosen
 pub mod Line
 pub mod Parser
 pub mod Fault

@@ -34,8 +34,3 @@ texts w (x ∷ xs) = w x ++ texts w xs
 abbrev pub optional_text : {A : Type 0} → (A → List ℕ) → Option A → List ℕ
 optional_text w None = []
 optional_text w (Some a) = w a
-
--- f 0, f 1, .. f (n - 1), one behind the other
-unfoldable pub joined : {A : Type 0} → (ℕ → List A) → ℕ → List A
-joined f zero = []
-joined f (suc n) = joined f n ++ f n

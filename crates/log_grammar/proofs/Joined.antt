@@ -6,10 +6,11 @@ use Prim.Native.Nat.{ℕ, zero, suc, ◌+◌, ◌≤◌, ◌<◌}
 use native.Mathlib.Omega.{arith}
 use lib.ListN.{length, length-map, get_or, take, drop}
 use lib.Seq.{get_or-take}
-use Rattle.lines.specs.Text.{line_of, joined}
+use Rattle.lines.specs.Text.{line_of}
+use Rattle.base.specs.Joined.{joined}
 use Rattle.lines.specs.Parser.{accepted}
-use Rattle.lines.specs.Chosen.{chosen}
-use Rattle.lines.proofs.Chosen.{chosen_same, chosen_none_after}
+use Rattle.base.specs.Chosen.{chosen}
+use Rattle.base.proofs.Chosen.{chosen_same, chosen_none_after}
 use Rattle.model.specs.Model.{Opening, Job, Plan, Each}
 use Rattle.model.specs.Windows.{Rising, steps_of}
 use Rattle.jobs.specs.Valid.{ValidJob}

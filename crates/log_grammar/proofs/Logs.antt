@@ -14,9 +14,9 @@ use Rattle.lines.proofs.Complete.{row_complete, text_complete}
 use Rattle.lines.proofs.Writing.{line_short}
 use Rattle.model.specs.Model.{Job, Plan}
 use Rattle.model.specs.Verdict.{changes_at, Shaped}
-use Rattle.model.proofs.Bools.{inside}
+use Rattle.base.proofs.Bools.{inside}
 use Rattle.jobs.specs.Valid.{ValidJob}
-use Rattle.jobs.proofs.Lists.{map_at}
+use Rattle.base.proofs.Lists.{map_at}
 use Rattle.plan_grammar.specs.Grammar.{Visit, Stated, plan_of, plan_lines, max_bytes}
 use Rattle.plan_grammar.specs.Rendering.{visits_of, plan_text_lem, plan_lines_of}
 use Rattle.plan_grammar.proofs.Valid.{ValidVisits, Valid}

@@ -6,14 +6,15 @@ use Prim.Native.Nat.{ℕ, zero, suc, ◌+◌, ◌-◌, ◌≤◌, ◌<◌}
 use native.Mathlib.Omega.{arith}
 use lib.ListN.{length, length-map, length-replicate, length-append, get_or, take, drop, replicate, take-append-drop, length-drop}
 use lib.Seq.{length-take-le, get_or-take, take-append_seam}
-use Rattle.lines.specs.Chosen.{chosen}
-use Rattle.lines.proofs.Chosen.{chosen_same, chosen_none_after}
+use Rattle.base.specs.Chosen.{chosen}
+use Rattle.base.proofs.Chosen.{chosen_same, chosen_none_after}
 use Rattle.model.specs.Model.{Opening, Part, Job, Plan}
 use Rattle.model.specs.Windows.{Rising, steps_of}
 use Rattle.model.specs.Verdict.{changes_at, Shaped}
-use Rattle.model.proofs.Bools.{inside}
-use Rattle.jobs.specs.Valid.{All, ValidOpening, ValidPrice, ValidPart, HeldFrom, ValidJob}
-use Rattle.jobs.proofs.Lists.{map_at}
+use Rattle.base.proofs.Bools.{inside}
+use Rattle.base.specs.Each.{All}
+use Rattle.jobs.specs.Valid.{ValidOpening, ValidPrice, ValidPart, HeldFrom, ValidJob}
+use Rattle.base.proofs.Lists.{map_at}
 use Rattle.plan_grammar.specs.Rendering as plans
 use Rattle.carry.proofs.Splits.{Quiet, quiet_after, map-take}
 use Rattle.log_grammar.specs.Grammar.{part_to, job_to, padded}

@@ -11,7 +11,7 @@ use Rattle.model.specs.Model.{Part, Job, clock, positions, last_change_lem, with
 use Rattle.model.specs.Verdict.{Gaps, in_time_lem2, too_long, first_late, late_of, last_of, ruled, verdict_from, judged, judged_of, no_part, part_at, changes_at}
 use Rattle.model.proofs.Dues.{Every}
 use Rattle.model.proofs.Verdicts.{each_at}
-use Rattle.jobs.proofs.Lists.{map_at}
+use Rattle.base.proofs.Lists.{map_at}
 use Rattle.plan_lives.specs.Steps.{gaps_to, late_to_lem, lowest_late}
 use Rattle.carry.specs.Carry.{Log, passed, Logged, unused, natural}
 use Rattle.carry.specs.Answer.{until}

@@ -10,7 +10,7 @@ use Rattle.branch.specs.Questions.{done, Answers, Full, repeated}
 use Rattle.model.specs.Model.{sum_at}
 use Rattle.model.specs.Decisions.{Held, accessible, places_in, concat}
 use Rattle.model.specs.LowerBound.{blocks, stops_in, removed_in}
-use Rattle.model.proofs.Bools.{after_one}
+use Rattle.base.proofs.Bools.{after_one}
 use Rattle.model.proofs.Fees.{sum_rises}
 
 -- ---- more decisions

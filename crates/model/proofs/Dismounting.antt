@@ -7,7 +7,7 @@ use native.Mathlib.Omega.{arith}
 use lib.ListN.{length, get_or}
 use Rattle.model.specs.Model.{Job, Plan, comes_out, Chain, itself, by_holder, out_at, sum_at, sum, fee_of, removal_of_lem, prices_of_lem, cost_of_lem}
 use Rattle.model.specs.Dismounting.{Dismounts}
-use Rattle.model.proofs.Bools.{inside}
+use Rattle.base.proofs.Bools.{inside}
 use Rattle.model.proofs.Sums.{sum_mono}
 use Rattle.model.proofs.Closure.{out_length, chained, chain_more, chain_inside, comes_itself}
 use Rattle.model.proofs.Outs.{outs_length, brought, brings}

@@ -10,8 +10,8 @@ use lib.IntN.{ℤ, pos, ◌-ℤ◌}
 use Rattle.model.specs.Model.{Part, Job, positions, last_change_lem, end, within, kept}
 use Rattle.model.specs.Limits.{longest_life, most_count}
 use Rattle.model.specs.Count.{in_time_lem, each_reaches, reaches, each_kept, count_from, open_count, least_among, least_life, least_left, count_for}
-use Rattle.model.proofs.Bools.{same_test}
-use Rattle.model.proofs.Integers.{difference}
+use Rattle.base.proofs.Bools.{same_test}
+use Rattle.base.proofs.Integers.{difference}
 use Rattle.model.proofs.Positions.{positions_size, near, near_within}
 
 -- ---- the numbers of the table

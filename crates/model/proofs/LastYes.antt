@@ -18,7 +18,7 @@ use Rattle.model.specs.Windows.{Rising, steps_of}
 use Rattle.model.specs.LowerBound.{Offer, plus, lower_than, lower, change_at_lem, least_of_lem, offers, undecided_fees}
 use Rattle.model.specs.LastYes.{after_one_lem, last_yes, mark_in, Climbs}
 use Rattle.model.proofs.Lower.{no_more_refl, no_more_trans, lower_first, lower_second, lower_both}
-use Rattle.model.proofs.Integers.{AtMostℤ, at_most, at_most_test, difference}
+use Rattle.base.proofs.Integers.{AtMostℤ, at_most, at_most_test, difference}
 use Rattle.model.proofs.Positions.{never_falls, within_earlier, within_later}
 
 -- ---- the last yes

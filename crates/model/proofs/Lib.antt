@@ -1,6 +1,4 @@
 -- The theorems, in the order in which they rest on each other. Code cites Positions (the laws of `clock` and `within`), Offers and Least.
-pub mod Bools
-pub mod Integers
 pub mod Positions
 pub mod Windows
 pub mod Lower

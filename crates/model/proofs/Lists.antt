@@ -7,7 +7,7 @@ use native.Mathlib.Numerals.{add-one}
 use native.Mathlib.Omega.{arith}
 use lib.ListN.{length, get_or}
 use Rattle.model.specs.Model.{table}
-use Rattle.model.proofs.Bools.{inside}
+use Rattle.base.proofs.Bools.{inside}
 
 module _ {A : Type 0} where
   -- the table of a function's first n values has n entries

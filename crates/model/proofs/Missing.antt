@@ -22,7 +22,7 @@ use Rattle.model.specs.Decisions.{charged, held_at, held_from, held_parts}
 use Rattle.model.specs.LowerBound.{paid_at, least_over, choice_over, part_bound, stop_cost, bound_of}
 use Rattle.model.specs.Ordered.{Lefts, Ordered}
 use Rattle.model.specs.Count.{in_time_lem, each_reaches, reaches, each_kept}
-use Rattle.model.proofs.Bools.{same_test, inside}
+use Rattle.base.proofs.Bools.{same_test, inside}
 use Rattle.model.proofs.Positions.{positions_size}
 use Rattle.model.proofs.LastYes.{job_climbs, first_climbs}
 use Rattle.model.proofs.Offers.{KeepsOver, part_most, part_found}

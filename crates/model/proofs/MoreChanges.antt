@@ -10,8 +10,8 @@ use lib.IntN.{ℤ}
 use Rattle.model.specs.Model.{within, kept, select}
 use Rattle.model.specs.LastYes.{Climbs}
 use Rattle.model.specs.Verdict.{next_of}
-use Rattle.model.proofs.Bools.{after_one}
-use Rattle.model.proofs.Integers.{AtMostℤ, at_most}
+use Rattle.base.proofs.Bools.{after_one}
+use Rattle.base.proofs.Integers.{AtMostℤ, at_most}
 use Rattle.model.proofs.Positions.{within_earlier, within_later}
 use Rattle.model.proofs.LastYes.{climbs_from}
 

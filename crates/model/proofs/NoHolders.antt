@@ -15,7 +15,7 @@ use Rattle.model.specs.Decisions.{of_holders, held_at, accessible, allows}
 use Rattle.model.specs.LowerBound.{blocks, inner, node_at, stops_in, stops_at, removed_in, places_at, bound_of}
 use Rattle.model.specs.Promise.{searched}
 use Rattle.model.specs.Verdict.{no_part}
-use Rattle.model.proofs.Bools.{or_left, or_right, or_split}
+use Rattle.base.proofs.Bools.{or_left, or_right, or_split}
 use Rattle.model.proofs.Offers.{sum_none}
 use Rattle.model.proofs.Lists.{table_yes}
 

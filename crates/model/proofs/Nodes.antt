@@ -17,7 +17,7 @@ use Rattle.model.specs.Model.{Part, Job, Plan, table, comes_out, holding, out_at
 use Rattle.model.specs.Decisions.{of_holders, Held, held_at, held_from, held_parts, allows, places_in, block_of, plan_blocks, decisions_of}
 use Rattle.model.specs.LowerBound.{inner, node_at, stops_at, places_at, part_bound, part_choice_lem, paid_at, stop_cost, plan_at}
 use Rattle.model.specs.Promise.{searched}
-use Rattle.model.proofs.Bools.{inside, yes_open, open-yes}
+use Rattle.base.proofs.Bools.{inside, yes_open, open-yes}
 use Rattle.model.proofs.Least.{AtMost}
 use Rattle.model.proofs.Offers.{to_over, from_over, part_most, part_tie, part_found}
 use Rattle.model.proofs.Totals.{select-length, select_place}

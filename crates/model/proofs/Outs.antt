@@ -7,7 +7,7 @@ use Prim.Native.Nat.{ℕ, zero, suc, ◌<◌}
 use native.Mathlib.Omega.{arith}
 use lib.ListN.{length, get_or, drop, replicate}
 use Rattle.model.specs.Model.{Job, table, comes_out, holding, holds_one, out_by, out_at}
-use Rattle.model.proofs.Bools.{after_one, inside, or_cases, or_left, or_right, same_test}
+use Rattle.base.proofs.Bools.{after_one, inside, or_cases, or_left, or_right, same_test}
 use Rattle.model.proofs.Lists.{table-length, table_at, table_yes}
 use Rattle.model.proofs.Closure.{out_length, comes_itself, comes_only}
 

@@ -6,7 +6,7 @@ use Prim.Native.Nat.{ℕ, zero, suc, ◌+◌}
 use native.Mathlib.Omega.{arith}
 use lib.ListN.{length, get_or, drop}
 use Rattle.model.specs.Model.{select, sum_at, sum}
-use Rattle.model.proofs.Bools.{after_one}
+use Rattle.base.proofs.Bools.{after_one}
 use Rattle.model.proofs.Offers.{sum_false, sum_true}
 use Rattle.model.proofs.Sums.{sum_same, sum_shift}
 

@@ -11,7 +11,7 @@ use Rattle.branch.specs.Search.{snoc}
 use Rattle.model.specs.Model.{within, kept, select}
 use Rattle.model.specs.Verdict.{last_of, next_of}
 use Rattle.model.specs.LastYes.{last_yes, mark_in}
-use Rattle.model.proofs.Bools.{after_one}
+use Rattle.base.proofs.Bools.{after_one}
 use Rattle.model.proofs.LastYes.{mark_no, mark_yes}
 use Rattle.model.proofs.MoreChanges.{select_empty}
 

@@ -11,7 +11,7 @@ use Rattle.branch.specs.declared.Bound.TheVariants.{Missing, Sum}
 use Rattle.branch.proofs.Bounds.{no_sum_lem}
 use Rattle.model.specs.Model.{within}
 use Rattle.model.specs.LowerBound.{plus, lower, least_of_lem, offers}
-use Rattle.model.proofs.Bools.{after_one}
+use Rattle.base.proofs.Bools.{after_one}
 
 -- a bound with nothing to pay: 0 where it is there, missing where it is missing
 abbrev pub unpaid : Bound → Bound

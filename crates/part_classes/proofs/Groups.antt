@@ -14,7 +14,7 @@ use Rattle.std.specs.Bool.{Decides}
 use Rattle.std.specs.Cmp.{booleans_Decides}
 use Rattle.std.specs.List.{AllWithin, HoldsAt}
 use Rattle.std.specs.Prelude.{Option, Some, None, MatchOption}
-use Rattle.model.proofs.Bools.{there, none_at}
+use Rattle.base.proofs.Bools.{there, none_at}
 use Rattle.part_classes.specs.declared.classes.Classes.{Classes}
 use Rattle.lane_rows.specs.Layout.{lane_count_lem}
 use Rattle.held_places.specs.Arrays.{need_stride, needs_at}

@@ -7,7 +7,7 @@ use native.Mathlib.Omega.{arith}
 use lib.ListN.{length, length-append}
 use Rattle.lines.specs.Text.{bytes, line_of, texts, optional_text}
 use Rattle.lines.proofs.Writing.{line_short}
-use Rattle.jobs.specs.Valid.{All}
+use Rattle.base.specs.Each.{All}
 use Rattle.covers.specs.Grammar.{Cover}
 use Rattle.covers.specs.Rendering.{cover_text}
 use Rattle.covers.specs.Valid.{ValidLines}

@@ -4,7 +4,7 @@ use mathlib.Core.Path.{◌≡◌, refl, ap}
 use mathlib.Core.List.{List, [], ◌∷◌, ◌++◌, map}
 use native.Mathlib.Omega.{arith}
 use lib.ListN.{length, take, set, length-map, length-take}
-use Rattle.lines.proofs.Arrays.{take_more, map-take_more}
+use Rattle.base.proofs.Arrays.{take_more, map-take_more}
 use Rattle.model.specs.Model as model
 use Rattle.jobs.specs.Views.{part_of_lem}
 use Rattle.jobs.specs.declared.Part.{Part}

@@ -21,7 +21,7 @@ use Rattle.price_rules.specs.Views.{rule_of, rule_there}
 use Rattle.price_rules.specs.declared.Rule.{Rule}
 use Rattle.jobs.specs.Views.{part_of_lem}
 use Rattle.jobs.specs.declared.Part.{Part}
-use Rattle.lines.specs.Chosen.{numbers_of_lem}
+use Rattle.base.specs.Chosen.{numbers_of_lem}
 use Rattle.covers.specs.declared.Cover.{Cover}
 use Rattle.covers.specs.Views.{cover_of, cover_said, cover_there, meant_cover}
 use Rattle.part_lines.specs.Bare.{Bare}

@@ -1,6 +1,6 @@
 -- A part that no lines of removal say anything of.
 use Rattle.std.specs.Prelude.{◌≡◌, []}
-use Rattle.lines.specs.Chosen.{numbers_of_lem}
+use Rattle.base.specs.Chosen.{numbers_of_lem}
 use Rattle.jobs.specs.declared.Part.{Part}
 
 -- a part with removal 0 and no holders

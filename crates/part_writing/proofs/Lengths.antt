@@ -9,7 +9,7 @@ use native.Mathlib.Decide.{dec_lt}
 use lib.ListN.{length, length-append}
 use Rattle.lines.specs.Text.{bytes, line_of, texts, optional_text}
 use Rattle.lines.proofs.Writing.{line_most}
-use Rattle.jobs.specs.Valid.{All}
+use Rattle.base.specs.Each.{All}
 use Rattle.covers.specs.Grammar.{Cover}
 use Rattle.quotes.specs.Grammar.{Quote, single, pair}
 use Rattle.quotes.specs.Rendering.{quote_text}

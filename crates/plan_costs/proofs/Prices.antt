@@ -10,7 +10,8 @@ use Rattle.model.specs.Model as model
 use Rattle.model.specs.Model.{sum, sum_at, prices_of_lem}
 use Rattle.model.specs.Verdict.{no_part}
 use Rattle.model.proofs.Sums.{sum_none, sum_shift}
-use Rattle.jobs.specs.Valid.{All, ValidPart}
+use Rattle.base.specs.Each.{All}
+use Rattle.jobs.specs.Valid.{ValidPart}
 use Rattle.plan_costs.specs.Dearest.{dearest_sum}
 use Rattle.plan_costs.proofs.Sums.{sum_most, cheap_prices}
 

@@ -13,7 +13,7 @@ use Rattle.model.proofs.Offers.{sum_none}
 use Rattle.model.proofs.Lists.{table-length, table_at, table_same}
 use Rattle.jobs.specs.Views.{changes_of}
 use Rattle.jobs.specs.declared.Changes.{Changes}
-use Rattle.jobs.proofs.Lists.{firsts_at}
+use Rattle.base.proofs.Lists.{firsts_at}
 use Rattle.coming_out.specs.Rows.{place, Row, Rows, some, union}
 use Rattle.coming_out.specs.Places.{Removals}
 use Rattle.coming_out.proofs.Some.{some_same, out_some}

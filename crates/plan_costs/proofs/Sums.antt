@@ -9,7 +9,8 @@ use native.Mathlib.Numerals.{add-one}
 use lib.ListN.{length}
 use Rattle.model.specs.Model.{Opening, Part, sum, sum_at, fee_of, removal_of_lem}
 use Rattle.model.specs.Limits.{dearest}
-use Rattle.jobs.specs.Valid.{All, ValidOpening, ValidPrice, ValidPart}
+use Rattle.base.specs.Each.{All}
+use Rattle.jobs.specs.Valid.{ValidOpening, ValidPrice, ValidPart}
 use Rattle.plan_costs.specs.Dearest.{dearest_sum, Cheap}
 
 all_map : {A B : Type 0} (P : A → Type 0) (Q : B → Type 0) (f : A → B) → ((a : A) → P a → Q (f a)) → (l : List A) → All P l → All Q (map f l)

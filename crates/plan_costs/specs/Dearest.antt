@@ -1,6 +1,6 @@
 -- How large what a plan pays can be.
 use Rattle.std.specs.Prelude.{ℕ, ◌≤◌, List}
-use Rattle.jobs.specs.Valid.{All}
+use Rattle.base.specs.Each.{All}
 use Rattle.model.specs.Limits.{dearest}
 
 -- none is above the highest fee, price or removal

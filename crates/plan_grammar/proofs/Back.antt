@@ -11,15 +11,15 @@ use native.Mathlib.Omega.{arith}
 use borrow.Author.Tests.{eq-eqb, ne_eqb, eqb-true}
 use lib.Dec.{eqb}
 use lib.ListN.{length, get_or}
-use Rattle.lines.specs.Text.{joined}
-use Rattle.lines.proofs.Sound.{Chained}
+use Rattle.base.specs.Joined.{joined}
+use Rattle.base.specs.Each.{Chained, All}
 use Rattle.model.specs.Model.{Opening, Job, Plan}
 use Rattle.model.specs.Verdict.{Shaped}
-use Rattle.jobs.specs.Valid.{All, ValidJob}
+use Rattle.jobs.specs.Valid.{ValidJob}
 use Rattle.plan_grammar.specs.Grammar.{Visit, any, among, is_opening_lem, visited, changed, table, openings_at, plan_of}
-use Rattle.lines.specs.Chosen.{chosen}
+use Rattle.base.specs.Chosen.{chosen}
 use Rattle.plan_grammar.specs.Rendering.{is_changed_lem, parts_at, step_at, visit_at, visits_of}
-use Rattle.lines.proofs.Chosen.{chosen_front}
+use Rattle.base.proofs.Chosen.{chosen_front}
 use Rattle.plan_grammar.proofs.Lists.{any_append, any_index, table_at, table_is}
 use Rattle.plan_grammar.proofs.Steps.{openings-table}
 use Rattle.plan_grammar.proofs.Valid.{ValidPart, ValidParts, ValidVisit, ValidVisits, step_of}

@@ -6,13 +6,16 @@ use mathlib.Core.Bool.{Bool, true, false, cond}
 use native.Mathlib.Nat.{mul-le-mul_right}
 use native.Mathlib.Omega.{arith}
 use lib.ListN.{length, get_or, length-append}
-use Rattle.lines.specs.Text.{bytes, decimal_in, line, line_of, texts, joined}
-use Rattle.lines.proofs.Writing.{line_short, joined_grows, joined_short}
+use Rattle.lines.specs.Text.{bytes, decimal_in, line, line_of, texts}
+use Rattle.base.specs.Joined.{joined}
+use Rattle.lines.proofs.Writing.{line_short}
+use Rattle.base.proofs.Joined.{joined_grows, joined_short}
 use Rattle.model.specs.Model.{Job, Plan}
-use Rattle.lines.specs.Chosen.{chosen}
+use Rattle.base.specs.Chosen.{chosen}
 use Rattle.plan_grammar.specs.Rendering.{visit_text, plan_text_lem, is_changed_lem, parts_at, step_at, visit_at, visits_of, plan_lines_of}
 use Rattle.jobs.specs.Valid.{ValidJob}
-use Rattle.lines.proofs.Chosen.{chosen_few, chosen-texts}
+use Rattle.base.proofs.Chosen.{chosen_few}
+use Rattle.lines.proofs.Texts.{chosen-texts}
 use Rattle.plan_grammar.proofs.Steps.{step_small}
 
 -- the longest text of a plan's lines

@@ -7,20 +7,21 @@ use native.Mathlib.Omega.{arith}
 use borrow.Author.Tests.{eq-eqb, lt-ltb}
 use lib.Dec.{eqb}
 use lib.ListN.{length, get_or}
-use Rattle.lines.specs.Text.{bytes, line, line_of, texts, joined}
+use Rattle.lines.specs.Text.{bytes, line, line_of, texts}
+use Rattle.base.specs.Joined.{joined}
 use Rattle.lines.specs.Parser.{good, accepted, return, row, checked, rising}
 use Rattle.lines.proofs.Parsing.{bind_good, rising_yes}
-use Rattle.lines.proofs.Sound.{Chained}
+use Rattle.base.specs.Each.{Chained}
 use Rattle.lines.proofs.Complete.{Complete, row_complete, checked_complete, chain_complete, text_complete}
 use Rattle.model.specs.Model.{Opening, Job, Plan}
 use Rattle.model.specs.Verdict.{Shaped}
 use Rattle.jobs.specs.Valid.{ValidJob}
 use Rattle.plan_grammar.specs.Grammar.{Visit, is_opening_lem, may_stop, part, parts, visit, visits, plan_of, plan_lines, max_bytes, read_plan_lem}
-use Rattle.lines.specs.Chosen.{chosen}
+use Rattle.base.specs.Chosen.{chosen}
 use Rattle.plan_grammar.specs.Rendering.{visit_text, plan_text_lem, is_changed_lem, parts_at, step_at, visit_at, visits_of, plan_lines_of}
 use Rattle.plan_grammar.proofs.Lists.{any_at}
 use Rattle.plan_grammar.proofs.Nothing.{read_lines}
-use Rattle.lines.proofs.Chosen.{chosen_few, chosen_front}
+use Rattle.base.proofs.Chosen.{chosen_few, chosen_front}
 use Rattle.plan_grammar.proofs.Valid.{ValidPart, ValidParts, ValidVisit, ValidVisits, step_of}
 use Rattle.plan_grammar.proofs.Steps.{no_opening, step_is, step_low, step_high, step_rises}
 use Rattle.plan_grammar.proofs.Lengths.{valid_short}

@@ -9,7 +9,7 @@ use lib.ListN.{length, get_or, length-map}
 use Rattle.lines.specs.Parser.{accepted}
 use Rattle.model.specs.Model.{Opening, Job}
 use Rattle.model.specs.Verdict.{Shaped}
-use Rattle.model.proofs.Bools.{inside}
+use Rattle.base.proofs.Bools.{inside}
 use Rattle.plan_grammar.specs.Grammar.{Visit, Stated, any, among, visited, changed, table, openings_at, plan_of, read_plan_lem}
 use Rattle.plan_grammar.specs.Rendering.{step_at}
 use Rattle.plan_grammar.proofs.Lists.{table-length, table_at}

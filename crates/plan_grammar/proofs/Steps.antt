@@ -8,7 +8,7 @@ use Rattle.model.specs.Model.{Opening, Job}
 use Rattle.model.specs.Windows.{steps_of}
 use Rattle.model.proofs.Positions.{rising_above, rising_rises}
 use Rattle.jobs.specs.Valid.{ValidOpening, ValidJob}
-use Rattle.jobs.proofs.Lists.{all_at}
+use Rattle.base.proofs.Lists.{all_at}
 use Rattle.plan_grammar.specs.Rendering.{step_at}
 use Rattle.plan_grammar.specs.Grammar.{table, openings_at}
 use Rattle.plan_grammar.proofs.Lists.{table_same, map-table}

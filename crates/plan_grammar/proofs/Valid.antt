@@ -8,7 +8,8 @@ use lib.Dec.{leb, ltb}
 use lib.ListN.{length}
 use borrow.Author.Tests.{ltb-true, leb-true}
 use Rattle.lines.specs.Parser.{row, checked, rising}
-use Rattle.lines.proofs.Sound.{Gives, row_gives, checked_gives, Chained}
+use Rattle.lines.proofs.Sound.{Gives, row_gives, checked_gives}
+use Rattle.base.specs.Each.{Chained}
 use Rattle.model.specs.Model.{Job}
 use Rattle.plan_grammar.specs.Grammar.{Visit, Stated, is_opening_lem, may_stop, part, plan_of}
 

@@ -1,7 +1,7 @@
 -- O3. The text of a plan: "the plan lines" that the planner prints.
 use Rattle.std.specs.Prelude.{ℕ, ◌+◌, List, [], ◌++◌, map, Bool, false, length, get_or}
 use Rattle.lines.specs.Text.{line_of, texts}
-use Rattle.lines.specs.Chosen.{chosen}
+use Rattle.base.specs.Chosen.{chosen}
 use Rattle.model.specs.Model.{Opening, Job, Plan}
 use Rattle.plan_grammar.specs.Grammar.{Visit}
 

@@ -5,8 +5,8 @@ use mathlib.Core.List.{List}
 use mathlib.Core.Bool.{Bool, false}
 use lib.ListN.{length, get_or, take}
 use lib.Seq.{get_or-take}
-use Rattle.lines.specs.Chosen.{chosen}
-use Rattle.lines.proofs.Chosen.{chosen_same}
+use Rattle.base.specs.Chosen.{chosen}
+use Rattle.base.proofs.Chosen.{chosen_same}
 use Rattle.model.specs.Model.{Job}
 use Rattle.plan_grammar.specs.Rendering.{is_changed_lem, parts_at, visit_at, visits_of}
 use Rattle.jobs.specs.Views.{model_plan, blank_changes}

@@ -8,7 +8,7 @@ use Rattle.jobs.specs.declared.Job.{Job}
 use Rattle.jobs.specs.declared.Plan.{Plan}
 use Rattle.jobs.specs.Views.{changed_in, plan_for}
 use Rattle.plan_grammar.specs.Grammar.{Stated}
-use Rattle.lines.specs.Chosen.{chosen}
+use Rattle.base.specs.Chosen.{chosen}
 use Rattle.plan_text.specs.declared.whole.PlanText.{PlanText}
 
 -- the numbers of those of the first m parts that are changed at opening i

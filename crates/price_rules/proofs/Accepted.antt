@@ -14,7 +14,7 @@ use Rattle.price_rules.specs.Rule.{Rule}
 use Rattle.price_rules.specs.Grammar.{after_base, rule, by_list, by_rule_lem, unless_ruled, prices}
 use Rattle.price_rules.specs.Rendering.{rule_text, prices_text}
 use Rattle.price_rules.specs.Valid.{ValidLines, ValidPrices}
-use Rattle.jobs.proofs.Lists.{chained_each}
+use Rattle.base.proofs.Lists.{chained_each}
 
 -- what is known of the lines behind the base b
 abbrev KnownAfter : ℕ → Rule → Type 0

@@ -18,7 +18,7 @@ use Rattle.price_rules.specs.Rule.{Rule}
 use Rattle.price_rules.specs.Grammar.{after_base, rule, Prices, by_list, by_rule_lem, unless_ruled, prices}
 use Rattle.price_rules.specs.Rendering.{rule_text, prices_text}
 use Rattle.price_rules.specs.Valid.{ValidLines, ValidPrices}
-use Rattle.jobs.proofs.Lists.{each_chained}
+use Rattle.base.proofs.Lists.{each_chained}
 
 -- what follows them does not begin with their key
 pub rule_complete : (o : Option Rule) → ValidLines o → (s : List ℕ) (l : ℕ) → starts_with (bytes "base=") s ≡ false → (l' : ℕ) × (rule (optional_text rule_text o ++ s) l ≡ good o s l')

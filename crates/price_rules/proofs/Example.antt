@@ -6,7 +6,8 @@ use mathlib.Core.Bool.{false}
 use native.Mathlib.Omega.{arith}
 use lib.IntN.{pos}
 use Rattle.lines.specs.Line.{starts_with, read_line_lem}
-use Rattle.lines.specs.Text.{bytes, line, line_of, joined}
+use Rattle.lines.specs.Text.{bytes, line, line_of}
+use Rattle.base.specs.Joined.{joined}
 use Rattle.lines.specs.Parser.{fault, ◌>>=◌, return, row, row_at, optional, if_present, read_field_lem, in_range, taken, times, chain}
 use Rattle.lines.proofs.Parsing.{bind_good, bind_fault, optional_missing}
 use Rattle.lines.proofs.Complete.{optional_present}

@@ -6,7 +6,7 @@ use native.Mathlib.Omega.{arith}
 use lib.ListN.{length, length-append}
 use Rattle.lines.specs.Text.{bytes, decimal_in, line, line_of, texts}
 use Rattle.lines.proofs.Writing.{line_short}
-use Rattle.jobs.specs.Valid.{All}
+use Rattle.base.specs.Each.{All}
 use Rattle.quotes.specs.Grammar.{Quote}
 use Rattle.quotes.specs.Rendering.{quote_text}
 use Rattle.quotes.specs.Valid.{ValidQuote}

@@ -11,9 +11,10 @@ use lib.ListN.{length, length-append, length-map}
 use lib.IntN.{ℤ, pos, negsuc, ◌-ℤ◌, ◌*ℤ◌}
 use lib.Signed.{le_z}
 use borrow.Author.Tests.{leb-true, leb-false}
-use Rattle.lines.specs.Text.{joined}
-use Rattle.model.proofs.Integers.{up, down, difference}
-use Rattle.jobs.specs.Valid.{All, ValidPrice}
+use Rattle.base.specs.Joined.{joined}
+use Rattle.base.proofs.Integers.{up, down, difference}
+use Rattle.base.specs.Each.{All}
+use Rattle.jobs.specs.Valid.{ValidPrice}
 use Rattle.price_rules.specs.Rule.{Rule, rule_price, rule_prices_lem, larger, stated_price}
 use Rattle.model.specs.Model.{Each}
 use Rattle.quotes.specs.Grammar.{Quote, single, high_end, low_end, any_pair}

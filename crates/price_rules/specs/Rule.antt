@@ -1,7 +1,7 @@
 -- E8.2. "Opening number k, counted from 0, then has price base minus k times drop, or least if that is larger."
 use Rattle.std.specs.Prelude.{ℕ, ◌-◌, ◌*◌, max, List, [], ◌∷◌, cond, ℤ, pos, ◌-ℤ◌, ◌*ℤ◌}
 use Rattle.std.specs.Int.Signed.{le_z}
-use Rattle.lines.specs.Text.{joined}
+use Rattle.base.specs.Joined.{joined}
 
 -- what a part's lines in place of its prices say
 pub record Rule : Type 0 where

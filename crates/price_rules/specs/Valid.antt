@@ -1,7 +1,7 @@
 -- What is known of a part's accepted prices.
 use Rattle.std.specs.Prelude.{ℕ, ◌≤◌, ◌≡◌, length, Option, Some, None}
 use Rattle.model.specs.Limits.{dearest}
-use Rattle.jobs.specs.Valid.{All}
+use Rattle.base.specs.Each.{All}
 use Rattle.quotes.specs.Valid.{ValidQuote}
 use Rattle.price_rules.specs.Rule.{Rule}
 use Rattle.price_rules.specs.Grammar.{Prices, by_list, by_rule_lem}

@@ -5,7 +5,7 @@ use mathlib.Core.Path.{◌≡◌, refl, sym, ap, ap₂, ◌∙◌}
 use mathlib.Core.List.{List, [], ◌∷◌, ◌++◌, map}
 use native.Mathlib.Omega.{arith}
 use lib.ListN.{length, get_or, take, drop, set, length-take}
-use Rattle.lines.proofs.Arrays.{take_more}
+use Rattle.base.proofs.Arrays.{take_more}
 use Rattle.quotes.specs.Grammar.{Quote, high_end, low_end}
 use Rattle.quotes.specs.Views.{quote_of, quotes_of, low_of, lows_of}
 

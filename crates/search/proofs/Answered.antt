@@ -18,7 +18,7 @@ use Rattle.model.specs.Unheld.{plain_part_choice, plain_bound, plain_plan, plain
 use Rattle.model.specs.Verdict.{no_part}
 use Rattle.model.specs.Promise.{cut, optimum}
 use Rattle.branch.specs.Planning.{answered, answered_at}
-use Rattle.model.proofs.Bools.{there}
+use Rattle.base.proofs.Bools.{there}
 use Rattle.model.proofs.Offers.{offers-length}
 use Rattle.jobs.specs.declared.Plan as code
 use Rattle.search.specs.declared.Found.{Found}
@@ -26,9 +26,10 @@ use Rattle.search_tables.specs.Arrays.{lane_part, sheet_of, JobArrays}
 use Rattle.search.specs.Plan.{choice_at, no_row, Chooses}
 use Rattle.search.specs.Found.{found_by_lem, stops_in, row_in, changes_in, limited_in, Finds, plan_found, said_by, said_at, said_in}
 use Rattle.search_tables.proofs.Sheets.{sheet_bound_lem}
-use Rattle.walk.specs.State.{bits, found_as, Solves}
-use Rattle.walk.proofs.Nodes.{bits-length}
-use Rattle.walk.specs.declared.Solved.{Solved}
+use Rattle.search_state.specs.State.{bits, found_as}
+use Rattle.walk.specs.State.{Solves}
+use Rattle.search_state.proofs.States.{bits-length}
+use Rattle.search_state.specs.declared.Solved.{Solved}
 
 -- the tie rule's changes have an entry for each opening that is offered
 pub choice_size : (life end prev : ℤ) (os : List Offer) → length (choice_of life end prev os) ≡ length os

@@ -11,7 +11,7 @@ use lib.Seq.{append_snoc, drop-cons, drop-set-lt, get_or-set_same, get_or-set_ot
 use Rattle.jobs.specs.declared.Changes.{Changes}
 use Rattle.search.specs.Plan.{no_row, Rows}
 use Rattle.lane_rows.specs.Layout.{lane_count_lem}
-use Rattle.walk.specs.State.{bits}
+use Rattle.search_state.specs.State.{bits}
 
 drop_same : (n m : ℕ) → drop n (replicate m false) ≡ replicate (m - n) false
 drop_same zero m = let z : m - 0 ≡ m = omega arith in rw z

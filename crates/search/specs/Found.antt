@@ -8,8 +8,8 @@ use Rattle.model.specs.Promise.{PlannerAnswer, no_plan_lem2, cut_none, cut, opti
 use Rattle.model.specs.Unheld.{plain_part_choice, plain_bound, plain_tree}
 use Rattle.jobs.specs.declared.Changes.{Changes}
 use Rattle.jobs.specs.declared.Plan as code
-use Rattle.walk.specs.declared.Solved.{Solved}
-use Rattle.walk.specs.State.{found_as}
+use Rattle.search_state.specs.declared.Solved.{Solved}
+use Rattle.search_state.specs.State.{found_as}
 use Rattle.search.specs.declared.Found.{Found}
 
 -- what a walk found, with this plan

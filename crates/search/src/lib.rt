@@ -15,8 +15,9 @@ use jobs::Plan;
 use lane_rows::{STACK, TABLES};
 use least::TABLE;
 use plan::{changes, stops_of};
+use search_state::Solved;
 use search_tables::flat::FlatJob;
-use walk::{Solved, solve};
+use walk::solve;
 
 // The nodes walked, whether there are more, the incumbent's cost if there is one, the floor, and the incumbent's plan.
 // Kept as a flag: `over` is a fact of its own, and stands beside no value.

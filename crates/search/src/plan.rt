@@ -3,7 +3,7 @@ ghost use denote.Ref.{MutBor};
 ghost use Rattle.std.specs.Prelude.{◌≡◌, ℕ, Bool, List, false, ◌++◌, ◌-◌, ◌<◌, ◌≤◌, length, replicate};
 ghost use Rattle.least.specs.Suffix.{table_size};
 ghost use Rattle.lane_rows.specs.Layout.{lane_count_lem};
-ghost use Rattle.walk.specs.State.{bits};
+ghost use Rattle.search_state.specs.State.{bits};
 ghost use Rattle.search.specs.Plan.{row_of, Rows, Chooses};
 ghost use Rattle.model.specs.Limits.{most_openings, most_parts};
 

@@ -15,11 +15,12 @@ use Rattle.model.specs.Model.{within}
 use Rattle.model.specs.LowerBound.{Offer, least_of_lem, offers}
 use Rattle.model.specs.LastYes.{Climbs}
 use Rattle.model.proofs.LastYes.{first_climbs}
-use Rattle.least.specs.Marks.{mark_of, Bits31}
-use Rattle.least.specs.Filled.{FilledBy}
+use Rattle.least.specs.Marks.{mark_of}
+use Rattle.base.specs.Signed.{Bits31}
+use Rattle.base.specs.Filled.{FilledBy}
 use Rattle.least.specs.Suffix.{code_of, Suffixes}
-use Rattle.least.proofs.Diff.{mag_sub}
-use Rattle.model.proofs.Bools.{after_one, there}
+use Rattle.base.proofs.Diff.{mag_sub}
+use Rattle.base.proofs.Bools.{after_one, there}
 use Rattle.least.proofs.Most.{AtMost, most_least}
 use Rattle.held_places.specs.Arrays.{price_stride, price_size, Timed}
 use Rattle.search_tables.specs.Arrays.{lane_value_lem, lane_part, column_of, columns_from, fours_of_lem, sheet_of, Arrays}

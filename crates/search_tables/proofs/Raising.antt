@@ -10,7 +10,7 @@ use lib.Seq.{take-suc}
 use Rattle.branch.specs.Lower.{larger, largest}
 use Rattle.branch.proofs.Lower.{largest_snoc}
 use Rattle.model.specs.LowerBound.{Offer, least_of_lem}
-use Rattle.least.specs.Filled.{FilledBy}
+use Rattle.base.specs.Filled.{FilledBy}
 use Rattle.least.specs.Marks.{mark_of}
 use Rattle.least.specs.Suffix.{code_of, Suffixes}
 use Rattle.least.proofs.Most.{most_least}

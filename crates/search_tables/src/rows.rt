@@ -1,7 +1,7 @@
 // Numbers of a table, written as a part or as rows.
 ghost use Rattle.std.specs.Prelude.{◌≡◌, ℕ, ◌+◌, ◌*◌, ◌<◌, ◌≤◌, length, get_or};
 ghost use Rattle.lane_rows.specs.Layout.{mark_count, block_rows};
-ghost use Rattle.least.specs.Filled.{FilledBy};
+ghost use Rattle.base.specs.Filled.{FilledBy};
 ghost use Rattle.search_tables.specs.Fill.{Triangle, step_place, step_rows};
 
 use lane_rows::row_of;

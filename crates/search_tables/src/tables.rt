@@ -1,6 +1,6 @@
 // Filling the tables of the walk, one lane after the other.
 ghost use Rattle.std.specs.Prelude.{◌≡◌, ℕ, ◌+◌, ◌*◌, ◌<◌, ◌≤◌, min, length, get_or, pos, ◌-ℤ◌};
-ghost use Rattle.least.specs.Filled.{FilledBy};
+ghost use Rattle.base.specs.Filled.{FilledBy};
 ghost use Rattle.least.specs.Suffix.{table_size};
 ghost use Rattle.lane_rows.specs.Layout.{lane_count_lem, mark_count, inf, suffix_base, reach_base, place, price_place};
 ghost use Rattle.lane_rows.specs.Tables.{Tables};

@@ -14,7 +14,7 @@ use Rattle.branch.specs.Search.{snoc}
 use Rattle.model.specs.Model.{Job, positions, sum_at, table}
 use Rattle.model.specs.Decisions.{Held}
 use Rattle.model.specs.LowerBound.{Offer, offers}
-use Rattle.model.proofs.Bools.{after_one}
+use Rattle.base.proofs.Bools.{after_one}
 use Rattle.model.proofs.Lists.{table_at}
 use Rattle.model.proofs.Sums.{sum_same, sum_both, sum_one}
 use Rattle.model.proofs.Fees.{sum_snoc}

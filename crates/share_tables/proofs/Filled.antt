@@ -16,12 +16,12 @@ use Rattle.model.specs.Limits.{longest_life}
 use Rattle.model.specs.Model.{Job, sum, positions, end, within}
 use Rattle.model.specs.Decisions.{Held, held_parts, places_in}
 use Rattle.model.specs.LowerBound.{Offer, least_of_lem, lower, change_at_lem, offers}
-use Rattle.model.proofs.Bools.{there}
+use Rattle.base.proofs.Bools.{there}
 use Rattle.model.proofs.Lists.{table_same, table_list}
 use Rattle.model.proofs.Sums.{sum_same}
-use Rattle.model.proofs.Integers.{at_most_test, difference}
+use Rattle.base.proofs.Integers.{at_most_test, difference}
 use Rattle.shares.specs.Shares.{bears, owes, shared_prices, shared_part}
-use Rattle.least.specs.Filled.{FilledBy}
+use Rattle.base.specs.Filled.{FilledBy}
 use Rattle.held_places.specs.Arrays.{HeldJobArrays}
 use Rattle.held_places.proofs.Held.{opened, holding, held_size_lem}
 use Rattle.held_tables.specs.Arrays.{HeldArrays}

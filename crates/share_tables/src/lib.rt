@@ -4,7 +4,7 @@
 #![tactic(auto)]
 
 ghost use Rattle.std.specs.Prelude.{◌≡◌, ℕ, ◌+◌, ◌*◌, ◌/◌, ◌%◌, ◌<◌, ◌≤◌, length};
-ghost use Rattle.least.specs.Filled.{FilledBy};
+ghost use Rattle.base.specs.Filled.{FilledBy};
 ghost use Rattle.model.specs.Limits.{most_openings};
 ghost use Rattle.model.specs.Model.{Job};
 ghost use Rattle.least.specs.Suffix.{table_size};

@@ -1,6 +1,7 @@
 -- Every case of the table holds, by computation.
 use mathlib.Core.Path.{refl}
-use Rattle.lines.specs.Text.{bytes, decimal_in, line, joined}
+use Rattle.lines.specs.Text.{bytes, decimal_in, line}
+use Rattle.base.specs.Joined.{joined}
 use Rattle.lines.specs.Line.{digits, number_from, starts_with, read_value_lem, read_line_lem}
 use Rattle.lines.specs.Parser.{◌>>=◌, return, in_range, read_field_lem, taken, row_at, optional_at, if_present, checked, chain, times, end, whole, read_text}
 use Rattle.fault_lines.specs.Fault.{before_break, after_break, skipped, fault_line_lem, fault_span_lem}
@@ -16,7 +17,7 @@ use Rattle.quotes.specs.Grammar as quotes
 use Rattle.price_rules.specs.Grammar as price
 use Rattle.part_lines.specs.Grammar as own
 use Rattle.plan_grammar.specs.Grammar as plan
-use Rattle.lines.specs.Chosen.{chosen}
+use Rattle.base.specs.Chosen.{chosen}
 use Rattle.plan_grammar.specs.Rendering.{visit_text, plan_text_lem, visits_of, plan_lines_of}
 use Rattle.answers.specs.Said.{fault_lines_lem}
 use Rattle.judging.specs.Judge.{cost_lines, unkept_lines, judge_said}
@@ -28,7 +29,7 @@ use Rattle.model.specs.Count.{each_reaches, each_kept, count_from, open_count}
 use Rattle.counting.specs.Count.{counted_job_lem, count_said}
 use Rattle.covers.specs.Grammar as cover
 use Rattle.covers.specs.Views.{meant_cover}
-use Rattle.jobs.specs.Valid.{All}
+use Rattle.base.specs.Each.{All}
 use Rattle.starred.specs.Table.{CaseHolds, Counts, cases, counts}
 
 -- every case of the table gives the answer that it states, and every counted job its count

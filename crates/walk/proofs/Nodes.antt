@@ -1,19 +1,17 @@
 -- From a node to the nodes below it: what the walk is given at each, and how the code's numbers are the search's.
-use Prim.Native.Nat.{ℕ, zero, suc, ◌+◌, ◌-◌, ◌*◌, ◌/◌, ◌%◌, ◌^◌, ◌<◌, ◌≤◌}
+use Prim.Native.Nat.{ℕ, zero, suc, ◌+◌, ◌-◌, ◌*◌, ◌<◌, ◌≤◌}
 use mathlib.Core.Path.{◌≡◌, refl, sym, ap, ap₂, subst, ◌∙◌}
 use mathlib.Core.Bool.{Bool, true, false, cond, false≢true}
 use mathlib.Core.List.{List, [], ◌∷◌}
 use native.Mathlib.Omega.{arith}
-use native.Mathlib.Numerals.{add-one}
-use native.Mathlib.Nat.{add-zero, two-pow-succ, pow-le-pow_right}
-use borrow.Author.Tests.{ltb-false, lt-ltb, le-ltb}
-use lib.Dec.{ltb, leb}
+use native.Mathlib.Nat.{add-zero}
+use borrow.Author.Tests.{lt-ltb}
+use lib.Dec.{ltb}
 use lib.ListN.{length, get_or, length-append}
-use Rattle.std.specs.Prelude.{Some, None}
 use Rattle.branch.specs.declared.Bound.{Bound}
 use Rattle.branch.specs.declared.Bound.TheVariants.{Missing, Sum}
 use Rattle.branch.specs.Lower.{add, total}
-use Rattle.branch.specs.Search.{none, plan, snoc, Limited, with_best, onward}
+use Rattle.branch.specs.Search.{none, snoc, Limited, with_best, onward}
 use Rattle.branch.specs.Label.{tree_of, limited_from, open_from}
 use Rattle.branch.proofs.Bounds.{no_sum_lem, sum_inj}
 use Rattle.branch.proofs.Steps.{bound_at, open_full, open-both}
@@ -21,54 +19,20 @@ use Rattle.model.specs.Model.{sum_at}
 use Rattle.model.specs.LastYes.{last_yes}
 use Rattle.model.proofs.Fees.{sum_snoc}
 use Rattle.model.proofs.LastYes.{last_no, last_yes_lem}
-use Rattle.walk.specs.declared.Search.{Search}
+use Rattle.search_state.specs.declared.Search.{Search}
 use Rattle.walk.specs.declared.Node.{Node}
-use Rattle.lane_rows.specs.Layout.{lane_count_lem, top, dear, inf, suffix_base, reach_base, price_place, mark_place, fee_place, lanes_in, term_place}
+use Rattle.lane_rows.specs.Layout.{top, dear, inf, suffix_base, reach_base, price_place, mark_place, fee_place, lanes_in, term_place}
 use Rattle.lane_rows.specs.Sheet.{Column, Sheet, column_bound, part_sums, fee_term, sheet_bound}
 use Rattle.lane_rows.specs.Tables.{sum_where, Tables}
 use Rattle.lane_rows.specs.Rows.{lane, sum_lanes, FirstRow, Rows, Stack, Memo, Looks, Recalled, term_at, sums_at, Put, Kept, next_row, Owing, Settled}
-use Rattle.walk.specs.State.{bits, decided, view, viewed, no_cost, counted_s, kept_s, reached_s, undropped, open_s, found_as, no_n, yes_n, Pending, ready, owed, At}
+use Rattle.search_state.specs.State.{bits, view, no_cost, counted_s, kept_s, reached_s, open_s}
+use Rattle.walk.specs.State.{decided, no_n, yes_n, Pending, ready, owed, At}
 use Rattle.lane_rows.proofs.Front.{column_yes}
 use Rattle.lane_rows.proofs.Terms.{last_most, first_by, below_by, own_by, node_term, sums_by}
-use Rattle.lane_rows.proofs.Lanes.{lane_most, sum_most, node_there, node_rises, rows_no, rows_yes, rows_kept, rows_root, first_sums_lem, kept_refl, stack_no, stack_yes}
+use Rattle.lane_rows.proofs.Lanes.{node_there, node_rises, rows_no, rows_yes, rows_kept, rows_root, first_sums_lem, kept_refl, stack_no, stack_yes}
 use Rattle.lane_rows.proofs.Memory.{memo_root}
-use Rattle.walk.proofs.Trees.{DueAt, closed, opened}
-
--- ---- decisions in a number
-
--- k decisions in a number are k decisions
-pub bits-length : (k m : ℕ) → length (bits k m) ≡ k
-unfolding bits
-bits-length zero m = refl
-bits-length (suc k) m = simp length-append (omega (arith, bits-length k (m / 2)))
-
--- twice the number has the same decisions and then a no
-pub bits_no : (k m : ℕ) → bits (k + 1) (m * 2) ≡ snoc (bits k m) false
-unfolding bits
-bits_no k m =
-    let z : m * 2 / 2 ≡ m = omega arith in
-    let y : m * 2 % 2 ≡ 0 = omega arith in
-    rw (add-one, z, y)
-
--- twice the number and one has the same decisions and then a yes
-pub bits_yes : (k m : ℕ) → bits (k + 1) (m * 2 + 1) ≡ snoc (bits k m) true
-unfolding bits
-bits_yes k m =
-    let z : (m * 2 + 1) / 2 ≡ m = omega arith in
-    let y : (m * 2 + 1) % 2 ≡ 1 = omega arith in
-    rw (add-one, z, y)
-
--- with fewer than 64 decisions in a number, one decision more fits in 64 bits
-pub mask_fits : (k m : ℕ) → m < 2 ^ k → k < 64 → m * 2 + 1 < 2 ^ 64
-mask_fits k m h l =
-    let z : 2 ^ k ≤ 2 ^ 63 = pow-le-pow_right {n = 2} (omega arith) {i = k} {j = 63} (omega arith) in
-    omega arith
-
--- one decision more in a number takes one bit more
-pub mask_next : (k m : ℕ) → m < 2 ^ k → m * 2 + 1 < 2 ^ (k + 1)
-mask_next k m h =
-    let z : 2 ^ suc k ≡ 2 ^ k + 2 ^ k = two-pow-succ k in
-    rw (add-one k) (omega arith)
+use Rattle.search_state.proofs.Trees.{DueAt, closed, opened}
+use Rattle.search_state.proofs.States.{bits-length, bits_no, bits_yes, mask_next, sums_low}
 
 -- ---- fees and sums
 
@@ -91,10 +55,6 @@ where_sum n s x e = go (ltb n inf) e
     go : (t : Bool) → cond t (Sum s) Missing ≡ Sum x → s ≡ x
     go true g = sum_inj (Sum s) s x refl g
     go false g = absurd (no_sum_lem Missing x refl g)
-
--- no sum of lanes is above sixteen times the number for Missing
-pub sums_low : (t w : List ℕ) (j n y : ℕ) → lanes_in t ≤ lane_count_lem → sum_lanes (lanes_in t) (λ (q : ℕ). lane t w suffix_base j q n) ≡ y → y ≤ lane_count_lem * inf
-sums_low t w j n y h e = omega (arith, e, sum_most (λ (q : ℕ). lane t w suffix_base j q n) inf 0 (lanes_in t) (λ q. lane_most t w suffix_base j q n))
 
 -- ---- a node
 
@@ -321,36 +281,6 @@ module _ (sheet : Sheet) (p : Node) (e : Bound) (due : ℕ) (d : Due sheet p e d
   open-walked y f =
       let r = opened owes (decided p) L (bits n) s y f in
       record { sums = r.sums; within = r.within; on = open-onward (sheet_bound sheet) L k (decided p) (view L n (counted_s s)) ∙ r.on }
-
--- ---- what `open` says, by the part sums
-
-module _ (limit spent : ℕ) (s : Search) where
-  -- a node without part sums
-  pub open_none : (e : Bound) → e ≡ Missing → Missing ≡ open_s limit spent e s
-  open_none e f = rw f (go (leb limit s.count))
-    where
-      go : (b : Bool) → Missing ≡ cond b Missing Missing
-      go true = refl
-      go false = refl
-
-  -- a node that x drops, larger part sums drop too
-  pub open-drops : (x z : ℕ) → x ≤ z → open_s limit spent (Sum x) s ≡ Missing → Missing ≡ open_s limit spent (Sum z) s
-  open-drops x z h e = go (leb limit s.count) e
-    where
-      dropped : (t : Bool) → viewed (spent + x) s ≡ t → cond t (Sum x) Missing ≡ Missing → viewed (spent + z) s ≡ false
-      dropped true f g = absurd (no_sum_lem (Sum x) x g refl)
-      dropped false f g = le-ltb (spent + z) s.cost (omega (arith, ltb-false (spent + x) s.cost f))
-
-      go : (b : Bool) → cond b Missing (undropped spent (Sum x) s) ≡ Missing → Missing ≡ cond b Missing (undropped spent (Sum z) s)
-      go true g = refl
-      go false g = sym (ap (λ (b : Bool). cond b (Sum z) Missing) (dropped (viewed (spent + x) s) refl g))
-
--- ---- the incumbent
-
--- the cost and name that are handed over are those of the best full plan, if there is one
-pub found_is : (b : Bool) (c : ℕ) (l : List Bool) → found_as l (cond b (Some c) None) ≡ cond b (plan c l) none
-found_is true c l = refl
-found_is false c l = refl
 
 -- ---- the first node
 

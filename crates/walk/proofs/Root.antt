@@ -14,13 +14,15 @@ use Rattle.branch.specs.Search.{none}
 use Rattle.branch.specs.Label.{limited_from, open_from}
 use Rattle.model.specs.LastYes.{last_yes}
 use Rattle.walk.specs.declared.Node.{Node}
-use Rattle.walk.specs.declared.Search.{Search}
+use Rattle.search_state.specs.declared.Search.{Search}
 use Rattle.lane_rows.specs.Layout.{lanes_in, term_place}
 use Rattle.lane_rows.specs.Sheet.{Sheet, sheet_bound}
 use Rattle.lane_rows.specs.Tables.{sum_where, Tables}
 use Rattle.lane_rows.specs.Rows.{sum_lanes, FirstRow}
-use Rattle.walk.specs.State.{bits, no_cost, view, counted_s, reached_s, open_s, over_s, solved_s, At, Solves}
-use Rattle.walk.proofs.Nodes.{Due, due_at, due_bound, root_given, Opened, closed_walked, open-walked, found_is}
+use Rattle.search_state.specs.State.{bits, no_cost, view, counted_s, reached_s, open_s, over_s, solved_s}
+use Rattle.walk.specs.State.{At, Solves}
+use Rattle.walk.proofs.Nodes.{Due, due_at, due_bound, root_given, Opened, closed_walked, open-walked}
+use Rattle.search_state.proofs.States.{found_is}
 
 abbrev pub root : Node
 root = record { at = 0; rows = 1; spent = 0; mask = 0 }

@@ -1,7 +1,7 @@
 -- `keeps`: the gap test is the model's, on small numbers.
 use native.Mathlib.Omega.{arith}
 use mir.Facts.{to_z-of_z}
-use Rattle.least.proofs.Diff.{diff_fits}
+use Rattle.base.proofs.Diff.{diff_fits}
 use Rattle.clock.proofs.Ranges.{position_small, before_small, life_bits}
 use Rattle.clock.proofs.keeps.Goals as goal
 

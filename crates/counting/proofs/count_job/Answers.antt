@@ -11,8 +11,9 @@ use Rattle.model.specs.Limits.{longest_life}
 use Rattle.model.specs.Count.{least_life, least_left, count_for}
 use Rattle.model.proofs.Entries.{count_least}
 use Rattle.jobs.specs.Views.{job_of}
-use Rattle.least.specs.Marks.{mark_of, Bits31}
-use Rattle.least.proofs.Diff.{back}
+use Rattle.least.specs.Marks.{mark_of}
+use Rattle.base.specs.Signed.{Bits31}
+use Rattle.base.proofs.Diff.{back}
 use Rattle.clock.proofs.Ranges.{position_bits, life_bits}
 use Rattle.clock.proofs.Places.{places_are}
 use Rattle.counting.proofs.Lives.{least_most}

@@ -6,9 +6,9 @@ use native.Mathlib.Omega.{arith}
 use lib.ListN.{length-set}
 use lib.Seq.{get_or-set_other}
 use Rattle.std.proofs.Common.{rules}
-use Rattle.lines.specs.Text.{joined}
-use Rattle.lines.specs.Chosen.{chosen}
-use Rattle.lines.proofs.Chosen.{numbers_more}
+use Rattle.base.specs.Joined.{joined}
+use Rattle.base.specs.Chosen.{chosen}
+use Rattle.base.proofs.Chosen.{numbers_more}
 use Rattle.lines.proofs.Parsing.{chain_start, chain_more, chain-fault, chain_end}
 use Rattle.covers.specs.Grammar.{holders}
 use Rattle.covers.proofs.Marks.{blank}

@@ -3,7 +3,7 @@ use mathlib.Core.Path.{◌≡◌}
 use mathlib.Core.List.{List}
 use mathlib.Core.Bool.{Bool, false}
 use lib.ListN.{length, get_or}
-use Rattle.lines.specs.Chosen.{numbers_of_lem}
+use Rattle.base.specs.Chosen.{numbers_of_lem}
 use Rattle.lines.specs.Parser.{Parsed, chain}
 use Rattle.lines.specs.declared.rows.Lines.{Lines}
 use Rattle.lines.proofs.Parsing.{behind}

@@ -9,7 +9,7 @@ use Rattle.lane_rows.specs.Layout.{lane_count_lem}
 use Rattle.lane_rows.specs.Rows.{sum_lanes}
 use Rattle.lane_rows.proofs.Lanes.{sum_same}
 use Rattle.fair_shares.specs.Checked.{offer, cost_in_lem}
-use Rattle.model.proofs.Bools.{none_at}
+use Rattle.base.proofs.Bools.{none_at}
 use Rattle.fair_shares.proofs.Rows.{filled_as, offer_small}
 use Rattle.fair_shares.proofs.check_row.Goals as goal
 

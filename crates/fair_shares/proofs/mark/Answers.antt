@@ -1,7 +1,7 @@
 -- `mark` writes what belongs to no share: the rows of lanes as one part of the table.
 use Rattle.std.proofs.Common.{ℕ, ◌+◌, ◌-◌, ◌*◌, ◌/◌, ◌%◌, ◌<◌, ◌≡◌, length, arith}
 use lib.ListN.{get_or, length-take, length-drop}
-use Rattle.least.proofs.Filled.{filled_part}
+use Rattle.base.proofs.Filled.{filled_part}
 use Rattle.share_rows.specs.Places.{take_base}
 use Rattle.fair_shares.specs.Checked.{taken}
 use Rattle.fair_shares.proofs.Rows.{filled_as, marked_by}

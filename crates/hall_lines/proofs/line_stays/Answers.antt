@@ -9,7 +9,7 @@ use Rattle.lane_rows.specs.Tables.{sum_where}
 use Rattle.lane_rows.specs.Rows.{sum_lanes}
 use Rattle.held_lanes.specs.Places.{need_lanes_place}
 use Rattle.held_stops.specs.Stops.{stop_lane}
-use Rattle.walk.specs.State.{open_s}
+use Rattle.search_state.specs.State.{open_s}
 use Rattle.hall_lines.specs.Levels.{rows_in_lem}
 use Rattle.hall_lines.proofs.Lines.{stop_needs, stays_rises, stays_fits, stays_none, stays_some}
 use Rattle.hall_lines.proofs.line_stays.Goals as goal

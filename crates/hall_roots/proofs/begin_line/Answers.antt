@@ -14,7 +14,7 @@ use Rattle.lane_rows.specs.Tables.{Tables}
 use Rattle.lane_rows.proofs.Lanes.{first_most}
 use Rattle.held_rows.specs.Held.{HeldSheet, plain, held, held_bound, Classed}
 use Rattle.held_lanes.specs.Tables.{HeldTables}
-use Rattle.walk.specs.State.{no_cost}
+use Rattle.search_state.specs.State.{no_cost}
 use Rattle.held_nodes.proofs.Root.{bound_first, root_due, root_given}
 use Rattle.hall_lines.specs.declared.Level.{Level}
 use Rattle.hall_lines.specs.Levels.{no_level, level_at}

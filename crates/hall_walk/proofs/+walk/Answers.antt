@@ -6,8 +6,8 @@ use mathlib.Core.List.{List}
 use native.Mathlib.Omega.{arith}
 use Rattle.std.proofs.lemmas.Option.{none-some}
 use Rattle.branch.specs.Search.{snoc}
-use Rattle.walk.specs.declared.Search.{Search}
-use Rattle.walk.specs.State.{kept_s}
+use Rattle.search_state.specs.declared.Search.{Search}
+use Rattle.search_state.specs.State.{kept_s}
 use Rattle.hall_model.specs.Hall.{Hall}
 use Rattle.hall_model.specs.LowerBound.{hall_bound}
 use Rattle.hall_model.specs.Steps.{tree_from}

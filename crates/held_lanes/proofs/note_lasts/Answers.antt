@@ -5,8 +5,8 @@ use mathlib.Core.Bool.{cond}
 use native.Mathlib.Omega.{arith}
 use lib.Dec.{eqb}
 use lib.ListN.{get_or}
-use Rattle.least.specs.Filled.{FilledBy}
-use Rattle.least.proofs.Filled.{filled_none, filled_more}
+use Rattle.base.specs.Filled.{FilledBy}
+use Rattle.base.proofs.Filled.{filled_none, filled_more}
 use Rattle.held_lanes.specs.Places.{bit_at, last_place, offset, classes_place}
 use Rattle.held_lanes.specs.Tables.{noted}
 use Rattle.held_lanes.proofs.Sets.{pick_mask}

@@ -1,5 +1,5 @@
 use Prim.Native.Nat.{◌≤◌}
-use Rattle.least.specs.Filled.{FilledBy}
+use Rattle.base.specs.Filled.{FilledBy}
 use Rattle.held_lanes.specs.Places.{last_place}
 use Rattle.held_lanes.specs.Tables.{noted}
 use Rattle.held_lanes.proofs.note_lasts.Given as goal

@@ -3,7 +3,7 @@ use Prim.Native.Nat.{ℕ}
 use mathlib.Core.Path.{◌≡◌, sym, subst}
 use mathlib.Core.List.{List}
 use native.Mathlib.Omega.{arith}
-use Rattle.least.specs.Filled.{FilledBy}
+use Rattle.base.specs.Filled.{FilledBy}
 use Rattle.lane_rows.specs.Layout.{lanes_in, row_place}
 use Rattle.held_lanes.specs.Tables.{shut_row}
 use Rattle.held_lanes.proofs.stop_row.Goals as goal

@@ -6,7 +6,7 @@ use Rattle.lane_rows.specs.Rows.{lane, sum_lanes}
 use Rattle.lane_rows.proofs.Lanes.{lane_most}
 use Rattle.lane_rows.proofs.Memory.{recalled_none}
 use Rattle.held_nodes.proofs.Given.{sums_low}
-use Rattle.walk.proofs.Dues.{rows_drop, rows_fit, rows_open}
+use Rattle.search_state.proofs.Dues.{rows_drop, rows_fit, rows_open}
 use Rattle.held_nodes.proofs.no_sums.Goals as goal
 use Rattle.held_nodes.proofs.no_sums.Goals.{Start}
 

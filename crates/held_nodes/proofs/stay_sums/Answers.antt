@@ -6,7 +6,7 @@ use Rattle.lane_rows.specs.Rows.{sum_lanes}
 use Rattle.lane_rows.proofs.Memory.{recalled_none}
 use Rattle.held_stops.specs.Stops.{stop_lane}
 use Rattle.held_nodes.proofs.Given.{sums_low, stop_most}
-use Rattle.walk.proofs.Dues.{rows_drop, rows_fit, rows_open}
+use Rattle.search_state.proofs.Dues.{rows_drop, rows_fit, rows_open}
 use Rattle.held_nodes.proofs.stay_sums.Goals as goal
 use Rattle.held_nodes.proofs.stay_sums.Goals.{Start}
 

@@ -7,7 +7,7 @@ use native.Mathlib.Omega.{arith}
 use lib.ListN.{length, get_or, replicate}
 use lib.IntN.{pos, ◌-ℤ◌}
 use Rattle.model.specs.LowerBound.{choice_of}
-use Rattle.least.proofs.Diff.{back}
+use Rattle.base.proofs.Diff.{back}
 use Rattle.held_places.proofs.Parts.{prices_are, places_seen}
 use Rattle.held_search.proofs.part_changes.Goals as goal
 

@@ -2,7 +2,7 @@
 use Prim.Native.Nat.{ℕ, ◌+◌, ◌-◌}
 use Rattle.std.proofs.Common.{arith}
 use lib.ListN.{get_or}
-use Rattle.least.proofs.Filled.{filled_by}
+use Rattle.base.proofs.Filled.{filled_by}
 use Rattle.held_lanes.specs.Places.{mask_base}
 use Rattle.held_tables.proofs.put_leads.Goals as goal
 

@@ -2,7 +2,7 @@
 use Prim.Native.Nat.{ℕ, ◌+◌}
 use native.Mathlib.Omega.{arith}
 use lib.ListN.{get_or}
-use Rattle.least.proofs.Filled.{filled_by}
+use Rattle.base.proofs.Filled.{filled_by}
 use Rattle.lane_rows.proofs.Parts.{filled_at}
 use Rattle.held_lanes.specs.Places.{offset, classes_place, last_place}
 use Rattle.held_walk.proofs.first_marks.Goals as goal

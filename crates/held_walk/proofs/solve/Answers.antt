@@ -12,10 +12,10 @@ use Rattle.lane_rows.specs.Tables.{Tables}
 use Rattle.lane_rows.proofs.Lanes.{first_most}
 use Rattle.held_rows.specs.Held.{HeldSheet, plain, held, held_bound, Classed}
 use Rattle.held_lanes.specs.Tables.{HeldTables}
-use Rattle.walk.specs.declared.Search.{Search}
-use Rattle.walk.specs.State.{open_s}
+use Rattle.search_state.specs.declared.Search.{Search}
+use Rattle.search_state.specs.State.{open_s}
 use Rattle.held_nodes.specs.State.{best_name, view, tree_at, At, HeldSolves}
-use Rattle.walk.proofs.Trees.{DueAt, Opened, closed, opened}
+use Rattle.search_state.proofs.Trees.{DueAt, Opened, closed, opened}
 use Rattle.held_nodes.proofs.Root.{root_n, begun_due, begun_bound, begun_given, fresh, root_ends}
 use Rattle.held_walk.proofs.solve.Goals as goal
 use Rattle.held_walk.proofs.solve.Goals.{After-term-due}

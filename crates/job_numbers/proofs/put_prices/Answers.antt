@@ -2,7 +2,7 @@
 use mathlib.Core.Path.{◌≡◌, refl}
 use native.Mathlib.Omega.{arith}
 use lib.ListN.{length}
-use Rattle.least.proofs.Filled.{filled_more}
+use Rattle.base.proofs.Filled.{filled_more}
 use Rattle.job_numbers.proofs.put_prices.Goals as goal
 
 pub overflow_add-flat : goal.overflow_add-flat

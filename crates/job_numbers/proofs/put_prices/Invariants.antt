@@ -1,6 +1,6 @@
 use Prim.Native.Nat.{ℕ, ◌+◌}
 use lib.ListN.{get_or}
-use Rattle.least.specs.Filled.{FilledBy}
+use Rattle.base.specs.Filled.{FilledBy}
 use Rattle.job_numbers.proofs.put_prices.Given as goal
 
 abbrev pub invariant-loop-i : goal.invariant-loop-i

@@ -5,7 +5,7 @@ use native.Mathlib.Omega.{arith}
 use borrow.Rule.Slice.PartMut.{put_mid}
 use lib.ListN.{get_or, length-set}
 use lib.Seq.{get_or-set_same, get_or-set_other}
-use Rattle.least.specs.Filled.{FilledBy}
+use Rattle.base.specs.Filled.{FilledBy}
 use Rattle.lane_rows.specs.Layout.{lane_count_lem, mark_base, known_place}
 use Rattle.lane_rows.proofs.Parts.{filled_with, filled_at}
 use Rattle.lane_rows.proofs.base_row.Goals as goal

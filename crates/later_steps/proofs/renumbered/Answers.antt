@@ -5,7 +5,7 @@ use mathlib.Core.List.{List, [], ◌∷◌, ◌++◌, map}
 use native.Mathlib.Omega.{arith}
 use lib.ListN.{length, get_or, take, drop, length-set, length-drop}
 use lib.Seq.{take_all}
-use Rattle.lines.proofs.Arrays.{take_more}
+use Rattle.base.proofs.Arrays.{take_more}
 use Rattle.carry.proofs.Later.{After}
 use Rattle.later_steps.proofs.Steps.{seen_more, after_at}
 use Rattle.later_steps.proofs.renumbered.Goals as goal

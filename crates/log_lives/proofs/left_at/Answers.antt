@@ -10,9 +10,9 @@ use mir.Syntax.{w32}
 use mir.Val.{SFits, to_z, of_z}
 use mir.Facts.{to_z-of_z}
 use Rattle.model.specs.Model.{within}
-use Rattle.model.proofs.Integers.{up, down, difference}
+use Rattle.base.proofs.Integers.{up, down, difference}
 use Rattle.model.proofs.Positions.{near, near_within}
-use Rattle.least.proofs.Diff.{mag_sub, diff_fits}
+use Rattle.base.proofs.Diff.{mag_sub, diff_fits}
 use Rattle.model.specs.Limits.{longest_life}
 use Rattle.clock.specs.Placed.{Position, Begins}
 use Rattle.clock.proofs.Ranges.{position_small, position_bits, before_small, before_bits, life_bits}

@@ -6,7 +6,7 @@ use mathlib.Core.List.{List, [], ◌∷◌, ◌++◌}
 use native.Mathlib.Omega.{arith}
 use lib.ListN.{take, length-set}
 use lib.IntN.{ℤ, pos, ◌-ℤ◌}
-use Rattle.lines.proofs.Arrays.{take_more}
+use Rattle.base.proofs.Arrays.{take_more}
 use Rattle.model.specs.Model as model
 use Rattle.model.specs.Model.{table}
 use Rattle.model.proofs.Lists.{table_more}

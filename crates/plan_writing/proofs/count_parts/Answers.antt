@@ -5,11 +5,11 @@ use mathlib.Core.Bool.{Bool, false, cond}
 use native.Mathlib.Omega.{arith}
 use lib.ListN.{get_or, take}
 use lib.Seq.{get_or-take}
-use Rattle.lines.specs.Text.{joined}
-use Rattle.lines.specs.Chosen.{chosen}
+use Rattle.base.specs.Joined.{joined}
+use Rattle.base.specs.Chosen.{chosen}
 use Rattle.jobs.specs.Views.{blank_changes, changed_in}
 use Rattle.jobs.specs.declared.Changes.{Changes}
-use Rattle.lines.proofs.Chosen.{chosen_count, chosen_few}
+use Rattle.base.proofs.Chosen.{chosen_count, chosen_few}
 use Rattle.plan_writing.proofs.Counting.{one_if, one_most}
 use Rattle.plan_writing.proofs.count_parts.Goals as goal
 use Rattle.plan_writing.proofs.count_parts.Goals.{In-loop-part}

@@ -5,12 +5,12 @@ use mathlib.Core.Bool.{Bool, false, cond}
 use native.Mathlib.Omega.{arith}
 use lib.ListN.{length}
 use lib.Seq.{get_or-take}
-use Rattle.lines.specs.Text.{joined}
+use Rattle.base.specs.Joined.{joined}
 use Rattle.jobs.specs.Views.{job_of, plan_for}
-use Rattle.lines.specs.Chosen.{chosen}
+use Rattle.base.specs.Chosen.{chosen}
 use Rattle.plan_grammar.specs.Rendering.{visit_at}
 use Rattle.jobs.proofs.Jobs.{opening_count_lem2}
-use Rattle.lines.proofs.Chosen.{chosen_count, chosen_few, chosen-length}
+use Rattle.base.proofs.Chosen.{chosen_count, chosen_few, chosen-length}
 use Rattle.plan_text.proofs.Chosen.{stops_are}
 use Rattle.plan_writing.proofs.Counting.{one_if, one_most}
 use Rattle.plan_writing.proofs.count_stops.Goals as goal

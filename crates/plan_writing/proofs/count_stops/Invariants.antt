@@ -2,7 +2,7 @@ use mathlib.Core.Path.{◌≡◌}
 use mathlib.Core.Bool.{Bool, false}
 use Prim.Native.Nat.{ℕ}
 use lib.ListN.{length, get_or}
-use Rattle.lines.specs.Chosen.{chosen}
+use Rattle.base.specs.Chosen.{chosen}
 use Rattle.jobs.specs.declared.Plan.{Plan}
 use Rattle.plan_writing.proofs.count_stops.Given as goal
 

@@ -6,12 +6,13 @@ use mathlib.Core.Bool.{Bool, true, false, cond}
 use native.Mathlib.Omega.{arith}
 use lib.ListN.{get_or, take}
 use lib.Seq.{get_or-take}
-use Rattle.lines.specs.Text.{bytes, line_of, texts, joined}
+use Rattle.lines.specs.Text.{bytes, line_of, texts}
+use Rattle.base.specs.Joined.{joined}
 use Rattle.line_writing.proofs.Putting.{none, same, room_same, room_turn, turn}
 use Rattle.jobs.specs.Views.{blank_changes, changed_in}
 use Rattle.jobs.specs.declared.Changes.{Changes}
 use Rattle.plan_text.specs.Views.{numbers_at}
-use Rattle.lines.proofs.Chosen.{chosen-texts}
+use Rattle.lines.proofs.Texts.{chosen-texts}
 use Rattle.plan_writing.proofs.put_parts.Goals as goal
 use Rattle.plan_writing.proofs.put_parts.Invariants.{piece}
 use Rattle.plan_writing.proofs.put_parts.Goals.{In-loop-k, Start, then-part-i, else-part-i}

@@ -1,7 +1,8 @@
 use Prim.Native.Nat.{ℕ, ◌+◌}
 use mathlib.Core.List.{List, []}
 use mathlib.Core.Bool.{cond}
-use Rattle.lines.specs.Text.{line_of, joined}
+use Rattle.lines.specs.Text.{line_of}
+use Rattle.base.specs.Joined.{joined}
 use Rattle.line_writing.specs.Puts.{Puts}
 use Rattle.jobs.specs.Views.{changed_in}
 use Rattle.jobs.specs.declared.Plan.{Plan}

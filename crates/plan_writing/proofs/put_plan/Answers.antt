@@ -12,7 +12,7 @@ use Rattle.jobs.specs.Views.{job_of, plan_for}
 use Rattle.plan_grammar.specs.Grammar.{Visit}
 use Rattle.plan_grammar.specs.Rendering.{visit_at, visit_text, visits_of, plan_text_lem, plan_lines_of}
 use Rattle.jobs.proofs.Jobs.{opening_count_lem2}
-use Rattle.lines.proofs.Chosen.{chosen_few}
+use Rattle.base.proofs.Chosen.{chosen_few}
 use Rattle.plan_writing.proofs.put_plan.Goals as goal
 use Rattle.plan_writing.proofs.put_plan.Goals.{Start}
 

@@ -6,12 +6,13 @@ use mathlib.Core.Bool.{Bool, true, false, cond}
 use native.Mathlib.Omega.{arith}
 use lib.ListN.{get_or, take}
 use lib.Seq.{get_or-take}
-use Rattle.lines.specs.Text.{texts, joined}
+use Rattle.lines.specs.Text.{texts}
+use Rattle.base.specs.Joined.{joined}
 use Rattle.line_writing.proofs.Putting.{none, same, room_same, room_turn, turn}
 use Rattle.jobs.specs.Views.{job_of, plan_for}
 use Rattle.plan_grammar.specs.Rendering.{visit_at, visit_text, visits_of}
 use Rattle.jobs.proofs.Jobs.{opening_count_lem2}
-use Rattle.lines.proofs.Chosen.{chosen-texts}
+use Rattle.lines.proofs.Texts.{chosen-texts}
 use Rattle.plan_text.proofs.Chosen.{stops_are}
 use Rattle.plan_writing.proofs.put_stops.Goals as goal
 use Rattle.plan_writing.proofs.put_stops.Invariants.{piece}

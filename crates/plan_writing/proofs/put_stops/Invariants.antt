@@ -2,7 +2,7 @@ use Prim.Native.Nat.{ℕ}
 use mathlib.Core.List.{List, []}
 use mathlib.Core.Bool.{false, cond}
 use lib.ListN.{get_or}
-use Rattle.lines.specs.Text.{joined}
+use Rattle.base.specs.Joined.{joined}
 use Rattle.line_writing.specs.Puts.{Puts}
 use Rattle.jobs.specs.declared.Job.{Job}
 use Rattle.jobs.specs.Views.{job_of, plan_for}

@@ -13,7 +13,7 @@ use Rattle.plan_grammar.specs.Rendering.{visit_at, visit_text}
 use Rattle.plan_text.specs.Views.{numbers_at}
 use Rattle.jobs.proofs.Plans.{enough_changes}
 use Rattle.plan_grammar.proofs.Jobs.{step_at_lem}
-use Rattle.lines.proofs.Chosen.{chosen_few}
+use Rattle.base.proofs.Chosen.{chosen_few}
 use Rattle.plan_text.proofs.Chosen.{numbers_are}
 use Rattle.plan_writing.proofs.put_visit.Goals as goal
 use Rattle.plan_writing.proofs.put_visit.Goals.{Start, After-put_line}

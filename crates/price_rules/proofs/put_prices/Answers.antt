@@ -1,8 +1,8 @@
 -- `put_prices`: the first prices are written, and as many drops are taken off the base.
 use Rattle.std.proofs.Common.{arith, ◌≡◌, length, refl, sym, ap, ◌∙◌}
 use Rattle.std.proofs.lemmas.List.{take_all}
-use Rattle.lines.specs.Text.{joined}
-use Rattle.lines.proofs.Arrays.{take_more}
+use Rattle.base.specs.Joined.{joined}
+use Rattle.base.proofs.Arrays.{take_more}
 use Rattle.price_rules.specs.Views.{rule_of}
 use Rattle.price_rules.specs.Rule.{rule_prices_lem}
 use Rattle.price_rules.proofs.Prices.{base_next, rule_more}

@@ -5,7 +5,7 @@ use native.Mathlib.Omega.{arith}
 use lib.ListN.{length, replicate, length-replicate}
 use mir.Syntax.{w32}
 use mir.Val.{to_z, of_z}
-use Rattle.least.proofs.Diff.{back}
+use Rattle.base.proofs.Diff.{back}
 use Rattle.held_tables.proofs.Sheets.{arrays_of}
 use Rattle.share_tables.specs.Prepared.{Roomy}
 use Rattle.share_tables.proofs.Fair.{roomy}

@@ -1,5 +1,5 @@
 use Prim.Native.Nat.{ℕ}
-use Rattle.least.specs.Filled.{FilledBy}
+use Rattle.base.specs.Filled.{FilledBy}
 use Rattle.share_tables.specs.Prepared.{shared_in}
 use Rattle.share_tables.proofs.put_shared.Given as goal
 

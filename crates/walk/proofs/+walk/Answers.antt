@@ -9,14 +9,16 @@ use Rattle.branch.specs.Label.{limited_from, open_from}
 use Rattle.branch.specs.declared.Bound.{Bound}
 use Rattle.branch.specs.declared.Bound.TheVariants.{Missing, Sum}
 use Rattle.branch.proofs.Bounds.{sum_inj}
-use Rattle.walk.specs.declared.Search.{Search}
+use Rattle.search_state.specs.declared.Search.{Search}
 use Rattle.walk.specs.declared.Node.{Node}
 use Rattle.lane_rows.specs.Layout.{mark_place, fee_place, term_place}
 use Rattle.lane_rows.specs.Sheet.{Sheet, sheet_bound}
 use Rattle.lane_rows.specs.Rows.{Kept, Rows, Memo, Recalled, term_at, sums_at}
-use Rattle.walk.specs.State.{decided, view, no_cost, open_s, counted_s, reached_s, no_n, yes_n, At}
+use Rattle.walk.specs.State.{decided, no_n, yes_n, At}
+use Rattle.search_state.specs.State.{view, no_cost, open_s, counted_s, reached_s}
 use Rattle.lane_rows.proofs.Memory.{recalled_none, recalled_then}
-use Rattle.walk.proofs.Nodes.{Due, due_at, bound_full, owing, settled, sums_asks, last_no_is, last_yes_is, at_no, at_yes, mask_fits, fits, full_walked, both_walked, Opened, closed_walked, open-walked}
+use Rattle.walk.proofs.Nodes.{Due, due_at, bound_full, owing, settled, sums_asks, last_no_is, last_yes_is, at_no, at_yes, fits, full_walked, both_walked, Opened, closed_walked, open-walked}
+use Rattle.search_state.proofs.States.{mask_fits}
 use Rattle.walk.proofs.+walk.Goals as goal
 use Rattle.walk.proofs.+walk.Goals.{in-Sum, in-Missing, After-open_rows, After-settle-rows, Else-p-cell, Joined-open_rows, Start}
 

@@ -6,10 +6,11 @@ use native.Mathlib.Omega.{arith}
 use native.Mathlib.Nat.{sub-zero}
 use lib.ListN.{length}
 use Rattle.branch.specs.Label.{open_from}
-use Rattle.walk.specs.declared.Search.{Search}
+use Rattle.search_state.specs.declared.Search.{Search}
 use Rattle.lane_rows.specs.Sheet.{sheet_bound}
 use Rattle.lane_rows.proofs.Lanes.{first_most}
-use Rattle.walk.specs.State.{bits, view, Solves}
+use Rattle.search_state.specs.State.{bits, view}
+use Rattle.walk.specs.State.{Solves}
 use Rattle.walk.proofs.Root.{root_fits, root_ends, root_closed, root_child, root_walked, Walked}
 use Rattle.walk.proofs.solve.Goals as goal
 

@@ -5,10 +5,10 @@ use mathlib.Core.Bool.{Bool, true, false, cond}
 use mathlib.Core.List.{List, [], ◌∷◌, ◌++◌, append-nil}
 use native.Mathlib.Omega.{arith}
 use lib.ListN.{length, get_or}
-use Rattle.lines.specs.Text.{joined}
-use Rattle.lines.specs.Chosen.{chosen}
-use Rattle.lines.proofs.Writing.{joined_more}
-use Rattle.lines.proofs.Chosen.{chosen_few}
+use Rattle.base.specs.Joined.{joined}
+use Rattle.base.specs.Chosen.{chosen}
+use Rattle.base.proofs.Joined.{joined_more}
+use Rattle.base.proofs.Chosen.{chosen_few}
 use Rattle.carried_writing.specs.Lists.{held}
 use Rattle.carried_writing.proofs.lists.holders_of.Goals as goal
 use Rattle.carried_writing.proofs.lists.holders_of.Goals.{then-mark, else-mark}

@@ -6,7 +6,7 @@ use mathlib.Core.List.{List, map}
 use native.Mathlib.Omega.{arith}
 use lib.ListN.{length, get_or, take, drop}
 use Rattle.lines.specs.Text.{texts}
-use Rattle.lines.specs.Chosen.{numbers_of_lem}
+use Rattle.base.specs.Chosen.{numbers_of_lem}
 use Rattle.line_writing.proofs.Putting.{same, room_same}
 use Rattle.covers.specs.Views.{cover_there}
 use Rattle.price_rules.specs.Grammar.{by_list}

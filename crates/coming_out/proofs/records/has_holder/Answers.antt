@@ -4,7 +4,7 @@ use lib.ListN.{length, take}
 use Rattle.std.proofs.Common.{rules, ◌∙◌}
 use Rattle.std.proofs.lemmas.Iterator.{YieldsList-from_slice}
 use Rattle.std.proofs.lemmas.Iterator.Search.{any_from_yields_List}
-use Rattle.lines.specs.Chosen.{numbers_of_lem}
+use Rattle.base.specs.Chosen.{numbers_of_lem}
 use Rattle.jobs.specs.declared.Part.{Part}
 use Rattle.coming_out.proofs.Said.{any_holder}
 use Rattle.coming_out.proofs.records.has_holder.Goals as goal

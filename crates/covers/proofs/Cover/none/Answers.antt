@@ -1,7 +1,7 @@
 -- `Cover::none` meets its contract: no mark of sixteen is set, by computation.
 use mathlib.Core.Path.{refl}
-use Rattle.lines.specs.Text.{joined}
-use Rattle.lines.specs.Chosen.{chosen}
+use Rattle.base.specs.Joined.{joined}
+use Rattle.base.specs.Chosen.{chosen}
 use Rattle.covers.proofs.Cover.none.Goals as goal
 
 pub returns : goal.returns

@@ -8,8 +8,8 @@ use lib.Seq.{get_or-take, length-take-le}
 use Rattle.std.proofs.Common.{rules}
 use Rattle.std.proofs.lemmas.Slice.Zip.{zip_turn, zip_end}
 use Rattle.model.specs.Decisions.{concat}
-use Rattle.walk.specs.State.{bits}
-use Rattle.walk.proofs.Nodes.{bits-length}
+use Rattle.search_state.specs.State.{bits}
+use Rattle.search_state.proofs.States.{bits-length}
 use Rattle.held_nodes.specs.State.{blocks_of, best_in}
 use Rattle.held_lanes.proofs.Ranges.{window_at, window_length}
 use Rattle.held_search.specs.Solved.{block_of}

@@ -8,8 +8,8 @@ use lib.ListN.{length, take, set, replicate}
 use lib.Seq.{take_at}
 use Rattle.std.specs.Prelude.{Option}
 use Rattle.std.specs.Option.{is_some}
-use Rattle.walk.specs.State.{bits}
-use Rattle.walk.proofs.Nodes.{bits-length}
+use Rattle.search_state.specs.State.{bits}
+use Rattle.search_state.proofs.States.{bits-length}
 use Rattle.held_search.specs.Solved.{block_said}
 use Rattle.held_search.proofs.Names.{one_more, stop_wrote}
 use Rattle.held_search.proofs.name.put_block.Goals as goal

@@ -5,7 +5,7 @@ use mathlib.Core.Path.{sym, subst}
 use borrow.Author.Count.{below_more}
 use lib.ListN.{get_or, set}
 use lib.Seq.{get_or-set_same, get_or-set_other}
-use Rattle.least.proofs.Filled.{filled_part}
+use Rattle.base.proofs.Filled.{filled_part}
 use Rattle.model.specs.Limits.{most_parts}
 use Rattle.held_lanes.specs.Places.{removal_base}
 use Rattle.held_tables.specs.Fill.{LaneSet}

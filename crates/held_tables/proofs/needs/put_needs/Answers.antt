@@ -1,6 +1,6 @@
 -- `put_needs`: the removals, the sets of lanes, the lists of classes.
 use Rattle.std.proofs.Common.{ℕ, List, Bool, subst}
-use Rattle.least.specs.Filled.{Filled}
+use Rattle.base.specs.Filled.{Filled}
 use Rattle.held_lanes.specs.Places.{need_lanes_place}
 use Rattle.held_tables.specs.Fill.{LaneSet, Lists}
 use Rattle.held_tables.proofs.Filled.{needed}

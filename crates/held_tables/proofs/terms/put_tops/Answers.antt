@@ -2,7 +2,7 @@
 use Prim.Native.Nat.{ℕ}
 use mathlib.Core.Path.{◌∙◌}
 use lib.ListN.{get_or}
-use Rattle.least.proofs.Filled.{filled_none, filled_more}
+use Rattle.base.proofs.Filled.{filled_none, filled_more}
 use Rattle.lane_rows.proofs.Rising.{row_inside}
 use Rattle.held_lanes.specs.Places.{class_place}
 use Rattle.held_lanes.proofs.Most.{most_same}

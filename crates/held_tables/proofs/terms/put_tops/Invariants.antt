@@ -1,6 +1,6 @@
 use Prim.Native.Nat.{ℕ}
 use lib.ListN.{get_or}
-use Rattle.least.specs.Filled.{FilledBy}
+use Rattle.base.specs.Filled.{FilledBy}
 use Rattle.held_lanes.specs.Places.{most_to, class_place, top_place}
 use Rattle.held_tables.proofs.terms.put_tops.Given as goal
 

@@ -7,7 +7,7 @@ use mathlib.Core.Path.{◌≡◌, ◌∙◌}
 use native.Mathlib.Omega.{arith}
 use lib.ListN.{take}
 use Rattle.lines.specs.Text.{bytes}
-use Rattle.lines.proofs.Arrays.{take_more}
+use Rattle.base.proofs.Arrays.{take_more}
 use Rattle.lines.proofs.Steps.{chain_none, chain_next, chain_stopped, chain_done}
 use Rattle.job_grammar.specs.Grammar.{idle, idle_steps_lem}
 use Rattle.job_sections.proofs.idles.read_idle_steps.Goals as goal

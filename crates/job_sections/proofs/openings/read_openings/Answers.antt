@@ -6,7 +6,7 @@ use Prim.Native.Nat.{ℕ}
 use mathlib.Core.Path.{◌≡◌, ◌∙◌}
 use mathlib.Core.List.{map}
 use native.Mathlib.Omega.{arith}
-use Rattle.lines.proofs.Arrays.{map-take_more}
+use Rattle.base.proofs.Arrays.{map-take_more}
 use Rattle.lines.proofs.Steps.{chain_none, chain_next, chain_stopped, chain_done}
 use Rattle.jobs.specs.Views.{opening_of}
 use Rattle.job_grammar.specs.Grammar as grammar

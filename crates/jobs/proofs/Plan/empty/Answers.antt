@@ -5,7 +5,7 @@ use mathlib.Core.Path.{◌≡◌}
 use lib.ListN.{replicate}
 use Rattle.jobs.specs.declared.Changes.{Changes}
 use Rattle.jobs.specs.Views.{changes_of}
-use Rattle.jobs.proofs.Lists.{take-replicate, map-replicate}
+use Rattle.base.proofs.Lists.{take-replicate, map-replicate}
 use Rattle.jobs.proofs.Plan.empty.Goals as goal
 
 -- the row of a part that is never changed

@@ -9,7 +9,7 @@ use Rattle.std.proofs.Common.{rules}
 use Rattle.model.specs.Limits.{dearest}
 use Rattle.model.proofs.Sums.{sum_same}
 use Rattle.model.proofs.Totals.{sum_at_lem}
-use Rattle.jobs.proofs.Lists.{all_at}
+use Rattle.base.proofs.Lists.{all_at}
 use Rattle.plan_costs.proofs.Sums.{little}
 use Rattle.plan_costs.proofs.summing.sum_at.Goals as goal
 

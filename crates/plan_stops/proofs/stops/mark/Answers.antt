@@ -2,7 +2,7 @@
 use Rattle.std.proofs.Common.{ℕ, List, ◌∷◌, [], ◌++◌, ◌<◌, ◌≡◌, Bool, false, ◌||◌, eqb, get_or, take, length, length-set, arith, refl, sym, ap, ◌∙◌}
 use mathlib.Core.Path.{ap₂}
 use lib.Seq.{get_or-take}
-use Rattle.lines.proofs.Arrays.{take_more}
+use Rattle.base.proofs.Arrays.{take_more}
 use Rattle.model.proofs.Lists.{table_more}
 use Rattle.model.specs.Model.{table}
 use Rattle.jobs.specs.Views.{job_of}

@@ -3,7 +3,7 @@ use mathlib.Core.Path.{◌≡◌}
 use mathlib.Core.Bool.{false}
 use mathlib.Core.List.{◌++◌}
 use lib.ListN.{length, drop, replicate}
-use Rattle.walk.specs.State.{bits}
+use Rattle.search_state.specs.State.{bits}
 use Rattle.search.proofs.plan.stops_of.Given as goal
 
 abbrev pub invariant-loop-k : goal.invariant-loop-k

@@ -1,7 +1,7 @@
 -- `clear` fills one part of the table.
 use Prim.Native.Nat.{◌+◌, ◌-◌}
 use native.Mathlib.Omega.{arith}
-use Rattle.least.proofs.Filled.{filled_with}
+use Rattle.base.proofs.Filled.{filled_with}
 use Rattle.search_tables.proofs.rows.clear.Goals as goal
 
 pub returns : goal.returns

@@ -3,7 +3,7 @@ use Prim.Native.Nat.{◌+◌, ◌-◌}
 use mathlib.Core.Path.{refl}
 use native.Mathlib.Omega.{arith}
 use lib.ListN.{length}
-use Rattle.least.proofs.Filled.{filled_part}
+use Rattle.base.proofs.Filled.{filled_part}
 use Rattle.search_tables.proofs.rows.put_at.Goals as goal
 
 pub returns : goal.returns

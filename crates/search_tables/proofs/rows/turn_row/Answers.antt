@@ -2,8 +2,8 @@
 use Prim.Native.Nat.{ℕ, ◌<◌}
 use mathlib.Core.Path.{◌≡◌, subst}
 use native.Mathlib.Omega.{arith}
-use Rattle.least.specs.Filled.{FilledBy}
-use Rattle.least.proofs.Filled.{filled_more}
+use Rattle.base.specs.Filled.{FilledBy}
+use Rattle.base.proofs.Filled.{filled_more}
 use Rattle.search_tables.specs.Fill.{step_place}
 use Rattle.search_tables.proofs.Apart.{step_before, step_apart}
 use Rattle.search_tables.proofs.rows.turn_row.Goals as goal

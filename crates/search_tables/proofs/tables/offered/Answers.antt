@@ -5,7 +5,7 @@ use mir.Syntax.{w32}
 use mir.Val.{to_z, of_z}
 use mathlib.Core.Path.{◌≡◌, ◌∙◌}
 use mir.Facts.{to_z_pos}
-use Rattle.least.proofs.Diff.{back, small_back}
+use Rattle.base.proofs.Diff.{back, small_back}
 use Rattle.search_tables.proofs.Filling.{marks_small}
 use Rattle.search_tables.proofs.tables.offered.Goals as goal
 use Rattle.search_tables.proofs.tables.offered.Goals.{After-last_change}

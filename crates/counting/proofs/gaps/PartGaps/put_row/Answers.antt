@@ -3,7 +3,7 @@ use Prim.Native.Nat.{◌+◌}
 use mathlib.Core.Path.{◌≡◌, ◌∙◌}
 use native.Mathlib.Omega.{arith}
 use lib.ListN.{get_or}
-use Rattle.least.proofs.Filled.{filled_none, filled_more}
+use Rattle.base.proofs.Filled.{filled_none, filled_more}
 use Rattle.counting.specs.Row.{sum_of}
 use Rattle.counting.proofs.Rows.{row_most}
 use Rattle.counting.proofs.gaps.PartGaps.put_row.Goals as goal

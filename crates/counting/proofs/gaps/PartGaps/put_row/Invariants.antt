@@ -1,6 +1,6 @@
 use Prim.Native.Nat.{ℕ}
 use Rattle.model.specs.Count.{in_time_lem}
-use Rattle.least.specs.Filled.{FilledBy}
+use Rattle.base.specs.Filled.{FilledBy}
 use Rattle.counting.specs.Row.{noted}
 use Rattle.counting.proofs.gaps.PartGaps.put_row.Given as goal
 

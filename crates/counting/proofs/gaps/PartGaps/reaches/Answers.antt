@@ -1,8 +1,8 @@
 -- `reaches` is the gap test of a mark and the place behind k openings: their difference fits.
 use mathlib.Core.Path.{sym, subst}
 use native.Mathlib.Omega.{arith}
-use Rattle.least.specs.Marks.{Bits31}
-use Rattle.least.proofs.Diff.{gap_fits}
+use Rattle.base.specs.Signed.{Bits31}
+use Rattle.least.proofs.Gaps.{gap_fits}
 use Rattle.counting.proofs.Near.{place_small}
 use Rattle.counting.proofs.gaps.PartGaps.reaches.Goals as goal
 

@@ -1,6 +1,6 @@
 -- `Parts::of` has the numbers of the parts.
 use native.Mathlib.Omega.{arith}
-use Rattle.least.proofs.Diff.{back}
+use Rattle.base.proofs.Diff.{back}
 use Rattle.held_tables.proofs.Sheets.{arrays_of, lanes_are}
 use Rattle.held_search.proofs.parts.Parts.of.Goals as goal
 

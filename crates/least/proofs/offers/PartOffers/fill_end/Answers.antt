@@ -3,7 +3,7 @@ use Prim.Native.Nat.{◌+◌, ◌-◌, ◌*◌}
 use native.Mathlib.Omega.{arith}
 use lib.ListN.{length}
 use Rattle.least.specs.Suffix.{marks, end_of}
-use Rattle.least.proofs.Filled.{filled_by}
+use Rattle.base.proofs.Filled.{filled_by}
 use Rattle.least.proofs.offers.PartOffers.fill_end.Goals as goal
 
 pub returns : goal.returns

@@ -5,7 +5,7 @@ use native.Mathlib.Omega.{arith}
 use borrow.Author.Rules.{rules}
 use Rattle.model.specs.LowerBound.{lower}
 use Rattle.least.specs.Suffix.{cell, code_of}
-use Rattle.least.proofs.Filled.{filled_more}
+use Rattle.base.proofs.Filled.{filled_more}
 use Rattle.least.proofs.offers.PartOffers.fill_row.Goals as goal
 
 pub loop-i-preserved : goal.loop-i-preserved

@@ -1,7 +1,7 @@
 use mathlib.Core.Bool.{false}
 use lib.ListN.{get_or}
 use Rattle.least.specs.Suffix.{cell, row_of}
-use Rattle.least.specs.Filled.{FilledBy}
+use Rattle.base.specs.Filled.{FilledBy}
 use Rattle.least.proofs.offers.PartOffers.fill_row.Given as goal
 
 abbrev pub invariant-loop-i : goal.invariant-loop-i

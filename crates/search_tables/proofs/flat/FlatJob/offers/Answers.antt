@@ -4,7 +4,7 @@ use mathlib.Core.Path.{sym, ap, ap₂, subst, ◌∙◌}
 use native.Mathlib.Omega.{arith}
 use lib.IntN.{ℤ, pos, ◌-ℤ◌}
 use lib.Signed.{mag}
-use Rattle.least.proofs.Diff.{back}
+use Rattle.base.proofs.Diff.{back}
 use Rattle.model.specs.Limits.{last_position, longest_life}
 use Rattle.search_tables.proofs.Filling.{lane_range}
 use Rattle.search_tables.proofs.flat.FlatJob.offers.Goals as goal

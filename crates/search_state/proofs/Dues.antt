@@ -9,9 +9,9 @@ use Rattle.branch.proofs.Bounds.{no_sum_lem, sum_inj}
 use Rattle.lane_rows.specs.Layout.{lane_count_lem, inf}
 use Rattle.lane_rows.specs.Tables.{sum_where}
 use Rattle.lane_rows.proofs.Lanes.{where_some, where_none}
-use Rattle.walk.specs.declared.Search.{Search}
-use Rattle.walk.specs.State.{instead, open_s, due_s}
-use Rattle.walk.proofs.Nodes.{open_none, open-drops}
+use Rattle.search_state.specs.declared.Search.{Search}
+use Rattle.search_state.specs.State.{instead, open_s, due_s}
+use Rattle.search_state.proofs.States.{open_none, open-drops}
 
 -- where the number put in the place of another is Missing, the other was Missing
 pub instead_none : (d : ℕ) (e : Bound) → instead d e ≡ Missing → e ≡ Missing

@@ -5,9 +5,8 @@ use mathlib.Core.List.{List, [], ◌∷◌, map}
 use native.Mathlib.Omega.{arith}
 use lib.ListN.{length, get_or, take, replicate, length-map, get_or-map}
 use lib.Seq.{get_or-take, length-take-le}
-use Rattle.model.proofs.Bools.{there}
-use Rattle.jobs.specs.Valid.{All}
-use Rattle.lines.proofs.Sound.{Chained}
+use Rattle.base.proofs.Bools.{there}
+use Rattle.base.specs.Each.{All, Chained}
 
 -- what holds of each holds at each place
 pub all_at : {A : Type 0} (P : A → Type 0) (l : List A) (d : A) (i : ℕ) → All P l → i < length l → P (get_or l i d)

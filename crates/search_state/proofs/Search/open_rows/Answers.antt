@@ -5,11 +5,11 @@ use native.Mathlib.Omega.{arith}
 use lib.ListN.{get_or}
 use Rattle.lane_rows.specs.Layout.{lane_count_lem, inf, suffix_base, term_place, lanes_in}
 use Rattle.lane_rows.specs.Rows.{lane, sum_lanes, term_at}
-use Rattle.walk.specs.State.{due_s}
-use Rattle.walk.proofs.Nodes.{sums_low}
-use Rattle.walk.proofs.Dues.{rows_drop, rows_fit, rows_open}
-use Rattle.walk.proofs.Search.open_rows.Goals as goal
-use Rattle.walk.proofs.Search.open_rows.Goals.{Start, After-tested}
+use Rattle.search_state.specs.State.{due_s}
+use Rattle.search_state.proofs.States.{sums_low}
+use Rattle.search_state.proofs.Dues.{rows_drop, rows_fit, rows_open}
+use Rattle.search_state.proofs.Search.open_rows.Goals as goal
+use Rattle.search_state.proofs.Search.open_rows.Goals.{Start, After-tested}
 
 -- the lanes' sum
 abbrev sum : Start → ℕ

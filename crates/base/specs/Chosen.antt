@@ -1,6 +1,6 @@
 -- What a test chooses of numbers that are counted up, and the numbers that a row of marks stands for.
 use Rattle.std.specs.Prelude.{ℕ, ◌+◌, List, [], ◌∷◌, Bool, false, cond, length, get_or}
-use Rattle.lines.specs.Text.{joined}
+use Rattle.base.specs.Joined.{joined}
 
 -- those of f 0, f 1, .. f (n - 1) whose number passes a test, in order
 unfoldable pub chosen : {A : Type 0} → (ℕ → Bool) → (ℕ → A) → ℕ → List A

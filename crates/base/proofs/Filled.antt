@@ -9,7 +9,7 @@ use borrow.Rule.Slice.PartMut.{mid_of, put_mid, post_of, same_len_mid}
 use lib.ListN.{length, get_or, set, take, drop, replicate, length-replicate, length-set, length-take, length-drop, get_or-append}
 use lib.Seq.{get_or-set_same, get_or-set_other, get_or-take, get_or-drop, length-take-le}
 use Rattle.std.proofs.lemmas.List.{get_or-append_right, get_or-replicate}
-use Rattle.least.specs.Filled.{Filled, FilledBy}
+use Rattle.base.specs.Filled.{Filled, FilledBy}
 
 module _ {place : ℕ → ℕ} {Right : ℕ → ℕ → Type 0} {t : List ℕ} where
   -- where nothing is written yet, no place is promised and all keep their numbers

@@ -1,4 +1,4 @@
--- Laws of what a test chooses, one number after the other: how it grows, its length and its text, and the numbers of marks. By recursion over how far the numbers go.
+-- Laws of what a test chooses, one number after the other: how it grows, its length, and the numbers of marks. By recursion over how far the numbers go.
 use Prim.Native.Nat.{ℕ, zero, suc, ◌+◌, ◌-◌, ◌≤◌, ◌<◌}
 use mathlib.Core.Path.{◌≡◌, refl, sym, ap, ap₂, ◌∙◌}
 use mathlib.Core.List.{List, [], ◌∷◌, ◌++◌, append_assoc, append-nil}
@@ -8,10 +8,9 @@ use native.Mathlib.Omega.{arith}
 use native.Mathlib.Nat.{eq-or-lt_of_le}
 use lib.ListN.{length, get_or, set, length-append, length-set}
 use lib.Seq.{get_or-set_same, get_or-set_other}
-use Rattle.lines.specs.Text.{texts, joined}
-use Rattle.lines.specs.Chosen.{chosen, numbers_of_lem}
-use Rattle.lines.proofs.Writing.{joined_more}
-use Rattle.lines.proofs.Texts.{texts_append}
+use Rattle.base.specs.Joined.{joined}
+use Rattle.base.specs.Chosen.{chosen, numbers_of_lem}
+use Rattle.base.proofs.Joined.{joined_more}
 
 -- ---- growth
 
@@ -59,20 +58,6 @@ chosen_front test f zero = sym (append-nil (cond (test 0) (f 0 ∷ []) []))
 chosen_front test f (suc n) =
     ap (λ (xs : List _). xs ++ cond (test (suc n)) (f (suc n) ∷ []) []) (chosen_front test f n)
     ∙ append_assoc (cond (test 0) (f 0 ∷ []) []) (chosen (λ i. test (suc i)) (λ i. f (suc i)) n) (cond (test (suc n)) (f (suc n) ∷ []) [])
-
--- ---- texts
-
-cond_text : {A : Type 0} (w : A → List ℕ) (b : Bool) (x : A) → texts w (cond b (x ∷ []) []) ≡ cond b (w x) []
-cond_text w true x = append-nil (w x)
-cond_text w false x = refl
-
--- the text of what is chosen, piece by piece
-pub chosen-texts : {A : Type 0} (w : A → List ℕ) (test : ℕ → Bool) (f : ℕ → A) (n : ℕ) → texts w (chosen test f n) ≡ joined (λ i. cond (test i) (w (f i)) []) n
-unfolding chosen joined
-chosen-texts w test f zero = refl
-chosen-texts w test f (suc n) =
-    texts_append w (chosen test f n) (cond (test n) (f n ∷ []) [])
-    ∙ ap₂ (λ (xs ys : List ℕ). xs ++ ys) (chosen-texts w test f n) (cond_text w (test n) (f n))
 
 -- ---- marks
 

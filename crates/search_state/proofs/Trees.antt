@@ -15,8 +15,8 @@ use Rattle.branch.proofs.Steps.{bound_at, limited_stop, limited_drop, limited_on
 use Rattle.lane_rows.specs.Layout.{inf}
 use Rattle.lane_rows.specs.Tables.{sum_where}
 use Rattle.lane_rows.proofs.Lanes.{where_some, where_none}
-use Rattle.walk.specs.declared.Search.{Search}
-use Rattle.walk.specs.State.{incumbent_of, view_of, viewed, no_cost, counted_s, reached_s, undropped, open_s}
+use Rattle.search_state.specs.declared.Search.{Search}
+use Rattle.search_state.specs.State.{incumbent_of, view_of, viewed, no_cost, counted_s, reached_s, undropped, open_s}
 
 -- ---- the state
 

@@ -7,10 +7,10 @@ use Rattle.branch.specs.declared.Bound.TheVariants.{Missing, Sum}
 use Rattle.branch.proofs.Bounds.{sum_inj}
 use Rattle.lane_rows.specs.Layout.{inf}
 use Rattle.lane_rows.proofs.Lanes.{value_sum, value_missing}
-use Rattle.walk.specs.State.{instead, open_s, due_s}
-use Rattle.walk.proofs.Dues.{due_missing, due_there}
-use Rattle.walk.proofs.Search.tested.Goals as goal
-use Rattle.walk.proofs.Search.tested.Goals.{In-Sum}
+use Rattle.search_state.specs.State.{instead, open_s, due_s}
+use Rattle.search_state.proofs.Dues.{due_missing, due_there}
+use Rattle.search_state.proofs.Search.tested.Goals as goal
+use Rattle.search_state.proofs.Search.tested.Goals.{In-Sum}
 
 -- the term is there
 there : (c : In-Sum) → (c.args.h ≡ c.in-Sum.g) × (c.in-Sum.g < inf)

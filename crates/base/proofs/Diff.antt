@@ -1,7 +1,6 @@
 -- The difference of two small integers fits an i32.
 use Prim.Native.Nat.{ℕ, zero, suc, ◌+◌, ◌-◌, ◌≤◌, ◌<◌, ◌^◌, max}
-use mathlib.Core.Path.{◌≡◌, refl, sym, ap, subst, ◌∙◌}
-use mathlib.Core.List.{List}
+use mathlib.Core.Path.{◌≡◌, refl}
 use mathlib.Core.Bool.{Bool, true, false, cond}
 use native.Mathlib.Omega.{arith}
 use lib.Dec.{ltb}
@@ -10,7 +9,7 @@ use lib.Signed.{mag}
 use mir.Syntax.{w32}
 use mir.Val.{SFits, to_z, of_z}
 use mir.Facts.{to_z-of_z}
-use Rattle.least.specs.Marks.{Bits31, mark_of}
+use Rattle.base.specs.Signed.{Bits31}
 
 mag_subℕ : (a b : ℕ) → mag (sub_ℕ a b) ≤ max a b
 mag_subℕ a b = go (ltb a b) refl
@@ -39,12 +38,3 @@ back z h = to_z-of_z {w = w32} (record { sfits = h })
 -- a number of 31 bits, read back from its bits, has 31 bits too
 pub small_back : (z : ℤ) → Bits31 z → Bits31 (to_z w32 (of_z w32 z))
 small_back z h = rw (back z (omega arith)) h
-
--- from a mark to a small number, both read back
-pub gap_fits : (z r f : ℤ) (ss : List ℤ) (i : ℕ) → Bits31 z → r ≡ mark_of (to_z w32 (of_z w32 f)) ss i → SFits w32 f → ((j : ℕ) → Bits31 (mark_of f ss j)) → SFits w32 (to_z w32 (of_z w32 z) -ℤ to_z w32 (of_z w32 r))
-gap_fits z r f ss i b e p h =
-    diff_fits (to_z w32 (of_z w32 z)) (to_z w32 (of_z w32 r)) (small_back z b) (small_back r (rw (e ∙ ap (λ (x : ℤ). mark_of x ss i) (to_z-of_z p)) (h i)))
-
--- marks whose first is read back from its bits have 31 bits as before
-pub marks_back : (f : ℤ) (ss : List ℤ) → SFits w32 f → ((i : ℕ) → Bits31 (mark_of f ss i)) → (i : ℕ) → Bits31 (mark_of (to_z w32 (of_z w32 f)) ss i)
-marks_back f ss p h i = subst (λ (x : ℤ). Bits31 (mark_of x ss i)) (sym (to_z-of_z p)) (h i)
