@@ -6,23 +6,26 @@ pub mod task;
 
 ghost use Rattle.std.specs.Prelude.{◌+◌, ◌*◌, ◌<◌, ◌≤◌};
 ghost use Rattle.lane_rows.specs.Layout.{lane_count_lem, inf};
-ghost use Rattle.model.specs.Limits.{most_parts};
+ghost use Rattle.model.specs.Limits.{most_openings, most_parts};
 
 use ascent_lanes::job::Scaled;
 use ascent_lanes::{BORNE, PLACES, narrow, product};
 use lane_rows::{COUNT, FEES, LANES, TABLES};
 use model::{OPENINGS, PARTS};
-use row::{Row, level_row, round_row};
+use row::{Row, WHOLE, WHOLE_STEP, level_row, round_row};
 use share_rows::{HOLDS, REMOVALS, SHARES, TAKES};
 use task::Task;
 
-// How often the scale may be halved, from 256 on.
+// The finest scale: so many parts of one.
+const FINEST: u32 = 256;
+
+// How often the scale may be halved, from the finest on.
 const HALVINGS: usize = 8;
 
 // The most rounds of an ascent.
 const ROUNDS: usize = 400;
 
-// What the ascent holds beside its tables: the highest value so far, how far a step goes, in 256ths, and for how many rounds no higher value came.
+// What the ascent holds beside its tables: the highest value so far, how far a step goes, in parts of a whole one, and for how many rounds no higher value came.
 #[derive(Clone, Copy)]
 struct Climb {
     bound: u64,
@@ -40,9 +43,9 @@ fn round_all(things: usize, scale: u32, u: &mut [u32; PLACES])
     }
 }
 
-// The scale of the ascent: the largest power of two up to 256 at which a sum of so much stays below the number for Missing.
+// The scale of the ascent: the finest at which a sum of so much stays below the number for Missing.
 fn scale_of(most: u64) -> u32 {
-    let mut scale: u32 = 256;
+    let mut scale = FINEST;
     for _ in 0..HALVINGS {
         if 1000000000 < product(narrow(most), scale) {
             scale /= 2;
@@ -51,14 +54,14 @@ fn scale_of(most: u64) -> u32 {
     scale
 }
 
-// How far to go along the direction, in 256ths.
+// How far to go along the direction, in parts of a whole step.
 fn step_size(reach: u32, gap: u64, norm: u64) -> u32 {
     if norm == 0 {
         return 0;
     }
     let p = product(reach, narrow(gap));
     if p < 1125899906842624 {
-        return narrow(p * 4096 / norm);
+        return narrow(p * u64::from(WHOLE) / norm);
     }
     narrow(p / norm)
 }
@@ -80,20 +83,20 @@ impl Climb {
             };
         }
         Climb {
-            reach: self.reach.min(256) * 5 / 8,
+            reach: self.reach.min(WHOLE_STEP) * 5 / 8,
             since: 0,
             ..self
         }
     }
 }
 
-// ---- all rows: row r is that of thing r / 64 at opening r % 64
+// ---- all rows: row r is that of thing r / OPENINGS at opening r % OPENINGS
 
 impl<'a, 'b> Task<'a, 'b> {
     // What the thing of row r costs at its opening: the fee, or a removal; 0 past the last opening.
     // Kept beside the cost of a row that `fair_shares` has: there a removal costs past the last opening too.
     fn worth(&self, r: usize) -> u32
-        requires { r < 1088 }
+        requires { r < (most_parts + 1) * most_openings }
     {
         let k = r % OPENINGS;
         if self.job.openings <= k {
@@ -107,7 +110,7 @@ impl<'a, 'b> Task<'a, 'b> {
 
     // Row r: which parts take its thing, and what that costs.
     fn row(&self, r: usize) -> Row<'b>
-        requires { r < 1088 }
+        requires { r < (most_parts + 1) * most_openings }
     {
         let x = self.x;
         let at = TAKES + r / OPENINGS * LANES;
@@ -144,7 +147,7 @@ impl<'a, 'b> Task<'a, 'b> {
                 norm = norm.wrapping_add(row.turn(&changed[at..at + LANES], d));
             }
         }
-        norm / 4096
+        norm / u64::from(WHOLE)
     }
 
     // A step along the direction, of all shares.
@@ -188,7 +191,7 @@ impl<'a, 'b> Task<'a, 'b> {
         let mut d = [0; PLACES];
         let mut c = Climb {
             bound: 0,
-            reach: 256,
+            reach: WHOLE_STEP,
             since: 0,
         };
         for _ in 0..ROUNDS {

@@ -14,18 +14,24 @@ pub struct Row<'a> {
     ghost few: { length takes.now ≤ lane_count_lem },
 }
 
-// A lane's part of the direction: most of what it was, and some of whether the lane changes here, in 4096ths.
+// A direction's whole: each lane's part of it is said in so many parts.
+pub(crate) const WHOLE: u32 = 4096;
+
+// A whole step along a direction: how far a step goes is said in so many parts of it.
+pub(crate) const WHOLE_STEP: u32 = 256;
+
+// A lane's part of the direction: seven eighths of what it was, and an eighth of the whole if the lane changes here.
 fn blended(d: u32, changed: u32) -> u32 {
-    let e = d.min(4096);
+    let e = d.min(WHOLE);
     if changed == 0 {
-        return e * 14 / 16;
+        return e * 7 / 8;
     }
-    (e * 14 + 8192) / 16
+    (e * 7 + WHOLE) / 8
 }
 
 // How far a share goes along the direction.
 fn moved(u: u32, size: u32, d: u32) -> u32 {
-    let go = product(size, d.min(4096)) / 1048576;
+    let go = product(size, d.min(WHOLE)) / u64::from(WHOLE_STEP * WHOLE);
     u.wrapping_add(narrow(go).min(250000000))
 }
 

@@ -1,4 +1,4 @@
-// Cutoffs from below: the walk by fair shares from one cutoff after the other, until one lets a plan come out.
+// Cutoffs from below: the walk by fair shares, with lifts of its levels, from one cutoff after the other, until one lets a plan come out.
 #![tactic(auto)]
 
 pub mod found;
@@ -8,13 +8,16 @@ ghost use Rattle.model.specs.Model.{Job};
 ghost use Rattle.model.specs.Decisions.{Held};
 ghost use Rattle.shares.specs.Shares.{Shares as Split, FairShares};
 ghost use Rattle.shares.specs.Certificate.{NoneUnder};
+ghost use Rattle.shares.specs.Dolls.{LiftedFrom};
 ghost use Rattle.lane_rows.specs.Layout.{inf};
 ghost use Rattle.share_walk.specs.State.{Solvable};
+ghost use Rattle.share_walk.specs.Courses.{lift_in};
 ghost use Rattle.cutoffs.specs.Ends.{seen, ended_s};
 ghost use Rattle.cutoffs.specs.Risen.{RisenRight};
 
 use found::{Over, Undercut};
-use lane_rows::{INF, STACK, TABLES};
+use lane_rows::{INF, STACK, TABLES, base_row};
+use least::MARKS;
 use share_rows::SHARES;
 use share_walk::{NAMES, State, solve};
 
@@ -74,12 +77,13 @@ fn ended_by(s: State, k: u64, floor: u64) -> Option<Risen>
     })
 }
 
-// The walks from one cutoff after the other, from `wish` on, each with at most `limit` nodes. No plan costs less than `floor`.
+// The walks of the job, by shares and lifts, from one cutoff after the other, from `wish` on, each with at most `limit` nodes. No plan costs less than `floor`.
 // Kept as a while loop: the cutoffs rise by growing gaps until the last one is passed.
-// Kept with as many parameters: the first five and the limit are handed on to `share_walk::solve` as they are. Kept with the limit's bound in the clause: it is a plain number that the call hands down, and a type of it would be made once.
+// Kept with as many parameters: the first six and the limit are handed on to `share_walk::solve` as they are. Kept with the limit's bound in the clause: it is a plain number that the call hands down, and a type of it would be made once.
 pub fn rise(
     t: &[u32; TABLES],
     x: &[u32; SHARES],
+    lifts: &[u32; MARKS],
     w: &mut [u32; STACK],
     name: &mut [bool; NAMES],
     best: &mut [bool; NAMES],
@@ -88,13 +92,14 @@ pub fn rise(
     limit: u64,
 ) -> Risen
     requires { ((job : Job) × (shares : Split) × (lanes : List Held) × Solvable job shares lanes t.now x.now) × (limit < 2 ^ 63) }
-    ensures { (job : Job) (shares : Split) (lanes : List Held) → Solvable job shares lanes t.now x.now → FairShares job shares → NoneUnder job floor → RisenRight job shares limit best.new result }
+    ensures { (job : Job) (shares : Split) (lanes : List Held) → Solvable job shares lanes t.now x.now → FairShares job shares → LiftedFrom job shares 0 (lift_in lifts.now) → NoneUnder job floor → RisenRight job shares (lift_in lifts.now) limit best.new result }
 {
     let mut k = first_cutoff(wish, floor);
-    let mut gap = next_gap(wish / 256);
+    let mut gap = (wish / 1024).min(LAST);
     let mut low = floor;
     while low < LAST {
-        let s = solve(t, x, w, name, best, k, limit);
+        base_row(w);
+        let s = solve(t, x, lifts, w, name, best, 0, k, limit);
         if let Some(end) = ended_by(s, k, low) {
             return end;
         }

@@ -5,7 +5,7 @@ pub mod raw;
 
 ghost use Rattle.std.specs.Prelude.{◌≡◌, ℕ, ◌+◌, ◌-◌, ◌*◌, ◌/◌, ◌%◌, ◌<◌, ◌≤◌, length, get_or};
 ghost use Rattle.base.specs.Filled.{FilledBy};
-ghost use Rattle.model.specs.Limits.{most_parts};
+ghost use Rattle.model.specs.Limits.{most_openings, most_parts};
 ghost use Rattle.lane_rows.specs.Layout.{lane_count_lem, dear};
 ghost use Rattle.lane_rows.specs.Rows.{Turned};
 ghost use Rattle.share_rows.specs.Places.{most_things};
@@ -31,7 +31,7 @@ fn room_of(price: u32, things: usize) -> u32
 
 // What row r offers each lane: nothing where it does not take the thing, else what the table has, and no more than the lane's room.
 fn offer_row(shares: &RawShares, x: &[u32; SHARES], r: usize, acc: &mut [u32; LANES])
-    requires { r < shares.now.things * 64 }
+    requires { r < shares.now.things * most_openings }
     ensures { Turned lane_count_lem (offer shares.now.raw.now x.now shares.now.prices.now shares.now.things r) acc.old acc.new }
 {
     let from = r * LANES;
@@ -61,7 +61,7 @@ fn cost_in(fees: &[u32], removals: &[u32], r: usize) -> u32
 
 // What is kept of row r stands in its place.
 fn check_row(shares: &RawShares, r: usize, x: &mut [u32; SHARES])
-    requires { r < shares.now.things * 64 }
+    requires { r < shares.now.things * most_openings }
     ensures { FilledBy (λ (q : ℕ). row_start r + q) (kept shares.now.raw.now x.old shares.now.prices.now shares.now.fees.now shares.now.removals.now shares.now.things r) lane_count_lem x.old x.new }
 {
     let mut acc = [0; LANES];
@@ -78,7 +78,7 @@ fn check_row(shares: &RawShares, r: usize, x: &mut [u32; SHARES])
 // What is kept of the rows of so many things stands in their places.
 // Kept as a loop over rows: a row is written to the table in which the lanes that take its thing are read.
 pub fn check(shares: &RawShares, x: &mut [u32; SHARES])
-    ensures { Kept shares.now.raw.now shares.now.prices.now shares.now.fees.now shares.now.removals.now shares.now.things x.old x.new (shares.now.things * 64) }
+    ensures { Kept shares.now.raw.now shares.now.prices.now shares.now.fees.now shares.now.removals.now shares.now.things x.old x.new (shares.now.things * most_openings) }
 {
     for r in 0..shares.things * OPENINGS {
         check_row(shares, r, x);
@@ -104,7 +104,7 @@ fn takes(needs: &[bool; PAIRS], parts: usize, m: usize, q: usize) -> u32
 fn put_takes(needs: &[bool; PAIRS], parts: usize, rows: &mut [u32])
     requires { (parts ≤ most_parts) × (length rows.old ≤ most_things * lane_count_lem) }
     ensures size { length rows.new ≡ length rows.old }
-    ensures takes { (i : ℕ) → i < length rows.old → get_or rows.new i 0 ≡ taken needs.now parts (i / 16) (i % 16) }
+    ensures takes { (i : ℕ) → i < length rows.old → get_or rows.new i 0 ≡ taken needs.now parts (i / lane_count_lem) (i % lane_count_lem) }
 {
     for (i, lane) in rows.iter_mut().enumerate() {
         *lane = takes(needs, parts, i / LANES, i % LANES);

@@ -5,7 +5,7 @@ use Rattle.model.specs.Promise.{PlannerAnswer, no_plan_lem2, cut_none, cut, opti
 use Rattle.shares.specs.Certificate.{NoneUnder}
 use Rattle.share_search.specs.Sought.{Longer}
 
--- the job has a plan, none costs less than the floor, and one of the walks has more nodes than the walk number: a walk by some fair shares from some cutoff, or the planner's whole walk
+-- the job has a plan, none costs less than the floor, and one of the walks has more nodes than the walk number: a walk by some fair shares, with some lifts of its levels, from some cutoff, or the planner's whole walk
 pub record Beyond (job : Job) (walk floor : ℕ) : Type 0 where
   pub has_plan : HasPlan job
   pub none_under : NoneUnder job floor

@@ -1,4 +1,4 @@
-// The search for the cheapest plan of an accepted job, also where the planner's counted walk is hopeless: that walk with few nodes, walks with fair shares from cutoffs below, and where no plan costs less than the last cutoff the counted walk again.
+// The search for the cheapest plan of an accepted job, also where the planner's counted walk is hopeless: that walk with few nodes, walks with fair shares and lifts from cutoffs below, and where no plan costs less than the last cutoff the counted walk again.
 #![tactic(auto)]
 
 ghost use Rattle.shares.specs.Certificate.{NoneUnder};

@@ -1,28 +1,21 @@
--- What a lane bears depends on what is decided at each opening alone: so blocks that agree up to an opening have the same front there, and behind the decided openings all is as if nothing were decided.
+-- What a lane bears for a change at an opening depends on what is decided there alone; and what is charged.
 use Prim.Native.Nat.{ℕ, zero, suc, ◌+◌, ◌≤◌, ◌<◌}
-use mathlib.Core.Path.{◌≡◌, refl, sym, ap, ap₂, subst, ◌∙◌}
+use mathlib.Core.Path.{◌≡◌, refl, sym, ap, subst, ◌∙◌}
 use mathlib.Core.Bool.{Bool, true, false, cond}
 use mathlib.Core.List.{List, [], ◌∷◌, ◌++◌}
 use native.Mathlib.Omega.{arith}
 use native.Mathlib.Decide.{dec_lt}
 use lib.Dec.{eqb}
-use lib.ListN.{length, get_or, drop}
-use lib.IntN.{ℤ}
+use lib.ListN.{length, get_or}
 use borrow.Author.Tests.{eqb-true, eqb-false}
-use Rattle.branch.specs.declared.Bound.TheVariants.{Sum}
 use Rattle.branch.specs.Search.{snoc}
-use Rattle.model.specs.Model.{Job, positions, sum_at, table}
+use Rattle.model.specs.Model.{Job, sum_at, table}
 use Rattle.model.specs.Decisions.{Held}
-use Rattle.model.specs.LowerBound.{Offer, offers}
-use Rattle.base.proofs.Bools.{after_one}
 use Rattle.model.proofs.Lists.{table_at}
 use Rattle.model.proofs.Sums.{sum_same, sum_both, sum_one}
 use Rattle.model.proofs.Fees.{sum_snoc}
 use Rattle.shares.specs.Shares.{Shares, things, worth, charged_for, shared_prices}
-use Rattle.shares.proofs.Gap.{drop-offers}
 use Rattle.shares.proofs.Exchange.{worth-length}
-use Rattle.lane_rows.specs.Sheet.{front_from, decided_offers, front}
-use Rattle.share_rows.specs.Tables.{column_of}
 use Rattle.share_rows.specs.Stacked.{pays}
 
 -- ---- lists of blocks
@@ -66,28 +59,6 @@ module _ (job : Job) (shares : Shares) (q : ℕ) (held : Held) where
       go (no h) =
           let z : length job.openings ≤ k = omega arith in
           table_past (λ k. pays job shares q held k (get_or bs k [])) (length job.openings) k z ∙ sym (table_past (λ k. pays job shares q held k (get_or ds k [])) (length job.openings) k z)
-
-  -- behind what is decided
-  pub rest_same : (bs : List (List Bool)) → drop (length bs) (offers (positions job) (shared_prices job shares q held bs) []) ≡ drop (length bs) (offers (positions job) (shared_prices job shares q held []) [])
-  rest_same bs = drop-offers (length bs) (positions job) (shared_prices job shares q held bs) (shared_prices job shares q held []) [] [] (λ k h. (price_same bs [] k (get_d_past bs k h), refl))
-
--- ---- fronts
-
-decided_same : (ss : List ℤ) (ns ms : List ℕ) (p : List Bool) → ((k : ℕ) → k < length p → get_or ns k 0 ≡ get_or ms k 0) → decided_offers ss ns p ≡ decided_offers ss ms p
-unfolding decided_offers
-decided_same [] ns ms p h = refl
-decided_same (s ∷ ss) ns ms [] h = refl
-decided_same (s ∷ ss) ns ms (b ∷ p) h =
-    ap₂ (λ (x : ℕ) (l : List Offer). record { position = s; price = x; allowed = b } ∷ l) (h 0 (omega arith))
-    (decided_same ss (drop 1 ns) (drop 1 ms) p (λ k l. after_one ns k 0 ∙ h (suc k) (omega arith) ∙ sym (after_one ms k 0)))
-
--- one block more leaves a part's front over the openings before it as it is
-pub front_same : (job : Job) (shares : Shares) (q : ℕ) (held : Held) (bs : List (List Bool)) (b : List Bool) (p : List Bool) → length p ≤ length bs
-    → front (positions job) (column_of job shares (bs ++ (b ∷ [])) q held) p ≡ front (positions job) (column_of job shares bs q held) p
-front_same job shares q held bs b p h =
-    let col = column_of job shares bs q held in
-    ap (front_from col.life (record { at = col.first; cost = Sum 0 } ∷ []))
-    (decided_same (positions job) (shared_prices job shares q held (bs ++ (b ∷ []))) (shared_prices job shares q held bs) p (λ k l. price_same job shares q held (bs ++ (b ∷ [])) bs k (get_d_front bs b k (omega arith))))
 
 -- ---- what is charged
 

@@ -6,7 +6,8 @@ use Rattle.model.specs.Model.{Job, positions, end, last_change_lem, fee_of, remo
 use Rattle.model.specs.Decisions.{of_holders, Held, held_parts}
 use Rattle.model.specs.LowerBound.{inner}
 use Rattle.model.specs.Verdict.{no_part}
-use Rattle.shares.specs.Shares.{Shares, things, takes, bears, shared_prices, shared_part}
+use Rattle.shares.specs.Shares.{Shares, things, takes, bears, shared_prices}
+use Rattle.shares.specs.Sources.{mark_of, rest_at}
 use Rattle.lane_rows.specs.Layout.{lane_count_lem, top, fee_place, count_place, lanes_in, tables_size}
 use Rattle.lane_rows.specs.Sheet.{Column, Sheet}
 use Rattle.lane_rows.specs.Tables.{Lane}
@@ -28,11 +29,11 @@ column_of job shares bs q held = record { life = pos held.part.life; first = las
 abbrev pub sheet_for : Job → Sheet
 sheet_for job = record { end = end job; positions = positions job; fees = []; parts = 0; columns = [] }
 
--- the lanes of a job: its parts, and past them parts that cost nothing, whatever is decided
+-- the lanes of a job: its parts, and past them parts that cost nothing, whatever is decided and after whichever change
 pub record Lanes (job : Job) (shares : Shares) (lanes : List Held) : Type 0 where
   pub few : length (held_parts job) ≤ lane_count_lem
   pub real : (q : ℕ) → q < length (held_parts job) → lane_at lanes q ≡ get_or (held_parts job) q no_held
-  pub spare : (q : ℕ) → length (held_parts job) ≤ q → q < lane_count_lem → (bs : List (List Bool)) → shared_part job shares bs q (lane_at lanes q) ≡ Sum 0
+  pub spare : (q : ℕ) → length (held_parts job) ≤ q → q < lane_count_lem → (l : ℕ) (bs : List (List Bool)) (k : ℕ) → k ≤ length job.openings → rest_at job shares l bs q (lane_at lanes q) (mark_of job (lane_at lanes q) k) ≡ Sum 0
 
 -- the tables of the walk: least prices from an opening on, with all shares; which openings are in reach; prices with all shares; the fees
 pub record SharedTables (job : Job) (shares : Shares) (lanes : List Held) (t : List ℕ) : Type 0 where

@@ -5,8 +5,9 @@ use Rattle.model.specs.Model.{Job}
 use Rattle.model.specs.Promise.{BestPlan, Any}
 use Rattle.known_cost.specs.Known.{count_under}
 use Rattle.shares.specs.Shares.{Shares, FairShares}
-use Rattle.shares.specs.Optimum.{tree_by, shared_bound}
+use Rattle.shares.specs.Optimum.{tree_by}
 use Rattle.shares.specs.Certificate.{NoneUnder}
+use Rattle.shares.specs.Lift.{Lifted, lifted_bound}
 use Rattle.lane_rows.specs.Layout.{inf}
 use Rattle.jobs.specs.declared.Plan as code
 use Rattle.search.specs.declared.Found.{Found}
@@ -16,13 +17,13 @@ use Rattle.cutoffs.specs.declared.found.Undercut.{Undercut}
 use Rattle.cutoffs.specs.declared.found.Over.{Over}
 use Rattle.cutoffs.specs.Risen.{RisenRight}
 
--- a walk by some fair shares from some cutoff has more nodes than the limit
+-- a walk by some fair shares, with some lifts of its levels, from some cutoff has more nodes than the limit
 abbrev pub Longer : Job → ℕ → Type 0
-Longer job limit = (shares : Shares) × FairShares job shares × (k : ℕ) × (limit < count_under (tree_by job (shared_bound job shares)) k)
+Longer job limit = (shares : Shares) × FairShares job shares × (lift : ℕ → ℕ) × Lifted job shares lift × (k : ℕ) × (limit < count_under (tree_by job (lifted_bound job shares lift)) k)
 
--- the walks by some fair shares end so
+-- the walks by some fair shares with some lifts end so
 abbrev pub Rises : Job → ℕ → List Bool → Risen → Type 0
-Rises job limit best r = (shares : Shares) × FairShares job shares × RisenRight job shares limit best r
+Rises job limit best r = (shares : Shares) × FairShares job shares × (lift : ℕ → ℕ) × Lifted job shares lift × RisenRight job shares lift limit best r
 
 -- a walk was cut
 abbrev pub over_of : Result (Option Undercut) Over → Bool

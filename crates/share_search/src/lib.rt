@@ -1,4 +1,4 @@
-// The cheapest plan of a job, by walks with fair shares from cutoffs below: the tables, the walks, and the plan of the name that they find.
+// The cheapest plan of a job, by walks with fair shares and lifts from cutoffs below: the tables, the lifts, the walks, and the plan of the name that they find.
 // Kept with the limit of a walk in the clauses: it is a plain number, and a type of numbers below 2 to the 63rd would be made and taken apart once in each call.
 // Kept as slices with their room in the clauses: an array would ask for just so much.
 #![tactic(auto)]
@@ -7,21 +7,31 @@ ghost use Rattle.std.specs.Prelude.{◌≡◌, ◌<◌, ◌≤◌, ◌^◌, Ok, 
 ghost use Rattle.model.specs.Model.{Job};
 ghost use Rattle.shares.specs.Certificate.{NoneUnder};
 ghost use Rattle.least.specs.Suffix.{table_size};
+ghost use Rattle.lane_rows.specs.Layout.{inf};
 ghost use Rattle.held_tables.specs.Numbers.{Holds};
 ghost use Rattle.cutoffs.specs.declared.found.Undercut.{Undercut};
 ghost use Rattle.share_search.specs.Sought.{found_of_lem, Rises, Sought};
 
 use branch::Bound;
-use cutoffs::{Risen, rise};
+use cutoffs::{LAST, Risen, rise};
 use held_search::plan_of;
 use held_tables::numbers::HeldNumbers;
 use jobs::Plan;
 use lane_rows::{STACK, TABLES};
 use least::TABLE;
+use level_lifts::lift_levels;
 use search::Found;
 use share_rows::SHARES;
 use share_tables::prepare;
-use share_walk::NAMES;
+use share_walk::{NAMES, lift_of};
+
+// What each walk that looks for a lift tries for beyond the last one: a part of what the shares are worth.
+fn step_of(value: u64) -> u32
+    ensures { result ≤ inf }
+{
+    // Kept as a cast: it is no more than the number for a missing price.
+    (value / 512).max(1).min(LAST) as u32
+}
 
 // Where the walks of a job end. The tables stand on the stack of this call; the name that is found is the first part of `best`.
 fn walked(
@@ -39,7 +49,9 @@ fn walked(
     let mut w = [0; STACK];
     let mut name = [false; NAMES];
     let value = prepare(numbers, tab, &mut t, &mut x);
-    rise(&t, &x, &mut w, &mut name, best, value, floor, limit)
+    let lifts = lift_levels(&t, &x, &mut w, &mut name, best, step_of(value));
+    let wish = value + value / 256 + lift_of(&lifts, 0);
+    rise(&t, &x, &lifts, &mut w, &mut name, best, wish, floor, limit)
 }
 
 // The name that the walks found, in the buffer that they wrote it to; it is empty where they found none.

@@ -1,5 +1,5 @@
 -- The tables that are filled from the prices with all shares are those of the walk by the shares kept.
-use Prim.Native.Nat.{ℕ, ◌+◌, ◌*◌, ◌/◌, ◌%◌, ◌<◌, ◌≤◌}
+use Prim.Native.Nat.{ℕ, zero, suc, ◌+◌, ◌*◌, ◌/◌, ◌%◌, ◌<◌, ◌≤◌}
 use mathlib.Core.Path.{◌≡◌, refl, sym, ap, ap₂, subst, ◌∙◌}
 use mathlib.Core.Bool.{Bool, true, cond}
 use mathlib.Core.List.{List, [], ◌∷◌}
@@ -12,7 +12,7 @@ use lib.IntN.{ℤ, pos, negsuc, ◌-ℤ◌}
 use lib.Signed.{mag}
 use Rattle.branch.specs.declared.Bound.{Bound}
 use Rattle.branch.specs.declared.Bound.TheVariants.{Missing, Sum}
-use Rattle.model.specs.Limits.{longest_life}
+use Rattle.model.specs.Limits.{last_position, longest_life}
 use Rattle.model.specs.Model.{Job, sum, positions, end, within}
 use Rattle.model.specs.Decisions.{Held, held_parts, places_in}
 use Rattle.model.specs.LowerBound.{Offer, least_of_lem, lower, change_at_lem, offers}
@@ -20,7 +20,8 @@ use Rattle.base.proofs.Bools.{there}
 use Rattle.model.proofs.Lists.{table_same, table_list}
 use Rattle.model.proofs.Sums.{sum_same}
 use Rattle.base.proofs.Integers.{at_most_test, difference}
-use Rattle.shares.specs.Shares.{bears, owes, shared_prices, shared_part}
+use Rattle.shares.specs.Shares.{Shares, bears, owes, shared_prices}
+use Rattle.shares.specs.Sources.{mark_of, rest_at}
 use Rattle.base.specs.Filled.{FilledBy}
 use Rattle.held_places.specs.Arrays.{HeldJobArrays}
 use Rattle.held_places.proofs.Held.{opened, holding, held_size_lem}
@@ -114,10 +115,21 @@ lasting life e prev w (o ∷ os) = ap (λ (b : Bound). lower b (change_at_lem li
     low Missing = refl
     low (Sum n) = ap (λ (b : Bool). cond b (Sum n) (Sum 0)) (le-ltb n 0 (omega arith))
 
-late_enough : (e : ℤ) → mag e ≤ 366 → within (pos longest_life) (pos longest_life -ℤ pos longest_life) e ≡ true
+late_enough : (e p : ℤ) → mag e ≤ last_position → mag p ≤ last_position → within (pos longest_life) p e ≡ true
 unfolding within
-late_enough (pos n) h = at_most_test (pos n -ℤ pos 0) (pos longest_life) (omega (arith, difference (pos n) (pos 0)))
-late_enough (negsuc n) h = at_most_test (negsuc n -ℤ pos 0) (pos longest_life) (omega (arith, difference (negsuc n) (pos 0)))
+late_enough (pos n) (pos m) g h = at_most_test (pos n -ℤ pos m) (pos longest_life) (omega (arith, difference (pos n) (pos m)))
+late_enough (pos n) (negsuc m) g h = at_most_test (pos n -ℤ negsuc m) (pos longest_life) (omega (arith, difference (pos n) (negsuc m)))
+late_enough (negsuc n) (pos m) g h = at_most_test (negsuc n -ℤ pos m) (pos longest_life) (omega (arith, difference (negsuc n) (pos m)))
+late_enough (negsuc n) (negsuc m) g h = at_most_test (negsuc n -ℤ negsuc m) (pos longest_life) (omega (arith, difference (negsuc n) (negsuc m)))
+
+-- after any change it lasts to the end
+spare_lasts : (job : Job) (shares : Shares) → mag (end job) ≤ last_position → ((j : ℕ) → mag (get_or (positions job) j (pos 0)) ≤ last_position) → (q l : ℕ) (bs : List (List Bool)) (k : ℕ) → rest_at job shares l bs q spare_held (mark_of job spare_held k) ≡ Sum 0
+spare_lasts job shares e near q l bs k =
+    lasting (pos longest_life) (end job) (mark_of job spare_held k) (late_enough (end job) (mark_of job spare_held k) e (near_mark k)) (drop l (offers (positions job) (shared_prices job shares q spare_held bs) (places_in spare_held bs)))
+  where
+    near_mark : (k : ℕ) → mag (mark_of job spare_held k) ≤ last_position
+    near_mark zero = omega arith
+    near_mark (suc k) = near k
 
 -- ---- the tables
 
@@ -249,10 +261,10 @@ module _ (job : Job) (e : ℤ) (ss : List ℤ) (fs ls rs ps : List ℕ) (nd : Li
         real = λ q l.
             fair.lane_is job e ss fs ls rs ps nd rm ar ho raw x₁ x marked kp q (omega (arith, l, fair.few_parts job e ss fs ls rs ps nd rm ar ho raw x₁ x marked kp)) _
             ∙ there (held_parts job) q spare_held share.no_held l;
-        spare = λ q f l bs.
+        spare = λ q f l lv bs k _.
             (let s = fair.lane_spare job e ss fs ls rs ps nd rm ar ho raw x₁ x marked kp q (omega (arith, f, held_size_lem job e ss fs ls rs ps nd rm ho)) l in
-            ap (shared_part job (shares_in x) bs q) s
-            ∙ lasting (pos longest_life) (end job) (pos longest_life -ℤ pos longest_life) (late_enough (end job) (subst (λ (d : ℤ). mag d ≤ 366) ho.ends ar.plain.late)) (offers (positions job) (shared_prices job (shares_in x) q spare_held bs) (places_in spare_held bs)));
+            ap (λ (held : Held). rest_at job (shares_in x) lv bs q held (mark_of job held k)) s
+            ∙ spare_lasts job (shares_in x) (subst (λ (d : ℤ). mag d ≤ last_position) ho.ends ar.plain.late) (λ j. subst (λ (ps : List ℤ). mag (get_or ps j (pos 0)) ≤ last_position) ho.places (ar.plain.near j)) q lv bs k);
       }
 
   -- the tables filled and the shares kept are those of the job's walk by fair shares

@@ -8,28 +8,30 @@ use native.Mathlib.Numerals.{add-one}
 use native.Mathlib.Decide.{dec_lt}
 use borrow.Author.Tests.{le-ltb, ltb-false, eqb-true, eq-eqb}
 use lib.Dec.{ltb, eqb}
-use lib.ListN.{length, get_or, take, set, length-append, length-set}
+use lib.ListN.{length, get_or, take, set, replicate, length-append, length-replicate, length-set}
 use lib.Seq.{take-suc-set, take-take, take_at}
 use Rattle.branch.specs.declared.Bound.{Bound}
 use Rattle.branch.specs.declared.Bound.TheVariants.{Sum}
+use Rattle.branch.specs.Lower.{add}
 use Rattle.branch.specs.Search.{Tree, plan, below, snoc, Limited, with_best, counted, limited, onward}
 use Rattle.branch.specs.Questions.{left_at}
 use Rattle.branch.proofs.Steps.{bound_at, limited_stop, limited_drop, limited_on, left_bound, on_full}
 use Rattle.model.specs.Model.{Job}
-use Rattle.model.specs.Decisions.{Held}
-use Rattle.model.specs.LowerBound.{inner, node_at}
-use Rattle.shares.specs.Shares.{Shares, estimate}
-use Rattle.shares.specs.Optimum.{shared_bound}
-use Rattle.lane_rows.specs.Layout.{lane_count_lem, dear, inf, suffix_base, row_place, lanes_in, stack_size, tables_size}
+use Rattle.model.specs.LowerBound.{blocks, inner}
+use Rattle.shares.specs.Shares.{Shares}
+use Rattle.shares.specs.Sources.{estimate_from}
+use Rattle.shares.specs.Dolls.{level_from}
+use Rattle.lane_rows.specs.Layout.{lane_count_lem, inf, suffix_base, row_place, lanes_in, stack_size, tables_size}
 use Rattle.lane_rows.specs.Tables.{value_of}
 use Rattle.lane_rows.specs.Rows.{Level as Numbered, lane, sum_lanes, Kept, Memo, Looks, Recalled}
 use Rattle.lane_rows.proofs.Lanes.{lane_most, sum_most}
 use Rattle.lane_rows.proofs.Memory.{recalled_none, recalled_then}
 use Rattle.share_rows.specs.Places.{share_size}
+use Rattle.share_rows.specs.Stacked.{Course, row_most}
 use Rattle.share_rows.proofs.Lanes.{looks_at, stacked_kept, top_kept, test_drops, test_opens}
 use Rattle.share_walk.specs.declared.Node.{Node}
 use Rattle.share_walk.specs.declared.State.{State}
-use Rattle.share_walk.specs.State.{name_size, view, counted_s, stopped_s, kept_s, tree_at, Numbers, At, Above, kept_rows, Below, SharesWalked}
+use Rattle.share_walk.specs.State.{name_size, view, counted_s, stopped_s, kept_s, blocks_at, course_bound, tree_at, Numbers, At, Above, kept_rows, Below, SharesWalked}
 use Rattle.share_walk.proofs.Nodes.{kept_open, kept_stop, both_below}
 
 -- ---- fewer rows
@@ -77,8 +79,8 @@ pub name_less : (name name' s : List Bool) (n m : ℕ) (b : Bool) → take m nam
 name_less name name' s n m b e z l =
     sym (take-take n m name' (omega (arith, z))) ∙ ap (take n) e ∙ take_at s (b ∷ []) n l
 
-module _ (job : Job) (shares : Shares) (lanes : List Held) (s : List Bool) (t x w : List ℕ) (name : List Bool) (p : Node) (a : At job shares lanes s t x w name p) where
-  abbrev nu : Numbers job shares lanes s t x p
+module _ (job : Job) (shares : Shares) (course : Course) (s : List Bool) (t x lifts w : List ℕ) (name : List Bool) (p : Node) (a : At job shares course s t x lifts w name p) where
+  abbrev nu : Numbers job shares course s t x p
   nu = a.numbers
 
   rows_some : 0 < p.rows
@@ -91,29 +93,30 @@ module _ (job : Job) (shares : Shares) (lanes : List Held) (s : List Bool) (t x 
     less_kept = record { size = k.kept.size; rows = λ i l. k.kept.rows i (omega arith); marks = λ i l. k.kept.marks i (omega arith) }
 
     -- after a look that keeps the rows and their memo the node is given as before
-    pub at_looked : At job shares lanes s t x w' name p
+    pub at_looked : At job shares course s t x lifts w' name p
     at_looked =
         record {
           numbers = nu;
+          lift = a.lift;
           name_is = a.name_is;
           room = a.room;
-          rows = stacked_kept job shares lanes (node_at job s) w w' p.rows a.rows k.kept;
+          rows = stacked_kept job shares course (blocks_at job course s) w w' p.rows a.rows k.kept;
           memo = k.memo;
           opening = a.opening;
           stop = λ l.
               let o = a.stop l in
               let r = o.row in
-              let kt = top_kept job shares lanes (node_at job o.at_stop.before) o.at_stop.rs w w' (p.rows - 1) (λ (q : ℕ). get_or w (row_place (p.rows - 1) q) 0) r less_kept in
+              let kt = top_kept job shares course (blocks_at job course o.at_stop.before) o.at_stop.rs w w' (p.rows - 1) (λ (q : ℕ). get_or w (row_place (p.rows - 1) q) 0) r less_kept in
               let same : (q : ℕ) → q < lane_count_lem → get_or w' (row_place (p.rows - 1) q) 0 ≡ get_or w (row_place (p.rows - 1) q) 0 = λ q g. k.kept.rows (row_place (p.rows - 1) q) (omega (arith, rows_some)) in
               record {
                 at_stop = o.at_stop;
-                row = record { below = kt.below; cost = λ q g. ap value_of (same q g) ∙ kt.cost q g; level = λ q g. subst (Numbered (dear * (length (node_at job o.at_stop.before) + 1))) (sym (same q g)) (kt.level q g) };
+                row = record { below = kt.below; cost = λ q g. ap value_of (same q g) ∙ kt.cost q g; level = λ q g. subst (Numbered (row_most (length (blocks_at job course o.at_stop.before) + 1))) (sym (same q g)) (kt.level q g) };
                 memo = memo_fewer t w' p.rows k.memo;
               };
         }
 
   -- what the nodes below are made from
-  pub above_of : (row : List ℕ) → ((q : ℕ) → q < lane_count_lem → get_or row q 0 ≡ get_or w ((p.rows - 1) * lane_count_lem + q) 0) → Above job shares lanes s t x w row p
+  pub above_of : (row : List ℕ) → ((q : ℕ) → q < lane_count_lem → get_or row q 0 ≡ get_or w ((p.rows - 1) * lane_count_lem + q) 0) → Above job shares course s t x w row p
   above_of row e =
       record {
         numbers = nu;
@@ -123,17 +126,17 @@ module _ (job : Job) (shares : Shares) (lanes : List Held) (s : List Bool) (t x 
             let r = o.row in
             record {
               at_stop = o.at_stop;
-              row = record { below = r.below; cost = λ q g. ap value_of (e q g) ∙ r.cost q g; level = λ q g. subst (Numbered (dear * (length (node_at job o.at_stop.before) + 1))) (sym (e q g)) (r.level q g) };
+              row = record { below = r.below; cost = λ q g. ap value_of (e q g) ∙ r.cost q g; level = λ q g. subst (Numbered (row_most (length (blocks_at job course o.at_stop.before) + 1))) (sym (e q g)) (r.level q g) };
               memo = o.memo;
             };
       }
 
   -- what a look asks, and that its sum fits
   pub look_asks : Looks t w p.rows p.at
-  look_asks = subst (Looks t w p.rows) nu.size (looks_at job shares lanes t w (node_at job s) p.rows nu.tables a.rows (omega (arith, nu.size, nu.inside)) a.memo)
+  look_asks = subst (Looks t w p.rows) nu.size (looks_at job shares course t w (blocks_at job course s) p.rows nu.tables a.rows (omega (arith, nu.size, nu.inside)) a.memo)
 
-  -- what is spent and the lanes' sum of a look fit in 64 bits
-  pub look_fits : (v : ℕ) → v ≡ sum_lanes (lanes_in t) (λ (q : ℕ). lane t w suffix_base p.at q p.rows) → p.spent + v < 18446744073709551616
+  -- what is spent and the lanes' sum of a look leave room in 64 bits
+  pub look_fits : (v : ℕ) → v ≡ sum_lanes (lanes_in t) (λ (q : ℕ). lane t w suffix_base p.at q p.rows) → p.spent + v < 9223372036854775808
   look_fits v e =
       let m = sum_most (λ (q : ℕ). lane t w suffix_base p.at q p.rows) inf 0 (lanes_in t) (λ q. lane_most t w suffix_base p.at q p.rows) in
       let y : lanes_in t * inf ≡ lane_count_lem * inf = ap (λ (k : ℕ). k * inf) nu.tables.wide in
@@ -171,31 +174,44 @@ module _ (job : Job) (shares : Shares) (lanes : List Held) (s : List Bool) (t x 
   frame_of w' k = recalled_less t w w' (kept_rows h p) p.rows kept_few k
 
   -- where the limit is reached, stopping there is the search's walk of the node
-  pub walked_stopped : (best : List Bool) (L : ℕ) (c : State) → L ≤ c.count → SharesWalked job shares s t w w name name best best L p c (stopped_s c)
+  pub walked_stopped : (best : List Bool) (L : ℕ) (c : State) → L ≤ c.count → SharesWalked job shares course s t w w name name best best L p c (stopped_s c)
   walked_stopped best L c l =
-      record { search = sym (limited_stop L (tree_at job shares p s) s (view c best) l); frame = frame_of w (recalled_none t w p.rows a.memo); name_kept = refl; room = (refl, refl); lower = omega arith }
+      record { search = sym (limited_stop L (tree_at job shares course p s) s (view c best) l); frame = frame_of w (recalled_none t w p.rows a.memo); name_kept = refl; room = (refl, refl); lower = omega arith }
 
   abbrev sum : ℕ
   sum = sum_lanes lane_count_lem (λ (q : ℕ). lane t w suffix_base p.at q p.rows)
 
-  fits : length (node_at job s) ≤ length job.openings
+  fits : length (blocks_at job course s) ≤ length job.openings
   fits = omega (arith, nu.size, nu.inside)
 
   abbrev sum_is : ℕ → Type 0
-  sum_is v = v ≡ sum_lanes lane_count_lem (λ (q : ℕ). lane t w suffix_base (length (node_at job s)) q p.rows)
+  sum_is v = v ≡ sum_lanes lane_count_lem (λ (q : ℕ). lane t w suffix_base (length (blocks_at job course s)) q p.rows)
 
   sum_is_lem : sum_is sum
   sum_is_lem = ap (λ (k : ℕ). sum_lanes lane_count_lem (λ (q : ℕ). lane t w suffix_base k q p.rows)) (sym nu.size)
 
-  bound_is : bound_at (tree_at job shares p s) ≡ estimate job shares (node_at job s)
-  bound_is = left_bound (shared_bound job shares) 0 h (h - p.next) (length job.openings - p.at) s
+  -- the lift of the node's level
+  abbrev lift : ℕ
+  lift = get_or lifts p.at 0
+
+  -- the node's estimate from the sources, without its lift
+  abbrev from_sources : Bound
+  from_sources = estimate_from job shares course.level course.sources (blocks_at job course s)
+
+  bound_here : course_bound job shares course s ≡ add from_sources (Sum lift)
+  bound_here =
+      let z : level_from job course.level s ≡ p.at = omega (arith, nu.size, length-append (replicate course.level []) (blocks h (length job.openings - course.level) s), length-replicate {A = List Bool} course.level []) in
+      ap (λ (k : ℕ). add from_sources (Sum k)) (ap course.lift z ∙ sym (a.lift p.at nu.inside))
+
+  bound_is : bound_at (tree_at job shares course p s) ≡ add from_sources (Sum lift)
+  bound_is = left_bound (course_bound job shares course) 0 h (h - p.next) (length job.openings - p.at) s ∙ bound_here
 
   -- a node whose sum is not below the known cost is counted and dropped, as the search does
-  pub walked_dropped : (w' : List ℕ) (best : List Bool) (L e : ℕ) (c : State) → Recalled t w w' p.rows → e ≡ p.spent + sum → c.count < L → c.cost ≤ inf → c.cost ≤ e → SharesWalked job shares s t w w' name name best best L p c (counted_s c)
+  pub walked_dropped : (w' : List ℕ) (best : List Bool) (L e : ℕ) (c : State) → Recalled t w w' p.rows → e ≡ p.spent + sum + lift → c.count < L → c.cost ≤ inf → c.cost ≤ e → SharesWalked job shares course s t w w' name name best best L p c (counted_s c)
   walked_dropped w' best L e c k z l i d =
       record {
-        search = sym (limited_drop L (tree_at job shares p s) s (view c best) l (ap (λ (b : Bound). below b (plan c.cost (take c.size best))) bound_is
-            ∙ test_drops job shares lanes t w (node_at job s) p.rows nu.lanes_are nu.tables a.rows fits p.spent c.cost (take c.size best) nu.spent i (omega (arith, z, sum_is_lem, d))));
+        search = sym (limited_drop L (tree_at job shares course p s) s (view c best) l (ap (λ (b : Bound). below b (plan c.cost (take c.size best))) bound_is
+            ∙ test_drops job shares course t w (blocks_at job course s) p.rows nu.lanes_are nu.idle nu.tables a.rows fits p.spent lift c.cost (take c.size best) nu.spent i (omega (arith, z, sum_is_lem, d))));
         frame = frame_of w' k;
         name_kept = refl;
         room = (refl, refl);
@@ -204,24 +220,24 @@ module _ (job : Job) (shares : Shares) (lanes : List Held) (s : List Bool) (t x 
 
   -- ---- a node that is not dropped
 
-  module _ (e L : ℕ) (c : State) (best : List Bool) (z : e ≡ p.spent + sum) (l : c.count < L) (i : c.cost ≤ inf) (d : e < c.cost) where
-    opens : (estimate job shares (node_at job s) ≡ Sum (p.spent + sum_lanes lane_count_lem (λ (q : ℕ). lane t w suffix_base (length (node_at job s)) q p.rows))) × (below (estimate job shares (node_at job s)) (plan c.cost (take c.size best)) ≡ true)
-    opens = test_opens job shares lanes t w (node_at job s) p.rows nu.lanes_are nu.tables a.rows fits p.spent c.cost (take c.size best) nu.spent i (omega (arith, z, sum_is_lem, d))
+  module _ (e L : ℕ) (c : State) (best : List Bool) (z : e ≡ p.spent + sum + lift) (l : c.count < L) (i : c.cost ≤ inf) (d : e < c.cost) where
+    opens : (add from_sources (Sum lift) ≡ Sum (p.spent + sum_lanes lane_count_lem (λ (q : ℕ). lane t w suffix_base (length (blocks_at job course s)) q p.rows) + lift)) × (below (add from_sources (Sum lift)) (plan c.cost (take c.size best)) ≡ true)
+    opens = test_opens job shares course t w (blocks_at job course s) p.rows nu.lanes_are nu.idle nu.tables a.rows fits p.spent lift c.cost (take c.size best) nu.spent i (omega (arith, z, sum_is_lem, d))
 
-    on : limited L (tree_at job shares p s) s (view c best) ≡ onward L (tree_at job shares p s) s (counted (view c best))
-    on = limited_on L (tree_at job shares p s) s (view c best) l (ap (λ (b : Bound). below b (plan c.cost (take c.size best))) bound_is ∙ opens.1)
+    on : limited L (tree_at job shares course p s) s (view c best) ≡ onward L (tree_at job shares course p s) s (counted (view c best))
+    on = limited_on L (tree_at job shares course p s) s (view c best) l (ap (λ (b : Bound). below b (plan c.cost (take c.size best))) bound_is ∙ opens.1)
 
     -- a full node below the known cost is counted and kept with its name, as the search does
-    pub walked_full : (w' : List ℕ) (best' : List Bool) → Recalled t w w' p.rows → p.next ≡ h → p.at ≡ length job.openings → take p.size best' ≡ take p.size name → length best' ≡ length best → SharesWalked job shares s t w w' name name best best' L p c (kept_s (counted_s c) e p.size)
+    pub walked_full : (w' : List ℕ) (best' : List Bool) → Recalled t w w' p.rows → p.next ≡ h → p.at ≡ length job.openings → take p.size best' ≡ take p.size name → length best' ≡ length best → SharesWalked job shares course s t w w' name name best best' L p c (kept_s (counted_s c) e p.size)
     walked_full w' best' k o f g q =
         let y : h - p.next ≡ 0 = omega (arith, o) in
         let v : length job.openings - p.at ≡ 0 = omega (arith, f) in
-        let u : p.spent + sum_lanes lane_count_lem (λ (q : ℕ). lane t w suffix_base (length (node_at job s)) q p.rows) ≡ e = omega (arith, z, sum_is_lem) in
+        let u : p.spent + sum_lanes lane_count_lem (λ (q : ℕ). lane t w suffix_base (length (blocks_at job course s)) q p.rows) + lift ≡ e = omega (arith, z, sum_is_lem) in
         record {
           search = sym (on
-              ∙ ap₂ (λ (k m : ℕ). onward L (left_at (shared_bound job shares) h k m s) s (counted (view c best))) y v
-              ∙ on_full (shared_bound job shares) L h s (counted (view c best))
-              ∙ ap (λ (b : Bound). with_best b s (counted (view c best))) (opens.0 ∙ ap Sum u)
+              ∙ ap₂ (λ (k m : ℕ). onward L (left_at (course_bound job shares course) h k m s) s (counted (view c best))) y v
+              ∙ on_full (course_bound job shares course) L h s (counted (view c best))
+              ∙ ap (λ (b : Bound). with_best b s (counted (view c best))) (bound_here ∙ opens.0 ∙ ap Sum u)
               ∙ (λ j. record { count = c.count + 1; over = c.over; incumbent = plan e ((sym (g ∙ a.name_is)) j) }));
           frame = frame_of w' k;
           name_kept = refl;
@@ -231,7 +247,7 @@ module _ (job : Job) (shares : Shares) (lanes : List Held) (s : List Bool) (t x 
 
     -- both nodes below: what the first leaves
     module _ (m : p.next ≡ h → p.at < length job.openings) (no : Node) (w₁ w₂ w₃ : List ℕ) (n₁ b₁ : List Bool) (r₁ : State)
-        (k : Recalled t w w₁ p.rows) (bn : Below job shares lanes s t x w₁ w₂ p false no) (wn : SharesWalked job shares (snoc s false) t w₂ w₃ (set name p.size false) n₁ best b₁ L no (counted_s c) r₁) where
+        (k : Recalled t w w₁ p.rows) (bn : Below job shares course s t x w₁ w₂ p false no) (wn : SharesWalked job shares course (snoc s false) t w₂ w₃ (set name p.size false) n₁ best b₁ L no (counted_s c) r₁) where
       no_size : no.size ≡ p.size + 1
       no_size = omega (arith, bn.numbers.named, nu.named, length-append s (false ∷ []))
 
@@ -256,7 +272,7 @@ module _ (job : Job) (shares : Shares) (lanes : List Held) (s : List Bool) (t x 
 
       -- and what both do
       module _ (yes : Node) (w₄ w₅ : List ℕ) (n₂ b₂ : List Bool) (r₂ : State)
-          (by : Below job shares lanes s t x w₃ w₄ p true yes) (wy : SharesWalked job shares (snoc s true) t w₄ w₅ (set n₁ p.size true) n₂ b₁ b₂ L yes r₁ r₂) where
+          (by : Below job shares course s t x w₃ w₄ p true yes) (wy : SharesWalked job shares course (snoc s true) t w₄ w₅ (set n₁ p.size true) n₂ b₁ b₂ L yes r₁ r₂) where
         yes-size : yes.size ≡ p.size + 1
         yes-size = omega (arith, by.numbers.named, nu.named, length-append s (true ∷ []))
 
@@ -271,12 +287,12 @@ module _ (job : Job) (shares : Shares) (lanes : List Held) (s : List Bool) (t x 
             recalled_then t w w₄ w₅ (kept_rows h p) (kept_rows h yes) by.kept_more f₄.kept wy.frame
 
         -- the walks of both nodes below, one after the other, are the search's walk of the node
-        pub walked_both : SharesWalked job shares s t w w₅ name n₂ best b₂ L p c r₂
+        pub walked_both : SharesWalked job shares course s t w w₅ name n₂ best b₂ L p c r₂
         walked_both =
             record {
               search = wy.search
                   ∙ ap₂ (λ (tr : Tree) (st : Limited). limited L tr (snoc s true) st) by.tree (wn.search ∙ ap (λ (tr : Tree). limited L tr (snoc s false) (counted (view c best))) bn.tree)
-                  ∙ sym (on ∙ both_below job shares p s L (counted (view c best)) nu.next m);
+                  ∙ sym (on ∙ both_below job shares course p s L (counted (view c best)) nu.next m);
               frame = frames;
               name_kept = second_name ∙ sym a.name_is;
               room = (wy.room.0 ∙ length-set n₁ p.size true ∙ first_long_lem2, wy.room.1 ∙ wn.room.1);
@@ -284,20 +300,20 @@ module _ (job : Job) (shares : Shares) (lanes : List Held) (s : List Bool) (t x 
             }
 
 -- what is given below, with the name in the buffer
-pub at_below : (job : Job) (shares : Shares) (lanes : List Held) (s : List Bool) (t x w w' : List ℕ) (name : List Bool) (p r : Node) (b : Bool) → Below job shares lanes s t x w w' p b r → take r.size name ≡ snoc s b → length name ≡ name_size → At job shares lanes (snoc s b) t x w' name r
-at_below job shares lanes s t x w w' name p r b z e l = record { numbers = z.numbers; name_is = e; room = l; rows = z.rows; memo = z.memo; opening = z.opening; stop = z.stop }
+pub at_below : (job : Job) (shares : Shares) (course : Course) (s : List Bool) (t x lifts w w' : List ℕ) (name : List Bool) (p r : Node) (b : Bool) → ((k : ℕ) → k ≤ length job.openings → get_or lifts k 0 ≡ course.lift k) → Below job shares course s t x w w' p b r → take r.size name ≡ snoc s b → length name ≡ name_size → At job shares course (snoc s b) t x lifts w' name r
+at_below job shares course s t x lifts w w' name p r b f z e l = record { numbers = z.numbers; lift = f; name_is = e; room = l; rows = z.rows; memo = z.memo; opening = z.opening; stop = z.stop }
 
 -- what the nodes below are made from stays, where the rows are kept
-pub above_kept : (job : Job) (shares : Shares) (lanes : List Held) (s : List Bool) (t x w w' row : List ℕ) (p : Node) → Above job shares lanes s t x w row p → Recalled t w w' (kept_rows (inner job) p) → Above job shares lanes s t x w' row p
-above_kept job shares lanes s t x w w' row p a k =
+pub above_kept : (job : Job) (shares : Shares) (course : Course) (s : List Bool) (t x w w' row : List ℕ) (p : Node) → Above job shares course s t x w row p → Recalled t w w' (kept_rows (inner job) p) → Above job shares course s t x w' row p
+above_kept job shares course s t x w w' row p a k =
     record {
       numbers = a.numbers;
       opening = λ o.
           let v = a.opening o in
           let j = subst (Recalled t w w') (kept_open (inner job) p o) k in
-          record { level = v.level; rows = stacked_kept job shares lanes (node_at job s) w w' p.rows v.rows j.kept; memo = j.memo };
+          record { level = v.level; rows = stacked_kept job shares course (blocks_at job course s) w w' p.rows v.rows j.kept; memo = j.memo };
       stop = λ l.
           let v = a.stop l in
           let j = subst (Recalled t w w') (kept_stop (inner job) p l) k in
-          record { at_stop = v.at_stop; row = top_kept job shares lanes (node_at job v.at_stop.before) v.at_stop.rs w w' (p.rows - 1) (λ (q : ℕ). get_or row q 0) v.row j.kept; memo = j.memo };
+          record { at_stop = v.at_stop; row = top_kept job shares course (blocks_at job course v.at_stop.before) v.at_stop.rs w w' (p.rows - 1) (λ (q : ℕ). get_or row q 0) v.row j.kept; memo = j.memo };
     }

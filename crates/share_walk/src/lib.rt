@@ -1,26 +1,23 @@
-// The counted walk of the planner's tree by fair shares, from a known cost: a node, the state, the nodes below, and the recursion.
-// Kept as two parameters in the functions here: the tables `t` and `x`. Tried as a struct of both, each function that reads one had to take it out into a variable first, and each contract to name the struct as it is at the call.
+// The counted walk by fair shares, from sources at a level and with lifts, from a known cost: a node, the state, the nodes below, and the recursion. From level 0 and the first lives it is that of the planner's tree.
+// Kept as parameters side by side in the functions here: the tables `t` and `x`, and in the walk the lifts. Tried as a struct of both, each function that reads one had to take it out into a variable first, and each contract to name the struct as it is at the call.
 // Kept as three parameters of `walk` and `solve`: what they write, the stack `w`, the name at hand and the best one. A struct of the three would be lent anew at each of the two calls that a node makes.
 // Kept with the limit of a walk in the clauses, as in `search`, and with how far a node is (at, next, size): they are plain numbers, and a full node, which has no branches, is a node too.
 #![tactic(auto)]
 
 ghost use Rattle.std.specs.Prelude.{◌≡◌, Bool, true, false, not, ◌&&◌, List, ℕ, ◌+◌, ◌^◌, ◌<◌, ◌≤◌, ltb, eqb, length, get_or, take};
 ghost use Rattle.model.specs.Model.{Job};
-ghost use Rattle.model.specs.Decisions.{Held};
 ghost use Rattle.model.specs.LowerBound.{inner};
-ghost use Rattle.known_cost.specs.Known.{walk_under};
 ghost use Rattle.shares.specs.Shares.{Shares as Split};
-ghost use Rattle.shares.specs.Optimum.{tree_by, shared_bound};
 ghost use Rattle.lane_rows.specs.Layout.{lane_count_lem, mark_count, inf, count_place, lanes_in, row_place};
 ghost use Rattle.lane_rows.specs.Rows.{Put, Memo, Owing, next_row};
 ghost use Rattle.share_rows.specs.Places.{bear_place, holds_place, eased_of};
-ghost use Rattle.share_walk.specs.State.{name_size, counted_s, stopped_s, kept_s, view, open_n, asked_n, At, Above, Below, SharesWalked, Solvable};
+ghost use Rattle.share_rows.specs.Stacked.{Course};
+ghost use Rattle.share_walk.specs.State.{name_size, counted_s, stopped_s, kept_s, view, open_n, asked_n, At, Above, Below, SharesWalked, Ready, course_under};
 
 pub use held_lanes::NAMES;
 use held_lanes::number;
-use lane_rows::{
-    COUNT, FEES, INF, LANES, STACK, TABLES, base_row, cell, look_by_fours, next_lanes,
-};
+use lane_rows::{COUNT, FEES, INF, LANES, STACK, TABLES, cell, lane_sum, next_lanes};
+use least::MARKS;
 use share_rows::{HOLDS, REMOVALS, SHARES, ease, put_top, shut};
 
 // The state of the walk, passed by value and handed back: the nodes reached, whether one was reached beyond the limit, the cost to be undercut, and how long the name of the incumbent is.
@@ -162,9 +159,9 @@ fn below_opening(
     p: Node,
     yes: bool,
 ) -> Node
-    requires { (job : Job) × (shares : Split) × (lanes : List Held) × (s : List Bool) × (row : List ℕ) × Above job shares lanes s t.now x.now w.old row p × (p.next ≡ inner job) × (p.at < length job.openings) }
-    ensures { (job : Job) (shares : Split) (lanes : List Held) (s : List Bool) (row : List ℕ) → Above job shares lanes s t.now x.now w.old row p → p.next ≡ inner job → p.at < length job.openings
-        → Below job shares lanes s t.now x.now w.old w.new p yes result }
+    requires { (job : Job) × (shares : Split) × (course : Course) × (s : List Bool) × (row : List ℕ) × Above job shares course s t.now x.now w.old row p × (p.next ≡ inner job) × (p.at < length job.openings) }
+    ensures { (job : Job) (shares : Split) (course : Course) (s : List Bool) (row : List ℕ) → Above job shares course s t.now x.now w.old row p → p.next ≡ inner job → p.at < length job.openings
+        → Below job shares course s t.now x.now w.old w.new p yes result }
 {
     if yes {
         put_stop(t, x, w, p.at, p.rows);
@@ -182,9 +179,9 @@ fn below_stop(
     p: Node,
     out: bool,
 ) -> Node
-    requires { (job : Job) × (shares : Split) × (lanes : List Held) × (s : List Bool) × Above job shares lanes s t.now x.now w.old row.now p × (p.next < inner job) }
-    ensures { (job : Job) (shares : Split) (lanes : List Held) (s : List Bool) → Above job shares lanes s t.now x.now w.old row.now p → p.next < inner job
-        → Below job shares lanes s t.now x.now w.old w.new p out result }
+    requires { (job : Job) × (shares : Split) × (course : Course) × (s : List Bool) × Above job shares course s t.now x.now w.old row.now p × (p.next < inner job) }
+    ensures { (job : Job) (shares : Split) (course : Course) (s : List Bool) → Above job shares course s t.now x.now w.old row.now p → p.next < inner job
+        → Below job shares course s t.now x.now w.old w.new p out result }
 {
     let mut lanes = *row;
     if out {
@@ -206,9 +203,9 @@ fn below(
     p: Node,
     yes: bool,
 ) -> Node
-    requires { (job : Job) × (shares : Split) × (lanes : List Held) × (s : List Bool) × Above job shares lanes s t.now x.now w.old row.now p × (p.next ≡ inner job → p.at < length job.openings) }
-    ensures { (job : Job) (shares : Split) (lanes : List Held) (s : List Bool) → Above job shares lanes s t.now x.now w.old row.now p → (p.next ≡ inner job → p.at < length job.openings)
-        → Below job shares lanes s t.now x.now w.old w.new p yes result }
+    requires { (job : Job) × (shares : Split) × (course : Course) × (s : List Bool) × Above job shares course s t.now x.now w.old row.now p × (p.next ≡ inner job → p.at < length job.openings) }
+    ensures { (job : Job) (shares : Split) (course : Course) (s : List Bool) → Above job shares course s t.now x.now w.old row.now p → (p.next ≡ inner job → p.at < length job.openings)
+        → Below job shares course s t.now x.now w.old w.new p yes result }
 {
     if p.next < number(x, HOLDS) {
         return below_stop(t, x, w, row, p, yes);
@@ -216,10 +213,20 @@ fn below(
     below_opening(t, x, w, p, yes)
 }
 
-// The walk of the node p and of all below it, with at most `limit` nodes in all. A node is dropped if its estimate is not less than the cost that is known.
+// The lift of a level.
+pub fn lift_of(lifts: &[u32; MARKS], level: usize) -> u64
+    requires { level < mark_count }
+    ensures value { result ≡ get_or lifts.now level 0 }
+    ensures small { result < 2 ^ 32 }
+{
+    u64::from(lifts[level])
+}
+
+// The walk of the node p and of all below it, with at most `limit` nodes in all. A node is dropped if its estimate, with the lift of its level, is not less than the cost that is known.
 pub fn walk(
     t: &[u32; TABLES],
     x: &[u32; SHARES],
+    lifts: &[u32; MARKS],
     w: &mut [u32; STACK],
     name: &mut [bool; NAMES],
     best: &mut [bool; NAMES],
@@ -227,14 +234,14 @@ pub fn walk(
     p: Node,
     s: State,
 ) -> State
-    requires { ((job : Job) × (shares : Split) × (lanes : List Held) × (nm : List Bool) × At job shares lanes nm t.now x.now w.old name.old p) × (s.cost ≤ inf) × (limit < 2 ^ 63) }
-    ensures { (job : Job) (shares : Split) (lanes : List Held) (nm : List Bool) → At job shares lanes nm t.now x.now w.old name.old p
-        → SharesWalked job shares nm t.now w.old w.new name.old name.new best.old best.new limit p s result }
+    requires { ((job : Job) × (shares : Split) × (course : Course) × (nm : List Bool) × At job shares course nm t.now x.now lifts.now w.old name.old p) × (s.cost ≤ inf) × (limit < 2 ^ 63) }
+    ensures { (job : Job) (shares : Split) (course : Course) (nm : List Bool) → At job shares course nm t.now x.now lifts.now w.old name.old p
+        → SharesWalked job shares course nm t.now w.old w.new name.old name.new best.old best.new limit p s result }
 {
     if limit <= s.count {
         return s.stopped();
     }
-    let e = p.spent + look_by_fours(t, w, p.rows, p.at);
+    let e = p.spent + lane_sum(t, w, p.rows, p.at) + lift_of(lifts, p.at);
     let c = s.counted();
     if s.cost <= e {
         return c;
@@ -247,29 +254,30 @@ pub fn walk(
     let size = p.size;
     name[size] = false;
     let no = below(t, x, w, &row, p, false);
-    let a = walk(t, x, w, name, best, limit, no, c);
+    let a = walk(t, x, lifts, w, name, best, limit, no, c);
     name[size] = true;
     let yes = below(t, x, w, &row, p, true);
-    walk(t, x, w, name, best, limit, yes, a)
+    walk(t, x, lifts, w, name, best, limit, yes, a)
 }
 
-// The walk of the whole tree, from a cost that is to be undercut. The incumbent's name is the first part of `best`, as long as the state says; where none was found it is empty and the cost is as it was.
+// The walk from a level, of whose sources the rows are on the stack, from a cost that is to be undercut. The incumbent's name is the first part of `best`, as long as the state says; where none was found it is empty and the cost is as it was.
 pub fn solve(
     t: &[u32; TABLES],
     x: &[u32; SHARES],
+    lifts: &[u32; MARKS],
     w: &mut [u32; STACK],
     name: &mut [bool; NAMES],
     best: &mut [bool; NAMES],
+    level: usize,
     cost: u64,
     limit: u64,
 ) -> State
-    requires { ((job : Job) × (shares : Split) × (lanes : List Held) × Solvable job shares lanes t.now x.now) × (cost ≤ inf) × (limit < 2 ^ 63) }
-    ensures { (job : Job) (shares : Split) (lanes : List Held) → Solvable job shares lanes t.now x.now → view result best.new ≡ walk_under (tree_by job (shared_bound job shares)) cost limit }
+    requires { ((job : Job) × (shares : Split) × (course : Course) × Ready job shares course level t.now x.now lifts.now w.old) × (cost ≤ inf) × (limit < 2 ^ 63) }
+    ensures { (job : Job) (shares : Split) (course : Course) → Ready job shares course level t.now x.now lifts.now w.old → view result best.new ≡ course_under job shares course cost limit }
 {
-    base_row(w);
     let root = Node {
-        at: 0,
-        rows: 1,
+        at: level,
+        rows: level + 1,
         next: number(x, HOLDS),
         size: 0,
         spent: 0,
@@ -280,5 +288,5 @@ pub fn solve(
         cost,
         size: 0,
     };
-    walk(t, x, w, name, best, limit, root, begun)
+    walk(t, x, lifts, w, name, best, limit, root, begun)
 }

@@ -25,13 +25,13 @@ returns c job ho none = let n = c.args.numbers.now in
       plan_found_lem = λ k e.
           (let u = cost_found r.found k e in
           let best = c.walked-risen.new.best in
-          let cheap = subst (λ (i : ℕ). BestPlan job Any i (plan_at job (take u.0.size best))) u.2 (w.2.plan_found_lem u.0 u.1) in
+          let cheap = subst (λ (i : ℕ). BestPlan job Any i (plan_at job (take u.0.size best))) u.2 (w.4.plan_found_lem u.0 u.1) in
           let b = subst (λ (s : List Bool). BestPlan job Any k (plan_at job s)) (sym (c.name_in.ensures u.0 u.1)) cheap in
           subst (λ (q : Plan). BestPlan job Any k q)
           (sym (plan_read job j.end j.positions.now j.fees.now j.lives.now j.lefts.now j.prices.now n.needs.now n.removals.now (lanes_are (arrays_of n)) ho name p.result.stops p.ensures.stops p.result.changes p.ensures.changes b.keeps.size)) b);
-      longer = λ e. let o = over_found r.found e in (w.0, w.1, (w.2.longer o.0 o.1).0, (w.2.longer o.0 o.1).1);
+      longer = λ e. let o = over_found r.found e in let l = w.4.longer o.0 o.1 in (w.0, w.1, w.2, w.3, l.0, l.1);
       low = r.floor;
       floor = refl;
-      none_under = w.2.none_under;
-      passed = λ e f. w.2.passed (none_found r.found e f);
+      none_under = w.4.none_under;
+      passed = λ e f. w.4.passed (none_found r.found e f);
     })

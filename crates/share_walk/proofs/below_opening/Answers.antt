@@ -20,17 +20,17 @@ yes-requires c = let a = c.args in
     (f.0, f.1, f.2, omega (arith, f.3, c.from.ensures))
 
 pub returns-then-yes : goal.returns-then-yes
-returns-then-yes c = λ job shares lanes s row ab o l.
+returns-then-yes c = λ job shares course s row ab o l.
     let a = c.args in
     let pu = c.put_stop in
     let w' = pu.new.w in
-    subst (λ (b : Bool). Below job shares lanes s a.t.now a.x.now a.w.now w' a.p b c.yes.result) (sym c.if-yes.true)
-    (subst (λ (r : Node). Below job shares lanes s a.t.now a.x.now a.w.now w' a.p true r) (sym (c.yes.ensures ∙ ap (λ (k : ℕ). open_n a.p k true) c.from.ensures))
-    (below_stops job shares lanes s a.t.now a.x.now a.w.now row a.p ab o l w' pu.ensures.put (pu.ensures.memo a.t.now ab.numbers.tables.wide (ab.opening o).memo)))
+    subst (λ (b : Bool). Below job shares course s a.t.now a.x.now a.w.now w' a.p b c.yes.result) (sym c.if-yes.true)
+    (subst (λ (r : Node). Below job shares course s a.t.now a.x.now a.w.now w' a.p true r) (sym (c.yes.ensures ∙ ap (λ (k : ℕ). open_n a.p k true) c.from.ensures))
+    (below_stops job shares course s a.t.now a.x.now a.w.now row a.p ab o l w' pu.ensures.put (pu.ensures.memo a.t.now ab.numbers.tables.wide (ab.opening o).memo)))
 
 pub returns : goal.returns
-returns c = λ job shares lanes s row ab o l.
+returns c = λ job shares course s row ab o l.
     let a = c.args in
-    subst (λ (b : Bool). Below job shares lanes s a.t.now a.x.now a.w.now a.w.now a.p b c.no.result) (sym c.if-yes.false)
-    (subst (λ (r : Node). Below job shares lanes s a.t.now a.x.now a.w.now a.w.now a.p false r) (sym c.no.ensures)
-    (below_no job shares lanes s a.t.now a.x.now a.w.now row a.p ab o l))
+    subst (λ (b : Bool). Below job shares course s a.t.now a.x.now a.w.now a.w.now a.p b c.no.result) (sym c.if-yes.false)
+    (subst (λ (r : Node). Below job shares course s a.t.now a.x.now a.w.now a.w.now a.p false r) (sym c.no.ensures)
+    (below_no job shares course s a.t.now a.x.now a.w.now row a.p ab o l))

@@ -29,13 +29,13 @@ asked-requires c = let f = fits (goal.at.asked-requires c).Start in
     (f.4, f.5, omega (arith, f.6, c.from.ensures))
 
 pub returns-then-out : goal.returns-then-out
-returns-then-out c = λ job shares lanes s ab o.
+returns-then-out c = λ job shares course s ab o.
     let a = c.args in
     let pu = c.put_top in
     let w' = pu.new.w in
-    subst (λ (b : Bool). Below job shares lanes s a.t.now a.x.now a.w.now w' a.p b c.asked.result) (sym c.if-out.true)
-    (subst (λ (r : Node). Below job shares lanes s a.t.now a.x.now a.w.now w' a.p true r) (sym (c.asked.ensures ∙ ap (asked_n a.p) c.from.ensures))
-    (below_out job shares lanes s a.t.now a.x.now a.w.now a.row.now a.p ab o w' (put_as c.ease.ensures.lanes pu.ensures.put) (pu.ensures.memo a.t.now ab.numbers.tables.wide (ab.stop o).memo)))
+    subst (λ (b : Bool). Below job shares course s a.t.now a.x.now a.w.now w' a.p b c.asked.result) (sym c.if-out.true)
+    (subst (λ (r : Node). Below job shares course s a.t.now a.x.now a.w.now w' a.p true r) (sym (c.asked.ensures ∙ ap (asked_n a.p) c.from.ensures))
+    (below_out job shares course s a.t.now a.x.now a.w.now a.row.now a.p ab o w' (put_as c.ease.ensures.lanes pu.ensures.put) (pu.ensures.memo a.t.now ab.numbers.tables.wide (ab.stop o).memo)))
 
 pub overflow_sub-p-2 : goal.overflow_sub-p-2
 overflow_sub-p-2 c = omega (arith, (fits (goal.at.overflow_sub-p-2 c).Start).1)
@@ -47,10 +47,10 @@ pub put_top-requires-2 : goal.put_top-requires-2
 put_top-requires-2 c = let f = fits (goal.at.put_top-requires-2 c).Start in (omega (arith, f.1, f.2, f.3), f.2, f.3, omega arith)
 
 pub returns : goal.returns
-returns c = λ job shares lanes s ab o.
+returns c = λ job shares course s ab o.
     let a = c.args in
     let pu = c.put_top-2 in
     let w' = pu.new.w in
-    subst (λ (b : Bool). Below job shares lanes s a.t.now a.x.now a.w.now w' a.p b c.asked-2.result) (sym c.if-out.false)
-    (subst (λ (r : Node). Below job shares lanes s a.t.now a.x.now a.w.now w' a.p false r) (sym c.asked-2.ensures)
-    (below_stays job shares lanes s a.t.now a.x.now a.w.now a.row.now a.p ab o w' (put_as c.shut.ensures.lanes pu.ensures.put) (pu.ensures.memo a.t.now ab.numbers.tables.wide (ab.stop o).memo)))
+    subst (λ (b : Bool). Below job shares course s a.t.now a.x.now a.w.now w' a.p b c.asked-2.result) (sym c.if-out.false)
+    (subst (λ (r : Node). Below job shares course s a.t.now a.x.now a.w.now w' a.p false r) (sym c.asked-2.ensures)
+    (below_stays job shares course s a.t.now a.x.now a.w.now a.row.now a.p ab o w' (put_as c.shut.ensures.lanes pu.ensures.put) (pu.ensures.memo a.t.now ab.numbers.tables.wide (ab.stop o).memo)))

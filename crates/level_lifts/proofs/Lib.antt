@@ -1,0 +1,2 @@
+-- Laws of lifts in an array, level by level.
+pub mod Levels
