@@ -1,5 +1,5 @@
-/* Juzvarola: plans the stops and part changes of a filling line, judges such plans, changes parts as late as given stops allow, carries on from a log of what was done, and writes
- * job texts from order forms. */
+/* Juzvarola: plans the stops and part changes of a filling line, or of a hall of up to four lines, judges such plans, changes parts as late as given stops allow, carries on from a log
+ * of what was done, and writes job texts from order forms. */
 #ifndef JUZVAROLA_H
 #define JUZVAROLA_H
 
@@ -13,14 +13,14 @@ extern "C" {
 /* The version of these declarations. It moves with every change of a declaration, a text or an answer; JUZVAROLA_VERSION is what juzvarola_version
  * answers where header and library are of one version. */
 #define JUZVAROLA_VERSION_MAJOR 0
-#define JUZVAROLA_VERSION_MINOR 12
+#define JUZVAROLA_VERSION_MINOR 13
 #define JUZVAROLA_VERSION_PATCH 0
 #define JUZVAROLA_VERSION (JUZVAROLA_VERSION_MAJOR * 1000000u + JUZVAROLA_VERSION_MINOR * 1000u + JUZVAROLA_VERSION_PATCH)
 
 /* The results by name. */
 enum {
     JUZVAROLA_OK = 0,            /* the cheapest plan; a plan that keeps every life at its true cost; a job text; a count */
-    JUZVAROLA_TOO_LONG = 1,      /* a job text has over JUZVAROLA_MOST_JOB bytes, or a plan text or log over JUZVAROLA_MOST_TEXT */
+    JUZVAROLA_TOO_LONG = 1,      /* a job text has over JUZVAROLA_MOST_JOB bytes, a plan text or log over JUZVAROLA_MOST_TEXT, or a hall text over JUZVAROLA_MOST_HALL */
     JUZVAROLA_BAD_LINE = 2,      /* a line is not the one that is due, or is not well formed */
     JUZVAROLA_OUT_OF_RANGE = 3,  /* a value is outside its range */
     JUZVAROLA_NOT_RISING = 4,    /* an opening or an idle step doesn't rise, or is past the horizon */
@@ -32,28 +32,31 @@ enum {
     JUZVAROLA_NOT_KEPT = 10,     /* a part is not kept */
     JUZVAROLA_WRONG_COST = 11,   /* the stated cost is wrong */
     JUZVAROLA_BAD_HOLDER = 12,   /* a holder doesn't rise, is above parts or is the part itself; from juzvarola_count with text 0, the job has a holder */
-    JUZVAROLA_BAD_BAND = 13      /* the low end of a price is above its high end */
+    JUZVAROLA_BAD_BAND = 13,     /* the low end of a price is above its high end */
+    JUZVAROLA_UNLIKE = 14        /* a job of a hall has another horizon or other idle steps than the first, or takes the hall past 16 parts or 64 openings */
 };
 
-/* What `text` says: the text at fault. A log stands where a plan text would. */
-enum { JUZVAROLA_NO_TEXT = 0, JUZVAROLA_JOB_TEXT = 1, JUZVAROLA_PLAN_TEXT = 2, JUZVAROLA_LOG = 2 };
+/* What `text` says: the text at fault. A log stands where a plan text would, a hall text where a job text would. */
+enum { JUZVAROLA_NO_TEXT = 0, JUZVAROLA_JOB_TEXT = 1, JUZVAROLA_HALL_TEXT = 1, JUZVAROLA_PLAN_TEXT = 2, JUZVAROLA_LOG = 2 };
 
-/* The most bytes of a job text and of a plan text or log, the bytes that an output needs, those of juzvarola_write and juzvarola_carry, and the greatest walk number and count. */
+/* The most bytes of a job text, of a plan text or log and of a hall text, the bytes that an output needs, those of juzvarola_write and juzvarola_carry, and the greatest walk number and count. */
 #define JUZVAROLA_MOST_JOB 40960
 #define JUZVAROLA_MOST_TEXT 32768
+#define JUZVAROLA_MOST_HALL 65536
 #define JUZVAROLA_ROOM 16384
 #define JUZVAROLA_WRITE_ROOM 40960
 #define JUZVAROLA_MOST_WALK 4000000000u
-/* The stack that serves every call, in bytes. */
+/* The stack that serves every call but juzvarola_hall, and the stack that serves that one, in bytes. */
 #define JUZVAROLA_STACK 2097152
+#define JUZVAROLA_HALL_STACK 4194304
 
 /* The library's version: JUZVAROLA_VERSION of the header that it was made with. Compare the two before the first call. */
 uint32_t juzvarola_version(void);
 
 /* The answer of a call. The lines that go with it are the first `length` bytes of the lent output.
  *
- * result        0 to 13, as in the specification.
- * text          the text at fault for results 1, 2, 3, 4, 5, 9, 12 and 13: 1 the job, 2 the plan or log. 0 for every other result.
+ * result        0 to 14, as in the specification.
+ * text          the text at fault for results 1, 2, 3, 4, 5, 9, 12, 13 and 14: 1 the job or hall, 2 the plan or log. 0 for every other result.
  * line          the line at fault, counted from 1. 0 if there is none, and for result 1.
  * length        the bytes written. Bytes past them keep their values. 0 for result 8.
  * fault_start   where the line at fault starts in the text at fault.
@@ -84,7 +87,8 @@ typedef struct {
  * - `out` should have 16,384 bytes or more, for juzvarola_write and juzvarola_carry 40,960: with fewer the result is 8 and nothing is written.
  * - Nothing is kept between calls and no memory is allocated. Calls on several threads at once are allowed where no `out` overlaps
  *   another call's `out`, text or list.
- * - Stack that a call needs: less than 1.5 MB, so a thread of 2 MB serves. juzvarola_plan was measured at some 550 KB, and at 1,530 KB on the job whose
+ * - Stack that a call needs: less than 1.5 MB, so a thread of 2 MB serves; juzvarola_hall, which has tables for four lines, less than 3 MB, so a thread of 4 MB
+ *   serves. juzvarola_plan was measured at some 550 KB, and at 1,530 KB on the job whose
  *   search goes deepest (64 openings, sixteen parts that hold each other); juzvarola_latest at 164 KB, juzvarola_write at 176 KB, juzvarola_count and
  *   juzvarola_judge at 160 KB.
  */
@@ -109,6 +113,21 @@ juzvarola_answer juzvarola_plan(const uint8_t *job, size_t job_len, uint64_t wal
  * Which floor is said with 7, and whether 7 is said, may change from version to version; a 0 has always the same bytes.
  */
 juzvarola_answer juzvarola_optimum(const uint8_t *job, size_t job_len, uint64_t walk, uint8_t *out, size_t out_len);
+
+/* Plans a hall of up to four lines, which pays the crew's journey once for any step at which some line stops: results 0 to 8 and 12 to 14.
+ *
+ * text          the lines `machines=N`, 1 to 4, and `call=C`, what a journey costs, 0 to 1000000; and behind them N job texts whole, one for each line. Its lines are
+ *               counted through. It has 65,536 bytes or fewer, else result 1.
+ * walk          the walk number: how many nodes the search may walk. With more the result is 7. A number above 4000000000 counts as 4000000000.
+ * Results 0 and 7: `result`, `nodes`, `floor` and, if there is a plan, `cost`, what the plans cost together with the journeys, and then the plan lines of each line in
+ * order, each with what the plan costs its line, without journeys. No `costlow` line is written: the prices are the high ends. With result 0 no set of plans for the lines
+ * that keeps every life costs less with the journeys included.
+ * Result 6: some line has no plan.
+ * Result 14: a job whose horizon or idle steps are not the first job's, or which takes the hall past 16 parts or 64 openings in all; on that job's first line. The job's own
+ * faults come first.
+ * This call needs a thread of 4 MB (JUZVAROLA_HALL_STACK).
+ */
+juzvarola_answer juzvarola_hall(const uint8_t *text, size_t text_len, uint64_t walk, uint8_t *out, size_t out_len);
 
 /* Judges a plan of a job: results 0 to 5 and 8 to 13. The plan may state a cost of up to 4000000000, which is compared with the cost at the high ends
  * of the prices; 12 and 13 are faults of the job text only.

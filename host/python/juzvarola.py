@@ -49,7 +49,7 @@ __all__ = [
 ]
 
 #: The version of the library's interface that this module is made for.
-VERSION: Tuple[int, int, int] = (0, 12, 0)
+VERSION: Tuple[int, int, int] = (0, 13, 0)
 
 _NAME = "libjuzvarola.so.0"
 _ROOM = 16_384
@@ -76,6 +76,7 @@ class Result(IntEnum):
     WRONG_COST = 11
     BAD_HOLDER = 12
     BAD_BAND = 13
+    UNLIKE = 14
 
 
 @dataclass(frozen=True)

@@ -10,7 +10,7 @@ mod plans;
 pub mod reference;
 
 #[cfg(feature = "library")]
-pub use library::{carry, check_version, count, judge, latest, optimum, plan, plan_parsed, version, write};
+pub use library::{carry, check_version, count, hall, judge, latest, optimum, plan, plan_parsed, version, write};
 pub use logs::Log;
 pub use plans::{Plan, Planned, Stop};
 

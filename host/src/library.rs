@@ -37,6 +37,7 @@ const _: () = assert!(size_of::<Counted>() == 32 && offset_of!(Counted, fault_st
 extern "C" {
     fn juzvarola_plan(job: *const u8, job_len: usize, walk: u64, out: *mut u8, out_len: usize) -> Numbers;
     fn juzvarola_optimum(job: *const u8, job_len: usize, walk: u64, out: *mut u8, out_len: usize) -> Numbers;
+    fn juzvarola_hall(text: *const u8, text_len: usize, walk: u64, out: *mut u8, out_len: usize) -> Numbers;
     fn juzvarola_judge(job: *const u8, job_len: usize, plan: *const u8, plan_len: usize, out: *mut u8, out_len: usize) -> Numbers;
     fn juzvarola_latest(job: *const u8, job_len: usize, plan: *const u8, plan_len: usize, out: *mut u8, out_len: usize) -> Numbers;
     fn juzvarola_carry(job: *const u8, job_len: usize, log: *const u8, log_len: usize, out: *mut u8, out_len: usize) -> Numbers;
@@ -121,6 +122,15 @@ pub fn optimum<'t>(job: &'t [u8], walk: u64, out: &mut [u8]) -> Answer<'t> {
     // SAFETY: as for `plan`.
     let numbers = unsafe { juzvarola_optimum(job.as_ptr(), job.len(), walk, out.as_mut_ptr(), out.len()) };
     answer(numbers, job, &[])
+}
+
+/// Plans a hall of up to four lines, walking at most `walk` nodes (a number above `MOST_WALK` counts as that). The answer's lines are the first `length` bytes of
+/// `out`. It needs a thread of 4 MB of stack.
+pub fn hall<'t>(text: &'t [u8], walk: u64, out: &mut [u8]) -> Answer<'t> {
+    start();
+    // SAFETY: as for `plan`.
+    let numbers = unsafe { juzvarola_hall(text.as_ptr(), text.len(), walk, out.as_mut_ptr(), out.len()) };
+    answer(numbers, text, &[])
 }
 
 /// Plans a job, walking at most `walk` nodes, and parses what is answered; the output is lent here.

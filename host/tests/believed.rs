@@ -200,10 +200,12 @@ fn files() -> BTreeMap<String, File> {
 }
 
 /// The records of promises beside those of the calls.
-fn records() -> [(&'static str, &'static str); 4] {
+fn records() -> [(&'static str, &'static str); 6] {
     [
         ("delivered/Delivered", "Delivered"),
         ("planner_program/Printed", "Printed"),
+        ("optimum_program/Printed", "Printed"),
+        ("hall_program/Printed", "Printed"),
         ("judge_program/Printed", "Printed"),
         ("before_holders/AsBefore", "AsBefore"),
     ]

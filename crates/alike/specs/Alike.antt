@@ -1,4 +1,4 @@
--- Two job texts that every call answers alike: the same numbers are handed over and the same bytes written. So are texts that differ in the `walk` line alone, and a text with rules and the one with the price lines written out.
+-- Two job texts that planner, judge, latest-time habit and count answer alike: the same numbers are handed over and the same bytes written. So are texts that differ in the `walk` line alone, and a text with rules and the one with the price lines written out.
 use Rattle.std.specs.Prelude.{ℕ, ◌≡◌, List, map, length, Option}
 use Rattle.lines.specs.Parser.{accepted}
 use Rattle.price_rules.specs.Grammar.{written_out_lem}

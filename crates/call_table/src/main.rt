@@ -1,7 +1,7 @@
-// Runs the planner, the judge and the call that carries on on a table of texts and writes, for each case, what the call hands over: the bytes written, its numbers,
+// Runs the planner, the judge, the call that carries on and the hall planner on a table of texts and writes, for each case, what the call hands over: the bytes written, its numbers,
 // the line at fault, and whether the bytes past the written length kept their values.
 // A case stands in the input as `call=N` with the call's number and `room=N`; behind them the planner's (1) has `walk=N`, `job=N` and N bytes,
-// the judge's (2) `job=N`, N bytes, `plan=N`, N bytes, and those of carrying on (3) the same with the log in the plan's place. Other bytes stand behind the last case.
+// the judge's (2) `job=N`, N bytes, `plan=N`, N bytes, those of carrying on (3) the same with the log in the plan's place, and the hall planner's (4) the planner's with the hall's text in the job's place. Other bytes stand behind the last case.
 #![tactic(auto)]
 
 use answers::{Answer, PLAN};
@@ -75,8 +75,17 @@ fn run<F: FnOnce(&mut [u8]) -> Answer>(
     report(rt, a, out, job, plan);
 }
 
-// The planner's case whose room is told at a place, and the place behind it.
-fn planner_at(rt: &impl Print, buf: &[u8], at: usize, space: &mut [u8]) -> usize {
+// The case of a call on one text and a walk number whose room is told at a place, and the place behind it.
+// Kept as a row of parameters: the printer and the table are read and the space is written, so a struct of them would be taken apart in each call.
+fn walked_at<F: FnOnce(&[u8], u64, &mut [u8]) -> Answer>(
+    rt: &impl Print,
+    buf: &[u8],
+    at: usize,
+    space: &mut [u8],
+    call: F,
+) -> usize
+    requires { F.IsAlwaysCallable call }
+{
     let room = head_at(buf, at, b"room=");
     let walk = head_at(buf, room.behind, b"walk=");
     let job = piece_at(buf, walk.behind, b"job=");
@@ -89,13 +98,13 @@ fn planner_at(rt: &impl Print, buf: &[u8], at: usize, space: &mut [u8]) -> usize
     let text = &buf[start..end];
     run(rt, text, b"", &mut space[0..lent], |out: &mut [u8]| {
         // Kept as a cast: std has no `From<usize>` for a u64, and a `try_from` would have an arm that nothing reaches.
-        planning::plan(text, walk.number as u64, out)
+        call(text, walk.number as u64, out)
     });
     end
 }
 
 // The case of a call on a job text and a second text whose room is told at a place, and the place behind it.
-// Kept as a row of parameters: the printer and the table are read and the space is written, so a struct of them would be taken apart in each call.
+// Kept as a row of parameters, as above.
 fn second_at<F: FnOnce(&[u8], &[u8], &mut [u8]) -> Answer>(
     rt: &impl Print,
     buf: &[u8],
@@ -129,9 +138,10 @@ fn case_at(rt: &impl Print, buf: &[u8], at: usize, space: &mut [u8]) -> usize {
     let call = head_at(buf, at, b"call=");
     // Kept as numbers: the table's text tells the call so.
     match call.number {
-        1 => planner_at(rt, buf, call.behind, space),
+        1 => walked_at(rt, buf, call.behind, space, planning::plan),
         2 => second_at(rt, buf, call.behind, space, judging::judge),
         3 => second_at(rt, buf, call.behind, space, carrying::carry),
+        4 => walked_at(rt, buf, call.behind, space, hall_planning::hall),
         _ => buf.len(),
     }
 }

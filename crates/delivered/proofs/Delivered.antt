@@ -30,6 +30,9 @@ use Rattle.plan_grammar.proofs.Numbered as plans
 use Rattle.plan_grammar.proofs.Nothing.{nothing_is}
 use Rattle.carry.proofs.Worn.{judge_worn, worn_no_plan}
 use Rattle.carrying.proofs.Said.{said_carries, two_or_one_said}
+use Rattle.hall_grammar.proofs.Accepted.{accepted_proper, accepted_fits}
+use Rattle.hall_grammar.proofs.Complete.{accepted_exactly as halls-exactly}
+use Rattle.hall_grammar.proofs.Numbered.{hall_fault}
 use Rattle.hall_model.proofs.Promised.{promise as hall-promise}
 use Rattle.hall_model.proofs.Unique.{only as hall-only}
 use Rattle.price_rules.proofs.Prices.{rule_is}
@@ -42,6 +45,7 @@ use mathlib.Core.Path.{subst, sym}
 use mathlib.Core.List.{List}
 use lib.ListN.{length}
 use Rattle.delivered.specs.Delivered.{Delivered}
+use Rattle.delivered.proofs.Halls.{halls_by_meaning}
 use Rattle.delivered.proofs.Outlives.{no_change}
 use Rattle.delivered.proofs.Missing.{missing_exactly}
 use Rattle.delivered.proofs.Circles.{together}
@@ -92,6 +96,10 @@ delivered = record {
   E12_4_due = λ text r plan part due late worn runs. judge_worn r.given.job plan part due r.given.job.horizon late worn runs (valid text r.given r.is).job.rising;
   E12_4_no_plan = λ text r i inside worn runs has. worn_no_plan r.given.job i r.given.job.horizon inside worn runs (valid text r.given r.is).job.rising has;
   E13_1_joined = λ job first next second last a b. (said_carries a, said_carries b, two_or_one_said job first next second last a b);
+  E14_2_exactly = halls-exactly;
+  E14_10_lines = λ text t e. (accepted_proper text t e, accepted_fits text t e);
+  E14_10_fault = hall_fault;
+  D1_halls = halls_by_meaning;
   E14_9_hall = hall-promise;
   D1_hall = hall-only;
 }

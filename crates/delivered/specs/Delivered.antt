@@ -35,7 +35,13 @@ use Rattle.planning.specs.Plan.{plan_said, plan_room}
 use Rattle.carry_texts.specs.Carries.{Carries, joined_lines}
 use Rattle.carrying.specs.Carry.{carry_said}
 use Rattle.hall_model.specs.Hall.{Hall, Proper}
+use Rattle.hall_model.specs.Limits.{most_hall_bytes, Fits}
 use Rattle.hall_model.specs.Promise.{HallAnswer, hall_answer, HallPromise}
+use Rattle.hall_grammar.specs.Grammar.{HallText, meant_hall, read_hall_text}
+use Rattle.hall_grammar.specs.Rendering.{hall_text}
+use Rattle.hall_grammar.specs.Valid.{ValidHall}
+use Rattle.hall_grammar.specs.Faults.{HallFault}
+use Rattle.hall_planning.specs.Hall.{hall_said}
 use Rattle.alike.specs.Alike.{AnsweredAlike, WalkSetAside, RulesOut}
 use Rattle.before_holders.specs.AsBefore.{AsBefore}
 use Rattle.starred.specs.Table.{CaseHolds, Counts, cases, counts}
@@ -145,8 +151,16 @@ pub record Delivered : Type 0 where
   -- E13.1. "If carrying on by a first log and then by a second is accepted both times, carrying on by the joined log shall be accepted and give the identical job text.": E13.2. the joined log of what the two texts say
   pub E13_1_joined : (job first next second last : List ℕ) → carry_said job first ≡ plainly 0 next → carry_said next second ≡ plainly 0 last
       → (a : Carries job first next) × (b : Carries next second last) × (carry_said job (joined_lines a b) ≡ plainly 0 last)
-  -- ---- a hall, which no call plans yet
+  -- ---- a hall
 
+  -- E14.2, E14.3. the accepted hall texts are those of the valid records with at most 65,536 bytes, each read as its own
+  pub E14_2_exactly : (text : List ℕ) (t : HallText) → (read_hall_text text ≡ accepted t) ↔ (ValidHall t × (text ≡ hall_text t) × (length text ≤ most_hall_bytes))
+  -- E14.10. what is accepted means a hall whose lines have the first one's horizon and idles, with at most 16 parts and 64 openings
+  pub E14_10_lines : (text : List ℕ) (t : HallText) → read_hall_text text ≡ accepted t → Proper (meant_hall t) × Fits (meant_hall t)
+  -- E14.10. a hall text's fault has a job's number or 14, and its line is one of the text's or the next
+  pub E14_10_fault : (text : List ℕ) (n line : ℕ) → read_hall_text text ≡ refused n line → HallFault n × (line ≤ most_hall_bytes + 1)
+  -- D1. an accepted hall text is answered by what it means: two that mean the same hall get the same numbers and bytes, so a `walk` line (E10) or a rule (E8) among a job's lines changes no answer
+  pub D1_halls : (s s' : List ℕ) (t t' : HallText) → read_hall_text s ≡ accepted t → read_hall_text s' ≡ accepted t' → meant_hall t ≡ meant_hall t' → (walk : ℕ) → hall_said s walk ≡ hall_said s' walk
   -- E14.6 to E14.9. 6 exactly if some line has no plan; 0, or 7 exactly if the whole walk has more points; the best hall plan; with call 0 "the sum of the lines' own least costs"
   pub E14_9_hall : (hall : Hall) → Proper hall → (limit : ℕ) → HallPromise hall limit (hall_answer hall limit)
   -- D1. and no other answer keeps that promise

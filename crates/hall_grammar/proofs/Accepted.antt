@@ -48,7 +48,8 @@ jobs_tell (suc n) before s s' l l' ts h =
 
 -- ---- what they are together
 
-numbers_same : (ms ns : List ℕ) → same_numbers ms ns ≡ true → ms ≡ ns
+-- lists of numbers that the grammar's rule calls the same are equal
+pub numbers_same : (ms ns : List ℕ) → same_numbers ms ns ≡ true → ms ≡ ns
 unfolding same_numbers
 numbers_same [] [] e = refl
 numbers_same [] (n ∷ ns) e = let z : ◌≡◌ {A = ℕ} 0 1 = cc in absurd (omega arith)
@@ -73,15 +74,17 @@ all_alike : (ts : List JobText) → Joined [] ts → AllAlike (horizon_of (map m
 all_alike [] j = tt
 all_alike (t ∷ ts) j = (record { same_horizon = refl; same_idles = refl; rising = j.0.means.job.rising }, like_all (meant_job t) [] ts j.2)
 
--- the sums stay within the limits
-more_parts : (jobs : List Job) (job : Job) → parts_in (jobs ++ (job ∷ [])) ≡ parts_in jobs + length job.parts
+-- one line more has its parts more
+pub more_parts : (jobs : List Job) (job : Job) → parts_in (jobs ++ (job ∷ [])) ≡ parts_in jobs + length job.parts
 more_parts [] job = omega arith
 more_parts (j ∷ jobs) job = omega (arith, more_parts jobs job)
 
-more_openings : (jobs : List Job) (job : Job) → openings_in (jobs ++ (job ∷ [])) ≡ openings_in jobs + length job.openings
+-- and its openings
+pub more_openings : (jobs : List Job) (job : Job) → openings_in (jobs ++ (job ∷ [])) ≡ openings_in jobs + length job.openings
 more_openings [] job = omega arith
 more_openings (j ∷ jobs) job = omega (arith, more_openings jobs job)
 
+-- the sums stay within the limits
 within : (before : List Job) (ts : List JobText) → parts_in before ≤ most_parts → openings_in before ≤ most_openings → Joined before ts
     → (parts_in before + parts_in (map meant_job ts) ≤ most_parts) × (openings_in before + openings_in (map meant_job ts) ≤ most_openings)
 within before [] p o j = (omega arith, omega arith)

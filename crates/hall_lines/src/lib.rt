@@ -22,6 +22,7 @@ use line_test::LineTest;
 // What is only read of a line: its tables, and those of its holders.
 // Kept as two arrays: each has a layout of its own, and what reads one alone is lent that one.
 // Kept apart from the line's rows and its level in each function below: the tables are read and the rows are written, and a struct of both would have to say of each call that the tables stay.
+#[derive(Drop)]
 pub struct LineTables {
     pub t: [u32; TABLES],
     pub u: [u32; HELD],
@@ -41,6 +42,7 @@ pub const LEVELS: usize = 65;
 
 // What is written of a line: its rows, what stands beside them, and its levels.
 // Kept as arrays with the number of rows in the level: no heap, fixed memory.
+#[derive(Drop)]
 pub struct LineRows {
     pub w: [u32; STACK],
     pub v: [u32; ASIDE],

@@ -11,6 +11,7 @@ use search_state::Search;
 // What the walk only reads: each line's tables, and the crew's steps.
 // Kept as four lines, of which the hall has as many as the crew's steps say: no heap, fixed memory.
 // Kept apart from the lines' rows in each function of the walk: a struct of both, lent to be written, would have to say of each call that the tables and steps stay as they are.
+#[derive(Drop)]
 pub struct Ground {
     pub lines: [LineTables; 4],
     pub ats: CrewSteps,

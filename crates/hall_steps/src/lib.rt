@@ -6,6 +6,7 @@ ghost use Rattle.hall_steps.specs.Steps.{level_in, open_in, next_open_lem, place
 
 // The crew's steps: the openings that each line has before each of them, and before one behind the last; how many steps and lines there are; and what a call costs.
 // Kept as an array with counts: no heap, fixed memory.
+#[derive(Drop)]
 pub struct CrewSteps {
     pub before: [[usize; 4]; 65],
     pub steps: usize,

@@ -2,7 +2,7 @@
 // Kept with the limit of a walk in the clauses: it is a plain number, and a type of numbers below 2 to the 63rd would be made and taken apart once in each call.
 #![tactic(auto)]
 
-mod name;
+pub mod name;
 pub mod parts;
 
 ghost use Rattle.std.specs.Prelude.{◌≡◌, ◌<◌, ◌≤◌, ◌^◌, length};

@@ -17,6 +17,8 @@ ghost use Rattle.carrying.specs.Promise.{CarryPromise};
 ghost use Rattle.planning.specs.Plan.{plan_said, plan_room};
 ghost use Rattle.planning.specs.Promise.{PlanPromise};
 ghost use Rattle.optimizing.specs.Promise.{Answered};
+ghost use Rattle.hall_planning.specs.Hall.{hall_said, hall_room};
+ghost use Rattle.hall_planning.specs.Promise.{HallPromise};
 ghost use Rattle.juzvarola.specs.Version.{version_number};
 
 use answers::Answer;
@@ -25,7 +27,7 @@ use counting::Counted;
 // The version's three numbers, as the header's macros have them.
 const MAJOR: u32 = 0;
 
-const MINOR: u32 = 12;
+const MINOR: u32 = 13;
 
 const PATCH: u32 = 0;
 
@@ -46,12 +48,21 @@ pub extern "C" fn juzvarola_plan(job: &[u8], walk: u64, out: &mut [u8]) -> Answe
     planning::plan(job, walk, out)
 }
 
-// Plans a job text by fair shares, each walk up to a walk number: the planner's plan, also where its own walk is hopeless.
+// Plans a job text by fair shares, each walk of the job up to a walk number: the planner's plan, also where its own walk is hopeless.
 #[unsafe(no_mangle)]
 pub extern "C" fn juzvarola_optimum(job: &[u8], walk: u64, out: &mut [u8]) -> Answer
     ensures { Answered job.now walk out.old out.new result }
 {
     optimizing::optimum(job, walk, out)
+}
+
+// Plans a hall text, walked up to a walk number: the lines' plans, with the crew's calls.
+#[unsafe(no_mangle)]
+pub extern "C" fn juzvarola_hall(text: &[u8], walk: u64, out: &mut [u8]) -> Answer
+    ensures replied { Replied hall_room (hall_said text.now walk) out.old out.new result }
+    ensures hall_promise { HallPromise text.now walk (length out.old) (lent hall_room (length out.old) (hall_said text.now walk)) }
+{
+    hall_planning::hall(text, walk, out)
 }
 
 // Weighs a plan text against a job text.

@@ -17,7 +17,7 @@ use share_search::search_shared;
 // The most nodes of the first counted walk: it takes no longer than the shares do, and a job whose walk ends in it needs none.
 const FIRST: u32 = 65536;
 
-// The search by shares of an accepted job, each of its walks with at most `limit` nodes. No plan costs less than `floor`.
+// The search by shares of an accepted job, each walk of the job with at most `limit` nodes. No plan costs less than `floor`.
 // A call of its own, so that what it needs of the stack does not lie beside what the counted walk needs.
 #[inline(never)]
 fn search_by_shares(job: &Accepted, floor: u64, limit: u32) -> Found
@@ -27,7 +27,7 @@ fn search_by_shares(job: &Accepted, floor: u64, limit: u32) -> Found
     search_shared(&layout.held(job), floor, u64::from(limit))
 }
 
-// The search of an accepted job, each of its walks with at most `limit` nodes.
+// The search of an accepted job, each walk of the job with at most `limit` nodes; the walks that find lifts have limits of their own.
 pub fn search_optimum(job: &Accepted, limit: u32) -> Found
     ensures { Ends (job_of job.now.job) limit (said_in job.now.job.opening_count job.now.job.part_count result) }
 {

@@ -77,7 +77,7 @@ fn found_of(risen: Risen, plan: Plan) -> Found
     }
 }
 
-// The search of a job by shares, each of its walks with at most `limit` nodes. No plan costs less than `floor`.
+// The search of a job by shares, each walk of the job with at most `limit` nodes, those for its lifts with limits of their own. No plan costs less than `floor`.
 pub fn search_shared(numbers: &HeldNumbers, floor: u64, limit: u64) -> Found
     requires { ((job : Job) × Holds job numbers.now) × (limit < 2 ^ 63) }
     ensures { (job : Job) → Holds job numbers.now → NoneUnder job floor → Sought job limit result }

@@ -18,6 +18,7 @@ use std::str::from_utf8;
 pub enum Text {
     Job,
     Plan,
+    Hall,
 }
 
 // Reads nothing: "a file that can't be opened counts as an empty text".

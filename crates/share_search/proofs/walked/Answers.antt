@@ -1,5 +1,4 @@
 -- `walked`: the tables that are filled are those that the lifts and the walks ask for.
-use Prim.Native.Nat.{ℕ}
 use native.Mathlib.Omega.{arith}
 use Rattle.shares.proofs.Dolls.{all_lifted}
 use Rattle.fair_shares.specs.Checked.{shares_in}

@@ -1,0 +1,2 @@
+-- What the hall planner's program prints (Printed).
+pub mod Printed

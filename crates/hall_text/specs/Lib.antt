@@ -1,0 +1,2 @@
+-- A hall as far as its text is read (SoFar).
+pub mod SoFar

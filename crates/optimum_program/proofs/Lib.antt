@@ -1,0 +1,2 @@
+-- All texts over the limit are answered alike (Cut).
+pub mod Cut

@@ -1,0 +1,2 @@
+-- What the optimum's program prints (Printed).
+pub mod Printed

@@ -1,0 +1,2 @@
+-- What a program that reads one text prints (Printed).
+pub mod Printed
