@@ -25,7 +25,7 @@ enum {
     JUZVAROLA_OUT_OF_RANGE = 3,  /* a value is outside its range */
     JUZVAROLA_NOT_RISING = 4,    /* an opening or an idle step doesn't rise, or is past the horizon */
     JUZVAROLA_LEFT_TOO_LONG = 5, /* left is greater than life */
-    JUZVAROLA_NO_PLAN = 6,       /* no plan keeps the lives */
+    JUZVAROLA_NO_PLAN = 6,       /* no plan keeps the lives; of a hall, some line has none */
     JUZVAROLA_CUT_SHORT = 7,     /* the walk is longer than its walk number */
     JUZVAROLA_NO_ROOM = 8,       /* the lent output is too short */
     JUZVAROLA_BAD_STOP = 9,      /* a stop or a part of the plan or log doesn't fit the job */
@@ -87,10 +87,10 @@ typedef struct {
  * - `out` should have 16,384 bytes or more, for juzvarola_write and juzvarola_carry 40,960: with fewer the result is 8 and nothing is written.
  * - Nothing is kept between calls and no memory is allocated. Calls on several threads at once are allowed where no `out` overlaps
  *   another call's `out`, text or list.
- * - Stack that a call needs: less than 1.5 MB, so a thread of 2 MB serves; juzvarola_hall, which has tables for four lines, less than 3 MB, so a thread of 4 MB
- *   serves. juzvarola_plan was measured at some 550 KB, and at 1,530 KB on the job whose
- *   search goes deepest (64 openings, sixteen parts that hold each other); juzvarola_latest at 164 KB, juzvarola_write at 176 KB, juzvarola_count and
- *   juzvarola_judge at 160 KB.
+ * - Stack that a call needs: less than 1.5 MB, so a thread of 2 MB serves; juzvarola_hall, which has tables for four lines, 3,350 KB in the deepest walk
+ *   that a text allows, so a thread of 4 MB serves. juzvarola_plan and juzvarola_optimum were measured at some 550 KB, and at 1,232 and 1,292 KB on the job
+ *   whose search goes deepest (64 openings, sixteen parts that hold each other); juzvarola_write at 176 KB, juzvarola_carry at 172 KB, juzvarola_latest at
+ *   164 KB, juzvarola_count and juzvarola_judge at 160 KB.
  */
 
 /* Plans a job: results 0 to 8, 12 and 13.
@@ -105,12 +105,14 @@ juzvarola_answer juzvarola_plan(const uint8_t *job, size_t job_len, uint64_t wal
 /* Plans a job, also where the search of juzvarola_plan is hopeless: results 0 to 8, 12 and 13.
  *
  * It searches with another estimate of what is left to pay: each fee and removal is split among the parts that need it.
- * walk          the walk number: how many nodes each of its walks may have. A number above 4000000000 counts as 4000000000.
+ * walk          the walk number: how many nodes each walk of the job may have; the walks that find lifts have limits of their own, 20,000 nodes each,
+ *               whatever the number. A number above 4000000000 counts as 4000000000.
  * Result 0: `result`, then the plan lines, with a `costlow` line before them where the job has a `low` line. No plan costs less; of the plans that cost as
  * much it is the one of juzvarola_plan, which writes the same bytes behind `floor` wherever it says 0 too.
  * Result 7: one of the walks has more nodes than the walk number. `result`, then `floor`: no plan costs less; and then, where the first nodes of the
  * search of juzvarola_plan have a plan, the lines of the cheapest of these, at its true cost.
- * Which floor is said with 7, and whether 7 is said, may change from version to version; a 0 has always the same bytes.
+ * Which floor is said with 7, which plan stands behind it and whether one does, and whether 7 is said, may change from version to version; a 0 has
+ * always the same bytes.
  */
 juzvarola_answer juzvarola_optimum(const uint8_t *job, size_t job_len, uint64_t walk, uint8_t *out, size_t out_len);
 

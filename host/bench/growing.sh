@@ -1,5 +1,5 @@
 #!/bin/sh
-# growing.sh [RUNS]: what growing walks cost. Plans long jobs with one call (--once) and with growing walk numbers in turn, and prints the least and the median
+# growing.sh [RUNS]: what growing walks cost. Walks the counted walk of long jobs by one call (--once) and with growing walk numbers in turn, and prints the least and the median
 # CPU seconds of each, and their ratios: two walks that reach their number, and one that ends by itself. `make` first.
 set -eu
 cd "$(dirname "$0")/.."
@@ -10,7 +10,7 @@ trap 'rm -rf "$scratch"' EXIT
 # CPU milliseconds that a run takes: took JOB WALK WORDS
 took() {
     job=$1 walk=$2; shift 2
-    bash -c 'TIMEFORMAT=%U; { time "$@" 2> /dev/null || [ $? = 3 ]; } 2>&1' x target/release/juzvarola plan "../jobs/$job.txt" --walk "$walk" -o "$scratch/plan" "$@" | tr -d .
+    bash -c 'TIMEFORMAT=%U; { time "$@" 2> /dev/null || [ $? = 3 ]; } 2>&1' x target/release/juzvarola plan "../jobs/$job.txt" --count-nodes --walk "$walk" -o "$scratch/plan" "$@" | tr -d .
 }
 
 for case in "14_full64_4 250000000" "15_full64_8 200000000" "33_biweek8_head_d60 4000000000"; do

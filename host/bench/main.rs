@@ -1,8 +1,11 @@
 //! Time a node of the library and of the walk in Rust, on the jobs of `jobs/`, in one run: the microseconds of a call with walk number 1
 //! (reading, tables, one node), and the nanoseconds of each node after the first, which are the whole call's less those.
 //! `bench [--walk N] [NAME ..]`: N nodes at most in place of those of TABLE.md; NAME picks the jobs whose names begin with it.
+//! `bench --optimum [NAME ..]`: the optimum instead. `bench --first [NAME ..]`: how long its first walk should be.
 
-use juzvarola_host::fast::{self, Unit};
+mod optimum;
+
+use juzvarola_checks::fast::{self, Unit};
 use std::hint::black_box;
 use std::path::{Path, PathBuf};
 use std::{env, fs, process, thread};
@@ -161,14 +164,19 @@ fn jobs(folder: &Path, names: &[String]) -> Vec<PathBuf> {
 fn run() {
     let mut names: Vec<String> = env::args().skip(1).collect();
     let mut walk = None;
+    let folder = Path::new(env!("CARGO_MANIFEST_DIR")).join("../../jobs");
+    // Once so much was freed at one time, the C library keeps what is freed: else some calls would pay for fresh pages, and some not.
+    drop(black_box(vec![0u8; 16 << 20]));
+    match names.first().map(String::as_str) {
+        Some("--optimum") => return optimum::table(&folder, &names[1..]),
+        Some("--first") => return optimum::first_walks(&folder, &names[1..]),
+        _ => {}
+    }
     if let Some(at) = names.iter().position(|name| name == "--walk") {
         walk = Some(names.get(at + 1).and_then(|number| number.parse().ok()).expect("--walk N"));
         names.drain(at..at + 2);
     }
-    let folder = Path::new(env!("CARGO_MANIFEST_DIR")).join("../jobs");
     let table = fs::read_to_string(folder.join("TABLE.md")).expect("TABLE.md");
-    // Once so much was freed at one time, the C library keeps what is freed: else some calls would pay for fresh pages, and some not.
-    drop(black_box(vec![0u8; 16 << 20]));
     let mut wrong = 0;
     for held in [false, true] {
         let of_kind = |file: &PathBuf| fs::read_to_string(file).expect("a job").contains("\nholder=") == held;

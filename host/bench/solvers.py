@@ -166,11 +166,15 @@ def solve(name, files, limit, folder):
     return proved, cost, after.ru_utime + after.ru_stime - before.ru_utime - before.ru_stime
 
 
+# Jobs whose row of TABLE.md is that of a walk cut short.
+LEAST = {"14_full64_4": 2690, "15_full64_8": 3660}
+
+
 def expected_costs():
     """Of each job the nodes of the walk and the least cost: that of the walk, or of the column of its own that jobs with holders have."""
     with open(os.path.join(JOBS, "TABLE.md"), encoding="utf-8") as file:
         rows = [[cell.strip() for cell in line.split("|")] for line in file if line.startswith("|")]
-    return {row[1]: (int(row[2]), int(row[9] if len(row) > 10 else row[4])) for row in rows if row[2].isdigit()}
+    return {row[1]: (int(row[2]), LEAST.get(row[1]) or int(row[9] if len(row) > 10 else row[4])) for row in rows if row[2].isdigit()}
 
 
 def write(folder, name, job):

@@ -7,6 +7,8 @@ use std::{env, thread};
 const KILOBYTE: usize = 1024;
 const MOST: usize = 64 * 1024;
 const STEP: usize = 4;
+/// The most that a fee, a price or a removal may be.
+const DEAREST: u32 = 1_000_000;
 
 /// The largest job: 64 openings and 16 parts with the longest numbers. The life says how far the walk goes down.
 fn job(life: u32) -> String {
@@ -22,19 +24,22 @@ fn job(life: u32) -> String {
 }
 
 /// The job whose walk goes deepest: 64 openings in a row, sixteen parts that last one step and hold each other. Every stop is made and every part
-/// is removed at each, decided one by one: 64 times 17 decisions.
-fn deepest() -> String {
+/// is removed at each, decided one by one: 64 times 17 decisions. All that is paid is this amount.
+fn deepest(amount: u32) -> String {
     let mut text = String::from("horizon=64\nopenings=64\n");
     for step in 1..=64 {
-        text += &format!("opening={step}\nfee=1000000\n");
+        text += &format!("opening={step}\nfee={amount}\n");
     }
     text += "parts=16\n";
     for part in 1..=16 {
         let holders: String = (1..=16).filter(|other| *other != part).map(|other| format!("holder={other}\n")).collect();
-        text += &format!("life=1\nleft=1\nremoval=1000000\ninside=15\n{holders}{}", "price=1000000\n".repeat(64));
+        text += &format!("life=1\nleft=1\nremoval={amount}\ninside=15\n{holders}{}", format!("price={amount}\n").repeat(64));
     }
     text
 }
+
+/// A walk number that cuts the counted walk of that job short of its last node, so that its walk by shares, which goes as deep, is made.
+const LAST_BUT_ONE: u64 = 2176;
 
 /// The plan of all parts at all openings, from this step on.
 fn all_from(first: u32, cost: u32) -> String {
@@ -80,15 +85,16 @@ fn call(name: &str) -> u32 {
         "plan, no stop" => juzvarola_host::plan(job(1000).as_bytes(), juzvarola_host::MOST_WALK, &mut out).result,
         "plan, one stop" => juzvarola_host::plan(job(364).as_bytes(), juzvarola_host::MOST_WALK, &mut out).result,
         "plan, no plan" => juzvarola_host::plan(job(1).as_bytes(), juzvarola_host::MOST_WALK, &mut out).result,
-        "plan, all removed" => juzvarola_host::plan(deepest().as_bytes(), juzvarola_host::MOST_WALK, &mut out).result,
+        "plan, all removed" => juzvarola_host::plan(deepest(DEAREST).as_bytes(), juzvarola_host::MOST_WALK, &mut out).result,
         "plan, a fault" => juzvarola_host::plan(b"horizon=1\n", juzvarola_host::MOST_WALK, &mut out).result,
         "optimum, one stop" => juzvarola_host::optimum(job(364).as_bytes(), juzvarola_host::MOST_WALK, &mut out).result,
-        "optimum, all removed" => juzvarola_host::optimum(deepest().as_bytes(), juzvarola_host::MOST_WALK, &mut out).result,
+        "optimum, all removed" => juzvarola_host::optimum(deepest(DEAREST).as_bytes(), juzvarola_host::MOST_WALK, &mut out).result,
+        "optimum, all removed, by shares" => juzvarola_host::optimum(deepest(1).as_bytes(), LAST_BUT_ONE, &mut out).result,
         "judge, the longest plan" => juzvarola_host::judge(job(1000).as_bytes(), plan().as_bytes(), &mut out).result,
-        "judge, all removed" => juzvarola_host::judge(deepest().as_bytes(), all_from(1, 2_112_000_000).as_bytes(), &mut out).result,
+        "judge, all removed" => juzvarola_host::judge(deepest(DEAREST).as_bytes(), all_from(1, 2_112_000_000).as_bytes(), &mut out).result,
         "judge, a fault" => juzvarola_host::judge(job(1000).as_bytes(), b"cost=1\nstops=65\n", &mut out).result,
         "latest, the longest plan" => juzvarola_host::latest(job(1000).as_bytes(), plan().as_bytes(), &mut out).result,
-        "latest, all removed" => juzvarola_host::latest(deepest().as_bytes(), all_from(1, 0).as_bytes(), &mut out).result,
+        "latest, all removed" => juzvarola_host::latest(deepest(DEAREST).as_bytes(), all_from(1, 0).as_bytes(), &mut out).result,
         "latest, a fault" => juzvarola_host::latest(job(1000).as_bytes(), b"cost=1\nstops=65\n", &mut out).result,
         "carry, the longest text" => juzvarola_host::carry(job(1000).as_bytes(), b"step=1\ncost=0\nstops=0\n", &mut out).result,
         "carry, a fault" => juzvarola_host::carry(job(1000).as_bytes(), b"step=1\ncost=0\nstops=65\n", &mut out).result,
@@ -108,6 +114,7 @@ const CALLS: &[(&str, u32)] = &[
     ("plan, a fault", 3),
     ("optimum, one stop", 0),
     ("optimum, all removed", 0),
+    ("optimum, all removed, by shares", 7),
     ("judge, the longest plan", 0),
     ("judge, all removed", 0),
     ("judge, a fault", 3),

@@ -1,8 +1,8 @@
-"""Juzvarola from Python: plans the stops and part changes of a filling line, judges such plans, changes parts as late as given stops allow,
-writes job texts and counts.
+"""Juzvarola from Python: plans the stops and part changes of a filling line or of a hall of lines, judges such plans, changes parts as late as
+given stops allow, carries on from a log, writes job texts and counts.
 
 Every answer is that of the proved library, libjuzvarola.so.0, called by ctypes; nothing else is needed. The texts are those of
-juzvarola-job(5) and juzvarola-plan(5), the results those of juzvarola(3).
+juzvarola-job(5), juzvarola-plan(5) and juzvarola-hall(5), the results those of juzvarola(3).
 
     import juzvarola
     planned = juzvarola.plan(open("job.txt", "rb").read())
@@ -10,8 +10,8 @@ juzvarola-job(5) and juzvarola-plan(5), the results those of juzvarola(3).
         for stop in planned.plan.stops:
             print(stop.step, stop.parts)
 
-Calls may be made on several threads at once: the interpreter runs on while the library works. A call needs less than 1.5 MB of stack; where
-threads have less than 2 MB, say threading.stack_size(2 << 20) before starting them.
+Calls may be made on several threads at once: the interpreter runs on while the library works. A call needs less than 1.5 MB of stack, hall less
+than 3.5 MB; where threads have less than 4 MB, say threading.stack_size(4 << 20) before starting them.
 
 The library is the file that the environment's JUZVAROLA_LIBRARY names, or the one that was installed with this module, or the one that the
 system finds.
@@ -31,6 +31,7 @@ __all__ = [
     "Count",
     "Fault",
     "Form",
+    "Hall",
     "Latest",
     "Plan",
     "Planned",
@@ -40,6 +41,7 @@ __all__ = [
     "Written",
     "carry",
     "count",
+    "hall",
     "judge",
     "latest",
     "optimum",
@@ -81,7 +83,7 @@ class Result(IntEnum):
 
 @dataclass(frozen=True)
 class Fault:
-    """A text at fault: which (1 the job, 2 the plan), the line counted from 1 (0 for none), and the line itself."""
+    """A text at fault: which (1 the job or the hall, 2 the plan or the log), the line counted from 1 (0 for none), and the line itself."""
 
     text: int
     line: int
@@ -133,6 +135,20 @@ class Planned:
     fault: Optional[Fault]
     lines: bytes
     cost_low: Optional[int] = None
+
+
+@dataclass(frozen=True)
+class Hall:
+    """The hall planner's answer: what the plans cost together, calls of the crew included, and a plan for each line. With OK no plans cost less; with
+    CUT_SHORT they are the best found, if any. UNLIKE is a job that does not fit the hall's first, or takes the hall past its limits."""
+
+    result: Result
+    nodes: Optional[int]
+    floor: Optional[int]
+    cost: Optional[int]
+    plans: Tuple[Plan, ...]
+    fault: Optional[Fault]
+    lines: bytes
 
 
 @dataclass(frozen=True)
@@ -258,6 +274,7 @@ def _load() -> ctypes.CDLL:
     for name, result, words in (
         ("juzvarola_plan", _Answer, text + (ctypes.c_uint64,) + out),
         ("juzvarola_optimum", _Answer, text + (ctypes.c_uint64,) + out),
+        ("juzvarola_hall", _Answer, text + (ctypes.c_uint64,) + out),
         ("juzvarola_judge", _Answer, text + text + out),
         ("juzvarola_latest", _Answer, text + text + out),
         ("juzvarola_carry", _Answer, text + text + out),
@@ -328,6 +345,20 @@ def _planned(call, job: Text, walk: int) -> Planned:
     fault = _fault(answer, data)
     values = dict(_pairs(lines)) if fault is None else {}
     return Planned(Result(answer.result), values.get("nodes"), values.get("floor"), _plan_in(lines), fault, lines, values.get("costlow"))
+
+
+def hall(text: Text, walk: int = _MOST) -> Hall:
+    """Plans the lines of a hall that pay one crew, walking at most so many nodes: a text of `machines`, `call` and the lines' job texts."""
+    data, out = _bytes(text), ctypes.create_string_buffer(_ROOM)
+    answer = _library.juzvarola_hall(data, len(data), min(walk, _MOST), out, _ROOM)
+    lines = out.raw[: answer.length]
+    fault = _fault(answer, data)
+    pairs = list(_pairs(lines)) if fault is None else []
+    first = dict(reversed(pairs))
+    # The first cost is the hall's; each further one begins a line's plan.
+    plans = [Plan.parse(b"cost=" + text) for text in lines.split(b"\ncost=")[2:]]
+    plans = tuple(Plan(plan.cost, plan.stops, plan.text if plan.text.endswith(b"\n") else plan.text + b"\n") for plan in plans)
+    return Hall(Result(answer.result), first.get("nodes"), first.get("floor"), first.get("cost"), plans, fault, lines)
 
 
 def judge(job: Text, plan: Union[Text, Plan]) -> Verdict:

@@ -35,6 +35,17 @@ class Calls(unittest.TestCase):
         counted = juzvarola.count(EXAMPLE)
         self.assertEqual((counted.result, counted.count, counted.or_more), (Result.OK, 17, False))
 
+    def test_a_hall(self):
+        text = b"machines=2\ncall=100\n" + EXAMPLE + EXAMPLE
+        planned = juzvarola.hall(text)
+        own = juzvarola.plan(EXAMPLE).plan
+        self.assertEqual((planned.result, planned.floor, planned.cost, planned.fault), (Result.OK, 74, 274, None))
+        self.assertEqual(planned.plans, (own, own))
+        self.assertEqual(juzvarola.judge(EXAMPLE, planned.plans[1]).result, Result.OK)
+        unlike = juzvarola.hall(text[: -len(EXAMPLE)] + EXAMPLE.replace(b"horizon=6", b"horizon=7"))
+        self.assertEqual((unlike.result, unlike.fault.shown, unlike.plans), (Result.UNLIKE, b"horizon=7", ()))
+        self.assertEqual((juzvarola.hall(text, 0).result, juzvarola.hall(text, 0).cost), (Result.CUT_SHORT, None))
+
     def test_the_latest_time_habit(self):
         habit = juzvarola.latest(EXAMPLE, juzvarola.plan(EXAMPLE).plan)
         self.assertEqual((habit.result, habit.fault, habit.plan.cost), (Result.OK, None, 37))

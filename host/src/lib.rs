@@ -1,14 +1,13 @@
-//! The host side of Juzvarola: safe wrappers of the proved library, an independent reference implementation, and a fast walk in Rust
-//! to compare speeds with.
+//! The host side of Juzvarola: safe wrappers of the proved library.
 
-pub mod fast;
+mod halls;
 #[cfg(feature = "library")]
 mod library;
 pub mod lines;
 mod logs;
 mod plans;
-pub mod reference;
 
+pub use halls::PlannedHall;
 #[cfg(feature = "library")]
 pub use library::{carry, check_version, count, hall, judge, latest, optimum, plan, plan_parsed, version, write};
 pub use logs::Log;
@@ -50,9 +49,9 @@ pub const MOST_WALK: u64 = 4_000_000_000;
 /// What a call answers. `'t` is the life of the caller's texts.
 #[derive(Debug, Clone, Copy, PartialEq, Eq)]
 pub struct Answer<'t> {
-    /// The result number, 0 to 13.
+    /// The result number, 0 to 14.
     pub result: u32,
-    /// The text at fault: 1 the job, 2 the plan or the log, 0 neither.
+    /// The text at fault: 1 the job or the hall, 2 the plan or the log, 0 neither.
     pub text: u32,
     /// The line at fault, counted from 1; 0 if there is none.
     pub line: u32,

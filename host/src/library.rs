@@ -124,8 +124,8 @@ pub fn optimum<'t>(job: &'t [u8], walk: u64, out: &mut [u8]) -> Answer<'t> {
     answer(numbers, job, &[])
 }
 
-/// Plans a hall of up to four lines, walking at most `walk` nodes (a number above `MOST_WALK` counts as that). The answer's lines are the first `length` bytes of
-/// `out`. It needs a thread of 4 MB of stack.
+/// Plans the lines of a hall that pay one crew, walking at most `walk` nodes (a number above `MOST_WALK` counts as that): text 1 is the hall's, its
+/// lines counted through. The answer's lines are the first `length` bytes of `out`; `PlannedHall::of` reads them. It needs a thread of 4 MB of stack.
 pub fn hall<'t>(text: &'t [u8], walk: u64, out: &mut [u8]) -> Answer<'t> {
     start();
     // SAFETY: as for `plan`.

@@ -109,12 +109,15 @@ pub const LOG: &[Line] = &[
         .words(&[(9, "part is above the job's number of parts, or does not come after the part before")]),
 ];
 
+/// The lines of a hall's text before its jobs, the first one first.
+pub const HALL: &[Line] = &[line("machines", (1, 4), &["call"]), line("call", AMOUNT, &[END])];
+
 /// The lines of a plan text, the first one first.
 pub const PLAN: &[Line] = LOG.split_at(1).1;
 
 /// The line with this key, of any text.
 pub fn find(key: &str) -> Option<&'static Line> {
-    JOB.iter().chain(LOG).find(|line| line.key == key)
+    JOB.iter().chain(LOG).chain(HALL).find(|line| line.key == key)
 }
 
 /// The keys that may stand behind these lines of a text, in their order: those that may be left out, and last the one that is due or the text's end.
@@ -154,7 +157,7 @@ mod tests {
     /// Every key stands once, and what follows is in the same table.
     #[test]
     fn what_follows_is_in_the_table() {
-        for table in [JOB, PLAN, LOG] {
+        for table in [JOB, PLAN, LOG, HALL] {
             for line in table {
                 assert_eq!(table.iter().filter(|own| own.key == line.key).count(), 1, "{}", line.key);
                 let known = |key: &&&str| **key == END || table.iter().any(|own| own.key == **key);

@@ -299,7 +299,7 @@ fn page() -> (String, String) {
     }
     let sentence = sentence(table.len(), &sums);
     let mut text = String::from("# What must be believed\n\n");
-    text += "Computed by `host/tests/believed.rs`, which holds this page: the definitions under `crates/*/specs` that the contracts of the four calls, `Delivered`, both `Printed` and `AsBefore` reach, by name. ";
+    text += "Computed by `host/tests/believed.rs`, which holds this page: the definitions under `crates/*/specs` that the contracts of the calls, `Delivered`, each `Printed` and `AsBefore` reach, by name. ";
     text += "A *statement* is a proposition; a *computing* definition could be run, and many of them are told by a statement beside them; *data* are records and choices of values, and constants, the worked cases among them. Lines are those of the definitions, without comments. Everything else in the repository is checked.\n\n";
     text += &format!("{sentence}.\n\n");
     text += "| file | statements (lines) | computing (lines) | data (lines) | which statements |\n|---|---|---|---|---|\n";

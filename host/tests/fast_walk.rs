@@ -2,9 +2,9 @@
 
 mod common;
 use common::{inputs, jobs, rng::Rng, setting};
-use juzvarola_host::fast::{self, Best, Found, Unit};
-use juzvarola_host::reference::walk::Decision;
-use juzvarola_host::reference::{model, texts};
+use juzvarola_checks::fast::{self, Best, Found, Unit};
+use juzvarola_checks::reference::walk::Decision;
+use juzvarola_checks::reference::{model, texts};
 
 /// The reference's best plan: cost, stops, removals.
 fn best_of(job: &model::Job, (cost, point): (u64, Vec<Decision>)) -> Best {

@@ -4,7 +4,7 @@
 mod common;
 use common::lent::{judged, planned};
 use common::{inputs, rng::Rng, setting};
-use juzvarola_host::reference::{brute, model::Plan, texts};
+use juzvarola_checks::reference::{brute, model::Plan, texts};
 use juzvarola_host::MOST_WALK;
 
 /// 6 exactly where no plan keeps the lives; else the plan of least cost, by the tie rule, which the judge accepts.

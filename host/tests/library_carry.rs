@@ -4,15 +4,18 @@
 
 mod common;
 use common::inputs::{self, Size};
-use common::lent::{carried, compare_carry, planned};
+use common::lent::{best, carried, compare_carry, planned};
 use common::{logs, rng::Rng, setting, vectors};
-use juzvarola_host::reference::{self, carry::read_log, model::Plan, texts};
+use juzvarola_checks::reference::{self, carry::read_log, model::Plan, texts};
 use juzvarola_host::{Log, MOST_WALK};
 
 const CASES: u64 = 50_000;
 
 /// Each result number of the call occurs at least this often in the full run.
-const LEAST: u64 = 50;
+const LEAST: u64 = 20;
+
+/// Lines of jobs with bands, rules, holders, idle steps and a walk number of before.
+const KINDS: [&str; 5] = ["\nlow=", "\nbase=", "\nholder=", "\nidle=", "\nwalk="];
 
 #[test]
 fn library_gives_every_vector() {
@@ -37,19 +40,26 @@ fn library_is_the_reference() {
     common::with_stack(|| {
         let mut rng = Rng::new(setting("JUZVAROLA_SEED", 52));
         let cases = setting("JUZVAROLA_CASES", CASES);
-        let mut results = [0u64; 14];
+        let (mut results, mut kinds, mut large) = ([0u64; 14], [0u64; KINDS.len()], 0);
         for number in 0..cases {
-            let call = logs::call(&mut rng, inputs::SMALL);
+            let facts = inputs::job(&mut rng);
+            let call = logs::call(&mut rng, &facts);
             let reply = reference::carry(&call.job, call.plan.as_deref().expect("a log"), call.output);
             if let Err(difference) = compare_carry(&mut rng, &call, &reply) {
                 panic!("call {number}: {difference}");
             }
             results[reply.result as usize] += 1;
+            if reply.result == 0 {
+                let job = String::from_utf8_lossy(&call.job);
+                KINDS.iter().zip(&mut kinds).for_each(|(key, kind)| *kind += u64::from(job.contains(key)));
+                large += u64::from(facts.openings.len() > 7 || facts.parts.len() > 4);
+            }
         }
-        println!("{cases} calls, 0 differ\nresults: {results:?}");
+        println!("{cases} calls, 0 differ\nresults: {results:?}\naccepted with {KINDS:?}: {kinds:?}, larger ones {large}");
         if cases >= CASES {
-            assert!([0, 1, 2, 3, 4, 5, 8, 9, 10, 11].iter().all(|result| results[*result] >= LEAST));
+            assert!([0, 1, 2, 3, 4, 5, 8, 9, 10, 11, 12, 13].iter().all(|result| results[*result] >= LEAST));
             assert_eq!(results[6] + results[7], 0);
+            assert!(kinds.iter().all(|kind| *kind >= 1000) && large >= 500);
         }
     });
 }
@@ -60,19 +70,25 @@ fn library_is_the_reference() {
 fn starts_of_printed_plans_are_planned_on() {
     common::with_stack(|| {
         let mut rng = Rng::new(setting("JUZVAROLA_SEED", 53));
-        let mut on = 0;
-        for _ in 0..setting("JUZVAROLA_CASES", 20_000) {
-            let facts = inputs::facts(&mut rng, inputs::SMALL);
+        let (mut on, mut larger) = (0, 0);
+        for number in 0..setting("JUZVAROLA_CASES", 20_000) {
+            // Larger jobs by the optimum, as far as it is short: the planner's walk may be long.
+            let is_larger = number % 20 == 0;
+            let facts = inputs::facts(&mut rng, if is_larger { inputs::MIDDLE } else { inputs::SMALL });
+            let printed_for = |text: &[u8]| if is_larger { best(text, 200_000) } else { planned(text, MOST_WALK) };
             let job = texts::read_job(&facts.text()).expect("a job without faults");
             let Some(step) = logs::step(&mut rng, job.horizon) else { continue };
-            let printed = planned(&facts.text(), MOST_WALK);
+            let printed = printed_for(&facts.text());
             let Some(at) = printed.starts_with("result=0\n").then(|| printed.find("cost=")).flatten() else { continue };
             let (plan, cost) = texts::read_plan(&job, printed[at..].as_bytes()).expect("a printed plan");
             let log = logs::text(&job, &plan, step);
             let done = read_log(&job, &log).expect("a log without faults");
             let text = carried(&facts.text(), &log).unwrap_or_else(|| panic!("refused: {facts:?} {}", log.escape_ascii()));
             let rest = texts::read_job(&text).expect("a written text has no fault");
-            let printed = planned(&text, MOST_WALK);
+            let printed = printed_for(&text);
+            if is_larger && printed.starts_with("result=7\n") {
+                continue;
+            }
             assert!(printed.starts_with("result=0\n"), "{printed}{facts:?}");
             let at = printed.find("cost=").expect("a plan");
             let (again, least) = texts::read_plan(&rest, printed[at..].as_bytes()).expect("a printed plan");
@@ -81,9 +97,10 @@ fn starts_of_printed_plans_are_planned_on() {
             let changes = plan.changes.iter().map(|own| own[first..].to_vec()).collect();
             assert_eq!(again, Plan { stops: plan.stops[first..].to_vec(), changes });
             on += 1;
+            larger += u64::from(is_larger);
         }
-        println!("{on} starts of printed plans, each planned on to the same total");
-        assert!(on >= 5000);
+        println!("{on} starts of printed plans, {larger} of larger jobs, each planned on to the same total");
+        assert!(on >= 5000 && larger >= 200);
     });
 }
 
@@ -112,7 +129,8 @@ fn two_logs_or_one() {
     common::with_stack(|| {
         let mut rng = Rng::new(setting("JUZVAROLA_SEED", 54));
         let (mut both, mut three) = (0, 0);
-        for _ in 0..setting("JUZVAROLA_CASES", 40_000) {
+        let pairs = setting("JUZVAROLA_CASES", 20_000);
+        while both < pairs {
             let size = if rng.once_in(8) { Size { horizon: 40, ..inputs::SMALL } } else { inputs::SMALL };
             let facts = inputs::facts(&mut rng, size);
             let Some((first, between)) = random_log(&mut rng, &facts.text()) else { continue };
@@ -127,7 +145,7 @@ fn two_logs_or_one() {
             three += 1;
         }
         println!("{both} pairs of logs and {three} threes, each as the joined one");
-        assert!(both >= 4000 && three >= 500);
+        assert!(three >= pairs / 10);
     });
 }
 

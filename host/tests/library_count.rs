@@ -3,7 +3,8 @@
 
 mod common;
 use common::{inputs, rng::Rng, setting, vectors};
-use juzvarola_host::{count, judge, plan, reference::texts};
+use juzvarola_checks::reference::texts;
+use juzvarola_host::{count, judge, plan};
 use std::time::Instant;
 
 /// "The count stops at 4000000000".

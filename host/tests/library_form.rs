@@ -4,7 +4,7 @@
 
 mod common;
 use common::{forms, lent::compare_form, rng::Rng, setting};
-use juzvarola_host::reference::texts::read_job;
+use juzvarola_checks::reference::texts::read_job;
 
 const CASES: u64 = 100_000;
 

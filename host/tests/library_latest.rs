@@ -4,7 +4,7 @@
 mod common;
 use common::lent::{compare_latest, judged, latest};
 use common::{inputs, latest_cases, rng::Rng, setting, vectors, Call};
-use juzvarola_host::reference::{self, brute, model::Plan, texts};
+use juzvarola_checks::reference::{self, brute, model::Plan, texts};
 
 const CASES: u64 = 60_000;
 

@@ -1,15 +1,17 @@
-//! The library's optimum: the planner's own plan wherever that is found, on the jobs of `jobs/` and on random ones; the least costs that integer programs
-//! found of jobs whose counted walk is hopeless; faults as the planner has them; and what is said where a walk is longer than its number.
+//! The library's optimum: the planner's own plan wherever that is found, on the jobs of `jobs/`, on those of the vectors and on random ones; the cheapest of
+//! all plans of small jobs; the least costs that integer programs found of jobs whose counted walk is hopeless; faults as the planner has them; and what is
+//! said where a walk is longer than its number.
 #![cfg(feature = "library")]
 
 mod common;
 use common::inputs::{self, Size};
 use common::lent::{best, judged, planned, Lent};
-use common::{damage, jobs, rng::Rng, setting};
+use common::{damage, jobs, rng::Rng, setting, vectors};
+use juzvarola_checks::reference::{brute, texts};
 use juzvarola_host::{plan, MOST_WALK};
 
 /// Random jobs.
-const CASES: u64 = 20_000;
+const CASES: u64 = 100_000;
 
 /// An answer of the planner without its `nodes` and `floor`; none where it is 7.
 fn without_walk(answer: &str) -> Option<String> {
@@ -44,6 +46,8 @@ fn the_hopeless_jobs_have_the_least_cost() {
     common::with_stack(|| {
         let folder = std::path::Path::new(env!("CARGO_MANIFEST_DIR")).join("../jobs");
         for (name, cost) in [
+            ("14_full64_4", 2690),
+            ("15_full64_8", 3660),
             ("30_t1_holders_d10", 4100),
             ("30_t1_holders_d100", 5180),
             ("33_biweek8_head_d60", 3585),
@@ -60,21 +64,68 @@ fn the_hopeless_jobs_have_the_least_cost() {
     });
 }
 
+/// Lines of jobs with holders, removals of 0, fees of 0, idle steps, bands and rules.
+const KINDS: [&str; 6] = ["\nholder=", "\nremoval=0\n", "\nfee=0\n", "\nidle=", "\nlow=", "\nbase="];
+
+/// How many answers of 0 there were, by kind.
+#[derive(Debug, Default)]
+struct Seen {
+    all: u64,
+    /// As `KINDS`.
+    kinds: [u64; KINDS.len()],
+    /// With parts that hold each other.
+    circles: u64,
+}
+
+impl Seen {
+    fn add(&mut self, facts: &inputs::Facts, text: &[u8]) {
+        let text = String::from_utf8_lossy(text);
+        self.all += 1;
+        KINDS.iter().zip(&mut self.kinds).for_each(|(key, kind)| *kind += u64::from(text.contains(key)));
+        self.circles += u64::from(in_a_circle(facts));
+    }
+
+    fn least(&self) -> u64 {
+        self.kinds.into_iter().chain([self.circles]).min().unwrap_or(0)
+    }
+}
+
+/// Whether some part is its own holder through others.
+fn in_a_circle(facts: &inputs::Facts) -> bool {
+    let job = texts::read_job(&facts.text()).expect("a job without faults");
+    let chains = brute::chains(&job);
+    (0..job.parts.len()).any(|part| (0..job.parts.len()).any(|other| part != other && chains[part][other] && chains[other][part]))
+}
+
+/// The planner's plan where the optimum is asked with fewer nodes than the counted walk has, so that only the walks by shares can find it. Whether
+/// they did; else their floor is no higher than its cost.
+fn shares_alone(text: &[u8], planned: &str) -> bool {
+    let nodes = value(planned, "nodes").expect("nodes");
+    let answer = best(text, nodes - 1);
+    if value(&answer, "result") == Some(7) {
+        assert!(value(&answer, "floor").expect("a floor") <= value(planned, "cost").expect("a cost"), "{answer}");
+        return false;
+    }
+    assert_eq!(Some(answer), without_walk(planned), "{}", text.escape_ascii());
+    true
+}
+
 #[test]
 fn random_jobs_have_the_planners_plan() {
     common::with_stack(|| {
         let mut rng = Rng::new(setting("JUZVAROLA_SEED", 61));
-        let (mut alike, mut none, mut longer) = (0, 0, 0);
-        for number in 0..setting("JUZVAROLA_CASES", CASES) {
-            let size = match number % 40 {
+        let (mut alike, mut by_shares, mut none, mut longer, mut hopeless) = (Seen::default(), Seen::default(), 0, 0, 0);
+        let cases = setting("JUZVAROLA_CASES", CASES);
+        for number in 0..cases {
+            let size = match number % 200 {
                 0 => inputs::LARGE,
-                1..=5 => inputs::MIDDLE,
+                1..=15 => inputs::MIDDLE,
                 _ => inputs::SMALL,
             };
             let facts = inputs::facts(&mut rng, size);
             let text = facts.text();
-            let answer = best(&text, 2_000_000);
-            match without_walk(&planned(&text, 300_000)) {
+            let (answer, counted) = (best(&text, 300_000), planned(&text, 300_000));
+            match without_walk(&counted) {
                 // Its walks by shares may be longer than this number where the planner's is not.
                 Some(own) if answer.starts_with("result=7\n") => {
                     let (floor, cost) = (value(&answer, "floor"), value(&own, "cost"));
@@ -83,8 +134,15 @@ fn random_jobs_have_the_planners_plan() {
                 }
                 Some(own) => {
                     assert_eq!(answer, own, "{facts:?}");
-                    alike += u64::from(answer.starts_with("result=0\n"));
-                    none += u64::from(answer.starts_with("result=6\n"));
+                    match value(&answer, "result") {
+                        Some(0) => {
+                            alike.add(&facts, &text);
+                            if shares_alone(&text, &counted) {
+                                by_shares.add(&facts, &text);
+                            }
+                        }
+                        _ => none += 1,
+                    }
                 }
                 None => {
                     let plan = plan_in(&answer);
@@ -92,13 +150,78 @@ fn random_jobs_have_the_planners_plan() {
                     if let Some(plan) = plan {
                         let cost = value(plan, "cost").expect("a cost");
                         assert_eq!(judged(&text, plan.as_bytes()), format!("result=0\ncost={cost}\n"), "{facts:?}");
+                        assert!(value(&answer, "floor").is_none_or(|floor| floor <= cost), "{facts:?}");
                     }
-                    longer += 1;
+                    hopeless += 1;
                 }
             }
         }
-        println!("{alike} jobs alike, {none} without a plan, {longer} whose counted walk is longer");
-        assert!(alike >= CASES / 4 && none >= 100);
+        println!(
+            "{cases} jobs, 0 differ: {none} without a plan, {longer} whose walks by shares are longer, {hopeless} whose counted walk is"
+        );
+        println!("alike: {alike:?}\nof these by shares alone: {by_shares:?}\nkinds: {KINDS:?}");
+        assert!(cases < CASES || alike.least() >= 2000 && by_shares.least() >= 500 && none >= 1000);
+    });
+}
+
+/// Over all plans of small jobs: 6 exactly where none keeps the lives, else the least cost and the tie rule, also by the walks by shares alone.
+#[test]
+fn small_jobs_have_the_least_plan_of_all() {
+    common::with_stack(|| {
+        let mut rng = Rng::new(setting("JUZVAROLA_SEED", 64));
+        let (mut seen, mut by_shares, mut ties, mut none) = (0, 0, 0, 0);
+        for number in 0..setting("JUZVAROLA_CASES", 4000) {
+            let facts = inputs::facts(&mut rng, if number % 2 == 0 { inputs::TINY } else { inputs::NESTED });
+            let text = facts.text();
+            let job = texts::read_job(&text).expect("a job without faults");
+            let (answer, counted) = (best(&text, MOST_WALK), planned(&text, MOST_WALK));
+            let Some((cost, plan)) = brute::best_plan(&job) else {
+                assert_eq!(answer, "result=6\n", "{facts:?}");
+                none += 1;
+                continue;
+            };
+            let lines = texts::plan_lines(&job, &plan);
+            assert!(answer.starts_with("result=0\n") && value(&answer, "cost") == Some(cost), "{answer}{facts:?}");
+            assert_eq!(plan_in(&answer), Some(lines.as_str()), "{facts:?}");
+            by_shares += u64::from(shares_alone(&text, &counted));
+            ties += u64::from(brute::least_ways(&job) > 1);
+            seen += 1;
+        }
+        println!("{seen} jobs against all plans, 0 differ; {ties} with several cheapest plans; {by_shares} by shares alone; {none} without a plan");
+        assert!(seen >= 1000 && ties >= 100 && by_shares >= 100 && none >= 100);
+    });
+}
+
+/// The vectors' jobs, with the planner's answer behind `floor`.
+#[test]
+fn the_vectors_have_the_planners_plan() {
+    common::with_stack(|| {
+        let (mut alike, mut by_shares, mut faults, mut longer) = (0, 0, 0, 0);
+        let vectors = vectors::all();
+        vectors::enough(vectors.len(), "JUZVAROLA_VECTORS", 1570);
+        for vector in vectors {
+            let text = vector.call.job;
+            // Not with the walk number of the vector: many of them are cut short by it.
+            let (answer, counted) = (best(&text, 300_000), planned(&text, 300_000));
+            let Some(own) = without_walk(&counted).filter(|_| !answer.starts_with("result=7\n")) else {
+                longer += 1;
+                continue;
+            };
+            assert_eq!(answer, own, "{}", text.escape_ascii());
+            match value(&answer, "result") {
+                Some(0) => {
+                    by_shares += u64::from(shares_alone(&text, &counted));
+                    alike += 1;
+                }
+                _ => faults += 1,
+            }
+        }
+        println!(
+            "{alike} vectors' jobs alike, {by_shares} of them by shares alone, {faults} faults and jobs without a plan alike, 0 differ"
+        );
+        println!("{longer} jobs whose counted walk or whose walks by shares are longer");
+
+        assert!(alike >= 100 && faults >= 100);
     });
 }
 

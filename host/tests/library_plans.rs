@@ -4,7 +4,7 @@
 mod common;
 use common::inputs;
 use common::rng::Rng;
-use juzvarola_host::reference::{self, texts::read_job, texts::read_plan};
+use juzvarola_checks::reference::{self, texts::read_job, texts::read_plan};
 use juzvarola_host::{judge, plan_parsed, Plan};
 
 #[test]

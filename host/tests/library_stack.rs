@@ -1,11 +1,13 @@
 //! The calls on a thread with the stack that the header promises to be enough, at the limits: an overflow ends the test with the process.
 #![cfg(feature = "library")]
 
-use juzvarola_host::{carry, judge, latest, optimum, plan, write, Form, MOST_WALK};
+use juzvarola_host::{carry, hall, judge, latest, optimum, plan, write, Form, MOST_WALK};
 use std::thread;
 
 /// "Less than 1.5 MB".
 const STACK: usize = 3 << 19;
+/// Of the hall planner's call, "less than 3.5 MB".
+const HALL_STACK: usize = 7 << 19;
 
 /// 64 openings in a row and sixteen parts that last one step, held by these parts: every stop is made and, where a part holds another, every
 /// removal is decided, 64 times 17 decisions.
@@ -32,7 +34,11 @@ fn all(part: u32) -> Vec<u32> {
 }
 
 fn on_that_stack(call: impl FnOnce() + Send + 'static) {
-    let thread = thread::Builder::new().stack_size(STACK).spawn(call).expect("a thread starts");
+    on_stack(STACK, call);
+}
+
+fn on_stack(size: usize, call: impl FnOnce() + Send + 'static) {
+    let thread = thread::Builder::new().stack_size(size).spawn(call).expect("a thread starts");
     thread.join().expect("the call returns");
 }
 
@@ -53,6 +59,38 @@ fn the_deepest_searches_fit() {
             assert_eq!((answer.result, &judged[..answer.length]), (0, [b"result=0\n", plan.as_bytes()].concat().as_slice()));
             let answer = latest(text.as_bytes(), plan.as_bytes(), &mut judged);
             assert_eq!((answer.result, &judged[..answer.length]), (0, [b"result=0\n", plan.as_bytes()].concat().as_slice()));
+        });
+    }
+}
+
+/// A hall of one line as deep, where a call is decided before each stop: 64 times 18 decisions, the most that a text allows.
+#[test]
+fn the_deepest_halls_fit() {
+    for text in [job(circle), job(all), job(|_| Vec::new())] {
+        on_stack(HALL_STACK, move || {
+            let mut out = vec![0; 16_384];
+            let text = format!("machines=1\ncall=1000000\n{text}");
+            let answer = hall(text.as_bytes(), MOST_WALK, &mut out);
+            assert_eq!(answer.result, 0);
+            let lines = String::from_utf8(out[..answer.length].to_vec()).expect("text");
+            assert!(lines.contains("\ncost=2176000000\ncost=2112000000\nstops=64\n"), "{}", &lines[..80]);
+        });
+    }
+}
+
+/// Walks by shares that go as deep, cut short with the counted walk at its last node but one.
+#[test]
+fn the_deepest_walks_by_shares_fit() {
+    for (text, nodes) in [(job(circle), 2177), (job(all), 2177)] {
+        on_that_stack(move || {
+            let text = text.replace("1000000", "1");
+            let mut out = vec![0; 16_384];
+            let answer = plan(text.as_bytes(), MOST_WALK, &mut out);
+            assert!(answer.result == 0 && out.starts_with(format!("result=0\nnodes={nodes}\n").as_bytes()));
+            let answer = optimum(text.as_bytes(), nodes - 1, &mut out);
+            let lines = String::from_utf8(out[..answer.length].to_vec()).expect("text");
+            let floor = lines.strip_prefix("result=7\nfloor=").and_then(|line| line.trim_end().parse::<u64>().ok());
+            assert!(answer.result == 7 && floor.is_some_and(|floor| floor <= 2112), "{lines}");
         });
     }
 }

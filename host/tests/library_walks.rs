@@ -4,7 +4,7 @@
 mod common;
 use common::lent::{judged, planned};
 use common::{inputs, jobs, rng::Rng, setting};
-use juzvarola_host::fast::{self, Best, Found, Unit};
+use juzvarola_checks::fast::{self, Best, Found, Unit};
 
 /// Nodes of a walk, at most.
 const LIMIT: u64 = 100_000;

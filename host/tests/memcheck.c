@@ -1,6 +1,7 @@
 /* Makes the calls of vectors (standard input) with each buffer a block of its own, under valgrind: memcheck sees every byte read or written outside
  * of them, and every use of a byte that has no value. The output has none before the call: afterwards the first `length` bytes must have values, those
- * of the answer, and all others still none. Prints how many calls there were and how many differ; `make memcheck` runs it. */
+ * of the answer, and all others still none. Where a planner's vector has a whole walk, the optimum's call is made too. Prints how many calls there were and
+ * how many differ; `make memcheck` runs it. */
 #define _GNU_SOURCE
 #include <stdio.h>
 #include <stdlib.h>
@@ -13,6 +14,8 @@ enum { FIELDS = 32, LISTS = 16, COVERED = 5, RULED = 9, BANDED = 13, LIVES = 3 }
 
 static char *fields[FIELDS];
 static int field_count;
+/* The calls of the optimum that were not cut short. */
+static unsigned optima;
 
 /* Bytes in a block of exactly their length. */
 typedef struct {
@@ -150,6 +153,44 @@ static int of_before(void) {
     return number("result", 2) == 2 && strncmp(field("fault", 7), "6f70656e696e67733d", 18) == 0 && !strstr(field("job", 4), "0a77616c6b3d");
 }
 
+/* Where the lines behind `floor` start in a planner's answer. */
+static size_t behind_floor(const bytes *written) {
+    size_t at = 0;
+    for (int lines = 0; lines < 3 && at < written->length; at++) {
+        lines += written->at[at] == 10;
+    }
+    return at;
+}
+
+/* Makes the optimum's call with this walk number; whether it answered as the planner's vector says, without `nodes` and `floor`. With fewer nodes than the
+ * planner's walk has (`cut`) it may be cut short: where it is not, its walks by shares found the plan. */
+static int optimum_agrees(const bytes *job, size_t room, uint64_t walk, const bytes *written, int cut) {
+    bytes out = {malloc(room), room};
+    juzvarola_answer answer = juzvarola_optimum(job->at, job->length, walk, out.at, out.length);
+    VALGRIND_CHECK_MEM_IS_DEFINED(&answer.result, 3 * sizeof answer.result);
+    VALGRIND_CHECK_MEM_IS_DEFINED(&answer.length, 3 * sizeof answer.length);
+    VALGRIND_CHECK_MEM_IS_DEFINED(out.at, answer.length);
+    static const char head[] = "result=0\n";
+    size_t from = number("result", 2) == 0 ? behind_floor(written) : 0, begun = from ? sizeof head - 1 : 0;
+    int same = answer.result == number("result", 2) && answer.line == number("line", 3) && answer.length == begun + written->length - from &&
+               memcmp(out.at, head, begun) == 0 && memcmp(out.at + begun, written->at + from, written->length - from) == 0;
+    same = (same || (cut && answer.result == JUZVAROLA_CUT_SHORT)) && untouched(&out, answer.length);
+    optima += !cut || answer.result == JUZVAROLA_OK;
+    free(out.at);
+    return same;
+}
+
+/* The optimum's calls for a planner's vector that is not cut short: with as many nodes as its walk has, and with one less. */
+static int optimum_as_expected(const bytes *job, size_t room, uint64_t walk, const bytes *written) {
+    if (number("result", 2) == JUZVAROLA_CUT_SHORT) {
+        return 1;
+    }
+    static const char key[] = "\nnodes=";
+    const uint8_t *nodes = number("result", 2) == 0 ? memmem(written->at, written->length, key, sizeof key - 1) : NULL;
+    uint64_t count = nodes ? strtoull((const char *)nodes + sizeof key - 1, NULL, 10) : 0;
+    return optimum_agrees(job, room, count > 0 ? count : walk, written, 0) && (count < 2 || optimum_agrees(job, room, count - 1, written, 1));
+}
+
 /* Makes the call of the line's fields; whether it answered as the vector says. */
 static int as_expected(void) {
     const char *call = fields[0];
@@ -180,6 +221,7 @@ static int as_expected(void) {
         same = answer.length == written.length && memcmp(out.at, written.at, written.length) == 0 && untouched(&out, answer.length);
     }
     same = same && answer.result == number("result", 2) && answer.line == number("line", 3);
+    same = same && (strcmp(call, "plan") != 0 || optimum_as_expected(&job, room, walk_number(&job), &written));
     free(job.at);
     free(plan.at);
     free(written.at);
@@ -207,6 +249,6 @@ int main(void) {
         }
     }
     free(line);
-    printf("%u calls, %u differ\n", calls, differ);
+    printf("%u calls and %u of the optimum, %u differ\n", calls, optima, differ);
     return differ != 0 || calls == 0;
 }

@@ -4,7 +4,8 @@
 
 mod common;
 use common::tool::{job, Folder, PROGRAM};
-use juzvarola_host::{reference, MOST_WALK};
+use juzvarola_checks::reference;
+use juzvarola_host::MOST_WALK;
 use std::fs::{File, OpenOptions};
 use std::io::{self, Read, Write};
 use std::path::{Path, PathBuf};

@@ -2,7 +2,7 @@
 
 mod common;
 use common::{holder_cases, idle_cases, inputs, paper, rng::Rng, setting};
-use juzvarola_host::reference::{self, Counted, Reply};
+use juzvarola_checks::reference::{self, Counted, Reply};
 
 const CASES: u64 = 30_000;
 

@@ -5,8 +5,8 @@ mod common;
 use common::inputs::{self, Facts};
 use common::rng::Rng;
 use common::setting;
-use juzvarola_host::reference::model::{Job, Part};
-use juzvarola_host::reference::{self, texts};
+use juzvarola_checks::reference::model::{Job, Part};
+use juzvarola_checks::reference::{self, texts};
 
 const OUTPUT: usize = 16_384;
 

@@ -2,8 +2,8 @@
 
 mod common;
 use common::{inputs, rng::Rng, setting};
-use juzvarola_host::reference::walk::Point;
-use juzvarola_host::reference::{brute, model::Job, texts};
+use juzvarola_checks::reference::walk::Point;
+use juzvarola_checks::reference::{brute, model::Job, texts};
 use juzvarola_host::MOST_WALK;
 
 fn jobs_of(size: inputs::Size, count: u64) -> impl Iterator<Item = Job> {

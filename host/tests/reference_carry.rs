@@ -5,8 +5,8 @@ mod common;
 use common::inputs::{self, printed_plan};
 use common::paper::{altered, text, JOB};
 use common::{logs, rng::Rng, setting, vectors, Call};
-use juzvarola_host::reference::model::Plan;
-use juzvarola_host::reference::{self, brute, carry::read_log, texts, Reply};
+use juzvarola_checks::reference::model::Plan;
+use juzvarola_checks::reference::{self, brute, carry::read_log, texts, Reply};
 use juzvarola_host::MOST_WALK;
 
 const OUTPUT: usize = 40_960;
@@ -202,7 +202,8 @@ fn replies_are_consistent() {
         let mut rng = Rng::new(setting("JUZVAROLA_SEED", 44));
         let mut results = [0u64; 14];
         for _ in 0..setting("JUZVAROLA_CASES", 20_000) {
-            let Call { job, plan, output, .. } = logs::call(&mut rng, inputs::SMALL);
+            let facts = inputs::facts(&mut rng, inputs::SMALL);
+            let Call { job, plan, output, .. } = logs::call(&mut rng, &facts);
             let log = plan.expect("a log");
             let reply = reference::carry(&job, &log, output);
             let at_fault = if reply.text == 2 { &log } else { &job };

@@ -3,7 +3,7 @@
 
 mod common;
 use common::{inputs, rng::Rng, setting};
-use juzvarola_host::reference::{model::Job, texts};
+use juzvarola_checks::reference::{model::Job, texts};
 
 /// Points of a walk, at most.
 const LIMIT: u64 = 500;

@@ -4,7 +4,7 @@ mod common;
 use common::forms::{self, FormCall};
 use common::inputs::{self, Facts};
 use common::rng::Rng;
-use juzvarola_host::reference::{texts::read_job, Reply};
+use juzvarola_checks::reference::{texts::read_job, Reply};
 
 #[test]
 fn reference_gives_every_form() {

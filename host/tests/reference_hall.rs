@@ -5,11 +5,11 @@ use common::halls::{self, HallFacts};
 use common::inputs::{self, Size};
 use common::paper::{text, JOB};
 use common::{rng::Rng, setting, vectors};
-use juzvarola_host::reference::hall::{read_hall, Hall, HallWalk};
-use juzvarola_host::reference::model::{Job, Plan};
-use juzvarola_host::reference::{self, brute};
+use juzvarola_checks::reference::hall::{read_hall, Hall, HallWalk};
+use juzvarola_checks::reference::model::{Job, Plan};
+use juzvarola_checks::reference::{self, brute};
 use juzvarola_host::MOST_WALK;
-use std::collections::{BTreeSet, HashMap};
+use std::collections::BTreeSet;
 
 const OUTPUT: usize = 16_384;
 
@@ -68,40 +68,6 @@ fn cases_by_hand() {
     assert_eq!(reference::hall(b"", 0, OUTPUT - 1).result, 8);
 }
 
-/// For each stop set the least cost of plans of a job that keep the lives, without calls.
-fn by_stops(job: &Job) -> HashMap<Vec<i64>, u64> {
-    let mut least = HashMap::new();
-    for plan in brute::all_plans(job).filter(|plan| job.keeps(plan)) {
-        let cost = brute::cost(job, &plan);
-        let own: &mut u64 = least.entry(steps(job, &plan)).or_insert(cost);
-        *own = cost.min(*own);
-    }
-    least
-}
-
-/// The steps at which a plan stops.
-fn steps(job: &Job, plan: &Plan) -> Vec<i64> {
-    job.openings.iter().zip(&plan.stops).filter(|(_, stop)| **stop).map(|(opening, _)| opening.step).collect()
-}
-
-/// The least cost of a hall, over all sets of plans for its lines: one call for each step at which some line stops.
-fn least(hall: &Hall) -> Option<u64> {
-    let mut all: HashMap<BTreeSet<i64>, u64> = HashMap::from([(BTreeSet::new(), 0)]);
-    for job in &hall.jobs {
-        let own = by_stops(job);
-        let mut next: HashMap<BTreeSet<i64>, u64> = HashMap::new();
-        for (union, sum) in &all {
-            for (stops, cost) in &own {
-                let union: BTreeSet<i64> = union.iter().chain(stops).copied().collect();
-                let best = next.entry(union).or_insert(sum + cost);
-                *best = (sum + cost).min(*best);
-            }
-        }
-        all = next;
-    }
-    all.into_iter().map(|(stops, sum)| sum + hall.call * stops.len() as u64).min()
-}
-
 /// The plans of a reply's lines, one for each job.
 fn plans(hall: &Hall, lines: &str) -> Vec<(Plan, u64)> {
     let mut texts: Vec<String> = Vec::new();
@@ -127,7 +93,7 @@ fn no_set_of_plans_costs_less() {
             let facts: HallFacts = halls::facts(&mut rng, TINY, 3);
             let hall = read_hall(&facts.text()).expect("a hall without faults");
             let reply = reference::hall(&facts.text(), MOST_WALK, OUTPUT);
-            let Some(least) = least(&hall) else {
+            let Some(least) = halls::least(&hall) else {
                 assert_eq!(reply.result, 6, "{facts:?}");
                 none += 1;
                 continue;
@@ -137,14 +103,14 @@ fn no_set_of_plans_costs_less() {
             let at = text.find("cost=").expect("a cost");
             let (cost, lines) = text[at..].split_once('\n').expect("lines");
             let plans = plans(&hall, lines);
-            let stops: BTreeSet<i64> = hall.jobs.iter().zip(&plans).flat_map(|(job, (plan, _))| steps(job, plan)).collect();
+            let stops: BTreeSet<i64> = hall.jobs.iter().zip(&plans).flat_map(|(job, (plan, _))| halls::steps(job, plan)).collect();
             let sum: u64 = plans.iter().map(|(_, cost)| cost).sum();
             assert!(hall.jobs.iter().zip(&plans).all(|(job, (plan, cost))| job.keeps(plan) && job.cost(plan) == *cost), "{facts:?}");
             assert_eq!(sum + hall.call * stops.len() as u64, least, "{facts:?} {text}");
             assert_eq!(cost, format!("cost={least}"));
             let alone = hall.jobs.iter().map(|job| brute::best_plan(job).expect("a plan").0).sum::<u64>();
             assert!(hall.call > 0 || least == alone, "{facts:?}");
-            let own: usize = hall.jobs.iter().zip(&plans).map(|(job, (plan, _))| steps(job, plan).len()).sum();
+            let own: usize = hall.jobs.iter().zip(&plans).map(|(job, (plan, _))| halls::steps(job, plan).len()).sum();
             shared += u64::from(own > stops.len());
             found += 1;
         }

@@ -2,8 +2,8 @@
 
 mod common;
 use common::{inputs, latest_cases, rng::Rng, setting, vectors};
-use juzvarola_host::reference::model::{Job, Plan, Set};
-use juzvarola_host::reference::{self, brute, texts};
+use juzvarola_checks::reference::model::{Job, Plan, Set};
+use juzvarola_checks::reference::{self, brute, texts};
 
 #[test]
 fn reference_gives_every_vector() {

@@ -2,7 +2,7 @@
 
 mod common;
 use common::{inputs, rng::Rng, vectors, Call};
-use juzvarola_host::reference::{self, Reply};
+use juzvarola_checks::reference::{self, Reply};
 use std::{fs, path::Path};
 
 #[test]

@@ -27,11 +27,16 @@ fn what_is_left_in_words() {
     let ran = folder.run(&["carry", "a job.txt", "first.txt", "-o", "rest.txt"]);
     let words = "\
 a job.txt: up to step 3, 15 was spent on 1 stop and 1 change; 3 steps and 2 openings are left (0)
+    the cheapest plan of what is left costs 22; proved
+
+What was done: parts changed
+  step  cost  parts
+     2    15  1
 
 What is left of each part's life
-  part  life  left  change
-     1     3     2  by step 2 (5 of the whole)
-     2     4     1  by step 1 (4 of the whole)
+  part  life  left     change
+     1     3     2     by step 2 (5 of the whole)
+     2     4     1  !  by step 1 (4 of the whole), at the next opening
 ";
     assert_eq!((ran.status, ran.out.as_str(), ran.err.as_str()), (0, "", words));
     let rest = "horizon=3 openings=2 opening=1 fee=10 opening=2 fee=10 parts=2 life=3 left=2 price=5 price=5 life=4 left=1 price=7 price=7";
@@ -41,7 +46,7 @@ What is left of each part's life
     // To standard output, with dates.
     let ran = folder.run(&["carry", "a job.txt", "first.txt", "--from", "2027-01-04"]);
     assert_eq!((ran.status, ran.out.into_bytes()), (0, text(rest)));
-    assert!(ran.err.contains("     1     3     2  by step 2 (5 of the whole, 2027-01-08)\n"), "{}", ran.err);
+    assert!(ran.err.contains("     1     3     2     by step 2 (5 of the whole, 2027-01-08)\n"), "{}", ran.err);
 }
 
 #[test]
@@ -52,7 +57,7 @@ fn two_logs_are_as_one() {
     assert_eq!((two.status, one.status), (0, 0));
     assert_eq!(two.out, one.out);
     assert_eq!(two.err, one.err);
-    assert!(one.err.contains("     1     3     3  lasts to the end\n"), "{}", one.err);
+    assert!(one.err.contains("     1     3     3    lasts to the end\n"), "{}", one.err);
 }
 
 #[test]
@@ -113,4 +118,89 @@ fn the_same_for_programs() {
     assert_eq!(answer.at("text"), &Json::Null);
     let ran = folder.run(&["carry", "a job.txt", "a job.txt", "--json"]);
     assert_eq!(read(&ran.out).at("fault").at("text").number(), 2);
+}
+
+/// The plan of the whole job, and logs that followed it or did not.
+const PLANNED: &str = "cost=37 stops=2 stop=2 count=1 part=1 stop=4 count=2 part=1 part=2";
+
+#[test]
+fn the_plan_that_was_followed() {
+    let folder = folder();
+    folder.write("plan.txt", &text(PLANNED));
+    let ran = folder.run(&["carry", "a job.txt", "first.txt", "--planned", "plan.txt", "-o", "rest.txt"]);
+    assert_eq!(ran.status, 0);
+    assert!(ran.err.contains("left (0)\n    as planned so far: 22 remain, the cheapest possible (proved)\n\nWhat was done"), "{}", ran.err);
+    // More was changed than planned, and a stop was made besides: the rest of the plan still does.
+    folder.write("more.txt", &text("step=3 cost=32 stops=2 stop=2 count=2 part=1 part=2 stop=3 count=0"));
+    let ran = folder.run(&["carry", "a job.txt", "more.txt", "--planned", "plan.txt", "-o", "rest.txt"]);
+    let words = "\
+    not as planned at 2 steps: 15 was planned up to here, and 32 was spent
+    the rest of the plan would still do: 22 remain, the cheapest possible (proved)
+
+What was done: parts changed
+  step  cost  parts
+     2    22  1, 2
+     3    10
+
+Where it was not as planned: parts changed
+  step  planned  done          deviation
+     2  1        1, 2          changed besides: 2
+     3  no stop  a stop, none  stopped besides
+";
+    assert!(ran.err.contains(words), "{}", ran.err);
+    // Less was changed: the rest of the plan comes too late, in steps of the whole.
+    let job = "horizon=6 openings=3 opening=1 fee=1 opening=3 fee=1 opening=5 fee=1 parts=1 life=4 left=3 price=9 price=9 price=9";
+    folder.write("one.txt", &text(job));
+    folder.write("early.txt", &text("cost=20 stops=2 stop=1 count=1 part=1 stop=5 count=1 part=1"));
+    folder.write("none.txt", &text("step=2 cost=0 stops=0"));
+    let ran = folder.run(&["carry", "one.txt", "none.txt", "--planned", "early.txt", "-o", "rest.txt"]);
+    let words = "the rest of the plan will not do any more: part 1 is not kept: it is due by step 3 and changed only at step 5, 2 running steps too late";
+    assert!(ran.err.contains(words) && ran.err.contains("     1  1        no stop  not stopped\n"), "{}", ran.err);
+}
+
+#[test]
+fn planned_on_at_once() {
+    let folder = folder();
+    folder.write("plan.txt", &text(PLANNED));
+    let ran = folder.run(&["carry", "a job.txt", "first.txt", "--plan", "next.txt"]);
+    assert_eq!((ran.status, ran.out.as_str()), (0, ""), "the job goes nowhere without -o");
+    let words = "    the cheapest plan of what is left costs 22 (fees 10, parts 12), with 1 stop and 2 changes; proved\n";
+    assert!(ran.err.contains(words), "{}", ran.err);
+    assert_eq!(folder.read("next.txt").into_bytes(), text("cost=22 stops=1 stop=1 count=2 part=1 part=2"));
+    assert!(!folder.names().contains(&"rest.txt".to_string()));
+    let ran = folder.run(&["carry", "a job.txt", "first.txt", "--plan", "-", "-o", "rest.txt"]);
+    assert_eq!((ran.status, ran.out.into_bytes()), (0, text("cost=22 stops=1 stop=1 count=2 part=1 part=2")));
+    let ran = folder.run(&["carry", "a job.txt", "first.txt", "--planned", "plan.txt", "--plan", "next.txt", "--json"]);
+    let answer = read(&ran.out);
+    assert_eq!(answer.at("followed").at("remain").number(), 22);
+    assert_eq!((answer.at("bounds").at("cheapest").number(), answer.at("plan").at("costs").at("total").number()), (22, 22));
+    assert_eq!(answer.at("parts").list().iter().map(|part| part.at("short") == &Json::Bool(true)).collect::<Vec<_>>(), [false, true]);
+    // The steps of the whole stand beside those of the rest.
+    folder.run(&["carry", "a job.txt", "first.txt", "-o", "rest.txt"]);
+    let ran = folder.run(&["list", "rest.txt", "next.txt", "--after", "3", "--from", "2027-01-04"]);
+    assert!(ran.out.contains("1 (4 of the whole, 2027-01-07)"), "{}", ran.out);
+    // Nothing that keeps the lives is left.
+    folder.write("tight.txt", &text("horizon=6 openings=1 opening=1 fee=1 parts=1 life=4 left=3 price=9"));
+    folder.write("none.txt", &text("step=2 cost=0 stops=0"));
+    let ran = folder.run(&["carry", "tight.txt", "none.txt", "--plan", "next2.txt", "-o", "rest2.txt"]);
+    assert_eq!(ran.status, 1, "{ran:?}");
+    assert!(
+        ran.err.contains("    no plan keeps the lives in what is left\n") && ran.err.contains("no opening till then: no plan"),
+        "{}",
+        ran.err
+    );
+    assert!(folder.names().contains(&"rest2.txt".to_string()) && !folder.names().contains(&"next2.txt".to_string()));
+}
+
+#[test]
+fn faults_of_the_plan_that_was_followed() {
+    let folder = folder();
+    folder.write("bad.txt", &text("cost=15 stops=1 stop=6 count=0"));
+    let ran = folder.run(&["carry", "a job.txt", "first.txt", "--planned", "bad.txt"]);
+    assert_eq!(ran.status, 2, "{ran:?}");
+    assert!(ran.err.starts_with("bad.txt:3: stop is no opening"), "{}", ran.err);
+    let ran = folder.run(&["carry", "a job.txt", "first.txt", "-o", "-", "--plan", "-"]);
+    assert_eq!((ran.status, ran.err.as_str()), (64, "juzvarola: the job that is left and its plan can't both go to one file\n"));
+    let ran = folder.run(&["carry", "a job.txt", "first.txt", "--planned", "bad.txt", "--plan", "bad.txt"]);
+    assert_eq!(ran.status, 64, "{ran:?}");
 }

@@ -7,8 +7,8 @@ use common::paper::{text, JOB};
 use common::rng::Rng;
 use common::tool::{job, number_after, plain, year, Folder};
 use common::xml::{elements, Element};
-use juzvarola_host::reference::model::{Job, Plan};
-use juzvarola_host::reference::texts::{read_job, read_plan};
+use juzvarola_checks::reference::model::{Job, Plan};
+use juzvarola_checks::reference::texts::{read_job, read_plan};
 
 /// A drawing with what it is of.
 struct Drawn {
@@ -61,7 +61,7 @@ fn draw(job: &[u8], plan: &[u8], name: &str) -> Drawn {
     let picture = folder.read(name);
     let bare = picture.replace("xmlns=\"http://www.w3.org/2000/svg\"", "");
     assert!(!["<script", "http", "href", "@import", "src="].iter().any(|word| bare.contains(word)), "nothing is fetched or run");
-    let planned = folder.run(&["plan", "job.txt", "--walk", "20000000", "--once"]);
+    let planned = folder.run(&["plan", "job.txt", "--walk", "10000000", "--once"]);
     let least = Some(planned.out).filter(|_| planned.status == 0).and_then(|text| number_after(&text, "cost="));
     let job = read_job(job).expect("an accepted job");
     let (plan, stated) = read_plan(&job, plan).expect("an accepted plan");
@@ -181,10 +181,12 @@ fn check_words(drawn: &Drawn) {
         0 => String::new(),
         removals => format!(" \u{b7} Removals {removals}"),
     };
-    let low =
-        if drawn.job.is_banded() { format!(" \u{b7} At low prices {}", drawn.job.at_low_ends().cost(&drawn.plan)) } else { String::new() };
-    let line = format!("Fees {fees} \u{b7} Parts {prices}{removals} \u{b7} Total {cost}{low}").replace(" \u{b7} ", "  \u{b7}  ");
+    let low = drawn.job.at_low_ends().cost(&drawn.plan);
+    let span = |low: u64, high: u64| if low < high { format!("{low} to {high}") } else { high.to_string() };
+    let (parts, total) = (span(low + prices - cost, prices), span(low, cost));
+    let line = format!("Fees {fees} \u{b7} Parts {parts}{removals} \u{b7} Total {total}").replace(" \u{b7} ", "  \u{b7}  ");
     assert!(words.contains(&line), "{words}");
+    check_bar(drawn, fees, cost - low);
     assert_eq!(words.contains("Stated "), cost != drawn.stated);
     check_standing(drawn, &words, cost);
     let labels: Vec<(String, String)> = match drawn.all("up") {
@@ -206,6 +208,28 @@ fn check_words(drawn: &Drawn) {
         let (left, right) = if element.is("end") { (x - width, x) } else { (x, x) };
         assert!(left >= 0.0 && right < sheet.number("width") && (0.0..sheet.number("height")).contains(&y), "on the sheet: {element:?}");
     }
+}
+
+/// The bar of costs: its pieces, side by side, are the costs; hatched is what the prices' bands are wide.
+fn check_bar(drawn: &Drawn, fees: u64, band: u64) {
+    let pieces = drawn.all("sum");
+    let amount = |of: &str| {
+        pieces.iter().filter(|piece| piece.get("data-of") == Some(of)).map(|piece| piece.number("data-amount") as u64).sum::<u64>()
+    };
+    let cost = drawn.job.cost(&drawn.plan);
+    assert_eq!((amount("fees"), amount("band")), (fees, band));
+    assert_eq!(pieces.iter().map(|piece| piece.number("data-amount") as u64).sum::<u64>(), cost);
+    let end = |piece: &Element| piece.number("x") + piece.number("width");
+    for (at, piece) in pieces.iter().enumerate() {
+        assert!(at == 0 || close(piece.number("x"), end(pieces[at - 1])), "side by side: {piece:?}");
+        let whole = end(pieces[pieces.len() - 1]) - pieces[0].number("x");
+        assert!((piece.number("width") - whole * piece.number("data-amount") / cost as f64).abs() < 0.1, "to one scale: {piece:?}");
+    }
+    let least = drawn.least.filter(|least| *least < cost);
+    assert_eq!(
+        drawn.all("cheapest").iter().map(|mark| mark.number("data-amount") as u64).collect::<Vec<_>>(),
+        least.into_iter().collect::<Vec<_>>()
+    );
 }
 
 /// How the plan stands to the cheapest one: by the program's own plan of the job, which these jobs' walks find; nothing where a life is not kept.
@@ -312,7 +336,7 @@ fn tables_of_a_page_add_up() {
     let text = job("38_week8_guard_shutdown");
     let folder = Folder::new();
     folder.write("job.txt", &text);
-    assert_eq!(folder.run(&["plan", "job.txt", "--walk", "20000000", "-o", "plan.txt"]).status, 3);
+    assert_eq!(folder.run(&["plan", "job.txt", "--walk", "20000000", "--count-nodes", "-o", "plan.txt"]).status, 3);
     let drawn = draw(&text, folder.read("plan.txt").as_bytes(), "page.html");
     let cells: Vec<&str> = drawn.elements.iter().filter(|element| element.name == "td").map(|element| element.text.as_str()).collect();
     let number = |cell: &str| plain(cell).parse::<u64>().unwrap_or_else(|_| panic!("{cell:?} is a number"));
@@ -387,4 +411,81 @@ fn pages_have_their_lists() {
     let stops = drawn.steps(true).len();
     assert_eq!(cells, (stops + 1) * 5 + (16 + 1) * 4, "with the sums beneath");
     assert!(drawn.elements.iter().any(|element| element.name == "meta" && element.get("charset") == Some("utf-8")));
+}
+
+/// A year's job, a log of its first twenty steps, and the plan of what is left.
+fn done() -> Folder {
+    let folder = Folder::new();
+    folder.write("job.txt", &job("13_shutdown"));
+    let log = "step=20 cost=940 stops=3 stop=4 count=2 part=1 part=3 stop=10 count=3 part=1 part=2 part=4 stop=16 count=4 part=1 part=2 part=3 part=5";
+    folder.write("log.txt", &text(log));
+    assert_eq!(folder.run(&["carry", "job.txt", "log.txt", "--plan", "next.txt", "-o", "rest.txt"]).status, 0);
+    folder
+}
+
+/// What was done is grey and before a line for today; behind it stand the steps from today on, and the sums of both.
+#[test]
+fn what_was_done_is_grey() {
+    let folder = done();
+    for name in ["past.svg", "past.html"] {
+        let ran = folder.run(&["draw", "job.txt", "next.txt", "--log", "log.txt", "-o", name]);
+        assert_eq!((ran.status, ran.err.as_str()), (0, ""), "{ran:?}");
+        assert!(ran.out.contains("cost is true: 2,505; to go on so is the cheapest possible (proved) (0)"), "{}", ran.out);
+        let drawn = elements(&folder.read(name));
+        let all = |class: &str| drawn.iter().filter(|element| element.is(class)).collect::<Vec<_>>();
+        let steps = |class: &str, done: bool| {
+            let own = all(class).into_iter().filter(|element| element.is("done") == done);
+            own.map(|element| element.number("data-step") as u64).collect::<Vec<_>>()
+        };
+        assert_eq!((steps("stop", true), steps("stop", false)), (vec![4, 10, 16], vec![24, 30, 36, 44]));
+        assert_eq!((steps("change", true).len(), steps("change", false).len()), (9, 13));
+        let today = all("today")[0];
+        assert_eq!(today.number("data-step"), 20.0);
+        let x = today.number("x1");
+        let ends = |shape: &&Element, past: bool| {
+            let points = shape.get("points").expect("points").split([',', ' ']).step_by(2).map(|at| at.parse::<f64>().expect("a place"));
+            points.into_iter().all(|at| if past { at <= x + 0.02 } else { at >= x - 0.02 })
+        };
+        let worn: Vec<&Element> = all("worn").into_iter().filter(|shape| shape.name == "polygon").collect();
+        assert!(worn.len() >= 6 && worn.iter().all(|shape| ends(shape, true)), "grey is before today");
+        // The legend's own shape is the last.
+        let wear = all("wear");
+        assert!(wear.len() >= 7 && wear[..wear.len() - 1].iter().all(|shape| ends(shape, false)), "blue is behind it");
+        let words: String = drawn.iter().map(|element| element.text.clone() + "\n").collect();
+        assert!(
+            ["done up to step 20", "\ntoday\n", "\n+10\n", "Spent 940, to go on 1,565"].iter().all(|own| words.contains(own)),
+            "{words}"
+        );
+    }
+}
+
+/// The job that is left alone, with the steps of the whole beneath; its stops for a calendar program have the whole's dates.
+#[test]
+fn what_is_left_has_the_steps_of_the_whole() {
+    let folder = done();
+    let ran = folder.run(&["draw", "rest.txt", "next.txt", "-o", "rest.svg", "--after", "20"]);
+    let words: String = elements(&folder.read("rest.svg")).into_iter().map(|element| element.text + "\n").collect();
+    assert!(ran.status == 0 && words.contains("of the whole\n") && words.contains("\n52\n"), "{words}");
+    let date = ["--from", "2027-01-04", "--step", "week"];
+    assert_eq!(folder.run(&[&["draw", "rest.txt", "next.txt", "-o", "rest.ics", "--after", "20"], &date[..]].concat()).status, 0);
+    assert_eq!(folder.run(&[&["draw", "job.txt", "next.txt", "--log", "log.txt", "-o", "past.ics"], &date[..]].concat()).status, 0);
+    let starts = |name: &str| folder.read(name).lines().filter(|line| line.starts_with("DTSTART")).map(str::to_string).collect::<Vec<_>>();
+    assert_eq!(starts("rest.ics"), starts("past.ics"));
+    assert_eq!(starts("rest.ics")[0], "DTSTART;VALUE=DATE:20270614");
+}
+
+/// A log that is refused, and a plan that is none of the job that is left, are not drawn.
+#[test]
+fn what_was_not_done_is_not_drawn() {
+    let folder = Folder::new();
+    folder.write("job.txt", &text(JOB));
+    folder.write("log.txt", &text("step=3 cost=16 stops=1 stop=2 count=1 part=1"));
+    folder.write("plan.txt", &text("cost=22 stops=1 stop=1 count=2 part=1 part=2"));
+    let ran = folder.run(&["draw", "job.txt", "plan.txt", "--log", "log.txt", "-o", "a.svg"]);
+    assert_eq!((ran.status, ran.err.as_str()), (1, "log.txt: what was done costs 15, and 16 is stated: 1 too much (11)\n"));
+    folder.write("log.txt", &text("step=3 cost=15 stops=1 stop=2 count=1 part=1"));
+    folder.write("plan.txt", &text("cost=22 stops=1 stop=4 count=2 part=1 part=2"));
+    let ran = folder.run(&["draw", "job.txt", "plan.txt", "--log", "log.txt", "-o", "a.svg"]);
+    assert!(ran.status == 2 && ran.err.starts_with("plan.txt:3: stop is no opening"), "{ran:?}");
+    assert!(!folder.names().contains(&"a.svg".to_string()));
 }

@@ -2,7 +2,7 @@
 #![cfg(feature = "library")]
 
 mod common;
-use common::tool::{job, Folder, Ran};
+use common::tool::{hard, job, Folder, Ran};
 use std::fs;
 use std::os::unix::fs::{symlink, PermissionsExt};
 
@@ -29,7 +29,7 @@ fn standard_input_and_pipes() {
     let text = job("13_shutdown");
     let ran = folder.run_on(&["plan", "-"], &text);
     assert_eq!((ran.status, ran.out), (0, folder.read("its plan.txt")));
-    assert!(ran.err.starts_with("<stdin>: the cheapest plan costs 2,505 "), "{}", ran.err);
+    assert!(ran.err.starts_with("<stdin>: the plan costs 2,505 "), "{}", ran.err);
     let ran = folder.run_on(&["plan", "-"], &text[..20]);
     assert!(ran.err.starts_with("<stdin>:3: "), "{}", ran.err);
     let ran = folder.shell(r#""$juzvarola" plan 'a job.txt' 2>/dev/null | "$juzvarola" judge 'a job.txt' -"#);
@@ -92,11 +92,11 @@ fn outputs_that_cannot_be_written() {
     failed(&folder, &before, &folder.run(&["plan", "a job.txt", "-o", ""]), 73, "can't be made");
 }
 
-/// What can be known beforehand is said before the walk: this one takes a minute.
+/// What can be known beforehand is said before the walks: these take minutes.
 #[test]
 fn outputs_are_looked_at_before_a_long_walk() {
     let folder = folder();
-    folder.write("long.txt", &job("14_full64_4"));
+    folder.write("long.txt", &hard());
     let before = folder.names();
     failed(&folder, &before, &folder.run(&["plan", "long.txt", "-o", "no such/plan"]), 73, "can't be made: No such file");
     failed(&folder, &before, &folder.run(&["plan", "long.txt", "-o", "long.txt/plan"]), 73, "can't be made: Not a directory");

@@ -7,7 +7,7 @@ use common::json::{read, Json};
 use common::paper::{altered, text, JOB};
 use common::rng::Rng;
 use common::tool::{job, Folder};
-use juzvarola_host::reference::texts::{read_job, read_plan};
+use juzvarola_checks::reference::texts::{read_job, read_plan};
 
 /// The keys of each command's object, in alphabetical order. They are stable: a key may be added, and none is taken away or renamed.
 const PLAN: &[&str] =
@@ -31,7 +31,7 @@ const LIST: &[&str] = &[
     "stops",
     "words",
 ];
-const COMPARE: &[&str] = &["bounds", "command", "differences", "fault", "job", "juzvarola", "plans", "result", "words"];
+const COMPARE: &[&str] = &["bounds", "command", "differences", "fault", "job", "juzvarola", "plans", "range", "result", "words"];
 const COUNT: &[&str] = &["command", "count", "fault", "job", "juzvarola", "milliseconds", "no_plan", "or_more", "result", "words"];
 const REFUSED: &[&str] = &["command", "fault", "juzvarola", "result", "words"];
 
@@ -59,8 +59,10 @@ fn folder() -> Folder {
 #[test]
 fn answers_have_their_keys() {
     let folder = folder();
-    let (status, json) = run(&folder, &["plan", NAME], PLAN);
+    let (status, json) = run(&folder, &["plan", NAME, "--count-nodes"], PLAN);
     assert_eq!((status, json.at("result").number(), json.at("nodes").number(), json.at("proved")), (0, 0, 11, &Json::Bool(true)));
+    let (status, json) = run(&folder, &["plan", NAME], PLAN);
+    assert_eq!((status, json.at("result").number(), json.at("nodes"), json.at("proved")), (0, 0, &Json::Null, &Json::Bool(true)));
     assert_eq!((json.at("costs").at("total").number(), json.at("text").text()), (37, folder.read("plan").as_str()));
     assert_eq!(json.at("stops").list()[1].at("changes").list()[1].at("price").number(), 7);
     assert_eq!((json.at("bounds").at("cheapest").number(), json.at("bounds").at("floor")), (37, &Json::Null));

@@ -7,8 +7,8 @@ use common::json::{read, Json};
 use common::paper::{altered, text, JOB};
 use common::rng::Rng;
 use common::tool::{job, plain, Folder};
-use juzvarola_host::reference::model::{Job, Plan, Set};
-use juzvarola_host::reference::{self, texts};
+use juzvarola_checks::reference::model::{Job, Plan, Set};
+use juzvarola_checks::reference::{self, texts};
 
 /// A folder with this job.
 fn folder(job: &[u8]) -> Folder {

@@ -5,9 +5,9 @@ mod common;
 use common::inputs::{self, Facts};
 use common::paper::{text, JOB};
 use common::rng::Rng;
-use common::tool::{job, number_after, plain, Folder};
-use juzvarola_host::reference::model::{Job, Plan};
-use juzvarola_host::reference::texts::{read_job, read_plan};
+use common::tool::{hard, job, number_after, plain, Folder};
+use juzvarola_checks::reference::model::{Job, Plan};
+use juzvarola_checks::reference::texts::{read_job, read_plan};
 
 /// A row of comma-separated values by its columns' names.
 struct Row(Vec<(String, String)>);
@@ -133,6 +133,12 @@ Stops of the line
      2     4                     2   10  1, 2
    end     6                     2
 
+Life left after step 6
+  part  life  left
+     1     3     1
+     2     4     2
+   all     7     3
+
 Costs
   of     amount
   fees       20
@@ -220,17 +226,17 @@ fn comparisons() {
     assert!(ran.err.contains("fault.txt:3: stop is no opening"), "{}", ran.err);
 }
 
-/// Where a short walk does not find the cheapest plan, the list says what could still be saved, and the floor.
+/// Where short walks do not find the cheapest plan, the list says what could still be saved, and the floor.
 #[test]
 fn what_could_still_be_saved() {
     let folder = Folder::new();
-    folder.write("job.txt", &job("14_full64_4"));
-    assert_eq!(folder.run(&["plan", "job.txt", "--walk", "5000000", "-o", "plan.txt"]).status, 3);
+    folder.write("job.txt", &hard());
+    assert_eq!(folder.run(&["plan", "job.txt", "--walk", "500000", "-o", "plan.txt"]).status, 3);
     let ran = folder.run(&["list", "job.txt", "plan.txt"]);
     let saved = number_after(&ran.out, "at most ").expect("what could be saved");
     let (total, floor) = (number_after(&ran.out, "  total ").expect("a total"), number_after(&ran.out, "  floor ").expect("a floor"));
     assert_eq!((ran.status, saved), (0, total - floor), "{}", ran.out);
-    let share = format!("at most {saved} ({:.0} %) could still be saved", saved as f64 * 100.0 / total as f64);
+    let share = format!("at most {saved} ({:.1} %) could still be saved", saved as f64 * 100.0 / total as f64);
     assert!(plain(&ran.out).contains(&share), "{}", ran.out);
     folder.write("nothing.txt", b"");
     let ran = folder.run(&["compare", "job.txt", "plan.txt", "nothing.txt"]);
@@ -332,4 +338,92 @@ fn calendars() {
     assert!(whole.contains("SUMMARY:Stop 1: change 1 A name\\, with \u{e4} comma\\; and more"), "{whole}");
     let ran = folder.run(&["draw", "job.txt", "plan.txt", "-o", "plan.ics"]);
     assert!(ran.status == 64 && ran.err.contains("needs --from DATE"), "{ran:?}");
+}
+
+/// The specification's job with a band for each price of part 1, and its plan.
+fn banded() -> Folder {
+    let folder = Folder::new();
+    folder.write("job.txt", &text(&JOB.replace("price=5", "low=3 high=5")));
+    folder.write("plan.txt", &text("cost=37 stops=2 stop=2 count=1 part=1 stop=4 count=2 part=1 part=2"));
+    folder
+}
+
+/// Prices from-to: both ends in every list and headline.
+#[test]
+fn bands_are_listed() {
+    let folder = banded();
+    let ran = folder.run(&["judge", "job.txt", "plan.txt"]);
+    assert_eq!(ran.out, "plan.txt: every part's life is kept and the cost is true: 33 to 37 (0)\n");
+    let ran = folder.run(&["list", "job.txt", "plan.txt", "--every", "3"]);
+    for words in [
+        "  part  count  low  high  at steps\n     1      2    6    10  2, 4\n",
+        "     4      2   10    12  1 at 3 to 5, 2 at 7\n",
+        "  4 to 6      2   10    12  1 of part 1, 1 of part 2\n",
+        "  of     low  high\n  fees    20    20\n  parts   13    17\n  total   33    37\n",
+    ] {
+        assert!(ran.out.contains(words), "{}", ran.out);
+    }
+    let ran = folder.run(&["list", "job.txt", "plan.txt", "--every", "3", "--csv"]);
+    for row in [
+        "record,step,from,to,part,count,price,amount,running,low,high",
+        "change,2,1,3,1,1,5,5,,3,5",
+        "change,4,4,6,2,1,7,7,,7,7",
+        "stop,2,1,3,,1,,10,2,10,10",
+        "period,,4,6,1,1,,5,,3,5",
+        "part,,,,1,2,,10,,6,10",
+        "left,6,,,2,,,,2,,",
+        "parts,,,,,,,17,,13,17",
+        "total,,,,,,,37,,33,37",
+        "stated,,,,,,,37,,,",
+    ] {
+        assert!(ran.out.lines().any(|line| line == row), "{row}\n{}", ran.out);
+    }
+    let ran = folder.run(&["latest", "job.txt", "plan.txt"]);
+    assert!(ran.out.contains("the parts cost 33 to 37 (fees 20, parts 13 to 17), with 2 stops and 3 changes (0)\n"), "{}", ran.out);
+    let ran = folder.run(&["whatif", "job.txt", "--fee", "+1"]);
+    assert!(ran.out.contains("would cost 35 to 39 (fees 22, parts 13 to 17)"), "{}", ran.out);
+}
+
+/// Whether a plan is cheaper at every price within the bands: a price that both pay is the same in both.
+#[test]
+fn plans_are_compared_at_every_price() {
+    let folder = banded();
+    let compared = |plan: &str| {
+        folder.write("other.txt", &text(plan));
+        folder.run(&["compare", "job.txt", "plan.txt", "other.txt"])
+    };
+    let ran = compared("cost=44 stops=2 stop=2 count=2 part=1 part=2 stop=5 count=2 part=1 part=2");
+    assert!(ran.status == 0 && ran.out.contains("\nA is cheaper at every price within the bands, by 5 to 9.\n"), "{ran:?}");
+    let ran = compared("cost=37 stops=2 stop=2 count=1 part=1 stop=4 count=2 part=1 part=2");
+    assert!(ran.status == 0 && ran.out.contains("\nBoth cost the same at every price within the bands.\n"), "{ran:?}");
+    let one = "horizon=6 openings=2 opening=2 fee=10 opening=3 fee=10 parts=1 life=5 left=3 low=3 high=5 low=3 high=5";
+    folder.write("one.txt", &text(one));
+    folder.write("early.txt", &text("cost=15 stops=1 stop=2 count=1 part=1"));
+    folder.write("later.txt", &text("cost=15 stops=1 stop=3 count=1 part=1"));
+    let ran = folder.run(&["compare", "one.txt", "early.txt", "later.txt"]);
+    let words = "\nWhich is cheaper depends on the prices within the bands: B less A is -2 to +2.\n";
+    assert!(ran.status == 0 && ran.out.contains(words), "{ran:?}");
+    // A plan that does not keep the lives is no cheaper.
+    folder.write("other.txt", b"");
+    let ran = folder.run(&["compare", "job.txt", "plan.txt", "other.txt"]);
+    assert!(ran.status == 1 && !ran.out.contains("within the bands"), "{ran:?}");
+}
+
+/// Two jobs, such as two suppliers' prices: each plan is judged with its own.
+#[test]
+fn plans_of_two_jobs_are_compared() {
+    let folder = banded();
+    folder.write("dear.txt", &text(&JOB.replace("price=5", "low=6 high=9")));
+    folder.write("dear plan.txt", &text("cost=45 stops=2 stop=2 count=1 part=1 stop=4 count=2 part=1 part=2"));
+    let ran = folder.run(&["compare", "job.txt", "plan.txt", "dear.txt", "dear plan.txt"]);
+    assert_eq!(ran.status, 0, "{ran:?}");
+    assert!(ran.out.starts_with("A plan of job job.txt, and one of job dear.txt\nA  plan.txt: "), "{}", ran.out);
+    assert!(ran.out.contains("A is cheaper at every price within the bands, by 2 to 12.\n"), "{}", ran.out);
+    assert!(
+        ran.out.contains("  at low prices  33  39        +6\n") && ran.out.ends_with("They stop and change at the same steps.\n"),
+        "{}",
+        ran.out
+    );
+    let ran = folder.run(&["compare", "job.txt", "plan.txt", "dear.txt", "plan.txt"]);
+    assert!(ran.status == 1 && ran.out.contains("the plan costs 45 and states 37"), "{}", ran.out);
 }

@@ -6,7 +6,7 @@ use common::paper::{altered, text, JOB};
 use common::rng::Rng;
 use common::tool::{number_after, plain, Folder, Ran};
 use common::{inputs, jobs, setting};
-use juzvarola_host::reference::{self, Reply};
+use juzvarola_checks::reference::{self, Reply};
 
 /// The exit status by the kind of result.
 fn status_of(result: u32) -> i32 {
@@ -68,7 +68,7 @@ fn check(folder: &Folder, call: &common::Call) -> u32 {
     let reply = common::Call { output: 16_384, ..call.clone() }.expected();
     folder.write("a job.txt", &call.job);
     let ran = match &call.plan {
-        None => folder.run(&["plan", "a job.txt", "--walk", &call.walk.to_string()]),
+        None => folder.run(&["plan", "a job.txt", "--count-nodes", "--walk", &call.walk.to_string()]),
         Some(plan) => {
             folder.write("its plan.txt", plan);
             folder.run(&["judge", "a job.txt", "its plan.txt"])
@@ -91,8 +91,29 @@ fn check(folder: &Folder, call: &common::Call) -> u32 {
         assert_eq!(number_after(&ran.err, "no plan costs less than "), cost.map(|_| floor), "{ran:?}");
         assert_eq!(number_after(&ran.err, "at most ").filter(|_| cost.is_some()), cost.map(|cost| cost - floor), "{ran:?}");
         assert_eq!(ran.err.contains("; proved, "), reply.result == 0, "{ran:?}");
+        check_search(folder, call, &reply);
     }
     reply.result
+}
+
+/// Without the counted walk alone the plan is the reference's where that is the cheapest, and else it or the cheapest one, and the floor is no lower.
+fn check_search(folder: &Folder, call: &common::Call, reply: &Reply) {
+    let ran = folder.run(&["plan", "a job.txt", "--walk", &call.walk.to_string()]);
+    let (floor, cost) = (value(reply, "floor").expect("a floor"), value(reply, "cost"));
+    assert!(!ran.err.contains("nodes were walked"), "{ran:?}");
+    if ran.status == 3 {
+        assert_eq!((reply.result, &ran.out), (7, &plan_lines(reply)), "{call:?}");
+        let own = number_after(&ran.err, "no plan costs less than ").filter(|_| cost.is_some());
+        assert!(own.is_none_or(|own| floor <= own && Some(own) <= cost), "{ran:?}\n{call:?}");
+        assert_eq!(number_after(&ran.err, "at most ").filter(|_| cost.is_some()), cost.zip(own).map(|(cost, own)| cost - own), "{ran:?}");
+        return;
+    }
+    assert!(ran.status == 0 && ran.err.contains("; the cheapest possible (proved) (0)\n"), "{ran:?}\n{call:?}");
+    let least = number_after(&ran.out, "cost=").expect("a cost");
+    assert!(floor <= least && cost.is_none_or(|cost| least <= cost), "{ran:?}\n{call:?}");
+    assert!(reply.result == 7 || ran.out == plan_lines(reply), "{ran:?}\n{call:?}");
+    folder.write("its plan.txt", ran.out.as_bytes());
+    assert_eq!(folder.run(&["judge", "a job.txt", "its plan.txt"]).status, 0, "{call:?}");
 }
 
 #[test]
@@ -116,8 +137,13 @@ fn plans_of_jobs_are_those_of_the_table() {
     let folder = Folder::new();
     for row in jobs::up_to(20_000) {
         folder.write("job.txt", &row.text);
-        let ran = folder.run(&["plan", "job.txt", "-o", "plan.txt"]);
+        let ran = folder.run(&["plan", "job.txt", "-o", "best.txt"]);
         assert_eq!((ran.status, ran.out.as_str()), (0, ""), "{}", ran.err);
+        assert_eq!(number_after(&ran.err, ": the plan costs "), Some(row.cost), "{}", row.name);
+        assert!(ran.err.ends_with("; the cheapest possible (proved) (0)\n"), "{}", ran.err);
+        let ran = folder.run(&["plan", "job.txt", "--count-nodes", "-o", "plan.txt"]);
+        assert_eq!((ran.status, ran.out.as_str()), (0, ""), "{}", ran.err);
+        assert_eq!(folder.read("plan.txt"), folder.read("best.txt"), "{}", row.name);
         assert_eq!(number_after(&ran.err, "the cheapest plan costs "), Some(row.cost), "{}", row.name);
         let words = plain(&ran.err);
         assert!(
@@ -190,6 +216,13 @@ fn plan_of(lines: &str, walk: &str) -> (Ran, bool) {
     let folder = Folder::new();
     folder.write("job.txt", &text(lines));
     let ran = folder.run(&["plan", "job.txt", "--walk", walk, "-o", "plan.txt"]);
+    let counted = folder.run(&["plan", "job.txt", "--walk", walk, "--count-nodes"]);
+    assert_eq!(ran.status, counted.status);
+    let same = format!("; {walk} nodes were walked (7)");
+    assert!(
+        ran.status != 3
+            || counted.err.contains(&same) && counted.err.replace(&same, " (7)").starts_with(ran.err.lines().next().expect("words"))
+    );
     (ran, folder.names().contains(&"plan.txt".to_string()))
 }
 
@@ -199,7 +232,7 @@ fn cut_walks_and_hopeless_jobs() {
     assert_eq!((ran.status, made), (3, true));
     let words =
         "the walk is longer than its walk number, 8; the best plan so far costs 44 (fees 20, parts 24), with 2 stops and 4 changes; \
-                 at most 7 (16 %) could still be saved, as no plan costs less than 37; 8 nodes were walked (7)";
+                 at most 7 (16 %) could still be saved, as no plan costs less than 37 (7)";
     assert!(ran.err.contains(words), "{}", ran.err);
     let (ran, made) = plan_of(JOB, "6");
     assert_eq!((ran.status, made), (3, false));
@@ -288,12 +321,15 @@ fn counts_of_one() {
 fn a_longer_walk_is_offered() {
     let folder = Folder::new();
     folder.write("job.txt", &common::tool::job("14_full64_4"));
-    let ran = folder.run(&["plan", "job.txt", "--walk", "5000000", "-o", "plan.txt"]);
+    folder.write("hard.txt", &common::tool::hard());
     let words = "    the greatest walk number, --walk 4000000000, takes about ";
-    assert!(
-        ran.status == 3 && ran.err.lines().nth(1).is_some_and(|line| line.starts_with(words) && line.ends_with(" here at most")),
-        "{ran:?}"
-    );
+    for order in [&["plan", "job.txt", "--walk", "5000000", "--count-nodes"][..], &["plan", "hard.txt", "--walk", "500000"]] {
+        let ran = folder.run(order);
+        assert!(
+            ran.status == 3 && ran.err.lines().nth(1).is_some_and(|line| line.starts_with(words) && line.ends_with(" here at most")),
+            "{ran:?}"
+        );
+    }
 }
 
 #[test]

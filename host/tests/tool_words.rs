@@ -4,8 +4,24 @@
 mod common;
 use common::tool::{Folder, Ran};
 
-const COMMANDS: [&str; 13] =
-    ["plan", "judge", "latest", "carry", "list", "draw", "compare", "count", "worth", "whatif", "write", "check", "completion"];
+const COMMANDS: [&str; 16] = [
+    "plan",
+    "judge",
+    "latest",
+    "carry",
+    "list",
+    "draw",
+    "compare",
+    "count",
+    "worth",
+    "whatif",
+    "front",
+    "join",
+    "hall",
+    "write",
+    "check",
+    "completion",
+];
 
 /// A usage error: status 64, these words on standard error, nothing on standard output.
 fn refused(words: &[&str], message: &str) {

@@ -6,8 +6,8 @@ use common::inputs::{self, Facts};
 use common::paper::{text, JOB};
 use common::rng::Rng;
 use common::tool::{job, Folder};
-use juzvarola_host::reference::model::{Job, Part};
-use juzvarola_host::reference::texts::read_job;
+use juzvarola_checks::reference::model::{Job, Part};
+use juzvarola_checks::reference::texts::read_job;
 
 /// The specification's job as a table.
 const TABLE: &str = "\

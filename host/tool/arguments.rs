@@ -9,13 +9,19 @@ use crate::{completion, help};
 use std::ffi::{OsStr, OsString};
 use std::time::Duration;
 
+/// The walk number of a front's searches where none is given: seconds each at most.
+const FRONT_WALK: u64 = 100_000_000;
+
+/// The walk number of a hall's search where none is given: some seconds.
+const HALL_WALK: u64 = 100_000_000;
+
 /// A job and a plan of it.
 pub struct Pair {
     pub job: OsString,
     pub plan: OsString,
 }
 
-/// `plan`: the job, where its plan goes, the walk number if one is given, and how the walk is made. Many jobs with a folder for their plans, how many
+/// `plan`: the job, where its plan goes, the walk number if one is given, and how the walks are made. Many jobs with a folder for their plans, how many
 /// are planned at a time, and where their summary goes.
 pub struct PlanOrder {
     pub job: OsString,
@@ -26,6 +32,7 @@ pub struct PlanOrder {
     pub output: Option<OsString>,
     pub walk: Option<u64>,
     pub limit: Option<Duration>,
+    pub count_nodes: bool,
     pub once: bool,
     pub quiet: bool,
     pub json: bool,
@@ -49,10 +56,12 @@ pub struct LatestOrder {
     pub naming: NamingOrder,
 }
 
-/// `carry`: a job, the work logs in their order, and where the job that is left goes, if anywhere.
+/// `carry`: a job, the work logs in their order, the plan that was followed if one is given, and where the job that is left and its plan go, if anywhere.
 pub struct CarryOrder {
     pub job: OsString,
     pub logs: Vec<OsString>,
+    pub planned: Option<OsString>,
+    pub plan: Option<OsString>,
     pub output: Option<OsString>,
     pub json: bool,
     pub naming: NamingOrder,
@@ -74,17 +83,17 @@ pub struct ListOrder {
     pub naming: NamingOrder,
 }
 
-/// `draw`: a plan and the picture's file.
+/// `draw`: a plan and the picture's file; with work logs the plan is of the job that they leave.
 pub struct DrawOrder {
     pub pair: Pair,
+    pub logs: Vec<OsString>,
     pub output: OsString,
     pub naming: NamingOrder,
 }
 
-/// `compare`: two plans of a job.
+/// `compare`: two plans, of one job or each of its own.
 pub struct CompareOrder {
-    pub job: OsString,
-    pub plans: [OsString; 2],
+    pub pairs: [Pair; 2],
     pub json: bool,
     pub naming: NamingOrder,
 }
@@ -127,6 +136,32 @@ pub struct WhatifOrder {
     pub naming: NamingOrder,
 }
 
+/// `front`: a job, the walk number of each search, the number of stops whose plan is wanted, if one, and where that or the picture goes.
+pub struct FrontOrder {
+    pub job: OsString,
+    pub walk: u64,
+    pub take: Option<u64>,
+    pub output: Option<OsString>,
+    pub form: Form,
+}
+
+/// `join`: the lines' jobs, what a call of the crew costs, and where the hall's text goes.
+pub struct JoinOrder {
+    pub jobs: Vec<OsString>,
+    pub call: u64,
+    pub output: Option<OsString>,
+}
+
+/// `hall`: a hall, the walk number, and where its picture and its lines' plans go.
+pub struct HallOrder {
+    pub hall: OsString,
+    pub walk: u64,
+    pub output: Option<OsString>,
+    pub into: Option<OsString>,
+    pub json: bool,
+    pub naming: NamingOrder,
+}
+
 /// `write`: a table, and where the job text goes.
 pub struct WriteOrder {
     pub table: OsString,
@@ -147,6 +182,9 @@ pub enum Command {
     Count(CountOrder),
     Worth(WorthOrder),
     Whatif(WhatifOrder),
+    Front(FrontOrder),
+    Join(JoinOrder),
+    Hall(HallOrder),
     Write(WriteOrder),
     Check(OsString),
 }
@@ -164,6 +202,8 @@ impl Command {
             Command::Count(order) if order.json => Some("count"),
             Command::Worth(order) if order.json => Some("worth"),
             Command::Whatif(order) if order.json => Some("whatif"),
+            Command::Hall(order) if order.json => Some("hall"),
+            Command::Front(order) if order.form == Form::Json => Some("front"),
             _ => None,
         }
     }
@@ -181,6 +221,12 @@ struct Given {
     step: Option<Step>,
     names: Option<OsString>,
     stops: Option<Vec<u64>>,
+    after: Option<u64>,
+    take: Option<u64>,
+    call: Option<u64>,
+    logs: Vec<OsString>,
+    planned: Option<OsString>,
+    plan: Option<OsString>,
     save: Option<OsString>,
     into: Option<OsString>,
     at_once: Option<u64>,
@@ -191,6 +237,7 @@ struct Given {
     closed: Vec<(u64, u64)>,
     csv: bool,
     json: bool,
+    count_nodes: bool,
     once: bool,
     quiet: bool,
     verbose: bool,
@@ -216,28 +263,7 @@ pub fn read(words: &[OsString]) -> Result<Command, Failure> {
     if given.help {
         return Ok(Command::Print(page.text()));
     }
-    // The stops stand in the place of the last file.
-    let wanted = page.files.len() - usize::from(given.stops.is_some());
-    // The plan of before may be left out.
-    let fewer = page.name == "whatif" && given.files.len() == 1;
-    // With a folder for their plans there may be many jobs.
-    let many = given.into.is_some() && !given.files.is_empty();
-    // Logs one after the other.
-    let logs = page.name == "carry" && given.files.len() >= wanted;
-    if given.into.is_none() && (given.at_once.is_some() || given.summary.is_some()) {
-        return Err(failure(USAGE, "-j and --summary are for many jobs, and need --into FOLDER"));
-    }
-    if given.files.len() != wanted && !fewer && !many && !logs {
-        let files = match wanted {
-            0 => "no file".to_string(),
-            1 => "one file".to_string(),
-            more => format!("{more} files"),
-        };
-        return Err(failure(USAGE, format_args!("{name} takes {files}, not {}\nusage: {}", given.files.len(), page.usage)));
-    }
-    if given.files.iter().filter(|file| is_standard(file)).count() > 1 {
-        return Err(failure(USAGE, "standard input (-) can be read for one file only"));
-    }
+    given.count_files(page)?;
     command(page, given)
 }
 
@@ -253,43 +279,26 @@ fn asked_help(rest: &[OsString]) -> Result<Command, Failure> {
 }
 
 /// The command with its files, whose number is right.
-fn command(page: &help::Page, given: Given) -> Result<Command, Failure> {
-    let naming = given.naming()?;
-    let form = given.form()?;
-    if page.name == "whatif" {
-        return Ok(Command::Whatif(given.whatif(naming)));
-    }
-    let Given { files, output, every, walk, limit, stops, into, at_once, summary, json, once, quiet, verbose, .. } = given;
-    let jobs = files.clone();
-    let mut files = files.into_iter();
-    let mut next = || files.next().unwrap_or_default();
-    let first = next();
-    if page.name == "latest" {
-        let plan = stops.is_none().then(next);
-        return Ok(Command::Latest(LatestOrder { job: first, plan, stops, output, json, naming }));
-    }
-    if page.name == "carry" {
-        return Ok(Command::Carry(CarryOrder { job: first, logs: files.collect(), output, json, naming }));
-    }
-    let mut pair = |job| Pair { job, plan: next() };
+fn command(page: &help::Page, mut given: Given) -> Result<Command, Failure> {
+    let (naming, form) = (given.naming()?, given.form()?);
+    let Given { every, json, verbose, .. } = given;
     Ok(match page.name {
-        "plan" => {
-            let at_once = at_once.unwrap_or(1);
-            Command::Plan(PlanOrder { job: first, jobs, into, at_once, summary, output, walk, limit, once, quiet, json })
-        }
-        "judge" => Command::Judge(JudgeOrder { pair: pair(first), verbose, json, naming }),
-        "list" => Command::List(ListOrder { pair: pair(first), form, every, naming }),
-        "draw" => {
-            let needs = format!("draw needs -o FILE, ending in .svg, .html or .ics\nusage: {}", page.usage);
-            let output = output.ok_or_else(|| failure(USAGE, needs))?;
-            Command::Draw(DrawOrder { pair: pair(first), output, naming })
-        }
-        "compare" => Command::Compare(CompareOrder { job: first, plans: [next(), next()], json, naming }),
-        "worth" => Command::Worth(WorthOrder { job: first, json, naming }),
-        "write" => Command::Write(WriteOrder { table: first, output: output.unwrap_or_else(|| "-".into()) }),
-        "check" => Command::Check(first),
+        "plan" => Command::Plan(given.plan()),
+        "judge" => Command::Judge(JudgeOrder { pair: given.pair(), verbose, json, naming }),
+        "latest" => Command::Latest(given.latest(naming)),
+        "carry" => Command::Carry(given.carry(naming)),
+        "list" => Command::List(ListOrder { pair: given.pair(), form, every, naming }),
+        "draw" => Command::Draw(given.draw(page, naming)?),
+        "compare" => Command::Compare(given.compare(naming)),
+        "worth" => Command::Worth(WorthOrder { job: given.next(), json, naming }),
+        "whatif" => Command::Whatif(given.whatif(naming)),
+        "front" => Command::Front(given.front(form)),
+        "join" => Command::Join(given.join(page)?),
+        "hall" => Command::Hall(given.hall(naming)),
+        "write" => Command::Write(WriteOrder { table: given.next(), output: given.output.unwrap_or_else(|| "-".into()) }),
+        "check" => Command::Check(given.next()),
         "completion" => Command::Print(completion::bash()),
-        _ => Command::Count(CountOrder { job: first, json }),
+        _ => Command::Count(CountOrder { job: given.next(), json }),
     })
 }
 
@@ -302,15 +311,116 @@ impl Given {
         if self.names.as_ref().is_some_and(|names| is_standard(names)) && self.files.iter().any(|file| is_standard(file)) {
             return Err(failure(USAGE, "standard input (-) can be read for one file only"));
         }
-        Ok(NamingOrder { from: self.from, step: self.step.unwrap_or_default(), names: self.names.clone() })
+        Ok(NamingOrder { from: self.from, step: self.step.unwrap_or_default(), names: self.names.clone(), after: self.after.unwrap_or(0) })
+    }
+
+    /// Refuses files too many or too few, and standard input for more than one.
+    fn count_files(&self, page: &help::Page) -> Result<(), Failure> {
+        let count = self.files.len();
+        // The stops stand in the place of the last file.
+        let wanted = page.files.len() - usize::from(self.stops.is_some());
+        let fits = match page.name {
+            // The plan of before may be left out.
+            "whatif" if count == 1 => true,
+            // With a folder for their plans there may be many jobs.
+            "plan" if self.into.is_some() => count > 0,
+            // Logs or lines one after the other.
+            "carry" | "join" => count >= wanted,
+            // Plans each with a job of its own.
+            "compare" if count == 4 => true,
+            _ => count == wanted,
+        };
+        if self.into.is_none() && (self.at_once.is_some() || self.summary.is_some()) {
+            return Err(failure(USAGE, "-j and --summary are for many jobs, and need --into FOLDER"));
+        }
+        let files = match wanted {
+            0 => "no file".to_string(),
+            1 => "one file".to_string(),
+            more => format!("{more} files"),
+        };
+        if !fits {
+            return Err(failure(USAGE, format_args!("{} takes {files}, not {count}\nusage: {}", page.name, page.usage)));
+        }
+        let all = self.files.iter().chain(&self.logs).chain(&self.planned);
+        match all.filter(|file| is_standard(file)).count() > 1 {
+            true => Err(failure(USAGE, "standard input (-) can be read for one file only")),
+            false => Ok(()),
+        }
+    }
+
+    /// The next file.
+    fn next(&mut self) -> OsString {
+        if self.files.is_empty() {
+            return OsString::default();
+        }
+        self.files.remove(0)
+    }
+
+    /// The next two files.
+    fn pair(&mut self) -> Pair {
+        Pair { job: self.next(), plan: self.next() }
+    }
+
+    /// The plan or plans that are asked for.
+    fn plan(self) -> PlanOrder {
+        let Given { files: jobs, output, walk, limit, into, at_once, summary, json, count_nodes, once, quiet, .. } = self;
+        let job = jobs.first().cloned().unwrap_or_default();
+        PlanOrder { job, jobs, into, at_once: at_once.unwrap_or(1), summary, output, walk, limit, count_nodes, once, quiet, json }
+    }
+
+    /// The habit that is asked for.
+    fn latest(mut self, naming: NamingOrder) -> LatestOrder {
+        let job = self.next();
+        let plan = self.stops.is_none().then(|| self.next());
+        LatestOrder { job, plan, stops: self.stops, output: self.output, json: self.json, naming }
+    }
+
+    /// The job that is left.
+    fn carry(mut self, naming: NamingOrder) -> CarryOrder {
+        let job = self.next();
+        let Given { files: logs, planned, plan, output, json, .. } = self;
+        CarryOrder { job, logs, planned, plan, output, json, naming }
+    }
+
+    /// The picture that is asked for.
+    fn draw(mut self, page: &help::Page, naming: NamingOrder) -> Result<DrawOrder, Failure> {
+        let needs = format!("draw needs -o FILE, ending in .svg, .html or .ics\nusage: {}", page.usage);
+        let pair = self.pair();
+        let output = self.output.ok_or_else(|| failure(USAGE, needs))?;
+        Ok(DrawOrder { pair, logs: self.logs, output, naming })
+    }
+
+    /// The comparison that is asked for: of one job, or each plan with its own.
+    fn compare(mut self, naming: NamingOrder) -> CompareOrder {
+        let two_jobs = self.files.len() == 4;
+        let one = self.pair();
+        let job = if two_jobs { self.next() } else { one.job.clone() };
+        CompareOrder { pairs: [one, Pair { job, plan: self.next() }], json: self.json, naming }
+    }
+
+    /// The front that is asked for.
+    fn front(mut self, form: Form) -> FrontOrder {
+        let (job, walk) = (self.next(), self.walk.unwrap_or(FRONT_WALK));
+        FrontOrder { job, walk, take: self.take, output: self.output, form }
+    }
+
+    /// The lines that are joined.
+    fn join(self, page: &help::Page) -> Result<JoinOrder, Failure> {
+        let needs = format!("join needs --call N, what a call of the crew costs\nusage: {}", page.usage);
+        Ok(JoinOrder { jobs: self.files, call: self.call.ok_or_else(|| failure(USAGE, needs))?, output: self.output })
+    }
+
+    /// The hall that is planned.
+    fn hall(mut self, naming: NamingOrder) -> HallOrder {
+        let (hall, walk) = (self.next(), self.walk.unwrap_or(HALL_WALK));
+        HallOrder { hall, walk, output: self.output, into: self.into, json: self.json, naming }
     }
 
     /// The changed job that is asked for.
-    fn whatif(self, naming: NamingOrder) -> WhatifOrder {
+    fn whatif(mut self, naming: NamingOrder) -> WhatifOrder {
+        let job = self.next();
         let Given { files, output, save, fee, lefts, prices, closed, json, .. } = self;
-        let mut files = files.into_iter();
-        let job = files.next().unwrap_or_default();
-        WhatifOrder { job, plan: files.next(), fee, lefts, prices, closed, output, save, json, naming }
+        WhatifOrder { job, plan: files.into_iter().next(), fee, lefts, prices, closed, output, save, json, naming }
     }
 
     /// The form of a list.
@@ -328,9 +438,26 @@ impl Given {
         match name {
             "-o" | "--output" => self.output = Some(value()?),
             "--names" => self.names = Some(value()?),
+            "--log" => self.logs.push(value()?),
+            "--planned" => self.planned = Some(value()?),
+            "--plan" => self.plan = Some(value()?),
             "--save" => self.save = Some(value()?),
             "--into" => self.into = Some(value()?),
             "--summary" => self.summary = Some(value()?),
+            "--for" => self.limit = Some(read_as(name, "a time such as 60s, 5m or 1h", &value()?, duration)?),
+            "--from" => self.from = Some(read_as(name, "a date such as 2027-01-04", &value()?, Date::read)?),
+            "--step" => self.step = Some(read_as(name, "day, week or month", &value()?, Step::read)?),
+            _ => return self.take_numbers(name, value),
+        }
+        Ok(true)
+    }
+
+    /// The same of an option whose value is a number or has some.
+    fn take_numbers(&mut self, name: &str, value: &mut dyn FnMut() -> Result<OsString, Failure>) -> Result<bool, Failure> {
+        match name {
+            "--after" => self.after = Some(read_as(name, "a step of the whole, from 1 to 365", &value()?, |word| within(word, 1, 365))?),
+            "--call" => self.call = Some(read_as(name, "an amount from 0 to 1000000", &value()?, |word| within(word, 0, 1_000_000))?),
+            "--take" => self.take = Some(read_as(name, "a number of stops, from 0 to 64", &value()?, |word| within(word, 0, 64))?),
             "-j" | "--jobs" => {
                 self.at_once = Some(read_as(name, "how many at a time, from 1 to 256", &value()?, |word| within(word, 1, 256))?)
             }
@@ -354,9 +481,6 @@ impl Given {
             "--walk" => {
                 self.walk = Some(read_as(name, "a number of nodes from 0 to 4000000000", &value()?, |word| within(word, 0, MOST_WALK))?)
             }
-            "--for" => self.limit = Some(read_as(name, "a time such as 60s, 5m or 1h", &value()?, duration)?),
-            "--from" => self.from = Some(read_as(name, "a date such as 2027-01-04", &value()?, Date::read)?),
-            "--step" => self.step = Some(read_as(name, "day, week or month", &value()?, Step::read)?),
             _ => return Ok(false),
         }
         Ok(true)
@@ -367,6 +491,7 @@ impl Given {
         match name {
             "--csv" => self.csv = true,
             "--json" => self.json = true,
+            "--count-nodes" => self.count_nodes = true,
             "--once" => self.once = true,
             "--quiet" | "-q" => self.quiet = true,
             "--verbose" | "-v" => self.verbose = true,

@@ -5,14 +5,16 @@ use crate::texts;
 use juzvarola_host as library;
 use std::thread;
 
-/// Twice the stack that the header says will serve.
-const STACK: usize = 4 << 20;
+/// Twice the stack that the header says will serve every call.
+const STACK: usize = 8 << 20;
 /// The output that the header asks for.
 const OUTPUT: usize = 16_384;
 /// The output that the header asks for where a job text is written.
 const WRITTEN: usize = 40_960;
 /// The greatest walk number.
 pub use library::MOST_WALK;
+/// A walk is longer than its walk number.
+pub const CUT_SHORT: u32 = 7;
 
 /// What a call answered: its numbers, the line at fault, and the lines written.
 #[derive(Debug, Clone)]
@@ -34,6 +36,18 @@ impl Reply {
     pub fn plan_text(&self) -> Option<&[u8]> {
         let start = texts::line_starts(&self.lines).find(|start| self.lines[*start..].starts_with(b"cost="))?;
         Some(&self.lines[start..])
+    }
+
+    /// What this search for the cheapest plan and one before it say together: the last word, or where both are cut short the higher floor and the
+    /// cheaper plan. No nodes are said, since a search has several walks.
+    pub fn and(&self, before: Option<&Reply>) -> Reply {
+        let mut replies: Vec<&Reply> = [self].into_iter().chain(before).collect();
+        replies.retain(|reply| reply.result == self.result);
+        let floor = replies.iter().filter_map(|reply| reply.value("floor")).max().filter(|_| self.result == CUT_SHORT);
+        let plan = replies.iter().filter_map(|reply| Some((reply.value("cost")?, reply.plan_text()?))).min_by_key(|(cost, _)| *cost);
+        let floor = floor.map_or(String::new(), |floor| format!("floor={floor}\n"));
+        let lines = [format!("result={}\n{floor}", self.result).as_bytes(), plan.map_or(&[], |(_, text)| text)].concat();
+        Reply { lines, ..self.clone() }
     }
 
     /// The answer's numbers with what was written.
@@ -58,16 +72,45 @@ fn on_own_stack<T: Send>(call: impl FnOnce() -> T + Send) -> Result<T, Failure> 
     })
 }
 
-/// The planner's call with this walk number, on this thread: the one place that hands a walk number to the library.
+/// The planner's call with this walk number, on this thread: here, in `optimum_here` and in `hall` the library is given one, and nowhere else.
 pub fn plan_here(job: &[u8], walk: u64) -> Reply {
     let mut out = vec![0; OUTPUT];
     let answer = library::plan(job, walk, &mut out);
     Reply::of(answer, out)
 }
 
+/// The optimum's call with this walk number, on this thread.
+pub fn optimum_here(job: &[u8], walk: u64) -> Reply {
+    let mut out = vec![0; OUTPUT];
+    let answer = library::optimum(job, walk, &mut out);
+    Reply::of(answer, out)
+}
+
 /// The planner's call with this walk number.
 pub fn plan(job: &[u8], walk: u64) -> Result<Reply, Failure> {
     on_own_stack(|| plan_here(job, walk))
+}
+
+/// The optimum's call, each of its walks with this walk number.
+pub fn optimum(job: &[u8], walk: u64) -> Result<Reply, Failure> {
+    on_own_stack(|| optimum_here(job, walk))
+}
+
+/// The hall planner's call with this walk number.
+pub fn hall(text: &[u8], walk: u64) -> Result<Reply, Failure> {
+    on_own_stack(|| {
+        let mut out = vec![0; OUTPUT];
+        let answer = library::hall(text, walk, &mut out);
+        Reply::of(answer, out)
+    })
+}
+
+/// The search for the cheapest plan with this walk number: the optimum's call, and where that is cut short the planner's.
+pub fn search(job: &[u8], walk: u64) -> Result<Reply, Failure> {
+    on_own_stack(|| match optimum_here(job, walk) {
+        best if best.result == CUT_SHORT => plan_here(job, walk).and(Some(&best)),
+        best => best,
+    })
 }
 
 /// The judge's call.

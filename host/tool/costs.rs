@@ -1,6 +1,7 @@
 //! What a plan costs, part by part and stop by stop.
 
 use crate::json::Value;
+use crate::numbers::{self, counted, grouped};
 use crate::texts::{Job, Plan, Stop};
 
 /// The costs of a plan, at the high ends where prices are bands. `removals` is what taking parts out costs, each once a stop; `other` what the judge
@@ -30,6 +31,27 @@ impl Costs {
         self.fees + self.parts + self.removals + self.other
     }
 
+    /// The whole at the low ends: what it costs where there are no bands.
+    pub fn at_low(&self) -> u64 {
+        self.low.unwrap_or(self.total())
+    }
+
+    /// The parts at the low ends.
+    pub fn low_parts(&self) -> u64 {
+        (self.parts + self.at_low()).saturating_sub(self.total())
+    }
+
+    /// The whole, from the low ends of the prices to the high ones where these are bands: `2,310 to 2,505`.
+    pub fn span(&self) -> String {
+        numbers::span(self.at_low(), self.total())
+    }
+
+    /// What it is made of: `fees 360, parts 1,950 to 2,145`.
+    pub fn sums(&self) -> String {
+        let further: String = self.further().map(|(name, amount)| format!(", {name} {}", grouped(amount))).collect();
+        format!("fees {}, parts {}{further}", grouped(self.fees), numbers::span(self.low_parts(), self.parts))
+    }
+
     /// The same for programs.
     pub fn json(&self) -> Value {
         let of = |amount| Value::Number(amount);
@@ -49,13 +71,26 @@ impl Costs {
     }
 }
 
+/// A plan's cost, from the low ends of the prices to the high ones where these are bands; with what it is made of and how many stops and changes
+/// there are, where that is wanted.
+pub fn in_words(job: &Job, plan: &Plan, whole: bool) -> String {
+    let costs = Costs::of(job, plan, Some(plan.cost));
+    match whole {
+        false => costs.span(),
+        true => {
+            let (stops, changes) = (counted(plan.stops.len() as u64, "stop"), counted(plan.change_count(), "change"));
+            format!("{} ({}), with {stops} and {changes}", costs.span(), costs.sums())
+        }
+    }
+}
+
 /// The prices of all parts changed at a stop.
 pub fn prices(job: &Job, stop: &Stop) -> u64 {
     stop.parts.iter().filter_map(|part| job.price(*part, stop.step)).sum()
 }
 
 /// The same at the low ends.
-fn low_prices(job: &Job, stop: &Stop) -> u64 {
+pub fn low_prices(job: &Job, stop: &Stop) -> u64 {
     stop.parts.iter().filter_map(|part| job.low_price(*part, stop.step)).sum()
 }
 
@@ -67,6 +102,11 @@ pub fn removals(job: &Job, stop: &Stop) -> u64 {
 /// The prices of all changes of a part.
 pub fn prices_of_part(job: &Job, plan: &Plan, part: u64) -> u64 {
     plan.changes(part).into_iter().filter_map(|step| job.price(part, step)).sum()
+}
+
+/// The same at the low ends.
+pub fn low_prices_of_part(job: &Job, plan: &Plan, part: u64) -> u64 {
+    plan.changes(part).into_iter().filter_map(|step| job.low_price(part, step)).sum()
 }
 
 /// What taking a part out costs over all stops at which it comes out.

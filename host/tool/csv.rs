@@ -1,13 +1,16 @@
 //! The lists as comma-separated values: one head, one row for each thing, told apart by the first column.
 
-use crate::costs::prices_of_part;
-use crate::list::{bought, periods};
+use crate::costs::{low_prices_of_part, prices_of_part};
+use crate::list::{bought, periods, Bought};
 use crate::naming::Naming;
 use crate::texts::{Job, Plan};
 use crate::verdicts::Judged;
 
 /// The columns. `from` and `to` are a period's steps, `running` the running steps since the stop before.
 const HEAD: &str = "record,step,from,to,part,count,price,amount,running";
+
+/// The rows whose amounts are the same at both ends of the prices.
+const ONE_END: [&str; 5] = ["stop", "removal", "fees", "removals", "other"];
 
 /// A row; what is missing is left empty.
 #[derive(Default)]
@@ -20,11 +23,14 @@ struct Row {
     price: Option<u64>,
     amount: Option<u64>,
     running: Option<u64>,
+    /// The amount at the low ends of the prices, where that is another.
+    low: Option<u64>,
 }
 
 impl Row {
-    /// The row's line. Where steps have dates there is a column `date`, that of the step or of the period's first; where parts have names, `name` and `order`.
-    fn text(&self, naming: &Naming) -> String {
+    /// The row's line. Where steps have dates there is a column `date`, that of the step or of the period's first; where parts have names, `name` and
+    /// `order`; where prices are bands, `low` and `high`: the amount at both ends.
+    fn text(&self, naming: &Naming, bands: bool) -> String {
         let (from, to) = (self.period.map(|period| period.0), self.period.map(|period| period.1));
         let cells = [self.step, from, to, self.part, self.count, self.price, self.amount, self.running];
         let mut cells = cells.map(|cell| cell.map_or(String::new(), |number| number.to_string())).to_vec();
@@ -35,15 +41,21 @@ impl Row {
             cells.push(quoted(self.part.and_then(|part| naming.name(part))));
             cells.push(quoted(self.part.and_then(|part| naming.order(part))));
         }
+        if bands && (self.low.is_some() || ONE_END.contains(&self.record)) {
+            cells.extend([self.low.or(self.amount), self.amount].map(|end| end.map_or(String::new(), |end| end.to_string())));
+        } else if bands {
+            cells.extend([String::new(), String::new()]);
+        }
         format!("{},{}\n", self.record, cells.join(","))
     }
 }
 
 /// The heads of all columns.
-fn head(naming: &Naming) -> String {
+fn head(naming: &Naming, bands: bool) -> String {
     let dates = if naming.has_dates() { ",date" } else { "" };
     let names = if naming.has_names() { ",name,order" } else { "" };
-    format!("{HEAD}{dates}{names}\n")
+    let ends = if bands { ",low,high" } else { "" };
+    format!("{HEAD}{dates}{names}{ends}\n")
 }
 
 /// A cell of words: in quotes where it has a comma, quotes or line ends. One that a spreadsheet would take for a formula gets an apostrophe first.
@@ -66,15 +78,21 @@ pub fn list(judged: &Judged, every: Option<u64>) -> String {
     rows.extend(every.into_iter().flat_map(|steps| by_period(job, plan, steps)));
     rows.extend((1..=job.parts.len() as u64).map(|part| {
         let (count, amount) = (Some(plan.changes(part).len() as u64), Some(prices_of_part(job, plan, part)));
-        Row { record: "part", part: Some(part), count, amount, ..Row::default() }
+        Row { record: "part", part: Some(part), count, amount, low: Some(low_prices_of_part(job, plan, part)), ..Row::default() }
     }));
+    rows.extend((1..=job.parts.len() as u64).map(|part| {
+        let running = Some(job.left_at_end(plan, part));
+        Row { record: "left", step: Some(job.horizon), part: Some(part), running, ..Row::default() }
+    }));
+    let costs = &judged.costs;
     let sum = |record, amount| Row { record, amount, ..Row::default() };
-    rows.extend([sum("fees", Some(judged.costs.fees)), sum("parts", Some(judged.costs.parts))]);
+    rows.extend([sum("fees", Some(costs.fees)), Row { low: Some(costs.low_parts()), ..sum("parts", Some(costs.parts)) }]);
     rows.extend(judged.costs.further().map(|(name, amount)| sum(name, Some(amount))));
-    rows.extend([sum("total", Some(judged.costs.total())), sum("stated", Some(plan.cost))]);
+    rows.extend([Row { low: costs.low, ..sum("total", Some(costs.total())) }, sum("stated", Some(plan.cost))]);
     rows.extend(judged.costs.low.map(|low| sum("low", Some(low))));
     rows.extend(judged.floor().map(|floor| sum("floor", Some(floor))));
-    rows.iter().fold(head(&judged.naming), |text, row| text + &row.text(&judged.naming))
+    let bands = job.has_bands();
+    rows.iter().fold(head(&judged.naming, bands), |text, row| text + &row.text(&judged.naming, bands))
 }
 
 /// The period of a step.
@@ -98,6 +116,7 @@ fn changes(job: &Job, plan: &Plan, every: Option<u64>) -> Vec<Row> {
                 price,
                 amount: price,
                 running: None,
+                low: job.low_price(*part, stop.step),
             });
         }
     }
@@ -152,14 +171,15 @@ fn by_period(job: &Job, plan: &Plan, every: u64) -> Vec<Row> {
     let mut rows = Vec::new();
     for period in periods(job, every) {
         for part in 1..=job.parts.len() as u64 {
-            let (count, amount) = bought(job, plan, part, period);
+            let Bought { count, low, high } = bought(job, plan, part, period);
             if count > 0 {
                 rows.push(Row {
                     record: "period",
                     period: Some(period),
                     part: Some(part),
                     count: Some(count),
-                    amount: Some(amount),
+                    amount: Some(high),
+                    low: Some(low),
                     ..Row::default()
                 });
             }

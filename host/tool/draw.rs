@@ -3,7 +3,7 @@
 use crate::arguments::DrawOrder;
 use crate::failure::{failure, status_of, Failure, USAGE};
 use crate::naming::Naming;
-use crate::{closed, drawing, files, ics, output, standard_output, verdicts};
+use crate::{closed, drawing, files, ics, output, past, standard_output, verdicts};
 use std::ffi::OsStr;
 use std::path::Path;
 
@@ -21,9 +21,14 @@ pub fn run(order: &DrawOrder) -> Result<u8, Failure> {
     if form == Form::Calendar && order.naming.from.is_none() {
         return Err(failure(USAGE, "a calendar (.ics) needs --from DATE, the first step's"));
     }
-    let judged = verdicts::stand_files(&order.pair, &Naming::read(&order.naming)?)?;
+    let naming = Naming::read(&order.naming)?;
+    let judged = match order.logs.is_empty() {
+        true => verdicts::stand_files(&order.pair, &naming)?,
+        false => past::stand(&order.pair, &order.logs, &naming)?,
+    };
     let names = order.naming.names.as_deref();
-    let inputs: Vec<&OsStr> = [Some(&*order.pair.job), Some(&*order.pair.plan), names].into_iter().flatten().collect();
+    let inputs = [Some(&*order.pair.job), Some(&*order.pair.plan), names].into_iter().flatten();
+    let inputs: Vec<&OsStr> = inputs.chain(order.logs.iter().map(|log| &**log)).collect();
     files::not_among(&order.output, &inputs)?;
     let text = match form {
         Form::Picture => drawing::picture(&judged),

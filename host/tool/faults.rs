@@ -5,7 +5,7 @@ use crate::failure::{status_of, Failure, Fault};
 use crate::files::Input;
 use crate::numbers::grouped;
 use crate::output::shown_line;
-use crate::{slips, texts};
+use crate::{halls, slips, texts};
 use juzvarola_host::lines::{self, Line, Stands};
 
 /// The words for a fault by its number, where its line has none of its own.
@@ -34,9 +34,44 @@ pub fn log_refusal(reply: &Reply, job: &Input, log: &Input) -> Failure {
     }
 }
 
+/// The same of a hall's text: its head, or one of the jobs that stand in it.
+pub fn hall_refusal(reply: &Reply, hall: &Input) -> Failure {
+    let text = &hall.bytes;
+    let starts: Vec<usize> = texts::line_starts(text).collect();
+    let at = |line: u32| starts.get(line.saturating_sub(1) as usize).copied().unwrap_or(text.len());
+    let fault = at(reply.line);
+    // The job that the line stands in begins before it; where it is whole, another one begins at the line.
+    let begun = halls::job_starts(&text[..fault]);
+    let whole = begun.last().is_none_or(|start| ends_before(&text[*start..fault]));
+    let machines = texts::pairs(text).find(|(key, _)| *key == b"machines").map_or(0, |(_, machines)| machines);
+    let words = match (reply.result, whole) {
+        (1, _) => "the text has over 65,536 bytes".to_string(),
+        (14, _) => halls::unlike_words(reply, text),
+        _ if reply.line <= lines::HALL.len() as u32 => words_for(reply, text, lines::HALL),
+        (_, true) if begun.len() as u64 >= machines => format!("the text goes on after its last line: `machines` is {machines}"),
+        (_, true) => words_for(&Reply { line: 1, ..reply.clone() }, &text[fault..], lines::JOB),
+        (_, false) => {
+            let start = begun.last().copied().unwrap_or(fault);
+            let before = texts::line_starts(&text[start..fault]).count() as u32;
+            words_for(&Reply { line: before + 1, ..reply.clone() }, &text[start..], lines::JOB)
+        }
+    };
+    failure_of(reply, hall, words)
+}
+
+/// Whether these lines of a job are all of it.
+fn ends_before(lines_of_job: &[u8]) -> bool {
+    lines::following(lines::JOB, &texts::pairs(lines_of_job).collect::<Vec<_>>())
+        .is_some_and(|may| may.iter().all(|line| line.stands != Stands::Always))
+}
+
 /// The failure that a refusal of a text with these lines is.
 fn failure_in(reply: &Reply, at_fault: &Input, table: &'static [Line]) -> Failure {
-    let words = words_for(reply, &at_fault.bytes, table);
+    failure_of(reply, at_fault, words_for(reply, &at_fault.bytes, table))
+}
+
+/// The failure that a refusal in these words is.
+fn failure_of(reply: &Reply, at_fault: &Input, words: String) -> Failure {
     let shown = shown_line(&reply.fault);
     let mut message = match reply.line {
         0 => format!("{}: {words} ({})\n", at_fault.name, reply.result),

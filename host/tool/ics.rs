@@ -7,11 +7,12 @@ use crate::verdicts::Judged;
 /// The most bytes of a line; a longer one goes on in the next, behind a blank.
 const LINE: usize = 75;
 
-/// The calendar. The plan's steps have dates.
+/// The calendar: the stops still to come. The plan's steps have dates.
 pub fn calendar(judged: &Judged) -> String {
     let mut lines = vec!["BEGIN:VCALENDAR".to_string(), "VERSION:2.0".to_string()];
     lines.push(format!("PRODID:-//juzvarola//juzvarola {}//EN", env!("CARGO_PKG_VERSION")));
-    for at in 0..judged.plan.stops.len() {
+    let past = judged.past.map_or(0, |past| past.step);
+    for at in (0..judged.plan.stops.len()).filter(|at| judged.plan.stops[*at].step > past) {
         lines.extend(event(judged, at));
     }
     lines.push("END:VCALENDAR".to_string());

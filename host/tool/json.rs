@@ -6,6 +6,7 @@ pub enum Value {
     Null,
     Bool(bool),
     Number(u64),
+    Signed(i64),
     Text(String),
     List(Vec<Value>),
     Object(Vec<(&'static str, Value)>),
@@ -60,6 +61,7 @@ impl Value {
             Value::Null => "null".to_string(),
             Value::Bool(yes) => yes.to_string(),
             Value::Number(number) => number.to_string(),
+            Value::Signed(number) => number.to_string(),
             Value::Text(text) => quoted(text),
             Value::List(values) => format!("[{}]", joined(values.iter().map(Value::inline).collect())),
             Value::Object(members) => {

@@ -9,7 +9,7 @@ use crate::files::{self, Input};
 use crate::json::Value;
 use crate::naming::Naming;
 use crate::numbers::{counted, grouped};
-use crate::standing::{Bounds, BOUND};
+use crate::standing::Bounds;
 use crate::tables::Table;
 use crate::texts::{self, Job, Plan};
 use crate::verdicts::headed;
@@ -114,13 +114,9 @@ impl Habit {
         let Habit { plan, costs, naming, .. } = self;
         match (self.result, self.hindrance) {
             (0, _) => {
-                let further: String = costs.further().map(|(name, amount)| format!(", {name} {}", grouped(amount))).collect();
                 let (stops, changes) = (counted(plan.stops.len() as u64, "stop"), counted(plan.change_count(), "change"));
-                let sums = format!("fees {}, parts {}{further}", grouped(costs.fees), grouped(costs.parts));
-                format!(
-                    "changed as late as these stops allow, the parts cost {} ({sums}), with {stops} and {changes}",
-                    grouped(costs.total())
-                )
+                let (span, sums) = (costs.span(), costs.sums());
+                format!("changed as late as these stops allow, the parts cost {span} ({sums}), with {stops} and {changes}")
             }
             (_, Some((part, due))) => {
                 let next = plan.stops.iter().map(|stop| stop.step).find(|step| *step > due);
@@ -231,12 +227,14 @@ impl Habit {
     }
 }
 
-/// The least cost of any changes at a plan's stops: the planner's on the job that has these openings alone, at no fee; none where its walk is too long.
+/// The least cost of any changes at a plan's stops: that of the job that has these openings alone, at no fee; none where bounded walks don't find it.
 fn least_at(job: &Job, plan: &Plan, fees: u64) -> Result<Option<u64>, Failure> {
     let mut alone = job.only_open(|step| plan.stops.iter().any(|stop| stop.step == step));
     alone.openings.iter_mut().for_each(|opening| opening.fee = 0);
-    let reply = calls::plan(alone.text().as_bytes(), BOUND)?;
-    Ok(reply.value("cost").filter(|_| reply.result == 0).map(|prices| fees + prices))
+    match Bounds::of_job(alone.text().as_bytes())? {
+        Some(Bounds::Cheapest(prices)) => Ok(Some(fees + prices)),
+        _ => Ok(None),
+    }
 }
 
 /// Where the stops do not serve: the lowest part that fails even if every part is changed at every stop, as the judge says.

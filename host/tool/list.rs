@@ -1,12 +1,12 @@
 //! `list`: what to buy and when, for the buyer; when the line stops, for production.
 
 use crate::arguments::{Form, ListOrder};
-use crate::costs::{prices, prices_of_part, removals, removals_of_part};
+use crate::costs::{low_prices, low_prices_of_part, prices, prices_of_part, removals, removals_of_part};
 use crate::csv;
 use crate::failure::{status_of, Failure};
 use crate::json::Value;
 use crate::naming::Naming;
-use crate::numbers::{grouped, joined};
+use crate::numbers::{grouped, joined, span};
 use crate::tables::Table;
 use crate::texts::{Job, Plan};
 use crate::verdicts::{self, Judged};
@@ -36,34 +36,47 @@ fn lists(judged: &Judged, every: Option<u64>) -> String {
     for table in [buy(judged), by_stop(judged)].into_iter().chain(every.map(|steps| by_period(judged, steps))) {
         text += &table.text();
     }
-    text + &stops(judged).text() + &removed(judged).map_or(String::new(), |table| table.text()) + &costs(judged)
+    let removed = removed(judged).map_or(String::new(), |table| table.text());
+    text + &stops(judged).text() + &removed + &left(judged).text() + &costs(judged)
 }
 
-/// A price, or a dash where the job's text gives it in a form that is not read here.
-pub fn price(price: Option<u64>) -> String {
-    price.map_or("-".to_string(), grouped)
+/// A part's price at a step, from a low end to a high one where it is a band, or a dash where the job's text gives it in a form that is not read here.
+pub fn price(job: &Job, part: u64, step: u64) -> String {
+    job.price(part, step).zip(job.low_price(part, step)).map_or("-".to_string(), |(high, low)| span(low, high))
+}
+
+/// The heads of amounts of a job: one, or the low and the high ends where some price is a band.
+fn amounts(job: &Job) -> &'static [&'static str] {
+    if job.has_bands() {
+        &["low", "high"]
+    } else {
+        &["prices"]
+    }
+}
+
+/// The cells under these heads.
+fn ends(job: &Job, low: u64, high: u64) -> Vec<String> {
+    let own = if job.has_bands() { vec![low, high] } else { vec![high] };
+    own.into_iter().map(grouped).collect()
 }
 
 /// How many of each part, what they cost, and when.
 fn buy(judged: &Judged) -> Table {
     let Judged { job, plan, naming, .. } = judged;
     let mut rows: Vec<Vec<String>> = Vec::new();
-    let cells = |part: String, order: String, count: String, prices: String, steps: String| match naming.has_names() {
-        true => vec![part, order, count, prices, steps],
-        false => vec![part, count, prices, steps],
+    let cells = |part: String, order: String, count: u64, sums: Vec<String>, steps: String| {
+        let order = naming.has_names().then_some(order);
+        [part].into_iter().chain(order).chain([count.to_string()]).chain(sums).chain([steps]).collect()
     };
     for part in 1..=job.parts.len() as u64 {
         let steps = plan.changes(part);
-        let sum = grouped(prices_of_part(job, plan, part));
-        rows.push(cells(naming.part(part), naming.order(part).unwrap_or_default(), steps.len().to_string(), sum, naming.steps(steps)));
+        let sums = ends(job, low_prices_of_part(job, plan, part), prices_of_part(job, plan, part));
+        rows.push(cells(naming.part(part), naming.order(part).unwrap_or_default(), steps.len() as u64, sums, naming.steps(steps)));
     }
-    let sum = plan.stops.iter().map(|stop| prices(job, stop)).sum();
-    rows.push(cells("all".to_string(), String::new(), plan.change_count().to_string(), grouped(sum), String::new()));
-    let heads = if naming.has_names() {
-        vec!["<part", "<order", "count", "prices", "<at steps"]
-    } else {
-        vec!["part", "count", "prices", "<at steps"]
-    };
+    let sums = ends(job, judged.costs.low_parts(), judged.costs.parts);
+    rows.push(cells("all".to_string(), String::new(), plan.change_count(), sums, String::new()));
+    let mut heads = if naming.has_names() { vec!["<part", "<order"] } else { vec!["part"] };
+    heads.extend(["count"].iter().chain(amounts(job)).chain(&["<at steps"]));
     Table { title: "Parts to buy".to_string(), heads, rows }
 }
 
@@ -72,11 +85,12 @@ fn by_stop(judged: &Judged) -> Table {
     let Judged { job, plan, naming, .. } = judged;
     let mut rows = Vec::new();
     for stop in &plan.stops {
-        let each = stop.parts.iter().map(|part| format!("{} at {}", naming.part(*part), price(job.price(*part, stop.step))));
-        let each: Vec<String> = each.collect();
-        rows.push(vec![naming.step(stop.step), stop.parts.len().to_string(), grouped(prices(job, stop)), each.join(", ")]);
+        let each = stop.parts.iter().map(|part| format!("{} at {}", naming.part(*part), price(job, *part, stop.step)));
+        let (each, sums) = (each.collect::<Vec<String>>(), ends(job, low_prices(job, stop), prices(job, stop)));
+        rows.push([vec![naming.step(stop.step), stop.parts.len().to_string()], sums, vec![each.join(", ")]].concat());
     }
-    Table { title: "Parts by stop".to_string(), heads: vec!["step", "count", "prices", "<part at its price"], rows }
+    let heads = [&["step", "count"], amounts(job), &["<part at its price"]].concat();
+    Table { title: "Parts by stop".to_string(), heads, rows }
 }
 
 /// The first and last step of each period of so many steps.
@@ -85,10 +99,19 @@ pub fn periods(job: &Job, every: u64) -> Vec<(u64, u64)> {
     (0..job.horizon.div_ceil(steps)).map(|at| (at * steps + 1, ((at + 1) * steps).min(job.horizon))).collect()
 }
 
-/// What of a part is bought in a period: how many, and their prices.
-pub fn bought(job: &Job, plan: &Plan, part: u64, (from, to): (u64, u64)) -> (u64, u64) {
+/// What of a part, or of all, is bought in a period: how many, and their prices at the low and at the high ends.
+#[derive(Debug, Clone, Copy, Default)]
+pub struct Bought {
+    pub count: u64,
+    pub low: u64,
+    pub high: u64,
+}
+
+/// What of a part is bought in a period.
+pub fn bought(job: &Job, plan: &Plan, part: u64, (from, to): (u64, u64)) -> Bought {
     let steps: Vec<u64> = plan.changes(part).into_iter().filter(|step| (from..=to).contains(step)).collect();
-    (steps.len() as u64, steps.iter().filter_map(|step| job.price(part, *step)).sum())
+    let sum = |price: &dyn Fn(u64) -> Option<u64>| steps.iter().filter_map(|step| price(*step)).sum();
+    Bought { count: steps.len() as u64, low: sum(&|step| job.low_price(part, step)), high: sum(&|step| job.price(part, step)) }
 }
 
 /// What is bought in each period: how many of which part.
@@ -96,17 +119,16 @@ fn by_period(judged: &Judged, every: u64) -> Table {
     let Judged { job, plan, naming, .. } = judged;
     let mut rows = Vec::new();
     for period in periods(job, every) {
-        let parts: Vec<(u64, (u64, u64))> = (1..=job.parts.len() as u64).map(|part| (part, bought(job, plan, part, period))).collect();
-        let each: Vec<String> = parts
-            .iter()
-            .filter(|(_, (count, _))| *count > 0)
-            .map(|(part, (count, _))| format!("{count} of part {}", naming.part(*part)))
-            .collect();
-        let (count, sum) = parts.iter().fold((0, 0), |(count, sum), (_, own)| (count + own.0, sum + own.1));
+        let parts: Vec<(u64, Bought)> = (1..=job.parts.len() as u64).map(|part| (part, bought(job, plan, part, period))).collect();
+        let some = parts.iter().filter(|(_, own)| own.count > 0);
+        let each: Vec<String> = some.map(|(part, own)| format!("{} of part {}", own.count, naming.part(*part))).collect();
+        let sum = |of: &dyn Fn(&Bought) -> u64| parts.iter().map(|(_, own)| of(own)).sum::<u64>();
+        let count = sum(&|own| own.count).to_string();
         let steps = format!("{} to {}", naming.step(period.0), naming.step(period.1));
-        rows.push(vec![steps, count.to_string(), grouped(sum), each.join(", ")]);
+        rows.push([vec![steps, count], ends(job, sum(&|own| own.low), sum(&|own| own.high)), vec![each.join(", ")]].concat());
     }
-    Table { title: format!("Parts by periods of {every} steps"), heads: vec!["steps", "count", "prices", "<which"], rows }
+    let heads = [&["steps", "count"], amounts(job), &["<which"]].concat();
+    Table { title: format!("Parts by periods of {every} steps"), heads, rows }
 }
 
 /// The stops with their fees, and how long the line runs before each and after the last.
@@ -143,14 +165,32 @@ fn removed(judged: &Judged) -> Option<Table> {
     Some(Table { title: "Parts that come out".to_string(), heads: vec!["step", "count", "removals", "<parts"], rows })
 }
 
-/// Fees, prices, their sum, and the floor where the cheapest plan is not known.
+/// What is left of each part's life after the last step: what the plan leaves behind.
+fn left(judged: &Judged) -> Table {
+    let Judged { job, plan, naming, .. } = judged;
+    let left = |part: u64| job.left_at_end(plan, part);
+    let mut rows = Vec::new();
+    for (at, own) in job.parts.iter().enumerate() {
+        let part = at as u64 + 1;
+        rows.push(vec![naming.part(part), own.life.to_string(), left(part).to_string()]);
+    }
+    rows.push(vec!["all".to_string(), job.parts.iter().map(|part| part.life).sum::<u64>().to_string(), job.all_left(plan).to_string()]);
+    let heads = vec![if naming.has_names() { "<part" } else { "part" }, "life", "left"];
+    Table { title: format!("Life left after step {}", naming.step(job.horizon)), heads, rows }
+}
+
+/// Fees, prices, their sum, and the floor where the cheapest plan is not known; at the low and the high ends where prices are bands.
 fn costs(judged: &Judged) -> String {
     let costs = &judged.costs;
-    let mut rows = vec![("fees", Some(costs.fees)), ("parts", Some(costs.parts))];
-    rows.extend(costs.further().map(|(name, amount)| (name, Some(amount))));
-    rows.extend([("total", Some(costs.total())), ("at low prices", costs.low), ("floor", judged.floor())]);
-    let rows = rows.into_iter().filter_map(|(name, value)| Some(vec![name.to_string(), grouped(value?)])).collect();
-    Table { title: "Costs".to_string(), heads: vec!["<of", "amount"], rows }.text().trim_end().to_string() + "\n"
+    let mut rows = vec![("fees", costs.fees, costs.fees), ("parts", costs.low_parts(), costs.parts)];
+    rows.extend(costs.further().map(|(name, amount)| (name, amount, amount)));
+    rows.push(("total", costs.at_low(), costs.total()));
+    let cells = |(name, low, high): (&str, u64, u64)| [vec![name.to_string()], ends(&judged.job, low, high)].concat();
+    let mut rows: Vec<Vec<String>> = rows.into_iter().map(cells).collect();
+    let empty = if judged.job.has_bands() { vec![String::new()] } else { Vec::new() };
+    rows.extend(judged.floor().map(|floor| [vec!["floor".to_string()], empty, vec![grouped(floor)]].concat()));
+    let heads = if judged.job.has_bands() { vec!["<of", "low", "high"] } else { vec!["<of", "amount"] };
+    Table { title: "Costs".to_string(), heads, rows }.text().trim_end().to_string() + "\n"
 }
 
 /// The stops for programs.
@@ -158,10 +198,10 @@ pub fn stops_json(job: &Job, plan: &Plan, naming: &Naming) -> Value {
     let mut before = 0;
     let mut stops = Vec::new();
     for stop in &plan.stops {
-        let changes = stop
-            .parts
-            .iter()
-            .map(|part| Value::object([("part", Value::Number(*part)), ("price", Value::number(job.price(*part, stop.step)))]));
+        let changes = stop.parts.iter().map(|part| {
+            let (price, low) = (job.price(*part, stop.step), job.low_price(*part, stop.step));
+            Value::object([("part", Value::Number(*part)), ("price", Value::number(price)), ("low", Value::number(low))])
+        });
         stops.push(Value::object([
             ("step", Value::Number(stop.step)),
             ("date", Value::maybe(naming.date(stop.step))),
@@ -186,15 +226,17 @@ fn json(judged: &Judged, every: Option<u64>) -> Vec<(&'static str, Value)> {
             ("order", Value::maybe(naming.order(part))),
             ("count", Value::Number(plan.changes(part).len() as u64)),
             ("prices", Value::Number(prices_of_part(job, plan, part))),
+            ("low", Value::Number(low_prices_of_part(job, plan, part))),
             ("removals", Value::Number(removals_of_part(job, plan, part))),
             ("steps", Value::numbers(plan.changes(part))),
+            ("left", Value::Number(job.left_at_end(plan, part))),
         ])
     };
     let period = |(from, to): (u64, u64)| {
-        let bought =
-            (1..=job.parts.len() as u64).map(|part| (part, bought(job, plan, part, (from, to)))).filter(|(_, (count, _))| *count > 0);
-        let parts = bought.map(|(part, (count, amount))| {
-            Value::object([("part", Value::Number(part)), ("count", Value::Number(count)), ("prices", Value::Number(amount))])
+        let all = (1..=job.parts.len() as u64).map(|part| (part, bought(job, plan, part, (from, to))));
+        let parts = all.filter(|(_, own)| own.count > 0).map(|(part, Bought { count, low, high })| {
+            let members = [("part", part), ("count", count), ("prices", high), ("low", low)];
+            Value::object(members.map(|(name, number)| (name, Value::Number(number))))
         });
         Value::object([
             ("from", Value::Number(from)),

@@ -79,6 +79,17 @@ impl Job {
         lives
     }
 
+    /// What is left of a part, counted from 1, after the last step under a plan.
+    pub fn left_at_end(&self, plan: &Plan, part: u64) -> u64 {
+        // The step after the horizon runs, and is counted in what is used.
+        self.lives(plan, part).last().map_or(0, |life| (life.life + 1).saturating_sub(life.used))
+    }
+
+    /// The same of all parts together.
+    pub fn all_left(&self, plan: &Plan) -> u64 {
+        (1..=self.parts.len() as u64).map(|part| self.left_at_end(plan, part)).sum()
+    }
+
     /// The last step at which a change would have kept this life; its last step where it is kept.
     pub fn due(&self, life: &Life) -> u64 {
         let within = |step: &u64| life.before + self.runs(life.from, *step) <= life.life;

@@ -11,13 +11,19 @@ mod costs;
 mod count;
 mod csv;
 mod dates;
+mod deviations;
 mod draw;
 mod drawing;
 mod failure;
 mod faults;
 mod files;
+mod front;
+mod fronts;
+mod hall;
+mod halls;
 mod help;
 mod ics;
+mod join;
 mod json;
 mod judge;
 mod latest;
@@ -27,6 +33,7 @@ mod many;
 mod naming;
 mod numbers;
 mod output;
+mod past;
 mod plan;
 mod sheets;
 mod signals;
@@ -85,6 +92,9 @@ fn make(command: Command) -> Result<u8, Failure> {
         Command::Count(order) => count::run(&order),
         Command::Worth(order) => worth::run(&order),
         Command::Whatif(order) => whatif::run(&order),
+        Command::Front(order) => front::run(&order),
+        Command::Join(order) => join::run(&order),
+        Command::Hall(order) => hall::run(&order),
         Command::Write(order) => write::run(&order),
         Command::Check(job) => check::run(&job),
     }

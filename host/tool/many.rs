@@ -5,7 +5,7 @@ use crate::arguments::PlanOrder;
 use crate::calls::{self, MOST_WALK};
 use crate::failure::{failure, status_of, Failure, CANT_CREATE, CUT, USAGE};
 use crate::json::Value;
-use crate::numbers::{counted, grouped, percent, seconds};
+use crate::numbers::{counted, grouped, percent, seconds, span};
 use crate::verdicts::headed;
 use crate::walks::{self, Ended};
 use crate::{faults, files, output, signals, standard_output};
@@ -168,7 +168,8 @@ fn planned(order: &PlanOrder, job: &OsStr, place: &OsStr) -> Result<Done, Failur
         return Ok(Done { plan: Some(name), cost: Some(cost), words, ..none });
     }
     let walk = order.walk.unwrap_or(MOST_WALK);
-    let walked = walks::plan(&input.bytes, &walks::Order { walk, quiet: true, once: order.once, limit: order.limit })?;
+    let (counted, once, limit) = (order.count_nodes, order.once, order.limit);
+    let walked = walks::plan(&input.bytes, &walks::Order { walk, counted, quiet: true, once, limit })?;
     let Some(reply) = walked.reply else {
         let words = format!("{}: ended before a walk was finished (7)", input.name);
         return Ok(Done { status: CUT, result: Some(7), words, ..none });
@@ -178,11 +179,10 @@ fn planned(order: &PlanOrder, job: &OsStr, place: &OsStr) -> Result<Done, Failur
         files::write(place, text)?;
     }
     let gap = |cost: u64| cost.saturating_sub(floor.unwrap_or(0));
+    let costs = |cost: u64| format!("a plan that costs {}", span(reply.value("costlow").unwrap_or(cost), cost));
     let said = match (reply.result, cost) {
-        (0, Some(cost)) => format!("the cheapest plan costs {}; proved", grouped(cost)),
-        (7, Some(cost)) => {
-            format!("a plan that costs {}; at most {} {} could still be saved", grouped(cost), grouped(gap(cost)), percent(gap(cost), cost))
-        }
+        (0, Some(cost)) => format!("{}; the cheapest possible (proved)", costs(cost)),
+        (7, Some(cost)) => format!("{}; at most {} {} could still be saved", costs(cost), grouped(gap(cost)), percent(gap(cost), cost)),
         (6, _) => "no plan keeps the lives".to_string(),
         _ => "no plan was found so far".to_string(),
     };

@@ -15,6 +15,8 @@ pub struct NamingOrder {
     pub from: Option<Date>,
     pub step: Step,
     pub names: Option<OsString>,
+    /// The step of the whole that the job begins after, where it is what is left of one.
+    pub after: u64,
 }
 
 /// A part's name and order number; either may be empty.
@@ -29,6 +31,7 @@ struct Called {
 pub struct Naming {
     from: Option<Date>,
     length: Step,
+    before: u64,
     parts: BTreeMap<u64, Called>,
     file: String,
 }
@@ -36,7 +39,7 @@ pub struct Naming {
 impl Naming {
     /// Reads the names' file, if there is one.
     pub fn read(order: &NamingOrder) -> Result<Naming, Failure> {
-        let mut naming = Naming { from: order.from, length: order.step, ..Naming::default() };
+        let mut naming = Naming { from: order.from, length: order.step, before: order.after, ..Naming::default() };
         if let Some(path) = &order.names {
             let input = files::read(path)?;
             naming.parts = names(&input.bytes).map_err(|why| bad(&input.name, &why))?;
@@ -65,7 +68,17 @@ impl Naming {
 
     /// The first day of a step.
     pub fn first_day(&self, step: u64) -> Option<Date> {
-        self.from.map(|from| from.of_step(self.length, step))
+        self.from.map(|from| from.of_step(self.length, self.before + step))
+    }
+
+    /// The same for the job that is left after so many more steps: dates go on, and the whole's numbers stand beside its own.
+    pub fn after(&self, steps: u64) -> Naming {
+        Naming { before: self.before + steps, ..self.clone() }
+    }
+
+    /// A step's number in the whole, where the job is what is left of one.
+    pub fn whole(&self, step: u64) -> Option<u64> {
+        Some(self.before + step).filter(|_| self.before > 0)
     }
 
     /// A step's date.
@@ -73,9 +86,15 @@ impl Naming {
         self.first_day(step).map(|date| date.to_string())
     }
 
-    /// A step by its number, with its date where there is one: `12 (2027-03-22)`.
+    /// A step by its number, with its number in the whole and its date where there are such: `12 (15 of the whole, 2027-03-22)`.
     pub fn step(&self, step: u64) -> String {
-        self.date(step).map_or(step.to_string(), |date| format!("{step} ({date})"))
+        let whole = self.whole(step).map(|whole| format!("{whole} of the whole"));
+        let beside: Vec<String> = whole.into_iter().chain(self.date(step)).collect();
+        if beside.is_empty() {
+            step.to_string()
+        } else {
+            format!("{step} ({})", beside.join(", "))
+        }
     }
 
     /// Steps one after the other.

@@ -22,6 +22,15 @@ pub fn signed(first: u64, second: u64) -> String {
     }
 }
 
+/// A number, or from a low end to a high one: `2,310 to 2,505`.
+pub fn span(low: u64, high: u64) -> String {
+    if low < high {
+        format!("{} to {}", grouped(low), grouped(high))
+    } else {
+        grouped(high)
+    }
+}
+
 /// A number with its noun, in the plural where there is not just one: `1 stop`, `2 stops`.
 pub fn counted(number: u64, noun: &str) -> String {
     format!("{} {noun}{}", grouped(number), if number == 1 { "" } else { "s" })

@@ -2,12 +2,12 @@
 
 use crate::arguments::PlanOrder;
 use crate::calls::{self, Reply, MOST_WALK};
-use crate::costs::Costs;
+use crate::costs::{self, Costs};
 use crate::failure::{status_of, Failure, CUT};
 use crate::files::{self, Input};
 use crate::json::Value;
 use crate::naming::Naming;
-use crate::numbers::{counted, grouped, percent, seconds};
+use crate::numbers::{grouped, percent, seconds};
 use crate::standing::Bounds;
 use crate::texts::{self, Job};
 use crate::walks::{self, Ended, Walked};
@@ -32,7 +32,8 @@ pub fn run(order: &PlanOrder) -> Result<u8, Failure> {
         return Err(faults::refusal(&reply, &input, None));
     }
     let walk = order.walk.unwrap_or(MOST_WALK);
-    let walked = walks::plan(&input.bytes, &walks::Order { walk, quiet: order.quiet, once: order.once, limit: order.limit })?;
+    let (counted, quiet, once, limit) = (order.count_nodes, order.quiet, order.once, order.limit);
+    let walked = walks::plan(&input.bytes, &walks::Order { walk, counted, quiet, once, limit })?;
     let job = texts::job(&input.bytes);
     let found = Found { input: &input, job: &job, walk, walked: &walked };
     if let (Some(path), Some(text)) = (path, found.plan_text()) {
@@ -76,14 +77,27 @@ impl Found<'_> {
         self.reply()?.value(key)
     }
 
-    /// The planner's result in words.
+    /// The result in words.
     fn words(&self) -> String {
-        let nodes = format!("{} nodes were walked", grouped(self.value("nodes").unwrap_or(0)));
+        let walked = self.walked();
         match (self.result(), self.plan_in_words()) {
-            (0, Some(plan)) => format!("the cheapest plan costs {plan}; proved, {nodes}"),
-            (7, Some(plan)) => format!("{}; the best plan so far costs {plan}; {}; {nodes}", self.why_short(), self.gap()),
-            (7, None) => format!("{}, and no plan was found so far; {nodes}", self.why_short()),
+            (0, Some(plan)) if self.walked.nodes().is_some() => format!("the cheapest plan costs {plan}; proved{walked}"),
+            (0, Some(plan)) => format!("the plan costs {plan}; the cheapest possible (proved)"),
+            (7, Some(plan)) => format!("{}; the best plan so far costs {plan}; {}{walked}", self.why_short(), self.gap()),
+            (7, None) => format!("{}, and no plan was found so far{walked}", self.why_short()),
             _ => "no plan keeps the lives".to_string(),
+        }
+    }
+
+    /// How far it was walked: the nodes that were counted, or the walk number of the last finished walks where they were ended.
+    fn walked(&self) -> String {
+        match (self.walked.nodes(), self.result()) {
+            (Some(nodes), 0) => format!(", {} nodes were walked", grouped(nodes)),
+            (Some(nodes), _) => format!("; {} nodes were walked", grouped(nodes)),
+            (None, 7) if self.walked.ended != Ended::ByItself && self.walked.walk > 0 => {
+                format!("; walks of {} nodes were finished", grouped(self.walked.walk))
+            }
+            _ => String::new(),
         }
     }
 
@@ -106,13 +120,7 @@ impl Found<'_> {
 
     /// The printed plan's cost, stops and changes.
     fn plan_in_words(&self) -> Option<String> {
-        let plan = texts::plan(self.plan_text()?);
-        let costs = Costs::of(self.job, &plan, Some(plan.cost));
-        let (fees, parts) = (costs.fees, costs.parts);
-        let further: String = costs.further().map(|(name, amount)| format!(", {name} {}", grouped(amount))).collect();
-        let (stops, changes) = (counted(plan.stops.len() as u64, "stop"), counted(plan.change_count(), "change"));
-        let low = costs.low.map_or(String::new(), |low| format!(" at the high prices, {} at the low ones", grouped(low)));
-        Some(format!("{}{low} (fees {}, parts {}{further}), with {stops} and {changes}", grouped(plan.cost), grouped(fees), grouped(parts)))
+        Some(costs::in_words(self.job, &texts::plan(self.plan_text()?), true))
     }
 
     /// Further lines: how long the longest walk would take; where there is no plan, which part stands in its way and that no file was made.
@@ -126,10 +134,10 @@ impl Found<'_> {
         }
     }
 
-    /// How long the walk with the greatest walk number would take, where this one was shorter.
+    /// How long walks with the greatest walk number would take, where these were shorter.
     fn longest(&self) -> String {
         match self.walked.seconds_of(MOST_WALK) {
-            Some(time) if self.value("nodes").is_some_and(|nodes| nodes < MOST_WALK) => {
+            Some(time) if self.walked.walk < MOST_WALK => {
                 format!("    the greatest walk number, --walk {MOST_WALK}, takes about {} here at most\n", seconds(time))
             }
             Some(_) => "    this is the greatest walk number\n".to_string(),

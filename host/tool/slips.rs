@@ -15,6 +15,8 @@ pub fn of_text(text: &[u8], table: &[Line], line: u32) -> Option<&'static str> {
         _ if text.starts_with(b"\xef\xbb\xbf") => {
             Some("the text begins with a byte order mark, as Windows writes it; it begins with its first line")
         }
+        "machines" if begins("horizon=") => Some("this is a job, and a hall is due: `juzvarola join` makes one of the lines' jobs"),
+        "horizon" if begins("machines=") => Some("this is a hall, and a job is due"),
         "cost" if text == b"\n" || text == b"\r\n" => {
             Some("the plan is one empty line; doing nothing is a file of no bytes, or the lines cost=0 and stops=0")
         }

@@ -1,12 +1,17 @@
-//! How a plan stands to the cheapest one, as far as a bounded walk tells.
+//! How a plan stands to the cheapest one, as far as bounded walks tell.
 
-use crate::calls;
+use crate::calls::{self, Reply};
 use crate::failure::Failure;
 use crate::json::Value;
 use crate::numbers::{grouped, percent};
 
 /// As far as lists, drawings and comparisons walk by themselves: a fraction of a second.
-pub const BOUND: u64 = 20_000_000;
+const BOUND: u64 = 10_000_000;
+
+/// The plan that bounded walks find, the cheapest one where they end.
+pub fn searched(job: &[u8]) -> Result<Reply, Failure> {
+    calls::search(job, BOUND)
+}
 
 /// What is known of the cheapest plan of a job.
 #[derive(Debug, Clone, Copy, PartialEq, Eq)]
@@ -20,8 +25,8 @@ pub enum Bounds {
 }
 
 impl Bounds {
-    /// What the planner's answer says.
-    pub fn of_reply(reply: &calls::Reply) -> Option<Bounds> {
+    /// What the planner's or the optimum's answer says.
+    pub fn of_reply(reply: &Reply) -> Option<Bounds> {
         match reply.result {
             0 => reply.value("cost").map(Bounds::Cheapest),
             6 => Some(Bounds::NoPlan),
@@ -30,9 +35,9 @@ impl Bounds {
         }
     }
 
-    /// What a bounded walk finds for an accepted job.
+    /// What bounded walks find for an accepted job.
     pub fn of_job(job: &[u8]) -> Result<Option<Bounds>, Failure> {
-        Ok(Bounds::of_reply(&calls::plan(job, BOUND)?))
+        Ok(Bounds::of_reply(&searched(job)?))
     }
 
     /// The floor, where the cheapest plan is not known: beside a cost that is proved least it would read as something still to be saved.

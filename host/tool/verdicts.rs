@@ -10,6 +10,7 @@ use crate::json::Value;
 use crate::lives::Late;
 use crate::naming::Naming;
 use crate::numbers::{counted, grouped};
+use crate::past::Past;
 use crate::standing::Bounds;
 use crate::texts::{self, Job, Plan};
 use std::ffi::OsStr;
@@ -28,6 +29,8 @@ pub struct Judged {
     pub bounds: Option<Bounds>,
     /// How steps and parts are called.
     pub naming: Naming,
+    /// What of the plan was done already, where it goes on from work logs.
+    pub past: Option<Past>,
 }
 
 impl Judged {
@@ -46,7 +49,8 @@ impl Judged {
 
     /// How the plan stands to the cheapest one: by its true cost, and only if it keeps every life.
     pub fn standing(&self) -> Option<String> {
-        self.bounds.filter(|_| matches!(self.result, 0 | 11))?.words(self.costs.total())
+        let words = self.bounds.filter(|_| matches!(self.result, 0 | 11))?.words(self.costs.total())?;
+        Some(if self.past.is_some() { format!("to go on so is {words}") } else { words })
     }
 
     /// The floor, where the cheapest plan is not known.
@@ -94,24 +98,24 @@ pub fn judge_plan(job: &Input, plan: &OsStr, naming: &Naming) -> Result<Judged, 
 }
 
 /// Judges a plan of a job; a text at fault is a failure, with its line.
-fn judge(job_text: &Input, plan_text: &Input, naming: &Naming) -> Result<Judged, Failure> {
+pub fn judge(job_text: &Input, plan_text: &Input, naming: &Naming) -> Result<Judged, Failure> {
     let reply = calls::judge(&job_text.bytes, &plan_text.bytes)?;
     if reply.text != 0 || !matches!(reply.result, 0 | 10 | 11) {
         return Err(faults::refusal(&reply, job_text, Some(plan_text)));
     }
     let (job, plan) = (texts::job(&job_text.bytes), texts::plan(&plan_text.bytes));
     naming.check(&job)?;
-    let words = words(&reply, &job, &plan, naming).ok_or_else(|| failure(SOFTWARE, "the judge's answer is not complete"))?;
     let costs = Costs::of(&job, &plan, reply.value("cost"));
+    let words = words(&reply, &job, &plan, &costs, naming).ok_or_else(|| failure(SOFTWARE, "the judge's answer is not complete"))?;
     let (job_name, plan_name) = (job_text.name.clone(), plan_text.name.clone());
-    Ok(Judged { job_name, plan_name, job, plan, result: reply.result, words, costs, bounds: None, naming: naming.clone() })
+    Ok(Judged { job_name, plan_name, job, plan, result: reply.result, words, costs, bounds: None, naming: naming.clone(), past: None })
 }
 
 /// The verdict in words: 0, 10 or 11.
-fn words(reply: &Reply, job: &Job, plan: &Plan, naming: &Naming) -> Option<String> {
+fn words(reply: &Reply, job: &Job, plan: &Plan, costs: &Costs, naming: &Naming) -> Option<String> {
     match reply.result {
         10 => Some(Late::named(job, plan, reply.value("part")?, reply.value("due")?).words(job, naming)),
-        0 => Some(format!("every part's life is kept and the cost is true: {}", grouped(reply.value("cost")?))),
+        0 => Some(format!("every part's life is kept and the cost is true: {}", costs.span())),
         _ => {
             let cost = reply.value("cost")?;
             let difference = if plan.cost < cost {

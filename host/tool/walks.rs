@@ -1,7 +1,8 @@
-//! The planner's walk, made with growing walk numbers: each finished one leaves the best plan so far, which is shown and, if the walk is interrupted,
-//! not lost. By the library's promise the last answer is that of one call.
+//! The search for the cheapest plan, made with growing walk numbers: each finished walk leaves the best plan so far, which is shown and, if the search is
+//! interrupted, not lost. For each number it asks for the optimum and, where that is cut short, for the planner's own walk; where its nodes are to be
+//! counted, for that alone. By the library's promise the last answer is that of calls with the last number.
 
-use crate::calls::{self, Reply};
+use crate::calls::{self, Reply, CUT_SHORT};
 use crate::failure::{failure, Failure, SOFTWARE};
 use crate::numbers::{grouped, percent, seconds};
 use crate::{output, signals};
@@ -16,17 +17,34 @@ const PATIENCE: Duration = Duration::from_secs(1);
 const TICK: Duration = Duration::from_millis(50);
 /// How many times as long each walk is as the one before.
 const GROWTH: u64 = 4;
-/// No walk but the last is shorter than this: less than a tenth of a second.
+/// No counted walk but the last is shorter than this: less than a tenth of a second. Where there are walks by shares too, which are several for each number,
+/// a quarter of it.
 const SHORTEST: u64 = 4_000_000;
 /// As much of the time that is left as a last walk is to take.
 const CAREFUL: f64 = 0.9;
 
-/// What is asked for: the walk number, whether to show progress, to make one call only, and to end after some time.
+/// What is asked for: the walk number, whether only the planner's own walk is made, whether to show no progress, to take the whole number at once, and to
+/// end after some time.
 pub struct Order {
     pub walk: u64,
+    pub counted: bool,
     pub quiet: bool,
     pub once: bool,
     pub limit: Option<Duration>,
+}
+
+/// A call of the library with a walk number.
+type Call = fn(&[u8], u64) -> Reply;
+
+impl Order {
+    /// The calls with each walk number, each where the one before was cut short.
+    fn calls(&self) -> &'static [Call] {
+        if self.counted {
+            &[calls::plan_here]
+        } else {
+            &[calls::optimum_here, calls::plan_here]
+        }
+    }
 }
 
 /// Why there is no longer walk.
@@ -40,19 +58,33 @@ pub enum Ended {
     OutOfTime,
 }
 
-/// The last finished walk: its answer, if any walk was finished, and how long it took alone; when and why there was no other.
+/// What the finished walks say, if any was finished; the last walk number whose walks were all finished, 0 without one, and how long these took alone;
+/// when and why there was no other.
 pub struct Walked {
     pub reply: Option<Reply>,
+    pub walk: u64,
     pub took: Duration,
     pub all: Duration,
     pub ended: Ended,
 }
 
 impl Walked {
-    /// The seconds that a walk of so many nodes takes at the speed of the last one.
+    /// The nodes of a counted walk, where there is one.
+    pub fn nodes(&self) -> Option<u64> {
+        self.reply.as_ref()?.value("nodes")
+    }
+
+    /// The seconds that walks of so many nodes take at the speed of the last ones, where these were long enough to tell: before walks by shares the shares
+    /// are found.
     pub fn seconds_of(&self, nodes: u64) -> Option<f64> {
-        let walked = self.reply.as_ref()?.value("nodes").filter(|walked| *walked >= 1000)?;
+        let counted = self.nodes().filter(|walked| *walked >= 1000);
+        let walked = counted.or(Some(self.walk).filter(|walk| *walk >= 500_000 && self.nodes().is_none()))?;
         Some(self.took.as_secs_f64() * nodes as f64 / walked as f64)
+    }
+
+    /// What the walks said last.
+    fn is_cut_short(&self) -> bool {
+        self.reply.as_ref().is_some_and(|reply| reply.result == CUT_SHORT)
     }
 }
 
@@ -61,22 +93,15 @@ pub fn plan(job: &[u8], order: &Order) -> Result<Walked, Failure> {
     let job: Arc<[u8]> = job.into();
     let mut watch = Watch::new(order);
     signals::catch();
-    let mut walked = Walked { reply: None, took: Duration::ZERO, all: Duration::ZERO, ended: Ended::ByItself };
+    let mut walked = Walked { reply: None, walk: 0, took: Duration::ZERO, all: Duration::ZERO, ended: Ended::ByItself };
     let mut walk = first(order);
     let ended = loop {
         let began = Instant::now();
-        let (send, answer) = mpsc::channel();
-        let own = Arc::clone(&job);
-        calls::start(move || {
-            let _ = send.send(calls::plan_here(&own, walk));
-        })?;
-        let reply = match watch.wait(&answer, &walked)? {
-            Ok(reply) => reply,
-            Err(ended) => break ended,
-        };
-        let over = reply.result != 7 || walk >= order.walk;
-        walked = Walked { reply: Some(reply), took: began.elapsed(), ..walked };
-        if over {
+        if let Some(ended) = walk_once(&job, walk, &mut watch, &mut walked)? {
+            break ended;
+        }
+        walked = Walked { walk, took: began.elapsed(), ..walked };
+        if !walked.is_cut_short() || walk >= order.walk {
             break Ended::ByItself;
         }
         match next(walk, order, &watch, &walked) {
@@ -88,10 +113,32 @@ pub fn plan(job: &[u8], order: &Order) -> Result<Walked, Failure> {
     Ok(Walked { ended, all: watch.began.elapsed(), ..walked })
 }
 
+/// The walks with one walk number, each on a thread of its own; why they were not waited for, if so.
+fn walk_once(job: &Arc<[u8]>, walk: u64, watch: &mut Watch<'_>, walked: &mut Walked) -> Result<Option<Ended>, Failure> {
+    let order = watch.order;
+    for call in order.calls() {
+        let (send, answer) = mpsc::channel();
+        let own = Arc::clone(job);
+        calls::start(move || {
+            let _ = send.send(call(&own, walk));
+        })?;
+        let reply = match watch.wait(&answer, walked)? {
+            Ok(reply) => reply,
+            Err(ended) => return Ok(Some(ended)),
+        };
+        walked.reply = Some(if order.counted { reply } else { reply.and(walked.reply.as_ref()) });
+        if !walked.is_cut_short() {
+            break;
+        }
+    }
+    Ok(None)
+}
+
 /// The first walk number: the given one divided by four as often as it stays long, so that all walks together have at most four thirds of its nodes.
 fn first(order: &Order) -> u64 {
     let mut walk = order.walk;
-    while !order.once && walk / GROWTH >= SHORTEST {
+    let shortest = if order.counted { SHORTEST } else { SHORTEST / 4 };
+    while !order.once && walk / GROWTH >= shortest {
         walk = walk.div_ceil(GROWTH);
     }
     walk
@@ -115,8 +162,8 @@ struct Watch<'o> {
     shown: String,
 }
 
-impl Watch<'_> {
-    fn new(order: &Order) -> Watch<'_> {
+impl<'o> Watch<'o> {
+    fn new(order: &'o Order) -> Watch<'o> {
         Watch { order, began: Instant::now(), shows: !order.quiet && io::stderr().is_terminal(), shown: String::new() }
     }
 
@@ -155,11 +202,16 @@ impl Watch<'_> {
     }
 }
 
-/// The line shown, of less than 80 columns for most walks: the nodes and the best cost are those of the last finished walk.
+/// The line shown, of less than 80 columns for most walks: the nodes and the best cost are those of the last finished walks.
 fn line(elapsed: u64, walked: &Walked, most: u64) -> String {
     let number = |key| walked.reply.as_ref().and_then(|reply| reply.value(key));
-    let (Some(nodes), Some(floor)) = (number("nodes"), number("floor")) else {
+    let Some(floor) = number("floor") else {
         return format!("{elapsed} s");
+    };
+    let nodes = match (walked.nodes(), walked.walk) {
+        (Some(nodes), _) => format!(", {} nodes", grouped(nodes)),
+        (None, 0) => String::new(),
+        (None, walk) => format!(", walks of {} nodes", grouped(walk)),
     };
     let best = match number("cost") {
         Some(best) => {
@@ -168,7 +220,7 @@ fn line(elapsed: u64, walked: &Walked, most: u64) -> String {
         None => format!("no plan yet, none costs less than {}", grouped(floor)),
     };
     let left = walked.seconds_of(most).map_or(String::new(), |whole| format!("; {} at most", seconds(whole)));
-    format!("{elapsed} s, {} nodes: {best}{left}", grouped(nodes))
+    format!("{elapsed} s{nodes}: {best}{left}")
 }
 
 #[cfg(test)]
@@ -176,7 +228,7 @@ mod tests {
     use super::*;
 
     fn order(walk: u64, once: bool) -> Order {
-        Order { walk, quiet: true, once, limit: None }
+        Order { walk, counted: true, quiet: true, once, limit: None }
     }
 
     /// All walks together are at most four thirds of the last, and a rounding; the last has the number asked for.
@@ -185,7 +237,7 @@ mod tests {
         for most in [0, 1, 3_999_999, 15_999_999, 16_000_000, 16_000_001, 5_000_000, 200_000_000, 4_000_000_000] {
             let asked = order(most, false);
             let watch = Watch::new(&asked);
-            let walked = Walked { reply: None, took: Duration::ZERO, all: Duration::ZERO, ended: Ended::ByItself };
+            let walked = Walked { reply: None, walk: 0, took: Duration::ZERO, all: Duration::ZERO, ended: Ended::ByItself };
             let mut all = vec![first(&asked)];
             while *all.last().expect("a walk") < most {
                 all.push(next(*all.last().expect("a walk"), &asked, &watch, &walked).expect("a longer walk"));

@@ -2,13 +2,13 @@
 
 use crate::arguments::{Amount, WhatifOrder};
 use crate::calls::{self, Reply};
-use crate::costs::Costs;
+use crate::costs::{self, Costs};
 use crate::failure::{failure, status_of, Failure, USAGE};
 use crate::files::{self, Input};
 use crate::json::Value;
 use crate::lives::Late;
 use crate::naming::Naming;
-use crate::numbers::{counted, grouped, joined};
+use crate::numbers::{grouped, joined};
 use crate::standing::{self, Bounds};
 use crate::texts::{self, Job, Plan};
 use crate::verdicts::headed;
@@ -73,7 +73,7 @@ impl Changed {
         let old = texts::job(&input.bytes);
         naming.check(&old)?;
         let (job, what) = changed(&old, order)?;
-        let first = calls::plan(&input.bytes, standing::BOUND)?;
+        let first = standing::searched(&input.bytes)?;
         let (plan_name, plan) = match given {
             Some(plan) => {
                 let reply = calls::judge(&input.bytes, &plan.bytes)?;
@@ -85,7 +85,7 @@ impl Changed {
             None => ("the plan of before".to_string(), first.plan_text().map(texts::plan)),
         };
         let text = job.text();
-        let reply = calls::plan(text.as_bytes(), standing::BOUND)?;
+        let reply = standing::searched(text.as_bytes())?;
         if reply.text != 0 {
             return Err(faults::refusal(&reply, &Input { name: "the changed job".to_string(), bytes: text.into_bytes() }, None));
         }
@@ -100,17 +100,12 @@ impl Changed {
 
     /// The new plan.
     fn headline(&self) -> String {
-        let costs = self.plan().map(|plan| (Costs::of(&self.job, &plan, Some(plan.cost)), plan));
-        let Some((costs, plan)) = costs else {
+        let Some(plan) = self.plan().map(|plan| costs::in_words(&self.job, &plan, true)) else {
             return match self.reply.result {
                 6 => "no plan would keep the lives".to_string(),
                 _ => "no plan was found within a bounded walk".to_string(),
             };
         };
-        let further: String = costs.further().map(|(name, amount)| format!(", {name} {}", grouped(amount))).collect();
-        let sums = format!("fees {}, parts {}{further}", grouped(costs.fees), grouped(costs.parts));
-        let (stops, changes) = (counted(plan.stops.len() as u64, "stop"), counted(plan.change_count(), "change"));
-        let plan = format!("{} ({sums}), with {stops} and {changes}", grouped(plan.cost));
         match self.reply.result {
             0 => format!("the cheapest plan would cost {plan}; proved"),
             _ => format!("a plan would cost {plan}; no plan would cost less than {}", grouped(self.reply.value("floor").unwrap_or(0))),

@@ -4,8 +4,8 @@
 use super::inputs::{self, Facts};
 use super::rng::Rng;
 use super::Call;
+use juzvarola_checks::reference::texts::read_job;
 use juzvarola_host::lines;
-use juzvarola_host::reference::texts::read_job;
 
 /// What other systems and other alphabets put into a text: NUL, line ends, a byte order mark, letters and digits beyond ASCII.
 const FOREIGN: &[&[u8]] = &[

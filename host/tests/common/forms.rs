@@ -2,7 +2,7 @@
 
 use super::inputs::{self, Facts, Size};
 use super::rng::Rng;
-use juzvarola_host::reference::Reply;
+use juzvarola_checks::reference::Reply;
 use juzvarola_host::Form;
 use std::path::{Path, PathBuf};
 
@@ -111,7 +111,7 @@ impl FormCall {
 
     /// What the reference writes.
     pub fn expected(&self) -> Reply {
-        juzvarola_host::reference::write(&self.form(), self.output)
+        juzvarola_checks::reference::write(&self.form(), self.output)
     }
 }
 

@@ -2,6 +2,10 @@
 
 use super::inputs::{self, Facts, Size};
 use super::rng::Rng;
+use juzvarola_checks::reference::brute;
+use juzvarola_checks::reference::hall::Hall;
+use juzvarola_checks::reference::model::{Job, Plan};
+use std::collections::{BTreeSet, HashMap};
 
 /// A hall: what a call costs, and its lines.
 #[derive(Debug, Clone)]
@@ -73,4 +77,43 @@ pub fn text(rng: &mut Rng, size: Size) -> Vec<u8> {
         1 => inputs::damaged(rng, hall.text()),
         _ => hall.text(),
     }
+}
+
+/// For each stop set the least cost of plans of a job that keep the lives, without calls.
+fn by_stops(job: &Job) -> HashMap<Vec<i64>, u64> {
+    let mut least = HashMap::new();
+    for plan in brute::all_plans(job).filter(|plan| job.keeps(plan)) {
+        let cost = brute::cost(job, &plan);
+        let own: &mut u64 = least.entry(steps(job, &plan)).or_insert(cost);
+        *own = cost.min(*own);
+    }
+    least
+}
+
+/// The steps at which a plan stops.
+pub fn steps(job: &Job, plan: &Plan) -> Vec<i64> {
+    job.openings.iter().zip(&plan.stops).filter(|(_, stop)| **stop).map(|(opening, _)| opening.step).collect()
+}
+
+/// The least cost of a hall, over all sets of plans for its lines: one call for each step at which some line stops.
+pub fn least(hall: &Hall) -> Option<u64> {
+    let mut all: HashMap<BTreeSet<i64>, u64> = HashMap::from([(BTreeSet::new(), 0)]);
+    for job in &hall.jobs {
+        let own = by_stops(job);
+        let mut next: HashMap<BTreeSet<i64>, u64> = HashMap::new();
+        for (union, sum) in &all {
+            for (stops, cost) in &own {
+                let union: BTreeSet<i64> = union.iter().chain(stops).copied().collect();
+                let best = next.entry(union).or_insert(sum + cost);
+                *best = (sum + cost).min(*best);
+            }
+        }
+        all = next;
+    }
+    all.into_iter().map(|(stops, sum)| sum + hall.call * stops.len() as u64).min()
+}
+
+/// The cost that an answer's lines state first.
+pub fn cost(lines: &str) -> u64 {
+    lines.lines().find_map(|line| line.strip_prefix("cost=")?.parse().ok()).expect("a cost")
 }

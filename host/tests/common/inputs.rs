@@ -2,7 +2,7 @@
 
 use super::rng::Rng;
 use super::{setting, Call};
-use juzvarola_host::reference::{self, model::Rule};
+use juzvarola_checks::reference::{self, model::Rule};
 use juzvarola_host::MOST_WALK;
 use std::collections::BTreeSet;
 

@@ -3,7 +3,7 @@
 use super::forms::{self, FormCall};
 use super::rng::Rng;
 use super::Call;
-use juzvarola_host::reference::{self, Reply};
+use juzvarola_checks::reference::{self, Reply};
 use juzvarola_host::{Answer, Count};
 
 /// Bytes on each side of a lent buffer.
@@ -74,6 +74,11 @@ pub fn compare_latest(rng: &mut Rng, call: &Call, reply: &Reply) -> Result<(), S
 /// The same of carrying on, by the call's second text as the log.
 pub fn compare_carry(rng: &mut Rng, call: &Call, reply: &Reply) -> Result<(), String> {
     compare_by(rng, call, reply, |job, log, out| juzvarola_host::carry(job, log, out))
+}
+
+/// The same of the hall planner, on the call's first text.
+pub fn compare_hall(rng: &mut Rng, call: &Call, reply: &Reply) -> Result<(), String> {
+    compare_by(rng, call, reply, |hall, _, out| juzvarola_host::hall(hall, call.walk, out))
 }
 
 fn compare_by(

@@ -3,8 +3,8 @@
 use super::inputs::{self, Facts};
 use super::rng::Rng;
 use super::Call;
-use juzvarola_host::reference::model::{Job, Plan};
-use juzvarola_host::reference::texts::{plan_lines, read_job, read_plan};
+use juzvarola_checks::reference::model::{Job, Plan};
+use juzvarola_checks::reference::texts::{plan_lines, read_job, read_plan};
 
 /// The text of a log: its step, and the part of a plan up to it at its true cost.
 pub fn text(job: &Job, plan: &Plan, step: i64) -> Vec<u8> {
@@ -40,13 +40,12 @@ pub fn log(rng: &mut Rng, facts: &Facts) -> Vec<u8> {
     .into_bytes()
 }
 
-/// A call to carry on, its log in place of a plan text: a job and a log with or without faults, now and then a short or a long output.
-pub fn call(rng: &mut Rng, size: inputs::Size) -> Call {
-    let facts = inputs::facts(rng, size);
-    let log = log(rng, &facts);
+/// A call to carry on with a job, its log in place of a plan text: job and log with or without faults, now and then a short or a long output.
+pub fn call(rng: &mut Rng, facts: &Facts) -> Call {
+    let log = log(rng, facts);
     let output = if rng.once_in(20) { rng.pick(&[0, 1, 16_384, 32_768, 40_959, 40_961]) } else { 40_960 };
     let (job, log) = match rng.below(8) {
-        0 => (inputs::damaged_job(rng, &facts), log),
+        0 => (inputs::damaged_job(rng, facts), log),
         1 | 2 => (facts.text(), inputs::damaged(rng, log)),
         _ => (facts.text(), log),
     };

@@ -79,8 +79,8 @@ impl Call {
     }
 
     /// The reference's reply.
-    pub fn expected(&self) -> juzvarola_host::reference::Reply {
-        use juzvarola_host::reference;
+    pub fn expected(&self) -> juzvarola_checks::reference::Reply {
+        use juzvarola_checks::reference;
         match &self.plan {
             None => reference::plan(&self.job, self.walk, self.output),
             Some(plan) => reference::judge(&self.job, plan, self.output),

@@ -97,6 +97,11 @@ pub fn job(name: &str) -> Vec<u8> {
     fs::read(Path::new(env!("CARGO_MANIFEST_DIR")).join("../jobs").join(format!("{name}.txt"))).expect("a job of jobs/")
 }
 
+/// A job of `host/jobs/` whose cheapest plan is not found by any walk number: two filling heads of eight parts each, with hardly anything to pay together.
+pub fn hard() -> Vec<u8> {
+    fs::read(Path::new(env!("CARGO_MANIFEST_DIR")).join("jobs/heads16.txt")).expect("a job of host/jobs/")
+}
+
 /// A job of `host/jobs/`: a year of days.
 pub fn year(parts: u32) -> Vec<u8> {
     fs::read(Path::new(env!("CARGO_MANIFEST_DIR")).join(format!("jobs/year{parts}.txt"))).expect("a job of host/jobs/")

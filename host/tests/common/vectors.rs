@@ -1,7 +1,7 @@
 //! The vectors of `vectors/`; its `README.md` has the format.
 
 use super::{inputs, walk_of, Call};
-use juzvarola_host::reference::Reply;
+use juzvarola_checks::reference::Reply;
 use std::path::{Path, PathBuf};
 
 pub struct Vector {

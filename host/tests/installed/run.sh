@@ -22,7 +22,7 @@ calls=$(sed -n 's/^\(static inline \)*[a-z][a-z0-9_]* \(juzvarola_[a-z_]*\).*/\2
 installed="bin/juzvarola bin/juzvarola-judge bin/juzvarola-planner include/juzvarola.h lib/libjuzvarola.a lib/libjuzvarola.so.0 lib/pkgconfig/juzvarola.pc
 lib/cmake/juzvarola/juzvarola-config.cmake lib/cmake/juzvarola/juzvarola-config-version.cmake lib/python3/dist-packages/juzvarola.py
 share/bash-completion/completions/juzvarola share/man/man1/juzvarola-judge.1 share/man/man1/juzvarola.1 share/man/man1/juzvarola-planner.1
-share/man/man3/juzvarola.3 share/man/man5/juzvarola-job.5 share/man/man5/juzvarola-json.5 share/man/man5/juzvarola-plan.5 share/man/man5/juzvarola-table.5
+share/man/man3/juzvarola.3 share/man/man5/juzvarola-hall.5 share/man/man5/juzvarola-job.5 share/man/man5/juzvarola-json.5 share/man/man5/juzvarola-plan.5 share/man/man5/juzvarola-table.5
 $(for call in $calls; do echo share/man/man3/$call.3; done)"
 for place in "$plain" "$prefix/usr"; do
     found=$(cd "$place" && find . -type f | sed 's|^\./||' | sort | tr '\n' ' ')
@@ -69,8 +69,8 @@ for page in "$plain"/share/man/man[15]/* "$plain/share/man/man3/juzvarola.3"; do
     [ -z "$(man --warnings -l "$page" 2>&1 > /dev/null)" ] || fail "$page has faults"
     grep -q "juzvarola $version" "$page" || fail "$page has another version"
 done
-words=$(man -l "$plain/share/man/man1/juzvarola.1" | cat)
-for command in plan judge latest carry list draw compare count worth whatif write check completion; do
+words=$(man -l "$plain/share/man/man1/juzvarola.1" | tr -s ' ')
+for command in plan judge latest carry list draw compare count worth whatif front join hall write check completion; do
     "$plain/bin/juzvarola" help $command | grep -o -e '^  -[a-z]' -e '--[a-z]*' | sort -u | while read -r option; do
         echo "$words" | grep -q -e "$option" || fail "juzvarola.1 has no $option of $command"
     done

@@ -20,7 +20,7 @@ const NAME: usize = 80;
 /// The whole picture.
 pub fn svg(judged: &Judged) -> String {
     let Judged { job, plan, naming, .. } = judged;
-    let sheet = Sheet::of(job, plan, naming);
+    let sheet = Sheet::of(judged);
     let mut marks = Marks::default();
     let (width, height) = (length(sheet.width), length(sheet.height));
     let size = format!("width=\"{width}\" height=\"{height}\" viewBox=\"0 0 {width} {height}\"");
@@ -35,6 +35,7 @@ pub fn svg(judged: &Judged) -> String {
     let parts = 1..=job.parts.len() as u64;
     parts.clone().for_each(|part| rows::bars(&mut marks, &sheet, job, plan, part));
     hatching(&mut marks, &sheet, job);
+    today(&mut marks, &sheet, judged);
     parts.for_each(|part| rows::words(&mut marks, &sheet, judged, part));
     openings(&mut marks, &sheet, job, plan);
     stop_labels(&mut marks, &sheet, judged);
@@ -49,7 +50,8 @@ fn head(marks: &mut Marks, judged: &Judged) {
     let (job, plan) = (&judged.job, &judged.plan);
     let size = format!("{} over {}", counted(job.parts.len() as u64, "part"), counted(job.horizon, "step"));
     let what = format!("{}, {}", counted(plan.stops.len() as u64, "stop"), counted(plan.change_count(), "change"));
-    marks.words("title", (16.0, 30.0), &format!("Stops and part changes: {size}, {what}"));
+    let done = judged.past.map_or(String::new(), |past| format!("; done up to step {}", judged.naming.step(past.step)));
+    marks.words("title", (16.0, 30.0), &format!("Stops and part changes: {size}, {what}{done}"));
     let (class, word) = if judged.result == 0 { ("verdict", "Verdict") } else { ("refused", "REFUSED") };
     marks.words(class, (16.0, 52.0), &format!("{word}: {}{}.", judged.words, others(judged)));
     let from = judged.naming.date(1).map_or(String::new(), |date| format!("; step 1 begins on {date}"));
@@ -88,7 +90,7 @@ fn idle_runs(job: &Job) -> Vec<(u64, u64)> {
 }
 
 /// Idle steps shaded over the height of all rows.
-fn idle_steps(marks: &mut Marks, sheet: &Sheet, job: &Job) {
+pub fn idle_steps(marks: &mut Marks, sheet: &Sheet, job: &Job) {
     let top = sheet.strip + STRIP;
     for (before, last) in idle_runs(job) {
         let size = (sheet.x(last) - sheet.x(before), sheet.bottom - top);
@@ -98,7 +100,7 @@ fn idle_steps(marks: &mut Marks, sheet: &Sheet, job: &Job) {
 }
 
 /// The hatching of idle steps, which shows on the bars too; single days of a year are too narrow for it.
-fn hatching(marks: &mut Marks, sheet: &Sheet, job: &Job) {
+pub fn hatching(marks: &mut Marks, sheet: &Sheet, job: &Job) {
     let top = sheet.strip + STRIP;
     for (before, last) in idle_runs(job) {
         let width = sheet.x(last) - sheet.x(before);
@@ -109,7 +111,7 @@ fn hatching(marks: &mut Marks, sheet: &Sheet, job: &Job) {
 }
 
 /// Steps with their numbers beneath the rows, and the calendar's frame.
-fn axis(marks: &mut Marks, sheet: &Sheet, job: &Job, naming: &Naming) {
+pub fn axis(marks: &mut Marks, sheet: &Sheet, job: &Job, naming: &Naming) {
     let distance = round_distance(sheet.step, if naming.has_dates() { 72.0 } else { 32.0 });
     let small = round_distance(sheet.step, 5.0);
     for step in (0..=job.end()).filter(|step| step % small == 0) {
@@ -118,20 +120,45 @@ fn axis(marks: &mut Marks, sheet: &Sheet, job: &Job, naming: &Naming) {
         marks.line("tick", (x, sheet.bottom), (x, sheet.bottom + if long { 8.0 } else { 4.0 }), &[]);
         if long && step > 0 && step < job.end() && job.end() - step >= distance / 2 {
             marks.words("small middle", (x, sheet.bottom + 21.0), &step.to_string());
-            naming.date(step).into_iter().for_each(|date| marks.words("small middle", (x, sheet.bottom + 34.0), &date));
+            let beneath = naming.date(step).into_iter().chain(beside(sheet, naming, step));
+            for (date, line) in beneath.zip([34.0, 48.0]) {
+                marks.words("small middle", (x, sheet.bottom + line), &date);
+            }
             marks.line("grid", (x, sheet.top), (x, sheet.bottom), &[]);
         }
     }
     marks.words("small end", (sheet.left - 8.0, sheet.bottom + 21.0), "step");
+    let line = if naming.has_dates() { 48.0 } else { 34.0 };
+    if sheet.past > 0 || naming.whole(0).is_some() {
+        marks.words("small end", (sheet.left - 8.0, sheet.bottom + line), if sheet.past > 0 { "from today" } else { "of the whole" });
+    }
     marks.words("small", (sheet.right + 4.0, sheet.bottom + 21.0), &format!("end: after {}", job.horizon));
     marks.rectangle("frame", (sheet.left, sheet.strip), (sheet.right - sheet.left, sheet.bottom - sheet.strip), &[], "");
 }
 
+/// A step's other number: the one that it has in the plan that goes on, or in the whole of which the job is left.
+fn beside(sheet: &Sheet, naming: &Naming, step: u64) -> Option<String> {
+    match sheet.past {
+        0 => naming.whole(step).map(|whole| whole.to_string()),
+        past => {
+            Some(step.saturating_sub(past)).filter(|later| *later > 0 && *later as f64 * sheet.step > 34.0).map(|later| format!("+{later}"))
+        }
+    }
+}
+
+/// A line for today, behind the last step that was done.
+fn today(marks: &mut Marks, sheet: &Sheet, judged: &Judged) {
+    let Some(past) = judged.past else { return };
+    let (x, line) = (sheet.x(past.step), if judged.naming.has_dates() { 48.0 } else { 34.0 });
+    marks.line("today", (x, sheet.strip), (x, sheet.bottom + 9.0), &[("data-step", past.step.to_string())]);
+    marks.words("today-words", (x, sheet.bottom + line), "today");
+}
+
 /// The stops as lines from the strip down through all rows.
-fn stop_lines(marks: &mut Marks, sheet: &Sheet, plan: &Plan) {
+pub fn stop_lines(marks: &mut Marks, sheet: &Sheet, plan: &Plan) {
     for stop in &plan.stops {
         let x = sheet.x(stop.step);
-        marks.line("stop", (x, sheet.strip), (x, sheet.bottom), &[("data-step", stop.step.to_string())]);
+        marks.line(&sheet.class("stop", stop.step), (x, sheet.strip), (x, sheet.bottom), &[("data-step", stop.step.to_string())]);
     }
 }
 
@@ -160,11 +187,12 @@ fn stop_labels(marks: &mut Marks, sheet: &Sheet, judged: &Judged) {
         let fee = grouped(job.fee(stop.step));
         if sheet.upwards {
             let date = naming.date(stop.step).map_or(String::new(), |date| format!(" ({date})"));
-            marks.words_upwards("up", (place + 4.0, bend - 3.0), &format!("{}{date}: {fee}", stop.step));
+            marks.words_upwards(&sheet.class("up", stop.step), (place + 4.0, bend - 3.0), &format!("{}{date}: {fee}", stop.step));
         } else {
-            naming.date(stop.step).into_iter().for_each(|date| marks.words("date", (*place, bend - 32.0), &date));
-            marks.words("step", (*place, bend - 18.0), &stop.step.to_string());
-            marks.words("fee", (*place, bend - 4.0), &fee);
+            let class = |class| sheet.class(class, stop.step);
+            naming.date(stop.step).into_iter().for_each(|date| marks.words(&class("date"), (*place, bend - 32.0), &date));
+            marks.words(&class("step"), (*place, bend - 18.0), &stop.step.to_string());
+            marks.words(&class("fee"), (*place, bend - 4.0), &fee);
         }
     }
     let (first, second) = if sheet.upwards { ("stop at step:", "its fee") } else { ("stop at step", "its fee") };
@@ -173,7 +201,7 @@ fn stop_labels(marks: &mut Marks, sheet: &Sheet, judged: &Judged) {
 }
 
 /// A mark on the row of each part that is changed at a stop, and a hollow one where a part comes out and stays in use.
-fn changes(marks: &mut Marks, sheet: &Sheet, job: &Job, plan: &Plan) {
+pub fn changes(marks: &mut Marks, sheet: &Sheet, job: &Job, plan: &Plan) {
     for stop in &plan.stops {
         let changed = stop.parts.iter().map(|part| ("change", *part));
         for (class, part) in changed.chain(job.put_back(stop).into_iter().map(|part| ("back", part))) {
@@ -181,7 +209,7 @@ fn changes(marks: &mut Marks, sheet: &Sheet, job: &Job, plan: &Plan) {
             let size = (sheet.row * 0.16).clamp(4.5, 7.0);
             let points = [(x, y - size), (x + size, y), (x, y + size), (x - size, y)];
             let more = [("data-part", part.to_string()), ("data-step", stop.step.to_string())];
-            marks.polygon(class, &points, &more);
+            marks.polygon(&sheet.class(class, stop.step), &points, &more);
         }
     }
 }

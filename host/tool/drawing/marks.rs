@@ -43,6 +43,12 @@ impl Marks {
         self.element("rect", &[&own, more].concat(), tip);
     }
 
+    /// A disc.
+    pub fn circle(&mut self, class: &str, at: (f64, f64), radius: f64, more: &[(&str, String)], tip: &str) {
+        let own = [("class", class.to_string()), ("cx", length(at.0)), ("cy", length(at.1)), ("r", length(radius))];
+        self.element("circle", &[&own, more].concat(), tip);
+    }
+
     /// A straight line.
     pub fn line(&mut self, class: &str, from: (f64, f64), to: (f64, f64), more: &[(&str, String)]) {
         let own =

@@ -2,8 +2,8 @@
 
 use super::calendar::svg;
 use super::marks::escaped;
-use crate::costs::{prices, prices_of_part, removals, removals_of_part};
-use crate::numbers::grouped;
+use crate::costs::{low_prices, low_prices_of_part, prices, prices_of_part, removals, removals_of_part};
+use crate::numbers::{grouped, span};
 use crate::verdicts::Judged;
 
 const STYLE: &str = "\
@@ -44,8 +44,13 @@ fn stops(judged: &Judged) -> String {
     let mut before = 0;
     let mut rows = Vec::new();
     for stop in &plan.stops {
-        let mut row =
-            vec![naming.step(stop.step), job.runs(before, stop.step).to_string(), grouped(job.fee(stop.step)), grouped(prices(job, stop))];
+        let done = judged.past.filter(|past| stop.step <= past.step).map_or("", |_| ", done");
+        let mut row = vec![
+            naming.step(stop.step) + done,
+            job.runs(before, stop.step).to_string(),
+            grouped(job.fee(stop.step)),
+            span(low_prices(job, stop), prices(job, stop)),
+        ];
         if held {
             row.extend([grouped(removals(job, stop)), naming.parts(job.put_back(stop))]);
         }
@@ -53,11 +58,11 @@ fn stops(judged: &Judged) -> String {
         rows.push(row);
         before = stop.step;
     }
-    let mut sums = vec!["all".to_string(), job.runs(0, before).to_string(), grouped(costs.fees), grouped(costs.parts)];
+    let mut sums = vec!["all".to_string(), job.runs(0, before).to_string(), grouped(costs.fees), span(costs.low_parts(), costs.parts)];
     if held {
         sums.extend([grouped(costs.removals), String::new()]);
     }
-    sums.push(format!("total {}", grouped(costs.total())));
+    sums.push(format!("total {}", costs.span()));
     rows.push(sums);
     let heads: &[&str] = match held {
         true => &["step", "running steps before", "fee", "prices", "removals", "out and back in", "parts changed"],
@@ -74,7 +79,7 @@ fn parts(judged: &Judged) -> String {
         let steps = plan.changes(part);
         let mut row = vec![naming.part(part)];
         row.extend(naming.has_names().then(|| naming.order(part).unwrap_or_default()));
-        row.extend([steps.len().to_string(), grouped(prices_of_part(job, plan, part))]);
+        row.extend([steps.len().to_string(), span(low_prices_of_part(job, plan, part), prices_of_part(job, plan, part))]);
         row.extend(held.then(|| grouped(removals_of_part(job, plan, part))));
         row.push(naming.steps(steps));
         row
@@ -82,7 +87,7 @@ fn parts(judged: &Judged) -> String {
     let mut rows: Vec<Vec<String>> = (1..=job.parts.len() as u64).map(row).collect();
     let mut sums = vec!["all".to_string()];
     sums.extend(naming.has_names().then(String::new));
-    sums.extend([plan.change_count().to_string(), grouped(costs.parts)]);
+    sums.extend([plan.change_count().to_string(), span(costs.low_parts(), costs.parts)]);
     sums.extend(held.then(|| grouped(costs.removals)));
     sums.push(String::new());
     rows.push(sums);

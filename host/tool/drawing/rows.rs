@@ -2,9 +2,9 @@
 
 use super::marks::Marks;
 use super::sheet::Sheet;
-use crate::costs::{prices_of_part, removals_of_part};
+use crate::costs::{low_prices_of_part, prices_of_part, removals_of_part};
 use crate::lives::Life;
-use crate::numbers::{counted, grouped, runs};
+use crate::numbers::{counted, grouped, runs, span};
 use crate::texts::{Job, Plan};
 use crate::verdicts::Judged;
 
@@ -42,7 +42,8 @@ pub fn words(marks: &mut Marks, sheet: &Sheet, judged: &Judged, part: u64) {
     }
     let count = plan.changes(part).len() as u64;
     marks.words("part", (sheet.right + 12.0, middle - 1.0), &counted(count, "change"));
-    let (prices, removals) = (grouped(prices_of_part(job, plan, part)), removals_of_part(job, plan, part));
+    let prices = span(low_prices_of_part(job, plan, part), prices_of_part(job, plan, part));
+    let removals = removals_of_part(job, plan, part);
     let lines = match removals {
         0 => [format!("prices {prices}"), String::new()],
         out if sheet.row < LOW => [format!("{prices} + {} removals", grouped(out)), String::new()],
@@ -74,7 +75,9 @@ fn bar(marks: &mut Marks, sheet: &Sheet, job: &Job, part: u64, life: &Life) {
     let own: Vec<(&str, String)> = own.map(|(name, value)| (name, value.to_string())).to_vec();
     let tip = format!("part {part}, steps {} to {}: {} of {} used", life.from, life.to, life.used, life.life);
     marks.rectangle("life", (left, top), (right - left, height), &own, &tip);
-    marks.polygon("wear", &wear(sheet, job, life, top, height), &[]);
+    for (class, from, to) in sheet.parts_of(life.from, job.due(life).min(life.to)) {
+        marks.polygon(class, &wear(sheet, job, life, (from, to), (top, height)), &[]);
+    }
     if life.too_long() > 0 {
         let due = sheet.x(job.due(life));
         let more = [("data-part", part.to_string()), ("data-steps", life.too_long().to_string())];
@@ -98,18 +101,17 @@ fn used(marks: &mut Marks, sheet: &Sheet, job: &Job, part: u64, life: &Life) {
     }
 }
 
-/// How far the part is worn at each step of a life: level on idle steps, full at the life's end.
-fn wear(sheet: &Sheet, job: &Job, life: &Life, top: f64, height: f64) -> Vec<(f64, f64)> {
+/// How far the part is worn from a step of a life to another: level on idle steps, full at the life's end.
+fn wear(sheet: &Sheet, job: &Job, life: &Life, (from, to): (u64, u64), (top, height): (f64, f64)) -> Vec<(f64, f64)> {
     let bottom = top + height;
-    let last = job.due(life).min(life.to);
     let level = |step: u64| {
         let used = (life.before + job.runs(life.from, step)).min(life.life) as f64;
         (sheet.x(step), bottom - height * used / life.life.max(1) as f64)
     };
-    let mut points = vec![(sheet.x(life.from), bottom)];
+    let mut points = vec![(sheet.x(from), bottom)];
     // Only where the line bends.
-    let bends = |step: &u64| *step == life.from || *step == last || job.idles.contains(step) != job.idles.contains(&(step + 1));
-    points.extend((life.from..=last).filter(bends).map(level));
-    points.push((sheet.x(last), bottom));
+    let bends = |step: &u64| *step == from || *step == to || job.idles.contains(step) != job.idles.contains(&(step + 1));
+    points.extend((from..=to).filter(bends).map(level));
+    points.push((sheet.x(to), bottom));
     points
 }

@@ -1,8 +1,7 @@
 //! The sheet: how large it is and where things stand on it.
 
-use crate::naming::Naming;
 use crate::numbers::grouped;
-use crate::texts::{Job, Plan};
+use crate::verdicts::Judged;
 
 /// The width of the calendar itself; the sheet is wider by its margins.
 const CALENDAR: f64 = 1100.0;
@@ -19,8 +18,8 @@ pub const STRIP: f64 = 12.0;
 /// The axis with its numbers, and a line of dates.
 const AXIS: f64 = 34.0;
 const DATES: f64 = 14.0;
-/// Costs and legend.
-const FOOT: f64 = 92.0;
+/// Costs with their bar, and the legend.
+const FOOT: f64 = 118.0;
 /// The width of a digit in a label, and of a date.
 const DIGIT: f64 = 7.2;
 const DATE: f64 = 66.0;
@@ -43,11 +42,14 @@ pub struct Sheet {
     /// How far apart the stops' labels must be, and whether they run upwards.
     pub label: f64,
     pub upwards: bool,
+    /// The step up to which all was done.
+    pub past: u64,
 }
 
 impl Sheet {
     /// The sheet for a plan of a job.
-    pub fn of(job: &Job, plan: &Plan, naming: &Naming) -> Sheet {
+    pub fn of(judged: &Judged) -> Sheet {
+        let Judged { job, plan, naming, .. } = judged;
         let row = match job.parts.len() {
             0..=6 => 58.0,
             7..=10 => 46.0,
@@ -64,9 +66,11 @@ impl Sheet {
         let strip = HEAD + band;
         let top = strip + STRIP + 6.0;
         let bottom = top + row * job.parts.len() as f64;
+        // Lines of dates and of other numbers beneath the axis.
+        let beneath = dated(DATES) + if judged.past.is_some() || naming.whole(0).is_some() { DATES } else { 0.0 };
         Sheet {
             width: left + CALENDAR + right,
-            height: bottom + AXIS + FOOT + dated(DATES),
+            height: bottom + AXIS + FOOT + beneath,
             left,
             right: left + CALENDAR,
             strip,
@@ -74,15 +78,34 @@ impl Sheet {
             bottom,
             row,
             step: CALENDAR / job.end().max(1) as f64,
-            foot: bottom + dated(DATES),
+            foot: bottom + beneath,
             label: if upwards { 13.0 } else { level },
             upwards,
+            past: judged.past.map_or(0, |past| past.step),
         }
     }
 
     /// Where a step stands: a change at it, and the end of the column in which it runs.
     pub fn x(&self, step: u64) -> f64 {
         self.left + step as f64 * self.step
+    }
+
+    /// What stands from a step to another: what was done, and what is to come.
+    pub fn parts_of(&self, from: u64, to: u64) -> Vec<(&'static str, u64, u64)> {
+        match self.past {
+            past if past <= from => vec![("wear", from, to)],
+            past if past >= to => vec![("worn", from, to)],
+            past => vec![("worn", from, past), ("wear", past, to)],
+        }
+    }
+
+    /// A class, with that of what was done where a step is not to come any more.
+    pub fn class(&self, class: &str, step: u64) -> String {
+        if step <= self.past {
+            format!("{class} done")
+        } else {
+            class.to_string()
+        }
     }
 
     /// The top of the row of a part, counted from 1.

@@ -13,12 +13,12 @@ type Row<const Q: usize> = [Plain; Q];
 
 impl Job {
     /// The parts that are somebody's holder, rising.
-    fn holding(&self) -> Vec<usize> {
+    pub(super) fn holding(&self) -> Vec<usize> {
         (0..self.parts.len()).filter(|p| self.parts.iter().any(|part| part.holders.contains(p))).collect()
     }
 
     /// For each part the parts that come out with it, as bits.
-    fn come_out(&self) -> Vec<u32> {
+    pub(super) fn come_out(&self) -> Vec<u32> {
         let bits = |part: &Part| part.holders.iter().fold(0, |bits, holder| bits | 1 << holder);
         let mut out: Vec<u32> = self.parts.iter().enumerate().map(|(p, part)| 1 << p | bits(part)).collect();
         for through in 0..out.len() {
@@ -32,7 +32,7 @@ impl Job {
     }
 
     /// The job with the removal of each part that holds nobody in its prices.
-    fn charged(&self) -> Job {
+    pub(super) fn charged(&self) -> Job {
         let holding = self.holding();
         let mut job = self.clone();
         for (_, part) in job.parts.iter_mut().enumerate().filter(|(p, _)| !holding.contains(p)) {

@@ -148,6 +148,13 @@ pub fn best_plan(job: &Job) -> Option<(u64, Plan)> {
     Some((least.cost?, Plan { stops: plans[0].stops.clone(), changes: changes? }))
 }
 
+/// In how many ways the least cost can be had.
+pub fn least_ways(job: &Job) -> usize {
+    let mut least = Least { job, ways: ways(job), cost: None, found: Vec::new() };
+    least.complete(&mut Vec::new(), 0);
+    least.found.len()
+}
+
 /// The change sets that keep the part at a point: at decided openings only at a stop at which nothing that it needs is decided not removed.
 pub fn open_changes(job: &Job, part: usize, point: &Point) -> Vec<Set> {
     let (holding, chain) = (holding(job), &chains(job)[part]);

@@ -3,7 +3,7 @@
 
 use super::calls::Reply;
 use super::lines::Fault;
-use crate::Form;
+use juzvarola_host::Form;
 
 /// "A call that writes one needs that much output, else 8": 40,960 bytes.
 pub const LEAST_OUTPUT: usize = 40_960;

@@ -4,7 +4,9 @@
 
 mod holders;
 mod lanes;
+mod optimum;
 mod recursive;
+mod shares;
 mod walk;
 
 use holders::walk_held;
@@ -13,6 +15,8 @@ use lanes::{Avx2, Sse2};
 use lanes::{Lanes, Plain};
 use recursive::Recursion;
 use walk::{Form, Loop, Tables, MAX_OPENINGS};
+
+pub use optimum::{Optimum, Search};
 
 /// The facts of a job, for the walk.
 #[derive(Debug, Clone, Default)]

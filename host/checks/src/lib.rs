@@ -1,0 +1,4 @@
+//! What library and program are checked and measured by: an independent reference implementation, and the library's algorithms in Rust to compare speeds with.
+
+pub mod fast;
+pub mod reference;
