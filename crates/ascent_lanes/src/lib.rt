@@ -10,8 +10,7 @@ ghost use Rattle.model.specs.Limits.{most_openings};
 
 use job::Scaled;
 use lane_rows::{INF, LANES, PRICES, REACHES, SUFFIXES, TABLES, row_of, turn};
-use least::MARKS;
-use model::{OPENINGS, PARTS};
+use model::{MARKS, OPENINGS, PARTS};
 
 // The shares: a row of lanes for each thing at each opening. A thing is a stop, or the removal of a part.
 pub const PLACES: usize = (1 + PARTS) * OPENINGS * LANES;

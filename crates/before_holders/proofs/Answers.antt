@@ -9,7 +9,7 @@ use Rattle.lines.specs.Parser.{accepted}
 use Rattle.model.specs.Model.{Job}
 use Rattle.model.specs.Promise.{answer_of}
 use Rattle.model.specs.Verdict.{judged, judged_of, verdict_of_lem}
-use Rattle.model.specs.Count.{open_count}
+use Rattle.longest_walk.specs.Count.{open_count}
 use Rattle.model.proofs.NoHolders.{held_none}
 use Rattle.model.proofs.Unheld.{Plain, plain_unheld, answer_before, cost_before}
 use Rattle.base.specs.Each.{All}

@@ -5,7 +5,7 @@ use Rattle.lines.specs.Parser.{Outcome, accepted, refused}
 use Rattle.model.specs.Model.{Job}
 use Rattle.model.specs.Unheld.{plain_answer, plain_cost}
 use Rattle.model.specs.Verdict.{judged, verdict_of_lem}
-use Rattle.model.specs.Count.{open_count}
+use Rattle.longest_walk.specs.Count.{open_count}
 use Rattle.job_grammar.specs.Grammar as today
 use Rattle.plan_grammar.specs.Grammar.{Stated}
 use Rattle.answers.specs.Said.{Said, refusal}

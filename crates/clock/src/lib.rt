@@ -10,9 +10,9 @@ ghost use Rattle.clock.specs.Placed.{Position, Begins, Flags, Clocks, Placed};
 ghost use Rattle.model.specs.Limits.{last_position, longest_life};
 
 use jobs::Accepted;
-use least::in_reach;
 use model::OPENINGS;
 pub use positions::Positions;
+use reach::in_reach;
 
 // The steps from 0 to the one after the longest horizon.
 const STEPS: usize = 367;

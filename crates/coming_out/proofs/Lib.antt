@@ -2,7 +2,5 @@
 pub mod Some
 pub mod Rows
 pub mod Rounds
-pub mod Places
-pub mod Held
 pub mod Listed
 pub mod Said

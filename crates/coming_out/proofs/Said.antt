@@ -18,8 +18,7 @@ use Rattle.jobs.specs.declared.Job.{Job}
 use Rattle.jobs.specs.Views.{blank_part_lem, part_of_lem, job_of}
 use Rattle.base.proofs.Lists.{map_at}
 use Rattle.jobs.proofs.Jobs.{part_count, part_at_lem}
-use Rattle.coming_out.specs.Rows.{place, Row, Rows, HeldBy}
-use Rattle.coming_out.specs.Places.{Removals}
+use Rattle.coming_out.specs.Rows.{place, Row, Rows, HeldBy, Removals}
 use Rattle.coming_out.proofs.Listed.{numbers_listed}
 
 -- the marks of the holders of the part at place q, and its removal

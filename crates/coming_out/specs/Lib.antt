@@ -1,3 +1,2 @@
--- Rows and matrices of sixteen parts (Rows), and the places of a set (Places).
+-- Rows and matrices of sixteen parts (Rows).
 pub mod Rows
-pub mod Places

@@ -1,7 +1,7 @@
 -- Sets of parts as the code holds them: a row of sixteen places, and a matrix of sixteen rows one after the other. And which parts stand in the rows of a set.
-use Rattle.std.specs.Prelude.{◌≡◌, Bool, false, ◌||◌, ◌&&◌, List, ℕ, zero, suc, ◌+◌, ◌*◌, ◌<◌, length, get_or}
+use Rattle.std.specs.Prelude.{◌≡◌, Bool, false, ◌||◌, ◌&&◌, List, map, ℕ, zero, suc, ◌+◌, ◌*◌, ◌<◌, length, get_or}
 use Rattle.model.specs.Limits.{most_parts}
-use Rattle.model.specs.Model.{Job, listed, table, holders_at}
+use Rattle.model.specs.Model.{Job, listed, table, holders_at, removal_of_lem}
 
 -- the places of a matrix
 abbrev pub most_places : ℕ
@@ -38,3 +38,7 @@ reached m matrix set j = some m (λ i. get_or set i false && get_or matrix (plac
 -- the parts of `own`, and those that stand in the row of one of a set
 abbrev pub union : ℕ → List Bool → List Bool → List Bool → List Bool
 union m matrix own set = table (λ j. get_or own j false || reached m matrix set j) m
+
+-- the removals of a job's parts, 0 behind them
+abbrev pub Removals : Job → List ℕ → Type 0
+Removals job removals = Row 0 (map removal_of_lem job.parts) removals

@@ -5,8 +5,7 @@ ghost use Rattle.part_records.specs.Records.{record_at};
 ghost use Rattle.base.specs.Chosen.{numbers_of_lem};
 ghost use Rattle.model.specs.Model.{has_holder_lem};
 ghost use Rattle.jobs.specs.Views.{job_of};
-ghost use Rattle.coming_out.specs.Rows.{HeldBy};
-ghost use Rattle.coming_out.specs.Places.{Removals};
+ghost use Rattle.coming_out.specs.Rows.{HeldBy, Removals};
 
 use crate::fill::{matrix_of, row_of};
 use jobs::Job;

@@ -9,7 +9,7 @@ use lib.Seq.{drop-cons}
 use Rattle.model.specs.Model.{Part}
 use Rattle.model.specs.Verdict.{no_part}
 use Rattle.model.specs.Limits.{longest_life}
-use Rattle.model.specs.Count.{least_among}
+use Rattle.longest_walk.specs.Count.{least_among}
 use Rattle.jobs.specs.declared.Part as code
 use Rattle.jobs.specs.Views.{part_of_lem}
 

@@ -9,7 +9,7 @@ use lib.Seq.{get_or-take}
 use lib.IntN.{ℤ, pos, ◌-ℤ◌}
 use Rattle.model.specs.Model as model
 use Rattle.model.specs.Limits.{longest_life}
-use Rattle.model.proofs.Entries.{Brief}
+use Rattle.longest_walk.proofs.Entries.{Brief}
 use Rattle.jobs.specs.declared.Job.{Job}
 use Rattle.jobs.specs.Views.{job_of}
 use Rattle.base.specs.Each.{All}
@@ -19,7 +19,7 @@ use Rattle.clock.specs.Placed.{Placed}
 use Rattle.clock.specs.declared.positions.Positions.{Positions}
 use Rattle.clock.proofs.Ranges.{position_small, begins_first, before_small}
 use Rattle.clock.proofs.Places.{place_count}
-use Rattle.least.specs.Marks.{mark_of}
+use Rattle.model.specs.LastYes.{mark_in}
 use Rattle.base.specs.Signed.{Bits31}
 
 module _ (j : Job) (p : Positions) (placed : Placed (job_of j) p) where
@@ -31,7 +31,7 @@ module _ (j : Job) (p : Positions) (placed : Placed (job_of j) p) where
   late_job = omega (arith, position_small p.end placed.end_range)
 
   -- its marks are small, for any life and first life in range
-  pub small_job : (life left : ℕ) → life ≤ longest_life → left ≤ longest_life → (k : ℕ) → Bits31 (mark_of (pos left -ℤ pos life) ss k)
+  pub small_job : (life left : ℕ) → life ≤ longest_life → left ≤ longest_life → (k : ℕ) → Bits31 (mark_in (pos left -ℤ pos life) ss k)
   small_job life left h g = marks
     where
       by : (i : ℕ) → Dec (i < j.opening_count) → Bits31 (get_or ss i (pos 0))
@@ -40,7 +40,7 @@ module _ (j : Job) (p : Positions) (placed : Placed (job_of j) p) where
           subst Bits31 (sym (get_or-take j.opening_count p.at i (pos 0) l)) (omega (arith, small))
       by i (no l) = subst Bits31 (sym (get_or-eq_default ss (pos 0) {n = i} (omega (arith, l, place_count j p placed)))) (omega arith)
 
-      marks : (k : ℕ) → Bits31 (mark_of (pos left -ℤ pos life) ss k)
+      marks : (k : ℕ) → Bits31 (mark_in (pos left -ℤ pos life) ss k)
       marks zero = omega (arith, before_small life (pos left -ℤ pos life) h (begins_first life left g))
       marks (suc i) = by i (dec_lt i j.opening_count)
 

@@ -13,9 +13,9 @@ use Rattle.model.specs.Model.{Part, Job, has_holder_lem, HasPlan}
 use Rattle.model.specs.Limits.{most_walk, most_count}
 use Rattle.model.specs.Promise.{nodes_of, result_of, whole_count, answer_of}
 use Rattle.model.specs.Ordered.{Lefts, Ordered}
-use Rattle.model.specs.Longest.{longest, JobCountPromise}
-use Rattle.model.specs.Count.{open_count}
-use Rattle.model.proofs.Counted.{nodes_most, count_promise}
+use Rattle.longest_walk.specs.Longest.{longest, JobCountPromise}
+use Rattle.longest_walk.specs.Count.{open_count}
+use Rattle.longest_walk.proofs.Counted.{nodes_most, count_promise}
 use Rattle.model.proofs.NoHolders.{none_held}
 use Rattle.base.specs.Each.{All}
 use Rattle.jobs.specs.Valid.{ValidPart, ValidJob}

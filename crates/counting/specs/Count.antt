@@ -3,7 +3,7 @@ use Rattle.std.specs.Prelude.{ℕ, cond, List}
 use Rattle.lines.specs.Parser.{Outcome, accepted, refused}
 use Rattle.fault_lines.specs.Fault.{fault_span_lem}
 use Rattle.model.specs.Model.{Job, has_holder_lem}
-use Rattle.model.specs.Count.{open_count}
+use Rattle.longest_walk.specs.Count.{open_count}
 use Rattle.job_grammar.specs.Grammar.{Given, read_job_lem}
 use Rattle.counting.specs.declared.Counted.{Counted}
 

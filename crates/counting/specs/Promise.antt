@@ -5,7 +5,7 @@ use Rattle.fault_lines.specs.Fault.{fault_line_lem, Cuts}
 use Rattle.model.specs.Model.{has_holder_lem, HasPlan}
 use Rattle.model.specs.Limits.{most_walk, most_count}
 use Rattle.model.specs.Promise.{nodes_of, result_of, whole_count, answer_of}
-use Rattle.model.specs.Longest.{longest}
+use Rattle.longest_walk.specs.Longest.{longest}
 use Rattle.job_grammar.specs.Grammar.{read_job_lem}
 use Rattle.job_grammar.specs.Reading.{Reading, job_in}
 use Rattle.counting.specs.declared.Counted.{Counted}

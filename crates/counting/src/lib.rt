@@ -1,10 +1,8 @@
 // How long a walk may become, without walking: the nodes of the walk that drops a node only if its bound is missing.
 #![tactic(auto)]
 
-mod gaps;
-
-ghost use Rattle.std.specs.Prelude.{◌≡◌, ◌≤◌};
-ghost use Rattle.model.specs.Count.{open_count, least_life, least_left};
+ghost use Rattle.std.specs.Prelude.{◌≡◌};
+ghost use Rattle.longest_walk.specs.Count.{open_count, least_life, least_left};
 ghost use Rattle.jobs.specs.Views.{job_of};
 ghost use Rattle.counting.specs.Count.{plain_lem, counted_job_lem, count_said};
 ghost use Rattle.counting.specs.Promise.{CountPromise};
@@ -12,15 +10,12 @@ ghost use Rattle.counting.specs.Promise.{CountPromise};
 use clock::positions_of;
 use coming_out::records::has_holder;
 use fault_lines::fault::fault_span;
-use gaps::PartGaps;
 use job_text::whole::read_job;
 use jobs::{Accepted, Part};
-use least::last_change;
 use lines::fault::FaultKind;
+use node_counts::PartGaps;
 use part_records::{left_of, life_of};
-
-// The highest number of nodes that is told: it stands for that many or more.
-pub const CAP: u64 = 4000000000;
+use reach::last_change;
 
 // What the call hands over: the result number; which text is at fault (1 the job, else 0) and its line (else 0); the count;
 // and where the line at fault stands in its text.

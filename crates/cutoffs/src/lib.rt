@@ -17,7 +17,7 @@ ghost use Rattle.cutoffs.specs.Risen.{RisenRight};
 
 use found::{Over, Undercut};
 use lane_rows::{INF, STACK, TABLES, base_row};
-use least::MARKS;
+use model::MARKS;
 use share_rows::SHARES;
 use share_walk::{NAMES, State, solve};
 

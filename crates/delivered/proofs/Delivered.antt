@@ -7,8 +7,8 @@ use Rattle.model.proofs.Unique.{only}
 use Rattle.model.proofs.Verdicts.{judge_only}
 use Rattle.model.proofs.Dues.{due_step}
 use Rattle.model.proofs.Closure.{chained}
-use Rattle.model.proofs.Dismounting.{out_dismounts, out_least, cost_least}
-use Rattle.model.proofs.Tables.{judge_4100, judge_5180, judge_11690}
+use Rattle.published.proofs.Dismounting.{out_dismounts, out_least, cost_least}
+use Rattle.published.proofs.Tables.{judge_4100, judge_5180, judge_11690}
 use Rattle.model.specs.Model.{fee_of}
 use Rattle.model.specs.Verdict.{changes_at}
 use Rattle.model.specs.Due.{late_part}
@@ -18,7 +18,7 @@ use Rattle.job_grammar.specs.Rendering.{job_text_lem}
 use Rattle.bands.proofs.Monotone.{cost_band}
 use Rattle.job_grammar.specs.Grammar.{meant}
 use Rattle.job_grammar.proofs.Accepted.{valid, valid_text}
-use Rattle.job_grammar.proofs.Published.{text_published, text_published_running}
+use Rattle.delivered.proofs.Published.{text_published, text_published_running}
 use Rattle.job_grammar.proofs.Complete.{read_back, accepted_exactly}
 use Rattle.job_grammar.proofs.Lengths.{text_short}
 use Rattle.job_grammar.proofs.Longest.{longest_text, reached, longest_valid}

@@ -5,10 +5,10 @@ use mathlib.Core.List.{List, ◌++◌}
 use mathlib.Core.Logic.{◌↔◌}
 use native.Mathlib.Omega.{arith}
 use Rattle.model.specs.Model.{Plan, HasPlan}
-use Rattle.model.specs.Published.{PublishedRunning, Tied}
+use Rattle.published.specs.Published.{PublishedRunning, Tied}
 use Rattle.model.specs.Promise.{PlannerAnswer, no_plan_lem2, cut_none, cut, optimum, Promise}
 use Rattle.job_grammar.specs.Reading.{Reading, job_in}
-use Rattle.job_grammar.proofs.Published.{text_published_running}
+use Rattle.delivered.proofs.Published.{text_published_running}
 use Rattle.answers.specs.Said.{Said, lent}
 use Rattle.judging.specs.Judge.{judge_said, judge_room}
 use Rattle.judging.specs.Promise as judging

@@ -1,4 +1,5 @@
--- A part that outlives the horizon (Outlives), when the estimate is missing (Missing), circles of holders (Circles), halls that mean the same (Halls), the demands in the published terms (Demands), and the record (Delivered).
+-- Accepted jobs in the published terms (Published), a part that outlives the horizon (Outlives), when the estimate is missing (Missing), circles of holders (Circles), halls that mean the same (Halls), the demands in the published terms (Demands), and the record (Delivered).
+pub mod Published
 pub mod Outlives
 pub mod Missing
 pub mod Circles

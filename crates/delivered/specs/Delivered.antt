@@ -13,9 +13,9 @@ use Rattle.model.specs.Earlier.{old_tree, old_answer}
 use Rattle.model.specs.Promise.{PlannerAnswer, optimum, whole_count, answer_of, Promise}
 use Rattle.model.specs.Verdict.{Judgement, accepts, judged_of, JudgementPromise, part_at, LowestUnkept, Shaped}
 use Rattle.model.specs.Due.{late_part, change_before}
-use Rattle.model.specs.Dismounting.{Dismounts}
-use Rattle.model.specs.Published.{Published, PublishedRunning, Tied}
-use Rattle.model.specs.Tables.{table1, table2, table3, table4}
+use Rattle.published.specs.Dismounting.{Dismounts}
+use Rattle.published.specs.Published.{Published, PublishedRunning, Tied}
+use Rattle.published.specs.Tables.{table1, table2, table3, table4}
 use Rattle.bands.specs.Bands.{CostBand}
 use Rattle.base.specs.Each.{All}
 use Rattle.price_rules.specs.Rule.{Rule, rule_price, stated_price}

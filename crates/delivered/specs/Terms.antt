@@ -5,7 +5,7 @@ use Rattle.model.specs.Model.{Job, Plan}
 use Rattle.model.specs.Decisions.{Held, held_parts}
 use Rattle.model.specs.LowerBound.{places_at}
 use Rattle.model.specs.Estimate.{KeepsOver}
-use Rattle.model.specs.Published.{PublishedRunning, objective}
+use Rattle.published.specs.Published.{PublishedRunning, objective}
 use Rattle.plan_grammar.specs.Grammar.{read_plan_lem}
 use Rattle.answers.specs.Said.{Said}
 use Rattle.judging.specs.Promise as judging

@@ -11,8 +11,8 @@ use Rattle.line_writing.proofs.Putting.{none, then, same, room_same, room_front,
 use Rattle.part_lines.specs.Grammar.{PartText}
 use Rattle.form_facts.specs.Facts.{PartLists, grouped, parts_of, PartsAgree}
 use Rattle.part_writing.specs.Cut.{part_cut_lem}
-use Rattle.form_writing.specs.Fronts.{first_part, behind_first}
-use Rattle.form_writing.proofs.Places.{parts_next, agree_next}
+use Rattle.first_parts.specs.Fronts.{first_part, behind_first}
+use Rattle.first_parts.proofs.Places.{parts_next, agree_next}
 
 -- parts of the lists x are put, from o on, up to p, and y are the lists of the others
 pub record Putting (n : ℕ) (x : PartLists) (o : Out) (y : PartLists) (p : Out) : Type 0 where

@@ -8,15 +8,15 @@ ghost use Rattle.part_writing.specs.Cut.{part_cut_lem};
 ghost use Rattle.form_writing.specs.Cut.{parts_cut};
 ghost use Rattle.model.specs.Limits.{most_openings};
 
-use crate::first::{behind_first, part_first};
 use crate::lists::put_count;
+use first_parts::{behind_first, part_first};
 use form_facts::lists::FormParts;
 use jobs::Job;
 use line_writing::output::Out;
 use part_writing::put_part;
 
 // Puts the lines of the parts, whose lists agree.
-// Kept with `PartsAgree` as a condition, as in `first`: the caller asks whether the lists agree once, and a type that carries the answer would be made and taken apart for each part.
+// Kept with `PartsAgree` as a condition, and with the limit of n, as in `first_parts`: the caller asks whether the lists agree once, and a type that carries the answer would be made and taken apart for each part.
 fn put_parts(out: &mut Out, parts: &FormParts, n: usize)
     requires n_le_most_openings { (n ≤ most_openings) × PartsAgree n (lists_of parts.now) }
     requires prices_in_bounds { Room out.old (texts part_cut_lem (parts_of n (lists_of parts.now))) }

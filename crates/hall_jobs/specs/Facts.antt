@@ -3,18 +3,14 @@ use Prim.Native.Nat.{ℕ}
 use mathlib.Core.List.{List, [], ◌∷◌}
 use Rattle.std.proofs.Props.{props}
 use Rattle.model.specs.Model.{Job}
-use Rattle.model.specs.Windows.{Rising, steps_of}
+use Rattle.model.specs.Windows.{steps_of}
+use Rattle.jobs.specs.Facts.{rising_fact}
 use Rattle.hall_model.specs.Hall.{Hall, horizon_of, idles_of, Alike, AllAlike, Proper}
 use Rattle.hall_model.specs.Limits.{Fits}
 
 -- that a hall is within its limits
 pub fits_fact : (hall : Hall) → IsProp (Fits hall)
 fits_fact hall = Prim.hlevel props
-
--- that steps rise: `jobs` keeps its own proof to itself
-rising_fact : (from T : ℕ) (ss : List ℕ) → IsProp (Rising from T ss)
-rising_fact from T [] = Prim.hlevel props
-rising_fact from T (s ∷ ss) = Prim.hlevel (props, rising_fact s T ss)
 
 -- that a line is like the first
 alike_fact : (horizon : ℕ) (idles : List ℕ) (job : Job) → IsProp (Alike horizon idles job)

@@ -11,14 +11,14 @@ use Rattle.branch.specs.Planning.{no_plan_lem2, cut_none, cut, optimum}
 use Rattle.model.specs.Model.{Job, Plan, listed, running, clock, within, table, holds_one, rounds, comes_out, holding, out_by, select, sum_at, sum}
 use Rattle.model.specs.Decisions.{held_from, accessible, concat}
 use Rattle.model.specs.LowerBound.{least_of_lem, choice_of, offers, blocks, stop_cost, undecided_fees, bound_of}
-use Rattle.model.specs.Published.{at_step}
+use Rattle.model.specs.Windows.{at_step}
 use Rattle.hall_model.specs.Hall.{Hall, Proper, hall_cost}
 use Rattle.hall_model.specs.Limits.{Fits}
 use Rattle.hall_model.specs.Agenda.{hear_then, removals, lines_asked, steps_asked, open_steps, lines_from, lines_of, name_for}
 use Rattle.hall_model.specs.Decisions.{hall_decisions}
 use Rattle.hall_model.specs.LowerBound.{hall_bound}
 use Rattle.hall_model.specs.Promise.{hall_answer, HallPromise}
-use Rattle.model.proofs.Cases.{job_with, printed, twice}
+use Rattle.model.proofs.Worked.{job_with, printed, twice}
 use Rattle.hall_model.proofs.Promised.{promise}
 
 -- 01's job

@@ -9,12 +9,11 @@ use lib.ListN.{length, get_or, drop}
 use lib.Dec.{eqb}
 use borrow.Author.Tests.{eqb-true, eqb-false, ne_eqb}
 use Rattle.model.specs.Model.{Job, listed, sum, Each}
-use Rattle.model.specs.Windows.{Rising}
+use Rattle.model.specs.Windows.{Rising, at_step}
 use Rattle.model.specs.Decisions.{concat}
 use Rattle.model.specs.LowerBound.{inner}
 use Rattle.base.proofs.Bools.{or_split, or_right}
 use Rattle.model.proofs.Blocks.{Whole, Wholes}
-use Rattle.model.specs.Published.{at_step}
 use Rattle.hall_model.specs.Hall.{Placed, open_at, sum_of}
 use Rattle.hall_model.specs.Agenda.{some_open, open_steps}
 use Rattle.hall_model.proofs.Turns.{Cell, cell_at, Turn, Turns, column}

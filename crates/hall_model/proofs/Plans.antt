@@ -9,8 +9,7 @@ use lib.Dec.{eqb}
 use Rattle.branch.specs.declared.Bound.TheVariants.{Sum}
 use Rattle.branch.specs.Lower.{total}
 use Rattle.model.specs.Model.{Opening, Job, Plan, listed, sum, Each, KeepsLives}
-use Rattle.model.specs.Windows.{Rising, steps_of}
-use Rattle.model.specs.Published.{at_step}
+use Rattle.model.specs.Windows.{Rising, steps_of, at_step}
 use Rattle.model.specs.Decisions.{block_of, plan_blocks, concat, decisions_of}
 use Rattle.model.specs.LowerBound.{inner, bound_of}
 use Rattle.base.proofs.Bools.{or_split, or_left, or_right}

@@ -1,8 +1,7 @@
 -- What a hall plan decides, in the walk's order: ties compare calls, stops and removals in it, as E7.8 has it for one line.
 use Rattle.std.specs.Prelude.{Bool, true, false, cond, List, [], ◌∷◌, map, ℕ}
 use Rattle.model.specs.Model.{Job, Plan}
-use Rattle.model.specs.Windows.{steps_of}
-use Rattle.model.specs.Published.{at_step}
+use Rattle.model.specs.Windows.{steps_of, at_step}
 use Rattle.model.specs.Decisions.{plan_blocks, concat}
 use Rattle.hall_model.specs.Hall.{Hall, some_stops}
 use Rattle.hall_model.specs.Agenda.{crew_steps}

@@ -2,8 +2,9 @@
 ghost use Rattle.jobs.specs.Views.{job_of};
 ghost use Rattle.held_job.specs.Removed.{HolderNumbersOf};
 
+use coming_out::come_out;
 use coming_out::records::{holders_of, removals_of};
-use coming_out::{charges, come_out, holding_of, inner_removals, needs};
+use holding_parts::{charges, holding_of, inner_removals, needs};
 use jobs::Job;
 use model::{PAIRS, PARTS};
 

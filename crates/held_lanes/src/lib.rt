@@ -12,8 +12,7 @@ ghost use Rattle.held_lanes.specs.Places.{mask_of, most_to, need_count_place, ne
 ghost use Rattle.held_lanes.specs.Tables.{SpreadAsks, PickAsks, ShutAsks, shut_lane, StopAsks, shut_row, ClassAsks, TermAsks, term_of, NoteAsks, noted};
 
 use lane_rows::{BLOCK_ROWS, FOURS, INF, LANES, STACK, TABLES, row_of, store_row, total, turn};
-use least::MARKS;
-use model::{OPENINGS, PARTS};
+use model::{MARKS, OPENINGS, PARTS};
 
 // The sets that four lanes have.
 pub const FOUR_SETS: usize = 16;

@@ -8,7 +8,8 @@ use lib.ListN.{length, get_or, set, length-set}
 use lib.Seq.{get_or-set_other}
 use Rattle.base.specs.Filled.{FilledBy}
 use Rattle.model.specs.Decisions.{concat}
-use Rattle.lane_rows.specs.Layout.{lane_count_lem, reach_base, price_place, lanes_in}
+use Rattle.model.specs.Limits.{most_openings}
+use Rattle.lane_rows.specs.Layout.{lane_count_lem, mark_count, reach_base, price_place, lanes_in}
 use Rattle.lane_rows.specs.Rows.{Kept, Memo, Recalled}
 use Rattle.lane_rows.proofs.Memory.{lane_kept, recalled_none, recalled_then}
 use Rattle.held_rows.specs.Held.{HeldSheet, plain, held}
@@ -52,7 +53,7 @@ pended_kept t w w' v v' j n h k e p q l =
     e q g ∙ p q l ∙ ap (λ (x : ℕ). x + get_or t (price_place j q) 0) (sym (lane_kept t w w' reach_base j q n n k g (omega arith)))
 
 -- a row that is noted as not ready
-pub ready_frame : (t w v : List ℕ) (n k : ℕ) → Memo t w n → n ≤ 64 → k ≤ 64 → Frame t w w v (set v (ready_place n) 0) n k
+pub ready_frame : (t w v : List ℕ) (n k : ℕ) → Memo t w n → n ≤ most_openings → k ≤ most_openings → Frame t w w v (set v (ready_place n) 0) n k
 ready_frame t w v n k m h g =
     record {
       recalled = recalled_none t w n m;
@@ -66,7 +67,7 @@ ready_frame t w v n k m h g =
     }
 
 -- the removals that are kept as the incumbent's
-pub keep_frame : (t w v v' : List ℕ) (n k : ℕ) (f : ℕ → ℕ) → Memo t w n → n ≤ 65 → k ≤ 64 → FilledBy best_place f 64 v v' → Frame t w w v v' n k
+pub keep_frame : (t w v v' : List ℕ) (n k : ℕ) (f : ℕ → ℕ) → Memo t w n → n ≤ mark_count → k ≤ most_openings → FilledBy best_place f most_openings v v' → Frame t w w v v' n k
 keep_frame t w v v' n k f m h g e =
     record {
       recalled = recalled_none t w n m;

@@ -18,6 +18,7 @@ use Rattle.model.specs.LastYes.{last_yes}
 use Rattle.model.proofs.Blocks.{accessible_none}
 use Rattle.model.proofs.LastYes.{last_no}
 use Rattle.base.specs.Filled.{FilledBy}
+use Rattle.model.specs.Limits.{most_openings}
 use Rattle.lane_rows.specs.Layout.{lane_count_lem, top, inf, suffix_base, fee_place, lanes_in}
 use Rattle.lane_rows.specs.Tables.{sum_where}
 use Rattle.lane_rows.specs.Rows.{lane, sum_lanes, Looks}
@@ -71,7 +72,7 @@ module _ {sheet : HeldSheet} {ds : List (List Bool)} {t u w v : List ℕ} {p : N
   full_fits = omega (arith, a.low, a.poor, a.inside, a.tables.few, (a.opening o).next, a.holders.parts)
 
   -- with its cost, stops and removals kept as the best, a full node makes the state that the search has after it
-  pub full_kept : (v' : List ℕ) (L : ℕ) (s : Search) → p.at ≡ length sheet.positions → FilledBy best_place (λ (i : ℕ). get_or v (removed_place i) 0) 64 v v'
+  pub full_kept : (v' : List ℕ) (L : ℕ) (s : Search) → p.at ≡ length sheet.positions → FilledBy best_place (λ (i : ℕ). get_or v (removed_place i) 0) most_openings v v'
       → view L sheet v' (kept_s s (p.spent + x) p.mask) ≡ onward L (tree_at sheet p ds) (concat ds) (view L sheet v s)
   full_kept v' L s e f =
       let h = held sheet in
@@ -86,7 +87,7 @@ module _ {sheet : HeldSheet} {ds : List (List Bool)} {t u w v : List ℕ} {p : N
       ∙ sym (ap₂ (λ (k m : ℕ). onward L (left_at (held_bound sheet) h k m (concat ds)) (concat ds) st) left end ∙ on_full (held_bound sheet) L h (concat ds) st)
 
   -- a full node whose removals are kept as the incumbent's is walked, and nothing that was written moves
-  pub full_walked : (v' : List ℕ) (L : ℕ) (s : Search) → p.at ≡ length sheet.positions → FilledBy best_place (λ (i : ℕ). get_or v (removed_place i) 0) 64 v v' → HeldWalked sheet ds t w w v v' L p s (kept_s s (p.spent + x) p.mask)
+  pub full_walked : (v' : List ℕ) (L : ℕ) (s : Search) → p.at ≡ length sheet.positions → FilledBy best_place (λ (i : ℕ). get_or v (removed_place i) 0) most_openings v v' → HeldWalked sheet ds t w w v v' L p s (kept_s s (p.spent + x) p.mask)
   full_walked v' L s e f =
       record {
         search = full_kept v' L s e f;

@@ -6,6 +6,7 @@ use mathlib.Core.List.{List, [], ◌∷◌, ◌++◌}
 use native.Mathlib.Omega.{arith}
 use native.Mathlib.Nat.{pow-le-pow_right}
 use lib.ListN.{length, length-append}
+use Rattle.model.specs.Limits.{most_openings}
 use Rattle.lane_rows.specs.Layout.{lanes_in}
 use Rattle.lane_rows.specs.Rows.{Put}
 use Rattle.lane_rows.proofs.Lanes.{kept_then}
@@ -55,7 +56,7 @@ module _ {sheet : HeldSheet} {ds : List (List Bool)} {t u w v : List ℕ} {p : N
       )
 
   module _ {w' v' : List ℕ} (put : StopPut t w w' p.at p.rows p.shut) (nt : StopNoted t u w v v' p.at p.rows p.shut p.removed) where
-    few : (0 < p.rows) × (p.rows ≤ 64) × (p.at ≤ 64)
+    few : (0 < p.rows) × (p.rows ≤ most_openings) × (p.at ≤ most_openings)
     few = let r = rows_few a.tables a.holders s.before in (r.0, omega (arith, r.1, s.later, a.inside, a.tables.few), omega (arith, a.inside, a.tables.few))
 
     -- the rows and marks below stay
@@ -72,7 +73,7 @@ module _ {sheet : HeldSheet} {ds : List (List Bool)} {t u w v : List ℕ} {p : N
         }
 
     -- and the incumbent's removals
-    settle_best : (i : ℕ) → i < 64 → best_in v' i ≡ best_in v i
+    settle_best : (i : ℕ) → i < most_openings → best_in v' i ≡ best_in v i
     settle_best i l = let f = few in nt.rest (best_place i) (λ d k e. omega (arith, e, f)) (λ q k e. omega (arith, e, f)) (λ e. omega (arith, e, f)) (λ e. omega (arith, e, f))
 
     settle_frame : Frame t w w' v v' p.rows at

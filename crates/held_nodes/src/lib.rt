@@ -2,12 +2,13 @@
 // Kept as parameters side by side in settle, no_sums and stay_sums: of the tables, the stack and what goes with it each reads some and writes others; and the numbers are the fees and rows of a node with the opening and the term of the one below it, so that neither node holds them all.
 #![tactic(auto)]
 
-ghost use Rattle.std.specs.Prelude.{◌≡◌, true, false, ℕ, ◌+◌, ◌-◌, ◌*◌, ◌^◌, ◌<◌, ◌≤◌, length, get_or};
+ghost use Rattle.std.specs.Prelude.{◌≡◌, true, ℕ, ◌+◌, ◌*◌, ◌^◌, ◌<◌, ◌≤◌, get_or};
 ghost use Rattle.base.specs.Filled.{FilledBy};
+ghost use Rattle.model.specs.Limits.{most_openings, most_parts};
 ghost use Rattle.lane_rows.specs.Layout.{lane_count_lem, inf, suffix_base, lanes_in};
 ghost use Rattle.lane_rows.specs.Tables.{sum_where};
 ghost use Rattle.lane_rows.specs.Rows.{lane, sum_lanes, Looks, Recalled};
-ghost use Rattle.held_lanes.specs.Places.{removed_place, best_place, aside_size};
+ghost use Rattle.held_lanes.specs.Places.{removed_place, best_place};
 ghost use Rattle.held_stops.specs.Stops.{stop_lane, LooksAtStop, SettleAsks};
 ghost use Rattle.search_state.specs.State.{open_s};
 ghost use Rattle.held_nodes.specs.State.{no_n, yes_n, stays_n, out_n, NodeSettled};
@@ -39,7 +40,7 @@ impl Node {
     // The node below: no stop at the next opening.
     // Kept with the places in the clauses, here and below: a node at the last one has no such branch, and is a node too.
     pub fn no(self, rows: usize) -> Node
-        requires { (self.at < 64) × (self.mask * 2 < 2 ^ 64) }
+        requires { (self.at < most_openings) × (self.mask * 2 < 2 ^ 64) }
         ensures { result ≡ no_n self rows }
     {
         Node {
@@ -55,7 +56,7 @@ impl Node {
 
     // The node below: stop at the next opening.
     pub fn yes(self, rows: usize, spent: u64) -> Node
-        requires { (self.at < 64) × (self.mask * 2 + 1 < 2 ^ 64) }
+        requires { (self.at < most_openings) × (self.mask * 2 + 1 < 2 ^ 64) }
         ensures { result ≡ yes_n self rows spent }
     {
         Node {
@@ -72,7 +73,7 @@ impl Node {
 
     // The node below: the next holding part is not removed, which leaves the stop shut to the lanes of the set.
     pub fn stays(self, set: usize) -> Node
-        requires { (self.next < 16) × (self.removed * 2 < 2 ^ 64) }
+        requires { (self.next < most_parts) × (self.removed * 2 < 2 ^ 64) }
         ensures { result ≡ stays_n self set }
     {
         Node {
@@ -86,7 +87,7 @@ impl Node {
 
     // The node below: the next holding part is removed.
     pub fn out(self, spent: u64) -> Node
-        requires { (self.next < 16) × (self.removed * 2 + 1 < 2 ^ 64) }
+        requires { (self.next < most_parts) × (self.removed * 2 + 1 < 2 ^ 64) }
         ensures { result ≡ out_n self spent }
     {
         Node {
@@ -101,7 +102,7 @@ impl Node {
 
 // The removals of a full node are kept.
 pub fn keep(v: &mut [u32; ASIDE])
-    ensures { FilledBy best_place (λ (i : ℕ). get_or v.old (removed_place i) 0) 64 v.old v.new }
+    ensures { FilledBy best_place (λ (i : ℕ). get_or v.old (removed_place i) 0) most_openings v.old v.new }
 {
     v.copy_within(REMOVED..REMOVED + OPENINGS, BEST);
 }

@@ -18,10 +18,9 @@ use Rattle.branch.specs.Search.{snoc, NoMore}
 use Rattle.branch.proofs.Lower.{larger_assoc, larger_comm}
 use Rattle.model.specs.Decisions.{accessible}
 use Rattle.model.specs.LowerBound.{least_of_lem, offers, undecided_fees}
-use Rattle.model.specs.LastYes.{last_yes, Climbs}
+use Rattle.model.specs.LastYes.{last_yes, Climbs, mark_in}
 use Rattle.model.proofs.LastYes.{last_yes_lem, last_alone, later_least}
 use Rattle.base.proofs.Integers.{AtMostℤ, at_most}
-use Rattle.least.specs.Marks.{mark_of}
 use Rattle.lane_rows.specs.Sheet.{Column, Sheet, column_bound, column_fee}
 use Rattle.lane_rows.specs.Tables.{fee_from}
 use Rattle.lane_rows.proofs.Front.{column_yes}
@@ -57,7 +56,7 @@ fee_yes sheet col climbs p n e l =
     fee_here sheet col climbs (snoc p true) n (sym (column_yes sheet col p) ∙ e) (omega (arith, z)) ∙ ap₂ (λ (j i : ℕ). fee_from sheet j i col []) z (last_yes_lem p ∙ y)
 
 -- the later the mark, the less is left to pay
-mark_rises : (end first : ℤ) (ss : List ℤ) → Climbs end first ss → (i k : ℕ) → i ≤ k → k ≤ length ss → AtMostℤ (mark_of first ss i) (mark_of first ss k)
+mark_rises : (end first : ℤ) (ss : List ℤ) → Climbs end first ss → (i k : ℕ) → i ≤ k → k ≤ length ss → AtMostℤ (mark_in first ss i) (mark_in first ss k)
 mark_rises end first ss c zero zero h l = omega arith
 mark_rises end first ss c (suc i) zero h l = absurd (omega arith)
 mark_rises end first [] c i (suc k) h l = absurd (omega arith)
@@ -67,7 +66,7 @@ mark_rises end first (s ∷ ss) c (suc i) (suc k) h l = mark_rises end s ss c.1 
 -- the later a part's last mark, the less is its least fee
 pub fee_falls : (sheet : Sheet) (col : Column) → Climbs sheet.end col.first sheet.positions → (j i k : ℕ) → i ≤ k → k ≤ length sheet.positions → NoMore (fee_from sheet j k col []) (fee_from sheet j i col [])
 fee_falls sheet col c j i k h l =
-    later_least col.life sheet.end (mark_of col.first sheet.positions i) (mark_of col.first sheet.positions k) (drop j (offers sheet.positions sheet.fees []))
+    later_least col.life sheet.end (mark_in col.first sheet.positions i) (mark_in col.first sheet.positions k) (drop j (offers sheet.positions sheet.fees []))
     (mark_rises sheet.end col.first sheet.positions c i k h l)
 
 -- ---- the largest of several

@@ -17,7 +17,7 @@ use lane_rows::{
     FOURS, INF, KNOWN, LANES, MEMO, ROW_MARKS, STACK, TABLES, forget, look_by_fours, next_lanes,
     row_of, store_row,
 };
-use least::MARKS;
+use model::MARKS;
 
 // The memo of the first rows is known at level j.
 fn recall(t: &[u32; TABLES], w: &mut [u32; STACK], rows: usize, j: usize)

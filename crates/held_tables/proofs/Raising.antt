@@ -14,7 +14,7 @@ use Rattle.branch.specs.declared.Bound.TheVariants.{Sum}
 use Rattle.branch.specs.Lower.{larger, largest}
 use Rattle.branch.proofs.Lower.{largest_snoc}
 use Rattle.base.specs.Filled.{FilledBy}
-use Rattle.least.specs.Marks.{mark_of}
+use Rattle.model.specs.LastYes.{mark_in}
 use Rattle.least.specs.Suffix.{code_of}
 use Rattle.least.proofs.Most.{most_least}
 use Rattle.lane_rows.specs.Layout.{lane_count_lem, mark_count, top, inf, block_size}
@@ -91,7 +91,7 @@ module _ (sheet : Sheet) (few : length sheet.positions ≤ 64) where
             subst (λ (n : ℕ). Coded b n (larger (so_far j i c) (in_class sheet j i c lane []))) (sym is)
             (subst (λ (z : Bound). Coded b (max x y) (larger (so_far j i c) z)) (sym own)
             (coded_larger b x y (so_far j i c) fee (omega arith) (s.right j i c l g m)
-            (coded b fee y (omega arith) (most_least top col.life sheet.end (mark_of col.first sheet.positions i) sheet.positions sheet.fees [] j fair) refl)))
+            (coded b fee y (omega arith) (most_least top col.life sheet.end (mark_in col.first sheet.positions i) sheet.positions sheet.fees [] j fair) refl)))
         go j i c l g m (no e) =
             let b = top * (length sheet.positions - j) in
             let x = get_or u (class_place j i c) 0 in

@@ -1,5 +1,5 @@
 -- The laws: optional lines (Optionals), prices at the low ends (Lows), what an accepted and a refused text give (Accepted, Numbered), that the text of a valid record fits and is accepted (Lengths, Longest, Complete),
--- and its plans in the published model (Published).
+-- and what the due step is that the judge reports (Due).
 pub mod Optionals
 pub mod Lows
 pub mod Accepted
@@ -7,4 +7,4 @@ pub mod Numbered
 pub mod Lengths
 pub mod Longest
 pub mod Complete
-pub mod Published
+pub mod Due

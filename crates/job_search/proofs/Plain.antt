@@ -18,7 +18,7 @@ use Rattle.jobs.specs.declared.Job.{Job}
 use Rattle.base.proofs.Lists.{map_at}
 use Rattle.jobs.proofs.Jobs.{opening_count_lem2, part_count}
 use Rattle.clock.proofs.Places.{places_are}
-use Rattle.coming_out.specs.Places.{Removals}
+use Rattle.coming_out.specs.Rows.{Removals}
 use Rattle.held_places.specs.Arrays.{price_stride}
 use Rattle.search_tables.specs.Arrays.{lane_part, JobArrays}
 use Rattle.search.specs.declared.Found.{Found}

@@ -14,7 +14,7 @@ all_fact P p [] = Prim.hlevel props
 all_fact P p (x ∷ xs) = Prim.hlevel (props, p, all_fact P p xs)
 
 -- that steps rise
-rising_fact : (from T : ℕ) (ss : List ℕ) → IsProp (Rising from T ss)
+pub rising_fact : (from T : ℕ) (ss : List ℕ) → IsProp (Rising from T ss)
 rising_fact from T [] = Prim.hlevel props
 rising_fact from T (s ∷ ss) = Prim.hlevel (props, rising_fact s T ss)
 

@@ -13,7 +13,7 @@ use Rattle.model.specs.Verdict.{Judgement, accepts, unkept, wrong_cost, number_o
 use Rattle.model.proofs.Verdicts.{judge, lives_kept, kept_lives}
 use Rattle.job_grammar.specs.Grammar.{Given, read_job_lem}
 use Rattle.job_grammar.proofs.Numbered as job
-use Rattle.job_grammar.proofs.Published.{text_due}
+use Rattle.job_grammar.proofs.Due.{text_due}
 use Rattle.plan_grammar.specs.Grammar.{Stated, read_plan_lem}
 use Rattle.plan_grammar.proofs.Numbered as plan
 use Rattle.plan_grammar.proofs.Shapes.{shaped}

@@ -20,10 +20,9 @@ use Rattle.branch.proofs.Lower.{split}
 use Rattle.model.proofs.Lower.{plus_sum}
 use Rattle.model.specs.Model.{within}
 use Rattle.model.specs.LowerBound.{Offer, plus, lower, least_of_lem, offers, change_at_lem}
-use Rattle.model.specs.LastYes.{last_yes}
+use Rattle.model.specs.LastYes.{last_yes, mark_in}
 use Rattle.model.proofs.LastYes.{last_no, last_yes_lem}
-use Rattle.least.specs.Marks.{mark_of}
-use Rattle.least.proofs.Table.{least_cons, offer_at, offers-drop}
+use Rattle.model.proofs.Offers.{least_cons, offer_at, offers-drop}
 use Rattle.lane_rows.specs.Layout.{lane_count_lem, block_size, dear, lane_limit, inf, triangle, suffix_base, reach_base, place, row_place, price_place, mark_base, mark_place, lanes_in}
 use Rattle.lane_rows.specs.Sheet.{Column, Sheet, part_sums, Mark, reach, front_with, front_from, front, solid, no_column, column_bound}
 use Rattle.lane_rows.specs.Tables.{value_of, sum_where, Coded, Lane, Tables}
@@ -143,7 +142,7 @@ module _ (end : ℤ) (ss : List ℤ) (col : Column) (t : List ℕ) (q : ℕ) (la
       let d = get_or w (row_place k q) 0 in
       let e = get_or t (place suffix_base j (get_or w (mark_place k) 0) q) 0 in
       let c = la.suffix j (get_or w (mark_place k) 0) (m k (omega arith)) h in
-      let x = least_of_lem col.life end (mark_of col.first ss (get_or w (mark_place k) 0)) (undecided ss col j) in
+      let x = least_of_lem col.life end (mark_in col.first ss (get_or w (mark_place k) 0)) (undecided ss col j) in
       let v = value_plus d e (dear * j) (dear * (length ss - j)) (omega arith) (l k (omega arith)).some (coded_low (dear * (length ss - j)) (omega arith) e x c) in
       value_min (lane t w suffix_base j q k) (d + e) ∙ ap₂ lower (lane_over w j k h s (λ i g. m i (omega arith)) (λ i g. l i (omega arith))) (v.0 ∙ ap (add (value_of d)) (coded_est (dear * (length ss - j)) (omega arith) e x c))
 
@@ -156,7 +155,7 @@ module _ (end : ℤ) (ss : List ℤ) (col : Column) (t : List ℕ) (q : ℕ) (la
       let d = get_or w (row_place k q) 0 in
       let e = get_or t (place reach_base j (get_or w (mark_place k) 0) q) 0 in
       let i = lane-reach w j k b h s (λ i g. m i (omega arith)) (λ i g. l i (omega arith)) in
-      let v = one d e (within col.life (mark_of col.first ss (get_or w (mark_place k) 0)) (get_or ss j (pos 0))) (la.reach j (get_or w (mark_place k) 0) (m k (omega arith)) h) (l k (omega arith)) in
+      let v = one d e (within col.life (mark_in col.first ss (get_or w (mark_place k) 0)) (get_or ss j (pos 0))) (la.reach j (get_or w (mark_place k) 0) (m k (omega arith)) h) (l k (omega arith)) in
       (value_min (lane t w reach_base j q k) (d + e) ∙ ap₂ lower i.0 v.0, least b (lane t w reach_base j q k) (d + e) i.1 v.1)
     where
       one : (d e : ℕ) (a : Bool) → e ≡ cond a 0 inf → Level b d → (value_of (d + e) ≡ cond a (value_of d) Missing) × (d + e < inf → d + e ≤ b)
@@ -177,7 +176,7 @@ module _ (end : ℤ) (ss : List ℤ) (col : Column) (t : List ℕ) (q : ℕ) (la
 
       rises : (i : ℕ) → i ≤ j → get_or t (place suffix_base j i q) 0 ≤ get_or t (place suffix_base (j + 1) i q) 0
       rises i g =
-          let a = mark_of col.first ss i in
+          let a = mark_in col.first ss i in
           coded_more (get_or t (place suffix_base j i q) 0) (get_or t (place suffix_base (j + 1) i q) 0) (dear * (length ss - j)) (dear * (length ss - (j + 1)))
           (change_at_lem col.life a (offer_at ss col.prices [] j) (least_of_lem col.life end (get_or ss j (pos 0)) (drop (suc j) all))) (least_of_lem col.life end a (drop (suc j) all)) (omega arith)
           (subst (Coded (dear * (length ss - j)) (get_or t (place suffix_base j i q) 0))
@@ -322,7 +321,7 @@ marks_kept first ss w w' q (suc m) n l h k =
     let a = k.marks m (omega arith) in
     let b = k.rows (row_place m q) (omega arith) in
     ap₂ (λ (x : Mark) (y : List Mark). x ∷ y)
-    (ap₂ (λ (x y : ℕ). record { at = mark_of first ss x; cost = value_of y }) a b) (marks_kept first ss w w' q m n l (omega arith) k)
+    (ap₂ (λ (x y : ℕ). record { at = mark_in first ss x; cost = value_of y }) a b) (marks_kept first ss w w' q m n l (omega arith) k)
 
 -- a number at most another and not equal to it is below it
 pub ≠_lt : (k n : ℕ) → (k ≡ n → ⊥) → k ≤ n → k < n
@@ -333,7 +332,7 @@ pub ≠_lt : (k n : ℕ) → (k ≡ n → ⊥) → k ≤ n → k < n
     go (no h) = absurd (g (omega (arith, h)))
 
 -- the marks of one row more are that row's position and price in front of those before
-pub marks_suc : (first : ℤ) (ss : List ℤ) (w : List ℕ) (q n : ℕ) (a : ℤ) (c : Bound) (fr : List Mark) → mark_of first ss (get_or w (mark_place n) 0) ≡ a → value_of (get_or w (row_place n q) 0) ≡ c → marks_in first ss w q n ≡ fr
+pub marks_suc : (first : ℤ) (ss : List ℤ) (w : List ℕ) (q n : ℕ) (a : ℤ) (c : Bound) (fr : List Mark) → mark_in first ss (get_or w (mark_place n) 0) ≡ a → value_of (get_or w (row_place n q) 0) ≡ c → marks_in first ss w q n ≡ fr
     → marks_in first ss w q (suc n) ≡ record { at = a; cost = c } ∷ fr
 unfolding marks_in
 marks_suc first ss w q n a c fr e f g = λ i. record { at = e i; cost = f i } ∷ g i
@@ -446,7 +445,7 @@ module _ (sheet : Sheet) (t w : List ℕ) (at : ℕ) (sees : ℕ → List Bool) 
             ap solid
             (ap (marks_in col.first ss w' q) (add-one n)
             ∙ marks_suc col.first ss w' q n (get_or ss at (pos 0)) (cond (not (shut q)) (price q) Missing) (marks_in col.first ss w q n)
-            (ap (mark_of col.first ss) (u.mark ∙ add-one at)) (ap value_of (row_at q l) ∙ (cost q l).0)
+            (ap (mark_in col.first ss) (u.mark ∙ add-one at)) (ap value_of (row_at q l) ∙ (cost q l).0)
             (marks_kept col.first ss w w' q n n (omega (arith, ro.narrow)) (omega arith) u.kept))
             ∙ joined_solid col.life (marks_in col.first ss w q n) (front ss col (sees q)) o (ro.fronts q l)
             ∙ ap solid (sym (front_at q (not (shut q)) l))
@@ -516,7 +515,7 @@ module _ (sheet : Sheet) (t w : List ℕ) (at : ℕ) (sees : ℕ → List Bool) 
       omega (
         arith,
         (ro.level k q l (omega (arith, ta.wide))).most,
-        coded_most (dear * (length sheet.positions - j)) (omega (arith, ta.few)) (get_or t (place suffix_base j i q) 0) (least_of_lem col.life sheet.end (mark_of col.first sheet.positions i) (drop j (offers sheet.positions col.prices [])))
+        coded_most (dear * (length sheet.positions - j)) (omega (arith, ta.few)) (get_or t (place suffix_base j i q) 0) (least_of_lem col.life sheet.end (mark_in col.first sheet.positions i) (drop j (offers sheet.positions col.prices [])))
             ((ta.lanes q m).suffix j i (omega arith) g),
       ))
 
@@ -528,7 +527,7 @@ module _ (sheet : Sheet) (t w : List ℕ) (at : ℕ) (sees : ℕ → List Bool) 
       omega (
         arith,
         (ro.level k q l (omega (arith, ta.wide))).most,
-        cond_most (within (get_or sheet.columns q no_column).life (mark_of (get_or sheet.columns q no_column).first sheet.positions (get_or w (mark_place k) 0)) (get_or sheet.positions at (pos 0))),
+        cond_most (within (get_or sheet.columns q no_column).life (mark_in (get_or sheet.columns q no_column).first sheet.positions (get_or w (mark_place k) 0)) (get_or sheet.positions at (pos 0))),
         (ta.lanes q g).reach at (get_or w (mark_place k) 0) (ro.marks k l) h,
       ))
 
@@ -558,7 +557,7 @@ first_front {w} r ss col q l =
     let z : 0 * lane_count_lem + q ≡ q = omega arith in
     let y : get_or w (row_place 0 q) 0 ≡ 0 = ap (λ (x : ℕ). get_or w x 0) z ∙ r.lanes q l in
     ap solid
-    ((λ i. record { at = mark_of col.first ss (r.mark i); cost = value_of (y i) } ∷ [])
+    ((λ i. record { at = mark_in col.first ss (r.mark i); cost = value_of (y i) } ∷ [])
     ∙ sym (ap (front_from col.life (record { at = col.first; cost = Sum 0 } ∷ [])) (decided_nil ss col.prices)))
 
 -- the first row alone is what each lane sees where nothing is decided
@@ -592,7 +591,7 @@ module _ (sheet : Sheet) (t : List ℕ) (ta : Tables sheet t) where
       let col = get_or sheet.columns q no_column in
       let n = length sheet.positions in
       subst (λ (k : ℕ). get_or t k 0 ≤ inf) (first_place_lem q)
-      (coded_most (dear * (n - 0)) (omega (arith, ta.few)) (get_or t (place suffix_base 0 0 q) 0) (least_of_lem col.life sheet.end (mark_of col.first sheet.positions 0) (drop 0 (offers sheet.positions col.prices [])))
+      (coded_most (dear * (n - 0)) (omega (arith, ta.few)) (get_or t (place suffix_base 0 0 q) 0) (least_of_lem col.life sheet.end (mark_in col.first sheet.positions 0) (drop 0 (offers sheet.positions col.prices [])))
       ((ta.lanes q l).suffix 0 0 (omega arith) (omega arith)))
 
   first_lane : (w : List ℕ) (q : ℕ) → q < lanes_in t → FirstRow w → get_or t q 0 ≡ lane t w suffix_base 0 q 1

@@ -1,9 +1,8 @@
 -- What the stack of rows holds: a row for the first life and one for each yes opening, with its mark.
 use Rattle.std.specs.Prelude.{ℕ, zero, suc, ◌+◌, ◌-◌, ◌*◌, ◌^◌, ◌<◌, ◌≤◌, min, ◌≡◌, Bool, true, false, cond, List, [], ◌∷◌, length, get_or, ℤ}
 use Rattle.branch.specs.declared.Bound.{Bound}
-use Rattle.model.specs.LastYes.{last_yes}
+use Rattle.model.specs.LastYes.{last_yes, mark_in}
 use Rattle.base.specs.Filled.{FilledBy}
-use Rattle.least.specs.Marks.{mark_of}
 use Rattle.lane_rows.specs.Layout.{lane_count_lem, mark_count, dear, inf, place, row_place, suffix_base, mark_base, mark_place, known_base, known_place, memo_base, memo_place, stack_size, block_size, reach_base, price_place, term_place, lanes_in, tables_size}
 use Rattle.lane_rows.specs.Sheet.{Sheet, Mark, front, solid, no_column}
 use Rattle.lane_rows.specs.Tables.{value_of, sum_where}
@@ -59,7 +58,7 @@ pub record AddAsks (fours : ℕ) (t w : List ℕ) (base j i n : ℕ) (acc : List
 -- the marks of the first n rows as lane q has them, the latest first
 unfoldable pub marks_in : ℤ → List ℤ → List ℕ → ℕ → ℕ → List Mark
 marks_in first ss w q zero = []
-marks_in first ss w q (suc k) = record { at = mark_of first ss (get_or w (mark_place k) 0); cost = value_of (get_or w (row_place k q) 0) } ∷ marks_in first ss w q k
+marks_in first ss w q (suc k) = record { at = mark_in first ss (get_or w (mark_place k) 0); cost = value_of (get_or w (row_place k q) 0) } ∷ marks_in first ss w q k
 
 -- a number of a row: Missing, or at most b
 pub record Level (b v : ℕ) : Type 0 where

@@ -5,8 +5,7 @@ use Rattle.branch.specs.declared.Bound.TheVariants.{Missing, Sum}
 use Rattle.branch.specs.Lower.{largest}
 use Rattle.model.specs.Model.{within}
 use Rattle.model.specs.LowerBound.{least_of_lem, offers}
-use Rattle.model.specs.LastYes.{Climbs}
-use Rattle.least.specs.Marks.{mark_of}
+use Rattle.model.specs.LastYes.{Climbs, mark_in}
 use Rattle.lane_rows.specs.Layout.{lane_count_lem, top, dear, inf, suffix_base, reach_base, place, price_place, fee_place, count_place, lanes_in, term_place, tables_size}
 use Rattle.lane_rows.specs.Sheet.{Column, Sheet, part_columns, no_column}
 use Rattle.model.specs.Limits.{most_openings}
@@ -27,8 +26,8 @@ Coded b n (Sum x) = (n ≡ x) × (x ≤ b)
 -- lane q of the tables t is right for a column: the least prices from an opening on after a mark, which openings are in reach of a mark, the prices
 pub record Lane (end : ℤ) (ss : List ℤ) (col : Column) (t : List ℕ) (q : ℕ) : Type 0 where
   pub suffix : (j i : ℕ) → i ≤ j → j ≤ length ss
-      → Coded (dear * (length ss - j)) (get_or t (place suffix_base j i q) 0) (least_of_lem col.life end (mark_of col.first ss i) (drop j (offers ss col.prices [])))
-  pub reach : (j i : ℕ) → i ≤ j → j < length ss → get_or t (place reach_base j i q) 0 ≡ cond (within col.life (mark_of col.first ss i) (get_or ss j (pos 0))) 0 inf
+      → Coded (dear * (length ss - j)) (get_or t (place suffix_base j i q) 0) (least_of_lem col.life end (mark_in col.first ss i) (drop j (offers ss col.prices [])))
+  pub reach : (j i : ℕ) → i ≤ j → j < length ss → get_or t (place reach_base j i q) 0 ≡ cond (within col.life (mark_in col.first ss i) (get_or ss j (pos 0))) 0 inf
   pub price : (j : ℕ) → j < length ss → get_or t (price_place j q) 0 ≡ get_or col.prices j 0
   pub cheap : (j : ℕ) → get_or col.prices j 0 ≤ dear
 
@@ -39,7 +38,7 @@ pub record Alike (a b : Column) : Type 0 where
 
 -- one part's least fee of openings j and later that keeps it after mark i, at any node
 abbrev pub fee_from : Sheet → ℕ → ℕ → Column → List Bool → Bound
-fee_from sheet j i col p = least_of_lem col.life sheet.end (mark_of col.first sheet.positions i) (drop j (offers sheet.positions sheet.fees []))
+fee_from sheet j i col p = least_of_lem col.life sheet.end (mark_in col.first sheet.positions i) (drop j (offers sheet.positions sheet.fees []))
 
 -- the tables of a sheet: a lane for each column, the fees, the number of openings, and the terms; a column past the last part goes with the first part's
 pub record Tables (sheet : Sheet) (t : List ℕ) : Type 0 where

@@ -13,8 +13,7 @@ ghost use Rattle.lane_rows.specs.Rows.{lane, sum_lanes, Turned, MinAsks, PlusAsk
 ghost use Rattle.model.specs.Limits.{most_openings};
 
 use branch::Bound;
-use least::MARKS;
-use model::{OPENINGS, PARTS};
+use model::{MARKS, OPENINGS, PARTS};
 
 // A row has room for a lane for each part.
 pub const LANES: usize = PARTS;

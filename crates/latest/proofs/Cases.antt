@@ -6,7 +6,7 @@ use Prim.Native.Nat.{ℕ}
 use lib.ListN.{replicate}
 use Rattle.model.specs.Model.{Job, Part, listed, running, clock, within, kept, table, holds_one, rounds, comes_out, holding, out_by, select, sum_at, sum, cost_of_lem}
 use Rattle.model.specs.LowerBound.{least_of_lem, choice_of, offers, choice_over}
-use Rattle.model.proofs.Cases.{job_with}
+use Rattle.model.proofs.Worked.{job_with}
 use Rattle.latest.specs.Latest.{latest_from, latest_of_lem, unserved, serves, each_served, latest_answer_of}
 
 abbrev job : Job

@@ -13,8 +13,8 @@ ghost use Rattle.latest_changes.specs.Stops.{Ranged, NextStops};
 
 use clock::{Positions, keeps, positions_of};
 use jobs::{Accepted, Changes, Part, Plan};
-use least::last_change;
 use model::{OPENINGS, PARTS};
+use reach::last_change;
 
 // The position of the stop after each of n openings, or the end after the last.
 // Kept as a loop over the openings' places: three arrays meet at one place, from the last to the first, and zipped they would be a pair in a pair, turned round.

@@ -1,4 +1,3 @@
-pub mod Gaps
 pub mod Table
 pub mod Most
 pub mod Rows

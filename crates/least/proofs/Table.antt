@@ -1,6 +1,6 @@
--- The least price and the choice over the openings from k on, from those over the openings from k + 1 on: by unfolding one opening.
-use Prim.Native.Nat.{ℕ, zero, suc, ◌+◌, ◌<◌, ◌≤◌}
-use mathlib.Core.Path.{◌≡◌, refl, sym, ap, ap₂, ◌∙◌}
+-- The marks after an opening, and the choice over the openings from k on, from that over the openings from k + 1 on: by unfolding one opening.
+use Prim.Native.Nat.{ℕ, suc, ◌+◌, ◌<◌, ◌≤◌}
+use mathlib.Core.Path.{◌≡◌, refl, sym, ap, ◌∙◌}
 use mathlib.Core.Bool.{Bool, true, false, cond}
 use mathlib.Core.List.{List, [], ◌∷◌, ◌++◌, append-nil}
 use native.Mathlib.Omega.{arith}
@@ -8,42 +8,13 @@ use native.Mathlib.Numerals.{add-one}
 use lib.ListN.{length, get_or, take, drop, set, length-set, drop_of_length-le}
 use lib.Seq.{append_snoc, take-suc-set, take_all}
 use lib.IntN.{ℤ, pos}
-use Rattle.branch.specs.declared.Bound.TheVariants.{Missing, Sum}
-use Rattle.model.specs.Model.{within}
-use Rattle.model.specs.LowerBound.{Offer, lower, lower_than, change_at_lem, least_of_lem, choice_of, offers}
-use Rattle.base.proofs.Bools.{after_one}
-use Rattle.least.specs.Marks.{mark_of}
-
--- opening k of the three lists
-abbrev pub offer_at : List ℤ → List ℕ → List Bool → ℕ → Offer
-offer_at ss ps fs k = record { position = get_or ss k (pos 0); price = get_or ps k 0; allowed = get_or fs k true }
-
--- the offers from k on are that of opening k and those behind it
-pub offers-drop : (ss : List ℤ) (ps : List ℕ) (fs : List Bool) (k : ℕ) → k < length ss → drop k (offers ss ps fs) ≡ offer_at ss ps fs k ∷ drop (suc k) (offers ss ps fs)
-unfolding offers
-offers-drop [] ps fs k h = absurd (omega arith)
-offers-drop (s ∷ ss) ps fs zero h = refl
-offers-drop (s ∷ ss) ps fs (suc k) h =
-    offers-drop ss (drop 1 ps) (drop 1 fs) k (omega arith)
-    ∙ ap₂ (λ (x : ℕ) (y : Bool). record { position = get_or ss k (pos 0); price = x; allowed = y } ∷ drop (suc k) (offers ss (drop 1 ps) (drop 1 fs))) (after_one ps k 0) (after_one fs k true)
-
--- ---- the table's step
-
--- the least price over an offer and those behind it, as the lower of no change and a change
-pub least_cons : (life end prev : ℤ) (l : List Offer) (o : Offer) (os : List Offer) → l ≡ o ∷ os
-    → least_of_lem life end prev l ≡ lower (least_of_lem life end prev os) (change_at_lem life prev o (least_of_lem life end o.position os))
-unfolding least_of_lem
-least_cons life end prev l o os e = ap (least_of_lem life end prev) e
-
--- with no offers left the least price is 0 if the end is within the life, else missing
-pub least_nil : (life end prev : ℤ) (l : List Offer) → l ≡ [] → least_of_lem life end prev l ≡ cond (within life prev end) (Sum 0) Missing
-unfolding least_of_lem
-least_nil life end prev l e = ap (least_of_lem life end prev) e
+use Rattle.model.specs.LowerBound.{Offer, lower_than, change_at_lem, least_of_lem, choice_of}
+use Rattle.model.specs.LastYes.{mark_in}
 
 -- the mark after opening k: its own where the part is changed
-pub mark_next : (first : ℤ) (ss : List ℤ) (b : Bool) (k i m : ℕ) → m ≡ cond b (k + 1) i → mark_of first ss m ≡ cond b (get_or ss k (pos 0)) (mark_of first ss i)
-mark_next first ss true k i m e = ap (mark_of first ss) (e ∙ add-one k)
-mark_next first ss false k i m e = ap (mark_of first ss) e
+pub mark_next : (first : ℤ) (ss : List ℤ) (b : Bool) (k i m : ℕ) → m ≡ cond b (k + 1) i → mark_in first ss m ≡ cond b (get_or ss k (pos 0)) (mark_in first ss i)
+mark_next first ss true k i m e = ap (mark_in first ss) (e ∙ add-one k)
+mark_next first ss false k i m e = ap (mark_in first ss) e
 
 -- after opening k the last change's mark is at most k + 1
 pub mark_below : (b : Bool) (k i m : ℕ) → i ≤ k → m ≡ cond b (k + 1) i → m ≤ k + 1

@@ -1,5 +1,4 @@
 // One part over the openings that are allowed to it: its least price and the change set that the tie rule takes.
-// Positions are signed; the change before the first opening stands at or below zero.
 #![tactic(auto)]
 
 pub mod offers;
@@ -7,63 +6,24 @@ pub mod offers;
 ghost use Rattle.std.specs.Prelude.{◌≡◌, false, ◌&&◌, cond, ◌++◌, ◌+◌, ◌-◌, ◌<◌, ◌≤◌, pos, ◌-ℤ◌, length, get_or, replicate};
 ghost use Rattle.std.specs.Int.{w32};
 ghost use Rattle.std.proofs.Common.{SFits};
+ghost use Rattle.model.specs.Limits.{most_openings};
 ghost use Rattle.model.specs.Model.{within};
 ghost use Rattle.model.specs.LowerBound.{plus, least_of_lem, choice_of, offers};
-ghost use Rattle.least.specs.Marks.{mark_of};
+ghost use Rattle.model.specs.LastYes.{mark_in};
 ghost use Rattle.base.specs.Filled.{FilledBy};
 ghost use Rattle.least.specs.Suffix.{table_size, cell, code_of, of_code, changes_by_table, row_of, end_of, Suffixes};
 
 use branch::Bound;
-use model::OPENINGS;
+use model::{MARKS, OPENINGS};
 use offers::PartOffers;
-
-// A row of the suffix table has an entry for the first life and one for each opening.
-pub const MARKS: usize = OPENINGS + 1;
+use reach::{in_reach, mark};
 
 // The suffix table has a row for each opening and one past the last.
-pub const TABLE: usize = 4225;
+pub const TABLE: usize = MARKS * MARKS;
 
 // The table's number for a missing price, 2 ^ 62.
 // Kept as a number: a Bound would double the fixed memory of the table that callers lend.
 const MISSING: u64 = 4611686018427387904;
-
-// A part counts as last changed at `left - life`, which is zero or negative.
-// Kept as casts: a u32 may be more than an i32 holds, so the library has no From; what is asked says that these are not.
-pub fn last_change(life: u32, left: u32) -> i32
-    requires { (life ≤ 1000) × (left ≤ 1000) }
-    ensures { result ≡ pos left -ℤ pos life }
-{
-    left as i32 - life as i32
-}
-
-// A change at `position` comes at most `life` after the one before, at `prev`.
-pub fn in_reach(life: i32, prev: i32, position: i32) -> bool
-    requires { SFits w32 (position -ℤ prev) }
-    ensures { result ≡ within life prev position }
-{
-    position - prev <= life
-}
-
-// The price with a change at an opening, where a change there with what follows costs `chg`.
-// Kept with allowed as a value: it is an entry of the list of what is allowed, and stands in the equation.
-pub fn change_at(life: i32, prev: i32, position: i32, allowed: bool, chg: Bound) -> Bound
-    requires { SFits w32 (position -ℤ prev) }
-    ensures { result ≡ cond (allowed && within life prev position) chg Bound.Missing }
-{
-    if allowed && in_reach(life, prev, position) {
-        chg
-    } else {
-        Bound::Missing
-    }
-}
-
-// The position of mark i: mark 0 is the first life's, mark k + 1 that of opening k.
-pub fn mark(first: i32, positions: &[i32], i: usize) -> i32
-    requires { i ≤ length positions.now }
-    ensures { result ≡ mark_of first positions.now i }
-{
-    if i == 0 { first } else { positions[i - 1] }
-}
 
 // A price as the table's number.
 // Kept beside `bound` and not a From of Bound: the number for a missing price is this table's alone.
@@ -90,13 +50,26 @@ fn dearer(price: u32, a: u64) -> Bound
     bound(a).plus(u64::from(price))
 }
 
+// The price with a change at an opening, where a change there with what follows costs `chg`.
+// Kept with allowed as a value: it is an entry of the list of what is allowed, and stands in the equation.
+pub fn change_at(life: i32, prev: i32, position: i32, allowed: bool, chg: Bound) -> Bound
+    requires { SFits w32 (position -ℤ prev) }
+    ensures { result ≡ cond (allowed && within life prev position) chg Bound.Missing }
+{
+    if allowed && in_reach(life, prev, position) {
+        chg
+    } else {
+        Bound::Missing
+    }
+}
+
 // Kept as slices of any length that is enough in the functions below: an array would ask callers for that very length.
 // Kept with the limits of i, j and k in the clauses below: a mark and an opening are plain numbers, and a type of bounded numbers would be taken apart at each index.
 impl PartOffers<'_> {
     // What is left to pay with no opening left, after mark i: nothing, or there is no way.
     fn at_end(&self, i: usize) -> Bound
         requires { i ≤ length self.now.positions.now }
-        ensures { result ≡ cond (within self.now.life (mark_of self.now.first self.now.positions.now i) self.now.end) (Bound.Sum 0) Bound.Missing }
+        ensures { result ≡ cond (within self.now.life (mark_in self.now.first self.now.positions.now i) self.now.end) (Bound.Sum 0) Bound.Missing }
     {
         if in_reach(self.life, mark(self.first, self.positions, i), self.end) {
             Bound::Sum(0)
@@ -108,7 +81,7 @@ impl PartOffers<'_> {
     // The price with a change at opening j after mark i, where a change there with what follows costs `chg`.
     fn changed(&self, i: usize, j: usize, chg: Bound) -> Bound
         requires { (i ≤ length self.now.positions.now) × (j < length self.now.positions.now) }
-        ensures { result ≡ cond (get_or self.now.allowed.now j false && within self.now.life (mark_of self.now.first self.now.positions.now i) (get_or self.now.positions.now j (pos 0))) chg Bound.Missing }
+        ensures { result ≡ cond (get_or self.now.allowed.now j false && within self.now.life (mark_in self.now.first self.now.positions.now i) (get_or self.now.positions.now j (pos 0))) chg Bound.Missing }
     {
         change_at(
             self.life,
@@ -179,7 +152,7 @@ impl PartOffers<'_> {
     // The change set of least price that the tie rule takes; no change past the last opening.
     pub fn choice(&self, tab: &mut [u64]) -> [bool; OPENINGS]
         requires { table_size ≤ length tab.old }
-        ensures { result ≡ choice_of self.now.life self.now.end self.now.first (offers self.now.positions.now self.now.prices.now self.now.allowed.now) ++ replicate (64 - length self.now.positions.now) false }
+        ensures { result ≡ choice_of self.now.life self.now.end self.now.first (offers self.now.positions.now self.now.prices.now self.now.allowed.now) ++ replicate (most_openings - length self.now.positions.now) false }
     {
         self.fill(tab);
         let mut out = [false; OPENINGS];

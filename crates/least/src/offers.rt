@@ -1,7 +1,7 @@
 // One part and the openings that it is offered, as the least price over them is asked for.
 ghost use Rattle.std.specs.Prelude.{◌≡◌, ℕ, ◌^◌, ◌<◌, ◌≤◌, length, get_or};
 ghost use Rattle.model.specs.Limits.{most_openings};
-ghost use Rattle.least.specs.Marks.{mark_of};
+ghost use Rattle.model.specs.LastYes.{mark_in};
 ghost use Rattle.base.specs.Signed.{Bits31};
 
 // One part's life, the end, the position of the change before the first opening, and each opening's position, price and whether it is allowed.
@@ -15,7 +15,7 @@ pub struct PartOffers<'a> {
     pub prices: &'a [u32],
     pub allowed: &'a [bool],
     pub ghost few: { length positions.now ≤ most_openings },
-    pub ghost small: { (i : ℕ) → Bits31 (mark_of first positions.now i) },
+    pub ghost small: { (i : ℕ) → Bits31 (mark_in first positions.now i) },
     pub ghost priced: { length prices.now ≡ length positions.now },
     pub ghost cheap: { (j : ℕ) → get_or prices.now j 0 < 2 ^ 32 },
     pub ghost flagged: { length allowed.now ≡ length positions.now },

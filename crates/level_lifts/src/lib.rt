@@ -13,7 +13,7 @@ ghost use Rattle.share_walk.specs.Courses.{lift_in};
 
 use free_sources::put_sources;
 use lane_rows::{COUNT, INF, STACK, TABLES, cell};
-use least::MARKS;
+use model::MARKS;
 use share_rows::SHARES;
 use share_walk::{NAMES, State, lift_of, solve};
 

@@ -1,4 +1,4 @@
--- The theorems, in the order in which they rest on each other. Code cites Positions (the laws of `clock` and `within`), Offers and Least.
+-- The theorems, in the order in which they rest on each other. Code cites Positions (the laws of `clock` and `within`), Offers and Least. Last the worked job of cases (Worked).
 pub mod Positions
 pub mod Windows
 pub mod Lower
@@ -17,7 +17,6 @@ pub mod Blocks
 pub mod Bounded
 pub mod Charges
 pub mod Under
-pub mod Dismounting
 pub mod Plans
 pub mod Nodes
 pub mod Roots
@@ -29,13 +28,5 @@ pub mod Verdicts
 pub mod NoHolders
 pub mod Unheld
 pub mod MoreChanges
-pub mod Undecided
-pub mod Missing
-pub mod Counted
-pub mod Entries
 pub mod Dues
-pub mod Published
-pub mod Refused
-pub mod Cases
-pub mod Behind
-pub mod Tables
+pub mod Worked

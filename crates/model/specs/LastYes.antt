@@ -13,7 +13,7 @@ unfoldable pub last_yes : List Bool → ℕ
 last_yes [] = 0
 last_yes (x ∷ p) = after_one_lem x (last_yes p)
 
--- its position, of openings at these positions; `prev` if there is none
+-- the position of mark m, of openings at these positions: mark 0 is the change before the first opening, "last changed at step R − L"; mark k + 1, the number of a last yes, is opening k
 abbrev pub mark_in : ℤ → List ℤ → ℕ → ℤ
 mark_in prev ss m = get_or (prev ∷ ss) m (pos 0)
 

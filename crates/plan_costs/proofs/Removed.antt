@@ -14,8 +14,7 @@ use Rattle.model.proofs.Lists.{table-length, table_at, table_same}
 use Rattle.jobs.specs.Views.{changes_of}
 use Rattle.jobs.specs.declared.Changes.{Changes}
 use Rattle.base.proofs.Lists.{firsts_at}
-use Rattle.coming_out.specs.Rows.{place, Row, Rows, some, union}
-use Rattle.coming_out.specs.Places.{Removals}
+use Rattle.coming_out.specs.Rows.{place, Row, Rows, some, union, Removals}
 use Rattle.coming_out.proofs.Some.{some_same, out_some}
 use Rattle.coming_out.proofs.Rows.{blank, row-take}
 use Rattle.jobs.specs.Views.{blank_changes}

@@ -4,8 +4,7 @@ ghost use Rattle.model.specs.Limits.{most_openings, most_parts};
 ghost use Rattle.model.specs.Model as model;
 ghost use Rattle.model.specs.Model.{table, comes_out, out_at, sum_at, removal_of_lem, removals_of_lem};
 ghost use Rattle.jobs.specs.Views.{job_of, changes_of, changes_for};
-ghost use Rattle.coming_out.specs.Rows.{Row, Rows};
-ghost use Rattle.coming_out.specs.Places.{Removals};
+ghost use Rattle.coming_out.specs.Rows.{Row, Rows, Removals};
 ghost use Rattle.plan_costs.specs.Dearest.{Cheap, dearest_stop};
 ghost use Rattle.jobs.specs.Views.{blank_changes};
 

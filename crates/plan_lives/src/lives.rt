@@ -12,8 +12,8 @@ ghost use Rattle.plan_lives.specs.Steps.{gap_of, late_to_lem, verdict_to_lem};
 
 use clock::{Positions, due_of, keeps, positions_of};
 use jobs::{Accepted, Part, Plan};
-use least::last_change;
 use model::OPENINGS;
+use reach::last_change;
 
 // A part that is not kept, by its number, and the due step at its first gap that is too long.
 #[derive(Clone, Copy)]

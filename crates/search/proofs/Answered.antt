@@ -13,6 +13,7 @@ use Rattle.branch.specs.declared.Bound.TheVariants.{Missing, Sum}
 use Rattle.branch.specs.Search.{at_most}
 use Rattle.branch.specs.Label.{tree_of}
 use Rattle.model.specs.Model.{Opening, Part, Job, clock, last_change_lem}
+use Rattle.model.specs.Limits.{most_openings}
 use Rattle.model.specs.LowerBound.{Offer, lower_than, change_at_lem, least_of_lem, offers, choice_of}
 use Rattle.model.specs.Unheld.{plain_part_choice, plain_bound, plain_plan, plain_answer}
 use Rattle.model.specs.Verdict.{no_part}
@@ -46,17 +47,17 @@ choice_size life end prev (o ∷ os) =
 -- ---- the stops
 
 -- the first n entries of the stops array are the mask's n decisions
-pub stops_are : (n mask : ℕ) (stops : List Bool) → stops ≡ bits n mask ++ replicate (64 - n) false → take n stops ≡ bits n mask
-stops_are n mask stops f = ap (take n) f ∙ take_at (bits n mask) (replicate (64 - n) false) n (bits-length n mask)
+pub stops_are : (n mask : ℕ) (stops : List Bool) → stops ≡ bits n mask ++ replicate (most_openings - n) false → take n stops ≡ bits n mask
+stops_are n mask stops f = ap (take n) f ∙ take_at (bits n mask) (replicate (most_openings - n) false) n (bits-length n mask)
 
 -- the first n entries of the stops array are n
-pub stops-length : (n mask : ℕ) (stops : List Bool) → stops ≡ bits n mask ++ replicate (64 - n) false → length (take n stops) ≡ n
+pub stops-length : (n mask : ℕ) (stops : List Bool) → stops ≡ bits n mask ++ replicate (most_openings - n) false → length (take n stops) ≡ n
 stops-length n mask stops f = ap length (stops_are n mask stops f) ∙ bits-length n mask
 
 -- ---- what the code holds, as it is handed back
 
 module _ (job : Job) (e : ℤ) (ss : List ℤ) (fs ls rs ps : List ℕ) (h : JobArrays job e ss fs ls rs ps) (limit : ℕ) (s : Solved) (g : Solves (sheet_of e ss fs ls rs ps) limit s)
-    (plan : code.Plan) (f : plan.stops ≡ bits (length ss) s.mask ++ replicate (64 - length ss) false) (c : Chooses e ss ls rs ps (take (length ss) plan.stops) plan.changes (length ls)) where
+    (plan : code.Plan) (f : plan.stops ≡ bits (length ss) s.mask ++ replicate (most_openings - length ss) false) (c : Chooses e ss ls rs ps (take (length ss) plan.stops) plan.changes (length ls)) where
   size : length ss ≡ length job.openings
   size = ap length h.places ∙ length-map job.openings (λ (o : Opening). clock job o.step)
 
@@ -75,7 +76,7 @@ module _ (job : Job) (e : ℤ) (ss : List ℤ) (fs ls rs ps : List ℕ) (h : Job
       let part = lane_part (length ss) ls rs ps q in
       let x = choice_at e ss part (take (length ss) plan.stops) in
       ap (take (length ss)) (c.row q l)
-      ∙ take_at x (replicate (64 - length ss) false) (length ss) (choice_size (pos part.life) e (last_change_lem part) (offers ss part.prices (take (length ss) plan.stops)) ∙ offers-length ss part.prices (take (length ss) plan.stops))
+      ∙ take_at x (replicate (most_openings - length ss) false) (length ss) (choice_size (pos part.life) e (last_change_lem part) (offers ss part.prices (take (length ss) plan.stops)) ∙ offers-length ss part.prices (take (length ss) plan.stops))
       ∙ (λ i. choice_of (pos (z i).life) (h.ends i) (last_change_lem (z i)) (offers (h.places i) (z i).prices (take (length ss) plan.stops)))
 
   changes : changes_in (length ss) (length job.parts) (found_by_lem s plan) ≡ map chosen job.parts

@@ -8,6 +8,7 @@ use borrow.Author.Count.{below_more}
 use lib.Dec.{eqb}
 use lib.ListN.{length, get_or, drop, set, replicate, length-set, length-append, length-drop, length-replicate, get_or-append}
 use lib.Seq.{append_snoc, drop-cons, drop-set-lt, get_or-set_same, get_or-set_other}
+use Rattle.model.specs.Limits.{most_openings}
 use Rattle.jobs.specs.declared.Changes.{Changes}
 use Rattle.search.specs.Plan.{no_row, Rows}
 use Rattle.lane_rows.specs.Layout.{lane_count_lem}
@@ -18,9 +19,9 @@ drop_same zero m = let z : m - 0 ≡ m = omega arith in rw z
 drop_same (suc n) zero = let z : 0 - suc n ≡ 0 = omega arith in rw z
 drop_same (suc n) (suc m) = let z : m - n ≡ suc m - suc n = omega arith in drop_same n m ∙ ap (λ (k : ℕ). replicate k false) z
 
--- the mask's n decisions, put before the rest of an array of no's, are followed by 64 - n no's
-pub stops_none : (n m : ℕ) → bits n m ++ drop n (replicate 64 false) ≡ bits n m ++ replicate (64 - n) false
-stops_none n m = ap (λ (l : List Bool). bits n m ++ l) (drop_same n 64)
+-- the mask's n decisions, put before the rest of an array of no's, are followed by most_openings - n no's
+pub stops_none : (n m : ℕ) → bits n m ++ drop n (replicate most_openings false) ≡ bits n m ++ replicate (most_openings - n) false
+stops_none n m = ap (λ (l : List Bool). bits n m ++ l) (drop_same n most_openings)
 
 bits_last : (k m : ℕ) (l : List Bool) → bits (suc k) m ++ l ≡ bits k (m / 2) ++ (eqb (m % 2) 1 ∷ l)
 unfolding bits

@@ -17,7 +17,7 @@ use search_tables::flat::FlatJob;
 // Kept as a range that counts down: the latest decision is the last that is written, and of an iterator that writes from behind the library doesn't say what it wrote.
 pub fn stops_of(mask: u64, n: usize) -> [bool; OPENINGS]
     requires { n ≤ most_openings }
-    ensures { result ≡ bits n mask ++ replicate (64 - n) false }
+    ensures { result ≡ bits n mask ++ replicate (most_openings - n) false }
 {
     let mut out = [false; OPENINGS];
     let mut m = mask;

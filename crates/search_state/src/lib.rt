@@ -1,7 +1,7 @@
 // The state of the counted walks, the one over the openings and the one where parts hide behind others: what a node is tested by, what is counted and kept, and what is handed over at the end.
 #![tactic(auto)]
 
-ghost use Rattle.std.specs.Prelude.{◌≡◌, ℕ, ◌+◌, ◌-◌, ◌*◌, ◌^◌, ◌<◌, ◌≤◌, min};
+ghost use Rattle.std.specs.Prelude.{◌≡◌, ℕ, ◌+◌, ◌*◌, ◌^◌, ◌<◌, ◌≤◌, min};
 ghost use Rattle.branch.specs.declared.Bound.TheVariants.{Sum};
 ghost use Rattle.lane_rows.specs.Layout.{lane_count_lem, inf, suffix_base, lanes_in};
 ghost use Rattle.lane_rows.specs.Rows.{lane, sum_lanes, Looks, Recalled, term_at, sums_at};

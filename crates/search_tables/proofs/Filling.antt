@@ -13,9 +13,8 @@ use Rattle.branch.specs.declared.Bound.{Bound}
 use Rattle.branch.specs.declared.Bound.TheVariants.{Missing, Sum}
 use Rattle.model.specs.Model.{within}
 use Rattle.model.specs.LowerBound.{Offer, least_of_lem, offers}
-use Rattle.model.specs.LastYes.{Climbs}
+use Rattle.model.specs.LastYes.{Climbs, mark_in}
 use Rattle.model.proofs.LastYes.{first_climbs}
-use Rattle.least.specs.Marks.{mark_of}
 use Rattle.base.specs.Signed.{Bits31}
 use Rattle.base.specs.Filled.{FilledBy}
 use Rattle.least.specs.Suffix.{code_of, Suffixes}
@@ -68,15 +67,15 @@ module _ (life end first : ℤ) (ss : List ℤ) (ps : List ℕ) (fs : List Bool)
   inside : (j i : ℕ) → i ≤ j → j ≤ length ss → triangle j + i < block_rows
   inside j i h g = row_inside j i mark_count h (omega arith)
 
-  suffix : (j i : ℕ) → i ≤ j → j ≤ length ss → Coded (dear * (length ss - j)) (get_or t₃ (place suffix_base j i q) 0) (least_of_lem life end (mark_of first ss i) (drop j (offers ss ps [])))
+  suffix : (j i : ℕ) → i ≤ j → j ≤ length ss → Coded (dear * (length ss - j)) (get_or t₃ (place suffix_base j i q) 0) (least_of_lem life end (mark_in first ss i) (drop j (offers ss ps [])))
   suffix j i h g =
       let n = inside j i h g in
-      coded (dear * (length ss - j)) (least_of_lem life end (mark_of first ss i) (drop j (offers ss ps []))) (get_or t₃ (place suffix_base j i q) 0) (omega arith)
-      (most_least dear life end (mark_of first ss i) ss ps [] j cheap)
+      coded (dear * (length ss - j)) (least_of_lem life end (mark_in first ss i) (drop j (offers ss ps []))) (get_or t₃ (place suffix_base j i q) 0) (omega arith)
+      (most_least dear life end (mark_in first ss i) ss ps [] j cheap)
       (w₃.rest (place suffix_base j i q) (λ x l e. omega (arith, e)) ∙ w₂.rest (place suffix_base j i q) (λ x y l m e. omega (arith, e)) ∙ w₁.done j i h (omega arith)
-      ∙ ap (λ (k : ℕ). min k inf) (s.rows j i (omega arith) g h ∙ ap (λ (os : List Offer). code_of (least_of_lem life end (mark_of first ss i) (drop j os))) (offers_all ss ps fs all)))
+      ∙ ap (λ (k : ℕ). min k inf) (s.rows j i (omega arith) g h ∙ ap (λ (os : List Offer). code_of (least_of_lem life end (mark_in first ss i) (drop j os))) (offers_all ss ps fs all)))
 
-  reaches : (j i : ℕ) → i ≤ j → j < length ss → get_or t₃ (place reach_base j i q) 0 ≡ cond (within life (mark_of first ss i) (get_or ss j (pos 0))) 0 inf
+  reaches : (j i : ℕ) → i ≤ j → j < length ss → get_or t₃ (place reach_base j i q) 0 ≡ cond (within life (mark_in first ss i) (get_or ss j (pos 0))) 0 inf
   reaches j i h g = let n = inside j i h (omega arith) in w₃.rest (place reach_base j i q) (λ y l e. omega (arith, e)) ∙ w₂.done j i h g
 
   price : (j : ℕ) → j < length ss → get_or t₃ (price_place j q) 0 ≡ get_or ps j 0
@@ -247,6 +246,6 @@ lane_range l b f q = go (dec_lt q (length l))
     go (no g) = rw (get_or-eq_default l (get_or l 0 0) {n = q} (omega (arith, g))) (f 0)
 
 -- the marks of a part whose life and first life are in range are small
-pub marks_small : {e : ℤ} {ss : List ℤ} (life left : ℕ) {f : ℤ} → life ≤ longest_life → left ≤ longest_life → Timed e ss → f ≡ pos left -ℤ pos life → (k : ℕ) → Bits31 (mark_of f ss k)
+pub marks_small : {e : ℤ} {ss : List ℤ} (life left : ℕ) {f : ℤ} → life ≤ longest_life → left ≤ longest_life → Timed e ss → f ≡ pos left -ℤ pos life → (k : ℕ) → Bits31 (mark_in f ss k)
 marks_small life left l r t is zero = rw is (omega (arith, mag_sub (pos left) (pos life), l, r))
 marks_small life left l r t is (suc k) = omega (arith, t.near k)

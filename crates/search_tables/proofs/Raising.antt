@@ -11,7 +11,7 @@ use Rattle.branch.specs.Lower.{larger, largest}
 use Rattle.branch.proofs.Lower.{largest_snoc}
 use Rattle.model.specs.LowerBound.{Offer, least_of_lem}
 use Rattle.base.specs.Filled.{FilledBy}
-use Rattle.least.specs.Marks.{mark_of}
+use Rattle.model.specs.LastYes.{mark_in}
 use Rattle.least.specs.Suffix.{code_of, Suffixes}
 use Rattle.least.proofs.Most.{most_least}
 use Rattle.lane_rows.specs.Layout.{triangle, top, inf, term_base, term_place}
@@ -48,7 +48,7 @@ module _ (sheet : Sheet) (few : length sheet.positions ≤ 64) where
         done = λ j i h g.
             f.done j i h g
             ∙ ap (λ (k : ℕ). max (get_or t (at j i) 0) (min k inf))
-            (s.rows j i (omega arith) (omega arith) h ∙ ap (λ (os : List Offer). code_of (least_of_lem col.life sheet.end (mark_of col.first sheet.positions i) (drop j os))) (offers_all sheet.positions sheet.fees flags all));
+            (s.rows j i (omega arith) (omega arith) h ∙ ap (λ (os : List Offer). code_of (least_of_lem col.life sheet.end (mark_in col.first sheet.positions i) (drop j os))) (offers_all sheet.positions sheet.fees flags all));
         rest = f.rest;
       }
 
@@ -66,7 +66,7 @@ module _ (sheet : Sheet) (few : length sheet.positions ≤ 64) where
             subst (λ (n : ℕ). Coded b n (largest (fee_from sheet j i) (take (q + 1) sheet.columns) [])) (sym (r.done j i l (omega arith)))
             (subst (Coded b (max x y)) (sym (one_more j i))
             (coded_larger b x y (largest (fee_from sheet j i) (take q sheet.columns) []) e (omega arith) (s.right j i l g)
-            (coded b e y (omega arith) (most_least top col.life sheet.end (mark_of col.first sheet.positions i) sheet.positions sheet.fees [] j fair) refl)));
+            (coded b e y (omega arith) (most_least top col.life sheet.end (mark_in col.first sheet.positions i) sheet.positions sheet.fees [] j fair) refl)));
         rest = λ x l. r.rest x (λ j i a b e. omega (arith, e)) ∙ s.rest x l;
       }
     where

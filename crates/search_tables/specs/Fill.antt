@@ -2,7 +2,7 @@
 use Rattle.std.specs.Prelude.{ℕ, ◌+◌, ◌-◌, ◌*◌, ◌<◌, ◌≤◌, min, max, ◌≡◌, Bool, true, cond, List, [], length, get_or, take, ℤ, pos}
 use Rattle.branch.specs.Lower.{largest}
 use Rattle.model.specs.Model.{within}
-use Rattle.least.specs.Marks.{mark_of}
+use Rattle.model.specs.LastYes.{mark_in}
 use Rattle.least.specs.Suffix.{table_size, cell, code_of}
 use Rattle.search_tables.specs.Arrays.{lane_part, column_of}
 use Rattle.lane_rows.specs.Layout.{lane_count_lem, top, dear, inf, lane_rows_lem, tables_size, triangle, row_place, term_base, term_place}
@@ -29,7 +29,7 @@ own_of tab j i = min (get_or tab (cell j i) 0) inf
 
 -- is opening j in reach of mark i
 abbrev pub reach_of : ℤ → ℤ → List ℤ → ℕ → ℕ → ℕ
-reach_of life first ss j i = cond (within life (mark_of first ss i) (get_or ss j (pos 0))) 0 inf
+reach_of life first ss j i = cond (within life (mark_in first ss i) (get_or ss j (pos 0))) 0 inf
 
 -- the column of one part, by its life, the position of the change before the first, and its prices
 abbrev pub column : ℤ → ℤ → List ℕ → Column

@@ -1,5 +1,5 @@
 // Filling the tables of the walk, one lane after the other.
-ghost use Rattle.std.specs.Prelude.{◌≡◌, ℕ, ◌+◌, ◌*◌, ◌<◌, ◌≤◌, min, length, get_or, pos, ◌-ℤ◌};
+ghost use Rattle.std.specs.Prelude.{◌≡◌, ℕ, ◌<◌, ◌≤◌, min, length, get_or, pos, ◌-ℤ◌};
 ghost use Rattle.base.specs.Filled.{FilledBy};
 ghost use Rattle.least.specs.Suffix.{table_size};
 ghost use Rattle.lane_rows.specs.Layout.{lane_count_lem, mark_count, inf, suffix_base, reach_base, place, price_place};
@@ -14,8 +14,8 @@ use crate::flat::FlatJob;
 use crate::rows::{put_at, turn_row, turn_rows};
 use lane_rows::{COUNT, FEES, FOURS, INF, LANES, PRICES, REACHES, SUFFIXES, TABLES};
 use least::offers::PartOffers;
-use least::{MARKS, in_reach, last_change, mark};
-use model::{OPENINGS, STRIDE};
+use model::{MARKS, OPENINGS, STRIDE};
+use reach::{in_reach, last_change, mark};
 
 // Lane q's number: part q's, and past the last part the first part's.
 // Kept as a function of its own: it names the number that stands past the last, and is the library's `get` and `unwrap_or`.

@@ -1,5 +1,5 @@
 // E4's terms: for each number of decided openings and each mark of the last yes, the largest over the parts of the least fee of what is undecided.
-ghost use Rattle.std.specs.Prelude.{◌≡◌, ℕ, ◌+◌, ◌*◌, ◌<◌, ◌≤◌, max, length, get_or};
+ghost use Rattle.std.specs.Prelude.{ℕ, ◌+◌, ◌*◌, ◌<◌, ◌≤◌, max, length, get_or};
 ghost use Rattle.least.specs.Suffix.{table_size};
 ghost use Rattle.lane_rows.specs.Layout.{mark_count, block_rows};
 ghost use Rattle.search_tables.specs.Arrays.{lane_part, column_of};

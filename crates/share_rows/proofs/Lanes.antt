@@ -29,7 +29,7 @@ use Rattle.shares.proofs.Gap.{least_to, to_same, from_same, mid_offers}
 use Rattle.shares.proofs.Free.{rest_same, rest_split}
 use Rattle.shares.proofs.BlockRows.{rows_up, rows_are}
 use Rattle.shares.proofs.Owed.{owes_no, owes_yes}
-use Rattle.least.specs.Marks.{mark_of}
+use Rattle.model.specs.LastYes.{mark_in}
 use Rattle.lane_rows.specs.Layout.{lane_count_lem, block_size, dear, inf, suffix_base, reach_base, place, row_place, price_place, mark_place, stack_size}
 use Rattle.lane_rows.specs.Sheet.{Column, Mark, reach, solid}
 use Rattle.lane_rows.specs.Tables.{value_of}
@@ -156,7 +156,7 @@ module _ (job : Job) (shares : Shares) (course : Course) where
         omega (
           arith,
           (st.level k q l m).most,
-          coded_most (dear * (length ss - length bs)) (omega (arith, positions-length, ta.few)) (get_or t (place suffix_base (length bs) i q) 0) (least_of_lem col.life (end job) (mark_of col.first ss i) (drop (length bs) (offers ss col.prices [])))
+          coded_most (dear * (length ss - length bs)) (omega (arith, positions-length, ta.few)) (get_or t (place suffix_base (length bs) i q) 0) (least_of_lem col.life (end job) (mark_in col.first ss i) (drop (length bs) (offers ss col.prices [])))
               ((ta.lane q m).suffix (length bs) i (st.marks k l) (omega (arith, positions-length))),
         ))
 
@@ -175,7 +175,7 @@ module _ (job : Job) (shares : Shares) (course : Course) where
               omega (
                 arith,
                 (st.level k q l m).most,
-                cond_most (within col.life (mark_of col.first (positions job) (get_or w (mark_place k) 0)) (get_or (positions job) (length bs) (pos 0))),
+                cond_most (within col.life (mark_in col.first (positions job) (get_or w (mark_place k) 0)) (get_or (positions job) (length bs) (pos 0))),
                 (ta.lane q m).reach (length bs) (get_or w (mark_place k) 0) (st.marks k l) (omega (arith, positions-length)),
               ));
           size = ta.size;
@@ -333,7 +333,7 @@ module _ (job : Job) (shares : Shares) (course : Course) where
             ap solid
             (ap (marks_in first ss w' q) (add-one n)
             ∙ marks_suc first ss w' q n (get_or ss (length bs) (pos 0)) (stop_bound job shares course bs rs q) (marks_in first ss w q n)
-            (ap (mark_of first ss) (u.mark ∙ add-one (length bs))) (ap value_of (u.row q l) ∙ tr.cost q l)
+            (ap (mark_in first ss) (u.mark ∙ add-one (length bs))) (ap value_of (u.row q l) ∙ tr.cost q l)
             (marks_kept first ss w w' q n n (omega arith) (omega arith) u.kept))
             ∙ joined_rows life (marks_in first ss w q n) (offer_of bs (true ∷ rs) q) (rows bs q) (tr.below.fronts q l)
             ∙ ap marks_of (sym (rows_more bs (true ∷ rs) q tr.below.begun h))

@@ -16,7 +16,7 @@ use Rattle.model.specs.LowerBound.{Offer, plus, lower, least_of_lem, offers}
 use Rattle.model.proofs.Lower.{lower_comm}
 use Rattle.shares.specs.Sources.{Source, least_from}
 use Rattle.shares.specs.Rows.{in_time_lem, with_row, rows_with}
-use Rattle.least.specs.Marks.{mark_of}
+use Rattle.model.specs.LastYes.{mark_in}
 use Rattle.lane_rows.specs.Layout.{dear, inf, suffix_base, reach_base, place, row_place, mark_place}
 use Rattle.lane_rows.specs.Sheet.{Column, Mark, reach, solid_then, solid}
 use Rattle.lane_rows.specs.Tables.{value_of, Coded, Lane}
@@ -55,7 +55,7 @@ module _ (end : ℤ) (ss : List ℤ) (col : Column) (t : List ℕ) (q : ℕ) (la
       let i = get_or w (mark_place k) 0 in
       let d = get_or w (row_place k q) 0 in
       let e = get_or t (place suffix_base j i q) 0 in
-      let c = coded_value (dear * (length ss - j)) (omega arith) e (least_of_lem col.life end (mark_of col.first ss i) (drop j (offers ss col.prices []))) (la.suffix j i (m k (omega arith)) h) in
+      let c = coded_value (dear * (length ss - j)) (omega arith) e (least_of_lem col.life end (mark_in col.first ss i) (drop j (offers ss col.prices []))) (la.suffix j i (m k (omega arith)) h) in
       let v = value_plus d e b (dear * (length ss - j)) s (l k (omega arith)).some c.1 in
       value_lower (lane t w suffix_base j q k) (d + e) ∙ ap₂ lower (least_over k h s (λ i g. m i (omega arith)) (λ i g. l i (omega arith))) (v.0 ∙ ap (add (value_of d)) c.0)
 
@@ -69,7 +69,7 @@ module _ (end : ℤ) (ss : List ℤ) (col : Column) (t : List ℕ) (q : ℕ) (la
       let d = get_or w (row_place k q) 0 in
       let e = get_or t (place reach_base j i q) 0 in
       let r = least_reach k h (λ i g. m i (omega arith)) (λ i g. l i (omega arith)) in
-      let v = one d e (within col.life (mark_of col.first ss i) (get_or ss j (pos 0))) (la.reach j i (m k (omega arith)) h) (l k (omega arith)) in
+      let v = one d e (within col.life (mark_in col.first ss i) (get_or ss j (pos 0))) (la.reach j i (m k (omega arith)) h) (l k (omega arith)) in
       (value_lower (lane t w reach_base j q k) (d + e) ∙ ap₂ lower r.0 v.0, both (lane t w reach_base j q k) (d + e) r.1 v.1)
     where
       one : (d e : ℕ) (a : Bool) → e ≡ cond a 0 inf → Level b d → (value_of (d + e) ≡ cond a (value_of d) Missing) × (d + e < inf → d + e ≤ b)

@@ -17,7 +17,7 @@ ghost use Rattle.share_walk.specs.State.{name_size, counted_s, stopped_s, kept_s
 pub use held_lanes::NAMES;
 use held_lanes::number;
 use lane_rows::{COUNT, FEES, INF, LANES, STACK, TABLES, cell, lane_sum, next_lanes};
-use least::MARKS;
+use model::MARKS;
 use share_rows::{HOLDS, REMOVALS, SHARES, ease, put_top, shut};
 
 // The state of the walk, passed by value and handed back: the nodes reached, whether one was reached beyond the limit, the cost to be undercut, and how long the name of the incumbent is.

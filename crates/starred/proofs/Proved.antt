@@ -25,7 +25,7 @@ use Rattle.plan_printing.specs.Printed.{low_lines, printed_lines}
 use Rattle.planning.specs.Plan.{search_lines, planned_lines, plan_said}
 use Rattle.latest.specs.Latest.{latest_from, each_served, latest_answer_of}
 use Rattle.serving.specs.Serve.{served_lines, latest_said}
-use Rattle.model.specs.Count.{each_reaches, each_kept, count_from, open_count}
+use Rattle.longest_walk.specs.Count.{each_reaches, each_kept, count_from, open_count}
 use Rattle.counting.specs.Count.{counted_job_lem, count_said}
 use Rattle.covers.specs.Grammar as cover
 use Rattle.covers.specs.Views.{meant_cover}

@@ -1,9 +1,10 @@
 // The counted walk over the tables of a job: a node, and the recursion on both branches.
 #![tactic(auto)]
 
-ghost use Rattle.std.specs.Prelude.{◌≡◌, true, false, ◌+◌, ◌-◌, ◌*◌, ◌^◌, ◌<◌, length};
+ghost use Rattle.std.specs.Prelude.{◌≡◌, ◌+◌, ◌-◌, ◌*◌, ◌^◌, ◌<◌, length};
 ghost use Rattle.branch.specs.Label.{open_from};
 ghost use Rattle.branch.specs.declared.Bound.TheVariants.{Sum};
+ghost use Rattle.model.specs.Limits.{most_openings};
 ghost use Rattle.lane_rows.specs.Sheet.{Sheet, sheet_bound};
 ghost use Rattle.lane_rows.specs.Tables.{Tables};
 ghost use Rattle.lane_rows.specs.Rows.{Recalled};
@@ -27,7 +28,7 @@ impl Node {
     // The node below: no stop at the next opening.
     // Kept with the place in the clause, here and in `yes`: a node at the last place has no branches, and is a node too.
     pub fn no(self, rows: usize) -> Node
-        requires { (self.at < 64) × (self.mask * 2 < 2 ^ 64) }
+        requires { (self.at < most_openings) × (self.mask * 2 < 2 ^ 64) }
         ensures { result ≡ no_n self rows }
     {
         Node {
@@ -40,7 +41,7 @@ impl Node {
 
     // The node below: stop at the next opening.
     pub fn yes(self, rows: usize, fee: u64) -> Node
-        requires { (self.at < 64) × (self.mask * 2 + 1 < 2 ^ 64) × (self.spent + fee < 2 ^ 64) }
+        requires { (self.at < most_openings) × (self.mask * 2 + 1 < 2 ^ 64) × (self.spent + fee < 2 ^ 64) }
         ensures { result ≡ yes_n self rows fee }
     {
         Node {

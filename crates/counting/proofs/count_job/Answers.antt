@@ -8,10 +8,10 @@ use mir.Syntax.{w32}
 use mir.Val.{to_z, of_z}
 use Rattle.model.specs.Model.{Part}
 use Rattle.model.specs.Limits.{longest_life}
-use Rattle.model.specs.Count.{least_life, least_left, count_for}
-use Rattle.model.proofs.Entries.{count_least}
+use Rattle.longest_walk.specs.Count.{least_life, least_left, count_for}
+use Rattle.longest_walk.proofs.Entries.{count_least}
 use Rattle.jobs.specs.Views.{job_of}
-use Rattle.least.specs.Marks.{mark_of}
+use Rattle.model.specs.LastYes.{mark_in}
 use Rattle.base.specs.Signed.{Bits31}
 use Rattle.base.proofs.Diff.{back}
 use Rattle.clock.proofs.Ranges.{position_bits, life_bits}
@@ -47,7 +47,7 @@ invariant_of-gaps c = let j = c.args.job.now.job in
     record {
       few = omega (arith, j.few_openings, length-take j.opening_count p.result.at);
       late = rw (position_bits p.result.end p.ensures.end_range) (late_job j p.result p.ensures);
-      small = subst (λ (z : ℤ). (k : ℕ) → Bits31 (mark_of z (take j.opening_count p.result.at) k)) (sym (first (goal.at.invariant_of-gaps c).After-last_change)) small;
+      small = subst (λ (z : ℤ). (k : ℕ) → Bits31 (mark_in z (take j.opening_count p.result.at) k)) (sym (first (goal.at.invariant_of-gaps c).After-last_change)) small;
     }
 
 pub returns : goal.returns

@@ -1,7 +1,7 @@
 -- `counted_job`: a job with a holder is refused, and any other counted. By the test.
 use Prim.Native.Nat.{ℕ}
 use mathlib.Core.Path.{◌≡◌, refl, sym, ap, ◌∙◌}
-use Rattle.model.specs.Count.{open_count}
+use Rattle.longest_walk.specs.Count.{open_count}
 use Rattle.jobs.specs.Views.{job_of}
 use Rattle.counting.specs.Count.{plain_lem, count_given, counted_job_lem}
 use Rattle.counting.proofs.counted_job.Goals as goal

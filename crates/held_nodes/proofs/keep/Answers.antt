@@ -5,15 +5,16 @@ use mathlib.Core.List.{List}
 use native.Mathlib.Decide.{dec_lt}
 use native.Mathlib.Omega.{arith}
 use lib.ListN.{get_or}
+use Rattle.model.specs.Limits.{most_openings}
 use Rattle.held_lanes.specs.Places.{removed_place, best_place}
 use Rattle.held_nodes.proofs.keep.Goals as goal
 
 -- a place that is none of the incumbent's is before or behind them
-outside : (v w : List ℕ) (x : ℕ) → ((k d : ℕ) → k < best_place 0 → get_or w k d ≡ get_or v k d) → ((k d : ℕ) → best_place 64 ≤ k → get_or w k d ≡ get_or v k d)
-    → ((y : ℕ) → y < 64 → x ≡ best_place y → ⊥) → get_or w x 0 ≡ get_or v x 0
-outside v w x before behind h = go (dec_lt x (best_place 0)) (dec_lt x (best_place 64))
+outside : (v w : List ℕ) (x : ℕ) → ((k d : ℕ) → k < best_place 0 → get_or w k d ≡ get_or v k d) → ((k d : ℕ) → best_place most_openings ≤ k → get_or w k d ≡ get_or v k d)
+    → ((y : ℕ) → y < most_openings → x ≡ best_place y → ⊥) → get_or w x 0 ≡ get_or v x 0
+outside v w x before behind h = go (dec_lt x (best_place 0)) (dec_lt x (best_place most_openings))
   where
-    go : Dec (x < best_place 0) → Dec (x < best_place 64) → get_or w x 0 ≡ get_or v x 0
+    go : Dec (x < best_place 0) → Dec (x < best_place most_openings) → get_or w x 0 ≡ get_or v x 0
     go (yes l) d = before x 0 l
     go (no l) (no g) = behind x 0 (omega (arith, g))
     go (no l) (yes g) = absurd (h (x - best_place 0) (omega (arith, l, g)) (omega (arith, l, g)))

@@ -6,6 +6,7 @@ use mathlib.Core.List.{List}
 use native.Mathlib.Omega.{arith}
 use lib.ListN.{length, get_or}
 use Rattle.branch.specs.Label.{limited_from, open_from}
+use Rattle.model.specs.Limits.{most_openings}
 use Rattle.branch.specs.declared.Bound.{Bound}
 use Rattle.branch.specs.declared.Bound.TheVariants.{Missing, Sum}
 use Rattle.branch.proofs.Bounds.{sum_inj}
@@ -70,7 +71,7 @@ under : (t : ℕ) (c : Else-p-cell t) (sheet : Sheet) → Given t c.before.befor
 under t c sheet h = omega (arith, h.inside, h.tables.count, c.cell.ensures, c.if-p-cell.false)
 
 -- at most 63 openings are decided
-near : (t : ℕ) (c : Else-p-cell t) → c.args.p.at < 64
+near : (t : ℕ) (c : Else-p-cell t) → c.args.p.at < most_openings
 near t c = let h = given t c.before.before.before in omega (arith, under t c (sheet_of_lem t c.before.before.before) h, h.tables.few)
 
 pub overflow_add-j : goal.overflow_add-j

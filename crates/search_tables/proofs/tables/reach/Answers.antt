@@ -3,7 +3,7 @@ use Prim.Native.Nat.{suc}
 use native.Mathlib.Omega.{arith}
 use lib.ListN.{get_or}
 use lib.IntN.{pos}
-use Rattle.least.proofs.Gaps.{gap_fits}
+use Rattle.reach.proofs.Gaps.{gap_fits}
 use Rattle.search_tables.proofs.tables.reach.Goals as goal
 
 pub in_reach-requires : goal.in_reach-requires

@@ -3,7 +3,7 @@ use Prim.Native.Nat.{suc}
 use native.Mathlib.Omega.{arith}
 use lib.ListN.{get_or}
 use lib.IntN.{pos}
-use Rattle.least.proofs.Gaps.{gap_fits}
+use Rattle.reach.proofs.Gaps.{gap_fits}
 use Rattle.least.proofs.offers.PartOffers.changed.Goals as goal
 
 pub change_at-requires : goal.change_at-requires

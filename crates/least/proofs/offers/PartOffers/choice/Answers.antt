@@ -7,16 +7,17 @@ use native.Mathlib.Omega.{arith}
 use lib.ListN.{length, drop, replicate, length-replicate}
 use lib.Seq.{length-take-le}
 use Rattle.std.proofs.lemmas.List.{drop-replicate}
+use Rattle.model.specs.Limits.{most_openings}
 use Rattle.model.specs.LowerBound.{choice_of, offers}
-use Rattle.model.proofs.Offers.{offers-length}
-use Rattle.least.proofs.Table.{mark_below, offer_at, chosen_none, chosen_next, chosen_all, offers-drop, mark_next}
+use Rattle.model.proofs.Offers.{offers-length, offer_at, offers-drop}
+use Rattle.least.proofs.Table.{mark_below, chosen_none, chosen_next, chosen_all, mark_next}
 use Rattle.least.proofs.Rows.{changes_read}
 use Rattle.least.proofs.offers.PartOffers.choice.Goals as goal
 use Rattle.least.proofs.offers.PartOffers.choice.Goals.{then-changed, else-changed}
 
 pub loop-k-init : goal.loop-k-init
 loop-k-init c = let s = c.args.self.now in
-    (omega arith, chosen_none _ _ _ _ _ _ (length-take-le (length s.positions.now) (replicate 64 false) (omega (arith, length-replicate 64 false, s.few))))
+    (omega arith, chosen_none _ _ _ _ _ _ (length-take-le (length s.positions.now) (replicate most_openings false) (omega (arith, length-replicate most_openings false, s.few))))
 
 pub changes-requires : goal.changes-requires
 changes-requires c = let z = c.loop-k.invariant.1.size in (omega (arith, c.fill.ensures.size), c.loop-k.invariant.0, omega (arith, z, c.loop-k-test.true, c.loop-k.auto.changed-items))
@@ -41,6 +42,6 @@ returns c = let s = c.args.self.now in
     let l = c.loop-k in
     let n = length s.positions.now in
     let os = offers s.positions.now s.prices.now s.allowed.now in
-    ap (λ (xs : List Bool). xs ++ drop n (replicate 64 false))
+    ap (λ (xs : List Bool). xs ++ drop n (replicate most_openings false))
     (chosen_all n s.life s.end s.first os _ l.changed-items l.k (offers-length s.positions.now s.prices.now s.allowed.now) (omega (arith, l.invariant.1.size, c.loop-k-test.false, l.auto.changed-items)) l.invariant.1)
-    ∙ ap (λ (xs : List Bool). choice_of s.life s.end s.first os ++ xs) (drop-replicate n 64 false)
+    ∙ ap (λ (xs : List Bool). choice_of s.life s.end s.first os ++ xs) (drop-replicate n most_openings false)

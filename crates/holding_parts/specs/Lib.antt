@@ -1,0 +1,2 @@
+-- The places of a set (Places).
+pub mod Places

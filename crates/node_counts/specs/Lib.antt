@@ -1,0 +1,2 @@
+-- One row of the count's table (Row).
+pub mod Row
