@@ -109,10 +109,11 @@ juzvarola_answer juzvarola_plan(const uint8_t *job, size_t job_len, uint64_t wal
  *               whatever the number. A number above 4000000000 counts as 4000000000.
  * Result 0: `result`, then the plan lines, with a `costlow` line before them where the job has a `low` line. No plan costs less; of the plans that cost as
  * much it is the one of juzvarola_plan, which writes the same bytes behind `floor` wherever it says 0 too.
- * Result 7: one of the walks has more nodes than the walk number. `result`, then `floor`: no plan costs less; and then, where the first nodes of the
- * search of juzvarola_plan have a plan, the lines of the cheapest of these, at its true cost.
- * Which floor is said with 7, which plan stands behind it and whether one does, and whether 7 is said, may change from version to version; a 0 has
- * always the same bytes.
+ * Result 7: the whole search of juzvarola_plan has more nodes than the walk number or 262,144, whichever is less, and one of the walks here has more
+ * than the walk number. `result`, then `floor`: no plan costs less, and it is no lower than that of juzvarola_plan; and then, where one of the first
+ * nodes of the search of juzvarola_plan (as many at least, and no more than the walk number) is a plan, the lines of the best of these, at its true cost.
+ * Within this, which floor is said with 7, which plan stands behind it, and whether 7 is said, may change from version to version; a 0 has always the
+ * same bytes.
  */
 juzvarola_answer juzvarola_optimum(const uint8_t *job, size_t job_len, uint64_t walk, uint8_t *out, size_t out_len);
 

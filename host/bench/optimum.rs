@@ -9,7 +9,7 @@ use std::path::Path;
 /// A job is repeated until it took this long; one that takes longer by itself is run once.
 const SECONDS: f64 = 0.2;
 /// The library's own first walk.
-const FIRST: u64 = 65_536;
+const FIRST: u64 = 262_144;
 /// The nodes of each walk for a lift.
 const LIFT: u64 = 20_000;
 const LIMIT: u64 = 4_000_000_000;

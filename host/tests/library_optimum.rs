@@ -13,6 +13,9 @@ use juzvarola_host::{plan, MOST_WALK};
 /// Random jobs.
 const CASES: u64 = 100_000;
 
+/// The most nodes of the first walk.
+const FIRST: u64 = 262_144;
+
 /// An answer of the planner without its `nodes` and `floor`; none where it is 7.
 fn without_walk(answer: &str) -> Option<String> {
     let stays = |line: &&str| !line.starts_with("nodes=") && !line.starts_with("floor=");
@@ -98,16 +101,38 @@ fn in_a_circle(facts: &inputs::Facts) -> bool {
 }
 
 /// The planner's plan where the optimum is asked with fewer nodes than the counted walk has, so that only the walks by shares can find it. Whether
-/// they did; else their floor is no higher than its cost.
-fn shares_alone(text: &[u8], planned: &str) -> bool {
-    let nodes = value(planned, "nodes").expect("nodes");
-    let answer = best(text, nodes - 1);
+/// they did; else their floor is between the planner's and its cost, and the plan in hand is the planner's of as many first nodes.
+fn shares_alone(text: &[u8], whole: &str) -> bool {
+    let walk = value(whole, "nodes").expect("nodes") - 1;
+    let answer = best(text, walk);
     if value(&answer, "result") == Some(7) {
-        assert!(value(&answer, "floor").expect("a floor") <= value(planned, "cost").expect("a cost"), "{answer}");
+        let floor = value(&answer, "floor");
+        assert!(value(whole, "floor") <= floor && floor <= value(whole, "cost"), "{answer}{whole}");
+        assert_eq!(plan_in(&answer), plan_in(&planned(text, walk.min(FIRST))), "{}", text.escape_ascii());
         return false;
     }
-    assert_eq!(Some(answer), without_walk(planned), "{}", text.escape_ascii());
+    assert_eq!(Some(answer), without_walk(whole), "{}", text.escape_ascii());
     true
+}
+
+/// With growing walk numbers: once 0 is said, the same bytes are said with every larger one.
+#[test]
+fn a_larger_walk_number_keeps_a_0() {
+    common::with_stack(|| {
+        let mut rng = Rng::new(setting("JUZVAROLA_SEED", 65));
+        let (mut turned, mut none) = (0, 0);
+        for number in 0..setting("JUZVAROLA_CASES", 400) {
+            let facts = inputs::facts(&mut rng, if number % 10 == 0 { inputs::MIDDLE } else { inputs::SMALL });
+            let text = facts.text();
+            let answers: Vec<String> = (0..10).map(|power| best(&text, 4u64.pow(power) - 1)).collect();
+            let cut = answers.iter().take_while(|answer| answer.starts_with("result=7\n")).count();
+            assert!(answers[cut..].iter().all(|answer| *answer == answers[cut]), "{facts:?}");
+            turned += u64::from(cut > 0 && cut < answers.len());
+            none += u64::from(answers[0] == "result=6\n");
+        }
+        println!("{turned} jobs whose 7 turns to a 0 that stays, {none} without a plan");
+        assert!(turned >= 100 && none >= 10);
+    });
 }
 
 #[test]

@@ -1,5 +1,5 @@
 -- What is known where a walk ends the walks, and where it does not.
-use Prim.Native.Nat.{ℕ, min}
+use Prim.Native.Nat.{ℕ, ◌<◌, ◌≤◌, min}
 use mathlib.Core.Path.{◌≡◌, refl, sym, ap, subst, ◌∙◌}
 use mathlib.Core.Bool.{Bool, true, false, cond}
 use mathlib.Core.List.{List}
@@ -22,7 +22,7 @@ use Rattle.share_walk.proofs.Worth.{found_best, nothing_less, cut_longer}
 use Rattle.cutoffs.specs.declared.found.Over.{Over}
 use Rattle.cutoffs.specs.declared.Risen.{Risen}
 use Rattle.cutoffs.specs.Ends.{plain, seen, ended_s}
-use Rattle.cutoffs.specs.Risen.{RisenRight}
+use Rattle.cutoffs.specs.Risen.{last_of, RisenRight}
 use Rattle.cutoffs.proofs.Names.{take_min}
 
 -- what is found by numbers alone
@@ -44,19 +44,25 @@ module _ (k floor : ℕ) (s : State) (job : Job) (shares : Shares) (fair : FairS
       go false true o g h = let z : ◌≡◌ {A = ℕ} 0 1 = cc in absurd (omega arith)
       go false false o g h = nothing_less job shares fair lanes lift lifted k limit best s v o (ltb-false s.cost k g)
 
-  -- where it does, the end is right
-  pub walks_end : (r : Risen) → seen (Some r) ≡ ended_s k floor s → length best ≡ name_size → NoneUnder job floor → RisenRight job shares lift limit best r
+  -- where it does, the end is right, where no plan costs less than `known`
+  pub walks_end : (known : ℕ) (in_hand : Option ℕ) (r : Risen) → seen (Some r) ≡ ended_s k floor s → length best ≡ name_size → known ≤ floor → floor < k → k ≤ last_of in_hand → NoneUnder job floor → RisenRight job shares lift known in_hand limit best r
   unfolding seen plain
-  walks_end r e n none = go s.over (ltb s.cost k) refl refl e
+  walks_end known in_hand r e n risen above most none = go s.over (ltb s.cost k) refl refl e
     where
-      go : (b l : Bool) → s.over ≡ b → ltb s.cost k ≡ l → Some (plain r.found, r.floor) ≡ End k floor s b l → RisenRight job shares lift limit best r
+      go : (b l : Bool) → s.over ≡ b → ltb s.cost k ≡ l → Some (plain r.found, r.floor) ≡ End k floor s b l → RisenRight job shares lift known in_hand limit best r
       go true l o g h =
           let c : ◌≡◌ {A = Told × ℕ} (plain r.found, r.floor) (Err (record {}), floor) = cc in
           let a = ap (λ (x : Told × ℕ). x.0) c in
           record {
             plan_found_lem = λ u f. let y = sym (ap plain f) ∙ a in let z : ◌≡◌ {A = ℕ} 0 1 = cc in absurd (omega arith);
-            longer = λ _ f. (k, cut_longer job shares fair lanes lift lifted k limit best s v o);
+            longer = λ _ f. record {
+              cutoff = k;
+              above = rw (ap (λ (x : Told × ℕ). x.1) c) above;
+              most = most;
+              longer = cut_longer job shares fair lanes lift lifted k limit best s v o;
+            };
             none_under = subst (NoneUnder job) (sym (ap (λ (x : Told × ℕ). x.1) c)) none;
+            risen = rw (ap (λ (x : Told × ℕ). x.1) c) risen;
             passed = λ f. let y = sym (ap plain f) ∙ a in let z : ◌≡◌ {A = ℕ} 0 1 = cc in absurd (omega arith);
           }
       go false true o g h =
@@ -71,6 +77,7 @@ module _ (k floor : ℕ) (s : State) (job : Job) (shares : Shares) (fair : FairS
                 (found_best job shares fair lanes lift lifted k limit best s v o (ltb-true s.cost k g)));
             longer = λ _ f. let y = sym (ap plain f) ∙ a in let z : ◌≡◌ {A = ℕ} 0 1 = cc in absurd (omega arith);
             none_under = subst (NoneUnder job) (sym (ap (λ (x : Told × ℕ). x.1) c)) none;
+            risen = rw (ap (λ (x : Told × ℕ). x.1) c) risen;
             passed = λ f. let y = sym (ap plain f) ∙ a in let z : ◌≡◌ {A = ℕ} 0 1 = cc in absurd (omega arith);
           }
       go false false o g h = let z : ◌≡◌ {A = ℕ} 0 1 = cc in absurd (omega arith)

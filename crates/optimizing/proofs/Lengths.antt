@@ -2,6 +2,7 @@
 use Prim.Native.Nat.{ℕ, ◌≤◌}
 use native.Mathlib.Omega.{arith}
 use lib.ListN.{length, length-append}
+use Rattle.std.specs.Prelude.{Option, None, Some}
 use Rattle.lines.specs.Text.{bytes}
 use Rattle.lines.proofs.Writing.{line_most}
 use Rattle.model.specs.Model as model
@@ -22,13 +23,13 @@ use Rattle.optimizing.specs.Optimum.{floor_lines, optimum_lines, Fits, optimum_r
 
 module _ (job : model.Job) (valid : ValidJob job) (walk : ℕ) where
   -- the floor is at most the cost of a plan
-  floor_most : (floor : ℕ) → Beyond job walk floor → floor ≤ dearest_plan
-  floor_most floor b = omega (arith, b.none_under b.has_plan.0 b.has_plan.1, cost_most job valid b.has_plan.0)
+  floor_most : (floor : ℕ) (in_hand : Option ℕ) → Beyond job walk floor in_hand → floor ≤ dearest_plan
+  floor_most floor in_hand b = omega (arith, b.none_under b.has_plan.0 b.has_plan.1, cost_most job valid b.has_plan.0)
 
   pub fits : (a : PlannerAnswer) → Ends job walk a → Fits a
   fits no_plan_lem2 p = tt
-  fits (cut_none n f) p = omega (arith, floor_most f p)
-  fits (cut n f c q) p = (omega (arith, floor_most f p.0), omega (arith, p.1.1.states, cost_most job valid q))
+  fits (cut_none n f) p = omega (arith, floor_most f None p.0)
+  fits (cut n f c q) p = (omega (arith, floor_most f (Some c) p.0), omega (arith, p.1.best.states, cost_most job valid q))
   fits (optimum n f c q) p = omega (arith, p.states, cost_most job valid q)
 
 -- the lines `result` and `floor` have at most 35 bytes together

@@ -7,6 +7,7 @@ use mathlib.Core.Logic.{◌⊎◌, inl, inr, ⊎_elim}
 use native.Mathlib.Omega.{arith}
 use native.Mathlib.Decide.{dec_lt}
 use borrow.Author.Tests.{lt-ltb, le-ltb}
+use Rattle.std.specs.Prelude.{None, Some}
 use Rattle.lines.specs.Text.{line_of}
 use Rattle.lines.specs.Parser.{accepted, refused}
 use Rattle.lines.proofs.Outcomes.{one_value, not_both}
@@ -89,18 +90,19 @@ module _ (text : List ℕ) (given : Given) (is : read_job_lem text ≡ accepted 
 
     seven : (a : PlannerAnswer) → Ending a → result_of a ≡ 7 → CutShort text walk given (said_for given a)
     seven no_plan_lem2 p e = absurd (omega arith)
-    seven (cut_none n f) p e = record { floor = f; beyond = p; writes = inl refl }
+    seven (cut_none n f) p e = record { floor = f; in_hand = None; beyond = p.0; writes = record { none = p.1; all = refl } }
     seven (cut n f c q) p e = record {
       floor = f;
+      in_hand = Some c;
       beyond = p.0;
-      writes = inr (record { cost = c; plan = q; in_hand = p.1; prints = behind (Walked given.job p.1.0) (floor_lines f) c q (said_for given (cut n f c q)) p.1.1 refl });
+      writes = record { plan = q; in_hand = p.1; prints = behind (Walked given.job p.1.nodes) (floor_lines f) c q (said_for given (cut n f c q)) p.1.best refl };
     }
     seven (optimum n f c q) p e = absurd (omega arith)
 
     -- which number is said
     planned : (a : PlannerAnswer) → Ending a → (result_of a ≡ 0) ⊎ (result_of a ≡ 7) → HasPlan given.job
     planned no_plan_lem2 p e = ⊎_elim (λ z. absurd (omega (arith, z))) (λ z. absurd (omega (arith, z))) e
-    planned (cut_none n f) p e = p.has_plan
+    planned (cut_none n f) p e = p.0.has_plan
     planned (cut n f c q) p e = p.0.has_plan
     planned (optimum n f c q) p e = (q, p.keeps)
 
@@ -118,7 +120,7 @@ module _ (text : List ℕ) (given : Given) (is : read_job_lem text ≡ accepted 
 
     none : (a : PlannerAnswer) → Ending a → (HasPlan given.job → ⊥) → result_of a ≡ 6
     none no_plan_lem2 p h = refl
-    none (cut_none n f) p h = absurd (h p.has_plan)
+    none (cut_none n f) p h = absurd (h p.0.has_plan)
     none (cut n f c q) p h = absurd (h p.0.has_plan)
     none (optimum n f c q) p h = absurd (h (q, p.keeps))
 

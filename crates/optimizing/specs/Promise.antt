@@ -1,6 +1,6 @@
 -- What the call promises, over the job text, the walk number of the call, the room lent and the answer.
--- It is no equation: which floor is said with 7, which plan is in hand then and whether one is written, and whether 7 is said, is free within these sentences.
-use Rattle.std.specs.Prelude.{ℕ, ◌≤◌, ◌<◌, ◌≡◌, List, ◌++◌, ◌↔◌, ◌⊎◌, length}
+-- It is no equation: which floor is said with 7, how many of the planner's first nodes are looked at for a plan in hand, and whether 7 is said, is free within these sentences.
+use Rattle.std.specs.Prelude.{ℕ, ◌≤◌, ◌<◌, ◌≡◌, Option, None, Some, List, ◌++◌, ◌↔◌, ◌⊎◌, length}
 use Rattle.lines.specs.Text.{line_of}
 use Rattle.lines.specs.Parser.{refused}
 use Rattle.model.specs.Model.{Plan, HasPlan}
@@ -12,7 +12,7 @@ use Rattle.answers.specs.declared.Answer.{Answer}
 use Rattle.plan_printing.specs.Printed.{printed_lines}
 use Rattle.planning.specs.Plan.{search_lines, walk_number_lem, plan_said}
 use Rattle.planning.specs.Promise.{PrintsBehind}
-use Rattle.optimum_search.specs.Ends.{Beyond, InHand}
+use Rattle.optimum_search.specs.Ends.{Beyond, InHand, NoneInHand}
 use Rattle.optimizing.specs.Optimum.{floor_lines, optimum_room}
 
 -- with 0: the plan keeps every life, states its true cost, costs no more than any plan of the model that keeps every life, and is the tie rule's choice; its lines are read back as this plan and this cost, and
@@ -25,17 +25,27 @@ pub record PrintsBest (text : List ℕ) (given : Given) (s : Said) : Type 0 wher
   pub all : s.bytes ≡ line_of "result=" 0 ++ printed_lines given cost plan
 
 -- with 7 and a plan: it keeps every life and states its true cost, its lines are read back so, and the judge accepts them
-pub record PrintsInHand (text : List ℕ) (given : Given) (floor : ℕ) (s : Said) : Type 0 where
-  pub cost : ℕ
+pub record PrintsInHand (text : List ℕ) (walk : ℕ) (given : Given) (floor : ℕ) (s : Said) (cost : ℕ) : Type 0 where
   pub plan : Plan
-  pub in_hand : InHand given.job cost plan
+  pub in_hand : InHand given.job (walk_number_lem walk) cost plan
   pub prints : PrintsBehind text given (floor_lines floor) s cost plan
 
--- with 7: no plan costs less than the floor that is written, one of the walks has more nodes than the walk number, and behind the floor stands nothing or a plan in hand
+-- with 7 and no plan: the floor alone is written, and none of the first nodes of the planner's walk is a plan
+pub record PrintsNone (walk : ℕ) (given : Given) (floor : ℕ) (s : Said) : Type 0 where
+  pub none : NoneInHand given.job (walk_number_lem walk)
+  pub all : s.bytes ≡ floor_lines floor
+
+-- what stands behind the floor: a plan in hand of this cost, or nothing where there is none
+abbrev pub PrintsSo : List ℕ → ℕ → Given → ℕ → Said → Option ℕ → Type 0
+PrintsSo text walk given floor s None = PrintsNone walk given floor s
+PrintsSo text walk given floor s (Some cost) = PrintsInHand text walk given floor s cost
+
+-- with 7: no plan costs less than the floor that is written, and neither the planner's walk nor one of those by shares ends within the nodes that it may have (`Beyond`)
 pub record CutShort (text : List ℕ) (walk : ℕ) (given : Given) (s : Said) : Type 0 where
   pub floor : ℕ
-  pub beyond : Beyond given.job (walk_number_lem walk) floor
-  pub writes : (s.bytes ≡ floor_lines floor) ⊎ PrintsInHand text given floor s
+  pub in_hand : Option ℕ
+  pub beyond : Beyond given.job (walk_number_lem walk) floor in_hand
+  pub writes : PrintsSo text walk given floor s in_hand
 
 -- the same bytes behind `result` as behind the planner's `floor`
 pub record SameBehind (s planner : Said) : Type 0 where

@@ -63,7 +63,7 @@ fn search_text(text: &AcceptedText, walk: u32, out: &mut [u8]) -> Answer
 }
 
 // The optimum of a job text, each walk with at most as many nodes as the walk number. 6 exactly if the job is accepted and has no plan. With 0 the plan printed is the best of all, the planner's to the byte;
-// with 7 one of the walks has more nodes than the walk number, no plan costs less than the floor, and the plan printed, if there is one, keeps every life at its true cost (`OptimumPromise`).
+// with 7 neither the planner's walk nor one by shares ends within the nodes that it may have, no plan costs less than the floor, and the plan printed is the best of the planner's first nodes, if one of these is a plan (`OptimumPromise`).
 // What is handed over, and every byte of the output, is that of such an answer (`Answered`).
 pub fn optimum(job: &[u8], walk: u64, out: &mut [u8]) -> Answer
     ensures { Answered job.now walk out.old out.new result }

@@ -14,17 +14,17 @@ use jobs::Accepted;
 use search::Found;
 use share_search::search_shared;
 
-// The most nodes of the first counted walk: it takes no longer than the shares do, and a job whose walk ends in it needs none.
-const FIRST: u32 = 65536;
+// The most nodes of the first counted walk: it takes little longer than the shares do, a job whose walk ends in it needs none, and where a walk by shares is cut it has the plan in hand.
+const FIRST: u32 = 262144;
 
-// The search by shares of an accepted job, each walk of the job with at most `limit` nodes. No plan costs less than `floor`.
+// The search by shares of an accepted job, each walk of the job with at most `limit` nodes. No plan costs less than `floor`; `in_hand` is what a plan in hand costs, if there is one.
 // A call of its own, so that what it needs of the stack does not lie beside what the counted walk needs.
 #[inline(never)]
-fn search_by_shares(job: &Accepted, floor: u64, limit: u32) -> Found
-    ensures { NoneUnder (job_of job.now.job) floor → Sought (job_of job.now.job) limit result }
+fn search_by_shares(job: &Accepted, floor: u64, in_hand: Option<u64>, limit: u32) -> Found
+    ensures { NoneUnder (job_of job.now.job) floor → Sought (job_of job.now.job) floor in_hand limit result }
 {
     let layout = layout_of(job);
-    search_shared(&layout.held(job), floor, u64::from(limit))
+    search_shared(&layout.held(job), floor, in_hand, u64::from(limit))
 }
 
 // The search of an accepted job, each walk of the job with at most `limit` nodes; the walks that find lifts have limits of their own.
@@ -38,7 +38,7 @@ pub fn search_optimum(job: &Accepted, limit: u32) -> Found
     if !first.over {
         return first;
     }
-    let shared = search_by_shares(job, floor, limit);
+    let shared = search_by_shares(job, floor, first.cost, limit);
     if let Some(cost) = shared.cost {
         return Found {
             over: false,

@@ -1,29 +1,30 @@
 -- What the search by shares finds of a job: the best of all plans; or that one of its walks has more nodes than the limit; or that no plan costs less than the last cutoff. And a floor.
-use Rattle.std.specs.Prelude.{ℕ, ◌<◌, ◌≤◌, ◌≡◌, Bool, true, false, Option, Some, None, Result, Ok, Err, List, length}
+use Rattle.std.specs.Prelude.{ℕ, ◌≤◌, ◌≡◌, Bool, true, false, Option, Some, None, Result, Ok, Err, List, length}
 use Rattle.branch.specs.declared.Bound.TheVariants.{Sum}
 use Rattle.model.specs.Model.{Job}
 use Rattle.model.specs.Promise.{BestPlan, Any}
-use Rattle.known_cost.specs.Known.{count_under}
 use Rattle.shares.specs.Shares.{Shares, FairShares}
-use Rattle.shares.specs.Optimum.{tree_by}
 use Rattle.shares.specs.Certificate.{NoneUnder}
-use Rattle.shares.specs.Lift.{Lifted, lifted_bound}
-use Rattle.lane_rows.specs.Layout.{inf}
+use Rattle.shares.specs.Lift.{Lifted}
 use Rattle.jobs.specs.declared.Plan as code
 use Rattle.search.specs.declared.Found.{Found}
 use Rattle.search.specs.Found.{plan_found}
 use Rattle.cutoffs.specs.declared.Risen.{Risen}
 use Rattle.cutoffs.specs.declared.found.Undercut.{Undercut}
 use Rattle.cutoffs.specs.declared.found.Over.{Over}
-use Rattle.cutoffs.specs.Risen.{RisenRight}
+use Rattle.cutoffs.specs.Risen.{last_of, CutWalk, RisenRight}
 
--- a walk by some fair shares, with some lifts of its levels, from some cutoff has more nodes than the limit
-abbrev pub Longer : Job → ℕ → Type 0
-Longer job limit = (shares : Shares) × FairShares job shares × (lift : ℕ → ℕ) × Lifted job shares lift × (k : ℕ) × (limit < count_under (tree_by job (lifted_bound job shares lift)) k)
+-- a walk by some fair shares, with some lifts of its levels, from a cutoff above the floor, and at most one above what a plan in hand costs, has more nodes than the limit
+pub record Longer (job : Job) (in_hand : Option ℕ) (limit floor : ℕ) : Type 0 where
+  pub shares : Shares
+  pub fair : FairShares job shares
+  pub lift : ℕ → ℕ
+  pub lifted : Lifted job shares lift
+  pub cut : CutWalk job shares lift in_hand limit floor
 
--- the walks by some fair shares with some lifts end so
-abbrev pub Rises : Job → ℕ → List Bool → Risen → Type 0
-Rises job limit best r = (shares : Shares) × FairShares job shares × (lift : ℕ → ℕ) × Lifted job shares lift × RisenRight job shares lift limit best r
+-- the walks by some fair shares with some lifts end so, where no plan costs less than `known`
+abbrev pub Rises : Job → ℕ → Option ℕ → ℕ → List Bool → Risen → Type 0
+Rises job known in_hand limit best r = (shares : Shares) × FairShares job shares × (lift : ℕ → ℕ) × Lifted job shares lift × RisenRight job shares lift known in_hand limit best r
 
 -- a walk was cut
 abbrev pub over_of : Result (Option Undercut) Over → Bool
@@ -40,11 +41,16 @@ cost_of (Err o) = None
 abbrev pub found_of_lem : Risen → code.Plan → Found
 found_of_lem r plan = record { count = 0; over = over_of r.found; cost = cost_of r.found; floor = Sum r.floor; plan = plan }
 
--- what is found
-pub record Sought (job : Job) (limit : ℕ) (r : Found) : Type 0 where
+-- what is found of a job none of whose plans costs less than `known`, where a plan in hand, if there is one, costs `in_hand`
+pub record Sought (job : Job) (known : ℕ) (in_hand : Option ℕ) (limit : ℕ) (r : Found) : Type 0 where
+  -- a plan that is found is the best of all
   pub plan_found_lem : (c : ℕ) → r.cost ≡ Some c → BestPlan job Any c (plan_found (length job.openings) (length job.parts) r)
-  pub longer : r.over ≡ true → Longer job limit
+  -- the floor, which no plan costs less than, and which is no lower than the one that was known
   pub low : ℕ
   pub floor : r.floor ≡ Sum low
   pub none_under : NoneUnder job low
-  pub passed : r.cost ≡ None → r.over ≡ false → inf ≤ low
+  pub risen : known ≤ low
+  -- a walk that is cut has more nodes than the limit
+  pub longer : r.over ≡ true → Longer job in_hand limit low
+  -- where no plan is found and no walk is cut, no plan costs less than the last cutoff
+  pub passed : r.cost ≡ None → r.over ≡ false → last_of in_hand ≤ low

@@ -13,7 +13,7 @@ ghost use Rattle.cutoffs.specs.declared.found.Undercut.{Undercut};
 ghost use Rattle.share_search.specs.Sought.{found_of_lem, Rises, Sought};
 
 use branch::Bound;
-use cutoffs::{LAST, Risen, rise};
+use cutoffs::{LAST_CUTOFF, Risen, rise};
 use held_search::plan_of;
 use held_tables::numbers::HeldNumbers;
 use jobs::Plan;
@@ -25,24 +25,31 @@ use share_rows::SHARES;
 use share_tables::prepare;
 use share_walk::{NAMES, lift_of};
 
+// Each walk that looks for a lift tries for one part in so many of what the shares are worth beyond the last one.
+const LIFT_STEP_PARTS: u64 = 512;
+
+// The cutoff wished for is above what the shares are worth, and the first level's lift, by one part in so many.
+const WISH_PARTS: u64 = 256;
+
 // What each walk that looks for a lift tries for beyond the last one: a part of what the shares are worth.
 fn step_of(value: u64) -> u32
     ensures { result ≤ inf }
 {
     // Kept as a cast: it is no more than the number for a missing price.
-    (value / 512).max(1).min(LAST) as u32
+    (value / LIFT_STEP_PARTS).max(1).min(LAST_CUTOFF) as u32
 }
 
 // Where the walks of a job end. The tables stand on the stack of this call; the name that is found is the first part of `best`.
 fn walked(
     numbers: &HeldNumbers,
     floor: u64,
+    in_hand: Option<u64>,
     limit: u64,
     tab: &mut [u64],
     best: &mut [bool; NAMES],
 ) -> Risen
     requires { ((job : Job) × Holds job numbers.now) × (table_size ≤ length tab.old) × (limit < 2 ^ 63) }
-    ensures { (job : Job) → Holds job numbers.now → NoneUnder job floor → Rises job limit best.new result }
+    ensures { (job : Job) → Holds job numbers.now → NoneUnder job floor → Rises job floor in_hand limit best.new result }
 {
     let mut t = [0; TABLES];
     let mut x = [0; SHARES];
@@ -50,8 +57,10 @@ fn walked(
     let mut name = [false; NAMES];
     let value = prepare(numbers, tab, &mut t, &mut x);
     let lifts = lift_levels(&t, &x, &mut w, &mut name, best, step_of(value));
-    let wish = value + value / 256 + lift_of(&lifts, 0);
-    rise(&t, &x, &lifts, &mut w, &mut name, best, wish, floor, limit)
+    let wish = value + value / WISH_PARTS + lift_of(&lifts, 0);
+    rise(
+        &t, &x, &lifts, &mut w, &mut name, best, wish, floor, in_hand, limit,
+    )
 }
 
 // The name that the walks found, in the buffer that they wrote it to; it is empty where they found none.
@@ -77,14 +86,14 @@ fn found_of(risen: Risen, plan: Plan) -> Found
     }
 }
 
-// The search of a job by shares, each walk of the job with at most `limit` nodes, those for its lifts with limits of their own. No plan costs less than `floor`.
-pub fn search_shared(numbers: &HeldNumbers, floor: u64, limit: u64) -> Found
+// The search of a job by shares, each walk of the job with at most `limit` nodes, those for its lifts with limits of their own. No plan costs less than `floor`; `in_hand` is what a plan in hand costs, if there is one.
+pub fn search_shared(numbers: &HeldNumbers, floor: u64, in_hand: Option<u64>, limit: u64) -> Found
     requires { ((job : Job) × Holds job numbers.now) × (limit < 2 ^ 63) }
-    ensures { (job : Job) → Holds job numbers.now → NoneUnder job floor → Sought job limit result }
+    ensures { (job : Job) → Holds job numbers.now → NoneUnder job floor → Sought job floor in_hand limit result }
 {
     let mut tab = [0; TABLE];
     let mut best = [false; NAMES];
-    let risen = walked(numbers, floor, limit, &mut tab, &mut best);
+    let risen = walked(numbers, floor, in_hand, limit, &mut tab, &mut best);
     let plan = plan_of(numbers, name_in(risen, &best), &mut tab);
     found_of(risen, plan)
 }

@@ -12,7 +12,7 @@ use Rattle.jobs.proofs.Jobs.{opening_count_lem2, part_count}
 use Rattle.search.specs.Found.{plan_found, said_by, said_in}
 use Rattle.share_search.specs.Sought.{Sought}
 use Rattle.optimum_search.specs.Ends.{Ends}
-use Rattle.optimum_search.proofs.Endings.{counted, nothing, settled, begun, cut_short}
+use Rattle.optimum_search.proofs.Endings.{counted, nothing, settled, begun, passed, cut_short}
 use Rattle.optimum_search.proofs.search_optimum.Goals as goal
 use Rattle.optimum_search.proofs.search_optimum.Goals.{After-search_by_shares-shared}
 
@@ -25,10 +25,10 @@ returns-then-not-first c = let j = c.args.job.now.job in
     settled (job_of j) j.opening_count j.part_count c.search_job-first.result c.min.result c.search_job-first.ensures c.args.limit c.in-Sum.floor c.in-Sum.is (not-true _ c.if-not-first.true)
 
 -- what the walks by shares find, above the first walk's floor
-shared : (c : After-search_by_shares-shared) → Sought (job_of c.args.job.now.job) c.args.limit c.search_by_shares-shared.result
+shared : (c : After-search_by_shares-shared) → Sought (job_of c.args.job.now.job) c.in-Sum.floor c.search_job-first.result.cost c.args.limit c.search_by_shares-shared.result
 shared c = let j = c.args.job.now.job in
     c.search_by_shares-shared.ensures
-    (begun (job_of j) j.opening_count j.part_count c.search_job-first.result c.min.result c.search_job-first.ensures c.args.limit c.in-Sum.floor c.in-Sum.is (not-false _ c.if-not-first.false)).1
+    (begun (job_of j) j.opening_count j.part_count c.search_job-first.result c.min.result c.search_job-first.ensures c.args.limit c.in-Sum.floor c.in-Sum.is (not-false _ c.if-not-first.false))
 
 pub returns-in-Some : goal.returns-in-Some
 returns-in-Some c = let j = c.args.job.now.job in
@@ -44,8 +44,11 @@ returns-then-shared c = let j = c.args.job.now.job in
     let over = not-false _ c.if-not-first.false in
     subst (λ (b : Bound). Ends (job_of j) c.args.limit (said_in j.opening_count j.part_count (record { count = r.count; over = r.over; cost = r.cost; floor = b; plan = r.plan }))) (sym x.floor)
     (subst (λ (o : Bool). Ends (job_of j) c.args.limit (said_by j.opening_count j.part_count x.low r o r.cost)) (sym over)
-    (cut_short (job_of j) j.opening_count j.part_count r c.min.result c.search_job-first.ensures c.args.limit c.in-Sum.floor c.in-Sum.is x.low x.none_under (x.longer c.if-shared.true) over))
+    (cut_short (job_of j) j.opening_count j.part_count r c.min.result c.search_job-first.ensures c.args.limit c.in-Sum.floor c.in-Sum.is c.min.ensures x.low x.none_under x.risen (x.longer c.if-shared.true) over))
 
 pub returns : goal.returns
 returns c = let j = c.args.job.now.job in
-    counted (job_of j) j.opening_count j.part_count c.search_job.result c.args.limit c.search_job.ensures
+    let x = shared (goal.at.returns c).After-search_by_shares-shared in
+    let none = passed (job_of j) j.opening_count j.part_count c.search_job-first.result c.min.result c.search_job-first.ensures c.args.limit c.in-Sum.floor c.in-Sum.is x.low x.none_under
+    (x.passed c.in_default-cost.is c.if-shared.false) (not-false _ c.if-not-first.false) in
+    counted (job_of j) c.args.limit j.opening_count j.part_count c.search_job.result c.search_job.ensures none

@@ -20,7 +20,7 @@ returns c job ho none = let n = c.args.numbers.now in
     let p = c.plan_of-plan in
     let name = c.name_in.result.now in
     let w = c.walked-risen.ensures job ho none in
-    subst (Sought job c.args.limit) (sym c.found_of.ensures)
+    subst (Sought job c.args.floor c.args.in_hand c.args.limit) (sym c.found_of.ensures)
     (record {
       plan_found_lem = λ k e.
           (let u = cost_found r.found k e in
@@ -29,9 +29,10 @@ returns c job ho none = let n = c.args.numbers.now in
           let b = subst (λ (s : List Bool). BestPlan job Any k (plan_at job s)) (sym (c.name_in.ensures u.0 u.1)) cheap in
           subst (λ (q : Plan). BestPlan job Any k q)
           (sym (plan_read job j.end j.positions.now j.fees.now j.lives.now j.lefts.now j.prices.now n.needs.now n.removals.now (lanes_are (arrays_of n)) ho name p.result.stops p.ensures.stops p.result.changes p.ensures.changes b.keeps.size)) b);
-      longer = λ e. let o = over_found r.found e in let l = w.4.longer o.0 o.1 in (w.0, w.1, w.2, w.3, l.0, l.1);
       low = r.floor;
       floor = refl;
       none_under = w.4.none_under;
+      risen = w.4.risen;
+      longer = λ e. let o = over_found r.found e in record { shares = w.0; fair = w.1; lift = w.2; lifted = w.3; cut = w.4.longer o.0 o.1 };
       passed = λ e f. w.4.passed (none_found r.found e f);
     })
