@@ -87,7 +87,7 @@ typedef struct {
  * - `out` should have 16,384 bytes or more, for juzvarola_write and juzvarola_carry 40,960: with fewer the result is 8 and nothing is written.
  * - Nothing is kept between calls and no memory is allocated. Calls on several threads at once are allowed where no `out` overlaps
  *   another call's `out`, text or list.
- * - Stack that a call needs: less than 1.5 MB, so a thread of 2 MB serves; juzvarola_hall, which has tables for four lines, 3,350 KB in the deepest walk
+ * - Stack that a call needs: less than 1.5 MB, so a thread of 2 MB serves; juzvarola_hall, which has tables for four lines, 2,824 KB in the deepest walk
  *   that a text allows, so a thread of 4 MB serves. juzvarola_plan and juzvarola_optimum were measured at some 550 KB, and at 1,232 and 1,292 KB on the job
  *   whose search goes deepest (64 openings, sixteen parts that hold each other); juzvarola_write at 176 KB, juzvarola_carry at 172 KB, juzvarola_latest at
  *   164 KB, juzvarola_count and juzvarola_judge at 160 KB.

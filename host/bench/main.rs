@@ -1,8 +1,9 @@
 //! Time a node of the library and of the walk in Rust, on the jobs of `jobs/`, in one run: the microseconds of a call with walk number 1
 //! (reading, tables, one node), and the nanoseconds of each node after the first, which are the whole call's less those.
 //! `bench [--walk N] [NAME ..]`: N nodes at most in place of those of TABLE.md; NAME picks the jobs whose names begin with it.
-//! `bench --optimum [NAME ..]`: the optimum instead. `bench --first [NAME ..]`: how long its first walk should be.
+//! `bench --optimum [NAME ..]`: the optimum instead. `bench --first [NAME ..]`: how long its first walk should be. `bench --hall`: the hall.
 
+mod hall;
 mod optimum;
 
 use juzvarola_checks::fast::{self, Unit};
@@ -169,6 +170,7 @@ fn run() {
     drop(black_box(vec![0u8; 16 << 20]));
     match names.first().map(String::as_str) {
         Some("--optimum") => return optimum::table(&folder, &names[1..]),
+        Some("--hall") => return hall::table(),
         Some("--first") => return optimum::first_walks(&folder, &names[1..]),
         _ => {}
     }

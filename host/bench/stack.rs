@@ -38,6 +38,11 @@ fn deepest(amount: u32) -> String {
     text
 }
 
+/// The hall whose walk goes deepest: that job alone, with a call decided before each stop.
+fn deepest_hall() -> String {
+    format!("machines=1\ncall={DEAREST}\n{}", deepest(DEAREST))
+}
+
 /// A walk number that cuts the counted walk of that job short of its last node, so that its walk by shares, which goes as deep, is made.
 const LAST_BUT_ONE: u64 = 2176;
 
@@ -90,6 +95,8 @@ fn call(name: &str) -> u32 {
         "optimum, one stop" => juzvarola_host::optimum(job(364).as_bytes(), juzvarola_host::MOST_WALK, &mut out).result,
         "optimum, all removed" => juzvarola_host::optimum(deepest(DEAREST).as_bytes(), juzvarola_host::MOST_WALK, &mut out).result,
         "optimum, all removed, by shares" => juzvarola_host::optimum(deepest(1).as_bytes(), LAST_BUT_ONE, &mut out).result,
+        "hall, all removed" => juzvarola_host::hall(deepest_hall().as_bytes(), juzvarola_host::MOST_WALK, &mut out).result,
+        "hall, a fault" => juzvarola_host::hall(b"machines=1\ncall=0\nhorizon=0\n", juzvarola_host::MOST_WALK, &mut out).result,
         "judge, the longest plan" => juzvarola_host::judge(job(1000).as_bytes(), plan().as_bytes(), &mut out).result,
         "judge, all removed" => juzvarola_host::judge(deepest(DEAREST).as_bytes(), all_from(1, 2_112_000_000).as_bytes(), &mut out).result,
         "judge, a fault" => juzvarola_host::judge(job(1000).as_bytes(), b"cost=1\nstops=65\n", &mut out).result,
@@ -115,6 +122,8 @@ const CALLS: &[(&str, u32)] = &[
     ("optimum, one stop", 0),
     ("optimum, all removed", 0),
     ("optimum, all removed, by shares", 7),
+    ("hall, all removed", 0),
+    ("hall, a fault", 3),
     ("judge, the longest plan", 0),
     ("judge, all removed", 0),
     ("judge, a fault", 3),

@@ -16,6 +16,7 @@ use hall_steps::{is_open, openings_before};
 use search_state::{NO_COST, Search};
 
 // The line at place d passes the step without a stop, if its own node below has a bound: the hall's estimate then.
+#[inline(always)]
 pub fn line_passes(
     ground: &Ground,
     rows: &mut [LineRows; 4],
@@ -47,6 +48,7 @@ pub fn line_passes(
 
 // Each line passes the step: the hall's estimate without a call, if it is there.
 // Kept as a loop: each turn writes its line's rows, and what a closure's own rows hold after a try_fold is not known.
+#[inline(always)]
 pub fn no_call(ground: &Ground, rows: &mut [LineRows; 4], p: Spot) -> Option<u64>
     requires { AskedAt Question.CrewCall ground.now rows.old p }
     ensures { (k : AskedAt Question.CrewCall ground.now rows.old p) → PassedOn k.hall ground.now rows.old rows.new p k.name k.calls k.cs (length k.cs) result }
@@ -59,6 +61,7 @@ pub fn no_call(ground: &Ground, rows: &mut [LineRows; 4], p: Spot) -> Option<u64
 }
 
 // No call at the step; or a call: the lines open at the step are asked, from the first on.
+#[inline(always)]
 pub fn call_below(ground: &Ground, rows: &mut [LineRows; 4], b: Branch) -> Option<Spot>
     requires { AskedAt Question.CrewCall ground.now rows.old b.p }
     ensures { (k : AskedAt Question.CrewCall ground.now rows.old b.p) → Below k.hall b.yes ground.now rows.old rows.new b.p result k.name k.cs b.limit b.s }

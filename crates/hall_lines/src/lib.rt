@@ -3,6 +3,7 @@
 
 ghost use Rattle.std.specs.Prelude.{◌≡◌, List, Bool, ℕ, ◌+◌, ◌*◌, ◌^◌, ◌<◌, ◌≤◌};
 ghost use Rattle.branch.specs.declared.Bound.TheVariants.{Sum};
+ghost use Rattle.model.specs.Limits.{most_openings, most_parts};
 ghost use Rattle.held_rows.specs.Held.{HeldSheet};
 ghost use Rattle.hall_lines.specs.declared.LineRows.{LineRows};
 ghost use Rattle.hall_lines.specs.Room.{most_own};
@@ -62,7 +63,7 @@ pub struct Stop {
 impl Stop {
     // The next holding part is not removed: the stop is shut to these lanes then, and has these part sums and this term.
     fn stays(self, shut: usize, sums: u64, term: u64) -> Stop
-        requires { (self.next < 16) × (self.removed * 2 < 2 ^ 64) }
+        requires { (self.next < most_parts) × (self.removed * 2 < 2 ^ 64) }
         ensures { result ≡ stays_s self shut sums term }
     {
         Stop {
@@ -76,7 +77,7 @@ impl Stop {
 
     // The next holding part is removed: lanes, part sums and term are as before.
     fn out(self) -> Stop
-        requires { (self.next < 16) × (self.removed * 2 + 1 < 2 ^ 64) }
+        requires { (self.next < most_parts) × (self.removed * 2 + 1 < 2 ^ 64) }
         ensures { result ≡ out_s self }
     {
         Stop {
@@ -136,7 +137,7 @@ pub fn line_no(tables: &LineTables, own: &mut LineRows, at: usize, test: LineTes
 
 // A stop at the line's next opening, before any removal.
 pub fn first_stop(tables: &LineTables, own: &LineRows, at: usize) -> Stop
-    requires { at < 64 }
+    requires { at < most_openings }
     ensures { result ≡ first_stop_lem tables.now.u own.now.n at }
 {
     Stop {

@@ -2,6 +2,7 @@
 #![tactic(auto)]
 
 ghost use Rattle.std.specs.Prelude.{◌≡◌, ◌+◌, ◌<◌, ◌≤◌, ◌^◌};
+ghost use Rattle.model.specs.Limits.{most_openings};
 ghost use Rattle.hall_lines.specs.Levels.{sums_in, term_in};
 ghost use Rattle.hall_state.specs.Moves.{Below};
 ghost use Rattle.hall_moves.specs.Asks.{AskedAt};
@@ -13,7 +14,7 @@ use hall_steps::openings_before;
 
 // A line's part sums and term at a level.
 pub fn own_sums(own: &LineRows, at: usize) -> u64
-    requires { (at ≤ 64) × (sums_in own.now.n at + term_in own.now.n at < 2 ^ 64) }
+    requires { (at ≤ most_openings) × (sums_in own.now.n at + term_in own.now.n at < 2 ^ 64) }
     ensures { result ≡ sums_in own.now.n at + term_in own.now.n at }
 {
     let l = own.n[at];
@@ -21,6 +22,7 @@ pub fn own_sums(own: &LineRows, at: usize) -> u64
 }
 
 // The line at hand does not stop, or it does.
+#[inline(always)]
 pub fn line_below(ground: &Ground, rows: &mut [LineRows; 4], b: Branch) -> Option<Spot>
     requires { AskedAt Question.LineStop ground.now rows.old b.p }
     ensures { (k : AskedAt Question.LineStop ground.now rows.old b.p) → Below k.hall b.yes ground.now rows.old rows.new b.p result k.name k.cs b.limit b.s }
@@ -43,6 +45,7 @@ pub fn line_below(ground: &Ground, rows: &mut [LineRows; 4], b: Branch) -> Optio
 }
 
 // The next holding part of the line at hand is not removed at this stop, or it is.
+#[inline(always)]
 pub fn removal_below(
     ground: &Ground,
     rows: &mut [LineRows; 4],

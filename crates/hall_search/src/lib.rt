@@ -20,7 +20,7 @@ use hall_jobs::HallJobs;
 use hall_lines::{LEVELS, Level, LineRows, LineTables};
 use hall_state::{Ground, Question, Spot};
 use hall_tables::fill_lines;
-use hall_walk::walk;
+use hall_walk::{Tally, walk};
 use held_lanes::{ASIDE, HELD};
 use lane_rows::{STACK, TABLES};
 use plans::plans_of;
@@ -77,7 +77,12 @@ fn walked(hall: &HallJobs, limit: u64, rows: &mut [LineRows; 4], best: &mut [u64
         mask: 0,
     };
     let first = root(floor, limit, begun);
-    walk(&ground, rows, best, limit, first, begun).solved(floor, limit)
+    let tally = Tally {
+        count: begun.count,
+        cost: begun.cost,
+    };
+    let end = walk(&ground, rows, best, limit, first, tally).search();
+    end.solved(floor, limit)
 }
 
 // The search of a hall, with a limit on its nodes: the model's answer.

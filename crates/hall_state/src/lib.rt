@@ -2,6 +2,7 @@
 #![tactic(auto)]
 
 ghost use Rattle.std.specs.Prelude.{◌≡◌, ℕ, ◌+◌, ◌<◌};
+ghost use Rattle.model.specs.Limits.{most_openings};
 ghost use Rattle.hall_state.specs.Spots.{line_spot, stop_spot, call_spot};
 
 use hall_lines::{LineTables, Stop};
@@ -71,7 +72,7 @@ impl Spot {
 
     // On with the next step.
     pub fn next_step(self, total: u64) -> Spot
-        requires { self.step < 64 }
+        requires { self.step < most_openings }
         ensures { result ≡ call_spot self total }
     {
         Spot {

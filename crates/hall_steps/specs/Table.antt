@@ -1,5 +1,6 @@
 -- The whole table of a hall's steps: a row of four for each step and one behind the last, how many steps and lines there are, and what a call costs.
 use Rattle.std.specs.Prelude.{ℕ, ◌+◌, ◌<◌, ◌≤◌, ◌≡◌, cond, length, get_or}
+use Rattle.model.specs.Limits.{most_openings}
 use Rattle.model.specs.Model.{Job}
 use Rattle.hall_model.specs.Hall.{Hall, Placed}
 use Rattle.hall_model.specs.Agenda.{crew_steps}
@@ -16,7 +17,7 @@ step_at hall k = get_or (crew_steps hall) k 0
 
 -- the table of the hall: which lines are open at each step; a line has one opening more behind a step at which it is open, none before the first step and all behind the last
 pub record CrewTable (hall : Hall) (ats : CrewSteps) : Type 0 where
-  pub few : step_count hall ≤ 64
+  pub few : step_count hall ≤ most_openings
   pub steps_are : ats.steps ≡ step_count hall
   pub lines_are : ats.lines ≡ length hall.jobs
   pub call_is : ats.call ≡ hall.call

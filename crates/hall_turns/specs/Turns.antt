@@ -1,6 +1,7 @@
 -- What the walk's turns leave: the incumbent kept of each line.
 use Rattle.std.specs.Prelude.{ℕ, ◌<◌, ◌≡◌, Bool, List, length, get_or}
 use Rattle.base.specs.Filled.{FilledBy}
+use Rattle.model.specs.Limits.{most_openings}
 use Rattle.held_lanes.specs.Places.{removed_place, best_place}
 use Rattle.hall_model.specs.Hall.{Hall}
 use Rattle.hall_lines.specs.declared.LineTables.{LineTables}
@@ -30,7 +31,7 @@ pub record StoodAt (g : Ground) (a : Arrays) (p : Spot) : Type 0 where
 pub record KeptLines (a a' : Arrays) (best : List ℕ) (ats : CrewSteps) (d : ℕ) : Type 0 where
   pub size : length a' ≡ length a
   pub count : length best ≡ 4
-  pub removals : (e : ℕ) → e < d → FilledBy best_place (λ (i : ℕ). get_or (rows_at a e).v (removed_place i) 0) 64 (rows_at a e).v (rows_at a' e).v
+  pub removals : (e : ℕ) → e < d → FilledBy best_place (λ (i : ℕ). get_or (rows_at a e).v (removed_place i) 0) most_openings (rows_at a e).v (rows_at a' e).v
   pub masks : (e : ℕ) → e < d → get_or best e 0 ≡ mask_in (rows_at a e).n (level_in ats.before ats.steps e)
   pub rows : (e : ℕ) → (rows_at a' e).w ≡ (rows_at a e).w
   pub levels : (e : ℕ) → (rows_at a' e).n ≡ (rows_at a e).n

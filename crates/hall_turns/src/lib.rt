@@ -2,6 +2,7 @@
 #![tactic(auto)]
 
 ghost use Rattle.std.specs.Prelude.{◌≡◌, List, ℕ, ◌+◌, ◌<◌, ◌≤◌};
+ghost use Rattle.model.specs.Limits.{most_openings};
 ghost use Rattle.hall_lines.specs.declared.LineTables.{LineTables};
 ghost use Rattle.hall_steps.specs.Steps.{level_in};
 ghost use Rattle.hall_state.specs.Courses.{Arrays};
@@ -16,6 +17,7 @@ use held_lanes::{HOLDS, number};
 use held_nodes::keep;
 
 // The next line from this place on that is open at the step, or the next step.
+#[inline(always)]
 pub fn onto(ats: &CrewSteps, p: Spot, line: usize) -> Spot
     requires { (t : List LineTables) × ((a : Arrays) × StoodAt (ground_of t ats.now) a (line_spot p line p.total)) }
     ensures { (t : List LineTables) (a : Arrays) (k : StoodAt (ground_of t ats.now) a (line_spot p line p.total)) → Arrived k.hall (ground_of t ats.now) a a (line_spot p line p.total) result k.name k.calls k.cs }
@@ -27,6 +29,7 @@ pub fn onto(ats: &CrewSteps, p: Spot, line: usize) -> Spot
 }
 
 // The stop whose removals are decided is settled, and on with the next line.
+#[inline(always)]
 pub fn settled(ground: &Ground, rows: &mut [LineRows; 4], p: Spot, stop: Stop) -> Spot
     requires { ((k : StoodAt ground.now rows.old p) × (inner_at k.hall.jobs p.line ≤ stop.next)) × (p.asks ≡ Question.PartRemoval stop) }
     ensures { (k : StoodAt ground.now rows.old p) → inner_at k.hall.jobs p.line ≤ stop.next → Arrived k.hall ground.now rows.old rows.new p result k.name k.calls k.cs }
@@ -38,6 +41,7 @@ pub fn settled(ground: &Ground, rows: &mut [LineRows; 4], p: Spot, stop: Stop) -
 }
 
 // The spot of the next question: where a call or an open removal is asked the walk is there already; a stop with no removal open is settled, and closed lines are passed over.
+#[inline(always)]
 pub fn arrive(ground: &Ground, rows: &mut [LineRows; 4], p: Spot) -> Spot
     requires { StoodAt ground.now rows.old p }
     ensures { (k : StoodAt ground.now rows.old p) → Arrived k.hall ground.now rows.old rows.new p result k.name k.calls k.cs }
@@ -58,7 +62,7 @@ pub fn arrive(ground: &Ground, rows: &mut [LineRows; 4], p: Spot) -> Spot
 // A full node becomes the incumbent: each line's removals and stops are kept.
 // Kept as a loop over places: two arrays are written and a third is read at each, up to as many as there are lines, and a zip of the three is no plainer.
 pub fn close(ground: &Ground, rows: &mut [LineRows; 4], best: &mut [u64; 4])
-    requires { (ground.now.ats.lines ≤ 4) × (ground.now.ats.steps ≤ 64) × ((e : ℕ) → e < ground.now.ats.lines → level_in ground.now.ats.before ground.now.ats.steps e ≤ 64) }
+    requires { (ground.now.ats.lines ≤ 4) × (ground.now.ats.steps ≤ most_openings) × ((e : ℕ) → e < ground.now.ats.lines → level_in ground.now.ats.before ground.now.ats.steps e ≤ most_openings) }
     ensures { KeptLines rows.old rows.new best.new ground.now.ats ground.now.ats.lines }
 {
     for d in 0..ground.ats.lines {

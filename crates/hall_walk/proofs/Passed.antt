@@ -48,7 +48,7 @@ use Rattle.hall_moves.specs.Asks.{Asking, AskedAt}
 use Rattle.hall_turns.specs.Turns.{StoodAt}
 use Rattle.hall_calls.proofs.Passes.{asking_kept}
 use Rattle.hall_turns.specs.Turns.{KeptLines}
-use Rattle.hall_walk.specs.Walk.{Reaches, HallWalked, walk_measure}
+use Rattle.hall_walk.specs.Walk.{call_at, line_at, removal_at, Reaches, ReachedAt, HallWalked, WalksOn, walk_measure}
 
 -- the same sheets, and nothing of the incumbent moved since
 back_courses : (a a' b : Arrays) (cs cs' : List Course) → SameCourses a a' cs cs' → SameCourses b b cs' cs
@@ -269,16 +269,20 @@ module _ {hall : Hall} {g : Ground} {a a₁ : Arrays} {u : Option Spot} {q p : S
 
     module _ {q₁ : Option Spot} {a₂ : Arrays} (b₁ : Below hall false g a₁ a₂ p q₁ name ar.courses limit s₁) where
       -- the calls at the node of a no
-      abbrev pub calls₁ : ℕ
+      abbrev calls₁ : ℕ
       calls₁ = calls_below b₁ q₁ refl
 
       -- the courses at the node of a no
-      abbrev pub courses₁ : List Course
+      abbrev courses₁ : List Course
       courses₁ = courses_below b₁ q₁ refl
 
-      -- the node of a no is reached
-      abbrev pub enter₁ : Reaches hall g a₂ q₁ (snoc name false) best calls₁ courses₁ masks limit s₁
+      -- what the walk is given there
+      abbrev enter₁ : Reaches hall g a₂ q₁ (snoc name false) best calls₁ courses₁ masks limit s₁
       enter₁ = enters h.crewed b₁ sees_there q₁ refl
+
+      -- where the node of a no is reached
+      abbrev pub no_reached : ReachedAt g a₂ q₁ masks limit s₁
+      no_reached = record { hall = hall; name = snoc name false; kept = best; calls = calls₁; cs = courses₁; reaches = enter₁ }
 
       module _ {a₃ : Arrays} {masks₃ : List ℕ} {r : Search} (w₁ : HallWalked hall enter₁.left g a₂ a₃ q₁ (snoc name false) best courses₁ masks masks₃ limit s₁ r) where
         abbrev passed₁ : Passed hall (tree_from (hall_bound hall) (left_below hall false p) (snoc name false)) (snoc name false) best limit g a₁ a₃ ar.courses masks₃ s₁ r
@@ -290,20 +294,24 @@ module _ {hall : Hall} {g : Ground} {a a₁ : Arrays} {u : Option Spot} {q p : S
 
         module _ {q₂ : Option Spot} {a₄ : Arrays} (b₂ : Below hall true g a₃ a₄ p q₂ name ar.courses limit r) where
           -- the incumbent's name behind the no
-          abbrev pub kept₂ : List Bool
+          abbrev kept₂ : List Bool
           kept₂ = passed₁.found
 
           -- the calls of a yes
-          abbrev pub calls₂ : ℕ
+          abbrev calls₂ : ℕ
           calls₂ = calls_below b₂ q₂ refl
 
           -- the courses at the node of a yes
-          abbrev pub courses₂ : List Course
+          abbrev courses₂ : List Course
           courses₂ = courses_below b₂ q₂ refl
 
-          -- the node of a yes is reached
-          abbrev pub enter₂ : Reaches hall g a₄ q₂ (snoc name true) kept₂ calls₂ courses₂ masks₃ limit r
+          -- what the walk is given there
+          abbrev enter₂ : Reaches hall g a₄ q₂ (snoc name true) kept₂ calls₂ courses₂ masks₃ limit r
           enter₂ = enters h.crewed b₂ passed₁.sees q₂ refl
+
+          -- where the node of a yes is reached
+          abbrev pub yes_reached : ReachedAt g a₄ q₂ masks₃ limit r
+          yes_reached = record { hall = hall; name = snoc name true; kept = kept₂; calls = calls₂; cs = courses₂; reaches = enter₂ }
 
           -- no first, then yes: the node is passed
           pub both_passed : {a₅ : Arrays} {masks₅ : List ℕ} {r' : Search} → HallWalked hall enter₂.left g a₄ a₅ q₂ (snoc name true) kept₂ courses₂ masks₃ masks₅ limit r r' → Passed hall T name best limit g a a₅ cs masks₅ s r'
@@ -337,3 +345,39 @@ close_asks {hall} {g} {a} {p} {name} {calls} {cs} k st e l =
     let few = subst (λ (x : HeldSheet). length x.positions ≤ 64) (slot_sheet g a e (course_in cs e)) h.tables.few in
     let i = ap (λ (n : ℕ). level_in g.ats.before n e) k.table.steps_are ∙ k.table.ends e j.job j.placed in
     omega (arith, i, j.openings, few)
+
+-- ---- a spot by its question
+
+-- the spot of a call
+pub as_call : (q : Spot) → q.asks ≡ CrewCall → q.line ≡ 0 → q ≡ call_at q.step q.total
+as_call q e z = λ i. record { asks = e i; step = q.step; line = z i; total = q.total }
+
+-- the spot of a line's stop
+pub as_line : (q : Spot) → q.asks ≡ LineStop → q ≡ line_at q.step q.line q.total
+as_line q e = λ i. record { asks = e i; step = q.step; line = q.line; total = q.total }
+
+-- the spot of a removal
+pub as_removal : (q : Spot) (stop : Stop) → q.asks ≡ PartRemoval stop → q ≡ removal_at q.step q.line stop q.total
+as_removal q stop e = λ i. record { asks = e i; step = q.step; line = q.line; total = q.total }
+
+-- a node that is reached there is reached here, where both are one spot
+pub reached_as : {g : Ground} {a : Arrays} {u v : Option Spot} {masks : List ℕ} {limit : ℕ} {s : Search} → u ≡ v → ReachedAt g a u masks limit s → ReachedAt g a v masks limit s
+reached_as e k =
+    let h = k.reaches in
+    record {
+      hall = k.hall;
+      name = k.name;
+      kept = k.kept;
+      calls = k.calls;
+      cs = k.cs;
+      reaches = record { crewed = h.crewed; left = h.left; e = h.e; due = h.due; due_at = h.due_at; closed = λ f. h.closed (e ∙ f); opened = λ r f. h.opened r (e ∙ f) };
+    }
+
+-- what the walk does there it does here
+pub walks_as : {g : Ground} {a a' : Arrays} {u v : Option Spot} {masks masks' : List ℕ} {limit : ℕ} {s r : Search} → u ≡ v → WalksOn g a a' v masks masks' limit s r → WalksOn g a a' u masks masks' limit s r
+unfolding reached_as
+walks_as e w k = let y = w (reached_as e k) in record { count = y.count; passed = λ f. y.passed (sym e ∙ f); walked = λ q f. y.walked q (sym e ∙ f) }
+
+-- a call is asked of no line
+pub no_line : {g : Ground} {a : Arrays} {u : Option Spot} {q : Spot} {masks : List ℕ} {limit : ℕ} {s : Search} → ReachedAt g a u masks limit s → u ≡ Some q → q.asks ≡ CrewCall → q.line ≡ 0
+no_line {q = q} k e is = ((k.reaches.opened q e).2.formed.call is).1

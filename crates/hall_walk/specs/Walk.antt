@@ -11,10 +11,27 @@ use Rattle.hall_model.specs.LowerBound.{hall_bound}
 use Rattle.hall_model.specs.Steps.{tree_from}
 use Rattle.hall_nodes.specs.Walk.{Sees}
 use Rattle.hall_state.specs.declared.Ground.{Ground}
+use Rattle.hall_lines.specs.declared.Stop.{Stop}
+use Rattle.hall_state.specs.declared.Question.TheVariants.{CrewCall, LineStop, PartRemoval}
 use Rattle.hall_state.specs.declared.Spot.{Spot}
 use Rattle.hall_state.specs.Courses.{Arrays, Course, slots_at}
 use Rattle.hall_state.specs.Spots.{left_of, Stood}
 use Rattle.hall_state.specs.Moves.{measure_of, Crewed, Passed}
+use Rattle.hall_walk.specs.declared.Tally.{Tally}
+
+-- the search's state: the incumbent's decisions stand beside it, line by line
+abbrev pub search_of : Tally → Search
+search_of t = record { count = t.count; cost = t.cost; mask = 0 }
+
+-- the spots by their questions
+abbrev pub call_at : ℕ → ℕ → Spot
+call_at step total = record { asks = CrewCall; step = step; line = 0; total = total }
+
+abbrev pub line_at : ℕ → ℕ → ℕ → Spot
+line_at step line total = record { asks = LineStop; step = step; line = line; total = total }
+
+abbrev pub removal_at : ℕ → ℕ → Stop → ℕ → Spot
+removal_at step line stop total = record { asks = PartRemoval stop; step = step; line = line; total = total }
 
 -- the node of this name is reached: its test, and where it is walked on its lines and the incumbent
 pub record Reaches (hall : Hall) (g : Ground) (a : Arrays) (q : Option Spot) (name best : List Bool) (calls : ℕ) (cs : List Course) (masks : List ℕ) (limit : ℕ) (s : Search) : Type 0 where
@@ -26,11 +43,24 @@ pub record Reaches (hall : Hall) (g : Ground) (a : Arrays) (q : Option Spot) (na
   pub closed : q ≡ None → open_s limit due e s ≡ Missing
   pub opened : (r : Spot) → q ≡ Some r → (y : ℕ) × (open_s limit due e s ≡ Sum y) × Stood hall g a r name calls cs × (left_of hall r ≡ left) × Sees hall best (slots_at g a 0 cs) masks s
 
+-- where a node is reached: of which hall, the node of which name, with which incumbent, calls and courses, none of which the code knows
+pub record ReachedAt (g : Ground) (a : Arrays) (q : Option Spot) (masks : List ℕ) (limit : ℕ) (s : Search) : Type 0 where
+  pub hall : Hall
+  pub name : List Bool
+  pub kept : List Bool
+  pub calls : ℕ
+  pub cs : List Course
+  pub reaches : Reaches hall g a q name kept calls cs masks limit s
+
 -- what the walk does at a node: it passes it by, and nothing else is written, or walks on from it
 pub record HallWalked (hall : Hall) (left : List Agenda) (g : Ground) (a a' : Arrays) (q : Option Spot) (name best : List Bool) (cs : List Course) (masks masks' : List ℕ) (limit : ℕ) (s r : Search) : Type 0 where
   pub count : length masks' ≡ length masks
   pub passed : q ≡ None → (r ≡ reached_s limit s) × (a' ≡ a) × (masks' ≡ masks)
   pub walked : (t : Spot) → q ≡ Some t → Passed hall (tree_from (hall_bound hall) left name) name best limit g a a' cs masks' s r
+
+-- what the walk does, wherever the node is reached
+abbrev pub WalksOn : Ground → Arrays → Arrays → Option Spot → List ℕ → List ℕ → ℕ → Search → Search → Type 0
+WalksOn g a a' q masks masks' limit s r = (k : ReachedAt g a q masks limit s) → HallWalked k.hall k.reaches.left g a a' q k.name k.kept k.cs masks masks' limit s r
 
 -- how much is left to walk
 abbrev pub walk_measure : Option Spot → ℕ

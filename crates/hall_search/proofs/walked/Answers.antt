@@ -1,9 +1,9 @@
 -- `walked` is the search of the hall: its lines filled, and the walk over them from the first call on.
-use mathlib.Core.Path.{sym, subst}
+use mathlib.Core.Path.{sym, ap, subst, ◌∙◌}
 use mathlib.Core.List.{[]}
 use Rattle.std.specs.Prelude.{Option}
 use native.Mathlib.Omega.{arith}
-use Rattle.search_state.specs.State.{open_s}
+use Rattle.search_state.specs.State.{open_s, solved_s}
 use Rattle.held_nodes.proofs.Root.{fresh}
 use Rattle.hall_jobs.specs.Views.{hall_of}
 use Rattle.hall_state.specs.declared.Ground.{Ground}
@@ -39,12 +39,12 @@ root-first-requires c x e = omega (arith, (floor_reached (goal.at.root-first-req
 pub walk-requires : goal.walk-requires
 walk-requires c =
     let r = reached (goal.at.walk-requires c).After-root-first in
-    ((hall_of c.args.hall.now, ([], ([], (0, (r.cs, r.reaches))))), omega (arith, c.requires))
+    (record { hall = hall_of c.args.hall.now; name = []; kept = []; calls = 0; cs = r.cs; reaches = r.reaches }, omega (arith, c.requires))
 
 pub returns : goal.returns
 returns c =
     let hall = hall_of c.args.hall.now in
     let r = reached (goal.at.returns c).After-root-first in
     let floor = c.fill_lines-floor.result in
-    subst (HallSearched hall c.args.limit c.walk.new.rows c.walk.new.best) (sym c.solved.ensures)
-    (searched floor c.fill_lines-floor.ensures.floor r.reaches r.left r.holds (c.walk.ensures hall [] [] 0 r.cs r.reaches))
+    subst (HallSearched hall c.args.limit c.walk.new.rows c.walk.new.best) (sym (c.solved.ensures ∙ ap (solved_s floor c.args.limit) c.search-end.ensures))
+    (searched floor c.fill_lines-floor.ensures.floor r.reaches r.left r.holds (c.walk.ensures (record { hall = hall; name = []; kept = []; calls = 0; cs = r.cs; reaches = r.reaches })))

@@ -6,7 +6,7 @@ use super::lanes::{Lanes, Plain};
 use super::walk::{raise, triangle, Search, Tables, INF, MAX_OPENINGS};
 use super::{Best, Found, Job, Part};
 
-const MARKS: usize = MAX_OPENINGS + 1;
+pub(super) const MARKS: usize = MAX_OPENINGS + 1;
 const MAX_PARTS: usize = 16;
 
 type Row<const Q: usize> = [Plain; Q];
@@ -43,20 +43,20 @@ impl Job {
 }
 
 /// The tables of a job. A price is at most 2,000,000, so that the lanes sum to less than 2^31: a missing part is told by the term.
-struct Held<const Q: usize> {
-    lines: Tables<Plain, Q>,
+pub(super) struct Held<const Q: usize> {
+    pub(super) lines: Tables<Plain, Q>,
     /// What the removal of each part that holds somebody costs, by rising number.
-    removals: Vec<u64>,
+    pub(super) removals: Vec<u64>,
     /// For each of them the parts that need it removed, as bits, and the classes of these parts.
-    shuts: Vec<u32>,
-    shut_classes: Vec<Vec<usize>>,
+    pub(super) shuts: Vec<u32>,
+    pub(super) shut_classes: Vec<Vec<usize>>,
     /// A class is the parts that need the same removals, so that they have the same last mark; this is its first part.
-    leads: Vec<usize>,
+    pub(super) leads: Vec<usize>,
     /// `terms[triangle(j) + mark][class]`: where j openings are decided and the mark is the class's last, the largest over its parts of the
     /// least fee of openings that keep the part; INF where one has none.
     terms: Vec<[u32; MAX_PARTS]>,
     /// The largest of them where the last mark of every class is the opening just decided.
-    tops: Vec<u32>,
+    pub(super) tops: Vec<u32>,
 }
 
 /// The terms of these classes.
@@ -74,7 +74,7 @@ fn class_terms(job: &Job, needs: &[u32], classes: &[u32]) -> Vec<[u32; MAX_PARTS
 }
 
 impl<const Q: usize> Held<Q> {
-    fn new(job: &Job) -> Held<Q> {
+    pub(super) fn new(job: &Job) -> Held<Q> {
         let holding = job.holding();
         let all = holding.iter().fold(0, |bits, p| bits | 1u32 << p);
         let needs: Vec<u32> = job.come_out().iter().map(|out| out & all).collect();
@@ -110,15 +110,25 @@ struct Rows<const Q: usize> {
 }
 
 /// What stands behind a node, and the best plan's removals.
-struct Front<const Q: usize> {
+pub(super) struct Front<const Q: usize> {
     rows: Rows<Q>,
     /// For each row and class the last mark of the rows up to this one at which the class can be changed.
     lasts: [[u8; MAX_PARTS]; MARKS],
     ends: Memo<Q>,
     reach: Memo<Q>,
     /// The removals decided at each opening that is a stop, the latest in the lowest bit, and those of the best plan.
-    removed: [u32; MAX_OPENINGS],
-    best: [u32; MAX_OPENINGS],
+    pub(super) removed: [u32; MAX_OPENINGS],
+    pub(super) best: [u32; MAX_OPENINGS],
+}
+
+impl<const Q: usize> Front<Q> {
+    /// Before the first opening: one row, of mark 0.
+    pub(super) fn new() -> Front<Q> {
+        let rows = Rows { rows: [[Plain::splat(0); Q]; MARKS], marks: [0; MARKS] };
+        let lasts = [[0; MAX_PARTS]; MARKS];
+        let clear = [0; MAX_OPENINGS];
+        Front { rows, lasts, ends: Memo::new(), reach: Memo::new(), removed: clear, best: clear }
+    }
 }
 
 impl<const Q: usize> Memo<Q> {
@@ -158,15 +168,15 @@ impl<const Q: usize> Memo<Q> {
 /// A node: openings decided, rows of the front, removals decided at the last stop (all of them where none is open), whether that stop's row
 /// is owed, the parts that can't be changed there, its removals and the stops (the latest in the lowest bit), fees and removals.
 #[derive(Clone, Copy)]
-struct Node {
-    at: usize,
-    rows: usize,
-    next: usize,
-    owed: bool,
-    shut: u32,
-    removed: u32,
-    mask: u64,
-    spent: u64,
+pub(super) struct Node {
+    pub(super) at: usize,
+    pub(super) rows: usize,
+    pub(super) next: usize,
+    pub(super) owed: bool,
+    pub(super) shut: u32,
+    pub(super) removed: u32,
+    pub(super) mask: u64,
+    pub(super) spent: u64,
 }
 
 impl Node {
@@ -195,7 +205,7 @@ impl Node {
 impl<const Q: usize> Held<Q> {
     /// Adds the row of the last stop, all of whose removals are decided.
     #[inline(always)]
-    fn settle(&self, front: &mut Front<Q>, node: Node) {
+    pub(super) fn settle(&self, front: &mut Front<Q>, node: Node) {
         let (row, j) = (node.rows, node.at - 1);
         let found = front.reach.at(&self.lines.reach, &front.rows, row - 1, j)[j];
         let with = |q: usize| found[q].plus(self.lines.prices[j][q]).greatest(Plain::shut(node.shut >> (4 * q), INF));
@@ -216,6 +226,15 @@ impl<const Q: usize> Held<Q> {
         self.terms[triangle(j) + usize::from(front.lasts[row][class])][class]
     }
 
+    /// The largest of these classes' terms and of the one given.
+    #[inline(always)]
+    pub(super) fn largest_term(&self, front: &Front<Q>, row: usize, j: usize, classes: impl Iterator<Item = usize>, mut term: u32) -> u32 {
+        for class in classes {
+            term = self.class_term(front, row, j, class).max(term);
+        }
+        term
+    }
+
     /// The term of the no, or of the not removed; `term` is the node's.
     #[inline(always)]
     fn no_term(&self, front: &Front<Q>, node: Node, opening: bool, term: u32) -> u32 {
@@ -229,7 +248,7 @@ impl<const Q: usize> Held<Q> {
 
     /// The part sums of the no, or of the not removed with these parts shut; no part is missing.
     #[inline(always)]
-    fn no_sum(&self, front: &mut Front<Q>, node: Node, opening: bool, shut: u32) -> u32 {
+    pub(super) fn no_sum(&self, front: &mut Front<Q>, node: Node, opening: bool, shut: u32) -> u32 {
         let j = if opening { node.at + 1 } else { node.at };
         let least = front.ends.at(&self.lines.ends, &front.rows, node.rows - 1, j);
         let mut sum = Plain::splat(0);
@@ -276,19 +295,20 @@ impl<const Q: usize> Held<Q> {
         self.on(front, limit, yes, sum, term, after.counted())
     }
 
+    /// The part sums before the first opening.
+    pub(super) fn first_sum(&self, front: &mut Front<Q>) -> u64 {
+        front.ends.at(&self.lines.ends, &front.rows, 0, 0)[0].iter().fold(0, |sum, lanes| sum + lanes.sum())
+    }
+
     /// The walk of at most `limit` nodes, or none where the job has no plan.
     fn walk(&self, limit: u64, holding: &[usize]) -> Option<Found> {
-        let none = [Plain::splat(0); Q];
-        let rows = Rows { rows: [none; MARKS], marks: [0; MARKS] };
-        let lasts = [[0; MAX_PARTS]; MARKS];
-        let clear = [0; MAX_OPENINGS];
-        let mut front = Front { rows, lasts, ends: Memo::new(), reach: Memo::new(), removed: clear, best: clear };
+        let mut front = Front::new();
         let term = self.tops[0];
         if term >= INF {
             return None;
         }
         let root = Node { at: 0, rows: 1, next: holding.len(), owed: false, shut: 0, removed: 0, mask: 0, spent: 0 };
-        let sum = front.ends.at(&self.lines.ends, &front.rows, 0, 0)[0].iter().fold(0, |sum, lanes| sum + lanes.sum());
+        let sum = self.first_sum(&mut front);
         let floor = sum + u64::from(term);
         let begun = Search { count: 0, over: false, found: false, cost: 0, mask: 0 };
         let Search { count, over, found, cost, mask } = if begun.opens(limit, floor) {

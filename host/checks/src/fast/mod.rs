@@ -2,6 +2,7 @@
 //! each opening on, a stack of rows of least prices up to each stop with a memo of their sums, the parts side by side, the decisions as a mask.
 //! Its reader trusts the text, and it shares no code with the reference.
 
+mod hall;
 mod holders;
 mod lanes;
 mod optimum;
@@ -16,6 +17,7 @@ use lanes::{Lanes, Plain};
 use recursive::Recursion;
 use walk::{Form, Loop, Tables, MAX_OPENINGS};
 
+pub use hall::{Hall, HallBest, HallFound};
 pub use optimum::{Optimum, Search};
 
 /// The facts of a job, for the walk.
