@@ -9,12 +9,12 @@ ghost use Rattle.lane_rows.specs.Layout.{lane_count_lem, inf};
 ghost use Rattle.model.specs.Limits.{most_openings, most_parts};
 
 use ascent_lanes::job::Scaled;
-use ascent_lanes::{BORNE, PLACES, narrow, product};
+use ascent_lanes::{BORNE, PLACES, first_marks, narrow, product, scaled_prices};
 use lane_rows::{COUNT, FEES, LANES, TABLES};
 use model::{OPENINGS, PARTS};
-use row::{Row, WHOLE, WHOLE_STEP, level_row, round_row};
+use row::{Row, WHOLE, WHOLE_STEP, go, level_row, round_row};
 use share_rows::{HOLDS, REMOVALS, SHARES, TAKES};
-use task::Task;
+use task::{THINGS, Task};
 
 // The finest scale: so many parts of one.
 const FINEST: u32 = 256;
@@ -115,7 +115,8 @@ impl<'a, 'b> Task<'a, 'b> {
         let x = self.x;
         let at = TAKES + r / OPENINGS * LANES;
         Row {
-            takes: &x[at..at + self.job.parts],
+            takes: &x[at..at + LANES],
+            users: self.users[r / OPENINGS],
             worth: self.worth(r),
         }
     }
@@ -132,63 +133,74 @@ impl<'a, 'b> Task<'a, 'b> {
         let (rows, _) = u.as_chunks_mut::<LANES>();
         for (r, shares) in rows[..self.job.things * OPENINGS].iter_mut().enumerate() {
             let row = self.row(r);
-            row.split(narrow(row.cap(self.job.scale)), shares);
+            row.split(narrow(row.cap(self.job.scale)), self.job.parts, shares);
         }
     }
 
-    // The direction of all shares, and how long it is.
-    fn turn(&self, changed: &[u32; BORNE], d: &mut [u32; PLACES]) -> u64 {
+    // The direction of all shares, and how long it is: of each row whose thing costs something and is shared.
+    fn turn<const FOURS: usize>(&self, changed: &[u32; BORNE], d: &mut [u32; PLACES]) -> u64
+        requires { FOURS ≤ 4 }
+    {
         let mut norm: u64 = 0;
         let (rows, _) = d.as_chunks_mut::<LANES>();
         for (r, d) in rows[..self.job.things * OPENINGS].iter_mut().enumerate() {
             let row = self.row(r);
-            if row.worth != 0 {
+            if row.worth != 0 && 2 <= row.users {
                 let at = r % OPENINGS * LANES;
-                norm = norm.wrapping_add(row.turn(&changed[at..at + LANES], d));
+                norm = norm.wrapping_add(row.turn::<FOURS>(&changed[at..at + LANES], d));
             }
         }
         norm / u64::from(WHOLE)
     }
 
     // A step along the direction, of all shares.
-    fn go(&self, size: u32, d: &[u32; PLACES], u: &mut [u32; PLACES]) {
+    fn go<const FOURS: usize>(&self, size: u32, d: &[u32; PLACES], u: &mut [u32; PLACES])
+        requires { FOURS ≤ 4 }
+    {
         let (turned, _) = d.as_chunks::<LANES>();
         let (rows, _) = u.as_chunks_mut::<LANES>();
         let all = rows[..self.job.things * OPENINGS].iter_mut();
         for (r, (shares, d)) in all.zip(turned).enumerate() {
             let row = self.row(r);
-            let cap = row.cap(self.job.scale);
-            if cap != 0 {
-                let sum = row.go(size, d, shares);
-                level_row(shares, sum.saturating_sub(cap));
+            if row.worth != 0 && 2 <= row.users {
+                let sum = go::<FOURS>(size, d, shares);
+                level_row::<FOURS>(shares, sum.saturating_sub(row.cap(self.job.scale)));
             }
         }
     }
 
     // One round: the value of the table u, and a step from it; a table of a higher value than before is kept.
-    fn round(
+    fn round<const FOURS: usize>(
         &self,
         c: Climb,
         d: &mut [u32; PLACES],
         u: &mut [u32; PLACES],
         best: &mut [u32; PLACES],
-    ) -> Climb {
+    ) -> Climb
+        requires { FOURS ≤ 4 }
+    {
         let mut changed = [0; BORNE];
-        let z = self.job.least_sum(u, &mut changed);
+        let z = self.job.least_sum::<FOURS>(u, &mut changed);
         if c.bound < z {
-            best.copy_from_slice(u);
+            let all = self.job.things * OPENINGS * LANES;
+            best[..all].copy_from_slice(&u[..all]);
         }
         let next = c.after(z);
-        let norm = self.turn(&changed, d);
+        let norm = self.turn::<FOURS>(&changed, d);
         let aim = next.bound.wrapping_add(next.bound / 24);
         let gap = aim.saturating_sub(z).wrapping_add(1);
-        self.go(step_size(next.reach, gap, norm), d, u);
+        self.go::<FOURS>(step_size(next.reach, gap, norm), d, u);
         next
     }
 
-    // The rounds, until steps are too small.
-    fn rounds(&self, u: &mut [u32; PLACES], best: &mut [u32; PLACES]) {
+    // The rounds, until steps are too small, from shares that each thing's users bear evenly.
+    fn rounds<const FOURS: usize>(&self, best: &mut [u32; PLACES])
+        requires { FOURS ≤ 4 }
+    {
+        let mut u = [0; PLACES];
         let mut d = [0; PLACES];
+        self.split(&mut u);
+        best.copy_from_slice(&u);
         let mut c = Climb {
             bound: 0,
             reach: WHOLE_STEP,
@@ -198,9 +210,43 @@ impl<'a, 'b> Task<'a, 'b> {
             if c.reach <= 2 {
                 break;
             }
-            c = self.round(c, &mut d, u, best);
+            c = self.round::<FOURS>(c, &mut d, &mut u, best);
         }
     }
+
+    // The rounds, with as many fours of lanes as the parts fill: each number of them is compiled for itself.
+    fn climb(&self, best: &mut [u32; PLACES]) {
+        let parts = self.job.parts;
+        if parts <= 4 {
+            return self.rounds::<1>(best);
+        }
+        if parts <= 8 {
+            return self.rounds::<2>(best);
+        }
+        if parts <= 12 {
+            return self.rounds::<3>(best);
+        }
+        self.rounds::<4>(best)
+    }
+}
+
+// How many parts take each thing.
+// Kept as a cast: the library has no `From` of a `usize` for a `u32`.
+fn users_of(x: &[u32; SHARES], parts: usize) -> [u32; THINGS]
+    requires { parts ≤ most_parts }
+{
+    let mut users = [0; THINGS];
+    let (takes, _) = x[TAKES..].as_chunks::<LANES>();
+    for (users, takes) in users.iter_mut().zip(takes) {
+        *users = takes[..parts].iter().filter(|taken| **taken != 0).count() as u32;
+    }
+    users
+}
+
+// The scale of the ascent of a job.
+fn scale_for(job: Scaled, x: &[u32; SHARES], users: [u32; THINGS]) -> u32 {
+    let task = Task { job, x, users };
+    scale_of(task.worth_all())
 }
 
 // Shares of the job in the tables, and the value of their table.
@@ -212,21 +258,33 @@ pub fn ascend(t: &[u32; TABLES], x: &[u32; SHARES], parts: usize, best: &mut [u3
     // Kept as casts: the library has no `From` of a `u32` for a `usize`.
     let openings = (t[COUNT] as usize).min(OPENINGS);
     let things = (x[HOLDS] as usize).min(PARTS) + 1;
-    let job = Scaled {
+    let firsts = first_marks(t, openings, parts);
+    let users = users_of(x, parts);
+    let whole = scaled_prices(t, 1);
+    let coarse = Scaled {
         t,
+        prices: &whole,
+        firsts: &firsts,
         openings,
         things,
         parts,
         scale: 1,
     };
-    let mut task = Task { job, x };
-    let scale = scale_of(task.worth_all());
-    task.job.scale = scale;
-    let mut u = [0; PLACES];
-    task.split(&mut u);
-    best.copy_from_slice(&u);
-    task.rounds(&mut u, best);
+    let scale = scale_for(coarse, x, users);
+    let fine = scaled_prices(t, scale);
+    // Kept as a second literal: a field that is a reference can't be given one of another lifetime, and `..coarse` is refused for a struct with ghost fields.
+    let job = Scaled {
+        t,
+        prices: &fine,
+        firsts: &firsts,
+        openings,
+        things,
+        parts,
+        scale,
+    };
+    let task = Task { job, x, users };
+    task.climb(best);
     round_all(things, scale, best);
     let mut changed = [0; BORNE];
-    job.least_sum(best, &mut changed)
+    coarse.least_sum::<4>(best, &mut changed)
 }

@@ -35,50 +35,80 @@ pub fn product(x: u32, y: u32) -> u64
     u64::from(x) * u64::from(y)
 }
 
-// Each lane's least up to opening j or the end, over the marks up to it, by the block of the tables from `base` on.
-fn least_lanes(t: &[u32; TABLES], v: &[u32; MARKED], base: usize, j: usize) -> [u32; LANES]
-    requires { (base ≤ reach_base) × (j ≤ most_openings) }
+// Each lane's prices at a scale; nothing at the end.
+pub fn scaled_prices(t: &[u32; TABLES], scale: u32) -> [u32; BORNE] {
+    let mut prices = [0; BORNE];
+    for (x, price) in prices.iter_mut().zip(&t[PRICES..PRICES + OPENINGS * LANES]) {
+        *x = narrow(product(*price, scale)).min(INF);
+    }
+    prices
+}
+
+// The first mark from which some part lasts to opening j or the end, by the block of the tables from `base` on.
+fn first_mark(t: &[u32; TABLES], base: usize, j: usize, parts: usize) -> usize
+    requires { (base ≤ reach_base) × (j ≤ most_openings) × (parts ≤ lane_count_lem) }
+{
+    let (level, _) = t[base + row_of(j) * LANES..].as_chunks::<LANES>();
+    level
+        .iter()
+        .position(|lanes| lanes[..parts].iter().any(|x| *x < INF))
+        .unwrap_or(j)
+        .min(j)
+}
+
+// The first mark from which some part lasts to each opening, and to the end.
+pub fn first_marks(t: &[u32; TABLES], openings: usize, parts: usize) -> [usize; MARKS]
+    requires { (openings ≤ most_openings) × (parts ≤ lane_count_lem) }
+{
+    let mut firsts = [0; MARKS];
+    for k in 0..openings {
+        firsts[k] = first_mark(t, REACHES, k, parts);
+    }
+    firsts[openings] = first_mark(t, SUFFIXES, openings, parts);
+    firsts
+}
+
+// Each lane's least up to opening j or the end, over the marks from `from` up to it, by the block of the tables from `base` on.
+fn least_lanes<const FOURS: usize>(
+    t: &[u32; TABLES],
+    v: &[u32; MARKED],
+    base: usize,
+    from: usize,
+    j: usize,
+) -> [u32; LANES]
+    requires { (FOURS ≤ 4) × (base ≤ reach_base) × (from ≤ j) × (j ≤ most_openings) }
 {
     let mut acc = [INF; LANES];
     let (marks, _) = v.as_chunks::<LANES>();
-    let (level, _) = t[base + row_of(j) * LANES..].as_chunks::<LANES>();
-    for (v, t) in marks[..=j].iter().zip(level) {
-        turn(4, &mut acc, |q, x| x.min(v[q].wrapping_add(t[q])));
+    let (level, _) = t[base + (row_of(j) + from) * LANES..].as_chunks::<LANES>();
+    for (v, t) in marks[from..=j].iter().zip(level) {
+        turn(FOURS, &mut acc, |q, x| x.min(v[q].wrapping_add(t[q])));
     }
     acc
 }
 
 // The row of a change at opening k: each lane's least up to it, with what it bears there.
-fn put_mark(w: &[u32; BORNE], k: usize, acc: &[u32; LANES], v: &mut [u32; MARKED])
-    requires { k ≤ most_openings }
+fn put_mark<const FOURS: usize>(
+    w: &[u32; BORNE],
+    k: usize,
+    acc: &[u32; LANES],
+    v: &mut [u32; MARKED],
+)
+    requires { (FOURS ≤ 4) × (k ≤ most_openings) }
 {
     let at = k * LANES;
-    turn(4, &mut v[at + LANES..at + 2 * LANES], |q, _| {
+    turn(FOURS, &mut v[at + LANES..at + 2 * LANES], |q, _| {
         acc[q].min(INF).wrapping_add(w[at + q]).min(INF)
     });
 }
 
-// The row of opening k, or of the end, in the place of opening `to`.
-fn put_next(
-    t: &[u32; TABLES],
-    w: &[u32; BORNE],
-    base: usize,
-    k: usize,
-    to: usize,
-    v: &mut [u32; MARKED],
-)
-    requires { (base ≤ reach_base) × (k ≤ most_openings) × (to ≤ most_openings) }
-{
-    let acc = least_lanes(t, v, base, k);
-    put_mark(w, to, &acc, v);
-}
-
-// The lanes' least sums together; 0 where one has none.
-fn value(v: &[u32; MARKED]) -> u64
+// The parts' least sums together; 0 where one has none.
+fn value(v: &[u32; MARKED], parts: usize) -> u64
+    requires { parts ≤ lane_count_lem }
     ensures { result ≤ lane_count_lem * inf }
 {
     let mut z: u64 = 0;
-    for y in &v[MARKS * LANES..MARKED] {
+    for y in &v[MARKS * LANES..MARKS * LANES + parts] {
         if INF <= *y {
             return 0;
         }
@@ -87,71 +117,87 @@ fn value(v: &[u32; MARKED]) -> u64
     z
 }
 
-// Of the marks up to j the last one of the least sum.
-fn best_mark(t: &[u32; TABLES], v: &[u32; MARKED], base: usize, j: usize, q: usize) -> usize
-    requires { (base ≤ reach_base) × (j ≤ most_openings) × (q < lane_count_lem) }
+// Of the marks up to j the last one of the least sum, which is what stands in row `to` less what the lane bears there.
+fn best_mark(
+    t: &[u32; TABLES],
+    w: &[u32; BORNE],
+    v: &[u32; MARKED],
+    base: usize,
+    j: usize,
+    to: usize,
+    q: usize,
+) -> usize
+    requires { (base ≤ reach_base) × (j ≤ most_openings) × (to ≤ most_openings) × (q < lane_count_lem) }
     ensures { result ≤ j }
 {
     let row = row_of(j);
+    let least = v[(to + 1) * LANES + q].wrapping_sub(w[to * LANES + q]);
     (0..j + 1)
         .rev()
-        .min_by_key(|i| v[i * LANES + q].wrapping_add(t[base + (row + i) * LANES + q]))
+        .find(|i| v[*i * LANES + q].wrapping_add(t[base + (row + *i) * LANES + q]) == least)
         .unwrap_or(0)
 }
 
 impl<'a> Scaled<'a> {
     // The lanes' rows, mark by mark, at what they bear at each opening; the end's stands last.
     // Kept as a loop over openings: each row is made of all those before it, in the table that it is written to.
-    fn forward(&self, w: &[u32; BORNE], v: &mut [u32; MARKED]) {
+    fn forward<const FOURS: usize>(&self, w: &[u32; BORNE], v: &mut [u32; MARKED])
+        requires { FOURS ≤ 4 }
+    {
         for k in 0..self.openings {
-            put_next(self.t, w, REACHES, k, k, v);
+            let acc = least_lanes::<FOURS>(self.t, v, REACHES, self.firsts[k].min(k), k);
+            put_mark::<FOURS>(w, k, &acc, v);
         }
-        put_next(self.t, w, SUFFIXES, self.openings, OPENINGS, v);
+        let n = self.openings;
+        let acc = least_lanes::<FOURS>(self.t, v, SUFFIXES, self.firsts[n].min(n), n);
+        put_mark::<FOURS>(w, OPENINGS, &acc, v);
     }
 
     // The changes of lane q in its least sum are marked.
     // Kept as a while loop: each turn goes on from a mark that is found.
-    fn trace(&self, v: &[u32; MARKED], q: usize, changed: &mut [u32; BORNE])
+    fn trace(&self, w: &[u32; BORNE], v: &[u32; MARKED], q: usize, changed: &mut [u32; BORNE])
         requires { q < lane_count_lem }
     {
-        let mut j = best_mark(self.t, v, SUFFIXES, self.openings, q);
+        let mut j = best_mark(self.t, w, v, SUFFIXES, self.openings, OPENINGS, q);
         while 0 < j {
             j -= 1;
             changed[j * LANES + q] = 1;
-            j = best_mark(self.t, v, REACHES, j, q);
-        }
-    }
-
-    // Each lane's prices, as often as they are taken.
-    fn put_prices(&self, w: &mut [u32; BORNE]) {
-        let t = self.t;
-        for (x, price) in w.iter_mut().zip(&t[PRICES..PRICES + OPENINGS * LANES]) {
-            *x = narrow(product(*price, self.scale)).min(INF);
+            j = best_mark(self.t, w, v, REACHES, j, j, q);
         }
     }
 
     // What each lane bears at each opening: its prices, and its shares of the things.
-    fn put_borne(&self, u: &[u32; PLACES], w: &mut [u32; BORNE]) {
-        self.put_prices(w);
+    fn put_borne<const FOURS: usize>(&self, u: &[u32; PLACES], w: &mut [u32; BORNE])
+        requires { FOURS ≤ 4 }
+    {
+        let prices = self.prices;
+        w.copy_from_slice(prices);
         let (rows, _) = u.as_chunks::<LANES>();
         for (r, shares) in rows[..self.things * OPENINGS].iter().enumerate() {
             let at = r % OPENINGS * LANES;
-            turn(4, &mut w[at..at + LANES], |q, x| x.wrapping_add(shares[q]));
+            turn(FOURS, &mut w[at..at + LANES], |q, x| {
+                x.wrapping_add(shares[q])
+            });
         }
     }
 
-    // The sum of what the lanes bear at least, by a table of shares of the things; the parts' changes are marked.
+    // The sum of what the parts bear at least, in so many fours of lanes, by a table of shares of the things; their changes are marked.
     // Kept as a loop over parts: a part's lane is a column of the tables, and no slice.
-    pub fn least_sum(&self, u: &[u32; PLACES], changed: &mut [u32; BORNE]) -> u64
+    pub fn least_sum<const FOURS: usize>(
+        &self,
+        u: &[u32; PLACES],
+        changed: &mut [u32; BORNE],
+    ) -> u64
+        requires { FOURS ≤ 4 }
         ensures { result ≤ lane_count_lem * inf }
     {
         let mut w = [0; BORNE];
         let mut v = [0; MARKED];
-        self.put_borne(u, &mut w);
-        self.forward(&w, &mut v);
+        self.put_borne::<FOURS>(u, &mut w);
+        self.forward::<FOURS>(&w, &mut v);
         for q in 0..self.parts {
-            self.trace(&v, q, changed);
+            self.trace(&w, &v, q, changed);
         }
-        value(&v)
+        value(&v, self.parts)
     }
 }

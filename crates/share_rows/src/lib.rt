@@ -32,15 +32,10 @@ pub fn ease(x: &[u32; SHARES], m: usize, k: usize, acc: &mut [u32])
     ensures { Turned lane_count_lem (λ (q : ℕ). eased_of (get_or acc.old q 0) (get_or x.now (bear_place m k q) 0)) acc.old acc.new }
 {
     let at = (m * OPENINGS + k) * LANES;
-    turn(
-        4,
-        acc,
-        |q, v| if v < INF {
-            v.saturating_sub(x[at + q])
-        } else {
-            v
-        },
-    );
+    turn(4, acc, |q, v| {
+        let less = v.saturating_sub(x[at + q]);
+        if v < INF { less } else { v }
+    });
 }
 
 // Thing m is not removed: the stop is shut to the lanes that take it.

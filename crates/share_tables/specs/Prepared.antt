@@ -1,6 +1,6 @@
 -- A job's lanes, always sixteen: past its last part each is a part that lasts to the end. And its prices with all shares.
 use Rattle.std.specs.Prelude.{Bool, ℕ, ◌+◌, ◌*◌, ◌/◌, ◌%◌, ◌<◌, ◌≤◌, ◌≡◌, List, [], length, get_or}
-use Rattle.model.specs.Limits.{longest_life}
+use Rattle.model.specs.Limits.{longest_life, most_openings, most_parts}
 use Rattle.model.specs.Model.{Job, sum, table}
 use Rattle.model.specs.Decisions.{Held, held_parts}
 use Rattle.shares.specs.Shares.{FairShares}
@@ -28,18 +28,18 @@ borne_at_lem x things k q = sum 0 things (λ (m : ℕ). get_or x (bear_place m k
 
 -- the number at place i of the prices with all shares: 64 numbers a lane
 abbrev pub shared_in : List ℕ → List ℕ → ℕ → ℕ → ℕ
-shared_in ps x things i = get_or ps i 0 + borne_at_lem x things (i % 64) (i / 64)
+shared_in ps x things i = get_or ps i 0 + borne_at_lem x things (i % most_openings) (i / most_openings)
 
 -- no price with its shares is above the highest
 abbrev pub Roomy : List ℕ → List ℕ → ℕ → Type 0
-Roomy ps x things = (i : ℕ) → i < 1024 → shared_in ps x things i ≤ dear
+Roomy ps x things = (i : ℕ) → i < most_parts * most_openings → shared_in ps x things i ≤ dear
 
 -- x is a marked table with what is kept of some shares, whatever they are
 pub record KeptOf (nd : List Bool) (parts : ℕ) (ps fs rm x : List ℕ) : Type 0 where
   pub raw : List ℕ
   pub before : List ℕ
   pub marked : Marked nd parts rm before
-  pub kept : Kept raw ps fs rm (length rm + 1) before x ((length rm + 1) * 64)
+  pub kept : Kept raw ps fs rm (length rm + 1) before x ((length rm + 1) * most_openings)
 
 -- the tables t and x are those of a job's walk by fair shares
 pub record Prepared (job : Job) (t x : List ℕ) : Type 0 where

@@ -5,7 +5,7 @@
 
 ghost use Rattle.std.specs.Prelude.{◌≡◌, ℕ, ◌+◌, ◌*◌, ◌/◌, ◌%◌, ◌<◌, ◌≤◌, length};
 ghost use Rattle.base.specs.Filled.{FilledBy};
-ghost use Rattle.model.specs.Limits.{most_openings};
+ghost use Rattle.model.specs.Limits.{most_openings, most_parts};
 ghost use Rattle.model.specs.Model.{Job};
 ghost use Rattle.least.specs.Suffix.{table_size};
 ghost use Rattle.held_tables.specs.Numbers.{Holds};
@@ -49,8 +49,8 @@ fn borne_at(x: &[u32; SHARES], things: usize, k: usize, q: usize) -> u64
 
 // The prices with all shares.
 fn put_shared(prices: &[u32], x: &[u32; SHARES], things: usize, all: &mut [u32; PRICES])
-    requires { (length prices.now ≡ 1024) × (things ≤ most_things) × Roomy prices.now x.now things }
-    ensures { FilledBy (λ (i : ℕ). i) (shared_in prices.now x.now things) 1024 all.old all.new }
+    requires { (length prices.now ≡ most_parts * most_openings) × (things ≤ most_things) × Roomy prices.now x.now things }
+    ensures { FilledBy (λ (i : ℕ). i) (shared_in prices.now x.now things) (most_parts * most_openings) all.old all.new }
 {
     for (i, shared) in all.iter_mut().enumerate() {
         let sum = borne_at(x, things, i % STRIDE, i / STRIDE);

@@ -163,7 +163,7 @@ module _ (job : Job) (shares : Shares) (course : Course) (s : List Bool) (t x li
   abbrev h : ℕ
   h = inner job
 
-  kept_few : kept_rows h p ≤ p.rows
+  pub kept_few : kept_rows h p ≤ p.rows
   kept_few = go (ltb p.next h)
     where
       go : (b : Bool) → cond b (p.rows - 1) p.rows ≤ p.rows
@@ -316,4 +316,17 @@ above_kept job shares course s t x w w' row p a k =
           let v = a.stop l in
           let j = subst (Recalled t w w') (kept_stop (inner job) p l) k in
           record { at_stop = v.at_stop; row = top_kept job shares course (blocks_at job course v.at_stop.before) v.at_stop.rs w w' (p.rows - 1) (λ (q : ℕ). get_or row q 0) v.row j.kept; memo = j.memo };
+    }
+
+-- a walk from the rows that a look leaves is one from those before it
+pub walked_looked : (job : Job) (shares : Shares) (course : Course) (s : List Bool) (t w w' w'' : List ℕ) (name name' best best' : List Bool) (limit : ℕ) (p : Node) (a r : State) → kept_rows (inner job) p ≤ p.rows → Recalled t w w' p.rows → SharesWalked job shares course s t w' w'' name name' best best' limit p a r
+    → SharesWalked job shares course s t w w'' name name' best best' limit p a r
+walked_looked job shares course s t w w' w'' name name' best best' limit p a r l k h =
+    let f = recalled_less t w w' (kept_rows (inner job) p) p.rows l k in
+    record {
+      search = h.search;
+      frame = recalled_then t w w' w'' (kept_rows (inner job) p) (kept_rows (inner job) p) (omega arith) f.kept h.frame;
+      name_kept = h.name_kept;
+      room = h.room;
+      lower = h.lower;
     }

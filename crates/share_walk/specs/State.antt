@@ -4,6 +4,7 @@ use Rattle.branch.specs.declared.Bound.{Bound}
 use Rattle.branch.specs.Search.{Tree, plan, Limited, limited, snoc}
 use Rattle.branch.specs.Questions.{left_at}
 use Rattle.known_cost.specs.Known.{walk_under}
+use Rattle.model.specs.Limits.{most_openings, most_parts}
 use Rattle.model.specs.Model.{Job}
 use Rattle.model.specs.Decisions.{Held}
 use Rattle.model.specs.LowerBound.{inner}
@@ -11,8 +12,8 @@ use Rattle.shares.specs.Shares.{Shares, charged_for}
 use Rattle.shares.specs.Lift.{Level}
 use Rattle.shares.specs.Sources.{behind}
 use Rattle.shares.specs.Dolls.{sourced_bound, sourced_tree}
-use Rattle.lane_rows.specs.Layout.{lane_count_lem, top, row_place}
-use Rattle.lane_rows.specs.Rows.{Memo, Recalled}
+use Rattle.lane_rows.specs.Layout.{lane_count_lem, top, row_place, suffix_base}
+use Rattle.lane_rows.specs.Rows.{lane, sum_lanes, Memo, Recalled}
 use Rattle.share_rows.specs.Tables.{Lanes, SharedTables, ShareTable}
 use Rattle.share_rows.specs.Stacked.{Course, Idle, Stacked, TopRow}
 use Rattle.share_walk.specs.declared.Node.{Node}
@@ -20,7 +21,7 @@ use Rattle.share_walk.specs.declared.State.{State}
 
 -- the most decisions that a name has: 64 openings, each with a stop and 16 removals
 abbrev pub name_size : ℕ
-name_size = 1088
+name_size = most_openings * (most_parts + 1)
 
 -- ---- the state
 
@@ -144,7 +145,13 @@ pub record Below (job : Job) (shares : Shares) (course : Course) (s : List Bool)
   pub frame : Recalled t w w' (kept_rows (inner job) p)
   pub kept_more : kept_rows (inner job) p ≤ kept_rows (inner job) r
   pub tree : tree_at job shares course r (snoc s b) ≡ below_tree job shares course p s b
-  pub falls : (64 - r.at) * 17 + (16 - r.next) < (64 - p.at) * 17 + (16 - p.next)
+  pub falls : (most_openings - r.at) * (most_parts + 1) + (most_parts - r.next) < (most_openings - p.at) * (most_parts + 1) + (most_parts - p.next)
+
+-- the node is within the limit, e is what its estimate comes to with the lift of its level, and that is less than the cost that is known
+pub record Undercuts (t lifts w : List ℕ) (limit : ℕ) (p : Node) (e : ℕ) (a : State) : Type 0 where
+  pub within : a.count < limit
+  pub estimate : e ≡ p.spent + sum_lanes lane_count_lem (λ (q : ℕ). lane t w suffix_base p.at q p.rows) + get_or lifts p.at 0
+  pub less : e < a.cost
 
 -- what the walk of a node does: the search's, and what it keeps
 pub record SharesWalked (job : Job) (shares : Shares) (course : Course) (s : List Bool) (t w w' : List ℕ) (name name' best best' : List Bool) (limit : ℕ) (p : Node) (a r : State) : Type 0 where

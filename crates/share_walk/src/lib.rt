@@ -1,10 +1,12 @@
 // The counted walk by fair shares, from sources at a level and with lifts, from a known cost: a node, the state, the nodes below, and the recursion. From level 0 and the first lives it is that of the planner's tree.
 // Kept as parameters side by side in the functions here: the tables `t` and `x`, and in the walk the lifts. Tried as a struct of both, each function that reads one had to take it out into a variable first, and each contract to name the struct as it is at the call.
-// Kept as three parameters of `walk` and `solve`: what they write, the stack `w`, the name at hand and the best one. A struct of the three would be lent anew at each of the two calls that a node makes.
+// Kept as parameters side by side: what the walk writes, the stack `w`, the name at hand, the best one and the state. A struct of the four would be lent anew at each of the two calls that a node makes.
+// Kept as attributes: the three functions of the nodes below and the test of a node are compiled into the one that walks on, so that the nodes below stand in no memory and a node which is dropped is no call.
 // Kept with the limit of a walk in the clauses, as in `search`, and with how far a node is (at, next, size): they are plain numbers, and a full node, which has no branches, is a node too.
 #![tactic(auto)]
 
 ghost use Rattle.std.specs.Prelude.{◌≡◌, Bool, true, false, not, ◌&&◌, List, ℕ, ◌+◌, ◌^◌, ◌<◌, ◌≤◌, ltb, eqb, length, get_or, take};
+ghost use Rattle.model.specs.Limits.{most_openings, most_parts};
 ghost use Rattle.model.specs.Model.{Job};
 ghost use Rattle.model.specs.LowerBound.{inner};
 ghost use Rattle.shares.specs.Shares.{Shares as Split};
@@ -12,7 +14,7 @@ ghost use Rattle.lane_rows.specs.Layout.{lane_count_lem, mark_count, inf, count_
 ghost use Rattle.lane_rows.specs.Rows.{Put, Memo, Owing, next_row};
 ghost use Rattle.share_rows.specs.Places.{bear_place, holds_place, eased_of};
 ghost use Rattle.share_rows.specs.Stacked.{Course};
-ghost use Rattle.share_walk.specs.State.{name_size, counted_s, stopped_s, kept_s, view, open_n, asked_n, At, Above, Below, SharesWalked, Ready, course_under};
+ghost use Rattle.share_walk.specs.State.{name_size, counted_s, stopped_s, kept_s, view, open_n, asked_n, At, Above, Below, SharesWalked, Undercuts, Ready, course_under};
 
 pub use held_lanes::NAMES;
 use held_lanes::number;
@@ -20,7 +22,7 @@ use lane_rows::{COUNT, FEES, INF, LANES, STACK, TABLES, cell, lane_sum, next_lan
 use model::MARKS;
 use share_rows::{HOLDS, REMOVALS, SHARES, ease, put_top, shut};
 
-// The state of the walk, passed by value and handed back: the nodes reached, whether one was reached beyond the limit, the cost to be undercut, and how long the name of the incumbent is.
+// The state of the walk, which is lent to it: the nodes reached, whether one was reached beyond the limit, the cost to be undercut, and how long the name of the incumbent is.
 // Kept with a cost and a length where there is no incumbent yet: the cost is the one to be undercut from the start. Kept with `over` beside them: a walk that is cut has its count and its incumbent too. Kept with a length apart from the name, which stands in a lent buffer of a fixed size, without a heap.
 // Kept beside the state of `walk`: an incumbent there is 64 bits, here a name in a buffer, and there a node beyond the limit is counted, here it is said.
 #[derive(Clone, Copy)]
@@ -72,7 +74,7 @@ pub struct Node {
 impl Node {
     // The node below: no stop at the next opening.
     fn no(self) -> Node
-        requires { (self.at < 64) × (self.size < name_size) }
+        requires { (self.at < most_openings) × (self.size < name_size) }
         ensures { result ≡ open_n self 0 false }
     {
         Node {
@@ -84,7 +86,7 @@ impl Node {
 
     // The node below: stop at the next opening.
     fn yes(self, fee: u64) -> Node
-        requires { (self.at < 64) × (self.rows < 65) × (self.size < name_size) × (self.spent + fee < 2 ^ 64) }
+        requires { (self.at < most_openings) × (self.rows < mark_count) × (self.size < name_size) × (self.spent + fee < 2 ^ 64) }
         ensures { result ≡ open_n self fee true }
     {
         Node {
@@ -98,7 +100,7 @@ impl Node {
 
     // The node below a stop: one removal more is decided, which costs this.
     fn asked(self, paid: u64) -> Node
-        requires { (self.next < 16) × (self.size < name_size) × (self.spent + paid < 2 ^ 64) }
+        requires { (self.next < most_parts) × (self.size < name_size) × (self.spent + paid < 2 ^ 64) }
         ensures { result ≡ asked_n self paid }
     {
         Node {
@@ -152,6 +154,7 @@ fn put_stop(t: &[u32; TABLES], x: &[u32; SHARES], w: &mut [u32; STACK], at: usiz
 
 // The node below an opening: no stop, or a stop.
 // Kept with a flag, as the two functions below are: one contract says what holds of both answers, and two functions each would say it twice.
+#[inline(always)]
 fn below_opening(
     t: &[u32; TABLES],
     x: &[u32; SHARES],
@@ -171,6 +174,7 @@ fn below_opening(
 }
 
 // The node below a stop: the next holding part is removed, or it is not.
+#[inline(always)]
 fn below_stop(
     t: &[u32; TABLES],
     x: &[u32; SHARES],
@@ -195,6 +199,7 @@ fn below_stop(
 }
 
 // The node below: no, or yes, to what is asked at a node.
+#[inline(always)]
 fn below(
     t: &[u32; TABLES],
     x: &[u32; SHARES],
@@ -222,7 +227,45 @@ pub fn lift_of(lifts: &[u32; MARKS], level: usize) -> u64
     u64::from(lifts[level])
 }
 
+// The walk of what is below the node p, which is counted and not dropped: its estimate with the lift of its level is e. A full node is kept.
+// Kept with the node lent: by value it would be copied once more at each call.
+#[cycle(walk)]
+fn onward(
+    t: &[u32; TABLES],
+    x: &[u32; SHARES],
+    lifts: &[u32; MARKS],
+    w: &mut [u32; STACK],
+    name: &mut [bool; NAMES],
+    best: &mut [bool; NAMES],
+    limit: u64,
+    p: &Node,
+    e: u64,
+    s: &mut State,
+)
+    requires { ((job : Job) × (shares : Split) × (course : Course) × (nm : List Bool) × At job shares course nm t.now x.now lifts.now w.old name.old p.now) × Undercuts t.now lifts.now w.old limit p.now e s.old × (s.old.cost ≤ inf) × (limit < 2 ^ 63) }
+    ensures { (job : Job) (shares : Split) (course : Course) (nm : List Bool) → At job shares course nm t.now x.now lifts.now w.old name.old p.now
+        → SharesWalked job shares course nm t.now w.old w.new name.old name.new best.old best.new limit p.now s.old s.new }
+{
+    let p = *p;
+    *s = s.counted();
+    if !undecided(t, x, p) {
+        keep(name, best, p.size);
+        *s = s.kept(e, p.size);
+        return;
+    }
+    let row = lanes_of(w, p.rows - 1);
+    let size = p.size;
+    name[size] = false;
+    let no = below(t, x, w, &row, p, false);
+    walk(t, x, lifts, w, name, best, limit, no, s);
+    name[size] = true;
+    let yes = below(t, x, w, &row, p, true);
+    walk(t, x, lifts, w, name, best, limit, yes, s);
+}
+
 // The walk of the node p and of all below it, with at most `limit` nodes in all. A node is dropped if its estimate, with the lift of its level, is not less than the cost that is known.
+#[cycle(walk)]
+#[inline(always)]
 pub fn walk(
     t: &[u32; TABLES],
     x: &[u32; SHARES],
@@ -232,32 +275,22 @@ pub fn walk(
     best: &mut [bool; NAMES],
     limit: u64,
     p: Node,
-    s: State,
-) -> State
-    requires { ((job : Job) × (shares : Split) × (course : Course) × (nm : List Bool) × At job shares course nm t.now x.now lifts.now w.old name.old p) × (s.cost ≤ inf) × (limit < 2 ^ 63) }
+    s: &mut State,
+)
+    requires { ((job : Job) × (shares : Split) × (course : Course) × (nm : List Bool) × At job shares course nm t.now x.now lifts.now w.old name.old p) × (s.old.cost ≤ inf) × (limit < 2 ^ 63) }
     ensures { (job : Job) (shares : Split) (course : Course) (nm : List Bool) → At job shares course nm t.now x.now lifts.now w.old name.old p
-        → SharesWalked job shares course nm t.now w.old w.new name.old name.new best.old best.new limit p s result }
+        → SharesWalked job shares course nm t.now w.old w.new name.old name.new best.old best.new limit p s.old s.new }
 {
     if limit <= s.count {
-        return s.stopped();
+        *s = s.stopped();
+        return;
     }
     let e = p.spent + lane_sum(t, w, p.rows, p.at) + lift_of(lifts, p.at);
-    let c = s.counted();
     if s.cost <= e {
-        return c;
+        *s = s.counted();
+        return;
     }
-    if !undecided(t, x, p) {
-        keep(name, best, p.size);
-        return c.kept(e, p.size);
-    }
-    let row = lanes_of(w, p.rows - 1);
-    let size = p.size;
-    name[size] = false;
-    let no = below(t, x, w, &row, p, false);
-    let a = walk(t, x, lifts, w, name, best, limit, no, c);
-    name[size] = true;
-    let yes = below(t, x, w, &row, p, true);
-    walk(t, x, lifts, w, name, best, limit, yes, a)
+    onward(t, x, lifts, w, name, best, limit, &p, e, s);
 }
 
 // The walk from a level, of whose sources the rows are on the stack, from a cost that is to be undercut. The incumbent's name is the first part of `best`, as long as the state says; where none was found it is empty and the cost is as it was.
@@ -282,11 +315,12 @@ pub fn solve(
         size: 0,
         spent: 0,
     };
-    let begun = State {
+    let mut s = State {
         count: 0,
         over: false,
         cost,
         size: 0,
     };
-    walk(t, x, lifts, w, name, best, limit, root, begun)
+    walk(t, x, lifts, w, name, best, limit, root, &mut s);
+    s
 }
