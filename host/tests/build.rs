@@ -29,6 +29,22 @@ fn one_version_stands_everywhere() {
     assert_eq!((version(), check_version()), (VERSION, Ok(())), "the library's own, by its promise");
 }
 
+/// "No memory is allocated": of the C library the calls need three functions that move bytes, and nothing else.
+#[test]
+fn nothing_is_allocated() {
+    let nm = |word: &str| {
+        let listed = run(Command::new("nm").args([word, "--format=posix", "../target/staticlib/libjuzvarola.a"]));
+        let text = String::from_utf8(listed.stdout).expect("text");
+        text.lines().filter_map(|line| line.split_once(' ')).map(|(name, rest)| (name.to_string(), rest.to_string())).collect::<Vec<_>>()
+    };
+    let needed: Vec<String> = nm("--undefined-only").into_iter().map(|(name, _)| name).collect();
+    assert_eq!(needed, ["memcpy", "memmove", "memset"]);
+    // And nothing is kept: no byte of the library can be written.
+    let kinds = nm("--defined-only").into_iter().filter_map(|(_, rest)| rest.chars().next());
+    let writable: Vec<char> = kinds.filter(|kind| "BbDdCcGgSs".contains(*kind)).collect();
+    assert!(writable.is_empty(), "{writable:?}");
+}
+
 /// Every file under crates/, but for what rt keeps in each crate's out/, and crates.txt, is something that library and programs are made from.
 #[test]
 fn every_source_is_made_from() {

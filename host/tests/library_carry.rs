@@ -106,12 +106,7 @@ fn starts_of_printed_plans_are_planned_on() {
 
 /// The text that is left where a random log of the job is accepted, and the log.
 fn random_log(rng: &mut Rng, text: &[u8]) -> Option<(String, Vec<u8>)> {
-    let job = texts::read_job(text).expect("a job without faults");
-    let step = logs::step(rng, job.horizon)?;
-    let often = rng.pick(&[3, 8, 10]);
-    let stops: Vec<bool> = job.openings.iter().map(|_| rng.below(10) < often).collect();
-    let changes = job.parts.iter().map(|_| stops.iter().map(|stop| *stop && rng.below(10) < often).collect()).collect();
-    let log = logs::text(&job, &Plan { stops, changes }, step);
+    let log = logs::random(rng, &texts::read_job(text).expect("a job without faults"))?;
     let left = carried(text, &log)?;
     Some((String::from_utf8(log).expect("ASCII"), left))
 }

@@ -1,7 +1,7 @@
 //! The calls on a thread with the stack that the header promises to be enough, at the limits: an overflow ends the test with the process.
 #![cfg(feature = "library")]
 
-use juzvarola_host::{carry, hall, judge, latest, optimum, plan, write, Form, MOST_WALK};
+use juzvarola_host::{carry, count, hall, judge, latest, optimum, plan, write, Form, MOST_WALK};
 use std::thread;
 
 /// "Less than 1.5 MB".
@@ -59,6 +59,9 @@ fn the_deepest_searches_fit() {
             assert_eq!((answer.result, &judged[..answer.length]), (0, [b"result=0\n", plan.as_bytes()].concat().as_slice()));
             let answer = latest(text.as_bytes(), plan.as_bytes(), &mut judged);
             assert_eq!((answer.result, &judged[..answer.length]), (0, [b"result=0\n", plan.as_bytes()].concat().as_slice()));
+            // A job with a holder has no count.
+            let counted = count(text.as_bytes());
+            assert_eq!((counted.result, counted.count), if text.contains("holder=") { (12, 0) } else { (0, 129) });
         });
     }
 }

@@ -143,10 +143,6 @@ static int of_before(void) {
     if (number("result", 2) == 3 && strcmp(field("fault", 7), "6c6566743d30") == 0) {
         return 1;
     }
-    /* A call that the library does not have. */
-    if (strcmp(fields[0], "hall") == 0) {
-        return 1;
-    }
     if (number("result", 2) == 1 && strlen(field("job", 4)) > 2 * 32768 && strlen(field("job", 4)) <= 2 * JUZVAROLA_MOST_JOB) {
         return 1;
     }
@@ -211,6 +207,7 @@ static int as_expected(void) {
         answer.line = counted.line;
     } else {
         answer = strcmp(call, "plan") == 0     ? juzvarola_plan(job.at, job.length, walk_number(&job), out.at, out.length)
+                 : strcmp(call, "hall") == 0   ? juzvarola_hall(job.at, job.length, walk_number(&job), out.at, out.length)
                  : strcmp(call, "judge") == 0  ? juzvarola_judge(job.at, job.length, plan.at, plan.length, out.at, out.length)
                  : strcmp(call, "latest") == 0 ? juzvarola_latest(job.at, job.length, plan.at, plan.length, out.at, out.length)
                  : strcmp(call, "carry") == 0  ? juzvarola_carry(job.at, job.length, plan.at, plan.length, out.at, out.length)

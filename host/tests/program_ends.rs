@@ -1,13 +1,15 @@
-//! The proved programs `planner` and `judge` with ends that are closed, full, slow, gone or no files, and stopped in the middle; `juzvarola` beside
-//! them where `tool_files` does not do it. A whole answer, or the answer to what could be read; an exit status that is the promised one.
+//! The proved programs `planner`, `optimum`, `hall` and `judge` with ends that are closed, full, slow, gone or no files, with inputs up to a limit and far
+//! beyond it, stopped in the middle and ended by signals; `juzvarola` beside them where `tool_files` does not do it. A whole answer, or the answer to what
+//! could be read; an exit status that is the promised one.
 #![cfg(feature = "library")]
 
 mod common;
-use common::tool::{job, Folder, PROGRAM};
+use common::tool::{hard, job, Folder, PROGRAM};
 use juzvarola_checks::reference;
 use juzvarola_host::MOST_WALK;
 use std::fs::{File, OpenOptions};
 use std::io::{self, Read, Write};
+use std::os::unix::process::ExitStatusExt;
 use std::path::{Path, PathBuf};
 use std::process::{Child, Command, Stdio};
 use std::sync::mpsc;
@@ -15,19 +17,24 @@ use std::thread::{self, sleep};
 use std::time::Duration;
 
 const EMPTY_JOB: &str = "result=2\ntext=1\nline=1\n";
+const TOO_LONG: &str = "result=1\ntext=1\nline=0\n";
 const OUTPUT: usize = 16_384;
 
 /// What a pipe takes before a writer waits; a smaller one only makes it wait sooner.
 const PIPE: usize = 65_536;
 
-/// The proved programs' folder, where they are built; a test without them says so and ends.
-fn programs() -> Option<PathBuf> {
-    let folder = Path::new(env!("CARGO_MANIFEST_DIR")).join("../target/bin");
-    let built = ["planner", "judge"].iter().all(|name| folder.join(name).is_file());
-    if !built {
-        eprintln!("left out: planner and judge are not built; `./prove.sh planner judge` in this folder builds them");
+/// A proved program, where it is built; a test without it says so and leaves it out.
+fn program(name: &str) -> Option<PathBuf> {
+    let path = Path::new(env!("CARGO_MANIFEST_DIR")).join("../target/bin").join(name);
+    if !path.is_file() {
+        eprintln!("left out: {name} is not built; `./prove.sh {name}` in this folder builds it");
     }
-    built.then_some(folder)
+    path.is_file().then_some(path)
+}
+
+/// A hall of one line: its text is a job's behind two lines of its own.
+fn hall_of(job: &[u8]) -> Vec<u8> {
+    [b"machines=1\ncall=7\n", job].concat()
 }
 
 /// The job with the longest plan: 64 openings in a row, sixteen parts that last one step.
@@ -37,32 +44,60 @@ fn longest() -> Vec<u8> {
     format!("horizon=64\nopenings=64\n{openings}parts=16\n{parts}").into_bytes()
 }
 
-/// A program that reads a job from standard input and writes its plan.
+/// A program that reads a text from standard input and answers it.
 struct Reader {
     path: PathBuf,
     words: &'static [&'static str],
-    /// Whether the plan alone is written.
-    bare: bool,
+    /// The most bytes of its text.
+    most: usize,
+    /// Its text for a job.
+    text: fn(&[u8]) -> Vec<u8>,
+    /// What it writes for a text.
+    answer: fn(&[u8]) -> Vec<u8>,
+}
+
+/// The answer of the planner.
+fn planned(text: &[u8]) -> Vec<u8> {
+    reference::plan(text, MOST_WALK, OUTPUT).bytes
+}
+
+/// What the program writes for a job without faults: the plan alone.
+fn plan_alone(text: &[u8]) -> Vec<u8> {
+    let answer = planned(text);
+    let plan = answer.windows(5).position(|window| window == b"cost=").expect("a plan");
+    answer[plan..].to_vec()
+}
+
+/// The answer of the optimum, which is short for these jobs: the planner's without its nodes and its floor.
+fn best(text: &[u8]) -> Vec<u8> {
+    let answer = planned(text);
+    let lines = answer.split_inclusive(|byte| *byte == b'\n');
+    lines.filter(|line| !line.starts_with(b"nodes=") && !line.starts_with(b"floor=")).flatten().copied().collect()
+}
+
+/// The answer of the hall planner.
+fn hall_planned(text: &[u8]) -> Vec<u8> {
+    reference::hall(text, MOST_WALK, OUTPUT).bytes
 }
 
 impl Reader {
-    /// What it writes for this job, which has no fault.
-    fn answer(&self, job: &[u8]) -> Vec<u8> {
-        let answer = reference::plan(job, MOST_WALK, OUTPUT).bytes;
-        let plan = answer.windows(5).position(|window| window == b"cost=").expect("a plan");
-        answer[if self.bare { plan } else { 0 }..].to_vec()
-    }
-
     fn start(&self, input: Stdio, output: Stdio) -> Child {
         Command::new(&self.path).args(self.words).stdin(input).stdout(output).stderr(Stdio::null()).spawn().expect("the program runs")
     }
 }
 
-/// The planner, where it is built, and the tool.
+/// The proved programs that read standard input, as far as they are built.
+fn proved_readers() -> Vec<Reader> {
+    type Own = (&'static str, usize, fn(&[u8]) -> Vec<u8>, fn(&[u8]) -> Vec<u8>);
+    let own: [Own; 3] =
+        [("planner", 40_960, <[u8]>::to_vec, planned), ("optimum", 40_960, <[u8]>::to_vec, best), ("hall", 65_536, hall_of, hall_planned)];
+    own.into_iter().filter_map(|(name, most, text, answer)| Some(Reader { path: program(name)?, words: &[], most, text, answer })).collect()
+}
+
+/// These and the tool.
 fn readers() -> Vec<Reader> {
-    let tool = Reader { path: PROGRAM.into(), words: &["plan", "-"], bare: true };
-    let planner = programs().map(|folder| Reader { path: folder.join("planner"), words: &[], bare: false });
-    planner.into_iter().chain([tool]).collect()
+    let tool = Reader { path: PROGRAM.into(), words: &["plan", "-"], most: 40_960, text: <[u8]>::to_vec, answer: plan_alone };
+    proved_readers().into_iter().chain([tool]).collect()
 }
 
 /// A folder with a job and its plan under the judge's names.
@@ -95,14 +130,15 @@ fn ended_well(mut child: Child) {
 #[test]
 fn inputs_that_are_closed_or_no_files() {
     let folder = judged();
-    if let Some(programs) = programs() {
-        let planner = programs.join("planner");
+    for reader in proved_readers() {
         for input in ["<&-", "< /dev/null", "< ."] {
-            let ran = folder.shell(&format!("'{}' {input}", planner.display()));
-            assert_eq!((ran.status, ran.out.as_str(), ran.err.as_str()), (0, EMPTY_JOB, ""), "{input}");
+            let ran = folder.shell(&format!("'{}' {input}", reader.path.display()));
+            assert_eq!((ran.status, ran.out.as_str(), ran.err.as_str()), (0, EMPTY_JOB, ""), "{:?} {input}", reader.path);
         }
+    }
+    if let Some(judge) = program("judge") {
         // The judge's files then get the descriptors that are free.
-        let ran = folder.shell(&format!("'{}' <&-", programs.join("judge").display()));
+        let ran = folder.shell(&format!("'{}' <&-", judge.display()));
         assert_eq!((ran.status, ran.out.as_str()), (0, "result=0\ncost=37\n"));
     }
     for words in ["plan -", "judge - plan.txt", "judge job.txt -", "count -", "list job.txt -", "compare job.txt plan.txt -"] {
@@ -113,15 +149,15 @@ fn inputs_that_are_closed_or_no_files() {
     }
 }
 
-/// These two end with status 0 whatever the result: that an answer can't be written they say on standard error, as their pages say.
+/// The proved programs end with status 0 whatever the result: that an answer can't be written they say on standard error, as their pages say.
 #[test]
 fn answers_that_cannot_be_written() {
-    let Some(programs) = programs() else { return };
     let folder = judged();
+    folder.write("hall.txt", &hall_of(&job("00_example")));
     let texts = || (folder.names(), folder.read("job.txt"), folder.read("plan.txt"));
     let before = texts();
-    for (name, input) in [("planner", "job.txt"), ("judge", "/dev/null")] {
-        let program = programs.join(name);
+    for (name, input) in [("planner", "job.txt"), ("optimum", "job.txt"), ("hall", "hall.txt"), ("judge", "/dev/null")] {
+        let Some(program) = program(name) else { continue };
         for (output, why) in
             [("> /dev/full", "No space left on device"), (">&-", "Bad file descriptor"), ("<&- >&-", "Bad file descriptor")]
         {
@@ -133,7 +169,8 @@ fn answers_that_cannot_be_written() {
         assert_eq!((ran.status, ran.out.as_str(), ran.err.as_str()), (0, "", ""), "{program:?}");
         let (reader, writer) = io::pipe().expect("a pipe");
         let mut command = Command::new(program);
-        command.current_dir(&folder.0).stdin(File::open(folder.0.join("job.txt")).expect("the job")).stdout(writer).stderr(Stdio::piped());
+        let text = if input == "/dev/null" { "job.txt" } else { input };
+        command.current_dir(&folder.0).stdin(File::open(folder.0.join(text)).expect("its text")).stdout(writer).stderr(Stdio::piped());
         drop(reader);
         let ran = command.spawn().and_then(Child::wait_with_output).expect("the program runs");
         let said = format!("{name}: the answer can't be written: Broken pipe\n");
@@ -144,8 +181,8 @@ fn answers_that_cannot_be_written() {
 
 #[test]
 fn an_input_that_comes_byte_by_byte() {
-    let text = job("00_example");
     for reader in readers() {
+        let text = (reader.text)(&job("00_example"));
         let mut child = reader.start(Stdio::piped(), Stdio::piped());
         let mut input = child.stdin.take().expect("its input");
         for (place, byte) in text.iter().enumerate() {
@@ -157,7 +194,7 @@ fn an_input_that_comes_byte_by_byte() {
         }
         drop(input);
         let output = child.wait_with_output().expect("the program ends");
-        assert_eq!((output.status.code(), output.stdout), (Some(0), reader.answer(&text)), "{:?}", reader.path);
+        assert_eq!((output.status.code(), output.stdout), (Some(0), (reader.answer)(&text)), "{:?}", reader.path);
     }
 }
 
@@ -179,9 +216,9 @@ fn read_slowly(mut from: impl Read, step: impl Fn(usize) -> usize) -> Vec<u8> {
 /// A pipe that is full but for a page, so that the answer is written in pieces, and stopped while it waits.
 #[test]
 fn an_output_that_is_read_slowly() {
-    let text = longest();
     for reader in readers() {
-        let answer = reader.answer(&text);
+        let text = (reader.text)(&longest());
+        let answer = (reader.answer)(&text);
         assert!(answer.len() > 8_000);
         let (from, mut to) = io::pipe().expect("a pipe");
         let filled = PIPE - 4_096;
@@ -209,20 +246,105 @@ fn an_output_that_is_read_slowly() {
 /// A file that grows while it is read: the answer to what was there.
 #[test]
 fn an_input_that_grows() {
-    let text = job("00_example");
-    let Some(programs) = programs() else { return };
-    let answers: Vec<Vec<u8>> = (0..=text.len()).map(|length| reference::plan(&text[..length], MOST_WALK, OUTPUT).bytes).collect();
     let folder = Folder::new();
-    for round in 0..40 {
-        folder.write("job", b"");
-        let child = Command::new(programs.join("planner"))
-            .stdin(File::open(folder.0.join("job")).expect("the file"))
-            .stdout(Stdio::piped())
-            .spawn()
-            .expect("the program runs");
-        let mut file = OpenOptions::new().append(true).open(folder.0.join("job")).expect("the file");
-        text.chunks(1 + round % 9).for_each(|bytes| file.write_all(bytes).expect("the file grows"));
-        let output = child.wait_with_output().expect("the program ends");
-        assert!(output.status.code() == Some(0) && answers.contains(&output.stdout), "{}", output.stdout.escape_ascii());
+    for reader in proved_readers() {
+        let text = (reader.text)(&job("00_example"));
+        let answers: Vec<Vec<u8>> = (0..=text.len()).map(|length| (reader.answer)(&text[..length])).collect();
+        for round in 0..40 {
+            folder.write("job", b"");
+            let child = reader.start(File::open(folder.0.join("job")).expect("the file").into(), Stdio::piped());
+            let mut file = OpenOptions::new().append(true).open(folder.0.join("job")).expect("the file");
+            text.chunks(1 + round % 9).for_each(|bytes| file.write_all(bytes).expect("the file grows"));
+            let output = child.wait_with_output().expect("the program ends");
+            assert!(output.status.code() == Some(0) && answers.contains(&output.stdout), "{}", output.stdout.escape_ascii());
+        }
+    }
+}
+
+/// Texts of no bytes, of as many as may be, of one more and of far more: as the reference answers them, from a file and through a pipe.
+#[test]
+fn inputs_at_their_limits() {
+    let folder = Folder::new();
+    for reader in proved_readers() {
+        let text = (reader.text)(&job("00_example"));
+        for length in [0, 1, text.len() - 1, text.len(), text.len() + 1, reader.most, reader.most + 1, 2 * reader.most] {
+            let mut bytes = text.clone();
+            bytes.resize(length, b'\n');
+            folder.write("text", &bytes);
+            let wanted = String::from_utf8((reader.answer)(&bytes)).expect("ASCII");
+            for line in [format!("'{}' < text", reader.path.display()), format!("cat text | '{}'", reader.path.display())] {
+                let ran = folder.shell(&line);
+                assert_eq!((ran.status, ran.out, ran.err.as_str()), (0, wanted.clone(), ""), "{line}, {length} bytes");
+            }
+        }
+        for input in ["< /dev/zero", "< huge"] {
+            File::create(folder.0.join("huge")).and_then(|file| file.set_len(100 << 20)).expect("a huge file");
+            let ran = folder.shell(&format!("'{}' {input}", reader.path.display()));
+            assert_eq!((ran.status, ran.out.as_str(), ran.err.as_str()), (0, TOO_LONG, ""), "{:?} {input}", reader.path);
+        }
+        // Who writes to it is told that nobody reads on.
+        let ran = folder.shell(&format!("head -c 100000000 /dev/zero | '{}'", reader.path.display()));
+        assert_eq!((ran.status, ran.out.as_str(), ran.err.as_str()), (0, TOO_LONG, ""), "{:?}", reader.path);
+    }
+}
+
+/// The judge's files: of as many bytes as may be and of one more, far longer ones, folders, and a pipe.
+#[test]
+fn files_at_their_limits() {
+    let Some(judge) = program("judge") else { return };
+    let (text, plan) = (job("00_example"), judged().read("plan.txt").into_bytes());
+    let judge = |folder: &Folder, before: &str| folder.shell(&format!("{before}'{}'", judge.display()));
+    let long = |text: &[u8], length: usize| [text, &vec![b'\n'; length - text.len()]].concat();
+    let cases = [
+        (Vec::new(), plan.clone()),
+        (text.clone(), Vec::new()),
+        (long(&text, 40_960), plan.clone()),
+        (long(&text, 40_961), plan.clone()),
+        (text.clone(), long(&plan, 32_768)),
+        (text.clone(), long(&plan, 32_769)),
+        (long(&text, 100 << 20), plan.clone()),
+        (text.clone(), long(&plan, 100 << 20)),
+    ];
+    for (job, plan) in cases {
+        let folder = Folder::new();
+        folder.write("job.txt", &job);
+        folder.write("plan.txt", &plan);
+        let wanted = String::from_utf8(reference::judge(&job, &plan, OUTPUT).bytes).expect("ASCII");
+        let ran = judge(&folder, "");
+        assert_eq!((ran.status, ran.out, ran.err.as_str()), (0, wanted, ""), "{} and {} bytes", job.len(), plan.len());
+    }
+    let nothing = String::from_utf8(reference::judge(&text, b"", OUTPUT).bytes).expect("ASCII");
+    for (before, wanted) in [
+        ("mkdir job.txt plan.txt; ", EMPTY_JOB.to_string()),
+        ("cp \"$OLDPWD/job.txt\" .; mkdir plan.txt; ", nothing.clone()),
+        ("cp \"$OLDPWD/job.txt\" .; ", nothing),
+        ("ln -s /dev/zero job.txt; ", TOO_LONG.to_string()),
+        ("mkfifo job.txt; cp \"$OLDPWD/plan.txt\" .; cat \"$OLDPWD/job.txt\" > job.txt & ", "result=0\ncost=37\n".to_string()),
+    ] {
+        let folder = judged();
+        let ran = judge(&folder, &format!("mkdir in; cd in; {before}"));
+        assert_eq!((ran.status, ran.out, ran.err.as_str()), (0, wanted, ""), "{before}");
+    }
+}
+
+/// A long walk is ended by a signal, as any program is: nothing was written.
+#[test]
+fn long_walks_are_ended_by_signals() {
+    let folder = Folder::new();
+    for reader in proved_readers() {
+        folder.write("text", &(reader.text)(&hard()));
+        for (name, number) in [("-INT", 2), ("-TERM", 15), ("-HUP", 1)] {
+            // The tests themselves may run where signals are ignored, as under nohup.
+            let mut command = Command::new("env");
+            command.args(["--default-signal=HUP,INT,TERM"]).arg(&reader.path);
+            command.stdin(File::open(folder.0.join("text")).expect("the text")).stdout(Stdio::piped()).stderr(Stdio::piped());
+            let child = command.spawn().expect("the program runs");
+            sleep(Duration::from_millis(500));
+            let sent = Command::new("kill").args([name, &child.id().to_string()]).status().expect("kill runs");
+            assert!(sent.success(), "{:?} had ended before {name}", reader.path);
+            let output = child.wait_with_output().expect("the program ends");
+            let left = (output.status.signal(), output.stdout.len(), output.stderr.len());
+            assert_eq!(left, (Some(number), 0, 0), "{:?} {name}", reader.path);
+        }
     }
 }

@@ -341,9 +341,9 @@ tabs), laid out like this; juzvarola-table(5) says more:
   opening,10,20,40
   fee,60
   part,life,left,removal,holders,prices
-  1,12,9,,,40,40,45
+  1,22,12,,,40,40,45
   2,26,26,15,1,70 to 80
-  3,20,8,,,base,90,drop,5,least,70
+  3,20,18,,,base,90,drop,5,least,70
 
 A single fee or price stands for every opening; the row idle and the cells of
 removal and holders may be left out. A price may go from a low end to a high

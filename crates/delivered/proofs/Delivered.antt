@@ -29,6 +29,12 @@ use Rattle.plan_grammar.proofs.Printed as printed
 use Rattle.plan_grammar.proofs.Numbered as plans
 use Rattle.plan_grammar.proofs.Nothing.{nothing_is}
 use Rattle.carry.proofs.Worn.{judge_worn, worn_no_plan}
+use Rattle.carry.proofs.Answers.{log_only}
+use Rattle.latest.proofs.Promised.{latest_answer_only}
+use Rattle.counting.proofs.Promised.{ordered}
+use Rattle.serving.proofs.Promised.{only_stops}
+use Rattle.log_grammar.proofs.Numbered.{log_fault}
+use Rattle.log_grammar.proofs.Logs.{log_tells, log_back, says_log}
 use Rattle.carrying.proofs.Said.{said_carries, two_or_one_said}
 use Rattle.hall_grammar.proofs.Accepted.{accepted_proper, accepted_fits}
 use Rattle.hall_grammar.proofs.Complete.{accepted_exactly as halls-exactly}
@@ -50,6 +56,9 @@ use Rattle.delivered.proofs.Outlives.{no_change}
 use Rattle.delivered.proofs.Missing.{missing_exactly}
 use Rattle.delivered.proofs.Circles.{together}
 use Rattle.delivered.proofs.Demands.{judge_accepts, planner_6, planner_0}
+use Rattle.delivered.proofs.Optima.{optima_alike}
+use Rattle.delivered.proofs.FirstFaults.{job_first, plan_first, log_first, hall_first}
+use Rattle.delivered.proofs.Carrying.{told, there, walk_carried, rules_carried, forms_kept}
 
 -- what is promised beside the calls' own promises holds
 pub delivered : Delivered
@@ -102,4 +111,20 @@ delivered = record {
   D1_halls = halls_by_meaning;
   E14_9_hall = hall-promise;
   D1_hall = hall-only;
+  E9_2_stops = only_stops;
+  D1_latest = λ text r stops size answer p. latest_answer_only r.given.job stops (ordered r.given.job (valid text r.given r.is).job) size answer p;
+  D1_carry = log_only;
+  R1_log_fault = log_fault;
+  E12_1_read = λ text r log said e. let k = log_tells r.given.job (valid text r.given r.is).job log said e in (k.logged, k.text);
+  E12_1_back = λ text r log logged cost. (log_back r.given.job (valid text r.given r.is).job log logged cost, says_log r.given.job log logged);
+  E12_6_told = told;
+  E12_6_there = there;
+  E10_carried = walk_carried;
+  E8_5_carried = rules_carried;
+  E12_3_forms = forms_kept;
+  R20_job_line = job_first;
+  R20_plan_line = plan_first;
+  R20_log_line = log_first;
+  R20_hall_line = hall_first;
+  D1_optimum = optima_alike;
 }

@@ -1,10 +1,10 @@
 -- docs/SPECIFICATION.md, sentence by sentence: what no call's own promise states. A field is named by its clause; docs/PROMISES.md has a row for each. A request adds its fields at the end, and their proofs in `proofs/Delivered`.
-use Rattle.std.specs.Prelude.{ℕ, ◌+◌, ◌≤◌, ◌<◌, ◌≡◌, Bool, true, false, List, [], map, ◌⊎◌, ◌↔◌, length, get_or, replicate, pos}
+use Rattle.std.specs.Prelude.{ℕ, ◌+◌, ◌≤◌, ◌<◌, ◌≡◌, Bool, true, false, List, [], map, ◌⊎◌, ◌↔◌, length, get_or, replicate, pos, Option, None}
 use Rattle.branch.specs.declared.Bound.TheVariants.{Missing, Sum}
 use Rattle.branch.specs.Search.{whole}
 use Rattle.lines.specs.Text.{bytes}
 use Rattle.lines.specs.Parser.{accepted, refused}
-use Rattle.model.specs.Model.{Part, Job, Plan, running, clock, end, within, comes_out, Chain, out_at, sum_at, sum, fee_of, removal_of_lem, prices_of_lem, cost_of_lem, KeepsPart, KeepsLives, HasPlan, listed}
+use Rattle.model.specs.Model.{Part, Job, Plan, running, clock, end, within, comes_out, Chain, out_at, sum_at, sum, fee_of, removal_of_lem, prices_of_lem, cost_of_lem, KeepsPart, Each, KeepsLives, HasPlan, listed}
 use Rattle.model.specs.Limits.{max_bytes, most_cost}
 use Rattle.model.specs.Decisions.{Held}
 use Rattle.model.specs.LowerBound.{stops_at, places_at, part_bound, undecided_fees, part_fee, bound_of}
@@ -19,7 +19,7 @@ use Rattle.published.specs.Tables.{table1, table2, table3, table4}
 use Rattle.bands.specs.Bands.{CostBand}
 use Rattle.base.specs.Each.{All}
 use Rattle.price_rules.specs.Rule.{Rule, rule_price, stated_price}
-use Rattle.job_grammar.specs.Grammar.{JobText, meant, read_job_lem, read_job_text}
+use Rattle.job_grammar.specs.Grammar.{JobText, Given, meant, read_job_lem, read_job_text}
 use Rattle.job_grammar.specs.Grammar as job
 use Rattle.job_grammar.specs.Rendering.{job_text_lem}
 use Rattle.job_grammar.specs.Valid.{ValidText}
@@ -28,12 +28,24 @@ use Rattle.job_grammar.specs.Faults.{JobFault}
 use Rattle.plan_grammar.specs.Grammar.{Stated, nothing, read_plan_lem}
 use Rattle.plan_grammar.specs.Rendering.{plan_lines_of}
 use Rattle.plan_grammar.specs.Faults.{PlanFault}
-use Rattle.answers.specs.Said.{plainly, lent}
+use Rattle.answers.specs.Said.{Said, plainly, lent}
 use Rattle.judging.specs.Judge.{judge_said, judge_room}
 use Rattle.judging.specs.Promise as judging
 use Rattle.planning.specs.Plan.{plan_said, plan_room}
+use Rattle.latest.specs.Latest.{LatestAnswer, latest_answer_of}
+use Rattle.latest.specs.Promise.{LatestPromise}
+use Rattle.serving.specs.Serve.{latest_said}
+use Rattle.carry.specs.Carry.{Log, passed, Logged}
+use Rattle.carry.specs.Answer.{CarryAnswer, answer_to}
+use Rattle.carry.specs.Promise.{LogPromise}
+use Rattle.carry.specs.Start.{Starts}
+use Rattle.log_grammar.specs.Grammar.{LogText, log_of, read_log}
+use Rattle.log_grammar.specs.Rendering.{log_text_lem, log_says}
+use Rattle.optimizing.specs.Promise.{OptimumPromise}
 use Rattle.carry_texts.specs.Carries.{Carries, joined_lines}
+use Rattle.carry_texts.specs.Carries as carries
 use Rattle.carrying.specs.Carry.{carry_said}
+use Rattle.carrying.specs.Promise as carrying
 use Rattle.hall_model.specs.Hall.{Hall, Proper}
 use Rattle.hall_model.specs.Limits.{most_hall_bytes, Fits}
 use Rattle.hall_model.specs.Promise.{HallAnswer, hall_answer, HallPromise}
@@ -42,10 +54,11 @@ use Rattle.hall_grammar.specs.Rendering.{hall_text}
 use Rattle.hall_grammar.specs.Valid.{ValidHall}
 use Rattle.hall_grammar.specs.Faults.{HallFault}
 use Rattle.hall_planning.specs.Hall.{hall_said}
-use Rattle.alike.specs.Alike.{AnsweredAlike, WalkSetAside, RulesOut}
+use Rattle.alike.specs.Alike.{AnsweredAlike, with_walk, WalkSetAside, rules_out, RulesOut}
 use Rattle.before_holders.specs.AsBefore.{AsBefore}
 use Rattle.starred.specs.Table.{CaseHolds, Counts, cases, counts}
-use Rattle.delivered.specs.Terms.{SomeLost, Meets, StatesObjective, Feasible, Cheapest}
+use Rattle.delivered.specs.FirstLines.{first_lines}
+use Rattle.delivered.specs.Terms.{SomeLost, Meets, StatesObjective, Feasible, Cheapest, KeptLines}
 
 pub record Delivered : Type 0 where
   -- ---- the model
@@ -165,3 +178,53 @@ pub record Delivered : Type 0 where
   pub E14_9_hall : (hall : Hall) → Proper hall → (limit : ℕ) → HallPromise hall limit (hall_answer hall limit)
   -- D1. and no other answer keeps that promise
   pub D1_hall : (hall : Hall) → Proper hall → (limit : ℕ) (answer : HallAnswer) → HallPromise hall limit answer → answer ≡ hall_answer hall limit
+  -- ---- the latest-time habit, and carrying on
+
+  -- E9.2. "of which only the stops count": plan texts with the same stops are answered alike
+  pub E9_2_stops : (job plan other : List ℕ) (given : Given) (s t : Stated) → read_job_lem job ≡ accepted given → read_plan_lem given.job plan ≡ accepted s → read_plan_lem given.job other ≡ accepted t
+      → s.plan.stops ≡ t.plan.stops → latest_said job plan ≡ latest_said job other
+  -- D1. no other answer keeps the promise of the latest-time habit,
+  pub D1_latest : (text : List ℕ) (r : Reading text) (stops : List Bool) → length stops ≡ length (job_in r).openings
+      → (answer : LatestAnswer) → LatestPromise (job_in r) stops answer → answer ≡ latest_answer_of (job_in r) stops
+  -- nor that of carrying on
+  pub D1_carry : (job : Job) (log : Log) → Logged job log → (answer : CarryAnswer) → LogPromise job log answer → answer ≡ answer_to job log
+  -- R1 to R3, R9. a log's faults
+  pub R1_log_fault : (job : Job) (text : List ℕ) (number line : ℕ) → read_log job text ≡ refused number line → PlanFault number × (line ≤ max_bytes + 1)
+  -- E12.1. "a line `step` 1..T − 2 (else 3) and then plan lines, never left out (else 2), with no stop after that step (else 9)": what is accepted means a log of the job, and is its text
+  pub E12_1_read : (text : List ℕ) (r : Reading text) (log : List ℕ) (said : LogText) → read_log (job_in r) log ≡ accepted said
+      → Logged (job_in r) (log_of (job_in r) said) × (log ≡ log_text_lem (job_in r) (log_of (job_in r) said))
+  -- E12.1. and the text of any log of the job is accepted, and means that log
+  pub E12_1_back : (text : List ℕ) (r : Reading text) (log : Log) → Logged (job_in r) log → log.cost ≤ most_cost
+      → (read_log (job_in r) (log_text_lem (job_in r) log) ≡ accepted (log_says (job_in r) log)) × (log_of (job_in r) (log_says (job_in r) log) ≡ log)
+  -- E12.6. "If the log is the start of a plan the planner printed with 0": at its true cost it is never refused,
+  pub E12_6_told : (text log : List ℕ) (r : carrying.Reading text log) (limit nodes floor cost : ℕ) (plan : Plan) → answer_of (carrying.job_in r) limit ≡ optimum nodes floor cost plan
+      → Starts (carrying.job_in r) (carrying.done_in r) plan → r.said.stated.cost ≡ carrying.true_cost r → (carry_said text log).result ≡ 0
+  -- and for each step that a log may have, each such plan has such a log
+  pub E12_6_there : (text : List ℕ) (t : JobText) → read_job_text text ≡ accepted t → (limit nodes floor cost : ℕ) (plan : Plan) → answer_of (meant t).job limit ≡ optimum nodes floor cost plan → (step : ℕ) → 1 ≤ step → step + 2 ≤ t.horizon
+      → (log : List ℕ) × (r : carrying.Reading text log) × (r.said.step ≡ step) × Starts (carrying.job_in r) (carrying.done_in r) plan × (r.said.stated.cost ≡ carrying.true_cost r)
+  -- E10. the `walk` line is set aside where a job is carried on, too,
+  pub E10_carried : (s s' log : List ℕ) (t : JobText) (walk : Option ℕ) → read_job_text s ≡ accepted t → read_job_text s' ≡ accepted (with_walk walk t) → carry_said s log ≡ carry_said s' log
+  -- E8.5, E12.3. and so a rule is carried on as its lines written out
+  pub E8_5_carried : (s log : List ℕ) (t : JobText) → read_job_text s ≡ accepted t → carry_said s log ≡ carry_said (job_text_lem (rules_out t)) log
+  -- E12.3. "A part given by E8's rule is written with `price` lines; a `walk` line is not written; every other form is kept."
+  pub E12_3_forms : (job log next : List ℕ) (c : Carries job log next) → (t : JobText) × (read_job_text next ≡ accepted t) × (t.walk ≡ None)
+      × Each (KeptLines (length c.text.openings) (passed (carries.job_in c) (carries.done_in c).step)) c.text.parts t.parts
+  -- ---- the first bad line
+
+  -- R20. "line by line, first bad line": a text's fault is that of every text with the same lines up to the line at fault, whatever stands behind it; of a job text,
+  pub R20_job_line : (text other : List ℕ) (number line : ℕ) → read_job_lem text ≡ refused number line → length text ≤ job.max_bytes → length other ≤ job.max_bytes → first_lines line other ≡ first_lines line text
+      → read_job_lem other ≡ refused number line
+  -- of a plan text,
+  pub R20_plan_line : (job : Job) (text other : List ℕ) (number line : ℕ) → read_plan_lem job text ≡ refused number line → length text ≤ max_bytes → length other ≤ max_bytes → first_lines line other ≡ first_lines line text
+      → read_plan_lem job other ≡ refused number line
+  -- and of a log
+  pub R20_log_line : (job : Job) (text other : List ℕ) (number line : ℕ) → read_log job text ≡ refused number line → length text ≤ max_bytes → length other ≤ max_bytes → first_lines line other ≡ first_lines line text
+      → read_log job other ≡ refused number line
+  -- of a hall text too, but for 14, which the job's further lines decide
+  pub R20_hall_line : (text other : List ℕ) (number line : ℕ) → read_hall_text text ≡ refused number line → (number ≡ 14 → ⊥) → length text ≤ most_hall_bytes → length other ≤ most_hall_bytes
+      → first_lines line other ≡ first_lines line text → read_hall_text other ≡ refused number line
+  -- ---- the optimum
+
+  -- D1. two accepted job texts that mean the same, both answered 0, at any walk numbers and in any rooms, get the same bytes: so a `walk` line (E10) or a rule (E8) changes none
+  pub D1_optimum : (s s' : List ℕ) (t t' : JobText) → read_job_text s ≡ accepted t → read_job_text s' ≡ accepted t' → meant t ≡ meant t' → (walk walk' room room' : ℕ) (a b : Said)
+      → OptimumPromise s walk room a → OptimumPromise s' walk' room' b → a.result ≡ 0 → b.result ≡ 0 → a.bytes ≡ b.bytes

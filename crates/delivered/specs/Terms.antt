@@ -1,5 +1,5 @@
--- What fields of `Delivered` speak of that stands nowhere else: the judge's and the planner's promises in the published terms, and a part that can't be kept.
-use Rattle.std.specs.Prelude.{ℕ, ◌≤◌, ◌≡◌, Bool, List, [], ◌∷◌, ◌++◌, ◌⊎◌}
+-- What fields of `Delivered` speak of that stands nowhere else: the judge's and the planner's promises in the published terms, a part that can't be kept, and the lines of a part that is carried on.
+use Rattle.std.specs.Prelude.{ℕ, ◌≤◌, ◌≡◌, Bool, List, [], ◌∷◌, ◌++◌, map, drop, ◌⊎◌}
 use Rattle.lines.specs.Parser.{accepted}
 use Rattle.model.specs.Model.{Job, Plan}
 use Rattle.model.specs.Decisions.{Held, held_parts}
@@ -8,6 +8,10 @@ use Rattle.model.specs.Estimate.{KeepsOver}
 use Rattle.published.specs.Published.{PublishedRunning, objective}
 use Rattle.plan_grammar.specs.Grammar.{read_plan_lem}
 use Rattle.answers.specs.Said.{Said}
+use Rattle.quotes.specs.Grammar.{Quote, single}
+use Rattle.price_rules.specs.Rule.{Rule, rule_prices_lem}
+use Rattle.price_rules.specs.Grammar.{by_list, by_rule_lem}
+use Rattle.part_lines.specs.Grammar.{PartText}
 use Rattle.judging.specs.Promise as judging
 use Rattle.job_grammar.specs.Grammar.{Given}
 use Rattle.plan_printing.specs.Printed.{low_lines}
@@ -52,3 +56,13 @@ pub record Cheapest (given : Given) (s : Said) : Type 0 where
   pub meets : PublishedRunning given.job plan
   pub states : cost ≡ objective given.job plan
   pub least : (other : Plan) → PublishedRunning given.job other → cost ≤ objective given.job other
+
+-- ---- carrying on
+
+-- E12.3. what a part's lines say in the job that is left, where k of n openings are past: "A part given by E8's rule is written with `price` lines", "every other form is kept", the lines of removal
+-- where they stood and each price as it was quoted
+pub record KeptLines (n k : ℕ) (before left : PartText) : Type 0 where
+  pub life : left.life ≡ before.life
+  pub cover : left.cover ≡ before.cover
+  pub listed : (qs : List Quote) → before.prices ≡ by_list qs → left.prices ≡ by_list (drop k qs)
+  pub ruled : (r : Rule) → before.prices ≡ by_rule_lem r → left.prices ≡ by_list (drop k (map single (rule_prices_lem r n)))

@@ -1,5 +1,5 @@
--- Lists that disagree, where the lines before have no fault: 3 on the line of the number that counts them (`fees_out`, `parts_out`). By those lines, each read at its place.
-use Rattle.std.specs.Prelude.{None}
+-- Lists that disagree, or are too long, where the lines before have no fault: 3 on the line of the number that counts them (`idles_out`, `fees_out`, `parts_out`). By those lines, each read at its place.
+use Rattle.std.specs.Prelude.{Some, None}
 use Prim.Native.Nat.{ℕ, ◌+◌, ◌*◌, ◌≤◌, ◌<◌}
 use mathlib.Core.Path.{◌≡◌, refl, sym, ap, ◌∙◌}
 use mathlib.Core.Bool.{true, false}
@@ -28,7 +28,7 @@ use Rattle.form_facts.proofs.CountLines.{count_in, count_out}
 use Rattle.form_facts.proofs.Facts.{paired_size, agree_says}
 use Rattle.form.specs.Form.{Form, idle_count_text, body_of, rest_of, form_text}
 use Rattle.form.specs.Promise.{StartFaultless, OpeningsFaultless, openings_line, parts_line, line_after_lem}
-use Rattle.form.proofs.IdleLines.{after_none, after_some, idles_none, idles_some, steps_in}
+use Rattle.form.proofs.IdleLines.{after_none, after_some, text_some, number_there, idles_none, idles_some, steps_in}
 
 -- ---- lines without a fault
 
@@ -96,6 +96,19 @@ paired_chained h before [] fs r v = tt
 paired_chained h before (o ∷ os) [] r v = tt
 paired_chained h before (o ∷ os) (f ∷ fs) r v = (((r.0, r.1), v.0), paired_chained h o os fs r.2 v.1)
 
+-- idle steps that are too many
+pub idles_out : (f : Form) → 2 ≤ f.horizon → f.horizon ≤ 365 → 365 < length f.idles → job_lines (form_text f) 1 ≡ fault 3 2
+unfolding job_lines form_text
+idles_out f low high many =
+    let after = rest_of f.openings f.fees f.parts in
+    let is = optional_text idle_count_text (idle_lines f.idles) in
+    let steps = texts (line_of "idle=") f.idles ++ after in
+    bind_good (row "horizon=" 2 365) _ (value_in (bytes "horizon=") 2 365 f.horizon (omega (arith, high)) (is ++ after) 1 low high)
+    ∙ bind_fault (idles f.horizon) _ (ap (λ (t : List ℕ). idles f.horizon t 2) (text_some f.idles after (omega (arith, many)))
+    ∙ number_there f.horizon 2 (count_of 365 true (length f.idles)) steps
+    ∙ bind_fault (row "idles=" 1 365 >>= λ v. return (Some v)) _
+    (bind_fault (row "idles=" 1 365) _ (count_out (bytes "idles=") 1 365 (omega arith) true (length f.idles) steps 2 (λ some few e. omega (arith, few, many)))))
+
 module _ (f : Form) (start : StartFaultless f) where
   abbrev os : List ℕ
   os = f.openings
@@ -134,12 +147,12 @@ module _ (f : Form) (start : StartFaultless f) where
 
   -- ---- the two numbers
 
-  pub fees_out : (length fs ≡ n → ⊥) → job_lines (form_text f) 1 ≡ fault 3 (openings_line f)
+  pub fees_out : (n ≤ 64 → length fs ≡ n → ⊥) → job_lines (form_text f) 1 ≡ fault 3 (openings_line f)
   fees_out differ =
       start_in
-      ∙ bind_fault (row "openings=" 0 64) _ (count_out (bytes "openings=") 0 64 (omega arith) (fees_agree os fs) n (body_of os fs f.parts) (openings_line f) (λ low high e. differ (eqb-true (length fs) n e)))
+      ∙ bind_fault (row "openings=" 0 64) _ (count_out (bytes "openings=") 0 64 (omega arith) (fees_agree os fs) n (body_of os fs f.parts) (openings_line f) (λ low high e. differ high (eqb-true (length fs) n e)))
 
-  pub parts_out : OpeningsFaultless f → (PartsAgree n f.parts → ⊥) → job_lines (form_text f) 1 ≡ fault 3 (parts_line f)
+  pub parts_out : OpeningsFaultless f → (1 ≤ length f.parts.lives → length f.parts.lives ≤ 16 → PartsAgree n f.parts → ⊥) → job_lines (form_text f) 1 ≡ fault 3 (parts_line f)
   unfolding body body_of counted_text
   parts_out known differ =
       let x = f.parts in
@@ -147,4 +160,4 @@ module _ (f : Form) (start : StartFaultless f) where
       start_in
       ∙ bind_good (row "openings=" 0 64) _ (count_in (bytes "openings=") 0 64 (omega arith) (fees_agree os fs) n (body_of os fs x) (openings_line f) (omega arith) known.few (eq-eqb (length fs) n known.as_many))
       ∙ bind_good (openings f.horizon n) _ (openings_in_lem known counted (openings_line f + 1))
-      ∙ bind_fault (row "parts=" 1 16) _ (count_out (bytes "parts=") 1 16 (omega arith) (parts_agree_lem n x) (length x.lives) (texts part_text (parts_of n x)) (parts_line f) (λ low high e. differ (agree_says n x e)))
+      ∙ bind_fault (row "parts=" 1 16) _ (count_out (bytes "parts=") 1 16 (omega arith) (parts_agree_lem n x) (length x.lives) (texts part_text (parts_of n x)) (parts_line f) (λ low high e. differ low high (agree_says n x e)))

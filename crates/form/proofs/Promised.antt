@@ -28,7 +28,7 @@ use Rattle.form_facts.proofs.Facts.{paired_size, parts_size}
 use Rattle.form.specs.Form.{Form, stated, form_text, read_form}
 use Rattle.form.specs.Write.{said_for, write_said, write_room}
 use Rattle.form.specs.Promise.{Agree, Few, FormFault, form_of, WritePromise}
-use Rattle.form.proofs.Differing.{fees_out, parts_out}
+use Rattle.form.proofs.Differing.{idles_out, fees_out, parts_out}
 use Rattle.form.proofs.Readback.{Readback, back, broken}
 use Rattle.form.proofs.Stated.{Held, cut, form_back}
 use Rattle.form.proofs.Returned.{same_text, agrees, fits, returned}
@@ -126,6 +126,12 @@ module _ (f : Form) (held : Held f) (room : ℕ) where
         parts = omega (arith, j.few_parts, length-map (stated f).parts (meant_part (length (stated f).openings)), parts_size (length f.openings) f.parts agree.parts);
       }
 
+  -- and it has a part
+  some_of : Agree f → read_job_text (job_text_lem (stated f)) ≡ accepted (stated f) → 1 ≤ length f.parts.lives
+  some_of agree e =
+      let j = (valid_text (job_text_lem (stated f)) (stated f) e).means.job in
+      omega (arith, j.some_part, length-map (stated f).parts (meant_part (length (stated f).openings)), parts_size (length f.openings) f.parts agree.parts)
+
   -- and so it is what the form is read as
   accepts : Agree f → read_job_text (job_text_lem (stated f)) ≡ accepted (stated f) → read_form f ≡ accepted (stated f)
   accepts agree e = reads agree (few_of agree e) ∙ text_fits max_bytes job_lines (job_text_lem (stated f)) (lengths.text_fits (stated f) (valid_text (job_text_lem (stated f)) (stated f) e)) ∙ e
@@ -140,6 +146,7 @@ module _ (f : Form) (held : Held f) (room : ℕ) where
     says_0 = (λ e. absurd (omega arith), λ r. absurd (omega (arith, r.0)));
     writes_0 = λ e. absurd (omega arith);
     refuses = λ e. absurd (omega arith);
+    idles_many = λ e. absurd (omega arith);
     fees_differ = λ e. absurd (omega arith);
     parts_differ = λ e. absurd (omega arith);
     reads = reads;
@@ -153,8 +160,9 @@ module _ (f : Form) (held : Held f) (room : ℕ) where
     says_0 = (λ q. (h, (agree, reads_back)), λ q. refl);
     writes_0 = λ q. (refl, reads_back);
     refuses = λ q n m r. not_both read r;
-    fees_differ = λ q start differ. absurd (differ agree.fees);
-    parts_differ = λ q start known differ. absurd (differ agree.parts);
+    idles_many = λ q low high many. absurd (omega (arith, few.idles, many));
+    fees_differ = λ q start differ. absurd (differ few.openings agree.fees);
+    parts_differ = λ q start known differ. absurd (differ some few.parts agree.parts);
     reads = reads;
     returns = λ q text t r none same. (refl, ap (λ (s : Said). s.bytes) (sym said ∙ again text t r none same));
   })
@@ -168,6 +176,12 @@ module _ (f : Form) (held : Held f) (room : ℕ) where
       reads_back : read_job_text (job_text_lem (stated f)) ≡ accepted (stated f)
       reads_back = read_back (stated f) (lines_tell (form_text f) [] 1 l (stated f) e).known
 
+      few : Few f
+      few = few_of agree reads_back
+
+      some : 1 ≤ length f.parts.lives
+      some = some_of agree reads_back
+
   refused_line : write_room ≤ room → (n m : ℕ) → FormFault n → job_lines (form_text f) 1 ≡ fault n m → WritePromise f room (write_said f)
   unfolding write_said
   refused_line h n m w e = subst (WritePromise f room) (sym said) (record {
@@ -175,6 +189,7 @@ module _ (f : Form) (held : Held f) (room : ℕ) where
     says_0 = (λ q. absurd (not_0 n w q), λ r. not_both (accepts r.1.0 r.1.1) read);
     writes_0 = λ q. absurd (not_0 n w q);
     refuses = λ q i j r. (replies.refuses 1 [] read r, no_span m, subst FormFault (one_fault read r).0 w);
+    idles_many = λ q low high many. replies.refuses 1 [] read (form_refused f 3 _ (idles_out f low high many));
     fees_differ = λ q start differ. replies.refuses 1 [] read (form_refused f 3 _ (fees_out f start differ));
     parts_differ = λ q start known differ. replies.refuses 1 [] read (form_refused f 3 _ (parts_out f start known differ));
     reads = reads;

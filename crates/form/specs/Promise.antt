@@ -163,10 +163,13 @@ pub record WritePromise (f : Form) (room : ℕ) (s : Said) : Type 0 where
   -- every refusal: 3, 4, 5 or from 12 on, text 1, its line, and no line at fault, "there is no text of the caller's"
   pub refuses : write_room ≤ room → (number line : ℕ) → read_form f ≡ refused number line
       → Refuses 1 [] number line s × (s.fault ≡ nowhere) × FormFault number
-  -- "Fees not as many as openings give 3 on the `openings` line"
-  pub fees_differ : write_room ≤ room → StartFaultless f → (length f.fees ≡ length f.openings → ⊥) → Refuses 1 [] 3 (openings_line f) s
-  -- "lefts not as many as lives, prices not parts times openings, or a list added later of a wrong length, on the `parts` line"
-  pub parts_differ : write_room ≤ room → StartFaultless f → OpeningsFaultless f → (PartsAgree (length f.openings) f.parts → ⊥) → Refuses 1 [] 3 (parts_line f) s
+  -- "`idles` 1..365": idle steps that are too many give 3 on the `idles` line, which is line 2
+  pub idles_many : write_room ≤ room → 2 ≤ f.horizon → f.horizon ≤ last_step → last_step < length f.idles → Refuses 1 [] 3 2 s
+  -- "Fees not as many as openings give 3 on the `openings` line", and so do openings that are too many
+  pub fees_differ : write_room ≤ room → StartFaultless f → (length f.openings ≤ most_openings → length f.fees ≡ length f.openings → ⊥) → Refuses 1 [] 3 (openings_line f) s
+  -- "lefts not as many as lives, prices not parts times openings, or a list added later of a wrong length, on the `parts` line", and so do no parts or too many
+  pub parts_differ : write_room ≤ room → StartFaultless f → OpeningsFaultless f → (1 ≤ length f.parts.lives → length f.parts.lives ≤ most_parts → PartsAgree (length f.openings) f.parts → ⊥)
+      → Refuses 1 [] 3 (parts_line f) s
   -- "for the same faults": of lists that agree and are not too long, what is read is the very text of the job that they state
   pub reads : Agree f → Few f → read_form f ≡ finish (whole job_lines (job_text_lem (stated f)) 1)
   -- "an accepted text, read and written, comes out byte for byte"; E10. "a byte-for-byte return is owed to texts without the line" of the walk number

@@ -4,7 +4,7 @@ use Rattle.model.specs.Limits.{most_walk}
 use Rattle.answers.specs.Said.{Said}
 use Rattle.hall_planning.specs.Hall.{hall_said}
 use Rattle.std.specs.declared.option.Option.{Option}
-use Rattle.answer_output.specs.declared.Printout.{Printout}
+use Rattle.text_program.specs.declared.Done.{Done}
 use Rattle.text_program.specs.Printed as text
 use Rattle.whole_input.specs.declared.Text.TheVariants.{Hall}
 
@@ -12,6 +12,6 @@ use Rattle.whole_input.specs.declared.Text.TheVariants.{Hall}
 abbrev pub says : List ℕ → Said → Type 0
 says text s = s ≡ hall_said text most_walk
 
--- p is such an answer, printed, to the bytes that were read
-abbrev pub Printed : {I : Type 0} → (I → Option (List ℕ)) → Option I → Printout → Type 0
-Printed remaining input p = text.Printed Hall says remaining input p
+-- what was done is that such an answer to the bytes that were read was printed
+abbrev pub Printed : {I : Type 0} → (I → Option (List ℕ)) → Option I → Done → Type 0
+Printed remaining input d = text.Printed Hall says remaining input d

@@ -1,27 +1,60 @@
 // The judge's program: a job and a plan are read from files, the plan is weighed, and the answer printed.
 #![tactic(auto)]
 
-ghost use Rattle.judge_program.specs.Printed.{Printed};
+ghost use Rattle.judge_program.specs.Printed.{Printed, Judged};
 
 use answer_output::{Printout, print_answer};
 use jobs::{Job, Plan};
+use std::io::Read;
 use std::rt::Files;
-use whole_input::{Text, read_file};
+use std::str::from_utf8;
+use std::{fs, io};
+use whole_input::{Text, read_whole};
 
-// Reads a job text and a plan text from the files of these names, and prints the judge's answer on standard output (`Printed`).
+// What the judge's program has done: what it printed, and the errors of the reads that ended the job and the plan, if any failed.
+#[derive(Drop)]
+pub struct Done {
+    pub printout: Printout,
+    pub job_failed: Option<io::Error>,
+    pub plan_failed: Option<io::Error>,
+}
+
+// Reads a job text and a plan text from two inputs, and prints the judge's answer on standard output (`Printed`). No input is what an open answers for a file that can't be opened.
+pub fn judge_inputs<R: Print + Eprint + AllocGlobal, I: Read + Drop>(
+    rt: &R,
+    job_input: Option<I>,
+    plan_input: Option<I>,
+) -> Done
+    ensures { Printed I.remaining job_input plan_input result }
+{
+    // One byte more than a text may have, so that a longer one is told.
+    let mut job = [0u8; Job::MAX_BYTES + 1];
+    let job_read = read_whole(job_input, Text::Job, &mut job);
+    let mut plan = [0u8; Plan::MAX_BYTES + 1];
+    let plan_read = read_whole(plan_input, Text::Plan, &mut plan);
+    let mut out = [0u8; judging::ROOM];
+    let a = judging::judge(&job[..job_read.count], &plan[..plan_read.count], &mut out);
+    let printout = print_answer(rt, a, &out, b"judge: the answer can't be written");
+    Done {
+        printout,
+        job_failed: job_read.failed,
+        plan_failed: plan_read.failed,
+    }
+}
+
+// Opens a file by its name. A name that is no UTF-8 names no file that the standard library can open.
+fn opened<F: Files>(files: &F, path: &[u8]) -> Option<F::File> {
+    let name = from_utf8(path).ok()?;
+    fs::open(files, name).ok()
+}
+
+// Reads a job text and a plan text from the files of these names, and prints the judge's answer.
 pub fn judge_files<R: Files + Print + Eprint + AllocGlobal>(
     rt: &R,
     job_path: &[u8],
     plan_path: &[u8],
-) -> Printout
-    ensures { Printed result }
+) -> Done
+    ensures { Judged result }
 {
-    // One byte more than a text may have, so that a longer one is told.
-    let mut job = [0u8; Job::MAX_BYTES + 1];
-    let n = read_file(rt, job_path, Text::Job, &mut job);
-    let mut plan = [0u8; Plan::MAX_BYTES + 1];
-    let k = read_file(rt, plan_path, Text::Plan, &mut plan);
-    let mut out = [0u8; judging::ROOM];
-    let a = judging::judge(&job[..n], &plan[..k], &mut out);
-    print_answer(rt, a, &out, b"judge: the answer can't be written")
+    judge_inputs(rt, opened(rt, job_path), opened(rt, plan_path))
 }

@@ -1,6 +1,7 @@
-//! Accepted texts, damaged: what `inputs` does to a text, and on top of it bits, bytes and lines moved, values at and one past the limits of
-//! their own keys, and what other systems put into a text.
+//! Accepted texts, damaged: what `inputs` does to a text, and on top of it bits, bytes and lines moved, keys misspelt by a letter, values at and one past
+//! the limits of their own keys, what other systems put into a text, and two texts spliced.
 
+use super::halls::{self, HallFacts};
 use super::inputs::{self, Facts};
 use super::rng::Rng;
 use super::Call;
@@ -28,8 +29,8 @@ const FOREIGN: &[&[u8]] = &[
     "\u{a0}".as_bytes(),
 ];
 
-/// The bytes that a plan text and a job text may have at most.
-const MOST_BYTES: [usize; 2] = [32_768, 40_960];
+/// The bytes that a plan text, a job text and a hall text may have at most.
+const MOST_BYTES: [usize; 3] = [32_768, 40_960, 65_536];
 
 /// The most nodes of a walk that a damaged job is planned with.
 const MOST_NODES: u64 = 400;
@@ -45,7 +46,7 @@ fn at_limit(rng: &mut Rng, line: &str) -> String {
 /// A line in the place of this one.
 fn other_line(rng: &mut Rng, line: &str) -> String {
     let Some((key, value)) = line.split_once('=') else { return String::new() };
-    match rng.below(12) {
+    match rng.below(18) {
         0..=4 => at_limit(rng, line),
         5 => format!("{key}=0{value}"),
         6 => format!("{key}={:0>10}", value),
@@ -53,8 +54,43 @@ fn other_line(rng: &mut Rng, line: &str) -> String {
         8 => format!("{key}={value}{}", rng.below(10)),
         9 => format!("{key}=={value}"),
         10 => format!("{}={value}", key.to_uppercase()),
+        11 | 12 => format!("{}={value}", misspelt(rng, key)),
+        13..=15 => format!("{key}={}", other_digit(rng, value)),
+        16 => spaced(rng, line, key.len()),
         _ => format!("{line}\r"),
     }
+}
+
+/// A key with one letter changed, dropped, doubled or exchanged with the next one.
+fn misspelt(rng: &mut Rng, key: &str) -> String {
+    let mut letters: Vec<char> = key.chars().collect();
+    if letters.is_empty() {
+        return "=".to_string();
+    }
+    let at = rng.below(letters.len() as u64) as usize;
+    match rng.below(4) {
+        0 => letters[at] = rng.pick(b"abcdefghijklmnopqrstuvwxyz") as char,
+        1 => drop(letters.remove(at)),
+        2 => letters.insert(at, letters[at]),
+        _ => {
+            let next = (at + 1) % letters.len();
+            letters.swap(at, next);
+        }
+    }
+    letters.into_iter().collect()
+}
+
+/// A value with one digit changed.
+fn other_digit(rng: &mut Rng, value: &str) -> String {
+    let at = rng.below(value.len().max(1) as u64) as usize;
+    let digit = rng.pick(b"0123456789") as char;
+    value.chars().enumerate().map(|(place, own)| if place == at { digit } else { own }).collect()
+}
+
+/// A line with a blank at its start, on either side of its `=`, or at its end.
+fn spaced(rng: &mut Rng, line: &str, equals: usize) -> String {
+    let at = rng.pick(&[0, equals, equals + 1, line.len()]).min(line.len());
+    format!("{}{}{}", &line[..at], rng.pick(&[" ", "\t", "  "]), &line[at..])
 }
 
 /// One line replaced, dropped, doubled, moved, exchanged with another, split or joined with the next.
@@ -96,16 +132,33 @@ fn damage_bytes(rng: &mut Rng, mut text: Vec<u8>) -> Vec<u8> {
 }
 
 /// The text with bytes behind it, up to the most bytes of a text or to one more.
-fn filled(rng: &mut Rng, mut text: Vec<u8>) -> Vec<u8> {
+fn filled(rng: &mut Rng, mut text: Vec<u8>, most: usize) -> Vec<u8> {
     let fill = rng.pick(&[b'\n', b'0', b' ', 0]);
-    text.resize(rng.pick(&MOST_BYTES) + rng.below(2) as usize, fill);
+    text.resize(most + rng.below(2) as usize, fill);
     text
+}
+
+/// The beginning of a text and the end of another one, each up to any byte or whole lines.
+pub fn spliced(rng: &mut Rng, text: &[u8], other: &[u8]) -> Vec<u8> {
+    let whole = rng.once_in(2);
+    let mut place = |text: &[u8]| {
+        let at = rng.below(text.len() as u64 + 1) as usize;
+        let line = text[..at].iter().rposition(|byte| *byte == b'\n').map_or(0, |end| end + 1);
+        if whole {
+            line
+        } else {
+            at
+        }
+    };
+    let (first, second) = (place(text), place(other));
+    [&text[..first], &other[second..]].concat()
 }
 
 /// An accepted text, damaged once, now and then twice.
 fn damaged(rng: &mut Rng, text: Vec<u8>) -> Vec<u8> {
     if rng.once_in(200) {
-        return filled(rng, text);
+        let most = rng.pick(&MOST_BYTES);
+        return filled(rng, text, most);
     }
     let once = |rng: &mut Rng, text: Vec<u8>| match String::from_utf8(text) {
         Ok(text) if !text.is_empty() && !rng.once_in(3) => damage_lines(rng, &text).into_bytes(),
@@ -130,12 +183,26 @@ pub fn job(rng: &mut Rng, facts: &Facts) -> Vec<u8> {
     }
 }
 
-/// The plan text, damaged.
+/// The plan text or the log, damaged.
 pub fn plan(rng: &mut Rng, plan: &[u8]) -> Vec<u8> {
     if rng.once_in(2) {
         damaged(rng, plan.to_vec())
     } else {
         inputs::damaged(rng, plan.to_vec())
+    }
+}
+
+/// The hall's text, damaged: as a hall, in one of its lines, or as any text.
+pub fn hall(rng: &mut Rng, hall: &HallFacts) -> Vec<u8> {
+    match rng.below(40) {
+        0 => filled(rng, hall.text(), MOST_BYTES[2]),
+        1..=10 => halls::unlike(rng, hall.clone()),
+        11..=20 => damaged(rng, hall.text()),
+        _ => {
+            let at = rng.below(hall.lines.len() as u64) as usize;
+            let line = job(rng, &hall.lines[at]);
+            hall.text_with(at, &line)
+        }
     }
 }
 

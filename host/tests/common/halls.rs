@@ -16,8 +16,19 @@ pub struct HallFacts {
 
 impl HallFacts {
     pub fn text(&self) -> Vec<u8> {
+        self.texts(self.lines.iter().map(Facts::text).collect())
+    }
+
+    /// The hall's text with this job text in the place of that line's.
+    pub fn text_with(&self, line: usize, job: &[u8]) -> Vec<u8> {
+        let own = |(at, facts): (usize, &Facts)| if at == line { job.to_vec() } else { facts.text() };
+        self.texts(self.lines.iter().enumerate().map(own).collect())
+    }
+
+    /// The hall's own lines, and behind them these job texts.
+    fn texts(&self, jobs: Vec<Vec<u8>>) -> Vec<u8> {
         let head = format!("machines={}\ncall={}\n", self.lines.len(), self.call).into_bytes();
-        [head, self.lines.iter().flat_map(Facts::text).collect()].concat()
+        [head, jobs.concat()].concat()
     }
 }
 

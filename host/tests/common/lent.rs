@@ -81,6 +81,15 @@ pub fn compare_hall(rng: &mut Rng, call: &Call, reply: &Reply) -> Result<(), Str
     compare_by(rng, call, reply, |hall, _, out| juzvarola_host::hall(hall, call.walk, out))
 }
 
+/// The same of the optimum, whose reply is what the reference makes of the bytes that a first call writes; its number.
+pub fn compare_optimum(rng: &mut Rng, call: &Call, most: u64) -> Result<u32, String> {
+    let mut out = vec![0xAA; call.output];
+    let length = juzvarola_host::optimum(&call.job, call.walk, &mut out).length;
+    let reply = reference::optimum(&call.job, call.output, most, &out[..length.min(call.output)]);
+    compare_by(rng, call, &reply, |job, _, out| juzvarola_host::optimum(job, call.walk, out))?;
+    Ok(reply.result)
+}
+
 fn compare_by(
     rng: &mut Rng,
     call: &Call,

@@ -40,6 +40,15 @@ pub fn log(rng: &mut Rng, facts: &Facts) -> Vec<u8> {
     .into_bytes()
 }
 
+/// The log of random stops and changes of a job, at its true cost; none for a horizon of 2.
+pub fn random(rng: &mut Rng, job: &Job) -> Option<Vec<u8>> {
+    let step = step(rng, job.horizon)?;
+    let often = rng.pick(&[3, 8, 10]);
+    let stops: Vec<bool> = job.openings.iter().map(|_| rng.below(10) < often).collect();
+    let changes = job.parts.iter().map(|_| stops.iter().map(|stop| *stop && rng.below(10) < often).collect()).collect();
+    Some(text(job, &Plan { stops, changes }, step))
+}
+
 /// A call to carry on with a job, its log in place of a plan text: job and log with or without faults, now and then a short or a long output.
 pub fn call(rng: &mut Rng, facts: &Facts) -> Call {
     let log = log(rng, facts);

@@ -7,6 +7,7 @@ use Rattle.lines.specs.Fault.{number_of_lem}
 use Rattle.lines.specs.Reads.{outcome, seen}
 use Rattle.hall_grammar.specs.Reading.{read_hall_lem}
 use Rattle.hall_jobs.specs.Views.{hall_of}
+use Rattle.planning.specs.Plan.{walk_number_lem}
 use Rattle.hall_planning.specs.Hall.{hall_said}
 use Rattle.hall_planning.proofs.Promised.{promised, fault_of}
 use Rattle.hall_planning.proofs.hall.Goals as goal
@@ -33,5 +34,5 @@ returns-in-Err c = let a = c.args in
 pub returns-in-Ok : goal.returns-in-Ok
 unfolding hall_said
 returns-in-Ok c = let a = c.args in
-    let walked = c.walk_number.ensures in
+    let walked : c.walk_number.result ≡ walk_number_lem a.walk = c.walk_number.ensures in
     record { replied = rw (accepted_text (goal.at.returns-in-Ok c).In-Ok, sym walked) c.plan_hall.ensures; hall_promise = promised a.text.now a.walk (length a.out.now) }

@@ -12,7 +12,7 @@ use Rattle.hall_program.proofs.hall_input.Goals as goal
 
 pub returns : goal.returns
 returns g c =
-    let read = c.read_whole-n.ensures in
-    let text = take c.read_whole-n.result c.read_whole-n.new.buf in
-    printed_whole Hall says (λ t x e. e ∙ same Hall (λ s. hall_said s most_walk) (over most_walk) t) text (omega (arith, read.counts.0, read.counts.1)) read.front
-    (hall_said text _) (ap (hall_said text) c.from.ensures) (prints (omega arith) c.hall-a.ensures.replied c.print_answer.ensures)
+    let read = c.read_whole-read.ensures in
+    let text = take c.read_whole-read.result.count c.read_whole-read.new.buf in
+    printed_whole Hall says (λ t x e. e ∙ same Hall (λ s. hall_said s most_walk) (over most_walk) t) text (omega (arith, read.counts.0, read.counts.1)) read.front read.whole
+    (hall_said text _) (ap (hall_said text) c.from.ensures) (prints (omega arith) c.hall-a.ensures.replied c.print_answer-printout.ensures)

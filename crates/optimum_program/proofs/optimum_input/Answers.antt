@@ -19,8 +19,8 @@ whole text walk n s e w p =
 
 pub returns : goal.returns
 returns g c =
-    let read = c.read_whole-n.ensures in
-    let text = take c.read_whole-n.result c.read_whole-n.new.buf in
+    let read = c.read_whole-read.ensures in
+    let text = take c.read_whole-read.result.count c.read_whole-read.new.buf in
     let answered = c.optimum-a.ensures in
-    printed_whole Job says (kept Job says (over most_walk optimum_room)) text (omega (arith, read.counts.0, read.counts.1)) read.front
-    answered.said (whole text _ _ answered.said (omega arith) c.from.ensures answered.promise) (prints (omega arith) answered.replied c.print_answer.ensures)
+    printed_whole Job says (kept Job says (over most_walk optimum_room)) text (omega (arith, read.counts.0, read.counts.1)) read.front read.whole
+    answered.said (whole text _ _ answered.said (omega arith) c.from.ensures answered.promise) (prints (omega arith) answered.replied c.print_answer-printout.ensures)

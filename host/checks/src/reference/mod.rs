@@ -1,5 +1,5 @@
-//! A second implementation of the planner, the judge, the latest-time habit, the writer, the count, carrying on and the hall planner, written from the specification sentence by sentence. It is slow and plain, and
-//! it uses no code of any other part of the repository.
+//! A second implementation of the planner, the judge, the latest-time habit, the writer, the count, carrying on and the hall planner, written from the specification sentence by sentence, and what the optimum's call
+//! promises. It is slow and plain, and it uses no code of any other part of the repository.
 
 pub mod brute;
 pub mod calls;
@@ -9,6 +9,7 @@ pub mod hall;
 pub mod latest;
 pub mod lines;
 pub mod model;
+pub mod optimum;
 pub mod texts;
 pub mod walk;
 
@@ -17,3 +18,4 @@ pub use carry::carry;
 pub use form::write;
 pub use hall::hall;
 pub use latest::latest;
+pub use optimum::optimum;

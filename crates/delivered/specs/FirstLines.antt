@@ -1,0 +1,8 @@
+-- The first lines of a text, for R20's "line by line, first bad line".
+use Rattle.std.specs.Prelude.{ℕ, zero, suc, List, [], ◌∷◌, true, false, eqb}
+
+-- the first n lines of a text, each with the byte 10 that ends it, the last as far as the text goes
+unfoldable pub first_lines : ℕ → List ℕ → List ℕ
+first_lines zero s = []
+first_lines (suc n) [] = []
+first_lines (suc n) (b ∷ bs) = b ∷ elim (eqb b 10) [ true ↦ first_lines n bs | false ↦ first_lines (suc n) bs ]
