@@ -4,7 +4,7 @@
 
 mod common;
 use common::inputs::{self, Size};
-use common::lent::{best, carried, compare_carry, planned};
+use common::lent::{self, best, carried, compare_carry, planned};
 use common::{logs, rng::Rng, setting, vectors};
 use juzvarola_checks::reference::{self, carry::read_log, model::Plan, texts};
 use juzvarola_host::{Log, MOST_WALK};
@@ -19,20 +19,7 @@ const KINDS: [&str; 5] = ["\nlow=", "\nbase=", "\nholder=", "\nidle=", "\nwalk="
 
 #[test]
 fn library_gives_every_vector() {
-    common::with_stack(|| {
-        let mut rng = Rng::new(51);
-        let vectors = vectors::carries();
-        vectors::enough(vectors.len(), "JUZVAROLA_CARRY_VECTORS", 150);
-        let mut differ = 0;
-        for (number, vector) in vectors.iter().enumerate() {
-            if let Err(difference) = compare_carry(&mut rng, &vector.call, &vector.reply()) {
-                println!("vector {}: {difference}", number + 1);
-                differ += 1;
-            }
-        }
-        println!("{} vectors, {differ} differ", vectors.len());
-        assert_eq!(differ, 0);
-    });
+    lent::given(vectors::carries(), ("JUZVAROLA_CARRY_VECTORS", 150), |rng, vector| compare_carry(rng, &vector.call, &vector.reply()));
 }
 
 #[test]

@@ -15,19 +15,14 @@ const MOST: u64 = 3_000;
 
 #[test]
 fn every_vector_of_the_count() {
-    let vectors = vectors::counts();
-    let mut differ = 0;
-    for vector in &vectors {
+    vectors::given(&vectors::counts(), ("JUZVAROLA_COUNT_VECTORS", 300), |vector| {
         let answer = count(&vector.job);
         let same = (answer.result, answer.text, answer.line, answer.count) == (vector.result, vector.text, vector.line, vector.count);
-        if !same || answer.fault != vector.fault {
-            println!("{}: {answer:?}", vector.job.escape_ascii());
-            differ += 1;
+        match same && answer.fault == vector.fault {
+            true => Ok(()),
+            false => Err(format!("{answer:?}\n{}", vector.job.escape_ascii())),
         }
-    }
-    println!("{} vectors, {differ} differ", vectors.len());
-    vectors::enough(vectors.len(), "JUZVAROLA_COUNT_VECTORS", 300);
-    assert_eq!(differ, 0);
+    });
 }
 
 /// Whether a part of an accepted job has a holder.

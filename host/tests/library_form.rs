@@ -3,7 +3,8 @@
 #![cfg(feature = "library")]
 
 mod common;
-use common::{forms, lent::compare_form, rng::Rng, setting};
+use common::lent::{self, compare_form};
+use common::{forms, rng::Rng, setting};
 use juzvarola_checks::reference::texts::read_job;
 
 const CASES: u64 = 100_000;
@@ -13,19 +14,7 @@ const LEAST: u64 = 50;
 
 #[test]
 fn library_gives_every_form() {
-    common::with_stack(|| {
-        let mut rng = Rng::new(7);
-        let vectors = forms::vectors();
-        let mut differ = 0;
-        for (number, vector) in vectors.iter().enumerate() {
-            if let Err(difference) = compare_form(&mut rng, &vector.call, &vector.reply) {
-                println!("vector {}: {difference}", number + 1);
-                differ += 1;
-            }
-        }
-        println!("{} vectors, {differ} differ", vectors.len());
-        assert_eq!(differ, 0);
-    });
+    lent::given(forms::vectors(), ("JUZVAROLA_FORMS", 200), |rng, vector| compare_form(rng, &vector.call, &vector.reply));
 }
 
 #[test]

@@ -4,7 +4,7 @@
 mod common;
 use common::halls::{self, HallFacts};
 use common::inputs::{self, Size};
-use common::lent::{compare_hall, judged, planned};
+use common::lent::{self, compare_hall, judged, planned};
 use common::{damage, rng::Rng, setting, vectors, Call};
 use juzvarola_checks::reference::{self, hall::read_hall};
 use juzvarola_host::{PlannedHall, MOST_WALK};
@@ -19,20 +19,7 @@ const TINY: Size = Size { horizon: 6, openings: 3, parts: 2 };
 
 #[test]
 fn library_gives_every_vector() {
-    common::with_stack(|| {
-        let mut rng = Rng::new(71);
-        let vectors = vectors::halls();
-        vectors::enough(vectors.len(), "JUZVAROLA_HALL_VECTORS", 150);
-        let mut differ = 0;
-        for (number, vector) in vectors.iter().enumerate() {
-            if let Err(difference) = compare_hall(&mut rng, &vector.call, &vector.reply()) {
-                println!("vector {}: {difference}", number + 1);
-                differ += 1;
-            }
-        }
-        println!("{} vectors, {differ} differ", vectors.len());
-        assert_eq!(differ, 0);
-    });
+    lent::given(vectors::halls(), ("JUZVAROLA_HALL_VECTORS", 150), |rng, vector| compare_hall(rng, &vector.call, &vector.reply()));
 }
 
 /// Texts of halls, damaged ones too, with walk numbers that cut and some that do not, and outputs that are too short now and then.

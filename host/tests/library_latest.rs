@@ -2,7 +2,7 @@
 #![cfg(feature = "library")]
 
 mod common;
-use common::lent::{compare_latest, judged, latest};
+use common::lent::{self, compare_latest, judged, latest};
 use common::{inputs, latest_cases, rng::Rng, setting, vectors, Call};
 use juzvarola_checks::reference::{self, brute, model::Plan, texts};
 
@@ -13,20 +13,7 @@ const LEAST: u64 = 50;
 
 #[test]
 fn library_gives_every_vector() {
-    common::with_stack(|| {
-        let mut rng = Rng::new(14);
-        let vectors = vectors::latest();
-        vectors::enough(vectors.len(), "JUZVAROLA_LATEST_VECTORS", 250);
-        let mut differ = 0;
-        for (number, vector) in vectors.iter().enumerate() {
-            if let Err(difference) = compare_latest(&mut rng, &vector.call, &vector.reply()) {
-                println!("vector {}: {difference}", number + 1);
-                differ += 1;
-            }
-        }
-        println!("{} vectors, {differ} differ", vectors.len());
-        assert_eq!(differ, 0);
-    });
+    lent::given(vectors::latest(), ("JUZVAROLA_LATEST_VECTORS", 250), |rng, vector| compare_latest(rng, &vector.call, &vector.reply()));
 }
 
 #[test]

@@ -3,24 +3,11 @@
 
 mod common;
 use common::paper::{self, Case};
-use common::{idle_cases, lent, rng::Rng, vectors};
+use common::{idle_cases, lent, vectors};
 
 #[test]
 fn library_gives_every_vector() {
-    common::with_stack(|| {
-        let mut rng = Rng::new(4);
-        let vectors = vectors::all();
-        vectors::enough(vectors.len(), "JUZVAROLA_VECTORS", 1570);
-        let mut differ = 0;
-        for (number, vector) in vectors.iter().enumerate() {
-            if let Err(difference) = lent::compare(&mut rng, &vector.call, &vector.reply()) {
-                println!("vector {}: {difference}", number + 1);
-                differ += 1;
-            }
-        }
-        println!("{} vectors, {differ} differ", vectors.len());
-        assert_eq!(differ, 0);
-    });
+    lent::given(vectors::all(), ("JUZVAROLA_VECTORS", 1570), |rng, vector| lent::compare(rng, &vector.call, &vector.reply()));
 }
 
 #[test]

@@ -13,13 +13,9 @@ const OUTPUT: usize = 40_960;
 
 #[test]
 fn reference_gives_every_vector() {
-    let vectors = vectors::carries();
-    vectors::enough(vectors.len(), "JUZVAROLA_CARRY_VECTORS", 150);
-    let log = |vector: &vectors::Vector| vector.call.plan.clone().unwrap_or_default();
-    let differ = vectors.iter().filter(|vector| reference::carry(&vector.call.job, &log(vector), vector.call.output) != vector.reply());
-    let differ = differ.inspect(|vector| println!("{:?}", vector.call)).count();
-    println!("{} vectors, {differ} differ", vectors.len());
-    assert_eq!(differ, 0);
+    vectors::given(&vectors::carries(), ("JUZVAROLA_CARRY_VECTORS", 150), |vector| {
+        vector.is_given_by(reference::carry(&vector.call.job, vector.second(), vector.call.output))
+    });
 }
 
 /// The reply to a log of a job, its lines as words.

@@ -7,13 +7,9 @@ use juzvarola_checks::reference::{self, brute, texts};
 
 #[test]
 fn reference_gives_every_vector() {
-    let vectors = vectors::latest();
-    vectors::enough(vectors.len(), "JUZVAROLA_LATEST_VECTORS", 250);
-    let plan = |vector: &vectors::Vector| vector.call.plan.clone().unwrap_or_default();
-    let differ = vectors.iter().filter(|vector| reference::latest(&vector.call.job, &plan(vector), vector.call.output) != vector.reply());
-    let differ = differ.inspect(|vector| println!("{:?}", vector.call)).count();
-    println!("{} vectors, {differ} differ", vectors.len());
-    assert_eq!(differ, 0);
+    vectors::given(&vectors::latest(), ("JUZVAROLA_LATEST_VECTORS", 250), |vector| {
+        vector.is_given_by(reference::latest(&vector.call.job, vector.second(), vector.call.output))
+    });
 }
 
 #[test]

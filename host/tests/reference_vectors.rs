@@ -8,25 +8,7 @@ use std::{fs, path::Path};
 #[test]
 fn reference_gives_every_vector() {
     common::with_stack(|| {
-        let vectors = vectors::all();
-        vectors::enough(vectors.len(), "JUZVAROLA_VECTORS", 1570);
-        let mut differ = 0;
-        for (number, vector) in vectors.iter().enumerate() {
-            let reply = vector.call.expected();
-            let text: &[u8] = match reply.text {
-                1 => &vector.call.job,
-                2 => vector.call.plan.as_deref().expect("only the judge has a second text"),
-                _ => &[],
-            };
-            let fault = &text[reply.fault_start..][..reply.fault_length];
-            let same = (reply.result, reply.line, reply.text) == (vector.result, vector.line, vector.text());
-            if !same || reply.bytes != vector.bytes || fault != vector.fault {
-                println!("vector {}: {:?}{:?}", number + 1, vector.call, reply);
-                differ += 1;
-            }
-        }
-        println!("{} vectors, {differ} differ", vectors.len());
-        assert_eq!(differ, 0);
+        vectors::given(&vectors::all(), ("JUZVAROLA_VECTORS", 1570), |vector| vector.is_given_by(vector.call.expected()));
     });
 }
 
@@ -36,16 +18,16 @@ const MOST: u64 = 1_000;
 #[test]
 fn reference_gives_every_count() {
     common::with_stack(|| {
-        let vectors = vectors::counts();
-        vectors::enough(vectors.len(), "JUZVAROLA_COUNT_VECTORS", 300);
-        for vector in &vectors {
+        vectors::given(&vectors::counts(), ("JUZVAROLA_COUNT_VECTORS", 300), |vector| {
             let counted = reference::count(&vector.job, MOST);
             let fault = &vector.job[counted.fault_start..][..counted.fault_length];
             let numbers = (counted.result, counted.text, counted.line, counted.count, fault);
             let wanted = (vector.result, vector.text, vector.line, u64::from(vector.count).min(MOST), &vector.fault[..]);
-            assert_eq!(numbers, wanted, "{}", vector.job.escape_ascii());
-        }
-        println!("{} vectors, 0 differ", vectors.len());
+            match numbers == wanted {
+                true => Ok(()),
+                false => Err(format!("{numbers:?}\nnot {wanted:?}\n{}", vector.job.escape_ascii())),
+            }
+        });
     });
 }
 

@@ -87,7 +87,7 @@ fn faults_and_words() {
     folder.write("after.txt", &text("step=2 cost=10 stops=1 stop=3 count=0"));
     folder.write("empty.txt", b"");
     for (words, status, said) in [
-        (&["carry", "a job.txt"][..], 64, "carry takes 2 files, not 1"),
+        (&["carry", "a job.txt"][..], 64, "carry takes 2 files or more, not 1"),
         (&["carry", "a job.txt", "first.txt", "-o", "first.txt"], 64, "would be written over"),
         (&["carry", "a job.txt", "not there"], 66, "not there can't be read"),
         (&["carry", "first.txt", "a job.txt"], 2, "first.txt:1: this is a work log, and a job is due; are the two files exchanged? (2)"),

@@ -98,6 +98,22 @@ fn the_same_for_programs() {
 }
 
 #[test]
+fn joining_is_told_to_programs() {
+    let folder = folder();
+    let ran = folder.run(&["join", "one.txt", "two.txt", "three.txt", "--call", "150", "--json"]);
+    let answer = read(&ran.out);
+    assert_eq!((ran.status, ran.err.as_str(), answer.at("text").text()), (0, "", folder.read("hall.txt").as_str()));
+    let number = |key: &str| answer.at(key).number();
+    assert_eq!((number("result"), number("call"), number("parts"), number("openings"), answer.at("jobs").list().len()), (0, 150, 7, 20, 3));
+    folder.write("other.txt", &text(JOB));
+    let ran = folder.run(&["join", "one.txt", "other.txt", "--call", "1", "--json", "-o", "none.txt"]);
+    let answer = read(&ran.out);
+    assert_eq!((ran.status, ran.err.as_str(), answer.at("result").number()), (2, "", 14));
+    assert_eq!((answer.at("fault").at("file").text(), answer.at("words").text()), ("other.txt", "`horizon` is 6, and 26 in one.txt"));
+    assert!(!folder.names().contains(&"none.txt".to_string()));
+}
+
+#[test]
 fn the_hall_is_drawn() {
     let folder = folder();
     let ran = folder.run(&["hall", "hall.txt", "-o", "hall.svg"]);
@@ -241,7 +257,7 @@ fn halls_without_an_answer() {
     assert_eq!(folder.run(&["judge", "none.txt", "hall.txt"]).err, "none.txt:1: this is a hall, and a job is due (2)\n    machines=2\n");
     for (words, said) in [
         (&["join", "a.txt"][..], "join needs --call N"),
-        (&["join", "--call", "3"], "join takes one file, not 0"),
+        (&["join", "--call", "3"], "join takes one file or more, not 0"),
         (&["join", "a", "b", "c", "d", "e", "--call", "3"], "a hall has at most 4 lines, not 5"),
         (&["hall"], "hall takes one file, not 0"),
     ] {

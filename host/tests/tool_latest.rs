@@ -62,15 +62,19 @@ fn faults_and_words() {
         (
             &["latest", "a job.txt", "--stops", "2,6"][..],
             2,
-            "--stops:5: stop is no opening of the job, or does not come after the stop before (9)",
+            "--stops: step 6 is no opening of the job, or does not come after the stop before (9)",
         ),
-        (&["latest", "a job.txt", "--stops", "4,2"], 2, "--stops:5: stop is no opening"),
+        (
+            &["latest", "a job.txt", "--stops", "4,2"],
+            2,
+            "--stops: step 2 is no opening of the job, or does not come after the stop before (9)",
+        ),
         (
             &["latest", "a job.txt", "--stops", "2;4"],
             64,
             "--stops takes steps from 1 to 365 with commas between them, such as 2,10,18, not '2;4'",
         ),
-        (&["latest", "a job.txt"], 64, "latest takes 2 files, not 1"),
+        (&["latest", "a job.txt"], 64, "latest takes 2 files, or one with --stops, not 1"),
         (&["latest", "a job.txt", "plan", "--stops", "2"], 64, "latest takes one file, not 2"),
         (&["latest", "a job.txt", "--stops", "2", "-o", "a job.txt"], 64, "would be written over"),
         (&["latest", "not there", "--stops", "2"], 66, "not there can't be read"),

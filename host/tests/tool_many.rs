@@ -1,4 +1,5 @@
-//! `plan` of many jobs into one folder: a plan for each, a line a job, a summary, what is done already left alone, faults that stop nobody.
+//! `plan` of many jobs into one folder: a plan for each, a line a job, a summary, what is done already left alone, faults that stop nobody; and over
+//! several machines, as the man page has it.
 #![cfg(feature = "library")]
 
 mod common;
@@ -91,7 +92,7 @@ fn words_and_json() {
         (&["plan", "a", "-j", "2"], "-j and --summary are for many jobs, and need --into FOLDER"),
         (&["plan", "a", "--into", "x", "-o", "y"], "--into says where the plans go, and -o is for one plan"),
         (&["plan", "a", "--into", "x", "-j0"], "-j takes how many at a time, from 1 to 256, not '0'"),
-        (&["plan", "--into", "x"], "plan takes one file, not 0"),
+        (&["plan", "--into", "x"], "plan takes one file or more, not 0"),
     ] {
         let ran = folder.run(words);
         assert_eq!((ran.status, ran.out.as_str()), (64, ""), "{ran:?}");
@@ -102,4 +103,61 @@ fn words_and_json() {
     assert_eq!((ran.status, ran.err.as_str(), json.at("jobs").list().len()), (0, "", 1));
     let own = &json.at("jobs").list()[0];
     assert_eq!((own.at("cost").number(), own.at("plan").text(), own.at("nodes")), (37, "plans/a", &Json::Null));
+}
+
+/// In place of ssh: each machine is a folder, which is its home.
+const SSH: &str = "\
+#!/bin/sh
+while [ $# -gt 0 ]; do case $1 in -l | -p | -o) shift 2 ;; -*) shift ;; *) break ;; esac; done
+HOME=$machines/$1; export HOME; shift
+[ \"$1\" != -- ] || shift
+mkdir -p \"$HOME\"; cd \"$HOME\"; echo \"$*\" >> said
+exec sh -c \"$*\"
+";
+
+/// The recipe of the man page that begins with this word, as it is printed.
+fn recipe(word: &str) -> String {
+    let page = include_str!("../man/juzvarola.1");
+    let blocks = page.split(".nf\n").skip(1).filter_map(|block| block.split(".fi\n").next());
+    let own = blocks.filter(|block| block.starts_with(word)).collect::<Vec<_>>();
+    assert_eq!(own.len(), 1, "one recipe");
+    own[0].replace("\\-", "-").replace("\\e", "\\")
+}
+
+#[test]
+fn many_machines_plan_by_the_man_pages_recipe() {
+    let folder = Folder::new();
+    if folder.shell("command -v parallel rsync").out.lines().count() < 2 {
+        println!("left out: parallel and rsync (Debian: parallel, rsync) are not installed");
+        return;
+    }
+    for name in ["jobs", "bin", "home", "home/.parallel", "machines"] {
+        std::fs::create_dir(folder.0.join(name)).expect("a folder");
+    }
+    folder.write("home/.parallel/will-cite", b"");
+    folder.write("bin/ssh", SSH.as_bytes());
+    let rows = jobs::up_to(20_000);
+    for row in &rows {
+        folder.write(&format!("jobs/{}.txt", row.name), &row.text);
+    }
+    folder.write("jobs/bad.txt", &text(&altered("left=2", "left=4")));
+    let begin = "ln -s \"$juzvarola\" bin/juzvarola; chmod +x bin/ssh; export PATH=\"$PWD/bin:$PATH\" HOME=\"$PWD/home\" machines=\"$PWD/machines\"; set -e\n";
+    let lines = recipe("parallel");
+    let (plan, table) = lines.split_at(lines.find("awk").expect("two commands"));
+    let ran = folder.shell(&format!("{begin}{plan}"));
+    assert_eq!((ran.status, ran.out.as_str()), (1, ""), "one job is at fault: {ran:?}");
+    assert!(ran.err.contains("jobs/bad.txt:14: left is greater than life (5)"), "{ran:?}");
+    assert_eq!(folder.shell(table).status, 0);
+    let summary = folder.read("plans.csv");
+    assert_eq!(summary.lines().count(), rows.len() + 2, "{summary}");
+    assert!(summary.contains("\njobs/bad.txt,,2,5,,,,"), "{summary}");
+    for row in &rows {
+        assert!(summary.contains(&format!("\njobs/{0}.txt,plans/{0}.txt,0,0,{1},,,", row.name, row.cost)), "{summary}");
+        assert_eq!(folder.run(&["judge", &format!("jobs/{}.txt", row.name), &format!("plans/{}.txt", row.name)]).status, 0);
+    }
+    for machine in ["one", "two"] {
+        assert!(folder.read(&format!("machines/{machine}/said")).contains("rsync --server"), "both plan");
+        let left = folder.shell(&format!("find machines/{machine} -name '*.txt'"));
+        assert_eq!(left.out, "", "nothing is left there");
+    }
 }

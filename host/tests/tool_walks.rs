@@ -3,6 +3,7 @@
 #![cfg(feature = "library")]
 
 mod common;
+use common::json::{read, Json};
 use common::tool::{hard, job, number_after, Folder, Ran, PROGRAM};
 use std::process::{Command, Stdio};
 use std::time::{Duration, Instant};
@@ -98,7 +99,7 @@ fn interrupted(folder: &Folder, signal: &str, words: &[&str]) -> Ran {
     let mut last = None;
     for seconds in [3, 9, 27] {
         let ran = interrupted_after(folder, signal, words, seconds);
-        let found = ran.err.contains(" nodes were ");
+        let found = ran.err.contains(" nodes were ") || ran.out.contains(" nodes were ") || ran.out.contains(" stops, and the cheapest ");
         last = Some(ran);
         if found || words.contains(&"--once") {
             break;
@@ -165,4 +166,76 @@ fn limits_of_time_are_kept() {
     }
     let ran = folder.run(&["plan", "hard", "--walk", "1000", "--for", "2s", "-o", "plan"]);
     assert!(ran.err.starts_with("hard: the walk is longer than its walk number, 1,000"), "a short walk needs no limit: {ran:?}");
+}
+
+/// The lines of progress on a terminal that have these words, and the answer behind the last of them.
+fn shown<'r>(ran: &'r Ran, words: &str) -> (Vec<&'r str>, &'r str) {
+    let lines: Vec<&str> = ran.out.split(LINE).filter(|line| line.contains(words)).collect();
+    for line in &lines {
+        assert!(line.split('\u{1b}').next().expect("a line").len() < 90, "{line:?}");
+    }
+    (lines, ran.out.rsplit("\u{1b}[K").next().expect("the answer"))
+}
+
+#[test]
+fn halls_show_progress_and_keep_the_best_plans() {
+    let folder = folder();
+    assert_eq!(folder.run(&["join", "hard", "--call", "5", "-o", "hall"]).status, 0);
+    let order = "hall hall --walk 100000000";
+    let ran = on_terminal(&folder, &format!("{order} --into shown"));
+    let (lines, last) = shown(&ran, " nodes: ");
+    assert!(ran.status == 3 && !lines.is_empty(), "{ran:?}");
+    assert!(
+        last.starts_with("hall: the walk is longer than its walk number, 100,000,000; the best plans so far cost "),
+        "the line is wiped: {ran:?}"
+    );
+    assert!(last.contains(" could still be saved; 100,000,000 nodes were walked (7)"), "{last:?}");
+    let quiet = on_terminal(&folder, &format!("{order} --quiet --into quiet"));
+    assert_eq!((quiet.status, quiet.out.as_str()), (3, last), "and without progress the same");
+    assert_eq!(folder.read("quiet/line1.txt"), folder.read("shown/line1.txt"));
+    // What the last finished walk found is said and written where the search is ended, by a signal or by its time.
+    let long = ["hall", "hall", "--walk", "4000000000"];
+    let ran = interrupted(&folder, "-INT", &[&long[..], &["--into", "kept"]].concat());
+    assert!(
+        ran.status == 3 && ran.out.starts_with("hall: interrupted after ") && ran.out.contains("; the best plans so far cost "),
+        "{ran:?}"
+    );
+    assert_eq!(folder.run(&["judge", "hard", "kept/line1.txt"]).status, 0);
+    let ran = folder.run(&[&long[..], &["--for", "4s", "--json"]].concat());
+    let answer = read(&ran.out);
+    assert_eq!((ran.status, answer.at("result").number(), answer.at("ended").text()), (3, 7, "out of time"));
+}
+
+/// A front's search on a terminal, ended by its time: after so many seconds that something was found, however busy the machine is.
+fn front_in_time(folder: &Folder) -> Ran {
+    let in_time = |seconds: u64| on_terminal(folder, &format!("front hard --walk 1000000 --for {seconds}s"));
+    [6, 20].into_iter().map(in_time).find(|ran| ran.out.contains(" calls: ")).unwrap_or_else(|| in_time(60))
+}
+
+#[test]
+fn fronts_show_progress_and_say_what_is_proved() {
+    let folder = folder();
+    let ran = front_in_time(&folder);
+    let (lines, last) = shown(&ran, " calls: ");
+    assert!(ran.status == 3 && !lines.is_empty() && lines.iter().all(|line| line.contains(" proved, least cost ")), "{ran:?}");
+    assert!(
+        last.starts_with("hard: out of time after ") && last.contains(" stops, and the cheapest plan for each number ("),
+        "wiped: {ran:?}"
+    );
+    assert!(!on_terminal(&folder, "front hard --walk 1000000 --for 3s --quiet").out.contains('\u{1b}'));
+    let ran = interrupted(&folder, "-TERM", &["front", "hard", "--walk", "1000000"]);
+    assert!(ran.status == 3 && ran.out.starts_with("hard: interrupted after ") && ran.out.contains("none costs less than "), "{ran:?}");
+    let ran = folder.run(&["front", "hard", "--walk", "1000000", "--for", "6s", "--json"]);
+    let answer = read(&ran.out);
+    assert_eq!((ran.status, answer.at("result").number(), answer.at("ended").text()), (3, 7, "out of time"));
+    for point in answer.at("points").list().iter().filter(|point| point.at("text") != &Json::Null) {
+        folder.write("plan", point.at("text").text().as_bytes());
+        assert_eq!(folder.run(&["judge", "hard", "plan"]).status, 0);
+        assert!(point.at("least").number() <= point.at("costs").at("total").number());
+    }
+    // Before anything is found there is nothing to say.
+    let ran = folder.run(&["front", "hard", "--walk", "4000000000", "--for", "1s", "--take", "9", "-o", "nine"]);
+    let (begun, end) = ("hard: out of time after 1.", ": no plan was found so far (7)\n    nine is not written\n");
+    assert!(ran.status == 3 && ran.out.starts_with(begun) && ran.out.ends_with(end), "{ran:?}");
+    assert!(!folder.names().contains(&"nine".to_string()));
 }

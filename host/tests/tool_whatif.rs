@@ -122,7 +122,7 @@ fn files_and_faults_of_whatif() {
         (&["whatif", "a job.txt", "--close", "5-2"], 64, "--close takes a step or steps, such as 20 or 20-22, not '5-2'"),
         (&["whatif", "a job.txt", "--fee", "10%"], 64, "--fee takes an amount such as 120, +10, -5 or +10%, not '10%'"),
         (&["whatif", "a job.txt", "a job.txt", "--fee", "1"], 2, "this is a job, and a plan is due"),
-        (&["whatif", "a", "b", "c", "--fee", "1"], 64, "whatif takes 2 files, not 3"),
+        (&["whatif", "a", "b", "c", "--fee", "1"], 64, "whatif takes one file or 2, not 3"),
     ] {
         let ran = folder.run(words);
         assert_eq!((ran.status, ran.out.as_str()), (status, ""), "{ran:?}");

@@ -79,7 +79,7 @@ fn files_and_values_are_counted() {
     refused(&["plan"], "plan takes one file, not 0");
     refused(&["plan", "a", "b"], "plan takes one file, not 2");
     refused(&["judge", "a"], "judge takes 2 files, not 1");
-    refused(&["compare", "a", "b"], "compare takes 3 files, not 2");
+    refused(&["compare", "a", "b"], "compare takes 3 files or 4, not 2");
     refused(&["judge", "-", "-"], "standard input (-) can be read for one file only");
     refused(&["plan", "a", "-o"], "-o needs a value");
     refused(&["draw", "a", "b"], "draw needs -o FILE");

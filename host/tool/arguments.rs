@@ -12,6 +12,9 @@ use std::time::Duration;
 /// The walk number of a front's searches where none is given: seconds each at most.
 const FRONT_WALK: u64 = 100_000_000;
 
+/// How many calls a front may take for what raising every fee does not find, where no number is given.
+const FRONT_CALLS: u64 = 100;
+
 /// The walk number of a hall's search where none is given: some seconds.
 const HALL_WALK: u64 = 100_000_000;
 
@@ -136,10 +139,14 @@ pub struct WhatifOrder {
     pub naming: NamingOrder,
 }
 
-/// `front`: a job, the walk number of each search, the number of stops whose plan is wanted, if one, and where that or the picture goes.
+/// `front`: a job, the walk number of each search and how many calls there are for what the first do not find, how long the search may take, whether
+/// progress is shown, the number of stops whose plan is wanted, if one, and where that or the picture goes.
 pub struct FrontOrder {
     pub job: OsString,
     pub walk: u64,
+    pub calls: u64,
+    pub limit: Option<Duration>,
+    pub quiet: bool,
     pub take: Option<u64>,
     pub output: Option<OsString>,
     pub form: Form,
@@ -150,12 +157,15 @@ pub struct JoinOrder {
     pub jobs: Vec<OsString>,
     pub call: u64,
     pub output: Option<OsString>,
+    pub json: bool,
 }
 
-/// `hall`: a hall, the walk number, and where its picture and its lines' plans go.
+/// `hall`: a hall, the walk number, how long the search may take, whether progress is shown, and where its picture and its lines' plans go.
 pub struct HallOrder {
     pub hall: OsString,
     pub walk: u64,
+    pub limit: Option<Duration>,
+    pub quiet: bool,
     pub output: Option<OsString>,
     pub into: Option<OsString>,
     pub json: bool,
@@ -202,6 +212,7 @@ impl Command {
             Command::Count(order) if order.json => Some("count"),
             Command::Worth(order) if order.json => Some("worth"),
             Command::Whatif(order) if order.json => Some("whatif"),
+            Command::Join(order) if order.json => Some("join"),
             Command::Hall(order) if order.json => Some("hall"),
             Command::Front(order) if order.form == Form::Json => Some("front"),
             _ => None,
@@ -223,6 +234,7 @@ struct Given {
     stops: Option<Vec<u64>>,
     after: Option<u64>,
     take: Option<u64>,
+    calls: Option<u64>,
     call: Option<u64>,
     logs: Vec<OsString>,
     planned: Option<OsString>,
@@ -333,10 +345,16 @@ impl Given {
         if self.into.is_none() && (self.at_once.is_some() || self.summary.is_some()) {
             return Err(failure(USAGE, "-j and --summary are for many jobs, and need --into FOLDER"));
         }
-        let files = match wanted {
-            0 => "no file".to_string(),
-            1 => "one file".to_string(),
-            more => format!("{more} files"),
+        let files = match (page.name, wanted) {
+            ("plan", _) if self.into.is_some() => "one file or more".to_string(),
+            ("carry", _) => "2 files or more".to_string(),
+            ("join", _) => "one file or more".to_string(),
+            ("compare", _) => "3 files or 4".to_string(),
+            ("whatif", _) => "one file or 2".to_string(),
+            ("latest", 2) => "2 files, or one with --stops".to_string(),
+            (_, 0) => "no file".to_string(),
+            (_, 1) => "one file".to_string(),
+            (_, more) => format!("{more} files"),
         };
         if !fits {
             return Err(failure(USAGE, format_args!("{} takes {files}, not {count}\nusage: {}", page.name, page.usage)));
@@ -400,20 +418,22 @@ impl Given {
 
     /// The front that is asked for.
     fn front(mut self, form: Form) -> FrontOrder {
-        let (job, walk) = (self.next(), self.walk.unwrap_or(FRONT_WALK));
-        FrontOrder { job, walk, take: self.take, output: self.output, form }
+        let (job, walk, calls) = (self.next(), self.walk.unwrap_or(FRONT_WALK), self.calls.unwrap_or(FRONT_CALLS));
+        FrontOrder { job, walk, calls, limit: self.limit, quiet: self.quiet, take: self.take, output: self.output, form }
     }
 
     /// The lines that are joined.
     fn join(self, page: &help::Page) -> Result<JoinOrder, Failure> {
         let needs = format!("join needs --call N, what a call of the crew costs\nusage: {}", page.usage);
-        Ok(JoinOrder { jobs: self.files, call: self.call.ok_or_else(|| failure(USAGE, needs))?, output: self.output })
+        let call = self.call.ok_or_else(|| failure(USAGE, needs))?;
+        Ok(JoinOrder { jobs: self.files, call, output: self.output, json: self.json })
     }
 
     /// The hall that is planned.
     fn hall(mut self, naming: NamingOrder) -> HallOrder {
         let (hall, walk) = (self.next(), self.walk.unwrap_or(HALL_WALK));
-        HallOrder { hall, walk, output: self.output, into: self.into, json: self.json, naming }
+        let Given { limit, quiet, output, into, json, .. } = self;
+        HallOrder { hall, walk, limit, quiet, output, into, json, naming }
     }
 
     /// The changed job that is asked for.
@@ -458,6 +478,9 @@ impl Given {
             "--after" => self.after = Some(read_as(name, "a step of the whole, from 1 to 365", &value()?, |word| within(word, 1, 365))?),
             "--call" => self.call = Some(read_as(name, "an amount from 0 to 1000000", &value()?, |word| within(word, 0, 1_000_000))?),
             "--take" => self.take = Some(read_as(name, "a number of stops, from 0 to 64", &value()?, |word| within(word, 0, 64))?),
+            "--calls" => {
+                self.calls = Some(read_as(name, "a number of calls from 0 to 1000000", &value()?, |word| within(word, 0, 1_000_000))?)
+            }
             "-j" | "--jobs" => {
                 self.at_once = Some(read_as(name, "how many at a time, from 1 to 256", &value()?, |word| within(word, 1, 256))?)
             }

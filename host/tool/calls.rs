@@ -72,7 +72,7 @@ fn on_own_stack<T: Send>(call: impl FnOnce() -> T + Send) -> Result<T, Failure> 
     })
 }
 
-/// The planner's call with this walk number, on this thread: here, in `optimum_here` and in `hall` the library is given one, and nowhere else.
+/// The planner's call with this walk number, on this thread: here, in `optimum_here` and in `hall_here` the library is given one, and nowhere else.
 pub fn plan_here(job: &[u8], walk: u64) -> Reply {
     let mut out = vec![0; OUTPUT];
     let answer = library::plan(job, walk, &mut out);
@@ -86,23 +86,22 @@ pub fn optimum_here(job: &[u8], walk: u64) -> Reply {
     Reply::of(answer, out)
 }
 
+/// The hall planner's call with this walk number, on this thread.
+pub fn hall_here(text: &[u8], walk: u64) -> Reply {
+    let mut out = vec![0; OUTPUT];
+    let answer = library::hall(text, walk, &mut out);
+    Reply::of(answer, out)
+}
+
 /// The planner's call with this walk number.
 pub fn plan(job: &[u8], walk: u64) -> Result<Reply, Failure> {
     on_own_stack(|| plan_here(job, walk))
 }
 
-/// The optimum's call, each of its walks with this walk number.
-pub fn optimum(job: &[u8], walk: u64) -> Result<Reply, Failure> {
-    on_own_stack(|| optimum_here(job, walk))
-}
-
-/// The hall planner's call with this walk number.
-pub fn hall(text: &[u8], walk: u64) -> Result<Reply, Failure> {
-    on_own_stack(|| {
-        let mut out = vec![0; OUTPUT];
-        let answer = library::hall(text, walk, &mut out);
-        Reply::of(answer, out)
-    })
+/// The fault of a hall text, if it has one: a call that walks nothing.
+pub fn hall_fault(text: &[u8]) -> Result<Option<Reply>, Failure> {
+    let reply = on_own_stack(|| hall_here(text, 0))?;
+    Ok(Some(reply).filter(|reply| reply.text != 0))
 }
 
 /// The search for the cheapest plan with this walk number: the optimum's call, and where that is cut short the planner's.

@@ -21,7 +21,7 @@ _juzvarola() {{
     esac
     case $before in
     --step) COMPREPLY=($(compgen -W \"day week month\" -- \"$word\")); return ;;
-    --every | --walk | --for | --from | --stops | --take | --call | --after | --fee | --left | --price | --close | -j | --jobs) return ;;
+    --every | --walk | --for | --from | --stops | --take | --calls | --call | --after | --fee | --left | --price | --close | -j | --jobs) return ;;
     esac
     case $word in
     -*) COMPREPLY=($(compgen -W \"$options\" -- \"$word\")) ;;

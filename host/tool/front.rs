@@ -5,13 +5,14 @@ use crate::arguments::{Form, FrontOrder};
 use crate::calls;
 use crate::failure::{failure, status_of, Failure, USAGE};
 use crate::files::{self, Input};
-use crate::fronts::Point;
+use crate::fronts::{self, Asked, Found, Point, Proof};
 use crate::json::Value;
-use crate::numbers::{counted, grouped};
+use crate::numbers::{counted, grouped, percent};
 use crate::tables::Table;
 use crate::texts::{self, Job};
 use crate::verdicts::headed;
-use crate::{closed, drawing, faults, fronts, output, standard_output};
+use crate::watch::Ended;
+use crate::{closed, drawing, faults, output, standard_output};
 use std::ffi::OsStr;
 
 /// Finds the front, says it, and draws it or writes one of its plans where that is asked for.
@@ -24,23 +25,29 @@ pub fn run(order: &FrontOrder) -> Result<u8, Failure> {
     if let Some(reply) = calls::job_fault(&input.bytes)? {
         return Err(faults::refusal(&reply, &input, None));
     }
-    let front = Front::of(&input, order.walk)?;
+    let front = Front::of(&input, order)?;
     let written = match (order.take, order.output.as_deref()) {
-        (Some(stops), path) => Some((path.unwrap_or(OsStr::new("-")), front.plan_text(stops)?)),
+        (Some(stops), path) => match front.plan_text(stops) {
+            Ok(text) => Some((path.unwrap_or(OsStr::new("-")), text)),
+            // What was found is said all the same.
+            Err(unknown) => return standard_output::write(front.said(order.form).as_bytes()).and(Err(unknown)),
+        },
         (None, Some(path)) => Some((path, picture(path, &front)?)),
         (None, None) => None,
     };
     // With JSON on standard output a plan does not go there too: all of them stand in it.
     let written = written.filter(|(path, _)| !(order.form == Form::Json && files::is_standard(path)));
-    if let Some((path, text)) = written.as_ref().filter(|_| front.result != 6) {
+    // An empty plan is the one of doing nothing: where nothing was found, there is no file.
+    if let Some((path, text)) = written.as_ref().filter(|_| !front.points.is_empty()) {
         files::write(path, text.as_bytes())?;
     }
+    let unwritten = order.output.iter().filter(|path| front.points.is_empty() && !files::is_standard(path));
+    let unwritten: String = unwritten.map(|path| format!("    {} is not written\n", files::name_of(path))).collect();
     let said = match order.form {
-        Form::Csv => front.csv(),
-        Form::Json => Value::object(headed("front", front.json())).document(),
-        Form::Text => front.text(),
+        Form::Text => front.text() + &order.take.map_or(String::new(), |stops| front.taken(stops)) + &unwritten,
+        form => front.said(form),
     };
-    match written.is_some_and(|(path, _)| files::is_standard(path)) || closed::output() {
+    match written.is_some_and(|(path, _)| files::is_standard(path) || closed::output()) {
         true => output::say(&said),
         false => standard_output::write(said.as_bytes())?,
     }
@@ -61,20 +68,34 @@ pub struct Front {
     pub name: String,
     pub job: Job,
     pub result: u32,
+    /// How many calls of the library were made, and why there was no further one, where that was not by itself.
+    calls: u64,
+    ended: Ended,
+    why: Option<String>,
     /// By rising numbers of stops, from the fewest that keep the lives to the most that save something.
     pub points: Vec<Point>,
 }
 
 impl Front {
-    fn of(input: &Input, walk: u64) -> Result<Front, Failure> {
+    fn of(input: &Input, order: &FrontOrder) -> Result<Front, Failure> {
         let job = texts::job(&input.bytes);
-        let (points, whole) = fronts::points(&job, walk)?;
-        let result = match (points.is_empty(), whole) {
-            (true, _) => 6,
-            (_, false) => 7,
-            _ => 0,
+        let (walk, calls, quiet, limit) = (order.walk, order.calls, order.quiet, order.limit);
+        let Found { points, none, calls, ended, after } = fronts::find(&job, &Asked { walk, calls, quiet, limit })?;
+        let result = match none {
+            true => 6,
+            false if !points.is_empty() && points.iter().all(Point::is_proved) && ended == Ended::ByItself => 0,
+            false => 7,
         };
-        Ok(Front { name: input.name.clone(), job, result, points })
+        Ok(Front { name: input.name.clone(), job, result, calls, ended, why: ended.words(after), points })
+    }
+
+    /// All of it in one of the forms.
+    fn said(&self, form: Form) -> String {
+        match form {
+            Form::Csv => self.csv(),
+            Form::Json => Value::object(headed("front", self.json())).document(),
+            Form::Text => self.text(),
+        }
     }
 
     /// The point that costs least: the fewest stops of those.
@@ -84,21 +105,22 @@ impl Front {
 
     /// The first sentence.
     pub fn words(&self) -> String {
+        let why = self.why.as_ref().map_or(String::new(), |why| format!("{why}: "));
         let (Some(first), Some(last), Some(least)) = (self.points.first(), self.points.last(), self.cheapest()) else {
-            return "no plan keeps the lives".to_string();
+            return if self.result == 6 { "no plan keeps the lives".to_string() } else { format!("{why}no plan was found so far") };
         };
         let proved = self.points.iter().filter(|point| point.is_proved()).count() as u64;
         let (cost, stops) = (grouped(least.cost().unwrap_or_default()), counted(least.stops, "stop"));
         if first.stops == last.stops {
             let proved = if least.is_proved() { "proved" } else { "not proved" };
-            return format!("another number of stops saves nothing: the cheapest plan has {stops} and costs {cost} ({proved})");
+            return format!("{why}another number of stops saves nothing: the cheapest plan has {stops} and costs {cost} ({proved})");
         }
         let all = match proved == self.points.len() as u64 {
             true => "each proved".to_string(),
             false => format!("{proved} of {} proved", self.points.len()),
         };
         format!(
-            "{} to {} stops, and the cheapest plan for each number ({all}); the least cost, {cost}, has {stops}",
+            "{why}{} to {} stops, and the cheapest plan for each number ({all}); the least cost, {cost}, has {stops}",
             first.stops, last.stops
         )
     }
@@ -110,8 +132,19 @@ impl Front {
         }
         let plan = self.points.iter().find(|point| point.stops == stops).and_then(|point| point.plan.as_ref());
         let (first, last) = (self.points.first().map_or(0, |point| point.stops), self.points.last().map_or(0, |point| point.stops));
+        let known = if first == last { format!("the one there is has {last}") } else { format!("there are {first} to {last}") };
         plan.map(|plan| plan.text())
-            .ok_or_else(|| failure(USAGE, format_args!("no plan with {} is known; there are {first} to {last}", counted(stops, "stop"))))
+            .ok_or_else(|| failure(USAGE, format_args!("no plan with {} is known; {known}", counted(stops, "stop"))))
+    }
+
+    /// That the plan which was taken is not proved to be the cheapest, where it is so.
+    fn taken(&self, stops: u64) -> String {
+        let own = self.points.iter().find(|point| point.stops == stops && !point.is_proved());
+        own.and_then(|point| Some((point.cost()?, point.least))).map_or(String::new(), |(cost, least)| {
+            let gap = cost.saturating_sub(least);
+            let saved = format!("at most {} {} could still be saved", grouped(gap), percent(gap, cost));
+            format!("    the plan with {} is not proved to be the cheapest with as many: {saved}\n", counted(stops, "stop"))
+        })
     }
 
     /// The table for people.
@@ -139,10 +172,11 @@ impl Front {
     /// How a point stands: the cheapest of all, proved, or not less than.
     fn standing(&self, point: &Point) -> String {
         let least = self.cheapest().is_some_and(|least| least.stops == point.stops);
-        let known = match (point.is_proved(), point.cost()) {
-            (true, _) => "proved".to_string(),
-            (false, Some(_)) => format!("not proved: none costs less than {}", grouped(point.least)),
-            (false, None) => format!("no plan found; none costs less than {}", grouped(point.least)),
+        let known = match (point.proof, point.cost()) {
+            (Some(Proof::Fees), _) => "proved".to_string(),
+            (Some(Proof::Spans), _) => "proved by spans".to_string(),
+            (None, Some(_)) => format!("not proved: none costs less than {}", grouped(point.least)),
+            (None, None) => format!("no plan found; none costs less than {}", grouped(point.least)),
         };
         if least {
             format!("{known}; the cheapest of all")
@@ -177,6 +211,7 @@ impl Front {
                 ("left", Value::number(plan.map(|plan| self.job.all_left(plan)))),
                 ("least", Value::Number(point.least)),
                 ("proved", Value::Bool(point.is_proved())),
+                ("proof", Value::maybe(point.proof.map(|proof| proof.name().to_string()))),
                 ("text", Value::maybe(plan.map(|plan| plan.text()))),
             ])
         };
@@ -185,6 +220,8 @@ impl Front {
             ("result", Value::Number(u64::from(self.result))),
             ("words", Value::text(self.words())),
             ("fault", Value::Null),
+            ("ended", Value::text(self.ended.name())),
+            ("calls", Value::Number(self.calls)),
             ("cheapest", Value::number(self.cheapest().map(|point| point.stops))),
             ("points", Value::list(self.points.iter().map(point))),
         ]

@@ -1,30 +1,61 @@
-//! The search for a front: the optimum of the job with every fee raised by a number, for one number after the other, and plans near those found.
+//! The search for a front: the optimum of the job with every fee raised by a number, for one number after the other; plans near those found; and for the
+//! numbers of stops that are the cheapest at no such number, fees raised by spans of openings (`spans`).
 
-use crate::calls;
+use crate::calls::{self, Reply, CUT_SHORT};
 use crate::costs::Costs;
 use crate::failure::Failure;
-use crate::numbers::grouped;
-use crate::output;
-use crate::texts::{self, Job, Part, Plan};
+use crate::numbers::{counted, grouped};
+use crate::spans;
+use crate::texts::{self, Job, Part, Plan, Stop};
+use crate::watch::{Ended, Watch};
 use std::collections::{BTreeMap, BTreeSet};
-use std::io::{self, IsTerminal};
-use std::time::Instant;
+use std::time::Duration;
 
 /// The most that a fee, a price or a removal may be.
-const MOST: u64 = 1_000_000;
+pub const MOST: u64 = 1_000_000;
 /// As many times as large at most are amounts made, so that a fee can be raised by less than one.
 const FINEST: u64 = 64;
 /// The nodes of a walk on the openings near a plan: milliseconds.
 const NEAR: u64 = 100_000;
+/// Walks by spans have the walk number divided by this.
+const SPANS: u64 = 100;
 /// How many rounds plans near others are looked for.
 const ROUNDS: usize = 3;
 
-/// So many stops: the cheapest plan known, and what no plan with so many stops costs less than.
+/// What is asked for: the walk number of each search, how many calls by spans there may be, whether to show no progress, and to end after some time.
+pub struct Asked {
+    pub walk: u64,
+    pub calls: u64,
+    pub quiet: bool,
+    pub limit: Option<Duration>,
+}
+
+/// How a plan is proved to be the cheapest with so many stops.
+#[derive(Debug, Clone, Copy, PartialEq, Eq)]
+pub enum Proof {
+    /// By raising every fee by one number.
+    Fees,
+    /// By raising fees span by span.
+    Spans,
+}
+
+impl Proof {
+    /// Its name for programs.
+    pub fn name(self) -> &'static str {
+        match self {
+            Proof::Fees => "fees",
+            Proof::Spans => "spans",
+        }
+    }
+}
+
+/// So many stops: the cheapest plan known, what no plan with so many stops costs less than, and how the plan is proved, if it is.
 #[derive(Debug, Clone)]
 pub struct Point {
     pub stops: u64,
     pub plan: Option<Plan>,
     pub least: u64,
+    pub proof: Option<Proof>,
 }
 
 impl Point {
@@ -35,7 +66,7 @@ impl Point {
 
     /// Whether the plan is proved to be the cheapest with so many stops.
     pub fn is_proved(&self) -> bool {
-        self.cost().is_some_and(|cost| cost <= self.least)
+        self.proof.is_some()
     }
 
     /// What the plan costs, one by one.
@@ -44,109 +75,158 @@ impl Point {
     }
 }
 
+/// The points by rising numbers of stops; whether there is no plan at all; how many calls were made, and why and when there was no further one.
+pub struct Found {
+    pub points: Vec<Point>,
+    pub none: bool,
+    pub calls: u64,
+    pub ended: Ended,
+    pub after: Duration,
+}
+
 /// What was proved with every fee so much raised: no plan costs less than this, in finer amounts.
 struct Proved {
     raised: i64,
     least: u64,
 }
 
-/// How many searches were made, shown on a terminal after a second.
-struct Progress {
-    began: Instant,
-    shows: bool,
-    searches: u64,
-    shown: bool,
+/// Why a search comes to no end of its own: it is ended, or something failed.
+pub enum Halt {
+    Ended(Ended),
+    Failed(Failure),
 }
 
-impl Progress {
-    /// Nothing is searched yet.
-    fn new() -> Progress {
-        Progress { began: Instant::now(), shows: io::stderr().is_terminal(), searches: 0, shown: false }
-    }
-
-    /// One more search.
-    fn tick(&mut self) {
-        self.searches += 1;
-        let seconds = self.began.elapsed().as_secs();
-        if self.shows && seconds > 0 {
-            self.shown = true;
-            output::say(&format!("\r{seconds} s, {} searches\x1b[K", grouped(self.searches)));
-        }
-    }
-
-    /// Wipes the line.
-    fn wipe(&self) {
-        if self.shown {
-            output::say("\r\x1b[K");
-        }
+impl From<Failure> for Halt {
+    fn from(failure: Failure) -> Halt {
+        Halt::Failed(failure)
     }
 }
 
 /// The search so far.
-struct Search<'j> {
-    job: &'j Job,
-    walk: u64,
+pub struct Search<'j> {
+    pub job: &'j Job,
+    asked: &'j Asked,
     /// As many times as large are amounts.
-    scale: u64,
+    pub scale: u64,
+    /// What divides every fee, price and removal, and so each plan's cost.
+    unit: u64,
     /// The least and the most that fees can be raised by.
-    room: (i64, i64),
+    pub room: (i64, i64),
     proved: Vec<Proved>,
+    /// What no plan with so many stops costs less than, by spans.
+    floors: BTreeMap<u64, u64>,
     /// The cheapest plan known for each number of stops.
     plans: BTreeMap<u64, Plan>,
-    /// Whether every walk came to its end.
-    whole: bool,
+    /// What the fewest stops are at least.
+    fewest: Option<u64>,
+    /// The most stops that save something, as far as fees were raised and lowered.
+    most: Option<u64>,
+    /// Whether no plan keeps the lives.
+    none: bool,
     /// The sets of openings that were looked at near plans.
     tried: BTreeSet<Vec<u64>>,
-    progress: Progress,
+    pub calls: u64,
+    watch: Watch,
 }
 
-/// The points of a job's front, and whether every walk came to its end; no points where no plan keeps the lives.
-pub fn points(job: &Job, walk: u64) -> Result<(Vec<Point>, bool), Failure> {
-    let mut search = Search::new(job, walk);
-    if search.raised(0)?.is_none() && search.plans.is_empty() {
-        return Ok((Vec::new(), search.whole));
-    }
-    let (least, most) = search.room;
-    if let (Some(most), Some(fewest)) = (search.raised(least)?, search.raised(most)?) {
-        let own: Vec<u64> = search.plans.keys().copied().collect();
-        for pair in own.windows(2).filter(|pair| pair[0] >= fewest && pair[1] <= most) {
-            search.between(pair[0], pair[1])?;
-        }
-    }
-    let fewest = search.fewest()?;
-    for _ in 0..ROUNDS {
-        if !search.near()? {
-            break;
-        }
-    }
-    search.progress.wipe();
-    Ok((search.all(fewest), search.whole))
+/// The points of a job's front, as far as they are found before the search is ended.
+pub fn find(job: &Job, asked: &Asked) -> Result<Found, Failure> {
+    let mut search = Search::new(job, asked);
+    let ended = match search.run() {
+        Ok(()) => Ended::ByItself,
+        Err(Halt::Ended(ended)) => ended,
+        Err(Halt::Failed(failure)) => return Err(failure),
+    };
+    let points = if search.none { Vec::new() } else { search.all() };
+    Ok(Found { points, none: search.none, calls: search.calls, ended, after: search.watch.elapsed() })
 }
 
 impl<'j> Search<'j> {
     /// Nothing is searched yet.
-    fn new(job: &'j Job, walk: u64) -> Search<'j> {
+    fn new(job: &'j Job, asked: &'j Asked) -> Search<'j> {
         let fees = || job.openings.iter().map(|opening| opening.fee);
-        let of_parts = job.parts.iter().flat_map(|part| part.prices.iter().copied().chain([part.removal]));
-        let greatest = fees().chain(of_parts).max().unwrap_or(1).max(1);
+        let of_parts = || job.parts.iter().flat_map(|part| part.prices.iter().copied().chain([part.removal]));
+        let greatest = fees().chain(of_parts()).max().unwrap_or(1).max(1);
         // Half of the room is left for fees to be raised into.
         let scale = (MOST / 2 / greatest).clamp(1, FINEST);
         let (lowest, highest) = (fees().min().unwrap_or(0) * scale, fees().max().unwrap_or(0) * scale);
-        // With a fee of one left, the fewest of all stops that save as much are taken; without any, walks have nothing to tell stops by.
-        let room = (1 - lowest as i64, MOST.saturating_sub(highest) as i64);
-        let (proved, plans, tried) = (Vec::new(), BTreeMap::new(), BTreeSet::new());
-        Search { job, walk, scale, room, proved, plans, whole: true, tried, progress: Progress::new() }
+        Search {
+            job,
+            asked,
+            scale,
+            unit: fees().chain(of_parts()).fold(0, divisor).max(1),
+            // With a fee of one left, the fewest of all stops that save as much are taken; without any, walks have nothing to tell stops by.
+            room: (1 - lowest as i64, MOST.saturating_sub(highest) as i64),
+            proved: Vec::new(),
+            floors: BTreeMap::new(),
+            plans: BTreeMap::new(),
+            fewest: None,
+            most: None,
+            none: false,
+            tried: BTreeSet::new(),
+            calls: 0,
+            watch: Watch::new(asked.quiet, asked.limit),
+        }
     }
 }
 
 impl Search<'_> {
+    /// All of it.
+    fn run(&mut self) -> Result<(), Halt> {
+        self.raised(0)?;
+        if self.none {
+            return Ok(());
+        }
+        let (least, most) = self.room;
+        if let (Some(most), Some(fewest)) = (self.raised(least)?, self.raised(most)?) {
+            let own: Vec<u64> = self.plans.keys().copied().collect();
+            for pair in own.windows(2).filter(|pair| pair[0] >= fewest && pair[1] <= most) {
+                self.between(pair[0], pair[1])?;
+            }
+        }
+        self.find_fewest()?;
+        for _ in 0..ROUNDS {
+            if !self.near()? {
+                break;
+            }
+        }
+        self.settle()
+    }
+
+    /// The cheapest plan of a job of this search, with the walk number that was given.
+    fn ask(&mut self, job: &Job) -> Result<Reply, Halt> {
+        let walk = self.asked.walk;
+        self.call(job, move |text| calls::optimum_here(text, walk))
+    }
+
+    /// The same by spans, of which there are many: with a part of the walk number.
+    pub fn ask_by_spans(&mut self, job: &Job) -> Result<Reply, Halt> {
+        let walk = self.asked.walk.div_ceil(SPANS);
+        self.call(job, move |text| calls::optimum_here(text, walk))
+    }
+
+    /// What a call answers to a job of this search.
+    fn call(&mut self, job: &Job, call: impl FnOnce(&[u8]) -> Reply + Send + 'static) -> Result<Reply, Halt> {
+        let (text, line) = (job.text(), self.line());
+        let answered = self.watch.call(move || call(text.as_bytes()), |elapsed| format!("{elapsed} s, {line}"))?;
+        self.calls += 1;
+        answered.map_err(Halt::Ended)
+    }
+
+    /// How far it is.
+    fn line(&self) -> String {
+        let calls = counted(self.calls, "call");
+        let (Some(first), Some(last)) = (self.plans.keys().next(), self.plans.keys().last()) else { return calls };
+        let proved = (*first..=*last).filter(|stops| self.is_proved(*stops)).count();
+        let least = self.plans.values().map(|plan| plan.cost).min().unwrap_or(0);
+        format!("{calls}: {first} to {last} stops, {proved} of {} proved, least cost {}", last - first + 1, grouped(least))
+    }
+
     /// The cheapest plan with every fee so much raised: how many stops it has. None where a walk was cut or there is no plan.
-    fn raised(&mut self, raised: i64) -> Result<Option<u64>, Failure> {
-        let text = self.finer(raised).text();
-        let reply = calls::optimum(text.as_bytes(), self.walk)?;
-        self.progress.tick();
-        self.whole &= reply.result != 7;
-        if let Some(least) = reply.value(if reply.result == 0 { "cost" } else { "floor" }) {
+    fn raised(&mut self, raised: i64) -> Result<Option<u64>, Halt> {
+        let reply = self.ask(&self.finer(|_| Some(raised)))?;
+        self.none |= reply.result == 6;
+        if let Some(least) = bound_of(&reply) {
             self.proved.push(Proved { raised, least });
         }
         let plan = reply.plan_text().map(texts::plan);
@@ -155,11 +235,13 @@ impl Search<'_> {
         Ok(stops.filter(|_| reply.result == 0))
     }
 
-    /// The job in finer amounts, at the high ends of its prices, with every fee so much raised.
-    fn finer(&self, raised: i64) -> Job {
+    /// The job in finer amounts, at the high ends of its prices, with each fee raised by what is said of its place, or made nothing.
+    pub fn finer(&self, raised: impl Fn(usize) -> Option<i64>) -> Job {
         let mut job = self.job.clone();
         let finer = |amount: &mut u64| *amount *= self.scale;
-        job.openings.iter_mut().for_each(|opening| opening.fee = (opening.fee * self.scale).saturating_add_signed(raised).min(MOST));
+        for (at, opening) in job.openings.iter_mut().enumerate() {
+            opening.fee = raised(at).map_or(0, |raised| (opening.fee * self.scale).saturating_add_signed(raised).min(MOST));
+        }
         for part in &mut job.parts {
             part.prices.iter_mut().chain([&mut part.removal]).for_each(finer);
             *part = Part { lows: part.prices.clone(), bands: 0, rule: None, ..part.clone() };
@@ -168,7 +250,7 @@ impl Search<'_> {
     }
 
     /// Keeps a plan at its own cost, where it is the cheapest known with so many stops.
-    fn keep(&mut self, plan: Option<Plan>) -> bool {
+    pub fn keep(&mut self, plan: Option<Plan>) -> bool {
         let Some(mut plan) = plan else { return false };
         plan.cost = Costs::of(self.job, &plan, None).total();
         let stops = plan.stops.len() as u64;
@@ -179,9 +261,14 @@ impl Search<'_> {
         better
     }
 
+    /// What the cheapest plan known with so many stops costs.
+    pub fn cost(&self, stops: u64) -> Option<u64> {
+        self.plans.get(&stops).map(|plan| plan.cost)
+    }
+
     /// Between two numbers of stops: where the plans of both cost the same, the cheapest one shows whether there is another in between.
-    fn between(&mut self, fewer: u64, more: u64) -> Result<(), Failure> {
-        let cost = |stops: u64| self.plans.get(&stops).map_or(0, |plan| plan.cost as i64);
+    fn between(&mut self, fewer: u64, more: u64) -> Result<(), Halt> {
+        let cost = |stops: u64| self.cost(stops).unwrap_or(0) as i64;
         let steps = more.saturating_sub(fewer);
         if steps < 2 {
             return Ok(());
@@ -197,38 +284,37 @@ impl Search<'_> {
     }
 
     /// The fewest stops that keep the lives, proved where the walk ends: the stops of the plan that is cheapest where a stop costs more than all changes.
-    fn fewest(&mut self) -> Result<u64, Failure> {
+    fn find_fewest(&mut self) -> Result<(), Halt> {
         let mut job = self.job.clone();
         job.openings.iter_mut().for_each(|opening| opening.fee = MOST / 64);
         for part in &mut job.parts {
             part.prices.iter_mut().for_each(|price| *price = 1);
             *part = Part { lows: part.prices.clone(), bands: 0, rule: None, removal: 0, ..part.clone() };
         }
-        let reply = calls::optimum(job.text().as_bytes(), self.walk)?;
-        self.whole &= reply.result != 7;
+        let reply = self.ask(&job)?;
         self.keep(reply.plan_text().map(texts::plan));
         let known = self.plans.keys().next().copied().unwrap_or(0);
-        Ok(if reply.result == 0 { known } else { known.min(reply.value("floor").unwrap_or(0) / (MOST / 64)) })
+        let least = reply.value("floor").unwrap_or(0) / (MOST / 64);
+        self.fewest = Some(if reply.result == 0 { known } else { known.min(least) });
+        Ok(())
     }
 
     /// Looks for plans near those that are known: one stop less than a plan with more, one more than a plan with fewer, another one in place of one.
     /// Only for numbers of stops that are not proved. Whether something was found.
-    fn near(&mut self) -> Result<bool, Failure> {
+    fn near(&mut self) -> Result<bool, Halt> {
         let (first, last) = (self.plans.keys().next().copied().unwrap_or(0), self.plans.keys().last().copied().unwrap_or(0));
         let mut found = false;
         for stops in first..last {
-            if self.plans.get(&stops).is_some_and(|plan| plan.cost <= self.least(stops)) {
+            if self.is_proved(stops) {
                 continue;
             }
             // With the least fee off every fee, so that all of the openings are used where that saves something.
-            let cheap = self.finer(self.room.0);
+            let cheap = self.finer(|_| Some(self.room.0));
             for open in self.sets_near(stops) {
                 if !self.tried.insert(open.clone()) {
                     continue;
                 }
-                let job = cheap.only_open(|step| open.contains(&step));
-                let reply = calls::plan(job.text().as_bytes(), NEAR)?;
-                self.progress.tick();
+                let reply = self.call(&cheap.only_open(|step| open.contains(&step)), |text| calls::plan_here(text, NEAR))?;
                 let plan = reply.plan_text().map(texts::plan).filter(|plan| plan.stops.len() as u64 <= stops);
                 found |= self.keep(plan);
             }
@@ -263,20 +349,77 @@ impl Search<'_> {
         sets
     }
 
+    /// Looks by spans for what is not proved yet, each number of stops with its share of the calls.
+    fn settle(&mut self) -> Result<(), Halt> {
+        let last = self.plans.keys().last().copied().unwrap_or(0);
+        let first = self.fewest.unwrap_or(last);
+        self.most = Some(last);
+        let end = self.calls + self.asked.calls;
+        let open: Vec<u64> = (first..=last).filter(|stops| !self.is_proved(*stops)).collect();
+        for (at, stops) in open.iter().enumerate() {
+            let share = end.saturating_sub(self.calls) / (open.len() - at) as u64;
+            spans::settle(self, *stops, share)?;
+        }
+        Ok(())
+    }
+
+    /// A plan with fewer stops, and further ones where they cost least at which nothing is changed: where nothing else is as cheap.
+    pub fn pad(&mut self, stops: u64) {
+        let padded: Vec<Plan> = self.plans.range(..stops).filter_map(|(_, plan)| padded(self.job, plan, stops)).collect();
+        padded.into_iter().for_each(|plan| {
+            self.keep(Some(plan));
+        });
+    }
+
+    /// By how much fees were raised where that proves most for so many stops.
+    pub fn best_raise(&self, stops: u64) -> i64 {
+        self.proved.iter().max_by_key(|proved| self.bound(proved, stops)).map_or(0, |proved| proved.raised)
+    }
+
+    /// Notes what no plan with so many stops costs less than.
+    pub fn prove(&mut self, stops: u64, least: u64) {
+        let own = self.floors.entry(stops).or_insert(0);
+        *own = least.max(*own);
+    }
+
+    /// A bound in finer amounts as one of the job's own: costs are multiples of the unit.
+    pub fn coarse(&self, least: i64) -> u64 {
+        (least.max(0) as u64).div_ceil(self.scale).next_multiple_of(self.unit)
+    }
+
+    fn bound(&self, proved: &Proved, stops: u64) -> u64 {
+        self.coarse(proved.least as i64 - proved.raised * stops as i64)
+    }
+
+    /// What no plan with so many stops costs less than, by raising every fee.
+    fn least_by_fees(&self, stops: u64) -> u64 {
+        self.proved.iter().map(|proved| self.bound(proved, stops)).max().unwrap_or(0)
+    }
+
     /// What no plan with so many stops costs less than.
-    fn least(&self, stops: u64) -> u64 {
-        let bound = |proved: &Proved| {
-            let least = proved.least as i64 - proved.raised * stops as i64;
-            (least.max(0) as u64).div_ceil(self.scale)
+    pub fn least(&self, stops: u64) -> u64 {
+        self.least_by_fees(stops).max(self.floors.get(&stops).copied().unwrap_or(0))
+    }
+
+    fn is_proved(&self, stops: u64) -> bool {
+        self.cost(stops).is_some_and(|cost| cost <= self.least(stops))
+    }
+
+    fn point(&self, stops: u64) -> Point {
+        let (plan, least) = (self.plans.get(&stops).cloned(), self.least(stops));
+        let proof = match plan.as_ref().map(|plan| plan.cost) {
+            Some(cost) if cost <= self.least_by_fees(stops) => Some(Proof::Fees),
+            Some(cost) if cost <= least => Some(Proof::Spans),
+            _ => None,
         };
-        self.proved.iter().map(bound).max().unwrap_or(0)
+        Point { stops, plan, least, proof }
     }
 
     /// All points from the fewest stops to the most that save something besides fees.
-    fn all(&self, fewest: u64) -> Vec<Point> {
-        let last = self.plans.keys().last().copied().unwrap_or(0);
-        let point = |stops: u64| Point { stops, plan: self.plans.get(&stops).cloned(), least: self.least(stops) };
-        let mut points: Vec<Point> = (fewest..=last).map(point).collect();
+    fn all(&self) -> Vec<Point> {
+        let (Some(first), Some(last)) = (self.plans.keys().next(), self.plans.keys().last()) else { return Vec::new() };
+        let (fewest, most) = (self.fewest.unwrap_or(*first), self.most.unwrap_or(*last));
+        let mut points: Vec<Point> = (fewest..=most).map(|stops| self.point(stops)).collect();
         let besides = |point: &Point| point.plan.as_ref().map(|plan| plan.cost - Costs::of(self.job, plan, None).fees);
         while let [.., before, last] = &points[..] {
             match besides(before).zip(besides(last)) {
@@ -285,5 +428,30 @@ impl Search<'_> {
             };
         }
         points
+    }
+}
+
+/// What an answer proves that no plan of the job asked about costs less than.
+pub fn bound_of(reply: &Reply) -> Option<u64> {
+    reply.value(if reply.result == CUT_SHORT { "floor" } else { "cost" })
+}
+
+/// A plan with stops added at which nothing is changed, where they cost least, until it has so many; none where there are not so many openings.
+fn padded(job: &Job, plan: &Plan, stops: u64) -> Option<Plan> {
+    let more = usize::try_from(stops).ok()?.checked_sub(plan.stops.len())?;
+    let mut free: Vec<_> = job.openings.iter().filter(|opening| plan.stops.iter().all(|stop| stop.step != opening.step)).collect();
+    free.sort_by_key(|opening| opening.fee);
+    let bare = free.get(..more)?.iter().map(|opening| Stop { step: opening.step, parts: Vec::new() });
+    let mut plan = plan.clone();
+    plan.stops.extend(bare);
+    plan.stops.sort_by_key(|stop| stop.step);
+    Some(plan)
+}
+
+/// The greatest number that divides both.
+fn divisor(first: u64, second: u64) -> u64 {
+    match second {
+        0 => first,
+        _ => divisor(second, first % second),
     }
 }

@@ -13,6 +13,7 @@ use crate::standing;
 use crate::tables::Table;
 use crate::texts::{self, Plan};
 use crate::verdicts::{self, headed, Judged};
+use crate::walks::{self, Search, Walked};
 use crate::{drawing, faults, list, output, standard_output};
 use std::ffi::OsStr;
 use std::path::Path;
@@ -33,11 +34,10 @@ pub fn run(order: &HallOrder) -> Result<u8, Failure> {
         }
     }
     let input = files::read(&order.hall)?;
-    let reply = calls::hall(&input.bytes, order.walk)?;
-    if reply.text != 0 {
+    if let Some(reply) = calls::hall_fault(&input.bytes)? {
         return Err(faults::hall_refusal(&reply, &input));
     }
-    let planned = Planned::of(&input, reply, order.walk, Naming::read(&order.naming)?)?;
+    let planned = Planned::of(&input, order)?;
     if let Some(folder) = order.into.as_ref().filter(|_| !planned.lines.is_empty()) {
         planned.write(folder)?;
     }
@@ -52,7 +52,7 @@ pub fn run(order: &HallOrder) -> Result<u8, Failure> {
         true => output::say(&said),
         false => standard_output::write(said.as_bytes())?,
     }
-    Ok(status_of(planned.reply.result))
+    Ok(status_of(planned.result()))
 }
 
 /// A hall with what was found of it.
@@ -60,7 +60,7 @@ pub struct Planned {
     pub name: String,
     pub hall: Hall,
     pub naming: Naming,
-    pub reply: Reply,
+    walked: Walked,
     walk: u64,
     /// Each line's plan, as the judge weighs it; none where no plans were found.
     pub lines: Vec<Judged>,
@@ -71,16 +71,30 @@ pub struct Planned {
 }
 
 impl Planned {
-    fn of(input: &Input, reply: Reply, walk: u64, naming: Naming) -> Result<Planned, Failure> {
-        let hall = halls::hall(&input.bytes);
+    /// Plans each line alone, which is soon done, and then all together.
+    fn of(input: &Input, order: &HallOrder) -> Result<Planned, Failure> {
+        let (hall, naming) = (halls::hall(&input.bytes), Naming::read(&order.naming)?);
+        let (alone, alone_proved) = alone(&hall)?;
+        let (walk, quiet, limit) = (order.walk, order.quiet, order.limit);
+        let walked = walks::plan(&input.bytes, &walks::Order { walk, search: Search::Hall, quiet, once: false, limit })?;
         let mut lines = Vec::new();
-        for (at, text) in plan_texts(&reply).into_iter().enumerate().filter(|(at, _)| *at < hall.lines.len()) {
+        let plans = walked.reply.as_ref().map_or(Vec::new(), plan_texts);
+        for (at, text) in plans.into_iter().enumerate().filter(|(at, _)| *at < hall.lines.len()) {
             let name = |what: &str| format!("{what} of line {}", at + 1);
             let job = Input { name: name("job"), bytes: hall.lines[at].1.clone() };
             lines.push(verdicts::judge(&job, &Input { name: name("plan"), bytes: text }, &naming)?);
         }
-        let (alone, alone_proved) = alone(&hall)?;
-        Ok(Planned { name: input.name.clone(), hall, naming, reply, walk, lines, alone, alone_proved })
+        Ok(Planned { name: input.name.clone(), hall, naming, walked, walk, lines, alone, alone_proved })
+    }
+
+    /// The result: the library's, and 7 for a walk that was ended before it had one.
+    pub fn result(&self) -> u32 {
+        self.walked.reply.as_ref().map_or(7, |reply| reply.result)
+    }
+
+    /// The value of a line of the answer.
+    pub fn value(&self, key: &str) -> Option<u64> {
+        self.walked.reply.as_ref()?.value(key)
     }
 
     /// The steps at which the crew is called.
@@ -95,7 +109,7 @@ impl Planned {
 
     /// What the hall costs, calls included.
     pub fn cost(&self) -> Option<u64> {
-        self.reply.value("cost")
+        self.value("cost")
     }
 
     /// What it would cost if each line were planned alone, with a call wherever some line stops.
@@ -106,16 +120,19 @@ impl Planned {
 
     /// The first sentence.
     fn words(&self) -> String {
-        let nodes = format!("{} nodes were walked", grouped(self.reply.value("nodes").unwrap_or(0)));
-        let floor = grouped(self.reply.value("floor").unwrap_or(0));
-        let short = || format!("the walk is longer than its walk number, {}", grouped(self.walk));
-        match (self.reply.result, self.cost()) {
+        let nodes = self.walked.nodes().map_or(String::new(), |nodes| format!("{} nodes were walked", grouped(nodes)));
+        let (floor, short) = (self.value("floor"), self.walked.why_short(self.walk));
+        match (self.result(), self.cost()) {
             (0, Some(cost)) => format!("the hall's cheapest plans cost {}, with {}; proved, {nodes}", grouped(cost), self.calls_in_words()),
             (7, Some(cost)) => {
-                let best = format!("the best plans so far cost {}, with {}", grouped(cost), self.calls_in_words());
-                format!("{}; {best}; none cost less than {floor}; {nodes}", short())
+                let gap = cost.saturating_sub(floor.unwrap_or(0));
+                let saved = format!("at most {} {} could still be saved", grouped(gap), percent(gap, cost));
+                format!("{short}; the best plans so far cost {}, with {}; {saved}; {nodes}", grouped(cost), self.calls_in_words())
             }
-            (7, None) => format!("{}, and no plans were found so far; none cost less than {floor}; {nodes}", short()),
+            (7, None) => {
+                let known = floor.map_or(String::new(), |floor| format!("; none cost less than {}; {nodes}", grouped(floor)));
+                format!("{short}, and no plans were found so far{known}")
+            }
             _ => "some line has no plan that keeps its parts' lives".to_string(),
         }
     }
@@ -179,7 +196,7 @@ impl Planned {
 
     /// All of it for people.
     fn text(&self) -> String {
-        let mut text = format!("{}: {} ({})\n", self.name, self.words(), self.reply.result);
+        let mut text = format!("{}: {} ({})\n", self.name, self.words(), self.result());
         text += &self.saving().map_or(String::new(), |words| format!("    {words}\n"));
         if self.lines.is_empty() && self.alone.is_empty() {
             return text;
@@ -208,18 +225,19 @@ impl Planned {
                 ("text", Value::text(plan.text())),
             ])
         };
-        let bounds = match (self.reply.result, self.cost()) {
+        let bounds = match (self.result(), self.cost()) {
             (0, cost) => [("cheapest", cost), ("floor", None), ("best", cost)],
-            (_, cost) => [("cheapest", None), ("floor", self.reply.value("floor")), ("best", cost)],
+            (_, cost) => [("cheapest", None), ("floor", self.value("floor")), ("best", cost)],
         };
         let alone = |plan: &Plan| Value::object([("cost", Value::Number(plan.cost)), ("text", Value::text(plan.text()))]);
         vec![
             ("hall", Value::text(&self.name)),
-            ("result", Value::Number(u64::from(self.reply.result))),
+            ("result", Value::Number(u64::from(self.result()))),
             ("words", Value::text(self.words())),
             ("fault", Value::Null),
+            ("ended", Value::text(self.walked.ended.name())),
             ("walk", Value::Number(self.walk)),
-            ("nodes", Value::number(self.reply.value("nodes"))),
+            ("nodes", Value::number(self.walked.nodes())),
             ("bounds", Value::object(bounds.map(|(name, cost)| (name, Value::number(cost))))),
             ("call", Value::Number(self.hall.call)),
             ("calls", Value::numbers(self.calls())),

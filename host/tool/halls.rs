@@ -1,7 +1,7 @@
 //! Halls: texts of several lines that pay one crew, joined and taken apart.
 
 use crate::calls::Reply;
-use crate::failure::{failure, Failure, TEXT};
+use crate::failure::{failure, Failure, Fault, TEXT};
 use crate::files::Input;
 use crate::numbers::{joined, runs};
 use crate::texts::{self, Job};
@@ -11,6 +11,8 @@ pub const MOST_LINES: usize = 4;
 const MOST_PARTS: usize = 16;
 const MOST_OPENINGS: usize = 64;
 const MOST_BYTES: usize = 65_536;
+/// A job does not fit the hall's first, or takes the hall past its limits.
+const UNLIKE: u32 = 14;
 
 /// A hall as its text says it: what a call of the crew costs, and each line's job with its text.
 pub struct Hall {
@@ -37,7 +39,9 @@ pub fn joined_text(jobs: &[Input], call: u64) -> Result<Vec<u8>, Failure> {
     let read: Vec<Job> = jobs.iter().map(|job| texts::job(&job.bytes)).collect();
     for at in 0..read.len() {
         if let Some(words) = unlike(&read[..=at], |line| jobs[line].name.clone()) {
-            return Err(Failure { status: TEXT, message: format!("{}: {words} (14)\n", jobs[at].name), fault: None });
+            let (message, file) = (format!("{}: {words} (14)\n", jobs[at].name), jobs[at].name.clone());
+            let fault = Fault { file, result: UNLIKE, text: 1, line: 1, words, shown: String::new() };
+            return Err(Failure { status: TEXT, message, fault: Some(fault) });
         }
     }
     let mut text = format!("machines={}\ncall={call}\n", jobs.len()).into_bytes();

@@ -264,33 +264,42 @@ plan of the job as it is. Changes may be given several times and together.
     },
     Page {
         name: "front",
-        usage: "juzvarola front JOB [-o PICTURE] [--take N [-o PLAN]] [--walk N]\n       [--csv | --json]",
+        usage: "juzvarola front JOB [-o PICTURE] [--take N [-o PLAN]] [--calls N]\n       [--walk N] [--for TIME] [--quiet] [--csv | --json]",
         summary: "the cheapest plan for each number of stops",
         files: &["JOB"],
-        options: &["-o", "--output", "--take", "--walk", "--csv", "--json"],
+        options: &["-o", "--output", "--take", "--calls", "--walk", "--for", "--quiet", "-q", "--csv", "--json"],
         body: "\
 For who would rather stop less often, or pay less for parts: from the fewest
 stops that keep the lives to the most that save something, what the cheapest
 plan costs and what life it leaves in the parts. It is found by raising every
 fee by a number and taking it off again, for one number after the other; a plan
-found so is proved to be the cheapest with as many stops. A number of stops
-that is the cheapest at no fee has a plan near the others, and the cost that no
-plan with so many stops is below.
+found so is proved to be the cheapest with as many stops. For a number of stops
+that is the cheapest at no fee the openings are cut into spans with so many
+stops each, and fees are raised span by span: its plan is proved so, or has the
+cost beside it that no plan with so many stops is below (7).
 
   -o, --output FILE   a picture (.svg); with --take the plan
       --take N        the plan with N stops is written, to standard output
-                      without -o
+                      without -o; if it is not proved, that is said
+      --calls N       at most N calls of the library by spans (100 where it is
+                      left out)
       --walk N        at most N nodes in each walk, 0 to 4000000000
-                      (100000000 where it is left out)
+                      (100000000 where it is left out); by spans a hundredth
+      --for TIME      no longer than this: 60s, 5m, 1h
+  -q, --quiet         no progress, however long the search
       --csv, --json   the table as comma-separated values, or as JSON
+
+Where it takes more than a second and standard error is a terminal, the calls
+and what is proved so far are shown. Ctrl-C, SIGTERM and the end of --for say
+what was found (status 3).
 ",
     },
     Page {
         name: "join",
-        usage: "juzvarola join JOB.. --call N [-o HALL]",
+        usage: "juzvarola join JOB.. --call N [-o HALL] [--json]",
         summary: "the jobs of several lines as one hall's text",
         files: &["JOB.."],
-        options: &["--call", "-o", "--output"],
+        options: &["--call", "-o", "--output", "--json"],
         body: "\
 Writes the text of a hall to HALL, or to standard output: up to four lines that
 pay one crew, whose journey costs N for any step at which some line stops. The
@@ -300,29 +309,38 @@ differs (14).
 
       --call N        what a call of the crew costs, 0 to 1000000
   -o, --output HALL   where the hall's text goes; - is standard output
+      --json          the answer as JSON on standard output; the text too, to
+                      HALL, where -o names one
 ",
     },
     Page {
         name: "hall",
-        usage: "juzvarola hall HALL [-o PICTURE] [--into FOLDER] [--walk N] [--json]\n       [--from DATE] [--step day|week|month] [--after N]",
+        usage: "juzvarola hall HALL [-o PICTURE] [--into FOLDER] [--walk N] [--for TIME]\n       [--quiet] [--json] [--from DATE] [--step day|week|month] [--after N]",
         summary: "the cheapest plans of lines that pay one crew",
         files: &["HALL"],
-        options: &["-o", "--output", "--into", "--walk", "--json", "--from", "--step", "--after"],
+        options: &["-o", "--output", "--into", "--walk", "--for", "--quiet", "-q", "--json", "--from", "--step", "--after"],
         body: "\
 Plans all lines of a hall (juzvarola join) together: what they cost with one
 call of the crew for each step at which some line stops, which parts each line
 changes at each call, and what planning each line alone would cost with its
 calls. If the walk has more nodes than its walk number, the best plans so far
-are said and called such (7).
+are said and called such, with what could still be saved (7).
 
   -o, --output FILE   a picture (.svg): the calls, and each line's parts beneath
       --into FOLDER   each line's plan goes there, as line1.txt and so on
       --walk N        at most N nodes, 0 to 4000000000
                       (100000000 where it is left out)
+      --for TIME      no longer than this: 60s, 5m, 1h
+  -q, --quiet         no progress, however long the walk
       --json          the answer as JSON
       --from DATE     dates beside the steps: step 1 begins on 2027-01-04, say
       --step LENGTH   how long a step is: day, week or month
       --after N       the hall is what is left after step N of a whole one
+
+The walk is made with growing walk numbers. Where that takes more than a second
+and standard error is a terminal, the nodes and the best cost so far are shown.
+Ctrl-C, SIGTERM and the end of --for say and write the best plans so far
+(status 3).
 ",
     },
     Page {

@@ -4,7 +4,7 @@
 use crate::arguments::LatestOrder;
 use crate::calls::{self, Reply};
 use crate::costs::Costs;
-use crate::failure::{status_of, Failure};
+use crate::failure::{status_of, Failure, Fault};
 use crate::files::{self, Input};
 use crate::json::Value;
 use crate::naming::Naming;
@@ -30,7 +30,8 @@ pub fn run(order: &LatestOrder) -> Result<u8, Failure> {
     }
     let reply = calls::latest(&job.bytes, &stops.bytes)?;
     if reply.text != 0 || !matches!(reply.result, 0 | 6) {
-        return Err(faults::refusal(&reply, &job, Some(&stops)));
+        let refusal = faults::refusal(&reply, &job, Some(&stops));
+        return Err(if order.stops.is_some() { in_steps(refusal) } else { refusal });
     }
     let naming = Naming::read(&order.naming)?;
     let habit = Habit::of(&job, &stops, reply, naming)?;
@@ -58,6 +59,19 @@ struct Reason {
     part: u64,
     next: Option<u64>,
     late: u64,
+}
+
+/// A refusal of stops that were given by their steps: the step is named, and no line, which nobody wrote.
+fn in_steps(refusal: Failure) -> Failure {
+    let Failure { status, message, fault } = refusal;
+    let step = fault.as_ref().and_then(|fault| fault.shown.strip_prefix("stop="));
+    let message = match (step, &fault) {
+        (Some(step), Some(Fault { words, result, .. })) => {
+            format!("--stops: {} ({result})\n", words.replacen("stop", &format!("step {step}"), 1))
+        }
+        _ => message,
+    };
+    Failure { status, message, fault }
 }
 
 /// What the habit makes of the stops.

@@ -7,7 +7,8 @@ use crate::failure::{failure, status_of, Failure, CANT_CREATE, CUT, USAGE};
 use crate::json::Value;
 use crate::numbers::{counted, grouped, percent, seconds, span};
 use crate::verdicts::headed;
-use crate::walks::{self, Ended};
+use crate::walks;
+use crate::watch::Ended;
 use crate::{faults, files, output, signals, standard_output};
 use std::collections::BTreeSet;
 use std::ffi::{OsStr, OsString};
@@ -40,6 +41,10 @@ pub fn run(order: &PlanOrder, folder: &OsStr) -> Result<u8, Failure> {
     std::fs::create_dir_all(folder).map_err(|error| {
         failure(CANT_CREATE, format_args!("{} can't be made: {}", files::name_of(folder), crate::failure::reason(&error)))
     })?;
+    if let Some(path) = &order.summary {
+        files::not_among(path, &order.jobs.iter().map(|job| &**job).collect::<Vec<_>>())?;
+        files::ready(path)?;
+    }
     signals::catch();
     let all = at_once(order, &places);
     if let Some(path) = &order.summary {
@@ -53,6 +58,8 @@ pub fn run(order: &PlanOrder, folder: &OsStr) -> Result<u8, Failure> {
     );
     match order.json {
         true => standard_output::write(Value::object(headed("plan", json(&all, &sum))).document().as_bytes())?,
+        // Of one job alone its own line says it all.
+        false if places.len() == 1 => {}
         false => output::say(&format!("{sum}\n")),
     }
     Ok(all.iter().map(|done| done.status).max().unwrap_or(0).max(if all.len() < places.len() { CUT } else { 0 }))
@@ -168,8 +175,8 @@ fn planned(order: &PlanOrder, job: &OsStr, place: &OsStr) -> Result<Done, Failur
         return Ok(Done { plan: Some(name), cost: Some(cost), words, ..none });
     }
     let walk = order.walk.unwrap_or(MOST_WALK);
-    let (counted, once, limit) = (order.count_nodes, order.once, order.limit);
-    let walked = walks::plan(&input.bytes, &walks::Order { walk, counted, quiet: true, once, limit })?;
+    let (search, once, limit) = (order.search(), order.once, order.limit);
+    let walked = walks::plan(&input.bytes, &walks::Order { walk, search, quiet: true, once, limit })?;
     let Some(reply) = walked.reply else {
         let words = format!("{}: ended before a walk was finished (7)", input.name);
         return Ok(Done { status: CUT, result: Some(7), words, ..none });

@@ -10,7 +10,8 @@ use crate::naming::Naming;
 use crate::numbers::{grouped, percent, seconds};
 use crate::standing::Bounds;
 use crate::texts::{self, Job};
-use crate::walks::{self, Ended, Walked};
+use crate::walks::{self, Search, Walked};
+use crate::watch::Ended;
 use crate::{faults, list, many, output, standard_output};
 use std::ffi::OsStr;
 
@@ -32,8 +33,8 @@ pub fn run(order: &PlanOrder) -> Result<u8, Failure> {
         return Err(faults::refusal(&reply, &input, None));
     }
     let walk = order.walk.unwrap_or(MOST_WALK);
-    let (counted, quiet, once, limit) = (order.count_nodes, order.quiet, order.once, order.limit);
-    let walked = walks::plan(&input.bytes, &walks::Order { walk, counted, quiet, once, limit })?;
+    let (quiet, once, limit) = (order.quiet, order.once, order.limit);
+    let walked = walks::plan(&input.bytes, &walks::Order { walk, search: order.search(), quiet, once, limit })?;
     let job = texts::job(&input.bytes);
     let found = Found { input: &input, job: &job, walk, walked: &walked };
     if let (Some(path), Some(text)) = (path, found.plan_text()) {
@@ -44,6 +45,16 @@ pub fn run(order: &PlanOrder) -> Result<u8, Failure> {
         false => output::say(&format!("{}: {} ({})\n{}", input.name, found.words(), found.result(), found.note(path)?)),
     }
     Ok(found.status())
+}
+
+impl PlanOrder {
+    /// Which calls are made.
+    pub fn search(&self) -> Search {
+        match self.count_nodes {
+            true => Search::Counted,
+            false => Search::Optimum,
+        }
+    }
 }
 
 /// A job and what was found of its plans.
@@ -83,8 +94,8 @@ impl Found<'_> {
         match (self.result(), self.plan_in_words()) {
             (0, Some(plan)) if self.walked.nodes().is_some() => format!("the cheapest plan costs {plan}; proved{walked}"),
             (0, Some(plan)) => format!("the plan costs {plan}; the cheapest possible (proved)"),
-            (7, Some(plan)) => format!("{}; the best plan so far costs {plan}; {}{walked}", self.why_short(), self.gap()),
-            (7, None) => format!("{}, and no plan was found so far{walked}", self.why_short()),
+            (7, Some(plan)) => format!("{}; the best plan so far costs {plan}; {}{walked}", self.walked.why_short(self.walk), self.gap()),
+            (7, None) => format!("{}, and no plan was found so far{walked}", self.walked.why_short(self.walk)),
             _ => "no plan keeps the lives".to_string(),
         }
     }
@@ -98,16 +109,6 @@ impl Found<'_> {
                 format!("; walks of {} nodes were finished", grouped(self.walked.walk))
             }
             _ => String::new(),
-        }
-    }
-
-    /// Why the walk did not come to its end.
-    fn why_short(&self) -> String {
-        let after = seconds(self.walked.all.as_secs_f64());
-        match self.walked.ended {
-            Ended::ByItself => format!("the walk is longer than its walk number, {}", grouped(self.walk)),
-            Ended::Interrupted => format!("interrupted after {after}"),
-            Ended::OutOfTime => format!("out of time after {after}"),
         }
     }
 
@@ -150,11 +151,6 @@ impl Found<'_> {
         let plan = self.plan_text().map(texts::plan);
         let costs = plan.as_ref().map(|plan| Costs::of(self.job, plan, Some(plan.cost)));
         let bounds = self.reply().and_then(Bounds::of_reply);
-        let ended = match self.walked.ended {
-            Ended::ByItself => "by itself",
-            Ended::Interrupted => "interrupted",
-            Ended::OutOfTime => "out of time",
-        };
         vec![
             ("juzvarola", Value::text(env!("CARGO_PKG_VERSION"))),
             ("command", Value::text("plan")),
@@ -163,7 +159,7 @@ impl Found<'_> {
             ("words", Value::text(self.words())),
             ("fault", Value::Null),
             ("proved", Value::Bool(matches!(self.result(), 0 | 6))),
-            ("ended", Value::text(ended)),
+            ("ended", Value::text(self.walked.ended.name())),
             ("walk", Value::Number(self.walk)),
             ("nodes", Value::number(self.value("nodes"))),
             ("bounds", bounds.map_or(Value::Null, |bounds| bounds.json())),

@@ -1,20 +1,13 @@
-//! The search for the cheapest plan, made with growing walk numbers: each finished walk leaves the best plan so far, which is shown and, if the search is
-//! interrupted, not lost. For each number it asks for the optimum and, where that is cut short, for the planner's own walk; where its nodes are to be
-//! counted, for that alone. By the library's promise the last answer is that of calls with the last number.
+//! The search for the cheapest plan of a job, or for the cheapest plans of a hall, made with growing walk numbers: each finished walk leaves the best so
+//! far, which is shown and, if the search is interrupted, not lost. By the library's promise the last answer is that of calls with the last number.
 
 use crate::calls::{self, Reply, CUT_SHORT};
-use crate::failure::{failure, Failure, SOFTWARE};
+use crate::failure::Failure;
 use crate::numbers::{grouped, percent, seconds};
-use crate::{output, signals};
-use std::io::{self, IsTerminal};
-use std::sync::mpsc::{self, Receiver, RecvTimeoutError};
+use crate::watch::{Ended, Watch};
 use std::sync::Arc;
 use std::time::{Duration, Instant};
 
-/// Nothing is shown before this.
-const PATIENCE: Duration = Duration::from_secs(1);
-/// How often signals, the time and the line are looked at.
-const TICK: Duration = Duration::from_millis(50);
 /// How many times as long each walk is as the one before.
 const GROWTH: u64 = 4;
 /// No counted walk but the last is shorter than this: less than a tenth of a second. Where there are walks by shares too, which are several for each number,
@@ -23,11 +16,21 @@ const SHORTEST: u64 = 4_000_000;
 /// As much of the time that is left as a last walk is to take.
 const CAREFUL: f64 = 0.9;
 
-/// What is asked for: the walk number, whether only the planner's own walk is made, whether to show no progress, to take the whole number at once, and to
-/// end after some time.
+/// Which calls are made for each walk number.
+#[derive(Debug, Clone, Copy, PartialEq, Eq)]
+pub enum Search {
+    /// The optimum's, and where that is cut short the planner's own walk.
+    Optimum,
+    /// The planner's own walk alone, whose nodes are counted.
+    Counted,
+    /// The hall planner's.
+    Hall,
+}
+
+/// What is asked for: the calls and their walk number, whether to show no progress, to take the whole number at once, and to end after some time.
 pub struct Order {
     pub walk: u64,
-    pub counted: bool,
+    pub search: Search,
     pub quiet: bool,
     pub once: bool,
     pub limit: Option<Duration>,
@@ -36,26 +39,23 @@ pub struct Order {
 /// A call of the library with a walk number.
 type Call = fn(&[u8], u64) -> Reply;
 
-impl Order {
+impl Search {
     /// The calls with each walk number, each where the one before was cut short.
-    fn calls(&self) -> &'static [Call] {
-        if self.counted {
-            &[calls::plan_here]
-        } else {
-            &[calls::optimum_here, calls::plan_here]
+    fn calls(self) -> &'static [Call] {
+        match self {
+            Search::Optimum => &[calls::optimum_here, calls::plan_here],
+            Search::Counted => &[calls::plan_here],
+            Search::Hall => &[calls::hall_here],
         }
     }
-}
 
-/// Why there is no longer walk.
-#[derive(Debug, Clone, Copy, PartialEq, Eq)]
-pub enum Ended {
-    /// The walk ended, or reached its number.
-    ByItself,
-    /// A signal came.
-    Interrupted,
-    /// The time was over.
-    OutOfTime,
+    /// No walk but the last is shorter than this.
+    fn shortest(self) -> u64 {
+        match self {
+            Search::Optimum => SHORTEST / 4,
+            _ => SHORTEST,
+        }
+    }
 }
 
 /// What the finished walks say, if any was finished; the last walk number whose walks were all finished, 0 without one, and how long these took alone;
@@ -74,6 +74,11 @@ impl Walked {
         self.reply.as_ref()?.value("nodes")
     }
 
+    /// Why the search was given up with this walk number.
+    pub fn why_short(&self, most: u64) -> String {
+        self.ended.words(self.all).unwrap_or_else(|| format!("the walk is longer than its walk number, {}", grouped(most)))
+    }
+
     /// The seconds that walks of so many nodes take at the speed of the last ones, where these were long enough to tell: before walks by shares the shares
     /// are found.
     pub fn seconds_of(&self, nodes: u64) -> Option<f64> {
@@ -88,16 +93,15 @@ impl Walked {
     }
 }
 
-/// Plans an accepted job.
-pub fn plan(job: &[u8], order: &Order) -> Result<Walked, Failure> {
-    let job: Arc<[u8]> = job.into();
-    let mut watch = Watch::new(order);
-    signals::catch();
+/// Plans an accepted job or hall.
+pub fn plan(text: &[u8], order: &Order) -> Result<Walked, Failure> {
+    let text: Arc<[u8]> = text.into();
+    let mut watch = Watch::new(order.quiet, order.limit);
     let mut walked = Walked { reply: None, walk: 0, took: Duration::ZERO, all: Duration::ZERO, ended: Ended::ByItself };
     let mut walk = first(order);
     let ended = loop {
         let began = Instant::now();
-        if let Some(ended) = walk_once(&job, walk, &mut watch, &mut walked)? {
+        if let Some(ended) = walk_once(&text, (walk, order), &mut watch, &mut walked)? {
             break ended;
         }
         walked = Walked { walk, took: began.elapsed(), ..walked };
@@ -109,24 +113,18 @@ pub fn plan(job: &[u8], order: &Order) -> Result<Walked, Failure> {
             None => break Ended::OutOfTime,
         }
     };
-    watch.wipe();
-    Ok(Walked { ended, all: watch.began.elapsed(), ..walked })
+    Ok(Walked { ended, all: watch.elapsed(), ..walked })
 }
 
-/// The walks with one walk number, each on a thread of its own; why they were not waited for, if so.
-fn walk_once(job: &Arc<[u8]>, walk: u64, watch: &mut Watch<'_>, walked: &mut Walked) -> Result<Option<Ended>, Failure> {
-    let order = watch.order;
-    for call in order.calls() {
-        let (send, answer) = mpsc::channel();
-        let own = Arc::clone(job);
-        calls::start(move || {
-            let _ = send.send(call(&own, walk));
-        })?;
-        let reply = match watch.wait(&answer, walked)? {
+/// The walks with one walk number; why they were not waited for, if so.
+fn walk_once(text: &Arc<[u8]>, (walk, order): (u64, &Order), watch: &mut Watch, walked: &mut Walked) -> Result<Option<Ended>, Failure> {
+    for call in order.search.calls() {
+        let own = Arc::clone(text);
+        let reply = match watch.call(move || call(&own, walk), |elapsed| line(elapsed, walked, order.walk))? {
             Ok(reply) => reply,
             Err(ended) => return Ok(Some(ended)),
         };
-        walked.reply = Some(if order.counted { reply } else { reply.and(walked.reply.as_ref()) });
+        walked.reply = Some(if order.search == Search::Optimum { reply.and(walked.reply.as_ref()) } else { reply });
         if !walked.is_cut_short() {
             break;
         }
@@ -137,8 +135,7 @@ fn walk_once(job: &Arc<[u8]>, walk: u64, watch: &mut Watch<'_>, walked: &mut Wal
 /// The first walk number: the given one divided by four as often as it stays long, so that all walks together have at most four thirds of its nodes.
 fn first(order: &Order) -> u64 {
     let mut walk = order.walk;
-    let shortest = if order.counted { SHORTEST } else { SHORTEST / 4 };
-    while !order.once && walk / GROWTH >= shortest {
+    while !order.once && walk / GROWTH >= order.search.shortest() {
         walk = walk.div_ceil(GROWTH);
     }
     walk
@@ -147,59 +144,10 @@ fn first(order: &Order) -> u64 {
 /// The next walk number: four times as large, or as large as the time that is left allows; none where that would be hardly any longer.
 fn next(walk: u64, order: &Order, watch: &Watch, walked: &Walked) -> Option<u64> {
     let longer = walk.saturating_mul(GROWTH).min(order.walk);
-    let Some(limit) = order.limit else { return Some(longer) };
-    let left = limit.checked_sub(watch.began.elapsed())?.as_secs_f64();
+    let Some(left) = watch.left() else { return Some(longer) };
     let rate = walk as f64 / walked.took.as_secs_f64().max(1e-6);
-    let possible = (rate * left * CAREFUL) as u64;
+    let possible = (rate * left.as_secs_f64() * CAREFUL) as u64;
     Some(longer.min(possible)).filter(|next| *next > walk + walk / 8 || *next == order.walk)
-}
-
-/// Who waits: since when, until when, whether progress is shown, and the line that stands there.
-struct Watch<'o> {
-    order: &'o Order,
-    began: Instant,
-    shows: bool,
-    shown: String,
-}
-
-impl<'o> Watch<'o> {
-    fn new(order: &'o Order) -> Watch<'o> {
-        Watch { order, began: Instant::now(), shows: !order.quiet && io::stderr().is_terminal(), shown: String::new() }
-    }
-
-    /// Waits for an answer, or for a reason to wait no longer; shows how far the finished walks have come.
-    fn wait(&mut self, answer: &Receiver<Reply>, walked: &Walked) -> Result<Result<Reply, Ended>, Failure> {
-        loop {
-            match answer.recv_timeout(TICK) {
-                Ok(reply) => return Ok(Ok(reply)),
-                Err(RecvTimeoutError::Disconnected) => return Err(failure(SOFTWARE, "the library did not answer")),
-                Err(RecvTimeoutError::Timeout) if signals::came() => return Ok(Err(Ended::Interrupted)),
-                Err(RecvTimeoutError::Timeout) if self.order.limit.is_some_and(|limit| self.began.elapsed() >= limit) => {
-                    return Ok(Err(Ended::OutOfTime))
-                }
-                Err(RecvTimeoutError::Timeout) => self.show(walked),
-            }
-        }
-    }
-
-    /// Draws the line, where it has changed.
-    fn show(&mut self, walked: &Walked) {
-        if !self.shows || self.began.elapsed() < PATIENCE {
-            return;
-        }
-        let line = line(self.began.elapsed().as_secs(), walked, self.order.walk);
-        if line != self.shown {
-            output::say(&format!("\r{line}\x1b[K"));
-            self.shown = line;
-        }
-    }
-
-    /// Wipes the line.
-    fn wipe(&mut self) {
-        if !self.shown.is_empty() {
-            output::say("\r\x1b[K");
-        }
-    }
 }
 
 /// The line shown, of less than 80 columns for most walks: the nodes and the best cost are those of the last finished walks.
@@ -228,7 +176,7 @@ mod tests {
     use super::*;
 
     fn order(walk: u64, once: bool) -> Order {
-        Order { walk, counted: true, quiet: true, once, limit: None }
+        Order { walk, search: Search::Counted, quiet: true, once, limit: None }
     }
 
     /// All walks together are at most four thirds of the last, and a rounding; the last has the number asked for.
@@ -236,7 +184,7 @@ mod tests {
     fn walks_grow_to_the_number_asked_for() {
         for most in [0, 1, 3_999_999, 15_999_999, 16_000_000, 16_000_001, 5_000_000, 200_000_000, 4_000_000_000] {
             let asked = order(most, false);
-            let watch = Watch::new(&asked);
+            let watch = Watch::new(true, None);
             let walked = Walked { reply: None, walk: 0, took: Duration::ZERO, all: Duration::ZERO, ended: Ended::ByItself };
             let mut all = vec![first(&asked)];
             while *all.last().expect("a walk") < most {

@@ -43,9 +43,11 @@ module _ (s s' : List ℕ) (g : Given) (e : read_job_lem s ≡ accepted g) (e' :
     count = count_alike;
   }
 
+-- two accepted texts that mean the same are answered alike
 pub by_meaning : (s s' : List ℕ) (t t' : JobText) → read_job_text s ≡ accepted t → read_job_text s' ≡ accepted t' → meant t ≡ meant t' → AnsweredAlike s s'
 by_meaning s s' t t' e e' same = all_alike s s' (meant t) (ap meaning e) (ap meaning e' ∙ ap accepted (sym same))
 
+-- E10. the line `walk` moves no answer
 pub walk_set_aside : WalkSetAside
 walk_set_aside = record {
   alike = λ s s' t o e e'. by_meaning s s' t (with_walk o t) e e' refl;

@@ -55,6 +55,7 @@ out_valid t v = record { means = subst Valid (means_same t v) v.means; idles = v
 accepts : (s : List ℕ) (t : JobText) → read_job_text s ≡ accepted t → read_job_text (job_text_lem (rules_out t)) ≡ accepted (rules_out t)
 accepts s t e = read_back (rules_out t) (out_valid t (valid_text s t e))
 
+-- E8. a job with rules is answered as the one with the lines written out
 pub rules_out_lem : RulesOut
 rules_out_lem = record {
   means = λ s t e. means_same t (valid_text s t e);

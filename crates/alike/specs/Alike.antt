@@ -34,6 +34,7 @@ pub record WalkSetAside : Type 0 where
 abbrev pub part_out : ℕ → PartText → PartText
 part_out n p = record { life = p.life; left = p.left; cover = p.cover; prices = written_out_lem n p.prices }
 
+-- a text with the lines of each part's rule written out
 abbrev pub rules_out : JobText → JobText
 rules_out t = record { horizon = t.horizon; idles = t.idles; walk = t.walk; openings = t.openings; parts = map (part_out (length t.openings)) t.parts }
 

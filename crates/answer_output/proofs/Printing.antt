@@ -20,6 +20,7 @@ copied n out ys rest l same =
 whole : (need : ℕ) (s : Said) (d : List ℕ) → need ≤ length d → lent need (length d) s ≡ s
 whole need s d room = rw (le-ltb (length d) need room)
 
+-- where there was room, what a program prints is the call's own text
 pub prints : {need : ℕ} {s : Said} {d e : List ℕ} {r : Answer} {p : Printout} → need ≤ length d → Replied need s d e r → (p.answer ≡ r) × (printed p ≡ take r.length e) → Prints s p
 prints {need} {s} {d} {e} {r} {p} room w h =
     let o = whole need s d room in

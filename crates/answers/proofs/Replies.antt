@@ -13,6 +13,7 @@ use Rattle.lines.proofs.Writing.{written, kept, counted}
 use Rattle.answers.specs.Said.{Said, Refuses, plainly, refusal, handed, Replied}
 use Rattle.answers.specs.declared.Answer.{Answer}
 
+-- where there is room, what was written and counted is the call's reply
 pub replied : (need : ℕ) (s : Said) {d e : List ℕ} {n : ℕ} {r : Answer} → need ≤ length d → length s.bytes ≤ need → Wrote d 0 s.bytes e n → r ≡ handed s n → Replied need s d e r
 replied need s {d} {e} {n} {r} room short w h =
     let v = written {d = d} (omega arith) w in

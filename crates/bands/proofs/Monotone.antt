@@ -82,6 +82,7 @@ parts_to (p ∷ ps) = (numbers_to p.prices, parts_to ps)
 itself : (job : Job) → UpTo job job
 itself job = record { same = refl; prices = parts_to job.parts }
 
+-- a plan costs between its cost at the low ends and that at the high ends, whatever the prices between
 pub cost_band : (low high : Job) (plan : Plan) → UpTo low high → CostBand low high plan
 cost_band low high plan h = record {
   between = λ job w. (cost_rises low job plan w.from, cost_rises job high plan w.to);

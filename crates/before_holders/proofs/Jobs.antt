@@ -51,6 +51,7 @@ singles_text (p ∷ ps) = ap (λ (s : List ℕ). line_of "price=" p ++ s) (singl
 abbrev pub uncovered : before.PartText → PartText
 uncovered p = record { life = p.life; left = p.left; cover = None; prices = by_list (map single p.prices) }
 
+-- a text before holders as today's text has it
 abbrev pub today : before.JobText → JobText
 today t = record { horizon = t.horizon; idles = t.idles; walk = Some t.walk; openings = t.openings; parts = map uncovered t.parts }
 
@@ -323,6 +324,7 @@ text_same : (t : before.JobText) → line_of "horizon=" t.horizon ++ (optional_t
 unfolding job_text_lem body_text
 text_same t = simp (append_assoc, append-nil, length-map, texts-map)
 
+-- the lines before holders are exactly today's lines of such a text
 pub lines_exact : Exact Any before.job_lines Held (λ t. job_text_lem (today t))
 lines_exact = exact_as Known Held _ _ lines_read known_valid valid_known text_same
 
@@ -351,6 +353,7 @@ was_accepted s few t e bare =
 
 -- ---- what it means
 
+-- what a job text accepted before holders said, and that it means the job
 pub record Said (s : List ℕ) (g : before.Given) : Type 0 where
   pub text : before.JobText
   pub is : before.read_job_text s ≡ accepted text
@@ -364,6 +367,7 @@ said s g e = go (before.read_job_text s) refl
     go (accepted t) f = record { text = t; is = f; means = one_value e (ap before.meaning f) }
     go (refused n l) f = not_both e (ap before.meaning f)
 
+-- a job text accepted before holders is accepted still, and means the same
 pub job_before : (s : List ℕ) (g : before.Given) → before.read_job_lem s ≡ accepted g → read_job_lem s ≡ accepted (as_today g)
 job_before s g e =
     let t = said s g e in

@@ -39,6 +39,7 @@ lines_before job s s' l l' t e =
     let b = bind_inv (row "cost=" 0 before.most_cost) _ s s' l l' t e in
     bind_good (row "cost=" 0 most_cost) _ (wider_row _ 0 before.most_cost most_cost (omega arith) s b.mid l b.at b.a b.first) ∙ b.second
 
+-- a plan text accepted before holders is accepted still, and says the same
 pub plan_before : (job : Job) (s : List ℕ) (t : Stated) → before.read_plan_lem job s ≡ accepted t → read_plan_lem job s ≡ accepted t
 unfolding before.read_plan_lem read_plan_lem
 plan_before job [] t e = e

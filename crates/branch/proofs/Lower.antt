@@ -29,6 +29,7 @@ total_mono f (a ∷ rest) p q h = add_mono (f a p) (f a q) (total f rest p) (tot
 
 -- ---- a sum of bounds that is there: both are
 
+-- both bounds are there, and their numbers make the sum
 pub record Split (x y : Bound) (n : ℕ) : Type 0 where
   pub a : ℕ
   -- the number that the second of the two bounds is

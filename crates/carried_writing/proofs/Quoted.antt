@@ -20,6 +20,7 @@ use Rattle.carried_writing.specs.Lists.{pair_mark, low_in, lows_unless}
 
 -- ---- marks and low ends
 
+-- prices by marks and their low ends are the prices with these low ends
 pub paired_is : (ls : List (Option ℕ)) (hs : List ℕ) → length hs ≡ length ls → quotes_from (map pair_mark ls) (texts low_in ls) hs ≡ quotes_of ls hs
 unfolding quotes_from quotes_of quote_of
 paired_is [] [] e = refl
@@ -38,6 +39,7 @@ ends_counted [] = refl
 ends_counted (None ∷ ls) = omega (arith, ends_counted ls)
 ends_counted (Some l ∷ ls) = omega (arith, ends_counted ls)
 
+-- the marks are one a price, 0 or 1, and as many 1 as there are low ends
 pub paired_marked : (ls : List (Option ℕ)) (hs : List ℕ) → length hs ≡ length ls → Marked (map pair_mark ls) (texts low_in ls) hs
 paired_marked ls hs e = record { size = omega (arith, length-map ls pair_mark); marks = marks_small ls; lows = omega (arith, ends_counted ls) }
 

@@ -61,6 +61,7 @@ module _ (n m : ℕ) (job : Job) (step : ℕ) where
       let q = carried_part job step (meant_part n p) (get_or cs 0 []) in
       ap₂ (λ (x : List ℕ) (qs : List Part). record { life = q.life; left = q.left; removal = q.removal; holders = q.holders; prices = x } ∷ qs) e (parts_mean ps (drop 1 cs) s.1)
 
+-- what the carried text means is the carried job
 pub means_carried : (t : JobText) (log : Log) → ValidText t → meant_job (carried_text t log) ≡ carried (meant_job t) log
 means_carried t log v =
     let is = sym (idle_steps_lem2 (later log.step (idle_in t.idles))) in
@@ -82,6 +83,7 @@ module _ (n m : ℕ) (t : JobText) (step : ℕ) where
       let q = carried_part (meant t).low step (low_part_lem n p) (get_or cs 0 []) in
       ap₂ (λ (x : List ℕ) (qs : List Part). record { life = q.life; left = q.left; removal = q.removal; holders = q.holders; prices = x } ∷ qs) e (lows_mean ps (drop 1 cs) s.1)
 
+-- the carried text's low ends are those of the job at the low ends, carried on
 pub low-carried : (t : JobText) (log : Log) → ValidText t → (meant (carried_text t log)).low ≡ carried (meant t).low log
 low-carried t log v =
     let is = sym (idle_steps_lem2 (later log.step (idle_in t.idles))) in

@@ -80,6 +80,7 @@ module _ (t : JobText) (v : ValidText t) (first second : Log) (logged : Logged (
 
 -- ---- E13.1. "If carrying on by a first log and then by a second is accepted both times, carrying on by the joined log shall be accepted and give the identical job text."
 
+-- two logs carried on by in turn give the text that the joined log gives
 pub two_or_one : {job first next second last : List ℕ} (a : Carries job first next) (b : Carries next second last)
     → ((plan : Plan) → cost_of_lem (job_in a) plan ≤ 4000000000) → Carries job (joined_lines a b) last
 two_or_one {job = text} {second = second} {last = last} a b most =

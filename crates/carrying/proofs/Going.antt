@@ -14,6 +14,7 @@ use Rattle.carry_texts.specs.Carried.{meant_job, carried_text}
 use Rattle.carry_texts.proofs.Carried.{means_carried, low-carried, carried_read}
 use Rattle.carrying.specs.Promise.{CarriedOn}
 
+-- an accepted job and log are carried on as promised
 pub carried_on : (text : List ℕ) (t : JobText) → read_job_text text ≡ accepted t → (log : Log) → Logged (meant_job t) log → Accepts (meant_job t) log → CarriedOn t log (job_text_lem (carried_text t log))
 carried_on text t read log logged accepts =
     let v = valid_text text t read in

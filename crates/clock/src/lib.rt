@@ -73,7 +73,7 @@ pub fn positions_of(job: &Accepted) -> Positions
 }
 
 // Whether a part whose change before is at `prev` is kept by its next change, or up to the end, at `next`.
-// Its life is the one number of the text that meets signed ones.
+// The part's life is the one number of the text that meets signed ones.
 // Kept as a cast: std has no From for it, and a life is at most 1000.
 // Kept as three numbers with their ranges, here and where a gap is asked for (`plan_lives`, `latest_changes`): two of them change from opening to opening, and a struct would be made anew for each question.
 pub fn keeps(life: u32, prev: i32, next: i32) -> bool

@@ -59,6 +59,7 @@ inside_tells m k r s s' l l' c e =
           ∙ ap (λ (t : List ℕ). texts (line_of "holder=") d.a ++ t) y));
     })
 
+-- what is accepted as lines of removal is valid, and its text is what was read
 pub cover_tells : (m k : ℕ) → Tells (cover m k) (ValidLines m k) (optional_text cover_text)
 unfolding cover if_present return cover_text
 cover_tells m k s s' l l' o e =

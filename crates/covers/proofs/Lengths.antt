@@ -67,6 +67,7 @@ holders_short m k hs few low high v =
     let own = ap (λ (i : ℕ). length (line_of "holder=" i)) e in
     omega (arith, rising_room (line_of "holder=") (others (k - 1)) m 0 hs (omega arith) (holds_chained m k 0 hs low v), joined_grows (others (k - 1)) m 16 few, others-length (k - 1) 16 (omega arith), all_holders, own)
 
+-- the lines of removal have few bytes, as few as the numbers of the parts allow
 pub cover_short : (m k : ℕ) (c : Cover) → m ≤ 16 → 1 ≤ k → k ≤ 16 → ValidCover m k c → length (cover_text c) + length (line_of "holder=" k) ≤ 177
 unfolding cover_text
 cover_short m k c few low high v =

@@ -57,7 +57,7 @@ use Rattle.delivered.proofs.Missing.{missing_exactly}
 use Rattle.delivered.proofs.Circles.{together}
 use Rattle.delivered.proofs.Demands.{judge_accepts, planner_6, planner_0}
 use Rattle.delivered.proofs.Optima.{optima_alike}
-use Rattle.delivered.proofs.FirstFaults.{job_first, plan_first, log_first, hall_first}
+use Rattle.delivered.proofs.FirstFaults.{job_first, plan_first, log_first, hall_first, job_spans, plan_spans, log_spans, hall_spans}
 use Rattle.delivered.proofs.Carrying.{told, there, walk_carried, rules_carried, forms_kept}
 
 -- what is promised beside the calls' own promises holds
@@ -126,5 +126,9 @@ delivered = record {
   R20_plan_line = plan_first;
   R20_log_line = log_first;
   R20_hall_line = hall_first;
+  R21_job = job_spans;
+  R21_plan = plan_spans;
+  R21_log = log_spans;
+  R21_hall = hall_spans;
   D1_optimum = optima_alike;
 }

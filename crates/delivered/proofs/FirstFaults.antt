@@ -1,6 +1,6 @@
--- R20. "line by line, first bad line": the fault of a job text, a plan text or a log, and of a hall text but for 14, is that of every text with the same lines up to the line at fault (`job_first`, `plan_first`, `log_first`, `hall_first`). By the grammars' forms.
+-- R20. "line by line, first bad line": the fault of a job text, a plan text or a log, and of a hall text but for 14, is that of every text with the same lines up to the line at fault (`job_first`, `plan_first`, `log_first`, `hall_first`), and that line is one of the text's or the next (`job_spans` and its like). By the grammars' forms.
 use Rattle.std.specs.Prelude.{Option, Some, None}
-use Prim.Native.Nat.{ℕ, zero, suc, ◌-◌, ◌≤◌, ◌<◌}
+use Prim.Native.Nat.{ℕ, zero, suc, ◌+◌, ◌-◌, ◌≤◌, ◌<◌}
 use mathlib.Core.Path.{◌≡◌, refl, sym, ap, ap₂, subst, ◌∙◌}
 use mathlib.Core.Bool.{Bool, true}
 use mathlib.Core.List.{List, [], ◌∷◌, ◌++◌}
@@ -22,22 +22,22 @@ use Rattle.plan_grammar.specs.Grammar.{visit, visits, plan_lines, read_plan_lem}
 use Rattle.log_grammar.specs.Grammar.{past_job_lem, log_lines, read_log}
 use Rattle.hall_model.specs.Limits.{most_hall_bytes}
 use Rattle.hall_grammar.specs.Grammar.{meant_job, joins, job_behind, jobs_behind, hall_lines_lem, read_hall_text}
-use Rattle.delivered.specs.FirstLines.{first_lines}
-use Rattle.delivered.proofs.FirstLines.{no_break, Above, Alike, row_one, checked_one, Linewise, one_linewise, return_linewise, bind_linewise, optional_linewise, present_linewise, chain_linewise, times_linewise, end_linewise, ruled_linewise, nothing_same}
+use Rattle.delivered.specs.FirstLines.{first_lines, breaks}
+use Rattle.delivered.proofs.FirstLines.{no_break, Above, Alike, InSpan, row_one, checked_one, row_spans, checked_spans, Linewise, one_linewise, return_linewise, bind_linewise, optional_linewise, present_linewise, chain_linewise, times_linewise, end_linewise, ruled_linewise, nothing_same}
 
 -- P says of which numbers the law speaks
 module _ (P : ℕ → Type 0) where
   row_linewise : (key : List ℕ) → no_break key ≡ true → (lo hi : ℕ) → Linewise P (row_at key lo hi)
-  row_linewise key n lo hi = one_linewise P (row_at key lo hi) (row_one key n lo hi)
+  row_linewise key n lo hi = one_linewise P (row_at key lo hi) (row_one key n lo hi) (row_spans key n lo hi)
 
   checked_linewise : (k : ℕ) (ok : ℕ → Bool) (key : List ℕ) → no_break key ≡ true → (lo hi : ℕ) → Linewise P (checked k ok (row_at key lo hi))
-  checked_linewise k ok key n lo hi = one_linewise P (checked k ok (row_at key lo hi)) (checked_one k ok (row_at key lo hi) (row_one key n lo hi))
+  checked_linewise k ok key n lo hi = one_linewise P (checked k ok (row_at key lo hi)) (checked_one k ok (row_at key lo hi) (row_one key n lo hi)) (checked_spans k ok (row_at key lo hi) (row_spans key n lo hi))
 
   -- ---- a part's lines
 
   holder_linewise : (m k before : ℕ) → Linewise P (holder m k before)
   unfolding holder bytes
-  holder_linewise m k before = one_linewise P _ (checked_one 12 _ _ (checked_one 12 (rising before m) _ (row_one (bytes "holder=") refl 1 16)))
+  holder_linewise m k before = one_linewise P _ (checked_one 12 _ _ (checked_one 12 (rising before m) _ (row_one (bytes "holder=") refl 1 16))) (checked_spans 12 _ _ (checked_spans 12 (rising before m) _ (row_spans (bytes "holder=") refl 1 16)))
 
   cover_linewise : (m k : ℕ) → Linewise P (cover m k)
   unfolding cover inside holders bytes
@@ -166,6 +166,17 @@ module _ (P : ℕ → Type 0) {A : Type 0} (most : ℕ) (p : Parser A) (h : Line
           let alike : P i → k < suc l → whole p t 1 ≡ fault i k = subst (λ (r : Parsed A). Alike P (suc l) r (whole p t 1)) x (whole_linewise.alike (suc l) s t 1 (omega (arith, up, y.1)) lines) in
           (omega (arith, up, y.1), read_is t short ∙ ap finish (alike (subst P (sym y.0) is) (omega (arith, y.1))) ∙ ap₂ refused y.0 y.1)
 
+  -- and it is one of the text's lines, or the next
+  text_spans : (s : List ℕ) (n l : ℕ) → read_text most p s ≡ refused n l → length s ≤ most → l ≤ breaks s + 1
+  text_spans s n l e few = go (whole p s 1) refl (sym (read_is s few) ∙ e)
+    where
+      go : (x : Parsed A) → whole p s 1 ≡ x → finish x ≡ refused n l → l ≤ breaks s + 1
+      go (good a r k) x f = not_both refl f
+      go (fault i k) x f =
+          let y = one_fault refl f in
+          let h : k ≤ 1 + breaks s = subst (InSpan (1 + breaks s)) x (whole_linewise.spans s 1) in
+          omega (arith, h, y.1)
+
 -- any number
 abbrev any : ℕ → Type 0
 any n = Unit {0}
@@ -199,3 +210,28 @@ pub hall_first : (text other : List ℕ) (number line : ℕ) → read_hall_text 
 hall_first text other number line e not-14 few short same =
     let unlike : ℕ → Type 0 = λ n. n ≡ 14 → ⊥ in
     (text_first unlike most_hall_bytes hall_lines_lem (hall_linewise unlike (λ f. f refl)) text other number line not-14 e few short same).1
+
+-- ---- the lines of faults: one of a text's, or the next
+
+-- a job text
+pub job_spans : (text : List ℕ) (number line : ℕ) → read_job_lem text ≡ refused number line → length text ≤ max_bytes → line ≤ breaks text + 1
+job_spans text number line e few = go (read_job_text text) refl
+  where
+    go : (x : Outcome JobText) → read_job_text text ≡ x → line ≤ breaks text + 1
+    go (accepted t) f = not_both (ap meaning f) e
+    go (refused i j) f = let y = one_fault (ap meaning f) e in text_spans any max_bytes job_lines (job_linewise any) text number line (f ∙ ap₂ refused y.0 y.1) few
+
+-- a plan text
+pub plan_spans : (job : Job) (text : List ℕ) (number line : ℕ) → read_plan_lem job text ≡ refused number line → length text ≤ plan.max_bytes → line ≤ breaks text + 1
+unfolding read_plan_lem
+plan_spans job [] number line e few = not_both refl e
+plan_spans job (b ∷ s) number line e few = text_spans any plan.max_bytes (plan_lines job) (plan_linewise any job) (b ∷ s) number line e few
+
+-- a log
+pub log_spans : (job : Job) (text : List ℕ) (number line : ℕ) → read_log job text ≡ refused number line → length text ≤ plan.max_bytes → line ≤ breaks text + 1
+log_spans job text number line e few = text_spans any plan.max_bytes (log_lines job) (log_linewise any job) text number line e few
+
+-- a hall text
+pub hall_spans : (text : List ℕ) (number line : ℕ) → read_hall_text text ≡ refused number line → length text ≤ most_hall_bytes → line ≤ breaks text + 1
+hall_spans text number line e few = let unlike : ℕ → Type 0 = λ n. n ≡ 14 → ⊥ in
+    text_spans unlike most_hall_bytes hall_lines_lem (hall_linewise unlike (λ f. f refl)) text number line e few

@@ -3,7 +3,7 @@ use Rattle.std.specs.Prelude.{Option, Some, None}
 use Prim.Native.Nat.{ℕ, zero, suc, ◌+◌, ◌-◌, ◌≤◌, ◌<◌}
 use mathlib.Core.Path.{◌≡◌, refl, sym, ap, subst, ◌∙◌}
 use mathlib.Core.Bool.{Bool, true, false, ◌&&◌, not, and-eq-true_iff, false≢true, true≢false}
-use mathlib.Core.List.{List, [], ◌∷◌}
+use mathlib.Core.List.{List, [], ◌∷◌, ◌++◌}
 use native.Mathlib.Omega.{arith}
 use native.Mathlib.Decide.{dec_lt}
 use lib.Dec.{leb, eqb}
@@ -14,7 +14,9 @@ use Rattle.lines.specs.Line.{is_digit, digits, number_from, plain, starts_with, 
 use Rattle.lines.specs.Parser.{Parsed, good, fault, Parser, ◌>>=◌, return, in_range, read_field_lem, taken, row_at, optional_at, if_present, checked, chain, times, end as ends}
 use Rattle.lines.proofs.Parsing.{bind_good, bind_fault, checked-good, checked_not, checked-fault, optional_there, optional_missing}
 use Rattle.lines.proofs.Reading.{line_is, line_not}
-use Rattle.delivered.specs.FirstLines.{first_lines}
+use Rattle.lines.specs.Text.{decimal, line}
+use Rattle.lines.proofs.Sound.{row_sound}
+use Rattle.delivered.specs.FirstLines.{first_lines, breaks}
 
 -- ---- the first line, byte by byte
 
@@ -191,6 +193,48 @@ checked_one {A} k ok p one m s t l e = go (p s l) refl (one m s t l e)
         pick false z = rw (checked_not k ok p s l x z, checked_not k ok p t l h.2 z) (refl, refl)
     go (fault n j) x h = rw (checked-fault k ok p s l x, checked-fault k ok p t l h.1) (h.0, refl)
 
+-- ---- how many lines are read
+
+-- from a text and a line whose sum of line and breaks is m: as many lines are read as breaks are passed, and a fault is on a line that is there or the next
+abbrev pub InSpan : {A : Type 0} → ℕ → Parsed A → Type 0
+InSpan m (good a r k) = k + breaks r ≤ m
+InSpan m (fault n k) = k ≤ m
+
+-- every answer of the parser
+abbrev pub Spans : {A : Type 0} → Parser A → Type 0
+Spans p = (s : List ℕ) (l : ℕ) → InSpan (l + breaks s) (p s l)
+
+-- the breaks of a text behind another
+breaks_both : (xs ys : List ℕ) → breaks (xs ++ ys) ≡ breaks xs + breaks ys
+unfolding breaks
+breaks_both [] ys = omega arith
+breaks_both (x ∷ xs) ys = omega (arith, breaks_both xs ys)
+
+-- the line of a value ends one line
+line_ends : (key : List ℕ) (v : ℕ) → 1 ≤ breaks (line key v)
+unfolding line breaks
+line_ends key v = omega (arith, breaks_both key (decimal v ++ 10 ∷ []), breaks_both (decimal v) (10 ∷ []))
+
+-- a row passes its line's break, or is at fault on its line
+pub row_spans : (key : List ℕ) → no_break key ≡ true → (lo hi : ℕ) → Spans (row_at key lo hi)
+row_spans key n lo hi s l = go (row_at key lo hi s l) refl (row_one key n lo hi 0 s s l refl)
+  where
+    go : (x : Parsed ℕ) → row_at key lo hi s l ≡ x → SameRow 0 l x (row_at key lo hi s l) → InSpan (l + breaks s) x
+    go (good v r k) e h = omega (arith, h.0, ap breaks (row_sound key lo hi s r l k v e), breaks_both (line key v) r, line_ends key v)
+    go (fault i k) e h = omega (arith, h.0)
+
+-- a further rule is at fault on the first line
+pub checked_spans : {A : Type 0} (k : ℕ) (ok : A → Bool) (p : Parser A) → Spans p → Spans (checked k ok p)
+checked_spans {A} k ok p h s l = go (p s l) refl (h s l)
+  where
+    go : (x : Parsed A) → p s l ≡ x → InSpan (l + breaks s) x → InSpan (l + breaks s) (checked k ok p s l)
+    go (good v r m) x i = pick (ok v) refl
+      where
+        pick : (b : Bool) → ok v ≡ b → InSpan (l + breaks s) (checked k ok p s l)
+        pick true z = rw (checked-good k ok p s l x z) i
+        pick false z = rw (checked_not k ok p s l x z) (omega arith)
+    go (fault n m) x i = rw (checked-fault k ok p s l x) i
+
 -- ---- line by line
 
 -- the answer stands on line l or behind it
@@ -207,12 +251,13 @@ module _ (P : ℕ → Type 0) where
   -- the parser reads line by line: its answer's line is not before the first, and the lines up to it decide the answer
   pub record Linewise {A : Type 0} (p : Parser A) : Type 0 where
     pub above : (s : List ℕ) (l : ℕ) → Above l (p s l)
+    pub spans : Spans p
     -- texts whose lines l to e - 1 are the same
     pub alike : (e : ℕ) (s t : List ℕ) (l : ℕ) → l < e → first_lines (e - l) s ≡ first_lines (e - l) t → Alike e (p s l) (p t l)
 
   -- a parser of one line reads line by line
-  pub one_linewise : {A : Type 0} (p : Parser A) → OneLine p → Linewise p
-  one_linewise {A} p one = record { above = λ s l. up l (p s l) (p s l) (one 0 s s l refl); alike = alike }
+  pub one_linewise : {A : Type 0} (p : Parser A) → OneLine p → Spans p → Linewise p
+  one_linewise {A} p one span = record { above = λ s l. up l (p s l) (p s l) (one 0 s s l refl); spans = span; alike = alike }
     where
       up : (l : ℕ) (x y : Parsed A) → SameRow 0 l x y → Above l x
       up l (good a r k) y h = omega (arith, h.0)
@@ -235,11 +280,11 @@ module _ (P : ℕ → Type 0) where
   -- a parser that reads nothing
   pub return_linewise : {A : Type 0} (a : A) → Linewise (return a)
   unfolding return
-  return_linewise a = record { above = λ s l. omega arith; alike = λ e s t l h q i. (t, refl, q) }
+  return_linewise a = record { above = λ s l. omega arith; spans = λ s l. omega arith; alike = λ e s t l h q i. (t, refl, q) }
 
   -- two parsers, one behind the other
   pub bind_linewise : {A B : Type 0} (p : Parser A) (f : A → Parser B) → Linewise p → ((a : A) → Linewise (f a)) → Linewise (p >>= f)
-  bind_linewise {A} {B} p f first next = record { above = λ s l. rises s l (p s l) refl (first.above s l); alike = λ e s t l h q. go e s t l (p s l) refl (first.above s l) (first.alike e s t l h q) }
+  bind_linewise {A} {B} p f first next = record { above = λ s l. rises s l (p s l) refl (first.above s l); spans = λ s l. within s l (p s l) refl (first.spans s l); alike = λ e s t l h q. go e s t l (p s l) refl (first.above s l) (first.alike e s t l h q) }
     where
       up : (l k : ℕ) (x : Parsed B) → l ≤ k → Above k x → Above l x
       up l k (good b r i) h j = omega arith
@@ -248,6 +293,14 @@ module _ (P : ℕ → Type 0) where
       rises : (s : List ℕ) (l : ℕ) (x : Parsed A) → p s l ≡ x → Above l x → Above l ((p >>= f) s l)
       rises s l (good a r k) x h = rw (bind_good p f x) (up l k (f a r k) h ((next a).above r k))
       rises s l (fault n k) x h = rw (bind_fault p f x) h
+
+      less : (m n : ℕ) (x : Parsed B) → m ≤ n → InSpan m x → InSpan n x
+      less m n (good b r i) h j = omega arith
+      less m n (fault k i) h j = omega arith
+
+      within : (s : List ℕ) (l : ℕ) (x : Parsed A) → p s l ≡ x → InSpan (l + breaks s) x → InSpan (l + breaks s) ((p >>= f) s l)
+      within s l (good a r k) x h = rw (bind_good p f x) (less (k + breaks r) (l + breaks s) (f a r k) h ((next a).spans r k))
+      within s l (fault n k) x h = rw (bind_fault p f x) h
 
       -- an answer behind the lines that are the same says nothing
       far : (e k : ℕ) (x y : Parsed B) → e ≤ k → Above k x → Alike e x y
@@ -264,14 +317,18 @@ module _ (P : ℕ → Type 0) where
 
   -- a line that may be missing
   pub optional_linewise : (key : List ℕ) → no_break key ≡ true → (lo hi : ℕ) → Linewise (optional_at key lo hi)
-  optional_linewise key n lo hi = record { above = λ s l. up s l (starts_with key s) refl; alike = λ e s t l h q. go e s t l h q (starts_with key s) refl }
+  optional_linewise key n lo hi = record { above = λ s l. up s l (starts_with key s) refl; spans = λ s l. within s l (starts_with key s) refl; alike = λ e s t l h q. go e s t l h q (starts_with key s) refl }
     where
       there : Linewise (row_at key lo hi >>= λ v. return (Some v))
-      there = bind_linewise (row_at key lo hi) _ (one_linewise (row_at key lo hi) (row_one key n lo hi)) (λ v. return_linewise (Some v))
+      there = bind_linewise (row_at key lo hi) _ (one_linewise (row_at key lo hi) (row_one key n lo hi) (row_spans key n lo hi)) (λ v. return_linewise (Some v))
 
       up : (s : List ℕ) (l : ℕ) (b : Bool) → starts_with key s ≡ b → Above l (optional_at key lo hi s l)
       up s l true x = rw (optional_there key lo hi s l x) (there.above s l)
       up s l false x = rw (optional_missing key lo hi s l x) (omega arith)
+
+      within : (s : List ℕ) (l : ℕ) (b : Bool) → starts_with key s ≡ b → InSpan (l + breaks s) (optional_at key lo hi s l)
+      within s l true x = rw (optional_there key lo hi s l x) (there.spans s l)
+      within s l false x = rw (optional_missing key lo hi s l x) (omega arith)
 
       go : (e : ℕ) (s t : List ℕ) (l : ℕ) → l < e → first_lines (e - l) s ≡ first_lines (e - l) t → (b : Bool) → starts_with key s ≡ b → Alike e (optional_at key lo hi s l) (optional_at key lo hi t l)
       go e s t l h q b x = pick b x
@@ -307,11 +364,15 @@ module _ (P : ℕ → Type 0) where
   -- nothing more
   pub end_linewise : Linewise ends
   unfolding ends
-  end_linewise = record { above = up; alike = alike }
+  end_linewise = record { above = up; spans = within; alike = alike }
     where
       up : (s : List ℕ) (l : ℕ) → Above l (ends s l)
       up [] l = omega arith
       up (b ∷ s) l = omega arith
+
+      within : (s : List ℕ) (l : ℕ) → InSpan (l + breaks s) (ends s l)
+      within [] l = omega arith
+      within (b ∷ s) l = omega arith
 
       alike : (e : ℕ) (s t : List ℕ) (l : ℕ) → l < e → first_lines (e - l) s ≡ first_lines (e - l) t → Alike e (ends s l) (ends t l)
       alike e s t l h q = go s t (ap (λ (i : ℕ). first_lines i s) (sym z) ∙ q ∙ ap (λ (i : ℕ). first_lines i t) z)
@@ -327,7 +388,7 @@ module _ (P : ℕ → Type 0) where
 
   -- a further rule of a parser of many lines, whose fault is on the first: P says nothing of its number
   pub ruled_linewise : {A : Type 0} (k : ℕ) → (P k → ⊥) → (ok : A → Bool) (p : Parser A) → Linewise p → Linewise (checked k ok p)
-  ruled_linewise {A} k unsaid ok p h = record { above = λ s l. rises s l (p s l) refl (h.above s l); alike = λ e s t l i q. go e s t l (p s l) refl (h.alike e s t l i q) }
+  ruled_linewise {A} k unsaid ok p h = record { above = λ s l. rises s l (p s l) refl (h.above s l); spans = checked_spans k ok p h.spans; alike = λ e s t l i q. go e s t l (p s l) refl (h.alike e s t l i q) }
     where
       rises : (s : List ℕ) (l : ℕ) (x : Parsed A) → p s l ≡ x → Above l x → Above l (checked k ok p s l)
       rises s l (good v r m) x i = pick (ok v) refl

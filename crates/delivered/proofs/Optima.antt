@@ -1,5 +1,5 @@
 -- Two accepted job texts that mean the same, both answered 0 by the optimum, get the same bytes: what is printed for the one is a best plan of the other too.
-use mathlib.Core.Path.{◌≡◌, sym, ap, subst, ◌∙◌}
+use mathlib.Core.Path.{◌≡◌, sym, ap, ◌∙◌}
 use mathlib.Core.List.{List}
 use Prim.Native.Nat.{ℕ}
 use Rattle.lines.specs.Parser.{accepted}
@@ -20,6 +20,7 @@ moved s s' given a same p = record {
   all = p.all;
 }
 
+-- with 0 the optimum writes the same bytes for texts that mean the same
 pub optima_alike : (s s' : List ℕ) (t t' : JobText) → read_job_text s ≡ accepted t → read_job_text s' ≡ accepted t' → meant t ≡ meant t' → (walk walk' room room' : ℕ) (a b : Said)
     → OptimumPromise s walk room a → OptimumPromise s' walk' room' b → a.result ≡ 0 → b.result ≡ 0 → a.bytes ≡ b.bytes
 optima_alike s s' t t' e e' same walk walk' room room' a b p q x y =

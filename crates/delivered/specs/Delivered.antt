@@ -57,9 +57,10 @@ use Rattle.hall_planning.specs.Hall.{hall_said}
 use Rattle.alike.specs.Alike.{AnsweredAlike, with_walk, WalkSetAside, rules_out, RulesOut}
 use Rattle.before_holders.specs.AsBefore.{AsBefore}
 use Rattle.starred.specs.Table.{CaseHolds, Counts, cases, counts}
-use Rattle.delivered.specs.FirstLines.{first_lines}
+use Rattle.delivered.specs.FirstLines.{first_lines, breaks}
 use Rattle.delivered.specs.Terms.{SomeLost, Meets, StatesObjective, Feasible, Cheapest, KeptLines}
 
+-- the record of all promises: a field for each sentence of the papers that no call's own promise states
 pub record Delivered : Type 0 where
   -- ---- the model
 
@@ -113,7 +114,7 @@ pub record Delivered : Type 0 where
   -- E2.5. "The longest has 22,109 bytes.": with E11's pairs 33,373
   pub E2_5_longest : (text : List ℕ) (t : JobText) → read_job_text text ≡ accepted t → length text ≤ 33373
   pub E2_5_reached : (text : List ℕ) × (t : JobText) × (read_job_text text ≡ accepted t) × (length text ≡ 33373)
-  -- R1 to R5, R12. a job text's faults: no other number, and no line beyond the one after the text's last
+  -- R1 to R5, R12. a job text's faults: no other number, and no line beyond those that a text can have and one (`R21_job`: its own and one)
   pub R1_job_fault : (text : List ℕ) (number line : ℕ) → read_job_lem text ≡ refused number line → JobFault number × (line ≤ job.max_bytes + 1)
   -- R1 to R3, R9. a plan text's
   pub R1_plan_fault : (job : Job) (text : List ℕ) (number line : ℕ) → read_plan_lem job text ≡ refused number line → PlanFault number × (line ≤ max_bytes + 1)
@@ -170,7 +171,7 @@ pub record Delivered : Type 0 where
   pub E14_2_exactly : (text : List ℕ) (t : HallText) → (read_hall_text text ≡ accepted t) ↔ (ValidHall t × (text ≡ hall_text t) × (length text ≤ most_hall_bytes))
   -- E14.10. what is accepted means a hall whose lines have the first one's horizon and idles, with at most 16 parts and 64 openings
   pub E14_10_lines : (text : List ℕ) (t : HallText) → read_hall_text text ≡ accepted t → Proper (meant_hall t) × Fits (meant_hall t)
-  -- E14.10. a hall text's fault has a job's number or 14, and its line is one of the text's or the next
+  -- E14.10. a hall text's fault has a job's number or 14, and its line is none beyond those that a text can have and one (`R21_hall`: its own and one)
   pub E14_10_fault : (text : List ℕ) (n line : ℕ) → read_hall_text text ≡ refused n line → HallFault n × (line ≤ most_hall_bytes + 1)
   -- D1. an accepted hall text is answered by what it means: two that mean the same hall get the same numbers and bytes, so a `walk` line (E10) or a rule (E8) among a job's lines changes no answer
   pub D1_halls : (s s' : List ℕ) (t t' : HallText) → read_hall_text s ≡ accepted t → read_hall_text s' ≡ accepted t' → meant_hall t ≡ meant_hall t' → (walk : ℕ) → hall_said s walk ≡ hall_said s' walk
@@ -223,6 +224,14 @@ pub record Delivered : Type 0 where
   -- of a hall text too, but for 14, which the job's further lines decide
   pub R20_hall_line : (text other : List ℕ) (number line : ℕ) → read_hall_text text ≡ refused number line → (number ≡ 14 → ⊥) → length text ≤ most_hall_bytes → length other ≤ most_hall_bytes
       → first_lines line other ≡ first_lines line text → read_hall_text other ≡ refused number line
+  -- R20, R21. the line at fault is one of the text's lines, or the next: of a job text,
+  pub R21_job : (text : List ℕ) (number line : ℕ) → read_job_lem text ≡ refused number line → length text ≤ job.max_bytes → line ≤ breaks text + 1
+  -- of a plan text,
+  pub R21_plan : (job : Job) (text : List ℕ) (number line : ℕ) → read_plan_lem job text ≡ refused number line → length text ≤ max_bytes → line ≤ breaks text + 1
+  -- of a log,
+  pub R21_log : (job : Job) (text : List ℕ) (number line : ℕ) → read_log job text ≡ refused number line → length text ≤ max_bytes → line ≤ breaks text + 1
+  -- and of a hall text
+  pub R21_hall : (text : List ℕ) (number line : ℕ) → read_hall_text text ≡ refused number line → length text ≤ most_hall_bytes → line ≤ breaks text + 1
   -- ---- the optimum
 
   -- D1. two accepted job texts that mean the same, both answered 0, at any walk numbers and in any rooms, get the same bytes: so a `walk` line (E10) or a rule (E8) changes none

@@ -65,6 +65,7 @@ first n x most h some = go x.lives x.covered x.ruled some h.lefts h.covered h.ru
 pub first_cover : (n : ℕ) (x : PartLists) → n ≤ 64 → PartsAgree n x → 0 < length x.lives → FirstCover x
 first_cover n x most h some = (first n x most h some).1
 
+-- the first part's prices as the lists' first entries have them
 pub first_prices : (n : ℕ) (x : PartLists) → n ≤ 64 → PartsAgree n x → 0 < length x.lives → FirstPrices n x
 first_prices n x most h some = (first n x most h some).2
 

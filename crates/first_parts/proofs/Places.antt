@@ -31,6 +31,7 @@ next n l r (suc (suc c)) u ls rs cs vs is hs us bs ds ms zs ws ps h g = absurd (
 next n l r zero (suc (suc u)) ls rs cs vs is hs us bs ds ms zs ws ps h g = absurd (omega arith)
 next n l r (suc zero) (suc (suc u)) ls rs cs vs is hs us bs ds ms zs ws ps h g = absurd (omega arith)
 
+-- the first part of the lists is the one that their first entries give
 pub parts_next : (n : ℕ) (x : PartLists) → PartsAgree n x → 0 < length x.lives → parts_of n x ≡ first_part n x ∷ parts_of n (behind_first n x)
 parts_next n x h some =
     go x.lives x.lefts x.covered x.ruled h.lefts h.covered h.ruled h.marks h.rule_marks some
@@ -71,6 +72,7 @@ sum_split zero zs = omega arith
 sum_split (suc i) [] = omega arith
 sum_split (suc i) (z ∷ zs) = omega (arith, sum_split i zs)
 
+-- the lists behind the first part's entries agree with each other too
 pub agree_next : (n : ℕ) (x : PartLists) → PartsAgree n x → 0 < length x.lives → PartsAgree n (behind_first n x)
 agree_next n x h some = go x.lives x.lefts x.covered x.ruled h.lefts h.covered h.ruled h.marks h.rule_marks h.removals h.insides h.bases h.drops h.leasts h.prices some
   where

@@ -20,6 +20,7 @@ pub starts_line : (key : List ℕ) (v : ℕ) (t : List ℕ) → starts_with key 
 unfolding line
 starts_line key v t = ap (starts_with key) (append_assoc key (decimal v ++ 10 ∷ []) t) ∙ starts_own key ((decimal v ++ 10 ∷ []) ++ t)
 
+-- where no `removal` line stands, no lines of removal are read
 pub cover_none : (m k : ℕ) (s : List ℕ) (l : ℕ) → starts_with (bytes "removal=") s ≡ false → cover m k s l ≡ good None s l
 unfolding cover if_present return
 cover_none m k s l e = bind_good (optional "removal=" 0 1000000) _ (optional_missing _ 0 1000000 s l e)

@@ -67,6 +67,7 @@ number_there h l v t =
     ap (λ (y : Parsed (Option ℕ)). elim y [ good a s m ↦ if_present (idle_steps_lem h) a s m | fault n m ↦ fault n m ])
     (optional_there (bytes "idles=") 1 365 (line_of "idles=" v ++ t) l (starts_line (bytes "idles=") v t))
 
+-- idle steps behind their number are read by their lines
 pub idles_some : {n m : ℕ} (h l : ℕ) (is t : List ℕ) → 1 ≤ length is → row "idles=" 1 365 (numbered is t) l ≡ good n (texts (line_of "idle=") is ++ t) m
     → idles h (optional_text idle_count_text (idle_lines is) ++ t) l ≡ (idle_steps_lem h n >>= λ x. return (Some x)) (texts (line_of "idle=") is ++ t) m
 unfolding if_present return

@@ -106,6 +106,7 @@ abbrev pub pair_mark : Quote → ℕ
 pair_mark (single p) = 0
 pair_mark (pair l h) = 1
 
+-- a price's low end, if it is a pair
 abbrev pub low_in : Quote → List ℕ
 low_in (single p) = []
 low_in (pair l h) = l ∷ []

@@ -22,12 +22,14 @@ use Rattle.quotes.specs.Views.{quote_of}
 use Rattle.price_rules.specs.Rule.{Rule}
 use Rattle.form_facts.specs.Facts.{PartLists, paired, covers_of, rules_of, quotes_from, quotes_in, counted_for, grouped, parts_of, sum_all, all_marks, covers_agree_lem, prices_agree_lem, bands_agree_lem, parts_agree_lem, PartsAgree}
 
+-- openings from equally long lists of steps and fees are as many
 pub paired_size : (os fs : List ℕ) → length fs ≡ length os → length (paired os fs) ≡ length os
 unfolding paired
 paired_size [] fs e = refl
 paired_size (o ∷ os) [] e = absurd (omega arith)
 paired_size (o ∷ os) (f ∷ fs) e = ap suc (paired_size os fs (omega arith))
 
+-- the opening at place i has the step and the fee of that place
 pub paired_at : (os fs : List ℕ) → length fs ≡ length os → (i : ℕ) (d : Opening) → i < length os → get_or (paired os fs) i d ≡ record { step = get_or os i 0; fee = get_or fs i 0 }
 unfolding paired
 paired_at [] fs e i d h = absurd (omega arith)
@@ -59,6 +61,7 @@ grouped_size n (l ∷ ls) (r ∷ rs) [] us qs e f g = absurd (omega arith)
 grouped_size n (l ∷ ls) (r ∷ rs) (c ∷ cs) [] qs e f g = absurd (omega arith)
 grouped_size n (l ∷ ls) (r ∷ rs) (c ∷ cs) (u ∷ us) qs e f g = ap suc (grouped_size n ls rs cs us (drop (counted_for n u) qs) (omega arith) (omega arith) (omega arith))
 
+-- lists that agree make as many parts as they have lives
 pub parts_size : (n : ℕ) (x : PartLists) → PartsAgree n x → length (parts_of n x) ≡ length x.lives
 parts_size n x h =
     grouped_size n x.lives x.lefts (covers_of x.covered x.removals x.insides x.holders) (rules_of x.ruled x.bases x.drops x.leasts) (quotes_in x) h.lefts
@@ -66,6 +69,7 @@ parts_size n x h =
 
 -- ---- E11. prices from a place on: the next low ends are those of the marks from there on
 
+-- the prices from place i on are those of the marks, prices and low ends from there on
 pub quotes_drop : (i : ℕ) (zs ws ps : List ℕ) → All (λ (z : ℕ). z ≤ 1) zs → length zs ≡ length ps → quotes_from (drop i zs) (drop (sum_all (take i zs)) ws) (drop i ps) ≡ drop i (quotes_from zs ws ps)
 unfolding quotes_from
 quotes_drop zero zs ws ps m e = refl
@@ -77,6 +81,7 @@ quotes_drop (suc i) (zero ∷ zs) ws (p ∷ ps) m e =
 quotes_drop (suc i) (suc zero ∷ zs) ws (p ∷ ps) m e = ap (λ (us : List ℕ). quotes_from (drop i zs) us (drop i ps)) (sym (drop-drop (sum_all (take i zs)) 1 ws)) ∙ quotes_drop i zs (drop 1 ws) ps m.1 (omega arith)
 quotes_drop (suc i) (suc (suc z) ∷ zs) ws (p ∷ ps) m e = absurd (omega (arith, m.0))
 
+-- the prices up to place i are those of the marks and prices up to there
 pub quotes_take : (i : ℕ) (zs ws ps : List ℕ) → quotes_from (take i zs) ws (take i ps) ≡ take i (quotes_from zs ws ps)
 unfolding quotes_from
 quotes_take zero zs ws ps = refl
@@ -171,6 +176,7 @@ prices_most m us b d l p n few most e =
     let low : m - sum_all us ≤ 16 = omega (arith, few) in
     omega (arith, eqb-true p ((m - sum_all us) * n) j.1, mul-le-mul_right n low, most)
 
+-- lists that pass the test agree with each other
 pub agree_says : (n : ℕ) (x : PartLists) → parts_agree_lem n x ≡ true → PartsAgree n x
 agree_says n x e =
     let m = length x.lives in
@@ -206,6 +212,7 @@ agree_says n x e =
       lows = eqb-true _ _ o.1;
     }
 
+-- lists that agree with each other pass the test
 pub says_agree : (n : ℕ) (x : PartLists) → PartsAgree n x → parts_agree_lem n x ≡ true
 says_agree n x h =
     ap₂ ◌&&◌ (eq-eqb _ _ h.lefts)

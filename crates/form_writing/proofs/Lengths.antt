@@ -81,6 +81,7 @@ unfolding idle_lines idles_cut bytes
 idles_short [] = omega arith
 idles_short (i ∷ is) = counted_short "idles=" 6 refl 365 true (length (i ∷ is)) (texts (line_of "idle=") (i ∷ is)) 5840 (λ low a. omega (arith, low, lines_short "idle=" 5 refl (i ∷ is)))
 
+-- a form's text has at most as many bytes as the longest cut one
 pub cut_short : (h : ℕ) (is os fs : List ℕ) (x : PartLists) → length (form_cut h is os fs x) ≤ longest_cut
 unfolding form_cut bytes
 cut_short h is os fs x = simp length-append (omega (arith, short "horizon=" 8 h refl, idles_short is, rest_short os fs x))

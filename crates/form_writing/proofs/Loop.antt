@@ -32,6 +32,7 @@ no_parts n x e = go x.lives e
     go [] e = refl
     go (l ∷ ls) e = absurd (omega arith)
 
+-- before the first part nothing of the parts is written, and all of the lists is to come
 pub putting_start : (n : ℕ) (x : PartLists) (o : Out) → PartsAgree n x → Putting n x o x o
 putting_start n x o h = record { agree = h; done = []; put = none; whole = refl }
 

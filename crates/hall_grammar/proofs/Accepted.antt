@@ -122,9 +122,11 @@ lines_tell s s' l l' t h =
           ∙ sym (append_assoc (m ++ c) (texts job_text_lem f.a) s' ∙ append_assoc m c (texts job_text_lem f.a ++ s'));
     })
 
+-- what an accepted hall text says is valid
 pub valid_hall : (s : List ℕ) (t : HallText) → read_hall_text s ≡ accepted t → ValidHall t
 valid_hall s t e = let a = accepted_is most_hall_bytes hall_lines_lem s t e in (lines_tell s [] 1 a.last t a.lines).known
 
+-- an accepted hall text is the rendering of what it says
 pub text_is : (s : List ℕ) (t : HallText) → read_hall_text s ≡ accepted t → s ≡ hall_text t
 text_is s t e = let a = accepted_is most_hall_bytes hall_lines_lem s t e in (lines_tell s [] 1 a.last t a.lines).text ∙ append-nil (hall_text t)
 

@@ -1,5 +1,5 @@
 -- What the hall's walk asks: E14.4. "The walk goes by step; at each step with an opening it decides call or no call, no first, then after a call each line open there in turn as before."
--- And what a node's decisions tell each line.
+-- What a node's decisions tell each line stands here too.
 use Rattle.std.specs.Prelude.{Bool, true, false, cond, ◌||◌, List, [], ◌∷◌, ◌++◌, ℕ, zero, suc, eqb}
 use Rattle.branch.specs.Questions.{Questions, done, asks}
 use Rattle.model.specs.Model.{Job}

@@ -102,5 +102,6 @@ all_valid : (jobs : List Accepted) → All ValidJob (map line_of_lem jobs)
 all_valid [] = tt
 all_valid (a ∷ jobs) = (a.valid, all_valid jobs)
 
+-- each line's job of an accepted hall is valid
 pub lines_valid : (h : HallJobs) → All ValidJob (hall_of h).jobs
 lines_valid h = all_valid (take h.count h.jobs)

@@ -13,6 +13,7 @@ use Rattle.hall_planning.specs.Hall.{on_hall, hall_said}
 use Rattle.whole_input.specs.declared.Text.TheVariants.{Hall}
 use Rattle.whole_input.specs.Limits.{limit_of}
 
+-- two texts over the limit are answered alike
 pub over : (walk : ℕ) (s t : List ℕ) → limit_of Hall < length s → limit_of Hall < length t → hall_said s walk ≡ hall_said t walk
 unfolding hall_said fault_span_lem
 over walk s t h k =

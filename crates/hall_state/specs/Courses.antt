@@ -18,6 +18,7 @@ Arrays = List LineRows
 abbrev no_tables : LineTables
 no_tables = record { t = []; u = [] }
 
+-- a line without rows
 abbrev pub no_rows : LineRows
 no_rows = record { w = []; v = []; n = [] }
 
@@ -25,6 +26,7 @@ no_rows = record { w = []; v = []; n = [] }
 abbrev pub tables_at : Ground → ℕ → LineTables
 tables_at g d = get_or g.lines d no_tables
 
+-- the rows of the line at place d
 abbrev pub rows_at : Arrays → ℕ → LineRows
 rows_at a d = get_or a d no_rows
 
@@ -40,6 +42,7 @@ pub record Course : Type 0 where
 abbrev no_sheet : HeldSheet
 no_sheet = record { end = pos 0; positions = []; fees = []; removals = []; needs = []; parts = 0; lanes = [] }
 
+-- the course of a line that is not there
 abbrev pub no_course : Course
 no_course = record { sheet = no_sheet; blocks = []; paid = 0; at = 0; stop = None }
 
@@ -51,6 +54,7 @@ course_in cs e = get_or cs e no_course
 abbrev pub level_slot : Ground → Arrays → ℕ → Course → Slot
 level_slot g a d c = open_slot c.sheet c.blocks (tables_at g d) (rows_at a d) c.at c.paid
 
+-- a line of this course at a stop whose removals are being decided
 abbrev pub stopped_slot : Ground → Arrays → ℕ → Course → Stop → Slot
 stopped_slot g a d c p = stop_slot c.sheet c.blocks (tables_at g d) (rows_at a d) c.at c.paid p
 

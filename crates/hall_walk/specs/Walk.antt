@@ -23,13 +23,15 @@ use Rattle.hall_walk.specs.declared.Tally.{Tally}
 abbrev pub search_of : Tally → Search
 search_of t = record { count = t.count; cost = t.cost; mask = 0 }
 
--- the spots by their questions
+-- where the crew's call is asked at the step
 abbrev pub call_at : ℕ → ℕ → Spot
 call_at step total = record { asks = CrewCall; step = step; line = 0; total = total }
 
+-- where a stop is asked of the lines from this place on
 abbrev pub line_at : ℕ → ℕ → ℕ → Spot
 line_at step line total = record { asks = LineStop; step = step; line = line; total = total }
 
+-- where a removal at this stop of the line is asked
 abbrev pub removal_at : ℕ → ℕ → Stop → ℕ → Spot
 removal_at step line stop total = record { asks = PartRemoval stop; step = step; line = line; total = total }
 

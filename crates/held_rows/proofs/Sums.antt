@@ -1,5 +1,5 @@
 -- The lanes' least prices after one decision more. A yes and a removal change nothing to any lane; where a stop is shut to a lane, it is as good as no stop; where it is not, it is as good as undecided.
--- And they are all there exactly where the terms are.
+-- The least prices are all there exactly where the terms are.
 use Prim.Native.Nat.{ℕ, zero, suc, ◌+◌, ◌<◌}
 use mathlib.Core.Path.{◌≡◌, refl, sym, ap, ap₂, subst, ◌∙◌}
 use mathlib.Core.Bool.{Bool, true, false, cond}

@@ -77,6 +77,7 @@ idles_tell h s s' l l' is e =
 abbrev pub KnownOpening : ℕ → ℕ → Opening → Type 0
 KnownOpening h before o = KnownStep h before o.step × (o.fee ≤ 1000000)
 
+-- what is accepted as an opening is known, and its text is what was read
 pub opening_tells : (h before : ℕ) → Tells (opening h before) (KnownOpening h before) opening_text
 unfolding opening return opening_text
 opening_tells h before s s' l l' o e =
@@ -223,14 +224,17 @@ lines_tell s s' l l' g e =
 
 -- ---- the text
 
+-- what an accepted job text says is valid
 pub valid_text : (s : List ℕ) (t : JobText) → read_job_text s ≡ accepted t → ValidText t
 valid_text s t e = let a = accepted_is max_bytes job_lines s t e in (lines_tell s [] 1 a.last t a.lines).known
 
+-- an accepted job text is the rendering of what it says
 pub text_is : (s : List ℕ) (t : JobText) → read_job_text s ≡ accepted t → s ≡ job_text_lem t
 text_is s t e = let a = accepted_is max_bytes job_lines s t e in (lines_tell s [] 1 a.last t a.lines).text ∙ append-nil (job_text_lem t)
 
 -- ---- what it means
 
+-- what an accepted job text means is valid
 pub valid : (s : List ℕ) (g : Given) → read_job_lem s ≡ accepted g → Valid g
 valid s g e = go (read_job_text s) refl
   where

@@ -51,6 +51,7 @@ idles_complete h (Some is) high few r some s l e =
 
 -- ---- openings
 
+-- the text of a known opening is read as this opening
 pub opening_complete : (h before : ℕ) → Complete (opening h before) opening_text (KnownOpening h before)
 unfolding opening return opening_text
 opening_complete h before o k s l =
@@ -62,6 +63,7 @@ opening_complete h before o k s l =
           ∙ bind_good (checked 4 (rising before h) (row "opening=" 1 365)) _ a.1 ∙ bind_good (row "fee=" 0 1000000) _ b.1,
     )
 
+-- valid openings that rise are each known behind the one before
 pub openings_chained : (h before : ℕ) (os : List Opening) → All ValidOpening os → Rising before h (steps_of os) → Chained (KnownOpening h) step_of before os
 openings_chained h before [] v r = tt
 openings_chained h before (o ∷ os) v r =
@@ -140,6 +142,7 @@ lines_back t v s l next =
           ∙ bind_good (optional "walk=" 0 4000000000) _ c.1 ∙ bind_good (row "openings=" 0 64) _ d.1 ∙ f.1,
     )
 
+-- the text of a valid job is read as this job
 pub read_back : (t : JobText) → ValidText t → read_job_text (job_text_lem t) ≡ accepted t
 read_back t v =
     let r = lines_back t v [] 1 behind_none in

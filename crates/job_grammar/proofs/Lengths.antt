@@ -109,6 +109,7 @@ walk_short : (o : Option ℕ) → Allowed o → length (optional_text (line_of "
 walk_short None v = omega arith
 walk_short (Some w) v = omega (arith, key_length, line_short (bytes "walk=") 9 w (omega (arith, v)))
 
+-- the text of a valid job has at most `longest` bytes
 pub text_short : (t : JobText) → ValidText t → length (job_text_lem t) ≤ longest
 unfolding job_text_lem body_text joined
 text_short t v =

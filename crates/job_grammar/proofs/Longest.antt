@@ -58,6 +58,7 @@ parts_after before (suc n) = longest_part (suc before) ∷ parts_after (suc befo
 pub longest_text : JobText
 longest_text = record { horizon = 365; idles = Some (steps_after 0 365); walk = Some 4000000000; openings = openings_after 301 64; parts = parts_after 0 16 }
 
+-- the bound of a job text's bytes is reached
 pub reached : length (job_text_lem longest_text) ≡ longest
 unfolding longest_text longest_part parts_after others steps_after openings_after job_text_lem body_text idles_text opening_text part_text cover_text quote_text line bytes decimal_in
 reached = refl

@@ -43,6 +43,7 @@ module _ (n : ℕ) where
   lows_ordered [] s = tt
   lows_ordered (p ∷ ps) s = (low_to_high n p.prices s.0, lows_ordered ps s.1)
 
+-- what a valid text means is valid, at the low ends too
 pub meant_valid : (t : JobText) → ValidJob (meant t).job → All (Spelt (length t.openings)) t.parts → Valid (meant t)
 meant_valid t v s =
     let n = length t.openings in

@@ -71,6 +71,7 @@ lines_numbers =
     (λ is. bind_numbers JobFault _ _ (optional_numbers JobFault two three _ 0 4000000000)
     (λ w. bind_numbers JobFault _ _ (line_numbers _ 0 64) (λ n. body_numbers h is w n))))
 
+-- a job text's fault has one of a job's numbers, and its line is at most one behind the longest text's last
 pub fault : (s : List ℕ) (n l : ℕ) → read_job_lem s ≡ refused n l → JobFault n × (l ≤ max_bytes + 1)
 fault s n l e = go (read_job_text s) refl
   where

@@ -14,6 +14,7 @@ unfolding idle_lines
 some_idles [] h = absurd (omega arith)
 some_idles (i ∷ is) h = refl
 
+-- idle steps are what their lines say
 pub idle_steps_lem2 : (is : List ℕ) → is ≡ idle_in (idle_lines is)
 unfolding idle_lines
 idle_steps_lem2 [] = refl

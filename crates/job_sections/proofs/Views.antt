@@ -75,6 +75,7 @@ lines_priced n s p =
 abbrev Done : ℕ → ℕ → List PartSaid → List Part → List Part → Type 0
 Done m n ss ps rs = (q : ℕ) → q < m → part_of_lem n (get_or rs q blank_part_lem) ≡ priced n (get_or ss q blank_said) (part_of_lem n (get_or ps q blank_part_lem))
 
+-- parts that differ by the prices of their rules alone say the same lines
 pub lines_same : (n m : ℕ) (ss : List PartSaid) (ps rs : List Part) → length rs ≡ length ps → Done m n ss ps rs → parts_lines (take m ss) (map (part_of_lem n) (take m ps)) ≡ parts_lines (take m ss) (map (part_of_lem n) (take m rs))
 unfolding parts_lines
 lines_same n zero ss ps rs e h = refl
@@ -85,6 +86,7 @@ lines_same n (suc m) (s ∷ ss) (p ∷ ps) [] e h = absurd (omega arith)
 lines_same n (suc m) (s ∷ ss) (p ∷ ps) (r ∷ rs) e h =
     ap₂ ◌∷◌ (sym (ap (part_lines_lem s) (h 0 (omega arith)) ∙ lines_priced n s (part_of_lem n p))) (lines_same n m ss ps rs (omega arith) (λ q l. h (suc q) (omega arith)))
 
+-- the lines of the parts mean the parts with the prices of their rules
 pub lines_mean : (n m : ℕ) (ss : List PartSaid) (ps rs : List Part) → length rs ≡ length ps → m ≤ length ss → Done m n ss ps rs → Meant n ss ps → map (meant_part n) (parts_lines (take m ss) (map (part_of_lem n) (take m ps))) ≡ map (part_of_lem n) (take m rs)
 unfolding parts_lines
 lines_mean n zero ss ps rs e l h v = refl

@@ -21,6 +21,7 @@ use Rattle.base.proofs.Lists.{all_at, map_at, firsts_size, firsts_at}
 abbrev pub blank_opening : Opening
 blank_opening = record { step = 0; fee = 0 }
 
+-- the record at place i of the struct's openings, a blank one past their end
 abbrev pub opening_at : Job → ℕ → Opening
 opening_at j i = get_or j.openings i blank_opening
 

@@ -35,5 +35,6 @@ plan_same : (s t : List ℕ) → judge_said s (take (suc (limit_of Plan)) t) ≡
 unfolding judge_said
 plan_same s t = ⊎_elim (λ e. ap (judge_said s) e) (λ h. plan_over s _ t (read_job_lem s) h.0 h.1) (cut (limit_of Plan) t)
 
+-- texts cut a byte behind their limits are answered as the whole texts
 pub same : (s t : List ℕ) → judge_said (take (suc (limit_of Job)) s) (take (suc (limit_of Plan)) t) ≡ judge_said s t
 same s t = job_same s (take (suc (limit_of Plan)) t) ∙ plan_same s t

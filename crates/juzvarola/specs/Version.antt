@@ -5,9 +5,11 @@ use Rattle.std.specs.Prelude.{ℕ, ◌+◌, ◌*◌}
 abbrev pub major : ℕ
 major = 0
 
+-- the version's second number
 abbrev pub minor : ℕ
 minor = 13
 
+-- the version's third number
 abbrev pub patch : ℕ
 patch = 0
 

@@ -16,6 +16,7 @@ use Rattle.lines.proofs.Parsing.{bind_good, bind_fault, InRow, row_in, optional_
 use Rattle.lines.proofs.Outcomes.{not_both}
 use Rattle.lines.proofs.Written.{Stands, line_written}
 
+-- what the parser accepts is the value's text, and what it leaves
 abbrev pub Sound : {A : Type 0} → Parser A → (A → List ℕ) → Type 0
 Sound {A} p w = (s s' : List ℕ) (l l' : ℕ) (a : A) → p s l ≡ good a s' l' → s ≡ w a ++ s'
 
@@ -116,6 +117,7 @@ chain_sound p next w so (suc n) prev s s' l l' xs h =
 
 -- ---- what is known of an accepted value
 
+-- each value that the parser accepts has the property
 abbrev pub Gives : {A : Type 0} → Parser A → (A → Type 0) → Type 0
 Gives {A} p P = (s s' : List ℕ) (l l' : ℕ) (a : A) → p s l ≡ good a s' l' → P a
 
@@ -185,6 +187,7 @@ rising_tells n key hi most before s s' l l' v e =
 
 -- ---- a whole text
 
+-- a text that is read whole, as this value
 pub record Accepted {A : Type 0} (most : ℕ) (p : Parser A) (s : List ℕ) (a : A) : Type 0 where
   -- the text has at most as many bytes as are allowed
   pub few : length s ≤ most

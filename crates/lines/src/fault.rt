@@ -9,7 +9,7 @@ ghost use Rattle.lines.specs.Fault.{number_of_lem};
 pub enum FaultKind {
     // The text has too many bytes.
     TooLong,
-    // It is not the line that stands here, or not well formed, or the text goes on behind its last line.
+    // The line is not the one due here, or not well formed, or the text goes on behind its last line.
     Form,
     // A value is out of its range.
     Range,

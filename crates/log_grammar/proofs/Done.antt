@@ -32,6 +32,7 @@ select_front (suc n) (x ∷ xs) [] h = refl
 select_front (suc n) (x ∷ xs) (false ∷ cs) h = select_front n xs cs (λ k e. omega (arith, h (suc k) e))
 select_front {A} (suc n) (x ∷ xs) (true ∷ cs) h = ap (λ (l : List A). x ∷ l) (select_front n xs cs (λ k e. omega (arith, h (suc k) e)))
 
+-- changes before a step have the same positions in the job up to there
 pub positions_front : (job : Job) (n : ℕ) (changes : List Bool) → Before n changes → select (positions (job_to n job)) (take n changes) ≡ select (positions job) changes
 unfolding clock
 positions_front job n changes h =

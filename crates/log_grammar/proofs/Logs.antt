@@ -101,6 +101,7 @@ pub record Tells (job : Job) (s : List ℕ) (t : LogText) : Type 0 where
   -- the log's plan at the openings that are past is the plan of the text's lines
   pub front : plan_front (passed job t.step) (log_of job t).plan ≡ t.stated.plan
 
+-- what is accepted as a log is valid, and its text is what was read
 pub log_tells : (job : Job) → ValidJob job → (s : List ℕ) (t : LogText) → read_log job s ≡ accepted t → Tells job s t
 unfolding log_lines return log_text_lem plan_lines_of
 log_tells job ok s t e =

@@ -21,11 +21,13 @@ unfoldable pub open_to : ℕ → List Bool → List Bool
 open_to zero p = []
 open_to (suc n) p = get_or p 0 true ∷ open_to n (drop 1 p)
 
+-- the openings still open are as many marks as there are openings
 pub open-size : (n : ℕ) (p : List Bool) → length (open_to n p) ≡ n
 unfolding open_to
 open-size zero p = refl
 open-size (suc n) p = ap suc (open-size n (drop 1 p))
 
+-- an opening is open where it was decided with a stop, or is not decided yet
 pub open_at : (n : ℕ) (p : List Bool) (i : ℕ) → i < n → get_or (open_to n p) i false ≡ get_or p i true
 unfolding open_to
 open_at zero p i h = absurd (omega arith)
@@ -38,6 +40,7 @@ unfolding open_to select
 open-all [] = refl
 open-all (s ∷ ss) = ap (λ (l : List ℤ). s ∷ l) (open-all ss)
 
+-- what is open is the chosen of the decided, and all of the undecided
 pub open-split : (ss : List ℤ) (p : List Bool) → select ss (open_to (length ss) p) ≡ select ss p ++ drop (length p) ss
 unfolding open_to select
 open-split [] [] = refl

@@ -1,5 +1,5 @@
 -- What the call promises, over the job text, the walk number of the call, the room lent and the answer.
--- It is no equation: which floor is said with 7, how many of the planner's first nodes are looked at for a plan in hand, and whether 7 is said, is free within these sentences.
+-- The promise is no equation: which floor is said with 7, how many of the planner's first nodes are looked at for a plan in hand, and whether 7 is said, is free within these sentences.
 use Rattle.std.specs.Prelude.{ℕ, ◌≤◌, ◌<◌, ◌≡◌, Option, None, Some, List, ◌++◌, ◌↔◌, ◌⊎◌, length}
 use Rattle.lines.specs.Text.{line_of}
 use Rattle.lines.specs.Parser.{refused}

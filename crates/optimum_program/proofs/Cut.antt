@@ -36,6 +36,7 @@ moved s t n x r = record {
   bytes = r.bytes;
 }
 
+-- what is promised for a text over the limit is promised for every other
 pub over : (walk room : ℕ) (s t : List ℕ) (x : Said) → limit_of Job < length s → limit_of Job < length t → OptimumPromise s walk room x → OptimumPromise t walk room x
 over walk room s t x h k p = record {
   says_8 = p.says_8;

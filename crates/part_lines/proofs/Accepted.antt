@@ -38,6 +38,7 @@ known_cover m n k p v = go p.cover v.0.removal v.0.few_holders v.1
     go None r f h = tt
     go (Some c) r f h = record { removal = r; few = f; holders = h }
 
+-- what is accepted as a part is known, and its text is what was read
 pub part_tells : (m n k : ℕ) → Tells (part m n k) (KnownPart m n k) part_text
 unfolding part after_left return part_text
 part_tells m n k s s' l l' p e =

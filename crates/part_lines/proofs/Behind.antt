@@ -13,6 +13,7 @@ use Rattle.part_lines.specs.Grammar.{PartText}
 use Rattle.part_lines.specs.Rendering.{part_text}
 use Rattle.part_lines.specs.Behind.{Behind}
 
+-- no bytes may stand behind a part's lines
 pub behind_none : Behind []
 unfolding starts_with bytes
 behind_none = record { removal = refl; base = refl }

@@ -20,6 +20,7 @@ use Rattle.part_lines.specs.Behind.{Behind}
 use Rattle.part_lines.proofs.Accepted.{known_cover}
 use Rattle.part_lines.proofs.Behind.{prices_next}
 
+-- the lines of a known part are read as this part
 pub part_complete : (m n k : ℕ) → m ≤ 16 → (p : PartText) → KnownPart m n k p → (s : List ℕ) (l : ℕ) → Behind s → (l' : ℕ) × (part m n k (part_text p ++ s) l ≡ good p s l')
 unfolding part after_left return part_text
 part_complete m n k most p known s l next =

@@ -61,6 +61,7 @@ unfolding rule_text bytes
 prices_short (by_list qs) few = omega (arith, few, texts_short (λ _. Unit {0}) quote_text 31 (λ q _. quote_short q) qs (all_any qs))
 prices_short (by_rule_lem r) few = simp length-append (omega (arith, short "base=" 5 r.base refl, short "drop=" 5 r.drop refl, short "least=" 6 r.least refl))
 
+-- a part's lines have at most 2,323 bytes
 pub part_short : (p : PartText) → FewListed 64 p.prices → length (part_cut_lem p) ≤ 2323
 unfolding part_cut_lem bytes
 part_short p few = simp length-append (omega (arith, short "life=" 5 p.life refl, short "left=" 5 p.left refl, cover_short p.cover, prices_short p.prices few))

@@ -25,10 +25,12 @@ use Rattle.part_writing.specs.declared.Prices.TheVariants.{ByRule, Listed}
 
 -- ---- lines of removal
 
+-- over fifteen parts inside are written as their number alone: it is at fault
 pub inside_many : (hs : List ℕ) → 15 < length hs → inside_cut hs ≡ line_of "inside=" (length hs)
 unfolding inside_cut
 inside_many hs h = rw (lt-leb (length hs) 15 h) (append-nil (line_of "inside=" (length hs)))
 
+-- up to fifteen parts inside are written as their number and a line each
 pub inside_few : (hs : List ℕ) → length hs ≤ 15 → inside_cut hs ≡ line_of "inside=" (length hs) ++ texts (line_of "holder=") hs
 unfolding inside_cut
 inside_few hs h = rw (le-leb (length hs) 15 h)
@@ -50,16 +52,19 @@ pub cover_there : (o : Option Cover) (c : Cover) → o ≡ Some c → optional_t
 unfolding cover_said cover_cut
 cover_there o c e = rw e refl
 
+-- a part without lines of removal has none written
 pub cover_gone : (o : Option Cover) → o ≡ None → optional_text cover_cut (cover_said o) ≡ []
 unfolding cover_said
 cover_gone o e = rw e refl
 
 -- ---- prices
 
+-- prices by a rule are written as the rule's lines
 pub said_ruled : (p : Prices) (r : Rule) → p ≡ ByRule r → prices_text (prices_said p) ≡ rule_text (rule_of r)
 unfolding prices_said
 said_ruled p r e = rw e refl
 
+-- prices from a list are written as its lines
 pub said_listed : (p : Prices) (q : QuoteLists) → p ≡ Listed q → prices_text (prices_said p) ≡ texts quote_text (quotes_said q)
 unfolding prices_said
 said_listed p q e = rw e refl

@@ -85,5 +85,6 @@ text_tells job (b ∷ s) stated e = let a = accepted_is max_bytes (plan_lines jo
 nothing_valid : (job : Job) → Valid job (nothing job)
 nothing_valid job = record { cost = omega arith; vs = []; visits = no_visits job; makes = refl }
 
+-- what an accepted plan text says is valid
 pub valid : (job : Job) (s : List ℕ) (stated : Stated) → read_plan_lem job s ≡ accepted stated → Valid job stated
 valid job s stated e = ⊎_elim (λ n. subst (Valid job) n.1 (nothing_valid job)) (λ r. r.valid) (text_tells job s stated e)

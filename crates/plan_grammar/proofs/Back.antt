@@ -158,6 +158,7 @@ visits_found job vs before (u ∷ us) c a =
       visits_found job vs u.step us c.1 a.1,
     )
 
+-- the visits of the plan that some visits make are these visits
 pub visits_back : (job : Job) → ValidJob job → (vs : List Visit) → ValidVisits job vs → visits_of job (plan_of job vs) ≡ vs
 unfolding visits_of plan_of
 visits_back job ok vs v =

@@ -40,6 +40,7 @@ lines_numbers job =
     (λ cost. bind_numbers PlanFault _ _ (line_numbers _ 0 64)
     (λ n. bind_numbers PlanFault _ _ (chain_numbers PlanFault (visit job) _ (visit_numbers job) n 0) (λ vs. return_numbers PlanFault _)))
 
+-- a plan text's fault has one of a plan's numbers, and its line is at most one behind the longest text's last
 pub fault : (job : Job) (s : List ℕ) (n l : ℕ) → read_plan_lem job s ≡ refused n l → PlanFault n × (l ≤ 32769)
 unfolding read_plan_lem
 fault job [] n l e = not_both refl e

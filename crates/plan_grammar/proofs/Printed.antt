@@ -129,6 +129,7 @@ some_bytes : (job : Job) (cost : ℕ) (plan : Plan) → 1 ≤ length (plan_lines
 unfolding plan_lines_of plan_text_lem line bytes
 some_bytes job cost plan = omega arith
 
+-- the text of a plan with its cost is read as this plan and cost
 pub read_back : (job : Job) → ValidJob job → (cost : ℕ) (plan : Plan) → cost ≤ 4000000000 → Shaped job plan → read_plan_lem job (plan_lines_of job cost plan) ≡ accepted (record { cost = cost; plan = plan })
 read_back job ok cost plan h shape =
     let r = lines_back job ok cost plan h shape [] 1 in

@@ -22,6 +22,7 @@ pub nothing_rendered : (job : Job) → ValidJob job → bytes "cost=0\nstops=0\n
 unfolding bytes line decimal_in plan_text_lem plan_lines_of
 nothing_rendered job ok = ap (plan_text_lem 0) (sym (visits_back job ok [] (no_visits job)))
 
+-- an accepted plan text is empty, or the rendering of what it says
 pub text_is : (job : Job) → ValidJob job → (s : List ℕ) (stated : Stated) → read_plan_lem job s ≡ accepted stated
     → ((s ≡ []) × (nothing job ≡ stated)) ⊎ (s ≡ plan_lines_of job stated.cost stated.plan)
 text_is job ok s stated e = ⊎_elim inl (λ (r : Lines job s [] stated). inr (r.text ∙ append-nil (plan_text_lem stated.cost r.valid.vs) ∙ rendered job ok stated r.valid)) (text_tells job s stated e)

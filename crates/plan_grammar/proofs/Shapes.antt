@@ -26,11 +26,13 @@ any_weaker p q h (x ∷ xs) e = go (p x) refl (any_weaker p q h xs)
     go true f rest = rw (h x f)
     go false f rest = rw (rest (rw (any, f) at e)) (or-true (q x))
 
+-- the mark of opening i is the test's answer at its step
 pub openings_at_lem : (job : Job) (test : ℕ → Bool) (i : ℕ) → i < length job.openings → get_or (openings_at job test) i false ≡ test (step_at job i)
 openings_at_lem job test i h =
     ap (λ (xs : List Bool). get_or xs i false) (openings-table job test)
     ∙ table_at (λ j. test (step_at job j)) (length job.openings) i false h
 
+-- the plan that some visits make has the job's shape
 pub made_shaped : (job : Job) (vs : List Visit) → Shaped job (plan_of job vs)
 unfolding plan_of
 made_shaped job vs = record {
@@ -54,5 +56,6 @@ made_shaped job vs = record {
         ∙ any_weaker (λ (v : Visit). eqb v.step (step_at job i) && among v.parts (k + 1)) (λ (v : Visit). eqb v.step (step_at job i)) (λ v g. ((and-eq-true_iff (eqb v.step (step_at job i)) (among v.parts (k + 1))).0 g).0) vs
         (sym (openings_at_lem job (changed vs (k + 1)) i i<) ∙ f)
 
+-- the plan of an accepted text has the job's shape
 pub shaped : (job : Job) (s : List ℕ) (stated : Stated) → read_plan_lem job s ≡ accepted stated → Shaped job stated.plan
 shaped job s stated e = let v = valid job s stated e in subst (Shaped job) v.makes (made_shaped job v.vs)

@@ -37,6 +37,7 @@ pub record ValidVisit (job : Job) (before : ℕ) (v : Visit) : Type 0 where
 abbrev pub step_of : Visit → ℕ
 step_of v = v.step
 
+-- visits that a plan text may have: at most 64, rising, each valid
 pub record ValidVisits (job : Job) (vs : List Visit) : Type 0 where
   -- there are at most 64 visits, as many as openings there may be
   pub few : length vs ≤ 64

@@ -46,6 +46,7 @@ pub low_due : (g : Given) (plan : model.Plan) (c : ℕ) → g.banded ≡ true �
 unfolding low_lines
 low_due g plan c e f = ap (line_of "costlow=") f ∙ ap (λ (b : Bool). cond b (line_of "costlow=" (cost_of_lem g.low plan)) []) (sym e)
 
+-- without a `low` line no `costlow` line is printed
 pub low_none : (g : Given) (plan : model.Plan) → g.banded ≡ false → [] ≡ low_lines g plan
 unfolding low_lines
 low_none g plan e = ap (λ (b : Bool). cond b (line_of "costlow=" (cost_of_lem g.low plan)) []) (sym e)

@@ -11,6 +11,7 @@ use Rattle.planning.specs.Plan.{on_job, plan_said}
 use Rattle.whole_input.specs.declared.Text.TheVariants.{Job}
 use Rattle.whole_input.specs.Limits.{limit_of}
 
+-- two texts over the limit are answered alike
 pub over : (walk : ℕ) (s t : List ℕ) → limit_of Job < length s → limit_of Job < length t → plan_said s walk ≡ plan_said t walk
 unfolding plan_said fault_span_lem
 over walk s t h k =

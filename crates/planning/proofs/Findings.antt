@@ -8,6 +8,7 @@ use Rattle.planning.specs.Finding.{answer_in, Fits}
 use Rattle.planning.specs.declared.Finding.{Finding}
 use Rattle.planning.specs.declared.Finding.TheVariants.{NoPlan, Optimum, Cut, CutBare}
 
+-- the numbers of an answer in the planner's ranges fit the finding's types
 pub fits : (plan : Plan) (limit : ℕ) → limit ≤ most_walk → (f : Finding) → Ranged limit (answer_in plan f) → Fits f
 fits plan limit l NoPlan r = tt
 fits plan limit l (Optimum nodes floor cost) r = (omega (arith, r.0), omega (arith, r.1), omega (arith, r.2))

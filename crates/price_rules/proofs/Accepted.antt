@@ -34,6 +34,7 @@ after_base_tells b s s' l l' r e =
           ∙ ap (λ (t : List ℕ). line_of "drop=" d.a ++ t) (row_sound _ 1 1000000 d.mid f.mid d.at f.at f.a f.first ∙ ap (λ (t : List ℕ). line_of "least=" f.a ++ t) y));
     })
 
+-- what is accepted as a rule is valid, and its text is what was read
 pub rule_tells : Tells rule ValidLines (optional_text rule_text)
 unfolding rule if_present return rule_text
 rule_tells s s' l l' o e =
@@ -60,6 +61,7 @@ rule_tells s s' l l' o e =
               ∙ ap (λ (u : List ℕ). line_of "base=" d.a.base ++ u) (t.text ∙ append_assoc (line_of "drop=" d.a.drop) (line_of "least=" d.a.least) d.mid ∙ ap (λ (u : List ℕ). line_of "drop=" d.a.drop ++ (line_of "least=" d.a.least ++ u)) y));
         })
 
+-- what is accepted as prices is valid, and their text is what was read
 pub prices_tells : (n : ℕ) → Tells (prices n) (ValidPrices n) prices_text
 unfolding prices unless_ruled times return
 prices_tells n s s' l l' p e =

@@ -43,6 +43,7 @@ list_next [] s e = e
 list_next (single p ∷ qs) s e = refl
 list_next (pair l h ∷ qs) s e = refl
 
+-- the text of valid prices is read as these prices
 pub prices_complete : (n : ℕ) (p : Prices) → ValidPrices n p → (s : List ℕ) (l : ℕ) → starts_with (bytes "base=") s ≡ false → (l' : ℕ) × (prices n (prices_text p ++ s) l ≡ good p s l')
 unfolding prices unless_ruled times return
 prices_complete n (by_list qs) v s l e =

@@ -20,6 +20,7 @@ key_length : (length (bytes "base=") ≡ 5) × (length (bytes "drop=") ≡ 5) ×
 unfolding bytes
 key_length = (refl, refl, refl)
 
+-- a rule's lines have at most 40 bytes
 pub rule_short : (r : Rule) → ValidRule r → length (rule_text r) ≤ 40
 unfolding rule_text
 rule_short r v =
@@ -32,6 +33,7 @@ rule_short r v =
       line_short (bytes "least=") 6 r.least (omega (arith, v.least_high)),
     ))
 
+-- the bound of a rule's lines is reached
 pub rule_longest : length (rule_text (record { base = 1000000; drop = 1000000; least = 1000000 })) ≡ 40
 unfolding rule_text line bytes decimal_in
 rule_longest = refl

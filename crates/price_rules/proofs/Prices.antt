@@ -35,6 +35,7 @@ larger_is a b m (negsuc n) e = ap pos (let y : max (a - b) m ≡ m = omega (arit
 pub rule_is : (r : Rule) (k : ℕ) → pos (rule_price r k) ≡ stated_price r k
 rule_is r k = larger_is r.base (k * r.drop) r.least (pos r.base -ℤ pos k *ℤ pos r.drop) (let e = difference (pos r.base) (pos (k * r.drop)) in omega (arith, e))
 
+-- the price of a valid rule is a valid price at each opening
 pub rule_valid : (r : Rule) (k : ℕ) → ValidRule r → ValidPrice (rule_price r k)
 rule_valid r k v = (omega (arith, v), omega (arith, v))
 
@@ -71,6 +72,7 @@ all_ends : (f : Quote → ℕ) → ((q : Quote) → ValidQuote q → ValidPrice 
 all_ends f h [] v = tt
 all_ends f h (q ∷ qs) v = (h q v.0, all_ends f h qs v.1)
 
+-- the prices that valid prices mean are valid
 pub meant_valid : (n : ℕ) (p : Prices) → ValidPrices n p → All ValidPrice (meant_prices n p)
 meant_valid n (by_list qs) v = all_ends high_end (λ q w. w.high) qs v.1
 meant_valid n (by_rule_lem r) v = rule_all r n v
@@ -80,10 +82,12 @@ pub low_length : (n : ℕ) (p : Prices) → ValidPrices n p → length (low_pric
 low_length n (by_list qs) v = length-map qs low_end ∙ v.0
 low_length n (by_rule_lem r) v = rule_length r n
 
+-- the low ends of valid prices are valid prices
 pub low_valid : (n : ℕ) (p : Prices) → ValidPrices n p → All ValidPrice (low_prices_lem n p)
 low_valid n (by_list qs) v = all_ends low_end (λ q w. w.low) qs v.1
 low_valid n (by_rule_lem r) v = rule_all r n v
 
+-- no low end is above the price at the same opening
 pub low_to_high : (n : ℕ) (p : Prices) → ValidPrices n p → Each ◌≤◌ (low_prices_lem n p) (meant_prices n p)
 low_to_high n (by_list qs) v = go qs v.1
   where
@@ -101,14 +105,17 @@ pub singles_mean : (ps : List ℕ) → map high_end (map single ps) ≡ ps
 singles_mean [] = refl
 singles_mean (p ∷ ps) = ap (λ (qs : List ℕ). p ∷ qs) (singles_mean ps)
 
+-- the low ends of single prices are the prices
 pub singles_low : (ps : List ℕ) → map low_end (map single ps) ≡ ps
 singles_low [] = refl
 singles_low (p ∷ ps) = ap (λ (qs : List ℕ). p ∷ qs) (singles_low ps)
 
+-- single prices are valid quotes where they are valid prices
 pub singles_valid : (ps : List ℕ) → All ValidPrice ps → All ValidQuote (map single ps)
 singles_valid [] v = tt
 singles_valid (p ∷ ps) v = (record { low = v.0; high = v.0; ordered = omega arith }, singles_valid ps v.1)
 
+-- none of some single prices is a pair
 pub singles_plain : (ps : List ℕ) → any_pair (map single ps) ≡ false
 unfolding any_pair
 singles_plain [] = refl
@@ -124,6 +131,7 @@ pub record WrittenOut (n : ℕ) (p : Prices) : Type 0 where
   -- written out, a `low` line stands among them exactly where one stood before
   pub banded : banded_prices (written_out_lem n p) ≡ banded_prices p
 
+-- valid prices, with a rule's lines written out, are valid and mean the same
 pub written_out : (n : ℕ) (p : Prices) → ValidPrices n p → WrittenOut n p
 written_out n (by_list qs) v = record { valid = v; high = refl; low = refl; banded = refl }
 written_out n (by_rule_lem r) v = record {

@@ -12,6 +12,7 @@ use Rattle.quotes.specs.Grammar.{single, pair, at_least, unless_low, quote}
 use Rattle.quotes.specs.Rendering.{quote_text}
 use Rattle.quotes.specs.Valid.{ValidQuote}
 
+-- what is accepted as a quote is valid, and its text is what was read
 pub quote_tells : Tells quote ValidQuote quote_text
 unfolding quote unless_low return quote_text
 quote_tells s s' l l' q e =

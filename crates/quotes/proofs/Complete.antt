@@ -19,6 +19,7 @@ no_low : (p : ℕ) (s : List ℕ) → starts_with (bytes "low=") (line_of "price
 unfolding starts_with line bytes
 no_low p s = refl
 
+-- the text of a valid quote is read as this quote
 pub quote_complete : (q : Quote) → ValidQuote q → (s : List ℕ) (l : ℕ) → (l' : ℕ) × (quote (quote_text q ++ s) l ≡ good q s l')
 unfolding quote unless_low return quote_text
 quote_complete (single p) v s l =

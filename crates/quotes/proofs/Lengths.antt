@@ -17,6 +17,7 @@ key_length : (length (bytes "price=") ≡ 6) × (length (bytes "low=") ≡ 4) ×
 unfolding bytes
 key_length = (refl, refl, refl)
 
+-- a quote's lines have at most `most_quote` bytes
 pub quote_short : (q : Quote) → ValidQuote q → length (quote_text q) ≤ most_quote
 unfolding quote_text
 quote_short (single p) v = omega (arith, key_length, line_short (bytes "price=") 6 p (omega (arith, v.high)))

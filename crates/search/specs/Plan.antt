@@ -16,6 +16,7 @@ choice_at e ss part stops = choice_of (pos part.life) e (last_change_lem part) (
 abbrev pub row_of : FlatJob → List Bool → ℕ → List Bool
 row_of j stops q = choice_at j.end j.positions.now (lane_part (length j.positions.now) j.lives.now j.lefts.now j.prices.now q) stops ++ replicate (most_openings - length j.positions.now) false
 
+-- a part without a change
 abbrev pub no_row : Changes
 no_row = record { at = replicate most_openings false }
 

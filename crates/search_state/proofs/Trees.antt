@@ -48,6 +48,7 @@ stopped_view L name s h = go (ltb L s.count) refl
 
 -- ---- a node's fees, removals and term, with which its part sums e make its bound
 
+-- what is due at a node makes its bound with the part sums, and both fit
 pub record DueAt (T : Tree) (e : Bound) (due : ℕ) : Type 0 where
   -- where the part sums are Missing so is the tree's bound
   pub none : e ≡ Missing → bound_at T ≡ Missing

@@ -31,6 +31,7 @@ all_up_to_lem b [] e j = omega arith
 all_up_to_lem b (x ∷ l) e zero = leb-true x b (both (leb x b) (all_up_to b l) e).0
 all_up_to_lem b (x ∷ l) e (suc j) = all_up_to_lem b l (both (leb x b) (all_up_to b l) e).1 j
 
+-- a job of four openings and two parts
 abbrev pub job : Job
 job =
     record {

@@ -1,5 +1,5 @@
 -- The call's answer keeps its promise on every pair of texts and every room (`promised`): faults as of the judge; else the answer to the job and the stops, whose plan lines are read back and accepted by the judge.
--- And of plan texts with the same stops it says the same (`only_stops`).
+-- Plan texts with the same stops get the same answer (`only_stops`).
 use Prim.Native.Nat.{ℕ, ◌≤◌, ◌<◌}
 use mathlib.Core.Path.{◌≡◌, refl, sym, ap, ◌∙◌}
 use mathlib.Core.Bool.{Bool}

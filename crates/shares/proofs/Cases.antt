@@ -18,6 +18,7 @@ use Rattle.shares.specs.Optimum.{shared_bound, shared_answer}
 abbrev pub openings : List Opening
 openings = record { step = 1; fee = 6 } ∷ record { step = 2; fee = 6 } ∷ record { step = 3; fee = 6 } ∷ record { step = 4; fee = 6 } ∷ []
 
+-- a job of four openings with a head that holds two of its parts
 abbrev pub job : Job
 job = record {
   horizon = 4;
@@ -46,6 +47,7 @@ twice = record {
       ∷ (false ∷ false ∷ false ∷ false ∷ []) ∷ [];
 }
 
+-- these shares are fair
 pub fair : is_fair job halves ≡ true
 unfolding all_below borne held_from accessible holding comes_out rounds holds_one listed table select sum_at offers least_of_lem choice_of within clock running
 fair = refl

@@ -6,6 +6,7 @@ use Rattle.model.specs.Model.{Job, Plan, cost_of_lem, KeepsLives}
 
 -- ---- what it says
 
+-- what a walk that knows a cost ends with
 pub data Certificate : Type 0 where
   least : (nodes : ℕ) → Certificate  -- no plan costs less
   cheaper : (nodes cost : ℕ) → Plan → Certificate  -- a plan of least cost, which is less
@@ -37,11 +38,13 @@ IsLeast (least n) = Unit {0}
 IsLeast (cheaper n c p) = ⊥
 IsLeast (further n) = ⊥
 
+-- it has a plan that costs less
 abbrev pub IsCheaper : Certificate → Type 0
 IsCheaper (least n) = ⊥
 IsCheaper (cheaper n c p) = Unit {0}
 IsCheaper (further n) = ⊥
 
+-- its walk has more nodes than the walk number
 abbrev pub IsFurther : Certificate → Type 0
 IsFurther (least n) = ⊥
 IsFurther (cheaper n c p) = ⊥

@@ -6,6 +6,7 @@ use Rattle.model.specs.LowerBound.{plan_at}
 use Rattle.shares.specs.Optimum.{tree_by}
 use Rattle.shares.specs.Certificate.{Certificate, least, cheaper, further, certify, NoneUnder}
 
+-- what cutoffs in turn end with
 pub data Risen : Type 0 where
   found : (cost : ℕ) → Plan → Risen  -- the planner's plan
   passed : Risen  -- no plan costs less than any of the cutoffs

@@ -12,6 +12,7 @@ use Rattle.whole_input.specs.Input.{Front, Whole}
 use Rattle.whole_input.specs.Limits.{limit_of}
 use Rattle.text_program.specs.Printed.{Printed}
 
+-- a program that reads a text to a byte behind its limit prints what is promised for the whole text
 pub printed_whole : {I : Type 0} {remaining : I → Option (List ℕ)} {input : Option I} {d : Done} (which : Text) (Says : List ℕ → Said → Type 0)
     → ((t : List ℕ) (x : Said) → Says (take (suc (limit_of which)) t) x → Says t x)
     → (text : List ℕ) → length text ≤ suc (limit_of which) → Front remaining input text → Whole remaining input (suc (limit_of which)) d.failed text → (s : Said) → Says text s → Prints s d.printout

@@ -24,9 +24,11 @@ use Rattle.walk.specs.State.{At, Solves}
 use Rattle.walk.proofs.Nodes.{Due, due_at, due_bound, root_given, Opened, closed_walked, open-walked}
 use Rattle.search_state.proofs.States.{found_is}
 
+-- the root's numbers: nothing decided, one row, no fee paid
 abbrev pub root : Node
 root = record { at = 0; rows = 1; spent = 0; mask = 0 }
 
+-- the search's state before the walk
 abbrev pub fresh : Search
 fresh = record { count = 0; cost = no_cost; mask = 0 }
 

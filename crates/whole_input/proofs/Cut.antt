@@ -8,6 +8,7 @@ use native.Mathlib.Decide.{dec_lt}
 use lib.ListN.{length, take}
 use lib.Seq.{take_all, length-take-le}
 
+-- a text cut a byte behind a limit is the text itself, or both are over the limit
 pub cut : (most : ℕ) (s : List ℕ) → (take (suc most) s ≡ s) ⊎ ((most < length (take (suc most) s)) × (most < length s))
 cut most s = go (dec_lt most (length s))
   where

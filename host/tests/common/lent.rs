@@ -2,7 +2,7 @@
 
 use super::forms::{self, FormCall};
 use super::rng::Rng;
-use super::Call;
+use super::{vectors, with_stack, Call};
 use juzvarola_checks::reference::{self, Reply};
 use juzvarola_host::{Answer, Count};
 
@@ -88,6 +88,18 @@ pub fn compare_optimum(rng: &mut Rng, call: &Call, most: u64) -> Result<u32, Str
     let reply = reference::optimum(&call.job, call.output, most, &out[..length.min(call.output)]);
     compare_by(rng, call, &reply, |job, _, out| juzvarola_host::optimum(job, call.walk, out))?;
     Ok(reply.result)
+}
+
+/// That a call by the library gives every vector; of these there are at least so many, or those of another file, which the variable names.
+pub fn given<V: Send + 'static>(
+    vectors: Vec<V>,
+    kept: (&'static str, usize),
+    compare: impl Fn(&mut Rng, &V) -> Result<(), String> + Send + 'static,
+) {
+    with_stack(move || {
+        let mut rng = Rng::new(4);
+        vectors::given(&vectors, kept, |vector| compare(&mut rng, vector));
+    });
 }
 
 fn compare_by(

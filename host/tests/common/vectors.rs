@@ -19,9 +19,23 @@ impl Vector {
         lines.filter_map(|line| line.strip_prefix("text=")).map(|value| value.parse().expect("a number")).next().unwrap_or(0)
     }
 
+    /// The call's second text, the plan or the log; empty where there is none.
+    pub fn second(&self) -> &[u8] {
+        self.call.plan.as_deref().unwrap_or_default()
+    }
+
+    /// Whether this is the reply that the vector expects, or where they differ.
+    pub fn is_given_by(&self, reply: Reply) -> Result<(), String> {
+        let (own, text) = (self.reply(), if reply.text == 2 { self.second() } else { &self.call.job });
+        match reply == own && text[reply.fault_start..][..reply.fault_length] == self.fault {
+            true => Ok(()),
+            false => Err(format!("{reply:?}\nnot {own:?}\n{:?}", self.call)),
+        }
+    }
+
     /// What the vector expects, as a reply.
     pub fn reply(&self) -> Reply {
-        let text: &[u8] = if self.text() == 2 { self.call.plan.as_deref().unwrap_or_default() } else { &self.call.job };
+        let text: &[u8] = if self.text() == 2 { self.second() } else { &self.call.job };
         Reply {
             result: self.result,
             text: self.text(),
@@ -107,6 +121,21 @@ pub fn line(call: &Call, reply: &Reply) -> String {
 pub fn enough(vectors: usize, variable: &str, least: usize) {
     let least = if std::env::var_os(variable).is_some() { 1 } else { least };
     assert!(vectors >= least, "only {vectors} vectors");
+}
+
+/// That every vector is given as it says: each difference is printed. Of these there are at least so many, or those of another file, which the variable
+/// names.
+pub fn given<V>(vectors: &[V], (variable, least): (&str, usize), mut compare: impl FnMut(&V) -> Result<(), String>) {
+    enough(vectors.len(), variable, least);
+    let mut differ = 0;
+    for (number, vector) in vectors.iter().enumerate() {
+        if let Err(difference) = compare(vector) {
+            println!("vector {}: {difference}", number + 1);
+            differ += 1;
+        }
+    }
+    println!("{} vectors, {differ} differ", vectors.len());
+    assert_eq!(differ, 0);
 }
 
 /// Whether a call of before the walk number came with it was refused for want of the walk line: the text has none, and `openings` stood in its place.

@@ -32,7 +32,8 @@ pub fn svg(front: &Front) -> String {
     marks.rectangle("sheet", (0.0, 0.0), (width, height), &[], "");
     marks.words("title", (16.0, 30.0), "What each number of stops costs");
     let from = front.cheapest().map_or(String::new(), |least| format!(": the least cost has {}", counted(least.stops, "stop")));
-    marks.words("verdict", (16.0, 52.0), &format!("Job {}{from}", front.name.rsplit('/').next().unwrap_or(&front.name)));
+    let proved = if front.result == 0 { "; each plan is proved the cheapest with as many" } else { "" };
+    marks.words("verdict", (16.0, 52.0), &format!("Job {}{from}{proved}", front.name.rsplit('/').next().unwrap_or(&front.name)));
     for (words, y) in [("stops", 20.0), ("changes", 37.0), ("life left", 54.0)] {
         marks.words("small end", (LEFT - 14.0, FLOOR + y), words);
     }

@@ -71,9 +71,9 @@ fn head(marks: &mut Marks, planned: &Planned) {
     let lines = counted(planned.lines.len() as u64, "line");
     let calls = counted(planned.calls().len() as u64, "call");
     let cost = planned.cost().map_or(String::new(), grouped);
-    let verdict = match planned.reply.result {
+    let verdict = match planned.result() {
         0 => "the cheapest possible (proved)".to_string(),
-        _ => format!("the best plans so far; none cost less than {}", grouped(planned.reply.value("floor").unwrap_or(0))),
+        _ => format!("the best plans so far; none cost less than {}", grouped(planned.value("floor").unwrap_or(0))),
     };
     marks.words("title", (16.0, 30.0), &format!("A hall of {lines} and one crew: {calls}, {cost} in all"));
     marks.words("verdict", (16.0, 52.0), &format!("Planned together: {verdict}."));
