@@ -88,9 +88,9 @@ typedef struct {
  * - Nothing is kept between calls and no memory is allocated. Calls on several threads at once are allowed where no `out` overlaps
  *   another call's `out`, text or list.
  * - Stack that a call needs: less than 1.5 MB, so a thread of 2 MB serves; juzvarola_hall, which has tables for four lines, 2,824 KB in the deepest walk
- *   that a text allows, so a thread of 4 MB serves. juzvarola_plan and juzvarola_optimum were measured at some 550 KB, and at 1,232 and 1,292 KB on the job
- *   whose search goes deepest (64 openings, sixteen parts that hold each other); juzvarola_write at 176 KB, juzvarola_carry at 172 KB, juzvarola_latest at
- *   164 KB, juzvarola_count and juzvarola_judge at 160 KB.
+ *   that a text allows, so a thread of 4 MB serves. juzvarola_plan and juzvarola_optimum were measured at some 550 KB, and at 1,268 KB on the job whose
+ *   search goes deepest (64 openings, sixteen parts that hold each other); juzvarola_carry at 156 KB, juzvarola_latest at 148 KB, juzvarola_write,
+ *   juzvarola_judge and juzvarola_count at 144 KB.
  */
 
 /* Plans a job: results 0 to 8, 12 and 13.
@@ -109,7 +109,7 @@ juzvarola_answer juzvarola_plan(const uint8_t *job, size_t job_len, uint64_t wal
  *               whatever the number. A number above 4000000000 counts as 4000000000.
  * Result 0: `result`, then the plan lines, with a `costlow` line before them where the job has a `low` line. No plan costs less; of the plans that cost as
  * much it is the one of juzvarola_plan, which writes the same bytes behind `floor` wherever it says 0 too.
- * Result 7: the whole search of juzvarola_plan has more nodes than the walk number or 262,144, whichever is less, and one of the walks here has more
+ * Result 7: the whole search of juzvarola_plan has more nodes than the walk number or 131,072, whichever is less, and one of the walks here has more
  * than the walk number. `result`, then `floor`: no plan costs less, and it is no lower than that of juzvarola_plan; and then, where one of the first
  * nodes of the search of juzvarola_plan (as many at least, and no more than the walk number) is a plan, the lines of the best of these, at its true cost.
  * Within this, which floor is said with 7, which plan stands behind it, and whether 7 is said, may change from version to version; a 0 has always the

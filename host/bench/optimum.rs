@@ -9,7 +9,7 @@ use std::path::Path;
 /// A job is repeated until it took this long; one that takes longer by itself is run once.
 const SECONDS: f64 = 0.2;
 /// The library's own first walk.
-const FIRST: u64 = 262_144;
+const FIRST: u64 = 131_072;
 /// The nodes of each walk for a lift.
 const LIFT: u64 = 20_000;
 const LIMIT: u64 = 4_000_000_000;
@@ -84,7 +84,7 @@ fn print_row(name: &str, cost: &str, times: &[f64], there: bool) {
 pub fn first_walks(folder: &Path, names: &[String]) {
     println!("| nodes of the first walk | no lift: ms | lift: ms | jobs that end in it |\n|---|---|---|---|");
     let files: Vec<(String, Vec<u8>)> = jobs(folder, names).iter().map(|file| (stem(file), fs::read(file).expect("a job"))).collect();
-    for first in [0, 256, 1024, 4096, 16_384, 65_536, 262_144, 1_048_576, 4_194_304] {
+    for first in [0, 256, 1024, 4096, 16_384, 65_536, 131_072, 262_144, 1_048_576, 4_194_304] {
         let (mut sums, mut ended) = ([0.0; 2], 0);
         for (name, job) in &files {
             let [without, with] = [0, LIFT].map(|lift| move |job: &[u8]| rust(job, Search { first, lift, limit: LIMIT }));

@@ -14,7 +14,7 @@ use juzvarola_host::{plan, MOST_WALK};
 const CASES: u64 = 100_000;
 
 /// The most nodes of the first walk.
-const FIRST: u64 = 262_144;
+const FIRST: u64 = 131_072;
 
 /// An answer of the planner without its `nodes` and `floor`; none where it is 7.
 fn without_walk(answer: &str) -> Option<String> {

@@ -58,6 +58,7 @@ use Rattle.delivered.proofs.Circles.{together}
 use Rattle.delivered.proofs.Demands.{judge_accepts, planner_6, planner_0}
 use Rattle.delivered.proofs.Optima.{optima_alike}
 use Rattle.delivered.proofs.FirstFaults.{job_first, plan_first, log_first, hall_first, job_spans, plan_spans, log_spans, hall_spans}
+use Rattle.delivered.proofs.Fourteen.{fourteen_line, fourteen_only}
 use Rattle.delivered.proofs.Carrying.{told, there, walk_carried, rules_carried, forms_kept}
 
 -- what is promised beside the calls' own promises holds
@@ -108,6 +109,8 @@ delivered = record {
   E14_2_exactly = halls-exactly;
   E14_10_lines = λ text t e. (accepted_proper text t e, accepted_fits text t e);
   E14_10_fault = hall_fault;
+  E14_10_14_line = fourteen_line;
+  E14_10_14_only = fourteen_only;
   D1_halls = halls_by_meaning;
   E14_9_hall = hall-promise;
   D1_hall = hall-only;

@@ -27,7 +27,8 @@ use Rattle.delivered.proofs.FirstLines.{no_break, Above, Alike, InSpan, row_one,
 
 -- P says of which numbers the law speaks
 module _ (P : ℕ → Type 0) where
-  row_linewise : (key : List ℕ) → no_break key ≡ true → (lo hi : ℕ) → Linewise P (row_at key lo hi)
+  -- a row reads line by line
+  pub row_linewise : (key : List ℕ) → no_break key ≡ true → (lo hi : ℕ) → Linewise P (row_at key lo hi)
   row_linewise key n lo hi = one_linewise P (row_at key lo hi) (row_one key n lo hi) (row_spans key n lo hi)
 
   checked_linewise : (k : ℕ) (ok : ℕ → Bool) (key : List ℕ) → no_break key ≡ true → (lo hi : ℕ) → Linewise P (checked k ok (row_at key lo hi))
@@ -98,7 +99,8 @@ module _ (P : ℕ → Type 0) where
       (λ os. bind_linewise P _ _ (row_linewise (bytes "parts=") refl 1 16)
       (λ m. bind_linewise P _ _ (chain_linewise P (part m n) following (part_linewise m n) m 1) (λ ps. return_linewise P _)))
 
-  job_linewise : Linewise P job_lines
+  -- the lines of a job are read line by line
+  pub job_linewise : Linewise P job_lines
   unfolding job_lines rest bytes
   job_linewise =
       bind_linewise P _ _ (row_linewise (bytes "horizon=") refl 2 365)
@@ -178,7 +180,7 @@ module _ (P : ℕ → Type 0) {A : Type 0} (most : ℕ) (p : Parser A) (h : Line
           omega (arith, h, y.1)
 
 -- any number
-abbrev any : ℕ → Type 0
+abbrev pub any : ℕ → Type 0
 any n = Unit {0}
 
 -- a job text

@@ -1,12 +1,12 @@
 -- Parsers that read line by line (`Linewise`): a fault is that of every text with the same lines up to the line at fault, and a value that of every text with the same lines up to the next. By the parsers' forms.
 use Rattle.std.specs.Prelude.{Option, Some, None}
-use Prim.Native.Nat.{ℕ, zero, suc, ◌+◌, ◌-◌, ◌≤◌, ◌<◌}
+use Prim.Native.Nat.{ℕ, zero, suc, ◌+◌, ◌-◌, ◌/◌, ◌%◌, ◌≤◌, ◌<◌}
 use mathlib.Core.Path.{◌≡◌, refl, sym, ap, subst, ◌∙◌}
-use mathlib.Core.Bool.{Bool, true, false, ◌&&◌, not, and-eq-true_iff, false≢true, true≢false}
+use mathlib.Core.Bool.{Bool, true, false, ◌&&◌, cond, not, and-eq-true_iff, false≢true, true≢false}
 use mathlib.Core.List.{List, [], ◌∷◌, ◌++◌}
 use native.Mathlib.Omega.{arith}
 use native.Mathlib.Decide.{dec_lt}
-use lib.Dec.{leb, eqb}
+use lib.Dec.{leb, ltb, eqb}
 use lib.ListN.{length, get_or, drop}
 use lib.Seq.{drop-drop}
 use borrow.Author.Tests.{eq-eqb, eqb-true, ne_eqb}
@@ -14,7 +14,7 @@ use Rattle.lines.specs.Line.{is_digit, digits, number_from, plain, starts_with, 
 use Rattle.lines.specs.Parser.{Parsed, good, fault, Parser, ◌>>=◌, return, in_range, read_field_lem, taken, row_at, optional_at, if_present, checked, chain, times, end as ends}
 use Rattle.lines.proofs.Parsing.{bind_good, bind_fault, checked-good, checked_not, checked-fault, optional_there, optional_missing}
 use Rattle.lines.proofs.Reading.{line_is, line_not}
-use Rattle.lines.specs.Text.{decimal, line}
+use Rattle.lines.specs.Text.{decimal_in, decimal, line}
 use Rattle.lines.proofs.Sound.{row_sound}
 use Rattle.delivered.specs.FirstLines.{first_lines, breaks}
 
@@ -197,7 +197,7 @@ checked_one {A} k ok p one m s t l e = go (p s l) refl (one m s t l e)
 
 -- from a text and a line whose sum of line and breaks is m: as many lines are read as breaks are passed, and a fault is on a line that is there or the next
 abbrev pub InSpan : {A : Type 0} → ℕ → Parsed A → Type 0
-InSpan m (good a r k) = k + breaks r ≤ m
+InSpan m (good a r k) = k + breaks r ≡ m
 InSpan m (fault n k) = k ≤ m
 
 -- every answer of the parser
@@ -205,22 +205,47 @@ abbrev pub Spans : {A : Type 0} → Parser A → Type 0
 Spans p = (s : List ℕ) (l : ℕ) → InSpan (l + breaks s) (p s l)
 
 -- the breaks of a text behind another
-breaks_both : (xs ys : List ℕ) → breaks (xs ++ ys) ≡ breaks xs + breaks ys
+pub breaks_both : (xs ys : List ℕ) → breaks (xs ++ ys) ≡ breaks xs + breaks ys
 unfolding breaks
 breaks_both [] ys = omega arith
 breaks_both (x ∷ xs) ys = omega (arith, breaks_both xs ys)
 
--- the line of a value ends one line
-line_ends : (key : List ℕ) (v : ℕ) → 1 ≤ breaks (line key v)
+-- a key has no breaks
+key_unbroken : (key : List ℕ) → no_break key ≡ true → breaks key ≡ 0
+unfolding breaks
+key_unbroken [] n = refl
+key_unbroken (k ∷ ks) n = let w = (and-eq-true_iff (not (eqb k 10)) (no_break ks)).0 n in go (eqb k 10) w.0 (key_unbroken ks w.1)
+  where
+    go : (b : Bool) → not b ≡ true → breaks ks ≡ 0 → cond b 1 0 + breaks ks ≡ 0
+    go true h rest = absurd (false≢true h)
+    go false h rest = omega (arith, rest)
+
+-- a digit is no break
+digit_unbroken : (d : ℕ) → breaks ((48 + d) ∷ []) ≡ 0
+unfolding breaks
+digit_unbroken d = rw (ne_eqb (48 + d) 10 (λ e. omega (arith, e))) refl
+
+-- the digits of a number have no breaks
+decimal_unbroken : (n v : ℕ) → breaks (decimal_in n v) ≡ 0
+unfolding breaks decimal_in
+decimal_unbroken zero v = refl
+decimal_unbroken (suc n) v = go (ltb v 10) (decimal_unbroken n (v / 10))
+  where
+    go : (b : Bool) → breaks (decimal_in n (v / 10)) ≡ 0 → breaks (elim b [ true ↦ (48 + v) ∷ [] | false ↦ decimal_in n (v / 10) ++ (48 + v % 10) ∷ [] ]) ≡ 0
+    go true rest = digit_unbroken v
+    go false rest = omega (arith, breaks_both (decimal_in n (v / 10)) ((48 + v % 10) ∷ []), rest, digit_unbroken (v % 10))
+
+-- the line of a value has one break
+line_ends : (key : List ℕ) → no_break key ≡ true → (v : ℕ) → breaks (line key v) ≡ 1
 unfolding line breaks
-line_ends key v = omega (arith, breaks_both key (decimal v ++ 10 ∷ []), breaks_both (decimal v) (10 ∷ []))
+line_ends key n v = omega (arith, breaks_both key (decimal v ++ 10 ∷ []), breaks_both (decimal v) (10 ∷ []), key_unbroken key n, decimal_unbroken 10 v)
 
 -- a row passes its line's break, or is at fault on its line
 pub row_spans : (key : List ℕ) → no_break key ≡ true → (lo hi : ℕ) → Spans (row_at key lo hi)
 row_spans key n lo hi s l = go (row_at key lo hi s l) refl (row_one key n lo hi 0 s s l refl)
   where
     go : (x : Parsed ℕ) → row_at key lo hi s l ≡ x → SameRow 0 l x (row_at key lo hi s l) → InSpan (l + breaks s) x
-    go (good v r k) e h = omega (arith, h.0, ap breaks (row_sound key lo hi s r l k v e), breaks_both (line key v) r, line_ends key v)
+    go (good v r k) e h = omega (arith, h.0, ap breaks (row_sound key lo hi s r l k v e), breaks_both (line key v) r, line_ends key n v)
     go (fault i k) e h = omega (arith, h.0)
 
 -- a further rule is at fault on the first line
@@ -294,12 +319,12 @@ module _ (P : ℕ → Type 0) where
       rises s l (good a r k) x h = rw (bind_good p f x) (up l k (f a r k) h ((next a).above r k))
       rises s l (fault n k) x h = rw (bind_fault p f x) h
 
-      less : (m n : ℕ) (x : Parsed B) → m ≤ n → InSpan m x → InSpan n x
-      less m n (good b r i) h j = omega arith
-      less m n (fault k i) h j = omega arith
+      same : (m n : ℕ) (x : Parsed B) → m ≡ n → InSpan m x → InSpan n x
+      same m n (good b r i) h j = omega arith
+      same m n (fault k i) h j = omega arith
 
       within : (s : List ℕ) (l : ℕ) (x : Parsed A) → p s l ≡ x → InSpan (l + breaks s) x → InSpan (l + breaks s) ((p >>= f) s l)
-      within s l (good a r k) x h = rw (bind_good p f x) (less (k + breaks r) (l + breaks s) (f a r k) h ((next a).spans r k))
+      within s l (good a r k) x h = rw (bind_good p f x) (same (k + breaks r) (l + breaks s) (f a r k) h ((next a).spans r k))
       within s l (fault n k) x h = rw (bind_fault p f x) h
 
       -- an answer behind the lines that are the same says nothing

@@ -19,6 +19,7 @@ use Rattle.published.specs.Tables.{table1, table2, table3, table4}
 use Rattle.bands.specs.Bands.{CostBand}
 use Rattle.base.specs.Each.{All}
 use Rattle.price_rules.specs.Rule.{Rule, rule_price, stated_price}
+use Rattle.part_lines.specs.Behind.{Behind}
 use Rattle.job_grammar.specs.Grammar.{JobText, Given, meant, read_job_lem, read_job_text}
 use Rattle.job_grammar.specs.Grammar as job
 use Rattle.job_grammar.specs.Rendering.{job_text_lem}
@@ -58,6 +59,7 @@ use Rattle.alike.specs.Alike.{AnsweredAlike, with_walk, WalkSetAside, rules_out,
 use Rattle.before_holders.specs.AsBefore.{AsBefore}
 use Rattle.starred.specs.Table.{CaseHolds, Counts, cases, counts}
 use Rattle.delivered.specs.FirstLines.{first_lines, breaks}
+use Rattle.delivered.specs.Fourteen.{MisfitAt}
 use Rattle.delivered.specs.Terms.{SomeLost, Meets, StatesObjective, Feasible, Cheapest, KeptLines}
 
 -- the record of all promises: a field for each sentence of the papers that no call's own promise states
@@ -114,7 +116,7 @@ pub record Delivered : Type 0 where
   -- E2.5. "The longest has 22,109 bytes.": with E11's pairs 33,373
   pub E2_5_longest : (text : List ℕ) (t : JobText) → read_job_text text ≡ accepted t → length text ≤ 33373
   pub E2_5_reached : (text : List ℕ) × (t : JobText) × (read_job_text text ≡ accepted t) × (length text ≡ 33373)
-  -- R1 to R5, R12. a job text's faults: no other number, and no line beyond those that a text can have and one (`R21_job`: its own and one)
+  -- R1 to R5, R12, R13. a job text's faults: no other number, and no line beyond those that a text can have and one (`R21_job`: its own and one)
   pub R1_job_fault : (text : List ℕ) (number line : ℕ) → read_job_lem text ≡ refused number line → JobFault number × (line ≤ job.max_bytes + 1)
   -- R1 to R3, R9. a plan text's
   pub R1_plan_fault : (job : Job) (text : List ℕ) (number line : ℕ) → read_plan_lem job text ≡ refused number line → PlanFault number × (line ≤ max_bytes + 1)
@@ -173,6 +175,11 @@ pub record Delivered : Type 0 where
   pub E14_10_lines : (text : List ℕ) (t : HallText) → read_hall_text text ≡ accepted t → Proper (meant_hall t) × Fits (meant_hall t)
   -- E14.10. a hall text's fault has a job's number or 14, and its line is none beyond those that a text can have and one (`R21_hall`: its own and one)
   pub E14_10_fault : (text : List ℕ) (n line : ℕ) → read_hall_text text ≡ refused n line → HallFault n × (line ≤ most_hall_bytes + 1)
+  -- E14.10. "14 for a job whose horizon or idles differ from the first job's, or which takes the hall past 16 parts or 64 openings": a text that begins with jobs that fit and then such a job, valid in itself, is refused with 14, "on that
+  -- job's first line", whatever stands behind the job's lines but a line that would still be its own: so 14 comes "before any on the lines behind the job"
+  pub E14_10_14_line : (text : List ℕ) (line : ℕ) (m : MisfitAt text line) → Behind m.rest → length text ≤ most_hall_bytes → read_hall_text text ≡ refused 14 line
+  -- E14.10. and 14 is said of no other text, and on no other line: the job at fault is valid, so 14 comes "after the job's own faults"
+  pub E14_10_14_only : (text : List ℕ) (line : ℕ) → read_hall_text text ≡ refused 14 line → MisfitAt text line
   -- D1. an accepted hall text is answered by what it means: two that mean the same hall get the same numbers and bytes, so a `walk` line (E10) or a rule (E8) among a job's lines changes no answer
   pub D1_halls : (s s' : List ℕ) (t t' : HallText) → read_hall_text s ≡ accepted t → read_hall_text s' ≡ accepted t' → meant_hall t ≡ meant_hall t' → (walk : ℕ) → hall_said s walk ≡ hall_said s' walk
   -- E14.6 to E14.9. 6 exactly if some line has no plan; 0, or 7 exactly if the whole walk has more points; the best hall plan; with call 0 "the sum of the lines' own least costs"

@@ -8,12 +8,13 @@ use native.Mathlib.Decide.{dec_lt}
 use borrow.Author.Tests.{lt-ltb, le-ltb}
 use Rattle.lines.specs.Parser.{Outcome, accepted, refused}
 use Rattle.lines.proofs.Outcomes.{one_value, one_fault, not_both}
-use Rattle.branch.specs.Planning.{no_plan_lem2, cut_none, cut, optimum, result_of, whole_count}
+use Rattle.branch.specs.Planning.{whole_count}
 use Rattle.model.specs.Limits.{most_walk}
 use Rattle.job_grammar.proofs.Numbered.{fault_some as job-some, fault_else as job-else}
 use Rattle.answers.specs.Said.{plainly, lent}
 use Rattle.answers.specs.Texts.{on_text}
 use Rattle.answers.proofs.Replies.{refuses}
+use Rattle.findings.proofs.Numbers.{not_8}
 use Rattle.planning.specs.Plan.{walk_number_lem}
 use Rattle.hall_model.specs.Hall.{Hall, HasPlans, SomeWithout}
 use Rattle.hall_model.specs.Promise.{HallAnswer, hall_answer, hall_problem}
@@ -28,13 +29,6 @@ use Rattle.hall_printing.specs.Lines.{said_for}
 use Rattle.hall_planning.specs.Hall.{on_hall, hall_said, hall_room}
 use Rattle.hall_planning.specs.Promise.{Reports, HallPromise}
 use Rattle.hall_planning.proofs.ReadBack.{prints}
-
--- no answer of the model has the number of a short output
-not_8 : (a : HallAnswer) → result_of a ≡ 8 → ⊥
-not_8 no_plan_lem2 e = omega arith
-not_8 (cut_none n f) e = omega arith
-not_8 (cut n f c p) e = omega arith
-not_8 (optimum n f c p) e = omega arith
 
 -- a fault's number is none of 0 and of 6 to 11
 fault_some : (n : ℕ) → HallFault n → 1 ≤ n

@@ -15,10 +15,7 @@ use Rattle.base.specs.Each.{All}
 use Rattle.jobs.specs.Valid.{ValidJob}
 use Rattle.jobs.specs.declared.accepted.Accepted.{Accepted}
 use Rattle.plan_costs.proofs.Dearest.{cost_most}
-use Rattle.answers.specs.Said.{Printable}
-use Rattle.planning.specs.Finding.{Fits}
-use Rattle.planning.specs.declared.Finding.{Finding}
-use Rattle.planning.specs.declared.Finding.TheVariants.{NoPlan, Optimum, Cut, CutBare}
+use Rattle.findings.specs.Finding.{Fits}
 use Rattle.hall_model.specs.Hall.{Hall, Proper, HasPlans, horizon_of, some_stops, costs_of, hall_cost}
 use Rattle.hall_model.specs.Limits as limits
 use Rattle.hall_model.specs.LowerBound.{hall_bound}
@@ -28,7 +25,6 @@ use Rattle.hall_model.proofs.Roots.{rooted, floor_least}
 use Rattle.hall_jobs.specs.Hall.{line_of_lem}
 use Rattle.hall_jobs.specs.Views.{hall_of}
 use Rattle.hall_jobs.specs.declared.HallJobs.{HallJobs}
-use Rattle.hall_printing.specs.Finding.{answer_in}
 
 -- the lines' own costs
 costs_most : (jobs : List Job) → All ValidJob jobs → (plans : List Plan) → costs_of jobs plans ≤ length jobs * 2112000000
@@ -51,13 +47,6 @@ horizon_most : (jobs : List Job) → All ValidJob jobs → horizon_of jobs ≤ 3
 horizon_most [] v = omega arith
 horizon_most (j ∷ jobs) v = v.0.horizon_high
 
--- the numbers of an answer, as those of a finding
-abbrev pub Ranged : HallAnswer → Type 0
-Ranged no_plan_lem2 = Unit {0}
-Ranged (cut_none nodes floor) = Printable nodes × Printable floor
-Ranged (cut nodes floor cost plans) = Printable nodes × Printable floor × Printable cost
-Ranged (optimum nodes floor cost plans) = Printable nodes × Printable floor × Printable cost
-
 module _ (hall : Hall) (proper : Proper hall) (fits : limits.Fits hall) (valid : All ValidJob hall.jobs) where
   -- what a hall plan can cost
   hall_most : (plans : List Plan) → hall_cost hall plans ≤ 8813000000
@@ -76,7 +65,7 @@ module _ (hall : Hall) (proper : Proper hall) (fits : limits.Fits hall) (valid :
     nodes_most : (a : HallAnswer) → HallPromise hall limit a → HasPlans hall → nodes_of a ≤ most_walk
     nodes_most a p h = omega (arith, low, p.planned.nodes h)
 
-    ranged : (a : HallAnswer) → HallPromise hall limit a → Ranged a
+    ranged : (a : HallAnswer) → HallPromise hall limit a → Fits a
     ranged no_plan_lem2 p = tt
     ranged (cut_none n f) p = let h = (p.planned.says_7.0 refl).0 in (omega (arith, nodes_most (cut_none n f) p h), omega (arith, floor_most f (p.planned.floor h)))
     ranged (cut n f c q) p =
@@ -87,15 +76,8 @@ module _ (hall : Hall) (proper : Proper hall) (fits : limits.Fits hall) (valid :
         (omega (arith, nodes_most (optimum n f c q) p h), omega (arith, floor_most f (p.planned.floor h)), omega (arith, p.planned.plan_for_lem.states, hall_most q))
 
     -- the numbers of the answer can be printed
-    pub answer_ranged : Ranged (hall_answer hall limit)
+    pub answer_ranged : Fits (hall_answer hall limit)
     answer_ranged = ranged (hall_answer hall limit) (promise hall proper limit)
-
--- and so can those of a finding that is such an answer
-pub finding_fits : (plans : List Plan) (f : Finding) → Ranged (answer_in plans f) → Fits f
-finding_fits plans NoPlan r = tt
-finding_fits plans (Optimum n m c) r = r
-finding_fits plans (Cut n m c) r = r
-finding_fits plans (CutBare n m) r = r
 
 -- each line of a struct's hall is valid
 all_valid : (jobs : List Accepted) → All ValidJob (map line_of_lem jobs)

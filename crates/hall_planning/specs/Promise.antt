@@ -71,7 +71,7 @@ pub record HallPromise (text : List ℕ) (walk room : ℕ) (s : Said) : Type 0 w
   pub says_0 : (s.result ≡ 0) ↔ ((hall_room ≤ room) × ((r : Reading text) × (HasPlans (hall_in r) × (whole_count (hall_problem (hall_in r)) ≤ walk_number_lem walk))))
   -- E14.8, E14.9. what is written with them, and what it is worth
   pub answers : hall_room ≤ room → (r : Reading text) → Reports text walk r.said s
-  -- E14.2, E14.3, E14.10. a fault of the hall text, which is text 1, "its lines counted through"
+  -- E14.2, E14.3, E14.10. a fault of the hall text, which is text 1, "its lines counted through"; R14. of a job that doesn't join, on that job's first line (`job_behind`)
   pub text_fault : hall_room ≤ room → (number line : ℕ) → read_hall_lem text ≡ refused number line → Refuses 1 text number line s
   -- with 0 any larger walk number gives the same bytes
   pub any_walk : s.result ≡ 0 → (other : ℕ) → walk ≤ other → lent hall_room room (hall_said text other) ≡ s

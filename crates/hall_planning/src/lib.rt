@@ -1,43 +1,22 @@
 // The hall planner: the cheapest plans of a hall's lines, with the crew's calls.
 #![tactic(auto)]
 
-ghost use Rattle.std.specs.Prelude.{◌≡◌, ◌≤◌, ℕ, length};
+ghost use Rattle.std.specs.Prelude.{◌≤◌, length};
 ghost use Rattle.model.specs.Limits.{most_walk};
 ghost use Rattle.answers.specs.Said.{lent, Replied};
 ghost use Rattle.hall_model.specs.Promise.{hall_answer};
 ghost use Rattle.hall_jobs.specs.Views.{hall_of};
-ghost use Rattle.hall_jobs.specs.declared.HallJobs.{HallJobs};
-ghost use Rattle.hall_search.specs.Found.{plans_found, hall_said as said_in};
-ghost use Rattle.hall_printing.specs.Finding.{answer_in};
 ghost use Rattle.hall_printing.specs.Lines.{said_for};
 ghost use Rattle.hall_planning.specs.Hall.{hall_said, hall_room};
 ghost use Rattle.hall_planning.specs.Promise.{HallPromise};
 
 use answers::{Answer, JOB, refuse};
-use branch::Bound;
+use findings::finding_of;
 use hall_jobs::HallJobs;
 use hall_printing::answer_hall;
-use hall_search::found::HallFound;
 use hall_search::search_hall;
 use hall_text::reading::read_hall;
-use planning::{Finding, ROOM, walk_number};
-
-// What a search of a hall found: no floor or no plans in the whole walk is 6, a walk cut short is 7.
-// Kept apart from the planner's own: what is found of a hall has plans in the place of a plan.
-fn finding_of(found: &HallFound) -> Finding
-    ensures { (h : HallJobs) → answer_in (plans_found h found.now) result ≡ said_in h found.now }
-{
-    let nodes = found.count;
-    let Bound::Sum(floor) = found.floor else {
-        return Finding::NoPlan;
-    };
-    match found.cost {
-        Some(cost) if found.over => Finding::Cut { nodes, floor, cost },
-        Some(cost) => Finding::Optimum { nodes, floor, cost },
-        None if found.over => Finding::CutBare { nodes, floor },
-        None => Finding::NoPlan,
-    }
-}
+use planning::{ROOM, walk_number};
 
 // Answers the call for an accepted hall text: by the search of its lines.
 fn plan_hall(hall: &HallJobs, walk: u32, out: &mut [u8]) -> Answer
@@ -45,7 +24,8 @@ fn plan_hall(hall: &HallJobs, walk: u32, out: &mut [u8]) -> Answer
     ensures { Replied hall_room (said_for (hall_of hall.now) (hall_answer (hall_of hall.now) walk)) out.old out.new result }
 {
     let found = search_hall(hall, walk);
-    answer_hall(finding_of(&found), hall, &found.plans, out)
+    let finding = finding_of(found.count, found.floor, found.cost, found.over);
+    answer_hall(finding, hall, &found.plans, out)
 }
 
 // The plans of a hall text, walked up to the walk number of the call: every number that is handed over and every byte of the output are the defined ones (`Replied`). The answer is 6 exactly if the

@@ -1,21 +1,15 @@
--- Each line with the plan that the code holds for it: at each place (`held_at`), as many as lines (`held_size`), the result number (`number_same`). By recursion over the lines.
+-- Each line with the plan that the code holds for it: at each place (`held_at`), as many as lines (`held_size`). By recursion over the lines.
 use Prim.Native.Nat.{ℕ, zero, suc, ◌≤◌, ◌<◌}
 use mathlib.Core.Path.{◌≡◌, refl, ap}
 use mathlib.Core.List.{List, [], ◌∷◌, map}
 use native.Mathlib.Omega.{arith}
 use lib.ListN.{length, get_or}
-use Rattle.model.specs.Model as model
-use Rattle.branch.specs.Planning as branch
-use Rattle.model.specs.Promise as planner
 use Rattle.jobs.specs.declared.Plan.{Plan}
 use Rattle.jobs.specs.declared.accepted.Accepted.{Accepted}
-use Rattle.planning.specs.Finding as one
-use Rattle.planning.specs.declared.Finding.{Finding}
-use Rattle.planning.specs.declared.Finding.TheVariants.{NoPlan, Optimum, Cut, CutBare}
 use Rattle.hall_jobs.specs.Hall.{line_of_lem}
 use Rattle.hall_search.specs.Found.{each_plan}
 use Rattle.hall_printing.specs.Lines.{LinePlan, line_plans}
-use Rattle.hall_printing.specs.Finding.{line_held, answer_in}
+use Rattle.hall_printing.specs.Finding.{line_held}
 
 -- the lines with the plans that are held for them
 abbrev pub held : List Accepted → List Plan → List LinePlan
@@ -34,10 +28,3 @@ held_at [] plans i a p d l h = absurd (omega arith)
 held_at (b ∷ jobs) [] i a p d l h = absurd (omega arith)
 held_at (b ∷ jobs) (q ∷ plans) zero a p d l h = refl
 held_at (b ∷ jobs) (q ∷ plans) (suc i) a p d l h = held_at jobs plans i a p d (omega arith) (omega arith)
-
--- the result number of a finding is the same for one line and for a hall
-pub number_same : (plan : model.Plan) (plans : List model.Plan) (f : Finding) → planner.result_of (one.answer_in plan f) ≡ branch.result_of (answer_in plans f)
-number_same plan plans NoPlan = refl
-number_same plan plans (Optimum n m c) = refl
-number_same plan plans (Cut n m c) = refl
-number_same plan plans (CutBare n m) = refl

@@ -26,11 +26,12 @@ use Rattle.hall_model.specs.Limits.{openings_in}
 use Rattle.hall_jobs.specs.Hall.{line_of_lem}
 use Rattle.hall_jobs.specs.Views.{hall_of}
 use Rattle.hall_jobs.specs.declared.HallJobs.{HallJobs}
-use Rattle.planning.specs.declared.Finding.{Finding}
-use Rattle.planning.specs.declared.Finding.TheVariants.{NoPlan, Optimum, Cut, CutBare}
+use Rattle.findings.specs.Finding.{answer_in}
+use Rattle.findings.specs.declared.Finding.{Finding}
+use Rattle.findings.specs.declared.Finding.TheVariants.{NoPlan, Optimum, Cut, CutBare}
 use Rattle.planning.proofs.Lengths.{search_short}
 use Rattle.hall_printing.specs.Lines.{own_lines, plans_lines, planned_lines, hall_lines}
-use Rattle.hall_printing.specs.Finding.{line_held, plans_in, answer_in}
+use Rattle.hall_printing.specs.Finding.{line_held, plans_in}
 use Rattle.hall_printing.proofs.Held.{held}
 
 -- ---- one line

@@ -7,18 +7,19 @@ ghost use Rattle.lines.specs.Text.{texts};
 ghost use Rattle.line_writing.specs.Puts.{Puts, Room};
 ghost use Rattle.model.specs.Limits.{answer_room};
 ghost use Rattle.answers.specs.Said.{Printable, Replied};
-ghost use Rattle.planning.specs.Finding.{Fits};
+ghost use Rattle.findings.specs.Finding.{answer_in, Fits};
 ghost use Rattle.hall_jobs.specs.Views.{hall_of, jobs_of};
 ghost use Rattle.hall_printing.specs.Lines.{own_lines, line_plans, plans_lines, planned_lines, hall_lines, said_for};
-ghost use Rattle.hall_printing.specs.Finding.{line_held, plans_in, answer_in};
+ghost use Rattle.hall_printing.specs.Finding.{line_held, plans_in};
 
 use answers::{Answer, put_three, reply};
+use findings::{Finding, number_of};
 use hall_jobs::HallJobs;
 use jobs::{Accepted, Plan};
 use line_writing::output::Out;
 use plan_costs::costs::cost_of;
 use plan_writing::put_plan;
-use planning::{Finding, ROOM, number_of};
+use planning::ROOM;
 
 // Puts the lines of one line's plan, with what it costs without calls.
 fn put_own(out: &mut Out, job: &Accepted, plan: &Plan)
@@ -67,7 +68,7 @@ fn put_planned(
 
 // Puts the lines of a finding and of its plans.
 fn put_hall(out: &mut Out, f: Finding, hall: &HallJobs, plans: &[Plan; 4])
-    requires { Fits f × Room out.old (hall_lines (hall_of hall.now) (answer_in (plans_in hall.now plans.now) f)) }
+    requires { Fits (answer_in (plans_in hall.now plans.now) f) × Room out.old (hall_lines (hall_of hall.now) (answer_in (plans_in hall.now plans.now) f)) }
     ensures { Puts out.old (hall_lines (hall_of hall.now) (answer_in (plans_in hall.now plans.now) f)) out.new }
 {
     let number = number_of(f);
@@ -87,7 +88,7 @@ fn put_hall(out: &mut Out, f: Finding, hall: &HallJobs, plans: &[Plan; 4])
 
 // Answers a call by a finding, with its plans.
 pub fn answer_hall(f: Finding, hall: &HallJobs, plans: &[Plan; 4], out: &mut [u8]) -> Answer
-    requires { Fits f }
+    requires { Fits (answer_in (plans_in hall.now plans.now) f) }
     ensures { Replied answer_room (said_for (hall_of hall.now) (answer_in (plans_in hall.now plans.now) f)) out.old out.new result }
 {
     reply(

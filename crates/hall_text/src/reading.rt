@@ -17,7 +17,7 @@ use jobs::Accepted;
 use lines::fault::{Fault, FaultKind};
 use lines::rows::Lines;
 
-// The number of a job that doesn't join the hall's lines.
+// R14, E14.10. The number of a job that doesn't join the hall's lines, said of the job's first line.
 const UNLIKE: u32 = 14;
 
 // Reads the lines of a job, for what they mean: its `walk` line is set aside.

@@ -15,9 +15,9 @@ use Rattle.job_text.specs.Views.{given_in}
 use Rattle.plan_costs.specs.Dearest.{dearest_plan}
 use Rattle.plan_costs.proofs.Dearest.{cost_most}
 use Rattle.plan_printing.proofs.Lengths.{printed_short}
-use Rattle.planning.specs.Finding.{answer_in}
-use Rattle.planning.specs.declared.Finding.{Finding}
-use Rattle.planning.specs.declared.Finding.TheVariants.{NoPlan, Optimum, Cut, CutBare}
+use Rattle.findings.specs.Finding.{answer_in}
+use Rattle.findings.specs.declared.Finding.{Finding}
+use Rattle.findings.specs.declared.Finding.TheVariants.{NoPlan, Optimum, Cut, CutBare}
 use Rattle.optimum_search.specs.Ends.{Beyond, Ends}
 use Rattle.optimizing.specs.Optimum.{floor_lines, optimum_lines, Fits, optimum_room}
 

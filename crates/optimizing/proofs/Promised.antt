@@ -27,7 +27,7 @@ use Rattle.plan_printing.specs.Printed.{printed_lines}
 use Rattle.planning.specs.Plan as planner
 use Rattle.planning.specs.Plan.{planned_lines, walk_number_lem, plan_said}
 use Rattle.planning.specs.Promise.{PrintsBehind}
-use Rattle.planning.proofs.Promised.{not_8}
+use Rattle.findings.proofs.Numbers.{not_8}
 use Rattle.planning.proofs.ReadBack.{reads_back, judge_accepts}
 use Rattle.optimum_search.specs.Ends.{Ends}
 use Rattle.optimizing.specs.Optimum.{floor_lines, said_for, optimum_room}

@@ -7,19 +7,20 @@ ghost use Rattle.model.specs.Promise.{PlannerAnswer};
 ghost use Rattle.jobs.specs.Views.{job_of, plan_for};
 ghost use Rattle.job_text.specs.Views.{given_in};
 ghost use Rattle.answers.specs.Said.{Replied};
-ghost use Rattle.planning.specs.Finding.{answer_in};
+ghost use Rattle.findings.specs.Finding.{answer_in};
 ghost use Rattle.optimum_search.specs.Ends.{Ends};
 ghost use Rattle.optimizing.specs.Optimum.{optimum_lines, said_for, Fits, optimum_room};
 ghost use Rattle.optimizing.specs.Promise.{Answered};
 
 use answers::{Answer, JOB, put_two, refuse, reply};
+use findings::{Finding, finding_of, number_of};
 use job_text::accepted::AcceptedText;
 use job_text::whole::read_job;
 use jobs::Plan;
 use line_writing::output::Out;
 use optimum_search::search_optimum;
 use plan_printing::put_printed;
-use planning::{Finding, ROOM, finding_of, number_of, walk_number};
+use planning::{ROOM, walk_number};
 
 // Puts the lines of a finding and of its plan: the floor only where a walk was cut.
 fn put_optimum(out: &mut Out, f: Finding, text: &AcceptedText, plan: &Plan)
@@ -59,7 +60,8 @@ fn search_text(text: &AcceptedText, walk: u32, out: &mut [u8]) -> Answer
     ensures { (a : PlannerAnswer) × Ends (job_of text.now.job.job) walk a × Replied optimum_room (said_for (given_in text.now) a) out.old out.new result }
 {
     let found = search_optimum(&text.job, walk);
-    answer(finding_of(&found), text, &found.plan, out)
+    let finding = finding_of(found.count, found.floor, found.cost, found.over);
+    answer(finding, text, &found.plan, out)
 }
 
 // The optimum of a job text, each walk with at most as many nodes as the walk number. 6 exactly if the job is accepted and has no plan. With 0 the plan printed is the best of all, the planner's to the byte;

@@ -11,7 +11,7 @@ use Rattle.share_search.specs.Sought.{Longer}
 
 -- the most nodes of the first counted walk
 abbrev pub first_nodes : ℕ
-first_nodes = 262144
+first_nodes = 131072
 
 -- the planner's whole walk has more nodes than the walk number, and no plan costs less than the last cutoff, so that the walks by shares can find none
 pub record LongerCounted (job : Job) (walk : ℕ) : Type 0 where

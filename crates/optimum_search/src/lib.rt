@@ -15,7 +15,7 @@ use search::Found;
 use share_search::search_shared;
 
 // The most nodes of the first counted walk: it takes little longer than the shares do, a job whose walk ends in it needs none, and where a walk by shares is cut it has the plan in hand.
-const FIRST: u32 = 262144;
+const FIRST: u32 = 131072;
 
 // The search by shares of an accepted job, each walk of the job with at most `limit` nodes. No plan costs less than `floor`; `in_hand` is what a plan in hand costs, if there is one.
 // A call of its own, so that what it needs of the stack does not lie beside what the counted walk needs.

@@ -1,16 +1,21 @@
--- A finding whose answer is in its ranges can be printed (`fits`). By the finding's cases.
+-- What is found of a job's search is the answer that the search says (`said`), and an answer in its ranges can be printed (`fits`). By cases.
 use Prim.Native.Nat.{ℕ, ◌≤◌}
+use mathlib.Core.Path.{◌≡◌}
 use native.Mathlib.Omega.{arith}
 use Rattle.model.specs.Limits.{most_walk}
-use Rattle.model.specs.Model.{Plan}
+use Rattle.model.specs.Promise.{PlannerAnswer, no_plan_lem2, cut_none, cut, optimum}
+use Rattle.search.specs.declared.Found.{Found}
+use Rattle.search.specs.Found.{plan_found, said_in}
 use Rattle.job_search.proofs.Limits.{Ranged}
-use Rattle.planning.specs.Finding.{answer_in, Fits}
-use Rattle.planning.specs.declared.Finding.{Finding}
-use Rattle.planning.specs.declared.Finding.TheVariants.{NoPlan, Optimum, Cut, CutBare}
+use Rattle.findings.specs.Finding.{answer_in, Fits, found}
 
--- the numbers of an answer in the planner's ranges fit the finding's types
-pub fits : (plan : Plan) (limit : ℕ) → limit ≤ most_walk → (f : Finding) → Ranged limit (answer_in plan f) → Fits f
-fits plan limit l NoPlan r = tt
-fits plan limit l (Optimum nodes floor cost) r = (omega (arith, r.0), omega (arith, r.1), omega (arith, r.2))
-fits plan limit l (Cut nodes floor cost) r = (omega (arith, r.0), omega (arith, r.1), omega (arith, r.2))
-fits plan limit l (CutBare nodes floor) r = (omega (arith, r.0), omega (arith, r.1))
+-- what is found, with the plan that the search holds
+pub said : (n m : ℕ) (r : Found) → answer_in (plan_found n m r) (found r.count r.floor r.cost r.over) ≡ said_in n m r
+said n m r = grind arith
+
+-- the numbers of an answer in the planner's ranges can be printed
+pub fits : (limit : ℕ) → limit ≤ most_walk → (a : PlannerAnswer) → Ranged limit a → Fits a
+fits limit l no_plan_lem2 r = tt
+fits limit l (cut_none n f) r = (omega (arith, r.0), omega (arith, r.1))
+fits limit l (cut n f c p) r = (omega (arith, r.0), omega (arith, r.1), omega (arith, r.2))
+fits limit l (optimum n f c p) r = (omega (arith, r.0), omega (arith, r.1), omega (arith, r.2))

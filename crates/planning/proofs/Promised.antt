@@ -10,23 +10,17 @@ use Rattle.lines.proofs.Outcomes.{one_value, not_both}
 use Rattle.model.specs.Limits.{most_walk}
 use Rattle.model.specs.Model.{HasPlan}
 use Rattle.model.specs.Promise as model
-use Rattle.model.specs.Promise.{PlannerAnswer, no_plan_lem2, cut_none, cut, optimum, result_of, whole_count, answer_of}
+use Rattle.model.specs.Promise.{PlannerAnswer, whole_count, answer_of}
 use Rattle.model.proofs.Promised.{promise, any_walk}
 use Rattle.job_grammar.specs.Grammar.{Given, read_job_lem}
 use Rattle.job_grammar.proofs.Numbered.{JobFault, fault_some, fault_else, fault}
 use Rattle.answers.specs.Said.{plainly, lent}
 use Rattle.answers.proofs.Replies.{refuses}
+use Rattle.findings.proofs.Numbers.{not_8}
 use Rattle.planning.specs.Plan.{said_for, walk_number_lem, on_job, plan_said, plan_room}
 use Rattle.planning.proofs.ReadBack.{prints}
 use Rattle.job_grammar.specs.Reading.{Reading}
 use Rattle.planning.specs.Promise.{Reports, PlanPromise}
-
--- no answer of the model has the number of a short output
-pub not_8 : (a : PlannerAnswer) → result_of a ≡ 8 → ⊥
-not_8 no_plan_lem2 e = omega arith
-not_8 (cut_none n f) e = omega arith
-not_8 (cut n f c p) e = omega arith
-not_8 (optimum n f c p) e = omega arith
 
 module _ (text : List ℕ) (walk room : ℕ) where
   short : room < plan_room → PlanPromise text walk room (plainly 8 [])

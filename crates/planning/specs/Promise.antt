@@ -50,7 +50,7 @@ pub record PlanPromise (text : List ℕ) (walk room : ℕ) (s : Said) : Type 0 w
   pub says_7 : (s.result ≡ 7) ↔ ((plan_room ≤ room) × ((r : Reading text) × (HasPlan (job_in r) × (walk_number_lem walk < whole_count (job_in r)))))
   -- D6. "Otherwise result 0"
   pub says_0 : (s.result ≡ 0) ↔ ((plan_room ≤ room) × ((r : Reading text) × (HasPlan (job_in r) × (whole_count (job_in r) ≤ walk_number_lem walk))))
-  -- what is written with them
+  -- what is written with them; D7. with 0 the cheapest of all plans (`Reports .promise`: branch's `Best`, among `Any`)
   pub answers : plan_room ≤ room → (r : Reading text) → Reports text walk r.given s
   -- D4. a fault of the job text
   pub job_fault : plan_room ≤ room → (number line : ℕ) → read_job_lem text ≡ refused number line → Refuses 1 text number line s

@@ -2,73 +2,28 @@
 // Kept as an output, a text and a plan in the functions that put lines: the first is written and the others are read, and a struct of the two would be made for one call.
 #![tactic(auto)]
 
-ghost use Rattle.std.specs.Prelude.{◌≡◌, ℕ, ◌≤◌, length};
+ghost use Rattle.std.specs.Prelude.{◌≡◌, ◌≤◌, length};
 ghost use Rattle.line_writing.specs.Puts.{Puts, Room};
 ghost use Rattle.model.specs.Limits.{most_walk};
-ghost use Rattle.model.specs.Model as model;
-ghost use Rattle.model.specs.Promise.{result_of, answer_of};
+ghost use Rattle.model.specs.Promise.{answer_of};
 ghost use Rattle.jobs.specs.Views.{job_of, plan_for};
 ghost use Rattle.job_text.specs.Views.{given_in};
-ghost use Rattle.search.specs.Found.{plan_found, said_in};
 ghost use Rattle.answers.specs.Said.{Printable, lent, Replied};
+ghost use Rattle.findings.specs.Finding.{answer_in, Fits};
 ghost use Rattle.planning.specs.Plan.{planned_lines, planner_lines, said_for, walk_number_lem, plan_said, plan_room};
-ghost use Rattle.planning.specs.Finding.{answer_in, Fits};
 ghost use Rattle.planning.specs.Promise.{PlanPromise};
 
 use answers::{Answer, JOB, put_three, refuse, reply};
-use branch::Bound;
+use findings::{Finding, finding_of, number_of};
 use job_search::search_job;
 use job_text::accepted::AcceptedText;
 use job_text::whole::read_job;
 use jobs::{Job, Plan};
 use line_writing::output::Out;
 use plan_printing::put_printed;
-use search::Found;
 
 // The room that the planner's output must have.
 pub const ROOM: usize = 16384;
-
-// What the planner finds of an accepted job; the plan stands beside it.
-// Kept as an enum of its own: an Option of the walk's numbers with a cost that may be missing and a flag for a cut would have a case more, a whole walk that found no plan.
-#[derive(Clone, Copy)]
-pub enum Finding {
-    // 6: no plan keeps the lives.
-    NoPlan,
-    // 0: the cheapest plan.
-    Optimum { nodes: u64, floor: u64, cost: u64 },
-    // 7: the cheapest plan of the nodes walked.
-    Cut { nodes: u64, floor: u64, cost: u64 },
-    // 7, and none of the nodes walked is a full plan.
-    CutBare { nodes: u64, floor: u64 },
-}
-
-// What a search found: no floor or no plan in the whole walk is 6, a walk cut short is 7.
-pub fn finding_of(found: &Found) -> Finding
-    ensures { (n m : ℕ) → answer_in (plan_found n m found.now) result ≡ said_in n m found.now }
-{
-    let nodes = found.count;
-    let Bound::Sum(floor) = found.floor else {
-        return Finding::NoPlan;
-    };
-    match found.cost {
-        Some(cost) if found.over => Finding::Cut { nodes, floor, cost },
-        Some(cost) => Finding::Optimum { nodes, floor, cost },
-        None if found.over => Finding::CutBare { nodes, floor },
-        None => Finding::NoPlan,
-    }
-}
-
-// The result number of a finding.
-pub fn number_of(f: Finding) -> u32
-    ensures { (plan : model.Plan) → result ≡ result_of (answer_in plan f) }
-{
-    match f {
-        Finding::NoPlan => 6,
-        Finding::Optimum { .. } => 0,
-        Finding::Cut { .. } => 7,
-        Finding::CutBare { .. } => 7,
-    }
-}
 
 // Puts the lines of a search and of its plan.
 fn put_planned(
@@ -90,7 +45,7 @@ fn put_planned(
 
 // Puts the lines of a finding and of its plan.
 fn put_finding(out: &mut Out, f: Finding, text: &AcceptedText, plan: &Plan)
-    requires { Fits f × Room out.old (planner_lines (given_in text.now) (answer_in (plan_for text.now.job.job plan.now) f)) }
+    requires { Fits (answer_in (plan_for text.now.job.job plan.now) f) × Room out.old (planner_lines (given_in text.now) (answer_in (plan_for text.now.job.job plan.now) f)) }
     ensures { Puts out.old (planner_lines (given_in text.now) (answer_in (plan_for text.now.job.job plan.now) f)) out.new }
 {
     let number = number_of(f);
@@ -110,7 +65,7 @@ fn put_finding(out: &mut Out, f: Finding, text: &AcceptedText, plan: &Plan)
 
 // Answers the planner's call by a finding, with its plan.
 fn answer(f: Finding, text: &AcceptedText, plan: &Plan, out: &mut [u8]) -> Answer
-    requires { Fits f }
+    requires { Fits (answer_in (plan_for text.now.job.job plan.now) f) }
     ensures { Replied plan_room (said_for (given_in text.now) (answer_in (plan_for text.now.job.job plan.now) f)) out.old out.new result }
 {
     reply(
@@ -135,7 +90,8 @@ fn plan_job(text: &AcceptedText, walk: u32, out: &mut [u8]) -> Answer
     ensures { Replied plan_room (said_for (given_in text.now) (answer_of (job_of text.now.job.job) walk)) out.old out.new result }
 {
     let found = search_job(&text.job, walk);
-    answer(finding_of(&found), text, &found.plan, out)
+    let finding = finding_of(found.count, found.floor, found.cost, found.over);
+    answer(finding, text, &found.plan, out)
 }
 
 // The plan of a job text, walked up to the walk number of the call: every number that is handed over and every byte of the output are the defined ones (`Replied`). The answer is 6 exactly if

@@ -3,6 +3,7 @@ use Rattle.std.specs.Prelude.{ℕ, List, ◌++◌}
 use Rattle.lines.specs.Text.{line_of}
 use Rattle.lines.specs.Parser.{Outcome}
 use Rattle.model.specs.Model.{Plan}
+use Rattle.model.specs.Limits.{answer_room}
 use Rattle.job_grammar.specs.Grammar.{Given, read_job_lem}
 use Rattle.plan_grammar.specs.Grammar.{Stated, read_plan_lem}
 use Rattle.plan_printing.specs.Printed.{printed_lines}
@@ -41,4 +42,4 @@ latest_said job plan = on_job job plan (read_job_lem job)
 
 -- X8. "The lent output has at least 16,384."
 abbrev pub latest_room : ℕ
-latest_room = 16384
+latest_room = answer_room

@@ -19,9 +19,9 @@ export MAKEFLAGS=--no-print-directory
 make -s install PREFIX="$plain" DESTDIR=
 make -s install PREFIX=/usr DESTDIR="$prefix"
 calls=$(sed -n 's/^\(static inline \)*[a-z][a-z0-9_]* \(juzvarola_[a-z_]*\).*/\2/p' ../include/juzvarola.h)
-installed="bin/juzvarola bin/juzvarola-judge bin/juzvarola-planner include/juzvarola.h lib/libjuzvarola.a lib/libjuzvarola.so.0 lib/pkgconfig/juzvarola.pc
+installed="bin/juzvarola bin/juzvarola-hall bin/juzvarola-judge bin/juzvarola-optimum bin/juzvarola-planner include/juzvarola.h lib/libjuzvarola.a lib/libjuzvarola.so.0 lib/pkgconfig/juzvarola.pc
 lib/cmake/juzvarola/juzvarola-config.cmake lib/cmake/juzvarola/juzvarola-config-version.cmake lib/python3/dist-packages/juzvarola.py
-share/bash-completion/completions/juzvarola share/man/man1/juzvarola-judge.1 share/man/man1/juzvarola.1 share/man/man1/juzvarola-planner.1
+share/bash-completion/completions/juzvarola share/man/man1/juzvarola-hall.1 share/man/man1/juzvarola-judge.1 share/man/man1/juzvarola-optimum.1 share/man/man1/juzvarola.1 share/man/man1/juzvarola-planner.1
 share/man/man3/juzvarola.3 share/man/man5/juzvarola-hall.5 share/man/man5/juzvarola-job.5 share/man/man5/juzvarola-json.5 share/man/man5/juzvarola-plan.5 share/man/man5/juzvarola-table.5
 $(for call in $calls; do echo share/man/man3/$call.3; done)"
 for place in "$plain" "$prefix/usr"; do
@@ -36,6 +36,9 @@ version=$(pkg-config --modversion juzvarola)
 job=../jobs/00_example.txt
 expected=$("$plain/bin/juzvarola-planner" < $job)
 [ "$(echo "$expected" | head -n 1)" = "result=0" ] || fail "planner says $expected"
+# The optimum's program prints the planner's plan; the hall of the examples has plans.
+[ "$("$plain/bin/juzvarola-optimum" < $job)" = "$(echo "$expected" | grep -v -e '^nodes=' -e '^floor=')" ] || fail "the optimum's program says something else"
+[ "$("$plain/bin/juzvarola-hall" < ../examples/hall/hall.txt | head -n 1)" = "result=0" ] || fail "the hall planner's program finds no plans"
 
 cc -std=c11 -Wall -Wextra -Werror $(pkg-config --cflags juzvarola) -o "$scratch/plan" tests/installed/plan.c $(pkg-config --libs juzvarola)
 [ "$("$scratch/plan" < $job)" = "$expected" ] || fail "the C program says something else"

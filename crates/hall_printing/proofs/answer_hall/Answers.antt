@@ -1,17 +1,16 @@
 -- `answer_hall`: the number of what is found is handed over, and its lines are put.
 use Prim.Native.Nat.{ℕ}
 use mathlib.Core.Path.{subst, ◌∙◌}
-use mathlib.Core.List.{[]}
 use native.Mathlib.Omega.{arith}
-use Rattle.model.specs.Model.{Plan}
 use borrow.Author.Rules.{rules}
 use Rattle.line_writing.specs.Puts.{Room}
 use Rattle.model.specs.Limits.{answer_room}
 use Rattle.answers.specs.Said.{plainly, Replied}
+use Rattle.findings.specs.Finding.{answer_in}
+use Rattle.findings.proofs.Numbers.{number_same}
 use Rattle.hall_jobs.specs.Views.{hall_of}
 use Rattle.hall_printing.specs.Lines.{hall_lines}
-use Rattle.hall_printing.specs.Finding.{plans_in, answer_in}
-use Rattle.hall_printing.proofs.Held.{number_same}
+use Rattle.hall_printing.specs.Finding.{plans_in}
 use Rattle.hall_printing.proofs.Lengths.{hall_short}
 use Rattle.hall_printing.proofs.answer_hall.Goals as goal
 
@@ -24,7 +23,6 @@ reply-requires c o start long = let a = c.args in
 pub returns : goal.returns
 returns c = let a = c.args in
     let plans = plans_in a.hall.now a.plans.now in
-    let none : Plan = record { stops = []; changes = [] } in
     let lines = hall_lines (hall_of a.hall.now) (answer_in plans a.f) in
-    subst (λ (n : ℕ). Replied answer_room (plainly n lines) c.args.out.now c.reply.new.out c.reply.result) (c.number_of.ensures none ∙ number_same none plans a.f)
+    subst (λ (n : ℕ). Replied answer_room (plainly n lines) c.args.out.now c.reply.new.out c.reply.result) (c.number_of.ensures ∙ number_same plans a.f)
     (c.reply.ensures lines (hall_short a.f a.hall.now a.plans.now) (λ o p start put. search rules))

@@ -1,29 +1,26 @@
 -- `put_hall`: case by case, each with its number and its lines.
 use mathlib.Core.Path.{◌≡◌, ap, subst, ◌∙◌}
-use mathlib.Core.List.{[]}
 use native.Mathlib.Omega.{arith}
-use Rattle.model.specs.Model.{Plan}
 use Rattle.lines.specs.Text.{bytes}
 use Rattle.line_writing.specs.Puts.{Room}
 use Rattle.branch.specs.Planning.{result_of}
 use Rattle.planning.specs.Plan.{search_lines}
-use Rattle.planning.specs.Finding.{Fits}
-use Rattle.planning.specs.declared.Finding.{Finding}
+use Rattle.findings.specs.Finding.{answer_in, Fits}
+use Rattle.findings.specs.declared.Finding.{Finding}
+use Rattle.findings.proofs.Numbers.{number_same}
 use Rattle.hall_jobs.specs.Views.{hall_of}
 use Rattle.hall_printing.specs.Lines.{hall_lines}
-use Rattle.hall_printing.specs.Finding.{plans_in, answer_in}
-use Rattle.hall_printing.proofs.Held.{number_same}
+use Rattle.hall_printing.specs.Finding.{plans_in}
 use Rattle.hall_printing.proofs.put_hall.Goals as goal
 use Rattle.hall_printing.proofs.put_hall.Goals.{After-number_of-number}
 
 -- the number of what is found, that it can be printed, and the room for its lines
 number : (c : After-number_of-number) (f : Finding) → c.args.f ≡ f → c.number_of-number.result ≡ result_of (answer_in (plans_in c.args.hall.now c.args.plans.now) f)
 number c f e = let plans = plans_in c.args.hall.now c.args.plans.now in
-    let none : Plan = record { stops = []; changes = [] } in
-    c.number_of-number.ensures none ∙ number_same none plans c.args.f ∙ ap (λ (x : Finding). result_of (answer_in plans x)) e
+    c.number_of-number.ensures ∙ number_same plans c.args.f ∙ ap (λ (x : Finding). result_of (answer_in plans x)) e
 
-printable : (c : After-number_of-number) (f : Finding) → c.args.f ≡ f → Fits f
-printable c f e = subst Fits e c.requires.0
+printable : (c : After-number_of-number) (f : Finding) → c.args.f ≡ f → Fits (answer_in (plans_in c.args.hall.now c.args.plans.now) f)
+printable c f e = subst (λ (x : Finding). Fits (answer_in (plans_in c.args.hall.now c.args.plans.now) x)) e c.requires.0
 
 room : (c : After-number_of-number) (f : Finding) → c.args.f ≡ f → Room c.args.out.now (hall_lines (hall_of c.args.hall.now) (answer_in (plans_in c.args.hall.now c.args.plans.now) f))
 room c f e = subst (λ (x : Finding). Room c.args.out.now (hall_lines (hall_of c.args.hall.now) (answer_in (plans_in c.args.hall.now c.args.plans.now) x))) e c.requires.1

@@ -1,13 +1,14 @@
 -- `answer`: the number of what is found is handed over, and its lines are put.
 use Prim.Native.Nat.{ℕ}
-use mathlib.Core.Path.{subst}
+use mathlib.Core.Path.{subst, ◌∙◌}
 use native.Mathlib.Omega.{arith}
 use borrow.Author.Rules.{rules}
 use Rattle.line_writing.specs.Puts.{Room}
 use Rattle.jobs.specs.Views.{plan_for}
 use Rattle.job_text.specs.Views.{given_in}
 use Rattle.answers.specs.Said.{plainly, Replied}
-use Rattle.planning.specs.Finding.{answer_in}
+use Rattle.findings.specs.Finding.{answer_in}
+use Rattle.findings.proofs.Numbers.{number_same}
 use Rattle.optimizing.specs.Optimum.{optimum_lines, optimum_room}
 use Rattle.optimizing.proofs.Lengths.{lines_short}
 use Rattle.optimizing.proofs.answer.Goals as goal
@@ -22,5 +23,5 @@ pub returns : goal.returns
 returns c = let a = c.args in
     let plan = plan_for a.text.now.job.job a.plan.now in
     let lines = optimum_lines (given_in a.text.now) (answer_in plan a.f) in
-    subst (λ (n : ℕ). Replied optimum_room (plainly n lines) c.args.out.now c.reply.new.out c.reply.result) (c.number_of.ensures plan)
+    subst (λ (n : ℕ). Replied optimum_room (plainly n lines) c.args.out.now c.reply.new.out c.reply.result) (c.number_of.ensures ∙ number_same plan a.f)
     (c.reply.ensures lines (lines_short a.f a.text.now a.plan.now c.requires) (λ o p start put. search rules))

@@ -6,16 +6,20 @@ use Rattle.line_writing.specs.Puts.{Room}
 use Rattle.model.specs.Promise.{result_of}
 use Rattle.jobs.specs.Views.{plan_for}
 use Rattle.job_text.specs.Views.{given_in}
+use Rattle.findings.specs.Finding.{answer_in, Fits}
+use Rattle.findings.specs.declared.Finding.{Finding}
+use Rattle.findings.proofs.Numbers.{number_same}
 use Rattle.planning.specs.Plan.{search_lines, planner_lines}
-use Rattle.planning.specs.Finding.{answer_in, Fits}
-use Rattle.planning.specs.declared.Finding.{Finding}
 use Rattle.planning.proofs.put_finding.Goals as goal
 use Rattle.planning.proofs.put_finding.Goals.{After-number_of-number}
 
--- the number of what is found, and the room for its lines
+-- the number of what is found, that it can be printed, and the room for its lines
 number : (c : After-number_of-number) (f : Finding) → c.args.f ≡ f → c.number_of-number.result ≡ result_of (answer_in (plan_for c.args.text.now.job.job c.args.plan.now) f)
 number c f e = let plan = plan_for c.args.text.now.job.job c.args.plan.now in
-    c.number_of-number.ensures plan ∙ ap (λ (x : Finding). result_of (answer_in plan x)) e
+    c.number_of-number.ensures ∙ number_same plan c.args.f ∙ ap (λ (x : Finding). result_of (answer_in plan x)) e
+
+printable : (c : After-number_of-number) (f : Finding) → c.args.f ≡ f → Fits (answer_in (plan_for c.args.text.now.job.job c.args.plan.now) f)
+printable c f e = subst (λ (x : Finding). Fits (answer_in (plan_for c.args.text.now.job.job c.args.plan.now) x)) e c.requires.0
 
 room : (c : After-number_of-number) (f : Finding) → c.args.f ≡ f → Room c.args.out.now (planner_lines (given_in c.args.text.now) (answer_in (plan_for c.args.text.now.job.job c.args.plan.now) f))
 room c f e = subst (λ (x : Finding). Room c.args.out.now (planner_lines (given_in c.args.text.now) (answer_in (plan_for c.args.text.now.job.job c.args.plan.now) x))) e c.requires.1
@@ -27,18 +31,18 @@ put_line-requires c = let here = (goal.at.put_line-requires c).After-number_of-n
 
 pub put_planned-requires : goal.put_planned-requires
 put_planned-requires c = let here = (goal.at.put_planned-requires c).After-number_of-number in
-    let h = subst Fits c.in-Optimum.is c.requires.0 in
+    let h = printable here _ c.in-Optimum.is in
     rw (number here _ c.in-Optimum.is) (record { printable = (h.0, h.1, h.2); plan_in_bounds = room here _ c.in-Optimum.is })
 
 pub put_planned-requires-in-Cut : goal.put_planned-requires-in-Cut
 put_planned-requires-in-Cut c = let here = (goal.at.put_planned-requires-in-Cut c).After-number_of-number in
-    let h = subst Fits c.in-Cut.is c.requires.0 in
+    let h = printable here _ c.in-Cut.is in
     rw (number here _ c.in-Cut.is) (record { printable = (h.0, h.1, h.2); plan_in_bounds = room here _ c.in-Cut.is })
 
 pub put_three-requires : goal.put_three-requires
 unfolding search_lines bytes
 put_three-requires c = let here = (goal.at.put_three-requires c).After-number_of-number in
-    let h = subst Fits c.in-CutBare.is c.requires.0 in
+    let h = printable here _ c.in-CutBare.is in
     rw (number here _ c.in-CutBare.is) (h.0, h.1, room here _ c.in-CutBare.is)
 
 pub returns-in-NoPlan : goal.returns-in-NoPlan

@@ -1,0 +1,2 @@
+-- The numbers of findings and answers (Numbers).
+pub mod Numbers

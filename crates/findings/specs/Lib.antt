@@ -1,0 +1,2 @@
+-- What a search found, and the answer that it is (Finding).
+pub mod Finding
