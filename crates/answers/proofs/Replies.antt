@@ -1,8 +1,9 @@
--- One law for every call: an answer that was written whole (`replied`), or refused for want of room (`no_room`), is the one that `lent` says.
+-- For every call: an answer that was written whole (`replied`), or refused for want of room (`no_room`), is the one that `lent` says; and what holds with room and without holds of what is lent (`with_room`).
 use Prim.Native.Nat.{ℕ, ◌≤◌, ◌<◌}
 use mathlib.Core.Path.{◌≡◌, refl, ap, ◌∙◌}
 use mathlib.Core.List.{List, []}
 use native.Mathlib.Omega.{arith}
+use native.Mathlib.Decide.{dec_lt}
 use borrow.Author.Tests.{lt-ltb, le-ltb}
 use lib.ListN.{length}
 use Rattle.lines.specs.Parser.{Outcome, refused}
@@ -10,7 +11,7 @@ use Rattle.lines.specs.Wrote.{Wrote}
 use Rattle.lines.proofs.Outcomes.{one_fault}
 use Rattle.fault_lines.proofs.Breaks.{span_cuts}
 use Rattle.lines.proofs.Writing.{written, kept, counted}
-use Rattle.answers.specs.Said.{Said, Refuses, plainly, refusal, handed, Replied}
+use Rattle.answers.specs.Said.{Said, Refuses, plainly, refusal, lent, handed, Replied}
 use Rattle.answers.specs.declared.Answer.{Answer}
 
 -- where there is room, what was written and counted is the call's reply
@@ -33,6 +34,14 @@ no_room need s d {r} h e =
       output_is = rw (lt-ltb (length d) need h);
       counted = counted r.length d (omega arith);
     }
+
+-- what holds of 8 where the output is too short, and of an answer where there is room, holds of the answer that is lent this room
+pub with_room : (P : Said → Type 0) (need room : ℕ) (s : Said) → (room < need → P (plainly 8 [])) → (need ≤ room → P s) → P (lent need room s)
+with_room P need room s short f = go (dec_lt room need)
+  where
+    go : Dec (room < need) → P (lent need room s)
+    go (yes h) = rw (lt-ltb room need h) (short h)
+    go (no n) = let h : need ≤ room = omega (arith, n) in rw (le-ltb room need h) (f h)
 
 -- the answer to a text's fault is the one to any fault that the text reads as
 pub refuses : {A : Type 0} {x : Outcome A} (which : ℕ) (text : List ℕ) {n l i j : ℕ} → x ≡ refused n l → x ≡ refused i j → Refuses which text i j (refusal which text n l)

@@ -11,6 +11,7 @@ use lib.Seq.{get_or-set_same, get_or-set_other}
 use Rattle.base.specs.Joined.{joined}
 use Rattle.base.specs.Chosen.{chosen, numbers_of_lem}
 use Rattle.base.proofs.Joined.{joined_more}
+use Rattle.base.proofs.Bools.{cond_most}
 
 -- ---- growth
 
@@ -26,15 +27,11 @@ chosen_count test f n =
     ∙ length-append (chosen test f n) (cond (test n) (f n ∷ []) [])
     ∙ ap (λ (k : ℕ). length (chosen test f n) + k) (cond-length (test n) (f n))
 
-at_most_one : (b : Bool) → cond b 1 0 ≤ 1
-at_most_one true = omega arith
-at_most_one false = omega arith
-
 -- of n numbers a test chooses n at most
 pub chosen_few : {A : Type 0} (test : ℕ → Bool) (f : ℕ → A) (n : ℕ) → length (chosen test f n) ≤ n
 unfolding chosen joined
 chosen_few test f zero = omega arith
-chosen_few test f (suc n) = rw length-append (omega (arith, chosen_few test f n, cond-length (test n) (f n), at_most_one (test n)))
+chosen_few test f (suc n) = rw length-append (omega (arith, chosen_few test f n, cond-length (test n) (f n), cond_most (test n) 1))
 
 -- the same tests choose the same
 pub chosen_same : {A : Type 0} (test test' : ℕ → Bool) (f g : ℕ → A) (n : ℕ) → ((i : ℕ) → i < n → test i ≡ test' i) → ((i : ℕ) → i < n → f i ≡ g i) → chosen test f n ≡ chosen test' g n

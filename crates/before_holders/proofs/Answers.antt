@@ -59,8 +59,8 @@ module _ (text : List ℕ) (a : Accepted text) where
       let few = walk_before text a.given a.is in
       let same : planning.walk_number_lem a.given.walk ≡ a.given.walk = omega (arith, few) in
       ap (planning.on_job text a.given.walk) today
-      ∙ ap (λ (n : ℕ). planning.said_for (before.unbanded job) (answer_of job n)) same
-      ∙ ap (planning.said_for (before.unbanded job)) (answer_before job plain a.given.walk)
+      ∙ ap (λ (n : ℕ). planning.planner_reply (before.unbanded job) (answer_of job n)) same
+      ∙ ap (planning.planner_reply (before.unbanded job)) (answer_before job plain a.given.walk)
       ∙ sym (ap (before.plan_on text) a.is)
 
   -- the count says of an accepted text what it said before holders
@@ -77,7 +77,7 @@ module _ (text : List ℕ) (a : Accepted text) where
   judge_before plan stated e =
       ap (judging.on_job text plan) today
       ∙ ap (judging.on_plan plan job) (plan_before job plan stated e)
-      ∙ ap (λ (c : ℕ). judging.said_of (judged stated.cost c (verdict_of_lem job stated.plan))) (cost_before job plain stated.plan)
+      ∙ ap (λ (c : ℕ). judging.judge_reply (judged stated.cost c (verdict_of_lem job stated.plan))) (cost_before job plain stated.plan)
       ∙ sym (ap (before.judge_plan_lem plan job) e)
       ∙ sym (ap (before.judge_on text plan) a.is)
 

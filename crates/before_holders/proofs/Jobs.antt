@@ -36,7 +36,7 @@ use Rattle.job_grammar.proofs.Accepted.{KnownIdles, idles_tell, KnownOpening, op
 use Rattle.job_grammar.proofs.Lows.{meant_valid}
 use Rattle.job_grammar.proofs.Complete.{idles_complete, opening_complete, openings_chained, read_back}
 use Rattle.before_holders.specs.Texts as before
-use Rattle.before_holders.specs.AsBefore.{Accepted, as_today, BarePart, Bare}
+use Rattle.before_holders.specs.AsBefore.{Accepted, as_today, BarePart, BareText}
 use Rattle.before_holders.proofs.Exact.{Exact, Any, exactly, row_exact, checked_exact, chain_exact, return_exact, bind_exact, exact_as}
 
 -- ---- what a text said, as it is said today: the walk line stands, no part has lines of removal, and prices are listed, each a single one
@@ -87,7 +87,7 @@ told_part p = record { life = p.life; left = p.left; prices = meant_prices 0 p.p
 told : ℕ → JobText → before.JobText
 told w t = record { horizon = t.horizon; idles = t.idles; walk = w; openings = t.openings; parts = map told_part t.parts }
 
-today-told : (t : JobText) (b : Bare t) → today (told b.walk t) ≡ t
+today-told : (t : JobText) (b : BareText t) → today (told b.walk t) ≡ t
 unfolding told
 today-told t bare = let e = go t.parts bare.parts in λ i. record { horizon = t.horizon; idles = t.idles; walk = sym bare.there i; openings = t.openings; parts = e i }
   where
@@ -341,7 +341,7 @@ text_before s t e =
     ap read_job_text (k.text ∙ append-nil (job_text_lem (today t))) ∙ read_back (today t) k.known.valid
 
 -- one that is accepted and has no lines of removal, no rule, no pair and no left of 0 was accepted, if it is not too long
-pub was_accepted : (s : List ℕ) → length s ≤ before.max_bytes → (t : JobText) → read_job_text s ≡ accepted t → Bare t → Accepted s
+pub was_accepted : (s : List ℕ) → length s ≤ before.max_bytes → (t : JobText) → read_job_text s ≡ accepted t → BareText t → Accepted s
 unfolding told
 was_accepted s few t e bare =
     let u = told bare.walk t in
@@ -381,7 +381,7 @@ walk_before s g e =
     subst (λ (h : before.Given). h.walk ≤ 4000000000) t.means (lines_exact.tells s [] 1 a.last t.text a.lines).known.valid.walk
 
 -- exactly which texts were accepted
-pub accepted-before : (s : List ℕ) → Accepted s ↔ ((length s ≤ before.max_bytes) × (t : JobText) × ((read_job_text s ≡ accepted t) × Bare t))
+pub accepted-before : (s : List ℕ) → Accepted s ↔ ((length s ≤ before.max_bytes) × (t : JobText) × ((read_job_text s ≡ accepted t) × BareText t))
 accepted-before s = (
   λ a. let u = said s a.given a.is in (
     (accepted_is before.max_bytes before.job_lines s u.text u.is).few,

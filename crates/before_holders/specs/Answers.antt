@@ -23,7 +23,7 @@ unbanded job = record { job = job; low = job; banded = false }
 
 -- by what the job text read as: E4's answer at its walk number, or its fault
 abbrev pub plan_on : List ℕ → Outcome Given → Said
-plan_on text (accepted given) = planning.said_for (unbanded given.job) (plain_answer given.job given.walk)
+plan_on text (accepted given) = planning.planner_reply (unbanded given.job) (plain_answer given.job given.walk)
 plan_on text (refused number line) = refusal 1 text number line
 
 -- what the planner said of a job text where there was room
@@ -38,7 +38,7 @@ plan_room = 16384
 
 -- once the job was read: the plan text against it, whose cost had no removals
 abbrev pub judge_plan_lem : List ℕ → Job → Outcome Stated → Said
-judge_plan_lem plan job (accepted stated) = judging.said_of (judged stated.cost (plain_cost job stated.plan) (verdict_of_lem job stated.plan))
+judge_plan_lem plan job (accepted stated) = judging.judge_reply (judged stated.cost (plain_cost job stated.plan) (verdict_of_lem job stated.plan))
 judge_plan_lem plan job (refused number line) = refusal 2 plan number line
 
 -- by what the job text read as: its fault came before any of the plan's

@@ -32,7 +32,7 @@ pub record BarePart (p : PartText) : Type 0 where
   pub listed : p.prices ≡ by_list (map single prices)
 
 -- what it says today has the walk line, no lines of removal, no rule, no pair and no left of 0
-pub record Bare (t : today.JobText) : Type 0 where
+pub record BareText (t : today.JobText) : Type 0 where
   pub walk : ℕ
   pub there : t.walk ≡ Some walk
   pub parts : All BarePart t.parts
@@ -46,7 +46,7 @@ pub record BothAccepted (job plan : List ℕ) : Type 0 where
 -- of all texts and rooms: which texts were free of faults, what they said, and every call's answer
 pub record AsBefore : Type 0 where
   -- exactly the job texts that are accepted today, with the walk line and without lines of removal, a rule, a pair or a left of 0, and not longer than a text might be, were accepted
-  pub accepts : (text : List ℕ) → Accepted text ↔ ((length text ≤ max_bytes) × (t : today.JobText) × ((today.read_job_text text ≡ accepted t) × Bare t))
+  pub accepts : (text : List ℕ) → Accepted text ↔ ((length text ≤ max_bytes) × (t : today.JobText) × ((today.read_job_text text ≡ accepted t) × BareText t))
   -- the texts say what they said
   pub job_text_lem2 : (text : List ℕ) (a : Accepted text) → today.read_job_lem text ≡ accepted (as_today a.given)
   pub plan_text_lem2 : (job plan : List ℕ) (a : BothAccepted job plan) → plans.read_plan_lem a.job_text_lem2.given.job plan ≡ accepted a.stated

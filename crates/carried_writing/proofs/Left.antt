@@ -1,9 +1,9 @@
--- What is left behind a log's step, with the life not yet used of each part, is the new job's text (`carried_is`; `behind`). By the parts, one after the other.
+-- What is left behind a log's step, with the life not yet used of each part, is the new job's text (`carried_is`). By the parts, one after the other.
 use Rattle.std.specs.Prelude.{None}
 use mathlib.Core.Path.{◌≡◌, refl, sym, ap, ap₂, ◌∙◌}
 use mathlib.Core.Bool.{Bool}
 use mathlib.Core.List.{List, [], ◌∷◌, map}
-use Prim.Native.Nat.{ℕ, zero, suc, ◌-◌, ◌<◌}
+use Prim.Native.Nat.{ℕ, suc, ◌-◌, ◌<◌}
 use native.Mathlib.Omega.{arith}
 use lib.ListN.{length, get_or, drop}
 use Rattle.model.specs.Model.{Job}
@@ -12,14 +12,10 @@ use Rattle.part_lines.specs.Grammar.{PartText, meant_part}
 use Rattle.job_grammar.specs.Grammar.{JobText, idle_in}
 use Rattle.job_grammar.specs.Optionals.{idle_lines}
 use Rattle.carry.specs.Carry.{Log, passed, later, renumbered, unused, natural}
-use Rattle.carry_texts.specs.Carried.{meant_job, carried_part_lines, carried_text}
+use Rattle.job_grammar.specs.Reading.{meant_job}
+use Rattle.carry_texts.specs.Carried.{carried_part_lines, carried_text}
 use Rattle.carried_writing.specs.Left.{part_left, parts_left, text_left}
-
--- behind the first of a list
-pub behind : {A : Type 0} (xs : List A) (i : ℕ) (d : A) → get_or (drop 1 xs) i d ≡ get_or xs (suc i) d
-behind [] zero d = refl
-behind [] (suc i) d = refl
-behind (x ∷ xs) i d = refl
+use Rattle.base.proofs.Bools.{after_one}
 
 parts_are : (n : ℕ) (job : Job) (step : ℕ) (ps : List PartText) (cs : List (List Bool)) (rs : List ℕ)
     → ((i : ℕ) → i < length ps → get_or rs i 0 ≡ natural (unused job step (get_or (map (meant_part n) ps) i no_part) (get_or cs i [])))
@@ -29,7 +25,7 @@ parts_are n job step [] cs rs h = refl
 parts_are n job step (p ∷ ps) cs rs h =
     ap₂ (λ (r : ℕ) (qs : List PartText). part_left n (passed job step) r p ∷ qs) (h 0 (omega arith))
     (parts_are n job step ps (drop 1 cs) (drop 1 rs)
-    (λ i l. behind rs i 0 ∙ h (suc i) (omega arith) ∙ ap (λ (c : List Bool). natural (unused job step (get_or (map (meant_part n) ps) i no_part) c)) (sym (behind cs i []))))
+    (λ i l. after_one rs i 0 ∙ h (suc i) (omega arith) ∙ ap (λ (c : List Bool). natural (unused job step (get_or (map (meant_part n) ps) i no_part) c)) (sym (after_one cs i []))))
 
 -- where each part's left is the life that it has not used by the log
 pub carried_is : (t : JobText) (log : Log) (rs : List ℕ)

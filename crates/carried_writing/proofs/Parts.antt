@@ -29,8 +29,8 @@ use Rattle.form_facts.specs.Facts.{quotes_from, Marked}
 use Rattle.carry_texts.specs.Carried.{quoted}
 use Rattle.carried_writing.specs.Lists.{pair_mark, low_in, lows_said}
 use Rattle.carried_writing.specs.Left.{part_left, parts_left}
-use Rattle.carried_writing.proofs.Left.{behind}
 use Rattle.carried_writing.proofs.Quoted.{paired_is, paired_marked, quotes_left}
+use Rattle.base.proofs.Bools.{after_one}
 
 -- ---- what is said of all parts
 
@@ -131,7 +131,7 @@ parts_at : (n k : ℕ) (rs : List ℕ) (ps : List PartText) (i : ℕ) (d : PartT
 unfolding parts_left
 parts_at n k rs [] i d h = absurd (omega arith)
 parts_at n k rs (p ∷ ps) zero d h = refl
-parts_at n k rs (p ∷ ps) (suc i) d h = parts_at n k (drop 1 rs) ps i d (omega arith) ∙ ap (λ (r : ℕ). part_left n k r (get_or ps i d)) (behind rs i 0)
+parts_at n k rs (p ∷ ps) (suc i) d h = parts_at n k (drop 1 rs) ps i d (omega arith) ∙ ap (λ (r : ℕ). part_left n k r (get_or ps i d)) (after_one rs i 0)
 
 told_at : (ss : List PartSaid) (ps : List model.Part) (i : ℕ) (d : PartText) → i < length ss → i < length ps → get_or (parts_lines ss ps) i d ≡ part_lines_lem (get_or ss i blank_said) (get_or ps i no_part)
 unfolding parts_lines

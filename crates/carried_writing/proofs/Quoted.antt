@@ -14,7 +14,7 @@ use Rattle.quotes.specs.Views.{quote_of, quotes_of}
 use Rattle.price_rules.specs.Grammar.{meant_prices}
 use Rattle.price_rules.specs.declared.Rule.{Rule}
 use Rattle.part_lines.specs.Views.{prices_told}
-use Rattle.form_facts.specs.Facts.{quotes_from, sum_all, Marked}
+use Rattle.form_facts.specs.Facts.{quotes_from, sum_of, Marked}
 use Rattle.carry_texts.specs.Carried.{quoted}
 use Rattle.carried_writing.specs.Lists.{pair_mark, low_in, lows_unless}
 
@@ -34,7 +34,7 @@ marks_small [] = tt
 marks_small (None ∷ ls) = (omega arith, marks_small ls)
 marks_small (Some l ∷ ls) = (omega arith, marks_small ls)
 
-ends_counted : (ls : List (Option ℕ)) → sum_all (map pair_mark ls) ≡ length (texts low_in ls)
+ends_counted : (ls : List (Option ℕ)) → sum_of (map pair_mark ls) ≡ length (texts low_in ls)
 ends_counted [] = refl
 ends_counted (None ∷ ls) = omega (arith, ends_counted ls)
 ends_counted (Some l ∷ ls) = omega (arith, ends_counted ls)

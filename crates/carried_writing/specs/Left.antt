@@ -5,7 +5,8 @@ use Rattle.part_lines.specs.Grammar.{PartText}
 use Rattle.job_grammar.specs.Grammar.{JobText, idle_in}
 use Rattle.job_grammar.specs.Optionals.{idle_lines}
 use Rattle.carry.specs.Carry.{passed, later, renumbered}
-use Rattle.carry_texts.specs.Carried.{meant_job, quoted}
+use Rattle.job_grammar.specs.Reading.{meant_job}
+use Rattle.carry_texts.specs.Carried.{quoted}
 
 -- a part's lines with this left, and with its prices at the openings that are left when k of n are past
 abbrev pub part_left : ℕ → ℕ → ℕ → PartText → PartText

@@ -13,7 +13,7 @@ use Rattle.model.proofs.Positions.{never_falls, within_earlier, last_most}
 use Rattle.model.proofs.Dues.{Every, every_back, every_next}
 use Rattle.model.proofs.Verdicts.{judge, judge_only, each_at, at_each}
 use Rattle.carry.specs.Carry.{Log, Logged, Lasts, Accepts, carried, AllLast}
-use Rattle.carry.specs.Answer.{until, CarryAnswer, goes_on, refused, answered, answer_to}
+use Rattle.carry.specs.Answer.{until, CarryAnswer, goes_on, refused, carry_answered, answer_to}
 use Rattle.carry.specs.Promise.{LowestUsedUp, LogPromise}
 use Rattle.carry.proofs.Gaps.{kept_last}
 use Rattle.carry.proofs.Parts.{Done, logged_done}
@@ -136,7 +136,7 @@ module _ (job : Job) (log : Log) (logged : Logged job log) where
 
   -- ---- the answer
 
-  promised : (j : Judgement) → JudgementPromise (until job log.step) log.cost log.plan j → LogPromise job log (answered (carried job log) j)
+  promised : (j : Judgement) → JudgementPromise (until job log.step) log.cost log.plan j → LogPromise job log (carry_answered (carried job log) j)
   promised (accepts cost) x =
       let h = x.says_0.0 refl in
       let l = last_kept.1 h.0 in
@@ -174,7 +174,7 @@ module _ (job : Job) (log : Log) (logged : Logged job log) where
   pub accepted_goes_on : Accepts job log → answer_to job log ≡ goes_on (carried job log)
   accepted_goes_on a = go (judged_of (until job log.step) log.cost log.plan) log_promise
     where
-      go : (j : Judgement) → LogPromise job log (answered (carried job log) j) → answered (carried job log) j ≡ goes_on (carried job log)
+      go : (j : Judgement) → LogPromise job log (carry_answered (carried job log) j) → carry_answered (carried job log) j ≡ goes_on (carried job log)
       go (accepts cost) x = refl
       go (unkept part due) x = absurd (omega (arith, x.says_0.1 a))
       go (wrong_cost cost) x = absurd (omega (arith, x.says_0.1 a))
@@ -185,7 +185,7 @@ module _ (job : Job) (log : Log) (logged : Logged job log) where
   log_only (refused (accepts cost)) x = absurd x.values
   log_only (refused (unkept part due)) x =
       let h = x.says_10.0 refl in
-      ap (answered (carried job log)) (judge_only (until job log.step) log.plan log.cost (unkept part due) (record {
+      ap (carry_answered (carried job log)) (judge_only (until job log.step) log.plan log.cost (unkept part due) (record {
         says_0 = ((λ q. absurd (omega arith)), λ k. absurd (h (last_kept.1 k.0)));
         says_10 = ((λ _ k. h (last_kept.1 k)), λ _. refl);
         says_11 = ((λ q. absurd (omega arith)), λ k. absurd (h (last_kept.1 k.0)));
@@ -195,7 +195,7 @@ module _ (job : Job) (log : Log) (logged : Logged job log) where
       let h = x.says_11.0 refl in
       let k = last_kept.0 h.0 in
       let e = cost_until job log.step log.plan in
-      ap (answered (carried job log)) (judge_only (until job log.step) log.plan log.cost (wrong_cost cost) (record {
+      ap (carry_answered (carried job log)) (judge_only (until job log.step) log.plan log.cost (wrong_cost cost) (record {
         says_0 = ((λ q. absurd (omega arith)), λ f. absurd (h.1 (f.1 ∙ e)));
         says_10 = ((λ q. absurd (omega arith)), λ f. absurd (f k));
         says_11 = ((λ _. (k, λ f. h.1 (f ∙ e))), λ _. refl);

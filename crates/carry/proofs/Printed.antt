@@ -8,7 +8,7 @@ use Rattle.model.specs.Promise.{BestPlan, optimum, answer_of, PlanFor, Any}
 use Rattle.model.proofs.Promised.{promise}
 use Rattle.model.proofs.Verdicts.{lives_shaped}
 use Rattle.carry.specs.Carry.{Log, Logged, Accepts, carried}
-use Rattle.carry.specs.Answer.{CarryAnswer, goes_on, refused, answer_to, number_of}
+use Rattle.carry.specs.Answer.{CarryAnswer, goes_on, refused, answer_to, carry_number}
 use Rattle.carry.specs.Start.{Starts, start_of, Remaining}
 use Rattle.carry.specs.Joined.{joined_log}
 use Rattle.carry.proofs.Best.{best_accepts, best_rest, rest_printed}
@@ -45,7 +45,7 @@ module _ (job : Job) (rising : Rising 0 job.horizon (steps_of job.openings)) whe
 
   accepts_told : (over : Job) (log : Log) → Logged over log → (next : Job) → answer_to over log ≡ goes_on next → Accepts over log × (next ≡ carried over log)
   accepts_told over log l next e =
-      let a = (log_promise over log l).says_0.0 (ap number_of e) in
+      let a = (log_promise over log l).says_0.0 (ap carry_number e) in
       (a, ap (told_job next) (sym e ∙ accepted_goes_on over log l a))
     where
       told_job : Job → CarryAnswer → Job

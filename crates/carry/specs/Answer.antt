@@ -14,18 +14,18 @@ pub data CarryAnswer : Type 0 where
   refused : Judgement → CarryAnswer  -- 10 or 11, with the judge's lines
 
 -- the result number: none is printed before a job text, and the host is handed 0
-abbrev pub number_of : CarryAnswer → ℕ
-number_of (goes_on next) = 0
-number_of (refused (accepts cost)) = 0
-number_of (refused (unkept part due)) = 10
-number_of (refused (wrong_cost cost)) = 11
+abbrev pub carry_number : CarryAnswer → ℕ
+carry_number (goes_on next) = 0
+carry_number (refused (accepts cost)) = 0
+carry_number (refused (unkept part due)) = 10
+carry_number (refused (wrong_cost cost)) = 11
 
 -- by the judgement on what was done
-abbrev pub answered : Job → Judgement → CarryAnswer
-answered next (accepts cost) = goes_on next
-answered next (unkept part due) = refused (unkept part due)
-answered next (wrong_cost cost) = refused (wrong_cost cost)
+abbrev pub carry_answered : Job → Judgement → CarryAnswer
+carry_answered next (accepts cost) = goes_on next
+carry_answered next (unkept part due) = refused (unkept part due)
+carry_answered next (wrong_cost cost) = refused (wrong_cost cost)
 
 -- "After the log's own line faults comes result 10 if a part had used more than its life by that step or between changes, then 11."
 abbrev pub answer_to : Job → Log → CarryAnswer
-answer_to job log = answered (carried job log) (judged_of (until job log.step) log.cost log.plan)
+answer_to job log = carry_answered (carried job log) (judged_of (until job log.step) log.cost log.plan)

@@ -3,7 +3,7 @@ use Rattle.std.specs.Prelude.{◌≡◌, Bool, false, List, ◌++◌, ◌↔◌,
 use Rattle.model.specs.Model.{Part, Job, clock, positions, last_change_lem, within, due_of_lem, select, cost_of_lem}
 use Rattle.model.specs.Verdict.{accepts, unkept, wrong_cost, part_at, changes_at, last_of, next_of, AllWithin}
 use Rattle.carry.specs.Carry.{Log, Lasts, AllLast, Accepts, carried}
-use Rattle.carry.specs.Answer.{CarryAnswer, goes_on, refused, number_of}
+use Rattle.carry.specs.Answer.{CarryAnswer, goes_on, refused, carry_number}
 
 -- ---- 10
 
@@ -32,17 +32,17 @@ pub record LowestUsedUp (job : Job) (log : Log) (part due : ℕ) : Type 0 where
 -- ---- the answer
 
 -- the values handed over, case by case
-abbrev pub Values : Job → Log → CarryAnswer → Type 0
-Values job log (goes_on next) = next ≡ carried job log
-Values job log (refused (accepts cost)) = ⊥
-Values job log (refused (unkept part due)) = LowestUsedUp job log part due
-Values job log (refused (wrong_cost cost)) = cost ≡ cost_of_lem job log.plan
+abbrev pub CarryValues : Job → Log → CarryAnswer → Type 0
+CarryValues job log (goes_on next) = next ≡ carried job log
+CarryValues job log (refused (accepts cost)) = ⊥
+CarryValues job log (refused (unkept part due)) = LowestUsedUp job log part due
+CarryValues job log (refused (wrong_cost cost)) = cost ≡ cost_of_lem job log.plan
 
 -- what is promised of the answer
 pub record LogPromise (job : Job) (log : Log) (a : CarryAnswer) : Type 0 where
-  pub says_0 : (number_of a ≡ 0) ↔ Accepts job log
+  pub says_0 : (carry_number a ≡ 0) ↔ Accepts job log
   -- "result 10 if a part had used more than its life by that step or between changes"
-  pub says_10 : (number_of a ≡ 10) ↔ (AllLast job log → ⊥)
+  pub says_10 : (carry_number a ≡ 10) ↔ (AllLast job log → ⊥)
   -- "then 11"
-  pub says_11 : (number_of a ≡ 11) ↔ (AllLast job log × (log.cost ≡ cost_of_lem job log.plan → ⊥))
-  pub values : Values job log a
+  pub says_11 : (carry_number a ≡ 11) ↔ (AllLast job log × (log.cost ≡ cost_of_lem job log.plan → ⊥))
+  pub values : CarryValues job log a

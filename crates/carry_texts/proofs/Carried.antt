@@ -32,7 +32,8 @@ use Rattle.carry.proofs.Keeps.{openings_size}
 use Rattle.carry.proofs.Kin.{parts-length}
 use Rattle.carry.proofs.Splits.{map-drop}
 use Rattle.carry.proofs.Valid.{rising_later, left_most, prices_fit, openings_rise}
-use Rattle.carry_texts.specs.Carried.{meant_job, quoted, carried_part_lines, carried_text}
+use Rattle.job_grammar.specs.Reading.{meant_job}
+use Rattle.carry_texts.specs.Carried.{quoted, carried_part_lines, carried_text}
 
 -- ---- prices written out, from an opening on
 

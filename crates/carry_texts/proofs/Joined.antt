@@ -29,7 +29,8 @@ use Rattle.log_grammar.specs.Grammar.{log_of, read_log}
 use Rattle.log_grammar.specs.Rendering.{log_says, joined_text}
 use Rattle.log_grammar.proofs.Logs.{log_tells, says_log}
 use Rattle.log_grammar.proofs.Joined.{joined_read}
-use Rattle.carry_texts.specs.Carried.{meant_job, quoted, carried_part_lines, carried_text}
+use Rattle.job_grammar.specs.Reading.{meant_job}
+use Rattle.carry_texts.specs.Carried.{quoted, carried_part_lines, carried_text}
 use Rattle.carry_texts.specs.Carries.{Carries, job_in, done_in, joined_lines}
 use Rattle.carry_texts.proofs.Carried.{means_carried, carried_read}
 

@@ -19,7 +19,8 @@ use Rattle.carry.proofs.Best.{best_accepts}
 use Rattle.carry.proofs.Printed.{printed_remains}
 use Rattle.log_grammar.specs.Grammar.{LogText, log_of, read_log}
 use Rattle.log_grammar.specs.Rendering.{log_text_lem, log_says}
-use Rattle.carry_texts.specs.Carried.{meant_job, carried_text}
+use Rattle.job_grammar.specs.Reading.{meant_job}
+use Rattle.carry_texts.specs.Carried.{carried_text}
 use Rattle.carry_texts.specs.Carries.{Carries}
 use Rattle.carry_texts.proofs.Carried.{means_carried}
 use Rattle.log_grammar.proofs.Logs.{log_tells, log_back}

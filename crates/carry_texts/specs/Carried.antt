@@ -5,13 +5,10 @@ use Rattle.quotes.specs.Grammar.{Quote, single}
 use Rattle.price_rules.specs.Rule.{rule_prices_lem}
 use Rattle.price_rules.specs.Grammar.{Prices, by_list, by_rule_lem}
 use Rattle.part_lines.specs.Grammar.{PartText, meant_part}
-use Rattle.job_grammar.specs.Grammar.{JobText, idle_in, meant}
+use Rattle.job_grammar.specs.Grammar.{JobText, idle_in}
+use Rattle.job_grammar.specs.Reading.{meant_job}
 use Rattle.job_grammar.specs.Optionals.{idle_lines}
 use Rattle.carry.specs.Carry.{Log, passed, later, renumbered, unused, natural}
-
--- the job that the text means, at the high ends of its prices
-abbrev pub meant_job : JobText → Job
-meant_job t = (meant t).job
 
 -- E12.3. "A part given by E8's rule is written with `price` lines": a part's prices at n openings, those of a rule one by one, others as they are quoted
 abbrev pub quoted : ℕ → Prices → List Quote

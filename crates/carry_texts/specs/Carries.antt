@@ -7,7 +7,8 @@ use Rattle.model.specs.Model.{Job}
 use Rattle.carry.specs.Carry.{Log, Accepts}
 use Rattle.log_grammar.specs.Grammar.{LogText, log_of, read_log}
 use Rattle.log_grammar.specs.Rendering.{joined_text}
-use Rattle.carry_texts.specs.Carried.{meant_job, carried_text}
+use Rattle.job_grammar.specs.Reading.{meant_job}
+use Rattle.carry_texts.specs.Carried.{carried_text}
 
 -- "carrying on by a [..] log [..] is accepted": what the two texts say, that no part had used more than its life and the cost is true, and the text that is given
 pub record Carries (job log next : List ℕ) : Type 0 where

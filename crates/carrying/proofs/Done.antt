@@ -13,7 +13,7 @@ use Rattle.jobs.specs.Views.{job_of, model_plan, plan_for}
 use Rattle.jobs.specs.declared.accepted.Accepted.{Accepted}
 use Rattle.jobs.proofs.Jobs.{part_count}
 use Rattle.plan_costs.proofs.Dearest.{cost_most}
-use Rattle.verdict.specs.Ranges.{Limited}
+use Rattle.verdict.specs.Ranges.{RangedJudgement}
 use Rattle.verdict.proofs.Limits.{judged_within}
 use Rattle.job_grammar.specs.Grammar.{Given}
 use Rattle.job_grammar.specs.Rendering.{job_text_lem}
@@ -32,7 +32,8 @@ use Rattle.log_text.specs.Views.{said}
 use Rattle.log_text.specs.declared.whole.LogText.{LogText}
 use Rattle.log_lives.specs.Done.{judged_to, left_at, lefts_at_lem}
 use Rattle.log_lives.proofs.Until.{judged_until, left_front}
-use Rattle.carry_texts.specs.Carried.{meant_job, carried_text}
+use Rattle.job_grammar.specs.Reading.{meant_job}
+use Rattle.carry_texts.specs.Carried.{carried_text}
 use Rattle.carry_texts.proofs.Carried.{carried_valid}
 use Rattle.carried_writing.specs.Left.{text_left}
 use Rattle.carried_writing.proofs.Left.{carried_is}
@@ -72,7 +73,7 @@ module _ (t : AcceptedText) (d : LogText) (both : BothRead t d) where
       ∙ ap (said_after (text_in t) done) (sym e)
 
   -- its values are within their ranges
-  pub judged_small : (j : Judgement) → j ≡ judged_of (until job d.step) done.cost done.plan → Limited j
+  pub judged_small : (j : Judgement) → j ≡ judged_of (until job d.step) done.cost done.plan → RangedJudgement j
   judged_small j e =
       let v = t.job.valid in
       judged_within (until job d.step) v.few_parts (omega (arith, step_inside, v.horizon_high)) done.plan (omega (arith, cost_until job d.step done.plan, cost_most job v done.plan)) done.cost j e

@@ -10,7 +10,8 @@ use Rattle.job_grammar.proofs.Accepted.{valid_text}
 use Rattle.carry.specs.Carry.{Log, Logged, Accepts}
 use Rattle.carry.proofs.Begun.{lives_begun, cost_begun}
 use Rattle.carry.proofs.Printed.{printed_remains}
-use Rattle.carry_texts.specs.Carried.{meant_job, carried_text}
+use Rattle.job_grammar.specs.Reading.{meant_job}
+use Rattle.carry_texts.specs.Carried.{carried_text}
 use Rattle.carry_texts.proofs.Carried.{means_carried, low-carried, carried_read}
 use Rattle.carrying.specs.Promise.{CarriedOn}
 

@@ -13,7 +13,8 @@ use Rattle.answers.proofs.Lengths.{fault_short}
 use Rattle.judging.proofs.Lengths.{cost_short, unkept_short}
 use Rattle.carry.specs.Carry.{Log, Logged}
 use Rattle.log_grammar.specs.Grammar.{LogText, log_of, read_log}
-use Rattle.carry_texts.specs.Carried.{meant_job, carried_text}
+use Rattle.job_grammar.specs.Reading.{meant_job}
+use Rattle.carry_texts.specs.Carried.{carried_text}
 use Rattle.carry_texts.proofs.Carried.{carried_valid}
 use Rattle.log_grammar.proofs.Logs.{log_tells}
 use Rattle.carrying.specs.Carry.{said_after, judged_done, on_log, on_job, carry_said, carry_room}

@@ -3,8 +3,6 @@ use Prim.Native.Nat.{ℕ, ◌≤◌, ◌<◌}
 use mathlib.Core.Path.{◌≡◌, refl, sym, ap, ◌∙◌, subst}
 use mathlib.Core.List.{List, []}
 use native.Mathlib.Omega.{arith}
-use native.Mathlib.Decide.{dec_lt}
-use borrow.Author.Tests.{lt-ltb, le-ltb}
 use Rattle.lines.specs.Parser.{Outcome, accepted, refused}
 use Rattle.lines.proofs.Outcomes.{one_value, not_both}
 use Rattle.model.specs.Model.{Job, cost_of_lem}
@@ -15,18 +13,19 @@ use Rattle.job_grammar.proofs.Accepted.{valid_text}
 use Rattle.job_grammar.proofs.Numbered as job
 use Rattle.plan_grammar.proofs.Numbered as plan
 use Rattle.answers.specs.Said.{plainly, lent}
-use Rattle.answers.proofs.Replies.{refuses}
+use Rattle.answers.proofs.Replies.{refuses, with_room}
 use Rattle.judging.specs.Judge.{cost_lines, unkept_lines}
 use Rattle.carry.specs.Carry.{Log, AllLast, Accepts, carried}
-use Rattle.carry.specs.Answer.{number_of, answered}
-use Rattle.carry.specs.Promise.{LowestUsedUp, Values, LogPromise}
+use Rattle.carry.specs.Answer.{carry_number, carry_answered}
+use Rattle.carry.specs.Promise.{LowestUsedUp, CarryValues, LogPromise}
 use Rattle.carry.proofs.Answers.{log_promise}
 use Rattle.log_grammar.specs.Grammar.{LogText, log_of, read_log}
-use Rattle.carry_texts.specs.Carried.{meant_job, carried_text}
+use Rattle.job_grammar.specs.Reading.{meant_job}
+use Rattle.carry_texts.specs.Carried.{carried_text}
 use Rattle.log_grammar.proofs.Logs.{log_tells}
 use Rattle.log_grammar.proofs.Numbered as logs
 use Rattle.carrying.specs.Carry.{said_after, judged_done, on_log, on_job, carry_said, carry_room}
-use Rattle.carrying.specs.Promise.{Reading, job_in, done_in, CarriedOn, CarryPromise}
+use Rattle.carrying.specs.Promise.{LogReading, job_in, done_in, CarriedOn, CarryPromise}
 use Rattle.carrying.proofs.Going.{carried_on}
 
 module _ (text log : List ℕ) (room : ℕ) where
@@ -69,7 +68,7 @@ module _ (text log : List ℕ) (room : ℕ) where
       k : job.JobFault n
       k = (job.fault text n l (ap meaning e)).0
 
-      no : {X : Type 0} → Reading text log → X
+      no : {X : Type 0} → LogReading text log → X
       no r = not_both r.job_read e
 
   refused-log : carry_room ≤ room → (t : JobText) → read_job_text text ≡ accepted t → (n l : ℕ) → read_log (meant_job t) log ≡ refused n l → CarryPromise text log room (on_log log t (refused n l))
@@ -89,7 +88,7 @@ module _ (text log : List ℕ) (room : ℕ) where
       k : plan.PlanFault n
       k = (logs.log_fault (meant_job t) log n l e).0
 
-      no : {X : Type 0} → Reading text log → X
+      no : {X : Type 0} → LogReading text log → X
       no r = not_both r.log_read (sym (other_log et r.job_read) ∙ e)
 
   -- ---- two texts that read
@@ -101,21 +100,21 @@ module _ (text log : List ℕ) (room : ℕ) where
     abbrev done : Log
     done = log_of over said
 
-    abbrev here : Reading text log
+    abbrev here : LogReading text log
     here = record { text = t; said = said; job_read = et; log_read = ed }
 
     -- any reading is this one
-    text_is : (r : Reading text log) → r.text ≡ t
+    text_is : (r : LogReading text log) → r.text ≡ t
     text_is r = one_value et r.job_read
 
-    said_is : (r : Reading text log) → r.said ≡ said
+    said_is : (r : LogReading text log) → r.said ≡ said
     said_is r = one_value ed (other_log et r.job_read ∙ r.log_read)
 
     -- what holds of a reading holds of this one, and back
-    moved : (P : JobText → Log → Type 0) (r : Reading text log) → P r.text (done_in r) → P t done
+    moved : (P : JobText → Log → Type 0) (r : LogReading text log) → P r.text (done_in r) → P t done
     moved P r p = subst (λ (x : JobText). P x (log_of (meant_job x) said)) (text_is r) (subst (λ (y : LogText). P r.text (log_of (job_in r) y)) (said_is r) p)
 
-    moved_back : (P : JobText → Log → Type 0) (r : Reading text log) → P t done → P r.text (done_in r)
+    moved_back : (P : JobText → Log → Type 0) (r : LogReading text log) → P t done → P r.text (done_in r)
     moved_back P r p = subst (λ (y : LogText). P r.text (log_of (job_in r) y)) (sym (said_is r)) (subst (λ (x : JobText). P x (log_of (meant_job x) said)) (sym (text_is r)) p)
 
     abbrev accepting : JobText → Log → Type 0
@@ -129,9 +128,9 @@ module _ (text log : List ℕ) (room : ℕ) where
 
     -- what the model promises, and under which number it is said
     abbrev Kept : Judgement → Type 0
-    Kept j = LogPromise over done (answered (carried over done) j)
+    Kept j = LogPromise over done (carry_answered (carried over done) j)
 
-    number : (j : Judgement) → (said_after t done j).result ≡ number_of (answered (carried over done) j)
+    number : (j : Judgement) → (said_after t done j).result ≡ carry_number (carry_answered (carried over done) j)
     number (accepts c) = refl
     number (unkept p d) = refl
     number (wrong_cost c) = refl
@@ -141,13 +140,13 @@ module _ (text log : List ℕ) (room : ℕ) where
     writes_0 (unkept p d) e = absurd (omega arith)
     writes_0 (wrong_cost c) e = absurd (omega arith)
 
-    writes_10 : (j : Judgement) → Values over done (answered (carried over done) j) → (said_after t done j).result ≡ 10
+    writes_10 : (j : Judgement) → CarryValues over done (carry_answered (carried over done) j) → (said_after t done j).result ≡ 10
         → (part due : ℕ) × LowestUsedUp over done part due × ((said_after t done j).bytes ≡ unkept_lines part due)
     writes_10 (accepts c) v e = absurd (omega arith)
     writes_10 (unkept p d) v e = (p, d, v, refl)
     writes_10 (wrong_cost c) v e = absurd (omega arith)
 
-    writes_11 : (j : Judgement) → Values over done (answered (carried over done) j) → (said_after t done j).result ≡ 11 → (said_after t done j).bytes ≡ cost_lines 11 (cost_of_lem over done.plan)
+    writes_11 : (j : Judgement) → CarryValues over done (carry_answered (carried over done) j) → (said_after t done j).result ≡ 11 → (said_after t done j).bytes ≡ cost_lines 11 (cost_of_lem over done.plan)
     writes_11 (accepts c) v e = absurd (omega arith)
     writes_11 (unkept p d) v e = absurd (omega arith)
     writes_11 (wrong_cost c) v e = ap (cost_lines 11) v
@@ -194,8 +193,4 @@ module _ (text log : List ℕ) (room : ℕ) where
 
   pub promised : CarryPromise text log room (lent carry_room room (carry_said text log))
   unfolding carry_said
-  promised = go (dec_lt room carry_room)
-    where
-      go : Dec (room < carry_room) → CarryPromise text log room (lent carry_room room (carry_said text log))
-      go (yes h) = rw (lt-ltb room carry_room h) (short h)
-      go (no n) = let h : carry_room ≤ room = omega (arith, n) in rw (le-ltb room carry_room h) (on_job_lem h (read_job_text text) refl)
+  promised = with_room (CarryPromise text log room) carry_room room (carry_said text log) short (λ h. on_job_lem h (read_job_text text) refl)

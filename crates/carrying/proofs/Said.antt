@@ -13,10 +13,11 @@ use Rattle.plan_grammar.proofs.Numbered as plan
 use Rattle.plan_costs.proofs.Dearest.{cost_most}
 use Rattle.answers.specs.Said.{Said, plainly}
 use Rattle.carry.specs.Carry.{carried}
-use Rattle.carry.specs.Answer.{number_of, answered}
+use Rattle.carry.specs.Answer.{carry_number, carry_answered}
 use Rattle.carry.proofs.Answers.{log_promise}
 use Rattle.log_grammar.specs.Grammar.{LogText, log_of, read_log}
-use Rattle.carry_texts.specs.Carried.{meant_job, carried_text}
+use Rattle.job_grammar.specs.Reading.{meant_job}
+use Rattle.carry_texts.specs.Carried.{carried_text}
 use Rattle.carry_texts.specs.Carries.{Carries, done_in, joined_lines}
 use Rattle.log_grammar.proofs.Logs.{log_tells}
 use Rattle.log_grammar.proofs.Numbered.{log_fault}
@@ -33,7 +34,7 @@ module _ {job log next : List ℕ} where
       ap (on_job job log) c.job_read ∙ ap (on_log log t) c.log_read
       ∙ go (judged_done t done) ((log_promise (meant_job t) done logged).says_0.1 c.accepts) ∙ ap (plainly 0) (sym c.gives)
     where
-      go : (j : Judgement) → number_of (answered (carried (meant_job c.text) (done_in c)) j) ≡ 0 → said_after c.text (done_in c) j ≡ plainly 0 (job_text_lem (carried_text c.text (done_in c)))
+      go : (j : Judgement) → carry_number (carry_answered (carried (meant_job c.text) (done_in c)) j) ≡ 0 → said_after c.text (done_in c) j ≡ plainly 0 (job_text_lem (carried_text c.text (done_in c)))
       go (accepts cost) e = refl
       go (unkept part due) e = absurd (omega arith)
       go (wrong_cost cost) e = absurd (omega arith)
@@ -60,7 +61,7 @@ module _ {job log next : List ℕ} where
             said = said;
             job_read = r;
             log_read = l;
-            accepts = (log_promise (meant_job t) done logged).says_0.0 (ap (λ (j : Judgement). number_of (answered (carried (meant_job t) done) j)) f);
+            accepts = (log_promise (meant_job t) done logged).says_0.0 (ap (λ (j : Judgement). carry_number (carry_answered (carried (meant_job t) done) j)) f);
             gives = sym (ap bytes_in e);
           }
 

@@ -6,17 +6,18 @@ use Rattle.job_grammar.specs.Grammar.{JobText, max_bytes, read_job_text}
 use Rattle.job_grammar.specs.Rendering.{job_text_lem}
 use Rattle.answers.specs.Said.{Said, plainly}
 use Rattle.answers.specs.Texts.{on_text, on_texts}
-use Rattle.judging.specs.Judge.{said_of}
+use Rattle.judging.specs.Judge.{judge_reply}
 use Rattle.carry.specs.Carry.{Log}
 use Rattle.carry.specs.Answer.{until}
 use Rattle.log_grammar.specs.Grammar.{LogText, log_of, read_log}
-use Rattle.carry_texts.specs.Carried.{meant_job, carried_text}
+use Rattle.job_grammar.specs.Reading.{meant_job}
+use Rattle.carry_texts.specs.Carried.{carried_text}
 
 -- by the judgement on what was done: the new job's text, or 10 or 11 with the judge's lines
 abbrev pub said_after : JobText → Log → Judgement → Said
 said_after t log (accepts cost) = plainly 0 (job_text_lem (carried_text t log))
-said_after t log (unkept part due) = said_of (unkept part due)
-said_after t log (wrong_cost cost) = said_of (wrong_cost cost)
+said_after t log (unkept part due) = judge_reply (unkept part due)
+said_after t log (wrong_cost cost) = judge_reply (wrong_cost cost)
 
 -- the judgement on what was done: on the job as far as the step
 abbrev pub judged_done : JobText → Log → Judgement

@@ -1,8 +1,8 @@
 -- Idle steps as flags, and running steps as a table: one idle step more, and one step more.
-use Prim.Native.Nat.{ℕ, zero, suc, ◌+◌, ◌-◌, ◌≤◌, ◌<◌}
+use Prim.Native.Nat.{ℕ, suc, ◌+◌, ◌-◌, ◌≤◌, ◌<◌}
 use mathlib.Core.Path.{◌≡◌, refl, sym, ap, subst, ◌∙◌}
-use mathlib.Core.Bool.{Bool, true, false, cond, ◌||◌}
-use mathlib.Core.List.{List, [], ◌∷◌, ◌++◌}
+use mathlib.Core.Bool.{Bool, true, false, cond, ◌||◌, or-false, or-true}
+use mathlib.Core.List.{List, []}
 use native.Mathlib.Omega.{arith}
 use native.Mathlib.Decide.{ℕ_discrete, dec_lt}
 use native.Mathlib.Numerals.{add-one}
@@ -14,45 +14,23 @@ use lib.IntN.{ℤ, pos}
 use Rattle.model.specs.Model.{Job, listed, running, clock}
 use Rattle.clock.specs.Placed.{Flags}
 use Rattle.model.specs.Limits.{last_position}
+use Rattle.base.proofs.Bools.{blank}
+use Rattle.model.proofs.Lists.{listed_snoc}
 
 -- ---- idle steps
-
-or-false : (b : Bool) → (b || false) ≡ b
-or-false true = refl
-or-false false = refl
-
-or-true : (b : Bool) → (b || true) ≡ true
-or-true true = refl
-or-true false = refl
-
--- one idle step more, at the end
-idle_snoc : (is : List ℕ) (i s : ℕ) → listed (is ++ i ∷ []) s ≡ (listed is s || eqb i s)
-unfolding listed
-idle_snoc [] i s = or-false (eqb i s)
-idle_snoc (j ∷ is) i s = go (eqb j s) (idle_snoc is i s)
-  where
-    go : (b : Bool) → listed (is ++ i ∷ []) s ≡ (listed is s || eqb i s) → (b || listed (is ++ i ∷ []) s) ≡ ((b || listed is s) || eqb i s)
-    go true e = refl
-    go false e = e
 
 none_idle : (s : ℕ) → listed [] s ≡ false
 unfolding listed
 none_idle s = refl
 
--- a list of one value, read anywhere
-same_each : {A : Type 0} (x : A) (n s : ℕ) → get_or (replicate n x) s x ≡ x
-same_each x zero s = refl
-same_each x (suc n) zero = refl
-same_each x (suc n) (suc s) = same_each x n s
-
 -- with no idle steps, no flag is set
 pub flags_none : (n : ℕ) → Flags [] (replicate n false)
-flags_none n s h = same_each false n s ∙ sym (none_idle s)
+flags_none n s h = blank false n s ∙ sym (none_idle s)
 
 -- setting the flag of the next idle step gives the flags of one idle step more
 pub flags_more : (l : List ℕ) (flags : List Bool) (k : ℕ) → k < length l → get_or l k 0 < length flags → Flags (take k l) flags → Flags (take (k + 1) l) (set flags (get_or l k 0) true)
 flags_more l flags k h g f s m =
-    go (ℕ_discrete i s) ∙ sym (ap (λ (is : List ℕ). listed is s) (ap (λ (n : ℕ). take n l) (add-one k) ∙ take-suc l k 0 h) ∙ idle_snoc (take k l) i s)
+    go (ℕ_discrete i s) ∙ sym (ap (λ (is : List ℕ). listed is s) (ap (λ (n : ℕ). take n l) (add-one k) ∙ take-suc l k 0 h) ∙ listed_snoc (take k l) i s)
   where
     i : ℕ
     i = get_or l k 0
@@ -103,7 +81,7 @@ module _ (job : Job) where
     most = omega arith;
     size = length-replicate n (pos 0) ∙ e;
     run_is = no_run job.idles;
-    done = λ u h. let z : u ≡ 0 = omega arith in same_each (pos 0) n u ∙ sym (ap (clock job) z ∙ at_0 job);
+    done = λ u h. let z : u ≡ 0 = omega arith in blank (pos 0) n u ∙ sym (ap (clock job) z ∙ at_0 job);
   }
 
   -- one step more: it runs, or it is idle

@@ -14,7 +14,8 @@ use Rattle.model.specs.Model.{Job, listed, table, holds_one, with_holders, round
 use Rattle.model.proofs.Lists.{table_at, table_same}
 use Rattle.coming_out.specs.Rows.{Row, HeldBy, some, reached, union}
 use Rattle.coming_out.proofs.Some.{some_same, holds_some}
-use Rattle.coming_out.proofs.Rows.{blank, past}
+use Rattle.coming_out.proofs.Rows.{past}
+use Rattle.base.proofs.Bools.{blank}
 
 -- the two sets have the same parts
 abbrev Same : List Bool → List Bool → Type 0

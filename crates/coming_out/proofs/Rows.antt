@@ -1,8 +1,8 @@
 -- Rows and matrices: a row is filled place by place, a matrix row by row. By one place, and one row, more.
-use mathlib.Core.Path.{◌≡◌, refl, sym, ap, ◌∙◌}
+use mathlib.Core.Path.{◌≡◌, sym, ap, ◌∙◌}
 use mathlib.Core.Bool.{Bool, false}
 use mathlib.Core.List.{List, ◌++◌}
-use Prim.Native.Nat.{ℕ, zero, suc, ◌+◌, ◌-◌, ◌*◌, ◌≤◌, ◌<◌}
+use Prim.Native.Nat.{ℕ, ◌+◌, ◌-◌, ◌*◌, ◌≤◌, ◌<◌}
 use native.Mathlib.Omega.{arith}
 use native.Mathlib.Decide.{dec_lt}
 use borrow.Author.Count.{below_more}
@@ -11,16 +11,10 @@ use lib.Seq.{get_or-set_same, get_or-set_other, get_or-take, get_or-drop, get_or
 use Rattle.model.specs.Limits.{most_parts}
 use Rattle.model.specs.Model.{table}
 use Rattle.model.proofs.Lists.{table-length, table_at}
-use Rattle.coming_out.specs.Rows.{most_places, place, Row, Rows}
+use Rattle.coming_out.specs.Rows.{place, Row, Rows}
+use Rattle.base.proofs.Bools.{blank}
 
 module _ {A : Type 0} (d : A) where
-  -- a row of nothing but d
-  pub blank : (n j : ℕ) → get_or (replicate n d) j d ≡ d
-  blank zero zero = refl
-  blank zero (suc j) = refl
-  blank (suc n) zero = refl
-  blank (suc n) (suc j) = blank n j
-
   -- behind the end of a table
   pub past : (f : ℕ → A) (n j : ℕ) → n ≤ j → get_or (table f n) j d ≡ d
   past f n j h = get_or-eq_default (table f n) d {n = j} (omega (arith, h, table-length f n))
@@ -44,7 +38,7 @@ module _ {A : Type 0} (d : A) where
           ap (λ (i : ℕ). get_or (items ++ drop m (replicate most_parts d)) i d) z
           ∙ get_or-append-add items (drop m (replicate most_parts d)) (j - m) d
           ∙ get_or-drop m (replicate most_parts d) (j - m) d
-          ∙ blank most_parts (m + (j - m))
+          ∙ blank d most_parts (m + (j - m))
           ∙ sym (past f m j (omega (arith, l)))
 
 -- the list itself
@@ -52,10 +46,6 @@ pub row-take : {A : Type 0} (d : A) (xs row : List A) (m : ℕ) → length xs �
 row-take d xs row m e h r =
     let l : length (take m row) ≡ m = length-take-le m row (omega (arith, h, r.size)) in
     ext_get_or d (take m row) xs (l ∙ sym e) (λ i g. get_or-take m row i d (omega (arith, g, l)) ∙ r.at i)
-
--- a matrix of no rows, with no mark set, holds none of the lists
-pub rows_none : (f : ℕ → List Bool) → Rows 0 f (replicate most_places false)
-rows_none f = record { size = length-replicate most_places false; at = λ q j h l. absurd (omega arith) }
 
 -- a row pasted behind the first q makes a matrix that holds one list more
 pub rows_more : (f : ℕ → List Bool) (q : ℕ) (matrix row : List Bool) → q < most_parts → Row false (f q) row → Rows q f matrix → Rows (q + 1) f (paste matrix (q * most_parts) row most_parts)

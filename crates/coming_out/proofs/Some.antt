@@ -1,27 +1,14 @@
--- One of the first m has it: by the place that has it, and by none. And the model's tests over the parts in these terms. By recursion over m and over the parts.
+-- Whether one of the first m has it: by a search through them, and the model's tests over the parts in these terms. By recursion over m and over the parts.
 use Rattle.std.specs.List.{list_any, range_with_len}
 use mathlib.Core.Path.{◌≡◌, refl, sym, ap, ap₂, ◌∙◌}
-use mathlib.Core.Bool.{Bool, true, false, ◌||◌, ◌&&◌}
+use mathlib.Core.Bool.{Bool, false, ◌||◌, ◌&&◌}
 use mathlib.Core.List.{List, [], ◌∷◌, map}
 use Prim.Native.Nat.{ℕ, zero, suc, ◌+◌, ◌<◌}
 use native.Mathlib.Omega.{arith}
 use lib.ListN.{length, get_or, drop}
 use Rattle.model.specs.Model.{Part, listed, holds_one, out_by}
-use Rattle.base.proofs.Bools.{after_one, or_left, or_right}
+use Rattle.base.proofs.Bools.{after_one}
 use Rattle.coming_out.specs.Rows.{some}
-
--- if one of the first m places has it, the test for some says yes
-pub some_here : (m : ℕ) (f : ℕ → Bool) (i : ℕ) → i < m → f i ≡ true → some m f ≡ true
-unfolding some
-some_here zero f i h e = absurd (omega arith)
-some_here (suc m) f zero h e = or_left (f 0) (some m (λ i. f (suc i))) e
-some_here (suc m) f (suc i) h e = or_right (f 0) (some m (λ i. f (suc i))) (some_here m (λ i. f (suc i)) i (omega arith) e)
-
--- if none of the first m places has it, the test for some says no
-pub some_none : (m : ℕ) (f : ℕ → Bool) → ((i : ℕ) → i < m → f i ≡ false) → some m f ≡ false
-unfolding some
-some_none zero f h = refl
-some_none (suc m) f h = ap₂ ◌||◌ (h 0 (omega arith)) (some_none m (λ i. f (suc i)) (λ i l. h (suc i) (omega arith)))
 
 -- a search through m places from a on finds what the test for some of them says
 pub some_range : (m a : ℕ) (f g : ℕ → Bool) → ((i : ℕ) → f (a + i) ≡ g i) → list_any f (range_with_len a m) ≡ some m g

@@ -25,7 +25,7 @@ use Rattle.job_grammar.proofs.Accepted.{valid}
 use Rattle.job_grammar.proofs.Numbered.{fault_some, fault}
 use Rattle.counting.specs.declared.Counted.{Counted}
 use Rattle.counting.specs.Count.{count_given, refusal_of, holder_refusal, counted_job_lem, on_job, count_said}
-use Rattle.job_grammar.specs.Reading.{Reading, job_in}
+use Rattle.job_grammar.specs.Reading.{JobReading, job_in}
 use Rattle.counting.specs.Promise.{CountPromise}
 
 lefts : (n : ℕ) (parts : List Part) → All (ValidPart n) parts → Lefts parts
@@ -53,25 +53,25 @@ module _ (text : List ℕ) where
     span = λ i j f. rw (← (one_fault e f).1) (span_cuts text l);
   }
     where
-      no : {X : Type 0} → Reading text → X
+      no : {X : Type 0} → JobReading text → X
       no r = not_both r.is e
 
   module _ (g : Given) (eg : read_job_lem text ≡ accepted g) where
-    abbrev here : Reading text
+    abbrev here : JobReading text
     here = record { given = g; is = eg }
 
     -- any reading is this one
-    given_is : (r : Reading text) → g ≡ r.given
+    given_is : (r : JobReading text) → g ≡ r.given
     given_is r = one_value r.is eg
 
     limited : Valid g
     limited = valid text g eg
 
     -- what holds of this job holds of any reading's, and back
-    moved : (P : Given → Type 0) → P g → (r : Reading text) → P r.given
+    moved : (P : Given → Type 0) → P g → (r : JobReading text) → P r.given
     moved P p r = subst P (given_is r) p
 
-    moved_back : (P : Given → Type 0) (r : Reading text) → P r.given → P g
+    moved_back : (P : Given → Type 0) (r : JobReading text) → P r.given → P g
     moved_back P r p = subst P (sym (given_is r)) p
 
     abbrev held : Bool → Given → Type 0
@@ -94,7 +94,7 @@ module _ (text : List ℕ) where
       span = λ i j f. not_both eg f;
     }
       where
-        no : {X : Type 0} (r : Reading text) → has_holder_lem (job_in r) ≡ false → X
+        no : {X : Type 0} (r : JobReading text) → has_holder_lem (job_in r) ≡ false → X
         no r u = absurd (false≢true (sym u ∙ moved (held true) h r))
 
     -- a job with none

@@ -21,7 +21,7 @@ use Rattle.job_grammar.specs.Rendering.{job_text_lem}
 use Rattle.job_grammar.proofs.Accepted.{valid_text}
 use Rattle.plan_costs.proofs.Dearest.{cost_most}
 use Rattle.answers.specs.Said.{Said, plainly, refusal}
-use Rattle.judging.specs.Judge.{said_of}
+use Rattle.judging.specs.Judge.{judge_reply}
 use Rattle.carry.specs.Carry.{Log, passed, later, renumbered}
 use Rattle.carry.specs.Answer.{until}
 use Rattle.carry.specs.Start.{Starts, start_of}
@@ -29,13 +29,14 @@ use Rattle.carry.proofs.Start.{start_logged}
 use Rattle.log_grammar.specs.Grammar.{LogText, log_of, read_log}
 use Rattle.log_grammar.specs.Rendering.{log_text_lem, log_says}
 use Rattle.log_grammar.proofs.Logs.{log_tells, says_log}
-use Rattle.carry_texts.specs.Carried.{meant_job, quoted, carried_lines, carried_part_lines, carried_text}
+use Rattle.job_grammar.specs.Reading.{meant_job}
+use Rattle.carry_texts.specs.Carried.{quoted, carried_lines, carried_part_lines, carried_text}
 use Rattle.carry_texts.specs.Carries.{Carries}
 use Rattle.carry_texts.specs.Carries as carries
 use Rattle.carry_texts.proofs.Carried.{carried_read}
 use Rattle.carry_texts.proofs.Started.{start_carries, start_read, start_starts_it}
 use Rattle.carrying.specs.Carry.{said_after, judged_done, on_log, on_job, carry_said}
-use Rattle.carrying.specs.Promise.{Reading, job_in, done_in, true_cost}
+use Rattle.carrying.specs.Promise.{LogReading, job_in, done_in, true_cost}
 use Rattle.carrying.proofs.Said.{carries_said}
 use Rattle.alike.specs.Alike.{with_walk, part_out, rules_out}
 use Rattle.alike.proofs.Rules.{rules_out_lem}
@@ -44,14 +45,14 @@ use Rattle.delivered.specs.Terms.{KeptLines}
 -- ---- the start of a printed plan
 
 -- at its true cost it is never refused
-pub told : (text log : List ℕ) (r : Reading text log) (limit nodes floor cost : ℕ) (plan : Plan) → answer_of (job_in r) limit ≡ optimum nodes floor cost plan
+pub told : (text log : List ℕ) (r : LogReading text log) (limit nodes floor cost : ℕ) (plan : Plan) → answer_of (job_in r) limit ≡ optimum nodes floor cost plan
     → Starts (job_in r) (done_in r) plan → r.said.stated.cost ≡ true_cost r → (carry_said text log).result ≡ 0
 told text log r limit nodes floor cost plan printed starts honest =
     ap (λ (s : Said). s.result) (carries_said (start_carries text r.text r.job_read limit nodes floor cost plan printed log r.said r.log_read starts honest))
 
 -- and for each step that a log may have there is such a log
 pub there : (text : List ℕ) (t : JobText) → read_job_text text ≡ accepted t → (limit nodes floor cost : ℕ) (plan : Plan) → answer_of (meant_job t) limit ≡ optimum nodes floor cost plan → (step : ℕ) → 1 ≤ step → step + 2 ≤ t.horizon
-    → (log : List ℕ) × (r : Reading text log) × (r.said.step ≡ step) × Starts (job_in r) (done_in r) plan × (r.said.stated.cost ≡ true_cost r)
+    → (log : List ℕ) × (r : LogReading text log) × (r.said.step ≡ step) × Starts (job_in r) (done_in r) plan × (r.said.stated.cost ≡ true_cost r)
 there text t e limit nodes floor cost plan printed step one two =
     let job = meant_job t in
     let start = start_of job step plan in
@@ -70,8 +71,8 @@ there text t e limit nodes floor cost plan printed step one two =
 -- by the judgement on what was done
 abbrev after : (Log → JobText) → Log → Judgement → Said
 after leaves done (accepts cost) = plainly 0 (job_text_lem (leaves done))
-after leaves done (unkept part due) = said_of (unkept part due)
-after leaves done (wrong_cost cost) = said_of (wrong_cost cost)
+after leaves done (unkept part due) = judge_reply (unkept part due)
+after leaves done (wrong_cost cost) = judge_reply (wrong_cost cost)
 
 -- by what the log reads as
 abbrev by : List ℕ → Job → (Log → JobText) → Outcome LogText → Said

@@ -21,7 +21,8 @@ use Rattle.plan_grammar.specs.Grammar as plan
 use Rattle.plan_grammar.specs.Grammar.{visit, visits, plan_lines, read_plan_lem}
 use Rattle.log_grammar.specs.Grammar.{past_job_lem, log_lines, read_log}
 use Rattle.hall_model.specs.Limits.{most_hall_bytes}
-use Rattle.hall_grammar.specs.Grammar.{meant_job, joins, job_behind, jobs_behind, hall_lines_lem, read_hall_text}
+use Rattle.job_grammar.specs.Reading.{meant_job}
+use Rattle.hall_grammar.specs.Grammar.{joins, job_behind, jobs_behind, hall_lines_lem, read_hall_text}
 use Rattle.delivered.specs.FirstLines.{first_lines, breaks}
 use Rattle.delivered.proofs.FirstLines.{no_break, Above, Alike, InSpan, row_one, checked_one, row_spans, checked_spans, Linewise, one_linewise, return_linewise, bind_linewise, optional_linewise, present_linewise, chain_linewise, times_linewise, end_linewise, ruled_linewise, nothing_same}
 

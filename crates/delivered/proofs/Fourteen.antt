@@ -26,7 +26,8 @@ use Rattle.job_grammar.proofs.Accepted.{lines_tell as job-tells}
 use Rattle.job_grammar.proofs.Complete.{lines_back as job-back}
 use Rattle.job_grammar.proofs.Numbered.{lines_numbers as job-numbers}
 use Rattle.hall_model.specs.Limits.{most_lines, dearest_call, most_hall_bytes, parts_in, openings_in}
-use Rattle.hall_grammar.specs.Grammar.{HallText, meant_job, same_numbers, like_first, room_for, joins, job_behind, jobs_behind, hall_lines_lem, read_hall_text}
+use Rattle.job_grammar.specs.Reading.{meant_job}
+use Rattle.hall_grammar.specs.Grammar.{HallText, same_numbers, like_first, room_for, joins, job_behind, jobs_behind, hall_lines_lem, read_hall_text}
 use Rattle.hall_grammar.proofs.Accepted.{numbers_same}
 use Rattle.delivered.specs.FirstLines.{breaks}
 use Rattle.delivered.specs.Fourteen.{Unlike, Misfit, Fitting, MisfitAt}

@@ -13,31 +13,29 @@ use Rattle.model.specs.LowerBound.{places_at, part_bound, paid_at, stop_cost, bo
 use Rattle.model.specs.Estimate.{KeepsOver, LeastOver}
 use Rattle.model.proofs.Offers.{part_bound_is}
 use Rattle.model.proofs.Sharper.{missing_same}
-use Rattle.delivered.specs.Terms.{OneOf, SomeLost}
+use Rattle.branch.specs.Search.{In}
+use Rattle.delivered.specs.Terms.{SomeLost}
+use Rattle.model.proofs.Lower.{add_missing}
 
 -- a sum is missing exactly if one of its bounds is
-add_missing : (x y : Bound) → add x y ≡ Missing → (x ≡ Missing) ⊎ (y ≡ Missing)
-add_missing Missing y e = inl refl
-add_missing (Sum a) Missing e = inr refl
-add_missing (Sum a) (Sum b) e = absurd (no_sum_lem (add (Sum a) (Sum b)) _ e refl)
-
-missing_right : (x : Bound) → add x Missing ≡ Missing
-missing_right Missing = refl
-missing_right (Sum a) = refl
+some_missing : (x y : Bound) → add x y ≡ Missing → (x ≡ Missing) ⊎ (y ≡ Missing)
+some_missing Missing y e = inl refl
+some_missing (Sum a) Missing e = inr refl
+some_missing (Sum a) (Sum b) e = absurd (no_sum_lem (add (Sum a) (Sum b)) _ e refl)
 
 module _ {A : Type 0} (f : A → List Bool → Bound) (p : List Bool) where
-  total_missing : (xs : List A) → total f xs p ≡ Missing → (a : A) × OneOf a xs × (f a p ≡ Missing)
+  total_missing : (xs : List A) → total f xs p ≡ Missing → (a : A) × In a xs × (f a p ≡ Missing)
   total_missing [] e = absurd (no_sum_lem (Sum 0) 0 e refl)
-  total_missing (x ∷ xs) e = go (add_missing (f x p) (total f xs p) e) (total_missing xs)
+  total_missing (x ∷ xs) e = go (some_missing (f x p) (total f xs p) e) (total_missing xs)
     where
-      go : (f x p ≡ Missing) ⊎ (total f xs p ≡ Missing) → (total f xs p ≡ Missing → (a : A) × OneOf a xs × (f a p ≡ Missing)) → (a : A) × OneOf a (x ∷ xs) × (f a p ≡ Missing)
+      go : (f x p ≡ Missing) ⊎ (total f xs p ≡ Missing) → (total f xs p ≡ Missing → (a : A) × In a xs × (f a p ≡ Missing)) → (a : A) × In a (x ∷ xs) × (f a p ≡ Missing)
       go (inl h) more = (x, inl refl, h)
       go (inr h) more = let r = more h in (r.0, inr r.1, r.2)
 
-  missing_total : (xs : List A) (a : A) → OneOf a xs → f a p ≡ Missing → total f xs p ≡ Missing
+  missing_total : (xs : List A) (a : A) → In a xs → f a p ≡ Missing → total f xs p ≡ Missing
   missing_total [] a h e = absurd h
   missing_total (x ∷ xs) a (inl h) e = ap (λ (b : Bound). add b (total f xs p)) (ap (λ (c : A). f c p) (sym h) ∙ e)
-  missing_total (x ∷ xs) a (inr h) e = ap (add (f x p)) (missing_total xs a h e) ∙ missing_right (f x p)
+  missing_total (x ∷ xs) a (inr h) e = ap (add (f x p)) (missing_total xs a h e) ∙ add_missing (f x p)
 
 module _ (job : Job) (p : List Bool) where
   abbrev Lost : Held → Type 0
@@ -62,7 +60,7 @@ module _ (job : Job) (p : List Bool) where
   stop_missing : (stop_cost job p ≡ Missing) ↔ SomeLost job p
   unfolding stop_cost
   stop_missing = (
-    (λ e. go (add_missing (Sum (paid_at job p)) (total (part_bound job) (held_parts job) p) e)),
+    (λ e. go (some_missing (Sum (paid_at job p)) (total (part_bound job) (held_parts job) p) e)),
     λ s. ap (add (Sum (paid_at job p))) (missing_total (part_bound job) p (held_parts job) s.0 s.1 (lost_missing s.0 s.2)),
   )
     where

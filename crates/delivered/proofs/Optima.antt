@@ -4,7 +4,7 @@ use mathlib.Core.List.{List}
 use Prim.Native.Nat.{ℕ}
 use Rattle.lines.specs.Parser.{accepted}
 use Rattle.job_grammar.specs.Grammar.{JobText, Given, meant, meaning, read_job_text}
-use Rattle.job_grammar.specs.Reading.{Reading}
+use Rattle.job_grammar.specs.Reading.{JobReading}
 use Rattle.answers.specs.Said.{Said}
 use Rattle.judging.specs.Judge.{judge_said, judge_room}
 use Rattle.optimizing.specs.Promise.{PrintsBest, OptimumPromise}
@@ -24,6 +24,6 @@ moved s s' given a same p = record {
 pub optima_alike : (s s' : List ℕ) (t t' : JobText) → read_job_text s ≡ accepted t → read_job_text s' ≡ accepted t' → meant t ≡ meant t' → (walk walk' room room' : ℕ) (a b : Said)
     → OptimumPromise s walk room a → OptimumPromise s' walk' room' b → a.result ≡ 0 → b.result ≡ 0 → a.bytes ≡ b.bytes
 optima_alike s s' t t' e e' same walk walk' room room' a b p q x y =
-    let here : Reading s = record { given = meant t; is = ap meaning e } in
-    let there : Reading s' = record { given = meant t; is = ap meaning e' ∙ ap accepted (sym same) } in
+    let here : JobReading s = record { given = meant t; is = ap meaning e } in
+    let there : JobReading s' = record { given = meant t; is = ap meaning e' ∙ ap accepted (sym same) } in
     sym (p.same here x b (moved s s' (meant t) b (λ lines. (by_meaning s s' t t' e e' same).judge lines judge_room) (q.writes_0 there y)))

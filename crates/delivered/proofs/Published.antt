@@ -4,7 +4,7 @@ use mathlib.Core.Path.{◌≡◌}
 use mathlib.Core.List.{List, []}
 use Rattle.lines.specs.Parser.{accepted}
 use Rattle.model.specs.Model.{Job, Plan}
-use Rattle.published.specs.Published.{Published, PublishedRunning, Proper, Tied}
+use Rattle.published.specs.Published.{Published, PublishedRunning, ProperJob, Tied}
 use Rattle.published.proofs.Published.{published, published_running}
 use Rattle.job_grammar.specs.Grammar.{Given, read_job_lem}
 use Rattle.jobs.specs.Valid.{ValidJob}
@@ -12,7 +12,7 @@ use Rattle.job_grammar.proofs.Accepted.{valid}
 use Rattle.job_grammar.proofs.Due.{part_at_lem}
 
 -- a valid job has what the published model asks
-proper : (job : Job) → ValidJob job → Proper job
+proper : (job : Job) → ValidJob job → ProperJob job
 proper job v = record {
   openings = v.rising;
   idles = v.idles;

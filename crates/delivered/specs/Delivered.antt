@@ -12,7 +12,7 @@ use Rattle.model.specs.Estimate.{LeastOver}
 use Rattle.model.specs.Earlier.{old_tree, old_answer}
 use Rattle.model.specs.Promise.{PlannerAnswer, optimum, whole_count, answer_of, Promise}
 use Rattle.model.specs.Verdict.{Judgement, accepts, judged_of, JudgementPromise, part_at, LowestUnkept, Shaped}
-use Rattle.model.specs.Due.{late_part, change_before}
+use Rattle.model.specs.Due.{late_part, change_before_gap}
 use Rattle.published.specs.Dismounting.{Dismounts}
 use Rattle.published.specs.Published.{Published, PublishedRunning, Tied}
 use Rattle.published.specs.Tables.{table1, table2, table3, table4}
@@ -24,7 +24,7 @@ use Rattle.job_grammar.specs.Grammar.{JobText, Given, meant, read_job_lem, read_
 use Rattle.job_grammar.specs.Grammar as job
 use Rattle.job_grammar.specs.Rendering.{job_text_lem}
 use Rattle.job_grammar.specs.Valid.{ValidText}
-use Rattle.job_grammar.specs.Reading.{Reading, job_in}
+use Rattle.job_grammar.specs.Reading.{JobReading, job_in}
 use Rattle.job_grammar.specs.Faults.{JobFault}
 use Rattle.plan_grammar.specs.Grammar.{Stated, nothing, read_plan_lem}
 use Rattle.plan_grammar.specs.Rendering.{plan_lines_of}
@@ -49,7 +49,7 @@ use Rattle.carrying.specs.Carry.{carry_said}
 use Rattle.carrying.specs.Promise as carrying
 use Rattle.hall_model.specs.Hall.{Hall, Proper}
 use Rattle.hall_model.specs.Limits.{most_hall_bytes, Fits}
-use Rattle.hall_model.specs.Promise.{HallAnswer, hall_answer, HallPromise}
+use Rattle.hall_model.specs.Promise.{HallAnswer, hall_answer, HallAnswerPromise}
 use Rattle.hall_grammar.specs.Grammar.{HallText, meant_hall, read_hall_text}
 use Rattle.hall_grammar.specs.Rendering.{hall_text}
 use Rattle.hall_grammar.specs.Valid.{ValidHall}
@@ -69,20 +69,20 @@ pub record Delivered : Type 0 where
   -- M8. "So a part with R of T + 1 or more needs no change."
   pub M8_no_change : (job : Job) (part : Part) (stops : List Bool) → job.horizon + 1 ≤ part.left → KeepsPart job stops part (replicate (length job.openings) false)
   -- M9. "With R at most L this equals those windows of 001 that end by step T.": of every accepted job without idle steps, a plan keeps the lives exactly if it meets (2) and (3) of 001 and (1c) of 000, and its cost is the objective (1)
-  pub M9_published : (text : List ℕ) (r : Reading text) (plan : Plan) → (job_in r).idles ≡ [] → Tied (job_in r) plan (Published (job_in r) plan)
+  pub M9_published : (text : List ℕ) (r : JobReading text) (plan : Plan) → (job_in r).idles ≡ [] → Tied (job_in r) plan (Published (job_in r) plan)
   -- E1.1, E1.4. "Lives are now counted in running steps.": the same of every accepted job, over windows of running steps
-  pub E1_4_published : (text : List ℕ) (r : Reading text) (plan : Plan) → Tied (job_in r) plan (PublishedRunning (job_in r) plan)
+  pub E1_4_published : (text : List ℕ) (r : JobReading text) (plan : Plan) → Tied (job_in r) plan (PublishedRunning (job_in r) plan)
   -- E1.4. "step T + 1 runs"
-  pub E1_4_end_runs : (text : List ℕ) (r : Reading text) → end (job_in r) ≡ pos (running (job_in r).idles (job_in r).horizon + 1)
+  pub E1_4_end_runs : (text : List ℕ) (r : JobReading text) → end (job_in r) ≡ pos (running (job_in r).idles (job_in r).horizon + 1)
   -- ---- the demands, by the published constraints and objective
 
   -- D5. "Lives and costs are those of the published model. The judge accepts exactly if the job is accepted, the plan text has no fault, and the plan keeps every life and states its true cost."
   pub D5_judge : (job plan : List ℕ) (room : ℕ)
-      → ((lent judge_room room (judge_said job plan)).result ≡ 0) ↔ ((judge_room ≤ room) × ((r : judging.Reading job plan) × (Meets r × StatesObjective r)))
+      → ((lent judge_room room (judge_said job plan)).result ≡ 0) ↔ ((judge_room ≤ room) × ((r : judging.PlanReading job plan) × (Meets r × StatesObjective r)))
   -- D5. "The planner says 6 exactly if the job is accepted and has no plan."
-  pub D5_planner : (text : List ℕ) (walk room : ℕ) → ((lent plan_room room (plan_said text walk)).result ≡ 6) ↔ ((plan_room ≤ room) × ((r : Reading text) × (Feasible (job_in r) → ⊥)))
+  pub D5_planner : (text : List ℕ) (walk room : ℕ) → ((lent plan_room room (plan_said text walk)).result ≡ 6) ↔ ((plan_room ≤ room) × ((r : JobReading text) × (Feasible (job_in r) → ⊥)))
   -- D6, D7. "result 0, and a plan that keeps every life, states its true cost, is of least cost": "Least cost is over all plans of the model"
-  pub D6_least : (text : List ℕ) (walk room : ℕ) → (lent plan_room room (plan_said text walk)).result ≡ 0 → (r : Reading text) → Cheapest r.given (lent plan_room room (plan_said text walk))
+  pub D6_least : (text : List ℕ) (walk room : ℕ) → (lent plan_room room (plan_said text walk)).result ≡ 0 → (r : JobReading text) → Cheapest r.given (lent plan_room room (plan_said text walk))
   -- D1. "for each input, every byte and number handed over": no other answer keeps the model's promise of the planner, nor that of the judge
   pub D1_planner : (job : Job) (limit : ℕ) (answer : PlannerAnswer) → Promise job limit answer → answer ≡ answer_of job limit
   pub D1_judge : (job : Job) (plan : Plan) (cost : ℕ) (j : Judgement) → JudgementPromise job cost plan j → j ≡ judged_of job cost plan
@@ -108,10 +108,10 @@ pub record Delivered : Type 0 where
   -- X3, X5. the job's lines and ranges: the accepted texts are exactly the lines of the valid records, each read as its own
   pub X3_exactly : (text : List ℕ) (t : JobText) → (read_job_text text ≡ accepted t) ↔ (ValidText t × (text ≡ job_text_lem t))
   -- X4, X6, M10. the plan's: what an accepted text states is a plan of the job, and the text is that plan's lines, or E5's empty one
-  pub X4_read : (text : List ℕ) (r : Reading text) (plan : List ℕ) (stated : Stated) → read_plan_lem (job_in r) plan ≡ accepted stated
+  pub X4_read : (text : List ℕ) (r : JobReading text) (plan : List ℕ) (stated : Stated) → read_plan_lem (job_in r) plan ≡ accepted stated
       → Shaped (job_in r) stated.plan × (((plan ≡ []) × (nothing (job_in r) ≡ stated)) ⊎ (plan ≡ plan_lines_of (job_in r) stated.cost stated.plan))
   -- X4. and the lines of any plan of the job are accepted, and read as that plan
-  pub X4_back : (text : List ℕ) (r : Reading text) (cost : ℕ) (plan : Plan) → cost ≤ most_cost → Shaped (job_in r) plan
+  pub X4_back : (text : List ℕ) (r : JobReading text) (cost : ℕ) (plan : Plan) → cost ≤ most_cost → Shaped (job_in r) plan
       → read_plan_lem (job_in r) (plan_lines_of (job_in r) cost plan) ≡ accepted (record { cost = cost; plan = plan })
   -- E2.5. "The longest has 22,109 bytes.": with E11's pairs 33,373
   pub E2_5_longest : (text : List ℕ) (t : JobText) → read_job_text text ≡ accepted t → length text ≤ 33373
@@ -126,7 +126,7 @@ pub record Delivered : Type 0 where
 
   -- R10, E1.7. "the last step at which a change would still have kept it": of the steps of the horizon, those up to it are in time, and no other
   pub R10_due_last : (job : Job) (plan : Plan) (part due : ℕ) (late : LowestUnkept job plan part due) (step : ℕ) → step ≤ job.horizon
-      → (within (pos (late_part late).life) (change_before late) (clock job step) ≡ true) ↔ (step ≤ due)
+      → (within (pos (late_part late).life) (change_before_gap late) (clock job step) ≡ true) ↔ (step ≤ due)
   -- ---- holders
 
   -- E7.3. "Holders work through chains, as in S1 and unlike the direct rule of S2."
@@ -161,9 +161,9 @@ pub record Delivered : Type 0 where
   -- E11. "For every choice of prices within the bands the plan's cost lies between the two.": of every accepted text and every plan
   pub E11_band : (text : List ℕ) (t : JobText) → read_job_text text ≡ accepted t → (plan : Plan) → CostBand (meant t).low (meant t).job plan
   -- E12.4. "From here on `left` may be 0: change before the next running step; if step 1 runs, `due` is then 0."
-  pub E12_4_due : (text : List ℕ) (r : Reading text) (plan : Plan) (part due : ℕ) (late : LowestUnkept (job_in r) plan part due) → (late_part late).left ≡ 0 → listed (job_in r).idles 1 ≡ false → due ≡ 0
+  pub E12_4_due : (text : List ℕ) (r : JobReading text) (plan : Plan) (part due : ℕ) (late : LowestUnkept (job_in r) plan part due) → (late_part late).left ≡ 0 → listed (job_in r).idles 1 ≡ false → due ≡ 0
   -- E12.4. and then no plan keeps the part
-  pub E12_4_no_plan : (text : List ℕ) (r : Reading text) (i : ℕ) → i < length (job_in r).parts → (part_at (job_in r) i).left ≡ 0 → listed (job_in r).idles 1 ≡ false → HasPlan (job_in r) → ⊥
+  pub E12_4_no_plan : (text : List ℕ) (r : JobReading text) (i : ℕ) → i < length (job_in r).parts → (part_at (job_in r) i).left ≡ 0 → listed (job_in r).idles 1 ≡ false → HasPlan (job_in r) → ⊥
   -- E13.1. "If carrying on by a first log and then by a second is accepted both times, carrying on by the joined log shall be accepted and give the identical job text.": E13.2. the joined log of what the two texts say
   pub E13_1_joined : (job first next second last : List ℕ) → carry_said job first ≡ plainly 0 next → carry_said next second ≡ plainly 0 last
       → (a : Carries job first next) × (b : Carries next second last) × (carry_said job (joined_lines a b) ≡ plainly 0 last)
@@ -183,33 +183,33 @@ pub record Delivered : Type 0 where
   -- D1. an accepted hall text is answered by what it means: two that mean the same hall get the same numbers and bytes, so a `walk` line (E10) or a rule (E8) among a job's lines changes no answer
   pub D1_halls : (s s' : List ℕ) (t t' : HallText) → read_hall_text s ≡ accepted t → read_hall_text s' ≡ accepted t' → meant_hall t ≡ meant_hall t' → (walk : ℕ) → hall_said s walk ≡ hall_said s' walk
   -- E14.6 to E14.9. 6 exactly if some line has no plan; 0, or 7 exactly if the whole walk has more points; the best hall plan; with call 0 "the sum of the lines' own least costs"
-  pub E14_9_hall : (hall : Hall) → Proper hall → (limit : ℕ) → HallPromise hall limit (hall_answer hall limit)
+  pub E14_9_hall : (hall : Hall) → Proper hall → (limit : ℕ) → HallAnswerPromise hall limit (hall_answer hall limit)
   -- D1. and no other answer keeps that promise
-  pub D1_hall : (hall : Hall) → Proper hall → (limit : ℕ) (answer : HallAnswer) → HallPromise hall limit answer → answer ≡ hall_answer hall limit
+  pub D1_hall : (hall : Hall) → Proper hall → (limit : ℕ) (answer : HallAnswer) → HallAnswerPromise hall limit answer → answer ≡ hall_answer hall limit
   -- ---- the latest-time habit, and carrying on
 
   -- E9.2. "of which only the stops count": plan texts with the same stops are answered alike
   pub E9_2_stops : (job plan other : List ℕ) (given : Given) (s t : Stated) → read_job_lem job ≡ accepted given → read_plan_lem given.job plan ≡ accepted s → read_plan_lem given.job other ≡ accepted t
       → s.plan.stops ≡ t.plan.stops → latest_said job plan ≡ latest_said job other
   -- D1. no other answer keeps the promise of the latest-time habit,
-  pub D1_latest : (text : List ℕ) (r : Reading text) (stops : List Bool) → length stops ≡ length (job_in r).openings
+  pub D1_latest : (text : List ℕ) (r : JobReading text) (stops : List Bool) → length stops ≡ length (job_in r).openings
       → (answer : LatestAnswer) → LatestPromise (job_in r) stops answer → answer ≡ latest_answer_of (job_in r) stops
   -- nor that of carrying on
   pub D1_carry : (job : Job) (log : Log) → Logged job log → (answer : CarryAnswer) → LogPromise job log answer → answer ≡ answer_to job log
   -- R1 to R3, R9. a log's faults
   pub R1_log_fault : (job : Job) (text : List ℕ) (number line : ℕ) → read_log job text ≡ refused number line → PlanFault number × (line ≤ max_bytes + 1)
   -- E12.1. "a line `step` 1..T − 2 (else 3) and then plan lines, never left out (else 2), with no stop after that step (else 9)": what is accepted means a log of the job, and is its text
-  pub E12_1_read : (text : List ℕ) (r : Reading text) (log : List ℕ) (said : LogText) → read_log (job_in r) log ≡ accepted said
+  pub E12_1_read : (text : List ℕ) (r : JobReading text) (log : List ℕ) (said : LogText) → read_log (job_in r) log ≡ accepted said
       → Logged (job_in r) (log_of (job_in r) said) × (log ≡ log_text_lem (job_in r) (log_of (job_in r) said))
   -- E12.1. and the text of any log of the job is accepted, and means that log
-  pub E12_1_back : (text : List ℕ) (r : Reading text) (log : Log) → Logged (job_in r) log → log.cost ≤ most_cost
+  pub E12_1_back : (text : List ℕ) (r : JobReading text) (log : Log) → Logged (job_in r) log → log.cost ≤ most_cost
       → (read_log (job_in r) (log_text_lem (job_in r) log) ≡ accepted (log_says (job_in r) log)) × (log_of (job_in r) (log_says (job_in r) log) ≡ log)
   -- E12.6. "If the log is the start of a plan the planner printed with 0": at its true cost it is never refused,
-  pub E12_6_told : (text log : List ℕ) (r : carrying.Reading text log) (limit nodes floor cost : ℕ) (plan : Plan) → answer_of (carrying.job_in r) limit ≡ optimum nodes floor cost plan
+  pub E12_6_told : (text log : List ℕ) (r : carrying.LogReading text log) (limit nodes floor cost : ℕ) (plan : Plan) → answer_of (carrying.job_in r) limit ≡ optimum nodes floor cost plan
       → Starts (carrying.job_in r) (carrying.done_in r) plan → r.said.stated.cost ≡ carrying.true_cost r → (carry_said text log).result ≡ 0
   -- and for each step that a log may have, each such plan has such a log
   pub E12_6_there : (text : List ℕ) (t : JobText) → read_job_text text ≡ accepted t → (limit nodes floor cost : ℕ) (plan : Plan) → answer_of (meant t).job limit ≡ optimum nodes floor cost plan → (step : ℕ) → 1 ≤ step → step + 2 ≤ t.horizon
-      → (log : List ℕ) × (r : carrying.Reading text log) × (r.said.step ≡ step) × Starts (carrying.job_in r) (carrying.done_in r) plan × (r.said.stated.cost ≡ carrying.true_cost r)
+      → (log : List ℕ) × (r : carrying.LogReading text log) × (r.said.step ≡ step) × Starts (carrying.job_in r) (carrying.done_in r) plan × (r.said.stated.cost ≡ carrying.true_cost r)
   -- E10. the `walk` line is set aside where a job is carried on, too,
   pub E10_carried : (s s' log : List ℕ) (t : JobText) (walk : Option ℕ) → read_job_text s ≡ accepted t → read_job_text s' ≡ accepted (with_walk walk t) → carry_said s log ≡ carry_said s' log
   -- E8.5, E12.3. and so a rule is carried on as its lines written out

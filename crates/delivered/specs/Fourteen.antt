@@ -6,7 +6,7 @@ use Rattle.job_grammar.specs.Grammar.{JobText}
 use Rattle.job_grammar.specs.Rendering.{job_text_lem}
 use Rattle.job_grammar.specs.Valid.{ValidText}
 use Rattle.hall_model.specs.Limits.{parts_in, openings_in}
-use Rattle.hall_grammar.specs.Grammar.{meant_job}
+use Rattle.job_grammar.specs.Reading.{meant_job}
 use Rattle.delivered.specs.FirstLines.{breaks}
 
 -- "a job whose horizon or idles differ from the first job's"

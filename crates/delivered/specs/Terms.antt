@@ -1,5 +1,5 @@
 -- What fields of `Delivered` speak of that stands nowhere else: the judge's and the planner's promises in the published terms, a part that can't be kept, and the lines of a part that is carried on.
-use Rattle.std.specs.Prelude.{ℕ, ◌≤◌, ◌≡◌, Bool, List, [], ◌∷◌, ◌++◌, map, drop, ◌⊎◌}
+use Rattle.std.specs.Prelude.{ℕ, ◌≤◌, ◌≡◌, Bool, List, ◌++◌, map, drop}
 use Rattle.lines.specs.Parser.{accepted}
 use Rattle.model.specs.Model.{Job, Plan}
 use Rattle.model.specs.Decisions.{Held, held_parts}
@@ -16,27 +16,23 @@ use Rattle.judging.specs.Promise as judging
 use Rattle.job_grammar.specs.Grammar.{Given}
 use Rattle.plan_printing.specs.Printed.{low_lines}
 use Rattle.planning.specs.Plan.{search_lines}
+use Rattle.branch.specs.Search.{In}
 
 -- ---- the estimate
 
--- x is on the list
-abbrev pub OneOf : {A : Type 0} → A → List A → Type 0
-OneOf x [] = ⊥
-OneOf x (y ∷ ys) = (x ≡ y) ⊎ OneOf x ys
-
 -- W3. "If some part has none": no change set keeps it over the yes openings and all undecided ones of the node p
 abbrev pub SomeLost : Job → List Bool → Type 0
-SomeLost job p = (held : Held) × OneOf held (held_parts job) × ((cs : List Bool) → KeepsOver job held.part (places_at job held p) cs → ⊥)
+SomeLost job p = (held : Held) × In held (held_parts job) × ((cs : List Bool) → KeepsOver job held.part (places_at job held p) cs → ⊥)
 
 -- ---- the published model, of texts
 
 module _ {job plan : List ℕ} where
   -- the plan meets the published constraints
-  abbrev pub Meets : judging.Reading job plan → Type 0
+  abbrev pub Meets : judging.PlanReading job plan → Type 0
   Meets r = PublishedRunning r.given.job r.stated.plan
 
   -- and states the published objective as its cost
-  abbrev pub StatesObjective : judging.Reading job plan → Type 0
+  abbrev pub StatesObjective : judging.PlanReading job plan → Type 0
   StatesObjective r = r.stated.cost ≡ objective r.given.job r.stated.plan
 
 -- some plan meets the published constraints

@@ -7,7 +7,6 @@ use native.Mathlib.Omega.{arith}
 use native.Mathlib.Nat.{div-le_self}
 use native.Mathlib.Decide.{dec_lt}
 use lib.Dec.{eqb, leb}
-use mir.Val.{bool_byte}
 use lib.ListN.{length, get_or, set, length-set}
 use lib.Seq.{get_or-set_same, get_or-set_other}
 use Rattle.base.specs.Filled.{FilledBy}
@@ -19,11 +18,6 @@ use Rattle.fair_shares.specs.Checked.{row_start, room_of_lem, price_in, offer, c
 -- the same places, with what is the same there
 pub filled_as : {place f g : ℕ → ℕ} {n : ℕ} {t u : List ℕ} → ((y : ℕ) → y < n → f y ≡ g y) → FilledBy place f n t u → FilledBy place g n t u
 filled_as e d = record { size = d.size; done = λ y l. d.done y l ∙ e y l; rest = d.rest }
-
--- a flag as a number
-pub bit_of : (b : Bool) → bool_byte b ≡ cond b 1 0
-bit_of true = refl
-bit_of false = refl
 
 room_small : (price things : ℕ) → room_of_lem price things ≤ dear
 room_small price things = omega (arith, div-le_self (dear - price) things)

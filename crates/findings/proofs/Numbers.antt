@@ -2,12 +2,12 @@
 use mathlib.Core.Path.{◌≡◌, refl}
 use native.Mathlib.Omega.{arith}
 use Rattle.branch.specs.Planning.{Answer, no_plan_lem2, cut_none, cut, optimum, result_of}
-use Rattle.findings.specs.Finding.{answer_in, number}
+use Rattle.findings.specs.Finding.{found_answer, finding_number}
 use Rattle.findings.specs.declared.Finding.{Finding}
 use Rattle.findings.specs.declared.Finding.TheVariants.{NoPlan, Optimum, Cut, CutBare}
 
 -- whatever the plan, the number is the same
-pub number_same : {Plan : Type 0} (p : Plan) (f : Finding) → number f ≡ result_of (answer_in p f)
+pub number_same : {Plan : Type 0} (p : Plan) (f : Finding) → finding_number f ≡ result_of (found_answer p f)
 number_same p NoPlan = refl
 number_same p (Optimum n m c) = refl
 number_same p (Cut n m c) = refl

@@ -8,22 +8,22 @@ use Rattle.findings.specs.declared.Finding.{Finding}
 use Rattle.findings.specs.declared.Finding.TheVariants.{NoPlan, Optimum, Cut, CutBare}
 
 -- as the answer of branch's `Planning`, with this plan
-abbrev pub answer_in : {Plan : Type 0} → Plan → Finding → Answer Plan
-answer_in p NoPlan = no_plan_lem2
-answer_in p (Optimum nodes floor cost) = optimum nodes floor cost p
-answer_in p (Cut nodes floor cost) = cut nodes floor cost p
-answer_in p (CutBare nodes floor) = cut_none nodes floor
+abbrev pub found_answer : {Plan : Type 0} → Plan → Finding → Answer Plan
+found_answer p NoPlan = no_plan_lem2
+found_answer p (Optimum nodes floor cost) = optimum nodes floor cost p
+found_answer p (Cut nodes floor cost) = cut nodes floor cost p
+found_answer p (CutBare nodes floor) = cut_none nodes floor
 
 -- its result number, which no plan changes
-abbrev pub number : Finding → ℕ
-number f = result_of (answer_in (tt {0}) f)
+abbrev pub finding_number : Finding → ℕ
+finding_number f = result_of (found_answer (tt {0}) f)
 
 -- the numbers of an answer can be printed
-abbrev pub Fits : {Plan : Type 0} → Answer Plan → Type 0
-Fits no_plan_lem2 = Unit {0}
-Fits (cut_none nodes floor) = Printable nodes × Printable floor
-Fits (cut nodes floor cost p) = Printable nodes × Printable floor × Printable cost
-Fits (optimum nodes floor cost p) = Printable nodes × Printable floor × Printable cost
+abbrev pub PrintableAnswer : {Plan : Type 0} → Answer Plan → Type 0
+PrintableAnswer no_plan_lem2 = Unit {0}
+PrintableAnswer (cut_none nodes floor) = Printable nodes × Printable floor
+PrintableAnswer (cut nodes floor cost p) = Printable nodes × Printable floor × Printable cost
+PrintableAnswer (optimum nodes floor cost p) = Printable nodes × Printable floor × Printable cost
 
 -- what is found of a walk with this floor, by the cost of the best plan, if one was found, and whether there are more nodes than were walked
 abbrev pub found_by : ℕ → ℕ → Option ℕ → Bool → Finding

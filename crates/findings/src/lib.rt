@@ -2,7 +2,7 @@
 #![tactic(auto)]
 
 ghost use Rattle.std.specs.Prelude.{◌≡◌};
-ghost use Rattle.findings.specs.Finding.{number, found};
+ghost use Rattle.findings.specs.Finding.{finding_number, found};
 
 use branch::Bound;
 
@@ -37,7 +37,7 @@ pub fn finding_of(nodes: u64, floor: Bound, cost: Option<u64>, over: bool) -> Fi
 
 // The result number of a finding.
 pub fn number_of(f: Finding) -> u32
-    ensures { result ≡ number f }
+    ensures { result ≡ finding_number f }
 {
     match f {
         Finding::NoPlan => 6,

@@ -8,15 +8,15 @@ use lib.Dec.{eqb}
 use lib.ListN.{length, get_or, take}
 use lib.Seq.{length-take-le}
 use Rattle.base.specs.Each.{All}
-use Rattle.form_facts.specs.Facts.{PartLists, sum_all, Marked, PartsAgree}
+use Rattle.form_facts.specs.Facts.{PartLists, sum_of, Marked, PartsAgree}
 use Rattle.form_facts.proofs.Facts.{marks_few, sum_part}
 use Rattle.first_parts.specs.Fronts.{listed_first, pairs_first, FirstCover, FirstPrices}
 use Rattle.first_parts.proofs.Places.{listed_here}
 
-held_first : (c : ℕ) (is hs : List ℕ) → c ≤ 1 → c ≤ length is → length hs ≡ sum_all is → cond (eqb c 1) (get_or is 0 0) 0 ≤ length hs
+held_first : (c : ℕ) (is hs : List ℕ) → c ≤ 1 → c ≤ length is → length hs ≡ sum_of is → cond (eqb c 1) (get_or is 0 0) 0 ≤ length hs
 held_first zero is hs h i e = omega arith
 held_first (suc zero) [] hs h i e = absurd (omega arith)
-held_first (suc zero) (v ∷ is) hs h i e = let q : length hs ≡ v + sum_all is = e in omega (arith, q)
+held_first (suc zero) (v ∷ is) hs h i e = let q : length hs ≡ v + sum_of is = e in omega (arith, q)
 held_first (suc (suc c)) is hs h i e = absurd (omega arith)
 
 -- a number of prices that is none or that of the openings is at most 64
@@ -31,29 +31,29 @@ first : (n : ℕ) (x : PartLists) → n ≤ 64 → PartsAgree n x → 0 < length
 first n x most h some = go x.lives x.covered x.ruled some h.lefts h.covered h.ruled h.marks h.rule_marks h.removals h.insides h.bases h.drops h.leasts h.prices
   where
     go : (ls cs us : List ℕ) → 0 < length ls → length x.lefts ≡ length ls → length cs ≡ length ls → length us ≡ length ls → All (λ (c : ℕ). c ≤ 1) cs → All (λ (u : ℕ). u ≤ 1) us
-        → length x.removals ≡ sum_all cs → length x.insides ≡ sum_all cs → length x.bases ≡ sum_all us → length x.drops ≡ sum_all us → length x.leasts ≡ sum_all us
-        → length x.prices ≡ (length ls - sum_all us) * n
+        → length x.removals ≡ sum_of cs → length x.insides ≡ sum_of cs → length x.bases ≡ sum_of us → length x.drops ≡ sum_of us → length x.leasts ≡ sum_of us
+        → length x.prices ≡ (length ls - sum_of us) * n
         → let y : PartLists = record { lives = ls; lefts = x.lefts; covered = cs; removals = x.removals; insides = x.insides; holders = x.holders; ruled = us; bases = x.bases; drops = x.drops; leasts = x.leasts; banded = x.banded; lows = x.lows; prices = x.prices } in (1 ≤ length x.lefts) × FirstCover y × FirstPrices n y
     go [] cs us some e f g m q a b i j k p = absurd (omega arith)
     go (l ∷ ls) [] us some e f g m q a b i j k p = absurd (omega arith)
     go (l ∷ ls) (c ∷ cs) [] some e f g m q a b i j k p = absurd (omega arith)
     go (l ∷ ls) (c ∷ cs) (u ∷ us) some e f g m q a b i j k p =
-        let covers : length x.insides ≡ c + sum_all cs = b in (
+        let covers : length x.insides ≡ c + sum_of cs = b in (
           omega (arith, e),
           record {
             covered = omega arith;
             mark = m.0;
-            removal = let w : length x.removals ≡ c + sum_all cs = a in omega (arith, w);
+            removal = let w : length x.removals ≡ c + sum_of cs = a in omega (arith, w);
             inside = omega (arith, covers);
             holders = held_first c x.insides x.holders m.0 (omega (arith, covers)) h.holders;
           },
           record {
             ruled = omega arith;
             rule_mark = q.0;
-            base = let w : length x.bases ≡ u + sum_all us = i in omega (arith, w);
-            drop = let w : length x.drops ≡ u + sum_all us = j in omega (arith, w);
-            least = let w : length x.leasts ≡ u + sum_all us = k in omega (arith, w);
-            prices = (listed_here n u (length ls) (sum_all us) (length x.prices) q.0 (omega (arith, marks_few us q.1, g)) p).0;
+            base = let w : length x.bases ≡ u + sum_of us = i in omega (arith, w);
+            drop = let w : length x.drops ≡ u + sum_of us = j in omega (arith, w);
+            least = let w : length x.leasts ≡ u + sum_of us = k in omega (arith, w);
+            prices = (listed_here n u (length ls) (sum_of us) (length x.prices) q.0 (omega (arith, marks_few us q.1, g)) p).0;
             few = listed_low u n most;
             banded = h.banded;
             band_marks = h.band_marks;

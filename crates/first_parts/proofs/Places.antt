@@ -10,7 +10,7 @@ use lib.ListN.{length, get_or, take, drop, length-drop}
 use Rattle.base.specs.Each.{All}
 use Rattle.quotes.specs.Grammar.{Quote}
 use Rattle.part_lines.specs.Grammar.{PartText}
-use Rattle.form_facts.specs.Facts.{PartLists, covers_of, rules_of, quotes_in, grouped, parts_of, sum_all, PartsAgree}
+use Rattle.form_facts.specs.Facts.{PartLists, covers_of, rules_of, quotes_in, grouped, parts_of, sum_of, PartsAgree}
 use Rattle.form_facts.proofs.Facts.{marks_few, quotes_drop}
 use Rattle.first_parts.specs.Fronts.{listed_first, first_part, behind_first}
 
@@ -47,10 +47,10 @@ parts_next n x h some =
     go (l ∷ ls) (r ∷ rs) (c ∷ cs) (u ∷ us) e f g m q some = next n l r c u ls rs cs x.removals x.insides x.holders us x.bases x.drops x.leasts x.banded x.lows x.prices m.0 q.0
 
 -- what is left of the holders
-held : (c : ℕ) (is hs : List ℕ) → c ≤ 1 → c ≤ length is → length hs ≡ sum_all is → length (drop (cond (eqb c 1) (get_or is 0 0) 0) hs) ≡ sum_all (drop c is)
+held : (c : ℕ) (is hs : List ℕ) → c ≤ 1 → c ≤ length is → length hs ≡ sum_of is → length (drop (cond (eqb c 1) (get_or is 0 0) 0) hs) ≡ sum_of (drop c is)
 held zero is hs h i e = e
 held (suc zero) [] hs h i e = absurd (omega arith)
-held (suc zero) (v ∷ is) hs h i e = length-drop v hs ∙ (let q : length hs ≡ v + sum_all is = e in omega (arith, q))
+held (suc zero) (v ∷ is) hs h i e = length-drop v hs ∙ (let q : length hs ≡ v + sum_of is = e in omega (arith, q))
 held (suc (suc c)) is hs h i e = absurd (omega arith)
 
 -- the prices of the first part, with m parts behind it of which k have a rule, and what is left of them
@@ -67,7 +67,7 @@ all_drop zero zs m = m
 all_drop (suc i) [] m = tt
 all_drop (suc i) (z ∷ zs) m = all_drop i zs m.1
 
-sum_split : (i : ℕ) (zs : List ℕ) → sum_all zs ≡ sum_all (take i zs) + sum_all (drop i zs)
+sum_split : (i : ℕ) (zs : List ℕ) → sum_of zs ≡ sum_of (take i zs) + sum_of (drop i zs)
 sum_split zero zs = omega arith
 sum_split (suc i) [] = omega arith
 sum_split (suc i) (z ∷ zs) = omega (arith, sum_split i zs)
@@ -77,8 +77,8 @@ pub agree_next : (n : ℕ) (x : PartLists) → PartsAgree n x → 0 < length x.l
 agree_next n x h some = go x.lives x.lefts x.covered x.ruled h.lefts h.covered h.ruled h.marks h.rule_marks h.removals h.insides h.bases h.drops h.leasts h.prices some
   where
     go : (ls rs cs us : List ℕ) → length rs ≡ length ls → length cs ≡ length ls → length us ≡ length ls → All (λ (c : ℕ). c ≤ 1) cs → All (λ (u : ℕ). u ≤ 1) us
-        → length x.removals ≡ sum_all cs → length x.insides ≡ sum_all cs → length x.bases ≡ sum_all us → length x.drops ≡ sum_all us → length x.leasts ≡ sum_all us
-        → length x.prices ≡ (length ls - sum_all us) * n → 0 < length ls
+        → length x.removals ≡ sum_of cs → length x.insides ≡ sum_of cs → length x.bases ≡ sum_of us → length x.drops ≡ sum_of us → length x.leasts ≡ sum_of us
+        → length x.prices ≡ (length ls - sum_of us) * n → 0 < length ls
         → PartsAgree n (behind_first n (record { lives = ls; lefts = rs; covered = cs; removals = x.removals; insides = x.insides; holders = x.holders; ruled = us; bases = x.bases; drops = x.drops; leasts = x.leasts; banded = x.banded; lows = x.lows; prices = x.prices }))
     go [] rs cs us e f g m q a b i j k p some = absurd (omega arith)
     go (l ∷ ls) [] cs us e f g m q a b i j k p some = absurd (omega arith)
@@ -96,8 +96,8 @@ agree_next n x h some = go x.lives x.lefts x.covered x.ruled h.lefts h.covered h
       bases = length-drop u x.bases ∙ (omega (arith, i));
       drops = length-drop u x.drops ∙ (omega (arith, j));
       leasts = length-drop u x.leasts ∙ (omega (arith, k));
-      prices = length-drop (cond (eqb u 1) 0 n) x.prices ∙ (listed_here n u (length ls) (sum_all us) (length x.prices) q.0 (omega (arith, marks_few us q.1, g)) p).1;
+      prices = length-drop (cond (eqb u 1) 0 n) x.prices ∙ (listed_here n u (length ls) (sum_of us) (length x.prices) q.0 (omega (arith, marks_few us q.1, g)) p).1;
       banded = length-drop (cond (eqb u 1) 0 n) x.banded ∙ ap (λ (i : ℕ). i - cond (eqb u 1) 0 n) h.banded ∙ sym (length-drop (cond (eqb u 1) 0 n) x.prices);
       band_marks = all_drop (cond (eqb u 1) 0 n) x.banded h.band_marks;
-      lows = length-drop (sum_all (take (cond (eqb u 1) 0 n) x.banded)) x.lows ∙ (omega (arith, h.lows, sum_split (cond (eqb u 1) 0 n) x.banded));
+      lows = length-drop (sum_of (take (cond (eqb u 1) 0 n) x.banded)) x.lows ∙ (omega (arith, h.lows, sum_split (cond (eqb u 1) 0 n) x.banded));
     }

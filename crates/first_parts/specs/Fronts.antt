@@ -5,7 +5,7 @@ use Rattle.price_rules.specs.Rule.{Rule}
 use Rattle.price_rules.specs.Grammar.{by_list, by_rule_lem}
 use Rattle.part_lines.specs.Grammar.{PartText}
 use Rattle.model.specs.Limits.{most_openings}
-use Rattle.form_facts.specs.Facts.{PartLists, quotes_in, sum_all}
+use Rattle.form_facts.specs.Facts.{PartLists, quotes_in, sum_of}
 
 -- how many holders the first part has
 abbrev pub inside_first : PartLists → ℕ
@@ -17,7 +17,7 @@ listed_first n x = cond (eqb (get_or x.ruled 0 0) 1) 0 n
 
 -- how many of these are pairs
 abbrev pub pairs_first : ℕ → PartLists → ℕ
-pairs_first n x = sum_all (take (listed_first n x) x.banded)
+pairs_first n x = sum_of (take (listed_first n x) x.banded)
 
 -- the first rule
 abbrev pub rule_first : PartLists → Rule

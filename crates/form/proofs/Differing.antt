@@ -26,7 +26,7 @@ use Rattle.job_grammar.proofs.Complete.{walk_next, openings_next}
 use Rattle.form_facts.specs.Facts.{paired, parts_of, fees_agree, parts_agree_lem, PartsAgree, count_of, counted_text}
 use Rattle.form_facts.proofs.CountLines.{count_in, count_out}
 use Rattle.form_facts.proofs.Facts.{paired_size, agree_says}
-use Rattle.form.specs.Form.{Form, idle_count_text, body_of, rest_of, form_text}
+use Rattle.form.specs.Form.{Form, idle_count_text, body_of, from_openings, form_text}
 use Rattle.form.specs.Promise.{StartFaultless, OpeningsFaultless, openings_line, parts_line, line_after_lem}
 use Rattle.form.proofs.IdleLines.{after_none, after_some, text_some, number_there, idles_none, idles_some, steps_in}
 
@@ -100,7 +100,7 @@ paired_chained h before (o ∷ os) (f ∷ fs) r v = (((r.0, r.1), v.0), paired_c
 pub idles_out : (f : Form) → 2 ≤ f.horizon → f.horizon ≤ 365 → 365 < length f.idles → job_lines (form_text f) 1 ≡ fault 3 2
 unfolding job_lines form_text
 idles_out f low high many =
-    let after = rest_of f.openings f.fees f.parts in
+    let after = from_openings f.openings f.fees f.parts in
     let is = optional_text idle_count_text (idle_lines f.idles) in
     let steps = texts (line_of "idle=") f.idles ++ after in
     bind_good (row "horizon=" 2 365) _ (value_in (bytes "horizon=") 2 365 f.horizon (omega (arith, high)) (is ++ after) 1 low high)
@@ -137,7 +137,7 @@ module _ (f : Form) (start : StartFaultless f) where
   opening_count_lem = line_of "openings=" (count_of 64 (fees_agree os fs) n)
 
   start_in : job_lines (form_text f) 1 ≡ (row "openings=" 0 64 >>= body f.horizon (idle_lines f.idles) None) (opening_count_lem ++ body_of os fs f.parts) (openings_line f)
-  unfolding job_lines rest form_text rest_of
+  unfolding job_lines rest form_text from_openings
   start_in =
       let after = opening_count_lem ++ body_of os fs f.parts in
       let is = optional_text idle_count_text (idle_lines f.idles) in

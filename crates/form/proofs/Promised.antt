@@ -5,8 +5,6 @@ use Prim.Native.Nat.{ℕ, zero, suc, ◌≤◌, ◌<◌}
 use mathlib.Core.Path.{◌≡◌, refl, sym, ap, ap₂, subst, ◌∙◌}
 use mathlib.Core.List.{List, [], ◌∷◌, ◌++◌}
 use native.Mathlib.Omega.{arith}
-use native.Mathlib.Decide.{dec_lt}
-use borrow.Author.Tests.{lt-ltb, le-ltb}
 use mathlib.Core.Logic.{⊎_elim}
 use lib.ListN.{length, take, drop, length-map}
 use Rattle.lines.specs.Wrote.{Wrote}
@@ -26,7 +24,7 @@ use Rattle.answers.specs.Said.{Said, plainly, refusal, lent}
 use Rattle.answers.proofs.Replies as replies
 use Rattle.form_facts.proofs.Facts.{paired_size, parts_size}
 use Rattle.form.specs.Form.{Form, stated, form_text, read_form}
-use Rattle.form.specs.Write.{said_for, write_said, write_room}
+use Rattle.form.specs.Write.{form_reply, write_said, write_room}
 use Rattle.form.specs.Promise.{Agree, Few, FormFault, form_of, WritePromise}
 use Rattle.form.proofs.Differing.{idles_out, fees_out, parts_out}
 use Rattle.form.proofs.Readback.{Readback, back, broken}
@@ -55,9 +53,9 @@ cut_reads f held = go (form_back f held)
     go (broken n m w h i) = ap finish (bind_fault job_lines _ i) ∙ sym (form_refused f n m h)
 
 -- what is said of the text written to be read is the writer's answer, if it fits
-pub cut_says : (f : Form) → Held f → said_for (finish (whole job_lines (cut f) 1)) ≡ write_said f
+pub cut_says : (f : Form) → Held f → form_reply (finish (whole job_lines (cut f) 1)) ≡ write_said f
 unfolding write_said
-cut_says f held = ap said_for (cut_reads f held)
+cut_says f held = ap form_reply (cut_reads f held)
 
 -- what was written from the start on is the front
 front : (xs ys : List ℕ) → take (length xs) (xs ++ ys) ≡ xs
@@ -86,7 +84,7 @@ unfolding write_said read_form
 read_writes text t e none =
     let v = valid_text text t e in
     let same : form_text (form_of t) ≡ text = same_text (form_of t) (agrees t v) (fits t v) ∙ ap job_text_lem (returned t v none) ∙ sym (text_is text t e) in
-    ap said_for (ap (λ (s : List ℕ). finish (whole job_lines s 1)) same ∙ text_fits max_bytes job_lines text (subst (λ (s : List ℕ). length s ≤ max_bytes) (sym (text_is text t e)) (lengths.text_fits t v)) ∙ e)
+    ap form_reply (ap (λ (s : List ℕ). finish (whole job_lines s 1)) same ∙ text_fits max_bytes job_lines text (subst (λ (s : List ℕ). length s ≤ max_bytes) (sym (text_is text t e)) (lengths.text_fits t v)) ∙ e)
     ∙ ap (plainly 0) (sym (text_is text t e))
 
 -- a fault is neither 0 nor 8
@@ -171,7 +169,7 @@ module _ (f : Form) (held : Held f) (room : ℕ) where
       read = form_accepted f (stated f) l e
 
       said : write_said f ≡ plainly 0 (job_text_lem (stated f))
-      said = ap said_for read
+      said = ap form_reply read
 
       reads_back : read_job_text (job_text_lem (stated f)) ≡ accepted (stated f)
       reads_back = read_back (stated f) (lines_tell (form_text f) [] 1 l (stated f) e).known
@@ -200,15 +198,11 @@ module _ (f : Form) (held : Held f) (room : ℕ) where
       read = form_refused f n m e
 
       said : write_said f ≡ refusal 1 [] n m
-      said = ap said_for read
+      said = ap form_reply read
 
   on_lines : write_room ≤ room → Readback FormFault (Agree f × Few f) (stated f) [] [] (job_lines (form_text f) 1) (job_lines (cut f) 1) → WritePromise f room (write_said f)
   on_lines h (back g l e i) = written h l g.0 e
   on_lines h (broken n m w e i) = refused_line h n m w e
 
   pub promised : WritePromise f room (lent write_room room (write_said f))
-  promised = go (dec_lt room write_room)
-    where
-      go : Dec (room < write_room) → WritePromise f room (lent write_room room (write_said f))
-      go (yes h) = rw (lt-ltb room write_room h) (short h)
-      go (no n) = let h : write_room ≤ room = omega (arith, n) in rw (le-ltb room write_room h) (on_lines h (form_back f held))
+  promised = replies.with_room (WritePromise f room) write_room room (write_said f) short (λ h. on_lines h (form_back f held))

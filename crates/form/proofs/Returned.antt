@@ -25,10 +25,10 @@ use Rattle.job_grammar.specs.Rendering.{idles_text, opening_text, body_text, job
 use Rattle.part_lines.specs.Rendering.{part_text}
 use Rattle.job_grammar.specs.Optionals.{idle_lines}
 use Rattle.job_grammar.proofs.Optionals.{some_idles}
-use Rattle.form_facts.specs.Facts.{paired, covers_of, rules_of, quotes_from, quotes_in, counted_for, prices_from, grouped, parts_of, sum_all, fees_agree, parts_agree_lem, PartsAgree, count_of, counted_text}
+use Rattle.form_facts.specs.Facts.{paired, covers_of, rules_of, quotes_from, quotes_in, counted_for, prices_from, grouped, parts_of, sum_of, fees_agree, parts_agree_lem, PartsAgree, count_of, counted_text}
 use Rattle.form_facts.proofs.CountLines.{count_is}
 use Rattle.form_facts.proofs.Facts.{paired_size, parts_size, marks_few, says_agree}
-use Rattle.form.specs.Form.{Form, stated, idle_count_text, body_of, rest_of, form_text}
+use Rattle.form.specs.Form.{Form, stated, idle_count_text, body_of, from_openings, form_text}
 use Rattle.form.specs.Promise.{Agree, Few, mark_of, removal_in, insides_of, holders_of_lem, rule_mark_lem, bases_of, drops_of, leasts_of, listed_in, pair_mark, low_in, banded_in, lows_in, lists_of, form_of}
 
 -- ---- the text
@@ -53,7 +53,7 @@ module _ (f : Form) (agree : Agree f) (few : Few f) where
       ∙ sym (parts_size (length f.openings) f.parts agree.parts)
 
   pub same_text : form_text f ≡ job_text_lem said
-  unfolding form_text rest_of body_of counted_text job_text_lem body_text
+  unfolding form_text from_openings body_of counted_text job_text_lem body_text
   same_text =
       let h = line_of "horizon=" f.horizon in
       let is = optional_text idles_text said.idles in
@@ -84,9 +84,6 @@ left_of p = p.left
 
 abbrev cover_of : PartText → Option Cover
 cover_of p = p.cover
-
-abbrev prices_of_lem : PartText → Prices
-prices_of_lem p = p.prices
 
 -- the rule that prices stand by
 abbrev rule_in : Prices → Option Rule
@@ -175,7 +172,7 @@ rules_small [] = tt
 rules_small (p ∷ ps) = (rule_small p.prices, rules_small ps)
 
 -- a list with one number for each rule
-of_rules : (w : Prices → List ℕ) → ((p : Prices) → length (w p) ≡ rule_mark_lem p) → (ps : List PartText) → length (texts (λ (p : PartText). w p.prices) ps) ≡ sum_all (lists_of ps).ruled
+of_rules : (w : Prices → List ℕ) → ((p : Prices) → length (w p) ≡ rule_mark_lem p) → (ps : List PartText) → length (texts (λ (p : PartText). w p.prices) ps) ≡ sum_of (lists_of ps).ruled
 of_rules w one [] = refl
 of_rules w one (p ∷ ps) = length-append (w p.prices) (texts (λ (q : PartText). w q.prices) ps) ∙ ap₂ ◌+◌ (one p.prices) (of_rules w one ps)
 
@@ -199,11 +196,11 @@ listed_more n m k rest (by_list qs) v few e =
     omega (arith, q, e, v.0, length-map qs high_end)
 listed_more n m k rest (by_rule_lem r) v few e = let z : suc m - (1 + k) ≡ m - k = omega arith in omega (arith, e, ap (λ (i : ℕ). i * n) z)
 
-prices_size : (n : ℕ) (ps : List PartText) → All (Spelt n) ps → length (texts list_of ps) ≡ (length ps - sum_all (lists_of ps).ruled) * n
+prices_size : (n : ℕ) (ps : List PartText) → All (Spelt n) ps → length (texts list_of ps) ≡ (length ps - sum_of (lists_of ps).ruled) * n
 prices_size n [] v = sym (zero-mul n)
 prices_size n (p ∷ ps) v =
     length-append (list_of p) (texts list_of ps)
-    ∙ listed_more n (length ps) (sum_all (lists_of ps).ruled) (length (texts list_of ps)) p.prices v.0 (omega (arith, marks_few (lists_of ps).ruled (rules_small ps), length-map ps (λ (q : PartText). rule_mark_lem q.prices))) (prices_size n ps v.1)
+    ∙ listed_more n (length ps) (sum_of (lists_of ps).ruled) (length (texts list_of ps)) p.prices v.0 (omega (arith, marks_few (lists_of ps).ruled (rules_small ps), length-map ps (λ (q : PartText). rule_mark_lem q.prices))) (prices_size n ps v.1)
 
 -- marks and low ends of the pairs
 banded_size : (p : Prices) → length (banded_in p) ≡ length (listed_in p)
@@ -232,20 +229,20 @@ bands_small : (ps : List PartText) → All (λ (z : ℕ). z ≤ 1) (lists_of ps)
 bands_small [] = tt
 bands_small (p ∷ ps) = all_append (λ (z : ℕ). z ≤ 1) (banded_in p.prices) (lists_of ps).banded (banded_small p.prices) (bands_small ps)
 
-sum_append : (xs ys : List ℕ) → sum_all (xs ++ ys) ≡ sum_all xs + sum_all ys
+sum_append : (xs ys : List ℕ) → sum_of (xs ++ ys) ≡ sum_of xs + sum_of ys
 sum_append [] ys = omega arith
 sum_append (x ∷ xs) ys = omega (arith, sum_append xs ys)
 
-pairs_counted : (qs : List Quote) → length (texts low_in qs) ≡ sum_all (map pair_mark qs)
+pairs_counted : (qs : List Quote) → length (texts low_in qs) ≡ sum_of (map pair_mark qs)
 pairs_counted [] = refl
 pairs_counted (single p ∷ qs) = omega (arith, pairs_counted qs)
 pairs_counted (pair l h ∷ qs) = omega (arith, pairs_counted qs)
 
-lows_counted : (p : Prices) → length (lows_in p) ≡ sum_all (banded_in p)
+lows_counted : (p : Prices) → length (lows_in p) ≡ sum_of (banded_in p)
 lows_counted (by_list qs) = pairs_counted qs
 lows_counted (by_rule_lem r) = refl
 
-lows_size : (ps : List PartText) → length (lists_of ps).lows ≡ sum_all (lists_of ps).banded
+lows_size : (ps : List PartText) → length (lists_of ps).lows ≡ sum_of (lists_of ps).banded
 lows_size [] = refl
 lows_size (p ∷ ps) =
     length-append (lows_in p.prices) (lists_of ps).lows ∙ ap₂ ◌+◌ (lows_counted p.prices) (lows_size ps) ∙ sym (sum_append (banded_in p.prices) (lists_of ps).banded)
@@ -263,7 +260,7 @@ inside_more : (o : Option Cover) (is : List ℕ) → length (insides_of o ++ is)
 inside_more None is = omega arith
 inside_more (Some c) is = omega arith
 
-holders_more : (o : Option Cover) (is hs : List ℕ) → length hs ≡ sum_all is → length (holders_of_lem o ++ hs) ≡ sum_all (insides_of o ++ is)
+holders_more : (o : Option Cover) (is hs : List ℕ) → length hs ≡ sum_of is → length (holders_of_lem o ++ hs) ≡ sum_of (insides_of o ++ is)
 holders_more None is hs e = e
 holders_more (Some c) is hs e = length-append c.holders hs ∙ ap (λ (i : ℕ). length c.holders + i) e
 
@@ -271,15 +268,15 @@ marks_small : (ps : List PartText) → All (λ (c : ℕ). c ≤ 1) (lists_of ps)
 marks_small [] = tt
 marks_small (p ∷ ps) = (mark_small p.cover, marks_small ps)
 
-removals_size : (ps : List PartText) → length (lists_of ps).removals ≡ sum_all (lists_of ps).covered
+removals_size : (ps : List PartText) → length (lists_of ps).removals ≡ sum_of (lists_of ps).covered
 removals_size [] = refl
 removals_size (p ∷ ps) = removal_more p.cover (lists_of ps).removals ∙ ap (λ (i : ℕ). mark_of p.cover + i) (removals_size ps)
 
-insides_size : (ps : List PartText) → length (lists_of ps).insides ≡ sum_all (lists_of ps).covered
+insides_size : (ps : List PartText) → length (lists_of ps).insides ≡ sum_of (lists_of ps).covered
 insides_size [] = refl
 insides_size (p ∷ ps) = inside_more p.cover (lists_of ps).insides ∙ ap (λ (i : ℕ). mark_of p.cover + i) (insides_size ps)
 
-holders_size : (ps : List PartText) → length (lists_of ps).holders ≡ sum_all (lists_of ps).insides
+holders_size : (ps : List PartText) → length (lists_of ps).holders ≡ sum_of (lists_of ps).insides
 holders_size [] = refl
 holders_size (p ∷ ps) = holders_more p.cover (lists_of ps).insides (lists_of ps).holders (holders_size ps)
 
@@ -296,7 +293,7 @@ lists_agree n ps v = record {
   bases = of_rules bases_of one_base ps;
   drops = of_rules drops_of one_drop ps;
   leasts = of_rules leasts_of one_least ps;
-  prices = prices_size n ps v ∙ ap (λ (m : ℕ). (m - sum_all (lists_of ps).ruled) * n) (sym (length-map ps life_of_lem));
+  prices = prices_size n ps v ∙ ap (λ (m : ℕ). (m - sum_of (lists_of ps).ruled) * n) (sym (length-map ps life_of_lem));
   banded = bands_size ps;
   band_marks = bands_small ps;
   lows = lows_size ps;

@@ -37,12 +37,12 @@ use Rattle.job_grammar.proofs.Complete.{walk_next, openings_next}
 use Rattle.part_lines.specs.Behind.{Behind}
 use Rattle.part_lines.proofs.Behind.{prices_next, parts_last}
 use Rattle.job_grammar.proofs.Optionals.{some_idles}
-use Rattle.form_facts.specs.Facts.{PartLists, paired, covers_of, rules_of, quotes_from, quotes_in, counted_for, prices_from, grouped, sum_all, fees_agree, parts_agree_lem, PartsAgree, count_of, counted_text}
+use Rattle.form_facts.specs.Facts.{PartLists, paired, covers_of, rules_of, quotes_from, quotes_in, counted_for, prices_from, grouped, sum_of, fees_agree, parts_agree_lem, PartsAgree, count_of, counted_text}
 use Rattle.form_facts.proofs.CountLines.{count_in, count_out}
 use Rattle.form_facts.proofs.Facts.{paired_size, parts_size, quotes_size, marks_few, agree_says}
 use Rattle.part_writing.specs.Cut.{inside_cut, cover_cut, part_cut_lem}
 use Rattle.form_writing.specs.Cut.{counted_cut, idles_cut, parts_cut, body_cut, rest_cut, form_cut}
-use Rattle.form.specs.Form.{Form, stated, idle_count_text, body_of, rest_of, form_text}
+use Rattle.form.specs.Form.{Form, stated, idle_count_text, body_of, from_openings, form_text}
 use Rattle.form.specs.Promise.{Agree, Few, FormFault}
 use Rattle.form.proofs.Readback.{Readback, back, broken, same_back, bind_back, return_back, row_back, checked_back, chain_back}
 use Rattle.form.proofs.CoverLines.{starts_line, cover_none, removal_there, cut_next}
@@ -443,16 +443,16 @@ grouped_short n (l ∷ ls) (k ∷ rs) (o ∷ cs) (u ∷ us) ps a b d r c e =
     )
 
 -- those of m marks
-rules_counted : (n : ℕ) (us bs ds ms : List ℕ) → All (λ (u : ℕ). u ≤ 1) us → counted n (rules_of us bs ds ms) ≡ (length us - sum_all us) * n
+rules_counted : (n : ℕ) (us bs ds ms : List ℕ) → All (λ (u : ℕ). u ≤ 1) us → counted n (rules_of us bs ds ms) ≡ (length us - sum_of us) * n
 unfolding rules_of
 rules_counted n [] bs ds ms v = sym (zero-mul n)
 rules_counted n (zero ∷ us) bs ds ms v =
     let few = marks_few us v.1 in
-    let z : length (zero ∷ us) - sum_all (zero ∷ us) ≡ suc (length us - sum_all us) = omega (arith, few) in
-    let q : (length (zero ∷ us) - sum_all (zero ∷ us)) * n ≡ (length us - sum_all us) * n + n = ap (λ (i : ℕ). i * n) z ∙ suc-mul (length us - sum_all us) n in
+    let z : length (zero ∷ us) - sum_of (zero ∷ us) ≡ suc (length us - sum_of us) = omega (arith, few) in
+    let q : (length (zero ∷ us) - sum_of (zero ∷ us)) * n ≡ (length us - sum_of us) * n + n = ap (λ (i : ℕ). i * n) z ∙ suc-mul (length us - sum_of us) n in
     omega (arith, q, rules_counted n us bs ds ms v.1)
 rules_counted n (suc zero ∷ us) bs ds ms v =
-    let z : length (1 ∷ us) - sum_all (1 ∷ us) ≡ length us - sum_all us = omega arith in
+    let z : length (1 ∷ us) - sum_of (1 ∷ us) ≡ length us - sum_of us = omega arith in
     omega (arith, rules_counted n us (drop 1 bs) (drop 1 ds) (drop 1 ms) v.1, ap (λ (i : ℕ). i * n) z)
 rules_counted n (suc (suc u) ∷ us) bs ds ms v = absurd (omega (arith, v.0))
 
@@ -481,7 +481,7 @@ module _ (f : Form) (held : Held f) where
   parts_short : PartsAgree n x → All (ShortPart n) said.parts
   parts_short agree =
       let listed = rules_counted n x.ruled x.bases x.drops x.leasts agree.rule_marks in
-      let same : (length x.ruled - sum_all x.ruled) * n ≡ length x.prices = ap (λ (m : ℕ). (m - sum_all x.ruled) * n) agree.ruled ∙ sym agree.prices in
+      let same : (length x.ruled - sum_of x.ruled) * n ≡ length x.prices = ap (λ (m : ℕ). (m - sum_of x.ruled) * n) agree.ruled ∙ sym agree.prices in
       grouped_short n x.lives x.lefts (covers_of x.covered x.removals x.insides x.holders) (rules_of x.ruled x.bases x.drops x.leasts) (quotes_in x) held.lives held.lefts
       (covers_short x.covered x.removals x.insides x.holders held.removals held.insides held.holders)
       (rules_short x.ruled x.bases x.drops x.leasts held.bases held.drops held.leasts)
@@ -513,8 +513,8 @@ module _ (f : Form) (held : Held f) where
   Fits = Agree f × Few f
 
   rest_back : length f.idles ≤ 365 → (l : ℕ)
-      → Readback FormFault Fits said [] [] (rest f.horizon said.idles (rest_of os f.fees x) l) (rest f.horizon said.idles (rest_cut os f.fees x) l)
-  unfolding rest rest_of rest_cut counted_cut
+      → Readback FormFault Fits said [] [] (rest f.horizon said.idles (from_openings os f.fees x) l) (rest f.horizon said.idles (rest_cut os f.fees x) l)
+  unfolding rest from_openings rest_cut counted_cut
   rest_back few l =
       let b = body_of os f.fees x in
       let q : Bool → List ℕ = λ g. cond g (body_cut os f.fees x) [] in
@@ -532,9 +532,9 @@ module _ (f : Form) (held : Held f) where
       with_fees g (broken i j h e e') = broken i j h e e'
 
   pub form_back : Readback FormFault Fits said [] [] (job_lines (form_text f) 1) (job_lines (cut f) 1)
-  unfolding job_lines form_text form_cut rest_of rest_cut counted_cut
+  unfolding job_lines form_text form_cut from_openings rest_cut counted_cut
   form_back =
-      let r = rest_of os f.fees x in
+      let r = from_openings os f.fees x in
       let q = rest_cut os f.fees x in
       let a = line_of "horizon=" f.horizon in
       let is = optional_text idle_count_text (idle_lines f.idles) in

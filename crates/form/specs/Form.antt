@@ -33,12 +33,12 @@ unfoldable pub body_of : List ℕ → List ℕ → PartLists → List ℕ
 body_of os fs x = texts opening_text (paired os fs) ++ counted_text (length os) x
 
 -- from the `openings` line on; E2.2. the number of openings is out of its range where the fees are not as many
-unfoldable pub rest_of : List ℕ → List ℕ → PartLists → List ℕ
-rest_of os fs x = line_of "openings=" (count_of most_openings (fees_agree os fs) (length os)) ++ body_of os fs x
+unfoldable pub from_openings : List ℕ → List ℕ → PartLists → List ℕ
+from_openings os fs x = line_of "openings=" (count_of most_openings (fees_agree os fs) (length os)) ++ body_of os fs x
 
 -- the text that the numbers of a form make
 unfoldable pub form_text : Form → List ℕ
-form_text f = line_of "horizon=" f.horizon ++ (optional_text idle_count_text (idle_lines f.idles) ++ rest_of f.openings f.fees f.parts)
+form_text f = line_of "horizon=" f.horizon ++ (optional_text idle_count_text (idle_lines f.idles) ++ from_openings f.openings f.fees f.parts)
 
 -- what its lines say, or the first fault's number and line: "It gives 3, 4, 5 [..] for the same faults, with the line that would have held them", E7's 12 and E11's 13.
 -- The text is read by its lines alone, with no limit to its length

@@ -10,7 +10,7 @@ ghost use Rattle.form_facts.specs.Views.{lists_of};
 ghost use Rattle.form_writing.specs.Cut.{form_cut, longest_cut};
 ghost use Rattle.answers.specs.Said.{lent, plainly, Replied};
 ghost use Rattle.form.specs.Form.{filled};
-ghost use Rattle.form.specs.Write.{said_for, write_said, write_room};
+ghost use Rattle.form.specs.Write.{form_reply, write_said, write_room};
 ghost use Rattle.form.specs.Promise.{WritePromise};
 
 use answers::{Answer, JOB, refuse, reply};
@@ -37,7 +37,7 @@ fn answer(text: &[u8], out: &mut [u8]) -> Answer
 // The answer to the text that a form's lists make: its first fault, else the text itself. There is no text of the caller's, and so no line at fault.
 fn answer_text(text: &[u8], out: &mut [u8]) -> Answer
     requires { length text.now ≤ longest_cut }
-    ensures { Replied write_room (said_for (finish (whole job_lines text.now 1))) out.old out.new result }
+    ensures { Replied write_room (form_reply (finish (whole job_lines text.now 1))) out.old out.new result }
 {
     match read_all(text) {
         Ok(_) => answer(text, out),

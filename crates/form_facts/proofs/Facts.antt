@@ -20,7 +20,7 @@ use Rattle.covers.specs.Grammar.{Cover}
 use Rattle.quotes.specs.Grammar.{Quote, single, pair}
 use Rattle.quotes.specs.Views.{quote_of}
 use Rattle.price_rules.specs.Rule.{Rule}
-use Rattle.form_facts.specs.Facts.{PartLists, paired, covers_of, rules_of, quotes_from, quotes_in, counted_for, grouped, parts_of, sum_all, all_marks, covers_agree_lem, prices_agree_lem, bands_agree_lem, parts_agree_lem, PartsAgree}
+use Rattle.form_facts.specs.Facts.{PartLists, paired, covers_of, rules_of, quotes_from, quotes_in, counted_for, grouped, parts_of, sum_of, all_marks, covers_agree_lem, prices_agree_lem, bands_agree_lem, parts_agree_lem, PartsAgree}
 
 -- openings from equally long lists of steps and fees are as many
 pub paired_size : (os fs : List ℕ) → length fs ≡ length os → length (paired os fs) ≡ length os
@@ -70,15 +70,15 @@ parts_size n x h =
 -- ---- E11. prices from a place on: the next low ends are those of the marks from there on
 
 -- the prices from place i on are those of the marks, prices and low ends from there on
-pub quotes_drop : (i : ℕ) (zs ws ps : List ℕ) → All (λ (z : ℕ). z ≤ 1) zs → length zs ≡ length ps → quotes_from (drop i zs) (drop (sum_all (take i zs)) ws) (drop i ps) ≡ drop i (quotes_from zs ws ps)
+pub quotes_drop : (i : ℕ) (zs ws ps : List ℕ) → All (λ (z : ℕ). z ≤ 1) zs → length zs ≡ length ps → quotes_from (drop i zs) (drop (sum_of (take i zs)) ws) (drop i ps) ≡ drop i (quotes_from zs ws ps)
 unfolding quotes_from
 quotes_drop zero zs ws ps m e = refl
 quotes_drop (suc i) [] ws ps m e = refl
 quotes_drop (suc i) (z ∷ zs) ws [] m e = absurd (omega arith)
 quotes_drop (suc i) (zero ∷ zs) ws (p ∷ ps) m e =
-    let same : sum_all (take (suc i) (zero ∷ zs)) ≡ sum_all (take i zs) = omega arith in
+    let same : sum_of (take (suc i) (zero ∷ zs)) ≡ sum_of (take i zs) = omega arith in
     ap (λ (k : ℕ). quotes_from (drop i zs) (drop k ws) (drop i ps)) same ∙ quotes_drop i zs ws ps m.1 (omega arith)
-quotes_drop (suc i) (suc zero ∷ zs) ws (p ∷ ps) m e = ap (λ (us : List ℕ). quotes_from (drop i zs) us (drop i ps)) (sym (drop-drop (sum_all (take i zs)) 1 ws)) ∙ quotes_drop i zs (drop 1 ws) ps m.1 (omega arith)
+quotes_drop (suc i) (suc zero ∷ zs) ws (p ∷ ps) m e = ap (λ (us : List ℕ). quotes_from (drop i zs) us (drop i ps)) (sym (drop-drop (sum_of (take i zs)) 1 ws)) ∙ quotes_drop i zs (drop 1 ws) ps m.1 (omega arith)
 quotes_drop (suc i) (suc (suc z) ∷ zs) ws (p ∷ ps) m e = absurd (omega (arith, m.0))
 
 -- the prices up to place i are those of the marks and prices up to there
@@ -100,7 +100,7 @@ quotes_size (suc z ∷ zs) ws (p ∷ ps) e = ap suc (quotes_size zs (drop 1 ws) 
 
 -- the price at place i
 pub quote_at : (i : ℕ) (zs ws ps : List ℕ) → All (λ (z : ℕ). z ≤ 1) zs → length zs ≡ length ps → i < length ps
-    → get_or (quotes_from zs ws ps) i (single 0) ≡ quote_of (cond (eqb (get_or zs i 0) 1) (Some (get_or ws (sum_all (take i zs)) 0)) None) (get_or ps i 0)
+    → get_or (quotes_from zs ws ps) i (single 0) ≡ quote_of (cond (eqb (get_or zs i 0) 1) (Some (get_or ws (sum_of (take i zs)) 0)) None) (get_or ps i 0)
 unfolding quotes_from quote_of
 quote_at i [] ws ps m e h = absurd (omega arith)
 quote_at i (z ∷ zs) ws [] m e h = absurd (omega arith)
@@ -109,23 +109,23 @@ quote_at zero (suc zero ∷ zs) ws (p ∷ ps) m e h = refl
 quote_at i (suc (suc z) ∷ zs) ws (p ∷ ps) m e h = absurd (omega (arith, m.0))
 quote_at (suc i) (zero ∷ zs) ws (p ∷ ps) m e h =
     let b = eqb (get_or zs i 0) 1 in
-    let same : sum_all (take i zs) ≡ sum_all (take (suc i) (zero ∷ zs)) = omega arith in
+    let same : sum_of (take i zs) ≡ sum_of (take (suc i) (zero ∷ zs)) = omega arith in
     quote_at i zs ws ps m.1 (omega arith) (omega arith) ∙ ap (λ (k : ℕ). quote_of (cond b (Some (get_or ws k 0)) None) (get_or ps i 0)) same
 quote_at (suc i) (suc zero ∷ zs) ws (p ∷ ps) m e h =
     let b = eqb (get_or zs i 0) 1 in
-    quote_at i zs (drop 1 ws) ps m.1 (omega arith) (omega arith) ∙ ap (λ (w : ℕ). quote_of (cond b (Some w) None) (get_or ps i 0)) (get_or-drop 1 ws (sum_all (take i zs)) 0)
+    quote_at i zs (drop 1 ws) ps m.1 (omega arith) (omega arith) ∙ ap (λ (w : ℕ). quote_of (cond b (Some w) None) (get_or ps i 0)) (get_or-drop 1 ws (sum_of (take i zs)) 0)
 
 -- how many marks are 1 among the first
-pub sum_next : (i : ℕ) (zs : List ℕ) → i < length zs → sum_all (take (i + 1) zs) ≡ sum_all (take i zs) + get_or zs i 0
-sum_next i zs h = ap (λ (k : ℕ). sum_all (take k zs)) (add-one i) ∙ go i zs h
+pub sum_next : (i : ℕ) (zs : List ℕ) → i < length zs → sum_of (take (i + 1) zs) ≡ sum_of (take i zs) + get_or zs i 0
+sum_next i zs h = ap (λ (k : ℕ). sum_of (take k zs)) (add-one i) ∙ go i zs h
   where
-    go : (i : ℕ) (zs : List ℕ) → i < length zs → sum_all (take (suc i) zs) ≡ sum_all (take i zs) + get_or zs i 0
+    go : (i : ℕ) (zs : List ℕ) → i < length zs → sum_of (take (suc i) zs) ≡ sum_of (take i zs) + get_or zs i 0
     go i [] h = absurd (omega arith)
     go zero (z ∷ zs) h = omega arith
     go (suc i) (z ∷ zs) h = omega (arith, go i zs (omega arith))
 
 -- the sum of the first i of a list is at most the sum of all
-pub sum_part : (i : ℕ) (zs : List ℕ) → sum_all (take i zs) ≤ sum_all zs
+pub sum_part : (i : ℕ) (zs : List ℕ) → sum_of (take i zs) ≤ sum_of zs
 sum_part zero zs = omega arith
 sum_part (suc i) [] = omega arith
 sum_part (suc i) (z ∷ zs) = omega (arith, sum_part i zs)
@@ -148,13 +148,13 @@ all_marks_lem [] h = refl
 all_marks_lem (c ∷ cs) h = ap₂ ◌&&◌ (le-leb c 1 h.0) (all_marks_lem cs h.1)
 
 -- marks that are 1 are at most as many as the marks
-pub marks_few : (cs : List ℕ) → All (λ (c : ℕ). c ≤ 1) cs → sum_all cs ≤ length cs
+pub marks_few : (cs : List ℕ) → All (λ (c : ℕ). c ≤ 1) cs → sum_of cs ≤ length cs
 marks_few [] h = omega arith
 marks_few (c ∷ cs) h = omega (arith, h.0, marks_few cs h.1)
 
 -- the library's sum, in the definition's words
-pub sum_is : (vs : List ℕ) → sum_by (λ (n : ℕ). n) vs ≡ sum_all vs
-sum_is vs = sym (is_sum_by sum_all (λ (n : ℕ). n) refl (λ v vs. refl) vs)
+pub sum_is : (vs : List ℕ) → sum_by (λ (n : ℕ). n) vs ≡ sum_of vs
+sum_is vs = sym (is_sum_by sum_of (λ (n : ℕ). n) refl (λ v vs. refl) vs)
 
 -- a count that is told only of so many marks is no more
 pub count_few : (n s : ℕ) (t : Bool) (o : Option ℕ) → o ≡ cond t (Some s) None → (t ≡ true → s ≤ n) → IfSome o (λ c. c ≤ n)
@@ -162,7 +162,7 @@ count_few n s true o e h = subst (λ (p : Option ℕ). IfSome p (λ c. c ≤ n))
 count_few n s false o e h = subst (λ (p : Option ℕ). IfSome p (λ c. c ≤ n)) (sym e) tt
 
 -- of marks that are each 0 or 1, no more are 1 than there are marks
-pub marks_known : (cs : List ℕ) → all_marks cs ≡ true → sum_all cs ≤ length cs
+pub marks_known : (cs : List ℕ) → all_marks cs ≡ true → sum_of cs ≤ length cs
 marks_known cs e = marks_few cs (marks_all cs e)
 
 -- there are at most 1,024 prices
@@ -170,11 +170,11 @@ pub prices_most : (m : ℕ) (us : List ℕ) (b d l p n : ℕ) → m ≤ 16 → n
 prices_most m us b d l p n few most e =
     let f = (and-eq-true_iff (eqb (length us) m) _).0 e in
     let g = (and-eq-true_iff (all_marks us) _).0 f.1 in
-    let h = (and-eq-true_iff (eqb b (sum_all us)) _).0 g.1 in
-    let i = (and-eq-true_iff (eqb d (sum_all us)) _).0 h.1 in
-    let j = (and-eq-true_iff (eqb l (sum_all us)) _).0 i.1 in
-    let low : m - sum_all us ≤ 16 = omega (arith, few) in
-    omega (arith, eqb-true p ((m - sum_all us) * n) j.1, mul-le-mul_right n low, most)
+    let h = (and-eq-true_iff (eqb b (sum_of us)) _).0 g.1 in
+    let i = (and-eq-true_iff (eqb d (sum_of us)) _).0 h.1 in
+    let j = (and-eq-true_iff (eqb l (sum_of us)) _).0 i.1 in
+    let low : m - sum_of us ≤ 16 = omega (arith, few) in
+    omega (arith, eqb-true p ((m - sum_of us) * n) j.1, mul-le-mul_right n low, most)
 
 -- lists that pass the test agree with each other
 pub agree_says : (n : ℕ) (x : PartLists) → parts_agree_lem n x ≡ true → PartsAgree n x
@@ -187,13 +187,13 @@ agree_says n x e =
     let o = (and-eq-true_iff (all_marks x.banded) _).0 k.1 in
     let a = (and-eq-true_iff (eqb (length x.covered) m) _).0 y.0 in
     let b = (and-eq-true_iff (all_marks x.covered) _).0 a.1 in
-    let c = (and-eq-true_iff (eqb (length x.removals) (sum_all x.covered)) _).0 b.1 in
-    let d = (and-eq-true_iff (eqb (length x.insides) (sum_all x.covered)) _).0 c.1 in
+    let c = (and-eq-true_iff (eqb (length x.removals) (sum_of x.covered)) _).0 b.1 in
+    let d = (and-eq-true_iff (eqb (length x.insides) (sum_of x.covered)) _).0 c.1 in
     let f = (and-eq-true_iff (eqb (length x.ruled) m) _).0 v.0 in
     let g = (and-eq-true_iff (all_marks x.ruled) _).0 f.1 in
-    let h = (and-eq-true_iff (eqb (length x.bases) (sum_all x.ruled)) _).0 g.1 in
-    let i = (and-eq-true_iff (eqb (length x.drops) (sum_all x.ruled)) _).0 h.1 in
-    let j = (and-eq-true_iff (eqb (length x.leasts) (sum_all x.ruled)) _).0 i.1 in
+    let h = (and-eq-true_iff (eqb (length x.bases) (sum_of x.ruled)) _).0 g.1 in
+    let i = (and-eq-true_iff (eqb (length x.drops) (sum_of x.ruled)) _).0 h.1 in
+    let j = (and-eq-true_iff (eqb (length x.leasts) (sum_of x.ruled)) _).0 i.1 in
     record {
       lefts = eqb-true _ _ s.0;
       covered = eqb-true _ _ a.0;

@@ -13,6 +13,7 @@ use Rattle.price_rules.specs.Grammar.{Prices, by_list, by_rule_lem}
 use Rattle.model.specs.Limits.{most_parts}
 use Rattle.part_lines.specs.Grammar.{PartText}
 use Rattle.part_lines.specs.Rendering.{part_text}
+pub use Rattle.base.specs.Sums.{sum_of}
 
 -- ---- what the lists state
 
@@ -91,11 +92,6 @@ parts_of n x = grouped n x.lives x.lefts (covers_of x.covered x.removals x.insid
 
 -- ---- whether they agree
 
--- the sum of numbers; of marks, how many are 1
-abbrev pub sum_all : List ℕ → ℕ
-sum_all [] = 0
-sum_all (v ∷ vs) = v + sum_all vs
-
 -- each is 0 or 1
 abbrev pub all_marks : List ℕ → Bool
 all_marks [] = true
@@ -107,21 +103,21 @@ fees_agree os fs = eqb (length fs) (length os)
 
 -- E7. a mark 0 or 1 for each of m parts, v removals and as many insides as marks that are 1, and h holders, as many as the insides say in sum; else 3 "on the `parts` line"
 abbrev pub covers_agree_lem : ℕ → List ℕ → ℕ → List ℕ → ℕ → Bool
-covers_agree_lem m cs v is h = eqb (length cs) m && (all_marks cs && (eqb v (sum_all cs) && (eqb (length is) (sum_all cs) && eqb h (sum_all is))))
+covers_agree_lem m cs v is h = eqb (length cs) m && (all_marks cs && (eqb v (sum_of cs) && (eqb (length is) (sum_of cs) && eqb h (sum_of is))))
 
 -- E8. a mark 0 or 1 for each of m parts, b bases, d drops and l leasts, as many as marks that are 1, and p prices, one for each part without a rule and each of n openings
 abbrev pub prices_agree_lem : ℕ → List ℕ → ℕ → ℕ → ℕ → ℕ → ℕ → Bool
-prices_agree_lem m us b d l p n = eqb (length us) m && (all_marks us && (eqb b (sum_all us) && (eqb d (sum_all us) && (eqb l (sum_all us) && eqb p ((m - sum_all us) * n)))))
+prices_agree_lem m us b d l p n = eqb (length us) m && (all_marks us && (eqb b (sum_of us) && (eqb d (sum_of us) && (eqb l (sum_of us) && eqb p ((m - sum_of us) * n)))))
 
 -- E11. a mark 0 or 1 for each of p prices, and w low ends, as many as marks that are 1
 abbrev pub bands_agree_lem : List ℕ → ℕ → ℕ → Bool
-bands_agree_lem zs w p = eqb (length zs) p && (all_marks zs && eqb w (sum_all zs))
+bands_agree_lem zs w p = eqb (length zs) p && (all_marks zs && eqb w (sum_of zs))
 
 -- what that says of prices: a mark for each, 0 or 1, and the low ends reach
 pub record Marked (zs ws ps : List ℕ) : Type 0 where
   pub size : length zs ≡ length ps
   pub marks : All (λ (z : ℕ). z ≤ 1) zs
-  pub lows : sum_all zs ≤ length ws
+  pub lows : sum_of zs ≤ length ws
 
 -- E2.2. "lefts not as many as lives, prices not parts times openings, or a list added later of a wrong length, on the `parts` line": the lists of the parts where there are n openings
 abbrev pub parts_agree_lem : ℕ → PartLists → Bool
@@ -137,18 +133,18 @@ pub record PartsAgree (n : ℕ) (x : PartLists) : Type 0 where
   pub lefts : length x.lefts ≡ length x.lives
   pub covered : length x.covered ≡ length x.lives
   pub marks : All (λ (c : ℕ). c ≤ 1) x.covered
-  pub removals : length x.removals ≡ sum_all x.covered
-  pub insides : length x.insides ≡ sum_all x.covered
-  pub holders : length x.holders ≡ sum_all x.insides
+  pub removals : length x.removals ≡ sum_of x.covered
+  pub insides : length x.insides ≡ sum_of x.covered
+  pub holders : length x.holders ≡ sum_of x.insides
   pub ruled : length x.ruled ≡ length x.lives
   pub rule_marks : All (λ (u : ℕ). u ≤ 1) x.ruled
-  pub bases : length x.bases ≡ sum_all x.ruled
-  pub drops : length x.drops ≡ sum_all x.ruled
-  pub leasts : length x.leasts ≡ sum_all x.ruled
-  pub prices : length x.prices ≡ (length x.lives - sum_all x.ruled) * n
+  pub bases : length x.bases ≡ sum_of x.ruled
+  pub drops : length x.drops ≡ sum_of x.ruled
+  pub leasts : length x.leasts ≡ sum_of x.ruled
+  pub prices : length x.prices ≡ (length x.lives - sum_of x.ruled) * n
   pub banded : length x.banded ≡ length x.prices
   pub band_marks : All (λ (z : ℕ). z ≤ 1) x.banded
-  pub lows : length x.lows ≡ sum_all x.banded
+  pub lows : length x.lows ≡ sum_of x.banded
 
 -- the value of a count's line: the length n of its list. Where n is above its limit, or the lists that n counts disagree, it is the limit's successor,
 -- which is out of range on any such line

@@ -1,6 +1,6 @@
 // Whether the lists of a form's parts agree in length.
 ghost use Rattle.std.specs.Prelude.{◌≡◌, ◌&&◌, ◌*◌, ◌≤◌, Some, None, IfSome, cond, eqb, length};
-ghost use Rattle.form_facts.specs.Facts.{sum_all, all_marks, covers_agree_lem, prices_agree_lem, bands_agree_lem, parts_agree_lem};
+ghost use Rattle.form_facts.specs.Facts.{sum_of, all_marks, covers_agree_lem, prices_agree_lem, bands_agree_lem, parts_agree_lem};
 ghost use Rattle.form_facts.specs.Views.{lists_of};
 ghost use Rattle.model.specs.Limits.{most_parts, most_openings};
 
@@ -9,7 +9,7 @@ use crate::lists::{CoverLists, FormParts, QuoteLists, RuleLists};
 // The sum of at most 1,024 numbers.
 pub fn sum(values: &[u32]) -> u64
     requires { length values.now ≤ most_parts * most_openings }
-    ensures { result ≡ sum_all values.now }
+    ensures { result ≡ sum_of values.now }
 {
     values.iter().map(|value| u64::from(*value)).sum()
 }
@@ -24,7 +24,7 @@ fn are_marks(marks: &[u32]) -> bool
 // How many of n marks are 1, if there are so many and each is 0 or 1.
 fn count_marks(marks: &[u32], n: usize) -> Option<usize>
     requires { n ≤ most_parts * most_openings }
-    ensures value { result ≡ cond (eqb (length marks.now) n && all_marks marks.now) (Some (sum_all marks.now)) None }
+    ensures value { result ≡ cond (eqb (length marks.now) n && all_marks marks.now) (Some (sum_of marks.now)) None }
     ensures few { IfSome result (λ count. count ≤ n) }
 {
     // Kept as a cast: std has no `From<u64>` for a usize, and a `try_from` would have an arm that nothing reaches.

@@ -3,8 +3,6 @@
 
 ghost use Rattle.std.specs.Prelude.{◌≡◌, List, [], ◌∷◌, ◌++◌, ℕ, ◌<◌, ◌≤◌, cond, get_or, true};
 ghost use Rattle.model.specs.Limits.{most_openings};
-ghost use Rattle.jobs.specs.Views.{job_of};
-ghost use Rattle.hall_model.specs.Hall.{open_at};
 ghost use Rattle.hall_model.specs.Agenda.{some_open};
 ghost use Rattle.hall_steps.specs.Table.{CrewTable};
 ghost use Rattle.hall_jobs.specs.Views.{jobs_of, hall_of};
@@ -12,24 +10,14 @@ ghost use Rattle.hall_crew.specs.Crew.{Behind, Rowed};
 
 use hall_jobs::HallJobs;
 use hall_steps::CrewSteps;
-use jobs::Job;
 
-// Whether a line is open at the step.
-fn opens(job: &Job, step: u32) -> bool
-    ensures { result ≡ open_at (job_of job.now) step }
-{
-    job.openings[..job.opening_count]
-        .iter()
-        .any(|o| o.step == step)
-}
-
-// Whether some line is.
+// Whether some line is open at the step.
 fn some_opens(hall: &HallJobs, step: u32) -> bool
     ensures { result ≡ some_open (jobs_of hall.now) step }
 {
     hall.jobs[..hall.count]
         .iter()
-        .any(|line| opens(&line.job, step))
+        .any(|line| line.job.opens(step))
 }
 
 // The openings that each line has behind the step, from those that it has before it.
@@ -40,7 +28,7 @@ fn row_behind(hall: &HallJobs, step: u32, row: [usize; 4]) -> [usize; 4]
 {
     let mut next = row;
     for d in 0..hall.count {
-        next[d] += usize::from(opens(&hall.jobs[d].job, step));
+        next[d] += usize::from(hall.jobs[d].job.opens(step));
     }
     next
 }

@@ -19,7 +19,8 @@ use Rattle.job_grammar.specs.Valid.{ValidText}
 use Rattle.job_grammar.proofs.Accepted.{lines_tell as job-tells}
 use Rattle.hall_model.specs.Hall.{horizon_of, idles_of, AllAlike, Proper}
 use Rattle.hall_model.specs.Limits.{most_lines, dearest_call, most_hall_bytes, parts_in, openings_in, Fits}
-use Rattle.hall_grammar.specs.Grammar.{HallText, meant_job, meant_hall, same_numbers, like_first, room_for, joins, job_behind, jobs_behind, hall_lines_lem, read_hall_text}
+use Rattle.job_grammar.specs.Reading.{meant_job}
+use Rattle.hall_grammar.specs.Grammar.{HallText, meant_hall, same_numbers, like_first, room_for, joins, job_behind, jobs_behind, hall_lines_lem, read_hall_text}
 use Rattle.hall_grammar.specs.Rendering.{hall_text}
 use Rattle.hall_grammar.specs.Valid.{Joined, ValidHall}
 

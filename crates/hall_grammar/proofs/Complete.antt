@@ -18,7 +18,8 @@ use Rattle.job_grammar.specs.Grammar.{JobText, job_lines}
 use Rattle.job_grammar.specs.Rendering.{job_text_lem}
 use Rattle.job_grammar.proofs.Complete.{lines_back as job-back}
 use Rattle.hall_model.specs.Limits.{most_lines, dearest_call, most_hall_bytes}
-use Rattle.hall_grammar.specs.Grammar.{HallText, meant_job, joins, job_behind, jobs_behind, hall_lines_lem, read_hall_text}
+use Rattle.job_grammar.specs.Reading.{meant_job}
+use Rattle.hall_grammar.specs.Grammar.{HallText, joins, job_behind, jobs_behind, hall_lines_lem, read_hall_text}
 use Rattle.hall_grammar.specs.Rendering.{hall_text}
 use Rattle.hall_grammar.specs.Valid.{Joined, ValidHall}
 use Rattle.hall_grammar.proofs.Accepted.{valid_hall, text_is}

@@ -12,7 +12,8 @@ use Rattle.job_grammar.specs.Grammar.{JobText, job_lines}
 use Rattle.job_grammar.proofs.Numbered.{JobFault, lines_numbers as job-numbers}
 use Rattle.hall_model.specs.Limits.{most_hall_bytes}
 pub use Rattle.hall_grammar.specs.Faults.{HallFault}
-use Rattle.hall_grammar.specs.Grammar.{meant_job, joins, job_behind, jobs_behind, hall_lines_lem, read_hall_text}
+use Rattle.job_grammar.specs.Reading.{meant_job}
+use Rattle.hall_grammar.specs.Grammar.{joins, job_behind, jobs_behind, hall_lines_lem, read_hall_text}
 
 -- a parser's numbers are among more numbers
 among : {A : Type 0} (P Q : ℕ → Type 0) (p : Parser A) → ((n : ℕ) → P n → Q n) → Numbers P p → Numbers Q p

@@ -7,7 +7,8 @@ use Rattle.model.specs.Model.{Job}
 use Rattle.job_grammar.specs.Grammar.{JobText}
 use Rattle.hall_model.specs.Hall.{Hall}
 use Rattle.hall_model.specs.Limits.{most_lines, dearest_call}
-use Rattle.hall_grammar.specs.Grammar.{HallText, meant_job, meant_hall, job_behind, jobs_behind, hall_lines_lem}
+use Rattle.job_grammar.specs.Reading.{meant_job}
+use Rattle.hall_grammar.specs.Grammar.{HallText, meant_hall, job_behind, jobs_behind, hall_lines_lem}
 use Rattle.hall_grammar.specs.Reading.{meaning, mapped, through, with_lines, line_behind, lines_behind, hall_rows}
 
 -- ---- parsers seen through a function

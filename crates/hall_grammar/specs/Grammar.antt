@@ -3,7 +3,8 @@ use Rattle.std.specs.Prelude.{ℕ, zero, suc, ◌+◌, Bool, true, false, ◌&&�
 use Rattle.lines.specs.Parser.{Outcome, Parser, ◌>>=◌, return, row, checked, read_text}
 use Rattle.model.specs.Model.{Job}
 use Rattle.model.specs.Limits.{most_openings, most_parts}
-use Rattle.job_grammar.specs.Grammar.{JobText, meant, job_lines}
+use Rattle.job_grammar.specs.Grammar.{JobText, job_lines}
+use Rattle.job_grammar.specs.Reading.{meant_job}
 use Rattle.hall_model.specs.Hall.{Hall}
 use Rattle.hall_model.specs.Limits.{most_lines, dearest_call, most_hall_bytes, parts_in, openings_in}
 
@@ -11,10 +12,6 @@ use Rattle.hall_model.specs.Limits.{most_lines, dearest_call, most_hall_bytes, p
 pub record HallText : Type 0 where
   pub call : ℕ
   pub jobs : List JobText
-
--- the job that a job's lines mean; its `walk` line is set aside
-abbrev pub meant_job : JobText → Job
-meant_job t = (meant t).job
 
 -- the hall that it means
 abbrev pub meant_hall : HallText → Hall

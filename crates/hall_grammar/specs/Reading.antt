@@ -4,7 +4,8 @@ use Rattle.lines.specs.Parser.{Parsed, good, fault, Parser, ◌>>=◌, row, Outc
 use Rattle.job_grammar.specs.Grammar.{JobText}
 use Rattle.hall_model.specs.Hall.{Hall}
 use Rattle.hall_model.specs.Limits.{most_lines, dearest_call}
-use Rattle.hall_grammar.specs.Grammar.{HallText, meant_job, meant_hall, job_behind, jobs_behind, read_hall_text}
+use Rattle.job_grammar.specs.Reading.{meant_job}
+use Rattle.hall_grammar.specs.Grammar.{HallText, meant_hall, job_behind, jobs_behind, read_hall_text}
 
 -- ---- what a text means
 
@@ -18,13 +19,13 @@ abbrev pub read_hall_lem : List ℕ → Outcome Hall
 read_hall_lem s = meaning (read_hall_text s)
 
 -- the hall text says a hall
-pub record Reading (text : List ℕ) : Type 0 where
+pub record HallReading (text : List ℕ) : Type 0 where
   pub said : HallText
   pub is : read_hall_text text ≡ accepted said
 
 module _ {text : List ℕ} where
   -- the hall that it says
-  abbrev pub hall_in : Reading text → Hall
+  abbrev pub hall_in : HallReading text → Hall
   hall_in r = meant_hall r.said
 
 -- ---- its lines, job by job

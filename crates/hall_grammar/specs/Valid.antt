@@ -4,7 +4,8 @@ use Rattle.model.specs.Model.{Job}
 use Rattle.job_grammar.specs.Grammar.{JobText}
 use Rattle.job_grammar.specs.Valid.{ValidText}
 use Rattle.hall_model.specs.Limits.{most_lines, dearest_call}
-use Rattle.hall_grammar.specs.Grammar.{HallText, meant_job, joins}
+use Rattle.job_grammar.specs.Reading.{meant_job}
+use Rattle.hall_grammar.specs.Grammar.{HallText, joins}
 
 -- each job is valid, and joins those before it
 abbrev pub Joined : List Job → List JobText → Type 0

@@ -5,7 +5,6 @@ use mathlib.Core.Bool.{Bool, true, false, false≢true, true≢false}
 use mathlib.Core.List.{List, []}
 use Rattle.std.specs.Prelude.{Some, None}
 use native.Mathlib.Omega.{arith}
-use native.Mathlib.Nat.{pow-le-pow_right}
 use lib.Bits.{bit_or}
 use lib.ListN.{length, get_or, set}
 use lib.Seq.{get_or-set_same, get_or-set_other}
@@ -27,7 +26,6 @@ use Rattle.held_stops.specs.Stops.{stop_lane, LooksAtStop, SettleAsks, StopPut, 
 use Rattle.held_stops.proofs.Names.{no_joined, stop_joined}
 use Rattle.search_state.specs.declared.Search.{Search}
 use Rattle.search_state.specs.State.{no_cost, open_s}
-use Rattle.search_state.proofs.States.{mask_fits}
 use Rattle.search_state.proofs.Trees.{DueAt, where_there, opened}
 use Rattle.held_nodes.specs.State.{no_n, yes_n, stays_n, out_n, tree_at, At, Frame, NodeSettled}
 use Rattle.held_nodes.proofs.Given.{sums_low, stop_most}
@@ -100,10 +98,6 @@ module _ {sheet : HeldSheet} {ds : List (List Bool)} {tb : LineTables} {o : Line
 
   pub opening_needs : TermAsks tb.u o.v (at + 1) (rows_in_lem o.n at - 1) × Looks tb.t o.w (rows_in_lem o.n at) (at + 1) × (0 < rows_in_lem o.n at)
   opening_needs = opening_asks a refl op.less
-
-  -- the line's stops with one more decision fit in 64 bits
-  pub next_mask : mask_in o.n at * 2 + 1 < 2 ^ 64
-  next_mask = mask_fits at (mask_in o.n at) a.mask near
 
   -- the part sums of no stop
   abbrev pub no_sum : ℕ
@@ -257,21 +251,9 @@ module _ {sheet : HeldSheet} {ds : List (List Bool)} {tb : LineTables} {o : Line
   pub few_next : p.next < 16
   few_next = omega (arith, re.left, b.holders.parts)
 
-  -- at a stop fewer than 64 openings are decided before it
-  pub stop_near : at < 64
-  stop_near = omega (arith, b.inside, b.tables.few)
-
-  -- the removals of the stop with one more decision fit in 64 bits
-  pub next_removed : p.removed * 2 + 1 < 2 ^ 64
-  next_removed = mask_fits p.next p.removed (b.stop refl).small (omega (arith, few_next))
-
   -- the terms and both levels of the stop's rows may be looked up
   pub stop_needs : TermAsks tb.u o.v (at + 1) (rows_in_lem o.n at - 1) × LooksAtStop tb.t tb.u o.w (rows_in_lem o.n at) (at + 1) × (0 < rows_in_lem o.n at)
   stop_needs = stop_asks b refl
-
-  -- the list of the classes that need the next holding part stands within the tables
-  pub class_needs_lem : (p.next < lane_count_lem) × (get_or tb.u (need_count_place p.next) 0 ≤ lane_count_lem) × ((i : ℕ) → i < get_or tb.u (need_count_place p.next) 0 → get_or tb.u (need_class_place p.next i) 0 < get_or tb.u classes_place 0)
-  class_needs_lem = (few_next, b.holders.need_count p.next re.left, λ i l. omega (arith, b.holders.need_class p.next i re.left l, b.holders.classes))
 
   -- the lanes that it is shut to where the next holding part stays, and the part sums then
   abbrev pub stays_set : ℕ
@@ -402,16 +384,6 @@ module _ {sheet : HeldSheet} {ds : List (List Bool)} {tb : LineTables} {o : Line
   -- at a stop to be settled fewer than 64 openings are decided before it
   pub settle_near : at < 64
   settle_near = omega (arith, d.inside, d.tables.few)
-
-  -- at a stop to be settled the line has at most 64 rows
-  pub settle_rows : rows_in_lem o.n at ≤ 64
-  settle_rows = let wr = (d.stop refl).before in omega (arith, wr.rows_are.few, wr.size, settle_near)
-
-  -- the line's stops with the stop to be settled fit in 64 bits
-  pub settle_mask : mask_in o.n at * 2 + 1 < 2 ^ 64
-  settle_mask =
-      let z : 2 ^ (at + 1) ≤ 2 ^ 64 = pow-le-pow_right {n = 2} (omega arith) {i = at + 1} {j = 64} (omega (arith, settle_near)) in
-      omega (arith, d.mask, z)
 
   -- with the stop's row, marks and level written the line is given at the next level, and the levels before are kept
   pub line_settled : (w' v' : List ℕ) (n' : List Level) → StopPut tb.t o.w w' (at + 1) (rows_in_lem o.n at) p.shut → StopNoted tb.t tb.u o.w o.v v' (at + 1) (rows_in_lem o.n at) p.shut p.removed

@@ -17,7 +17,7 @@ use Rattle.hall_model.specs.Limits.{Fits}
 use Rattle.hall_model.specs.Agenda.{hear_then, removals, lines_asked, steps_asked, open_steps, lines_from, lines_of, name_for}
 use Rattle.hall_model.specs.Decisions.{hall_decisions}
 use Rattle.hall_model.specs.LowerBound.{hall_bound}
-use Rattle.hall_model.specs.Promise.{hall_answer, HallPromise}
+use Rattle.hall_model.specs.Promise.{hall_answer, HallAnswerPromise}
 use Rattle.model.proofs.Worked.{job_with, printed, twice}
 use Rattle.hall_model.proofs.Promised.{promise}
 
@@ -132,7 +132,7 @@ fits : Fits (hall_with 6 4)
 fits = record { some = omega arith; few = omega arith; fair = omega arith; parts = omega arith; openings = omega arith }
 
 -- so the promise holds of the answer
-promised : HallPromise (hall_with 6 4) 27 (optimum 27 50 64 (printed ∷ at_4 ∷ []))
+promised : HallAnswerPromise (hall_with 6 4) 27 (optimum 27 50 64 (printed ∷ at_4 ∷ []))
 promised = rw walk_27 at (promise (hall_with 6 4) (proper 6 4) 27)
 
 -- ---- the second line's parts hold each other: they come out together, and two removals are decided after each of its stops

@@ -3,7 +3,7 @@ use Prim.Native.Nat.{ℕ}
 use Rattle.branch.specs.Planning.{Promise}
 use Rattle.branch.proofs.Planned.{promise as problem-promise}
 use Rattle.hall_model.specs.Hall.{Hall, Proper}
-use Rattle.hall_model.specs.Promise.{hall_problem, hall_answer, HallPromise}
+use Rattle.hall_model.specs.Promise.{hall_problem, hall_answer, HallAnswerPromise}
 use Rattle.hall_model.proofs.Roots.{some_line}
 use Rattle.hall_model.proofs.Laws.{laws}
 use Rattle.hall_model.proofs.Free.{free_for}
@@ -14,7 +14,7 @@ module _ (hall : Hall) (proper : Proper hall) (limit : ℕ) where
   unfolding hall_answer
   planned = problem-promise (hall_problem hall) (laws hall proper) limit
 
-  pub promise : HallPromise hall limit (hall_answer hall limit)
+  pub promise : HallAnswerPromise hall limit (hall_answer hall limit)
   promise =
       let some = some_line hall in
       let six = planned.says_6 in

@@ -8,16 +8,14 @@ use native.Mathlib.Omega.{arith}
 use lib.Seq.{append_snoc}
 use borrow.Author.Tests.{eq-eqb, ne_eqb}
 use Rattle.branch.specs.declared.Bound.{Bound}
-use Rattle.branch.specs.declared.Bound.TheVariants.{Missing, Sum}
-use Rattle.branch.specs.Search.{full, ask, snoc, Limited, with_best, limited, onward}
+use Rattle.branch.specs.Search.{full, snoc, Limited, with_best, limited, onward}
 use Rattle.branch.specs.Questions.{ask_from, asked}
-use Rattle.branch.specs.Lower.{add, total}
 use Rattle.branch.proofs.Steps.{bound_at}
 use Rattle.model.specs.Model.{Job}
-use Rattle.model.specs.LowerBound.{inner, bound_of}
+use Rattle.model.specs.LowerBound.{inner}
 use Rattle.hall_model.specs.Hall.{Hall, open_at}
-use Rattle.hall_model.specs.Agenda.{Topic, crew, line, Agenda, over, raise, plain, hear_then, hear, removals, lines_asked, steps_asked, agenda_of, Line, lines_of, to_line, to_crew, name_for, calls_at}
-use Rattle.hall_model.specs.LowerBound.{line_bound, priced, called_at, hall_bound}
+use Rattle.hall_model.specs.Agenda.{Topic, crew, line, Agenda, over, raise, plain, hear_then, hear, removals, lines_asked, steps_asked, agenda_of, Line, to_line, to_crew, name_for, calls_at}
+use Rattle.hall_model.specs.LowerBound.{priced, called_at}
 use Rattle.hall_model.specs.Steps.{hear_all, Stands, Asks, tree_from}
 
 -- nothing decided, nothing heard
@@ -73,12 +71,6 @@ module _ (bound : List Bool → Bound) where
   pub tree_over : (left : List Agenda) (p : List Bool) → tree_from bound (over ∷ left) p ≡ tree_from bound left p
   unfolding tree_from ask_from
   tree_over left p = refl
-
-  -- a question: no, and on with the next ones; then yes, and the inner ones before them
-  pub tree_asks : (t : Topic) (inner next : Agenda) (left : List Agenda) (p : List Bool)
-      → tree_from bound (raise t inner next ∷ left) p ≡ ask (bound p) (λ x. cond x (tree_from bound (inner ∷ next ∷ left) (snoc p true)) (tree_from bound (next ∷ left) (snoc p false)))
-  unfolding tree_from ask_from
-  tree_asks t inner next left p = refl
 
   -- the bound of the tree at a node is the node's
   pub tree_bound : (left : List Agenda) (p : List Bool) → bound_at (tree_from bound left p) ≡ bound p
@@ -138,14 +130,6 @@ removals_end j = refl
 
 -- ---- the hall's bound after one decision more
 
-total_same : {A : Type 0} (f : A → List Bool → Bound) (xs : List A) (p q : List Bool) → ((x : A) → f x p ≡ f x q) → total f xs p ≡ total f xs q
-total_same f [] p q e = refl
-total_same f (x ∷ xs) p q e = λ i. add (e x i) (total_same f xs p q e i)
-
-add_call : (m n : ℕ) (x : Bound) → add (Sum (m + n)) x ≡ add (Sum n) (add (Sum m) x)
-add_call m n Missing = refl
-add_call m n (Sum k) = ap Sum (omega arith)
-
 priced_more : (n : ℕ) (cs : List Bool) → priced n (cs ++ (true ∷ [])) ≡ priced n cs + n
 priced_more n [] = omega arith
 priced_more n (c ∷ cs) = omega (arith, priced_more n cs)
@@ -158,13 +142,6 @@ module _ (hall : Hall) (p : List Bool) where
   -- a call tells no line anything
   pub call_name : (step : ℕ) → Asks (agenda_of hall) p (crew step) → (ln : Line) → name_for hall ln (snoc p true) ≡ name_for hall ln p
   call_name step a ln = a (to_line ln) true ∙ append-nil (name_for hall ln p)
-
-  -- a call adds its price to the bound of the hall's node
-  pub call_bound : (step : ℕ) → Asks (agenda_of hall) p (crew step) → hall_bound hall (snoc p true) ≡ add (Sum hall.call) (hall_bound hall p)
-  unfolding hall_bound
-  call_bound step a =
-      let lines = total_same (line_bound hall) (lines_of hall) (snoc p true) p (λ ln. ap (bound_of ln.job) (call_name step a ln)) in
-      rw (call_paid step a, lines) (add_call (called_at hall p) hall.call (total (line_bound hall) (lines_of hall) p))
 
   -- no call: nothing is added, and each line open there has said no
   pub no_call_paid : (step : ℕ) → Asks (agenda_of hall) p (crew step) → called_at hall (snoc p false) ≡ called_at hall p

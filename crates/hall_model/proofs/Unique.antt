@@ -9,7 +9,7 @@ use Rattle.model.specs.Decisions.{decisions_of, WithinPlan}
 use Rattle.model.proofs.Unique.{determined as line-determined}
 use Rattle.hall_model.specs.Hall.{Hall, Proper, Placed}
 use Rattle.hall_model.specs.Agenda.{name_for}
-use Rattle.hall_model.specs.Promise.{hall_problem, HallAnswer, hall_answer, HallPromise}
+use Rattle.hall_model.specs.Promise.{hall_problem, HallAnswer, hall_answer, HallAnswerPromise}
 use Rattle.hall_model.proofs.Plans.{no_plan_lem, told}
 use Rattle.hall_model.proofs.Laws.{laws}
 
@@ -32,10 +32,10 @@ module _ (hall : Hall) (proper : Proper hall) where
       (λ d job at. sym (told hall proper ps k d job at) ∙ ap (name_for hall (record { place = d; job = job })) e ∙ told hall proper qs l d job at)
 
   -- two answers to a hall that both keep the promise are the same answer
-  pub unique : (limit : ℕ) (a b : HallAnswer) → HallPromise hall limit a → HallPromise hall limit b → a ≡ b
+  pub unique : (limit : ℕ) (a b : HallAnswer) → HallAnswerPromise hall limit a → HallAnswerPromise hall limit b → a ≡ b
   unique limit a b x y = problem-unique (hall_problem hall) determined limit a b x.planned y.planned
 
   -- an answer that keeps the promise is the computed one
-  pub only : (limit : ℕ) (a : HallAnswer) → HallPromise hall limit a → a ≡ hall_answer hall limit
+  pub only : (limit : ℕ) (a : HallAnswer) → HallAnswerPromise hall limit a → a ≡ hall_answer hall limit
   unfolding hall_answer
   only limit a x = problem-only (hall_problem hall) determined limit (laws hall proper) a x.planned

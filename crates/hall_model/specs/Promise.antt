@@ -60,7 +60,7 @@ FreeFor hall (cut n f c p) = Unit {0}
 FreeFor hall (optimum n f c p) = hall.call ≡ 0 → SumOfLeast hall c
 
 -- what is promised of the answer to a hall at the walk number `limit`
-pub record HallPromise (hall : Hall) (limit : ℕ) (a : HallAnswer) : Type 0 where
+pub record HallAnswerPromise (hall : Hall) (limit : ℕ) (a : HallAnswer) : Type 0 where
   -- E14.7, E14.8, E14.9. as of one job: 6, 7 and 0 by the count, nodes, floor, the best hall plan, any larger walk number
   pub planned : Promise (hall_problem hall) limit a
   -- E14.7. "The result is 6 if some line has no plan.", and only then

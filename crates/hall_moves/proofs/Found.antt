@@ -117,10 +117,6 @@ module _ {hall : Hall} {g : Ground} {a : Arrays} {p : Spot} {name : List Bool} {
     pub line_four : d < 4
     line_four = omega (arith, (k.asked.line e).0, k.crewed.fits.few)
 
-    -- a line's question is asked at one of the first 64 steps
-    pub line_step : p.step < 64
-    line_step = omega (arith, (k.stood.formed.line e).0, k.crewed.table.few)
-
     on : OnCourse g.ats p d c
     on = k.stood.courses d line_less
 

@@ -16,11 +16,11 @@ use Rattle.held_stops.specs.Stops.{stop_lane}
 use Rattle.held_stops.proofs.Names.{no_joined, stop_joined, stop_more}
 use Rattle.branch.specs.Search.{snoc}
 use Rattle.held_nodes.specs.declared.Node.{Node}
-use Rattle.held_nodes.specs.State.{written, Pending, Frame, NodeSettled}
+use Rattle.held_nodes.specs.State.{written, Pending, Frame}
 use Rattle.lane_rows.proofs.Lanes.{kept_refl}
 use Rattle.lane_rows.proofs.Memory.{recalled_then}
 use Rattle.held_nodes.proofs.Frames.{aside_none, aside_then, frame_then, frame_looked, pended_kept, ready_frame}
-use Rattle.held_nodes.proofs.Settling.{Rests, rests}
+use Rattle.held_nodes.proofs.Settling.{Rests}
 use Rattle.held_nodes.proofs.Openings.{no_below, no_cheap, at_no, at_yes}
 use Rattle.held_nodes.proofs.Stops.{stays_shut, stays_below, stays_cheap, at_stays, at_out}
 use Rattle.hall_nodes.specs.Lines.{Slot, Given, Goes, no_slot, yes_slot, stays_slot, out_slot, settled_slot, with_rows, SlotKept}
@@ -155,10 +155,6 @@ goes_kept x s s' s'' g l =
     }
 
 -- ---- a line that is settled
-
--- a line whose stop is settled rests: its node is given, and what was written is kept
-pub settled_given : (s : Slot) → Given s → (w v : List ℕ) (r : ℕ) → held s.sheet ≤ s.node.next → NodeSettled s.t s.u s.w w s.v v s.node r → Rests s.sheet s.blocks s.t s.u s.w w s.v v s.node s.sums s.term r
-settled_given s a w v r done st = rests a done st
 
 -- what is kept of it then is kept of it before
 pub settled_kept : (s : Slot) (w v : List ℕ) (r : ℕ) → Rests s.sheet s.blocks s.t s.u s.w w s.v v s.node s.sums s.term r → (s'' : Slot) → SlotKept (settled_slot s w v r) s'' → SlotKept s (with_rows s s''.w s''.v)

@@ -4,7 +4,6 @@ use mathlib.Core.Path.{◌≡◌, refl, sym, ap, ◌∙◌, subst}
 use mathlib.Core.List.{List, []}
 use mathlib.Core.Logic.{inl, inr}
 use native.Mathlib.Omega.{arith}
-use native.Mathlib.Decide.{dec_lt}
 use borrow.Author.Tests.{lt-ltb, le-ltb}
 use Rattle.lines.specs.Parser.{Outcome, accepted, refused}
 use Rattle.lines.proofs.Outcomes.{one_value, one_fault, not_both}
@@ -13,7 +12,7 @@ use Rattle.model.specs.Limits.{most_walk}
 use Rattle.job_grammar.proofs.Numbered.{fault_some as job-some, fault_else as job-else}
 use Rattle.answers.specs.Said.{plainly, lent}
 use Rattle.answers.specs.Texts.{on_text}
-use Rattle.answers.proofs.Replies.{refuses}
+use Rattle.answers.proofs.Replies.{refuses, with_room}
 use Rattle.findings.proofs.Numbers.{not_8}
 use Rattle.planning.specs.Plan.{walk_number_lem}
 use Rattle.hall_model.specs.Hall.{Hall, HasPlans, SomeWithout}
@@ -21,13 +20,13 @@ use Rattle.hall_model.specs.Promise.{HallAnswer, hall_answer, hall_problem}
 use Rattle.hall_model.specs.Promise as model
 use Rattle.hall_model.proofs.Promised.{promise}
 use Rattle.hall_grammar.specs.Grammar.{HallText, meant_hall, read_hall_text}
-use Rattle.hall_grammar.specs.Reading.{Reading, hall_in, meaning, read_hall_lem}
+use Rattle.hall_grammar.specs.Reading.{HallReading, hall_in, meaning, read_hall_lem}
 use Rattle.hall_grammar.specs.Valid.{ValidHall}
 use Rattle.hall_grammar.proofs.Accepted.{valid_hall, valid_proper, text_is}
 use Rattle.hall_grammar.proofs.Numbered.{HallFault, hall_fault}
-use Rattle.hall_printing.specs.Lines.{said_for}
+use Rattle.hall_printing.specs.Lines.{hall_reply}
 use Rattle.hall_planning.specs.Hall.{on_hall, hall_said, hall_room}
-use Rattle.hall_planning.specs.Promise.{Reports, HallPromise}
+use Rattle.hall_planning.specs.Promise.{ReportsHall, HallPromise}
 use Rattle.hall_planning.proofs.ReadBack.{prints}
 
 -- a fault's number is none of 0 and of 6 to 11
@@ -83,11 +82,11 @@ module _ (text : List ℕ) (walk room : ℕ) where
       k : HallFault n
       k = (fault_of text n l e).0
 
-      no : {X : Type 0} → Reading text → X
+      no : {X : Type 0} → HallReading text → X
       no r = not_both (ap meaning r.is) e
 
   module _ (h : hall_room ≤ room) (t : HallText) (is : read_hall_text text ≡ accepted t) where
-    abbrev here : Reading text
+    abbrev here : HallReading text
     here = record { said = t; is = is }
 
     abbrev hall : Hall
@@ -102,14 +101,14 @@ module _ (text : List ℕ) (walk room : ℕ) where
     v : ValidHall t
     v = valid_hall text t is
 
-    promises : model.HallPromise hall limit answer
+    promises : model.HallAnswerPromise hall limit answer
     promises = promise hall (valid_proper t v) limit
 
     -- any reading is this one
-    said_is : (r : Reading text) → r.said ≡ t
+    said_is : (r : HallReading text) → r.said ≡ t
     said_is r = one_value is r.is
 
-    moved : (P : Hall → Type 0) (r : Reading text) → P (hall_in r) → P hall
+    moved : (P : Hall → Type 0) (r : HallReading text) → P (hall_in r) → P hall
     moved P r p = subst (λ (x : HallText). P (meant_hall x)) (said_is r) p
 
     -- what is said at another walk number
@@ -119,10 +118,10 @@ module _ (text : List ℕ) (walk room : ℕ) where
     full : most_walk ≤ walk → walk_number_lem most_walk ≡ limit
     full w = omega (arith, w)
 
-    reports : Reports text walk t (said_for hall answer)
+    reports : ReportsHall text walk t (hall_reply hall answer)
     reports = record { stands = text_is text t is; answer = answer; promise = promises; says = refl; prints = prints t v limit answer promises }
 
-    read : HallPromise text walk room (said_for hall answer)
+    read : HallPromise text walk room (hall_reply hall answer)
     unfolding hall_answer
     read = record {
       says_8 = (λ e. absurd (not_8 answer e), λ e. absurd (omega arith));
@@ -135,10 +134,10 @@ module _ (text : List ℕ) (walk room : ℕ) where
         λ e. (h, (here, promises.planned.says_0.0 e)),
         λ r. promises.planned.says_0.1 (moved (λ x. HasPlans x × (whole_count (hall_problem x) ≤ limit)) r.1.0 r.1.1),
       );
-      answers = λ m r. subst (λ (x : HallText). Reports text walk x (said_for hall answer)) (sym (said_is r)) reports;
+      answers = λ m r. subst (λ (x : HallText). ReportsHall text walk x (hall_reply hall answer)) (sym (said_is r)) reports;
       text_fault = λ m n l e. not_both (ap meaning is) e;
-      any_walk = λ e other w. fits h other ∙ at other ∙ ap (said_for hall) (promises.planned.any_walk e (walk_number_lem other) (omega (arith, w)));
-      above = λ w. fits h most_walk ∙ at most_walk ∙ ap (λ (n : ℕ). said_for hall (hall_answer hall n)) (full w);
+      any_walk = λ e other w. fits h other ∙ at other ∙ ap (hall_reply hall) (promises.planned.any_walk e (walk_number_lem other) (omega (arith, w)));
+      above = λ w. fits h most_walk ∙ at most_walk ∙ ap (λ (n : ℕ). hall_reply hall (hall_answer hall n)) (full w);
     }
 
   on_text_lem : hall_room ≤ room → (x : Outcome HallText) → read_hall_text text ≡ x → HallPromise text walk room (on_text 1 text (on_hall walk) (meaning x))
@@ -147,8 +146,4 @@ module _ (text : List ℕ) (walk room : ℕ) where
 
   pub promised : HallPromise text walk room (lent hall_room room (hall_said text walk))
   unfolding hall_said
-  promised = go (dec_lt room hall_room)
-    where
-      go : Dec (room < hall_room) → HallPromise text walk room (lent hall_room room (hall_said text walk))
-      go (yes h) = rw (lt-ltb room hall_room h) (short h)
-      go (no n) = let h : hall_room ≤ room = omega (arith, n) in rw (le-ltb room hall_room h) (on_text_lem h (read_hall_text text) refl)
+  promised = with_room (HallPromise text walk room) hall_room room (hall_said text walk) short (λ h. on_text_lem h (read_hall_text text) refl)

@@ -2,7 +2,7 @@
 -- plan, and the floor is no more than the cost of any.
 use Prim.Native.Nat.{ℕ, zero, suc, ◌*◌, ◌≤◌}
 use mathlib.Core.Path.{◌≡◌, refl}
-use mathlib.Core.Bool.{Bool, true, false, cond}
+use mathlib.Core.Bool.{cond}
 use mathlib.Core.List.{List, [], ◌∷◌, map}
 use native.Mathlib.Omega.{arith}
 use lib.ListN.{length, take}
@@ -15,16 +15,17 @@ use Rattle.base.specs.Each.{All}
 use Rattle.jobs.specs.Valid.{ValidJob}
 use Rattle.jobs.specs.declared.accepted.Accepted.{Accepted}
 use Rattle.plan_costs.proofs.Dearest.{cost_most}
-use Rattle.findings.specs.Finding.{Fits}
+use Rattle.findings.specs.Finding.{PrintableAnswer}
 use Rattle.hall_model.specs.Hall.{Hall, Proper, HasPlans, horizon_of, some_stops, costs_of, hall_cost}
 use Rattle.hall_model.specs.Limits as limits
 use Rattle.hall_model.specs.LowerBound.{hall_bound}
-use Rattle.hall_model.specs.Promise.{HallAnswer, HallPromise, hall_answer}
+use Rattle.hall_model.specs.Promise.{HallAnswer, HallAnswerPromise, hall_answer}
 use Rattle.hall_model.proofs.Promised.{promise}
 use Rattle.hall_model.proofs.Roots.{rooted, floor_least}
 use Rattle.hall_jobs.specs.Hall.{line_of_lem}
 use Rattle.hall_jobs.specs.Views.{hall_of}
 use Rattle.hall_jobs.specs.declared.HallJobs.{HallJobs}
+use Rattle.base.proofs.Bools.{cond_most}
 
 -- the lines' own costs
 costs_most : (jobs : List Job) → All ValidJob jobs → (plans : List Plan) → costs_of jobs plans ≤ length jobs * 2112000000
@@ -38,11 +39,6 @@ unfolding sum
 sum_most zero from f h = omega arith
 sum_most (suc n) from f h = omega (arith, h from, sum_most n (suc from) f h)
 
--- a term that is a number or nothing
-if_most : (b : Bool) (n : ℕ) → cond b n 0 ≤ n
-if_most true n = omega arith
-if_most false n = omega arith
-
 horizon_most : (jobs : List Job) → All ValidJob jobs → horizon_of jobs ≤ 365
 horizon_most [] v = omega arith
 horizon_most (j ∷ jobs) v = v.0.horizon_high
@@ -51,7 +47,7 @@ module _ (hall : Hall) (proper : Proper hall) (fits : limits.Fits hall) (valid :
   -- what a hall plan can cost
   hall_most : (plans : List Plan) → hall_cost hall plans ≤ 8813000000
   hall_most plans =
-      let calls = sum_most (horizon_of hall.jobs) 1 (λ step. cond (some_stops hall.jobs plans step) hall.call 0) (λ t. omega (arith, fits.fair, if_most (some_stops hall.jobs plans t) hall.call)) in
+      let calls = sum_most (horizon_of hall.jobs) 1 (λ step. cond (some_stops hall.jobs plans step) hall.call 0) (λ t. omega (arith, fits.fair, cond_most (some_stops hall.jobs plans t) hall.call)) in
       omega (arith, calls, costs_most hall.jobs valid plans, fits.few, horizon_most hall.jobs valid)
 
   -- the floor is no more than the cost of a hall plan, and there is one
@@ -62,10 +58,10 @@ module _ (hall : Hall) (proper : Proper hall) (fits : limits.Fits hall) (valid :
       omega (arith, sum_inj (hall_bound hall []) f l.0 e l.1, l.2, hall_most h.0)
 
   module _ (limit : ℕ) (low : limit ≤ most_walk) where
-    nodes_most : (a : HallAnswer) → HallPromise hall limit a → HasPlans hall → nodes_of a ≤ most_walk
+    nodes_most : (a : HallAnswer) → HallAnswerPromise hall limit a → HasPlans hall → nodes_of a ≤ most_walk
     nodes_most a p h = omega (arith, low, p.planned.nodes h)
 
-    ranged : (a : HallAnswer) → HallPromise hall limit a → Fits a
+    ranged : (a : HallAnswer) → HallAnswerPromise hall limit a → PrintableAnswer a
     ranged no_plan_lem2 p = tt
     ranged (cut_none n f) p = let h = (p.planned.says_7.0 refl).0 in (omega (arith, nodes_most (cut_none n f) p h), omega (arith, floor_most f (p.planned.floor h)))
     ranged (cut n f c q) p =
@@ -76,7 +72,7 @@ module _ (hall : Hall) (proper : Proper hall) (fits : limits.Fits hall) (valid :
         (omega (arith, nodes_most (optimum n f c q) p h), omega (arith, floor_most f (p.planned.floor h)), omega (arith, p.planned.plan_for_lem.states, hall_most q))
 
     -- the numbers of the answer can be printed
-    pub answer_ranged : Fits (hall_answer hall limit)
+    pub answer_ranged : PrintableAnswer (hall_answer hall limit)
     answer_ranged = ranged (hall_answer hall limit) (promise hall proper limit)
 
 -- each line of a struct's hall is valid

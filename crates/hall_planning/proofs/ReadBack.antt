@@ -21,11 +21,12 @@ use Rattle.plan_grammar.proofs.Printed.{read_back as plan-back}
 use Rattle.plan_costs.proofs.Dearest.{cost_most}
 use Rattle.judging.specs.Judge.{judge_said}
 use Rattle.hall_model.specs.Hall.{Hall, KeepsAll}
-use Rattle.hall_model.specs.Promise.{HallAnswer, HallPromise}
-use Rattle.hall_grammar.specs.Grammar.{HallText, meant_job, meant_hall}
+use Rattle.hall_model.specs.Promise.{HallAnswer, HallAnswerPromise}
+use Rattle.job_grammar.specs.Reading.{meant_job}
+use Rattle.hall_grammar.specs.Grammar.{HallText, meant_hall}
 use Rattle.hall_grammar.specs.Valid.{Joined, ValidHall}
-use Rattle.hall_printing.specs.Lines.{own_lines, line_plans, plans_lines, planned_lines, said_for}
-use Rattle.hall_planning.specs.Promise.{PrintsLine, PrintsLines, Prints}
+use Rattle.hall_printing.specs.Lines.{own_lines, line_plans, plans_lines, hall_planned_lines, hall_reply}
+use Rattle.hall_planning.specs.Promise.{PrintsLine, PrintsLines, PrintsHall}
 
 module _ (t : JobText) (v : ValidText t) (plan : Plan) (keeps : KeepsLives (meant_job t) plan) where
   abbrev job : Job
@@ -64,8 +65,8 @@ module _ (said : HallText) (v : ValidHall said) where
   behind plans k = prints_lines said.jobs [] v.jobs plans k
 
   -- what is written for an answer that keeps the promise: behind `floor` its plans
-  pub prints : (limit : ℕ) (a : HallAnswer) → HallPromise hall limit a → Prints said (said_for hall a) a
-  unfolding planned_lines plans_lines
+  pub prints : (limit : ℕ) (a : HallAnswer) → HallAnswerPromise hall limit a → PrintsHall said (hall_reply hall a) a
+  unfolding hall_planned_lines plans_lines
   prints limit no_plan_lem2 p = tt
   prints limit (cut_none n f) p = refl
   prints limit (cut n f c ps) p = record { lines = texts own_lines (line_plans hall.jobs ps); written = refl; each = behind ps p.planned.plan_for_lem.keeps }

@@ -7,11 +7,11 @@ use Rattle.planning.specs.Plan.{walk_number_lem}
 use Rattle.hall_model.specs.Hall.{Hall}
 use Rattle.hall_model.specs.Promise.{hall_answer}
 use Rattle.hall_grammar.specs.Reading.{read_hall_lem}
-use Rattle.hall_printing.specs.Lines.{said_for}
+use Rattle.hall_printing.specs.Lines.{hall_reply}
 
 -- what is said of a hall at the walk number of the call
 abbrev pub on_hall : ℕ → Hall → Said
-on_hall walk hall = said_for hall (hall_answer hall (walk_number_lem walk))
+on_hall walk hall = hall_reply hall (hall_answer hall (walk_number_lem walk))
 
 -- the hall planner's answer where there is room for it
 unfoldable pub hall_said : List ℕ → ℕ → Said

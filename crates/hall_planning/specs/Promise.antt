@@ -14,10 +14,11 @@ use Rattle.planning.specs.Plan.{search_lines, walk_number_lem}
 use Rattle.hall_model.specs.Hall.{HasPlans, SomeWithout}
 use Rattle.hall_model.specs.Promise.{HallAnswer, hall_problem}
 use Rattle.hall_model.specs.Promise as model
-use Rattle.hall_grammar.specs.Grammar.{HallText, meant_job, meant_hall}
+use Rattle.job_grammar.specs.Reading.{meant_job}
+use Rattle.hall_grammar.specs.Grammar.{HallText, meant_hall}
 use Rattle.hall_grammar.specs.Rendering.{hall_text}
-use Rattle.hall_grammar.specs.Reading.{Reading, hall_in, read_hall_lem}
-use Rattle.hall_printing.specs.Lines.{said_for}
+use Rattle.hall_grammar.specs.Reading.{HallReading, hall_in, read_hall_lem}
+use Rattle.hall_printing.specs.Lines.{hall_reply}
 use Rattle.hall_planning.specs.Hall.{hall_said, hall_room}
 
 -- ---- what is printed of the plans
@@ -41,21 +42,21 @@ pub record PrintsPlans (said : HallText) (s : Said) (nodes floor cost : ℕ) (pl
   pub each : PrintsLines said.jobs plans lines
 
 -- of an answer with plans; without any nothing stands behind `floor`
-abbrev pub Prints : HallText → Said → HallAnswer → Type 0
-Prints said s no_plan_lem2 = Unit {0}
-Prints said s (cut_none nodes floor) = s.bytes ≡ search_lines 7 nodes floor
-Prints said s (cut nodes floor cost plans) = PrintsPlans said s nodes floor cost plans
-Prints said s (optimum nodes floor cost plans) = PrintsPlans said s nodes floor cost plans
+abbrev pub PrintsHall : HallText → Said → HallAnswer → Type 0
+PrintsHall said s no_plan_lem2 = Unit {0}
+PrintsHall said s (cut_none nodes floor) = s.bytes ≡ search_lines 7 nodes floor
+PrintsHall said s (cut nodes floor cost plans) = PrintsPlans said s nodes floor cost plans
+PrintsHall said s (optimum nodes floor cost plans) = PrintsPlans said s nodes floor cost plans
 
 -- the answer s is written and handed over for an answer of the model that keeps every clause of the model's promise: 6, 7 and 0 exactly when they are due, nodes, floor, and of a hall plan that it keeps
 -- every life, states its true cost with calls included, is least over all hall plans (with 7: over the nodes walked), is the tie rule's choice, and costs the sum of the lines' own least costs if a call is free
-pub record Reports (text : List ℕ) (walk : ℕ) (said : HallText) (s : Said) : Type 0 where
+pub record ReportsHall (text : List ℕ) (walk : ℕ) (said : HallText) (s : Said) : Type 0 where
   -- the hall text is the lines `machines` and `call`, and behind them each line's job text
   pub stands : text ≡ hall_text said
   pub answer : HallAnswer
-  pub promise : model.HallPromise (meant_hall said) (walk_number_lem walk) answer
-  pub says : s ≡ said_for (meant_hall said) answer
-  pub prints : Prints said s answer
+  pub promise : model.HallAnswerPromise (meant_hall said) (walk_number_lem walk) answer
+  pub says : s ≡ hall_reply (meant_hall said) answer
+  pub prints : PrintsHall said s answer
 
 -- ---- the promise
 
@@ -64,13 +65,13 @@ pub record HallPromise (text : List ℕ) (walk room : ℕ) (s : Said) : Type 0 w
   -- R8. "8: the output is shorter than 16,384 bytes."
   pub says_8 : (s.result ≡ 8) ↔ (room < hall_room)
   -- E14.7. "The result is 6 if some line has no plan.": exactly if the text is accepted and some line has none
-  pub says_6 : (s.result ≡ 6) ↔ ((hall_room ≤ room) × ((r : Reading text) × SomeWithout (hall_in r)))
+  pub says_6 : (s.result ≡ 6) ↔ ((hall_room ≤ room) × ((r : HallReading text) × SomeWithout (hall_in r)))
   -- E14.7. "7 exactly if the whole walk has more points than that number"
-  pub says_7 : (s.result ≡ 7) ↔ ((hall_room ≤ room) × ((r : Reading text) × (HasPlans (hall_in r) × (walk_number_lem walk < whole_count (hall_problem (hall_in r))))))
+  pub says_7 : (s.result ≡ 7) ↔ ((hall_room ≤ room) × ((r : HallReading text) × (HasPlans (hall_in r) × (walk_number_lem walk < whole_count (hall_problem (hall_in r))))))
   -- E14.7. "Otherwise 0"
-  pub says_0 : (s.result ≡ 0) ↔ ((hall_room ≤ room) × ((r : Reading text) × (HasPlans (hall_in r) × (whole_count (hall_problem (hall_in r)) ≤ walk_number_lem walk))))
+  pub says_0 : (s.result ≡ 0) ↔ ((hall_room ≤ room) × ((r : HallReading text) × (HasPlans (hall_in r) × (whole_count (hall_problem (hall_in r)) ≤ walk_number_lem walk))))
   -- E14.8, E14.9. what is written with them, and what it is worth
-  pub answers : hall_room ≤ room → (r : Reading text) → Reports text walk r.said s
+  pub answers : hall_room ≤ room → (r : HallReading text) → ReportsHall text walk r.said s
   -- E14.2, E14.3, E14.10. a fault of the hall text, which is text 1, "its lines counted through"; R14. of a job that doesn't join, on that job's first line (`job_behind`)
   pub text_fault : hall_room ≤ room → (number line : ℕ) → read_hall_lem text ≡ refused number line → Refuses 1 text number line s
   -- with 0 any larger walk number gives the same bytes

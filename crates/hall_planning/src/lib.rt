@@ -6,7 +6,7 @@ ghost use Rattle.model.specs.Limits.{most_walk};
 ghost use Rattle.answers.specs.Said.{lent, Replied};
 ghost use Rattle.hall_model.specs.Promise.{hall_answer};
 ghost use Rattle.hall_jobs.specs.Views.{hall_of};
-ghost use Rattle.hall_printing.specs.Lines.{said_for};
+ghost use Rattle.hall_printing.specs.Lines.{hall_reply};
 ghost use Rattle.hall_planning.specs.Hall.{hall_said, hall_room};
 ghost use Rattle.hall_planning.specs.Promise.{HallPromise};
 
@@ -21,7 +21,7 @@ use planning::{ROOM, walk_number};
 // Answers the call for an accepted hall text: by the search of its lines.
 fn plan_hall(hall: &HallJobs, walk: u32, out: &mut [u8]) -> Answer
     requires { walk ≤ most_walk }
-    ensures { Replied hall_room (said_for (hall_of hall.now) (hall_answer (hall_of hall.now) walk)) out.old out.new result }
+    ensures { Replied hall_room (hall_reply (hall_of hall.now) (hall_answer (hall_of hall.now) walk)) out.old out.new result }
 {
     let found = search_hall(hall, walk);
     let finding = finding_of(found.count, found.floor, found.cost, found.over);

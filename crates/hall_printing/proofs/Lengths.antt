@@ -26,12 +26,13 @@ use Rattle.hall_model.specs.Limits.{openings_in}
 use Rattle.hall_jobs.specs.Hall.{line_of_lem}
 use Rattle.hall_jobs.specs.Views.{hall_of}
 use Rattle.hall_jobs.specs.declared.HallJobs.{HallJobs}
-use Rattle.findings.specs.Finding.{answer_in}
+use Rattle.findings.specs.Finding.{found_answer}
 use Rattle.findings.specs.declared.Finding.{Finding}
 use Rattle.findings.specs.declared.Finding.TheVariants.{NoPlan, Optimum, Cut, CutBare}
 use Rattle.planning.proofs.Lengths.{search_short}
-use Rattle.hall_printing.specs.Lines.{own_lines, plans_lines, planned_lines, hall_lines}
-use Rattle.hall_printing.specs.Finding.{line_held, plans_in}
+use Rattle.hall_printing.specs.Lines.{own_lines, plans_lines, hall_planned_lines, hall_lines}
+use Rattle.hall_search.specs.Found.{plans_held}
+use Rattle.hall_printing.specs.Finding.{line_held}
 use Rattle.hall_printing.proofs.Held.{held}
 
 -- ---- one line
@@ -90,15 +91,15 @@ lines_most (a ∷ jobs) [] = omega arith
 lines_most (a ∷ jobs) (p ∷ plans) = rw (length-append (own_lines (line_held a p))) (omega (arith, own_short a p, lines_most jobs plans))
 
 -- what is printed of the plans
-plans_short : (h : HallJobs) (cost : ℕ) (plans : List Plan) → length (plans_lines (hall_of h).jobs cost (plans_in h plans)) ≤ 9460
+plans_short : (h : HallJobs) (cost : ℕ) (plans : List Plan) → length (plans_lines (hall_of h).jobs cost (plans_held h plans)) ≤ 9460
 unfolding plans_lines
 plans_short h cost plans =
     rw (length-append (line_of "cost=" cost))
     (omega (arith, key_length, line_most (bytes "cost=") cost, h.few, h.fits.openings, lines_most (take h.count h.jobs) plans, length-take-le h.count h.jobs (omega (arith, h.few, h.long))))
 
 -- the lines of an answer, whatever the finding
-pub hall_short : (f : Finding) (h : HallJobs) (plans : List Plan) → length (hall_lines (hall_of h) (answer_in (plans_in h plans) f)) ≤ answer_room
-unfolding planned_lines bytes
+pub hall_short : (f : Finding) (h : HallJobs) (plans : List Plan) → length (hall_lines (hall_of h) (found_answer (plans_held h plans) f)) ≤ answer_room
+unfolding hall_planned_lines bytes
 hall_short NoPlan h plans = omega (arith, line_most (bytes "result=") 6)
 hall_short (Optimum n m c) h plans = rw length-append (omega (arith, search_short 0 n m, plans_short h c plans))
 hall_short (Cut n m c) h plans = rw length-append (omega (arith, search_short 7 n m, plans_short h c plans))

@@ -29,16 +29,16 @@ unfoldable pub plans_lines : List Job → ℕ → List Plan → List ℕ
 plans_lines jobs cost plans = line_of "cost=" cost ++ texts own_lines (line_plans jobs plans)
 
 -- the lines of a search with plans
-unfoldable pub planned_lines : ℕ → ℕ → ℕ → List Job → ℕ → List Plan → List ℕ
-planned_lines number nodes floor jobs cost plans = search_lines number nodes floor ++ plans_lines jobs cost plans
+unfoldable pub hall_planned_lines : ℕ → ℕ → ℕ → List Job → ℕ → List Plan → List ℕ
+hall_planned_lines number nodes floor jobs cost plans = search_lines number nodes floor ++ plans_lines jobs cost plans
 
 -- the lines of an answer to a hall; O2. "Number 6: `result`."
 abbrev pub hall_lines : Hall → HallAnswer → List ℕ
 hall_lines hall no_plan_lem2 = line_of "result=" 6
 hall_lines hall (cut_none nodes floor) = search_lines 7 nodes floor
-hall_lines hall (cut nodes floor cost plans) = planned_lines 7 nodes floor hall.jobs cost plans
-hall_lines hall (optimum nodes floor cost plans) = planned_lines 0 nodes floor hall.jobs cost plans
+hall_lines hall (cut nodes floor cost plans) = hall_planned_lines 7 nodes floor hall.jobs cost plans
+hall_lines hall (optimum nodes floor cost plans) = hall_planned_lines 0 nodes floor hall.jobs cost plans
 
 -- what is handed over and written for an answer to a hall: its number, and its lines
-abbrev pub said_for : Hall → HallAnswer → Said
-said_for hall a = plainly (result_of a) (hall_lines hall a)
+abbrev pub hall_reply : Hall → HallAnswer → Said
+hall_reply hall a = plainly (result_of a) (hall_lines hall a)

@@ -7,10 +7,11 @@ ghost use Rattle.lines.specs.Text.{texts};
 ghost use Rattle.line_writing.specs.Puts.{Puts, Room};
 ghost use Rattle.model.specs.Limits.{answer_room};
 ghost use Rattle.answers.specs.Said.{Printable, Replied};
-ghost use Rattle.findings.specs.Finding.{answer_in, Fits};
+ghost use Rattle.findings.specs.Finding.{found_answer, PrintableAnswer};
 ghost use Rattle.hall_jobs.specs.Views.{hall_of, jobs_of};
-ghost use Rattle.hall_printing.specs.Lines.{own_lines, line_plans, plans_lines, planned_lines, hall_lines, said_for};
-ghost use Rattle.hall_printing.specs.Finding.{line_held, plans_in};
+ghost use Rattle.hall_printing.specs.Lines.{own_lines, line_plans, plans_lines, hall_planned_lines, hall_lines, hall_reply};
+ghost use Rattle.hall_search.specs.Found.{plans_held};
+ghost use Rattle.hall_printing.specs.Finding.{line_held};
 
 use answers::{Answer, put_three, reply};
 use findings::{Finding, number_of};
@@ -31,8 +32,8 @@ fn put_own(out: &mut Out, job: &Accepted, plan: &Plan)
 
 // Puts the lines of each line's plan, in order.
 fn put_lines(out: &mut Out, hall: &HallJobs, plans: &[Plan; 4])
-    requires { Room out.old (texts own_lines (line_plans (jobs_of hall.now) (plans_in hall.now plans.now))) }
-    ensures { Puts out.old (texts own_lines (line_plans (jobs_of hall.now) (plans_in hall.now plans.now))) out.new }
+    requires { Room out.old (texts own_lines (line_plans (jobs_of hall.now) (plans_held hall.now plans.now))) }
+    ensures { Puts out.old (texts own_lines (line_plans (jobs_of hall.now) (plans_held hall.now plans.now))) out.new }
 {
     for (job, plan) in hall.jobs[..hall.count].iter().zip(plans.iter()) {
         put_own(out, job, plan);
@@ -41,8 +42,8 @@ fn put_lines(out: &mut Out, hall: &HallJobs, plans: &[Plan; 4])
 
 // Puts what the plans cost with calls included, and the lines of each.
 fn put_plans(out: &mut Out, cost: u64, hall: &HallJobs, plans: &[Plan; 4])
-    requires { Printable cost × Room out.old (plans_lines (jobs_of hall.now) cost (plans_in hall.now plans.now)) }
-    ensures { Puts out.old (plans_lines (jobs_of hall.now) cost (plans_in hall.now plans.now)) out.new }
+    requires { Printable cost × Room out.old (plans_lines (jobs_of hall.now) cost (plans_held hall.now plans.now)) }
+    ensures { Puts out.old (plans_lines (jobs_of hall.now) cost (plans_held hall.now plans.now)) out.new }
 {
     out.put_line(b"cost=", cost);
     put_lines(out, hall, plans);
@@ -59,8 +60,8 @@ fn put_planned(
     plans: &[Plan; 4],
 )
     requires printable { Printable nodes × Printable floor × Printable cost }
-    requires plans_in_bounds { Room out.old (planned_lines number nodes floor (jobs_of hall.now) cost (plans_in hall.now plans.now)) }
-    ensures { Puts out.old (planned_lines number nodes floor (jobs_of hall.now) cost (plans_in hall.now plans.now)) out.new }
+    requires plans_in_bounds { Room out.old (hall_planned_lines number nodes floor (jobs_of hall.now) cost (plans_held hall.now plans.now)) }
+    ensures { Puts out.old (hall_planned_lines number nodes floor (jobs_of hall.now) cost (plans_held hall.now plans.now)) out.new }
 {
     put_three(out, number, b"nodes=", nodes, b"floor=", floor);
     put_plans(out, cost, hall, plans);
@@ -68,8 +69,8 @@ fn put_planned(
 
 // Puts the lines of a finding and of its plans.
 fn put_hall(out: &mut Out, f: Finding, hall: &HallJobs, plans: &[Plan; 4])
-    requires { Fits (answer_in (plans_in hall.now plans.now) f) × Room out.old (hall_lines (hall_of hall.now) (answer_in (plans_in hall.now plans.now) f)) }
-    ensures { Puts out.old (hall_lines (hall_of hall.now) (answer_in (plans_in hall.now plans.now) f)) out.new }
+    requires { PrintableAnswer (found_answer (plans_held hall.now plans.now) f) × Room out.old (hall_lines (hall_of hall.now) (found_answer (plans_held hall.now plans.now) f)) }
+    ensures { Puts out.old (hall_lines (hall_of hall.now) (found_answer (plans_held hall.now plans.now) f)) out.new }
 {
     let number = number_of(f);
     match f {
@@ -88,8 +89,8 @@ fn put_hall(out: &mut Out, f: Finding, hall: &HallJobs, plans: &[Plan; 4])
 
 // Answers a call by a finding, with its plans.
 pub fn answer_hall(f: Finding, hall: &HallJobs, plans: &[Plan; 4], out: &mut [u8]) -> Answer
-    requires { Fits (answer_in (plans_in hall.now plans.now) f) }
-    ensures { Replied answer_room (said_for (hall_of hall.now) (answer_in (plans_in hall.now plans.now) f)) out.old out.new result }
+    requires { PrintableAnswer (found_answer (plans_held hall.now plans.now) f) }
+    ensures { Replied answer_room (hall_reply (hall_of hall.now) (found_answer (plans_held hall.now plans.now) f)) out.old out.new result }
 {
     reply(
         number_of(f),

@@ -9,8 +9,9 @@ ghost use Rattle.hall_roots.specs.Root.{LineBegun};
 
 use branch::Bound;
 use hall_lines::{Level, LineRows, LineTables};
+use held_lanes::TOPS;
 use held_walk::first_marks;
-use lane_rows::{base_row, first_sums, term};
+use lane_rows::{base_row, first_sums};
 
 // The line's first level over its tables: its first row and marks, its part sums and its term. The line's floor, if it has a plan.
 pub fn begin_line(tables: &LineTables, own: &mut LineRows) -> Bound
@@ -20,8 +21,8 @@ pub fn begin_line(tables: &LineTables, own: &mut LineRows) -> Bound
 {
     base_row(&mut own.w);
     first_marks(&tables.u, &mut own.v);
-    let g = term(&tables.t, 0, 0);
-    let Bound::Sum(x) = first_sums(&tables.t) else {
+    let g = u64::from(tables.u[TOPS]);
+    let Bound::Sum(x) = first_sums(&tables.t, g) else {
         return Bound::Missing;
     };
     own.n[0] = Level {

@@ -1,16 +1,15 @@
 -- What the code hands back is the model's answer: at an incumbent each line is at a full node of its own, whose plan is the line's.
 use Prim.Native.Nat.{ℕ, suc, ◌+◌, ◌≤◌, ◌<◌}
 use mathlib.Core.Path.{◌≡◌, refl, sym, ap, subst, ◌∙◌}
-use mathlib.Core.Bool.{Bool, true, false}
+use mathlib.Core.Bool.{Bool}
 use mathlib.Core.List.{List, [], ◌∷◌, map}
-use Rattle.std.specs.Prelude.{Option, Some, None}
+use Rattle.std.specs.Prelude.{Some}
 use native.Mathlib.Omega.{arith}
 use lib.ListN.{length, get_or, take}
 use lib.Seq.{get_or-take, length-take-le}
 use Rattle.branch.specs.declared.Bound.{Bound}
-use Rattle.branch.specs.declared.Bound.TheVariants.{Missing, Sum}
 use Rattle.branch.specs.Search.{Limited}
-use Rattle.branch.specs.Planning.{cut, optimum, answered, answered_at}
+use Rattle.branch.specs.Planning.{answered_at}
 use Rattle.branch.proofs.Among.{limited_best}
 use Rattle.model.specs.Model.{Job}
 use Rattle.model.specs.LowerBound.{stops_at, plan_at}
@@ -18,6 +17,7 @@ use Rattle.model.proofs.Bounded.{stops-length}
 use Rattle.jobs.specs.declared.Plan as code
 use Rattle.jobs.specs.declared.accepted.Accepted.{Accepted}
 use Rattle.jobs.specs.Views.{plan_for}
+use Rattle.search_state.proofs.Answers.{answer_named}
 use Rattle.search_state.specs.declared.Solved.{Solved}
 use Rattle.search_state.specs.State.{found_as}
 use Rattle.held_search.specs.Solved.{limited_by}
@@ -36,7 +36,7 @@ use Rattle.hall_jobs.proofs.Lines.{line_there}
 use Rattle.hall_search.specs.declared.found.HallFound.{HallFound}
 use Rattle.hall_search.specs.Walked.{HallSearched}
 use Rattle.hall_search.specs.Plans.{PlansOf}
-use Rattle.hall_search.specs.Found.{hall_found_by, each_plan, plans_found, hall_said_by, hall_said_at, hall_said}
+use Rattle.hall_search.specs.Found.{hall_found_by, each_plan, plans_found, hall_said_in}
 
 -- plans of jobs, one after the other, are the lines' plans where each is
 plans_same : (hall : Hall) (s : List Bool) (j : ℕ) (jobs : List Accepted) (ps : List code.Plan) → length jobs ≤ length ps
@@ -85,16 +85,9 @@ module _ (h : HallJobs) (limit : ℕ) (rows : Arrays) (masks : List ℕ) (s : So
       subst (λ (b : Accepted). plan_for b.job (get_or ps d p) ≡ line_plan hall se.found (record { place = 0 + d; job = line_of_lem b })) (sym t)
       (plan_is c e d a p m ∙ ap (λ (k : ℕ). line_plan hall se.found (record { place = k; job = line_of_lem (get_or h.jobs d a) })) z))
 
-  by : (floor : ℕ) (o : Bool) (t : Option ℕ) → s.cost ≡ t → hall_said_by h floor r o t ≡ answered (hall_plan_at hall) floor s.count o (found_as se.found t)
-  by floor true None e = refl
-  by floor true (Some c) e = ap (cut s.count floor c) (plans_are c e)
-  by floor false None e = refl
-  by floor false (Some c) e = ap (optimum s.count floor c) (plans_are c e)
-
-  at_floor : (b : Bound) → hall_said_at h r b ≡ answered_at (hall_plan_at hall) b (limited_by se.found s)
-  at_floor Missing = refl
-  at_floor (Sum floor) = by floor s.over s.cost refl
-
   -- what the code hands back says the model's answer for the hall and the limit
-  pub said : hall_said h r ≡ hall_answer hall limit
-  said = at_floor s.floor ∙ ap (λ (b : Bound). answered_at (hall_plan_at hall) b (limited_by se.found s)) se.floor ∙ answer_is hall limit (limited_by se.found s) se.walked
+  pub said : hall_said_in h r ≡ hall_answer hall limit
+  said =
+      answer_named (hall_plan_at hall) se.found (plans_found h r) s.count s.over s.cost plans_are s.floor
+      ∙ ap (λ (b : Bound). answered_at (hall_plan_at hall) b (limited_by se.found s)) se.floor
+      ∙ answer_is hall limit (limited_by se.found s) se.walked

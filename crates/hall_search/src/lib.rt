@@ -11,7 +11,7 @@ ghost use Rattle.search_state.specs.State.{open_s};
 ghost use Rattle.hall_model.specs.Promise.{hall_answer};
 ghost use Rattle.hall_jobs.specs.Views.{hall_of};
 ghost use Rattle.hall_search.specs.Walked.{first_by, HallSearched};
-ghost use Rattle.hall_search.specs.Found.{hall_said};
+ghost use Rattle.hall_search.specs.Found.{hall_said_in};
 
 use branch::Bound;
 use found::{HallFound, found_by};
@@ -89,7 +89,7 @@ fn walked(hall: &HallJobs, limit: u64, rows: &mut [LineRows; 4], best: &mut [u64
 // A call of its own, so that what it needs of the stack does not lie beside what reads the hall's text.
 #[inline(never)]
 pub fn search_hall(hall: &HallJobs, limit: u32) -> HallFound
-    ensures { hall_said hall.now result ≡ hall_answer (hall_of hall.now) limit }
+    ensures { hall_said_in hall.now result ≡ hall_answer (hall_of hall.now) limit }
 {
     let mut rows = [NO_ROWS; 4];
     let mut best = [0; 4];

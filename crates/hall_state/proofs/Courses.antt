@@ -17,7 +17,7 @@ use Rattle.hall_model.specs.Hall.{Hall, Placed}
 use Rattle.hall_model.specs.Agenda.{lines_from}
 use Rattle.hall_nodes.specs.Lines.{Slot, Given, slot_bound, SlotOf, lines_sum, others_sum, SlotIn, Goes, GoesAt, SlotKept, with_rows}
 use Rattle.hall_nodes.proofs.Going.{looked_kept, kept_then, goes_kept}
-use Rattle.hall_nodes.proofs.Branches.{SameBest}
+use Rattle.hall_nodes.proofs.Incumbent.{SameBest}
 use Rattle.hall_lines.specs.Levels.{LevelsKept}
 use Rattle.hall_lines.specs.declared.LineRows.{LineRows}
 use Rattle.hall_lines.specs.declared.Stop.{Stop}

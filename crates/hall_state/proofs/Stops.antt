@@ -29,10 +29,6 @@ module _ {hall : Hall} {g : Ground} {a : Arrays} {p : Spot} {name : List Bool} {
   pub stop_four : p.line < 4
   stop_four = omega (arith, (st.formed.removal stop er).1, crewed.fits.few)
 
-  -- a removal is asked at one of the first 64 steps
-  pub stop_step : p.step < 64
-  stop_step = omega (arith, (st.formed.removal stop er).0, crewed.table.few)
-
   -- the line at hand of a removal is on its course
   pub on_stop : OnCourse g.ats p p.line (course_in cs p.line)
   on_stop = st.courses p.line stop_less

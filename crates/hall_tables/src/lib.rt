@@ -29,7 +29,7 @@ fn fill_line(
     let layout = layout_of(job);
     let numbers = layout.held(job);
     let classes = classes_of(&numbers.needs(), numbers.job.lives.len());
-    numbers.job.fill(tab, &mut tables.t);
+    numbers.job.fill_rows(tab, &mut tables.t);
     fill_held(&numbers, &classes, tab, &mut tables.u);
     begin_line(tables, own)
 }

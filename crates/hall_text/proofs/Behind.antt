@@ -11,7 +11,8 @@ use Rattle.model.specs.Model.{Job}
 use Rattle.jobs.specs.Valid.{ValidJob}
 use Rattle.job_grammar.specs.Grammar.{JobText, job_lines}
 use Rattle.hall_model.specs.Hall.{Hall}
-use Rattle.hall_grammar.specs.Grammar.{meant_job, joins, job_behind}
+use Rattle.job_grammar.specs.Reading.{meant_job}
+use Rattle.hall_grammar.specs.Grammar.{joins, job_behind}
 use Rattle.hall_grammar.specs.Reading.{mapped, through, with_lines, line_behind}
 use Rattle.hall_text.specs.SoFar.{with_job}
 

@@ -4,7 +4,7 @@ ghost use Rattle.lines.specs.Parser.{finish, whole};
 ghost use Rattle.lines.specs.Reads.{Reads, seen, outcome};
 ghost use Rattle.job_grammar.specs.Grammar.{job_lines};
 ghost use Rattle.hall_model.specs.Limits.{most_lines, dearest_call};
-ghost use Rattle.hall_grammar.specs.Grammar.{meant_job};
+ghost use Rattle.job_grammar.specs.Reading.{meant_job};
 ghost use Rattle.hall_grammar.specs.Reading.{through, line_behind, lines_behind, no_lines, hall_rows, read_hall_lem};
 ghost use Rattle.hall_jobs.specs.Hall.{line_of_lem};
 ghost use Rattle.hall_jobs.specs.Views.{jobs_of, hall_of};

@@ -1,10 +1,9 @@
--- Where a call or an open removal is asked, the walk is there already.
+-- Where an open removal is asked, the walk is there already.
 use Prim.Native.Nat.{ℕ, ◌<◌}
 use mathlib.Core.Path.{◌≡◌, refl, subst}
 use mathlib.Core.Bool.{Bool}
 use mathlib.Core.List.{List}
 use native.Mathlib.Omega.{arith}
-use native.Mathlib.Decide.{dec_lt}
 use Rattle.hall_model.specs.Hall.{Hall}
 use Rattle.hall_lines.specs.declared.Stop.{Stop}
 use Rattle.hall_steps.specs.Table.{step_count}
@@ -29,14 +28,6 @@ module _ {hall : Hall} {g : Ground} {a : Arrays} {p : Spot} {name : List Bool} {
     kept = λ a'' k. k;
     measure = omega arith;
   }
-
-  -- where a call is asked the walk has arrived already, with nothing written
-  pub stays_call : p.asks ≡ CrewCall → Arrived hall g a a p p name calls cs
-  stays_call ec = stays (λ f. record { call = λ _. more f (dec_lt p.step (step_count hall)); line = λ e. cc; removal = λ _ e. cc })
-    where
-      more : (p.asks ≡ CrewCall → p.step ≡ step_count hall → ⊥) → Dec (p.step < step_count hall) → p.step < step_count hall
-      more f (yes h) = h
-      more f (no h) = absurd (f ec (omega (arith, h, (st.formed.call ec).0)))
 
   -- where a removal of the stop at hand is open the walk has arrived already, with nothing written
   pub stays_removal : {stop : Stop} → p.asks ≡ PartRemoval stop → stop.next < inner_at hall.jobs p.line → Arrived hall g a a p p name calls cs

@@ -24,7 +24,7 @@ use Rattle.hall_model.specs.Steps.{tree_from}
 use Rattle.held_nodes.proofs.Frames.{keep_frame}
 use Rattle.hall_nodes.specs.Lines.{Slot, Given, lines_sum, SlotKept}
 use Rattle.hall_nodes.specs.Walk.{Sees}
-use Rattle.hall_nodes.proofs.Branches.{parts_same, sees_reached, Closes, AllClose, full_walked}
+use Rattle.hall_nodes.proofs.Incumbent.{parts_same, sees_reached, Closes, AllClose, full_walked}
 use Rattle.hall_nodes.proofs.Due.{sums_fit}
 use Rattle.hall_lines.specs.declared.Level.{Level}
 use Rattle.hall_lines.specs.declared.Stop.{Stop}
@@ -204,10 +204,6 @@ module _ {hall : Hall} {g : Ground} {a b : Arrays} {p : Spot} {name : List Bool}
         (subst (λ (x : Slot). Closes x (line_slot g b e (course_in cs e)) (get_or masks e 0)) (sym (is_level e l a)) (subst (λ (x : Slot). Closes (level_slot g a e (course_in cs e)) x (get_or masks e 0)) (sym (is_level e l b)) (closes e l)))),
     same_then (same_path (ap (left_at hall p.step p.line) is_calling)) (on_end hall p.step (omega (arith, end))),
   )
-
--- a node that is walked on is within the limit
-pub within : {hall : Hall} {g : Ground} {a : Arrays} {u : Option Spot} {q : Spot} {name best : List Bool} {calls : ℕ} {cs : List Course} {masks : List ℕ} {limit : ℕ} {s : Search} → Reaches hall g a u name best calls cs masks limit s → u ≡ Some q → s.count < limit
-within {hall} {g} {a} {u} {q} {name} {best} {calls} {cs} {masks} {limit} {s} h e = let o = h.opened q e in (opened h.due_at name limit (λ _. best) s o.0 o.1).within
 
 -- where a node that is walked on stands
 abbrev pub stands_at : {hall : Hall} {g : Ground} {a : Arrays} {u : Option Spot} {q : Spot} {name best : List Bool} {calls : ℕ} {cs : List Course} {masks : List ℕ} {limit : ℕ} {s : Search} → Reaches hall g a u name best calls cs masks limit s → u ≡ Some q → StoodAt g a q

@@ -14,7 +14,7 @@ use Rattle.lane_rows.proofs.Lanes.{coded_larger}
 use Rattle.lane_rows.proofs.Terms.{last_most}
 use Rattle.held_rows.specs.Held.{HeldSheet, needs_of_lem, seen, held_sums, held_term, held, largest_to, class_fee, last_for, Classed}
 use Rattle.held_rows.proofs.Seen.{seen-length}
-use Rattle.held_rows.proofs.Terms.{term_no, term_yes, term_stays}
+use Rattle.held_rows.proofs.Terms.{term_no, term_yes, term_stays, term_root}
 use Rattle.held_lanes.specs.Places.{most_to, level_place, need_count_place, need_class_place, top_place}
 use Rattle.held_lanes.specs.Tables.{needing, HeldTables, Lasts, term_of}
 
@@ -71,3 +71,7 @@ module _ (sheet : HeldSheet) (fit : Classed sheet) (u v : List ℕ) (he : HeldTa
           let e = largest_to (λ (c : ℕ). cond (needing sheet (length rs) c) (class_fee sheet (count + 1) (last_for sheet bs c) c) (Sum 0)) (length sheet.needs) in
           subst (Coded (most (count + 1)) (max g m)) (sym (term_stays sheet fit bs x sums h rs))
           (coded_larger (most (count + 1)) g m (held_term sheet (bs ++ ((true ∷ rs) ∷ []))) e (omega arith) c (need_terms (count + 1) (length rs) (omega arith) (omega arith) l))
+
+-- the table's top number where nothing is decided stands for the first node's term
+pub root_coded : (sheet : HeldSheet) → Classed sheet → (u : List ℕ) → HeldTables sheet u → Coded (top * (length sheet.positions - 0)) (get_or u (top_place 0) 0) (held_term sheet [])
+root_coded sheet fit u he = subst (Coded (top * (length sheet.positions - 0)) (get_or u (top_place 0) 0)) (sym (term_root sheet fit)) (he.tops 0 (omega arith))

@@ -17,17 +17,18 @@ use Rattle.model.specs.Model.{sum_at}
 use Rattle.model.specs.Decisions.{concat}
 use Rattle.model.specs.LastYes.{last_yes}
 use Rattle.base.specs.Filled.{FilledBy}
-use Rattle.lane_rows.specs.Layout.{lane_count_lem, top, inf, suffix_base, term_place, lanes_in}
+use Rattle.lane_rows.specs.Layout.{lane_count_lem, top, inf, suffix_base, lanes_in}
 use Rattle.lane_rows.specs.Sheet.{Column, column_bound, column_fee, part_sums, fee_term}
-use Rattle.lane_rows.specs.Tables.{sum_where, Tables}
+use Rattle.lane_rows.specs.Tables.{Coded, sum_where, Tables}
 use Rattle.lane_rows.specs.Rows.{lane, sum_lanes, FirstRow}
 use Rattle.lane_rows.proofs.Lanes.{lane_most, first_sums_lem, rows_root}
 use Rattle.lane_rows.proofs.Memory.{memo_root}
-use Rattle.lane_rows.proofs.Terms.{first_by, node_term, sums_by}
+use Rattle.lane_rows.proofs.Terms.{node_term, sums_by}
 use Rattle.held_rows.specs.Held.{HeldColumn, HeldSheet, column_in, plain, held, paid_in, lane_bound, lane_fee, held_sums, held_term, held_bound, Classed}
 use Rattle.held_rows.proofs.Rows as held
-use Rattle.held_lanes.specs.Places.{offset, classes_place, last_place, aside_size}
+use Rattle.held_lanes.specs.Places.{offset, top_place, classes_place, last_place, aside_size}
 use Rattle.held_lanes.specs.Tables.{HeldTables}
+use Rattle.held_lanes.proofs.Coded.{root_coded}
 use Rattle.held_stops.proofs.Children.{bound_in}
 use Rattle.held_stops.proofs.Names.{opening_bound}
 use Rattle.search_state.specs.declared.Search.{Search}
@@ -66,8 +67,12 @@ abbrev pub root_n : ℕ → Node
 root_n h = record { at = 0; rows = 1; next = h; owed = false; shut = 0; removed = 0; spent = 0; mask = 0 }
 
 module _ (sheet : HeldSheet) (t u w : List ℕ) (ta : Tables (plain sheet) t) (he : HeldTables sheet u) (fit : Classed sheet) (fr : FirstRow w) where
+  -- the term, the table's top number there
   abbrev due : ℕ
-  due = get_or t (term_place 0 0) 0
+  due = get_or u (top_place 0) 0
+
+  due_coded : Coded (top * (length sheet.positions - 0)) due (fee_term (plain sheet) [])
+  due_coded = subst (Coded (top * (length sheet.positions - 0)) due) (term_first sheet) (root_coded sheet fit u he)
 
   -- the part sums, over the tables' first row
   abbrev firsts : ℕ
@@ -76,12 +81,12 @@ module _ (sheet : HeldSheet) (t u w : List ℕ) (ta : Tables (plain sheet) t) (h
   sums_are : held_sums sheet [] ≡ sum_where due firsts
   sums_are =
       sums_first sheet
-      ∙ sym (sums_by (plain sheet) t ta [] 0 (omega arith) (omega arith) (first_by (plain sheet) t ta) w 1 (rows_root (plain sheet) w (omega (arith, ta.wide, ta.narrow)) fr))
+      ∙ sym (sums_by (plain sheet) t ta [] due due_coded (omega arith) w 1 (rows_root (plain sheet) w (omega (arith, ta.wide, ta.narrow)) fr))
       ∙ ap (sum_where due) (sym (first_sums_lem (plain sheet) t ta w fr))
 
   term_is : (x : ℕ) → sum_where due firsts ≡ Sum x → (held_term sheet [] ≡ Sum due) × (due ≤ top * length sheet.positions)
   term_is x e =
-      let d = node_term (plain sheet) t ta [] 0 (omega arith) (omega arith) (first_by (plain sheet) t ta) x (sym (sums_first sheet) ∙ sums_are ∙ e) in
+      let d = node_term (plain sheet) t ta [] due due_coded x (sym (sums_first sheet) ∙ sums_are ∙ e) in
       (term_first sheet ∙ d.0, omega (arith, d.1))
 
   low_is : (x : ℕ) → sum_where due firsts ≡ Sum x → x ≤ lane_count_lem * inf
@@ -97,7 +102,7 @@ module _ (sheet : HeldSheet) (t u w : List ℕ) (ta : Tables (plain sheet) t) (h
       go Missing e = (λ i. add (add (Sum (paid_in sheet [])) ((sums_are ∙ e) i)) (held_term sheet []))
       go (Sum x) e = (λ i. add (add (Sum (paid_first sheet i)) ((sums_are ∙ e) i)) ((term_is x e).0 i)) ∙ ap Sum (omega arith)
 
-  -- at the first node the table's first term is all that is owed beside the part sums
+  -- at the first node the table's first top number is all that is owed beside the part sums
   pub root_due : (h : ℕ) → DueAt (tree_at sheet (root_n h) []) (sum_where due firsts) due
   unfolding concat
   root_due h =
@@ -139,8 +144,11 @@ module _ (sheet : HeldSheet) (t u w : List ℕ) (ta : Tables (plain sheet) t) (h
         };
       }
 
-  -- by the numbers that are read: the part sums b and the term d
-  module _ (b : Bound) (g : b ≡ sum_where due firsts) (d : ℕ) (k : d ≡ due) where
+  -- by the numbers that are read: the term d and the part sums b
+  module _ (d : ℕ) (k : d ≡ due) (b : Bound) (f : b ≡ sum_where d firsts) where
+    g : b ≡ sum_where due firsts
+    g = f ∙ ap (λ (h : ℕ). sum_where h firsts) k
+
     -- what is due of it
     pub begun_due : (h : ℕ) → DueAt (tree_at sheet (root_n h) []) b d
     begun_due h = subst (DueAt (tree_at sheet (root_n h) []) b) (sym k) (subst (λ (e : Bound). DueAt (tree_at sheet (root_n h) []) e due) (sym g) (root_due h))
@@ -151,7 +159,7 @@ module _ (sheet : HeldSheet) (t u w : List ℕ) (ta : Tables (plain sheet) t) (h
 
     -- they are part of what the walk is given
     pub begun_given : (v₀ v : List ℕ) (h x : ℕ) → length v₀ ≡ aside_size → FilledBy (last_place 0) (offset 0) (get_or u classes_place 0) v₀ v → h ≡ held sheet → b ≡ Sum x → At sheet [] t u w v (root_n h) x d
-    begun_given v₀ v h x size f n e = subst (At sheet [] t u w v (root_n h) x) (sym k) (root_given v₀ v h x size f n (sym g ∙ e))
+    begun_given v₀ v h x size m n e = subst (At sheet [] t u w v (root_n h) x) (sym k) (root_given v₀ v h x size m n (sym g ∙ e))
 
 -- ---- the end
 

@@ -10,7 +10,7 @@ use Rattle.branch.specs.Search.{snoc}
 use Rattle.model.specs.Model.{sum_at}
 use Rattle.model.specs.Decisions.{accessible, allows, concat}
 use Rattle.model.specs.LowerBound.{blocks, stops_in, removed_in}
-use Rattle.model.proofs.Blocks.{accessible_none, Whole, Wholes, blocks_after}
+use Rattle.model.proofs.Blocks.{accessible_none, Whole, Wholes, blocks_after, blocks_none}
 use Rattle.model.proofs.Fees.{sum_snoc}
 use Rattle.held_rows.specs.Held.{HeldSheet, held, seen, paid_in}
 
@@ -29,17 +29,12 @@ wholes_more h zero (d ∷ bs) b w v = absurd w
 wholes_more h (suc k) [] b w v = absurd w
 wholes_more h (suc k) (d ∷ bs) b w v = (w.0, wholes_more h k bs b w.1 v)
 
-no_blocks : (h n : ℕ) → blocks h n [] ≡ []
-unfolding blocks
-no_blocks h zero = refl
-no_blocks h (suc n) = refl
-
 module _ (h n k : ℕ) (bs : List (List Bool)) (w : Wholes h k bs) where
   -- at an opening
   pub blocks_whole : k ≤ n → blocks h n (concat bs) ≡ bs
   blocks_whole l =
       let z : n ≡ k + (n - k) = omega arith in
-      ap₂ (blocks h) z (sym (append-nil (concat bs))) ∙ blocks_after h k (n - k) bs [] w ∙ ap (λ (ds : List (List Bool)). bs ++ ds) (no_blocks h (n - k)) ∙ append-nil bs
+      ap₂ (blocks h) z (sym (append-nil (concat bs))) ∙ blocks_after h k (n - k) bs [] w ∙ ap (λ (ds : List (List Bool)). bs ++ ds) (blocks_none h (n - k)) ∙ append-nil bs
 
   behind : (p : List Bool) → k < n → blocks h n (concat bs ++ p) ≡ bs ++ blocks h (suc (n - suc k)) p
   behind p l =
@@ -49,14 +44,14 @@ module _ (h n k : ℕ) (bs : List (List Bool)) (w : Wholes h k bs) where
   -- after a no
   pub blocks_no : k < n → blocks h n (snoc (concat bs) false) ≡ bs ++ ((false ∷ []) ∷ [])
   unfolding blocks
-  blocks_no l = behind (false ∷ []) l ∙ ap (λ (ds : List (List Bool)). bs ++ ((false ∷ []) ∷ ds)) (no_blocks h (n - suc k))
+  blocks_no l = behind (false ∷ []) l ∙ ap (λ (ds : List (List Bool)). bs ++ ((false ∷ []) ∷ ds)) (blocks_none h (n - suc k))
 
   -- after a yes and some of its removals
   pub blocks_stop : (rs : List Bool) → k < n → length rs ≤ h → blocks h n (concat bs ++ (true ∷ rs)) ≡ bs ++ ((true ∷ rs) ∷ [])
   unfolding blocks
   blocks_stop rs l g =
       behind (true ∷ rs) l
-      ∙ ap₂ (λ (b : List Bool) (ds : List (List Bool)). bs ++ ((true ∷ b) ∷ ds)) (take_all h rs g) (ap (blocks h (n - suc k)) (drop_of_length-le rs {i = h} g) ∙ no_blocks h (n - suc k))
+      ∙ ap₂ (λ (b : List Bool) (ds : List (List Bool)). bs ++ ((true ∷ b) ∷ ds)) (take_all h rs g) (ap (blocks h (n - suc k)) (drop_of_length-le rs {i = h} g) ∙ blocks_none h (n - suc k))
 
 -- ---- as a lane sees it
 

@@ -261,3 +261,10 @@ module _ (sheet : HeldSheet) (fit : Classed sheet) (bs : List (List Bool)) where
               ∙ ap (λ (y : Bool). cond y a b) (accessible_stays needs rs)
               ∙ shut a b (accessible needs rs) n (fee_falls (plain sheet) lane.column (part i l).climbs (count + 1) (last_for sheet bs lane.class) (count + 1) (omega (arith, last_most (seen needs bs), seen-length needs bs)) (omega (arith, few)))
               ∙ ap (λ (y : Bound). larger y (cond n b (Sum 0))) (sym (stop_fee rs i l))
+
+-- where nothing is decided every class's last mark is that of the first life
+pub term_root : (sheet : HeldSheet) → Classed sheet → held_term sheet [] ≡ largest_to (λ (c : ℕ). class_fee sheet 0 0 c) (length sheet.needs)
+unfolding column_fee undecided_fees
+term_root sheet fit =
+    largest_each (lane_fee sheet []) (λ (lane : HeldColumn) (p : List Bool). fee_from (plain sheet) 0 0 lane.column []) (part_lanes sheet) (λ i l. refl)
+    ∙ classes_fee sheet fit [] 0 (λ (c : ℕ). 0)

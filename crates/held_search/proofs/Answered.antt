@@ -1,22 +1,20 @@
 -- What the code hands back is the model's answer: the incumbent is a full node, its stops are the name's first decisions, and the rows are the tie rule's changes at its places.
 use Prim.Native.Nat.{ℕ, ◌-◌, ◌<◌}
-use mathlib.Core.Path.{◌≡◌, refl, sym, ap, ap₂, ◌∙◌}
+use mathlib.Core.Path.{◌≡◌, sym, ap, ap₂, ◌∙◌}
 use mathlib.Core.Bool.{Bool, true, false}
 use mathlib.Core.List.{List, [], ◌∷◌, map}
 use native.Mathlib.Omega.{arith}
 use lib.ListN.{length, get_or, take, replicate, length-map, get_or-map}
 use lib.Seq.{take_at, get_or-take, length-take-le, ext_get_or}
 use lib.IntN.{ℤ, pos, ◌-ℤ◌}
-use Rattle.std.specs.Prelude.{Option, None, Some}
-use Rattle.branch.specs.declared.Bound.{Bound}
-use Rattle.branch.specs.declared.Bound.TheVariants.{Missing, Sum}
+use Rattle.std.specs.Prelude.{Some}
 use Rattle.branch.specs.Search.{plan, Limited, at_most}
 use Rattle.branch.specs.Questions.{ask_from, left_at}
 use Rattle.branch.proofs.Among.{limited_best}
 use Rattle.model.specs.Model.{Job, Plan}
 use Rattle.model.specs.Decisions.{Held, held_parts}
 use Rattle.model.specs.LowerBound.{offers, blocks, stops_at, inner, part_choice_lem, bound_of, plan_at}
-use Rattle.model.specs.Promise.{cut, optimum, answered, answered_at, answer_of, searched}
+use Rattle.model.specs.Promise.{answered_at, answer_of, searched}
 use Rattle.base.proofs.Bools.{there}
 use Rattle.model.proofs.Offers.{offers-length}
 use Rattle.model.proofs.Bounded.{node_full, stops-length}
@@ -25,7 +23,7 @@ use Rattle.model.specs.Decisions.{held_at}
 use Rattle.model.specs.Verdict.{part_at}
 use Rattle.jobs.specs.declared.Changes.{Changes}
 use Rattle.search.specs.declared.Found.{Found}
-use Rattle.search.specs.Found.{found_by_lem, row_in, plan_found, said_by, said_at, said_in}
+use Rattle.search.specs.Found.{found_by_lem, row_in, plan_found, said_in}
 use Rattle.search.proofs.Answered.{choice_size}
 use Rattle.held_places.specs.Blocks.{Entries}
 use Rattle.held_places.specs.Arrays.{prices_at, Lanes, HeldJobArrays}
@@ -33,6 +31,7 @@ use Rattle.held_places.specs.Changes.{places_of, lane_choice}
 use Rattle.held_places.proofs.Held.{opened, nodes_are, held_size_lem, choice_is}
 use Rattle.held_rows.specs.Held.{HeldSheet, held, held_bound, SheetOf}
 use Rattle.held_rows.proofs.Sheets.{held_bound_lem}
+use Rattle.search_state.proofs.Answers.{answer_named}
 use Rattle.search_state.specs.State.{found_as}
 use Rattle.search_state.specs.declared.Solved.{Solved}
 use Rattle.jobs.specs.declared.Plan as code
@@ -136,17 +135,7 @@ module _ (job : Job) (e : ℤ) (ss : List ℤ) (fs ls rs ps : List ℕ) (nd : Li
   costs : (c : ℕ) → r.cost ≡ Some c → (limited_by name s).incumbent ≡ plan c name
   costs c f = ap (found_as name) f
 
-  by : (floor : ℕ) (o : Bool) (t : Option ℕ) → r.cost ≡ t → said_by all parts floor r o t ≡ answered job floor r.count o (found_as name t)
-  by floor true None f = refl
-  by floor true (Some c) f = ap (cut r.count floor c) (plan_is c (costs c f))
-  by floor false None f = refl
-  by floor false (Some c) f = ap (optimum r.count floor c) (plan_is c (costs c f))
-
-  at_floor : (b : Bound) → said_at all parts r b ≡ answered_at job b (limited_by name s)
-  at_floor Missing = refl
-  at_floor (Sum floor) = by floor r.over r.cost refl
-
   -- what the code hands over says the model's answer for the job and the limit
   pub said : said_in all parts r ≡ answer_of job limit
   unfolding answer_of
-  said = at_floor r.floor ∙ ap₂ (answered_at job) so.floor so.walked
+  said = answer_named (plan_at job) name (plan_found all parts r) r.count r.over r.cost (λ c f. plan_is c (costs c f)) r.floor ∙ ap₂ (answered_at job) so.floor so.walked

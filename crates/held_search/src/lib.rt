@@ -44,7 +44,7 @@ fn walked(numbers: &HeldNumbers, limit: u64, tab: &mut [u64; TABLE], v: &mut [u3
     let mut t = [0; TABLES];
     let mut u = [0; HELD];
     let mut w = [0; STACK];
-    numbers.job.fill(tab, &mut t);
+    numbers.job.fill_rows(tab, &mut t);
     fill_held(numbers, &classes, tab, &mut u);
     solve(&t, &u, &mut w, v, limit)
 }

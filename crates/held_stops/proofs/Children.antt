@@ -21,6 +21,7 @@ use Rattle.held_lanes.specs.Places.{most_to, need_count_place, need_class_place}
 use Rattle.held_lanes.specs.Tables.{HeldTables, Lasts, term_of}
 use Rattle.held_lanes.proofs.Coded.{no_coded, stays_coded}
 use Rattle.held_stops.specs.Stops.{ShutSet, stop_lane}
+use Rattle.model.proofs.Lower.{add_missing}
 
 -- the bound where these blocks are decided
 abbrev pub bound_in : HeldSheet → List (List Bool) → Bound
@@ -37,10 +38,6 @@ pub record Told (sheet : HeldSheet) (ds : List (List Bool)) (g y : ℕ) : Type 0
   pub term : g < inf → held_term sheet ds ≡ Sum g
   pub bound : g < inf → bound_in sheet ds ≡ Sum (paid_in sheet ds + y + g)
 
-missing_add : (x : Bound) → add x Missing ≡ Missing
-missing_add Missing = refl
-missing_add (Sum a) = refl
-
 module _ (sheet : HeldSheet) (ds : List (List Bool)) (b g y : ℕ) (few : b ≤ lane_limit) (c : Coded b g (held_term sheet ds)) (s : (k : ℕ) → held_term sheet ds ≡ Sum k → held_sums sheet ds ≡ Sum y) where
   there : g < inf → held_term sheet ds ≡ Sum g
   there h = go (held_term sheet ds) c
@@ -53,7 +50,7 @@ module _ (sheet : HeldSheet) (ds : List (List Bool)) (b g y : ℕ) (few : b ≤ 
   pub told : Told sheet ds g y
   told =
       record {
-        none = λ h. ap (add (add (Sum (paid_in sheet ds)) (held_sums sheet ds))) (go (held_term sheet ds) c h) ∙ missing_add (add (Sum (paid_in sheet ds)) (held_sums sheet ds));
+        none = λ h. ap (add (add (Sum (paid_in sheet ds)) (held_sums sheet ds))) (go (held_term sheet ds) c h) ∙ add_missing (add (Sum (paid_in sheet ds)) (held_sums sheet ds));
         sums = λ h. s g (there h);
         term = there;
         bound = λ h. ap₂ (λ (x e : Bound). add (add (Sum (paid_in sheet ds)) x) e) (s g (there h)) (there h);

@@ -6,16 +6,12 @@ use native.Mathlib.Omega.{arith}
 use lib.Dec.{eqb}
 use Rattle.lane_rows.specs.Layout.{lane_count_lem}
 use Rattle.held_lanes.specs.Places.{bit_at}
+use Rattle.base.proofs.Bools.{cond_most}
 
 -- as many sets as k lanes have
 unfoldable pub sets_of : ℕ → ℕ
 sets_of zero = 1
 sets_of (suc k) = sets_of k * 2
-
--- the bit for a lane is at most 1
-pub bit_most : (b : Bool) → cond b 1 0 ≤ 1
-bit_most true = omega arith
-bit_most false = omega arith
 
 -- the lanes from q on are gathered: lane q + i is the set's i
 pub record Gathered (f : ℕ → Bool) (q set : ℕ) : Type 0 where
@@ -49,7 +45,7 @@ module _ (f : ℕ → Bool) where
       at (suc i) l = let z : q + 1 + i ≡ q + suc i = omega arith in ap (bit_at i) (half b) ∙ g.lanes i (omega arith) ∙ ap f z
 
       room : set * 2 + cond b 1 0 < sets_of (lane_count_lem - q)
-      room = let z : lane_count_lem - q ≡ suc (lane_count_lem - (q + 1)) = omega (arith, g.few) in rw z (omega (arith, g.small, bit_most b))
+      room = let z : lane_count_lem - q ≡ suc (lane_count_lem - (q + 1)) = omega (arith, g.few) in rw z (omega (arith, g.small, cond_most b 1))
 
   -- it stays small
   sets_more : (k d : ℕ) → sets_of k ≤ sets_of (d + k)

@@ -18,7 +18,7 @@ use held_lanes::{
     removal_term,
 };
 use held_nodes::{Node, keep, no_sums, settle, stay_sums};
-use lane_rows::{COUNT, FEES, STACK, TABLES, base_row, cell, first_sums, term};
+use lane_rows::{COUNT, FEES, STACK, TABLES, base_row, cell, first_sums};
 use search_state::{NO_COST, Search, Solved};
 
 // Walks on from the node p, which is counted and not dropped, with part sums x and term g: at a stop whose removals are not all decided by the next of them; else, once the stop is settled, by the next opening, unless the node is full.
@@ -129,7 +129,7 @@ pub fn first_marks(u: &[u32; HELD], v: &mut [u32; ASIDE])
 }
 
 // The whole search with a limit, over the tables of a sheet. The incumbent's removals are those of BEST.
-// Kept as a cast, of the first term: `term` answers a u64, as the bounds add it, and the library has no From of it for a usize.
+// Kept as a cast, of the first term: it is a u64, as the bounds add it, and the library has no From of it for a usize.
 // Kept beside walk::solve: a function of both would take the walk as a closure over the stack, and over what goes with it, which it writes, so that its contract would have to say for each what the closure leaves there.
 pub fn solve(
     t: &[u32; TABLES],
@@ -143,8 +143,8 @@ pub fn solve(
 {
     base_row(w);
     first_marks(u, v);
-    let sums = first_sums(t);
-    let due = term(t, 0, 0);
+    let due = u64::from(u[TOPS]);
+    let sums = first_sums(t, due);
     let floor = sums.plus(due);
     let begun = Search {
         count: 0,

@@ -1,4 +1,4 @@
--- R1 to R5, R12. The numbers that a job text's fault can have.
+-- R1 to R5, R12, R13. The numbers that a job text's fault can have.
 use Rattle.std.specs.Prelude.{ℕ, ◌≤◌, ◌⊎◌}
 
 -- R20, E7.14, E11. the last number of a fault of a job text's line; the others are 2 to 5, and from 12 on

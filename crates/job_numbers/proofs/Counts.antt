@@ -5,7 +5,7 @@ use mathlib.Core.List.{List, [], ◌∷◌, map}
 use native.Mathlib.Omega.{arith}
 use native.Mathlib.Decide.{dec_lt}
 use native.Mathlib.Nat.{mod-lt, div-add-mod'}
-use lib.ListN.{length, get_or, take, drop, length-map, length-take, length-drop, get_or-map, get_or-eq_default}
+use lib.ListN.{length, get_or, take, drop, length-map, length-drop, get_or-map, get_or-eq_default}
 use lib.Seq.{get_or-take, get_or-drop, length-take-le, ext_get_or}
 use lib.IntN.{ℤ, pos}
 use lib.Signed.{mag}
@@ -103,10 +103,6 @@ module _ (m : ℕ) (row : ℕ → List ℕ) (ps : List ℕ) (laid : Laid m row p
       long = length-take-le n (drop (q * price_stride) ps) (omega (arith, length-drop (q * price_stride) ps, laid.size, h, few, most))
 
 -- ---- counts
-
--- as many as are taken are there
-pub long_enough : {A : Type 0} (k : ℕ) (l : List A) → length (take k l) ≡ k → k ≤ length l
-long_enough k l e = omega (arith, e, length-take k l)
 
 -- there are n openings and m parts
 pub record Counted (n m : ℕ) (r : Numbers) : Type 0 where

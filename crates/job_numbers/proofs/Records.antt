@@ -15,10 +15,10 @@ use Rattle.jobs.specs.declared.Job.{Job}
 use Rattle.jobs.specs.Views.{blank_part_lem, part_of_lem, job_of}
 use Rattle.jobs.proofs.Jobs.{part_count, part_at_lem}
 use Rattle.base.proofs.Lists.{map_at}
-use Rattle.coming_out.proofs.Rows.{blank}
 use Rattle.held_places.specs.Arrays.{price_stride, price_size}
 use Rattle.base.specs.Filled.{FilledBy}
 use Rattle.job_numbers.specs.Laid.{Laid}
+use Rattle.base.proofs.Bools.{blank}
 
 -- ---- one number of each
 

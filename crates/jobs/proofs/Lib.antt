@@ -1,4 +1,3 @@
 -- The laws, in the order in which they rest on each other.
 pub mod Jobs
 pub mod Plans
-pub mod Sounds

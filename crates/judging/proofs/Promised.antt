@@ -3,8 +3,6 @@ use Prim.Native.Nat.{ℕ, ◌≤◌, ◌<◌}
 use mathlib.Core.Path.{◌≡◌, refl, sym, ap, ◌∙◌}
 use mathlib.Core.List.{List, []}
 use native.Mathlib.Omega.{arith}
-use native.Mathlib.Decide.{dec_lt}
-use borrow.Author.Tests.{lt-ltb, le-ltb}
 use Rattle.lines.specs.Parser.{Outcome, accepted, refused}
 use Rattle.lines.proofs.Outcomes.{not_both}
 use Rattle.model.specs.Model.{KeepsLives, cost_of_lem}
@@ -18,9 +16,9 @@ use Rattle.plan_grammar.specs.Grammar.{Stated, read_plan_lem}
 use Rattle.plan_grammar.proofs.Numbered as plan
 use Rattle.plan_grammar.proofs.Shapes.{shaped}
 use Rattle.answers.specs.Said.{plainly, lent}
-use Rattle.answers.proofs.Replies.{refuses}
-use Rattle.judging.specs.Judge.{cost_lines, unkept_lines, said_of, on_plan, on_job, judge_said, judge_room}
-use Rattle.judging.specs.Promise.{Reading, Overdue, JudgePromise}
+use Rattle.answers.proofs.Replies.{refuses, with_room}
+use Rattle.judging.specs.Judge.{cost_lines, unkept_lines, judge_reply, on_plan, on_job, judge_said, judge_room}
+use Rattle.judging.specs.Promise.{PlanReading, Overdue, JudgePromise}
 use Rattle.judging.proofs.Readings.{other_plan, moved}
 
 module _ (job_text_lem plan_text_lem : List ℕ) (room : ℕ) where
@@ -57,7 +55,7 @@ module _ (job_text_lem plan_text_lem : List ℕ) (room : ℕ) where
       k : job.JobFault n
       k = (job.fault job_text_lem n l e).0
 
-      no : {X : Type 0} → Reading job_text_lem plan_text_lem → X
+      no : {X : Type 0} → PlanReading job_text_lem plan_text_lem → X
       no r = not_both r.job_read e
 
   refused_plan : judge_room ≤ room → (g : Given) → read_job_lem job_text_lem ≡ accepted g → (n l : ℕ) → read_plan_lem g.job plan_text_lem ≡ refused n l
@@ -77,13 +75,13 @@ module _ (job_text_lem plan_text_lem : List ℕ) (room : ℕ) where
       k : plan.PlanFault n
       k = (plan.fault g.job plan_text_lem n l e).0
 
-      no : {X : Type 0} → Reading job_text_lem plan_text_lem → X
+      no : {X : Type 0} → PlanReading job_text_lem plan_text_lem → X
       no r = not_both r.plan_read (sym (other_plan job_text_lem plan_text_lem eg r.job_read) ∙ e)
 
   -- ---- two texts that read
 
   module _ (h : judge_room ≤ room) (g : Given) (eg : read_job_lem job_text_lem ≡ accepted g) (st : Stated) (es : read_plan_lem g.job plan_text_lem ≡ accepted st) where
-    abbrev here : Reading job_text_lem plan_text_lem
+    abbrev here : PlanReading job_text_lem plan_text_lem
     here = record { given = g; stated = st; job_read = eg; plan_read = es }
 
     abbrev kept : Given → Stated → Type 0
@@ -104,18 +102,18 @@ module _ (job_text_lem plan_text_lem : List ℕ) (room : ℕ) where
     abbrev Values : Judgement → Type 0
     Values j = verdict.Values g.job st.plan j
 
-    writes_0 : (j : Judgement) → Values j → number_of j ≡ 0 → (said_of j).bytes ≡ cost_lines 0 (cost_of_lem g.job st.plan)
+    writes_0 : (j : Judgement) → Values j → number_of j ≡ 0 → (judge_reply j).bytes ≡ cost_lines 0 (cost_of_lem g.job st.plan)
     writes_0 (accepts c) v e = ap (cost_lines 0) v
     writes_0 (unkept p d) v e = absurd (omega arith)
     writes_0 (wrong_cost c) v e = absurd (omega arith)
 
     writes_10 : (j : Judgement) → judged_of g.job st.cost st.plan ≡ j → number_of j ≡ 10
-        → (part : ℕ) × ((due : ℕ) × (Overdue g.job st.plan part due × ((said_of j).bytes ≡ unkept_lines part due)))
+        → (part : ℕ) × ((due : ℕ) × (Overdue g.job st.plan part due × ((judge_reply j).bytes ≡ unkept_lines part due)))
     writes_10 (accepts c) is e = absurd (omega arith)
     writes_10 (unkept p d) is e = (p, (d, (text_due job_text_lem g eg st.plan st.cost p d is, refl)))
     writes_10 (wrong_cost c) is e = absurd (omega arith)
 
-    writes_11 : (j : Judgement) → Values j → number_of j ≡ 11 → (said_of j).bytes ≡ cost_lines 11 (cost_of_lem g.job st.plan)
+    writes_11 : (j : Judgement) → Values j → number_of j ≡ 11 → (judge_reply j).bytes ≡ cost_lines 11 (cost_of_lem g.job st.plan)
     writes_11 (accepts c) v e = absurd (omega arith)
     writes_11 (unkept p d) v e = absurd (omega arith)
     writes_11 (wrong_cost c) v e = ap (cost_lines 11) v
@@ -125,7 +123,7 @@ module _ (job_text_lem plan_text_lem : List ℕ) (room : ℕ) where
     not_8 (unkept p d) e = omega arith
     not_8 (wrong_cost c) e = omega arith
 
-    read : (j : Judgement) → judged_of g.job st.cost st.plan ≡ j → verdict.JudgementPromise g.job st.cost st.plan j → JudgePromise job_text_lem plan_text_lem room (said_of j)
+    read : (j : Judgement) → judged_of g.job st.cost st.plan ≡ j → verdict.JudgementPromise g.job st.cost st.plan j → JudgePromise job_text_lem plan_text_lem room (judge_reply j)
     read j is p = record {
       says_8 = (λ e. absurd (not_8 j e), λ e. absurd (omega arith));
       says_0 = (
@@ -140,10 +138,10 @@ module _ (job_text_lem plan_text_lem : List ℕ) (room : ℕ) where
         λ e. let x = p.says_11.0 e in (h, (here, (keeps x.0, x.1))),
         λ r. p.says_11.1 (all_kept_lem (moved kept r.1.0 here r.1.1.0), λ c. r.1.1.1 (moved stating here r.1.0 c)),
       );
-      writes_0 = λ r e. moved (λ x y. (said_of j).bytes ≡ cost_lines 0 (cost_of_lem x.job y.plan)) here r (writes_0 j p.values e);
+      writes_0 = λ r e. moved (λ x y. (judge_reply j).bytes ≡ cost_lines 0 (cost_of_lem x.job y.plan)) here r (writes_0 j p.values e);
       writes_10 = λ r e. moved
-          (λ x y. (part : ℕ) × ((due : ℕ) × (Overdue x.job y.plan part due × ((said_of j).bytes ≡ unkept_lines part due)))) here r (writes_10 j is e);
-      writes_11 = λ r e. moved (λ x y. (said_of j).bytes ≡ cost_lines 11 (cost_of_lem x.job y.plan)) here r (writes_11 j p.values e);
+          (λ x y. (part : ℕ) × ((due : ℕ) × (Overdue x.job y.plan part due × ((judge_reply j).bytes ≡ unkept_lines part due)))) here r (writes_10 j is e);
+      writes_11 = λ r e. moved (λ x y. (judge_reply j).bytes ≡ cost_lines 11 (cost_of_lem x.job y.plan)) here r (writes_11 j p.values e);
       job_fault = λ m n l e. not_both eg e;
       plan_fault = λ m g' f n l e. not_both es (other_plan job_text_lem plan_text_lem eg f ∙ e);
     }
@@ -160,8 +158,4 @@ module _ (job_text_lem plan_text_lem : List ℕ) (room : ℕ) where
 
   pub promised : JudgePromise job_text_lem plan_text_lem room (lent judge_room room (judge_said job_text_lem plan_text_lem))
   unfolding judge_said
-  promised = go (dec_lt room judge_room)
-    where
-      go : Dec (room < judge_room) → JudgePromise job_text_lem plan_text_lem room (lent judge_room room (judge_said job_text_lem plan_text_lem))
-      go (yes h) = rw (lt-ltb room judge_room h) (short h)
-      go (no n) = let h : judge_room ≤ room = omega (arith, n) in rw (le-ltb room judge_room h) (on_job_lem h (read_job_lem job_text_lem) refl)
+  promised = with_room (JudgePromise job_text_lem plan_text_lem room) judge_room room (judge_said job_text_lem plan_text_lem) short (λ h. on_job_lem h (read_job_lem job_text_lem) refl)

@@ -25,12 +25,12 @@ judge_lines (unkept part due) = unkept_lines part due
 judge_lines (wrong_cost cost) = cost_lines 11 cost
 
 -- the answer that a judgement is: its number, and its lines
-abbrev pub said_of : Judgement → Said
-said_of j = plainly (number_of j) (judge_lines j)
+abbrev pub judge_reply : Judgement → Said
+judge_reply j = plainly (number_of j) (judge_lines j)
 
 -- what is said of an accepted job and of a plan stated with its cost
 abbrev pub weighed : Job → Stated → Said
-weighed job stated = said_of (judged_of job stated.cost stated.plan)
+weighed job stated = judge_reply (judged_of job stated.cost stated.plan)
 
 -- once the job is read: the plan text against it
 abbrev pub on_plan : List ℕ → Job → Outcome Stated → Said

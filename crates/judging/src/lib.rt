@@ -7,9 +7,9 @@ ghost use Rattle.model.specs.Verdict.{number_of};
 ghost use Rattle.jobs.specs.Views.{job_of};
 ghost use Rattle.plan_grammar.specs.Grammar.{read_plan_lem};
 ghost use Rattle.verdict.specs.Views.{model_judgement};
-ghost use Rattle.verdict.specs.Ranges.{Limited};
+ghost use Rattle.verdict.specs.Ranges.{RangedJudgement};
 ghost use Rattle.answers.specs.Said.{longest_refusal, lent, Replied};
-ghost use Rattle.judging.specs.Judge.{judge_lines, said_of, on_plan, judge_said, judge_room};
+ghost use Rattle.judging.specs.Judge.{judge_lines, judge_reply, on_plan, judge_said, judge_room};
 ghost use Rattle.judging.specs.Promise.{JudgePromise};
 
 use answers::{Answer, JOB, PLAN, put_three, put_two, refuse, reply};
@@ -35,7 +35,7 @@ fn number_of(j: Judgement) -> u32
 
 // Puts the lines of a judgement.
 fn put_judgement(out: &mut Out, j: Judgement)
-    requires { Limited (model_judgement j) × Room out.old (judge_lines (model_judgement j)) }
+    requires { RangedJudgement (model_judgement j) × Room out.old (judge_lines (model_judgement j)) }
     ensures { Puts out.old (judge_lines (model_judgement j)) out.new }
 {
     let number = number_of(j);
@@ -52,8 +52,8 @@ fn put_judgement(out: &mut Out, j: Judgement)
 
 // Answers a call that needs so much room by a judgement.
 pub fn answer_judgement(j: Judgement, need: usize, out: &mut [u8]) -> Answer
-    requires { Limited (model_judgement j) × (longest_refusal ≤ need) }
-    ensures { Replied need (said_of (model_judgement j)) out.old out.new result }
+    requires { RangedJudgement (model_judgement j) × (longest_refusal ≤ need) }
+    ensures { Replied need (judge_reply (model_judgement j)) out.old out.new result }
 {
     reply(number_of(j), need, out, |lines| put_judgement(lines, j))
 }

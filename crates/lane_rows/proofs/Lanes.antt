@@ -48,7 +48,8 @@ where_some n s h = rw (lt-ltb n inf h)
 pub where_none : (n s : ℕ) → inf ≤ n → sum_where n s ≡ Missing
 where_none n s h = rw (le-ltb n inf h)
 
-value_min : (a b : ℕ) → value_of (min a b) ≡ lower (value_of a) (value_of b)
+-- the lesser number stands for the lesser price
+pub value_min : (a b : ℕ) → value_of (min a b) ≡ lower (value_of a) (value_of b)
 value_min a b = go (ltb a inf) (ltb b inf) refl refl
   where
     both : (t : Bool) → ltb b a ≡ t → Sum (min a b) ≡ cond t (Sum b) (Sum a)

@@ -21,7 +21,7 @@ use Rattle.model.proofs.LastYes.{last_alone}
 use Rattle.model.proofs.Unpaid.{there_together}
 use Rattle.lane_rows.specs.Layout.{top, inf, term_place, suffix_base, lanes_in}
 use Rattle.lane_rows.specs.Sheet.{Column, Sheet, column_bound, part_sums, column_fee, part_columns, fee_term, no_column}
-use Rattle.lane_rows.specs.Tables.{Coded, Alike, sum_where, fee_from, Tables}
+use Rattle.lane_rows.specs.Tables.{Coded, Alike, sum_where, fee_from, Tables, FeeTerms}
 use Rattle.lane_rows.specs.Rows.{lane, sum_lanes, Rows}
 use Rattle.lane_rows.proofs.Lanes.{total_each, node_sum}
 
@@ -81,12 +81,16 @@ largest_same f g (x ∷ xs) p q e = ap₂ larger (e 0 (omega arith)) (largest_sa
 abbrev pub ByMark : Sheet → List Bool → ℕ → Type 0
 ByMark sheet d m = (i : ℕ) → i < sheet.parts → column_fee sheet (get_or sheet.columns i no_column) d ≡ fee_from sheet (length d) m (get_or sheet.columns i no_column) []
 
-module _ (sheet : Sheet) (t : List ℕ) (ta : Tables sheet t) where
-  -- so it is at the first node
-  pub first_by : ByMark sheet [] 0
-  unfolding column_fee undecided_fees
-  first_by i h = refl
+-- a column that is a part's is the sheet's at its place
+part_at_lem : (sheet : Sheet) (i : ℕ) → i < length (part_columns sheet) → (i < sheet.parts) × (get_or (part_columns sheet) i no_column ≡ get_or sheet.columns i no_column)
+part_at_lem sheet i h = let g : i < sheet.parts = omega (arith, length-take sheet.parts sheet.columns) in (g, get_or-take sheet.parts sheet.columns i no_column g)
 
+-- at the first node each part's term is the table's for the mark of the first life
+pub first_by : (sheet : Sheet) → ByMark sheet [] 0
+unfolding column_fee undecided_fees
+first_by sheet i h = refl
+
+module _ (sheet : Sheet) (t : List ℕ) (ta : Tables sheet t) where
   -- at a node where each part can be kept, and after any number of no's below it, it is so for the last yes
   no_by : (p : List Bool) (k x : ℕ) → length p + k ≤ length sheet.positions → part_sums sheet p ≡ Sum x → ByMark sheet (p ++ replicate k false) (last_yes p)
   unfolding column_bound column_fee
@@ -104,44 +108,30 @@ module _ (sheet : Sheet) (t : List ℕ) (ta : Tables sheet t) where
   pub own_by : (p : List Bool) (x : ℕ) → length p ≤ length sheet.positions → part_sums sheet p ≡ Sum x → ByMark sheet p (last_yes p)
   own_by p x l e = subst (λ (d : List Bool). ByMark sheet d (last_yes p)) (append-nil p) (no_by p 0 x (omega arith) e)
 
-  -- ---- the table's number there
+  -- ---- a number that stands for a node's term
 
-  module _ (d : List Bool) (m : ℕ) (l : length d ≤ length sheet.positions) (in_reach : m ≤ length d) (by : ByMark sheet d m) where
-    abbrev here : ℕ
-    here = get_or t (term_place (length d) m) 0
-
+  module _ (d : List Bool) (here : ℕ) (coded : Coded (top * (length sheet.positions - length d)) here (fee_term sheet d)) where
     abbrev most : ℕ
     most = top * (length sheet.positions - length d)
 
-    part_at_lem : (i : ℕ) → i < length (part_columns sheet) → (i < sheet.parts) × (get_or (part_columns sheet) i no_column ≡ get_or sheet.columns i no_column)
-    part_at_lem i h = let g : i < sheet.parts = omega (arith, length-take sheet.parts sheet.columns) in (g, get_or-take sheet.parts sheet.columns i no_column g)
-
-    -- it stands for the node's term
-    term_coded : Coded most here (fee_term sheet d)
-    term_coded =
-        subst (Coded most here)
-        (sym (largest_same (column_fee sheet) (fee_from sheet (length d) m) (part_columns sheet) d []
-        (λ i h. let p = part_at_lem i h in ap (λ (col : Column). column_fee sheet col d) p.1 ∙ by i p.0 ∙ ap (λ (col : Column). fee_from sheet (length d) m col []) (sym p.1))))
-        (ta.terms (length d) m in_reach l)
-
-    -- which is there where the part sums are
+    -- it is there where the part sums are
     pub node_term : (x : ℕ) → part_sums sheet d ≡ Sum x → (fee_term sheet d ≡ Sum here) × (here ≤ most)
     node_term x e =
         let some = some_of (column_bound sheet) sheet.columns sheet.parts d x e in
         let k = largest_there (column_bound sheet) (column_fee sheet) d (fee_there sheet d) (part_columns sheet) some.0 some.1 in
-        let c : Coded most here (Sum k.0) = subst (Coded most here) k.1 term_coded in
+        let c : Coded most here (Sum k.0) = subst (Coded most here) k.1 coded in
         (k.1 ∙ sym (ap Sum c.0), omega (arith, c.0, c.1))
 
     -- and where it is there, each part has a price
     part_there : here < inf → (i : ℕ) → i < sheet.parts → (n : ℕ) × (column_bound sheet (get_or sheet.columns i no_column) d ≡ Sum n)
-    part_there h i g = go (fee_term sheet d) refl term_coded
+    part_there h i g = go (fee_term sheet d) refl coded
       where
         go : (b : Bound) → fee_term sheet d ≡ b → Coded most here b → (n : ℕ) × (column_bound sheet (get_or sheet.columns i no_column) d ≡ Sum n)
         go Missing e c = absurd (omega (arith, c, h))
         go (Sum y) e c =
             let k : i < length (part_columns sheet) = omega (arith, length-take sheet.parts sheet.columns, ta.real, ta.wide) in
             let f = largest_each (column_fee sheet) (part_columns sheet) d y e i k in
-            price_there sheet d (get_or sheet.columns i no_column) f.0 (ap (λ (col : Column). column_fee sheet col d) (sym (part_at_lem i k).1) ∙ f.1)
+            price_there sheet d (get_or sheet.columns i no_column) f.0 (ap (λ (col : Column). column_fee sheet col d) (sym (part_at_lem sheet i k).1) ∙ f.1)
 
     lane_there : here < inf → (q : ℕ) → q < lanes_in t → (n : ℕ) × (column_bound sheet (get_or sheet.columns q no_column) d ≡ Sum n)
     lane_there h q g = go (dec_lt q sheet.parts)
@@ -153,8 +143,8 @@ module _ (sheet : Sheet) (t : List ℕ) (ta : Tables sheet t) where
             spare_there sheet d (get_or sheet.columns 0 no_column) (get_or sheet.columns q no_column) (ta.spare q (omega (arith, a)) g) b.0 b.1
 
     -- so the part sums are Missing exactly where it is, and else the lanes' sum
-    pub sums_by : (w : List ℕ) (n : ℕ) → Rows sheet w d n → sum_where here (sum_lanes (lanes_in t) (λ (q : ℕ). lane t w suffix_base (length d) q n)) ≡ part_sums sheet d
-    sums_by w n ro = go (ltb here inf) refl
+    pub sums_by : length d ≤ length sheet.positions → (w : List ℕ) (n : ℕ) → Rows sheet w d n → sum_where here (sum_lanes (lanes_in t) (λ (q : ℕ). lane t w suffix_base (length d) q n)) ≡ part_sums sheet d
+    sums_by l w n ro = go (ltb here inf) refl
       where
         none : (b : Bound) → part_sums sheet d ≡ b → inf ≤ here → Missing ≡ b
         none Missing e h = refl
@@ -163,3 +153,12 @@ module _ (sheet : Sheet) (t : List ℕ) (ta : Tables sheet t) where
         go : (b : Bool) → ltb here inf ≡ b → cond b (Sum (sum_lanes (lanes_in t) (λ (q : ℕ). lane t w suffix_base (length d) q n))) Missing ≡ part_sums sheet d
         go true e = sym (node_sum sheet t w d n ta ro l (lane_there (ltb-true here inf e)))
         go false e = none (part_sums sheet d) refl (ltb-false here inf e)
+
+-- the table's number for the mark m stands for the term of a node where each part's is that
+pub term_coded : (sheet : Sheet) (t : List ℕ) → FeeTerms sheet t → (d : List Bool) (m : ℕ) → length d ≤ length sheet.positions → m ≤ length d → ByMark sheet d m
+    → Coded (top * (length sheet.positions - length d)) (get_or t (term_place (length d) m) 0) (fee_term sheet d)
+term_coded sheet t te d m l in_reach by =
+    subst (Coded (top * (length sheet.positions - length d)) (get_or t (term_place (length d) m) 0))
+    (sym (largest_same (column_fee sheet) (fee_from sheet (length d) m) (part_columns sheet) d []
+    (λ i h. let p = part_at_lem sheet i h in ap (λ (col : Column). column_fee sheet col d) p.1 ∙ by i p.0 ∙ ap (λ (col : Column). fee_from sheet (length d) m col []) (sym p.1))))
+    (te.right (length d) m in_reach l)

@@ -40,7 +40,7 @@ pub record Alike (a b : Column) : Type 0 where
 abbrev pub fee_from : Sheet → ℕ → ℕ → Column → List Bool → Bound
 fee_from sheet j i col p = least_of_lem col.life sheet.end (mark_in col.first sheet.positions i) (drop j (offers sheet.positions sheet.fees []))
 
--- the tables of a sheet: a lane for each column, the fees, the number of openings, and the terms; a column past the last part goes with the first part's
+-- the rows of a sheet's tables: a lane for each column, the fees and the number of openings; a column past the last part goes with the first part's
 pub record Tables (sheet : Sheet) (t : List ℕ) : Type 0 where
   pub size : length t ≡ tables_size
   pub few : length sheet.positions ≤ most_openings
@@ -56,4 +56,7 @@ pub record Tables (sheet : Sheet) (t : List ℕ) : Type 0 where
   pub begun : 0 < sheet.parts
   pub spare : (q : ℕ) → sheet.parts ≤ q → q < lanes_in t → Alike (get_or sheet.columns 0 no_column) (get_or sheet.columns q no_column)
   pub climbs : (q : ℕ) → q < lanes_in t → Climbs sheet.end (get_or sheet.columns q no_column).first sheet.positions
-  pub terms : (j i : ℕ) → i ≤ j → j ≤ length sheet.positions → Coded (top * (length sheet.positions - j)) (get_or t (term_place j i) 0) (largest (fee_from sheet j i) (part_columns sheet) [])
+
+-- E4's terms in the tables, for each number of decided openings and each mark of the last yes, which the walk without holders alone reads
+pub record FeeTerms (sheet : Sheet) (t : List ℕ) : Type 0 where
+  pub right : (j i : ℕ) → i ≤ j → j ≤ length sheet.positions → Coded (top * (length sheet.positions - j)) (get_or t (term_place j i) 0) (largest (fee_from sheet j i) (part_columns sheet) [])

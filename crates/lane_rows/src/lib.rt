@@ -318,12 +318,12 @@ pub fn lane_sum(t: &[u32; TABLES], w: &mut [u32; STACK], rows: usize, j: usize) 
     look::<true>(t, w, rows, j)
 }
 
-// The part sums where nothing is decided: the tables' first row; Missing exactly where the first term is.
-pub fn first_sums(t: &[u32; TABLES]) -> Bound
+// The part sums where nothing is decided: the tables' first row; Missing exactly where the term there, which is handed over, is.
+pub fn first_sums(t: &[u32; TABLES], due: u64) -> Bound
     requires { (lanes_in t.now ≤ lane_count_lem) × ((q : ℕ) → q < lanes_in t.now → get_or t.now q 0 ≤ inf) }
-    ensures { result ≡ sum_where (get_or t.now (term_place 0 0) 0) (sum_lanes (lanes_in t.now) (λ (q : ℕ). get_or t.now q 0)) }
+    ensures { result ≡ sum_where due (sum_lanes (lanes_in t.now) (λ (q : ℕ). get_or t.now q 0)) }
 {
-    if t[TERMS] < INF {
+    if due < u64::from(INF) {
         return Bound::Sum(total(t[FOURS] as usize, t));
     }
     Bound::Missing

@@ -8,7 +8,7 @@ use native.Mathlib.Omega.{arith}
 use native.Mathlib.Nat.{sub-zero}
 use lib.ListN.{length}
 use lib.Dec.{eqb}
-use borrow.Author.Tests.{eqb-true, le-leb, lt-leb, lt-ltb, le-ltb}
+use borrow.Author.Tests.{eqb-true, le-leb, lt-leb, lt-ltb}
 use Rattle.lines.specs.Parser.{Parsed, good, fault, Parser, ◌>>=◌, return, read_field_lem, taken, row_at, optional_at, checked, chain, end as ends, rising, up_to, refused, finish, whole, read_text}
 use Rattle.lines.specs.Line.{starts_with}
 use Rattle.lines.specs.Fault.{number_of_lem}
@@ -89,21 +89,9 @@ checked_twice {A} k ok also p s l = go (p s l)
 pub rising_yes : (b h v : ℕ) → b < v → v ≤ h → rising b h v ≡ true
 rising_yes b h v l m = simp (lt-ltb b v l, le-leb v h m)
 
--- a value that is not after the one before fails the rising rule
-pub rising_low : (b h v : ℕ) → v ≤ b → rising b h v ≡ false
-rising_low b h v l = simp (le-ltb b v l)
-
--- a value past the limit fails the rising rule
-pub rising_high : (b h v : ℕ) → b < v → h < v → rising b h v ≡ false
-rising_high b h v l m = simp (lt-ltb b v l, lt-leb v h m)
-
 -- a value of at most m passes the rule of an upper limit
 pub up_to_yes : (m v : ℕ) → v ≤ m → up_to m v ≡ true
 up_to_yes m v h = le-leb v m h
-
--- a value above m fails the rule of an upper limit
-pub up_to_not : (m v : ℕ) → m < v → up_to m v ≡ false
-up_to_not m v h = lt-leb v m h
 
 -- what was read before goes in front
 abbrev pub behind : {A : Type 0} → List A → Parsed (List A) → Parsed (List A)

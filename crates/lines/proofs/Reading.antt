@@ -29,14 +29,6 @@ drop_step s i h = rw (add-one, drop-cons s i 0)
 pub rest_of : (s : List ℕ) (k : ℕ) → take (length s - k) (drop k s) ≡ drop k s
 rest_of s k = take_all (length s - k) (drop k s) (simp length-drop (omega arith))
 
--- a byte below that of `0` is no digit
-pub digit_low : (b : ℕ) → b < 48 → is_digit b ≡ false
-digit_low b h = simp (lt-leb 48 b h)
-
--- a byte above that of `9` is no digit
-pub digit_high : (b : ℕ) → 48 ≤ b → 57 < b → is_digit b ≡ false
-digit_high b l h = simp (le-leb 48 b l, lt-leb b 57 h)
-
 -- a byte from that of `0` to that of `9` is a digit
 pub digit_yes : (b : ℕ) → 48 ≤ b → b ≤ 57 → is_digit b ≡ true
 digit_yes b l h = simp (le-leb 48 b l, le-leb b 57 h)
@@ -206,14 +198,6 @@ unfolding starts_with
 starts_le [] s e = omega arith
 starts_le (k ∷ ks) [] e = absurd (false≢true e)
 starts_le (k ∷ ks) (b ∷ bs) e = omega (arith, starts_le ks bs ((and-eq-true_iff (eqb k b) (starts_with ks bs)).0 e).1)
-
--- a text shorter than the key doesn't start with it
-pub starts_short : (key s : List ℕ) → length s < length key → starts_with key s ≡ false
-starts_short key s h = go (starts_with key s) refl
-  where
-    go : (t : Bool) → starts_with key s ≡ t → t ≡ false
-    go true e = absurd (omega (arith, starts_le key s e))
-    go false e = refl
 
 -- a line, by whether its key stands there
 pub line_not : (key s : List ℕ) → starts_with key s ≡ false → None ≡ read_line_lem key s

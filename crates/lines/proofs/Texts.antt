@@ -1,12 +1,12 @@
--- The texts of several things, thing by thing: what a loop that writes them has written (`texts_more`, `texts_room`), and what is left of them (`texts_next`). By the laws of `take` and `drop`. Those of what a test chooses (`chosen-texts`). How long those of a rising list are (`rising_room`).
+-- The texts of several things, thing by thing: what a loop that writes them has written (`texts_more`, `texts_room`). By the laws of `take` and `drop`. Those of what a test chooses (`chosen-texts`). How long those of a rising list are (`rising_room`).
 use Prim.Native.Nat.{ℕ, zero, suc, ◌+◌, ◌-◌, ◌≤◌, ◌<◌}
 use mathlib.Core.Path.{◌≡◌, refl, sym, ap, ap₂, ◌∙◌}
 use mathlib.Core.Bool.{Bool, true, false, cond}
-use mathlib.Core.List.{List, [], ◌∷◌, ◌++◌, map, append_assoc, append-nil}
+use mathlib.Core.List.{List, [], ◌∷◌, ◌++◌, append_assoc, append-nil}
 use native.Mathlib.Numerals.{add-one}
 use native.Mathlib.Omega.{arith}
 use lib.ListN.{length, get_or, take, drop, length-append}
-use lib.Seq.{take-suc, drop-cons, split_at, get_or-take, take-take, length-take-le}
+use lib.Seq.{take-suc, split_at, get_or-take, take-take, length-take-le}
 use Rattle.lines.specs.Text.{texts}
 use Rattle.base.specs.Joined.{joined}
 use Rattle.base.specs.Chosen.{chosen}
@@ -30,19 +30,10 @@ chosen-texts w test f (suc n) =
     texts_append w (chosen test f n) (cond (test n) (f n ∷ []) [])
     ∙ ap₂ (λ (xs ys : List ℕ). xs ++ ys) (chosen-texts w test f n) (cond_text w (test n) (f n))
 
--- the texts of mapped things are those of the things, each written by way of the map
-pub texts-map : {A B : Type 0} (w : B → List ℕ) (f : A → B) (xs : List A) → texts w (map f xs) ≡ texts (λ x. w (f x)) xs
-texts-map w f [] = refl
-texts-map w f (x ∷ xs) = ap (λ (r : List ℕ). w (f x) ++ r) (texts-map w f xs)
-
 module _ {A : Type 0} (w : A → List ℕ) (xs : List A) (i : ℕ) (d : A) where
   -- one more is written
   pub texts_more : i < length xs → texts w (take (i + 1) xs) ≡ texts w (take i xs) ++ w (get_or xs i d)
   texts_more h = rw (add-one, take-suc xs i d h) (texts_append w (take i xs) (get_or xs i d ∷ []) ∙ ap (λ (r : List ℕ). texts w (take i xs) ++ r) (append-nil (w (get_or xs i d))))
-
-  -- the front one, and the rest with anything behind it
-  pub texts_next : (s : List ℕ) → i < length xs → texts w (drop i xs) ++ s ≡ w (get_or xs i d) ++ (texts w (drop (i + 1) xs) ++ s)
-  texts_next s h = rw (add-one, drop-cons xs i d h) (append_assoc (w (get_or xs i d)) (texts w (drop (suc i) xs)) s)
 
   -- what is written and the next one are within the whole
   room : i < length xs → length (texts w (take i xs)) + length (w (get_or xs i d)) ≤ length (texts w xs)

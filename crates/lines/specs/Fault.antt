@@ -3,7 +3,7 @@ use Rattle.std.specs.Prelude.{ℕ}
 use Rattle.lines.specs.declared.fault.FaultKind.{FaultKind}
 use Rattle.lines.specs.declared.fault.FaultKind.TheVariants.{TooLong, Form, Range, Step, Left, Visit, Holder, High, Other}
 
--- R1 to R5, R9, E7.2, E11. the result number of what is wrong
+-- R1 to R5, R9, R12, R13. the result number of what is wrong
 abbrev pub number_of_lem : FaultKind → ℕ
 number_of_lem TooLong = 1
 number_of_lem Form = 2

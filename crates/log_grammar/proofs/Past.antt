@@ -11,7 +11,7 @@ use Rattle.base.proofs.Chosen.{chosen_same, chosen_none_after}
 use Rattle.model.specs.Model.{Opening, Part, Job, Plan}
 use Rattle.model.specs.Windows.{Rising, steps_of}
 use Rattle.model.specs.Verdict.{changes_at, Shaped}
-use Rattle.base.proofs.Bools.{inside}
+use Rattle.base.proofs.Bools.{inside, none_set}
 use Rattle.base.specs.Each.{All}
 use Rattle.jobs.specs.Valid.{ValidOpening, ValidPrice, ValidPart, HeldFrom, ValidJob}
 use Rattle.base.proofs.Lists.{map_at}
@@ -44,19 +44,14 @@ padded-length m l h = omega (arith, length-append l (replicate (m - length l) fa
 pub padded_front : (m : ℕ) (l : List Bool) → take (length l) (padded m l) ≡ l
 padded_front m l = take-append_seam l (replicate (m - length l) false)
 
-none : (m i : ℕ) → get_or (replicate m false) i false ≡ true → ⊥
-none zero i e = false≢true e
-none (suc m) zero e = false≢true e
-none (suc m) (suc i) e = none m i e
-
 -- what it has, the set had
 pub padded_had : (m : ℕ) (l : List Bool) (k : ℕ) → get_or (padded m l) k false ≡ true → get_or l k false ≡ true
-padded_had m [] k e = absurd (none (m - 0) k e)
+padded_had m [] k e = absurd (none_set (m - 0) k e)
 padded_had m (x ∷ l) zero e = e
 padded_had m (x ∷ l) (suc k) e = go l (m - length (x ∷ l)) k e
   where
     go : (l : List Bool) (r k : ℕ) → get_or (l ++ replicate r false) k false ≡ true → get_or l k false ≡ true
-    go [] r k e = absurd (none r k e)
+    go [] r k e = absurd (none_set r k e)
     go (y ∷ l) r zero e = e
     go (y ∷ l) r (suc k) e = go l r k e
 

@@ -1,6 +1,6 @@
 -- The count of E6 for code: no number above the cap, and the least life and the least first life of the parts in place of them all. By recursion over the openings, and over the parts.
 use mathlib.Core.Path.{◌≡◌, refl, sym, ap, ◌∙◌}
-use mathlib.Core.Bool.{Bool, true, false, cond, ◌&&◌, and_assoc, and-eq-true_iff}
+use mathlib.Core.Bool.{Bool, true, cond, ◌&&◌, and_assoc, and-eq-true_iff, and-true}
 use mathlib.Core.List.{List, [], ◌∷◌}
 use mathlib.Core.Logic.{◌↔◌}
 use Prim.Native.Nat.{ℕ, zero, suc, ◌+◌, ◌-◌, ◌≤◌, min}
@@ -94,10 +94,6 @@ within-left : (life left : ℕ) (y : ℤ) → within (pos life) (pos left -ℤ p
 within-left life left y = same_test (within (pos life) (pos left -ℤ pos life) y) (within (pos left) (pos 0) y)
     (λ e. near_within (pos left) (pos 0) y (omega (arith, near (pos life) (pos left -ℤ pos life) y e, difference (pos left) (pos life))))
     (λ e. near_within (pos life) (pos left -ℤ pos life) y (omega (arith, near (pos left) (pos 0) y e, difference (pos left) (pos life))))
-
-and-true : (a : Bool) → (a && true) ≡ a
-and-true true = refl
-and-true false = refl
 
 module _ (job : Job) where
   -- a part with this life and first life

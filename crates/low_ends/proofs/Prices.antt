@@ -11,11 +11,7 @@ use lib.ListN.{length, get_or, take, drop}
 use Rattle.quotes.specs.Grammar.{any_pair}
 use Rattle.quotes.specs.Views.{quote_of, quotes_of, low_of, lows_of}
 use Rattle.low_ends.specs.Marks.{one_of}
-
-after : {A : Type 0} (xs : List A) (i : ℕ) (d : A) → get_or (drop 1 xs) i d ≡ get_or xs (suc i) d
-after [] zero d = refl
-after [] (suc i) d = refl
-after (x ∷ xs) i d = refl
+use Rattle.base.proofs.Bools.{after_one}
 
 lows_suc : (k : ℕ) (ls : List (Option ℕ)) (hs : List ℕ) → k < length hs → lows_of ls (take (suc k) hs) ≡ lows_of ls (take k hs) ++ low_of (get_or ls k None) (get_or hs k 0) ∷ []
 unfolding lows_of
@@ -24,7 +20,7 @@ lows_suc zero ls (x ∷ hs) h = refl
 lows_suc (suc k) ls (x ∷ hs) h =
     ap (λ (xs : List ℕ). low_of (get_or ls 0 None) x ∷ xs)
     (lows_suc k (drop 1 ls) hs (omega arith)
-    ∙ ap (λ (l : Option ℕ). lows_of (drop 1 ls) (take k hs) ++ low_of l (get_or hs k 0) ∷ []) (after ls k None))
+    ∙ ap (λ (l : Option ℕ). lows_of (drop 1 ls) (take k hs) ++ low_of l (get_or hs k 0) ∷ []) (after_one ls k None))
 
 -- one price more at its low end
 pub lows_next : (k : ℕ) (ls : List (Option ℕ)) (hs : List ℕ) → k < length hs → lows_of ls (take (k + 1) hs) ≡ lows_of ls (take k hs) ++ low_of (get_or ls k None) (get_or hs k 0) ∷ []

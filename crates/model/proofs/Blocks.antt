@@ -13,6 +13,12 @@ use Rattle.model.specs.LowerBound.{blocks, stops_in, removed_in}
 use Rattle.base.proofs.Bools.{after_one}
 use Rattle.model.proofs.Fees.{sum_rises}
 
+-- nothing decided has no blocks
+pub blocks_none : (h n : ℕ) → blocks h n [] ≡ []
+unfolding blocks
+blocks_none h zero = refl
+blocks_none h (suc n) = refl
+
 -- ---- more decisions
 
 -- the first h of p ++ t: the first h of p, and more; and what is left

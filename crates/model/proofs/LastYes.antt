@@ -17,7 +17,7 @@ use Rattle.model.specs.Model.{Opening, Job, running, clock, positions, end, with
 use Rattle.model.specs.Windows.{Rising, steps_of}
 use Rattle.model.specs.LowerBound.{Offer, plus, lower_than, lower, change_at_lem, least_of_lem, offers, undecided_fees}
 use Rattle.model.specs.LastYes.{after_one_lem, last_yes, mark_in, Climbs}
-use Rattle.model.proofs.Lower.{no_more_refl, no_more_trans, lower_first, lower_second, lower_both}
+use Rattle.model.proofs.Lower.{no_more_refl, no_more_trans, lower_first, lower_second, lower_both, plus_0}
 use Rattle.base.proofs.Integers.{AtMostℤ, at_most, at_most_test, difference}
 use Rattle.model.proofs.Positions.{never_falls, within_earlier, within_later}
 
@@ -81,11 +81,6 @@ lower_is (Sum a) (Sum b) h = go (ltb b a) refl
     go : (t : Bool) → ltb b a ≡ t → cond t (Sum b) (Sum a) ≡ Sum b
     go true e = refl
     go false e = ap Sum (omega (arith, ltb-false b a e))
-
--- no price more
-plus_0 : (x : Bound) → plus 0 x ≡ x
-plus_0 Missing = refl
-plus_0 (Sum a) = ap Sum (omega arith)
 
 module _ (life end : ℤ) where
   -- the later the change before, the less is left to pay

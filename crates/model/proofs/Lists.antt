@@ -1,12 +1,13 @@
--- Laws of `table`: the values of a function at the places from 0 on. By recursion over their number.
+-- Laws of `table`: the values of a function at the places from 0 on, by recursion over their number; and of `listed`.
 use mathlib.Core.Path.{◌≡◌, refl, sym, ap, ◌∙◌}
-use mathlib.Core.Bool.{Bool, true, false}
+use mathlib.Core.Bool.{Bool, true, false, ◌||◌, or-false}
 use mathlib.Core.List.{List, [], ◌∷◌, ◌++◌, map}
 use Prim.Native.Nat.{ℕ, zero, suc, ◌+◌, ◌<◌}
 use native.Mathlib.Numerals.{add-one}
 use native.Mathlib.Omega.{arith}
+use lib.Dec.{eqb}
 use lib.ListN.{length, get_or}
-use Rattle.model.specs.Model.{table}
+use Rattle.model.specs.Model.{listed, table}
 use Rattle.base.proofs.Bools.{inside}
 
 module _ {A : Type 0} where
@@ -55,6 +56,16 @@ table_list d [] zero h = refl
 table_list d [] (suc n) h = absurd (omega arith)
 table_list d (x ∷ l) zero h = absurd (omega arith)
 table_list {A} d (x ∷ l) (suc n) h = ap (λ (m : List A). x ∷ m) (table_list d l n (omega arith))
+
+-- one number more is on the list, at the end
+pub listed_snoc : (ns : List ℕ) (m n : ℕ) → listed (ns ++ m ∷ []) n ≡ (listed ns n || eqb m n)
+unfolding listed
+listed_snoc [] m n = or-false (eqb m n)
+listed_snoc (k ∷ ns) m n = go (eqb k n) (listed_snoc ns m n)
+  where
+    go : (b : Bool) → listed (ns ++ m ∷ []) n ≡ (listed ns n || eqb m n) → (b || listed (ns ++ m ∷ []) n) ≡ ((b || listed ns n) || eqb m n)
+    go true e = refl
+    go false e = e
 
 -- a place of a table that says yes
 pub table_yes : (f : ℕ → Bool) (n k : ℕ) → get_or (table f n) k false ≡ true → (k < n) × (f k ≡ true)

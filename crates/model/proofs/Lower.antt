@@ -107,6 +107,16 @@ pub add_plus : (c : ℕ) (e : Bound) → add (Sum c) e ≡ plus c e
 add_plus c Missing = refl
 add_plus c (Sum x) = refl
 
+-- nothing more to pay
+pub plus_0 : (x : Bound) → plus 0 x ≡ x
+plus_0 Missing = refl
+plus_0 (Sum a) = ap Sum (omega arith)
+
+-- a bound and a missing one are missing
+pub add_missing : (x : Bound) → add x Missing ≡ Missing
+add_missing Missing = refl
+add_missing (Sum a) = refl
+
 -- bounds are added in any order
 pub add_comm : (a b : Bound) → add a b ≡ add b a
 add_comm Missing Missing = refl

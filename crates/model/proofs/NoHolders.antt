@@ -2,7 +2,7 @@
 use mathlib.Core.Path.{◌≡◌, refl, sym, ap, ap₂, ◌∙◌}
 use mathlib.Core.Bool.{Bool, true, false, ◌&&◌, ◌||◌, false≢true}
 use mathlib.Core.List.{List, [], ◌∷◌, map}
-use Prim.Native.Nat.{ℕ, zero, suc, ◌<◌}
+use Prim.Native.Nat.{ℕ, zero, suc}
 use native.Mathlib.Omega.{arith}
 use lib.ListN.{length, get_or, take, drop, replicate}
 use lib.Dec.{ltb}
@@ -14,8 +14,7 @@ use Rattle.model.specs.Model.{Part, Job, comes_out, listed, holds_one, holding, 
 use Rattle.model.specs.Decisions.{of_holders, held_at, accessible, allows}
 use Rattle.model.specs.LowerBound.{blocks, inner, node_at, stops_in, stops_at, removed_in, places_at, bound_of}
 use Rattle.model.specs.Promise.{searched}
-use Rattle.model.specs.Verdict.{no_part}
-use Rattle.base.proofs.Bools.{or_left, or_right, or_split}
+use Rattle.base.proofs.Bools.{or_split}
 use Rattle.model.proofs.Offers.{sum_none}
 use Rattle.model.proofs.Lists.{table_yes}
 
@@ -54,19 +53,6 @@ removed_plain [] = refl
 removed_plain (b ∷ bs) = omega (arith, sum_none (drop 1 b), removed_plain bs)
 
 -- ---- the test: `has_holder_lem` is false exactly of the jobs without holders
-
--- if a part at some place has a holder, then some part has one
-pub held_here : (ps : List Part) (q : ℕ) → q < length ps → is_held (get_or ps q no_part) ≡ true → any_held ps ≡ true
-unfolding any_held
-held_here [] q h e = absurd (omega arith)
-held_here (p ∷ ps) zero h e = or_left (is_held p) (any_held ps) e
-held_here (p ∷ ps) (suc q) h e = or_right (is_held p) (any_held ps) (held_here ps q (omega arith) e)
-
--- if at no place a part has a holder, then no part has one
-pub held_nowhere : (ps : List Part) → ((q : ℕ) → q < length ps → is_held (get_or ps q no_part) ≡ false) → any_held ps ≡ false
-unfolding any_held
-held_nowhere [] f = refl
-held_nowhere (p ∷ ps) f = ap₂ ◌||◌ (f 0 (omega arith)) (held_nowhere ps (λ q h. f (suc q) (omega arith)))
 
 empty : (hs : List ℕ) → ltb 0 (length hs) ≡ false → hs ≡ []
 empty [] e = refl

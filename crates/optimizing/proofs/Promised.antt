@@ -5,8 +5,6 @@ use mathlib.Core.List.{List, [], ◌++◌}
 use mathlib.Core.Bool.{Bool}
 use mathlib.Core.Logic.{◌⊎◌, inl, inr, ⊎_elim}
 use native.Mathlib.Omega.{arith}
-use native.Mathlib.Decide.{dec_lt}
-use borrow.Author.Tests.{lt-ltb, le-ltb}
 use Rattle.std.specs.Prelude.{None, Some}
 use Rattle.lines.specs.Text.{line_of}
 use Rattle.lines.specs.Parser.{accepted, refused}
@@ -18,11 +16,11 @@ use Rattle.model.proofs.Promised.{promise}
 use Rattle.model.proofs.Unique.{determined}
 use Rattle.shares.proofs.SamePlan.{best_answered}
 use Rattle.job_grammar.specs.Grammar.{Given, read_job_lem}
-use Rattle.job_grammar.specs.Reading.{Reading}
+use Rattle.job_grammar.specs.Reading.{JobReading}
 use Rattle.job_grammar.proofs.Numbered.{JobFault, fault_some, fault_else, fault}
 use Rattle.plan_grammar.specs.Rendering.{plan_lines_of}
 use Rattle.answers.specs.Said.{Said, plainly, refusal, lent}
-use Rattle.answers.proofs.Replies.{refuses}
+use Rattle.answers.proofs.Replies.{refuses, with_room}
 use Rattle.plan_printing.specs.Printed.{printed_lines}
 use Rattle.planning.specs.Plan as planner
 use Rattle.planning.specs.Plan.{planned_lines, walk_number_lem, plan_said}
@@ -30,13 +28,13 @@ use Rattle.planning.specs.Promise.{PrintsBehind}
 use Rattle.findings.proofs.Numbers.{not_8}
 use Rattle.planning.proofs.ReadBack.{reads_back, judge_accepts}
 use Rattle.optimum_search.specs.Ends.{Ends}
-use Rattle.optimizing.specs.Optimum.{floor_lines, said_for, optimum_room}
+use Rattle.optimizing.specs.Optimum.{floor_lines, optimum_reply, optimum_room}
 use Rattle.optimizing.specs.Promise.{PrintsBest, CutShort, SameBehind, OptimumPromise}
 
 -- ---- what is written for an accepted text
 
 -- 6 is written alone
-six_lines : (given : Given) (a : PlannerAnswer) → result_of a ≡ 6 → (said_for given a).bytes ≡ line_of "result=" 6
+six_lines : (given : Given) (a : PlannerAnswer) → result_of a ≡ 6 → (optimum_reply given a).bytes ≡ line_of "result=" 6
 six_lines given no_plan_lem2 e = refl
 six_lines given (cut_none n f) e = absurd (omega arith)
 six_lines given (cut n f c q) e = absurd (omega arith)
@@ -67,7 +65,7 @@ module _ (text : List ℕ) (given : Given) (is : read_job_lem text ≡ accepted 
   unfolding plan_said planned_lines
   planner_same s x other e =
       let walk = walk_number_lem other in
-      let says : plan_said text other ≡ planner.said_for given (answer_of given.job walk) = ap (planner.on_job text other) is in
+      let says : plan_said text other ≡ planner.planner_reply given (answer_of given.job walk) = ap (planner.on_job text other) is in
       let ended = ((promise given.job walk).says_0.0 (sym (ap (λ (t : Said). t.result) says) ∙ e)).1 in
       let b = best_answered given.job x.cost x.plan x.best walk ended in
       record {
@@ -82,20 +80,20 @@ module _ (text : List ℕ) (given : Given) (is : read_job_lem text ≡ accepted 
     abbrev Ending : PlannerAnswer → Type 0
     Ending a = Ends given.job (walk_number_lem walk) a
 
-    zero : (a : PlannerAnswer) → Ending a → result_of a ≡ 0 → PrintsBest text given (said_for given a)
+    zero : (a : PlannerAnswer) → Ending a → result_of a ≡ 0 → PrintsBest text given (optimum_reply given a)
     zero no_plan_lem2 p e = absurd (omega arith)
     zero (cut_none n f) p e = absurd (omega arith)
     zero (cut n f c q) p e = absurd (omega arith)
-    zero (optimum n f c q) p e = record { cost = c; plan = q; best = p; prints = behind Any (line_of "result=" 0) c q (said_for given (optimum n f c q)) p refl; all = refl }
+    zero (optimum n f c q) p e = record { cost = c; plan = q; best = p; prints = behind Any (line_of "result=" 0) c q (optimum_reply given (optimum n f c q)) p refl; all = refl }
 
-    seven : (a : PlannerAnswer) → Ending a → result_of a ≡ 7 → CutShort text walk given (said_for given a)
+    seven : (a : PlannerAnswer) → Ending a → result_of a ≡ 7 → CutShort text walk given (optimum_reply given a)
     seven no_plan_lem2 p e = absurd (omega arith)
     seven (cut_none n f) p e = record { floor = f; in_hand = None; beyond = p.0; writes = record { none = p.1; all = refl } }
     seven (cut n f c q) p e = record {
       floor = f;
       in_hand = Some c;
       beyond = p.0;
-      writes = record { plan = q; in_hand = p.1; prints = behind (Walked given.job p.1.nodes) (floor_lines f) c q (said_for given (cut n f c q)) p.1.best refl };
+      writes = record { plan = q; in_hand = p.1; prints = behind (Walked given.job p.1.nodes) (floor_lines f) c q (optimum_reply given (cut n f c q)) p.1.best refl };
     }
     seven (optimum n f c q) p e = absurd (omega arith)
 
@@ -141,23 +139,15 @@ module _ (text : List ℕ) (walk room : ℕ) where
     job_fault = λ m. absurd (omega (arith, m));
   }
 
-  -- a short output says 8, whatever the answer
-  with_room : (s : Said) → (optimum_room ≤ room → OptimumPromise text walk room s) → OptimumPromise text walk room (lent optimum_room room s)
-  with_room s f = go (dec_lt room optimum_room)
-    where
-      go : Dec (room < optimum_room) → OptimumPromise text walk room (lent optimum_room room s)
-      go (yes h) = rw (lt-ltb room optimum_room h) (short h)
-      go (no n) = let h : optimum_room ≤ room = omega (arith, n) in rw (le-ltb room optimum_room h) (f h)
-
   module _ (n l : ℕ) (e : read_job_lem text ≡ refused n l) where
     k : JobFault n
     k = (fault text n l e).0
 
-    unread : {X : Type 0} → Reading text → X
+    unread : {X : Type 0} → JobReading text → X
     unread r = not_both r.is e
 
     pub promised_refused : OptimumPromise text walk room (lent optimum_room room (refusal 1 text n l))
-    promised_refused = with_room (refusal 1 text n l) (λ h. record {
+    promised_refused = with_room (OptimumPromise text walk room) optimum_room room (refusal 1 text n l) short (λ h. record {
       says_8 = (λ f. absurd (fault_else n 8 k (omega arith) (omega arith) f), λ f. absurd (omega arith));
       says_6 = (λ f. absurd (fault_else n 6 k (omega arith) (omega arith) f), λ r. unread r.1.0);
       says_0_or_7 = (λ f. ⊎_elim (λ z. absurd (omega (arith, fault_some n k, z))) (λ z. absurd (fault_else n 7 k (omega arith) (omega arith) z)) f, λ r. unread r.1.0);
@@ -171,21 +161,21 @@ module _ (text : List ℕ) (walk room : ℕ) where
     })
 
   module _ (g : Given) (eg : read_job_lem text ≡ accepted g) (a : PlannerAnswer) (ends : Ends g.job (walk_number_lem walk) a) where
-    abbrev here : Reading text
+    abbrev here : JobReading text
     here = record { given = g; is = eg }
 
     abbrev s : Said
-    s = said_for g a
+    s = optimum_reply g a
 
     -- what is said of this reading is said of any
-    any : (P : Given → Type 0) → P g → (r : Reading text) → P r.given
+    any : (P : Given → Type 0) → P g → (r : JobReading text) → P r.given
     any P p r = subst P (sym (one_value eg r.is)) p
 
-    moved : (P : Given → Type 0) (r : Reading text) → P r.given → P g
+    moved : (P : Given → Type 0) (r : JobReading text) → P r.given → P g
     moved P r p = subst P (one_value eg r.is) p
 
-    pub promised_read : OptimumPromise text walk room (lent optimum_room room (said_for g a))
-    promised_read = with_room s (λ h. record {
+    pub promised_read : OptimumPromise text walk room (lent optimum_room room (optimum_reply g a))
+    promised_read = with_room (OptimumPromise text walk room) optimum_room room s short (λ h. record {
       says_8 = (λ e. absurd (not_8 a e), λ e. absurd (omega arith));
       says_6 = (λ e. (h, (here, six text g eg walk a ends e)), λ r. none text g eg walk a ends (moved (λ x. HasPlan x.job → ⊥) r.1.0 r.1.1));
       says_0_or_7 = (λ e. (h, (here, planned text g eg walk a ends e)), λ r. number text g eg walk a ends (moved (λ x. HasPlan x.job) r.1.0 r.1.1));

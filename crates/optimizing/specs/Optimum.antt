@@ -19,15 +19,15 @@ optimum_lines given (cut nodes floor cost plan) = floor_lines floor ++ printed_l
 optimum_lines given (optimum nodes floor cost plan) = line_of "result=" 0 ++ printed_lines given cost plan
 
 -- what is handed over and written for an answer to a job text: its number, and its lines
-abbrev pub said_for : Given → PlannerAnswer → Said
-said_for given a = plainly (result_of a) (optimum_lines given a)
+abbrev pub optimum_reply : Given → PlannerAnswer → Said
+optimum_reply given a = plainly (result_of a) (optimum_lines given a)
 
 -- the numbers that are written can be printed
-abbrev pub Fits : PlannerAnswer → Type 0
-Fits no_plan_lem2 = Unit {0}
-Fits (cut_none nodes floor) = Printable floor
-Fits (cut nodes floor cost plan) = Printable floor × Printable cost
-Fits (optimum nodes floor cost plan) = Printable cost
+abbrev pub PrintableOptimum : PlannerAnswer → Type 0
+PrintableOptimum no_plan_lem2 = Unit {0}
+PrintableOptimum (cut_none nodes floor) = Printable floor
+PrintableOptimum (cut nodes floor cost plan) = Printable floor × Printable cost
+PrintableOptimum (optimum nodes floor cost plan) = Printable cost
 
 -- the room that the call's output must have, as the planner's
 abbrev pub optimum_room : ℕ

@@ -6,7 +6,7 @@ use Rattle.lines.specs.Parser.{refused}
 use Rattle.model.specs.Model.{Plan, HasPlan}
 use Rattle.model.specs.Promise.{BestPlan, Any}
 use Rattle.job_grammar.specs.Grammar.{Given, read_job_lem}
-use Rattle.job_grammar.specs.Reading.{Reading, job_in}
+use Rattle.job_grammar.specs.Reading.{JobReading, job_in}
 use Rattle.answers.specs.Said.{Said, Refuses, plainly, lent, Replied}
 use Rattle.answers.specs.declared.Answer.{Answer}
 use Rattle.plan_printing.specs.Printed.{printed_lines}
@@ -60,19 +60,19 @@ pub record OptimumPromise (text : List ℕ) (walk room : ℕ) (s : Said) : Type 
   -- 8: the output is shorter than 16,384 bytes
   pub says_8 : (s.result ≡ 8) ↔ (room < optimum_room)
   -- 6: exactly if the job is accepted and no plan keeps the lives
-  pub says_6 : (s.result ≡ 6) ↔ ((optimum_room ≤ room) × ((r : Reading text) × (HasPlan (job_in r) → ⊥)))
+  pub says_6 : (s.result ≡ 6) ↔ ((optimum_room ≤ room) × ((r : JobReading text) × (HasPlan (job_in r) → ⊥)))
   -- 0 or 7: exactly if the job is accepted and has a plan
-  pub says_0_or_7 : ((s.result ≡ 0) ⊎ (s.result ≡ 7)) ↔ ((optimum_room ≤ room) × ((r : Reading text) × HasPlan (job_in r)))
+  pub says_0_or_7 : ((s.result ≡ 0) ⊎ (s.result ≡ 7)) ↔ ((optimum_room ≤ room) × ((r : JobReading text) × HasPlan (job_in r)))
   -- of an accepted job no text and no line is at fault
-  pub no_fault : optimum_room ≤ room → Reading text → s ≡ plainly s.result s.bytes
+  pub no_fault : optimum_room ≤ room → JobReading text → s ≡ plainly s.result s.bytes
   -- what is written with them
   pub writes_6 : s.result ≡ 6 → s.bytes ≡ line_of "result=" 6
-  pub writes_0 : (r : Reading text) → s.result ≡ 0 → PrintsBest text r.given s
-  pub writes_7 : (r : Reading text) → s.result ≡ 7 → CutShort text walk r.given s
+  pub writes_0 : (r : JobReading text) → s.result ≡ 0 → PrintsBest text r.given s
+  pub writes_7 : (r : JobReading text) → s.result ≡ 7 → CutShort text walk r.given s
   -- at every walk number at which the planner says 0 it writes the same plan
   pub as_planner : s.result ≡ 0 → (other : ℕ) → (plan_said text other).result ≡ 0 → SameBehind s (plan_said text other)
   -- whatever else is an answer of 0 to the text, at any walk number, is the same bytes
-  pub same : (r : Reading text) → s.result ≡ 0 → (other : Said) → PrintsBest text r.given other → other.bytes ≡ s.bytes
+  pub same : (r : JobReading text) → s.result ≡ 0 → (other : Said) → PrintsBest text r.given other → other.bytes ≡ s.bytes
   -- a fault of the job text
   pub job_fault : optimum_room ≤ room → (number line : ℕ) → read_job_lem text ≡ refused number line → Refuses 1 text number line s
 

@@ -7,9 +7,9 @@ ghost use Rattle.model.specs.Promise.{PlannerAnswer};
 ghost use Rattle.jobs.specs.Views.{job_of, plan_for};
 ghost use Rattle.job_text.specs.Views.{given_in};
 ghost use Rattle.answers.specs.Said.{Replied};
-ghost use Rattle.findings.specs.Finding.{answer_in};
+ghost use Rattle.findings.specs.Finding.{found_answer};
 ghost use Rattle.optimum_search.specs.Ends.{Ends};
-ghost use Rattle.optimizing.specs.Optimum.{optimum_lines, said_for, Fits, optimum_room};
+ghost use Rattle.optimizing.specs.Optimum.{optimum_lines, optimum_reply, PrintableOptimum, optimum_room};
 ghost use Rattle.optimizing.specs.Promise.{Answered};
 
 use answers::{Answer, JOB, put_two, refuse, reply};
@@ -24,8 +24,8 @@ use planning::{ROOM, walk_number};
 
 // Puts the lines of a finding and of its plan: the floor only where a walk was cut.
 fn put_optimum(out: &mut Out, f: Finding, text: &AcceptedText, plan: &Plan)
-    requires { Fits (answer_in (plan_for text.now.job.job plan.now) f) × Room out.old (optimum_lines (given_in text.now) (answer_in (plan_for text.now.job.job plan.now) f)) }
-    ensures { Puts out.old (optimum_lines (given_in text.now) (answer_in (plan_for text.now.job.job plan.now) f)) out.new }
+    requires { PrintableOptimum (found_answer (plan_for text.now.job.job plan.now) f) × Room out.old (optimum_lines (given_in text.now) (found_answer (plan_for text.now.job.job plan.now) f)) }
+    ensures { Puts out.old (optimum_lines (given_in text.now) (found_answer (plan_for text.now.job.job plan.now) f)) out.new }
 {
     let number = number_of(f);
     match f {
@@ -44,8 +44,8 @@ fn put_optimum(out: &mut Out, f: Finding, text: &AcceptedText, plan: &Plan)
 
 // Answers the call by a finding, with its plan.
 fn answer(f: Finding, text: &AcceptedText, plan: &Plan, out: &mut [u8]) -> Answer
-    requires { Fits (answer_in (plan_for text.now.job.job plan.now) f) }
-    ensures { Replied optimum_room (said_for (given_in text.now) (answer_in (plan_for text.now.job.job plan.now) f)) out.old out.new result }
+    requires { PrintableOptimum (found_answer (plan_for text.now.job.job plan.now) f) }
+    ensures { Replied optimum_room (optimum_reply (given_in text.now) (found_answer (plan_for text.now.job.job plan.now) f)) out.old out.new result }
 {
     reply(
         number_of(f),
@@ -57,7 +57,7 @@ fn answer(f: Finding, text: &AcceptedText, plan: &Plan, out: &mut [u8]) -> Answe
 
 // Answers the call for an accepted job text: by the search of its job.
 fn search_text(text: &AcceptedText, walk: u32, out: &mut [u8]) -> Answer
-    ensures { (a : PlannerAnswer) × Ends (job_of text.now.job.job) walk a × Replied optimum_room (said_for (given_in text.now) a) out.old out.new result }
+    ensures { (a : PlannerAnswer) × Ends (job_of text.now.job.job) walk a × Replied optimum_room (optimum_reply (given_in text.now) a) out.old out.new result }
 {
     let found = search_optimum(&text.job, walk);
     let finding = finding_of(found.count, found.floor, found.cost, found.over);

@@ -10,7 +10,7 @@ use Rattle.lines.specs.Parser.{refused}
 use Rattle.lines.proofs.Outcomes.{one_fault, not_both}
 use Rattle.lines.proofs.Parsing.{text_long}
 use Rattle.job_grammar.specs.Grammar.{job_lines, meaning, read_job_lem}
-use Rattle.job_grammar.specs.Reading.{Reading}
+use Rattle.job_grammar.specs.Reading.{JobReading}
 use Rattle.answers.specs.Said.{Said, Refuses}
 use Rattle.optimizing.specs.Promise.{OptimumPromise}
 use Rattle.whole_input.specs.declared.Text.TheVariants.{Job}
@@ -21,7 +21,7 @@ refused_long : (s : List ℕ) → limit_of Job < length s → read_job_lem s ≡
 refused_long s h = ap meaning (sym (text_long (limit_of Job) job_lines s h))
 
 -- and so has no reading
-unread : {X : Type 0} (s : List ℕ) → limit_of Job < length s → Reading s → X
+unread : {X : Type 0} (s : List ℕ) → limit_of Job < length s → JobReading s → X
 unread s h r = not_both r.is (refused_long s h)
 
 -- a refusal of a text on line 0 is one of any text

@@ -7,6 +7,7 @@ use mathlib.Core.List.{[]}
 use mathlib.Core.Logic.{inl, inr}
 use native.Mathlib.Omega.{arith}
 use Rattle.std.specs.Prelude.{Option, None, Some}
+use Rattle.branch.specs.declared.Bound.{Bound}
 use Rattle.branch.specs.declared.Bound.TheVariants.{Missing, Sum}
 use Rattle.branch.proofs.Bounds.{sum_inj}
 use Rattle.model.specs.Model.{Job, HasPlan}
@@ -17,10 +18,11 @@ use Rattle.model.proofs.Promised.{promise}
 use Rattle.shares.specs.Certificate.{NoneUnder}
 use Rattle.lane_rows.specs.Layout.{inf}
 use Rattle.search.specs.declared.Found.{Found}
-use Rattle.search.specs.Found.{plan_found, said_by, said_at, said_in}
+use Rattle.search_state.specs.Answer.{answer_with}
+use Rattle.search.specs.Found.{plan_found, said_in}
 use Rattle.cutoffs.specs.Risen.{last_of}
 use Rattle.share_search.specs.Sought.{Longer}
-use Rattle.optimum_search.specs.Ends.{first_nodes, Looked, Beyond, Ends}
+use Rattle.optimum_search.specs.Ends.{first_nodes, LookedNodes, Beyond, Ends}
 
 module _ (job : Job) where
   -- no plan costs less than the bound of the first node
@@ -33,7 +35,7 @@ module _ (job : Job) where
 
   module _ (walk : ℕ) where
     -- all first nodes up to the walk number are looked at
-    all_looked : Looked walk walk
+    all_looked : LookedNodes walk walk
     all_looked = record { least = omega arith; most = omega arith }
 
     -- the planner's walk at the walk number is cut, where no plan costs less than the last cutoff
@@ -58,13 +60,17 @@ module _ (job : Job) where
     counted n m r is none = subst (Ends job walk) (sym is) (promised none (answer_of job walk) (promise job walk))
 
   module _ (n m : ℕ) (r : Found) (limit : ℕ) (is : said_in n m r ≡ answer_of job limit) (walk : ℕ) where
+    -- what it says by the floor, whether there are more nodes, and the cost of the plan, if one was found
+    abbrev said_by : Bound → Bool → Option ℕ → PlannerAnswer
+    said_by b o t = answer_with (plan_found n m r) r.count b o t
+
     -- what the counted walk says keeps the planner's promise
     p : Promise job limit (said_in n m r)
     p = subst (Promise job limit) (sym is) (promise job limit)
 
     -- where the first node has no bound there is no plan
     pub nothing : r.floor ≡ Missing → Ends job walk (said_in n m r)
-    nothing e = let q = ap (said_at n m r) e in subst (Ends job walk) (sym q) ((subst (Promise job limit) q p).says_6.0 refl)
+    nothing e = let q = ap (λ (b : Bound). said_by b r.over r.cost) e in subst (Ends job walk) (sym q) ((subst (Promise job limit) q p).says_6.0 refl)
 
     module _ (floor : ℕ) (e : r.floor ≡ Sum floor) where
       -- what a walk that is cut says
@@ -72,10 +78,10 @@ module _ (job : Job) where
       Begun = HasPlan job × (limit < whole_count job) × (bound_of job [] ≡ Sum floor)
 
       -- by whether there are more nodes
-      by : (o : Bool) → r.over ≡ o → said_in n m r ≡ said_by n m floor r o r.cost
-      by o f = ap (said_at n m r) e ∙ ap (λ (b : Bool). said_by n m floor r b r.cost) f
+      by : (o : Bool) → r.over ≡ o → said_in n m r ≡ said_by (Sum floor) o r.cost
+      by o f = ap (λ (b : Bound). said_by b r.over r.cost) e ∙ ap (λ (b : Bool). said_by (Sum floor) b r.cost) f
 
-      settled_by : (t : Option ℕ) → Promise job limit (said_by n m floor r false t) → Ends job walk (said_by n m floor r false t)
+      settled_by : (t : Option ℕ) → Promise job limit (said_by (Sum floor) false t) → Ends job walk (said_by (Sum floor) false t)
       settled_by None x = x.says_6.0 refl
       settled_by (Some c) x = x.plan_for_lem
 
@@ -83,7 +89,7 @@ module _ (job : Job) where
       pub settled : r.over ≡ false → Ends job walk (said_in n m r)
       settled f = let q = by false f in subst (Ends job walk) (sym q) (settled_by r.cost (subst (Promise job limit) q p))
 
-      floor_by : (t : Option ℕ) → Promise job limit (said_by n m floor r true t) → Begun
+      floor_by : (t : Option ℕ) → Promise job limit (said_by (Sum floor) true t) → Begun
       floor_by None x = let h = x.says_7.0 refl in (h.0, h.1, x.floor h.0)
       floor_by (Some c) x = let h = x.says_7.0 refl in (h.0, h.1, x.floor h.0)
 
@@ -95,7 +101,7 @@ module _ (job : Job) where
       pub begun : r.over ≡ true → NoneUnder job floor
       begun f = none_under floor (begun_is f).2
 
-      passed_by : (low : ℕ) → NoneUnder job low → (t : Option ℕ) → last_of t ≤ low → Promise job limit (said_by n m floor r true t) → NoneUnder job inf
+      passed_by : (low : ℕ) → NoneUnder job low → (t : Option ℕ) → last_of t ≤ low → Promise job limit (said_by (Sum floor) true t) → NoneUnder job inf
       passed_by low none None l x = λ q k. omega (arith, none q k, l)
       passed_by low none (Some c) l x =
           let b = x.plan_for_lem in
@@ -107,15 +113,15 @@ module _ (job : Job) where
 
       module _ (first : limit ≡ min walk first_nodes) where
         -- the first nodes up to the limit are looked at
-        looked : Looked walk limit
+        looked : LookedNodes walk limit
         looked = record { least = omega (arith, first); most = omega (arith, first) }
 
-        cut_by : (low : ℕ) (t : Option ℕ) → Beyond job walk low t → Promise job limit (said_by n m floor r true t) → Ends job walk (said_by n m low r true t)
+        cut_by : (low : ℕ) (t : Option ℕ) → Beyond job walk low t → Promise job limit (said_by (Sum floor) true t) → Ends job walk (said_by (Sum low) true t)
         cut_by low None b x = (b, record { nodes = limit; looked = looked; none = x.plan_for_lem })
         cut_by low (Some c) b x = (b, record { nodes = limit; looked = looked; best = x.plan_for_lem })
 
         -- with a higher floor, where a walk by shares is cut too
-        pub cut_short : (low : ℕ) → NoneUnder job low → floor ≤ low → Longer job r.cost walk low → r.over ≡ true → Ends job walk (said_by n m low r true r.cost)
+        pub cut_short : (low : ℕ) → NoneUnder job low → floor ≤ low → Longer job r.cost walk low → r.over ≡ true → Ends job walk (answer_with (plan_found n m r) r.count (Sum low) true r.cost)
         cut_short low none risen longer f =
             let b = begun_is f in
             cut_by low r.cost (record {

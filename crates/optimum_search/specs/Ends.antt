@@ -31,20 +31,20 @@ pub record Beyond (job : Job) (walk floor : ℕ) (in_hand : Option ℕ) : Type 0
   pub longer : Longer job in_hand walk floor ⊎ LongerCounted job walk
 
 -- the first nodes of the planner's walk that were looked at for a plan: no fewer than the first walk has, and no more than the walk number
-pub record Looked (walk nodes : ℕ) : Type 0 where
+pub record LookedNodes (walk nodes : ℕ) : Type 0 where
   pub least : min walk first_nodes ≤ nodes
   pub most : nodes ≤ walk
 
 -- a plan in hand: the best among these first nodes of the planner's walk, so it keeps every life and states its true cost
 pub record InHand (job : Job) (walk cost : ℕ) (plan : Plan) : Type 0 where
   pub nodes : ℕ
-  pub looked : Looked walk nodes
+  pub looked : LookedNodes walk nodes
   pub best : BestPlan job (Walked job nodes) cost plan
 
 -- no plan in hand: none is among these first nodes
 pub record NoneInHand (job : Job) (walk : ℕ) : Type 0 where
   pub nodes : ℕ
-  pub looked : Looked walk nodes
+  pub looked : LookedNodes walk nodes
   pub none : (q : Plan) → KeepsLives job q → Walked job nodes (decisions_of job q) → ⊥
 
 -- what is promised of an answer to a job at a walk number, case by case; the nodes are those of the counted walk that ended last, or none

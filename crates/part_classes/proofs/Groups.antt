@@ -1,7 +1,7 @@
 -- The classes of the parts: by one part more, in a class that is there or in a new one.
 use Prim.Native.Nat.{ℕ, zero, suc, ◌+◌, ◌*◌, ◌<◌, ◌≤◌}
 use mathlib.Core.Path.{◌≡◌, refl, sym, ap, subst, ◌∙◌}
-use mathlib.Core.Bool.{Bool, true, false, cond, ◌&&◌, beq}
+use mathlib.Core.Bool.{Bool, true, false, cond, ◌&&◌, beq, and-eq-true_iff}
 use mathlib.Core.List.{List}
 use native.Mathlib.Omega.{arith}
 use native.Mathlib.Decide.{ℕ_discrete}
@@ -14,7 +14,7 @@ use Rattle.std.specs.Bool.{Decides}
 use Rattle.std.specs.Cmp.{booleans_Decides}
 use Rattle.std.specs.List.{AllWithin, HoldsAt}
 use Rattle.std.specs.Prelude.{Option, Some, None, MatchOption}
-use Rattle.base.proofs.Bools.{there, none_at}
+use Rattle.base.proofs.Bools.{there, blank}
 use Rattle.part_classes.specs.declared.classes.Classes.{Classes}
 use Rattle.lane_rows.specs.Layout.{lane_count_lem}
 use Rattle.held_places.specs.Arrays.{need_stride, needs_at}
@@ -22,13 +22,6 @@ use Rattle.part_classes.specs.Led.{Led}
 use Rattle.part_classes.specs.Grouped.{need_at, same_needs_lem, first_from, class_at, put, Grouping, classes_of_lem, Grouped}
 
 -- ---- needs that are the same
-
-and-true : (x y : Bool) → (x && y) ≡ true → (x ≡ true) × (y ≡ true)
-and-true true y e = (refl, e)
-and-true false y e = (e, absurd (no e))
-  where
-    no : ◌≡◌ {A = Bool} false true → ⊥
-    no f = let z : ◌≡◌ {A = ℕ} 0 1 = ap (λ (b : Bool). cond b 1 0) f in omega arith
 
 module _ (nd : List Bool) (p q : ℕ) where
   -- parts with the same first b needs and the same need of holding part b have one need more in common
@@ -41,7 +34,7 @@ module _ (nd : List Bool) (p q : ℕ) where
   unfolding same_needs_lem
   all_same zero e i l = absurd (omega arith)
   all_same (suc h) e i l =
-      let both = and-true _ _ e in
+      let both = (and-eq-true_iff (same_needs_lem nd h p q) (beq (need_at nd p h) (need_at nd q h))).0 e in
       below_more (λ (x : ℕ). need_at nd p x ≡ need_at nd q x) h (all_same h both.0) ((booleans_Decides _ _).0 both.1) i (omega arith)
 
   same_all : (h : ℕ) → ((i : ℕ) → i < h → need_at nd p i ≡ need_at nd q i) → same_needs_lem nd h p q ≡ true
@@ -72,16 +65,6 @@ module _ (f : ℕ → Bool) where
       go : (t : Bool) → first_from f (suc i) k ≤ suc i + k → cond t i (first_from f (suc i) k) ≤ i + suc k
       go true r = omega arith
       go false r = omega (arith, r)
-
-  -- it is true of it
-  first_true : (i k : ℕ) → first_from f i k < i + k → f (first_from f i k) ≡ true
-  unfolding first_from
-  first_true i zero l = absurd (omega (arith, l))
-  first_true i (suc k) l = go (f i) refl l (first_true (suc i) k)
-    where
-      go : (t : Bool) → f i ≡ t → cond t i (first_from f (suc i) k) < i + suc k → (first_from f (suc i) k < suc i + k → f (first_from f (suc i) k) ≡ true) → f (cond t i (first_from f (suc i) k)) ≡ true
-      go true e m r = e
-      go false e m r = r (omega (arith, m))
 
   -- where there is none, it is true of none
   first_none : (i k : ℕ) → i + k ≤ first_from f i k → (d : ℕ) → i ≤ d → d < i + k → f d ≡ true → ⊥
@@ -181,7 +164,7 @@ module _ (nd : List Bool) (h : ℕ) where
         merged = λ p q l m e. absurd (omega arith);
         lead = λ c l. absurd (omega arith);
         own = λ c l. absurd (omega arith);
-        past = λ q l. none_at 16 q;
+        past = λ q l. blank 0 16 q;
         first = refl;
       }
 

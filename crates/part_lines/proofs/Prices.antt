@@ -1,11 +1,10 @@
 -- A part's prices, said and meant: behind a rule's lines no prices are listed (`ruled_read`), what is said of them means the prices of its rule, or those that are listed (`meant_said`), and so a part that is read means itself with these (`part_means`); parts of which none is changed yet (`changed_none`), and all as the generator does (`tabled`). By whether there is a rule.
 use Rattle.std.specs.Prelude.{Option, Some, None, Result, Ok, Err, is_some}
 use Rattle.std.specs.Option.{unwrap_or}
-use Prim.Native.Nat.{ℕ, ◌≤◌}
+use Prim.Native.Nat.{ℕ}
 use mathlib.Core.Path.{◌≡◌, refl, sym}
 use mathlib.Core.Bool.{Bool, true, false, cond}
 use mathlib.Core.List.{List, []}
-use native.Mathlib.Omega.{arith}
 use lib.ListN.{take}
 use Rattle.lines.specs.Parser.{◌>>=◌, times, chain, return}
 use Rattle.lines.specs.Reads.{Reads, seen}
@@ -38,11 +37,6 @@ ruled_read None n b a (Err e) h = put_into by_list (times n quote) b a (Err e) h
 ruled_read (Some r) n b a (Ok q) h = put_into (λ qs. by_rule_lem (rule_of r)) (times 0 quote) b a (Ok []) h
 ruled_read (Some r) n b a (Err e) h = put_into (λ qs. by_rule_lem (rule_of r)) (times 0 quote) b a (Err e) h
 
--- no more prices are listed than there are openings
-pub list_few : (b : Bool) (n most : ℕ) → n ≤ most → cond b 0 n ≤ most
-list_few true n most h = omega arith
-list_few false n most h = h
-
 -- lines of removal that are there or not, and what they say
 pub there_said : (o : Option Cover) (none : Cover) → cover_there (is_some o) (cover_of (unwrap_or o none)) ≡ cover_said o
 unfolding cover_there
@@ -74,10 +68,6 @@ part_means n r = bare_means n r.said r.part r.bare
 -- ---- parts that are changed one after the other: none yet, one more, and the generator's
 
 module _ (step : PartSaid → Part → Part → Type 0) where
-  -- none is changed yet
-  pub changed_none : {ss : List PartSaid} {ps : List Part} → Changed 0 step ss ps ps
-  changed_none = record { size = refl; done = λ q h. absurd (omega arith); rest = λ q h. refl }
-
   -- parts that are changed to the prices of their rules
   pub tabled : {m n : ℕ} {ss : List PartSaid} {ps qs : List Part} → ((s : PartSaid) (p r : Part) → step s p r → part_of_lem n r ≡ priced n s (part_of_lem n p)) → Changed m step ss ps qs → Tabled m n ss ps qs
   tabled means d = record { size = d.size; done = λ q l. means _ _ _ (d.done q l); rest = d.rest }

@@ -1,5 +1,5 @@
 -- The code's structs in the terms of the grammar.
-use Rattle.std.specs.Prelude.{ℕ, ◌≤◌, ◌<◌, ◌≡◌, Bool, true, false, List, [], ◌∷◌, length, get_or, Option, Some, None}
+use Rattle.std.specs.Prelude.{ℕ, ◌≤◌, ◌<◌, ◌≡◌, false, List, [], ◌∷◌, length, get_or, Option, Some, None}
 use Rattle.model.specs.Model as model
 use Rattle.jobs.specs.Views.{blank_part_lem, part_of_lem}
 use Rattle.jobs.specs.declared.Part.{Part}
@@ -18,11 +18,6 @@ use Rattle.part_lines.specs.declared.PriceLines.{PriceLines}
 -- what stands past the end of an array of what parts' lines say
 abbrev pub blank_said : PartSaid
 blank_said = record { covered = false; rule = None; lows = [] }
-
--- prices that stand in a list, or by a rule
-unfoldable pub prices_said : Bool → rule.Rule → List Quote → Prices
-prices_said true r qs = by_rule_lem r
-prices_said false r qs = by_list qs
 
 -- prices that stand by a rule, or in a list
 abbrev pub prices_told : Option Rule → List Quote → Prices

@@ -16,10 +16,11 @@ use Rattle.jobs.specs.declared.Changes.{Changes}
 use Rattle.base.proofs.Lists.{firsts_at}
 use Rattle.coming_out.specs.Rows.{place, Row, Rows, some, union, Removals}
 use Rattle.coming_out.proofs.Some.{some_same, out_some}
-use Rattle.coming_out.proofs.Rows.{blank, row-take}
+use Rattle.coming_out.proofs.Rows.{row-take}
 use Rattle.jobs.specs.Views.{blank_changes}
 use Rattle.plan_costs.specs.Dearest.{Cheap, dearest_stop}
 use Rattle.plan_costs.proofs.Sums.{sum_most}
+use Rattle.base.proofs.Bools.{blank}
 
 module _ (job : Job) (m n : ℕ) (changes : List Changes) where
   abbrev outs : List (List Bool)

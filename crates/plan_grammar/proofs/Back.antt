@@ -13,18 +13,19 @@ use lib.Dec.{eqb}
 use lib.ListN.{length, get_or}
 use Rattle.base.specs.Joined.{joined}
 use Rattle.base.specs.Each.{Chained, All}
-use Rattle.model.specs.Model.{Opening, Job, Plan}
+use Rattle.model.specs.Model.{Opening, Job, Plan, listed}
+use Rattle.model.specs.Windows.{open_at}
 use Rattle.model.specs.Verdict.{Shaped}
 use Rattle.jobs.specs.Valid.{ValidJob}
-use Rattle.plan_grammar.specs.Grammar.{Visit, any, among, is_opening_lem, visited, changed, table, openings_at, plan_of}
+use Rattle.plan_grammar.specs.Grammar.{Visit, any, visited, changed, table, openings_at, plan_of}
 use Rattle.base.specs.Chosen.{chosen}
 use Rattle.plan_grammar.specs.Rendering.{is_changed_lem, parts_at, step_at, visit_at, visits_of}
 use Rattle.base.proofs.Chosen.{chosen_front}
-use Rattle.plan_grammar.proofs.Lists.{any_append, any_index, table_at, table_is}
+use Rattle.plan_grammar.proofs.Lists.{any_append, any_index, table_at, table_is, listed_any}
 use Rattle.plan_grammar.proofs.Steps.{openings-table}
 use Rattle.plan_grammar.proofs.Valid.{ValidPart, ValidParts, ValidVisit, ValidVisits, step_of}
 use Rattle.plan_grammar.proofs.Shapes.{openings_at_lem, made_shaped}
-use Rattle.plan_grammar.proofs.Steps.{no_opening, step_is, step_rises}
+use Rattle.plan_grammar.proofs.Steps.{no_opening, step_is, open_any, step_rises}
 
 -- ---- a rising list is what the test for its members chooses
 
@@ -94,8 +95,8 @@ module _ {A : Type 0} (key : A → ℕ) where
 -- ---- the visits of the plan that visits make
 
 -- rising parts are what the test for them chooses
-parts_back : (m : ℕ) (test : ℕ → Bool) (ks : List ℕ) → ValidParts m ks → ((k : ℕ) → k < m → test k ≡ among ks (k + 1)) → chosen test (λ k. k + 1) m ≡ ks
-parts_back m test ks v t = chosen_is (λ (k : ℕ). k) m test (λ k. k + 1) 0 ks (λ i j h l. omega arith) (found 0 ks v) t
+parts_back : (m : ℕ) (test : ℕ → Bool) (ks : List ℕ) → ValidParts m ks → ((k : ℕ) → k < m → test k ≡ listed ks (k + 1)) → chosen test (λ k. k + 1) m ≡ ks
+parts_back m test ks v t = chosen_is (λ (k : ℕ). k) m test (λ k. k + 1) 0 ks (λ i j h l. omega arith) (found 0 ks v) (λ k l. t k l ∙ listed_any ks (k + 1))
   where
     found : (before : ℕ) (ks : List ℕ) → Chained (ValidPart m) (λ _ k. k) before ks → Chained (Found (λ (k : ℕ). k) (λ k. k + 1) m) (λ _ k. k) before ks
     found before [] c = tt
@@ -110,13 +111,13 @@ changed_none job before t k (v ∷ vs) h c =
 
 -- the parts changed at a visit's step are the visit's
 Own : List Visit → Visit → Type 0
-Own vs v = (k : ℕ) → changed vs k v.step ≡ among v.parts k
+Own vs v = (k : ℕ) → changed vs k v.step ≡ listed v.parts k
 
 own_visits : (job : Job) (before : ℕ) (vs : List Visit) → Chained (ValidVisit job) (λ _. step_of) before vs → All (Own vs) vs
 unfolding Own any
 own_visits job before [] c = tt
 own_visits job before (v ∷ vs) c = (
-  λ k. rw (any, eq-eqb v.step v.step refl, changed_none job v.step v.step k vs (omega arith) c.1) (or-false (among v.parts k)),
+  λ k. rw (any, eq-eqb v.step v.step refl, changed_none job v.step v.step k vs (omega arith) c.1) (or-false (listed v.parts k)),
   behind v.step vs vs (omega arith) c.1 (own_visits job v.step vs c.1),
 )
   where
@@ -126,9 +127,9 @@ own_visits job before (v ∷ vs) c = (
         (λ k. rw (any, ne_eqb v.step u.step (λ e. omega (arith, c.0.later))) (a.0 k), behind u.step us ws (omega (arith, c.0.later)) c.1 a.1)
 
 -- an opening at a step
-opening_at_lem : (job : Job) (t : ℕ) → is_opening_lem job t ≡ true → (i : ℕ) × (i < length job.openings) × (step_at job i ≡ t)
+opening_at_lem : (job : Job) (t : ℕ) → open_at job t ≡ true → (i : ℕ) × (i < length job.openings) × (step_at job i ≡ t)
 opening_at_lem job t e =
-    let r = any_index (λ (o : Opening). eqb o.step t) job.openings no_opening e in
+    let r = any_index (λ (o : Opening). eqb o.step t) job.openings no_opening (sym (open_any job.openings t) ∙ e) in
     (r.0, r.1, step_is job r.0 ∙ eqb-true _ t r.2)
 
 -- what the made plan says of opening i and part k + 1
@@ -212,9 +213,10 @@ module _ (job : Job) (ok : ValidJob job) (plan : Plan) (shape : Shaped job plan)
       ∙ and-true (get_or plan.stops i false)
 
   -- part k + 1 is among the parts changed there if the plan changes it
-  part_back : (i k : ℕ) → k < length job.parts → among (parts_at plan i) (k + 1) ≡ is_changed_lem plan i k
+  part_back : (i k : ℕ) → k < length job.parts → listed (parts_at plan i) (k + 1) ≡ is_changed_lem plan i k
   part_back i k h =
-      any_one (λ (j : ℕ). eqb j (k + 1)) (is_changed_lem plan i) (λ j. j + 1) (length plan.changes) k (omega (arith, shape.parts)) (λ j l d. ne_eqb (j + 1) (k + 1) (λ e. d (omega arith)))
+      listed_any (parts_at plan i) (k + 1)
+      ∙ any_one (λ (j : ℕ). eqb j (k + 1)) (is_changed_lem plan i) (λ j. j + 1) (length plan.changes) k (omega (arith, shape.parts)) (λ j l d. ne_eqb (j + 1) (k + 1) (λ e. d (omega arith)))
       ∙ ap (λ (b : Bool). is_changed_lem plan i k && b) (eq-eqb (k + 1) (k + 1) refl)
       ∙ and-true (is_changed_lem plan i k)
 
@@ -226,9 +228,9 @@ module _ (job : Job) (ok : ValidJob job) (plan : Plan) (shape : Shaped job plan)
   change_back : (i k : ℕ) → i < length job.openings → k < length job.parts → changed (visits_of job plan) (k + 1) (step_at job i) ≡ is_changed_lem plan i k
   unfolding visits_of
   change_back i k h l =
-      any_one (λ (v : Visit). eqb v.step (step_at job i) && among v.parts (k + 1)) (λ j. get_or plan.stops j false) (visit_at job plan) (length job.openings) i h
-      (λ j m d. ap (λ (b : Bool). b && among (parts_at plan j) (k + 1)) (step_differs i j h m d))
-      ∙ ap (λ (b : Bool). get_or plan.stops i false && b) (ap (λ (b : Bool). b && among (parts_at plan i) (k + 1)) (eq-eqb (step_at job i) (step_at job i) refl) ∙ part_back i k l)
+      any_one (λ (v : Visit). eqb v.step (step_at job i) && listed v.parts (k + 1)) (λ j. get_or plan.stops j false) (visit_at job plan) (length job.openings) i h
+      (λ j m d. ap (λ (b : Bool). b && listed (parts_at plan j) (k + 1)) (step_differs i j h m d))
+      ∙ ap (λ (b : Bool). get_or plan.stops i false && b) (ap (λ (b : Bool). b && listed (parts_at plan i) (k + 1)) (eq-eqb (step_at job i) (step_at job i) refl) ∙ part_back i k l)
       ∙ at_stop i k l (is_changed_lem plan i k) refl
 
   pub plan_back : plan_of job (visits_of job plan) ≡ plan

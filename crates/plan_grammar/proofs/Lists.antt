@@ -9,6 +9,7 @@ use lib.Dec.{eqb}
 use lib.ListN.{length, get_or, set, replicate, length-set, length-map, get_or-map}
 use lib.Seq.{get_or-set_same, get_or-set_other, ext_get_or}
 pub use Rattle.model.proofs.Lists.{table-length, table_at, table_same}
+use Rattle.model.specs.Model.{listed}
 use Rattle.plan_grammar.specs.Grammar.{any, table}
 
 -- ---- some element passes, or none does
@@ -20,12 +21,6 @@ module _ {A : Type 0} (test : A → Bool) where
   any_at [] d i h e = absurd (omega arith)
   any_at (x ∷ xs) d zero h e = rw (any, e)
   any_at (x ∷ xs) d (suc i) h e = rw (any, any_at xs d i (omega arith) e) (or-true (test x))
-
-  -- if nothing at any place passes a test, then nothing in the list does
-  pub any_none : (xs : List A) (d : A) → ((i : ℕ) → i < length xs → test (get_or xs i d) ≡ false) → any test xs ≡ false
-  unfolding any
-  any_none [] d h = refl
-  any_none (x ∷ xs) d h = rw (any, h 0 (omega arith)) (any_none xs d (λ i l. h (suc i) (omega arith)))
 
   -- where the first that passes stands
   pub any_index : (xs : List A) (d : A) → any test xs ≡ true → (i : ℕ) × (i < length xs) × (test (get_or xs i d) ≡ true)
@@ -47,6 +42,12 @@ module _ {A : Type 0} (test : A → Bool) where
   pub any_snoc : (xs : List A) (x : A) → any test (xs ++ x ∷ []) ≡ (any test xs || test x)
   unfolding any
   any_snoc xs x = any_append xs (x ∷ []) ∙ ap (λ (b : Bool). any test xs || b) (or-false (test x))
+
+-- a number is on a list if one of the list is that number
+pub listed_any : (ks : List ℕ) (k : ℕ) → listed ks k ≡ any (λ (j : ℕ). eqb j k) ks
+unfolding listed any
+listed_any [] k = refl
+listed_any (j ∷ ks) k = ap (λ (b : Bool). eqb j k || b) (listed_any ks k)
 
 -- ---- tables
 

@@ -14,16 +14,17 @@ use Rattle.lines.proofs.Parsing.{bind_good, rising_yes}
 use Rattle.base.specs.Each.{Chained}
 use Rattle.lines.proofs.Complete.{Complete, row_complete, checked_complete, chain_complete, text_complete}
 use Rattle.model.specs.Model.{Opening, Job, Plan}
+use Rattle.model.specs.Windows.{open_at}
 use Rattle.model.specs.Verdict.{Shaped}
 use Rattle.jobs.specs.Valid.{ValidJob}
-use Rattle.plan_grammar.specs.Grammar.{Visit, is_opening_lem, may_stop, part, parts, visit, visits, plan_of, plan_lines, max_bytes, read_plan_lem}
+use Rattle.plan_grammar.specs.Grammar.{Visit, may_stop, part, parts, visit, visits, plan_of, plan_lines, max_bytes, read_plan_lem}
 use Rattle.base.specs.Chosen.{chosen}
 use Rattle.plan_grammar.specs.Rendering.{visit_text, plan_text_lem, is_changed_lem, parts_at, step_at, visit_at, visits_of, plan_lines_of}
 use Rattle.plan_grammar.proofs.Lists.{any_at}
 use Rattle.plan_grammar.proofs.Nothing.{read_lines}
 use Rattle.base.proofs.Chosen.{chosen_few, chosen_front}
 use Rattle.plan_grammar.proofs.Valid.{ValidPart, ValidParts, ValidVisit, ValidVisits, step_of}
-use Rattle.plan_grammar.proofs.Steps.{no_opening, step_is, step_low, step_high, step_rises}
+use Rattle.plan_grammar.proofs.Steps.{no_opening, step_is, open_any, step_low, step_high, step_rises}
 use Rattle.plan_grammar.proofs.Lengths.{valid_short}
 use Rattle.plan_grammar.proofs.Back.{plan_back}
 
@@ -91,8 +92,9 @@ chosen_chained {A} P key (suc n) test f before rise low each =
     go true after skip = (each 0 before (omega arith) (low 0 (omega arith)), after)
     go false after skip = skip
 
-is_opening_lem2 : (job : Job) (i : ℕ) → i < length job.openings → is_opening_lem job (step_at job i) ≡ true
-is_opening_lem2 job i h = any_at (λ (o : Opening). eqb o.step (step_at job i)) job.openings no_opening i h (eq-eqb _ (step_at job i) (sym (step_is job i)))
+-- the job is open at the step of each of its openings
+step_open : (job : Job) (i : ℕ) → i < length job.openings → open_at job (step_at job i) ≡ true
+step_open job i h = open_any job.openings (step_at job i) ∙ any_at (λ (o : Opening). eqb o.step (step_at job i)) job.openings no_opening i h (eq-eqb _ (step_at job i) (sym (step_is job i)))
 
 -- the visits of a plan of a valid job's shape are valid visits
 pub visits_valid : (job : Job) → ValidJob job → (plan : Plan) → Shaped job plan → ValidVisits job (visits_of job plan)
@@ -102,7 +104,7 @@ visits_valid job ok plan shape = record {
   each = chosen_chained (ValidVisit job) step_of (length job.openings) stop (visit_at job plan) 0 (step_rises job ok) (step_low job ok) (λ i b h l. record {
     later = l;
     high = step_high job ok i h;
-    opening = is_opening_lem2 job i h;
+    opening = step_open job i h;
     few = omega (arith, ok.few_parts, shape.parts, chosen_few (is_changed_lem plan i) (λ (k : ℕ). k + 1) (length plan.changes));
     parts = parts i;
   });

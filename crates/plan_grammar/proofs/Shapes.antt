@@ -7,10 +7,10 @@ use native.Mathlib.Omega.{arith}
 use lib.Dec.{eqb}
 use lib.ListN.{length, get_or, length-map}
 use Rattle.lines.specs.Parser.{accepted}
-use Rattle.model.specs.Model.{Opening, Job}
+use Rattle.model.specs.Model.{Opening, Job, listed}
 use Rattle.model.specs.Verdict.{Shaped}
 use Rattle.base.proofs.Bools.{inside}
-use Rattle.plan_grammar.specs.Grammar.{Visit, Stated, any, among, visited, changed, table, openings_at, plan_of, read_plan_lem}
+use Rattle.plan_grammar.specs.Grammar.{Visit, Stated, any, visited, changed, table, openings_at, plan_of, read_plan_lem}
 use Rattle.plan_grammar.specs.Rendering.{step_at}
 use Rattle.plan_grammar.proofs.Lists.{table-length, table_at}
 use Rattle.plan_grammar.proofs.Steps.{openings-table}
@@ -53,7 +53,7 @@ made_shaped job vs = record {
         let f : get_or (row k) i false ≡ true = sym (ap (λ (r : List Bool). get_or r i false) (table_at row m k [] k<)) ∙ e in
         let i< : i < length job.openings = omega (arith, inside (row k) i f, length-map job.openings (λ (o : Opening). changed vs (k + 1) o.step)) in
         openings_at_lem job (visited vs) i i<
-        ∙ any_weaker (λ (v : Visit). eqb v.step (step_at job i) && among v.parts (k + 1)) (λ (v : Visit). eqb v.step (step_at job i)) (λ v g. ((and-eq-true_iff (eqb v.step (step_at job i)) (among v.parts (k + 1))).0 g).0) vs
+        ∙ any_weaker (λ (v : Visit). eqb v.step (step_at job i) && listed v.parts (k + 1)) (λ (v : Visit). eqb v.step (step_at job i)) (λ v g. ((and-eq-true_iff (eqb v.step (step_at job i)) (listed v.parts (k + 1))).0 g).0) vs
         (sym (openings_at_lem job (changed vs (k + 1)) i i<) ∙ f)
 
 -- the plan of an accepted text has the job's shape

@@ -1,18 +1,20 @@
--- The steps of a valid job's openings, by index: within their range, and rising.
+-- The steps of a job's openings, by index: those at which it is open, and of a valid job within their range, and rising.
 use Prim.Native.Nat.{ℕ, ◌≤◌, ◌<◌}
-use mathlib.Core.Path.{◌≡◌, sym, ap, ◌∙◌}
+use mathlib.Core.Path.{◌≡◌, refl, sym, ap, ◌∙◌}
+use mathlib.Core.List.{List, [], ◌∷◌}
 use native.Mathlib.Decide.{dec_lt}
 use native.Mathlib.Omega.{arith}
+use lib.Dec.{eqb}
 use lib.ListN.{length, get_or, length-map, get_or-eq_default, get_or-map}
-use Rattle.model.specs.Model.{Opening, Job}
+use Rattle.model.specs.Model.{Opening, Job, listed}
 use Rattle.model.specs.Windows.{steps_of}
 use Rattle.model.proofs.Positions.{rising_above, rising_rises}
 use Rattle.jobs.specs.Valid.{ValidOpening, ValidJob}
 use Rattle.base.proofs.Lists.{all_at}
 use Rattle.plan_grammar.specs.Rendering.{step_at}
-use Rattle.plan_grammar.specs.Grammar.{table, openings_at}
+use Rattle.plan_grammar.specs.Grammar.{any, table, openings_at}
 use Rattle.plan_grammar.proofs.Lists.{table_same, map-table}
-use mathlib.Core.Bool.{Bool}
+use mathlib.Core.Bool.{Bool, ◌||◌}
 
 -- what stands past the end of the openings
 abbrev pub no_opening : Opening
@@ -21,6 +23,12 @@ no_opening = record { step = 0; fee = 0 }
 -- the step of opening i is the step of the job's opening there, 0 past the end
 pub step_is : (job : Job) (i : ℕ) → step_at job i ≡ (get_or job.openings i no_opening).step
 step_is job i = get_or-map (λ (o : Opening). o.step) job.openings i no_opening
+
+-- a job is open at a step if some opening has it
+pub open_any : (os : List Opening) (step : ℕ) → listed (steps_of os) step ≡ any (λ (o : Opening). eqb o.step step) os
+unfolding listed any
+open_any [] step = refl
+open_any (o ∷ os) step = ap (λ (b : Bool). eqb o.step step || b) (open_any os step)
 
 module _ (job : Job) (v : ValidJob job) where
   -- the step of an opening of a valid job is at most 365

@@ -11,7 +11,8 @@ use Rattle.lines.specs.Parser.{row, checked, rising}
 use Rattle.lines.proofs.Sound.{Gives, row_gives, checked_gives}
 use Rattle.base.specs.Each.{Chained}
 use Rattle.model.specs.Model.{Job}
-use Rattle.plan_grammar.specs.Grammar.{Visit, Stated, is_opening_lem, may_stop, part, plan_of}
+use Rattle.model.specs.Windows.{open_at}
+use Rattle.plan_grammar.specs.Grammar.{Visit, Stated, may_stop, part, plan_of}
 
 -- "parts within a stop rise and exist": a part of m after the one before
 abbrev pub ValidPart : ℕ → ℕ → ℕ → Type 0
@@ -27,7 +28,7 @@ pub record ValidVisit (job : Job) (before : ℕ) (v : Visit) : Type 0 where
   pub later : before < v.step
   -- the stop's step is at most 365, the last that there can be
   pub high : v.step ≤ 365
-  pub opening : is_opening_lem job v.step ≡ true
+  pub opening : open_at job v.step ≡ true
   -- at most 16 parts are changed at the stop
   pub few : length v.parts ≤ 16
   -- the parts changed at the stop rise, and are parts of the job
@@ -70,8 +71,8 @@ part_gives m before s s' l l' k e =
     (ltb-true before k b.0, leb-true k m b.1)
 
 -- an accepted `stop` line has an opening's step up to 365, after the stop before
-pub stop_gives : (job : Job) (before : ℕ) → Gives (checked 9 (may_stop job before) (row "stop=" 1 365)) (λ t. (t ≤ 365) × (before < t) × (is_opening_lem job t ≡ true))
+pub stop_gives : (job : Job) (before : ℕ) → Gives (checked 9 (may_stop job before) (row "stop=" 1 365)) (λ t. (t ≤ 365) × (before < t) × (open_at job t ≡ true))
 stop_gives job before s s' l l' t e =
     let g = checked_gives 9 (may_stop job before) (row "stop=" 1 365) _ (row_gives _ 1 365) s s' l l' t e in
-    let b = (and-eq-true_iff (ltb before t) (is_opening_lem job t)).0 g.1 in
+    let b = (and-eq-true_iff (ltb before t) (open_at job t)).0 g.1 in
     (g.0.1, ltb-true before t b.0, b.1)

@@ -1,8 +1,9 @@
 -- X4. The plan's lines, read against a job: "`cost` 0..2000000000 [E7.10: "up to 4000000000"]; `stops` 0..64; for each, `stop` 1..365 and `count` 0..16, then that many `part` 1..16."
 use Rattle.std.specs.Prelude.{ℕ, ◌+◌, List, [], ◌∷◌, map, Bool, false, ◌&&◌, ◌||◌, length, ltb, eqb}
 use Rattle.lines.specs.Parser.{Parser, ◌>>=◌, return, row, checked, chain, rising, Outcome, accepted, read_text}
-use Rattle.model.specs.Model.{Opening, Job, Plan}
+use Rattle.model.specs.Model.{Opening, Job, Plan, listed}
 use Rattle.model.specs.Limits.{last_step, most_openings, most_parts, most_cost}
+use Rattle.model.specs.Windows.{open_at}
 pub use Rattle.model.specs.Model.{table}
 pub use Rattle.model.specs.Limits.{max_bytes}
 
@@ -21,19 +22,11 @@ unfoldable pub any : {A : Type 0} → (A → Bool) → List A → Bool
 any test [] = false
 any test (x ∷ xs) = test x || any test xs
 
--- a number is among others
-abbrev pub among : List ℕ → ℕ → Bool
-among ks k = any (λ (j : ℕ). eqb j k) ks
-
 -- ---- lines
-
--- a step has an opening
-abbrev pub is_opening_lem : Job → ℕ → Bool
-is_opening_lem job step = any (λ (o : Opening). eqb o.step step) job.openings
 
 -- X6, R9. "Stops rise and are openings", else number 9
 abbrev pub may_stop : Job → ℕ → ℕ → Bool
-may_stop job before step = ltb before step && is_opening_lem job step
+may_stop job before step = ltb before step && open_at job step
 
 -- X6, R9. "parts within a stop rise and exist", else number 9: a part of m after the one before
 unfoldable pub part : ℕ → ℕ → Parser ℕ
@@ -63,7 +56,7 @@ visited vs step = any (λ (v : Visit). eqb v.step step) vs
 
 -- part k is changed at the step
 abbrev pub changed : List Visit → ℕ → ℕ → Bool
-changed vs k step = any (λ (v : Visit). eqb v.step step && among v.parts k) vs
+changed vs k step = any (λ (v : Visit). eqb v.step step && listed v.parts k) vs
 
 -- a set of openings, by their steps
 abbrev pub openings_at : Job → (ℕ → Bool) → List Bool

@@ -71,10 +71,6 @@ module _ (job : Job) (to life : ℤ) where
     pub gaps : first_long_lem late (gaps_to job to life prev (select (drop i (positions job)) (drop i cs))) ≡ gaps_to job to life first (select (positions job) cs)
     pub last : last_of prev (select (drop i (positions job)) (drop i cs)) ≡ last_of first (select (positions job) cs)
 
-  -- before any opening no gap is too long so far, and the last change is the one before them all
-  pub follow_start : (cs : List Bool) (first : ℤ) → Follows cs first 0 first in_time_lem2
-  follow_start cs first = record { gaps = refl; last = refl }
-
   module _ (cs : List Bool) (first : ℤ) (i : ℕ) (prev : ℤ) (late : Gaps) (f : Follows cs first i prev late) where
     -- an opening without a change leaves the last change and the first long gap as they were
     pub follow_skip : get_or cs i false ≡ false → Follows cs first (i + 1) prev late

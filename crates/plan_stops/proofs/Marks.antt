@@ -8,22 +8,21 @@ use borrow.Author.Tests.{eq-eqb, ne_eqb}
 use lib.Dec.{eqb}
 use lib.ListN.{length, get_or, take, set, replicate, length-replicate, get_or-replicate}
 use lib.Seq.{take-set-lt}
-use Rattle.std.specs.List.{list_any}
-use Rattle.model.specs.Model.{Job}
+use Rattle.model.specs.Model.{Job, listed}
 use Rattle.model.specs.Model as model
-use Rattle.plan_grammar.specs.Grammar.{Visit, any, among, visited, changed, table, openings_at, plan_of}
+use Rattle.plan_grammar.specs.Grammar.{Visit, any, visited, changed, table, openings_at, plan_of}
 use Rattle.plan_grammar.specs.Rendering.{step_at}
 use Rattle.model.specs.Limits.{most_openings, most_parts}
 use Rattle.jobs.specs.declared.Job as code
-use Rattle.jobs.specs.declared.Opening.{Opening}
 use Rattle.jobs.specs.declared.Plan.{Plan}
-use Rattle.jobs.specs.Views.{opening_of, job_of, changes_of, model_plan, empty_plan, plan_for, blank_changes}
+use Rattle.jobs.specs.Views.{job_of, changes_of, model_plan, empty_plan, plan_for, blank_changes}
 use Rattle.jobs.proofs.Plans.{changes_at_lem}
 use Rattle.jobs.proofs.Jobs.{opening_count_lem2, part_count}
 use Rattle.plan_stops.specs.Marks.{with_step, with_parts, with_visit}
 use Rattle.jobs.specs.declared.Changes.{Changes}
 use Rattle.plan_grammar.proofs.Steps.{openings-table}
 use Rattle.plan_grammar.proofs.Lists.{any_snoc, table_at, table_same, table_is, table-set, map-set, map_constant}
+use Rattle.model.proofs.Lists.{listed_snoc}
 
 -- ---- a set of openings
 
@@ -48,22 +47,16 @@ step_twice job step s = table_same _ _ n (λ i l. ap (λ (b : Bool). b || hit i)
     hit : ℕ → Bool
     hit i = eqb step (step_at job i)
 
--- some opening of the struct is at a step where some opening of the model's job is
-pub any_opening : (step : ℕ) (os : List Opening) → list_any (λ (o : Opening). eqb o.step step) os ≡ any (λ (o : model.Opening). eqb o.step step) (map opening_of os)
-unfolding any
-any_opening step [] = refl
-any_opening step (o ∷ os) = ap (λ (b : Bool). eqb o.step step || b) (any_opening step os)
-
 -- ---- the changes
 
 module _ (job : Job) (step : ℕ) (sets : List (List Bool)) where
   -- the set of part k + 1 once the parts ks are marked
   abbrev set_of : List ℕ → ℕ → List Bool
-  set_of ks k = cond (among ks (k + 1)) (with_step job step (get_or sets k [])) (get_or sets k [])
+  set_of ks k = cond (listed ks (k + 1)) (with_step job step (get_or sets k [])) (get_or sets k [])
 
   -- where no parts are marked at the step, the parts' change sets stay as they are
   pub parts_none : length sets ≡ length job.parts → sets ≡ with_parts job step [] sets
-  unfolding with_parts any
+  unfolding with_parts listed
   parts_none e = table_is sets [] (set_of []) (length job.parts) e (λ i h. refl)
 
   -- part k marked too
@@ -76,19 +69,19 @@ module _ (job : Job) (step : ℕ) (sets : List (List Bool)) where
       again true s = step_twice job step s
       again false s = refl
 
-      named : among (ks ++ k ∷ []) (k - 1 + 1) ≡ true
-      named = any_snoc (λ (j : ℕ). eqb j (k - 1 + 1)) ks k ∙ ap (λ (b : Bool). among ks (k - 1 + 1) || b) (eq-eqb k (k - 1 + 1) (omega arith)) ∙ or-true (among ks (k - 1 + 1))
+      named : listed (ks ++ k ∷ []) (k - 1 + 1) ≡ true
+      named = listed_snoc ks k (k - 1 + 1) ∙ ap (λ (b : Bool). listed ks (k - 1 + 1) || b) (eq-eqb k (k - 1 + 1) (omega arith)) ∙ or-true (listed ks (k - 1 + 1))
 
       here : with_step job step (get_or (table (set_of ks) (length job.parts)) (k - 1) []) ≡ set_of (ks ++ k ∷ []) (k - 1)
       here =
           ap (with_step job step) (table_at (set_of ks) (length job.parts) (k - 1) [] (omega arith))
-          ∙ again (among ks (k - 1 + 1)) (get_or sets (k - 1) [])
+          ∙ again (listed ks (k - 1 + 1)) (get_or sets (k - 1) [])
           ∙ sym (ap (λ (b : Bool). cond b (with_step job step (get_or sets (k - 1) [])) (get_or sets (k - 1) [])) named)
 
       other : (i : ℕ) → (i ≡ k - 1 → ⊥) → set_of ks i ≡ set_of (ks ++ k ∷ []) i
       other i n =
           ap (λ (b : Bool). cond b (with_step job step (get_or sets i [])) (get_or sets i []))
-          (sym (any_snoc (λ (j : ℕ). eqb j (i + 1)) ks k ∙ ap (λ (b : Bool). among ks (i + 1) || b) (ne_eqb k (i + 1) (λ e. n (omega arith))) ∙ or-false (among ks (i + 1))))
+          (sym (listed_snoc ks k (i + 1) ∙ ap (λ (b : Bool). listed ks (i + 1) || b) (ne_eqb k (i + 1) (λ e. n (omega arith))) ∙ or-false (listed ks (i + 1))))
 
 -- ---- a visit
 
@@ -106,19 +99,19 @@ visit_more job vs v = λ i. record { stops = stops i; changes = changes i }
     row : ℕ → List Bool
     row k = openings_at job (changed vs (k + 1))
 
-    more : (k t : ℕ) → changed (vs ++ v ∷ []) (k + 1) t ≡ (changed vs (k + 1) t || (eqb v.step t && among v.parts (k + 1)))
-    more k t = any_snoc (λ (w : Visit). eqb w.step t && among w.parts (k + 1)) vs v
+    more : (k t : ℕ) → changed (vs ++ v ∷ []) (k + 1) t ≡ (changed vs (k + 1) t || (eqb v.step t && listed v.parts (k + 1)))
+    more k t = any_snoc (λ (w : Visit). eqb w.step t && listed w.parts (k + 1)) vs v
 
-    part : (k : ℕ) (b : Bool) → among v.parts (k + 1) ≡ b → cond b (with_step job v.step (row k)) (row k) ≡ openings_at job (changed (vs ++ v ∷ []) (k + 1))
+    part : (k : ℕ) (b : Bool) → listed v.parts (k + 1) ≡ b → cond b (with_step job v.step (row k)) (row k) ≡ openings_at job (changed (vs ++ v ∷ []) (k + 1))
     part k true e = step_more job v.step (changed vs (k + 1)) (changed (vs ++ v ∷ []) (k + 1)) (λ t. more k t ∙ ap (λ (b : Bool). changed vs (k + 1) t || b) (ap (λ (b : Bool). eqb v.step t && b) e ∙ and-true (eqb v.step t)))
     part k false e =
         openings-table job (changed vs (k + 1))
         ∙ table_same _ _ (length job.openings) (λ i h. let t = step_at job i in sym (more k t ∙ ap (λ (b : Bool). changed vs (k + 1) t || b) (ap (λ (b : Bool). eqb v.step t && b) e ∙ and-false (eqb v.step t)) ∙ or-false (changed vs (k + 1) t)))
         ∙ sym (openings-table job (changed (vs ++ v ∷ []) (k + 1)))
 
-    changes : table (λ k. cond (among v.parts (k + 1)) (with_step job v.step (get_or (table row m) k [])) (get_or (table row m) k [])) m
+    changes : table (λ k. cond (listed v.parts (k + 1)) (with_step job v.step (get_or (table row m) k [])) (get_or (table row m) k [])) m
         ≡ table (λ k. openings_at job (changed (vs ++ v ∷ []) (k + 1))) m
-    changes = table_same _ _ m (λ k h. ap (λ (s : List Bool). cond (among v.parts (k + 1)) (with_step job v.step s) s) (table_at row m k [] h) ∙ part k (among v.parts (k + 1)) refl)
+    changes = table_same _ _ m (λ k h. ap (λ (s : List Bool). cond (listed v.parts (k + 1)) (with_step job v.step s) s) (table_at row m k [] h) ∙ part k (listed v.parts (k + 1)) refl)
 
 -- no visit at all
 pub visit_none : (job : Job) (n m : ℕ) → length job.openings ≡ n → length job.parts ≡ m → empty_plan n m ≡ plan_of job []

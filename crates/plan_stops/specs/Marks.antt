@@ -3,11 +3,11 @@ use Rattle.std.specs.Prelude.{ℕ, ◌+◌, ◌≡◌, List, [], Bool, false, co
 use Rattle.lines.specs.Reads.{Reads, seen}
 use Rattle.lines.specs.declared.fault.Fault.{Fault}
 use Rattle.lines.specs.declared.rows.Lines.{Lines}
-use Rattle.model.specs.Model.{Plan}
+use Rattle.model.specs.Model.{Plan, listed}
 use Rattle.model.specs.Model as model
 use Rattle.jobs.specs.declared.Job.{Job}
 use Rattle.jobs.specs.Views.{job_of, changes_for, plan_for}
-use Rattle.plan_grammar.specs.Grammar.{Visit, among, table, parts, visit, visits, plan_of}
+use Rattle.plan_grammar.specs.Grammar.{Visit, table, parts, visit, visits, plan_of}
 use Rattle.plan_grammar.specs.Rendering.{step_at}
 use Rattle.jobs.specs.declared.Changes.{Changes}
 use Rattle.jobs.specs.declared.Plan as code
@@ -18,7 +18,7 @@ with_step job step set = table (λ i. get_or set i false || eqb step (step_at jo
 
 -- the changes, with those of the parts ks at a step
 unfoldable pub with_parts : model.Job → ℕ → List ℕ → List (List Bool) → List (List Bool)
-with_parts job step ks sets = table (λ k. cond (among ks (k + 1)) (with_step job step (get_or sets k [])) (get_or sets k [])) (length job.parts)
+with_parts job step ks sets = table (λ k. cond (listed ks (k + 1)) (with_step job step (get_or sets k [])) (get_or sets k [])) (length job.parts)
 
 -- a plan, with one visit more
 unfoldable pub with_visit : model.Job → Visit → Plan → Plan

@@ -3,7 +3,7 @@ ghost use Rattle.std.specs.Prelude.{◌≡◌, take};
 ghost use Rattle.lines.specs.Parser.{checked, row};
 ghost use Rattle.lines.specs.Reads.{Reads};
 ghost use Rattle.jobs.specs.Views.{job_of};
-ghost use Rattle.plan_grammar.specs.Grammar.{is_opening_lem, may_stop, parts, visit, visits};
+ghost use Rattle.plan_grammar.specs.Grammar.{may_stop, parts, visit, visits};
 ghost use Rattle.plan_stops.specs.Marks.{with_step, PartsRead, StopRead, StopsRead};
 ghost use Rattle.model.specs.Limits.{last_step};
 
@@ -11,15 +11,6 @@ use jobs::{Changes, Job, Opening, Plan};
 use lines::fault::{Fault, FaultKind};
 use lines::rows::Lines;
 use model::{OPENINGS, PARTS};
-
-// Whether a step is an opening of the job.
-fn is_opening(job: &Job, step: u32) -> bool
-    ensures { result ≡ is_opening_lem (job_of job.now) step }
-{
-    job.openings[..job.opening_count]
-        .iter()
-        .any(|o| o.step == step)
-}
 
 // A stop's step, which is after the step before and an opening: else fault 9.
 fn read_step(lines: &mut Lines, job: &Job, before: u32) -> Result<u32, Fault>
@@ -30,7 +21,7 @@ fn read_step(lines: &mut Lines, job: &Job, before: u32) -> Result<u32, Fault>
         Opening::MIN_STEP,
         Opening::MAX_STEP,
         FaultKind::Visit,
-        |step| before < step && is_opening(job, step),
+        |step| before < step && job.opens(step),
     )
 }
 

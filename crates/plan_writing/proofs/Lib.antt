@@ -1,3 +1,2 @@
--- How long a plan's lines can be (Lengths), and what a test counts (Counting).
-pub mod Counting
+-- How long a plan's lines can be.
 pub mod Lengths

@@ -3,7 +3,6 @@ use Prim.Native.Nat.{ℕ, ◌≤◌, ◌<◌}
 use mathlib.Core.Path.{◌≡◌, refl, sym, ap, ◌∙◌, subst}
 use mathlib.Core.List.{List, []}
 use native.Mathlib.Omega.{arith}
-use native.Mathlib.Decide.{dec_lt}
 use borrow.Author.Tests.{lt-ltb, le-ltb}
 use Rattle.lines.specs.Parser.{Outcome, accepted, refused}
 use Rattle.lines.proofs.Outcomes.{one_value, not_both}
@@ -15,12 +14,12 @@ use Rattle.model.proofs.Promised.{promise, any_walk}
 use Rattle.job_grammar.specs.Grammar.{Given, read_job_lem}
 use Rattle.job_grammar.proofs.Numbered.{JobFault, fault_some, fault_else, fault}
 use Rattle.answers.specs.Said.{plainly, lent}
-use Rattle.answers.proofs.Replies.{refuses}
+use Rattle.answers.proofs.Replies.{refuses, with_room}
 use Rattle.findings.proofs.Numbers.{not_8}
-use Rattle.planning.specs.Plan.{said_for, walk_number_lem, on_job, plan_said, plan_room}
+use Rattle.planning.specs.Plan.{planner_reply, walk_number_lem, on_job, plan_said, plan_room}
 use Rattle.planning.proofs.ReadBack.{prints}
-use Rattle.job_grammar.specs.Reading.{Reading}
-use Rattle.planning.specs.Promise.{Reports, PlanPromise}
+use Rattle.job_grammar.specs.Reading.{JobReading}
+use Rattle.planning.specs.Promise.{ReportsAnswer, PlanPromise}
 
 module _ (text : List ℕ) (walk room : ℕ) where
   short : room < plan_room → PlanPromise text walk room (plainly 8 [])
@@ -55,15 +54,15 @@ module _ (text : List ℕ) (walk room : ℕ) where
       k : JobFault n
       k = (fault text n l e).0
 
-      no : {X : Type 0} → Reading text → X
+      no : {X : Type 0} → JobReading text → X
       no r = not_both r.is e
 
   module _ (h : plan_room ≤ room) (g : Given) (eg : read_job_lem text ≡ accepted g) where
-    abbrev here : Reading text
+    abbrev here : JobReading text
     here = record { given = g; is = eg }
 
     -- any reading is this one
-    given_is : (r : Reading text) → r.given ≡ g
+    given_is : (r : JobReading text) → r.given ≡ g
     given_is r = one_value eg r.is
 
     abbrev answer : PlannerAnswer
@@ -72,17 +71,17 @@ module _ (text : List ℕ) (walk room : ℕ) where
     promises : model.Promise g.job (walk_number_lem walk) answer
     promises = promise g.job (walk_number_lem walk)
 
-    moved : (P : Given → Type 0) (r : Reading text) → P r.given → P g
+    moved : (P : Given → Type 0) (r : JobReading text) → P r.given → P g
     moved P r p = subst P (given_is r) p
 
     -- what is said at another walk number
-    at : (other : ℕ) → on_job text other (read_job_lem text) ≡ said_for g (answer_of g.job (walk_number_lem other))
+    at : (other : ℕ) → on_job text other (read_job_lem text) ≡ planner_reply g (answer_of g.job (walk_number_lem other))
     at other = ap (on_job text other) eg
 
     full : most_walk ≤ walk → walk_number_lem most_walk ≡ walk_number_lem walk
     full w = omega (arith, w)
 
-    read : PlanPromise text walk room (said_for g answer)
+    read : PlanPromise text walk room (planner_reply g answer)
     read = record {
       says_8 = (λ e. absurd (not_8 answer e), λ e. absurd (omega arith));
       says_6 = (λ e. (h, (here, promises.says_6.0 e)), λ r. promises.says_6.1 (moved (λ x. HasPlan x.job → ⊥) r.1.0 r.1.1));
@@ -94,10 +93,10 @@ module _ (text : List ℕ) (walk room : ℕ) where
         λ e. (h, (here, promises.says_0.0 e)),
         λ r. promises.says_0.1 (moved (λ x. HasPlan x.job × (whole_count x.job ≤ walk_number_lem walk)) r.1.0 r.1.1),
       );
-      answers = λ m r. subst (λ (x : Given). Reports text walk x (said_for g answer)) (sym (given_is r)) (record { answer = answer; promise = promises; says = refl; prints = prints text g eg (walk_number_lem walk) answer promises });
+      answers = λ m r. subst (λ (x : Given). ReportsAnswer text walk x (planner_reply g answer)) (sym (given_is r)) (record { answer = answer; promise = promises; says = refl; prints = prints text g eg (walk_number_lem walk) answer promises });
       job_fault = λ m n l e. not_both eg e;
-      any_walk = λ e other w. fits h other ∙ at other ∙ ap (said_for g) (any_walk g.job (walk_number_lem walk) (promises.says_0.0 e).1 (walk_number_lem other) (omega (arith, w)));
-      above = λ w. fits h most_walk ∙ at most_walk ∙ ap (λ (n : ℕ). said_for g (answer_of g.job n)) (full w);
+      any_walk = λ e other w. fits h other ∙ at other ∙ ap (planner_reply g) (any_walk g.job (walk_number_lem walk) (promises.says_0.0 e).1 (walk_number_lem other) (omega (arith, w)));
+      above = λ w. fits h most_walk ∙ at most_walk ∙ ap (λ (n : ℕ). planner_reply g (answer_of g.job n)) (full w);
     }
 
   on_job_lem : plan_room ≤ room → (x : Outcome Given) → read_job_lem text ≡ x → PlanPromise text walk room (on_job text walk x)
@@ -106,8 +105,4 @@ module _ (text : List ℕ) (walk room : ℕ) where
 
   pub promised : PlanPromise text walk room (lent plan_room room (plan_said text walk))
   unfolding plan_said
-  promised = go (dec_lt room plan_room)
-    where
-      go : Dec (room < plan_room) → PlanPromise text walk room (lent plan_room room (plan_said text walk))
-      go (yes h) = rw (lt-ltb room plan_room h) (short h)
-      go (no n) = let h : plan_room ≤ room = omega (arith, n) in rw (le-ltb room plan_room h) (on_job_lem h (read_job_lem text) refl)
+  promised = with_room (PlanPromise text walk room) plan_room room (plan_said text walk) short (λ h. on_job_lem h (read_job_lem text) refl)

@@ -19,8 +19,8 @@ use Rattle.plan_costs.proofs.Dearest.{cost_most}
 use Rattle.answers.specs.Said.{plainly}
 use Rattle.judging.specs.Judge.{cost_lines, judge_said}
 use Rattle.plan_printing.specs.Printed.{printed_lines}
-use Rattle.planning.specs.Plan.{planned_lines, said_for}
-use Rattle.planning.specs.Promise.{Prints}
+use Rattle.planning.specs.Plan.{planned_lines, planner_reply}
+use Rattle.planning.specs.Promise.{PrintsAnswer}
 
 -- for 0 (`Any`) and for 7 with a plan (`Walked`)
 
@@ -44,7 +44,7 @@ module _ (text : List ℕ) (given : Given) (is : read_job_lem text ≡ accepted 
 
 -- what is written for an answer that keeps the promise: behind `floor` its plan
 module _ (text : List ℕ) (given : Given) (is : read_job_lem text ≡ accepted given) (limit : ℕ) where
-  pub prints : (a : PlannerAnswer) → Promise given.job limit a → Prints text given (said_for given a) a
+  pub prints : (a : PlannerAnswer) → Promise given.job limit a → PrintsAnswer text given (planner_reply given a) a
   unfolding planned_lines printed_lines
   prints no_plan_lem2 p = tt
   prints (cut_none n f) p = refl

@@ -26,8 +26,8 @@ planner_lines given (cut nodes floor cost plan) = planned_lines 7 nodes floor gi
 planner_lines given (optimum nodes floor cost plan) = planned_lines 0 nodes floor given cost plan
 
 -- what is handed over and written for an answer to a job text: its number, and its lines
-abbrev pub said_for : Given → PlannerAnswer → Said
-said_for given a = plainly (result_of a) (planner_lines given a)
+abbrev pub planner_reply : Given → PlannerAnswer → Said
+planner_reply given a = plainly (result_of a) (planner_lines given a)
 
 -- E10. the walk number that the host gives with the call: "a number above 4000000000 counts as 4000000000"
 abbrev pub walk_number_lem : ℕ → ℕ
@@ -35,7 +35,7 @@ walk_number_lem walk = min walk most_walk
 
 -- by what the job text reads as: the answer at the walk number of the call, or the fault
 abbrev pub on_job : List ℕ → ℕ → Outcome Given → Said
-on_job text walk (accepted given) = said_for given (answer_of given.job (walk_number_lem walk))
+on_job text walk (accepted given) = planner_reply given (answer_of given.job (walk_number_lem walk))
 on_job text walk (refused number line) = refusal 1 text number line
 
 -- the planner's answer where there is room for it

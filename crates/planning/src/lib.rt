@@ -9,8 +9,8 @@ ghost use Rattle.model.specs.Promise.{answer_of};
 ghost use Rattle.jobs.specs.Views.{job_of, plan_for};
 ghost use Rattle.job_text.specs.Views.{given_in};
 ghost use Rattle.answers.specs.Said.{Printable, lent, Replied};
-ghost use Rattle.findings.specs.Finding.{answer_in, Fits};
-ghost use Rattle.planning.specs.Plan.{planned_lines, planner_lines, said_for, walk_number_lem, plan_said, plan_room};
+ghost use Rattle.findings.specs.Finding.{found_answer, PrintableAnswer};
+ghost use Rattle.planning.specs.Plan.{planned_lines, planner_lines, planner_reply, walk_number_lem, plan_said, plan_room};
 ghost use Rattle.planning.specs.Promise.{PlanPromise};
 
 use answers::{Answer, JOB, put_three, refuse, reply};
@@ -45,8 +45,8 @@ fn put_planned(
 
 // Puts the lines of a finding and of its plan.
 fn put_finding(out: &mut Out, f: Finding, text: &AcceptedText, plan: &Plan)
-    requires { Fits (answer_in (plan_for text.now.job.job plan.now) f) × Room out.old (planner_lines (given_in text.now) (answer_in (plan_for text.now.job.job plan.now) f)) }
-    ensures { Puts out.old (planner_lines (given_in text.now) (answer_in (plan_for text.now.job.job plan.now) f)) out.new }
+    requires { PrintableAnswer (found_answer (plan_for text.now.job.job plan.now) f) × Room out.old (planner_lines (given_in text.now) (found_answer (plan_for text.now.job.job plan.now) f)) }
+    ensures { Puts out.old (planner_lines (given_in text.now) (found_answer (plan_for text.now.job.job plan.now) f)) out.new }
 {
     let number = number_of(f);
     match f {
@@ -65,8 +65,8 @@ fn put_finding(out: &mut Out, f: Finding, text: &AcceptedText, plan: &Plan)
 
 // Answers the planner's call by a finding, with its plan.
 fn answer(f: Finding, text: &AcceptedText, plan: &Plan, out: &mut [u8]) -> Answer
-    requires { Fits (answer_in (plan_for text.now.job.job plan.now) f) }
-    ensures { Replied plan_room (said_for (given_in text.now) (answer_in (plan_for text.now.job.job plan.now) f)) out.old out.new result }
+    requires { PrintableAnswer (found_answer (plan_for text.now.job.job plan.now) f) }
+    ensures { Replied plan_room (planner_reply (given_in text.now) (found_answer (plan_for text.now.job.job plan.now) f)) out.old out.new result }
 {
     reply(
         number_of(f),
@@ -87,7 +87,7 @@ pub fn walk_number(walk: u64) -> u32
 // Answers the planner's call for an accepted job text: by the search of its job.
 fn plan_job(text: &AcceptedText, walk: u32, out: &mut [u8]) -> Answer
     requires { walk ≤ most_walk }
-    ensures { Replied plan_room (said_for (given_in text.now) (answer_of (job_of text.now.job.job) walk)) out.old out.new result }
+    ensures { Replied plan_room (planner_reply (given_in text.now) (answer_of (job_of text.now.job.job) walk)) out.old out.new result }
 {
     let found = search_job(&text.job, walk);
     let finding = finding_of(found.count, found.floor, found.cost, found.over);

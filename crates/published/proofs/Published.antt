@@ -11,7 +11,7 @@ use borrow.Author.Tests.{eqb-true, eq-eqb, ne_eqb, ltb-true, lt-ltb, leb-true, l
 use Rattle.model.specs.Model.{Opening, Part, Job, Plan, running, fee_of, prices_of_lem, removal_of_lem, out_at, sum, removals_of_lem, cost_of_lem, table, select, sum_at, KeepsLives}
 use Rattle.model.specs.Windows.{Rising, steps_of, at_step, In, Changed, Windows, Served, RunningWindows}
 use Rattle.model.specs.Verdict.{no_part, part_at, changes_at, KeptAt}
-use Rattle.published.specs.Published.{binary, occasion_cost, purchase_cost, dismounting_cost, z, x, y, objective, Variables, AtStops, Published, running_sum, PublishedRunning, Proper, Tied}
+use Rattle.published.specs.Published.{binary, occasion_cost, purchase_cost, dismounting_cost, z, x, y, objective, Variables, AtStops, Published, running_sum, PublishedRunning, ProperJob, Tied}
 use Rattle.base.proofs.Bools.{after_one, inside}
 use Rattle.model.proofs.Positions.{rising_above, rising_within}
 use Rattle.model.proofs.Offers.{sum_none as sum_none_at}
@@ -185,7 +185,7 @@ prices-sum (p ∷ ps) (c ∷ cs) = ap (λ (k : ℕ). sum_at p.prices c + k) (pri
 
 -- ---- a job
 
-module _ (job : Job) (proper : Proper job) (plan : Plan) where
+module _ (job : Job) (proper : ProperJob job) (plan : Plan) where
   abbrev T : ℕ
   T = job.horizon
 

@@ -6,7 +6,7 @@ use mathlib.Core.List.{[], ◌∷◌, map}
 use Prim.Native.Nat.{ℕ}
 use lib.ListN.{replicate}
 use Rattle.model.specs.Model.{Job, listed, table, holds_one, rounds, comes_out, holding, out_by, sum_at, sum, cost_of_lem, running, clock, within, last_within_lem, due_of_lem, select}
-use Rattle.published.specs.Tables.{row, table1, table2, table3, table4}
+use Rattle.published.specs.Tables.{component, table1, table2, table3, table4}
 use Rattle.model.specs.Verdict.{accepts, first_late, verdict_from, judged_of}
 
 -- what comes out with part 4, and the parts that are somebody's holder
@@ -39,7 +39,7 @@ judge_11690 = refl
 
 -- part 1 is behind part 2, which is behind part 3: all three come out for part 1, where S2's direct rule (12) asks only for part 2
 abbrev chain : Job
-chain = record { horizon = 6; idles = []; openings = []; parts = row 7 7 1 1 (2 ∷ []) ∷ row 7 7 1 1 (3 ∷ []) ∷ row 7 7 1 1 [] ∷ [] }
+chain = record { horizon = 6; idles = []; openings = []; parts = component 7 7 1 1 (2 ∷ []) ∷ component 7 7 1 1 (3 ∷ []) ∷ component 7 7 1 1 [] ∷ [] }
 
 chain_out : comes_out chain 0 ≡ true ∷ true ∷ true ∷ []
 unfolding comes_out rounds holds_one listed table
@@ -51,7 +51,7 @@ circle = record {
   horizon = 6;
   idles = [];
   openings = [];
-  parts = map (λ (h : ℕ). row 7 7 1 1 (h ∷ [])) (2 ∷ 3 ∷ 4 ∷ 5 ∷ 6 ∷ 7 ∷ 8 ∷ 9 ∷ 10 ∷ 11 ∷ 12 ∷ 13 ∷ 14 ∷ 15 ∷ 16 ∷ 1 ∷ []);
+  parts = map (λ (h : ℕ). component 7 7 1 1 (h ∷ [])) (2 ∷ 3 ∷ 4 ∷ 5 ∷ 6 ∷ 7 ∷ 8 ∷ 9 ∷ 10 ∷ 11 ∷ 12 ∷ 13 ∷ 14 ∷ 15 ∷ 16 ∷ 1 ∷ []);
 }
 
 circle_out : comes_out circle 5 ≡ replicate 16 true

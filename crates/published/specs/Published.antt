@@ -79,7 +79,7 @@ pub record PublishedRunning (job : Job) (plan : Plan) : Type 0 where
 -- ---- tied to it
 
 -- what is asked of the job
-pub record Proper (job : Job) : Type 0 where
+pub record ProperJob (job : Job) : Type 0 where
   -- "Openings rise and stay within the horizon", and so do idle steps
   pub openings : Rising 0 job.horizon (steps_of job.openings)
   pub idles : Rising 0 job.horizon job.idles

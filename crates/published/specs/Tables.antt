@@ -3,8 +3,8 @@ use Rattle.std.specs.Prelude.{Bool, List, [], ◌∷◌, ℕ, suc, replicate}
 use Rattle.model.specs.Model.{Part, Job, Plan, listed, table}
 
 -- a component: its price is the same at all fifty steps
-abbrev pub row : ℕ → ℕ → ℕ → ℕ → List ℕ → Part
-row life left removal price holders = record { life = life; left = left; removal = removal; holders = holders; prices = replicate 50 price }
+abbrev pub component : ℕ → ℕ → ℕ → ℕ → List ℕ → Part
+component life left removal price holders = record { life = life; left = left; removal = removal; holders = holders; prices = replicate 50 price }
 
 -- Table 1: "Lifetime, costs for each component (costs are the same for all time intervals) and dismounting requirements", where a stop costs d_t
 abbrev pub table1 : ℕ → Job
@@ -12,7 +12,7 @@ table1 fee = record {
   horizon = 50;
   idles = [];
   openings = table (λ k. record { step = suc k; fee = fee }) 50;
-  parts = row 7 2 20 80 [] ∷ row 10 5 45 185 [] ∷ row 16 11 40 160 (1 ∷ []) ∷ row 9 4 30 125 (2 ∷ 5 ∷ []) ∷ row 20 15 35 150 [] ∷ [];
+  parts = component 7 2 20 80 [] ∷ component 10 5 45 185 [] ∷ component 16 11 40 160 (1 ∷ []) ∷ component 9 4 30 125 (2 ∷ 5 ∷ []) ∷ component 20 15 35 150 [] ∷ [];
 }
 
 -- the steps of a list, as a set of openings

@@ -7,9 +7,6 @@ use native.Mathlib.Omega.{arith}
 use lib.ListN.{length, get_or, take, replicate, length-map, get_or-map}
 use lib.Seq.{take_at, get_or-take, length-take-le, ext_get_or}
 use lib.IntN.{ℤ, pos}
-use Rattle.std.specs.Prelude.{Option, None, Some}
-use Rattle.branch.specs.declared.Bound.{Bound}
-use Rattle.branch.specs.declared.Bound.TheVariants.{Missing, Sum}
 use Rattle.branch.specs.Search.{at_most}
 use Rattle.branch.specs.Label.{tree_of}
 use Rattle.model.specs.Model.{Opening, Part, Job, clock, last_change_lem}
@@ -17,19 +14,19 @@ use Rattle.model.specs.Limits.{most_openings}
 use Rattle.model.specs.LowerBound.{Offer, lower_than, change_at_lem, least_of_lem, offers, choice_of}
 use Rattle.model.specs.Unheld.{plain_part_choice, plain_bound, plain_plan, plain_answer}
 use Rattle.model.specs.Verdict.{no_part}
-use Rattle.model.specs.Promise.{cut, optimum}
-use Rattle.branch.specs.Planning.{answered, answered_at}
+use Rattle.branch.specs.Planning.{answered_at}
 use Rattle.base.proofs.Bools.{there}
 use Rattle.model.proofs.Offers.{offers-length}
 use Rattle.jobs.specs.declared.Plan as code
 use Rattle.search.specs.declared.Found.{Found}
 use Rattle.search_tables.specs.Arrays.{lane_part, sheet_of, JobArrays}
 use Rattle.search.specs.Plan.{choice_at, no_row, Chooses}
-use Rattle.search.specs.Found.{found_by_lem, stops_in, row_in, changes_in, limited_in, Finds, plan_found, said_by, said_at, said_in}
+use Rattle.search.specs.Found.{found_by_lem, stops_found, row_in, changes_in, limited_in, Finds, plan_found, said_in}
 use Rattle.search_tables.proofs.Sheets.{sheet_bound_lem}
 use Rattle.search_state.specs.State.{bits, found_as}
 use Rattle.walk.specs.State.{Solves}
 use Rattle.search_state.proofs.States.{bits-length}
+use Rattle.search_state.proofs.Answers.{answer_named}
 use Rattle.search_state.specs.declared.Solved.{Solved}
 
 -- the tie rule's changes have an entry for each opening that is offered
@@ -109,20 +106,12 @@ module _ (job : Job) (e : ℤ) (ss : List ℤ) (fs ls rs ps : List ℕ) (h : Job
 -- ---- so it is the model's answer
 
 module _ (job : Job) (limit : ℕ) (r : Found) (a : Finds job limit r) where
-  plan_is : plan_found (length job.openings) (length job.parts) r ≡ plain_plan job (stops_in (length job.openings) r)
-  plan_is = λ i. record { stops = stops_in (length job.openings) r; changes = a.changes i }
-
-  by : (floor : ℕ) (o : Bool) (t : Option ℕ) → said_by (length job.openings) (length job.parts) floor r o t ≡ answered (plain_plan job) floor r.count o (found_as (stops_in (length job.openings) r) t)
-  by floor true None = refl
-  by floor true (Some c) = ap (cut r.count floor c) plan_is
-  by floor false None = refl
-  by floor false (Some c) = ap (optimum r.count floor c) plan_is
-
-  at : (b : Bound) → said_at (length job.openings) (length job.parts) r b ≡ answered_at (plain_plan job) b (limited_in (length job.openings) r)
-  at Missing = refl
-  at (Sum floor) = by floor r.over r.cost
+  plan_is : plan_found (length job.openings) (length job.parts) r ≡ plain_plan job (stops_found (length job.openings) r)
+  plan_is = λ i. record { stops = stops_found (length job.openings) r; changes = a.changes i }
 
   -- what is found says the planner's answer for the walk over the openings alone
   pub said : said_in (length job.openings) (length job.parts) r ≡ plain_answer job limit
   unfolding plain_answer
-  said = at r.floor ∙ ap₂ (answered_at (plain_plan job)) a.floor a.walked
+  said =
+      answer_named (plain_plan job) (stops_found (length job.openings) r) (plan_found (length job.openings) (length job.parts) r) r.count r.over r.cost (λ c e. plan_is) r.floor
+      ∙ ap₂ (answered_at (plain_plan job)) a.floor a.walked

@@ -1,15 +1,14 @@
 -- What the search hands back, as the model has it.
-use Rattle.std.specs.Prelude.{ℕ, ◌≡◌, Bool, true, false, List, [], map, length, take, Option, None, Some}
-use Rattle.branch.specs.declared.Bound.{Bound}
-use Rattle.branch.specs.declared.Bound.TheVariants.{Missing, Sum}
+use Rattle.std.specs.Prelude.{ℕ, ◌≡◌, Bool, List, [], map, length, take}
 use Rattle.branch.specs.Search.{Incumbent, Limited, at_most}
 use Rattle.model.specs.Model.{Job, Part, Plan}
-use Rattle.model.specs.Promise.{PlannerAnswer, no_plan_lem2, cut_none, cut, optimum}
+use Rattle.model.specs.Promise.{PlannerAnswer}
 use Rattle.model.specs.Unheld.{plain_part_choice, plain_bound, plain_tree}
 use Rattle.jobs.specs.declared.Changes.{Changes}
 use Rattle.jobs.specs.declared.Plan as code
 use Rattle.search_state.specs.declared.Solved.{Solved}
 use Rattle.search_state.specs.State.{found_as}
+use Rattle.search_state.specs.Answer.{answer_with}
 use Rattle.search.specs.declared.Found.{Found}
 
 -- what a walk found, with this plan
@@ -17,8 +16,8 @@ abbrev pub found_by_lem : Solved → code.Plan → Found
 found_by_lem s p = record { count = s.count; over = s.over; cost = s.cost; floor = s.floor; plan = p }
 
 -- the stops, where there are n openings
-abbrev pub stops_in : ℕ → Found → List Bool
-stops_in n r = take n r.plan.stops
+abbrev pub stops_found : ℕ → Found → List Bool
+stops_found n r = take n r.plan.stops
 
 -- one part's changes
 abbrev pub row_in : ℕ → Changes → List Bool
@@ -30,7 +29,7 @@ changes_in n m r = map (row_in n) (take m r.plan.changes)
 
 -- the best full plan, if one was found: its name is its stops
 abbrev pub incumbent_in : ℕ → Found → Incumbent
-incumbent_in n r = found_as (stops_in n r) r.cost
+incumbent_in n r = found_as (stops_found n r) r.cost
 
 -- the walk's last state as the search has it
 abbrev pub limited_in : ℕ → Found → Limited
@@ -41,24 +40,12 @@ limited_in n r = record { count = r.count; over = r.over; incumbent = incumbent_
 pub record Finds (job : Job) (limit : ℕ) (r : Found) : Type 0 where
   pub walked : limited_in (length job.openings) r ≡ at_most limit (plain_tree job)
   pub floor : r.floor ≡ plain_bound job []
-  pub changes : changes_in (length job.openings) (length job.parts) r ≡ map (λ (part : Part). plain_part_choice job part (stops_in (length job.openings) r)) job.parts
+  pub changes : changes_in (length job.openings) (length job.parts) r ≡ map (λ (part : Part). plain_part_choice job part (stops_found (length job.openings) r)) job.parts
 
 -- the plan that the code holds
 abbrev pub plan_found : ℕ → ℕ → Found → Plan
-plan_found n m r = record { stops = stops_in n r; changes = changes_in n m r }
-
--- by whether there are more nodes than were walked, and the cost of the plan if one was found
-abbrev pub said_by : ℕ → ℕ → ℕ → Found → Bool → Option ℕ → PlannerAnswer
-said_by n m floor r true None = cut_none r.count floor
-said_by n m floor r true (Some c) = cut r.count floor c (plan_found n m r)
-said_by n m floor r false None = no_plan_lem2
-said_by n m floor r false (Some c) = optimum r.count floor c (plan_found n m r)
-
--- by the first node's bound: it is the floor, and where it is missing there is no plan
-abbrev pub said_at : ℕ → ℕ → Found → Bound → PlannerAnswer
-said_at n m r Missing = no_plan_lem2
-said_at n m r (Sum floor) = said_by n m floor r r.over r.cost
+plan_found n m r = record { stops = stops_found n r; changes = changes_in n m r }
 
 -- the planner's answer, read off what the code holds, where there are n openings and m parts
 abbrev pub said_in : ℕ → ℕ → Found → PlannerAnswer
-said_in n m r = said_at n m r r.floor
+said_in n m r = answer_with (plan_found n m r) r.count r.floor r.over r.cost

@@ -50,7 +50,8 @@ fn walked(job: &FlatJob<'_>, limit: u64, tab: &mut [u64; TABLE]) -> Solved
 {
     let mut t = [0; TABLES];
     let mut w = [0; STACK];
-    job.fill(tab, &mut t);
+    job.fill_rows(tab, &mut t);
+    job.put_terms(tab, &mut t);
     solve(&t, &mut w, limit)
 }
 

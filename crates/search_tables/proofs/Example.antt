@@ -1,7 +1,7 @@
 -- What the search asks of its caller can be met: the arrays of 01's one job entire hold it. By computation.
 use Prim.Native.Nat.{ℕ, zero, suc, ◌+◌, ◌-◌, ◌*◌, ◌≤◌, ◌<◌}
 use mathlib.Core.Path.{◌≡◌, refl, ap, ◌∙◌}
-use mathlib.Core.Bool.{Bool, true, false, ◌&&◌}
+use mathlib.Core.Bool.{Bool, true, ◌&&◌, and-eq-true_iff}
 use mathlib.Core.List.{List, [], ◌∷◌, ◌++◌}
 use native.Mathlib.Omega.{arith}
 use borrow.Author.Tests.{leb-true}
@@ -22,14 +22,10 @@ abbrev all_up_to : ℕ → List ℕ → Bool
 all_up_to b [] = true
 all_up_to b (x ∷ l) = leb x b && all_up_to b l
 
-both : (s t : Bool) → (s && t) ≡ true → (s ≡ true) × (t ≡ true)
-both true t e = (refl, e)
-both false t e = let z : ◌≡◌ {A = ℕ} 0 1 = cc in absurd (omega arith)
-
 all_up_to_lem : (b : ℕ) (l : List ℕ) → all_up_to b l ≡ true → (j : ℕ) → get_or l j 0 ≤ b
 all_up_to_lem b [] e j = omega arith
-all_up_to_lem b (x ∷ l) e zero = leb-true x b (both (leb x b) (all_up_to b l) e).0
-all_up_to_lem b (x ∷ l) e (suc j) = all_up_to_lem b l (both (leb x b) (all_up_to b l) e).1 j
+all_up_to_lem b (x ∷ l) e zero = leb-true x b ((and-eq-true_iff (leb x b) (all_up_to b l)).0 e).0
+all_up_to_lem b (x ∷ l) e (suc j) = all_up_to_lem b l ((and-eq-true_iff (leb x b) (all_up_to b l)).0 e).1 j
 
 -- a job of four openings and two parts
 abbrev pub job : Job

@@ -6,8 +6,8 @@ use mathlib.Core.List.{List, [], ◌∷◌}
 use native.Mathlib.Omega.{arith}
 use native.Mathlib.Decide.{dec_lt}
 use borrow.Author.Count.{below_more}
-use lib.ListN.{length, get_or, set, take, drop, replicate, length-set, length-replicate, length-drop, length-take, get_or-eq_default}
-use lib.Seq.{get_or-take, get_or-drop, get_or-set_same, get_or-set_other, length-take-le}
+use lib.ListN.{length, get_or, set, take, drop, replicate, length-set, length-drop, length-take, get_or-eq_default}
+use lib.Seq.{get_or-take, get_or-drop, get_or-set_same, get_or-set_other}
 use lib.IntN.{ℤ, pos, ◌-ℤ◌}
 use Rattle.branch.specs.declared.Bound.{Bound}
 use Rattle.branch.specs.declared.Bound.TheVariants.{Missing, Sum}
@@ -23,7 +23,7 @@ use Rattle.base.proofs.Bools.{after_one, there}
 use Rattle.least.proofs.Most.{AtMost, most_least}
 use Rattle.held_places.specs.Arrays.{price_stride, price_size, Timed}
 use Rattle.search_tables.specs.Arrays.{lane_value_lem, lane_part, column_of, columns_from, fours_of_lem, sheet_of, Arrays}
-use Rattle.search_tables.specs.Fill.{Triangle, own_of, reach_of, column, LaneFilled, Lanes, Terms}
+use Rattle.search_tables.specs.Fill.{Triangle, own_of, reach_of, column, LaneFilled, Lanes}
 use Rattle.lane_rows.specs.Layout.{lane_count_lem, mark_count, dear, lane_limit, inf, triangle, block_rows, price_row, lane_rows_lem, suffix_base, reach_base, place, row_place, price_place, fee_base, fee_place, count_place, fours_place, lanes_in, tables_size}
 use Rattle.lane_rows.specs.Sheet.{Column, no_column}
 use Rattle.lane_rows.specs.Tables.{Coded, Lane, Tables}
@@ -43,10 +43,6 @@ all_true zero m k = refl
 all_true (suc n) zero k = refl
 all_true (suc n) (suc m) zero = refl
 all_true (suc n) (suc m) (suc k) = all_true n m k
-
--- of m entries the first n are n, where n is at most m
-pub all_length : (n m : ℕ) → n ≤ m → length (take n (replicate m true)) ≡ n
-all_length n m h = length-take-le n (replicate m true) (omega (arith, length-replicate m true))
 
 -- flags that are all true are as good as no decisions
 pub offers_all : (ss : List ℤ) (ps : List ℕ) (fs : List Bool) → ((k : ℕ) → get_or fs k true ≡ true) → offers ss ps fs ≡ offers ss ps []
@@ -155,11 +151,10 @@ lane_both P l m e f q = go (dec_lt q (length l))
 pub past : (l : List ℕ) (q : ℕ) → 0 < length l → length l ≤ q → lane_value_lem l q ≡ lane_value_lem l 0
 past l q g k = get_or-eq_default l (get_or l 0 0) {n = q} k ∙ there l 0 0 (get_or l 0 0) g
 
--- as many lanes as the parts fill, the fees, the number of openings, how many fours there are, and the terms
-pub tables_filled : (e : ℤ) (ss : List ℤ) (fs ls rs ps t u v w z : List ℕ) (fours : ℕ) → fours ≡ fours_of_lem (length ls) → Arrays e ss fs ls rs ps → Lanes e ss ls rs ps t (fours * 4)
-    → FilledBy fee_place (λ (j : ℕ). get_or fs j 0) (length fs) t u → v ≡ set u count_place (length fs) → w ≡ set v fours_place fours
-    → Terms (sheet_of e ss fs ls rs ps) w z (length ls) → Tables (sheet_of e ss fs ls rs ps) z
-tables_filled e ss fs ls rs ps t u v w z fours is ar la a b f g =
+-- as many lanes as the parts fill, the fees, the number of openings and how many fours there are
+pub tables_filled : (e : ℤ) (ss : List ℤ) (fs ls rs ps t u v w : List ℕ) (fours : ℕ) → fours ≡ fours_of_lem (length ls) → Arrays e ss fs ls rs ps → Lanes e ss ls rs ps t (fours * 4)
+    → FilledBy fee_place (λ (j : ℕ). get_or fs j 0) (length fs) t u → v ≡ set u count_place (length fs) → w ≡ set v fours_place fours → Tables (sheet_of e ss fs ls rs ps) w
+tables_filled e ss fs ls rs ps t u v w fours is ar la a b f =
     record {
       size = long;
       few = ar.few;
@@ -168,8 +163,8 @@ tables_filled e ss fs ls rs ps t u v w z fours is ar la a b f g =
       narrow = omega (arith, wide, is, ar.lanes);
       paid = ar.paid;
       lanes = λ q h.
-          subst (λ (col : Column). Lane e ss col z q) (sym (column_is q h))
-          (lane_kept e ss (column_in ss ls rs ps q) t z q ar.few (λ y m. under (row_place y q) (omega (arith, wide, is, ar.lanes))) (la.right q (omega (arith, wide))));
+          subst (λ (col : Column). Lane e ss col w q) (sym (column_is q h))
+          (lane_kept e ss (column_in ss ls rs ps q) t w q ar.few (λ y m. under (row_place y q) (omega (arith, wide, is, ar.lanes))) (la.right q (omega (arith, wide))));
       fees = λ j h. let few = ar.few in last (fee_place j) (omega arith) ∙ counted (fee_place j) (omega arith) ∙ a.done j (omega (arith, ar.paid));
       fair = ar.fair;
       count = last count_place (omega arith) ∙ ap (λ (l : List ℕ). get_or l count_place 0) b ∙ get_or-set_same u count_place (length fs) 0 (omega (arith, a.size, la.size)) ∙ ar.paid;
@@ -185,7 +180,6 @@ tables_filled e ss fs ls rs ps t u v w z fours is ar la a b f g =
             first = ap (λ (col : Column). col.first) d ∙ (λ i. pos (y i) -ℤ pos (x i)) ∙ sym (ap (λ (col : Column). col.first) c);
           };
       climbs = λ q h. subst (λ (col : Column). Climbs e col.first ss) (sym (column_is q h)) (lane_climbs q);
-      terms = g.right;
     }
   where
     lane_climbs : (q : ℕ) → Climbs e (pos (lane_value_lem rs q) -ℤ pos (lane_value_lem ls q)) ss
@@ -194,23 +188,23 @@ tables_filled e ss fs ls rs ps t u v w z fours is ar la a b f g =
     long' : length v ≡ tables_size
     long' = ap length b ∙ length-set u count_place (length fs) ∙ a.size ∙ la.size
 
-    long : length z ≡ tables_size
-    long = g.size ∙ ap length f ∙ length-set v fours_place fours ∙ long'
+    long : length w ≡ tables_size
+    long = ap length f ∙ length-set v fours_place fours ∙ long'
 
-    wide : lanes_in z ≡ fours * 4
-    wide = ap (λ (k : ℕ). k * 4) (g.rest fours_place (omega arith)) ∙ ap (λ (l : List ℕ). get_or l fours_place 0 * 4) f ∙ ap (λ (k : ℕ). k * 4) (get_or-set_same v fours_place fours 0 (omega (arith, long')))
+    wide : lanes_in w ≡ fours * 4
+    wide = ap (λ (l : List ℕ). get_or l fours_place 0 * 4) f ∙ ap (λ (k : ℕ). k * 4) (get_or-set_same v fours_place fours 0 (omega (arith, long')))
 
-    column_is : (q : ℕ) → q < lanes_in z → get_or (columns_from (length ss) ls rs ps 0 (fours_of_lem (length ls) * 4)) q no_column ≡ column_in ss ls rs ps q
+    column_is : (q : ℕ) → q < lanes_in w → get_or (columns_from (length ss) ls rs ps 0 (fours_of_lem (length ls) * 4)) q no_column ≡ column_in ss ls rs ps q
     column_is q h = let y : 0 + q ≡ q = omega arith in columns_at (length ss) ls rs ps 0 (fours_of_lem (length ls) * 4) q (omega (arith, wide, is)) ∙ ap (column_in ss ls rs ps) y
 
     -- what stands before the number of fours, and before the number of openings
-    last : (x : ℕ) → x < fours_place → get_or z x 0 ≡ get_or v x 0
-    last x h = g.rest x (omega arith) ∙ ap (λ (l : List ℕ). get_or l x 0) f ∙ get_or-set_other v fours_place x fours 0 (λ e. omega (arith, e))
+    last : (x : ℕ) → x < fours_place → get_or w x 0 ≡ get_or v x 0
+    last x h = ap (λ (l : List ℕ). get_or l x 0) f ∙ get_or-set_other v fours_place x fours 0 (λ e. omega (arith, e))
 
     counted : (x : ℕ) → x < count_place → get_or v x 0 ≡ get_or u x 0
     counted x h = ap (λ (l : List ℕ). get_or l x 0) b ∙ get_or-set_other u count_place x (length fs) 0 (λ e. omega (arith, e))
 
-    under : (x : ℕ) → x < fee_base → get_or z x 0 ≡ get_or t x 0
+    under : (x : ℕ) → x < fee_base → get_or w x 0 ≡ get_or t x 0
     under x h = last x (omega arith) ∙ counted x (omega arith) ∙ a.rest x (λ y l e. omega (arith, e))
 
 -- ---- a lane's own prices

@@ -1,4 +1,4 @@
--- The terms, filled part by part, are the largest over the parts: each part's own table raises them.
+-- The terms, filled part by part, are the largest over the parts: each part's own table raises them, and the rows of the tables stay.
 use Prim.Native.Nat.{ℕ, ◌+◌, ◌-◌, ◌*◌, ◌≤◌, ◌<◌, min, max}
 use mathlib.Core.Path.{◌≡◌, refl, sym, ap, subst, ◌∙◌}
 use mathlib.Core.Bool.{Bool, true}
@@ -14,13 +14,13 @@ use Rattle.base.specs.Filled.{FilledBy}
 use Rattle.model.specs.LastYes.{mark_in}
 use Rattle.least.specs.Suffix.{code_of, Suffixes}
 use Rattle.least.proofs.Most.{most_least}
-use Rattle.lane_rows.specs.Layout.{triangle, top, inf, term_base, term_place}
+use Rattle.lane_rows.specs.Layout.{row_place, triangle, top, inf, fee_place, count_place, fours_place, lanes_in, term_base, term_place}
 use Rattle.lane_rows.specs.Sheet.{Column, Sheet, no_column}
-use Rattle.lane_rows.specs.Tables.{Coded, fee_from}
+use Rattle.lane_rows.specs.Tables.{Coded, fee_from, Tables, FeeTerms}
 use Rattle.lane_rows.proofs.Lanes.{coded_larger}
 use Rattle.lane_rows.proofs.Rising.{row_below}
 use Rattle.search_tables.specs.Fill.{Triangle, own_of, Raised, Terms}
-use Rattle.search_tables.proofs.Filling.{coded, offers_all}
+use Rattle.search_tables.proofs.Filling.{coded, offers_all, lane_kept}
 
 -- a triangle that is raised, by other words for its places
 pub raised_as : (sheet : Sheet) (col : Column) {at to : ℕ → ℕ → ℕ} {t u : List ℕ} → ((j i : ℕ) → at j i ≡ to j i) → Raised sheet col at t u → Raised sheet col to t u
@@ -74,3 +74,31 @@ module _ (sheet : Sheet) (few : length sheet.positions ≤ 64) where
       one_more j i =
           ap (λ (xs : List Column). largest (fee_from sheet j i) xs []) (ap (λ (n : ℕ). take n sheet.columns) (add-one q) ∙ take-suc sheet.columns q no_column h)
           ∙ largest_snoc (fee_from sheet j i) (take q sheet.columns) (get_or sheet.columns q no_column) []
+
+-- ---- the tables with their terms
+
+-- the terms stand behind the rows of the tables, which stay; those over all parts are the sheet's
+pub tables_termed : (sheet : Sheet) (t t' : List ℕ) → Tables sheet t → Terms sheet t t' sheet.parts → (Tables sheet t') × FeeTerms sheet t'
+tables_termed sheet t t' ta s = (
+  record {
+    size = s.size ∙ ta.size;
+    few = ta.few;
+    wide = ta.wide ∙ sym same;
+    some = omega (arith, same, ta.some);
+    narrow = omega (arith, same, ta.narrow);
+    paid = ta.paid;
+    lanes = λ q h.
+        lane_kept sheet.end sheet.positions (get_or sheet.columns q no_column) t t' q ta.few (λ y m. s.rest (row_place y q) (omega (arith, same, h, ta.narrow))) (ta.lanes q (omega (arith, same, h)));
+    fees = λ j h. s.rest (fee_place j) (omega (arith, ta.few, h)) ∙ ta.fees j h;
+    fair = ta.fair;
+    count = s.rest count_place (omega arith) ∙ ta.count;
+    real = omega (arith, same, ta.real);
+    begun = ta.begun;
+    spare = λ q k h. ta.spare q k (omega (arith, same, h));
+    climbs = λ q h. ta.climbs q (omega (arith, same, h));
+  },
+  record { right = s.right },
+)
+  where
+    same : lanes_in t' ≡ lanes_in t
+    same = ap (λ (k : ℕ). k * 4) (s.rest fours_place (omega arith))

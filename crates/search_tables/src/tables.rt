@@ -180,8 +180,8 @@ impl<'a> FlatJob<'a> {
         }
     }
 
-    // The tables of the job in the arrays.
-    pub fn fill(&self, tab: &mut [u64], t: &mut [u32; TABLES])
+    // The rows of the tables of the job in the arrays: lanes, fees and counts. The terms are put by `put_terms`, for the walk without holders alone.
+    pub fn fill_rows(&self, tab: &mut [u64], t: &mut [u32; TABLES])
         requires { table_size ≤ length tab.old }
         ensures { Tables (sheet_in self.now) t.new }
     {
@@ -191,6 +191,5 @@ impl<'a> FlatJob<'a> {
         // Kept as `as`: the library has no `From` of a usize into a u32; both numbers are at most 64.
         t[COUNT] = self.fees.len() as u32;
         t[FOURS] = fours as u32;
-        self.put_terms(tab, t);
     }
 }

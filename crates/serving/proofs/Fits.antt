@@ -9,7 +9,7 @@ use Rattle.model.specs.Model.{Job, Plan, cost_of_lem}
 use Rattle.jobs.specs.Valid.{ValidJob}
 use Rattle.plan_costs.proofs.Dearest.{cost_most}
 use Rattle.latest.specs.Latest.{LatestAnswer, unserved, serves, latest_plan_of, each_served, latest_answer_of}
-use Rattle.serving.specs.Serving.{answer_in, Fits}
+use Rattle.serving.specs.Serving.{served_answer, PrintableServed}
 
 -- the cost that an answer states
 abbrev stated : LatestAnswer → ℕ
@@ -17,7 +17,7 @@ stated unserved = 0
 stated (serves cost plan) = cost
 
 -- what the code finds can be printed, where it is the model's answer for a valid job
-pub fits : (job : Job) → ValidJob job → (stops : List Bool) (plan : Plan) (s : Option ℕ) → answer_in plan s ≡ latest_answer_of job stops → Fits s
+pub fits : (job : Job) → ValidJob job → (stops : List Bool) (plan : Plan) (s : Option ℕ) → served_answer plan s ≡ latest_answer_of job stops → PrintableServed s
 unfolding latest_answer_of
 fits job ok stops plan None e = tt
 fits job ok stops plan (Some cost) e = omega (arith, ap stated e, small (each_served job stops job.parts))

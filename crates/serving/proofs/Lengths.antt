@@ -11,10 +11,10 @@ use Rattle.job_text.specs.declared.accepted.AcceptedText.{AcceptedText}
 use Rattle.job_text.specs.Views.{given_in}
 use Rattle.plan_printing.proofs.Lengths.{printed_short}
 use Rattle.serving.specs.Serve.{served_lines, latest_lines, latest_room}
-use Rattle.serving.specs.Serving.{answer_in, Fits}
+use Rattle.serving.specs.Serving.{served_answer, PrintableServed}
 
 -- the lines of an answer that can be printed fit the room that the call asks for
-pub lines_short : (s : Option ℕ) (t : AcceptedText) (p : Plan) → Fits s → length (latest_lines (given_in t) (answer_in (plan_for t.job.job p) s)) ≤ latest_room
+pub lines_short : (s : Option ℕ) (t : AcceptedText) (p : Plan) → PrintableServed s → length (latest_lines (given_in t) (served_answer (plan_for t.job.job p) s)) ≤ latest_room
 unfolding served_lines bytes
 lines_short None t p f = omega (arith, line_most (bytes "result=") 6)
 lines_short (Some c) t p f = rw length-append (omega (arith, line_most (bytes "result=") 0, printed_short t c p f))

@@ -9,7 +9,7 @@ use Rattle.plan_grammar.specs.Grammar.{Stated, read_plan_lem}
 use Rattle.plan_printing.specs.Printed.{printed_lines}
 use Rattle.answers.specs.Said.{Said, plainly}
 use Rattle.answers.specs.Texts.{on_text, on_texts}
-use Rattle.latest.specs.Latest.{LatestAnswer, unserved, serves, number_of, latest_answer_of}
+use Rattle.latest.specs.Latest.{LatestAnswer, unserved, serves, latest_number, latest_answer_of}
 
 -- E9.3. "`result` 0 and the plan lines", E11. with the cost at the low ends before them where the job text has a `low` line
 unfoldable pub served_lines : Given → ℕ → Plan → List ℕ
@@ -21,12 +21,12 @@ latest_lines given unserved = line_of "result=" 6
 latest_lines given (serves cost plan) = served_lines given cost plan
 
 -- what is handed over and written for an answer to a job text: its number, and its lines
-abbrev pub said_for : Given → LatestAnswer → Said
-said_for given a = plainly (number_of a) (latest_lines given a)
+abbrev pub latest_reply : Given → LatestAnswer → Said
+latest_reply given a = plainly (latest_number a) (latest_lines given a)
 
 -- what is said of an accepted job text and of the plan that is stated, "of which only the stops count"
 abbrev pub served : Given → Stated → Said
-served given stated = said_for given (latest_answer_of given.job stated.plan.stops)
+served given stated = latest_reply given (latest_answer_of given.job stated.plan.stops)
 
 -- once the job text is read: the plan text against it
 abbrev pub on_plan : List ℕ → Given → Outcome Stated → Said

@@ -5,11 +5,11 @@ use Rattle.answers.specs.Said.{Printable}
 use Rattle.latest.specs.Latest.{LatestAnswer, unserved, serves}
 
 -- as the model's answer, with this plan
-abbrev pub answer_in : Plan → Option ℕ → LatestAnswer
-answer_in plan None = unserved
-answer_in plan (Some cost) = serves cost plan
+abbrev pub served_answer : Plan → Option ℕ → LatestAnswer
+served_answer plan None = unserved
+served_answer plan (Some cost) = serves cost plan
 
 -- its cost can be printed
-abbrev pub Fits : Option ℕ → Type 0
-Fits None = Unit {0}
-Fits (Some cost) = Printable cost
+abbrev pub PrintableServed : Option ℕ → Type 0
+PrintableServed None = Unit {0}
+PrintableServed (Some cost) = Printable cost

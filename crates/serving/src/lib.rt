@@ -9,9 +9,9 @@ ghost use Rattle.jobs.specs.Views.{job_of, plan_for};
 ghost use Rattle.job_text.specs.Views.{given_in};
 ghost use Rattle.plan_grammar.specs.Grammar.{read_plan_lem};
 ghost use Rattle.answers.specs.Said.{lent, Replied};
-ghost use Rattle.latest.specs.Latest.{number_of, latest_plan_of, latest_answer_of};
-ghost use Rattle.serving.specs.Serve.{latest_lines, said_for, on_plan, latest_said, latest_room};
-ghost use Rattle.serving.specs.Serving.{answer_in, Fits};
+ghost use Rattle.latest.specs.Latest.{latest_number, latest_plan_of, latest_answer_of};
+ghost use Rattle.serving.specs.Serve.{latest_lines, latest_reply, on_plan, latest_said, latest_room};
+ghost use Rattle.serving.specs.Serving.{served_answer, PrintableServed};
 ghost use Rattle.serving.specs.Promise.{ServePromise};
 
 use answers::{Answer, JOB, PLAN, refuse, reply};
@@ -30,7 +30,7 @@ pub const ROOM: usize = 16384;
 
 // What the plan with the latest changes says of its stops: they serve if it keeps every part, and then its cost is there.
 fn serving_of(job: &Accepted, plan: &Plan) -> Option<u64>
-    ensures { (stops : List Bool) → plan_for job.now.job plan.now ≡ latest_plan_of (job_of job.now.job) stops → answer_in (plan_for job.now.job plan.now) result ≡ latest_answer_of (job_of job.now.job) stops }
+    ensures { (stops : List Bool) → plan_for job.now.job plan.now ≡ latest_plan_of (job_of job.now.job) stops → served_answer (plan_for job.now.job plan.now) result ≡ latest_answer_of (job_of job.now.job) stops }
 {
     verdict_of(job, plan).ok()?;
     Some(cost_of(job, plan))
@@ -38,7 +38,7 @@ fn serving_of(job: &Accepted, plan: &Plan) -> Option<u64>
 
 // The result number: 0 where the stops serve, else 6.
 fn number_of(s: Option<u64>) -> u32
-    ensures { (plan : model.Plan) → result ≡ number_of (answer_in plan s) }
+    ensures { (plan : model.Plan) → result ≡ latest_number (served_answer plan s) }
 {
     match s {
         Some(_) => 0,
@@ -48,8 +48,8 @@ fn number_of(s: Option<u64>) -> u32
 
 // Puts the lines of what is found and of its plan.
 fn put_serving(out: &mut Out, s: Option<u64>, text: &AcceptedText, plan: &Plan)
-    requires { Fits s × Room out.old (latest_lines (given_in text.now) (answer_in (plan_for text.now.job.job plan.now) s)) }
-    ensures { Puts out.old (latest_lines (given_in text.now) (answer_in (plan_for text.now.job.job plan.now) s)) out.new }
+    requires { PrintableServed s × Room out.old (latest_lines (given_in text.now) (served_answer (plan_for text.now.job.job plan.now) s)) }
+    ensures { Puts out.old (latest_lines (given_in text.now) (served_answer (plan_for text.now.job.job plan.now) s)) out.new }
 {
     let number = u64::from(number_of(s));
     match s {
@@ -63,8 +63,8 @@ fn put_serving(out: &mut Out, s: Option<u64>, text: &AcceptedText, plan: &Plan)
 
 // Answers the call by what is found, with its plan.
 fn answer(s: Option<u64>, text: &AcceptedText, plan: &Plan, out: &mut [u8]) -> Answer
-    requires { Fits s }
-    ensures { Replied latest_room (said_for (given_in text.now) (answer_in (plan_for text.now.job.job plan.now) s)) out.old out.new result }
+    requires { PrintableServed s }
+    ensures { Replied latest_room (latest_reply (given_in text.now) (served_answer (plan_for text.now.job.job plan.now) s)) out.old out.new result }
 {
     reply(
         number_of(s),
@@ -76,7 +76,7 @@ fn answer(s: Option<u64>, text: &AcceptedText, plan: &Plan, out: &mut [u8]) -> A
 
 // Answers the call for an accepted job text and a plan that is stated: only its stops count.
 fn serve(text: &AcceptedText, stated: &Plan, out: &mut [u8]) -> Answer
-    ensures { Replied latest_room (said_for (given_in text.now) (latest_answer_of (job_of text.now.job.job) (plan_for text.now.job.job stated.now).stops)) out.old out.new result }
+    ensures { Replied latest_room (latest_reply (given_in text.now) (latest_answer_of (job_of text.now.job.job) (plan_for text.now.job.job stated.now).stops)) out.old out.new result }
 {
     let plan = latest_plan(&text.job, stated.stops);
     answer(serving_of(&text.job, &plan), text, &plan, out)

@@ -8,7 +8,7 @@ use native.Mathlib.Omega.{arith}
 use native.Mathlib.Numerals.{add-one}
 use native.Mathlib.Decide.{ℕ_discrete}
 use lib.Dec.{ltb}
-use lib.ListN.{length, get_or, take, drop, length-append, length-map}
+use lib.ListN.{length, get_or, take, drop, length-append}
 use lib.IntN.{ℤ, pos}
 use borrow.Author.Tests.{lt-ltb, le-ltb, ltb-true, ltb-false}
 use Rattle.branch.specs.declared.Bound.{Bound}
@@ -16,7 +16,7 @@ use Rattle.branch.specs.declared.Bound.TheVariants.{Missing, Sum}
 use Rattle.branch.specs.Lower.{add}
 use Rattle.branch.proofs.Bounds.{no_sum_lem}
 use Rattle.branch.specs.Search.{plan, below, snoc}
-use Rattle.model.specs.Model.{Job, Opening, clock, within, positions, end, last_change_lem}
+use Rattle.model.specs.Model.{Job, within, positions, end, last_change_lem}
 use Rattle.model.specs.Decisions.{Held, held_parts, accessible, allows, places_in}
 use Rattle.model.specs.LowerBound.{Offer, plus, least_of_lem, offers}
 use Rattle.model.proofs.Blocks.{accessible_none}
@@ -43,6 +43,7 @@ use Rattle.share_rows.specs.Tables.{no_held, lane_at, column_of, Lanes, SharedTa
 use Rattle.share_rows.specs.Stacked.{Course, Idle, marks_of, decided_from, rows_of, row_most, Stacked, pays, stop_bound, TopRow}
 use Rattle.share_rows.proofs.Prices.{get_d_front, get_d_last, get_d_past, price_at, price_same}
 use Rattle.share_rows.proofs.Over.{least_over, least_reach, over_marks, reach_marks, joined_rows}
+use Rattle.model.proofs.Positions.{positions_size}
 
 -- ---- a lane's number with a share less
 
@@ -75,9 +76,6 @@ module _ (job : Job) (shares : Shares) (course : Course) where
   abbrev rows : List (List Bool) → ℕ → List Source
   rows bs q = rows_of job shares course bs q
 
-  positions-length : length (positions job) ≡ length job.openings
-  positions-length = length-map job.openings (λ (o : Opening). clock job o.step)
-
   -- ---- rows
 
   -- an opening with the block b, behind the blocks bs, as the part of lane q sees it
@@ -103,7 +101,7 @@ module _ (job : Job) (shares : Shares) (course : Course) where
       mid_offers l (k - l) ss ns (shared_prices job shares q held bs) p (places_in held bs)
       (λ j u. let e = get_d_front bs b j (omega arith) in (price_same job shares q held all bs j e, place_is held all j ∙ ap (allows held.needs) e ∙ sym (place_is held bs j))) in
       ap (λ (m : ℕ). rows_over life (take (m - l) (drop l (offers ss ns p))) src) z
-      ∙ rows_up life ss ns p l k src g (omega (arith, positions-length))
+      ∙ rows_up life ss ns p l k src g (omega (arith, positions_size job))
       ∙ (λ i. rows_with life (record { position = get_or ss k (pos 0); price = price i; allowed = place i }) (rows_over life (same i) src))
 
   -- ---- a lane
@@ -121,7 +119,7 @@ module _ (job : Job) (shares : Shares) (course : Course) where
         let free = rest_free job shares k q (part q) in
         let ds = decided_from job shares course bs q in
         let src = course.sources q (part q) in
-        least_over (end job) ss col t q (ta.lane q l) w k (row_most k) n (omega (arith, positions-length)) (omega (arith, positions-length, ta.few)) st.marks (λ i m. st.level i q m l)
+        least_over (end job) ss col t q (ta.lane q l) w k (row_most k) n (omega (arith, positions_size job)) (omega (arith, positions_size job, ta.few)) st.marks (λ i m. st.level i q m l)
         ∙ sym (over-solid life (end job) fr os)
         ∙ ap (λ (g : List Mark). over life (end job) g os) (st.fronts q l)
         ∙ over_marks life (end job) (rows bs q) os
@@ -156,8 +154,8 @@ module _ (job : Job) (shares : Shares) (course : Course) where
         omega (
           arith,
           (st.level k q l m).most,
-          coded_most (dear * (length ss - length bs)) (omega (arith, positions-length, ta.few)) (get_or t (place suffix_base (length bs) i q) 0) (least_of_lem col.life (end job) (mark_in col.first ss i) (drop (length bs) (offers ss col.prices [])))
-              ((ta.lane q m).suffix (length bs) i (st.marks k l) (omega (arith, positions-length))),
+          coded_most (dear * (length ss - length bs)) (omega (arith, positions_size job, ta.few)) (get_or t (place suffix_base (length bs) i q) 0) (least_of_lem col.life (end job) (mark_in col.first ss i) (drop (length bs) (offers ss col.prices [])))
+              ((ta.lane q m).suffix (length bs) i (st.marks k l) (omega (arith, positions_size job))),
         ))
 
     -- where the memo is right, the rows of a node may be looked at on its level
@@ -176,12 +174,12 @@ module _ (job : Job) (shares : Shares) (course : Course) where
                 arith,
                 (st.level k q l m).most,
                 cond_most (within col.life (mark_in col.first (positions job) (get_or w (mark_place k) 0)) (get_or (positions job) (length bs) (pos 0))),
-                (ta.lane q m).reach (length bs) (get_or w (mark_place k) 0) (st.marks k l) (omega (arith, positions-length)),
+                (ta.lane q m).reach (length bs) (get_or w (mark_place k) 0) (st.marks k l) (omega (arith, positions_size job)),
               ));
           size = ta.size;
           near = omega (arith, ta.few);
           few = omega (arith, st.few, ta.few);
-          cheap = λ q l. omega (arith, (ta.lane q l).price (length bs) (omega (arith, positions-length)), (ta.lane q l).cheap (length bs));
+          cheap = λ q l. omega (arith, (ta.lane q l).price (length bs) (omega (arith, positions_size job)), (ta.lane q l).cheap (length bs));
         }
 
     -- ---- a no
@@ -213,7 +211,7 @@ module _ (job : Job) (shares : Shares) (course : Course) where
           let la = ta.lane q l in
           let x = lane t w reach_base (length bs) q n in
           let y = get_or t (price_place (length bs) q) 0 in
-          let k : length bs < length ss = omega (arith, positions-length) in
+          let k : length bs < length ss = omega (arith, positions_size job) in
           let c = la.cheap (length bs) in
           let pr = la.price (length bs) k in
           let p = get_or ss (length bs) (pos 0) in

@@ -1,6 +1,6 @@
 -- A lane over rows that count as much as sources may: it is the least over its marks of what each counts and what is left after it, or the least that leads to an opening in time. And marks that are sources.
 use Prim.Native.Nat.{ℕ, zero, suc, ◌+◌, ◌-◌, ◌*◌, ◌≤◌, ◌<◌, min}
-use mathlib.Core.Path.{◌≡◌, refl, sym, ap, ap₂, ◌∙◌}
+use mathlib.Core.Path.{◌≡◌, refl, ap, ap₂, ◌∙◌}
 use mathlib.Core.Bool.{Bool, true, false, cond}
 use mathlib.Core.List.{List, [], ◌∷◌}
 use native.Mathlib.Omega.{arith}
@@ -13,7 +13,7 @@ use Rattle.branch.specs.declared.Bound.TheVariants.{Missing, Sum}
 use Rattle.branch.specs.Lower.{add}
 use Rattle.model.specs.Model.{within}
 use Rattle.model.specs.LowerBound.{Offer, plus, lower, least_of_lem, offers}
-use Rattle.model.proofs.Lower.{lower_comm}
+use Rattle.model.proofs.Lower.{lower_comm, add_plus}
 use Rattle.shares.specs.Sources.{Source, least_from}
 use Rattle.shares.specs.Rows.{in_time_lem, with_row, rows_with}
 use Rattle.model.specs.LastYes.{mark_in}
@@ -22,21 +22,10 @@ use Rattle.lane_rows.specs.Sheet.{Column, Mark, reach, solid_then, solid}
 use Rattle.lane_rows.specs.Tables.{value_of, Coded, Lane}
 use Rattle.lane_rows.specs.Rows.{lane, marks_in, Level}
 use Rattle.lane_rows.proofs.Front.{over}
-use Rattle.lane_rows.proofs.Lanes.{value_some, value_none, value_plus}
+use Rattle.lane_rows.proofs.Lanes.{value_some, value_none, value_plus, value_min}
 use Rattle.share_rows.specs.Stacked.{marks_of}
 
 -- ---- numbers
-
--- the lesser number stands for the lesser price
-value_lower : (a b : ℕ) → value_of (min a b) ≡ lower (value_of a) (value_of b)
-value_lower a b = go (ltb a inf) (ltb b inf) (ltb b a) refl refl refl
-  where
-    go : (x y z : Bool) → ltb a inf ≡ x → ltb b inf ≡ y → ltb b a ≡ z → value_of (min a b) ≡ lower (cond x (Sum a) Missing) (cond y (Sum b) Missing)
-    go true true true e f g = let m : min a b ≡ b = omega (arith, ltb-true b a g) in ap value_of m ∙ value_some b (ltb-true b inf f) ∙ sym (ap (λ (t : Bool). cond t (Sum b) (Sum a)) g)
-    go true true false e f g = let m : min a b ≡ a = omega (arith, ltb-false b a g) in ap value_of m ∙ value_some a (ltb-true a inf e) ∙ sym (ap (λ (t : Bool). cond t (Sum b) (Sum a)) g)
-    go true false z e f g = let m : min a b ≡ a = omega (arith, ltb-true a inf e, ltb-false b inf f) in ap value_of m ∙ value_some a (ltb-true a inf e)
-    go false true z e f g = let m : min a b ≡ b = omega (arith, ltb-false a inf e, ltb-true b inf f) in ap value_of m ∙ value_some b (ltb-true b inf f)
-    go false false z e f g = value_none (min a b) (omega (arith, ltb-false a inf e, ltb-false b inf f))
 
 -- a number that stands for a bound has its value, and is within the limit where it is a price
 pub coded_value : (b : ℕ) → b < inf → (n : ℕ) (e : Bound) → Coded b n e → (value_of n ≡ e) × (n < inf → n ≤ b)
@@ -57,7 +46,7 @@ module _ (end : ℤ) (ss : List ℤ) (col : Column) (t : List ℕ) (q : ℕ) (la
       let e = get_or t (place suffix_base j i q) 0 in
       let c = coded_value (dear * (length ss - j)) (omega arith) e (least_of_lem col.life end (mark_in col.first ss i) (drop j (offers ss col.prices []))) (la.suffix j i (m k (omega arith)) h) in
       let v = value_plus d e b (dear * (length ss - j)) s (l k (omega arith)).some c.1 in
-      value_lower (lane t w suffix_base j q k) (d + e) ∙ ap₂ lower (least_over k h s (λ i g. m i (omega arith)) (λ i g. l i (omega arith))) (v.0 ∙ ap (add (value_of d)) c.0)
+      value_min (lane t w suffix_base j q k) (d + e) ∙ ap₂ lower (least_over k h s (λ i g. m i (omega arith)) (λ i g. l i (omega arith))) (v.0 ∙ ap (add (value_of d)) c.0)
 
   -- over the table of reach: the least that leads to opening j in time, and where it is a price it is within the rows' limit
   pub least_reach : (n : ℕ) → j < length ss → ((k : ℕ) → k < n → get_or w (mark_place k) 0 ≤ j) → ((k : ℕ) → k < n → Level b (get_or w (row_place k q) 0))
@@ -70,7 +59,7 @@ module _ (end : ℤ) (ss : List ℤ) (col : Column) (t : List ℕ) (q : ℕ) (la
       let e = get_or t (place reach_base j i q) 0 in
       let r = least_reach k h (λ i g. m i (omega arith)) (λ i g. l i (omega arith)) in
       let v = one d e (within col.life (mark_in col.first ss i) (get_or ss j (pos 0))) (la.reach j i (m k (omega arith)) h) (l k (omega arith)) in
-      (value_lower (lane t w reach_base j q k) (d + e) ∙ ap₂ lower r.0 v.0, both (lane t w reach_base j q k) (d + e) r.1 v.1)
+      (value_min (lane t w reach_base j q k) (d + e) ∙ ap₂ lower r.0 v.0, both (lane t w reach_base j q k) (d + e) r.1 v.1)
     where
       one : (d e : ℕ) (a : Bool) → e ≡ cond a 0 inf → Level b d → (value_of (d + e) ≡ cond a (value_of d) Missing) × (d + e < inf → d + e ≤ b)
       one d e true f l = let z : d + e ≡ d = omega (arith, f) in (ap value_of z, λ g. omega (arith, l.some (omega (arith, f))))
@@ -84,10 +73,6 @@ module _ (end : ℤ) (ss : List ℤ) (col : Column) (t : List ℕ) (q : ℕ) (la
           go false e = omega (arith, ltb-false x y e, g (omega (arith, ltb-false x y e)))
 
 -- ---- marks that are sources
-
-add_plus : (c : ℕ) (x : Bound) → add (Sum c) x ≡ plus c x
-add_plus c Missing = refl
-add_plus c (Sum x) = refl
 
 -- the least over them, with these openings to follow
 pub over_marks : (life end : ℤ) (ss : List Source) (os : List Offer) → over life end (marks_of ss) os ≡ least_from (λ (m : ℤ). least_of_lem life end m os) ss

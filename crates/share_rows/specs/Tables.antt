@@ -9,7 +9,7 @@ use Rattle.model.specs.Verdict.{no_part}
 use Rattle.shares.specs.Shares.{Shares, things, takes, bears, shared_prices}
 use Rattle.shares.specs.Sources.{mark_of, rest_at}
 use Rattle.lane_rows.specs.Layout.{lane_count_lem, top, fee_place, count_place, lanes_in, tables_size}
-use Rattle.lane_rows.specs.Sheet.{Column, Sheet}
+use Rattle.lane_rows.specs.Sheet.{Column}
 use Rattle.lane_rows.specs.Tables.{Lane}
 use Rattle.share_rows.specs.Places.{bear_place, take_place, removal_place, holds_place, share_size}
 
@@ -24,10 +24,6 @@ lane_at lanes q = get_or lanes q no_held
 -- its column where these blocks are decided: it bears its prices and its shares of what is undecided
 abbrev pub column_of : Job → Shares → List (List Bool) → ℕ → Held → Column
 column_of job shares bs q held = record { life = pos held.part.life; first = last_change_lem held.part; prices = shared_prices job shares q held bs }
-
--- the job's positions, as the laws of rows have them
-abbrev pub sheet_for : Job → Sheet
-sheet_for job = record { end = end job; positions = positions job; fees = []; parts = 0; columns = [] }
 
 -- the lanes of a job: its parts, and past them parts that cost nothing, whatever is decided and after whichever change
 pub record Lanes (job : Job) (shares : Shares) (lanes : List Held) : Type 0 where

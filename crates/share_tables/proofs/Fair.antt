@@ -32,6 +32,7 @@ use Rattle.share_rows.specs.Tables.{lane_at}
 use Rattle.fair_shares.specs.Checked.{shares_in, row_start, room_of_lem, price_in, offer, cost_in_lem, keep, kept, Kept, taken, Marked}
 use Rattle.fair_shares.proofs.Rows.{offer_room}
 use Rattle.share_tables.specs.Prepared.{spare_held, lanes_of, Roomy}
+use Rattle.base.proofs.Bools.{cond_most}
 
 -- ---- sums
 
@@ -61,15 +62,11 @@ sum_range (suc n) from f = sum_by-cons f from (range_with_len (from + 1) n) ∙ 
 pub sum_most : (n from c : ℕ) (f : ℕ → ℕ) → ((m : ℕ) → f m ≤ c) → sum from n f ≤ n * c
 sum_most n from c f h = omega (arith, sum_mono n from f (λ (m : ℕ). c) (λ m a b. h m), sum_times n from c)
 
-bears_less : (b : Bool) (v : ℕ) → cond b v 0 ≤ v
-bears_less true v = omega arith
-bears_less false v = omega arith
-
 -- what the parts bear of a thing is at most the sum of its row
 borne_row : (x : List ℕ) (k m i : ℕ) (hs : List Held) → borne (shares_in x) k m i hs ≤ sum_from (λ (q : ℕ). get_or x (bear_place m k q) 0) i (length hs)
 unfolding borne sum_from
 borne_row x k m i [] = omega arith
-borne_row x k m i (held ∷ hs) = omega (arith, bears_less (get_or (takes held) m false) (get_or x (bear_place m k i) 0), borne_row x k m (suc i) hs)
+borne_row x k m i (held ∷ hs) = omega (arith, cond_most (get_or (takes held) m false) (get_or x (bear_place m k i) 0), borne_row x k m (suc i) hs)
 
 -- what is kept of a row is at most what it costs, and at most what is offered
 keep_sum : (cost : ℕ) (f : ℕ → ℕ) → sum_lanes lane_count_lem (keep cost f) ≤ cost
@@ -80,7 +77,7 @@ keep_sum cost f = go (leb (sum_lanes lane_count_lem f) cost) refl
     go false e = omega (arith, sum_zero lane_count_lem 0)
 
 keep_less : (cost : ℕ) (f : ℕ → ℕ) (q : ℕ) → keep cost f q ≤ f q
-keep_less cost f q = bears_less (leb (sum_lanes lane_count_lem f) cost) (f q)
+keep_less cost f q = cond_most (leb (sum_lanes lane_count_lem f) cost) (f q)
 
 -- ---- any table
 

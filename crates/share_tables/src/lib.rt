@@ -103,7 +103,7 @@ pub fn prepare(
         lefts: &first,
         prices: job.prices,
     };
-    wide.fill(tab, t);
+    wide.fill_rows(tab, t);
     let value = share(numbers, t, x);
     put_shared(job.prices, x, numbers.removals.len() + 1, &mut all);
     // Kept as a second literal: a field that is a reference can't be given one of another lifetime, and `..wide` is refused for a struct with ghost fields.
@@ -115,6 +115,6 @@ pub fn prepare(
         lefts: &first,
         prices: &all,
     };
-    shared.fill(tab, t);
+    shared.fill_rows(tab, t);
     value
 }

@@ -12,10 +12,10 @@ use Rattle.model.proofs.Sums.{sum_none, sum_same}
 use Rattle.shares.specs.Shares.{Shares, worth, charged_for}
 use Rattle.shares.specs.Lift.{Level}
 use Rattle.shares.specs.Dolls.{sourced_tree}
-use Rattle.shares.proofs.Lifted.{blocks_none}
 use Rattle.share_rows.specs.Stacked.{Course}
 use Rattle.share_walk.specs.declared.Node.{Node}
 use Rattle.share_walk.specs.State.{name_size, blocks_at, course_bound, tree_at, At, Ready}
+use Rattle.model.proofs.Blocks.{blocks_none}
 
 -- the first node of a walk from a level, where h removals are asked at each stop
 abbrev pub root_n : ℕ → ℕ → Node

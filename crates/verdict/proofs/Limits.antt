@@ -9,12 +9,12 @@ use Rattle.model.specs.Verdict.{Judgement, accepts, unkept, wrong_cost, Values, 
 use Rattle.model.proofs.Verdicts.{judge}
 use Rattle.model.proofs.Dues.{due_in_horizon}
 use Rattle.jobs.specs.Valid.{ValidJob}
-use Rattle.verdict.specs.Ranges.{Limited}
+use Rattle.verdict.specs.Ranges.{RangedJudgement}
 use Rattle.plan_costs.specs.Dearest.{dearest_plan}
 use Rattle.plan_costs.proofs.Dearest.{cost_most}
 
 module _ (job : Job) (few : length job.parts ≤ most_parts) (short : job.horizon ≤ last_step) (plan : Plan) (small : cost_of_lem job plan ≤ dearest_plan) where
-  limited : (j : Judgement) → Values job plan j → Limited j
+  limited : (j : Judgement) → Values job plan j → RangedJudgement j
   limited (accepts cost) v = omega (arith, v, small)
   limited (wrong_cost cost) v = omega (arith, v, small)
   limited (unkept part due) v =
@@ -22,9 +22,9 @@ module _ (job : Job) (few : length job.parts ≤ most_parts) (short : job.horizo
       (omega (arith, v.number), omega (arith, v.number, v.is_part, few), omega (arith, d, short))
 
   -- a judgement on a plan that is not too dear is limited
-  pub judged_within : (cost : ℕ) (j : Judgement) → j ≡ judged_of job cost plan → Limited j
-  judged_within cost j e = subst Limited (sym e) (limited (judged_of job cost plan) (judge job plan cost).values)
+  pub judged_within : (cost : ℕ) (j : Judgement) → j ≡ judged_of job cost plan → RangedJudgement j
+  judged_within cost j e = subst RangedJudgement (sym e) (limited (judged_of job cost plan) (judge job plan cost).values)
 
 -- what the judge says is limited
-pub judged_limited : (job : Job) → ValidJob job → (plan : Plan) (cost : ℕ) (j : Judgement) → j ≡ judged_of job cost plan → Limited j
+pub judged_limited : (job : Job) → ValidJob job → (plan : Plan) (cost : ℕ) (j : Judgement) → j ≡ judged_of job cost plan → RangedJudgement j
 judged_limited job valid plan = judged_within job valid.few_parts valid.horizon_high plan (cost_most job valid plan)

@@ -5,7 +5,7 @@ use Rattle.model.specs.Verdict.{Judgement, accepts, unkept, wrong_cost}
 use Rattle.plan_costs.specs.Dearest.{dearest_plan}
 
 -- each value is within its range
-abbrev pub Limited : Judgement → Type 0
-Limited (accepts cost) = cost ≤ dearest_plan
-Limited (unkept part due) = (1 ≤ part) × (part ≤ most_parts) × (due ≤ last_step)
-Limited (wrong_cost cost) = cost ≤ dearest_plan
+abbrev pub RangedJudgement : Judgement → Type 0
+RangedJudgement (accepts cost) = cost ≤ dearest_plan
+RangedJudgement (unkept part due) = (1 ≤ part) × (part ≤ most_parts) × (due ≤ last_step)
+RangedJudgement (wrong_cost cost) = cost ≤ dearest_plan

@@ -23,12 +23,12 @@ use Rattle.search_state.specs.declared.Search.{Search}
 use Rattle.walk.specs.declared.Node.{Node}
 use Rattle.lane_rows.specs.Layout.{top, dear, inf, suffix_base, reach_base, price_place, mark_place, fee_place, lanes_in, term_place}
 use Rattle.lane_rows.specs.Sheet.{Column, Sheet, column_bound, part_sums, fee_term, sheet_bound}
-use Rattle.lane_rows.specs.Tables.{sum_where, Tables}
+use Rattle.lane_rows.specs.Tables.{sum_where, Tables, FeeTerms}
 use Rattle.lane_rows.specs.Rows.{lane, sum_lanes, FirstRow, Rows, Stack, Memo, Looks, Recalled, term_at, sums_at, Put, Kept, next_row, Owing, Settled}
 use Rattle.search_state.specs.State.{bits, view, no_cost, counted_s, kept_s, reached_s, open_s}
 use Rattle.walk.specs.State.{decided, no_n, yes_n, Pending, ready, owed, At}
 use Rattle.lane_rows.proofs.Front.{column_yes}
-use Rattle.lane_rows.proofs.Terms.{last_most, first_by, below_by, own_by, node_term, sums_by}
+use Rattle.lane_rows.proofs.Terms.{last_most, first_by, below_by, own_by, term_coded, node_term, sums_by}
 use Rattle.lane_rows.proofs.Lanes.{node_there, node_rises, rows_no, rows_yes, rows_kept, rows_root, first_sums_lem, kept_refl, stack_no, stack_yes}
 use Rattle.lane_rows.proofs.Memory.{memo_root}
 use Rattle.search_state.proofs.Trees.{DueAt, closed, opened}
@@ -81,7 +81,8 @@ module _ (sheet : Sheet) (t w : List ℕ) (p : Node) (stop : Bool) (e : Bound) (
       let there : part_sums sheet (decided p) ≡ Sum x = sym a.sums ∙ g in
       subst (λ (i : ℕ). (fee_term sheet (decided p) ≡ Sum (get_or t (term_place p.at i) 0)) × (get_or t (term_place p.at i) 0 ≤ top * (length sheet.positions - p.at))) f
       (subst (λ (j : ℕ). (fee_term sheet (decided p) ≡ Sum (get_or t (term_place j (last_yes (decided p))) 0)) × (get_or t (term_place j (last_yes (decided p))) 0 ≤ top * (length sheet.positions - j))) z
-      (node_term sheet t a.tables (decided p) (last_yes (decided p)) l (last_most (decided p)) (own_by sheet t a.tables (decided p) x l there) x there))
+      (node_term sheet t a.tables (decided p) (get_or t (term_place (length (decided p)) (last_yes (decided p))) 0)
+      (term_coded sheet t a.terms (decided p) (last_yes (decided p)) l (last_most (decided p)) (own_by sheet t a.tables (decided p) x l there)) x there))
 
   -- a full node has no term
   pub bound_full : (x : ℕ) → e ≡ Sum x → p.at ≡ length sheet.positions → sheet_bound sheet (decided p) ≡ Sum (p.spent + x)
@@ -176,8 +177,10 @@ module _ (sheet : Sheet) (t w w' : List ℕ) (p : Node) (stop : Bool) (e : Bound
       let d = snoc (decided p) false in
       let n : p.at + 1 ≡ length d = sym (ap length (sym (bits_no p.at p.mask)) ∙ bits-length (p.at + 1) (p.mask * 2)) in
       let m = last_yes (decided p) in
+      let l : length d ≤ length sheet.positions = omega (arith, n) in
       (λ i. sum_where (get_or t (term_place (n i) (ro.last i)) 0) (sum_lanes (lanes_in t) (λ (q : ℕ). lane t w' suffix_base (n i) q r)))
-      ∙ sums_by sheet t a.tables d m (omega (arith, n)) (omega (arith, n, size, last_most (decided p))) (below_by sheet t a.tables (decided p) x less there) w' r (rows_no sheet t w' (decided p) r a.tables ro less)
+      ∙ sums_by sheet t a.tables d (get_or t (term_place (length d) m) 0) (term_coded sheet t a.terms d m l (omega (arith, n, size, last_most (decided p))) (below_by sheet t a.tables (decided p) x less there)) l w' r
+      (rows_no sheet t w' (decided p) r a.tables ro less)
 
   -- all that the walk is given at the no child, its part sums read from the rows of its parent
   pub at_no : (w'' : List ℕ) (b : Bound) → Recalled t w' w'' r → b ≡ sums_at t w' (p.at + 1) r → At sheet t w'' (no_n p r) false b
@@ -187,6 +190,7 @@ module _ (sheet : Sheet) (t w w' : List ℕ) (p : Node) (stop : Bool) (e : Bound
       let fee : length sheet.fees ≡ length sheet.positions = a.tables.paid in
       record {
         tables = a.tables;
+        terms = a.terms;
         inside = omega arith;
         mask = omega (arith, mask_next p.at p.mask a.mask);
         spent = a.spent ∙ sym (ap (sum_at sheet.fees) d ∙ sum_snoc sheet.fees (decided p) false (omega (arith, less)) ∙ add-zero (sum_at sheet.fees (decided p)));
@@ -208,6 +212,7 @@ module _ (sheet : Sheet) (t w w' : List ℕ) (p : Node) (stop : Bool) (e : Bound
       let cost : fee ≡ get_or sheet.fees (length (decided p)) 0 = g ∙ a.tables.fees p.at h ∙ ap (λ (j : ℕ). get_or sheet.fees j 0) (sym size) in
       record {
         tables = a.tables;
+        terms = a.terms;
         inside = omega arith;
         mask = mask_next p.at p.mask a.mask;
         spent = ap₂ (λ (m n : ℕ). m + n) a.spent cost ∙ sym (ap (sum_at sheet.fees) d ∙ sum_snoc sheet.fees (decided p) true (omega (arith, less)));
@@ -284,7 +289,7 @@ module _ (sheet : Sheet) (p : Node) (e : Bound) (due : ℕ) (d : Due sheet p e d
 
 -- ---- the first node
 
-module _ (sheet : Sheet) (t w : List ℕ) (ta : Tables sheet t) (fr : FirstRow w) where
+module _ (sheet : Sheet) (t w : List ℕ) (ta : Tables sheet t) (te : FeeTerms sheet t) (fr : FirstRow w) where
   -- all that the walk is given at the first node, with the part sums of the tables' first numbers
   pub root_given : (b : Bound) → b ≡ sum_where (get_or t (term_place 0 0) 0) (sum_lanes (lanes_in t) (λ (q : ℕ). get_or t q 0)) → At sheet t w (record { at = 0; rows = 1; spent = 0; mask = 0 }) false b
   unfolding bits
@@ -293,11 +298,12 @@ module _ (sheet : Sheet) (t w : List ℕ) (ta : Tables sheet t) (fr : FirstRow w
       let s = first_sums_lem sheet t ta w fr in
       record {
         tables = ta;
+        terms = te;
         inside = omega arith;
         mask = omega arith;
         spent = sym (fees_free sheet.fees);
         poor = omega arith;
-        sums = g ∙ ap (sum_where (get_or t (term_place 0 0) 0)) s ∙ sums_by sheet t ta [] 0 (omega arith) (omega arith) (first_by sheet t ta) w 1 ro;
+        sums = g ∙ ap (sum_where (get_or t (term_place 0 0) 0)) s ∙ sums_by sheet t ta [] (get_or t (term_place 0 0) 0) (term_coded sheet t te [] 0 (omega arith) (omega arith) (first_by sheet)) (omega arith) w 1 ro;
         low = λ y k. sums_low t w 0 1 y ta.narrow (sym s ∙ where_sum (get_or t (term_place 0 0) 0) (sum_lanes (lanes_in t) (λ (q : ℕ). get_or t q 0)) y (sym g ∙ k));
         memo = memo_root t w fr;
         rows = ready ro;

@@ -17,7 +17,7 @@ use Rattle.walk.specs.declared.Node.{Node}
 use Rattle.search_state.specs.declared.Search.{Search}
 use Rattle.lane_rows.specs.Layout.{lanes_in, term_place}
 use Rattle.lane_rows.specs.Sheet.{Sheet, sheet_bound}
-use Rattle.lane_rows.specs.Tables.{sum_where, Tables}
+use Rattle.lane_rows.specs.Tables.{sum_where, Tables, FeeTerms}
 use Rattle.lane_rows.specs.Rows.{sum_lanes, FirstRow}
 use Rattle.search_state.specs.State.{bits, no_cost, view, counted_s, reached_s, open_s, over_s, solved_s}
 use Rattle.walk.specs.State.{At, Solves}
@@ -38,13 +38,17 @@ fresh-view limit n =
     let z : min 0 limit ≡ 0 = omega arith in
     λ i. record { count = z i; over = le-ltb limit 0 (omega arith) i; incumbent = none }
 
-module _ (sheet : Sheet) (t w : List ℕ) (ta : Tables sheet t) (fr : FirstRow w) (b : Bound) (g : b ≡ sum_where (get_or t (term_place 0 0) 0) (sum_lanes (lanes_in t) (λ (q : ℕ). get_or t q 0))) (due : ℕ) (d : due ≡ get_or t (term_place 0 0) 0) where
+module _ (sheet : Sheet) (t w : List ℕ) (ta : Tables sheet t) (te : FeeTerms sheet t) (fr : FirstRow w) (due : ℕ) (d : due ≡ get_or t (term_place 0 0) 0) (b : Bound) (g : b ≡ sum_where due (sum_lanes (lanes_in t) (λ (q : ℕ). get_or t q 0))) where
+  -- its part sums, by the table's term
+  by_term : b ≡ sum_where (get_or t (term_place 0 0) 0) (sum_lanes (lanes_in t) (λ (q : ℕ). get_or t q 0))
+  by_term = g ∙ ap (λ (h : ℕ). sum_where h (sum_lanes (lanes_in t) (λ (q : ℕ). get_or t q 0))) d
+
   -- its term, and what is due with the part sums b
   pub root_due : Due sheet root b due
   unfolding bits last_yes
   root_due =
       let z : 0 + get_or t (term_place 0 0) 0 ≡ due = omega (arith, d) in
-      subst (Due sheet root b) z (due_at sheet t w root false b (root_given sheet t w ta fr b g) 0 refl)
+      subst (Due sheet root b) z (due_at sheet t w root false b (root_given sheet t w ta te fr b by_term) 0 refl)
 
   -- it fits with the part sums
   pub root_fits : (x : ℕ) → b ≡ Sum x → due + x < no_cost
@@ -76,7 +80,7 @@ module _ (sheet : Sheet) (t w : List ℕ) (ta : Tables sheet t) (fr : FirstRow w
 
     -- so the walk is given it
     pub root_child : (x : ℕ) → open_s limit due b fresh ≡ Sum x → At sheet t w root false (Sum x)
-    root_child x f = subst (At sheet t w root false) (root_opened x f).sums (root_given sheet t w ta fr b g)
+    root_child x f = subst (At sheet t w root false) (root_opened x f).sums (root_given sheet t w ta te fr b by_term)
 
     -- and ends as the whole walk does
     pub root_walked : (x : ℕ) → open_s limit due b fresh ≡ Sum x → (s : Search) → let n = length sheet.positions in view limit n s ≡ open_from (sheet_bound sheet) limit n [] (view limit n (counted_s fresh)) → Walked s

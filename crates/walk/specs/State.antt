@@ -10,7 +10,7 @@ use Rattle.search_state.specs.declared.Solved.{Solved}
 use Rattle.search_state.specs.State.{bits, limited_s}
 use Rattle.lane_rows.specs.Layout.{lane_count_lem, top, inf}
 use Rattle.lane_rows.specs.Sheet.{Sheet, part_sums, sheet_bound}
-use Rattle.lane_rows.specs.Tables.{Tables}
+use Rattle.lane_rows.specs.Tables.{Tables, FeeTerms}
 use Rattle.lane_rows.specs.Rows.{Rows, Memo}
 
 -- W1. the yes and no of a node, for the openings before `at`
@@ -33,6 +33,7 @@ pub data Pending (sheet : Sheet) (w : List ℕ) (q : List Bool) (n : ℕ) : Bool
 -- what the walk is given: the node p of the sheet, with its part sums e, and the memo of the rows that are there
 pub record At (sheet : Sheet) (t w : List ℕ) (p : Node) (stop : Bool) (e : Bound) : Type 0 where
   pub tables : Tables sheet t
+  pub terms : FeeTerms sheet t
   pub inside : p.at ≤ length sheet.positions
   pub mask : p.mask < 2 ^ p.at
   pub spent : p.spent ≡ sum_at sheet.fees (decided p)

@@ -6,7 +6,7 @@ ghost use Rattle.branch.specs.Label.{open_from};
 ghost use Rattle.branch.specs.declared.Bound.TheVariants.{Sum};
 ghost use Rattle.model.specs.Limits.{most_openings};
 ghost use Rattle.lane_rows.specs.Sheet.{Sheet, sheet_bound};
-ghost use Rattle.lane_rows.specs.Tables.{Tables};
+ghost use Rattle.lane_rows.specs.Tables.{Tables, FeeTerms};
 ghost use Rattle.lane_rows.specs.Rows.{Recalled};
 ghost use Rattle.walk.specs.State.{decided, no_n, yes_n, At, Solves};
 ghost use Rattle.search_state.specs.State.{view};
@@ -89,12 +89,12 @@ pub fn walk(
 
 // The whole search with a limit, over the tables of a sheet.
 pub fn solve(t: &[u32; TABLES], w: &mut [u32; STACK], limit: u64) -> Solved
-    requires { ((sheet : Sheet) × Tables sheet t.now) × (limit + 1 < 2 ^ 64) }
-    ensures { (sheet : Sheet) → Tables sheet t.now → Solves sheet limit result }
+    requires { ((sheet : Sheet) × (Tables sheet t.now) × FeeTerms sheet t.now) × (limit + 1 < 2 ^ 64) }
+    ensures { (sheet : Sheet) → Tables sheet t.now → FeeTerms sheet t.now → Solves sheet limit result }
 {
     base_row(w);
-    let sums = first_sums(t);
     let due = term(t, 0, 0);
+    let sums = first_sums(t, due);
     let floor = sums.plus(due);
     let begun = Search {
         count: 0,

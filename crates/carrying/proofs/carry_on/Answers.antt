@@ -12,7 +12,7 @@ use Rattle.verdict.specs.declared.Judgement.{Judgement}
 use Rattle.verdict.specs.declared.Judgement.TheVariants.{Unkept, WrongCost}
 use Rattle.verdict.specs.Views.{model_judgement}
 use Rattle.answers.specs.Said.{Said, plainly, Replied}
-use Rattle.judging.specs.Judge.{said_of}
+use Rattle.judging.specs.Judge.{judge_reply}
 use Rattle.carry.specs.Carry.{Log}
 use Rattle.carry.specs.Answer.{until}
 use Rattle.carrying.specs.Carry.{said_after, carry_room}
@@ -27,11 +27,11 @@ judged c = let past = c.job_to-past in
     judged_is c.args.text.now c.args.done.now c.requires past.result past.ensures.job past.ensures.openings past.ensures.parts _ c.judgement_to-judged.ensures
 
 -- one that refuses is said as the judge says it
-refused : (t : JobText) (log : Log) (j : Judgement) → ((part : ℕ) × (due : ℕ) × (j ≡ Unkept part due)) ⊎ ((cost : ℕ) × (j ≡ WrongCost cost)) → said_of (model_judgement j) ≡ said_after t log (model_judgement j)
+refused : (t : JobText) (log : Log) (j : Judgement) → ((part : ℕ) × (due : ℕ) × (j ≡ Unkept part due)) ⊎ ((cost : ℕ) × (j ≡ WrongCost cost)) → judge_reply (model_judgement j) ≡ said_after t log (model_judgement j)
 refused t log j =
     ⊎_elim
-    (λ w. ap (λ (x : Judgement). said_of (model_judgement x)) w.2 ∙ sym (ap (λ (x : Judgement). said_after t log (model_judgement x)) w.2))
-    (λ w. ap (λ (x : Judgement). said_of (model_judgement x)) w.1 ∙ sym (ap (λ (x : Judgement). said_after t log (model_judgement x)) w.1))
+    (λ w. ap (λ (x : Judgement). judge_reply (model_judgement x)) w.2 ∙ sym (ap (λ (x : Judgement). said_after t log (model_judgement x)) w.2))
+    (λ w. ap (λ (x : Judgement). judge_reply (model_judgement x)) w.1 ∙ sym (ap (λ (x : Judgement). said_after t log (model_judgement x)) w.1))
 
 pub judgement_to-judged-requires : goal.judgement_to-judged-requires
 judgement_to-judged-requires c = step_most c.args.text.now c.args.done.now c.requires

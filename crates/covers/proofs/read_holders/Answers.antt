@@ -11,12 +11,12 @@ use Rattle.base.specs.Chosen.{chosen}
 use Rattle.base.proofs.Chosen.{numbers_more}
 use Rattle.lines.proofs.Parsing.{chain_start, chain_more, chain-fault, chain_end}
 use Rattle.covers.specs.Grammar.{holders}
-use Rattle.covers.proofs.Marks.{blank}
+use Rattle.base.proofs.Bools.{blank}
 use Rattle.covers.proofs.read_holders.Goals as goal
 
 pub loop-init : goal.loop-init
 unfolding holders chosen joined
-loop-init c = record { size = refl; bare = λ j h. blank j; read = chain_start _ _ _ _ _ _ }
+loop-init c = record { size = refl; bare = λ j h. blank false 16 j; read = chain_start _ _ _ _ _ _ }
 
 pub loop-preserved : goal.loop-preserved
 loop-preserved c = let v = c.loop.invariant in

@@ -6,7 +6,7 @@ use native.Mathlib.Omega.{arith}
 use borrow.Author.Tests.{eq-eqb, ne_eqb, le-leb, lt-leb}
 use lib.Dec.{leb}
 use lib.ListN.{get_or}
-use Rattle.fair_shares.proofs.Rows.{bit_of}
+use Rattle.base.proofs.Bools.{bit_of}
 use Rattle.fair_shares.proofs.takes.Goals as goal
 use Rattle.fair_shares.proofs.takes.Goals.{Start}
 

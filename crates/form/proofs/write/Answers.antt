@@ -13,7 +13,7 @@ use Rattle.lines.specs.Parser.{finish, whole}
 use Rattle.job_grammar.specs.Grammar.{job_lines}
 use Rattle.answers.specs.Said.{Said, Replied}
 use Rattle.form.specs.Form.{Form, filled}
-use Rattle.form.specs.Write.{said_for, write_room}
+use Rattle.form.specs.Write.{form_reply, write_room}
 use Rattle.form.proofs.Stated.{Held, cut}
 use Rattle.form.proofs.Promised.{promised, cut_says, written_front}
 use Rattle.form.proofs.write.Goals as goal
@@ -69,5 +69,5 @@ answer_text-requires c = let f = form (goal.at.answer_text-requires c).Start in
 pub returns : goal.returns
 returns c = let f = form (goal.at.returns c).Start in
     let r = c.answer_text in
-    let same = ap (λ (xs : List ℕ). said_for (finish (whole job_lines xs 1))) (text-lent (goal.at.returns c).After-write_text-n) ∙ cut_says f (held (goal.at.returns c).After-slice_known-1) in
+    let same = ap (λ (xs : List ℕ). form_reply (finish (whole job_lines xs 1))) (text-lent (goal.at.returns c).After-write_text-n) ∙ cut_says f (held (goal.at.returns c).After-slice_known-1) in
     record { replied = subst (λ (said : Said). Replied write_room said c.args.out.now r.new.out r.result) same r.ensures; write_promise = promised f (held (goal.at.returns c).After-slice_known-1) (length c.args.out.now) }

@@ -1,7 +1,6 @@
 -- `row_behind` adds each line's opening at the step.
 use Prim.Native.Nat.{ℕ, ◌+◌, ◌<◌}
-use mathlib.Core.Path.{◌≡◌, refl, sym, ap, subst, ◌∙◌}
-use mathlib.Core.Bool.{Bool, true, false, cond}
+use mathlib.Core.Path.{◌≡◌, sym, ap, subst, ◌∙◌}
 use mathlib.Core.List.{List}
 use native.Mathlib.Omega.{arith}
 use native.Mathlib.Decide.{ℕ_discrete}
@@ -14,11 +13,8 @@ use Rattle.hall_model.specs.Hall.{Placed, open_at}
 use Rattle.hall_jobs.specs.Views.{jobs_of}
 use Rattle.hall_jobs.proofs.Lines.{line_is, line_below}
 use Rattle.hall_crew.specs.Crew.{opened_at}
+use Rattle.base.proofs.Bools.{bit_of}
 use Rattle.hall_crew.proofs.row_behind.Goals as goal
-
-one_of : (o : Bool) → bool_byte o ≡ cond o 1 0
-one_of true = refl
-one_of false = refl
 
 pub loop-d-preserved : goal.loop-d-preserved
 loop-d-preserved c =
@@ -41,7 +37,7 @@ loop-d-preserved c =
     own : (job : Job) → Placed (jobs_of c.args.hall.now) d job → n ≡ get_or c.args.row d 0 + opened_at job c.args.step
     own job at =
         let z = line_is c.args.hall.now d c.index-hall-d.result job at in
-        let o = c.from.ensures ∙ ap bool_byte (c.opens.ensures ∙ ap (λ (j : Job). open_at j c.args.step) z) ∙ one_of (open_at job c.args.step) in
+        let o = c.from.ensures ∙ ap bool_byte (c.opens.ensures ∙ ap (λ (j : Job). open_at j c.args.step) z) ∙ bit_of (open_at job c.args.step) in
         omega (arith, o, c.loop-d.invariant.rest d (omega arith))
 
     go : (e : ℕ) (job : Job) → e < d + 1 → Placed (jobs_of c.args.hall.now) e job → Dec (e ≡ d) → get_or (set next d n) e 0 ≡ get_or c.args.row e 0 + opened_at job c.args.step

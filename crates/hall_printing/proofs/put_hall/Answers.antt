@@ -5,25 +5,25 @@ use Rattle.lines.specs.Text.{bytes}
 use Rattle.line_writing.specs.Puts.{Room}
 use Rattle.branch.specs.Planning.{result_of}
 use Rattle.planning.specs.Plan.{search_lines}
-use Rattle.findings.specs.Finding.{answer_in, Fits}
+use Rattle.findings.specs.Finding.{found_answer, PrintableAnswer}
 use Rattle.findings.specs.declared.Finding.{Finding}
 use Rattle.findings.proofs.Numbers.{number_same}
 use Rattle.hall_jobs.specs.Views.{hall_of}
 use Rattle.hall_printing.specs.Lines.{hall_lines}
-use Rattle.hall_printing.specs.Finding.{plans_in}
+use Rattle.hall_search.specs.Found.{plans_held}
 use Rattle.hall_printing.proofs.put_hall.Goals as goal
 use Rattle.hall_printing.proofs.put_hall.Goals.{After-number_of-number}
 
 -- the number of what is found, that it can be printed, and the room for its lines
-number : (c : After-number_of-number) (f : Finding) → c.args.f ≡ f → c.number_of-number.result ≡ result_of (answer_in (plans_in c.args.hall.now c.args.plans.now) f)
-number c f e = let plans = plans_in c.args.hall.now c.args.plans.now in
-    c.number_of-number.ensures ∙ number_same plans c.args.f ∙ ap (λ (x : Finding). result_of (answer_in plans x)) e
+number : (c : After-number_of-number) (f : Finding) → c.args.f ≡ f → c.number_of-number.result ≡ result_of (found_answer (plans_held c.args.hall.now c.args.plans.now) f)
+number c f e = let plans = plans_held c.args.hall.now c.args.plans.now in
+    c.number_of-number.ensures ∙ number_same plans c.args.f ∙ ap (λ (x : Finding). result_of (found_answer plans x)) e
 
-printable : (c : After-number_of-number) (f : Finding) → c.args.f ≡ f → Fits (answer_in (plans_in c.args.hall.now c.args.plans.now) f)
-printable c f e = subst (λ (x : Finding). Fits (answer_in (plans_in c.args.hall.now c.args.plans.now) x)) e c.requires.0
+printable : (c : After-number_of-number) (f : Finding) → c.args.f ≡ f → PrintableAnswer (found_answer (plans_held c.args.hall.now c.args.plans.now) f)
+printable c f e = subst (λ (x : Finding). PrintableAnswer (found_answer (plans_held c.args.hall.now c.args.plans.now) x)) e c.requires.0
 
-room : (c : After-number_of-number) (f : Finding) → c.args.f ≡ f → Room c.args.out.now (hall_lines (hall_of c.args.hall.now) (answer_in (plans_in c.args.hall.now c.args.plans.now) f))
-room c f e = subst (λ (x : Finding). Room c.args.out.now (hall_lines (hall_of c.args.hall.now) (answer_in (plans_in c.args.hall.now c.args.plans.now) x))) e c.requires.1
+room : (c : After-number_of-number) (f : Finding) → c.args.f ≡ f → Room c.args.out.now (hall_lines (hall_of c.args.hall.now) (found_answer (plans_held c.args.hall.now c.args.plans.now) f))
+room c f e = subst (λ (x : Finding). Room c.args.out.now (hall_lines (hall_of c.args.hall.now) (found_answer (plans_held c.args.hall.now c.args.plans.now) x))) e c.requires.1
 
 pub put_line-requires : goal.put_line-requires
 unfolding bytes

@@ -3,7 +3,7 @@ use mathlib.Core.Path.{ap, ◌∙◌}
 use native.Mathlib.Omega.{arith}
 use Rattle.hall_model.specs.Promise.{hall_answer}
 use Rattle.hall_jobs.specs.Views.{hall_of}
-use Rattle.hall_search.specs.Found.{hall_said}
+use Rattle.hall_search.specs.Found.{hall_said_in}
 use Rattle.hall_search.proofs.Answered.{said}
 use Rattle.hall_search.proofs.search_hall.Goals as goal
 
@@ -13,6 +13,6 @@ walked-solved-requires c = omega (arith, c.ranges.limit)
 pub returns : goal.returns
 returns c =
     let h = c.args.hall.now in
-    ap (hall_said h) c.found_by.ensures
+    ap (hall_said_in h) c.found_by.ensures
     ∙ said h c.from.result c.walked-solved.new.rows c.walked-solved.new.best c.walked-solved.result c.walked-solved.ensures c.plans_of-plans.result c.plans_of-plans.ensures
     ∙ ap (hall_answer (hall_of h)) c.from.ensures

@@ -33,14 +33,14 @@ module _ (c : After-fill_held) where
       subst (λ (h : ℕ). Grouped n.needs.now h m (grouping classes)) e.holding
       (subst (λ (nd : List Bool). Grouped nd c.needs.result.holding m (grouping classes)) e.marks c.classes_of-classes.ensures)
 
-  tables : Tables (plain sheet) c.fill.new.t
+  tables : Tables (plain sheet) c.fill_rows.new.t
   tables =
-      subst (λ (x : Sheet). Tables x c.fill.new.t)
+      subst (λ (x : Sheet). Tables x c.fill_rows.new.t)
       (sym (plain_is n.job.end n.job.positions.now n.job.fees.now n.job.lives.now n.job.lefts.now n.job.prices.now n.needs.now n.removals.now classes (arrays_of n) own))
-      c.fill.ensures
+      c.fill_rows.ensures
 
   fit : Classed sheet
-  fit = classed n.job.end n.job.positions.now n.job.fees.now n.job.lives.now n.job.lefts.now n.job.prices.now n.needs.now n.removals.now classes (arrays_of n) own c.fill.new.t tables
+  fit = classed n.job.end n.job.positions.now n.job.fees.now n.job.lives.now n.job.lefts.now n.job.prices.now n.needs.now n.removals.now classes (arrays_of n) own c.fill_rows.new.t tables
 
 pub begin_line-requires : goal.begin_line-requires
 begin_line-requires c = let k = (goal.at.begin_line-requires c).After-fill_held in (sheet k, tables k, c.fill_held.ensures, fit k)

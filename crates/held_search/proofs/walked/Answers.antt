@@ -42,13 +42,13 @@ module _ (c : After-fill_held) where
   own = let e = c.needs-needs in grouped n e.result classes e.ensures.marks e.ensures.holding c.classes_of-classes.ensures
 
   abbrev t : List ℕ
-  t = c.fill.new.t
+  t = c.fill_rows.new.t
 
   tables : Tables (plain sheet) t
   tables =
       subst (λ (x : Sheet). Tables x t)
       (sym (plain_is n.job.end n.job.positions.now n.job.fees.now n.job.lives.now n.job.lefts.now n.job.prices.now n.needs.now n.removals.now classes (arrays_of n) own))
-      c.fill.ensures
+      c.fill_rows.ensures
 
   fit : Classed sheet
   fit = classed n.job.end n.job.positions.now n.job.fees.now n.job.lives.now n.job.lefts.now n.job.prices.now n.needs.now n.removals.now classes (arrays_of n) own t tables

@@ -5,7 +5,7 @@ use Rattle.lines.specs.Text.{bytes}
 use Rattle.model.specs.Verdict.{number_of}
 use Rattle.verdict.specs.declared.Judgement.{Judgement}
 use Rattle.verdict.specs.Views.{model_judgement}
-use Rattle.verdict.specs.Ranges.{Limited}
+use Rattle.verdict.specs.Ranges.{RangedJudgement}
 use Rattle.line_writing.specs.Puts.{Room}
 use Rattle.judging.specs.Judge.{judge_lines, cost_lines, unkept_lines}
 use Rattle.judging.proofs.put_judgement.Goals as goal
@@ -15,8 +15,8 @@ use Rattle.judging.proofs.put_judgement.Goals.{After-number_of-number}
 number : (c : After-number_of-number) (j : Judgement) → c.args.j ≡ j → c.number_of-number.result ≡ number_of (model_judgement j)
 number c j e = c.number_of-number.ensures ∙ ap (λ (x : Judgement). number_of (model_judgement x)) e
 
-ranges : (c : After-number_of-number) (j : Judgement) → c.args.j ≡ j → Limited (model_judgement j)
-ranges c j e = subst (λ (x : Judgement). Limited (model_judgement x)) e c.requires.0
+ranges : (c : After-number_of-number) (j : Judgement) → c.args.j ≡ j → RangedJudgement (model_judgement j)
+ranges c j e = subst (λ (x : Judgement). RangedJudgement (model_judgement x)) e c.requires.0
 
 room : (c : After-number_of-number) (j : Judgement) → c.args.j ≡ j → Room c.args.out.now (judge_lines (model_judgement j))
 room c j e = subst (λ (x : Judgement). Room c.args.out.now (judge_lines (model_judgement x))) e c.requires.1

@@ -12,7 +12,7 @@ use Rattle.job_text.specs.Views.{given_in}
 use Rattle.job_text.proofs.Views.{means_in}
 use Rattle.job_grammar.proofs.Numbered.{fault}
 use Rattle.optimum_search.specs.Ends.{Ends}
-use Rattle.optimizing.specs.Optimum.{said_for}
+use Rattle.optimizing.specs.Optimum.{optimum_reply}
 use Rattle.optimizing.proofs.Promised.{promised_read, promised_refused}
 use Rattle.optimizing.proofs.optimum.Goals as goal
 use Rattle.optimizing.proofs.optimum.Goals.{In-Err, In-Ok}
@@ -42,7 +42,7 @@ returns-in-Ok c = let a = c.args in
     let found = c.search_text.ensures in
     let given = given_in c.in-Ok.text in
     record {
-      said = said_for given found.0;
+      said = optimum_reply given found.0;
       replied = found.2;
       promise = promised_read a.job.now a.walk (length a.out.now) given (accepted_job (goal.at.returns-in-Ok c).In-Ok) found.0 (subst (λ (n : ℕ). Ends given.job n found.0) c.walk_number.ensures found.1);
     }

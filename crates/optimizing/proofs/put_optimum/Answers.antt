@@ -7,23 +7,23 @@ use Rattle.line_writing.proofs.Putting.{then, room_front, room_behind}
 use Rattle.model.specs.Promise.{result_of}
 use Rattle.jobs.specs.Views.{plan_for}
 use Rattle.job_text.specs.Views.{given_in}
-use Rattle.findings.specs.Finding.{answer_in}
+use Rattle.findings.specs.Finding.{found_answer}
 use Rattle.findings.specs.declared.Finding.{Finding}
 use Rattle.findings.proofs.Numbers.{number_same}
-use Rattle.optimizing.specs.Optimum.{floor_lines, optimum_lines, Fits}
+use Rattle.optimizing.specs.Optimum.{floor_lines, optimum_lines, PrintableOptimum}
 use Rattle.optimizing.proofs.put_optimum.Goals as goal
 use Rattle.optimizing.proofs.put_optimum.Goals.{After-number_of-number}
 
 -- the number of what is found, that it can be printed, and the room for its lines
-number : (c : After-number_of-number) (f : Finding) → c.args.f ≡ f → c.number_of-number.result ≡ result_of (answer_in (plan_for c.args.text.now.job.job c.args.plan.now) f)
+number : (c : After-number_of-number) (f : Finding) → c.args.f ≡ f → c.number_of-number.result ≡ result_of (found_answer (plan_for c.args.text.now.job.job c.args.plan.now) f)
 number c f e = let plan = plan_for c.args.text.now.job.job c.args.plan.now in
-    c.number_of-number.ensures ∙ number_same plan c.args.f ∙ ap (λ (x : Finding). result_of (answer_in plan x)) e
+    c.number_of-number.ensures ∙ number_same plan c.args.f ∙ ap (λ (x : Finding). result_of (found_answer plan x)) e
 
-printable : (c : After-number_of-number) (f : Finding) → c.args.f ≡ f → Fits (answer_in (plan_for c.args.text.now.job.job c.args.plan.now) f)
-printable c f e = subst (λ (x : Finding). Fits (answer_in (plan_for c.args.text.now.job.job c.args.plan.now) x)) e c.requires.0
+printable : (c : After-number_of-number) (f : Finding) → c.args.f ≡ f → PrintableOptimum (found_answer (plan_for c.args.text.now.job.job c.args.plan.now) f)
+printable c f e = subst (λ (x : Finding). PrintableOptimum (found_answer (plan_for c.args.text.now.job.job c.args.plan.now) x)) e c.requires.0
 
-room : (c : After-number_of-number) (f : Finding) → c.args.f ≡ f → Room c.args.out.now (optimum_lines (given_in c.args.text.now) (answer_in (plan_for c.args.text.now.job.job c.args.plan.now) f))
-room c f e = subst (λ (x : Finding). Room c.args.out.now (optimum_lines (given_in c.args.text.now) (answer_in (plan_for c.args.text.now.job.job c.args.plan.now) x))) e c.requires.1
+room : (c : After-number_of-number) (f : Finding) → c.args.f ≡ f → Room c.args.out.now (optimum_lines (given_in c.args.text.now) (found_answer (plan_for c.args.text.now.job.job c.args.plan.now) f))
+room c f e = subst (λ (x : Finding). Room c.args.out.now (optimum_lines (given_in c.args.text.now) (found_answer (plan_for c.args.text.now.job.job c.args.plan.now) x))) e c.requires.1
 
 pub put_line-requires : goal.put_line-requires
 unfolding bytes

@@ -5,11 +5,13 @@ use mathlib.Core.Bool.{Bool, false}
 use Rattle.std.specs.Prelude.{Some}
 use Rattle.std.proofs.lemmas.Bool.{not-true, not-false}
 use Rattle.branch.specs.declared.Bound.{Bound}
+use Rattle.branch.specs.declared.Bound.TheVariants.{Sum}
 use Rattle.model.specs.Model.{Plan}
 use Rattle.model.specs.Promise.{BestPlan, Any}
 use Rattle.jobs.specs.Views.{job_of}
 use Rattle.jobs.proofs.Jobs.{opening_count_lem2, part_count}
-use Rattle.search.specs.Found.{plan_found, said_by, said_in}
+use Rattle.search_state.specs.Answer.{answer_with}
+use Rattle.search.specs.Found.{plan_found, said_in}
 use Rattle.share_search.specs.Sought.{Sought}
 use Rattle.optimum_search.specs.Ends.{Ends}
 use Rattle.optimum_search.proofs.Endings.{counted, nothing, settled, begun, passed, cut_short}
@@ -43,7 +45,7 @@ returns-then-shared c = let j = c.args.job.now.job in
     let x = shared (goal.at.returns-then-shared c).After-search_by_shares-shared in
     let over = not-false _ c.if-not-first.false in
     subst (λ (b : Bound). Ends (job_of j) c.args.limit (said_in j.opening_count j.part_count (record { count = r.count; over = r.over; cost = r.cost; floor = b; plan = r.plan }))) (sym x.floor)
-    (subst (λ (o : Bool). Ends (job_of j) c.args.limit (said_by j.opening_count j.part_count x.low r o r.cost)) (sym over)
+    (subst (λ (o : Bool). Ends (job_of j) c.args.limit (answer_with (plan_found j.opening_count j.part_count r) r.count (Sum x.low) o r.cost)) (sym over)
     (cut_short (job_of j) j.opening_count j.part_count r c.min.result c.search_job-first.ensures c.args.limit c.in-Sum.floor c.in-Sum.is c.min.ensures x.low x.none_under x.risen (x.longer c.if-shared.true) over))
 
 pub returns : goal.returns

@@ -10,7 +10,7 @@ use Rattle.base.specs.Chosen.{chosen}
 use Rattle.jobs.specs.Views.{blank_changes, changed_in}
 use Rattle.jobs.specs.declared.Changes.{Changes}
 use Rattle.base.proofs.Chosen.{chosen_count, chosen_few}
-use Rattle.plan_writing.proofs.Counting.{one_if, one_most}
+use Rattle.base.proofs.Bools.{bit_of, bit_most}
 use Rattle.plan_writing.proofs.count_parts.Goals as goal
 use Rattle.plan_writing.proofs.count_parts.Goals.{In-loop-part}
 
@@ -23,11 +23,11 @@ unfolding chosen joined
 loop-part-init c = refl
 
 pub overflow_add-n : goal.overflow_add-n
-overflow_add-n c = let one : c.from-n.result ≤ 1 = rw c.from-n.ensures (one_most _) in
+overflow_add-n c = let one : c.from-n.result ≤ 1 = rw c.from-n.ensures (bit_most _) in
     omega (arith, one, chosen_few (changed_in c.args.plan.now c.args.i) (λ (k : ℕ). k + 1) c.loop-part.part-index)
 
 pub loop-part-preserved : goal.loop-part-preserved
 loop-part-preserved c = let a = c.args in
     let l = c.loop-part in
-    let one = c.from-n.ensures ∙ one_if _ in
+    let one = c.from-n.ensures ∙ bit_of _ in
     ap₂ (λ (n m : ℕ). n + m) l.invariant (one ∙ ap (λ (b : Bool). cond b 1 0) (changed (goal.at.loop-part-preserved c).In-loop-part)) ∙ sym (chosen_count (changed_in a.plan.now a.i) (λ (k : ℕ). k + 1) l.part-index)

@@ -12,7 +12,7 @@ use Rattle.plan_grammar.specs.Rendering.{visit_at}
 use Rattle.jobs.proofs.Jobs.{opening_count_lem2}
 use Rattle.base.proofs.Chosen.{chosen_count, chosen_few, chosen-length}
 use Rattle.plan_text.proofs.Chosen.{stops_are}
-use Rattle.plan_writing.proofs.Counting.{one_if, one_most}
+use Rattle.base.proofs.Bools.{bit_of, bit_most}
 use Rattle.plan_writing.proofs.count_stops.Goals as goal
 use Rattle.plan_writing.proofs.count_stops.Invariants.{stop}
 
@@ -21,14 +21,14 @@ unfolding chosen joined
 loop-stop-init c = refl
 
 pub overflow_add-count : goal.overflow_add-count
-overflow_add-count c = let one : c.from-count.result ≤ 1 = rw c.from-count.ensures (one_most _) in
+overflow_add-count c = let one : c.from-count.result ≤ 1 = rw c.from-count.ensures (bit_most _) in
     omega (arith, one, chosen_few (stop c.args.plan.now) (λ (j : ℕ). j) c.loop-stop.stop-index)
 
 pub loop-stop-preserved : goal.loop-stop-preserved
 loop-stop-preserved c = let l = c.loop-stop in
     let plan = c.args.plan.now in
     let same = get_or-take c.args.job.now.opening_count plan.stops l.stop-index false (omega arith) in
-    let one = c.from-count.ensures ∙ one_if _ ∙ ap (λ (b : Bool). cond b 1 0) same in
+    let one = c.from-count.ensures ∙ bit_of _ ∙ ap (λ (b : Bool). cond b 1 0) same in
     ap₂ (λ (n m : ℕ). n + m) l.invariant one ∙ sym (chosen_count (stop plan) (λ (j : ℕ). j) l.stop-index)
 
 pub returns : goal.returns

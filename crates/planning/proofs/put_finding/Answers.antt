@@ -6,7 +6,7 @@ use Rattle.line_writing.specs.Puts.{Room}
 use Rattle.model.specs.Promise.{result_of}
 use Rattle.jobs.specs.Views.{plan_for}
 use Rattle.job_text.specs.Views.{given_in}
-use Rattle.findings.specs.Finding.{answer_in, Fits}
+use Rattle.findings.specs.Finding.{found_answer, PrintableAnswer}
 use Rattle.findings.specs.declared.Finding.{Finding}
 use Rattle.findings.proofs.Numbers.{number_same}
 use Rattle.planning.specs.Plan.{search_lines, planner_lines}
@@ -14,15 +14,15 @@ use Rattle.planning.proofs.put_finding.Goals as goal
 use Rattle.planning.proofs.put_finding.Goals.{After-number_of-number}
 
 -- the number of what is found, that it can be printed, and the room for its lines
-number : (c : After-number_of-number) (f : Finding) → c.args.f ≡ f → c.number_of-number.result ≡ result_of (answer_in (plan_for c.args.text.now.job.job c.args.plan.now) f)
+number : (c : After-number_of-number) (f : Finding) → c.args.f ≡ f → c.number_of-number.result ≡ result_of (found_answer (plan_for c.args.text.now.job.job c.args.plan.now) f)
 number c f e = let plan = plan_for c.args.text.now.job.job c.args.plan.now in
-    c.number_of-number.ensures ∙ number_same plan c.args.f ∙ ap (λ (x : Finding). result_of (answer_in plan x)) e
+    c.number_of-number.ensures ∙ number_same plan c.args.f ∙ ap (λ (x : Finding). result_of (found_answer plan x)) e
 
-printable : (c : After-number_of-number) (f : Finding) → c.args.f ≡ f → Fits (answer_in (plan_for c.args.text.now.job.job c.args.plan.now) f)
-printable c f e = subst (λ (x : Finding). Fits (answer_in (plan_for c.args.text.now.job.job c.args.plan.now) x)) e c.requires.0
+printable : (c : After-number_of-number) (f : Finding) → c.args.f ≡ f → PrintableAnswer (found_answer (plan_for c.args.text.now.job.job c.args.plan.now) f)
+printable c f e = subst (λ (x : Finding). PrintableAnswer (found_answer (plan_for c.args.text.now.job.job c.args.plan.now) x)) e c.requires.0
 
-room : (c : After-number_of-number) (f : Finding) → c.args.f ≡ f → Room c.args.out.now (planner_lines (given_in c.args.text.now) (answer_in (plan_for c.args.text.now.job.job c.args.plan.now) f))
-room c f e = subst (λ (x : Finding). Room c.args.out.now (planner_lines (given_in c.args.text.now) (answer_in (plan_for c.args.text.now.job.job c.args.plan.now) x))) e c.requires.1
+room : (c : After-number_of-number) (f : Finding) → c.args.f ≡ f → Room c.args.out.now (planner_lines (given_in c.args.text.now) (found_answer (plan_for c.args.text.now.job.job c.args.plan.now) f))
+room c f e = subst (λ (x : Finding). Room c.args.out.now (planner_lines (given_in c.args.text.now) (found_answer (plan_for c.args.text.now.job.job c.args.plan.now) x))) e c.requires.1
 
 pub put_line-requires : goal.put_line-requires
 unfolding bytes

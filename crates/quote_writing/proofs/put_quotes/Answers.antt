@@ -15,7 +15,7 @@ use Rattle.line_writing.specs.Puts.{Puts}
 use Rattle.line_writing.proofs.Putting.{none, same, room_same, room_next, next}
 use Rattle.quotes.specs.Grammar.{single}
 use Rattle.quotes.specs.Rendering.{quote_text}
-use Rattle.form_facts.specs.Facts.{sum_all}
+use Rattle.form_facts.specs.Facts.{sum_of}
 use Rattle.form_facts.proofs.Facts.{quotes_size, quote_at, sum_next, sum_part}
 use Rattle.form_facts.specs.Views.{quotes_said}
 use Rattle.quotes.specs.Views.{quote_of}
@@ -34,8 +34,8 @@ record Turn (c : In-Some) : Type 0 where
   inside : length c.loop-high.yielded < length c.args.quotes.highs.now
   high : get_or c.args.quotes.highs.now (length c.loop-high.yielded) 0 ≡ c.in-Some.high.now
   mark : get_or c.args.quotes.banded.now (length c.loop-high.yielded) 0 ≡ c.in-Some.mark.now
-  reaches : sum_all (take (length c.loop-high.yielded) c.args.quotes.banded.now) + c.in-Some.mark.now ≤ length c.args.quotes.lows.now
-  more : sum_all (take (length c.loop-high.yielded) c.args.quotes.banded.now) + c.in-Some.mark.now ≡ sum_all (take (length c.loop-high.yielded + 1) c.args.quotes.banded.now)
+  reaches : sum_of (take (length c.loop-high.yielded) c.args.quotes.banded.now) + c.in-Some.mark.now ≤ length c.args.quotes.lows.now
+  more : sum_of (take (length c.loop-high.yielded) c.args.quotes.banded.now) + c.in-Some.mark.now ≡ sum_of (take (length c.loop-high.yielded + 1) c.args.quotes.banded.now)
 
 turn : (c : In-Some) → Turn c
 turn c =
@@ -66,7 +66,7 @@ line_is c t high mark =
     let q = c.args.quotes in
     let i = length l.yielded in
     ap quote_text (quote_at i q.banded.now q.lows.now q.highs.now c.requires.marked.marks c.requires.marked.size t
-    ∙ ap₂ (λ (m h : ℕ). quote_of (cond (eqb m 1) (Some (get_or q.lows.now (sum_all (take i q.banded.now)) 0)) None) h) mark high
+    ∙ ap₂ (λ (m h : ℕ). quote_of (cond (eqb m 1) (Some (get_or q.lows.now (sum_of (take i q.banded.now)) 0)) None) h) mark high
     ∙ ap (λ (j : ℕ). quote_of (cond (eqb c.in-Some.mark.now 1) (Some (get_or q.lows.now j 0)) None) c.in-Some.high.now) (sym l.invariant.used)
     ∙ ap (λ (o : Option ℕ). quote_of o c.in-Some.high.now) (sym c.low_at-low.ensures))
 
@@ -89,7 +89,7 @@ loop-high-preserved c = let s = (goal.at.loop-high-preserved c).Start in
     let t = turn (goal.at.loop-high-preserved c).In-Some in
     let more : length l.yielded + 1 ≡ length (l.yielded ++ ((c.in-Some.high, c.in-Some.mark) ∷ [])) = sym (length-append l.yielded _) in
     record {
-      used = ap (λ (j : ℕ). j + c.in-Some.mark.now) l.invariant.used ∙ t.more ∙ ap (λ (k : ℕ). sum_all (take k q.banded.now)) more;
+      used = ap (λ (j : ℕ). j + c.in-Some.mark.now) l.invariant.used ∙ t.more ∙ ap (λ (k : ℕ). sum_of (take k q.banded.now)) more;
       put = subst (λ (k : ℕ). Puts c.args.out.now (texts quote_text (take k (quotes_said q))) c.put_quote.new.out) more
           (next quote_text (quotes_said q) (length l.yielded) (single 0) (omega (arith, t.inside, size s)) l.invariant.put (same c.put_quote.ensures (sym (line_is (goal.at.loop-high-preserved c).After-low_at-low t.inside t.high t.mark))));
     }

@@ -4,7 +4,7 @@ use Rattle.jobs.specs.Views.{job_of, plan_for}
 use Rattle.job_text.specs.Views.{given_in}
 use Rattle.answers.specs.Said.{Replied}
 use Rattle.latest.specs.Latest.{LatestAnswer}
-use Rattle.serving.specs.Serve.{said_for, latest_room}
+use Rattle.serving.specs.Serve.{latest_reply, latest_room}
 use Rattle.serving.proofs.Fits.{fits}
 use Rattle.serving.proofs.serve.Goals as goal
 
@@ -15,5 +15,5 @@ answer-requires c = let a = c.args.text.now.job in
 pub returns : goal.returns
 returns c = let j = c.args.text.now.job.job in
     let answer = c.answer in
-    subst (λ (x : LatestAnswer). Replied latest_room (said_for (given_in c.args.text.now) x) c.args.out.now answer.new.out answer.result)
+    subst (λ (x : LatestAnswer). Replied latest_room (latest_reply (given_in c.args.text.now) x) c.args.out.now answer.new.out answer.result)
     (c.serving_of.ensures (plan_for j c.args.stated.now).stops c.latest_plan-plan.ensures) answer.ensures

@@ -11,7 +11,7 @@ use Rattle.plan_lives.specs.Views.{model_verdict}
 use Rattle.counting.proofs.Promised.{ordered}
 use Rattle.latest.specs.Latest.{serves}
 use Rattle.latest.proofs.ByVerdict.{kept_serves, late-unserved}
-use Rattle.serving.specs.Serving.{answer_in}
+use Rattle.serving.specs.Serving.{served_answer}
 use Rattle.serving.proofs.serving_of.Goals as goal
 
 -- where the verdict is no `Ok` some part is late, and else all are kept
@@ -26,7 +26,7 @@ kept (Err l) done e = absurd (cc)
 pub returns-in_err-ok : goal.returns-in_err-ok
 returns-in_err-ok c stops e = let job = job_of c.args.job.now.job in
     let found = unkept c.verdict_of.result (sym c.ok.ensures.value ∙ c.in_err-ok.was) in
-    ap (answer_in (plan_for c.args.job.now.job c.args.plan.now)) c.from_residual.ensures
+    ap (served_answer (plan_for c.args.job.now.job c.args.plan.now)) c.from_residual.ensures
     ∙ sym (late-unserved job stops (ordered job c.args.job.now.valid) found.0 found.1 (ap (verdict_of_lem job) (sym e) ∙ sym c.verdict_of.ensures ∙ found.2))
 
 pub returns : goal.returns

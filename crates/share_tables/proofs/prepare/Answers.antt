@@ -50,4 +50,4 @@ returns-clause-tables c = λ job ho.
     prepared job j.end j.positions.now j.fees.now j.lives.now j.lefts.now j.prices.now n.needs.now n.removals.now (arrays_of n) ho
     k.raw k.before c.share-value.new.x k.marked k.kept
     c.padded-long.result c.padded-first.result c.padded-long.ensures c.padded-first.ensures
-    (replicate 1024 0) c.put_shared.new.all c.put_shared.ensures (length-replicate {A = ℕ} 1024 0) c.fill-2.new.t (rw (ends (goal.at.returns-clause-tables c).Start) at c.fill-2.ensures)
+    (replicate 1024 0) c.put_shared.new.all c.put_shared.ensures (length-replicate {A = ℕ} 1024 0) c.fill_rows-2.new.t (rw (ends (goal.at.returns-clause-tables c).Start) at c.fill_rows-2.ensures)

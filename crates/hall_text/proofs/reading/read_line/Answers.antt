@@ -2,7 +2,7 @@
 use Rattle.std.proofs.Common.{rules}
 use mathlib.Core.Path.{ap, ◌∙◌}
 use Rattle.lines.specs.Parser.{Parsed, good}
-use Rattle.hall_grammar.specs.Grammar.{meant_job}
+use Rattle.job_grammar.specs.Reading.{meant_job}
 use Rattle.hall_grammar.specs.Reading.{mapped, through}
 use Rattle.jobs.specs.declared.Job.{Job}
 use Rattle.jobs.specs.Views.{job_of}

@@ -1,8 +1,8 @@
 -- `lane_set` gathers the lanes from the last on. The invariant: those from q on are gathered.
 use Rattle.std.proofs.Common.{◌≡◌, ◌-◌, ◌+◌, ◌*◌, ◌∙◌, ℕ, Bool, sym, subst, get_or, arith}
 use Rattle.part_classes.specs.Grouped.{need_in}
-use Rattle.held_tables.proofs.Ends.{bit_of}
-use Rattle.held_tables.proofs.Sets.{Gathered, gathered_none, gathered_more, gathered_all, gathered_fits, bit_most}
+use Rattle.held_tables.proofs.Sets.{Gathered, gathered_none, gathered_more, gathered_all, gathered_fits}
+use Rattle.base.proofs.Bools.{bit_of, cond_most}
 use Rattle.held_tables.proofs.needs.lane_set.Goals as goal
 
 pub loop-q-init : goal.loop-q-init
@@ -12,7 +12,7 @@ pub overflow_mul-set : goal.overflow_mul-set
 overflow_mul-set c = omega (arith, gathered_fits _ c.loop-q.invariant)
 
 pub overflow_add-set : goal.overflow_add-set
-overflow_add-set c = omega (arith, gathered_fits _ c.loop-q.invariant, c.from.ensures, bit_of c.needs_part.result, bit_most c.needs_part.result)
+overflow_add-set c = omega (arith, gathered_fits _ c.loop-q.invariant, c.from.ensures, bit_of c.needs_part.result, cond_most c.needs_part.result 1)
 
 pub loop-q-preserved : goal.loop-q-preserved
 loop-q-preserved c = let l = c.loop-q in
