@@ -1,16 +1,12 @@
 /* Says how long the walk of the job in a file may become, plans it and prints the answer: example JOB. Without a file it fills in the order form of the specification's job, writes the
  * job text and plans that. The exit status is the result number, or 20 where there is no answer. */
 #include <stdio.h>
-#include <stdlib.h>
 
 #include "juzvarola.h"
 
 /* One byte more than a text may have: a longer file is refused just as well by these bytes. */
 static uint8_t job[JUZVAROLA_MOST_JOB + 1];
 static uint8_t out[JUZVAROLA_ROOM];
-
-/* As far as a search may walk. */
-#define MOST_WALK 4000000000u
 
 #define COUNT(list) (sizeof(list) / sizeof((list)[0]))
 
@@ -54,6 +50,11 @@ int main(int argc, char **argv) {
             return 20;
         }
         length = fread(job, 1, sizeof job, file);
+        if (ferror(file)) {
+            /* A file that can't be read is not an empty text. */
+            perror(argv[1]);
+            return 20;
+        }
         fclose(file);
     } else {
         fprintf(stderr, "usage: %s [JOB]\n", argv[0]);
@@ -65,7 +66,7 @@ int main(int argc, char **argv) {
         fprintf(stderr, counted.count == JUZVAROLA_MOST_WALK ? "the walk may have %u nodes or more\n" : "the walk has at most %u nodes\n", (unsigned)counted.count);
     }
 
-    juzvarola_answer answer = juzvarola_plan(job, length, MOST_WALK, out, sizeof out);
+    juzvarola_answer answer = juzvarola_plan(job, length, JUZVAROLA_MOST_WALK, out, sizeof out);
     fwrite(out, 1, answer.length, stdout);
     if (answer.text != 0) {
         fprintf(stderr, "%s:%u: ", argc == 2 ? argv[1] : "form", (unsigned)answer.line);

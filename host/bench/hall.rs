@@ -47,7 +47,7 @@ fn library(hall: &[u8], walk: u64) -> Timed {
     let mut out = [0; 16_384];
     let (time, answer) = timed(|| juzvarola_host::hall(hall, walk, &mut out));
     assert_eq!(answer.result, 7);
-    let planned = juzvarola_host::PlannedHall::of(answer.clone(), &out[..answer.length]);
+    let planned = juzvarola_host::PlannedHall::of(answer, &out[..answer.length]);
     let [nodes, floor] = [planned.nodes, planned.floor].map(|value| u64::from(value.expect("a number")));
     (time, Outcome { nodes, floor, cost: planned.cost.map(u64::from) })
 }
@@ -73,9 +73,11 @@ fn least(solvers: &[fn(&[u8], u64) -> Timed], hall: &[u8], walk: u64) -> Vec<f64
 
 /// The table: nanoseconds of each node after the first, which are the whole call's less those of a call with walk number 1.
 pub fn table() {
-    let mut solvers: Vec<fn(&[u8], u64) -> Timed> = vec![rust];
-    #[cfg(feature = "library")]
-    solvers.insert(0, library);
+    let solvers: Vec<fn(&[u8], u64) -> Timed> = vec![
+        #[cfg(feature = "library")]
+        library,
+        rust,
+    ];
     let there = solvers.len() == 2;
     println!("{}", if there { "| hall | library | Rust | ratio |\n|---|---|---|---|" } else { "| hall | Rust |\n|---|---|" });
     for (lines, held) in [(2, false), (4, false), (2, true), (4, true)] {

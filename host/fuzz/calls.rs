@@ -4,8 +4,9 @@
 
 mod room;
 
+use juzvarola_checks::compared::{form, LISTS};
 use juzvarola_checks::reference::{self, Reply};
-use juzvarola_host::{Answer, Form};
+use juzvarola_host::Answer;
 use room::{List, Room};
 
 /// Between the job and the plan or log.
@@ -32,16 +33,7 @@ struct Rooms {
 
 /// What the library handed over is what the reference hands over; if not, the process ends.
 fn compare(rooms: &Rooms, answer: Answer, reply: &Reply, texts: [&[u8]; 2]) {
-    let at_fault = if reply.text == 2 { texts[1] } else { texts[0] };
-    let wanted = Answer {
-        result: reply.result,
-        text: reply.text,
-        line: reply.line,
-        length: reply.bytes.len(),
-        fault_start: reply.fault_start,
-        fault: at_fault.get(reply.fault_start..).and_then(|rest| rest.get(..reply.fault_length)).unwrap_or_default(),
-    };
-    assert_eq!(answer, wanted, "the library's answer is not the reference's");
+    assert_eq!(answer, reply.answer(texts), "the library's answer is not the reference's");
     assert!(rooms.out.has(&reply.bytes), "the bytes written are not {}", reply.bytes.escape_ascii());
     assert!(rooms.first.has(texts[0]) && rooms.second.has(texts[1]), "a text was changed");
 }
@@ -69,14 +61,8 @@ fn call_on_texts(rooms: &Rooms, letter: u8, walk: u64, length: usize, texts: [&[
 /// The count's call, as far as the reference walks.
 fn count(lent: &[u8], text: &[u8]) {
     let answer = juzvarola_host::count(lent);
-    let reply = reference::count(text, NODES);
-    let count = if reply.count < NODES { reply.count as u32 } else { answer.count.max(NODES as u32) };
-    let fault = &text[reply.fault_start..][..reply.fault_length];
-    assert_eq!(
-        (answer.result, answer.text, answer.line, answer.count, answer.fault_start, answer.fault),
-        (reply.result, reply.text, reply.line, count, reply.fault_start, fault),
-        "the library's count is not the reference's"
-    );
+    let wanted = reference::count(text, NODES).answer(text, NODES, answer.count);
+    assert_eq!(answer, wanted, "the library's count is not the reference's");
 }
 
 /// A form's horizon and its lists, a line each with commas: what is no number is passed over.
@@ -87,34 +73,14 @@ fn lists(text: &[u8]) -> (u32, Vec<Vec<u32>>) {
     };
     let mut lines = text.split(|byte| *byte == b'\n').map(numbers);
     let horizon = lines.next().and_then(|line| line.first().copied()).unwrap_or(0);
-    (horizon, lines.chain(std::iter::repeat(Vec::new())).take(16).collect())
+    (horizon, lines.chain(std::iter::repeat(Vec::new())).take(LISTS).collect())
 }
 
 /// The writer's call.
 fn write(rooms: &Rooms, length: usize, text: &[u8]) {
     let (horizon, lists) = lists(text);
     let lists: Vec<List> = lists.iter().map(|list| List::of(list)).collect();
-    let [idles, openings, fees, lives, lefts, covered, removals, insides, holders, ruled, bases, drops, leasts, banded, lows, prices] =
-        std::array::from_fn(|at| lists[at].own());
-    let form = Form {
-        horizon,
-        idles,
-        openings,
-        fees,
-        lives,
-        lefts,
-        covered,
-        removals,
-        insides,
-        holders,
-        ruled,
-        bases,
-        drops,
-        leasts,
-        banded,
-        lows,
-        prices,
-    };
+    let form = form(horizon, std::array::from_fn(|at| lists[at].own()));
     let (one, two) = (rooms.first.hold(b""), rooms.second.hold(b""));
     let answer = juzvarola_host::write(&form, rooms.out.lend(length));
     // No line at fault is handed over, since there is no text of the caller's.

@@ -44,7 +44,7 @@ impl Room {
     /// As many bytes of it, with others beside them.
     #[allow(clippy::mut_from_ref)]
     fn place(&self, length: usize) -> &mut [u8] {
-        let from = if length % 2 == 0 { BYTES - length } else { 0 };
+        let from = if length.is_multiple_of(2) { BYTES - length } else { 0 };
         self.own.set((from, length));
         self.all()[from.saturating_sub(MARGIN)..from].fill(CANARY);
         self.all()[from + length..(from + length + MARGIN).min(BYTES)].fill(CANARY);

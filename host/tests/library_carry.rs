@@ -6,7 +6,7 @@ mod common;
 use common::inputs::{self, Size};
 use common::lent::{self, best, carried, compare_carry, planned};
 use common::{logs, rng::Rng, setting, vectors};
-use juzvarola_checks::reference::{self, carry::read_log, model::Plan, texts};
+use juzvarola_checks::reference::{self, carry::read_log, texts};
 use juzvarola_host::{Log, MOST_WALK};
 
 const CASES: u64 = 50_000;
@@ -67,7 +67,7 @@ fn starts_of_printed_plans_are_planned_on() {
             let Some(step) = logs::step(&mut rng, job.horizon) else { continue };
             let printed = printed_for(&facts.text());
             let Some(at) = printed.starts_with("result=0\n").then(|| printed.find("cost=")).flatten() else { continue };
-            let (plan, cost) = texts::read_plan(&job, printed[at..].as_bytes()).expect("a printed plan");
+            let (plan, cost) = texts::read_plan(&job, &printed.as_bytes()[at..]).expect("a printed plan");
             let log = logs::text(&job, &plan, step);
             let done = read_log(&job, &log).expect("a log without faults");
             let text = carried(&facts.text(), &log).unwrap_or_else(|| panic!("refused: {facts:?} {}", log.escape_ascii()));
@@ -78,11 +78,10 @@ fn starts_of_printed_plans_are_planned_on() {
             }
             assert!(printed.starts_with("result=0\n"), "{printed}{facts:?}");
             let at = printed.find("cost=").expect("a plan");
-            let (again, least) = texts::read_plan(&rest, printed[at..].as_bytes()).expect("a printed plan");
+            let (again, least) = texts::read_plan(&rest, &printed.as_bytes()[at..]).expect("a printed plan");
             assert_eq!(done.cost + least, cost, "{facts:?} {}", log.escape_ascii());
             let first = job.openings.len() - rest.openings.len();
-            let changes = plan.changes.iter().map(|own| own[first..].to_vec()).collect();
-            assert_eq!(again, Plan { stops: plan.stops[first..].to_vec(), changes });
+            assert_eq!(again, logs::rest(&plan, first));
             on += 1;
             larger += u64::from(is_larger);
         }

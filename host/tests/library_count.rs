@@ -145,9 +145,10 @@ fn never_fewer_than_the_planner_prints() {
 fn time_of_the_count() {
     let text = idle_parts(64, 16);
     let mut out = vec![0; 16_384];
-    let calls: [(&str, Box<dyn FnMut(&[u8]) -> u32>); 2] =
-        [("the count", Box::new(|job| count(job).count)), ("reading alone", Box::new(|job| judge(job, b"\n", &mut out).line))];
-    for (name, mut call) in calls {
+    type Timed<'o> = &'o mut dyn FnMut(&[u8]) -> u32;
+    let calls: [(&str, Timed); 2] =
+        [("the count", &mut |job| count(job).count), ("reading alone", &mut |job| judge(job, b"\n", &mut out).line)];
+    for (name, call) in calls {
         let (times, start) = (20_000, Instant::now());
         let sum: u64 = (0..times).map(|_| u64::from(call(std::hint::black_box(text.as_bytes())))).sum();
         println!("{name}: {:.2} microseconds a call ({sum})", start.elapsed().as_secs_f64() * 1e6 / f64::from(times));

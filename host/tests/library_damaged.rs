@@ -288,14 +288,15 @@ fn each_byte_of_accepted_texts() {
         let (mut tally, mut texts) = (Tally::default(), 0);
         for _ in 0..setting("JUZVAROLA_CASES", CASES).min(CASES).div_ceil(10_000) {
             let sound = Sound::new(&mut rng, SMALL);
-            let (job, hall) = (sound.job.as_slice(), sound.hall.text());
-            let calls: [(Of, &[u8], Option<&[u8]>); 7] = [
+            let hall = sound.hall.text();
+            let (job, plan, log) = (sound.job.as_slice(), sound.plan.as_slice(), sound.log.as_slice());
+            let calls = [
                 (Of::Planner, job, None),
                 (Of::Optimum, job, None),
                 (Of::Count, job, None),
-                (Of::Judge, &sound.plan, Some(job)),
-                (Of::Latest, &sound.plan, Some(job)),
-                (Of::Carry, &sound.log, Some(job)),
+                (Of::Judge, plan, Some(job)),
+                (Of::Latest, plan, Some(job)),
+                (Of::Carry, log, Some(job)),
                 (Of::Hall, &hall, None),
             ];
             for (of, text, beside) in calls {

@@ -1,7 +1,7 @@
 //! The reference by itself: the specification's cases, and what must hold of its replies on random calls.
 
 mod common;
-use common::{holder_cases, idle_cases, inputs, paper, rng::Rng, setting};
+use common::{holder_cases, idle_cases, inputs, line_of, paper, rng::Rng, setting};
 use juzvarola_checks::reference::{self, Counted, Reply};
 
 const CASES: u64 = 30_000;
@@ -21,11 +21,6 @@ fn count_refuses_holders_after_all_text_checks() {
     assert_eq!(reference::count(&held, 1), Counted { result: 12, ..Counted::default() });
     let counted = reference::count(&longer, 1);
     assert_eq!((counted.result, counted.text, counted.line, counted.count), (2, 1, 24, 0));
-}
-
-/// The line with this number (from 1), cut out by splitting the text; a missing one is empty.
-fn line_of(text: &[u8], number: u32) -> &[u8] {
-    text.split(|byte| *byte == 10).nth(number as usize - 1).unwrap_or_default()
 }
 
 fn check(call: &common::Call, reply: &Reply) {

@@ -64,7 +64,7 @@ fn plans_lie_between_their_ends() {
                 assert_eq!(low.is_some(), job.is_banded(), "{facts:?}");
                 let Some(low) = low else { continue };
                 assert!(String::from_utf8_lossy(&banded.bytes).contains(&format!("\ncostlow={low}\ncost=")), "{facts:?}");
-                let (plan, high) = texts::read_plan(&job, rest[at..].as_bytes()).expect("a printed plan");
+                let (plan, high) = texts::read_plan(&job, &rest.as_bytes()[at..]).expect("a printed plan");
                 assert_eq!((job.at_low_ends().cost(&plan), job.cost(&plan)), (low, high), "{facts:?}");
                 plans += 1;
                 empty += u64::from(low == high);

@@ -4,7 +4,7 @@
 mod common;
 use common::inputs::{self, printed_plan};
 use common::paper::{altered, text, JOB};
-use common::{logs, rng::Rng, setting, vectors, Call};
+use common::{line_of, logs, rng::Rng, setting, vectors, Call};
 use juzvarola_checks::reference::model::Plan;
 use juzvarola_checks::reference::{self, brute, carry::read_log, texts, Reply};
 use juzvarola_host::MOST_WALK;
@@ -109,10 +109,7 @@ fn starts_of_printed_plans_are_planned_on() {
             let (on, least) = texts::read_plan(&rest, &planned).expect("a printed plan");
             assert_eq!(done.cost + least, cost, "{facts:?} {}", log.escape_ascii());
             let first = job.openings.len() - rest.openings.len();
-            assert_eq!(
-                on,
-                Plan { stops: plan.stops[first..].to_vec(), changes: plan.changes.iter().map(|own| own[first..].to_vec()).collect() }
-            );
+            assert_eq!(on, logs::rest(&plan, first));
             carried += 1;
         }
         println!("{carried} starts of printed plans, each planned on to the same total");
@@ -146,8 +143,7 @@ fn every_plan_that_begins_with_the_log() {
                     continue;
                 }
                 let rest = texts::read_job(&reply.bytes).expect("a written text has no fault");
-                let on =
-                    Plan { stops: plan.stops[first..].to_vec(), changes: plan.changes.iter().map(|own| own[first..].to_vec()).collect() };
+                let on = logs::rest(&plan, first);
                 assert_eq!(job.keeps(&plan), rest.keeps(&on), "{facts:?} {plan:?}");
                 assert_eq!(job.cost(&plan), job.cost(&done) + rest.cost(&on), "{facts:?} {plan:?}");
                 let ends = (job.at_low_ends().cost(&plan), job.at_low_ends().cost(&done) + rest.at_low_ends().cost(&on));
@@ -172,11 +168,7 @@ fn two_logs_or_one() {
             let facts = inputs::facts(&mut rng, inputs::SMALL);
             let job = texts::read_job(&facts.text()).expect("a job without faults");
             let mut log = |job: &reference::model::Job, text: &[u8]| {
-                let step = logs::step(&mut rng, job.horizon)?;
-                let often = rng.pick(&[3, 8, 10]);
-                let stops: Vec<bool> = job.openings.iter().map(|_| rng.below(10) < often).collect();
-                let changes = job.parts.iter().map(|_| stops.iter().map(|stop| *stop && rng.below(10) < often).collect()).collect();
-                let log = logs::text(job, &Plan { stops, changes }, step);
+                let log = logs::random(&mut rng, job)?;
                 let reply = reference::carry(text, &log, OUTPUT);
                 (reply.result == 0).then(|| (String::from_utf8(log).expect("ASCII"), reply.bytes))
             };
@@ -205,7 +197,7 @@ fn replies_are_consistent() {
             let at_fault = if reply.text == 2 { &log } else { &job };
             let fault = &at_fault[reply.fault_start..][..reply.fault_length];
             if reply.line != 0 {
-                assert_eq!(fault, at_fault.split(|byte| *byte == 10).nth(reply.line as usize - 1).unwrap_or_default());
+                assert_eq!(fault, line_of(at_fault, reply.line));
             }
             results[reply.result as usize] += 1;
         }

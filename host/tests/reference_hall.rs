@@ -4,7 +4,7 @@ mod common;
 use common::halls::{self, HallFacts};
 use common::inputs::{self, Size};
 use common::paper::{text, JOB};
-use common::{rng::Rng, setting, vectors};
+use common::{line_of, rng::Rng, setting, vectors};
 use juzvarola_checks::reference::hall::{read_hall, Hall, HallWalk};
 use juzvarola_checks::reference::model::{Job, Plan};
 use juzvarola_checks::reference::{self, brute};
@@ -152,7 +152,7 @@ fn replies_are_consistent() {
             let reply = reference::hall(&text, rng.pick(&[0, 1, 10, 100]), output);
             if reply.line != 0 {
                 let fault = &text[reply.fault_start..][..reply.fault_length];
-                assert_eq!(fault, text.split(|byte| *byte == 10).nth(reply.line as usize - 1).unwrap_or_default());
+                assert_eq!(fault, line_of(&text, reply.line));
             }
             results[reply.result as usize] += 1;
         }

@@ -202,11 +202,20 @@ fn check_words(drawn: &Drawn) {
     let expected: Vec<(String, String)> = stops.map(|(opening, _)| (opening.step.to_string(), opening.fee.to_string())).collect();
     assert_eq!(labels.into_iter().map(|(step, fee)| (step, plain(&fee))).collect::<Vec<_>>(), expected);
     let sheet = drawn.elements.iter().find(|element| element.name == "svg").expect("a picture");
-    for element in drawn.elements.iter().filter(|element| element.name == "text" && element.get("x").is_some()) {
+    on_the_sheet(&drawn.elements, sheet);
+}
+
+/// All words are seen whole: they end before the sheet does.
+fn on_the_sheet(elements: &[Element], sheet: &Element) {
+    const LETTERS: [(&str, f64); 6] = [("title", 11.6), ("refused", 9.4), ("verdict", 7.2), ("cost", 9.9), ("part", 9.0), ("step", 7.6)];
+    for element in elements.iter().filter(|element| element.name == "text" && element.get("x").is_some()) {
         let (x, y) = (element.number("x"), element.number("y"));
-        let width = element.text.chars().count() as f64 * 6.0;
-        let (left, right) = if element.is("end") { (x - width, x) } else { (x, x) };
-        assert!(left >= 0.0 && right < sheet.number("width") && (0.0..sheet.number("height")).contains(&y), "on the sheet: {element:?}");
+        let letter = LETTERS.iter().find(|(class, _)| element.is(class)).map_or(6.2, |(_, width)| *width);
+        let width = element.text.chars().count() as f64 * letter;
+        let middle = ["middle", "step", "date", "fee", "today-words"].iter().any(|class| element.is(class));
+        let left = x - if element.is("end") { width } else { width / 2.0 * f64::from(middle) };
+        let inside = left >= 0.0 && left + width < sheet.number("width") && (0.0..sheet.number("height")).contains(&y);
+        assert!(inside, "on the sheet: {element:?}");
     }
 }
 
@@ -327,7 +336,7 @@ fn a_refused_plan_is_drawn_with_its_verdict() {
     assert!(drawn.words().contains("Total 37  \u{b7}  The cheapest possible (proved)"), "{}", drawn.words());
     assert_eq!(drawn.all("late").len(), 0);
     let drawn = draw(&text(JOB), b"", "nothing.svg");
-    assert!(drawn.words().contains("too late; nor is part 2."), "every part that fails is named: {}", drawn.words());
+    assert!(drawn.words().replace('\n', " ").contains("too late; nor is part 2."), "every part that fails is named: {}", drawn.words());
 }
 
 /// Removals stand in the page's tables, so that fees, prices and removals add up to the total.
@@ -338,7 +347,7 @@ fn tables_of_a_page_add_up() {
     folder.write("job.txt", &text);
     assert_eq!(folder.run(&["plan", "job.txt", "--walk", "20000000", "--count-nodes", "-o", "plan.txt"]).status, 3);
     let drawn = draw(&text, folder.read("plan.txt").as_bytes(), "page.html");
-    let cells: Vec<&str> = drawn.elements.iter().filter(|element| element.name == "td").map(|element| element.text.as_str()).collect();
+    let cells: Vec<&str> = cells(&drawn.elements).map(|element| element.text.as_str()).collect();
     let number = |cell: &str| plain(cell).parse::<u64>().unwrap_or_else(|_| panic!("{cell:?} is a number"));
     let (stops, parts) = (drawn.steps(true).len(), drawn.job.parts.len());
     assert_eq!(cells.len(), (stops + 1) * 7 + (parts + 1) * 5);
@@ -355,6 +364,11 @@ fn tables_of_a_page_add_up() {
         assert_eq!(number(rows[parts][column]), sum, "column {column}");
     }
     assert!(drawn.all("back").len() > 10 && drawn.words().contains("behind 2"), "holders are drawn");
+}
+
+/// The cells of a page's tables, with the head of each row.
+fn cells(elements: &[Element]) -> impl Iterator<Item = &Element> {
+    elements.iter().filter(|element| matches!(element.name.as_str(), "td" | "th") && element.within.iter().any(|name| name == "tbody"))
 }
 
 /// A number below a million with its comma.
@@ -382,7 +396,7 @@ fn names_and_dates_are_drawn() {
         assert!(words.contains("\n1 Valve, <seat> &") && words.contains("3 D\u{fc}se\n") && words.contains("Part 2\n"), "{words}");
         assert!(words.contains("2027-01-25") && words.contains("step 1 begins on 2027-01-04"), "{words}");
     }
-    assert!(folder.read("a.html").contains("<td>VS-204</td>"));
+    assert!(folder.read("a.html").contains("<td class=\"text\">VS-204</td>"));
 }
 
 #[test]
@@ -407,10 +421,85 @@ fn pages_have_their_lists() {
     let text = year(16);
     let plan = planned(&text);
     let drawn = draw(&text, &plan, "page.html");
-    let cells = drawn.elements.iter().filter(|element| element.name == "td").count();
     let stops = drawn.steps(true).len();
-    assert_eq!(cells, (stops + 1) * 5 + (16 + 1) * 4, "with the sums beneath");
+    assert_eq!(cells(&drawn.elements).count(), (stops + 1) * 5 + (16 + 1) * 4, "with the sums beneath");
     assert!(drawn.elements.iter().any(|element| element.name == "meta" && element.get("charset") == Some("utf-8")));
+}
+
+/// A page is read by those who don't see it, and moved by keys: its language, one title, the picture's words, the heads of columns and rows, and a name
+/// for each region that is wider than a small screen. What is only read out hides nothing of the picture.
+#[test]
+fn pages_are_read_without_seeing_them() {
+    let text = job("13_shutdown");
+    let drawn = draw(&text, &planned(&text), "page.html");
+    let all = |name: &str| drawn.elements.iter().filter(|element| element.name == name).collect::<Vec<_>>();
+    assert_eq!(all("html")[0].get("lang"), Some("en"));
+    assert!(all("meta").iter().any(|meta| meta.get("name") == Some("viewport") && meta.get("content").is_some()));
+    assert_eq!((all("main").len(), all("h1").len(), all("title")[0].text.as_str()), (1, 1, "plan.txt of job.txt"));
+    let title = drawn.all("title");
+    assert_eq!((title.len(), &title[0].text), (1, &all("h1")[0].text));
+    let (read, verdict) = (drawn.all("read"), drawn.all("verdict"));
+    assert_eq!((read.len(), &read[0].text, verdict.len()), (1, &verdict[0].text, 1));
+    let svg = all("svg")[0];
+    assert_eq!(svg.get("role"), Some("img"));
+    assert!(svg.get("aria-label").is_some_and(|label| label.contains("every part's life is kept and the cost is true: 2,505")));
+    let heads = |scope: &str| all("th").into_iter().filter(|head| head.get("scope") == Some(scope)).count();
+    assert_eq!((heads("col"), heads("row"), all("th").len()), (5 + 4, 8 + 7, 5 + 4 + 8 + 7));
+    let regions: Vec<Option<&str>> =
+        drawn.elements.iter().filter(|element| element.get("role") == Some("region")).map(|region| region.get("aria-label")).collect();
+    assert_eq!(regions, [Some("Calendar"), Some("Stops of the line"), Some("Parts to buy")]);
+    assert!(drawn.elements.iter().filter(|element| element.get("tabindex") == Some("0")).count() == 3 && all("caption").len() == 2);
+}
+
+/// Sixteen parts that hold each other, prices from-to and fees of seven digits, long names, and every second part past its life.
+#[test]
+fn the_longest_words_have_room() {
+    let openings: Vec<u64> = (1..=20).map(|at| 18 * at).collect();
+    let mut text = "horizon=365\nidles=2\nidle=100\nidle=101\nopenings=20\n".to_string();
+    openings.iter().for_each(|step| text += &format!("opening={step}\nfee=1000000\n"));
+    text += "parts=16\n";
+    for part in 1..=16 {
+        let holder = if part == 1 { "inside=0\n".to_string() } else { format!("inside=1\nholder={}\n", part - 1) };
+        text += &format!("life=40\nleft=38\nremoval=123456\n{holder}{}", "low=800000\nhigh=1000000\n".repeat(20));
+    }
+    let changed: String = (1..=16).step_by(2).map(|part| format!("part={part}\n")).collect();
+    let stops: String = openings.iter().map(|step| format!("stop={step}\ncount=8\n{changed}")).collect();
+    let folder = Folder::new();
+    folder.write("job.txt", text.as_bytes());
+    folder.write("plan.txt", format!("cost=123456789\nstops=20\n{stops}").as_bytes());
+    let name = "of the filling carousel, upper guide, left hand side, stainless, with two seals";
+    let names: String = (1..=16).map(|part| format!("{part},\"Ring {part} {name}\",R-{part}\n")).collect();
+    folder.write("names.csv", names.as_bytes());
+    for file in ["a.svg", "a.html"] {
+        let ran = folder.run(&["draw", "job.txt", "plan.txt", "-o", file, "--from", "2027-01-01", "--names", "names.csv"]);
+        assert_eq!((ran.status, ran.err.as_str()), (1, ""), "{ran:?}");
+        let drawn = elements(&folder.read(file));
+        let refused: Vec<&Element> = drawn.iter().filter(|element| element.is("refused")).collect();
+        let words = refused.iter().map(|line| line.text.as_str()).collect::<Vec<_>>().join(" ");
+        assert!(refused.len() > 1 && words.ends_with("too late; nor are parts 4, 6, 8, 10, 12, 14, 16."), "{words}");
+        on_the_sheet(&drawn, drawn.iter().find(|element| element.name == "svg").expect("a picture"));
+    }
+}
+
+/// A front's words have room however long its job's name is, and a hall's legend has what its picture has.
+#[test]
+fn fronts_and_halls_have_room_for_their_words() {
+    let folder = Folder::new();
+    let name = "A very long name of a job, filling line seven, winter half year, after the overhaul of 2026.txt";
+    folder.write(name, &job("13_shutdown"));
+    assert_eq!(folder.run(&["front", name, "-o", "front.svg"]).status, 0);
+    let hall = std::path::Path::new(env!("CARGO_MANIFEST_DIR")).join("../examples/hall/hall.txt");
+    folder.write("hall.txt", &std::fs::read(hall).expect("the example"));
+    let date = ["--from", "2027-01-04", "--step", "week"];
+    assert_eq!(folder.run(&[&["hall", "hall.txt", "-o", "hall.svg"], &date[..]].concat()).status, 0);
+    for file in ["front.svg", "hall.svg"] {
+        let drawn = elements(&folder.read(file));
+        on_the_sheet(&drawn, &drawn[0]);
+        assert_eq!((drawn[0].name.as_str(), drawn[0].get("role")), ("svg", Some("img")));
+        let words: Vec<&str> = drawn.iter().map(|element| element.text.as_str()).collect();
+        let legend = ["a call of the crew", "a call that planning each line alone would need", "part changed", "idle: no wear"];
+        assert!(file == "front.svg" || legend.iter().all(|mark| words.contains(mark)), "{words:?}");
+    }
 }
 
 /// A year's job, a log of its first twenty steps, and the plan of what is left.

@@ -140,7 +140,7 @@ fn lists_add_up() {
             let removals = job.cost(&read) - job.fees(&read.stops) - job.prices(&read);
             let low = job.is_banded().then(|| job.at_low_ends().cost(&read));
             let said = json.at("costs").at("low");
-            assert_eq!(low.map_or(said == &Json::Null, |low| said.number() == low), true, "{low:?} {said:?}");
+            assert!(low.map_or(said == &Json::Null, |low| said.number() == low), "{low:?} {said:?}");
             assert_eq!((sum(stops, "removals"), sum(parts, "removals"), costs.at("removals").number()), (removals, removals, removals));
             let by_period: u64 = json.at("periods").list().iter().map(|period| sum(period.at("parts"), "count")).sum();
             assert_eq!(by_period, sum(parts, "count"));

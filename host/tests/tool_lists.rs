@@ -305,10 +305,12 @@ fn dates_and_names() {
         ("17,x\n", "cell A1: '17' is not a part's number"),
         ("1,x\n1,y\n", "cell A2: part 1 is named twice"),
         ("3,x\n", "part 3 is named, and the job has 2 parts"),
+        ("", "no part is named"),
+        ("part,name,order\n", "no part is named"),
     ] {
         folder.write("bad.csv", names.as_bytes());
         let ran = folder.run(&["list", "job.txt", "plan.txt", "--names", "bad.csv"]);
-        assert!(ran.status == 2 && ran.err.contains(words), "{ran:?}");
+        assert!(ran.status == 2 && ran.err.starts_with(&format!("bad.csv: {words}")), "{ran:?}");
     }
 }
 

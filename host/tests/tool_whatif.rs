@@ -105,6 +105,9 @@ fn whatif_in_words() {
     assert!(out.contains("the plan of before would not do: part 1 is not kept: it is due by step 1 "), "{out}");
     let (_, out) = said(&["--price", "2=+10%", "--price", "1=-2", "--close", "5"]);
     assert!(out.starts_with("a job.txt: part 2's prices +10 %, part 1's prices -2, step 5 closed: the cheapest plan would cost "), "{out}");
+    let (_, out) = said(&["--fee", "-20", "--price", "1=0", "--price", "2=+999999"]);
+    let held = "every fee -20, none below 0, part 1's prices 0, none below 1, part 2's prices +999999, none above 1,000,000: ";
+    assert!(out.starts_with(&format!("a job.txt: {held}")), "what is held back is said: {out}");
 }
 
 #[test]
@@ -120,6 +123,7 @@ fn files_and_faults_of_whatif() {
         (&["whatif", "a job.txt", "--left", "3=1"], 64, "the job has 2 parts, and no part 3"),
         (&["whatif", "a job.txt", "--left", "1=4"], 64, "part 1 has a life of 3, and 4 can't be left of it"),
         (&["whatif", "a job.txt", "--close", "5-2"], 64, "--close takes a step or steps, such as 20 or 20-22, not '5-2'"),
+        (&["whatif", "a job.txt", "--close", "5-9"], 64, "the job has 6 steps, and no step 9"),
         (&["whatif", "a job.txt", "--fee", "10%"], 64, "--fee takes an amount such as 120, +10, -5 or +10%, not '10%'"),
         (&["whatif", "a job.txt", "a job.txt", "--fee", "1"], 2, "this is a job, and a plan is due"),
         (&["whatif", "a", "b", "c", "--fee", "1"], 64, "whatif takes one file or 2, not 3"),

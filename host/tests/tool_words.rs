@@ -94,6 +94,11 @@ fn files_and_values_are_counted() {
     refused(&["plan", "a", "--walk", "4000000001"], "--walk takes a number of nodes from 0 to 4000000000");
     refused(&["list", "-", "b", "--names", "-"], "standard input (-) can be read for one file only");
     refused(&["list", "a", "b", "--csv=yes"], "--csv takes no value");
+    refused(
+        &["front", "a", "-o", "a.svg", "--take", "2", "--output=b"],
+        "--output is given twice, and one of them would count for nothing",
+    );
+    refused(&["whatif", "a", "--fee", "10", "--fee", "+10%"], "--fee is given twice");
     for steps in ["0", "366", "x", "-1", ""] {
         refused(&["list", "a", "b", "--every", steps], "--every takes a number of steps from 1 to 365");
     }

@@ -18,6 +18,9 @@ const FRONT_CALLS: u64 = 100;
 /// The walk number of a hall's search where none is given: some seconds.
 const HALL_WALK: u64 = 100_000_000;
 
+/// The options that may be given more than once.
+const MANY: [&str; 4] = ["--log", "--left", "--price", "--close"];
+
 /// A job and a plan of it.
 pub struct Pair {
     pub job: OsString,
@@ -526,6 +529,7 @@ impl Given {
 /// Sorts a command's words into files and its options.
 fn gather(page: &help::Page, words: &[OsString]) -> Result<Given, Failure> {
     let mut given = Given::default();
+    let mut once: Vec<&str> = Vec::new();
     let mut rest = words.iter();
     while let Some(word) = rest.next() {
         let text = word.to_str().unwrap_or("");
@@ -547,6 +551,18 @@ fn gather(page: &help::Page, words: &[OsString]) -> Result<Given, Failure> {
             None => rest.next().cloned().ok_or_else(|| failure(USAGE, format_args!("{name} needs a value\nusage: {}", page.usage))),
         };
         if given.take(name, &mut value)? {
+            let long = match name {
+                "-o" => "--output",
+                "-j" => "--jobs",
+                own => own,
+            };
+            if once.contains(&long) {
+                return Err(failure(
+                    USAGE,
+                    format_args!("{long} is given twice, and one of them would count for nothing\nusage: {}", page.usage),
+                ));
+            }
+            once.extend(Some(long).filter(|long| !MANY.contains(long)));
             continue;
         }
         if attached.is_some() {

@@ -247,7 +247,8 @@ of a fraction of a second do not prove a least cost, it is given from-to.
         body: "\
 Plans the job as it would be, says what that costs beside the job as it is, and
 what PLAN would now cost, or why it would not do; without PLAN, the cheapest
-plan of the job as it is. Changes may be given several times and together.
+plan of the job as it is. Changes may be given together, those of parts and of
+steps several times.
 
       --fee AMOUNT           every opening's fee: 120, +10, -5, +10%
       --left PART=N          what is left of the part that is in

@@ -1,7 +1,7 @@
 //! How steps and parts are called for people: by numbers, and by dates and names where they were given.
 
 use crate::dates::{Date, Step};
-use crate::failure::{failure, Failure, TEXT};
+use crate::failure::{Failure, TEXT};
 use crate::files;
 use crate::output::shown;
 use crate::sheets::{self, Cell};
@@ -125,7 +125,7 @@ impl Naming {
 
 /// A file of names that is not as it should be: it is at fault as a text is.
 fn bad(file: &str, why: &str) -> Failure {
-    failure(TEXT, format_args!("{file}: {why}"))
+    Failure { status: TEXT, message: format!("{file}: {why}\n"), fault: None }
 }
 
 /// The names by part: rows of a part's number, its name, its order number; a first row without a number is the heads'.
@@ -143,5 +143,8 @@ fn names(bytes: &[u8]) -> Result<BTreeMap<u64, Called>, String> {
             _ => return Err(format!("cell {}: '{}' is not a part's number, 1 to 16", row[0].name(), text(0))),
         }
     }
-    Ok(parts)
+    match parts.is_empty() {
+        true => Err("no part is named".to_string()),
+        false => Ok(parts),
+    }
 }

@@ -5,6 +5,7 @@ use crate::calls::{self, Reply};
 use crate::costs::{self, Costs};
 use crate::failure::{failure, status_of, Failure, USAGE};
 use crate::files::{self, Input};
+use crate::fronts::MOST;
 use crate::json::Value;
 use crate::lives::Late;
 use crate::naming::Naming;
@@ -206,8 +207,8 @@ fn changed(old: &Job, order: &WhatifOrder) -> Result<(Job, String), Failure> {
         false => Err(failure(USAGE, format_args!("the job has {} parts, and no part {part}", old.parts.len()))),
     };
     if let Some(fee) = &order.fee {
-        job.openings.iter_mut().for_each(|opening| opening.fee = fee.of(opening.fee, 0));
-        words.push(format!("every fee {fee}"));
+        let held = put(fee, job.openings.iter_mut().map(|opening| &mut opening.fee), 0);
+        words.push(format!("every fee {fee}{held}"));
     }
     for (part, left) in &order.lefts {
         let own = &mut job.parts[known(*part)?];
@@ -219,10 +220,13 @@ fn changed(old: &Job, order: &WhatifOrder) -> Result<(Job, String), Failure> {
     }
     for (part, price) in &order.prices {
         let own = &mut job.parts[known(*part)?];
-        own.prices.iter_mut().chain(&mut own.lows).for_each(|own| *own = price.of(*own, 1));
-        words.push(format!("part {part}'s prices {price}"));
+        let held = put(price, own.prices.iter_mut().chain(&mut own.lows), 1);
+        words.push(format!("part {part}'s prices {price}{held}"));
     }
     for (first, last) in &order.closed {
+        if *last > old.horizon {
+            return Err(failure(USAGE, format_args!("the job has {} steps, and no step {last}", old.horizon)));
+        }
         job = job.only_open(|step| !(*first..=*last).contains(&step));
         words.push(if first == last { format!("step {first} closed") } else { format!("steps {first} to {last} closed") });
     }
@@ -232,15 +236,28 @@ fn changed(old: &Job, order: &WhatifOrder) -> Result<(Job, String), Failure> {
     }
 }
 
+/// Puts an amount in place of each of these, from `least` to the most that a text may state; what is said where that holds one of them back.
+fn put<'j>(amount: &Amount, all: impl Iterator<Item = &'j mut u64>, least: u64) -> String {
+    let (mut low, mut high) = (false, false);
+    for own in all {
+        let wanted = amount.of(*own);
+        let held = wanted.clamp(least as i64, MOST as i64);
+        (low, high) = (low || held > wanted, high || held < wanted);
+        *own = held as u64;
+    }
+    let low = if low { format!(", none below {least}") } else { String::new() };
+    let high = if high { format!(", none above {}", grouped(MOST)) } else { String::new() };
+    low + &high
+}
+
 impl Amount {
-    /// The amount in place of this one, at least `least` and at most what a text may state.
-    fn of(&self, own: u64, least: u64) -> u64 {
-        let amount = match *self {
+    /// The amount in place of this one.
+    fn of(&self, own: u64) -> i64 {
+        match *self {
             Amount::Just(amount) => amount as i64,
             Amount::More(more) => own as i64 + more,
             Amount::Percent(percent) => (own as i64 * (100 + percent) + 50).div_euclid(100),
-        };
-        amount.clamp(least as i64, 1_000_000) as u64
+        }
     }
 }
 

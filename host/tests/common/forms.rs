@@ -2,6 +2,7 @@
 
 use super::inputs::{self, Facts, Size};
 use super::rng::Rng;
+use juzvarola_checks::compared::{self, LISTS as COUNT};
 use juzvarola_checks::reference::Reply;
 use juzvarola_host::Form;
 use std::path::{Path, PathBuf};
@@ -11,9 +12,6 @@ pub const LISTS: [&str; COUNT] = [
     "idles", "openings", "fees", "lives", "lefts", "covered", "removals", "insides", "holders", "ruled", "bases", "drops", "leasts",
     "banded", "lows", "prices",
 ];
-
-/// How many there are.
-pub const COUNT: usize = 16;
 
 /// The places of `covered`, of `ruled` and of `banded`.
 const COVERED: usize = 5;
@@ -28,34 +26,9 @@ pub struct FormCall {
     pub lists: [Vec<u32>; COUNT],
 }
 
-/// The form of these lists.
-pub fn form(horizon: u32, lists: [&[u32]; COUNT]) -> Form<'_> {
-    let [idles, openings, fees, lives, lefts, covered, removals, insides, holders, ruled, bases, drops, leasts, banded, lows, prices] =
-        lists;
-    Form {
-        horizon,
-        idles,
-        openings,
-        fees,
-        lives,
-        lefts,
-        covered,
-        removals,
-        insides,
-        holders,
-        ruled,
-        bases,
-        drops,
-        leasts,
-        banded,
-        lows,
-        prices,
-    }
-}
-
 impl FormCall {
     pub fn form(&self) -> Form<'_> {
-        form(self.horizon, self.lists.each_ref().map(Vec::as_slice))
+        compared::form(self.horizon, self.lists.each_ref().map(Vec::as_slice))
     }
 
     /// The form that has a job's facts.

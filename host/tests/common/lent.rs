@@ -1,10 +1,11 @@
 //! Lent buffers with canaries on both sides, and the library's calls on them.
 
-use super::forms::{self, FormCall};
+use super::forms::FormCall;
 use super::rng::Rng;
 use super::{vectors, with_stack, Call};
+use juzvarola_checks::compared;
 use juzvarola_checks::reference::{self, Reply};
-use juzvarola_host::{Answer, Count};
+use juzvarola_host::Answer;
 
 /// Bytes on each side of a lent buffer.
 const MARGIN: usize = 64;
@@ -68,12 +69,12 @@ pub fn compare(rng: &mut Rng, call: &Call, reply: &Reply) -> Result<(), String> 
 
 /// The same of the latest-time habit, on the call's texts.
 pub fn compare_latest(rng: &mut Rng, call: &Call, reply: &Reply) -> Result<(), String> {
-    compare_by(rng, call, reply, |job, plan, out| juzvarola_host::latest(job, plan, out))
+    compare_by(rng, call, reply, juzvarola_host::latest)
 }
 
 /// The same of carrying on, by the call's second text as the log.
 pub fn compare_carry(rng: &mut Rng, call: &Call, reply: &Reply) -> Result<(), String> {
-    compare_by(rng, call, reply, |job, log, out| juzvarola_host::carry(job, log, out))
+    compare_by(rng, call, reply, juzvarola_host::carry)
 }
 
 /// The same of the hall planner, on the call's first text.
@@ -112,15 +113,7 @@ fn compare_by(
     let plan = Lent::text(rng, call.plan.as_deref().unwrap_or_default());
     let mut out = Lent::output(rng, call.output);
     let answer = by(job.part(), plan.part(), out.part_mut());
-    let at_fault = if reply.text == 2 { plan.part() } else { job.part() };
-    let wanted = Answer {
-        result: reply.result,
-        text: reply.text,
-        line: reply.line,
-        length: reply.bytes.len(),
-        fault_start: reply.fault_start,
-        fault: &at_fault[reply.fault_start..][..reply.fault_length],
-    };
+    let wanted = reply.answer([job.part(), plan.part()]);
     if answer != wanted {
         return Err(format!("{answer:?}\nnot {wanted:?}\n{call:?}"));
     }
@@ -145,11 +138,10 @@ pub fn compare_form(rng: &mut Rng, call: &FormCall, reply: &Reply) -> Result<(),
     let around = call.lists.clone().map(|list| [vec![1; NUMBERS], list, vec![1; NUMBERS]].concat());
     let before = around.clone();
     let inside = |at: usize| &around[at][NUMBERS..around[at].len() - NUMBERS];
-    let form = forms::form(call.horizon, std::array::from_fn(inside));
+    let form = compared::form(call.horizon, std::array::from_fn(inside));
     let mut out = Lent::output(rng, call.output);
     let answer = juzvarola_host::write(&form, out.part_mut());
-    // "There is no text of the caller's, so no line at fault is handed over."
-    let wanted = Answer { result: reply.result, text: reply.text, line: reply.line, length: reply.bytes.len(), fault_start: 0, fault: &[] };
+    let wanted = reply.answer_on_no_text();
     if answer != wanted {
         return Err(format!("{answer:?}\nnot {wanted:?}\n{call:?}"));
     }
@@ -167,40 +159,33 @@ pub fn compare_count(rng: &mut Rng, text: &[u8], most: u64) -> Result<u32, Strin
     let job = Lent::text(rng, text);
     let answer = juzvarola_host::count(job.part());
     let reply = reference::count(text, most);
-    let walked = reply.count < most;
-    let wanted = Count {
-        result: reply.result,
-        text: reply.text,
-        line: reply.line,
-        count: if walked { reply.count as u32 } else { answer.count.max(most as u32) },
-        fault_start: reply.fault_start,
-        fault: &job.part()[reply.fault_start..][..reply.fault_length],
-    };
+    let wanted = reply.answer(job.part(), most, answer.count);
     if answer != wanted || !job.has(&[]) {
         return Err(format!("{answer:?}\nnot {wanted:?}, or the text was changed\ncount\n{}", text.escape_ascii()));
     }
     Ok(reply.result)
 }
 
+/// What a call of the library writes into the shortest output that will do.
+fn written<'t>(call: impl Fn(&mut [u8]) -> Answer<'t>) -> String {
+    let mut out = vec![0xAA; 16_384];
+    let length = call(&mut out).length;
+    String::from_utf8(out[..length].to_vec()).expect("answers are ASCII")
+}
+
 /// What the library's planner writes with this walk number.
 pub fn planned(job: &[u8], walk: u64) -> String {
-    let mut out = vec![0xAA; 16_384];
-    let answer = juzvarola_host::plan(job, walk, &mut out);
-    String::from_utf8(out[..answer.length].to_vec()).expect("answers are ASCII")
+    written(|out| juzvarola_host::plan(job, walk, out))
 }
 
 /// What the library writes for the optimum with this walk number.
 pub fn best(job: &[u8], walk: u64) -> String {
-    let mut out = vec![0xAA; 16_384];
-    let answer = juzvarola_host::optimum(job, walk, &mut out);
-    String::from_utf8(out[..answer.length].to_vec()).expect("answers are ASCII")
+    written(|out| juzvarola_host::optimum(job, walk, out))
 }
 
 /// What the library writes for the latest-time habit.
 pub fn latest(job: &[u8], plan: &[u8]) -> String {
-    let mut out = vec![0xAA; 16_384];
-    let answer = juzvarola_host::latest(job, plan, &mut out);
-    String::from_utf8(out[..answer.length].to_vec()).expect("answers are ASCII")
+    written(|out| juzvarola_host::latest(job, plan, out))
 }
 
 /// What the library writes to carry on by a log: where it is accepted, the text of the job that is left.
@@ -213,7 +198,5 @@ pub fn carried(job: &[u8], log: &[u8]) -> Option<Vec<u8>> {
 
 /// What the library's judge writes.
 pub fn judged(job: &[u8], plan: &[u8]) -> String {
-    let mut out = vec![0xAA; 16_384];
-    let answer = juzvarola_host::judge(job, plan, &mut out);
-    String::from_utf8(out[..answer.length].to_vec()).expect("answers are ASCII")
+    written(|out| juzvarola_host::judge(job, plan, out))
 }

@@ -17,6 +17,11 @@ pub fn start(job: &Job, plan: &Plan, step: i64) -> Plan {
     Plan { stops: upto(&plan.stops), changes: plan.changes.iter().map(upto).collect() }
 }
 
+/// The part of a plan from the opening with this place on.
+pub fn rest(plan: &Plan, first: usize) -> Plan {
+    Plan { stops: plan.stops[first..].to_vec(), changes: plan.changes.iter().map(|own| own[first..].to_vec()).collect() }
+}
+
 /// A step that a log may end at; none for a horizon of 2.
 pub fn step(rng: &mut Rng, horizon: i64) -> Option<i64> {
     (horizon > 2).then(|| rng.within(1, horizon as u64 - 2) as i64)

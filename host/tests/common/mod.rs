@@ -48,6 +48,11 @@ pub struct Call {
     pub output: usize,
 }
 
+/// The line with this number (from 1), cut out by splitting the text; a missing one is empty.
+pub fn line_of(text: &[u8], number: u32) -> &[u8] {
+    text.split(|byte| *byte == 10).nth(number as usize - 1).unwrap_or_default()
+}
+
 /// The number on the walk line of a job text, which calls of before were made with; the largest where there is none.
 pub fn walk_of(job: &[u8]) -> u64 {
     let lines = job.split(|byte| *byte == b'\n');

@@ -17,7 +17,8 @@ prefix=$(cd "$prefix" && pwd)
 plain="$scratch/prefix"
 export MAKEFLAGS=--no-print-directory
 make -s install PREFIX="$plain" DESTDIR=
-make -s install PREFIX=/usr DESTDIR="$prefix"
+python=/usr/lib/python3/dist-packages
+make -s install PREFIX=/usr DESTDIR="$prefix" PYTHONDIR="$python"
 calls=$(sed -n 's/^\(static inline \)*[a-z][a-z0-9_]* \(juzvarola_[a-z_]*\).*/\2/p' ../include/juzvarola.h)
 installed="bin/juzvarola bin/juzvarola-hall bin/juzvarola-judge bin/juzvarola-optimum bin/juzvarola-planner include/juzvarola.h lib/libjuzvarola.a lib/libjuzvarola.so.0 lib/pkgconfig/juzvarola.pc
 lib/cmake/juzvarola/juzvarola-config.cmake lib/cmake/juzvarola/juzvarola-config-version.cmake lib/python3/dist-packages/juzvarola.py
@@ -57,8 +58,12 @@ mv "$scratch/moved" "$plain"
 cp $job "$scratch/job.txt"
 "$plain/bin/juzvarola" plan "$scratch/job.txt" -o "$scratch/plan.txt" 2> /dev/null
 [ "$(cd "$scratch" && "$plain/bin/juzvarola-judge")" = "$(printf 'result=0\ncost=37')" ] || fail "judge refuses the plan"
-python='import juzvarola, sys; sys.stdout.write(juzvarola.plan(open(sys.argv[1], "rb").read()).lines.decode())'
-[ "$(PYTHONDONTWRITEBYTECODE=1 PYTHONPATH="$plain/lib/python3/dist-packages" python3 -c "$python" $job)" = "$expected" ] || fail "the Python module says something else"
+program='import juzvarola, sys; sys.stdout.write(juzvarola.plan(open(sys.argv[1], "rb").read()).lines.decode())'
+[ "$(PYTHONDONTWRITEBYTECODE=1 PYTHONPATH="$plain/lib/python3/dist-packages" python3 -c "$program" $job)" = "$expected" ] || fail "the Python module says something else"
+# Below a Python's own prefix that Python finds it by itself.
+python3 -m venv --without-pip "$scratch/venv"
+make -s install PREFIX="$scratch/venv" DESTDIR= PYTHON="$scratch/venv/bin/python3"
+[ "$("$scratch/venv/bin/python3" -c "$program" $job)" = "$expected" ] || fail "Python does not find its module below its own prefix"
 [ "$(bash -c '. "$1"; COMP_WORDS=(juzvarola jud); COMP_CWORD=1; _juzvarola; echo "${COMPREPLY[@]}"' x "$plain/share/bash-completion/completions/juzvarola")" = judge ] || fail "bash does not complete"
 for end in svg html; do
     "$plain/bin/juzvarola" draw "$scratch/job.txt" "$scratch/plan.txt" -o "$scratch/plan.$end" --from 2027-01-04 > /dev/null
@@ -81,7 +86,7 @@ for command in plan judge latest carry list draw compare count worth whatif fron
 done
 
 make -s uninstall PREFIX="$plain" DESTDIR=
-make -s uninstall PREFIX=/usr DESTDIR="$prefix"
+make -s uninstall PREFIX=/usr DESTDIR="$prefix" PYTHONDIR="$python"
 left=$(find "$plain" "$prefix" -type f)
 [ -z "$left" ] || fail "uninstall leaves $left"
 echo "installcheck: ok"

@@ -1,11 +1,10 @@
 //! The calendar: title and verdict, idle steps, steps, openings and stops; the rows and the foot are files of their own.
 
 use super::foot::foot;
-use super::labels::{round_distance, spread};
-use super::marks::{escaped, length, Marks};
+use super::labels::{file_name, lines, round_distance, spread};
+use super::marks::Marks;
 use super::rows;
-use super::sheet::{Sheet, STRIP};
-use super::style::{HATCH, STYLE};
+use super::sheet::{Sheet, EDGE, LINE, STRIP};
 use crate::naming::Naming;
 use crate::numbers::{counted, grouped, runs};
 use crate::texts::{Job, Plan};
@@ -14,21 +13,12 @@ use crate::verdicts::Judged;
 /// The least width of a hatched shape.
 const HATCHED: f64 = 6.0;
 
-/// The most of a file's name that is shown.
-const NAME: usize = 80;
-
 /// The whole picture.
 pub fn svg(judged: &Judged) -> String {
     let Judged { job, plan, naming, .. } = judged;
     let sheet = Sheet::of(judged);
-    let mut marks = Marks::default();
-    let (width, height) = (length(sheet.width), length(sheet.height));
-    let size = format!("width=\"{width}\" height=\"{height}\" viewBox=\"0 0 {width} {height}\"");
-    let label = escaped(&format!("Calendar of stops and part changes: {}", judged.words));
-    marks.plain(&format!("<svg xmlns=\"http://www.w3.org/2000/svg\" {size} role=\"img\" aria-label=\"{label}\">\n"));
-    marks.plain(&format!("<style>\n{STYLE}</style>\n{HATCH}"));
-    marks.rectangle("sheet", (0.0, 0.0), (sheet.width, sheet.height), &[], "");
-    head(&mut marks, judged);
+    let mut marks = Marks::sheet((sheet.width, sheet.height), &format!("Calendar of stops and part changes: {}", judged.words));
+    head(&mut marks, &sheet, judged);
     idle_steps(&mut marks, &sheet, job);
     axis(&mut marks, &sheet, job, naming);
     stop_lines(&mut marks, &sheet, plan);
@@ -41,21 +31,32 @@ pub fn svg(judged: &Judged) -> String {
     stop_labels(&mut marks, &sheet, judged);
     changes(&mut marks, &sheet, job, plan);
     foot(&mut marks, &sheet, judged);
-    marks.plain("</svg>\n");
     marks.text()
 }
 
-/// The title, and the verdict beneath it.
-fn head(marks: &mut Marks, judged: &Judged) {
+/// The title.
+pub fn title(judged: &Judged) -> String {
     let (job, plan) = (&judged.job, &judged.plan);
     let size = format!("{} over {}", counted(job.parts.len() as u64, "part"), counted(job.horizon, "step"));
     let what = format!("{}, {}", counted(plan.stops.len() as u64, "stop"), counted(plan.change_count(), "change"));
     let done = judged.past.map_or(String::new(), |past| format!("; done up to step {}", judged.naming.step(past.step)));
-    marks.words("title", (16.0, 30.0), &format!("Stops and part changes: {size}, {what}{done}"));
-    let (class, word) = if judged.result == 0 { ("verdict", "Verdict") } else { ("refused", "REFUSED") };
-    marks.words(class, (16.0, 52.0), &format!("{word}: {}{}.", judged.words, others(judged)));
+    format!("Stops and part changes: {size}, {what}{done}")
+}
+
+/// The verdict, in lines for a sheet of this width.
+pub fn verdict(judged: &Judged, width: f64) -> Vec<String> {
+    let (word, letter) = if judged.result == 0 { ("Verdict", 7.8) } else { ("REFUSED", 9.8) };
+    lines(format!("{word}: {}{}.", judged.words, others(judged)).split(' '), " ", width - 2.0 * EDGE, letter)
+}
+
+/// The title, the verdict beneath it, and whose they are.
+fn head(marks: &mut Marks, sheet: &Sheet, judged: &Judged) {
+    marks.words("title", (EDGE, 30.0), &title(judged));
+    let class = if judged.result == 0 { "verdict" } else { "refused" };
+    marks.lines(class, (EDGE, 52.0), LINE, &verdict(judged, sheet.width));
     let from = judged.naming.date(1).map_or(String::new(), |date| format!("; step 1 begins on {date}"));
-    marks.words("small", (16.0, 70.0), &format!("Plan {} of job {}{from}", file_name(&judged.plan_name), file_name(&judged.job_name)));
+    let whose = format!("Plan {} of job {}{from}", file_name(&judged.plan_name), file_name(&judged.job_name));
+    marks.words("small", (EDGE, 70.0 + sheet.verdict), &whose);
 }
 
 /// The parts that are not kept besides the one that the verdict names, which is the lowest.
@@ -65,15 +66,6 @@ fn others(judged: &Judged) -> String {
         None | Some([]) => String::new(),
         Some([one]) => format!("; nor is part {one}"),
         Some(rest) => format!("; nor are parts {}", runs(rest)),
-    }
-}
-
-/// The last part of a path, as much of it as has room.
-fn file_name(name: &str) -> String {
-    let last = name.rsplit('/').next().unwrap_or(name);
-    match last.char_indices().nth(NAME) {
-        Some((at, _)) => format!("{}..", &last[..at]),
-        None => last.to_string(),
     }
 }
 

@@ -1,13 +1,14 @@
 //! What stands beneath the rows: costs, and what the marks mean.
 
+use super::labels::lines;
 use super::marks::Marks;
-use super::sheet::Sheet;
+use super::sheet::{Sheet, EDGE, LINE};
 use crate::numbers::{grouped, span};
 use crate::standing::Bounds;
 use crate::verdicts::Judged;
 
-/// Costs and legend beneath.
-pub fn foot(marks: &mut Marks, sheet: &Sheet, judged: &Judged) {
+/// The costs in words and how the plan stands, in lines for a sheet of this width.
+pub fn costs(judged: &Judged, width: f64) -> Vec<String> {
     let costs = &judged.costs;
     let mut words = vec![format!("Fees {}", grouped(costs.fees)), format!("Parts {}", span(costs.low_parts(), costs.parts))];
     words.extend((costs.removals > 0).then(|| format!("Removals {}", grouped(costs.removals))));
@@ -18,9 +19,14 @@ pub fn foot(marks: &mut Marks, sheet: &Sheet, judged: &Judged) {
     );
     words.extend(Some(judged.plan.cost).filter(|stated| *stated != costs.total()).map(|stated| format!("Stated {}", grouped(stated))));
     words.extend(judged.standing().map(|standing| capital(&standing)));
-    marks.words("cost", (16.0, sheet.foot + 62.0), &words.join("  \u{b7}  "));
+    lines(words.iter().map(String::as_str), "  \u{b7}  ", width - 2.0 * EDGE, 10.4)
+}
+
+/// Costs and legend beneath.
+pub fn foot(marks: &mut Marks, sheet: &Sheet, judged: &Judged) {
+    marks.lines("cost", (EDGE, sheet.foot + 62.0), LINE, &costs(judged, sheet.width));
     bar(marks, sheet, judged);
-    legend(marks, (sheet.width - 16.0, sheet.foot + 118.0), judged);
+    legend(marks, &keys(judged), (EDGE, sheet.width - EDGE), sheet.foot + sheet.costs + 118.0);
 }
 
 /// The height of the bar of costs.
@@ -30,7 +36,7 @@ const BAR: f64 = 15.0;
 /// cheapest plan would end.
 fn bar(marks: &mut Marks, sheet: &Sheet, judged: &Judged) {
     let costs = &judged.costs;
-    let (top, left) = (sheet.foot + 73.0, 16.0);
+    let (top, left) = (sheet.foot + sheet.costs + 73.0, EDGE);
     let scale = (sheet.right - left) / costs.total().max(1) as f64;
     let own = [("fees", costs.fees), ("removals", costs.removals), ("other", costs.other), ("parts", costs.low_parts())];
     let band = [("band", costs.total().saturating_sub(costs.at_low()))];
@@ -69,15 +75,15 @@ fn capital(words: &str) -> String {
 }
 
 /// A mark of the legend: how it is drawn at a place, and what it means.
-type Key = (fn(&mut Marks, f64, f64), &'static str);
+pub type Key = (fn(&mut Marks, f64, f64), &'static str);
 
-/// What the marks mean, those that occur, in lines up to this edge.
-fn legend(marks: &mut Marks, (right, top): (f64, f64), judged: &Judged) {
-    let (mut x, mut y) = (16.0, top);
-    for (draw, words) in keys(judged) {
+/// What these marks mean, in lines from the left edge to the right one.
+pub fn legend(marks: &mut Marks, keys: &[Key], (left, right): (f64, f64), top: f64) {
+    let (mut x, mut y) = (left, top);
+    for (draw, words) in keys {
         let width = 34.0 + words.len() as f64 * 6.2 + 16.0;
-        if x + width > right {
-            (x, y) = (16.0, y + 19.0);
+        if x + width > right && x > left {
+            (x, y) = (left, y + 19.0);
         }
         draw(marks, x, y);
         marks.words("small", (x + 34.0, y), words);
@@ -87,21 +93,31 @@ fn legend(marks: &mut Marks, (right, top): (f64, f64), judged: &Judged) {
 
 /// The marks that occur.
 fn keys(judged: &Judged) -> Vec<Key> {
-    let Judged { job, plan, costs, .. } = judged;
-    let back = plan.stops.iter().any(|stop| !job.put_back(stop).is_empty());
+    let Judged { job, costs, .. } = judged;
     let all: [(bool, Key); 10] = [
-        (true, (life_key, "a life, filling as the part wears (used/life in running steps)")),
-        (true, (change_key, "part changed")),
-        (back, (back_key, "part out and back in")),
+        (true, LIFE),
+        (true, CHANGE),
+        (has_back(judged), BACK),
         (true, (stop_key, "stop")),
         (true, (opening_key, "opening not used")),
-        (!job.idles.is_empty(), (idle_key, "idle: no wear")),
+        (!job.idles.is_empty(), IDLE),
         (judged.past.is_some(), (done_key, "what was done")),
         (costs.at_low() < costs.total(), (band_key, "from low to high prices")),
         (cheaper(judged).is_some(), (cheapest_key, "cost of the cheapest plan")),
         (judged.result == 10, (late_key, "past its life")),
     ];
     all.into_iter().filter(|(occurs, _)| *occurs).map(|(_, key)| key).collect()
+}
+
+/// The marks that a hall has too.
+pub const LIFE: Key = (life_key, "a life, filling as the part wears (used/life in running steps)");
+pub const CHANGE: Key = (change_key, "part changed");
+pub const BACK: Key = (back_key, "part out and back in");
+pub const IDLE: Key = (idle_key, "idle: no wear");
+
+/// Whether a part comes out at a stop and goes back in.
+pub fn has_back(judged: &Judged) -> bool {
+    judged.plan.stops.iter().any(|stop| !judged.job.put_back(stop).is_empty())
 }
 
 /// A rectangle of the legend.

@@ -1,39 +1,36 @@
 //! A front as a picture: a column for each number of stops, which is what its cheapest plan costs.
 
-use super::marks::{escaped, length, Marks};
-use super::style::{HATCH, STYLE};
+use super::labels::file_name;
+use super::marks::Marks;
+use super::sheet::EDGE;
 use crate::costs::Costs;
 use crate::front::Front;
 use crate::fronts::Point;
 use crate::numbers::{counted, grouped, signed};
 
 /// The width of a column.
-const COLUMN: f64 = 58.0;
+const COLUMN: f64 = 72.0;
 /// How far one column begins behind the other.
-const PLACE: f64 = 96.0;
+const PLACE: f64 = 112.0;
 /// The height of the dearest column.
 const HEIGHT: f64 = 300.0;
 /// The line that columns stand on.
 const FLOOR: f64 = 420.0;
 /// Where the first column begins.
 const LEFT: f64 = 110.0;
-/// The least width: the title has to have room.
+/// The least width.
 const LEAST: f64 = 760.0;
 
 /// The whole picture.
 pub fn svg(front: &Front) -> String {
-    let width = (LEFT + PLACE * front.points.len() as f64 + 30.0).max(LEAST);
-    let height = FLOOR + 118.0;
-    let mut marks = Marks::default();
-    let size = format!("width=\"{0}\" height=\"{1}\" viewBox=\"0 0 {0} {1}\"", length(width), length(height));
-    let label = escaped(&format!("Cost by the number of stops: {}", front.words()));
-    marks.plain(&format!("<svg xmlns=\"http://www.w3.org/2000/svg\" {size} role=\"img\" aria-label=\"{label}\">\n"));
-    marks.plain(&format!("<style>\n{STYLE}</style>\n{HATCH}"));
-    marks.rectangle("sheet", (0.0, 0.0), (width, height), &[], "");
-    marks.words("title", (16.0, 30.0), "What each number of stops costs");
     let from = front.cheapest().map_or(String::new(), |least| format!(": the least cost has {}", counted(least.stops, "stop")));
     let proved = if front.result == 0 { "; each plan is proved the cheapest with as many" } else { "" };
-    marks.words("verdict", (16.0, 52.0), &format!("Job {}{from}{proved}", front.name.rsplit('/').next().unwrap_or(&front.name)));
+    let verdict = format!("Job {}{from}{proved}", file_name(&front.name));
+    let own = LEFT + PLACE * front.points.len() as f64 + 30.0;
+    let width = own.max(LEAST).max(2.0 * EDGE + verdict.chars().count() as f64 * 7.8);
+    let mut marks = Marks::sheet((width, FLOOR + 118.0), &format!("Cost by the number of stops: {}", front.words()));
+    marks.words("title", (EDGE, 30.0), "What each number of stops costs");
+    marks.words("verdict", (EDGE, 52.0), &verdict);
     for (words, y) in [("stops", 20.0), ("changes", 37.0), ("life left", 54.0)] {
         marks.words("small end", (LEFT - 14.0, FLOOR + y), words);
     }
@@ -42,7 +39,6 @@ pub fn svg(front: &Front) -> String {
     }
     marks.line("tick", (LEFT - 6.0, FLOOR), (LEFT + PLACE * front.points.len() as f64 - PLACE + COLUMN + 6.0, FLOOR), &[]);
     legend(&mut marks, front);
-    marks.plain("</svg>\n");
     marks.text()
 }
 
@@ -92,7 +88,7 @@ fn pieces(marks: &mut Marks, costs: &Costs, stops: u64, (left, scale): (f64, f64
 
 /// What the colours mean.
 fn legend(marks: &mut Marks, front: &Front) {
-    let mut x = 16.0;
+    let mut x = EDGE;
     let y = FLOOR + 96.0;
     let open = front.points.iter().any(|point| !point.is_proved());
     let all = [

@@ -2,11 +2,11 @@
 //! rows for each line.
 
 use super::calendar::{axis, changes, hatching, idle_steps, stop_lines};
+use super::foot::{has_back, legend, Key, BACK, CHANGE, IDLE, LIFE};
 use super::labels::spread;
-use super::marks::{escaped, length, Marks};
+use super::marks::Marks;
 use super::rows;
-use super::sheet::Sheet;
-use super::style::{HATCH, STYLE};
+use super::sheet::{Sheet, EDGE};
 use crate::hall::Planned;
 use crate::numbers::{counted, grouped, percent};
 use crate::verdicts::Judged;
@@ -31,12 +31,8 @@ pub fn svg(planned: &Planned) -> String {
     let sheets = sheets(planned);
     let Some((first, last)) = sheets.first().zip(sheets.last()) else { return String::new() };
     let (width, height) = (first.width, last.bottom + AXIS + FOOT);
-    let mut marks = Marks::default();
-    let size = format!("width=\"{0}\" height=\"{1}\" viewBox=\"0 0 {0} {1}\"", length(width), length(height));
-    let label = escaped(&format!("Calls of the crew and part changes of {}", counted(sheets.len() as u64, "line")));
-    marks.plain(&format!("<svg xmlns=\"http://www.w3.org/2000/svg\" {size} role=\"img\" aria-label=\"{label}\">\n"));
-    marks.plain(&format!("<style>\n{STYLE}</style>\n{HATCH}"));
-    marks.rectangle("sheet", (0.0, 0.0), (width, height), &[], "");
+    let words = format!("Calls of the crew and part changes of {}: {}", counted(sheets.len() as u64, "line"), title(planned));
+    let mut marks = Marks::sheet((width, height), &words);
     head(&mut marks, planned);
     let job = &planned.lines[0].job;
     axis(&mut marks, &Sheet { strip: first.top, bottom: last.bottom, ..sheets[0] }, job, &planned.naming);
@@ -45,13 +41,12 @@ pub fn svg(planned: &Planned) -> String {
         block(&mut marks, planned, at, line, sheet);
     }
     costs(&mut marks, planned, last);
-    marks.plain("</svg>\n");
     marks.text()
 }
 
 /// Where each line's block stands: all of one width, beneath each other.
 fn sheets(planned: &Planned) -> Vec<Sheet> {
-    let own: Vec<Sheet> = planned.lines.iter().map(Sheet::of).collect();
+    let own: Vec<Sheet> = planned.lines.iter().map(|line| Sheet::with_rows(line, ROW)).collect();
     let widest = |of: &dyn Fn(&Sheet) -> f64| own.iter().map(of).fold(0.0, f64::max);
     let (left, margin) = (widest(&|sheet| sheet.left), widest(&|sheet| sheet.width - sheet.right));
     let mut y = HEAD + STRIP;
@@ -60,23 +55,28 @@ fn sheets(planned: &Planned) -> Vec<Sheet> {
         let top = y + HEADING;
         let bottom = top + ROW * line.job.parts.len() as f64;
         let right = left + (sheet.right - sheet.left);
-        sheets.push(Sheet { left, right, width: right + margin, strip: top - super::sheet::STRIP, top, bottom, row: ROW, ..sheet });
+        sheets.push(Sheet { left, right, width: right + margin, strip: top - super::sheet::STRIP, top, bottom, ..sheet });
         y = bottom;
     }
     sheets
 }
 
-/// The title, and what planning together saves.
-fn head(marks: &mut Marks, planned: &Planned) {
+/// The title.
+fn title(planned: &Planned) -> String {
     let lines = counted(planned.lines.len() as u64, "line");
     let calls = counted(planned.calls().len() as u64, "call");
     let cost = planned.cost().map_or(String::new(), grouped);
+    format!("A hall of {lines} and one crew: {calls}, {cost} in all")
+}
+
+/// The title, and what planning together saves.
+fn head(marks: &mut Marks, planned: &Planned) {
     let verdict = match planned.result() {
         0 => "the cheapest possible (proved)".to_string(),
         _ => format!("the best plans so far; none cost less than {}", grouped(planned.value("floor").unwrap_or(0))),
     };
-    marks.words("title", (16.0, 30.0), &format!("A hall of {lines} and one crew: {calls}, {cost} in all"));
-    marks.words("verdict", (16.0, 52.0), &format!("Planned together: {verdict}."));
+    marks.words("title", (EDGE, 30.0), &title(planned));
+    marks.words("verdict", (EDGE, 52.0), &format!("Planned together: {verdict}."));
     let saved = planned.cost().zip(planned.cost_alone()).filter(|(cost, alone)| cost < alone);
     let words = match saved {
         Some((cost, alone)) => format!(
@@ -88,7 +88,7 @@ fn head(marks: &mut Marks, planned: &Planned) {
         ),
         None => "Each line planned alone costs no more.".to_string(),
     };
-    marks.words("verdict", (16.0, 71.0), &words);
+    marks.words("verdict", (EDGE, 71.0), &words);
 }
 
 /// The strip: a disc for each call with its step above and a line down through all lines, and a hollow one where only lines planned alone would call.
@@ -126,7 +126,7 @@ fn block(marks: &mut Marks, planned: &Planned, at: usize, line: &Judged, sheet: 
         counted(plan.change_count(), "change"),
         grouped(plan.cost)
     );
-    marks.words("part", (16.0, sheet.top - 10.0), &format!("Line {}", at + 1));
+    marks.words("part", (EDGE, sheet.top - 10.0), &format!("Line {}", at + 1));
     marks.words_on_white("small", (sheet.left + 4.0, sheet.top - 10.0), &words);
     idle_steps(marks, sheet, job);
     stop_lines(marks, &Sheet { strip: sheet.top, ..*sheet }, plan);
@@ -164,23 +164,29 @@ fn costs(marks: &mut Marks, planned: &Planned, sheet: &Sheet) {
             x += width;
         }
     }
-    legend(marks, planned, (left, top + 74.0));
+    legend(marks, &keys(planned), (left, sheet.width - EDGE), top + 74.0);
 }
 
-/// What the marks mean.
-fn legend(marks: &mut Marks, planned: &Planned, (left, y): (f64, f64)) {
+/// The marks that occur.
+fn keys(planned: &Planned) -> Vec<Key> {
     let own = planned.calls();
-    let hollow = planned.calls_alone().iter().any(|step| !own.contains(step));
-    marks.circle("call", (left + 8.0, y - 4.0), DISC, &[], "");
-    marks.words("small", (left + 22.0, y), "a call of the crew");
-    marks.polygon(
-        "change-key",
-        &[(left + 158.0, y - 10.0), (left + 164.0, y - 4.0), (left + 158.0, y + 2.0), (left + 152.0, y - 4.0)],
-        &[],
-    );
-    marks.words("small", (left + 172.0, y), "part changed");
-    if hollow {
-        marks.circle("call-alone", (left + 276.0, y - 4.0), DISC - 1.0, &[], "");
-        marks.words("small", (left + 290.0, y), "a call that planning each line alone would need");
-    }
+    let all: [(bool, Key); 6] = [
+        (true, (call_key, "a call of the crew")),
+        (planned.calls_alone().iter().any(|step| !own.contains(step)), (alone_key, "a call that planning each line alone would need")),
+        (true, CHANGE),
+        (planned.lines.iter().any(has_back), BACK),
+        (planned.lines.iter().any(|line| !line.job.idles.is_empty()), IDLE),
+        (true, LIFE),
+    ];
+    all.into_iter().filter(|(occurs, _)| *occurs).map(|(_, key)| key).collect()
+}
+
+/// A call's disc.
+fn call_key(marks: &mut Marks, x: f64, y: f64) {
+    marks.circle("call", (x + 14.0, y - 4.0), DISC, &[], "");
+}
+
+/// The hollow disc of a call that is not made.
+fn alone_key(marks: &mut Marks, x: f64, y: f64) {
+    marks.circle("call-alone", (x + 14.0, y - 4.0), DISC - 1.0, &[], "");
 }

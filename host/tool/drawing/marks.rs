@@ -1,7 +1,8 @@
 //! The marks that a picture is made of: elements of SVG with their attributes, well formed whatever the names are.
 
-/// Elements so far.
-#[derive(Default)]
+use super::style::{HATCH, STYLE};
+
+/// A picture so far.
 pub struct Marks {
     text: String,
 }
@@ -30,6 +31,15 @@ pub fn length(value: f64) -> String {
 }
 
 impl Marks {
+    /// An empty sheet of this size, with the words that are read out in the picture's place.
+    pub fn sheet((width, height): (f64, f64), words: &str) -> Marks {
+        let size = format!("width=\"{0}\" height=\"{1}\" viewBox=\"0 0 {0} {1}\"", length(width), length(height));
+        let open = format!("<svg xmlns=\"http://www.w3.org/2000/svg\" {size} role=\"img\" aria-label=\"{}\">\n", escaped(words));
+        let mut marks = Marks { text: format!("{open}<style>\n{STYLE}</style>\n{HATCH}") };
+        marks.rectangle("sheet", (0.0, 0.0), (width, height), &[], "");
+        marks
+    }
+
     /// An element with these attributes, and with a tip of its own where there is one.
     pub fn element(&mut self, name: &str, attributes: &[(&str, String)], tip: &str) {
         self.text += &format!("<{name}{}", listed(attributes));
@@ -81,14 +91,14 @@ impl Marks {
         self.text += &format!("<text{}>{}</text>\n", listed(&[("class", class.to_string()), ("transform", turn)]), escaped(words));
     }
 
-    /// Elements that are written out as they are.
-    pub fn plain(&mut self, text: &str) {
-        self.text += text;
+    /// Words in lines beneath each other.
+    pub fn lines(&mut self, class: &str, at: (f64, f64), distance: f64, lines: &[String]) {
+        lines.iter().zip(0u8..).for_each(|(line, below)| self.words(class, (at.0, at.1 + distance * f64::from(below)), line));
     }
 
-    /// All elements.
+    /// The whole picture.
     pub fn text(self) -> String {
-        self.text
+        self.text + "</svg>\n"
     }
 }
 

@@ -1,5 +1,6 @@
 //! The rows: each part's lives as bars that fill as the part wears.
 
+use super::labels::cut;
 use super::marks::Marks;
 use super::sheet::Sheet;
 use crate::costs::{low_prices_of_part, prices_of_part, removals_of_part};
@@ -30,7 +31,11 @@ pub fn words(marks: &mut Marks, sheet: &Sheet, judged: &Judged, part: u64) {
     let Judged { job, plan, naming, .. } = judged;
     let middle = sheet.y(part) + sheet.row / 2.0;
     let Some(own) = (part as usize).checked_sub(1).and_then(|at| job.parts.get(at)) else { return };
-    marks.words("part", (16.0, middle - 1.0), &naming.name(part).map_or(format!("Part {part}"), |name| format!("{part} {}", cut(&name))));
+    marks.words(
+        "part",
+        (16.0, middle - 1.0),
+        &naming.name(part).map_or(format!("Part {part}"), |name| format!("{part} {}", cut(&name, NAME))),
+    );
     let behind = if own.holders.is_empty() { String::new() } else { format!("behind {}", runs(&own.holders)) };
     let life = format!("life {}, left {}", own.life, own.left);
     // Where rows are low the two stand side by side, if they can.
@@ -42,28 +47,23 @@ pub fn words(marks: &mut Marks, sheet: &Sheet, judged: &Judged, part: u64) {
     }
     let count = plan.changes(part).len() as u64;
     marks.words("part", (sheet.right + 12.0, middle - 1.0), &counted(count, "change"));
+    two_lines(marks, (sheet.right + 12.0, middle), &amounts(job, plan, part, sheet.row));
+}
+
+/// What a part's changes cost, in the lines that a row of this height has room for.
+pub fn amounts(job: &Job, plan: &Plan, part: u64, row: f64) -> [String; 2] {
     let prices = span(low_prices_of_part(job, plan, part), prices_of_part(job, plan, part));
-    let removals = removals_of_part(job, plan, part);
-    let lines = match removals {
+    match removals_of_part(job, plan, part) {
         0 => [format!("prices {prices}"), String::new()],
-        out if sheet.row < LOW => [format!("{prices} + {} removals", grouped(out)), String::new()],
+        out if row < LOW => [format!("{prices} + {} removals", grouped(out)), String::new()],
         out => [format!("prices {prices}"), format!("removals {}", grouped(out))],
-    };
-    two_lines(marks, (sheet.right + 12.0, middle), &lines);
+    }
 }
 
 /// Small words beneath a part's or a sum's own; an empty line is left out.
 fn two_lines(marks: &mut Marks, (x, middle): (f64, f64), lines: &[String; 2]) {
     for (words, below) in lines.iter().zip([12.0, 24.0]).filter(|(words, _)| !words.is_empty()) {
         marks.words("small", (x, middle + below), words);
-    }
-}
-
-/// A name as long as there is room for.
-fn cut(name: &str) -> String {
-    match name.char_indices().nth(NAME) {
-        Some((at, _)) => format!("{}..", &name[..at]),
-        None => name.to_string(),
     }
 }
 

@@ -1,5 +1,6 @@
 //! The sheet: how large it is and where things stand on it.
 
+use super::{calendar, foot, rows};
 use crate::numbers::grouped;
 use crate::verdicts::Judged;
 
@@ -7,22 +8,26 @@ use crate::verdicts::Judged;
 const CALENDAR: f64 = 1100.0;
 /// The left margin, and what it is where parts have names or stand behind others.
 const LEFT: f64 = 132.0;
-const WIDE_LEFT: f64 = 214.0;
-/// The right margin, and what it is where parts have removals.
+const WIDE_LEFT: f64 = 226.0;
+/// The least right margin.
 const RIGHT: f64 = 128.0;
-const WIDE_RIGHT: f64 = 172.0;
-/// Title and verdict.
+/// Title and verdict, where that has one line.
 const HEAD: f64 = 78.0;
 /// The strip that shows the openings.
 pub const STRIP: f64 = 12.0;
 /// The axis with its numbers, and a line of dates.
 const AXIS: f64 = 34.0;
 const DATES: f64 = 14.0;
-/// Costs with their bar, and the legend.
+/// Costs with their bar, and the legend, where the costs have one line.
 const FOOT: f64 = 118.0;
-/// The width of a digit in a label, and of a date.
+/// Each further line of the verdict or of the costs.
+pub const LINE: f64 = 18.0;
+/// What is left free at the sheet's left and right edges.
+pub const EDGE: f64 = 16.0;
+/// The width of a digit in a label, of a date, and of a letter in small words.
 const DIGIT: f64 = 7.2;
 const DATE: f64 = 66.0;
+const SMALL: f64 = 6.8;
 
 /// Sizes and places, in units of the picture.
 pub struct Sheet {
@@ -39,6 +44,9 @@ pub struct Sheet {
     pub step: f64,
     /// Where the foot begins.
     pub foot: f64,
+    /// How far down the lines of the verdict, and those of the costs, move what stands beneath them.
+    pub verdict: f64,
+    pub costs: f64,
     /// How far apart the stops' labels must be, and whether they run upwards.
     pub label: f64,
     pub upwards: bool,
@@ -49,12 +57,17 @@ pub struct Sheet {
 impl Sheet {
     /// The sheet for a plan of a job.
     pub fn of(judged: &Judged) -> Sheet {
-        let Judged { job, plan, naming, .. } = judged;
-        let row = match job.parts.len() {
+        let row = match judged.job.parts.len() {
             0..=6 => 58.0,
             7..=10 => 46.0,
             _ => 36.0,
         };
+        Sheet::with_rows(judged, row)
+    }
+
+    /// The sheet with rows of this height.
+    pub fn with_rows(judged: &Judged, row: f64) -> Sheet {
+        let Judged { job, plan, naming, .. } = judged;
         let digits = plan.stops.iter().map(|stop| grouped(job.fee(stop.step)).len().max(stop.step.to_string().len())).max().unwrap_or(1);
         let dated = |more: f64| if naming.has_dates() { more } else { 0.0 };
         let level = (digits as f64 * DIGIT).max(dated(DATE)) + 10.0;
@@ -62,15 +75,19 @@ impl Sheet {
         let band = if upwards { (digits + 6) as f64 * DIGIT + 20.0 + dated(DATE + 2.0 * DIGIT) } else { 48.0 + dated(DATES) };
         let wide = naming.has_names() || job.parts.iter().any(|part| !part.holders.is_empty());
         let left = if wide { WIDE_LEFT } else { LEFT };
-        let right = if job.has_removals() { WIDE_RIGHT } else { RIGHT };
-        let strip = HEAD + band;
+        let amounts = (1..=job.parts.len() as u64).flat_map(|part| rows::amounts(job, plan, part, row));
+        let right = amounts.map(|words| words.len() as f64 * SMALL + 28.0).fold(RIGHT, f64::max);
+        let width = left + CALENDAR + right;
+        let more = |lines: Vec<String>| LINE * lines.len().saturating_sub(1) as f64;
+        let (verdict, costs) = (more(calendar::verdict(judged, width)), more(foot::costs(judged, width)));
+        let strip = HEAD + verdict + band;
         let top = strip + STRIP + 6.0;
         let bottom = top + row * job.parts.len() as f64;
         // Lines of dates and of other numbers beneath the axis.
         let beneath = dated(DATES) + if judged.past.is_some() || naming.whole(0).is_some() { DATES } else { 0.0 };
         Sheet {
-            width: left + CALENDAR + right,
-            height: bottom + AXIS + FOOT + beneath,
+            width,
+            height: bottom + AXIS + costs + FOOT + beneath,
             left,
             right: left + CALENDAR,
             strip,
@@ -79,6 +96,8 @@ impl Sheet {
             row,
             step: CALENDAR / job.end().max(1) as f64,
             foot: bottom + beneath,
+            verdict,
+            costs,
             label: if upwards { 13.0 } else { level },
             upwards,
             past: judged.past.map_or(0, |past| past.step),

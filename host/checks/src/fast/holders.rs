@@ -252,9 +252,8 @@ impl<const Q: usize> Held<Q> {
         let j = if opening { node.at + 1 } else { node.at };
         let least = front.ends.at(&self.lines.ends, &front.rows, node.rows - 1, j);
         let mut sum = Plain::splat(0);
-        for q in 0..Q {
-            let beside = least[j][q];
-            let own = if opening { beside } else { least[j - 1][q].greatest(beside.least(Plain::shut(shut >> (4 * q), INF))) };
+        for (q, beside) in least[j].iter().enumerate() {
+            let own = if opening { *beside } else { least[j - 1][q].greatest(beside.least(Plain::shut(shut >> (4 * q), INF))) };
             sum = sum.plus(own);
         }
         sum.sum() as u32

@@ -69,34 +69,38 @@ impl Lanes for Plain {
 #[derive(Clone, Copy)]
 pub struct Sse2(__m128i);
 
-// SAFETY of all below: every x86-64 machine has SSE2, and `load` reads a slice of four.
 #[cfg(target_arch = "x86_64")]
 impl Lanes for Sse2 {
     const COUNT: usize = 4;
 
     #[inline(always)]
     fn load(from: &[u32]) -> Sse2 {
+        // SAFETY: every x86-64 machine has SSE2; a slice of 4 is read.
         unsafe { Sse2(_mm_loadu_si128(from[..4].as_ptr().cast())) }
     }
 
     #[inline(always)]
     fn splat(value: u32) -> Sse2 {
+        // SAFETY: every x86-64 machine has SSE2.
         unsafe { Sse2(_mm_set1_epi32(value as i32)) }
     }
 
     #[inline(always)]
     fn plus(self, other: Sse2) -> Sse2 {
+        // SAFETY: every x86-64 machine has SSE2.
         unsafe { Sse2(_mm_add_epi32(self.0, other.0)) }
     }
 
     // SSE2 has no minimum of 32-bit integers. Read as floats, positive numbers below infinity have the same order.
     #[inline(always)]
     fn least(self, other: Sse2) -> Sse2 {
+        // SAFETY: every x86-64 machine has SSE2.
         unsafe { Sse2(_mm_castps_si128(_mm_min_ps(_mm_castsi128_ps(self.0), _mm_castsi128_ps(other.0)))) }
     }
 
     #[inline(always)]
     fn sum(self) -> u64 {
+        // SAFETY: every x86-64 machine has SSE2.
         unsafe {
             let zero = _mm_setzero_si128();
             let pairs = _mm_add_epi64(_mm_unpacklo_epi32(self.0, zero), _mm_unpackhi_epi32(self.0, zero));
@@ -109,33 +113,37 @@ impl Lanes for Sse2 {
 #[derive(Clone, Copy)]
 pub struct Avx2(__m256i);
 
-// SAFETY of all below: called only from `walk_avx2`, on machines with AVX2; `load` reads a slice of eight.
 #[cfg(target_arch = "x86_64")]
 impl Lanes for Avx2 {
     const COUNT: usize = 8;
 
     #[inline(always)]
     fn load(from: &[u32]) -> Avx2 {
+        // SAFETY: run only within `walk_avx2`, on machines with AVX2; a slice of 8 is read.
         unsafe { Avx2(_mm256_loadu_si256(from[..8].as_ptr().cast())) }
     }
 
     #[inline(always)]
     fn splat(value: u32) -> Avx2 {
+        // SAFETY: run only within `walk_avx2`, on machines with AVX2.
         unsafe { Avx2(_mm256_set1_epi32(value as i32)) }
     }
 
     #[inline(always)]
     fn plus(self, other: Avx2) -> Avx2 {
+        // SAFETY: run only within `walk_avx2`, on machines with AVX2.
         unsafe { Avx2(_mm256_add_epi32(self.0, other.0)) }
     }
 
     #[inline(always)]
     fn least(self, other: Avx2) -> Avx2 {
+        // SAFETY: run only within `walk_avx2`, on machines with AVX2.
         unsafe { Avx2(_mm256_min_epi32(self.0, other.0)) }
     }
 
     #[inline(always)]
     fn sum(self) -> u64 {
+        // SAFETY: run only within `walk_avx2`, on machines with AVX2.
         unsafe {
             let zero = _mm256_setzero_si256();
             let fours = _mm256_add_epi64(_mm256_unpacklo_epi32(self.0, zero), _mm256_unpackhi_epi32(self.0, zero));

@@ -139,10 +139,11 @@ impl Job {
             Unit::Recursive => self.by_width::<Plain, Recursion>(),
             #[cfg(target_arch = "x86_64")]
             Unit::Sse2 => self.by_width::<Sse2, Loop>(),
-            // SAFETY: the machine has AVX2, as asserted.
             #[cfg(target_arch = "x86_64")]
             Unit::Avx2 => match self.parts.len() {
+                // SAFETY: the machine has AVX2, as asserted.
                 0..=8 => unsafe { walk_avx2::<1>(self) },
+                // SAFETY: the same.
                 _ => unsafe { walk_avx2::<2>(self) },
             },
             Unit::Holders => match self.parts.len() {

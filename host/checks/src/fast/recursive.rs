@@ -54,7 +54,8 @@ impl<V: Lanes, const Q: usize> Tables<V, Q> {
     /// The part sums of the no where it is walked on. It is missing where its term is. Else no part costs less than at the node above, so it
     /// is tested with that one's sum before any row is summed.
     #[inline(always)]
-    fn below(&self, front: &mut Front<V, Q>, limit: u64, rows: usize, at: usize, spent: u64, sum: u32, state: Search) -> Option<u32> {
+    fn below(&self, front: &mut Front<V, Q>, limit: u64, no: Node, sum: u32, state: Search) -> Option<u32> {
+        let Node { rows, at, spent, .. } = no;
         let term = self.term(front, rows, at);
         if term >= u64::from(INF) || !state.opens(limit, spent + term + u64::from(sum)) {
             return None;
@@ -74,7 +75,7 @@ impl<V: Lanes, const Q: usize> Tables<V, Q> {
             rows += 1;
         }
         let no = Node { at: node.at + 1, rows, mask: node.mask * 2, ..node };
-        let state = match self.below(front, limit, rows, no.at, no.spent, sum, state) {
+        let state = match self.below(front, limit, no, sum, state) {
             Some(below) => self.on(front, limit, no, false, below, state.counted()),
             None => state.reached(limit),
         };

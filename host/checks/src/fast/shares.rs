@@ -154,8 +154,7 @@ impl Ascent<'_> {
         least[0] = [0; LANES];
         for t in 0..=n {
             let mut row = [INF; LANES];
-            for mark in self.first[t]..=t {
-                let (from, reach) = (&least[mark], &self.reach[t][mark]);
+            for (from, reach) in least.iter().zip(&self.reach[t]).skip(self.first[t]) {
                 (0..LANES).for_each(|q| row[q] = row[q].min(from[q] + reach[q]));
             }
             if t < n {
@@ -172,8 +171,11 @@ impl Ascent<'_> {
     fn trace(&mut self, least: &[Row; MARKS + 1], q: usize) -> Option<i64> {
         let mut t = self.numbers.openings;
         let cost = least[t + 1][q];
+        if cost >= INF {
+            return None;
+        }
         let mut goal = cost;
-        while cost < INF {
+        loop {
             let mut mark = t;
             while least[mark][q] != goal || self.reach[t][mark][q] != 0 {
                 mark -= 1;
@@ -185,7 +187,6 @@ impl Ascent<'_> {
             self.changed[t][q] = true;
             goal -= self.numbers.prices[t][q] * self.scale + self.now.iter().map(|own| own[t][q]).sum::<i32>();
         }
-        None
     }
 
     /// One round: the value of the table, which is kept if it is the best, and a step towards the target.

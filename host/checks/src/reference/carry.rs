@@ -25,8 +25,8 @@ pub fn read_log(job: &Job, text: &[u8]) -> Result<Log, Fault> {
 impl Job {
     /// "`left` is the life not yet used": after these changes, by this step.
     fn life_left(&self, part: &Part, changes: &Set, step: i64) -> i64 {
-        let changed = self.openings.iter().zip(changes).filter(|(_, changed)| **changed).map(|(opening, _)| opening.step);
-        let last = changed.last().unwrap_or(part.first_change());
+        let last = self.openings.iter().zip(changes).rfind(|(_, changed)| **changed);
+        let last = last.map_or(part.first_change(), |(opening, _)| opening.step);
         part.life - self.distance(last, step)
     }
 

@@ -24,7 +24,7 @@ impl Known {
 /// Whether these are the lines of a plan that keeps every life, at its true cost, which is no less than `floor` and no more than `most`.
 fn is_plan(job: &Job, lines: &str, floor: u64, most: u64) -> bool {
     let Some(at) = lines.find("cost=") else { return false };
-    let Ok((plan, cost)) = read_plan(job, lines[at..].as_bytes()) else { return false };
+    let Ok((plan, cost)) = read_plan(job, &lines.as_bytes()[at..]) else { return false };
     job.keeps(&plan) && printed_lines(job, &plan) == lines && (floor..=most).contains(&cost)
 }
 
