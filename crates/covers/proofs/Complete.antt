@@ -1,7 +1,7 @@
 -- Valid lines of removal, written, are read back as exactly what they say (`cover_complete`). By the grammar's lines, one after the other.
 use Rattle.std.specs.Prelude.{Option, Some, None}
 use Prim.Native.Nat.{ℕ, ◌≤◌}
-use mathlib.Core.Path.{◌≡◌, ap, ◌∙◌}
+use mathlib.Core.Path.{◌≡◌, refl, ap, ◌∙◌}
 use mathlib.Core.List.{List, [], ◌∷◌, ◌++◌, append_assoc}
 use mathlib.Core.Bool.{true, false}
 use native.Mathlib.Omega.{arith}
@@ -31,11 +31,11 @@ holds_chained m k before [] few v = tt
 holds_chained m k before (h ∷ hs) few v =
     ((record { low = omega (arith, v.0); high = omega (arith, v.1); after = v.0; within = v.1 }, v.2), holds_chained m k h hs few v.3)
 
--- what follows them does not begin with their key
-pub cover_complete : (m k : ℕ) → m ≤ 16 → (o : Option Cover) → ValidLines m k o → (s : List ℕ) (l : ℕ) → starts_with (bytes "removal=") s ≡ false
+-- what follows where none stand does not begin with their key
+pub cover_complete : (m k : ℕ) → m ≤ 16 → (o : Option Cover) → ValidLines m k o → (s : List ℕ) (l : ℕ) → (o ≡ None → starts_with (bytes "removal=") s ≡ false)
     → (l' : ℕ) × (cover m k (optional_text cover_text o ++ s) l ≡ good o s l')
 unfolding cover inside holders if_present return cover_text
-cover_complete m k few None v s l e = (l, bind_good (optional "removal=" 0 1000000) _ (optional_missing _ 0 1000000 s l e))
+cover_complete m k few None v s l e = (l, bind_good (optional "removal=" 0 1000000) _ (optional_missing _ 0 1000000 s l (e refl)))
 cover_complete m k few (Some c) v s l e =
     let n = line_of "inside=" (length c.holders) in
     let hs = texts (line_of "holder=") c.holders in

@@ -51,14 +51,24 @@ use mathlib.Core.Path.{subst, sym}
 use mathlib.Core.List.{List}
 use lib.ListN.{length}
 use Rattle.delivered.specs.Delivered.{Delivered}
-use Rattle.delivered.proofs.Halls.{halls_by_meaning}
+use Rattle.delivered.proofs.Halls.{halls_by_meaning, hall_floor}
 use Rattle.delivered.proofs.Outlives.{no_change}
 use Rattle.delivered.proofs.Missing.{missing_exactly}
 use Rattle.delivered.proofs.Circles.{together}
 use Rattle.delivered.proofs.Demands.{judge_accepts, planner_6, planner_0}
 use Rattle.delivered.proofs.Optima.{optima_alike}
 use Rattle.delivered.proofs.FirstFaults.{job_first, plan_first, log_first, hall_first, job_spans, plan_spans, log_spans, hall_spans}
-use Rattle.delivered.proofs.Fourteen.{fourteen_line, fourteen_only}
+use Rattle.delivered.proofs.Fourteen.{fourteen_line, fourteen_only, own_fault}
+use Rattle.hall_model.proofs.Roots.{floor_least as hall-floor-least}
+use Rattle.delivered.proofs.Worn.{changed_early}
+use Rattle.delivered.proofs.Rests.{rests}
+use Rattle.delivered.proofs.LogFaults.{step_3, nothing_2, step_alone_2, later_9}
+use Rattle.delivered.proofs.AtFault.{job_at_fault, plan_at_fault, log_at_fault, hall_at_fault, job_long, plan_long, log_long, hall_long}
+use Rattle.delivered.proofs.Written.{written_short, written_reached}
+use Rattle.delivered.proofs.FormFaults.{start_first, openings_first}
+use Rattle.delivered.proofs.Results.{results}
+use Rattle.delivered.proofs.More.{job_more, plan_more}
+use Rattle.delivered.proofs.Early.{job_early, plan_early, log_early}
 use Rattle.delivered.proofs.Carrying.{told, there, walk_carried, rules_carried, forms_kept}
 
 -- what is promised beside the calls' own promises holds
@@ -134,4 +144,30 @@ delivered = record {
   R21_log = log_spans;
   R21_hall = hall_spans;
   D1_optimum = optima_alike;
+  E14_2_own_fault = own_fault;
+  E14_5_floor = hall_floor;
+  E14_5_least = hall-floor-least;
+  E12_1_step = λ text r. step_3 r.given.job;
+  E12_1_left_out = λ text r. (nothing_2 r.given.job, λ step low high. step_alone_2 r.given.job (valid text r.given r.is).job step low high);
+  E12_1_later_stop = λ text r log logged cost n stop behind. later_9 r.given.job (valid text r.given r.is).job log logged n stop behind cost;
+  E12_4_next = λ text r. changed_early r.given.job (valid text r.given r.is).job.idles;
+  E12_2_rests = rests;
+  R1_job = job_long;
+  R1_plan = plan_long;
+  R1_log = log_long;
+  R1_hall = hall_long;
+  R3_job = job_at_fault;
+  R3_plan = plan_at_fault;
+  R3_log = log_at_fault;
+  R3_hall = hall_at_fault;
+  R2_job_early = job_early;
+  R2_plan_early = plan_early;
+  R2_log_early = λ text r front back said e not. log_early r.given.job (valid text r.given r.is).job.horizon_high front back said e not;
+  R21_job_more = job_more;
+  R21_plan_more = λ text r plan stated e some byte more few. plan_more r.given.job (valid text r.given r.is).job plan stated e some byte more few;
+  E2_5_written = written_short;
+  E2_5_written_reached = written_reached;
+  E2_2_start = start_first;
+  E2_2_openings = openings_first;
+  R0_results = results;
 }

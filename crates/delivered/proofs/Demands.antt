@@ -18,6 +18,7 @@ use Rattle.planning.specs.Plan.{search_lines, planner_reply, walk_number_lem, pl
 use Rattle.planning.specs.Promise.{PrintsAnswer, PlanPromise}
 use Rattle.planning.proofs.Promised as planned
 use Rattle.delivered.specs.Terms.{Meets, StatesObjective, Feasible, Cheapest}
+use Rattle.delivered.proofs.Ties.{stops_before, chosen_stops}
 
 -- ---- the judge
 
@@ -73,6 +74,9 @@ module _ (text : List ℕ) (walk room : ℕ) where
     meets = (tied r plan).keeps.0 p.plan_for_lem.keeps;
     states = sym p.plan_for_lem.states ∙ (tied r plan).cost;
     least = λ other h. omega (arith, p.plan_for_lem.least other ((tied r other).keeps.1 h) tt, (tied r other).cost);
+    first = λ none other h e. let k = (tied r other).keeps.1 h in stops_before (job_in r) none plan other p.plan_for_lem.keeps.size k.size (p.plan_for_lem.first other k tt ((tied r other).cost ∙ e));
+    chosen = λ none. chosen_stops (job_in r) none plan p.plan_for_lem.keeps.size 0 (job_in r).parts plan.changes p.plan_for_lem.within.chosen;
+    no_bare = p.plan_for_lem.within.no_bare;
   }
 
   -- D6, D7, by the published constraints and objective

@@ -24,22 +24,23 @@ use Rattle.hall_model.specs.Limits.{most_hall_bytes}
 use Rattle.job_grammar.specs.Reading.{meant_job}
 use Rattle.hall_grammar.specs.Grammar.{joins, job_behind, jobs_behind, hall_lines_lem, read_hall_text}
 use Rattle.delivered.specs.FirstLines.{first_lines, breaks}
-use Rattle.delivered.proofs.FirstLines.{no_break, Above, Alike, InSpan, row_one, checked_one, row_spans, checked_spans, Linewise, one_linewise, return_linewise, bind_linewise, optional_linewise, present_linewise, chain_linewise, times_linewise, end_linewise, ruled_linewise, nothing_same}
+use Rattle.delivered.proofs.FirstLines.{no_break, Above, Alike, InSpan, row_one, checked_one, row_spans, checked_spans, row_counts, checked_counts, Linewise, one_linewise, return_linewise, bind_linewise, optional_linewise, present_linewise, chain_linewise, times_linewise, end_linewise, ruled_linewise, nothing_same}
 
 -- P says of which numbers the law speaks
 module _ (P : ℕ → Type 0) where
   -- a row reads line by line
   pub row_linewise : (key : List ℕ) → no_break key ≡ true → (lo hi : ℕ) → Linewise P (row_at key lo hi)
-  row_linewise key n lo hi = one_linewise P (row_at key lo hi) (row_one key n lo hi) (row_spans key n lo hi)
+  row_linewise key n lo hi = one_linewise P (row_at key lo hi) (row_one key n lo hi) (row_spans key n lo hi) (row_counts key lo hi)
 
   checked_linewise : (k : ℕ) (ok : ℕ → Bool) (key : List ℕ) → no_break key ≡ true → (lo hi : ℕ) → Linewise P (checked k ok (row_at key lo hi))
-  checked_linewise k ok key n lo hi = one_linewise P (checked k ok (row_at key lo hi)) (checked_one k ok (row_at key lo hi) (row_one key n lo hi)) (checked_spans k ok (row_at key lo hi) (row_spans key n lo hi))
+  checked_linewise k ok key n lo hi = one_linewise P (checked k ok (row_at key lo hi)) (checked_one k ok (row_at key lo hi) (row_one key n lo hi)) (checked_spans k ok (row_at key lo hi) (row_spans key n lo hi)) (checked_counts k ok (row_at key lo hi) (row_counts key lo hi))
 
   -- ---- a part's lines
 
   holder_linewise : (m k before : ℕ) → Linewise P (holder m k before)
   unfolding holder bytes
   holder_linewise m k before = one_linewise P _ (checked_one 12 _ _ (checked_one 12 (rising before m) _ (row_one (bytes "holder=") refl 1 16))) (checked_spans 12 _ _ (checked_spans 12 (rising before m) _ (row_spans (bytes "holder=") refl 1 16)))
+      (checked_counts 12 _ _ (checked_counts 12 (rising before m) _ (row_counts (bytes "holder=") 1 16)))
 
   cover_linewise : (m k : ℕ) → Linewise P (cover m k)
   unfolding cover inside holders bytes
@@ -111,14 +112,14 @@ module _ (P : ℕ → Type 0) where
 
   -- ---- a plan's lines, and a log's
 
-  visit_linewise : (job : Job) (before : ℕ) → Linewise P (visit job before)
+  pub visit_linewise : (job : Job) (before : ℕ) → Linewise P (visit job before)
   unfolding visit plan.part plan.parts bytes
   visit_linewise job before =
       bind_linewise P _ _ (checked_linewise 9 _ (bytes "stop=") refl 1 365)
       (λ step. bind_linewise P _ _ (row_linewise (bytes "count=") refl 0 16)
       (λ n. bind_linewise P _ _ (chain_linewise P (plan.part (length job.parts)) _ (λ k. checked_linewise 9 (rising k (length job.parts)) (bytes "part=") refl 1 16) n 0) (λ ks. return_linewise P _)))
 
-  plan_linewise : (job : Job) → Linewise P (plan_lines job)
+  pub plan_linewise : (job : Job) → Linewise P (plan_lines job)
   unfolding plan_lines visits bytes
   plan_linewise job =
       bind_linewise P _ _ (row_linewise (bytes "cost=") refl 0 4000000000)
@@ -156,7 +157,7 @@ module _ (P : ℕ → Type 0) {A : Type 0} (most : ℕ) (p : Parser A) (h : Line
   read_is s few = rw (read_text, le-leb (length s) most few)
 
   -- the fault of a text that is not too long stands on a line, and that of another with the same lines up to it is the same
-  text_first : (s t : List ℕ) (n l : ℕ) → P n → read_text most p s ≡ refused n l → length s ≤ most → length t ≤ most → first_lines l t ≡ first_lines l s → (1 ≤ l) × (read_text most p t ≡ refused n l)
+  pub text_first : (s t : List ℕ) (n l : ℕ) → P n → read_text most p s ≡ refused n l → length s ≤ most → length t ≤ most → first_lines l t ≡ first_lines l s → (1 ≤ l) × (read_text most p t ≡ refused n l)
   text_first s t n l is e few short same = go (whole p s 1) refl (sym (read_is s few) ∙ e)
     where
       go : (x : Parsed A) → whole p s 1 ≡ x → finish x ≡ refused n l → (1 ≤ l) × (read_text most p t ≡ refused n l)

@@ -1,5 +1,5 @@
 -- Parsers that read line by line (`Linewise`): a fault is that of every text with the same lines up to the line at fault, and a value that of every text with the same lines up to the next. By the parsers' forms.
-use Rattle.std.specs.Prelude.{Option, Some, None}
+use Rattle.std.specs.Prelude.{Option, Some, None, Result, Ok, Err}
 use Prim.Native.Nat.{ℕ, zero, suc, ◌+◌, ◌-◌, ◌/◌, ◌%◌, ◌≤◌, ◌<◌}
 use mathlib.Core.Path.{◌≡◌, refl, sym, ap, subst, ◌∙◌}
 use mathlib.Core.Bool.{Bool, true, false, ◌&&◌, cond, not, and-eq-true_iff, false≢true, true≢false}
@@ -211,7 +211,7 @@ breaks_both [] ys = omega arith
 breaks_both (x ∷ xs) ys = omega (arith, breaks_both xs ys)
 
 -- a key has no breaks
-key_unbroken : (key : List ℕ) → no_break key ≡ true → breaks key ≡ 0
+pub key_unbroken : (key : List ℕ) → no_break key ≡ true → breaks key ≡ 0
 unfolding breaks
 key_unbroken [] n = refl
 key_unbroken (k ∷ ks) n = let w = (and-eq-true_iff (not (eqb k 10)) (no_break ks)).0 n in go (eqb k 10) w.0 (key_unbroken ks w.1)
@@ -226,7 +226,7 @@ unfolding breaks
 digit_unbroken d = rw (ne_eqb (48 + d) 10 (λ e. omega (arith, e))) refl
 
 -- the digits of a number have no breaks
-decimal_unbroken : (n v : ℕ) → breaks (decimal_in n v) ≡ 0
+pub decimal_unbroken : (n v : ℕ) → breaks (decimal_in n v) ≡ 0
 unfolding breaks decimal_in
 decimal_unbroken zero v = refl
 decimal_unbroken (suc n) v = go (ltb v 10) (decimal_unbroken n (v / 10))
@@ -236,7 +236,7 @@ decimal_unbroken (suc n) v = go (ltb v 10) (decimal_unbroken n (v / 10))
     go false rest = omega (arith, breaks_both (decimal_in n (v / 10)) ((48 + v % 10) ∷ []), rest, digit_unbroken (v % 10))
 
 -- the line of a value has one break
-line_ends : (key : List ℕ) → no_break key ≡ true → (v : ℕ) → breaks (line key v) ≡ 1
+pub line_ends : (key : List ℕ) → no_break key ≡ true → (v : ℕ) → breaks (line key v) ≡ 1
 unfolding line breaks
 line_ends key n v = omega (arith, breaks_both key (decimal v ++ 10 ∷ []), breaks_both (decimal v) (10 ∷ []), key_unbroken key n, decimal_unbroken 10 v)
 
@@ -260,6 +260,38 @@ checked_spans {A} k ok p h s l = go (p s l) refl (h s l)
         pick false z = rw (checked_not k ok p s l x z) (omega arith)
     go (fault n m) x i = rw (checked-fault k ok p s l x) i
 
+-- ---- from any line on
+
+-- an answer d lines further on
+abbrev pub further : {A : Type 0} → ℕ → Parsed A → Parsed A
+further d (good a r k) = good a r (k + d)
+further d (fault n k) = fault n (k + d)
+
+-- the parser counts its lines from the one that it begins on
+abbrev pub Counts : {A : Type 0} → Parser A → Type 0
+Counts p = (s : List ℕ) (l d : ℕ) → p s (l + d) ≡ further d (p s l)
+
+-- a row does
+pub row_counts : (key : List ℕ) (lo hi : ℕ) → Counts (row_at key lo hi)
+unfolding row_at taken
+row_counts key lo hi s l d = go (read_field_lem key lo hi s)
+  where
+    go : (x : Result (ℕ × ℕ) ℕ) → taken s (l + d) x ≡ further d (taken s l x)
+    go (Ok (v, n)) = ap (good v (drop n s)) (omega arith)
+    go (Err k) = refl
+
+-- a further rule of a parser
+pub checked_counts : {A : Type 0} (k : ℕ) (ok : A → Bool) (p : Parser A) → Counts p → Counts (checked k ok p)
+checked_counts {A} k ok p h s l d = go (p s l) refl
+  where
+    go : (x : Parsed A) → p s l ≡ x → checked k ok p s (l + d) ≡ further d (checked k ok p s l)
+    go (good v r j) x = pick (ok v) refl
+      where
+        pick : (b : Bool) → ok v ≡ b → checked k ok p s (l + d) ≡ further d (checked k ok p s l)
+        pick true z = checked-good k ok p s (l + d) (h s l d ∙ ap (further d) x) z ∙ ap (further d) (sym (checked-good k ok p s l x z))
+        pick false z = checked_not k ok p s (l + d) (h s l d ∙ ap (further d) x) z ∙ ap (further d) (sym (checked_not k ok p s l x z))
+    go (fault n j) x = checked-fault k ok p s (l + d) (h s l d ∙ ap (further d) x) ∙ ap (further d) (sym (checked-fault k ok p s l x))
+
 -- ---- line by line
 
 -- the answer stands on line l or behind it
@@ -277,12 +309,13 @@ module _ (P : ℕ → Type 0) where
   pub record Linewise {A : Type 0} (p : Parser A) : Type 0 where
     pub above : (s : List ℕ) (l : ℕ) → Above l (p s l)
     pub spans : Spans p
+    pub counts : Counts p
     -- texts whose lines l to e - 1 are the same
     pub alike : (e : ℕ) (s t : List ℕ) (l : ℕ) → l < e → first_lines (e - l) s ≡ first_lines (e - l) t → Alike e (p s l) (p t l)
 
   -- a parser of one line reads line by line
-  pub one_linewise : {A : Type 0} (p : Parser A) → OneLine p → Spans p → Linewise p
-  one_linewise {A} p one span = record { above = λ s l. up l (p s l) (p s l) (one 0 s s l refl); spans = span; alike = alike }
+  pub one_linewise : {A : Type 0} (p : Parser A) → OneLine p → Spans p → Counts p → Linewise p
+  one_linewise {A} p one span count = record { above = λ s l. up l (p s l) (p s l) (one 0 s s l refl); spans = span; counts = count; alike = alike }
     where
       up : (l : ℕ) (x y : Parsed A) → SameRow 0 l x y → Above l x
       up l (good a r k) y h = omega (arith, h.0)
@@ -305,11 +338,11 @@ module _ (P : ℕ → Type 0) where
   -- a parser that reads nothing
   pub return_linewise : {A : Type 0} (a : A) → Linewise (return a)
   unfolding return
-  return_linewise a = record { above = λ s l. omega arith; spans = λ s l. omega arith; alike = λ e s t l h q i. (t, refl, q) }
+  return_linewise a = record { above = λ s l. omega arith; spans = λ s l. omega arith; counts = λ s l d. refl; alike = λ e s t l h q i. (t, refl, q) }
 
   -- two parsers, one behind the other
   pub bind_linewise : {A B : Type 0} (p : Parser A) (f : A → Parser B) → Linewise p → ((a : A) → Linewise (f a)) → Linewise (p >>= f)
-  bind_linewise {A} {B} p f first next = record { above = λ s l. rises s l (p s l) refl (first.above s l); spans = λ s l. within s l (p s l) refl (first.spans s l); alike = λ e s t l h q. go e s t l (p s l) refl (first.above s l) (first.alike e s t l h q) }
+  bind_linewise {A} {B} p f first next = record { above = λ s l. rises s l (p s l) refl (first.above s l); spans = λ s l. within s l (p s l) refl (first.spans s l); counts = λ s l d. moved s l d (p s l) refl; alike = λ e s t l h q. go e s t l (p s l) refl (first.above s l) (first.alike e s t l h q) }
     where
       up : (l k : ℕ) (x : Parsed B) → l ≤ k → Above k x → Above l x
       up l k (good b r i) h j = omega arith
@@ -327,6 +360,10 @@ module _ (P : ℕ → Type 0) where
       within s l (good a r k) x h = rw (bind_good p f x) (same (k + breaks r) (l + breaks s) (f a r k) h ((next a).spans r k))
       within s l (fault n k) x h = rw (bind_fault p f x) h
 
+      moved : (s : List ℕ) (l d : ℕ) (x : Parsed A) → p s l ≡ x → (p >>= f) s (l + d) ≡ further d ((p >>= f) s l)
+      moved s l d (good a r k) x = bind_good p f (first.counts s l d ∙ ap (further d) x) ∙ (next a).counts r k d ∙ ap (further d) (sym (bind_good p f x))
+      moved s l d (fault n k) x = bind_fault p f (first.counts s l d ∙ ap (further d) x) ∙ ap (further d) (sym (bind_fault p f x))
+
       -- an answer behind the lines that are the same says nothing
       far : (e k : ℕ) (x y : Parsed B) → e ≤ k → Above k x → Alike e x y
       far e k (good b r i) y h j = λ w. absurd (omega arith)
@@ -342,10 +379,10 @@ module _ (P : ℕ → Type 0) where
 
   -- a line that may be missing
   pub optional_linewise : (key : List ℕ) → no_break key ≡ true → (lo hi : ℕ) → Linewise (optional_at key lo hi)
-  optional_linewise key n lo hi = record { above = λ s l. up s l (starts_with key s) refl; spans = λ s l. within s l (starts_with key s) refl; alike = λ e s t l h q. go e s t l h q (starts_with key s) refl }
+  optional_linewise key n lo hi = record { above = λ s l. up s l (starts_with key s) refl; spans = λ s l. within s l (starts_with key s) refl; counts = λ s l d. moved s l d (starts_with key s) refl; alike = λ e s t l h q. go e s t l h q (starts_with key s) refl }
     where
       there : Linewise (row_at key lo hi >>= λ v. return (Some v))
-      there = bind_linewise (row_at key lo hi) _ (one_linewise (row_at key lo hi) (row_one key n lo hi) (row_spans key n lo hi)) (λ v. return_linewise (Some v))
+      there = bind_linewise (row_at key lo hi) _ (one_linewise (row_at key lo hi) (row_one key n lo hi) (row_spans key n lo hi) (row_counts key lo hi)) (λ v. return_linewise (Some v))
 
       up : (s : List ℕ) (l : ℕ) (b : Bool) → starts_with key s ≡ b → Above l (optional_at key lo hi s l)
       up s l true x = rw (optional_there key lo hi s l x) (there.above s l)
@@ -354,6 +391,10 @@ module _ (P : ℕ → Type 0) where
       within : (s : List ℕ) (l : ℕ) (b : Bool) → starts_with key s ≡ b → InSpan (l + breaks s) (optional_at key lo hi s l)
       within s l true x = rw (optional_there key lo hi s l x) (there.spans s l)
       within s l false x = rw (optional_missing key lo hi s l x) (omega arith)
+
+      moved : (s : List ℕ) (l d : ℕ) (b : Bool) → starts_with key s ≡ b → optional_at key lo hi s (l + d) ≡ further d (optional_at key lo hi s l)
+      moved s l d true x = optional_there key lo hi s (l + d) x ∙ there.counts s l d ∙ ap (further d) (sym (optional_there key lo hi s l x))
+      moved s l d false x = optional_missing key lo hi s (l + d) x ∙ ap (further d) (sym (optional_missing key lo hi s l x))
 
       go : (e : ℕ) (s t : List ℕ) (l : ℕ) → l < e → first_lines (e - l) s ≡ first_lines (e - l) t → (b : Bool) → starts_with key s ≡ b → Alike e (optional_at key lo hi s l) (optional_at key lo hi t l)
       go e s t l h q b x = pick b x
@@ -389,8 +430,12 @@ module _ (P : ℕ → Type 0) where
   -- nothing more
   pub end_linewise : Linewise ends
   unfolding ends
-  end_linewise = record { above = up; spans = within; alike = alike }
+  end_linewise = record { above = up; spans = within; counts = moved; alike = alike }
     where
+      moved : (s : List ℕ) (l d : ℕ) → ends s (l + d) ≡ further d (ends s l)
+      moved [] l d = refl
+      moved (b ∷ s) l d = refl
+
       up : (s : List ℕ) (l : ℕ) → Above l (ends s l)
       up [] l = omega arith
       up (b ∷ s) l = omega arith
@@ -413,7 +458,7 @@ module _ (P : ℕ → Type 0) where
 
   -- a further rule of a parser of many lines, whose fault is on the first: P says nothing of its number
   pub ruled_linewise : {A : Type 0} (k : ℕ) → (P k → ⊥) → (ok : A → Bool) (p : Parser A) → Linewise p → Linewise (checked k ok p)
-  ruled_linewise {A} k unsaid ok p h = record { above = λ s l. rises s l (p s l) refl (h.above s l); spans = checked_spans k ok p h.spans; alike = λ e s t l i q. go e s t l (p s l) refl (h.alike e s t l i q) }
+  ruled_linewise {A} k unsaid ok p h = record { above = λ s l. rises s l (p s l) refl (h.above s l); spans = checked_spans k ok p h.spans; counts = checked_counts k ok p h.counts; alike = λ e s t l i q. go e s t l (p s l) refl (h.alike e s t l i q) }
     where
       rises : (s : List ℕ) (l : ℕ) (x : Parsed A) → p s l ≡ x → Above l x → Above l (checked k ok p s l)
       rises s l (good v r m) x i = pick (ok v) refl

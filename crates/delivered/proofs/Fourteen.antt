@@ -1,5 +1,5 @@
--- A hall's 14, over texts: it is said of a job that is valid and does not fit those before it, on that job's first line, whatever stands behind it (`fourteen_line`); and of nothing else (`fourteen_only`). By the grammar's forms.
-use Prim.Native.Nat.{ℕ, zero, suc, ◌+◌, ◌≤◌, ◌<◌}
+-- A hall's faults, over texts. 14 is said of a job that is valid and does not fit those before it, on that job's first line, whatever stands behind it (`fourteen_line`); and of nothing else (`fourteen_only`). A job's own fault is that of its text, on its line counted through (`own_fault`). By the grammar's forms.
+use Prim.Native.Nat.{ℕ, zero, suc, ◌+◌, ◌-◌, ◌≤◌, ◌<◌}
 use mathlib.Core.Path.{◌≡◌, refl, sym, ap, ap₂, subst, ◌∙◌}
 use mathlib.Core.Bool.{Bool, true, false, ◌&&◌, and-eq-true_iff, false≢true, true≢false}
 use mathlib.Core.List.{List, [], ◌∷◌, ◌++◌, map, append_assoc, append-nil}
@@ -10,15 +10,16 @@ use lib.ListN.{length}
 use borrow.Author.Tests.{eq-eqb, eqb-true, leb-true, leb-false}
 use Rattle.lines.specs.Line.{starts_with}
 use Rattle.lines.specs.Text.{bytes, line, line_of, texts}
-use Rattle.lines.specs.Parser.{Parsed, good, fault, Parser, ◌>>=◌, return, row, row_at, end as ends, refused, finish, whole}
+use Rattle.lines.specs.Parser.{Parsed, good, fault, Parser, ◌>>=◌, return, row, row_at, end as ends, Outcome, accepted, refused, finish, whole}
 use Rattle.lines.proofs.Parsing.{bind_good, bind_fault, checked-good, checked_not, checked-fault, text_long, text_fits}
 use Rattle.lines.proofs.Sound.{never, row_gives, row_sound, checked_gives, checked_sound}
 use Rattle.lines.proofs.Complete.{row_complete}
 use Rattle.lines.proofs.Outcomes.{one_fault, not_both}
 use Rattle.lines.proofs.Numbered.{NumberIn, row_numbers}
 use Rattle.model.specs.Model.{Job}
-use Rattle.part_lines.specs.Behind.{Behind}
-use Rattle.job_grammar.specs.Grammar.{JobText, job_lines}
+use Rattle.part_lines.specs.Behind.{BehindParts}
+use Rattle.part_lines.proofs.Behind.{behind_all}
+use Rattle.job_grammar.specs.Grammar.{JobText, job_lines, max_bytes, read_job_text, meaning, read_job_lem}
 use Rattle.job_grammar.specs.Rendering.{job_text_lem}
 use Rattle.job_grammar.specs.Faults.{JobFault}
 use Rattle.job_grammar.specs.Valid.{ValidText}
@@ -29,10 +30,11 @@ use Rattle.hall_model.specs.Limits.{most_lines, dearest_call, most_hall_bytes, p
 use Rattle.job_grammar.specs.Reading.{meant_job}
 use Rattle.hall_grammar.specs.Grammar.{HallText, same_numbers, like_first, room_for, joins, job_behind, jobs_behind, hall_lines_lem, read_hall_text}
 use Rattle.hall_grammar.proofs.Accepted.{numbers_same}
-use Rattle.delivered.specs.FirstLines.{breaks}
-use Rattle.delivered.specs.Fourteen.{Unlike, Misfit, Fitting, MisfitAt}
-use Rattle.delivered.proofs.FirstLines.{no_break, InSpan, breaks_both, checked_spans}
+use Rattle.delivered.specs.FirstLines.{first_lines, breaks}
+use Rattle.delivered.specs.Fourteen.{Unlike, Misfit, Fitting, Front, lines_before, MisfitAt, BehindJobs, FaultIn}
+use Rattle.delivered.proofs.FirstLines.{no_break, InSpan, breaks_both, checked_spans, further, Above, Alike}
 use Rattle.delivered.proofs.FirstFaults.{any, row_linewise, job_linewise}
+use Rattle.delivered.proofs.Apart.{job_apart}
 
 -- ---- what the grammar's test says
 
@@ -117,57 +119,114 @@ row_ends key lo hi v s l k n e =
     let h : k + breaks s ≡ l + breaks (line key v ++ s) = subst (InSpan (l + breaks (line key v ++ s))) e ((row_linewise any key n lo hi).spans (line key v ++ s) l) in
     omega (arith, h, breaks_both (line key v) s)
 
--- ---- 14 is said
+-- ---- behind jobs that fit
 
 -- what stands behind a job that fits is the next job, which begins with its horizon
-next : (ts : List JobText) (t : JobText) (s : List ℕ) → Behind (texts job_text_lem ts ++ (job_text_lem t ++ s))
+next : (u : JobText) (us : List JobText) (s : List ℕ) → BehindJobs (u ∷ us) s → BehindParts u.parts (texts job_text_lem us ++ s)
 unfolding starts_with line bytes job_text_lem
-next [] t s = record { removal = refl; base = refl }
-next (u ∷ us) t s = record { removal = refl; base = refl }
+next u [] s b = b
+next u (v ∷ us) s b = behind_all u.parts _ (record { removal = refl; base = refl })
 
--- 14 is said of a misfit behind jobs that fit, on its first line
-jobs_said : (n : ℕ) (before : List Job) (ts : List JobText) (t : JobText) (s : List ℕ) (l : ℕ) → length ts < n → Fitting before ts → ValidText t → Misfit (before ++ map meant_job ts) (meant_job t) → Behind s
-    → jobs_behind n before (texts job_text_lem ts ++ (job_text_lem t ++ s)) l ≡ fault 14 (l + breaks (texts job_text_lem ts))
+-- a job may stand behind any others
+job_next : (ts : List JobText) (t : JobText) (s : List ℕ) → BehindJobs ts (job_text_lem t ++ s)
+unfolding starts_with line bytes job_text_lem
+job_next [] t s = tt
+job_next (u ∷ []) t s = behind_all u.parts _ (record { removal = refl; base = refl })
+job_next (u ∷ v ∷ ts) t s = job_next (v ∷ ts) t s
+
+-- no further line of the last of these is one of the last behind the first
+others_next : (u : JobText) (us : List JobText) (s : List ℕ) → BehindJobs (u ∷ us) s → BehindJobs us s
+others_next u [] s b = tt
+others_next u (v ∷ us) s b = b
+
+-- a fault in the next job's place, behind jobs that fit
+jobs_said : (n : ℕ) (before : List Job) (ts : List JobText) (s : List ℕ) (l number at : ℕ) → length ts < n → Fitting before ts → BehindJobs ts s → job_behind (before ++ map meant_job ts) s (l + breaks (texts job_text_lem ts)) ≡ fault number at
+    → jobs_behind n before (texts job_text_lem ts ++ s) l ≡ fault number at
 unfolding jobs_behind job_behind breaks
-jobs_said zero before ts t s l few f v m b = absurd (omega (arith, few))
-jobs_said (suc n) before [] t s l few f v m b =
-    let a = job-back t v s l b in
-    let no-join = joins_not before (meant_job t) (subst (λ (js : List Job). Misfit js (meant_job t)) (append-nil before) m) in
-    let one = checked_not 14 (λ (x : JobText). joins before (meant_job x)) job_lines (job_text_lem t ++ s) l a.1 no-join in
-    let z : l ≡ l + 0 = omega arith in
-    bind_fault (job_behind before) _ one ∙ ap (fault 14) z
-jobs_said (suc n) before (u ∷ us) t s l few f v m b =
+jobs_said zero before ts s l number at few f b e = absurd (omega (arith, few))
+jobs_said (suc n) before [] s l number at few f b e =
+    let z : l + 0 ≡ l = omega arith in
+    bind_fault (job_behind before) _ (subst (λ (k : ℕ). job_behind before s k ≡ fault number at) z (subst (λ (js : List Job). job_behind js s (l + 0) ≡ fault number at) (append-nil before) e))
+jobs_said (suc n) before (u ∷ us) s l number at few f b e =
     let more = before ++ (meant_job u ∷ []) in
-    let rest = texts job_text_lem us ++ (job_text_lem t ++ s) in
-    let a = job-back u f.0 rest l (next us t s) in
+    let rest = texts job_text_lem us ++ s in
+    let a = job-back u f.0 rest l (next u us s b) in
     let one = checked-good 14 (λ (x : JobText). joins before (meant_job x)) job_lines (job_text_lem u ++ rest) l a.1 (joins_yes before (meant_job u) f.1) in
-    let m2 = subst (λ (js : List Job). Misfit js (meant_job t)) (sym (append_assoc before (meant_job u ∷ []) (map meant_job us))) m in
-    let d = jobs_said n more us t s a.0 (omega (arith, few)) f.2 v m2 b in
-    let z : a.0 + breaks (texts job_text_lem us) ≡ l + breaks (job_text_lem u ++ texts job_text_lem us) = omega (arith, job_ends u rest l a.0 a.1, breaks_both (job_text_lem u) (texts job_text_lem us)) in
-    ap (λ (x : List ℕ). jobs_behind (suc n) before x l) (append_assoc (job_text_lem u) (texts job_text_lem us) (job_text_lem t ++ s))
-    ∙ bind_good (job_behind before) _ one ∙ bind_fault (jobs_behind n more) _ d ∙ ap (fault 14) z
+    let z : l + breaks (job_text_lem u ++ texts job_text_lem us) ≡ a.0 + breaks (texts job_text_lem us) = omega (arith, job_ends u rest l a.0 a.1, breaks_both (job_text_lem u) (texts job_text_lem us)) in
+    let e2 = subst (λ (js : List Job). job_behind js s (l + breaks (job_text_lem u ++ texts job_text_lem us)) ≡ fault number at) (sym (append_assoc before (meant_job u ∷ []) (map meant_job us))) e in
+    let d = jobs_said n more us s a.0 number at (omega (arith, few)) f.2 (others_next u us s b) (subst (λ (k : ℕ). job_behind (more ++ map meant_job us) s k ≡ fault number at) z e2) in
+    ap (λ (x : List ℕ). jobs_behind (suc n) before x l) (append_assoc (job_text_lem u) (texts job_text_lem us) s)
+    ∙ bind_good (job_behind before) _ one ∙ bind_fault (jobs_behind n more) _ d
 
--- 14 is what a hall's lines with a misfit give
-lines_said : (text : List ℕ) (l : ℕ) (m : MisfitAt text l) → Behind m.rest → hall_lines_lem text 1 ≡ fault 14 l
+-- the same behind a hall's first lines
+lines_said : (text : List ℕ) (f : Front text) (number at : ℕ) → BehindJobs f.jobs f.behind → job_behind (map meant_job f.jobs) f.behind (1 + lines_before f) ≡ fault number at → hall_lines_lem text 1 ≡ fault number at
 unfolding hall_lines_lem bytes
-lines_said text l m b =
-    let ts = texts job_text_lem m.jobs in
-    let rest = job_text_lem m.job ++ m.rest in
-    let first = line_of "machines=" m.machines in
-    let second = line_of "call=" m.call in
-    let a = row_complete (bytes "machines=") 1 most_lines (omega arith) m.machines (m.some, m.few) (second ++ (ts ++ rest)) 1 in
-    let c = row_complete (bytes "call=") 0 dearest_call (omega arith) m.call (omega arith, m.fair) (ts ++ rest) a.0 in
-    let d = jobs_said m.machines [] m.jobs m.job m.rest c.0 m.further m.fitting m.valid m.unfit b in
-    let x = row_ends (bytes "machines=") 1 most_lines m.machines (second ++ (ts ++ rest)) 1 a.0 refl a.1 in
-    let y = row_ends (bytes "call=") 0 dearest_call m.call (ts ++ rest) a.0 c.0 refl c.1 in
-    let z : c.0 + breaks ts ≡ l = omega (arith, x, y, breaks_both first (second ++ ts), breaks_both second ts, m.here) in
-    ap (λ (s : List ℕ). hall_lines_lem s 1) (m.begins ∙ append_assoc first (second ++ ts) rest ∙ ap (λ (s : List ℕ). first ++ s) (append_assoc second ts rest))
-    ∙ bind_good (row "machines=" 1 most_lines) _ a.1 ∙ bind_good (row "call=" 0 dearest_call) _ c.1 ∙ bind_fault (jobs_behind m.machines []) _ d ∙ ap (fault 14) z
+lines_said text f number at b e =
+    let ts = texts job_text_lem f.jobs in
+    let first = line_of "machines=" f.machines in
+    let second = line_of "call=" f.call in
+    let a = row_complete (bytes "machines=") 1 most_lines (omega arith) f.machines (f.some, f.few) (second ++ (ts ++ f.behind)) 1 in
+    let c = row_complete (bytes "call=") 0 dearest_call (omega arith) f.call (omega arith, f.fair) (ts ++ f.behind) a.0 in
+    let x = row_ends (bytes "machines=") 1 most_lines f.machines (second ++ (ts ++ f.behind)) 1 a.0 refl a.1 in
+    let y = row_ends (bytes "call=") 0 dearest_call f.call (ts ++ f.behind) a.0 c.0 refl c.1 in
+    let z : 1 + lines_before f ≡ c.0 + breaks ts = omega (arith, x, y, breaks_both first (second ++ ts), breaks_both second ts) in
+    let d = jobs_said f.machines [] f.jobs f.behind c.0 number at f.further f.fitting b (subst (λ (k : ℕ). job_behind (map meant_job f.jobs) f.behind k ≡ fault number at) z e) in
+    ap (λ (s : List ℕ). hall_lines_lem s 1) (f.begins ∙ append_assoc first (second ++ ts) f.behind ∙ ap (λ (s : List ℕ). first ++ s) (append_assoc second ts f.behind))
+    ∙ bind_good (row "machines=" 1 most_lines) _ a.1 ∙ bind_good (row "call=" 0 dearest_call) _ c.1 ∙ bind_fault (jobs_behind f.machines []) _ d
+
+-- and of the whole text
+text_said : (text : List ℕ) (f : Front text) (number at : ℕ) → BehindJobs f.jobs f.behind → job_behind (map meant_job f.jobs) f.behind (1 + lines_before f) ≡ fault number at → length text ≤ most_hall_bytes → read_hall_text text ≡ refused number at
+unfolding whole
+text_said text f number at b e few = sym (text_fits most_hall_bytes hall_lines_lem text few) ∙ ap finish (bind_fault hall_lines_lem _ (lines_said text f number at b e))
+
+-- ---- 14 is said of a misfit, on its first line
 
 -- a text of this kind gets 14 on this line
-pub fourteen_line : (text : List ℕ) (l : ℕ) (m : MisfitAt text l) → Behind m.rest → length text ≤ most_hall_bytes → read_hall_text text ≡ refused 14 l
+pub fourteen_line : (text : List ℕ) (l : ℕ) → MisfitAt text l → length text ≤ most_hall_bytes → read_hall_text text ≡ refused 14 l
+unfolding job_behind
+fourteen_line text l m few =
+    let f = m.front in
+    let before = map meant_job f.jobs in
+    let at = 1 + lines_before f in
+    let z : at ≡ l = omega (arith, m.here) in
+    let a = job-back m.job m.valid m.rest at m.apart in
+    let one = checked_not 14 (λ (x : JobText). joins before (meant_job x)) job_lines (job_text_lem m.job ++ m.rest) at a.1 (joins_not before (meant_job m.job) m.unfit) in
+    text_said text f 14 l (subst (BehindJobs f.jobs) (sym m.is) (job_next f.jobs m.job m.rest)) (ap (λ (s : List ℕ). job_behind before s at) m.is ∙ one ∙ ap (fault 14) z) few
+
+-- ---- a job's own faults
+
+-- a job text's fault on a line of its job is that of the job's lines
+own_lines : (alone : List ℕ) (number at : ℕ) → read_job_lem alone ≡ refused number at → (number ≡ 1 → ⊥) → ((t : JobText) (rest : List ℕ) → ValidText t → alone ≡ job_text_lem t ++ rest → ⊥) → job_lines alone 1 ≡ fault number at
 unfolding whole
-fourteen_line text l m b few = sym (text_fits most_hall_bytes hall_lines_lem text few) ∙ ap finish (bind_fault hall_lines_lem _ (lines_said text l m b))
+own_lines alone number at e not-1 inside = go (leb (length alone) max_bytes) refl (job_lines alone 1) refl
+  where
+    text : (x : Outcome JobText) → read_job_text alone ≡ x → read_job_text alone ≡ refused number at
+    text (accepted t) f = not_both (ap meaning f) e
+    text (refused i j) f = let y = one_fault (ap meaning f) e in f ∙ ap₂ refused y.0 y.1
+
+    is : read_job_text alone ≡ refused number at
+    is = text (read_job_text alone) refl
+
+    go : (b : Bool) → leb (length alone) max_bytes ≡ b → (x : Parsed JobText) → job_lines alone 1 ≡ x → x ≡ fault number at
+    go false h x f = let y = one_fault (sym (text_long max_bytes job_lines alone (leb-false (length alone) max_bytes h))) is in absurd (not-1 (sym y.0))
+    go true h (good t r k) f = let told = job-tells alone r 1 k t f in absurd (inside t r told.known told.text)
+    go true h (fault i k) f =
+        let y = one_fault (sym (text_fits max_bytes job_lines alone (leb-true (length alone) max_bytes h)) ∙ ap finish (bind_fault job_lines _ f)) is in
+        ap₂ fault y.0 y.1
+
+-- in a hall it is the same fault, on its line counted through
+pub own_fault : (text alone : List ℕ) (number at : ℕ) → read_job_lem alone ≡ refused number at → (number ≡ 1 → ⊥) → (f : FaultIn text alone at) → length text ≤ most_hall_bytes → read_hall_text text ≡ refused number (lines_before f.front + at)
+unfolding job_behind
+own_fault text alone number at e not-1 f few =
+    let first = own_lines alone number at e not-1 f.inside in
+    let before = lines_before f.front in
+    let up : 1 ≤ at = subst (Above 1) first ((job_linewise any).above alone 1) in
+    let z : suc at - 1 ≡ at = omega arith in
+    let lines = ap (λ (j : ℕ). first_lines j alone) z ∙ sym f.same ∙ ap (λ (j : ℕ). first_lines j f.front.behind) (sym z) in
+    let alike : Unit {0} → at < suc at → job_lines f.front.behind 1 ≡ fault number at = subst (λ (r : Parsed JobText). Alike any (suc at) r (job_lines f.front.behind 1)) first ((job_linewise any).alike (suc at) alone f.front.behind 1 (omega (arith, up)) lines) in
+    let here : job_lines f.front.behind (1 + before) ≡ fault number (at + before) = (job_linewise any).counts f.front.behind 1 before ∙ ap (further before) (alike tt (omega arith)) in
+    let w : at + before ≡ before + at = omega arith in
+    text_said text f.front number (before + at) f.apart (checked-fault 14 (λ (x : JobText). joins (map meant_job f.front.jobs) (meant_job x)) job_lines f.front.behind (1 + before) here ∙ ap (fault number) w) few
 
 -- ---- and of nothing else
 
@@ -222,6 +281,7 @@ record Found (n : ℕ) (before : List Job) (s : List ℕ) (l m : ℕ) : Type 0 w
   fitting : Fitting before jobs
   valid : ValidText job
   unfit : Misfit (before ++ map meant_job jobs) (meant_job job)
+  apart : BehindParts job.parts rest
   begins : s ≡ texts job_text_lem jobs ++ (job_text_lem job ++ rest)
   here : m ≡ l + breaks (texts job_text_lem jobs)
 
@@ -240,7 +300,7 @@ found_next n before s l m e = go (job_lines s l) refl
         let w : l ≡ m = cc in
         let told = job-tells s r l k t x in
         let unfit = subst (λ (js : List Job). Misfit js (meant_job t)) (sym (append-nil before)) (unfit_is before (meant_job t) z) in
-        record { jobs = []; job = t; rest = r; further = omega arith; fitting = tt; valid = told.known; unfit = unfit; begins = told.text; here = omega (arith, w) }
+        record { jobs = []; job = t; rest = r; further = omega arith; fitting = tt; valid = told.known; unfit = unfit; apart = job_apart s r l k t x; begins = told.text; here = omega (arith, w) }
 
     go : (x : Parsed JobText) → job_lines s l ≡ x → Found (suc n) before s l m
     go (good t r k) x = pick t r k x (joins before (meant_job t)) refl
@@ -263,6 +323,7 @@ found_further n before s l m t r k e f =
       fitting = (gives.0, λ h. joins_no before (meant_job t) h gives.1, f.fitting);
       valid = f.valid;
       unfit = subst (λ (js : List Job). Misfit js (meant_job f.job)) (append_assoc before (meant_job t ∷ []) (map meant_job f.jobs)) f.unfit;
+      apart = f.apart;
       begins = text ∙ ap (λ (q : List ℕ). job_text_lem t ++ q) f.begins ∙ sym (append_assoc (job_text_lem t) ts (job_text_lem f.job ++ f.rest));
       here = omega (arith, f.here, span, ap breaks text, breaks_both (job_text_lem t) r, breaks_both (job_text_lem t) ts);
     }
@@ -302,19 +363,24 @@ lines_there text l machines call s r k i e d f =
     let span : k + breaks s ≡ 1 + breaks text = subst (InSpan (1 + breaks text)) e ((row_linewise any (bytes "machines=") refl 1 most_lines).spans text 1) in
     let span2 : i + breaks r ≡ k + breaks s = subst (InSpan (k + breaks s)) d ((row_linewise any (bytes "call=") refl 0 dearest_call).spans s k) in
     record {
-      machines = machines;
-      call = call;
-      jobs = f.jobs;
+      front = record {
+        machines = machines;
+        call = call;
+        jobs = f.jobs;
+        behind = back;
+        some = few.0;
+        few = few.1;
+        fair = fair.1;
+        further = f.further;
+        fitting = f.fitting;
+        begins = x ∙ ap (λ (q : List ℕ). first ++ q) (y ∙ ap (λ (q : List ℕ). second ++ q) f.begins) ∙ sym (append_assoc first (second ++ ts) back ∙ ap (λ (q : List ℕ). first ++ q) (append_assoc second ts back));
+      };
       job = f.job;
       rest = f.rest;
-      some = few.0;
-      few = few.1;
-      fair = fair.1;
-      further = f.further;
-      fitting = f.fitting;
       valid = f.valid;
       unfit = f.unfit;
-      begins = x ∙ ap (λ (q : List ℕ). first ++ q) (y ∙ ap (λ (q : List ℕ). second ++ q) f.begins) ∙ sym (append_assoc first (second ++ ts) back ∙ ap (λ (q : List ℕ). first ++ q) (append_assoc second ts back));
+      is = refl;
+      apart = f.apart;
       here = omega (arith, f.here, span, span2, ap breaks x, ap breaks y, breaks_both first s, breaks_both second r, breaks_both first (second ++ ts), breaks_both second ts);
     }
 

@@ -1,4 +1,4 @@
--- Accepted jobs in the published terms (Published), a part that outlives the horizon (Outlives), when the estimate is missing (Missing), circles of holders (Circles), halls that mean the same (Halls), carrying on (Carrying), the optimum of texts that mean the same (Optima), the first bad line (FirstLines, FirstFaults), a hall's 14 (Fourteen), the demands in the published terms (Demands), and the record (Delivered).
+-- Accepted jobs in the published terms (Published), a part that outlives the horizon (Outlives), when the estimate is missing (Missing), circles of holders (Circles), halls that mean the same (Halls), carrying on (Carrying), the optimum of texts that mean the same (Optima), the first bad line (FirstLines, FirstFaults), what stands on it (AtFault), texts that end early (Early) or go on (More), the longest written text (Written), the first fault of a form (FormFaults), each call's results (Results), what stands behind a job's lines (Apart), a hall's 14 and its jobs' own faults (Fourteen), a log's faults (LogFaults), a part with nothing left (Worn), the plans of the job that a log leaves (Rests), ties of jobs without holders (Ties), the demands in the published terms (Demands), and the record (Delivered).
 pub mod Published
 pub mod Outlives
 pub mod Missing
@@ -8,6 +8,17 @@ pub mod Carrying
 pub mod Optima
 pub mod FirstLines
 pub mod FirstFaults
+pub mod AtFault
+pub mod Early
+pub mod More
+pub mod Written
+pub mod FormFaults
+pub mod Results
+pub mod Apart
 pub mod Fourteen
+pub mod LogFaults
+pub mod Worn
+pub mod Rests
+pub mod Ties
 pub mod Demands
 pub mod Delivered

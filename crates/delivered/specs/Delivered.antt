@@ -1,17 +1,17 @@
 -- docs/SPECIFICATION.md, sentence by sentence: what no call's own promise states. A field is named by its clause; docs/PROMISES.md has a row for each. A request adds its fields at the end, and their proofs in `proofs/Delivered`.
-use Rattle.std.specs.Prelude.{ℕ, ◌+◌, ◌≤◌, ◌<◌, ◌≡◌, Bool, true, false, List, [], map, ◌⊎◌, ◌↔◌, length, get_or, replicate, pos, Option, None}
+use Rattle.std.specs.Prelude.{ℕ, ◌+◌, ◌^◌, ◌≤◌, ◌<◌, ◌≡◌, Bool, true, false, List, [], ◌++◌, map, ◌⊎◌, ◌↔◌, length, get_or, replicate, pos, Option, None, ◌∷◌}
 use Rattle.branch.specs.declared.Bound.TheVariants.{Missing, Sum}
 use Rattle.branch.specs.Search.{whole}
-use Rattle.lines.specs.Text.{bytes}
+use Rattle.lines.specs.Text.{bytes, line_of}
 use Rattle.lines.specs.Parser.{accepted, refused}
 use Rattle.model.specs.Model.{Part, Job, Plan, running, clock, end, within, comes_out, Chain, out_at, sum_at, sum, fee_of, removal_of_lem, prices_of_lem, cost_of_lem, KeepsPart, Each, KeepsLives, HasPlan, listed}
-use Rattle.model.specs.Limits.{max_bytes, most_cost}
+use Rattle.model.specs.Limits.{max_bytes, last_step, most_openings, most_cost}
 use Rattle.model.specs.Decisions.{Held}
 use Rattle.model.specs.LowerBound.{stops_at, places_at, part_bound, undecided_fees, part_fee, bound_of}
 use Rattle.model.specs.Estimate.{LeastOver}
 use Rattle.model.specs.Earlier.{old_tree, old_answer}
 use Rattle.model.specs.Promise.{PlannerAnswer, optimum, whole_count, answer_of, Promise}
-use Rattle.model.specs.Verdict.{Judgement, accepts, judged_of, JudgementPromise, part_at, LowestUnkept, Shaped}
+use Rattle.model.specs.Verdict.{Judgement, accepts, judged_of, JudgementPromise, part_at, changes_at, LowestUnkept, Shaped}
 use Rattle.model.specs.Due.{late_part, change_before_gap}
 use Rattle.published.specs.Dismounting.{Dismounts}
 use Rattle.published.specs.Published.{Published, PublishedRunning, Tied}
@@ -19,7 +19,7 @@ use Rattle.published.specs.Tables.{table1, table2, table3, table4}
 use Rattle.bands.specs.Bands.{CostBand}
 use Rattle.base.specs.Each.{All}
 use Rattle.price_rules.specs.Rule.{Rule, rule_price, stated_price}
-use Rattle.part_lines.specs.Behind.{Behind}
+use Rattle.part_lines.specs.Behind.{BehindParts}
 use Rattle.job_grammar.specs.Grammar.{JobText, Given, meant, read_job_lem, read_job_text}
 use Rattle.job_grammar.specs.Grammar as job
 use Rattle.job_grammar.specs.Rendering.{job_text_lem}
@@ -27,7 +27,7 @@ use Rattle.job_grammar.specs.Valid.{ValidText}
 use Rattle.job_grammar.specs.Reading.{JobReading, job_in}
 use Rattle.job_grammar.specs.Faults.{JobFault}
 use Rattle.plan_grammar.specs.Grammar.{Stated, nothing, read_plan_lem}
-use Rattle.plan_grammar.specs.Rendering.{plan_lines_of}
+use Rattle.plan_grammar.specs.Rendering.{step_at, visits_of, plan_lines_of}
 use Rattle.plan_grammar.specs.Faults.{PlanFault}
 use Rattle.answers.specs.Said.{Said, plainly, lent}
 use Rattle.judging.specs.Judge.{judge_said, judge_room}
@@ -36,10 +36,10 @@ use Rattle.planning.specs.Plan.{plan_said, plan_room}
 use Rattle.latest.specs.Latest.{LatestAnswer, latest_answer_of}
 use Rattle.latest.specs.Promise.{LatestPromise}
 use Rattle.serving.specs.Serve.{latest_said}
-use Rattle.carry.specs.Carry.{Log, passed, Logged}
+use Rattle.carry.specs.Carry.{Log, passed, Logged, carried}
 use Rattle.carry.specs.Answer.{CarryAnswer, answer_to}
 use Rattle.carry.specs.Promise.{LogPromise}
-use Rattle.carry.specs.Start.{Starts}
+use Rattle.carry.specs.Start.{Starts, rest_of}
 use Rattle.log_grammar.specs.Grammar.{LogText, log_of, read_log}
 use Rattle.log_grammar.specs.Rendering.{log_text_lem, log_says}
 use Rattle.optimizing.specs.Promise.{OptimumPromise}
@@ -47,7 +47,8 @@ use Rattle.carry_texts.specs.Carries.{Carries, joined_lines}
 use Rattle.carry_texts.specs.Carries as carries
 use Rattle.carrying.specs.Carry.{carry_said}
 use Rattle.carrying.specs.Promise as carrying
-use Rattle.hall_model.specs.Hall.{Hall, Proper}
+use Rattle.hall_model.specs.Hall.{Hall, Proper, KeepsAll, hall_cost}
+use Rattle.hall_model.specs.LowerBound.{hall_bound}
 use Rattle.hall_model.specs.Limits.{most_hall_bytes, Fits}
 use Rattle.hall_model.specs.Promise.{HallAnswer, hall_answer, HallAnswerPromise}
 use Rattle.hall_grammar.specs.Grammar.{HallText, meant_hall, read_hall_text}
@@ -55,12 +56,16 @@ use Rattle.hall_grammar.specs.Rendering.{hall_text}
 use Rattle.hall_grammar.specs.Valid.{ValidHall}
 use Rattle.hall_grammar.specs.Faults.{HallFault}
 use Rattle.hall_planning.specs.Hall.{hall_said}
+use Rattle.form.specs.Form.{Form, read_form}
+use Rattle.form.specs.Promise.{openings_line, parts_line}
 use Rattle.alike.specs.Alike.{AnsweredAlike, with_walk, WalkSetAside, rules_out, RulesOut}
 use Rattle.before_holders.specs.AsBefore.{AsBefore}
 use Rattle.starred.specs.Table.{CaseHolds, Counts, cases, counts}
 use Rattle.delivered.specs.FirstLines.{first_lines, breaks}
-use Rattle.delivered.specs.Fourteen.{MisfitAt}
-use Rattle.delivered.specs.Terms.{SomeLost, Meets, StatesObjective, Feasible, Cheapest, KeptLines}
+use Rattle.delivered.specs.Fourteen.{lines_before, MisfitAt, FaultIn}
+use Rattle.delivered.specs.Terms.{floors, log_front, SomeLost, Meets, StatesObjective, Feasible, Cheapest, KeptLines}
+use Rattle.delivered.specs.AtFault.{job_kinds, plan_kinds, log_kinds, hall_kinds, job_rules, plan_rules, hall_rules, AtFault}
+use Rattle.delivered.specs.Results.{Results}
 
 -- the record of all promises: a field for each sentence of the papers that no call's own promise states
 pub record Delivered : Type 0 where
@@ -81,7 +86,7 @@ pub record Delivered : Type 0 where
       → ((lent judge_room room (judge_said job plan)).result ≡ 0) ↔ ((judge_room ≤ room) × ((r : judging.PlanReading job plan) × (Meets r × StatesObjective r)))
   -- D5. "The planner says 6 exactly if the job is accepted and has no plan."
   pub D5_planner : (text : List ℕ) (walk room : ℕ) → ((lent plan_room room (plan_said text walk)).result ≡ 6) ↔ ((plan_room ≤ room) × ((r : JobReading text) × (Feasible (job_in r) → ⊥)))
-  -- D6, D7. "result 0, and a plan that keeps every life, states its true cost, is of least cost": "Least cost is over all plans of the model"
+  -- D6, D7, T1 to T3. "result 0, and a plan that keeps every life, states its true cost, is of least cost and the tie rule's choice": "Least cost is over all plans of the model"
   pub D6_least : (text : List ℕ) (walk room : ℕ) → (lent plan_room room (plan_said text walk)).result ≡ 0 → (r : JobReading text) → Cheapest r.given (lent plan_room room (plan_said text walk))
   -- D1. "for each input, every byte and number handed over": no other answer keeps the model's promise of the planner, nor that of the judge
   pub D1_planner : (job : Job) (limit : ℕ) (answer : PlannerAnswer) → Promise job limit answer → answer ≡ answer_of job limit
@@ -176,8 +181,8 @@ pub record Delivered : Type 0 where
   -- E14.10. a hall text's fault has a job's number or 14, and its line is none beyond those that a text can have and one (`R21_hall`: its own and one)
   pub E14_10_fault : (text : List ℕ) (n line : ℕ) → read_hall_text text ≡ refused n line → HallFault n × (line ≤ most_hall_bytes + 1)
   -- E14.10. "14 for a job whose horizon or idles differ from the first job's, or which takes the hall past 16 parts or 64 openings": a text that begins with jobs that fit and then such a job, valid in itself, is refused with 14, "on that
-  -- job's first line", whatever stands behind the job's lines but a line that would still be its own: so 14 comes "before any on the lines behind the job"
-  pub E14_10_14_line : (text : List ℕ) (line : ℕ) (m : MisfitAt text line) → Behind m.rest → length text ≤ most_hall_bytes → read_hall_text text ≡ refused 14 line
+  -- job's first line", whatever stands behind the job's lines but a line that would still be one of its last part (where that has prices or a rule there is none): so 14 comes "before any on the lines behind the job"
+  pub E14_10_14_line : (text : List ℕ) (line : ℕ) → MisfitAt text line → length text ≤ most_hall_bytes → read_hall_text text ≡ refused 14 line
   -- E14.10. and 14 is said of no other text, and on no other line: the job at fault is valid, so 14 comes "after the job's own faults"
   pub E14_10_14_only : (text : List ℕ) (line : ℕ) → read_hall_text text ≡ refused 14 line → MisfitAt text line
   -- D1. an accepted hall text is answered by what it means: two that mean the same hall get the same numbers and bytes, so a `walk` line (E10) or a rule (E8) among a job's lines changes no answer
@@ -244,3 +249,69 @@ pub record Delivered : Type 0 where
   -- D1. two accepted job texts that mean the same, both answered 0, at any walk numbers and in any rooms, get the same bytes: so a `walk` line (E10) or a rule (E8) changes none
   pub D1_optimum : (s s' : List ℕ) (t t' : JobText) → read_job_text s ≡ accepted t → read_job_text s' ≡ accepted t' → meant t ≡ meant t' → (walk walk' room room' : ℕ) (a b : Said)
       → OptimumPromise s walk room a → OptimumPromise s' walk' room' b → a.result ≡ 0 → b.result ≡ 0 → a.bytes ≡ b.bytes
+  -- ---- a hall, against its lines' own texts
+
+  -- E14.2, E14.10. "its lines counted through", "after the job's own faults": behind jobs that fit, a job's fault is the one that it has as a job text alone, on that line counted through, whatever stands behind it
+  pub E14_2_own_fault : (text alone : List ℕ) (number at : ℕ) → read_job_lem alone ≡ refused number at → (number ≡ 1 → ⊥) → (f : FaultIn text alone at) → length text ≤ most_hall_bytes → read_hall_text text ≡ refused number (lines_before f.front + at)
+  -- E14.5, E14.8. "An estimate is the sum of the lines' estimates and the calls decided.": so the floor is the sum of the lines' own floors, whatever a call costs,
+  pub E14_5_floor : (hall : Hall) → hall_bound hall [] ≡ floors (map (λ (job : Job). bound_of job []) hall.jobs)
+  -- W11. and no hall plan costs less, with calls included
+  pub E14_5_least : (hall : Hall) → Proper hall → (plans : List Plan) → KeepsAll hall plans → (floor : ℕ) × (hall_bound hall [] ≡ Sum floor) × (floor ≤ hall_cost hall plans)
+  -- ---- a log's faults, and a part with nothing left
+
+  -- E12.1. "a line `step` 1..T − 2 (else 3)", whatever stands behind it
+  pub E12_1_step : (text : List ℕ) (r : JobReading text) (step : ℕ) (behind : List ℕ) → step < 10 ^ 10 → (step ≡ 0) ⊎ ((job_in r).horizon < step + 2) → length (line_of "step=" step ++ behind) ≤ max_bytes
+      → read_log (job_in r) (line_of "step=" step ++ behind) ≡ refused 3 1
+  -- "and then plan lines, never left out (else 2)": of no lines, and of the step's alone
+  pub E12_1_left_out : (text : List ℕ) (r : JobReading text) → (read_log (job_in r) [] ≡ refused 2 1) × ((step : ℕ) → 1 ≤ step → step + 2 ≤ (job_in r).horizon → read_log (job_in r) (line_of "step=" step) ≡ refused 2 2)
+  -- "with no stop after that step (else 9)": behind the lines of what is so far a log of the job, on the stop's own line, whatever stands behind it
+  pub E12_1_later_stop : (text : List ℕ) (r : JobReading text) (log : Log) → Logged (job_in r) log → log.cost ≤ most_cost → (n stop : ℕ) (behind : List ℕ) → length (visits_of (job_in r) log.plan) < n → n ≤ most_openings → log.step < stop → stop ≤ last_step
+      → length (log_front (job_in r) log n ++ (line_of "stop=" stop ++ behind)) ≤ max_bytes → read_log (job_in r) (log_front (job_in r) log n ++ (line_of "stop=" stop ++ behind)) ≡ refused 9 (breaks (log_front (job_in r) log n) + 1)
+  -- E12.4. "change before the next running step": a plan that keeps the lives changes a part with nothing left at an opening up to which nothing runs
+  pub E12_4_next : (text : List ℕ) (r : JobReading text) (plan : Plan) (i : ℕ) → i < length (job_in r).parts → (part_at (job_in r) i).left ≡ 0 → KeepsLives (job_in r) plan
+      → (k : ℕ) × (get_or (changes_at plan i) k false ≡ true) × (running (job_in r).idles (step_at (job_in r) k) ≡ 0)
+  -- E12. "Replay what was really done and plan the rest.": each plan that keeps the new job's lives is the rest of one that begins with the log and keeps the whole job's, so the new job has these rests for its plans and no others
+  pub E12_2_rests : (job log next : List ℕ) (c : Carries job log next) (rest : Plan) → KeepsLives (carried (carries.job_in c) (carries.done_in c)) rest
+      → (plan : Plan) × Starts (carries.job_in c) (carries.done_in c) plan × (rest_of (carries.job_in c) (carries.done_in c) plan ≡ rest) × KeepsLives (carries.job_in c) plan
+  -- ---- what a fault's number says of the text
+
+  -- R1. "over 32,768 bytes": 1 is said of the texts that are longer than their limit, and of no other, with line 0: of job texts (E11.5. 40,960),
+  pub R1_job : (text : List ℕ) (line : ℕ) → (read_job_lem text ≡ refused 1 line) ↔ ((job.max_bytes < length text) × (line ≡ 0))
+  -- of plan texts,
+  pub R1_plan : (job : Job) (text : List ℕ) (line : ℕ) → (read_plan_lem job text ≡ refused 1 line) ↔ ((max_bytes < length text) × (line ≡ 0))
+  -- of logs,
+  pub R1_log : (job : Job) (text : List ℕ) (line : ℕ) → (read_log job text ≡ refused 1 line) ↔ ((max_bytes < length text) × (line ≡ 0))
+  -- and of hall texts (E14.3. 65,536)
+  pub R1_hall : (text : List ℕ) (line : ℕ) → (read_hall_text text ≡ refused 1 line) ↔ ((most_hall_bytes < length text) × (line ≡ 0))
+  -- R3 to R5, R9, R12 to R14, R20. "3: a value outside its range", "on the `left` line", "on its line after 3", "2 before 3 before 4 or 5": what stands on the line at fault, in the text's own bytes, by the fault's number; of a job text,
+  pub R3_job : (text : List ℕ) (number line : ℕ) → read_job_lem text ≡ refused number line → length text ≤ job.max_bytes → AtFault job_kinds job_rules text number line
+  -- of a plan text,
+  pub R3_plan : (job : Job) (text : List ℕ) (number line : ℕ) → read_plan_lem job text ≡ refused number line → length text ≤ max_bytes → AtFault plan_kinds plan_rules text number line
+  -- of a log,
+  pub R3_log : (job : Job) (text : List ℕ) (number line : ℕ) → read_log job text ≡ refused number line → length text ≤ max_bytes → AtFault (log_kinds job) plan_rules text number line
+  -- and of a hall text
+  pub R3_hall : (text : List ℕ) (number line : ℕ) → read_hall_text text ≡ refused number line → length text ≤ most_hall_bytes → AtFault hall_kinds hall_rules text number line
+  -- R2, R21. "text ends early", "a missing line has the number it would have had": the front of an accepted text that is not accepted itself is refused with 2, on the line that is missing or cut; of a job text,
+  pub R2_job_early : (front back : List ℕ) (t : JobText) → read_job_text (front ++ back) ≡ accepted t → ((u : JobText) → read_job_text front ≡ accepted u → ⊥) → read_job_lem front ≡ refused 2 (breaks front + 1)
+  -- of a plan text,
+  pub R2_plan_early : (job : Job) (front back : List ℕ) (stated : Stated) → read_plan_lem job (front ++ back) ≡ accepted stated → ((u : Stated) → read_plan_lem job front ≡ accepted u → ⊥)
+      → read_plan_lem job front ≡ refused 2 (breaks front + 1)
+  -- and of a log
+  pub R2_log_early : (text : List ℕ) (r : JobReading text) (front back : List ℕ) (said : LogText) → read_log (job_in r) (front ++ back) ≡ accepted said → ((u : LogText) → read_log (job_in r) front ≡ accepted u → ⊥)
+      → read_log (job_in r) front ≡ refused 2 (breaks front + 1)
+  -- R2, R21. "bytes after the last line are the line after it": behind an accepted job text whatever is no further line of its last part,
+  pub R21_job_more : (text : List ℕ) (t : JobText) → read_job_text text ≡ accepted t → (byte : ℕ) (more : List ℕ) → BehindParts t.parts (byte ∷ more) → length (text ++ (byte ∷ more)) ≤ job.max_bytes
+      → read_job_lem (text ++ (byte ∷ more)) ≡ refused 2 (breaks text + 1)
+  -- and behind an accepted plan text that has lines anything
+  pub R21_plan_more : (text : List ℕ) (r : JobReading text) (plan : List ℕ) (stated : Stated) → read_plan_lem (job_in r) plan ≡ accepted stated → (plan ≡ [] → ⊥) → (byte : ℕ) (more : List ℕ) → length (plan ++ (byte ∷ more)) ≤ max_bytes
+      → read_plan_lem (job_in r) (plan ++ (byte ∷ more)) ≡ refused 2 (breaks plan + 1)
+  -- E2.5. the longest text that the writer writes, which has no `walk` line (E10.5), has 33,357 bytes
+  pub E2_5_written : (text : List ℕ) (t : JobText) → read_job_text text ≡ accepted t → t.walk ≡ None → length text ≤ 33357
+  pub E2_5_written_reached : (text : List ℕ) × (t : JobText) × (read_job_text text ≡ accepted t) × (t.walk ≡ None) × (length text ≡ 33357)
+  -- E2.2, R20. "3 on the `openings` line", "on the `parts` line", "line by line, first bad line": a fault on a line before a form's `openings` line is that of every form with the same horizon and idle steps, whatever its other lists,
+  pub E2_2_start : (f g : Form) → g.horizon ≡ f.horizon → g.idles ≡ f.idles → (number line : ℕ) → read_form f ≡ refused number line → line < openings_line f → read_form g ≡ refused number line
+  -- and one on a line before its `parts` line that of every form that has the same openings and fees besides
+  pub E2_2_openings : (f g : Form) → g.horizon ≡ f.horizon → g.idles ≡ f.idles → g.openings ≡ f.openings → g.fees ≡ f.fees → length f.fees ≡ length f.openings
+      → (number line : ℕ) → read_form f ≡ refused number line → line < parts_line f → read_form g ≡ refused number line
+  -- R0 to R14. "Result numbers, by who can cause them": each call has the results that its users are told of, and no other
+  pub R0_results : Results

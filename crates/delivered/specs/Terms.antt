@@ -1,12 +1,19 @@
 -- What fields of `Delivered` speak of that stands nowhere else: the judge's and the planner's promises in the published terms, a part that can't be kept, and the lines of a part that is carried on.
-use Rattle.std.specs.Prelude.{ℕ, ◌≤◌, ◌≡◌, Bool, List, ◌++◌, map, drop}
+use Rattle.std.specs.Prelude.{ℕ, ◌≤◌, ◌≡◌, Bool, List, [], ◌∷◌, ◌++◌, map, drop, true, false, get_or, ◌⊎◌}
+use Rattle.lines.specs.Text.{line_of, texts}
 use Rattle.lines.specs.Parser.{accepted}
-use Rattle.model.specs.Model.{Job, Plan}
-use Rattle.model.specs.Decisions.{Held, held_parts}
+use Rattle.branch.specs.declared.Bound.{Bound}
+use Rattle.branch.specs.declared.Bound.TheVariants.{Sum}
+use Rattle.branch.specs.Lower.{add}
+use Rattle.model.specs.Model.{Job, Plan, NoHolders, Each, Chosen}
+use Rattle.model.specs.Decisions.{Held, held_parts, changed_at_lem}
+use Rattle.branch.specs.Search.{Before}
 use Rattle.model.specs.LowerBound.{places_at}
 use Rattle.model.specs.Estimate.{KeepsOver}
 use Rattle.published.specs.Published.{PublishedRunning, objective}
 use Rattle.plan_grammar.specs.Grammar.{read_plan_lem}
+use Rattle.plan_grammar.specs.Rendering.{visit_text, visits_of}
+use Rattle.carry.specs.Carry.{Log}
 use Rattle.answers.specs.Said.{Said}
 use Rattle.quotes.specs.Grammar.{Quote, single}
 use Rattle.price_rules.specs.Rule.{Rule, rule_prices_lem}
@@ -24,6 +31,11 @@ use Rattle.branch.specs.Search.{In}
 abbrev pub SomeLost : Job → List Bool → Type 0
 SomeLost job p = (held : Held) × In held (held_parts job) × ((cs : List Bool) → KeepsOver job held.part (places_at job held p) cs → ⊥)
 
+-- the sum of some floors; missing if one is
+abbrev pub floors : List Bound → Bound
+floors [] = Sum 0
+floors (b ∷ bs) = add b (floors bs)
+
 -- ---- the published model, of texts
 
 module _ {job plan : List ℕ} where
@@ -39,7 +51,7 @@ module _ {job plan : List ℕ} where
 abbrev pub Feasible : Job → Type 0
 Feasible job = (plan : Plan) × PublishedRunning job plan
 
--- D6, D7. what is printed with 0: behind `floor`, E11. and behind the cost at the low ends where the job text has a `low` line, a plan that meets the published constraints, its objective as its cost, and no plan that meets
+-- D6, D7, T1 to T3. what is printed with 0: behind `floor`, E11. and behind the cost at the low ends where the job text has a `low` line, a plan that meets the published constraints, its objective as its cost, and no plan that meets
 -- them has a smaller one
 pub record Cheapest (given : Given) (s : Said) : Type 0 where
   pub nodes : ℕ
@@ -52,8 +64,18 @@ pub record Cheapest (given : Given) (s : Said) : Type 0 where
   pub meets : PublishedRunning given.job plan
   pub states : cost ≡ objective given.job plan
   pub least : (other : Plan) → PublishedRunning given.job other → cost ≤ objective given.job other
+  -- T1. "Of two stop sets of equal least cost, the one that makes no stop at the earliest opening where they differ is taken.": in a job without holders (with them: E7.8)
+  pub first : NoHolders given.job.parts → (other : Plan) → PublishedRunning given.job other → objective given.job other ≡ cost → (other.stops ≡ plan.stops) ⊎ Before plan.stops other.stops
+  -- T2. "Within the stops, each part's least-price change set is chosen the same way.", its prices with its removal
+  pub chosen : NoHolders given.job.parts → Each (λ (held : Held). Chosen given.job plan.stops held.part) (held_parts given.job) plan.changes
+  -- T3. "So a printed plan has no stop without a change."
+  pub no_bare : (i : ℕ) → get_or plan.stops i false ≡ true → changed_at_lem plan.changes i ≡ true
 
 -- ---- carrying on
+
+-- E12.1. the lines of a log of the job so far, in which n stops are announced
+abbrev pub log_front : Job → Log → ℕ → List ℕ
+log_front job log n = line_of "step=" log.step ++ (line_of "cost=" log.cost ++ (line_of "stops=" n ++ texts visit_text (visits_of job log.plan)))
 
 -- E12.3. what a part's lines say in the job that is left, where k of n openings are past: "A part given by E8's rule is written with `price` lines", "every other form is kept", the lines of removal
 -- where they stood and each price as it was quoted

@@ -15,7 +15,7 @@ use lib.Seq.{get_or-drop, length-take-le}
 use Rattle.lines.specs.Line.{starts_with}
 use Rattle.lines.specs.Text.{bytes, line, line_of, texts, optional_text}
 use Rattle.lines.specs.Parser.{Parsed, good, fault, ◌>>=◌, return, row, row_at, optional, checked, chain, times, rising, up_to, if_present}
-use Rattle.lines.proofs.Parsing.{bind_good, optional_there, optional_missing}
+use Rattle.lines.proofs.Parsing.{optional_there, optional_missing}
 use Rattle.base.specs.Each.{Chained, All}
 use Rattle.lines.proofs.ValueLines.{value_in, value_high}
 use Rattle.model.specs.Model.{Opening}
@@ -27,7 +27,7 @@ use Rattle.quotes.specs.Rendering.{quote_text}
 use Rattle.price_rules.specs.Rule.{Rule}
 use Rattle.price_rules.specs.Grammar.{after_base, rule, Prices, by_list, by_rule_lem, unless_ruled, prices}
 use Rattle.price_rules.specs.Rendering.{rule_text, prices_text}
-use Rattle.price_rules.proofs.Complete.{list_next}
+use Rattle.price_rules.proofs.Complete.{rule_missing, list_next}
 use Rattle.job_grammar.specs.Grammar.{JobText, idle, idle_steps_lem, idles, opening, openings, parts, body, rest, job_lines}
 use Rattle.part_lines.specs.Grammar.{PartText, after_left, part, following}
 use Rattle.job_grammar.specs.Rendering.{opening_text}
@@ -320,17 +320,13 @@ list_back n qs e few s t l =
     subst (λ (q : ℕ). Readback FormFault (Unit {0}) qs s t (times q quote (c ++ s) l) (times q quote (c ++ t) l)) e
     (chain_back FormFault (λ _. quote) (λ _ _. 0) quote_text ShortQuote (λ _. quote_back) 0 qs (each_chained ShortQuote 0 qs few) s t l)
 
-no_rule_lem : (s : List ℕ) (l : ℕ) → starts_with (bytes "base=") s ≡ false → rule s l ≡ good None s l
-unfolding rule if_present return
-no_rule_lem s l e = bind_good (optional "base=" 1 1000000) _ (optional_missing _ 1 1000000 s l e)
-
 -- the lines of a part's prices
 prices_back : (n : ℕ) (p : Prices) → ShortPrices n p → (s t : List ℕ) (l : ℕ) → Behind s → Behind t
     → Readback FormFault (Unit {0}) p s t (prices n (prices_text p ++ s) l) (prices n (prices_text p ++ t) l)
 unfolding prices unless_ruled
 prices_back n (by_list qs) few s t l other other' =
     let c = texts quote_text qs in
-    let none : Readback FormFault (Unit {0}) None (c ++ s) (c ++ t) (rule (c ++ s) l) (rule (c ++ t) l) = back tt l (no_rule_lem (c ++ s) l (list_next qs s other.base)) (no_rule_lem (c ++ t) l (list_next qs t other'.base)) in
+    let none : Readback FormFault (Unit {0}) None (c ++ s) (c ++ t) (rule (c ++ s) l) (rule (c ++ t) l) = back tt l (rule_missing (c ++ s) l (list_next qs s (λ _. other.base))) (rule_missing (c ++ t) l (list_next qs t (λ _. other'.base))) in
     bind_back rule _ none
     (λ _ i. bind_back (times n quote) _ (list_back n qs few.0 few.1 s t i) (λ _ j. return_back (by_list qs) s t j tt))
 prices_back n (by_rule_lem r) few s t l other other' = bind_back rule _ (rule_back r few s t l) (λ _ i. return_back (by_rule_lem r) s t i tt)

@@ -13,7 +13,7 @@ use Rattle.lines.proofs.Sound.{accepted_is}
 use Rattle.lines.proofs.Complete.{row_complete, text_complete}
 use Rattle.model.specs.Model.{Job}
 use Rattle.part_lines.specs.Behind.{Behind}
-use Rattle.part_lines.proofs.Behind.{behind_none}
+use Rattle.part_lines.proofs.Behind.{behind_none, behind_all}
 use Rattle.job_grammar.specs.Grammar.{JobText, job_lines}
 use Rattle.job_grammar.specs.Rendering.{job_text_lem}
 use Rattle.job_grammar.proofs.Complete.{lines_back as job-back}
@@ -35,7 +35,7 @@ unfolding jobs_behind job_behind return
 jobs_back [] before j s l next = (l, refl)
 jobs_back (t ∷ ts) before j s l next =
     let more = before ++ (meant_job t ∷ []) in
-    let a = job-back t j.0 (texts job_text_lem ts ++ s) l (jobs_next ts s next) in
+    let a = job-back t j.0 (texts job_text_lem ts ++ s) l (behind_all t.parts (texts job_text_lem ts ++ s) (jobs_next ts s next)) in
     let one = checked-good 14 (λ (x : JobText). joins before (meant_job x)) job_lines (job_text_lem t ++ (texts job_text_lem ts ++ s)) l a.1 j.1 in
     let b = jobs_back ts more j.2 s a.0 next in (
       b.0,

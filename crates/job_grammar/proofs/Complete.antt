@@ -20,8 +20,8 @@ use Rattle.jobs.specs.Valid.{ValidOpening}
 use Rattle.part_lines.specs.Grammar.{PartText, meant_part, part, following}
 use Rattle.part_lines.specs.Rendering.{part_text}
 use Rattle.part_lines.specs.Valid.{KnownPart}
-use Rattle.part_lines.specs.Behind.{Behind}
-use Rattle.part_lines.proofs.Behind.{behind_none, parts_behind}
+use Rattle.part_lines.specs.Behind.{BehindParts}
+use Rattle.part_lines.proofs.Behind.{behind_none, behind_all, first_behind, rest_behind}
 use Rattle.part_lines.proofs.Complete.{part_complete}
 use Rattle.job_grammar.specs.Grammar.{JobText, idle_in, idle, idle_steps_lem, idles, opening, openings, parts, body, rest, job_lines, max_bytes, read_job_text}
 use Rattle.job_grammar.specs.Rendering.{idles_text, opening_text, body_text, job_text_lem}
@@ -72,13 +72,13 @@ openings_chained h before (o ∷ os) v r =
 -- ---- parts
 
 -- the parts from part k of m on
-parts_complete : (m n k : ℕ) → m ≤ 16 → (ps : List PartText) → Chained (KnownPart m n) following k ps → (s : List ℕ) (l : ℕ) → Behind s
+parts_complete : (m n k : ℕ) → m ≤ 16 → (ps : List PartText) → Chained (KnownPart m n) following k ps → (s : List ℕ) (l : ℕ) → BehindParts ps s
     → (l' : ℕ) × (chain (part m n) following (length ps) k (texts part_text ps ++ s) l ≡ good ps s l')
 unfolding chain return
 parts_complete m n k most [] h s l next = (l, refl)
 parts_complete m n k most (p ∷ ps) h s l next =
-    let a = part_complete m n k most p h.0 (texts part_text ps ++ s) l (parts_behind ps s next) in
-    let b = parts_complete m n (suc k) most ps h.1 s a.0 next in (
+    let a = part_complete m n k most p h.0 (texts part_text ps ++ s) l (first_behind p ps s next) in
+    let b = parts_complete m n (suc k) most ps h.1 s a.0 (rest_behind p ps s next) in (
       b.0,
       ap (λ (r : List ℕ). chain (part m n) following (length (p ∷ ps)) k r l) (append_assoc (part_text p) (texts part_text ps) s)
           ∙ bind_good (part m n k) _ a.1 ∙ bind_good (chain (part m n) following (length ps) (suc k)) _ b.1,
@@ -86,7 +86,7 @@ parts_complete m n k most (p ∷ ps) h s l next =
 
 -- ---- the whole
 
-body_complete : (t : JobText) → ValidText t → (s : List ℕ) (l : ℕ) → Behind s → (l' : ℕ) × (body t.horizon t.idles t.walk (length t.openings) (body_text t ++ s) l ≡ good t s l')
+body_complete : (t : JobText) → ValidText t → (s : List ℕ) (l : ℕ) → BehindParts t.parts s → (l' : ℕ) × (body t.horizon t.idles t.walk (length t.openings) (body_text t ++ s) l ≡ good t s l')
 unfolding body openings parts return body_text
 body_complete t v s l next =
     let j = v.means.job in
@@ -121,8 +121,8 @@ walk_complete : (o : Option ℕ) → Allowed o → (s : List ℕ) (l : ℕ) → 
 walk_complete None v s l e = (l, optional_missing _ 0 4000000000 s l e)
 walk_complete (Some w) v s l e = optional_present (bytes "walk=") 0 4000000000 (omega arith) w (omega arith, v) s l
 
--- with anything behind its lines that may stand behind a part's
-pub lines_back : (t : JobText) → ValidText t → (s : List ℕ) (l : ℕ) → Behind s → (l' : ℕ) × (job_lines (job_text_lem t ++ s) l ≡ good t s l')
+-- with anything behind its lines but a further line of its last part
+pub lines_back : (t : JobText) → ValidText t → (s : List ℕ) (l : ℕ) → BehindParts t.parts s → (l' : ℕ) × (job_lines (job_text_lem t ++ s) l ≡ good t s l')
 unfolding job_lines rest job_text_lem
 lines_back t v s l next =
     let j = v.means.job in
@@ -145,7 +145,7 @@ lines_back t v s l next =
 -- the text of a valid job is read as this job
 pub read_back : (t : JobText) → ValidText t → read_job_text (job_text_lem t) ≡ accepted t
 read_back t v =
-    let r = lines_back t v [] 1 behind_none in
+    let r = lines_back t v [] 1 (behind_all t.parts [] behind_none) in
     text_complete max_bytes job_lines (job_text_lem t) t r.0 (text_fits t v) (ap (λ (x : List ℕ). job_lines x 1) (sym (append-nil (job_text_lem t))) ∙ r.1)
 
 -- the accepted texts are those of the valid records, each read as its own

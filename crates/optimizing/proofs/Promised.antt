@@ -93,7 +93,7 @@ module _ (text : List ℕ) (given : Given) (is : read_job_lem text ≡ accepted 
       floor = f;
       in_hand = Some c;
       beyond = p.0;
-      writes = record { plan = q; in_hand = p.1; prints = behind (Walked given.job p.1.nodes) (floor_lines f) c q (optimum_reply given (cut n f c q)) p.1.best refl };
+      writes = record { plan = q; in_hand = p.1; prints = behind (Walked given.job p.1.nodes) (floor_lines f) c q (optimum_reply given (cut n f c q)) p.1.best refl; all = refl };
     }
     seven (optimum n f c q) p e = absurd (omega arith)
 

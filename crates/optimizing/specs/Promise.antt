@@ -24,11 +24,12 @@ pub record PrintsBest (text : List ℕ) (given : Given) (s : Said) : Type 0 wher
   pub prints : PrintsBehind text given (line_of "result=" 0) s cost plan
   pub all : s.bytes ≡ line_of "result=" 0 ++ printed_lines given cost plan
 
--- with 7 and a plan: it keeps every life and states its true cost, its lines are read back so, and the judge accepts them
+-- with 7 and a plan: it keeps every life and states its true cost, its lines are read back so, and the judge accepts them; and all that is written, so that the lines of a plan without stops stand too, which E5 would read of none
 pub record PrintsInHand (text : List ℕ) (walk : ℕ) (given : Given) (floor : ℕ) (s : Said) (cost : ℕ) : Type 0 where
   pub plan : Plan
   pub in_hand : InHand given.job (walk_number_lem walk) cost plan
   pub prints : PrintsBehind text given (floor_lines floor) s cost plan
+  pub all : s.bytes ≡ floor_lines floor ++ printed_lines given cost plan
 
 -- with 7 and no plan: the floor alone is written, and none of the first nodes of the planner's walk is a plan
 pub record PrintsNone (walk : ℕ) (given : Given) (floor : ℕ) (s : Said) : Type 0 where

@@ -35,7 +35,8 @@ unfolding part
 part_complete m before few k v s l =
     checked_complete 9 (rising before m) (row "part=" 1 16) (line_of "part=") _ (row_complete _ 1 16 (omega arith)) k ((omega arith, omega arith), rising_yes before m k v.0 v.1) s l
 
-visit_complete : (job : Job) (before : ℕ) → length job.parts ≤ 16 → Complete (visit job before) visit_text (ValidVisit job before)
+-- a valid visit's lines are read back, with anything behind them
+pub visit_complete : (job : Job) (before : ℕ) → length job.parts ≤ 16 → Complete (visit job before) visit_text (ValidVisit job before)
 unfolding visit parts return visit_text
 visit_complete job before few v ok s l =
     let m = length job.parts in

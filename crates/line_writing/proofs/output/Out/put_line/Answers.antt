@@ -5,7 +5,15 @@ use native.Mathlib.Omega.{arith}
 use Rattle.lines.specs.Text.{line}
 use Rattle.lines.proofs.Writing.{one}
 use Rattle.line_writing.proofs.Putting.{then, kept, room_front, room_behind}
+use Rattle.line_writing.specs.Undivided.{Undivided}
+use Rattle.line_writing.specs.contracts.output.Out.put_number.Key.{symbol as #put-number}
+use Rattle.line_writing.specs.contracts.output.Out.put_bytes.Key.{symbol as #put-bytes}
+use Rattle.line_writing.proofs.output.Out.put_line.Code as code
 use Rattle.line_writing.proofs.output.Out.put_line.Goals as goal
+
+-- E3. it divides nowhere, and what it calls puts the key and, without dividing, the digits
+undivided : Undivided (#put-bytes ∷ #put-number ∷ []) code.function
+undivided = record { divides_nowhere = tt; calls = tt }
 
 pub put_bytes-requires : goal.put_bytes-requires
 unfolding line
