@@ -182,10 +182,13 @@ impl<'a> Scaled<'a> {
     }
 
     // What each lane bears at each opening: its prices, and its shares of the things.
+    // Kept with a loop, as in `line_writing::write::put_bytes`: a copy of the array would be a call of `memmove`.
     fn put_borne<const FOURS: usize>(&self, u: &[u32; PLACES], w: &mut [u32; BORNE])
         requires { FOURS ≤ 4 }
     {
-        *w = *self.prices;
+        for (x, price) in w.iter_mut().zip(self.prices) {
+            *x = *price;
+        }
         let (rows, _) = u.as_chunks::<LANES>();
         for (r, shares) in rows[..self.things * OPENINGS].iter().enumerate() {
             let at = r % OPENINGS * LANES;
