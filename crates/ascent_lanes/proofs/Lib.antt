@@ -1,1 +1,1 @@
--- Laws of sizes.
+pub mod Marks

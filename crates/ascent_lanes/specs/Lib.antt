@@ -1,1 +1,1 @@
--- Nothing is defined here.
+pub mod Tables

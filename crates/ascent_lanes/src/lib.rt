@@ -1,10 +1,11 @@
-// What the ascent of the shares computes of a job's lanes: what each lane bears at each opening, its least sum, and where that changes it. Nothing is trusted of these numbers, and nothing is said of them but the sizes of the tables.
+// What the ascent of the shares computes of a job's lanes: what each lane bears at each opening, its least sum, and where that changes it. Nothing is trusted of these numbers. What the prices and the first marks are is said whole; of the others only how far they go.
 // Kept with limits of plain numbers in the clauses (a block's base, an opening, a lane): places in the tables are sums and products of them, and a bounded type would be taken apart in each.
 #![tactic(auto)]
 
 pub mod job;
 
-ghost use Rattle.std.specs.Prelude.{◌≡◌, ◌+◌, ◌*◌, ◌<◌, ◌≤◌};
+ghost use Rattle.std.specs.Prelude.{◌≡◌, true, false, ◌+◌, ◌-◌, ◌*◌, ◌^◌, ◌<◌, ◌≤◌, min};
+ghost use Rattle.ascent_lanes.specs.Tables.{Scales, SomeLasts, NoneLasts, FirstMark, Firsts};
 ghost use Rattle.lane_rows.specs.Layout.{lane_count_lem, inf, reach_base};
 ghost use Rattle.model.specs.Limits.{most_openings};
 
@@ -23,7 +24,7 @@ pub const MARKED: usize = (MARKS + 1) * LANES;
 
 // A number of 64 bits as one of 32, or the most that they hold.
 pub fn narrow(x: u64) -> u32
-    ensures { result ≤ x }
+    ensures { result ≡ min x (2 ^ 32 - 1) }
 {
     u32::try_from(x).unwrap_or(u32::MAX)
 }
@@ -36,22 +37,35 @@ pub fn product(x: u32, y: u32) -> u64
 }
 
 // Each lane's prices at a scale; nothing at the end.
-pub fn scaled_prices(t: &[u32; TABLES], scale: u32) -> [u32; BORNE] {
+// Kept with a place in the tables: of a `zip` over what is lent to be written the library says only how long it is.
+pub fn scaled_prices(t: &[u32; TABLES], scale: u32) -> [u32; BORNE]
+    ensures { Scales t.now scale result }
+{
     let mut prices = [0; BORNE];
-    for (x, price) in prices.iter_mut().zip(&t[PRICES..PRICES + OPENINGS * LANES]) {
-        *x = narrow(product(*price, scale)).min(INF);
+    for (k, x) in prices[..OPENINGS * LANES].iter_mut().enumerate() {
+        *x = narrow(product(t[PRICES + k], scale)).min(INF);
     }
     prices
+}
+
+// Whether one of the first lanes of a row lasts.
+fn lasts(lanes: &[u32; LANES], parts: usize) -> bool
+    requires { parts ≤ lane_count_lem }
+    ensures some { result ≡ true → SomeLasts parts lanes.now }
+    ensures none { result ≡ false → NoneLasts parts lanes.now }
+{
+    lanes[..parts].iter().any(|x| *x < INF)
 }
 
 // The first mark from which some part lasts to opening j or the end, by the block of the tables from `base` on.
 fn first_mark(t: &[u32; TABLES], base: usize, j: usize, parts: usize) -> usize
     requires { (base ≤ reach_base) × (j ≤ most_openings) × (parts ≤ lane_count_lem) }
+    ensures { FirstMark t.now base j parts result }
 {
     let (level, _) = t[base + row_of(j) * LANES..].as_chunks::<LANES>();
     level
         .iter()
-        .position(|lanes| lanes[..parts].iter().any(|x| *x < INF))
+        .position(|lanes| lasts(lanes, parts))
         .unwrap_or(j)
         .min(j)
 }
@@ -59,6 +73,7 @@ fn first_mark(t: &[u32; TABLES], base: usize, j: usize, parts: usize) -> usize
 // The first mark from which some part lasts to each opening, and to the end.
 pub fn first_marks(t: &[u32; TABLES], openings: usize, parts: usize) -> [usize; MARKS]
     requires { (openings ≤ most_openings) × (parts ≤ lane_count_lem) }
+    ensures { Firsts t.now openings parts result }
 {
     let mut firsts = [0; MARKS];
     for k in 0..openings {
@@ -167,11 +182,13 @@ impl<'a> Scaled<'a> {
     }
 
     // What each lane bears at each opening: its prices, and its shares of the things.
+    // Kept with a loop, as in `line_writing::write::put_bytes`: a copy of the array would be a call of `memmove`.
     fn put_borne<const FOURS: usize>(&self, u: &[u32; PLACES], w: &mut [u32; BORNE])
         requires { FOURS ≤ 4 }
     {
-        let prices = self.prices;
-        w.copy_from_slice(prices);
+        for (x, price) in w.iter_mut().zip(self.prices) {
+            *x = *price;
+        }
         let (rows, _) = u.as_chunks::<LANES>();
         for (r, shares) in rows[..self.things * OPENINGS].iter().enumerate() {
             let at = r % OPENINGS * LANES;

@@ -4,6 +4,8 @@
 // the judge's (2) `job=N`, N bytes, `plan=N`, N bytes, those of carrying on (3) the same with the log in the plan's place, and the hall planner's (4) the planner's with the hall's text in the job's place. Other bytes stand behind the last case.
 #![tactic(auto)]
 
+ghost use Rattle.std.specs.Prelude.{◌≤◌, length};
+
 use answers::{Answer, PLAN};
 use fault_lines::fault::fault_line;
 use std::io;
@@ -85,6 +87,7 @@ fn walked_at<F: FnOnce(&[u8], u64, &mut [u8]) -> Answer>(
     call: F,
 ) -> usize
     requires { F.IsAlwaysCallable call }
+    ensures { result ≤ length buf.now }
 {
     let room = head_at(buf, at, b"room=");
     let walk = head_at(buf, room.behind, b"walk=");
@@ -113,6 +116,7 @@ fn second_at<F: FnOnce(&[u8], &[u8], &mut [u8]) -> Answer>(
     call: F,
 ) -> usize
     requires { F.IsAlwaysCallable call }
+    ensures { result ≤ length buf.now }
 {
     let room = head_at(buf, at, b"room=");
     let job = piece_at(buf, room.behind, b"job=");
@@ -134,7 +138,9 @@ fn second_at<F: FnOnce(&[u8], &[u8], &mut [u8]) -> Answer>(
 }
 
 // The case at a place, by its call's number, and the place behind it; where no call is told, the table's end.
-fn case_at(rt: &impl Print, buf: &[u8], at: usize, space: &mut [u8]) -> usize {
+fn case_at(rt: &impl Print, buf: &[u8], at: usize, space: &mut [u8]) -> usize
+    ensures { result ≤ length buf.now }
+{
     let call = head_at(buf, at, b"call=");
     // Kept as numbers: the table's text tells the call so.
     match call.number {

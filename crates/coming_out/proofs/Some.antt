@@ -18,6 +18,12 @@ some_range (suc m) a f g h =
     let z : a + 0 ≡ a = omega arith in
     ap₂ ◌||◌ (ap f (sym z) ∙ h 0) (some_range m (a + 1) f (λ i. g (suc i)) (λ i. let z : a + 1 + i ≡ a + suc i = omega arith in ap f z ∙ h (suc i)))
 
+-- a test of a list's entries by their places finds what a search through the list does
+pub some_listed : {A : Type 0} (f : A → Bool) (d : A) (xs : List A) → some (length xs) (λ i. f (get_or xs i d)) ≡ list_any f xs
+unfolding some
+some_listed f d [] = refl
+some_listed f d (x ∷ xs) = ap (λ (b : Bool). f x || b) (some_listed f d xs)
+
 -- two tests that agree on the first m places say the same of them
 pub some_same : (m : ℕ) (f g : ℕ → Bool) → ((i : ℕ) → i < m → f i ≡ g i) → some m f ≡ some m g
 unfolding some

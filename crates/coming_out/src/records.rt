@@ -10,7 +10,7 @@ ghost use Rattle.coming_out.specs.Rows.{HeldBy, Removals};
 use crate::fill::{matrix_of, row_of};
 use jobs::Job;
 use model::{PAIRS, PARTS};
-use part_records::removal_of;
+use part_records::{part_at, removal_of};
 
 // The holders of each part.
 pub fn holders_of(job: &Job) -> [bool; PAIRS]
@@ -21,7 +21,7 @@ pub fn holders_of(job: &Job) -> [bool; PAIRS]
         |q|
             requires { q < most_parts }
             ensures { result ≡ (record_at job.entry.now.parts q).holders }
-        { job.parts[q].holders },
+        { part_at(&job.parts, q).holders },
     )
 }
 
@@ -29,10 +29,12 @@ pub fn holders_of(job: &Job) -> [bool; PAIRS]
 pub fn has_holder(job: &Job) -> bool
     ensures { result ≡ has_holder_lem (job_of job.now) }
 {
-    job.parts[..job.part_count].iter().any(
-        |part|
-            ensures { result ≡ ltb 0 (length (numbers_of_lem part.now.holders)) }
-        { part.holders.contains(&true) },
+    let parts = &job.parts[..job.part_count];
+    (0..parts.len()).any(
+        |q|
+            requires { q < length parts.now }
+            ensures { result ≡ ltb 0 (length (numbers_of_lem (record_at parts.entry.now q).holders)) }
+        { part_at(parts, q).holders.contains(&true) },
     )
 }
 

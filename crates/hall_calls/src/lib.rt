@@ -5,6 +5,7 @@ ghost use Rattle.std.specs.Prelude.{◌+◌, ◌<◌, length};
 ghost use Rattle.hall_state.specs.Courses.{Arrays};
 ghost use Rattle.hall_state.specs.Moves.{Below};
 ghost use Rattle.hall_moves.specs.Asks.{AskedAt};
+ghost use Rattle.hall_moves.specs.Stays.{CallStays};
 ghost use Rattle.hall_calls.specs.Calls.{Passing, PassedOn};
 
 use branch::Bound;
@@ -64,7 +65,8 @@ pub fn no_call(ground: &Ground, rows: &mut [LineRows; 4], p: Spot) -> Option<u64
 #[inline(always)]
 pub fn call_below(ground: &Ground, rows: &mut [LineRows; 4], b: Branch) -> Option<Spot>
     requires { AskedAt Question.CrewCall ground.now rows.old b.p }
-    ensures { (k : AskedAt Question.CrewCall ground.now rows.old b.p) → Below k.hall b.yes ground.now rows.old rows.new b.p result k.name k.cs b.limit b.s }
+    ensures below { (k : AskedAt Question.CrewCall ground.now rows.old b.p) → Below k.hall b.yes ground.now rows.old rows.new b.p result k.name k.cs b.limit b.s }
+    ensures stays { CallStays b.yes rows.old rows.new }
 {
     let p = b.p;
     if b.yes {

@@ -6,6 +6,7 @@ ghost use Rattle.model.specs.Limits.{most_openings};
 ghost use Rattle.hall_lines.specs.Levels.{sums_in, term_in};
 ghost use Rattle.hall_state.specs.Moves.{Below};
 ghost use Rattle.hall_moves.specs.Asks.{AskedAt};
+ghost use Rattle.hall_moves.specs.Stays.{LineStays, RemovalStays};
 
 use hall_lines::line_test::LineTest;
 use hall_lines::{LineRows, Stop, first_stop, line_no, line_out, line_stays, line_stop};
@@ -25,7 +26,8 @@ pub fn own_sums(own: &LineRows, at: usize) -> u64
 #[inline(always)]
 pub fn line_below(ground: &Ground, rows: &mut [LineRows; 4], b: Branch) -> Option<Spot>
     requires { AskedAt Question.LineStop ground.now rows.old b.p }
-    ensures { (k : AskedAt Question.LineStop ground.now rows.old b.p) → Below k.hall b.yes ground.now rows.old rows.new b.p result k.name k.cs b.limit b.s }
+    ensures below { (k : AskedAt Question.LineStop ground.now rows.old b.p) → Below k.hall b.yes ground.now rows.old rows.new b.p result k.name k.cs b.limit b.s }
+    ensures stays { LineStays b.yes rows.old rows.new }
 {
     let p = b.p;
     let d = p.line;
@@ -53,7 +55,8 @@ pub fn removal_below(
     b: Branch,
 ) -> Option<Spot>
     requires { AskedAt (Question.PartRemoval stop) ground.now rows.old b.p }
-    ensures { (k : AskedAt (Question.PartRemoval stop) ground.now rows.old b.p) → Below k.hall b.yes ground.now rows.old rows.new b.p result k.name k.cs b.limit b.s }
+    ensures below { (k : AskedAt (Question.PartRemoval stop) ground.now rows.old b.p) → Below k.hall b.yes ground.now rows.old rows.new b.p result k.name k.cs b.limit b.s }
+    ensures stays { RemovalStays b.yes rows.old rows.new }
 {
     let p = b.p;
     let d = p.line;

@@ -11,6 +11,7 @@ ghost use Rattle.job_numbers.specs.Laid.{life_of_lem, left_of, Laid, prices_with
 use clock::{Positions, positions_of};
 use jobs::{Accepted, Job};
 use model::{OPENINGS, PARTS, PRICES, STRIDE};
+use part_records::{left_of, life_of, part_at};
 use search_tables::flat::FlatJob;
 
 // The fees of the openings.
@@ -21,17 +22,29 @@ fn fees_of(job: &Job) -> [u32; OPENINGS]
 }
 
 // The lives of the parts.
+// Kept as a loop over places: a rule of the project, that the numbers of a record are read by thin functions over the slice that is lent.
 fn lives_of(job: &Job) -> [u32; PARTS]
     ensures { take job.now.part_count result ≡ map life_of_lem (job_of job.now).parts }
 {
-    job.parts.map(|p| p.life)
+    let parts = &job.parts[..job.part_count];
+    let mut lives = [0u32; PARTS];
+    for q in 0..parts.len() {
+        lives[q] = life_of(parts, q);
+    }
+    lives
 }
 
 // What is left of the first life of each part.
+// Kept as a loop over places: a rule of the project, that the numbers of a record are read by thin functions over the slice that is lent.
 fn lefts_of(job: &Job) -> [u32; PARTS]
     ensures { take job.now.part_count result ≡ map left_of (job_of job.now).parts }
 {
-    job.parts.map(|p| p.left)
+    let parts = &job.parts[..job.part_count];
+    let mut lefts = [0u32; PARTS];
+    for q in 0..parts.len() {
+        lefts[q] = left_of(parts, q);
+    }
+    lefts
 }
 
 // What a job says of time, its openings' fees, and its parts' lives and first lives.
@@ -102,7 +115,8 @@ pub fn prices_of(job: &Accepted, added: &[u32; PARTS]) -> [u32; PRICES]
     let n = job.opening_count;
     let mut flat = [0u32; PRICES];
     for q in 0..job.part_count {
-        put_prices(&job.parts[q].prices[..n], added[q], q * STRIDE, &mut flat);
+        let part = part_at(&job.parts, q);
+        put_prices(&part.prices[..n], added[q], q * STRIDE, &mut flat);
     }
     flat
 }

@@ -14,6 +14,7 @@ ghost use Rattle.latest_changes.specs.Stops.{Ranged, NextStops};
 use clock::{Positions, keeps, positions_of};
 use jobs::{Accepted, Changes, Part, Plan};
 use model::{OPENINGS, PARTS};
+use part_records::part_at;
 use reach::last_change;
 
 // The position of the stop after each of n openings, or the end after the last.
@@ -68,7 +69,7 @@ fn latest_of(
 }
 
 // The plan with these stops, at which each part is changed at the last that still serves.
-// Kept with a place to write at: an `iter_mut` with the places would name the changes, and ask for the part by its place instead.
+// Kept as a loop over places: a rule of the project, that a record is taken out by a thin function over the slice that is lent.
 pub fn latest_plan(job: &Accepted, stops: [bool; OPENINGS]) -> Plan
     ensures { plan_for job.now.job result ≡ latest_plan_of (job_of job.now.job) (take job.now.job.opening_count stops) }
 {
@@ -79,8 +80,10 @@ pub fn latest_plan(job: &Accepted, stops: [bool; OPENINGS]) -> Plan
     let mut changes = [Changes {
         at: [false; OPENINGS],
     }; PARTS];
-    for (k, part) in job.parts[..job.part_count].iter().enumerate() {
-        changes[k] = latest_of(n, &positions, &nexts, part, &stops);
+    let parts = &job.parts[..job.part_count];
+    for k in 0..parts.len() {
+        let part = part_at(parts, k);
+        changes[k] = latest_of(n, &positions, &nexts, &part, &stops);
     }
     Plan { stops, changes }
 }

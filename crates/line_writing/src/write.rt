@@ -7,13 +7,15 @@ use crate::output::Out;
 
 impl<'a> Out<'a> {
     // Puts the bytes of src.
+    // Kept as a loop, and no copy of a slice: that would be a call of `memmove`, which the archive for C would need from outside.
     pub fn put_bytes(&mut self, src: &[u8])
         requires { Room self.old src.now }
         ensures { Puts self.old src.now self.new }
     {
-        let end = self.at + src.len();
-        self.bytes[self.at..end].copy_from_slice(src);
-        self.at = end;
+        for (i, byte) in src.iter().enumerate() {
+            self.bytes[self.at + i] = *byte;
+        }
+        self.at += src.len();
     }
 
     // Puts the line of a key, with its equals sign, and a value.

@@ -12,6 +12,7 @@ ghost use Rattle.log_lives.specs.Done.{judged_to, lefts_at_lem};
 use clock::{keeps, position_of, positions_of};
 use jobs::{Accepted, Plan};
 use model::PARTS;
+use part_records::part_at;
 use plan_costs::costs::cost_of;
 use plan_lives::lives::{late_to, verdict_to};
 use verdict::{Judgement, judged};
@@ -46,7 +47,7 @@ fn left_at(life: u32, last: i32, now: i32) -> u32
 }
 
 // The life not yet used of each part at the step.
-// Kept with a place to read and to write at: three arrays meet there, and zipped they would be a pair in a pair.
+// Kept as a loop over places: a rule of the project, that a record is taken out by a thin function over the slice that is lent.
 pub fn lefts_at(past: &Accepted, step: u32, plan: &Plan) -> [u32; PARTS]
     requires { step ≤ last_position }
     ensures { take past.now.job.part_count result ≡ lefts_at_lem (job_of past.now.job) step (plan_for past.now.job plan.now) }
@@ -55,8 +56,9 @@ pub fn lefts_at(past: &Accepted, step: u32, plan: &Plan) -> [u32; PARTS]
     let to = position_of(past, step);
     let mut lefts = [0u32; PARTS];
     let parts = &past.job.parts[..past.job.part_count];
-    for (k, part) in parts.iter().enumerate() {
-        let followed = late_to(past, &positions, part, &plan.changes[k].at, to);
+    for k in 0..parts.len() {
+        let part = part_at(parts, k);
+        let followed = late_to(past, &positions, &part, &plan.changes[k].at, to);
         lefts[k] = left_at(part.life, followed.last, to);
     }
     lefts

@@ -10,6 +10,7 @@ use crate::removals::removals_paid;
 use crate::summing::{sum_at, sum_of};
 use jobs::{Accepted, Part, Plan};
 use model::OPENINGS;
+use part_records::part_at;
 
 // The fees of the stops.
 fn fees_of(job: &Accepted, stops: &[bool; OPENINGS]) -> u64
@@ -46,7 +47,7 @@ fn prices_of(job: &Accepted, plan: &Plan) -> u64
         |k|
             requires { (k < most_parts) × (n ≤ most_openings) × ValidPart n (part_of_lem n (record_at job.now.parts k)) }
             ensures { result ≡ sum_at (take n (record_at job.entry.now.parts k).prices) (take n (get_or plan.entry.now.changes k blank_changes).at) }
-        { part_prices(n, &job.parts[k], &plan.changes[k].at) },
+        { part_prices(n, &part_at(&job.parts, k), &plan.changes[k].at) },
     )
 }
 

@@ -13,6 +13,7 @@ ghost use Rattle.plan_lives.specs.Steps.{gap_of, late_to_lem, verdict_to_lem};
 use clock::{Positions, due_of, keeps, positions_of};
 use jobs::{Accepted, Part, Plan};
 use model::OPENINGS;
+use part_records::part_at;
 use reach::last_change;
 
 // A part that is not kept, by its number, and the due step at its first gap that is too long.
@@ -81,15 +82,16 @@ fn kept(part: u32, late: Option<u32>) -> Result<(), Late>
 }
 
 // Whether every part is kept up to the position `to`; otherwise the lowest that is late, and its due step.
-// Kept with the part's place: the answer tells its number, and zipped with the changes too a pair would stand in a pair.
+// Kept as a loop over places: a rule of the project, that a record is taken out by a thin function over the slice that is lent. The answer tells the part's number too.
 // Kept as a cast: std has no From for it, and there are at most 16 parts.
 pub fn verdict_to(job: &Accepted, positions: &Positions, plan: &Plan, to: i32) -> Result<(), Late>
     requires { Placed (job_of job.now.job) positions.now × Position to }
     ensures { model_verdict result ≡ verdict_to_lem (job_of job.now.job) to (plan_for job.now.job plan.now) }
 {
     let parts = &job.job.parts[..job.job.part_count];
-    for (k, part) in parts.iter().enumerate() {
-        let followed = late_to(job, positions, part, &plan.changes[k].at, to);
+    for k in 0..parts.len() {
+        let part = part_at(parts, k);
+        let followed = late_to(job, positions, &part, &plan.changes[k].at, to);
         kept(k as u32 + 1, followed.late)?;
     }
     Ok(())

@@ -2,6 +2,8 @@
 // A pair stands in the input as `job=N`, N bytes, `plan=N`, N bytes.
 #![tactic(auto)]
 
+ghost use Rattle.std.specs.Prelude.{◌≤◌, length};
+
 use answers::{JOB, PLAN};
 use fault_lines::fault::fault_line;
 use job_text::whole::read_job;
@@ -45,7 +47,9 @@ fn judge_pair(rt: &impl Print, job: &[u8], plan: &[u8]) {
 
 // The pair at a place, and the place behind it.
 // Kept as parameters: the printer and the table are lent to each row anew, and a struct of two would be made for one call.
-fn pair_at(rt: &impl Print, buf: &[u8], at: usize) -> usize {
+fn pair_at(rt: &impl Print, buf: &[u8], at: usize) -> usize
+    ensures { result ≤ length buf.now }
+{
     let job = piece_at(buf, at, b"job=");
     let job_start = job.start;
     let job_end = job_start + job.length;

@@ -7,11 +7,14 @@ ghost use Rattle.search_tables.specs.Fill.{Triangle, step_place, step_rows};
 use lane_rows::row_of;
 
 // Puts numbers into a table, from `at` on.
+// Kept as a loop, as in `line_writing::write::put_bytes`: a copy of a slice would be a call of `memmove`.
 pub fn put_at(t: &mut [u32], at: usize, from: &[u32])
     requires { at + length from.now ≤ length t.old }
     ensures { FilledBy (λ (y : ℕ). at + y) (λ (y : ℕ). get_or from.now y 0) (length from.now) t.old t.new }
 {
-    t[at..at + from.len()].copy_from_slice(from);
+    for (i, number) in from.iter().enumerate() {
+        t[at + i] = *number;
+    }
 }
 
 // So many numbers of a table are 0, from `at` on.

@@ -113,11 +113,14 @@ impl Node {
 }
 
 // The decisions of a full node are kept.
+// Kept as a loop, as in `line_writing::write::put_bytes`: a copy of a slice would be a call of `memmove`.
 fn keep(name: &[bool; NAMES], best: &mut [bool; NAMES], size: usize)
     requires { size ≤ name_size }
     ensures { take size best.new ≡ take size name.now }
 {
-    best[..size].copy_from_slice(&name[..size]);
+    for i in 0..size {
+        best[i] = name[i];
+    }
 }
 
 // Something is left to decide at a node.

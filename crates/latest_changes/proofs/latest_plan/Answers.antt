@@ -1,10 +1,10 @@
 -- `latest_plan`: the changes of the first k parts are made.
 use Prim.Native.Nat.{◌<◌}
-use mathlib.Core.Path.{◌≡◌, ◌∙◌}
+use mathlib.Core.Path.{◌≡◌, ap, ◌∙◌}
 use native.Mathlib.Omega.{arith}
 use lib.ListN.{length-set}
 use Rattle.jobs.proofs.Jobs.{parts_long, parts_taken, taken_at, valid_taken}
-use Rattle.latest_changes.proofs.Rows.{rows_more, ranged, plan_is}
+use Rattle.latest_changes.proofs.Rows.{row_of, rows_more, ranged, plan_is}
 use Rattle.latest_changes.proofs.latest_plan.Goals as goal
 
 pub latest_of-requires : goal.latest_of-requires
@@ -12,7 +12,7 @@ latest_of-requires c = let j = c.args.job.now.job in
     let placed = c.positions_of-positions in (
       ranged j placed.result placed.ensures,
       c.next_stops-nexts.ensures,
-      valid_taken j c.args.job.now.valid c.loop-k.k c.loop-k-test.true,
+      rw c.part_at-part.ensures (valid_taken j c.args.job.now.valid c.loop-k.k c.loop-k-test.true),
     )
 
 pub loop-k-preserved : goal.loop-k-preserved
@@ -23,7 +23,7 @@ loop-k-preserved c = let j = c.args.job.now.job in
     let t : l.k < j.part_count = omega (arith, c.loop-k-test.true, parts_taken j) in (
       length-set l.changes l.k c.latest_of.result ∙ l.invariant.0,
       rows_more j.opening_count p c.args.stops j.parts l.k l.changes c.latest_of.result (omega (arith, room, t)) (omega (arith, l.invariant.0, j.few_parts, t))
-          (rw (taken_at j l.k c.loop-k-test.true) at c.latest_of.ensures) l.invariant.1,
+          (c.latest_of.ensures ∙ ap (row_of j.opening_count p c.args.stops) (c.part_at-part.ensures ∙ taken_at j l.k c.loop-k-test.true)) l.invariant.1,
     )
 
 pub returns : goal.returns

@@ -1,5 +1,5 @@
 -- `lefts_at`: the first k entries are the lives not yet used of the first k parts.
-use Prim.Native.Nat.{ℕ, ◌<◌}
+use Prim.Native.Nat.{ℕ, ◌≤◌, ◌<◌}
 use mathlib.Core.Path.{◌≡◌, refl, sym, ap, ap₂, ◌∙◌}
 use mathlib.Core.Bool.{Bool}
 use mathlib.Core.List.{List, [], ◌∷◌, ◌++◌}
@@ -9,6 +9,7 @@ use lib.IntN.{ℤ, pos, ◌-ℤ◌}
 use Rattle.base.proofs.Arrays.{take_more}
 use Rattle.model.specs.Model as model
 use Rattle.model.specs.Model.{table}
+use Rattle.model.specs.Limits.{longest_life}
 use Rattle.model.proofs.Lists.{table_more}
 use Rattle.jobs.specs.Views.{job_of, plan_for}
 use Rattle.jobs.proofs.Jobs.{part_at, part_count, part_at_lem, parts_taken, taken_at, valid_part, valid_taken}
@@ -26,14 +27,14 @@ pub late_to-followed-requires : goal.late_to-followed-requires
 late_to-followed-requires c = let to = c.position_of-to.ensures.1 in
     let j = c.args.past.now.job in (
       c.positions_of-positions.ensures,
-      valid_taken j c.args.past.now.valid c.loop-k.k c.loop-k-test.true,
+      rw c.part_at-part.ensures (valid_taken j c.args.past.now.valid c.loop-k.k c.loop-k-test.true),
       rw (position_bits _ to) to,
     )
 
 pub left_at-requires : goal.left_at-requires
 left_at-requires c = let to = c.position_of-to.ensures.1 in
     let j = c.args.past.now.job in
-    let high = (valid_taken j c.args.past.now.valid c.loop-k.k c.loop-k-test.true).life_high in
+    let high : c.part_at-part.result.life ≤ longest_life = rw c.part_at-part.ensures ((valid_taken j c.args.past.now.valid c.loop-k.k c.loop-k-test.true).life_high) in
     let begins = c.late_to-followed.ensures.2 in
     (high, rw (before_bits _ _ high begins) begins, rw (position_bits _ to) to)
 
@@ -42,7 +43,7 @@ loop-k-preserved c = let l = c.loop-k in
     let j = c.args.past.now.job in
     let job = job_of j in
     let t : l.k < j.part_count = omega (arith, c.loop-k-test.true, parts_taken j) in
-    let same = taken_at j l.k c.loop-k-test.true in
+    let same = c.part_at-part.ensures ∙ taken_at j l.k c.loop-k-test.true in
     let followed = rw same at c.late_to-followed.ensures in
     let at = c.position_of-to.ensures in
     let life = (part_at j l.k).life in

@@ -23,7 +23,7 @@ use Rattle.plan_lives.proofs.lives.verdict_to.Goals.{After-kept}
 pub late_to-followed-requires : goal.late_to-followed-requires
 late_to-followed-requires c = let j = c.args.job.now.job in (
   c.requires.0,
-  valid_taken j c.args.job.now.valid _ (omega arith),
+  rw c.part_at-part.ensures (valid_taken j c.args.job.now.valid _ (omega arith)),
   rw (position_bits _ c.requires.1) c.requires.1,
 )
 
@@ -37,7 +37,7 @@ here c =
     c.kept.ensures
     ∙ ap (λ (g : Gaps). ruled (k + 1) g keeps)
     (c.late_to-followed.ensures.0
-    ∙ ap₂ (late_to_lem (job_of j) (to_z w32 (of_z w32 c.args.to))) (ap (part_of_lem j.opening_count) (taken_at j k c.loop-k-test.true) ∙ sym (part_at_lem j k t)) (sym (changes_at_lem j.opening_count j.part_count c.args.plan.now.changes (enough_changes j c.args.plan.now) k t)))
+    ∙ ap₂ (late_to_lem (job_of j) (to_z w32 (of_z w32 c.args.to))) (ap (part_of_lem j.opening_count) (c.part_at-part.ensures ∙ taken_at j k c.loop-k-test.true) ∙ sym (part_at_lem j k t)) (sym (changes_at_lem j.opening_count j.part_count c.args.plan.now.changes (enough_changes j c.args.plan.now) k t)))
 
 pub returns-in_err-kept : goal.returns-in_err-kept
 returns-in_err-kept c =

@@ -1,12 +1,12 @@
--- `put_at` writes one part of the table.
-use Prim.Native.Nat.{◌+◌, ◌-◌}
-use mathlib.Core.Path.{refl}
+-- `put_at`: the first i numbers are written.
+use mathlib.Core.Path.{◌≡◌, refl}
 use native.Mathlib.Omega.{arith}
 use lib.ListN.{length}
-use Rattle.base.proofs.Filled.{filled_part}
+use Rattle.base.proofs.Filled.{filled_more}
 use Rattle.search_tables.proofs.rows.put_at.Goals as goal
 
+pub loop-i-preserved : goal.loop-i-preserved
+loop-i-preserved c = filled_more _ (omega arith) (λ y h e. omega (arith, e)) refl c.loop-i.invariant
+
 pub returns : goal.returns
-returns c = let a = c.args in
-    let n = length a.from.now in
-    rw c.copy_from_slice.ensures.after (filled_part a.t.now a.from.now a.at n (a.at + n - a.at) (omega arith) (omega arith) refl)
+returns c = let z : c.loop-i.i ≡ length c.args.from.now = omega arith in rw z at c.loop-i.invariant
